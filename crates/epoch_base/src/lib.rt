@@ -4,7 +4,9 @@
 mod bag;
 mod epoch;
 mod fault;
+mod queue;
 
 pub use bag::{BAG_JOBS, Bag, SealedBag};
 pub use epoch::{Epoch, GREATEST_EPOCH};
 pub use fault::{Fault, Refused};
+pub use queue::{BagQueue, BagStore, MOST_BAGS, PutStep, TakeStep};
