@@ -1,5 +1,5 @@
 -- Bags of any jobs.
-use Rattle.std.specs.Prelude.{ℕ, ◌+◌, ◌≤◌, List}
+use Rattle.std.specs.Prelude.{◌≡◌, ℕ, ◌+◌, ◌≤◌, Bool, true, false, List, [], ◌∷◌, ◌++◌}
 
 -- a bag that takes jobs: how many at most, and those it has, the oldest first
 pub record Unsealed (J : Type 0) : Type 0 where
@@ -14,3 +14,7 @@ pub record Sealed (J : Type 0) : Type 0 where
 -- the bag is expired for the epoch x: that is two ahead of its seal, or more
 abbrev pub IsExpired : {J : Type 0} → ℕ → Sealed J → Type 0
 IsExpired x bag = bag.seal + 2 ≤ x
+
+abbrev pub is_empty : {A : Type 0} → List A → Bool
+is_empty [] = true
+is_empty (x ∷ xs) = false

@@ -1,6 +1,6 @@
 //! Bags: jobs gathered by one participant, and then sealed with an epoch.
 ghost use Rattle.std.specs.Prelude.{◌≡◌, ◌<◌, ◌≤◌, ◌↔◌, [], ◌∷◌, ◌++◌, None, length, IsTrue, IsErr, IfErr, OnOk, OnErr, MatchOption};
-ghost use Rattle.epoch_base.specs.Bags.{IsExpired};
+ghost use Rattle.epoch_base.specs.Bags.{IsExpired, is_empty};
 
 use crate::{Epoch, GREATEST_EPOCH};
 use arrayvec::ArrayVec;
@@ -16,7 +16,7 @@ pub const BAG_JOBS: usize = 64;
 #[derive(Drop)]
 pub struct Bag<J> {
     limit: usize,
-    pub(crate) jobs: ArrayVec<J, 64>,
+    jobs: ArrayVec<J, 64>,
 }
 
 impl<J> Model for Bag<J> {
@@ -104,7 +104,8 @@ impl<J> Bag<J> {
 
     /// Whether it has none.
     pub fn is_empty(&self) -> bool
-        ensures { IsTrue result ↔ (self.now.jobs ≡ []) }
+        ensures test { result ≡ is_empty self.now.jobs }
+        ensures none { IsTrue result ↔ (self.now.jobs ≡ []) }
     {
         self.jobs.is_empty()
     }
@@ -129,9 +130,9 @@ impl<J> Bag<J> {
 /// A bag with the epoch that seals it. Its jobs are taken out, the oldest first.
 #[derive(Drop)]
 pub struct SealedBag<J> {
-    pub(crate) seal: u64,
-    pub(crate) next: usize,
-    pub(crate) jobs: ArrayVec<J, 64>,
+    seal: u64,
+    next: usize,
+    jobs: ArrayVec<J, 64>,
 }
 
 impl<J> Model for SealedBag<J> {
@@ -173,7 +174,8 @@ impl<J> SealedBag<J> {
 
     /// Whether no job is left.
     pub fn is_empty(&self) -> bool
-        ensures { IsTrue result ↔ (self.now.jobs ≡ []) }
+        ensures test { result ≡ is_empty self.now.jobs }
+        ensures none { IsTrue result ↔ (self.now.jobs ≡ []) }
     {
         self.len() == 0
     }
