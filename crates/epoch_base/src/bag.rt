@@ -16,7 +16,7 @@ pub const BAG_JOBS: usize = 64;
 #[derive(Drop)]
 pub struct Bag<J> {
     limit: usize,
-    jobs: ArrayVec<J, 64>,
+    pub(crate) jobs: ArrayVec<J, 64>,
 }
 
 impl<J> Model for Bag<J> {
@@ -130,9 +130,9 @@ impl<J> Bag<J> {
 /// A bag with the epoch that seals it. Its jobs are taken out, the oldest first.
 #[derive(Drop)]
 pub struct SealedBag<J> {
-    seal: u64,
-    next: usize,
-    jobs: ArrayVec<J, 64>,
+    pub(crate) seal: u64,
+    pub(crate) next: usize,
+    pub(crate) jobs: ArrayVec<J, 64>,
 }
 
 impl<J> Model for SealedBag<J> {
