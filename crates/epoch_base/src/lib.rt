@@ -2,11 +2,15 @@
 #![tactic(auto)]
 
 mod bag;
+mod cells;
 mod epoch;
 mod fault;
+mod job;
 mod queue;
 
 pub use bag::{BAG_JOBS, Bag, SealedBag};
+pub use cells::{MOST_SLOT, Name};
 pub use epoch::{Epoch, GREATEST_EPOCH};
 pub use fault::{Fault, Refused};
+pub use job::Called;
 pub use queue::{BagQueue, BagStore, MOST_BAGS, PutStep, TakeStep};

@@ -1,0 +1,5 @@
+//! Numbered cells.
+
+mod name;
+
+pub use name::{MOST_SLOT, Name};

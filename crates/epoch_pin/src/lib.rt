@@ -1,0 +1,6 @@
+//! A participant of epoch-based memory reclamation: the machine that makes all its decisions.
+#![tactic(auto)]
+
+mod machine;
+
+pub use machine::{Action, Answer, Ask, Machine, PINS_BETWEEN_COLLECTIONS, Sizes, Stage};

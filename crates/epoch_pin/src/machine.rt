@@ -1,0 +1,589 @@
+//! A participant's machine. It makes all decisions of one participant, and touches nothing shared itself:
+//! it says what it asks next, and goes on by the answer.
+ghost use Rattle.std.specs.Prelude.{◌≡◌, ◌≢◌, ℕ, Bool, true, false, ◌+◌, ◌-◌, ◌*◌, ◌^◌, ◌<◌, ◌≤◌, ◌↔◌, List, [], ◌∷◌, ◌++◌, not, ◌==◌, if◌then◌else◌, Option, Some, None, IsTrue, MatchOption, length};
+ghost use Rattle.epoch_base.specs.Bags.{Sealed};
+ghost use Rattle.epoch_pin.specs.Machine.{IsAnswer, asks, begun, heard, put_heard, took_heard, gives, ended, fresh, after_collect, after_pin, after_put, after_unpin, after_job, past_word, first_stage, guards_after, is_empty, rest, IsSized, StageFits, is_calling, PutsHeld, TakesHand};
+ghost use Rattle.epoch_pin.specs.declared.machine.Ask.TheVariants.{PutBag, TakeBag, CallJob};
+ghost use Rattle.epoch_pin.specs.declared.machine.Stage.TheVariants.{Idle, End};
+ghost use Rattle.epoch_pin.specs.declared.machine.Sizes.{Sizes};
+
+use epoch_base::{Bag, BagStore, Epoch, GREATEST_EPOCH, PutStep, SealedBag, TakeStep};
+use std::marker::Model;
+
+/// How many pins lie between two that collect: `PINNINGS_BETWEEN_COLLECT` of crossbeam-epoch.
+pub const PINS_BETWEEN_COLLECTIONS: u64 = 128;
+
+/// What a participant does as one call.
+#[derive(Clone, Copy, Debug, PartialEq, Eq)]
+pub enum Action {
+    Pin,
+    Unpin,
+    Repin,
+    Defer,
+    Flush,
+    Release,
+}
+
+/// The numbers that a machine is made for.
+#[derive(Clone, Copy, Debug, PartialEq, Eq)]
+pub struct Sizes {
+    /// How many participants' words there are, at least 1.
+    pub positions: u64,
+    /// How many jobs a bag takes, from 1 to 64.
+    pub bag_jobs: u64,
+    /// How many bags a collection takes at most, from 1 to 64.
+    pub collect_bags: u64,
+}
+
+/// How far the action under way is, named by what is asked next.
+#[derive(Clone, Copy, Debug, PartialEq, Eq)]
+pub enum Stage {
+    /// No action is under way.
+    Idle,
+    LoadPin,
+    StorePin(u64),
+    ReloadPin,
+    LoadScan,
+    /// The scan of this epoch goes on at this position.
+    Scan(u64, u64),
+    Advance(u64),
+    /// A collection for this epoch, which has taken so many bags.
+    Take(u64, u64),
+    Calling(u64, u64),
+    LoadSeal,
+    Put(u64),
+    Keep,
+    LoadRepin,
+    StoreRepin(u64),
+    ReloadRepin,
+    StoreUnpinned,
+    StoreFree,
+    /// Nothing is left to ask.
+    End,
+}
+
+/// What a machine asks for: one step on what participants share, or one step of a job.
+#[derive(Clone, Copy, Debug, PartialEq, Eq)]
+pub enum Ask {
+    /// Load the epoch.
+    LoadEpoch,
+    /// Load the word of the participant at this position.
+    LoadWord(u64),
+    /// Store the own word, pinned in this epoch: a pin.
+    StorePinned(u64),
+    /// Store the own word, pinned in this epoch: a repin.
+    StoreRepinned(u64),
+    /// Store the own word, not pinned.
+    StoreUnpinned,
+    /// Store the own word, free.
+    StoreFree,
+    /// Store the word of this epoch.
+    StoreEpoch(u64),
+    /// One step of the put of the held bag, sealed with this epoch.
+    PutBag(u64),
+    /// One step of a collection of bags that are expired for this epoch.
+    TakeBag(u64),
+    /// Keep the job that is deferred.
+    KeepJob,
+    /// Call the next job of the bag in hand.
+    CallJob,
+}
+
+/// What the performance of an ask found. A put or a take of a bag is answered by
+/// [`Machine::put_step`] and [`Machine::take_step`], and a call by [`Machine::give`].
+#[derive(Drop)]
+pub enum Answer<J> {
+    /// The epoch loaded, at most [`GREATEST_EPOCH`].
+    Epoch(u64),
+    /// The word loaded.
+    Word(u64),
+    /// The store was made.
+    Stored,
+    /// The job to keep.
+    Job(J),
+}
+
+/// The machine of one participant, whose cursors into the store of bags are of the types `P` and `T`.
+///
+/// It counts guards, and doesn't know them: which numbers are out is the caller's to keep.
+#[derive(Drop)]
+pub struct Machine<J, P, T> {
+    stage: Stage,
+    action: Action,
+    guards: u32,
+    published: u64,
+    pins: u64,
+    sizes: Sizes,
+    full: bool,
+    held: Bag<J>,
+    hand: SealedBag<J>,
+    putting: Option<P>,
+    taking: Option<T>,
+}
+
+impl<J, P, T> Model for Machine<J, P, T> {
+    ghost use Rattle.std.specs.Prelude.{◌≡◌, ◌<◌, ◌≤◌, length, not};
+    ghost use Rattle.epoch_pin.specs.Machine.{Cursored, StageFits, IsSized, is_empty, is_calling};
+
+    ghost Value = { Cursored J P T };
+
+    ghost view = { λ a. record {
+      machine = record {
+        stage = a.stage;
+        action = a.action;
+        guards = a.guards;
+        published = a.published;
+        pins = a.pins;
+        sizes = a.sizes;
+        full = a.full;
+        held = a.held.jobs;
+        hand = a.hand.jobs;
+      };
+      putting = a.putting;
+      taking = a.taking;
+    } };
+
+    ghost invariant = { λ a. record {
+      sized : IsSized a.sizes;
+      limit : a.held.limit ≡ a.sizes.bag_jobs;
+      within : length a.held.jobs ≤ a.sizes.bag_jobs;
+      pins : a.pins < 128;
+      stage : StageFits a.sizes (length a.held.jobs) a.stage;
+      hand : is_empty a.hand.jobs ≡ not (is_calling a.stage);
+    } };
+}
+
+impl<J: Default + Drop, P: Copy + Drop, T: Copy + Drop> Machine<J, P, T> {
+    /// The machine of a new participant: no guard out, an empty bag and no pin so far.
+    pub fn new(sizes: Sizes) -> Machine<J, P, T>
+        requires { IsSized sizes }
+        ensures machine { result.machine ≡ fresh sizes }
+        ensures cursors { (result.putting ≡ None) × (result.taking ≡ None) }
+    {
+        Machine {
+            stage: Stage::Idle,
+            action: Action::Pin,
+            guards: 0,
+            published: 0,
+            pins: 0,
+            sizes,
+            full: false,
+            held: Bag::with_limit(sizes.bag_jobs as usize),
+            hand: Bag::new().seal(Epoch::starting()),
+            putting: None,
+            taking: None,
+        }
+    }
+}
+
+impl<J: Drop, P: Copy + Drop, T: Copy + Drop> Machine<J, P, T> {
+    /// What is asked next: `None` where no action is under way, and at an action's end.
+    pub fn ask(&self) -> Option<Ask>
+        ensures { result ≡ asks self.now.machine }
+    {
+        match self.stage {
+            Stage::Idle | Stage::End => None,
+            Stage::LoadPin
+            | Stage::ReloadPin
+            | Stage::LoadScan
+            | Stage::LoadSeal
+            | Stage::LoadRepin
+            | Stage::ReloadRepin => Some(Ask::LoadEpoch),
+            Stage::StorePin(epoch) => Some(Ask::StorePinned(epoch)),
+            Stage::Scan(_, next) => Some(Ask::LoadWord(next)),
+            Stage::Advance(epoch) => Some(Ask::StoreEpoch(epoch + 1)),
+            Stage::Take(expiry, _) => Some(Ask::TakeBag(expiry)),
+            Stage::Calling(_, _) => Some(Ask::CallJob),
+            Stage::Put(seal) => Some(Ask::PutBag(seal)),
+            Stage::Keep => Some(Ask::KeepJob),
+            Stage::StoreRepin(epoch) => Some(Ask::StoreRepinned(epoch)),
+            Stage::StoreUnpinned => Some(Ask::StoreUnpinned),
+            Stage::StoreFree => Some(Ask::StoreFree),
+        }
+    }
+
+    /// How many guards are counted.
+    pub fn guards(&self) -> u32
+        ensures { result ≡ self.now.machine.guards }
+    {
+        self.guards
+    }
+
+    /// Whether the bag takes a further job without a put.
+    pub fn has_room(&self) -> bool
+        ensures { IsTrue result ↔ (length self.now.machine.held < self.now.machine.sizes.bag_jobs) }
+    {
+        !self.held.is_full()
+    }
+
+    /// Whether the put of the action under way, or of the last one, found every place occupied.
+    pub fn found_full(&self) -> bool
+        ensures { result ≡ self.now.machine.full }
+    {
+        self.full
+    }
+
+    fn first_stage(&self, action: Action) -> Stage
+        ensures value { result ≡ first_stage action self.now.machine }
+        ensures fits { StageFits self.now.machine.sizes (length self.now.machine.held) result }
+        ensures calls_nothing { is_calling result ≡ false }
+    {
+        let _within = &self.held;
+        match action {
+            Action::Pin => {
+                if self.guards == 0 {
+                    Stage::LoadPin
+                } else {
+                    Stage::End
+                }
+            }
+            Action::Unpin => {
+                if self.guards == 1 {
+                    Stage::StoreUnpinned
+                } else {
+                    Stage::End
+                }
+            }
+            Action::Repin => {
+                if self.guards == 1 {
+                    Stage::LoadRepin
+                } else {
+                    Stage::End
+                }
+            }
+            Action::Defer => {
+                if self.held.len() as u64 == self.sizes.bag_jobs {
+                    Stage::LoadSeal
+                } else {
+                    Stage::Keep
+                }
+            }
+            Action::Flush => {
+                if self.held.is_empty() {
+                    Stage::LoadScan
+                } else {
+                    Stage::LoadSeal
+                }
+            }
+            Action::Release => Stage::LoadPin,
+        }
+    }
+
+    /// Begins an action, where none is under way.
+    pub fn begin(&mut self, action: Action)
+        requires { self.old.machine.stage ≡ Idle }
+        ensures machine { self.new.machine ≡ begun action self.old.machine }
+        ensures cursors { (self.new.putting ≡ None) × (self.new.taking ≡ None) }
+    {
+        self.stage = self.first_stage(action);
+        self.action = action;
+        self.full = false;
+        self.putting = None;
+        self.taking = None;
+    }
+
+    fn after_collect(&self) -> Stage
+        ensures value { result ≡ after_collect self.now.machine.action self.now.machine.held }
+        ensures fits { StageFits self.now.machine.sizes (length self.now.machine.held) result }
+        ensures calls_nothing { is_calling result ≡ false }
+    {
+        match self.action {
+            Action::Release => {
+                if self.held.is_empty() {
+                    Stage::StoreUnpinned
+                } else {
+                    Stage::LoadSeal
+                }
+            }
+            _ => Stage::End,
+        }
+    }
+
+    fn after_pin(&self) -> Stage
+        ensures value { result ≡ after_pin self.now.machine }
+        ensures fits { StageFits self.now.machine.sizes (length self.now.machine.held) result }
+        ensures calls_nothing { is_calling result ≡ false }
+    {
+        if self.pins == 1 {
+            Stage::LoadScan
+        } else {
+            self.after_collect()
+        }
+    }
+
+    fn after_put(&self, full: bool) -> Stage
+        ensures value { result ≡ after_put self.now.machine.action full }
+        ensures fits { (full ≡ false → length self.now.machine.held < self.now.machine.sizes.bag_jobs) → StageFits self.now.machine.sizes (length self.now.machine.held) result }
+        ensures calls_nothing { is_calling result ≡ false }
+    {
+        match self.action {
+            Action::Flush => Stage::LoadScan,
+            Action::Defer => { if full { Stage::End } else { Stage::Keep } }
+            Action::Release => Stage::StoreUnpinned,
+            Action::Pin | Action::Unpin | Action::Repin => Stage::End,
+        }
+    }
+
+    fn after_unpin(&self) -> Stage
+        ensures value { result ≡ after_unpin self.now.machine.action self.now.machine.full }
+        ensures fits { StageFits self.now.machine.sizes (length self.now.machine.held) result }
+        ensures calls_nothing { is_calling result ≡ false }
+    {
+        match self.action {
+            Action::Release => {
+                if self.full {
+                    Stage::End
+                } else {
+                    Stage::StoreFree
+                }
+            }
+            _ => Stage::End,
+        }
+    }
+}
+
+impl<J: Default + Drop, P: Copy + Drop, T: Copy + Drop> Machine<J, P, T> {
+    /// Goes on by the answer to the ask; an answer to another ask changes nothing.
+    pub fn take(&mut self, answer: Answer<J>)
+        requires { IsAnswer answer }
+        ensures machine { self.new.machine ≡ heard self.old.machine answer }
+        ensures cursors { (self.new.putting ≡ self.old.putting) × (self.new.taking ≡ self.old.taking) }
+    {
+        match answer {
+            Answer::Epoch(epoch) => self.loaded(epoch),
+            Answer::Word(word) => self.looked(word),
+            Answer::Stored => self.stored(),
+            Answer::Job(job) => self.keep(job),
+        }
+    }
+
+    fn loaded(&mut self, epoch: u64)
+        requires { epoch < 2 ^ 63 }
+        ensures machine { self.new.machine ≡ heard self.old.machine (Answer.Epoch epoch) }
+        ensures cursors { (self.new.putting ≡ self.old.putting) × (self.new.taking ≡ self.old.taking) }
+    {
+        match self.stage {
+            Stage::LoadPin => self.stage = Stage::StorePin(epoch),
+            Stage::ReloadPin => self.stage = self.after_pin(),
+            Stage::LoadScan => self.stage = Stage::Scan(epoch, 0),
+            Stage::LoadSeal => self.stage = Stage::Put(epoch),
+            Stage::LoadRepin => self.stage = self.after_reading(epoch),
+            Stage::ReloadRepin => self.stage = Stage::End,
+            _ => {}
+        }
+    }
+
+    /// A repin stores only where the published epoch isn't the present one.
+    fn after_reading(&self, epoch: u64) -> Stage
+        requires { epoch < 2 ^ 63 }
+        ensures value { result ≡ (if self.now.machine.published == epoch then End else Stage.StoreRepin epoch) }
+        ensures fits { StageFits self.now.machine.sizes (length self.now.machine.held) result }
+        ensures calls_nothing { is_calling result ≡ false }
+    {
+        if self.published == epoch {
+            Stage::End
+        } else {
+            Stage::StoreRepin(epoch)
+        }
+    }
+
+    fn looked(&mut self, word: u64)
+        ensures machine { self.new.machine ≡ heard self.old.machine (Answer.Word word) }
+        ensures cursors { (self.new.putting ≡ self.old.putting) × (self.new.taking ≡ self.old.taking) }
+    {
+        match self.stage {
+            Stage::Scan(epoch, next) => {
+                self.stage = past_word(self.sizes.positions, epoch, next, word);
+            }
+            _ => {}
+        }
+    }
+
+    fn stored(&mut self)
+        ensures machine { self.new.machine ≡ heard self.old.machine Answer.Stored }
+        ensures cursors { (self.new.putting ≡ self.old.putting) × (self.new.taking ≡ self.old.taking) }
+    {
+        match self.stage {
+            Stage::StorePin(epoch) => {
+                self.stage = Stage::ReloadPin;
+                self.published = epoch;
+                self.pins = (self.pins + 1) % PINS_BETWEEN_COLLECTIONS;
+            }
+            Stage::StoreRepin(epoch) => {
+                self.stage = Stage::ReloadRepin;
+                self.published = epoch;
+            }
+            Stage::Advance(epoch) => self.stage = Stage::Take(epoch + 1, 0),
+            Stage::StoreUnpinned => self.stage = self.after_unpin(),
+            Stage::StoreFree => self.reset(),
+            _ => {}
+        }
+    }
+
+    /// A freed position has an empty bag and no pin so far.
+    fn reset(&mut self)
+        ensures machine { self.new.machine ≡ fresh self.old.machine.sizes }
+        ensures cursors { (self.new.putting ≡ self.old.putting) × (self.new.taking ≡ self.old.taking) }
+    {
+        self.stage = Stage::Idle;
+        self.action = Action::Pin;
+        self.guards = 0;
+        self.published = 0;
+        self.pins = 0;
+        self.full = false;
+        self.held = Bag::with_limit(self.sizes.bag_jobs as usize);
+        self.hand = Bag::new().seal(Epoch::starting());
+    }
+
+    fn keep(&mut self, job: J)
+        ensures machine { self.new.machine ≡ heard self.old.machine (Answer.Job job) }
+        ensures cursors { (self.new.putting ≡ self.old.putting) × (self.new.taking ≡ self.old.taking) }
+    {
+        if let Stage::Keep = self.stage {
+            self.stage = Stage::End;
+            let _ = self.held.try_push(job);
+        }
+    }
+
+    fn guards_after(&self) -> u32
+        requires { guards_after self.now.machine.action self.now.machine.guards < 2 ^ 32 }
+        ensures { result ≡ guards_after self.now.machine.action self.now.machine.guards }
+    {
+        match self.action {
+            Action::Pin => self.guards + 1,
+            Action::Unpin => { if self.guards == 0 { 0 } else { self.guards - 1 } }
+            Action::Repin | Action::Defer | Action::Flush | Action::Release => self.guards,
+        }
+    }
+
+    /// Ends an action that has nothing left to ask: its guard is counted, or no longer counted, from now on.
+    pub fn end(&mut self)
+        requires ended { self.old.machine.stage ≡ End }
+        requires fits { guards_after self.old.machine.action self.old.machine.guards < 2 ^ 32 }
+        ensures machine { self.new.machine ≡ ended self.old.machine }
+        ensures cursors { (self.new.putting ≡ self.old.putting) × (self.new.taking ≡ self.old.taking) }
+    {
+        self.guards = self.guards_after();
+        self.stage = Stage::Idle;
+    }
+}
+
+impl<J: Default + Drop, P: Copy + Drop, T: Copy + Drop> Machine<J, P, T> {
+    /// Takes the next job out of the bag in hand, to be called by the caller, and goes on.
+    /// `None` where no call is asked for.
+    pub fn give(&mut self) -> Option<J>
+        ensures job { MatchOption result (asks self.old.machine ≢ Some CallJob) (λ job. (asks self.old.machine ≡ Some CallJob) × (self.old.machine.hand ≡ job ∷ rest self.old.machine.hand)) }
+        ensures machine { self.new.machine ≡ gives self.old.machine self.old.machine.stage (rest self.old.machine.hand) }
+        ensures cursors { (self.new.putting ≡ self.old.putting) × (self.new.taking ≡ self.old.taking) }
+    {
+        match self.stage {
+            Stage::Calling(expiry, taken) => {
+                let after = self.after_collect();
+                let job = self.hand.take_next();
+                let none_left = self.hand.is_empty();
+                self.stage = after_job(self.sizes.collect_bags, after, expiry, taken, none_left);
+                job
+            }
+            _ => None,
+        }
+    }
+
+    /// One step of the put that is asked for. The bag stays held unless the answer is `Done`.
+    pub fn put_step<S: BagStore<Job = J, Putting = P, Taking = T>>(
+        &mut self,
+        store: &mut S,
+    ) -> PutStep
+        requires { (seal : ℕ) × (asks self.old.machine ≡ Some (PutBag seal)) }
+        ensures put { (seal : ℕ) → asks self.old.machine ≡ Some (PutBag seal) → PutsHeld seal self.old.machine (S.queued store.old) result (S.queued store.new) }
+        ensures machine { self.new.machine ≡ put_heard self.old.machine result }
+    {
+        let Stage::Put(seal) = self.stage else {
+            unreachable!()
+        };
+        let mut cursor = match self.putting {
+            Some(cursor) => cursor,
+            None => store.start_put(),
+        };
+        let step = store.put_step(&mut cursor, Epoch::new(seal), &mut self.held);
+        self.putting = Some(cursor);
+        match step {
+            PutStep::Again => {}
+            PutStep::Done => {
+                self.stage = self.after_put(false);
+                self.full = false;
+            }
+            PutStep::Full => {
+                self.stage = self.after_put(true);
+                self.full = true;
+            }
+        }
+        step
+    }
+
+    /// One step of the collection that is asked for. A bag that is got is in hand then.
+    pub fn take_step<S: BagStore<Job = J, Putting = P, Taking = T>>(
+        &mut self,
+        store: &mut S,
+    ) -> TakeStep
+        requires { (expiry : ℕ) × (asks self.old.machine ≡ Some (TakeBag expiry)) }
+        ensures taken { (expiry : ℕ) → asks self.old.machine ≡ Some (TakeBag expiry) → TakesHand expiry (S.queued store.old) result (S.queued store.new) self.new.machine.hand }
+        ensures machine { self.new.machine ≡ took_heard self.old.machine self.old.machine.stage result self.new.machine.hand }
+    {
+        let Stage::Take(expiry, taken) = self.stage else {
+            unreachable!()
+        };
+        let after = self.after_collect();
+        let mut cursor = match self.taking {
+            Some(cursor) => cursor,
+            None => store.start_take(),
+        };
+        let step = store.take_step(&mut cursor, Epoch::new(expiry), &mut self.hand);
+        self.taking = Some(cursor);
+        match step {
+            TakeStep::Again => {}
+            TakeStep::Empty => self.stage = after,
+            TakeStep::Got => {
+                let none_left = self.hand.is_empty();
+                self.stage = after_job(self.sizes.collect_bags, after, expiry, taken, none_left);
+            }
+        }
+        step
+    }
+}
+
+/// The stage behind a bag taken or a job called: `after` follows the collection, which takes `most` bags.
+fn after_job(most: u64, after: Stage, expiry: u64, taken: u64, none_left: bool) -> Stage
+    requires { taken < most }
+    ensures value { result ≡ (if none_left then (if taken + 1 == most then after else Stage.Take expiry (taken + 1)) else Stage.Calling expiry taken) }
+    ensures fits { (sizes : Sizes) (held : ℕ) → sizes.collect_bags ≡ most → expiry < 2 ^ 63 → StageFits sizes held after → StageFits sizes held result }
+    ensures calls { is_calling after ≡ false → is_calling result ≡ not none_left }
+{
+    if !none_left {
+        Stage::Calling(expiry, taken)
+    } else if taken + 1 == most {
+        after
+    } else {
+        Stage::Take(expiry, taken + 1)
+    }
+}
+
+/// The stage behind a word that the scan of `epoch` has looked at.
+fn past_word(positions: u64, epoch: u64, next: u64, word: u64) -> Stage
+    requires epoch { epoch < 2 ^ 63 }
+    requires next { next < positions }
+    ensures value { result ≡ past_word positions epoch next word }
+    ensures fits { (sizes : Sizes) (held : ℕ) → sizes.positions ≡ positions → 0 < sizes.collect_bags → StageFits sizes held result }
+    ensures calls_nothing { is_calling result ≡ false }
+{
+    if word % 2 == 1 && word != 2 * epoch + 1 {
+        Stage::Take(epoch, 0)
+    } else if next + 1 == positions {
+        if epoch == GREATEST_EPOCH {
+            Stage::Take(epoch, 0)
+        } else {
+            Stage::Advance(epoch)
+        }
+    } else {
+        Stage::Scan(epoch, next + 1)
+    }
+}

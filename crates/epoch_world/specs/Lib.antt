@@ -1,0 +1,4 @@
+pub mod Run
+pub mod Grace
+pub mod Tickets
+pub mod Lawful

@@ -1,0 +1,27 @@
+//! What holds of every run of a world, whatever its store of bags: laws of the definitions.
+ghost use Rattle.std.specs.Prelude.{◌≡◌, ℕ, List};
+ghost use Rattle.epoch_world.specs.declared.world.step.Entry.{Entry};
+ghost use Rattle.epoch_world.specs.Run.{State, IsFresh, Runs, Over};
+ghost use Rattle.epoch_world.specs.Grace.{KeepsGrace};
+ghost use Rattle.epoch_world.specs.Tickets.{HoldsEachTicketOnce, times_called, times_deferred};
+ghost use Rattle.epoch_world.specs.Lawful.{IsLawful};
+
+/// No job is called while a participant that was pinned when it was deferred has stayed pinned.
+pub fn every_run_keeps_grace()
+    ensures { (s new : State) (log : List Entry) → IsFresh s → Runs s log new → KeepsGrace log }
+{}
+
+/// Each accepted job is in exactly one bag, or was called exactly once.
+pub fn every_run_holds_each_ticket_once()
+    ensures { (s new : State) (log : List Entry) → IsFresh s → Runs s log new → HoldsEachTicketOnce log new }
+{}
+
+/// When an end is over, every accepted job was called.
+pub fn every_end_calls_all()
+    ensures { (s new : State) (log : List Entry) → IsFresh s → Runs s log new → new.ending ≡ Over → (t : ℕ) → times_called t log ≡ times_deferred t log }
+{}
+
+/// Every event stands only where it may.
+pub fn every_run_is_lawful()
+    ensures { (s new : State) (log : List Entry) → IsFresh s → Runs s log new → IsLawful log }
+{}
