@@ -9,4 +9,6 @@ mod queue;
 pub use bag::{BAG_JOBS, Bag, SealedBag};
 pub use epoch::{Epoch, GREATEST_EPOCH};
 pub use fault::{Fault, Refused};
-pub use queue::{BagQueue, BagStore, MOST_BAGS, Places, PutCursor, PutStep, TakeCursor, TakeStep};
+pub use queue::{
+    BagQueue, BagStore, MOST_BAGS, Places, PutCursor, PutStep, TakeCursor, TakeStep, take_some,
+};
