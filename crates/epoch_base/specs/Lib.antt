@@ -2,3 +2,5 @@ pub mod Faults
 pub mod Bags
 pub mod Stores
 pub mod Queues
+pub mod PlaceLists
+pub mod Places

@@ -13,4 +13,6 @@ pub use cells::{MOST_SLOT, Name};
 pub use epoch::{Epoch, GREATEST_EPOCH};
 pub use fault::{Fault, Refused};
 pub use job::Called;
-pub use queue::{BagQueue, BagStore, MOST_BAGS, PutStep, TakeStep};
+pub use queue::{
+    BagQueue, BagStore, MOST_BAGS, Places, PutCursor, PutStep, TakeCursor, TakeStep, take_some,
+};

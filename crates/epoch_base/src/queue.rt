@@ -8,9 +8,15 @@ ghost use Rattle.epoch_base.specs.Bags.{Sealed};
 ghost use Rattle.epoch_base.specs.Stores.{AllExpired, PutsBag, TakesBag, FindsBag, TakesAny};
 
 mod bag_queue;
+mod collection;
+mod places;
+#[cfg(test)]
+mod tests;
 
 use crate::{Bag, Epoch, Fault, SealedBag};
 pub use bag_queue::BagQueue;
+pub use collection::take_some;
+pub use places::{Places, PutCursor, TakeCursor};
 use std::alloc::Global;
 
 /// How many bags a store has room for at most.
