@@ -28,12 +28,6 @@ pub record Machine (J : Type 0) : Type 0 where
   pub held : List J  -- the jobs in the held bag, the oldest first
   pub hand : List J  -- what is left of the bag taken
 
--- a machine with its cursors into the store: of the put under way, and of the collection
-pub record Cursored (J P T : Type 0) : Type 0 where
-  pub machine : Machine J
-  pub putting : Option P
-  pub taking : Option T
-
 abbrev pub with_stage : {J : Type 0} → Machine J → Stage → Machine J
 with_stage m s = record m { stage = s }
 
@@ -208,3 +202,11 @@ pub record IsSized (sizes : Sizes) : Type 0 where
 abbrev pub IsAnswer : {J : Type 0} → Answer J → Type 0
 IsAnswer (Epoch e) = e < 2 ^ 63
 IsAnswer _ = Unit {0}
+
+-- the numbers of an ask stay in their ranges
+abbrev pub AskFits : Sizes → Ask → Type 0
+AskFits sizes (LoadWord k) = k < sizes.positions
+AskFits sizes (StorePinned e) = e < 2 ^ 63
+AskFits sizes (StoreRepinned e) = e < 2 ^ 63
+AskFits sizes (StoreEpoch e) = e < 2 ^ 63
+AskFits sizes _ = Unit {0}

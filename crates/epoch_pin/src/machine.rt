@@ -1,8 +1,8 @@
 //! A participant's machine. It makes all decisions of one participant, and touches nothing shared itself:
 //! it says what it asks next, and goes on by the answer.
-ghost use Rattle.std.specs.Prelude.{◌≡◌, ◌≢◌, ℕ, Bool, true, false, ◌+◌, ◌-◌, ◌*◌, ◌^◌, ◌<◌, ◌≤◌, ◌↔◌, List, [], ◌∷◌, ◌++◌, not, ◌==◌, if◌then◌else◌, Option, Some, None, IsTrue, MatchOption, length};
+ghost use Rattle.std.specs.Prelude.{◌≡◌, ◌≢◌, ℕ, Bool, true, false, ◌+◌, ◌-◌, ◌*◌, ◌^◌, ◌<◌, ◌≤◌, ◌↔◌, List, [], ◌∷◌, ◌++◌, not, ◌==◌, if◌then◌else◌, Option, Some, None, IsTrue, MatchOption, IfSome, length, ◌⊎◌};
 ghost use Rattle.epoch_base.specs.Bags.{Sealed};
-ghost use Rattle.epoch_pin.specs.Machine.{IsAnswer, asks, begun, heard, put_heard, took_heard, gives, ended, fresh, after_collect, after_pin, after_put, after_unpin, after_job, past_word, first_stage, guards_after, is_empty, rest, IsSized, StageFits, is_calling, PutsHeld, TakesHand};
+ghost use Rattle.epoch_pin.specs.Machine.{IsAnswer, AskFits, asks, begun, heard, put_heard, took_heard, gives, ended, fresh, after_collect, after_pin, after_put, after_unpin, after_job, past_word, first_stage, guards_after, is_empty, rest, IsSized, StageFits, is_calling, PutsHeld, TakesHand};
 ghost use Rattle.epoch_pin.specs.declared.machine.Ask.TheVariants.{PutBag, TakeBag, CallJob};
 ghost use Rattle.epoch_pin.specs.declared.machine.Stage.TheVariants.{Idle, End};
 ghost use Rattle.epoch_pin.specs.declared.machine.Sizes.{Sizes};
@@ -103,11 +103,11 @@ pub enum Answer<J> {
     Job(J),
 }
 
-/// The machine of one participant, whose cursors into the store of bags are of the types `P` and `T`.
+/// The machine of one participant.
 ///
 /// It counts guards, and doesn't know them: which numbers are out is the caller's to keep.
 #[derive(Drop)]
-pub struct Machine<J, P, T> {
+pub struct Machine<J> {
     stage: Stage,
     action: Action,
     guards: u32,
@@ -117,30 +117,24 @@ pub struct Machine<J, P, T> {
     full: bool,
     held: Bag<J>,
     hand: SealedBag<J>,
-    putting: Option<P>,
-    taking: Option<T>,
 }
 
-impl<J, P, T> Model for Machine<J, P, T> {
+impl<J> Model for Machine<J> {
     ghost use Rattle.std.specs.Prelude.{◌≡◌, ◌<◌, ◌≤◌, length, not};
-    ghost use Rattle.epoch_pin.specs.Machine.{Cursored, StageFits, IsSized, is_empty, is_calling};
+    ghost use Rattle.epoch_pin.specs.Machine.{Machine as Plan, StageFits, IsSized, is_empty, is_calling};
 
-    ghost Value = { Cursored J P T };
+    ghost Value = { Plan J };
 
     ghost view = { λ a. record {
-      machine = record {
-        stage = a.stage;
-        action = a.action;
-        guards = a.guards;
-        published = a.published;
-        pins = a.pins;
-        sizes = a.sizes;
-        full = a.full;
-        held = a.held.jobs;
-        hand = a.hand.jobs;
-      };
-      putting = a.putting;
-      taking = a.taking;
+      stage = a.stage;
+      action = a.action;
+      guards = a.guards;
+      published = a.published;
+      pins = a.pins;
+      sizes = a.sizes;
+      full = a.full;
+      held = a.held.jobs;
+      hand = a.hand.jobs;
     } };
 
     ghost invariant = { λ a. record {
@@ -153,12 +147,11 @@ impl<J, P, T> Model for Machine<J, P, T> {
     } };
 }
 
-impl<J: Default + Drop, P: Copy + Drop, T: Copy + Drop> Machine<J, P, T> {
+impl<J: Default + Drop> Machine<J> {
     /// The machine of a new participant: no guard out, an empty bag and no pin so far.
-    pub fn new(sizes: Sizes) -> Machine<J, P, T>
+    pub fn new(sizes: Sizes) -> Machine<J>
         requires { IsSized sizes }
-        ensures machine { result.machine ≡ fresh sizes }
-        ensures cursors { (result.putting ≡ None) × (result.taking ≡ None) }
+        ensures { result ≡ fresh sizes }
     {
         Machine {
             stage: Stage::Idle,
@@ -170,16 +163,15 @@ impl<J: Default + Drop, P: Copy + Drop, T: Copy + Drop> Machine<J, P, T> {
             full: false,
             held: Bag::with_limit(sizes.bag_jobs as usize),
             hand: Bag::new().seal(Epoch::starting()),
-            putting: None,
-            taking: None,
         }
     }
 }
 
-impl<J: Drop, P: Copy + Drop, T: Copy + Drop> Machine<J, P, T> {
+impl<J: Drop> Machine<J> {
     /// What is asked next: `None` where no action is under way, and at an action's end.
     pub fn ask(&self) -> Option<Ask>
-        ensures { result ≡ asks self.now.machine }
+        ensures value { result ≡ asks self.now }
+        ensures within { IfSome result (AskFits self.now.sizes) }
     {
         match self.stage {
             Stage::Idle | Stage::End => None,
@@ -204,28 +196,28 @@ impl<J: Drop, P: Copy + Drop, T: Copy + Drop> Machine<J, P, T> {
 
     /// How many guards are counted.
     pub fn guards(&self) -> u32
-        ensures { result ≡ self.now.machine.guards }
+        ensures { result ≡ self.now.guards }
     {
         self.guards
     }
 
     /// Whether the bag takes a further job without a put.
     pub fn has_room(&self) -> bool
-        ensures { IsTrue result ↔ (length self.now.machine.held < self.now.machine.sizes.bag_jobs) }
+        ensures { IsTrue result ↔ (length self.now.held < self.now.sizes.bag_jobs) }
     {
         !self.held.is_full()
     }
 
     /// Whether the put of the action under way, or of the last one, found every place occupied.
     pub fn found_full(&self) -> bool
-        ensures { result ≡ self.now.machine.full }
+        ensures { result ≡ self.now.full }
     {
         self.full
     }
 
     fn first_stage(&self, action: Action) -> Stage
-        ensures value { result ≡ first_stage action self.now.machine }
-        ensures fits { StageFits self.now.machine.sizes (length self.now.machine.held) result }
+        ensures value { result ≡ first_stage action self.now }
+        ensures fits { StageFits self.now.sizes (length self.now.held) result }
         ensures calls_nothing { is_calling result ≡ false }
     {
         let _within = &self.held;
@@ -271,20 +263,17 @@ impl<J: Drop, P: Copy + Drop, T: Copy + Drop> Machine<J, P, T> {
 
     /// Begins an action, where none is under way.
     pub fn begin(&mut self, action: Action)
-        requires { self.old.machine.stage ≡ Idle }
-        ensures machine { self.new.machine ≡ begun action self.old.machine }
-        ensures cursors { (self.new.putting ≡ None) × (self.new.taking ≡ None) }
+        requires { self.old.stage ≡ Idle }
+        ensures { self.new ≡ begun action self.old }
     {
         self.stage = self.first_stage(action);
         self.action = action;
         self.full = false;
-        self.putting = None;
-        self.taking = None;
     }
 
     fn after_collect(&self) -> Stage
-        ensures value { result ≡ after_collect self.now.machine.action self.now.machine.held }
-        ensures fits { StageFits self.now.machine.sizes (length self.now.machine.held) result }
+        ensures value { result ≡ after_collect self.now.action self.now.held }
+        ensures fits { StageFits self.now.sizes (length self.now.held) result }
         ensures calls_nothing { is_calling result ≡ false }
     {
         match self.action {
@@ -300,8 +289,8 @@ impl<J: Drop, P: Copy + Drop, T: Copy + Drop> Machine<J, P, T> {
     }
 
     fn after_pin(&self) -> Stage
-        ensures value { result ≡ after_pin self.now.machine }
-        ensures fits { StageFits self.now.machine.sizes (length self.now.machine.held) result }
+        ensures value { result ≡ after_pin self.now }
+        ensures fits { StageFits self.now.sizes (length self.now.held) result }
         ensures calls_nothing { is_calling result ≡ false }
     {
         if self.pins == 1 {
@@ -312,8 +301,8 @@ impl<J: Drop, P: Copy + Drop, T: Copy + Drop> Machine<J, P, T> {
     }
 
     fn after_put(&self, full: bool) -> Stage
-        ensures value { result ≡ after_put self.now.machine.action full }
-        ensures fits { (full ≡ false → length self.now.machine.held < self.now.machine.sizes.bag_jobs) → StageFits self.now.machine.sizes (length self.now.machine.held) result }
+        ensures value { result ≡ after_put self.now.action full }
+        ensures fits { (full ≡ false → length self.now.held < self.now.sizes.bag_jobs) → StageFits self.now.sizes (length self.now.held) result }
         ensures calls_nothing { is_calling result ≡ false }
     {
         match self.action {
@@ -325,8 +314,8 @@ impl<J: Drop, P: Copy + Drop, T: Copy + Drop> Machine<J, P, T> {
     }
 
     fn after_unpin(&self) -> Stage
-        ensures value { result ≡ after_unpin self.now.machine.action self.now.machine.full }
-        ensures fits { StageFits self.now.machine.sizes (length self.now.machine.held) result }
+        ensures value { result ≡ after_unpin self.now.action self.now.full }
+        ensures fits { StageFits self.now.sizes (length self.now.held) result }
         ensures calls_nothing { is_calling result ≡ false }
     {
         match self.action {
@@ -342,12 +331,11 @@ impl<J: Drop, P: Copy + Drop, T: Copy + Drop> Machine<J, P, T> {
     }
 }
 
-impl<J: Default + Drop, P: Copy + Drop, T: Copy + Drop> Machine<J, P, T> {
+impl<J: Default + Drop> Machine<J> {
     /// Goes on by the answer to the ask; an answer to another ask changes nothing.
     pub fn take(&mut self, answer: Answer<J>)
         requires { IsAnswer answer }
-        ensures machine { self.new.machine ≡ heard self.old.machine answer }
-        ensures cursors { (self.new.putting ≡ self.old.putting) × (self.new.taking ≡ self.old.taking) }
+        ensures { self.new ≡ heard self.old answer }
     {
         match answer {
             Answer::Epoch(epoch) => self.loaded(epoch),
@@ -359,8 +347,7 @@ impl<J: Default + Drop, P: Copy + Drop, T: Copy + Drop> Machine<J, P, T> {
 
     fn loaded(&mut self, epoch: u64)
         requires { epoch < 2 ^ 63 }
-        ensures machine { self.new.machine ≡ heard self.old.machine (Answer.Epoch epoch) }
-        ensures cursors { (self.new.putting ≡ self.old.putting) × (self.new.taking ≡ self.old.taking) }
+        ensures { self.new ≡ heard self.old (Answer.Epoch epoch) }
     {
         match self.stage {
             Stage::LoadPin => self.stage = Stage::StorePin(epoch),
@@ -376,8 +363,8 @@ impl<J: Default + Drop, P: Copy + Drop, T: Copy + Drop> Machine<J, P, T> {
     /// A repin stores only where the published epoch isn't the present one.
     fn after_reading(&self, epoch: u64) -> Stage
         requires { epoch < 2 ^ 63 }
-        ensures value { result ≡ (if self.now.machine.published == epoch then End else Stage.StoreRepin epoch) }
-        ensures fits { StageFits self.now.machine.sizes (length self.now.machine.held) result }
+        ensures value { result ≡ (if self.now.published == epoch then End else Stage.StoreRepin epoch) }
+        ensures fits { StageFits self.now.sizes (length self.now.held) result }
         ensures calls_nothing { is_calling result ≡ false }
     {
         if self.published == epoch {
@@ -388,8 +375,7 @@ impl<J: Default + Drop, P: Copy + Drop, T: Copy + Drop> Machine<J, P, T> {
     }
 
     fn looked(&mut self, word: u64)
-        ensures machine { self.new.machine ≡ heard self.old.machine (Answer.Word word) }
-        ensures cursors { (self.new.putting ≡ self.old.putting) × (self.new.taking ≡ self.old.taking) }
+        ensures { self.new ≡ heard self.old (Answer.Word word) }
     {
         match self.stage {
             Stage::Scan(epoch, next) => {
@@ -400,8 +386,7 @@ impl<J: Default + Drop, P: Copy + Drop, T: Copy + Drop> Machine<J, P, T> {
     }
 
     fn stored(&mut self)
-        ensures machine { self.new.machine ≡ heard self.old.machine Answer.Stored }
-        ensures cursors { (self.new.putting ≡ self.old.putting) × (self.new.taking ≡ self.old.taking) }
+        ensures { self.new ≡ heard self.old Answer.Stored }
     {
         match self.stage {
             Stage::StorePin(epoch) => {
@@ -422,8 +407,7 @@ impl<J: Default + Drop, P: Copy + Drop, T: Copy + Drop> Machine<J, P, T> {
 
     /// A freed position has an empty bag and no pin so far.
     fn reset(&mut self)
-        ensures machine { self.new.machine ≡ fresh self.old.machine.sizes }
-        ensures cursors { (self.new.putting ≡ self.old.putting) × (self.new.taking ≡ self.old.taking) }
+        ensures { self.new ≡ fresh self.old.sizes }
     {
         self.stage = Stage::Idle;
         self.action = Action::Pin;
@@ -436,8 +420,7 @@ impl<J: Default + Drop, P: Copy + Drop, T: Copy + Drop> Machine<J, P, T> {
     }
 
     fn keep(&mut self, job: J)
-        ensures machine { self.new.machine ≡ heard self.old.machine (Answer.Job job) }
-        ensures cursors { (self.new.putting ≡ self.old.putting) × (self.new.taking ≡ self.old.taking) }
+        ensures { self.new ≡ heard self.old (Answer.Job job) }
     {
         if let Stage::Keep = self.stage {
             self.stage = Stage::End;
@@ -446,8 +429,8 @@ impl<J: Default + Drop, P: Copy + Drop, T: Copy + Drop> Machine<J, P, T> {
     }
 
     fn guards_after(&self) -> u32
-        requires { guards_after self.now.machine.action self.now.machine.guards < 2 ^ 32 }
-        ensures { result ≡ guards_after self.now.machine.action self.now.machine.guards }
+        requires { guards_after self.now.action self.now.guards < 2 ^ 32 }
+        ensures { result ≡ guards_after self.now.action self.now.guards }
     {
         match self.action {
             Action::Pin => self.guards + 1,
@@ -458,23 +441,21 @@ impl<J: Default + Drop, P: Copy + Drop, T: Copy + Drop> Machine<J, P, T> {
 
     /// Ends an action that has nothing left to ask: its guard is counted, or no longer counted, from now on.
     pub fn end(&mut self)
-        requires ended { self.old.machine.stage ≡ End }
-        requires fits { guards_after self.old.machine.action self.old.machine.guards < 2 ^ 32 }
-        ensures machine { self.new.machine ≡ ended self.old.machine }
-        ensures cursors { (self.new.putting ≡ self.old.putting) × (self.new.taking ≡ self.old.taking) }
+        requires ended { self.old.stage ≡ End }
+        requires fits { guards_after self.old.action self.old.guards < 2 ^ 32 }
+        ensures { self.new ≡ ended self.old }
     {
         self.guards = self.guards_after();
         self.stage = Stage::Idle;
     }
 }
 
-impl<J: Default + Drop, P: Copy + Drop, T: Copy + Drop> Machine<J, P, T> {
+impl<J: Default + Drop> Machine<J> {
     /// Takes the next job out of the bag in hand, to be called by the caller, and goes on.
     /// `None` where no call is asked for.
     pub fn give(&mut self) -> Option<J>
-        ensures job { MatchOption result (asks self.old.machine ≢ Some CallJob) (λ job. (asks self.old.machine ≡ Some CallJob) × (self.old.machine.hand ≡ job ∷ rest self.old.machine.hand)) }
-        ensures machine { self.new.machine ≡ gives self.old.machine self.old.machine.stage (rest self.old.machine.hand) }
-        ensures cursors { (self.new.putting ≡ self.old.putting) × (self.new.taking ≡ self.old.taking) }
+        ensures job { MatchOption result (asks self.old ≢ Some CallJob) (λ job. (asks self.old ≡ Some CallJob) × (self.old.hand ≡ job ∷ rest self.old.hand)) }
+        ensures after { self.new ≡ gives self.old self.old.stage (rest self.old.hand) }
     {
         match self.stage {
             Stage::Calling(expiry, taken) => {
@@ -489,23 +470,23 @@ impl<J: Default + Drop, P: Copy + Drop, T: Copy + Drop> Machine<J, P, T> {
     }
 
     /// One step of the put that is asked for. The bag stays held unless the answer is `Done`.
-    pub fn put_step<S: BagStore<Job = J, Putting = P, Taking = T>>(
+    pub fn put_step<S: BagStore<Job = J>>(
         &mut self,
         store: &mut S,
+        cursor: &mut S::Putting,
     ) -> PutStep
-        requires { (seal : ℕ) × (asks self.old.machine ≡ Some (PutBag seal)) }
-        ensures put { (seal : ℕ) → asks self.old.machine ≡ Some (PutBag seal) → PutsHeld seal self.old.machine (S.queued store.old) result (S.queued store.new) }
-        ensures machine { self.new.machine ≡ put_heard self.old.machine result }
+        requires { (seal : ℕ) × (asks self.old ≡ Some (PutBag seal)) }
+        ensures put { (seal : ℕ) → asks self.old ≡ Some (PutBag seal) → PutsHeld seal self.old (S.queued store.old) result (S.queued store.new) }
+        ensures after { self.new ≡ put_heard self.old result }
+        ensures capacity { S.capacity store.new ≡ S.capacity store.old }
+        ensures fewer { 0 < S.puts_left (S.capacity store.old) cursor.old → S.puts_left (S.capacity store.old) cursor.new < S.puts_left (S.capacity store.old) cursor.old }
+        ensures last { S.puts_left (S.capacity store.old) cursor.old ≡ 0 → result ≡ PutStep.Full }
+        ensures claims { (place : ℕ) → S.Claimed store.new place → S.Claimed store.old place }
     {
         let Stage::Put(seal) = self.stage else {
             unreachable!()
         };
-        let mut cursor = match self.putting {
-            Some(cursor) => cursor,
-            None => store.start_put(),
-        };
-        let step = store.put_step(&mut cursor, Epoch::new(seal), &mut self.held);
-        self.putting = Some(cursor);
+        let step = store.put_step(cursor, Epoch::new(seal), &mut self.held);
         match step {
             PutStep::Again => {}
             PutStep::Done => {
@@ -521,24 +502,25 @@ impl<J: Default + Drop, P: Copy + Drop, T: Copy + Drop> Machine<J, P, T> {
     }
 
     /// One step of the collection that is asked for. A bag that is got is in hand then.
-    pub fn take_step<S: BagStore<Job = J, Putting = P, Taking = T>>(
+    pub fn take_step<S: BagStore<Job = J>>(
         &mut self,
         store: &mut S,
+        cursor: &mut S::Taking,
     ) -> TakeStep
-        requires { (expiry : ℕ) × (asks self.old.machine ≡ Some (TakeBag expiry)) }
-        ensures taken { (expiry : ℕ) → asks self.old.machine ≡ Some (TakeBag expiry) → TakesHand expiry (S.queued store.old) result (S.queued store.new) self.new.machine.hand }
-        ensures machine { self.new.machine ≡ took_heard self.old.machine self.old.machine.stage result self.new.machine.hand }
+        requires { (expiry : ℕ) × (asks self.old ≡ Some (TakeBag expiry)) }
+        ensures taken { (expiry : ℕ) → asks self.old ≡ Some (TakeBag expiry) → TakesHand expiry (S.queued store.old) result (S.queued store.new) self.new.hand }
+        ensures after { self.new ≡ took_heard self.old self.old.stage result self.new.hand }
+        ensures capacity { S.capacity store.new ≡ S.capacity store.old }
+        ensures fewer { 0 < S.takes_left (S.capacity store.old) cursor.old → S.takes_left (S.capacity store.old) cursor.new < S.takes_left (S.capacity store.old) cursor.old }
+        ensures last { S.takes_left (S.capacity store.old) cursor.old ≡ 0 → result ≡ TakeStep.Empty }
+        ensures claims { (place : ℕ) → S.Claimed store.new place → S.Claims cursor.new place ⊎ (S.Claimed store.old place × (¬ (S.Claims cursor.old place))) }
+        ensures lets_go { result ≢ TakeStep.Again → (place : ℕ) → ¬ (S.Claims cursor.new place) }
     {
         let Stage::Take(expiry, taken) = self.stage else {
             unreachable!()
         };
         let after = self.after_collect();
-        let mut cursor = match self.taking {
-            Some(cursor) => cursor,
-            None => store.start_take(),
-        };
-        let step = store.take_step(&mut cursor, Epoch::new(expiry), &mut self.hand);
-        self.taking = Some(cursor);
+        let step = store.take_step(cursor, Epoch::new(expiry), &mut self.hand);
         match step {
             TakeStep::Again => {}
             TakeStep::Empty => self.stage = after,

@@ -1,4 +1,5 @@
 pub mod Run
+pub mod Seats
 pub mod Grace
 pub mod Tickets
 pub mod Lawful

@@ -1,5 +1,7 @@
 //! The world of all participants.
 
+mod seat;
 mod step;
 
+pub use seat::Seat;
 pub use step::{Answer, Call, Deferral, Entry, Progress, Reply, Step, Word};

@@ -1,5 +1,5 @@
 use Rattle.std.proofs.Common.{ap, sym, ◌∙◌, ◌≡◌, ◌<◌, ◌^◌, length, refl, subst}
-use Rattle.epoch_pin.specs.Machine.{Cursored, StageFits, is_calling}
+use Rattle.epoch_pin.specs.Machine.{Machine, StageFits, is_calling}
 use Rattle.epoch_pin.proofs.Stages.{no_call_asked, nothing_given, some_in_hand, left_in_hand, job_given, gone_on, hand_after}
 use Rattle.epoch_pin.proofs.machine.Machine.give.Goals as goal
 
@@ -7,7 +7,7 @@ pub invariant_of-self : goal.invariant_of-self
 invariant_of-self g c =
     let fits = subst (StageFits c.self.inside.sizes (length c.self.inside.held.jobs)) c.in-Calling.is c.self.invariant.stage in
     let behind : StageFits c.self.inside.sizes (length c.self.inside.held.jobs) c.after_collect-after.result =
-    subst (λ (z : Cursored _ _ _). StageFits z.machine.sizes (length z.machine.held) c.after_collect-after.result) (sym c.self.view_is) c.after_collect-after.ensures.fits in
+    subst (λ (z : Machine _). StageFits z.sizes (length z.held) c.after_collect-after.result) (sym c.self.view_is) c.after_collect-after.ensures.fits in
     record {
       sized = c.self.invariant.sized;
       limit = c.self.invariant.limit;
@@ -19,17 +19,16 @@ invariant_of-self g c =
 
 pub returns-in-Calling-clause-job : goal.returns-in-Calling-clause-job
 returns-in-Calling-clause-job g c =
-    job_given _ _ _ _ _ _ (ap (λ (z : Cursored _ _ _). z.machine) c.self.view_is) c.in-Calling.is (some_in_hand _ _ _ _ c.in-Calling.is c.self.invariant.hand) c.take_next-job.ensures.job
+    job_given _ _ _ _ _ _ c.self.view_is c.in-Calling.is (some_in_hand _ _ _ _ c.in-Calling.is c.self.invariant.hand) c.take_next-job.ensures.job
 
-pub returns-in-Calling-clause-machine : goal.returns-in-Calling-clause-machine
-returns-in-Calling-clause-machine g c =
-    gone_on _ _ _ _ _ _ _ _ (ap (λ (z : Cursored _ _ _). z.machine) c.self.view_is) c.in-Calling.is
+pub returns-in-Calling-clause-after : goal.returns-in-Calling-clause-after
+returns-in-Calling-clause-after g c =
+    gone_on _ _ _ _ _ _ _ _ c.self.view_is c.in-Calling.is
     (left_in_hand _ _ _ (some_in_hand _ _ _ _ c.in-Calling.is c.self.invariant.hand) c.take_next-job.ensures.job)
     c.after_job-self-inside.ensures.value c.is_empty-none_left.ensures.test c.after_collect-after.ensures.value
 
 pub returns-in_default : goal.returns-in_default
 returns-in_default g c = record {
-  job = no_call_asked _ _ (ap (λ (z : Cursored _ _ _). z.machine) c.self.view_is) c.in_default.not-Calling;
-  machine = nothing_given _ _ (ap (λ (z : Cursored _ _ _). z.machine) c.self.view_is) c.in_default.not-Calling;
-  cursors = (refl, refl);
+  job = no_call_asked _ _ c.self.view_is c.in_default.not-Calling;
+  after = nothing_given _ _ c.self.view_is c.in_default.not-Calling;
 }

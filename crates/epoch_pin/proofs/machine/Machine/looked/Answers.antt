@@ -1,6 +1,6 @@
 use Rattle.std.proofs.Common.{rules, ap, sym, ◌∙◌, refl, not, arith}
 use Rattle.epoch_pin.specs.declared.machine.Stage.{Stage}
-use Rattle.epoch_pin.specs.Machine.{Cursored, is_calling}
+use Rattle.epoch_pin.specs.Machine.{Machine, is_calling}
 use Rattle.epoch_pin.proofs.Stages.{word_unasked}
 use Rattle.epoch_pin.proofs.machine.Machine.looked.Goals as goal
 
@@ -15,7 +15,4 @@ invariant_of-self g c = record {
 }
 
 pub returns-in_default : goal.returns-in_default
-returns-in_default g c = record {
-  machine = word_unasked _ _ _ (ap (λ (z : Cursored _ _ _). z.machine) c.self.view_is) c.in_default.not-Scan;
-  cursors = (refl, refl);
-}
+returns-in_default g c = word_unasked _ _ _ c.self.view_is c.in_default.not-Scan

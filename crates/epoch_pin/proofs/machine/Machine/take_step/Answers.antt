@@ -1,5 +1,5 @@
 use Rattle.std.proofs.Common.{◌∙◌, sym, ap, not, length, refl, subst}
-use Rattle.epoch_pin.specs.Machine.{Cursored, StageFits, is_calling, is_empty}
+use Rattle.epoch_pin.specs.Machine.{Machine, StageFits, is_calling, is_empty}
 use Rattle.epoch_base.specs.Bags.{Sealed}
 use Rattle.epoch_pin.specs.declared.machine.Stage.{Stage}
 use Rattle.epoch_pin.proofs.Stages.{hand_after}
@@ -11,7 +11,7 @@ invariant_of-self-in-Empty g c = record {
   limit = c.self.invariant.limit;
   within = c.self.invariant.within;
   pins = c.self.invariant.pins;
-  stage = subst (λ (z : Cursored _ _ _). StageFits z.machine.sizes (length z.machine.held) c.after_collect-after.result) (sym c.self.view_is) c.after_collect-after.ensures.fits;
+  stage = subst (λ (z : Machine _). StageFits z.sizes (length z.held) c.after_collect-after.result) (sym c.self.view_is) c.after_collect-after.ensures.fits;
   hand = ap (λ (bag : Sealed _). is_empty bag.jobs) c.in-Empty.ensures.bag.0 ∙ c.self.invariant.hand
       ∙ ap (λ (s : Stage). not (is_calling s)) c.in-Take.is ∙ sym (ap not c.after_collect-after.ensures.calls_nothing);
 }
@@ -20,7 +20,7 @@ pub invariant_of-self-in-Got : goal.invariant_of-self-in-Got
 invariant_of-self-in-Got g c =
     let fits = subst (StageFits c.self.inside.sizes (length c.self.inside.held.jobs)) c.in-Take.is c.self.invariant.stage in
     let behind : StageFits c.self.inside.sizes (length c.self.inside.held.jobs) c.after_collect-after.result =
-    subst (λ (z : Cursored _ _ _). StageFits z.machine.sizes (length z.machine.held) c.after_collect-after.result) (sym c.self.view_is) c.after_collect-after.ensures.fits in
+    subst (λ (z : Machine _). StageFits z.sizes (length z.held) c.after_collect-after.result) (sym c.self.view_is) c.after_collect-after.ensures.fits in
     record {
       sized = c.self.invariant.sized;
       limit = c.self.invariant.limit;

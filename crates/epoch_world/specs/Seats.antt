@@ -1,0 +1,48 @@
+-- One participant's part of a step: what its seat is after it, and what participants share.
+use Rattle.std.specs.Prelude.{◌≡◌, ℕ, ◌+◌, ◌*◌, ◌^◌, ◌<◌, ◌≤◌, List, [], ◌∷◌, length, Option, Some, None, map, slice_index_or, slice_set}
+use Rattle.arrayvec.specs.ArrayVec.{ArrayVec}
+use Rattle.epoch_base.specs.declared.job.Called.TheVariants.{Ran}
+use Rattle.epoch_base.specs.declared.queue.PutStep.{PutStep}
+use Rattle.epoch_base.specs.declared.queue.TakeStep.{TakeStep}
+use Rattle.epoch_pin.specs.declared.machine.Sizes.{Sizes}
+use Rattle.epoch_pin.specs.declared.machine.Stage.{Stage}
+use Rattle.epoch_pin.specs.declared.machine.Ask.{Ask}
+use Rattle.epoch_pin.specs.declared.machine.Ask.TheVariants.{LoadEpoch, LoadWord, StorePinned, StoreRepinned, StoreUnpinned, StoreFree, StoreEpoch, PutBag, TakeBag, KeepJob, CallJob}
+use Rattle.epoch_pin.specs.declared.machine.Answer.TheVariants.{Epoch, Word as WordFound, Stored, Job}
+use Rattle.epoch_pin.specs.Machine.{Machine, hears, put_heard, took_heard, gives, PutsHeld, TakesHand}
+use Rattle.epoch_world.specs.declared.world.step.Reply.{Reply}
+use Rattle.epoch_world.specs.declared.world.step.Reply.TheVariants.{Stepped, Pinned as PinnedReply, Unpinned as UnpinnedReply, Repinned, Deferred, Called as CalledReply, Done}
+use Rattle.epoch_world.specs.declared.world.step.Answer.TheVariants.{Released}
+use Rattle.epoch_world.specs.declared.world.step.Deferral.{Deferral}
+use Rattle.epoch_world.specs.declared.world.step.Word.{Word}
+use Rattle.epoch_world.specs.declared.world.step.Word.TheVariants.{Unpinned, Pinned}
+use Rattle.epoch_world.specs.declared.world.seat.Seat.{Seat as SeatOf}
+use Rattle.epoch_world.specs.Run.{Bag, Seat, State, Ending, free_seat, with_machine, with_word}
+
+-- a participant as the laws see it, without its cursors into the store
+abbrev pub seen : {P T : Type 0} → SeatOf P T → Seat
+seen s = record { word = s.word; machine = s.machine.machine; progress = s.progress; guards = s.guards.items; paused = s.paused }
+
+-- what participants share, but for their words
+pub record Shared : Type 0 where
+  pub epoch : ℕ
+  pub queued : List Bag
+  pub tickets : ℕ
+
+abbrev pub shared : ℕ → List Bag → ℕ → Shared
+shared epoch queued tickets = record { epoch = epoch; queued = queued; tickets = tickets }
+
+-- What comes of one ask of the participant p: the reply, its seat and what is shared after it. The word is the one
+-- that a scan looks at.
+abbrev pub SeatPerforms : Sizes → ℕ → ℕ → Shared → Seat → Stage → Ask → Reply → Seat → Shared → Type 0
+SeatPerforms sizes p word old seat s LoadEpoch reply after new = (reply ≡ Stepped) × (after ≡ with_machine seat (hears seat.machine s (Epoch old.epoch))) × (new ≡ old)
+SeatPerforms sizes p word old seat s (LoadWord k) reply after new = (reply ≡ Stepped) × (after ≡ with_machine seat (hears seat.machine s (WordFound word))) × (new ≡ old)
+SeatPerforms sizes p word old seat s (StorePinned e) reply after new = (reply ≡ PinnedReply p) × (after ≡ with_word seat (Pinned e) (hears seat.machine s Stored)) × (new ≡ old)
+SeatPerforms sizes p word old seat s (StoreRepinned e) reply after new = (reply ≡ Repinned p) × (after ≡ with_word seat (Pinned e) (hears seat.machine s Stored)) × (new ≡ old)
+SeatPerforms sizes p word old seat s StoreUnpinned reply after new = (reply ≡ UnpinnedReply p) × (after ≡ with_word seat Unpinned (hears seat.machine s Stored)) × (new ≡ old)
+SeatPerforms sizes p word old seat s StoreFree reply after new = (reply ≡ Done Released) × (after ≡ free_seat sizes) × (new ≡ old)
+SeatPerforms sizes p word old seat s (StoreEpoch e) reply after new = (reply ≡ Stepped) × (after ≡ with_machine seat (hears seat.machine s Stored)) × (new ≡ record old { epoch = e })
+SeatPerforms sizes p word old seat s (PutBag seal) reply after new = (step : PutStep) × (reply ≡ Stepped) × PutsHeld seal seat.machine old.queued step new.queued × (after ≡ with_machine seat (put_heard seat.machine step)) × (new ≡ record old { queued = new.queued })
+SeatPerforms sizes p word old seat s (TakeBag x) reply after new = (step : TakeStep) × (reply ≡ Stepped) × TakesHand x old.queued step new.queued after.machine.hand × (after ≡ with_machine seat (took_heard seat.machine s step after.machine.hand)) × (new ≡ record old { queued = new.queued })
+SeatPerforms sizes p word old seat s KeepJob reply after new = (reply ≡ Deferred old.tickets) × (after ≡ with_machine seat (hears seat.machine s (Job (record { ticket = old.tickets; removes = None })))) × (new ≡ record old { tickets = old.tickets + 1 })
+SeatPerforms sizes p word old seat s CallJob reply after new = (job : Deferral) × (jobs : List Deferral) × (seat.machine.hand ≡ job ∷ jobs) × (reply ≡ CalledReply job.ticket Ran) × (after ≡ with_machine seat (gives seat.machine s jobs)) × (new ≡ old)
