@@ -1,2 +1,4 @@
 pub mod SeatLemmas
 pub mod Linked
+pub mod DeferralEpochs
+pub mod Log
