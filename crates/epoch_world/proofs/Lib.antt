@@ -5,3 +5,5 @@ pub mod Log
 pub mod SeatsFine
 pub mod WorldHolds
 pub mod NextStages
+pub mod QuietReplies
+pub mod SeatSteps

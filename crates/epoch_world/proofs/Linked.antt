@@ -18,7 +18,9 @@ use Rattle.epoch_world.specs.declared.world.step.Call.{Call}
 use Rattle.epoch_world.specs.declared.world.step.Call.TheVariants.{Pin, Unpin, Repin, Pause, Resume, Defer, Flush, Release}
 use Rattle.epoch_world.specs.declared.world.step.Step.{Step}
 use Rattle.epoch_world.specs.declared.world.step.Step.TheVariants.{Register, Begin, Go, End as EndStep, EndGo}
+use Rattle.epoch_world.specs.declared.world.step.Answer.TheVariants.{Unit as UnitAnswer}
 use Rattle.epoch_world.specs.declared.world.step.Reply.{Reply}
+use Rattle.epoch_world.specs.declared.world.step.Reply.TheVariants.{Done}
 use Rattle.epoch_world.specs.declared.world.step.Entry.{Entry}
 use Rattle.epoch_world.specs.declared.world.step.Deferral.{Deferral}
 use Rattle.epoch_world.specs.declared.world.step.Word.{Word}
@@ -63,9 +65,10 @@ pub record IsDriven (c : Call) (m : Machine Deferral) (guards : List ℕ) : Type
   pub action : m.action ≡ action_of c
   pub under : BeganUnder c guards
 
--- the machine rests but where it drives the call under way
+-- the machine rests but where it drives the call under way; a call that it doesn't drive has nothing to answer
 abbrev pub Follows : Progress → Machine Deferral → List ℕ → Type 0
 Follows (Driven c) m guards = IsDriven c m guards
+Follows (Ends reply) m guards = (m.stage ≡ Resting) × (reply ≡ Done UnitAnswer)
 Follows _ m guards = m.stage ≡ Resting
 
 pub record IsLinked (sizes : Sizes) (seat : Seat) : Type 0 where
@@ -207,15 +210,15 @@ module _ (sizes : Sizes) (seat : Seat) (h : IsLinked sizes seat) where
   begun_linked Pin n idle e = drives_linked PinAction Pin refl (has_room _ _ _ refl e)
   begun_linked (Unpin None) n idle e = absurd (cc)
   begun_linked (Unpin (Some g)) n idle e = drives_linked UnpinAction (Unpin (Some g)) refl (guard_given _ _ _ e)
-  begun_linked (Repin None) n idle e = progress_linked _ (follows_at Idle idle)
+  begun_linked (Repin None) n idle e = progress_linked _ (follows_at Idle idle, refl)
   begun_linked (Repin (Some g)) n idle e = drives_linked RepinAction (Repin (Some g)) refl (guard_given _ _ _ e)
-  begun_linked (Pause None) n idle e = progress_linked _ (follows_at Idle idle)
+  begun_linked (Pause None) n idle e = progress_linked _ (follows_at Idle idle, refl)
   begun_linked (Pause (Some g)) n idle e = drives_linked UnpinAction (Pause (Some g)) refl (guard_given _ _ _ e)
-  begun_linked (Resume None) n idle e = progress_linked _ (follows_at Idle idle)
+  begun_linked (Resume None) n idle e = progress_linked _ (follows_at Idle idle, refl)
   begun_linked (Resume (Some g)) n idle e = drives_linked PinAction (Resume (Some g)) refl tt
   begun_linked (Defer None) n idle e = progress_linked _ (follows_at Idle idle)
   begun_linked (Defer (Some g)) n idle e = drives_linked DeferAction (Defer (Some g)) refl (guard_given _ _ _ e)
-  begun_linked (Flush None) n idle e = progress_linked _ (follows_at Idle idle)
+  begun_linked (Flush None) n idle e = progress_linked _ (follows_at Idle idle, refl)
   begun_linked (Flush (Some g)) n idle e = drives_linked FlushAction (Flush (Some g)) refl (guard_given _ _ _ e)
   begun_linked Release n idle e = drives_linked ReleaseAction Release refl (none_out _ (guard_given _ _ _ e))
 
@@ -294,8 +297,8 @@ module _ (old new : State) (p : ℕ) (reply : Reply) (h : AllLinked old) (there 
   go_linked : (progress : Progress) → seat.progress ≡ progress → Goes old p seat progress reply new → AllLinked new
   go_linked Idle e did = subst AllLinked (sym did.1) h
   go_linked (Driven c) e did = drive_linked c e seat.machine.stage (driven c e).under_way did
-  go_linked CallsNow e did = writes _ _ did.1 refl refl (progress_linked old.sizes seat (h.seats p) _ (follows_at old.sizes seat (h.seats p) CallsNow e))
-  go_linked (Ends r) e did = writes _ _ did.1 refl refl (progress_linked old.sizes seat (h.seats p) Idle (follows_at old.sizes seat (h.seats p) (Ends r) e))
+  go_linked CallsNow e did = writes _ _ did.1 refl refl (progress_linked old.sizes seat (h.seats p) _ (follows_at old.sizes seat (h.seats p) CallsNow e, refl))
+  go_linked (Ends r) e did = writes _ _ did.1 refl refl (progress_linked old.sizes seat (h.seats p) Idle (follows_at old.sizes seat (h.seats p) (Ends r) e).0)
 
 module _ (old new : State) (reply : Reply) (h : AllLinked old) where
   stays_linked : new ≡ old → AllLinked new
