@@ -7,3 +7,4 @@ pub mod WorldHolds
 pub mod NextStages
 pub mod QuietReplies
 pub mod SeatSteps
+pub mod LowestGuard

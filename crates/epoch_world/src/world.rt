@@ -1,5 +1,6 @@
 //! The world of all participants.
 
+mod guards;
 mod seat;
 mod step;
 
