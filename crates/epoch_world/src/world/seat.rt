@@ -3,7 +3,7 @@ ghost use Rattle.std.specs.Prelude.{◌≡◌, ◌≢◌, true, ℕ, ◌+◌, �
 ghost use Rattle.epoch_pin.specs.Machine.{asks, AskFits, heard, guards_after, IsSized};
 ghost use Rattle.epoch_world.specs.Run.{free_seat, with_word, refusal, waits, call_refusal, guard_refusal, resume_refusal, is_out, begun_seat, drives, ended_seat, end_reply};
 ghost use Rattle.epoch_pin.specs.declared.machine.Stage.TheVariants.{Idle, End};
-ghost use Rattle.epoch_world.specs.Seats.{shared, SeatPerforms, adds_guard};
+ghost use Rattle.epoch_world.specs.Seats.{shared, SeatPerforms, WordFits, adds_guard};
 
 use crate::world::guards::{is_out, lowest, without};
 use crate::world::step::{Answer, Call, Deferral, Progress, Reply, Word};
@@ -62,7 +62,8 @@ impl Seat {
 
     /// What its word says.
     pub fn word(&self) -> Word
-        ensures { result ≡ self.now.word }
+        ensures value { result ≡ self.now.word }
+        ensures within { WordFits result }
     {
         self.word
     }
@@ -282,11 +283,13 @@ impl Seat {
         }
     }
 
-    /// Takes the position: its word is no longer free.
-    pub fn register(&mut self)
-        requires { self.old ≡ free_seat self.old.machine.sizes }
-        ensures { self.new ≡ record (free_seat self.old.machine.sizes) { word = Word.Unpinned } }
+    /// Takes the position: a new registration has no guard, an empty bag and no pin so far.
+    #[inline(never)]
+    pub fn register(&mut self, sizes: Sizes)
+        requires { IsSized sizes }
+        ensures { self.new ≡ record (free_seat sizes) { word = Word.Unpinned } }
     {
+        *self = Seat::free(sizes);
         self.word = Word::Unpinned;
     }
 
