@@ -7,3 +7,5 @@ pub mod WorldHolds
 pub mod NextStages
 pub mod QuietReplies
 pub mod SeatSteps
+pub mod GoesKeeps
+pub mod GraceKept
