@@ -8,3 +8,5 @@ pub mod NextStages
 pub mod QuietReplies
 pub mod SeatSteps
 pub mod LowestGuard
+pub mod GoesKeeps
+pub mod GraceKept
