@@ -1,0 +1,6 @@
+pub mod SeatLemmas
+pub mod TicketSums
+pub mod JobsPlaced
+pub mod TicketsTallied
+pub mod TicketsKept
+pub mod TicketsOnce
