@@ -53,25 +53,34 @@ hand_none hand _ none = none
 
 -- THE STAGES AFTER EACH PART: m is the machine that goes there
 
-pub held_collected : (m : Machine Deferral) (a : Action) (jobs : List Deferral) → m.held ≡ jobs → HeldAt m (after_collect a jobs)
+pub held_collected : (m : Machine Deferral) (a : Action) (jobs : List Deferral)
+    → m.held ≡ jobs
+    → HeldAt m (after_collect a jobs)
 held_collected m Release [] none = λ release full. none
 held_collected m Release (job ∷ jobs) is = tt
 held_collected m _ jobs is = tt
 
 pub held_pinned : (m n : Machine Deferral) → n.held ≡ m.held → HeldAt n (after_pin m)
-held_pinned m n same = pick (HeldAt n) (m.pins == 1) LoadScan (after_collect m.action m.held) tt (held_collected n m.action m.held same)
+held_pinned m n same =
+    pick (HeldAt n) (m.pins == 1) LoadScan (after_collect m.action m.held) tt (held_collected n m.action m.held same)
 
-pub held_put : (m : Machine Deferral) (a : Action) (full : Bool) → (m.full ≡ false → m.held ≡ []) → HeldAt m (after_put a full)
+pub held_put : (m : Machine Deferral) (a : Action) (full : Bool)
+    → (m.full ≡ false → m.held ≡ [])
+    → HeldAt m (after_put a full)
 held_put m Flush full none = tt
 held_put m Defer false none = tt
 held_put m Release full none = λ release. none
 held_put m _ full none = tt
 
-pub held_unpinned : (m : Machine Deferral) (a : Action) (full : Bool) → (a ≡ Release → full ≡ false → m.held ≡ []) → HeldAt m (after_unpin a full)
+pub held_unpinned : (m : Machine Deferral) (a : Action) (full : Bool)
+    → (a ≡ Release → full ≡ false → m.held ≡ [])
+    → HeldAt m (after_unpin a full)
 held_unpinned m Release false none = none refl refl
 held_unpinned m _ full none = tt
 
-pub held_called : (m n : Machine Deferral) (x k : ℕ) (jobs : List Deferral) → n.held ≡ m.held → HeldAt n (after_job m x k jobs)
+pub held_called : (m n : Machine Deferral) (x k : ℕ) (jobs : List Deferral)
+    → n.held ≡ m.held
+    → HeldAt n (after_job m x k jobs)
 held_called m n x k (job ∷ jobs) same = tt
 held_called m n x k [] same =
     let last : Bool = k + 1 == m.sizes.collect_bags in
@@ -130,7 +139,10 @@ module _ (seat : Seat) (taken : seat.word ≢ Free) where
     hand = refl;
   }
 
-  pub begun_leaves : (c : Call) → seat.machine.stage ≡ Idle → PlacesHere seat → LeavesJobs seat (begun_seat c seat)
+  pub begun_leaves : (c : Call)
+      → seat.machine.stage ≡ Idle
+      → PlacesHere seat
+      → LeavesJobs seat (begun_seat c seat)
   begun_leaves c idle places = begins c (subst (HandAt seat.machine.hand) idle places.hand)
     where
       begins : (c : Call) → HandAt seat.machine.hand Idle → LeavesJobs seat (begun_seat c seat)
