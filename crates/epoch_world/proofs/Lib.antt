@@ -4,3 +4,5 @@ pub mod JobsPlaced
 pub mod TicketsTallied
 pub mod TicketsKept
 pub mod TicketsOnce
+pub mod PendingDeferrals
+pub mod TicketsBounded
