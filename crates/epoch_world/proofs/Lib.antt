@@ -10,3 +10,10 @@ pub mod SeatSteps
 pub mod LowestGuard
 pub mod GoesKeeps
 pub mod GraceKept
+pub mod TicketSums
+pub mod JobsPlaced
+pub mod TicketsTallied
+pub mod TicketsKept
+pub mod TicketsOnce
+pub mod PendingDeferrals
+pub mod TicketsBounded
