@@ -17,3 +17,6 @@ pub mod TicketsKept
 pub mod TicketsOnce
 pub mod PendingDeferrals
 pub mod TicketsBounded
+pub mod GuardsFew
+pub mod WorldKept
+pub mod Performed

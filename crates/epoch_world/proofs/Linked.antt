@@ -28,57 +28,8 @@ use Rattle.epoch_world.specs.declared.world.step.Word.TheVariants.{Unpinned}
 use Rattle.epoch_world.specs.declared.world.step.Progress.{Progress}
 use Rattle.epoch_world.specs.declared.world.step.Progress.TheVariants.{Idle, Driven, CallsNow, Ends}
 use Rattle.epoch_world.specs.Run.{Seat, State, Ending, Open, Emptying, Over, seat_of, word_of, with_seat, with_word, free_seat, is_out, without, lowest, guard_refusal, call_refusal, refusal, drives, begun_seat, Begins, with_guards, ended_seat, Drives, Goes, EndGoes, Takes, Runs, IsFresh}
+pub use Rattle.epoch_world.specs.Kept.{action_of, rests, BeganUnder, IsDriven, Follows, IsLinked, AllLinked}
 use Rattle.epoch_world.proofs.SeatLemmas.{seat_written, seat_other, seat_there, same_or_other, IsAccepted, begin_given, guard_given}
-
--- WHAT IS LINKED
-
--- the action that drives a call
-abbrev pub action_of : Call → Action
-action_of Pin = PinAction
-action_of (Unpin g) = UnpinAction
-action_of (Repin g) = RepinAction
-action_of (Pause g) = UnpinAction
-action_of (Resume g) = PinAction
-action_of (Defer g) = DeferAction
-action_of (Flush g) = FlushAction
-action_of Release = ReleaseAction
-
--- no action is under way
-abbrev pub rests : Stage → Bool
-rests Resting = true
-rests _ = false
-
--- what the Begin of a driven call found of the guards, which stay as they are until the call ends
-abbrev pub BeganUnder : Call → List ℕ → Type 0
-BeganUnder Pin guards = length guards < 64
-BeganUnder (Resume (Some g)) guards = Unit {0}
-BeganUnder (Unpin (Some g)) guards = is_out g guards ≡ true
-BeganUnder (Repin (Some g)) guards = is_out g guards ≡ true
-BeganUnder (Pause (Some g)) guards = is_out g guards ≡ true
-BeganUnder (Defer (Some g)) guards = is_out g guards ≡ true
-BeganUnder (Flush (Some g)) guards = is_out g guards ≡ true
-BeganUnder Release guards = length guards ≡ 0
-BeganUnder _ guards = ⊥
-
-pub record IsDriven (c : Call) (m : Machine Deferral) (guards : List ℕ) : Type 0 where
-  pub under_way : rests m.stage ≡ false
-  pub action : m.action ≡ action_of c
-  pub under : BeganUnder c guards
-
--- the machine rests but where it drives the call under way; a call that it doesn't drive has nothing to answer
-abbrev pub Follows : Progress → Machine Deferral → List ℕ → Type 0
-Follows (Driven c) m guards = IsDriven c m guards
-Follows (Ends reply) m guards = (m.stage ≡ Resting) × (reply ≡ Done UnitAnswer)
-Follows _ m guards = m.stage ≡ Resting
-
-pub record IsLinked (sizes : Sizes) (seat : Seat) : Type 0 where
-  pub sized : seat.machine.sizes ≡ sizes
-  pub counted : seat.machine.guards ≡ length seat.guards
-  pub follows : Follows seat.progress seat.machine seat.guards
-
-pub record AllLinked (s : State) : Type 0 where
-  pub positions : s.sizes.positions ≡ length s.seats
-  pub seats : (p : ℕ) → IsLinked s.sizes (seat_of s p)
 
 -- WRITING A SEAT
 

@@ -11,28 +11,7 @@ use Rattle.epoch_pin.specs.Machine.{Machine, is_empty, after_collect, after_pin,
 use Rattle.epoch_world.specs.declared.world.step.Call.TheVariants.{Defer as DeferCall}
 use Rattle.epoch_world.specs.declared.world.step.Deferral.{Deferral}
 use Rattle.epoch_world.specs.Run.{Seat, call_refusal}
-
--- an action still has a step to make
-abbrev pub is_busy : Stage → Bool
-is_busy Idle = false
-is_busy End = false
-is_busy _ = true
-
--- a deferral that is under way, and before its end, may still take a ticket
-abbrev pub pending_at : Action → Stage → ℕ
-pending_at Defer s = if is_busy s then 1 else 0
-pending_at _ s = 0
-
-abbrev pub pending : Seat → ℕ
-pending seat = pending_at seat.machine.action seat.machine.stage
-
--- only a deferral keeps a job
-abbrev pub KeepsAt : Action → Stage → Type 0
-KeepsAt a Keep = a ≡ Defer
-KeepsAt a _ = Unit {0}
-
-abbrev pub Keeps : Seat → Type 0
-Keeps seat = KeepsAt seat.machine.action seat.machine.stage
+pub use Rattle.epoch_world.specs.Kept.{is_busy, pending_at, pending, KeepsAt, Keeps}
 
 pending_most : (a : Action) (s t : Stage) → is_busy s ≡ true → pending_at a t ≤ pending_at a s
 pending_most Defer s t busy = most (is_busy t) (is_busy s) busy

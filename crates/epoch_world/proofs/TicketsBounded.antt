@@ -24,15 +24,11 @@ use Rattle.epoch_world.specs.declared.world.step.Word.TheVariants.{Free, Unpinne
 use Rattle.epoch_world.specs.declared.world.step.Progress.{Progress}
 use Rattle.epoch_world.specs.declared.world.step.Progress.TheVariants.{Idle as IdleProgress, Driven, CallsNow, Ends}
 use Rattle.epoch_world.specs.Run.{Bag, Seat, State, seat_of, word_of, number_of, with_seat, with_machine, with_word, free_seat, Ending, Open, Emptying, Over, drives, begun_seat, ended_seat, call_refusal, refusal, Begins, Drives, Goes, EndGoes, Takes, IsFresh}
+pub use Rattle.epoch_world.specs.Kept.{Bounded}
 use Rattle.epoch_world.proofs.SeatLemmas.{seat_written, seat_other, seat_there, same_or_other, begin_given}
 use Rattle.epoch_world.proofs.TicketSums.{sum_zero}
 use Rattle.epoch_world.proofs.TicketsTallied.{acted}
 use Rattle.epoch_world.proofs.PendingDeferrals.{is_busy, pending_at, pending, KeepsAt, Keeps, pending_one, none_pending, sum_most, keeps_collected, keeps_pinned, keeps_put, keeps_unpinned, keeps_called, keeps_past, keeps_first, keeps_by, room_given, busy_takes}
-
--- the tickets given, with those that may still be taken, are few enough
-pub record Bounded (s : State) : Type 0 where
-  pub tickets : s.tickets + sum_by pending s.seats ≤ (2 ^ 64 - 4097) + length s.seats
-  pub keeps : (p : ℕ) → Keeps (seat_of s p)
 
 module _ (old new : State) (h : Bounded old) where
   same : new ≡ old → Bounded new

@@ -5,3 +5,4 @@ pub mod Tickets
 pub mod Lawful
 pub mod Shapes
 pub mod Worlds
+pub mod Kept

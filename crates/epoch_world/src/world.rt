@@ -1,13 +1,12 @@
 //! The world: all participants of one collector over a store of bags, which takes steps one at a time.
-ghost use Rattle.std.specs.Prelude.{◌≡◌, ◌≢◌, ℕ, ◌+◌, ◌-◌, ◌^◌, ◌<◌, ◌≤◌, List, [], ◌∷◌, ◌++◌, length, IfOk, IfErr, OnErr, MatchOption, slice_index_or, slice_get, Some, None};
+ghost use Rattle.std.specs.Prelude.{◌≡◌, ◌≢◌, ℕ, ◌+◌, ◌-◌, ◌^◌, ◌<◌, ◌≤◌, List, [], ◌∷◌, ◌++◌, length, IfOk, IfErr, OnErr, MatchOption, IfNone, IfSome, slice_index_or, slice_get, Some, None};
 ghost use Rattle.epoch_base.specs.declared.fault.Fault.TheVariants.{NoMemory};
 ghost use Rattle.epoch_world.specs.declared.world.step.Entry.{Entry};
 ghost use Rattle.epoch_world.specs.declared.world.step.Step.TheVariants.{Register, Begin, Go, End as EndStep, EndGo};
-ghost use Rattle.epoch_pin.specs.Machine.{asks, AskFits};
 ghost use Rattle.epoch_world.specs.Shapes.{IsValid};
-ghost use Rattle.epoch_world.specs.Run.{State, IsFresh, Runs, Takes, entries_of, free_seat, number_of, word_of, Performs};
+ghost use Rattle.epoch_world.specs.Run.{State, IsFresh, Runs, Takes, entries_of, number_of, word_of, Seat as Participant};
 ghost use Rattle.epoch_world.specs.Seats.{WordFits, SeatPerforms, shared};
-ghost use Rattle.epoch_world.specs.Worlds.{state_of, ending_of};
+ghost use Rattle.epoch_world.specs.Worlds.{state_of, ending_of, IsDrivenAt};
 ghost use Rattle.epoch_world.specs.Grace.{KeepsGrace};
 ghost use Rattle.epoch_world.specs.Tickets.{HoldsEachTicketOnce};
 ghost use Rattle.epoch_world.specs.Lawful.{IsLawful};
@@ -53,7 +52,7 @@ impl<S: BagStore<Job = Deferral>> Model for World<S> {
     ghost use Rattle.epoch_pin.specs.Machine.{IsSized};
     ghost use Rattle.epoch_world.specs.Run.{State};
     ghost use Rattle.epoch_world.specs.Worlds.{state_of, ending_of};
-    ghost use Rattle.epoch_world.proofs.Linked.{AllLinked};
+    ghost use Rattle.epoch_world.specs.Kept.{IsKept};
 
     ghost Value = { State };
 
@@ -61,11 +60,10 @@ impl<S: BagStore<Job = Deferral>> Model for World<S> {
 
     ghost invariant = { λ a. record {
       sized : IsSized a.sizes;
-      few : length a.seats.items ≤ 64;
       epoch : a.epoch < 2 ^ 63;
       putting : length a.putting.items ≡ length a.seats.items;
       taking : length a.taking.items ≡ length a.seats.items;
-      linked : AllLinked (state_of a.sizes a.epoch a.seats.items (S.queued a.store) a.tickets (ending_of a.end a.hand.jobs a.count));
+      kept : IsKept (state_of a.sizes a.epoch a.seats.items (S.queued a.store) a.tickets (ending_of a.end a.hand.jobs a.count));
     } };
 }
 
@@ -91,13 +89,11 @@ impl<S: BagStore<Job = Deferral>> World<S> {
         let EndStage::Open = self.end else {
             return Reply::Refused(Fault::Ended);
         };
-        for position in 0..self.seats.len() {
-            if let Word::Free = self.seats[position].word() {
-                self.seats[position].register(self.sizes);
-                return Reply::Registered(position as u64);
-            }
-        }
-        Reply::Refused(Fault::TableFull)
+        let Some(index) = first_free(self.seats.as_slice()) else {
+            return Reply::Refused(Fault::TableFull);
+        };
+        self.seats[index].register(self.sizes);
+        Reply::Registered(index as u64)
     }
 
     fn begin(&mut self, position: u64, call: Call) -> Reply
@@ -121,36 +117,31 @@ impl<S: BagStore<Job = Deferral>> World<S> {
         if index >= self.seats.len() {
             return Reply::Refused(Fault::NotRegistered);
         }
-        if let Word::Free = self.seats[index].word() {
+        let seat = &mut self.seats[index];
+        if let Word::Free = seat.word() {
             return Reply::Refused(Fault::NotRegistered);
         }
-        match self.seats[index].progress() {
+        match seat.progress() {
             Progress::Idle => Reply::Refused(Fault::Idle),
-            Progress::CallsNow => self.seats[index].call_now(),
+            Progress::CallsNow => seat.call_now(),
             Progress::Ends(reply) => {
-                self.seats[index].rest();
+                seat.rest();
                 reply
             }
-            Progress::Driven(call) => match self.seats[index].ask() {
-                None => self.seats[index].end(call),
+            Progress::Driven(call) => match seat.ask() {
+                None => seat.end(call),
                 Some(ask) => self.perform(index, ask),
             },
         }
     }
-}
 
-impl<S: BagStore<Job = Deferral>> World<S> {
     /// Performs what the participant's machine asks for.
     fn perform(&mut self, index: usize, ask: Ask) -> Reply
         requires there { index < length self.old.seats }
-        requires asked { asks (slice_index_or self.old.seats index (free_seat self.old.sizes)).machine ≡ Some ask }
-        requires within { AskFits (slice_index_or self.old.seats index (free_seat self.old.sizes)).machine.sizes ask }
-        ensures { Performs self.old index (slice_index_or self.old.seats index (free_seat self.old.sizes)) (slice_index_or self.old.seats index (free_seat self.old.sizes)).machine.stage ask result self.new }
+        requires driven { IsDrivenAt self.old index ask }
+        ensures { Takes self.old (Go index) result self.new }
     {
-        let word = match ask {
-            Ask::LoadWord(position) => self.number_at(position as usize),
-            _ => 0,
-        };
+        let word = self.number_at(scanned(ask));
         let seat = &mut self.seats[index];
         seat.perform(
             ask,
@@ -172,6 +163,30 @@ impl<S: BagStore<Job = Deferral>> World<S> {
             None => 0,
         }
     }
+}
+
+/// The position that a scan looks at, or 0 where the ask is for something else.
+fn scanned(ask: Ask) -> usize
+    ensures { (position : ℕ) → ask ≡ Ask.LoadWord position → result ≡ position }
+{
+    match ask {
+        Ask::LoadWord(position) => position as usize,
+        _ => 0,
+    }
+}
+
+/// The least position that is free.
+fn first_free(seats: &[Seat]) -> Option<usize>
+    ensures none { IfNone result ((position : ℕ) (other : Participant) → position < length seats.now → (slice_index_or seats.now position other).word ≢ Word.Free) }
+    ensures some { IfSome result (λ found. (found < length seats.now) × ((other : Participant) → (slice_index_or seats.now found other).word ≡ Word.Free)) }
+    ensures least { IfSome result (λ found. (position : ℕ) (other : Participant) → position < found → (slice_index_or seats.now position other).word ≢ Word.Free) }
+{
+    for (index, seat) in seats.iter().enumerate() {
+        if let Word::Free = seat.word() {
+            return Some(index);
+        }
+    }
+    None
 }
 
 /// A word as a number: 0 is free, 2 not pinned, and `2e + 1` pinned in the epoch e.

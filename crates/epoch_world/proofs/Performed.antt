@@ -1,0 +1,80 @@
+-- A participant's part of a step, put into the world, is the world's step.
+use Rattle.std.proofs.Common.{◌≡◌, ◌≢◌, ℕ, ◌+◌, ◌<◌, ◌≤◌, Bool, true, false, List, [], ◌∷◌, length, zero, suc, Option, Some, None, inl, inr, refl, ap, ap₂, sym, subst, ◌∙◌, arith, slice_index_or, slice_set}
+use Rattle.std.proofs.lemmas.List.{length-set}
+use Rattle.epoch_pin.specs.declared.machine.Ask.{Ask}
+use Rattle.epoch_pin.specs.declared.machine.Ask.TheVariants.{LoadEpoch, LoadWord, StorePinned, StoreRepinned, StoreUnpinned, StoreFree, StoreEpoch, PutBag, TakeBag, KeepJob, CallJob}
+use Rattle.epoch_pin.specs.declared.machine.Sizes.{Sizes}
+use Rattle.epoch_pin.specs.declared.machine.Answer.TheVariants.{Word as WordFound}
+use Rattle.epoch_pin.specs.Machine.{asks, hears}
+use Rattle.epoch_world.specs.declared.world.step.Call.{Call}
+use Rattle.epoch_world.specs.declared.world.step.Reply.{Reply}
+use Rattle.epoch_world.specs.declared.world.step.Reply.TheVariants.{Began}
+use Rattle.epoch_world.specs.declared.world.step.Step.TheVariants.{Begin, Go}
+use Rattle.epoch_world.specs.declared.world.step.Word.TheVariants.{Free}
+use Rattle.epoch_world.specs.declared.world.step.Progress.{Progress}
+use Rattle.epoch_world.specs.declared.world.step.Progress.TheVariants.{Idle, Driven, CallsNow, Ends}
+use Rattle.epoch_world.specs.Run.{Seat, State, seat_of, word_of, with_seat, number_of, free_seat, begun_seat, refusal, Begins, Performs, Drives, Goes, Takes}
+use Rattle.epoch_world.specs.Seats.{Shared, shared, SeatPerforms}
+use Rattle.epoch_world.specs.Worlds.{is_driven, IsDrivenAt}
+
+-- an element within a list is the same for every default
+pub same_within : {A : Type 0} (xs : List A) (p : ℕ) (d e : A) → p < length xs → slice_index_or xs p d ≡ slice_index_or xs p e
+same_within [] p d e lt = absurd (omega arith)
+same_within (x ∷ xs) zero d e lt = refl
+same_within (x ∷ xs) (suc p) d e lt = same_within xs p d e (omega arith)
+
+-- what an index finds is the participant there
+pub found_there : (s : State) (p : ℕ) (seat : Seat) → p < length s.seats → seat ≡ slice_index_or s.seats p seat → seat ≡ seat_of s p
+found_there s p seat lt is = is ∙ same_within s.seats p seat (free_seat s.sizes) lt
+
+module _ (old new : State) (p word : ℕ) (seat after : Seat) (reply : Reply) (h : Shared) (e : new ≡ record (with_seat old p after) { epoch = h.epoch; queued = h.queued; tickets = h.tickets }) where
+  made : (seat' : Seat) (h' : Shared) → after ≡ seat' → h ≡ h' → new ≡ record (with_seat old p seat') { epoch = h'.epoch; queued = h'.queued; tickets = h'.tickets }
+  made seat' h' a b = e ∙ ap₂ (λ (q : Seat) (k : Shared). record (with_seat old p q) { epoch = k.epoch; queued = k.queued; tickets = k.tickets }) a b
+
+  pub performs_by : (ask : Ask) → seat.machine.sizes ≡ old.sizes → ((k : ℕ) → ask ≡ LoadWord k → word ≡ number_of (word_of old k))
+      → SeatPerforms seat.machine.sizes p word (shared old.epoch old.queued old.tickets) seat seat.machine.stage ask reply after h
+      → Performs old p seat seat.machine.stage ask reply new
+  performs_by LoadEpoch sizes found did = (did.0, made _ _ did.1 did.2)
+  performs_by (LoadWord k) sizes found did = (did.0, made _ _ (did.1 ∙ ap (λ (w : ℕ). record seat { machine = hears seat.machine seat.machine.stage (WordFound w) }) (found k refl)) did.2)
+  performs_by (StorePinned n) sizes found did = (did.0, made _ _ did.1 did.2)
+  performs_by (StoreRepinned n) sizes found did = (did.0, made _ _ did.1 did.2)
+  performs_by StoreUnpinned sizes found did = (did.0, made _ _ did.1 did.2)
+  performs_by StoreFree sizes found did = (did.0, made _ _ (did.1 ∙ ap free_seat sizes) did.2)
+  performs_by (StoreEpoch n) sizes found did = (did.0, made _ _ did.1 did.2)
+  performs_by (PutBag seal) sizes found did = (did.0, h.queued, did.1, did.2, made _ _ did.3 did.4)
+  performs_by (TakeBag x) sizes found did = (did.0, after.machine.hand, h.queued, did.1, did.2, made _ _ did.3 did.4)
+  performs_by KeepJob sizes found did = (did.0, made _ _ did.1 did.2)
+  performs_by CallJob sizes found did = (did.0, did.1, did.2, did.3, made _ _ did.4 did.5)
+
+-- A STEP BEGIN AND A STEP GO
+
+pub begin_takes : (old new : State) (p : ℕ) (c : Call) (seat after : Seat) → seat ≡ seat_of old p → refusal c seat old.tickets ≡ None → after ≡ begun_seat c seat → new ≡ with_seat old p after
+    → Takes old (Begin p c) Began new
+begin_takes old new p c seat after is given begun e =
+    subst (λ r. Begins old p c r Began new) (sym (ap (λ (q : Seat). refusal c q old.tickets) (sym is) ∙ given))
+      (refl, e ∙ ap (with_seat old p) (begun ∙ ap (begun_seat c) is))
+
+pub go_takes : (old new : State) (p : ℕ) (seat : Seat) (reply : Reply) → seat ≡ seat_of old p → seat.word ≢ Free → Goes old p seat seat.progress reply new → Takes old (Go p) reply new
+go_takes old new p seat reply is taken goes =
+    inr (λ free. taken (ap (λ (q : Seat). q.word) is ∙ free), subst (λ (q : Seat). Goes old p q q.progress reply new) is goes)
+
+-- by how far the call is
+pub goes_at : (old new : State) (p : ℕ) (seat : Seat) (reply : Reply) (now : Progress) → seat.progress ≡ now → Goes old p seat now reply new → Goes old p seat seat.progress reply new
+goes_at old new p seat reply now is goes = subst (λ (q : Progress). Goes old p seat q reply new) (sym is) goes
+
+drives_by : (old new : State) (p : ℕ) (seat : Seat) (reply : Reply) (ask : Ask) (now : Progress) → is_driven now ≡ true → asks seat.machine ≡ Some ask
+    → Performs old p seat seat.machine.stage ask reply new → Goes old p seat now reply new
+drives_by old new p seat reply ask (Driven c) driven asked did = subst (λ o. Drives old p seat c seat.machine.stage o reply new) (sym asked) did
+drives_by old new p seat reply ask Idle driven asked did = absurd (cc)
+drives_by old new p seat reply ask CallsNow driven asked did = absurd (cc)
+drives_by old new p seat reply ask (Ends r) driven asked did = absurd (cc)
+
+pub end_goes : (old new : State) (p : ℕ) (seat : Seat) (c : Call) (reply : Reply) → asks seat.machine ≡ None → Drives old p seat c seat.machine.stage None reply new
+    → Goes old p seat (Driven c) reply new
+end_goes old new p seat c reply none did = subst (λ o. Drives old p seat c seat.machine.stage o reply new) (sym none) did
+
+pub perform_takes : (old new : State) (p : ℕ) (seat : Seat) (reply : Reply) (ask : Ask) → seat ≡ seat_of old p → IsDrivenAt old p ask
+    → Performs old p seat seat.machine.stage ask reply new → Takes old (Go p) reply new
+perform_takes old new p seat reply ask is driven did =
+    go_takes old new p seat reply is (λ free. driven.taken (ap (λ (q : Seat). q.word) (sym is) ∙ free))
+      (drives_by old new p seat reply ask seat.progress (ap (λ (q : Seat). is_driven q.progress) is ∙ driven.under_way) (ap (λ (q : Seat). asks q.machine) is ∙ driven.asked) did)

@@ -1,0 +1,92 @@
+-- Every step keeps what the world's code rests on.
+use Rattle.std.proofs.Common.{◌≡◌, ◌≢◌, ℕ, ◌+◌, ◌^◌, ◌<◌, ◌≤◌, Bool, true, false, refl, List, length, Option, Some, None, ap, sym, subst, ◌∙◌, arith}
+use Rattle.epoch_pin.specs.declared.machine.Action.{Action}
+use Rattle.epoch_pin.specs.declared.machine.Action.TheVariants.{Pin as PinAction, Unpin as UnpinAction, Repin as RepinAction, Defer as DeferAction, Flush as FlushAction, Release as ReleaseAction}
+use Rattle.epoch_pin.specs.Machine.{guards_after, ask_at, asks}
+use Rattle.epoch_pin.specs.declared.machine.Ask.TheVariants.{KeepJob}
+use Rattle.epoch_pin.specs.declared.machine.Stage.{Stage}
+use Rattle.epoch_pin.specs.declared.machine.Stage.TheVariants.{Idle as Resting, Keep, End}
+use Rattle.epoch_world.specs.declared.world.step.Call.{Call}
+use Rattle.epoch_world.specs.declared.world.step.Call.TheVariants.{Pin, Unpin, Repin, Pause, Resume, Defer, Flush, Release}
+use Rattle.epoch_world.specs.declared.world.step.Step.{Step}
+use Rattle.epoch_world.specs.declared.world.step.Reply.{Reply}
+use Rattle.epoch_world.specs.declared.world.step.Progress.{Progress}
+use Rattle.epoch_world.specs.declared.world.step.Progress.TheVariants.{Idle, Driven}
+use Rattle.epoch_world.specs.Run.{Seat, State, seat_of, refusal, Takes, IsFresh}
+use Rattle.epoch_world.specs.Seats.{adds_guard}
+use Rattle.epoch_world.specs.Kept.{Follows, IsDriven, IsLinked, rests, BeganUnder, Awake, HasRoom, IsKept, paused_count}
+use Rattle.epoch_world.proofs.SeatLemmas.{begin_given}
+use Rattle.epoch_world.proofs.Linked.{step_linked, fresh_linked, follows_at}
+use Rattle.epoch_world.proofs.GuardsFew.{takes_room, fresh_room}
+use Rattle.epoch_world.proofs.TicketsBounded.{tickets_bounded, fresh_bounded, keep_fits}
+
+pub kept_takes : (old new : State) (step : Step) (reply : Reply) → IsKept old → length new.seats ≡ length old.seats → Takes old step reply new → IsKept new
+kept_takes old new step reply h same did = record {
+  linked = step_linked old new step reply h.linked did;
+  roomy = takes_room old new reply h.linked h.roomy step did;
+  bounded = tickets_bounded old new step reply did h.bounded;
+  few = omega (arith, h.few, same);
+}
+
+pub fresh_kept : (s : State) → IsFresh s → length s.seats ≤ 64 → IsKept s
+fresh_kept s fresh few = record { linked = fresh_linked s fresh; roomy = fresh_room s fresh; bounded = fresh_bounded s fresh; few = few }
+
+-- where a call isn't refused, the machine rests
+pub rests_where_accepted : (s : State) (p : ℕ) (c : Call) (seat : Seat) → IsKept s → seat ≡ seat_of s p → refusal c seat s.tickets ≡ None → seat.machine.stage ≡ Resting
+rests_where_accepted s p c seat h is given =
+    let accepted = begin_given c (seat_of s p) s.tickets (ap (λ (q : Seat). refusal c q s.tickets) (sym is) ∙ given) in
+    ap (λ (q : Seat). q.machine.stage) is ∙ follows_at s.sizes (seat_of s p) (h.linked.seats p) Idle accepted.idle
+
+-- a machine under way that asks nothing more is at its end
+at_end : (s : Stage) → rests s ≡ false → ask_at s ≡ None → s ≡ End
+at_end Resting busy none = absurd (cc)
+at_end End busy none = refl
+at_end _ busy none = absurd (cc)
+
+keeps_at : (s : Stage) → ask_at s ≡ Some KeepJob → s ≡ Keep
+keeps_at Keep asked = refl
+keeps_at _ asked = absurd (cc)
+
+pub ends_where_driven : (s : State) (p : ℕ) (c : Call) (seat : Seat) → IsKept s → seat ≡ seat_of s p → seat.progress ≡ Driven c → asks seat.machine ≡ None → seat.machine.stage ≡ End
+ends_where_driven s p c seat h is drive none =
+    let driven : IsDriven c (seat_of s p).machine (seat_of s p).guards = follows_at s.sizes (seat_of s p) (h.linked.seats p) (Driven c) (ap (λ (q : Seat). q.progress) (sym is) ∙ drive) in
+    at_end seat.machine.stage (ap (λ (q : Seat). rests q.machine.stage) is ∙ driven.under_way) none
+
+-- a guard that an ending call counts has room
+room_left : (c : Call) (guards : List ℕ) (paused : Option ℕ) → BeganUnder c guards → Awake (Driven c) paused → length guards + paused_count paused ≤ 64 → adds_guard c ≡ true → length guards < 64
+room_left Pin guards paused under awake few adds = under
+room_left (Resume (Some g)) guards paused under awake few adds = omega (arith, few, ap paused_count awake)
+room_left (Resume None) guards paused under awake few adds = absurd (cc)
+room_left (Unpin g) guards paused under awake few adds = absurd (cc)
+room_left (Repin g) guards paused under awake few adds = absurd (cc)
+room_left (Pause g) guards paused under awake few adds = absurd (cc)
+room_left (Defer g) guards paused under awake few adds = absurd (cc)
+room_left (Flush g) guards paused under awake few adds = absurd (cc)
+room_left Release guards paused under awake few adds = absurd (cc)
+
+pub room_where_driven : (s : State) (p : ℕ) (c : Call) (seat : Seat) → IsKept s → seat ≡ seat_of s p → seat.progress ≡ Driven c → adds_guard c ≡ true → length seat.guards < 64
+room_where_driven s p c seat h is drive adds =
+    let progress : (seat_of s p).progress ≡ Driven c = ap (λ (q : Seat). q.progress) (sym is) ∙ drive in
+    let driven : IsDriven c (seat_of s p).machine (seat_of s p).guards = follows_at s.sizes (seat_of s p) (h.linked.seats p) (Driven c) progress in
+    let room : HasRoom (seat_of s p) = h.roomy p in
+    let awake : Awake (Driven c) (seat_of s p).paused = subst (λ (now : Progress). Awake now (seat_of s p).paused) progress room.awake in
+    subst (λ (q : Seat). length q.guards < 64) (sym is) (room_left c (seat_of s p).guards (seat_of s p).paused driven.under awake room.few adds)
+
+-- the number of guards stays in its range
+pub guards_fit : (s : State) (p : ℕ) (seat : Seat) → IsKept s → seat ≡ seat_of s p → guards_after seat.machine.action seat.machine.guards < 2 ^ 32
+guards_fit s p seat h is = by_action seat.machine.action seat.machine.guards few
+  where
+    few : seat.machine.guards ≤ 64
+    few = subst (λ (q : Seat). q.machine.guards ≤ 64) (sym is) (omega (arith, (h.linked.seats p).counted, (h.roomy p).few))
+
+    by_action : (a : Action) (n : ℕ) → n ≤ 64 → guards_after a n < 2 ^ 32
+    by_action PinAction n le = omega arith
+    by_action UnpinAction n le = omega arith
+    by_action RepinAction n le = omega arith
+    by_action DeferAction n le = omega arith
+    by_action FlushAction n le = omega arith
+    by_action ReleaseAction n le = omega arith
+
+-- where a job is kept, there is a ticket for it
+pub ticket_left : (s : State) (p : ℕ) (seat : Seat) → IsKept s → p < length s.seats → seat ≡ seat_of s p → asks seat.machine ≡ Some KeepJob → s.tickets + 1 < 2 ^ 64
+ticket_left s p seat h there is asked = keep_fits s p h.bounded there (keeps_at (seat_of s p).machine.stage (ap (λ (q : Seat). asks q.machine) (sym is) ∙ asked)) h.few
