@@ -7,3 +7,8 @@ pub mod WorldHolds
 pub mod NextStages
 pub mod QuietReplies
 pub mod SeatSteps
+pub mod TicketSums
+pub mod JobsPlaced
+pub mod TicketsTallied
+pub mod TicketsKept
+pub mod TicketsOnce
