@@ -7,8 +7,13 @@ pub mod WorldHolds
 pub mod NextStages
 pub mod QuietReplies
 pub mod SeatSteps
+pub mod LowestGuard
+pub mod GoesKeeps
+pub mod GraceKept
 pub mod TicketSums
 pub mod JobsPlaced
 pub mod TicketsTallied
 pub mod TicketsKept
 pub mod TicketsOnce
+pub mod PendingDeferrals
+pub mod TicketsBounded

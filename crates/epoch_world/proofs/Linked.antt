@@ -181,7 +181,7 @@ length_without g (x ∷ guards) h = at_first (x == g) refl (length_without g gua
     at_first true same rest = omega arith
     at_first false other rest = omega (arith, rest (rest_is_out (x == g) (is_out g guards) h other))
 
-none_out : (n : ℕ) → (n == 0) ≡ true → n ≡ 0
+pub none_out : (n : ℕ) → (n == 0) ≡ true → n ≡ 0
 none_out n h = grind (arith, nat_tests)
 
 has_room : (n : ℕ) (f : Fault) (b : Bool) → nat_le 64 n ≡ b → (if b then Some f else None) ≡ None → n < 64

@@ -46,7 +46,7 @@ pub times_push : (t : ℕ) (jobs : List Deferral) (job : Deferral)
     → times t (jobs ++ job ∷ []) ≡ times t jobs + (if job.ticket == t then 1 else 0)
 times_push t jobs job = sum_by-append (λ (j : Deferral). if j.ticket == t then 1 else 0) jobs (job ∷ []) ∙ omega arith
 
-sum_zero : (f : Seat → ℕ) (seats : List Seat) (default : Seat)
+pub sum_zero : (f : Seat → ℕ) (seats : List Seat) (default : Seat)
     → ((p : ℕ) → f (get_or seats p default) ≡ 0)
     → sum_by f seats ≡ 0
 sum_zero f [] default none = refl

@@ -1,5 +1,5 @@
 -- Every step of a participant keeps the tally.
-use Rattle.std.proofs.Common.{◌≡◌, ◌≢◌, ℕ, ◌+◌, ◌<◌, ◌==◌, true, false, List, [], ◌∷◌, ◌++◌, length, None, refl, ap, sym, subst, ◌∙◌, arith, if◌then◌else◌, nat_lt}
+use Rattle.std.proofs.Common.{◌≡◌, ◌≢◌, ℕ, ◌+◌, ◌==◌, true, false, List, [], ◌∷◌, ◌++◌, None, refl, ap, sym, subst, ◌∙◌, arith}
 use Rattle.epoch_base.specs.declared.queue.PutStep.{PutStep}
 use Rattle.epoch_base.specs.declared.queue.PutStep.TheVariants.{Again, Done as PutDone, Full}
 use Rattle.epoch_base.specs.declared.queue.TakeStep.{TakeStep}

@@ -7,7 +7,7 @@ use Rattle.epoch_world.specs.declared.world.step.Step.TheVariants.{Register, Beg
 use Rattle.epoch_world.specs.declared.world.step.Reply.TheVariants.{Began}
 use Rattle.epoch_world.specs.declared.world.step.Entry.{Entry}
 use Rattle.epoch_world.specs.Run.{Seat, State, seat_of, Ending, Open, Emptying, Over, AllFree, Begins, refusal, EndGoes, Takes, Runs, IsFresh}
-use Rattle.epoch_world.specs.Tickets.{times_queued, times_at_end, calls_of, deferrals_of, times_called, times_deferred, HoldsEachTicketOnce}
+use Rattle.epoch_world.specs.Tickets.{times_queued, times_at_end, times_called, times_deferred, HoldsEachTicketOnce}
 use Rattle.epoch_world.proofs.SeatLemmas.{begin_given}
 use Rattle.epoch_world.proofs.TicketSums.{queued_put, times_cons, none_at_seats, none_deferred}
 use Rattle.epoch_world.proofs.JobsPlaced.{PlacesHere}

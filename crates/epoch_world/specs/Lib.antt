@@ -3,3 +3,5 @@ pub mod Seats
 pub mod Grace
 pub mod Tickets
 pub mod Lawful
+pub mod Shapes
+pub mod Worlds

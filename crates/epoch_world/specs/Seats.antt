@@ -1,6 +1,5 @@
 -- One participant's part of a step: what its seat is after it, and what participants share.
-use Rattle.std.specs.Prelude.{◌≡◌, ℕ, ◌+◌, ◌*◌, ◌^◌, ◌<◌, ◌≤◌, List, [], ◌∷◌, length, Option, Some, None, map, slice_index_or, slice_set}
-use Rattle.arrayvec.specs.ArrayVec.{ArrayVec}
+use Rattle.std.specs.Prelude.{◌≡◌, ℕ, ◌+◌, ◌^◌, ◌<◌, List, ◌∷◌, Some, None, Bool, true, false}
 use Rattle.epoch_base.specs.declared.job.Called.TheVariants.{Ran}
 use Rattle.epoch_base.specs.declared.queue.PutStep.{PutStep}
 use Rattle.epoch_base.specs.declared.queue.TakeStep.{TakeStep}
@@ -10,18 +9,15 @@ use Rattle.epoch_pin.specs.declared.machine.Ask.{Ask}
 use Rattle.epoch_pin.specs.declared.machine.Ask.TheVariants.{LoadEpoch, LoadWord, StorePinned, StoreRepinned, StoreUnpinned, StoreFree, StoreEpoch, PutBag, TakeBag, KeepJob, CallJob}
 use Rattle.epoch_pin.specs.declared.machine.Answer.TheVariants.{Epoch, Word as WordFound, Stored, Job}
 use Rattle.epoch_pin.specs.Machine.{Machine, hears, put_heard, took_heard, gives, PutsHeld, TakesHand}
+use Rattle.epoch_world.specs.declared.world.step.Call.{Call}
+use Rattle.epoch_world.specs.declared.world.step.Call.TheVariants.{Pin, Resume}
 use Rattle.epoch_world.specs.declared.world.step.Reply.{Reply}
 use Rattle.epoch_world.specs.declared.world.step.Reply.TheVariants.{Stepped, Pinned as PinnedReply, Unpinned as UnpinnedReply, Repinned, Deferred, Called as CalledReply, Done}
 use Rattle.epoch_world.specs.declared.world.step.Answer.TheVariants.{Released}
 use Rattle.epoch_world.specs.declared.world.step.Deferral.{Deferral}
 use Rattle.epoch_world.specs.declared.world.step.Word.{Word}
 use Rattle.epoch_world.specs.declared.world.step.Word.TheVariants.{Unpinned, Pinned}
-use Rattle.epoch_world.specs.declared.world.seat.Seat.{Seat as SeatOf}
 use Rattle.epoch_world.specs.Run.{Bag, Seat, State, Ending, free_seat, with_machine, with_word}
-
--- a participant as the laws see it, without its cursors into the store
-abbrev pub seen : {P T : Type 0} → SeatOf P T → Seat
-seen s = record { word = s.word; machine = s.machine.machine; progress = s.progress; guards = s.guards.items; paused = s.paused }
 
 -- what participants share, but for their words
 pub record Shared : Type 0 where
@@ -46,3 +42,14 @@ SeatPerforms sizes p word old seat s (PutBag seal) reply after new = (step : Put
 SeatPerforms sizes p word old seat s (TakeBag x) reply after new = (step : TakeStep) × (reply ≡ Stepped) × TakesHand x old.queued step new.queued after.machine.hand × (after ≡ with_machine seat (took_heard seat.machine s step after.machine.hand)) × (new ≡ record old { queued = new.queued })
 SeatPerforms sizes p word old seat s KeepJob reply after new = (reply ≡ Deferred old.tickets) × (after ≡ with_machine seat (hears seat.machine s (Job (record { ticket = old.tickets; removes = None })))) × (new ≡ record old { tickets = old.tickets + 1 })
 SeatPerforms sizes p word old seat s CallJob reply after new = (job : Deferral) × (jobs : List Deferral) × (seat.machine.hand ≡ job ∷ jobs) × (reply ≡ CalledReply job.ticket Ran) × (after ≡ with_machine seat (gives seat.machine s jobs)) × (new ≡ old)
+
+-- the number that a word stands for fits
+abbrev pub WordFits : Word → Type 0
+WordFits (Pinned e) = e < 2 ^ 63
+WordFits _ = Unit {0}
+
+-- at its end the call counts one guard more
+abbrev pub adds_guard : Call → Bool
+adds_guard Pin = true
+adds_guard (Resume (Some g)) = true
+adds_guard _ = false

@@ -8,4 +8,4 @@ pub use laws::{
     every_end_calls_all, every_run_holds_each_ticket_once, every_run_is_lawful,
     every_run_keeps_grace,
 };
-pub use world::{Answer, Call, Deferral, Entry, Progress, Reply, Seat, Step, Word};
+pub use world::{Answer, Call, Deferral, Entry, Progress, Reply, Seat, Shape, Step, Word, World};

@@ -1,38 +1,55 @@
 //! One participant of the world: its word, its machine, and the guards and calls that the world keeps of it.
-ghost use Rattle.std.specs.Prelude.{◌≡◌, ◌≢◌, ℕ, ◌+◌, ◌*◌, ◌-◌, ◌^◌, ◌<◌, ◌≤◌, List, [], ◌∷◌, ◌++◌, Option, Some, None, length};
-ghost use Rattle.epoch_pin.specs.Machine.{asks, fresh, guards_after, IsSized};
-ghost use Rattle.epoch_pin.specs.declared.machine.Action.{Action};
+ghost use Rattle.std.specs.Prelude.{◌≡◌, ◌≢◌, true, ℕ, ◌+◌, ◌^◌, ◌<◌, ◌≤◌, Option, Some, None, IfSome, length, ◌⊎◌};
+ghost use Rattle.epoch_pin.specs.Machine.{asks, AskFits, heard, guards_after, IsSized};
+ghost use Rattle.epoch_world.specs.Run.{free_seat, with_word, refusal, waits, call_refusal, guard_refusal, resume_refusal, is_out, begun_seat, drives, ended_seat, end_reply};
 ghost use Rattle.epoch_pin.specs.declared.machine.Stage.TheVariants.{Idle, End};
-ghost use Rattle.epoch_world.specs.Run.{is_out, without, lowest, begun_seat, drives, ended_seat, end_reply, call_refusal, refusal, guard_refusal, resume_refusal, free_seat};
-ghost use Rattle.epoch_world.specs.Seats.{seen, shared, SeatPerforms};
+ghost use Rattle.epoch_world.specs.Seats.{shared, SeatPerforms, WordFits, adds_guard};
 
+use crate::world::guards::{is_out, lowest, without};
 use crate::world::step::{Answer, Call, Deferral, Progress, Reply, Word};
 use arrayvec::ArrayVec;
 use epoch_base::{BagStore, Called, Fault};
 use epoch_pin::{Action, Answer as Found, Ask, Machine, Sizes};
-use std::mem;
+use std::marker::Model;
 
 /// How many guards a participant of the world may have out.
-pub const GUARDS: usize = 64;
+const GUARDS: usize = 64;
 
-/// How many tickets are left aside for the deferrals under way: more than there may be participants.
+/// How many of the greatest tickets are never given: one may be asked for by each participant under way.
 const TICKETS_ASIDE: u64 = 4096;
 
-/// A participant, whose cursors into the store are of the types `P` and `T`.
+/// A participant.
 #[derive(Drop)]
-pub struct Seat<P, T> {
-    pub word: Word,
-    pub machine: Machine<Deferral, P, T>,
-    pub progress: Progress,
-    pub guards: ArrayVec<u64, 64>,
-    pub paused: Option<u64>,
+pub struct Seat {
+    word: Word,
+    machine: Machine<Deferral>,
+    progress: Progress,
+    guards: ArrayVec<u64, 64>,
+    paused: Option<u64>,
 }
 
-impl<P: Copy + Drop, T: Copy + Drop> Seat<P, T> {
+impl Model for Seat {
+    ghost use Rattle.epoch_world.specs.Run.{Seat};
+    ghost use Rattle.epoch_world.specs.Seats.{WordFits};
+
+    ghost Value = { Seat };
+
+    ghost view = { λ a. record {
+      word = a.word;
+      machine = a.machine;
+      progress = a.progress;
+      guards = a.guards.items;
+      paused = a.paused;
+    } };
+
+    ghost invariant = { λ a. WordFits a.word };
+}
+
+impl Seat {
     /// A free position.
-    pub fn free(sizes: Sizes) -> Seat<P, T>
+    pub fn free(sizes: Sizes) -> Seat
         requires { IsSized sizes }
-        ensures { seen result ≡ free_seat sizes }
+        ensures { result ≡ free_seat sizes }
     {
         Seat {
             word: Word::Free,
@@ -43,8 +60,32 @@ impl<P: Copy + Drop, T: Copy + Drop> Seat<P, T> {
         }
     }
 
-    /// Performs one ask of the machine. `word` is the one at the position that a scan asks for.
-    pub fn perform<S: BagStore<Job = Deferral, Putting = P, Taking = T>>(
+    /// What its word says.
+    pub fn word(&self) -> Word
+        ensures value { result ≡ self.now.word }
+        ensures within { WordFits result }
+    {
+        self.word
+    }
+
+    /// How far its call is.
+    pub fn progress(&self) -> Progress
+        ensures { result ≡ self.now.progress }
+    {
+        self.progress
+    }
+
+    /// What its machine asks for.
+    pub fn ask(&self) -> Option<Ask>
+        ensures value { result ≡ asks self.now.machine }
+        ensures within { IfSome result (AskFits self.now.machine.sizes) }
+    {
+        self.machine.ask()
+    }
+
+    /// Performs one ask of the machine. `word` is the one at the position that a scan asks for; `putting` and `taking`
+    /// are the participant's cursors into the store.
+    pub fn perform<S: BagStore<Job = Deferral>>(
         &mut self,
         ask: Ask,
         position: u64,
@@ -52,34 +93,37 @@ impl<P: Copy + Drop, T: Copy + Drop> Seat<P, T> {
         epoch: &mut u64,
         store: &mut S,
         tickets: &mut u64,
+        putting: &mut S::Putting,
+        taking: &mut S::Taking,
     ) -> Reply
-        requires asked { asks self.old.machine.machine ≡ Some ask }
+        requires asked { asks self.old.machine ≡ Some ask }
+        requires within { AskFits self.old.machine.sizes ask }
         requires epoch { epoch.old < 2 ^ 63 }
         requires tickets { ask ≡ Ask.KeepJob → tickets.old + 1 < 2 ^ 64 }
-        ensures { SeatPerforms self.old.machine.machine.sizes position word (shared epoch.old (S.queued store.old) tickets.old) (seen self.old) self.old.machine.machine.stage ask result (seen self.new) (shared epoch.new (S.queued store.new) tickets.new) }
+        ensures within { epoch.new < 2 ^ 63 }
+        ensures step { SeatPerforms self.old.machine.sizes position word (shared epoch.old (S.queued store.old) tickets.old) self.old self.old.machine.stage ask result self.new (shared epoch.new (S.queued store.new) tickets.new) }
     {
         match ask {
             Ask::LoadEpoch => {
+                *putting = store.start_put();
                 self.machine.take(Found::Epoch(*epoch));
                 Reply::Stepped
             }
             Ask::LoadWord(_) => {
+                *taking = store.start_take();
                 self.machine.take(Found::Word(word));
                 Reply::Stepped
             }
             Ask::StorePinned(number) => {
-                self.word = Word::Pinned(number);
-                self.machine.take(Found::Stored);
+                self.publish(number);
                 Reply::Pinned(position)
             }
             Ask::StoreRepinned(number) => {
-                self.word = Word::Pinned(number);
-                self.machine.take(Found::Stored);
+                self.publish(number);
                 Reply::Repinned(position)
             }
             Ask::StoreUnpinned => {
-                self.word = Word::Unpinned;
-                self.machine.take(Found::Stored);
+                self.unpublish();
                 Reply::Unpinned(position)
             }
             Ask::StoreFree => {
@@ -87,16 +131,17 @@ impl<P: Copy + Drop, T: Copy + Drop> Seat<P, T> {
                 Reply::Done(Answer::Released)
             }
             Ask::StoreEpoch(number) => {
+                *taking = store.start_take();
                 *epoch = number;
                 self.machine.take(Found::Stored);
                 Reply::Stepped
             }
             Ask::PutBag(_) => {
-                self.machine.put_step(store);
+                self.machine.put_step(store, putting);
                 Reply::Stepped
             }
             Ask::TakeBag(_) => {
-                self.machine.take_step(store);
+                self.machine.take_step(store, taking);
                 Reply::Stepped
             }
             Ask::KeepJob => {
@@ -115,15 +160,217 @@ impl<P: Copy + Drop, T: Copy + Drop> Seat<P, T> {
         }
     }
 
+    fn publish(&mut self, number: u64)
+        requires asked { (asks self.old.machine ≡ Some (Ask.StorePinned number)) ⊎ (asks self.old.machine ≡ Some (Ask.StoreRepinned number)) }
+        requires within { number < 2 ^ 63 }
+        ensures { self.new ≡ with_word self.old (Word.Pinned number) (heard self.old.machine Found.Stored) }
+    {
+        self.word = Word::Pinned(number);
+        self.machine.take(Found::Stored);
+    }
+
+    fn unpublish(&mut self)
+        requires { asks self.old.machine ≡ Some Ask.StoreUnpinned }
+        ensures { self.new ≡ with_word self.old Word.Unpinned (heard self.old.machine Found.Stored) }
+    {
+        self.word = Word::Unpinned;
+        self.machine.take(Found::Stored);
+    }
+
     /// The position is free again.
     fn leave(&mut self)
-        requires { asks self.old.machine.machine ≡ Some Ask.StoreFree }
-        ensures { seen self.new ≡ free_seat self.old.machine.machine.sizes }
+        requires { asks self.old.machine ≡ Some Ask.StoreFree }
+        ensures { self.new ≡ free_seat self.old.machine.sizes }
     {
         self.word = Word::Free;
         self.machine.take(Found::Stored);
         self.progress = Progress::Idle;
         self.guards.clear();
         self.paused = None;
+    }
+
+    /// The fault that refuses a call now, where `tickets` were given so far, or `None`.
+    pub fn refusal(&self, call: Call, tickets: u64) -> Option<Fault>
+        ensures { result ≡ refusal call self.now tickets }
+    {
+        if let Word::Free = self.word {
+            return Some(Fault::NotRegistered);
+        }
+        let Progress::Idle = self.progress else {
+            return Some(Fault::Busy);
+        };
+        if self.waits(call) {
+            return Some(Fault::Busy);
+        }
+        self.own_refusal(call, tickets)
+    }
+
+    /// Who is paused may only resume.
+    fn waits(&self, call: Call) -> bool
+        ensures { result ≡ waits call self.now.paused }
+    {
+        match call {
+            Call::Resume(_) => false,
+            _ => self.paused.is_some(),
+        }
+    }
+
+    fn own_refusal(&self, call: Call, tickets: u64) -> Option<Fault>
+        ensures { result ≡ call_refusal call self.now tickets }
+    {
+        match call {
+            Call::Pin => {
+                if self.guards.len() >= GUARDS {
+                    Some(Fault::TooManyGuards)
+                } else {
+                    None
+                }
+            }
+            Call::Unpin(None) => Some(Fault::StrangerGuard),
+            Call::Unpin(Some(guard)) => self.guard_refusal(Some(guard)),
+            Call::Repin(guard) | Call::Pause(guard) | Call::Flush(guard) => self.guard_refusal(guard),
+            Call::Resume(guard) => self.resume_refusal(guard),
+            Call::Defer(None) => None,
+            Call::Defer(Some(guard)) => {
+                if !is_out(self.guards.as_slice(), guard) {
+                    Some(Fault::StrangerGuard)
+                } else if tickets >= u64::MAX - TICKETS_ASIDE {
+                    Some(Fault::TicketsOut)
+                } else {
+                    None
+                }
+            }
+            Call::Release => {
+                if self.guards.len() == 0 {
+                    None
+                } else {
+                    Some(Fault::GuardsOut)
+                }
+            }
+        }
+    }
+
+    fn guard_refusal(&self, guard: Option<u64>) -> Option<Fault>
+        ensures { result ≡ guard_refusal guard self.now.guards }
+    {
+        match guard {
+            None => None,
+            Some(number) => {
+                if is_out(self.guards.as_slice(), number) {
+                    None
+                } else {
+                    Some(Fault::StrangerGuard)
+                }
+            }
+        }
+    }
+
+    fn resume_refusal(&self, guard: Option<u64>) -> Option<Fault>
+        ensures { result ≡ resume_refusal guard self.now.paused }
+    {
+        match guard {
+            None => None,
+            Some(number) => match self.paused {
+                None => Some(Fault::Idle),
+                Some(paused) => {
+                    if number == paused {
+                        None
+                    } else {
+                        Some(Fault::StrangerGuard)
+                    }
+                }
+            },
+        }
+    }
+
+    /// Takes the position: a new registration has no guard, an empty bag and no pin so far.
+    #[inline(never)]
+    pub fn register(&mut self, sizes: Sizes)
+        requires { IsSized sizes }
+        ensures { self.new ≡ record (free_seat sizes) { word = Word.Unpinned } }
+    {
+        *self = Seat::free(sizes);
+        self.word = Word::Unpinned;
+    }
+
+    /// Begins a call that isn't refused.
+    pub fn begin(&mut self, call: Call)
+        requires { self.old.machine.stage ≡ Idle }
+        ensures { self.new ≡ begun_seat call self.old }
+    {
+        match call {
+            Call::Pin => self.drive(Action::Pin, call),
+            Call::Unpin(_) => self.drive(Action::Unpin, call),
+            Call::Repin(Some(_)) => self.drive(Action::Repin, call),
+            Call::Pause(Some(_)) => self.drive(Action::Unpin, call),
+            Call::Resume(Some(_)) => self.drive(Action::Pin, call),
+            Call::Defer(Some(_)) => self.drive(Action::Defer, call),
+            Call::Flush(Some(_)) => self.drive(Action::Flush, call),
+            Call::Release => self.drive(Action::Release, call),
+            Call::Defer(None) => self.progress = Progress::CallsNow,
+            Call::Repin(None) | Call::Pause(None) | Call::Resume(None) | Call::Flush(None) => {
+                self.progress = Progress::Ends(Reply::Done(Answer::Unit));
+            }
+        }
+    }
+
+    fn drive(&mut self, action: Action, call: Call)
+        requires { self.old.machine.stage ≡ Idle }
+        ensures { self.new ≡ drives action call self.old }
+    {
+        self.machine.begin(action);
+        self.progress = Progress::Driven(call);
+    }
+
+    /// Calls a job at once: no participant may still need what it is about.
+    pub fn call_now(&mut self) -> Reply
+        ensures reply { result ≡ Reply.CalledNow Called.Ran }
+        ensures seat { self.new ≡ record self.old { progress = Progress.Ends (Reply.Done Answer.Unit) } }
+    {
+        self.progress = Progress::Ends(Reply::Done(Answer::Unit));
+        Reply::CalledNow(Called::Ran)
+    }
+
+    /// No call is under way any more.
+    pub fn rest(&mut self)
+        ensures { self.new ≡ record self.old { progress = Progress.Idle } }
+    {
+        self.progress = Progress::Idle;
+    }
+
+    /// Ends a call that has nothing left to ask, and answers it.
+    pub fn end(&mut self, call: Call) -> Reply
+        requires ended { self.old.machine.stage ≡ End }
+        requires fits { guards_after self.old.machine.action self.old.machine.guards < 2 ^ 32 }
+        requires room { adds_guard call ≡ true → length self.old.guards < 64 }
+        ensures reply { result ≡ end_reply call self.old }
+        ensures seat { self.new ≡ ended_seat call self.old }
+    {
+        let mut reply = Reply::Done(Answer::Unit);
+        match call {
+            Call::Pin => {
+                let number = lowest(self.guards.as_slice());
+                self.guards.push(number);
+                reply = Reply::Done(Answer::Guard(number));
+            }
+            Call::Unpin(Some(guard)) => self.guards = without(self.guards.as_slice(), guard),
+            Call::Pause(Some(guard)) => {
+                self.guards = without(self.guards.as_slice(), guard);
+                self.paused = Some(guard);
+            }
+            Call::Resume(Some(guard)) => {
+                self.guards.push(guard);
+                self.paused = None;
+            }
+            Call::Defer(_) | Call::Flush(_) | Call::Release => {
+                if self.machine.found_full() {
+                    reply = Reply::Refused(Fault::BagsFull);
+                }
+            }
+            Call::Unpin(None) | Call::Repin(_) | Call::Pause(None) | Call::Resume(None) => {}
+        }
+        self.machine.end();
+        self.progress = Progress::Idle;
+        reply
     }
 }

@@ -1,0 +1,133 @@
+-- Which deferrals may still take a ticket, by the actions of the machines and their stages.
+use Rattle.std.proofs.Common.{◌≡◌, ℕ, ◌+◌, ◌-◌, ◌^◌, ◌<◌, ◌≤◌, ◌==◌, Bool, true, false, List, [], ◌∷◌, length, Some, None, refl, ap, arith, if◌then◌else◌, sum_by}
+use Rattle.std.proofs.lemmas.Bool.{leb-false}
+use Rattle.std.proofs.lemmas.List.Sums.{sum_by-cons}
+use Rattle.epoch_base.specs.declared.fault.Fault.TheVariants.{StrangerGuard, TicketsOut}
+use Rattle.epoch_pin.specs.declared.machine.Action.{Action}
+use Rattle.epoch_pin.specs.declared.machine.Action.TheVariants.{Pin, Unpin, Repin, Defer, Flush, Release}
+use Rattle.epoch_pin.specs.declared.machine.Stage.{Stage}
+use Rattle.epoch_pin.specs.declared.machine.Stage.TheVariants.{Idle, LoadPin, LoadScan, Scan, Advance, Take, LoadSeal, Keep, LoadRepin, StoreUnpinned, End}
+use Rattle.epoch_pin.specs.Machine.{Machine, is_empty, after_collect, after_pin, after_put, after_unpin, after_job, holds_up, scanned, past_word, first_stage}
+use Rattle.epoch_world.specs.declared.world.step.Call.TheVariants.{Defer as DeferCall}
+use Rattle.epoch_world.specs.declared.world.step.Deferral.{Deferral}
+use Rattle.epoch_world.specs.Run.{Seat, call_refusal}
+
+-- an action still has a step to make
+abbrev pub is_busy : Stage → Bool
+is_busy Idle = false
+is_busy End = false
+is_busy _ = true
+
+-- a deferral that is under way, and before its end, may still take a ticket
+abbrev pub pending_at : Action → Stage → ℕ
+pending_at Defer s = if is_busy s then 1 else 0
+pending_at _ s = 0
+
+abbrev pub pending : Seat → ℕ
+pending seat = pending_at seat.machine.action seat.machine.stage
+
+-- only a deferral keeps a job
+abbrev pub KeepsAt : Action → Stage → Type 0
+KeepsAt a Keep = a ≡ Defer
+KeepsAt a _ = Unit {0}
+
+abbrev pub Keeps : Seat → Type 0
+Keeps seat = KeepsAt seat.machine.action seat.machine.stage
+
+pending_most : (a : Action) (s t : Stage) → is_busy s ≡ true → pending_at a t ≤ pending_at a s
+pending_most Defer s t busy = most (is_busy t) (is_busy s) busy
+  where
+    most : (b c : Bool) → c ≡ true → (if b then 1 else 0) ≤ (if c then 1 else 0)
+    most true true busy = omega arith
+    most false true busy = omega arith
+    most b false busy = absurd (cc)
+pending_most _ s t busy = omega arith
+
+pub pending_one : (a : Action) (s : Stage) → pending_at a s ≤ 1
+pending_one Defer s = one (is_busy s)
+  where
+    one : (b : Bool) → (if b then 1 else 0) ≤ 1
+    one true = omega arith
+    one false = omega arith
+pending_one _ s = omega arith
+
+pub none_pending : (a : Action) (s : Stage) → is_busy s ≡ false → pending_at a s ≡ 0
+none_pending Defer s rests =
+    let one_or_none : Bool → ℕ = λ b. if b then 1 else 0 in
+    ap one_or_none rests
+none_pending _ s rests = refl
+
+pub sum_most : (f : Seat → ℕ) (seats : List Seat) → ((seat : Seat) → f seat ≤ 1) → sum_by f seats ≤ length seats
+sum_most f [] one = omega arith
+sum_most f (seat ∷ seats) one = omega (arith, sum_by-cons f seat seats, one seat, sum_most f seats one)
+
+-- by a test
+pick : (P : Stage → Type 0) (b : Bool) (s t : Stage) → P s → P t → P (if b then s else t)
+pick P true s t one other = one
+pick P false s t one other = other
+
+pub keeps_collected : (a b : Action) (jobs : List Deferral) → KeepsAt a (after_collect b jobs)
+keeps_collected a Release [] = tt
+keeps_collected a Release (job ∷ jobs) = tt
+keeps_collected a _ jobs = tt
+
+pub keeps_pinned : (a : Action) (m : Machine Deferral) → KeepsAt a (after_pin m)
+keeps_pinned a m =
+    pick (KeepsAt a) (m.pins == 1) LoadScan (after_collect m.action m.held) tt (keeps_collected a m.action m.held)
+
+pub keeps_put : (a : Action) (full : Bool) → KeepsAt a (after_put a full)
+keeps_put Flush full = tt
+keeps_put Defer false = refl
+keeps_put Defer true = tt
+keeps_put Release full = tt
+keeps_put _ full = tt
+
+pub keeps_unpinned : (a b : Action) (full : Bool) → KeepsAt a (after_unpin b full)
+keeps_unpinned a Release false = tt
+keeps_unpinned a _ full = tt
+
+pub keeps_called : (a : Action) (m : Machine Deferral) (x k : ℕ) (jobs : List Deferral)
+    → KeepsAt a (after_job m x k jobs)
+keeps_called a m x k (job ∷ jobs) = tt
+keeps_called a m x k [] =
+    let last : Bool = k + 1 == m.sizes.collect_bags in
+    pick (KeepsAt a) last (after_collect m.action m.held) (Take x (k + 1)) (keeps_collected a m.action m.held) tt
+
+pub keeps_past : (a : Action) (positions e k w : ℕ) → KeepsAt a (past_word positions e k w)
+keeps_past a positions e k w =
+    let next = pick (KeepsAt a) (e == 2 ^ 63 - 1) (Take e 0) (Advance e) tt tt in
+    pick (KeepsAt a) (holds_up e w) (Take e 0) _ tt
+    (pick (KeepsAt a) (k + 1 == positions) (scanned e) (Scan e (k + 1)) next tt)
+
+pub keeps_by : (a : Action) (b : Bool) (s t : Stage) → KeepsAt a s → KeepsAt a t → KeepsAt a (if b then s else t)
+keeps_by a = pick (KeepsAt a)
+
+pub keeps_first : (a : Action) (m : Machine Deferral) → KeepsAt a (first_stage a m)
+keeps_first Pin m = pick (KeepsAt Pin) (m.guards == 0) LoadPin End tt tt
+keeps_first Unpin m = pick (KeepsAt Unpin) (m.guards == 1) StoreUnpinned End tt tt
+keeps_first Repin m = pick (KeepsAt Repin) (m.guards == 1) LoadRepin End tt tt
+keeps_first Defer m = pick (KeepsAt Defer) (length m.held == m.sizes.bag_jobs) LoadSeal Keep tt refl
+keeps_first Flush m = pick (KeepsAt Flush) (is_empty m.held) LoadScan LoadSeal tt tt
+keeps_first Release m = tt
+
+-- a deferral is begun only below the limit
+pub room_given : (g : ℕ) (seat : Seat) (tickets : ℕ)
+    → call_refusal (DeferCall (Some g)) seat tickets ≡ None
+    → tickets < 2 ^ 64 - 4097
+room_given g seat tickets given = leb-false (2 ^ 64 - 4097) tickets (not_refused _ _ given)
+  where
+    not_refused : (out late : Bool)
+        → (if out then (if late then Some TicketsOut else None) else Some StrangerGuard) ≡ None
+        → late ≡ false
+    not_refused true true given = absurd (cc)
+    not_refused true false given = refl
+    not_refused false late given = absurd (cc)
+
+-- a machine under the same action takes no more, if it was busy
+pub busy_takes : (a b : Action) (s t u : Stage)
+    → b ≡ a
+    → pending_at a s ≡ pending_at a u
+    → is_busy u ≡ true
+    → pending_at b t ≤ pending_at a s
+busy_takes a b s t u same at busy =
+    omega (arith, ap (λ (c : Action). pending_at c t) same, pending_most a u t busy)
