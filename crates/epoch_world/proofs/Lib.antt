@@ -1,11 +1,14 @@
 pub mod SeatLemmas
+pub mod SeatLinks
+pub mod MachineGoesOn
+pub mod CallsLinked
 pub mod Linked
 pub mod DeferralEpochs
 pub mod Log
+pub mod QuietReplies
 pub mod SeatsFine
 pub mod WorldHolds
 pub mod NextStages
-pub mod QuietReplies
 pub mod SeatSteps
 pub mod LowestGuard
 pub mod GoesKeeps
