@@ -2,7 +2,9 @@ pub mod SeatLemmas
 pub mod TicketSums
 pub mod JobsPlaced
 pub mod TicketsTallied
+pub mod JobsMoved
 pub mod TicketsKept
 pub mod TicketsOnce
 pub mod PendingDeferrals
+pub mod DeferralsBounded
 pub mod TicketsBounded
