@@ -16,7 +16,9 @@ pub mod GraceKept
 pub mod TicketSums
 pub mod JobsPlaced
 pub mod TicketsTallied
+pub mod JobsMoved
 pub mod TicketsKept
 pub mod TicketsOnce
 pub mod PendingDeferrals
+pub mod DeferralsBounded
 pub mod TicketsBounded

@@ -1,4 +1,4 @@
--- Which deferrals may still take a ticket, by the actions of the machines and their stages.
+-- How many tickets the deferrals under way may still take, and which machines keep a job.
 use Rattle.std.proofs.Common.{◌≡◌, ℕ, ◌+◌, ◌-◌, ◌^◌, ◌<◌, ◌≤◌, ◌==◌, Bool, true, false, List, [], ◌∷◌, length, Some, None, refl, ap, arith, if◌then◌else◌, sum_by}
 use Rattle.std.proofs.lemmas.Bool.{leb-false}
 use Rattle.std.proofs.lemmas.List.Sums.{sum_by-cons}
@@ -10,7 +10,7 @@ use Rattle.epoch_pin.specs.declared.machine.Stage.TheVariants.{Idle, LoadPin, Lo
 use Rattle.epoch_pin.specs.Machine.{Machine, is_empty, after_collect, after_pin, after_put, after_unpin, after_job, holds_up, scanned, past_word, first_stage}
 use Rattle.epoch_world.specs.declared.world.step.Call.TheVariants.{Defer as DeferCall}
 use Rattle.epoch_world.specs.declared.world.step.Deferral.{Deferral}
-use Rattle.epoch_world.specs.Run.{Seat, call_refusal}
+use Rattle.epoch_world.specs.Run.{State, seat_of, Seat, call_refusal}
 
 -- an action still has a step to make
 abbrev pub is_busy : Stage → Bool
@@ -33,6 +33,11 @@ KeepsAt a _ = Unit {0}
 
 abbrev pub Keeps : Seat → Type 0
 Keeps seat = KeepsAt seat.machine.action seat.machine.stage
+
+-- the tickets given, with those that may still be taken, are few enough
+pub record Bounded (s : State) : Type 0 where
+  pub tickets : s.tickets + sum_by pending s.seats ≤ (2 ^ 64 - 4097) + length s.seats
+  pub keeps : (p : ℕ) → Keeps (seat_of s p)
 
 pending_most : (a : Action) (s t : Stage) → is_busy s ≡ true → pending_at a t ≤ pending_at a s
 pending_most Defer s t busy = most (is_busy t) (is_busy s) busy
@@ -57,7 +62,9 @@ none_pending Defer s rests =
     ap one_or_none rests
 none_pending _ s rests = refl
 
-pub sum_most : (f : Seat → ℕ) (seats : List Seat) → ((seat : Seat) → f seat ≤ 1) → sum_by f seats ≤ length seats
+pub sum_most : (f : Seat → ℕ) (seats : List Seat)
+    → ((seat : Seat) → f seat ≤ 1)
+    → sum_by f seats ≤ length seats
 sum_most f [] one = omega arith
 sum_most f (seat ∷ seats) one = omega (arith, sum_by-cons f seat seats, one seat, sum_most f seats one)
 
