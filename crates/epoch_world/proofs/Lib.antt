@@ -22,3 +22,12 @@ pub mod TicketsOnce
 pub mod PendingDeferrals
 pub mod DeferralsBounded
 pub mod TicketsBounded
+pub mod GuardLists
+pub mod ToldAtStages
+pub mod ToldAtBegin
+pub mod EventsAgree
+pub mod EventsAtBegin
+pub mod EventsAtEnd
+pub mod EventsOfGo
+pub mod EventsLawful
+pub mod CallsAfterDeferrals
