@@ -15,7 +15,8 @@ use Rattle.epoch_world.proofs.CallsLinked.{begun_linked}
 use Rattle.epoch_world.proofs.ToldAtBegin.{told_first}
 use Rattle.epoch_world.proofs.EventsAgree.{PinnedByGuards, ToldOf, Agrees}
 
-module _ (t : Told) (seat : Seat) (sizes : Sizes) (tickets : ℕ) (h : Agrees t seat) (linked : IsLinked sizes seat) where
+module _ (t : Told) (seat : Seat) (sizes : Sizes) (tickets : ℕ)
+    (h : Agrees t seat) (linked : IsLinked sizes seat) where
   abbrev Begins : Call → Seat → Type 0
   Begins c after = Agrees (after_begin t c Began) after
 
@@ -36,7 +37,8 @@ module _ (t : Told) (seat : Seat) (sizes : Sizes) (tickets : ℕ) (h : Agrees t 
 
   -- the call does nothing
   ends : (c : Call) → IsAccepted c seat tickets → HasTold (Some c) (after_begin t c Began)
-      → counted_after (Some c) UnitAnswer t.guards ≡ t.guards → Begins c (record seat { progress = Ends (Done UnitAnswer) })
+      → counted_after (Some c) UnitAnswer t.guards ≡ t.guards
+      → Begins c (record seat { progress = Ends (Done UnitAnswer) })
   ends c ok told counted = record {
     guards = h.guards;
     told = (told, counted, rests ok.idle);

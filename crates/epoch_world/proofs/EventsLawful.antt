@@ -1,9 +1,8 @@
 -- Each event stands in a call where it may, in every run.
-use Rattle.std.proofs.Common.{◌≡◌, ℕ, ◌<◌, not, List, [], ◌∷◌, length, Option, Some, None, inl, inr, refl, ap, sym, subst, ◌∙◌, slice_index_or}
+use Rattle.std.proofs.Common.{◌≡◌, ℕ, ◌<◌, List, [], ◌∷◌, length, Option, Some, None, inl, inr, refl, ap, sym, subst, ◌∙◌, slice_index_or}
 use Rattle.epoch_base.specs.declared.fault.Fault.{Fault}
 use Rattle.epoch_base.specs.declared.fault.Fault.TheVariants.{NotRegistered}
 use Rattle.epoch_pin.specs.declared.machine.Sizes.{Sizes}
-use Rattle.epoch_pin.specs.Machine.{is_empty}
 use Rattle.epoch_world.specs.declared.world.step.Call.{Call}
 use Rattle.epoch_world.specs.declared.world.step.Step.{Step}
 use Rattle.epoch_world.specs.declared.world.step.Step.TheVariants.{Register, Begin, Go, End as EndStep, EndGo}
@@ -16,6 +15,7 @@ use Rattle.epoch_world.specs.Lawful.{Told, nothing, after_begin, after_go, told_
 use Rattle.epoch_world.proofs.SeatLemmas.{seat_written, seat_other, seat_there, same_or_other, IsAccepted, begin_given}
 use Rattle.epoch_world.proofs.SeatLinks.{AllLinked}
 use Rattle.epoch_world.proofs.Linked.{step_linked, fresh_linked}
+use Rattle.epoch_world.proofs.GuardLists.{has_any}
 use Rattle.epoch_world.proofs.EventsAgree.{Agrees, IsAway, AllAgree, seat_agrees, told_agrees}
 use Rattle.epoch_world.proofs.EventsAtBegin.{begin_agrees}
 use Rattle.epoch_world.proofs.EventsOfGo.{tell_go}
@@ -35,7 +35,8 @@ module _ (old new : State) (told : ℕ → Told) (reply : Reply) (h : AllAgree o
       subst (λ (r : Reply). ShowsStep new told (Begin p c) r) (sym did.0)
       (subst (λ (s : State). ShowsStep s told (Begin p c) Began) (sym did.1) (
         tt,
-        seat_agrees old told (λ u. after_begin u c Began) p (begun_seat c (seat_of old p)) h (seat_there old p ok.taken)
+        seat_agrees old told (λ u. after_begin u c Began) p (begun_seat c (seat_of old p)) h
+            (seat_there old p ok.taken)
             (begin_agrees (told p) (seat_of old p) old.sizes old.tickets (h p) (linked.seats p) c ok),
       ))
 
@@ -44,10 +45,12 @@ module _ (old new : State) (told : ℕ → Told) (reply : Reply) (h : AllAgree o
   untold sizes seats q = subst (λ (at : Seat). Agrees (told q) at) (sym same) (h q)
     where
       same : seat_of new q ≡ seat_of old q
-      same = ap (λ (ss : List Seat). slice_index_or ss q (free_seat new.sizes)) seats ∙ ap (λ (z : Sizes). slice_index_or old.seats q (free_seat z)) sizes
+      same = ap (λ (ss : List Seat). slice_index_or ss q (free_seat new.sizes)) seats
+          ∙ ap (λ (z : Sizes). slice_index_or old.seats q (free_seat z)) sizes
 
   untold_along : (last : State) → new ≡ last → last.sizes ≡ old.sizes → last.seats ≡ old.seats → AllAgree new told
-  untold_along last e sizes seats = untold (ap (λ (s : State). s.sizes) e ∙ sizes) (ap (λ (s : State). s.seats) e ∙ seats)
+  untold_along last e sizes seats =
+      untold (ap (λ (s : State). s.sizes) e ∙ sizes) (ap (λ (s : State). s.seats) e ∙ seats)
 
   abbrev taken : Seat
   taken = record (free_seat old.sizes) { word = Unpinned }
@@ -61,17 +64,23 @@ module _ (old new : State) (told : ℕ → Told) (reply : Reply) (h : AllAgree o
     where
       own : Agrees (told p) taken
       own = let away : IsAway (told p) = (h p).away free in
-          record { guards = away.guards; told = (away.call, away.pinned ∙ sym (ap (λ (guards : List ℕ). not (is_empty guards)) away.guards)); away = λ still_free. absurd (cc) }
+          record {
+            guards = away.guards;
+            told = (away.call, away.pinned ∙ sym (ap has_any away.guards));
+            away = λ still_free. absurd (cc);
+          }
 
   -- a Go of a position that is free
-  away_shown : (p : ℕ) → word_of old p ≡ Free → reply ≡ Refused NotRegistered → new ≡ old → ShowsStep new told (Go p) reply
+  away_shown : (p : ℕ) → word_of old p ≡ Free → reply ≡ Refused NotRegistered → new ≡ old
+      → ShowsStep new told (Go p) reply
   away_shown p free told_so e =
       let away : IsAway (told p) = (h p).away free in
-      let same : after_go (told p) (Refused NotRegistered) ≡ told p = λ i. record (told p) { call = sym away.call i } in
+      let same : told p ≡ after_go (told p) (Refused NotRegistered) = λ i. record (told p) { call = away.call i } in
       subst (λ (r : Reply). ShowsStep new told (Go p) r) (sym told_so)
       (subst (λ (s : State). ShowsStep s told (Go p) (Refused NotRegistered)) (sym e) (
         subst (λ (call : Option Call). HasToldRefused call (told p)) (sym away.call) tt,
-        told_agrees old told (λ u. after_go u (Refused NotRegistered)) p h (subst (λ (t : Told). Agrees t (seat_of old p)) (sym same) (h p)),
+        told_agrees old told (λ u. after_go u (Refused NotRegistered)) p h
+            (subst (λ (t : Told). Agrees t (seat_of old p)) same (h p)),
       ))
 
   end_shown : (e : Ending) → EndGoes old e reply new → ShowsStep new told EndGo reply
@@ -87,20 +96,33 @@ module _ (old new : State) (told : ℕ → Told) (reply : Reply) (h : AllAgree o
   step_shown Register (inr (inr did)) = (subst MayRegister (sym did.1) tt, untold_along old did.2 refl refl)
   step_shown (Begin p c) did = begin_shown p c (refusal c (seat_of old p) old.tickets) refl did
   step_shown (Go p) (inl did) = away_shown p did.0 did.1 did.2
-  step_shown (Go p) (inr did) = tell_go old new told reply h p did.0 (linked.seats p) (seat_of old p).progress refl did.1
+  step_shown (Go p) (inr did) =
+      tell_go old new told reply h p did.0 (linked.seats p) (seat_of old p).progress refl did.1
   step_shown EndStep (inl did) = (subst MayBegin (sym did.2) tt, untold_along _ did.3 refl refl)
   step_shown EndStep (inr (inl did)) = (subst MayBegin (sym did.2) tt, untold_along old did.3 refl refl)
   step_shown EndStep (inr (inr did)) = (subst MayBegin (sym did.1) tt, untold_along old did.2 refl refl)
   step_shown EndGo did = end_shown old.ending did
 
-replies_from : (old new : State) (log : List Entry) (told : ℕ → Told) → AllAgree old told → AllLinked old → Runs old log new → MayReplyAll told log
+replies_from : (old new : State) (log : List Entry) (told : ℕ → Told)
+    → AllAgree old told
+    → AllLinked old
+    → Runs old log new
+    → MayReplyAll told log
 replies_from old new [] told h linked run = tt
-replies_from old new (entry ∷ log) told h linked (mid, took, run) =
-    let shown : ShowsStep mid told entry.step entry.reply = step_shown old mid told entry.reply h linked entry.step took in
-    (shown.0, replies_from mid new log (λ q. told_after q (told q) entry.step entry.reply) shown.1 (step_linked old mid entry.step entry.reply linked took) run)
+replies_from old new (x ∷ log) told h linked (mid, took, run) =
+    let shown : ShowsStep mid told x.step x.reply = step_shown old mid told x.reply h linked x.step took in
+    let still_linked : AllLinked mid = step_linked old mid x.step x.reply linked took in
+    (shown.0, replies_from mid new log (λ q. told_after q (told q) x.step x.reply) shown.1 still_linked run)
 
 pub replies_stand : (s new : State) (log : List Entry) → IsFresh s → Runs s log new → MayReplyAll (λ p. nothing) log
-replies_stand s new log fresh run = replies_from s new log (λ p. nothing) (λ q. subst (λ (at : Seat). Agrees nothing at) (sym (fresh.free q)) none_told) (fresh_linked s fresh) run
+replies_stand s new log fresh run = replies_from s new log (λ p. nothing) all_free (fresh_linked s fresh) run
   where
     none_told : Agrees nothing (free_seat s.sizes)
-    none_told = record { guards = refl; told = (refl, refl); away = λ free. record { call = refl; guards = refl; pinned = refl } }
+    none_told = record {
+      guards = refl;
+      told = (refl, refl);
+      away = λ free. record { call = refl; guards = refl; pinned = refl };
+    }
+
+    all_free : AllAgree s (λ p. nothing)
+    all_free q = subst (λ (at : Seat). Agrees nothing at) (sym (fresh.free q)) none_told

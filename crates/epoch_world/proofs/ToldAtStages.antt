@@ -11,7 +11,7 @@ use Rattle.epoch_world.specs.declared.world.step.Deferral.{Deferral}
 use Rattle.epoch_world.specs.Run.{is_out, without}
 use Rattle.epoch_world.specs.Lawful.{Told, after_go, MayPin, MayUnpin, MayRepin, MayDefer, MayCall, HasTold}
 use Rattle.epoch_world.proofs.SeatLinks.{action_of, BeganUnder}
-use Rattle.epoch_world.proofs.GuardLists.{none_left, some_out, none_without}
+use Rattle.epoch_world.proofs.GuardLists.{has_any, none_left, some_out, none_without}
 
 -- WHAT HAS BEEN TOLD
 
@@ -61,9 +61,9 @@ HasToldAt t c full End = AtEnd t c full
 abbrev pub leaves_some : Call → List ℕ → Bool
 leaves_some Pin guards = true
 leaves_some (Resume g) guards = true
-leaves_some (Unpin (Some g)) guards = not (is_empty (without g guards))
-leaves_some (Pause (Some g)) guards = not (is_empty (without g guards))
-leaves_some c guards = not (is_empty guards)
+leaves_some (Unpin (Some g)) guards = has_any (without g guards)
+leaves_some (Pause (Some g)) guards = has_any (without g guards)
+leaves_some c guards = has_any guards
 
 -- the participant is pinned at this stage
 abbrev pub pinned_at : Call → List ℕ → Stage → Bool
@@ -83,7 +83,7 @@ either_stage P true s t one other = one
 either_stage P false s t one other = other
 
 -- a call under a guard that is out leaves some guard, where it takes none away
-still_some : (b : Bool) (g : ℕ) (guards : List ℕ) → b ≡ true → is_out g guards ≡ true → b ≡ not (is_empty guards)
+still_some : (b : Bool) (g : ℕ) (guards : List ℕ) → b ≡ true → is_out g guards ≡ true → b ≡ has_any guards
 still_some b g guards on out = on ∙ sym (ap not (some_out g guards out))
 
 pub told_collected : (t : Told) (c : Call) (full : Bool) (held : List Deferral) → BeganUnder c t.guards
@@ -144,32 +144,44 @@ may_call t _ under h = absurd h
 
 -- THE SAME OF A MACHINE THAT DRIVES THE CALL
 
-module _ (t : Told) (c : Call) (m : Machine Deferral) (drives : m.action ≡ action_of c) (under : BeganUnder c t.guards) where
+module _ (t : Told) (c : Call) (m : Machine Deferral)
+    (drives : m.action ≡ action_of c) (under : BeganUnder c t.guards) where
   pub machine_collected : Collecting t c → t.pinned ≡ true → ToldAt t c m.full (after_collect m.action m.held)
-  machine_collected h on = subst (λ (a : Action). ToldAt t c m.full (after_collect a m.held)) (sym drives) (told_collected t c m.full m.held under h on)
+  machine_collected h on = subst (λ (a : Action). ToldAt t c m.full (after_collect a m.held)) (sym drives)
+      (told_collected t c m.full m.held under h on)
 
   pub machine_pinned : ToldAt t c m.full ReloadPin → ToldAt t c m.full (after_pin m)
   machine_pinned (told, on) =
       let collects : Collecting t c = pinned_collects t c under told in
-      either_stage (ToldAt t c m.full) (m.pins == 1) LoadScan (after_collect m.action m.held) (collects, on) (machine_collected collects on)
+      either_stage (ToldAt t c m.full) (m.pins == 1) LoadScan (after_collect m.action m.held)
+      (collects, on) (machine_collected collects on)
 
-  pub machine_scanned : (e k w : ℕ) → Collecting t c → t.pinned ≡ true → ToldAt t c m.full (past_word m.sizes.positions e k w)
+  pub machine_scanned : (e k w : ℕ) → Collecting t c → t.pinned ≡ true
+      → ToldAt t c m.full (past_word m.sizes.positions e k w)
   machine_scanned e k w h on =
       let at : Stage → Type 0 = ToldAt t c m.full in
       either_stage at (holds_up e w) (Take e 0) _ (h, on)
-      (either_stage at (k + 1 == m.sizes.positions) (scanned e) (Scan e (k + 1)) (either_stage at (e == 2 ^ 63 - 1) (Take e 0) (Advance e) (h, on) (h, on)) (h, on))
+      (either_stage at (k + 1 == m.sizes.positions) (scanned e) (Scan e (k + 1))
+      (either_stage at (e == 2 ^ 63 - 1) (Take e 0) (Advance e) (h, on) (h, on)) (h, on))
 
-  pub machine_called : (x k : ℕ) (jobs : List Deferral) → Collecting t c → t.pinned ≡ true → ToldAt t c m.full (after_job m x k jobs)
+  pub machine_called : (x k : ℕ) (jobs : List Deferral) → Collecting t c → t.pinned ≡ true
+      → ToldAt t c m.full (after_job m x k jobs)
   machine_called x k jobs h on =
       let at : Stage → Type 0 = ToldAt t c m.full in
       either_stage at (is_empty jobs) _ (Calling x k)
-      (either_stage at (k + 1 == m.sizes.collect_bags) (after_collect m.action m.held) (Take x (k + 1)) (machine_collected h on) (h, on)) (h, on)
+      (either_stage at (k + 1 == m.sizes.collect_bags) (after_collect m.action m.held) (Take x (k + 1))
+      (machine_collected h on) (h, on)) (h, on)
 
   pub machine_put : (full : Bool) → Putting t c → t.pinned ≡ true → ToldAt t c full (after_put m.action full)
-  machine_put full h on = subst (λ (a : Action). ToldAt t c full (after_put a full)) (sym drives) (told_put t c full under h on)
+  machine_put full h on = subst (λ (a : Action). ToldAt t c full (after_put a full)) (sym drives)
+      (told_put t c full under h on)
 
-  pub machine_unpinned : (p : ℕ) → MayUnpin (Some c) t.guards t.did_pin → ToldAt (after_go t (Unpinned p)) c m.full (after_unpin m.action m.full)
-  machine_unpinned p h = subst (λ (a : Action). ToldAt (after_go t (Unpinned p)) c m.full (after_unpin a m.full)) (sym drives) (told_unpinned t p c m.full under h)
+  pub machine_unpinned : (p : ℕ) → MayUnpin (Some c) t.guards t.did_pin
+      → ToldAt (after_go t (Unpinned p)) c m.full (after_unpin m.action m.full)
+  machine_unpinned p h = subst (λ (a : Action). ToldAt (after_go t (Unpinned p)) c m.full (after_unpin a m.full))
+      (sym drives) (told_unpinned t p c m.full under h)
 
-  pub machine_reloaded : (e : ℕ) → ToldAt t c m.full LoadRepin → ToldAt t c m.full (if m.published == e then End else StoreRepin e)
-  machine_reloaded e (told, on) = either_stage (ToldAt t c m.full) (m.published == e) End (StoreRepin e) (told_repinned t c m.full under told.0 on) (told, on)
+  pub machine_reloaded : (e : ℕ) → ToldAt t c m.full LoadRepin
+      → ToldAt t c m.full (if m.published == e then End else StoreRepin e)
+  machine_reloaded e (told, on) = either_stage (ToldAt t c m.full) (m.published == e) End (StoreRepin e)
+      (told_repinned t c m.full under told.0 on) (told, on)

@@ -26,7 +26,15 @@ pub record Told : Type 0 where
   pub did_defer : Bool
 
 abbrev pub nothing : Told
-nothing = record { call = None; guards = []; pinned = false; did_pin = false; did_unpin = false; did_repin = false; did_defer = false }
+nothing = record {
+  call = None;
+  guards = [];
+  pinned = false;
+  did_pin = false;
+  did_unpin = false;
+  did_repin = false;
+  did_defer = false;
+}
 
 -- a guard is counted from the end of Pin or Resume, up to the end of Unpin or Pause
 abbrev pub counted_after : Option Call → Answer → List ℕ → List ℕ
@@ -38,7 +46,13 @@ counted_after _ answer guards = guards
 
 -- a call whose Begin was refused is no call
 abbrev pub after_begin : Told → Call → Reply → Told
-after_begin t c Began = record t { call = Some c; did_pin = false; did_unpin = false; did_repin = false; did_defer = false }
+after_begin t c Began = record t {
+  call = Some c;
+  did_pin = false;
+  did_unpin = false;
+  did_repin = false;
+  did_defer = false;
+}
 after_begin t c _ = t
 
 abbrev pub after_end : Told → List ℕ → Told
@@ -61,13 +75,14 @@ told_after p t _ reply = t
 
 -- IN WHICH CALLS AN EVENT MAY STAND, BY THE GUARDS COUNTED
 
+-- the first guard is pinned, or the position is given up
 abbrev pub MayPin : Option Call → List ℕ → Type 0
 MayPin (Some Pin) guards = guards ≡ []
 MayPin (Some (Resume (Some g))) guards = guards ≡ []
 MayPin (Some Release) guards = Unit {0}
 MayPin _ guards = ⊥
 
--- the only guard counted is given up, or the position is, after its pin
+-- the guard given up is the only one counted, or the position is given up, after the pin of the same call
 abbrev pub MayUnpin : Option Call → List ℕ → Bool → Type 0
 MayUnpin (Some (Unpin (Some g))) guards did_pin = guards ≡ g ∷ []
 MayUnpin (Some (Pause (Some g))) guards did_pin = guards ≡ g ∷ []
@@ -96,6 +111,7 @@ MayCallNow _ = ⊥
 
 -- WHAT A CALL HAS TOLD BY ITS END
 
+-- a call that is done
 abbrev pub HasTold : Option Call → Told → Type 0
 HasTold (Some Pin) t = t.guards ≡ [] → t.did_pin ≡ true
 HasTold (Some (Resume (Some g))) t = t.guards ≡ [] → t.did_pin ≡ true
@@ -106,7 +122,7 @@ HasTold (Some Release) t = (t.did_pin ≡ true) × (t.did_unpin ≡ true)
 HasTold (Some _) t = Unit {0}
 HasTold None t = ⊥
 
--- the same where the call is refused at its end; where there is no call, the step itself is refused
+-- a call that is refused at its end has deferred nothing; where no call is under way, the Go itself is refused
 abbrev pub HasToldRefused : Option Call → Told → Type 0
 HasToldRefused (Some (Defer (Some g))) t = t.did_defer ≡ false
 HasToldRefused (Some (Flush (Some g))) t = Unit {0}
@@ -116,7 +132,7 @@ HasToldRefused None t = Unit {0}
 
 -- WHICH REPLY A STEP MAY HAVE
 
--- a Go of p, by what was told of p before it
+-- a Go of p, by what was told of p before it; no call tells an event twice
 abbrev pub MayTell : ℕ → Told → Reply → Type 0
 MayTell p t Stepped = Unit {0}
 MayTell p t (Pinned q) = (q ≡ p) × MayPin t.call t.guards × (t.did_pin ≡ false)
@@ -160,8 +176,10 @@ MayReplyAll told [] = Unit {0}
 MayReplyAll told (entry ∷ log) =
     MayReply told entry.step entry.reply × MayReplyAll (λ p. told_after p (told p) entry.step entry.reply) log
 
--- each event stands only where it may, and as often; a job is called at most once, after it was deferred
+-- Each event stands only in its calls, and as often as it should; a job is called at most once, after it was deferred.
 pub record IsLawful (log : List Entry) : Type 0 where
   pub in_calls : MayReplyAll (λ p. nothing) log
-  pub once : (t i j : ℕ) (how again : Called) → Stands log i (CalledReply t how) → Stands log j (CalledReply t again) → i ≡ j
-  pub deferred : (t j : ℕ) (how : Called) → Stands log j (CalledReply t how) → (i : ℕ) × (i < j) × Stands log i (Deferred t)
+  pub once : (t i j : ℕ) (how again : Called) → Stands log i (CalledReply t how) → Stands log j (CalledReply t again)
+      → i ≡ j
+  pub deferred : (t j : ℕ) (how : Called) → Stands log j (CalledReply t how)
+      → (i : ℕ) × (i < j) × Stands log i (Deferred t)
