@@ -49,7 +49,7 @@ module _ (old new : State) (log : List Entry) (x : Entry) (h : Holds old log) (l
   moves s t fine next told e = quiet_step old new log x h p (with_machine seat (with_stage m t)) taken refl
       (quiet_stepped x.reply told)
       (fine_next v p seat.word m (with_stage m t) s t fine
-        (record { publishes = next.publishes; aims = next.aims; knows = next.knows }) fine.held)
+      (record { publishes = next.publishes; aims = next.aims; knows = next.knows }) fine.held)
       e
 
   -- p stores the epoch after the one that it scanned
@@ -70,7 +70,7 @@ module _ (old new : State) (log : List Entry) (x : Entry) (h : Holds old log) (l
         near = λ q ne pinned. omega (arith, fine.knows.others q tt pinned);
         own = λ pinned. inl (pinned, refl);
         fine = λ passes. let later = fine_more _ _ p seat.word m (Advance e) passes refl
-              (λ pinned. omega (arith, fine.knows.others p tt pinned)) fine in
+            (λ pinned. omega (arith, fine.knows.others p tt pinned)) fine in
             fine_next _ p seat.word m (with_stage m (Take (e + 1) 0)) (Advance e) (Take (e + 1) 0) later
             (record { publishes = refl; aims = fine.aims; knows = le_refl _ }) later.held;
         queued = sealed_more _ _ _ _ _ _ old.queued (le_refl _) up (λ t lt. refl) h.queued;
@@ -126,7 +126,7 @@ module _ (old new : State) (log : List Entry) (x : Entry) (h : Holds old log) (l
       at_deferral : (t q : ℕ) → t ≡ old.tickets → h.since q ≤ changed h.when old.tickets old.epoch t
       at_deferral t q same =
           let at : changed h.when old.tickets old.epoch t ≡ old.epoch =
-            subst (λ (u : ℕ). changed h.when old.tickets old.epoch u ≡ old.epoch) (sym same) now in
+          subst (λ (u : ℕ). changed h.when old.tickets old.epoch u ≡ old.epoch) (sym same) now in
           omega (arith, at, (h.seats q).before)
 
   -- a step on the store, after which these are its bags and n is the machine
@@ -224,11 +224,15 @@ module _ (old new : State) (log : List Entry) (x : Entry) (h : Holds old log) (l
       (λ pinned. absurd (cc (pinned, fine.agrees))) (λ t a. cc (did.0, a)) (λ t how a. cc (did.0, a)) did.1
   go_at c ReloadPin on fine did = moves ReloadPin _ fine (next_pinned v p m fine.aims) did.0 did.1
   go_at c LoadScan on fine did = moves LoadScan (Scan old.epoch 0) fine
-      (record { publishes = refl; aims = fine.aims; knows = record {
-        own = fine.before;
-        seen = omega arith;
-        others = λ j lt pinned. absurd (omega arith);
-      } }) did.0 did.1
+      (record {
+        publishes = refl;
+        aims = fine.aims;
+        knows = record {
+          own = fine.before;
+          seen = omega arith;
+          others = λ j lt pinned. absurd (omega arith);
+        };
+      }) did.0 did.1
   go_at c (Scan e k) on fine did = moves (Scan e k) _ fine
       (next_looked v p m fine.aims e k m.sizes.positions fine.knows past (h.seats k).published) did.0 did.1
     where
@@ -246,7 +250,7 @@ module _ (old new : State) (log : List Entry) (x : Entry) (h : Holds old log) (l
   go_at c Keep on fine did = keeps fine did.0 did.1
   go_at c LoadRepin on fine did = moves LoadRepin _ fine
       (next_either v p true m (m.published == old.epoch) End (StoreRepin old.epoch) (next_end v p m false fine.aims)
-        (record { publishes = refl; aims = fine.aims; knows = omega arith })) did.0 did.1
+      (record { publishes = refl; aims = fine.aims; knows = omega arith })) did.0 did.1
   go_at c (StoreRepin e) on fine did = publishes old new log x h p e (with_word seat (Pinned e) (hears m (StoreRepin e) Stored))
       taken fine.knows refl refl fine.aims fine.held (λ w. tt)
       (λ q t. elim t [ inl a ↦ absurd (cc (did.0, a)) | inr a ↦ cc (did.0, a) ])

@@ -191,7 +191,7 @@ runs_hold old new log [] linked h run =
 runs_hold old new log (x ∷ entries) linked h (mid, did, run) =
     subst (Holds new) (append_assoc log (x ∷ []) entries)
     (runs_hold mid new (log ++ x ∷ []) entries (step_linked old mid x.step x.reply linked did)
-      (takes_step old mid log x h linked x.step did) run)
+    (takes_step old mid log x h linked x.step did) run)
 
 fresh_holds : (s : State) → IsFresh s → Holds s []
 fresh_holds s fresh = record {

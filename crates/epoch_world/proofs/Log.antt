@@ -21,7 +21,7 @@ stands_push (first ∷ log) x zero event h = inl h
 stands_push (first ∷ log) x (suc k) event h =
     elim (stands_push log x k event h) [ inl old ↦ inl old | inr new ↦ inr (ap suc new.0, new.1) ]
 
-stands_keep : (log : List Entry) (x : Entry) (k : ℕ) (event : Reply) → Stands log k event → Stands (log ++ x ∷ []) k event
+pub stands_keep : (log : List Entry) (x : Entry) (k : ℕ) (event : Reply) → Stands log k event → Stands (log ++ x ∷ []) k event
 stands_keep [] x k event h = absurd (cc)
 stands_keep (first ∷ log) x zero event h = h
 stands_keep (first ∷ log) x (suc k) event h = stands_keep log x k event h
@@ -68,9 +68,9 @@ pub pinned_push : (log : List Entry) (x : Entry) (p at : ℕ) → PinnedSince (l
     → ((at ≡ length log) × IsPublish x.reply p) ⊎ (PinnedSince log p at × (¬ (IsWithdrawal x.reply p)))
 pinned_push log x p at now = elim (publishes_push log x at p now.published) [
   | inl old ↦ inr (
-      record { published = old; lasts = λ k lt ends. now.lasts k lt (withdraws_keep log x k p ends) },
-      λ ends. now.lasts (length log) (publishes_within log at p old) (withdraws_new log x p ends)
-    )
+    record { published = old; lasts = λ k lt ends. now.lasts k lt (withdraws_keep log x k p ends) },
+    λ ends. now.lasts (length log) (publishes_within log at p old) (withdraws_new log x p ends),
+  )
   | inr new ↦ inl new
 ]
 
@@ -100,7 +100,7 @@ stays_old log x p i j lt stays = record {
 -- Grace is kept where the last entry calls nothing that is blocked, and defers nothing that was called before.
 pub grace_push : (log : List Entry) (x : Entry) → KeepsGrace log
     → ((t i p at : ℕ) (how : Called) → x.reply ≡ CalledReply t how → Stands log i (Deferred t) → at ≤ i
-        → ¬ (PinnedSince log p at))
+    → ¬ (PinnedSince log p at))
     → ((t k : ℕ) (how : Called) → x.reply ≡ Deferred t → ¬ (Stands log k (CalledReply t how)))
     → KeepsGrace (log ++ x ∷ [])
 grace_push log x grace calls defers t j how called blocked =

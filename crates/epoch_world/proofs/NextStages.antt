@@ -149,8 +149,8 @@ module _ (v : View) (p : ℕ) (m : Machine Deferral) (aim : ends_unguarded m ≡
   next_looked e k n h past bound = next_by_test v p true m (holds_up e (number_of (v.word k))) (Take e 0)
       (if k + 1 == n then scanned e else Scan e (k + 1)) (λ up. stops e _ h)
       (λ free. next_by_test v p true m (k + 1 == n) (scanned e) (Scan e (k + 1))
-        (advances e k n h past (λ pinned. here (v.word k) refl pinned free))
-        (λ more. goes_on e k h (λ pinned. here (v.word k) refl pinned free)))
+      (advances e k n h past (λ pinned. here (v.word k) refl pinned free))
+      (λ more. goes_on e k h (λ pinned. here (v.word k) refl pinned free)))
     where
       here : (w : Word) → v.word k ≡ w → is_pinned w ≡ true → holds_up e (number_of w) ≡ false → e ≤ v.since k
       here Free found pinned free = absurd (cc)

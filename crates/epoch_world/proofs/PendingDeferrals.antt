@@ -1,4 +1,4 @@
--- Which deferrals may still take a ticket, by the actions of the machines and their stages.
+-- How many tickets the deferrals under way may still take, and which machines keep a job.
 use Rattle.std.proofs.Common.{◌≡◌, ℕ, ◌+◌, ◌-◌, ◌^◌, ◌<◌, ◌≤◌, ◌==◌, Bool, true, false, List, [], ◌∷◌, length, Some, None, refl, ap, arith, if◌then◌else◌, sum_by}
 use Rattle.std.proofs.lemmas.Bool.{leb-false}
 use Rattle.std.proofs.lemmas.List.Sums.{sum_by-cons}
@@ -10,8 +10,8 @@ use Rattle.epoch_pin.specs.declared.machine.Stage.TheVariants.{Idle, LoadPin, Lo
 use Rattle.epoch_pin.specs.Machine.{Machine, is_empty, after_collect, after_pin, after_put, after_unpin, after_job, holds_up, scanned, past_word, first_stage}
 use Rattle.epoch_world.specs.declared.world.step.Call.TheVariants.{Defer as DeferCall}
 use Rattle.epoch_world.specs.declared.world.step.Deferral.{Deferral}
-use Rattle.epoch_world.specs.Run.{Seat, call_refusal}
-pub use Rattle.epoch_world.specs.Kept.{is_busy, pending_at, pending, KeepsAt, Keeps}
+pub use Rattle.epoch_world.specs.Kept.{is_busy, pending_at, pending, KeepsAt, Keeps, Bounded}
+use Rattle.epoch_world.specs.Run.{State, seat_of, Seat, call_refusal}
 
 pending_most : (a : Action) (s t : Stage) → is_busy s ≡ true → pending_at a t ≤ pending_at a s
 pending_most Defer s t busy = most (is_busy t) (is_busy s) busy
@@ -36,7 +36,9 @@ none_pending Defer s rests =
     ap one_or_none rests
 none_pending _ s rests = refl
 
-pub sum_most : (f : Seat → ℕ) (seats : List Seat) → ((seat : Seat) → f seat ≤ 1) → sum_by f seats ≤ length seats
+pub sum_most : (f : Seat → ℕ) (seats : List Seat)
+    → ((seat : Seat) → f seat ≤ 1)
+    → sum_by f seats ≤ length seats
 sum_most f [] one = omega arith
 sum_most f (seat ∷ seats) one = omega (arith, sum_by-cons f seat seats, one seat, sum_most f seats one)
 

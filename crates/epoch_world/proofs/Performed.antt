@@ -24,8 +24,8 @@ same_within (x ∷ xs) zero d e lt = refl
 same_within (x ∷ xs) (suc p) d e lt = same_within xs p d e (omega arith)
 
 -- what an index finds is the participant there
-pub found_there : (s : State) (p : ℕ) (seat : Seat) → p < length s.seats → seat ≡ slice_index_or s.seats p seat → seat ≡ seat_of s p
-found_there s p seat lt is = is ∙ same_within s.seats p seat (free_seat s.sizes) lt
+pub found_there : (seats : List Seat) (sizes : Sizes) (p : ℕ) (seat : Seat) → p < length seats → seat ≡ slice_index_or seats p seat → seat ≡ slice_index_or seats p (free_seat sizes)
+found_there seats sizes p seat lt is = is ∙ same_within seats p seat (free_seat sizes) lt
 
 module _ (old new : State) (p word : ℕ) (seat after : Seat) (reply : Reply) (h : Shared) (e : new ≡ record (with_seat old p after) { epoch = h.epoch; queued = h.queued; tickets = h.tickets }) where
   made : (seat' : Seat) (h' : Shared) → after ≡ seat' → h ≡ h' → new ≡ record (with_seat old p seat') { epoch = h'.epoch; queued = h'.queued; tickets = h'.tickets }

@@ -124,11 +124,14 @@ knows_more v w p held hand (StoreRepin e) pass same h = omega arith
 knows_more v w p held hand (Scan e k) pass same h = has_scanned_more v w p e _ pass same h
 knows_more v w p held hand (Advance e) pass same h = has_scanned_more v w p e _ pass same h
 knows_more v w p held hand (Take x k) pass same h = omega arith
-knows_more v w p held hand (Calling x k) pass same h = (omega arith, record {
-  bound = h.1.bound;
-  expired = omega arith;
-  jobs = jobs_more v w h.1.bound h.1.bound hand pass (omega arith) h.1.jobs;
-})
+knows_more v w p held hand (Calling x k) pass same h = (
+  omega arith,
+  record {
+    bound = h.1.bound;
+    expired = omega arith;
+    jobs = jobs_more v w h.1.bound h.1.bound hand pass (omega arith) h.1.jobs;
+  },
+)
 knows_more v w p held hand (Put s) pass same h = (omega arith, jobs_more v w s s held pass (omega arith) h.1)
 knows_more v w p held hand _ pass same h = tt
 

@@ -1,265 +1,54 @@
 -- Every step keeps the tickets below their limit, with those that the deferrals under way may still take.
-use Rattle.std.proofs.Common.{◌≡◌, ◌≢◌, ℕ, ◌+◌, ◌-◌, ◌^◌, ◌<◌, ◌≤◌, ◌==◌, true, false, List, [], ◌∷◌, length, Option, Some, None, inl, inr, refl, ap, sym, subst, ◌∙◌, arith, ◌⊎◌, slice_set, sum_by}
-use Rattle.std.proofs.lemmas.List.{length-set}
-use Rattle.std.proofs.lemmas.List.Sums.{sum_by-set, get_or-le-sum_by}
+use Rattle.std.proofs.Common.{◌≡◌, ℕ, ◌+◌, ◌^◌, ◌<◌, ◌≤◌, List, [], ◌∷◌, length, Option, Some, None, inl, inr, refl, ap, sym, subst, ◌∙◌, arith}
+use Rattle.std.proofs.lemmas.List.Sums.{get_or-le-sum_by}
 use Rattle.epoch_base.specs.declared.fault.Fault.{Fault}
-use Rattle.epoch_base.specs.declared.queue.PutStep.{PutStep}
-use Rattle.epoch_base.specs.declared.queue.PutStep.TheVariants.{Again, Done as PutDone, Full}
-use Rattle.epoch_base.specs.declared.queue.TakeStep.{TakeStep}
-use Rattle.epoch_base.specs.declared.queue.TakeStep.TheVariants.{Again as TakeAgain, Empty, Got}
 use Rattle.epoch_pin.specs.declared.machine.Action.{Action}
-use Rattle.epoch_pin.specs.declared.machine.Action.TheVariants.{Pin, Unpin, Repin, Defer, Flush, Release}
-use Rattle.epoch_pin.specs.declared.machine.Stage.{Stage}
-use Rattle.epoch_pin.specs.declared.machine.Stage.TheVariants.{Idle, LoadPin, StorePin, ReloadPin, LoadScan, Scan, Advance, Take, Calling, LoadSeal, Put, Keep, LoadRepin, StoreRepin, ReloadRepin, StoreUnpinned, StoreFree, End}
-use Rattle.epoch_pin.specs.declared.machine.Answer.TheVariants.{Job, Stored}
-use Rattle.epoch_pin.specs.Machine.{Machine, ask_at, hears, put_heard, took_heard, gives, with_stage, first_stage, ended}
+use Rattle.epoch_pin.specs.declared.machine.Action.TheVariants.{Defer}
+use Rattle.epoch_pin.specs.declared.machine.Stage.TheVariants.{Keep}
+use Rattle.epoch_pin.specs.Machine.{Machine}
 use Rattle.epoch_world.specs.declared.world.step.Call.{Call}
-use Rattle.epoch_world.specs.declared.world.step.Call.TheVariants.{Pin as PinCall, Unpin as UnpinCall, Repin as RepinCall, Pause, Resume, Defer as DeferCall, Flush as FlushCall, Release as ReleaseCall}
 use Rattle.epoch_world.specs.declared.world.step.Step.{Step}
 use Rattle.epoch_world.specs.declared.world.step.Step.TheVariants.{Register, Begin, Go, End as EndStep, EndGo}
 use Rattle.epoch_world.specs.declared.world.step.Reply.{Reply}
 use Rattle.epoch_world.specs.declared.world.step.Deferral.{Deferral}
-use Rattle.epoch_world.specs.declared.world.step.Word.{Word}
-use Rattle.epoch_world.specs.declared.world.step.Word.TheVariants.{Free, Unpinned, Pinned}
-use Rattle.epoch_world.specs.declared.world.step.Progress.{Progress}
-use Rattle.epoch_world.specs.declared.world.step.Progress.TheVariants.{Idle as IdleProgress, Driven, CallsNow, Ends}
-use Rattle.epoch_world.specs.Run.{Bag, Seat, State, seat_of, word_of, number_of, with_seat, with_machine, with_word, free_seat, Ending, Open, Emptying, Over, drives, begun_seat, ended_seat, call_refusal, refusal, Begins, Drives, Goes, EndGoes, Takes, IsFresh}
-pub use Rattle.epoch_world.specs.Kept.{Bounded}
-use Rattle.epoch_world.proofs.SeatLemmas.{seat_written, seat_other, seat_there, same_or_other, begin_given}
+use Rattle.epoch_world.specs.Run.{Bag, State, seat_of, free_seat, Ending, Open, Emptying, Over, refusal, Begins, EndGoes, Takes, IsFresh}
+use Rattle.epoch_world.proofs.SeatLemmas.{begin_given}
 use Rattle.epoch_world.proofs.TicketSums.{sum_zero}
-use Rattle.epoch_world.proofs.TicketsTallied.{acted}
-use Rattle.epoch_world.proofs.PendingDeferrals.{is_busy, pending_at, pending, KeepsAt, Keeps, pending_one, none_pending, sum_most, keeps_collected, keeps_pinned, keeps_put, keeps_unpinned, keeps_called, keeps_past, keeps_first, keeps_by, room_given, busy_takes}
+use Rattle.epoch_world.proofs.PendingDeferrals.{pending_at, pending, KeepsAt, Keeps}
+pub use Rattle.epoch_world.proofs.PendingDeferrals.{Bounded}
+use Rattle.epoch_world.proofs.DeferralsBounded.{same, registers, begins, goes}
 
 module _ (old new : State) (h : Bounded old) where
-  same : new ≡ old → Bounded new
-  same did = subst Bounded (sym did) h
-
-  -- one participant goes on, and no more tickets may be taken than before, or the limit is far
-  acts : (p : ℕ) (seat : Seat) (epoch : ℕ) (queued : List Bag) (tickets : ℕ)
-      → p < length old.seats
-      → Keeps seat
-      → (tickets + pending seat ≤ old.tickets + pending (seat_of old p)) ⊎ (tickets < 2 ^ 64 - 4097)
-      → new ≡ acted old p seat epoch queued tickets
-      → Bounded new
-  acts p seat epoch queued tickets there keeps fits did = subst Bounded (sym did) (record {
-    tickets = bound fits;
-    keeps = λ q. elim (same_or_other q p) [
-      | inl same ↦ subst Keeps (sym (ap (seat_of after) same ∙ seat_written old p seat there)) keeps
-      | inr other ↦ subst Keeps (sym (seat_other old p q seat other)) (h.keeps q)
-    ];
-  })
-    where
-      after : State
-      after = with_seat old p seat
-
-      bound : (tickets + pending seat ≤ old.tickets + pending (seat_of old p)) ⊎ (tickets < 2 ^ 64 - 4097)
-          → tickets + sum_by pending (slice_set old.seats p seat)
-          ≤ (2 ^ 64 - 4097) + length (slice_set old.seats p seat)
-      bound (inl fewer) = omega (
-        arith,
-        h.tickets,
-        length-set old.seats p seat,
-        sum_by-set pending old.seats p seat (free_seat old.sizes) there,
-      )
-      bound (inr below) = omega (
-        arith,
-        sum_most pending (slice_set old.seats p seat) (λ (s : Seat). pending_one s.machine.action s.machine.stage),
-      )
-
-  registers : (p : ℕ)
-      → p < length old.seats
-      → new ≡ with_seat old p (record (free_seat old.sizes) { word = Unpinned })
-      → Bounded new
-  registers p there did =
-      let after : Seat = record (free_seat old.sizes) { word = Unpinned } in
-      acts p after old.epoch old.queued old.tickets there tt (inl (omega arith)) did
-
-  module _ (p : ℕ) (taken : word_of old p ≢ Free) where
-    abbrev seat : Seat
-    seat = seat_of old p
-
-    abbrev m : Machine Deferral
-    m = seat.machine
-
-    -- no ticket is given
-    waits : (after : Seat) (epoch : ℕ) (queued : List Bag)
-        → Keeps after
-        → pending after ≤ pending seat
-        → new ≡ acted old p after epoch queued old.tickets
-        → Bounded new
-    waits after epoch queued keeps fewer did =
-        acts p after epoch queued old.tickets (seat_there old p taken) keeps (inl (omega (arith, fewer))) did
-
-    begins : (c : Call)
-        → call_refusal c seat old.tickets ≡ None
-        → new ≡ with_seat old p (begun_seat c seat)
-        → Bounded new
-    begins c given did = by_call c given did
-      where
-        driven : (a : Action) (c : Call)
-            → pending_at a (first_stage a m) ≡ 0
-            → new ≡ with_seat old p (drives a c seat)
-            → Bounded new
-        driven a c none did =
-            waits (drives a c seat) old.epoch old.queued (keeps_first a m) (omega (arith, none)) did
-
-        stays : (progress : Progress) → new ≡ with_seat old p (record seat { progress = progress }) → Bounded new
-        stays progress did =
-            waits (record seat { progress = progress }) old.epoch old.queued (h.keeps p) (omega arith) did
-
-        by_call : (c : Call)
-            → call_refusal c seat old.tickets ≡ None
-            → new ≡ with_seat old p (begun_seat c seat)
-            → Bounded new
-        by_call PinCall given did = driven Pin PinCall refl did
-        by_call (UnpinCall g) given did = driven Unpin (UnpinCall g) refl did
-        by_call (RepinCall (Some g)) given did = driven Repin (RepinCall (Some g)) refl did
-        by_call (Pause (Some g)) given did = driven Unpin (Pause (Some g)) refl did
-        by_call (Resume (Some g)) given did = driven Pin (Resume (Some g)) refl did
-        by_call (DeferCall (Some g)) given did =
-            let after : Seat = drives Defer (DeferCall (Some g)) seat in
-            acts p after old.epoch old.queued old.tickets (seat_there old p taken)
-            (keeps_first Defer m) (inr (room_given g seat old.tickets given)) did
-        by_call (FlushCall (Some g)) given did = driven Flush (FlushCall (Some g)) refl did
-        by_call ReleaseCall given did = driven Release ReleaseCall refl did
-        by_call (DeferCall None) given did = stays _ did
-        by_call _ given did = stays _ did
-
-    ends : (c : Call) → new ≡ with_seat old p (ended_seat c seat) → Bounded new
-    ends c did =
-        let is : (ended_seat c seat).machine ≡ ended m = machine_ended c in
-        let rests : pending (ended_seat c seat) ≡ 0 =
-        ap (λ (n : Machine Deferral). pending_at n.action n.stage) is ∙ none_pending m.action Idle refl in
-        let keeps : Keeps (ended_seat c seat) =
-        subst (λ (n : Machine Deferral). KeepsAt n.action n.stage) (sym is) tt in
-        waits (ended_seat c seat) old.epoch old.queued keeps (omega (arith, rests)) did
-      where
-        machine_ended : (c : Call) → (ended_seat c seat).machine ≡ ended m
-        machine_ended PinCall = refl
-        machine_ended (UnpinCall (Some g)) = refl
-        machine_ended (Pause (Some g)) = refl
-        machine_ended (Resume (Some g)) = refl
-        machine_ended _ = refl
-
-    -- its machine goes on to n from the stage s
-    module _ (s : Stage) (at : pending seat ≡ pending_at m.action s) (busy : is_busy s ≡ true) where
-      goes_on : (word : Word) (n : Machine Deferral) (epoch : ℕ) (queued : List Bag)
-          → n.action ≡ m.action
-          → KeepsAt n.action n.stage
-          → new ≡ acted old p (with_word seat word n) epoch queued old.tickets
-          → Bounded new
-      goes_on word n epoch queued same_action keeps did =
-          waits (with_word seat word n) epoch queued keeps
-          (busy_takes m.action n.action m.stage n.stage s same_action at busy) did
-
-      staged : (t : Stage)
-          → KeepsAt m.action t
-          → new ≡ with_seat old p (with_machine seat (with_stage m t))
-          → Bounded new
-      staged t keeps did =
-          goes_on seat.word (with_stage m t) old.epoch old.queued refl keeps did
-
-      puts : (step : PutStep) (queued : List Bag)
-          → new ≡ acted old p (with_machine seat (put_heard m step)) old.epoch queued old.tickets
-          → Bounded new
-      puts Again queued did = goes_on seat.word m old.epoch queued refl (h.keeps p) did
-      puts PutDone queued did =
-          goes_on seat.word (put_heard m PutDone) old.epoch queued refl (keeps_put m.action false) did
-      puts Full queued did =
-          goes_on seat.word (put_heard m Full) old.epoch queued refl (keeps_put m.action true) did
-
-      takes : (y k : ℕ) (step : TakeStep) (jobs : List Deferral) (queued : List Bag)
-          → new ≡ acted old p (with_machine seat (took_heard m (Take y k) step jobs)) old.epoch queued old.tickets
-          → Bounded new
-      takes y k TakeAgain jobs queued did = goes_on seat.word m old.epoch queued refl (h.keeps p) did
-      takes y k Empty jobs queued did =
-          goes_on seat.word (took_heard m (Take y k) Empty jobs) old.epoch queued refl
-          (keeps_collected m.action m.action m.held) did
-      takes y k Got jobs queued did =
-          goes_on seat.word (took_heard m (Take y k) Got jobs) old.epoch queued refl
-          (keeps_called m.action m y k jobs) did
-
-    -- a deferral takes its ticket
-    gives_ticket : (job : Deferral)
-        → KeepsAt m.action Keep
-        → pending seat ≡ pending_at m.action Keep
-        → new ≡ acted old p (with_machine seat (hears m Keep (Job job))) old.epoch old.queued (old.tickets + 1)
-        → Bounded new
-    gives_ticket job defers at did =
-        let one : pending_at m.action Keep ≡ 1 = ap (λ (a : Action). pending_at a Keep) defers in
-        acts p (with_machine seat (hears m Keep (Job job))) old.epoch old.queued (old.tickets + 1)
-        (seat_there old p taken) tt (inl (omega (arith, at, one, none_pending m.action End refl))) did
-
-    goes_at : (c : Call) (s : Stage) (reply : Reply)
-        → KeepsAt m.action s
-        → pending seat ≡ pending_at m.action s
-        → Drives old p seat c s (ask_at s) reply new
-        → Bounded new
-    goes_at c Idle reply keeps at did = ends c did.1
-    goes_at c LoadPin reply keeps at did = staged LoadPin at refl _ tt did.1
-    goes_at c (StorePin e) reply keeps at did =
-        goes_on (StorePin e) at refl (Pinned e) (hears m (StorePin e) Stored) old.epoch old.queued refl tt did.1
-    goes_at c ReloadPin reply keeps at did = staged ReloadPin at refl _ (keeps_pinned m.action m) did.1
-    goes_at c LoadScan reply keeps at did = staged LoadScan at refl _ tt did.1
-    goes_at c (Scan e k) reply keeps at did =
-        staged (Scan e k) at refl _ (keeps_past m.action m.sizes.positions e k (number_of (word_of old k))) did.1
-    goes_at c (Advance e) reply keeps at did =
-        goes_on (Advance e) at refl seat.word (hears m (Advance e) Stored) (e + 1) old.queued refl tt did.1
-    goes_at c (Take y k) reply keeps at (step, jobs, queued, is, took, did) =
-        takes (Take y k) at refl y k step jobs queued did
-    goes_at c (Calling y k) reply keeps at (job, jobs, in_hand, is, did) =
-        goes_on (Calling y k) at refl seat.word (gives m (Calling y k) jobs) old.epoch old.queued refl
-        (keeps_called m.action m y k jobs) did
-    goes_at c LoadSeal reply keeps at did = staged LoadSeal at refl _ tt did.1
-    goes_at c (Put seal) reply keeps at (step, queued, is, put, did) = puts (Put seal) at refl step queued did
-    goes_at c Keep reply keeps at did = gives_ticket _ keeps at did.1
-    goes_at c LoadRepin reply keeps at did =
-        staged LoadRepin at refl _ (keeps_by m.action (m.published == old.epoch) End _ tt tt) did.1
-    goes_at c (StoreRepin e) reply keeps at did =
-        goes_on (StoreRepin e) at refl (Pinned e) (hears m (StoreRepin e) Stored) old.epoch old.queued refl tt did.1
-    goes_at c ReloadRepin reply keeps at did = staged ReloadRepin at refl _ tt did.1
-    goes_at c StoreUnpinned reply keeps at did =
-        goes_on StoreUnpinned at refl Unpinned (hears m StoreUnpinned Stored) old.epoch old.queued refl
-        (keeps_unpinned m.action m.action m.full) did.1
-    goes_at c StoreFree reply keeps at did = waits (free_seat old.sizes) old.epoch old.queued tt (omega arith) did.1
-    goes_at c End reply keeps at did = ends c did.1
-
-    goes : (progress : Progress) (reply : Reply) → Goes old p seat progress reply new → Bounded new
-    goes IdleProgress reply did = same did.1
-    goes (Driven c) reply did = goes_at c m.stage reply (h.keeps p) refl did
-    goes CallsNow reply did = waits _ old.epoch old.queued (h.keeps p) (omega arith) did.1
-    goes (Ends r) reply did = waits _ old.epoch old.queued (h.keeps p) (omega arith) did.1
-
   call_begins : (p : ℕ) (c : Call) (refused : Option Fault) (reply : Reply)
       → refusal c (seat_of old p) old.tickets ≡ refused
       → Begins old p c refused reply new
       → Bounded new
-  call_begins p c (Some fault) reply at did = same did.1
+  call_begins p c (Some fault) reply at did = same old new h did.1
   call_begins p c None reply at did =
       let given = begin_given c (seat_of old p) old.tickets at in
-      begins p given.taken c given.own did.1
+      begins old new h p given.taken c given.own did.1
 
   -- a step of the end leaves participants and tickets alone
   closes : (queued : List Bag) (ending : Ending) → new ≡ record old { queued = queued; ending = ending } → Bounded new
   closes queued ending did = subst Bounded (sym did) (record { tickets = h.tickets; keeps = h.keeps })
 
   end_goes : (ending : Ending) (reply : Reply) → EndGoes old ending reply new → Bounded new
-  end_goes Open reply did = same did.1
-  end_goes Over reply did = same did.1
+  end_goes Open reply did = same old new h did.1
+  end_goes Over reply did = same old new h did.1
   end_goes (Emptying (job ∷ jobs) n) reply did = closes old.queued _ did.1
   end_goes (Emptying [] n) reply (inl (bag, queued, inserted, is, did)) = closes queued _ did
   end_goes (Emptying [] n) reply (inr (none, is, did)) = closes old.queued Over did
 
   step_bounded : (step : Step) (reply : Reply) → Takes old step reply new → Bounded new
-  step_bounded Register reply (inl did) = registers did.0 did.2 did.6
-  step_bounded Register reply (inr (inl did)) = same did.3
-  step_bounded Register reply (inr (inr did)) = same did.2
+  step_bounded Register reply (inl did) = registers old new h did.0 did.2 did.6
+  step_bounded Register reply (inr (inl did)) = same old new h did.3
+  step_bounded Register reply (inr (inr did)) = same old new h did.2
   step_bounded (Begin p c) reply did = call_begins p c (refusal c (seat_of old p) old.tickets) reply refl did
-  step_bounded (Go p) reply (inl did) = same did.2
-  step_bounded (Go p) reply (inr did) = goes p did.0 (seat_of old p).progress reply did.1
+  step_bounded (Go p) reply (inl did) = same old new h did.2
+  step_bounded (Go p) reply (inr did) = goes old new h p did.0 (seat_of old p).progress reply did.1
   step_bounded EndStep reply (inl did) = closes old.queued (Emptying [] 0) did.3
-  step_bounded EndStep reply (inr (inl did)) = same did.3
-  step_bounded EndStep reply (inr (inr did)) = same did.2
+  step_bounded EndStep reply (inr (inl did)) = same old new h did.3
+  step_bounded EndStep reply (inr (inr did)) = same old new h did.2
   step_bounded EndGo reply did = end_goes old.ending reply did
 
 pub tickets_bounded : (old new : State) (step : Step) (reply : Reply)
@@ -286,6 +75,6 @@ pub keep_fits : (s : State) (p : ℕ)
 keep_fits s p h there at few =
     let m : Machine Deferral = (seat_of s p).machine in
     let defers : m.action ≡ Defer = subst (KeepsAt m.action) at (h.keeps p) in
-    let one : pending_at m.action m.stage ≡ 1 =
-    ap (λ (a : Action). pending_at a m.stage) defers ∙ ap (pending_at Defer) at in
+    let at_stage = λ (a : Action). pending_at a m.stage in
+    let one : pending_at m.action m.stage ≡ 1 = ap at_stage defers ∙ ap (pending_at Defer) at in
     omega (arith, h.tickets, one, get_or-le-sum_by pending s.seats p (free_seat s.sizes) there)

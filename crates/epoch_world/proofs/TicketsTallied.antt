@@ -49,6 +49,10 @@ end_untold c seat = ends c
     ends Pin = refl
     ends _ = refl
 
+-- how often a job is in the bags that no participant has
+abbrev times_left : ℕ → List Bag → Ending → ℕ
+times_left t queued ending = times_queued t queued + times_at_end t ending
+
 -- the state after a step of one participant
 abbrev pub acted : State → ℕ → Seat → ℕ → List Bag → ℕ → State
 acted old p seat epoch queued tickets =
@@ -144,8 +148,7 @@ module _ (old new : State) (log : List Entry) (x : Entry) (h : Tallies old log) 
       → x.reply ≡ told
       → AllFree old
       → (ending ≡ Over → queued ≡ [])
-      → ((t : ℕ) → times_queued t queued + times_at_end t ending + calls_of t told
-      ≡ times_queued t old.queued + times_at_end t old.ending)
+      → ((t : ℕ) → times_left t queued ending + calls_of t told ≡ times_left t old.queued old.ending)
       → ((t : ℕ) → deferrals_of t told ≡ 0)
       → new ≡ record old { queued = queued; ending = ending }
       → Kept

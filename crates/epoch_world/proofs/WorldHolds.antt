@@ -51,7 +51,7 @@ log_push v w log x h pass tells = record {
   ];
   grace = grace_push log x h.grace
       (λ t i p at how called d le now.
-        absurd (omega (arith, h.blocked t i p at d le now, (tells.called t how called).1 p (h.on p at now))))
+      absurd (omega (arith, h.blocked t i p at d le now, (tells.called t how called).1 p (h.on p at now))))
       (λ t k how d c. absurd (omega (arith, h.called t k how c, (tells.deferred t d).0)));
 }
   where
@@ -69,7 +69,7 @@ log_push v w log x h pass tells = record {
       arith,
       h.blocked t i p at d le old.0,
       (tells.lasting p (h.on p at old.0) old.1).1,
-      pass.when t (h.deferred t i d)
+      pass.when t (h.deferred t i d),
     )
 
 abbrev pub view_of : State → (ℕ → ℕ) → (ℕ → ℕ) → View

@@ -1,72 +1,97 @@
--- Where each event may stand, by what the log tells before it.
-use Rattle.std.specs.Prelude.{◌≡◌, ℕ, ◌+◌, ◌-◌, Bool, true, false, List, [], ◌∷◌, Option, Some, None, ◌==◌, if◌then◌else◌}
+-- What is said of steps and replies alone: in which calls each event may stand, and how often.
+use Rattle.std.specs.Prelude.{◌≡◌, ℕ, ◌<◌, Bool, true, false, List, [], ◌∷◌, ◌++◌, length, Option, Some, None, ◌==◌, if◌then◌else◌}
+use Rattle.epoch_base.specs.declared.job.Called.{Called}
 use Rattle.epoch_world.specs.declared.world.step.Call.{Call}
 use Rattle.epoch_world.specs.declared.world.step.Call.TheVariants.{Pin, Unpin, Pause, Resume, Repin, Defer, Flush, Release}
 use Rattle.epoch_world.specs.declared.world.step.Step.{Step}
 use Rattle.epoch_world.specs.declared.world.step.Step.TheVariants.{Register, Begin, Go, End, EndGo}
+use Rattle.epoch_world.specs.declared.world.step.Answer.{Answer}
+use Rattle.epoch_world.specs.declared.world.step.Answer.TheVariants.{Guard}
 use Rattle.epoch_world.specs.declared.world.step.Reply.{Reply}
-use Rattle.epoch_world.specs.declared.world.step.Reply.TheVariants.{Registered, Began, Stepped, Pinned, Unpinned, Repinned, Deferred, Called, CalledNow, Done, Refused}
+use Rattle.epoch_world.specs.declared.world.step.Reply.TheVariants.{Registered, Began, Stepped, Pinned, Unpinned, Repinned, Deferred, Called as CalledReply, CalledNow, Done, Refused}
 use Rattle.epoch_world.specs.declared.world.step.Entry.{Entry}
+use Rattle.epoch_world.specs.Run.{without}
+use Rattle.epoch_world.specs.Grace.{Stands}
 
--- what the log tells of a participant so far
+-- WHAT A LOG TELLS OF ONE PARTICIPANT
+
 pub record Told : Type 0 where
-  pub call : Option Call  -- the call under way
-  pub guards : ℕ  -- the guards counted
+  pub call : Option Call  -- the call under way, if there is one
+  pub guards : List ℕ  -- the guards counted
   pub pinned : Bool
-  -- what the call under way has told
+  -- which events the call under way has told
   pub did_pin : Bool
   pub did_unpin : Bool
   pub did_repin : Bool
   pub did_defer : Bool
 
 abbrev pub nothing : Told
-nothing = record { call = None; guards = 0; pinned = false; did_pin = false; did_unpin = false; did_repin = false; did_defer = false }
+nothing = record {
+  call = None;
+  guards = [];
+  pinned = false;
+  did_pin = false;
+  did_unpin = false;
+  did_repin = false;
+  did_defer = false;
+}
 
--- Pin counts its guard at its end, and Unpin takes its guard away there
-abbrev pub guards_after : Option Call → ℕ → ℕ
-guards_after (Some Pin) n = n + 1
-guards_after (Some (Resume (Some g))) n = n + 1
-guards_after (Some (Unpin (Some g))) n = n - 1
-guards_after (Some (Pause (Some g))) n = n - 1
-guards_after _ n = n
+-- a guard is counted from the end of Pin or Resume, up to the end of Unpin or Pause
+abbrev pub counted_after : Option Call → Answer → List ℕ → List ℕ
+counted_after (Some Pin) (Guard g) guards = guards ++ g ∷ []
+counted_after (Some (Resume (Some g))) answer guards = guards ++ g ∷ []
+counted_after (Some (Unpin (Some g))) answer guards = without g guards
+counted_after (Some (Pause (Some g))) answer guards = without g guards
+counted_after _ answer guards = guards
 
-abbrev pub begins : Told → Call → Reply → Told
-begins t c Began = record t { call = Some c; did_pin = false; did_unpin = false; did_repin = false; did_defer = false }
-begins t c _ = t
+-- a call whose Begin was refused is no call
+abbrev pub after_begin : Told → Call → Reply → Told
+after_begin t c Began = record t {
+  call = Some c;
+  did_pin = false;
+  did_unpin = false;
+  did_repin = false;
+  did_defer = false;
+}
+after_begin t c _ = t
 
-abbrev pub ends : Told → ℕ → Told
-ends t n = record t { call = None; guards = n }
+abbrev pub after_end : Told → List ℕ → Told
+after_end t guards = record t { call = None; guards = guards }
 
-abbrev pub goes : Told → Reply → Told
-goes t (Pinned p) = record t { pinned = true; did_pin = true }
-goes t (Unpinned p) = record t { pinned = false; did_unpin = true }
-goes t (Repinned p) = record t { did_repin = true }
-goes t (Deferred k) = record t { did_defer = true }
-goes t (Done a) = ends t (guards_after t.call t.guards)
-goes t (Refused f) = ends t t.guards
-goes t _ = t
+abbrev pub after_go : Told → Reply → Told
+after_go t (Pinned p) = record t { pinned = true; did_pin = true }
+after_go t (Unpinned p) = record t { pinned = false; did_unpin = true }
+after_go t (Repinned p) = record t { did_repin = true }
+after_go t (Deferred ticket) = record t { did_defer = true }
+after_go t (Done answer) = after_end t (counted_after t.call answer t.guards)
+after_go t (Refused fault) = after_end t t.guards
+after_go t _ = t
 
+-- what is told of p after one more step and its reply
 abbrev pub told_after : ℕ → Told → Step → Reply → Told
-told_after p t (Begin q c) r = if q == p then begins t c r else t
-told_after p t (Go q) r = if q == p then goes t r else t
-told_after p t _ r = t
+told_after p t (Begin q c) reply = if q == p then after_begin t c reply else t
+told_after p t (Go q) reply = if q == p then after_go t reply else t
+told_after p t _ reply = t
 
--- the calls in which an event may stand, by the guards counted
-abbrev pub MayPin : Option Call → ℕ → Type 0
-MayPin (Some Pin) n = n ≡ 0
-MayPin (Some (Resume (Some g))) n = n ≡ 0
-MayPin (Some Release) n = Unit {0}
-MayPin _ n = ⊥
+-- IN WHICH CALLS AN EVENT MAY STAND, BY THE GUARDS COUNTED
 
-abbrev pub MayUnpin : Option Call → ℕ → Bool → Type 0
-MayUnpin (Some (Unpin (Some g))) n did_pin = n ≡ 1
-MayUnpin (Some (Pause (Some g))) n did_pin = n ≡ 1
-MayUnpin (Some Release) n did_pin = did_pin ≡ true
-MayUnpin _ n did_pin = ⊥
+-- the first guard is pinned, or the position is given up
+abbrev pub MayPin : Option Call → List ℕ → Type 0
+MayPin (Some Pin) guards = guards ≡ []
+MayPin (Some (Resume (Some g))) guards = guards ≡ []
+MayPin (Some Release) guards = Unit {0}
+MayPin _ guards = ⊥
 
-abbrev pub MayRepin : Option Call → ℕ → Type 0
-MayRepin (Some (Repin (Some g))) n = n ≡ 1
-MayRepin _ n = ⊥
+-- the guard given up is the only one counted, or the position is given up, after the pin of the same call
+abbrev pub MayUnpin : Option Call → List ℕ → Bool → Type 0
+MayUnpin (Some (Unpin (Some g))) guards did_pin = guards ≡ g ∷ []
+MayUnpin (Some (Pause (Some g))) guards did_pin = guards ≡ g ∷ []
+MayUnpin (Some Release) guards did_pin = did_pin ≡ true
+MayUnpin _ guards did_pin = ⊥
+
+abbrev pub MayRepin : Option Call → List ℕ → Type 0
+MayRepin (Some (Repin (Some g))) guards = length guards ≡ 1
+MayRepin _ guards = ⊥
 
 abbrev pub MayDefer : Option Call → Type 0
 MayDefer (Some (Defer (Some g))) = Unit {0}
@@ -79,71 +104,82 @@ MayCall (Some (Flush (Some g))) = Unit {0}
 MayCall (Some Release) = Unit {0}
 MayCall _ = ⊥
 
--- no event: the job of a deferral that isn't protected
+-- a job called at once, under an unprotected guard, is no event
 abbrev pub MayCallNow : Option Call → Type 0
 MayCallNow (Some (Defer None)) = Unit {0}
 MayCallNow _ = ⊥
 
--- what a call has told when it is done
+-- WHAT A CALL HAS TOLD BY ITS END
+
+-- a call that is done
 abbrev pub HasTold : Option Call → Told → Type 0
-HasTold (Some Pin) t = t.guards ≡ 0 → t.did_pin ≡ true
-HasTold (Some (Resume (Some g))) t = t.guards ≡ 0 → t.did_pin ≡ true
-HasTold (Some (Unpin (Some g))) t = t.guards ≡ 1 → t.did_unpin ≡ true
-HasTold (Some (Pause (Some g))) t = t.guards ≡ 1 → t.did_unpin ≡ true
+HasTold (Some Pin) t = t.guards ≡ [] → t.did_pin ≡ true
+HasTold (Some (Resume (Some g))) t = t.guards ≡ [] → t.did_pin ≡ true
+HasTold (Some (Unpin (Some g))) t = t.guards ≡ g ∷ [] → t.did_unpin ≡ true
+HasTold (Some (Pause (Some g))) t = t.guards ≡ g ∷ [] → t.did_unpin ≡ true
 HasTold (Some (Defer (Some g))) t = t.did_defer ≡ true
 HasTold (Some Release) t = (t.did_pin ≡ true) × (t.did_unpin ≡ true)
 HasTold (Some _) t = Unit {0}
 HasTold None t = ⊥
 
--- what a call has told when it is refused
+-- a call that is refused at its end has deferred nothing; where no call is under way, the Go itself is refused
 abbrev pub HasToldRefused : Option Call → Told → Type 0
 HasToldRefused (Some (Defer (Some g))) t = t.did_defer ≡ false
-HasToldRefused (Some Release) t = (t.did_pin ≡ true) × (t.did_unpin ≡ true)
 HasToldRefused (Some (Flush (Some g))) t = Unit {0}
+HasToldRefused (Some Release) t = (t.did_pin ≡ true) × (t.did_unpin ≡ true)
+HasToldRefused (Some _) t = ⊥
 HasToldRefused None t = Unit {0}
-HasToldRefused _ t = ⊥
 
+-- WHICH REPLY A STEP MAY HAVE
+
+-- a Go of p, by what was told of p before it; no call tells an event twice
 abbrev pub MayTell : ℕ → Told → Reply → Type 0
+MayTell p t Stepped = Unit {0}
 MayTell p t (Pinned q) = (q ≡ p) × MayPin t.call t.guards × (t.did_pin ≡ false)
 MayTell p t (Unpinned q) = (q ≡ p) × MayUnpin t.call t.guards t.did_pin × (t.did_unpin ≡ false)
 MayTell p t (Repinned q) = (q ≡ p) × MayRepin t.call t.guards × (t.did_repin ≡ false)
-MayTell p t (Deferred k) = MayDefer t.call × (t.did_defer ≡ false)
-MayTell p t (Called k o) = MayCall t.call × (t.pinned ≡ true)
-MayTell p t (CalledNow o) = MayCallNow t.call
-MayTell p t (Done a) = HasTold t.call t
-MayTell p t (Refused f) = HasToldRefused t.call t
-MayTell p t Stepped = Unit {0}
+MayTell p t (Deferred ticket) = MayDefer t.call × (t.did_defer ≡ false)
+MayTell p t (CalledReply ticket how) = MayCall t.call × (t.pinned ≡ true)
+MayTell p t (CalledNow how) = MayCallNow t.call
+MayTell p t (Done answer) = HasTold t.call t
+MayTell p t (Refused fault) = HasToldRefused t.call t
 MayTell p t _ = ⊥
 
--- replies that tell nothing
-abbrev pub IsBegan : Reply → Type 0
-IsBegan Began = Unit {0}
-IsBegan (Refused f) = Unit {0}
-IsBegan _ = ⊥
+abbrev pub MayRegister : Reply → Type 0
+MayRegister (Registered p) = Unit {0}
+MayRegister (Refused fault) = Unit {0}
+MayRegister _ = ⊥
 
-abbrev pub IsRegistered : Reply → Type 0
-IsRegistered (Registered p) = Unit {0}
-IsRegistered (Refused f) = Unit {0}
-IsRegistered _ = ⊥
+abbrev pub MayBegin : Reply → Type 0
+MayBegin Began = Unit {0}
+MayBegin (Refused fault) = Unit {0}
+MayBegin _ = ⊥
 
-abbrev pub IsEndGo : Reply → Type 0
-IsEndGo Stepped = Unit {0}
-IsEndGo (Called t o) = Unit {0}
-IsEndGo (Done a) = Unit {0}
-IsEndGo (Refused f) = Unit {0}
-IsEndGo _ = ⊥
+abbrev pub MayEndGo : Reply → Type 0
+MayEndGo Stepped = Unit {0}
+MayEndGo (CalledReply ticket how) = Unit {0}
+MayEndGo (Done answer) = Unit {0}
+MayEndGo (Refused fault) = Unit {0}
+MayEndGo _ = ⊥
 
-abbrev pub IsLawfulStep : (ℕ → Told) → Step → Reply → Type 0
-IsLawfulStep told Register r = IsRegistered r
-IsLawfulStep told (Begin p c) r = IsBegan r
-IsLawfulStep told (Go p) r = MayTell p (told p) r
-IsLawfulStep told End r = IsBegan r
-IsLawfulStep told EndGo r = IsEndGo r
+abbrev pub MayReply : (ℕ → Told) → Step → Reply → Type 0
+MayReply told Register reply = MayRegister reply
+MayReply told (Begin p c) reply = MayBegin reply
+MayReply told (Go p) reply = MayTell p (told p) reply
+MayReply told End reply = MayBegin reply
+MayReply told EndGo reply = MayEndGo reply
 
-abbrev pub IsLawfulFrom : (ℕ → Told) → List Entry → Type 0
-IsLawfulFrom told [] = Unit {0}
-IsLawfulFrom told (e ∷ es) = IsLawfulStep told e.step e.reply × IsLawfulFrom (λ p. told_after p (told p) e.step e.reply) es
+-- WHOLE LOGS
 
--- every event stands where it may
-abbrev pub IsLawful : List Entry → Type 0
-IsLawful log = IsLawfulFrom (λ p. nothing) log
+abbrev pub MayReplyAll : (ℕ → Told) → List Entry → Type 0
+MayReplyAll told [] = Unit {0}
+MayReplyAll told (entry ∷ log) =
+    MayReply told entry.step entry.reply × MayReplyAll (λ p. told_after p (told p) entry.step entry.reply) log
+
+-- Each event stands only in its calls, and as often as it should; a job is called at most once, after it was deferred.
+pub record IsLawful (log : List Entry) : Type 0 where
+  pub in_calls : MayReplyAll (λ p. nothing) log
+  pub once : (t i j : ℕ) (how again : Called) → Stands log i (CalledReply t how) → Stands log j (CalledReply t again)
+      → i ≡ j
+  pub deferred : (t j : ℕ) (how : Called) → Stands log j (CalledReply t how)
+      → (i : ℕ) × (i < j) × Stands log i (Deferred t)
