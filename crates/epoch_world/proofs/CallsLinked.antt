@@ -48,7 +48,8 @@ module _ (sizes : Sizes) (seat : Seat) (h : IsLinked sizes seat) where
 
   -- BEGINNING
 
-  drives_linked : (a : Action) (c : Call) → a ≡ action_of c → BeganUnder c seat.guards → IsLinked sizes (drives a c seat)
+  drives_linked : (a : Action) (c : Call) → a ≡ action_of c → BeganUnder c seat.guards
+      → IsLinked sizes (drives a c seat)
   drives_linked a c action under = record {
     sized = h.sized;
     counted = h.counted;

@@ -22,15 +22,16 @@ use Rattle.epoch_world.specs.declared.world.step.Progress.{Progress}
 use Rattle.epoch_world.specs.declared.world.step.Progress.TheVariants.{Idle, Driven, CallsNow, Ends}
 use Rattle.epoch_world.specs.Run.{Bag, Seat, State, seat_of, word_of, with_seat, with_machine, with_word, free_seat, with_guards, ended_seat, Drives, Goes}
 use Rattle.epoch_world.proofs.SeatLemmas.{seat_there}
-use Rattle.epoch_world.proofs.Linked.{rests, IsLinked, AllLinked, follows_at}
+use Rattle.epoch_world.proofs.SeatLinks.{rests, AllLinked, follows_at}
 use Rattle.epoch_world.proofs.DeferralEpochs.{DeferredBy, SealedBehind, deferred_push, sealed_more, sealed_put, sealed_got}
 use Rattle.epoch_world.proofs.QuietReplies.{IsQuiet, plain_called, quiet_stepped, quiet_now, quiet_done, quiet_refused, quiet_end}
 use Rattle.epoch_world.proofs.SeatsFine.{View, is_pinned, IsFine, SeatIsFine, IsNext, HandExpired, publishes_at, fine_next, fine_more}
-use Rattle.epoch_world.proofs.WorldHolds.{Holds, view_of, acted, changed, changed_same, changed_other}
+use Rattle.epoch_world.proofs.WorldHolds.{Holds, holds_along, view_of, acted, changed, changed_same, changed_other}
 use Rattle.epoch_world.proofs.NextStages.{next_either, next_end, next_collected, next_pinned, next_put, next_unpinned, next_job, next_looked, past_seats}
 use Rattle.epoch_world.proofs.SeatSteps.{CallsEarlier, stay, plain_step, quiet_step, publishes, withdraws}
 
-module _ (old new : State) (log : List Entry) (x : Entry) (h : Holds old log) (linked : AllLinked old) (p : ℕ) (taken : word_of old p ≢ Free) where
+module _ (old new : State) (log : List Entry) (x : Entry) (h : Holds old log) (linked : AllLinked old) (p : ℕ)
+    (taken : word_of old p ≢ Free) where
   abbrev seat : Seat
   seat = seat_of old p
 
@@ -56,7 +57,7 @@ module _ (old new : State) (log : List Entry) (x : Entry) (h : Holds old log) (l
   advances : (e : ℕ) → IsFineAt (Advance e) → IsQuiet x.reply
       → new ≡ record (with_seat old p (with_machine seat (with_stage m (Take (e + 1) 0)))) { epoch = e + 1 }
       → Holds new (log ++ x ∷ [])
-  advances e fine quiet did = subst (λ (s : State). Holds s (log ++ x ∷ [])) (sym did)
+  advances e fine quiet did = holds_along new _ _ did
       (acted old _ log x h h.since h.when p (with_machine seat (with_stage m (Take (e + 1) 0))) (record {
         there = seat_there old p taken;
         still_open = λ shut. taken (h.closed shut p);
@@ -83,11 +84,15 @@ module _ (old new : State) (log : List Entry) (x : Entry) (h : Holds old log) (l
       up : old.epoch ≤ e + 1
       up = omega (arith, fine.recent fine.agrees, fine.knows.own)
 
-  -- p keeps the job of the ticket that is given now
+  -- the job of the ticket that is given now
+  abbrev job : Deferral
+  job = record { ticket = old.tickets; removes = None }
+
+  -- p keeps it
   keeps : IsFineAt Keep → x.reply ≡ Deferred old.tickets
-      → new ≡ record (with_seat old p (with_machine seat (hears m Keep (Job (record { ticket = old.tickets; removes = None }))))) { tickets = old.tickets + 1 }
+      → new ≡ record (with_seat old p (with_machine seat (hears m Keep (Job job)))) { tickets = old.tickets + 1 }
       → Holds new (log ++ x ∷ [])
-  keeps fine told did = subst (λ (s : State). Holds s (log ++ x ∷ [])) (sym did)
+  keeps fine told did = holds_along new _ _ did
       (acted old _ log x h h.since (changed h.when old.tickets old.epoch) p (with_machine seat kept) (record {
         there = seat_there old p taken;
         still_open = λ shut. taken (h.closed shut p);
@@ -111,9 +116,6 @@ module _ (old new : State) (log : List Entry) (x : Entry) (h : Holds old log) (l
         called = λ t how e. absurd (cc (told, e));
       }))
     where
-      job : Deferral
-      job = record { ticket = old.tickets; removes = None }
-
       kept : Machine Deferral
       kept = hears m Keep (Job job)
 
@@ -167,7 +169,8 @@ module _ (old new : State) (log : List Entry) (x : Entry) (h : Holds old log) (l
         jobs = subst (DeferredBy h.when old.tickets bag.seal) all parts.jobs;
       } in
       stores n queued
-      (fine_next v p seat.word m n (Take y k) n.stage fine (next_job v p m n y k jobs refl fine.aims fine.knows hand) fine.held)
+      (fine_next v p seat.word m n (Take y k) n.stage fine
+        (next_job v p m n y k jobs refl fine.aims fine.knows hand) fine.held)
       parts.sealed told e
 
   -- the first job in hand is called
@@ -175,9 +178,11 @@ module _ (old new : State) (log : List Entry) (x : Entry) (h : Holds old log) (l
       → m.hand ≡ job ∷ jobs → x.reply ≡ CalledReply job.ticket how
       → new ≡ with_seat old p (with_machine seat (gives m (Calling y k) jobs)) → Holds new (log ++ x ∷ [])
   calls y k fine job jobs how hand told e =
-      plain_step old new log x h p (with_machine seat n) old.queued taken refl (plain_called x.reply job.ticket how told)
+      plain_step old new log x h p (with_machine seat n) old.queued taken refl
+      (plain_called x.reply job.ticket how told)
       (λ t other c. let same : job.ticket ≡ t = cc (told, c) in subst (CallsEarlier old h.since h.when) same earlier)
-      (fine_next v p seat.word m n (Calling y k) n.stage fine (next_job v p m n y k jobs refl fine.aims fine.knows.0 left) fine.held)
+      (fine_next v p seat.word m n (Calling y k) n.stage fine
+        (next_job v p m n y k jobs refl fine.aims fine.knows.0 left) fine.held)
       h.queued e
     where
       n : Machine Deferral
@@ -199,7 +204,8 @@ module _ (old new : State) (log : List Entry) (x : Entry) (h : Holds old log) (l
   ends_with : (guards : List ℕ) (paused : Option ℕ) → IsFineAt End → IsQuiet x.reply
       → new ≡ with_seat old p (with_guards seat guards paused) → Holds new (log ++ x ∷ [])
   ends_with guards paused fine quiet e = quiet_step old new log x h p (with_guards seat guards paused) taken refl quiet
-      (fine_next v p seat.word m (ended m) End Resting fine (record { publishes = refl; aims = tt; knows = tt }) fine.held)
+      (fine_next v p seat.word m (ended m) End Resting fine
+        (record { publishes = refl; aims = tt; knows = tt }) fine.held)
       e
 
   ends : (c : Call) → IsFineAt End → IsQuiet x.reply → new ≡ with_seat old p (ended_seat c seat)
@@ -218,8 +224,8 @@ module _ (old new : State) (log : List Entry) (x : Entry) (h : Holds old log) (l
   go_at c Resting on fine did = absurd (cc)
   go_at c LoadPin on fine did = moves LoadPin (StorePin old.epoch) fine
       (record { publishes = refl; aims = fine.aims; knows = omega arith }) did.0 did.1
-  go_at c (StorePin e) on fine did = publishes old new log x h p e (with_word seat (Pinned e) (hears m (StorePin e) Stored))
-      taken fine.knows refl refl fine.aims fine.held (λ w. tt)
+  go_at c (StorePin e) on fine did =
+      publishes old new log x h p e (with_word seat (Pinned e) (hears m (StorePin e) Stored)) taken fine.knows refl refl fine.aims fine.held (λ w. tt)
       (λ q t. elim t [ inl a ↦ cc (did.0, a) | inr a ↦ absurd (cc (did.0, a)) ])
       (λ pinned. absurd (cc (pinned, fine.agrees))) (λ t a. cc (did.0, a)) (λ t how a. cc (did.0, a)) did.1
   go_at c ReloadPin on fine did = moves ReloadPin _ fine (next_pinned v p m fine.aims) did.0 did.1
@@ -251,8 +257,8 @@ module _ (old new : State) (log : List Entry) (x : Entry) (h : Holds old log) (l
   go_at c LoadRepin on fine did = moves LoadRepin _ fine
       (next_either v p true m (m.published == old.epoch) End (StoreRepin old.epoch) (next_end v p m false fine.aims)
       (record { publishes = refl; aims = fine.aims; knows = omega arith })) did.0 did.1
-  go_at c (StoreRepin e) on fine did = publishes old new log x h p e (with_word seat (Pinned e) (hears m (StoreRepin e) Stored))
-      taken fine.knows refl refl fine.aims fine.held (λ w. tt)
+  go_at c (StoreRepin e) on fine did =
+      publishes old new log x h p e (with_word seat (Pinned e) (hears m (StoreRepin e) Stored)) taken fine.knows refl refl fine.aims fine.held (λ w. tt)
       (λ q t. elim t [ inl a ↦ absurd (cc (did.0, a)) | inr a ↦ cc (did.0, a) ])
       (λ pinned. inr did.0) (λ t a. cc (did.0, a)) (λ t how a. cc (did.0, a)) did.1
   go_at c ReloadRepin on fine did = moves ReloadRepin End fine (next_end v p m false fine.aims) did.0 did.1
@@ -273,5 +279,5 @@ module _ (old new : State) (log : List Entry) (x : Entry) (h : Holds old log) (l
   go_keeps (Driven c) now did =
       go_at c m.stage (follows_at old.sizes seat (linked.seats p) (Driven c) now).under_way (h.seats p) did
   go_keeps CallsNow now did = quiet_step old new log x h p _ taken refl (quiet_now x.reply _ did.0) (h.seats p) did.1
-  go_keeps (Ends reply) now did = quiet_step old new log x h p _ taken refl
-      (quiet_done x.reply _ (did.0 ∙ (follows_at old.sizes seat (linked.seats p) (Ends reply) now).1)) (h.seats p) did.1
+  go_keeps (Ends reply) now did = let follows = follows_at old.sizes seat (linked.seats p) (Ends reply) now in
+      quiet_step old new log x h p _ taken refl (quiet_done x.reply _ (did.0 ∙ follows.1)) (h.seats p) did.1

@@ -20,11 +20,13 @@ use Rattle.epoch_world.specs.declared.world.step.Progress.TheVariants.{Idle}
 use Rattle.epoch_world.specs.Grace.{KeepsGrace}
 use Rattle.epoch_world.specs.Run.{Bag, Seat, State, seat_of, word_of, with_seat, free_seat, is_out, Ending, Open, Emptying, Over, AllFree, call_refusal, refusal, drives, begun_seat, Begins, EndGoes, Takes, Runs, IsFresh}
 use Rattle.epoch_world.proofs.SeatLemmas.{IsAccepted, begin_given, guard_given}
-use Rattle.epoch_world.proofs.Linked.{IsLinked, AllLinked, follows_at, none_out, step_linked, fresh_linked}
+use Rattle.epoch_world.proofs.SeatLinks.{AllLinked, follows_at}
+use Rattle.epoch_world.proofs.CallsLinked.{none_out}
+use Rattle.epoch_world.proofs.Linked.{step_linked, fresh_linked}
 use Rattle.epoch_world.proofs.DeferralEpochs.{DeferredBy, SealedBehind, sealed_got}
 use Rattle.epoch_world.proofs.QuietReplies.{IsPlain, plain_called, quiet_stepped, quiet_began, quiet_refused, quiet_done}
-use Rattle.epoch_world.proofs.SeatsFine.{View, is_pinned, IsFine, SeatIsFine, IsNext, fine_next}
-use Rattle.epoch_world.proofs.WorldHolds.{Holds, LogHolds, log_push, view_of, acted, EndHolds}
+use Rattle.epoch_world.proofs.SeatsFine.{View, is_pinned, IsFine, SeatIsFine, passes_same, fine_next}
+use Rattle.epoch_world.proofs.WorldHolds.{Holds, holds_along, log_push, view_of, acted, EndHolds}
 use Rattle.epoch_world.proofs.NextStages.{Allows, next_begun}
 use Rattle.epoch_world.proofs.SeatSteps.{stay, quiet_step}
 use Rattle.epoch_world.proofs.GoesKeeps.{go_keeps}
@@ -36,7 +38,8 @@ out_counts : (g n : ℕ) (guards : List ℕ) → n ≡ length guards → is_out 
 out_counts g n [] counted out = absurd (cc)
 out_counts g n (first ∷ guards) counted out = omega arith
 
-module _ (old new : State) (log : List Entry) (x : Entry) (h : Holds old log) (linked : AllLinked old) (p : ℕ) (c : Call) (given : IsAccepted c (seat_of old p) old.tickets) (told : x.reply ≡ Began) where
+module _ (old new : State) (log : List Entry) (x : Entry) (h : Holds old log) (linked : AllLinked old) (p : ℕ)
+    (c : Call) (given : IsAccepted c (seat_of old p) old.tickets) (told : x.reply ≡ Began) where
   abbrev seat : Seat
   seat = seat_of old p
 
@@ -45,7 +48,8 @@ module _ (old new : State) (log : List Entry) (x : Entry) (h : Holds old log) (l
       → Holds new (log ++ x ∷ [])
   drives_holds a by allowed e = quiet_step old new log x h p (drives a by seat) given.taken refl
       (quiet_began x.reply told)
-      (fine_next v p seat.word m (begun a m) Resting (first_stage a m) at_rest (next_begun v p m a allowed) (h.seats p).held)
+      (fine_next v p seat.word m (begun a m) Resting (first_stage a m) at_rest
+        (next_begun v p m a allowed) (h.seats p).held)
       e
     where
       v : View
@@ -88,15 +92,15 @@ module _ (old new : State) (log : List Entry) (x : Entry) (h : Holds old log) (l
 -- EVERY STEP
 
 module _ (old new : State) (log : List Entry) (x : Entry) (h : Holds old log) (linked : AllLinked old) where
-  begins : (p : ℕ) (c : Call) (r : Option Fault) → refusal c (seat_of old p) old.tickets ≡ r → Begins old p c r x.reply new
-      → Holds new (log ++ x ∷ [])
+  begins : (p : ℕ) (c : Call) (r : Option Fault) → refusal c (seat_of old p) old.tickets ≡ r
+      → Begins old p c r x.reply new → Holds new (log ++ x ∷ [])
   begins p c (Some f) e did = stay old new log x h (quiet_refused x.reply f did.0) did.1
   begins p c None e did = let given = begin_given c (seat_of old p) old.tickets e in
       accepted_holds old new log x h linked p c given did.0 c given.own did.1
 
   registers : (p : ℕ) → old.ending ≡ Open → p < length old.seats → word_of old p ≡ Free → x.reply ≡ Registered p
       → new ≡ with_seat old p (record (free_seat old.sizes) { word = Unpinned }) → Holds new (log ++ x ∷ [])
-  registers p opened lt free told did = subst (λ (s : State). Holds s (log ++ x ∷ [])) (sym did)
+  registers p opened lt free told did = holds_along new _ _ did
       (acted old _ log x h h.since h.when p (record (free_seat old.sizes) { word = Unpinned }) (record {
         there = lt;
         still_open = λ shut. shut opened;
@@ -130,7 +134,7 @@ module _ (old new : State) (log : List Entry) (x : Entry) (h : Holds old log) (l
       → ((t : ℕ) (how : Called) → x.reply ≡ CalledReply t how → t < old.tickets)
       → SealedBehind h.when old.tickets old.epoch queued → EndHolds h.when old.tickets ending
       → new ≡ record old { queued = queued; ending = ending } → Holds new (log ++ x ∷ [])
-  closes queued ending free plain called sealed ends did = subst (λ (s : State). Holds s (log ++ x ∷ [])) (sym did) (record {
+  closes queued ending free plain called sealed ends did = holds_along new _ _ did (record {
     since = h.since;
     when = h.when;
     seats = h.seats;
@@ -138,7 +142,7 @@ module _ (old new : State) (log : List Entry) (x : Entry) (h : Holds old log) (l
     closed = λ shut. free;
     ending = ends;
     logged = log_push v v log x h.logged
-        (record { epoch = omega arith; tickets = omega arith; when = λ t lt. refl; pinned = λ j pinned. inl (pinned, refl) })
+        (passes_same v)
         (record {
           published = λ p told. absurd (plain.published p told);
           lasting = λ p pinned on. (pinned, refl);
@@ -154,7 +158,8 @@ module _ (old new : State) (log : List Entry) (x : Entry) (h : Holds old log) (l
   end_goes Open e did = stay old new log x h (quiet_refused x.reply _ did.0) did.1
   end_goes Over e did = stay old new log x h (quiet_refused x.reply _ did.0) did.1
   end_goes (Emptying (job ∷ jobs) n) e did =
-      let hand : EndHolds h.when old.tickets (Emptying (job ∷ jobs) n) = subst (EndHolds h.when old.tickets) e h.ending in
+      let hand : EndHolds h.when old.tickets (Emptying (job ∷ jobs) n) =
+        subst (EndHolds h.when old.tickets) e h.ending in
       closes old.queued (Emptying jobs (n + 1)) (h.closed (λ opened. absurd (cc (opened, e))))
       (plain_called x.reply job.ticket _ did.0)
       (λ t how a. let same : job.ticket ≡ t = cc (did.0, a) in omega (arith, same, hand.1.0))
@@ -177,7 +182,8 @@ module _ (old new : State) (log : List Entry) (x : Entry) (h : Holds old log) (l
   takes_step (Go p) (inl did) = stay old new log x h (quiet_refused x.reply _ did.1) did.2
   takes_step (Go p) (inr did) = go_keeps old new log x h linked p did.0 (seat_of old p).progress refl did.1
   takes_step EndStep (inl (opened, free, told, did)) = let quiet = quiet_began x.reply told in
-      closes old.queued (Emptying [] 0) free quiet.plain (λ t how a. absurd (quiet.called t how a)) h.queued (0, tt) did
+      closes old.queued (Emptying [] 0) free quiet.plain (λ t how a. absurd (quiet.called t how a)) h.queued
+      (0, tt) did
   takes_step EndStep (inr (inl did)) = stay old new log x h (quiet_refused x.reply _ did.2) did.3
   takes_step EndStep (inr (inr did)) = stay old new log x h (quiet_refused x.reply _ did.1) did.2
   takes_step EndGo did = end_goes old.ending refl did
@@ -187,7 +193,7 @@ module _ (old new : State) (log : List Entry) (x : Entry) (h : Holds old log) (l
 runs_hold : (old new : State) (log entries : List Entry) → AllLinked old → Holds old log → Runs old entries new
     → Holds new (log ++ entries)
 runs_hold old new log [] linked h run =
-    subst (λ (s : State). Holds s (log ++ [])) (sym run) (subst (Holds old) (sym (append-nil log)) h)
+    holds_along new old _ run (subst (Holds old) (sym (append-nil log)) h)
 runs_hold old new log (x ∷ entries) linked h (mid, did, run) =
     subst (Holds new) (append_assoc log (x ∷ []) entries)
     (runs_hold mid new (log ++ x ∷ []) entries (step_linked old mid x.step x.reply linked did)
@@ -219,4 +225,5 @@ fresh_holds s fresh = record {
 }
 
 pub every_run_keeps_grace : (s new : State) (log : List Entry) → IsFresh s → Runs s log new → KeepsGrace log
-every_run_keeps_grace s new log fresh run = (runs_hold s new [] log (fresh_linked s fresh) (fresh_holds s fresh) run).logged.grace
+every_run_keeps_grace s new log fresh run =
+    (runs_hold s new [] log (fresh_linked s fresh) (fresh_holds s fresh) run).logged.grace

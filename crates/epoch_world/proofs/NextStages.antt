@@ -33,7 +33,8 @@ next_end v p m b h = record { publishes = ap not h; aims = tt; knows = tt }
 -- AFTER A COLLECTION, A PIN, A PUT AND AN UNPIN
 
 collected : (v : View) (p : ℕ) (m : Machine Deferral) (a : Action) (jobs : List Deferral)
-    → ends_unguarded m ≡ is_release a → ends_unguarded m ≡ is_release m.action → IsNext v p true m (after_collect a jobs)
+    → ends_unguarded m ≡ is_release a → ends_unguarded m ≡ is_release m.action
+    → IsNext v p true m (after_collect a jobs)
 collected v p m Release [] h aim = record { publishes = refl; aims = h; knows = tt }
 collected v p m Release (job ∷ jobs) h aim = record { publishes = refl; aims = aim; knows = tt }
 collected v p m Pin jobs h aim = next_end v p m false h
@@ -111,11 +112,12 @@ module _ (v : View) (p : ℕ) (m : Machine Deferral) (aim : ends_unguarded m ≡
   -- behind the last word: every pinned one has been looked at
   advances : (e k n : ℕ) → HasScanned v p e (λ j. j < k) → ((j : ℕ) → n ≤ j → is_pinned (v.word j) ≡ false)
       → (is_pinned (v.word k) ≡ true → e ≤ v.since k) → (k + 1 == n) ≡ true → IsNext v p true m (scanned e)
-  advances e k n h past here last = next_either v p true m (e == 2 ^ 63 - 1) (Take e 0) (Advance e) (stops e _ h) (record {
-    publishes = refl;
-    aims = aim;
-    knows = record { own = h.own; seen = h.seen; others = λ j _ pinned. at_any j (three j) pinned };
-  })
+  advances e k n h past here last = next_either v p true m (e == 2 ^ 63 - 1) (Take e 0) (Advance e) (stops e _ h)
+      (record {
+        publishes = refl;
+        aims = aim;
+        knows = record { own = h.own; seen = h.seen; others = λ j _ pinned. at_any j (three j) pinned };
+      })
     where
       three : (j : ℕ) → (j < k) ⊎ (j ≡ k) ⊎ (n ≤ j)
       three j = grind (arith, nat_tests)

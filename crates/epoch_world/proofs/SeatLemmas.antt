@@ -45,6 +45,10 @@ idle_is : (progress : Progress) → is_idle progress ≡ true → progress ≡ I
 idle_is Idle h = refl
 idle_is _ h = absurd (cc)
 
+-- what is tested of a seat that is taken and idle
+abbrev waits_or_own : Call → Seat → ℕ → Option Fault
+waits_or_own c seat tickets = if waits c seat.paused then Some Busy else call_refusal c seat tickets
+
 pub begin_given : (c : Call) (seat : Seat) (tickets : ℕ) → refusal c seat tickets ≡ None → IsAccepted c seat tickets
 begin_given c seat tickets e = at_word (is_free seat.word) refl e
   where
@@ -59,12 +63,13 @@ begin_given c seat tickets e = at_word (is_free seat.word) refl e
     }
 
     at_progress : (b : Bool) → is_idle seat.progress ≡ b → is_free seat.word ≡ false
-        → (if b then (if waits c seat.paused then Some Busy else call_refusal c seat tickets) else Some Busy) ≡ None → IsAccepted c seat tickets
+        → (if b then waits_or_own c seat tickets else Some Busy) ≡ None → IsAccepted c seat tickets
     at_progress true idle taken h = at_pause (waits c seat.paused) refl idle taken h
     at_progress false idle taken h = absurd (cc)
 
     at_word : (b : Bool) → is_free seat.word ≡ b
-        → (if b then Some NotRegistered else (if is_idle seat.progress then (if waits c seat.paused then Some Busy else call_refusal c seat tickets) else Some Busy)) ≡ None
+        → (if b then Some NotRegistered else (if is_idle seat.progress then waits_or_own c seat tickets else Some Busy))
+            ≡ None
         → IsAccepted c seat tickets
     at_word true free h = absurd (cc)
     at_word false taken h = at_progress (is_idle seat.progress) refl taken h

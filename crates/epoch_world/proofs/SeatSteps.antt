@@ -11,8 +11,8 @@ use Rattle.epoch_world.proofs.SeatLemmas.{seat_there}
 use Rattle.epoch_world.proofs.DeferralEpochs.{DeferredBy, SealedBehind}
 use Rattle.epoch_world.proofs.Log.{IsPublish, IsWithdrawal}
 use Rattle.epoch_world.proofs.QuietReplies.{IsPlain, IsQuiet}
-use Rattle.epoch_world.proofs.SeatsFine.{View, is_pinned, publishes_at, AimsAt, KnowsAt, SeatIsFine, Passes, fine_more}
-use Rattle.epoch_world.proofs.WorldHolds.{Holds, log_push, view_of, acted, changed, changed_same, changed_other}
+use Rattle.epoch_world.proofs.SeatsFine.{View, is_pinned, publishes_at, AimsAt, KnowsAt, SeatIsFine, Passes, passes_same, fine_more}
+use Rattle.epoch_world.proofs.WorldHolds.{Holds, holds_along, log_push, view_of, acted, changed, changed_same, changed_other}
 
 -- the job of a ticket called was deferred before anybody who is pinned has published
 abbrev pub CallsEarlier : State → (ℕ → ℕ) → (ℕ → ℕ) → ℕ → Type 0
@@ -25,7 +25,7 @@ module _ (old new : State) (log : List Entry) (x : Entry) (h : Holds old log) wh
 
   -- nothing changed, and nothing was told
   pub stay : IsQuiet x.reply → new ≡ old → Holds new (log ++ x ∷ [])
-  stay quiet e = subst (λ (s : State). Holds s (log ++ x ∷ [])) (sym e) (record {
+  stay quiet e = holds_along new old _ e (record {
     since = h.since;
     when = h.when;
     seats = h.seats;
@@ -33,12 +33,7 @@ module _ (old new : State) (log : List Entry) (x : Entry) (h : Holds old log) wh
     closed = h.closed;
     ending = h.ending;
     logged = log_push v v log x h.logged
-        (record {
-          epoch = omega arith;
-          tickets = omega arith;
-          when = λ t lt. refl;
-          pinned = λ j pinned. inl (pinned, refl);
-        })
+        (passes_same v)
         (record {
           published = λ p told. absurd (quiet.plain.published p told);
           lasting = λ p pinned on. (pinned, refl);
@@ -54,7 +49,7 @@ module _ (old new : State) (log : List Entry) (x : Entry) (h : Holds old log) wh
       → SeatIsFine v p after → SealedBehind h.when old.tickets old.epoch queued
       → new ≡ record (with_seat old p after) { queued = queued } → Holds new (log ++ x ∷ [])
   plain_step p after queued taken same plain called fine sealed e =
-      subst (λ (s : State). Holds s (log ++ x ∷ [])) (sym e) (acted old _ log x h h.since h.when p after (record {
+      holds_along new _ _ e (acted old _ log x h h.since h.when p after (record {
         there = seat_there old p taken;
         still_open = λ shut. taken (h.closed shut p);
         sizes = refl;
@@ -88,7 +83,7 @@ module _ (old new : State) (log : List Entry) (x : Entry) (h : Holds old log) wh
       → ((t : ℕ) → x.reply ≢ Deferred t) → ((t : ℕ) (how : Called) → x.reply ≢ CalledReply t how)
       → new ≡ with_seat old p after → Holds new (log ++ x ∷ [])
   publishes p n after taken seen word says aims held knows told withdrawn deferred called e =
-      subst (λ (s : State). Holds s (log ++ x ∷ [])) (sym e) (acted old _ log x h since' h.when p after (record {
+      holds_along new _ _ e (acted old _ log x h since' h.when p after (record {
         there = seat_there old p taken;
         still_open = λ shut. taken (h.closed shut p);
         sizes = refl;
@@ -131,7 +126,7 @@ module _ (old new : State) (log : List Entry) (x : Entry) (h : Holds old log) wh
       → ((t : ℕ) → x.reply ≢ Deferred t) → ((t : ℕ) (how : Called) → x.reply ≢ CalledReply t how)
       → new ≡ with_seat old p after → Holds new (log ++ x ∷ [])
   withdraws p after taken word says aims held knows told withdrawn deferred called e =
-      subst (λ (s : State). Holds s (log ++ x ∷ [])) (sym e) (acted old _ log x h h.since h.when p after (record {
+      holds_along new _ _ e (acted old _ log x h h.since h.when p after (record {
         there = seat_there old p taken;
         still_open = λ shut. taken (h.closed shut p);
         sizes = refl;

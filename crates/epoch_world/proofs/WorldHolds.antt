@@ -90,6 +90,9 @@ pub record Holds (s : State) (log : List Entry) : Type 0 where
   pub ending : EndHolds when s.tickets s.ending
   pub logged : LogHolds (view_of s since when) log
 
+pub holds_along : (new last : State) (log : List Entry) → new ≡ last → Holds last log → Holds new log
+holds_along new last log e h = subst (λ (s : State). Holds s log) (sym e) h
+
 -- a function changed at one place
 abbrev pub changed : (ℕ → ℕ) → ℕ → ℕ → ℕ → ℕ
 changed f p e q = cond (eqb q p) e (f q)
