@@ -10,7 +10,6 @@ use Rattle.epoch_pin.specs.Machine.{Machine, guards_after}
 use Rattle.epoch_world.specs.declared.world.step.Call.{Call}
 use Rattle.epoch_world.specs.declared.world.step.Call.TheVariants.{Pin, Unpin, Repin, Pause, Resume, Defer, Flush, Release}
 use Rattle.epoch_world.specs.declared.world.step.Deferral.{Deferral}
-use Rattle.epoch_world.specs.declared.world.step.Progress.{Progress}
 use Rattle.epoch_world.specs.declared.world.step.Progress.TheVariants.{Idle}
 use Rattle.epoch_world.specs.Run.{Seat, is_out, without, lowest, call_refusal, drives, begun_seat, with_guards, ended_seat}
 use Rattle.epoch_world.proofs.SeatLemmas.{guard_given}

@@ -10,5 +10,8 @@ pub mod SeatsFine
 pub mod WorldHolds
 pub mod NextStages
 pub mod SeatSteps
+pub mod GoSteps
+pub mod BagSteps
 pub mod GoesKeeps
+pub mod BeginsKeep
 pub mod GraceKept

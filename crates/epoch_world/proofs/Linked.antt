@@ -1,5 +1,5 @@
 -- Every step leaves all participants linked, and in a new world they are.
-use Rattle.std.proofs.Common.{◌≡◌, ◌≢◌, ℕ, ◌+◌, ◌<◌, ◌==◌, Bool, true, false, List, [], ◌∷◌, length, Option, Some, None, inl, inr, refl, ap, sym, subst, ◌∙◌, slice_set}
+use Rattle.std.proofs.Common.{◌≡◌, ℕ, ◌+◌, ◌<◌, ◌==◌, false, [], ◌∷◌, length, Option, Some, None, inl, inr, refl, sym, subst, ◌∙◌, slice_set}
 use Rattle.epoch_base.specs.declared.fault.Fault.{Fault}
 use Rattle.epoch_pin.specs.declared.machine.Stage.{Stage}
 use Rattle.epoch_pin.specs.declared.machine.Stage.TheVariants.{Idle as Resting, LoadPin, StorePin, ReloadPin, LoadScan, Scan, Advance, Take, Calling, LoadSeal, Put, Keep, LoadRepin, StoreRepin, ReloadRepin, StoreUnpinned, StoreFree, End}

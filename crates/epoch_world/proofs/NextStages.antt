@@ -1,11 +1,11 @@
 -- The stages that a machine goes on to are fine.
-use Rattle.std.proofs.Common.{◌≡◌, ℕ, ◌+◌, ◌-◌, ◌*◌, ◌%◌, ◌^◌, ◌<◌, ◌≤◌, ◌==◌, ◌&&◌, Bool, true, false, not, List, [], ◌∷◌, length, ◌⊎◌, inl, inr, refl, ap, sym, subst, ◌∙◌, arith, if◌then◌else◌}
+use Rattle.std.proofs.Common.{◌≡◌, ℕ, ◌+◌, ◌-◌, ◌*◌, ◌^◌, ◌<◌, ◌≤◌, ◌==◌, ◌&&◌, Bool, true, false, not, List, [], ◌∷◌, length, ◌⊎◌, inl, inr, refl, ap, sym, subst, ◌∙◌, arith, if◌then◌else◌}
 use Rattle.std.proofs.lemmas.Bool.Decides.{nat_tests}
 use Rattle.std.proofs.Math.Nat.{mul-add-mod_self_left}
 use Rattle.epoch_pin.specs.declared.machine.Action.{Action}
 use Rattle.epoch_pin.specs.declared.machine.Action.TheVariants.{Pin, Unpin, Repin, Defer, Flush, Release}
 use Rattle.epoch_pin.specs.declared.machine.Stage.{Stage}
-use Rattle.epoch_pin.specs.declared.machine.Stage.TheVariants.{LoadPin, LoadScan, Scan, Advance, Take, Calling, LoadSeal, Keep, LoadRepin, StoreUnpinned, End}
+use Rattle.epoch_pin.specs.declared.machine.Stage.TheVariants.{LoadPin, LoadScan, Scan, Advance, Take, LoadSeal, Keep, LoadRepin, StoreUnpinned, End}
 use Rattle.epoch_pin.specs.Machine.{Machine, is_empty, after_collect, after_pin, after_put, after_unpin, after_job, holds_up, scanned, past_word, first_stage, begun}
 use Rattle.epoch_world.specs.declared.world.step.Deferral.{Deferral}
 use Rattle.epoch_world.specs.declared.world.step.Word.{Word}

@@ -1,10 +1,9 @@
 -- A seat after a write, the seats beside it, and what an accepted call knows of its seat.
-use Rattle.std.proofs.Common.{◌≡◌, ◌≢◌, ℕ, ◌<◌, ◌≤◌, Bool, true, false, List, length, Option, Some, None, ◌⊎◌, inl, inr, refl, ap, arith, if◌then◌else◌, get_or-set_same, get_or-set_other}
+use Rattle.std.proofs.Common.{◌≡◌, ◌≢◌, ℕ, ◌<◌, ◌≤◌, Bool, true, false, length, Option, Some, None, ◌⊎◌, inl, inr, refl, ap, arith, if◌then◌else◌, get_or-set_same, get_or-set_other}
 use Rattle.std.proofs.lemmas.List.{get_or_past}
 use Rattle.epoch_base.specs.declared.fault.Fault.{Fault}
 use Rattle.epoch_base.specs.declared.fault.Fault.TheVariants.{NotRegistered, Busy}
 use Rattle.epoch_world.specs.declared.world.step.Call.{Call}
-use Rattle.epoch_world.specs.declared.world.step.Word.{Word}
 use Rattle.epoch_world.specs.declared.world.step.Word.TheVariants.{Free}
 use Rattle.epoch_world.specs.declared.world.step.Progress.{Progress}
 use Rattle.epoch_world.specs.declared.world.step.Progress.TheVariants.{Idle}
@@ -69,7 +68,7 @@ begin_given c seat tickets e = at_word (is_free seat.word) refl e
 
     at_word : (b : Bool) → is_free seat.word ≡ b
         → (if b then Some NotRegistered else (if is_idle seat.progress then waits_or_own c seat tickets else Some Busy))
-            ≡ None
+        ≡ None
         → IsAccepted c seat tickets
     at_word true free h = absurd (cc)
     at_word false taken h = at_progress (is_idle seat.progress) refl taken h

@@ -1,17 +1,15 @@
 -- Steps that keep what holds: nothing is changed, or one seat goes on, publishes or withdraws.
-use Rattle.std.proofs.Common.{◌≡◌, ◌≢◌, ℕ, ◌+◌, ◌<◌, ◌≤◌, Bool, true, false, List, [], ◌∷◌, ◌++◌, length, inl, inr, refl, ap, sym, subst, ◌∙◌, arith, le_of_eq}
+use Rattle.std.proofs.Common.{◌≡◌, ◌≢◌, ℕ, ◌<◌, ◌≤◌, true, false, List, [], ◌∷◌, ◌++◌, inl, inr, refl, ap, sym, ◌∙◌, arith, le_of_eq}
 use Rattle.epoch_base.specs.declared.job.Called.{Called}
-use Rattle.epoch_world.specs.declared.world.step.Reply.{Reply}
 use Rattle.epoch_world.specs.declared.world.step.Reply.TheVariants.{Deferred, Called as CalledReply}
 use Rattle.epoch_world.specs.declared.world.step.Entry.{Entry}
-use Rattle.epoch_world.specs.declared.world.step.Word.{Word}
 use Rattle.epoch_world.specs.declared.world.step.Word.TheVariants.{Free, Pinned}
 use Rattle.epoch_world.specs.Run.{Bag, Seat, State, word_of, with_seat}
 use Rattle.epoch_world.proofs.SeatLemmas.{seat_there}
 use Rattle.epoch_world.proofs.DeferralEpochs.{DeferredBy, SealedBehind}
 use Rattle.epoch_world.proofs.Log.{IsPublish, IsWithdrawal}
 use Rattle.epoch_world.proofs.QuietReplies.{IsPlain, IsQuiet}
-use Rattle.epoch_world.proofs.SeatsFine.{View, is_pinned, publishes_at, AimsAt, KnowsAt, SeatIsFine, Passes, passes_same, fine_more}
+use Rattle.epoch_world.proofs.SeatsFine.{View, is_pinned, publishes_at, AimsAt, KnowsAt, SeatIsFine, passes_same, fine_more}
 use Rattle.epoch_world.proofs.WorldHolds.{Holds, holds_along, log_push, view_of, acted, changed, changed_same, changed_other}
 
 -- the job of a ticket called was deferred before anybody who is pinned has published

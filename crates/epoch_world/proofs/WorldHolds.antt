@@ -11,7 +11,7 @@ use Rattle.epoch_world.specs.Run.{Seat, State, seat_of, word_of, with_seat, free
 use Rattle.epoch_world.proofs.SeatLemmas.{seat_written, seat_other, same_or_other}
 use Rattle.epoch_world.proofs.DeferralEpochs.{DeferredBy, SealedBehind, deferred_more}
 use Rattle.epoch_world.proofs.Log.{IsPublish, IsWithdrawal, PinnedSince, stands_push, stands_within, pinned_push, grace_push}
-use Rattle.epoch_world.proofs.SeatsFine.{View, is_pinned, IsFine, SeatIsFine, WasPinned, Passes, fine_more}
+use Rattle.epoch_world.proofs.SeatsFine.{View, is_pinned, SeatIsFine, WasPinned, Passes, fine_more}
 
 pub record LogHolds (v : View) (log : List Entry) : Type 0 where
   pub on : (p at : ℕ) → PinnedSince log p at → is_pinned (v.word p) ≡ true
