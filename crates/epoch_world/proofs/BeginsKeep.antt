@@ -19,7 +19,7 @@ use Rattle.epoch_world.proofs.CallsLinked.{none_out}
 use Rattle.epoch_world.proofs.QuietReplies.{quiet_began}
 use Rattle.epoch_world.proofs.SeatsFine.{View, IsFine, fine_next}
 use Rattle.epoch_world.proofs.WorldHolds.{Holds, view_of}
-use Rattle.epoch_world.proofs.NextStages.{Allows, next_begun}
+use Rattle.epoch_world.proofs.FirstStages.{Allows, next_begun}
 use Rattle.epoch_world.proofs.SeatSteps.{quiet_step}
 
 -- a guard that is out is counted
@@ -60,8 +60,8 @@ module _ (old new : State) (log : List Entry) (x : Entry) (h : Holds old log) (l
   counts : (g : ℕ) → is_out g seat.guards ≡ true → 0 < seat.machine.guards
   counts g out = out_counts g seat.machine.guards seat.guards (linked.seats p).counted out
 
-  pub accepted_holds : (by : Call) → call_refusal by seat old.tickets ≡ None → new ≡ with_seat old p (begun_seat by seat)
-      → Holds new (log ++ x ∷ [])
+  pub accepted_holds : (by : Call) → call_refusal by seat old.tickets ≡ None
+      → new ≡ with_seat old p (begun_seat by seat) → Holds new (log ++ x ∷ [])
   accepted_holds Pin own e = drives_holds PinAction _ tt e
   accepted_holds (Unpin None) own e = absurd (cc)
   accepted_holds (Unpin (Some g)) own e = drives_holds UnpinAction _ (counts g (guard_given _ _ _ own)) e

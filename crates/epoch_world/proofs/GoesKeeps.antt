@@ -18,7 +18,8 @@ use Rattle.epoch_world.proofs.SeatLinks.{rests, AllLinked, follows_at}
 use Rattle.epoch_world.proofs.QuietReplies.{IsQuiet, quiet_stepped, quiet_now, quiet_done, quiet_refused, quiet_end}
 use Rattle.epoch_world.proofs.SeatsFine.{View, is_pinned, IsFine, fine_next}
 use Rattle.epoch_world.proofs.WorldHolds.{Holds, view_of}
-use Rattle.epoch_world.proofs.NextStages.{next_either, next_end, next_pinned, next_unpinned, next_looked, past_seats}
+use Rattle.epoch_world.proofs.NextStages.{next_either, next_end, next_pinned, next_unpinned}
+use Rattle.epoch_world.proofs.ScanStages.{next_looked, past_seats}
 use Rattle.epoch_world.proofs.SeatSteps.{stay, quiet_step, publishes, withdraws}
 use Rattle.epoch_world.proofs.GoSteps.{moves, advances, keeps}
 use Rattle.epoch_world.proofs.BagSteps.{puts, takes, calls}
@@ -66,7 +67,8 @@ module _ (old new : State) (log : List Entry) (x : Entry) (h : Holds old log) (l
       fine.knows refl refl fine.aims fine.held (λ w. tt)
       (λ q t. elim t [ inl a ↦ cc (did.0, a) | inr a ↦ absurd (cc (did.0, a)) ])
       (λ pinned. absurd (cc (pinned, fine.agrees))) (λ t a. cc (did.0, a)) (λ t how a. cc (did.0, a)) did.1
-  go_at c ReloadPin on fine did = moves old new log x h p taken ReloadPin _ fine (next_pinned v p m fine.aims) did.0 did.1
+  go_at c ReloadPin on fine did =
+      moves old new log x h p taken ReloadPin _ fine (next_pinned v p m fine.aims) did.0 did.1
   go_at c LoadScan on fine did = moves old new log x h p taken LoadScan (Scan old.epoch 0) fine
       (record {
         publishes = refl;
@@ -86,8 +88,10 @@ module _ (old new : State) (log : List Entry) (x : Entry) (h : Holds old log) (l
       past : (j : ℕ) → m.sizes.positions ≤ j → is_pinned (word_of old j) ≡ false
       past j le = past_seats old j (omega (arith, as_many))
   go_at c (Advance e) on fine did = advances old new log x h p taken e fine (quiet_stepped x.reply did.0) did.1
-  go_at c (Take y k) on fine (step, jobs, queued, told, took, e) = takes old new log x h p taken y k fine step jobs queued took told e
-  go_at c (Calling y k) on fine (job, jobs, hand, told, e) = calls old new log x h p taken y k fine job jobs Ran hand told e
+  go_at c (Take y k) on fine (step, jobs, queued, told, took, e) =
+      takes old new log x h p taken y k fine step jobs queued took told e
+  go_at c (Calling y k) on fine (job, jobs, hand, told, e) =
+      calls old new log x h p taken y k fine job jobs Ran hand told e
   go_at c LoadSeal on fine did = moves old new log x h p taken LoadSeal (Put old.epoch) fine
       (record { publishes = refl; aims = fine.aims; knows = (omega arith, fine.held) }) did.0 did.1
   go_at c (Put s) on fine (step, queued, told, put, e) = puts old new log x h p taken s fine step queued put told e
@@ -100,7 +104,8 @@ module _ (old new : State) (log : List Entry) (x : Entry) (h : Holds old log) (l
       fine.knows refl refl fine.aims fine.held (λ w. tt)
       (λ q t. elim t [ inl a ↦ absurd (cc (did.0, a)) | inr a ↦ cc (did.0, a) ])
       (λ pinned. inr did.0) (λ t a. cc (did.0, a)) (λ t how a. cc (did.0, a)) did.1
-  go_at c ReloadRepin on fine did = moves old new log x h p taken ReloadRepin End fine (next_end v p m false fine.aims) did.0 did.1
+  go_at c ReloadRepin on fine did =
+      moves old new log x h p taken ReloadRepin End fine (next_end v p m false fine.aims) did.0 did.1
   go_at c StoreUnpinned on fine did =
       let next = next_unpinned v p m m.action m.full fine.aims in
       withdraws old new log x h p (with_word seat Unpinned (hears m StoreUnpinned Stored)) taken refl

@@ -16,7 +16,8 @@ use Rattle.epoch_world.proofs.Linked.{step_linked, fresh_linked}
 use Rattle.epoch_world.proofs.DeferralEpochs.{SealedBehind, sealed_got}
 use Rattle.epoch_world.proofs.QuietReplies.{IsPlain, plain_called, quiet_stepped, quiet_began, quiet_refused, quiet_done}
 use Rattle.epoch_world.proofs.SeatsFine.{View, is_pinned, SeatIsFine, passes_same}
-use Rattle.epoch_world.proofs.WorldHolds.{Holds, holds_along, log_push, view_of, acted, EndHolds}
+use Rattle.epoch_world.proofs.LogKept.{log_push}
+use Rattle.epoch_world.proofs.WorldHolds.{Holds, holds_along, view_of, acted, EndHolds}
 use Rattle.epoch_world.proofs.SeatSteps.{stay}
 use Rattle.epoch_world.proofs.GoesKeeps.{go_keeps}
 use Rattle.epoch_world.proofs.BeginsKeep.{accepted_holds}

@@ -7,8 +7,11 @@ pub mod DeferralEpochs
 pub mod Log
 pub mod QuietReplies
 pub mod SeatsFine
+pub mod LogKept
 pub mod WorldHolds
 pub mod NextStages
+pub mod ScanStages
+pub mod FirstStages
 pub mod SeatSteps
 pub mod GoSteps
 pub mod BagSteps

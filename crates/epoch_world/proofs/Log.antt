@@ -21,7 +21,7 @@ stands_push (first ∷ log) x zero event h = inl h
 stands_push (first ∷ log) x (suc k) event h =
     elim (stands_push log x k event h) [ inl old ↦ inl old | inr new ↦ inr (ap suc new.0, new.1) ]
 
-stands_keep : (log : List Entry) (x : Entry) (k : ℕ) (event : Reply) → Stands log k event
+pub stands_keep : (log : List Entry) (x : Entry) (k : ℕ) (event : Reply) → Stands log k event
     → Stands (log ++ x ∷ []) k event
 stands_keep [] x k event h = absurd (cc)
 stands_keep (first ∷ log) x zero event h = h
