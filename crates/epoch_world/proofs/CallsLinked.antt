@@ -10,7 +10,6 @@ use Rattle.epoch_pin.specs.Machine.{Machine, guards_after}
 use Rattle.epoch_world.specs.declared.world.step.Call.{Call}
 use Rattle.epoch_world.specs.declared.world.step.Call.TheVariants.{Pin, Unpin, Repin, Pause, Resume, Defer, Flush, Release}
 use Rattle.epoch_world.specs.declared.world.step.Deferral.{Deferral}
-use Rattle.epoch_world.specs.declared.world.step.Progress.{Progress}
 use Rattle.epoch_world.specs.declared.world.step.Progress.TheVariants.{Idle}
 use Rattle.epoch_world.specs.Run.{Seat, is_out, without, lowest, call_refusal, drives, begun_seat, with_guards, ended_seat}
 use Rattle.epoch_world.proofs.SeatLemmas.{guard_given}
@@ -48,7 +47,8 @@ module _ (sizes : Sizes) (seat : Seat) (h : IsLinked sizes seat) where
 
   -- BEGINNING
 
-  drives_linked : (a : Action) (c : Call) → a ≡ action_of c → BeganUnder c seat.guards → IsLinked sizes (drives a c seat)
+  drives_linked : (a : Action) (c : Call) → a ≡ action_of c → BeganUnder c seat.guards
+      → IsLinked sizes (drives a c seat)
   drives_linked a c action under = record {
     sized = h.sized;
     counted = h.counted;

@@ -1,102 +1,39 @@
 -- Every step keeps what holds, so no run calls a job while somebody who was pinned at its deferral has stayed pinned.
-use Rattle.std.proofs.Common.{◌≡◌, ◌≢◌, ℕ, ◌+◌, ◌<◌, ◌≤◌, ◌==◌, Bool, true, false, not, List, [], ◌∷◌, ◌++◌, append_assoc, append-nil, length, inl, inr, refl, ap, sym, subst, ◌∙◌, arith, Option, Some, None}
+use Rattle.std.proofs.Common.{◌≡◌, ℕ, ◌+◌, ◌<◌, List, [], ◌∷◌, ◌++◌, append_assoc, append-nil, length, inl, inr, refl, ap, sym, subst, arith, Option, Some, None}
 use Rattle.epoch_base.specs.declared.job.Called.{Called}
 use Rattle.epoch_base.specs.declared.fault.Fault.{Fault}
-use Rattle.epoch_pin.specs.declared.machine.Action.{Action}
-use Rattle.epoch_pin.specs.declared.machine.Action.TheVariants.{Pin as PinAction, Unpin as UnpinAction, Repin as RepinAction, Defer as DeferAction, Flush as FlushAction, Release as ReleaseAction}
-use Rattle.epoch_pin.specs.declared.machine.Stage.{Stage}
-use Rattle.epoch_pin.specs.declared.machine.Stage.TheVariants.{Idle as Resting}
-use Rattle.epoch_pin.specs.Machine.{Machine, first_stage, begun}
 use Rattle.epoch_world.specs.declared.world.step.Call.{Call}
-use Rattle.epoch_world.specs.declared.world.step.Call.TheVariants.{Pin, Unpin, Repin, Pause, Resume, Defer, Flush, Release}
 use Rattle.epoch_world.specs.declared.world.step.Step.{Step}
 use Rattle.epoch_world.specs.declared.world.step.Step.TheVariants.{Register, Begin, Go, End as EndStep, EndGo}
-use Rattle.epoch_world.specs.declared.world.step.Reply.TheVariants.{Registered, Began, Called as CalledReply}
+use Rattle.epoch_world.specs.declared.world.step.Reply.TheVariants.{Registered, Called as CalledReply}
 use Rattle.epoch_world.specs.declared.world.step.Entry.{Entry}
-use Rattle.epoch_world.specs.declared.world.step.Deferral.{Deferral}
 use Rattle.epoch_world.specs.declared.world.step.Word.TheVariants.{Free, Unpinned}
-use Rattle.epoch_world.specs.declared.world.step.Progress.{Progress}
-use Rattle.epoch_world.specs.declared.world.step.Progress.TheVariants.{Idle}
 use Rattle.epoch_world.specs.Grace.{KeepsGrace}
-use Rattle.epoch_world.specs.Run.{Bag, Seat, State, seat_of, word_of, with_seat, free_seat, is_out, Ending, Open, Emptying, Over, AllFree, call_refusal, refusal, drives, begun_seat, Begins, EndGoes, Takes, Runs, IsFresh}
-use Rattle.epoch_world.proofs.SeatLemmas.{IsAccepted, begin_given, guard_given}
-use Rattle.epoch_world.proofs.Linked.{IsLinked, AllLinked, follows_at, none_out, step_linked, fresh_linked}
-use Rattle.epoch_world.proofs.DeferralEpochs.{DeferredBy, SealedBehind, sealed_got}
+use Rattle.epoch_world.specs.Run.{Bag, Seat, State, seat_of, word_of, with_seat, free_seat, Ending, Open, Emptying, Over, AllFree, refusal, Begins, EndGoes, Takes, Runs, IsFresh}
+use Rattle.epoch_world.proofs.SeatLemmas.{begin_given}
+use Rattle.epoch_world.proofs.SeatLinks.{AllLinked}
+use Rattle.epoch_world.proofs.Linked.{step_linked, fresh_linked}
+use Rattle.epoch_world.proofs.DeferralEpochs.{SealedBehind, sealed_got}
 use Rattle.epoch_world.proofs.QuietReplies.{IsPlain, plain_called, quiet_stepped, quiet_began, quiet_refused, quiet_done}
-use Rattle.epoch_world.proofs.SeatsFine.{View, is_pinned, IsFine, SeatIsFine, IsNext, fine_next}
-use Rattle.epoch_world.proofs.WorldHolds.{Holds, LogHolds, log_push, view_of, acted, EndHolds}
-use Rattle.epoch_world.proofs.NextStages.{Allows, next_begun}
-use Rattle.epoch_world.proofs.SeatSteps.{stay, quiet_step}
+use Rattle.epoch_world.proofs.SeatsFine.{View, is_pinned, SeatIsFine, passes_same}
+use Rattle.epoch_world.proofs.LogKept.{log_push}
+use Rattle.epoch_world.proofs.WorldHolds.{Holds, holds_along, view_of, acted, EndHolds}
+use Rattle.epoch_world.proofs.SeatSteps.{stay}
 use Rattle.epoch_world.proofs.GoesKeeps.{go_keeps}
-
--- HOW A CALL BEGINS
-
--- a guard that is out is counted
-out_counts : (g n : ℕ) (guards : List ℕ) → n ≡ length guards → is_out g guards ≡ true → 0 < n
-out_counts g n [] counted out = absurd (cc)
-out_counts g n (first ∷ guards) counted out = omega arith
-
-module _ (old new : State) (log : List Entry) (x : Entry) (h : Holds old log) (linked : AllLinked old) (p : ℕ) (c : Call) (given : IsAccepted c (seat_of old p) old.tickets) (told : x.reply ≡ Began) where
-  abbrev seat : Seat
-  seat = seat_of old p
-
-  -- the machine drives the call
-  drives_holds : (a : Action) (by : Call) → Allows a seat.machine.guards → new ≡ with_seat old p (drives a by seat)
-      → Holds new (log ++ x ∷ [])
-  drives_holds a by allowed e = quiet_step old new log x h p (drives a by seat) given.taken refl
-      (quiet_began x.reply told)
-      (fine_next v p seat.word m (begun a m) Resting (first_stage a m) at_rest (next_begun v p m a allowed) (h.seats p).held)
-      e
-    where
-      v : View
-      v = view_of old h.since h.when
-
-      m : Machine Deferral
-      m = seat.machine
-
-      at_rest : IsFine v p seat.word m Resting
-      at_rest = subst (λ (s : Stage). IsFine v p seat.word m s)
-          (follows_at old.sizes seat (linked.seats p) Idle given.idle) (h.seats p)
-
-  -- nothing is driven
-  waits_holds : (progress : Progress) → new ≡ with_seat old p (record seat { progress = progress })
-      → Holds new (log ++ x ∷ [])
-  waits_holds progress e = quiet_step old new log x h p (record seat { progress = progress }) given.taken refl
-      (quiet_began x.reply told) (h.seats p) e
-
-  counts : (g : ℕ) → is_out g seat.guards ≡ true → 0 < seat.machine.guards
-  counts g out = out_counts g seat.machine.guards seat.guards (linked.seats p).counted out
-
-  accepted_holds : (by : Call) → call_refusal by seat old.tickets ≡ None → new ≡ with_seat old p (begun_seat by seat)
-      → Holds new (log ++ x ∷ [])
-  accepted_holds Pin own e = drives_holds PinAction _ tt e
-  accepted_holds (Unpin None) own e = absurd (cc)
-  accepted_holds (Unpin (Some g)) own e = drives_holds UnpinAction _ (counts g (guard_given _ _ _ own)) e
-  accepted_holds (Repin None) own e = waits_holds _ e
-  accepted_holds (Repin (Some g)) own e = drives_holds RepinAction _ (counts g (guard_given _ _ _ own)) e
-  accepted_holds (Pause None) own e = waits_holds _ e
-  accepted_holds (Pause (Some g)) own e = drives_holds UnpinAction _ (counts g (guard_given _ _ _ own)) e
-  accepted_holds (Resume None) own e = waits_holds _ e
-  accepted_holds (Resume (Some g)) own e = drives_holds PinAction _ tt e
-  accepted_holds (Defer None) own e = waits_holds _ e
-  accepted_holds (Defer (Some g)) own e = drives_holds DeferAction _ (counts g (guard_given _ _ _ own)) e
-  accepted_holds (Flush None) own e = waits_holds _ e
-  accepted_holds (Flush (Some g)) own e = drives_holds FlushAction _ (counts g (guard_given _ _ _ own)) e
-  accepted_holds Release own e =
-      drives_holds ReleaseAction _ ((linked.seats p).counted ∙ none_out _ (guard_given _ _ _ own)) e
+use Rattle.epoch_world.proofs.BeginsKeep.{accepted_holds}
 
 -- EVERY STEP
 
 module _ (old new : State) (log : List Entry) (x : Entry) (h : Holds old log) (linked : AllLinked old) where
-  begins : (p : ℕ) (c : Call) (r : Option Fault) → refusal c (seat_of old p) old.tickets ≡ r → Begins old p c r x.reply new
-      → Holds new (log ++ x ∷ [])
+  begins : (p : ℕ) (c : Call) (r : Option Fault) → refusal c (seat_of old p) old.tickets ≡ r
+      → Begins old p c r x.reply new → Holds new (log ++ x ∷ [])
   begins p c (Some f) e did = stay old new log x h (quiet_refused x.reply f did.0) did.1
   begins p c None e did = let given = begin_given c (seat_of old p) old.tickets e in
       accepted_holds old new log x h linked p c given did.0 c given.own did.1
 
   registers : (p : ℕ) → old.ending ≡ Open → p < length old.seats → word_of old p ≡ Free → x.reply ≡ Registered p
       → new ≡ with_seat old p (record (free_seat old.sizes) { word = Unpinned }) → Holds new (log ++ x ∷ [])
-  registers p opened lt free told did = subst (λ (s : State). Holds s (log ++ x ∷ [])) (sym did)
+  registers p opened lt free told did = holds_along new _ _ did
       (acted old _ log x h h.since h.when p (record (free_seat old.sizes) { word = Unpinned }) (record {
         there = lt;
         still_open = λ shut. shut opened;
@@ -130,7 +67,7 @@ module _ (old new : State) (log : List Entry) (x : Entry) (h : Holds old log) (l
       → ((t : ℕ) (how : Called) → x.reply ≡ CalledReply t how → t < old.tickets)
       → SealedBehind h.when old.tickets old.epoch queued → EndHolds h.when old.tickets ending
       → new ≡ record old { queued = queued; ending = ending } → Holds new (log ++ x ∷ [])
-  closes queued ending free plain called sealed ends did = subst (λ (s : State). Holds s (log ++ x ∷ [])) (sym did) (record {
+  closes queued ending free plain called sealed ends did = holds_along new _ _ did (record {
     since = h.since;
     when = h.when;
     seats = h.seats;
@@ -138,7 +75,7 @@ module _ (old new : State) (log : List Entry) (x : Entry) (h : Holds old log) (l
     closed = λ shut. free;
     ending = ends;
     logged = log_push v v log x h.logged
-        (record { epoch = omega arith; tickets = omega arith; when = λ t lt. refl; pinned = λ j pinned. inl (pinned, refl) })
+        (passes_same v)
         (record {
           published = λ p told. absurd (plain.published p told);
           lasting = λ p pinned on. (pinned, refl);
@@ -154,7 +91,8 @@ module _ (old new : State) (log : List Entry) (x : Entry) (h : Holds old log) (l
   end_goes Open e did = stay old new log x h (quiet_refused x.reply _ did.0) did.1
   end_goes Over e did = stay old new log x h (quiet_refused x.reply _ did.0) did.1
   end_goes (Emptying (job ∷ jobs) n) e did =
-      let hand : EndHolds h.when old.tickets (Emptying (job ∷ jobs) n) = subst (EndHolds h.when old.tickets) e h.ending in
+      let hand : EndHolds h.when old.tickets (Emptying (job ∷ jobs) n) =
+      subst (EndHolds h.when old.tickets) e h.ending in
       closes old.queued (Emptying jobs (n + 1)) (h.closed (λ opened. absurd (cc (opened, e))))
       (plain_called x.reply job.ticket _ did.0)
       (λ t how a. let same : job.ticket ≡ t = cc (did.0, a) in omega (arith, same, hand.1.0))
@@ -177,7 +115,8 @@ module _ (old new : State) (log : List Entry) (x : Entry) (h : Holds old log) (l
   takes_step (Go p) (inl did) = stay old new log x h (quiet_refused x.reply _ did.1) did.2
   takes_step (Go p) (inr did) = go_keeps old new log x h linked p did.0 (seat_of old p).progress refl did.1
   takes_step EndStep (inl (opened, free, told, did)) = let quiet = quiet_began x.reply told in
-      closes old.queued (Emptying [] 0) free quiet.plain (λ t how a. absurd (quiet.called t how a)) h.queued (0, tt) did
+      closes old.queued (Emptying [] 0) free quiet.plain (λ t how a. absurd (quiet.called t how a)) h.queued
+      (0, tt) did
   takes_step EndStep (inr (inl did)) = stay old new log x h (quiet_refused x.reply _ did.2) did.3
   takes_step EndStep (inr (inr did)) = stay old new log x h (quiet_refused x.reply _ did.1) did.2
   takes_step EndGo did = end_goes old.ending refl did
@@ -187,7 +126,7 @@ module _ (old new : State) (log : List Entry) (x : Entry) (h : Holds old log) (l
 runs_hold : (old new : State) (log entries : List Entry) → AllLinked old → Holds old log → Runs old entries new
     → Holds new (log ++ entries)
 runs_hold old new log [] linked h run =
-    subst (λ (s : State). Holds s (log ++ [])) (sym run) (subst (Holds old) (sym (append-nil log)) h)
+    holds_along new old _ run (subst (Holds old) (sym (append-nil log)) h)
 runs_hold old new log (x ∷ entries) linked h (mid, did, run) =
     subst (Holds new) (append_assoc log (x ∷ []) entries)
     (runs_hold mid new (log ++ x ∷ []) entries (step_linked old mid x.step x.reply linked did)
@@ -219,4 +158,5 @@ fresh_holds s fresh = record {
 }
 
 pub every_run_keeps_grace : (s new : State) (log : List Entry) → IsFresh s → Runs s log new → KeepsGrace log
-every_run_keeps_grace s new log fresh run = (runs_hold s new [] log (fresh_linked s fresh) (fresh_holds s fresh) run).logged.grace
+every_run_keeps_grace s new log fresh run =
+    (runs_hold s new [] log (fresh_linked s fresh) (fresh_holds s fresh) run).logged.grace

@@ -7,11 +7,17 @@ pub mod DeferralEpochs
 pub mod Log
 pub mod QuietReplies
 pub mod SeatsFine
+pub mod LogKept
 pub mod WorldHolds
 pub mod NextStages
+pub mod ScanStages
+pub mod FirstStages
 pub mod SeatSteps
 pub mod LowestGuard
+pub mod GoSteps
+pub mod BagSteps
 pub mod GoesKeeps
+pub mod BeginsKeep
 pub mod GraceKept
 pub mod TicketSums
 pub mod JobsPlaced

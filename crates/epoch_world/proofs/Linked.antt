@@ -1,5 +1,5 @@
 -- Every step leaves all participants linked, and in a new world they are.
-use Rattle.std.proofs.Common.{◌≡◌, ◌≢◌, ℕ, ◌+◌, ◌<◌, ◌==◌, Bool, true, false, List, [], ◌∷◌, length, Option, Some, None, inl, inr, refl, ap, sym, subst, ◌∙◌, slice_set}
+use Rattle.std.proofs.Common.{◌≡◌, ℕ, ◌+◌, ◌<◌, ◌==◌, false, [], ◌∷◌, length, Option, Some, None, inl, inr, refl, sym, subst, ◌∙◌, slice_set}
 use Rattle.epoch_base.specs.declared.fault.Fault.{Fault}
 use Rattle.epoch_pin.specs.declared.machine.Stage.{Stage}
 use Rattle.epoch_pin.specs.declared.machine.Stage.TheVariants.{Idle as Resting, LoadPin, StorePin, ReloadPin, LoadScan, Scan, Advance, Take, Calling, LoadSeal, Put, Keep, LoadRepin, StoreRepin, ReloadRepin, StoreUnpinned, StoreFree, End}
@@ -74,8 +74,8 @@ module _ (old new : State) (p : ℕ) (reply : Reply) (h : AllLinked old) (there 
   go_at c drive (Take x k) on (step, jobs, queued, told, took, e) =
       goes_on c drive _ _ (take_goes_on m x k step jobs (follows (Driven c) drive).under_way) _ e refl refl
   go_at c drive (Calling x k) on (job, jobs, hand, told, e) =
-      goes_on c drive _ _ (record { sized = refl; counted = refl; action = refl; under_way = job_on m x k jobs }) _ e refl
-      refl
+      goes_on c drive _ _ (record { sized = refl; counted = refl; action = refl; under_way = job_on m x k jobs })
+      _ e refl refl
   go_at c drive LoadSeal on did = moves c drive _ refl did.1
   go_at c drive (Put s) on (step, queued, told, puts, e) =
       goes_on c drive _ _ (put_goes_on m step (follows (Driven c) drive).under_way) _ e refl refl
@@ -90,7 +90,8 @@ module _ (old new : State) (p : ℕ) (reply : Reply) (h : AllLinked old) (there 
       goes_on c drive _ _ (going_on m _ (unpin_on m.action m.full)) _ did.1 refl refl
   go_at c drive StoreFree on did = writes (free_seat old.sizes) (free_linked old.sizes) _ did.1 refl refl
   go_at c drive End on did =
-      writes (ended_seat c seat) (ended_linked old.sizes seat (h.seats p) c (follows (Driven c) drive)) _ did.1 refl refl
+      writes (ended_seat c seat) (ended_linked old.sizes seat (h.seats p) c (follows (Driven c) drive))
+      _ did.1 refl refl
 
   go_linked : (progress : Progress) → seat.progress ≡ progress → Goes old p seat progress reply new → AllLinked new
   go_linked Idle e did = subst AllLinked (sym did.1) h

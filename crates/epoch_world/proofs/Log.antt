@@ -21,7 +21,8 @@ stands_push (first ∷ log) x zero event h = inl h
 stands_push (first ∷ log) x (suc k) event h =
     elim (stands_push log x k event h) [ inl old ↦ inl old | inr new ↦ inr (ap suc new.0, new.1) ]
 
-pub stands_keep : (log : List Entry) (x : Entry) (k : ℕ) (event : Reply) → Stands log k event → Stands (log ++ x ∷ []) k event
+pub stands_keep : (log : List Entry) (x : Entry) (k : ℕ) (event : Reply) → Stands log k event
+    → Stands (log ++ x ∷ []) k event
 stands_keep [] x k event h = absurd (cc)
 stands_keep (first ∷ log) x zero event h = h
 stands_keep (first ∷ log) x (suc k) event h = stands_keep log x k event h
@@ -51,7 +52,8 @@ withdraws_keep : (log : List Entry) (x : Entry) (k p : ℕ) → Withdraws log k 
 withdraws_keep log x k p (inl h) = inl (stands_keep log x k _ h)
 withdraws_keep log x k p (inr h) = inr (stands_keep log x k _ h)
 
-withdraws_new : (log : List Entry) (x : Entry) (p : ℕ) → IsWithdrawal x.reply p → Withdraws (log ++ x ∷ []) (length log) p
+withdraws_new : (log : List Entry) (x : Entry) (p : ℕ) → IsWithdrawal x.reply p
+    → Withdraws (log ++ x ∷ []) (length log) p
 withdraws_new log x p (inl h) = inl (stands_new log x ∙ ap Some h)
 withdraws_new log x p (inr h) = inr (stands_new log x ∙ ap Some h)
 

@@ -1,5 +1,5 @@
 -- Replies that tell nothing of pins and deferrals.
-use Rattle.std.proofs.Common.{◌≡◌, ◌≢◌, ℕ, Bool, true, false, None, Some, inl, inr}
+use Rattle.std.proofs.Common.{◌≡◌, ◌≢◌, ℕ, Bool, true, false, inl, inr}
 use Rattle.epoch_base.specs.declared.job.Called.{Called}
 use Rattle.epoch_base.specs.declared.fault.Fault.{Fault}
 use Rattle.epoch_world.specs.declared.world.step.Answer.{Answer}

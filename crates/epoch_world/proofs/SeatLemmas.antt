@@ -1,10 +1,9 @@
 -- A seat after a write, the seats beside it, and what an accepted call knows of its seat.
-use Rattle.std.proofs.Common.{◌≡◌, ◌≢◌, ℕ, ◌<◌, ◌≤◌, Bool, true, false, List, length, Option, Some, None, ◌⊎◌, inl, inr, refl, ap, arith, if◌then◌else◌, get_or-set_same, get_or-set_other}
+use Rattle.std.proofs.Common.{◌≡◌, ◌≢◌, ℕ, ◌<◌, ◌≤◌, Bool, true, false, length, Option, Some, None, ◌⊎◌, inl, inr, refl, ap, arith, if◌then◌else◌, get_or-set_same, get_or-set_other}
 use Rattle.std.proofs.lemmas.List.{get_or_past}
 use Rattle.epoch_base.specs.declared.fault.Fault.{Fault}
 use Rattle.epoch_base.specs.declared.fault.Fault.TheVariants.{NotRegistered, Busy}
 use Rattle.epoch_world.specs.declared.world.step.Call.{Call}
-use Rattle.epoch_world.specs.declared.world.step.Word.{Word}
 use Rattle.epoch_world.specs.declared.world.step.Word.TheVariants.{Free}
 use Rattle.epoch_world.specs.declared.world.step.Progress.{Progress}
 use Rattle.epoch_world.specs.declared.world.step.Progress.TheVariants.{Idle}
@@ -38,12 +37,19 @@ same_or_other q p = grind arith
 pub record IsAccepted (c : Call) (seat : Seat) (tickets : ℕ) : Type 0 where
   pub taken : seat.word ≢ Free
   pub idle : seat.progress ≡ Idle
-  pub awake : waits c seat.paused ≡ false
+  pub awake : waits c seat.paused ≡ false  -- who is paused only resumes
   pub own : call_refusal c seat tickets ≡ None
 
 idle_is : (progress : Progress) → is_idle progress ≡ true → progress ≡ Idle
 idle_is Idle h = refl
 idle_is _ h = absurd (cc)
+
+-- what is tested of a seat that is taken and idle, and of one that is taken
+abbrev waits_or_own : Call → Seat → ℕ → Option Fault
+waits_or_own c seat tickets = if waits c seat.paused then Some Busy else call_refusal c seat tickets
+
+abbrev idle_or_busy : Call → Seat → ℕ → Option Fault
+idle_or_busy c seat tickets = if is_idle seat.progress then waits_or_own c seat tickets else Some Busy
 
 pub begin_given : (c : Call) (seat : Seat) (tickets : ℕ) → refusal c seat tickets ≡ None → IsAccepted c seat tickets
 begin_given c seat tickets e = at_word (is_free seat.word) refl e
@@ -59,13 +65,12 @@ begin_given c seat tickets e = at_word (is_free seat.word) refl e
     }
 
     at_progress : (b : Bool) → is_idle seat.progress ≡ b → is_free seat.word ≡ false
-        → (if b then (if waits c seat.paused then Some Busy else call_refusal c seat tickets) else Some Busy) ≡ None → IsAccepted c seat tickets
+        → (if b then waits_or_own c seat tickets else Some Busy) ≡ None → IsAccepted c seat tickets
     at_progress true idle taken h = at_pause (waits c seat.paused) refl idle taken h
     at_progress false idle taken h = absurd (cc)
 
     at_word : (b : Bool) → is_free seat.word ≡ b
-        → (if b then Some NotRegistered else (if is_idle seat.progress then (if waits c seat.paused then Some Busy else call_refusal c seat tickets) else Some Busy)) ≡ None
-        → IsAccepted c seat tickets
+        → (if b then Some NotRegistered else idle_or_busy c seat tickets) ≡ None → IsAccepted c seat tickets
     at_word true free h = absurd (cc)
     at_word false taken h = at_progress (is_idle seat.progress) refl taken h
 

@@ -46,10 +46,13 @@ linked_under old new q seat sizes found h =
 pub linked_written : (old new : State) (p : ℕ) (seat : Seat) → AllLinked old → p < length old.seats
     → new.sizes ≡ old.sizes → new.seats ≡ slice_set old.seats p seat → IsLinked old.sizes seat → AllLinked new
 linked_written old new p seat h there sizes seats linked = record {
-  positions = ap (λ (z : Sizes). z.positions) sizes ∙ h.positions ∙ sym (ap length seats ∙ length-set old.seats p seat);
+  positions = ap (λ (z : Sizes). z.positions) sizes ∙ h.positions ∙ sym (ap length seats ∙ as_many);
   seats = λ q. by_position q (same_or_other q p);
 }
   where
+    as_many : length (slice_set old.seats p seat) ≡ length old.seats
+    as_many = length-set old.seats p seat
+
     found : (q : ℕ) → seat_of new q ≡ seat_of (with_seat old p seat) q
     found q = ap (λ (ss : List Seat). slice_index_or ss q (free_seat new.sizes)) seats
         ∙ ap (λ (z : Sizes). slice_index_or (slice_set old.seats p seat) q (free_seat z)) sizes
