@@ -16,6 +16,7 @@ use Rattle.epoch_world.specs.declared.world.step.Progress.TheVariants.{Idle, Dri
 use Rattle.epoch_world.specs.Run.{Seat, State, seat_of, word_of, with_seat, number_of, free_seat, begun_seat, refusal, Begins, Performs, Drives, Goes, Takes}
 use Rattle.epoch_world.specs.Seats.{Shared, shared, SeatPerforms}
 use Rattle.epoch_world.specs.Worlds.{is_driven, IsDrivenAt}
+use Rattle.epoch_world.specs.Kept.{AllLinked}
 
 -- an element within a list is the same for every default
 pub same_within : {A : Type 0} (xs : List A) (p : ℕ) (d e : A) → p < length xs → slice_index_or xs p d ≡ slice_index_or xs p e
@@ -78,3 +79,14 @@ pub perform_takes : (old new : State) (p : ℕ) (seat : Seat) (reply : Reply) (a
 perform_takes old new p seat reply ask is driven did =
     go_takes old new p seat reply is (λ free. driven.taken (ap (λ (q : Seat). q.word) (sym is) ∙ free))
       (drives_by old new p seat reply ask seat.progress (ap (λ (q : Seat). is_driven q.progress) is ∙ driven.under_way) (ap (λ (q : Seat). asks q.machine) is ∙ driven.asked) did)
+
+-- the whole of a step Go that performs an ask, from the participant's part of it
+pub performed : (old now new : State) (p word : ℕ) (seat after : Seat) (reply : Reply) (ask : Ask) (h : Shared) → old ≡ now → AllLinked old
+    → seat ≡ seat_of old p → IsDrivenAt now p ask → ((k : ℕ) → ask ≡ LoadWord k → word ≡ number_of (word_of now k))
+    → SeatPerforms seat.machine.sizes p word (shared old.epoch old.queued old.tickets) seat seat.machine.stage ask reply after h
+    → new ≡ record (with_seat old p after) { epoch = h.epoch; queued = h.queued; tickets = h.tickets }
+    → Takes old (Go p) reply new
+performed old now new p word seat after reply ask h is linked there driven found did e =
+    perform_takes old new p seat reply ask there (subst (λ (s : State). IsDrivenAt s p ask) (sym is) driven)
+      (performs_by old new p word seat after reply h e ask (ap (λ (q : Seat). q.machine.sizes) there ∙ (linked.seats p).sized)
+        (λ k asked. found k asked ∙ ap (λ (s : State). number_of (word_of s k)) (sym is)) did)
