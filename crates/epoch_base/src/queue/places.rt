@@ -144,6 +144,17 @@ fn fill<J: Default + Drop>(
     true
 }
 
+/// Takes out the bag at home, whoever claims the place.
+fn clear<J: Drop>(places: &mut Places<J>, place: usize) -> Option<SealedBag<J>>
+    requires { place < length places.old.words }
+    ensures bag { result ≡ slice_index_or places.old.bags place None }
+    ensures words { places.new.words ≡ slice_set places.old.words place 0 }
+    ensures bags { places.new.bags ≡ slice_set places.old.bags place None }
+{
+    places.words[place] = EMPTY;
+    places.bags[place].take()
+}
+
 /// Moves the bag at home into the hand, where it is expired. Else the place is let go with its bag.
 #[inline(never)]
 fn empty<J: Drop>(
@@ -165,8 +176,7 @@ fn empty<J: Drop>(
         places.words[place] = 2 * bag.seal() + 1;
         return false;
     }
-    places.words[place] = EMPTY;
-    if let Some(bag) = places.bags[place].take() {
+    if let Some(bag) = clear(places, place) {
         *hand = bag;
     }
     true
@@ -213,17 +223,6 @@ fn has_bag<J>(places: &Places<J>, place: usize) -> bool
     ensures { IsTrue result ↔ IsSome (slice_index_or places.now.bags place None) }
 {
     places.bags[place].is_some()
-}
-
-/// Takes out the bag at home, whoever claims the place.
-fn clear<J: Drop>(places: &mut Places<J>, place: usize) -> Option<SealedBag<J>>
-    requires { place < length places.old.words }
-    ensures bag { result ≡ slice_index_or places.old.bags place None }
-    ensures words { places.new.words ≡ slice_set places.old.words place 0 }
-    ensures bags { places.new.bags ≡ slice_set places.old.bags place None }
-{
-    places.words[place] = EMPTY;
-    places.bags[place].take()
 }
 
 impl<J: Default + Drop> BagStore for Places<J> {

@@ -232,9 +232,9 @@ fn a_bag_is_taken_from_two_epochs_after_its_seal_on(rt: HostRuntime) -> Result<(
 fn an_end_takes_every_bag(rt: HostRuntime) -> Result<(), Fail> {
     let mut places: Places<u64> = BagStore::with_room(rt.alloc(), 2)?;
     let mut cursor = places.start_put();
-    for _ in 0..3 {
-        let _ = put(&mut places, &mut cursor, 9, 1);
-    }
+    assert_eq!(rt; put(&mut places, &mut cursor, 9, 1), PutStep::Again);
+    assert_eq!(rt; put(&mut places, &mut cursor, 9, 1), PutStep::Again);
+    assert_eq!(rt; put(&mut places, &mut cursor, 9, 1), PutStep::Done);
     let got = places.take_any().and_then(|mut bag| bag.take_next());
     assert_eq!(rt; (got, places.word(0)), (Some(1), Some(0)));
     assert!(rt; places.take_any().is_none());
