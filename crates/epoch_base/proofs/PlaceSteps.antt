@@ -167,15 +167,14 @@ clears_bag homes new at None is there cleared = absurd (nothing (slice_index_or 
 clears_bag {J} homes new at (Some bag) is there cleared =
     subst (λ (l : List (Option (Sealed J))). IsInserted bag (bags_in l) (bags_in homes)) (sym cleared) (take_out homes at bag (sym is))
 
--- where nobody claims, nobody does after a place is cleared
-pub clears_claim : {J : Type 0} (old new : PlaceList J) (at : ℕ) → at < length old.words → ((place : ℕ) → ¬ (IsClaimedAt old place))
-    → new.words ≡ slice_set old.words at 0 → new.bags ≡ slice_set old.bags at None → (place : ℕ) → ¬ (IsClaimedAt new place)
-clears_claim {J} old new at within free words bags place claimed = elim (same_or_not place at) [
+-- clearing a place claims none
+pub clears_claim : {J : Type 0} (old new : PlaceList J) (at : ℕ) → at < length old.words
+    → new.words ≡ slice_set old.words at 0 → new.bags ≡ slice_set old.bags at None → (place : ℕ) → IsClaimedAt new place → IsClaimedAt old place
+clears_claim {J} old new at within words bags place claimed = elim (same_or_not place at) [
   | inl same ↦
       let zero_word : slice_index_or new.words place 0 ≡ 0 = ap (λ k. slice_index_or new.words k 0) same ∙ ap (λ (l : List ℕ). slice_index_or l at 0) words ∙ get_or-set_same old.words at 0 0 within in
       absurd (omega (arith, zero_word, claimed.0))
-  | inr differs ↦
-      free place (
+  | inr differs ↦ (
         sym (get_or-set_other old.words at place 0 0 differs) ∙ ap (λ (l : List ℕ). slice_index_or l place 0) (sym words) ∙ claimed.0,
         subst IsSome (ap (λ (l : List (Option (Sealed J))). slice_index_or l place None) bags ∙ get_or-set_other old.bags at place None None differs) claimed.1,
       )

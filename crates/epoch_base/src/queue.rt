@@ -154,10 +154,9 @@ pub trait BagStore {
     ///
     /// For an end, with nobody else at work; it is no atomic step.
     fn take_any(&mut self) -> Option<SealedBag<Self::Job>>
-        requires { (place : ℕ) → ¬ (Claimed self.old place) }
         ensures bag { TakesAny (queued self.old) result (queued self.new) }
         ensures capacity { capacity self.new ≡ capacity self.old }
-        ensures claims { (place : ℕ) → ¬ (Claimed self.new place) };
+        ensures claims { (place : ℕ) → Claimed self.new place → Claimed self.old place };
 
     ghost place_for_each: { (store : Self) → length (occupied store) ≡ capacity store };
 }

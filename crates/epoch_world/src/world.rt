@@ -155,6 +155,50 @@ impl<S: BagStore<Job = Deferral>> World<S> {
         )
     }
 
+    fn begin_end(&mut self) -> Reply
+        ensures { Takes self.old EndStep result self.new }
+    {
+        let EndStage::Open = self.end else {
+            return Reply::Refused(Fault::Ended);
+        };
+        if !all_free(self.seats.as_slice()) {
+            return Reply::Refused(Fault::ParticipantsLeft);
+        }
+        self.end = EndStage::Emptying;
+        self.count = 0;
+        Reply::Began
+    }
+
+    fn go_on_end(&mut self) -> Reply
+        ensures { Takes self.old EndGo result self.new }
+    {
+        match self.end {
+            EndStage::Open | EndStage::Over => Reply::Refused(Fault::Idle),
+            EndStage::Emptying => self.empty(),
+        }
+    }
+
+    /// Calls the next job of the bag taken, or takes another bag, or is over.
+    fn empty(&mut self) -> Reply
+        requires { IsEmptying self.old.ending }
+        ensures { Takes self.old EndGo result self.new }
+    {
+        if let Some(job) = self.hand.take_next() {
+            self.count += 1;
+            return Reply::Called(job.ticket, Called::Ran);
+        }
+        match self.store.take_any() {
+            Some(bag) => {
+                self.hand = bag;
+                Reply::Stepped
+            }
+            None => {
+                self.end = EndStage::Over;
+                Reply::Done(Answer::Count(self.count))
+            }
+        }
+    }
+
     fn number_at(&self, index: usize) -> u64
         ensures { result ≡ number_of (word_of self.now index) }
     {

@@ -13,7 +13,8 @@ invariant_of-self g c =
     let old : State =
         state_of c.self.inside.sizes c.self.inside.epoch c.self.inside.seats.items (g.S.BagStore.queued c.self.inside.store) c.self.inside.tickets
         (ending_of c.self.inside.end c.self.inside.hand.jobs c.self.inside.count) in
-    let there : c.args.index < length c.self.inside.seats.items = omega arith in
+    let there : c.args.index < length c.self.inside.seats.items =
+        subst (λ (s : State). c.args.index < length s.seats) (sym c.self.view_is) c.requires.there in
     record {
       sized = c.self.invariant.sized;
       epoch = c.perform.ensures.within;
@@ -33,7 +34,8 @@ returns g c =
     let old : State =
         state_of c.self.inside.sizes c.self.inside.epoch c.self.inside.seats.items (g.S.BagStore.queued c.self.inside.store) c.self.inside.tickets
         (ending_of c.self.inside.end c.self.inside.hand.jobs c.self.inside.count) in
-    let there : c.args.index < length c.self.inside.seats.items = omega arith in
+    let there : c.args.index < length c.self.inside.seats.items =
+        subst (λ (s : State). c.args.index < length s.seats) (sym c.self.view_is) c.requires.there in
     subst (λ (s : State). Takes s (Go c.args.index) c.perform.result _) c.self.view_is
       (performed old c.args.self.now _ c.args.index c.number_at-word.result c.index_mut-seat.result.now c.perform.new.self c.perform.result c.args.ask
         (shared c.perform.new.epoch (g.S.BagStore.queued c.perform.new.store) c.perform.new.tickets) c.self.view_is c.self.invariant.kept.linked

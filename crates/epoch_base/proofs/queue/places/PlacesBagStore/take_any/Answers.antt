@@ -11,9 +11,10 @@ returns-then-has_bag-clause-bag g c =
     (clears_bag c.loop-place.self.bags c.clear.new.places.bags c.loop-place.place c.clear.result c.clear.ensures.bag (c.has_bag.ensures.0 c.if-has_bag.true) c.clear.ensures.bags)
 
 pub returns-then-has_bag-clause-claims : goal.returns-then-has_bag-clause-claims
-returns-then-has_bag-clause-claims g c =
-    clears_claim c.loop-place.self c.clear.new.places c.loop-place.place (omega (arith, ap (λ (p : PlaceList g.row.J.Denot). length p.words) c.loop-place.invariant.same))
-    (λ place claimed. c.requires place (subst (λ (p : PlaceList g.row.J.Denot). IsClaimedAt p place) c.loop-place.invariant.same claimed)) c.clear.ensures.words c.clear.ensures.bags
+returns-then-has_bag-clause-claims g c place claimed =
+    subst (λ (p : PlaceList g.row.J.Denot). IsClaimedAt p place) c.loop-place.invariant.same
+      (clears_claim c.loop-place.self c.clear.new.places c.loop-place.place (omega (arith, ap (λ (p : PlaceList g.row.J.Denot). length p.words) c.loop-place.invariant.same))
+        c.clear.ensures.words c.clear.ensures.bags place claimed)
 
 pub returns-clause-bag : goal.returns-clause-bag
 returns-clause-bag g c =
