@@ -23,14 +23,13 @@ entries_push (t ∷ ss) [] s r e = absurd (omega arith)
 entries_push (t ∷ ss) (y ∷ rs) s r e = ap (λ es. record { step = t; reply = y } ∷ es) (entries_push ss rs s r (omega arith))
 
 -- the run of the first i steps goes on by the next one
-pub runs_more : (s t u : State) (steps : List Step) (i : ℕ) (replies later : List Reply) (step : Step) (r : Reply) → i < length steps → length replies ≡ i
-    → step ≡ get_or steps i step → later ≡ replies ++ r ∷ []
-    → Runs s (entries_of (take i steps) replies) t → Takes t step r u → Runs s (entries_of (take (i + 1) steps) later) u
-runs_more s t u steps i replies later step r lt count is more run did =
-    let steps_so_far : take (i + 1) steps ≡ take i steps ++ step ∷ [] = take_more steps i step lt ∙ ap (λ (x : Step). take i steps ++ x ∷ []) (sym is) in
-    let same : entries_of (take (i + 1) steps) later ≡ entries_of (take i steps) replies ++ record { step = step; reply = r } ∷ [] =
-    ap₂ entries_of steps_so_far more ∙ entries_push (take i steps) replies step r (omega (arith, count, length-take i steps)) in
-    subst (λ (es : List Entry). Runs s es u) (sym same) (runs_push s t u _ (record { step = step; reply = r }) run did)
+pub runs_more : (s t u : State) (steps : List Step) (i : ℕ) (d : Step) (replies later : List Reply) (r : Reply) → i < length steps → length replies ≡ i
+    → later ≡ replies ++ r ∷ []
+    → Runs s (entries_of (take i steps) replies) t → Takes t (get_or steps i d) r u → Runs s (entries_of (take (i + 1) steps) later) u
+runs_more s t u steps i d replies later r lt count more run did =
+    let same : entries_of (take (i + 1) steps) later ≡ entries_of (take i steps) replies ++ record { step = get_or steps i d; reply = r } ∷ [] =
+        ap₂ entries_of (take_more steps i d lt) more ∙ entries_push (take i steps) replies (get_or steps i d) r (omega (arith, count, length-take i steps)) in
+    subst (λ (es : List Entry). Runs s es u) (sym same) (runs_push s t u _ (record { step = get_or steps i d; reply = r }) run did)
 
 -- the run of all steps
 pub runs_whole : (s t : State) (steps : List Step) (i : ℕ) (replies : List Reply) → length steps ≤ i
