@@ -1,124 +1,132 @@
 -- What a machine asks from the beginning of each action on follows the table.
-use Rattle.std.proofs.Common.{◌≡◌, ℕ, ◌+◌, ◌%◌, ◌==◌, Bool, true, false, List, [], ◌∷◌, ◌++◌, length, refl, arith}
+use Rattle.std.proofs.Common.{◌≡◌, ℕ, ◌+◌, ◌%◌, ◌==◌, true, false, List, [], ◌∷◌, ◌++◌, length, refl, arith}
 use Rattle.std.proofs.lemmas.Bool.Decides.{nat_tests}
 use Rattle.epoch_pin.specs.declared.machine.Action.{Action}
 use Rattle.epoch_pin.specs.declared.machine.Action.TheVariants.{Pin, Unpin, Repin, Defer, Flush, Release}
 use Rattle.epoch_pin.specs.declared.machine.Stage.TheVariants.{LoadPin, StorePin, ReloadPin, LoadScan, LoadSeal, Put, Keep, LoadRepin, StoreRepin, ReloadRepin, StoreUnpinned, StoreFree, End}
 use Rattle.epoch_pin.specs.declared.machine.Ask.TheVariants.{StorePinned, StoreRepinned, StoreUnpinned as AskUnpinned, StoreFree as AskFree}
 use Rattle.epoch_pin.specs.Machine.{Machine, IsSized, with_stage, begun, after_collect, after_put, is_empty, fresh}
-use Rattle.epoch_pin.specs.Asks.{Exchange, Asked, asks_more, Part, Ends, Choose, Stores, Keeps, Puts, Pins, Follows}
-use Rattle.epoch_pin.proofs.Exchanges.{ends_follow, loads_follow, stores_follow, keeps_follow, put_steps_follow}
-use Rattle.epoch_pin.proofs.CollectionAsks.{choice_follows, goes_by, collected, collects_follow}
+use Rattle.epoch_pin.specs.Asks.{Log, Asked, asks_more, Part, Ends, Choose, Stores, Keeps, Loads, Puts, Pins, Leaves, Follows}
+use Rattle.epoch_pin.proofs.Exchanges.{LogsAre, ends, loads, stores, keeps, put_steps}
+use Rattle.epoch_pin.proofs.CollectionAsks.{choice, known, collected, CollectedFollow, collects}
 
--- A machine that is stopped asks nothing more.
-stops : {J : Type 0} (m n : Machine J) (log : List (Exchange J)) → Asked (with_stage m End) log n → Ends (asks_more n) log
-stops m n = ends_follow (with_stage m End) n refl
-
--- the count behind a pin is 1 where that before it was a multiple of 128
-pub collects_at : (pins : ℕ) → ((pins + 1) % 128 == 1) ≡ (pins % 128 == 0)
-collects_at pins = grind (arith, nat_tests)
+-- a machine that is stopped asks nothing more
+stops : {J : Type 0} (m : Machine J) → LogsAre (with_stage m End) Ends
+stops m = ends (with_stage m End) refl
 
 -- PIN
 
--- the machine whose pin has published and is over, but for its collection
-abbrev pub pinned : {J : Type 0} → Machine J → ℕ → Machine J
-pinned m e = record m { stage = ReloadPin; published = e; pins = (m.pins + 1) % 128 }
+-- the count behind a pin is 1 where that before it was a multiple of 128
+first_or_128th : (pins : ℕ) → ((pins + 1) % 128 == 1) ≡ (pins % 128 == 0)
+first_or_128th pins = grind (arith, nat_tests)
 
-pub pins_follow : {J : Type 0} (m n : Machine J) (behind : Part J)
+-- the machine that has published e and is to load the epoch once more
+abbrev published : {J : Type 0} → Machine J → ℕ → Machine J
+published m e = record m { stage = ReloadPin; published = e; pins = (m.pins + 1) % 128 }
+
+pins : {J : Type 0} (m : Machine J) (behind : Part J)
     → IsSized m.sizes
-    → ((e : ℕ) (hand : List J) (log : List (Exchange J)) → Asked (collected (pinned m e) hand) log n → behind log)
-    → (log : List (Exchange J)) → Asked (with_stage m LoadPin) log n → Pins (asks_more n) m behind log
-pins_follow m n behind sized next =
-    loads_follow (with_stage m LoadPin) n _ refl (λ e.
-    stores_follow (with_stage m (StorePin e)) n (StorePinned e) _ tt refl
-    (loads_follow (pinned m e) n _ refl (λ again log run.
-    choice_follows (pinned m e) n (m.pins % 128 == 0) LoadScan (after_collect m.action m.held) _ _
-    (collects_follow (pinned m e) n behind sized (next e)) (next e m.hand) log
-    (goes_by (pinned m e) n _ _ LoadScan (after_collect m.action m.held) log (collects_at m.pins) run))))
+    → ((e : ℕ) → CollectedFollow (published m e) behind)
+    → LogsAre (with_stage m LoadPin) (Pins m behind)
+pins m behind sized next =
+    loads (with_stage m LoadPin) _ refl (λ e.
+    stores (with_stage m (StorePin e)) (StorePinned e) _ tt refl
+    (loads (published m e) _ refl (λ again.
+    known (published m e) _ _ LoadScan (after_collect m.action m.held) _ (first_or_128th m.pins)
+    (choice (published m e) (m.pins % 128 == 0) LoadScan (after_collect m.action m.held) _ _
+    (collects (published m e) behind sized (next e)) (next e m.hand)))))
 
--- PUT
+pin : {J : Type 0} (m : Machine J) → IsSized m.sizes → LogsAre (begun Pin m) (Follows Pin m)
+pin m sized =
+    choice (begun Pin m) (m.guards == 0) LoadPin End _ _
+    (pins (begun Pin m) _ sized (λ e hand. stops (collected (published (begun Pin m) e) hand)))
+    (stops (begun Pin m))
 
-pub puts_follow : {J : Type 0} (m n : Machine J) (done full : Part J)
-    → ((log : List (Exchange J)) → Asked (record m { stage = after_put m.action false; full = false; held = [] }) log n → done log)
-    → ((log : List (Exchange J)) → Asked (record m { stage = after_put m.action true; full = true }) log n → full log)
-    → (log : List (Exchange J)) → Asked (with_stage m LoadSeal) log n → Puts (asks_more n) done full log
-puts_follow m n done full is_put is_full =
-    loads_follow (with_stage m LoadSeal) n _ refl (λ seal. put_steps_follow (with_stage m (Put seal)) n seal done full refl is_put is_full)
+-- UNPIN AND REPIN
 
--- THE ACTIONS
+unpin : {J : Type 0} (m : Machine J) → LogsAre (begun Unpin m) (Follows Unpin m)
+unpin m =
+    choice (begun Unpin m) (m.guards == 1) StoreUnpinned End _ _
+    (stores (with_stage (begun Unpin m) StoreUnpinned) AskUnpinned _ tt refl (stops (begun Unpin m)))
+    (stops (begun Unpin m))
 
-pin_follows : {J : Type 0} (m n : Machine J) → IsSized m.sizes → (log : List (Exchange J)) → Asked (begun Pin m) log n → Follows (asks_more n) Pin m log
-pin_follows m n sized =
-    choice_follows (begun Pin m) n (m.guards == 0) LoadPin End _ _
-    (pins_follow (begun Pin m) n _ sized (λ e hand. stops (collected (pinned (begun Pin m) e) hand) n))
-    (stops (begun Pin m) n)
+-- a repin in another epoch than the one published
+repins : {J : Type 0} (m : Machine J) (e : ℕ)
+    → LogsAre (with_stage m (StoreRepin e)) (Stores (StoreRepinned e) (Loads (λ again. Ends)))
+repins m e =
+    stores (with_stage m (StoreRepin e)) (StoreRepinned e) _ tt refl
+    (loads (record m { stage = ReloadRepin; published = e }) _ refl (λ again. stops (record m { published = e })))
 
-unpin_follows : {J : Type 0} (m n : Machine J) (log : List (Exchange J)) → Asked (begun Unpin m) log n → Follows (asks_more n) Unpin m log
-unpin_follows m n =
-    choice_follows (begun Unpin m) n (m.guards == 1) StoreUnpinned End _ _
-    (stores_follow (with_stage (begun Unpin m) StoreUnpinned) n AskUnpinned _ tt refl (stops (begun Unpin m) n))
-    (stops (begun Unpin m) n)
+repin : {J : Type 0} (m : Machine J) → LogsAre (begun Repin m) (Follows Repin m)
+repin m =
+    choice (begun Repin m) (m.guards == 1) LoadRepin End _ _
+    (loads (with_stage (begun Repin m) LoadRepin) _ refl (λ e.
+    choice (begun Repin m) (m.published == e) End (StoreRepin e) _ _ (stops (begun Repin m)) (repins (begun Repin m) e)))
+    (stops (begun Repin m))
 
-repin_follows : {J : Type 0} (m n : Machine J) (log : List (Exchange J)) → Asked (begun Repin m) log n → Follows (asks_more n) Repin m log
-repin_follows m n =
-    choice_follows (begun Repin m) n (m.guards == 1) LoadRepin End _ _
-    (loads_follow (with_stage (begun Repin m) LoadRepin) n _ refl (λ e.
-    choice_follows (begun Repin m) n (m.published == e) End (StoreRepin e) _ _
-    (stops (begun Repin m) n)
-    (stores_follow (with_stage (begun Repin m) (StoreRepin e)) n (StoreRepinned e) _ tt refl
-    (loads_follow (record (begun Repin m) { stage = ReloadRepin; published = e }) n _ refl (λ again. stops (record (begun Repin m) { published = e }) n)))))
-    (stops (begun Repin m) n)
+-- DEFER AND FLUSH
 
-keep_follows : {J : Type 0} (m n : Machine J) (log : List (Exchange J)) → Asked (with_stage m Keep) log n → Keeps (asks_more n) (Ends (asks_more n)) log
-keep_follows m n = keeps_follow (with_stage m Keep) n _ refl (λ job. stops (record m { held = m.held ++ job ∷ [] }) n)
+-- the machine after a put that was made, and after one that found no place
+abbrev put_made : {J : Type 0} → Machine J → Machine J
+put_made m = record m { stage = after_put m.action false; full = false; held = [] }
 
-defer_follows : {J : Type 0} (m n : Machine J) (log : List (Exchange J)) → Asked (begun Defer m) log n → Follows (asks_more n) Defer m log
-defer_follows m n =
-    choice_follows (begun Defer m) n (length m.held == m.sizes.bag_jobs) LoadSeal Keep _ _
-    (puts_follow (begun Defer m) n _ _ (keep_follows (record (begun Defer m) { full = false; held = [] }) n) (stops (record (begun Defer m) { full = true }) n))
-    (keep_follows (begun Defer m) n)
+abbrev put_refused : {J : Type 0} → Machine J → Machine J
+put_refused m = record m { stage = after_put m.action true; full = true }
 
-flush_follows : {J : Type 0} (m n : Machine J) → IsSized m.sizes → (log : List (Exchange J)) → Asked (begun Flush m) log n → Follows (asks_more n) Flush m log
-flush_follows m n sized =
-    let whole = begun Flush m in
-    let put = record (begun Flush m) { full = false; held = [] } in
-    let kept = record (begun Flush m) { full = true } in
-    choice_follows whole n (is_empty m.held) LoadScan LoadSeal _ _
-    (collects_follow whole n _ sized (λ hand. stops (collected whole hand) n))
-    (puts_follow whole n _ _
-    (collects_follow put n _ sized (λ hand. stops (collected put hand) n))
-    (collects_follow kept n _ sized (λ hand. stops (collected kept hand) n)))
+puts : {J : Type 0} (m : Machine J) (done full : Part J)
+    → LogsAre (put_made m) done
+    → LogsAre (put_refused m) full
+    → LogsAre (with_stage m LoadSeal) (Puts done full)
+puts m done full made refused =
+    loads (with_stage m LoadSeal) _ refl (λ seal. put_steps (with_stage m (Put seal)) seal done full refl made refused)
+
+keep : {J : Type 0} (m : Machine J) → LogsAre (with_stage m Keep) (Keeps Ends)
+keep m = keeps (with_stage m Keep) _ refl (λ job. stops (record m { held = m.held ++ job ∷ [] }))
+
+defer : {J : Type 0} (m : Machine J) → LogsAre (begun Defer m) (Follows Defer m)
+defer m =
+    choice (begun Defer m) (length m.held == m.sizes.bag_jobs) LoadSeal Keep _ _
+    (puts (begun Defer m) _ _ (keep (put_made (begun Defer m))) (stops (put_refused (begun Defer m))))
+    (keep (begun Defer m))
+
+flush : {J : Type 0} (m : Machine J) → IsSized m.sizes → LogsAre (begun Flush m) (Follows Flush m)
+flush m sized =
+    choice (begun Flush m) (is_empty m.held) LoadScan LoadSeal _ _
+    (collects (begun Flush m) _ sized (λ hand. stops (collected (begun Flush m) hand)))
+    (puts (begun Flush m) _ _
+    (collects (put_made (begun Flush m)) _ sized (λ hand. stops (collected (put_made (begun Flush m)) hand)))
+    (collects (put_refused (begun Flush m)) _ sized (λ hand. stops (collected (put_refused (begun Flush m)) hand))))
+
+-- RELEASE
 
 -- a release that holds these jobs
-abbrev releasing : {J : Type 0} → Machine J → List J → Bool → Machine J
-releasing m held full = record m { action = Release; full = full; held = held }
+abbrev releasing : {J : Type 0} → Machine J → List J → Machine J
+releasing m held = record m { stage = after_collect Release held; action = Release; full = false; held = held }
 
--- its last two stores
-frees : {J : Type 0} (m n : Machine J) (held : List J)
-    → (log : List (Exchange J)) → Asked (with_stage (releasing m held false) StoreUnpinned) log n
-    → Stores (asks_more n) AskUnpinned (Stores (asks_more n) AskFree (Ends (asks_more n))) log
-frees m n held =
-    stores_follow (with_stage (releasing m held false) StoreUnpinned) n AskUnpinned _ tt refl
-    (stores_follow (with_stage (releasing m held false) StoreFree) n AskFree _ tt refl (ends_follow (fresh m.sizes) n refl))
+leaves : {J : Type 0} (m : Machine J) → LogsAre (releasing m []) Leaves
+leaves m =
+    stores (releasing m []) AskUnpinned _ tt refl
+    (stores (with_stage (releasing m []) StoreFree) AskFree _ tt refl (ends (fresh m.sizes) refl))
 
--- what is left of a release behind its collection, m being the machine that began it, in a pin of its own
-behind_pin : {J : Type 0} (m n : Machine J) (held : List J)
-    → (log : List (Exchange J)) → Asked (record m { stage = after_collect Release held; action = Release; full = false; held = held }) log n
-    → Choose (is_empty held) (Stores (asks_more n) AskUnpinned (Stores (asks_more n) AskFree (Ends (asks_more n))))
-    (Puts (asks_more n) (Stores (asks_more n) AskUnpinned (Stores (asks_more n) AskFree (Ends (asks_more n)))) (Stores (asks_more n) AskUnpinned (Ends (asks_more n)))) log
-behind_pin m n [] = frees m n []
-behind_pin m n (job ∷ jobs) =
-    puts_follow (releasing m (job ∷ jobs) false) n _ _ (frees m n [])
-    (stores_follow (with_stage (releasing m (job ∷ jobs) true) StoreUnpinned) n AskUnpinned _ tt refl (stops (releasing m (job ∷ jobs) true) n))
+-- what is left of a release behind its pin
+behind_pin : {J : Type 0} (m : Machine J) (held : List J)
+    → LogsAre (releasing m held) (Choose (is_empty held) Leaves (Puts Leaves (Stores AskUnpinned Ends)))
+behind_pin m [] = leaves m
+behind_pin m (job ∷ jobs) =
+    puts (releasing m (job ∷ jobs)) _ _ (leaves m)
+    (stores (put_refused (releasing m (job ∷ jobs))) AskUnpinned _ tt refl (stops (put_refused (releasing m (job ∷ jobs)))))
 
-release_follows : {J : Type 0} (m n : Machine J) → IsSized m.sizes → (log : List (Exchange J)) → Asked (begun Release m) log n → Follows (asks_more n) Release m log
-release_follows m n sized =
-    pins_follow (begun Release m) n _ sized (λ e hand. behind_pin (collected (pinned (begun Release m) e) hand) n m.held)
+release : {J : Type 0} (m : Machine J) → IsSized m.sizes → LogsAre (begun Release m) (Follows Release m)
+release m sized =
+    pins (begun Release m) _ sized (λ e hand. behind_pin (collected (published (begun Release m) e) hand) m.held)
 
-pub asks_follow : {J : Type 0} (m n : Machine J) (action : Action) (log : List (Exchange J)) → IsSized m.sizes → Asked (begun action m) log n → Follows (asks_more n) action m log
-asks_follow m n Pin log sized = pin_follows m n sized log
-asks_follow m n Unpin log sized = unpin_follows m n log
-asks_follow m n Repin log sized = repin_follows m n log
-asks_follow m n Defer log sized = defer_follows m n log
-asks_follow m n Flush log sized = flush_follows m n sized log
-asks_follow m n Release log sized = release_follows m n sized log
+-- EACH ACTION
+
+pub asks_follow : {J : Type 0} (m n : Machine J) (action : Action) (log : Log J)
+    → IsSized m.sizes → Asked (begun action m) log n → Follows action m (asks_more n) log
+asks_follow m n Pin log sized run = pin m sized _ log n run refl
+asks_follow m n Unpin log sized run = unpin m _ log n run refl
+asks_follow m n Repin log sized run = repin m _ log n run refl
+asks_follow m n Defer log sized run = defer m _ log n run refl
+asks_follow m n Flush log sized run = flush m sized _ log n run refl
+asks_follow m n Release log sized run = release m sized _ log n run refl

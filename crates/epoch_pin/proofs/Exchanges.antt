@@ -1,20 +1,24 @@
 -- A log of a machine that asks for one thing begins with that ask, and goes on as the machine does behind the reply.
-use Rattle.std.proofs.Common.{◌≡◌, ℕ, true, List, [], ◌∷◌, Some, None, is_some, inl, inr, refl, ap, sym, subst, ◌∙◌}
+use Rattle.std.proofs.Common.{◌≡◌, ℕ, Bool, true, List, [], ◌∷◌, Some, None, is_some, inl, inr, refl, ap, sym, subst, ◌∙◌}
 use Rattle.epoch_base.specs.declared.queue.PutStep.TheVariants.{Again, Done, Full}
 use Rattle.epoch_pin.specs.declared.machine.Ask.{Ask}
 use Rattle.epoch_pin.specs.declared.machine.Ask.TheVariants.{LoadEpoch, StorePinned, StoreRepinned, StoreUnpinned, StoreFree, StoreEpoch, PutBag, KeepJob}
 use Rattle.epoch_pin.specs.declared.machine.Answer.TheVariants.{Epoch, Stored, Job}
 use Rattle.epoch_pin.specs.Machine.{Machine, asks, heard, put_heard}
-use Rattle.epoch_pin.specs.Asks.{Reply, Heard, PutStepped, Exchange, IsReply, told, Asked, asks_more, Part, Ends, Loads, Stores, Keeps, PutSteps}
+use Rattle.epoch_pin.specs.Asks.{Log, Reply, Heard, PutStepped, Exchange, IsReply, told, Asked, asks_more, Part, Ends, Loads, Stores, Keeps, PutSteps}
 
 -- THE FIRST EXCHANGE
 
+-- every log of the machine is of this part
+abbrev pub LogsAre : {J : Type 0} → Machine J → Part J → Type 0
+LogsAre {J} m part = (more : Bool) (log : Log J) (n : Machine J) → Asked m log n → asks_more n ≡ more → part more log
+
 -- a machine whose log is over still asks what it asked
-pub more_asked : {J : Type 0} (m n : Machine J) (ask : Ask) → asks m ≡ Some ask → n ≡ m → asks_more n ≡ true
-more_asked m n ask asked is = ap asks_more is ∙ ap is_some asked
+pub more_asked : {J : Type 0} (m n : Machine J) (ask : Ask) (more : Bool) → asks m ≡ Some ask → n ≡ m → asks_more n ≡ more → more ≡ true
+more_asked m n ask more asked is at = sym at ∙ ap asks_more is ∙ ap is_some asked
 
 -- what holds of this ask with each of its replies holds of the first exchange
-pub begins : {J : Type 0} (m n : Machine J) (ask : Ask) (Holds : Exchange J → Type 0) (x : Exchange J) (log : List (Exchange J))
+pub begins : {J : Type 0} (m n : Machine J) (ask : Ask) (Holds : Exchange J → Type 0) (x : Exchange J) (log : Log J)
     → asks m ≡ Some ask
     → ((reply : Reply J) → IsReply ask m.hand reply → Asked (told m reply) log n → Holds (record { ask = ask; reply = reply }))
     → Asked m (x ∷ log) n → Holds x
@@ -23,26 +27,27 @@ begins {J} m n ask Holds x log asked next run =
     let P : Ask → Type 0 = λ a. Holds (record { ask = a; reply = x.reply }) in
     subst P same (next x.reply (subst (λ (a : Ask). IsReply a m.hand x.reply) (sym same) run.1) run.2)
 
-pub ends_follow : {J : Type 0} (m n : Machine J) → asks m ≡ None → (log : List (Exchange J)) → Asked m log n → Ends (asks_more n) log
-ends_follow m n none [] is = (refl, ap asks_more is ∙ ap is_some none)
-ends_follow m n none (x ∷ log) run = absurd (cc (none, run.0))
+pub ends : {J : Type 0} (m : Machine J) → asks m ≡ None → LogsAre m Ends
+ends m none more [] n is at = (refl, sym at ∙ ap asks_more is ∙ ap is_some none)
+ends m none more (x ∷ log) n run at = absurd (cc (none, run.0))
 
 -- LOADS OF THE EPOCH
 
-epoch_told : {J : Type 0} (m n : Machine J) (behind : ℕ → Part J) (log : List (Exchange J))
-    → ((e : ℕ) → Asked (heard m (Epoch e)) log n → behind e log)
+epoch_told : {J : Type 0} (m n : Machine J) (behind : ℕ → Part J) (more : Bool) (log : Log J)
+    → ((e : ℕ) → LogsAre (heard m (Epoch e)) (behind e))
+    → asks_more n ≡ more
     → (reply : Reply J) → IsReply LoadEpoch m.hand reply → Asked (told m reply) log n
-    → Loads (asks_more n) behind (record { ask = LoadEpoch; reply = reply } ∷ log)
-epoch_told m n behind log next (Heard (Epoch e)) fits run = (e, refl, next e run)
-epoch_told m n behind log next _ fits run = absurd fits
+    → Loads behind more (record { ask = LoadEpoch; reply = reply } ∷ log)
+epoch_told m n behind more log next at (Heard (Epoch e)) fits run = (e, refl, next e more log n run at)
+epoch_told m n behind more log next at _ fits run = absurd fits
 
-pub loads_follow : {J : Type 0} (m n : Machine J) (behind : ℕ → Part J)
+pub loads : {J : Type 0} (m : Machine J) (behind : ℕ → Part J)
     → asks m ≡ Some LoadEpoch
-    → ((e : ℕ) (log : List (Exchange J)) → Asked (heard m (Epoch e)) log n → behind e log)
-    → (log : List (Exchange J)) → Asked m log n → Loads (asks_more n) behind log
-loads_follow m n behind asked next [] is = more_asked m n LoadEpoch asked is
-loads_follow m n behind asked next (x ∷ log) run =
-    begins m n LoadEpoch (λ y. Loads (asks_more n) behind (y ∷ log)) x log asked (epoch_told m n behind log (λ e. next e log)) run
+    → ((e : ℕ) → LogsAre (heard m (Epoch e)) (behind e))
+    → LogsAre m (Loads behind)
+loads m behind asked next more [] n is at = more_asked m n LoadEpoch more asked is at
+loads m behind asked next more (x ∷ log) n run at =
+    begins m n LoadEpoch (λ y. Loads behind more (y ∷ log)) x log asked (epoch_told m n behind more log next at) run
 
 -- STORES
 
@@ -55,68 +60,77 @@ IsStore StoreFree = Unit {0}
 IsStore (StoreEpoch e) = Unit {0}
 IsStore _ = ⊥
 
-stored_told : {J : Type 0} (m n : Machine J) (store : Ask) (behind : Part J) (log : List (Exchange J))
-    → IsStore store
-    → (Asked (heard m Stored) log n → behind log)
-    → (reply : Reply J) → IsReply store m.hand reply → Asked (told m reply) log n
-    → Stores (asks_more n) store behind (record { ask = store; reply = reply } ∷ log)
-stored_told m n (StorePinned e) behind log is next (Heard Stored) fits run = (refl, next run)
-stored_told m n (StoreRepinned e) behind log is next (Heard Stored) fits run = (refl, next run)
-stored_told m n StoreUnpinned behind log is next (Heard Stored) fits run = (refl, next run)
-stored_told m n StoreFree behind log is next (Heard Stored) fits run = (refl, next run)
-stored_told m n (StoreEpoch e) behind log is next (Heard Stored) fits run = (refl, next run)
-stored_told m n (StorePinned e) behind log is next _ fits run = absurd fits
-stored_told m n (StoreRepinned e) behind log is next _ fits run = absurd fits
-stored_told m n StoreUnpinned behind log is next _ fits run = absurd fits
-stored_told m n StoreFree behind log is next _ fits run = absurd fits
-stored_told m n (StoreEpoch e) behind log is next _ fits run = absurd fits
-stored_told m n _ behind log is next reply fits run = absurd is
+store_told : {J : Type 0} (store : Ask) (hand : List J) (reply : Reply J) → IsStore store → IsReply store hand reply → reply ≡ Heard Stored
+store_told (StorePinned e) hand (Heard Stored) is fits = refl
+store_told (StoreRepinned e) hand (Heard Stored) is fits = refl
+store_told StoreUnpinned hand (Heard Stored) is fits = refl
+store_told StoreFree hand (Heard Stored) is fits = refl
+store_told (StoreEpoch e) hand (Heard Stored) is fits = refl
+store_told (StorePinned e) hand _ is fits = absurd fits
+store_told (StoreRepinned e) hand _ is fits = absurd fits
+store_told StoreUnpinned hand _ is fits = absurd fits
+store_told StoreFree hand _ is fits = absurd fits
+store_told (StoreEpoch e) hand _ is fits = absurd fits
+store_told _ hand reply is fits = absurd is
 
-pub stores_follow : {J : Type 0} (m n : Machine J) (store : Ask) (behind : Part J)
+stored : {J : Type 0} (m n : Machine J) (store : Ask) (behind : Part J) (more : Bool) (log : Log J)
+    → LogsAre (heard m Stored) behind
+    → asks_more n ≡ more
+    → (reply : Reply J) → reply ≡ Heard Stored → Asked (told m reply) log n
+    → Stores store behind more (record { ask = store; reply = reply } ∷ log)
+stored {J} m n store behind more log next at reply is run = (
+  ap (λ (r : Reply J). let x : Exchange J = record { ask = store; reply = r } in x) is,
+  next more log n (subst (λ (r : Reply J). Asked (told m r) log n) is run) at,
+)
+
+pub stores : {J : Type 0} (m : Machine J) (store : Ask) (behind : Part J)
     → IsStore store
     → asks m ≡ Some store
-    → ((log : List (Exchange J)) → Asked (heard m Stored) log n → behind log)
-    → (log : List (Exchange J)) → Asked m log n → Stores (asks_more n) store behind log
-stores_follow m n store behind is asked next [] same = more_asked m n store asked same
-stores_follow m n store behind is asked next (x ∷ log) run =
-    begins m n store (λ y. Stores (asks_more n) store behind (y ∷ log)) x log asked (stored_told m n store behind log is (next log)) run
+    → LogsAre (heard m Stored) behind
+    → LogsAre m (Stores store behind)
+stores m store behind is asked next more [] n same at = more_asked m n store more asked same at
+stores m store behind is asked next more (x ∷ log) n run at =
+    begins m n store (λ y. Stores store behind more (y ∷ log)) x log asked
+    (λ reply fits. stored m n store behind more log next at reply (store_told store m.hand reply is fits)) run
 
 -- THE JOB KEPT
 
-job_told : {J : Type 0} (m n : Machine J) (behind : Part J) (log : List (Exchange J))
-    → ((job : J) → Asked (heard m (Job job)) log n → behind log)
+job_told : {J : Type 0} (m n : Machine J) (behind : Part J) (more : Bool) (log : Log J)
+    → ((job : J) → LogsAre (heard m (Job job)) behind)
+    → asks_more n ≡ more
     → (reply : Reply J) → IsReply KeepJob m.hand reply → Asked (told m reply) log n
-    → Keeps (asks_more n) behind (record { ask = KeepJob; reply = reply } ∷ log)
-job_told m n behind log next (Heard (Job job)) fits run = (job, refl, next job run)
-job_told m n behind log next _ fits run = absurd fits
+    → Keeps behind more (record { ask = KeepJob; reply = reply } ∷ log)
+job_told m n behind more log next at (Heard (Job job)) fits run = (job, refl, next job more log n run at)
+job_told m n behind more log next at _ fits run = absurd fits
 
-pub keeps_follow : {J : Type 0} (m n : Machine J) (behind : Part J)
+pub keeps : {J : Type 0} (m : Machine J) (behind : Part J)
     → asks m ≡ Some KeepJob
-    → ((job : J) (log : List (Exchange J)) → Asked (heard m (Job job)) log n → behind log)
-    → (log : List (Exchange J)) → Asked m log n → Keeps (asks_more n) behind log
-keeps_follow m n behind asked next [] is = more_asked m n KeepJob asked is
-keeps_follow m n behind asked next (x ∷ log) run =
-    begins m n KeepJob (λ y. Keeps (asks_more n) behind (y ∷ log)) x log asked (job_told m n behind log (λ job. next job log)) run
+    → ((job : J) → LogsAre (heard m (Job job)) behind)
+    → LogsAre m (Keeps behind)
+keeps m behind asked next more [] n is at = more_asked m n KeepJob more asked is at
+keeps m behind asked next more (x ∷ log) n run at =
+    begins m n KeepJob (λ y. Keeps behind more (y ∷ log)) x log asked (job_told m n behind more log next at) run
 
 -- THE STEPS OF A PUT
 
-put_told : {J : Type 0} (m n : Machine J) (seal : ℕ) (done full : Part J) (log : List (Exchange J))
-    → (Asked m log n → PutSteps (asks_more n) seal done full log)
-    → (Asked (put_heard m Done) log n → done log)
-    → (Asked (put_heard m Full) log n → full log)
+put_told : {J : Type 0} (m n : Machine J) (seal : ℕ) (done full : Part J) (more : Bool) (log : Log J)
+    → (Asked m log n → PutSteps seal done full more log)
+    → LogsAre (put_heard m Done) done
+    → LogsAre (put_heard m Full) full
+    → asks_more n ≡ more
     → (reply : Reply J) → IsReply (PutBag seal) m.hand reply → Asked (told m reply) log n
-    → PutSteps (asks_more n) seal done full (record { ask = PutBag seal; reply = reply } ∷ log)
-put_told m n seal done full log again is_put is_full (PutStepped Again) fits run = inl (refl, again run)
-put_told m n seal done full log again is_put is_full (PutStepped Done) fits run = inr (inl (refl, is_put run))
-put_told m n seal done full log again is_put is_full (PutStepped Full) fits run = inr (inr (refl, is_full run))
-put_told m n seal done full log again is_put is_full _ fits run = absurd fits
+    → PutSteps seal done full more (record { ask = PutBag seal; reply = reply } ∷ log)
+put_told m n seal done full more log again made refused at (PutStepped Again) fits run = inl (refl, again run)
+put_told m n seal done full more log again made refused at (PutStepped Done) fits run = inr (inl (refl, made more log n run at))
+put_told m n seal done full more log again made refused at (PutStepped Full) fits run = inr (inr (refl, refused more log n run at))
+put_told m n seal done full more log again made refused at _ fits run = absurd fits
 
-pub put_steps_follow : {J : Type 0} (m n : Machine J) (seal : ℕ) (done full : Part J)
+pub put_steps : {J : Type 0} (m : Machine J) (seal : ℕ) (done full : Part J)
     → asks m ≡ Some (PutBag seal)
-    → ((log : List (Exchange J)) → Asked (put_heard m Done) log n → done log)
-    → ((log : List (Exchange J)) → Asked (put_heard m Full) log n → full log)
-    → (log : List (Exchange J)) → Asked m log n → PutSteps (asks_more n) seal done full log
-put_steps_follow m n seal done full asked is_put is_full [] is = more_asked m n (PutBag seal) asked is
-put_steps_follow m n seal done full asked is_put is_full (x ∷ log) run =
-    begins m n (PutBag seal) (λ y. PutSteps (asks_more n) seal done full (y ∷ log)) x log asked
-    (put_told m n seal done full log (put_steps_follow m n seal done full asked is_put is_full log) (is_put log) (is_full log)) run
+    → LogsAre (put_heard m Done) done
+    → LogsAre (put_heard m Full) full
+    → LogsAre m (PutSteps seal done full)
+put_steps m seal done full asked made refused more [] n is at = more_asked m n (PutBag seal) more asked is at
+put_steps m seal done full asked made refused more (x ∷ log) n run at =
+    begins m n (PutBag seal) (λ y. PutSteps seal done full more (y ∷ log)) x log asked
+    (put_told m n seal done full more log (λ again. put_steps m seal done full asked made refused more log n again at) made refused at) run

@@ -49,8 +49,12 @@ told m (PutStepped step) = put_heard m step
 told m (TakeStepped step jobs) = took_heard m m.stage step jobs
 told m (JobGiven job) = gives m m.stage (rest m.hand)
 
+-- what a machine asked, in order
+abbrev pub Log : Type 0 → Type 0
+Log J = List (Exchange J)
+
 -- The machine m asks each ask of the log in turn, goes on by its reply, and is n behind the last one.
-abbrev pub Asked : {J : Type 0} → Machine J → List (Exchange J) → Machine J → Type 0
+abbrev pub Asked : {J : Type 0} → Machine J → Log J → Machine J → Type 0
 Asked m [] n = n ≡ m
 Asked m (x ∷ log) n = (asks m ≡ Some x.ask) × IsReply x.ask m.hand x.reply × Asked (told m x.reply) log n
 
@@ -58,105 +62,111 @@ abbrev pub asks_more : {J : Type 0} → Machine J → Bool
 asks_more m = is_some (asks m)
 
 -- PARTS OF A LOG
---
--- Each part says what the log may be from some place on, in terms of the parts that come behind it.
--- A log may break off before any ask, and then more is asked; where it is at its end, no more is asked.
 
+-- What a log may be from some place on, said in terms of what may come behind. The log may break off before
+-- any ask, and then more is asked; behind the last ask no more is asked.
 abbrev pub Part : Type 0 → Type 1
-Part J = List (Exchange J) → Type 0
+Part J = (more : Bool) → Log J → Type 0
 
-abbrev pub Ends : {J : Type 0} → (more : Bool) → List (Exchange J) → Type 0
+abbrev pub Ends : {J : Type 0} → Part J
 Ends more log = (log ≡ []) × (more ≡ false)
 
--- the part of a test that holds, or the other one
-abbrev pub Choose : {J : Type 0} → Bool → (holds fails : Part J) → List (Exchange J) → Type 0
-Choose true holds fails log = holds log
-Choose false holds fails log = fails log
+-- the first part where the test holds, and else the second
+abbrev pub Choose : {J : Type 0} → Bool → Part J → Part J → Part J
+Choose true holds fails = holds
+Choose false holds fails = fails
 
--- the epoch is loaded
-abbrev pub Loads : {J : Type 0} → (more : Bool) → (ℕ → Part J) → List (Exchange J) → Type 0
-Loads more behind [] = more ≡ true
-Loads more behind (x ∷ log) = (e : ℕ) × (x ≡ record { ask = LoadEpoch; reply = Heard (Epoch e) }) × behind e log
+-- the epoch is loaded, and this comes behind the epoch found
+abbrev pub Loads : {J : Type 0} → (ℕ → Part J) → Part J
+Loads behind more [] = more ≡ true
+Loads behind more (x ∷ log) = (e : ℕ) × (x ≡ record { ask = LoadEpoch; reply = Heard (Epoch e) }) × behind e more log
 
 -- a store is made
-abbrev pub Stores : {J : Type 0} → (more : Bool) → Ask → Part J → List (Exchange J) → Type 0
-Stores more store behind [] = more ≡ true
-Stores more store behind (x ∷ log) = (x ≡ record { ask = store; reply = Heard Stored }) × behind log
+abbrev pub Stores : {J : Type 0} → Ask → Part J → Part J
+Stores store behind more [] = more ≡ true
+Stores store behind more (x ∷ log) = (x ≡ record { ask = store; reply = Heard Stored }) × behind more log
 
--- the job of a deferral is kept
-abbrev pub Keeps : {J : Type 0} → (more : Bool) → Part J → List (Exchange J) → Type 0
-Keeps more behind [] = more ≡ true
-Keeps {J} more behind (x ∷ log) = (job : J) × (x ≡ record { ask = KeepJob; reply = Heard (Job job) }) × behind log
+-- a job is kept
+abbrev pub Keeps : {J : Type 0} → Part J → Part J
+Keeps behind more [] = more ≡ true
+Keeps {J} behind more (x ∷ log) = (job : J) × (x ≡ record { ask = KeepJob; reply = Heard (Job job) }) × behind more log
 
 -- the word is that of a participant pinned in an epoch other than e
-abbrev pub IsPinnedElsewhere : ℕ → ℕ → Type 0
+abbrev pub IsPinnedElsewhere : (e w : ℕ) → Type 0
 IsPinnedElsewhere e w = (a : ℕ) × (w ≡ 2 * a + 1) × (a ≢ e)
 
 -- the word at a position is loaded
-abbrev pub Looks : {J : Type 0} → (more : Bool) (e position : ℕ) (elsewhere behind : Part J) → List (Exchange J) → Type 0
-Looks more e position elsewhere behind [] = more ≡ true
-Looks more e position elsewhere behind (x ∷ log) =
+abbrev pub Looks : {J : Type 0} (e position : ℕ) → (elsewhere behind : Part J) → Part J
+Looks e position elsewhere behind more [] = more ≡ true
+Looks e position elsewhere behind more (x ∷ log) =
     (w : ℕ) × (x ≡ record { ask = LoadWord position; reply = Heard (Word w) })
-    × ((IsPinnedElsewhere e w × elsewhere log) ⊎ ((¬ IsPinnedElsewhere e w) × behind log))
+    × ((IsPinnedElsewhere e w × elsewhere more log) ⊎ ((¬ IsPinnedElsewhere e w) × behind more log))
 
--- the epoch that has a successor is followed by it
-abbrev pub Advances : {J : Type 0} → (more : Bool) (e : ℕ) → (ℕ → Part J) → List (Exchange J) → Type 0
-Advances more e behind = Choose (e == 2 ^ 63 - 1) (behind e) (Stores more (StoreEpoch (e + 1)) (behind (e + 1)))
+-- the epoch behind e is stored, unless e is the greatest
+abbrev pub Advances : {J : Type 0} (e : ℕ) → (ℕ → Part J) → Part J
+Advances e behind = Choose (e == 2 ^ 63 - 1) (behind e) (Stores (StoreEpoch (e + 1)) (behind (e + 1)))
 
--- So many words are loaded, by position. The first of a participant that is pinned in another epoch ends the scan, and keeps the epoch.
-abbrev pub Scans : {J : Type 0} → (more : Bool) (e position words : ℕ) → (ℕ → Part J) → List (Exchange J) → Type 0
-Scans more e position zero behind = Advances more e behind
-Scans more e position (suc words) behind = Looks more e position (behind e) (Scans more e (position + 1) words behind)
+-- So many words are loaded, by position. The first one that is pinned in another epoch ends the scan, with e;
+-- where there is none the epoch advances.
+abbrev pub Scans : {J : Type 0} (e position words : ℕ) → (ℕ → Part J) → Part J
+Scans e position zero behind = Advances e behind
+Scans e position (suc words) behind = Looks e position (behind e) (Scans e (position + 1) words behind)
 
--- steps are taken until a bag is got, or none is found
-abbrev pub TakeSteps : {J : Type 0} → (more : Bool) (x : ℕ) → (empty : Part J) (got : List J → Part J) → List (Exchange J) → Type 0
-TakeSteps more x empty got [] = more ≡ true
-TakeSteps {J} more x empty got (y ∷ log) = (jobs : List J)
-    × (((y ≡ record { ask = TakeBag x; reply = TakeStepped TakeAgain jobs }) × TakeSteps more x empty got log)
-    ⊎ ((y ≡ record { ask = TakeBag x; reply = TakeStepped Empty jobs }) × empty log)
-    ⊎ ((y ≡ record { ask = TakeBag x; reply = TakeStepped Got jobs }) × got jobs log))
+-- steps of a collection for x are made until a bag is got, or none is found
+abbrev pub TakeSteps : {J : Type 0} (x : ℕ) → (empty : Part J) → (got : List J → Part J) → Part J
+TakeSteps x empty got more [] = more ≡ true
+TakeSteps {J} x empty got more (y ∷ log) = (jobs : List J)
+    × (((y ≡ record { ask = TakeBag x; reply = TakeStepped TakeAgain jobs }) × TakeSteps x empty got more log)
+    ⊎ ((y ≡ record { ask = TakeBag x; reply = TakeStepped Empty jobs }) × empty more log)
+    ⊎ ((y ≡ record { ask = TakeBag x; reply = TakeStepped Got jobs }) × got jobs more log))
 
--- these jobs are called, the first one first
-abbrev pub Calls : {J : Type 0} → (more : Bool) → List J → Part J → List (Exchange J) → Type 0
-Calls more [] behind log = behind log
-Calls more (job ∷ jobs) behind [] = more ≡ true
-Calls more (job ∷ jobs) behind (x ∷ log) = (x ≡ record { ask = CallJob; reply = JobGiven job }) × Calls more jobs behind log
+-- these jobs are called, in this order
+abbrev pub Calls : {J : Type 0} → List J → Part J → Part J
+Calls [] behind more log = behind more log
+Calls (job ∷ jobs) behind more [] = more ≡ true
+Calls (job ∷ jobs) behind more (x ∷ log) = (x ≡ record { ask = CallJob; reply = JobGiven job }) × Calls jobs behind more log
 
--- So many bags at most are taken, and each bag's jobs are called before the next one is looked for.
-abbrev pub Takes : {J : Type 0} → (more : Bool) (x bags : ℕ) → Part J → List (Exchange J) → Type 0
-Takes more x zero behind = behind
-Takes more x (suc bags) behind = TakeSteps more x behind (λ jobs. Calls more jobs (Takes more x bags behind))
+-- So many bags at most are taken, and each one's jobs are called before the next is looked for.
+abbrev pub Takes : {J : Type 0} (x bags : ℕ) → Part J → Part J
+Takes x zero behind = behind
+Takes x (suc bags) behind = TakeSteps x behind (λ jobs. Calls jobs (Takes x bags behind))
 
--- the epoch is loaded, the words are scanned, and bags are taken for the epoch that this gave
-abbrev pub Collects : {J : Type 0} → (more : Bool) → Sizes → Part J → List (Exchange J) → Type 0
-Collects more sizes behind = Loads more (λ e. Scans more e 0 sizes.positions (λ x. Takes more x sizes.collect_bags behind))
+-- the epoch is loaded, all words are scanned, and bags are taken for the epoch that this gave
+abbrev pub Collects : {J : Type 0} → Sizes → Part J → Part J
+Collects sizes behind = Loads (λ e. Scans e 0 sizes.positions (λ x. Takes x sizes.collect_bags behind))
 
--- steps are made until the bag is in the store, or every place was found occupied
-abbrev pub PutSteps : {J : Type 0} → (more : Bool) (seal : ℕ) → (done full : Part J) → List (Exchange J) → Type 0
-PutSteps more seal done full [] = more ≡ true
-PutSteps more seal done full (x ∷ log) =
-    ((x ≡ record { ask = PutBag seal; reply = PutStepped Again }) × PutSteps more seal done full log)
-    ⊎ ((x ≡ record { ask = PutBag seal; reply = PutStepped Done }) × done log)
-    ⊎ ((x ≡ record { ask = PutBag seal; reply = PutStepped Full }) × full log)
+-- steps of a put are made until the bag is in the store, or each place was found occupied
+abbrev pub PutSteps : {J : Type 0} (seal : ℕ) → (done full : Part J) → Part J
+PutSteps seal done full more [] = more ≡ true
+PutSteps seal done full more (x ∷ log) =
+    ((x ≡ record { ask = PutBag seal; reply = PutStepped Again }) × PutSteps seal done full more log)
+    ⊎ ((x ≡ record { ask = PutBag seal; reply = PutStepped Done }) × done more log)
+    ⊎ ((x ≡ record { ask = PutBag seal; reply = PutStepped Full }) × full more log)
 
--- the epoch is loaded, and the held bag is put under that seal
-abbrev pub Puts : {J : Type 0} → (more : Bool) → (done full : Part J) → List (Exchange J) → Type 0
-Puts more done full = Loads more (λ seal. PutSteps more seal done full)
+-- the epoch is loaded, and the held bag is put, sealed with it
+abbrev pub Puts : {J : Type 0} → (done full : Part J) → Part J
+Puts done full = Loads (λ seal. PutSteps seal done full)
 
--- a pin with no guard counted; it collects where the count of pins before was a multiple of 128
-abbrev pub Pins : {J : Type 0} → (more : Bool) → Machine J → Part J → List (Exchange J) → Type 0
-Pins more m behind = Loads more (λ e. Stores more (StorePinned e) (Loads more (λ again. Choose (m.pins % 128 == 0) (Collects more m.sizes behind) behind)))
+-- a pin with no guard counted, which collects where the count of pins before was a multiple of 128
+abbrev pub Pins : {J : Type 0} → Machine J → Part J → Part J
+Pins m behind =
+    Loads (λ e. Stores (StorePinned e)
+    (Loads (λ again. Choose (m.pins % 128 == 0) (Collects m.sizes behind) behind)))
+
+-- the own word is stored as not pinned, and then as free
+abbrev pub Leaves : {J : Type 0} → Part J
+Leaves = Stores StoreUnpinned (Stores StoreFree Ends)
 
 -- THE TABLE
 
-abbrev pub Follows : {J : Type 0} → (more : Bool) → Action → Machine J → List (Exchange J) → Type 0
-Follows more Pin m = Choose (m.guards == 0) (Pins more m (Ends more)) (Ends more)
-Follows more Unpin m = Choose (m.guards == 1) (Stores more StoreUnpinned (Ends more)) (Ends more)
-Follows more Repin m =
-    Choose (m.guards == 1) (Loads more (λ e. Choose (m.published == e) (Ends more) (Stores more (StoreRepinned e) (Loads more (λ again. Ends more))))) (Ends more)
-Follows more Defer m = Choose (length m.held == m.sizes.bag_jobs) (Puts more (Keeps more (Ends more)) (Ends more)) (Keeps more (Ends more))
-Follows more Flush m = Choose (is_empty m.held) (Collects more m.sizes (Ends more)) (Puts more (Collects more m.sizes (Ends more)) (Collects more m.sizes (Ends more)))
-Follows more Release m =
-    Pins more m
-    (Choose (is_empty m.held) (Stores more StoreUnpinned (Stores more StoreFree (Ends more)))
-    (Puts more (Stores more StoreUnpinned (Stores more StoreFree (Ends more))) (Stores more StoreUnpinned (Ends more))))
+-- what the machine m asks in an action that it begins
+abbrev pub Follows : {J : Type 0} → Action → Machine J → Part J
+Follows Pin m = Choose (m.guards == 0) (Pins m Ends) Ends
+Follows Unpin m = Choose (m.guards == 1) (Stores StoreUnpinned Ends) Ends
+Follows Repin m =
+    Choose (m.guards == 1)
+    (Loads (λ e. Choose (m.published == e) Ends (Stores (StoreRepinned e) (Loads (λ again. Ends)))))
+    Ends
+Follows Defer m = Choose (length m.held == m.sizes.bag_jobs) (Puts (Keeps Ends) Ends) (Keeps Ends)
+Follows Flush m = Choose (is_empty m.held) (Collects m.sizes Ends) (Puts (Collects m.sizes Ends) (Collects m.sizes Ends))
+Follows Release m = Pins m (Choose (is_empty m.held) Leaves (Puts Leaves (Stores StoreUnpinned Ends)))
