@@ -1,2 +1,4 @@
 pub mod Faults
 pub mod Bags
+pub mod Table
+pub mod TableSteps
