@@ -7,7 +7,8 @@ use Rattle.atomic_table.specs.Table.{State, Me, step, keeps, Allows}
 use Rattle.epoch_base.specs.declared.table.view.ParticipantView.{ParticipantView}
 use Rattle.epoch_base.specs.Table.{EpochsAgree}
 use Rattle.epoch_base.specs.TableSteps.{first_after, scan_after, after_epoch, LoadsEpoch}
-use Rattle.epoch_base.proofs.SeatSteps.{one_view, step_keeps}
+use Rattle.epoch_base.proofs.SeatSteps.{step_keeps}
+use Rattle.epoch_base.proofs.Views.{one_view}
 
 -- the first epoch read since publishing, between the one published and the present one
 abbrev Near : Option ℕ → ℕ → ℕ → Type 0

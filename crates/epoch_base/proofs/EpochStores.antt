@@ -6,7 +6,8 @@ use Rattle.atomic_table.specs.Table.{State, Me, step, keeps, Allows}
 use Rattle.epoch_base.specs.declared.table.view.ParticipantView.{ParticipantView}
 use Rattle.epoch_base.specs.Table.{word_at, Sees, EpochsAgree}
 use Rattle.epoch_base.specs.TableSteps.{after_advance, StoresEpoch}
-use Rattle.epoch_base.proofs.SeatSteps.{one_view, step_keeps}
+use Rattle.epoch_base.proofs.SeatSteps.{step_keeps}
+use Rattle.epoch_base.proofs.Views.{one_view}
 
 module _ {S : Type 0} (positions : ℕ) where
   abbrev Rule : State S ParticipantView → Type 0

@@ -8,7 +8,8 @@ use Rattle.atomic_table.specs.Table.{State, Me, step, keeps, Allows}
 use Rattle.epoch_base.specs.declared.table.view.ParticipantView.{ParticipantView}
 use Rattle.epoch_base.specs.Table.{word_at, word_of, Sees, EpochsAgree}
 use Rattle.epoch_base.specs.TableSteps.{after_own, after_free, Publishes, Unpins, Frees}
-use Rattle.epoch_base.proofs.SeatSteps.{one_view, step_keeps}
+use Rattle.epoch_base.proofs.SeatSteps.{step_keeps}
+use Rattle.epoch_base.proofs.Views.{one_view}
 
 -- what a view w owes after its seat, which had the view v and the position k, stored this word there
 record Stored (v w : ParticipantView) (k word : ℕ) : Type 0 where

@@ -1,5 +1,5 @@
 -- The claim of a position keeps the rule, and so does a new seat. A new table keeps it too.
-use Rattle.std.proofs.Common.{◌≡◌, ◌≢◌, ℕ, ◌+◌, ◌*◌, ◌<◌, ◌≤◌, ◌⊎◌, eqb, List, [], ◌∷◌, ◌++◌, length, get_or, set, sym, refl, ap, ◌∙◌, subst, ⊎_elim, inl, inr, arith, Option, Some, None, length-set, get_or-set_other, get_or-set_same, eq-eqb, ne_eqb}
+use Rattle.std.proofs.Common.{◌≡◌, ◌≢◌, ℕ, ◌+◌, ◌*◌, ◌<◌, ◌≤◌, eqb, List, [], ◌∷◌, ◌++◌, length, get_or, set, sym, refl, ap, ◌∙◌, subst, ⊎_elim, inl, inr, arith, Option, Some, None, length-set, get_or-set_other, get_or-set_same, eq-eqb, ne_eqb}
 use Rattle.std.proofs.lemmas.Option.{same_Some, none-some}
 use mathlib.Core.Logic.{dite}
 use mathlib.Core.Option.{some, some-injective, some-ne-none}
@@ -12,17 +12,13 @@ use Rattle.atomic_table.proofs.Lists.{at_snoc, at_longer}
 use Rattle.epoch_base.specs.declared.table.view.ParticipantView.{ParticipantView}
 use Rattle.epoch_base.specs.Table.{word_at, words_for, word_of, Sees, EpochsAgree}
 use Rattle.epoch_base.specs.TableSteps.{without_position, spent, after_word, after_claim, Sits, Claims}
-use Rattle.epoch_base.proofs.SeatSteps.{one_view, step_keeps}
+use Rattle.epoch_base.proofs.SeatSteps.{step_keeps}
+use Rattle.epoch_base.proofs.Views.{one_view, only_view}
 use Rattle.epoch_base.proofs.WordLoads.{load_keeps, same_scan, is_word}
 
 word_of_some : (published : Option ℕ) → 0 < word_of published
 word_of_some None = omega arith
 word_of_some (Some p) = omega arith
-
--- the only view of a new table
-only_view : (v : ParticipantView) (j : ℕ) (u : ParticipantView) → get_elem? (v ∷ []) j ≡ some u → v ≡ u
-only_view v Rattle.std.proofs.Common.zero u at = some-injective v u at
-only_view v (Rattle.std.proofs.Common.suc j) u at = absurd (some-ne-none u (sym at))
 
 module _ {S : Type 0} (positions : ℕ) where
   abbrev Rule : State S ParticipantView → Type 0

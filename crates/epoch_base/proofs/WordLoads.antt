@@ -9,7 +9,8 @@ use Rattle.atomic_table.specs.Table.{State, Me, step, keeps, Allows}
 use Rattle.epoch_base.specs.declared.table.view.ParticipantView.{ParticipantView}
 use Rattle.epoch_base.specs.Table.{word_at, word_of, IsWord, LetsPass, Sees, EpochsAgree}
 use Rattle.epoch_base.specs.TableSteps.{after_word, after_pass, LoadsWord}
-use Rattle.epoch_base.proofs.SeatSteps.{one_view, step_keeps}
+use Rattle.epoch_base.proofs.SeatSteps.{step_keeps}
+use Rattle.epoch_base.proofs.Views.{one_view}
 
 word_of_is_word : (published : Option ℕ) (word : ℕ) → word ≡ word_of published → IsWord word
 word_of_is_word None word is = inr (inl is)

@@ -4,6 +4,7 @@
 mod bag;
 mod epoch;
 mod fault;
+pub mod queue;
 pub mod table;
 
 pub use bag::{BAG_JOBS, Bag, SealedBag};

@@ -8,7 +8,7 @@ use crate::fault::Fault;
 use crate::table::plays::Sit;
 use crate::table::view::ParticipantView;
 use atomic_table::{Seat, Table, TableRule};
-use std::alloc::{AllocError, Global};
+use std::alloc::Global;
 use std::marker::Model;
 
 /// How many positions a table has at most.
@@ -50,17 +50,6 @@ impl Model for Participants {
     } };
 }
 
-/// So many words, each 0.
-fn blank_words(alloc: Global, count: usize) -> Result<Vec<u64>, AllocError>
-    ensures { IfOk result (λ words. words.items ≡ replicate count 0) }
-{
-    let mut words = Vec::with_capacity(alloc, count)?;
-    for _ in 0..count {
-        words.push(0)?;
-    }
-    Ok(words)
-}
-
 impl Participants {
     /// A table with so many positions, from 1 to [`MOST_POSITIONS`], all free, in epoch 0.
     ///
@@ -71,13 +60,13 @@ impl Participants {
         ensures ok { IfOk result (λ table. table.positions ≡ positions) }
         ensures err { IfErr result (λ fault. fault ≡ NoMemory) }
     {
-        let Ok(words) = blank_words(alloc, 16 * positions + 16) else {
+        let Ok(words) = Vec::from_elem(alloc, 0, 16 * positions + 16) else {
             return Err(Fault::NoMemory);
         };
-        match Table::of_words(alloc, words.as_slice(), &(positions as u64)) {
-            Ok((table, _)) => Ok(Participants { table, positions }),
-            Err(_) => Err(Fault::NoMemory),
-        }
+        let Ok((table, _)) = Table::of_words(alloc, words.as_slice(), &(positions as u64)) else {
+            return Err(Fault::NoMemory);
+        };
+        Ok(Participants { table, positions })
     }
 
     /// How many positions it has, at most [`MOST_POSITIONS`].
