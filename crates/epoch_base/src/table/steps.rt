@@ -1,5 +1,5 @@
 //! The steps on the participants' table, each one atomic instruction.
-ghost use Rattle.std.specs.Prelude.{◌≡◌, ◌≢◌, ℕ, ◌+◌, ◌*◌, ◌<◌, ◌≤◌, Some, None};
+ghost use Rattle.std.specs.Prelude.{◌≡◌, ◌≢◌, ℕ, ◌+◌, ◌*◌, ◌/◌, ◌<◌, ◌≤◌, Some, None};
 ghost use Rattle.epoch_base.specs.Table.{IsWord, LetsPass, IsOf, IsKept};
 ghost use Rattle.epoch_base.specs.TableSteps.{after_epoch, after_own, after_free, after_word, after_pass, after_advance, after_claim};
 
@@ -19,12 +19,13 @@ fn word_index(position: usize) -> usize
 }
 
 impl Participants {
-    /// Loads the epoch word, which is twice the epoch.
+    /// Loads the epoch word, which is twice the epoch, and no lower than any that this seat has seen.
     pub fn load_epoch(&self, seat: &mut ParticipantSeat) -> u64
         requires of { IsOf self.now seat.old }
         ensures kept { IsKept seat.old seat.new }
-        ensures answer { (epoch : ℕ) × (result ≡ 2 * epoch) × (seat.old.me.0.seen ≤ epoch) }
-        ensures view { (epoch : ℕ) → result ≡ 2 * epoch → seat.new.me.0 ≡ after_epoch seat.old.me.0 epoch }
+        ensures answer { result ≡ 2 * (result / 2) }
+        ensures rises { seat.old.me.0.seen ≤ result / 2 }
+        ensures view { seat.new.me.0 ≡ after_epoch seat.old.me.0 (result / 2) }
     {
         self.table.shared.load::<LoadEpoch>(seat, 0)
     }

@@ -1,0 +1,5 @@
+//! Whole calls over the single steps of the shared tables, and loops that time the steps.
+#![tactic(auto)]
+
+pub mod participant;
+pub mod places;
