@@ -3,3 +3,5 @@
 
 pub mod participant;
 pub mod places;
+#[cfg(test)]
+mod tests;

@@ -4,6 +4,8 @@
 mod places;
 mod plays;
 mod steps;
+#[cfg(test)]
+mod tests;
 mod view;
 
 pub use places::{MOST_PLACES, PlaceRule, PlaceSeat, SharedPlaces};
