@@ -3,5 +3,7 @@
 
 pub mod participant;
 pub mod places;
+pub mod plain;
 #[cfg(test)]
 mod tests;
+pub mod timed;

@@ -36,7 +36,7 @@ pub struct Participants {
 }
 
 impl Model for Participants {
-    ghost use Rattle.std.specs.Prelude.{◌≡◌, ◌≤◌};
+    ghost use Rattle.std.specs.Prelude.{◌≡◌, ◌<◌, ◌≤◌};
     ghost use Rattle.epoch_base.specs.Table.{Board, words_for};
 
     ghost Value = { Board };
@@ -46,7 +46,8 @@ impl Model for Participants {
     ghost invariant = { λ a. record {
       words : a.table.shared.table_id.words ≡ words_for a.positions;
       key : a.table.shared.key ≡ a.positions;
-      most : a.positions ≤ 4096;
+      some : 0 < a.positions;
+        most : a.positions ≤ 4096;
     } };
 }
 
@@ -69,9 +70,10 @@ impl Participants {
         Ok(Participants { table, positions })
     }
 
-    /// How many positions it has, at most [`MOST_POSITIONS`].
+    /// How many positions it has, from 1 to [`MOST_POSITIONS`].
     pub fn positions(&self) -> usize
         ensures value { result ≡ self.now.positions }
+        ensures some { 0 < result }
         ensures most { result ≤ MOST_POSITIONS }
     {
         self.positions

@@ -63,7 +63,7 @@ impl<J> SharedPlaces<J> {
     {
         let Some(put) = &*bag else { unreachable!() };
         let seal = put.seal();
-        mem::swap(seat.slot_mut(&self.table.shared, place), bag);
+        mem::swap(bag, seat.slot_mut(&self.table.shared, place));
         self.table
             .shared
             .store::<Store>(seat, word_index(place), 2 * seal + 1);

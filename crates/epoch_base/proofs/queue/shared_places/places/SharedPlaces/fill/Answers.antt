@@ -9,9 +9,9 @@ pub store-requires : goal.store-requires
 store-requires g c = let same : c.self.inside.places ≡ c.args.self.now.places = ap (λ (b : PlaceBoard). b.places) c.self.view_is in
     let wide = c.self.invariant.words in
     let below = c.requires.claimed.0 in
-    let bag = c.swap.new.x in
+    let bag = c.swap.new.y in
     let place : ℕ = c.args.place in
     let carried = ap (λ l. (place, bag) ∷ rest l) c.requires.hand in
     let seal = c.seal-seal.ensures.value in
-    let left = subst (λ held. IsAtHome (2 * c.seal-seal.result + 1) held) (sym (c.swap.ensures.x_after ∙ c.in-Some.is)) (ap (λ (z : ℕ). 2 * z + 1) seal) in
+    let left = subst (λ held. IsAtHome (2 * c.seal-seal.result + 1) held) (sym (c.swap.ensures.y_after ∙ c.in-Some.is)) (ap (λ (z : ℕ). 2 * z + 1) seal) in
     rw c.word_index.ensures (search rules, omega arith, place_store_keeps _ _ _ _ _ _ bag c.requires.claimed.1 carried left)
