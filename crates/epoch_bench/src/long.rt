@@ -13,10 +13,10 @@ use std::time::{Clock, Instant};
 use std::{fmt, io, thread};
 
 /// Steps of one loop.
-const COUNT: u64 = 4_000_000;
+const COUNT: u64 = 400_000;
 
 /// Loops of each kind. The quickest one counts, since other programs only ever slow one down.
-const ROUNDS: usize = 5;
+const ROUNDS: usize = 50;
 
 /// So many words from one plain word to the next, where they stand 128 bytes apart as those of the table do.
 const PADDED: usize = 16;
