@@ -39,7 +39,8 @@ pub record PlacesAgree {J : Type 0} (places : ℕ) (s : State (Option (Sealed J)
   pub is_word : (place : ℕ) → place < places → IsPlaceWord (slice_index s.words (word_at place))
   -- A place that isn't claimed has its slot at home: with no bag at 0, and with a bag sealed with s at 2s + 1.
   pub at_home : (place : ℕ) → place < places → slice_index s.words (word_at place) ≢ 2
-      → (bag : Option (Sealed J)) × (get_elem? s.homes place ≡ some (some bag)) × IsAtHome (slice_index s.words (word_at place)) bag
+      → (bag : Option (Sealed J)) × (get_elem? s.homes place ≡ some (some bag))
+      × IsAtHome (slice_index s.words (word_at place)) bag
   -- A place at 2 is claimed by one seat. A view names at most one place that its seat has claimed.
   pub has_claimer : (place : ℕ) → place < places → slice_index s.words (word_at place) ≡ 2
       → (seat : ℕ) × (view : PlaceView) × Sees s seat view × (view.claimed ≡ Some place)
@@ -78,20 +79,27 @@ after_store v = with_claim None v.found
 -- WHAT EACH STEP TELLS
 -- of the step, the seat before, the word found (at a store, the word stored), and the seat after
 
+abbrev pub PlaceStep : Type 0 → Type 0
+PlaceStep J = Step (Option (Sealed J))
+
+abbrev pub PlaceMe : Type 0 → Type 0
+PlaceMe J = Me (Option (Sealed J)) PlaceView
+
 module _ {J : Type 0} where
-  abbrev pub Sits : Step (Option (Sealed J)) → Me (Option (Sealed J)) PlaceView → ℕ → Me (Option (Sealed J)) PlaceView → Type 0
+  abbrev pub Sits : PlaceStep J → PlaceMe J → ℕ → PlaceMe J → Type 0
   Sits step before word after = after ≡ (with_claim None [], [])
 
-  abbrev pub Looks : Step (Option (Sealed J)) → Me (Option (Sealed J)) PlaceView → ℕ → Me (Option (Sealed J)) PlaceView → Type 0
+  abbrev pub Looks : PlaceStep J → PlaceMe J → ℕ → PlaceMe J → Type 0
   Looks step before word after = IsPlaceWord word × (after ≡ (after_look before.0 word, before.1))
 
   -- A claim that is won takes the slot, with what was at home there.
-  abbrev pub Claims : Step (Option (Sealed J)) → Me (Option (Sealed J)) PlaceView → ℕ → Me (Option (Sealed J)) PlaceView → Type 0
+  abbrev pub Claims : PlaceStep J → PlaceMe J → ℕ → PlaceMe J → Type 0
   Claims step before word after = IsPlaceWord word
       × (word ≢ step.first → after ≡ (after_look before.0 word, before.1))
       × (word ≡ step.first → (place : ℕ) → step.word ≡ word_at place
-      → (bag : Option (Sealed J)) × IsAtHome word bag × (after ≡ (after_claim before.0 place word, (place, bag) ∷ before.1)))
+      → (bag : Option (Sealed J)) × IsAtHome word bag
+      × (after ≡ (after_claim before.0 place word, (place, bag) ∷ before.1)))
 
   -- The slot goes home with what was left in it.
-  abbrev pub Stores : Step (Option (Sealed J)) → Me (Option (Sealed J)) PlaceView → ℕ → Me (Option (Sealed J)) PlaceView → Type 0
+  abbrev pub Stores : PlaceStep J → PlaceMe J → ℕ → PlaceMe J → Type 0
   Stores step before word after = after ≡ (after_store before.0, [])

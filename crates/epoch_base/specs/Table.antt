@@ -58,7 +58,8 @@ pub record EpochsAgree {S : Type 0} (positions : ℕ) (s : State S ParticipantVi
       → view.published ≡ Some published
       → ((position : ℕ) × (view.position ≡ Some position)) × (published ≤ view.seen)
   pub pinned_near : (seat : ℕ) (view : ParticipantView) (first : ℕ) → Sees s seat view → view.first_read ≡ Some first
-      → (published : ℕ) × (view.published ≡ Some published) × (published ≤ first) × (first ≤ epoch) × (epoch ≤ first + 1)
+      → (published : ℕ) × (view.published ≡ Some published) × (published ≤ first) × (first ≤ epoch)
+      × (epoch ≤ first + 1)
   -- A scan is by a pinned seat that has read the epoch again. Each seat pinned at a position that the scan has
   -- passed, which has read the epoch again, read the scanned one or a later one.
   pub scans_known : (seat : ℕ) (view : ParticipantView) (scanned passed : ℕ) → Sees s seat view

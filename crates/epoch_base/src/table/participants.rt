@@ -47,7 +47,7 @@ impl Model for Participants {
       words : a.table.shared.table_id.words ≡ words_for a.positions;
       key : a.table.shared.key ≡ a.positions;
       some : 0 < a.positions;
-        most : a.positions ≤ 4096;
+      most : a.positions ≤ 4096;
     } };
 }
 

@@ -71,7 +71,8 @@ impl Participants {
     /// Loads the word of the position that this seat's scan is at, and passes it where the word lets it.
     pub fn load_word(&self, seat: &mut ParticipantSeat, position: usize) -> u64
         requires of { IsOf self.now seat.old }
-        requires scanning { (position < self.now.positions) × ((epoch : ℕ) × (seat.old.me.0.scan ≡ Some (epoch, position))) }
+        requires within { position < self.now.positions }
+        requires scanning { (epoch : ℕ) × (seat.old.me.0.scan ≡ Some (epoch, position)) }
         ensures kept { IsKept seat.old seat.new }
         ensures answer { IsWord result }
         ensures view { (epoch : ℕ) → seat.old.me.0.scan ≡ Some (epoch, position)

@@ -44,6 +44,9 @@ fn one_participant_scans_itself_and_advances_the_epoch(rt: HostRuntime) -> Resul
     let next = table.load_epoch(&mut seat);
     assert!(rt; next == 2, "the word of epoch 1");
     let behind = table.load_word(&mut seat, 0);
-    assert!(rt; behind == 1, "pinned in epoch 0, it holds up the scan for epoch 1");
+    assert!(rt;
+        behind == 1,
+        "pinned in epoch 0, it holds up the scan for epoch 1"
+    );
     Ok(())
 }

@@ -19,7 +19,10 @@ fn a_bag_is_put_into_a_place_and_comes_out_whole(rt: HostRuntime) -> Result<(), 
     assert!(rt; places.look(&mut other, 1) == 2, "it is claimed");
     places.fill(&mut seat, 1, &mut bag);
     assert!(rt; bag.is_none(), "the bag is in the place");
-    assert!(rt; places.look(&mut other, 1) == 7, "it has a bag sealed with 3");
+    assert!(rt;
+        places.look(&mut other, 1) == 7,
+        "it has a bag sealed with 3"
+    );
     let lost = places.claim(&mut other, 1, 0);
     assert!(rt; lost == 7, "it isn't empty");
     let taken = places.claim(&mut other, 1, 7);

@@ -1,4 +1,4 @@
-use Rattle.std.proofs.Common.{rules, ◌≡◌, ℕ, ◌*◌, ◌/◌, sym, ap, ◌∙◌, subst, arith}
+use Rattle.std.proofs.Common.{rules, ◌≡◌, ℕ, ◌*◌, ◌/◌, ap, ◌∙◌, arith}
 use Rattle.epoch_base.specs.TableSteps.{after_epoch}
 use Rattle.epoch_base.proofs.EpochLoads.{epoch_load_keeps}
 use Rattle.epoch_base.proofs.table.participants.Participants.load_epoch.Goals as goal

@@ -6,7 +6,7 @@ use Rattle.epoch_base.proofs.table.participants.Participants.load_word.Goals as 
 pub load-requires : goal.load-requires
 load-requires c = let same : c.self.inside.positions ≡ c.args.self.now.positions = ap (λ (b : Board). b.positions) c.self.view_is in
     let wide = c.self.invariant.words in
-    let below = c.requires.scanning.0 in
+    let below = c.requires.within in
     let key = c.self.invariant.key in
-    let scan = c.requires.scanning.1 in
+    let scan = c.requires.scanning in
     rw c.word_index.ensures (search rules, omega arith, word_load_keeps _ _ _ _ scan.0 _ scan.1 (omega arith))
