@@ -6,7 +6,8 @@ mod cells;
 mod epoch;
 mod fault;
 mod job;
-mod queue;
+pub mod queue;
+pub mod table;
 
 pub use bag::{BAG_JOBS, Bag, SealedBag};
 pub use cells::{MOST_SLOT, Name};
