@@ -2,9 +2,11 @@
 #![tactic(auto)]
 
 mod bag;
+mod cells;
 mod epoch;
 mod fault;
 
 pub use bag::{BAG_JOBS, Bag, SealedBag};
+pub use cells::{CELL_TRIES, Cells, MOST_SLOT, Name, Reading, Removal, Writing};
 pub use epoch::{Epoch, GREATEST_EPOCH};
 pub use fault::{Fault, Refused};

@@ -1,0 +1,65 @@
+//! Names of cells.
+ghost use Rattle.std.specs.Prelude.{◌≡◌, ◌<◌, ◌≤◌, ◌↔◌, IsSome, IfSome};
+
+/// The greatest number of a slot: 24 bits of a pointer's word, beside 8 for the tag and 32 for the turn.
+pub const MOST_SLOT: u32 = 16_777_215;
+
+/// The name of a value in a cell: the slot, from 1 to [`MOST_SLOT`], and the turn at which the value
+/// came in. Each placing uses the slot's next turn, so no name is given twice.
+///
+/// Names are in the order of their pointers' words: by the turn first, and then by the slot.
+#[derive(Clone, Copy, Debug, PartialEq, Eq, PartialOrd, Ord, Hash)]
+pub struct Name {
+    turn: u32,
+    slot: u32,
+    pub ghost some: { 0 < slot },
+    pub ghost within: { slot ≤ 16777215 },
+}
+
+impl Name {
+    /// The first name of the first slot.
+    pub fn first() -> Name
+        ensures slot { result.slot ≡ 1 }
+        ensures turn { result.turn ≡ 0 }
+    {
+        Name { turn: 0, slot: 1 }
+    }
+
+    /// The name of this slot and turn; `None` exactly where the slot is 0 or above [`MOST_SLOT`].
+    pub fn new(slot: u32, turn: u32) -> Option<Name>
+        ensures some { IsSome result ↔ ((0 < slot) × (slot ≤ MOST_SLOT)) }
+        ensures slot { IfSome result (λ name. name.slot ≡ slot) }
+        ensures turn { IfSome result (λ name. name.turn ≡ turn) }
+    {
+        if slot == 0 || slot > MOST_SLOT {
+            return None;
+        }
+        Some(Name { turn, slot })
+    }
+
+    // The name of this slot and turn.
+    pub fn at(slot: u32, turn: u32) -> Name
+        requires some { 0 < slot }
+        requires within { slot ≤ MOST_SLOT }
+        ensures slot { result.slot ≡ slot }
+        ensures turn { result.turn ≡ turn }
+    {
+        Name { turn, slot }
+    }
+
+    /// The number of the slot, from 1 to [`MOST_SLOT`].
+    pub fn slot(self) -> u32
+        ensures value { result ≡ self.slot }
+        ensures some { 0 < result }
+        ensures within { result ≤ MOST_SLOT }
+    {
+        self.slot
+    }
+
+    /// The turn of the slot.
+    pub fn turn(self) -> u32
+        ensures { result ≡ self.turn }
+    {
+        self.turn
+    }
+}
