@@ -8,6 +8,8 @@ ghost use Rattle.epoch_base.specs.declared.fault.Fault.TheVariants.{NoMemory, Ce
 
 mod held;
 mod name;
+#[cfg(test)]
+mod tests;
 mod word;
 
 use crate::cells::held::{Miss, Slot, is_free, started, try_place, try_read, try_write};
