@@ -1,3 +1,4 @@
 pub mod Faults
 pub mod Bags
 pub mod Jobs
+pub mod PlainCells

@@ -8,6 +8,7 @@ ghost use Rattle.epoch_base.specs.declared.fault.Fault.TheVariants.{NoMemory, Ce
 
 mod held;
 mod name;
+mod plain;
 #[cfg(test)]
 mod tests;
 mod word;
