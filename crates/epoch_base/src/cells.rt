@@ -17,6 +17,7 @@ use crate::cells::held::{Miss, Slot, is_free, started, try_place, try_read, try_
 use crate::fault::{Fault, Refused};
 pub use held::{Reading, Writing};
 pub use name::{MOST_SLOT, Name};
+pub use plain::PlainCells;
 use std::alloc::Global;
 use std::sync::atomic::AtomicUsize;
 use std::sync::atomic::Ordering::SeqCst;

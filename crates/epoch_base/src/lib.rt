@@ -8,7 +8,7 @@ mod fault;
 mod job;
 
 pub use bag::{BAG_JOBS, Bag, SealedBag};
-pub use cells::{CELL_TRIES, Cells, MOST_SLOT, Name, Reading, Removal, Writing};
+pub use cells::{CELL_TRIES, Cells, MOST_SLOT, Name, PlainCells, Reading, Removal, Writing};
 pub use epoch::{Epoch, GREATEST_EPOCH};
 pub use fault::{Fault, Refused};
 pub use job::{Called, Job, Run, Work};

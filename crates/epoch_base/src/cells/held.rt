@@ -99,7 +99,10 @@ impl<'a, T: Drop> Writing<'a, T> {
     }
 
     /// The value, to be changed.
-    pub fn get_mut(&mut self) -> &mut T {
+    pub fn get_mut(&mut self) -> &mut T
+        ensures named { self.old.stored ≡ self.old.name }
+        ensures value { result.now ≡ self.old.value.value }
+    {
         &mut self.value
     }
 

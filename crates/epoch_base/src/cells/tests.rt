@@ -3,6 +3,7 @@ use crate::fault::{Fault, Refused};
 use std::alloc::Global;
 use std::test::Fail;
 
+mod plain;
 mod threads;
 
 fn pair(name: Name) -> (u32, u32) {
