@@ -250,7 +250,8 @@ impl<V: Drop> PlainCells<V> {
         let Some(index) = self.find(name) else {
             return Removal::Gone;
         };
-        if self.cells[index].vacate().is_some() {
+        let cell = &mut self.cells[index];
+        if cell.vacate().is_some() {
             Removal::Destroyed
         } else {
             Removal::HeldElsewhere
