@@ -1,5 +1,5 @@
 -- Numbered cells as a plain list: what stands under a name, and what each call leaves.
-use Rattle.std.specs.Prelude.{◌≡◌, ◌≢◌, ℕ, ◌+◌, ◌-◌, ◌<◌, ◌==◌, Bool, true, ◌&&◌, if◌then◌else◌, List, Option, Some, None, is_some, slice_get, slice_set}
+use Rattle.std.specs.Prelude.{◌≡◌, ℕ, ◌-◌, ◌<◌, ◌==◌, Bool, true, ◌&&◌, if◌then◌else◌, List, Option, Some, None, is_some, slice_get, slice_set}
 use Rattle.epoch_base.specs.declared.cells.Removal.{Removal}
 use Rattle.epoch_base.specs.declared.cells.Removal.TheVariants.{Destroyed, HeldElsewhere, Gone}
 

@@ -6,7 +6,7 @@
 //! | `PRESENT` | a value, or nothing where the slot is retired | the value's, or the last one |
 //! | `MARKED` | nothing: who marked it has the value for the time between two steps | the value's |
 //! | `TAKEN` | whatever the one who took it puts there | the value's |
-ghost use Rattle.std.specs.Prelude.{◌≡◌, ◌+◌, ◌*◌, ◌/◌, ◌%◌, ◌<◌};
+ghost use Rattle.std.specs.Prelude.{◌≡◌, ◌+◌, ◌*◌, ◌/◌, ◌%◌, ◌<◌, ◌==◌, if◌then◌else◌};
 ghost use Rattle.counted_slot.specs.Counting.{readers};
 
 use counted_slot::{FREE, PRESENT};
@@ -41,7 +41,9 @@ pub fn word_of(turn: u32, state: u64) -> u64
 
 /// The word of a slot whose value of this turn has gone: free for the next turn, or retired after the last one.
 pub fn vacant(turn: u32) -> u64
-    ensures { (result % 4 < 3) × (readers result ≡ 0) }
+    ensures word { result ≡ (if turn == u32.MAX then turn * 4294967296 + 1 else (turn + 1) * 4294967296) }
+    ensures state { result % 4 < 3 }
+    ensures readers { readers result ≡ 0 }
 {
     if turn == u32::MAX {
         word_of(turn, PRESENT)

@@ -1,4 +1,4 @@
-use Rattle.std.proofs.Common.{◌≡◌, inr, ap, ◌∙◌}
+use Rattle.std.proofs.Common.{inr, ap, ◌∙◌}
 use Rattle.epoch_base.proofs.PlainCellLists.{Found, found, writes_nothing, writes_one}
 use Rattle.epoch_base.proofs.cells.plain.PlainCells.leave.Goals as goal
 

@@ -1,4 +1,4 @@
-use Rattle.std.proofs.Common.{◌≡◌, ℕ, inr, ap, ◌∙◌}
+use Rattle.std.proofs.Common.{◌≡◌, inr, ◌∙◌}
 use Rattle.epoch_base.proofs.PlainCellLists.{Found, found, on_err, writes_nothing, writes_one}
 use Rattle.epoch_base.proofs.cells.plain.PlainCells.write.Goals as goal
 
