@@ -12,3 +12,4 @@ pub mod Registering
 pub mod PlaceLooks
 pub mod PlaceClaims
 pub mod PlaceStores
+pub mod PlainCellLists

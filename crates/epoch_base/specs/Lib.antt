@@ -7,3 +7,5 @@ pub mod Places
 pub mod Table
 pub mod TableSteps
 pub mod SharedPlaces
+pub mod Jobs
+pub mod PlainCells
