@@ -1,6 +1,12 @@
 //! From the lines of a reader to what two writers are given.
-ghost use Rattle.std.specs.Prelude.{IfOk};
-ghost use Rattle.epoch_world.specs.Shapes.{IsValid};
+ghost use Rattle.std.specs.Prelude.{◌≡◌, ◌≢◌, ◌+◌, ◌<◌, true, false, [], IsOk, IfOk, IfErr, IsUtf8, IfSome, MatchOption};
+ghost use Rattle.std.specs.IoError.{error_kind};
+ghost use Rattle.std.specs.Io.BufRead.{DropsThrough, first_piece};
+ghost use Rattle.std.specs.Io.KnownBytes.{IsAtEnd};
+ghost use Rattle.epoch_world.specs.declared.world.shape.Shape.{Shape};
+ghost use Rattle.epoch_run.specs.declared.lines.Command.{Command};
+ghost use Rattle.epoch_run.specs.Endings.{TellsOf, status_of};
+ghost use Rattle.epoch_run.specs.Lines.{SpellsCommand, SpellsShape};
 
 use crate::lines::{Command, read_command, read_shape};
 use crate::printing::Printed;
@@ -26,7 +32,9 @@ pub enum Ending {
 
 impl Ending {
     /// The exit status that tells of it.
-    pub fn status(self) -> u8 {
+    pub fn status(self) -> u8
+        ensures { result ≡ status_of self }
+    {
         match self {
             Ending::Finished => 0,
             Ending::NotAShape(_) | Ending::NotAStep(_) => 2,
@@ -37,6 +45,8 @@ impl Ending {
 }
 
 impl From<io::Error> for Ending {
+    ghost from_gives = { λ error ending. TellsOf (error_kind error) ending };
+
     fn from(error: io::Error) -> Ending {
         if error.kind() == ErrorKind::OutOfMemory {
             Ending::NoMemory
@@ -89,15 +99,12 @@ struct Script<'r, R> {
 
 impl<R: BufRead> Script<'_, R> {
     /// Reads on to the next line that isn't empty; `false` at the end of input.
-    fn advance(&mut self) -> Result<bool, Ending> {
+    fn advance(&mut self) -> Result<bool, Ending>
+        ensures { result ≡ Ok true → self.new.line.items ≢ [] }
+    {
         for _ in 0..u64::MAX {
-            self.line.clear();
-            if self.reader.read_until(b'\n', &mut self.line)? == 0 {
+            if !self.read_line()? {
                 return Ok(false);
-            }
-            self.number = self.number.saturating_add(1);
-            if self.line.last() == Some(&b'\n') {
-                self.line.pop();
             }
             if !self.line.is_empty() {
                 return Ok(true);
@@ -106,14 +113,37 @@ impl<R: BufRead> Script<'_, R> {
         Ok(false)
     }
 
+    /// Reads the next line, without its line feed; `false` at the end of input.
+    fn read_line(&mut self) -> Result<bool, Ending>
+        ensures line { result ≡ Ok true → IfSome (R.remaining self.old.reader.now) (λ bytes. self.new.line.items ≡ first_piece 10 bytes) }
+        ensures rest { result ≡ Ok true → DropsThrough (R.remaining self.old.reader.now) (R.remaining self.new.reader.now) 10 }
+        ensures counted { result ≡ Ok true → self.old.number < u64.MAX → self.new.number ≡ self.old.number + 1 }
+        ensures end { result ≡ Ok false → IsAtEnd (R.remaining self.old.reader.now) }
+        ensures same { result ≡ Ok false → self.new.number ≡ self.old.number }
+    {
+        self.line.clear();
+        if self.reader.read_until(b'\n', &mut self.line)? == 0 {
+            return Ok(false);
+        }
+        self.number = self.number.saturating_add(1);
+        if self.line.last() == Some(&b'\n') {
+            self.line.pop();
+        }
+        Ok(true)
+    }
+
     /// The text of the line, or `None` where its bytes are no text.
-    fn text(&self) -> Option<&str> {
+    fn text(&self) -> Option<&str>
+        ensures { MatchOption result (¬ IsUtf8 self.now.line.items) (λ text. text.now ≡ self.now.line.items) }
+    {
         str::from_utf8(&self.line).ok()
     }
 
     /// The shape that the line says.
     fn shape(&self) -> Result<Shape, Ending>
-        ensures { IfOk result IsValid }
+        ensures ok { IfOk result (λ shape. SpellsShape shape self.now.line.items) }
+        ensures says { (shape : Shape) → IsUtf8 self.now.line.items → SpellsShape shape self.now.line.items → IsOk result }
+        ensures err { IfErr result (λ fault. fault ≡ Ending.NotAShape self.now.number) }
     {
         let fault = Ending::NotAShape(self.number);
         let text = self.text().ok_or(fault)?;
@@ -121,7 +151,11 @@ impl<R: BufRead> Script<'_, R> {
     }
 
     /// What the line asks for.
-    fn command(&self) -> Result<Command, Ending> {
+    fn command(&self) -> Result<Command, Ending>
+        ensures ok { IfOk result (λ command. SpellsCommand command self.now.line.items) }
+        ensures says { (command : Command) → IsUtf8 self.now.line.items → SpellsCommand command self.now.line.items → IsOk result }
+        ensures err { IfErr result (λ fault. fault ≡ Ending.NotAStep self.now.number) }
+    {
         let fault = Ending::NotAStep(self.number);
         let text = self.text().ok_or(fault)?;
         read_command(text).ok_or(fault)
