@@ -38,5 +38,8 @@ pub mod EventsOfGo
 pub mod EventsLawful
 pub mod CallsAfterDeferrals
 pub mod GuardsFew
+pub mod JobsCounted
 pub mod WorldKept
 pub mod Performed
+pub mod RunsGoOn
+pub mod WorldSteps
