@@ -122,8 +122,8 @@ module _ (old new : State) (h : JobsFew old) where
       → JobsFew new
   acts p after epoch queued tickets there fits did =
       let seats : jobs_at_seats (slice_set old.seats p after) + jobs_in (seat_of old p).machine
-          ≡ jobs_at_seats old.seats + jobs_in after.machine =
-          sum_by-set _ old.seats p after (free_seat old.sizes) there in
+      ≡ jobs_at_seats old.seats + jobs_in after.machine =
+      sum_by-set _ old.seats p after (free_seat old.sizes) there in
       subst JobsFew (sym did) (omega (arith, h, fits, seats))
 
   -- a step of the end
