@@ -42,4 +42,5 @@ pub mod JobsCounted
 pub mod WorldKept
 pub mod Performed
 pub mod RunsGoOn
+pub mod CallsGoOn
 pub mod WorldSteps

@@ -11,13 +11,14 @@ ghost use Rattle.epoch_world.specs.Worlds.{state_of, ending_of, IsDrivenAt, IsEm
 ghost use Rattle.epoch_world.specs.Grace.{KeepsGrace};
 ghost use Rattle.epoch_world.specs.Tickets.{HoldsEachTicketOnce, times_called, times_deferred};
 ghost use Rattle.epoch_world.specs.Lawful.{IsLawful};
+ghost use Rattle.epoch_world.specs.Calls.{call_of, ends_call, OnlyLastEnds};
 
 mod guards;
 mod seat;
 mod shape;
 mod step;
 
-use epoch_base::{Bag, BagStore, Called, Epoch, Fault, Places, SealedBag};
+use epoch_base::{BAG_JOBS, Bag, BagStore, Called, Epoch, Fault, Places, SealedBag};
 use epoch_pin::{Ask, Sizes};
 pub use seat::Seat;
 pub use shape::Shape;
@@ -133,6 +134,51 @@ impl<S: BagStore<Job = Deferral>> World<S> {
             replies.push_reserved(reply);
         }
         Ok(replies)
+    }
+
+    /// Begins this participant's call and goes on until it ends, and answers a reply for each step.
+    ///
+    /// A refused call has one reply. `NoMemory`: there was no room for the replies, and nothing was done. What holds
+    /// of the steps holds together with every earlier run, as for [`World::run`].
+    pub fn call(&mut self, participant: u64, call: Call) -> Result<Vec<Reply>, Fault>
+        // It is a run of Begin, and then of Go.
+        ensures runs { IfOk result (λ replies. Runs self.old (call_of participant call replies.items) self.new) }
+        // It takes no step once the call has ended.
+        ensures stops { IfOk result (λ replies. OnlyLastEnds replies.items) }
+
+        // No job is called while a participant pinned at its deferral has stayed pinned without repinning.
+        ensures grace { IfOk result (λ replies. (fresh : State) (earlier : List Entry) → IsFresh fresh → Runs fresh earlier self.old → KeepsGrace (earlier ++ call_of participant call replies.items)) }
+        // Each accepted job is in exactly one bag, or was called exactly once.
+        ensures once { IfOk result (λ replies. (fresh : State) (earlier : List Entry) → IsFresh fresh → Runs fresh earlier self.old → HoldsEachTicketOnce (earlier ++ call_of participant call replies.items) self.new) }
+        // Each event stands only where it may.
+        ensures lawful { IfOk result (λ replies. (fresh : State) (earlier : List Entry) → IsFresh fresh → Runs fresh earlier self.old → IsLawful (earlier ++ call_of participant call replies.items)) }
+
+        ensures err { OnErr result (self.new ≡ self.old) }
+        ensures no_memory { IfErr result (λ fault. fault ≡ NoMemory) }
+    {
+        let most = self.most_steps();
+        let mut replies = with_room(self.alloc, most)?;
+        let mut last = self.step(Step::Begin(participant, call));
+        replies.push_reserved(last);
+        for _ in 1..most {
+            if ends_call(last) {
+                return Ok(replies);
+            }
+            last = self.step(Step::Go(participant));
+            replies.push_reserved(last);
+        }
+        Ok(replies)
+    }
+
+    /// How many steps a call takes at most: a put and a collection, each job of each bag taken, the words of a scan,
+    /// and the steps between them.
+    fn most_steps(&self) -> usize
+        ensures { 10 ≤ result }
+    {
+        let scan = self.sizes.positions as usize;
+        let jobs = self.sizes.collect_bags as usize * BAG_JOBS;
+        let store = 3 * self.store.capacity() + 65;
+        scan + jobs + 2 * store + 10
     }
 
     /// Takes one step. It takes no memory.
@@ -288,6 +334,13 @@ impl<S: BagStore<Job = Deferral>> World<S> {
             None => 0,
         }
     }
+}
+
+/// Whether a call is over with this reply.
+fn ends_call(reply: Reply) -> bool
+    ensures { result ≡ ends_call reply }
+{
+    matches!(reply, Reply::Done(_) | Reply::Refused(_))
 }
 
 /// An empty list with room for so many replies.

@@ -1,0 +1,42 @@
+-- A call goes on by one step.
+use Rattle.std.proofs.Common.{◌≡◌, ℕ, ◌<◌, false, List, [], ◌∷◌, ◌++◌, length, refl, ap, sym, subst, ◌∙◌, arith}
+use Rattle.epoch_world.specs.declared.world.step.Call.{Call}
+use Rattle.epoch_world.specs.declared.world.step.Entry.{Entry}
+use Rattle.epoch_world.specs.declared.world.step.Reply.{Reply}
+use Rattle.epoch_world.specs.declared.world.step.Step.TheVariants.{Begin, Go}
+use Rattle.epoch_world.specs.Run.{State, Takes, Runs}
+use Rattle.epoch_world.specs.Calls.{goes_of, call_of, ends_call, OnlyLastEnds}
+use Rattle.epoch_world.proofs.RunsGoOn.{runs_append}
+
+goes_push : (p : ℕ) (rs : List Reply) (r : Reply) → goes_of p (rs ++ r ∷ []) ≡ goes_of p rs ++ record { step = Go p; reply = r } ∷ []
+goes_push p [] r = refl
+goes_push p (x ∷ rs) r = ap (λ es. record { step = Go p; reply = x } ∷ es) (goes_push p rs r)
+
+call_push : (p : ℕ) (c : Call) (rs : List Reply) (r : Reply) → 0 < length rs → call_of p c (rs ++ r ∷ []) ≡ call_of p c rs ++ record { step = Go p; reply = r } ∷ []
+call_push p c [] r some = absurd (omega arith)
+call_push p c (x ∷ rs) r some = ap (λ es. record { step = Begin p c; reply = x } ∷ es) (goes_push p rs r)
+
+-- the run of a call goes on
+pub call_more : (s t u : State) (p : ℕ) (c : Call) (rs later : List Reply) (r : Reply) → 0 < length rs → later ≡ rs ++ r ∷ []
+    → Runs s (call_of p c rs) t → Takes t (Go p) r u → Runs s (call_of p c later) u
+call_more s t u p c rs later r some more run did =
+    let same : call_of p c later ≡ call_of p c rs ++ record { step = Go p; reply = r } ∷ [] = ap (call_of p c) more ∙ call_push p c rs r some in
+    subst (λ (es : List Entry). Runs s es u) (sym same) (runs_append s t u (call_of p c rs) _ run (u, did, refl))
+
+-- the run of a call begins
+pub call_begun : (s t : State) (p : ℕ) (c : Call) (rs : List Reply) (r : Reply) → rs ≡ r ∷ [] → Takes s (Begin p c) r t → Runs s (call_of p c rs) t
+call_begun s t p c rs r one did = subst (λ (xs : List Reply). Runs s (call_of p c xs) t) (sym one) (t, did, refl)
+
+only_push : (front : List Reply) (last r : Reply) → OnlyLastEnds (front ++ last ∷ []) → ends_call last ≡ false → OnlyLastEnds ((front ++ last ∷ []) ++ r ∷ [])
+only_push [] last r only goes = (goes, tt)
+only_push (x ∷ []) last r only goes = (only.0, (goes, tt))
+only_push (x ∷ y ∷ front) last r only goes = (only.0, only_push (y ∷ front) last r only.1 goes)
+
+-- where the last reply doesn't end the call, one more may end it
+pub only_more : (front rs later : List Reply) (last r : Reply) → rs ≡ front ++ last ∷ [] → later ≡ rs ++ r ∷ [] → OnlyLastEnds rs → ends_call last ≡ false → OnlyLastEnds later
+only_more front rs later last r at more only goes =
+    let pushed = only_push front last r (subst OnlyLastEnds at only) goes in
+    subst OnlyLastEnds (sym (more ∙ ap (λ (xs : List Reply). xs ++ r ∷ []) at)) pushed
+
+pub only_one : (rs : List Reply) (r : Reply) → rs ≡ r ∷ [] → OnlyLastEnds rs
+only_one rs r one = subst OnlyLastEnds (sym one) tt
