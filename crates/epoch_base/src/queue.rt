@@ -11,8 +11,6 @@ mod bag_queue;
 mod collection;
 mod places;
 mod shared_places;
-#[cfg(test)]
-mod tests;
 
 use crate::{Bag, Epoch, Fault, SealedBag};
 pub use bag_queue::BagQueue;

@@ -1,2 +1,0 @@
-pub mod FirstWords
-pub mod SameSizes

@@ -1,5 +1,0 @@
-//! Scripts, and what they print.
-
-mod rows;
-mod scripts;
-mod streams;
