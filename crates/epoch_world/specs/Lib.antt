@@ -6,3 +6,4 @@ pub mod Lawful
 pub mod Shapes
 pub mod Worlds
 pub mod Kept
+pub mod Steps

@@ -1,0 +1,111 @@
+-- How many steps a call still takes at most, and which reply ends it.
+use Rattle.std.specs.Prelude.{◌≡◌, ℕ, ◌+◌, ◌-◌, ◌*◌, Bool, true, false, List, [], ◌∷◌, length, zero, suc}
+use Rattle.epoch_pin.specs.declared.machine.Action.{Action}
+use Rattle.epoch_pin.specs.declared.machine.Action.TheVariants.{Flush, Release}
+use Rattle.epoch_pin.specs.declared.machine.Sizes.{Sizes}
+use Rattle.epoch_pin.specs.declared.machine.Stage.{Stage}
+use Rattle.epoch_pin.specs.declared.machine.Stage.TheVariants.{Idle as Resting, LoadPin, StorePin, ReloadPin, LoadScan, Scan, Advance, Take, Calling, LoadSeal, Put, Keep, LoadRepin, StoreRepin, ReloadRepin, StoreUnpinned, StoreFree, End}
+use Rattle.epoch_pin.specs.Machine.{Machine}
+use Rattle.epoch_world.specs.declared.world.step.Call.{Call}
+use Rattle.epoch_world.specs.declared.world.step.Deferral.{Deferral}
+use Rattle.epoch_world.specs.declared.world.step.Progress.{Progress}
+use Rattle.epoch_world.specs.declared.world.step.Progress.TheVariants.{Idle, Driven, CallsNow, Ends}
+use Rattle.epoch_world.specs.declared.world.step.Reply.{Reply}
+use Rattle.epoch_world.specs.declared.world.step.Reply.TheVariants.{Done, Refused}
+use Rattle.epoch_world.specs.declared.world.step.Step.{Step}
+use Rattle.epoch_world.specs.declared.world.step.Step.TheVariants.{Begin, Go}
+use Rattle.epoch_world.specs.Run.{Seat}
+
+-- HOW MANY STEPS ARE LEFT
+
+-- how many steps in the store the put and the collection under way have left, and how many a new one has at most
+pub record InStore : Type 0 where
+  pub puts : ℕ
+  pub takes : ℕ
+  pub most : ℕ
+
+abbrev pub in_store : ℕ → ℕ → ℕ → InStore
+in_store puts takes most = record { puts = puts; takes = takes; most = most }
+
+-- a release puts its bag after the collection, and gives up its position
+abbrev pub past_collect : Action → ℕ → ℕ
+past_collect Release most = most + 4
+past_collect _ most = 1
+
+-- a collection that has taken so many bags, each of at most 64 jobs, and what follows it
+abbrev pub collects : Action → Sizes → ℕ → ℕ → ℕ → ℕ
+collects a sizes most taken takes = takes + (sizes.collect_bags - taken) * 64 + 1 + past_collect a most
+
+-- the words that a scan still looks at, the store of the epoch, and the collection
+abbrev pub scans : Action → Sizes → ℕ → ℕ → ℕ
+scans a sizes most next = sizes.positions - next + 1 + collects a sizes most 0 most
+
+-- a flush collects after its put
+abbrev pub past_put : Action → Sizes → ℕ → ℕ
+past_put Flush sizes most = 1 + scans Flush sizes most 0
+past_put _ sizes most = 2
+
+-- the stage is an argument of its own, so that a proof goes by its cases
+abbrev pub steps_at : Machine Deferral → InStore → Stage → ℕ
+steps_at m n Resting = 0
+steps_at m n LoadPin = 4 + scans m.action m.sizes n.most 0
+steps_at m n (StorePin e) = 3 + scans m.action m.sizes n.most 0
+steps_at m n ReloadPin = 2 + scans m.action m.sizes n.most 0
+steps_at m n LoadScan = 1 + scans m.action m.sizes n.most 0
+steps_at m n (Scan e k) = scans m.action m.sizes n.most k
+steps_at m n (Advance e) = 1 + collects m.action m.sizes n.most 0 n.most
+steps_at m n (Take x k) = collects m.action m.sizes n.most k n.takes
+steps_at m n (Calling x k) = length m.hand + collects m.action m.sizes n.most (k + 1) n.takes
+steps_at m n LoadSeal = n.most + 2 + past_put m.action m.sizes n.most
+steps_at m n (Put s) = n.puts + 1 + past_put m.action m.sizes n.most
+steps_at m n Keep = 2
+steps_at m n LoadRepin = 4
+steps_at m n (StoreRepin e) = 3
+steps_at m n ReloadRepin = 2
+steps_at m n StoreUnpinned = 2
+steps_at m n StoreFree = 1
+steps_at m n End = 1
+
+abbrev pub machine_steps : Machine Deferral → InStore → ℕ
+machine_steps m n = steps_at m n m.stage
+
+abbrev pub steps_of : Progress → Machine Deferral → InStore → ℕ
+steps_of (Driven c) m n = machine_steps m n
+steps_of CallsNow m n = 2
+steps_of (Ends r) m n = 1
+steps_of Idle m n = 0
+
+-- a participant's call under way
+abbrev pub steps_left : Seat → InStore → ℕ
+steps_left seat n = steps_of seat.progress seat.machine n
+
+-- any call, from its Begin on
+abbrev pub call_bound : Sizes → ℕ → ℕ
+call_bound sizes most = sizes.positions + sizes.collect_bags * 64 + 2 * most + 10
+
+-- WHOLE CALLS
+
+abbrev pub goes : ℕ → ℕ → List Step
+goes p zero = []
+goes p (suc n) = Go p ∷ goes p n
+
+-- a Begin, and then Go
+abbrev pub call_steps : ℕ → Call → ℕ → List Step
+call_steps p c zero = []
+call_steps p c (suc n) = Begin p c ∷ goes p n
+
+abbrev pub ends_call : Reply → Bool
+ends_call (Done answer) = true
+ends_call (Refused fault) = true
+ends_call _ = false
+
+-- none of them ends the call
+abbrev pub AllGoOn : List Reply → Type 0
+AllGoOn [] = Unit {0}
+AllGoOn (reply ∷ replies) = (ends_call reply ≡ false) × AllGoOn replies
+
+-- the last one ends the call, and none before it does
+abbrev pub EndsAtLast : List Reply → Type 0
+EndsAtLast [] = ⊥
+EndsAtLast (reply ∷ []) = ends_call reply ≡ true
+EndsAtLast (reply ∷ next ∷ replies) = (ends_call reply ≡ false) × EndsAtLast (next ∷ replies)
