@@ -45,7 +45,7 @@ pub enum TakeStep {
 }
 
 /// A store of bags. Each step is one atomic step, and costs nothing of a bag's size unless it moves that bag.
-pub trait BagStore {
+pub trait BagStore: Drop {
     type Job: Default + Drop;
 
     /// How far a put has come.

@@ -40,3 +40,5 @@ pub mod CallsAfterDeferrals
 pub mod GuardsFew
 pub mod WorldKept
 pub mod Performed
+pub mod RunsGoOn
+pub mod WorldSteps

@@ -53,7 +53,7 @@ pub begin_takes : (old new : State) (p : ℕ) (c : Call) (seat after : Seat) →
     → Takes old (Begin p c) Began new
 begin_takes old new p c seat after is given begun e =
     subst (λ r. Begins old p c r Began new) (sym (ap (λ (q : Seat). refusal c q old.tickets) (sym is) ∙ given))
-      (refl, e ∙ ap (with_seat old p) (begun ∙ ap (begun_seat c) is))
+    (refl, e ∙ ap (with_seat old p) (begun ∙ ap (begun_seat c) is))
 
 pub go_takes : (old new : State) (p : ℕ) (seat : Seat) (reply : Reply) → seat ≡ seat_of old p → seat.word ≢ Free → Goes old p seat seat.progress reply new → Takes old (Go p) reply new
 go_takes old new p seat reply is taken goes =
@@ -78,7 +78,7 @@ pub perform_takes : (old new : State) (p : ℕ) (seat : Seat) (reply : Reply) (a
     → Performs old p seat seat.machine.stage ask reply new → Takes old (Go p) reply new
 perform_takes old new p seat reply ask is driven did =
     go_takes old new p seat reply is (λ free. driven.taken (ap (λ (q : Seat). q.word) (sym is) ∙ free))
-      (drives_by old new p seat reply ask seat.progress (ap (λ (q : Seat). is_driven q.progress) is ∙ driven.under_way) (ap (λ (q : Seat). asks q.machine) is ∙ driven.asked) did)
+    (drives_by old new p seat reply ask seat.progress (ap (λ (q : Seat). is_driven q.progress) is ∙ driven.under_way) (ap (λ (q : Seat). asks q.machine) is ∙ driven.asked) did)
 
 -- the whole of a step Go that performs an ask, from the participant's part of it
 pub performed : (old now new : State) (p word : ℕ) (seat after : Seat) (reply : Reply) (ask : Ask) (h : Shared) → old ≡ now → AllLinked old
@@ -88,5 +88,5 @@ pub performed : (old now new : State) (p word : ℕ) (seat after : Seat) (reply 
     → Takes old (Go p) reply new
 performed old now new p word seat after reply ask h is linked there driven found did e =
     perform_takes old new p seat reply ask there (subst (λ (s : State). IsDrivenAt s p ask) (sym is) driven)
-      (performs_by old new p word seat after reply h e ask (ap (λ (q : Seat). q.machine.sizes) there ∙ (linked.seats p).sized)
-        (λ k asked. found k asked ∙ ap (λ (s : State). number_of (word_of s k)) (sym is)) did)
+    (performs_by old new p word seat after reply h e ask (ap (λ (q : Seat). q.machine.sizes) there ∙ (linked.seats p).sized)
+    (λ k asked. found k asked ∙ ap (λ (s : State). number_of (word_of s k)) (sym is)) did)

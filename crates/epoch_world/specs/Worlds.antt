@@ -30,3 +30,8 @@ pub record IsDrivenAt (s : State) (p : ℕ) (ask : Ask) : Type 0 where
   pub under_way : is_driven (seat_of s p).progress ≡ true
   pub asked : asks (seat_of s p).machine ≡ Some ask
   pub within : AskFits (seat_of s p).machine.sizes ask
+
+-- an end is under way
+abbrev pub IsEmptying : Ending → Type 0
+IsEmptying (Emptying hand n) = Unit {0}
+IsEmptying _ = ⊥

@@ -1,14 +1,15 @@
 //! The world: all participants of one collector over a store of bags, which takes steps one at a time.
-ghost use Rattle.std.specs.Prelude.{◌≡◌, ◌≢◌, ℕ, ◌+◌, ◌-◌, ◌^◌, ◌<◌, ◌≤◌, List, [], ◌∷◌, ◌++◌, length, IfOk, IfErr, OnErr, MatchOption, IfNone, IfSome, slice_index_or, slice_get, Some, None};
+ghost use Rattle.std.specs.Prelude.{◌≡◌, ◌≢◌, ℕ, ◌+◌, ◌-◌, ◌^◌, ◌<◌, ◌≤◌, List, [], ◌∷◌, ◌++◌, length, IfOk, IfErr, OnErr, MatchOption, IfNone, IfSome, slice_index_or, slice_get, Some, None, true, false, vec_capacity};
 ghost use Rattle.epoch_base.specs.declared.fault.Fault.TheVariants.{NoMemory};
 ghost use Rattle.epoch_world.specs.declared.world.step.Entry.{Entry};
 ghost use Rattle.epoch_world.specs.declared.world.step.Step.TheVariants.{Register, Begin, Go, End as EndStep, EndGo};
+ghost use Rattle.epoch_pin.specs.Machine.{IsSized};
 ghost use Rattle.epoch_world.specs.Shapes.{IsValid};
-ghost use Rattle.epoch_world.specs.Run.{State, IsFresh, Runs, Takes, entries_of, number_of, word_of, Seat as Participant};
+ghost use Rattle.epoch_world.specs.Run.{State, IsFresh, Runs, Takes, Over, entries_of, free_seat, number_of, word_of, Seat as Participant};
 ghost use Rattle.epoch_world.specs.Seats.{WordFits, SeatPerforms, shared};
-ghost use Rattle.epoch_world.specs.Worlds.{state_of, ending_of, IsDrivenAt};
+ghost use Rattle.epoch_world.specs.Worlds.{state_of, ending_of, IsDrivenAt, IsEmptying};
 ghost use Rattle.epoch_world.specs.Grace.{KeepsGrace};
-ghost use Rattle.epoch_world.specs.Tickets.{HoldsEachTicketOnce};
+ghost use Rattle.epoch_world.specs.Tickets.{HoldsEachTicketOnce, times_called, times_deferred};
 ghost use Rattle.epoch_world.specs.Lawful.{IsLawful};
 
 mod guards;
@@ -16,7 +17,7 @@ mod seat;
 mod shape;
 mod step;
 
-use epoch_base::{Bag, BagStore, Epoch, Fault, Places, SealedBag};
+use epoch_base::{Bag, BagStore, Called, Epoch, Fault, Places, SealedBag};
 use epoch_pin::{Ask, Sizes};
 pub use seat::Seat;
 pub use shape::Shape;
@@ -33,6 +34,7 @@ enum EndStage {
 }
 
 /// All participants of one collector, over a store of bags.
+#[derive(Drop)]
 pub struct World<S: BagStore<Job = Deferral> = Places<Deferral>> {
     alloc: Global,
     sizes: Sizes,
@@ -68,6 +70,84 @@ impl<S: BagStore<Job = Deferral>> Model for World<S> {
 }
 
 impl<S: BagStore<Job = Deferral>> World<S> {
+    /// A new world of this shape: no participant is registered, nothing is deferred, and the store is empty.
+    ///
+    /// `NoMemory`: an allocation was refused.
+    pub fn new(alloc: Global, shape: Shape) -> Result<World<S>, Fault>
+        requires { IsValid shape }
+        ensures fresh { IfOk result IsFresh }
+        ensures epoch { IfOk result (λ world. world.epoch ≡ shape.start_epoch) }
+        ensures positions { IfOk result (λ world. length world.seats ≡ shape.participants) }
+        ensures no_memory { IfErr result (λ fault. fault ≡ NoMemory) }
+    {
+        let sizes = Sizes {
+            positions: shape.participants,
+            bag_jobs: shape.bag_jobs,
+            collect_bags: shape.collect_bags,
+        };
+        let store = S::with_room(alloc, shape.bags as usize)?;
+        let count = shape.participants as usize;
+        let seats = free_seats(alloc, count, sizes)?;
+        let putting = repeated(alloc, count, store.start_put())?;
+        let taking = repeated(alloc, count, store.start_take())?;
+        Ok(World {
+            alloc,
+            sizes,
+            epoch: shape.start_epoch,
+            seats,
+            putting,
+            taking,
+            store,
+            tickets: 0,
+            end: EndStage::Open,
+            hand: Bag::new().seal(Epoch::starting()),
+            count: 0,
+        })
+    }
+
+    /// Takes these steps, one after the other, and answers one reply for each.
+    ///
+    /// `NoMemory`: there was no room for the replies, and nothing was done. What holds of the list holds together with
+    /// every earlier run that leads from a new world to the state before it, so lists given one after the other count
+    /// as one list.
+    pub fn run(&mut self, steps: &[Step]) -> Result<Vec<Reply>, Fault>
+        // Steps and replies lead from the state before to the state after, one atomic step each.
+        ensures runs { IfOk result (λ replies. Runs self.old (entries_of steps.now replies.items) self.new) }
+        ensures replies { IfOk result (λ replies. length replies.items ≡ length steps.now) }
+
+        // No job is called while a participant pinned at its deferral has stayed pinned without repinning.
+        ensures grace { IfOk result (λ replies. (fresh : State) (earlier : List Entry) → IsFresh fresh → Runs fresh earlier self.old → KeepsGrace (earlier ++ entries_of steps.now replies.items)) }
+        // Each accepted job is in exactly one bag, or was called exactly once.
+        ensures once { IfOk result (λ replies. (fresh : State) (earlier : List Entry) → IsFresh fresh → Runs fresh earlier self.old → HoldsEachTicketOnce (earlier ++ entries_of steps.now replies.items) self.new) }
+        // Each event stands only where it may.
+        ensures lawful { IfOk result (λ replies. (fresh : State) (earlier : List Entry) → IsFresh fresh → Runs fresh earlier self.old → IsLawful (earlier ++ entries_of steps.now replies.items)) }
+        // When an end is over, every accepted job was called.
+        ensures all_called { IfOk result (λ replies. (fresh : State) (earlier : List Entry) → IsFresh fresh → Runs fresh earlier self.old → self.new.ending ≡ Over → (t : ℕ) → times_called t (earlier ++ entries_of steps.now replies.items) ≡ times_deferred t (earlier ++ entries_of steps.now replies.items)) }
+
+        ensures err { OnErr result (self.new ≡ self.old) }
+        ensures no_memory { IfErr result (λ fault. fault ≡ NoMemory) }
+    {
+        let mut replies = with_room(self.alloc, steps.len())?;
+        for step in steps {
+            let reply = self.step(*step);
+            replies.push_reserved(reply);
+        }
+        Ok(replies)
+    }
+
+    /// Takes one step. It takes no memory.
+    pub fn step(&mut self, step: Step) -> Reply
+        ensures { Takes self.old step result self.new }
+    {
+        match step {
+            Step::Register => self.register(),
+            Step::Begin(position, call) => self.begin(position, call),
+            Step::Go(position) => self.go(position),
+            Step::End => self.begin_end(),
+            Step::EndGo => self.go_on_end(),
+        }
+    }
+
     /// The present epoch. It is no step.
     pub fn epoch(&self) -> u64
         ensures { result ≡ self.now.epoch }
@@ -89,7 +169,7 @@ impl<S: BagStore<Job = Deferral>> World<S> {
         let EndStage::Open = self.end else {
             return Reply::Refused(Fault::Ended);
         };
-        let Some(index) = first_free(self.seats.as_slice()) else {
+        let Some(index) = first_free(&self.seats) else {
             return Reply::Refused(Fault::TableFull);
         };
         self.seats[index].register(self.sizes);
@@ -161,7 +241,7 @@ impl<S: BagStore<Job = Deferral>> World<S> {
         let EndStage::Open = self.end else {
             return Reply::Refused(Fault::Ended);
         };
-        if !all_free(self.seats.as_slice()) {
+        if !all_free(&self.seats) {
             return Reply::Refused(Fault::ParticipantsLeft);
         }
         self.end = EndStage::Emptying;
@@ -209,6 +289,59 @@ impl<S: BagStore<Job = Deferral>> World<S> {
     }
 }
 
+/// An empty list with room for so many replies.
+fn with_room(alloc: Global, count: usize) -> Result<Vec<Reply>, Fault>
+    ensures ok { IfOk result (λ replies. (replies.items ≡ []) × (count ≤ vec_capacity replies)) }
+    ensures no_memory { IfErr result (λ fault. fault ≡ NoMemory) }
+{
+    match Vec::with_capacity(alloc, count) {
+        Ok(replies) => Ok(replies),
+        Err(_) => Err(Fault::NoMemory),
+    }
+}
+
+fn free_seats(alloc: Global, count: usize, sizes: Sizes) -> Result<Vec<Seat>, Fault>
+    requires { IsSized sizes }
+    ensures count { IfOk result (λ seats. length seats.items ≡ count) }
+    ensures free { IfOk result (λ seats. (position : ℕ) → slice_index_or seats.items position (free_seat sizes) ≡ free_seat sizes) }
+    ensures no_memory { IfErr result (λ fault. fault ≡ NoMemory) }
+{
+    let Ok(mut seats) = Vec::with_capacity(alloc, count) else {
+        return Err(Fault::NoMemory);
+    };
+    for _ in 0..count {
+        seats.push_reserved(Seat::free(sizes));
+    }
+    Ok(seats)
+}
+
+/// So many copies of a cursor.
+fn repeated<C: Copy + Drop>(alloc: Global, count: usize, cursor: C) -> Result<Vec<C>, Fault>
+    ensures ok { IfOk result (λ cursors. length cursors.items ≡ count) }
+    ensures no_memory { IfErr result (λ fault. fault ≡ NoMemory) }
+{
+    let Ok(mut cursors) = Vec::with_capacity(alloc, count) else {
+        return Err(Fault::NoMemory);
+    };
+    for _ in 0..count {
+        cursors.push_reserved(cursor);
+    }
+    Ok(cursors)
+}
+
+/// Whether no participant is registered.
+fn all_free(seats: &Vec<Seat>) -> bool
+    ensures yes { result ≡ true → (position : ℕ) (other : Participant) → position < length seats.now.items → (slice_index_or seats.now.items position other).word ≡ Word.Free }
+    ensures no { result ≡ false → ((position : ℕ) (other : Participant) → position < length seats.now.items → (slice_index_or seats.now.items position other).word ≡ Word.Free) → ⊥ }
+{
+    for seat in seats {
+        let Word::Free = seat.word() else {
+            return false;
+        };
+    }
+    true
+}
+
 /// The position that a scan looks at, or 0 where the ask is for something else.
 fn scanned(ask: Ask) -> usize
     ensures { (position : ℕ) → ask ≡ Ask.LoadWord position → result ≡ position }
@@ -220,10 +353,10 @@ fn scanned(ask: Ask) -> usize
 }
 
 /// The least position that is free.
-fn first_free(seats: &[Seat]) -> Option<usize>
-    ensures none { IfNone result ((position : ℕ) (other : Participant) → position < length seats.now → (slice_index_or seats.now position other).word ≢ Word.Free) }
-    ensures some { IfSome result (λ found. (found < length seats.now) × ((other : Participant) → (slice_index_or seats.now found other).word ≡ Word.Free)) }
-    ensures least { IfSome result (λ found. (position : ℕ) (other : Participant) → position < found → (slice_index_or seats.now position other).word ≢ Word.Free) }
+fn first_free(seats: &Vec<Seat>) -> Option<usize>
+    ensures none { IfNone result ((position : ℕ) (other : Participant) → position < length seats.now.items → (slice_index_or seats.now.items position other).word ≢ Word.Free) }
+    ensures some { IfSome result (λ found. (found < length seats.now.items) × ((other : Participant) → (slice_index_or seats.now.items found other).word ≡ Word.Free)) }
+    ensures least { IfSome result (λ found. (position : ℕ) (other : Participant) → position < found → (slice_index_or seats.now.items position other).word ≢ Word.Free) }
 {
     for (index, seat) in seats.iter().enumerate() {
         if let Word::Free = seat.word() {

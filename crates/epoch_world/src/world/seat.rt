@@ -228,7 +228,9 @@ impl Seat {
             }
             Call::Unpin(None) => Some(Fault::StrangerGuard),
             Call::Unpin(Some(guard)) => self.guard_refusal(Some(guard)),
-            Call::Repin(guard) | Call::Pause(guard) | Call::Flush(guard) => self.guard_refusal(guard),
+            Call::Repin(guard) | Call::Pause(guard) | Call::Flush(guard) => self.guard_refusal(
+                guard,
+            ),
             Call::Resume(guard) => self.resume_refusal(guard),
             Call::Defer(None) => None,
             Call::Defer(Some(guard)) => {

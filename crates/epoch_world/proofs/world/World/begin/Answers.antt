@@ -13,9 +13,9 @@ begin-requires g c =
     let at_mut = found_there c.self.inside.seats.items c.self.inside.sizes c.args.position c.index_mut.result.now there c.index_mut.ensures.value in
     let at_index = found_there c.self.inside.seats.items c.self.inside.sizes c.args.position c.index.result.now there c.index.ensures in
     let given : refusal c.args.call c.index_mut.result.now c.self.inside.tickets ≡ None =
-        ap (λ (q : Seat). refusal c.args.call q c.self.inside.tickets) (at_mut ∙ sym at_index) ∙ sym c.refusal.ensures ∙ c.in_default.is in
+    ap (λ (q : Seat). refusal c.args.call q c.self.inside.tickets) (at_mut ∙ sym at_index) ∙ sym c.refusal.ensures ∙ c.in_default.is in
     rests_where_accepted _ c.args.position c.args.call _ c.self.invariant.kept at_mut
-      given
+    given
 
 pub invariant_of-self : goal.invariant_of-self
 invariant_of-self g c =
@@ -23,14 +23,14 @@ invariant_of-self g c =
     let at_mut = found_there c.self.inside.seats.items c.self.inside.sizes c.args.position c.index_mut.result.now there c.index_mut.ensures.value in
     let at_index = found_there c.self.inside.seats.items c.self.inside.sizes c.args.position c.index.result.now there c.index.ensures in
     let given : refusal c.args.call c.index_mut.result.now c.self.inside.tickets ≡ None =
-        ap (λ (q : Seat). refusal c.args.call q c.self.inside.tickets) (at_mut ∙ sym at_index) ∙ sym c.refusal.ensures ∙ c.in_default.is in
+    ap (λ (q : Seat). refusal c.args.call q c.self.inside.tickets) (at_mut ∙ sym at_index) ∙ sym c.refusal.ensures ∙ c.in_default.is in
     record {
       sized = c.self.invariant.sized;
       epoch = c.self.invariant.epoch;
       putting = c.self.invariant.putting ∙ sym (length-set c.self.inside.seats.items c.args.position _);
       taking = c.self.invariant.taking ∙ sym (length-set c.self.inside.seats.items c.args.position _);
       kept = kept_takes _ _ (Begin c.args.position c.args.call) Began c.self.invariant.kept (length-set c.self.inside.seats.items c.args.position _)
-        (begin_takes _ _ c.args.position c.args.call c.index_mut.result.now _ at_mut
+          (begin_takes _ _ c.args.position c.args.call c.index_mut.result.now _ at_mut
           given
           c.begin.ensures refl);
     }

@@ -11,8 +11,8 @@ use Rattle.epoch_world.proofs.world.World.go.Goals as goal
 pub invariant_of-self-in-CallsNow : goal.invariant_of-self-in-CallsNow
 invariant_of-self-in-CallsNow g c =
     let old : State =
-        state_of c.self.inside.sizes c.self.inside.epoch c.self.inside.seats.items (g.S.BagStore.queued c.self.inside.store) c.self.inside.tickets
-        (ending_of c.self.inside.end c.self.inside.hand.jobs c.self.inside.count) in
+    state_of c.self.inside.sizes c.self.inside.epoch c.self.inside.seats.items (g.S.BagStore.queued c.self.inside.store) c.self.inside.tickets
+    (ending_of c.self.inside.end c.self.inside.hand.jobs c.self.inside.count) in
     let there : c.args.position < length c.self.inside.seats.items = omega arith in
     record {
       sized = c.self.invariant.sized;
@@ -20,18 +20,18 @@ invariant_of-self-in-CallsNow g c =
       putting = c.self.invariant.putting ∙ sym (length-set c.self.inside.seats.items c.args.position _);
       taking = c.self.invariant.taking ∙ sym (length-set c.self.inside.seats.items c.args.position _);
       kept = kept_takes old _ (Go c.args.position) c.call_now.result c.self.invariant.kept (length-set c.self.inside.seats.items c.args.position _)
-        (go_takes old _ c.args.position c.index_mut-seat.result.now c.call_now.result
+          (go_takes old _ c.args.position c.index_mut-seat.result.now c.call_now.result
           (found_there c.self.inside.seats.items c.self.inside.sizes c.args.position c.index_mut-seat.result.now there c.index_mut-seat.ensures.value)
           (λ free. c.in_default.not-Free (c.word.ensures.value ∙ free))
           (goes_at old _ c.args.position c.index_mut-seat.result.now c.call_now.result CallsNow (sym c.progress.ensures ∙ c.in-CallsNow.is)
-            (c.call_now.ensures.reply, ap (with_seat old c.args.position) c.call_now.ensures.seat)));
+          (c.call_now.ensures.reply, ap (with_seat old c.args.position) c.call_now.ensures.seat)));
     }
 
 pub invariant_of-self-in-Ends : goal.invariant_of-self-in-Ends
 invariant_of-self-in-Ends g c =
     let old : State =
-        state_of c.self.inside.sizes c.self.inside.epoch c.self.inside.seats.items (g.S.BagStore.queued c.self.inside.store) c.self.inside.tickets
-        (ending_of c.self.inside.end c.self.inside.hand.jobs c.self.inside.count) in
+    state_of c.self.inside.sizes c.self.inside.epoch c.self.inside.seats.items (g.S.BagStore.queued c.self.inside.store) c.self.inside.tickets
+    (ending_of c.self.inside.end c.self.inside.hand.jobs c.self.inside.count) in
     let there : c.args.position < length c.self.inside.seats.items = omega arith in
     record {
       sized = c.self.invariant.sized;
@@ -39,18 +39,18 @@ invariant_of-self-in-Ends g c =
       putting = c.self.invariant.putting ∙ sym (length-set c.self.inside.seats.items c.args.position _);
       taking = c.self.invariant.taking ∙ sym (length-set c.self.inside.seats.items c.args.position _);
       kept = kept_takes old _ (Go c.args.position) c.in-Ends.reply c.self.invariant.kept (length-set c.self.inside.seats.items c.args.position _)
-        (go_takes old _ c.args.position c.index_mut-seat.result.now c.in-Ends.reply
+          (go_takes old _ c.args.position c.index_mut-seat.result.now c.in-Ends.reply
           (found_there c.self.inside.seats.items c.self.inside.sizes c.args.position c.index_mut-seat.result.now there c.index_mut-seat.ensures.value)
           (λ free. c.in_default.not-Free (c.word.ensures.value ∙ free))
           (goes_at old _ c.args.position c.index_mut-seat.result.now c.in-Ends.reply (Ends c.in-Ends.reply) (sym c.progress.ensures ∙ c.in-Ends.is)
-            (refl, ap (with_seat old c.args.position) c.rest.ensures)));
+          (refl, ap (with_seat old c.args.position) c.rest.ensures)));
     }
 
 pub end-requires : goal.end-requires
 end-requires g c =
     let old : State =
-        state_of c.self.inside.sizes c.self.inside.epoch c.self.inside.seats.items (g.S.BagStore.queued c.self.inside.store) c.self.inside.tickets
-        (ending_of c.self.inside.end c.self.inside.hand.jobs c.self.inside.count) in
+    state_of c.self.inside.sizes c.self.inside.epoch c.self.inside.seats.items (g.S.BagStore.queued c.self.inside.store) c.self.inside.tickets
+    (ending_of c.self.inside.end c.self.inside.hand.jobs c.self.inside.count) in
     let there : c.args.position < length c.self.inside.seats.items = omega arith in
     let at = found_there c.self.inside.seats.items c.self.inside.sizes c.args.position c.index_mut-seat.result.now there c.index_mut-seat.ensures.value in
     let drive : c.index_mut-seat.result.now.progress ≡ Driven c.in-Driven.call = sym c.progress.ensures ∙ c.in-Driven.is in
@@ -63,8 +63,8 @@ end-requires g c =
 pub invariant_of-self-in-None : goal.invariant_of-self-in-None
 invariant_of-self-in-None g c =
     let old : State =
-        state_of c.self.inside.sizes c.self.inside.epoch c.self.inside.seats.items (g.S.BagStore.queued c.self.inside.store) c.self.inside.tickets
-        (ending_of c.self.inside.end c.self.inside.hand.jobs c.self.inside.count) in
+    state_of c.self.inside.sizes c.self.inside.epoch c.self.inside.seats.items (g.S.BagStore.queued c.self.inside.store) c.self.inside.tickets
+    (ending_of c.self.inside.end c.self.inside.hand.jobs c.self.inside.count) in
     let there : c.args.position < length c.self.inside.seats.items = omega arith in
     record {
       sized = c.self.invariant.sized;
@@ -72,9 +72,9 @@ invariant_of-self-in-None g c =
       putting = c.self.invariant.putting ∙ sym (length-set c.self.inside.seats.items c.args.position _);
       taking = c.self.invariant.taking ∙ sym (length-set c.self.inside.seats.items c.args.position _);
       kept = kept_takes old _ (Go c.args.position) c.end.result c.self.invariant.kept (length-set c.self.inside.seats.items c.args.position _)
-        (go_takes old _ c.args.position c.index_mut-seat.result.now c.end.result
+          (go_takes old _ c.args.position c.index_mut-seat.result.now c.end.result
           (found_there c.self.inside.seats.items c.self.inside.sizes c.args.position c.index_mut-seat.result.now there c.index_mut-seat.ensures.value)
           (λ free. c.in_default.not-Free (c.word.ensures.value ∙ free))
           (goes_at old _ c.args.position c.index_mut-seat.result.now c.end.result (Driven c.in-Driven.call) (sym c.progress.ensures ∙ c.in-Driven.is)
-            (end_goes old _ c.args.position c.index_mut-seat.result.now c.in-Driven.call c.end.result (sym c.ask.ensures.value ∙ c.in-None.is) (c.end.ensures.reply, ap (with_seat old c.args.position) c.end.ensures.seat))));
+          (end_goes old _ c.args.position c.index_mut-seat.result.now c.in-Driven.call c.end.result (sym c.ask.ensures.value ∙ c.in-None.is) (c.end.ensures.reply, ap (with_seat old c.args.position) c.end.ensures.seat))));
     }

@@ -1,0 +1,26 @@
+use Rattle.std.proofs.Common.{◌≡◌, ◌∙◌, sym, ap, refl, length}
+use Rattle.std.proofs.lemmas.List.{length-set}
+use Rattle.epoch_world.specs.declared.world.EndStage.{EndStage}
+use Rattle.epoch_world.specs.declared.world.step.Reply.TheVariants.{Registered}
+use Rattle.epoch_world.specs.declared.world.step.Step.TheVariants.{Register}
+use Rattle.epoch_world.specs.Run.{State}
+use Rattle.epoch_world.specs.Worlds.{state_of, ending_of}
+use Rattle.epoch_world.proofs.WorldKept.{kept_takes}
+use Rattle.epoch_world.proofs.WorldSteps.{register_takes}
+use Rattle.epoch_world.proofs.world.World.register.Goals as goal
+
+pub invariant_of-self : goal.invariant_of-self
+invariant_of-self g c =
+    let old : State =
+    state_of c.self.inside.sizes c.self.inside.epoch c.self.inside.seats.items (g.S.BagStore.queued c.self.inside.store) c.self.inside.tickets
+    (ending_of c.self.inside.end c.self.inside.hand.jobs c.self.inside.count) in
+    record {
+      sized = c.self.invariant.sized;
+      epoch = c.self.invariant.epoch;
+      putting = c.self.invariant.putting ∙ sym (length-set c.self.inside.seats.items c.in-Some.index _);
+      taking = c.self.invariant.taking ∙ sym (length-set c.self.inside.seats.items c.in-Some.index _);
+      kept = kept_takes old _ Register (Registered c.in-Some.index) c.self.invariant.kept (length-set c.self.inside.seats.items c.in-Some.index _)
+          (register_takes old _ c.in-Some.index c.register.new.self
+          (ap (λ (e : EndStage). ending_of e c.self.inside.hand.jobs c.self.inside.count) c.in-Open.is)
+          c.in-Some.ensures.some.0 c.in-Some.ensures.some.1 c.in-Some.ensures.least c.register.ensures refl);
+    }
