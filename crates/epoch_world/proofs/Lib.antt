@@ -40,5 +40,6 @@ pub mod CallsAfterDeferrals
 pub mod GuardsFew
 pub mod WorldKept
 pub mod Performed
+pub mod StepsFall
 pub mod RunsGoOn
 pub mod WorldSteps

@@ -45,29 +45,29 @@ abbrev pub past_put : Action → Sizes → ℕ → ℕ
 past_put Flush sizes most = 1 + scans Flush sizes most 0
 past_put _ sizes most = 2
 
--- the stage is an argument of its own, so that a proof goes by its cases
-abbrev pub steps_at : Machine Deferral → InStore → Stage → ℕ
-steps_at m n Resting = 0
-steps_at m n LoadPin = 4 + scans m.action m.sizes n.most 0
-steps_at m n (StorePin e) = 3 + scans m.action m.sizes n.most 0
-steps_at m n ReloadPin = 2 + scans m.action m.sizes n.most 0
-steps_at m n LoadScan = 1 + scans m.action m.sizes n.most 0
-steps_at m n (Scan e k) = scans m.action m.sizes n.most k
-steps_at m n (Advance e) = 1 + collects m.action m.sizes n.most 0 n.most
-steps_at m n (Take x k) = collects m.action m.sizes n.most k n.takes
-steps_at m n (Calling x k) = length m.hand + collects m.action m.sizes n.most (k + 1) n.takes
-steps_at m n LoadSeal = n.most + 2 + past_put m.action m.sizes n.most
-steps_at m n (Put s) = n.puts + 1 + past_put m.action m.sizes n.most
-steps_at m n Keep = 2
-steps_at m n LoadRepin = 4
-steps_at m n (StoreRepin e) = 3
-steps_at m n ReloadRepin = 2
-steps_at m n StoreUnpinned = 2
-steps_at m n StoreFree = 1
-steps_at m n End = 1
+-- by the action, the stage, and how many jobs are in hand
+abbrev pub steps_at : Action → Sizes → ℕ → InStore → Stage → ℕ
+steps_at a sizes hand n Resting = 0
+steps_at a sizes hand n LoadPin = 4 + scans a sizes n.most 0
+steps_at a sizes hand n (StorePin e) = 3 + scans a sizes n.most 0
+steps_at a sizes hand n ReloadPin = 2 + scans a sizes n.most 0
+steps_at a sizes hand n LoadScan = 1 + scans a sizes n.most 0
+steps_at a sizes hand n (Scan e k) = scans a sizes n.most k
+steps_at a sizes hand n (Advance e) = 1 + collects a sizes n.most 0 n.most
+steps_at a sizes hand n (Take x k) = collects a sizes n.most k n.takes
+steps_at a sizes hand n (Calling x k) = hand + collects a sizes n.most (k + 1) n.takes
+steps_at a sizes hand n LoadSeal = n.most + 2 + past_put a sizes n.most
+steps_at a sizes hand n (Put s) = n.puts + 1 + past_put a sizes n.most
+steps_at a sizes hand n Keep = 2
+steps_at a sizes hand n LoadRepin = 4
+steps_at a sizes hand n (StoreRepin e) = 3
+steps_at a sizes hand n ReloadRepin = 2
+steps_at a sizes hand n StoreUnpinned = 2
+steps_at a sizes hand n StoreFree = 1
+steps_at a sizes hand n End = 1
 
 abbrev pub machine_steps : Machine Deferral → InStore → ℕ
-machine_steps m n = steps_at m n m.stage
+machine_steps m n = steps_at m.action m.sizes (length m.hand) n m.stage
 
 abbrev pub steps_of : Progress → Machine Deferral → InStore → ℕ
 steps_of (Driven c) m n = machine_steps m n
