@@ -245,6 +245,7 @@ impl<S: BagStore<Job = Deferral>> World<S> {
             return Reply::Refused(Fault::ParticipantsLeft);
         }
         self.end = EndStage::Emptying;
+        self.hand = Bag::new().seal(Epoch::starting());
         self.count = 0;
         Reply::Began
     }

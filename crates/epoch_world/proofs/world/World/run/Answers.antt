@@ -1,0 +1,35 @@
+use Rattle.std.proofs.Common.{arith, ap, ◌∙◌, length, length-append, List}
+use Rattle.epoch_world.specs.declared.world.step.Entry.{Entry}
+use Rattle.epoch_world.specs.Run.{State, Runs}
+use Rattle.epoch_world.proofs.RunsGoOn.{runs_more, runs_whole, runs_append}
+use Rattle.epoch_world.proofs.GraceKept.{every_run_keeps_grace}
+use Rattle.epoch_world.proofs.TicketsOnce.{holds_each_once, end_calls_all}
+use Rattle.epoch_world.proofs.EventsLawful.{replies_stand}
+use Rattle.epoch_world.proofs.CallsAfterDeferrals.{CallsFollow, calls_follow}
+use Rattle.epoch_world.proofs.world.World.run.Goals as goal
+
+pub loop-step-preserved : goal.loop-step-preserved
+loop-step-preserved g c = record {
+  run = runs_more _ _ _ c.args.steps.now c.loop-step.step-index _ c.loop-step.replies.items _ c.step-reply.result (omega arith)
+    c.loop-step.invariant.count c.push_reserved.ensures.items c.loop-step.invariant.run c.step-reply.ensures;
+  count = ap length c.push_reserved.ensures.items ∙ simp length-append (omega arith);
+  room = omega arith;
+}
+
+pub returns-clause-grace : goal.returns-clause-grace
+returns-clause-grace g c fresh earlier new run =
+    every_run_keeps_grace fresh _ _ new (runs_append _ _ _ earlier _ run (runs_whole _ _ c.args.steps.now c.loop-step.step-index _ (omega arith) c.loop-step.invariant.run))
+
+pub returns-clause-once : goal.returns-clause-once
+returns-clause-once g c fresh earlier new run =
+    holds_each_once fresh _ _ new (runs_append _ _ _ earlier _ run (runs_whole _ _ c.args.steps.now c.loop-step.step-index _ (omega arith) c.loop-step.invariant.run))
+
+pub returns-clause-lawful : goal.returns-clause-lawful
+returns-clause-lawful g c fresh earlier new run =
+    let whole = runs_append _ _ _ earlier _ run (runs_whole _ _ c.args.steps.now c.loop-step.step-index _ (omega arith) c.loop-step.invariant.run) in
+    let calls = calls_follow fresh _ _ new whole in
+    record { in_calls = replies_stand fresh _ _ new whole; once = calls.once; deferred = calls.deferred }
+
+pub returns-clause-all_called : goal.returns-clause-all_called
+returns-clause-all_called g c fresh earlier new run over =
+    end_calls_all fresh _ _ new (runs_append _ _ _ earlier _ run (runs_whole _ _ c.args.steps.now c.loop-step.step-index _ (omega arith) c.loop-step.invariant.run)) over
