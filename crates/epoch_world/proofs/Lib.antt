@@ -41,5 +41,6 @@ pub mod GuardsFew
 pub mod WorldKept
 pub mod Performed
 pub mod StepsFall
+pub mod TurnsTaken
 pub mod RunsGoOn
 pub mod WorldSteps

@@ -1,0 +1,89 @@
+//! One participant's steps and whole calls, over the parts of a world, where the cursors into the store are in view.
+ghost use Rattle.std.specs.Prelude.{◌≡◌, ◌≢◌, ℕ, ◌+◌, ◌*◌, ◌^◌, ◌<◌, ◌≤◌, false, length, slice_index_or};
+ghost use Rattle.epoch_world.specs.declared.world.step.Step.TheVariants.{Go};
+ghost use Rattle.epoch_world.specs.Kept.{IsKept};
+ghost use Rattle.epoch_world.specs.Run.{Ending, Open, Takes, free_seat, number_of};
+ghost use Rattle.epoch_world.specs.Steps.{in_store, steps_left, ends_call};
+ghost use Rattle.epoch_world.specs.Worlds.{state_of, IsDrivenAt};
+
+use crate::world::seat::Seat;
+use crate::world::step::{Deferral, Progress, Reply, Word};
+use crate::world::{number_of, scanned};
+use epoch_base::{BagStore, Fault};
+use epoch_pin::{Ask, Sizes};
+
+/// One step of a participant that may have a call under way.
+pub fn go_on<S: BagStore<Job = Deferral>>(
+    index: usize,
+    sizes: Sizes,
+    epoch: &mut u64,
+    seats: &mut Vec<Seat>,
+    store: &mut S,
+    tickets: &mut u64,
+    putting: &mut S::Putting,
+    taking: &mut S::Taking,
+) -> Reply
+    requires there { index < length seats.old.items }
+    requires epoch { epoch.old < 2 ^ 63 }
+    requires kept { IsKept (state_of sizes epoch.old seats.old.items (S.queued store.old) tickets.old Open) }
+    ensures step { (ending : Ending) → Takes (state_of sizes epoch.old seats.old.items (S.queued store.old) tickets.old ending) (Go index) result (state_of sizes epoch.new seats.new.items (S.queued store.new) tickets.new ending) }
+    ensures epoch { epoch.new < 2 ^ 63 }
+    ensures positions { length seats.new.items ≡ length seats.old.items }
+
+    // The call has fewer steps left.
+    ensures fewer { ends_call result ≡ false → steps_left (slice_index_or seats.new.items index (free_seat sizes)) (in_store (S.puts_left (S.capacity store.old) putting.new) (S.takes_left (S.capacity store.old) taking.new) (3 * S.capacity store.old + 65)) < steps_left (slice_index_or seats.old.items index (free_seat sizes)) (in_store (S.puts_left (S.capacity store.old) putting.old) (S.takes_left (S.capacity store.old) taking.old) (3 * S.capacity store.old + 65)) }
+    ensures capacity { S.capacity store.new ≡ S.capacity store.old }
+{
+    let seat = &mut seats[index];
+    if let Word::Free = seat.word() {
+        return Reply::Refused(Fault::NotRegistered);
+    }
+    match seat.progress() {
+        Progress::Idle => Reply::Refused(Fault::Idle),
+        Progress::CallsNow => seat.call_now(),
+        Progress::Ends(reply) => {
+            seat.rest();
+            reply
+        }
+        Progress::Driven(call) => match seat.ask() {
+            None => seat.end(call),
+            Some(ask) => perform(index, sizes, ask, epoch, seats, store, tickets, putting, taking),
+        },
+    }
+}
+
+/// Performs what the participant's machine asks for.
+fn perform<S: BagStore<Job = Deferral>>(
+    index: usize,
+    sizes: Sizes,
+    ask: Ask,
+    epoch: &mut u64,
+    seats: &mut Vec<Seat>,
+    store: &mut S,
+    tickets: &mut u64,
+    putting: &mut S::Putting,
+    taking: &mut S::Taking,
+) -> Reply
+    requires there { index < length seats.old.items }
+    requires epoch { epoch.old < 2 ^ 63 }
+    requires kept { IsKept (state_of sizes epoch.old seats.old.items (S.queued store.old) tickets.old Open) }
+    requires driven { IsDrivenAt (state_of sizes epoch.old seats.old.items (S.queued store.old) tickets.old Open) index ask }
+    ensures step { (ending : Ending) → Takes (state_of sizes epoch.old seats.old.items (S.queued store.old) tickets.old ending) (Go index) result (state_of sizes epoch.new seats.new.items (S.queued store.new) tickets.new ending) }
+    ensures epoch { epoch.new < 2 ^ 63 }
+    ensures positions { length seats.new.items ≡ length seats.old.items }
+    ensures fewer { ends_call result ≡ false → steps_left (slice_index_or seats.new.items index (free_seat sizes)) (in_store (S.puts_left (S.capacity store.old) putting.new) (S.takes_left (S.capacity store.old) taking.new) (3 * S.capacity store.old + 65)) < steps_left (slice_index_or seats.old.items index (free_seat sizes)) (in_store (S.puts_left (S.capacity store.old) putting.old) (S.takes_left (S.capacity store.old) taking.old) (3 * S.capacity store.old + 65)) }
+    ensures capacity { S.capacity store.new ≡ S.capacity store.old }
+{
+    let word = number_at(seats, scanned(ask));
+    let seat = &mut seats[index];
+    seat.perform(ask, index as u64, word, epoch, store, tickets, putting, taking)
+}
+
+fn number_at(seats: &Vec<Seat>, index: usize) -> u64
+    ensures { (sizes : Sizes) → result ≡ number_of (slice_index_or seats.now.items index (free_seat sizes)).word }
+{
+    match seats.get(index) {
+        Some(seat) => number_of(seat.word()),
+        None => 0,
+    }
+}
