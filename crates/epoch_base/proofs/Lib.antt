@@ -2,3 +2,14 @@ pub mod BagLists
 pub mod PlaceWords
 pub mod PlacedBags
 pub mod PlaceSteps
+pub mod Views
+pub mod SeatSteps
+pub mod EpochLoads
+pub mod WordLoads
+pub mod OwnStores
+pub mod EpochStores
+pub mod Registering
+pub mod PlaceLooks
+pub mod PlaceClaims
+pub mod PlaceStores
+pub mod PlainCellLists

@@ -4,3 +4,8 @@ pub mod Stores
 pub mod Queues
 pub mod PlaceLists
 pub mod Places
+pub mod Table
+pub mod TableSteps
+pub mod SharedPlaces
+pub mod Jobs
+pub mod PlainCells

@@ -10,6 +10,7 @@ ghost use Rattle.epoch_base.specs.Stores.{AllExpired, PutsBag, TakesBag, FindsBa
 mod bag_queue;
 mod collection;
 mod places;
+mod shared_places;
 #[cfg(test)]
 mod tests;
 
@@ -17,6 +18,7 @@ use crate::{Bag, Epoch, Fault, SealedBag};
 pub use bag_queue::BagQueue;
 pub use collection::take_some;
 pub use places::{Places, PutCursor, TakeCursor};
+pub use shared_places::{MOST_PLACES, PlaceRule, PlaceSeat, PlaceView, SharedPlaces};
 use std::alloc::Global;
 
 /// How many bags a store has room for at most.

@@ -15,7 +15,7 @@ use Rattle.epoch_world.proofs.DeferralEpochs.{deferred_push, sealed_more}
 use Rattle.epoch_world.proofs.QuietReplies.{IsQuiet, quiet_stepped}
 use Rattle.epoch_world.proofs.SeatsFine.{View, IsFine, IsNext, publishes_at, fine_next, fine_more}
 use Rattle.epoch_world.proofs.WorldHolds.{Holds, holds_along, view_of, acted, changed, changed_same, changed_other}
-use Rattle.epoch_world.proofs.SeatSteps.{quiet_step, publishes}
+use Rattle.epoch_world.proofs.SeatSteps.{quiet_step}
 
 module _ (old new : State) (log : List Entry) (x : Entry) (h : Holds old log) (p : ℕ)
     (taken : word_of old p ≢ Free) where

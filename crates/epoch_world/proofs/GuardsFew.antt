@@ -1,5 +1,5 @@
 -- No participant has more than 64 guards out, its paused one among them.
-use Rattle.std.proofs.Common.{◌≡◌, ◌≢◌, ℕ, ◌+◌, ◌<◌, ◌≤◌, ◌==◌, Bool, true, false, List, [], ◌∷◌, ◌++◌, length, Option, Some, None, ◌⊎◌, inl, inr, refl, ap, sym, subst, ◌∙◌, arith, if◌then◌else◌, slice_index_or, slice_set}
+use Rattle.std.proofs.Common.{◌≡◌, ◌≢◌, ℕ, ◌+◌, ◌<◌, ◌≤◌, ◌==◌, Bool, true, false, List, [], ◌∷◌, length, Option, Some, None, ◌⊎◌, inl, inr, refl, ap, sym, subst, ◌∙◌, arith, if◌then◌else◌, slice_index_or, slice_set}
 use Rattle.std.proofs.lemmas.Bool.Decides.{nat_tests}
 use Rattle.std.proofs.lemmas.List.{length-append}
 use Rattle.epoch_base.specs.declared.fault.Fault.{Fault}
@@ -19,8 +19,8 @@ use Rattle.epoch_world.specs.declared.world.step.Word.{Word}
 use Rattle.epoch_world.specs.declared.world.step.Word.TheVariants.{Unpinned}
 use Rattle.epoch_world.specs.declared.world.step.Progress.{Progress}
 use Rattle.epoch_world.specs.declared.world.step.Progress.TheVariants.{Idle, Driven, CallsNow, Ends}
-use Rattle.epoch_world.specs.Run.{Seat, State, Ending, Open, Emptying, Over, seat_of, word_of, with_seat, with_word, free_seat, lowest, without, waits, resume_refusal, call_refusal, refusal, begun_seat, Begins, ended_seat, Performs, Drives, Goes, EndGoes, Takes, IsFresh}
-use Rattle.epoch_world.specs.Kept.{IsDriven, IsLinked, AllLinked, paused_count, Awake, HasRoom, AllRoomy}
+use Rattle.epoch_world.specs.Run.{Seat, State, Ending, Open, Emptying, Over, seat_of, with_seat, with_word, free_seat, lowest, waits, resume_refusal, call_refusal, refusal, begun_seat, Begins, ended_seat, Performs, Drives, Goes, EndGoes, Takes, IsFresh}
+use Rattle.epoch_world.specs.Kept.{IsDriven, AllLinked, paused_count, Awake, HasRoom, AllRoomy}
 use Rattle.epoch_world.proofs.SeatLemmas.{seat_written, seat_other, seat_there, same_or_other, IsAccepted, begin_given}
 use Rattle.epoch_world.proofs.Linked.{length_without, follows_at}
 

@@ -38,6 +38,7 @@ pub mod EventsOfGo
 pub mod EventsLawful
 pub mod CallsAfterDeferrals
 pub mod GuardsFew
+pub mod JobsCounted
 pub mod WorldKept
 pub mod Performed
 pub mod StepsFall

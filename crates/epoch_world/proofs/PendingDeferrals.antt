@@ -6,12 +6,12 @@ use Rattle.epoch_base.specs.declared.fault.Fault.TheVariants.{StrangerGuard, Tic
 use Rattle.epoch_pin.specs.declared.machine.Action.{Action}
 use Rattle.epoch_pin.specs.declared.machine.Action.TheVariants.{Pin, Unpin, Repin, Defer, Flush, Release}
 use Rattle.epoch_pin.specs.declared.machine.Stage.{Stage}
-use Rattle.epoch_pin.specs.declared.machine.Stage.TheVariants.{Idle, LoadPin, LoadScan, Scan, Advance, Take, LoadSeal, Keep, LoadRepin, StoreUnpinned, End}
+use Rattle.epoch_pin.specs.declared.machine.Stage.TheVariants.{LoadPin, LoadScan, Scan, Advance, Take, LoadSeal, Keep, LoadRepin, StoreUnpinned, End}
 use Rattle.epoch_pin.specs.Machine.{Machine, is_empty, after_collect, after_pin, after_put, after_unpin, after_job, holds_up, scanned, past_word, first_stage}
 use Rattle.epoch_world.specs.declared.world.step.Call.TheVariants.{Defer as DeferCall}
 use Rattle.epoch_world.specs.declared.world.step.Deferral.{Deferral}
 pub use Rattle.epoch_world.specs.Kept.{is_busy, pending_at, pending, KeepsAt, Keeps, Bounded}
-use Rattle.epoch_world.specs.Run.{State, seat_of, Seat, call_refusal}
+use Rattle.epoch_world.specs.Run.{Seat, call_refusal}
 
 pending_most : (a : Action) (s t : Stage) → is_busy s ≡ true → pending_at a t ≤ pending_at a s
 pending_most Defer s t busy = most (is_busy t) (is_busy s) busy

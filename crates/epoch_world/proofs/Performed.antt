@@ -1,6 +1,5 @@
 -- A participant's part of a step, put into the world, is the world's step.
-use Rattle.std.proofs.Common.{◌≡◌, ◌≢◌, ℕ, ◌+◌, ◌<◌, ◌≤◌, Bool, true, false, List, [], ◌∷◌, length, zero, suc, Option, Some, None, inl, inr, refl, ap, ap₂, sym, subst, ◌∙◌, arith, slice_index_or, slice_set}
-use Rattle.std.proofs.lemmas.List.{length-set}
+use Rattle.std.proofs.Common.{◌≡◌, ◌≢◌, ℕ, ◌<◌, true, List, [], ◌∷◌, length, zero, suc, Some, None, inr, refl, ap, ap₂, sym, subst, ◌∙◌, arith, slice_index_or}
 use Rattle.epoch_pin.specs.declared.machine.Ask.{Ask}
 use Rattle.epoch_pin.specs.declared.machine.Ask.TheVariants.{LoadEpoch, LoadWord, StorePinned, StoreRepinned, StoreUnpinned, StoreFree, StoreEpoch, PutBag, TakeBag, KeepJob, CallJob}
 use Rattle.epoch_pin.specs.declared.machine.Sizes.{Sizes}

@@ -1,23 +1,28 @@
 -- Every step keeps what the world's code rests on.
-use Rattle.std.proofs.Common.{◌≡◌, ◌≢◌, ℕ, ◌+◌, ◌^◌, ◌<◌, ◌≤◌, Bool, true, false, refl, List, length, Option, Some, None, ap, sym, subst, ◌∙◌, arith}
+use Rattle.std.proofs.Common.{◌≡◌, ℕ, ◌+◌, ◌^◌, ◌<◌, ◌≤◌, true, false, refl, List, ◌∷◌, length, Option, Some, None, ap, sym, subst, ◌∙◌, arith}
 use Rattle.epoch_pin.specs.declared.machine.Action.{Action}
 use Rattle.epoch_pin.specs.declared.machine.Action.TheVariants.{Pin as PinAction, Unpin as UnpinAction, Repin as RepinAction, Defer as DeferAction, Flush as FlushAction, Release as ReleaseAction}
 use Rattle.epoch_pin.specs.Machine.{guards_after, ask_at, asks}
 use Rattle.epoch_pin.specs.declared.machine.Ask.TheVariants.{KeepJob}
 use Rattle.epoch_pin.specs.declared.machine.Stage.{Stage}
 use Rattle.epoch_pin.specs.declared.machine.Stage.TheVariants.{Idle as Resting, Keep, End}
+use Rattle.epoch_world.specs.declared.world.EndStage.{EndStage}
+use Rattle.epoch_world.specs.declared.world.EndStage.TheVariants.{Open as OpenStage, Emptying as EmptyingStage, Over as OverStage}
 use Rattle.epoch_world.specs.declared.world.step.Call.{Call}
 use Rattle.epoch_world.specs.declared.world.step.Call.TheVariants.{Pin, Unpin, Repin, Pause, Resume, Defer, Flush, Release}
+use Rattle.epoch_world.specs.declared.world.step.Deferral.{Deferral}
 use Rattle.epoch_world.specs.declared.world.step.Step.{Step}
 use Rattle.epoch_world.specs.declared.world.step.Reply.{Reply}
 use Rattle.epoch_world.specs.declared.world.step.Progress.{Progress}
 use Rattle.epoch_world.specs.declared.world.step.Progress.TheVariants.{Idle, Driven}
 use Rattle.epoch_world.specs.Run.{Seat, State, seat_of, refusal, Takes, IsFresh}
 use Rattle.epoch_world.specs.Seats.{adds_guard}
-use Rattle.epoch_world.specs.Kept.{Follows, IsDriven, IsLinked, rests, BeganUnder, Awake, HasRoom, IsKept, paused_count}
+use Rattle.epoch_world.specs.Worlds.{ending_of, IsEmptying}
+use Rattle.epoch_world.specs.Kept.{IsDriven, rests, BeganUnder, Awake, HasRoom, IsKept, paused_count, jobs_at_end}
 use Rattle.epoch_world.proofs.SeatLemmas.{begin_given}
 use Rattle.epoch_world.proofs.Linked.{step_linked, fresh_linked, follows_at}
 use Rattle.epoch_world.proofs.GuardsFew.{takes_room, fresh_room}
+use Rattle.epoch_world.proofs.JobsCounted.{takes_jobs, fresh_jobs}
 use Rattle.epoch_world.proofs.TicketsBounded.{tickets_bounded, fresh_bounded, keep_fits}
 
 pub kept_takes : (old new : State) (step : Step) (reply : Reply) → IsKept old → length new.seats ≡ length old.seats → Takes old step reply new → IsKept new
@@ -25,11 +30,12 @@ kept_takes old new step reply h same did = record {
   linked = step_linked old new step reply h.linked did;
   roomy = takes_room old new reply h.linked h.roomy step did;
   bounded = tickets_bounded old new step reply did h.bounded;
+  jobs = takes_jobs old new step reply h.jobs did;
   few = omega (arith, h.few, same);
 }
 
 pub fresh_kept : (s : State) → IsFresh s → length s.seats ≤ 64 → IsKept s
-fresh_kept s fresh few = record { linked = fresh_linked s fresh; roomy = fresh_room s fresh; bounded = fresh_bounded s fresh; few = few }
+fresh_kept s fresh few = record { linked = fresh_linked s fresh; roomy = fresh_room s fresh; bounded = fresh_bounded s fresh; jobs = fresh_jobs s fresh; few = few }
 
 -- where a call isn't refused, the machine rests
 pub rests_where_accepted : (s : State) (p : ℕ) (c : Call) (seat : Seat) → IsKept s → seat ≡ seat_of s p → refusal c seat s.tickets ≡ None → seat.machine.stage ≡ Resting
@@ -90,3 +96,11 @@ guards_fit s p seat h is = by_action seat.machine.action seat.machine.guards few
 -- where a job is kept, there is a ticket for it
 pub ticket_left : (s : State) (p : ℕ) (seat : Seat) → IsKept s → p < length s.seats → seat ≡ seat_of s p → asks seat.machine ≡ Some KeepJob → s.tickets + 1 < 2 ^ 64
 ticket_left s p seat h there is asked = keep_fits s p h.bounded there (keeps_at (seat_of s p).machine.stage (ap (λ (q : Seat). asks q.machine) (sym is) ∙ asked)) h.few
+
+-- an end that has a job in hand has called fewer jobs than 2^64 - 1
+pub one_more_counts : (s : State) (stage : EndStage) (job : Deferral) (hand left : List Deferral) (n : ℕ) → IsKept s → s.ending ≡ ending_of stage hand n → IsEmptying s.ending → hand ≡ job ∷ left → n + 1 < 2 ^ 64
+one_more_counts s EmptyingStage job hand left n h at emptying is =
+    let counted : jobs_at_end s.ending ≡ length hand + n = ap jobs_at_end at in
+    omega (arith, h.jobs, h.bounded.tickets, h.few, counted, ap length is)
+one_more_counts s OpenStage job hand left n h at emptying is = absurd (subst IsEmptying at emptying)
+one_more_counts s OverStage job hand left n h at emptying is = absurd (subst IsEmptying at emptying)

@@ -1,11 +1,10 @@
 -- Steps of the world that write one seat, or none.
-use Rattle.std.proofs.Common.{◌≡◌, ◌≢◌, ℕ, zero, suc, ◌+◌, ◌<◌, ◌≤◌, List, [], ◌∷◌, ◌++◌, length, ◌⊎◌, inl, inr, refl, ap, sym, subst, ◌∙◌, arith, slice_index_or}
+use Rattle.std.proofs.Common.{◌≡◌, ◌≢◌, ℕ, zero, suc, ◌<◌, ◌≤◌, List, [], ◌∷◌, ◌++◌, length, ◌⊎◌, inl, inr, refl, ap, ◌∙◌, arith, slice_index_or}
 use Rattle.epoch_base.specs.declared.fault.Fault.TheVariants.{ParticipantsLeft}
 use Rattle.epoch_world.specs.declared.world.step.Reply.TheVariants.{Registered, Began, Refused}
 use Rattle.epoch_world.specs.declared.world.step.Step.TheVariants.{Register, End as EndStep}
-use Rattle.epoch_world.specs.declared.world.step.Word.{Word}
 use Rattle.epoch_world.specs.declared.world.step.Word.TheVariants.{Free, Unpinned}
-use Rattle.epoch_world.specs.Run.{Seat, State, Open, Emptying, seat_of, word_of, with_seat, free_seat, AllFree, Takes}
+use Rattle.epoch_world.specs.Run.{Seat, State, Open, Emptying, with_seat, free_seat, AllFree, Takes}
 use Rattle.epoch_world.proofs.SeatLemmas.{seat_past}
 use Rattle.epoch_world.proofs.Performed.{same_within}
 

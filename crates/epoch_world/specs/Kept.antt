@@ -13,7 +13,7 @@ use Rattle.epoch_world.specs.declared.world.step.Deferral.{Deferral}
 use Rattle.epoch_world.specs.declared.world.step.Progress.{Progress}
 use Rattle.epoch_world.specs.declared.world.step.Progress.TheVariants.{Driven, Ends}
 use Rattle.epoch_world.specs.declared.world.step.Reply.TheVariants.{Done}
-use Rattle.epoch_world.specs.Run.{Seat, State, seat_of, is_out}
+use Rattle.epoch_world.specs.Run.{Bag, Seat, State, Ending, Emptying, seat_of, is_out}
 
 -- CALLS, MACHINES AND GUARDS SAY THE SAME
 
@@ -113,10 +113,34 @@ pub record Bounded (s : State) : Type 0 where
   pub tickets : s.tickets + sum_by pending s.seats ≤ (2 ^ 64 - 4097) + length s.seats
   pub keeps : (p : ℕ) → Keeps (seat_of s p)
 
+-- JOBS ARE NO MORE THAN TICKETS
+
+-- the jobs of a participant: held, and in hand
+abbrev pub jobs_in : Machine Deferral → ℕ
+jobs_in m = length m.held + length m.hand
+
+abbrev pub jobs_at_seats : List Seat → ℕ
+jobs_at_seats seats = sum_by (λ seat. jobs_in seat.machine) seats
+
+abbrev pub jobs_queued : List Bag → ℕ
+jobs_queued bags = sum_by (λ bag. length bag.jobs) bags
+
+-- the jobs that an end has in hand, with those that it called
+abbrev pub jobs_at_end : Ending → ℕ
+jobs_at_end (Emptying hand n) = length hand + n
+jobs_at_end _ = 0
+
+abbrev pub all_jobs : State → ℕ
+all_jobs s = jobs_at_seats s.seats + jobs_queued s.queued + jobs_at_end s.ending
+
+abbrev pub JobsFew : State → Type 0
+JobsFew s = all_jobs s ≤ s.tickets
+
 -- ALL OF IT
 
 pub record IsKept (s : State) : Type 0 where
   pub linked : AllLinked s
   pub roomy : AllRoomy s
   pub bounded : Bounded s
+  pub jobs : JobsFew s
   pub few : length s.seats ≤ 64

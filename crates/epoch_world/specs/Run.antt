@@ -1,9 +1,8 @@
 -- The world of all participants: what one step may do, and whole runs.
-use Rattle.std.specs.Prelude.{◌≡◌, ◌≢◌, ℕ, ◌+◌, ◌-◌, ◌*◌, ◌^◌, ◌<◌, ◌≤◌, ◌==◌, Bool, true, false, List, [], ◌∷◌, ◌++◌, length, Option, Some, None, ◌⊎◌, nat_le, zero, suc, if◌then◌else◌, slice_index_or, slice_set}
+use Rattle.std.specs.Prelude.{◌≡◌, ◌≢◌, ℕ, ◌+◌, ◌-◌, ◌*◌, ◌^◌, ◌<◌, ◌==◌, Bool, true, false, List, [], ◌∷◌, ◌++◌, length, Option, Some, None, ◌⊎◌, nat_le, zero, suc, if◌then◌else◌, slice_index_or, slice_set}
 use Rattle.std.specs.List.{list_any}
 use Rattle.epoch_base.specs.Bags.{Sealed}
 use Rattle.epoch_base.specs.Stores.{IsInserted}
-use Rattle.epoch_base.specs.declared.job.Called.{Called}
 use Rattle.epoch_base.specs.declared.job.Called.TheVariants.{Ran}
 use Rattle.epoch_base.specs.declared.fault.Fault.{Fault}
 use Rattle.epoch_base.specs.declared.fault.Fault.TheVariants.{TableFull, BagsFull, Busy, Idle as IdleFault, NotRegistered, StrangerGuard, GuardsOut, TooManyGuards, ParticipantsLeft, Ended, TicketsOut}

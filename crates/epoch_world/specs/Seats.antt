@@ -8,7 +8,7 @@ use Rattle.epoch_pin.specs.declared.machine.Stage.{Stage}
 use Rattle.epoch_pin.specs.declared.machine.Ask.{Ask}
 use Rattle.epoch_pin.specs.declared.machine.Ask.TheVariants.{LoadEpoch, LoadWord, StorePinned, StoreRepinned, StoreUnpinned, StoreFree, StoreEpoch, PutBag, TakeBag, KeepJob, CallJob}
 use Rattle.epoch_pin.specs.declared.machine.Answer.TheVariants.{Epoch, Word as WordFound, Stored, Job}
-use Rattle.epoch_pin.specs.Machine.{Machine, hears, put_heard, took_heard, gives, PutsHeld, TakesHand}
+use Rattle.epoch_pin.specs.Machine.{hears, put_heard, took_heard, gives, PutsHeld, TakesHand}
 use Rattle.epoch_world.specs.declared.world.step.Call.{Call}
 use Rattle.epoch_world.specs.declared.world.step.Call.TheVariants.{Pin, Resume}
 use Rattle.epoch_world.specs.declared.world.step.Reply.{Reply}
@@ -17,7 +17,7 @@ use Rattle.epoch_world.specs.declared.world.step.Answer.TheVariants.{Released}
 use Rattle.epoch_world.specs.declared.world.step.Deferral.{Deferral}
 use Rattle.epoch_world.specs.declared.world.step.Word.{Word}
 use Rattle.epoch_world.specs.declared.world.step.Word.TheVariants.{Unpinned, Pinned}
-use Rattle.epoch_world.specs.Run.{Bag, Seat, State, Ending, free_seat, with_machine, with_word}
+use Rattle.epoch_world.specs.Run.{Bag, Seat, free_seat, with_machine, with_word}
 
 -- what participants share, but for their words
 pub record Shared : Type 0 where

@@ -189,10 +189,10 @@ fn put_further(cursor: &mut PutCursor, place: usize, places: usize) -> PutStep
     ensures result { result ≡ (if place + 1 == places then PutStep.Full else PutStep.Again) }
 {
     *cursor = PutCursor::Look(place + 1);
-    if place + 1 == places {
-        PutStep::Full
-    } else {
+    if place + 1 < places {
         PutStep::Again
+    } else {
+        PutStep::Full
     }
 }
 

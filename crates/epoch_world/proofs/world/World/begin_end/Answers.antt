@@ -1,4 +1,4 @@
-use Rattle.std.proofs.Common.{◌≡◌, ◌∙◌, List, [], sym, ap, refl, subst}
+use Rattle.std.proofs.Common.{◌≡◌, ◌∙◌, List, [], ap, refl, subst}
 use Rattle.epoch_base.specs.declared.fault.Fault.TheVariants.{ParticipantsLeft}
 use Rattle.epoch_world.specs.declared.world.EndStage.{EndStage}
 use Rattle.epoch_world.specs.declared.world.step.Deferral.{Deferral}

@@ -1,8 +1,8 @@
-use Rattle.std.proofs.Common.{◌≡◌, ℕ, ◌<◌, ◌∙◌, sym, ap, refl, length, arith}
+use Rattle.std.proofs.Common.{◌≡◌, ◌<◌, ◌∙◌, sym, ap, refl, length, arith}
 use Rattle.std.proofs.lemmas.List.{length-set}
 use Rattle.epoch_world.specs.declared.world.step.Progress.TheVariants.{CallsNow, Driven, Ends}
 use Rattle.epoch_world.specs.declared.world.step.Step.TheVariants.{Go}
-use Rattle.epoch_world.specs.Run.{Seat, State, with_seat}
+use Rattle.epoch_world.specs.Run.{State, with_seat}
 use Rattle.epoch_world.specs.Worlds.{state_of, ending_of}
 use Rattle.epoch_world.proofs.Performed.{found_there, go_takes, goes_at, end_goes}
 use Rattle.epoch_world.proofs.WorldKept.{kept_takes, ends_where_driven, guards_fit, room_where_driven}

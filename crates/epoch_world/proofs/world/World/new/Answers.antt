@@ -1,4 +1,4 @@
-use Rattle.std.proofs.Common.{◌≡◌, ◌∙◌, sym, refl, arith}
+use Rattle.std.proofs.Common.{◌∙◌, sym, refl, arith}
 use Rattle.epoch_world.proofs.WorldKept.{fresh_kept}
 use Rattle.epoch_world.proofs.world.World.new.Goals as goal
 

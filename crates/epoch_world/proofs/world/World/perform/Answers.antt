@@ -1,4 +1,4 @@
-use Rattle.std.proofs.Common.{◌≡◌, ℕ, ◌<◌, ◌∙◌, sym, ap, refl, subst, length, slice_set}
+use Rattle.std.proofs.Common.{ℕ, ◌<◌, ◌∙◌, sym, ap, refl, subst, length, slice_set}
 use Rattle.std.proofs.lemmas.List.{length-set}
 use Rattle.epoch_world.specs.declared.world.step.Step.TheVariants.{Go}
 use Rattle.epoch_world.specs.Run.{State, Takes, number_of, word_of}

@@ -1,0 +1,16 @@
+use Rattle.std.proofs.Common.{rules, ◌≡◌, ℕ, ◌∷◌, sym, refl, ap, ◌∙◌, subst, arith}
+use Rattle.atomic_table.specs.Table.{rest}
+use Rattle.epoch_base.specs.SharedPlaces.{PlaceBoard, IsAtHome}
+use Rattle.epoch_base.proofs.PlaceStores.{place_store_keeps}
+use Rattle.epoch_base.proofs.queue.shared_places.places.SharedPlaces.empty.Goals as goal
+
+-- the slot goes home with what `bag` was, which is nothing
+pub store-requires : goal.store-requires
+store-requires g c = let same : c.self.inside.places ≡ c.args.self.now.places = ap (λ (b : PlaceBoard). b.places) c.self.view_is in
+    let wide = c.self.invariant.words in
+    let below = c.requires.claimed.0 in
+    let bag = c.swap.new.x in
+    let place : ℕ = c.args.place in
+    let carried = ap (λ l. (place, bag) ∷ rest l) c.requires.hand.1 in
+    let left = subst (λ held. IsAtHome 0 held) (sym (c.swap.ensures.x_after ∙ c.requires.none)) refl in
+    rw c.word_index.ensures (search rules, omega arith, place_store_keeps _ _ _ _ _ _ bag c.requires.claimed.1 carried left)

@@ -1,0 +1,17 @@
+use Rattle.std.proofs.Common.{rules, ◌≡◌, ℕ, ◌+◌, ◌*◌, ◌∷◌, sym, ap, ◌∙◌, subst, arith}
+use Rattle.atomic_table.specs.Table.{rest}
+use Rattle.epoch_base.specs.SharedPlaces.{PlaceBoard, IsAtHome}
+use Rattle.epoch_base.proofs.PlaceStores.{place_store_keeps}
+use Rattle.epoch_base.proofs.queue.shared_places.places.SharedPlaces.fill.Goals as goal
+
+-- the slot goes home with the bag put, whose seal was read
+pub store-requires : goal.store-requires
+store-requires g c = let same : c.self.inside.places ≡ c.args.self.now.places = ap (λ (b : PlaceBoard). b.places) c.self.view_is in
+    let wide = c.self.invariant.words in
+    let below = c.requires.claimed.0 in
+    let bag = c.swap.new.y in
+    let place : ℕ = c.args.place in
+    let carried = ap (λ l. (place, bag) ∷ rest l) c.requires.hand in
+    let seal = c.seal-seal.ensures.value in
+    let left = subst (λ held. IsAtHome (2 * c.seal-seal.result + 1) held) (sym (c.swap.ensures.y_after ∙ c.in-Some.is)) (ap (λ (z : ℕ). 2 * z + 1) seal) in
+    rw c.word_index.ensures (search rules, omega arith, place_store_keeps _ _ _ _ _ _ bag c.requires.claimed.1 carried left)

@@ -1,0 +1,15 @@
+//! The participants' table, which threads share.
+//!
+//! A *participant* has a *position* in the table, and a word there. A thread takes its steps through a
+//! *seat*. What the seat knows is its *view*, which contracts alone see.
+mod laws;
+mod participants;
+mod plays;
+mod steps;
+#[cfg(test)]
+mod tests;
+mod view;
+
+pub use laws::{epoch_never_falls, expired_means_read_later, store_never_lowers};
+pub use participants::{EpochRule, MOST_POSITIONS, ParticipantSeat, Participants};
+pub use view::ParticipantView;

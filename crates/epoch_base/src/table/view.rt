@@ -1,0 +1,17 @@
+//! What a seat at the participants' table knows.
+
+/// The view of one seat, for contracts alone. No value of it is made.
+pub struct ParticipantView {
+    /// The position that the seat has.
+    pub position: Option<u64>,
+    /// The number of the epoch that it published, while it is pinned.
+    pub published: Option<u64>,
+    /// The epoch of its first load of the epoch since it published.
+    pub first_read: Option<u64>,
+    /// The greatest epoch that it read or stored.
+    pub seen: u64,
+    /// The epoch that it scans for, and how many positions the scan has passed.
+    pub scan: Option<(u64, u64)>,
+    /// The words that its steps found, the oldest first. A clause reads an array as a list of any length.
+    pub found: [u64; 0],
+}

@@ -1,0 +1,201 @@
+-- No step makes the jobs more than the tickets.
+use Rattle.std.proofs.Common.{◌≡◌, ℕ, ◌+◌, ◌<◌, ◌≤◌, List, [], ◌∷◌, ◌++◌, length, Option, Some, None, inl, inr, refl, ap, sym, subst, arith, slice_set}
+use Rattle.std.proofs.lemmas.List.{length-append}
+use Rattle.std.proofs.lemmas.List.Sums.{sum_by-append, sum_by-cons, sum_by-set}
+use Rattle.epoch_base.specs.Stores.{IsInserted}
+use Rattle.epoch_base.specs.declared.fault.Fault.{Fault}
+use Rattle.epoch_base.specs.declared.queue.PutStep.{PutStep}
+use Rattle.epoch_base.specs.declared.queue.PutStep.TheVariants.{Again, Done as PutDone, Full}
+use Rattle.epoch_base.specs.declared.queue.TakeStep.{TakeStep}
+use Rattle.epoch_base.specs.declared.queue.TakeStep.TheVariants.{Again as TakeAgain, Empty, Got}
+use Rattle.epoch_pin.specs.declared.machine.Stage.{Stage}
+use Rattle.epoch_pin.specs.declared.machine.Stage.TheVariants.{LoadPin, Scan, Take, Calling, Keep, StoreFree as FreeStage}
+use Rattle.epoch_pin.specs.declared.machine.Ask.{Ask}
+use Rattle.epoch_pin.specs.declared.machine.Ask.TheVariants.{LoadEpoch, LoadWord, StorePinned, StoreRepinned, StoreUnpinned, StoreFree, StoreEpoch, PutBag, TakeBag, KeepJob, CallJob}
+use Rattle.epoch_pin.specs.declared.machine.Answer.{Answer}
+use Rattle.epoch_pin.specs.declared.machine.Answer.TheVariants.{Epoch, Word as WordFound, Stored, Job}
+use Rattle.epoch_pin.specs.Machine.{Machine, ask_at, hears, put_heard, took_heard, gives, PutsHeld, TakesHand}
+use Rattle.epoch_world.specs.declared.world.step.Call.{Call}
+use Rattle.epoch_world.specs.declared.world.step.Call.TheVariants.{Pin, Unpin, Repin, Pause, Resume, Defer, Flush, Release}
+use Rattle.epoch_world.specs.declared.world.step.Step.{Step}
+use Rattle.epoch_world.specs.declared.world.step.Step.TheVariants.{Register, Begin, Go, End as EndStep, EndGo}
+use Rattle.epoch_world.specs.declared.world.step.Reply.{Reply}
+use Rattle.epoch_world.specs.declared.world.step.Deferral.{Deferral}
+use Rattle.epoch_world.specs.declared.world.step.Word.{Word}
+use Rattle.epoch_world.specs.declared.world.step.Progress.{Progress}
+use Rattle.epoch_world.specs.declared.world.step.Progress.TheVariants.{Idle, Driven, CallsNow, Ends}
+use Rattle.epoch_world.specs.Run.{Bag, Seat, State, seat_of, with_word, free_seat, Ending, Open, Emptying, Over, refusal, begun_seat, Begins, ended_seat, Performs, Drives, Goes, EndGoes, Takes, IsFresh}
+use Rattle.epoch_world.specs.Kept.{jobs_in, jobs_queued, jobs_at_seats, jobs_at_end, JobsFew}
+use Rattle.epoch_world.proofs.SeatLemmas.{seat_there, begin_given}
+use Rattle.epoch_world.proofs.TicketSums.{sum_zero}
+use Rattle.epoch_world.proofs.TicketsTallied.{acted}
+
+-- a bag more in the store
+queued_more : (bag : Bag) (old new : List Bag) → IsInserted bag old new → jobs_queued new ≡ length bag.jobs + jobs_queued old
+queued_more bag old new at =
+    let of_bag = λ (b : Bag). length b.jobs in
+    let before : jobs_queued old ≡ jobs_queued (at.front ++ at.back) = ap jobs_queued at.without in
+    let after : jobs_queued new ≡ jobs_queued (at.front ++ bag ∷ at.back) = ap jobs_queued at.with in
+    omega (arith, before, after, sum_by-cons of_bag bag at.back, sum_by-append of_bag at.front (bag ∷ at.back), sum_by-append of_bag at.front at.back)
+
+-- WHAT AN ANSWER DOES TO THE JOBS OF A MACHINE
+
+-- the jobs that come with an answer
+abbrev jobs_heard : Answer Deferral → ℕ
+jobs_heard (Job job) = 1
+jobs_heard _ = 0
+
+abbrev jobs_got : TakeStep → List Deferral → ℕ
+jobs_got Got jobs = length jobs
+jobs_got _ jobs = 0
+
+module _ (m : Machine Deferral) where
+  hears_few : (a : Answer Deferral) (s : Stage) → jobs_in (hears m s a) ≤ jobs_in m + jobs_heard a
+  hears_few (Job job) Keep = omega (arith, length-append m.held (job ∷ []))
+  hears_few (Epoch e) LoadPin = omega arith
+  hears_few (WordFound w) (Scan e k) = omega arith
+  hears_few Stored FreeStage = omega arith
+  hears_few _ _ = omega arith
+
+  took_few : (s : Stage) (step : TakeStep) (jobs : List Deferral) → jobs_in (took_heard m s step jobs) ≤ jobs_in m + jobs_got step jobs
+  took_few (Take x k) TakeAgain jobs = omega arith
+  took_few (Take x k) Empty jobs = omega arith
+  took_few (Take x k) Got jobs = omega arith
+  took_few _ step jobs = omega arith
+
+  gives_few : (s : Stage) (job : Deferral) (jobs : List Deferral) → m.hand ≡ job ∷ jobs → jobs_in (gives m s jobs) ≤ jobs_in m
+  gives_few (Calling x k) job jobs hand = omega (arith, ap length hand)
+  gives_few _ job jobs hand = omega arith
+
+  put_few : (seal : ℕ) (old new : List Bag) (step : PutStep) → PutsHeld seal m old step new → jobs_in (put_heard m step) + jobs_queued new ≤ jobs_in m + jobs_queued old
+  put_few seal old new Again same = omega (arith, ap jobs_queued same)
+  put_few seal old new PutDone put = omega (arith, queued_more _ old new put)
+  put_few seal old new Full same = omega (arith, ap jobs_queued same)
+
+taken_few : (x : ℕ) (old new : List Bag) (step : TakeStep) (jobs : List Deferral) → TakesHand x old step new jobs → jobs_got step jobs + jobs_queued new ≤ jobs_queued old
+taken_few x old new TakeAgain jobs same = omega (arith, ap jobs_queued same)
+taken_few x old new Empty jobs same = omega (arith, ap jobs_queued same)
+taken_few x old new Got jobs (bag, in_hand, expired, inserted) = omega (arith, ap length in_hand, queued_more bag new old inserted)
+
+begun_same : (c : Call) (seat : Seat) → jobs_in (begun_seat c seat).machine ≡ jobs_in seat.machine
+begun_same Pin seat = refl
+begun_same (Unpin g) seat = refl
+begun_same (Repin (Some g)) seat = refl
+begun_same (Pause (Some g)) seat = refl
+begun_same (Resume (Some g)) seat = refl
+begun_same (Defer (Some g)) seat = refl
+begun_same (Flush (Some g)) seat = refl
+begun_same Release seat = refl
+begun_same (Defer None) seat = refl
+begun_same _ seat = refl
+
+ended_same : (c : Call) (seat : Seat) → jobs_in (ended_seat c seat).machine ≡ jobs_in seat.machine
+ended_same Pin seat = refl
+ended_same (Unpin (Some g)) seat = refl
+ended_same (Pause (Some g)) seat = refl
+ended_same (Resume (Some g)) seat = refl
+ended_same _ seat = refl
+
+-- EACH STEP
+
+module _ (old new : State) (h : JobsFew old) where
+  same : new ≡ old → JobsFew new
+  same did = subst JobsFew (sym did) h
+
+  -- a step of one participant
+  acts : (p : ℕ) (after : Seat) (epoch : ℕ) (queued : List Bag) (tickets : ℕ)
+      → p < length old.seats
+      → jobs_in after.machine + jobs_queued queued + old.tickets ≤ jobs_in (seat_of old p).machine + jobs_queued old.queued + tickets
+      → new ≡ acted old p after epoch queued tickets
+      → JobsFew new
+  acts p after epoch queued tickets there fits did =
+      let seats : jobs_at_seats (slice_set old.seats p after) + jobs_in (seat_of old p).machine ≡ jobs_at_seats old.seats + jobs_in after.machine =
+          sum_by-set _ old.seats p after (free_seat old.sizes) there in
+      subst JobsFew (sym did) (omega (arith, h, fits, seats))
+
+  -- a step of the end
+  closes : (queued : List Bag) (ending : Ending)
+      → jobs_queued queued + jobs_at_end ending ≤ jobs_queued old.queued + jobs_at_end old.ending
+      → new ≡ record old { queued = queued; ending = ending }
+      → JobsFew new
+  closes queued ending fits did = subst JobsFew (sym did) (omega (arith, h, fits))
+
+  module _ (p : ℕ) (there : p < length old.seats) where
+    abbrev seat : Seat
+    seat = seat_of old p
+
+    abbrev m : Machine Deferral
+    m = seat.machine
+
+    -- the store and the tickets stay, and the jobs become no more
+    keeps : (after : Seat) (epoch : ℕ) → jobs_in after.machine ≤ jobs_in m → new ≡ acted old p after epoch old.queued old.tickets → JobsFew new
+    keeps after epoch fits did = acts p after epoch old.queued old.tickets there (omega (arith, fits)) did
+
+    -- its machine hears an answer that brings no job
+    hears_none : (word : Word) (s : Stage) (a : Answer Deferral) (epoch : ℕ) → jobs_heard a ≡ 0
+        → new ≡ acted old p (with_word seat word (hears m s a)) epoch old.queued old.tickets → JobsFew new
+    hears_none word s a epoch none did = keeps (with_word seat word (hears m s a)) epoch (omega (arith, none, hears_few m a s)) did
+
+    performs : (s : Stage) (ask : Ask) (reply : Reply) → Performs old p seat s ask reply new → JobsFew new
+    performs s LoadEpoch reply did = hears_none seat.word s (Epoch old.epoch) old.epoch refl did.1
+    performs s (LoadWord k) reply did = hears_none seat.word s (WordFound _) old.epoch refl did.1
+    performs s (StorePinned e) reply did = hears_none _ s Stored old.epoch refl did.1
+    performs s (StoreRepinned e) reply did = hears_none _ s Stored old.epoch refl did.1
+    performs s StoreUnpinned reply did = hears_none _ s Stored old.epoch refl did.1
+    performs s StoreFree reply did = keeps (free_seat old.sizes) old.epoch (omega arith) did.1
+    performs s (StoreEpoch e) reply did = hears_none seat.word s Stored e refl did.1
+    performs s (PutBag seal) reply (step, queued, told, puts, did) =
+        acts p (with_word seat seat.word (put_heard m step)) old.epoch queued old.tickets there (omega (arith, put_few m seal old.queued queued step puts)) did
+    performs s (TakeBag x) reply (step, jobs, queued, told, takes, did) =
+        acts p (with_word seat seat.word (took_heard m s step jobs)) old.epoch queued old.tickets there
+        (omega (arith, took_few m s step jobs, taken_few x old.queued queued step jobs takes)) did
+    performs s KeepJob reply did =
+        let job : Deferral = record { ticket = old.tickets; removes = None } in
+        acts p (with_word seat seat.word (hears m s (Job job))) old.epoch old.queued (old.tickets + 1) there (omega (arith, hears_few m (Job job) s)) did.1
+    performs s CallJob reply (job, jobs, hand, told, did) =
+        keeps (with_word seat seat.word (gives m s jobs)) old.epoch (gives_few m s job jobs hand) did
+
+    drives : (c : Call) (s : Stage) (ask : Option Ask) (reply : Reply) → Drives old p seat c s ask reply new → JobsFew new
+    drives c s (Some ask) reply did = performs s ask reply did
+    drives c s None reply did = keeps (ended_seat c seat) old.epoch (omega (arith, ended_same c seat)) did.1
+
+    goes : (progress : Progress) (reply : Reply) → Goes old p seat progress reply new → JobsFew new
+    goes Idle reply did = same did.1
+    goes (Driven c) reply did = drives c m.stage (ask_at m.stage) reply did
+    goes CallsNow reply did = keeps _ old.epoch (omega arith) did.1
+    goes (Ends r) reply did = keeps _ old.epoch (omega arith) did.1
+
+  begins : (p : ℕ) (c : Call) (refused : Option Fault) (reply : Reply) → refusal c (seat_of old p) old.tickets ≡ refused → Begins old p c refused reply new → JobsFew new
+  begins p c (Some fault) reply at did = same did.1
+  begins p c None reply at did =
+      let given = begin_given c (seat_of old p) old.tickets at in
+      keeps p (seat_there old p given.taken) (begun_seat c (seat_of old p)) old.epoch (omega (arith, begun_same c (seat_of old p))) did.1
+
+  ends : (ending : Ending) (reply : Reply) → old.ending ≡ ending → EndGoes old ending reply new → JobsFew new
+  ends Open reply at did = same did.1
+  ends Over reply at did = same did.1
+  ends (Emptying (job ∷ jobs) n) reply at did = closes old.queued (Emptying jobs (n + 1)) (omega (arith, ap jobs_at_end at)) did.1
+  ends (Emptying [] n) reply at (inl (bag, queued, inserted, told, did)) =
+      closes queued (Emptying bag.jobs n) (omega (arith, ap jobs_at_end at, queued_more bag queued old.queued inserted)) did
+  ends (Emptying [] n) reply at (inr (none, told, did)) = closes old.queued Over (omega arith) did
+
+  takes : (step : Step) (reply : Reply) → Takes old step reply new → JobsFew new
+  takes Register reply (inl did) = keeps did.0 did.2 _ old.epoch (omega arith) did.6
+  takes Register reply (inr (inl did)) = same did.3
+  takes Register reply (inr (inr did)) = same did.2
+  takes (Begin p c) reply did = begins p c (refusal c (seat_of old p) old.tickets) reply refl did
+  takes (Go p) reply (inl did) = same did.2
+  takes (Go p) reply (inr did) = goes p (seat_there old p did.0) (seat_of old p).progress reply did.1
+  takes EndStep reply (inl did) = closes old.queued (Emptying [] 0) (omega arith) did.3
+  takes EndStep reply (inr (inl did)) = same did.3
+  takes EndStep reply (inr (inr did)) = same did.2
+  takes EndGo reply did = ends old.ending reply refl did
+
+pub takes_jobs : (old new : State) (step : Step) (reply : Reply) → JobsFew old → Takes old step reply new → JobsFew new
+takes_jobs old new step reply h did = takes old new h step reply did
+
+-- a new world has no jobs
+pub fresh_jobs : (s : State) → IsFresh s → JobsFew s
+fresh_jobs s fresh =
+    let none_at_seats : jobs_at_seats s.seats ≡ 0 = sum_zero _ s.seats (free_seat s.sizes) (λ p. ap (λ (seat : Seat). jobs_in seat.machine) (fresh.free p)) in
+    omega (arith, none_at_seats, ap jobs_queued fresh.none_queued, ap jobs_at_end fresh.open_end)
