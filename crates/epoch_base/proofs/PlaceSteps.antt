@@ -175,7 +175,7 @@ clears_claim {J} old new at within words bags place claimed = elim (same_or_not 
       let zero_word : slice_index_or new.words place 0 ≡ 0 = ap (λ k. slice_index_or new.words k 0) same ∙ ap (λ (l : List ℕ). slice_index_or l at 0) words ∙ get_or-set_same old.words at 0 0 within in
       absurd (omega (arith, zero_word, claimed.0))
   | inr differs ↦ (
-        sym (get_or-set_other old.words at place 0 0 differs) ∙ ap (λ (l : List ℕ). slice_index_or l place 0) (sym words) ∙ claimed.0,
-        subst IsSome (ap (λ (l : List (Option (Sealed J))). slice_index_or l place None) bags ∙ get_or-set_other old.bags at place None None differs) claimed.1,
-      )
+    sym (get_or-set_other old.words at place 0 0 differs) ∙ ap (λ (l : List ℕ). slice_index_or l place 0) (sym words) ∙ claimed.0,
+    subst IsSome (ap (λ (l : List (Option (Sealed J))). slice_index_or l place None) bags ∙ get_or-set_other old.bags at place None None differs) claimed.1,
+  )
 ]

@@ -1,5 +1,5 @@
 -- What an answer does at a stage that didn't ask for it, and the stage behind a job.
-use Rattle.std.proofs.Common.{◌≡◌, ◌≢◌, ℕ, ◌+◌, ◌<◌, ◌==◌, Bool, true, false, not, List, [], ◌∷◌, Option, Some, None, MatchOption, refl, ap, ap₂, sym, subst, ◌∙◌, if◌then◌else◌}
+use Rattle.std.proofs.Common.{◌≡◌, ◌≢◌, ℕ, ◌+◌, ◌==◌, Bool, true, false, not, List, [], ◌∷◌, Option, Some, None, MatchOption, refl, ap, ap₂, sym, subst, ◌∙◌, if◌then◌else◌}
 use Rattle.epoch_pin.specs.declared.machine.Ask.TheVariants.{CallJob}
 use Rattle.epoch_pin.specs.declared.machine.Answer.TheVariants.{Word}
 use Rattle.epoch_pin.specs.declared.machine.Stage.{Stage}

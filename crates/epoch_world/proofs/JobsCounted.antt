@@ -31,12 +31,15 @@ use Rattle.epoch_world.proofs.TicketSums.{sum_zero}
 use Rattle.epoch_world.proofs.TicketsTallied.{acted}
 
 -- a bag more in the store
-queued_more : (bag : Bag) (old new : List Bag) → IsInserted bag old new → jobs_queued new ≡ length bag.jobs + jobs_queued old
+queued_more : (bag : Bag) (old new : List Bag)
+    → IsInserted bag old new
+    → jobs_queued new ≡ length bag.jobs + jobs_queued old
 queued_more bag old new at =
     let of_bag = λ (b : Bag). length b.jobs in
     let before : jobs_queued old ≡ jobs_queued (at.front ++ at.back) = ap jobs_queued at.without in
     let after : jobs_queued new ≡ jobs_queued (at.front ++ bag ∷ at.back) = ap jobs_queued at.with in
-    omega (arith, before, after, sum_by-cons of_bag bag at.back, sum_by-append of_bag at.front (bag ∷ at.back), sum_by-append of_bag at.front at.back)
+    let more = sum_by-cons of_bag bag at.back in
+    omega (arith, before, after, more, sum_by-append of_bag at.front (bag ∷ at.back), sum_by-append of_bag at.front at.back)
 
 -- WHAT AN ANSWER DOES TO THE JOBS OF A MACHINE
 
@@ -57,25 +60,33 @@ module _ (m : Machine Deferral) where
   hears_few Stored FreeStage = omega arith
   hears_few _ _ = omega arith
 
-  took_few : (s : Stage) (step : TakeStep) (jobs : List Deferral) → jobs_in (took_heard m s step jobs) ≤ jobs_in m + jobs_got step jobs
+  took_few : (s : Stage) (step : TakeStep) (jobs : List Deferral)
+      → jobs_in (took_heard m s step jobs) ≤ jobs_in m + jobs_got step jobs
   took_few (Take x k) TakeAgain jobs = omega arith
   took_few (Take x k) Empty jobs = omega arith
   took_few (Take x k) Got jobs = omega arith
   took_few _ step jobs = omega arith
 
-  gives_few : (s : Stage) (job : Deferral) (jobs : List Deferral) → m.hand ≡ job ∷ jobs → jobs_in (gives m s jobs) ≤ jobs_in m
+  gives_few : (s : Stage) (job : Deferral) (jobs : List Deferral)
+      → m.hand ≡ job ∷ jobs
+      → jobs_in (gives m s jobs) ≤ jobs_in m
   gives_few (Calling x k) job jobs hand = omega (arith, ap length hand)
   gives_few _ job jobs hand = omega arith
 
-  put_few : (seal : ℕ) (old new : List Bag) (step : PutStep) → PutsHeld seal m old step new → jobs_in (put_heard m step) + jobs_queued new ≤ jobs_in m + jobs_queued old
+  put_few : (seal : ℕ) (old new : List Bag) (step : PutStep)
+      → PutsHeld seal m old step new
+      → jobs_in (put_heard m step) + jobs_queued new ≤ jobs_in m + jobs_queued old
   put_few seal old new Again same = omega (arith, ap jobs_queued same)
   put_few seal old new PutDone put = omega (arith, queued_more _ old new put)
   put_few seal old new Full same = omega (arith, ap jobs_queued same)
 
-taken_few : (x : ℕ) (old new : List Bag) (step : TakeStep) (jobs : List Deferral) → TakesHand x old step new jobs → jobs_got step jobs + jobs_queued new ≤ jobs_queued old
+taken_few : (x : ℕ) (old new : List Bag) (step : TakeStep) (jobs : List Deferral)
+    → TakesHand x old step new jobs
+    → jobs_got step jobs + jobs_queued new ≤ jobs_queued old
 taken_few x old new TakeAgain jobs same = omega (arith, ap jobs_queued same)
 taken_few x old new Empty jobs same = omega (arith, ap jobs_queued same)
-taken_few x old new Got jobs (bag, in_hand, expired, inserted) = omega (arith, ap length in_hand, queued_more bag new old inserted)
+taken_few x old new Got jobs (bag, in_hand, expired, inserted) =
+    omega (arith, ap length in_hand, queued_more bag new old inserted)
 
 begun_same : (c : Call) (seat : Seat) → jobs_in (begun_seat c seat).machine ≡ jobs_in seat.machine
 begun_same Pin seat = refl
@@ -105,12 +116,14 @@ module _ (old new : State) (h : JobsFew old) where
   -- a step of one participant
   acts : (p : ℕ) (after : Seat) (epoch : ℕ) (queued : List Bag) (tickets : ℕ)
       → p < length old.seats
-      → jobs_in after.machine + jobs_queued queued + old.tickets ≤ jobs_in (seat_of old p).machine + jobs_queued old.queued + tickets
+      → jobs_in after.machine + jobs_queued queued + old.tickets
+      ≤ jobs_in (seat_of old p).machine + jobs_queued old.queued + tickets
       → new ≡ acted old p after epoch queued tickets
       → JobsFew new
   acts p after epoch queued tickets there fits did =
-      let seats : jobs_at_seats (slice_set old.seats p after) + jobs_in (seat_of old p).machine ≡ jobs_at_seats old.seats + jobs_in after.machine =
-          sum_by-set _ old.seats p after (free_seat old.sizes) there in
+      let seats : jobs_at_seats (slice_set old.seats p after) + jobs_in (seat_of old p).machine
+      ≡ jobs_at_seats old.seats + jobs_in after.machine =
+      sum_by-set _ old.seats p after (free_seat old.sizes) there in
       subst JobsFew (sym did) (omega (arith, h, fits, seats))
 
   -- a step of the end
@@ -128,13 +141,19 @@ module _ (old new : State) (h : JobsFew old) where
     m = seat.machine
 
     -- the store and the tickets stay, and the jobs become no more
-    keeps : (after : Seat) (epoch : ℕ) → jobs_in after.machine ≤ jobs_in m → new ≡ acted old p after epoch old.queued old.tickets → JobsFew new
+    keeps : (after : Seat) (epoch : ℕ)
+        → jobs_in after.machine ≤ jobs_in m
+        → new ≡ acted old p after epoch old.queued old.tickets
+        → JobsFew new
     keeps after epoch fits did = acts p after epoch old.queued old.tickets there (omega (arith, fits)) did
 
     -- its machine hears an answer that brings no job
-    hears_none : (word : Word) (s : Stage) (a : Answer Deferral) (epoch : ℕ) → jobs_heard a ≡ 0
-        → new ≡ acted old p (with_word seat word (hears m s a)) epoch old.queued old.tickets → JobsFew new
-    hears_none word s a epoch none did = keeps (with_word seat word (hears m s a)) epoch (omega (arith, none, hears_few m a s)) did
+    hears_none : (word : Word) (s : Stage) (a : Answer Deferral) (epoch : ℕ)
+        → jobs_heard a ≡ 0
+        → new ≡ acted old p (with_word seat word (hears m s a)) epoch old.queued old.tickets
+        → JobsFew new
+    hears_none word s a epoch none did =
+        keeps (with_word seat word (hears m s a)) epoch (omega (arith, none, hears_few m a s)) did
 
     performs : (s : Stage) (ask : Ask) (reply : Reply) → Performs old p seat s ask reply new → JobsFew new
     performs s LoadEpoch reply did = hears_none seat.word s (Epoch old.epoch) old.epoch refl did.1
@@ -145,17 +164,20 @@ module _ (old new : State) (h : JobsFew old) where
     performs s StoreFree reply did = keeps (free_seat old.sizes) old.epoch (omega arith) did.1
     performs s (StoreEpoch e) reply did = hears_none seat.word s Stored e refl did.1
     performs s (PutBag seal) reply (step, queued, told, puts, did) =
-        acts p (with_word seat seat.word (put_heard m step)) old.epoch queued old.tickets there (omega (arith, put_few m seal old.queued queued step puts)) did
+        acts p (with_word seat seat.word (put_heard m step)) old.epoch queued old.tickets there
+        (omega (arith, put_few m seal old.queued queued step puts)) did
     performs s (TakeBag x) reply (step, jobs, queued, told, takes, did) =
         acts p (with_word seat seat.word (took_heard m s step jobs)) old.epoch queued old.tickets there
         (omega (arith, took_few m s step jobs, taken_few x old.queued queued step jobs takes)) did
     performs s KeepJob reply did =
         let job : Deferral = record { ticket = old.tickets; removes = None } in
-        acts p (with_word seat seat.word (hears m s (Job job))) old.epoch old.queued (old.tickets + 1) there (omega (arith, hears_few m (Job job) s)) did.1
+        acts p (with_word seat seat.word (hears m s (Job job))) old.epoch old.queued (old.tickets + 1) there
+        (omega (arith, hears_few m (Job job) s)) did.1
     performs s CallJob reply (job, jobs, hand, told, did) =
         keeps (with_word seat seat.word (gives m s jobs)) old.epoch (gives_few m s job jobs hand) did
 
-    drives : (c : Call) (s : Stage) (ask : Option Ask) (reply : Reply) → Drives old p seat c s ask reply new → JobsFew new
+    drives : (c : Call) (s : Stage) (ask : Option Ask) (reply : Reply)
+        → Drives old p seat c s ask reply new → JobsFew new
     drives c s (Some ask) reply did = performs s ask reply did
     drives c s None reply did = keeps (ended_seat c seat) old.epoch (omega (arith, ended_same c seat)) did.1
 
@@ -165,18 +187,27 @@ module _ (old new : State) (h : JobsFew old) where
     goes CallsNow reply did = keeps _ old.epoch (omega arith) did.1
     goes (Ends r) reply did = keeps _ old.epoch (omega arith) did.1
 
-  begins : (p : ℕ) (c : Call) (refused : Option Fault) (reply : Reply) → refusal c (seat_of old p) old.tickets ≡ refused → Begins old p c refused reply new → JobsFew new
+  begins : (p : ℕ) (c : Call) (refused : Option Fault) (reply : Reply)
+      → refusal c (seat_of old p) old.tickets ≡ refused
+      → Begins old p c refused reply new
+      → JobsFew new
   begins p c (Some fault) reply at did = same did.1
   begins p c None reply at did =
       let given = begin_given c (seat_of old p) old.tickets at in
-      keeps p (seat_there old p given.taken) (begun_seat c (seat_of old p)) old.epoch (omega (arith, begun_same c (seat_of old p))) did.1
+      keeps p (seat_there old p given.taken) (begun_seat c (seat_of old p)) old.epoch
+      (omega (arith, begun_same c (seat_of old p))) did.1
 
-  ends : (ending : Ending) (reply : Reply) → old.ending ≡ ending → EndGoes old ending reply new → JobsFew new
+  ends : (ending : Ending) (reply : Reply)
+      → old.ending ≡ ending
+      → EndGoes old ending reply new
+      → JobsFew new
   ends Open reply at did = same did.1
   ends Over reply at did = same did.1
-  ends (Emptying (job ∷ jobs) n) reply at did = closes old.queued (Emptying jobs (n + 1)) (omega (arith, ap jobs_at_end at)) did.1
+  ends (Emptying (job ∷ jobs) n) reply at did =
+      closes old.queued (Emptying jobs (n + 1)) (omega (arith, ap jobs_at_end at)) did.1
   ends (Emptying [] n) reply at (inl (bag, queued, inserted, told, did)) =
-      closes queued (Emptying bag.jobs n) (omega (arith, ap jobs_at_end at, queued_more bag queued old.queued inserted)) did
+      closes queued (Emptying bag.jobs n)
+      (omega (arith, ap jobs_at_end at, queued_more bag queued old.queued inserted)) did
   ends (Emptying [] n) reply at (inr (none, told, did)) = closes old.queued Over (omega arith) did
 
   takes : (step : Step) (reply : Reply) → Takes old step reply new → JobsFew new
@@ -191,11 +222,15 @@ module _ (old new : State) (h : JobsFew old) where
   takes EndStep reply (inr (inr did)) = same did.2
   takes EndGo reply did = ends old.ending reply refl did
 
-pub takes_jobs : (old new : State) (step : Step) (reply : Reply) → JobsFew old → Takes old step reply new → JobsFew new
+pub takes_jobs : (old new : State) (step : Step) (reply : Reply)
+    → JobsFew old
+    → Takes old step reply new
+    → JobsFew new
 takes_jobs old new step reply h did = takes old new h step reply did
 
 -- a new world has no jobs
 pub fresh_jobs : (s : State) → IsFresh s → JobsFew s
 fresh_jobs s fresh =
-    let none_at_seats : jobs_at_seats s.seats ≡ 0 = sum_zero _ s.seats (free_seat s.sizes) (λ p. ap (λ (seat : Seat). jobs_in seat.machine) (fresh.free p)) in
+    let jobs_of = λ (seat : Seat). jobs_in seat.machine in
+    let none_at_seats : jobs_at_seats s.seats ≡ 0 = sum_zero jobs_of s.seats (free_seat s.sizes) (λ p. ap jobs_of (fresh.free p)) in
     omega (arith, none_at_seats, ap jobs_queued fresh.none_queued, ap jobs_at_end fresh.open_end)

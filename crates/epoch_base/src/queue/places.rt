@@ -260,7 +260,9 @@ impl<J: Default + Drop> BagStore for Places<J> {
         count(self)
     }
 
-    fn start_put(&self) -> PutCursor {
+    fn start_put(&self) -> PutCursor
+        ensures { result ≡ PutCursor.Look 0 }
+    {
         PutCursor::Look(0)
     }
 

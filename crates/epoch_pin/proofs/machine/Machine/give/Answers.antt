@@ -1,5 +1,5 @@
-use Rattle.std.proofs.Common.{ap, sym, ◌∙◌, ◌≡◌, ◌<◌, ◌^◌, length, refl, subst}
-use Rattle.epoch_pin.specs.Machine.{Machine, StageFits, is_calling}
+use Rattle.std.proofs.Common.{sym, length, refl, subst}
+use Rattle.epoch_pin.specs.Machine.{Machine, StageFits}
 use Rattle.epoch_pin.proofs.Stages.{no_call_asked, nothing_given, some_in_hand, left_in_hand, job_given, gone_on, hand_after}
 use Rattle.epoch_pin.proofs.machine.Machine.give.Goals as goal
 

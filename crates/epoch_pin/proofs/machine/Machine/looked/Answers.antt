@@ -1,6 +1,6 @@
-use Rattle.std.proofs.Common.{rules, ap, sym, ◌∙◌, refl, not, arith}
+use Rattle.std.proofs.Common.{ap, sym, ◌∙◌, refl, not}
 use Rattle.epoch_pin.specs.declared.machine.Stage.{Stage}
-use Rattle.epoch_pin.specs.Machine.{Machine, is_calling}
+use Rattle.epoch_pin.specs.Machine.{is_calling}
 use Rattle.epoch_pin.proofs.Stages.{word_unasked}
 use Rattle.epoch_pin.proofs.machine.Machine.looked.Goals as goal
 

@@ -13,20 +13,20 @@ use Rattle.epoch_world.proofs.world.World.begin_end.Goals as goal
 pub returns-then-not-all_free : goal.returns-then-not-all_free
 returns-then-not-all_free g c =
     let old : State =
-        state_of c.self.inside.sizes c.self.inside.epoch c.self.inside.seats.items (g.S.BagStore.queued c.self.inside.store) c.self.inside.tickets
-        (ending_of c.self.inside.end c.self.inside.hand.jobs c.self.inside.count) in
+    state_of c.self.inside.sizes c.self.inside.epoch c.self.inside.seats.items (g.S.BagStore.queued c.self.inside.store) c.self.inside.tickets
+    (ending_of c.self.inside.end c.self.inside.hand.jobs c.self.inside.count) in
     let opened : old.ending ≡ Open = ap (λ (e : EndStage). ending_of e c.self.inside.hand.jobs c.self.inside.count) c.in-Open.is in
     subst (λ (s : State). Takes s EndStep (Refused ParticipantsLeft) s) c.self.view_is (end_refused old opened (c.all_free.ensures.no c.if-not-all_free.true))
 
 pub invariant_of-self : goal.invariant_of-self
 invariant_of-self g c =
     let old : State =
-        state_of c.self.inside.sizes c.self.inside.epoch c.self.inside.seats.items (g.S.BagStore.queued c.self.inside.store) c.self.inside.tickets
-        (ending_of c.self.inside.end c.self.inside.hand.jobs c.self.inside.count) in
+    state_of c.self.inside.sizes c.self.inside.epoch c.self.inside.seats.items (g.S.BagStore.queued c.self.inside.store) c.self.inside.tickets
+    (ending_of c.self.inside.end c.self.inside.hand.jobs c.self.inside.count) in
     let opened : old.ending ≡ Open = ap (λ (e : EndStage). ending_of e c.self.inside.hand.jobs c.self.inside.count) c.in-Open.is in
     let new : State =
-        state_of c.self.inside.sizes c.self.inside.epoch c.self.inside.seats.items (g.S.BagStore.queued c.self.inside.store) c.self.inside.tickets
-        (Emptying c.seal-self-inside.result.jobs 0) in
+    state_of c.self.inside.sizes c.self.inside.epoch c.self.inside.seats.items (g.S.BagStore.queued c.self.inside.store) c.self.inside.tickets
+    (Emptying c.seal-self-inside.result.jobs 0) in
     let emptying : new ≡ record old { ending = Emptying [] 0 } = ap (λ (hand : List Deferral). record old { ending = Emptying hand 0 }) (c.seal-self-inside.ensures.jobs ∙ c.new.ensures.empty) in
     record {
       sized = c.self.invariant.sized;
@@ -39,11 +39,11 @@ invariant_of-self g c =
 pub returns : goal.returns
 returns g c =
     let old : State =
-        state_of c.self.inside.sizes c.self.inside.epoch c.self.inside.seats.items (g.S.BagStore.queued c.self.inside.store) c.self.inside.tickets
-        (ending_of c.self.inside.end c.self.inside.hand.jobs c.self.inside.count) in
+    state_of c.self.inside.sizes c.self.inside.epoch c.self.inside.seats.items (g.S.BagStore.queued c.self.inside.store) c.self.inside.tickets
+    (ending_of c.self.inside.end c.self.inside.hand.jobs c.self.inside.count) in
     let opened : old.ending ≡ Open = ap (λ (e : EndStage). ending_of e c.self.inside.hand.jobs c.self.inside.count) c.in-Open.is in
     let new : State =
-        state_of c.self.inside.sizes c.self.inside.epoch c.self.inside.seats.items (g.S.BagStore.queued c.self.inside.store) c.self.inside.tickets
-        (Emptying c.seal-self-inside.result.jobs 0) in
+    state_of c.self.inside.sizes c.self.inside.epoch c.self.inside.seats.items (g.S.BagStore.queued c.self.inside.store) c.self.inside.tickets
+    (Emptying c.seal-self-inside.result.jobs 0) in
     let emptying : new ≡ record old { ending = Emptying [] 0 } = ap (λ (hand : List Deferral). record old { ending = Emptying hand 0 }) (c.seal-self-inside.ensures.jobs ∙ c.new.ensures.empty) in
     subst (λ (s : State). Takes s EndStep Began new) c.self.view_is (end_takes old new opened (c.all_free.ensures.yes c.if-not-all_free.false) emptying)

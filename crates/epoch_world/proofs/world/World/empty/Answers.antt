@@ -7,7 +7,7 @@ use Rattle.epoch_world.proofs.world.World.empty.Goals as goal
 pub overflow_add-self : goal.overflow_add-self
 overflow_add-self g c =
     let old : State =
-        state_of c.self.inside.sizes c.self.inside.epoch c.self.inside.seats.items (g.S.BagStore.queued c.self.inside.store) c.self.inside.tickets
-        (ending_of c.self.inside.end c.self.inside.hand.jobs c.self.inside.count) in
+    state_of c.self.inside.sizes c.self.inside.epoch c.self.inside.seats.items (g.S.BagStore.queued c.self.inside.store) c.self.inside.tickets
+    (ending_of c.self.inside.end c.self.inside.hand.jobs c.self.inside.count) in
     let emptying : IsEmptying old.ending = subst (λ (s : State). IsEmptying s.ending) (sym c.self.view_is) c.requires in
     omega (arith, one_more_counts old c.self.inside.end c.in-Some.job c.self.inside.hand.jobs c.take_next.new.self.jobs c.self.inside.count c.self.invariant.kept refl emptying c.in-Some.ensures.job)

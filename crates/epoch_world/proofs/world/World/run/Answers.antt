@@ -9,7 +9,7 @@ use Rattle.epoch_world.proofs.world.World.run.Goals as goal
 pub loop-step-preserved : goal.loop-step-preserved
 loop-step-preserved g c = record {
   run = runs_more _ _ _ c.args.steps.now c.loop-step.step-index _ c.loop-step.replies.items _ c.step-reply.result (omega arith)
-    c.loop-step.invariant.count c.push_reserved.ensures.items c.loop-step.invariant.run c.step-reply.ensures;
+      c.loop-step.invariant.count c.push_reserved.ensures.items c.loop-step.invariant.run c.step-reply.ensures;
   count = ap length c.push_reserved.ensures.items ∙ simp length-append (omega arith);
   room = omega arith;
 }

@@ -13,8 +13,8 @@ returns-then-has_bag-clause-bag g c =
 pub returns-then-has_bag-clause-claims : goal.returns-then-has_bag-clause-claims
 returns-then-has_bag-clause-claims g c place claimed =
     subst (λ (p : PlaceList g.row.J.Denot). IsClaimedAt p place) c.loop-place.invariant.same
-      (clears_claim c.loop-place.self c.clear.new.places c.loop-place.place (omega (arith, ap (λ (p : PlaceList g.row.J.Denot). length p.words) c.loop-place.invariant.same))
-        c.clear.ensures.words c.clear.ensures.bags place claimed)
+    (clears_claim c.loop-place.self c.clear.new.places c.loop-place.place (omega (arith, ap (λ (p : PlaceList g.row.J.Denot). length p.words) c.loop-place.invariant.same))
+    c.clear.ensures.words c.clear.ensures.bags place claimed)
 
 pub returns-clause-bag : goal.returns-clause-bag
 returns-clause-bag g c =
