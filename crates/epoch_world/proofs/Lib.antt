@@ -43,5 +43,6 @@ pub mod WorldKept
 pub mod Performed
 pub mod StepsFall
 pub mod TurnsTaken
+pub mod CallsEnd
 pub mod RunsGoOn
 pub mod WorldSteps

@@ -8,7 +8,7 @@ use Rattle.epoch_world.specs.declared.world.step.Deferral.{Deferral}
 use Rattle.epoch_world.specs.declared.world.step.Progress.{Progress}
 use Rattle.epoch_world.specs.declared.world.step.Progress.TheVariants.{Driven}
 use Rattle.epoch_world.specs.declared.world.step.Reply.{Reply}
-use Rattle.epoch_world.specs.Kept.{IsKept}
+use Rattle.epoch_world.specs.Kept.{AllLinked, IsKept}
 use Rattle.epoch_world.specs.Run.{Bag, Seat, Ending, Open}
 use Rattle.epoch_world.specs.Seats.{Shared, SeatPerforms}
 use Rattle.epoch_world.specs.Steps.{InStore, machine_steps, steps_of, steps_left, ends_call}
@@ -16,12 +16,18 @@ use Rattle.epoch_world.specs.Worlds.{state_of, is_driven, IsDrivenAt}
 
 -- HOW FAR THE END IS PLAYS NO PART
 
-pub kept_at : (sizes : Sizes) (epoch tickets : ℕ) (seats : List Seat) (queued : List Bag) (ending later : Ending)
-    → IsKept (state_of sizes epoch seats queued tickets ending) → IsKept (state_of sizes epoch seats queued tickets later)
-kept_at sizes epoch tickets seats queued ending later h = record {
-  linked = record { positions = h.linked.positions; seats = h.linked.seats };
+pub linked_at : (sizes : Sizes) (epoch tickets : ℕ) (seats : List Seat) (queued : List Bag) (ending later : Ending)
+    → AllLinked (state_of sizes epoch seats queued tickets ending) → AllLinked (state_of sizes epoch seats queued tickets later)
+linked_at sizes epoch tickets seats queued ending later h = record { positions = h.positions; seats = h.seats }
+
+-- an end has jobs of its own, and what is kept with them is kept without them
+pub kept_open : (sizes : Sizes) (epoch tickets : ℕ) (seats : List Seat) (queued : List Bag) (ending : Ending)
+    → IsKept (state_of sizes epoch seats queued tickets ending) → IsKept (state_of sizes epoch seats queued tickets Open)
+kept_open sizes epoch tickets seats queued ending h = record {
+  linked = linked_at sizes epoch tickets seats queued ending Open h.linked;
   roomy = h.roomy;
   bounded = record { tickets = h.bounded.tickets; keeps = h.bounded.keeps };
+  jobs = omega (arith, h.jobs);
   few = h.few;
 }
 

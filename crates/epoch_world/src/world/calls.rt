@@ -1,16 +1,74 @@
 //! One participant's steps and whole calls, over the parts of a world, where the cursors into the store are in view.
-ghost use Rattle.std.specs.Prelude.{◌≡◌, ◌≢◌, ℕ, ◌+◌, ◌*◌, ◌^◌, ◌<◌, ◌≤◌, false, length, slice_index_or};
+ghost use Rattle.std.specs.Prelude.{◌≡◌, ◌≢◌, ℕ, ◌+◌, ◌*◌, ◌^◌, ◌<◌, ◌≤◌, false, length, vec_capacity, slice_index_or};
 ghost use Rattle.epoch_world.specs.declared.world.step.Step.TheVariants.{Go};
 ghost use Rattle.epoch_world.specs.Kept.{IsKept};
-ghost use Rattle.epoch_world.specs.Run.{Ending, Open, Takes, free_seat, number_of};
-ghost use Rattle.epoch_world.specs.Steps.{in_store, steps_left, ends_call};
+ghost use Rattle.epoch_world.specs.Run.{Ending, Open, State, Takes, Runs, entries_of, free_seat, number_of};
+ghost use Rattle.epoch_world.specs.Steps.{in_store, steps_left, call_bound, call_steps, ends_call, AllGoOn, EndsAtLast};
 ghost use Rattle.epoch_world.specs.Worlds.{state_of, IsDrivenAt};
 
 use crate::world::seat::Seat;
-use crate::world::step::{Deferral, Progress, Reply, Word};
+use crate::world::step::{Call, Deferral, Progress, Reply, Word};
 use crate::world::{number_of, scanned};
 use epoch_base::{BagStore, Fault};
 use epoch_pin::{Ask, Sizes};
+
+/// How many replies a call has at most, its Begin aside, where the store has room for so many bags.
+pub fn most_steps(sizes: Sizes, bags: usize) -> usize
+    requires positions { sizes.positions ≤ 64 }
+    requires collect_bags { sizes.collect_bags ≤ 64 }
+    requires bags { bags ≤ 4096 }
+    ensures value { result ≡ call_bound sizes (3 * bags + 65) + 1 }
+    ensures few { result < 30000 }
+{
+    // A put, and a collection, takes so many steps in the store.
+    let in_store = 3 * bags + 65;
+    sizes.positions as usize + sizes.collect_bags as usize * 64 + 2 * in_store + 11
+}
+
+/// Goes on with a participant's call up to its end, and puts the replies behind those that are there. It takes at most
+/// so many steps, for which the list has room.
+pub fn go_to_end<S: BagStore<Job = Deferral>>(
+    index: usize,
+    sizes: Sizes,
+    steps: usize,
+    epoch: &mut u64,
+    seats: &mut Vec<Seat>,
+    store: &mut S,
+    tickets: &mut u64,
+    putting: &mut S::Putting,
+    taking: &mut S::Taking,
+    replies: &mut Vec<Reply>,
+)
+    requires there { index < length seats.old.items }
+    requires epoch { epoch.old < 2 ^ 63 }
+    requires kept { IsKept (state_of sizes epoch.old seats.old.items (S.queued store.old) tickets.old Open) }
+    requires few { steps_left (slice_index_or seats.old.items index (free_seat sizes)) (in_store (S.puts_left (S.capacity store.old) putting.old) (S.takes_left (S.capacity store.old) taking.old) (3 * S.capacity store.old + 65)) < steps }
+    requires room { length replies.old.items + steps ≤ vec_capacity replies.old }
+    requires begun { 0 < length replies.old.items }
+
+    // What is a run with the replies that were there goes on to one with all of them.
+    ensures runs { (start : State) (call : Call) (ending : Ending) → Runs start (entries_of (call_steps index call (length replies.old.items)) replies.old.items) (state_of sizes epoch.old seats.old.items (S.queued store.old) tickets.old ending) → Runs start (entries_of (call_steps index call (length replies.new.items)) replies.new.items) (state_of sizes epoch.new seats.new.items (S.queued store.new) tickets.new ending) }
+    ensures ends { AllGoOn replies.old.items → EndsAtLast replies.new.items }
+
+    ensures epoch { epoch.new < 2 ^ 63 }
+    ensures positions { length seats.new.items ≡ length seats.old.items }
+    ensures kept { (ending : Ending) → IsKept (state_of sizes epoch.old seats.old.items (S.queued store.old) tickets.old ending) → IsKept (state_of sizes epoch.new seats.new.items (S.queued store.new) tickets.new ending) }
+{
+    for _ in 0..steps {
+        let reply = go_on(index, sizes, epoch, seats, store, tickets, putting, taking);
+        replies.push_reserved(reply);
+        if ends_call(reply) {
+            return;
+        }
+    }
+}
+
+/// Whether the reply is the last one of a call.
+fn ends_call(reply: Reply) -> bool
+    ensures { result ≡ ends_call reply }
+{
+    matches!(reply, Reply::Done(_) | Reply::Refused(_))
+}
 
 /// One step of a participant that may have a call under way.
 pub fn go_on<S: BagStore<Job = Deferral>>(

@@ -4,7 +4,7 @@ use Rattle.epoch_world.specs.Seats.{shared}
 use Rattle.epoch_world.specs.Steps.{in_store}
 use Rattle.epoch_world.specs.Worlds.{state_of, is_driven}
 use Rattle.epoch_world.proofs.Performed.{found_there, performed}
-use Rattle.epoch_world.proofs.TurnsTaken.{kept_at, driven_at, performs_less, seat_less}
+use Rattle.epoch_world.proofs.TurnsTaken.{linked_at, driven_at, performs_less, seat_less}
 use Rattle.epoch_world.proofs.world.calls.perform.Goals as goal
 
 pub returns-clause-step : goal.returns-clause-step
@@ -13,7 +13,7 @@ returns-clause-step g c ending =
     let seat : Seat = c.index_mut-seat.result.now in
     performed old old _ c.args.index c.number_at-word.result seat c.perform.new.self c.perform.result c.args.ask
       (shared c.perform.new.epoch (g.S.BagStore.queued c.perform.new.store) c.perform.new.tickets) refl
-      (kept_at c.args.sizes c.args.epoch.now c.args.tickets.now c.args.seats.now.items (g.S.BagStore.queued c.args.store.now) Open ending c.requires.kept).linked
+      (linked_at c.args.sizes c.args.epoch.now c.args.tickets.now c.args.seats.now.items (g.S.BagStore.queued c.args.store.now) Open ending c.requires.kept.linked)
       (found_there c.args.seats.now.items c.args.sizes c.args.index seat c.requires.there c.index_mut-seat.ensures.value)
       (driven_at c.args.sizes c.args.epoch.now c.args.tickets.now c.args.index c.args.seats.now.items (g.S.BagStore.queued c.args.store.now) Open ending c.args.ask c.requires.driven)
       (λ k asked. c.number_at-word.ensures c.args.sizes ∙ ap (λ (j : ℕ). number_of (word_of old j)) (c.scanned.ensures k asked))
