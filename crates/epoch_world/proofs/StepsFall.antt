@@ -3,14 +3,17 @@ use Rattle.std.proofs.Common.{◌≡◌, ℕ, ◌+◌, ◌<◌, ◌≤◌, ◌==
 use Rattle.epoch_base.specs.declared.queue.TakeStep.{TakeStep}
 use Rattle.epoch_base.specs.declared.queue.TakeStep.TheVariants.{Again, Empty, Got}
 use Rattle.epoch_pin.specs.declared.machine.Action.{Action}
-use Rattle.epoch_pin.specs.declared.machine.Action.TheVariants.{Release}
+use Rattle.epoch_pin.specs.declared.machine.Action.TheVariants.{Pin, Unpin, Repin, Defer, Flush, Release}
 use Rattle.epoch_pin.specs.declared.machine.Ask.TheVariants.{TakeBag, CallJob}
 use Rattle.epoch_pin.specs.declared.machine.Sizes.{Sizes}
 use Rattle.epoch_pin.specs.declared.machine.Stage.{Stage}
-use Rattle.epoch_pin.specs.declared.machine.Stage.TheVariants.{Take, Calling}
-use Rattle.epoch_pin.specs.Machine.{Machine, StageFits, rest, ask_at, took_heard, gives, after_collect}
+use Rattle.epoch_pin.specs.declared.machine.Stage.TheVariants.{LoadPin, LoadScan, Take, Calling, LoadSeal, Keep, LoadRepin, StoreUnpinned, End}
+use Rattle.epoch_pin.specs.Machine.{Machine, StageFits, rest, is_empty, ask_at, took_heard, gives, after_collect, first_stage}
+use Rattle.epoch_world.specs.declared.world.step.Call.{Call}
+use Rattle.epoch_world.specs.declared.world.step.Call.TheVariants.{Pin as PinCall, Unpin as UnpinCall, Repin as RepinCall, Pause, Resume, Defer as DeferCall, Flush as FlushCall, Release as ReleaseCall}
 use Rattle.epoch_world.specs.declared.world.step.Deferral.{Deferral}
-use Rattle.epoch_world.specs.Steps.{InStore, in_store, past_collect, collects, steps_at, machine_steps}
+use Rattle.epoch_world.specs.Run.{Seat, begun_seat}
+use Rattle.epoch_world.specs.Steps.{InStore, in_store, past_collect, collects, steps_at, machine_steps, steps_left, call_bound}
 
 either_below : (left : Stage → ℕ) (b : Bool) (s t : Stage) (k : ℕ) → left s < k → left t < k → left (if b then s else t) < k
 either_below left true s t k one other = one
@@ -92,3 +95,25 @@ gave_less m now after puts takes most job is asked hand went =
     subst (λ (k : Machine Deferral). machine_steps after (in_store puts takes most) < machine_steps k (in_store puts takes most)) is
       (subst (λ (k : Machine Deferral). machine_steps k (in_store puts takes most) < machine_steps m (in_store puts takes most)) (sym went)
         (call_falls m puts takes most m.stage job (rest m.hand) asked hand))
+
+-- A WHOLE CALL
+
+first_fits : (a : Action) (m : Machine Deferral) (n : InStore) → steps_at a m.sizes (length m.hand) n (first_stage a m) < call_bound m.sizes n.most + 1
+first_fits Pin m n = either_below (steps_at Pin m.sizes (length m.hand) n) (m.guards == 0) LoadPin End _ (omega arith) (omega arith)
+first_fits Unpin m n = either_below (steps_at Unpin m.sizes (length m.hand) n) (m.guards == 1) StoreUnpinned End _ (omega arith) (omega arith)
+first_fits Repin m n = either_below (steps_at Repin m.sizes (length m.hand) n) (m.guards == 1) LoadRepin End _ (omega arith) (omega arith)
+first_fits Defer m n = either_below (steps_at Defer m.sizes (length m.hand) n) (length m.held == m.sizes.bag_jobs) LoadSeal Keep _ (omega arith) (omega arith)
+first_fits Flush m n = either_below (steps_at Flush m.sizes (length m.hand) n) (is_empty m.held) LoadScan LoadSeal _ (omega arith) (omega arith)
+first_fits Release m n = omega arith
+
+-- behind the Begin of any call
+pub begun_fits : (c : Call) (seat : Seat) (n : InStore) → steps_left (begun_seat c seat) n < call_bound seat.machine.sizes n.most + 1
+begun_fits PinCall seat n = first_fits Pin seat.machine n
+begun_fits (UnpinCall g) seat n = first_fits Unpin seat.machine n
+begun_fits (RepinCall (Some g)) seat n = first_fits Repin seat.machine n
+begun_fits (Pause (Some g)) seat n = first_fits Unpin seat.machine n
+begun_fits (Resume (Some g)) seat n = first_fits Pin seat.machine n
+begun_fits (DeferCall (Some g)) seat n = first_fits Defer seat.machine n
+begun_fits (FlushCall (Some g)) seat n = first_fits Flush seat.machine n
+begun_fits ReleaseCall seat n = first_fits Release seat.machine n
+begun_fits _ seat n = omega arith

@@ -5,7 +5,8 @@ ghost use Rattle.epoch_world.specs.declared.world.step.Entry.{Entry};
 ghost use Rattle.epoch_world.specs.declared.world.step.Step.TheVariants.{Register, Begin, Go, End as EndStep, EndGo};
 ghost use Rattle.epoch_pin.specs.Machine.{IsSized};
 ghost use Rattle.epoch_world.specs.Shapes.{IsValid};
-ghost use Rattle.epoch_world.specs.Run.{State, IsFresh, Runs, Takes, Over, entries_of, free_seat, number_of, word_of, Seat as Participant};
+ghost use Rattle.epoch_world.specs.Run.{State, IsFresh, Runs, Takes, Over, entries_of, free_seat, number_of, refusal, seat_of, word_of, Seat as Participant};
+ghost use Rattle.epoch_world.specs.Steps.{call_steps, EndsAtLast};
 ghost use Rattle.epoch_world.specs.Seats.{WordFits, SeatPerforms, shared};
 ghost use Rattle.epoch_world.specs.Worlds.{state_of, ending_of, IsDrivenAt, IsEmptying};
 ghost use Rattle.epoch_world.specs.Grace.{KeepsGrace};
@@ -19,6 +20,7 @@ mod shape;
 mod step;
 
 use epoch_base::{Bag, BagStore, Called, Epoch, Fault, Places, SealedBag};
+use calls::{go_to_end, most_steps};
 use epoch_pin::{Ask, Sizes};
 pub use seat::Seat;
 pub use shape::Shape;
@@ -136,6 +138,49 @@ impl<S: BagStore<Job = Deferral>> World<S> {
         Ok(replies)
     }
 
+    /// Begins this call and takes its steps, one after the other, up to its end. The replies are that of the Begin and
+    /// one for each further step.
+    ///
+    /// `NoMemory`: there was no room for the replies, and nothing was done. A call that is refused at its Begin has that
+    /// one reply.
+    pub fn call(&mut self, position: u64, call: Call) -> Result<Vec<Reply>, Fault>
+        // Begin, and then Go of this participant, lead from the state before to the state after.
+        ensures runs { IfOk result (λ replies. Runs self.old (entries_of (call_steps position call (length replies.items)) replies.items) self.new) }
+        // The last reply ends the call, and none before it does.
+        ensures ends { IfOk result (λ replies. EndsAtLast replies.items) }
+
+        // What holds of a run holds of this one, together with every earlier run from a new world.
+        ensures grace { IfOk result (λ replies. (fresh : State) (earlier : List Entry) → IsFresh fresh → Runs fresh earlier self.old → KeepsGrace (earlier ++ entries_of (call_steps position call (length replies.items)) replies.items)) }
+        ensures once { IfOk result (λ replies. (fresh : State) (earlier : List Entry) → IsFresh fresh → Runs fresh earlier self.old → HoldsEachTicketOnce (earlier ++ entries_of (call_steps position call (length replies.items)) replies.items) self.new) }
+        ensures lawful { IfOk result (λ replies. (fresh : State) (earlier : List Entry) → IsFresh fresh → Runs fresh earlier self.old → IsLawful (earlier ++ entries_of (call_steps position call (length replies.items)) replies.items)) }
+
+        ensures err { OnErr result (self.new ≡ self.old) }
+        ensures no_memory { IfErr result (λ fault. fault ≡ NoMemory) }
+    {
+        let steps = most_steps(self.sizes, self.store.capacity());
+        let mut replies = with_room(self.alloc, steps + 1)?;
+        if let Some(fault) = self.refusal(position, call) {
+            replies.push_reserved(Reply::Refused(fault));
+            return Ok(replies);
+        }
+        let index = position as usize;
+        self.seats[index].begin(call);
+        replies.push_reserved(Reply::Began);
+        go_to_end(
+            index,
+            self.sizes,
+            steps,
+            &mut self.epoch,
+            &mut self.seats,
+            &mut self.store,
+            &mut self.tickets,
+            &mut self.putting[index],
+            &mut self.taking[index],
+            &mut replies,
+        );
+        Ok(replies)
+    }
+
     /// Takes one step. It takes no memory.
     pub fn step(&mut self, step: Step) -> Reply
         ensures { Takes self.old step result self.new }
@@ -175,6 +220,16 @@ impl<S: BagStore<Job = Deferral>> World<S> {
         };
         self.seats[index].register(self.sizes);
         Reply::Registered(index as u64)
+    }
+
+    /// The fault that refuses this call now, or `None`.
+    fn refusal(&self, position: u64, call: Call) -> Option<Fault>
+        ensures { result ≡ refusal call (seat_of self.now position) self.now.tickets }
+    {
+        match self.seats.get(position as usize) {
+            Some(seat) => seat.refusal(call, self.tickets),
+            None => Some(Fault::NotRegistered),
+        }
     }
 
     fn begin(&mut self, position: u64, call: Call) -> Reply
