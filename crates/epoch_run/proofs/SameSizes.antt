@@ -1,6 +1,6 @@
 -- A text says at most one shape.
-use Rattle.std.proofs.Common.{◌≡◌, ℕ, List, Option, Some, None, MatchOption, subst, sym}
-use Rattle.epoch_run.specs.Lines.{Behind, Leading, SpellsNumber, SpellsShape, SpellsSizes, SpellsLastSizes, first_word, others}
+use Rattle.std.proofs.Common.{◌≡◌, ℕ, List, Option, Some, None, MatchOption, subst}
+use Rattle.epoch_run.specs.Lines.{Behind, Leading, SpellsNumber, SpellsShape, SpellsSizes, SpellsLastSizes, others}
 use Rattle.epoch_world.specs.Shapes.{IsValid}
 use Rattle.epoch_world.specs.declared.world.shape.Shape.{Shape}
 

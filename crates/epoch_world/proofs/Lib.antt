@@ -43,6 +43,7 @@ pub mod WorldKept
 pub mod Performed
 pub mod StepsFall
 pub mod TurnsTaken
-pub mod CallsEnd
+pub mod AcceptedCalls
 pub mod RunsGoOn
+pub mod CallsGoOn
 pub mod WorldSteps

@@ -11,7 +11,8 @@ use Rattle.epoch_world.specs.declared.world.step.Reply.{Reply}
 use Rattle.epoch_world.specs.Kept.{AllLinked, IsKept}
 use Rattle.epoch_world.specs.Run.{Bag, Seat, Ending, Open}
 use Rattle.epoch_world.specs.Seats.{Shared, SeatPerforms}
-use Rattle.epoch_world.specs.Steps.{InStore, machine_steps, steps_of, steps_left, ends_call}
+use Rattle.epoch_world.specs.Calls.{ends_call}
+use Rattle.epoch_world.specs.Steps.{InStore, machine_steps, steps_of, steps_left}
 use Rattle.epoch_world.specs.Worlds.{state_of, is_driven, IsDrivenAt}
 
 -- HOW FAR THE END IS PLAYS NO PART
@@ -65,3 +66,7 @@ pub seat_less : (seats : List Seat) (p : ℕ) (other seat after : Seat) (before 
 seat_less seats p other seat after before behind there is less =
     subst (λ (q : Seat). steps_left q behind < steps_left (slice_index_or seats p other) before) (sym (get_or-set_same seats p after other there))
       (subst (λ (q : Seat). steps_left after behind < steps_left q before) is less)
+
+-- where fewer steps are left, one more may be taken
+pub still_few : (steps left i bound : ℕ) → steps < left → left + i < bound → steps + (i + 1) < bound
+still_few steps left i bound less few = omega arith

@@ -7,3 +7,4 @@ pub mod Shapes
 pub mod Worlds
 pub mod Kept
 pub mod Steps
+pub mod Calls

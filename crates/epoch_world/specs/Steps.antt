@@ -1,22 +1,15 @@
--- How many steps a call still takes at most, and which reply ends it.
-use Rattle.std.specs.Prelude.{◌≡◌, ℕ, ◌+◌, ◌-◌, ◌*◌, Bool, true, false, List, [], ◌∷◌, length, zero, suc}
+-- How many steps a call still takes at most.
+use Rattle.std.specs.Prelude.{ℕ, ◌+◌, ◌-◌, ◌*◌, length}
 use Rattle.epoch_pin.specs.declared.machine.Action.{Action}
 use Rattle.epoch_pin.specs.declared.machine.Action.TheVariants.{Flush, Release}
 use Rattle.epoch_pin.specs.declared.machine.Sizes.{Sizes}
 use Rattle.epoch_pin.specs.declared.machine.Stage.{Stage}
 use Rattle.epoch_pin.specs.declared.machine.Stage.TheVariants.{Idle as Resting, LoadPin, StorePin, ReloadPin, LoadScan, Scan, Advance, Take, Calling, LoadSeal, Put, Keep, LoadRepin, StoreRepin, ReloadRepin, StoreUnpinned, StoreFree, End}
 use Rattle.epoch_pin.specs.Machine.{Machine}
-use Rattle.epoch_world.specs.declared.world.step.Call.{Call}
 use Rattle.epoch_world.specs.declared.world.step.Deferral.{Deferral}
 use Rattle.epoch_world.specs.declared.world.step.Progress.{Progress}
 use Rattle.epoch_world.specs.declared.world.step.Progress.TheVariants.{Idle, Driven, CallsNow, Ends}
-use Rattle.epoch_world.specs.declared.world.step.Reply.{Reply}
-use Rattle.epoch_world.specs.declared.world.step.Reply.TheVariants.{Done, Refused}
-use Rattle.epoch_world.specs.declared.world.step.Step.{Step}
-use Rattle.epoch_world.specs.declared.world.step.Step.TheVariants.{Begin, Go}
 use Rattle.epoch_world.specs.Run.{Seat}
-
--- HOW MANY STEPS ARE LEFT
 
 -- how many steps in the store the put and the collection under way have left, and how many a new one has at most
 pub record InStore : Type 0 where
@@ -82,30 +75,3 @@ steps_left seat n = steps_of seat.progress seat.machine n
 -- any call, from its Begin on
 abbrev pub call_bound : Sizes → ℕ → ℕ
 call_bound sizes most = sizes.positions + sizes.collect_bags * 64 + 2 * most + 10
-
--- WHOLE CALLS
-
-abbrev pub goes : ℕ → ℕ → List Step
-goes p zero = []
-goes p (suc n) = Go p ∷ goes p n
-
--- a Begin, and then Go
-abbrev pub call_steps : ℕ → Call → ℕ → List Step
-call_steps p c zero = []
-call_steps p c (suc n) = Begin p c ∷ goes p n
-
-abbrev pub ends_call : Reply → Bool
-ends_call (Done answer) = true
-ends_call (Refused fault) = true
-ends_call _ = false
-
--- none of them ends the call
-abbrev pub AllGoOn : List Reply → Type 0
-AllGoOn [] = Unit {0}
-AllGoOn (reply ∷ replies) = (ends_call reply ≡ false) × AllGoOn replies
-
--- the last one ends the call, and none before it does
-abbrev pub EndsAtLast : List Reply → Type 0
-EndsAtLast [] = ⊥
-EndsAtLast (reply ∷ []) = ends_call reply ≡ true
-EndsAtLast (reply ∷ next ∷ replies) = (ends_call reply ≡ false) × EndsAtLast (next ∷ replies)

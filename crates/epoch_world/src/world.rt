@@ -6,12 +6,12 @@ ghost use Rattle.epoch_world.specs.declared.world.step.Step.TheVariants.{Registe
 ghost use Rattle.epoch_pin.specs.Machine.{IsSized};
 ghost use Rattle.epoch_world.specs.Shapes.{IsValid};
 ghost use Rattle.epoch_world.specs.Run.{State, IsFresh, Runs, Takes, Over, entries_of, free_seat, number_of, refusal, seat_of, word_of, Seat as Participant};
-ghost use Rattle.epoch_world.specs.Steps.{call_steps, EndsAtLast};
 ghost use Rattle.epoch_world.specs.Seats.{WordFits, SeatPerforms, shared};
 ghost use Rattle.epoch_world.specs.Worlds.{state_of, ending_of, IsDrivenAt, IsEmptying};
 ghost use Rattle.epoch_world.specs.Grace.{KeepsGrace};
 ghost use Rattle.epoch_world.specs.Tickets.{HoldsEachTicketOnce, times_called, times_deferred};
 ghost use Rattle.epoch_world.specs.Lawful.{IsLawful};
+ghost use Rattle.epoch_world.specs.Calls.{call_of, EndsAtLast};
 
 mod calls;
 mod guards;
@@ -19,8 +19,8 @@ mod seat;
 mod shape;
 mod step;
 
-use epoch_base::{Bag, BagStore, Called, Epoch, Fault, Places, SealedBag};
 use calls::{go_to_end, most_steps};
+use epoch_base::{Bag, BagStore, Called, Epoch, Fault, Places, SealedBag};
 use epoch_pin::{Ask, Sizes};
 pub use seat::Seat;
 pub use shape::Shape;
@@ -138,32 +138,33 @@ impl<S: BagStore<Job = Deferral>> World<S> {
         Ok(replies)
     }
 
-    /// Begins this call and takes its steps, one after the other, up to its end. The replies are that of the Begin and
-    /// one for each further step.
+    /// Begins this participant's call and goes on until it ends, and answers a reply for each step.
     ///
-    /// `NoMemory`: there was no room for the replies, and nothing was done. A call that is refused at its Begin has that
-    /// one reply.
-    pub fn call(&mut self, position: u64, call: Call) -> Result<Vec<Reply>, Fault>
-        // Begin, and then Go of this participant, lead from the state before to the state after.
-        ensures runs { IfOk result (λ replies. Runs self.old (entries_of (call_steps position call (length replies.items)) replies.items) self.new) }
+    /// A refused call has one reply. `NoMemory`: there was no room for the replies, and nothing was done. What holds
+    /// of the steps holds together with every earlier run, as for [`World::run`].
+    pub fn call(&mut self, participant: u64, call: Call) -> Result<Vec<Reply>, Fault>
+        // It is a run of Begin, and then of Go.
+        ensures runs { IfOk result (λ replies. Runs self.old (call_of participant call replies.items) self.new) }
         // The last reply ends the call, and none before it does.
         ensures ends { IfOk result (λ replies. EndsAtLast replies.items) }
 
-        // What holds of a run holds of this one, together with every earlier run from a new world.
-        ensures grace { IfOk result (λ replies. (fresh : State) (earlier : List Entry) → IsFresh fresh → Runs fresh earlier self.old → KeepsGrace (earlier ++ entries_of (call_steps position call (length replies.items)) replies.items)) }
-        ensures once { IfOk result (λ replies. (fresh : State) (earlier : List Entry) → IsFresh fresh → Runs fresh earlier self.old → HoldsEachTicketOnce (earlier ++ entries_of (call_steps position call (length replies.items)) replies.items) self.new) }
-        ensures lawful { IfOk result (λ replies. (fresh : State) (earlier : List Entry) → IsFresh fresh → Runs fresh earlier self.old → IsLawful (earlier ++ entries_of (call_steps position call (length replies.items)) replies.items)) }
+        // No job is called while a participant pinned at its deferral has stayed pinned without repinning.
+        ensures grace { IfOk result (λ replies. (fresh : State) (earlier : List Entry) → IsFresh fresh → Runs fresh earlier self.old → KeepsGrace (earlier ++ call_of participant call replies.items)) }
+        // Each accepted job is in exactly one bag, or was called exactly once.
+        ensures once { IfOk result (λ replies. (fresh : State) (earlier : List Entry) → IsFresh fresh → Runs fresh earlier self.old → HoldsEachTicketOnce (earlier ++ call_of participant call replies.items) self.new) }
+        // Each event stands only where it may.
+        ensures lawful { IfOk result (λ replies. (fresh : State) (earlier : List Entry) → IsFresh fresh → Runs fresh earlier self.old → IsLawful (earlier ++ call_of participant call replies.items)) }
 
         ensures err { OnErr result (self.new ≡ self.old) }
         ensures no_memory { IfErr result (λ fault. fault ≡ NoMemory) }
     {
         let steps = most_steps(self.sizes, self.store.capacity());
         let mut replies = with_room(self.alloc, steps + 1)?;
-        if let Some(fault) = self.refusal(position, call) {
+        if let Some(fault) = self.refusal(participant, call) {
             replies.push_reserved(Reply::Refused(fault));
             return Ok(replies);
         }
-        let index = position as usize;
+        let index = participant as usize;
         self.seats[index].begin(call);
         replies.push_reserved(Reply::Began);
         go_to_end(

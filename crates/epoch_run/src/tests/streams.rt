@@ -1,4 +1,5 @@
 //! Bad lines, numbers and streams.
+ghost use Rattle.std.specs.Prelude.{◌<◌};
 
 use crate::engine::{Ending, run};
 use crate::tests::scripts::{expect_printed, lines_of, outcome_of};
@@ -354,17 +355,22 @@ struct Dice(u64);
 
 impl Dice {
     /// A number below `sides`.
-    fn throw(&mut self, sides: u64) -> u64 {
+    fn throw(&mut self, sides: u64) -> u64
+        requires { 0 < sides }
+        ensures { result < sides }
+    {
         self.0 = self
             .0
             .wrapping_mul(6_364_136_223_846_793_005)
             .wrapping_add(1_442_695_040_888_963_407);
-        (self.0 >> 33).checked_rem(sides).unwrap_or(0)
+        (self.0 >> 33) % sides
     }
 }
 
 /// A line of the grammar, with numbers that mostly fit.
-fn thrown_line(dice: &mut Dice) -> (u64, &'static str) {
+fn thrown_line(dice: &mut Dice) -> (u64, &'static str)
+    ensures { result.0 < 3 }
+{
     let line = match dice.throw(24) {
         0 => "register",
         1 => "begin # pin",

@@ -2,8 +2,9 @@
 ghost use Rattle.std.specs.Prelude.{◌≡◌, ◌≢◌, ℕ, ◌+◌, ◌*◌, ◌^◌, ◌<◌, ◌≤◌, false, length, vec_capacity, slice_index_or};
 ghost use Rattle.epoch_world.specs.declared.world.step.Step.TheVariants.{Go};
 ghost use Rattle.epoch_world.specs.Kept.{IsKept};
-ghost use Rattle.epoch_world.specs.Run.{Ending, Open, State, Takes, Runs, entries_of, free_seat, number_of};
-ghost use Rattle.epoch_world.specs.Steps.{in_store, steps_left, call_bound, call_steps, ends_call, AllGoOn, EndsAtLast};
+ghost use Rattle.epoch_world.specs.Run.{Ending, Open, State, Takes, Runs, free_seat, number_of};
+ghost use Rattle.epoch_world.specs.Calls.{call_of, ends_call, AllGoOn, EndsAtLast};
+ghost use Rattle.epoch_world.specs.Steps.{in_store, steps_left, call_bound};
 ghost use Rattle.epoch_world.specs.Worlds.{state_of, IsDrivenAt};
 
 use crate::world::seat::Seat;
@@ -47,7 +48,7 @@ pub fn go_to_end<S: BagStore<Job = Deferral>>(
     requires begun { 0 < length replies.old.items }
 
     // What is a run with the replies that were there goes on to one with all of them.
-    ensures runs { (start : State) (call : Call) (ending : Ending) → Runs start (entries_of (call_steps index call (length replies.old.items)) replies.old.items) (state_of sizes epoch.old seats.old.items (S.queued store.old) tickets.old ending) → Runs start (entries_of (call_steps index call (length replies.new.items)) replies.new.items) (state_of sizes epoch.new seats.new.items (S.queued store.new) tickets.new ending) }
+    ensures runs { (start : State) (call : Call) (ending : Ending) → Runs start (call_of index call replies.old.items) (state_of sizes epoch.old seats.old.items (S.queued store.old) tickets.old ending) → Runs start (call_of index call replies.new.items) (state_of sizes epoch.new seats.new.items (S.queued store.new) tickets.new ending) }
     ensures ends { AllGoOn replies.old.items → EndsAtLast replies.new.items }
 
     ensures epoch { epoch.new < 2 ^ 63 }
@@ -63,7 +64,7 @@ pub fn go_to_end<S: BagStore<Job = Deferral>>(
     }
 }
 
-/// Whether the reply is the last one of a call.
+/// Whether a call is over with this reply.
 fn ends_call(reply: Reply) -> bool
     ensures { result ≡ ends_call reply }
 {

@@ -2,7 +2,8 @@ use Rattle.std.proofs.Common.{ℕ, ◌+◌, ◌*◌, ◌<◌, ◌≡◌, sym, ap
 use Rattle.epoch_world.specs.declared.world.step.Step.TheVariants.{Go}
 use Rattle.epoch_world.specs.Run.{Open, free_seat}
 use Rattle.epoch_world.specs.Steps.{in_store, steps_left}
-use Rattle.epoch_world.proofs.CallsEnd.{call_more, all_go_on, ends_there, still_few}
+use Rattle.epoch_world.proofs.CallsGoOn.{call_more, all_go_on, ends_there}
+use Rattle.epoch_world.proofs.TurnsTaken.{still_few}
 use Rattle.epoch_world.proofs.WorldKept.{kept_takes}
 use Rattle.epoch_world.proofs.world.calls.go_to_end.Goals as goal
 

@@ -1,8 +1,9 @@
 use Rattle.std.proofs.Common.{◌≡◌, ℕ, ◌+◌, ◌*◌, ◌^◌, ◌<◌, ◌≤◌, length, slice_index_or, vec_capacity}
 use Rattle.epoch_world.specs.declared.world.step.Call.{Call}
+use Rattle.epoch_world.specs.Calls.{call_of, AllGoOn}
 use Rattle.epoch_world.specs.Kept.{IsKept}
-use Rattle.epoch_world.specs.Run.{State, Ending, Runs, entries_of, free_seat}
-use Rattle.epoch_world.specs.Steps.{in_store, steps_left, call_steps, AllGoOn}
+use Rattle.epoch_world.specs.Run.{State, Ending, Runs, free_seat}
+use Rattle.epoch_world.specs.Steps.{in_store, steps_left}
 use Rattle.epoch_world.specs.Worlds.{state_of}
 use Rattle.epoch_world.proofs.world.calls.go_to_end.Given as goal
 
@@ -19,9 +20,9 @@ invariant-loop g l = record {
   room : length l.replies.items + l.steps ≤ vec_capacity l.replies + l.counter;
   begun : 0 < length l.replies.items;
   runs : (start : State) (call : Call) (ending : Ending)
-      → Runs start (entries_of (call_steps l.index call (length l.fn.replies.items)) l.fn.replies.items)
+      → Runs start (call_of l.index call l.fn.replies.items)
         (state_of l.sizes l.fn.epoch l.fn.seats.items (g.S.BagStore.queued l.fn.store) l.fn.tickets ending)
-      → Runs start (entries_of (call_steps l.index call (length l.replies.items)) l.replies.items)
+      → Runs start (call_of l.index call l.replies.items)
         (state_of l.sizes l.epoch l.seats.items (g.S.BagStore.queued l.store) l.tickets ending);
   goes_on : AllGoOn l.fn.replies.items → AllGoOn l.replies.items;
 }
