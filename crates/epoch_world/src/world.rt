@@ -6,8 +6,8 @@ ghost use Rattle.epoch_world.specs.declared.world.step.Step.TheVariants.{Registe
 ghost use Rattle.epoch_pin.specs.Machine.{IsSized};
 ghost use Rattle.epoch_world.specs.Shapes.{IsValid};
 ghost use Rattle.epoch_world.specs.Run.{State, IsFresh, Runs, Takes, Over, entries_of, free_seat, number_of, refusal, seat_of, word_of, Seat as Participant};
-ghost use Rattle.epoch_world.specs.Seats.{WordFits, SeatPerforms, shared};
-ghost use Rattle.epoch_world.specs.Worlds.{state_of, ending_of, IsDrivenAt, IsEmptying};
+ghost use Rattle.epoch_world.specs.Seats.{WordFits};
+ghost use Rattle.epoch_world.specs.Worlds.{IsEmptying};
 ghost use Rattle.epoch_world.specs.Grace.{KeepsGrace};
 ghost use Rattle.epoch_world.specs.Tickets.{HoldsEachTicketOnce, times_called, times_deferred};
 ghost use Rattle.epoch_world.specs.Lawful.{IsLawful};
@@ -19,9 +19,9 @@ mod seat;
 mod shape;
 mod step;
 
-use calls::{go_to_end, most_steps};
+use calls::{go_on, go_to_end, most_steps};
 use epoch_base::{Bag, BagStore, Called, Epoch, Fault, Places, SealedBag};
-use epoch_pin::{Ask, Sizes};
+use epoch_pin::Sizes;
 pub use seat::Seat;
 pub use shape::Shape;
 use std::alloc::Global;
@@ -254,37 +254,11 @@ impl<S: BagStore<Job = Deferral>> World<S> {
         if index >= self.seats.len() {
             return Reply::Refused(Fault::NotRegistered);
         }
-        let seat = &mut self.seats[index];
-        if let Word::Free = seat.word() {
-            return Reply::Refused(Fault::NotRegistered);
-        }
-        match seat.progress() {
-            Progress::Idle => Reply::Refused(Fault::Idle),
-            Progress::CallsNow => seat.call_now(),
-            Progress::Ends(reply) => {
-                seat.rest();
-                reply
-            }
-            Progress::Driven(call) => match seat.ask() {
-                None => seat.end(call),
-                Some(ask) => self.perform(index, ask),
-            },
-        }
-    }
-
-    /// Performs what the participant's machine asks for.
-    fn perform(&mut self, index: usize, ask: Ask) -> Reply
-        requires there { index < length self.old.seats }
-        requires driven { IsDrivenAt self.old index ask }
-        ensures { Takes self.old (Go index) result self.new }
-    {
-        let word = self.number_at(scanned(ask));
-        let seat = &mut self.seats[index];
-        seat.perform(
-            ask,
-            index as u64,
-            word,
+        go_on(
+            index,
+            self.sizes,
             &mut self.epoch,
+            &mut self.seats,
             &mut self.store,
             &mut self.tickets,
             &mut self.putting[index],
@@ -334,15 +308,6 @@ impl<S: BagStore<Job = Deferral>> World<S> {
                 self.end = EndStage::Over;
                 Reply::Done(Answer::Count(self.count))
             }
-        }
-    }
-
-    fn number_at(&self, index: usize) -> u64
-        ensures { result ≡ number_of (word_of self.now index) }
-    {
-        match self.seats.get(index) {
-            Some(seat) => number_of(seat.word()),
-            None => 0,
         }
     }
 }
@@ -398,16 +363,6 @@ fn all_free(seats: &Vec<Seat>) -> bool
         };
     }
     true
-}
-
-/// The position that a scan looks at, or 0 where the ask is for something else.
-fn scanned(ask: Ask) -> usize
-    ensures { (position : ℕ) → ask ≡ Ask.LoadWord position → result ≡ position }
-{
-    match ask {
-        Ask::LoadWord(position) => position as usize,
-        _ => 0,
-    }
 }
 
 /// The least position that is free.

@@ -9,7 +9,7 @@ ghost use Rattle.epoch_world.specs.Worlds.{state_of, IsDrivenAt};
 
 use crate::world::seat::Seat;
 use crate::world::step::{Call, Deferral, Progress, Reply, Word};
-use crate::world::{number_of, scanned};
+use crate::world::number_of;
 use epoch_base::{BagStore, Fault};
 use epoch_pin::{Ask, Sizes};
 
@@ -144,5 +144,15 @@ fn number_at(seats: &Vec<Seat>, index: usize) -> u64
     match seats.get(index) {
         Some(seat) => number_of(seat.word()),
         None => 0,
+    }
+}
+
+/// The position that a scan looks at, or 0 where the ask is for something else.
+fn scanned(ask: Ask) -> usize
+    ensures { (position : ℕ) → ask ≡ Ask.LoadWord position → result ≡ position }
+{
+    match ask {
+        Ask::LoadWord(position) => position as usize,
+        _ => 0,
     }
 }
