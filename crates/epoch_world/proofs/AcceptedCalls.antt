@@ -51,7 +51,7 @@ module _ (s now : State) (p : ℕ) (c : Call) (o : Option Fault) (seat : Seat) (
   given_few after n most steps kept begun same bound =
       let sized : seat.machine.sizes ≡ s.sizes = ap (λ (q : Seat). q.machine.sizes) given_at ∙ (kept.linked.seats p).sized in
       subst (λ (q : Seat). steps_left q n < steps) (sym (get_or-set_same s.seats p after (free_seat s.sizes) given_there ∙ begun))
-        (subst (λ k. steps_left (begun_seat c seat) n < k) (ap₂ (λ (z : Sizes) m. call_bound z m + 1) sized same ∙ sym bound) (begun_fits c seat n))
+      (subst (λ k. steps_left (begun_seat c seat) n < k) (ap₂ (λ (z : Sizes) m. call_bound z m + 1) sized same ∙ sym bound) (begun_fits c seat n))
 
 pub refused_takes : (s : State) (p : ℕ) (c : Call) (o : Option Fault) (f : Fault) → o ≡ refusal c (seat_of s p) s.tickets → o ≡ Some f → Takes s (Begin p c) (Refused f) s
 refused_takes s p c o f found some = subst (λ (r : Option Fault). Begins s p c r (Refused f) s) (sym some ∙ found) (refl, refl)

@@ -29,7 +29,7 @@ next_bag : (m : Machine Deferral) (x k hand bound : ℕ) (n : InStore) → colle
     → steps_at m.action m.sizes hand n (if k + 1 == m.sizes.collect_bags then after_collect m.action m.held else Take x (k + 1)) < bound
 next_bag m x k hand bound n less =
     either_below (steps_at m.action m.sizes hand n) (k + 1 == m.sizes.collect_bags) (after_collect m.action m.held) (Take x (k + 1)) bound
-      (omega (arith, collect_fits m.action m.sizes hand n m.held)) less
+    (omega (arith, collect_fits m.action m.sizes hand n m.held)) less
 
 -- a cursor that isn't at its end has fewer steps left
 less_at : (step : TakeStep) (takes after : ℕ) → (step ≡ Empty → ⊥) → (0 < takes → after < takes) → (takes ≡ 0 → step ≡ Empty) → after < takes
@@ -66,7 +66,7 @@ module _ (m : Machine Deferral) (puts takes most : ℕ) where
       → machine_steps (took_heard m m.stage step jobs) (in_store puts takes' most) < machine_steps m (in_store puts takes most)
   take_falls x takes' Again jobs asked fits fewer last few =
       subst (λ (k : Machine Deferral). machine_steps k (in_store puts takes' most) < machine_steps m (in_store puts takes most)) (same_again m.stage jobs)
-        (take_again m.stage x takes' asked (less_at Again takes takes' (λ e. cc) fewer last))
+      (take_again m.stage x takes' asked (less_at Again takes takes' (λ e. cc) fewer last))
   take_falls x takes' Empty jobs asked fits fewer last few = take_ends m.stage x takes' jobs asked
   take_falls x takes' Got jobs asked fits fewer last few = take_gets m.stage x takes' jobs asked fits (less_at Got takes takes' (λ e. cc) fewer last) (few refl)
 
@@ -86,15 +86,15 @@ pub took_less : (m now after : Machine Deferral) (puts takes takes' most x : ℕ
     → machine_steps after (in_store puts takes' most) < machine_steps now (in_store puts takes most)
 took_less m now after puts takes takes' most x step is asked went fits fewer last few =
     subst (λ (k : Machine Deferral). machine_steps after (in_store puts takes' most) < machine_steps k (in_store puts takes most)) is
-      (subst (λ (k : Machine Deferral). machine_steps k (in_store puts takes' most) < machine_steps m (in_store puts takes most)) (sym went)
-        (take_falls m puts takes most x takes' step after.hand (ap (λ (k : Machine Deferral). ask_at k.stage) is ∙ asked) fits fewer last few))
+    (subst (λ (k : Machine Deferral). machine_steps k (in_store puts takes' most) < machine_steps m (in_store puts takes most)) (sym went)
+    (take_falls m puts takes most x takes' step after.hand (ap (λ (k : Machine Deferral). ask_at k.stage) is ∙ asked) fits fewer last few))
 
 pub gave_less : (m now after : Machine Deferral) (puts takes most : ℕ) (job : Deferral) → m ≡ now → ask_at m.stage ≡ Some CallJob → m.hand ≡ job ∷ rest m.hand
     → after ≡ gives m m.stage (rest m.hand) → machine_steps after (in_store puts takes most) < machine_steps now (in_store puts takes most)
 gave_less m now after puts takes most job is asked hand went =
     subst (λ (k : Machine Deferral). machine_steps after (in_store puts takes most) < machine_steps k (in_store puts takes most)) is
-      (subst (λ (k : Machine Deferral). machine_steps k (in_store puts takes most) < machine_steps m (in_store puts takes most)) (sym went)
-        (call_falls m puts takes most m.stage job (rest m.hand) asked hand))
+    (subst (λ (k : Machine Deferral). machine_steps k (in_store puts takes most) < machine_steps m (in_store puts takes most)) (sym went)
+    (call_falls m puts takes most m.stage job (rest m.hand) asked hand))
 
 -- A WHOLE CALL
 

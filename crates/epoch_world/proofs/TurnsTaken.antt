@@ -65,7 +65,7 @@ pub seat_less : (seats : List Seat) (p : ℕ) (other seat after : Seat) (before 
     → steps_left (slice_index_or (slice_set seats p after) p other) behind < steps_left (slice_index_or seats p other) before
 seat_less seats p other seat after before behind there is less =
     subst (λ (q : Seat). steps_left q behind < steps_left (slice_index_or seats p other) before) (sym (get_or-set_same seats p after other there))
-      (subst (λ (q : Seat). steps_left after behind < steps_left q before) is less)
+    (subst (λ (q : Seat). steps_left after behind < steps_left q before) is less)
 
 -- where fewer steps are left, one more may be taken
 pub still_few : (steps left i bound : ℕ) → steps < left → left + i < bound → steps + (i + 1) < bound

@@ -236,14 +236,10 @@ impl<S: BagStore<Job = Deferral>> World<S> {
     fn begin(&mut self, position: u64, call: Call) -> Reply
         ensures { Takes self.old (Begin position call) result self.new }
     {
-        let index = position as usize;
-        if index >= self.seats.len() {
-            return Reply::Refused(Fault::NotRegistered);
-        }
-        if let Some(fault) = self.seats[index].refusal(call, self.tickets) {
+        if let Some(fault) = self.refusal(position, call) {
             return Reply::Refused(fault);
         }
-        self.seats[index].begin(call);
+        self.seats[position as usize].begin(call);
         Reply::Began
     }
 

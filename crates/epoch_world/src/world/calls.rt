@@ -7,9 +7,9 @@ ghost use Rattle.epoch_world.specs.Calls.{call_of, ends_call, AllGoOn, EndsAtLas
 ghost use Rattle.epoch_world.specs.Steps.{in_store, steps_left, call_bound};
 ghost use Rattle.epoch_world.specs.Worlds.{state_of, IsDrivenAt};
 
+use crate::world::number_of;
 use crate::world::seat::Seat;
 use crate::world::step::{Call, Deferral, Progress, Reply, Word};
-use crate::world::number_of;
 use epoch_base::{BagStore, Fault};
 use epoch_pin::{Ask, Sizes};
 
@@ -106,7 +106,9 @@ pub fn go_on<S: BagStore<Job = Deferral>>(
         }
         Progress::Driven(call) => match seat.ask() {
             None => seat.end(call),
-            Some(ask) => perform(index, sizes, ask, epoch, seats, store, tickets, putting, taking),
+            Some(ask) => perform(
+                index, sizes, ask, epoch, seats, store, tickets, putting, taking,
+            ),
         },
     }
 }
@@ -135,7 +137,16 @@ fn perform<S: BagStore<Job = Deferral>>(
 {
     let word = number_at(seats, scanned(ask));
     let seat = &mut seats[index];
-    seat.perform(ask, index as u64, word, epoch, store, tickets, putting, taking)
+    seat.perform(
+        ask,
+        index as u64,
+        word,
+        epoch,
+        store,
+        tickets,
+        putting,
+        taking,
+    )
 }
 
 fn number_at(seats: &Vec<Seat>, index: usize) -> u64

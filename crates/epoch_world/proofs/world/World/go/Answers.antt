@@ -10,13 +10,13 @@ use Rattle.epoch_world.proofs.world.World.go.Goals as goal
 pub go_on-requires-clause-kept : goal.go_on-requires-clause-kept
 go_on-requires-clause-kept g c =
     kept_open c.self.inside.sizes c.self.inside.epoch c.self.inside.tickets c.self.inside.seats.items (g.S.BagStore.queued c.self.inside.store)
-      (ending_of c.self.inside.end c.self.inside.hand.jobs c.self.inside.count) c.self.invariant.kept
+    (ending_of c.self.inside.end c.self.inside.hand.jobs c.self.inside.count) c.self.invariant.kept
 
 pub invariant_of-self : goal.invariant_of-self
 invariant_of-self g c =
     let old : State =
-        state_of c.self.inside.sizes c.self.inside.epoch c.self.inside.seats.items (g.S.BagStore.queued c.self.inside.store) c.self.inside.tickets
-          (ending_of c.self.inside.end c.self.inside.hand.jobs c.self.inside.count) in
+    state_of c.self.inside.sizes c.self.inside.epoch c.self.inside.seats.items (g.S.BagStore.queued c.self.inside.store) c.self.inside.tickets
+    (ending_of c.self.inside.end c.self.inside.hand.jobs c.self.inside.count) in
     record {
       sized = c.self.invariant.sized;
       epoch = c.go_on.ensures.epoch;
@@ -29,5 +29,5 @@ pub returns : goal.returns
 returns g c =
     let ending : Ending = ending_of c.self.inside.end c.self.inside.hand.jobs c.self.inside.count in
     let new : State =
-        state_of c.self.inside.sizes c.go_on.new.epoch c.go_on.new.seats.items (g.S.BagStore.queued c.go_on.new.store) c.go_on.new.tickets ending in
+    state_of c.self.inside.sizes c.go_on.new.epoch c.go_on.new.seats.items (g.S.BagStore.queued c.go_on.new.store) c.go_on.new.tickets ending in
     subst (λ (s : State). Takes s (Go c.args.position) c.go_on.result new) c.self.view_is (c.go_on.ensures.step ending)

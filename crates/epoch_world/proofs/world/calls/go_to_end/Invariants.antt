@@ -15,14 +15,14 @@ invariant-loop g l = record {
   kept : (ending : Ending) → IsKept (state_of l.sizes l.fn.epoch l.fn.seats.items (g.S.BagStore.queued l.fn.store) l.fn.tickets ending)
       → IsKept (state_of l.sizes l.epoch l.seats.items (g.S.BagStore.queued l.store) l.tickets ending);
   few : steps_left (slice_index_or l.seats.items l.index (free_seat l.sizes))
-        (in_store (g.S.BagStore.puts_left (g.S.BagStore.capacity l.store) l.putting)
-        (g.S.BagStore.takes_left (g.S.BagStore.capacity l.store) l.taking) (3 * g.S.BagStore.capacity l.store + 65)) + l.counter < l.steps;
+      (in_store (g.S.BagStore.puts_left (g.S.BagStore.capacity l.store) l.putting)
+      (g.S.BagStore.takes_left (g.S.BagStore.capacity l.store) l.taking) (3 * g.S.BagStore.capacity l.store + 65)) + l.counter < l.steps;
   room : length l.replies.items + l.steps ≤ vec_capacity l.replies + l.counter;
   begun : 0 < length l.replies.items;
   runs : (start : State) (call : Call) (ending : Ending)
       → Runs start (call_of l.index call l.fn.replies.items)
-        (state_of l.sizes l.fn.epoch l.fn.seats.items (g.S.BagStore.queued l.fn.store) l.fn.tickets ending)
+      (state_of l.sizes l.fn.epoch l.fn.seats.items (g.S.BagStore.queued l.fn.store) l.fn.tickets ending)
       → Runs start (call_of l.index call l.replies.items)
-        (state_of l.sizes l.epoch l.seats.items (g.S.BagStore.queued l.store) l.tickets ending);
+      (state_of l.sizes l.epoch l.seats.items (g.S.BagStore.queued l.store) l.tickets ending);
   goes_on : AllGoOn l.fn.replies.items → AllGoOn l.replies.items;
 }
