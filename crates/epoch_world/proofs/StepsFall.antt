@@ -1,5 +1,5 @@
 -- A step of a collection, and a call, leave fewer steps for the call under way.
-use Rattle.std.proofs.Common.{◌≡◌, ℕ, ◌+◌, ◌<◌, ◌≤◌, ◌==◌, Bool, true, false, List, [], ◌∷◌, length, Option, Some, refl, ap, sym, subst, ◌∙◌, arith, if◌then◌else◌, zero, suc}
+use Rattle.std.proofs.Common.{◌≡◌, ℕ, ◌+◌, ◌<◌, ◌≤◌, ◌==◌, Bool, true, false, List, [], ◌∷◌, length, Some, refl, ap, sym, subst, ◌∙◌, arith, if◌then◌else◌, zero, suc}
 use Rattle.epoch_base.specs.declared.queue.TakeStep.{TakeStep}
 use Rattle.epoch_base.specs.declared.queue.TakeStep.TheVariants.{Again, Empty, Got}
 use Rattle.epoch_pin.specs.declared.machine.Action.{Action}

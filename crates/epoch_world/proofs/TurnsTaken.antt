@@ -1,7 +1,7 @@
 -- A participant's step over the parts of a world is the world's step, and leaves fewer steps for its call.
-use Rattle.std.proofs.Common.{◌≡◌, ℕ, ◌+◌, ◌<◌, ◌≤◌, Bool, true, false, List, length, Option, Some, None, refl, ap, sym, subst, ◌∙◌, arith, slice_index_or, slice_set, get_or-set_same}
+use Rattle.std.proofs.Common.{◌≡◌, ℕ, ◌+◌, ◌<◌, true, false, List, length, ap, sym, subst, arith, slice_index_or, slice_set, get_or-set_same}
 use Rattle.epoch_pin.specs.declared.machine.Ask.{Ask}
-use Rattle.epoch_pin.specs.declared.machine.Ask.TheVariants.{LoadEpoch, LoadWord, StorePinned, StoreRepinned, StoreUnpinned, StoreFree, StoreEpoch, PutBag, TakeBag, KeepJob, CallJob}
+use Rattle.epoch_pin.specs.declared.machine.Ask.TheVariants.{StoreFree, PutBag, TakeBag, CallJob}
 use Rattle.epoch_pin.specs.declared.machine.Sizes.{Sizes}
 use Rattle.epoch_pin.specs.Machine.{Machine}
 use Rattle.epoch_world.specs.declared.world.step.Deferral.{Deferral}

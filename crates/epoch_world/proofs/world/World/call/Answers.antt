@@ -1,13 +1,12 @@
-use Rattle.std.proofs.Common.{◌≡◌, List, [], ◌∷◌, ◌++◌, ◌+◌, ◌*◌, ◌∙◌, sym, ap, refl, subst, length}
+use Rattle.std.proofs.Common.{◌≡◌, ◌+◌, ◌*◌, ◌∙◌, sym, ap, refl, subst, length}
 use Rattle.std.proofs.lemmas.List.{length-set}
 use Rattle.epoch_world.specs.declared.world.step.Step.TheVariants.{Begin}
-use Rattle.epoch_world.specs.declared.world.step.Reply.{Reply}
 use Rattle.epoch_world.specs.declared.world.step.Reply.TheVariants.{Began, Refused}
 use Rattle.epoch_world.specs.Run.{State, Takes, with_seat}
 use Rattle.epoch_world.specs.Steps.{in_store}
 use Rattle.epoch_world.specs.Worlds.{state_of, ending_of}
 use Rattle.epoch_world.proofs.AcceptedCalls.{IsGiven, given_rests, given_takes, given_few, refused_takes, run_is_lawful}
-use Rattle.epoch_world.proofs.CallsGoOn.{call_begun}
+use Rattle.epoch_world.proofs.CallsGoOn.{one_alone, call_begun}
 use Rattle.epoch_world.proofs.GraceKept.{every_run_keeps_grace}
 use Rattle.epoch_world.proofs.RunsGoOn.{runs_append}
 use Rattle.epoch_world.proofs.TicketsOnce.{holds_each_once}
@@ -20,7 +19,7 @@ use Rattle.epoch_world.proofs.world.World.call.Goals as goal
 pub returns-in-Some-clause-runs : goal.returns-in-Some-clause-runs
 returns-in-Some-clause-runs g c =
     call_begun c.args.self.now c.args.self.now c.args.participant c.args.call c.push_reserved.new.self.items (Refused c.in-Some.fault)
-    (c.push_reserved.ensures.items ∙ ap (λ (rs : List Reply). rs ++ Refused c.in-Some.fault ∷ []) c.in_ok-replies.ensures.ok.0)
+    (one_alone c.in_ok-replies.replies.items c.push_reserved.new.self.items (Refused c.in-Some.fault) c.in_ok-replies.ensures.ok.0 c.push_reserved.ensures.items)
     (refused_takes c.args.self.now c.args.participant c.args.call c.refusal.result c.in-Some.fault c.refusal.ensures c.in-Some.is)
 
 pub returns-in-Some-clause-grace : goal.returns-in-Some-clause-grace
@@ -99,7 +98,7 @@ returns-clause-runs g c =
     subst (λ (s : State). Takes s (Begin c.args.participant c.args.call) Began mid) c.self.view_is takes in
     c.go_to_end.ensures.runs c.args.self.now c.args.call old.ending
     (call_begun c.args.self.now mid c.args.participant c.args.call c.push_reserved-2.new.self.items Began
-    (c.push_reserved-2.ensures.items ∙ ap (λ (rs : List Reply). rs ++ Began ∷ []) c.in_ok-replies.ensures.ok.0) begun)
+    (one_alone c.in_ok-replies.replies.items c.push_reserved-2.new.self.items Began c.in_ok-replies.ensures.ok.0 c.push_reserved-2.ensures.items) begun)
 
 pub returns-clause-grace : goal.returns-clause-grace
 returns-clause-grace g c fresh earlier new run = every_run_keeps_grace fresh _ _ new (runs_append _ _ _ earlier _ run (returns-clause-runs g c))

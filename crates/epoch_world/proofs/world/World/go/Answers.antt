@@ -1,4 +1,4 @@
-use Rattle.std.proofs.Common.{◌∙◌, sym, length, subst, arith}
+use Rattle.std.proofs.Common.{◌∙◌, sym, subst}
 use Rattle.std.proofs.lemmas.List.{length-set}
 use Rattle.epoch_world.specs.declared.world.step.Step.TheVariants.{Go}
 use Rattle.epoch_world.specs.Run.{State, Ending, Takes}

@@ -1,4 +1,4 @@
-use Rattle.std.proofs.Common.{ℕ, ◌+◌, ◌*◌, ◌<◌, ◌≡◌, sym, ap, subst, ◌∙◌, arith, length, length-append, slice_index_or}
+use Rattle.std.proofs.Common.{ℕ, ◌+◌, ◌*◌, ◌<◌, sym, ap, subst, ◌∙◌, arith, length, length-append, slice_index_or}
 use Rattle.epoch_world.specs.declared.world.step.Step.TheVariants.{Go}
 use Rattle.epoch_world.specs.Run.{Open, free_seat}
 use Rattle.epoch_world.specs.Steps.{in_store, steps_left}

@@ -1,4 +1,4 @@
-use Rattle.std.proofs.Common.{◌≡◌, ◌+◌, ◌*◌, ℕ, sym, ap, refl, ◌∙◌, slice_index_or}
+use Rattle.std.proofs.Common.{◌≡◌, ◌+◌, ◌*◌, ℕ, ap, refl, ◌∙◌, slice_index_or}
 use Rattle.epoch_world.specs.Run.{Seat, State, Open, number_of, word_of, free_seat}
 use Rattle.epoch_world.specs.Seats.{shared}
 use Rattle.epoch_world.specs.Steps.{InStore, in_store}
