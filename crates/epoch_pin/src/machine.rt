@@ -510,6 +510,8 @@ impl<J: Default + Drop> Machine<J> {
     ) -> TakeStep
         requires { (expiry : ℕ) × (asks self.old ≡ Some (TakeBag expiry)) }
         ensures taken { (expiry : ℕ) → asks self.old ≡ Some (TakeBag expiry) → TakesHand expiry (S.queued store.old) result (S.queued store.new) self.new.hand }
+        ensures within { StageFits self.old.sizes (length self.old.held) self.old.stage }
+        ensures few { result ≡ TakeStep.Got → length self.new.hand ≤ 64 }
         ensures after { self.new ≡ took_heard self.old self.old.stage result self.new.hand }
         ensures capacity { S.capacity store.new ≡ S.capacity store.old }
         ensures fewer { 0 < S.takes_left (S.capacity store.old) cursor.old → S.takes_left (S.capacity store.old) cursor.new < S.takes_left (S.capacity store.old) cursor.old }
@@ -526,6 +528,7 @@ impl<J: Default + Drop> Machine<J> {
             TakeStep::Again => {}
             TakeStep::Empty => self.stage = after,
             TakeStep::Got => {
+                let _few = self.hand.len();
                 let none_left = self.hand.is_empty();
                 self.stage = after_job(self.sizes.collect_bags, after, expiry, taken, none_left);
             }

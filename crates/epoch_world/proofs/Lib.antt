@@ -41,6 +41,9 @@ pub mod GuardsFew
 pub mod JobsCounted
 pub mod WorldKept
 pub mod Performed
+pub mod StepsFall
+pub mod TurnsTaken
+pub mod AcceptedCalls
 pub mod RunsGoOn
 pub mod CallsGoOn
 pub mod WorldSteps

@@ -6,4 +6,5 @@ pub mod Lawful
 pub mod Shapes
 pub mod Worlds
 pub mod Kept
+pub mod Steps
 pub mod Calls

@@ -5,21 +5,23 @@ ghost use Rattle.epoch_world.specs.declared.world.step.Entry.{Entry};
 ghost use Rattle.epoch_world.specs.declared.world.step.Step.TheVariants.{Register, Begin, Go, End as EndStep, EndGo};
 ghost use Rattle.epoch_pin.specs.Machine.{IsSized};
 ghost use Rattle.epoch_world.specs.Shapes.{IsValid};
-ghost use Rattle.epoch_world.specs.Run.{State, IsFresh, Runs, Takes, Over, entries_of, free_seat, number_of, word_of, Seat as Participant};
-ghost use Rattle.epoch_world.specs.Seats.{WordFits, SeatPerforms, shared};
-ghost use Rattle.epoch_world.specs.Worlds.{state_of, ending_of, IsDrivenAt, IsEmptying};
+ghost use Rattle.epoch_world.specs.Run.{State, IsFresh, Runs, Takes, Over, entries_of, free_seat, number_of, refusal, seat_of, word_of, Seat as Participant};
+ghost use Rattle.epoch_world.specs.Seats.{WordFits};
+ghost use Rattle.epoch_world.specs.Worlds.{IsEmptying};
 ghost use Rattle.epoch_world.specs.Grace.{KeepsGrace};
 ghost use Rattle.epoch_world.specs.Tickets.{HoldsEachTicketOnce, times_called, times_deferred};
 ghost use Rattle.epoch_world.specs.Lawful.{IsLawful};
-ghost use Rattle.epoch_world.specs.Calls.{call_of, ends_call, OnlyLastEnds};
+ghost use Rattle.epoch_world.specs.Calls.{call_of, EndsAtLast};
 
+mod calls;
 mod guards;
 mod seat;
 mod shape;
 mod step;
 
-use epoch_base::{BAG_JOBS, Bag, BagStore, Called, Epoch, Fault, Places, SealedBag};
-use epoch_pin::{Ask, Sizes};
+use calls::{go_on, go_to_end, most_steps};
+use epoch_base::{Bag, BagStore, Called, Epoch, Fault, Places, SealedBag};
+use epoch_pin::Sizes;
 pub use seat::Seat;
 pub use shape::Shape;
 use std::alloc::Global;
@@ -143,8 +145,8 @@ impl<S: BagStore<Job = Deferral>> World<S> {
     pub fn call(&mut self, participant: u64, call: Call) -> Result<Vec<Reply>, Fault>
         // It is a run of Begin, and then of Go.
         ensures runs { IfOk result (λ replies. Runs self.old (call_of participant call replies.items) self.new) }
-        // It takes no step once the call has ended.
-        ensures stops { IfOk result (λ replies. OnlyLastEnds replies.items) }
+        // The last reply ends the call, and none before it does.
+        ensures ends { IfOk result (λ replies. EndsAtLast replies.items) }
 
         // No job is called while a participant pinned at its deferral has stayed pinned without repinning.
         ensures grace { IfOk result (λ replies. (fresh : State) (earlier : List Entry) → IsFresh fresh → Runs fresh earlier self.old → KeepsGrace (earlier ++ call_of participant call replies.items)) }
@@ -156,29 +158,28 @@ impl<S: BagStore<Job = Deferral>> World<S> {
         ensures err { OnErr result (self.new ≡ self.old) }
         ensures no_memory { IfErr result (λ fault. fault ≡ NoMemory) }
     {
-        let most = self.most_steps();
-        let mut replies = with_room(self.alloc, most)?;
-        let mut last = self.step(Step::Begin(participant, call));
-        replies.push_reserved(last);
-        for _ in 1..most {
-            if ends_call(last) {
-                return Ok(replies);
-            }
-            last = self.step(Step::Go(participant));
-            replies.push_reserved(last);
+        let steps = most_steps(self.sizes, self.store.capacity());
+        let mut replies = with_room(self.alloc, steps + 1)?;
+        if let Some(fault) = self.refusal(participant, call) {
+            replies.push_reserved(Reply::Refused(fault));
+            return Ok(replies);
         }
+        let index = participant as usize;
+        self.seats[index].begin(call);
+        replies.push_reserved(Reply::Began);
+        go_to_end(
+            index,
+            self.sizes,
+            steps,
+            &mut self.epoch,
+            &mut self.seats,
+            &mut self.store,
+            &mut self.tickets,
+            &mut self.putting[index],
+            &mut self.taking[index],
+            &mut replies,
+        );
         Ok(replies)
-    }
-
-    /// How many steps a call takes at most: a put and a collection, each job of each bag taken, the words of a scan,
-    /// and the steps between them.
-    fn most_steps(&self) -> usize
-        ensures { 10 ≤ result }
-    {
-        let scan = self.sizes.positions as usize;
-        let jobs = self.sizes.collect_bags as usize * BAG_JOBS;
-        let store = 3 * self.store.capacity() + 65;
-        scan + jobs + 2 * store + 10
     }
 
     /// Takes one step. It takes no memory.
@@ -222,17 +223,23 @@ impl<S: BagStore<Job = Deferral>> World<S> {
         Reply::Registered(index as u64)
     }
 
+    /// The fault that refuses this call now, or `None`.
+    fn refusal(&self, position: u64, call: Call) -> Option<Fault>
+        ensures { result ≡ refusal call (seat_of self.now position) self.now.tickets }
+    {
+        match self.seats.get(position as usize) {
+            Some(seat) => seat.refusal(call, self.tickets),
+            None => Some(Fault::NotRegistered),
+        }
+    }
+
     fn begin(&mut self, position: u64, call: Call) -> Reply
         ensures { Takes self.old (Begin position call) result self.new }
     {
-        let index = position as usize;
-        if index >= self.seats.len() {
-            return Reply::Refused(Fault::NotRegistered);
-        }
-        if let Some(fault) = self.seats[index].refusal(call, self.tickets) {
+        if let Some(fault) = self.refusal(position, call) {
             return Reply::Refused(fault);
         }
-        self.seats[index].begin(call);
+        self.seats[position as usize].begin(call);
         Reply::Began
     }
 
@@ -243,37 +250,11 @@ impl<S: BagStore<Job = Deferral>> World<S> {
         if index >= self.seats.len() {
             return Reply::Refused(Fault::NotRegistered);
         }
-        let seat = &mut self.seats[index];
-        if let Word::Free = seat.word() {
-            return Reply::Refused(Fault::NotRegistered);
-        }
-        match seat.progress() {
-            Progress::Idle => Reply::Refused(Fault::Idle),
-            Progress::CallsNow => seat.call_now(),
-            Progress::Ends(reply) => {
-                seat.rest();
-                reply
-            }
-            Progress::Driven(call) => match seat.ask() {
-                None => seat.end(call),
-                Some(ask) => self.perform(index, ask),
-            },
-        }
-    }
-
-    /// Performs what the participant's machine asks for.
-    fn perform(&mut self, index: usize, ask: Ask) -> Reply
-        requires there { index < length self.old.seats }
-        requires driven { IsDrivenAt self.old index ask }
-        ensures { Takes self.old (Go index) result self.new }
-    {
-        let word = self.number_at(scanned(ask));
-        let seat = &mut self.seats[index];
-        seat.perform(
-            ask,
-            index as u64,
-            word,
+        go_on(
+            index,
+            self.sizes,
             &mut self.epoch,
+            &mut self.seats,
             &mut self.store,
             &mut self.tickets,
             &mut self.putting[index],
@@ -325,22 +306,6 @@ impl<S: BagStore<Job = Deferral>> World<S> {
             }
         }
     }
-
-    fn number_at(&self, index: usize) -> u64
-        ensures { result ≡ number_of (word_of self.now index) }
-    {
-        match self.seats.get(index) {
-            Some(seat) => number_of(seat.word()),
-            None => 0,
-        }
-    }
-}
-
-/// Whether a call is over with this reply.
-fn ends_call(reply: Reply) -> bool
-    ensures { result ≡ ends_call reply }
-{
-    matches!(reply, Reply::Done(_) | Reply::Refused(_))
 }
 
 /// An empty list with room for so many replies.
@@ -394,16 +359,6 @@ fn all_free(seats: &Vec<Seat>) -> bool
         };
     }
     true
-}
-
-/// The position that a scan looks at, or 0 where the ask is for something else.
-fn scanned(ask: Ask) -> usize
-    ensures { (position : ℕ) → ask ≡ Ask.LoadWord position → result ≡ position }
-{
-    match ask {
-        Ask::LoadWord(position) => position as usize,
-        _ => 0,
-    }
 }
 
 /// The least position that is free.

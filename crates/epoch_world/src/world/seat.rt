@@ -1,9 +1,10 @@
 //! One participant of the world: its word, its machine, and the guards and calls that the world keeps of it.
-ghost use Rattle.std.specs.Prelude.{◌≡◌, ◌≢◌, true, ℕ, ◌+◌, ◌^◌, ◌<◌, ◌≤◌, Option, Some, None, IfSome, length, ◌⊎◌};
+ghost use Rattle.std.specs.Prelude.{◌≡◌, ◌≢◌, true, ℕ, ◌+◌, ◌*◌, ◌^◌, ◌<◌, ◌≤◌, Option, Some, None, IfSome, length, ◌⊎◌};
 ghost use Rattle.epoch_pin.specs.Machine.{asks, AskFits, heard, guards_after, IsSized};
 ghost use Rattle.epoch_world.specs.Run.{free_seat, with_word, refusal, waits, call_refusal, guard_refusal, resume_refusal, is_out, begun_seat, drives, ended_seat, end_reply};
 ghost use Rattle.epoch_pin.specs.declared.machine.Stage.TheVariants.{Idle, End};
 ghost use Rattle.epoch_world.specs.Seats.{shared, SeatPerforms, WordFits, adds_guard};
+ghost use Rattle.epoch_world.specs.Steps.{in_store, machine_steps};
 
 use crate::world::guards::{is_out, lowest, without};
 use crate::world::step::{Answer, Call, Deferral, Progress, Reply, Word};
@@ -102,6 +103,10 @@ impl Seat {
         requires tickets { ask ≡ Ask.KeepJob → tickets.old + 1 < 2 ^ 64 }
         ensures within { epoch.new < 2 ^ 63 }
         ensures step { SeatPerforms self.old.machine.sizes position word (shared epoch.old (S.queued store.old) tickets.old) self.old self.old.machine.stage ask result self.new (shared epoch.new (S.queued store.new) tickets.new) }
+
+        // The call has fewer steps left.
+        ensures fewer { machine_steps self.new.machine (in_store (S.puts_left (S.capacity store.old) putting.new) (S.takes_left (S.capacity store.old) taking.new) (3 * S.capacity store.old + 65)) < machine_steps self.old.machine (in_store (S.puts_left (S.capacity store.old) putting.old) (S.takes_left (S.capacity store.old) taking.old) (3 * S.capacity store.old + 65)) }
+        ensures capacity { S.capacity store.new ≡ S.capacity store.old }
     {
         match ask {
             Ask::LoadEpoch => {

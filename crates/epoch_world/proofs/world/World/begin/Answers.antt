@@ -1,36 +1,40 @@
-use Rattle.std.proofs.Common.{◌≡◌, ◌<◌, ◌∙◌, None, sym, ap, refl, length, arith}
+use Rattle.std.proofs.Common.{◌∙◌, sym, refl}
 use Rattle.std.proofs.lemmas.List.{length-set}
 use Rattle.epoch_world.specs.declared.world.step.Step.TheVariants.{Begin}
 use Rattle.epoch_world.specs.declared.world.step.Reply.TheVariants.{Began}
-use Rattle.epoch_world.specs.Run.{Seat, refusal}
-use Rattle.epoch_world.proofs.Performed.{found_there, begin_takes}
-use Rattle.epoch_world.proofs.WorldKept.{kept_takes, rests_where_accepted}
+use Rattle.epoch_world.specs.Run.{State, Takes, with_seat}
+use Rattle.epoch_world.specs.Worlds.{state_of, ending_of}
+use Rattle.epoch_world.proofs.AcceptedCalls.{IsGiven, given_rests, given_takes, refused_takes}
+use Rattle.epoch_world.proofs.WorldKept.{kept_takes}
 use Rattle.epoch_world.proofs.world.World.begin.Goals as goal
+
+pub returns-in-Some : goal.returns-in-Some
+returns-in-Some g c =
+    refused_takes c.args.self.now c.args.position c.args.call c.refusal.result c.in-Some.fault c.refusal.ensures c.in-Some.is
 
 pub begin-requires : goal.begin-requires
 begin-requires g c =
-    let there : c.args.position < length c.self.inside.seats.items = omega arith in
-    let at_mut = found_there c.self.inside.seats.items c.self.inside.sizes c.args.position c.index_mut.result.now there c.index_mut.ensures.value in
-    let at_index = found_there c.self.inside.seats.items c.self.inside.sizes c.args.position c.index.result.now there c.index.ensures in
-    let given : refusal c.args.call c.index_mut.result.now c.self.inside.tickets ≡ None =
-    ap (λ (q : Seat). refusal c.args.call q c.self.inside.tickets) (at_mut ∙ sym at_index) ∙ sym c.refusal.ensures ∙ c.in_default.is in
-    rests_where_accepted _ c.args.position c.args.call _ c.self.invariant.kept at_mut
-    given
+    let old : State =
+    state_of c.self.inside.sizes c.self.inside.epoch c.self.inside.seats.items (g.S.BagStore.queued c.self.inside.store) c.self.inside.tickets
+    (ending_of c.self.inside.end c.self.inside.hand.jobs c.self.inside.count) in
+    let given : IsGiven old c.args.self.now c.args.position c.args.call c.refusal.result c.index_mut.result.now =
+    record { is = c.self.view_is; asked = c.refusal.ensures; none = c.in_default.is; found = c.index_mut.ensures.value } in
+    given_rests _ _ _ _ _ _ given c.self.invariant.kept
 
 pub invariant_of-self : goal.invariant_of-self
 invariant_of-self g c =
-    let there : c.args.position < length c.self.inside.seats.items = omega arith in
-    let at_mut = found_there c.self.inside.seats.items c.self.inside.sizes c.args.position c.index_mut.result.now there c.index_mut.ensures.value in
-    let at_index = found_there c.self.inside.seats.items c.self.inside.sizes c.args.position c.index.result.now there c.index.ensures in
-    let given : refusal c.args.call c.index_mut.result.now c.self.inside.tickets ≡ None =
-    ap (λ (q : Seat). refusal c.args.call q c.self.inside.tickets) (at_mut ∙ sym at_index) ∙ sym c.refusal.ensures ∙ c.in_default.is in
+    let old : State =
+    state_of c.self.inside.sizes c.self.inside.epoch c.self.inside.seats.items (g.S.BagStore.queued c.self.inside.store) c.self.inside.tickets
+    (ending_of c.self.inside.end c.self.inside.hand.jobs c.self.inside.count) in
+    let given : IsGiven old c.args.self.now c.args.position c.args.call c.refusal.result c.index_mut.result.now =
+    record { is = c.self.view_is; asked = c.refusal.ensures; none = c.in_default.is; found = c.index_mut.ensures.value } in
+    let mid : State = with_seat old c.args.position c.begin.new.self in
+    let takes : Takes old (Begin c.args.position c.args.call) Began mid = given_takes _ _ _ _ _ _ given mid c.begin.new.self c.begin.ensures refl in
+    let same = sym (length-set c.self.inside.seats.items c.args.position c.begin.new.self) in
     record {
       sized = c.self.invariant.sized;
       epoch = c.self.invariant.epoch;
-      putting = c.self.invariant.putting ∙ sym (length-set c.self.inside.seats.items c.args.position _);
-      taking = c.self.invariant.taking ∙ sym (length-set c.self.inside.seats.items c.args.position _);
-      kept = kept_takes _ _ (Begin c.args.position c.args.call) Began c.self.invariant.kept (length-set c.self.inside.seats.items c.args.position _)
-          (begin_takes _ _ c.args.position c.args.call c.index_mut.result.now _ at_mut
-          given
-          c.begin.ensures refl);
+      putting = c.self.invariant.putting ∙ same;
+      taking = c.self.invariant.taking ∙ same;
+      kept = kept_takes old mid (Begin c.args.position c.args.call) Began c.self.invariant.kept (length-set c.self.inside.seats.items c.args.position c.begin.new.self) takes;
     }

@@ -1,0 +1,119 @@
+-- A step of a collection, and a call, leave fewer steps for the call under way.
+use Rattle.std.proofs.Common.{◌≡◌, ℕ, ◌+◌, ◌<◌, ◌≤◌, ◌==◌, Bool, true, false, List, [], ◌∷◌, length, Some, refl, ap, sym, subst, ◌∙◌, arith, if◌then◌else◌, zero, suc}
+use Rattle.epoch_base.specs.declared.queue.TakeStep.{TakeStep}
+use Rattle.epoch_base.specs.declared.queue.TakeStep.TheVariants.{Again, Empty, Got}
+use Rattle.epoch_pin.specs.declared.machine.Action.{Action}
+use Rattle.epoch_pin.specs.declared.machine.Action.TheVariants.{Pin, Unpin, Repin, Defer, Flush, Release}
+use Rattle.epoch_pin.specs.declared.machine.Ask.TheVariants.{TakeBag, CallJob}
+use Rattle.epoch_pin.specs.declared.machine.Sizes.{Sizes}
+use Rattle.epoch_pin.specs.declared.machine.Stage.{Stage}
+use Rattle.epoch_pin.specs.declared.machine.Stage.TheVariants.{LoadPin, LoadScan, Take, Calling, LoadSeal, Keep, LoadRepin, StoreUnpinned, End}
+use Rattle.epoch_pin.specs.Machine.{Machine, StageFits, rest, is_empty, ask_at, took_heard, gives, after_collect, first_stage}
+use Rattle.epoch_world.specs.declared.world.step.Call.{Call}
+use Rattle.epoch_world.specs.declared.world.step.Call.TheVariants.{Pin as PinCall, Unpin as UnpinCall, Repin as RepinCall, Pause, Resume, Defer as DeferCall, Flush as FlushCall, Release as ReleaseCall}
+use Rattle.epoch_world.specs.declared.world.step.Deferral.{Deferral}
+use Rattle.epoch_world.specs.Run.{Seat, begun_seat}
+use Rattle.epoch_world.specs.Steps.{InStore, in_store, past_collect, collects, steps_at, machine_steps, steps_left, call_bound}
+
+either_below : (left : Stage → ℕ) (b : Bool) (s t : Stage) (k : ℕ) → left s < k → left t < k → left (if b then s else t) < k
+either_below left true s t k one other = one
+either_below left false s t k one other = other
+
+collect_fits : (a : Action) (sizes : Sizes) (hand : ℕ) (n : InStore) (held : List Deferral) → steps_at a sizes hand n (after_collect a held) ≤ past_collect a n.most
+collect_fits Release sizes hand n [] = omega arith
+collect_fits Release sizes hand n (job ∷ jobs) = omega arith
+collect_fits _ sizes hand n held = omega arith
+
+-- the next bag, or what follows the collection
+next_bag : (m : Machine Deferral) (x k hand bound : ℕ) (n : InStore) → collects m.action m.sizes n.most (k + 1) n.takes < bound
+    → steps_at m.action m.sizes hand n (if k + 1 == m.sizes.collect_bags then after_collect m.action m.held else Take x (k + 1)) < bound
+next_bag m x k hand bound n less =
+    either_below (steps_at m.action m.sizes hand n) (k + 1 == m.sizes.collect_bags) (after_collect m.action m.held) (Take x (k + 1)) bound
+    (omega (arith, collect_fits m.action m.sizes hand n m.held)) less
+
+-- a cursor that isn't at its end has fewer steps left
+less_at : (step : TakeStep) (takes after : ℕ) → (step ≡ Empty → ⊥) → (0 < takes → after < takes) → (takes ≡ 0 → step ≡ Empty) → after < takes
+less_at step zero after other fewer last = absurd (other (last refl))
+less_at step (suc t) after other fewer last = fewer (omega arith)
+
+module _ (m : Machine Deferral) (puts takes most : ℕ) where
+  abbrev left : ℕ → Stage → ℕ
+  left takes' s = steps_at m.action m.sizes (length m.hand) (in_store puts takes' most) s
+
+  -- A STEP OF A COLLECTION
+
+  take_again : (s : Stage) (x takes' : ℕ) → ask_at s ≡ Some (TakeBag x) → takes' < takes → left takes' s < left takes s
+  take_again (Take y k) x takes' asked fewer = omega arith
+  take_again _ x takes' asked fewer = absurd (cc)
+
+  take_ends : (s : Stage) (x takes' : ℕ) (jobs : List Deferral) → ask_at s ≡ Some (TakeBag x)
+      → machine_steps (took_heard m s Empty jobs) (in_store puts takes' most) < left takes s
+  take_ends (Take y k) x takes' jobs asked = omega (arith, collect_fits m.action m.sizes (length m.hand) (in_store puts takes' most) m.held)
+  take_ends _ x takes' jobs asked = absurd (cc)
+
+  take_gets : (s : Stage) (x takes' : ℕ) (jobs : List Deferral) → ask_at s ≡ Some (TakeBag x) → StageFits m.sizes (length m.held) s → takes' < takes → length jobs ≤ 64
+      → machine_steps (took_heard m s Got jobs) (in_store puts takes' most) < left takes s
+  take_gets (Take y k) x takes' [] asked fits fewer few = next_bag m y k 0 _ (in_store puts takes' most) (omega (arith, fits.1))
+  take_gets (Take y k) x takes' (job ∷ jobs) asked fits fewer few = omega (arith, fits.1)
+  take_gets _ x takes' jobs asked fits fewer few = absurd (cc)
+
+  same_again : (s : Stage) (jobs : List Deferral) → m ≡ took_heard m s Again jobs
+  same_again (Take y k) jobs = refl
+  same_again _ jobs = refl
+
+  take_falls : (x takes' : ℕ) (step : TakeStep) (jobs : List Deferral) → ask_at m.stage ≡ Some (TakeBag x) → StageFits m.sizes (length m.held) m.stage
+      → (0 < takes → takes' < takes) → (takes ≡ 0 → step ≡ Empty) → (step ≡ Got → length jobs ≤ 64)
+      → machine_steps (took_heard m m.stage step jobs) (in_store puts takes' most) < machine_steps m (in_store puts takes most)
+  take_falls x takes' Again jobs asked fits fewer last few =
+      subst (λ (k : Machine Deferral). machine_steps k (in_store puts takes' most) < machine_steps m (in_store puts takes most)) (same_again m.stage jobs)
+      (take_again m.stage x takes' asked (less_at Again takes takes' (λ e. cc) fewer last))
+  take_falls x takes' Empty jobs asked fits fewer last few = take_ends m.stage x takes' jobs asked
+  take_falls x takes' Got jobs asked fits fewer last few = take_gets m.stage x takes' jobs asked fits (less_at Got takes takes' (λ e. cc) fewer last) (few refl)
+
+  -- A CALL
+
+  call_falls : (s : Stage) (job : Deferral) (jobs : List Deferral) → ask_at s ≡ Some CallJob → m.hand ≡ job ∷ jobs
+      → machine_steps (gives m s jobs) (in_store puts takes most) < left takes s
+  call_falls (Calling x k) job [] asked is = next_bag m x k 0 _ (in_store puts takes most) (omega (arith, ap length is))
+  call_falls (Calling x k) job (next ∷ jobs) asked is = omega (arith, ap length is)
+  call_falls _ job jobs asked is = absurd (cc)
+
+-- The machine now is that of the fields m, as they stand in a function of the type.
+
+pub took_less : (m now after : Machine Deferral) (puts takes takes' most x : ℕ) (step : TakeStep) → m ≡ now → ask_at now.stage ≡ Some (TakeBag x)
+    → after ≡ took_heard m m.stage step after.hand → StageFits m.sizes (length m.held) m.stage
+    → (0 < takes → takes' < takes) → (takes ≡ 0 → step ≡ Empty) → (step ≡ Got → length after.hand ≤ 64)
+    → machine_steps after (in_store puts takes' most) < machine_steps now (in_store puts takes most)
+took_less m now after puts takes takes' most x step is asked went fits fewer last few =
+    subst (λ (k : Machine Deferral). machine_steps after (in_store puts takes' most) < machine_steps k (in_store puts takes most)) is
+    (subst (λ (k : Machine Deferral). machine_steps k (in_store puts takes' most) < machine_steps m (in_store puts takes most)) (sym went)
+    (take_falls m puts takes most x takes' step after.hand (ap (λ (k : Machine Deferral). ask_at k.stage) is ∙ asked) fits fewer last few))
+
+pub gave_less : (m now after : Machine Deferral) (puts takes most : ℕ) (job : Deferral) → m ≡ now → ask_at m.stage ≡ Some CallJob → m.hand ≡ job ∷ rest m.hand
+    → after ≡ gives m m.stage (rest m.hand) → machine_steps after (in_store puts takes most) < machine_steps now (in_store puts takes most)
+gave_less m now after puts takes most job is asked hand went =
+    subst (λ (k : Machine Deferral). machine_steps after (in_store puts takes most) < machine_steps k (in_store puts takes most)) is
+    (subst (λ (k : Machine Deferral). machine_steps k (in_store puts takes most) < machine_steps m (in_store puts takes most)) (sym went)
+    (call_falls m puts takes most m.stage job (rest m.hand) asked hand))
+
+-- A WHOLE CALL
+
+first_fits : (a : Action) (m : Machine Deferral) (n : InStore) → steps_at a m.sizes (length m.hand) n (first_stage a m) < call_bound m.sizes n.most + 1
+first_fits Pin m n = either_below (steps_at Pin m.sizes (length m.hand) n) (m.guards == 0) LoadPin End _ (omega arith) (omega arith)
+first_fits Unpin m n = either_below (steps_at Unpin m.sizes (length m.hand) n) (m.guards == 1) StoreUnpinned End _ (omega arith) (omega arith)
+first_fits Repin m n = either_below (steps_at Repin m.sizes (length m.hand) n) (m.guards == 1) LoadRepin End _ (omega arith) (omega arith)
+first_fits Defer m n = either_below (steps_at Defer m.sizes (length m.hand) n) (length m.held == m.sizes.bag_jobs) LoadSeal Keep _ (omega arith) (omega arith)
+first_fits Flush m n = either_below (steps_at Flush m.sizes (length m.hand) n) (is_empty m.held) LoadScan LoadSeal _ (omega arith) (omega arith)
+first_fits Release m n = omega arith
+
+-- behind the Begin of any call
+pub begun_fits : (c : Call) (seat : Seat) (n : InStore) → steps_left (begun_seat c seat) n < call_bound seat.machine.sizes n.most + 1
+begun_fits PinCall seat n = first_fits Pin seat.machine n
+begun_fits (UnpinCall g) seat n = first_fits Unpin seat.machine n
+begun_fits (RepinCall (Some g)) seat n = first_fits Repin seat.machine n
+begun_fits (Pause (Some g)) seat n = first_fits Unpin seat.machine n
+begun_fits (Resume (Some g)) seat n = first_fits Pin seat.machine n
+begun_fits (DeferCall (Some g)) seat n = first_fits Defer seat.machine n
+begun_fits (FlushCall (Some g)) seat n = first_fits Flush seat.machine n
+begun_fits ReleaseCall seat n = first_fits Release seat.machine n
+begun_fits _ seat n = omega arith

@@ -1,0 +1,37 @@
+use Rattle.std.proofs.Common.{◌≡◌, ◌+◌, ◌*◌, ℕ, ap, refl, ◌∙◌, slice_index_or}
+use Rattle.epoch_world.specs.Run.{Seat, State, Open, number_of, word_of, free_seat}
+use Rattle.epoch_world.specs.Seats.{shared}
+use Rattle.epoch_world.specs.Steps.{InStore, in_store}
+use Rattle.epoch_world.specs.Worlds.{state_of, is_driven}
+use Rattle.epoch_world.proofs.Performed.{found_there, performed}
+use Rattle.epoch_world.proofs.TurnsTaken.{linked_at, driven_at, performs_less, seat_less}
+use Rattle.epoch_world.proofs.world.calls.perform.Goals as goal
+
+pub returns-clause-step : goal.returns-clause-step
+returns-clause-step g c ending =
+    let old : State = state_of c.args.sizes c.args.epoch.now c.args.seats.now.items (g.S.BagStore.queued c.args.store.now) c.args.tickets.now ending in
+    let seat : Seat = c.index_mut-seat.result.now in
+    performed old old _ c.args.index c.number_at-word.result seat c.perform.new.self c.perform.result c.args.ask
+    (shared c.perform.new.epoch (g.S.BagStore.queued c.perform.new.store) c.perform.new.tickets) refl
+    (linked_at c.args.sizes c.args.epoch.now c.args.tickets.now c.args.seats.now.items (g.S.BagStore.queued c.args.store.now) Open ending c.requires.kept.linked)
+    (found_there c.args.seats.now.items c.args.sizes c.args.index seat c.requires.there c.index_mut-seat.ensures.value)
+    (driven_at c.args.sizes c.args.epoch.now c.args.tickets.now c.args.index c.args.seats.now.items (g.S.BagStore.queued c.args.store.now) Open ending c.args.ask c.requires.driven)
+    (λ k asked. c.number_at-word.ensures c.args.sizes ∙ ap (λ (j : ℕ). number_of (word_of old j)) (c.scanned.ensures k asked))
+    c.perform.ensures.step refl
+
+pub returns-clause-fewer : goal.returns-clause-fewer
+returns-clause-fewer g c goes_on =
+    let seat : Seat = c.index_mut-seat.result.now in
+    let is : seat ≡ slice_index_or c.args.seats.now.items c.args.index (free_seat c.args.sizes) =
+    found_there c.args.seats.now.items c.args.sizes c.args.index seat c.requires.there c.index_mut-seat.ensures.value in
+    let bags = g.S.BagStore.capacity c.args.store.now in
+    let before : InStore =
+    in_store (g.S.BagStore.puts_left bags c.args.putting.now) (g.S.BagStore.takes_left bags c.args.taking.now) (3 * bags + 65) in
+    let behind : InStore =
+    in_store (g.S.BagStore.puts_left bags c.perform.new.putting) (g.S.BagStore.takes_left bags c.perform.new.taking) (3 * bags + 65) in
+    seat_less c.args.seats.now.items c.args.index (free_seat c.args.sizes) seat c.perform.new.self before behind c.requires.there is
+    (performs_less seat.machine.sizes c.args.index c.number_at-word.result
+    (shared c.args.epoch.now (g.S.BagStore.queued c.args.store.now) c.args.tickets.now)
+    (shared c.perform.new.epoch (g.S.BagStore.queued c.perform.new.store) c.perform.new.tickets)
+    seat c.perform.new.self c.args.ask c.perform.result before behind c.perform.ensures.step
+    (ap (λ (q : Seat). is_driven q.progress) is ∙ c.requires.driven.under_way) goes_on c.perform.ensures.fewer)

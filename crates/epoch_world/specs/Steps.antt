@@ -1,0 +1,77 @@
+-- How many steps a call still takes at most.
+use Rattle.std.specs.Prelude.{ℕ, ◌+◌, ◌-◌, ◌*◌, length}
+use Rattle.epoch_pin.specs.declared.machine.Action.{Action}
+use Rattle.epoch_pin.specs.declared.machine.Action.TheVariants.{Flush, Release}
+use Rattle.epoch_pin.specs.declared.machine.Sizes.{Sizes}
+use Rattle.epoch_pin.specs.declared.machine.Stage.{Stage}
+use Rattle.epoch_pin.specs.declared.machine.Stage.TheVariants.{Idle as Resting, LoadPin, StorePin, ReloadPin, LoadScan, Scan, Advance, Take, Calling, LoadSeal, Put, Keep, LoadRepin, StoreRepin, ReloadRepin, StoreUnpinned, StoreFree, End}
+use Rattle.epoch_pin.specs.Machine.{Machine}
+use Rattle.epoch_world.specs.declared.world.step.Deferral.{Deferral}
+use Rattle.epoch_world.specs.declared.world.step.Progress.{Progress}
+use Rattle.epoch_world.specs.declared.world.step.Progress.TheVariants.{Idle, Driven, CallsNow, Ends}
+use Rattle.epoch_world.specs.Run.{Seat}
+
+-- how many steps in the store the put and the collection under way have left, and how many a new one has at most
+pub record InStore : Type 0 where
+  pub puts : ℕ
+  pub takes : ℕ
+  pub most : ℕ
+
+abbrev pub in_store : ℕ → ℕ → ℕ → InStore
+in_store puts takes most = record { puts = puts; takes = takes; most = most }
+
+-- a release puts its bag after the collection, and gives up its position
+abbrev pub past_collect : Action → ℕ → ℕ
+past_collect Release most = most + 4
+past_collect _ most = 1
+
+-- a collection that has taken so many bags, each of at most 64 jobs, and what follows it
+abbrev pub collects : Action → Sizes → ℕ → ℕ → ℕ → ℕ
+collects a sizes most taken takes = takes + (sizes.collect_bags - taken) * 64 + 1 + past_collect a most
+
+-- the words that a scan still looks at, the store of the epoch, and the collection
+abbrev pub scans : Action → Sizes → ℕ → ℕ → ℕ
+scans a sizes most next = sizes.positions - next + 1 + collects a sizes most 0 most
+
+-- a flush collects after its put
+abbrev pub past_put : Action → Sizes → ℕ → ℕ
+past_put Flush sizes most = 1 + scans Flush sizes most 0
+past_put _ sizes most = 2
+
+-- by the action, the stage, and how many jobs are in hand
+abbrev pub steps_at : Action → Sizes → ℕ → InStore → Stage → ℕ
+steps_at a sizes hand n Resting = 0
+steps_at a sizes hand n LoadPin = 4 + scans a sizes n.most 0
+steps_at a sizes hand n (StorePin e) = 3 + scans a sizes n.most 0
+steps_at a sizes hand n ReloadPin = 2 + scans a sizes n.most 0
+steps_at a sizes hand n LoadScan = 1 + scans a sizes n.most 0
+steps_at a sizes hand n (Scan e k) = scans a sizes n.most k
+steps_at a sizes hand n (Advance e) = 1 + collects a sizes n.most 0 n.most
+steps_at a sizes hand n (Take x k) = collects a sizes n.most k n.takes
+steps_at a sizes hand n (Calling x k) = hand + collects a sizes n.most (k + 1) n.takes
+steps_at a sizes hand n LoadSeal = n.most + 2 + past_put a sizes n.most
+steps_at a sizes hand n (Put s) = n.puts + 1 + past_put a sizes n.most
+steps_at a sizes hand n Keep = 2
+steps_at a sizes hand n LoadRepin = 4
+steps_at a sizes hand n (StoreRepin e) = 3
+steps_at a sizes hand n ReloadRepin = 2
+steps_at a sizes hand n StoreUnpinned = 2
+steps_at a sizes hand n StoreFree = 1
+steps_at a sizes hand n End = 1
+
+abbrev pub machine_steps : Machine Deferral → InStore → ℕ
+machine_steps m n = steps_at m.action m.sizes (length m.hand) n m.stage
+
+abbrev pub steps_of : Progress → Machine Deferral → InStore → ℕ
+steps_of (Driven c) m n = machine_steps m n
+steps_of CallsNow m n = 2
+steps_of (Ends r) m n = 1
+steps_of Idle m n = 0
+
+-- a participant's call under way
+abbrev pub steps_left : Seat → InStore → ℕ
+steps_left seat n = steps_of seat.progress seat.machine n
+
+-- any call, from its Begin on
+abbrev pub call_bound : Sizes → ℕ → ℕ
+call_bound sizes most = sizes.positions + sizes.collect_bags * 64 + 2 * most + 10
