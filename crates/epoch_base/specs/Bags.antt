@@ -1,5 +1,5 @@
 -- Bags of any jobs.
-use Rattle.std.specs.Prelude.{◌≡◌, ℕ, ◌+◌, ◌≤◌, Bool, true, false, List, [], ◌∷◌, ◌++◌}
+use Rattle.std.specs.Prelude.{ℕ, ◌+◌, ◌≤◌, Bool, true, false, List, [], ◌∷◌}
 
 -- a bag that takes jobs: how many at most, and those it has, the oldest first
 pub record Unsealed (J : Type 0) : Type 0 where

@@ -7,6 +7,9 @@ ghost use Rattle.epoch_pin.specs.declared.machine.Ask.TheVariants.{PutBag, TakeB
 ghost use Rattle.epoch_pin.specs.declared.machine.Stage.TheVariants.{Idle, End};
 ghost use Rattle.epoch_pin.specs.declared.machine.Sizes.{Sizes};
 
+#[cfg(test)]
+mod tests;
+
 use epoch_base::{Bag, BagStore, Epoch, GREATEST_EPOCH, PutStep, SealedBag, TakeStep};
 use std::marker::Model;
 

@@ -1,20 +1,23 @@
 //! The plain store: a queue of bags with a bound, which puts and takes in one step each.
-ghost use Rattle.std.specs.Prelude.{◌≡◌, ◌≢◌, ℕ, ◌+◌, ◌-◌, ◌*◌, ◌<◌, ◌≤◌, ◌↔◌, List, [], ◌∷◌, ◌++◌, Option, None, Some, length, IfOk, IfErr, IsErr, OnOk, OnErr, IsTrue, min, slice_get};
+ghost use Rattle.std.specs.Prelude.{◌≡◌, ◌≢◌, ℕ, ◌+◌, ◌-◌, ◌*◌, ◌<◌, ◌≤◌, ◌↔◌, List, [], ◌∷◌, ◌++◌, Option, None, Some, length, IfOk, IfErr, IsErr, OnOk, OnErr, IsTrue, min, slice_get, vec_len, vec_capacity};
 ghost use Rattle.std.specs.Fn.{FnReturnsAt};
 ghost use Rattle.epoch_base.specs.Bags.{Sealed, IsExpired};
 ghost use Rattle.epoch_base.specs.Stores.{AllExpired, PutsBag, PutsJobs, TakesBag, TakesExpired, FindsBag, TakesAny};
 ghost use Rattle.epoch_base.specs.Queues.{first_occupied, PopsFrontWhere};
 
+use super::size::tell_size;
 use crate::{Bag, BagStore, Epoch, Fault, MOST_BAGS, PutStep, SealedBag, TakeStep};
 use std::alloc::Global;
 use std::collections::VecDeque;
 use std::marker::Model;
 
 /// A queue of bags, the oldest first. The first places are those that are occupied.
-#[derive(Drop)]
 pub struct BagQueue<J> {
     capacity: usize,
     bags: VecDeque<SealedBag<J>>,
+    // Memory for two bags, which are never put there. The drop looks at it to be told that bags fit in memory.
+    two: Vec<Option<SealedBag<J>>>,
+    ghost room: { vec_len two + 2 ≤ vec_capacity two },
 }
 
 impl<J> Model for BagQueue<J> {
@@ -29,6 +32,22 @@ impl<J> Model for BagQueue<J> {
     ghost invariant = { λ a. record { some : 0 < a.capacity; most : a.capacity ≤ 4096; room : a.capacity ≤ deque_capacity a.bags; within : length a.bags.items ≤ a.capacity } };
 }
 
+impl<J: Drop> Drop for BagQueue<J> {
+    /// Drops the bags in it; their jobs are not called.
+    fn drop(self) {
+        let BagQueue {
+            capacity: _,
+            bags,
+            mut two,
+        } = self;
+        two.push_reserved(None);
+        two.push_reserved(None);
+        tell_size(two.as_slice());
+        drop(two);
+        drop(bags);
+    }
+}
+
 impl<J: Drop> BagQueue<J> {
     /// An empty queue for so many bags, from 1 to [`MOST_BAGS`]. `NoMemory`: an allocation was refused.
     pub fn new(alloc: Global, capacity: usize) -> Result<BagQueue<J>, Fault>
@@ -38,10 +57,18 @@ impl<J: Drop> BagQueue<J> {
         ensures capacity { IfOk result (λ queue. queue.capacity ≡ capacity) }
         ensures no_memory { IfErr result (λ fault. fault ≡ Fault.NoMemory) }
     {
-        match VecDeque::with_capacity(alloc, capacity) {
-            Ok(bags) => Ok(BagQueue { capacity, bags }),
-            Err(_) => Err(Fault::NoMemory),
-        }
+        let Ok(two) = Vec::with_capacity(alloc, 2) else {
+            return Err(Fault::NoMemory);
+        };
+        let Ok(bags) = VecDeque::with_capacity(alloc, capacity) else {
+            two.destroy_empty();
+            return Err(Fault::NoMemory);
+        };
+        Ok(BagQueue {
+            capacity,
+            bags,
+            two,
+        })
     }
 
     /// Whether it has no bag.

@@ -3,11 +3,12 @@
 //! A word is 0 for an empty place, 2 for a claimed one, and `2s + 1` for one that holds a bag sealed with `s`.
 //! A put goes from place 0 to the last: it looks at the word, claims an empty place and fills it. A collection
 //! goes over the places once: it looks, claims the very word that tells of an expired bag, and empties the place.
-ghost use Rattle.std.specs.Prelude.{◌≡◌, ◌≢◌, ℕ, ◌+◌, ◌-◌, ◌*◌, ◌<◌, ◌≤◌, ◌↔◌, ◌%◌, ◌/◌, List, [], ◌∷◌, ◌++◌, Option, None, Some, IsSome, length, IfOk, IfErr, IsTrue, true, false, ◌==◌, if◌then◌else◌, slice_index_or, slice_get, slice_set, min};
+ghost use Rattle.std.specs.Prelude.{◌≡◌, ◌≢◌, ℕ, ◌+◌, ◌-◌, ◌*◌, ◌<◌, ◌≤◌, ◌↔◌, ◌%◌, ◌/◌, List, [], ◌∷◌, ◌++◌, Option, None, Some, IsSome, length, IfOk, IfErr, IsTrue, true, false, ◌==◌, if◌then◌else◌, slice_index_or, slice_get, slice_set, min, vec_capacity};
 ghost use Rattle.epoch_base.specs.Bags.{Sealed, IsExpired};
 ghost use Rattle.epoch_base.specs.Stores.{AllExpired, PutsBag, PutsJobs, TakesBag, TakesExpired, FindsBag, TakesAny};
 ghost use Rattle.epoch_base.specs.PlaceLists.{ArePlaces, bags_in, taken_places, IsClaimedAt, Fills, Empties, Leaves};
 
+use super::size::tell_size;
 use crate::{Bag, BagStore, Epoch, Fault, MOST_BAGS, PutStep, SealedBag, TakeStep};
 use std::alloc::Global;
 use std::marker::Model;
@@ -34,11 +35,11 @@ pub enum TakeCursor {
     Empty(usize),
 }
 
-/// A plain list of numbered places.
-#[derive(Drop)]
+/// A plain list of numbered places. Its memory has room for one bag more, which its drop needs.
 pub struct Places<J> {
     words: Vec<u64>,
     bags: Vec<Option<SealedBag<J>>>,
+    ghost room: { length bags.items < vec_capacity bags },
 }
 
 impl<J> Model for Places<J> {
@@ -49,6 +50,16 @@ impl<J> Model for Places<J> {
     ghost view = { λ a. record { words = a.words.items; bags = a.bags.items } };
 
     ghost invariant = { λ a. ArePlaces a.words.items a.bags.items };
+}
+
+impl<J: Drop> Drop for Places<J> {
+    /// Drops the bags in it; their jobs are not called.
+    fn drop(self) {
+        let Places { words: _, mut bags } = self;
+        bags.push_reserved(None);
+        tell_size(bags.as_slice());
+        drop(bags);
+    }
 }
 
 impl<J: Drop> Places<J> {
@@ -64,7 +75,7 @@ impl<J: Drop> Places<J> {
         let Ok(mut words) = Vec::with_capacity(alloc, capacity) else {
             return Err(Fault::NoMemory);
         };
-        let Ok(mut bags) = Vec::with_capacity(alloc, capacity) else {
+        let Ok(mut bags) = Vec::with_capacity(alloc, capacity + 1) else {
             return Err(Fault::NoMemory);
         };
         for _ in 0..capacity {

@@ -1,5 +1,5 @@
 use Rattle.std.proofs.Common.{None, slice_index_or, length, arith, ap, ◌∙◌, length-append}
-use Rattle.epoch_base.proofs.PlaceWords.{get_push, all_empty}
+use Rattle.epoch_base.proofs.PlaceWords.{get_push}
 use Rattle.epoch_base.proofs.PlacedBags.{none_in}
 use Rattle.epoch_base.proofs.queue.places.Places.new.Goals as goal
 
@@ -12,10 +12,6 @@ loop-preserved g c = record {
   empty = λ k. ap (λ xs. slice_index_or xs k 0) c.push_reserved.ensures.items ∙ get_push c.loop.words.items 0 k ∙ c.loop.invariant.empty k;
   none = λ k. ap (λ xs. slice_index_or xs k None) c.push_reserved-in-loop.ensures.items ∙ get_push c.loop.bags.items None k ∙ c.loop.invariant.none k;
 }
-
-pub invariant_of-result : goal.invariant_of-result
-invariant_of-result g c =
-    all_empty c.loop.words.items c.loop.bags.items (omega arith) (omega arith) (omega arith) c.loop.invariant.empty c.loop.invariant.none
 
 pub returns-clause-empty : goal.returns-clause-empty
 returns-clause-empty g c = none_in c.loop.bags.items (λ k within. c.loop.invariant.none k)

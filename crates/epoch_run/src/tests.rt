@@ -1,0 +1,5 @@
+//! Scripts, and what they print.
+
+mod rows;
+mod scripts;
+mod streams;
