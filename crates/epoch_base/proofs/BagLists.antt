@@ -1,8 +1,8 @@
 -- Bags that stand somewhere in a list.
-use Rattle.std.proofs.Common.{◌≡◌, ℕ, zero, suc, ◌<◌, ◌≤◌, List, [], ◌∷◌, ◌++◌, Option, None, Some, IsSome, length, option_to_list, slice_get, true, refl, sym, arith, append-nil}
+use Rattle.std.proofs.Common.{◌≡◌, ◌≢◌, ℕ, zero, suc, ◌-◌, ◌<◌, ◌≤◌, List, [], ◌∷◌, ◌++◌, Option, None, Some, IsSome, length, option_to_list, slice_get, true, refl, sym, ap, subst, min, arith, append-nil}
 use Rattle.std.proofs.lemmas.Bool.{false≢true}
-use Rattle.epoch_base.specs.Bags.{Sealed}
-use Rattle.epoch_base.specs.Stores.{IsInserted, TakesAny}
+use Rattle.epoch_base.specs.Bags.{Sealed, Unsealed}
+use Rattle.epoch_base.specs.Stores.{IsInserted, PutsJobs, TakesAny}
 use Rattle.epoch_base.specs.Queues.{first_occupied}
 
 -- behind all others
@@ -25,3 +25,30 @@ all_occupied zero taken place full within = absurd (omega arith)
 all_occupied (suc places) zero place full within = absurd (omega arith)
 all_occupied (suc places) (suc taken) zero full within = refl
 all_occupied (suc places) (suc taken) (suc place) full within = all_occupied places taken place (omega arith) (omega arith)
+
+-- the step that passes all places at once is the last one
+pub passes_all : (capacity before after : ℕ) → after ≡ capacity → 0 < min 1 (capacity - before) → min 1 (capacity - after) < min 1 (capacity - before)
+passes_all capacity before after all some =
+    let passed : capacity - after ≡ 0 = omega (arith, all) in
+    let none : min 1 (capacity - after) ≡ 0 = ap (min 1) passed in
+    subst (λ n. n < min 1 (capacity - before)) (sym none) some
+
+-- before all places are passed there is a step to come
+pub has_step : (capacity before : ℕ) → before < capacity → min 1 (capacity - before) ≢ 0
+has_step capacity before within none = absurd (omega (arith, within, none))
+
+-- what was held is sealed and stands behind all others
+pub puts_last : {J : Type 0} (seal number : ℕ) (old items new : List (Sealed J)) (held taken left : Unsealed J) (jobs : List J)
+    → items ≡ old
+    → number ≡ seal
+    → jobs ≡ taken.jobs
+    → taken ≡ held
+    → new ≡ items ++ (record { seal = number; jobs = jobs }) ∷ []
+    → left.jobs ≡ []
+    → left.limit ≡ held.limit
+    → PutsJobs seal old held new left
+puts_last seal number old items new held taken left jobs same_list same_seal same_jobs same_bag is empty limit = record {
+  inserted = rw (is, same_list, same_seal, same_jobs, same_bag) (inserted_last (record { seal = seal; jobs = held.jobs }) old);
+  empty = empty;
+  limit = limit;
+}

@@ -1,10 +1,10 @@
 -- Writing one slot of a list of cells.
-use Rattle.std.proofs.Common.{◌≡◌, ◌≢◌, ℕ, zero, suc, ◌-◌, ◌<◌, ◌==◌, ◌&&◌, ◌⊎◌, true, false, List, [], ◌∷◌, length, get_or, Some, None, Result, Ok, Err, OnErr, is_some, slice_get, slice_set, if◌then◌else◌, refl, ap, sym, ◌∙◌, inl, inr, arith}
+use Rattle.std.proofs.Common.{◌≡◌, ◌≢◌, ℕ, zero, suc, ◌+◌, ◌-◌, ◌<◌, ◌==◌, ◌&&◌, ◌⊎◌, true, false, List, [], ◌∷◌, length, get_or, Option, Some, None, IfSome, Result, Ok, Err, IfOk, OnErr, is_some, slice_get, slice_set, if◌then◌else◌, refl, ap, sym, ◌∙◌, inl, inr, arith}
 use Rattle.std.proofs.lemmas.Grind.{common_steps}
 use Rattle.std.proofs.lemmas.Bool.{false≢true}
 use Rattle.std.proofs.lemmas.Bool.Decides.{eqb_tells}
 use Rattle.std.proofs.lemmas.Option.{slice_get_within, slice_get_read}
-use Rattle.epoch_base.specs.PlainCells.{Numbered, has, if_has, cell_of, KeepsOthers, Stands}
+use Rattle.epoch_base.specs.PlainCells.{Numbered, empty, filled, has, if_has, cell_of, KeepsOthers, Stands}
 
 pub get_set_same : {X : Type 0} (xs : List X) (i : ℕ) (x : X) → i < length xs → slice_get (slice_set xs i x) i ≡ Some x
 get_set_same [] i x within = absurd (omega (arith, within))
@@ -64,6 +64,7 @@ set_keeps_others cells slot turn before after some at was is other_slot other_tu
 pub record Found {V : Type 0} (cells : List (Numbered V)) (slot turn : ℕ) (cell : Numbered V) : Type 0 where
   pub at : slice_get cells (slot - 1) ≡ Some cell
   pub turn_is : cell.turn ≡ turn
+  pub there : has cell turn ≡ true
   pub is_cell : cell_of cells slot turn ≡ Some cell
 
 pub has_turn : {V : Type 0} (cell : Numbered V) (turn : ℕ) → has cell turn ≡ true → cell.turn ≡ turn
@@ -79,8 +80,12 @@ pub found_at : {V : Type 0} (cells : List (Numbered V)) (slot turn : ℕ) (cell 
 found_at cells slot turn cell at there = record {
   at = at;
   turn_is = has_turn cell turn there;
+  there = there;
   is_cell = ap (if_has turn) at ∙ ap (λ found. if found then Some cell else None) there;
 }
+
+pub found_value : {V : Type 0} {cells : List (Numbered V)} {slot turn : ℕ} {cell : Numbered V} → Found cells slot turn cell → cell.value ≢ None
+found_value {turn = turn} {cell = cell} it none = false≢true (sym (has_none cell turn none) ∙ it.there)
 
 -- the cell read at a place of the list
 pub read_at : {V : Type 0} (cells view : List (Numbered V)) (index : ℕ) (cell : Numbered V)
@@ -125,6 +130,44 @@ pub writes_one : {V : Type 0} (cells view : List (Numbered V)) (slot turn index 
     → KeepsOthers slot turn view (slice_set cells index after)
 writes_one cells view slot turn index before after same_list place some at was is =
     rw (same_list, place) (set_keeps_others view slot turn before after some at was is)
+
+-- a cell that is written at the place found is written under its slot
+pub writes_cell : {V : Type 0} (cells view : List (Numbered V)) (slot index : ℕ) (after wanted : Numbered V)
+    → cells ≡ view
+    → index ≡ slot - 1
+    → after ≡ wanted
+    → slice_set cells index after ≡ slice_set view (slot - 1) wanted
+writes_cell cells view slot index after wanted same_list place same = rw (same_list, place, same) refl
+
+-- a slot whose value was taken, or that stays as it was
+pub vacated : {V : Type 0} (value : Option V) (turn : ℕ) (before after : Numbered V)
+    → before.turn ≡ turn
+    → IfSome value (λ _. after ≡ empty (before.turn + 1))
+    → (value ≡ None → after ≡ before)
+    → HasAtMost turn after
+vacated (Some v) turn before after at taken stays = inl (ap (λ cell. cell.value) taken)
+vacated None turn before after at taken stays = inr (ap (λ cell. cell.turn) (stays refl) ∙ at)
+
+-- a slot whose value one more reads, or that stays as it was
+pub entered : {V : Type 0} (value : Option V) (turn : ℕ) (before after : Numbered V)
+    → before.turn ≡ turn
+    → IfSome value (λ v. after ≡ filled before.turn (before.readers + 1) v)
+    → (value ≡ None → after ≡ before)
+    → HasAtMost turn after
+entered (Some v) turn before after at counted stays = inr (ap (λ cell. cell.turn) counted ∙ at)
+entered None turn before after at counted stays = inr (ap (λ cell. cell.turn) (stays refl) ∙ at)
+
+pub at_most : {V : Type 0} (turn : ℕ) (before after : Numbered V) → before.turn ≡ turn → (after.value ≡ None) ⊎ (after.turn ≡ before.turn) → HasAtMost turn after
+at_most turn before after at (inl none) = inl none
+at_most turn before after at (inr same) = inr (same ∙ at)
+
+pub on_some : {X : Type 0} {A B : X → Type 0} (o : Option X) → ((x : X) → A x → B x) → IfSome o A → IfSome o B
+on_some (Some x) f a = f x a
+on_some None f none = none
+
+pub on_ok : {X E : Type 0} {A B : X → Type 0} (r : Result X E) → ((x : X) → A x → B x) → IfOk r A → IfOk r B
+on_ok (Ok x) f a = f x a
+on_ok (Err e) f none = none
 
 pub on_err : {X E A B : Type 0} (r : Result X E) → (A → B) → OnErr r A → OnErr r B
 on_err (Ok x) f none = none

@@ -1,5 +1,5 @@
 //! Numbered cells that nobody shares: a plain map from names to values.
-ghost use Rattle.std.specs.Prelude.{◌≡◌, ◌≢◌, ℕ, ◌+◌, ◌-◌, ◌<◌, ◌≤◌, ◌↔◌, ◌++◌, ◌∷◌, [], false, None, Some, length, slice_get, IsTrue, IsNone, IsSome, IfSome, IfOk, IfErr, OnOk, OnErr, IsOkUnless, MatchOption, MatchResult, All};
+ghost use Rattle.std.specs.Prelude.{◌≡◌, ◌≢◌, ℕ, ◌+◌, ◌-◌, ◌<◌, ◌≤◌, ◌↔◌, ◌++◌, ◌∷◌, [], false, None, Some, length, slice_get, IsTrue, IsNone, IsSome, IfSome, IfOk, IfErr, OnOk, OnErr, IsOkUnless, MatchOption, MatchResult, All, ◌⊎◌};
 ghost use Rattle.epoch_base.specs.PlainCells.{Numbered, filled, empty, has, cell_of, with_cell, IsFree, unread, readable, removal_of, IsRead, Lowers, Stands, KeepsOthers};
 ghost use Rattle.epoch_base.specs.declared.fault.Fault.TheVariants.{NoMemory, CellsFull};
 ghost use Rattle.epoch_base.specs.declared.cells.Removal.TheVariants.{Destroyed, HeldElsewhere, Gone};
@@ -79,6 +79,20 @@ impl<V: Drop> Cell<V> {
         let value = self.value.take()?;
         self.turn += 1;
         Some(value)
+    }
+
+    // Drops the value, which is there, unless it is read.
+    fn remove(&mut self) -> Removal
+        requires { self.old.value ≢ None }
+        ensures removal { result ≡ removal_of (Some self.old) }
+        ensures destroyed { result ≡ Destroyed → self.new ≡ empty (self.old.turn + 1) }
+        ensures stays { result ≢ Destroyed → self.new ≡ self.old }
+        ensures at_most { (self.new.value ≡ None) ⊎ (self.new.turn ≡ self.old.turn) }
+    {
+        match self.vacate() {
+            Some(_) => Removal::Destroyed,
+            None => Removal::HeldElsewhere,
+        }
     }
 
     // Replaces the value, if there is one that nobody reads.
@@ -247,14 +261,9 @@ impl<V: Drop> PlainCells<V> {
         ensures stays { result ≢ Destroyed → self.new ≡ self.old }
         ensures others { KeepsOthers name.slot name.turn self.old self.new }
     {
-        let Some(index) = self.find(name) else {
-            return Removal::Gone;
-        };
-        let cell = &mut self.cells[index];
-        if cell.vacate().is_some() {
-            Removal::Destroyed
-        } else {
-            Removal::HeldElsewhere
+        match self.find(name) {
+            Some(index) => self.cells[index].remove(),
+            None => Removal::Gone,
         }
     }
 

@@ -112,7 +112,6 @@ impl<J: Drop> BagQueue<J> {
 
 /// Seals what is held and puts it behind the other bags.
 #[inline(never)]
-#[tactic(auto, using(crate::proofs::BagLists::inserted_last))]
 fn push_held<J: Default + Drop>(queue: &mut BagQueue<J>, seal: Epoch, held: &mut Bag<J>)
     requires { length queue.old.bags < queue.old.capacity }
     ensures bag { PutsJobs seal.number queue.old.bags held.old queue.new.bags held.new }
@@ -176,7 +175,6 @@ impl<J: Default + Drop> BagStore for BagQueue<J> {
         0
     }
 
-    #[tactic(auto, using(crate::proofs::BagLists::all_occupied))]
     fn put_step(&mut self, cursor: &mut usize, seal: Epoch, held: &mut Bag<J>) -> PutStep {
         if *cursor >= self.capacity {
             return PutStep::Full;
