@@ -1,6 +1,6 @@
 //! A participant's machine. It makes all decisions of one participant, and touches nothing shared itself:
 //! it says what it asks next, and goes on by the answer.
-ghost use Rattle.std.specs.Prelude.{◌≡◌, ◌≢◌, ℕ, Bool, true, false, ◌+◌, ◌-◌, ◌*◌, ◌^◌, ◌<◌, ◌≤◌, ◌↔◌, List, [], ◌∷◌, ◌++◌, not, ◌==◌, if◌then◌else◌, Option, Some, None, IsTrue, MatchOption, IfSome, length, ◌⊎◌};
+ghost use Rattle.std.specs.Prelude.{◌≡◌, ◌≢◌, ℕ, Bool, true, false, ◌+◌, ◌-◌, ◌*◌, ◌^◌, ◌<◌, ◌≤◌, ◌↔◌, List, [], ◌∷◌, ◌++◌, not, ◌==◌, if◌then◌else◌, Option, Some, None, slice_get, IsTrue, MatchOption, IfSome, length, ◌⊎◌};
 ghost use Rattle.epoch_base.specs.Bags.{Sealed};
 ghost use Rattle.epoch_pin.specs.Machine.{IsAnswer, AskFits, asks, begun, heard, put_heard, took_heard, gives, ended, fresh, after_collect, after_pin, after_put, after_unpin, after_job, past_word, first_stage, guards_after, is_empty, rest, IsSized, StageFits, is_calling, PutsHeld, TakesHand};
 ghost use Rattle.epoch_pin.specs.declared.machine.Ask.TheVariants.{PutBag, TakeBag, CallJob};
@@ -482,6 +482,8 @@ impl<J: Default + Drop> Machine<J> {
         ensures put { (seal : ℕ) → asks self.old ≡ Some (PutBag seal) → PutsHeld seal self.old (S.queued store.old) result (S.queued store.new) }
         ensures after { self.new ≡ put_heard self.old result }
         ensures capacity { S.capacity store.new ≡ S.capacity store.old }
+        ensures occupied { result ≢ PutStep.Done → (place : ℕ) → S.passed cursor.old ≤ place → place < S.passed cursor.new → slice_get (S.occupied store.old) place ≡ Some true }
+        ensures full { result ≡ PutStep.Full → S.capacity store.old ≤ S.passed cursor.new }
         ensures fewer { 0 < S.puts_left (S.capacity store.old) cursor.old → S.puts_left (S.capacity store.old) cursor.new < S.puts_left (S.capacity store.old) cursor.old }
         ensures last { S.puts_left (S.capacity store.old) cursor.old ≡ 0 → result ≡ PutStep.Full }
         ensures claims { (place : ℕ) → S.Claimed store.new place → S.Claimed store.old place }

@@ -1,5 +1,5 @@
 -- A call begins where nothing refuses it, and takes no more steps than its replies have room for.
-use Rattle.std.proofs.Common.{◌≡◌, ℕ, ◌+◌, ◌<◌, List, length, Option, Some, None, refl, ap, ap₂, sym, subst, ◌∙◌, slice_index_or, slice_set, get_or-set_same}
+use Rattle.std.proofs.Common.{◌≡◌, ℕ, ◌+◌, ◌<◌, Bool, List, length, Option, Some, None, refl, ap, ap₂, sym, subst, ◌∙◌, slice_index_or, slice_set, get_or-set_same}
 use Rattle.epoch_base.specs.declared.fault.Fault.{Fault}
 use Rattle.epoch_pin.specs.declared.machine.Sizes.{Sizes}
 use Rattle.epoch_pin.specs.declared.machine.Stage.TheVariants.{Idle as Resting}
@@ -7,21 +7,23 @@ use Rattle.epoch_world.specs.declared.world.step.Call.{Call}
 use Rattle.epoch_world.specs.declared.world.step.Step.TheVariants.{Begin}
 use Rattle.epoch_world.specs.declared.world.step.Reply.TheVariants.{Began, Refused}
 use Rattle.epoch_world.specs.declared.world.step.Entry.{Entry}
-use Rattle.epoch_world.specs.Run.{Seat, State, Takes, Begins, Runs, IsFresh, refusal, seat_of, with_seat, begun_seat, free_seat}
+use Rattle.epoch_world.specs.Run.{Seat, State, Moves, Takes, with_places, Begins, Runs, IsFresh, refusal, seat_of, with_seat, begun_seat, free_seat}
 use Rattle.epoch_world.specs.Kept.{IsKept}
 use Rattle.epoch_world.specs.Lawful.{IsLawful}
 use Rattle.epoch_world.specs.Steps.{InStore, steps_left, call_bound}
 use Rattle.epoch_world.proofs.SeatLemmas.{seat_there, begin_given}
 use Rattle.epoch_world.proofs.EventsLawful.{replies_stand}
 use Rattle.epoch_world.proofs.CallsAfterDeferrals.{calls_follow}
-use Rattle.epoch_world.proofs.Performed.{found_there, begin_takes}
+use Rattle.epoch_world.proofs.Performed.{found_there, begin_moves}
 use Rattle.epoch_world.proofs.StepsFall.{begun_fits}
 use Rattle.epoch_world.proofs.WorldKept.{rests_where_accepted}
 
--- A call of p isn't refused now: the fields of the world make the state s, o is what refuses the call, and the seat
--- is the one found at p.
+-- A call of p isn't refused now: the fields of the world make the state s, but for the places, o is what refuses the
+-- call, and the seat is the one found at p.
 pub record IsGiven (s now : State) (p : ℕ) (c : Call) (o : Option Fault) (seat : Seat) : Type 0 where
-  pub is : s ≡ now
+  pub places : List Bool
+  pub seen : List ℕ
+  pub is : with_places s places seen ≡ now
   pub asked : o ≡ refusal c (seat_of now p) now.tickets
   pub none : o ≡ None
   pub found : seat ≡ slice_index_or s.seats p seat
@@ -30,7 +32,7 @@ module _ (s now : State) (p : ℕ) (c : Call) (o : Option Fault) (seat : Seat) (
   not_refused : refusal c (seat_of s p) s.tickets ≡ None
   not_refused = ap (λ (z : State). refusal c (seat_of z p) z.tickets) h.is ∙ sym h.asked ∙ h.none
 
-  given_there : p < length s.seats
+  pub given_there : p < length s.seats
   given_there = seat_there s p (begin_given c (seat_of s p) s.tickets not_refused).taken
 
   given_at : seat ≡ seat_of s p
@@ -42,8 +44,9 @@ module _ (s now : State) (p : ℕ) (c : Call) (o : Option Fault) (seat : Seat) (
   pub given_rests : IsKept s → seat.machine.stage ≡ Resting
   given_rests kept = rests_where_accepted s p c seat kept given_at given_here
 
-  pub given_takes : (mid : State) (after : Seat) → after ≡ begun_seat c seat → mid ≡ with_seat s p after → Takes s (Begin p c) Began mid
-  given_takes mid after begun e = begin_takes s mid p c seat after given_at given_here begun e
+  pub given_moves : (after : Seat) (places : List Bool) (seen : List ℕ) → after ≡ begun_seat c seat
+      → Moves (with_places s places seen) (Begin p c) Began (with_seat (with_places s places seen) p after)
+  given_moves after places seen begun = begin_moves (with_places s places seen) _ p c seat after given_at given_here begun refl
 
   -- the whole call takes fewer steps than its replies have room for
   pub given_few : (after : Seat) (n : InStore) (most steps : ℕ) → IsKept s → after ≡ begun_seat c seat → n.most ≡ most → steps ≡ call_bound s.sizes most + 1
@@ -54,7 +57,8 @@ module _ (s now : State) (p : ℕ) (c : Call) (o : Option Fault) (seat : Seat) (
       (subst (λ k. steps_left (begun_seat c seat) n < k) (ap₂ (λ (z : Sizes) m. call_bound z m + 1) sized same ∙ sym bound) (begun_fits c seat n))
 
 pub refused_takes : (s : State) (p : ℕ) (c : Call) (o : Option Fault) (f : Fault) → o ≡ refusal c (seat_of s p) s.tickets → o ≡ Some f → Takes s (Begin p c) (Refused f) s
-refused_takes s p c o f found some = subst (λ (r : Option Fault). Begins s p c r (Refused f) s) (sym some ∙ found) (refl, refl)
+refused_takes s p c o f found some =
+    (subst (λ (r : Option Fault). Begins s p c r (Refused f) s) (sym some ∙ found) (refl, refl), (refl, refl))
 
 pub run_is_lawful : (s new : State) (log : List Entry) → IsFresh s → Runs s log new → IsLawful log
 run_is_lawful s new log fresh run =

@@ -10,7 +10,7 @@ use Rattle.epoch_world.specs.declared.world.step.Reply.{Reply}
 use Rattle.epoch_world.specs.declared.world.step.Reply.TheVariants.{Began, Refused}
 use Rattle.epoch_world.specs.declared.world.step.Entry.{Entry}
 use Rattle.epoch_world.specs.declared.world.step.Word.TheVariants.{Free, Unpinned}
-use Rattle.epoch_world.specs.Run.{Seat, State, Ending, Open, Emptying, Over, seat_of, word_of, with_seat, free_seat, refusal, begun_seat, Begins, EndGoes, Takes, Runs, IsFresh}
+use Rattle.epoch_world.specs.Run.{with_places, Seat, State, Ending, Open, Emptying, Over, seat_of, word_of, with_seat, free_seat, refusal, begun_seat, Begins, EndGoes, Moves, Runs, IsFresh}
 use Rattle.epoch_world.specs.Lawful.{Told, nothing, after_begin, after_go, told_after, HasToldRefused, MayRegister, MayBegin, MayEndGo, MayReply, MayReplyAll}
 use Rattle.epoch_world.proofs.SeatLemmas.{seat_written, seat_other, seat_there, same_or_other, IsAccepted, begin_given}
 use Rattle.epoch_world.proofs.SeatLinks.{AllLinked}
@@ -90,7 +90,7 @@ module _ (old new : State) (told : ℕ → Told) (reply : Reply) (h : AllAgree o
   end_shown (Emptying [] n) (inl did) = (subst MayEndGo (sym did.3) tt, untold_along _ did.4 refl refl)
   end_shown (Emptying [] n) (inr did) = (subst MayEndGo (sym did.1) tt, untold_along _ did.2 refl refl)
 
-  step_shown : (step : Step) → Takes old step reply new → ShowsStep new told step reply
+  step_shown : (step : Step) → Moves old step reply new → ShowsStep new told step reply
   step_shown Register (inl did) = (subst MayRegister (sym did.5) tt, registered did.0 did.2 did.3 did.6)
   step_shown Register (inr (inl did)) = (subst MayRegister (sym did.2) tt, untold_along old did.3 refl refl)
   step_shown Register (inr (inr did)) = (subst MayRegister (sym did.1) tt, untold_along old did.2 refl refl)
@@ -110,7 +110,8 @@ replies_from : (old new : State) (log : List Entry) (told : ℕ → Told)
     → MayReplyAll told log
 replies_from old new [] told h linked run = tt
 replies_from old new (x ∷ log) told h linked (mid, took, run) =
-    let shown : ShowsStep mid told x.step x.reply = step_shown old mid told x.reply h linked x.step took in
+    let aside : State = with_places mid old.places old.seen in
+    let shown : ShowsStep mid told x.step x.reply = step_shown old aside told x.reply h linked x.step took.0 in
     let still_linked : AllLinked mid = step_linked old mid x.step x.reply linked took in
     (shown.0, replies_from mid new log (λ q. told_after q (told q) x.step x.reply) shown.1 still_linked run)
 

@@ -1,5 +1,5 @@
 -- Every step keeps what holds, so no run calls a job while somebody who was pinned at its deferral has stayed pinned.
-use Rattle.std.proofs.Common.{◌≡◌, ℕ, ◌+◌, ◌<◌, List, [], ◌∷◌, ◌++◌, append_assoc, append-nil, length, inl, inr, refl, ap, sym, subst, arith, Option, Some, None}
+use Rattle.std.proofs.Common.{◌≡◌, ℕ, ◌+◌, ◌<◌, Bool, List, [], ◌∷◌, ◌++◌, append_assoc, append-nil, length, inl, inr, refl, ap, sym, subst, arith, Option, Some, None}
 use Rattle.epoch_base.specs.declared.job.Called.{Called}
 use Rattle.epoch_base.specs.declared.fault.Fault.{Fault}
 use Rattle.epoch_world.specs.declared.world.step.Call.{Call}
@@ -9,7 +9,7 @@ use Rattle.epoch_world.specs.declared.world.step.Reply.TheVariants.{Registered, 
 use Rattle.epoch_world.specs.declared.world.step.Entry.{Entry}
 use Rattle.epoch_world.specs.declared.world.step.Word.TheVariants.{Free, Unpinned}
 use Rattle.epoch_world.specs.Grace.{KeepsGrace}
-use Rattle.epoch_world.specs.Run.{Bag, Seat, State, seat_of, word_of, with_seat, free_seat, Ending, Open, Emptying, Over, AllFree, refusal, Begins, EndGoes, Takes, Runs, IsFresh}
+use Rattle.epoch_world.specs.Run.{with_places, Bag, Seat, State, seat_of, word_of, with_seat, free_seat, Ending, Open, Emptying, Over, AllFree, refusal, Begins, EndGoes, Moves, Runs, IsFresh}
 use Rattle.epoch_world.proofs.SeatLemmas.{begin_given}
 use Rattle.epoch_world.proofs.SeatLinks.{AllLinked}
 use Rattle.epoch_world.proofs.Linked.{step_linked, fresh_linked}
@@ -107,21 +107,34 @@ module _ (old new : State) (log : List Entry) (x : Entry) (h : Holds old log) (l
       closes old.queued Over (h.closed (λ opened. absurd (cc (opened, e)))) quiet.plain
       (λ t how a. absurd (quiet.called t how a)) h.queued tt did
 
-  takes_step : (s : Step) → Takes old s x.reply new → Holds new (log ++ x ∷ [])
-  takes_step Register (inl (p, opened, there, free, lowest, told, did)) = registers p opened there free told did
-  takes_step Register (inr (inl did)) = stay old new log x h (quiet_refused x.reply _ did.2) did.3
-  takes_step Register (inr (inr did)) = stay old new log x h (quiet_refused x.reply _ did.1) did.2
-  takes_step (Begin p c) did = begins p c (refusal c (seat_of old p) old.tickets) refl did
-  takes_step (Go p) (inl did) = stay old new log x h (quiet_refused x.reply _ did.1) did.2
-  takes_step (Go p) (inr did) = go_keeps old new log x h linked p did.0 (seat_of old p).progress refl did.1
-  takes_step EndStep (inl (opened, free, told, did)) = let quiet = quiet_began x.reply told in
+  moves_step : (s : Step) → Moves old s x.reply new → Holds new (log ++ x ∷ [])
+  moves_step Register (inl (p, opened, there, free, lowest, told, did)) = registers p opened there free told did
+  moves_step Register (inr (inl did)) = stay old new log x h (quiet_refused x.reply _ did.2) did.3
+  moves_step Register (inr (inr did)) = stay old new log x h (quiet_refused x.reply _ did.1) did.2
+  moves_step (Begin p c) did = begins p c (refusal c (seat_of old p) old.tickets) refl did
+  moves_step (Go p) (inl did) = stay old new log x h (quiet_refused x.reply _ did.1) did.2
+  moves_step (Go p) (inr did) = go_keeps old new log x h linked p did.0 (seat_of old p).progress refl did.1
+  moves_step EndStep (inl (opened, free, told, did)) = let quiet = quiet_began x.reply told in
       closes old.queued (Emptying [] 0) free quiet.plain (λ t how a. absurd (quiet.called t how a)) h.queued
       (0, tt) did
-  takes_step EndStep (inr (inl did)) = stay old new log x h (quiet_refused x.reply _ did.2) did.3
-  takes_step EndStep (inr (inr did)) = stay old new log x h (quiet_refused x.reply _ did.1) did.2
-  takes_step EndGo did = end_goes old.ending refl did
+  moves_step EndStep (inr (inl did)) = stay old new log x h (quiet_refused x.reply _ did.2) did.3
+  moves_step EndStep (inr (inr did)) = stay old new log x h (quiet_refused x.reply _ did.1) did.2
+  moves_step EndGo did = end_goes old.ending refl did
 
 -- WHOLE RUNS
+
+-- the places play no part
+holds_aside : (s : State) (log : List Entry) (places : List Bool) (seen : List ℕ) → Holds (with_places s places seen) log
+    → Holds s log
+holds_aside s log places seen h = record {
+  since = h.since;
+  when = h.when;
+  seats = h.seats;
+  queued = h.queued;
+  closed = h.closed;
+  ending = h.ending;
+  logged = h.logged;
+}
 
 runs_hold : (old new : State) (log entries : List Entry) → AllLinked old → Holds old log → Runs old entries new
     → Holds new (log ++ entries)
@@ -130,7 +143,7 @@ runs_hold old new log [] linked h run =
 runs_hold old new log (x ∷ entries) linked h (mid, did, run) =
     subst (Holds new) (append_assoc log (x ∷ []) entries)
     (runs_hold mid new (log ++ x ∷ []) entries (step_linked old mid x.step x.reply linked did)
-    (takes_step old mid log x h linked x.step did) run)
+    (holds_aside mid _ _ _ (moves_step old _ log x h linked x.step did.0)) run)
 
 fresh_holds : (s : State) → IsFresh s → Holds s []
 fresh_holds s fresh = record {

@@ -19,7 +19,7 @@ use Rattle.epoch_world.specs.declared.world.step.Word.{Word}
 use Rattle.epoch_world.specs.declared.world.step.Word.TheVariants.{Unpinned}
 use Rattle.epoch_world.specs.declared.world.step.Progress.{Progress}
 use Rattle.epoch_world.specs.declared.world.step.Progress.TheVariants.{Idle, Driven, CallsNow, Ends}
-use Rattle.epoch_world.specs.Run.{Seat, State, Ending, Open, Emptying, Over, seat_of, with_seat, with_word, free_seat, lowest, waits, resume_refusal, call_refusal, refusal, begun_seat, Begins, ended_seat, Performs, Drives, Goes, EndGoes, Takes, IsFresh}
+use Rattle.epoch_world.specs.Run.{Seat, State, Ending, Open, Emptying, Over, seat_of, with_seat, with_word, free_seat, lowest, waits, resume_refusal, call_refusal, refusal, begun_seat, Begins, ended_seat, Performs, Drives, Goes, EndGoes, Moves, IsFresh}
 use Rattle.epoch_world.specs.Kept.{IsDriven, AllLinked, paused_count, Awake, HasRoom, AllRoomy}
 use Rattle.epoch_world.proofs.SeatLemmas.{seat_written, seat_other, seat_there, same_or_other, IsAccepted, begin_given}
 use Rattle.epoch_world.proofs.Linked.{length_without, follows_at}
@@ -145,18 +145,18 @@ module _ (old new : State) (reply : Reply) (linked : AllLinked old) (h : AllRoom
   ends (Emptying [] n) (inl did) = room_along old new h (ap (λ (s : State). s.sizes) did.4) (ap (λ (s : State). s.seats) did.4)
   ends (Emptying [] n) (inr did) = room_along old new h (ap (λ (s : State). s.sizes) did.2) (ap (λ (s : State). s.seats) did.2)
 
-  pub takes_room : (s : Step) → Takes old s reply new → AllRoomy new
-  takes_room Register (inl did) = room_written old new did.0 (record (free_seat old.sizes) { word = Unpinned }) h did.2
+  pub moves_room : (s : Step) → Moves old s reply new → AllRoomy new
+  moves_room Register (inl did) = room_written old new did.0 (record (free_seat old.sizes) { word = Unpinned }) h did.2
       (ap (λ (s : State). s.sizes) did.6) (ap (λ (s : State). s.seats) did.6) (record { few = omega arith; awake = tt })
-  takes_room Register (inr (inl did)) = stays did.3
-  takes_room Register (inr (inr did)) = stays did.2
-  takes_room (Begin p c) did = begins p c (refusal c (seat_of old p) old.tickets) refl did
-  takes_room (Go p) (inl did) = stays did.2
-  takes_room (Go p) (inr did) = go_room old new p reply linked h (seat_there old p did.0) (seat_of old p).progress refl did.1
-  takes_room EndStep (inl did) = room_along old new h (ap (λ (s : State). s.sizes) did.3) (ap (λ (s : State). s.seats) did.3)
-  takes_room EndStep (inr (inl did)) = stays did.3
-  takes_room EndStep (inr (inr did)) = stays did.2
-  takes_room EndGo did = ends old.ending did
+  moves_room Register (inr (inl did)) = stays did.3
+  moves_room Register (inr (inr did)) = stays did.2
+  moves_room (Begin p c) did = begins p c (refusal c (seat_of old p) old.tickets) refl did
+  moves_room (Go p) (inl did) = stays did.2
+  moves_room (Go p) (inr did) = go_room old new p reply linked h (seat_there old p did.0) (seat_of old p).progress refl did.1
+  moves_room EndStep (inl did) = room_along old new h (ap (λ (s : State). s.sizes) did.3) (ap (λ (s : State). s.seats) did.3)
+  moves_room EndStep (inr (inl did)) = stays did.3
+  moves_room EndStep (inr (inr did)) = stays did.2
+  moves_room EndGo did = ends old.ending did
 
 pub fresh_room : (s : State) → IsFresh s → AllRoomy s
 fresh_room s fresh p = subst HasRoom (sym (fresh.free p)) (free_room s.sizes)

@@ -24,7 +24,7 @@ use Rattle.epoch_world.specs.declared.world.step.Deferral.{Deferral}
 use Rattle.epoch_world.specs.declared.world.step.Word.{Word}
 use Rattle.epoch_world.specs.declared.world.step.Progress.{Progress}
 use Rattle.epoch_world.specs.declared.world.step.Progress.TheVariants.{Idle, Driven, CallsNow, Ends}
-use Rattle.epoch_world.specs.Run.{Bag, Seat, State, seat_of, with_word, free_seat, Ending, Open, Emptying, Over, refusal, begun_seat, Begins, ended_seat, Performs, Drives, Goes, EndGoes, Takes, IsFresh}
+use Rattle.epoch_world.specs.Run.{Bag, Seat, State, seat_of, with_word, free_seat, Ending, Open, Emptying, Over, refusal, begun_seat, Begins, ended_seat, Performs, Drives, Goes, EndGoes, Moves, IsFresh}
 use Rattle.epoch_world.specs.Kept.{jobs_in, jobs_queued, jobs_at_seats, jobs_at_end, JobsFew}
 use Rattle.epoch_world.proofs.SeatLemmas.{seat_there, begin_given}
 use Rattle.epoch_world.proofs.TicketSums.{sum_zero}
@@ -210,23 +210,23 @@ module _ (old new : State) (h : JobsFew old) where
       (omega (arith, ap jobs_at_end at, queued_more bag queued old.queued inserted)) did
   ends (Emptying [] n) reply at (inr (none, told, did)) = closes old.queued Over (omega arith) did
 
-  takes : (step : Step) (reply : Reply) → Takes old step reply new → JobsFew new
-  takes Register reply (inl did) = keeps did.0 did.2 _ old.epoch (omega arith) did.6
-  takes Register reply (inr (inl did)) = same did.3
-  takes Register reply (inr (inr did)) = same did.2
-  takes (Begin p c) reply did = begins p c (refusal c (seat_of old p) old.tickets) reply refl did
-  takes (Go p) reply (inl did) = same did.2
-  takes (Go p) reply (inr did) = goes p (seat_there old p did.0) (seat_of old p).progress reply did.1
-  takes EndStep reply (inl did) = closes old.queued (Emptying [] 0) (omega arith) did.3
-  takes EndStep reply (inr (inl did)) = same did.3
-  takes EndStep reply (inr (inr did)) = same did.2
-  takes EndGo reply did = ends old.ending reply refl did
+  moves : (step : Step) (reply : Reply) → Moves old step reply new → JobsFew new
+  moves Register reply (inl did) = keeps did.0 did.2 _ old.epoch (omega arith) did.6
+  moves Register reply (inr (inl did)) = same did.3
+  moves Register reply (inr (inr did)) = same did.2
+  moves (Begin p c) reply did = begins p c (refusal c (seat_of old p) old.tickets) reply refl did
+  moves (Go p) reply (inl did) = same did.2
+  moves (Go p) reply (inr did) = goes p (seat_there old p did.0) (seat_of old p).progress reply did.1
+  moves EndStep reply (inl did) = closes old.queued (Emptying [] 0) (omega arith) did.3
+  moves EndStep reply (inr (inl did)) = same did.3
+  moves EndStep reply (inr (inr did)) = same did.2
+  moves EndGo reply did = ends old.ending reply refl did
 
-pub takes_jobs : (old new : State) (step : Step) (reply : Reply)
+pub moves_jobs : (old new : State) (step : Step) (reply : Reply)
     → JobsFew old
-    → Takes old step reply new
+    → Moves old step reply new
     → JobsFew new
-takes_jobs old new step reply h did = takes old new h step reply did
+moves_jobs old new step reply h did = moves old new h step reply did
 
 -- a new world has no jobs
 pub fresh_jobs : (s : State) → IsFresh s → JobsFew s

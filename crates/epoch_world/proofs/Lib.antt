@@ -43,6 +43,11 @@ pub mod WorldKept
 pub mod Performed
 pub mod StepsFall
 pub mod TurnsTaken
+pub mod PlacesSeen
+pub mod PutStages
+pub mod PutsFind
+pub mod FullOfGo
+pub mod FullFound
 pub mod AcceptedCalls
 pub mod RunsGoOn
 pub mod CallsGoOn

@@ -13,7 +13,7 @@ use Rattle.epoch_world.specs.declared.world.step.Step.{Step}
 use Rattle.epoch_world.specs.declared.world.step.Step.TheVariants.{Register, Begin, Go, End as EndStep, EndGo}
 use Rattle.epoch_world.specs.declared.world.step.Word.{Word}
 use Rattle.epoch_world.specs.declared.world.step.Word.TheVariants.{Unpinned}
-use Rattle.epoch_world.specs.Run.{Seat, State, Ending, Open, Emptying, Over, seat_of, with_seat, with_word, free_seat, refusal, begun_seat, Begins, ended_seat, Drives, Goes, EndGoes, Takes, IsFresh}
+use Rattle.epoch_world.specs.Run.{Seat, State, Ending, Open, Emptying, Over, seat_of, with_seat, with_word, free_seat, refusal, begun_seat, Begins, ended_seat, Drives, Goes, EndGoes, Moves, Takes, with_places, IsFresh}
 use Rattle.epoch_world.proofs.SeatLemmas.{seat_there, begin_given}
 pub use Rattle.epoch_world.proofs.SeatLinks.{action_of, rests, BeganUnder, IsDriven, Follows, IsLinked, AllLinked, free_linked, follows_at, progress_linked, linked_written, linked_along}
 use Rattle.epoch_world.proofs.MachineGoesOn.{GoesOn, going_on, either_on, pin_on, unpin_on, job_on, word_on, put_goes_on, take_goes_on}
@@ -126,26 +126,32 @@ module _ (old new : State) (reply : Reply) (h : AllLinked old) where
   end_linked (Emptying [] n) (inl did) = same_table _ did.4 refl refl
   end_linked (Emptying [] n) (inr did) = same_table _ did.2 refl refl
 
-  takes_linked : (s : Step) → Takes old s reply new → AllLinked new
-  takes_linked Register (inl (p, opened, there, free, lowest, told, did)) =
+  moves_linked : (s : Step) → Moves old s reply new → AllLinked new
+  moves_linked Register (inl (p, opened, there, free, lowest, told, did)) =
       let registered : Seat = record (free_seat old.sizes) { word = Unpinned } in
       let linked : IsLinked old.sizes registered = record { sized = refl; counted = refl; follows = refl } in
       writes old new p reply h there registered linked _ did refl refl
-  takes_linked Register (inr (inl did)) = stays_linked did.3
-  takes_linked Register (inr (inr did)) = stays_linked did.2
-  takes_linked (Begin p c) did = begin_linked p c (refusal c (seat_of old p) old.tickets) refl did
-  takes_linked (Go p) (inl did) = stays_linked did.2
-  takes_linked (Go p) (inr did) =
+  moves_linked Register (inr (inl did)) = stays_linked did.3
+  moves_linked Register (inr (inr did)) = stays_linked did.2
+  moves_linked (Begin p c) did = begin_linked p c (refusal c (seat_of old p) old.tickets) refl did
+  moves_linked (Go p) (inl did) = stays_linked did.2
+  moves_linked (Go p) (inr did) =
       go_linked old new p reply h (seat_there old p did.0) (seat_of old p).progress refl did.1
-  takes_linked EndStep (inl did) = same_table _ did.3 refl refl
-  takes_linked EndStep (inr (inl did)) = stays_linked did.3
-  takes_linked EndStep (inr (inr did)) = stays_linked did.2
-  takes_linked EndGo did = end_linked old.ending did
+  moves_linked EndStep (inl did) = same_table _ did.3 refl refl
+  moves_linked EndStep (inr (inl did)) = stays_linked did.3
+  moves_linked EndStep (inr (inr did)) = stays_linked did.2
+  moves_linked EndGo did = end_linked old.ending did
+
+pub moved_linked : (old new : State) (step : Step) (reply : Reply) → AllLinked old → Moves old step reply new
+    → AllLinked new
+moved_linked old new step reply h did = moves_linked old new reply h step did
 
 -- every step keeps all seats linked
 pub step_linked : (old new : State) (step : Step) (reply : Reply) → AllLinked old → Takes old step reply new
     → AllLinked new
-step_linked old new step reply h did = takes_linked old new reply h step did
+step_linked old new step reply h did =
+    let aside : AllLinked (with_places new old.places old.seen) = moved_linked old _ step reply h did.0 in
+    record { positions = aside.positions; seats = aside.seats }
 
 -- in a new world they are
 pub fresh_linked : (s : State) → IsFresh s → AllLinked s

@@ -1,4 +1,4 @@
--- A participant's part of a step, put into the world, is the world's step.
+-- A participant's part of a step, put into the world, is the world's step but for the places.
 use Rattle.std.proofs.Common.{◌≡◌, ◌≢◌, ℕ, ◌<◌, true, List, [], ◌∷◌, length, zero, suc, Some, None, inr, refl, ap, ap₂, sym, subst, ◌∙◌, arith, slice_index_or}
 use Rattle.epoch_pin.specs.declared.machine.Ask.{Ask}
 use Rattle.epoch_pin.specs.declared.machine.Ask.TheVariants.{LoadEpoch, LoadWord, StorePinned, StoreRepinned, StoreUnpinned, StoreFree, StoreEpoch, PutBag, TakeBag, KeepJob, CallJob}
@@ -12,7 +12,7 @@ use Rattle.epoch_world.specs.declared.world.step.Step.TheVariants.{Begin, Go}
 use Rattle.epoch_world.specs.declared.world.step.Word.TheVariants.{Free}
 use Rattle.epoch_world.specs.declared.world.step.Progress.{Progress}
 use Rattle.epoch_world.specs.declared.world.step.Progress.TheVariants.{Idle, Driven, CallsNow, Ends}
-use Rattle.epoch_world.specs.Run.{Seat, State, seat_of, word_of, with_seat, number_of, free_seat, begun_seat, refusal, Begins, Performs, Drives, Goes, Takes}
+use Rattle.epoch_world.specs.Run.{Seat, State, seat_of, word_of, with_seat, number_of, free_seat, begun_seat, refusal, Begins, Performs, Drives, Goes, Moves}
 use Rattle.epoch_world.specs.Seats.{Shared, shared, SeatPerforms}
 use Rattle.epoch_world.specs.Worlds.{is_driven, IsDrivenAt}
 use Rattle.epoch_world.specs.Kept.{AllLinked}
@@ -48,14 +48,14 @@ module _ (old new : State) (p word : ℕ) (seat after : Seat) (reply : Reply) (h
 
 -- A STEP BEGIN AND A STEP GO
 
-pub begin_takes : (old new : State) (p : ℕ) (c : Call) (seat after : Seat) → seat ≡ seat_of old p → refusal c seat old.tickets ≡ None → after ≡ begun_seat c seat → new ≡ with_seat old p after
-    → Takes old (Begin p c) Began new
-begin_takes old new p c seat after is given begun e =
+pub begin_moves : (old new : State) (p : ℕ) (c : Call) (seat after : Seat) → seat ≡ seat_of old p → refusal c seat old.tickets ≡ None → after ≡ begun_seat c seat → new ≡ with_seat old p after
+    → Moves old (Begin p c) Began new
+begin_moves old new p c seat after is given begun e =
     subst (λ r. Begins old p c r Began new) (sym (ap (λ (q : Seat). refusal c q old.tickets) (sym is) ∙ given))
     (refl, e ∙ ap (with_seat old p) (begun ∙ ap (begun_seat c) is))
 
-pub go_takes : (old new : State) (p : ℕ) (seat : Seat) (reply : Reply) → seat ≡ seat_of old p → seat.word ≢ Free → Goes old p seat seat.progress reply new → Takes old (Go p) reply new
-go_takes old new p seat reply is taken goes =
+pub go_moves : (old new : State) (p : ℕ) (seat : Seat) (reply : Reply) → seat ≡ seat_of old p → seat.word ≢ Free → Goes old p seat seat.progress reply new → Moves old (Go p) reply new
+go_moves old new p seat reply is taken goes =
     inr (λ free. taken (ap (λ (q : Seat). q.word) is ∙ free), subst (λ (q : Seat). Goes old p q q.progress reply new) is goes)
 
 -- by how far the call is
@@ -73,19 +73,19 @@ pub end_goes : (old new : State) (p : ℕ) (seat : Seat) (c : Call) (reply : Rep
     → Goes old p seat (Driven c) reply new
 end_goes old new p seat c reply none did = subst (λ o. Drives old p seat c seat.machine.stage o reply new) (sym none) did
 
-pub perform_takes : (old new : State) (p : ℕ) (seat : Seat) (reply : Reply) (ask : Ask) → seat ≡ seat_of old p → IsDrivenAt old p ask
-    → Performs old p seat seat.machine.stage ask reply new → Takes old (Go p) reply new
-perform_takes old new p seat reply ask is driven did =
-    go_takes old new p seat reply is (λ free. driven.taken (ap (λ (q : Seat). q.word) (sym is) ∙ free))
+pub perform_moves : (old new : State) (p : ℕ) (seat : Seat) (reply : Reply) (ask : Ask) → seat ≡ seat_of old p → IsDrivenAt old p ask
+    → Performs old p seat seat.machine.stage ask reply new → Moves old (Go p) reply new
+perform_moves old new p seat reply ask is driven did =
+    go_moves old new p seat reply is (λ free. driven.taken (ap (λ (q : Seat). q.word) (sym is) ∙ free))
     (drives_by old new p seat reply ask seat.progress (ap (λ (q : Seat). is_driven q.progress) is ∙ driven.under_way) (ap (λ (q : Seat). asks q.machine) is ∙ driven.asked) did)
 
--- the whole of a step Go that performs an ask, from the participant's part of it
+-- a step Go that performs an ask, but for the places, from the participant's part of it
 pub performed : (old now new : State) (p word : ℕ) (seat after : Seat) (reply : Reply) (ask : Ask) (h : Shared) → old ≡ now → AllLinked old
     → seat ≡ seat_of old p → IsDrivenAt now p ask → ((k : ℕ) → ask ≡ LoadWord k → word ≡ number_of (word_of now k))
     → SeatPerforms seat.machine.sizes p word (shared old.epoch old.queued old.tickets) seat seat.machine.stage ask reply after h
     → new ≡ record (with_seat old p after) { epoch = h.epoch; queued = h.queued; tickets = h.tickets }
-    → Takes old (Go p) reply new
+    → Moves old (Go p) reply new
 performed old now new p word seat after reply ask h is linked there driven found did e =
-    perform_takes old new p seat reply ask there (subst (λ (s : State). IsDrivenAt s p ask) (sym is) driven)
+    perform_moves old new p seat reply ask there (subst (λ (s : State). IsDrivenAt s p ask) (sym is) driven)
     (performs_by old new p word seat after reply h e ask (ap (λ (q : Seat). q.machine.sizes) there ∙ (linked.seats p).sized)
     (λ k asked. found k asked ∙ ap (λ (s : State). number_of (word_of s k)) (sym is)) did)

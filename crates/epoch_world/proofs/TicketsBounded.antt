@@ -11,7 +11,7 @@ use Rattle.epoch_world.specs.declared.world.step.Step.{Step}
 use Rattle.epoch_world.specs.declared.world.step.Step.TheVariants.{Register, Begin, Go, End as EndStep, EndGo}
 use Rattle.epoch_world.specs.declared.world.step.Reply.{Reply}
 use Rattle.epoch_world.specs.declared.world.step.Deferral.{Deferral}
-use Rattle.epoch_world.specs.Run.{Bag, State, seat_of, free_seat, Ending, Open, Emptying, Over, refusal, Begins, EndGoes, Takes, IsFresh}
+use Rattle.epoch_world.specs.Run.{Bag, State, seat_of, free_seat, Ending, Open, Emptying, Over, refusal, Begins, EndGoes, Moves, IsFresh}
 use Rattle.epoch_world.proofs.SeatLemmas.{begin_given}
 use Rattle.epoch_world.proofs.TicketSums.{sum_zero}
 use Rattle.epoch_world.proofs.PendingDeferrals.{pending_at, pending, KeepsAt, Keeps}
@@ -39,7 +39,7 @@ module _ (old new : State) (h : Bounded old) where
   end_goes (Emptying [] n) reply (inl (bag, queued, inserted, is, did)) = closes queued _ did
   end_goes (Emptying [] n) reply (inr (none, is, did)) = closes old.queued Over did
 
-  step_bounded : (step : Step) (reply : Reply) → Takes old step reply new → Bounded new
+  step_bounded : (step : Step) (reply : Reply) → Moves old step reply new → Bounded new
   step_bounded Register reply (inl did) = registers old new h did.0 did.2 did.6
   step_bounded Register reply (inr (inl did)) = same old new h did.3
   step_bounded Register reply (inr (inr did)) = same old new h did.2
@@ -52,7 +52,7 @@ module _ (old new : State) (h : Bounded old) where
   step_bounded EndGo reply did = end_goes old.ending reply did
 
 pub tickets_bounded : (old new : State) (step : Step) (reply : Reply)
-    → Takes old step reply new
+    → Moves old step reply new
     → Bounded old
     → Bounded new
 tickets_bounded old new step reply did h = step_bounded old new h step reply did

@@ -1,12 +1,12 @@
 -- Every step keeps the tally, so in every run each ticket's job is in one bag or was called once.
-use Rattle.std.proofs.Common.{◌≡◌, ◌≢◌, ℕ, ◌+◌, List, [], ◌∷◌, ◌++◌, append_assoc, append-nil, Option, Some, None, inl, inr, refl, ap, sym, subst, arith}
+use Rattle.std.proofs.Common.{◌≡◌, ◌≢◌, ℕ, ◌+◌, Bool, List, [], ◌∷◌, ◌++◌, append_assoc, append-nil, Option, Some, None, inl, inr, refl, ap, sym, subst, arith}
 use Rattle.epoch_base.specs.declared.fault.Fault.{Fault}
 use Rattle.epoch_world.specs.declared.world.step.Call.{Call}
 use Rattle.epoch_world.specs.declared.world.step.Step.{Step}
 use Rattle.epoch_world.specs.declared.world.step.Step.TheVariants.{Register, Begin, Go, End as EndStep, EndGo}
 use Rattle.epoch_world.specs.declared.world.step.Reply.TheVariants.{Began}
 use Rattle.epoch_world.specs.declared.world.step.Entry.{Entry}
-use Rattle.epoch_world.specs.Run.{Seat, State, seat_of, Ending, Open, Emptying, Over, AllFree, Begins, refusal, EndGoes, Takes, Runs, IsFresh}
+use Rattle.epoch_world.specs.Run.{with_places, Seat, State, seat_of, Ending, Open, Emptying, Over, AllFree, Begins, refusal, EndGoes, Moves, Runs, IsFresh}
 use Rattle.epoch_world.specs.Tickets.{times_queued, times_at_end, times_called, times_deferred, HoldsEachTicketOnce}
 use Rattle.epoch_world.proofs.SeatLemmas.{begin_given}
 use Rattle.epoch_world.proofs.TicketSums.{queued_put, times_cons, none_at_seats, none_deferred}
@@ -51,7 +51,7 @@ module _ (old new : State) (log : List Entry) (x : Entry) (h : Tallies old log) 
       closes old new log x h _ old.queued Over is (none_left _ at (λ opened. cc)) (λ over. none)
       (λ t. omega (arith, ap (times_at_end t) at)) (λ t. refl) did
 
-  step_tallies : (s : Step) → Takes old s x.reply new → Kept
+  step_tallies : (s : Step) → Moves old s x.reply new → Kept
   step_tallies Register (inl did) = registers old new log x h did.0 did.1 did.2 did.3 did.5 did.6
   step_tallies Register (inr (inl did)) = stayed old new log x h _ did.2 refl did.3
   step_tallies Register (inr (inr did)) = stayed old new log x h _ did.1 refl did.2
@@ -63,6 +63,13 @@ module _ (old new : State) (log : List Entry) (x : Entry) (h : Tallies old log) 
   step_tallies EndStep (inr (inr did)) = stayed old new log x h _ did.1 refl did.2
   step_tallies EndGo did = end_goes old.ending refl did
 
+-- the places play no part
+tallies_aside : (s : State) (log : List Entry) (places : List Bool) (seen : List ℕ)
+    → Tallies (with_places s places seen) log
+    → Tallies s log
+tallies_aside s log places seen h =
+    record { seats = h.seats; placed = h.placed; accepted = h.accepted; closed = h.closed; over = h.over }
+
 runs_tally : (old new : State) (log entries : List Entry)
     → Tallies old log
     → Runs old entries new
@@ -70,7 +77,8 @@ runs_tally : (old new : State) (log entries : List Entry)
 runs_tally old new log [] h run =
     subst (λ s. Tallies s (log ++ [])) (sym run) (subst (Tallies old) (sym (append-nil log)) h)
 runs_tally old new log (x ∷ entries) h (mid, did, run) =
-    let step : Tallies mid (log ++ x ∷ []) = step_tallies old mid log x h x.step did in
+    let aside = step_tallies old (with_places mid old.places old.seen) log x h x.step did.0 in
+    let step : Tallies mid (log ++ x ∷ []) = tallies_aside mid (log ++ x ∷ []) old.places old.seen aside in
     subst (Tallies new) (append_assoc log (x ∷ []) entries) (runs_tally mid new (log ++ x ∷ []) entries step run)
 
 fresh_tallies : (s : State) → IsFresh s → Tallies s []

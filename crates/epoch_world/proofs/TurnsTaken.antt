@@ -1,5 +1,5 @@
 -- A participant's step over the parts of a world is the world's step, and leaves fewer steps for its call.
-use Rattle.std.proofs.Common.{◌≡◌, ℕ, ◌+◌, ◌<◌, true, false, List, length, ap, sym, subst, arith, slice_index_or, slice_set, get_or-set_same}
+use Rattle.std.proofs.Common.{◌≡◌, ℕ, ◌+◌, ◌<◌, Bool, true, false, List, [], length, ap, sym, subst, arith, slice_index_or, slice_set, get_or-set_same}
 use Rattle.epoch_pin.specs.declared.machine.Ask.{Ask}
 use Rattle.epoch_pin.specs.declared.machine.Ask.TheVariants.{StoreFree, PutBag, TakeBag, CallJob}
 use Rattle.epoch_pin.specs.declared.machine.Sizes.{Sizes}
@@ -9,32 +9,33 @@ use Rattle.epoch_world.specs.declared.world.step.Progress.{Progress}
 use Rattle.epoch_world.specs.declared.world.step.Progress.TheVariants.{Driven}
 use Rattle.epoch_world.specs.declared.world.step.Reply.{Reply}
 use Rattle.epoch_world.specs.Kept.{AllLinked, IsKept}
-use Rattle.epoch_world.specs.Run.{Bag, Seat, Ending, Open}
+use Rattle.epoch_world.specs.Run.{with_places, Bag, Seat, Ending, Open}
 use Rattle.epoch_world.specs.Seats.{Shared, SeatPerforms}
 use Rattle.epoch_world.specs.Calls.{ends_call}
 use Rattle.epoch_world.specs.Steps.{InStore, machine_steps, steps_of, steps_left}
 use Rattle.epoch_world.specs.Worlds.{state_of, is_driven, IsDrivenAt}
 
--- HOW FAR THE END IS PLAYS NO PART
+-- HOW FAR THE END IS PLAYS NO PART, NOR DO THE PLACES
 
-pub linked_at : (sizes : Sizes) (epoch tickets : ℕ) (seats : List Seat) (queued : List Bag) (ending later : Ending)
-    → AllLinked (state_of sizes epoch seats queued tickets ending) → AllLinked (state_of sizes epoch seats queued tickets later)
-linked_at sizes epoch tickets seats queued ending later h = record { positions = h.positions; seats = h.seats }
+pub linked_at : (sizes : Sizes) (epoch tickets : ℕ) (seats : List Seat) (queued : List Bag) (ending later : Ending) (places : List Bool) (seen : List ℕ)
+    → AllLinked (state_of sizes epoch seats queued tickets ending) → AllLinked (with_places (state_of sizes epoch seats queued tickets later) places seen)
+linked_at sizes epoch tickets seats queued ending later places seen h = record { positions = h.positions; seats = h.seats }
 
 -- an end has jobs of its own, and what is kept with them is kept without them
 pub kept_open : (sizes : Sizes) (epoch tickets : ℕ) (seats : List Seat) (queued : List Bag) (ending : Ending)
     → IsKept (state_of sizes epoch seats queued tickets ending) → IsKept (state_of sizes epoch seats queued tickets Open)
 kept_open sizes epoch tickets seats queued ending h = record {
-  linked = linked_at sizes epoch tickets seats queued ending Open h.linked;
+  linked = linked_at sizes epoch tickets seats queued ending Open [] [] h.linked;
   roomy = h.roomy;
   bounded = record { tickets = h.bounded.tickets; keeps = h.bounded.keeps };
   jobs = omega (arith, h.jobs);
   few = h.few;
 }
 
-pub driven_at : (sizes : Sizes) (epoch tickets p : ℕ) (seats : List Seat) (queued : List Bag) (ending later : Ending) (ask : Ask)
-    → IsDrivenAt (state_of sizes epoch seats queued tickets ending) p ask → IsDrivenAt (state_of sizes epoch seats queued tickets later) p ask
-driven_at sizes epoch tickets p seats queued ending later ask h = record { taken = h.taken; under_way = h.under_way; asked = h.asked; within = h.within }
+pub driven_at : (sizes : Sizes) (epoch tickets p : ℕ) (seats : List Seat) (queued : List Bag) (ending later : Ending) (places : List Bool) (seen : List ℕ) (ask : Ask)
+    → IsDrivenAt (state_of sizes epoch seats queued tickets ending) p ask
+    → IsDrivenAt (with_places (state_of sizes epoch seats queued tickets later) places seen) p ask
+driven_at sizes epoch tickets p seats queued ending later places seen ask h = record { taken = h.taken; under_way = h.under_way; asked = h.asked; within = h.within }
 
 -- FEWER STEPS ARE LEFT
 

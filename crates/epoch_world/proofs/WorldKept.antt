@@ -15,22 +15,22 @@ use Rattle.epoch_world.specs.declared.world.step.Step.{Step}
 use Rattle.epoch_world.specs.declared.world.step.Reply.{Reply}
 use Rattle.epoch_world.specs.declared.world.step.Progress.{Progress}
 use Rattle.epoch_world.specs.declared.world.step.Progress.TheVariants.{Idle, Driven}
-use Rattle.epoch_world.specs.Run.{Seat, State, seat_of, refusal, Takes, IsFresh}
+use Rattle.epoch_world.specs.Run.{Seat, State, seat_of, refusal, Moves, IsFresh}
 use Rattle.epoch_world.specs.Seats.{adds_guard}
 use Rattle.epoch_world.specs.Worlds.{ending_of, IsEmptying}
 use Rattle.epoch_world.specs.Kept.{IsDriven, rests, BeganUnder, Awake, HasRoom, IsKept, paused_count, jobs_at_end}
 use Rattle.epoch_world.proofs.SeatLemmas.{begin_given}
-use Rattle.epoch_world.proofs.Linked.{step_linked, fresh_linked, follows_at}
-use Rattle.epoch_world.proofs.GuardsFew.{takes_room, fresh_room}
-use Rattle.epoch_world.proofs.JobsCounted.{takes_jobs, fresh_jobs}
+use Rattle.epoch_world.proofs.Linked.{moved_linked, fresh_linked, follows_at}
+use Rattle.epoch_world.proofs.GuardsFew.{moves_room, fresh_room}
+use Rattle.epoch_world.proofs.JobsCounted.{moves_jobs, fresh_jobs}
 use Rattle.epoch_world.proofs.TicketsBounded.{tickets_bounded, fresh_bounded, keep_fits}
 
-pub kept_takes : (old new : State) (step : Step) (reply : Reply) → IsKept old → length new.seats ≡ length old.seats → Takes old step reply new → IsKept new
-kept_takes old new step reply h same did = record {
-  linked = step_linked old new step reply h.linked did;
-  roomy = takes_room old new reply h.linked h.roomy step did;
+pub kept_moves : (old new : State) (step : Step) (reply : Reply) → IsKept old → length new.seats ≡ length old.seats → Moves old step reply new → IsKept new
+kept_moves old new step reply h same did = record {
+  linked = moved_linked old new step reply h.linked did;
+  roomy = moves_room old new reply h.linked h.roomy step did;
   bounded = tickets_bounded old new step reply did h.bounded;
-  jobs = takes_jobs old new step reply h.jobs did;
+  jobs = moves_jobs old new step reply h.jobs did;
   few = omega (arith, h.few, same);
 }
 

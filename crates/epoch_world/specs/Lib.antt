@@ -1,3 +1,4 @@
+pub mod Places
 pub mod Run
 pub mod Seats
 pub mod Grace
@@ -8,3 +9,4 @@ pub mod Worlds
 pub mod Kept
 pub mod Steps
 pub mod Calls
+pub mod Full

@@ -29,6 +29,7 @@ use Rattle.epoch_world.specs.declared.world.step.Word.{Word}
 use Rattle.epoch_world.specs.declared.world.step.Word.TheVariants.{Free, Unpinned, Pinned}
 use Rattle.epoch_world.specs.declared.world.step.Progress.{Progress}
 use Rattle.epoch_world.specs.declared.world.step.Progress.TheVariants.{Idle, Driven, CallsNow, Ends}
+use Rattle.epoch_world.specs.Places.{Sight, sight, Looks}
 
 -- a job of the world, and a bag of the store
 abbrev pub Bag : Type 0
@@ -55,6 +56,8 @@ pub record State : Type 0 where
   pub queued : List Bag  -- the bags in the store
   pub tickets : ℕ  -- how many were given
   pub ending : Ending
+  pub places : List Bool  -- for each place of the store, whether it is occupied
+  pub seen : List ℕ  -- for each participant, how many places its put has seen occupied since it began
 
 -- WORDS AND SEATS
 
@@ -228,21 +231,54 @@ EndGoes old (Emptying [] n) reply new =
     ((bag : Bag) × (queued : List Bag) × IsInserted bag queued old.queued × (reply ≡ Stepped) × (new ≡ record old { queued = queued; ending = Emptying bag.jobs n }))
     ⊎ ((old.queued ≡ []) × (reply ≡ Done (Count n)) × (new ≡ record old { ending = Over }))
 
--- the world takes this step, with this reply
-abbrev pub Takes : State → Step → Reply → State → Type 0
-Takes old Register reply new =
+-- what this step does, with this reply, to all but the places
+abbrev pub Moves : State → Step → Reply → State → Type 0
+Moves old Register reply new =
     ((p : ℕ) × (old.ending ≡ Open) × (p < length old.seats) × (word_of old p ≡ Free) × ((k : ℕ) → k < p → word_of old k ≢ Free) × (reply ≡ Registered p) × (new ≡ with_seat old p (record (free_seat old.sizes) { word = Unpinned })))
     ⊎ ((old.ending ≡ Open) × ((k : ℕ) → k < length old.seats → word_of old k ≢ Free) × (reply ≡ Refused TableFull) × (new ≡ old))
     ⊎ ((old.ending ≢ Open) × (reply ≡ Refused Ended) × (new ≡ old))
-Takes old (Begin p c) reply new = Begins old p c (refusal c (seat_of old p) old.tickets) reply new
-Takes old (Go p) reply new =
+Moves old (Begin p c) reply new = Begins old p c (refusal c (seat_of old p) old.tickets) reply new
+Moves old (Go p) reply new =
     ((word_of old p ≡ Free) × (reply ≡ Refused NotRegistered) × (new ≡ old))
     ⊎ ((word_of old p ≢ Free) × Goes old p (seat_of old p) (seat_of old p).progress reply new)
-Takes old EndStep reply new =
+Moves old EndStep reply new =
     ((old.ending ≡ Open) × AllFree old × (reply ≡ Began) × (new ≡ record old { ending = Emptying [] 0 }))
     ⊎ ((old.ending ≡ Open) × (¬ (AllFree old)) × (reply ≡ Refused ParticipantsLeft) × (new ≡ old))
     ⊎ ((old.ending ≢ Open) × (reply ≡ Refused Ended) × (new ≡ old))
-Takes old EndGo reply new = EndGoes old old.ending reply new
+Moves old EndGo reply new = EndGoes old old.ending reply new
+
+-- WHAT A STEP SEES OF THE PLACES
+
+abbrev pub with_places : State → List Bool → List ℕ → State
+with_places s places seen = record s { places = places; seen = seen }
+
+-- how many places the put of p has seen
+abbrev pub seen_by : State → ℕ → ℕ
+seen_by s p = slice_index_or s.seen p 0
+
+abbrev pub sight_of : State → ℕ → Sight
+sight_of s p = sight s.places (seen_by s p)
+
+-- what a step Go asks for, by the word and the stage
+abbrev pub turn_at : Word → Progress → Stage → Option Ask
+turn_at Free progress s = None
+turn_at _ (Driven c) s = ask_at s
+turn_at _ progress s = None
+
+abbrev pub turn_of : Seat → Option Ask
+turn_of seat = turn_at seat.word seat.progress seat.machine.stage
+
+-- a Go of p counts for the put of p alone; an end takes bags out
+abbrev pub Sees : State → Step → State → Type 0
+Sees old (Go p) new = Looks (turn_of (seat_of old p)) (seat_of old p).machine (seat_of new p).machine (sight_of old p) (sight_of new p) × ((q : ℕ) → q ≢ p → seen_by new q ≡ seen_by old q)
+Sees old EndGo new = (length new.places ≡ length old.places) × (new.seen ≡ old.seen)
+Sees old _ new = (new.places ≡ old.places) × (new.seen ≡ old.seen)
+
+-- the world takes this step, with this reply: the places aside it moves so, and it sees the places so
+abbrev pub Takes : State → Step → Reply → State → Type 0
+Takes old step reply new = Moves old step reply (with_places new old.places old.seen) × Sees old step new
+
+-- WHOLE RUNS
 
 -- the world goes by these steps and replies from old to new, one atomic step each
 abbrev pub Runs : State → List Entry → State → Type 0

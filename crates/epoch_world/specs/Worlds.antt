@@ -1,5 +1,5 @@
 -- What a world keeps between any two steps, beside what its participants keep of themselves.
-use Rattle.std.specs.Prelude.{◌≡◌, ◌≢◌, ℕ, Bool, true, false, List, Some}
+use Rattle.std.specs.Prelude.{◌≡◌, ◌≢◌, ℕ, Bool, true, false, List, [], Some}
 use Rattle.epoch_pin.specs.Machine.{asks, AskFits}
 use Rattle.epoch_pin.specs.declared.machine.Ask.{Ask}
 use Rattle.epoch_pin.specs.declared.machine.Sizes.{Sizes}
@@ -17,8 +17,9 @@ ending_of OpenStage hand count = Open
 ending_of EmptyingStage hand count = Emptying hand count
 ending_of OverStage hand count = Over
 
+-- the state of a world of these parts, but for the places of the store
 abbrev pub state_of : Sizes → ℕ → List Seat → List Bag → ℕ → Ending → State
-state_of sizes epoch seats queued tickets ending = record { sizes = sizes; epoch = epoch; seats = seats; queued = queued; tickets = tickets; ending = ending }
+state_of sizes epoch seats queued tickets ending = record { sizes = sizes; epoch = epoch; seats = seats; queued = queued; tickets = tickets; ending = ending; places = []; seen = [] }
 
 abbrev pub is_driven : Progress → Bool
 is_driven (Driven c) = true

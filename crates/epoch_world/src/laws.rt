@@ -5,6 +5,7 @@ ghost use Rattle.epoch_world.specs.Run.{State, IsFresh, Runs, Over};
 ghost use Rattle.epoch_world.specs.Grace.{KeepsGrace};
 ghost use Rattle.epoch_world.specs.Tickets.{HoldsEachTicketOnce, times_called, times_deferred};
 ghost use Rattle.epoch_world.specs.Lawful.{IsLawful};
+ghost use Rattle.epoch_world.specs.Full.{FullAlong, none_found};
 
 /// No job is called while a participant that was pinned when it was deferred has stayed pinned.
 pub fn every_run_keeps_grace()
@@ -24,4 +25,10 @@ pub fn every_end_calls_all()
 /// Every event stands only where it may.
 pub fn every_run_is_lawful()
     ensures { (s new : State) (log : List Entry) → IsFresh s → Runs s log new → IsLawful log }
+{}
+
+/// A call is refused because the bags are full only where its put found each place of the store occupied, each at a
+/// step that it took since the call began.
+pub fn every_full_reply_found_each_place()
+    ensures { (s new : State) (log : List Entry) → IsFresh s → (run : Runs s log new) → FullAlong none_found s new log run }
 {}

@@ -5,7 +5,7 @@ mod laws;
 mod world;
 
 pub use laws::{
-    every_end_calls_all, every_run_holds_each_ticket_once, every_run_is_lawful,
-    every_run_keeps_grace,
+    every_end_calls_all, every_full_reply_found_each_place, every_run_holds_each_ticket_once,
+    every_run_is_lawful, every_run_keeps_grace,
 };
 pub use world::{Answer, Call, Deferral, Entry, Progress, Reply, Seat, Shape, Step, Word, World};

@@ -11,6 +11,7 @@ ghost use Rattle.epoch_world.specs.Worlds.{IsEmptying};
 ghost use Rattle.epoch_world.specs.Grace.{KeepsGrace};
 ghost use Rattle.epoch_world.specs.Tickets.{HoldsEachTicketOnce, times_called, times_deferred};
 ghost use Rattle.epoch_world.specs.Lawful.{IsLawful};
+ghost use Rattle.epoch_world.specs.Full.{FullWhereFound};
 ghost use Rattle.epoch_world.specs.Calls.{call_of, EndsAtLast};
 
 mod calls;
@@ -53,15 +54,15 @@ pub struct World<S: BagStore<Job = Deferral> = Places<Deferral>> {
 }
 
 impl<S: BagStore<Job = Deferral>> Model for World<S> {
-    ghost use Rattle.std.specs.Prelude.{◌≡◌, ◌^◌, ◌<◌, ◌≤◌, length};
+    ghost use Rattle.std.specs.Prelude.{◌≡◌, ◌^◌, ◌<◌, ◌≤◌, length, map};
     ghost use Rattle.epoch_pin.specs.Machine.{IsSized};
-    ghost use Rattle.epoch_world.specs.Run.{State};
+    ghost use Rattle.epoch_world.specs.Run.{State, with_places};
     ghost use Rattle.epoch_world.specs.Worlds.{state_of, ending_of};
     ghost use Rattle.epoch_world.specs.Kept.{IsKept};
 
     ghost Value = { State };
 
-    ghost view = { λ a. state_of a.sizes a.epoch a.seats.items (S.queued a.store) a.tickets (ending_of a.end a.hand.jobs a.count) };
+    ghost view = { λ a. with_places (state_of a.sizes a.epoch a.seats.items (S.queued a.store) a.tickets (ending_of a.end a.hand.jobs a.count)) (S.occupied a.store) (map S.passed a.putting.items) };
 
     ghost invariant = { λ a. record {
       sized : IsSized a.sizes;
@@ -81,6 +82,7 @@ impl<S: BagStore<Job = Deferral>> World<S> {
         ensures fresh { IfOk result IsFresh }
         ensures epoch { IfOk result (λ world. world.epoch ≡ shape.start_epoch) }
         ensures positions { IfOk result (λ world. length world.seats ≡ shape.participants) }
+        ensures places { IfOk result (λ world. length world.places ≡ shape.bags) }
         ensures no_memory { IfErr result (λ fault. fault ≡ NoMemory) }
     {
         let sizes = Sizes {
@@ -124,6 +126,8 @@ impl<S: BagStore<Job = Deferral>> World<S> {
         ensures once { IfOk result (λ replies. (fresh : State) (earlier : List Entry) → IsFresh fresh → Runs fresh earlier self.old → HoldsEachTicketOnce (earlier ++ entries_of steps.now replies.items) self.new) }
         // Each event stands only where it may.
         ensures lawful { IfOk result (λ replies. (fresh : State) (earlier : List Entry) → IsFresh fresh → Runs fresh earlier self.old → IsLawful (earlier ++ entries_of steps.now replies.items)) }
+        // The bags are told to be full only where the put found each place of the store occupied.
+        ensures full { IfOk result (λ replies. (fresh : State) (earlier : List Entry) → IsFresh fresh → Runs fresh earlier self.old → FullWhereFound fresh (earlier ++ entries_of steps.now replies.items) self.new) }
         // When an end is over, every accepted job was called.
         ensures all_called { IfOk result (λ replies. (fresh : State) (earlier : List Entry) → IsFresh fresh → Runs fresh earlier self.old → self.new.ending ≡ Over → (t : ℕ) → times_called t (earlier ++ entries_of steps.now replies.items) ≡ times_deferred t (earlier ++ entries_of steps.now replies.items)) }
 
@@ -154,6 +158,8 @@ impl<S: BagStore<Job = Deferral>> World<S> {
         ensures once { IfOk result (λ replies. (fresh : State) (earlier : List Entry) → IsFresh fresh → Runs fresh earlier self.old → HoldsEachTicketOnce (earlier ++ call_of participant call replies.items) self.new) }
         // Each event stands only where it may.
         ensures lawful { IfOk result (λ replies. (fresh : State) (earlier : List Entry) → IsFresh fresh → Runs fresh earlier self.old → IsLawful (earlier ++ call_of participant call replies.items)) }
+        // The bags are told to be full only where the put found each place of the store occupied.
+        ensures full { IfOk result (λ replies. (fresh : State) (earlier : List Entry) → IsFresh fresh → Runs fresh earlier self.old → FullWhereFound fresh (earlier ++ call_of participant call replies.items) self.new) }
 
         ensures err { OnErr result (self.new ≡ self.old) }
         ensures no_memory { IfErr result (λ fault. fault ≡ NoMemory) }

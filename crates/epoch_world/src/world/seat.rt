@@ -5,6 +5,7 @@ ghost use Rattle.epoch_world.specs.Run.{free_seat, with_word, refusal, waits, ca
 ghost use Rattle.epoch_pin.specs.declared.machine.Stage.TheVariants.{Idle, End};
 ghost use Rattle.epoch_world.specs.Seats.{shared, SeatPerforms, WordFits, adds_guard};
 ghost use Rattle.epoch_world.specs.Steps.{in_store, machine_steps};
+ghost use Rattle.epoch_world.specs.Places.{sight, Looks};
 
 use crate::world::guards::{is_out, lowest, without};
 use crate::world::step::{Answer, Call, Deferral, Progress, Reply, Word};
@@ -103,6 +104,7 @@ impl Seat {
         requires tickets { ask ≡ Ask.KeepJob → tickets.old + 1 < 2 ^ 64 }
         ensures within { epoch.new < 2 ^ 63 }
         ensures step { SeatPerforms self.old.machine.sizes position word (shared epoch.old (S.queued store.old) tickets.old) self.old self.old.machine.stage ask result self.new (shared epoch.new (S.queued store.new) tickets.new) }
+        ensures looks { Looks (Some ask) self.old.machine self.new.machine (sight (S.occupied store.old) (S.passed putting.old)) (sight (S.occupied store.new) (S.passed putting.new)) }
 
         // The call has fewer steps left.
         ensures fewer { machine_steps self.new.machine (in_store (S.puts_left (S.capacity store.old) putting.new) (S.takes_left (S.capacity store.old) taking.new) (3 * S.capacity store.old + 65)) < machine_steps self.old.machine (in_store (S.puts_left (S.capacity store.old) putting.old) (S.takes_left (S.capacity store.old) taking.old) (3 * S.capacity store.old + 65)) }

@@ -1,11 +1,11 @@
-use Rattle.std.proofs.Common.{◌∙◌, sym, refl}
+use Rattle.std.proofs.Common.{[], ◌∙◌, sym}
 use Rattle.std.proofs.lemmas.List.{length-set}
 use Rattle.epoch_world.specs.declared.world.step.Step.TheVariants.{Begin}
 use Rattle.epoch_world.specs.declared.world.step.Reply.TheVariants.{Began}
-use Rattle.epoch_world.specs.Run.{State, Takes, with_seat}
+use Rattle.epoch_world.specs.Run.{State}
 use Rattle.epoch_world.specs.Worlds.{state_of, ending_of}
-use Rattle.epoch_world.proofs.AcceptedCalls.{IsGiven, given_rests, given_takes, refused_takes}
-use Rattle.epoch_world.proofs.WorldKept.{kept_takes}
+use Rattle.epoch_world.proofs.AcceptedCalls.{IsGiven, given_rests, given_moves, refused_takes}
+use Rattle.epoch_world.proofs.WorldKept.{kept_moves}
 use Rattle.epoch_world.proofs.world.World.begin.Goals as goal
 
 pub returns-in-Some : goal.returns-in-Some
@@ -18,7 +18,7 @@ begin-requires g c =
     state_of c.self.inside.sizes c.self.inside.epoch c.self.inside.seats.items (g.S.BagStore.queued c.self.inside.store) c.self.inside.tickets
     (ending_of c.self.inside.end c.self.inside.hand.jobs c.self.inside.count) in
     let given : IsGiven old c.args.self.now c.args.position c.args.call c.refusal.result c.index_mut.result.now =
-    record { is = c.self.view_is; asked = c.refusal.ensures; none = c.in_default.is; found = c.index_mut.ensures.value } in
+    record { places = _; seen = _; is = c.self.view_is; asked = c.refusal.ensures; none = c.in_default.is; found = c.index_mut.ensures.value } in
     given_rests _ _ _ _ _ _ given c.self.invariant.kept
 
 pub invariant_of-self : goal.invariant_of-self
@@ -27,14 +27,13 @@ invariant_of-self g c =
     state_of c.self.inside.sizes c.self.inside.epoch c.self.inside.seats.items (g.S.BagStore.queued c.self.inside.store) c.self.inside.tickets
     (ending_of c.self.inside.end c.self.inside.hand.jobs c.self.inside.count) in
     let given : IsGiven old c.args.self.now c.args.position c.args.call c.refusal.result c.index_mut.result.now =
-    record { is = c.self.view_is; asked = c.refusal.ensures; none = c.in_default.is; found = c.index_mut.ensures.value } in
-    let mid : State = with_seat old c.args.position c.begin.new.self in
-    let takes : Takes old (Begin c.args.position c.args.call) Began mid = given_takes _ _ _ _ _ _ given mid c.begin.new.self c.begin.ensures refl in
+    record { places = _; seen = _; is = c.self.view_is; asked = c.refusal.ensures; none = c.in_default.is; found = c.index_mut.ensures.value } in
     let same = sym (length-set c.self.inside.seats.items c.args.position c.begin.new.self) in
     record {
       sized = c.self.invariant.sized;
       epoch = c.self.invariant.epoch;
       putting = c.self.invariant.putting ∙ same;
       taking = c.self.invariant.taking ∙ same;
-      kept = kept_takes old mid (Begin c.args.position c.args.call) Began c.self.invariant.kept (length-set c.self.inside.seats.items c.args.position c.begin.new.self) takes;
+      kept = kept_moves old _ (Begin c.args.position c.args.call) Began c.self.invariant.kept (length-set c.self.inside.seats.items c.args.position c.begin.new.self)
+          (given_moves _ _ _ _ _ _ given c.begin.new.self [] [] c.begin.ensures);
     }

@@ -1,20 +1,20 @@
-use Rattle.std.proofs.Common.{◌≡◌, ◌∙◌, List, [], ap, refl, subst}
+use Rattle.std.proofs.Common.{◌≡◌, ◌∙◌, List, [], map, ap, refl, subst}
 use Rattle.epoch_base.specs.declared.fault.Fault.TheVariants.{ParticipantsLeft}
 use Rattle.epoch_world.specs.declared.world.EndStage.{EndStage}
 use Rattle.epoch_world.specs.declared.world.step.Deferral.{Deferral}
 use Rattle.epoch_world.specs.declared.world.step.Reply.TheVariants.{Began, Refused}
 use Rattle.epoch_world.specs.declared.world.step.Step.TheVariants.{End as EndStep}
-use Rattle.epoch_world.specs.Run.{State, Open, Emptying, Takes}
+use Rattle.epoch_world.specs.Run.{State, Open, Emptying, Takes, with_places}
 use Rattle.epoch_world.specs.Worlds.{state_of, ending_of}
-use Rattle.epoch_world.proofs.WorldKept.{kept_takes}
-use Rattle.epoch_world.proofs.WorldSteps.{end_takes, end_refused}
+use Rattle.epoch_world.proofs.WorldKept.{kept_moves}
+use Rattle.epoch_world.proofs.WorldSteps.{end_moves, end_refused}
 use Rattle.epoch_world.proofs.world.World.begin_end.Goals as goal
 
 pub returns-then-not-all_free : goal.returns-then-not-all_free
 returns-then-not-all_free g c =
     let old : State =
-    state_of c.self.inside.sizes c.self.inside.epoch c.self.inside.seats.items (g.S.BagStore.queued c.self.inside.store) c.self.inside.tickets
-    (ending_of c.self.inside.end c.self.inside.hand.jobs c.self.inside.count) in
+    with_places (state_of c.self.inside.sizes c.self.inside.epoch c.self.inside.seats.items (g.S.BagStore.queued c.self.inside.store) c.self.inside.tickets
+    (ending_of c.self.inside.end c.self.inside.hand.jobs c.self.inside.count)) (g.S.BagStore.occupied c.self.inside.store) (map g.S.BagStore.passed c.self.inside.putting.items) in
     let opened : old.ending ≡ Open = ap (λ (e : EndStage). ending_of e c.self.inside.hand.jobs c.self.inside.count) c.in-Open.is in
     subst (λ (s : State). Takes s EndStep (Refused ParticipantsLeft) s) c.self.view_is (end_refused old opened (c.all_free.ensures.no c.if-not-all_free.true))
 
@@ -24,26 +24,22 @@ invariant_of-self g c =
     state_of c.self.inside.sizes c.self.inside.epoch c.self.inside.seats.items (g.S.BagStore.queued c.self.inside.store) c.self.inside.tickets
     (ending_of c.self.inside.end c.self.inside.hand.jobs c.self.inside.count) in
     let opened : old.ending ≡ Open = ap (λ (e : EndStage). ending_of e c.self.inside.hand.jobs c.self.inside.count) c.in-Open.is in
-    let new : State =
-    state_of c.self.inside.sizes c.self.inside.epoch c.self.inside.seats.items (g.S.BagStore.queued c.self.inside.store) c.self.inside.tickets
-    (Emptying c.seal-self-inside.result.jobs 0) in
+    let new : State = record old { ending = Emptying c.seal-self-inside.result.jobs 0 } in
     let emptying : new ≡ record old { ending = Emptying [] 0 } = ap (λ (hand : List Deferral). record old { ending = Emptying hand 0 }) (c.seal-self-inside.ensures.jobs ∙ c.new.ensures.empty) in
     record {
       sized = c.self.invariant.sized;
       epoch = c.self.invariant.epoch;
       putting = c.self.invariant.putting;
       taking = c.self.invariant.taking;
-      kept = kept_takes old new EndStep Began c.self.invariant.kept refl (end_takes old new opened (c.all_free.ensures.yes c.if-not-all_free.false) emptying);
+      kept = kept_moves old new EndStep Began c.self.invariant.kept refl (end_moves old new opened (c.all_free.ensures.yes c.if-not-all_free.false) emptying);
     }
 
 pub returns : goal.returns
 returns g c =
     let old : State =
-    state_of c.self.inside.sizes c.self.inside.epoch c.self.inside.seats.items (g.S.BagStore.queued c.self.inside.store) c.self.inside.tickets
-    (ending_of c.self.inside.end c.self.inside.hand.jobs c.self.inside.count) in
+    with_places (state_of c.self.inside.sizes c.self.inside.epoch c.self.inside.seats.items (g.S.BagStore.queued c.self.inside.store) c.self.inside.tickets
+    (ending_of c.self.inside.end c.self.inside.hand.jobs c.self.inside.count)) (g.S.BagStore.occupied c.self.inside.store) (map g.S.BagStore.passed c.self.inside.putting.items) in
     let opened : old.ending ≡ Open = ap (λ (e : EndStage). ending_of e c.self.inside.hand.jobs c.self.inside.count) c.in-Open.is in
-    let new : State =
-    state_of c.self.inside.sizes c.self.inside.epoch c.self.inside.seats.items (g.S.BagStore.queued c.self.inside.store) c.self.inside.tickets
-    (Emptying c.seal-self-inside.result.jobs 0) in
+    let new : State = record old { ending = Emptying c.seal-self-inside.result.jobs 0 } in
     let emptying : new ≡ record old { ending = Emptying [] 0 } = ap (λ (hand : List Deferral). record old { ending = Emptying hand 0 }) (c.seal-self-inside.ensures.jobs ∙ c.new.ensures.empty) in
-    subst (λ (s : State). Takes s EndStep Began new) c.self.view_is (end_takes old new opened (c.all_free.ensures.yes c.if-not-all_free.false) emptying)
+    subst (λ (s : State). Takes s EndStep Began new) c.self.view_is (end_moves old new opened (c.all_free.ensures.yes c.if-not-all_free.false) emptying, (refl, refl))

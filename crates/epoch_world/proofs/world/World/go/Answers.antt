@@ -1,10 +1,11 @@
-use Rattle.std.proofs.Common.{◌∙◌, sym, subst}
+use Rattle.std.proofs.Common.{ℕ, ◌∙◌, sym, subst, List, [], map, arith, slice_set}
 use Rattle.std.proofs.lemmas.List.{length-set}
 use Rattle.epoch_world.specs.declared.world.step.Step.TheVariants.{Go}
-use Rattle.epoch_world.specs.Run.{State, Ending, Takes}
+use Rattle.epoch_world.specs.Run.{State, Ending, Takes, with_places}
 use Rattle.epoch_world.specs.Worlds.{state_of, ending_of}
+use Rattle.epoch_world.proofs.PlacesSeen.{go_takes_all}
 use Rattle.epoch_world.proofs.TurnsTaken.{kept_open}
-use Rattle.epoch_world.proofs.WorldKept.{kept_takes}
+use Rattle.epoch_world.proofs.WorldKept.{kept_moves}
 use Rattle.epoch_world.proofs.world.World.go.Goals as goal
 
 pub go_on-requires-clause-kept : goal.go_on-requires-clause-kept
@@ -22,12 +23,17 @@ invariant_of-self g c =
       epoch = c.go_on.ensures.epoch;
       putting = length-set c.self.inside.putting.items c.args.position _ ∙ c.self.invariant.putting ∙ sym c.go_on.ensures.positions;
       taking = length-set c.self.inside.taking.items c.args.position _ ∙ c.self.invariant.taking ∙ sym c.go_on.ensures.positions;
-      kept = kept_takes old _ (Go c.args.position) c.go_on.result c.self.invariant.kept c.go_on.ensures.positions (c.go_on.ensures.step old.ending);
+      kept = kept_moves old _ (Go c.args.position) c.go_on.result c.self.invariant.kept c.go_on.ensures.positions (c.go_on.ensures.step old.ending [] []);
     }
 
 pub returns : goal.returns
 returns g c =
     let ending : Ending = ending_of c.self.inside.end c.self.inside.hand.jobs c.self.inside.count in
+    let old : State =
+    state_of c.self.inside.sizes c.self.inside.epoch c.self.inside.seats.items (g.S.BagStore.queued c.self.inside.store) c.self.inside.tickets ending in
     let new : State =
     state_of c.self.inside.sizes c.go_on.new.epoch c.go_on.new.seats.items (g.S.BagStore.queued c.go_on.new.store) c.go_on.new.tickets ending in
-    subst (λ (s : State). Takes s (Go c.args.position) c.go_on.result new) c.self.view_is (c.go_on.ensures.step ending)
+    let seen : List ℕ = map g.S.BagStore.passed (slice_set c.self.inside.putting.items c.args.position c.go_on.new.putting) in
+    subst (λ (s : State). Takes s (Go c.args.position) c.go_on.result (with_places new (g.S.BagStore.occupied c.go_on.new.store) seen)) c.self.view_is
+    (go_takes_all g.S.BagStore.passed c.self.inside.putting.items c.index_mut.result.now c.go_on.new.putting old new c.args.position c.go_on.result _ _
+    (omega (arith, c.self.invariant.putting)) c.index_mut.ensures.value (c.go_on.ensures.step ending) c.go_on.ensures.looks)

@@ -5,8 +5,8 @@ use Rattle.epoch_world.specs.declared.world.step.Reply.TheVariants.{Registered}
 use Rattle.epoch_world.specs.declared.world.step.Step.TheVariants.{Register}
 use Rattle.epoch_world.specs.Run.{State}
 use Rattle.epoch_world.specs.Worlds.{state_of, ending_of}
-use Rattle.epoch_world.proofs.WorldKept.{kept_takes}
-use Rattle.epoch_world.proofs.WorldSteps.{register_takes}
+use Rattle.epoch_world.proofs.WorldKept.{kept_moves}
+use Rattle.epoch_world.proofs.WorldSteps.{register_moves}
 use Rattle.epoch_world.proofs.world.World.register.Goals as goal
 
 pub invariant_of-self : goal.invariant_of-self
@@ -19,8 +19,8 @@ invariant_of-self g c =
       epoch = c.self.invariant.epoch;
       putting = c.self.invariant.putting ∙ sym (length-set c.self.inside.seats.items c.in-Some.index _);
       taking = c.self.invariant.taking ∙ sym (length-set c.self.inside.seats.items c.in-Some.index _);
-      kept = kept_takes old _ Register (Registered c.in-Some.index) c.self.invariant.kept (length-set c.self.inside.seats.items c.in-Some.index _)
-          (register_takes old _ c.in-Some.index c.register.new.self
+      kept = kept_moves old _ Register (Registered c.in-Some.index) c.self.invariant.kept (length-set c.self.inside.seats.items c.in-Some.index _)
+          (register_moves old _ c.in-Some.index c.register.new.self
           (ap (λ (e : EndStage). ending_of e c.self.inside.hand.jobs c.self.inside.count) c.in-Open.is)
           c.in-Some.ensures.some.0 c.in-Some.ensures.some.1 c.in-Some.ensures.least c.register.ensures refl);
     }

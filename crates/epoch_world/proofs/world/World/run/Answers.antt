@@ -3,6 +3,7 @@ use Rattle.epoch_world.proofs.RunsGoOn.{runs_more, runs_whole, runs_append}
 use Rattle.epoch_world.proofs.GraceKept.{every_run_keeps_grace}
 use Rattle.epoch_world.proofs.TicketsOnce.{holds_each_once, end_calls_all}
 use Rattle.epoch_world.proofs.EventsLawful.{replies_stand}
+use Rattle.epoch_world.proofs.FullFound.{found_full}
 use Rattle.epoch_world.proofs.CallsAfterDeferrals.{calls_follow}
 use Rattle.epoch_world.proofs.world.World.run.Goals as goal
 
@@ -27,6 +28,10 @@ returns-clause-lawful g c fresh earlier new run =
     let whole = runs_append _ _ _ earlier _ run (runs_whole _ _ c.args.steps.now c.loop-step.step-index _ (omega arith) c.loop-step.invariant.run) in
     let calls = calls_follow fresh _ _ new whole in
     record { in_calls = replies_stand fresh _ _ new whole; once = calls.once; deferred = calls.deferred }
+
+pub returns-clause-full : goal.returns-clause-full
+returns-clause-full g c fresh earlier new run =
+    found_full fresh _ _ new (runs_append _ _ _ earlier _ run (runs_whole _ _ c.args.steps.now c.loop-step.step-index _ (omega arith) c.loop-step.invariant.run))
 
 pub returns-clause-all_called : goal.returns-clause-all_called
 returns-clause-all_called g c fresh earlier new run over =

@@ -1,5 +1,5 @@
 use Rattle.std.proofs.Common.{◌≡◌, ◌+◌, ◌*◌, ℕ, ap, refl, ◌∙◌, slice_index_or}
-use Rattle.epoch_world.specs.Run.{Seat, State, Open, number_of, word_of, free_seat}
+use Rattle.epoch_world.specs.Run.{Seat, State, Open, with_places, number_of, word_of, free_seat}
 use Rattle.epoch_world.specs.Seats.{shared}
 use Rattle.epoch_world.specs.Steps.{InStore, in_store}
 use Rattle.epoch_world.specs.Worlds.{state_of, is_driven}
@@ -8,14 +8,15 @@ use Rattle.epoch_world.proofs.TurnsTaken.{linked_at, driven_at, performs_less, s
 use Rattle.epoch_world.proofs.world.calls.perform.Goals as goal
 
 pub returns-clause-step : goal.returns-clause-step
-returns-clause-step g c ending =
-    let old : State = state_of c.args.sizes c.args.epoch.now c.args.seats.now.items (g.S.BagStore.queued c.args.store.now) c.args.tickets.now ending in
+returns-clause-step g c ending places seen =
+    let old : State =
+    with_places (state_of c.args.sizes c.args.epoch.now c.args.seats.now.items (g.S.BagStore.queued c.args.store.now) c.args.tickets.now ending) places seen in
     let seat : Seat = c.index_mut-seat.result.now in
     performed old old _ c.args.index c.number_at-word.result seat c.perform.new.self c.perform.result c.args.ask
     (shared c.perform.new.epoch (g.S.BagStore.queued c.perform.new.store) c.perform.new.tickets) refl
-    (linked_at c.args.sizes c.args.epoch.now c.args.tickets.now c.args.seats.now.items (g.S.BagStore.queued c.args.store.now) Open ending c.requires.kept.linked)
+    (linked_at c.args.sizes c.args.epoch.now c.args.tickets.now c.args.seats.now.items (g.S.BagStore.queued c.args.store.now) Open ending places seen c.requires.kept.linked)
     (found_there c.args.seats.now.items c.args.sizes c.args.index seat c.requires.there c.index_mut-seat.ensures.value)
-    (driven_at c.args.sizes c.args.epoch.now c.args.tickets.now c.args.index c.args.seats.now.items (g.S.BagStore.queued c.args.store.now) Open ending c.args.ask c.requires.driven)
+    (driven_at c.args.sizes c.args.epoch.now c.args.tickets.now c.args.index c.args.seats.now.items (g.S.BagStore.queued c.args.store.now) Open ending places seen c.args.ask c.requires.driven)
     (λ k asked. c.number_at-word.ensures c.args.sizes ∙ ap (λ (j : ℕ). number_of (word_of old j)) (c.scanned.ensures k asked))
     c.perform.ensures.step refl
 
