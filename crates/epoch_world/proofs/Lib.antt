@@ -47,3 +47,4 @@ pub mod AcceptedCalls
 pub mod RunsGoOn
 pub mod CallsGoOn
 pub mod WorldSteps
+pub mod ExpiredBags

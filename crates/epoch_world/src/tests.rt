@@ -1,0 +1,5 @@
+//! Worlds over three stores of bags: what their steps tell, whole calls beside steps, and memory that is refused.
+
+mod deeds;
+mod reverse;
+mod rows;
