@@ -1,5 +1,6 @@
 //! Worlds over three stores of bags: what their steps tell, whole calls beside steps, and memory that is refused.
 
+mod calls;
 mod deeds;
 mod reverse;
 mod rows;
