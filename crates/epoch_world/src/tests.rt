@@ -2,5 +2,6 @@
 
 mod calls;
 mod deeds;
+mod memory;
 mod reverse;
 mod rows;
