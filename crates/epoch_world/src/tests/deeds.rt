@@ -11,7 +11,15 @@ const MANY: u64 = 30_000;
 
 const UNPIN: Call = Call::Unpin(Some(0));
 
+const PAUSE: Call = Call::Pause(Some(0));
+
+const RESUME: Call = Call::Resume(Some(0));
+
+const DEFER: Call = Call::Defer(Some(0));
+
 const FLUSH: Call = Call::Flush(Some(0));
+
+const UNIT: Reply = Reply::Done(Answer::Unit);
 
 /// Something that is done, and what is told of it. Of what is gone through up to its end, `Began` and `Stepped` are
 /// left out. Where no guard is named it is the first one, number 0. Tickets go from the first to before the second.
@@ -90,72 +98,38 @@ fn done<S: BagStore<Job = Deferral>>(
         Deed::Takes(step, _) => return Ok(world.run(&[step])?),
         Deed::Calls(participant, call, _) => call_by_steps(world, participant, call, &mut replies)?,
         Deed::Goes(participant, _) => {
-            go_to_end(
-                world,
-                Step::Go(participant),
-                Step::Go(participant),
-                &mut replies,
-            )?;
+            let go = Step::Go(participant);
+            go_to_end(world, go, go, &mut replies)?;
         }
-        Deed::Pins(participant) => repeat(world, participant, &[Call::Pin], 1, &mut replies)?,
-        Deed::Unpins(participant) => repeat(world, participant, &[UNPIN], 1, &mut replies)?,
-        Deed::Guards(participant, first, end) => {
-            repeat(
-                world,
-                participant,
-                &[Call::Pin],
-                end.saturating_sub(first),
-                &mut replies,
-            )?;
-        }
-        Deed::Cycles(participant, times) => {
-            repeat(world, participant, &[Call::Pin, UNPIN], times, &mut replies)?;
-        }
-        Deed::Rounds(participant, times) => {
-            repeat(
-                world,
-                participant,
-                &[Call::Pin, FLUSH, UNPIN],
-                times,
-                &mut replies,
-            )?;
-        }
-        Deed::Pauses(participant, times) => {
-            let calls = [Call::Pause(Some(0)), Call::Resume(Some(0))];
-            repeat(world, participant, &calls, times, &mut replies)?;
-        }
-        Deed::Defers(participant, first, end) => {
-            let calls = [Call::Defer(Some(0))];
-            repeat(
-                world,
-                participant,
-                &calls,
-                end.saturating_sub(first),
-                &mut replies,
-            )?;
-        }
-        Deed::Flushes(participant, _, _) => repeat(world, participant, &[FLUSH], 1, &mut replies)?,
         Deed::Ends(_, _) => go_to_end(world, Step::End, Step::EndGo, &mut replies)?,
-        Deed::Epoch(_) | Deed::Word(_, _) => {}
+        deed => {
+            let (participant, calls, times) = calls_of(deed);
+            for _ in 0..times {
+                for call in calls {
+                    call_by_steps(world, participant, *call, &mut replies)?;
+                }
+            }
+        }
     }
     replies.retain(|reply| !matches!(reply, Reply::Began | Reply::Stepped));
     Ok(replies)
 }
 
-/// Goes through these calls of a participant, one after the other, so many times.
-fn repeat<S: BagStore<Job = Deferral>>(
-    world: &mut World<S>,
-    participant: u64,
-    calls: &[Call],
-    times: u64,
-    replies: &mut Vec<Reply>,
-) -> Result<(), Fail> {
-    for _ in 0..times {
-        for call in calls {
-            call_by_steps(world, participant, *call, replies)?;
+/// Whose calls these are, which ones, and how many times they are made, one after the other.
+fn calls_of(deed: Deed) -> (u64, &'static [Call], u64) {
+    match deed {
+        Deed::Pins(participant) => (participant, &[Call::Pin], 1),
+        Deed::Unpins(participant) => (participant, &[UNPIN], 1),
+        Deed::Guards(participant, first, end) => {
+            (participant, &[Call::Pin], end.saturating_sub(first))
         }
+        Deed::Cycles(participant, times) => (participant, &[Call::Pin, UNPIN], times),
+        Deed::Rounds(participant, times) => (participant, &[Call::Pin, FLUSH, UNPIN], times),
+        Deed::Pauses(participant, times) => (participant, &[PAUSE, RESUME], times),
+        Deed::Defers(participant, first, end) => (participant, &[DEFER], end.saturating_sub(first)),
+        Deed::Flushes(participant, _, _) => (participant, &[FLUSH], 1),
+        _ => (0, &[], 0),
     }
-    Ok(())
 }
 
 /// Begins a participant's call, goes on with it up to its end, and puts all replies behind those that are there.
@@ -199,41 +173,18 @@ fn expected(alloc: Global, deed: Deed) -> Result<Vec<Reply>, Fail> {
     match deed {
         Deed::Takes(_, reply) => replies.push(reply)?,
         Deed::Calls(_, _, told) | Deed::Goes(_, told) => replies.extend_from_slice(told)?,
-        Deed::Pins(participant) => replies.extend_from_slice(&pinned(participant))?,
-        Deed::Unpins(participant) => replies.extend_from_slice(&unpinned(participant))?,
         Deed::Guards(_, first, end) => {
             for guard in first..end {
                 replies.push(Reply::Done(Answer::Guard(guard)))?;
             }
         }
-        Deed::Cycles(participant, times) => {
-            for _ in 0..times {
-                replies.extend_from_slice(&pinned(participant))?;
-                replies.extend_from_slice(&unpinned(participant))?;
-            }
-        }
-        Deed::Rounds(participant, times) => {
-            for _ in 0..times {
-                replies.extend_from_slice(&pinned(participant))?;
-                replies.push(Reply::Done(Answer::Unit))?;
-                replies.extend_from_slice(&unpinned(participant))?;
-            }
-        }
-        Deed::Pauses(participant, times) => {
-            for _ in 0..times {
-                replies.extend_from_slice(&unpinned(participant))?;
-                replies.push(Reply::Pinned(participant))?;
-                replies.push(Reply::Done(Answer::Unit))?;
-            }
-        }
         Deed::Defers(_, first, end) => {
             for ticket in first..end {
-                replies.push(Reply::Deferred(ticket))?;
-                replies.push(Reply::Done(Answer::Unit))?;
+                replies.extend_from_slice(&[Reply::Deferred(ticket), UNIT])?;
             }
         }
-        Deed::Flushes(_, called, answer) => {
-            for (first, end) in called {
+        Deed::Flushes(_, tickets, answer) => {
+            for (first, end) in tickets {
                 add_called(&mut replies, *first, *end)?;
             }
             replies.push(answer)?;
@@ -242,17 +193,14 @@ fn expected(alloc: Global, deed: Deed) -> Result<Vec<Reply>, Fail> {
             add_called(&mut replies, first, end)?;
             replies.push(Reply::Done(Answer::Count(end.saturating_sub(first))))?;
         }
-        Deed::Epoch(_) | Deed::Word(_, _) => {}
+        deed => {
+            let (_, _, times) = calls_of(deed);
+            for _ in 0..times {
+                add_once(&mut replies, deed)?;
+            }
+        }
     }
     Ok(replies)
-}
-
-fn pinned(participant: u64) -> [Reply; 2] {
-    [Reply::Pinned(participant), Reply::Done(Answer::Guard(0))]
-}
-
-fn unpinned(participant: u64) -> [Reply; 2] {
-    [Reply::Unpinned(participant), Reply::Done(Answer::Unit)]
 }
 
 fn add_called(replies: &mut Vec<Reply>, first: u64, end: u64) -> Result<(), Fail> {
@@ -260,4 +208,35 @@ fn add_called(replies: &mut Vec<Reply>, first: u64, end: u64) -> Result<(), Fail
         replies.push(Reply::Called(ticket, Called::Ran))?;
     }
     Ok(())
+}
+
+/// What is told each time by pins and unpins that are made many times.
+fn add_once(replies: &mut Vec<Reply>, deed: Deed) -> Result<(), Fail> {
+    match deed {
+        Deed::Pins(participant) => replies.extend_from_slice(&pinned(participant))?,
+        Deed::Unpins(participant) => replies.extend_from_slice(&unpinned(participant))?,
+        Deed::Cycles(participant, _) => {
+            replies.extend_from_slice(&pinned(participant))?;
+            replies.extend_from_slice(&unpinned(participant))?;
+        }
+        Deed::Rounds(participant, _) => {
+            replies.extend_from_slice(&pinned(participant))?;
+            replies.push(UNIT)?;
+            replies.extend_from_slice(&unpinned(participant))?;
+        }
+        Deed::Pauses(participant, _) => {
+            replies.extend_from_slice(&unpinned(participant))?;
+            replies.extend_from_slice(&[Reply::Pinned(participant), UNIT])?;
+        }
+        _ => {}
+    }
+    Ok(())
+}
+
+fn pinned(participant: u64) -> [Reply; 2] {
+    [Reply::Pinned(participant), Reply::Done(Answer::Guard(0))]
+}
+
+fn unpinned(participant: u64) -> [Reply; 2] {
+    [Reply::Unpinned(participant), UNIT]
 }
