@@ -52,3 +52,4 @@ pub mod AcceptedCalls
 pub mod RunsGoOn
 pub mod CallsGoOn
 pub mod WorldSteps
+pub mod ExpiredBags

@@ -193,6 +193,65 @@ const PINS: &[Row] = &[
             (0, 1, "refused 10 TooManyGuards"),
         ],
     ),
+    (
+        "the words of a participant pinned in epoch 5, and of none",
+        &[(
+            0,
+            1,
+            "shape 1 0 0 0 1 1 5 0;register;call 0 pin;epoch;word 0;word 1",
+        )],
+        &[(
+            0,
+            1,
+            "registered 0;pinned 0;guard 0;epoch 6;word 11;word none",
+        )],
+    ),
+    (
+        "a participant that stalls before it publishes holds nobody back",
+        &[
+            (
+                0,
+                1,
+                "shape 2 0 0 0 4 1 0 0;register;register;begin 0 pin;go 0;call 1 pin;call 1 defer 0;\
+                 call 1 flush 0;call 1 unpin 0;call 1 pin;call 1 flush 0;call 1 unpin 0;call 1 pin;\
+                 call 1 flush 0;epoch;call 1 unpin 0",
+            ),
+            (0, 8, "call 1 pin;call 1 flush 0;call 1 unpin 0"),
+            (0, 1, "go 0;word 0"),
+        ],
+        &[
+            (
+                0,
+                1,
+                "registered 0;registered 1;began;stepped;pinned 1;guard 0;deferred 0;done;done;unpinned 1;\
+                 done;pinned 1;guard 0;done;unpinned 1;done;pinned 1;guard 0;called 0 ran;done;epoch 3;\
+                 unpinned 1;done",
+            ),
+            (0, 8, "pinned 1;guard 0;done;unpinned 1;done"),
+            (0, 1, "pinned 0;word 1"),
+        ],
+    ),
+    (
+        "a participant that stalls behind its publish holds the epoch and the job back",
+        &[
+            (
+                0,
+                1,
+                "shape 2 0 0 0 4 1 0 0;register;register;begin 0 pin;go 0 2;call 1 pin;call 1 defer 0;\
+                 call 1 flush 0;call 1 unpin 0;epoch",
+            ),
+            (0, 10, "call 1 pin;call 1 flush 0;call 1 unpin 0;epoch"),
+        ],
+        &[
+            (
+                0,
+                1,
+                "registered 0;registered 1;began;stepped;pinned 0;pinned 1;guard 0;deferred 0;done;done;\
+                 unpinned 1;done;epoch 1",
+            ),
+            (0, 10, "pinned 1;guard 0;done;unpinned 1;done;epoch 1"),
+        ],
+    ),
 ];
 
 /// What paused and unprotected guards do.
@@ -507,6 +566,60 @@ const BAGS: &[Row] = &[
             1,
             "registered 0;pinned 0;guard 0;deferred 0;done;deferred 1;done;refused 3 BagsFull",
         )],
+    ),
+    (
+        "the 65th deferral puts the bag of 64 jobs, and holds one job",
+        &[
+            (0, 1, "shape 1 0 0 0 2 1 0 0;register;call 0 pin"),
+            (0, 64, "call 0 defer 0"),
+            (0, 1, "begin 0 defer 0;go 0 6"),
+        ],
+        &[
+            (0, 1, "registered 0;pinned 0;guard 0"),
+            (0, 64, "deferred #;done"),
+            (
+                0,
+                1,
+                "began;stepped;stepped;stepped;stepped;deferred 64;done",
+            ),
+        ],
+    ),
+    (
+        "a bag sealed two epochs before the greatest is called in the greatest",
+        &[(
+            0,
+            1,
+            "shape 1 0 0 0 4 1 9223372036854775804 0;register;call 0 pin;call 0 defer 0;call 0 flush 0;\
+                 call 0 unpin 0;call 0 pin;call 0 flush 0;call 0 unpin 0;call 0 pin;call 0 flush 0;epoch",
+        )],
+        &[(
+            0,
+            1,
+            "registered 0;pinned 0;guard 0;deferred 0;done;done;unpinned 0;done;pinned 0;guard 0;done;\
+             unpinned 0;done;pinned 0;guard 0;called 0 ran;done;epoch 9223372036854775807",
+        )],
+    ),
+    (
+        "a bag sealed one epoch before the greatest waits for the end",
+        &[
+            (
+                0,
+                1,
+                "shape 1 0 0 0 4 1 9223372036854775805 0;register;call 0 pin;call 0 defer 0;call 0 flush 0;\
+                 call 0 unpin 0",
+            ),
+            (0, 22, "call 0 pin;call 0 flush 0;call 0 unpin 0"),
+            (0, 1, "call 0 release;endall"),
+        ],
+        &[
+            (
+                0,
+                1,
+                "registered 0;pinned 0;guard 0;deferred 0;done;done;unpinned 0;done",
+            ),
+            (0, 22, "pinned 0;guard 0;done;unpinned 0;done"),
+            (0, 1, "pinned 0;unpinned 0;released;called 0 ran;ended 1"),
+        ],
     ),
 ];
 

@@ -3,7 +3,7 @@ ghost use Rattle.std.specs.Prelude.{◌<◌};
 
 use crate::engine::{Ending, run};
 use crate::tests::scripts::{expect_printed, lines_of, outcome_of};
-use std::alloc::Global;
+use std::alloc::{AllocError, Global};
 use std::io;
 use std::io::{BufReader, ErrorKind, Read, Write};
 use std::test::Fail;
@@ -400,18 +400,36 @@ fn thrown_line(dice: &mut Dice) -> (u64, &'static str)
     (dice.throw(3), line)
 }
 
+/// A script of up to 60 lines of the grammar behind its shape and two registrations.
+fn thrown_script(alloc: Global, dice: &mut Dice) -> Result<String, AllocError> {
+    let start = dice.throw(3);
+    let shape = (start, start + 1, "shape 2 0 0 0 2 1 # 0 3 2");
+    let mut lines = lines_of(alloc, &[shape, (0, 2, "register")])?;
+    for _ in 0..dice.throw(60) {
+        let (number, line) = thrown_line(dice);
+        lines.push_str(&lines_of(alloc, &[(number, number + 1, line)])?)?;
+    }
+    Ok(lines)
+}
+
+/// What may take the place of a byte of a script: what other lines are made of, and what no line has.
+const STRAY: [u8; 16] = *b"0123456789 -\nx\r\xff";
+
+/// Puts up to two stray bytes in the place of others.
+fn spoil(dice: &mut Dice, script: &mut Vec<u8>) {
+    for _ in 0..dice.throw(3) {
+        let stray = STRAY[dice.throw(16) as usize];
+        if let Some(byte) = script.get_mut(dice.throw(400) as usize) {
+            *byte = stray;
+        }
+    }
+}
+
 #[test]
 fn scripts_of_random_lines_are_done_to_their_end(rt: HostRuntime) -> Result<(), Fail> {
     let mut dice = Dice(20_250_911);
-    for script in 0..300 {
-        let start = dice.throw(3);
-        let shape = (start, start + 1, "shape 2 0 0 0 2 1 # 0 3 2");
-        let mut lines = lines_of(rt.alloc(), &[shape, (0, 2, "register")])?;
-        for _ in 0..dice.throw(60) {
-            let (number, line) = thrown_line(&mut dice);
-            let line = lines_of(rt.alloc(), &[(number, number + 1, line)])?;
-            lines.push_str(&line)?;
-        }
+    for script in 0..10_000 {
+        let lines = thrown_script(rt.alloc(), &mut dice)?;
         let outcome = outcome_of(rt.alloc(), lines.as_bytes());
         assert_eq!(rt;
             outcome.ending,
@@ -419,5 +437,36 @@ fn scripts_of_random_lines_are_done_to_their_end(rt: HostRuntime) -> Result<(), 
             "script {script}: {lines}"
         );
     }
+    Ok(())
+}
+
+#[test]
+fn scripts_with_stray_bytes_are_done_to_their_end_or_to_a_bad_line(
+    rt: HostRuntime,
+) -> Result<(), Fail> {
+    let mut dice = Dice(20_250_912);
+    let (mut finished, mut stopped) = (0u64, 0u64);
+    for script in 0..10_000 {
+        let mut lines = thrown_script(rt.alloc(), &mut dice)?.into_bytes();
+        spoil(&mut dice, &mut lines);
+        let outcome = outcome_of(rt.alloc(), &lines);
+        match outcome.ending {
+            Ending::Finished => {
+                finished = finished.saturating_add(1);
+                assert!(rt; outcome.faults.is_empty(), "script {script}");
+            }
+            Ending::NotAShape(_) | Ending::NotAStep(_) => {
+                stopped = stopped.saturating_add(1);
+                assert_eq!(rt; outcome.ending.status(), 2, "script {script}");
+                assert!(rt; outcome.faults.starts_with(b"line "), "script {script}");
+            }
+            ending => panic!(rt; "script {script} ends with {ending:?}"),
+        }
+    }
+    // About a third of the scripts is left as it was.
+    assert!(rt;
+        finished > 1_000 && stopped > 1_000,
+        "{finished} and {stopped}"
+    );
     Ok(())
 }

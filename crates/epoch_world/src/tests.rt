@@ -1,0 +1,7 @@
+//! Worlds over three stores of bags: what their steps tell, whole calls beside steps, and memory that is refused.
+
+mod calls;
+mod deeds;
+mod memory;
+mod reverse;
+mod rows;
