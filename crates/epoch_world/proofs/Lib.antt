@@ -5,6 +5,8 @@ pub mod CallsLinked
 pub mod Linked
 pub mod DeferralEpochs
 pub mod Log
+pub mod PlacesRead
+pub mod CallsChecked
 pub mod QuietReplies
 pub mod SeatsFine
 pub mod LogKept
