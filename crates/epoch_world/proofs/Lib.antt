@@ -6,6 +6,9 @@ pub mod Linked
 pub mod DeferralEpochs
 pub mod Log
 pub mod PlacesRead
+pub mod ToldGrows
+pub mod RepliesRead
+pub mod GuardsCounted
 pub mod CallsChecked
 pub mod QuietReplies
 pub mod SeatsFine

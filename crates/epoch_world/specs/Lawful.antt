@@ -73,6 +73,14 @@ told_after p t (Begin q c) reply = if q == p then after_begin t c reply else t
 told_after p t (Go q) reply = if q == p then after_go t reply else t
 told_after p t _ reply = t
 
+-- what is told of p after a whole log
+abbrev pub told_from : ℕ → Told → List Entry → Told
+told_from p t [] = t
+told_from p t (entry ∷ log) = told_from p (told_after p t entry.step entry.reply) log
+
+abbrev pub told_of : ℕ → List Entry → Told
+told_of p log = told_from p nothing log
+
 -- IN WHICH CALLS AN EVENT MAY STAND, BY THE GUARDS COUNTED
 
 -- the first guard is pinned, or the position is given up

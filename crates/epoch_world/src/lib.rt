@@ -5,7 +5,7 @@ mod history;
 mod laws;
 mod world;
 
-pub use history::{calls_none_twice, keeps_grace};
+pub use history::{Event, calls_none_twice, is_lawful, keeps_grace};
 pub use laws::{
     every_end_calls_all, every_run_holds_each_ticket_once, every_run_is_lawful,
     every_run_keeps_grace,

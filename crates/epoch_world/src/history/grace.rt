@@ -6,8 +6,8 @@ use crate::world::{Entry, Reply};
 
 /// Whether no job is called while a participant that was pinned when it was deferred has stayed pinned.
 ///
-/// It takes no memory. Its time grows with the third power of the number of entries at worst, where each ticket is
-/// deferred once.
+/// It takes no memory. Its time grows with the third power of the number of entries where each ticket is deferred
+/// once, and with the fourth at worst.
 pub fn keeps_grace(entries: &[Entry]) -> bool
     ensures { IsTrue result ↔ KeepsGrace entries.now }
 {
