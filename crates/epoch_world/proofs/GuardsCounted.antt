@@ -1,7 +1,10 @@
 -- How often a guard is in a list of guards, and how many there are, after one is added or taken.
-use Rattle.std.proofs.Common.{◌≡◌, ◌≢◌, ◌⊎◌, ℕ, ◌+◌, ◌-◌, ◌≤◌, ◌==◌, Bool, true, false, List, [], ◌∷◌, ◌++◌, length, count_by, ap, ◌∙◌, arith, if◌then◌else◌, nat_lt}
+use Rattle.std.proofs.Common.{◌≡◌, ◌≢◌, ◌⊎◌, ℕ, ◌+◌, ◌-◌, ◌≤◌, ◌==◌, Bool, true, false, List, [], ◌∷◌, length, count_by, ap, ◌∙◌, arith, if◌then◌else◌, nat_lt}
 use Rattle.std.proofs.lemmas.Bool.Decides.{nat_tests}
-use Rattle.std.proofs.lemmas.List.Sums.{sum_by-cons, sum_by-append, count_by-le-length}
+use Rattle.std.proofs.lemmas.List.Sums.{sum_by-cons, count_by-le-length}
+use Rattle.epoch_world.specs.declared.history.known.Change.{Change}
+use Rattle.epoch_world.specs.declared.history.known.Change.TheVariants.{Takes}
+use Rattle.epoch_world.specs.Known.{changed}
 use Rattle.epoch_world.specs.Run.{without}
 
 abbrev pub times_in : ℕ → List ℕ → ℕ
@@ -11,16 +14,11 @@ times_cons : (g h : ℕ) (guards : List ℕ)
     → times_in g (h ∷ guards) ≡ (if h == g then 1 else 0) + times_in g guards
 times_cons g h guards = sum_by-cons (λ (other : ℕ). if other == g then 1 else 0) h guards
 
--- as many as there are guards
+-- no more than there are guards
 few : (g : ℕ) (guards : List ℕ) → times_in g guards ≤ length guards
 few g guards = count_by-le-length (λ (other : ℕ). other == g) guards
 
-pub times_with : (g h : ℕ) (guards : List ℕ)
-    → times_in g (guards ++ h ∷ []) ≡ times_in g guards + (if h == g then 1 else 0)
-times_with g h guards =
-    sum_by-append (λ (other : ℕ). if other == g then 1 else 0) guards (h ∷ []) ∙ omega arith
-
-pub times_without : (g h : ℕ) (guards : List ℕ)
+times_without : (g h : ℕ) (guards : List ℕ)
     → times_in g (without h guards) ≡ (if h == g then times_in g guards - 1 else times_in g guards)
 times_without g h [] = grind (arith, nat_tests)
 times_without g h (x ∷ guards) = at_first (times_without g h guards) (x == h) (grind (arith, nat_tests))
@@ -31,6 +29,11 @@ times_without g h (x ∷ guards) = at_first (times_without g h guards) (x == h) 
         ≡ (if h == g then times_in g (x ∷ guards) - 1 else times_in g (x ∷ guards))
     at_first rest true tells = grind (arith, nat_tests, times_cons g x guards)
     at_first rest false tells = grind (arith, nat_tests, times_cons g x guards, times_cons g x (without h guards))
+
+pub times_taken : (g h : ℕ) (change : Change) (guards : List ℕ) → change ≡ Takes h
+    → times_in g (changed change guards) ≡ (if h == g then times_in g guards - 1 else times_in g guards)
+times_taken g h change guards is =
+    ap (λ (made : Change). times_in g (changed made guards)) is ∙ times_without g h guards
 
 -- a guard that is among them leaves one fewer
 pub length_without : (h : ℕ) (guards : List ℕ)

@@ -8,6 +8,8 @@ mod grace;
 mod guards;
 mod known;
 mod lawful;
+#[cfg(test)]
+mod tests;
 mod tickets;
 
 pub use events::Event;

@@ -1,5 +1,5 @@
 //! Whether a job is called while a participant that was pinned at its deferral has stayed pinned.
-ghost use Rattle.std.specs.Prelude.{◌≡◌, ◌↔◌, ℕ, ◌<◌, ◌≤◌, IsTrue, length};
+ghost use Rattle.std.specs.Prelude.{◌↔◌, ℕ, ◌<◌, ◌≤◌, IsTrue, length};
 ghost use Rattle.epoch_world.specs.Grace.{Withdraws, StaysPinned, IsBlocked, KeepsGrace};
 
 use crate::world::{Entry, Reply};

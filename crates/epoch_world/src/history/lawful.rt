@@ -1,5 +1,5 @@
 //! Whether each event of a history stands only where it may.
-ghost use Rattle.std.specs.Prelude.{◌≡◌, ◌↔◌, ℕ, List, Option, IsTrue, true, false};
+ghost use Rattle.std.specs.Prelude.{◌≡◌, ◌↔◌, IsTrue};
 ghost use Rattle.epoch_world.specs.Lawful.{IsLawful, nothing, told_of, MayPin, MayUnpin, MayRepin, MayDefer, MayCall, MayCallNow, Told, HasTold, HasToldRefused, MayTell, MayRegister, MayBegin, MayEndGo, MayReply, MayReplyAll};
 ghost use Rattle.epoch_world.specs.Known.{known_of};
 

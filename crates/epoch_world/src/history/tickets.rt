@@ -1,13 +1,10 @@
 //! How often each ticket is called, and whether it was deferred before.
-ghost use Rattle.std.specs.Prelude.{◌≡◌, ◌↔◌, ℕ, ◌<◌, IsTrue};
-ghost use Rattle.epoch_base.specs.declared.job.Called.{Called};
-ghost use Rattle.epoch_world.specs.declared.world.step.Reply.TheVariants.{Called as CalledReply};
-ghost use Rattle.epoch_world.specs.Grace.{Stands};
+ghost use Rattle.std.specs.Prelude.{◌↔◌, IsTrue};
 ghost use Rattle.epoch_world.specs.Lawful.{CallsNoneTwice, IsCalledBefore, CallsAfterDeferrals, IsDeferredBefore};
 
 use crate::world::{Entry, Reply};
 
-/// Whether no ticket is called twice.
+/// Whether no ticket is called twice. It takes no memory. Its time grows with the square of the number of entries.
 pub fn calls_none_twice(entries: &[Entry]) -> bool
     ensures { IsTrue result ↔ CallsNoneTwice entries.now }
 {
