@@ -5,6 +5,11 @@ pub mod CallsLinked
 pub mod Linked
 pub mod DeferralEpochs
 pub mod Log
+pub mod PlacesRead
+pub mod ToldGrows
+pub mod RepliesRead
+pub mod GuardsCounted
+pub mod CallsChecked
 pub mod QuietReplies
 pub mod SeatsFine
 pub mod LogKept

@@ -73,6 +73,14 @@ told_after p t (Begin q c) reply = if q == p then after_begin t c reply else t
 told_after p t (Go q) reply = if q == p then after_go t reply else t
 told_after p t _ reply = t
 
+-- what is told of p after a whole log
+abbrev pub told_from : ℕ → Told → List Entry → Told
+told_from p t [] = t
+told_from p t (entry ∷ log) = told_from p (told_after p t entry.step entry.reply) log
+
+abbrev pub told_of : ℕ → List Entry → Told
+told_of p log = told_from p nothing log
+
 -- IN WHICH CALLS AN EVENT MAY STAND, BY THE GUARDS COUNTED
 
 -- the first guard is pinned, or the position is given up
@@ -176,10 +184,25 @@ MayReplyAll told [] = Unit {0}
 MayReplyAll told (entry ∷ log) =
     MayReply told entry.step entry.reply × MayReplyAll (λ p. told_after p (told p) entry.step entry.reply) log
 
+-- no ticket is called twice
+abbrev pub CallsNoneTwice : List Entry → Type 0
+CallsNoneTwice log = (t i j : ℕ) (how again : Called) → Stands log i (CalledReply t how)
+    → Stands log j (CalledReply t again) → i ≡ j
+
+-- t was called before place j
+abbrev pub IsCalledBefore : List Entry → ℕ → ℕ → Type 0
+IsCalledBefore log t j = (i : ℕ) × (how : Called) × (i < j) × Stands log i (CalledReply t how)
+
+-- t was deferred before place j
+abbrev pub IsDeferredBefore : List Entry → ℕ → ℕ → Type 0
+IsDeferredBefore log t j = (i : ℕ) × (i < j) × Stands log i (Deferred t)
+
+-- no ticket is called that wasn't deferred before
+abbrev pub CallsAfterDeferrals : List Entry → Type 0
+CallsAfterDeferrals log = (t j : ℕ) (how : Called) → Stands log j (CalledReply t how) → IsDeferredBefore log t j
+
 -- Each event stands only in its calls, and as often as it should; a job is called at most once, after it was deferred.
 pub record IsLawful (log : List Entry) : Type 0 where
   pub in_calls : MayReplyAll (λ p. nothing) log
-  pub once : (t i j : ℕ) (how again : Called) → Stands log i (CalledReply t how) → Stands log j (CalledReply t again)
-      → i ≡ j
-  pub deferred : (t j : ℕ) (how : Called) → Stands log j (CalledReply t how)
-      → (i : ℕ) × (i < j) × Stands log i (Deferred t)
+  pub once : CallsNoneTwice log
+  pub deferred : CallsAfterDeferrals log

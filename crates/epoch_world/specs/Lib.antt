@@ -4,6 +4,8 @@ pub mod Seats
 pub mod Grace
 pub mod Tickets
 pub mod Lawful
+pub mod Known
+pub mod Events
 pub mod Shapes
 pub mod Worlds
 pub mod Kept

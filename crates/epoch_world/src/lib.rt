@@ -1,11 +1,13 @@
 //! The world: all participants over lists of steps, one atomic step at a time, and the laws of every run.
 #![tactic(auto)]
 
+mod history;
 mod laws;
 #[cfg(test)]
 mod tests;
 mod world;
 
+pub use history::{Event, calls_none_twice, is_lawful, keeps_grace};
 pub use laws::{
     every_end_calls_all, every_full_reply_found_each_place, every_run_holds_each_ticket_once,
     every_run_is_lawful, every_run_keeps_grace,

@@ -1,0 +1,9 @@
+use Rattle.std.proofs.Common.{ℕ, ◌<◌}
+use Rattle.epoch_base.specs.declared.job.Called.{Called}
+use Rattle.epoch_world.specs.declared.world.step.Reply.TheVariants.{Called as CalledReply}
+use Rattle.epoch_world.specs.Grace.{Stands}
+use Rattle.epoch_world.proofs.history.tickets.is_called_before.Given as goal
+
+-- no entry so far is such a call
+abbrev pub invariant-loop-other : goal.invariant-loop-other
+invariant-loop-other l = (k : ℕ) (how : Called) → k < l.other → k < l.place → ¬ (Stands l.entries k (CalledReply l.ticket how))
