@@ -6,5 +6,5 @@ use Rattle.epoch_world.proofs.history.grace.keeps_grace.Given as goal
 
 -- no call so far is of a blocked job
 abbrev pub invariant-loop-place : goal.invariant-loop-place
-invariant-loop-place l = (j : ℕ) → j + 1 < l.place → (t : ℕ) (how : Called) → Stands l.entries (j + 1) (CalledReply t how)
-    → ¬ (IsBlocked l.entries t j)
+invariant-loop-place l = (j : ℕ) → j + 1 < l.place → (t : ℕ) (how : Called)
+    → Stands l.entries (j + 1) (CalledReply t how) → ¬ (IsBlocked l.entries t j)

@@ -7,6 +7,7 @@ use Rattle.epoch_world.proofs.history.guards.times_out.Given as goal
 abbrev pub invariant-loop-entry : goal.invariant-loop-entry
 invariant-loop-entry l = record {
   known : l.known ≡ known_of (told_of l.participant (take l.entry-index l.entries));
-  counted : l.times ≡ count_by (λ other. other == l.guard) (told_of l.participant (take l.entry-index l.entries)).guards;
+  counted : l.times
+      ≡ count_by (λ other. other == l.guard) (told_of l.participant (take l.entry-index l.entries)).guards;
   few : l.times ≤ l.entry-index;
 }

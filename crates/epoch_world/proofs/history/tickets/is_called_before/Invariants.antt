@@ -6,4 +6,5 @@ use Rattle.epoch_world.proofs.history.tickets.is_called_before.Given as goal
 
 -- no entry so far is such a call
 abbrev pub invariant-loop-other : goal.invariant-loop-other
-invariant-loop-other l = (k : ℕ) (how : Called) → k < l.other → k < l.place → ¬ (Stands l.entries k (CalledReply l.ticket how))
+invariant-loop-other l = (k : ℕ) (how : Called) → k < l.other → k < l.place
+    → ¬ (Stands l.entries k (CalledReply l.ticket how))

@@ -6,6 +6,8 @@ use Rattle.epoch_world.proofs.history.known.Known.of.Goals as goal
 
 pub loop-entry-preserved : goal.loop-entry-preserved
 loop-entry-preserved c =
-    let before : Told = told_of c.args.participant (take c.loop-entry.entry-index c.args.entries.now) in
-    c.after-known.ensures before c.loop-entry.invariant
-    ∙ ap known_of (sym (told_more c.args.participant c.args.entries.now c.loop-entry.entry-index _ c.loop-entry-test.true))
+    let log = c.args.entries.now in
+    let place = c.loop-entry.entry-index in
+    let before : Told = told_of c.args.participant (take place log) in
+    let more = sym (told_more c.args.participant log place _ c.loop-entry-test.true) in
+    c.after-known.ensures before c.loop-entry.invariant ∙ ap known_of more
