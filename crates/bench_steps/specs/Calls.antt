@@ -17,8 +17,10 @@ Scans positions epoch words answer = ((length words ≡ positions) × All (LetsP
     ⊎ ((passed : List ℕ) × (word : ℕ) × (words ≡ passed ++ word ∷ []) × (length passed < positions)
     × All (LetsPass epoch) passed × (¬ LetsPass epoch word) × (answer ≡ epoch))
 
--- It loaded an epoch no lower than any that it had seen, scanned for it, and stays pinned as it was.
+-- It loaded an epoch no lower than any that it had seen, scanned for it, and stays pinned as it was. What it answers
+-- is the epoch that it loaded or stored last.
 abbrev pub TriesToAdvance : ℕ → ParticipantView → ℕ → ParticipantView → Type 0
 TriesToAdvance positions before answer after = ((epoch : ℕ) × (words : List ℕ) × (before.seen ≤ epoch)
     × (after.found ≡ before.found ++ 2 * epoch ∷ words) × Scans positions epoch words answer)
     × (after.position ≡ before.position) × (after.published ≡ before.published) × (after.first_read ≡ before.first_read)
+    × (after.seen ≡ answer)
