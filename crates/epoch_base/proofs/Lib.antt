@@ -12,4 +12,5 @@ pub mod Registering
 pub mod PlaceLooks
 pub mod PlaceClaims
 pub mod PlaceStores
+pub mod PlaceTries
 pub mod PlainCellLists

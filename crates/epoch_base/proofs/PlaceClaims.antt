@@ -14,20 +14,20 @@ use Rattle.epoch_base.proofs.Views.{each_view, is_seat, one_view}
 use Rattle.epoch_base.proofs.PlaceLooks.{look_keeps}
 
 module _ {J : Type 0} (places : ℕ) where
-  abbrev Rule : State (Option (Sealed J)) PlaceView → Type 0
+  abbrev Rule : State (Option (Sealed J)) (PlaceView J) → Type 0
   Rule = PlacesAgree places
 
-  won_keeps : (s : State (Option (Sealed J)) PlaceView) (r : Rule s) (id k : ℕ) (v : PlaceView) (found : List ℕ) → k < places
+  won_keeps : (s : State (Option (Sealed J)) (PlaceView J)) (r : Rule s) (id k : ℕ) (v : PlaceView J) (found : List ℕ) (left : List (Option (Sealed J))) → k < places
       → Sees s id v → v.claimed ≡ None → get_or s.words (word_at k) 0 ≢ 2
-      → Rule record { words = set s.words (word_at k) 2; homes = set s.homes k none; views = set s.views id (with_claim (Some k) found) }
-  won_keeps s r id k v found below here no_claim unclaimed = let w : PlaceView = with_claim (Some k) found in
+      → Rule record { words = set s.words (word_at k) 2; homes = set s.homes k none; views = set s.views id (with_claim (Some k) found left) }
+  won_keeps s r id k v found left below here no_claim unclaimed = let w : PlaceView J = with_claim (Some k) found left in
       let long = r.as_many in
       let now : get_or (set s.words (word_at k) 2) (word_at k) 0 ≡ 2 = get_or-set_same s.words (word_at k) 2 0 (omega arith) in
       let now_at : (k' : ℕ) → k' ≡ k → get_or (set s.words (word_at k) 2) (word_at k') 0 ≡ 2 =
       (λ k' same. ap (λ (z : ℕ). get_or (set s.words (word_at k) 2) (word_at z) 0) same ∙ now) in
       let else : (k' : ℕ) → k' ≢ k → get_or (set s.words (word_at k) 2) (word_at k') 0 ≡ get_or s.words (word_at k') 0 =
       (λ k' apart. get_or-set_other s.words (word_at k) (word_at k') 2 0 (λ e. apart (omega arith))) in
-      let nobodys : (j : ℕ) (u : PlaceView) → Sees s j u → u.claimed ≢ Some k =
+      let nobodys : (j : ℕ) (u : PlaceView J) → Sees s j u → u.claimed ≢ Some k =
       (λ j u at has. unclaimed (r.claims_match j u k at has).1) in
       record {
         as_many = length-set s.words (word_at k) 2 ∙ r.as_many;
@@ -43,7 +43,7 @@ module _ {J : Type 0} (places : ℕ) where
             (λ same. (id, w, set_here s.views id w (is_seat s.views id v here), ap (λ (z : ℕ). let o : Option ℕ = Some z in o) (sym same)))
             (λ apart. let by = r.has_claimer k' inside (sym (else k' apart) ∙ is) in
             let not_me : by.0 ≢ id = (λ same. none-some k' (sym no_claim
-            ∙ (ap (λ (z : PlaceView). z.claimed) (one_view s.views id v by.1 here (subst (λ (z : ℕ). Sees s z by.1) same by.2)) ∙ by.3))) in
+            ∙ (ap (λ (z : PlaceView J). z.claimed) (one_view s.views id v by.1 here (subst (λ (z : ℕ). Sees s z by.1) same by.2)) ∙ by.3))) in
             (by.0, by.1, set_else s.views id by.0 w not_me ∙ by.2, by.3));
         one_claimer_each = λ i j u its k' at_i at_j. each_view (λ i u. u.claimed ≡ Some k' → its.claimed ≡ Some k' → i ≡ j) s.views id w
             (λ mine theirs. each_view (λ j its. its.claimed ≡ Some k' → id ≡ j) s.views id w (λ _. refl)
@@ -62,18 +62,18 @@ module _ {J : Type 0} (places : ℕ) where
             j u at;
       }
 
-  pub place_claim_keeps : (slots id : ℕ) (me : Me (Option (Sealed J)) PlaceView) (k old : ℕ) → me.0.claimed ≡ None → k < places → old ≢ 2
+  pub place_claim_keeps : (slots id : ℕ) (me : Me (Option (Sealed J)) (PlaceView J)) (k old : ℕ) → me.0.claimed ≡ None → k < places → old ≢ 2
       → Allows Rule slots id me (word_at k) (λ x. either (eqb x old) 2 x) (Claims (step slots (word_at k) old 2 none) me)
-  place_claim_keeps slots id me k old no_claim below unclaimed s r _ here _ = let v : PlaceView = me.0 in
+  place_claim_keeps slots id me k old no_claim below unclaimed s r _ here _ = let v : PlaceView J = me.0 in
       let x : ℕ = get_or s.words (word_at k) 0 in
       dite (ℕ_discrete x old)
-      (λ hit. let w : PlaceView = after_claim v k x in
+      (λ hit. let w : PlaceView J = after_claim v k x in
       let not : x ≢ 2 = (λ is. unclaimed (sym hit ∙ is)) in
       let held = r.at_home k below not in (
         w,
         takes k held.0,
         held.1,
-        subst (λ b. Rule (stepped s (word_at k) (either b 2 x) id me.1 w (takes k held.0))) (sym (eq-eqb x old hit)) (won_keeps s r id k v (v.found ++ x ∷ []) below here no_claim not),
+        subst (λ b. Rule (stepped s (word_at k) (either b 2 x) id me.1 w (takes k held.0))) (sym (eq-eqb x old hit)) (won_keeps s r id k v (v.found ++ x ∷ []) v.left below here no_claim not),
         (
           r.is_word k below,
           (λ miss. absurd (miss hit)),
@@ -85,6 +85,6 @@ module _ {J : Type 0} (places : ℕ) where
         after_look v x,
         keeps,
         tt,
-        subst (λ b. Rule (stepped s (word_at k) (either b 2 x) id me.1 (after_look v x) keeps)) (sym (ne_eqb x old miss)) (look_keeps places s r (word_at k) id v (v.found ++ x ∷ []) here),
+        subst (λ b. Rule (stepped s (word_at k) (either b 2 x) id me.1 (after_look v x) keeps)) (sym (ne_eqb x old miss)) (look_keeps places s r (word_at k) id v (v.found ++ x ∷ []) v.left here),
         (r.is_word k below, (λ _. refl), λ hit. absurd (miss hit)),
       ))

@@ -28,13 +28,13 @@ zero_is_not_two : (x : ℕ) → x ≡ 0 → x ≡ 2 → ⊥
 zero_is_not_two x zero two = omega arith
 
 module _ {J : Type 0} (places : ℕ) where
-  abbrev Rule : State (Option (Sealed J)) PlaceView → Type 0
+  abbrev Rule : State (Option (Sealed J)) (PlaceView J) → Type 0
   Rule = PlacesAgree places
 
   -- a step that leaves the words, the slots and what is claimed
-  pub look_keeps : (s : State (Option (Sealed J)) PlaceView) (r : Rule s) (i id : ℕ) (v : PlaceView) (found : List ℕ) → Sees s id v
-      → Rule record { words = set s.words i (get_or s.words i 0); homes = s.homes; views = set s.views id (with_claim v.claimed found) }
-  look_keeps s r i id v found here = let w : PlaceView = with_claim v.claimed found in
+  pub look_keeps : (s : State (Option (Sealed J)) (PlaceView J)) (r : Rule s) (i id : ℕ) (v : PlaceView J) (found : List ℕ) (left : List (Option (Sealed J))) → Sees s id v
+      → Rule record { words = set s.words i (get_or s.words i 0); homes = s.homes; views = set s.views id (with_claim v.claimed found left) }
+  look_keeps s r i id v found left here = let w : PlaceView J = with_claim v.claimed found left in
       subst (λ (ws : List ℕ). Rule record { words = ws; homes = s.homes; views = set s.views id w }) (sym (set-get_or s.words i 0)) record {
         as_many = r.as_many;
         as_many_slots = r.as_many_slots;
@@ -45,7 +45,7 @@ module _ {J : Type 0} (places : ℕ) where
               id,
               w,
               set_here s.views id w (is_seat s.views id v here),
-              ap (λ (z : PlaceView). z.claimed) (one_view s.views id v by.1 here (subst (λ (z : ℕ). Sees s z by.1) same by.2)) ∙ by.3,
+              ap (λ (z : PlaceView J). z.claimed) (one_view s.views id v by.1 here (subst (λ (z : ℕ). Sees s z by.1) same by.2)) ∙ by.3,
             ))
             (λ other. (by.0, by.1, set_else s.views id by.0 w other ∙ by.2, by.3));
         one_claimer_each = λ i j u its k at_i at_j. each_view (λ i u. u.claimed ≡ Some k → its.claimed ≡ Some k → i ≡ j) s.views id w
@@ -59,15 +59,15 @@ module _ {J : Type 0} (places : ℕ) where
             (r.claims_match id v k here) (λ j u other at_j has. r.claims_match j u k at_j has) j u at;
       }
 
-  pub place_look_keeps : (slots id : ℕ) (me : Me (Option (Sealed J)) PlaceView) (k : ℕ) → k < places
+  pub place_look_keeps : (slots id : ℕ) (me : Me (Option (Sealed J)) (PlaceView J)) (k : ℕ) → k < places
       → Allows Rule slots id me (word_at k) (λ x. x) (Looks (step slots (word_at k) 0 0 none) me)
   place_look_keeps slots id me k below s r _ here _ = let word : ℕ = get_or s.words (word_at k) 0 in
-      (after_look me.0 word, keeps, tt, look_keeps s r (word_at k) id me.0 (me.0.found ++ word ∷ []) here, (r.is_word k below, refl))
+      (after_look me.0 word, keeps, tt, look_keeps s r (word_at k) id me.0 (me.0.found ++ word ∷ []) me.0.left here, (r.is_word k below, refl))
 
-  pub new_seat_enters : (slots : ℕ) (first : PlaceView) → Enters Rule slots 0 (λ x w. Sits {J = J} (step slots 0 0 0 none) (first, []) x (w, []))
-  new_seat_enters slots first s r _ _ = let w : PlaceView = with_claim None [] in
-      let unclaimed : (u : PlaceView) (k : ℕ) → w ≡ u → u.claimed ≡ Some k → ⊥ =
-      (λ u k is has. none-some k (ap (λ (z : PlaceView). z.claimed) is ∙ has)) in (
+  pub new_seat_enters : (slots : ℕ) (first : PlaceView J) → Enters Rule slots 0 (λ x w. Sits {J = J} (step slots 0 0 0 none) (first, []) x (w, []))
+  new_seat_enters slots first s r _ _ = let w : PlaceView J = with_claim None [] [] in
+      let unclaimed : (u : PlaceView J) (k : ℕ) → w ≡ u → u.claimed ≡ Some k → ⊥ =
+      (λ u k is has. none-some k (ap (λ (z : PlaceView J). z.claimed) is ∙ has)) in (
         w,
         record {
           as_many = r.as_many;
@@ -83,11 +83,11 @@ module _ {J : Type 0} (places : ℕ) where
         refl,
       )
 
-  pub new_places_keep : Rule (opening (replicate (words_for places) 0) (replicate places None) (with_claim None []))
-  new_places_keep = let v : PlaceView = with_claim None [] in
+  pub new_places_keep : Rule (opening (replicate (words_for places) 0) (replicate places None) (with_claim None [] []))
+  new_places_keep = let v : PlaceView J = with_claim None [] [] in
       let free = blank (words_for places) in
-      let unclaimed : (j : ℕ) (u : PlaceView) (k : ℕ) → get_elem? (v ∷ []) j ≡ some u → u.claimed ≡ Some k → ⊥ =
-      (λ j u k at has. none-some k (ap (λ (z : PlaceView). z.claimed) (only_view v j u at) ∙ has)) in
+      let unclaimed : (j : ℕ) (u : PlaceView J) (k : ℕ) → get_elem? (v ∷ []) j ≡ some u → u.claimed ≡ Some k → ⊥ =
+      (λ j u k at has. none-some k (ap (λ (z : PlaceView J). z.claimed) (only_view v j u at) ∙ has)) in
       record {
         as_many = length-replicate (words_for places) 0;
         as_many_slots = length-map (replicate places None) some ∙ length-replicate places None;

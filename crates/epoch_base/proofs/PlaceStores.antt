@@ -9,7 +9,7 @@ use Rattle.atomic_table.specs.Table.{State, Me, step, gives, rest, stepped, Allo
 use Rattle.atomic_table.proofs.Lists.{set_here, set_else}
 use Rattle.epoch_base.specs.Bags.{Sealed}
 use Rattle.epoch_base.specs.declared.queue.shared_places.view.PlaceView.{PlaceView}
-use Rattle.epoch_base.specs.SharedPlaces.{word_at, IsPlaceWord, IsAtHome, Sees, PlacesAgree, with_claim, Stores}
+use Rattle.epoch_base.specs.SharedPlaces.{word_at, IsPlaceWord, IsAtHome, Sees, PlacesAgree, with_claim, after_store, Stores}
 use Rattle.epoch_base.proofs.Views.{each_view, one_view}
 
 at_home_is_word : {J : Type 0} (word : ℕ) (bag : Option (Sealed J)) → IsAtHome word bag → IsPlaceWord word
@@ -20,15 +20,20 @@ at_home_is_unclaimed : {J : Type 0} (word : ℕ) (bag : Option (Sealed J)) → I
 at_home_is_unclaimed word None is two = omega arith
 at_home_is_unclaimed word (Some bag) is two = omega arith
 
+-- what is in the slot taken last
+abbrev pub content_or : {A : Type 0} → A → List (ℕ × A) → A
+content_or d [] = d
+content_or d (slot ∷ slots) = slot.1
+
 module _ {J : Type 0} (places : ℕ) where
-  abbrev Rule : State (Option (Sealed J)) PlaceView → Type 0
+  abbrev Rule : State (Option (Sealed J)) (PlaceView J) → Type 0
   Rule = PlacesAgree places
 
   -- the claimed place gets this word, over what is left in its slot
-  store_keeps : (s : State (Option (Sealed J)) PlaceView) (r : Rule s) (id k word : ℕ) (bag : Option (Sealed J)) (v : PlaceView)
-      (found : List ℕ) → Sees s id v → v.claimed ≡ Some k → IsAtHome word bag
-      → Rule record { words = set s.words (word_at k) word; homes = set s.homes k (some bag); views = set s.views id (with_claim None found) }
-  store_keeps s r id k word bag v found here is_mine left = let w : PlaceView = with_claim None found in
+  store_keeps : (s : State (Option (Sealed J)) (PlaceView J)) (r : Rule s) (id k word : ℕ) (bag : Option (Sealed J)) (v : PlaceView J)
+      (found : List ℕ) (rests : List (Option (Sealed J))) → Sees s id v → v.claimed ≡ Some k → IsAtHome word bag
+      → Rule record { words = set s.words (word_at k) word; homes = set s.homes k (some bag); views = set s.views id (with_claim None found rests) }
+  store_keeps s r id k word bag v found rests here is_mine left = let w : PlaceView J = with_claim None found rests in
       let long = r.as_many in
       let long_slots = r.as_many_slots in
       let mine = r.claims_match id v k here is_mine in
@@ -56,7 +61,7 @@ module _ {J : Type 0} (places : ℕ) where
             (λ same. absurd (at_home_is_unclaimed word bag left (sym (now_at k' same) ∙ is)))
             (λ apart. let by = r.has_claimer k' inside (sym (else k' apart) ∙ is) in
             let not_me : by.0 ≢ id = (λ same. apart (same_Some k' k (sym by.3
-            ∙ (ap (λ (z : PlaceView). z.claimed) (one_view s.views id by.1 v (subst (λ (z : ℕ). Sees s z by.1) same by.2) here) ∙ is_mine)))) in
+            ∙ (ap (λ (z : PlaceView J). z.claimed) (one_view s.views id by.1 v (subst (λ (z : ℕ). Sees s z by.1) same by.2) here) ∙ is_mine)))) in
             (by.0, by.1, set_else s.views id by.0 w not_me ∙ by.2, by.3));
         one_claimer_each = λ i j u its k' at_i at_j. each_view (λ i u. u.claimed ≡ Some k' → its.claimed ≡ Some k' → i ≡ j) s.views id w
             (λ has _. absurd (none-some k' has))
@@ -72,15 +77,16 @@ module _ {J : Type 0} (places : ℕ) where
             j u at;
       }
 
-  pub place_store_keeps : (slots id : ℕ) (me : Me (Option (Sealed J)) PlaceView) (k word : ℕ) (bag : Option (Sealed J))
+  pub place_store_keeps : (slots id : ℕ) (me : Me (Option (Sealed J)) (PlaceView J)) (k word : ℕ) (bag : Option (Sealed J))
       → me.0.claimed ≡ Some k → me.1 ≡ (k, bag) ∷ [] → IsAtHome word bag
       → Allows Rule slots id me (word_at k) (λ _. word) (λ _. Stores (step slots (word_at k) word 0 none) me word)
-  place_store_keeps slots id me k word bag is_mine carried left s r _ here _ = let v : PlaceView = me.0 in
-      let found : List ℕ = v.found in (
-        with_claim None found,
+  place_store_keeps slots id me k word bag is_mine carried left s r _ here _ = let v : PlaceView J = me.0 in
+      let w : PlaceView J = after_store v bag in (
+        w,
         gives,
         tt,
-        subst (λ (c : List (ℕ × Option (Sealed J))). Rule (stepped s (word_at k) word id c (with_claim None found) gives)) (sym carried)
-            (store_keeps s r id k word bag v found here is_mine left),
-        ap (λ (c : List (ℕ × Option (Sealed J))). (with_claim None found, rest c)) carried,
+        subst (λ (c : List (ℕ × Option (Sealed J))). Rule (stepped s (word_at k) word id c w gives)) (sym carried)
+            (store_keeps s r id k word bag v w.found w.left here is_mine left),
+        λ place content holds. let same : bag ≡ content = ap (content_or bag) (sym carried ∙ holds) in
+            ap (λ (x : List (ℕ × Option (Sealed J)) × Option (Sealed J)). (after_store v x.1, rest x.0)) (λ i. (carried i, same i)),
       )

@@ -7,5 +7,6 @@ pub mod Places
 pub mod Table
 pub mod TableSteps
 pub mod SharedPlaces
+pub mod SharedSteps
 pub mod Jobs
 pub mod PlainCells

@@ -30,10 +30,10 @@ abbrev pub IsAtHome : {J : Type 0} → ℕ → Option (Sealed J) → Type 0
 IsAtHome word None = word ≡ 0
 IsAtHome word (Some bag) = word ≡ 2 * bag.seal + 1
 
-abbrev pub Sees : {S : Type 0} → State S PlaceView → ℕ → PlaceView → Type 0
+abbrev pub Sees : {S J : Type 0} → State S (PlaceView J) → ℕ → PlaceView J → Type 0
 Sees s seat view = get_elem? s.views seat ≡ some view
 
-pub record PlacesAgree {J : Type 0} (places : ℕ) (s : State (Option (Sealed J)) PlaceView) : Type 0 where
+pub record PlacesAgree {J : Type 0} (places : ℕ) (s : State (Option (Sealed J)) (PlaceView J)) : Type 0 where
   pub as_many : length s.words ≡ words_for places
   pub as_many_slots : length s.homes ≡ places
   pub is_word : (place : ℕ) → place < places → IsPlaceWord (slice_index s.words (word_at place))
@@ -43,38 +43,38 @@ pub record PlacesAgree {J : Type 0} (places : ℕ) (s : State (Option (Sealed J)
       × IsAtHome (slice_index s.words (word_at place)) bag
   -- A place at 2 is claimed by one seat. A view names at most one place that its seat has claimed.
   pub has_claimer : (place : ℕ) → place < places → slice_index s.words (word_at place) ≡ 2
-      → (seat : ℕ) × (view : PlaceView) × Sees s seat view × (view.claimed ≡ Some place)
-  pub one_claimer_each : (seat other : ℕ) (view its : PlaceView) (place : ℕ) → Sees s seat view → Sees s other its
+      → (seat : ℕ) × (view : PlaceView J) × Sees s seat view × (view.claimed ≡ Some place)
+  pub one_claimer_each : (seat other : ℕ) (view its : PlaceView J) (place : ℕ) → Sees s seat view → Sees s other its
       → view.claimed ≡ Some place → its.claimed ≡ Some place → seat ≡ other
-  pub claims_match : (seat : ℕ) (view : PlaceView) (place : ℕ) → Sees s seat view → view.claimed ≡ Some place
+  pub claims_match : (seat : ℕ) (view : PlaceView J) (place : ℕ) → Sees s seat view → view.claimed ≡ Some place
       → (place < places) × (slice_index s.words (word_at place) ≡ 2)
 
 -- SEATS
 
 -- it is a seat at these places
-abbrev pub IsOf : {J : Type 0} → PlaceBoard → Seat (Option (Sealed J)) PlaceView → Type 0
+abbrev pub IsOf : {J : Type 0} → PlaceBoard → Seat (Option (Sealed J)) (PlaceView J) → Type 0
 IsOf board seat = seat.table_id ≡ board.table
 
 -- it is the same seat of the same places
-abbrev pub IsKept : {J : Type 0} → Seat (Option (Sealed J)) PlaceView → Seat (Option (Sealed J)) PlaceView → Type 0
+abbrev pub IsKept : {J : Type 0} → Seat (Option (Sealed J)) (PlaceView J) → Seat (Option (Sealed J)) (PlaceView J) → Type 0
 IsKept before after = (after.table_id ≡ before.table_id) × (after.id ≡ before.id)
 
 -- VIEWS
 
-abbrev pub with_claim : Option ℕ → List ℕ → PlaceView
-with_claim claimed found = record { claimed = claimed; found = found }
+abbrev pub with_claim : {J : Type 0} → Option ℕ → List ℕ → List (Option (Sealed J)) → PlaceView J
+with_claim claimed found left = record { claimed = claimed; found = found; left = left }
 
 -- it found this word
-abbrev pub after_look : PlaceView → ℕ → PlaceView
-after_look v word = with_claim v.claimed (v.found ++ word ∷ [])
+abbrev pub after_look : {J : Type 0} → PlaceView J → ℕ → PlaceView J
+after_look v word = with_claim v.claimed (v.found ++ word ∷ []) v.left
 
 -- it found this word, and claimed the place
-abbrev pub after_claim : PlaceView → ℕ → ℕ → PlaceView
-after_claim v place word = with_claim (Some place) (v.found ++ word ∷ [])
+abbrev pub after_claim : {J : Type 0} → PlaceView J → ℕ → ℕ → PlaceView J
+after_claim v place word = with_claim (Some place) (v.found ++ word ∷ []) v.left
 
--- it filled or emptied the place that it had claimed
-abbrev pub after_store : PlaceView → PlaceView
-after_store v = with_claim None v.found
+-- it filled or emptied the place that it had claimed, and left this there
+abbrev pub after_store : {J : Type 0} → PlaceView J → Option (Sealed J) → PlaceView J
+after_store v content = with_claim None v.found (v.left ++ content ∷ [])
 
 -- WHAT EACH STEP TELLS
 -- of the step, the seat before, the word found (at a store, the word stored), and the seat after
@@ -83,11 +83,11 @@ abbrev pub PlaceStep : Type 0 → Type 0
 PlaceStep J = Step (Option (Sealed J))
 
 abbrev pub PlaceMe : Type 0 → Type 0
-PlaceMe J = Me (Option (Sealed J)) PlaceView
+PlaceMe J = Me (Option (Sealed J)) (PlaceView J)
 
 module _ {J : Type 0} where
   abbrev pub Sits : PlaceStep J → PlaceMe J → ℕ → PlaceMe J → Type 0
-  Sits step before word after = after ≡ (with_claim None [], [])
+  Sits step before word after = after ≡ (with_claim None [] [], [])
 
   abbrev pub Looks : PlaceStep J → PlaceMe J → ℕ → PlaceMe J → Type 0
   Looks step before word after = IsPlaceWord word × (after ≡ (after_look before.0 word, before.1))
@@ -100,6 +100,7 @@ module _ {J : Type 0} where
       → (bag : Option (Sealed J)) × IsAtHome word bag
       × (after ≡ (after_claim before.0 place word, (place, bag) ∷ before.1)))
 
-  -- The slot goes home with what was left in it.
+  -- The slot goes home with what is left in it, and the view keeps that.
   abbrev pub Stores : PlaceStep J → PlaceMe J → ℕ → PlaceMe J → Type 0
-  Stores step before word after = after ≡ (after_store before.0, [])
+  Stores step before word after = (place : ℕ) → (content : Option (Sealed J)) → before.1 ≡ (place, content) ∷ []
+      → after ≡ (after_store before.0 content, [])

@@ -9,8 +9,6 @@ ghost use Rattle.epoch_base.specs.declared.fault.Fault.TheVariants.{NoMemory, Ce
 mod held;
 mod name;
 mod plain;
-#[cfg(test)]
-mod tests;
 mod word;
 
 use crate::cells::held::{Miss, Slot, is_free, started, try_place, try_read, try_write};

@@ -2,58 +2,43 @@
 ghost use Rattle.std.specs.Prelude.{◌≡◌};
 ghost use Rattle.epoch_base.specs.Faults.{number_of};
 
-use thiserror::Error;
+use std::error::Error;
+use std::fmt;
 
 /// Why a call was refused. Each fault says when it comes; a refused call hands its argument back.
-#[derive(Clone, Copy, Debug, PartialEq, Eq, Error)]
+#[derive(Clone, Copy, Debug, PartialEq, Eq)]
 pub enum Fault {
     /// Every participant's word was seen taken during the call.
-    #[error("every position of the table is taken")]
     TableFull,
     /// Every slot was seen used or retired during the call.
-    #[error("every cell is used or retired")]
     CellsFull,
     /// Every place of the bag store was seen occupied during the put.
-    #[error("every place of the bag store is occupied")]
     BagsFull,
     /// An allocation was refused.
-    #[error("no memory")]
     NoMemory,
     /// The participant has a call under way, is paused, or reads that name already.
-    #[error("the participant is busy")]
     Busy,
     /// There is no call, no pause or no end to go on with.
-    #[error("nothing is under way")]
     Idle,
     /// There is no such participant.
-    #[error("no such participant")]
     NotRegistered,
     /// The guard isn't one that this participant has out, or isn't the paused one.
-    #[error("not a guard of this participant")]
     StrangerGuard,
     /// A guard or a reading is still out.
-    #[error("a guard or a reading is still out")]
     GuardsOut,
     /// 64 guards of this participant are out.
-    #[error("too many guards are out")]
     TooManyGuards,
     /// A participant is still registered.
-    #[error("a participant is still registered")]
     ParticipantsLeft,
     /// The end was begun already.
-    #[error("the collector has ended")]
     Ended,
     /// There is no such root or field.
-    #[error("no such root or field")]
     NoSuchPlace,
     /// The pointer is null, of another collector, or names no cell that was ever given.
-    #[error("not a pointer of this collector")]
     StrangerPointer,
     /// The numbers for tickets are used up.
-    #[error("no ticket is left")]
     TicketsOut,
     /// Each of the tries allowed was lost.
-    #[error("each try was lost")]
     TriesOut,
 }
 
@@ -82,6 +67,31 @@ impl Fault {
         }
     }
 }
+
+impl fmt::Display for Fault {
+    fn fmt<W: fmt::Write>(&self, f: &mut fmt::Formatter<W>) -> fmt::Result {
+        f.write_str(match self {
+            Fault::TableFull => "every position of the table is taken",
+            Fault::CellsFull => "every cell is used or retired",
+            Fault::BagsFull => "every place of the bag store is occupied",
+            Fault::NoMemory => "no memory",
+            Fault::Busy => "the participant is busy",
+            Fault::Idle => "nothing is under way",
+            Fault::NotRegistered => "no such participant",
+            Fault::StrangerGuard => "not a guard of this participant",
+            Fault::GuardsOut => "a guard or a reading is still out",
+            Fault::TooManyGuards => "too many guards are out",
+            Fault::ParticipantsLeft => "a participant is still registered",
+            Fault::Ended => "the collector has ended",
+            Fault::NoSuchPlace => "no such root or field",
+            Fault::StrangerPointer => "not a pointer of this collector",
+            Fault::TicketsOut => "no ticket is left",
+            Fault::TriesOut => "each try was lost",
+        })
+    }
+}
+
+impl Error for Fault {}
 
 /// An argument handed back, and why.
 #[derive(Debug, Drop)]

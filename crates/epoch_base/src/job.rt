@@ -5,9 +5,6 @@ ghost use Rattle.epoch_base.specs.Jobs.{Answers};
 use crate::bag::SealedBag;
 use crate::cells::{Cells, Name, Removal};
 
-#[cfg(test)]
-mod tests;
-
 /// What can be called once.
 pub trait Run: Drop {
     /// Calls it.

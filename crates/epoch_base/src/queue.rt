@@ -12,8 +12,6 @@ mod collection;
 mod places;
 mod shared_places;
 mod size;
-#[cfg(test)]
-mod tests;
 
 use crate::{Bag, Epoch, Fault, SealedBag};
 pub use bag_queue::BagQueue;

@@ -6,8 +6,6 @@ mod laws;
 mod participants;
 mod plays;
 mod steps;
-#[cfg(test)]
-mod tests;
 mod view;
 
 pub use laws::{epoch_never_falls, expired_means_read_later, store_never_lowers};

@@ -1,12 +1,14 @@
 //! The long run: nanoseconds a step, and how they compare with plain words.
 ghost use Rattle.std.specs.Prelude.{◌<◌};
 
+use crate::handles;
 use bench_steps::participant::Participant;
 use bench_steps::plain::PlainWords;
 use bench_steps::timed;
 use epoch_base::table::Participants;
 use std::alloc::Global;
 use std::fmt::Display;
+use std::process::Abort;
 use std::sync::Wait;
 use std::thread::Threads;
 use std::time::{Clock, Instant};
@@ -23,7 +25,7 @@ const PADDED: usize = 16;
 
 /// A number of hundredths, as those of a nanosecond.
 #[derive(Clone, Copy)]
-struct Hundredths(u64);
+pub struct Hundredths(pub u64);
 
 impl Display for Hundredths {
     fn fmt<W: fmt::Write>(&self, f: &mut fmt::Formatter<W>) -> fmt::Result {
@@ -32,13 +34,13 @@ impl Display for Hundredths {
 }
 
 /// The time since `start` for each of so many steps, in hundredths of a nanosecond.
-fn each(rt: &impl Clock, start: Instant, count: u64) -> io::Result<u64> {
+pub fn each(rt: &impl Clock, start: Instant, count: u64) -> io::Result<u64> {
     let nanos = start.elapsed(rt)?.as_nanos();
     Ok(u64::try_from(nanos).unwrap_or(u64::MAX).saturating_mul(100) / count.max(1))
 }
 
 /// Prints a line with both times, in nanoseconds, and the quotient.
-fn compare(rt: &impl Print, what: &str, table: u64, plain: u64) -> io::Result<()> {
+pub fn compare(rt: &impl Print, what: &str, table: u64, plain: u64) -> io::Result<()> {
     let quotient = Hundredths(table.saturating_mul(100) / plain.max(1));
     let (table, plain) = (Hundredths(table), Hundredths(plain));
     println!(rt; "{what}: {table} ns, plain {plain} ns, quotient {quotient}")
@@ -141,7 +143,7 @@ fn plain_pins<R: Clock + Threads + Wait>(
     Ok(best)
 }
 
-pub fn run<R: Clock + Print + Threads + Wait>(rt: &R, alloc: Global) -> io::Result<()> {
+pub fn run<R: Abort + Clock + Print + Threads + Wait>(rt: &R, alloc: Global) -> io::Result<()> {
     let Ok(table) = Participants::new(alloc, 4) else {
         return Err(io::Error::from(io::ErrorKind::OutOfMemory));
     };
@@ -153,6 +155,7 @@ pub fn run<R: Clock + Print + Threads + Wait>(rt: &R, alloc: Global) -> io::Resu
         stores(rt, &mut participant, &padded)?;
         drop(participant.release());
     }
+    handles::run(rt, alloc, &padded)?;
     let one = pins(rt, &table, 1)?;
     for threads in [1, 2, 4] {
         let best = pins(rt, &table, threads)?;

@@ -3,6 +3,7 @@
 //! With no argument it makes a short run, and prints what the steps found. With `long` it prints times.
 #![tactic(auto)]
 
+mod handles;
 mod long;
 mod short;
 

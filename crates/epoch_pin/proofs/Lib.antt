@@ -1,4 +1,16 @@
 pub mod ActionAsks
+pub mod Collecting
 pub mod CollectionAsks
+pub mod Deferring
+pub mod Driving
 pub mod Exchanges
+pub mod Expiries
+pub mod Flushing
+pub mod PointerNumbers
+pub mod Putting
+pub mod Releasing
+pub mod Scanning
+pub mod SeatKept
 pub mod Stages
+pub mod StraightCalls
+pub mod Telling

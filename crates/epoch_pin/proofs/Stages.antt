@@ -73,3 +73,8 @@ gone_on m n x k left s after none is at rests goes test behind =
 pub hand_after : {J : Type 0} (left : List J) (s : Stage) (none : Bool) → none ≡ is_empty left → is_calling s ≡ not none → is_empty left ≡ not (is_calling s)
 hand_after left s true test calls = sym test ∙ ap not (sym calls)
 hand_after left s false test calls = sym test ∙ ap not (sym calls)
+
+-- while bags are looked for the hand has none
+pub none_in_hand : {J : Type 0} (hand : List J) (s : Stage) (x k : ℕ) → s ≡ Take x k → is_empty hand ≡ not (is_calling s) → hand ≡ []
+none_in_hand [] s x k at empty = refl
+none_in_hand (job ∷ jobs) s x k at empty = absurd (cc (empty, ap (λ (t : Stage). not (is_calling t)) at))

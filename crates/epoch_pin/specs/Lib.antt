@@ -1,2 +1,12 @@
 pub mod Asks
+pub mod Capacities
+pub mod Drives
+pub mod Ends
+pub mod Exchanges
+pub mod Handles
 pub mod Machine
+pub mod Orders
+pub mod Pointers
+pub mod Releases
+pub mod Told
+pub mod Updates

@@ -193,6 +193,11 @@ abbrev pub is_calling : Stage → Bool
 is_calling (Calling x k) = true
 is_calling _ = false
 
+-- bags are looked for
+abbrev pub is_taking : Stage → Bool
+is_taking (Take x k) = true
+is_taking _ = false
+
 pub record IsSized (sizes : Sizes) : Type 0 where
   pub positions : 0 < sizes.positions
   pub bag_jobs : (0 < sizes.bag_jobs) × (sizes.bag_jobs ≤ 64)

@@ -1,10 +1,23 @@
-//! What holds of every machine's asks: a law of the definitions.
+//! What holds of every machine's asks, and of what threads perform: laws of the definitions.
 ghost use Rattle.epoch_pin.specs.declared.machine.Action.{Action};
 ghost use Rattle.epoch_pin.specs.Machine.{Machine, IsSized, begun};
+ghost use Rattle.epoch_pin.specs.Told.{RepliesAreFound, ExpiriesAreSeen};
 ghost use Rattle.epoch_pin.specs.Asks.{Log, Asked, Follows, asks_more};
 
 /// What a machine asks from the beginning of an action on, and in which order, is what the table of asks
 /// says: the log follows it, breaks off only where more is asked, and ends only where nothing is.
 pub fn asks_follow_the_table<J>()
     ensures { (m n : Machine J) (action : Action) (log : Log J) → IsSized m.sizes → Asked (begun action m) log n → Follows action m (asks_more n) log }
+{}
+
+/// Where a thread performs what its machine asks, the replies on the participants' table are just the words that
+/// its seat's steps found, in order, and the greatest epoch that the seat has read or stored never falls.
+pub fn replies_are_found<J>()
+    ensures { RepliesAreFound J }
+{}
+
+/// Where a thread performs what its machine asks from the beginning of an action on, bags are taken only for an
+/// epoch that its seat has read or stored. So a bag whose jobs are called was sealed at least two below one.
+pub fn expiries_are_seen<J>()
+    ensures { ExpiriesAreSeen J }
 {}

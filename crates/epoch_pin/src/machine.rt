@@ -2,11 +2,13 @@
 //! it says what it asks next, and goes on by the answer.
 ghost use Rattle.std.specs.Prelude.{◌≡◌, ◌≢◌, ℕ, Bool, true, false, ◌+◌, ◌-◌, ◌*◌, ◌^◌, ◌<◌, ◌≤◌, ◌↔◌, List, [], ◌∷◌, ◌++◌, not, ◌==◌, if◌then◌else◌, Option, Some, None, slice_get, IsTrue, MatchOption, IfSome, length, ◌⊎◌};
 ghost use Rattle.epoch_base.specs.Bags.{Sealed};
-ghost use Rattle.epoch_pin.specs.Machine.{IsAnswer, AskFits, asks, begun, heard, put_heard, took_heard, gives, ended, fresh, after_collect, after_pin, after_put, after_unpin, after_job, past_word, first_stage, guards_after, is_empty, rest, IsSized, StageFits, is_calling, PutsHeld, TakesHand};
+ghost use Rattle.epoch_pin.specs.Machine.{IsAnswer, AskFits, asks, begun, heard, put_heard, took_heard, gives, ended, fresh, after_collect, after_pin, after_put, after_unpin, after_job, holds_up, past_word, first_stage, guards_after, is_empty, rest, IsSized, StageFits, is_calling, PutsHeld, TakesHand};
 ghost use Rattle.epoch_pin.specs.declared.machine.Ask.TheVariants.{PutBag, TakeBag, CallJob};
 ghost use Rattle.epoch_pin.specs.declared.machine.Stage.TheVariants.{Idle, End};
 ghost use Rattle.epoch_pin.specs.declared.machine.Sizes.{Sizes};
 
+mod shared;
+mod straight;
 #[cfg(test)]
 mod tests;
 
@@ -170,6 +172,37 @@ impl<J: Default + Drop> Machine<J> {
     }
 }
 
+impl<J> Machine<J> {
+    /// How many guards are counted.
+    pub fn guards(&self) -> u32
+        ensures { result ≡ self.now.guards }
+    {
+        self.guards
+    }
+
+    /// The number that was published last.
+    pub fn published(&self) -> u64
+        ensures { result ≡ self.now.published }
+    {
+        self.published
+    }
+
+    /// Whether the bag takes a further job without a put.
+    pub fn has_room(&self) -> bool
+        ensures room { IsTrue result ↔ (length self.now.held < self.now.sizes.bag_jobs) }
+        ensures full { result ≡ false → length self.now.held ≡ self.now.sizes.bag_jobs }
+    {
+        !self.held.is_full()
+    }
+
+    /// Whether the put of the action under way, or of the last one, found every place occupied.
+    pub fn found_full(&self) -> bool
+        ensures { result ≡ self.now.full }
+    {
+        self.full
+    }
+}
+
 impl<J: Drop> Machine<J> {
     /// What is asked next: `None` where no action is under way, and at an action's end.
     pub fn ask(&self) -> Option<Ask>
@@ -195,27 +228,6 @@ impl<J: Drop> Machine<J> {
             Stage::StoreUnpinned => Some(Ask::StoreUnpinned),
             Stage::StoreFree => Some(Ask::StoreFree),
         }
-    }
-
-    /// How many guards are counted.
-    pub fn guards(&self) -> u32
-        ensures { result ≡ self.now.guards }
-    {
-        self.guards
-    }
-
-    /// Whether the bag takes a further job without a put.
-    pub fn has_room(&self) -> bool
-        ensures { IsTrue result ↔ (length self.now.held < self.now.sizes.bag_jobs) }
-    {
-        !self.held.is_full()
-    }
-
-    /// Whether the put of the action under way, or of the last one, found every place occupied.
-    pub fn found_full(&self) -> bool
-        ensures { result ≡ self.now.full }
-    {
-        self.full
     }
 
     fn first_stage(&self, action: Action) -> Stage
@@ -409,6 +421,7 @@ impl<J: Default + Drop> Machine<J> {
     }
 
     /// A freed position has an empty bag and no pin so far.
+    #[inline(never)]
     fn reset(&mut self)
         ensures { self.new ≡ fresh self.old.sizes }
     {
@@ -557,6 +570,15 @@ fn after_job(most: u64, after: Stage, expiry: u64, taken: u64, none_left: bool) 
     }
 }
 
+/// Whether a participant's word is pinned in another epoch than this one, and so ends a scan for it.
+#[inline]
+pub(crate) fn holds_up(epoch: u64, word: u64) -> bool
+    requires { epoch < 2 ^ 63 }
+    ensures { result ≡ holds_up epoch word }
+{
+    word % 2 == 1 && word != 2 * epoch + 1
+}
+
 /// The stage behind a word that the scan of `epoch` has looked at.
 fn past_word(positions: u64, epoch: u64, next: u64, word: u64) -> Stage
     requires epoch { epoch < 2 ^ 63 }
@@ -565,7 +587,7 @@ fn past_word(positions: u64, epoch: u64, next: u64, word: u64) -> Stage
     ensures fits { (sizes : Sizes) (held : ℕ) → sizes.positions ≡ positions → 0 < sizes.collect_bags → StageFits sizes held result }
     ensures calls_nothing { is_calling result ≡ false }
 {
-    if word % 2 == 1 && word != 2 * epoch + 1 {
+    if holds_up(epoch, word) {
         Stage::Take(epoch, 0)
     } else if next + 1 == positions {
         if epoch == GREATEST_EPOCH {

@@ -15,11 +15,13 @@ use std::alloc::Global;
 use std::io;
 use std::io::{BufRead, ErrorKind, Write};
 
-/// How a script ended.
+/// How a script or a run of threads ended.
 #[derive(Clone, Copy, Debug, PartialEq, Eq)]
 pub enum Ending {
-    /// Each line was done.
+    /// All was done.
     Finished,
+    /// The words of the command line ask for nothing.
+    NotUnderstood,
     /// The line of this number, counted from 1, is due to be a shape and is none.
     NotAShape(u64),
     /// The line of this number, counted from 1, is no step.
@@ -28,6 +30,8 @@ pub enum Ending {
     StreamFailed,
     /// An allocation was refused.
     NoMemory,
+    /// Memory, a thread or a registration was refused to a run of threads.
+    Refused,
 }
 
 impl Ending {
@@ -37,9 +41,9 @@ impl Ending {
     {
         match self {
             Ending::Finished => 0,
-            Ending::NotAShape(_) | Ending::NotAStep(_) => 2,
+            Ending::NotUnderstood | Ending::NotAShape(_) | Ending::NotAStep(_) => 2,
             Ending::StreamFailed => 3,
-            Ending::NoMemory => 4,
+            Ending::NoMemory | Ending::Refused => 4,
         }
     }
 }
@@ -84,7 +88,11 @@ fn tell<F: Write>(ending: Ending, faults: &mut F) -> io::Result<()> {
     match ending {
         Ending::NotAShape(number) => writeln!(faults, "line {number}: not a shape")?,
         Ending::NotAStep(number) => writeln!(faults, "line {number}: not a step")?,
-        Ending::Finished | Ending::StreamFailed | Ending::NoMemory => return Ok(()),
+        Ending::Finished
+        | Ending::NotUnderstood
+        | Ending::StreamFailed
+        | Ending::NoMemory
+        | Ending::Refused => return Ok(()),
     }
     faults.flush()
 }

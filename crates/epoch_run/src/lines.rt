@@ -112,7 +112,7 @@ fn read_guard(text: &str) -> Option<Option<u64>>
 }
 
 /// The number that decimal digits write, and no other text; `None` also above `2^64 - 1`.
-fn read_number(text: &str) -> Option<u64>
+pub fn read_number(text: &str) -> Option<u64>
     ensures { Reads SpellsNumber text.now result }
 {
     if text.starts_with('+') {

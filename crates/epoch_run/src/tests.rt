@@ -3,3 +3,4 @@
 mod rows;
 mod scripts;
 mod streams;
+mod words;

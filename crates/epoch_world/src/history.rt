@@ -8,8 +8,6 @@ mod grace;
 mod guards;
 mod known;
 mod lawful;
-#[cfg(test)]
-mod tests;
 mod tickets;
 
 pub use events::Event;

@@ -3,8 +3,6 @@
 
 mod history;
 mod laws;
-#[cfg(test)]
-mod tests;
 mod world;
 
 pub use history::{Event, calls_none_twice, is_lawful, keeps_grace};

@@ -14,7 +14,7 @@ use std::alloc::Global;
 use std::marker::Model;
 
 /// The word of an empty place.
-const EMPTY: u64 = 0;
+pub(super) const EMPTY: u64 = 0;
 
 /// The word of a claimed place.
 const CLAIMED: u64 = 2;
@@ -194,7 +194,7 @@ fn empty<J: Drop>(
 }
 
 /// Goes on behind this place, which was seen occupied.
-fn put_further(cursor: &mut PutCursor, place: usize, places: usize) -> PutStep
+pub(super) fn put_further(cursor: &mut PutCursor, place: usize, places: usize) -> PutStep
     requires { place < places }
     ensures cursor { cursor.new ≡ PutCursor.Look (place + 1) }
     ensures result { result ≡ (if place + 1 == places then PutStep.Full else PutStep.Again) }
@@ -208,7 +208,7 @@ fn put_further(cursor: &mut PutCursor, place: usize, places: usize) -> PutStep
 }
 
 /// Goes on behind this place.
-fn take_further(cursor: &mut TakeCursor, place: usize, places: usize) -> TakeStep
+pub(super) fn take_further(cursor: &mut TakeCursor, place: usize, places: usize) -> TakeStep
     requires { place < places }
     ensures cursor { cursor.new ≡ TakeCursor.Look (place + 1) }
     ensures result { result ≡ (if place + 1 == places then TakeStep.Empty else TakeStep.Again) }
@@ -222,7 +222,7 @@ fn take_further(cursor: &mut TakeCursor, place: usize, places: usize) -> TakeSte
 }
 
 /// Whether the word tells of a bag that is expired for this epoch.
-fn is_expired_word(word: u64, expiry: Epoch) -> bool
+pub(super) fn is_expired_word(word: u64, expiry: Epoch) -> bool
     ensures { IsTrue result ↔ ((word % 2 ≡ 1) × (word / 2 + 2 ≤ expiry.number)) }
 {
     word % 2 == 1 && word / 2 + 2 <= expiry.number()

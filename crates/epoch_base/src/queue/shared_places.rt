@@ -1,11 +1,10 @@
 //! Numbered places for sealed bags, which threads share: a word and a slot for each.
 //!
 //! A thread takes its steps through a *seat*. What the seat knows is its *view*, which contracts alone see.
+mod cursors;
 mod places;
 mod plays;
 mod steps;
-#[cfg(test)]
-mod tests;
 mod view;
 
 pub use places::{MOST_PLACES, PlaceRule, PlaceSeat, SharedPlaces};

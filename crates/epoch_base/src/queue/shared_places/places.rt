@@ -21,21 +21,21 @@ pub struct PlaceRule<J> {
     jobs: PhantomData<J>,
 }
 
-impl<J> TableRule<Option<SealedBag<J>>, PlaceView, u64> for PlaceRule<J> {
+impl<J> TableRule<Option<SealedBag<J>>, PlaceView<J>, u64> for PlaceRule<J> {
     ghost holds = { PlacesAgree };
 
-    ghost first = { λ _. with_claim None [] };
+    ghost first = { λ _. with_claim None [] [] };
 }
 
 /// A seat at the shared places: what a thread takes its steps with. It has no bytes.
-pub type PlaceSeat<J> = Seat<Option<SealedBag<J>>, PlaceView>;
+pub type PlaceSeat<J> = Seat<Option<SealedBag<J>>, PlaceView<J>>;
 
 /// Places for sealed bags.
 ///
 /// Threads share them by `&`. Each step is one atomic instruction, and none waits or takes memory.
 #[derive(Drop)]
 pub struct SharedPlaces<J> {
-    pub(crate) table: Table<Option<SealedBag<J>>, PlaceView, u64, PlaceRule<J>, Global>,
+    pub(crate) table: Table<Option<SealedBag<J>>, PlaceView<J>, u64, PlaceRule<J>, Global>,
     places: usize,
 }
 
@@ -100,7 +100,7 @@ impl<J> SharedPlaces<J> {
     /// A new seat, which has claimed no place. Making it loads a word.
     pub fn seat(&self) -> PlaceSeat<J>
         ensures of { IsOf self.now result }
-        ensures view { result.me ≡ (with_claim None [], []) }
+        ensures view { result.me ≡ (with_claim None [] [], []) }
     {
         self.table.shared.load_new_seat::<Sit>(0).1
     }

@@ -7,24 +7,24 @@ use atomic_table::Play;
 
 pub struct Sit;
 
-impl<J> Play<Option<SealedBag<J>>, PlaceView> for Sit {
+impl<J> Play<Option<SealedBag<J>>, PlaceView<J>> for Sit {
     ghost then = { Sits };
 }
 
 pub struct Look;
 
-impl<J> Play<Option<SealedBag<J>>, PlaceView> for Look {
+impl<J> Play<Option<SealedBag<J>>, PlaceView<J>> for Look {
     ghost then = { Looks };
 }
 
 pub struct Claim;
 
-impl<J> Play<Option<SealedBag<J>>, PlaceView> for Claim {
+impl<J> Play<Option<SealedBag<J>>, PlaceView<J>> for Claim {
     ghost then = { Claims };
 }
 
 pub struct Store;
 
-impl<J> Play<Option<SealedBag<J>>, PlaceView> for Store {
+impl<J> Play<Option<SealedBag<J>>, PlaceView<J>> for Store {
     ghost then = { Stores };
 }

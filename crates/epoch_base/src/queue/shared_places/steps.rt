@@ -59,7 +59,7 @@ impl<J> SharedPlaces<J> {
         requires bag { (put : Sealed J) × (bag.old ≡ Some put) }
         ensures kept { IsKept seat.old seat.new }
         ensures bag { bag.new ≡ None }
-        ensures view { seat.new.me ≡ (after_store seat.old.me.0, []) }
+        ensures view { seat.new.me ≡ (after_store seat.old.me.0 bag.old, []) }
     {
         let Some(put) = &*bag else { unreachable!() };
         let seal = put.seal();
@@ -78,7 +78,7 @@ impl<J> SharedPlaces<J> {
         requires none { bag.old ≡ None }
         ensures kept { IsKept seat.old seat.new }
         ensures bag { seat.old.me.1 ≡ (place, bag.new) ∷ [] }
-        ensures view { seat.new.me ≡ (after_store seat.old.me.0, []) }
+        ensures view { seat.new.me ≡ (after_store seat.old.me.0 None, []) }
     {
         mem::swap(seat.slot_mut(&self.table.shared, place), bag);
         self.table.shared.store::<Store>(seat, word_index(place), 0);

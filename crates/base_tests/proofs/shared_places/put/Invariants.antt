@@ -1,0 +1,9 @@
+use Rattle.epoch_base.specs.SharedPlaces.{IsKept}
+use Rattle.epoch_base.specs.SharedSteps.{PutsAt}
+use Rattle.base_tests.proofs.shared_places.put.Given as goal
+
+abbrev pub invariant-loop : goal.invariant-loop
+invariant-loop l = record {
+  kept : IsKept l.initial.seat l.seat;
+  at : PutsAt l.places.places l.cursor l.seat.me;
+}

@@ -1,0 +1,91 @@
+//! The plain cells answer as the shared ones do.
+ghost use Rattle.std.specs.Prelude.{◌<◌, ◌≤◌};
+
+use epoch_base::{Name, PlainCells, Removal};
+use std::process::Abort;
+use std::test::Fail;
+
+fn at(slot: u32, turn: u32) -> Name
+    requires some { 0 < slot }
+    requires within { slot ≤ 16777215 }
+{
+    Name::at(slot, turn)
+}
+
+// Places the value in the first of two slots, or else in the second.
+fn place(cells: &mut PlainCells<u64>, value: u64) -> Result<(u32, u32), u64> {
+    if cells.capacity() < 2 {
+        return Err(value);
+    }
+    let value = match cells.place_at(1, value) {
+        Ok(name) => return Ok((name.slot(), name.turn())),
+        Err(back) => back,
+    };
+    let name = cells.place_at(2, value)?;
+    Ok((name.slot(), name.turn()))
+}
+
+#[test]
+fn plain_values_are_placed_read_written_taken_and_removed(rt: HostRuntime) -> Result<(), Fail> {
+    let mut cells = PlainCells::<u64>::new(rt.alloc(), 2, 0)?;
+    fill_both(&rt, &mut cells);
+    read_twice(&rt, &mut cells);
+    write_and_remove(&rt, &mut cells);
+    Ok(())
+}
+
+// Fills both slots, and the first one once more.
+fn fill_both(rt: &impl Abort, cells: &mut PlainCells<u64>) {
+    assert_eq!(rt; place(cells, 10), Ok((1, 0)));
+    assert_eq!(rt; place(cells, 20), Ok((2, 0)));
+    assert_eq!(rt; place(cells, 30), Err(30), "both are used");
+    assert_eq!(rt; cells.take(at(1, 0)), Some(10));
+    assert_eq!(rt;
+        place(cells, 40),
+        Ok((1, 1)),
+        "the next turn of the first slot"
+    );
+    assert_eq!(rt; cells.read(at(1, 0)), None);
+}
+
+// Has the first slot's value read twice, and meanwhile nobody else gets it.
+fn read_twice(rt: &impl Abort, cells: &mut PlainCells<u64>) {
+    assert_eq!(rt; cells.read(at(1, 1)), Some(40));
+    assert_eq!(rt; cells.read(at(1, 1)), Some(40));
+    assert_eq!(rt; cells.write(at(1, 1), 0), Err(0), "it is read");
+    assert_eq!(rt; cells.take(at(1, 1)), None, "it is read");
+    assert_eq!(rt; cells.remove(at(1, 1)), Removal::HeldElsewhere);
+    assert!(rt; cells.leave(at(1, 1)));
+    assert_eq!(rt;
+        cells.remove(at(1, 1)),
+        Removal::HeldElsewhere,
+        "one reads still"
+    );
+    assert!(rt; cells.leave(at(1, 1)));
+    assert!(rt; !cells.leave(at(1, 1)), "nobody reads");
+}
+
+// Writes the first slot's value and removes it, and places another one.
+fn write_and_remove(rt: &impl Abort, cells: &mut PlainCells<u64>) {
+    assert_eq!(rt; cells.write(at(1, 1), 41), Ok(40));
+    assert_eq!(rt; cells.get(at(1, 1)).copied(), Some(41));
+    assert_eq!(rt; cells.remove(at(1, 1)), Removal::Destroyed);
+    assert_eq!(rt; cells.remove(at(1, 1)), Removal::Gone);
+    assert_eq!(rt; place(cells, 50), Ok((1, 2)));
+    assert_eq!(rt;
+        cells.remove(at(9, 0)),
+        Removal::Gone,
+        "there is no such slot"
+    );
+}
+
+#[test]
+fn the_last_turn_retires_a_plain_slot(rt: HostRuntime) -> Result<(), Fail> {
+    let mut cells = PlainCells::<u64>::new(rt.alloc(), 2, 4_294_967_295)?;
+    assert_eq!(rt; place(&mut cells, 1), Ok((1, 4_294_967_295)));
+    assert_eq!(rt; cells.take(at(1, 4_294_967_295)), Some(1));
+    assert_eq!(rt; place(&mut cells, 2), Ok((2, 4_294_967_295)));
+    assert_eq!(rt; place(&mut cells, 3), Err(3));
+    assert_eq!(rt; cells.remove(at(1, 4_294_967_295)), Removal::Gone);
+    Ok(())
+}

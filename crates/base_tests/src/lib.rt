@@ -1,0 +1,13 @@
+//! Tests of `epoch_base` by its public calls: cells, calls of jobs, stores of bags and the participants' table.
+#![tactic(auto)]
+
+#[cfg(test)]
+mod cells;
+#[cfg(test)]
+mod jobs;
+#[cfg(test)]
+mod queues;
+#[cfg(test)]
+mod shared_places;
+#[cfg(test)]
+mod tables;

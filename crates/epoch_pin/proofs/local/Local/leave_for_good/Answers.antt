@@ -1,0 +1,6 @@
+use Rattle.epoch_pin.proofs.Releasing.{left_for_good}
+use Rattle.epoch_pin.proofs.local.Local.leave_for_good.Goals as goal
+
+pub returns : goal.returns
+returns g c = left_for_good c.args.self.now c.store_unpinned.new.self c.free.new.self c.take.new.self c.take-2.new.self
+    c.requires.begins c.requires.action c.requires.room c.store_unpinned.ensures c.take.ensures c.free.ensures.only c.free.ensures.knows c.take-2.ensures

@@ -1,0 +1,119 @@
+use crate::atomic::{
+    Array, Atomic, Borrow, BorrowMut, CompareAndSetOrdering, CompareExchangeError, ExchangeFault,
+    Owned, Pointable, Pointer, Shared, UpdateFault,
+};
+use crate::collector::{Capacities, Collector};
+use crate::guard::{Guard, unprotected};
+use epoch_base::{Called, Fault, Name, Refused};
+use std::alloc::Global;
+use std::process::Abort;
+use std::sync::atomic::Ordering;
+use std::sync::atomic::Ordering::SeqCst;
+use std::test::Fail;
+
+mod cells;
+mod exchanges;
+mod values;
+
+fn collector_of<T: Drop>(alloc: Global, cells: u32) -> Result<Collector<T>, Fault> {
+    let capacities = Capacities::usual(1, cells, 1);
+    if capacities.is_valid() {
+        Collector::new(alloc, capacities, 1)
+    } else {
+        Err(Fault::NoMemory)
+    }
+}
+
+fn let_go<T, R: Abort>(rt: &R, guard: Guard<'_, T>) {
+    match guard.let_go() {
+        Ok(()) => {}
+        Err(_guard) => panic!(rt; "the guard protects"),
+    }
+}
+
+fn spend<T: Drop>(collector: Collector<T>) {
+    let Collector {
+        id: _,
+        participants: _,
+        places: _,
+        cells: _,
+        sizes: _,
+    } = collector;
+}
+
+// Calls the rows under an unprotected guard of a collector with this many cells.
+macro_rules! under_guard {
+    ($rt:expr, $cells:expr, $rows:expr) => {{
+        let collector = collector_of($rt.alloc(), $cells)?;
+        let guard = unprotected(&collector);
+        let outcome = $rows(&$rt, $rt.alloc(), &guard);
+        let_go(&$rt, guard);
+        spend(collector);
+        outcome
+    }};
+}
+
+#[test]
+fn bits_of_the_tag_are_changed_alone(rt: HostRuntime) -> Result<(), Fail> {
+    under_guard!(rt, 1, exchanges::bits_of_the_tag)
+}
+
+#[test]
+fn an_exchange_answers_what_it_wrote_or_found(rt: HostRuntime) -> Result<(), Fail> {
+    under_guard!(rt, 2, exchanges::won_and_lost)
+}
+
+#[test]
+fn an_exchange_without_a_cell_hands_the_value_back(rt: HostRuntime) -> Result<(), Fail> {
+    under_guard!(rt, 1, exchanges::without_a_cell)
+}
+
+#[test]
+fn an_exchange_compares_the_tags_too(rt: HostRuntime) -> Result<(), Fail> {
+    under_guard!(rt, 1, exchanges::with_another_tag)
+}
+
+#[test]
+fn each_form_of_an_exchange_is_won(rt: HostRuntime) -> Result<(), Fail> {
+    under_guard!(rt, 1, exchanges::each_form)
+}
+
+#[test]
+fn an_update_wins_stops_or_runs_out(rt: HostRuntime) -> Result<(), Fail> {
+    under_guard!(rt, 1, exchanges::updates)
+}
+
+#[test]
+fn a_null_pointer_has_no_value_whatever_its_tag(rt: HostRuntime) -> Result<(), Fail> {
+    under_guard!(rt, 1, cells::null_with_a_tag)
+}
+
+#[test]
+fn values_are_stored_swapped_and_taken_back(rt: HostRuntime) -> Result<(), Fail> {
+    under_guard!(rt, 2, cells::stored_and_swapped)
+}
+
+#[test]
+fn full_cells_hand_values_back(rt: HostRuntime) -> Result<(), Fail> {
+    under_guard!(rt, 1, cells::full)
+}
+
+#[test]
+fn a_value_that_is_read_is_not_taken_back(rt: HostRuntime) -> Result<(), Fail> {
+    under_guard!(rt, 1, cells::held)
+}
+
+#[test]
+fn a_value_is_destroyed_at_once_unless_it_is_read(rt: HostRuntime) -> Result<(), Fail> {
+    under_guard!(rt, 1, cells::destroyed)
+}
+
+#[test]
+fn a_vec_behind_an_atomic_grows(rt: HostRuntime) -> Result<(), Fail> {
+    under_guard!(rt, 1, cells::a_vec)
+}
+
+#[test]
+fn pointers_are_shown_without_addresses(rt: HostRuntime) -> Result<(), Fail> {
+    under_guard!(rt, 1, values::shown)
+}

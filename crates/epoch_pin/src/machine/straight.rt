@@ -1,0 +1,152 @@
+//! What a machine is behind all asks of an action at once, for the actions that are written out step by step.
+ghost use Rattle.std.specs.Prelude.{◌≡◌, ◌≢◌, ℕ, true, false, ◌+◌, ◌^◌, ◌<◌};
+ghost use Rattle.epoch_pin.specs.Machine.{begun, heard, ended, with_stage, after_collect, guards_after, StageFits};
+ghost use Rattle.epoch_pin.specs.declared.machine.Answer.TheVariants.{Epoch, Stored};
+ghost use Rattle.epoch_pin.specs.declared.machine.Action.TheVariants.{Pin, Unpin, Repin, Release};
+ghost use Rattle.epoch_pin.specs.declared.machine.Stage.TheVariants.{Idle, LoadScan, LoadSeal, Put, Take, End};
+
+use crate::machine::{Action, Machine, PINS_BETWEEN_COLLECTIONS, Stage};
+
+impl<J> Machine<J> {
+    /// Behind a pin with no guard counted, which published this epoch. Answers whether a collection follows;
+    /// else the pin has ended.
+    #[inline]
+    pub(crate) fn pin_first(&mut self, epoch: u64) -> bool
+        requires idle { self.old.stage ≡ Idle }
+        requires first { self.old.guards ≡ 0 }
+        requires within { epoch < 2 ^ 63 }
+        ensures collects { result ≡ true → (again : ℕ) → self.new ≡ heard (heard (heard (begun Pin self.old) (Epoch epoch)) Stored) (Epoch again) }
+        ensures scans { result ≡ true → self.new.stage ≡ LoadScan }
+        ensures stops { result ≡ false → (again : ℕ) → (heard (heard (heard (begun Pin self.old) (Epoch epoch)) Stored) (Epoch again)).stage ≡ End }
+        ensures ends { result ≡ false → (again : ℕ) → self.new ≡ ended (heard (heard (heard (begun Pin self.old) (Epoch epoch)) Stored) (Epoch again)) }
+    {
+        let pins = (self.pins + 1) % PINS_BETWEEN_COLLECTIONS;
+        self.action = Action::Pin;
+        self.full = false;
+        self.published = epoch;
+        self.pins = pins;
+        if pins == 1 {
+            self.stage = Stage::LoadScan;
+            true
+        } else {
+            self.guards = 1;
+            false
+        }
+    }
+
+    /// Behind a pin with guards counted, which asks nothing.
+    #[inline]
+    pub(crate) fn pin_again(&mut self)
+        requires idle { self.old.stage ≡ Idle }
+        requires again { self.old.guards ≢ 0 }
+        requires fits { self.old.guards + 1 < 2 ^ 32 }
+        ensures { self.new ≡ ended (begun Pin self.old) }
+    {
+        self.action = Action::Pin;
+        self.full = false;
+        self.guards += 1;
+    }
+
+    /// Behind the unpin of the only guard.
+    #[inline]
+    pub(crate) fn unpin_last(&mut self)
+        requires idle { self.old.stage ≡ Idle }
+        requires last { self.old.guards ≡ 1 }
+        ensures { self.new ≡ ended (heard (begun Unpin self.old) Stored) }
+    {
+        self.action = Action::Unpin;
+        self.full = false;
+        self.guards = 0;
+    }
+
+    /// Behind the unpin of one guard of more, which asks nothing.
+    #[inline]
+    pub(crate) fn unpin_one(&mut self)
+        requires idle { self.old.stage ≡ Idle }
+        requires more { 1 < self.old.guards }
+        ensures { self.new ≡ ended (begun Unpin self.old) }
+    {
+        self.action = Action::Unpin;
+        self.full = false;
+        self.guards -= 1;
+    }
+
+    /// Behind a repin with another number of guards than one, which asks nothing.
+    #[inline]
+    pub(crate) fn repin_none(&mut self)
+        requires idle { self.old.stage ≡ Idle }
+        requires not { self.old.guards ≢ 1 }
+        ensures { self.new ≡ ended (begun Repin self.old) }
+    {
+        self.action = Action::Repin;
+        self.full = false;
+    }
+
+    /// Behind a repin that found this epoch. Where that was published already, nothing follows its first load.
+    #[inline]
+    pub(crate) fn repin_only(&mut self, epoch: u64)
+        requires idle { self.old.stage ≡ Idle }
+        requires only { self.old.guards ≡ 1 }
+        requires within { epoch < 2 ^ 63 }
+        ensures same { self.old.published ≡ epoch → self.new ≡ ended (heard (begun Repin self.old) (Epoch epoch)) }
+        ensures moved { self.old.published ≢ epoch → (again : ℕ) → self.new ≡ ended (heard (heard (heard (begun Repin self.old) (Epoch epoch)) Stored) (Epoch again)) }
+    {
+        self.action = Action::Repin;
+        self.full = false;
+        self.published = epoch;
+    }
+
+    /// Behind a scan that gave this epoch.
+    #[inline]
+    pub(crate) fn scanned(&mut self, epoch: u64)
+        requires scans { self.old.stage ≡ LoadScan }
+        requires within { epoch < 2 ^ 63 }
+        ensures { self.new ≡ with_stage self.old (Take epoch 0) }
+    {
+        self.stage = Stage::Take(epoch, 0);
+    }
+
+    /// Behind the load of the epoch that the held bag is sealed with.
+    #[inline]
+    pub(crate) fn sealed(&mut self, seal: u64)
+        requires loads { self.old.stage ≡ LoadSeal }
+        requires within { seal < 2 ^ 63 }
+        ensures { self.new ≡ with_stage self.old (Put seal) }
+    {
+        self.stage = Stage::Put(seal);
+    }
+
+    /// Ends an action that leaves as many guards counted as before.
+    #[inline]
+    pub(crate) fn end_uncounted(&mut self)
+        requires ended { self.old.stage ≡ End }
+        requires same { guards_after self.old.action self.old.guards ≡ self.old.guards }
+        ensures { self.new ≡ ended self.old }
+    {
+        self.stage = Stage::Idle;
+    }
+}
+
+impl<J: Drop> Machine<J> {
+    /// Behind the pin of a release, which published this epoch. Answers whether a collection follows.
+    #[inline]
+    pub(crate) fn release_pinned(&mut self, epoch: u64) -> bool
+        requires idle { self.old.stage ≡ Idle }
+        requires within { epoch < 2 ^ 63 }
+        ensures after { (again : ℕ) → self.new ≡ heard (heard (heard (begun Release self.old) (Epoch epoch)) Stored) (Epoch again) }
+        ensures scans { result ≡ true → self.new.stage ≡ LoadScan }
+        ensures leaves { result ≡ false → self.new.stage ≡ after_collect Release self.old.held }
+    {
+        let pins = (self.pins + 1) % PINS_BETWEEN_COLLECTIONS;
+        self.action = Action::Release;
+        self.full = false;
+        self.published = epoch;
+        self.pins = pins;
+        if pins == 1 {
+            self.stage = Stage::LoadScan;
+            return true;
+        }
+        self.stage = self.after_collect();
+        false
+    }
+}

@@ -1,0 +1,15 @@
+//! Tests of `epoch_pin` by its public calls: handles, guards and a collector's end, on one thread and on several.
+#![tactic(auto)]
+
+#[cfg(test)]
+mod bags;
+#[cfg(test)]
+mod calls;
+#[cfg(test)]
+mod guards;
+#[cfg(test)]
+mod jobs;
+#[cfg(test)]
+mod program;
+#[cfg(test)]
+mod threads;

@@ -1,0 +1,100 @@
+//! Whole calls beside their steps, on two worlds that began alike.
+
+use crate::worlds::deeds::call_by_steps;
+use crate::worlds::reverse::Reverse;
+use epoch_base::{BagQueue, BagStore, Fault, Places};
+use epoch_world::{Answer, Call, Deferral, Reply, Shape, Step, World};
+use std::alloc::Global;
+use std::process::Abort;
+use std::test::Fail;
+
+const SHAPE: Shape = Shape {
+    participants: 2,
+    cells: 0,
+    roots: 0,
+    fields: 0,
+    bags: 4,
+    align: 1,
+    start_epoch: 0,
+    start_turn: 0,
+    bag_jobs: 64,
+    collect_bags: 8,
+};
+
+const UNIT: Reply = Reply::Done(Answer::Unit);
+
+/// Whose call, which one, and its last reply.
+const CALLS: &[(u64, Call, Reply)] = &[
+    (0, Call::Pin, Reply::Done(Answer::Guard(0))),
+    (0, Call::Defer(Some(0)), UNIT),
+    (0, Call::Flush(Some(0)), UNIT),
+    (
+        0,
+        Call::Unpin(Some(5)),
+        Reply::Refused(Fault::StrangerGuard),
+    ),
+    (2, Call::Pin, Reply::Refused(Fault::NotRegistered)),
+    (0, Call::Release, Reply::Refused(Fault::GuardsOut)),
+    (0, Call::Pin, Reply::Done(Answer::Guard(1))),
+    (0, Call::Repin(Some(0)), UNIT),
+    (0, Call::Pause(Some(1)), UNIT),
+    (0, Call::Flush(Some(0)), Reply::Refused(Fault::Busy)),
+    (0, Call::Resume(Some(1)), UNIT),
+    (0, Call::Unpin(Some(1)), UNIT),
+    (0, Call::Repin(Some(0)), UNIT),
+    (0, Call::Defer(None), UNIT),
+    (0, Call::Flush(Some(0)), UNIT),
+    (1, Call::Pin, Reply::Done(Answer::Guard(0))),
+    (0, Call::Unpin(Some(0)), UNIT),
+    (1, Call::Flush(Some(0)), UNIT),
+    (1, Call::Unpin(Some(0)), UNIT),
+    (1, Call::Release, Reply::Done(Answer::Released)),
+    (0, Call::Release, Reply::Done(Answer::Released)),
+    (0, Call::Pin, Reply::Refused(Fault::NotRegistered)),
+];
+
+/// A new world, in which both participants are registered.
+fn with_two<S: BagStore<Job = Deferral>>(rt: &impl Abort, alloc: Global) -> Result<World<S>, Fail> {
+    assert!(rt; SHAPE.is_valid());
+    let mut world = World::new(alloc, SHAPE)?;
+    let _ = world.run(&[Step::Register, Step::Register])?;
+    Ok(world)
+}
+
+/// Makes each call on one world, and takes its steps on another one, over stores of this kind.
+fn expect_alike<S: BagStore<Job = Deferral>>(rt: &impl Abort, alloc: Global) -> Result<(), Fail> {
+    let mut whole: World<S> = with_two(rt, alloc)?;
+    let mut stepped: World<S> = with_two(rt, alloc)?;
+    for (participant, call, last) in CALLS {
+        let replies = whole.call(*participant, *call)?;
+        let mut by_steps = Vec::new(alloc);
+        call_by_steps(&mut stepped, *participant, *call, &mut by_steps)?;
+        assert_eq!(rt;
+            replies.as_slice(),
+            by_steps.as_slice(),
+            "{participant} {call:?}"
+        );
+        assert_eq!(rt; replies.last(), Some(last), "{participant} {call:?}");
+        if let Reply::Refused(_) = last {
+            assert_eq!(rt; replies.len(), 1, "{participant} {call:?}");
+        }
+        assert_eq!(rt;
+            numbers_of(&whole),
+            numbers_of(&stepped),
+            "{participant} {call:?}"
+        );
+    }
+    Ok(())
+}
+
+/// The epoch of a world, and its words up to the first past the table.
+fn numbers_of<S: BagStore<Job = Deferral>>(world: &World<S>) -> (u64, [Option<u64>; 3]) {
+    (world.epoch(), [world.word(0), world.word(1), world.word(2)])
+}
+
+#[test]
+fn a_whole_call_tells_and_leaves_what_its_steps_do(rt: HostRuntime) -> Result<(), Fail> {
+    expect_alike::<Places<Deferral>>(&rt, rt.alloc())?;
+    expect_alike::<BagQueue<Deferral>>(&rt, rt.alloc())?;
+    expect_alike::<Reverse>(&rt, rt.alloc())
+}

@@ -1,0 +1,242 @@
+//! What is done to a world, with what it has to tell of it.
+
+use epoch_base::{BagStore, Called};
+use epoch_world::{Answer, Call, Deferral, Reply, Shape, Step, World};
+use std::alloc::Global;
+use std::process::Abort;
+use std::test::Fail;
+
+/// More steps than any call or end of these tests has.
+const MANY: u64 = 30_000;
+
+const UNPIN: Call = Call::Unpin(Some(0));
+
+const PAUSE: Call = Call::Pause(Some(0));
+
+const RESUME: Call = Call::Resume(Some(0));
+
+const DEFER: Call = Call::Defer(Some(0));
+
+const FLUSH: Call = Call::Flush(Some(0));
+
+const UNIT: Reply = Reply::Done(Answer::Unit);
+
+/// Something that is done, and what is told of it. Of what is gone through up to its end, `Began` and `Stepped` are
+/// left out. Where no guard is named it is the first one, number 0. Tickets go from the first to before the second.
+#[derive(Clone, Copy, Debug)]
+pub enum Deed {
+    /// One step, and its reply.
+    Takes(Step, Reply),
+    /// A participant's whole call.
+    Calls(u64, Call, &'static [Reply]),
+    /// The rest of the call that a participant has under way.
+    Goes(u64, &'static [Reply]),
+    /// A pin of a participant that is not pinned.
+    Pins(u64),
+    /// An unpin of its only guard.
+    Unpins(u64),
+    /// Pins of a participant that is pinned: they give these guards.
+    Guards(u64, u64, u64),
+    /// A pin and its unpin, so many times.
+    Cycles(u64, u64),
+    /// A pin, a flush that calls nothing, and the unpin, so many times.
+    Rounds(u64, u64),
+    /// A pause and its resume, so many times.
+    Pauses(u64, u64),
+    /// Deferrals, each accepted, that get these tickets.
+    Defers(u64, u64, u64),
+    /// A flush that calls the jobs of these tickets, in this order, and then answers so.
+    Flushes(u64, &'static [(u64, u64)], Reply),
+    /// An end that calls the jobs of these tickets, in this order.
+    Ends(u64, u64),
+    /// The present epoch.
+    Epoch(u64),
+    /// A participant's word.
+    Word(u64, Option<u64>),
+}
+
+/// What a row shows, the shape of its world, and what is done to it.
+pub type Row = (&'static str, Shape, &'static [Deed]);
+
+/// Does what the rows say, each to a world of its own over this store, and asserts that all is told as they say.
+pub fn expect_rows<S: BagStore<Job = Deferral>>(
+    rt: &impl Abort,
+    alloc: Global,
+    rows: &[Row],
+) -> Result<(), Fail> {
+    for (shows, shape, deeds) in rows {
+        assert!(rt; shape.is_valid(), "{shows}");
+        let mut world: World<S> = World::new(alloc, *shape)?;
+        for (place, deed) in deeds.iter().enumerate() {
+            let told = done(&mut world, alloc, *deed)?;
+            let expected = expected(alloc, *deed)?;
+            assert_eq!(rt;
+                told.as_slice(),
+                expected.as_slice(),
+                "{shows}: {place}, {deed:?}"
+            );
+            match deed {
+                Deed::Epoch(epoch) => assert_eq!(rt; world.epoch(), *epoch, "{shows}: {place}"),
+                Deed::Word(position, word) => {
+                    assert_eq!(rt; world.word(*position), *word, "{shows}: {place}");
+                }
+                _ => {}
+            }
+        }
+    }
+    Ok(())
+}
+
+/// Does this, and answers what is told of it.
+fn done<S: BagStore<Job = Deferral>>(
+    world: &mut World<S>,
+    alloc: Global,
+    deed: Deed,
+) -> Result<Vec<Reply>, Fail> {
+    let mut replies = Vec::new(alloc);
+    match deed {
+        Deed::Takes(step, _) => return Ok(world.run(&[step])?),
+        Deed::Calls(participant, call, _) => call_by_steps(world, participant, call, &mut replies)?,
+        Deed::Goes(participant, _) => {
+            let go = Step::Go(participant);
+            go_to_end(world, go, go, &mut replies)?;
+        }
+        Deed::Ends(_, _) => go_to_end(world, Step::End, Step::EndGo, &mut replies)?,
+        deed => {
+            let (participant, calls, times) = calls_of(deed);
+            for _ in 0..times {
+                for call in calls {
+                    call_by_steps(world, participant, *call, &mut replies)?;
+                }
+            }
+        }
+    }
+    replies.retain(|reply| !matches!(reply, Reply::Began | Reply::Stepped));
+    Ok(replies)
+}
+
+/// Whose calls these are, which ones, and how many times they are made, one after the other.
+fn calls_of(deed: Deed) -> (u64, &'static [Call], u64) {
+    match deed {
+        Deed::Pins(participant) => (participant, &[Call::Pin], 1),
+        Deed::Unpins(participant) => (participant, &[UNPIN], 1),
+        Deed::Guards(participant, first, end) => {
+            (participant, &[Call::Pin], end.saturating_sub(first))
+        }
+        Deed::Cycles(participant, times) => (participant, &[Call::Pin, UNPIN], times),
+        Deed::Rounds(participant, times) => (participant, &[Call::Pin, FLUSH, UNPIN], times),
+        Deed::Pauses(participant, times) => (participant, &[PAUSE, RESUME], times),
+        Deed::Defers(participant, first, end) => (participant, &[DEFER], end.saturating_sub(first)),
+        Deed::Flushes(participant, _, _) => (participant, &[FLUSH], 1),
+        _ => (0, &[], 0),
+    }
+}
+
+/// Begins a participant's call, goes on with it up to its end, and puts all replies behind those that are there.
+pub fn call_by_steps<S: BagStore<Job = Deferral>>(
+    world: &mut World<S>,
+    participant: u64,
+    call: Call,
+    replies: &mut Vec<Reply>,
+) -> Result<(), Fail> {
+    go_to_end(
+        world,
+        Step::Begin(participant, call),
+        Step::Go(participant),
+        replies,
+    )
+}
+
+/// Takes the first step and then the other one, until a reply ends what is under way.
+fn go_to_end<S: BagStore<Job = Deferral>>(
+    world: &mut World<S>,
+    first: Step,
+    other: Step,
+    replies: &mut Vec<Reply>,
+) -> Result<(), Fail> {
+    let mut step = first;
+    for _ in 0..MANY {
+        for reply in world.run(&[step])? {
+            replies.push(reply)?;
+            if matches!(reply, Reply::Done(_) | Reply::Refused(_)) {
+                return Ok(());
+            }
+        }
+        step = other;
+    }
+    Err(Fail::from("it has no end"))
+}
+
+/// What has to be told of this.
+fn expected(alloc: Global, deed: Deed) -> Result<Vec<Reply>, Fail> {
+    let mut replies = Vec::new(alloc);
+    match deed {
+        Deed::Takes(_, reply) => replies.push(reply)?,
+        Deed::Calls(_, _, told) | Deed::Goes(_, told) => replies.extend_from_slice(told)?,
+        Deed::Guards(_, first, end) => {
+            for guard in first..end {
+                replies.push(Reply::Done(Answer::Guard(guard)))?;
+            }
+        }
+        Deed::Defers(_, first, end) => {
+            for ticket in first..end {
+                replies.extend_from_slice(&[Reply::Deferred(ticket), UNIT])?;
+            }
+        }
+        Deed::Flushes(_, tickets, answer) => {
+            for (first, end) in tickets {
+                add_called(&mut replies, *first, *end)?;
+            }
+            replies.push(answer)?;
+        }
+        Deed::Ends(first, end) => {
+            add_called(&mut replies, first, end)?;
+            replies.push(Reply::Done(Answer::Count(end.saturating_sub(first))))?;
+        }
+        deed => {
+            let (_, _, times) = calls_of(deed);
+            for _ in 0..times {
+                add_once(&mut replies, deed)?;
+            }
+        }
+    }
+    Ok(replies)
+}
+
+fn add_called(replies: &mut Vec<Reply>, first: u64, end: u64) -> Result<(), Fail> {
+    for ticket in first..end {
+        replies.push(Reply::Called(ticket, Called::Ran))?;
+    }
+    Ok(())
+}
+
+/// What is told each time by pins and unpins that are made many times.
+fn add_once(replies: &mut Vec<Reply>, deed: Deed) -> Result<(), Fail> {
+    match deed {
+        Deed::Pins(participant) => replies.extend_from_slice(&pinned(participant))?,
+        Deed::Unpins(participant) => replies.extend_from_slice(&unpinned(participant))?,
+        Deed::Cycles(participant, _) => {
+            replies.extend_from_slice(&pinned(participant))?;
+            replies.extend_from_slice(&unpinned(participant))?;
+        }
+        Deed::Rounds(participant, _) => {
+            replies.extend_from_slice(&pinned(participant))?;
+            replies.push(UNIT)?;
+            replies.extend_from_slice(&unpinned(participant))?;
+        }
+        Deed::Pauses(participant, _) => {
+            replies.extend_from_slice(&unpinned(participant))?;
+            replies.extend_from_slice(&[Reply::Pinned(participant), UNIT])?;
+        }
+        _ => {}
+    }
+    Ok(())
+}
+
+fn pinned(participant: u64) -> [Reply; 2] {
+    [Reply::Pinned(participant), Reply::Done(Answer::Guard(0))]
+}
+
+fn unpinned(participant: u64) -> [Reply; 2] {
+    [Reply::Unpinned(participant), UNIT]
+}
