@@ -1,12 +1,20 @@
-//! Times the steps on the participants' table beside the same steps on plain atomic words.
+//! Times the steps on the participants' table, the calls of handles, and pointers, beside plain atomic words.
 //!
 //! With no argument it makes a short run, and prints what the steps found. With `long` it prints times.
 #![tactic(auto)]
 
 mod handles;
+mod idle;
 mod long;
+mod objects;
+mod pointers;
 mod short;
+mod steps;
+mod threads;
+mod timing;
 
+use epoch_base::{Job, Work};
+use std::alloc::AllocError;
 use std::{env, io};
 
 fn main(rt: HostRuntime) -> io::Result<()> {
@@ -16,9 +24,14 @@ fn main(rt: HostRuntime) -> io::Result<()> {
             is_long = true;
         }
     }
-    if is_long {
-        long::run(&rt, rt.alloc())
-    } else {
-        short::run(&rt)
+    if !is_long {
+        return short::run(&rt);
     }
+    let alloc = rt.alloc();
+    let mut jobs = Vec::new(alloc);
+    for _ in 0..handles::DEFERRALS * timing::ROUNDS as u64 {
+        let run = Box::new(alloc, || {})?;
+        jobs.push(Job::Call(Work { run })).map_err(|_| AllocError)?;
+    }
+    long::run(&rt, alloc, jobs)
 }

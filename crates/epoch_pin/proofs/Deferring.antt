@@ -9,7 +9,7 @@ use Rattle.epoch_pin.specs.declared.machine.Ask.TheVariants.{KeepJob}
 use Rattle.epoch_pin.specs.declared.machine.Stage.{Stage}
 use Rattle.epoch_pin.specs.declared.machine.Stage.TheVariants.{Idle, LoadSeal, Keep, End}
 use Rattle.epoch_pin.specs.declared.local.Local.{Local}
-use Rattle.epoch_pin.specs.Machine.{Machine, begun, heard, after_put}
+use Rattle.epoch_pin.specs.Machine.{Machine, begun, heard, ended, after_put}
 use Rattle.epoch_pin.specs.Asks.{Heard}
 use Rattle.epoch_pin.specs.Drives.{Sight, Drives}
 use Rattle.epoch_pin.specs.Handles.{IsSeated, IsReady}
@@ -35,6 +35,9 @@ module _ {J : Type 0} where
   pub job_kept : (m b n : Machine J) (job : J) → length m.held < m.sizes.bag_jobs → b ≡ begun Defer m → n ≡ heard b (Deferred job) → n ≡ with_kept m m.held job
   job_kept m b n job room begins is = is ∙ ap (λ (z : Machine J). heard z (Deferred job)) begins
       ∙ ap (λ (s : Stage). heard (record (begun Defer m) { stage = s }) (Deferred job)) (keep_begins m room)
+
+  pub kept_at_once : (m n : Machine J) (job : J) → length m.held < m.sizes.bag_jobs → n ≡ ended (heard (begun Defer m) (Deferred job)) → n ≡ ended (with_kept m m.held job)
+  kept_at_once m n job room is = is ∙ ap ended (job_kept m (begun Defer m) (heard (begun Defer m) (Deferred job)) job room refl refl)
 
   pub keep_performed : (places : ℕ) (m : Machine J) (v : Sight J) (job : J) → m.stage ≡ Keep → Drives places m v (heard m (Deferred job)) v
   keep_performed places m v job at =

@@ -10,6 +10,7 @@ use epoch_base::{Job, Run};
 impl<'c, T: Drop, W: Run> Local<'c, T, W> {
     /// Keeps the job in the held bag, which is put first where it is full. Hands the job back where each place was
     /// seen occupied; the bag is as it was then.
+    #[inline]
     pub(crate) fn defer(&mut self, job: Job<W>) -> Result<(), Job<W>>
         requires ready { IsReady self.old }
         requires out { 0 < self.old.machine.guards }
@@ -41,11 +42,7 @@ impl<'c, T: Drop, W: Run> Local<'c, T, W> {
         ensures counted { self.new.machine.guards ≡ self.old.machine.guards }
         ensures kept { self.new.machine.held ≡ self.old.machine.held ++ job ∷ [] }
     {
-        // Its range shows that the count at the end fits.
-        let _guards = self.machine.guards();
-        self.machine.begin(Action::Defer);
-        self.machine.take(Answer::Job(job));
-        self.machine.end();
+        self.machine.keep_with_room(job);
     }
 
     /// A deferral into a full bag: the bag is put first. Hands the job back where each place was seen occupied.

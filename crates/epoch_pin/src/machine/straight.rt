@@ -1,8 +1,8 @@
 //! What a machine is behind all asks of an action at once, for the actions that are written out step by step.
-ghost use Rattle.std.specs.Prelude.{◌≡◌, ◌≢◌, ℕ, true, false, ◌+◌, ◌^◌, ◌<◌};
+ghost use Rattle.std.specs.Prelude.{◌≡◌, ◌≢◌, ℕ, true, false, ◌+◌, ◌^◌, ◌<◌, length};
 ghost use Rattle.epoch_pin.specs.Machine.{begun, heard, ended, with_stage, after_collect, guards_after, StageFits};
-ghost use Rattle.epoch_pin.specs.declared.machine.Answer.TheVariants.{Epoch, Stored};
-ghost use Rattle.epoch_pin.specs.declared.machine.Action.TheVariants.{Pin, Unpin, Repin, Release};
+ghost use Rattle.epoch_pin.specs.declared.machine.Answer.TheVariants.{Epoch, Stored, Job};
+ghost use Rattle.epoch_pin.specs.declared.machine.Action.TheVariants.{Pin, Unpin, Repin, Defer, Release};
 ghost use Rattle.epoch_pin.specs.declared.machine.Stage.TheVariants.{Idle, LoadScan, LoadSeal, Put, Take, End};
 
 use crate::machine::{Action, Machine, PINS_BETWEEN_COLLECTIONS, Stage};
@@ -128,6 +128,18 @@ impl<J> Machine<J> {
 }
 
 impl<J: Drop> Machine<J> {
+    /// Behind a deferral into a bag with room, which kept this job.
+    #[inline]
+    pub(crate) fn keep_with_room(&mut self, job: J)
+        requires idle { self.old.stage ≡ Idle }
+        requires room { length self.old.held < self.old.sizes.bag_jobs }
+        ensures { self.new ≡ ended (heard (begun Defer self.old) (Job job)) }
+    {
+        self.action = Action::Defer;
+        self.full = false;
+        let _ = self.held.try_push(job);
+    }
+
     /// Behind the pin of a release, which published this epoch. Answers whether a collection follows.
     #[inline]
     pub(crate) fn release_pinned(&mut self, epoch: u64) -> bool

@@ -1,0 +1,6 @@
+use Rattle.std.proofs.Common.{◌≡◌}
+use Rattle.epoch_pin.specs.Handles.{IsSame}
+use Rattle.epoch_bench.proofs.idle.replace_objects.Given as goal
+
+abbrev pub invariant-loop-value : goal.invariant-loop-value
+invariant-loop-value g l = IsSame l.fn.handle.local l.handle.local × (l.handle.local.machine.guards ≡ l.fn.handle.local.machine.guards)

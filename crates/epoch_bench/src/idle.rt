@@ -1,0 +1,209 @@
+//! Participants that are not pinned between two calls.
+ghost use Rattle.std.specs.Prelude.{◌≡◌, ℕ};
+ghost use Rattle.epoch_pin.specs.Handles.{IsSame, Owns};
+
+use crate::timing::Timed;
+use epoch_base::Job;
+use epoch_pin::atomic::{Atomic, Owned};
+use epoch_pin::{Collector, Guard, LocalHandle};
+use std::alloc::Global;
+use std::sync::Wait;
+use std::sync::atomic::Ordering::SeqCst;
+
+/// Jobs that are deferred under one guard: as many as a bag takes.
+pub const JOBS: u64 = 64;
+
+/// A participant with no guard out.
+pub struct Idle<'c> {
+    handle: LocalHandle<'c, u64>,
+    ghost none: { handle.local.machine.guards ≡ 0 },
+}
+
+impl<'c> Idle<'c> {
+    /// A new participant, or `None` where each position is taken.
+    pub fn register(collector: &'c Collector<u64>) -> Option<Idle<'c>> {
+        let handle = collector.register().ok()?;
+        Some(Idle { handle })
+    }
+
+    fn pin_and_unpin(&mut self) {
+        let guard = self.handle.pin();
+        self.handle.unpin(guard);
+    }
+
+    /// Pins, flushes and unpins.
+    fn flush(&mut self) {
+        let guard = self.handle.pin();
+        let _ = self.handle.flush(&guard);
+        self.handle.unpin(guard);
+    }
+
+    /// Pins, defers the last jobs, flushes and unpins.
+    fn defer(&mut self, jobs: &mut Vec<Job>) {
+        let guard = self.handle.pin();
+        defer_jobs(&mut self.handle, &guard, jobs);
+        let _ = self.handle.flush(&guard);
+        self.handle.unpin(guard);
+    }
+
+    /// Pins, replaces 64 objects, flushes and unpins. Answers how many objects were replaced.
+    fn replace(&mut self, alloc: Global, pointer: &Atomic<u64>) -> u64 {
+        let guard = self.handle.pin();
+        let count = replace_objects(&mut self.handle, &guard, alloc, pointer);
+        let _ = self.handle.flush(&guard);
+        self.handle.unpin(guard);
+        count
+    }
+
+    /// Pins so many times under one pin.
+    fn nest(&mut self, turns: u64) {
+        let outer = self.handle.pin();
+        pin_under(&mut self.handle, turns);
+        self.handle.unpin(outer);
+    }
+
+    /// Releases the participant, and tries again for as long as its held bag finds no place.
+    pub fn leave<R: Wait>(self, rt: &R) {
+        let Idle { handle } = self;
+        let mut staying = handle;
+        for _ in rt.forever() {
+            match staying.release() {
+                Ok(()) => return,
+                Err((handle, _)) => staying = handle,
+            }
+        }
+        unreachable!()
+    }
+}
+
+fn pin_under(handle: &mut LocalHandle<'_, u64>, turns: u64)
+    requires { handle.old.local.machine.guards ≡ 1 }
+    ensures same { IsSame handle.old.local handle.new.local }
+    ensures counted { handle.new.local.machine.guards ≡ 1 }
+{
+    for _ in 0..turns {
+        let guard = handle.pin();
+        handle.unpin(guard);
+    }
+}
+
+/// Defers the last of the jobs, as many as a bag takes.
+fn defer_jobs(handle: &mut LocalHandle<'_, u64>, guard: &Guard<'_, u64>, jobs: &mut Vec<Job>)
+    requires { Owns handle.old.local guard.now }
+    ensures same { IsSame handle.old.local handle.new.local }
+    ensures counted { handle.new.local.machine.guards ≡ handle.old.local.machine.guards }
+{
+    for _ in 0..JOBS {
+        if let Some(job) = jobs.pop() {
+            let _ = handle.defer(guard, job);
+        }
+    }
+}
+
+/// Places objects behind the pointer, one after the other, and defers the destruction of those before. Answers how
+/// many destructions were deferred.
+fn replace_objects(
+    handle: &mut LocalHandle<'_, u64>,
+    guard: &Guard<'_, u64>,
+    alloc: Global,
+    pointer: &Atomic<u64>,
+) -> u64
+    requires { Owns handle.old.local guard.now }
+    ensures same { IsSame handle.old.local handle.new.local }
+    ensures counted { handle.new.local.machine.guards ≡ handle.old.local.machine.guards }
+{
+    let mut count: u64 = 0;
+    for value in 0..JOBS {
+        let Ok(owned) = Owned::new(alloc, value) else {
+            continue;
+        };
+        let Ok(before) = pointer.swap(owned, SeqCst, guard) else {
+            continue;
+        };
+        if handle.defer_destroy(guard, before).is_ok() {
+            count = count.wrapping_add(1);
+        }
+    }
+    count
+}
+
+/// Pins and unpins.
+#[derive(Drop)]
+pub struct Pins<'a, 'c>(pub &'a mut Idle<'c>);
+
+impl<'a, 'c> Timed for Pins<'a, 'c> {
+    fn go(&mut self, turns: u64) {
+        for _ in 0..turns {
+            self.0.pin_and_unpin();
+        }
+    }
+}
+
+/// Pins and unpins under one pin.
+#[derive(Drop)]
+pub struct Nested<'a, 'c>(pub &'a mut Idle<'c>);
+
+impl<'a, 'c> Timed for Nested<'a, 'c> {
+    fn go(&mut self, turns: u64) {
+        self.0.nest(turns);
+    }
+}
+
+/// Pins, flushes nothing and unpins.
+#[derive(Drop)]
+pub struct Flushes<'a, 'c>(pub &'a mut Idle<'c>);
+
+impl<'a, 'c> Timed for Flushes<'a, 'c> {
+    fn go(&mut self, turns: u64) {
+        for _ in 0..turns {
+            self.0.flush();
+        }
+    }
+}
+
+/// Pins, defers 64 jobs, flushes and unpins. A turn is one job.
+#[derive(Drop)]
+pub struct Deferrals<'a, 'c>(pub &'a mut Idle<'c>, pub Vec<Job>);
+
+impl<'a, 'c> Timed for Deferrals<'a, 'c> {
+    fn go(&mut self, turns: u64) {
+        for _ in 0..turns / JOBS {
+            self.0.defer(&mut self.1);
+        }
+    }
+}
+
+/// Replaces the object behind a pointer, and defers the destruction of the one before, 64 of them under one guard,
+/// which flushes. A turn is one object.
+#[derive(Drop)]
+pub struct Replacements<'a, 'c> {
+    alloc: Global,
+    idle: &'a mut Idle<'c>,
+    pointer: Atomic<u64>,
+    count: u64,
+}
+
+impl<'a, 'c> Replacements<'a, 'c> {
+    pub fn new(alloc: Global, idle: &'a mut Idle<'c>) -> Replacements<'a, 'c> {
+        Replacements {
+            alloc,
+            idle,
+            pointer: Atomic::null(),
+            count: 0,
+        }
+    }
+
+    /// How many objects were replaced.
+    pub fn count(&self) -> u64 {
+        self.count
+    }
+}
+
+impl<'a, 'c> Timed for Replacements<'a, 'c> {
+    fn go(&mut self, turns: u64) {
+        for _ in 0..turns / JOBS {
+            let count = self.idle.replace(self.alloc, &self.pointer);
+            self.count = self.count.wrapping_add(count);
+        }
+    }
+}
