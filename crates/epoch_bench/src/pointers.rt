@@ -1,7 +1,7 @@
 //! Loads and exchanges of pointers, beside the same on a bare word.
 use crate::handles::collector_of;
 use crate::timing::{Timed, compare_loops};
-use epoch_pin::atomic::{Atomic, Shared};
+use epoch_pin::atomic::Atomic;
 use epoch_pin::{Guard, unprotected};
 use std::alloc::Global;
 use std::io;
@@ -41,7 +41,7 @@ struct Exchanges<'a, 'c>(&'a Atomic<u64>, &'a Guard<'c, u64>, u64);
 
 impl<'a, 'c> Timed for Exchanges<'a, 'c> {
     fn go(&mut self, turns: u64) {
-        let mut current = Shared::null();
+        let mut current = self.0.load(SeqCst, self.1);
         for turn in 0..turns {
             let new = current.with_tag((turn % 2) as usize);
             let exchange = self
@@ -60,7 +60,7 @@ struct PlainExchanges<'a>(&'a AtomicU64, u64);
 
 impl<'a> Timed for PlainExchanges<'a> {
     fn go(&mut self, turns: u64) {
-        let mut current = 0;
+        let mut current = self.0.load(SeqCst);
         for turn in 0..turns {
             let new = turn % 2;
             if self
