@@ -316,8 +316,9 @@ impl Seat {
         requires { IsSized sizes }
         ensures { self.new ≡ record (free_seat sizes) { word = Word.Unpinned } }
     {
-        *self = Seat::free(sizes);
-        self.word = Word::Unpinned;
+        let mut seat = Seat::free(sizes);
+        seat.word = Word::Unpinned;
+        *self = seat;
     }
 
     /// Begins a call that isn't refused.
