@@ -1,14 +1,15 @@
 -- A step of a collection, and a call, leave fewer steps for the call under way.
-use Rattle.std.proofs.Common.{◌≡◌, ℕ, ◌+◌, ◌<◌, ◌≤◌, ◌==◌, Bool, true, false, List, [], ◌∷◌, length, Some, refl, ap, sym, subst, ◌∙◌, arith, if◌then◌else◌, zero, suc}
+use Rattle.std.proofs.Common.{◌≡◌, ℕ, ◌+◌, ◌<◌, ◌≤◌, ◌-◌, ◌^◌, ◌==◌, Bool, true, false, List, [], ◌∷◌, length, Some, refl, ap, sym, subst, ◌∙◌, arith, if◌then◌else◌, zero, suc}
 use Rattle.epoch_base.specs.declared.queue.TakeStep.{TakeStep}
 use Rattle.epoch_base.specs.declared.queue.TakeStep.TheVariants.{Again, Empty, Got}
 use Rattle.epoch_pin.specs.declared.machine.Action.{Action}
 use Rattle.epoch_pin.specs.declared.machine.Action.TheVariants.{Pin, Unpin, Repin, Defer, Flush, Release}
-use Rattle.epoch_pin.specs.declared.machine.Ask.TheVariants.{TakeBag, CallJob}
+use Rattle.epoch_pin.specs.declared.machine.Ask.TheVariants.{LoadEpoch, LoadWord, TakeBag, CallJob}
+use Rattle.epoch_pin.specs.declared.machine.Answer.TheVariants.{Epoch, Word as WordFound}
 use Rattle.epoch_pin.specs.declared.machine.Sizes.{Sizes}
 use Rattle.epoch_pin.specs.declared.machine.Stage.{Stage}
-use Rattle.epoch_pin.specs.declared.machine.Stage.TheVariants.{LoadPin, LoadScan, Take, Calling, LoadSeal, Keep, LoadRepin, StoreUnpinned, End}
-use Rattle.epoch_pin.specs.Machine.{Machine, StageFits, rest, is_empty, ask_at, took_heard, gives, after_collect, first_stage}
+use Rattle.epoch_pin.specs.declared.machine.Stage.TheVariants.{LoadPin, ReloadPin, LoadScan, Scan, Advance, Take, Calling, LoadSeal, Keep, LoadRepin, StoreRepin, ReloadRepin, StoreUnpinned, End}
+use Rattle.epoch_pin.specs.Machine.{Machine, StageFits, rest, is_empty, ask_at, hears, holds_up, scanned, took_heard, gives, after_collect, first_stage}
 use Rattle.epoch_world.specs.declared.world.step.Call.{Call}
 use Rattle.epoch_world.specs.declared.world.step.Call.TheVariants.{Pin as PinCall, Unpin as UnpinCall, Repin as RepinCall, Pause, Resume, Defer as DeferCall, Flush as FlushCall, Release as ReleaseCall}
 use Rattle.epoch_world.specs.declared.world.step.Deferral.{Deferral}
@@ -39,6 +40,33 @@ less_at step (suc t) after other fewer last = fewer (omega arith)
 module _ (m : Machine Deferral) (puts takes most : ℕ) where
   abbrev left : ℕ → Stage → ℕ
   left takes' s = steps_at m.action m.sizes (length m.hand) (in_store puts takes' most) s
+
+  -- A LOAD
+
+  epoch_falls : (s : Stage) (e puts' : ℕ) → ask_at s ≡ Some LoadEpoch → puts' ≤ most
+      → machine_steps (hears m s (Epoch e)) (in_store puts' takes most) < left takes s
+  epoch_falls LoadPin e puts' asked few = omega arith
+  epoch_falls ReloadPin e puts' asked few =
+      either_below (steps_at m.action m.sizes (length m.hand) (in_store puts' takes most)) (m.pins == 1) LoadScan (after_collect m.action m.held) _
+      (omega arith) (omega (arith, collect_fits m.action m.sizes (length m.hand) (in_store puts' takes most) m.held))
+  epoch_falls LoadScan e puts' asked few = omega arith
+  epoch_falls LoadSeal e puts' asked few = omega arith
+  epoch_falls LoadRepin e puts' asked few =
+      either_below (steps_at m.action m.sizes (length m.hand) (in_store puts' takes most)) (m.published == e) End (StoreRepin e) _ (omega arith) (omega arith)
+  epoch_falls ReloadRepin e puts' asked few = omega arith
+  epoch_falls _ e puts' asked few = absurd (cc)
+
+  -- behind the last word
+  scanned_falls : (e k takes' : ℕ) → k < m.sizes.positions → takes' ≤ most → left takes' (scanned e) < left takes (Scan e k)
+  scanned_falls e k takes' there few = either_below (left takes') (e == 2 ^ 63 - 1) (Take e 0) (Advance e) _ (omega arith) (omega arith)
+
+  word_falls : (s : Stage) (k w takes' : ℕ) → ask_at s ≡ Some (LoadWord k) → k < m.sizes.positions → takes' ≤ most
+      → machine_steps (hears m s (WordFound w)) (in_store puts takes' most) < left takes s
+  word_falls (Scan e j) k w takes' asked there few =
+      let same : j ≡ k = cc in
+      either_below (left takes') (holds_up e w) (Take e 0) (if j + 1 == m.sizes.positions then scanned e else Scan e (j + 1)) _ (omega arith)
+      (either_below (left takes') (j + 1 == m.sizes.positions) (scanned e) (Scan e (j + 1)) _ (scanned_falls e j takes' (omega arith) few) (omega arith))
+  word_falls _ k w takes' asked there few = absurd (cc)
 
   -- A STEP OF A COLLECTION
 
@@ -79,6 +107,23 @@ module _ (m : Machine Deferral) (puts takes most : ℕ) where
   call_falls _ job jobs asked is = absurd (cc)
 
 -- The machine now is that of the fields m, as they stand in a function of the type.
+
+pub loaded_less : (m now after : Machine Deferral) (puts puts' takes most e : ℕ) → m ≡ now → ask_at now.stage ≡ Some LoadEpoch
+    → after ≡ hears m m.stage (Epoch e) → puts' ≤ most
+    → machine_steps after (in_store puts' takes most) < machine_steps now (in_store puts takes most)
+loaded_less m now after puts puts' takes most e is asked went few =
+    subst (λ (k : Machine Deferral). machine_steps after (in_store puts' takes most) < machine_steps k (in_store puts takes most)) is
+    (subst (λ (k : Machine Deferral). machine_steps k (in_store puts' takes most) < machine_steps m (in_store puts takes most)) (sym went)
+    (epoch_falls m puts takes most m.stage e puts' (ap (λ (k : Machine Deferral). ask_at k.stage) is ∙ asked) few))
+
+pub looked_less : (m now after : Machine Deferral) (puts takes takes' most x w : ℕ) → m ≡ now → ask_at now.stage ≡ Some (LoadWord x)
+    → after ≡ hears m m.stage (WordFound w) → x < now.sizes.positions → takes' ≤ most
+    → machine_steps after (in_store puts takes' most) < machine_steps now (in_store puts takes most)
+looked_less m now after puts takes takes' most x w is asked went there few =
+    subst (λ (k : Machine Deferral). machine_steps after (in_store puts takes' most) < machine_steps k (in_store puts takes most)) is
+    (subst (λ (k : Machine Deferral). machine_steps k (in_store puts takes' most) < machine_steps m (in_store puts takes most)) (sym went)
+    (word_falls m puts takes most m.stage x w takes' (ap (λ (k : Machine Deferral). ask_at k.stage) is ∙ asked)
+    (subst (λ (k : Machine Deferral). x < k.sizes.positions) (sym is) there) few))
 
 pub took_less : (m now after : Machine Deferral) (puts takes takes' most x : ℕ) (step : TakeStep) → m ≡ now → ask_at now.stage ≡ Some (TakeBag x)
     → after ≡ took_heard m m.stage step after.hand → StageFits m.sizes (length m.held) m.stage

@@ -1,7 +1,7 @@
 //! One participant of the world: its word, its machine, and the guards and calls that the world keeps of it.
 ghost use Rattle.std.specs.Prelude.{◌≡◌, ◌≢◌, true, ℕ, ◌+◌, ◌*◌, ◌^◌, ◌<◌, ◌≤◌, Option, Some, None, IfSome, length, ◌⊎◌};
 ghost use Rattle.epoch_pin.specs.Machine.{asks, AskFits, heard, guards_after, IsSized};
-ghost use Rattle.epoch_world.specs.Run.{free_seat, with_word, refusal, waits, call_refusal, guard_refusal, resume_refusal, is_out, begun_seat, drives, ended_seat, end_reply};
+ghost use Rattle.epoch_world.specs.Run.{free_seat, with_machine, with_word, refusal, waits, call_refusal, guard_refusal, resume_refusal, is_out, begun_seat, drives, ended_seat, end_reply};
 ghost use Rattle.epoch_pin.specs.declared.machine.Stage.TheVariants.{Idle, End};
 ghost use Rattle.epoch_world.specs.Seats.{shared, SeatPerforms, WordFits, adds_guard};
 ghost use Rattle.epoch_world.specs.Steps.{in_store, machine_steps};
@@ -139,8 +139,7 @@ impl Seat {
             }
             Ask::StoreEpoch(number) => {
                 *taking = store.start_take();
-                *epoch = number;
-                self.machine.take(Found::Stored);
+                self.advance(number, epoch);
                 Reply::Stepped
             }
             Ask::PutBag(_) => {
@@ -151,15 +150,7 @@ impl Seat {
                 self.machine.take_step(store, taking);
                 Reply::Stepped
             }
-            Ask::KeepJob => {
-                let ticket = *tickets;
-                *tickets = ticket + 1;
-                self.machine.take(Found::Job(Deferral {
-                    ticket,
-                    removes: None,
-                }));
-                Reply::Deferred(ticket)
-            }
+            Ask::KeepJob => Reply::Deferred(self.keep_job(tickets)),
             Ask::CallJob => match self.machine.give() {
                 Some(job) => Reply::Called(job.ticket, Called::Ran),
                 None => unreachable!(),
@@ -182,6 +173,33 @@ impl Seat {
     {
         self.word = Word::Unpinned;
         self.machine.take(Found::Stored);
+    }
+
+    /// Stores the epoch that it advances to.
+    fn advance(&mut self, number: u64, epoch: &mut u64)
+        requires { asks self.old.machine ≡ Some (Ask.StoreEpoch number) }
+        ensures epoch { epoch.new ≡ number }
+        ensures seat { self.new ≡ with_machine self.old (heard self.old.machine Found.Stored) }
+    {
+        *epoch = number;
+        self.machine.take(Found::Stored);
+    }
+
+    /// Keeps a job under the next ticket, which it answers.
+    fn keep_job(&mut self, tickets: &mut u64) -> u64
+        requires asked { asks self.old.machine ≡ Some Ask.KeepJob }
+        requires tickets { tickets.old + 1 < 2 ^ 64 }
+        ensures ticket { result ≡ tickets.old }
+        ensures tickets { tickets.new ≡ tickets.old + 1 }
+        ensures seat { self.new ≡ with_machine self.old (heard self.old.machine (Found.Job (record { ticket = tickets.old; removes = None }))) }
+    {
+        let ticket = *tickets;
+        *tickets = ticket + 1;
+        self.machine.take(Found::Job(Deferral {
+            ticket,
+            removes: None,
+        }));
+        ticket
     }
 
     /// The position is free again.
@@ -298,8 +316,9 @@ impl Seat {
         requires { IsSized sizes }
         ensures { self.new ≡ record (free_seat sizes) { word = Word.Unpinned } }
     {
-        *self = Seat::free(sizes);
-        self.word = Word::Unpinned;
+        let mut seat = Seat::free(sizes);
+        seat.word = Word::Unpinned;
+        *self = seat;
     }
 
     /// Begins a call that isn't refused.
