@@ -229,7 +229,9 @@ impl<'c, T: Drop, W: Run> LocalHandle<'c, T, W> {
         answer
     }
 
-    /// Ends the participant: it pins, puts its held bag, if it has a job, unpins, and frees its position.
+    /// Ends the participant: it pins, puts its held bag, if it has a job, unpins, and frees its position. After an
+    /// accepted release the word is 0, and the held bag, if it had a job, was put whole. No value has that last
+    /// state: `frees` says that there is one.
     ///
     /// `BagsFull`: each place was seen occupied. The handle comes back unpinned, with its bag as it was.
     pub fn release(self) -> Result<(), (LocalHandle<'c, T, W>, Fault)>
