@@ -6,6 +6,7 @@ pub mod Driving
 pub mod Exchanges
 pub mod Expiries
 pub mod Flushing
+pub mod PlacesTold
 pub mod PointerNumbers
 pub mod Putting
 pub mod Releasing

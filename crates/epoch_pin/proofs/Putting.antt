@@ -1,11 +1,14 @@
 -- A put, step by step: what its loop performs is what the machine asks.
-use Rattle.std.proofs.Common.{◌≡◌, ◌≢◌, ◌∙◌, ℕ, ◌≤◌, ◌⊎◌, true, false, [], ◌∷◌, refl, sym, ap, subst, inl, inr}
+use Rattle.std.proofs.Common.{◌≡◌, ◌≢◌, ◌∙◌, ℕ, ◌+◌, ◌≤◌, ◌⊎◌, ◌==◌, if◌then◌else◌, Bool, true, false, List, [], ◌∷◌, refl, sym, ap, subst, inl, inr}
+use Rattle.std.proofs.lemmas.Bool.{false≢true}
+use Rattle.std.proofs.lemmas.Bool.Decides.{eqb_tells}
 use Rattle.epoch_base.specs.TableSteps.{after_epoch}
 use Rattle.epoch_base.specs.SharedPlaces.{PlaceMe, IsKept}
-use Rattle.epoch_base.specs.SharedSteps.{RestsAt, PutsAt, PutMoves}
+use Rattle.epoch_base.specs.SharedSteps.{RestsAt, PutsAt, PutPasses, PutMoves}
 use Rattle.epoch_base.specs.declared.queue.places.PutCursor.{PutCursor}
-use Rattle.epoch_base.specs.declared.queue.places.PutCursor.TheVariants.{Look as PutLook}
+use Rattle.epoch_base.specs.declared.queue.places.PutCursor.TheVariants.{Look as PutLook, Claim as PutClaim, Fill}
 use Rattle.epoch_base.specs.declared.queue.places.TakeCursor.TheVariants.{Look as TakeLook}
+use Rattle.epoch_base.specs.declared.queue.shared_places.view.PlaceView.{PlaceView}
 use Rattle.epoch_base.specs.declared.queue.PutStep.{PutStep}
 use Rattle.epoch_base.specs.declared.queue.PutStep.TheVariants.{Again, Done, Full}
 use Rattle.epoch_base.specs.declared.job.Job.{Job}
@@ -18,7 +21,7 @@ use Rattle.epoch_pin.specs.declared.local.Local.{Local}
 use Rattle.epoch_pin.specs.Machine.{Machine, ask_at, with_stage, after_put, put_heard}
 use Rattle.epoch_pin.specs.Asks.{Heard, PutStepped}
 use Rattle.epoch_pin.specs.Drives.{Cursors, Performed, Reaches, at_start}
-use Rattle.epoch_pin.specs.Handles.{IsSeated, IsSame, IsPinned, KeepsPin, Steps, Puts, sight_of}
+use Rattle.epoch_pin.specs.Handles.{IsSeated, IsSame, IsPinned, KeepsPin, Steps, Puts, IsLeftWhole, sight_of}
 use Rattle.epoch_pin.proofs.Driving.{reaches_on, reached}
 use Rattle.epoch_pin.proofs.StraightCalls.{sight_behind, seated_with, still_read}
 
@@ -40,6 +43,41 @@ sizes_kept : {J : Type 0} (m : Machine J) (step : PutStep) → (put_heard m step
 sizes_kept m Again = refl
 sizes_kept m Done = refl
 sizes_kept m Full = refl
+
+-- WHAT IT LEAVES
+
+-- a step that passes a place has not put the bag
+not_passed : (b : Bool) → ¬ (Done ≡ (if b then Full else Again))
+not_passed true is = absurd (cc is)
+not_passed false is = absurd (cc is)
+
+-- a step that finds a word has not put the bag
+not_done : (places place word : ℕ) (next : PutCursor) → (word ≡ 0 → Done ≡ Again) → ¬ (word ≢ 0 → PutPasses places place Done next)
+not_done places place word next free occupied = elim (eqb_tells word 0) [
+  | inl zero ↦ absurd (cc (free zero.1))
+  | inr other ↦ not_passed (place + 1 == places) (occupied other.1).1
+]
+
+module _ {J : Type 0} where
+  -- the step that is done left the bag in its place, just as it is
+  left_whole : (places seal : ℕ) (cursor next : PutCursor) (jobs : List J) (before after : PlaceView J)
+      → PutMoves places cursor before (record { seal = seal; jobs = jobs }) Done next after
+      → IsLeftWhole jobs after
+  left_whole places seal (PutLook place) next jobs before after (word, is, free, occupied) = absurd (not_done places place word next (λ at. (free at).0) occupied)
+  left_whole places seal (PutClaim place) next jobs before after (word, free, occupied) =
+      absurd (not_done places place word next (λ at. (free at).1) (λ differs. (occupied differs).1))
+  left_whole places seal (Fill place) next jobs before after (done, is) = (seal, before.left, ap (λ (z : PlaceView J). z.left) is)
+
+  -- where the machine says that the put found a place
+  put_whole : (places seal : ℕ) (cursor next : PutCursor) (step : PutStep) (n m : Machine J) (before after : PlaceView J)
+      → step ≢ Again
+      → m ≡ put_heard n step
+      → PutMoves places cursor before (record { seal = seal; jobs = n.held }) step next after
+      → m.full ≡ false
+      → IsLeftWhole n.held after
+  put_whole places seal cursor next Again n m before after over is moves room = absurd (over refl)
+  put_whole places seal cursor next Done n m before after over is moves room = left_whole places seal cursor next n.held before after moves
+  put_whole places seal cursor next Full n m before after over is moves room = absurd (false≢true (sym room ∙ ap (λ (z : Machine J). z.full) is))
 
 -- HOW IT BEGINS
 
@@ -160,6 +198,8 @@ module _ {T W : Type 0} where
     rests = rests;
     same = record { position = put.same.position; collector = put.same.collector };
     pin = record { published = put.pin.published; read = put.pin.read };
+    whole = λ room. subst (λ (z : Machine (Job W)). IsLeftWhole z.held claimer.me.0) put.machine
+        (put_whole n.collector.now.places.places seal cursor next step n.machine m n.claimer.me.0 claimer.me.0 over after moves room);
     machine = put_over h seal step m over (after ∙ ap (λ (z : Machine (Job W)). put_heard z step) put.machine);
     drives = reached h.collector.now.places.places h.machine m (sight_of h) (record { words = n.seat.me.0; places = claimer.me }) (putting next)
         (put_performed h n seal cursor next step m claimer.me put after moves);

@@ -16,8 +16,8 @@ use Rattle.epoch_pin.specs.declared.local.Local.{Local}
 use Rattle.epoch_pin.specs.Machine.{Machine, begun, heard, ended, fresh, guards_after, is_empty, after_unpin, after_put, after_collect, with_stage}
 use Rattle.epoch_pin.specs.Asks.{Heard}
 use Rattle.epoch_pin.specs.Drives.{Sight, Drives, with_words}
-use Rattle.epoch_pin.specs.Handles.{IsReady, IsSame, Steps, PinSteps, Collects, sight_of}
-use Rattle.epoch_pin.specs.Releases.{IsLeaving, IsRefused, IsFreed}
+use Rattle.epoch_pin.specs.Handles.{IsReady, IsSame, IsLeftWhole, Steps, PinSteps, Collects, sight_of}
+use Rattle.epoch_pin.specs.Releases.{IsLeaving, IsRefused, IsFreed, IsReleased}
 use Rattle.epoch_pin.proofs.Driving.{drives_on}
 use Rattle.epoch_pin.proofs.StraightCalls.{unpin_performed, sight_behind, pin_drives, pinned_behind, seated_with, ready_with, rests_still}
 
@@ -70,13 +70,14 @@ module _ {T W : Type 0} where
       → h.machine.stage ≡ StageUnpinned
       → h.machine.action ≡ Release
       → h.machine.full ≡ false
+      → h.machine.held ≡ []
       → Steps h n (after_own h.seat.me.0 None)
       → told ≡ heard n.machine Stored
       → o ≡ record n { machine = told; seat = o.seat }
       → o.seat.me.0 ≡ after_free n.seat.me.0
       → last ≡ heard o.machine Stored
       → IsFreed h (record o { machine = last })
-  left_for_good h n o told last at action room steps is only knows is_last =
+  left_for_good h n o told last at action room none steps is only knows is_last =
       let freed : last ≡ fresh h.machine.sizes = is_last ∙ ap (λ (z : Machine (Job W)). heard z Stored)
       (ap (λ (z : Local T W). z.machine) only ∙ is ∙ ap (λ (z : Machine (Job W)). heard z Stored) steps.machine ∙ store_leads_on h.machine at action room) in
       record {
@@ -86,6 +87,7 @@ module _ {T W : Type 0} where
         };
         position = ap (λ (z : ParticipantView). z.position) knows;
         machine = freed;
+        whole = λ some. absurd (some none);
         drives = subst (λ (z : Machine (Job W)). Drives h.collector.now.places.places h.machine (sight_of h) z (sight_of o)) (sym freed)
             (subst (λ (z : Sight (Job W)). Drives h.collector.now.places.places h.machine (sight_of h) (fresh h.machine.sizes) z)
             (sym (sight_gone h n o steps (ap (λ (z : Local T W). z.claimer) only) knows))
@@ -169,17 +171,23 @@ module _ {J : Type 0} where
   was_full m n (inr is) full = is
 
 module _ {T W : Type 0} where
+  -- the bag stays in its place while the seat takes no step there
+  pub left_still : (jobs : List (Job W)) (n o : Local T W) → o.claimer ≡ n.claimer → IsLeftWhole jobs n.claimer.me.0 → IsLeftWhole jobs o.claimer.me.0
+  left_still jobs n o kept whole = subst (λ z. IsLeftWhole jobs z.me.0) (sym kept) whole
+
   -- what a release did before this way out belongs to it
   pub freed_behind : (h n o : Local T W)
       → IsSame h n
       → n.machine.sizes ≡ h.machine.sizes
       → Drives h.collector.now.places.places h.machine (sight_of h) n.machine (sight_of n)
+      → (h.machine.held ≢ [] → IsLeftWhole h.machine.held o.claimer.me.0)
       → IsFreed n o
       → IsFreed h o
-  freed_behind h n o same sizes before freed = record {
+  freed_behind h n o same sizes before whole freed = record {
     same = record { position = freed.same.position ∙ same.position; collector = freed.same.collector ∙ same.collector };
     position = freed.position;
     machine = freed.machine ∙ ap (λ (z : Sizes). fresh z) sizes;
+    whole = whole;
     drives = drives_on h.collector.now.places.places h.machine n.machine o.machine (sight_of h) (sight_of n) (sight_of o) before
         (subst (λ z. Drives z.now.places.places n.machine (sight_of n) o.machine (sight_of o)) same.collector freed.drives);
   }
@@ -265,10 +273,11 @@ module _ {T W : Type 0} where
       refused_behind (record h { machine = begun Release h.machine }) n o
       (record { position = leaving.same.position; collector = leaving.same.collector }) leaving.held leaving.drives refused
 
-  pub freed_at_last : (h n o : Local T W) → IsLeaving h n → IsFreed n o → IsFreed (record h { machine = begun Release h.machine }) o
+  pub freed_at_last : (h n o : Local T W) → IsLeaving h n → IsFreed n o → IsReleased h o
   freed_at_last h n o leaving freed =
       freed_behind (record h { machine = begun Release h.machine }) n o
-      (record { position = leaving.same.position; collector = leaving.same.collector }) leaving.sizes leaving.drives freed
+      (record { position = leaving.same.position; collector = leaving.same.collector }) leaving.sizes leaving.drives
+      (subst (λ (z : List (Job W)). z ≢ [] → IsLeftWhole z o.claimer.me.0) leaving.held freed.whole) freed
 
   pub same_at_last : (h n o : Local T W) (free : Bool)
       → IsLeaving h n

@@ -13,7 +13,7 @@ use Rattle.epoch_pin.specs.Drives.{Sight, Cursors, Performs, Performed}
 use Rattle.epoch_pin.specs.Told.{word_told, words_told}
 
 -- a scan passes the word, or is held up by it
-passes_or_not : (e w : ℕ) → IsWord w → LetsPass e w ⊎ (¬ LetsPass e w)
+pub passes_or_not : (e w : ℕ) → IsWord w → LetsPass e w ⊎ (¬ LetsPass e w)
 passes_or_not e w (inl free) = inl (inl free)
 passes_or_not e w (inr (inl unpinned)) = inl (inr (inl unpinned))
 passes_or_not e w (inr (inr (published, is))) = elim (eqb_tells published e) [

@@ -1,10 +1,12 @@
 -- What the calls of a handle keep and promise.
-use Rattle.std.specs.Prelude.{◌≡◌, ◌≢◌, ℕ, ◌<◌, ◌≤◌, [], Some, None, true, false, ◌⊎◌}
+use Rattle.std.specs.Prelude.{◌≡◌, ◌≢◌, ℕ, ◌<◌, ◌≤◌, List, [], ◌∷◌, ◌++◌, Option, Some, None, true, false, ◌⊎◌}
+use Rattle.epoch_base.specs.Bags.{Sealed}
 use Rattle.epoch_base.specs.Table.{IsOf}
 use Rattle.epoch_base.specs.TableSteps.{after_epoch, after_own}
 use Rattle.epoch_base.specs.SharedPlaces.{IsOf as IsAt}
 use Rattle.epoch_base.specs.SharedSteps.{RestsAt}
 use Rattle.epoch_base.specs.declared.job.Job.{Job}
+use Rattle.epoch_base.specs.declared.queue.shared_places.view.PlaceView.{PlaceView}
 use Rattle.epoch_base.specs.declared.table.view.ParticipantView.{ParticipantView}
 use Rattle.epoch_base.specs.declared.cells.name.Name.{Name}
 use Rattle.epoch_pin.specs.declared.atomic.shared.Shared.{Shared}
@@ -93,6 +95,10 @@ pub record Collects {T W : Type 0} (old new : Local T W) : Type 0 where
   pub machine : new.machine ≡ record old.machine { stage = after_collect old.machine.action old.machine.held; hand = new.machine.hand }
   pub drives : Drives old.collector.now.places.places old.machine (sight_of old) new.machine (sight_of new)
 
+-- what the seat left in a place last is a bag of just these jobs, in this order
+abbrev pub IsLeftWhole : {J : Type 0} → List J → PlaceView J → Type 0
+IsLeftWhole {J} jobs v = (seal : ℕ) × (before : List (Option (Sealed J))) × (v.left ≡ before ++ Some (record { seal = seal; jobs = jobs }) ∷ [])
+
 -- It sealed the held bag with the epoch that it loaded, and put it into a place, or it has seen every place occupied.
 pub record Puts {T W : Type 0} (old new : Local T W) : Type 0 where
   pub seated : IsSeated new
@@ -101,6 +107,7 @@ pub record Puts {T W : Type 0} (old new : Local T W) : Type 0 where
   pub pin : KeepsPin old new
   pub machine : (new.machine ≡ record old.machine { stage = after_put old.machine.action false; full = false; held = [] })
       ⊎ (new.machine ≡ record old.machine { stage = after_put old.machine.action true; full = true })
+  pub whole : new.machine.full ≡ false → IsLeftWhole old.machine.held new.claimer.me.0
   pub drives : Drives old.collector.now.places.places old.machine (sight_of old) new.machine (sight_of new)
 
 -- The word says what the machine says: pinned in the published epoch while guards are out, and not pinned while none is.

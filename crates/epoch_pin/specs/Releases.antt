@@ -7,7 +7,7 @@ use Rattle.epoch_pin.specs.declared.machine.Stage.TheVariants.{End}
 use Rattle.epoch_pin.specs.declared.local.Local.{Local}
 use Rattle.epoch_pin.specs.Machine.{Machine, begun, ended, fresh}
 use Rattle.epoch_pin.specs.Drives.{Drives}
-use Rattle.epoch_pin.specs.Handles.{IsSeated, IsReady, IsSame, IsPinned, sight_of}
+use Rattle.epoch_pin.specs.Handles.{IsSeated, IsReady, IsSame, IsPinned, IsLeftWhole, sight_of}
 
 -- The release has come to where it puts the held bag, if it has a job, and leaves: it is pinned, and holds what it held.
 pub record IsLeaving {T W : Type 0} (old new : Local T W) : Type 0 where
@@ -35,9 +35,15 @@ pub record IsRefused {T W : Type 0} (old new : Local T W) : Type 0 where
   pub held : (old.machine.held ≢ []) × (new.machine.held ≡ old.machine.held)
   pub counted : new.machine.guards ≡ 0
 
--- The position is free, and the machine is that of a free position.
+-- The position is free, the machine is that of a free position, and the held bag, if it had a job, was left whole in a place.
 pub record IsFreed {T W : Type 0} (old new : Local T W) : Type 0 where
   pub same : IsSame old new
   pub position : new.seat.me.0.position ≡ None
   pub machine : new.machine ≡ fresh old.machine.sizes
+  pub whole : old.machine.held ≢ [] → IsLeftWhole old.machine.held new.claimer.me.0
   pub drives : Drives old.collector.now.places.places old.machine (sight_of old) new.machine (sight_of new)
+
+-- A release was begun and driven until the position was free: the own word is 0, and the held bag, if it had a job,
+-- was put whole.
+abbrev pub IsReleased : {T W : Type 0} → Local T W → Local T W → Type 0
+IsReleased old last = IsFreed (record old { machine = begun Release old.machine }) last

@@ -2,6 +2,7 @@
 ghost use Rattle.std.specs.Prelude.{◌≡◌, ℕ, ◌+◌, ◌<◌, ◌^◌, ◌↔◌, ◌≢◌, [], ◌∷◌, ◌++◌, ◌⊎◌, IsTrue, IsSome, IsOk, IsErr, Err, IfOk, IfErr, IsOkUnless, Some, None, length};
 ghost use Rattle.epoch_base.specs.declared.fault.Fault.TheVariants.{TableFull, StrangerGuard, BagsFull};
 ghost use Rattle.epoch_pin.specs.Handles.{IsReady, IsNew, IsSame, Owns, Does};
+ghost use Rattle.epoch_pin.specs.Releases.{IsReleased};
 ghost use Rattle.epoch_pin.specs.declared.machine.Action.TheVariants.{Pin, Unpin, Repin, Defer, Flush, Release};
 
 use crate::collector::Collector;
@@ -228,7 +229,9 @@ impl<'c, T: Drop, W: Run> LocalHandle<'c, T, W> {
         answer
     }
 
-    /// Ends the participant: it pins, puts its held bag, if it has a job, unpins, and frees its position.
+    /// Ends the participant: it pins, puts its held bag, if it has a job, unpins, and frees its position. After an
+    /// accepted release the word is 0, and the held bag, if it had a job, was put whole. No value has that last
+    /// state: `frees` says that there is one.
     ///
     /// `BagsFull`: each place was seen occupied. The handle comes back unpinned, with its bag as it was.
     pub fn release(self) -> Result<(), (LocalHandle<'c, T, W>, Fault)>
@@ -239,9 +242,11 @@ impl<'c, T: Drop, W: Run> LocalHandle<'c, T, W> {
         ensures ready { IfErr result (λ back. IsReady back.0.local) }
         ensures held { IfErr result (λ back. (self.entry.local.machine.held ≢ []) × (back.0.local.machine.held ≡ self.entry.local.machine.held)) }
         ensures counted { IfErr result (λ back. back.0.local.machine.guards ≡ 0) }
+        ensures frees { IsOk result → (last : _) × IsReleased self.entry.local last }
     {
         let LocalHandle { mut local } = self;
-        if local.release() {
+        let freed = local.release();
+        if freed {
             Local::spend(local);
             return Ok(());
         }

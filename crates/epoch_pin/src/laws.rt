@@ -1,7 +1,7 @@
 //! What holds of every machine's asks, and of what threads perform: laws of the definitions.
 ghost use Rattle.epoch_pin.specs.declared.machine.Action.{Action};
 ghost use Rattle.epoch_pin.specs.Machine.{Machine, IsSized, begun};
-ghost use Rattle.epoch_pin.specs.Told.{RepliesAreFound, ExpiriesAreSeen};
+ghost use Rattle.epoch_pin.specs.Told.{RepliesAreFound, ExpiriesAreSeen, AnswersAreFound};
 ghost use Rattle.epoch_pin.specs.Asks.{Log, Asked, Follows, asks_more};
 
 /// What a machine asks from the beginning of an action on, and in which order, is what the table of asks
@@ -20,4 +20,10 @@ pub fn replies_are_found<J>()
 /// epoch that its seat has read or stored. So a bag whose jobs are called was sealed at least two below one.
 pub fn expiries_are_seen<J>()
     ensures { ExpiriesAreSeen J }
+{}
+
+/// Where a thread performs what its machine asks, each answer of a put or of a collection is the one that the word
+/// found at its place stands for, in order: these are just the words that its seat's steps found there.
+pub fn answers_are_found<J>()
+    ensures { AnswersAreFound J }
 {}

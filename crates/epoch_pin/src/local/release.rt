@@ -2,10 +2,9 @@
 ghost use Rattle.std.specs.Prelude.{◌≡◌, ◌≢◌, true, false, [], None};
 ghost use Rattle.epoch_base.specs.TableSteps.{after_free};
 ghost use Rattle.epoch_base.specs.SharedSteps.{RestsAt};
-ghost use Rattle.epoch_pin.specs.Drives.{Drives};
-ghost use Rattle.epoch_pin.specs.Handles.{IsSeated, IsReady, IsSame, IsPinned, Does, sight_of};
-ghost use Rattle.epoch_pin.specs.Machine.{begun, fresh, after_collect};
-ghost use Rattle.epoch_pin.specs.Releases.{IsLeaving, IsRefused, IsFreed};
+ghost use Rattle.epoch_pin.specs.Handles.{IsSeated, IsReady, IsSame, IsPinned, Does};
+ghost use Rattle.epoch_pin.specs.Machine.{after_collect};
+ghost use Rattle.epoch_pin.specs.Releases.{IsLeaving, IsRefused, IsFreed, IsReleased};
 ghost use Rattle.epoch_pin.specs.declared.machine.Action.TheVariants.{Release};
 ghost use Rattle.epoch_pin.specs.declared.machine.Stage.TheVariants.{StoreUnpinned};
 
@@ -39,9 +38,8 @@ impl<'c, T: Drop, W: Run> Local<'c, T, W> {
         ensures ready { result ≡ false → IsReady self.new }
         ensures held { result ≡ false → (self.old.machine.held ≢ []) × (self.new.machine.held ≡ self.old.machine.held) }
         ensures counted { result ≡ false → self.new.machine.guards ≡ 0 }
-        // where it is accepted: the machine was driven to the store of 0, behind which it is that of a free position
-        ensures frees { result ≡ true → (self.new.seat.me.0.position ≡ None) × (self.new.machine ≡ fresh self.old.machine.sizes)
-            × Drives self.old.collector.now.places.places (begun Release self.old.machine) (sight_of self.old) self.new.machine (sight_of self.new) }
+        // where it is accepted: the held bag is whole in a place, and the machine was driven to the store of 0
+        ensures frees { result ≡ true → IsReleased self.old self.new }
     {
         self.pin_to_leave();
         self.leave()
@@ -93,7 +91,9 @@ impl<'c, T: Drop, W: Run> Local<'c, T, W> {
         requires begins { self.old.machine.stage ≡ StoreUnpinned }
         requires action { self.old.machine.action ≡ Release }
         requires room { self.old.machine.full ≡ false }
-        ensures { IsFreed self.old self.new }
+        requires none { self.old.machine.held ≡ [] }
+        ensures freed { IsFreed self.old self.new }
+        ensures kept { self.new.claimer ≡ self.old.claimer }
     {
         self.store_unpinned();
         self.machine.take(Answer::Stored);

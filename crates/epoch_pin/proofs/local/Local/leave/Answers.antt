@@ -2,7 +2,7 @@ use Rattle.std.proofs.Common.{◌∙◌, false, ap, sym, arith}
 use Rattle.epoch_base.specs.declared.job.Job.{Job}
 use Rattle.epoch_pin.specs.declared.machine.Action.{Action}
 use Rattle.epoch_pin.specs.Machine.{Machine, after_put}
-use Rattle.epoch_pin.proofs.Releasing.{was_put, was_full, freed_behind, refused_behind}
+use Rattle.epoch_pin.proofs.Releasing.{was_put, was_full, left_still, freed_behind, refused_behind}
 use Rattle.epoch_pin.proofs.local.Local.leave.Goals as goal
 
 -- the bag found no place
@@ -22,7 +22,10 @@ leave_for_good-requires-2 g c =
         puts.seated,
         (
           ap (λ (z : Machine (Job g.row.W.Denot)). z.stage) is ∙ ap (λ (a : Action). after_put a false) c.requires.action,
-          (ap (λ (z : Machine (Job g.row.W.Denot)). z.action) is ∙ c.requires.action, ap (λ (z : Machine (Job g.row.W.Denot)). z.full) is),
+          (
+            ap (λ (z : Machine (Job g.row.W.Denot)). z.action) is ∙ c.requires.action,
+            (ap (λ (z : Machine (Job g.row.W.Denot)). z.full) is, ap (λ (z : Machine (Job g.row.W.Denot)). z.held) is),
+          ),
         ),
       ),
     )
@@ -31,4 +34,6 @@ pub returns-clause-freed : goal.returns-clause-freed
 returns-clause-freed g c = λ _.
     let h = c.args.self.now in let n = c.put.new.self in let puts = c.put.ensures in
     let is = was_put h.machine n.machine puts.machine (sym c.found_full.ensures ∙ c.if-found_full.false) in
-    freed_behind h n c.leave_for_good-2.new.self puts.same (ap (λ (z : Machine (Job g.row.W.Denot)). z.sizes) is) puts.drives c.leave_for_good-2.ensures
+    freed_behind h n c.leave_for_good-2.new.self puts.same (ap (λ (z : Machine (Job g.row.W.Denot)). z.sizes) is) puts.drives
+    (λ _. left_still h.machine.held n c.leave_for_good-2.new.self c.leave_for_good-2.ensures.kept (puts.whole (sym c.found_full.ensures ∙ c.if-found_full.false)))
+    c.leave_for_good-2.ensures.freed

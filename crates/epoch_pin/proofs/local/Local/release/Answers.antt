@@ -25,5 +25,4 @@ returns-clause-counted g c = λ refused.
 -- where the position is free
 pub returns-clause-frees : goal.returns-clause-frees
 returns-clause-frees g c = λ free.
-    let freed = freed_at_last c.args.self.now c.pin_to_leave.new.self c.leave.new.self c.pin_to_leave.ensures.leaving (c.leave.ensures.freed free) in
-    (freed.position, freed.machine, freed.drives)
+    freed_at_last c.args.self.now c.pin_to_leave.new.self c.leave.new.self c.pin_to_leave.ensures.leaving (c.leave.ensures.freed free)
