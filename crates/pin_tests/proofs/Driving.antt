@@ -10,7 +10,7 @@ use Rattle.epoch_pin.specs.declared.machine.Answer.{Answer}
 use Rattle.epoch_pin.specs.declared.machine.Answer.TheVariants.{Epoch, Word, Stored, Job}
 use Rattle.epoch_pin.specs.declared.machine.Ask.TheVariants.{StoreFree as AskFree}
 use Rattle.epoch_pin.specs.declared.machine.Stage.{Stage}
-use Rattle.epoch_pin.specs.declared.machine.Stage.TheVariants.{Idle, LoadPin, StorePin, ReloadPin, LoadScan, Scan, Advance, Take, Calling, LoadSeal, Put, Keep, LoadRepin, StoreRepin, ReloadRepin, StoreUnpinned, StoreFree, End}
+use Rattle.epoch_pin.specs.declared.machine.Stage.TheVariants.{Idle, LoadPin, StorePin, ReloadPin, LoadScan, Scan, Advance, Take, Calling, LoadSeal, Keep, LoadRepin, StoreRepin, ReloadRepin, StoreUnpinned, StoreFree, End}
 use Rattle.epoch_pin.specs.Machine.{Machine, is_empty, ask_at, first_stage, holds_up, scanned, past_word, after_collect, after_pin, after_put, after_unpin, after_job, hears, put_heard, took_heard, gives}
 
 abbrev rests : Stage → Bool
