@@ -1,6 +1,8 @@
-//! Tests of `epoch_base` by its public calls: cells, calls of jobs, stores of bags and the participants' table.
+//! Tests of `epoch_base` by its public calls: bags, cells, calls of jobs, stores of bags and the participants' table.
 #![tactic(auto)]
 
+#[cfg(test)]
+mod bags;
 #[cfg(test)]
 mod cells;
 #[cfg(test)]

@@ -16,8 +16,6 @@ mod owned;
 mod pointable;
 mod pointer;
 mod shared;
-#[cfg(test)]
-mod tests;
 mod update;
 mod word;
 

@@ -9,8 +9,6 @@ ghost use Rattle.epoch_pin.specs.declared.machine.Sizes.{Sizes};
 
 mod shared;
 mod straight;
-#[cfg(test)]
-mod tests;
 
 use epoch_base::{Bag, BagStore, Epoch, GREATEST_EPOCH, PutStep, SealedBag, TakeStep};
 use std::marker::Model;

@@ -1,4 +1,5 @@
-//! Tests of `epoch_pin` by its public calls: handles, guards and a collector's end, on one thread and on several.
+//! Tests of `epoch_pin` by its public calls: handles, guards and a collector's end, on one thread and on several,
+//! pointers, and the machine by hand-given answers.
 #![tactic(auto)]
 
 #[cfg(test)]
@@ -9,6 +10,10 @@ mod calls;
 mod guards;
 #[cfg(test)]
 mod jobs;
+#[cfg(test)]
+mod machine;
+#[cfg(test)]
+mod pointers;
 #[cfg(test)]
 mod program;
 #[cfg(test)]

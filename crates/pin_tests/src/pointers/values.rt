@@ -130,30 +130,41 @@ fn values_are_made_from_themselves(rt: HostRuntime) -> Result<(), Fail> {
     Ok(())
 }
 
-fn pointer(name: Option<Name>, tag: u8) -> Shared<'static, u64> {
-    Shared {
-        name,
-        tag,
-        home: None,
+// The turns, slots and tags of each pointer, whose numbers are 3, 256, 512, 4294967552 and 4294967811.
+const ORDERED: [&str; 5] = [
+    "Shared { name: None, tag: 3, .. }",
+    "Shared { name: Some(Name { turn: 0, slot: 1 }), tag: 0, .. }",
+    "Shared { name: Some(Name { turn: 0, slot: 2 }), tag: 0, .. }",
+    "Shared { name: Some(Name { turn: 1, slot: 1 }), tag: 0, .. }",
+    "Shared { name: Some(Name { turn: 1, slot: 2 }), tag: 3, .. }",
+];
+
+fn placed<'g, R: Abort>(rt: &R, owned: Owned<u64>, guard: &'g Guard<'_, u64>) -> Shared<'g, u64> {
+    match owned.into_shared(guard) {
+        Ok(shared) => shared,
+        Err(_refused) => panic!(rt; "the cells are full"),
     }
 }
 
-// Their numbers are 3, 256, 512, 4294967552 and 4294967811.
-#[test]
-fn pointers_are_ordered_by_their_numbers(rt: HostRuntime) {
-    let pointers = [
-        pointer(None, 3),
-        pointer(Name::new(1, 0), 0),
-        pointer(Name::new(2, 0), 0),
-        pointer(Name::new(1, 1), 0),
-        pointer(Name::new(2, 1), 3),
-    ];
+// The values of the first turn are taken back before those of the second come in.
+pub fn ordered<R: Abort>(rt: &R, alloc: Global, guard: &Guard<'_, u64>) -> Result<(), Fail> {
+    let one = placed(rt, Owned::new(alloc, 1)?, guard);
+    let two = placed(rt, Owned::new(alloc, 2)?, guard);
+    assert!(rt; one.into_owned().is_some() && two.into_owned().is_some());
+    let next_one = placed(rt, Owned::new(alloc, 3)?, guard);
+    let next_two = placed(rt, Owned::new(alloc, 4)?.with_tag(3), guard);
+    let pointers = [Shared::null().with_tag(3), one, two, next_one, next_two];
+    for (pointer, expected) in pointers.iter().zip(ORDERED) {
+        let text = format!(in alloc; "{pointer:?}")?;
+        assert_eq!(rt; text.as_str(), expected);
+    }
     for (i, one) in pointers.iter().enumerate() {
         for (k, other) in pointers.iter().enumerate() {
             assert!(rt; one.cmp(other) == i.cmp(&k), "pointers {i} and {k}");
             assert!(rt; (*one == *other) == (i == k), "pointers {i} and {k}");
         }
     }
+    Ok(())
 }
 
 #[test]

@@ -26,15 +26,6 @@ fn lends_nothing<T: Pointable + Drop>(shared: Shared<'_, T>) -> bool {
     }
 }
 
-fn value_of<R: Abort>(rt: &R, shared: Shared<'_, u64>) -> u64 {
-    let Some(reading) = shared.deref() else {
-        panic!(rt; "no value is there")
-    };
-    let value = *reading.get();
-    reading.leave();
-    value
-}
-
 pub fn stored_and_swapped<R: Abort>(
     rt: &R,
     alloc: Global,
@@ -48,7 +39,12 @@ pub fn stored_and_swapped<R: Abort>(
     };
     assert!(rt; before == first);
     let second = atomic.load(SeqCst, guard);
-    assert_eq!(rt; (second.name, second.tag()), (Name::new(2, 0), 5));
+    assert_eq!(rt; second.tag(), 5);
+    let text = format!(in alloc; "{second:?}")?;
+    assert_eq!(rt;
+        text.as_str(),
+        "Shared { name: Some(Name { turn: 0, slot: 2 }), tag: 5, .. }"
+    );
     assert_eq!(rt; value_of(rt, second), 8);
     assert!(rt; atomic.store(first, SeqCst, guard).is_ok());
     let Some(owned) = atomic.into_owned(guard) else {
@@ -110,12 +106,12 @@ pub fn destroyed<R: Abort>(rt: &R, alloc: Global, guard: &Guard<'_, u64>) -> Res
     let Ok(placed) = Owned::new(alloc, 6)?.into_shared(guard) else {
         panic!(rt; "the cells are full")
     };
-    let stranger = Shared {
-        name: placed.name,
-        tag: 0,
-        home: None,
-    };
-    assert!(rt; guard.destroy_now(stranger).is_err());
+    let other = Collector::new(alloc, Capacities::usual(1, 1, 1), 2)?;
+    let others = unprotected(&other);
+    let outcome = keeps_a_strangers_value(rt, alloc, guard, &others, placed);
+    let_go(rt, others);
+    assert_eq!(rt; other.end(), 0);
+    outcome?;
     assert!(rt; guard.destroy_now(Shared::null().with_tag(3)).is_err());
     let Some(reading) = placed.deref() else {
         panic!(rt; "no value is there")
@@ -125,6 +121,25 @@ pub fn destroyed<R: Abort>(rt: &R, alloc: Global, guard: &Guard<'_, u64>) -> Res
     assert!(rt; is_called(held, Called::HeldElsewhere));
     assert!(rt; is_called(guard.destroy_now(placed), Called::Destroyed));
     assert!(rt; is_called(guard.destroy_now(placed), Called::Gone));
+    Ok(())
+}
+
+// Of two collectors, the first slot's pointers are equal.
+fn keeps_a_strangers_value<R: Abort>(
+    rt: &R,
+    alloc: Global,
+    guard: &Guard<'_, u64>,
+    others: &Guard<'_, u64>,
+    placed: Shared<'_, u64>,
+) -> Result<(), Fail> {
+    let Ok(stranger) = Owned::new(alloc, 9)?.into_shared(others) else {
+        panic!(rt; "the other collector's cells are full")
+    };
+    assert!(rt; stranger == placed);
+    match guard.destroy_now(stranger) {
+        Err(back) => assert_eq!(rt; value_of(rt, back), 9),
+        Ok(_) => panic!(rt; "another collector's pointer was taken"),
+    }
     Ok(())
 }
 

@@ -38,7 +38,11 @@ pub fn won_and_lost<R: Abort>(rt: &R, alloc: Global, guard: &Guard<'_, i32>) -> 
     let Ok(next) = Owned::new(alloc, 1)?.into_shared(guard) else {
         panic!(rt; "no cell is free")
     };
-    assert_eq!(rt; next.name, Name::new(2, 1));
+    let text = format!(in alloc; "{next:?}")?;
+    assert_eq!(rt;
+        text.as_str(),
+        "Shared { name: Some(Name { turn: 1, slot: 2 }), tag: 0, .. }"
+    );
     Ok(())
 }
 
@@ -88,7 +92,12 @@ pub fn each_form<R: Abort>(rt: &R, alloc: Global, guard: &Guard<'_, i32>) -> Res
     let Ok(first) = atomic.compare_exchange(Shared::null(), owned, SeqCst, SeqCst, guard) else {
         panic!(rt; "compare_exchange was lost")
     };
-    assert_eq!(rt; (first.name, first.tag()), (Name::new(1, 0), 2));
+    assert_eq!(rt; first.tag(), 2);
+    let text = format!(in alloc; "{first:?}")?;
+    assert_eq!(rt;
+        text.as_str(),
+        "Shared { name: Some(Name { turn: 0, slot: 1 }), tag: 2, .. }"
+    );
     let Ok(second) = atomic.compare_exchange_weak(first, first.with_tag(3), SeqCst, SeqCst, guard)
     else {
         panic!(rt; "compare_exchange_weak was lost")

@@ -1,10 +1,9 @@
-use crate::atomic::{
+use epoch_base::{Called, Fault, Refused};
+use epoch_pin::atomic::{
     Array, Atomic, Borrow, BorrowMut, CompareAndSetOrdering, CompareExchangeError, ExchangeFault,
     Owned, Pointable, Pointer, Shared, UpdateFault,
 };
-use crate::collector::{Capacities, Collector};
-use crate::guard::{Guard, unprotected};
-use epoch_base::{Called, Fault, Name, Refused};
+use epoch_pin::{Capacities, Collector, Guard, unprotected};
 use std::alloc::Global;
 use std::process::Abort;
 use std::sync::atomic::Ordering;
@@ -15,15 +14,6 @@ mod cells;
 mod exchanges;
 mod values;
 
-fn collector_of<T: Drop>(alloc: Global, cells: u32) -> Result<Collector<T>, Fault> {
-    let capacities = Capacities::usual(1, cells, 1);
-    if capacities.is_valid() {
-        Collector::new(alloc, capacities, 1)
-    } else {
-        Err(Fault::NoMemory)
-    }
-}
-
 fn let_go<T, R: Abort>(rt: &R, guard: Guard<'_, T>) {
     match guard.let_go() {
         Ok(()) => {}
@@ -31,24 +21,23 @@ fn let_go<T, R: Abort>(rt: &R, guard: Guard<'_, T>) {
     }
 }
 
-fn spend<T: Drop>(collector: Collector<T>) {
-    let Collector {
-        id: _,
-        participants: _,
-        places: _,
-        cells: _,
-        sizes: _,
-    } = collector;
+fn value_of<R: Abort>(rt: &R, shared: Shared<'_, u64>) -> u64 {
+    let Some(reading) = shared.deref() else {
+        panic!(rt; "no value is there")
+    };
+    let value = *reading.get();
+    reading.leave();
+    value
 }
 
 // Calls the rows under an unprotected guard of a collector with this many cells.
 macro_rules! under_guard {
     ($rt:expr, $cells:expr, $rows:expr) => {{
-        let collector = collector_of($rt.alloc(), $cells)?;
+        let collector = Collector::new($rt.alloc(), Capacities::usual(1, $cells, 1), 1)?;
         let guard = unprotected(&collector);
         let outcome = $rows(&$rt, $rt.alloc(), &guard);
         let_go(&$rt, guard);
-        spend(collector);
+        assert_eq!($rt; collector.end(), 0);
         outcome
     }};
 }
@@ -111,6 +100,11 @@ fn a_value_is_destroyed_at_once_unless_it_is_read(rt: HostRuntime) -> Result<(),
 #[test]
 fn a_vec_behind_an_atomic_grows(rt: HostRuntime) -> Result<(), Fail> {
     under_guard!(rt, 1, cells::a_vec)
+}
+
+#[test]
+fn pointers_are_ordered_by_their_numbers(rt: HostRuntime) -> Result<(), Fail> {
+    under_guard!(rt, 2, values::ordered)
 }
 
 #[test]
