@@ -12,4 +12,6 @@ mod jobs;
 #[cfg(test)]
 mod program;
 #[cfg(test)]
+mod repins;
+#[cfg(test)]
 mod threads;
