@@ -6,11 +6,19 @@ mod bags;
 #[cfg(test)]
 mod calls;
 #[cfg(test)]
+mod collections;
+#[cfg(test)]
+mod deferrals;
+#[cfg(test)]
+mod ends;
+#[cfg(test)]
 mod guards;
 #[cfg(test)]
 mod jobs;
 #[cfg(test)]
 mod program;
+#[cfg(test)]
+mod removals;
 #[cfg(test)]
 mod repins;
 #[cfg(test)]

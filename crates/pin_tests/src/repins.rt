@@ -183,3 +183,26 @@ fn a_repin_after_under_an_unprotected_guard_calls_alone(rt: HostRuntime) -> Resu
     assert_eq!(rt; collector.end(), 0);
     Ok(())
 }
+
+#[test]
+fn each_128th_repin_after_collects_as_a_pin_does(rt: HostRuntime) -> Result<(), Fail> {
+    let calls = Arc::new(rt.alloc(), AtomicU64::new(0))?;
+    let jobs = counting_jobs!(rt.alloc(), 1u64, calls, 1u64);
+    let collector = Collector::<u64>::new(rt.alloc(), Capacities::usual(1, 0, 1), 1)?;
+    let mut handle = collector.register().expect(&rt, "a free position");
+    let mut guard = pin(&rt, &mut handle);
+    defer_all(&rt, &mut handle, &guard, jobs);
+    assert_eq!(rt; handle.flush(&guard), Ok(()));
+    // The bag was sealed with 1. The 128th repin after the first pin advances to 2, and the 256th to 3.
+    for (repins, called) in [(255u64, 0u64), (1, 1)] {
+        for _ in 0..repins {
+            assert!(rt; handle.owns(&guard));
+            handle.repin_after(&mut guard, || {});
+        }
+        assert_eq!(rt; calls.load(SeqCst), called);
+    }
+    unpin(&rt, &mut handle, guard);
+    release(&rt, handle);
+    assert_eq!(rt; collector.end(), 0);
+    Ok(())
+}
