@@ -4,19 +4,42 @@ use epoch_pin::{Guard, LocalHandle};
 use std::process::Abort;
 
 /// Pins the handle.
-pub fn pin<'c>(rt: &impl Abort, handle: &mut LocalHandle<'c, u64>) -> Guard<'c, u64> {
+pub(crate) fn pin<'c, T: Drop>(rt: &impl Abort, handle: &mut LocalHandle<'c, T>) -> Guard<'c, T> {
     assert!(rt; handle.can_pin(), "a further guard can be counted");
     handle.pin()
 }
 
 /// Spends a guard of the handle.
-pub fn unpin<'c>(rt: &impl Abort, handle: &mut LocalHandle<'c, u64>, guard: Guard<'c, u64>) {
+pub(crate) fn unpin<'c, T: Drop>(
+    rt: &impl Abort,
+    handle: &mut LocalHandle<'c, T>,
+    guard: Guard<'c, T>,
+) {
     assert!(rt; handle.owns(&guard), "the guard is one of the handle");
     handle.unpin(guard);
 }
 
+/// Repins the handle under a guard of it.
+pub(crate) fn repin<'c, T: Drop>(
+    rt: &impl Abort,
+    handle: &mut LocalHandle<'c, T>,
+    guard: &mut Guard<'c, T>,
+) {
+    assert!(rt; handle.owns(guard), "the guard is one of the handle");
+    handle.repin(guard);
+}
+
+/// Pins and unpins.
+pub(crate) fn cycle<T: Drop>(rt: &impl Abort, handle: &mut LocalHandle<'_, T>) {
+    let guard = pin(rt, handle);
+    unpin(rt, handle, guard);
+}
+
 /// Pins, flushes and unpins. Answers what the flush answered.
-pub fn round(rt: &impl Abort, handle: &mut LocalHandle<'_, u64>) -> Result<(), Fault> {
+pub(crate) fn round<T: Drop>(
+    rt: &impl Abort,
+    handle: &mut LocalHandle<'_, T>,
+) -> Result<(), Fault> {
     let guard = pin(rt, handle);
     let flushed = handle.flush(&guard);
     unpin(rt, handle, guard);
@@ -24,7 +47,7 @@ pub fn round(rt: &impl Abort, handle: &mut LocalHandle<'_, u64>) -> Result<(), F
 }
 
 /// Releases the handle, whose bag finds a place.
-pub fn release(rt: &impl Abort, handle: LocalHandle<'_, u64>) {
+pub(crate) fn release<T: Drop>(rt: &impl Abort, handle: LocalHandle<'_, T>) {
     assert!(rt; handle.guards_out() == 0, "each guard is spent");
     if let Err((_back, fault)) = handle.release() {
         panic!(rt; "{fault}");
@@ -32,7 +55,7 @@ pub fn release(rt: &impl Abort, handle: LocalHandle<'_, u64>) {
 }
 
 /// Releases the handle, whose bag finds no place: it comes back.
-pub fn keep_back<'c>(rt: &impl Abort, handle: LocalHandle<'c, u64>) -> LocalHandle<'c, u64> {
+pub(crate) fn keep_back<'c>(rt: &impl Abort, handle: LocalHandle<'c, u64>) -> LocalHandle<'c, u64> {
     assert!(rt; handle.guards_out() == 0, "each guard is spent");
     let Err((back, fault)) = handle.release() else {
         panic!(rt; "the handle is released");
@@ -42,10 +65,10 @@ pub fn keep_back<'c>(rt: &impl Abort, handle: LocalHandle<'c, u64>) -> LocalHand
 }
 
 /// Defers each job, of which none is refused.
-pub fn defer_all(
+pub(crate) fn defer_all<T: Drop>(
     rt: &impl Abort,
-    handle: &mut LocalHandle<'_, u64>,
-    guard: &Guard<'_, u64>,
+    handle: &mut LocalHandle<'_, T>,
+    guard: &Guard<'_, T>,
     jobs: Vec<Job>,
 ) {
     for job in jobs {
@@ -54,7 +77,7 @@ pub fn defer_all(
 }
 
 /// Why the job was refused, and the name whose removal was handed back.
-pub fn refusal(deferred: Result<(), Refused<Job>>) -> Option<(Fault, Name)> {
+pub(crate) fn refusal(deferred: Result<(), Refused<Job>>) -> Option<(Fault, Name)> {
     let Err(Refused { fault, value }) = deferred else {
         return None;
     };

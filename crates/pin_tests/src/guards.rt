@@ -9,6 +9,7 @@ fn a_participant_is_pinned_until_its_last_guard_is_spent(rt: HostRuntime) -> Res
     for outer_first in [false, true] {
         let collector = Collector::<u64>::new(rt.alloc(), Capacities::usual(1, 0, 1), 1)?;
         let mut handle = collector.register().expect(&rt, "a free position");
+        assert!(rt; !handle.is_pinned(), "no guard was made");
         let (outer, inner) = (pin(&rt, &mut handle), pin(&rt, &mut handle));
         assert!(rt; handle.is_pinned(), "two guards are out");
         let (first, last) = if outer_first {

@@ -7,6 +7,12 @@ mod bags;
 #[cfg(test)]
 mod calls;
 #[cfg(test)]
+mod collections;
+#[cfg(test)]
+mod deferrals;
+#[cfg(test)]
+mod ends;
+#[cfg(test)]
 mod guards;
 #[cfg(test)]
 mod jobs;
@@ -16,5 +22,9 @@ mod machine;
 mod pointers;
 #[cfg(test)]
 mod program;
+#[cfg(test)]
+mod removals;
+#[cfg(test)]
+mod repins;
 #[cfg(test)]
 mod threads;

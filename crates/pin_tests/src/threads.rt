@@ -1,6 +1,8 @@
 use crate::calls::{pin, release, unpin};
 use crate::jobs::counting_jobs;
+use crate::removals::{Counted, counted_values, owned_values, remove_later};
 use epoch_base::{Job, Work};
+use epoch_pin::atomic::Owned;
 use epoch_pin::{Capacities, Collector};
 use std::process::Abort;
 use std::sync::Arc;
@@ -74,5 +76,38 @@ fn stress(rt: HostRuntime) -> Result<(), Fail> {
     });
     let _ = collector.end();
     assert_eq!(rt; calls.load(SeqCst), 8000, "each job was called once");
+    Ok(())
+}
+
+/// Places each value in a cell and defers its removal, under a pin of its own, and releases.
+fn pin_and_remove(rt: &impl Abort, collector: &Collector<Counted>, values: Vec<Owned<Counted>>) {
+    let mut handle = collector.register().expect(rt, "a free position");
+    for value in values {
+        let guard = pin(rt, &mut handle);
+        remove_later(rt, &mut handle, &guard, value);
+        unpin(rt, &mut handle, guard);
+    }
+    release(rt, handle);
+}
+
+#[test]
+fn values_of_8_threads_are_each_dropped_once(rt: HostRuntime) -> Result<(), Fail> {
+    let drops = Arc::new(rt.alloc(), AtomicU64::new(0))?;
+    let mut all = Vec::new(rt.alloc());
+    for _ in 0..8u64 {
+        let values = counted_values!(rt.alloc(), 250u64, drops);
+        all.push(owned_values!(rt.alloc(), values))?;
+    }
+    // As many cells as values, and each thread puts 4 bags at most.
+    let capacities = Capacities::usual(8, 2000, 32);
+    let collector = Collector::<Counted>::new(rt.alloc(), capacities, 1)?;
+    let (host, shared) = (&rt, &collector);
+    thread::scope(thread::scope_env(), &rt, |scope| {
+        for values in all {
+            let _ = scope.spawn(move || pin_and_remove(host, shared, values));
+        }
+    });
+    let _ = collector.end();
+    assert_eq!(rt; drops.load(SeqCst), 2000);
     Ok(())
 }
