@@ -1,6 +1,6 @@
 use super::*;
 
-pub fn null_with_a_tag<R: Abort>(
+pub(crate) fn null_with_a_tag<R: Abort>(
     rt: &R,
     _alloc: Global,
     guard: &Guard<'_, i32>,
@@ -26,7 +26,7 @@ fn lends_nothing<T: Pointable + Drop>(shared: Shared<'_, T>) -> bool {
     }
 }
 
-pub fn stored_and_swapped<R: Abort>(
+pub(crate) fn stored_and_swapped<R: Abort>(
     rt: &R,
     alloc: Global,
     guard: &Guard<'_, u64>,
@@ -59,7 +59,7 @@ pub fn stored_and_swapped<R: Abort>(
     Ok(())
 }
 
-pub fn full<R: Abort>(rt: &R, alloc: Global, guard: &Guard<'_, u64>) -> Result<(), Fail> {
+pub(crate) fn full<R: Abort>(rt: &R, alloc: Global, guard: &Guard<'_, u64>) -> Result<(), Fail> {
     let atomic = Atomic::<u64>::new(alloc, 1, guard)?;
     match atomic.store(Owned::new(alloc, 2)?, SeqCst, guard) {
         Err(back) => assert_eq!(rt; *back, 2),
@@ -81,7 +81,7 @@ pub fn full<R: Abort>(rt: &R, alloc: Global, guard: &Guard<'_, u64>) -> Result<(
     Ok(())
 }
 
-pub fn held<R: Abort>(rt: &R, alloc: Global, guard: &Guard<'_, u64>) -> Result<(), Fail> {
+pub(crate) fn held<R: Abort>(rt: &R, alloc: Global, guard: &Guard<'_, u64>) -> Result<(), Fail> {
     let owned = Owned::new(alloc, 6)?;
     let Ok(placed) = owned.enter(guard) else {
         panic!(rt; "the cells are full")
@@ -102,7 +102,11 @@ pub fn held<R: Abort>(rt: &R, alloc: Global, guard: &Guard<'_, u64>) -> Result<(
     Ok(())
 }
 
-pub fn destroyed<R: Abort>(rt: &R, alloc: Global, guard: &Guard<'_, u64>) -> Result<(), Fail> {
+pub(crate) fn destroyed<R: Abort>(
+    rt: &R,
+    alloc: Global,
+    guard: &Guard<'_, u64>,
+) -> Result<(), Fail> {
     let Ok(placed) = Owned::new(alloc, 6)?.into_shared(guard) else {
         panic!(rt; "the cells are full")
     };
@@ -150,7 +154,11 @@ fn is_called(outcome: Result<Called, Shared<'_, u64>>, expected: Called) -> bool
     }
 }
 
-pub fn a_vec<R: Abort>(rt: &R, alloc: Global, guard: &Guard<'_, Vec<u64>>) -> Result<(), Fail> {
+pub(crate) fn a_vec<R: Abort>(
+    rt: &R,
+    alloc: Global,
+    guard: &Guard<'_, Vec<u64>>,
+) -> Result<(), Fail> {
     let mut values = Vec::new(alloc);
     for value in 1..5u64 {
         values.push(value)?;

@@ -1,7 +1,7 @@
 use super::*;
 
 // What is expected of the first, and what is loaded afterwards.
-pub fn bits_of_the_tag<R: Abort>(
+pub(crate) fn bits_of_the_tag<R: Abort>(
     rt: &R,
     _alloc: Global,
     guard: &Guard<'_, i32>,
@@ -20,7 +20,11 @@ pub fn bits_of_the_tag<R: Abort>(
 }
 
 // Two cells: the lost exchange frees the second one again, for its next turn.
-pub fn won_and_lost<R: Abort>(rt: &R, alloc: Global, guard: &Guard<'_, i32>) -> Result<(), Fail> {
+pub(crate) fn won_and_lost<R: Abort>(
+    rt: &R,
+    alloc: Global,
+    guard: &Guard<'_, i32>,
+) -> Result<(), Fail> {
     let atomic = Atomic::<i32>::new(alloc, 1234, guard)?;
     let current = atomic.load(SeqCst, guard);
     match atomic.compare_exchange(current, Shared::null(), SeqCst, SeqCst, guard) {
@@ -46,7 +50,11 @@ pub fn won_and_lost<R: Abort>(rt: &R, alloc: Global, guard: &Guard<'_, i32>) -> 
     Ok(())
 }
 
-pub fn without_a_cell<R: Abort>(rt: &R, alloc: Global, guard: &Guard<'_, i32>) -> Result<(), Fail> {
+pub(crate) fn without_a_cell<R: Abort>(
+    rt: &R,
+    alloc: Global,
+    guard: &Guard<'_, i32>,
+) -> Result<(), Fail> {
     let atomic = Atomic::<i32>::new(alloc, 1234, guard)?;
     let current = atomic.load(SeqCst, guard);
     let _ = atomic.store(Shared::null(), SeqCst, guard);
@@ -59,7 +67,7 @@ pub fn without_a_cell<R: Abort>(rt: &R, alloc: Global, guard: &Guard<'_, i32>) -
     Ok(())
 }
 
-pub fn with_another_tag<R: Abort>(
+pub(crate) fn with_another_tag<R: Abort>(
     rt: &R,
     alloc: Global,
     guard: &Guard<'_, i32>,
@@ -86,7 +94,11 @@ pub fn with_another_tag<R: Abort>(
 }
 
 // Each form goes on where the one before it left.
-pub fn each_form<R: Abort>(rt: &R, alloc: Global, guard: &Guard<'_, i32>) -> Result<(), Fail> {
+pub(crate) fn each_form<R: Abort>(
+    rt: &R,
+    alloc: Global,
+    guard: &Guard<'_, i32>,
+) -> Result<(), Fail> {
     let atomic = Atomic::<i32>::null();
     let owned = Owned::new(alloc, 9)?.with_tag(2);
     let Ok(first) = atomic.compare_exchange(Shared::null(), owned, SeqCst, SeqCst, guard) else {
@@ -119,7 +131,7 @@ pub fn each_form<R: Abort>(rt: &R, alloc: Global, guard: &Guard<'_, i32>) -> Res
     Ok(())
 }
 
-pub fn updates<R: Abort>(rt: &R, alloc: Global, guard: &Guard<'_, i32>) -> Result<(), Fail> {
+pub(crate) fn updates<R: Abort>(rt: &R, alloc: Global, guard: &Guard<'_, i32>) -> Result<(), Fail> {
     let atomic = Atomic::<i32>::new(alloc, 1234, guard)?;
     match atomic.fetch_update(SeqCst, SeqCst, 3, guard, |old| Some(old.with_tag(1))) {
         Ok(before) => assert_eq!(rt; before.tag(), 0),

@@ -147,7 +147,7 @@ fn placed<'g, R: Abort>(rt: &R, owned: Owned<u64>, guard: &'g Guard<'_, u64>) ->
 }
 
 // The values of the first turn are taken back before those of the second come in.
-pub fn ordered<R: Abort>(rt: &R, alloc: Global, guard: &Guard<'_, u64>) -> Result<(), Fail> {
+pub(crate) fn ordered<R: Abort>(rt: &R, alloc: Global, guard: &Guard<'_, u64>) -> Result<(), Fail> {
     let one = placed(rt, Owned::new(alloc, 1)?, guard);
     let two = placed(rt, Owned::new(alloc, 2)?, guard);
     assert!(rt; one.into_owned().is_some() && two.into_owned().is_some());
@@ -185,7 +185,7 @@ fn one_ordering_or_two_serve_an_exchange(rt: HostRuntime) {
     assert!(rt; pair.failure() == Ordering::Acquire);
 }
 
-pub fn shown<R: Abort>(rt: &R, alloc: Global, guard: &Guard<'_, i32>) -> Result<(), Fail> {
+pub(crate) fn shown<R: Abort>(rt: &R, alloc: Global, guard: &Guard<'_, i32>) -> Result<(), Fail> {
     let owned = Owned::new(alloc, 1234)?.with_tag(2);
     let text = format!(in alloc; "{owned:?}")?;
     assert_eq!(rt; text.as_str(), "Owned { tag: 2, .. }");
