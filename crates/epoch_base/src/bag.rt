@@ -72,11 +72,21 @@ impl<J: Drop> Bag<J> {
         ensures handed_back { IfErr result (λ back. back ≡ job) }
         ensures limit { self.new.limit ≡ self.old.limit }
     {
-        if self.jobs.len() >= self.limit {
+        if self.is_full() {
             return Err(job);
         }
-        self.jobs.push(job);
+        self.push(job);
         Ok(())
+    }
+
+    /// Puts `job` behind the others, where the bag has room.
+    #[inline]
+    pub fn push(&mut self, job: J)
+        requires { length self.old.jobs < self.old.limit }
+        ensures jobs { self.new.jobs ≡ self.old.jobs ++ job ∷ [] }
+        ensures limit { self.new.limit ≡ self.old.limit }
+    {
+        self.jobs.push(job);
     }
 
     /// Seals the bag with this epoch: the one that was read after its last job went in.

@@ -1,8 +1,8 @@
 //! Calls of one handle, beside the words of one pin and unpin.
-use crate::idle::{Deferrals, Flushes, Idle, JOBS, Nested, Pins};
+use crate::idle::{Deferrals, Flushes, Idle, JOBS, Jobs, Nested, Pins};
 use crate::timing::{Hundredths, Timed, best, compare, compare_loops, quotient};
 use bench_steps::plain::PlainWords;
-use epoch_base::Job;
+use epoch_base::{Job, Name};
 use epoch_pin::{Capacities, Collector};
 use std::alloc::Global;
 use std::io;
@@ -45,7 +45,7 @@ fn among_64<R: Clock + Print>(
     rt: &R,
     idle: &mut Idle<'_>,
     plain: &PlainWords,
-    jobs: Vec<Job>,
+    calls: Vec<Job>,
 ) -> io::Result<u64> {
     let mut pins = Pins(idle);
     let what = "pin and unpin of a handle";
@@ -57,8 +57,12 @@ fn among_64<R: Clock + Print>(
     let flush = best(rt, &mut Flushes(idle), FLUSHES)?;
     let what = "pin, flush of nothing and unpin, 64 positions";
     compare(rt, what, flush, words)?;
-    let deferral = best(rt, &mut Deferrals(idle, jobs), DEFERRALS)?;
-    let what = "deferral and call of a job, 64 under one guard";
+    let removals = Jobs::Removals(Name::first());
+    let deferral = best(rt, &mut Deferrals(idle, removals), DEFERRALS)?;
+    let what = "deferral and call of a removal, 64 under one guard";
+    compare(rt, what, deferral, words)?;
+    let deferral = best(rt, &mut Deferrals(idle, Jobs::Calls(calls)), DEFERRALS)?;
+    let what = "the same of a boxed function";
     compare(rt, what, deferral, words)?;
     Ok(flush)
 }
@@ -80,12 +84,12 @@ pub fn run<R: Clock + Print + Wait>(
     alloc: Global,
     collector: &Collector<u64>,
     plain: &PlainWords,
-    jobs: Vec<Job>,
+    calls: Vec<Job>,
 ) -> io::Result<()> {
     let Some(mut idle) = Idle::register(collector) else {
         return Err(io::Error::from(io::ErrorKind::Other));
     };
-    let few = among_64(rt, &mut idle, plain, jobs);
+    let few = among_64(rt, &mut idle, plain, calls);
     idle.leave(rt);
     let few = few?;
     let many = among_1024(rt, alloc)?;

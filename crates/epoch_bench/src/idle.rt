@@ -3,7 +3,7 @@ ghost use Rattle.std.specs.Prelude.{◌≡◌, ℕ};
 ghost use Rattle.epoch_pin.specs.Handles.{IsSame, Owns};
 
 use crate::timing::Timed;
-use epoch_base::Job;
+use epoch_base::{Job, Name};
 use epoch_pin::atomic::{Atomic, Owned};
 use epoch_pin::{Collector, Guard, LocalHandle};
 use std::alloc::Global;
@@ -12,6 +12,25 @@ use std::sync::atomic::Ordering::SeqCst;
 
 /// Jobs that are deferred under one guard: as many as a bag takes.
 pub const JOBS: u64 = 64;
+
+/// The jobs that are deferred.
+#[derive(Drop)]
+pub enum Jobs {
+    /// Calls of boxed functions that do nothing, made before. The last one comes first.
+    Calls(Vec<Job>),
+    /// Removals of this value.
+    Removals(Name),
+}
+
+impl Jobs {
+    #[inline]
+    fn next(&mut self) -> Option<Job> {
+        match self {
+            Jobs::Calls(calls) => calls.pop(),
+            Jobs::Removals(name) => Some(Job::Remove(*name)),
+        }
+    }
+}
 
 /// A participant with no guard out.
 pub struct Idle<'c> {
@@ -39,7 +58,7 @@ impl<'c> Idle<'c> {
     }
 
     /// Pins, defers the last jobs, flushes and unpins.
-    fn defer(&mut self, jobs: &mut Vec<Job>) {
+    fn defer(&mut self, jobs: &mut Jobs) {
         let guard = self.handle.pin();
         defer_jobs(&mut self.handle, &guard, jobs);
         let _ = self.handle.flush(&guard);
@@ -87,14 +106,14 @@ fn pin_under(handle: &mut LocalHandle<'_, u64>, turns: u64)
     }
 }
 
-/// Defers the last of the jobs, as many as a bag takes.
-fn defer_jobs(handle: &mut LocalHandle<'_, u64>, guard: &Guard<'_, u64>, jobs: &mut Vec<Job>)
+/// Defers jobs, as many as a bag takes.
+fn defer_jobs(handle: &mut LocalHandle<'_, u64>, guard: &Guard<'_, u64>, jobs: &mut Jobs)
     requires { Owns handle.old.local guard.now }
     ensures same { IsSame handle.old.local handle.new.local }
     ensures counted { handle.new.local.machine.guards ≡ handle.old.local.machine.guards }
 {
     for _ in 0..JOBS {
-        if let Some(job) = jobs.pop() {
+        if let Some(job) = jobs.next() {
             let _ = handle.defer(guard, job);
         }
     }
@@ -133,8 +152,9 @@ pub struct Pins<'a, 'c>(pub &'a mut Idle<'c>);
 
 impl<'a, 'c> Timed for Pins<'a, 'c> {
     fn go(&mut self, turns: u64) {
+        let idle = &mut *self.0;
         for _ in 0..turns {
-            self.0.pin_and_unpin();
+            idle.pin_and_unpin();
         }
     }
 }
@@ -163,7 +183,7 @@ impl<'a, 'c> Timed for Flushes<'a, 'c> {
 
 /// Pins, defers 64 jobs, flushes and unpins. A turn is one job.
 #[derive(Drop)]
-pub struct Deferrals<'a, 'c>(pub &'a mut Idle<'c>, pub Vec<Job>);
+pub struct Deferrals<'a, 'c>(pub &'a mut Idle<'c>, pub Jobs);
 
 impl<'a, 'c> Timed for Deferrals<'a, 'c> {
     fn go(&mut self, turns: u64) {

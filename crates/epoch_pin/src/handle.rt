@@ -145,6 +145,7 @@ impl<'c, T: Drop, W: Run> LocalHandle<'c, T, W> {
     /// The job is kept in the held bag, which is sealed and put into a place first where it is full.
     /// `StrangerGuard`: the guard isn't one that this handle has out. `BagsFull`: each place was seen occupied.
     /// A refused call hands the job back, and leaves the handle as it was, with its bag.
+    #[inline]
     pub fn defer(&mut self, guard: &Guard<'_, T, W>, job: Job<W>) -> Result<(), Refused<Job<W>>>
         ensures same { IsSame self.old.local self.new.local }
         ensures ready { IsReady self.new.local }
@@ -157,17 +158,48 @@ impl<'c, T: Drop, W: Run> LocalHandle<'c, T, W> {
         ensures err { IsErr result → self.new.local.machine.held ≡ self.old.local.machine.held }
         ensures handed_back { IfErr result (λ refused. refused.value ≡ job) }
     {
-        if !guard.is_protecting() {
-            let _ = job.call(&self.local.collector.cells);
+        if !self.owns(guard) {
+            return self.defer_unowned(guard, job);
+        }
+        if self.local.machine.has_room() {
+            self.local.keep_at_once(job);
             return Ok(());
         }
-        if !self.owns(guard) {
+        self.defer_with_full_bag(job)
+    }
+
+    /// A deferral under a guard that this handle hasn't out: an unprotected one, or a stranger's.
+    #[inline(never)]
+    fn defer_unowned(&self, guard: &Guard<'_, T, W>, job: Job<W>) -> Result<(), Refused<Job<W>>>
+        ensures unprotected { guard.now.position ≡ None → IsOk result }
+        ensures stranger { IsSome guard.now.position → IfErr result (λ refused. refused.fault ≡ StrangerGuard) × IsErr result }
+        ensures handed_back { IfErr result (λ refused. refused.value ≡ job) }
+    {
+        if guard.is_protecting() {
             return Err(Refused {
                 fault: Fault::StrangerGuard,
                 value: job,
             });
         }
-        match self.local.defer(job) {
+        let _ = job.call(&self.local.collector.cells);
+        Ok(())
+    }
+
+    /// A deferral whose held bag is full.
+    #[inline(never)]
+    fn defer_with_full_bag(&mut self, job: Job<W>) -> Result<(), Refused<Job<W>>>
+        requires out { 0 < self.old.local.machine.guards }
+        requires full { length self.old.local.machine.held ≡ self.old.local.machine.sizes.bag_jobs }
+        ensures same { IsSame self.old.local self.new.local }
+        ensures ready { IsReady self.new.local }
+        ensures counted { self.new.local.machine.guards ≡ self.old.local.machine.guards }
+        ensures does { Does self.old.local Defer self.new.local }
+        ensures full { IfErr result (λ refused. refused.fault ≡ BagsFull) }
+        ensures kept { IsOk result → self.new.local.machine.held ≡ job ∷ [] }
+        ensures err { IsErr result → self.new.local.machine.held ≡ self.old.local.machine.held }
+        ensures handed_back { IfErr result (λ refused. refused.value ≡ job) }
+    {
+        match self.local.defer_behind_a_put(job) {
             Ok(()) => Ok(()),
             Err(value) => Err(Refused {
                 fault: Fault::BagsFull,

@@ -438,7 +438,7 @@ impl<J: Default + Drop> Machine<J> {
     {
         if let Stage::Keep = self.stage {
             self.stage = Stage::End;
-            let _ = self.held.try_push(job);
+            self.held.push(job);
         }
     }
 
@@ -467,20 +467,37 @@ impl<J: Default + Drop> Machine<J> {
 impl<J: Default + Drop> Machine<J> {
     /// Takes the next job out of the bag in hand, to be called by the caller, and goes on.
     /// `None` where no call is asked for.
+    #[inline]
     pub fn give(&mut self) -> Option<J>
         ensures job { MatchOption result (asks self.old ≢ Some CallJob) (λ job. (asks self.old ≡ Some CallJob) × (self.old.hand ≡ job ∷ rest self.old.hand)) }
         ensures after { self.new ≡ gives self.old self.old.stage (rest self.old.hand) }
     {
         match self.stage {
-            Stage::Calling(expiry, taken) => {
-                let after = self.after_collect();
-                let job = self.hand.take_next();
-                let none_left = self.hand.is_empty();
-                self.stage = after_job(self.sizes.collect_bags, after, expiry, taken, none_left);
-                job
+            Stage::Calling(_, _) => {
+                if self.hand.len() == 1 {
+                    return self.give_last();
+                }
+                self.hand.take_next()
             }
             _ => None,
         }
+    }
+
+    /// Takes the last job out of the bag in hand, and goes on behind the bag.
+    #[inline(never)]
+    fn give_last(&mut self) -> Option<J>
+        requires last { length self.old.hand ≡ 1 }
+        requires calls { is_calling self.old.stage ≡ true }
+        ensures job { MatchOption result (asks self.old ≢ Some CallJob) (λ job. (asks self.old ≡ Some CallJob) × (self.old.hand ≡ job ∷ rest self.old.hand)) }
+        ensures after { self.new ≡ gives self.old self.old.stage (rest self.old.hand) }
+    {
+        let Stage::Calling(expiry, taken) = self.stage else {
+            unreachable!()
+        };
+        let after = self.after_collect();
+        let job = self.hand.take_next();
+        self.stage = after_job(self.sizes.collect_bags, after, expiry, taken, true);
+        job
     }
 
     /// One step of the put that is asked for. The bag stays held unless the answer is `Done`.

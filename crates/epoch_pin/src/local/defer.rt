@@ -1,5 +1,5 @@
 //! Deferrals: a job is kept in the held bag.
-ghost use Rattle.std.specs.Prelude.{◌≡◌, ℕ, ◌<◌, [], ◌∷◌, ◌++◌, length, ◌⊎◌, IsOk, IsErr, IfErr};
+ghost use Rattle.std.specs.Prelude.{◌≡◌, ℕ, ◌<◌, [], ◌∷◌, ◌++◌, length, IsOk, IsErr, IfErr};
 ghost use Rattle.epoch_pin.specs.Handles.{IsReady, IsSame, Does};
 ghost use Rattle.epoch_pin.specs.declared.machine.Action.TheVariants.{Defer};
 
@@ -8,31 +8,9 @@ use crate::machine::{Action, Answer};
 use epoch_base::{Job, Run};
 
 impl<'c, T: Drop, W: Run> Local<'c, T, W> {
-    /// Keeps the job in the held bag, which is put first where it is full. Hands the job back where each place was
-    /// seen occupied; the bag is as it was then.
-    #[inline]
-    pub(crate) fn defer(&mut self, job: Job<W>) -> Result<(), Job<W>>
-        requires ready { IsReady self.old }
-        requires out { 0 < self.old.machine.guards }
-        ensures same { IsSame self.old self.new }
-        ensures does { Does self.old Defer self.new }
-        ensures ready { IsReady self.new }
-        ensures counted { self.new.machine.guards ≡ self.old.machine.guards }
-        ensures room { length self.old.machine.held < self.old.machine.sizes.bag_jobs → IsOk result × (self.new.machine.held ≡ self.old.machine.held ++ job ∷ []) }
-        ensures kept { IsOk result → (self.new.machine.held ≡ self.old.machine.held ++ job ∷ []) ⊎ (self.new.machine.held ≡ job ∷ []) }
-        ensures err { IsErr result → self.new.machine.held ≡ self.old.machine.held }
-        ensures handed_back { IfErr result (λ back. back ≡ job) }
-    {
-        if self.machine.has_room() {
-            self.keep_at_once(job);
-            return Ok(());
-        }
-        self.defer_behind_a_put(job)
-    }
-
     /// A deferral into a bag with room.
     #[inline]
-    fn keep_at_once(&mut self, job: Job<W>)
+    pub(crate) fn keep_at_once(&mut self, job: Job<W>)
         requires ready { IsReady self.old }
         requires out { 0 < self.old.machine.guards }
         requires room { length self.old.machine.held < self.old.machine.sizes.bag_jobs }
@@ -47,7 +25,7 @@ impl<'c, T: Drop, W: Run> Local<'c, T, W> {
 
     /// A deferral into a full bag: the bag is put first. Hands the job back where each place was seen occupied.
     #[inline(never)]
-    fn defer_behind_a_put(&mut self, job: Job<W>) -> Result<(), Job<W>>
+    pub(crate) fn defer_behind_a_put(&mut self, job: Job<W>) -> Result<(), Job<W>>
         requires ready { IsReady self.old }
         requires out { 0 < self.old.machine.guards }
         requires full { length self.old.machine.held ≡ self.old.machine.sizes.bag_jobs }

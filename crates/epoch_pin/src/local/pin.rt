@@ -17,9 +17,12 @@ impl<'c, T, W> Local<'c, T, W> {
         ensures within { result < 2 ^ 63 }
         ensures steps { PinSteps self.old result self.new }
     {
-        let epoch = self.load_epoch();
-        self.publish(epoch);
-        let _again = self.load_epoch();
+        // Read once: a field is read again behind each atomic step.
+        let (collector, position) = (self.collector, self.position);
+        let participants = &collector.participants;
+        let epoch = participants.load_epoch(&mut self.seat) / 2;
+        participants.publish(&mut self.seat, position, epoch);
+        let _again = participants.load_epoch(&mut self.seat);
         epoch
     }
 

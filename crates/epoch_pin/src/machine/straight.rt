@@ -7,6 +7,30 @@ ghost use Rattle.epoch_pin.specs.declared.machine.Stage.TheVariants.{Idle, LoadS
 
 use crate::machine::{Action, Machine, PINS_BETWEEN_COLLECTIONS, Stage};
 
+/// What is stored already isn't stored again: the exchange of a pin or an unpin waits for each store before it.
+impl<J> Machine<J> {
+    /// So far the action found a place for its bag.
+    #[inline]
+    fn clear_full(&mut self)
+        ensures { self.new ≡ record self.old { full = false } }
+    {
+        if self.full {
+            self.full = false;
+        }
+    }
+
+    /// This epoch was published.
+    #[inline]
+    fn note_published(&mut self, epoch: u64)
+        requires { epoch < 2 ^ 63 }
+        ensures { self.new ≡ record self.old { published = epoch } }
+    {
+        if self.published != epoch {
+            self.published = epoch;
+        }
+    }
+}
+
 impl<J> Machine<J> {
     /// Behind a pin with no guard counted, which published this epoch. Answers whether a collection follows;
     /// else the pin has ended.
@@ -22,8 +46,8 @@ impl<J> Machine<J> {
     {
         let pins = (self.pins + 1) % PINS_BETWEEN_COLLECTIONS;
         self.action = Action::Pin;
-        self.full = false;
-        self.published = epoch;
+        self.clear_full();
+        self.note_published(epoch);
         self.pins = pins;
         if pins == 1 {
             self.stage = Stage::LoadScan;
@@ -43,7 +67,7 @@ impl<J> Machine<J> {
         ensures { self.new ≡ ended (begun Pin self.old) }
     {
         self.action = Action::Pin;
-        self.full = false;
+        self.clear_full();
         self.guards += 1;
     }
 
@@ -55,7 +79,7 @@ impl<J> Machine<J> {
         ensures { self.new ≡ ended (heard (begun Unpin self.old) Stored) }
     {
         self.action = Action::Unpin;
-        self.full = false;
+        self.clear_full();
         self.guards = 0;
     }
 
@@ -67,7 +91,7 @@ impl<J> Machine<J> {
         ensures { self.new ≡ ended (begun Unpin self.old) }
     {
         self.action = Action::Unpin;
-        self.full = false;
+        self.clear_full();
         self.guards -= 1;
     }
 
@@ -136,8 +160,8 @@ impl<J: Drop> Machine<J> {
         ensures { self.new ≡ ended (heard (begun Defer self.old) (Job job)) }
     {
         self.action = Action::Defer;
-        self.full = false;
-        let _ = self.held.try_push(job);
+        self.clear_full();
+        self.held.push(job);
     }
 
     /// Behind the pin of a release, which published this epoch. Answers whether a collection follows.
