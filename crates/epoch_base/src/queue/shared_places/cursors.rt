@@ -11,7 +11,11 @@ ghost use Rattle.epoch_base.specs.SharedSteps.{RestsAt, HoldsAt, PutsAt, TakesAt
 
 use crate::queue::places::{EMPTY, is_expired_word, put_further, take_further};
 use crate::queue::shared_places::places::{PlaceSeat, SharedPlaces};
+use crate::queue::shared_places::plays::Store;
+use crate::queue::shared_places::steps::word_index;
 use crate::{Bag, Epoch, PutCursor, PutStep, SealedBag, TakeCursor, TakeStep};
+use arrayvec::ArrayVec;
+use std::mem;
 
 impl<J: Default + Drop> SharedPlaces<J> {
     /// The cursor of a put that has taken no step: it looks at place 0 first.
@@ -80,13 +84,16 @@ impl<J: Default + Drop> SharedPlaces<J> {
         ensures empty { held.new.jobs ≡ [] }
         ensures limit { held.new.limit ≡ held.old.limit }
     {
+        let number = seal.number();
         // `Bag::seal` would ask of each caller that a sealed bag's size is in range, which a generic `J` leaves open.
-        let mut bag = Some(SealedBag {
-            seal: seal.number(),
+        *seat.slot_mut(&self.table.shared, place) = Some(SealedBag {
+            seal: number,
             next: 0,
-            jobs: held.take().jobs,
+            jobs: mem::replace(&mut held.jobs, ArrayVec::new()),
         });
-        self.fill(seat, place, &mut bag);
+        self.table
+            .shared
+            .store::<Store>(seat, word_index(place), 2 * number + 1);
     }
 
     /// The cursor of a collection that has taken no step: it looks at place 0 first.
@@ -157,10 +164,11 @@ impl<J: Default + Drop> SharedPlaces<J> {
         ensures hand { seat.old.me.1 ≡ (place, Some hand.new) ∷ [] }
         ensures view { seat.new.me ≡ (after_store seat.old.me.0 None, []) }
     {
-        let mut bag = None;
-        self.empty(seat, place, &mut bag);
-        let Some(taken) = bag else { unreachable!() };
+        let Some(taken) = seat.slot_mut(&self.table.shared, place).take() else {
+            unreachable!()
+        };
         *hand = taken;
+        self.table.shared.store::<Store>(seat, word_index(place), 0);
     }
 
     /// Looks at each place once, from place 0 up, and takes out the first bag that it finds and whose claim it

@@ -12,7 +12,7 @@ use std::mem;
 ///
 /// The words are 128 bytes apart: neighbours in one line of the cache, or in two that are fetched
 /// together, would slow each other's threads down.
-fn word_index(place: usize) -> usize
+pub(crate) fn word_index(place: usize) -> usize
     requires { place < 4096 }
     ensures { result ≡ 16 * place }
 {
