@@ -1,8 +1,8 @@
 //! Calls of one handle, beside the words of one pin and unpin.
-use crate::idle::{Deferrals, Flushes, Idle, JOBS, Jobs, Nested, Pins};
-use crate::timing::{Hundredths, Timed, best, compare, compare_loops, quotient};
+use crate::idle::{Calls, CallsAtOnce, Flushes, Idle, JOBS, Nested, Pins, Removals};
+use crate::timing::{Hundredths, ROUNDS, Timed, best, compare, compare_loops, quotient};
 use bench_steps::plain::PlainWords;
-use epoch_base::{Job, Name};
+use epoch_base::Work;
 use epoch_pin::{Capacities, Collector};
 use std::alloc::Global;
 use std::io;
@@ -16,7 +16,10 @@ const PINS: u64 = 400_000;
 const FLUSHES: u64 = 10_000;
 
 /// Jobs of one loop.
-pub const DEFERRALS: u64 = 100 * JOBS;
+const DEFERRALS: u64 = 100 * JOBS;
+
+/// Boxed functions of a run: two kinds of loops call them.
+pub const FUNCTIONS: u64 = 2 * DEFERRALS * ROUNDS as u64;
 
 /// The words of a pin and an unpin: a load, an exchange, a load and an exchange.
 #[derive(Drop)]
@@ -45,7 +48,7 @@ fn among_64<R: Clock + Print>(
     rt: &R,
     idle: &mut Idle<'_>,
     plain: &PlainWords,
-    calls: Vec<Job>,
+    functions: &mut Vec<Work>,
 ) -> io::Result<u64> {
     let mut pins = Pins(idle);
     let what = "pin and unpin of a handle";
@@ -57,13 +60,14 @@ fn among_64<R: Clock + Print>(
     let flush = best(rt, &mut Flushes(idle), FLUSHES)?;
     let what = "pin, flush of nothing and unpin, 64 positions";
     compare(rt, what, flush, words)?;
-    let removals = Jobs::Removals(Name::first());
-    let deferral = best(rt, &mut Deferrals(idle, removals), DEFERRALS)?;
-    let what = "deferral and call of a removal, 64 under one guard";
-    compare(rt, what, deferral, words)?;
-    let deferral = best(rt, &mut Deferrals(idle, Jobs::Calls(calls)), DEFERRALS)?;
-    let what = "the same of a boxed function";
-    compare(rt, what, deferral, words)?;
+    let removal = best(rt, &mut Removals(idle), DEFERRALS)?;
+    let what = "deferral of a removal, and its call, 64 under one guard";
+    compare(rt, what, removal, words)?;
+    let at_once = best(rt, &mut CallsAtOnce(functions), DEFERRALS)?;
+    compare(rt, "call of a boxed function", at_once, words)?;
+    let call = best(rt, &mut Calls(idle, functions), DEFERRALS)?;
+    let what = "deferral of a boxed function, and its call, 64 under one guard";
+    compare(rt, what, call, words)?;
     Ok(flush)
 }
 
@@ -84,12 +88,12 @@ pub fn run<R: Clock + Print + Wait>(
     alloc: Global,
     collector: &Collector<u64>,
     plain: &PlainWords,
-    calls: Vec<Job>,
+    functions: &mut Vec<Work>,
 ) -> io::Result<()> {
     let Some(mut idle) = Idle::register(collector) else {
         return Err(io::Error::from(io::ErrorKind::Other));
     };
-    let few = among_64(rt, &mut idle, plain, calls);
+    let few = among_64(rt, &mut idle, plain, functions);
     idle.leave(rt);
     let few = few?;
     let many = among_1024(rt, alloc)?;

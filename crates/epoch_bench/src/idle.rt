@@ -3,7 +3,7 @@ ghost use Rattle.std.specs.Prelude.{◌≡◌, ℕ};
 ghost use Rattle.epoch_pin.specs.Handles.{IsSame, Owns};
 
 use crate::timing::Timed;
-use epoch_base::{Job, Name};
+use epoch_base::{Job, Name, Run, Work};
 use epoch_pin::atomic::{Atomic, Owned};
 use epoch_pin::{Collector, Guard, LocalHandle};
 use std::alloc::Global;
@@ -12,25 +12,6 @@ use std::sync::atomic::Ordering::SeqCst;
 
 /// Jobs that are deferred under one guard: as many as a bag takes.
 pub const JOBS: u64 = 64;
-
-/// The jobs that are deferred.
-#[derive(Drop)]
-pub enum Jobs {
-    /// Calls of boxed functions that do nothing, made before. The last one comes first.
-    Calls(Vec<Job>),
-    /// Removals of this value.
-    Removals(Name),
-}
-
-impl Jobs {
-    #[inline]
-    fn next(&mut self) -> Option<Job> {
-        match self {
-            Jobs::Calls(calls) => calls.pop(),
-            Jobs::Removals(name) => Some(Job::Remove(*name)),
-        }
-    }
-}
 
 /// A participant with no guard out.
 pub struct Idle<'c> {
@@ -57,10 +38,18 @@ impl<'c> Idle<'c> {
         self.handle.unpin(guard);
     }
 
-    /// Pins, defers the last jobs, flushes and unpins.
-    fn defer(&mut self, jobs: &mut Jobs) {
+    /// Pins, defers 64 removals, flushes and unpins.
+    fn remove(&mut self, name: Name) {
         let guard = self.handle.pin();
-        defer_jobs(&mut self.handle, &guard, jobs);
+        defer_removals(&mut self.handle, &guard, name);
+        let _ = self.handle.flush(&guard);
+        self.handle.unpin(guard);
+    }
+
+    /// Pins, defers the last 64 functions, flushes and unpins.
+    fn call(&mut self, functions: &mut Vec<Work>) {
+        let guard = self.handle.pin();
+        defer_calls(&mut self.handle, &guard, functions);
         let _ = self.handle.flush(&guard);
         self.handle.unpin(guard);
     }
@@ -106,15 +95,26 @@ fn pin_under(handle: &mut LocalHandle<'_, u64>, turns: u64)
     }
 }
 
-/// Defers jobs, as many as a bag takes.
-fn defer_jobs(handle: &mut LocalHandle<'_, u64>, guard: &Guard<'_, u64>, jobs: &mut Jobs)
+/// Defers removals of one value, as many as a bag takes.
+fn defer_removals(handle: &mut LocalHandle<'_, u64>, guard: &Guard<'_, u64>, name: Name)
     requires { Owns handle.old.local guard.now }
     ensures same { IsSame handle.old.local handle.new.local }
     ensures counted { handle.new.local.machine.guards ≡ handle.old.local.machine.guards }
 {
     for _ in 0..JOBS {
-        if let Some(job) = jobs.next() {
-            let _ = handle.defer(guard, job);
+        let _ = handle.defer(guard, Job::Remove(name));
+    }
+}
+
+/// Defers the last of the functions, as many as a bag takes.
+fn defer_calls(handle: &mut LocalHandle<'_, u64>, guard: &Guard<'_, u64>, functions: &mut Vec<Work>)
+    requires { Owns handle.old.local guard.now }
+    ensures same { IsSame handle.old.local handle.new.local }
+    ensures counted { handle.new.local.machine.guards ≡ handle.old.local.machine.guards }
+{
+    for _ in 0..JOBS {
+        if let Some(function) = functions.pop() {
+            let _ = handle.defer(guard, Job::Call(function));
         }
     }
 }
@@ -181,14 +181,40 @@ impl<'a, 'c> Timed for Flushes<'a, 'c> {
     }
 }
 
-/// Pins, defers 64 jobs, flushes and unpins. A turn is one job.
+/// Pins, defers 64 removals of a value that isn't there, flushes and unpins. A turn is one removal.
 #[derive(Drop)]
-pub struct Deferrals<'a, 'c>(pub &'a mut Idle<'c>, pub Jobs);
+pub struct Removals<'a, 'c>(pub &'a mut Idle<'c>);
 
-impl<'a, 'c> Timed for Deferrals<'a, 'c> {
+impl<'a, 'c> Timed for Removals<'a, 'c> {
     fn go(&mut self, turns: u64) {
         for _ in 0..turns / JOBS {
-            self.0.defer(&mut self.1);
+            self.0.remove(Name::first());
+        }
+    }
+}
+
+/// Pins, defers 64 boxed functions, flushes and unpins. A turn is one function.
+#[derive(Drop)]
+pub struct Calls<'a, 'c>(pub &'a mut Idle<'c>, pub &'a mut Vec<Work>);
+
+impl<'a, 'c> Timed for Calls<'a, 'c> {
+    fn go(&mut self, turns: u64) {
+        for _ in 0..turns / JOBS {
+            self.0.call(self.1);
+        }
+    }
+}
+
+/// Calls boxed functions at once. A turn is one function.
+#[derive(Drop)]
+pub struct CallsAtOnce<'a>(pub &'a mut Vec<Work>);
+
+impl<'a> Timed for CallsAtOnce<'a> {
+    fn go(&mut self, turns: u64) {
+        for _ in 0..turns {
+            if let Some(function) = self.0.pop() {
+                function.call();
+            }
         }
     }
 }

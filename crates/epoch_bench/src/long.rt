@@ -3,7 +3,7 @@ ghost use Rattle.std.specs.Prelude.{◌<◌};
 
 use crate::{handles, objects, pointers, steps, threads};
 use bench_steps::plain::PlainWords;
-use epoch_base::Job;
+use epoch_base::Work;
 use epoch_base::table::Participants;
 use std::alloc::Global;
 use std::io;
@@ -17,7 +17,7 @@ const PADDED: usize = 16;
 pub fn run<R: Clock + Print + Threads + Wait + Sync>(
     rt: &R,
     alloc: Global,
-    jobs: Vec<Job>,
+    functions: &mut Vec<Work>,
 ) -> io::Result<()> {
     let Ok(table) = Participants::new(alloc, 4) else {
         return Err(io::Error::from(io::ErrorKind::OutOfMemory));
@@ -26,7 +26,7 @@ pub fn run<R: Clock + Print + Threads + Wait + Sync>(
     let close = PlainWords::new(alloc, 4, 1)?;
     steps::run(rt, &table, &padded)?;
     let collector = handles::collector_of(alloc, 64)?;
-    let mut told = handles::run(rt, alloc, &collector, &padded, jobs);
+    let mut told = handles::run(rt, alloc, &collector, &padded, functions);
     if told.is_ok() {
         told = threads::run(rt, &table, &collector, &padded, &close);
     }

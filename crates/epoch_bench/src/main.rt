@@ -13,7 +13,7 @@ mod steps;
 mod threads;
 mod timing;
 
-use epoch_base::{Job, Work};
+use epoch_base::Work;
 use std::alloc::AllocError;
 use std::{env, io};
 
@@ -28,10 +28,10 @@ fn main(rt: HostRuntime) -> io::Result<()> {
         return short::run(&rt);
     }
     let alloc = rt.alloc();
-    let mut jobs = Vec::new(alloc);
-    for _ in 0..handles::DEFERRALS * timing::ROUNDS as u64 {
+    let mut functions = Vec::new(alloc);
+    for _ in 0..handles::FUNCTIONS {
         let run = Box::new(alloc, || {})?;
-        jobs.push(Job::Call(Work { run })).map_err(|_| AllocError)?;
+        functions.push(Work { run }).map_err(|_| AllocError)?;
     }
-    long::run(&rt, alloc, jobs)
+    long::run(&rt, alloc, &mut functions)
 }

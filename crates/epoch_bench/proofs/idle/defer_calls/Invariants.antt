@@ -1,6 +1,6 @@
 use Rattle.std.proofs.Common.{◌≡◌}
 use Rattle.epoch_pin.specs.Handles.{IsSame}
-use Rattle.epoch_bench.proofs.idle.defer_jobs.Given as goal
+use Rattle.epoch_bench.proofs.idle.defer_calls.Given as goal
 
 abbrev pub invariant-loop : goal.invariant-loop
 invariant-loop g l = IsSame l.fn.handle.local l.handle.local × (l.handle.local.machine.guards ≡ l.fn.handle.local.machine.guards)
