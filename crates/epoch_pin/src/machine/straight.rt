@@ -7,9 +7,9 @@ ghost use Rattle.epoch_pin.specs.declared.machine.Stage.TheVariants.{Idle, LoadS
 
 use crate::machine::{Action, Machine, PINS_BETWEEN_COLLECTIONS, Stage};
 
-/// What is stored already isn't stored again: the exchange of a pin or an unpin waits for each store before it.
+/// Stores that hardly ever change anything look first: the exchange of a pin or an unpin waits for each store before it.
 impl<J> Machine<J> {
-    /// So far the action found a place for its bag.
+    /// No put of this action was refused so far.
     #[inline]
     fn clear_full(&mut self)
         ensures { self.new ≡ record self.old { full = false } }
