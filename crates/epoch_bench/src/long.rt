@@ -1,7 +1,7 @@
 //! The long run: nanoseconds a step or a call, and how they compare with plain words.
 ghost use Rattle.std.specs.Prelude.{◌<◌};
 
-use crate::{handles, objects, pointers, steps, threads};
+use crate::{cells, handles, objects, pointers, steps, threads};
 use bench_steps::plain::PlainWords;
 use epoch_base::Work;
 use epoch_base::table::Participants;
@@ -33,5 +33,6 @@ pub fn run<R: Clock + Print + Threads + Wait + Sync>(
     collector.end();
     told?;
     pointers::run(rt, alloc)?;
-    objects::run(rt, alloc)
+    objects::run(rt, alloc)?;
+    cells::run(rt, alloc)
 }

@@ -1,8 +1,9 @@
-//! Times the steps on the participants' table, the calls of handles, and pointers, beside plain atomic words.
+//! Times the steps on the participants' table, the calls of handles, pointers and cells, beside plain atomic words.
 //!
 //! With no argument it makes a short run, and prints what the steps found. With `long` it prints times.
 #![tactic(auto)]
 
+mod cells;
 mod handles;
 mod idle;
 mod long;
