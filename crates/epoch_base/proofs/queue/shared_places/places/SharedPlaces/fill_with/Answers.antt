@@ -24,4 +24,4 @@ returns-clause-view g c =
     c.store.ensures.2 place (Some bag) carried
     ∙ ap (λ (n : ℕ). (after_store c.args.seat.now.me.0 (Some (record { seal = n; jobs = c.replace.result.items })), [])) c.number-number.ensures.value
     ∙ ap (λ jobs. (after_store c.args.seat.now.me.0 (Some (record { seal = c.args.seal.number; jobs = jobs })), []))
-      (ap (λ a. a.items) c.replace.ensures.value ∙ ap (λ b. b.jobs) c.held.view_is)
+    (ap (λ a. a.items) c.replace.ensures.value ∙ ap (λ b. b.jobs) c.held.view_is)
