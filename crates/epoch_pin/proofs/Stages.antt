@@ -1,4 +1,4 @@
--- What an answer does at a stage that didn't ask for it, and the stage behind a job.
+-- What an answer does at a stage that didn't ask for it, and when a bag is in hand.
 use Rattle.std.proofs.Common.{◌≡◌, ℕ, Bool, true, false, not, List, [], ◌∷◌, refl, ap, sym, subst, ◌∙◌}
 use Rattle.epoch_pin.specs.declared.machine.Answer.TheVariants.{Word}
 use Rattle.epoch_pin.specs.declared.machine.Stage.{Stage}
