@@ -15,3 +15,4 @@ pub mod SeatKept
 pub mod Stages
 pub mod StraightCalls
 pub mod Telling
+pub mod Tests

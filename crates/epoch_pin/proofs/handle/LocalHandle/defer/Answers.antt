@@ -1,9 +1,6 @@
-use Rattle.std.proofs.Common.{◌≡◌, Bool, true, false, Option, Some, None, refl, sym, ◌∙◌, inr, arith}
-use Rattle.std.proofs.lemmas.Bool.{false≢true}
+use Rattle.std.proofs.Common.{◌≡◌, Option, Some, None, refl, sym, ◌∙◌, inr, arith}
+use Rattle.epoch_pin.proofs.Tests.{not_both}
 use Rattle.epoch_pin.proofs.handle.LocalHandle.defer.Goals as goal
-
-not_both : {b : Bool} → b ≡ false → b ≡ true → ⊥
-not_both off on = false≢true (sym off ∙ on)
 
 none_is_not_some : {A : Type 0} {o : Option A} {x : A} → o ≡ None → o ≡ Some x → ⊥
 none_is_not_some none some = cc (sym none ∙ some)

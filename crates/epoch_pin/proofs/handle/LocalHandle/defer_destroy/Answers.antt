@@ -1,16 +1,14 @@
-use Rattle.std.proofs.Common.{◌≡◌, ◌∙◌, ◌++◌, [], ◌∷◌, ◌⊎◌, Bool, true, false, Option, Some, None, IsSome, refl, sym, subst, ⊎_elim}
+use Rattle.std.proofs.Common.{◌≡◌, ◌∙◌, ◌++◌, [], ◌∷◌, ◌⊎◌, Option, Some, None, IsSome, refl, sym, subst, ⊎_elim}
 use Rattle.std.proofs.lemmas.Bool.{false≢true}
 use Rattle.std.proofs.lemmas.Option.{same_Some}
 use Rattle.epoch_base.specs.declared.cells.name.Name.{Name}
 use Rattle.epoch_base.specs.declared.job.Job.TheVariants.{Remove}
+use Rattle.epoch_pin.proofs.Tests.{not_both}
 use Rattle.epoch_pin.proofs.handle.LocalHandle.defer_destroy.Goals as goal
 use Rattle.epoch_pin.proofs.handle.LocalHandle.defer_destroy.Goals.{else-is_protecting-via-then-is_protecting+else-not-owns, else-is_protecting-via-else-is_protecting}
 
 is_some_of : {A : Type 0} {o : Option A} {x : A} → o ≡ Some x → IsSome o
 is_some_of at = subst IsSome (sym at) refl
-
-not_both : {b : Bool} → b ≡ false → b ≡ true → ⊥
-not_both off on = false≢true (sym off ∙ on)
 
 none_is_not_some : {A : Type 0} {o : Option A} → o ≡ None → IsSome o → ⊥
 none_is_not_some none some = false≢true (subst IsSome none some)
