@@ -89,6 +89,18 @@ impl<J: Drop> Bag<J> {
         self.jobs.push(job);
     }
 
+    /// Drops the jobs. An empty bag stays as it is.
+    pub fn clear(&mut self)
+    where
+        J: Default,
+        ensures limit { self.new.limit ≡ self.old.limit }
+        ensures empty { self.new.jobs ≡ [] }
+    {
+        if !self.jobs.is_empty() {
+            self.jobs = ArrayVec::new();
+        }
+    }
+
     /// Seals the bag with this epoch: the one that was read after its last job went in.
     pub fn seal(self, epoch: Epoch) -> SealedBag<J>
         ensures seal { result.seal ≡ epoch.number }
@@ -192,6 +204,17 @@ impl<J> SealedBag<J> {
 }
 
 impl<J: Default + Drop> SealedBag<J> {
+    /// Drops the jobs that are left. An empty bag stays as it is.
+    pub fn clear(&mut self)
+        ensures empty { self.new.jobs ≡ [] }
+        ensures seal { self.new.seal ≡ self.old.seal }
+    {
+        if !self.is_empty() {
+            self.next = 0;
+            self.jobs = ArrayVec::new();
+        }
+    }
+
     /// Takes the oldest job out, and doesn't call it. `None` exactly where none is left.
     pub fn take_next(&mut self) -> Option<J>
         ensures job { MatchOption result (self.old.jobs ≡ []) (λ job. self.old.jobs ≡ job ∷ self.new.jobs) }

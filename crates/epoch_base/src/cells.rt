@@ -1,8 +1,12 @@
 //! Numbered cells, which threads share: values that are read while others remove them.
 //!
-//! A value stands in its cell beside its own name. Every call that is given a name claims the cell of
-//! the name's slot, compares the name that stands there with the one asked for, and gives the claim
-//! back where they differ.
+//! A value stands in its cell beside its own name. A call that lends a value for reading or writing claims
+//! the cell of the name's slot, compares the name that stands there with the one asked for, and gives the
+//! claim back where they differ.
+//!
+//! A call that takes a value out, to answer it or to drop it, claims the cell once, by an exchange at the word
+//! of the name's turn. The value has left its slot when the names are compared. One of another name, which the
+//! turn in the word rules out, would be put back.
 ghost use Rattle.std.specs.Prelude.{◌≡◌, ◌≤◌, ◌<◌, IfSome, IfOk, IfErr, IsOkUnless, vec_len};
 ghost use Rattle.epoch_base.specs.declared.fault.Fault.TheVariants.{NoMemory, CellsFull};
 
@@ -11,7 +15,7 @@ mod name;
 mod plain;
 mod word;
 
-use crate::cells::held::{Miss, Slot, is_free, started, try_place, try_read, try_write};
+use crate::cells::held::{Miss, Slot, is_free, started, try_place, try_read, try_take, try_write};
 use crate::fault::{Fault, Refused};
 pub use held::{Reading, Writing};
 pub use name::{MOST_SLOT, Name};
@@ -22,6 +26,9 @@ use std::sync::atomic::Ordering::SeqCst;
 
 /// How often a call on a cell tries its exchange. Our own: crossbeam-epoch has no such bound.
 pub const CELL_TRIES: u32 = 16;
+
+// The bound is raised by this many slots at once, since each time costs as much as many looks at slots.
+const STRIDE: usize = 8;
 
 /// A collector's store of numbered cells. Its calls take no memory and never wait.
 #[derive(Drop)]
@@ -76,6 +83,7 @@ impl<T: Drop> Cells<T> {
     /// Places the value in the first free slot, and answers its name: that slot and its next turn.
     ///
     /// `CellsFull`: every slot was seen used or retired during the call. The value is handed back.
+    #[inline(always)]
     pub fn place(&self, value: Box<T>) -> Result<Name, Refused<Box<T>>>
         ensures full { IfErr result (λ refused. (refused.fault ≡ CellsFull) × (refused.value ≡ value)) }
         ensures slot { IfOk result (λ name. name.slot ≤ vec_len self.now.slots) }
@@ -99,6 +107,7 @@ impl<T: Drop> Cells<T> {
     }
 
     // Places the value in the first free slot from place `from` up to `to`.
+    #[inline(always)]
     fn place_between(&self, from: usize, to: usize, value: Box<T>) -> Result<Name, Box<T>>
         requires { to ≤ vec_len self.now.slots }
         ensures ok { IfOk result (λ name. name.slot ≤ to) }
@@ -106,6 +115,9 @@ impl<T: Drop> Cells<T> {
     {
         let mut kept = value;
         for index in from..to {
+            if !is_free(&self.slots[index]) {
+                continue;
+            }
             match place_in(&self.slots[index], index as u32 + 1, kept) {
                 Ok(name) => return Ok(name),
                 Err(back) => kept = back,
@@ -116,9 +128,13 @@ impl<T: Drop> Cells<T> {
 
     // Says that the slots from place `from` up to `to` were seen used. One that was given free since it
     // was looked at lowers the bound again: if not here, then by who gave it free.
+    #[inline(always)]
     fn advance(&self, from: usize, to: usize)
         requires { to ≤ vec_len self.now.slots }
     {
+        if to.saturating_sub(from) < STRIDE {
+            return;
+        }
         if self
             .first_free
             .compare_exchange(from, to, SeqCst, SeqCst)
@@ -135,6 +151,7 @@ impl<T: Drop> Cells<T> {
     }
 
     // Says that the slot at this place is free.
+    #[inline(always)]
     fn lower(&self, index: usize) {
         if index < self.first_free.load(SeqCst) {
             self.first_free.fetch_min(index, SeqCst);
@@ -144,6 +161,7 @@ impl<T: Drop> Cells<T> {
     /// Lends the value of this name for reading.
     ///
     /// `None`: it is gone, or is written, or has `2^30 - 1` readers, or each try was lost to others.
+    #[inline(always)]
     pub fn read(&self, name: Name) -> Option<Reading<'_, T>>
         ensures { IfSome result (λ reading. reading.name ≡ name) }
     {
@@ -170,25 +188,42 @@ impl<T: Drop> Cells<T> {
     /// Takes the value of this name out of its cell, whose slot is free for its next turn from then on.
     ///
     /// `None`: it is gone, or is read or written, or each try was lost to others.
+    #[inline(always)]
     pub fn take(&self, name: Name) -> Option<Box<T>> {
-        match self.hold(name) {
-            Ok(writing) => Some(self.vacate(writing)),
-            Err(_) => None,
-        }
+        self.take_out(name).ok()
     }
 
     /// Drops the value of this name, unless it is held elsewhere or gone.
+    #[inline(always)]
     pub fn remove(&self, name: Name) -> Removal {
-        match self.hold(name) {
-            Ok(writing) => {
-                let _ = self.vacate(writing);
-                Removal::Destroyed
-            }
+        match self.take_out(name) {
+            Ok(_) => Removal::Destroyed,
             Err(Miss::Held | Miss::Lost) => Removal::HeldElsewhere,
             Err(Miss::Gone) => Removal::Gone,
         }
     }
 
+    // Takes the value of this name out of its cell, in so many tries at most.
+    #[inline(always)]
+    fn take_out(&self, name: Name) -> Result<Box<T>, Miss> {
+        let index = name.slot() as usize - 1;
+        let Some(slot) = self.slots.get(index) else {
+            return Err(Miss::Gone);
+        };
+        for _ in 0..CELL_TRIES {
+            match try_take(slot, name) {
+                Ok(value) => {
+                    self.lower(index);
+                    return Ok(value);
+                }
+                Err(Miss::Lost) => {}
+                Err(miss) => return Err(miss),
+            }
+        }
+        Err(Miss::Lost)
+    }
+
+    #[inline(always)]
     fn hold(&self, name: Name) -> Result<Writing<'_, T>, Miss>
         ensures { IfOk result (λ writing. writing.name ≡ name) }
     {
@@ -203,18 +238,10 @@ impl<T: Drop> Cells<T> {
         }
         Err(Miss::Lost)
     }
-
-    fn vacate(&self, writing: Writing<'_, T>) -> Box<T>
-        ensures { result ≡ writing.entry.value }
-    {
-        let index = writing.name().slot() as usize - 1;
-        let value = writing.vacate();
-        self.lower(index);
-        value
-    }
 }
 
 // Tries to place the value in this slot, until it is seen used or all tries are lost.
+#[inline(always)]
 fn place_in<T: Drop>(slot: &Slot<T>, number: u32, value: Box<T>) -> Result<Name, Box<T>>
     requires some { 0 < number }
     requires within { number ≤ 16777215 }

@@ -23,6 +23,7 @@ pub struct Work {
 }
 
 impl Run for Work {
+    #[inline(always)]
     fn call(self) {
         let Work { run } = self;
         run()
@@ -60,6 +61,7 @@ pub enum Called {
 
 impl<W: Run> Job<W> {
     /// Calls the job, and says what that did.
+    #[inline(always)]
     pub fn call<T: Drop>(self, cells: &Cells<T>) -> Called
         ensures { Answers self result }
     {

@@ -51,6 +51,7 @@ pub struct Atomic<T> {
 }
 
 // The pointer that stands in a word, as it is read under this guard.
+#[inline(always)]
 fn read<'g, T: Pointable, W>(word: u64, guard: &'g Guard<'_, T, W>) -> Shared<'g, T>
     requires { IsPointerWord word }
     ensures reads { Reads T.ALIGN word result.name result.tag }
@@ -71,6 +72,7 @@ impl<T: Pointable> Atomic<T> {
     }
 
     /// The pointer that is stored now.
+    #[inline(always)]
     pub fn load<'g, W>(&self, order: Ordering, guard: &'g Guard<'_, T, W>) -> Shared<'g, T>
         ensures read { IsRead T.ALIGN result.name result.tag }
         ensures below { result.tag < T.ALIGN }
@@ -91,6 +93,7 @@ impl<T: Pointable> Atomic<T> {
     /// Stores a pointer, or an owned value, which is placed in a cell first.
     ///
     /// An owned value comes back where the cells are full, and nothing was stored then.
+    #[inline(always)]
     pub fn store<'g, P: Pointer<'g, T>, W>(
         &self,
         new: P,
@@ -99,8 +102,7 @@ impl<T: Pointable> Atomic<T> {
     ) -> Result<(), P>
         ensures full { IfErr result (λ back. P.takes_cell × (back ≡ new)) }
     {
-        let shared = new.enter(guard)?;
-        let word = pointer_word::<T>(shared.name, shared.tag);
+        let word = new.enter_word(guard)?;
         self.word.store(word, order);
         Ok(())
     }
@@ -108,6 +110,7 @@ impl<T: Pointable> Atomic<T> {
     /// Stores a pointer, or an owned value, which is placed in a cell first, and answers the pointer before.
     ///
     /// An owned value comes back where the cells are full, and nothing was stored then.
+    #[inline(always)]
     pub fn swap<'g, P: Pointer<'g, T>, W>(
         &self,
         new: P,
@@ -119,8 +122,7 @@ impl<T: Pointable> Atomic<T> {
         ensures home { IfOk result (λ before. IsUnder guard.now.collector.now.id before.home) }
         ensures full { IfErr result (λ back. P.takes_cell × (back ≡ new)) }
     {
-        let shared = new.enter(guard)?;
-        let word = pointer_word::<T>(shared.name, shared.tag);
+        let word = new.enter_word(guard)?;
         Ok(read(self.word.swap(word, order), guard))
     }
 }

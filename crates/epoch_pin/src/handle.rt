@@ -88,6 +88,7 @@ impl<'c, T, W> LocalHandle<'c, T, W> {
     /// Whether this is a guard of this participant. `false` with no guard out.
     ///
     /// Two collectors with the same number aren't told apart.
+    #[inline(always)]
     pub fn owns(&self, guard: &Guard<'_, T, W>) -> bool
         ensures { IsTrue result ↔ Owns self.now.local guard.now }
     {
@@ -145,7 +146,7 @@ impl<'c, T: Drop, W: Run> LocalHandle<'c, T, W> {
     /// The job is kept in the held bag, which is sealed and put into a place first where it is full.
     /// `StrangerGuard`: the guard isn't one that this handle has out. `BagsFull`: each place was seen occupied.
     /// A refused call hands the job back, and leaves the handle as it was, with its bag.
-    #[inline]
+    #[inline(always)]
     pub fn defer(&mut self, guard: &Guard<'_, T, W>, job: Job<W>) -> Result<(), Refused<Job<W>>>
         ensures same { IsSame self.old.local self.new.local }
         ensures ready { IsReady self.new.local }
@@ -215,6 +216,7 @@ impl<'c, T: Drop, W: Run> LocalHandle<'c, T, W> {
     /// `StrangerGuard`: the guard isn't one that this handle has out. `BagsFull`: each place was seen occupied; the
     /// held bag stays as it was, and the collection was made. As `Guard::flush` of crossbeam-epoch, whose queue is
     /// never full.
+    #[inline(always)]
     pub fn flush(&mut self, guard: &Guard<'_, T, W>) -> Result<(), Fault>
         ensures same { IsSame self.old.local self.new.local }
         ensures ready { IsReady self.new.local }

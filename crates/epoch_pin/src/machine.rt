@@ -429,8 +429,8 @@ impl<J: Default + Drop> Machine<J> {
         self.published = 0;
         self.pins = 0;
         self.full = false;
-        self.held = Bag::with_limit(self.sizes.bag_jobs as usize);
-        self.hand = Bag::new().seal(Epoch::starting());
+        self.held.clear();
+        self.hand.clear();
     }
 
     fn keep(&mut self, job: J)

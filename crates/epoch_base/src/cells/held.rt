@@ -154,6 +154,7 @@ pub fn is_free<T>(slot: &Slot<T>) -> bool {
 }
 
 /// One try to place the value in the slot of this number, at the slot's turn.
+#[inline(always)]
 pub fn try_place<T: Drop>(
     slot: &Slot<T>,
     number: u32,
@@ -180,6 +181,7 @@ pub fn try_place<T: Drop>(
 }
 
 /// One try to claim the value of this name for reading.
+#[inline(always)]
 pub fn try_read<'a, T: Drop>(slot: &'a Slot<T>, name: Name) -> Result<Reading<'a, T>, Miss>
     ensures { IfOk result (λ reading. reading.name ≡ name) }
 {
@@ -207,7 +209,64 @@ pub fn try_read<'a, T: Drop>(slot: &'a Slot<T>, name: Name) -> Result<Reading<'a
     }
 }
 
+/// One try to take the value of this name out, which leaves its slot free for the next turn.
+#[inline(always)]
+pub fn try_take<T: Drop>(slot: &Slot<T>, name: Name) -> Result<Box<T>, Miss> {
+    let seen = slot.load();
+    if turn_of(seen) != name.turn() || state_of(seen) == FREE {
+        return Err(Miss::Gone);
+    }
+    if seen != word_of(name.turn(), PRESENT) {
+        return Err(Miss::Held);
+    }
+    let (found, claim) = slot.turn(seen, word_of(name.turn(), TAKEN));
+    if found != seen {
+        claim.done();
+        return Err(Miss::Lost);
+    }
+    match claim.put(None, vacant(name.turn())) {
+        Some(
+            Held {
+                name: stored,
+                value,
+            },
+        ) => {
+            if stored == name {
+                return Ok(value);
+            }
+            put_back(slot, stored, value);
+        }
+        None => {}
+    }
+    Err(Miss::Gone)
+}
+
+/// Puts a value back that was taken out by another name, unless its slot is used by now.
+///
+/// This isn't met: the word had the turn of the name asked for, and who places a value stores its turn there.
+#[cold]
+#[inline(never)]
+fn put_back<T: Drop>(slot: &Slot<T>, stored: Name, value: Box<T>) {
+    let seen = slot.load();
+    if state_of(seen) != FREE {
+        return;
+    }
+    let (found, claim) = slot.turn(seen, word_of(turn_of(seen), TAKEN));
+    if found != seen {
+        claim.done();
+        return;
+    }
+    let _ = claim.put(
+        Some(Held {
+            name: stored,
+            value,
+        }),
+        word_of(stored.turn(), PRESENT),
+    );
+}
+
 /// One try to claim the value of this name for writing.
+#[inline(always)]
 pub fn try_write<'a, T: Drop>(slot: &'a Slot<T>, name: Name) -> Result<Writing<'a, T>, Miss>
     ensures { IfOk result (λ writing. writing.name ≡ name) }
 {

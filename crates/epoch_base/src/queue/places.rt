@@ -194,6 +194,7 @@ fn empty<J: Drop>(
 }
 
 /// Goes on behind this place, which was seen occupied.
+#[inline(always)]
 pub(super) fn put_further(cursor: &mut PutCursor, place: usize, places: usize) -> PutStep
     requires { place < places }
     ensures cursor { cursor.new ≡ PutCursor.Look (place + 1) }
@@ -208,6 +209,7 @@ pub(super) fn put_further(cursor: &mut PutCursor, place: usize, places: usize) -
 }
 
 /// Goes on behind this place.
+#[inline(always)]
 pub(super) fn take_further(cursor: &mut TakeCursor, place: usize, places: usize) -> TakeStep
     requires { place < places }
     ensures cursor { cursor.new ≡ TakeCursor.Look (place + 1) }
@@ -222,6 +224,7 @@ pub(super) fn take_further(cursor: &mut TakeCursor, place: usize, places: usize)
 }
 
 /// Whether the word tells of a bag that is expired for this epoch.
+#[inline(always)]
 pub(super) fn is_expired_word(word: u64, expiry: Epoch) -> bool
     ensures { IsTrue result ↔ ((word % 2 ≡ 1) × (word / 2 + 2 ≤ expiry.number)) }
 {

@@ -15,6 +15,7 @@ use epoch_base::{Called, Fault, Job, Name, Refused, Run};
 
 impl<'g, T> Shared<'g, T> {
     // The name, where the pointer was got under a guard of the collector with this number.
+    #[inline(always)]
     pub(crate) fn name_under(&self, id: u64) -> Option<Name>
         ensures some { IsSome result ↔ (IsSome self.now.name × IsUnder id self.now.home) }
         ensures name { IfSome result (λ name. self.now.name ≡ Some name) }
@@ -55,6 +56,7 @@ impl<'c, T: Drop, W: Run> LocalHandle<'c, T, W> {
     /// another collector. `BagsFull`: each place was seen occupied. They are looked for in this order. A refused
     /// call hands the pointer back, and leaves the handle as it was, with its bag. As `Guard::defer_destroy` of
     /// crossbeam-epoch, which refuses nothing.
+    #[inline(always)]
     pub fn defer_destroy<'g>(
         &mut self,
         guard: &Guard<'_, T, W>,

@@ -43,6 +43,7 @@ impl<T: Pointable> Atomic<T> {
     ///
     /// An owned value is placed in a cell first, and is taken back where the exchange is lost. What an
     /// [`ExchangeFault`] says is all that the call left.
+    #[inline(always)]
     pub fn compare_exchange<'g, P: Pointer<'g, T>, W>(
         &self,
         current: Shared<'_, T>,
@@ -77,6 +78,7 @@ impl<T: Pointable> Atomic<T> {
     }
 
     // One exchange of the word. The answer is the word that stood there.
+    #[inline(always)]
     pub(crate) fn exchange_word(
         &self,
         expected: u64,

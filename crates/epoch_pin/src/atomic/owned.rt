@@ -51,6 +51,7 @@ impl<T: Pointable + Drop> Owned<T> {
     /// The value, with tag 0.
     ///
     /// `NoMemory`: an allocation was refused. The value is dropped then.
+    #[inline(always)]
     pub fn new(alloc: Global, value: T) -> Result<Owned<T>, Fault>
         ensures memory { IsOkUnless result NoMemory }
         ensures value { IfOk result (λ owned. owned.value.value ≡ value) }
@@ -95,6 +96,7 @@ impl<T: Pointable + Drop> Owned<T> {
 impl<T: Pointable> From<Box<T>> for Owned<T> {
     ghost from_gives = { λ b owned. (owned.value ≡ b) × (owned.tag ≡ 0) };
 
+    #[inline(always)]
     fn from(value: Box<T>) -> Owned<T> {
         Owned { value, tag: 0 }
     }

@@ -38,6 +38,7 @@ pub trait Pointable {
 }
 
 // A tag modulo the alignment, in the byte that a word has for it.
+#[inline(always)]
 pub(crate) fn tag_of<T: Pointable>(tag: usize) -> u8
     ensures below { result < T.ALIGN }
     ensures value { result ≡ tag % T.ALIGN }
@@ -45,6 +46,7 @@ pub(crate) fn tag_of<T: Pointable>(tag: usize) -> u8
     remainder::<T>(tag) as u8
 }
 
+#[inline(always)]
 fn remainder<T: Pointable>(tag: usize) -> usize
     ensures below { result < T.ALIGN }
     ensures value { result ≡ tag % T.ALIGN }

@@ -2,11 +2,12 @@
 ghost use Rattle.std.specs.Prelude.{◌≡◌, ℕ, Option, IsSome, IfOk, IfErr, Some};
 ghost use Rattle.epoch_base.specs.declared.cells.name.Name.{Name};
 ghost use Rattle.epoch_base.specs.declared.fault.Fault.TheVariants.{CellsFull};
-ghost use Rattle.epoch_pin.specs.Pointers.{IsUnder};
+ghost use Rattle.epoch_pin.specs.Pointers.{IsUnder, IsPointerWord};
 
 use crate::atomic::owned::Owned;
 use crate::atomic::pointable::Pointable;
 use crate::atomic::shared::{Shared, home_of};
+use crate::atomic::word::pointer_word;
 use crate::guard::Guard;
 use epoch_base::Refused;
 
@@ -24,6 +25,11 @@ pub trait Pointer<'g, T: Pointable>: Sized {
         ensures ok { IfOk result (λ shared. becomes self shared.name shared.tag) }
         ensures full { IfErr result (λ back. takes_cell × (back ≡ self)) };
 
+    /// The word of the pointer that it becomes, as [`Pointer::enter`] says.
+    fn enter_word<W>(self, guard: &'g Guard<'_, T, W>) -> Result<u64, Self>
+        ensures rule { IfOk result (λ word. IsPointerWord word) }
+        ensures full { IfErr result (λ back. takes_cell × (back ≡ self)) };
+
     /// Undoes [`Pointer::enter`] under the same guard. An [`Owned`] is taken out of its cell again; where somebody
     /// else holds or has removed its value by now, the pointer is handed back.
     fn back<W>(shared: Shared<'g, T>, guard: &'g Guard<'_, T, W>) -> Result<Self, Shared<'g, T>>
@@ -36,6 +42,7 @@ impl<'g, T: Pointable> Pointer<'g, T> for Shared<'g, T> {
 
     ghost becomes = { λ shared name tag. (name ≡ shared.name) × (tag ≡ shared.tag) };
 
+    #[inline(always)]
     fn enter<W>(self, _guard: &'g Guard<'_, T, W>) -> Result<Shared<'g, T>, Self>
         ensures ok { IfOk result (λ shared. (shared.name ≡ self.entry.name) × (shared.tag ≡ self.entry.tag)) }
         ensures full { IfErr result (λ back. ⊥ × (back ≡ self.entry)) }
@@ -43,6 +50,15 @@ impl<'g, T: Pointable> Pointer<'g, T> for Shared<'g, T> {
         Ok(self)
     }
 
+    #[inline(always)]
+    fn enter_word<W>(self, _guard: &'g Guard<'_, T, W>) -> Result<u64, Self>
+        ensures rule { IfOk result (λ word. IsPointerWord word) }
+        ensures full { IfErr result (λ back. ⊥ × (back ≡ self.entry)) }
+    {
+        Ok(pointer_word::<T>(self.name, self.tag))
+    }
+
+    #[inline(always)]
     fn back<W>(shared: Shared<'g, T>, _guard: &'g Guard<'_, T, W>) -> Result<Self, Shared<'g, T>>
         ensures ok { IfOk result (λ back. (shared.entry.name ≡ back.name) × (shared.entry.tag ≡ back.tag)) }
         ensures stuck { IfErr result (λ stuck. ⊥ × (stuck ≡ shared.entry)) }
@@ -56,6 +72,7 @@ impl<'g, T: Pointable + Drop> Pointer<'g, T> for Owned<T> {
 
     ghost becomes = { λ owned name tag. IsSome name × (tag ≡ owned.tag) };
 
+    #[inline(always)]
     fn enter<W>(self, guard: &'g Guard<'_, T, W>) -> Result<Shared<'g, T>, Self>
         ensures ok { IfOk result (λ shared. IsSome shared.name × (shared.tag ≡ self.tag)) }
         ensures full { IfErr result (λ back. Unit {0} × (back ≡ self)) }
@@ -66,6 +83,19 @@ impl<'g, T: Pointable + Drop> Pointer<'g, T> for Owned<T> {
         }
     }
 
+    #[inline(always)]
+    fn enter_word<W>(self, guard: &'g Guard<'_, T, W>) -> Result<u64, Self>
+        ensures rule { IfOk result (λ word. IsPointerWord word) }
+        ensures full { IfErr result (λ back. Unit {0} × (back ≡ self)) }
+    {
+        let Owned { value, tag } = self;
+        match guard.collector.cells.place(value) {
+            Ok(name) => Ok(pointer_word::<T>(Some(name), tag)),
+            Err(Refused { fault: _, value }) => Err(Owned { value, tag }),
+        }
+    }
+
+    #[inline(always)]
     fn back<W>(shared: Shared<'g, T>, guard: &'g Guard<'_, T, W>) -> Result<Self, Shared<'g, T>>
         ensures ok { IfOk result (λ back. IsSome shared.entry.name × (shared.entry.tag ≡ back.tag)) }
         ensures stuck { IfErr result (λ stuck. Unit {0} × (stuck ≡ shared.entry)) }
@@ -87,6 +117,7 @@ impl<T: Pointable + Drop> Owned<T> {
     /// Places the value in a cell, and answers the pointer to it, with the same tag.
     ///
     /// `CellsFull`: every slot was seen used or retired. The value is handed back.
+    #[inline(always)]
     pub fn into_shared<'g, W>(
         self,
         guard: &'g Guard<'_, T, W>,

@@ -23,6 +23,7 @@ pub(crate) struct Home<'g, T> {
 }
 
 // The cells of the guard's collector.
+#[inline(always)]
 pub(crate) fn home_of<'g, T, W>(guard: &'g Guard<'_, T, W>) -> Home<'g, T>
     ensures cells { result.cells.now ≡ guard.now.collector.now.cells }
     ensures id { result.id ≡ guard.now.collector.now.id }
@@ -59,6 +60,7 @@ impl<'g, T> Shared<'g, T> {
     }
 
     /// Whether it is null, whatever its tag is.
+    #[inline(always)]
     pub fn is_null(&self) -> bool
         ensures { IsTrue result ↔ IsNone self.now.name }
     {
@@ -66,6 +68,7 @@ impl<'g, T> Shared<'g, T> {
     }
 
     /// The tag.
+    #[inline(always)]
     pub fn tag(&self) -> usize
         ensures { result ≡ self.now.tag }
     {
@@ -75,6 +78,7 @@ impl<'g, T> Shared<'g, T> {
 
 impl<'g, T: Pointable> Shared<'g, T> {
     /// The same pointer with this tag, which is taken modulo [`Pointable::ALIGN`].
+    #[inline(always)]
     pub fn with_tag(&self, tag: usize) -> Shared<'g, T>
         ensures name { result.name ≡ self.now.name }
         ensures tag { result.tag ≡ tag % T.ALIGN }
@@ -94,6 +98,7 @@ impl<'g, T: Pointable + Drop> Shared<'g, T> {
     ///
     /// `None`: the pointer is null; or its value is gone, is written, or has `2^30 - 1` readers; or each try was
     /// lost to others. A value that was placed into the slot at a later turn is never lent.
+    #[inline(always)]
     pub fn deref(&self) -> Option<Reading<'g, T>>
         ensures named { IfSome result (λ reading. Some reading.name ≡ self.now.name) }
     {
@@ -123,6 +128,7 @@ impl<'g, T: Pointable + Drop> Shared<'g, T> {
     ///
     /// `None`: the pointer is null, whatever its tag is; or its value is gone, or is read or written; or each try
     /// was lost to others.
+    #[inline(always)]
     pub fn try_into_owned(self) -> Option<Owned<T>>
         ensures tag { IfSome result (λ owned. owned.tag ≡ self.entry.tag) }
         ensures null { IsNone self.entry.name → IsNone result }
@@ -136,6 +142,7 @@ impl<'g, T: Pointable + Drop> Shared<'g, T> {
     }
 
     /// As [`Shared::try_into_owned`].
+    #[inline(always)]
     pub fn into_owned(self) -> Option<Owned<T>>
         ensures tag { IfSome result (λ owned. owned.tag ≡ self.entry.tag) }
         ensures null { IsNone self.entry.name → IsNone result }

@@ -14,6 +14,7 @@ impl Rule for PointerWord {
 }
 
 // The number that a pointer is compared by, and its word.
+#[inline(always)]
 pub fn number(name: Option<Name>, tag: u8) -> u64
     ensures value { result ≡ word_of name tag }
     ensures rule { IsPointerWord result }
@@ -29,6 +30,7 @@ pub fn number(name: Option<Name>, tag: u8) -> u64
 }
 
 // The word that is stored for a pointer, whose tag is taken modulo the alignment.
+#[inline(always)]
 pub fn pointer_word<T: Pointable>(name: Option<Name>, tag: u8) -> u64
     ensures value { result ≡ word_of name (tag % T.ALIGN) }
     ensures rule { IsPointerWord result }
@@ -39,6 +41,7 @@ pub fn pointer_word<T: Pointable>(name: Option<Name>, tag: u8) -> u64
 }
 
 // The name that stands in a pointer's word.
+#[inline(always)]
 pub fn name_in(word: u64) -> Option<Name>
     requires { IsPointerWord word }
     ensures { HasName word result }

@@ -8,7 +8,7 @@ use epoch_base::Run;
 
 impl<'c, T: Drop, W: Run> Local<'c, T, W> {
     /// A pin, with the collection that follows the first one and each 128th.
-    #[inline]
+    #[inline(always)]
     pub(crate) fn pin_and_collect(&mut self)
         requires ready { IsReady self.old }
         requires fits { self.old.machine.guards + 1 < 2 ^ 32 }

@@ -10,6 +10,7 @@ use epoch_base::{Run, TakeStep};
 
 impl<'c, T: Drop, W: Run> Local<'c, T, W> {
     /// Calls what is left of the bag in hand, the oldest job first.
+    #[inline(always)]
     fn call_hand(&mut self)
         ensures only { self.new ≡ record self.old { machine = self.new.machine } }
         ensures calls { (expiry taken : ℕ) → self.old.machine.stage ≡ after_job self.old.machine expiry taken self.old.machine.hand → CallsHand self.old expiry taken self.new }
@@ -21,6 +22,7 @@ impl<'c, T: Drop, W: Run> Local<'c, T, W> {
 
     /// Takes expired bags, as many as a collection takes or as it finds, and calls each one's jobs before it looks
     /// for the next.
+    #[inline(always)]
     fn take_bags(&mut self)
         requires seated { IsSeated self.old }
         requires rests { RestsAt self.old.claimer.me }

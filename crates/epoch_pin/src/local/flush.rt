@@ -10,6 +10,7 @@ use epoch_base::Run;
 impl<'c, T: Drop, W: Run> Local<'c, T, W> {
     /// A flush: the held bag is put, if it has a job, and bags are collected. Answers whether the put saw each
     /// place occupied.
+    #[inline(always)]
     pub(crate) fn flush(&mut self) -> bool
         requires ready { IsReady self.old }
         requires out { 0 < self.old.machine.guards }

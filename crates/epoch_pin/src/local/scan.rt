@@ -9,6 +9,7 @@ use epoch_base::GREATEST_EPOCH;
 
 impl<'c, T, W> Local<'c, T, W> {
     /// Scans the words, and advances the epoch where none holds it up. Answers the epoch for which bags are taken.
+    #[inline(always)]
     pub(crate) fn scan(&mut self) -> u64
         requires seated { IsSeated self.old }
         requires pinned { IsPinned self.old.seat.me.0 }

@@ -13,6 +13,7 @@ use epoch_base::{Epoch, PutCursor, PutStep, TakeCursor, TakeStep};
 
 impl<J> Machine<J> {
     /// Whether a step of a collection is asked for.
+    #[inline(always)]
     pub(crate) fn is_taking(&self) -> bool
         ensures { result ≡ is_taking self.now.stage }
     {
@@ -23,6 +24,7 @@ impl<J> Machine<J> {
     }
 
     /// Whether the held bag has no job.
+    #[inline(always)]
     pub(crate) fn holds_none(&self) -> bool
         ensures { result ≡ is_empty self.now.held }
     {
@@ -32,6 +34,7 @@ impl<J> Machine<J> {
 
 impl<J: Default + Drop> Machine<J> {
     /// One step of the put that is asked for. The bag stays held unless the answer is `Done`.
+    #[inline(always)]
     pub(crate) fn put_shared(
         &mut self,
         places: &SharedPlaces<J>,
@@ -67,6 +70,7 @@ impl<J: Default + Drop> Machine<J> {
     }
 
     /// One step of the collection that is asked for. A bag that is got is in hand then.
+    #[inline(always)]
     pub(crate) fn take_shared(
         &mut self,
         places: &SharedPlaces<J>,

@@ -19,6 +19,7 @@ use std::mem;
 
 impl<J: Default + Drop> SharedPlaces<J> {
     /// The cursor of a put that has taken no step: it looks at place 0 first.
+    #[inline(always)]
     pub fn start_put(&self) -> PutCursor
         ensures first { result ≡ PutCursor.Look 0 }
         ensures at { (me : PlaceMe J) → RestsAt me → PutsAt self.now.places result me }
@@ -31,6 +32,7 @@ impl<J: Default + Drop> SharedPlaces<J> {
     ///
     /// `Done`: its jobs are in a place, in a bag sealed so, and `held` is left empty. Else nothing has moved.
     /// `Full`: each place was seen occupied by some step of this put. A place whose claim was lost is passed.
+    #[inline(always)]
     pub fn put_step(
         &self,
         seat: &mut PlaceSeat<J>,
@@ -97,6 +99,7 @@ impl<J: Default + Drop> SharedPlaces<J> {
     }
 
     /// The cursor of a collection that has taken no step: it looks at place 0 first.
+    #[inline(always)]
     pub fn start_take(&self) -> TakeCursor
         ensures first { result ≡ TakeCursor.Look 0 }
         ensures at { (x : ℕ) (me : PlaceMe J) → RestsAt me → TakesAt self.now.places x result me }
@@ -109,6 +112,7 @@ impl<J: Default + Drop> SharedPlaces<J> {
     ///
     /// `Got`: one such bag has left its place, and `hand` is that bag; the collection can go on behind the place.
     /// `Empty`: the last place is passed. Else nothing has moved. A place whose claim was lost is passed.
+    #[inline(always)]
     pub fn take_step(
         &self,
         seat: &mut PlaceSeat<J>,

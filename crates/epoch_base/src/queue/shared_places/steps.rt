@@ -12,6 +12,7 @@ use std::mem;
 ///
 /// The words are 128 bytes apart: neighbours in one line of the cache, or in two that are fetched
 /// together, would slow each other's threads down.
+#[inline(always)]
 pub(crate) fn word_index(place: usize) -> usize
     requires { place < 4096 }
     ensures { result ≡ 16 * place }
@@ -22,6 +23,7 @@ pub(crate) fn word_index(place: usize) -> usize
 impl<J> SharedPlaces<J> {
     /// Loads a place's word: 0 where it is empty, 2 where it is claimed, and 2s + 1 where it holds a
     /// bag sealed with s. No bag is moved.
+    #[inline(always)]
     pub fn look(&self, seat: &mut PlaceSeat<J>, place: usize) -> u64
         requires of { IsOf self.now seat.old }
         requires within { place < self.now.places }
@@ -34,6 +36,7 @@ impl<J> SharedPlaces<J> {
 
     /// Tries to claim a place whose word is this one, and answers the word found: this one exactly
     /// where the seat has the place now, and in hand what was at home there.
+    #[inline(always)]
     pub fn claim(&self, seat: &mut PlaceSeat<J>, place: usize, word: u64) -> u64
         requires of { IsOf self.now seat.old }
         requires within { place < self.now.places }
