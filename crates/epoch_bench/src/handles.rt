@@ -1,7 +1,7 @@
 //! Calls of one handle, beside the words of one pin and unpin.
 use crate::idle::{Calls, CallsAtOnce, Flushes, Idle, JOBS, Nested, Pins, Removals};
+use crate::plain::PlainWords;
 use crate::timing::{Hundredths, ROUNDS, Timed, best, compare, compare_loops, quotient};
-use bench_steps::plain::PlainWords;
 use epoch_base::Work;
 use epoch_pin::{Capacities, Collector};
 use std::alloc::Global;

@@ -1,8 +1,6 @@
 //! The long run: nanoseconds a step or a call, and how they compare with plain words.
-ghost use Rattle.std.specs.Prelude.{◌<◌};
-
+use crate::plain::PlainWords;
 use crate::{cells, handles, objects, pointers, steps, threads};
-use bench_steps::plain::PlainWords;
 use epoch_base::Work;
 use epoch_base::table::Participants;
 use std::alloc::Global;

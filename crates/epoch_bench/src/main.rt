@@ -8,6 +8,8 @@ mod handles;
 mod idle;
 mod long;
 mod objects;
+mod participant;
+mod plain;
 mod pointers;
 mod short;
 mod steps;

@@ -1,10 +1,7 @@
 //! Steps on the participants' table, beside the same steps on plain words.
-ghost use Rattle.std.specs.Prelude.{◌<◌};
-
+use crate::participant::{Participant, claims, loads};
+use crate::plain::PlainWords;
 use crate::timing::{Timed, compare_loops};
-use bench_steps::participant::Participant;
-use bench_steps::plain::PlainWords;
-use bench_steps::timed;
 use epoch_base::table::Participants;
 use std::io;
 use std::time::Clock;
@@ -18,8 +15,7 @@ struct Loads<'a>(&'a Participants, u64);
 
 impl<'a> Timed for Loads<'a> {
     fn go(&mut self, turns: u64) {
-        let found = timed::loads(self.0, &mut self.0.seat(), turns);
-        self.1 = self.1.wrapping_add(found);
+        self.1 = self.1.wrapping_add(loads(self.0, turns));
     }
 }
 
@@ -32,17 +28,13 @@ impl<'a> Timed for PlainLoads<'a> {
     }
 }
 
-/// Claims of position 0, each with the store that frees it.
+/// Claims of a position, each with the store that frees it, and how many were won.
 #[derive(Drop)]
-struct Claims<'a> {
-    table: &'a Participants,
-    won: u64,
-    ghost some: { 0 < table.now.positions },
-}
+struct Claims<'a>(&'a Participants, u64);
 
 impl<'a> Timed for Claims<'a> {
     fn go(&mut self, turns: u64) {
-        self.won = self.won.wrapping_add(timed::claims(self.table, turns));
+        self.1 = self.1.wrapping_add(claims(self.0, turns));
     }
 }
 
@@ -61,7 +53,7 @@ struct Stores<'a, 't>(&'a mut Participant<'t>);
 
 impl<'a, 't> Timed for Stores<'a, 't> {
     fn go(&mut self, turns: u64) {
-        timed::stores(self.0, turns);
+        self.0.stores(turns);
     }
 }
 
@@ -74,9 +66,7 @@ impl<'a> Timed for PlainStores<'a> {
     }
 }
 
-pub fn run<R: Clock + Print>(rt: &R, table: &Participants, plain: &PlainWords) -> io::Result<()>
-    requires { 0 < table.now.positions }
-{
+pub fn run<R: Clock + Print>(rt: &R, table: &Participants, plain: &PlainWords) -> io::Result<()> {
     let mut loads = Loads(table, 0);
     compare_loops(
         rt,
@@ -86,7 +76,7 @@ pub fn run<R: Clock + Print>(rt: &R, table: &Participants, plain: &PlainWords) -
         STEPS,
     )?;
     println!(rt; "(words found: {})", loads.1)?;
-    let mut claims = Claims { table, won: 0 };
+    let mut claims = Claims(table, 0);
     compare_loops(
         rt,
         "claim and free a word",
@@ -94,17 +84,16 @@ pub fn run<R: Clock + Print>(rt: &R, table: &Participants, plain: &PlainWords) -
         &mut PlainClaims(plain, 0),
         STEPS,
     )?;
-    println!(rt; "(claims won: {})", claims.won)?;
+    println!(rt; "(claims won: {})", claims.1)?;
     if let Some(mut participant) = Participant::register(table) {
-        let mut stores = Stores(&mut participant);
         compare_loops(
             rt,
             "store the own word",
-            &mut stores,
+            &mut Stores(&mut participant),
             &mut PlainStores(plain),
             STEPS,
         )?;
-        drop(participant.release());
+        participant.release();
     }
     Ok(())
 }

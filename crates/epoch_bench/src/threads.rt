@@ -1,9 +1,8 @@
 //! Pins of several threads at once: of seats at the table, of plain words, and of handles.
 use crate::idle::{Idle, Pins};
+use crate::participant::Participant;
+use crate::plain::PlainWords;
 use crate::timing::{Hundredths, ROUNDS, Timed, best, compare, each, quotient};
-use bench_steps::participant::Participant;
-use bench_steps::plain::PlainWords;
-use bench_steps::timed;
 use epoch_base::table::Participants;
 use epoch_pin::Collector;
 use std::sync::Wait;
@@ -35,8 +34,8 @@ impl<'a, R: Threads + Wait> Timed for Seats<'a, R> {
 
 fn pin_seat(table: &Participants, turns: u64) {
     if let Some(mut participant) = Participant::register(table) {
-        timed::pins(&mut participant, turns);
-        drop(participant.release());
+        participant.pins(turns);
+        participant.release();
     }
 }
 

@@ -1,6 +1,6 @@
 use Rattle.std.proofs.Common.{◌≡◌, None}
 use Rattle.epoch_base.specs.Table.{IsOf}
-use Rattle.bench_steps.proofs.timed.claims.Given as goal
+use Rattle.epoch_bench.proofs.participant.claims.Given as goal
 
 abbrev pub invariant-loop : goal.invariant-loop
 invariant-loop l = IsOf l.table l.seat × (l.seat.me.0.position ≡ None)

@@ -1,5 +1,5 @@
 use Rattle.epoch_base.specs.Table.{IsOf}
-use Rattle.bench_steps.proofs.timed.loads.Given as goal
+use Rattle.epoch_bench.proofs.participant.loads.Given as goal
 
 abbrev pub invariant-loop : goal.invariant-loop
 invariant-loop l = IsOf l.table l.seat
