@@ -1,3 +1,4 @@
+use crate::wants::want;
 use epoch_base::{Bag, Epoch};
 use std::process::Abort;
 
@@ -5,15 +6,25 @@ use std::process::Abort;
 fn fill(rt: &impl Abort, bag: Bag<u64>, limit: u64) {
     let mut bag = bag;
     for job in 0..limit {
-        assert_eq!(rt; bag.try_push(job), Ok(()), "job {job} of {limit}");
+        want(rt, "a job", (job, bag.try_push(job)), (job, Ok(())));
     }
-    assert_eq!(rt; bag.try_push(1000), Err(1000), "a bag of {limit}");
-    assert_eq!(rt; bag.len() as u64, limit);
+    want(
+        rt,
+        "a further job",
+        (limit, bag.try_push(1000)),
+        (limit, Err(1000)),
+    );
+    want(rt, "how many there are", bag.len() as u64, limit);
     let mut sealed = bag.seal(Epoch::starting());
     for job in 0..limit {
-        assert_eq!(rt; sealed.take_next(), Some(job), "of {limit}");
+        want(rt, "the next job", sealed.take_next(), Some(job));
     }
-    assert_eq!(rt; sealed.take_next(), None, "of {limit}");
+    want(
+        rt,
+        "behind the last job",
+        (limit, sealed.take_next()),
+        (limit, None),
+    );
 }
 
 #[test]

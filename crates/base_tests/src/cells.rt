@@ -1,3 +1,4 @@
+use crate::wants::want;
 use epoch_base::{Cells, Fault, MOST_SLOT, Name, Reading, Refused, Removal};
 use std::alloc::Global;
 use std::process::Abort;
@@ -66,97 +67,110 @@ fn values_are_placed_read_written_taken_and_removed(rt: HostRuntime) -> Result<(
     Ok(())
 }
 
+// What a reading sees that is made and left at once.
+fn glimpsed(cells: &Cells<u64>, slot: u32, turn: u32) -> Option<u64> {
+    let reading = read(cells, slot, turn);
+    let value = seen(&reading);
+    leave(reading);
+    value
+}
+
 // Fills both slots, and the first one once more.
 fn fill_both(rt: &impl Abort, alloc: Global, cells: &Cells<u64>) {
-    assert_eq!(rt; place(alloc, cells, 10), Ok((1, 0)));
-    assert_eq!(rt; place(alloc, cells, 20), Ok((2, 0)));
-    assert_eq!(rt; place(alloc, cells, 30), Err((2, 30)), "both are used");
-    assert_eq!(rt; take(cells, 1, 0), Some(10));
-    assert_eq!(rt;
-        place(alloc, cells, 40),
-        Ok((1, 1)),
-        "the next turn of the first slot"
-    );
-    let stale = read(cells, 1, 0);
-    assert_eq!(rt; seen(&stale), None);
-    leave(stale);
+    want(rt, "a first value", place(alloc, cells, 10), Ok((1, 0)));
+    want(rt, "a second one", place(alloc, cells, 20), Ok((2, 0)));
+    want(rt, "both are used", place(alloc, cells, 30), Err((2, 30)));
+    want(rt, "the first is taken", take(cells, 1, 0), Some(10));
+    let next = place(alloc, cells, 40);
+    want(rt, "the next turn of the first slot", next, Ok((1, 1)));
+    want(rt, "the turn before", glimpsed(cells, 1, 0), None);
 }
 
 // Has the first slot's value read twice, and meanwhile nobody else gets it.
 fn read_twice(rt: &impl Abort, cells: &Cells<u64>) {
     let first = read(cells, 1, 1);
     let second = read(cells, 1, 1);
-    assert_eq!(rt; seen(&first), Some(40));
-    assert_eq!(rt; seen(&second), Some(40));
-    assert_eq!(rt; set(cells, 1, 1, 0), None, "it is read");
-    assert_eq!(rt; take(cells, 1, 1), None, "it is read");
-    assert_eq!(rt; remove(cells, 1, 1), Some(Removal::HeldElsewhere));
+    want(rt, "the first reading", seen(&first), Some(40));
+    want(rt, "the second one", seen(&second), Some(40));
+    want(rt, "a write while it is read", set(cells, 1, 1, 0), None);
+    want(rt, "a take while it is read", take(cells, 1, 1), None);
+    let held = Some(Removal::HeldElsewhere);
+    want(rt, "a removal while it is read", remove(cells, 1, 1), held);
     leave(first);
     leave(second);
 }
 
 // Writes the first slot's value and removes it, and places another one.
 fn write_and_remove(rt: &impl Abort, alloc: Global, cells: &Cells<u64>) {
-    assert_eq!(rt; set(cells, 1, 1, 41), Some(40));
-    let third = read(cells, 1, 1);
-    assert_eq!(rt; seen(&third), Some(41));
-    leave(third);
-    assert_eq!(rt; remove(cells, 1, 1), Some(Removal::Destroyed));
-    assert_eq!(rt; remove(cells, 1, 1), Some(Removal::Gone));
-    assert_eq!(rt; place(alloc, cells, 50), Ok((1, 2)));
-    assert_eq!(rt;
+    want(rt, "a write", set(cells, 1, 1, 41), Some(40));
+    want(rt, "what it wrote", glimpsed(cells, 1, 1), Some(41));
+    want_removal(rt, "a removal", remove(cells, 1, 1), Removal::Destroyed);
+    want_removal(rt, "another one", remove(cells, 1, 1), Removal::Gone);
+    want(rt, "a further value", place(alloc, cells, 50), Ok((1, 2)));
+    want_removal(
+        rt,
+        "there is no such slot",
         remove(cells, 9, 0),
-        Some(Removal::Gone),
-        "there is no such slot"
+        Removal::Gone,
     );
+}
+
+// The removal of a name that there is did this.
+fn want_removal(rt: &impl Abort, what: &str, seen: Option<Removal>, wanted: Removal) {
+    want(rt, what, seen, Some(wanted));
 }
 
 #[test]
 fn the_last_turn_retires_a_slot(rt: HostRuntime) -> Result<(), Fail> {
-    let alloc = rt.alloc();
-    let cells = Cells::<u64>::new(alloc, 1, 4_294_967_295)?;
-    assert_eq!(rt; place(alloc, &cells, 1), Ok((1, 4_294_967_295)));
-    assert_eq!(rt; take(&cells, 1, 4_294_967_295), Some(1));
-    assert_eq!(rt; place(alloc, &cells, 2), Err((2, 2)));
-    assert_eq!(rt; take(&cells, 1, 4_294_967_295), None);
-    assert_eq!(rt; remove(&cells, 1, 4_294_967_295), Some(Removal::Gone));
-    let retired = read(&cells, 1, 4_294_967_295);
-    assert_eq!(rt; seen(&retired), None);
-    leave(retired);
+    let cells = Cells::<u64>::new(rt.alloc(), 1, 4_294_967_295)?;
+    let placed = place(rt.alloc(), &cells, 1);
+    want(&rt, "a value", placed, Ok((1, 4_294_967_295)));
+    want(&rt, "it is taken", take(&cells, 1, 4_294_967_295), Some(1));
+    want(
+        &rt,
+        "a further one",
+        place(rt.alloc(), &cells, 2),
+        Err((2, 2)),
+    );
+    want(&rt, "no take", take(&cells, 1, 4_294_967_295), None);
+    let removed = remove(&cells, 1, 4_294_967_295);
+    want_removal(&rt, "no removal", removed, Removal::Gone);
+    want(&rt, "no reading", glimpsed(&cells, 1, 4_294_967_295), None);
     Ok(())
 }
 
 #[test]
 fn a_store_without_slots_is_full(rt: HostRuntime) -> Result<(), Fail> {
     let cells = Cells::<u64>::new(rt.alloc(), 0, 0)?;
-    assert_eq!(rt; cells.capacity(), 0);
-    assert_eq!(rt; place(rt.alloc(), &cells, 7), Err((2, 7)));
-    assert_eq!(rt; remove(&cells, 1, 0), Some(Removal::Gone));
+    want(&rt, "how many slots", cells.capacity(), 0);
+    want(&rt, "a value", place(rt.alloc(), &cells, 7), Err((2, 7)));
+    want_removal(&rt, "a removal", remove(&cells, 1, 0), Removal::Gone);
     Ok(())
+}
+
+// What others are answered while the value of the first name is written.
+fn expect_held_by_writing(rt: &impl Abort, cells: &Cells<u64>) -> Option<()> {
+    let writing = cells.write(Name::first())?;
+    want(rt, "a reading", glimpsed(cells, 1, 0), None);
+    want(rt, "another write", set(cells, 1, 0, 6), None);
+    want(rt, "a take", take(cells, 1, 0), None);
+    want_removal(rt, "a removal", remove(cells, 1, 0), Removal::HeldElsewhere);
+    want(rt, "its name", pair(writing.name()), (1, 0));
+    writing.leave();
+    Some(())
 }
 
 #[test]
 fn a_written_value_is_held(rt: HostRuntime) -> Result<(), Fail> {
-    let alloc = rt.alloc();
-    let cells = Cells::<u64>::new(alloc, 1, 0)?;
-    assert_eq!(rt; place(alloc, &cells, 5), Ok((1, 0)));
-    let Some(writing) = cells.write(Name::first()) else {
-        return Err(Fail::from("no writing"));
-    };
-    let reading = read(&cells, 1, 0);
-    let found = seen(&reading);
-    leave(reading);
-    let answers = (
-        set(&cells, 1, 0, 6),
-        take(&cells, 1, 0),
-        remove(&cells, 1, 0),
+    let cells = Cells::<u64>::new(rt.alloc(), 1, 0)?;
+    want(&rt, "a value", place(rt.alloc(), &cells, 5), Ok((1, 0)));
+    want(
+        &rt,
+        "it is written",
+        expect_held_by_writing(&rt, &cells),
+        Some(()),
     );
-    let name = writing.name();
-    writing.leave();
-    assert_eq!(rt; found, None);
-    assert_eq!(rt; answers, (None, None, Some(Removal::HeldElsewhere)));
-    assert_eq!(rt; pair(name), (1, 0));
-    assert_eq!(rt; take(&cells, 1, 0), Some(5));
+    want(&rt, "a take", take(&cells, 1, 0), Some(5));
     Ok(())
 }
 
@@ -173,61 +187,103 @@ fn stays_held(cells: &Cells<u64>, more: u32) -> bool {
 
 #[test]
 fn a_reader_that_leaves_never_lowers_the_count_of_another(rt: HostRuntime) -> Result<(), Fail> {
-    let alloc = rt.alloc();
-    let cells = Cells::<u64>::new(alloc, 1, 0)?;
-    assert_eq!(rt; place(alloc, &cells, 8), Ok((1, 0)));
-    assert!(rt; stays_held(&cells, 99));
-    assert_eq!(rt; remove(&cells, 1, 0), Some(Removal::Destroyed));
+    let cells = Cells::<u64>::new(rt.alloc(), 1, 0)?;
+    want(&rt, "a value", place(rt.alloc(), &cells, 8), Ok((1, 0)));
+    want(&rt, "it stays held", stays_held(&cells, 99), true);
+    want_removal(&rt, "its removal", remove(&cells, 1, 0), Removal::Destroyed);
     Ok(())
+}
+
+// Each of so many slots takes a value, its own number, and then all are used.
+fn fill_all(rt: &impl Abort, alloc: Global, cells: &Cells<u64>, slots: u32) {
+    for slot in 1..=slots {
+        want(
+            rt,
+            "a slot",
+            place(alloc, cells, slot as u64),
+            Ok((slot, 0)),
+        );
+    }
+    want(rt, "all are used", place(alloc, cells, 0), Err((2, 0)));
+}
+
+// The values of these slots are destroyed.
+fn remove_from(rt: &impl Abort, cells: &Cells<u64>, slots: &[u32]) {
+    for slot in slots {
+        let removed = remove(cells, *slot, 0);
+        want(
+            rt,
+            "a removal",
+            (*slot, removed),
+            (*slot, Some(Removal::Destroyed)),
+        );
+    }
+}
+
+// These slots take values for a second time, one after the other.
+fn fill_again(rt: &impl Abort, alloc: Global, cells: &Cells<u64>, slots: &[u32]) {
+    for slot in slots {
+        want(rt, "a free slot", place(alloc, cells, 1), Ok((*slot, 1)));
+    }
 }
 
 #[test]
 fn the_first_free_slot_is_taken(rt: HostRuntime) -> Result<(), Fail> {
-    let alloc = rt.alloc();
-    let cells = Cells::<u64>::new(alloc, 100, 0)?;
-    for slot in 1..=100u32 {
-        assert_eq!(rt; place(alloc, &cells, slot as u64), Ok((slot, 0)));
-    }
-    assert_eq!(rt; place(alloc, &cells, 0), Err((2, 0)));
-    for slot in [70, 30, 31, 90] {
-        assert_eq!(rt; remove(&cells, slot, 0), Some(Removal::Destroyed));
-    }
-    for slot in [30, 31, 70, 90] {
-        assert_eq!(rt; place(alloc, &cells, 1), Ok((slot, 1)));
-    }
-    assert_eq!(rt; take(&cells, 100, 0), Some(100));
-    assert_eq!(rt; take(&cells, 1, 0), Some(1));
-    assert_eq!(rt; place(alloc, &cells, 2), Ok((1, 1)));
-    assert_eq!(rt; place(alloc, &cells, 3), Ok((100, 1)));
-    assert_eq!(rt; place(alloc, &cells, 4), Err((2, 4)));
+    let cells = Cells::<u64>::new(rt.alloc(), 100, 0)?;
+    fill_all(&rt, rt.alloc(), &cells, 100);
+    remove_from(&rt, &cells, &[70, 30, 31, 90]);
+    fill_again(&rt, rt.alloc(), &cells, &[30, 31, 70, 90]);
+    want(&rt, "the last is taken", take(&cells, 100, 0), Some(100));
+    want(&rt, "the first is taken", take(&cells, 1, 0), Some(1));
+    want(
+        &rt,
+        "the first again",
+        place(rt.alloc(), &cells, 2),
+        Ok((1, 1)),
+    );
+    want(
+        &rt,
+        "the last again",
+        place(rt.alloc(), &cells, 3),
+        Ok((100, 1)),
+    );
+    want(
+        &rt,
+        "all are used again",
+        place(rt.alloc(), &cells, 4),
+        Err((2, 4)),
+    );
     Ok(())
 }
 
+// The name of this slot and turn, if there is one.
+fn want_name(rt: &impl Abort, slot: u32, turn: u32, wanted: Option<(u32, u32)>) {
+    let name = Name::new(slot, turn).map(pair);
+    want(rt, "a name", (slot, turn, name), (slot, turn, wanted));
+}
+
 #[test]
-fn names_have_a_slot_from_1_to_2_24_less_1(rt: HostRuntime) -> Result<(), Fail> {
-    let cases = [
-        (0, 0, None),
-        (1, 0, Some((1, 0))),
-        (MOST_SLOT, u32::MAX, Some((MOST_SLOT, u32::MAX))),
-        (MOST_SLOT + 1, 0, None),
-        (u32::MAX, 3, None),
-    ];
-    for (slot, turn, expected) in cases {
-        assert_eq!(rt; Name::new(slot, turn).map(pair), expected, "{slot}.{turn}");
+fn names_have_a_slot_from_1_to_2_24_less_1(rt: HostRuntime) {
+    want_name(&rt, 0, 0, None);
+    want_name(&rt, 1, 0, Some((1, 0)));
+    want_name(&rt, MOST_SLOT, u32::MAX, Some((MOST_SLOT, u32::MAX)));
+    want_name(&rt, MOST_SLOT + 1, 0, None);
+    want_name(&rt, u32::MAX, 3, None);
+}
+
+// Each of these names is ordered as its place among them.
+fn want_ordered(rt: &impl Abort, names: &[(u32, u32)]) {
+    for (i, (slot, turn)) in names.iter().enumerate() {
+        for (j, (other_slot, other_turn)) in names.iter().enumerate() {
+            let order = Name::new(*slot, *turn).cmp(&Name::new(*other_slot, *other_turn));
+            want(rt, "two names", (i, j, order), (i, j, i.cmp(&j)));
+        }
     }
-    Ok(())
 }
 
 // The words of untagged pointers to these names: 256, 512, 4294967552, 4294967808.
 #[test]
-fn names_are_in_the_order_of_their_pointers(rt: HostRuntime) -> Result<(), Fail> {
-    let names = [(1, 0), (2, 0), (1, 1), (2, 1)];
-    for (i, (slot, turn)) in names.iter().enumerate() {
-        for (j, (other_slot, other_turn)) in names.iter().enumerate() {
-            let order = Name::new(*slot, *turn).cmp(&Name::new(*other_slot, *other_turn));
-            assert_eq!(rt; order, i.cmp(&j));
-        }
-    }
-    assert_eq!(rt; Name::new(1, 1), Name::new(1, 1));
-    Ok(())
+fn names_are_in_the_order_of_their_pointers(rt: HostRuntime) {
+    want_ordered(&rt, &[(1, 0), (2, 0), (1, 1), (2, 1)]);
+    want(&rt, "one name", Name::new(1, 1), Name::new(1, 1));
 }

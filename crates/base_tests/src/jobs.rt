@@ -1,17 +1,11 @@
+use crate::wants::want;
 use epoch_base::{Bag, Called, Cells, Epoch, Job, Name, SealedBag, Work};
 use std::alloc::{AllocError, Global};
+use std::process::Abort;
 use std::sync::Arc;
 use std::sync::atomic::AtomicU64;
 use std::sync::atomic::Ordering::SeqCst;
 use std::test::Fail;
-
-fn sealed(jobs: Vec<Job>) -> SealedBag<Job> {
-    let mut bag = Bag::new();
-    for job in jobs {
-        let _ = bag.try_push(job);
-    }
-    bag.seal(Epoch::starting())
-}
 
 fn cells_with(alloc: Global, values: u64) -> Option<Cells<u64>> {
     let cells = Cells::new(alloc, 3, 0).ok()?;
@@ -22,6 +16,66 @@ fn cells_with(alloc: Global, values: u64) -> Option<Cells<u64>> {
     Some(cells)
 }
 
+/// A job that adds one to the count.
+fn counting_job(alloc: Global, count: &Arc<AtomicU64>) -> Result<Job, AllocError> {
+    let inner = count.clone()?;
+    let run = Box::new(alloc, move || {
+        inner.fetch_add(1, SeqCst);
+    })?;
+    Ok(Job::Call(Work { run }))
+}
+
+/// A removal of the first value, a work, the same removal once more, and a removal of the second value.
+fn four_jobs(work: Job) -> Bag<Job> {
+    let mut jobs = Bag::new();
+    let _ = jobs.try_push(Job::Remove(Name::first()));
+    let _ = jobs.try_push(work);
+    let _ = jobs.try_push(Job::Remove(Name::first()));
+    for name in Name::new(2, 0) {
+        let _ = jobs.try_push(Job::Remove(name));
+    }
+    jobs
+}
+
+/// What the next job did, called while the second value is read.
+fn called_while_read(bag: &mut SealedBag<Job>, cells: &Cells<u64>) -> Option<Called> {
+    let reading = Name::new(2, 0).and_then(|name| cells.read(name));
+    let called = bag.call_next(cells);
+    if let Some(reading) = reading {
+        reading.leave();
+    }
+    called
+}
+
+/// The jobs say what they did, from the oldest on.
+fn want_called(rt: &impl Abort, bag: SealedBag<Job>, cells: &Cells<u64>, count: &AtomicU64) {
+    let mut bag = bag;
+    want(
+        rt,
+        "a removal",
+        bag.call_next(cells),
+        Some(Called::Destroyed),
+    );
+    want(rt, "the work isn't called yet", count.load(SeqCst), 0);
+    want(rt, "the work", bag.call_next(cells), Some(Called::Ran));
+    want(rt, "it is called", count.load(SeqCst), 1);
+    want(
+        rt,
+        "the same removal",
+        bag.call_next(cells),
+        Some(Called::Gone),
+    );
+    let held = called_while_read(&mut bag, cells);
+    want(
+        rt,
+        "a removal of what is read",
+        held,
+        Some(Called::HeldElsewhere),
+    );
+    want(rt, "behind the last job", bag.call_next(cells), None);
+    want(rt, "it is called once", count.load(SeqCst), 1);
+}
+
 #[test]
 fn jobs_are_called_oldest_first_and_say_what_they_did(rt: HostRuntime) -> Result<(), Fail> {
     let alloc = rt.alloc();
@@ -29,30 +83,7 @@ fn jobs_are_called_oldest_first_and_say_what_they_did(rt: HostRuntime) -> Result
         return Err(Fail::from("no cells"));
     };
     let count = Arc::new(alloc, AtomicU64::new(0))?;
-    let inner = count.clone()?;
-    let run = Box::new(alloc, move || {
-        inner.fetch_add(1, SeqCst);
-    })?;
-    let mut jobs = Vec::with_capacity(alloc, 4)?;
-    jobs.push(Job::Remove(Name::first()))?;
-    jobs.push(Job::Call(Work { run }))?;
-    jobs.push(Job::Remove(Name::first()))?;
-    for name in Name::new(2, 0) {
-        jobs.push(Job::Remove(name))?;
-    }
-    let mut bag = sealed(jobs);
-    assert_eq!(rt; bag.call_next(&cells), Some(Called::Destroyed));
-    assert_eq!(rt; count.load(SeqCst), 0, "the work isn't called yet");
-    assert_eq!(rt; bag.call_next(&cells), Some(Called::Ran));
-    assert_eq!(rt; count.load(SeqCst), 1);
-    assert_eq!(rt; bag.call_next(&cells), Some(Called::Gone));
-    let reading = Name::new(2, 0).and_then(|name| cells.read(name));
-    let held = bag.call_next(&cells);
-    if let Some(reading) = reading {
-        reading.leave();
-    }
-    assert_eq!(rt; held, Some(Called::HeldElsewhere));
-    assert_eq!(rt; bag.call_next(&cells), None);
-    assert_eq!(rt; count.load(SeqCst), 1);
+    let jobs = four_jobs(counting_job(alloc, &count)?);
+    want_called(&rt, jobs.seal(Epoch::starting()), &cells, &count);
     Ok(())
 }

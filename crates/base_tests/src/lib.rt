@@ -13,3 +13,7 @@ mod queues;
 mod shared_places;
 #[cfg(test)]
 mod tables;
+#[cfg(test)]
+mod tables_in_threads;
+#[cfg(test)]
+mod wants;

@@ -1,17 +1,13 @@
 ghost use Rattle.std.specs.Prelude.{◌≡◌, ◌≤◌, ℕ, []};
 
+use crate::wants::{bag_of, want};
 use epoch_base::{
-    Bag, BagQueue, BagStore, Epoch, Fault, GREATEST_EPOCH, Places, PutStep, SealedBag, TakeStep,
-    take_some,
+    Bag, BagQueue, BagStore, Epoch, GREATEST_EPOCH, Places, PutCursor, PutStep, SealedBag,
+    TakeCursor, TakeStep, take_some,
 };
+use std::alloc::Global;
+use std::process::Abort;
 use std::test::Fail;
-
-/// A bag that holds this one job.
-fn bag_of(job: u64) -> Bag<u64> {
-    let mut bag = Bag::new();
-    let _ = bag.try_push(job);
-    bag
-}
 
 /// One step of a put of a bag that holds this one job.
 fn put<S: BagStore<Job = u64>>(
@@ -57,48 +53,152 @@ const AGAIN: (TakeStep, Option<u64>) = (TakeStep::Again, None);
 
 const EMPTY: (TakeStep, Option<u64>) = (TakeStep::Empty, None);
 
+/// What a step answers that got a bag with this job.
+fn got(job: u64) -> (TakeStep, Option<u64>) {
+    (TakeStep::Got, Some(job))
+}
+
+/// One step of a put into places of a bag that holds this one job answers so.
+fn want_put(
+    rt: &impl Abort,
+    what: &str,
+    places: &mut Places<u64>,
+    cursor: &mut PutCursor,
+    (seal, job): (u32, u64),
+    wanted: PutStep,
+) {
+    let step = put(places, cursor, seal as u64, job);
+    want(rt, what, (job, step), (job, wanted));
+}
+
+/// One step of a collection from places answers so, and gets a bag with this job.
+fn want_take(
+    rt: &impl Abort,
+    what: &str,
+    places: &mut Places<u64>,
+    cursor: &mut TakeCursor,
+    expiry: u32,
+    wanted: (TakeStep, Option<u64>),
+) {
+    want(rt, what, take(places, cursor, expiry as u64), wanted);
+}
+
+/// A whole put into places ends so.
+fn want_whole_put(
+    rt: &impl Abort,
+    places: &mut Places<u64>,
+    (seal, job): (u32, u64),
+    wanted: PutStep,
+) {
+    let step = put_whole(places, seal as u64, job);
+    want(rt, "a whole put", (job, step), (job, wanted));
+}
+
+/// The word of this place is this one.
+fn want_word(rt: &impl Abort, places: &Places<u64>, place: usize, word: Option<u64>) {
+    want(
+        rt,
+        "the word of a place",
+        (place, places.word(place)),
+        (place, word),
+    );
+}
+
+/// The next job of a bag that was taken.
+fn only_job(taken: Option<SealedBag<u64>>) -> Option<u64> {
+    let mut bag = taken?;
+    bag.take_next()
+}
+
+/// The job of the front bag, which leaves the queue.
+fn popped(queue: &mut BagQueue<u64>) -> Option<u64> {
+    let mut bag = queue.try_pop_if(|_| true)?;
+    bag.take_next()
+}
+
+/// Whether a bag with this job finds a place in the queue.
+fn is_pushed(queue: &mut BagQueue<u64>, job: u64) -> bool {
+    queue.push(bag_of(job).seal(Epoch::starting())).is_ok()
+}
+
+/// Whether a pop with a condition that no bag meets leaves all bags there.
+fn none_is_popped(queue: &mut BagQueue<u64>) -> bool {
+    queue.try_pop_if(|_| false).is_none()
+}
+
 #[test]
 fn a_queue_gives_its_bags_in_the_order_of_push(rt: HostRuntime) -> Result<(), Fail> {
     let mut queue = BagQueue::new(rt.alloc(), 200)?;
     for job in 0..200u64 {
-        assert!(rt;
-            queue.push(bag_of(job).seal(Epoch::starting())).is_ok(),
-            "at {job}"
+        want(
+            &rt,
+            "a push",
+            (job, is_pushed(&mut queue, job)),
+            (job, true),
         );
     }
-    assert!(rt; queue.push(bag_of(200).seal(Epoch::starting())).is_err());
-    assert!(rt; !queue.is_empty());
-    assert!(rt; queue.try_pop_if(|_| false).is_none());
+    want(
+        &rt,
+        "a push into the full queue",
+        is_pushed(&mut queue, 200),
+        false,
+    );
+    want(&rt, "the full queue is empty", queue.is_empty(), false);
+    want(
+        &rt,
+        "no bag meets the condition",
+        none_is_popped(&mut queue),
+        true,
+    );
     for job in 0..200u64 {
-        let got = queue
-            .try_pop_if(|_| true)
-            .and_then(|mut bag| bag.take_next());
-        assert_eq!(rt; got, Some(job));
+        want(&rt, "the next bag", popped(&mut queue), Some(job));
     }
-    assert!(rt; queue.try_pop_if(|_| true).is_none());
-    assert!(rt; queue.is_empty());
+    want(&rt, "no bag is left", popped(&mut queue), None);
+    want(&rt, "the queue is empty", queue.is_empty(), true);
     Ok(())
+}
+
+/// The one step of a put into a queue answers so.
+fn want_queued(
+    rt: &impl Abort,
+    queue: &mut BagQueue<u64>,
+    (seal, job): (u32, u64),
+    wanted: PutStep,
+) {
+    let mut cursor = queue.start_put();
+    let step = put(queue, &mut cursor, seal as u64, job);
+    want(rt, "a put", (job, step), (job, wanted));
 }
 
 #[test]
 fn a_queue_puts_and_takes_in_one_step(rt: HostRuntime) -> Result<(), Fail> {
     let mut queue: BagQueue<u64> = BagStore::with_room(rt.alloc(), 2)?;
-    assert_eq!(rt; queue.capacity(), 2);
-    for (seal, job, want) in [
-        (3, 30, PutStep::Done),
-        (1, 10, PutStep::Done),
-        (1, 11, PutStep::Full),
-    ] {
-        let mut cursor = queue.start_put();
-        assert_eq!(rt; put(&mut queue, &mut cursor, seal, job), want, "job {job}");
-    }
+    want(&rt, "how many bags it takes", queue.capacity(), 2);
+    want_queued(&rt, &mut queue, (3, 30), PutStep::Done);
+    want_queued(&rt, &mut queue, (1, 10), PutStep::Done);
+    want_queued(&rt, &mut queue, (1, 11), PutStep::Full);
     let mut cursor = queue.start_take();
     // The front is sealed with 3, so that it isn't expired for 4; the bag behind it would be.
-    assert_eq!(rt; take(&mut queue, &mut cursor, 4), EMPTY);
+    want(
+        &rt,
+        "a collection for 4",
+        take(&mut queue, &mut cursor, 4),
+        EMPTY,
+    );
     let mut cursor = queue.start_take();
-    assert_eq!(rt; take(&mut queue, &mut cursor, 5), (TakeStep::Got, Some(30)));
-    assert_eq!(rt; take(&mut queue, &mut cursor, 5), (TakeStep::Got, Some(10)));
-    assert_eq!(rt; take(&mut queue, &mut cursor, 5), EMPTY);
+    want(&rt, "one for 5", take(&mut queue, &mut cursor, 5), got(30));
+    want(
+        &rt,
+        "its next step",
+        take(&mut queue, &mut cursor, 5),
+        got(10),
+    );
+    want(
+        &rt,
+        "its last step",
+        take(&mut queue, &mut cursor, 5),
+        EMPTY,
+    );
     Ok(())
 }
 
@@ -107,64 +207,110 @@ fn a_put_looks_at_a_place_claims_it_and_fills_it(rt: HostRuntime) -> Result<(), 
     let mut places: Places<u64> = BagStore::with_room(rt.alloc(), 2)?;
     let mut cursor = places.start_put();
     // A look leaves the word 0, a claim makes it 2, a fill twice the seal and one more.
-    for (step, word) in [
-        (PutStep::Again, 0),
-        (PutStep::Again, 2),
-        (PutStep::Done, 15),
-    ] {
-        assert_eq!(rt; put(&mut places, &mut cursor, 7, 70), step, "before {word}");
-        assert_eq!(rt; places.word(0), Some(word));
-    }
-    assert_eq!(rt; (places.word(1), places.word(2)), (Some(0), None));
+    want_put(
+        &rt,
+        "the look",
+        &mut places,
+        &mut cursor,
+        (7, 70),
+        PutStep::Again,
+    );
+    want_word(&rt, &places, 0, Some(0));
+    want_put(
+        &rt,
+        "the claim",
+        &mut places,
+        &mut cursor,
+        (7, 70),
+        PutStep::Again,
+    );
+    want_word(&rt, &places, 0, Some(2));
+    want_put(
+        &rt,
+        "the fill",
+        &mut places,
+        &mut cursor,
+        (7, 70),
+        PutStep::Done,
+    );
+    want_word(&rt, &places, 0, Some(15));
+    want_word(&rt, &places, 1, Some(0));
+    want_word(&rt, &places, 2, None);
     Ok(())
+}
+
+/// A put looks at so many places before its own, and then takes three steps.
+fn put_after_looks(rt: &impl Abort, places: &mut Places<u64>, bag: (u32, u64), looks: u64) {
+    let mut cursor = places.start_put();
+    for _ in 0..looks {
+        want_put(rt, "a look", places, &mut cursor, bag, PutStep::Again);
+    }
+    want_put(
+        rt,
+        "the last look",
+        places,
+        &mut cursor,
+        bag,
+        PutStep::Again,
+    );
+    want_put(rt, "the claim", places, &mut cursor, bag, PutStep::Again);
+    want_put(rt, "the fill", places, &mut cursor, bag, PutStep::Done);
+}
+
+/// A collection takes the bag with this job in three steps.
+fn taken_by_steps(rt: &impl Abort, places: &mut Places<u64>, cursor: &mut TakeCursor, job: u64) {
+    want_take(rt, "the look", places, cursor, 5, AGAIN);
+    want_take(rt, "the claim", places, cursor, 5, AGAIN);
+    want_take(rt, "the bag", places, cursor, 5, got(job));
 }
 
 #[test]
 fn places_are_filled_and_emptied_from_the_first_one_on(rt: HostRuntime) -> Result<(), Fail> {
     let mut places = Places::new(rt.alloc(), 3)?;
-    // Each put looks at the places before its own, and then takes three steps.
-    for (seal, job, looks) in [(3, 30, 0u64), (1, 10, 1), (2, 20, 2)] {
-        let mut cursor = places.start_put();
-        for _ in 0..looks + 2 {
-            assert_eq!(rt;
-                put(&mut places, &mut cursor, seal, job),
-                PutStep::Again,
-                "job {job}"
-            );
-        }
-        assert_eq!(rt;
-            put(&mut places, &mut cursor, seal, job),
-            PutStep::Done,
-            "job {job}"
-        );
-    }
+    put_after_looks(&rt, &mut places, (3, 30), 0);
+    put_after_looks(&rt, &mut places, (1, 10), 1);
+    put_after_looks(&rt, &mut places, (2, 20), 2);
     let mut cursor = places.start_take();
-    for job in [30, 10, 20] {
-        assert_eq!(rt; take(&mut places, &mut cursor, 5), AGAIN, "look for {job}");
-        assert_eq!(rt; take(&mut places, &mut cursor, 5), AGAIN, "claim of {job}");
-        assert_eq!(rt;
-            take(&mut places, &mut cursor, 5),
-            (TakeStep::Got, Some(job))
-        );
-    }
+    taken_by_steps(&rt, &mut places, &mut cursor, 30);
+    taken_by_steps(&rt, &mut places, &mut cursor, 10);
+    taken_by_steps(&rt, &mut places, &mut cursor, 20);
     // Past the last place, Empty is a step of its own.
-    assert_eq!(rt; take(&mut places, &mut cursor, 5), EMPTY);
-    assert_eq!(rt;
-        (places.word(0), places.word(1), places.word(2)),
-        (Some(0), Some(0), Some(0))
+    want_take(
+        &rt,
+        "past the last place",
+        &mut places,
+        &mut cursor,
+        5,
+        EMPTY,
     );
+    want_word(&rt, &places, 0, Some(0));
+    want_word(&rt, &places, 1, Some(0));
+    want_word(&rt, &places, 2, Some(0));
     Ok(())
 }
 
 #[test]
 fn a_put_is_full_at_the_last_place_seen_occupied(rt: HostRuntime) -> Result<(), Fail> {
     let mut places = Places::new(rt.alloc(), 2)?;
-    for job in [1, 2] {
-        assert_eq!(rt; put_whole(&mut places, 0, job), PutStep::Done);
-    }
+    want_whole_put(&rt, &mut places, (0, 1), PutStep::Done);
+    want_whole_put(&rt, &mut places, (0, 2), PutStep::Done);
     let mut cursor = places.start_put();
-    assert_eq!(rt; put(&mut places, &mut cursor, 0, 3), PutStep::Again);
-    assert_eq!(rt; put(&mut places, &mut cursor, 0, 3), PutStep::Full);
+    want_put(
+        &rt,
+        "the first look",
+        &mut places,
+        &mut cursor,
+        (0, 3),
+        PutStep::Again,
+    );
+    want_put(
+        &rt,
+        "the last look",
+        &mut places,
+        &mut cursor,
+        (0, 3),
+        PutStep::Full,
+    );
     Ok(())
 }
 
@@ -172,17 +318,75 @@ fn a_put_is_full_at_the_last_place_seen_occupied(rt: HostRuntime) -> Result<(), 
 fn of_two_puts_one_loses_its_claim(rt: HostRuntime) -> Result<(), Fail> {
     let mut places = Places::new(rt.alloc(), 2)?;
     let (mut one, mut other) = (places.start_put(), places.start_put());
-    assert_eq!(rt; put(&mut places, &mut one, 0, 1), PutStep::Again);
-    assert_eq!(rt; put(&mut places, &mut other, 4, 2), PutStep::Again);
-    assert_eq!(rt; put(&mut places, &mut one, 0, 1), PutStep::Again);
-    assert_eq!(rt; put(&mut places, &mut other, 4, 2), PutStep::Again);
-    assert_eq!(rt; (places.word(0), places.word(1)), (Some(2), Some(0)));
-    assert_eq!(rt; put(&mut places, &mut one, 0, 1), PutStep::Done);
+    want_put(
+        &rt,
+        "one looks",
+        &mut places,
+        &mut one,
+        (0, 1),
+        PutStep::Again,
+    );
+    want_put(
+        &rt,
+        "the other looks",
+        &mut places,
+        &mut other,
+        (4, 2),
+        PutStep::Again,
+    );
+    want_put(
+        &rt,
+        "one claims",
+        &mut places,
+        &mut one,
+        (0, 1),
+        PutStep::Again,
+    );
+    want_put(
+        &rt,
+        "the other loses",
+        &mut places,
+        &mut other,
+        (4, 2),
+        PutStep::Again,
+    );
+    want_word(&rt, &places, 0, Some(2));
+    want_word(&rt, &places, 1, Some(0));
+    want_put(
+        &rt,
+        "one fills",
+        &mut places,
+        &mut one,
+        (0, 1),
+        PutStep::Done,
+    );
     // The other looks at the next place, claims it and fills it.
-    for step in [PutStep::Again, PutStep::Again, PutStep::Done] {
-        assert_eq!(rt; put(&mut places, &mut other, 4, 2), step);
-    }
-    assert_eq!(rt; (places.word(0), places.word(1)), (Some(1), Some(9)));
+    want_put(
+        &rt,
+        "the other's look",
+        &mut places,
+        &mut other,
+        (4, 2),
+        PutStep::Again,
+    );
+    want_put(
+        &rt,
+        "the other's claim",
+        &mut places,
+        &mut other,
+        (4, 2),
+        PutStep::Again,
+    );
+    want_put(
+        &rt,
+        "the other's fill",
+        &mut places,
+        &mut other,
+        (4, 2),
+        PutStep::Done,
+    );
+    want_word(&rt, &places, 0, Some(1));
+    want_word(&rt, &places, 1, Some(9));
     Ok(())
 }
 
@@ -190,41 +394,79 @@ fn of_two_puts_one_loses_its_claim(rt: HostRuntime) -> Result<(), Fail> {
 fn a_claim_lost_at_the_last_place_is_the_last_step(rt: HostRuntime) -> Result<(), Fail> {
     let mut places = Places::new(rt.alloc(), 1)?;
     let (mut one, mut other) = (places.start_put(), places.start_put());
-    for _ in 0..2 {
-        assert_eq!(rt; put(&mut places, &mut one, 0, 1), PutStep::Again);
-        if places.word(0) == Some(0) {
-            assert_eq!(rt; put(&mut places, &mut other, 0, 2), PutStep::Again);
-        }
-    }
-    assert_eq!(rt; put(&mut places, &mut other, 0, 2), PutStep::Full);
-    assert_eq!(rt; put(&mut places, &mut one, 0, 1), PutStep::Done);
+    want_put(
+        &rt,
+        "one looks",
+        &mut places,
+        &mut one,
+        (0, 1),
+        PutStep::Again,
+    );
+    want_word(&rt, &places, 0, Some(0));
+    want_put(
+        &rt,
+        "the other looks",
+        &mut places,
+        &mut other,
+        (0, 2),
+        PutStep::Again,
+    );
+    want_put(
+        &rt,
+        "one claims",
+        &mut places,
+        &mut one,
+        (0, 1),
+        PutStep::Again,
+    );
+    want_put(
+        &rt,
+        "the other loses",
+        &mut places,
+        &mut other,
+        (0, 2),
+        PutStep::Full,
+    );
+    want_put(
+        &rt,
+        "one fills",
+        &mut places,
+        &mut one,
+        (0, 1),
+        PutStep::Done,
+    );
     let (mut one, mut other) = (places.start_take(), places.start_take());
-    assert_eq!(rt; take(&mut places, &mut one, 2), AGAIN);
-    assert_eq!(rt; take(&mut places, &mut other, 2), AGAIN);
-    assert_eq!(rt; take(&mut places, &mut one, 2), AGAIN);
-    assert_eq!(rt; take(&mut places, &mut other, 2), EMPTY);
-    assert_eq!(rt; take(&mut places, &mut one, 2), (TakeStep::Got, Some(1)));
+    want_take(&rt, "one looks", &mut places, &mut one, 2, AGAIN);
+    want_take(&rt, "the other looks", &mut places, &mut other, 2, AGAIN);
+    want_take(&rt, "one claims", &mut places, &mut one, 2, AGAIN);
+    want_take(&rt, "the other loses", &mut places, &mut other, 2, EMPTY);
+    want_take(&rt, "one takes the bag", &mut places, &mut one, 2, got(1));
     Ok(())
+}
+
+/// The first step of a new collection answers so.
+fn want_look(
+    rt: &impl Abort,
+    places: &mut Places<u64>,
+    expiry: u64,
+    wanted: (TakeStep, Option<u64>),
+)
+    requires { expiry ≤ GREATEST_EPOCH }
+{
+    let mut cursor = places.start_take();
+    let step = take(places, &mut cursor, expiry);
+    want(rt, "a look", (expiry, step), (expiry, wanted));
 }
 
 #[test]
 fn a_bag_is_taken_from_two_epochs_after_its_seal_on(rt: HostRuntime) -> Result<(), Fail> {
     let mut places = Places::new(rt.alloc(), 1)?;
-    assert_eq!(rt; put_whole(&mut places, 4, 1), PutStep::Done);
-    for (expiry, want) in [
-        (0, EMPTY),
-        (4, EMPTY),
-        (5, EMPTY),
-        (6, AGAIN),
-        (GREATEST_EPOCH, AGAIN),
-    ] {
-        let mut cursor = places.start_take();
-        assert_eq!(rt;
-            take(&mut places, &mut cursor, expiry),
-            want,
-            "for {expiry}"
-        );
-    }
+    want_whole_put(&rt, &mut places, (4, 1), PutStep::Done);
+    want_look(&rt, &mut places, 0, EMPTY);
+    want_look(&rt, &mut places, 4, EMPTY);
+    want_look(&rt, &mut places, 5, EMPTY);
+    want_look(&rt, &mut places, 6, AGAIN);
+    want_look(&rt, &mut places, GREATEST_EPOCH, AGAIN);
     Ok(())
 }
 
@@ -232,12 +474,28 @@ fn a_bag_is_taken_from_two_epochs_after_its_seal_on(rt: HostRuntime) -> Result<(
 fn an_end_takes_every_bag(rt: HostRuntime) -> Result<(), Fail> {
     let mut places: Places<u64> = BagStore::with_room(rt.alloc(), 2)?;
     let mut cursor = places.start_put();
-    assert_eq!(rt; put(&mut places, &mut cursor, 9, 1), PutStep::Again);
-    assert_eq!(rt; put(&mut places, &mut cursor, 9, 1), PutStep::Again);
-    assert_eq!(rt; put(&mut places, &mut cursor, 9, 1), PutStep::Done);
-    let got = places.take_any().and_then(|mut bag| bag.take_next());
-    assert_eq!(rt; (got, places.word(0)), (Some(1), Some(0)));
-    assert!(rt; places.take_any().is_none());
+    want(
+        &rt,
+        "the look",
+        put(&mut places, &mut cursor, 9, 1),
+        PutStep::Again,
+    );
+    want(
+        &rt,
+        "the claim",
+        put(&mut places, &mut cursor, 9, 1),
+        PutStep::Again,
+    );
+    want(
+        &rt,
+        "the fill",
+        put(&mut places, &mut cursor, 9, 1),
+        PutStep::Done,
+    );
+    let taken = places.take_any();
+    want(&rt, "the end takes it", only_job(taken), Some(1));
+    want_word(&rt, &places, 0, Some(0));
+    want(&rt, "no bag is left", places.take_any().is_none(), true);
     Ok(())
 }
 
@@ -252,13 +510,21 @@ fn taken_of_four<S: BagStore<Job = u64>>(store: &mut S, most: u64) -> u64
     take_some(store, Epoch::new(2), most, &mut hand)
 }
 
+/// Of four bags a lone collection of at most so many takes so many, out of a queue and out of places.
+fn want_taken_of_four(rt: &impl Abort, alloc: Global, most: u64, wanted: u64) -> Result<(), Fail>
+    requires { most ≤ 64 }
+{
+    let mut queue: BagQueue<u64> = BagStore::with_room(alloc, 6)?;
+    want(rt, "a queue", taken_of_four(&mut queue, most), wanted);
+    let mut places: Places<u64> = BagStore::with_room(alloc, 6)?;
+    want(rt, "places", taken_of_four(&mut places, most), wanted);
+    Ok(())
+}
+
 #[test]
 fn a_lone_collection_takes_at_most_so_many_bags(rt: HostRuntime) -> Result<(), Fail> {
-    for (most, want) in [(0, 0), (3, 3), (4, 4), (8, 4)] {
-        let mut queue: BagQueue<u64> = BagStore::with_room(rt.alloc(), 6)?;
-        assert_eq!(rt; taken_of_four(&mut queue, most), want);
-        let mut places: Places<u64> = BagStore::with_room(rt.alloc(), 6)?;
-        assert_eq!(rt; taken_of_four(&mut places, most), want);
-    }
-    Ok(())
+    want_taken_of_four(&rt, rt.alloc(), 0, 0)?;
+    want_taken_of_four(&rt, rt.alloc(), 3, 3)?;
+    want_taken_of_four(&rt, rt.alloc(), 4, 4)?;
+    want_taken_of_four(&rt, rt.alloc(), 8, 4)
 }

@@ -1,16 +1,13 @@
 ghost use Rattle.std.specs.Prelude.{◌≡◌, ◌≢◌, ◌≤◌};
-ghost use Rattle.epoch_base.specs.SharedPlaces.{IsOf, IsKept};
-ghost use Rattle.epoch_base.specs.SharedSteps.{RestsAt, TakesAt};
+ghost use Rattle.epoch_tables.specs.SharedPlaces.{IsOf, IsKept};
+ghost use Rattle.epoch_tables.specs.SharedSteps.{RestsAt, TakesAt};
 
+use crate::wants::{bag_of, want, want_put_on, want_take_on, want_word};
 use epoch_base::queue::{PlaceSeat, SharedPlaces};
-use epoch_base::{Bag, Epoch, Fault, GREATEST_EPOCH, PutCursor, PutStep, TakeCursor, TakeStep};
-
-/// A bag that holds this one job.
-fn bag_of(job: u64) -> Bag<u64> {
-    let mut bag = Bag::new();
-    let _ = bag.try_push(job);
-    bag
-}
+use epoch_base::{
+    Bag, Epoch, Fault, GREATEST_EPOCH, PutCursor, PutStep, SealedBag, TakeCursor, TakeStep,
+};
+use std::process::Abort;
 
 /// A put of this one job until it has ended, which it does within three steps a place.
 fn put(places: &SharedPlaces<u64>, seat: &mut PlaceSeat<u64>, seal: u64, job: u64) -> PutStep
@@ -53,40 +50,42 @@ fn take(
     (TakeStep::Again, None)
 }
 
+/// A bag with these two jobs, sealed with 3.
+fn sealed_pair(rt: &impl Abort, first: u64, second: u64) -> SealedBag<u64> {
+    let mut jobs = bag_of(first);
+    want(rt, "the second is pushed", jobs.try_push(second), Ok(()));
+    jobs.seal(Epoch::new(3))
+}
+
+/// The bag came out, was sealed with 3, and has these jobs.
+fn want_pair(rt: &impl Abort, bag: Option<SealedBag<u64>>, first: u64, second: u64) {
+    let Some(mut out) = bag else {
+        panic!(rt; "the bag came out");
+    };
+    want(rt, "its seal", out.seal(), 3);
+    want(rt, "the oldest job first", out.take_next(), Some(first));
+    want(rt, "the other job", out.take_next(), Some(second));
+    want(rt, "no other job", out.take_next(), None);
+}
+
 // The expected words: 0 for an empty place, 2 for a claimed one, 2s + 1 for one with a bag sealed with s.
 #[test]
 fn a_bag_is_put_into_a_place_and_comes_out_whole(rt: HostRuntime) -> Result<(), Fault> {
     let places: SharedPlaces<u64> = SharedPlaces::new(rt.alloc(), 2)?;
-    let mut seat = places.seat();
-    let mut other = places.seat();
-    let mut jobs = Bag::new();
-    let pushed = jobs.try_push(5).is_ok() && jobs.try_push(6).is_ok();
-    assert!(rt; pushed);
-    let mut bag = Some(jobs.seal(Epoch::new(3)));
-    assert!(rt; places.look(&mut seat, 1) == 0, "a new place is empty");
-    let won = places.claim(&mut seat, 1, 0);
-    assert!(rt; won == 0);
-    assert!(rt; places.look(&mut other, 1) == 2, "it is claimed");
+    let (mut seat, mut other) = (places.seat(), places.seat());
+    let mut bag = Some(sealed_pair(&rt, 5, 6));
+    want(&rt, "a new place is empty", places.look(&mut seat, 1), 0);
+    want_word(&rt, "it is won", places.claim(&mut seat, 1, 0), 0);
+    want(&rt, "it is claimed", places.look(&mut other, 1), 2);
     places.fill(&mut seat, 1, &mut bag);
-    assert!(rt; bag.is_none(), "the bag is in the place");
-    assert!(rt;
-        places.look(&mut other, 1) == 7,
-        "it has a bag sealed with 3"
-    );
-    let lost = places.claim(&mut other, 1, 0);
-    assert!(rt; lost == 7, "it isn't empty");
-    let taken = places.claim(&mut other, 1, 7);
-    assert!(rt; taken == 7);
+    want(&rt, "the bag is in the place", bag.is_none(), true);
+    want(&rt, "it is sealed with 3", places.look(&mut other, 1), 7);
+    want_word(&rt, "it isn't empty", places.claim(&mut other, 1, 0), 7);
+    want_word(&rt, "it is taken", places.claim(&mut other, 1, 7), 7);
     places.empty(&mut other, 1, &mut bag);
-    assert!(rt; places.look(&mut seat, 1) == 0, "it is empty again");
-    let Some(mut out) = bag else {
-        panic!(rt; "the bag came out");
-    };
-    assert!(rt; out.seal() == 3);
-    assert!(rt; out.take_next() == Some(5), "the oldest job first");
-    assert!(rt; out.take_next() == Some(6));
-    assert!(rt; out.take_next() == None);
-    assert!(rt; places.places() == 2);
+    want(&rt, "it is empty again", places.look(&mut seat, 1), 0);
+    want_pair(&rt, bag, 5, 6);
+    want(&rt, "how many there are", places.places(), 2);
     Ok(())
 }
 
@@ -96,20 +95,18 @@ fn a_put_by_cursor_looks_claims_and_fills(rt: HostRuntime) -> Result<(), Fault> 
     let places: SharedPlaces<u64> = SharedPlaces::new(rt.alloc(), 2)?;
     let (mut seat, mut other) = (places.seat(), places.seat());
     let (mut held, mut cursor) = (bag_of(70), places.start_put());
-    let PutStep::Again = places.put_step(&mut seat, &mut cursor, Epoch::new(7), &mut held) else {
-        panic!(rt; "the look goes on");
-    };
-    assert!(rt; places.look(&mut other, 0) == 0);
-    let PutStep::Again = places.put_step(&mut seat, &mut cursor, Epoch::new(7), &mut held) else {
-        panic!(rt; "the claim goes on");
-    };
-    assert!(rt; places.look(&mut other, 0) == 2);
-    assert!(rt; held.len() == 1, "nothing has moved yet");
+    let looked = places.put_step(&mut seat, &mut cursor, Epoch::new(7), &mut held);
+    want_put_on(&rt, "the look", looked);
+    want(&rt, "the place is empty", places.look(&mut other, 0), 0);
+    let claimed = places.put_step(&mut seat, &mut cursor, Epoch::new(7), &mut held);
+    want_put_on(&rt, "the claim", claimed);
+    want(&rt, "it is claimed", places.look(&mut other, 0), 2);
+    want(&rt, "nothing has moved yet", held.len(), 1);
     let filled = places.put_step(&mut seat, &mut cursor, Epoch::new(7), &mut held);
-    assert!(rt; filled == PutStep::Done);
-    assert!(rt; places.look(&mut other, 0) == 15);
-    assert!(rt; places.look(&mut other, 1) == 0);
-    assert!(rt; held.is_empty(), "the job is in the place");
+    want(&rt, "the fill", filled, PutStep::Done);
+    want(&rt, "it is filled", places.look(&mut other, 0), 15);
+    want(&rt, "the other one is empty", places.look(&mut other, 1), 0);
+    want(&rt, "the job is in the place", held.is_empty(), true);
     Ok(())
 }
 
@@ -117,16 +114,25 @@ fn a_put_by_cursor_looks_claims_and_fills(rt: HostRuntime) -> Result<(), Fault> 
 fn a_full_store_answers_full_at_the_look_at_the_last_place(rt: HostRuntime) -> Result<(), Fault> {
     let places: SharedPlaces<u64> = SharedPlaces::new(rt.alloc(), 2)?;
     let (mut one, mut two, mut seat) = (places.seat(), places.seat(), places.seat());
-    assert!(rt; put(&places, &mut one, 3, 30) == PutStep::Done);
-    assert!(rt; put(&places, &mut two, 4, 40) == PutStep::Done);
+    want(
+        &rt,
+        "a first bag",
+        put(&places, &mut one, 3, 30),
+        PutStep::Done,
+    );
+    want(
+        &rt,
+        "a second one",
+        put(&places, &mut two, 4, 40),
+        PutStep::Done,
+    );
     let (mut held, mut cursor) = (bag_of(50), places.start_put());
-    let PutStep::Again = places.put_step(&mut seat, &mut cursor, Epoch::new(5), &mut held) else {
-        panic!(rt; "one more place is left to look at");
-    };
-    assert!(rt; cursor == PutCursor::Look(1));
+    let first = places.put_step(&mut seat, &mut cursor, Epoch::new(5), &mut held);
+    want_put_on(&rt, "one more place is left to look at", first);
+    want(&rt, "it looks at it next", cursor, PutCursor::Look(1));
     let last = places.put_step(&mut seat, &mut cursor, Epoch::new(5), &mut held);
-    assert!(rt; last == PutStep::Full);
-    assert!(rt; held.len() == 1, "the job is held as before");
+    want(&rt, "the look at the last place", last, PutStep::Full);
+    want(&rt, "the job is held as before", held.len(), 1);
     Ok(())
 }
 
@@ -135,20 +141,19 @@ fn a_put_passes_a_place_whose_claim_it_lost(rt: HostRuntime) -> Result<(), Fault
     let places: SharedPlaces<u64> = SharedPlaces::new(rt.alloc(), 2)?;
     let (mut seat, mut other) = (places.seat(), places.seat());
     let (mut held, mut cursor) = (bag_of(50), places.start_put());
-    let PutStep::Again = places.put_step(&mut seat, &mut cursor, Epoch::new(5), &mut held) else {
-        panic!(rt; "place 0 is empty");
-    };
-    assert!(rt; cursor == PutCursor::Claim(0));
-    assert!(rt;
-        put(&places, &mut other, 3, 30) == PutStep::Done,
-        "another bag is put there"
-    );
+    let looked = places.put_step(&mut seat, &mut cursor, Epoch::new(5), &mut held);
+    want_put_on(&rt, "place 0 is empty", looked);
+    want(&rt, "it claims it next", cursor, PutCursor::Claim(0));
+    let another = put(&places, &mut other, 3, 30);
+    want(&rt, "another bag is put there", another, PutStep::Done);
     let lost = places.put_step(&mut seat, &mut cursor, Epoch::new(5), &mut held);
-    assert!(rt; lost == PutStep::Again);
-    assert!(rt; cursor == PutCursor::Look(1));
-    assert!(rt;
-        places.look(&mut other, 0) == 7,
-        "the other's bag is in place 0"
+    want(&rt, "the claim is lost", lost, PutStep::Again);
+    want(&rt, "it looks at the next one", cursor, PutCursor::Look(1));
+    want(
+        &rt,
+        "the other's bag is in place 0",
+        places.look(&mut other, 0),
+        7,
     );
     Ok(())
 }
@@ -157,26 +162,31 @@ fn a_put_passes_a_place_whose_claim_it_lost(rt: HostRuntime) -> Result<(), Fault
 fn a_collection_by_cursor_looks_claims_and_empties(rt: HostRuntime) -> Result<(), Fault> {
     let places: SharedPlaces<u64> = SharedPlaces::new(rt.alloc(), 2)?;
     let (mut seat, mut other) = (places.seat(), places.seat());
-    assert!(rt; put(&places, &mut other, 3, 30) == PutStep::Done);
+    want(&rt, "a bag", put(&places, &mut other, 3, 30), PutStep::Done);
     let (expiry, mut cursor) = (Epoch::new(5), places.start_take());
     let mut hand = Bag::new().seal(Epoch::starting());
-    let TakeStep::Again = places.take_step(&mut seat, &mut cursor, expiry, &mut hand) else {
-        panic!(rt; "the look goes on");
-    };
-    assert!(rt; cursor == TakeCursor::Claim(0, 7));
-    let TakeStep::Again = places.take_step(&mut seat, &mut cursor, expiry, &mut hand) else {
-        panic!(rt; "the claim goes on");
-    };
-    assert!(rt; places.look(&mut other, 0) == 2);
-    let got = places.take_step(&mut seat, &mut cursor, expiry, &mut hand);
-    assert!(rt; got == TakeStep::Got);
-    assert!(rt;
-        cursor == TakeCursor::Look(1),
-        "it can go on behind the place"
+    let looked = places.take_step(&mut seat, &mut cursor, expiry, &mut hand);
+    want_take_on(&rt, "the look", looked);
+    want(
+        &rt,
+        "it claims the place next",
+        cursor,
+        TakeCursor::Claim(0, 7),
     );
-    assert!(rt; places.look(&mut other, 0) == 0);
-    assert!(rt; hand.seal() == 3);
-    assert!(rt; hand.take_next() == Some(30));
+    let claimed = places.take_step(&mut seat, &mut cursor, expiry, &mut hand);
+    want_take_on(&rt, "the claim", claimed);
+    want(&rt, "it is claimed", places.look(&mut other, 0), 2);
+    let got = places.take_step(&mut seat, &mut cursor, expiry, &mut hand);
+    want(&rt, "a bag is got", got, TakeStep::Got);
+    want(
+        &rt,
+        "it can go on behind the place",
+        cursor,
+        TakeCursor::Look(1),
+    );
+    want(&rt, "the place is empty", places.look(&mut other, 0), 0);
+    want(&rt, "the bag's seal", hand.seal(), 3);
+    want(&rt, "the bag's job", hand.take_next(), Some(30));
     Ok(())
 }
 
@@ -185,42 +195,66 @@ fn a_collection_by_cursor_looks_claims_and_empties(rt: HostRuntime) -> Result<()
 fn a_collection_takes_the_expired_bags_one_after_the_other(rt: HostRuntime) -> Result<(), Fault> {
     let places: SharedPlaces<u64> = SharedPlaces::new(rt.alloc(), 3)?;
     let (mut one, mut two, mut three) = (places.seat(), places.seat(), places.seat());
-    assert!(rt; put(&places, &mut one, 3, 30) == PutStep::Done);
-    assert!(rt; put(&places, &mut two, 5, 50) == PutStep::Done);
-    assert!(rt; put(&places, &mut three, 4, 40) == PutStep::Done);
+    want(
+        &rt,
+        "a first bag",
+        put(&places, &mut one, 3, 30),
+        PutStep::Done,
+    );
+    want(
+        &rt,
+        "a second one",
+        put(&places, &mut two, 5, 50),
+        PutStep::Done,
+    );
+    want(
+        &rt,
+        "a third one",
+        put(&places, &mut three, 4, 40),
+        PutStep::Done,
+    );
     let (mut seat, mut other) = (places.seat(), places.seat());
     let (expiry, mut cursor) = (Epoch::new(6), places.start_take());
-    assert!(rt; take(&places, &mut seat, &mut cursor, expiry) == (TakeStep::Got, Some(30)));
-    assert!(rt; take(&places, &mut seat, &mut cursor, expiry) == (TakeStep::Got, Some(40)));
-    assert!(rt; cursor == TakeCursor::Look(3), "past the last place");
-    assert!(rt; take(&places, &mut seat, &mut cursor, expiry) == (TakeStep::Empty, None));
-    assert!(rt; cursor == TakeCursor::Look(3));
-    assert!(rt;
-        places.look(&mut other, 1) == 11,
-        "the bag that isn't expired is left"
-    );
+    let first = take(&places, &mut seat, &mut cursor, expiry);
+    want(&rt, "the first bag", first, (TakeStep::Got, Some(30)));
+    let second = take(&places, &mut seat, &mut cursor, expiry);
+    want(&rt, "the third one", second, (TakeStep::Got, Some(40)));
+    want(&rt, "past the last place", cursor, TakeCursor::Look(3));
+    let last = take(&places, &mut seat, &mut cursor, expiry);
+    want(&rt, "no other one", last, (TakeStep::Empty, None));
+    want(&rt, "it stays there", cursor, TakeCursor::Look(3));
+    let left = places.look(&mut other, 1);
+    want(&rt, "the bag that isn't expired is left", left, 11);
     Ok(())
+}
+
+/// The job of some bag that an end takes.
+fn job_at_end(places: &SharedPlaces<u64>, seat: &mut PlaceSeat<u64>) -> Option<u64>
+    requires of { IsOf places.now seat.old }
+    requires rests { RestsAt seat.old.me }
+    ensures kept { IsKept seat.old seat.new }
+    ensures rests { RestsAt seat.new.me }
+{
+    let mut bag = places.take_any(seat)?;
+    bag.take_next()
 }
 
 #[test]
 fn a_collection_passes_a_place_whose_claim_it_lost(rt: HostRuntime) -> Result<(), Fault> {
     let places: SharedPlaces<u64> = SharedPlaces::new(rt.alloc(), 2)?;
-    let (mut seat, mut other) = (places.seat(), places.seat());
-    assert!(rt; put(&places, &mut seat, 3, 30) == PutStep::Done);
+    let (mut first, mut other) = (places.seat(), places.seat());
+    want(&rt, "a bag", put(&places, &mut first, 3, 30), PutStep::Done);
     let (mut seat, mut end) = (places.seat(), places.seat());
     let (expiry, mut cursor) = (Epoch::new(5), places.start_take());
     let mut hand = Bag::new().seal(Epoch::starting());
-    let TakeStep::Again = places.take_step(&mut seat, &mut cursor, expiry, &mut hand) else {
-        panic!(rt; "the look goes on");
-    };
-    let taken = places
-        .take_any(&mut end)
-        .and_then(|mut bag| bag.take_next());
-    assert!(rt; taken == Some(30), "another seat takes the bag first");
+    let looked = places.take_step(&mut seat, &mut cursor, expiry, &mut hand);
+    want_take_on(&rt, "the look", looked);
+    let taken = job_at_end(&places, &mut end);
+    want(&rt, "another seat takes the bag first", taken, Some(30));
     let lost = places.take_step(&mut seat, &mut cursor, expiry, &mut hand);
-    assert!(rt; lost == TakeStep::Again);
-    assert!(rt; cursor == TakeCursor::Look(1));
-    assert!(rt; places.look(&mut other, 0) == 0);
-    assert!(rt; places.take_any(&mut end).is_none(), "no bag is left");
+    want(&rt, "the claim is lost", lost, TakeStep::Again);
+    want(&rt, "it looks at the next one", cursor, TakeCursor::Look(1));
+    want(&rt, "the place is empty", places.look(&mut other, 0), 0);
+    want(&rt, "no bag is left", job_at_end(&places, &mut end), None);
     Ok(())
 }

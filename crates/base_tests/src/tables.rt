@@ -1,5 +1,4 @@
-ghost use Rattle.std.specs.Prelude.{◌≡◌};
-
+use crate::wants::{want, want_word};
 use epoch_base::Fault;
 use epoch_base::table::Participants;
 
@@ -8,22 +7,31 @@ use epoch_base::table::Participants;
 #[test]
 fn the_words_say_who_is_registered_and_pinned(rt: HostRuntime) -> Result<(), Fault> {
     let table = Participants::new(rt.alloc(), 3)?;
-    let mut mine = table.seat();
-    let mut other = table.seat();
-    let won = table.claim(&mut mine, 0);
-    assert!(rt; won == 0, "a free position is claimed");
-    let taken = table.claim(&mut other, 0);
-    assert!(rt; taken == 2, "it is registered then");
+    let (mut mine, mut other) = (table.seat(), table.seat());
+    want_word(
+        &rt,
+        "a free position is claimed",
+        table.claim(&mut mine, 0),
+        0,
+    );
+    want_word(&rt, "it is registered then", table.claim(&mut other, 0), 2);
     table.publish(&mut mine, 0, 0);
-    let pinned = table.claim(&mut other, 0);
-    assert!(rt; pinned == 1, "it is pinned in epoch 0");
+    want_word(
+        &rt,
+        "it is pinned in epoch 0",
+        table.claim(&mut other, 0),
+        1,
+    );
     table.unpin(&mut mine, 0);
-    let unpinned = table.claim(&mut other, 0);
-    assert!(rt; unpinned == 2, "it isn't pinned any more");
+    want_word(
+        &rt,
+        "it isn't pinned any more",
+        table.claim(&mut other, 0),
+        2,
+    );
     table.free(&mut mine, 0);
-    let freed = table.claim(&mut other, 0);
-    assert!(rt; freed == 0, "another claims it");
-    assert!(rt; table.positions() == 3);
+    want_word(&rt, "another claims it", table.claim(&mut other, 0), 0);
+    want(&rt, "how many there are", table.positions(), 3);
     Ok(())
 }
 
@@ -31,22 +39,30 @@ fn the_words_say_who_is_registered_and_pinned(rt: HostRuntime) -> Result<(), Fau
 fn one_participant_scans_itself_and_advances_the_epoch(rt: HostRuntime) -> Result<(), Fault> {
     let table = Participants::new(rt.alloc(), 1)?;
     let mut seat = table.seat();
-    let won = table.claim(&mut seat, 0);
-    assert!(rt; won == 0);
-    let read = table.load_epoch(&mut seat);
-    assert!(rt; read == 0, "a new table is in epoch 0");
+    want_word(&rt, "its position", table.claim(&mut seat, 0), 0);
+    want_word(
+        &rt,
+        "a new table is in epoch 0",
+        table.load_epoch(&mut seat),
+        0,
+    );
     table.publish(&mut seat, 0, 0);
-    let again = table.load_epoch(&mut seat);
-    assert!(rt; again == 0);
+    want_word(&rt, "it still is", table.load_epoch(&mut seat), 0);
     let own = table.load_word(&mut seat, 0);
-    assert!(rt; own == 1, "the scan finds its own word, pinned in epoch 0");
+    want_word(
+        &rt,
+        "the scan finds its own word, pinned in epoch 0",
+        own,
+        1,
+    );
     table.advance(&mut seat, 0);
-    let next = table.load_epoch(&mut seat);
-    assert!(rt; next == 2, "the word of epoch 1");
+    want_word(&rt, "the word of epoch 1", table.load_epoch(&mut seat), 2);
     let behind = table.load_word(&mut seat, 0);
-    assert!(rt;
-        behind == 1,
-        "pinned in epoch 0, it holds up the scan for epoch 1"
+    want(
+        &rt,
+        "pinned in epoch 0, it holds up the scan for epoch 1",
+        behind,
+        1,
     );
     Ok(())
 }

@@ -1,19 +1,29 @@
-//! Epochs, bags of jobs and stores of bags: what epoch-based memory reclamation is made of.
+//! Epochs, bags of jobs, stores of bags, cells and the tables that threads share: what epoch-based memory
+//! reclamation is made of. This crate only gathers what `epoch_cells`, `epoch_bags` and `epoch_tables` have.
 #![tactic(auto)]
 
-mod bag;
-mod cells;
-mod epoch;
-mod fault;
-mod job;
-pub mod queue;
-pub mod table;
-
-pub use bag::{BAG_JOBS, Bag, SealedBag};
-pub use cells::{CELL_TRIES, Cells, MOST_SLOT, Name, PlainCells, Reading, Removal, Writing};
-pub use epoch::{Epoch, GREATEST_EPOCH};
-pub use fault::{Fault, Refused};
-pub use job::{Called, Job, Run, Work};
-pub use queue::{
-    BagQueue, BagStore, MOST_BAGS, Places, PutCursor, PutStep, TakeCursor, TakeStep, take_some,
+pub use epoch_bags::{
+    BAG_JOBS, Bag, BagQueue, BagStore, Called, Epoch, GREATEST_EPOCH, Job, MOST_BAGS, Places,
+    PutCursor, PutStep, Run, SealedBag, TakeCursor, TakeStep, Work, take_some,
 };
+pub use epoch_cells::{
+    CELL_TRIES, Cells, Fault, MOST_SLOT, Name, PlainCells, Reading, Refused, Removal, Writing,
+};
+
+/// Stores of sealed bags, and the places that threads share.
+pub mod queue {
+    pub use epoch_bags::queue::{
+        BagQueue, BagStore, MOST_BAGS, Places, PutCursor, PutStep, TakeCursor, TakeStep, take_some,
+    };
+    pub use epoch_tables::shared_places::{
+        MOST_PLACES, PlaceRule, PlaceSeat, PlaceView, SharedPlaces,
+    };
+}
+
+/// The participants' table, which threads share.
+pub mod table {
+    pub use epoch_tables::table::{
+        EpochRule, MOST_POSITIONS, ParticipantSeat, ParticipantView, Participants,
+        epoch_never_falls, expired_means_read_later, store_never_lowers,
+    };
+}

@@ -1,10 +1,10 @@
 //! Participants that are not pinned between two calls.
 ghost use Rattle.std.specs.Prelude.{◌≡◌, ℕ};
-ghost use Rattle.epoch_pin.specs.Handles.{IsSame, Owns};
+ghost use Rattle.epoch_handles.specs.Handles.{IsSame, Owns};
 
 use crate::timing::Timed;
 use epoch_base::{Job, Name, Run, Work};
-use epoch_pin::atomic::{Atomic, Owned};
+use epoch_pin::atomic::{Atomic, DeferDestroy, Owned};
 use epoch_pin::{Collector, Guard, LocalHandle};
 use std::alloc::Global;
 use std::sync::Wait;

@@ -1,6 +1,6 @@
 //! Participants of the table, and loops over their single steps.
 ghost use Rattle.std.specs.Prelude.{◌≡◌, ◌<◌, Some};
-ghost use Rattle.epoch_base.specs.Table.{IsOf};
+ghost use Rattle.epoch_tables.specs.Table.{IsOf};
 
 use epoch_base::table::{ParticipantSeat, Participants};
 

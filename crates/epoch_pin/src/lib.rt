@@ -1,18 +1,12 @@
-//! A participant of epoch-based memory reclamation: the machine that makes all its decisions.
+//! Collectors, handles, guards and pointers for real threads, and the machine that makes a participant's decisions.
+//! This crate only gathers what `epoch_machine`, `epoch_handles` and `epoch_atomic` have.
 #![tactic(auto)]
 
-pub mod atomic;
-mod collector;
-mod end;
-mod guard;
-mod handle;
-mod laws;
-mod local;
-mod machine;
-
-pub use collector::{Capacities, Collector};
-pub use end::end_bags;
-pub use guard::{Guard, unprotected};
-pub use handle::LocalHandle;
-pub use laws::{answers_are_found, asks_follow_the_table, expiries_are_seen, replies_are_found};
-pub use machine::{Action, Answer, Ask, Machine, PINS_BETWEEN_COLLECTIONS, Sizes, Stage};
+pub use epoch_atomic::atomic;
+pub use epoch_handles::{
+    Capacities, Collector, Guard, LocalHandle, answers_are_found, end_bags, expiries_are_seen,
+    replies_are_found, unprotected,
+};
+pub use epoch_machine::{
+    Action, Answer, Ask, Machine, PINS_BETWEEN_COLLECTIONS, Sizes, Stage, asks_follow_the_table,
+};

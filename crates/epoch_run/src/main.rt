@@ -1,15 +1,11 @@
 //! `epoch-run`: reads a script of steps from standard input and prints what each of them tells, or runs threads.
 #![tactic(auto)]
 
-mod engine;
-mod lines;
-mod printing;
-mod size;
 #[cfg(test)]
 mod tests;
 mod threads;
 
-use epoch_base::{Job, Work};
+use epoch_bags::{Job, Work};
 use std::env::Env;
 use std::io::{BufReader, BufWriter, ErrorKind, Lock};
 use std::process::ExitCode;
@@ -71,6 +67,6 @@ fn run_script(rt: &HostRuntime) -> ExitCode {
         return ExitCode::from(NO_MEMORY);
     };
     let mut faults = rt.stderr().lock();
-    let ending = engine::run(rt.alloc(), &mut reader, &mut answers, &mut faults);
+    let ending = epoch_script::run(rt.alloc(), &mut reader, &mut answers, &mut faults);
     ExitCode::from(ending.status())
 }

@@ -1,6 +1,153 @@
-//! Scripts, and what they print.
+//! Command lines with words.
 
-mod rows;
-mod scripts;
-mod streams;
-mod words;
+use crate::threads::{jobs_asked, perform};
+use epoch_bags::{Job, Work};
+use epoch_script::Ending;
+use std::alloc::{AllocError, Global};
+use std::fmt::Debug;
+use std::process::Abort;
+use std::sync::atomic::{AtomicU64, Ordering};
+use std::sync::{Arc, Wait};
+use std::test::Fail;
+use std::thread::Threads;
+
+fn words_of(alloc: Global, line: &str) -> Result<Vec<String>, AllocError> {
+    let mut words = Vec::new(alloc);
+    for word in line.split(' ') {
+        add_word(alloc, &mut words, word)?;
+    }
+    Ok(words)
+}
+
+fn add_word(alloc: Global, words: &mut Vec<String>, word: &str) -> Result<(), AllocError> {
+    words.push(word.to_string(alloc)?)?;
+    Ok(())
+}
+
+/// So many jobs, each of which adds one to `called`.
+fn counting_jobs(
+    alloc: Global,
+    count: u64,
+    called: &Arc<AtomicU64>,
+) -> Result<Vec<Job>, AllocError> {
+    let mut jobs = Vec::new(alloc);
+    for _ in 0..count {
+        let called = Arc::try_clone(called)?;
+        let run = Box::new(alloc, move || {
+            called.fetch_add(1, Ordering::SeqCst);
+        })?;
+        jobs.push(Job::Call(Work { run }))?;
+    }
+    Ok(jobs)
+}
+
+/// The value is the one that is wanted. Beside live values a comparison would take long to prove.
+fn want<T: Copy + PartialEq + Debug>(rt: &impl Abort, line: &str, seen: T, wanted: T) {
+    assert_eq!(rt; seen, wanted, "of '{line}'");
+}
+
+/// What a run of words gave.
+#[derive(Drop)]
+struct Outcome {
+    ending: Ending,
+    answers: Vec<u8>,
+    faults: Vec<u8>,
+}
+
+/// Does what the words ask for.
+fn outcome_of<R: Threads + Wait + Sync>(
+    rt: &R,
+    alloc: Global,
+    words: &[String],
+    jobs: Vec<Job>,
+    called: &AtomicU64,
+) -> Outcome {
+    let (mut answers, mut faults) = (Vec::new(alloc), Vec::new(alloc));
+    let ending = perform(rt, alloc, words, jobs, called, &mut answers, &mut faults);
+    Outcome {
+        ending,
+        answers,
+        faults,
+    }
+}
+
+/// The run ended so, and with this exit status; it printed this, and told this.
+fn want_told(
+    rt: &impl Abort,
+    line: &str,
+    outcome: &Outcome,
+    (ending, status): (Ending, u8),
+    printed: &str,
+    told: &str,
+) -> Result<(), Fail> {
+    want(rt, line, outcome.ending, ending);
+    want(rt, line, outcome.ending.status(), status);
+    want(rt, line, str::from_utf8(&outcome.answers)?, printed);
+    want(rt, line, str::from_utf8(&outcome.faults)?, told);
+    Ok(())
+}
+
+/// Asserts that a run of these words is made, and prints this.
+fn expect_run<R: Threads + Wait + Sync + Abort>(
+    rt: &R,
+    alloc: Global,
+    line: &str,
+    printed: &str,
+) -> Result<(), Fail> {
+    let words = words_of(alloc, line)?;
+    let called = Arc::new(alloc, AtomicU64::new(0))?;
+    let jobs = counting_jobs(alloc, jobs_asked(&words), &called)?;
+    let outcome = outcome_of(rt, alloc, &words, jobs, &called);
+    want_told(rt, line, &outcome, (Ending::Finished, 0), printed, "")
+}
+
+#[test]
+fn threads_come_and_go_and_each_of_their_jobs_is_called(rt: HostRuntime) -> Result<(), Fail> {
+    expect_run(&rt, rt.alloc(), "threads 3 4", "called 12\n")?;
+    expect_run(&rt, rt.alloc(), "threads 1 1", "called 1\n")?;
+    expect_run(&rt, rt.alloc(), "threads 8 64", "called 512\n")?;
+    expect_run(&rt, rt.alloc(), "threads 64 2", "called 128\n")
+}
+
+/// Command lines that ask for no run.
+const OTHER_WORDS: &[&str] = &[
+    "threads",
+    "threads 3",
+    "threads 0 1",
+    "threads 1 0",
+    "threads 65 1",
+    "threads 1 65",
+    "threads x 1",
+    "threads 1 x",
+    "threads +1 1",
+    "threads 1 -1",
+    "threads 18446744073709551617 1",
+    "threads 3 4 5",
+    "threads 3  4",
+    "Threads 3 4",
+    "thread 3 4",
+    "stack 3 4",
+    "",
+];
+
+/// Asserts that these words ask for no run, and that the usage is told.
+fn expect_usage<R: Threads + Wait + Sync + Abort>(
+    rt: &R,
+    alloc: Global,
+    line: &str,
+) -> Result<(), Fail> {
+    let words = words_of(alloc, line)?;
+    want(rt, line, jobs_asked(&words), 0);
+    let called = AtomicU64::new(0);
+    let outcome = outcome_of(rt, alloc, &words, Vec::new(alloc), &called);
+    let usage = "usage: epoch-run [threads N K]\n";
+    want_told(rt, line, &outcome, (Ending::NotUnderstood, 2), "", usage)
+}
+
+#[test]
+fn other_words_are_told_how_the_program_is_called(rt: HostRuntime) -> Result<(), Fail> {
+    for line in OTHER_WORDS {
+        expect_usage(&rt, rt.alloc(), line)?;
+    }
+    Ok(())
+}

@@ -1,13 +1,11 @@
 //! `epoch-run threads N K`: so many threads that pin, defer, flush and unpin over one collector.
 ghost use Rattle.std.specs.Prelude.{◌≡◌, MatchOption};
-ghost use Rattle.epoch_run.specs.declared.size.Size.{Size};
-ghost use Rattle.epoch_run.specs.Sizes.{SpellsSize};
+ghost use Rattle.epoch_script.specs.declared.size.Size.{Size};
+ghost use Rattle.epoch_script.specs.Sizes.{SpellsSize};
 
-use crate::engine::Ending;
-use crate::lines::read_number;
-use crate::size::Size;
-use epoch_base::Job;
-use epoch_pin::{Capacities, Collector, LocalHandle};
+use epoch_bags::Job;
+use epoch_handles::{Capacities, Collector, LocalHandle};
+use epoch_script::{Ending, Size, read_number};
 use std::alloc::{AllocError, Global};
 use std::io::Write;
 use std::sync::Wait;

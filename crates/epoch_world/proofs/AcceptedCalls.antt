@@ -1,19 +1,19 @@
 -- A call begins where nothing refuses it, and takes no more steps than its replies have room for.
 use Rattle.std.proofs.Common.{◌≡◌, ℕ, ◌+◌, ◌<◌, Bool, List, length, Option, Some, None, refl, ap, ap₂, sym, subst, ◌∙◌, slice_index_or, slice_set, get_or-set_same}
-use Rattle.epoch_base.specs.declared.fault.Fault.{Fault}
-use Rattle.epoch_pin.specs.declared.machine.Sizes.{Sizes}
-use Rattle.epoch_pin.specs.declared.machine.Stage.TheVariants.{Idle as Resting}
-use Rattle.epoch_world.specs.declared.world.step.Call.{Call}
-use Rattle.epoch_world.specs.declared.world.step.Step.TheVariants.{Begin}
-use Rattle.epoch_world.specs.declared.world.step.Reply.TheVariants.{Began, Refused}
-use Rattle.epoch_world.specs.declared.world.step.Entry.{Entry}
-use Rattle.epoch_world.specs.Run.{Seat, State, Moves, Takes, with_places, Begins, Runs, IsFresh, refusal, seat_of, with_seat, begun_seat, free_seat}
-use Rattle.epoch_world.specs.Kept.{IsKept}
-use Rattle.epoch_world.specs.Lawful.{IsLawful}
+use Rattle.epoch_cells.specs.declared.fault.Fault.{Fault}
+use Rattle.epoch_machine.specs.declared.machine.Sizes.{Sizes}
+use Rattle.epoch_machine.specs.declared.machine.Stage.TheVariants.{Idle as Resting}
+use Rattle.epoch_laws.specs.declared.step.Call.{Call}
+use Rattle.epoch_laws.specs.declared.step.Step.TheVariants.{Begin}
+use Rattle.epoch_laws.specs.declared.step.Reply.TheVariants.{Began, Refused}
+use Rattle.epoch_laws.specs.declared.step.Entry.{Entry}
+use Rattle.epoch_laws.specs.Run.{Seat, State, Moves, Takes, with_places, Begins, Runs, IsFresh, refusal, seat_of, with_seat, begun_seat, free_seat}
+use Rattle.epoch_laws.specs.Kept.{IsKept}
+use Rattle.epoch_laws.specs.Lawful.{IsLawful}
 use Rattle.epoch_world.specs.Steps.{InStore, steps_left, call_bound}
-use Rattle.epoch_world.proofs.SeatLemmas.{seat_there, begin_given}
-use Rattle.epoch_world.proofs.EventsLawful.{replies_stand}
-use Rattle.epoch_world.proofs.CallsAfterDeferrals.{calls_follow}
+use Rattle.epoch_laws.proofs.SeatLemmas.{seat_there, begin_given}
+use Rattle.epoch_laws.proofs.EventsLawful.{replies_stand}
+use Rattle.epoch_laws.proofs.CallsAfterDeferrals.{calls_follow}
 use Rattle.epoch_world.proofs.Performed.{found_there, begin_moves}
 use Rattle.epoch_world.proofs.StepsFall.{begun_fits}
 use Rattle.epoch_world.proofs.WorldKept.{rests_where_accepted}

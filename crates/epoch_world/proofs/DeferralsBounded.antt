@@ -2,27 +2,27 @@
 use Rattle.std.proofs.Common.{◌≡◌, ◌≢◌, ℕ, ◌+◌, ◌-◌, ◌^◌, ◌<◌, ◌≤◌, ◌==◌, true, false, List, length, Some, None, inl, inr, refl, ap, sym, subst, ◌∙◌, arith, ◌⊎◌, sum_by}
 use Rattle.std.proofs.lemmas.List.{length-set}
 use Rattle.std.proofs.lemmas.List.Sums.{sum_by-set}
-use Rattle.epoch_base.specs.declared.queue.PutStep.{PutStep}
-use Rattle.epoch_base.specs.declared.queue.PutStep.TheVariants.{Again, Done as PutDone, Full}
-use Rattle.epoch_base.specs.declared.queue.TakeStep.{TakeStep}
-use Rattle.epoch_base.specs.declared.queue.TakeStep.TheVariants.{Again as TakeAgain, Empty, Got}
-use Rattle.epoch_pin.specs.declared.machine.Action.{Action}
-use Rattle.epoch_pin.specs.declared.machine.Action.TheVariants.{Pin, Unpin, Repin, Defer, Flush, Release}
-use Rattle.epoch_pin.specs.declared.machine.Stage.{Stage}
-use Rattle.epoch_pin.specs.declared.machine.Stage.TheVariants.{Idle, LoadPin, StorePin, ReloadPin, LoadScan, Scan, Advance, Take, Calling, LoadSeal, Put, Keep, LoadRepin, StoreRepin, ReloadRepin, StoreUnpinned, StoreFree, End}
-use Rattle.epoch_pin.specs.declared.machine.Answer.TheVariants.{Job, Stored}
-use Rattle.epoch_pin.specs.Machine.{Machine, ask_at, hears, put_heard, took_heard, gives, with_stage, first_stage, ended}
-use Rattle.epoch_world.specs.declared.world.step.Call.{Call}
-use Rattle.epoch_world.specs.declared.world.step.Call.TheVariants.{Pin as PinCall, Unpin as UnpinCall, Repin as RepinCall, Pause, Resume, Defer as DeferCall, Flush as FlushCall, Release as ReleaseCall}
-use Rattle.epoch_world.specs.declared.world.step.Reply.{Reply}
-use Rattle.epoch_world.specs.declared.world.step.Deferral.{Deferral}
-use Rattle.epoch_world.specs.declared.world.step.Word.{Word}
-use Rattle.epoch_world.specs.declared.world.step.Word.TheVariants.{Free, Unpinned, Pinned}
-use Rattle.epoch_world.specs.declared.world.step.Progress.{Progress}
-use Rattle.epoch_world.specs.declared.world.step.Progress.TheVariants.{Idle as IdleProgress, Driven, CallsNow, Ends}
-use Rattle.epoch_world.specs.Run.{Bag, Seat, State, seat_of, word_of, number_of, with_seat, with_machine, with_word, free_seat, drives, begun_seat, ended_seat, call_refusal, Drives, Goes}
-use Rattle.epoch_world.proofs.SeatLemmas.{seat_written, seat_other, seat_there, same_or_other}
-use Rattle.epoch_world.proofs.TicketsTallied.{acted}
+use Rattle.epoch_bags.specs.declared.queue.PutStep.{PutStep}
+use Rattle.epoch_bags.specs.declared.queue.PutStep.TheVariants.{Again, Done as PutDone, Full}
+use Rattle.epoch_bags.specs.declared.queue.TakeStep.{TakeStep}
+use Rattle.epoch_bags.specs.declared.queue.TakeStep.TheVariants.{Again as TakeAgain, Empty, Got}
+use Rattle.epoch_machine.specs.declared.machine.Action.{Action}
+use Rattle.epoch_machine.specs.declared.machine.Action.TheVariants.{Pin, Unpin, Repin, Defer, Flush, Release}
+use Rattle.epoch_machine.specs.declared.machine.Stage.{Stage}
+use Rattle.epoch_machine.specs.declared.machine.Stage.TheVariants.{Idle, LoadPin, StorePin, ReloadPin, LoadScan, Scan, Advance, Take, Calling, LoadSeal, Put, Keep, LoadRepin, StoreRepin, ReloadRepin, StoreUnpinned, StoreFree, End}
+use Rattle.epoch_machine.specs.declared.machine.Answer.TheVariants.{Job, Stored}
+use Rattle.epoch_machine.specs.Machine.{Machine, ask_at, hears, put_heard, took_heard, gives, with_stage, first_stage, ended}
+use Rattle.epoch_laws.specs.declared.step.Call.{Call}
+use Rattle.epoch_laws.specs.declared.step.Call.TheVariants.{Pin as PinCall, Unpin as UnpinCall, Repin as RepinCall, Pause, Resume, Defer as DeferCall, Flush as FlushCall, Release as ReleaseCall}
+use Rattle.epoch_laws.specs.declared.step.Reply.{Reply}
+use Rattle.epoch_laws.specs.declared.step.Deferral.{Deferral}
+use Rattle.epoch_laws.specs.declared.step.Word.{Word}
+use Rattle.epoch_laws.specs.declared.step.Word.TheVariants.{Free, Unpinned, Pinned}
+use Rattle.epoch_laws.specs.declared.step.Progress.{Progress}
+use Rattle.epoch_laws.specs.declared.step.Progress.TheVariants.{Idle as IdleProgress, Driven, CallsNow, Ends}
+use Rattle.epoch_laws.specs.Run.{Bag, Seat, State, seat_of, word_of, number_of, with_seat, with_machine, with_word, free_seat, drives, begun_seat, ended_seat, call_refusal, Drives, Goes}
+use Rattle.epoch_laws.proofs.SeatLemmas.{seat_written, seat_other, seat_there, same_or_other}
+use Rattle.epoch_laws.proofs.TicketsTallied.{acted}
 use Rattle.epoch_world.proofs.PendingDeferrals.{Bounded, is_busy, pending_at, pending, KeepsAt, Keeps, pending_one, none_pending, sum_most, keeps_collected, keeps_pinned, keeps_put, keeps_unpinned, keeps_called, keeps_past, keeps_first, keeps_by, room_given, busy_takes}
 
 module _ (old new : State) (h : Bounded old) where

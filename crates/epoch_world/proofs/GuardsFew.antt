@@ -2,27 +2,27 @@
 use Rattle.std.proofs.Common.{◌≡◌, ◌≢◌, ℕ, ◌+◌, ◌<◌, ◌≤◌, ◌==◌, Bool, true, false, List, [], ◌∷◌, length, Option, Some, None, ◌⊎◌, inl, inr, refl, ap, sym, subst, ◌∙◌, arith, if◌then◌else◌, slice_index_or, slice_set}
 use Rattle.std.proofs.lemmas.Bool.Decides.{nat_tests}
 use Rattle.std.proofs.lemmas.List.{length-append}
-use Rattle.epoch_base.specs.declared.fault.Fault.{Fault}
-use Rattle.epoch_base.specs.declared.fault.Fault.TheVariants.{StrangerGuard}
-use Rattle.epoch_pin.specs.declared.machine.Ask.{Ask}
-use Rattle.epoch_pin.specs.declared.machine.Ask.TheVariants.{LoadEpoch, LoadWord, StorePinned, StoreRepinned, StoreUnpinned, StoreFree, StoreEpoch, PutBag, TakeBag, KeepJob, CallJob}
-use Rattle.epoch_pin.specs.declared.machine.Sizes.{Sizes}
-use Rattle.epoch_pin.specs.declared.machine.Stage.{Stage}
-use Rattle.epoch_pin.specs.Machine.{Machine, ask_at}
-use Rattle.epoch_world.specs.declared.world.step.Call.{Call}
-use Rattle.epoch_world.specs.declared.world.step.Call.TheVariants.{Pin, Unpin, Repin, Pause, Resume, Defer, Flush, Release}
-use Rattle.epoch_world.specs.declared.world.step.Step.{Step}
-use Rattle.epoch_world.specs.declared.world.step.Step.TheVariants.{Register, Begin, Go, End as EndStep, EndGo}
-use Rattle.epoch_world.specs.declared.world.step.Reply.{Reply}
-use Rattle.epoch_world.specs.declared.world.step.Deferral.{Deferral}
-use Rattle.epoch_world.specs.declared.world.step.Word.{Word}
-use Rattle.epoch_world.specs.declared.world.step.Word.TheVariants.{Unpinned}
-use Rattle.epoch_world.specs.declared.world.step.Progress.{Progress}
-use Rattle.epoch_world.specs.declared.world.step.Progress.TheVariants.{Idle, Driven, CallsNow, Ends}
-use Rattle.epoch_world.specs.Run.{Seat, State, Ending, Open, Emptying, Over, seat_of, with_seat, with_word, free_seat, lowest, waits, resume_refusal, call_refusal, refusal, begun_seat, Begins, ended_seat, Performs, Drives, Goes, EndGoes, Moves, IsFresh}
-use Rattle.epoch_world.specs.Kept.{IsDriven, AllLinked, paused_count, Awake, HasRoom, AllRoomy}
-use Rattle.epoch_world.proofs.SeatLemmas.{seat_written, seat_other, seat_there, same_or_other, IsAccepted, begin_given}
-use Rattle.epoch_world.proofs.Linked.{length_without, follows_at}
+use Rattle.epoch_cells.specs.declared.fault.Fault.{Fault}
+use Rattle.epoch_cells.specs.declared.fault.Fault.TheVariants.{StrangerGuard}
+use Rattle.epoch_machine.specs.declared.machine.Ask.{Ask}
+use Rattle.epoch_machine.specs.declared.machine.Ask.TheVariants.{LoadEpoch, LoadWord, StorePinned, StoreRepinned, StoreUnpinned, StoreFree, StoreEpoch, PutBag, TakeBag, KeepJob, CallJob}
+use Rattle.epoch_machine.specs.declared.machine.Sizes.{Sizes}
+use Rattle.epoch_machine.specs.declared.machine.Stage.{Stage}
+use Rattle.epoch_machine.specs.Machine.{Machine, ask_at}
+use Rattle.epoch_laws.specs.declared.step.Call.{Call}
+use Rattle.epoch_laws.specs.declared.step.Call.TheVariants.{Pin, Unpin, Repin, Pause, Resume, Defer, Flush, Release}
+use Rattle.epoch_laws.specs.declared.step.Step.{Step}
+use Rattle.epoch_laws.specs.declared.step.Step.TheVariants.{Register, Begin, Go, End as EndStep, EndGo}
+use Rattle.epoch_laws.specs.declared.step.Reply.{Reply}
+use Rattle.epoch_laws.specs.declared.step.Deferral.{Deferral}
+use Rattle.epoch_laws.specs.declared.step.Word.{Word}
+use Rattle.epoch_laws.specs.declared.step.Word.TheVariants.{Unpinned}
+use Rattle.epoch_laws.specs.declared.step.Progress.{Progress}
+use Rattle.epoch_laws.specs.declared.step.Progress.TheVariants.{Idle, Driven, CallsNow, Ends}
+use Rattle.epoch_laws.specs.Run.{Seat, State, Ending, Open, Emptying, Over, seat_of, with_seat, with_word, free_seat, lowest, waits, resume_refusal, call_refusal, refusal, begun_seat, Begins, ended_seat, Performs, Drives, Goes, EndGoes, Moves, IsFresh}
+use Rattle.epoch_laws.specs.Kept.{IsDriven, AllLinked, paused_count, Awake, HasRoom, AllRoomy}
+use Rattle.epoch_laws.proofs.SeatLemmas.{seat_written, seat_other, seat_there, same_or_other, IsAccepted, begin_given}
+use Rattle.epoch_laws.proofs.Linked.{length_without, follows_at}
 
 none_waits : (paused : Option ℕ) (b : Bool) → waits Pin paused ≡ false → paused ≡ None
 none_waits None b h = refl

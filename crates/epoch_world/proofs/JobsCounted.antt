@@ -2,33 +2,33 @@
 use Rattle.std.proofs.Common.{◌≡◌, ℕ, ◌+◌, ◌<◌, ◌≤◌, List, [], ◌∷◌, ◌++◌, length, Option, Some, None, inl, inr, refl, ap, sym, subst, arith, slice_set}
 use Rattle.std.proofs.lemmas.List.{length-append}
 use Rattle.std.proofs.lemmas.List.Sums.{sum_by-append, sum_by-cons, sum_by-set}
-use Rattle.epoch_base.specs.Stores.{IsInserted}
-use Rattle.epoch_base.specs.declared.fault.Fault.{Fault}
-use Rattle.epoch_base.specs.declared.queue.PutStep.{PutStep}
-use Rattle.epoch_base.specs.declared.queue.PutStep.TheVariants.{Again, Done as PutDone, Full}
-use Rattle.epoch_base.specs.declared.queue.TakeStep.{TakeStep}
-use Rattle.epoch_base.specs.declared.queue.TakeStep.TheVariants.{Again as TakeAgain, Empty, Got}
-use Rattle.epoch_pin.specs.declared.machine.Stage.{Stage}
-use Rattle.epoch_pin.specs.declared.machine.Stage.TheVariants.{LoadPin, Scan, Take, Calling, Keep, StoreFree as FreeStage}
-use Rattle.epoch_pin.specs.declared.machine.Ask.{Ask}
-use Rattle.epoch_pin.specs.declared.machine.Ask.TheVariants.{LoadEpoch, LoadWord, StorePinned, StoreRepinned, StoreUnpinned, StoreFree, StoreEpoch, PutBag, TakeBag, KeepJob, CallJob}
-use Rattle.epoch_pin.specs.declared.machine.Answer.{Answer}
-use Rattle.epoch_pin.specs.declared.machine.Answer.TheVariants.{Epoch, Word as WordFound, Stored, Job}
-use Rattle.epoch_pin.specs.Machine.{Machine, ask_at, hears, put_heard, took_heard, gives, PutsHeld, TakesHand}
-use Rattle.epoch_world.specs.declared.world.step.Call.{Call}
-use Rattle.epoch_world.specs.declared.world.step.Call.TheVariants.{Pin, Unpin, Repin, Pause, Resume, Defer, Flush, Release}
-use Rattle.epoch_world.specs.declared.world.step.Step.{Step}
-use Rattle.epoch_world.specs.declared.world.step.Step.TheVariants.{Register, Begin, Go, End as EndStep, EndGo}
-use Rattle.epoch_world.specs.declared.world.step.Reply.{Reply}
-use Rattle.epoch_world.specs.declared.world.step.Deferral.{Deferral}
-use Rattle.epoch_world.specs.declared.world.step.Word.{Word}
-use Rattle.epoch_world.specs.declared.world.step.Progress.{Progress}
-use Rattle.epoch_world.specs.declared.world.step.Progress.TheVariants.{Idle, Driven, CallsNow, Ends}
-use Rattle.epoch_world.specs.Run.{Bag, Seat, State, seat_of, with_word, free_seat, Ending, Open, Emptying, Over, refusal, begun_seat, Begins, ended_seat, Performs, Drives, Goes, EndGoes, Moves, IsFresh}
-use Rattle.epoch_world.specs.Kept.{jobs_in, jobs_queued, jobs_at_seats, jobs_at_end, JobsFew}
-use Rattle.epoch_world.proofs.SeatLemmas.{seat_there, begin_given}
-use Rattle.epoch_world.proofs.TicketSums.{sum_zero}
-use Rattle.epoch_world.proofs.TicketsTallied.{acted}
+use Rattle.epoch_bags.specs.Stores.{IsInserted}
+use Rattle.epoch_cells.specs.declared.fault.Fault.{Fault}
+use Rattle.epoch_bags.specs.declared.queue.PutStep.{PutStep}
+use Rattle.epoch_bags.specs.declared.queue.PutStep.TheVariants.{Again, Done as PutDone, Full}
+use Rattle.epoch_bags.specs.declared.queue.TakeStep.{TakeStep}
+use Rattle.epoch_bags.specs.declared.queue.TakeStep.TheVariants.{Again as TakeAgain, Empty, Got}
+use Rattle.epoch_machine.specs.declared.machine.Stage.{Stage}
+use Rattle.epoch_machine.specs.declared.machine.Stage.TheVariants.{LoadPin, Scan, Take, Calling, Keep, StoreFree as FreeStage}
+use Rattle.epoch_machine.specs.declared.machine.Ask.{Ask}
+use Rattle.epoch_machine.specs.declared.machine.Ask.TheVariants.{LoadEpoch, LoadWord, StorePinned, StoreRepinned, StoreUnpinned, StoreFree, StoreEpoch, PutBag, TakeBag, KeepJob, CallJob}
+use Rattle.epoch_machine.specs.declared.machine.Answer.{Answer}
+use Rattle.epoch_machine.specs.declared.machine.Answer.TheVariants.{Epoch, Word as WordFound, Stored, Job}
+use Rattle.epoch_machine.specs.Machine.{Machine, ask_at, hears, put_heard, took_heard, gives, PutsHeld, TakesHand}
+use Rattle.epoch_laws.specs.declared.step.Call.{Call}
+use Rattle.epoch_laws.specs.declared.step.Call.TheVariants.{Pin, Unpin, Repin, Pause, Resume, Defer, Flush, Release}
+use Rattle.epoch_laws.specs.declared.step.Step.{Step}
+use Rattle.epoch_laws.specs.declared.step.Step.TheVariants.{Register, Begin, Go, End as EndStep, EndGo}
+use Rattle.epoch_laws.specs.declared.step.Reply.{Reply}
+use Rattle.epoch_laws.specs.declared.step.Deferral.{Deferral}
+use Rattle.epoch_laws.specs.declared.step.Word.{Word}
+use Rattle.epoch_laws.specs.declared.step.Progress.{Progress}
+use Rattle.epoch_laws.specs.declared.step.Progress.TheVariants.{Idle, Driven, CallsNow, Ends}
+use Rattle.epoch_laws.specs.Run.{Bag, Seat, State, seat_of, with_word, free_seat, Ending, Open, Emptying, Over, refusal, begun_seat, Begins, ended_seat, Performs, Drives, Goes, EndGoes, Moves, IsFresh}
+use Rattle.epoch_laws.specs.Kept.{jobs_in, jobs_queued, jobs_at_seats, jobs_at_end, JobsFew}
+use Rattle.epoch_laws.proofs.SeatLemmas.{seat_there, begin_given}
+use Rattle.epoch_laws.proofs.TicketSums.{sum_zero}
+use Rattle.epoch_laws.proofs.TicketsTallied.{acted}
 
 -- a bag more in the store
 queued_more : (bag : Bag) (old new : List Bag)

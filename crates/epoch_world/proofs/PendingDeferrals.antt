@@ -2,16 +2,16 @@
 use Rattle.std.proofs.Common.{◌≡◌, ℕ, ◌+◌, ◌-◌, ◌^◌, ◌<◌, ◌≤◌, ◌==◌, Bool, true, false, List, [], ◌∷◌, length, Some, None, refl, ap, arith, if◌then◌else◌, sum_by}
 use Rattle.std.proofs.lemmas.Bool.{leb-false}
 use Rattle.std.proofs.lemmas.List.Sums.{sum_by-cons}
-use Rattle.epoch_base.specs.declared.fault.Fault.TheVariants.{StrangerGuard, TicketsOut}
-use Rattle.epoch_pin.specs.declared.machine.Action.{Action}
-use Rattle.epoch_pin.specs.declared.machine.Action.TheVariants.{Pin, Unpin, Repin, Defer, Flush, Release}
-use Rattle.epoch_pin.specs.declared.machine.Stage.{Stage}
-use Rattle.epoch_pin.specs.declared.machine.Stage.TheVariants.{LoadPin, LoadScan, Scan, Advance, Take, LoadSeal, Keep, LoadRepin, StoreUnpinned, End}
-use Rattle.epoch_pin.specs.Machine.{Machine, is_empty, after_collect, after_pin, after_put, after_unpin, after_job, holds_up, scanned, past_word, first_stage}
-use Rattle.epoch_world.specs.declared.world.step.Call.TheVariants.{Defer as DeferCall}
-use Rattle.epoch_world.specs.declared.world.step.Deferral.{Deferral}
-pub use Rattle.epoch_world.specs.Kept.{is_busy, pending_at, pending, KeepsAt, Keeps, Bounded}
-use Rattle.epoch_world.specs.Run.{Seat, call_refusal}
+use Rattle.epoch_cells.specs.declared.fault.Fault.TheVariants.{StrangerGuard, TicketsOut}
+use Rattle.epoch_machine.specs.declared.machine.Action.{Action}
+use Rattle.epoch_machine.specs.declared.machine.Action.TheVariants.{Pin, Unpin, Repin, Defer, Flush, Release}
+use Rattle.epoch_machine.specs.declared.machine.Stage.{Stage}
+use Rattle.epoch_machine.specs.declared.machine.Stage.TheVariants.{LoadPin, LoadScan, Scan, Advance, Take, LoadSeal, Keep, LoadRepin, StoreUnpinned, End}
+use Rattle.epoch_machine.specs.Machine.{Machine, is_empty, after_collect, after_pin, after_put, after_unpin, after_job, holds_up, scanned, past_word, first_stage}
+use Rattle.epoch_laws.specs.declared.step.Call.TheVariants.{Defer as DeferCall}
+use Rattle.epoch_laws.specs.declared.step.Deferral.{Deferral}
+pub use Rattle.epoch_laws.specs.Kept.{is_busy, pending_at, pending, KeepsAt, Keeps, Bounded}
+use Rattle.epoch_laws.specs.Run.{Seat, call_refusal}
 
 pending_most : (a : Action) (s t : Stage) → is_busy s ≡ true → pending_at a t ≤ pending_at a s
 pending_most Defer s t busy = most (is_busy t) (is_busy s) busy

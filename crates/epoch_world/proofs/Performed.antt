@@ -1,21 +1,21 @@
 -- A participant's part of a step, put into the world, is the world's step but for the places.
 use Rattle.std.proofs.Common.{◌≡◌, ◌≢◌, ℕ, ◌<◌, true, List, [], ◌∷◌, length, zero, suc, Some, None, inr, refl, ap, ap₂, sym, subst, ◌∙◌, arith, slice_index_or}
-use Rattle.epoch_pin.specs.declared.machine.Ask.{Ask}
-use Rattle.epoch_pin.specs.declared.machine.Ask.TheVariants.{LoadEpoch, LoadWord, StorePinned, StoreRepinned, StoreUnpinned, StoreFree, StoreEpoch, PutBag, TakeBag, KeepJob, CallJob}
-use Rattle.epoch_pin.specs.declared.machine.Sizes.{Sizes}
-use Rattle.epoch_pin.specs.declared.machine.Answer.TheVariants.{Word as WordFound}
-use Rattle.epoch_pin.specs.Machine.{asks, hears}
-use Rattle.epoch_world.specs.declared.world.step.Call.{Call}
-use Rattle.epoch_world.specs.declared.world.step.Reply.{Reply}
-use Rattle.epoch_world.specs.declared.world.step.Reply.TheVariants.{Began}
-use Rattle.epoch_world.specs.declared.world.step.Step.TheVariants.{Begin, Go}
-use Rattle.epoch_world.specs.declared.world.step.Word.TheVariants.{Free}
-use Rattle.epoch_world.specs.declared.world.step.Progress.{Progress}
-use Rattle.epoch_world.specs.declared.world.step.Progress.TheVariants.{Idle, Driven, CallsNow, Ends}
-use Rattle.epoch_world.specs.Run.{Seat, State, seat_of, word_of, with_seat, number_of, free_seat, begun_seat, refusal, Begins, Performs, Drives, Goes, Moves}
+use Rattle.epoch_machine.specs.declared.machine.Ask.{Ask}
+use Rattle.epoch_machine.specs.declared.machine.Ask.TheVariants.{LoadEpoch, LoadWord, StorePinned, StoreRepinned, StoreUnpinned, StoreFree, StoreEpoch, PutBag, TakeBag, KeepJob, CallJob}
+use Rattle.epoch_machine.specs.declared.machine.Sizes.{Sizes}
+use Rattle.epoch_machine.specs.declared.machine.Answer.TheVariants.{Word as WordFound}
+use Rattle.epoch_machine.specs.Machine.{asks, hears}
+use Rattle.epoch_laws.specs.declared.step.Call.{Call}
+use Rattle.epoch_laws.specs.declared.step.Reply.{Reply}
+use Rattle.epoch_laws.specs.declared.step.Reply.TheVariants.{Began}
+use Rattle.epoch_laws.specs.declared.step.Step.TheVariants.{Begin, Go}
+use Rattle.epoch_laws.specs.declared.step.Word.TheVariants.{Free}
+use Rattle.epoch_laws.specs.declared.step.Progress.{Progress}
+use Rattle.epoch_laws.specs.declared.step.Progress.TheVariants.{Idle, Driven, CallsNow, Ends}
+use Rattle.epoch_laws.specs.Run.{Seat, State, seat_of, word_of, with_seat, number_of, free_seat, begun_seat, refusal, Begins, Performs, Drives, Goes, Moves, is_driven}
 use Rattle.epoch_world.specs.Seats.{Shared, shared, SeatPerforms}
-use Rattle.epoch_world.specs.Worlds.{is_driven, IsDrivenAt}
-use Rattle.epoch_world.specs.Kept.{AllLinked}
+use Rattle.epoch_world.specs.Worlds.{IsDrivenAt}
+use Rattle.epoch_laws.specs.Kept.{AllLinked}
 
 -- an element within a list is the same for every default
 pub same_within : {A : Type 0} (xs : List A) (p : ℕ) (d e : A) → p < length xs → slice_index_or xs p d ≡ slice_index_or xs p e

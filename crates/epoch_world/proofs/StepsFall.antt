@@ -1,19 +1,19 @@
 -- A step of a collection, and a call, leave fewer steps for the call under way.
 use Rattle.std.proofs.Common.{◌≡◌, ℕ, ◌+◌, ◌<◌, ◌≤◌, ◌-◌, ◌^◌, ◌==◌, Bool, true, false, List, [], ◌∷◌, length, Some, refl, ap, sym, subst, ◌∙◌, arith, if◌then◌else◌, zero, suc}
-use Rattle.epoch_base.specs.declared.queue.TakeStep.{TakeStep}
-use Rattle.epoch_base.specs.declared.queue.TakeStep.TheVariants.{Again, Empty, Got}
-use Rattle.epoch_pin.specs.declared.machine.Action.{Action}
-use Rattle.epoch_pin.specs.declared.machine.Action.TheVariants.{Pin, Unpin, Repin, Defer, Flush, Release}
-use Rattle.epoch_pin.specs.declared.machine.Ask.TheVariants.{LoadEpoch, LoadWord, TakeBag, CallJob}
-use Rattle.epoch_pin.specs.declared.machine.Answer.TheVariants.{Epoch, Word as WordFound}
-use Rattle.epoch_pin.specs.declared.machine.Sizes.{Sizes}
-use Rattle.epoch_pin.specs.declared.machine.Stage.{Stage}
-use Rattle.epoch_pin.specs.declared.machine.Stage.TheVariants.{LoadPin, ReloadPin, LoadScan, Scan, Advance, Take, Calling, LoadSeal, Keep, LoadRepin, StoreRepin, ReloadRepin, StoreUnpinned, End}
-use Rattle.epoch_pin.specs.Machine.{Machine, StageFits, rest, is_empty, ask_at, hears, holds_up, scanned, took_heard, gives, after_collect, first_stage}
-use Rattle.epoch_world.specs.declared.world.step.Call.{Call}
-use Rattle.epoch_world.specs.declared.world.step.Call.TheVariants.{Pin as PinCall, Unpin as UnpinCall, Repin as RepinCall, Pause, Resume, Defer as DeferCall, Flush as FlushCall, Release as ReleaseCall}
-use Rattle.epoch_world.specs.declared.world.step.Deferral.{Deferral}
-use Rattle.epoch_world.specs.Run.{Seat, begun_seat}
+use Rattle.epoch_bags.specs.declared.queue.TakeStep.{TakeStep}
+use Rattle.epoch_bags.specs.declared.queue.TakeStep.TheVariants.{Again, Empty, Got}
+use Rattle.epoch_machine.specs.declared.machine.Action.{Action}
+use Rattle.epoch_machine.specs.declared.machine.Action.TheVariants.{Pin, Unpin, Repin, Defer, Flush, Release}
+use Rattle.epoch_machine.specs.declared.machine.Ask.TheVariants.{LoadEpoch, LoadWord, TakeBag, CallJob}
+use Rattle.epoch_machine.specs.declared.machine.Answer.TheVariants.{Epoch, Word as WordFound}
+use Rattle.epoch_machine.specs.declared.machine.Sizes.{Sizes}
+use Rattle.epoch_machine.specs.declared.machine.Stage.{Stage}
+use Rattle.epoch_machine.specs.declared.machine.Stage.TheVariants.{LoadPin, ReloadPin, LoadScan, Scan, Advance, Take, Calling, LoadSeal, Keep, LoadRepin, StoreRepin, ReloadRepin, StoreUnpinned, End}
+use Rattle.epoch_machine.specs.Machine.{Machine, StageFits, rest, is_empty, ask_at, hears, holds_up, scanned, took_heard, gives, after_collect, first_stage}
+use Rattle.epoch_laws.specs.declared.step.Call.{Call}
+use Rattle.epoch_laws.specs.declared.step.Call.TheVariants.{Pin as PinCall, Unpin as UnpinCall, Repin as RepinCall, Pause, Resume, Defer as DeferCall, Flush as FlushCall, Release as ReleaseCall}
+use Rattle.epoch_laws.specs.declared.step.Deferral.{Deferral}
+use Rattle.epoch_laws.specs.Run.{Seat, begun_seat}
 use Rattle.epoch_world.specs.Steps.{InStore, in_store, past_collect, collects, steps_at, machine_steps, steps_left, call_bound}
 
 either_below : (left : Stage → ℕ) (b : Bool) (s t : Stage) (k : ℕ) → left s < k → left t < k → left (if b then s else t) < k

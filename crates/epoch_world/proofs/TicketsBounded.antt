@@ -1,19 +1,19 @@
 -- Every step keeps the tickets below their limit, with those that the deferrals under way may still take.
 use Rattle.std.proofs.Common.{◌≡◌, ℕ, ◌+◌, ◌^◌, ◌<◌, ◌≤◌, List, [], ◌∷◌, length, Option, Some, None, inl, inr, refl, ap, sym, subst, ◌∙◌, arith}
 use Rattle.std.proofs.lemmas.List.Sums.{get_or-le-sum_by}
-use Rattle.epoch_base.specs.declared.fault.Fault.{Fault}
-use Rattle.epoch_pin.specs.declared.machine.Action.{Action}
-use Rattle.epoch_pin.specs.declared.machine.Action.TheVariants.{Defer}
-use Rattle.epoch_pin.specs.declared.machine.Stage.TheVariants.{Keep}
-use Rattle.epoch_pin.specs.Machine.{Machine}
-use Rattle.epoch_world.specs.declared.world.step.Call.{Call}
-use Rattle.epoch_world.specs.declared.world.step.Step.{Step}
-use Rattle.epoch_world.specs.declared.world.step.Step.TheVariants.{Register, Begin, Go, End as EndStep, EndGo}
-use Rattle.epoch_world.specs.declared.world.step.Reply.{Reply}
-use Rattle.epoch_world.specs.declared.world.step.Deferral.{Deferral}
-use Rattle.epoch_world.specs.Run.{Bag, State, seat_of, free_seat, Ending, Open, Emptying, Over, refusal, Begins, EndGoes, Moves, IsFresh}
-use Rattle.epoch_world.proofs.SeatLemmas.{begin_given}
-use Rattle.epoch_world.proofs.TicketSums.{sum_zero}
+use Rattle.epoch_cells.specs.declared.fault.Fault.{Fault}
+use Rattle.epoch_machine.specs.declared.machine.Action.{Action}
+use Rattle.epoch_machine.specs.declared.machine.Action.TheVariants.{Defer}
+use Rattle.epoch_machine.specs.declared.machine.Stage.TheVariants.{Keep}
+use Rattle.epoch_machine.specs.Machine.{Machine}
+use Rattle.epoch_laws.specs.declared.step.Call.{Call}
+use Rattle.epoch_laws.specs.declared.step.Step.{Step}
+use Rattle.epoch_laws.specs.declared.step.Step.TheVariants.{Register, Begin, Go, End as EndStep, EndGo}
+use Rattle.epoch_laws.specs.declared.step.Reply.{Reply}
+use Rattle.epoch_laws.specs.declared.step.Deferral.{Deferral}
+use Rattle.epoch_laws.specs.Run.{Bag, State, seat_of, free_seat, Ending, Open, Emptying, Over, refusal, Begins, EndGoes, Moves, IsFresh}
+use Rattle.epoch_laws.proofs.SeatLemmas.{begin_given}
+use Rattle.epoch_laws.proofs.TicketSums.{sum_zero}
 use Rattle.epoch_world.proofs.PendingDeferrals.{pending_at, pending, KeepsAt, Keeps}
 pub use Rattle.epoch_world.proofs.PendingDeferrals.{Bounded}
 use Rattle.epoch_world.proofs.DeferralsBounded.{same, registers, begins, goes}

@@ -1,19 +1,19 @@
 -- A participant's step over the parts of a world is the world's step, and leaves fewer steps for its call.
 use Rattle.std.proofs.Common.{◌≡◌, ℕ, ◌+◌, ◌<◌, Bool, true, false, List, [], length, ap, sym, subst, arith, slice_index_or, slice_set, get_or-set_same}
-use Rattle.epoch_pin.specs.declared.machine.Ask.{Ask}
-use Rattle.epoch_pin.specs.declared.machine.Ask.TheVariants.{StoreFree, PutBag, TakeBag, CallJob}
-use Rattle.epoch_pin.specs.declared.machine.Sizes.{Sizes}
-use Rattle.epoch_pin.specs.Machine.{Machine}
-use Rattle.epoch_world.specs.declared.world.step.Deferral.{Deferral}
-use Rattle.epoch_world.specs.declared.world.step.Progress.{Progress}
-use Rattle.epoch_world.specs.declared.world.step.Progress.TheVariants.{Driven}
-use Rattle.epoch_world.specs.declared.world.step.Reply.{Reply}
-use Rattle.epoch_world.specs.Kept.{AllLinked, IsKept}
-use Rattle.epoch_world.specs.Run.{with_places, Bag, Seat, Ending, Open}
+use Rattle.epoch_machine.specs.declared.machine.Ask.{Ask}
+use Rattle.epoch_machine.specs.declared.machine.Ask.TheVariants.{StoreFree, PutBag, TakeBag, CallJob}
+use Rattle.epoch_machine.specs.declared.machine.Sizes.{Sizes}
+use Rattle.epoch_machine.specs.Machine.{Machine}
+use Rattle.epoch_laws.specs.declared.step.Deferral.{Deferral}
+use Rattle.epoch_laws.specs.declared.step.Progress.{Progress}
+use Rattle.epoch_laws.specs.declared.step.Progress.TheVariants.{Driven}
+use Rattle.epoch_laws.specs.declared.step.Reply.{Reply}
+use Rattle.epoch_laws.specs.Kept.{AllLinked, IsKept}
+use Rattle.epoch_laws.specs.Run.{with_places, Bag, Seat, Ending, Open, is_driven}
 use Rattle.epoch_world.specs.Seats.{Shared, SeatPerforms}
-use Rattle.epoch_world.specs.Calls.{ends_call}
+use Rattle.epoch_laws.specs.Calls.{ends_call}
 use Rattle.epoch_world.specs.Steps.{InStore, machine_steps, steps_of, steps_left}
-use Rattle.epoch_world.specs.Worlds.{state_of, is_driven, IsDrivenAt}
+use Rattle.epoch_world.specs.Worlds.{state_of, IsDrivenAt}
 
 -- HOW FAR THE END IS PLAYS NO PART, NOR DO THE PLACES
 

@@ -1,26 +1,26 @@
 -- Every step keeps what the world's code rests on.
 use Rattle.std.proofs.Common.{◌≡◌, ℕ, ◌+◌, ◌^◌, ◌<◌, ◌≤◌, true, false, refl, List, ◌∷◌, length, Option, Some, None, ap, sym, subst, ◌∙◌, arith}
-use Rattle.epoch_pin.specs.declared.machine.Action.{Action}
-use Rattle.epoch_pin.specs.declared.machine.Action.TheVariants.{Pin as PinAction, Unpin as UnpinAction, Repin as RepinAction, Defer as DeferAction, Flush as FlushAction, Release as ReleaseAction}
-use Rattle.epoch_pin.specs.Machine.{guards_after, ask_at, asks}
-use Rattle.epoch_pin.specs.declared.machine.Ask.TheVariants.{KeepJob}
-use Rattle.epoch_pin.specs.declared.machine.Stage.{Stage}
-use Rattle.epoch_pin.specs.declared.machine.Stage.TheVariants.{Idle as Resting, Keep, End}
+use Rattle.epoch_machine.specs.declared.machine.Action.{Action}
+use Rattle.epoch_machine.specs.declared.machine.Action.TheVariants.{Pin as PinAction, Unpin as UnpinAction, Repin as RepinAction, Defer as DeferAction, Flush as FlushAction, Release as ReleaseAction}
+use Rattle.epoch_machine.specs.Machine.{guards_after, ask_at, asks}
+use Rattle.epoch_machine.specs.declared.machine.Ask.TheVariants.{KeepJob}
+use Rattle.epoch_machine.specs.declared.machine.Stage.{Stage}
+use Rattle.epoch_machine.specs.declared.machine.Stage.TheVariants.{Idle as Resting, Keep, End}
 use Rattle.epoch_world.specs.declared.world.EndStage.{EndStage}
 use Rattle.epoch_world.specs.declared.world.EndStage.TheVariants.{Open as OpenStage, Emptying as EmptyingStage, Over as OverStage}
-use Rattle.epoch_world.specs.declared.world.step.Call.{Call}
-use Rattle.epoch_world.specs.declared.world.step.Call.TheVariants.{Pin, Unpin, Repin, Pause, Resume, Defer, Flush, Release}
-use Rattle.epoch_world.specs.declared.world.step.Deferral.{Deferral}
-use Rattle.epoch_world.specs.declared.world.step.Step.{Step}
-use Rattle.epoch_world.specs.declared.world.step.Reply.{Reply}
-use Rattle.epoch_world.specs.declared.world.step.Progress.{Progress}
-use Rattle.epoch_world.specs.declared.world.step.Progress.TheVariants.{Idle, Driven}
-use Rattle.epoch_world.specs.Run.{Seat, State, seat_of, refusal, Moves, IsFresh}
+use Rattle.epoch_laws.specs.declared.step.Call.{Call}
+use Rattle.epoch_laws.specs.declared.step.Call.TheVariants.{Pin, Unpin, Repin, Pause, Resume, Defer, Flush, Release}
+use Rattle.epoch_laws.specs.declared.step.Deferral.{Deferral}
+use Rattle.epoch_laws.specs.declared.step.Step.{Step}
+use Rattle.epoch_laws.specs.declared.step.Reply.{Reply}
+use Rattle.epoch_laws.specs.declared.step.Progress.{Progress}
+use Rattle.epoch_laws.specs.declared.step.Progress.TheVariants.{Idle, Driven}
+use Rattle.epoch_laws.specs.Run.{Seat, State, seat_of, refusal, Moves, IsFresh}
 use Rattle.epoch_world.specs.Seats.{adds_guard}
 use Rattle.epoch_world.specs.Worlds.{ending_of, IsEmptying}
-use Rattle.epoch_world.specs.Kept.{IsDriven, rests, BeganUnder, Awake, HasRoom, IsKept, paused_count, jobs_at_end}
-use Rattle.epoch_world.proofs.SeatLemmas.{begin_given}
-use Rattle.epoch_world.proofs.Linked.{moved_linked, fresh_linked, follows_at}
+use Rattle.epoch_laws.specs.Kept.{IsDriven, rests, BeganUnder, Awake, HasRoom, IsKept, paused_count, jobs_at_end}
+use Rattle.epoch_laws.proofs.SeatLemmas.{begin_given}
+use Rattle.epoch_laws.proofs.Linked.{moved_linked, fresh_linked, follows_at}
 use Rattle.epoch_world.proofs.GuardsFew.{moves_room, fresh_room}
 use Rattle.epoch_world.proofs.JobsCounted.{moves_jobs, fresh_jobs}
 use Rattle.epoch_world.proofs.TicketsBounded.{tickets_bounded, fresh_bounded, keep_fits}

@@ -1,14 +1,3 @@
-pub mod Places
-pub mod Run
 pub mod Seats
-pub mod Grace
-pub mod Tickets
-pub mod Lawful
-pub mod Known
-pub mod Events
-pub mod Shapes
 pub mod Worlds
-pub mod Kept
 pub mod Steps
-pub mod Calls
-pub mod Full

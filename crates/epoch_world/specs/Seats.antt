@@ -1,23 +1,23 @@
 -- One participant's part of a step: what its seat is after it, and what participants share.
 use Rattle.std.specs.Prelude.{◌≡◌, ℕ, ◌+◌, ◌^◌, ◌<◌, List, ◌∷◌, Some, None, Bool, true, false}
-use Rattle.epoch_base.specs.declared.job.Called.TheVariants.{Ran}
-use Rattle.epoch_base.specs.declared.queue.PutStep.{PutStep}
-use Rattle.epoch_base.specs.declared.queue.TakeStep.{TakeStep}
-use Rattle.epoch_pin.specs.declared.machine.Sizes.{Sizes}
-use Rattle.epoch_pin.specs.declared.machine.Stage.{Stage}
-use Rattle.epoch_pin.specs.declared.machine.Ask.{Ask}
-use Rattle.epoch_pin.specs.declared.machine.Ask.TheVariants.{LoadEpoch, LoadWord, StorePinned, StoreRepinned, StoreUnpinned, StoreFree, StoreEpoch, PutBag, TakeBag, KeepJob, CallJob}
-use Rattle.epoch_pin.specs.declared.machine.Answer.TheVariants.{Epoch, Word as WordFound, Stored, Job}
-use Rattle.epoch_pin.specs.Machine.{hears, put_heard, took_heard, gives, PutsHeld, TakesHand}
-use Rattle.epoch_world.specs.declared.world.step.Call.{Call}
-use Rattle.epoch_world.specs.declared.world.step.Call.TheVariants.{Pin, Resume}
-use Rattle.epoch_world.specs.declared.world.step.Reply.{Reply}
-use Rattle.epoch_world.specs.declared.world.step.Reply.TheVariants.{Stepped, Pinned as PinnedReply, Unpinned as UnpinnedReply, Repinned, Deferred, Called as CalledReply, Done}
-use Rattle.epoch_world.specs.declared.world.step.Answer.TheVariants.{Released}
-use Rattle.epoch_world.specs.declared.world.step.Deferral.{Deferral}
-use Rattle.epoch_world.specs.declared.world.step.Word.{Word}
-use Rattle.epoch_world.specs.declared.world.step.Word.TheVariants.{Unpinned, Pinned}
-use Rattle.epoch_world.specs.Run.{Bag, Seat, free_seat, with_machine, with_word}
+use Rattle.epoch_bags.specs.declared.job.Called.TheVariants.{Ran}
+use Rattle.epoch_bags.specs.declared.queue.PutStep.{PutStep}
+use Rattle.epoch_bags.specs.declared.queue.TakeStep.{TakeStep}
+use Rattle.epoch_machine.specs.declared.machine.Sizes.{Sizes}
+use Rattle.epoch_machine.specs.declared.machine.Stage.{Stage}
+use Rattle.epoch_machine.specs.declared.machine.Ask.{Ask}
+use Rattle.epoch_machine.specs.declared.machine.Ask.TheVariants.{LoadEpoch, LoadWord, StorePinned, StoreRepinned, StoreUnpinned, StoreFree, StoreEpoch, PutBag, TakeBag, KeepJob, CallJob}
+use Rattle.epoch_machine.specs.declared.machine.Answer.TheVariants.{Epoch, Word as WordFound, Stored, Job}
+use Rattle.epoch_machine.specs.Machine.{hears, put_heard, took_heard, gives, PutsHeld, TakesHand}
+use Rattle.epoch_laws.specs.declared.step.Call.{Call}
+use Rattle.epoch_laws.specs.declared.step.Call.TheVariants.{Pin, Resume}
+use Rattle.epoch_laws.specs.declared.step.Reply.{Reply}
+use Rattle.epoch_laws.specs.declared.step.Reply.TheVariants.{Stepped, Pinned as PinnedReply, Unpinned as UnpinnedReply, Repinned, Deferred, Called as CalledReply, Done}
+use Rattle.epoch_laws.specs.declared.step.Answer.TheVariants.{Released}
+use Rattle.epoch_laws.specs.declared.step.Deferral.{Deferral}
+use Rattle.epoch_laws.specs.declared.step.Word.{Word}
+use Rattle.epoch_laws.specs.declared.step.Word.TheVariants.{Unpinned, Pinned}
+use Rattle.epoch_laws.specs.Run.{Bag, Seat, free_seat, with_machine, with_word}
 
 -- what participants share, but for their words
 pub record Shared : Type 0 where

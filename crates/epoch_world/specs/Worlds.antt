@@ -1,15 +1,13 @@
 -- What a world keeps between any two steps, beside what its participants keep of themselves.
-use Rattle.std.specs.Prelude.{◌≡◌, ◌≢◌, ℕ, Bool, true, false, List, [], Some}
-use Rattle.epoch_pin.specs.Machine.{asks, AskFits}
-use Rattle.epoch_pin.specs.declared.machine.Ask.{Ask}
-use Rattle.epoch_pin.specs.declared.machine.Sizes.{Sizes}
-use Rattle.epoch_world.specs.declared.world.step.Deferral.{Deferral}
-use Rattle.epoch_world.specs.declared.world.step.Progress.{Progress}
-use Rattle.epoch_world.specs.declared.world.step.Progress.TheVariants.{Driven}
-use Rattle.epoch_world.specs.declared.world.step.Word.TheVariants.{Free}
+use Rattle.std.specs.Prelude.{◌≡◌, ◌≢◌, ℕ, true, List, [], Some}
+use Rattle.epoch_machine.specs.Machine.{asks, AskFits}
+use Rattle.epoch_machine.specs.declared.machine.Ask.{Ask}
+use Rattle.epoch_machine.specs.declared.machine.Sizes.{Sizes}
+use Rattle.epoch_laws.specs.declared.step.Deferral.{Deferral}
+use Rattle.epoch_laws.specs.declared.step.Word.TheVariants.{Free}
 use Rattle.epoch_world.specs.declared.world.EndStage.{EndStage}
 use Rattle.epoch_world.specs.declared.world.EndStage.TheVariants.{Open as OpenStage, Emptying as EmptyingStage, Over as OverStage}
-use Rattle.epoch_world.specs.Run.{Bag, Seat, State, Ending, Open, Emptying, Over, seat_of, word_of}
+use Rattle.epoch_laws.specs.Run.{Bag, Seat, State, Ending, Open, Emptying, Over, seat_of, word_of, is_driven}
 
 -- how far the end is; the jobs are those left of the bag taken, and so many were called
 abbrev pub ending_of : EndStage → List Deferral → ℕ → Ending
@@ -20,10 +18,6 @@ ending_of OverStage hand count = Over
 -- the state of a world of these parts, but for the places of the store
 abbrev pub state_of : Sizes → ℕ → List Seat → List Bag → ℕ → Ending → State
 state_of sizes epoch seats queued tickets ending = record { sizes = sizes; epoch = epoch; seats = seats; queued = queued; tickets = tickets; ending = ending; places = []; seen = [] }
-
-abbrev pub is_driven : Progress → Bool
-is_driven (Driven c) = true
-is_driven _ = false
 
 -- the participant at a position has a call under way, and its machine asks for this
 pub record IsDrivenAt (s : State) (p : ℕ) (ask : Ask) : Type 0 where

@@ -1,13 +1,11 @@
-//! The world: all participants over lists of steps, one atomic step at a time, and the laws of every run.
+//! The world: all participants over lists of steps, one atomic step at a time, in runs for which the laws hold.
 #![tactic(auto)]
 
-mod history;
-mod laws;
 mod world;
 
-pub use history::{Event, calls_none_twice, is_lawful, keeps_grace};
-pub use laws::{
+pub use epoch_laws::{
+    Answer, Call, Deferral, Entry, Event, Progress, Reply, Shape, Step, Word, calls_none_twice,
     every_end_calls_all, every_full_reply_found_each_place, every_run_holds_each_ticket_once,
-    every_run_is_lawful, every_run_keeps_grace,
+    every_run_is_lawful, every_run_keeps_grace, is_lawful, keeps_grace,
 };
-pub use world::{Answer, Call, Deferral, Entry, Progress, Reply, Seat, Shape, Step, Word, World};
+pub use world::{Seat, World};

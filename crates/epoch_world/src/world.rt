@@ -1,33 +1,31 @@
 //! The world: all participants of one collector over a store of bags, which takes steps one at a time.
 ghost use Rattle.std.specs.Prelude.{◌≡◌, ◌≢◌, ℕ, ◌+◌, ◌-◌, ◌^◌, ◌<◌, ◌≤◌, List, [], ◌∷◌, ◌++◌, length, IfOk, IfErr, OnErr, MatchOption, IfNone, IfSome, slice_index_or, slice_get, Some, None, true, false, vec_capacity};
-ghost use Rattle.epoch_base.specs.declared.fault.Fault.TheVariants.{NoMemory};
-ghost use Rattle.epoch_world.specs.declared.world.step.Entry.{Entry};
-ghost use Rattle.epoch_world.specs.declared.world.step.Step.TheVariants.{Register, Begin, Go, End as EndStep, EndGo};
-ghost use Rattle.epoch_pin.specs.Machine.{IsSized};
-ghost use Rattle.epoch_world.specs.Shapes.{IsValid};
-ghost use Rattle.epoch_world.specs.Run.{State, IsFresh, Runs, Takes, Over, entries_of, free_seat, number_of, refusal, seat_of, word_of, Seat as Participant};
+ghost use Rattle.epoch_cells.specs.declared.fault.Fault.TheVariants.{NoMemory};
+ghost use Rattle.epoch_laws.specs.declared.step.Entry.{Entry};
+ghost use Rattle.epoch_laws.specs.declared.step.Step.TheVariants.{Register, Begin, Go, End as EndStep, EndGo};
+ghost use Rattle.epoch_machine.specs.Machine.{IsSized};
+ghost use Rattle.epoch_laws.specs.Shapes.{IsValid};
+ghost use Rattle.epoch_laws.specs.Run.{State, IsFresh, Runs, Takes, Over, entries_of, free_seat, number_of, refusal, seat_of, word_of, Seat as Participant};
 ghost use Rattle.epoch_world.specs.Seats.{WordFits};
 ghost use Rattle.epoch_world.specs.Worlds.{IsEmptying};
-ghost use Rattle.epoch_world.specs.Grace.{KeepsGrace};
-ghost use Rattle.epoch_world.specs.Tickets.{HoldsEachTicketOnce, times_called, times_deferred};
-ghost use Rattle.epoch_world.specs.Lawful.{IsLawful};
-ghost use Rattle.epoch_world.specs.Full.{FullWhereFound};
-ghost use Rattle.epoch_world.specs.Calls.{call_of, EndsAtLast};
+ghost use Rattle.epoch_laws.specs.Grace.{KeepsGrace};
+ghost use Rattle.epoch_laws.specs.Tickets.{HoldsEachTicketOnce, times_called, times_deferred};
+ghost use Rattle.epoch_laws.specs.Lawful.{IsLawful};
+ghost use Rattle.epoch_laws.specs.Full.{FullWhereFound};
+ghost use Rattle.epoch_laws.specs.Calls.{call_of, EndsAtLast};
 
 mod calls;
 mod guards;
 mod seat;
-mod shape;
-mod step;
 
 use calls::{go_on, go_to_end, most_steps};
-use epoch_base::{Bag, BagStore, Called, Epoch, Fault, Places, SealedBag};
-use epoch_pin::Sizes;
+use epoch_bags::{Bag, BagStore, Called, Epoch, Places, SealedBag};
+use epoch_cells::Fault;
+use epoch_laws::{Answer, Call, Deferral, Reply, Shape, Step, Word};
+use epoch_machine::Sizes;
 pub use seat::Seat;
-pub use shape::Shape;
 use std::alloc::Global;
 use std::marker::Model;
-pub use step::{Answer, Call, Deferral, Entry, Progress, Reply, Step, Word};
 
 /// How far the end of a world is.
 #[derive(Clone, Copy)]
@@ -55,10 +53,10 @@ pub struct World<S: BagStore<Job = Deferral> = Places<Deferral>> {
 
 impl<S: BagStore<Job = Deferral>> Model for World<S> {
     ghost use Rattle.std.specs.Prelude.{◌≡◌, ◌^◌, ◌<◌, ◌≤◌, length, map};
-    ghost use Rattle.epoch_pin.specs.Machine.{IsSized};
-    ghost use Rattle.epoch_world.specs.Run.{State, with_places};
+    ghost use Rattle.epoch_machine.specs.Machine.{IsSized};
+    ghost use Rattle.epoch_laws.specs.Run.{State, with_places};
     ghost use Rattle.epoch_world.specs.Worlds.{state_of, ending_of};
-    ghost use Rattle.epoch_world.specs.Kept.{IsKept};
+    ghost use Rattle.epoch_laws.specs.Kept.{IsKept};
 
     ghost Value = { State };
 

@@ -1,28 +1,50 @@
-use crate::calls::{keep_back, pin, refusal, release, round, unpin};
+use crate::calls::{
+    collector, defer, end, flush, keep_back, let_go, pin, refuse, register, release, round, unpin,
+};
+use crate::wants::{want, want_true};
 use epoch_base::{Fault, Job, Name};
-use epoch_pin::{Capacities, Collector, unprotected};
+use epoch_pin::{Capacities, Guard, LocalHandle, unprotected};
+use std::process::Abort;
 use std::test::Fail;
+
+/// Defers this one of 128 jobs: there is room before it, unless a bag is full.
+fn defer_one_of_128(
+    rt: &impl Abort,
+    handle: &mut LocalHandle<'_, u64>,
+    guard: &Guard<'_, u64>,
+    job: u64,
+) {
+    assert_eq!(rt; handle.has_room(), job != 64, "before job {job}");
+    defer(rt, handle, guard, Job::Remove(Name::first()));
+}
+
+/// Defers two bags of 64 jobs: the one is put when the other is begun.
+fn fill_two_bags(rt: &impl Abort, handle: &mut LocalHandle<'_, u64>, guard: &Guard<'_, u64>) {
+    for job in 0..128u64 {
+        defer_one_of_128(rt, handle, guard, job);
+    }
+    want(rt, "room after job 128", handle.has_room(), false);
+}
+
+/// A round whose flush finds no place.
+fn want_full_round(rt: &impl Abort, handle: &mut LocalHandle<'_, u64>) {
+    want(rt, "a round", round(rt, handle), Err(Fault::BagsFull));
+}
 
 #[test]
 fn the_65th_job_puts_a_bag_of_64(rt: HostRuntime) -> Result<(), Fail> {
-    let collector = Collector::<u64>::new(rt.alloc(), Capacities::usual(1, 0, 1), 1)?;
-    let mut handle = collector.register().expect(&rt, "a free position");
+    let collector = collector::<u64>(&rt, rt.alloc(), Capacities::usual(1, 0, 1))?;
+    let mut handle = register(&rt, &collector);
     let guard = pin(&rt, &mut handle);
-    // Two bags of 64 jobs: the one is put when the other is begun.
-    for job in 0..128u64 {
-        assert_eq!(rt; handle.has_room(), job != 64, "before job {job}");
-        assert!(rt; handle.defer(&guard, Job::Remove(Name::first())).is_ok());
-    }
-    assert!(rt; !handle.has_room(), "after job 128");
-    let refused = refusal(handle.defer(&guard, Job::Remove(Name::first())));
-    assert_eq!(rt; refused, Some((Fault::BagsFull, Name::first())));
+    fill_two_bags(&rt, &mut handle, &guard);
+    refuse(&rt, &mut handle, &guard, Fault::BagsFull);
     unpin(&rt, &mut handle, guard);
     let mut handle = keep_back(&rt, handle);
     // The second round calls the bag in the one place, and the release puts the other there.
-    assert_eq!(rt; round(&rt, &mut handle), Err(Fault::BagsFull));
-    assert_eq!(rt; round(&rt, &mut handle), Err(Fault::BagsFull));
+    want_full_round(&rt, &mut handle);
+    want_full_round(&rt, &mut handle);
     release(&rt, handle);
-    assert_eq!(rt; collector.end(), 64);
+    end(&rt, collector, 64);
     Ok(())
 }
 
@@ -32,20 +54,19 @@ fn a_flush_under_an_unprotected_guard_puts_nothing(rt: HostRuntime) -> Result<()
         bag_jobs: 1,
         ..Capacities::usual(1, 0, 1)
     };
-    let collector = Collector::<u64>::new(rt.alloc(), capacities, 1)?;
-    let mut handle = collector.register().expect(&rt, "a free position");
+    let collector = collector::<u64>(&rt, rt.alloc(), capacities)?;
+    let mut handle = register(&rt, &collector);
     let guard = pin(&rt, &mut handle);
-    assert!(rt; handle.defer(&guard, Job::Remove(Name::first())).is_ok());
+    defer(&rt, &mut handle, &guard, Job::Remove(Name::first()));
     let none = unprotected(&collector);
-    assert_eq!(rt; handle.flush(&none), Ok(()));
-    assert!(rt; !handle.has_room(), "the job is held as before");
-    assert_eq!(rt; handle.flush(&guard), Ok(()));
-    assert!(rt; handle.has_room(), "the bag with its one job is put");
-    if let Err(_guard) = none.let_go() {
-        panic!(rt; "the guard is kept");
-    }
+    flush(&rt, &mut handle, &none);
+    let room = handle.has_room();
+    want(&rt, "room: the job is held as before", room, false);
+    flush(&rt, &mut handle, &guard);
+    want_true(&rt, "room: the one job is put", handle.has_room());
+    let_go(&rt, none);
     unpin(&rt, &mut handle, guard);
     release(&rt, handle);
-    assert_eq!(rt; collector.end(), 1);
+    end(&rt, collector, 1);
     Ok(())
 }

@@ -1,81 +1,72 @@
-use crate::calls::{cycle, defer_all, pin, release, round, unpin};
+use crate::calls::{
+    collector, count, cycle, defer_all, defer_under_a_pin, end, flush, pin, register, release,
+    rounds, unpin,
+};
 use crate::jobs::counting_jobs;
-use epoch_base::{Job, Work};
-use epoch_pin::{Capacities, Collector};
-use std::sync::Arc;
-use std::sync::atomic::AtomicU64;
-use std::sync::atomic::Ordering::SeqCst;
+use crate::wants::want_count;
+use epoch_pin::{Capacities, LocalHandle};
+use std::process::Abort;
 use std::test::Fail;
+
+/// Pins and unpins 1000 times.
+fn thousand_cycles(rt: &impl Abort, handle: &mut LocalHandle<'_, u64>) {
+    for _ in 0..1000u64 {
+        cycle(rt, handle);
+    }
+}
 
 #[test]
 fn held_jobs_wait_for_a_flush(rt: HostRuntime) -> Result<(), Fail> {
-    let calls = Arc::new(rt.alloc(), AtomicU64::new(0))?;
-    let jobs = counting_jobs!(rt.alloc(), 10u64, calls, 1u64);
-    let collector = Collector::<u64>::new(rt.alloc(), Capacities::usual(1, 0, 4), 1)?;
-    let mut handle = collector.register().expect(&rt, "a free position");
-    let guard = pin(&rt, &mut handle);
-    defer_all(&rt, &mut handle, &guard, jobs);
-    unpin(&rt, &mut handle, guard);
+    let calls = count(rt.alloc())?;
+    let jobs = counting_jobs(rt.alloc(), 10, &calls, 1)?;
+    let collector = collector::<u64>(&rt, rt.alloc(), Capacities::usual(1, 0, 4))?;
+    let mut handle = register(&rt, &collector);
+    defer_under_a_pin(&rt, &mut handle, jobs);
     // Each 128th pin collects: the seven of them advance the epoch from 1 to 8, and find no bag.
-    for _ in 0..1000u64 {
-        cycle(&rt, &mut handle);
-    }
-    assert_eq!(rt; calls.load(SeqCst), 0);
+    thousand_cycles(&rt, &mut handle);
+    want_count(&rt, "calls before a flush", &calls, 0);
     // The first round seals the bag with 8 and advances to 9, the second one to 10.
-    for called in [0, 10] {
-        assert_eq!(rt; round(&rt, &mut handle), Ok(()));
-        assert_eq!(rt; calls.load(SeqCst), called);
-    }
+    rounds(&rt, &mut handle, Ok(()), &calls, &[0, 10]);
     release(&rt, handle);
-    assert_eq!(rt; collector.end(), 0);
+    end(&rt, collector, 0);
     Ok(())
 }
 
 #[test]
 fn a_collection_takes_8_bags_at_most(rt: HostRuntime) -> Result<(), Fail> {
-    let calls = Arc::new(rt.alloc(), AtomicU64::new(0))?;
-    let jobs = counting_jobs!(rt.alloc(), 640u64, calls, 1u64);
-    let collector = Collector::<u64>::new(rt.alloc(), Capacities::usual(1, 0, 16), 1)?;
-    let mut handle = collector.register().expect(&rt, "a free position");
-    let guard = pin(&rt, &mut handle);
-    defer_all(&rt, &mut handle, &guard, jobs);
-    unpin(&rt, &mut handle, guard);
+    let calls = count(rt.alloc())?;
+    let jobs = counting_jobs(rt.alloc(), 640, &calls, 1)?;
+    let collector = collector::<u64>(&rt, rt.alloc(), Capacities::usual(1, 0, 16))?;
+    let mut handle = register(&rt, &collector);
+    defer_under_a_pin(&rt, &mut handle, jobs);
     // Nine bags of 64 are put, and the first round puts a tenth. All are sealed with 1, and the rounds advance
     // to 2, to 3 and to 4.
-    for called in [0, 512, 640] {
-        assert_eq!(rt; round(&rt, &mut handle), Ok(()));
-        assert_eq!(rt; calls.load(SeqCst), called);
-    }
+    rounds(&rt, &mut handle, Ok(()), &calls, &[0, 512, 640]);
     release(&rt, handle);
-    assert_eq!(rt; collector.end(), 0);
+    end(&rt, collector, 0);
     Ok(())
 }
 
 #[test]
 fn a_participant_pinned_before_keeps_the_job_uncalled(rt: HostRuntime) -> Result<(), Fail> {
-    let calls = Arc::new(rt.alloc(), AtomicU64::new(0))?;
-    let jobs = counting_jobs!(rt.alloc(), 1u64, calls, 1u64);
-    let collector = Collector::<u64>::new(rt.alloc(), Capacities::usual(2, 0, 4), 1)?;
-    let mut own = collector.register().expect(&rt, "a free position");
-    let mut other = collector.register().expect(&rt, "a second position");
+    let calls = count(rt.alloc())?;
+    let jobs = counting_jobs(rt.alloc(), 1, &calls, 1)?;
+    let collector = collector::<u64>(&rt, rt.alloc(), Capacities::usual(2, 0, 4))?;
+    let mut own = register(&rt, &collector);
+    let mut other = register(&rt, &collector);
     // Its pin advances the epoch to 1, and stays published at 0.
     let blocker = pin(&rt, &mut own);
     let guard = pin(&rt, &mut other);
     defer_all(&rt, &mut other, &guard, jobs);
-    assert_eq!(rt; other.flush(&guard), Ok(()));
+    flush(&rt, &mut other, &guard);
     unpin(&rt, &mut other, guard);
-    for _ in 0..3 {
-        assert_eq!(rt; round(&rt, &mut other), Ok(()));
-        assert_eq!(rt; calls.load(SeqCst), 0, "the epoch stays at 1");
-    }
+    // The epoch stays at 1.
+    rounds(&rt, &mut other, Ok(()), &calls, &[0, 0, 0]);
     unpin(&rt, &mut own, blocker);
     // The bag was sealed with 1. The rounds advance to 2 and to 3.
-    for called in [0, 1] {
-        assert_eq!(rt; round(&rt, &mut other), Ok(()));
-        assert_eq!(rt; calls.load(SeqCst), called);
-    }
+    rounds(&rt, &mut other, Ok(()), &calls, &[0, 1]);
     release(&rt, own);
     release(&rt, other);
-    assert_eq!(rt; collector.end(), 0);
+    end(&rt, collector, 0);
     Ok(())
 }

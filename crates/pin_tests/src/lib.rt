@@ -1,5 +1,4 @@
-//! Tests of `epoch_pin` by its public calls: handles, guards and a collector's end, on one thread and on several,
-//! pointers, and the machine by hand-given answers.
+//! Tests of `epoch_pin` by its public calls: handles, guards and a collector's end, on one thread and on several.
 #![tactic(auto)]
 
 #[cfg(test)]
@@ -17,10 +16,6 @@ mod guards;
 #[cfg(test)]
 mod jobs;
 #[cfg(test)]
-mod machine;
-#[cfg(test)]
-mod pointers;
-#[cfg(test)]
 mod program;
 #[cfg(test)]
 mod removals;
@@ -28,3 +23,5 @@ mod removals;
 mod repins;
 #[cfg(test)]
 mod threads;
+#[cfg(test)]
+mod wants;

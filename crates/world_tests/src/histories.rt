@@ -1,10 +1,12 @@
 //! Histories that the checkers accept, and such that they have to refuse, told by hand.
 
+use crate::wants::want;
 use epoch_base::{BagQueue, Called, Fault};
 use epoch_world::{
     Answer, Call, Deferral, Entry, Event, Reply, Shape, Step, World, calls_none_twice, is_lawful,
     keeps_grace,
 };
+use std::process::Abort;
 use std::test::Fail;
 
 /// Two participants, and bags of one job.
@@ -68,75 +70,138 @@ fn repinned(participant: u64) -> Entry {
     go(participant, Reply::Repinned(participant))
 }
 
+/// What the reply of an entry tells.
+fn want_event(rt: &impl Abort, what: &str, entry: Entry, wanted: Option<Event>) {
+    want(rt, what, Event::of(&entry), wanted);
+}
+
+/// The history calls no ticket twice.
+fn want_none_twice(rt: &impl Abort, what: &str, history: &[Entry]) {
+    want(rt, what, calls_none_twice(history), true);
+}
+
+/// The history calls a ticket twice.
+fn want_some_twice(rt: &impl Abort, what: &str, history: &[Entry]) {
+    want(rt, what, calls_none_twice(history), false);
+}
+
+/// The history keeps grace.
+fn want_grace(rt: &impl Abort, what: &str, history: &[Entry]) {
+    want(rt, what, keeps_grace(history), true);
+}
+
+/// The history has a call that comes too early.
+fn want_no_grace(rt: &impl Abort, what: &str, history: &[Entry]) {
+    want(rt, what, keeps_grace(history), false);
+}
+
+/// The history is lawful.
+fn want_lawful(rt: &impl Abort, what: &str, history: &[Entry]) {
+    want(rt, what, is_lawful(history), true);
+}
+
+/// The history has a reply where none like it may stand.
+fn want_unlawful(rt: &impl Abort, what: &str, history: &[Entry]) {
+    want(rt, what, is_lawful(history), false);
+}
+
+/// The history passes all three checkers.
+fn want_all(rt: &impl Abort, what: &str, history: &[Entry]) {
+    want_lawful(rt, what, history);
+    want_grace(rt, what, history);
+    want_none_twice(rt, what, history);
+}
+
 #[test]
 fn an_event_is_what_the_reply_tells(rt: HostRuntime) {
-    assert_eq!(rt; Event::of(&pinned(3)), Some(Event::Pinned(3)));
-    assert_eq!(rt; Event::of(&called(7)), Some(Event::Called(7, Called::Ran)));
-    assert_eq!(rt; Event::of(&told(Reply::CalledNow(Called::Ran))), None);
-    assert_eq!(rt; Event::of(&told(Reply::Stepped)), None);
+    let calls = Event::Called(7, Called::Ran);
+    let now = told(Reply::CalledNow(Called::Ran));
+    want_event(&rt, "a pin", pinned(3), Some(Event::Pinned(3)));
+    want_event(&rt, "a call", called(7), Some(calls));
+    want_event(&rt, "a call at once", now, None);
+    want_event(&rt, "a step", told(Reply::Stepped), None);
 }
 
 #[test]
 fn two_calls_of_a_ticket_are_refused(rt: HostRuntime) {
-    assert!(rt; calls_none_twice(&[]));
-    assert!(rt; calls_none_twice(&[called(0), called(1), called(2)]));
+    want_none_twice(&rt, "no call", &[]);
+    want_none_twice(&rt, "of three tickets", &[called(0), called(1), called(2)]);
     let again = told(Reply::Called(0, Called::Gone));
-    assert!(rt;
-        !calls_none_twice(&[called(0), again]),
-        "with another outcome"
-    );
-    assert!(rt; !calls_none_twice(&[called(1), called(0), deferred(1), called(1)]));
+    want_some_twice(&rt, "with another outcome", &[called(0), again]);
+    let between = [called(1), called(0), deferred(1), called(1)];
+    want_some_twice(&rt, "with a deferral between them", &between);
     let by_end = Entry {
         step: Step::EndGo,
         reply: Reply::Called(4, Called::Ran),
     };
-    assert!(rt;
-        !calls_none_twice(&[called(4), called(5), by_end]),
-        "by an end"
-    );
+    want_some_twice(&rt, "by an end", &[called(4), called(5), by_end]);
 }
 
 #[test]
 fn a_call_after_all_have_withdrawn_keeps_grace(rt: HostRuntime) {
-    let unpins = [pinned(1), deferred(0), unpinned(1), called(0)];
-    assert!(rt; keeps_grace(&unpins), "it unpinned");
-    let repins = [pinned(1), deferred(0), repinned(1), called(0)];
-    assert!(rt; keeps_grace(&repins), "it repinned");
-    let pins_later = [deferred(0), pinned(1), called(0)];
-    assert!(rt; keeps_grace(&pins_later), "it pinned after the deferral");
-    let pins_again = [pinned(1), deferred(0), unpinned(1), pinned(1), called(0)];
-    assert!(rt; keeps_grace(&pins_again), "it unpinned and pinned again");
-    let other_job = [deferred(0), pinned(1), deferred(1), called(0)];
-    assert!(rt; keeps_grace(&other_job), "only the other job is blocked");
+    want_grace(
+        &rt,
+        "it unpinned",
+        &[pinned(1), deferred(0), unpinned(1), called(0)],
+    );
+    want_grace(
+        &rt,
+        "it repinned",
+        &[pinned(1), deferred(0), repinned(1), called(0)],
+    );
+    want_grace(
+        &rt,
+        "it pinned after the deferral",
+        &[deferred(0), pinned(1), called(0)],
+    );
+    want_grace(
+        &rt,
+        "it unpinned and pinned again",
+        &[pinned(1), deferred(0), unpinned(1), pinned(1), called(0)],
+    );
+    want_grace(
+        &rt,
+        "only the other job is blocked",
+        &[deferred(0), pinned(1), deferred(1), called(0)],
+    );
 }
 
 #[test]
 fn a_call_while_somebody_stays_pinned_is_refused(rt: HostRuntime) {
-    let stays = [pinned(1), deferred(0), called(0)];
-    assert!(rt; !keeps_grace(&stays), "it stayed pinned");
-    let stays_repinned = [pinned(1), repinned(1), deferred(0), called(0)];
-    assert!(rt;
-        !keeps_grace(&stays_repinned),
-        "it repinned before the deferral"
+    want_no_grace(
+        &rt,
+        "it stayed pinned",
+        &[pinned(1), deferred(0), called(0)],
     );
-    let another_unpins = [pinned(1), pinned(2), deferred(0), unpinned(2), called(0)];
-    assert!(rt; !keeps_grace(&another_unpins), "only another one unpinned");
-    let unpins_too_late = [pinned(1), deferred(0), called(0), unpinned(1)];
-    assert!(rt;
-        !keeps_grace(&unpins_too_late),
-        "it unpinned after the call"
+    want_no_grace(
+        &rt,
+        "it repinned before the deferral",
+        &[pinned(1), repinned(1), deferred(0), called(0)],
     );
-    let second_call = [
-        pinned(1),
-        deferred(0),
-        deferred(1),
-        unpinned(1),
-        called(0),
-        pinned(2),
-        deferred(2),
-        called(2),
-    ];
-    assert!(rt; !keeps_grace(&second_call), "the second call is too early");
+    want_no_grace(
+        &rt,
+        "only another one unpinned",
+        &[pinned(1), pinned(2), deferred(0), unpinned(2), called(0)],
+    );
+    want_no_grace(
+        &rt,
+        "it unpinned after the call",
+        &[pinned(1), deferred(0), called(0), unpinned(1)],
+    );
+    want_no_grace(
+        &rt,
+        "the second call is too early",
+        &[
+            pinned(1),
+            deferred(0),
+            deferred(1),
+            unpinned(1),
+            called(0),
+            pinned(2),
+            deferred(2),
+            called(2),
+        ],
+    );
 }
 
 /// A participant pins, defers a job, unpins, pins again, and calls the job at a flush.
@@ -146,166 +211,212 @@ fn a_whole_history_passes(rt: HostRuntime) {
         step: Step::Register,
         reply: Reply::Registered(0),
     };
-    let history = [
-        registered,
-        begin(0, Call::Pin),
-        told(Reply::Stepped),
-        pinned(0),
-        told(Reply::Stepped),
-        guard(0, 0),
-        begin(0, Call::Defer(Some(0))),
-        deferred(0),
-        done(0),
-        begin(0, Call::Unpin(Some(0))),
-        unpinned(0),
-        done(0),
-        begin(0, Call::Pin),
-        pinned(0),
-        guard(0, 0),
-        begin(0, Call::Flush(Some(0))),
-        called(0),
-        done(0),
-    ];
-    assert!(rt; is_lawful(&history));
-    assert!(rt; keeps_grace(&history));
-    assert!(rt; calls_none_twice(&history));
+    want_all(
+        &rt,
+        "a whole history",
+        &[
+            registered,
+            begin(0, Call::Pin),
+            told(Reply::Stepped),
+            pinned(0),
+            told(Reply::Stepped),
+            guard(0, 0),
+            begin(0, Call::Defer(Some(0))),
+            deferred(0),
+            done(0),
+            begin(0, Call::Unpin(Some(0))),
+            unpinned(0),
+            done(0),
+            begin(0, Call::Pin),
+            pinned(0),
+            guard(0, 0),
+            begin(0, Call::Flush(Some(0))),
+            called(0),
+            done(0),
+        ],
+    );
 }
 
 #[test]
 fn pins_stand_only_where_guards_allow(rt: HostRuntime) {
-    let second_guard = [
-        begin(0, Call::Pin),
-        pinned(0),
-        guard(0, 0),
-        begin(0, Call::Pin),
-        guard(0, 1),
-        begin(0, Call::Unpin(Some(0))),
-        done(0),
-        begin(0, Call::Unpin(Some(1))),
-        unpinned(0),
-        done(0),
-    ];
-    assert!(rt; is_lawful(&second_guard), "only the last guard unpins");
-    assert!(rt; !is_lawful(&[pinned(0)]), "in no call");
-    let at_unpin = [begin(0, Call::Unpin(Some(0))), pinned(0)];
-    assert!(rt; !is_lawful(&at_unpin), "in an unpin");
-    let twice = [begin(0, Call::Pin), pinned(0), pinned(0)];
-    assert!(rt; !is_lawful(&twice), "twice in one call");
-    let of_another = [begin(0, Call::Pin), go(0, Reply::Pinned(1))];
-    assert!(rt; !is_lawful(&of_another), "of another participant");
-    let under_a_guard = [
-        begin(0, Call::Pin),
-        pinned(0),
-        guard(0, 0),
-        begin(0, Call::Pin),
-        pinned(0),
-    ];
-    assert!(rt; !is_lawful(&under_a_guard), "with a guard counted");
-    let never = [begin(0, Call::Pin), guard(0, 0)];
-    assert!(rt; !is_lawful(&never), "not before the end of the first pin");
+    want_lawful(
+        &rt,
+        "only the last guard unpins",
+        &[
+            begin(0, Call::Pin),
+            pinned(0),
+            guard(0, 0),
+            begin(0, Call::Pin),
+            guard(0, 1),
+            begin(0, Call::Unpin(Some(0))),
+            done(0),
+            begin(0, Call::Unpin(Some(1))),
+            unpinned(0),
+            done(0),
+        ],
+    );
+    want_unlawful(&rt, "in no call", &[pinned(0)]);
+    want_unlawful(
+        &rt,
+        "in an unpin",
+        &[begin(0, Call::Unpin(Some(0))), pinned(0)],
+    );
+    want_unlawful(
+        &rt,
+        "twice in one call",
+        &[begin(0, Call::Pin), pinned(0), pinned(0)],
+    );
+    want_unlawful(
+        &rt,
+        "of another participant",
+        &[begin(0, Call::Pin), go(0, Reply::Pinned(1))],
+    );
+    want_unlawful(
+        &rt,
+        "with a guard counted",
+        &[
+            begin(0, Call::Pin),
+            pinned(0),
+            guard(0, 0),
+            begin(0, Call::Pin),
+            pinned(0),
+        ],
+    );
+    want_unlawful(
+        &rt,
+        "not before the end of the first pin",
+        &[begin(0, Call::Pin), guard(0, 0)],
+    );
 }
 
 #[test]
 fn unpins_stand_only_where_guards_allow(rt: HostRuntime) {
-    let not_pinned = [begin(0, Call::Unpin(Some(0))), unpinned(0)];
-    assert!(rt; !is_lawful(&not_pinned), "with no guard counted");
-    let two_guards = [
-        begin(0, Call::Pin),
-        pinned(0),
-        guard(0, 0),
-        begin(0, Call::Pin),
-        guard(0, 1),
-        begin(0, Call::Unpin(Some(0))),
-        unpinned(0),
-    ];
-    assert!(rt; !is_lawful(&two_guards), "with another guard counted");
-    let another_guard = [
-        begin(0, Call::Pin),
-        pinned(0),
-        guard(0, 0),
-        begin(0, Call::Unpin(Some(5))),
-        unpinned(0),
-    ];
-    assert!(rt; !is_lawful(&another_guard), "of a guard that isn't counted");
-    let never = [
-        begin(0, Call::Pin),
-        pinned(0),
-        guard(0, 0),
-        begin(0, Call::Unpin(Some(0))),
-        done(0),
-    ];
-    assert!(rt; !is_lawful(&never), "not before the end of the unpin");
-    assert!(rt;
-        !is_lawful(&[begin(0, Call::Release), unpinned(0)]),
-        "before the pin of a release"
+    want_unlawful(
+        &rt,
+        "with no guard counted",
+        &[begin(0, Call::Unpin(Some(0))), unpinned(0)],
+    );
+    want_unlawful(
+        &rt,
+        "with another guard counted",
+        &[
+            begin(0, Call::Pin),
+            pinned(0),
+            guard(0, 0),
+            begin(0, Call::Pin),
+            guard(0, 1),
+            begin(0, Call::Unpin(Some(0))),
+            unpinned(0),
+        ],
+    );
+    want_unlawful(
+        &rt,
+        "of a guard that isn't counted",
+        &[
+            begin(0, Call::Pin),
+            pinned(0),
+            guard(0, 0),
+            begin(0, Call::Unpin(Some(5))),
+            unpinned(0),
+        ],
+    );
+    want_unlawful(
+        &rt,
+        "not before the end of the unpin",
+        &[
+            begin(0, Call::Pin),
+            pinned(0),
+            guard(0, 0),
+            begin(0, Call::Unpin(Some(0))),
+            done(0),
+        ],
+    );
+    want_unlawful(
+        &rt,
+        "before the pin of a release",
+        &[begin(0, Call::Release), unpinned(0)],
     );
 }
 
 #[test]
 fn jobs_are_called_only_where_they_may(rt: HostRuntime) {
-    let pins = [begin(0, Call::Pin), pinned(0), guard(0, 0)];
-    assert!(rt; is_lawful(&pins));
-    let [first, second, third] = pins;
+    let [first, second, third] = [begin(0, Call::Pin), pinned(0), guard(0, 0)];
+    want_lawful(&rt, "a pin", &[first, second, third]);
     let defers = begin(0, Call::Defer(Some(0)));
     let flushes = begin(0, Call::Flush(Some(0)));
-    let in_a_defer = [first, second, third, defers, deferred(0), called(0)];
-    assert!(rt; !is_lawful(&in_a_defer), "in a deferral");
-    let not_deferred = [first, second, third, flushes, called(0)];
-    assert!(rt; !is_lawful(&not_deferred), "never deferred");
-    let twice = [
-        first,
-        second,
-        third,
-        defers,
-        deferred(0),
-        done(0),
-        flushes,
-        called(0),
-        called(0),
-    ];
-    assert!(rt; !is_lawful(&twice), "twice");
-    let later = [
-        first,
-        second,
-        third,
-        flushes,
-        called(0),
-        done(0),
-        defers,
-        deferred(0),
-        done(0),
-    ];
-    assert!(rt; !is_lawful(&later), "deferred only after it");
-    let before_its_pin = [
-        first,
-        second,
-        third,
-        defers,
-        deferred(0),
-        done(0),
-        begin(0, Call::Unpin(Some(0))),
-        unpinned(0),
-        done(0),
-        begin(0, Call::Pin),
-        called(0),
-    ];
-    assert!(rt; !is_lawful(&before_its_pin), "before the pin of its call");
-    let nothing_deferred = [first, second, third, defers, done(0)];
-    assert!(rt;
-        !is_lawful(&nothing_deferred),
-        "a deferral that is done has deferred"
+    want_unlawful(
+        &rt,
+        "in a deferral",
+        &[first, second, third, defers, deferred(0), called(0)],
     );
-    let refused = [
-        first,
-        second,
-        third,
-        defers,
-        deferred(0),
-        go(0, Reply::Refused(Fault::BagsFull)),
-    ];
-    assert!(rt;
-        !is_lawful(&refused),
-        "a deferral that is refused has deferred nothing"
+    want_unlawful(
+        &rt,
+        "never deferred",
+        &[first, second, third, flushes, called(0)],
+    );
+    want_unlawful(
+        &rt,
+        "twice",
+        &[
+            first,
+            second,
+            third,
+            defers,
+            deferred(0),
+            done(0),
+            flushes,
+            called(0),
+            called(0),
+        ],
+    );
+    want_unlawful(
+        &rt,
+        "deferred only after it",
+        &[
+            first,
+            second,
+            third,
+            flushes,
+            called(0),
+            done(0),
+            defers,
+            deferred(0),
+            done(0),
+        ],
+    );
+    want_unlawful(
+        &rt,
+        "before the pin of its call",
+        &[
+            first,
+            second,
+            third,
+            defers,
+            deferred(0),
+            done(0),
+            begin(0, Call::Unpin(Some(0))),
+            unpinned(0),
+            done(0),
+            begin(0, Call::Pin),
+            called(0),
+        ],
+    );
+    want_unlawful(
+        &rt,
+        "a deferral that is done has deferred",
+        &[first, second, third, defers, done(0)],
+    );
+    want_unlawful(
+        &rt,
+        "a deferral that is refused has deferred nothing",
+        &[
+            first,
+            second,
+            third,
+            defers,
+            deferred(0),
+            go(0, Reply::Refused(Fault::BagsFull)),
+        ],
     );
 }
 
@@ -315,29 +426,38 @@ fn replies_stand_only_at_their_steps(rt: HostRuntime) {
         step: Step::Register,
         reply: Reply::Began,
     };
-    assert!(rt; !is_lawful(&[registers]), "a registration doesn't begin");
+    want_unlawful(&rt, "a registration doesn't begin", &[registers]);
     let begins = Entry {
         step: Step::Begin(0, Call::Pin),
         reply: Reply::Pinned(0),
     };
-    assert!(rt;
-        !is_lawful(&[begins]),
-        "a call that begins performs nothing"
-    );
+    want_unlawful(&rt, "a call that begins performs nothing", &[begins]);
     let ends = Entry {
         step: Step::EndGo,
         reply: Reply::Unpinned(0),
     };
-    assert!(rt; !is_lawful(&[ends]), "an end unpins nobody");
+    want_unlawful(&rt, "an end unpins nobody", &[ends]);
     let refused = Entry {
         step: Step::Begin(0, Call::Pin),
         reply: Reply::Refused(Fault::Busy),
     };
-    assert!(rt; is_lawful(&[refused]), "any call may be refused");
-    assert!(rt;
-        !is_lawful(&[refused, pinned(0)]),
-        "a call refused at its begin is no call"
+    want_lawful(&rt, "any call may be refused", &[refused]);
+    want_unlawful(
+        &rt,
+        "a call refused at its begin is no call",
+        &[refused, pinned(0)],
     );
+}
+
+/// Takes this step, and records it with its reply.
+fn record(
+    world: &mut World<BagQueue<Deferral>>,
+    step: Step,
+    history: &mut Vec<Entry>,
+) -> Result<(), Fail> {
+    let reply = world.step(step);
+    history.push(Entry { step, reply })?;
+    Ok(())
 }
 
 /// Takes each call to its end, and records all steps with their replies.
@@ -346,22 +466,25 @@ fn recorded(rt: &HostRuntime, calls: &[(u64, Call)]) -> Result<Vec<Entry>, Fail>
     let Ok(mut world) = World::<BagQueue<Deferral>>::new(rt.alloc(), SHAPE) else {
         return Ok(history);
     };
-    for step in [Step::Register, Step::Register] {
-        let reply = world.step(step);
-        history.push(Entry { step, reply })?;
-    }
+    record(&mut world, Step::Register, &mut history)?;
+    record(&mut world, Step::Register, &mut history)?;
     for (participant, call) in calls {
-        let step = Step::Begin(*participant, *call);
-        let reply = world.step(step);
-        history.push(Entry { step, reply })?;
+        record(&mut world, Step::Begin(*participant, *call), &mut history)?;
         // No call has more steps here. A Go past the end of a call is refused.
         for _ in 0..20 {
-            let step = Step::Go(*participant);
-            let reply = world.step(step);
-            history.push(Entry { step, reply })?;
+            record(&mut world, Step::Go(*participant), &mut history)?;
         }
     }
     Ok(history)
+}
+
+/// The first job is called once in the run.
+fn want_called_once(rt: &impl Abort, entries: &[Entry]) {
+    let called = entries
+        .iter()
+        .filter(|entry| matches!(Event::of(*entry), Some(Event::Called(0, Called::Ran))))
+        .count();
+    want(rt, "the job is called in the run", called, 1);
 }
 
 #[test]
@@ -380,13 +503,7 @@ fn the_history_of_a_run_passes(rt: HostRuntime) -> Result<(), Fail> {
     ];
     let history = recorded(&rt, &calls)?;
     let entries = history.as_slice();
-    let called = entries
-        .iter()
-        .filter(|entry| matches!(Event::of(*entry), Some(Event::Called(0, Called::Ran))))
-        .count();
-    assert_eq!(rt; called, 1, "the job is called in the run");
-    assert!(rt; is_lawful(entries));
-    assert!(rt; keeps_grace(entries));
-    assert!(rt; calls_none_twice(entries));
+    want_called_once(&rt, entries);
+    want_all(&rt, "the history of a run", entries);
     Ok(())
 }

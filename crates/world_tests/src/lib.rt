@@ -4,4 +4,6 @@
 #[cfg(test)]
 mod histories;
 #[cfg(test)]
+mod wants;
+#[cfg(test)]
 mod worlds;

@@ -1,17 +1,18 @@
 //! One participant of the world: its word, its machine, and the guards and calls that the world keeps of it.
 ghost use Rattle.std.specs.Prelude.{◌≡◌, ◌≢◌, true, ℕ, ◌+◌, ◌*◌, ◌^◌, ◌<◌, ◌≤◌, Option, Some, None, IfSome, length, ◌⊎◌};
-ghost use Rattle.epoch_pin.specs.Machine.{asks, AskFits, heard, guards_after, IsSized};
-ghost use Rattle.epoch_world.specs.Run.{free_seat, with_machine, with_word, refusal, waits, call_refusal, guard_refusal, resume_refusal, is_out, begun_seat, drives, ended_seat, end_reply};
-ghost use Rattle.epoch_pin.specs.declared.machine.Stage.TheVariants.{Idle, End};
+ghost use Rattle.epoch_machine.specs.Machine.{asks, AskFits, heard, guards_after, IsSized};
+ghost use Rattle.epoch_laws.specs.Run.{free_seat, with_machine, with_word, refusal, waits, call_refusal, guard_refusal, resume_refusal, is_out, begun_seat, drives, ended_seat, end_reply};
+ghost use Rattle.epoch_machine.specs.declared.machine.Stage.TheVariants.{Idle, End};
 ghost use Rattle.epoch_world.specs.Seats.{shared, SeatPerforms, WordFits, adds_guard};
 ghost use Rattle.epoch_world.specs.Steps.{in_store, machine_steps};
-ghost use Rattle.epoch_world.specs.Places.{sight, Looks};
+ghost use Rattle.epoch_laws.specs.Places.{sight, Looks};
 
 use crate::world::guards::{is_out, lowest, without};
-use crate::world::step::{Answer, Call, Deferral, Progress, Reply, Word};
 use arrayvec::ArrayVec;
-use epoch_base::{BagStore, Called, Fault};
-use epoch_pin::{Action, Answer as Found, Ask, Machine, Sizes};
+use epoch_bags::{BagStore, Called};
+use epoch_cells::Fault;
+use epoch_laws::{Answer, Call, Deferral, Progress, Reply, Word};
+use epoch_machine::{Action, Answer as Found, Ask, Machine, Sizes};
 use std::marker::Model;
 
 /// How many guards a participant of the world may have out.
@@ -31,7 +32,7 @@ pub struct Seat {
 }
 
 impl Model for Seat {
-    ghost use Rattle.epoch_world.specs.Run.{Seat};
+    ghost use Rattle.epoch_laws.specs.Run.{Seat};
     ghost use Rattle.epoch_world.specs.Seats.{WordFits};
 
     ghost Value = { Seat };

@@ -1,6 +1,7 @@
 //! Whole calls beside their steps, on two worlds that began alike.
 
-use crate::worlds::deeds::call_by_steps;
+use crate::wants::want;
+use crate::worlds::deeds::{call_by_steps, new_world};
 use crate::worlds::reverse::Reverse;
 use epoch_base::{BagQueue, BagStore, Fault, Places};
 use epoch_world::{Answer, Call, Deferral, Reply, Shape, Step, World};
@@ -55,8 +56,7 @@ const CALLS: &[(u64, Call, Reply)] = &[
 
 /// A new world, in which both participants are registered.
 fn with_two<S: BagStore<Job = Deferral>>(rt: &impl Abort, alloc: Global) -> Result<World<S>, Fail> {
-    assert!(rt; SHAPE.is_valid());
-    let mut world = World::new(alloc, SHAPE)?;
+    let mut world: World<S> = new_world(rt, alloc, SHAPE)?;
     let _ = world.run(&[Step::Register, Step::Register])?;
     Ok(world)
 }
@@ -65,26 +65,46 @@ fn with_two<S: BagStore<Job = Deferral>>(rt: &impl Abort, alloc: Global) -> Resu
 fn expect_alike<S: BagStore<Job = Deferral>>(rt: &impl Abort, alloc: Global) -> Result<(), Fail> {
     let mut whole: World<S> = with_two(rt, alloc)?;
     let mut stepped: World<S> = with_two(rt, alloc)?;
-    for (participant, call, last) in CALLS {
+    for (place, (participant, call, last)) in CALLS.iter().enumerate() {
         let replies = whole.call(*participant, *call)?;
-        let mut by_steps = Vec::new(alloc);
-        call_by_steps(&mut stepped, *participant, *call, &mut by_steps)?;
-        assert_eq!(rt;
-            replies.as_slice(),
-            by_steps.as_slice(),
-            "{participant} {call:?}"
-        );
-        assert_eq!(rt; replies.last(), Some(last), "{participant} {call:?}");
-        if let Reply::Refused(_) = last {
-            assert_eq!(rt; replies.len(), 1, "{participant} {call:?}");
-        }
-        assert_eq!(rt;
-            numbers_of(&whole),
-            numbers_of(&stepped),
-            "{participant} {call:?}"
+        let by_steps = replies_by_steps(&mut stepped, alloc, *participant, *call)?;
+        want_replies(rt, place, &replies, &by_steps, *last);
+        let numbers = numbers_of(&stepped);
+        want(
+            rt,
+            "what a call leaves",
+            (place, numbers_of(&whole)),
+            (place, numbers),
         );
     }
     Ok(())
+}
+
+/// The replies to the steps of a call.
+fn replies_by_steps<S: BagStore<Job = Deferral>>(
+    world: &mut World<S>,
+    alloc: Global,
+    participant: u64,
+    call: Call,
+) -> Result<Vec<Reply>, Fail> {
+    let mut replies = Vec::new(alloc);
+    call_by_steps(world, participant, call, &mut replies)?;
+    Ok(replies)
+}
+
+/// The whole call at this place has told what its steps have: this last, and no more if it is refused.
+fn want_replies(rt: &impl Abort, place: usize, whole: &[Reply], by_steps: &[Reply], last: Reply) {
+    want(rt, "what a call tells", (place, whole), (place, by_steps));
+    let told = whole.last().copied();
+    want(rt, "what it tells last", (place, told), (place, Some(last)));
+    if let Reply::Refused(_) = last {
+        want(
+            rt,
+            "what a refused call tells",
+            (place, whole.len()),
+            (place, 1),
+        );
+    }
 }
 
 /// The epoch of a world, and its words up to the first past the table.

@@ -1,6 +1,7 @@
 //! What is done to a world, with what it has to tell of it.
 
-use epoch_base::{BagStore, Called};
+use crate::wants::want;
+use epoch_base::{BagStore, Called, Fault};
 use epoch_world::{Answer, Call, Deferral, Reply, Shape, Step, World};
 use std::alloc::Global;
 use std::process::Abort;
@@ -23,7 +24,7 @@ const UNIT: Reply = Reply::Done(Answer::Unit);
 
 /// Something that is done, and what is told of it. Of what is gone through up to its end, `Began` and `Stepped` are
 /// left out. Where no guard is named it is the first one, number 0. Tickets go from the first to before the second.
-#[derive(Clone, Copy, Debug)]
+#[derive(Clone, Copy)]
 pub enum Deed {
     /// One step, and its reply.
     Takes(Step, Reply),
@@ -65,26 +66,43 @@ pub fn expect_rows<S: BagStore<Job = Deferral>>(
     rows: &[Row],
 ) -> Result<(), Fail> {
     for (shows, shape, deeds) in rows {
-        assert!(rt; shape.is_valid(), "{shows}");
-        let mut world: World<S> = World::new(alloc, *shape)?;
+        let mut world: World<S> = new_world(rt, alloc, *shape)?;
         for (place, deed) in deeds.iter().enumerate() {
             let told = done(&mut world, alloc, *deed)?;
-            let expected = expected(alloc, *deed)?;
-            assert_eq!(rt;
-                told.as_slice(),
-                expected.as_slice(),
-                "{shows}: {place}, {deed:?}"
-            );
-            match deed {
-                Deed::Epoch(epoch) => assert_eq!(rt; world.epoch(), *epoch, "{shows}: {place}"),
-                Deed::Word(position, word) => {
-                    assert_eq!(rt; world.word(*position), *word, "{shows}: {place}");
-                }
-                _ => {}
-            }
+            let wanted = expected(alloc, *deed)?;
+            let (told, wanted) = (told.as_slice(), wanted.as_slice());
+            want(rt, shows, (place, told), (place, wanted));
+            want_numbers(rt, shows, place, &world, *deed);
         }
     }
     Ok(())
+}
+
+/// A new world of this shape, which is valid.
+pub fn new_world<S: BagStore<Job = Deferral>>(
+    rt: &impl Abort,
+    alloc: Global,
+    shape: Shape,
+) -> Result<World<S>, Fault> {
+    assert!(rt; shape.is_valid());
+    World::new(alloc, shape)
+}
+
+/// Where the deed at this place asks for the epoch or a word, it is the one that is wanted.
+fn want_numbers<S: BagStore<Job = Deferral>>(
+    rt: &impl Abort,
+    shows: &str,
+    place: usize,
+    world: &World<S>,
+    deed: Deed,
+) {
+    match deed {
+        Deed::Epoch(epoch) => want(rt, shows, (place, world.epoch()), (place, epoch)),
+        Deed::Word(position, word) => {
+            want(rt, shows, (place, world.word(position)), (place, word));
+        }
+        _ => {}
+    }
 }
 
 /// Does this, and answers what is told of it.
@@ -93,26 +111,43 @@ fn done<S: BagStore<Job = Deferral>>(
     alloc: Global,
     deed: Deed,
 ) -> Result<Vec<Reply>, Fail> {
-    let mut replies = Vec::new(alloc);
-    match deed {
-        Deed::Takes(step, _) => return Ok(world.run(&[step])?),
-        Deed::Calls(participant, call, _) => call_by_steps(world, participant, call, &mut replies)?,
-        Deed::Goes(participant, _) => {
-            let go = Step::Go(participant);
-            go_to_end(world, go, go, &mut replies)?;
-        }
-        Deed::Ends(_, _) => go_to_end(world, Step::End, Step::EndGo, &mut replies)?,
-        deed => {
-            let (participant, calls, times) = calls_of(deed);
-            for _ in 0..times {
-                for call in calls {
-                    call_by_steps(world, participant, *call, &mut replies)?;
-                }
-            }
-        }
+    if let Deed::Takes(step, _) = deed {
+        return Ok(world.run(&[step])?);
     }
+    let mut replies = Vec::new(alloc);
+    add_done(world, deed, &mut replies)?;
     replies.retain(|reply| !matches!(reply, Reply::Began | Reply::Stepped));
     Ok(replies)
+}
+
+/// Does this, which has an end, and puts all replies behind those that are there.
+fn add_done<S: BagStore<Job = Deferral>>(
+    world: &mut World<S>,
+    deed: Deed,
+    replies: &mut Vec<Reply>,
+) -> Result<(), Fail> {
+    match deed {
+        Deed::Calls(participant, call, _) => call_by_steps(world, participant, call, replies),
+        Deed::Goes(participant, _) => {
+            go_to_end(world, Step::Go(participant), Step::Go(participant), replies)
+        }
+        Deed::Ends(_, _) => go_to_end(world, Step::End, Step::EndGo, replies),
+        deed => call_all(world, calls_of(deed), replies),
+    }
+}
+
+/// Makes a participant's calls, one after the other, so many times.
+fn call_all<S: BagStore<Job = Deferral>>(
+    world: &mut World<S>,
+    (participant, calls, times): (u64, &[Call], u64),
+    replies: &mut Vec<Reply>,
+) -> Result<(), Fail> {
+    for _ in 0..times {
+        for call in calls {
+            call_by_steps(world, participant, *call, replies)?;
+        }
+    }
+    Ok(())
 }
 
 /// Whose calls these are, which ones, and how many times they are made, one after the other.
@@ -170,37 +205,60 @@ fn go_to_end<S: BagStore<Job = Deferral>>(
 /// What has to be told of this.
 fn expected(alloc: Global, deed: Deed) -> Result<Vec<Reply>, Fail> {
     let mut replies = Vec::new(alloc);
+    add_expected(&mut replies, deed)?;
+    Ok(replies)
+}
+
+/// Puts what has to be told of this behind the replies that are there.
+fn add_expected(replies: &mut Vec<Reply>, deed: Deed) -> Result<(), Fail> {
     match deed {
         Deed::Takes(_, reply) => replies.push(reply)?,
         Deed::Calls(_, _, told) | Deed::Goes(_, told) => replies.extend_from_slice(told)?,
-        Deed::Guards(_, first, end) => {
-            for guard in first..end {
-                replies.push(Reply::Done(Answer::Guard(guard)))?;
-            }
-        }
-        Deed::Defers(_, first, end) => {
-            for ticket in first..end {
-                replies.extend_from_slice(&[Reply::Deferred(ticket), UNIT])?;
-            }
-        }
-        Deed::Flushes(_, tickets, answer) => {
-            for (first, end) in tickets {
-                add_called(&mut replies, *first, *end)?;
-            }
-            replies.push(answer)?;
-        }
-        Deed::Ends(first, end) => {
-            add_called(&mut replies, first, end)?;
-            replies.push(Reply::Done(Answer::Count(end.saturating_sub(first))))?;
-        }
-        deed => {
-            let (_, _, times) = calls_of(deed);
-            for _ in 0..times {
-                add_once(&mut replies, deed)?;
-            }
-        }
+        Deed::Guards(_, first, end) => add_guards(replies, first, end)?,
+        Deed::Defers(_, first, end) => add_deferred(replies, first, end)?,
+        Deed::Flushes(_, tickets, answer) => add_flushed(replies, tickets, answer)?,
+        Deed::Ends(first, end) => add_ended(replies, first, end)?,
+        deed => add_each_time(replies, deed)?,
     }
-    Ok(replies)
+    Ok(())
+}
+
+fn add_guards(replies: &mut Vec<Reply>, first: u64, end: u64) -> Result<(), Fail> {
+    for guard in first..end {
+        replies.push(Reply::Done(Answer::Guard(guard)))?;
+    }
+    Ok(())
+}
+
+fn add_deferred(replies: &mut Vec<Reply>, first: u64, end: u64) -> Result<(), Fail> {
+    for ticket in first..end {
+        replies.extend_from_slice(&[Reply::Deferred(ticket), UNIT])?;
+    }
+    Ok(())
+}
+
+fn add_flushed(
+    replies: &mut Vec<Reply>,
+    tickets: &[(u64, u64)],
+    answer: Reply,
+) -> Result<(), Fail> {
+    for (first, end) in tickets {
+        add_called(replies, *first, *end)?;
+    }
+    Ok(replies.push(answer)?)
+}
+
+fn add_ended(replies: &mut Vec<Reply>, first: u64, end: u64) -> Result<(), Fail> {
+    add_called(replies, first, end)?;
+    Ok(replies.push(Reply::Done(Answer::Count(end.saturating_sub(first))))?)
+}
+
+fn add_each_time(replies: &mut Vec<Reply>, deed: Deed) -> Result<(), Fail> {
+    let (_, _, times) = calls_of(deed);
+    for _ in 0..times {
+        add_once(replies, deed)?;
+    }
+    Ok(())
 }
 
 fn add_called(replies: &mut Vec<Reply>, first: u64, end: u64) -> Result<(), Fail> {

@@ -1,6 +1,8 @@
 //! Memory that is refused: `rt try --test --fail-alloc N` refuses the Nth allocation of each test, and each of these
 //! tests passes whichever that is. In a plain run of the tests no allocation is refused.
 
+use crate::wants::want;
+use crate::worlds::deeds::new_world;
 use crate::worlds::reverse::Reverse;
 use epoch_base::{BagQueue, BagStore, Called, Fault, Places};
 use epoch_world::{Answer, Call, Deferral, Reply, Shape, Step, World};
@@ -67,38 +69,54 @@ fn numbers_of<S: BagStore<Job = Deferral>>(world: &World<S>) -> (u64, Option<u64
     (world.epoch(), world.word(0))
 }
 
+/// A call has told this last, and has called so many jobs.
+fn want_call(rt: &impl Abort, place: usize, replies: &[Reply], last: Reply, called: usize) {
+    let told = replies.last().copied();
+    want(rt, "the last reply", (place, told), (place, Some(last)));
+    let count = count_called(replies);
+    want(rt, "how many are called", (place, count), (place, called));
+}
+
 /// A new world. Where memory for it is refused, it is asked for again.
-fn new_world<S: BagStore<Job = Deferral>>(
+fn world_at_last<S: BagStore<Job = Deferral>>(
     rt: &impl Abort,
     alloc: Global,
 ) -> Result<World<S>, Fault> {
-    assert!(rt; SHAPE.is_valid());
-    match World::new(alloc, SHAPE) {
+    match new_world(rt, alloc, SHAPE) {
         Ok(world) => Ok(world),
         Err(fault) => {
-            assert_eq!(rt; fault, Fault::NoMemory);
-            World::new(alloc, SHAPE)
+            want(rt, "why it is refused", fault, Fault::NoMemory);
+            new_world(rt, alloc, SHAPE)
         }
     }
 }
 
 /// Runs the steps of this list. Where memory for its replies is refused, the world is as it was, and the list is handed
-/// in again. The replies are those of the list.
+/// in again.
+fn run_again<S: BagStore<Job = Deferral>>(
+    rt: &impl Abort,
+    world: &mut World<S>,
+    steps: &[Step],
+) -> Result<Vec<Reply>, Fault> {
+    let before = numbers_of(world);
+    match world.run(steps) {
+        Ok(replies) => Ok(replies),
+        Err(fault) => {
+            want(rt, "why it is refused", fault, Fault::NoMemory);
+            want(rt, "after a refused list", numbers_of(world), before);
+            world.run(steps)
+        }
+    }
+}
+
+/// Runs the steps of this list. The replies are those of the list.
 fn expect_run<S: BagStore<Job = Deferral>>(
     rt: &impl Abort,
     world: &mut World<S>,
     (steps, told): (&[Step], &[Reply]),
 ) -> Result<(), Fault> {
-    let before = numbers_of(world);
-    let replies = match world.run(steps) {
-        Ok(replies) => replies,
-        Err(fault) => {
-            assert_eq!(rt; fault, Fault::NoMemory);
-            assert_eq!(rt; numbers_of(world), before);
-            world.run(steps)?
-        }
-    };
-    assert_eq!(rt; replies.as_slice(), told);
+    let replies = run_again(rt, world, steps)?;
+    want(rt, "the replies to a list", replies.as_slice(), told);
     Ok(())
 }
 
@@ -112,30 +130,39 @@ fn call_again<S: BagStore<Job = Deferral>>(
     match world.call(0, call) {
         Ok(replies) => Ok(replies),
         Err(fault) => {
-            assert_eq!(rt; fault, Fault::NoMemory);
-            assert_eq!(rt; numbers_of(world), before);
+            want(rt, "why it is refused", fault, Fault::NoMemory);
+            want(rt, "after a refused call", numbers_of(world), before);
             world.call(0, call)
         }
     }
 }
 
 /// Whatever is refused on the way, all is told as if it had never come.
-fn expect_told<S: BagStore<Job = Deferral>>(rt: &impl Abort, alloc: Global) -> Result<(), Fault> {
-    let mut world: World<S> = new_world(rt, alloc)?;
+fn tell_all<S: BagStore<Job = Deferral>>(rt: &impl Abort, alloc: Global) -> Result<(), Fault> {
+    let mut world: World<S> = world_at_last(rt, alloc)?;
     expect_run(rt, &mut world, FIRST)?;
-    for (call, last, called) in CALLS {
+    for (place, (call, last, called)) in CALLS.iter().enumerate() {
         let replies = call_again(rt, &mut world, *call)?;
-        assert_eq!(rt; replies.last(), Some(last), "{call:?}");
-        assert_eq!(rt; count_called(&replies), *called, "{call:?}");
+        want_call(rt, place, &replies, *last, *called);
     }
-    assert_eq!(rt; numbers_of(&world), (3, Some(5)));
+    want(rt, "behind the calls", numbers_of(&world), (3, Some(5)));
     expect_run(rt, &mut world, LAST)?;
-    assert_eq!(rt; numbers_of(&world), (3, Some(2)));
+    want(rt, "at the end", numbers_of(&world), (3, Some(2)));
     Ok(())
 }
 
+/// Asserts that no fault is handed on.
+fn expect_told<S: BagStore<Job = Deferral>>(rt: &impl Abort, alloc: Global) {
+    want(
+        rt,
+        "a fault that is handed on",
+        tell_all::<S>(rt, alloc),
+        Ok(()),
+    );
+}
+
 /// How many jobs were called.
-fn count_called(replies: &Vec<Reply>) -> usize {
+fn count_called(replies: &[Reply]) -> usize {
     replies
         .iter()
         .filter(|reply| matches!(reply, Reply::Called(_, Called::Ran)))
@@ -144,15 +171,15 @@ fn count_called(replies: &Vec<Reply>) -> usize {
 
 #[test]
 fn what_is_refused_over_places_has_never_come(rt: HostRuntime) {
-    assert_eq!(rt; expect_told::<Places<Deferral>>(&rt, rt.alloc()), Ok(()));
+    expect_told::<Places<Deferral>>(&rt, rt.alloc());
 }
 
 #[test]
 fn what_is_refused_over_a_queue_has_never_come(rt: HostRuntime) {
-    assert_eq!(rt; expect_told::<BagQueue<Deferral>>(&rt, rt.alloc()), Ok(()));
+    expect_told::<BagQueue<Deferral>>(&rt, rt.alloc());
 }
 
 #[test]
 fn what_is_refused_over_a_pile_has_never_come(rt: HostRuntime) {
-    assert_eq!(rt; expect_told::<Reverse>(&rt, rt.alloc()), Ok(()));
+    expect_told::<Reverse>(&rt, rt.alloc());
 }

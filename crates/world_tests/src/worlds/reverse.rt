@@ -1,12 +1,12 @@
 //! A third store, which has no proof about worlds of its own: the bag that was put last is looked at first.
 ghost use Rattle.std.specs.Prelude.{◌≡◌, ◌≢◌, ℕ, ◌+◌, ◌-◌, ◌*◌, ◌<◌, ◌≤◌, List, [], ◌++◌, IfOk, IfErr, OnErr, Some, true, length, min, slice_get, vec_capacity};
-ghost use Rattle.epoch_base.specs.Stores.{AllExpired, PutsBag, TakesBag, FindsBag, TakesAny};
-ghost use Rattle.epoch_base.specs.Queues.{first_occupied};
-ghost use Rattle.epoch_world.specs.declared.world.step.Entry.{Entry};
-ghost use Rattle.epoch_world.specs.Run.{State, IsFresh, Runs, entries_of};
-ghost use Rattle.epoch_world.specs.Grace.{KeepsGrace};
-ghost use Rattle.epoch_world.specs.Tickets.{HoldsEachTicketOnce};
-ghost use Rattle.epoch_world.specs.Lawful.{IsLawful};
+ghost use Rattle.epoch_bags.specs.Stores.{AllExpired, PutsBag, TakesBag, FindsBag, TakesAny};
+ghost use Rattle.epoch_bags.specs.Queues.{first_occupied};
+ghost use Rattle.epoch_laws.specs.declared.step.Entry.{Entry};
+ghost use Rattle.epoch_laws.specs.Run.{State, IsFresh, Runs, entries_of};
+ghost use Rattle.epoch_laws.specs.Grace.{KeepsGrace};
+ghost use Rattle.epoch_laws.specs.Tickets.{HoldsEachTicketOnce};
+ghost use Rattle.epoch_laws.specs.Lawful.{IsLawful};
 
 use epoch_base::{Bag, BagStore, Epoch, Fault, MOST_BAGS, PutStep, SealedBag, TakeStep};
 use epoch_world::{Deferral, Reply, Step, World};
@@ -113,7 +113,7 @@ impl BagStore for Reverse {
         self.bags.pop()
     }
 
-    ghost use Rattle.epoch_base.specs.Queues.{length-first_occupied};
+    ghost use Rattle.epoch_bags.specs.Queues.{length-first_occupied};
 
     ghost place_for_each = { λ pile. length-first_occupied pile.capacity (length pile.bags.items) };
 }

@@ -1,10 +1,11 @@
 //! What is done to worlds over each of the three stores, and what it tells, worked out by hand.
 
+use crate::wants::want;
 use crate::worlds::deeds::Deed::{
     Calls, Cycles, Defers, Ends, Epoch, Flushes, Goes, Guards, Pauses, Pins, Rounds, Takes, Unpins,
     Word,
 };
-use crate::worlds::deeds::{Row, expect_rows};
+use crate::worlds::deeds::{Row, expect_rows, new_world};
 use crate::worlds::reverse::{Reverse, run_over_pile};
 use epoch_base::{BagQueue, BagStore, Called, Fault, GREATEST_EPOCH, Places};
 use epoch_world::{Answer, Call, Deferral, Reply, Shape, Step, World};
@@ -635,9 +636,9 @@ fn a_put_and_a_look_are_one_step_each_where_the_store_says_so(rt: HostRuntime) -
 }
 
 fn expect_empty<S: BagStore<Job = Deferral>>(rt: &impl Abort, alloc: Global) -> Result<(), Fail> {
-    assert!(rt; ONE.is_valid());
-    let mut world: World<S> = World::new(alloc, ONE)?;
-    assert!(rt; world.run(&[])?.is_empty());
+    let mut world: World<S> = new_world(rt, alloc, ONE)?;
+    let replies = world.run(&[])?;
+    want(rt, "replies to an empty list", replies.is_empty(), true);
     Ok(())
 }
 
@@ -648,29 +649,29 @@ fn an_empty_list_gives_an_empty_list(rt: HostRuntime) -> Result<(), Fail> {
     expect_empty::<Reverse>(&rt, rt.alloc())
 }
 
+const LIST: &[Step] = &[
+    Step::Register,
+    Step::Begin(0, Call::Pin),
+    Step::Go(0),
+    Step::Go(0),
+    Step::Begin(0, Call::Unpin(Some(0))),
+    Step::Go(1),
+];
+
+/// What that list tells.
+const TOLD: &[Reply] = &[
+    Reply::Registered(0),
+    Reply::Began,
+    Reply::Stepped,
+    Reply::Pinned(0),
+    Reply::Refused(Fault::Busy),
+    Reply::Refused(Fault::NotRegistered),
+];
+
 #[test]
 fn one_list_over_a_pile_tells_one_reply_a_step(rt: HostRuntime) -> Result<(), Fail> {
-    assert!(rt; ONE.is_valid());
-    let mut world = World::new(rt.alloc(), ONE)?;
-    let steps = [
-        Step::Register,
-        Step::Begin(0, Call::Pin),
-        Step::Go(0),
-        Step::Go(0),
-        Step::Begin(0, Call::Unpin(Some(0))),
-        Step::Go(1),
-    ];
-    let told = [
-        Reply::Registered(0),
-        Reply::Began,
-        Reply::Stepped,
-        Reply::Pinned(0),
-        Reply::Refused(Fault::Busy),
-        Reply::Refused(Fault::NotRegistered),
-    ];
-    assert_eq!(rt;
-        run_over_pile(&mut world, &steps)?.as_slice(),
-        told.as_slice()
-    );
+    let mut world = new_world(&rt, rt.alloc(), ONE)?;
+    let replies = run_over_pile(&mut world, LIST)?;
+    want(&rt, "the replies", replies.as_slice(), TOLD);
     Ok(())
 }

@@ -1,5 +1,5 @@
-use Rattle.epoch_base.specs.SharedPlaces.{IsKept}
-use Rattle.epoch_base.specs.SharedSteps.{PutsAt}
+use Rattle.epoch_tables.specs.SharedPlaces.{IsKept}
+use Rattle.epoch_tables.specs.SharedSteps.{PutsAt}
 use Rattle.base_tests.proofs.shared_places.put.Given as goal
 
 abbrev pub invariant-loop : goal.invariant-loop

@@ -1,6 +1,6 @@
 use Rattle.std.proofs.Common.{◌≡◌, []}
-use Rattle.epoch_base.specs.SharedPlaces.{IsKept}
-use Rattle.epoch_base.specs.SharedSteps.{TakesAt}
+use Rattle.epoch_tables.specs.SharedPlaces.{IsKept}
+use Rattle.epoch_tables.specs.SharedSteps.{TakesAt}
 use Rattle.base_tests.proofs.shared_places.take.Given as goal
 
 abbrev pub invariant-loop : goal.invariant-loop

@@ -1,5 +1,5 @@
 use Rattle.std.proofs.Common.{◌≡◌}
-use Rattle.epoch_pin.specs.Handles.{IsSame}
+use Rattle.epoch_handles.specs.Handles.{IsSame}
 use Rattle.epoch_bench.proofs.idle.defer_calls.Given as goal
 
 abbrev pub invariant-loop : goal.invariant-loop

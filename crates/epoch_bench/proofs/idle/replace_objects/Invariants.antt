@@ -1,5 +1,5 @@
 use Rattle.std.proofs.Common.{◌≡◌}
-use Rattle.epoch_pin.specs.Handles.{IsSame}
+use Rattle.epoch_handles.specs.Handles.{IsSame}
 use Rattle.epoch_bench.proofs.idle.replace_objects.Given as goal
 
 abbrev pub invariant-loop-value : goal.invariant-loop-value

@@ -1,5 +1,5 @@
 use Rattle.std.proofs.Common.{◌≡◌, None}
-use Rattle.epoch_base.specs.Table.{IsOf}
+use Rattle.epoch_tables.specs.Table.{IsOf}
 use Rattle.epoch_bench.proofs.participant.claims.Given as goal
 
 abbrev pub invariant-loop : goal.invariant-loop

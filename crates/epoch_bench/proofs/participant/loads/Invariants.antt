@@ -1,4 +1,4 @@
-use Rattle.epoch_base.specs.Table.{IsOf}
+use Rattle.epoch_tables.specs.Table.{IsOf}
 use Rattle.epoch_bench.proofs.participant.loads.Given as goal
 
 abbrev pub invariant-loop : goal.invariant-loop

@@ -1,5 +1,5 @@
 use Rattle.std.proofs.Common.{ap, ◌∙◌, arith, length, length-append, slice_index_or}
-use Rattle.epoch_world.specs.Run.{free_seat}
+use Rattle.epoch_laws.specs.Run.{free_seat}
 use Rattle.epoch_world.proofs.WorldSteps.{get_push}
 use Rattle.epoch_world.proofs.world.free_seats.Goals as goal
 

@@ -1,8 +1,8 @@
 use Rattle.std.proofs.Common.{[], ◌∙◌, sym}
 use Rattle.std.proofs.lemmas.List.{length-set}
-use Rattle.epoch_world.specs.declared.world.step.Step.TheVariants.{Begin}
-use Rattle.epoch_world.specs.declared.world.step.Reply.TheVariants.{Began}
-use Rattle.epoch_world.specs.Run.{State}
+use Rattle.epoch_laws.specs.declared.step.Step.TheVariants.{Begin}
+use Rattle.epoch_laws.specs.declared.step.Reply.TheVariants.{Began}
+use Rattle.epoch_laws.specs.Run.{State}
 use Rattle.epoch_world.specs.Worlds.{state_of, ending_of}
 use Rattle.epoch_world.proofs.AcceptedCalls.{IsGiven, given_rests, given_moves, refused_takes}
 use Rattle.epoch_world.proofs.WorldKept.{kept_moves}

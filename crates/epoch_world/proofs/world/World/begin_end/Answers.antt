@@ -1,10 +1,10 @@
 use Rattle.std.proofs.Common.{◌≡◌, ◌∙◌, List, [], map, ap, refl, subst}
-use Rattle.epoch_base.specs.declared.fault.Fault.TheVariants.{ParticipantsLeft}
+use Rattle.epoch_cells.specs.declared.fault.Fault.TheVariants.{ParticipantsLeft}
 use Rattle.epoch_world.specs.declared.world.EndStage.{EndStage}
-use Rattle.epoch_world.specs.declared.world.step.Deferral.{Deferral}
-use Rattle.epoch_world.specs.declared.world.step.Reply.TheVariants.{Began, Refused}
-use Rattle.epoch_world.specs.declared.world.step.Step.TheVariants.{End as EndStep}
-use Rattle.epoch_world.specs.Run.{State, Open, Emptying, Takes, with_places}
+use Rattle.epoch_laws.specs.declared.step.Deferral.{Deferral}
+use Rattle.epoch_laws.specs.declared.step.Reply.TheVariants.{Began, Refused}
+use Rattle.epoch_laws.specs.declared.step.Step.TheVariants.{End as EndStep}
+use Rattle.epoch_laws.specs.Run.{State, Open, Emptying, Takes, with_places}
 use Rattle.epoch_world.specs.Worlds.{state_of, ending_of}
 use Rattle.epoch_world.proofs.WorldKept.{kept_moves}
 use Rattle.epoch_world.proofs.WorldSteps.{end_moves, end_refused}

@@ -1,5 +1,5 @@
 use Rattle.std.proofs.Common.{sym, subst, refl, arith}
-use Rattle.epoch_world.specs.Run.{State}
+use Rattle.epoch_laws.specs.Run.{State}
 use Rattle.epoch_world.specs.Worlds.{state_of, ending_of, IsEmptying}
 use Rattle.epoch_world.proofs.WorldKept.{one_more_counts}
 use Rattle.epoch_world.proofs.world.World.empty.Goals as goal

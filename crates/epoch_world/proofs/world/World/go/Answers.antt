@@ -1,7 +1,7 @@
 use Rattle.std.proofs.Common.{ℕ, ◌∙◌, sym, subst, List, [], map, arith, slice_set}
 use Rattle.std.proofs.lemmas.List.{length-set}
-use Rattle.epoch_world.specs.declared.world.step.Step.TheVariants.{Go}
-use Rattle.epoch_world.specs.Run.{State, Ending, Takes, with_places}
+use Rattle.epoch_laws.specs.declared.step.Step.TheVariants.{Go}
+use Rattle.epoch_laws.specs.Run.{State, Ending, Takes, with_places}
 use Rattle.epoch_world.specs.Worlds.{state_of, ending_of}
 use Rattle.epoch_world.proofs.PlacesSeen.{go_takes_all}
 use Rattle.epoch_world.proofs.TurnsTaken.{kept_open}

@@ -1,9 +1,9 @@
 use Rattle.std.proofs.Common.{◌∙◌, sym, ap, refl}
 use Rattle.std.proofs.lemmas.List.{length-set}
 use Rattle.epoch_world.specs.declared.world.EndStage.{EndStage}
-use Rattle.epoch_world.specs.declared.world.step.Reply.TheVariants.{Registered}
-use Rattle.epoch_world.specs.declared.world.step.Step.TheVariants.{Register}
-use Rattle.epoch_world.specs.Run.{State}
+use Rattle.epoch_laws.specs.declared.step.Reply.TheVariants.{Registered}
+use Rattle.epoch_laws.specs.declared.step.Step.TheVariants.{Register}
+use Rattle.epoch_laws.specs.Run.{State}
 use Rattle.epoch_world.specs.Worlds.{state_of, ending_of}
 use Rattle.epoch_world.proofs.WorldKept.{kept_moves}
 use Rattle.epoch_world.proofs.WorldSteps.{register_moves}

@@ -1,10 +1,10 @@
 use Rattle.std.proofs.Common.{arith, ap, ◌∙◌, length, length-append}
-use Rattle.epoch_world.proofs.RunsGoOn.{runs_more, runs_whole, runs_append}
-use Rattle.epoch_world.proofs.GraceKept.{every_run_keeps_grace}
-use Rattle.epoch_world.proofs.TicketsOnce.{holds_each_once, end_calls_all}
-use Rattle.epoch_world.proofs.EventsLawful.{replies_stand}
-use Rattle.epoch_world.proofs.FullFound.{found_full}
-use Rattle.epoch_world.proofs.CallsAfterDeferrals.{calls_follow}
+use Rattle.epoch_laws.proofs.RunsGoOn.{runs_more, runs_whole, runs_append}
+use Rattle.epoch_laws.proofs.GraceKept.{every_run_keeps_grace}
+use Rattle.epoch_laws.proofs.TicketsOnce.{holds_each_once, end_calls_all}
+use Rattle.epoch_laws.proofs.EventsLawful.{replies_stand}
+use Rattle.epoch_laws.proofs.FullFound.{found_full}
+use Rattle.epoch_laws.proofs.CallsAfterDeferrals.{calls_follow}
 use Rattle.epoch_world.proofs.world.World.run.Goals as goal
 
 pub loop-step-preserved : goal.loop-step-preserved

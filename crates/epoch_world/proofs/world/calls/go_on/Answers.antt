@@ -1,6 +1,6 @@
 use Rattle.std.proofs.Common.{◌≡◌, sym, ◌∙◌}
-use Rattle.epoch_world.specs.declared.world.step.Progress.TheVariants.{Driven}
-use Rattle.epoch_world.specs.Run.{State, Open}
+use Rattle.epoch_laws.specs.declared.step.Progress.TheVariants.{Driven}
+use Rattle.epoch_laws.specs.Run.{State, Open}
 use Rattle.epoch_world.specs.Worlds.{state_of}
 use Rattle.epoch_world.proofs.Performed.{found_there}
 use Rattle.epoch_world.proofs.WorldKept.{ends_where_driven, guards_fit, room_where_driven}

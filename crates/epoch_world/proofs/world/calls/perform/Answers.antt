@@ -1,8 +1,8 @@
 use Rattle.std.proofs.Common.{◌≡◌, ◌+◌, ◌*◌, ℕ, ap, refl, ◌∙◌, slice_index_or}
-use Rattle.epoch_world.specs.Run.{Seat, State, Open, with_places, number_of, word_of, free_seat}
+use Rattle.epoch_laws.specs.Run.{Seat, State, Open, with_places, number_of, word_of, free_seat, is_driven}
 use Rattle.epoch_world.specs.Seats.{shared}
 use Rattle.epoch_world.specs.Steps.{InStore, in_store}
-use Rattle.epoch_world.specs.Worlds.{state_of, is_driven}
+use Rattle.epoch_world.specs.Worlds.{state_of}
 use Rattle.epoch_world.proofs.Performed.{found_there, performed}
 use Rattle.epoch_world.proofs.TurnsTaken.{linked_at, driven_at, performs_less, seat_less}
 use Rattle.epoch_world.proofs.world.calls.perform.Goals as goal

@@ -1,5 +1,5 @@
 use Rattle.std.proofs.Common.{◌≤◌, length, arith}
-use Rattle.epoch_base.proofs.BagLists.{all_occupied}
+use Rattle.epoch_bags.proofs.BagLists.{all_occupied}
 use Rattle.world_tests.proofs.worlds.reverse.ReverseBagStore.put_step.Goals as goal
 
 -- as many bags as places

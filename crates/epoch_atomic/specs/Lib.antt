@@ -1,0 +1,4 @@
+pub mod Exchanges
+pub mod Orders
+pub mod Pointers
+pub mod Updates

@@ -1,0 +1,226 @@
+//! Pointers to values in cells, which threads share: tags, exchanges, and values taken back.
+//!
+//! Each call on an [`Atomic`] is one atomic step, but for those that try an exchange again. Each step is sequentially
+//! consistent, whichever ordering is asked for. No call on an existing `Atomic` or a [`Shared`] takes memory or waits.
+ghost use Rattle.std.specs.Prelude.{◌≡◌, ◌<◌, ◌%◌, ◌⊎◌, IfSome, IfOk, IfErr};
+ghost use Rattle.epoch_cells.specs.declared.fault.Fault.TheVariants.{CellsFull, NoMemory};
+ghost use Rattle.epoch_atomic.specs.Pointers.{IsPointerWord, Reads, IsRead, IsUnder};
+
+mod borrow;
+mod destroy;
+mod exchange;
+mod laws;
+mod orders;
+mod owned;
+mod pointer;
+mod shared;
+mod update;
+mod word;
+
+pub use borrow::{Borrow, BorrowMut};
+pub use destroy::{DeferDestroy, DestroyNow};
+use epoch_cells::{Fault, Refused};
+use epoch_handles::{Guard, home_of};
+use epoch_values::tag_of;
+pub use epoch_values::{Array, Pointable};
+pub use exchange::{CompareAndSetError, CompareExchangeError, ExchangeFault};
+pub use laws::equal_numbers_are_of_one_pointer;
+pub use orders::CompareAndSetOrdering;
+pub use owned::Owned;
+pub use pointer::Pointer;
+pub use shared::Shared;
+use std::alloc::{AllocError, Global};
+use std::fmt;
+use std::fmt::Debug;
+use std::marker::PhantomData;
+use std::sync::atomic::{AtomicIn, Ordering};
+pub use update::UpdateFault;
+use word::{PointerWord, name_in, pointer_word};
+
+/// A pointer with a tag that threads share: null, or the name of a value in a cell.
+///
+/// It isn't tied to a collector: a call reads it under a guard of the collector that the values are of. Dropping
+/// an `Atomic` leaves the value in its cell.
+#[derive(Drop)]
+pub struct Atomic<T> {
+    word: AtomicIn<PointerWord>,
+    of: PhantomData<T>,
+}
+
+// The pointer that stands in a word, as it is read under this guard.
+#[inline(always)]
+fn read<'g, T: Pointable, W>(word: u64, guard: &'g Guard<'_, T, W>) -> Shared<'g, T>
+    requires { IsPointerWord word }
+    ensures reads { Reads T.ALIGN word result.name result.tag }
+    ensures below { result.tag < T.ALIGN }
+    ensures home { IsUnder guard.now.collector.now.id result.home }
+{
+    Shared {
+        name: name_in(word),
+        tag: tag_of::<T>((word % 0x100) as usize),
+        home: Some(home_of(guard)),
+    }
+}
+
+impl<T: Pointable> Atomic<T> {
+    /// Null, with tag 0.
+    pub fn null() -> Atomic<T> {
+        Atomic::from(Shared::null())
+    }
+
+    /// The pointer that is stored now.
+    #[inline(always)]
+    pub fn load<'g, W>(&self, order: Ordering, guard: &'g Guard<'_, T, W>) -> Shared<'g, T>
+        ensures read { IsRead T.ALIGN result.name result.tag }
+        ensures below { result.tag < T.ALIGN }
+        ensures home { IsUnder guard.now.collector.now.id result.home }
+    {
+        read(self.word.load(order), guard)
+    }
+
+    /// As [`Atomic::load`].
+    pub fn load_consume<'g, W>(&self, guard: &'g Guard<'_, T, W>) -> Shared<'g, T>
+        ensures read { IsRead T.ALIGN result.name result.tag }
+        ensures below { result.tag < T.ALIGN }
+        ensures home { IsUnder guard.now.collector.now.id result.home }
+    {
+        self.load(Ordering::Acquire, guard)
+    }
+
+    /// Stores a pointer, or an owned value, which is placed in a cell first.
+    ///
+    /// An owned value comes back where the cells are full, and nothing was stored then.
+    #[inline(always)]
+    pub fn store<'g, P: Pointer<'g, T>, W>(
+        &self,
+        new: P,
+        order: Ordering,
+        guard: &'g Guard<'_, T, W>,
+    ) -> Result<(), P>
+        ensures full { IfErr result (λ back. P.takes_cell × (back ≡ new)) }
+    {
+        let word = new.enter_word(guard)?;
+        self.word.store(word, order);
+        Ok(())
+    }
+
+    /// Stores a pointer, or an owned value, which is placed in a cell first, and answers the pointer before.
+    ///
+    /// An owned value comes back where the cells are full, and nothing was stored then.
+    #[inline(always)]
+    pub fn swap<'g, P: Pointer<'g, T>, W>(
+        &self,
+        new: P,
+        order: Ordering,
+        guard: &'g Guard<'_, T, W>,
+    ) -> Result<Shared<'g, T>, P>
+        ensures read { IfOk result (λ before. IsRead T.ALIGN before.name before.tag) }
+        ensures below { IfOk result (λ before. before.tag < T.ALIGN) }
+        ensures home { IfOk result (λ before. IsUnder guard.now.collector.now.id before.home) }
+        ensures full { IfErr result (λ back. P.takes_cell × (back ≡ new)) }
+    {
+        let word = new.enter_word(guard)?;
+        Ok(read(self.word.swap(word, order), guard))
+    }
+}
+
+impl<T: Pointable + Drop> Atomic<T> {
+    /// A pointer to this value, which is placed in a cell.
+    ///
+    /// `NoMemory`: an allocation was refused. `CellsFull`: every slot was seen used or retired. The value is
+    /// dropped then.
+    pub fn new<W>(alloc: Global, value: T, guard: &Guard<'_, T, W>) -> Result<Atomic<T>, Fault>
+        ensures refused { IfErr result (λ fault. (fault ≡ NoMemory) ⊎ (fault ≡ CellsFull)) }
+    {
+        match Atomic::from_owned(Owned::new(alloc, value)?, guard) {
+            Ok(atomic) => Ok(atomic),
+            Err(Refused { fault, value: _ }) => Err(fault),
+        }
+    }
+
+    /// A pointer to what [`Pointable::init`] makes, which is placed in a cell.
+    ///
+    /// `NoMemory`: an allocation was refused. `CellsFull`: every slot was seen used or retired. The value is
+    /// dropped then.
+    pub fn init<W>(
+        alloc: Global,
+        init: T::Init,
+        guard: &Guard<'_, T, W>,
+    ) -> Result<Atomic<T>, Fault>
+        ensures refused { IfErr result (λ fault. (fault ≡ NoMemory) ⊎ (fault ≡ CellsFull)) }
+    {
+        match Atomic::from_owned(Owned::init(alloc, init)?, guard) {
+            Ok(atomic) => Ok(atomic),
+            Err(Refused { fault, value: _ }) => Err(fault),
+        }
+    }
+
+    /// A pointer to this value, which is placed in a cell, with its tag.
+    ///
+    /// `CellsFull`: every slot was seen used or retired. The value is handed back.
+    pub fn from_owned<W>(
+        owned: Owned<T>,
+        guard: &Guard<'_, T, W>,
+    ) -> Result<Atomic<T>, Refused<Owned<T>>>
+        ensures full { IfErr result (λ refused. refused.fault ≡ CellsFull) }
+        ensures handed_back { IfErr result (λ refused. refused.value ≡ owned) }
+    {
+        let shared = owned.into_shared(guard)?;
+        Ok(Atomic::from(shared))
+    }
+
+    /// Takes the value out of its cell, with the pointer's tag. The guard is one of the value's collector.
+    ///
+    /// `None`: the pointer is null, whatever its tag is; or its value is gone, or is read or written; or each try
+    /// was lost to others.
+    pub fn try_into_owned<W>(self, guard: &Guard<'_, T, W>) -> Option<Owned<T>>
+        ensures below { IfSome result (λ owned. owned.tag < T.ALIGN) }
+    {
+        let Atomic { word, of: _ } = self;
+        read(word.into_inner(), guard).try_into_owned()
+    }
+
+    /// As [`Atomic::try_into_owned`].
+    pub fn into_owned<W>(self, guard: &Guard<'_, T, W>) -> Option<Owned<T>>
+        ensures below { IfSome result (λ owned. owned.tag < T.ALIGN) }
+    {
+        self.try_into_owned(guard)
+    }
+}
+
+impl<'g, T: Pointable> From<Shared<'g, T>> for Atomic<T> {
+    fn from(shared: Shared<'g, T>) -> Atomic<T> {
+        Atomic {
+            word: AtomicIn::new(pointer_word::<T>(shared.name, shared.tag)),
+            of: PhantomData,
+        }
+    }
+}
+
+impl<T: Pointable> Default for Atomic<T> {
+    fn default() -> Atomic<T> {
+        Atomic::null()
+    }
+}
+
+impl<T: Pointable> Clone for Atomic<T> {
+    ghost is_infallible = { λ _. Unit {0} };
+
+    /// An `Atomic` that holds what one load of this one found.
+    fn clone(&self) -> Result<Atomic<T>, AllocError> {
+        Ok(Atomic {
+            word: AtomicIn::new(self.word.load(Ordering::Relaxed)),
+            of: PhantomData,
+        })
+    }
+}
+
+impl<T: Pointable> Debug for Atomic<T> {
+    fn fmt<F: fmt::Write>(&self, f: &mut fmt::Formatter<F>) -> fmt::Result {
+        let word = self.word.load(Ordering::SeqCst);
+        f.debug_struct("Atomic")
+            .field("name", &name_in(word))
+            .field("tag", &tag_of::<T>((word % 0x100) as usize))
+            .finish_non_exhaustive()
+    }
+}

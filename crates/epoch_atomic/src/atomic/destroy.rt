@@ -1,0 +1,112 @@
+//! The removal of the value that a pointer names.
+ghost use Rattle.std.specs.Prelude.{◌≡◌, ◌≢◌, ◌↔◌, ◌<◌, [], ◌∷◌, ◌++◌, ◌⊎◌, IsOk, IsErr, IsNone, IsSome, IfOk, IfErr, IfSome, Some, None, length};
+ghost use Rattle.epoch_cells.specs.declared.cells.name.Name.{Name};
+ghost use Rattle.epoch_cells.specs.declared.fault.Fault.TheVariants.{StrangerGuard, StrangerPointer, BagsFull};
+ghost use Rattle.epoch_bags.specs.declared.job.Job.TheVariants.{Remove};
+ghost use Rattle.epoch_bags.specs.declared.job.Called.TheVariants.{Ran};
+ghost use Rattle.epoch_handles.specs.Handles.{IsReady, IsSame, Owns, Does};
+ghost use Rattle.epoch_atomic.specs.Pointers.{IsUnder, Names};
+ghost use Rattle.epoch_machine.specs.declared.machine.Action.TheVariants.{Defer};
+
+use crate::atomic::shared::Shared;
+use epoch_bags::{Called, Job, Run};
+use epoch_cells::{Fault, Name, Refused};
+use epoch_handles::{Guard, LocalHandle, home_of};
+
+impl<'g, T> Shared<'g, T> {
+    // The name, where the pointer was got under a guard of the collector with this number.
+    #[inline(always)]
+    pub(crate) fn name_under(&self, id: u64) -> Option<Name>
+        ensures some { IsSome result ↔ (IsSome self.now.name × IsUnder id self.now.home) }
+        ensures name { IfSome result (λ name. self.now.name ≡ Some name) }
+    {
+        let home = self.home?;
+        if home.id == id { self.name } else { None }
+    }
+}
+
+/// What a [`Guard`] does with a pointer's value.
+pub trait DestroyNow<T> {
+    /// Destroys the value at once, under a guard that protects nothing, and says what that did: a value that is
+    /// read or written by somebody else stays.
+    ///
+    /// The pointer is handed back, and nothing is done, under a protecting guard, where it is null, and where it
+    /// was got under a guard of another collector.
+    fn destroy_now<'g>(&self, shared: Shared<'g, T>) -> Result<Called, Shared<'g, T>>;
+}
+
+/// What a [`LocalHandle`] does with a pointer's value.
+pub trait DeferDestroy<T, W> {
+    /// Defers the removal of the value that the pointer names: it is destroyed when nobody who is pinned now is
+    /// pinned any more, by some participant's collection, unless it is read or written then. Under an unprotected
+    /// guard that is done at once.
+    ///
+    /// The removal is kept as the job of [`LocalHandle::defer`] is. `StrangerGuard`: the guard isn't one that this
+    /// handle has out. `StrangerPointer`: the pointer is null, whatever its tag is, or was got under a guard of
+    /// another collector. `BagsFull`: each place was seen occupied. They are looked for in this order. A refused
+    /// call hands the pointer back, and leaves the handle as it was, with its bag. As `Guard::defer_destroy` of
+    /// crossbeam-epoch, which refuses nothing.
+    fn defer_destroy<'g>(
+        &mut self,
+        guard: &Guard<'_, T, W>,
+        shared: Shared<'g, T>,
+    ) -> Result<(), Refused<Shared<'g, T>>>;
+}
+
+impl<'c, T: Drop, W: Run> DestroyNow<T> for Guard<'c, T, W> {
+    fn destroy_now<'g>(&self, shared: Shared<'g, T>) -> Result<Called, Shared<'g, T>>
+        ensures ok { IsOk result ↔ (IsNone self.now.position × IsSome shared.entry.name × IsUnder self.now.collector.now.id shared.entry.home) }
+        ensures called { IfOk result (λ called. called ≢ Ran) }
+        ensures handed_back { IfErr result (λ back. back ≡ shared.entry) }
+    {
+        let Some(name) = shared.name_under(home_of(self).id) else {
+            return Err(shared);
+        };
+        match self.call_now(Job::Remove(name)) {
+            Ok(called) => Ok(called),
+            Err(_job) => Err(shared),
+        }
+    }
+}
+
+impl<'c, T: Drop, W: Run> DeferDestroy<T, W> for LocalHandle<'c, T, W> {
+    #[inline(always)]
+    fn defer_destroy<'g>(
+        &mut self,
+        guard: &Guard<'_, T, W>,
+        shared: Shared<'g, T>,
+    ) -> Result<(), Refused<Shared<'g, T>>>
+        ensures same { IsSame self.old.local self.new.local }
+        ensures ready { IsReady self.new.local }
+        ensures counted { self.new.local.machine.guards ≡ self.old.local.machine.guards }
+        ensures unprotected { guard.now.position ≡ None → self.new ≡ self.old }
+        ensures at_once { (name : Name) → guard.now.position ≡ None → Names self.old.local shared.entry name → IsOk result }
+        ensures stranger { IsSome guard.now.position → ¬ Owns self.old.local guard.now → IfErr result (λ refused. refused.fault ≡ StrangerGuard) × IsErr result × (self.new ≡ self.old) }
+        ensures pointer { (guard.now.position ≡ None) ⊎ Owns self.old.local guard.now → ((name : Name) → ¬ Names self.old.local shared.entry name) → IfErr result (λ refused. refused.fault ≡ StrangerPointer) × IsErr result × (self.new ≡ self.old) }
+        ensures does { (name : Name) → Owns self.old.local guard.now → Names self.old.local shared.entry name → Does self.old.local Defer self.new.local × IfErr result (λ refused. refused.fault ≡ BagsFull) }
+        ensures room { (name : Name) → Owns self.old.local guard.now → Names self.old.local shared.entry name → length self.old.local.machine.held < self.old.local.machine.sizes.bag_jobs → IsOk result × (self.new.local.machine.held ≡ self.old.local.machine.held ++ Remove name ∷ []) }
+        ensures kept { (name : Name) → Owns self.old.local guard.now → Names self.old.local shared.entry name → IsOk result → (self.new.local.machine.held ≡ self.old.local.machine.held ++ Remove name ∷ []) ⊎ (self.new.local.machine.held ≡ Remove name ∷ []) }
+        ensures err { IsErr result → self.new.local.machine.held ≡ self.old.local.machine.held }
+        ensures handed_back { IfErr result (λ refused. refused.value ≡ shared.entry) }
+    {
+        if guard.is_protecting() && !self.owns(guard) {
+            return Err(Refused {
+                fault: Fault::StrangerGuard,
+                value: shared,
+            });
+        }
+        let Some(name) = shared.name_under(self.collector().id()) else {
+            return Err(Refused {
+                fault: Fault::StrangerPointer,
+                value: shared,
+            });
+        };
+        if let Err(Refused { fault, value: _ }) = self.defer(guard, Job::Remove(name)) {
+            return Err(Refused {
+                fault,
+                value: shared,
+            });
+        }
+        Ok(())
+    }
+}

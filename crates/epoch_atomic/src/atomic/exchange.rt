@@ -1,0 +1,157 @@
+//! Exchanges of one pointer for another.
+ghost use Rattle.std.specs.Prelude.{◌≡◌, ◌≢◌, IfOk, IfErr};
+ghost use Rattle.epoch_atomic.specs.Pointers.{IsPointerWord, BecomesBelow, BecomesBoth};
+ghost use Rattle.epoch_atomic.specs.Exchanges.{OnChanged, OnFull, OnStuck, FindsAnother};
+
+use crate::atomic::orders::CompareAndSetOrdering;
+use crate::atomic::pointer::Pointer;
+use crate::atomic::shared::Shared;
+use crate::atomic::word::pointer_word;
+use crate::atomic::{Atomic, read};
+use epoch_handles::Guard;
+use epoch_values::Pointable;
+use std::fmt;
+use std::fmt::Debug;
+use std::sync::atomic::Ordering;
+
+/// What a lost exchange found, and the new pointer, which is handed back.
+#[derive(Drop)]
+pub struct CompareExchangeError<'g, T, P> {
+    /// The pointer that stood there.
+    pub current: Shared<'g, T>,
+    /// The pointer, or the owned value, that was not stored.
+    pub new: P,
+}
+
+/// Another name of [`CompareExchangeError`].
+pub type CompareAndSetError<'g, T, P> = CompareExchangeError<'g, T, P>;
+
+/// Why an exchange was not made. Nothing is stored then.
+#[derive(Drop)]
+pub enum ExchangeFault<'g, T, P> {
+    /// Another pointer, or another tag, stood there.
+    Changed(CompareExchangeError<'g, T, P>),
+    /// The cells are full, so that the owned value couldn't be placed. It is handed back.
+    Full(P),
+    /// The exchange was lost, and the owned value, which was placed for it, is held or was removed by somebody
+    /// else, so that it couldn't be taken back. This is the pointer to it.
+    Stuck(Shared<'g, T>),
+}
+
+impl<T: Pointable> Atomic<T> {
+    /// Stores `new` where `current` stands, pointer and tag both, and answers the pointer that was written.
+    ///
+    /// An owned value is placed in a cell first, and is taken back where the exchange is lost. What an
+    /// [`ExchangeFault`] says is all that the call left.
+    #[inline(always)]
+    pub fn compare_exchange<'g, P: Pointer<'g, T>, W>(
+        &self,
+        current: Shared<'_, T>,
+        new: P,
+        success: Ordering,
+        failure: Ordering,
+        guard: &'g Guard<'_, T, W>,
+    ) -> Result<Shared<'g, T>, ExchangeFault<'g, T, P>>
+        ensures ok { IfOk result (λ written. BecomesBelow T.ALIGN (P.becomes new) written.name written.tag) }
+        ensures changed { IfErr result (λ fault. OnChanged fault (λ found back. FindsAnother T.ALIGN current.entry found)) }
+        ensures handed_back { IfErr result (λ fault. OnChanged fault (λ found back. BecomesBoth (P.becomes new) (P.becomes back))) }
+        ensures full { IfErr result (λ fault. OnFull fault (λ back. P.takes_cell × (back ≡ new))) }
+        ensures stuck { IfErr result (λ fault. OnStuck fault (λ stuck. P.takes_cell × P.becomes new stuck.name stuck.tag)) }
+    {
+        let expected = pointer_word::<T>(current.name, current.tag);
+        let shared = match new.enter(guard) {
+            Ok(shared) => shared,
+            Err(new) => return Err(ExchangeFault::Full(new)),
+        };
+        let word = pointer_word::<T>(shared.name, shared.tag);
+        let found = match self.exchange_word(expected, word, success, failure) {
+            Ok(_) => return Ok(shared.with_tag(shared.tag())),
+            Err(found) => found,
+        };
+        match P::back(shared, guard) {
+            Ok(new) => Err(ExchangeFault::Changed(CompareExchangeError {
+                current: read(found, guard),
+                new,
+            })),
+            Err(shared) => Err(ExchangeFault::Stuck(shared)),
+        }
+    }
+
+    // One exchange of the word. The answer is the word that stood there.
+    #[inline(always)]
+    pub(crate) fn exchange_word(
+        &self,
+        expected: u64,
+        new: u64,
+        success: Ordering,
+        failure: Ordering,
+    ) -> Result<u64, u64>
+        requires { IsPointerWord new }
+        ensures ok { IfOk result (λ found. found ≡ expected) }
+        ensures err { IfErr result (λ found. (found ≢ expected) × IsPointerWord found) }
+    {
+        self.word.compare_exchange(expected, new, success, failure)
+    }
+
+    /// As [`Atomic::compare_exchange`]: this one doesn't fail where `current` stands there, as the weak exchange of
+    /// some machines may.
+    pub fn compare_exchange_weak<'g, P: Pointer<'g, T>, W>(
+        &self,
+        current: Shared<'_, T>,
+        new: P,
+        success: Ordering,
+        failure: Ordering,
+        guard: &'g Guard<'_, T, W>,
+    ) -> Result<Shared<'g, T>, ExchangeFault<'g, T, P>>
+        ensures ok { IfOk result (λ written. BecomesBelow T.ALIGN (P.becomes new) written.name written.tag) }
+        ensures changed { IfErr result (λ fault. OnChanged fault (λ found back. FindsAnother T.ALIGN current.entry found)) }
+        ensures handed_back { IfErr result (λ fault. OnChanged fault (λ found back. BecomesBoth (P.becomes new) (P.becomes back))) }
+        ensures full { IfErr result (λ fault. OnFull fault (λ back. P.takes_cell × (back ≡ new))) }
+        ensures stuck { IfErr result (λ fault. OnStuck fault (λ stuck. P.takes_cell × P.becomes new stuck.name stuck.tag)) }
+    {
+        self.compare_exchange(current, new, success, failure, guard)
+    }
+
+    /// As [`Atomic::compare_exchange`], with one ordering or a pair of them.
+    pub fn compare_and_set<'g, P: Pointer<'g, T>, O: CompareAndSetOrdering + Drop, W>(
+        &self,
+        current: Shared<'_, T>,
+        new: P,
+        order: O,
+        guard: &'g Guard<'_, T, W>,
+    ) -> Result<Shared<'g, T>, ExchangeFault<'g, T, P>>
+        ensures ok { IfOk result (λ written. BecomesBelow T.ALIGN (P.becomes new) written.name written.tag) }
+        ensures changed { IfErr result (λ fault. OnChanged fault (λ found back. FindsAnother T.ALIGN current.entry found)) }
+        ensures handed_back { IfErr result (λ fault. OnChanged fault (λ found back. BecomesBoth (P.becomes new) (P.becomes back))) }
+        ensures full { IfErr result (λ fault. OnFull fault (λ back. P.takes_cell × (back ≡ new))) }
+        ensures stuck { IfErr result (λ fault. OnStuck fault (λ stuck. P.takes_cell × P.becomes new stuck.name stuck.tag)) }
+    {
+        self.compare_exchange(current, new, order.success(), order.failure(), guard)
+    }
+
+    /// As [`Atomic::compare_exchange_weak`], with one ordering or a pair of them.
+    pub fn compare_and_set_weak<'g, P: Pointer<'g, T>, O: CompareAndSetOrdering + Drop, W>(
+        &self,
+        current: Shared<'_, T>,
+        new: P,
+        order: O,
+        guard: &'g Guard<'_, T, W>,
+    ) -> Result<Shared<'g, T>, ExchangeFault<'g, T, P>>
+        ensures ok { IfOk result (λ written. BecomesBelow T.ALIGN (P.becomes new) written.name written.tag) }
+        ensures changed { IfErr result (λ fault. OnChanged fault (λ found back. FindsAnother T.ALIGN current.entry found)) }
+        ensures handed_back { IfErr result (λ fault. OnChanged fault (λ found back. BecomesBoth (P.becomes new) (P.becomes back))) }
+        ensures full { IfErr result (λ fault. OnFull fault (λ back. P.takes_cell × (back ≡ new))) }
+        ensures stuck { IfErr result (λ fault. OnStuck fault (λ stuck. P.takes_cell × P.becomes new stuck.name stuck.tag)) }
+    {
+        self.compare_exchange_weak(current, new, order.success(), order.failure(), guard)
+    }
+}
+
+impl<'g, T: Pointable, P: Debug> Debug for CompareExchangeError<'g, T, P> {
+    fn fmt<F: fmt::Write>(&self, f: &mut fmt::Formatter<F>) -> fmt::Result {
+        f.debug_struct("CompareExchangeError")
+            .field("current", &self.current)
+            .field("new", &self.new)
+            .finish()
+    }
+}

@@ -1,0 +1,161 @@
+//! Values that have one owner.
+ghost use Rattle.std.specs.Prelude.{◌≡◌, ◌%◌, ◌<◌, IfOk, IsOkUnless};
+ghost use Rattle.epoch_cells.specs.declared.fault.Fault.TheVariants.{NoMemory};
+
+use crate::atomic::borrow::{Borrow, BorrowMut};
+use epoch_cells::Fault;
+use epoch_values::{Pointable, tag_of};
+use std::alloc::Global;
+use std::fmt;
+use std::fmt::Debug;
+use std::ops::{Deref, DerefMut};
+
+/// A value in a box, and a tag.
+#[derive(Drop)]
+pub struct Owned<T> {
+    pub(crate) value: Box<T>,
+    pub(crate) tag: u8,
+}
+
+impl<T: Pointable> Owned<T> {
+    /// The box. The tag is lost.
+    pub fn into_box(self) -> Box<T>
+        ensures { result ≡ self.value }
+    {
+        let Owned { value, tag: _ } = self;
+        value
+    }
+
+    /// The tag.
+    pub fn tag(&self) -> usize
+        ensures { result ≡ self.now.tag }
+    {
+        self.tag as usize
+    }
+
+    /// The same value with this tag, which is taken modulo [`Pointable::ALIGN`].
+    pub fn with_tag(self, tag: usize) -> Owned<T>
+        ensures value { result.value ≡ self.value }
+        ensures tag { result.tag ≡ tag % T.ALIGN }
+        ensures below { result.tag < T.ALIGN }
+    {
+        let Owned { value, tag: _ } = self;
+        Owned {
+            value,
+            tag: tag_of::<T>(tag),
+        }
+    }
+}
+
+impl<T: Pointable + Drop> Owned<T> {
+    /// The value, with tag 0.
+    ///
+    /// `NoMemory`: an allocation was refused. The value is dropped then.
+    #[inline(always)]
+    pub fn new(alloc: Global, value: T) -> Result<Owned<T>, Fault>
+        ensures memory { IsOkUnless result NoMemory }
+        ensures value { IfOk result (λ owned. owned.value.value ≡ value) }
+        ensures tag { IfOk result (λ owned. owned.tag ≡ 0) }
+    {
+        let value = Box::new(alloc, value).map_err(|_| Fault::NoMemory)?;
+        Ok(Owned::from(value))
+    }
+
+    /// What [`Pointable::init`] makes, with tag 0.
+    ///
+    /// `NoMemory`: an allocation was refused.
+    pub fn init(alloc: Global, init: T::Init) -> Result<Owned<T>, Fault>
+        ensures memory { IsOkUnless result NoMemory }
+        ensures value { IfOk result (λ owned. T.init_gives init owned.value.value) }
+        ensures tag { IfOk result (λ owned. owned.tag ≡ 0) }
+    {
+        Owned::new(alloc, T::init(alloc, init)?)
+    }
+
+    /// An equal value with the same tag, where clones of `T` equal their source.
+    ///
+    /// `NoMemory`: an allocation was refused. It stands where crossbeam-epoch has `clone`, which can't refuse.
+    pub fn try_clone(&self, alloc: Global) -> Result<Owned<T>, Fault>
+    where
+        T: Clone,
+        requires { (x y : T) → T.is_clone x y → y ≡ x }
+        ensures memory { IsOkUnless result NoMemory }
+        ensures value { IfOk result (λ owned. owned.value.value ≡ self.now.value.value) }
+        ensures tag { IfOk result (λ owned. owned.tag ≡ self.now.tag) }
+    {
+        let value: &T = &self.value;
+        let value = value.clone().map_err(|_| Fault::NoMemory)?;
+        let value = Box::new(alloc, value).map_err(|_| Fault::NoMemory)?;
+        Ok(Owned {
+            value,
+            tag: self.tag,
+        })
+    }
+}
+
+impl<T: Pointable> From<Box<T>> for Owned<T> {
+    ghost from_gives = { λ b owned. (owned.value ≡ b) × (owned.tag ≡ 0) };
+
+    #[inline(always)]
+    fn from(value: Box<T>) -> Owned<T> {
+        Owned { value, tag: 0 }
+    }
+}
+
+impl<T: Pointable> Deref for Owned<T> {
+    type Target = T;
+
+    ghost deref_gives = { λ owned value. value ≡ owned.value.value };
+
+    fn deref(&self) -> &T {
+        &self.value
+    }
+}
+
+impl<T: Pointable> DerefMut for Owned<T> {
+    ghost deref_mut_gives = { λ owned value. value ≡ owned.value.value };
+
+    fn deref_mut(&mut self) -> &mut T {
+        &mut self.value
+    }
+}
+
+impl<T: Pointable> Borrow<T> for Owned<T> {
+    ghost borrow_gives = { λ owned value. value ≡ owned.value.value };
+
+    fn borrow(&self) -> &T {
+        &self.value
+    }
+}
+
+impl<T: Pointable> BorrowMut<T> for Owned<T> {
+    ghost borrow_mut_gives = { λ owned value. value ≡ owned.value.value };
+
+    fn borrow_mut(&mut self) -> &mut T {
+        &mut self.value
+    }
+}
+
+impl<T: Pointable> AsRef<T> for Owned<T> {
+    fn as_ref(&self) -> &T
+        ensures { result.now ≡ self.now.value.value }
+    {
+        &self.value
+    }
+}
+
+impl<T: Pointable> AsMut<T> for Owned<T> {
+    fn as_mut(&mut self) -> &mut T
+        ensures { result.now ≡ self.old.value.value }
+    {
+        &mut self.value
+    }
+}
+
+impl<T: Pointable> Debug for Owned<T> {
+    fn fmt<F: fmt::Write>(&self, f: &mut fmt::Formatter<F>) -> fmt::Result {
+        f.debug_struct("Owned")
+            .field("tag", &self.tag)
+            .finish_non_exhaustive()
+    }
+}

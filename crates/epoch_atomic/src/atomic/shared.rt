@@ -1,0 +1,190 @@
+//! Pointers that are read under a guard.
+ghost use Rattle.std.specs.Prelude.{◌≡◌, ◌%◌, ◌<◌, ◌↔◌, ◌==◌, IsTrue, IsNone, IfSome, Some, None};
+ghost use Rattle.std.proofs.Common.{rules};
+ghost use Rattle.std.specs.Cmp.{partial_order_from_own_ties};
+ghost use Rattle.std.specs.Cmp.Rules.{comparing};
+ghost use Rattle.std.specs.Ordering.{nat_cmp, on, as_partial_cmp};
+ghost use Rattle.epoch_atomic.specs.Pointers.{word_of};
+
+use crate::atomic::owned::Owned;
+use crate::atomic::word::number;
+use epoch_cells::{Name, Reading, Writing};
+use epoch_handles::Home;
+use epoch_values::{Pointable, tag_of};
+use std::cmp::Ordering;
+use std::fmt;
+use std::fmt::Debug;
+
+/// A pointer to a cell's value, or null, and a tag.
+///
+/// It is got under a guard, which it doesn't outlive. Pointers are compared by their numbers, which are
+/// `turn * 2^32 + slot * 2^8 + tag`; null has slot 0 and turn 0. So a null pointer with a tag is null, and is not
+/// equal to [`Shared::null`].
+#[derive_where(Clone, Copy)]
+pub struct Shared<'g, T> {
+    pub(crate) name: Option<Name>,
+    pub(crate) tag: u8,
+    pub(crate) home: Option<Home<'g, T>>,
+}
+
+impl<'g, T> Shared<'g, T> {
+    /// The null pointer with tag 0.
+    pub fn null() -> Shared<'g, T>
+        ensures name { result.name ≡ None }
+        ensures tag { result.tag ≡ 0 }
+    {
+        Shared {
+            name: None,
+            tag: 0,
+            home: None,
+        }
+    }
+
+    /// Whether it is null, whatever its tag is.
+    #[inline(always)]
+    pub fn is_null(&self) -> bool
+        ensures { IsTrue result ↔ IsNone self.now.name }
+    {
+        self.name.is_none()
+    }
+
+    /// The tag.
+    #[inline(always)]
+    pub fn tag(&self) -> usize
+        ensures { result ≡ self.now.tag }
+    {
+        self.tag as usize
+    }
+}
+
+impl<'g, T: Pointable> Shared<'g, T> {
+    /// The same pointer with this tag, which is taken modulo [`Pointable::ALIGN`].
+    #[inline(always)]
+    pub fn with_tag(&self, tag: usize) -> Shared<'g, T>
+        ensures name { result.name ≡ self.now.name }
+        ensures tag { result.tag ≡ tag % T.ALIGN }
+        ensures below { result.tag < T.ALIGN }
+        ensures home { result.home ≡ self.now.home }
+    {
+        Shared {
+            name: self.name,
+            tag: tag_of::<T>(tag),
+            home: self.home,
+        }
+    }
+}
+
+impl<'g, T: Pointable + Drop> Shared<'g, T> {
+    /// Lends the value for reading, through the collector of the guard under which the pointer was got.
+    ///
+    /// `None`: the pointer is null; or its value is gone, is written, or has `2^30 - 1` readers; or each try was
+    /// lost to others. A value that was placed into the slot at a later turn is never lent.
+    #[inline(always)]
+    pub fn deref(&self) -> Option<Reading<'g, T>>
+        ensures named { IfSome result (λ reading. Some reading.name ≡ self.now.name) }
+    {
+        let home = self.home?;
+        home.cells.read(self.name?)
+    }
+
+    /// As [`Shared::deref`].
+    pub fn as_ref(&self) -> Option<Reading<'g, T>>
+        ensures named { IfSome result (λ reading. Some reading.name ≡ self.now.name) }
+    {
+        self.deref()
+    }
+
+    /// Lends the value for writing, through the collector of the guard under which the pointer was got.
+    ///
+    /// `None`: the pointer is null; or its value is gone, or is read or written; or each try was lost to others.
+    pub fn deref_mut(&mut self) -> Option<Writing<'g, T>>
+        ensures named { IfSome result (λ writing. Some writing.name ≡ self.old.name) }
+        ensures same { self.new ≡ self.old }
+    {
+        let home = self.home?;
+        home.cells.write(self.name?)
+    }
+
+    /// Takes the value out of its cell, with the pointer's tag. The pointer names no value from then on.
+    ///
+    /// `None`: the pointer is null, whatever its tag is; or its value is gone, or is read or written; or each try
+    /// was lost to others.
+    #[inline(always)]
+    pub fn try_into_owned(self) -> Option<Owned<T>>
+        ensures tag { IfSome result (λ owned. owned.tag ≡ self.entry.tag) }
+        ensures null { IsNone self.entry.name → IsNone result }
+    {
+        let home = self.home?;
+        let value = home.cells.take(self.name?)?;
+        Some(Owned {
+            value,
+            tag: self.tag,
+        })
+    }
+
+    /// As [`Shared::try_into_owned`].
+    #[inline(always)]
+    pub fn into_owned(self) -> Option<Owned<T>>
+        ensures tag { IfSome result (λ owned. owned.tag ≡ self.entry.tag) }
+        ensures null { IsNone self.entry.name → IsNone result }
+    {
+        self.try_into_owned()
+    }
+}
+
+impl<'g, T> PartialEq for Shared<'g, T> {
+    ghost eq = { on (λ pointer. word_of pointer.name pointer.tag) ◌==◌ };
+
+    ghost laws = { Prim.search (comparing, rules) };
+
+    /// Whether the numbers are equal: names and tags both.
+    fn eq(&self, other: &Shared<'g, T>) -> bool {
+        number(self.name, self.tag) == number(other.name, other.tag)
+    }
+}
+
+impl<'g, T> Eq for Shared<'g, T> {
+    ghost laws = { Prim.search (comparing, rules) };
+}
+
+impl<'g, T> Ord for Shared<'g, T> {
+    ghost cmp = { on (λ pointer. word_of pointer.name pointer.tag) nat_cmp };
+
+    ghost total = { Prim.search (comparing, rules) };
+
+    ghost matches_partial_cmp = { Prim.search (comparing, rules) };
+
+    ghost matches_eq = { Prim.search (comparing, rules) };
+
+    /// The order of the numbers: by the turn, then by the slot, then by the tag.
+    fn cmp(&self, other: &Shared<'g, T>) -> Ordering {
+        number(self.name, self.tag).cmp(&number(other.name, other.tag))
+    }
+}
+
+impl<'g, T> PartialOrd for Shared<'g, T> {
+    ghost partial_cmp = { as_partial_cmp (on (λ pointer. word_of pointer.name pointer.tag) nat_cmp) };
+
+    ghost laws = { partial_order_from_own_ties (Prim.search (comparing, rules)) (Prim.search (comparing, rules)) };
+
+    fn partial_cmp(&self, other: &Shared<'g, T>) -> Option<Ordering> {
+        Some(self.cmp(other))
+    }
+}
+
+impl<'g, T> Default for Shared<'g, T> {
+    ghost is_default = { λ pointer. (pointer.name ≡ None) × (pointer.tag ≡ 0) };
+
+    fn default() -> Shared<'g, T> {
+        Shared::null()
+    }
+}
+
+impl<'g, T> Debug for Shared<'g, T> {
+    fn fmt<F: fmt::Write>(&self, f: &mut fmt::Formatter<F>) -> fmt::Result {
+        f.debug_struct("Shared")
+            .field("name", &self.name)
+            .field("tag", &self.tag)
+            .finish_non_exhaustive()
+    }
+}

@@ -1,0 +1,155 @@
+//! Changes of a pointer by what it was before, which try an exchange again where another one came first.
+ghost use Rattle.std.specs.Prelude.{◌≡◌, ◌≢◌, ◌<◌, Option, IfOk, IfErr};
+ghost use Rattle.epoch_cells.specs.declared.cells.name.Name.{Name};
+ghost use Rattle.epoch_atomic.specs.Pointers.{HasName, IsPointerWord, IsRead, IsUnder};
+ghost use Rattle.epoch_atomic.specs.Updates.{Ends, Wins, pointer_of};
+
+use crate::atomic::shared::Shared;
+use crate::atomic::word::pointer_word;
+use crate::atomic::{Atomic, read};
+use epoch_handles::Guard;
+use epoch_values::{Pointable, tag_of};
+use std::sync::atomic::Ordering;
+
+/// Why an update was not made. Nothing is stored then.
+#[derive_where(Clone, Copy)]
+pub enum UpdateFault<'g, T> {
+    /// The function answered `None` for this pointer.
+    Stopped(Shared<'g, T>),
+    /// Each try was lost to somebody else. This is the pointer that was read last.
+    RanOut(Shared<'g, T>),
+}
+
+impl<T: Pointable> Atomic<T> {
+    /// Loads the pointer, calls `f` on it, and exchanges it for the pointer that `f` answers; where the exchange is
+    /// lost, tries again with the pointer that stands there by then, `max_tries` times in all. Answers the pointer
+    /// before.
+    ///
+    /// `Stopped`: `f` answered `None`. `RanOut`: each exchange was lost; with `max_tries` 0, `f` isn't called. The
+    /// bound is our own: crossbeam-epoch tries until it wins.
+    pub fn fetch_update<'g, F: FnMut(Shared<'g, T>) -> Option<Shared<'g, T>> + Drop, W>(
+        &self,
+        set_order: Ordering,
+        fetch_order: Ordering,
+        max_tries: u64,
+        guard: &'g Guard<'_, T, W>,
+        f: F,
+    ) -> Result<Shared<'g, T>, UpdateFault<'g, T>>
+        requires { F.IsAlwaysCallable f }
+        ensures ok { IfOk result (λ before. (last : F) × Wins F.step f max_tries before last) }
+        ensures ended { (last : F) × IfErr result (λ fault. Ends F.step f max_tries fault last) }
+        ensures read { IfOk result (λ before. IsRead T.ALIGN before.name before.tag) }
+        ensures seen { IfErr result (λ fault. IsRead T.ALIGN (pointer_of fault).name (pointer_of fault).tag) }
+    {
+        let mut f = f;
+        self.try_updates(set_order, fetch_order, max_tries, guard, &mut f)
+    }
+
+    // The tries of an update: what became of the function shows how often it was called.
+    fn try_updates<'g, F: FnMut(Shared<'g, T>) -> Option<Shared<'g, T>>, W>(
+        &self,
+        set_order: Ordering,
+        fetch_order: Ordering,
+        max_tries: u64,
+        guard: &'g Guard<'_, T, W>,
+        f: &mut F,
+    ) -> Result<Shared<'g, T>, UpdateFault<'g, T>>
+        requires { F.IsAlwaysCallable f.old }
+        ensures ok { IfOk result (λ before. Wins F.step f.old max_tries before f.new) }
+        ensures ended { IfErr result (λ fault. Ends F.step f.old max_tries fault f.new) }
+        ensures read { IfOk result (λ before. IsRead T.ALIGN before.name before.tag) }
+        ensures seen { IfErr result (λ fault. IsRead T.ALIGN (pointer_of fault).name (pointer_of fault).tag) }
+    {
+        let mut seen = self.word.load(fetch_order);
+        for _ in 0..max_tries {
+            let before = read(seen, guard);
+            let Some(next) = f(before) else {
+                return Err(UpdateFault::Stopped(before));
+            };
+            let word = pointer_word::<T>(next.name, next.tag);
+            match self.exchange_word(seen, word, set_order, fetch_order) {
+                Ok(_) => return Ok(before),
+                Err(found) => seen = found,
+            }
+        }
+        Err(UpdateFault::RanOut(read(seen, guard)))
+    }
+
+    /// Changes the tag to that which it has in common with this one, bit by bit, and answers the pointer before.
+    pub fn fetch_and<'g, W>(
+        &self,
+        tag: usize,
+        order: Ordering,
+        guard: &'g Guard<'_, T, W>,
+    ) -> Shared<'g, T>
+        ensures read { IsRead T.ALIGN result.name result.tag }
+        ensures below { result.tag < T.ALIGN }
+        ensures home { IsUnder guard.now.collector.now.id result.home }
+    {
+        self.change_tag(order, guard, |before| before & tag)
+    }
+
+    /// Sets the bits of the tag that are set in this one, and answers the pointer before.
+    pub fn fetch_or<'g, W>(
+        &self,
+        tag: usize,
+        order: Ordering,
+        guard: &'g Guard<'_, T, W>,
+    ) -> Shared<'g, T>
+        ensures read { IsRead T.ALIGN result.name result.tag }
+        ensures below { result.tag < T.ALIGN }
+        ensures home { IsUnder guard.now.collector.now.id result.home }
+    {
+        self.change_tag(order, guard, |before| before | tag)
+    }
+
+    /// Changes the bits of the tag that are set in this one, and answers the pointer before.
+    pub fn fetch_xor<'g, W>(
+        &self,
+        tag: usize,
+        order: Ordering,
+        guard: &'g Guard<'_, T, W>,
+    ) -> Shared<'g, T>
+        ensures read { IsRead T.ALIGN result.name result.tag }
+        ensures below { result.tag < T.ALIGN }
+        ensures home { IsUnder guard.now.collector.now.id result.home }
+    {
+        self.change_tag(order, guard, |before| before ^ tag)
+    }
+
+    // Changes the tag by this function, modulo the alignment, and answers the pointer before.
+    fn change_tag<'g, F: Fn(usize) -> usize + Drop, W>(
+        &self,
+        order: Ordering,
+        guard: &'g Guard<'_, T, W>,
+        change: F,
+    ) -> Shared<'g, T>
+        requires { F.IsAlwaysCallable change }
+        ensures read { IsRead T.ALIGN result.name result.tag }
+        ensures below { result.tag < T.ALIGN }
+        ensures home { IsUnder guard.now.collector.now.id result.home }
+    {
+        let mut seen = self.word.load(order);
+        // No try is lost so often.
+        for _ in 0..u64::MAX {
+            let before = read(seen, guard);
+            let tag = tag_of::<T>(change(before.tag()));
+            let word = pointer_word::<T>(before.name, tag);
+            match self.exchange_tag(seen, word, order) {
+                Ok(_) => return before,
+                Err(found) => seen = found,
+            }
+        }
+        read(seen, guard)
+    }
+
+    // Exchanges the word for one with the same name in it.
+    fn exchange_tag(&self, expected: u64, new: u64, order: Ordering) -> Result<u64, u64>
+        requires rule { IsPointerWord new }
+        requires same_name { (name : Option Name) × HasName expected name × HasName new name }
+        ensures ok { IfOk result (λ found. found ≡ expected) }
+        ensures err { IfErr result (λ found. (found ≢ expected) × IsPointerWord found) }
+    {
+        self.exchange_word(expected, new, order, order)
+    }
+}

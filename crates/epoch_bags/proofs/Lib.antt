@@ -1,0 +1,4 @@
+pub mod BagLists
+pub mod PlaceWords
+pub mod PlacedBags
+pub mod PlaceSteps

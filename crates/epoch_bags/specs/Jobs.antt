@@ -1,0 +1,11 @@
+-- What the call of a job answers.
+use Rattle.std.specs.Prelude.{◌≡◌, ◌≢◌}
+use Rattle.epoch_bags.specs.declared.job.Job.{Job}
+use Rattle.epoch_bags.specs.declared.job.Job.TheVariants.{Remove, Call}
+use Rattle.epoch_bags.specs.declared.job.Called.{Called}
+use Rattle.epoch_bags.specs.declared.job.Called.TheVariants.{Ran}
+
+-- `Ran` is said of a caller's job, and of that alone
+abbrev pub Answers : {W : Type 0} → Job W → Called → Type 0
+Answers (Call work) called = called ≡ Ran
+Answers (Remove name) called = called ≢ Ran

@@ -1,0 +1,6 @@
+pub mod Bags
+pub mod Stores
+pub mod Queues
+pub mod PlaceLists
+pub mod Places
+pub mod Jobs

@@ -1,0 +1,14 @@
+//! Epochs, jobs, bags of jobs and stores of bags, whose steps are taken one at a time.
+#![tactic(auto)]
+
+mod bag;
+mod epoch;
+mod job;
+pub mod queue;
+
+pub use bag::{BAG_JOBS, Bag, SealedBag};
+pub use epoch::{Epoch, GREATEST_EPOCH};
+pub use job::{Called, Job, Run, Work};
+pub use queue::{
+    BagQueue, BagStore, MOST_BAGS, Places, PutCursor, PutStep, TakeCursor, TakeStep, take_some,
+};

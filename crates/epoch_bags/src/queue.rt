@@ -1,0 +1,162 @@
+//! Stores of sealed bags, in which bags are put and from which they are taken one atomic step at a time.
+//!
+//! A put and a collection each keep a cursor, which says how far they have come. A store holds its bags at
+//! *places*; a collection *claims* a place before it takes the bag that is at home there. A claimed bag counts
+//! as in the store until it is taken.
+ghost use Rattle.std.specs.Prelude.{◌≡◌, ◌≢◌, ℕ, ◌+◌, ◌*◌, ◌<◌, ◌≤◌, List, Bool, true, Some, [], IfOk, IfErr, length, min, slice_get, ◌⊎◌};
+ghost use Rattle.epoch_bags.specs.Bags.{Sealed};
+ghost use Rattle.epoch_bags.specs.Stores.{AllExpired, PutsBag, TakesBag, FindsBag, TakesAny};
+
+mod bag_queue;
+mod collection;
+pub mod places;
+mod size;
+
+use crate::{Bag, Epoch, SealedBag};
+pub use bag_queue::BagQueue;
+pub use collection::take_some;
+use epoch_cells::Fault;
+pub use places::{Places, PutCursor, TakeCursor};
+use std::alloc::Global;
+
+/// How many bags a store has room for at most.
+pub const MOST_BAGS: usize = 4096;
+
+/// What one step of a put answers.
+#[derive(Clone, Copy, Debug, PartialEq, Eq)]
+pub enum PutStep {
+    /// The put goes on.
+    Again,
+    /// The bag is in the store.
+    Done,
+    /// Each place was seen occupied since the put began, and the bag was not put.
+    Full,
+}
+
+/// What one step of a collection answers.
+#[derive(Clone, Copy, Debug, PartialEq, Eq)]
+pub enum TakeStep {
+    /// The collection goes on.
+    Again,
+    /// The collection finds no further bag.
+    Empty,
+    /// A bag was taken.
+    Got,
+}
+
+/// A store of bags. Each step is one atomic step, and costs nothing of a bag's size unless it moves that bag.
+pub trait BagStore: Drop {
+    type Job: Default + Drop;
+
+    /// How far a put has come.
+    type Putting: Copy + Drop;
+
+    /// How far a collection has come.
+    type Taking: Copy + Drop;
+
+    /// The bags in it, claimed ones too.
+    ghost queued: { Self → List (Sealed Self.Job) };
+
+    /// How many bags it has room for.
+    ghost capacity: { Self → ℕ };
+
+    /// For each place, whether it has no room now.
+    ghost occupied: { Self → List Bool };
+
+    /// The bag at this place is claimed.
+    ghost Claimed: { Self → ℕ → Type 0 };
+
+    /// How many places the put has seen occupied.
+    ghost passed: { Self.Putting → ℕ };
+
+    /// It is this collection that claims the bag at this place.
+    ghost Claims: { Self.Taking → ℕ → Type 0 };
+
+    /// How many steps a put takes at most in a store of this capacity, before one that answers `Full` at once.
+    ghost puts_left: { ℕ → Self.Putting → ℕ };
+
+    /// How many steps a collection takes at most in a store of this capacity, before one that answers `Empty` at once.
+    ghost takes_left: { ℕ → Self.Taking → ℕ };
+
+    /// For this epoch, a collection that nobody disturbs will still take so many bags.
+    ghost Ahead: { ℕ → Self → Self.Taking → ℕ → Type 0 };
+
+    /// An empty store with room for so many bags, from 1 to [`MOST_BAGS`]. `NoMemory`: an allocation was refused.
+    fn with_room(alloc: Global, bags: usize) -> Result<Self, Fault>
+        requires some { 0 < bags }
+        requires most { bags ≤ MOST_BAGS }
+        ensures empty { IfOk result (λ store. queued store ≡ []) }
+        ensures capacity { IfOk result (λ store. capacity store ≡ bags) }
+        ensures unclaimed { IfOk result (λ store. (place : ℕ) → ¬ (Claimed store place)) }
+        ensures no_memory { IfErr result (λ fault. fault ≡ Fault.NoMemory) };
+
+    /// How many bags it has room for, from 1 to [`MOST_BAGS`].
+    fn capacity(&self) -> usize
+        ensures value { result ≡ capacity self.now }
+        ensures some { 0 < result }
+        ensures most { result ≤ MOST_BAGS };
+
+    /// The cursor of a put that has taken no step.
+    fn start_put(&self) -> Self::Putting
+        ensures passed { passed result ≡ 0 }
+        ensures few { puts_left (capacity self.now) result ≤ 3 * capacity self.now + 65 };
+
+    /// One step of a put of the bag `held`, to be sealed with `seal`.
+    ///
+    /// `Done`: its jobs are in the store, in a bag sealed so, and `held` is left empty. Else nothing has moved.
+    fn put_step(
+        &mut self,
+        cursor: &mut Self::Putting,
+        seal: Epoch,
+        held: &mut Bag<Self::Job>,
+    ) -> PutStep
+        ensures bag { PutsBag seal.number (queued self.old) held.old result (queued self.new) held.new }
+        ensures capacity { capacity self.new ≡ capacity self.old }
+
+        // Full comes only where each place was seen occupied by some step of this put.
+        ensures occupied { result ≢ PutStep.Done → (place : ℕ) → passed cursor.old ≤ place → place < passed cursor.new → slice_get (occupied self.old) place ≡ Some true }
+        ensures full { result ≡ PutStep.Full → capacity self.old ≤ passed cursor.new }
+
+        // Its number falls with each step.
+        ensures fewer { 0 < puts_left (capacity self.old) cursor.old → puts_left (capacity self.old) cursor.new < puts_left (capacity self.old) cursor.old }
+        ensures last { puts_left (capacity self.old) cursor.old ≡ 0 → result ≡ PutStep.Full }
+        ensures claims { (place : ℕ) → Claimed self.new place → Claimed self.old place };
+
+    /// The cursor of a collection that has taken no step.
+    fn start_take(&self) -> Self::Taking
+        ensures few { takes_left (capacity self.now) result ≤ 3 * capacity self.now + 65 }
+        ensures claims { (place : ℕ) → ¬ (Claims result place) }
+        ensures ahead { (epoch : ℕ) → ((place : ℕ) → ¬ (Claimed self.now place)) → AllExpired epoch (queued self.now) → Ahead epoch self.now result (min 64 (length (queued self.now))) };
+
+    /// One step of a collection of bags that are expired for `expiry`. The bag `hand` has no jobs left.
+    ///
+    /// `Got`: one such bag has left the store, and `hand` is that bag. Else nothing has moved.
+    fn take_step(
+        &mut self,
+        cursor: &mut Self::Taking,
+        expiry: Epoch,
+        hand: &mut SealedBag<Self::Job>,
+    ) -> TakeStep
+        requires { hand.old.jobs ≡ [] }
+        ensures bag { TakesBag expiry.number (queued self.old) hand.old result (queued self.new) hand.new }
+        ensures capacity { capacity self.new ≡ capacity self.old }
+
+        // Its number falls with each step.
+        ensures fewer { 0 < takes_left (capacity self.old) cursor.old → takes_left (capacity self.old) cursor.new < takes_left (capacity self.old) cursor.old }
+        ensures last { takes_left (capacity self.old) cursor.old ≡ 0 → result ≡ TakeStep.Empty }
+
+        // It claims for itself alone, and only between its steps that answer Again.
+        ensures claims { (place : ℕ) → Claimed self.new place → Claims cursor.new place ⊎ (Claimed self.old place × (¬ (Claims cursor.old place))) }
+        ensures lets_go { result ≢ TakeStep.Again → (place : ℕ) → ¬ (Claims cursor.new place) }
+        ensures ahead { (bags : ℕ) → Ahead expiry.number self.old cursor.old bags → FindsBag (Ahead expiry.number self.new cursor.new) bags result };
+
+    /// Takes out one bag whatever its seal. `None` exactly where the store has none.
+    ///
+    /// For an end, with nobody else at work; it is no atomic step.
+    fn take_any(&mut self) -> Option<SealedBag<Self::Job>>
+        ensures bag { TakesAny (queued self.old) result (queued self.new) }
+        ensures capacity { capacity self.new ≡ capacity self.old }
+        ensures claims { (place : ℕ) → Claimed self.new place → Claimed self.old place };
+
+    ghost place_for_each: { (store : Self) → length (occupied store) ≡ capacity store };
+}

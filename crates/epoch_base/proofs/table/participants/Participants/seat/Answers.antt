@@ -1,7 +1,0 @@
-use Rattle.std.proofs.Common.{arith}
-use Rattle.epoch_base.specs.TableSteps.{spent}
-use Rattle.epoch_base.proofs.Registering.{new_seat_enters}
-use Rattle.epoch_base.proofs.table.participants.Participants.seat.Goals as goal
-
-pub load_new_seat-requires : goal.load_new_seat-requires
-load_new_seat-requires c = let wide = c.self.invariant.words in (omega arith, new_seat_enters _ _ spent)

@@ -1,0 +1,23 @@
+use Rattle.std.proofs.Common.{inr, ap, sym, ◌∙◌}
+use Rattle.epoch_cells.specs.PlainCells.{readable}
+use Rattle.epoch_cells.proofs.PlainCellLists.{Found, found, entered, writes_nothing, writes_one}
+use Rattle.epoch_cells.proofs.cells.plain.PlainCells.read.Goals as goal
+
+pub returns-clause-value : goal.returns-clause-value
+returns-clause-value g c =
+    let it : Found c.args.self.now c.args.name.slot c.args.name.turn c.index_mut.result.now
+    = found _ _ _ _ _ _ c.self.view_is c.in_ok-index.ensures.some c.index_mut.ensures.value in
+    c.enter.ensures.value ∙ sym (ap readable it.is_cell)
+
+pub returns-clause-none : goal.returns-clause-none
+returns-clause-none g c = λ none.
+    let it : Found c.args.self.now c.args.name.slot c.args.name.turn c.index_mut.result.now
+    = found _ _ _ _ _ _ c.self.view_is c.in_ok-index.ensures.some c.index_mut.ensures.value in
+    writes_nothing _ _ _ _ _ _ c.self.view_is c.in_ok-index.ensures.some.0 it.at (c.enter.ensures.none none)
+
+pub returns-clause-others : goal.returns-clause-others
+returns-clause-others g c =
+    let it : Found c.args.self.now c.args.name.slot c.args.name.turn c.index_mut.result.now
+    = found _ _ _ _ _ _ c.self.view_is c.in_ok-index.ensures.some c.index_mut.ensures.value in
+    writes_one _ _ _ _ _ _ _ c.self.view_is c.in_ok-index.ensures.some.0 c.args.name.some it.at (inr it.turn_is)
+    (entered c.enter.result _ _ _ it.turn_is c.enter.ensures.some c.enter.ensures.none)

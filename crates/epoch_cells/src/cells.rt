@@ -1,0 +1,255 @@
+//! Numbered cells, which threads share: values that are read while others remove them.
+//!
+//! A value stands in its cell beside its own name. Every call that is given a name claims the cell of
+//! the name's slot, compares the name that stands there with the one asked for, and gives the claim
+//! back where they differ.
+ghost use Rattle.std.specs.Prelude.{◌≡◌, ◌≤◌, ◌<◌, IfSome, IfOk, IfErr, IsOkUnless, vec_len};
+ghost use Rattle.epoch_cells.specs.declared.fault.Fault.TheVariants.{NoMemory, CellsFull};
+
+mod held;
+mod name;
+mod plain;
+mod word;
+
+use crate::cells::held::{Miss, Slot, is_free, started, try_place, try_read, try_take, try_write};
+use crate::fault::{Fault, Refused};
+pub use held::{Reading, Writing};
+pub use name::{MOST_SLOT, Name};
+pub use plain::PlainCells;
+use std::alloc::Global;
+use std::sync::atomic::AtomicUsize;
+use std::sync::atomic::Ordering::SeqCst;
+
+/// How often a call on a cell tries its exchange. Our own: crossbeam-epoch has no such bound.
+pub const CELL_TRIES: u32 = 16;
+
+// The bound is raised by this many slots at once, since each time costs as much as many looks at slots.
+const STRIDE: usize = 8;
+
+/// A collector's store of numbered cells. Its calls take no memory and never wait.
+#[derive(Drop)]
+pub struct Cells<T> {
+    slots: Vec<Slot<T>>,
+    // No slot before this place is free, but for those whose call is still under way. Behind the times
+    // it costs looks, and no more.
+    first_free: AtomicUsize,
+    pub ghost few: { vec_len slots ≤ 16777215 },
+}
+
+/// What a removal met.
+#[derive(Clone, Copy, Debug, PartialEq, Eq)]
+pub enum Removal {
+    /// The value was there, and was dropped.
+    Destroyed,
+    /// The value is there, and is read or written; or each try was lost to others.
+    HeldElsewhere,
+    /// No value of that name is there.
+    Gone,
+}
+
+impl<T: Drop> Cells<T> {
+    /// A store of `capacity` slots, from 0 to [`MOST_SLOT`], each of which begins at `start_turn`.
+    ///
+    /// `NoMemory`: an allocation was refused.
+    pub fn new(alloc: Global, capacity: u32, start_turn: u32) -> Result<Cells<T>, Fault>
+        requires { capacity ≤ MOST_SLOT }
+        ensures memory { IsOkUnless result NoMemory }
+        ensures slots { IfOk result (λ cells. vec_len cells.slots ≡ capacity) }
+    {
+        let mut slots = Vec::with_capacity(alloc, capacity as usize).map_err(|_| Fault::NoMemory)?;
+        for _ in 0..capacity {
+            slots
+                .push(started(start_turn))
+                .map_err(|_| Fault::NoMemory)?;
+        }
+        Ok(Cells {
+            slots,
+            first_free: AtomicUsize::new(0),
+        })
+    }
+
+    /// How many slots there are.
+    pub fn capacity(&self) -> usize
+        ensures value { result ≡ vec_len self.now.slots }
+        ensures within { result ≤ MOST_SLOT }
+    {
+        self.slots.len()
+    }
+
+    /// Places the value in the first free slot, and answers its name: that slot and its next turn.
+    ///
+    /// `CellsFull`: every slot was seen used or retired during the call. The value is handed back.
+    #[inline(always)]
+    pub fn place(&self, value: Box<T>) -> Result<Name, Refused<Box<T>>>
+        ensures full { IfErr result (λ refused. (refused.fault ≡ CellsFull) × (refused.value ≡ value)) }
+        ensures slot { IfOk result (λ name. name.slot ≤ vec_len self.now.slots) }
+    {
+        let count = self.slots.len();
+        let first = self.first_free.load(SeqCst).min(count);
+        let value = match self.place_between(first, count, value) {
+            Ok(name) => {
+                self.advance(first, name.slot() as usize);
+                return Ok(name);
+            }
+            Err(value) => value,
+        };
+        match self.place_between(0, first, value) {
+            Ok(name) => Ok(name),
+            Err(value) => Err(Refused {
+                fault: Fault::CellsFull,
+                value,
+            }),
+        }
+    }
+
+    // Places the value in the first free slot from place `from` up to `to`.
+    #[inline(always)]
+    fn place_between(&self, from: usize, to: usize, value: Box<T>) -> Result<Name, Box<T>>
+        requires { to ≤ vec_len self.now.slots }
+        ensures ok { IfOk result (λ name. name.slot ≤ to) }
+        ensures handed_back { IfErr result (λ back. back ≡ value) }
+    {
+        let mut kept = value;
+        for index in from..to {
+            if !is_free(&self.slots[index]) {
+                continue;
+            }
+            match place_in(&self.slots[index], index as u32 + 1, kept) {
+                Ok(name) => return Ok(name),
+                Err(back) => kept = back,
+            }
+        }
+        Err(kept)
+    }
+
+    // Says that the slots from place `from` up to `to` were seen used. One that was given free since it
+    // was looked at lowers the bound again: if not here, then by who gave it free.
+    #[inline(always)]
+    fn advance(&self, from: usize, to: usize)
+        requires { to ≤ vec_len self.now.slots }
+    {
+        if to.saturating_sub(from) < STRIDE {
+            return;
+        }
+        if self
+            .first_free
+            .compare_exchange(from, to, SeqCst, SeqCst)
+            .is_err()
+        {
+            return;
+        }
+        for index in from..to {
+            if is_free(&self.slots[index]) {
+                self.lower(index);
+                return;
+            }
+        }
+    }
+
+    // Says that the slot at this place is free.
+    #[inline(always)]
+    fn lower(&self, index: usize) {
+        if index < self.first_free.load(SeqCst) {
+            self.first_free.fetch_min(index, SeqCst);
+        }
+    }
+
+    /// Lends the value of this name for reading.
+    ///
+    /// `None`: it is gone, or is written, or has `2^30 - 1` readers, or each try was lost to others.
+    #[inline(always)]
+    pub fn read(&self, name: Name) -> Option<Reading<'_, T>>
+        ensures { IfSome result (λ reading. reading.name ≡ name) }
+    {
+        let slot = self.slots.get(name.slot() as usize - 1)?;
+        for _ in 0..CELL_TRIES {
+            match try_read(slot, name) {
+                Ok(reading) => return Some(reading),
+                Err(Miss::Lost) => {}
+                Err(Miss::Held | Miss::Gone) => return None,
+            }
+        }
+        None
+    }
+
+    /// Lends the value of this name for writing.
+    ///
+    /// `None`: it is gone, or is read or written, or each try was lost to others.
+    pub fn write(&self, name: Name) -> Option<Writing<'_, T>>
+        ensures { IfSome result (λ writing. writing.name ≡ name) }
+    {
+        self.hold(name).ok()
+    }
+
+    /// Takes the value of this name out of its cell, whose slot is free for its next turn from then on.
+    ///
+    /// `None`: it is gone, or is read or written, or each try was lost to others.
+    #[inline(always)]
+    pub fn take(&self, name: Name) -> Option<Box<T>> {
+        self.take_out(name).ok()
+    }
+
+    /// Drops the value of this name, unless it is held elsewhere or gone.
+    #[inline(always)]
+    pub fn remove(&self, name: Name) -> Removal {
+        match self.take_out(name) {
+            Ok(_) => Removal::Destroyed,
+            Err(Miss::Held | Miss::Lost) => Removal::HeldElsewhere,
+            Err(Miss::Gone) => Removal::Gone,
+        }
+    }
+
+    #[inline(always)]
+    fn take_out(&self, name: Name) -> Result<Box<T>, Miss> {
+        let index = name.slot() as usize - 1;
+        let Some(slot) = self.slots.get(index) else {
+            return Err(Miss::Gone);
+        };
+        for _ in 0..CELL_TRIES {
+            match try_take(slot, name) {
+                Ok(value) => {
+                    self.lower(index);
+                    return Ok(value);
+                }
+                Err(Miss::Lost) => {}
+                Err(miss) => return Err(miss),
+            }
+        }
+        Err(Miss::Lost)
+    }
+
+    #[inline(always)]
+    fn hold(&self, name: Name) -> Result<Writing<'_, T>, Miss>
+        ensures { IfOk result (λ writing. writing.name ≡ name) }
+    {
+        let Some(slot) = self.slots.get(name.slot() as usize - 1) else {
+            return Err(Miss::Gone);
+        };
+        for _ in 0..CELL_TRIES {
+            match try_write(slot, name) {
+                Err(Miss::Lost) => {}
+                answer => return answer,
+            }
+        }
+        Err(Miss::Lost)
+    }
+}
+
+// Tries to place the value in this slot, until it is seen used or all tries are lost.
+#[inline(always)]
+fn place_in<T: Drop>(slot: &Slot<T>, number: u32, value: Box<T>) -> Result<Name, Box<T>>
+    requires some { 0 < number }
+    requires within { number ≤ 16777215 }
+    ensures ok { IfOk result (λ name. name.slot ≡ number) }
+    ensures handed_back { IfErr result (λ back. back ≡ value) }
+{
+    let mut kept = value;
+    for _ in 0..CELL_TRIES {
+        match try_place(slot, number, kept) {
+            Ok(name) => return Ok(name),
+            Err((Miss::Lost, back)) => kept = back,
+            Err((_, back)) => return Err(back),
+        }
+    }
+    Err(kept)
+}

@@ -1,0 +1,317 @@
+//! What stands in a cell, and the claims to read and to write it.
+ghost use Rattle.std.specs.Prelude.{◌≡◌, ◌≢◌, ◌+◌, ◌*◌, ◌/◌, ◌%◌, ◌<◌, ◌≤◌, IsSomeAnd, IfSome, IfOk, IfErr};
+ghost use Rattle.counted_slot.specs.Counting.{readers, IsTurn, Gains};
+
+use crate::cells::name::Name;
+use crate::cells::word::{readers_of, state_of, turn_of, vacant, word_of};
+use counted_slot::{Claim, Counted, FREE, Fits, MARKED, MOST_READERS, ONE_READER, PRESENT, TAKEN};
+
+/// What stands in a cell: the value's box beside its own name.
+#[derive(Drop)]
+pub struct Held<T> {
+    pub name: Name,
+    pub value: Box<T>,
+}
+
+impl<T> Fits for Held<T> {
+    type Tag = ();
+
+    ghost fits = { λ _ _. Unit {0} };
+}
+
+/// A slot: `None` stands where it has no value.
+pub type Slot<T> = Counted<Option<Held<T>>>;
+
+/// Why a try to claim a cell gave nothing.
+#[derive(Clone, Copy, PartialEq, Eq)]
+pub enum Miss {
+    /// The exchange was lost to somebody else.
+    Lost,
+    /// The value is there, and in other hands.
+    Held,
+    /// No value of that name is there.
+    Gone,
+}
+
+/// A claim to read a cell. It lends the value, which stands beside its own name: the one asked for.
+///
+/// While it is kept, nobody writes, takes or removes the value. It must be spent by `leave`.
+pub struct Reading<'a, T> {
+    claim: Claim<'a, Option<Held<T>>>,
+    name: Name,
+    pub ghost reads: { claim.right ≡ 1 },
+    pub ghost named: { ∥ IsSomeAnd claim.value (λ cell. IsSomeAnd cell (λ held. held.name ≡ name)) ∥₁ },
+}
+
+impl<'a, T: Drop> Reading<'a, T> {
+    /// The name that the value was asked for by.
+    pub fn name(&self) -> Name
+        ensures { result ≡ self.now.name }
+    {
+        self.name
+    }
+
+    /// The value.
+    pub fn get(&self) -> &T
+        ensures named { ∥ IsSomeAnd self.now.claim.value (λ cell. IsSomeAnd cell (λ held. held.name ≡ self.now.name)) ∥₁ }
+        ensures value { IfSome self.now.claim.value (λ cell. IfSome cell (λ held. result.now ≡ held.value.value)) }
+    {
+        match self.claim.get() {
+            Some(held) => &held.value,
+            None => unreachable!(),
+        }
+    }
+
+    /// Ends the reading.
+    pub fn leave(self) {
+        let Self { claim, name: _ } = self;
+        claim.leave();
+    }
+}
+
+/// A claim to write a cell. It lends the value, which stood beside its own name: the one asked for.
+///
+/// The value is out of its cell, which nobody else may enter meanwhile. It must be spent by `leave`.
+pub struct Writing<'a, T> {
+    claim: Claim<'a, Option<Held<T>>>,
+    value: Box<T>,
+    // The name that stood beside the value.
+    stored: Name,
+    name: Name,
+    pub ghost writes: { claim.right ≡ 2 },
+    pub ghost named: { stored ≡ name },
+}
+
+impl<'a, T: Drop> Writing<'a, T> {
+    /// The name that the value was asked for by.
+    pub fn name(&self) -> Name
+        ensures { result ≡ self.now.name }
+    {
+        self.name
+    }
+
+    /// The value.
+    pub fn get(&self) -> &T
+        ensures named { self.now.stored ≡ self.now.name }
+        ensures value { result.now ≡ self.now.value.value }
+    {
+        &self.value
+    }
+
+    /// The value, to be changed.
+    pub fn get_mut(&mut self) -> &mut T
+        ensures named { self.old.stored ≡ self.old.name }
+        ensures value { result.now ≡ self.old.value.value }
+    {
+        &mut self.value
+    }
+
+    /// Puts the value back beside its own name, and ends the writing.
+    pub fn leave(self) {
+        let Self {
+            claim,
+            value,
+            stored,
+            name: _,
+        } = self;
+        let held = Held {
+            name: stored,
+            value,
+        };
+        let _ = claim.put(Some(held), word_of(stored.turn(), PRESENT));
+    }
+
+    /// Ends the writing with the value out, which leaves the slot free for its next turn.
+    pub fn vacate(self) -> Box<T>
+        ensures { result ≡ self.entry.value }
+    {
+        let Self {
+            claim,
+            value,
+            stored,
+            name: _,
+        } = self;
+        let _ = claim.put(None, vacant(stored.turn()));
+        value
+    }
+}
+
+/// A slot that begins at this turn.
+pub fn started<T: Drop>(start_turn: u32) -> Slot<T> {
+    let slot = Counted::new(None, &());
+    let (found, claim) = slot.turn(FREE, TAKEN);
+    if found == FREE {
+        let _ = claim.put(None, word_of(start_turn, FREE));
+    } else {
+        claim.done();
+    }
+    slot
+}
+
+/// Whether a value may be placed there.
+pub fn is_free<T>(slot: &Slot<T>) -> bool {
+    state_of(slot.load()) == FREE
+}
+
+/// One try to place the value in the slot of this number, at the slot's turn.
+#[inline(always)]
+pub fn try_place<T: Drop>(
+    slot: &Slot<T>,
+    number: u32,
+    value: Box<T>,
+) -> Result<Name, (Miss, Box<T>)>
+    requires some { 0 < number }
+    requires within { number ≤ 16777215 }
+    ensures ok { IfOk result (λ name. name.slot ≡ number) }
+    ensures handed_back { IfErr result (λ back. back.1 ≡ value) }
+{
+    let seen = slot.load();
+    if state_of(seen) != FREE {
+        return Err((Miss::Held, value));
+    }
+    let turn = turn_of(seen);
+    let (found, claim) = slot.turn(seen, word_of(turn, TAKEN));
+    if found != seen {
+        claim.done();
+        return Err((Miss::Lost, value));
+    }
+    let name = Name::at(number, turn);
+    let _ = claim.put(Some(Held { name, value }), word_of(turn, PRESENT));
+    Ok(name)
+}
+
+/// One try to claim the value of this name for reading.
+#[inline(always)]
+pub fn try_read<'a, T: Drop>(slot: &'a Slot<T>, name: Name) -> Result<Reading<'a, T>, Miss>
+    ensures { IfOk result (λ reading. reading.name ≡ name) }
+{
+    let seen = slot.load();
+    if turn_of(seen) != name.turn() || state_of(seen) == FREE {
+        return Err(Miss::Gone);
+    }
+    if state_of(seen) != PRESENT || readers_of(seen) == MOST_READERS {
+        return Err(Miss::Held);
+    }
+    let (found, claim) = slot.turn(seen, seen + ONE_READER);
+    if found != seen {
+        claim.done();
+        return Err(Miss::Lost);
+    }
+    let is_it = match claim.get() {
+        Some(held) => held.name == name,
+        None => false,
+    };
+    if is_it {
+        Ok(Reading { claim, name })
+    } else {
+        claim.leave();
+        Err(Miss::Gone)
+    }
+}
+
+/// One try to take the value of this name out, which leaves its slot free for the next turn.
+#[inline(always)]
+pub fn try_take<T: Drop>(slot: &Slot<T>, name: Name) -> Result<Box<T>, Miss> {
+    let seen = slot.load();
+    if turn_of(seen) != name.turn() || state_of(seen) == FREE {
+        return Err(Miss::Gone);
+    }
+    if seen != word_of(name.turn(), PRESENT) {
+        return Err(Miss::Held);
+    }
+    let (found, claim) = slot.turn(seen, word_of(name.turn(), TAKEN));
+    if found != seen {
+        claim.done();
+        return Err(Miss::Lost);
+    }
+    match claim.put(None, vacant(name.turn())) {
+        Some(
+            Held {
+                name: stored,
+                value,
+            },
+        ) => {
+            if stored == name {
+                return Ok(value);
+            }
+            put_back(slot, stored, value);
+        }
+        None => {}
+    }
+    Err(Miss::Gone)
+}
+
+/// Puts a value back that was taken out by another name. This isn't met.
+#[cold]
+#[inline(never)]
+fn put_back<T: Drop>(slot: &Slot<T>, stored: Name, value: Box<T>) {
+    let seen = slot.load();
+    if state_of(seen) != FREE {
+        return;
+    }
+    let (found, claim) = slot.turn(seen, word_of(turn_of(seen), TAKEN));
+    if found != seen {
+        claim.done();
+        return;
+    }
+    let _ = claim.put(
+        Some(Held {
+            name: stored,
+            value,
+        }),
+        word_of(stored.turn(), PRESENT),
+    );
+}
+
+/// One try to claim the value of this name for writing.
+#[inline(always)]
+pub fn try_write<'a, T: Drop>(slot: &'a Slot<T>, name: Name) -> Result<Writing<'a, T>, Miss>
+    ensures { IfOk result (λ writing. writing.name ≡ name) }
+{
+    let seen = slot.load();
+    if turn_of(seen) != name.turn() || state_of(seen) == FREE {
+        return Err(Miss::Gone);
+    }
+    if seen != word_of(name.turn(), PRESENT) {
+        return Err(Miss::Held);
+    }
+    let (found, claim) = slot.turn(seen, word_of(name.turn(), TAKEN));
+    if found != seen {
+        claim.done();
+        return Err(Miss::Lost);
+    }
+    let marked = word_of(name.turn(), MARKED);
+    let held = claim.put(None, marked);
+    let (found, claim) = slot.turn(marked, word_of(name.turn(), TAKEN));
+    if found != marked {
+        // Only who marked a slot acts on it, so this isn't met.
+        claim.done();
+        return Err(Miss::Held);
+    }
+    match held {
+        Some(
+            Held {
+                name: stored,
+                value,
+            },
+        ) => {
+            if stored == name {
+                return Ok(Writing {
+                    claim,
+                    value,
+                    stored,
+                    name,
+                });
+            }
+            let held = Held {
+                name: stored,
+                value,
+            };
+            let _ = claim.put(Some(held), seen);
+        }
+        None => {
+            let _ = claim.put(None, seen);
+        }
+    }
+    Err(Miss::Gone)
+}

@@ -1,0 +1,8 @@
+//! Numbered cells for values that are read while others remove them, and the faults that calls answer.
+#![tactic(auto)]
+
+mod cells;
+mod fault;
+
+pub use cells::{CELL_TRIES, Cells, MOST_SLOT, Name, PlainCells, Reading, Removal, Writing};
+pub use fault::{Fault, Refused};

@@ -1,0 +1,341 @@
+-- A collection, bag by bag and job by job: what its loops perform is what the machine asks.
+use Rattle.std.proofs.Common.{◌≡◌, ◌≢◌, ◌∙◌, ℕ, ◌+◌, ◌<◌, ◌==◌, if◌then◌else◌, Bool, true, false, List, [], ◌∷◌, ◌++◌, refl, sym, ap, subst, Option, Some}
+use Rattle.epoch_bags.specs.Bags.{Sealed}
+use Rattle.epoch_tables.specs.Table.{IsOf}
+use Rattle.epoch_tables.specs.SharedPlaces.{PlaceMe, IsKept, IsOf as IsAt}
+use Rattle.epoch_tables.specs.SharedSteps.{RestsAt, TakesAt, TakeMoves}
+use Rattle.epoch_bags.specs.declared.queue.places.TakeCursor.{TakeCursor}
+use Rattle.epoch_bags.specs.declared.queue.places.TakeCursor.TheVariants.{Look as TakeLook}
+use Rattle.epoch_bags.specs.declared.queue.places.PutCursor.TheVariants.{Look as PutLook}
+use Rattle.epoch_bags.specs.declared.queue.TakeStep.{TakeStep}
+use Rattle.epoch_bags.specs.declared.queue.TakeStep.TheVariants.{Again as TakeAgain, Empty as TakeEnds, Got}
+use Rattle.epoch_bags.specs.declared.job.Job.{Job}
+use Rattle.epoch_machine.specs.declared.machine.Action.{Action}
+use Rattle.epoch_machine.specs.declared.machine.Action.TheVariants.{Pin, Unpin, Repin, Defer, Flush, Release}
+use Rattle.epoch_machine.specs.declared.machine.Ask.{Ask}
+use Rattle.epoch_machine.specs.declared.machine.Ask.TheVariants.{CallJob, TakeBag}
+use Rattle.epoch_machine.specs.declared.machine.Stage.{Stage}
+use Rattle.epoch_machine.specs.declared.machine.Stage.TheVariants.{Take}
+use Rattle.epoch_handles.specs.declared.local.Local.{Local}
+use Rattle.epoch_machine.specs.Machine.{Machine, asks, ask_at, gives, rest, after_job, after_collect, took_heard, is_taking, with_stage}
+use Rattle.epoch_machine.specs.Asks.{Log, Exchange, JobGiven, TakeStepped}
+use Rattle.epoch_handles.specs.Drives.{Sight, Cursors, Performed, at_start}
+use Rattle.epoch_handles.specs.Handles.{sight_of, IsSame, Scans, CallsHand, TakesBags, Collects}
+use Rattle.epoch_handles.proofs.Driving.{performed_on}
+use Rattle.epoch_machine.proofs.Stages.{nothing_given}
+
+-- JOBS
+
+module _ {J : Type 0} where
+  -- the machine m with a bag taken for x behind so many others, of which these jobs are left
+  abbrev pub with_hand : Machine J → ℕ → ℕ → List J → Machine J
+  with_hand m x k jobs = record m { stage = after_job m x k jobs; hand = jobs }
+
+  call_performed : (places : ℕ) (m : Machine J) (v : Sight J) (c : Cursors) (x k : ℕ) (job : J) (jobs : List J)
+      → Performed places (with_hand m x k (job ∷ jobs)) v c (record { ask = CallJob; reply = JobGiven job } ∷ []) (with_hand m x k jobs) v c
+  call_performed places m v c x k job jobs = (refl, refl, (v, c, (refl, refl), (refl, refl, refl)))
+
+-- where no call is asked for, none is left
+nothing_left : {J : Type 0} (m : Machine J) (x k : ℕ) (jobs : List J) → ask_at (after_job m x k jobs) ≢ Some CallJob → jobs ≡ []
+nothing_left m x k [] none = refl
+nothing_left m x k (job ∷ jobs) none = absurd (none refl)
+
+-- of the jobs in hand these are left, and the others were called
+pub record HasCalled {T W : Type 0} (h : Local T W) (x k : ℕ) (n : Local T W) : Type 0 where
+  pub machine : n.machine ≡ with_hand h.machine x k n.machine.hand
+  pub performed : (c : Cursors) → (log : Log (Job W)) × Performed h.collector.now.places.places h.machine (sight_of h) c log n.machine (sight_of h) c
+
+module _ {T W : Type 0} where
+  pub one_more_called : (h n : Local T W) (x k : ℕ) (job : Job W) (m : Machine (Job W))
+      → HasCalled h x k n
+      → n.machine.hand ≡ job ∷ rest n.machine.hand
+      → m ≡ gives n.machine n.machine.stage (rest n.machine.hand)
+      → HasCalled h x k (record h { machine = m })
+  one_more_called h n x k job m called first is =
+      let jobs = rest n.machine.hand in
+      let was : n.machine ≡ with_hand h.machine x k (job ∷ jobs) = called.machine ∙ ap (λ (js : List (Job W)). with_hand h.machine x k js) first in
+      let goes : m ≡ with_hand h.machine x k jobs = is ∙ ap (λ (z : Machine (Job W)). gives z z.stage jobs) was in
+      let left : m.hand ≡ jobs = ap (λ (z : Machine (Job W)). z.hand) goes in
+      record {
+        machine = goes ∙ ap (λ (js : List (Job W)). with_hand h.machine x k js) (sym left);
+        performed = λ c. (
+          (called.performed c).0 ++ record { ask = CallJob; reply = JobGiven job } ∷ [],
+          performed_on h.collector.now.places.places h.machine n.machine m (sight_of h) (sight_of h) (sight_of h) c c c (called.performed c).0 _ (called.performed c).1
+              (subst (λ (z : Machine (Job W)). Performed h.collector.now.places.places n.machine (sight_of h) c (record { ask = CallJob; reply = JobGiven job } ∷ []) z (sight_of h) c) (sym goes)
+              (subst (λ (z : Machine (Job W)). Performed h.collector.now.places.places z (sight_of h) c (record { ask = CallJob; reply = JobGiven job } ∷ []) (with_hand h.machine x k jobs) (sight_of h) c) (sym was)
+              (call_performed h.collector.now.places.places h.machine (sight_of h) c x k job jobs))),
+        );
+      }
+
+  pub all_called : (h n : Local T W) (x k : ℕ) (m : Machine (Job W))
+      → HasCalled h x k n
+      → asks n.machine ≢ Some CallJob
+      → m ≡ gives n.machine n.machine.stage (rest n.machine.hand)
+      → CallsHand h x k (record h { machine = m })
+  all_called h n x k m called none is =
+      let empty : n.machine.hand ≡ [] = nothing_left h.machine x k n.machine.hand (λ asked. none (ap (λ (z : Machine (Job W)). ask_at z.stage) called.machine ∙ asked)) in
+      let was : n.machine ≡ with_hand h.machine x k [] = called.machine ∙ ap (λ (js : List (Job W)). with_hand h.machine x k js) empty in
+      let same : m ≡ n.machine = is ∙ sym (nothing_given n.machine n.machine refl (λ x k at. none (ap ask_at at))) in
+      record {
+        machine = same ∙ was;
+        performed = λ c. (
+          (called.performed c).0,
+          subst (λ (z : Machine (Job W)). Performed h.collector.now.places.places h.machine (sight_of h) c (called.performed c).0 z (sight_of h) c) (sym same) (called.performed c).1,
+        );
+      }
+
+-- BAGS
+
+-- a collection for x has come to this cursor, and looks for a bag
+pub record HasTaken {T W : Type 0} (h : Local T W) (x : ℕ) (cursor : TakeCursor) (n : Local T W) : Type 0 where
+  pub taken : ℕ
+  pub machine : n.machine ≡ record h.machine { stage = Take x taken; hand = n.machine.hand }
+  pub claimer : IsAt h.collector.now.places n.claimer
+  pub at : TakesAt h.collector.now.places.places x cursor n.claimer.me
+  pub seat : n.seat ≡ h.seat
+  pub same : IsSame h n
+  pub performed : (log : Log (Job W)) × Performed h.collector.now.places.places h.machine (sight_of h) at_start log n.machine (sight_of n)
+      (record { put = PutLook 0; take = cursor })
+
+-- the epoch of the collection that is asked for
+expiry_of : Option Ask → ℕ
+expiry_of (Some (TakeBag x)) = x
+expiry_of _ = 0
+
+pub one_bag_asked : (x y : ℕ) → Some (TakeBag x) ≡ Some (TakeBag y) → x ≡ y
+unfolding expiry_of
+one_bag_asked x y same = ap expiry_of same
+
+-- a collection stops where its stage is another than that of a look for bags
+stops : {J : Type 0} (a : Action) (held : List J) → is_taking (after_collect a held) ≡ false
+stops Release [] = refl
+stops Release (job ∷ jobs) = refl
+stops Pin held = refl
+stops Unpin held = refl
+stops Repin held = refl
+stops Defer held = refl
+stops Flush held = refl
+
+goes_on_at : {J : Type 0} (a : Action) (held : List J) (last : Bool) (x k : ℕ) → is_taking (if last then after_collect a held else Take x k) ≡ true
+    → (if last then after_collect a held else Take x k) ≡ Take x k
+goes_on_at a held true x k takes = absurd (cc (stops a held, takes))
+goes_on_at a held false x k takes = refl
+
+stops_at : {J : Type 0} (a : Action) (held : List J) (last : Bool) (x k : ℕ) → is_taking (if last then after_collect a held else Take x k) ≡ false
+    → (if last then after_collect a held else Take x k) ≡ after_collect a held
+stops_at a held true x k stopped = refl
+stops_at a held false x k stopped = absurd (cc (stopped))
+
+-- the stage behind a bag got is that of its jobs
+pub got_stage : {J : Type 0} (m n : Machine J) (x k : ℕ) → n ≡ with_hand m x k n.hand → n.stage ≡ after_job n x k n.hand
+got_stage m n x k is = ap (λ (z : Machine _). z.stage) is ∙ sym (ap (λ (z : Machine _). after_job z x k n.hand) is)
+
+module _ {T W : Type 0} where
+  -- what one step of the collection performs
+  take_performed : (h n : Local T W) (x : ℕ) (cursor next : TakeCursor) (step : TakeStep) (m : Machine (Job W)) (me : PlaceMe (Job W)) (bag : Sealed (Job W))
+      → (taken : HasTaken h x cursor n)
+      → m ≡ took_heard n.machine n.machine.stage step m.hand
+      → (step ≡ Got → m.hand ≡ bag.jobs)
+      → TakeMoves h.collector.now.places.places x cursor n.claimer.me step next me bag
+      → (log : Log (Job W)) × Performed h.collector.now.places.places h.machine (sight_of h) at_start log m (record { words = n.seat.me.0; places = me })
+      (record { put = PutLook 0; take = next })
+  take_performed h n x cursor next step m me bag taken after jobs moves =
+      let exchange : Exchange (Job W) = record { ask = TakeBag x; reply = TakeStepped step m.hand } in (
+        taken.performed.0 ++ exchange ∷ [],
+        performed_on h.collector.now.places.places h.machine n.machine m (sight_of h) (sight_of n) (record { words = n.seat.me.0; places = me }) at_start
+            (record { put = PutLook 0; take = cursor }) (record { put = PutLook 0; take = next }) taken.performed.0 (exchange ∷ []) taken.performed.1 (
+              ap (λ (z : Machine (Job W)). ask_at z.stage) taken.machine,
+              tt,
+              (record { words = n.seat.me.0; places = me }, record { put = PutLook 0; take = next }, (refl, refl, (bag, jobs, moves)), (after, refl, refl)),
+            ),
+      )
+
+  pub take_begins : (h : Local T W) (x : ℕ) (cursor : TakeCursor)
+      → h.machine.stage ≡ Take x 0
+      → IsAt h.collector.now.places h.claimer
+      → cursor ≡ TakeLook 0
+      → TakesAt h.collector.now.places.places x cursor h.claimer.me
+      → HasTaken h x cursor h
+  take_begins h x cursor begins is_at first at = record {
+    taken = 0;
+    machine = ap (λ (s : Stage). record h.machine { stage = s }) begins;
+    claimer = is_at;
+    at = at;
+    seat = refl;
+    same = record { position = refl; collector = refl };
+    performed = ([], (refl, refl, ap (λ (z : TakeCursor). record { put = PutLook 0; take = z }) first));
+  }
+
+  -- it goes on
+  pub take_again : (h n : Local T W) (x : ℕ) (cursor next : TakeCursor) (m : Machine (Job W)) (claimer : _) (bag : Sealed (Job W))
+      → (taken : HasTaken h x cursor n)
+      → m ≡ took_heard n.machine n.machine.stage TakeAgain m.hand
+      → IsAt h.collector.now.places claimer
+      → TakesAt h.collector.now.places.places x next claimer.me
+      → TakeMoves h.collector.now.places.places x cursor n.claimer.me TakeAgain next claimer.me bag
+      → HasTaken h x next (record n { claimer = claimer; machine = m })
+  take_again h n x cursor next m claimer bag taken after is_at at moves =
+      let same : m ≡ n.machine = after ∙ ap (λ (s : Stage). took_heard n.machine s TakeAgain m.hand) (ap (λ (z : Machine (Job W)). z.stage) taken.machine) in
+      record {
+        taken = taken.taken;
+        machine = same ∙ taken.machine ∙ ap (λ (z : Machine (Job W)). record h.machine { stage = Take x taken.taken; hand = z.hand }) (sym same);
+        claimer = is_at;
+        at = at;
+        seat = taken.seat;
+        same = record { position = taken.same.position; collector = taken.same.collector };
+        performed = take_performed h n x cursor next TakeAgain m claimer.me bag taken after (λ got. absurd (cc got)) moves;
+      }
+
+  -- no further bag is found
+  pub take_ends : (h n : Local T W) (x : ℕ) (cursor next : TakeCursor) (m : Machine (Job W)) (claimer : _) (bag : Sealed (Job W))
+      → (taken : HasTaken h x cursor n)
+      → m ≡ took_heard n.machine n.machine.stage TakeEnds m.hand
+      → IsAt h.collector.now.places claimer
+      → RestsAt claimer.me
+      → TakeMoves h.collector.now.places.places x cursor n.claimer.me TakeEnds next claimer.me bag
+      → TakesBags h (record n { claimer = claimer; machine = m })
+  take_ends h n x cursor next m claimer bag taken after is_at rests moves =
+      let ends : m ≡ with_stage n.machine (after_collect n.machine.action n.machine.held) =
+      after ∙ ap (λ (s : Stage). took_heard n.machine s TakeEnds m.hand) (ap (λ (z : Machine (Job W)). z.stage) taken.machine) in
+      let done = take_performed h n x cursor next TakeEnds m claimer.me bag taken after (λ got. absurd (cc got)) moves in
+      record {
+        claimer = is_at;
+        rests = rests;
+        seat = taken.seat;
+        same = record { position = taken.same.position; collector = taken.same.collector };
+        machine = ends ∙ ap (λ (z : Machine (Job W)). with_stage z (after_collect z.action z.held)) taken.machine
+            ∙ ap (λ (js : List (Job W)). record h.machine { stage = after_collect h.machine.action h.machine.held; hand = js }) (sym (ap (λ (z : Machine (Job W)). z.hand) ends));
+        performed = (record { put = PutLook 0; take = next }, done.0, done.1);
+      }
+
+  -- a bag is got, which is in hand then
+  pub take_got : (h n : Local T W) (x k : ℕ) (m : Machine (Job W))
+      → n.machine ≡ record h.machine { stage = Take x k; hand = n.machine.hand }
+      → m ≡ took_heard n.machine n.machine.stage Got m.hand
+      → m ≡ with_hand h.machine x k m.hand
+  take_got h n x k m was after =
+      after ∙ ap (λ (z : Machine (Job W)). took_heard z z.stage Got m.hand) was
+
+  -- behind a bag got, whose jobs were called
+  pub record HasCalledBag (h : Local T W) (x k : ℕ) (next : TakeCursor) (w : Local T W) : Type 0 where
+    pub machine : w.machine ≡ with_hand h.machine x k []
+    pub claimer : IsAt h.collector.now.places w.claimer
+    pub at : TakesAt h.collector.now.places.places x next w.claimer.me
+    pub rests : RestsAt w.claimer.me
+    pub seat : w.seat ≡ h.seat
+    pub same : IsSame h w
+    pub performed : (log : Log (Job W)) × Performed h.collector.now.places.places h.machine (sight_of h) at_start log w.machine (sight_of w)
+        (record { put = PutLook 0; take = next })
+
+  pub bag_called : (h n w : Local T W) (x : ℕ) (cursor next : TakeCursor) (m : Machine (Job W)) (claimer : _) (bag : Sealed (Job W))
+      → (taken : HasTaken h x cursor n)
+      → m ≡ took_heard n.machine n.machine.stage Got m.hand
+      → m.hand ≡ bag.jobs
+      → IsAt h.collector.now.places claimer
+      → TakesAt h.collector.now.places.places x next claimer.me
+      → RestsAt claimer.me
+      → TakeMoves h.collector.now.places.places x cursor n.claimer.me Got next claimer.me bag
+      → w ≡ record n { claimer = claimer; machine = w.machine }
+      → CallsHand (record n { claimer = claimer; machine = m }) x taken.taken w
+      → HasCalledBag h x taken.taken next w
+  bag_called h n w x cursor next m claimer bag taken after jobs is_at at rests moves only calls =
+      let got = take_got h n x taken.taken m taken.machine after in
+      let done = take_performed h n x cursor next Got m claimer.me bag taken after (λ _. jobs) moves in
+      let called = subst (λ z. (log : Log (Job W)) × Performed z.now.places.places m (record { words = n.seat.me.0; places = claimer.me }) (record { put = PutLook 0; take = next }) log
+      w.machine (record { words = n.seat.me.0; places = claimer.me }) (record { put = PutLook 0; take = next })) taken.same.collector (calls.performed (record { put = PutLook 0; take = next })) in
+      record {
+        machine = calls.machine ∙ ap (λ (z : Machine (Job W)). with_hand z x taken.taken []) got;
+        claimer = subst (λ z. IsAt h.collector.now.places z.claimer) (sym only) is_at;
+        at = subst (λ z. TakesAt h.collector.now.places.places x next z.claimer.me) (sym only) at;
+        rests = subst (λ z. RestsAt z.claimer.me) (sym only) rests;
+        seat = ap (λ (z : Local T W). z.seat) only ∙ taken.seat;
+        same = record { position = ap (λ (z : Local T W). z.position) only ∙ taken.same.position; collector = ap (λ (z : Local T W). z.collector) only ∙ taken.same.collector };
+        performed = (
+          done.0 ++ called.0,
+          subst (λ (z : Local T W). Performed h.collector.now.places.places h.machine (sight_of h) at_start (done.0 ++ called.0) w.machine (sight_of z) (record { put = PutLook 0; take = next })) (sym only)
+              (performed_on h.collector.now.places.places h.machine m w.machine (sight_of h) (record { words = n.seat.me.0; places = claimer.me }) (record { words = n.seat.me.0; places = claimer.me })
+              at_start (record { put = PutLook 0; take = next }) (record { put = PutLook 0; take = next }) done.0 called.0 done.1 called.1),
+        );
+      }
+
+  -- the same of the step as its call tells of it
+  pub hand_called : (h n w : Local T W) (x : ℕ) (cursor next : TakeCursor) (step : TakeStep) (m : Machine (Job W)) (claimer : _)
+      → (taken : HasTaken h x cursor n)
+      → step ≡ Got
+      → m ≡ took_heard n.machine n.machine.stage step m.hand
+      → IsKept n.claimer claimer
+      → ((y : ℕ) → asks n.machine ≡ Some (TakeBag y) → TakesAt n.collector.now.places.places y next claimer.me)
+      → (step ≢ TakeAgain → RestsAt claimer.me)
+      → ((y : ℕ) → asks n.machine ≡ Some (TakeBag y) → (bag : Sealed (Job W)) × (step ≡ Got → m.hand ≡ bag.jobs)
+      × TakeMoves n.collector.now.places.places y cursor n.claimer.me step next claimer.me bag)
+      → w ≡ record n { claimer = claimer; machine = w.machine }
+      → ((y k : ℕ) → m.stage ≡ after_job m y k m.hand → CallsHand (record n { claimer = claimer; machine = m }) y k w)
+      → HasCalledBag h x taken.taken next w
+  hand_called h n w x cursor next step m claimer taken got told kept at rests moves only calls =
+      let asked = ap (λ (z : Machine (Job W)). ask_at z.stage) taken.machine in
+      let moved = moves x asked in
+      let after = subst (λ (s : TakeStep). m ≡ took_heard n.machine n.machine.stage s m.hand) got told in
+      bag_called h n w x cursor next m claimer moved.0 taken after (moved.1 got) (kept.0 ∙ taken.claimer)
+      (subst (λ z. TakesAt z.now.places.places x next claimer.me) taken.same.collector (at x asked))
+      (rests (λ again. absurd (cc (got, again))))
+      (subst (λ (s : TakeStep). TakeMoves h.collector.now.places.places x cursor n.claimer.me s next claimer.me moved.0) got
+      (subst (λ z. TakeMoves z.now.places.places x cursor n.claimer.me step next claimer.me moved.0) taken.same.collector moved.2))
+      only (calls x taken.taken (got_stage h.machine m x taken.taken (take_got h n x taken.taken m taken.machine after)))
+
+  -- a further bag is looked for
+  pub next_bag : (h w : Local T W) (x k : ℕ) (next : TakeCursor) → HasCalledBag h x k next w → is_taking w.machine.stage ≡ true → HasTaken h x next w
+  next_bag h w x k next called takes =
+      let stage = goes_on_at h.machine.action h.machine.held (k + 1 == h.machine.sizes.collect_bags) x (k + 1) (sym (ap (λ (z : Machine (Job W)). is_taking z.stage) called.machine) ∙ takes) in
+      let goes = called.machine ∙ ap (λ (s : Stage). record h.machine { stage = s; hand = [] }) stage in
+      record {
+        taken = k + 1;
+        machine = goes ∙ ap (λ (js : List (Job W)). record h.machine { stage = Take x (k + 1); hand = js }) (sym (ap (λ (z : Machine (Job W)). z.hand) goes));
+        claimer = called.claimer;
+        at = called.at;
+        seat = called.seat;
+        same = called.same;
+        performed = called.performed;
+      }
+
+  -- as many bags were taken as a collection takes
+  pub last_bag : (h w : Local T W) (x k : ℕ) (next : TakeCursor) → HasCalledBag h x k next w → is_taking w.machine.stage ≡ false → TakesBags h w
+  last_bag h w x k next called stopped =
+      let stage = stops_at h.machine.action h.machine.held (k + 1 == h.machine.sizes.collect_bags) x (k + 1) (sym (ap (λ (z : Machine (Job W)). is_taking z.stage) called.machine) ∙ stopped) in
+      let goes = called.machine ∙ ap (λ (s : Stage). record h.machine { stage = s; hand = [] }) stage in
+      record {
+        claimer = called.claimer;
+        rests = called.rests;
+        seat = called.seat;
+        same = called.same;
+        machine = goes ∙ ap (λ (js : List (Job W)). record h.machine { stage = after_collect h.machine.action h.machine.held; hand = js }) (sym (ap (λ (z : Machine (Job W)). z.hand) goes));
+        performed = (record { put = PutLook 0; take = next }, called.performed.0, called.performed.1);
+      }
+
+  -- THE WHOLE
+
+  -- a scan, and the bags taken behind it
+  pub collected : (h n o : Local T W) (x : ℕ) → Scans h x n → TakesBags n o → Collects h o
+  collected h n o x scans takes =
+      let same_table = scans.same.collector in
+      record {
+        seated = record {
+          words_of = subst (λ seat. IsOf o.collector.now.participants seat) (sym takes.seat) (subst (λ z. IsOf z.now.participants n.seat) (sym takes.same.collector) scans.seated.words_of);
+          places_of = subst (λ z. IsAt z.now.places o.claimer) (sym takes.same.collector) takes.claimer;
+          own = (
+            ap (λ seat. seat.me.0.position) takes.seat ∙ scans.seated.own.0 ∙ ap (λ (k : ℕ). Some k) (sym takes.same.position),
+            subst (λ z. o.position < z.now.participants.positions) (sym takes.same.collector) (subst (λ (k : ℕ). k < n.collector.now.participants.positions) (sym takes.same.position) scans.seated.own.1),
+          );
+          sizes = ap (λ (z : Machine (Job W)). z.sizes) takes.machine ∙ scans.seated.sizes ∙ sym (ap (λ z. z.now.sizes) takes.same.collector);
+          positions = subst (λ z. z.now.sizes.positions ≡ z.now.participants.positions) (sym takes.same.collector) scans.seated.positions;
+        };
+        rests = takes.rests;
+        same = record { position = takes.same.position ∙ scans.same.position; collector = takes.same.collector ∙ scans.same.collector };
+        pin = record {
+          published = ap (λ seat. seat.me.0.published) takes.seat ∙ scans.pin.published;
+          read = ap (λ seat. seat.me.0.first_read) takes.seat ∙ scans.pin.read;
+        };
+        machine = takes.machine ∙ ap (λ (z : Machine (Job W)). record z { stage = after_collect z.action z.held; hand = o.machine.hand }) scans.machine;
+        drives = λ c. let first = scans.reaches c in
+            let second = subst (λ z. (d : Cursors) × (log : Log (Job W)) × Performed z.now.places.places n.machine (sight_of n) at_start log o.machine (sight_of o) d) same_table takes.performed in
+            (second.0, first.0 ++ second.1, performed_on h.collector.now.places.places h.machine n.machine o.machine (sight_of h) (sight_of n) (sight_of o) c at_start second.0 first.0 second.1 first.1 second.2);
+      }

@@ -1,0 +1,13 @@
+pub mod Collecting
+pub mod Deferring
+pub mod Driving
+pub mod Expiries
+pub mod Flushing
+pub mod PlacesTold
+pub mod Putting
+pub mod Releasing
+pub mod Scanning
+pub mod SeatKept
+pub mod StraightCalls
+pub mod Telling
+pub mod Tests

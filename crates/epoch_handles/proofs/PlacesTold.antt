@@ -1,0 +1,95 @@
+-- The answers of puts and of collections are those that the words found at the places stand for.
+use Rattle.std.proofs.Common.{◌≡◌, ◌∙◌, ℕ, List, [], ◌∷◌, ◌++◌, refl, sym, ap, inl, inr}
+use Rattle.std.proofs.lemmas.Bool.Decides.{eqb_tells}
+use Rattle.std.proofs.lemmas.List.{append_assoc, append-nil}
+use Rattle.epoch_bags.specs.Bags.{Sealed}
+use Rattle.epoch_tables.specs.SharedPlaces.{PlaceMe}
+use Rattle.epoch_tables.specs.SharedSteps.{PutMoves, TakeMoves}
+use Rattle.epoch_tables.specs.declared.shared_places.view.PlaceView.{PlaceView}
+use Rattle.epoch_bags.specs.declared.queue.PutStep.{PutStep}
+use Rattle.epoch_bags.specs.declared.queue.TakeStep.{TakeStep}
+use Rattle.epoch_bags.specs.declared.queue.places.PutCursor.{PutCursor}
+use Rattle.epoch_bags.specs.declared.queue.places.PutCursor.TheVariants.{Look as PutLook, Claim as PutClaim, Fill}
+use Rattle.epoch_bags.specs.declared.queue.places.TakeCursor.{TakeCursor}
+use Rattle.epoch_bags.specs.declared.queue.places.TakeCursor.TheVariants.{Look as TakeLook, Claim as TakeClaim, Empty}
+use Rattle.epoch_machine.specs.declared.machine.Ask.{Ask}
+use Rattle.epoch_machine.specs.declared.machine.Ask.TheVariants.{LoadEpoch, LoadWord, StorePinned, StoreRepinned, StoreUnpinned, StoreFree, StoreEpoch, PutBag, TakeBag, KeepJob, CallJob}
+use Rattle.epoch_machine.specs.declared.machine.Answer.TheVariants.{Epoch, Word, Stored, Job}
+use Rattle.epoch_machine.specs.Machine.{Machine}
+use Rattle.epoch_machine.specs.Asks.{Reply, Heard, PutStepped, TakeStepped, JobGiven, Log, told}
+use Rattle.epoch_handles.specs.Drives.{Sight, Cursors, Performs, Performed}
+use Rattle.epoch_handles.specs.Told.{PutTells, TakeTells, Tells, TellsAll}
+use Rattle.epoch_handles.proofs.Telling.{passes_or_not}
+
+module _ {J : Type 0} where
+  -- these words were appended to those that a seat found
+  abbrev Adds : PlaceView J → List ℕ → PlaceView J → Type 0
+  Adds v words u = u.found ≡ v.found ++ words
+
+  adds_none : (v u : PlaceView J) → u.found ≡ v.found → Adds v [] u
+  adds_none v u same = same ∙ sym (append-nil v.found)
+
+  put_told : (places : ℕ) (cursor next : PutCursor) (step : PutStep) (bag : Sealed J) (v u : PlaceView J)
+      → PutMoves places cursor v bag step next u
+      → (found : List ℕ) × Adds v found u × PutTells places cursor found step next
+  put_told places (PutLook place) next step bag v u (word, is, free, occupied) =
+      (word ∷ [], ap (λ (z : PlaceView J). z.found) is, (word, refl, free, occupied))
+  put_told places (PutClaim place) next step bag v u (word, free, occupied) = elim (eqb_tells word 0) [
+    | inl zero ↦ (word ∷ [], ap (λ (z : PlaceView J). z.found) (free zero.1).0 ∙ ap (λ (w : ℕ). v.found ++ w ∷ []) (sym zero.1), (word, refl, (λ at. ((free at).1, (free at).2)), (λ other. (occupied other).1)))
+    | inr differs ↦ (word ∷ [], ap (λ (z : PlaceView J). z.found) (occupied differs.1).0, (word, refl, (λ at. ((free at).1, (free at).2)), (λ other. (occupied other).1)))
+  ]
+  put_told places (Fill place) next step bag v u (done, is) = ([], adds_none v u (ap (λ (z : PlaceView J). z.found) is), (refl, done))
+
+  take_told : (places x : ℕ) (cursor next : TakeCursor) (step : TakeStep) (bag : Sealed J) (v u : PlaceMe J)
+      → TakeMoves places x cursor v step next u bag
+      → (found : List ℕ) × Adds v.0 found u.0 × TakeTells places x cursor found step next
+  take_told places x (TakeLook place) next step bag v u (past, looks) = elim (eqb_tells place places) [
+    | inl last ↦ ([], adds_none v.0 u.0 (ap (λ (z : PlaceMe J). z.0.found) (past last.1).1), ((λ at. (refl, (past at).0)), (λ other. absurd (other last.1))))
+    | inr before ↦ (
+        let word = (looks before.1).0 in
+        (word ∷ [], ap (λ (z : PlaceView J). z.found) (looks before.1).1, ((λ at. absurd (before.1 at)), (λ other. (word, refl, (looks before.1).2, (looks before.1).3)))))
+  ]
+  take_told places x (TakeClaim place claims) next step bag v u (word, won, lost) = elim (eqb_tells word claims) [
+    | inl same ↦ (word ∷ [], ap (λ (z : PlaceView J). z.found) (won same.1).0, (word, refl, (λ at. ((won at).1, (won at).2)), (λ other. (lost other).1)))
+    | inr differs ↦ (word ∷ [], ap (λ (z : PlaceView J). z.found) (lost differs.1).0, (word, refl, (λ at. ((won at).1, (won at).2)), (λ other. (lost other).1)))
+  ]
+  take_told places x (Empty place) next step bag v u (got, goes, is, hand, expired) = ([], adds_none v.0 u.0 (ap (λ (z : PlaceView J). z.found) is), (refl, got, goes))
+
+  -- a step at the other table finds no word at a place
+  silent : (v u : Sight J) → u.places ≡ v.places → Adds v.places.0 [] u.places.0
+  silent v u same = adds_none v.places.0 u.places.0 (ap (λ (z : PlaceMe J). z.0.found) same)
+
+  one_told : (places : ℕ) (m : Machine J) (v u : Sight J) (c d : Cursors) (ask : Ask) (reply : Reply J)
+      → Performs places m v c ask reply u d
+      → (found : List ℕ) × Adds v.places.0 found u.places.0 × Tells places c ask reply found d
+  one_told places m v u c d LoadEpoch (Heard (Epoch e)) (rises, is, start) = ([], silent v u (ap (λ (z : Sight J). z.places) is), (refl, start))
+  one_told places m v u c d (StorePinned e) (Heard Stored) (read, is, same) = ([], silent v u (ap (λ (z : Sight J). z.places) is), (refl, same))
+  one_told places m v u c d (StoreRepinned e) (Heard Stored) (read, is, same) = ([], silent v u (ap (λ (z : Sight J). z.places) is), (refl, same))
+  one_told places m v u c d StoreUnpinned (Heard Stored) (is, same) = ([], silent v u (ap (λ (z : Sight J). z.places) is), (refl, same))
+  one_told places m v u c d StoreFree (Heard Stored) (is, same) = ([], silent v u (ap (λ (z : Sight J). z.places) is), (refl, same))
+  one_told places m v u c d (LoadWord k) (Heard (Word w)) (is_word, same, (e, scan, passed, held)) = elim (passes_or_not e w is_word) [
+    | inl lets ↦ ([], silent v u (ap (λ (z : Sight J). z.places) (passed lets)), (refl, same))
+    | inr holds ↦ ([], silent v u (ap (λ (z : Sight J). z.places) (held holds)), (refl, same))
+  ]
+  one_told places m v u c d (StoreEpoch e) (Heard Stored) (ahead, is, same) = ([], silent v u (ap (λ (z : Sight J). z.places) is), (refl, same))
+  one_told places m v u c d KeepJob (Heard (Job job)) (is, same) = ([], silent v u (ap (λ (z : Sight J). z.places) is), (refl, same))
+  one_told places m v u c d CallJob (JobGiven job) (is, same) = ([], silent v u (ap (λ (z : Sight J). z.places) is), (refl, same))
+  one_told places m v u c d (PutBag seal) (PutStepped step) (is, same, moves) =
+      let put = put_told places c.put d.put step (record { seal = seal; jobs = m.held }) v.places.0 u.places.0 moves in
+      (put.0, put.1, (same, put.2))
+  one_told places m v u c d (TakeBag x) (TakeStepped step jobs) (is, same, (bag, got, moves)) =
+      let take = take_told places x c.take d.take step bag v.places u.places moves in
+      (take.0, take.1, (same, take.2))
+  one_told places m v u c d ask reply performs = absurd performs
+
+  pub answers_found : (places : ℕ) (m n : Machine J) (v u : Sight J) (c d : Cursors) (log : Log J)
+      → Performed places m v c log n u d
+      → (words : List ℕ) × (u.places.0.found ≡ v.places.0.found ++ words) × TellsAll places c log words d
+  answers_found places m n v u c d [] (machine, is, cursors) = ([], silent v u (ap (λ (z : Sight J). z.places) is), (refl, cursors))
+  answers_found places m n v u c d (x ∷ log) (asked, is_reply, (w, b, performs, behind)) =
+      let one = one_told places m v w c b x.ask x.reply performs in
+      let more = answers_found places (told m x.reply) n w u b d log behind in (
+        one.0 ++ more.0,
+        more.1 ∙ ap (λ (found : List ℕ). found ++ more.0) one.1 ∙ append_assoc v.places.0.found one.0 more.0,
+        (one.0, more.0, b, refl, one.2, more.2),
+      )

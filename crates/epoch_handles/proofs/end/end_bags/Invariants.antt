@@ -1,0 +1,10 @@
+use Rattle.std.proofs.Common.{◌≡◌, ℕ, ◌+◌, ◌*◌, ◌<◌, ◌≤◌, None, drop, slice_index_or}
+use Rattle.epoch_handles.specs.Ends.{jobs_in}
+use Rattle.epoch_handles.proofs.end.end_bags.Given as goal
+
+abbrev pub invariant-loop-place : goal.invariant-loop-place
+invariant-loop-place g l = record {
+  count : l.count + jobs_in (drop l.place l.bags) ≡ jobs_in l.fn.bags;
+  few : l.count ≤ 64 * l.place;
+  none : (k : ℕ) → k < l.place → slice_index_or l.bags k None ≡ None;
+}

@@ -1,0 +1,11 @@
+use Rattle.std.proofs.Common.{◌*◌, ◌≤◌}
+use Rattle.epoch_tables.specs.SharedPlaces.{IsOf}
+use Rattle.epoch_tables.specs.SharedSteps.{RestsAt}
+use Rattle.epoch_handles.proofs.end.end_places.Given as goal
+
+abbrev pub invariant-loop-taken : goal.invariant-loop-taken
+invariant-loop-taken g l = record {
+  of : IsOf l.places l.seat;
+  rests : RestsAt l.seat.me;
+  few : l.count ≤ 64 * l.taken;
+}

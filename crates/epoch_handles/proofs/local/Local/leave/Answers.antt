@@ -1,0 +1,39 @@
+use Rattle.std.proofs.Common.{◌∙◌, false, ap, sym, arith}
+use Rattle.epoch_bags.specs.declared.job.Job.{Job}
+use Rattle.epoch_machine.specs.declared.machine.Action.{Action}
+use Rattle.epoch_machine.specs.Machine.{Machine, after_put}
+use Rattle.epoch_handles.proofs.Releasing.{was_put, was_full, left_still, freed_behind, refused_behind}
+use Rattle.epoch_handles.proofs.local.Local.leave.Goals as goal
+
+-- the bag found no place
+pub returns-then-found_full-clause-refused : goal.returns-then-found_full-clause-refused
+returns-then-found_full-clause-refused g c = λ _.
+    let h = c.args.self.now in let n = c.put.new.self in let puts = c.put.ensures in
+    let is = was_full h.machine n.machine puts.machine (sym c.found_full.ensures ∙ c.if-found_full.true) in
+    refused_behind h n c.stay.new.self puts.same (ap (λ (z : Machine (Job g.row.W.Denot)). z.held) is) puts.drives c.stay.ensures
+
+-- the bag is in a place
+pub leave_for_good-requires-2 : goal.leave_for_good-requires-2
+leave_for_good-requires-2 g c =
+    let h = c.args.self.now in let n = c.put.new.self in let puts = c.put.ensures in
+    let is = was_put h.machine n.machine puts.machine (sym c.found_full.ensures ∙ c.if-found_full.false) in (
+      omega arith,
+      (
+        puts.seated,
+        (
+          ap (λ (z : Machine (Job g.row.W.Denot)). z.stage) is ∙ ap (λ (a : Action). after_put a false) c.requires.action,
+          (
+            ap (λ (z : Machine (Job g.row.W.Denot)). z.action) is ∙ c.requires.action,
+            (ap (λ (z : Machine (Job g.row.W.Denot)). z.full) is, ap (λ (z : Machine (Job g.row.W.Denot)). z.held) is),
+          ),
+        ),
+      ),
+    )
+
+pub returns-clause-freed : goal.returns-clause-freed
+returns-clause-freed g c = λ _.
+    let h = c.args.self.now in let n = c.put.new.self in let puts = c.put.ensures in
+    let is = was_put h.machine n.machine puts.machine (sym c.found_full.ensures ∙ c.if-found_full.false) in
+    freed_behind h n c.leave_for_good-2.new.self puts.same (ap (λ (z : Machine (Job g.row.W.Denot)). z.sizes) is) puts.drives
+    (λ _. left_still h.machine.held n c.leave_for_good-2.new.self c.leave_for_good-2.ensures.kept (puts.whole (sym c.found_full.ensures ∙ c.if-found_full.false)))
+    c.leave_for_good-2.ensures.freed

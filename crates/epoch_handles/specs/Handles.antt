@@ -1,0 +1,137 @@
+-- What the calls of a handle keep and promise.
+use Rattle.std.specs.Prelude.{◌≡◌, ◌≢◌, ℕ, ◌<◌, ◌≤◌, List, [], ◌∷◌, ◌++◌, Option, Some, None, true, false, ◌⊎◌}
+use Rattle.epoch_bags.specs.Bags.{Sealed}
+use Rattle.epoch_tables.specs.Table.{IsOf}
+use Rattle.epoch_tables.specs.TableSteps.{after_epoch, after_own}
+use Rattle.epoch_tables.specs.SharedPlaces.{IsOf as IsAt}
+use Rattle.epoch_tables.specs.SharedSteps.{RestsAt}
+use Rattle.epoch_bags.specs.declared.job.Job.{Job}
+use Rattle.epoch_tables.specs.declared.shared_places.view.PlaceView.{PlaceView}
+use Rattle.epoch_tables.specs.declared.table.view.ParticipantView.{ParticipantView}
+use Rattle.epoch_machine.specs.declared.machine.Action.{Action}
+use Rattle.epoch_machine.specs.declared.machine.Stage.TheVariants.{Idle, End, Take}
+use Rattle.epoch_handles.specs.declared.collector.Collector.{Collector}
+use Rattle.epoch_handles.specs.declared.guard.Guard.{Guard}
+use Rattle.epoch_handles.specs.declared.local.Local.{Local}
+use Rattle.epoch_machine.specs.Machine.{Machine, begun, ended, fresh, with_stage, after_collect, after_put, after_job}
+use Rattle.epoch_handles.specs.Drives.{Sight, Cursors, Performed, Drives, Reaches, at_start}
+use Rattle.epoch_machine.specs.Asks.{Log}
+
+-- what the seats of a participant know
+abbrev pub sight_of : {T W : Type 0} → Local T W → Sight (Job W)
+sight_of h = record { words = h.seat.me.0; places = h.claimer.me }
+
+-- it is the same participant of the same collector
+pub record IsSame {T W : Type 0} (old new : Local T W) : Type 0 where
+  pub position : new.position ≡ old.position
+  pub collector : new.collector ≡ old.collector
+
+-- The seats are at the collector's tables, with the position that the participant has there.
+pub record IsSeated {T W : Type 0} (h : Local T W) : Type 0 where
+  pub words_of : IsOf h.collector.now.participants h.seat
+  pub places_of : IsAt h.collector.now.places h.claimer
+  pub own : (h.seat.me.0.position ≡ Some h.position) × (h.position < h.collector.now.participants.positions)
+  pub sizes : h.machine.sizes ≡ h.collector.now.sizes
+  pub positions : h.collector.now.sizes.positions ≡ h.collector.now.participants.positions
+
+-- a step of the participants' seat, behind which it knows this, and all else is as it was
+pub record Steps {T W : Type 0} (old new : Local T W) (view : ParticipantView) : Type 0 where
+  pub seated : IsSeated new
+  pub knows : new.seat.me.0 ≡ view
+  pub claimer : new.claimer ≡ old.claimer
+  pub machine : new.machine ≡ old.machine
+  pub position : new.position ≡ old.position
+  pub collector : new.collector ≡ old.collector
+
+-- it is pinned, and has loaded the epoch since it published
+pub record IsPinned (v : ParticipantView) : Type 0 where
+  pub published : (number : ℕ) × (v.published ≡ Some number)
+  pub read : (epoch : ℕ) × (v.first_read ≡ Some epoch)
+
+-- the three steps of a pin: it loaded the epoch, published that very epoch, and loaded the epoch again
+pub record PinSteps {T W : Type 0} (old : Local T W) (published : ℕ) (new : Local T W) : Type 0 where
+  pub again : ℕ
+  pub rises : old.seat.me.0.seen ≤ published
+  pub rises_again : published ≤ again
+  pub steps : Steps old new (after_epoch (after_own (after_epoch old.seat.me.0 published) (Some published)) again)
+
+-- it is pinned as it was, with the same first reading
+pub record KeepsPin {T W : Type 0} (old new : Local T W) : Type 0 where
+  pub published : new.seat.me.0.published ≡ old.seat.me.0.published
+  pub read : new.seat.me.0.first_read ≡ old.seat.me.0.first_read
+
+-- It scanned all words, or up to one that is pinned elsewhere. That gave this epoch, for which bags are taken next.
+pub record Scans {T W : Type 0} (old : Local T W) (expiry : ℕ) (new : Local T W) : Type 0 where
+  pub seated : IsSeated new
+  pub same : IsSame old new
+  pub pin : KeepsPin old new
+  pub claimer : new.claimer ≡ old.claimer
+  pub machine : new.machine ≡ with_stage old.machine (Take expiry 0)
+  pub reaches : Reaches old.collector.now.places.places old.machine (sight_of old) new.machine (sight_of new) at_start
+
+-- It called what was left of the bag in hand: the next bag is looked for, unless this was the last one.
+pub record CallsHand {T W : Type 0} (old : Local T W) (expiry taken : ℕ) (new : Local T W) : Type 0 where
+  pub machine : new.machine ≡ record old.machine { stage = after_job old.machine expiry taken []; hand = [] }
+  pub performed : (c : Cursors) → (log : Log (Job W)) × Performed old.collector.now.places.places old.machine (sight_of old) c log new.machine (sight_of old) c
+
+-- It took bags that are expired for the epoch of its scan, and called their jobs.
+pub record TakesBags {T W : Type 0} (old new : Local T W) : Type 0 where
+  pub claimer : IsAt old.collector.now.places new.claimer
+  pub rests : RestsAt new.claimer.me
+  pub seat : new.seat ≡ old.seat
+  pub same : IsSame old new
+  pub machine : new.machine ≡ record old.machine { stage = after_collect old.machine.action old.machine.held; hand = new.machine.hand }
+  pub performed : (d : Cursors) × (log : Log (Job W)) × Performed old.collector.now.places.places old.machine (sight_of old) at_start log new.machine (sight_of new) d
+
+-- It collected: it scanned, and took bags and called their jobs, as many as a collection takes or as it found.
+pub record Collects {T W : Type 0} (old new : Local T W) : Type 0 where
+  pub seated : IsSeated new
+  pub rests : RestsAt new.claimer.me
+  pub same : IsSame old new
+  pub pin : KeepsPin old new
+  pub machine : new.machine ≡ record old.machine { stage = after_collect old.machine.action old.machine.held; hand = new.machine.hand }
+  pub drives : Drives old.collector.now.places.places old.machine (sight_of old) new.machine (sight_of new)
+
+-- what the seat left in a place last is a bag of just these jobs, in this order
+abbrev pub IsLeftWhole : {J : Type 0} → List J → PlaceView J → Type 0
+IsLeftWhole {J} jobs v = (seal : ℕ) × (before : List (Option (Sealed J))) × (v.left ≡ before ++ Some (record { seal = seal; jobs = jobs }) ∷ [])
+
+-- It sealed the held bag with the epoch that it loaded, and put it into a place, or it has seen every place occupied.
+pub record Puts {T W : Type 0} (old new : Local T W) : Type 0 where
+  pub seated : IsSeated new
+  pub rests : RestsAt new.claimer.me
+  pub same : IsSame old new
+  pub pin : KeepsPin old new
+  pub machine : (new.machine ≡ record old.machine { stage = after_put old.machine.action false; full = false; held = [] })
+      ⊎ (new.machine ≡ record old.machine { stage = after_put old.machine.action true; full = true })
+  pub whole : new.machine.full ≡ false → IsLeftWhole old.machine.held new.claimer.me.0
+  pub drives : Drives old.collector.now.places.places old.machine (sight_of old) new.machine (sight_of new)
+
+-- The word says what the machine says: pinned in the published epoch while guards are out, and not pinned while none is.
+pub record Agrees {J : Type 0} (m : Machine J) (v : ParticipantView) : Type 0 where
+  pub published : 0 < m.guards → v.published ≡ Some m.published
+  pub read : 0 < m.guards → v.first_read ≢ None
+  pub unpinned : m.guards ≡ 0 → v.published ≡ None
+
+-- what holds of a handle between two calls
+pub record IsReady {T W : Type 0} (h : Local T W) : Type 0 where
+  pub seated : IsSeated h
+  pub rests : RestsAt h.claimer.me
+  pub idle : h.machine.stage ≡ Idle
+  pub agrees : Agrees h.machine h.seat.me.0
+
+-- The machine began this action, was driven to its end, and counts its guards from then on.
+abbrev pub Does : {T W : Type 0} → Local T W → Action → Local T W → Type 0
+Does {T} {W} old action new = (last : Machine (Job W)) × (last.stage ≡ End) × (new.machine ≡ ended last)
+    × Drives old.collector.now.places.places (begun action old.machine) (sight_of old) last (sight_of new)
+
+-- the guard is one that this participant has out, as far as can be told: it is of its position and of its collector's number
+pub record Owns {T W : Type 0} (h : Local T W) (guard : Guard T W) : Type 0 where
+  pub position : guard.position ≡ Some h.position
+  pub collector : guard.collector.now.id ≡ h.collector.now.id
+  pub out : 0 < h.machine.guards
+
+-- a new participant of this collector: registered, not pinned, with an empty bag
+pub record IsNew {T W : Type 0} (collector : Collector T W) (h : Local T W) : Type 0 where
+  pub of : h.collector.now ≡ collector
+  pub machine : h.machine ≡ fresh collector.sizes

@@ -1,0 +1,6 @@
+pub mod Capacities
+pub mod Drives
+pub mod Ends
+pub mod Handles
+pub mod Releases
+pub mod Told

@@ -1,0 +1,137 @@
+//! The collector: what the threads that share its objects have in common.
+ghost use Rattle.std.specs.Prelude.{◌≡◌, ℕ, ◌<◌, ◌≤◌, ◌↔◌, ◌==◌, IsTrue, IfOk, IsOkUnless, vec_len};
+ghost use Rattle.std.proofs.Common.{rules};
+ghost use Rattle.std.specs.Cmp.Rules.{comparing};
+ghost use Rattle.std.specs.Ordering.{on};
+ghost use Rattle.epoch_cells.specs.declared.fault.Fault.TheVariants.{NoMemory};
+ghost use Rattle.epoch_machine.specs.Machine.{IsSized};
+ghost use Rattle.epoch_handles.specs.Capacities.{AreValid, sizes_of};
+
+use epoch_bags::{BAG_JOBS, Job, Work};
+use epoch_cells::{Cells, Fault, MOST_SLOT};
+use epoch_machine::Sizes;
+use epoch_tables::shared_places::{MOST_PLACES, SharedPlaces};
+use epoch_tables::table::{MOST_POSITIONS, Participants};
+use std::alloc::Global;
+use std::fmt;
+
+/// How much a collector has room for.
+#[derive(Clone, Copy, Debug, PartialEq, Eq)]
+pub struct Capacities {
+    /// How many participants may be registered at a time, from 1 to 4096.
+    pub participants: u32,
+    /// How many cells there are, from 0 to `2^24 - 1`.
+    pub cells: u32,
+    /// How many sealed bags may wait at a time, from 1 to 4096.
+    pub bags: u32,
+    /// How many jobs a bag takes, from 1 to 64.
+    pub bag_jobs: u32,
+    /// How many bags a collection takes at most, from 1 to 64.
+    pub collect_bags: u32,
+}
+
+/// How many bags a collection takes at most, where nothing else is said: `COLLECT_STEPS` of crossbeam-epoch.
+const USUAL_COLLECT_BAGS: u32 = 8;
+
+impl Capacities {
+    /// Bags of 64 jobs, of which a collection takes 8, as in crossbeam-epoch.
+    pub fn usual(participants: u32, cells: u32, bags: u32) -> Capacities
+        ensures { result ≡ (record { participants = participants; cells = cells; bags = bags; bag_jobs = 64; collect_bags = 8 }) }
+    {
+        Capacities {
+            participants,
+            cells,
+            bags,
+            bag_jobs: BAG_JOBS as u32,
+            collect_bags: USUAL_COLLECT_BAGS,
+        }
+    }
+
+    /// Whether each number is in its range.
+    pub fn is_valid(&self) -> bool
+        ensures { IsTrue result ↔ AreValid self.now }
+    {
+        (1..=MOST_POSITIONS as u32).contains(&self.participants)
+            && self.cells <= MOST_SLOT
+            && (1..=MOST_PLACES as u32).contains(&self.bags)
+            && (1..=BAG_JOBS as u32).contains(&self.bag_jobs)
+            && (1..=BAG_JOBS as u32).contains(&self.collect_bags)
+    }
+}
+
+/// What all participants share: the table of their words, the places for sealed bags, and the cells.
+///
+/// Threads share it by `&`. It must be spent, by [`Collector::end`]. Collectors are told apart by the number
+/// that their maker gave them: of two with the same number, a guard of one is taken for a guard of the other.
+pub struct Collector<T, W = Work> {
+    pub(crate) id: u64,
+    pub(crate) participants: Participants,
+    pub(crate) places: SharedPlaces<Job<W>>,
+    pub(crate) cells: Cells<T>,
+    pub(crate) sizes: Sizes,
+    pub(crate) ghost sized: { IsSized sizes },
+    pub(crate) ghost positions: { sizes.positions ≡ participants.positions },
+}
+
+impl<T, W> Collector<T, W> {
+    /// The number that its maker gave it.
+    #[inline(always)]
+    pub fn id(&self) -> u64
+        ensures { result ≡ self.now.id }
+    {
+        self.id
+    }
+}
+
+impl<T, W> fmt::Debug for Collector<T, W> {
+    fn fmt<F: fmt::Write>(&self, f: &mut fmt::Formatter<F>) -> fmt::Result {
+        f.pad("Collector { .. }")
+    }
+}
+
+impl<T, W> PartialEq for Collector<T, W> {
+    ghost eq = { on (λ c. c.id) ◌==◌ };
+
+    ghost laws = { Prim.search (comparing, rules) };
+
+    /// Whether the numbers are the same that their makers gave them.
+    fn eq(&self, other: &Collector<T, W>) -> bool {
+        self.id == other.id
+    }
+}
+
+impl<T, W> Eq for Collector<T, W> {
+    ghost laws = { Prim.search (comparing, rules) };
+}
+
+impl<T: Drop, W: Drop> Collector<T, W> {
+    /// A collector with these capacities and this number, in epoch 0, with no participant.
+    ///
+    /// `NoMemory`: an allocation was refused. No other call on a collector, a handle or a guard takes memory.
+    pub fn new(alloc: Global, capacities: Capacities, id: u64) -> Result<Collector<T, W>, Fault>
+        requires { AreValid capacities }
+        ensures memory { IsOkUnless result NoMemory }
+        ensures id { IfOk result (λ collector. collector.id ≡ id) }
+        ensures participants { IfOk result (λ collector. collector.participants.positions ≡ capacities.participants) }
+        ensures bags { IfOk result (λ collector. collector.places.places ≡ capacities.bags) }
+        ensures cells { IfOk result (λ collector. vec_len collector.cells.slots ≡ capacities.cells) }
+        ensures sizes { IfOk result (λ collector. collector.sizes ≡ sizes_of capacities) }
+    {
+        let participants = Participants::new(alloc, capacities.participants as usize)?;
+        let cells = Cells::new(alloc, capacities.cells, 0)?;
+        let sizes = Sizes {
+            positions: capacities.participants as u64,
+            bag_jobs: capacities.bag_jobs as u64,
+            collect_bags: capacities.collect_bags as u64,
+        };
+        // The places come last: to drop them again would ask that their bags' size be known.
+        let places = SharedPlaces::new(alloc, capacities.bags as usize)?;
+        Ok(Collector {
+            id,
+            participants,
+            places,
+            cells,
+            sizes,
+        })
+    }
+}

@@ -1,0 +1,79 @@
+//! The end of a collector: what is left is called.
+ghost use Rattle.std.specs.Prelude.{◌≡◌, ℕ, ◌*◌, ◌<◌, ◌≤◌, ◌^◌, None, length, slice_index_or};
+ghost use Rattle.epoch_tables.specs.SharedPlaces.{IsOf, IsKept};
+ghost use Rattle.epoch_tables.specs.SharedSteps.{RestsAt};
+ghost use Rattle.epoch_handles.specs.Ends.{jobs_in, jobs_of};
+
+use crate::collector::Collector;
+use epoch_bags::{Job, Run, SealedBag};
+use epoch_cells::Cells;
+use epoch_tables::shared_places::{PlaceSeat, SharedPlaces};
+
+impl<T: Drop> Collector<T> {
+    /// Ends the collector: calls every job that is left in its places, drops the values that are left in its cells,
+    /// and answers how many jobs it called.
+    pub fn end(self) -> u64 {
+        let Collector {
+            id: _,
+            participants: _,
+            places,
+            cells,
+            sizes: _,
+        } = self;
+        end_places(&places, &cells)
+    }
+}
+
+/// Calls every job that is left in the places, with nobody else at work. Answers how many jobs.
+fn end_places<T: Drop>(places: &SharedPlaces<Job>, cells: &Cells<T>) -> u64 {
+    let mut seat = places.seat();
+    let mut count = 0;
+    for taken in 0..places.places() {
+        count += end_one(places, &mut seat, cells);
+        let _ = taken;
+    }
+    count
+}
+
+/// Takes out one bag, and calls its jobs. Answers how many.
+fn end_one<T: Drop>(places: &SharedPlaces<Job>, seat: &mut PlaceSeat<Job>, cells: &Cells<T>) -> u64
+    requires of { IsOf places.now seat.old }
+    requires rests { RestsAt seat.old.me }
+    ensures kept { IsKept seat.old seat.new }
+    ensures rests { RestsAt seat.new.me }
+    ensures few { result ≤ 64 }
+{
+    let mut bag = [places.take_any(seat)];
+    end_bags(cells, &mut bag)
+}
+
+/// Calls every job of each bag, the oldest of a bag first, and leaves each place `None`. Answers how many jobs.
+pub fn end_bags<T: Drop, W: Run>(cells: &Cells<T>, bags: &mut [Option<SealedBag<Job<W>>>]) -> u64
+    requires few { length bags.old < 2 ^ 57 }
+    ensures count { result ≡ jobs_in bags.old }
+    ensures few { result ≤ 64 * length bags.old }
+    ensures none { (place : ℕ) → place < length bags.old → slice_index_or bags.new place None ≡ None }
+{
+    let mut count = 0;
+    for place in 0..bags.len() {
+        count += end_bag(cells, &mut bags[place]);
+    }
+    count
+}
+
+/// Calls every job of the bag, if there is one, and leaves none. Answers how many jobs.
+fn end_bag<T: Drop, W: Run>(cells: &Cells<T>, place: &mut Option<SealedBag<Job<W>>>) -> u64
+    ensures count { result ≡ jobs_of place.old }
+    ensures few { result ≤ 64 }
+    ensures none { place.new ≡ None }
+{
+    let Some(bag) = place else {
+        return 0;
+    };
+    let count = bag.len();
+    for _ in 0..count {
+        let _ = bag.call_next(cells);
+    }
+    *place = None;
+    count as u64
+}

@@ -1,0 +1,83 @@
+//! Guards: tokens of a pin, and guards that protect nothing.
+ghost use Rattle.std.specs.Prelude.{◌≡◌, ◌↔◌, IsTrue, IsSome, IsNone, None, IsOk, IfOk, IfErr, MatchOption};
+ghost use Rattle.epoch_bags.specs.Jobs.{Answers};
+
+use crate::collector::Collector;
+use epoch_bags::{Called, Job, Run, Work};
+use std::fmt;
+
+/// A guard, which must be spent.
+///
+/// A *protecting* guard is a token of a pin: while it is out, its participant stays pinned, and no job that is
+/// deferred meanwhile is called. Its handle spends it, by `unpin`. An *unprotected* guard stands where a guard is
+/// asked for and nothing needs protection.
+pub struct Guard<'c, T, W = Work> {
+    pub(crate) collector: &'c Collector<T, W>,
+    pub(crate) position: Option<usize>,
+}
+
+/// A guard of this collector that protects nothing. Calls under it act at once.
+pub fn unprotected<T, W>(collector: &Collector<T, W>) -> Guard<'_, T, W>
+    ensures protects { result.position ≡ None }
+    ensures of { result.collector.now ≡ collector.now }
+{
+    Guard {
+        collector,
+        position: None,
+    }
+}
+
+impl<'c, T, W> Guard<'c, T, W> {
+    /// Whether it is a token of a pin.
+    pub fn is_protecting(&self) -> bool
+        ensures { IsTrue result ↔ IsSome self.now.position }
+    {
+        self.position.is_some()
+    }
+
+    /// The collector of a protecting guard, and `None` of an unprotected one, as in crossbeam-epoch.
+    pub fn collector(&self) -> Option<&'c Collector<T, W>>
+        ensures { MatchOption result (self.now.position ≡ None) (λ collector. IsSome self.now.position × (collector.now ≡ self.now.collector.now)) }
+    {
+        match self.position {
+            Some(_) => Some(self.collector),
+            None => None,
+        }
+    }
+
+    /// Spends an unprotected guard. A protecting one is handed back: its handle spends it.
+    pub fn let_go(self) -> Result<(), Guard<'c, T, W>>
+        ensures ok { IsOk result ↔ IsNone self.entry.position }
+        ensures handed_back { IfErr result (λ guard. guard ≡ self.entry) }
+    {
+        if self.position.is_some() {
+            return Err(self);
+        }
+        let Guard {
+            collector: _,
+            position: _,
+        } = self;
+        Ok(())
+    }
+}
+
+impl<'c, T: Drop, W: Run> Guard<'c, T, W> {
+    /// Calls the job at once, under a guard that protects nothing, and says what that did. Under a protecting
+    /// guard the job is handed back.
+    pub fn call_now(&self, job: Job<W>) -> Result<Called, Job<W>>
+        ensures ok { IsOk result ↔ IsNone self.now.position }
+        ensures called { IfOk result (λ called. Answers job called) }
+        ensures handed_back { IfErr result (λ back. back ≡ job) }
+    {
+        if self.position.is_some() {
+            return Err(job);
+        }
+        Ok(job.call(&self.collector.cells))
+    }
+}
+
+impl<'c, T, W> fmt::Debug for Guard<'c, T, W> {
+    fn fmt<F: fmt::Write>(&self, f: &mut fmt::Formatter<F>) -> fmt::Result {
+        f.pad("Guard { .. }")
+    }
+}

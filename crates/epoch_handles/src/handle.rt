@@ -1,0 +1,329 @@
+//! Handles: what a thread is a participant by.
+ghost use Rattle.std.specs.Prelude.{◌≡◌, ℕ, ◌+◌, ◌<◌, ◌^◌, ◌↔◌, ◌≢◌, [], ◌∷◌, ◌++◌, ◌⊎◌, IsTrue, IsSome, IsOk, IsErr, Err, IfOk, IfErr, IsOkUnless, Some, None, length};
+ghost use Rattle.epoch_cells.specs.declared.fault.Fault.TheVariants.{TableFull, StrangerGuard, BagsFull};
+ghost use Rattle.epoch_handles.specs.Handles.{IsReady, IsNew, IsSame, Owns, Does};
+ghost use Rattle.epoch_handles.specs.Releases.{IsReleased};
+ghost use Rattle.epoch_machine.specs.declared.machine.Action.TheVariants.{Pin, Unpin, Repin, Defer, Flush, Release};
+
+use crate::collector::Collector;
+use crate::guard::Guard;
+use crate::local::Local;
+use epoch_bags::{Job, Run, Work};
+use epoch_cells::{Fault, Refused};
+use epoch_machine::Machine;
+use std::fmt;
+
+/// A participant of one thread. It must be spent, by `release`.
+pub struct LocalHandle<'c, T, W = Work> {
+    pub(crate) local: Local<'c, T, W>,
+    pub(crate) ghost ready: { IsReady local },
+}
+
+impl<'c, T, W> fmt::Debug for LocalHandle<'c, T, W> {
+    fn fmt<F: fmt::Write>(&self, f: &mut fmt::Formatter<F>) -> fmt::Result {
+        f.pad("LocalHandle { .. }")
+    }
+}
+
+impl<T: Drop, W: Run> Collector<T, W> {
+    /// A new participant: registered, not pinned, with an empty bag. Each position is tried once, from 0 up.
+    ///
+    /// `TableFull`: each position was seen taken.
+    pub fn register(&self) -> Result<LocalHandle<'_, T, W>, Fault>
+        ensures full { IsOkUnless result TableFull }
+        ensures fresh { IfOk result (λ handle. IsNew self.now handle.local) }
+    {
+        let mut seat = self.participants.seat();
+        for position in 0..self.participants.positions() {
+            if self.participants.claim(&mut seat, position) == 0 {
+                let local = Local {
+                    collector: self,
+                    seat,
+                    claimer: self.places.seat(),
+                    position,
+                    machine: Machine::new(self.sizes),
+                };
+                return Ok(LocalHandle { local });
+            }
+        }
+        Err(Fault::TableFull)
+    }
+}
+
+impl<'c, T, W> LocalHandle<'c, T, W> {
+    /// The collector that it is a participant of.
+    pub fn collector(&self) -> &'c Collector<T, W>
+        ensures { result.now ≡ self.now.local.collector.now }
+    {
+        self.local.collector
+    }
+
+    /// How many of its guards are out.
+    pub fn guards_out(&self) -> u32
+        ensures { result ≡ self.now.local.machine.guards }
+    {
+        self.local.machine.guards()
+    }
+
+    /// Whether it is pinned: whether a guard of it is out.
+    pub fn is_pinned(&self) -> bool
+        ensures { IsTrue result ↔ (0 < self.now.local.machine.guards) }
+    {
+        self.local.machine.guards() > 0
+    }
+
+    /// Whether a further guard can be counted: at most `2^32 - 1` are.
+    pub fn can_pin(&self) -> bool
+        ensures { IsTrue result ↔ (self.now.local.machine.guards + 1 < 2 ^ 32) }
+    {
+        self.local.machine.guards() < u32::MAX
+    }
+
+    /// Whether the held bag takes a further job without being put first.
+    pub fn has_room(&self) -> bool
+        ensures { IsTrue result ↔ (length self.now.local.machine.held < self.now.local.machine.sizes.bag_jobs) }
+    {
+        self.local.machine.has_room()
+    }
+
+    /// Whether this is a guard of this participant. `false` with no guard out.
+    ///
+    /// Two collectors with the same number aren't told apart.
+    #[inline(always)]
+    pub fn owns(&self, guard: &Guard<'_, T, W>) -> bool
+        ensures { IsTrue result ↔ Owns self.now.local guard.now }
+    {
+        if self.local.machine.guards() == 0 {
+            return false;
+        }
+        if guard.collector.id != self.local.collector.id {
+            return false;
+        }
+        match guard.position {
+            Some(position) => position == self.local.position,
+            None => false,
+        }
+    }
+
+    /// Repins the participant, where this is its only guard: its word gets the present epoch, and no object that
+    /// was loaded under the guard before is protected any more. With more guards, and under an unprotected guard,
+    /// nothing happens. As `Guard::repin` of crossbeam-epoch.
+    #[inline]
+    pub fn repin(&mut self, guard: &mut Guard<'c, T, W>)
+        requires { guard.old.position ≡ None ⊎ Owns self.old.local guard.old }
+        ensures guard { guard.new ≡ guard.old }
+        ensures same { IsSame self.old.local self.new.local }
+        ensures ready { IsReady self.new.local }
+        ensures counted { self.new.local.machine.guards ≡ self.old.local.machine.guards }
+        ensures unprotected { guard.old.position ≡ None → self.new ≡ self.old }
+        ensures does { IsSome guard.old.position → Does self.old.local Repin self.new.local }
+    {
+        if guard.is_protecting() {
+            self.local.repin();
+        }
+    }
+
+    /// Spends a guard of this handle. With the last one the participant isn't pinned any more.
+    #[inline]
+    pub fn unpin(&mut self, guard: Guard<'c, T, W>)
+        requires { Owns self.old.local guard }
+        ensures same { IsSame self.old.local self.new.local }
+        ensures does { Does self.old.local Unpin self.new.local }
+        ensures ready { IsReady self.new.local }
+        ensures counted { self.new.local.machine.guards + 1 ≡ self.old.local.machine.guards }
+    {
+        let Guard {
+            collector: _,
+            position: _,
+        } = guard;
+        self.local.unpin();
+    }
+}
+
+impl<'c, T: Drop, W: Run> LocalHandle<'c, T, W> {
+    /// Defers the job: it is called when nobody who is pinned now is pinned any more, by some participant's
+    /// collection. Under an unprotected guard it is called at once.
+    ///
+    /// The job is kept in the held bag, which is sealed and put into a place first where it is full.
+    /// `StrangerGuard`: the guard isn't one that this handle has out. `BagsFull`: each place was seen occupied.
+    /// A refused call hands the job back, and leaves the handle as it was, with its bag.
+    #[inline(always)]
+    pub fn defer(&mut self, guard: &Guard<'_, T, W>, job: Job<W>) -> Result<(), Refused<Job<W>>>
+        ensures same { IsSame self.old.local self.new.local }
+        ensures ready { IsReady self.new.local }
+        ensures counted { self.new.local.machine.guards ≡ self.old.local.machine.guards }
+        ensures unprotected { guard.now.position ≡ None → IsOk result × (self.new ≡ self.old) }
+        ensures stranger { IsSome guard.now.position → ¬ Owns self.old.local guard.now → IfErr result (λ refused. refused.fault ≡ StrangerGuard) × IsErr result × (self.new ≡ self.old) }
+        ensures does { IsSome guard.now.position → Owns self.old.local guard.now → Does self.old.local Defer self.new.local × IfErr result (λ refused. refused.fault ≡ BagsFull) }
+        ensures room { Owns self.old.local guard.now → length self.old.local.machine.held < self.old.local.machine.sizes.bag_jobs → IsOk result × (self.new.local.machine.held ≡ self.old.local.machine.held ++ job ∷ []) }
+        ensures kept { Owns self.old.local guard.now → IsOk result → (self.new.local.machine.held ≡ self.old.local.machine.held ++ job ∷ []) ⊎ (self.new.local.machine.held ≡ job ∷ []) }
+        ensures err { IsErr result → self.new.local.machine.held ≡ self.old.local.machine.held }
+        ensures handed_back { IfErr result (λ refused. refused.value ≡ job) }
+    {
+        if !self.owns(guard) {
+            return self.defer_unowned(guard, job);
+        }
+        if self.local.machine.has_room() {
+            self.local.keep_at_once(job);
+            return Ok(());
+        }
+        self.defer_with_full_bag(job)
+    }
+
+    /// A deferral under a guard that this handle hasn't out: an unprotected one, or a stranger's.
+    #[inline(never)]
+    fn defer_unowned(&self, guard: &Guard<'_, T, W>, job: Job<W>) -> Result<(), Refused<Job<W>>>
+        ensures unprotected { guard.now.position ≡ None → IsOk result }
+        ensures stranger { IsSome guard.now.position → IfErr result (λ refused. refused.fault ≡ StrangerGuard) × IsErr result }
+        ensures handed_back { IfErr result (λ refused. refused.value ≡ job) }
+    {
+        if guard.is_protecting() {
+            return Err(Refused {
+                fault: Fault::StrangerGuard,
+                value: job,
+            });
+        }
+        let _ = job.call(&self.local.collector.cells);
+        Ok(())
+    }
+
+    /// A deferral whose held bag is full.
+    #[inline(never)]
+    fn defer_with_full_bag(&mut self, job: Job<W>) -> Result<(), Refused<Job<W>>>
+        requires out { 0 < self.old.local.machine.guards }
+        requires full { length self.old.local.machine.held ≡ self.old.local.machine.sizes.bag_jobs }
+        ensures same { IsSame self.old.local self.new.local }
+        ensures ready { IsReady self.new.local }
+        ensures counted { self.new.local.machine.guards ≡ self.old.local.machine.guards }
+        ensures does { Does self.old.local Defer self.new.local }
+        ensures full { IfErr result (λ refused. refused.fault ≡ BagsFull) }
+        ensures kept { IsOk result → self.new.local.machine.held ≡ job ∷ [] }
+        ensures err { IsErr result → self.new.local.machine.held ≡ self.old.local.machine.held }
+        ensures handed_back { IfErr result (λ refused. refused.value ≡ job) }
+    {
+        match self.local.defer_behind_a_put(job) {
+            Ok(()) => Ok(()),
+            Err(value) => Err(Refused {
+                fault: Fault::BagsFull,
+                value,
+            }),
+        }
+    }
+
+    /// Puts the held bag into a place, if it has a job, and then collects: tries to advance the epoch, and calls
+    /// the jobs of bags that are expired, as many bags as a collection takes. Under an unprotected guard nothing
+    /// happens.
+    ///
+    /// `StrangerGuard`: the guard isn't one that this handle has out. `BagsFull`: each place was seen occupied; the
+    /// held bag stays as it was, and the collection was made. As `Guard::flush` of crossbeam-epoch, whose queue is
+    /// never full.
+    #[inline(always)]
+    pub fn flush(&mut self, guard: &Guard<'_, T, W>) -> Result<(), Fault>
+        ensures same { IsSame self.old.local self.new.local }
+        ensures ready { IsReady self.new.local }
+        ensures counted { self.new.local.machine.guards ≡ self.old.local.machine.guards }
+        ensures unprotected { guard.now.position ≡ None → IsOk result × (self.new ≡ self.old) }
+        ensures stranger { IsSome guard.now.position → ¬ Owns self.old.local guard.now → (result ≡ Err StrangerGuard) × (self.new ≡ self.old) }
+        ensures does { Owns self.old.local guard.now → Does self.old.local Flush self.new.local }
+        ensures full { Owns self.old.local guard.now → IsErr result → (result ≡ Err BagsFull) × (self.old.local.machine.held ≢ []) × (self.new.local.machine.held ≡ self.old.local.machine.held) }
+        ensures empty { Owns self.old.local guard.now → IsOk result → self.new.local.machine.held ≡ [] }
+    {
+        if !guard.is_protecting() {
+            return Ok(());
+        }
+        if !self.owns(guard) {
+            return Err(Fault::StrangerGuard);
+        }
+        if self.local.flush() {
+            return Err(Fault::BagsFull);
+        }
+        Ok(())
+    }
+
+    /// Unpins the participant, calls `f`, and pins again, where this is its only guard: that counts as a pinning,
+    /// and may collect. With more guards the participant stays pinned, and under an unprotected guard `f` alone is
+    /// called. As `Guard::repin_after` of crossbeam-epoch.
+    pub fn repin_after<F: FnOnce() -> X, X>(&mut self, guard: &mut Guard<'c, T, W>, f: F) -> X
+        requires guard { guard.old.position ≡ None ⊎ Owns self.old.local guard.old }
+        requires f { F.pre f }
+        ensures f { F.post f result }
+        ensures guard { guard.new ≡ guard.old }
+        ensures same { IsSame self.old.local self.new.local }
+        ensures ready { IsReady self.new.local }
+        ensures counted { self.new.local.machine.guards ≡ self.old.local.machine.guards }
+        ensures unprotected { guard.old.position ≡ None → self.new ≡ self.old }
+        ensures does { IsSome guard.old.position → (between : _) × Does self.old.local Unpin between × Does between Pin self.new.local }
+    {
+        if !guard.is_protecting() {
+            return f();
+        }
+        let _guards = self.local.machine.guards();
+        self.local.unpin();
+        let answer = f();
+        self.local.pin_and_collect();
+        answer
+    }
+
+    /// Ends the participant: it pins, puts its held bag, if it has a job, unpins, and frees its position. After an
+    /// accepted release the word is 0, and the held bag, if it had a job, was put whole. No value has that last
+    /// state: `frees` says that there is one.
+    ///
+    /// `BagsFull`: each place was seen occupied. The handle comes back unpinned, with its bag as it was.
+    pub fn release(self) -> Result<(), (LocalHandle<'c, T, W>, Fault)>
+        requires { self.local.machine.guards ≡ 0 }
+        ensures full { IfErr result (λ back. back.1 ≡ BagsFull) }
+        ensures same { IfErr result (λ back. IsSame self.entry.local back.0.local) }
+        ensures does { IfErr result (λ back. Does self.entry.local Release back.0.local) }
+        ensures ready { IfErr result (λ back. IsReady back.0.local) }
+        ensures held { IfErr result (λ back. (self.entry.local.machine.held ≢ []) × (back.0.local.machine.held ≡ self.entry.local.machine.held)) }
+        ensures counted { IfErr result (λ back. back.0.local.machine.guards ≡ 0) }
+        ensures frees { IsOk result → (last : _) × IsReleased self.entry.local last }
+    {
+        let LocalHandle { mut local } = self;
+        let freed = local.release();
+        if freed {
+            Local::spend(local);
+            return Ok(());
+        }
+        Err((LocalHandle { local }, Fault::BagsFull))
+    }
+
+    /// As [`LocalHandle::defer`]: a job is the caller's box, and there is no call that trusts its caller more.
+    pub fn defer_unchecked(
+        &mut self,
+        guard: &Guard<'_, T, W>,
+        job: Job<W>,
+    ) -> Result<(), Refused<Job<W>>>
+        ensures same { IsSame self.old.local self.new.local }
+        ensures ready { IsReady self.new.local }
+        ensures counted { self.new.local.machine.guards ≡ self.old.local.machine.guards }
+        ensures unprotected { guard.now.position ≡ None → IsOk result × (self.new ≡ self.old) }
+        ensures stranger { IsSome guard.now.position → ¬ Owns self.old.local guard.now → IfErr result (λ refused. refused.fault ≡ StrangerGuard) × IsErr result × (self.new ≡ self.old) }
+        ensures does { IsSome guard.now.position → Owns self.old.local guard.now → Does self.old.local Defer self.new.local × IfErr result (λ refused. refused.fault ≡ BagsFull) }
+        ensures room { Owns self.old.local guard.now → length self.old.local.machine.held < self.old.local.machine.sizes.bag_jobs → IsOk result × (self.new.local.machine.held ≡ self.old.local.machine.held ++ job ∷ []) }
+        ensures kept { Owns self.old.local guard.now → IsOk result → (self.new.local.machine.held ≡ self.old.local.machine.held ++ job ∷ []) ⊎ (self.new.local.machine.held ≡ job ∷ []) }
+        ensures err { IsErr result → self.new.local.machine.held ≡ self.old.local.machine.held }
+        ensures handed_back { IfErr result (λ refused. refused.value ≡ job) }
+    {
+        self.defer(guard, job)
+    }
+
+    /// Pins the participant, and answers a guard. The first pin collects, and each 128th after it, where no guard
+    /// was out before.
+    #[inline]
+    pub fn pin(&mut self) -> Guard<'c, T, W>
+        requires { self.old.local.machine.guards + 1 < 2 ^ 32 }
+        ensures own { Owns self.new.local result }
+        ensures of { result.collector.now ≡ self.old.local.collector.now }
+        ensures same { IsSame self.old.local self.new.local }
+        ensures does { Does self.old.local Pin self.new.local }
+        ensures ready { IsReady self.new.local }
+        ensures counted { self.new.local.machine.guards ≡ self.old.local.machine.guards + 1 }
+    {
+        self.local.pin_and_collect();
+        Guard {
+            collector: self.local.collector,
+            position: Some(self.local.position),
+        }
+    }
+}

@@ -1,0 +1,20 @@
+//! What holds of whatever threads perform: laws of the definitions.
+ghost use Rattle.epoch_handles.specs.Told.{RepliesAreFound, ExpiriesAreSeen, AnswersAreFound};
+
+/// Where a thread performs what its machine asks, the replies on the participants' table are just the words that
+/// its seat's steps found, in order, and the greatest epoch that the seat has read or stored never falls.
+pub fn replies_are_found<J>()
+    ensures { RepliesAreFound J }
+{}
+
+/// Where a thread performs what its machine asks from the beginning of an action on, bags are taken only for an
+/// epoch that its seat has read or stored. So a bag whose jobs are called was sealed at least two below one.
+pub fn expiries_are_seen<J>()
+    ensures { ExpiriesAreSeen J }
+{}
+
+/// Where a thread performs what its machine asks, each answer of a put or of a collection is the one that the word
+/// found at its place stands for, in order: these are just the words that its seat's steps found there.
+pub fn answers_are_found<J>()
+    ensures { AnswersAreFound J }
+{}

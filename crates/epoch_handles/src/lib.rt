@@ -1,0 +1,17 @@
+//! Collectors, handles and guards: participants on real threads, each driven by its machine.
+#![tactic(auto)]
+
+mod collector;
+mod end;
+mod guard;
+mod handle;
+mod home;
+mod laws;
+mod local;
+
+pub use collector::{Capacities, Collector};
+pub use end::end_bags;
+pub use guard::{Guard, unprotected};
+pub use handle::LocalHandle;
+pub use home::{Home, home_of};
+pub use laws::{answers_are_found, expiries_are_seen, replies_are_found};

@@ -1,0 +1,61 @@
+//! Collections: bags are taken out of the shared places, and their jobs are called.
+ghost use Rattle.std.specs.Prelude.{◌≡◌, ℕ};
+ghost use Rattle.epoch_tables.specs.SharedSteps.{RestsAt};
+ghost use Rattle.epoch_machine.specs.Machine.{after_job};
+ghost use Rattle.epoch_handles.specs.Handles.{IsSeated, IsPinned, CallsHand, TakesBags, Collects};
+ghost use Rattle.epoch_machine.specs.declared.machine.Stage.TheVariants.{LoadScan, Take};
+
+use crate::local::Local;
+use epoch_bags::{Run, TakeStep};
+
+impl<'c, T: Drop, W: Run> Local<'c, T, W> {
+    /// Calls what is left of the bag in hand, the oldest job first.
+    #[inline(always)]
+    fn call_hand(&mut self)
+        ensures only { self.new ≡ record self.old { machine = self.new.machine } }
+        ensures calls { (expiry taken : ℕ) → self.old.machine.stage ≡ after_job self.old.machine expiry taken self.old.machine.hand → CallsHand self.old expiry taken self.new }
+    {
+        while let Some(job) = self.machine.give() {
+            let _ = job.call(&self.collector.cells);
+        }
+    }
+
+    /// Takes expired bags, as many as a collection takes or as it finds, and calls each one's jobs before it looks
+    /// for the next.
+    #[inline(always)]
+    fn take_bags(&mut self)
+        requires seated { IsSeated self.old }
+        requires rests { RestsAt self.old.claimer.me }
+        requires takes { (expiry : ℕ) × (self.old.machine.stage ≡ Take expiry 0) }
+        ensures { TakesBags self.old self.new }
+    {
+        let mut cursor = self.collector.places.start_take();
+        'bags: loop {
+            let step = self
+                .machine
+                .take_shared(&self.collector.places, &mut self.claimer, &mut cursor);
+            match step {
+                TakeStep::Again => continue,
+                TakeStep::Empty => return,
+                TakeStep::Got => {}
+            }
+            self.call_hand();
+            if !self.machine.is_taking() {
+                return;
+            }
+        }
+    }
+
+    /// A collection: a scan, and bags that are expired for the epoch that it gave.
+    #[inline(never)]
+    pub(crate) fn collect(&mut self)
+        requires seated { IsSeated self.old }
+        requires rests { RestsAt self.old.claimer.me }
+        requires pinned { IsPinned self.old.seat.me.0 }
+        requires begins { self.old.machine.stage ≡ LoadScan }
+        ensures { Collects self.old self.new }
+    {
+        let _ = self.scan();
+        self.take_bags();
+    }
+}

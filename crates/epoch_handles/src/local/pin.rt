@@ -1,0 +1,95 @@
+//! Pins and unpins, written out as the steps that they are.
+ghost use Rattle.std.specs.Prelude.{◌≡◌, ℕ, ◌+◌, ◌<◌, ◌^◌, true, false, Some};
+ghost use Rattle.epoch_handles.specs.Handles.{IsSeated, IsReady, IsSame, IsPinned, PinSteps, Does, sight_of};
+ghost use Rattle.epoch_tables.specs.SharedSteps.{RestsAt};
+ghost use Rattle.epoch_handles.specs.Drives.{Drives};
+ghost use Rattle.epoch_machine.specs.Machine.{begun};
+ghost use Rattle.epoch_machine.specs.declared.machine.Action.TheVariants.{Pin, Unpin, Repin};
+ghost use Rattle.epoch_machine.specs.declared.machine.Stage.TheVariants.{LoadScan};
+
+use crate::local::Local;
+
+impl<'c, T, W> Local<'c, T, W> {
+    /// The steps of a pin. Answers the epoch that was published.
+    #[inline]
+    pub(crate) fn pin_steps(&mut self) -> u64
+        requires { IsSeated self.old }
+        ensures within { result < 2 ^ 63 }
+        ensures steps { PinSteps self.old result self.new }
+    {
+        // Read once: a field is read again behind each atomic step.
+        let (collector, position) = (self.collector, self.position);
+        let participants = &collector.participants;
+        let epoch = participants.load_epoch(&mut self.seat) / 2;
+        participants.publish(&mut self.seat, position, epoch);
+        let _again = participants.load_epoch(&mut self.seat);
+        epoch
+    }
+
+    /// A pin as far as its collection. Answers whether one follows; else the pin has ended.
+    #[inline]
+    pub(crate) fn pin(&mut self) -> bool
+        requires ready { IsReady self.old }
+        requires fits { self.old.machine.guards + 1 < 2 ^ 32 }
+        ensures same { IsSame self.old self.new }
+        ensures ends { result ≡ false → Does self.old Pin self.new }
+        ensures ready { result ≡ false → IsReady self.new }
+        ensures counted { result ≡ false → self.new.machine.guards ≡ self.old.machine.guards + 1 }
+        ensures drives { result ≡ true → Drives self.old.collector.now.places.places (begun Pin self.old.machine) (sight_of self.old) self.new.machine (sight_of self.new) }
+        ensures seated { result ≡ true → IsSeated self.new }
+        ensures rests { result ≡ true → RestsAt self.new.claimer.me }
+        ensures pinned { result ≡ true → IsPinned self.new.seat.me.0 }
+        ensures scans { result ≡ true → self.new.machine.stage ≡ LoadScan }
+        ensures leaves { result ≡ true → (self.new.machine.guards ≡ self.old.machine.guards) × (self.new.machine.action ≡ Pin) × (self.new.seat.me.0.published ≡ Some self.new.machine.published) }
+        ensures first { result ≡ true → self.old.machine.guards ≡ 0 }
+    {
+        if self.machine.guards() != 0 {
+            self.machine.pin_again();
+            return false;
+        }
+        let epoch = self.pin_steps();
+        self.machine.pin_first(epoch)
+    }
+
+    /// An unpin of one guard.
+    #[inline]
+    pub(crate) fn unpin(&mut self)
+        requires ready { IsReady self.old }
+        requires out { 0 < self.old.machine.guards }
+        ensures same { IsSame self.old self.new }
+        ensures does { Does self.old Unpin self.new }
+        ensures ready { IsReady self.new }
+        ensures counted { self.new.machine.guards + 1 ≡ self.old.machine.guards }
+    {
+        if self.machine.guards() == 1 {
+            self.store_unpinned();
+            self.machine.unpin_last();
+        } else {
+            self.machine.unpin_one();
+        }
+    }
+
+    /// A repin.
+    #[inline]
+    pub(crate) fn repin(&mut self)
+        requires { IsReady self.old }
+        ensures same { IsSame self.old self.new }
+        ensures does { Does self.old Repin self.new }
+        ensures ready { IsReady self.new }
+        ensures counted { self.new.machine.guards ≡ self.old.machine.guards }
+    {
+        let published = self.machine.published();
+        if self.machine.guards() != 1 {
+            self.machine.repin_none();
+            return;
+        }
+        let epoch = self.load_epoch();
+        if published == epoch {
+            self.machine.repin_only(epoch);
+            return;
+        }
+        self.publish(epoch);
+        let _ = self.load_epoch();
+        self.machine.repin_only(epoch);
+    }
+}

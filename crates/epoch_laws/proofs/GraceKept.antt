@@ -1,0 +1,175 @@
+-- Every step keeps what holds, so no run calls a job while somebody who was pinned at its deferral has stayed pinned.
+use Rattle.std.proofs.Common.{◌≡◌, ℕ, ◌+◌, ◌<◌, Bool, List, [], ◌∷◌, ◌++◌, append_assoc, append-nil, length, inl, inr, refl, ap, sym, subst, arith, Option, Some, None}
+use Rattle.epoch_bags.specs.declared.job.Called.{Called}
+use Rattle.epoch_cells.specs.declared.fault.Fault.{Fault}
+use Rattle.epoch_laws.specs.declared.step.Call.{Call}
+use Rattle.epoch_laws.specs.declared.step.Step.{Step}
+use Rattle.epoch_laws.specs.declared.step.Step.TheVariants.{Register, Begin, Go, End as EndStep, EndGo}
+use Rattle.epoch_laws.specs.declared.step.Reply.TheVariants.{Registered, Called as CalledReply}
+use Rattle.epoch_laws.specs.declared.step.Entry.{Entry}
+use Rattle.epoch_laws.specs.declared.step.Word.TheVariants.{Free, Unpinned}
+use Rattle.epoch_laws.specs.Grace.{KeepsGrace}
+use Rattle.epoch_laws.specs.Run.{with_places, Bag, Seat, State, seat_of, word_of, with_seat, free_seat, Ending, Open, Emptying, Over, AllFree, refusal, Begins, EndGoes, Moves, Runs, IsFresh}
+use Rattle.epoch_laws.proofs.SeatLemmas.{begin_given}
+use Rattle.epoch_laws.proofs.SeatLinks.{AllLinked}
+use Rattle.epoch_laws.proofs.Linked.{step_linked, fresh_linked}
+use Rattle.epoch_laws.proofs.DeferralEpochs.{SealedBehind, sealed_got}
+use Rattle.epoch_laws.proofs.QuietReplies.{IsPlain, plain_called, quiet_stepped, quiet_began, quiet_refused, quiet_done}
+use Rattle.epoch_laws.proofs.SeatsFine.{View, is_pinned, SeatIsFine, passes_same}
+use Rattle.epoch_laws.proofs.LogKept.{log_push}
+use Rattle.epoch_laws.proofs.WorldHolds.{Holds, holds_along, view_of, acted, EndHolds}
+use Rattle.epoch_laws.proofs.SeatSteps.{stay}
+use Rattle.epoch_laws.proofs.GoesKeeps.{go_keeps}
+use Rattle.epoch_laws.proofs.BeginsKeep.{accepted_holds}
+
+-- EVERY STEP
+
+module _ (old new : State) (log : List Entry) (x : Entry) (h : Holds old log) (linked : AllLinked old) where
+  begins : (p : ℕ) (c : Call) (r : Option Fault) → refusal c (seat_of old p) old.tickets ≡ r
+      → Begins old p c r x.reply new → Holds new (log ++ x ∷ [])
+  begins p c (Some f) e did = stay old new log x h (quiet_refused x.reply f did.0) did.1
+  begins p c None e did = let given = begin_given c (seat_of old p) old.tickets e in
+      accepted_holds old new log x h linked p c given did.0 c given.own did.1
+
+  registers : (p : ℕ) → old.ending ≡ Open → p < length old.seats → word_of old p ≡ Free → x.reply ≡ Registered p
+      → new ≡ with_seat old p (record (free_seat old.sizes) { word = Unpinned }) → Holds new (log ++ x ∷ [])
+  registers p opened lt free told did = holds_along new _ _ did
+      (acted old _ log x h h.since h.when p (record (free_seat old.sizes) { word = Unpinned }) (record {
+        there = lt;
+        still_open = λ shut. shut opened;
+        sizes = refl;
+        seats = refl;
+        ending = refl;
+        epoch = omega arith;
+        tickets = omega arith;
+        when_old = λ t less. refl;
+        since_other = λ q ne. refl;
+        near = λ q ne pinned. (h.seats q).recent pinned;
+        own = λ pinned. absurd (cc);
+        fine = λ passes. record {
+          published = λ i e. absurd (cc);
+          before = (h.seats p).before;
+          recent = λ pinned. absurd (cc);
+          agrees = refl;
+          aims = tt;
+          held = tt;
+          knows = tt;
+        };
+        queued = h.queued;
+        published = λ q t. elim t [ inl a ↦ absurd (cc (told, a)) | inr a ↦ absurd (cc (told, a)) ];
+        lasting = λ pinned on. absurd (cc (pinned, ap is_pinned free));
+        deferred = λ t e. absurd (cc (told, e));
+        called = λ t how e. absurd (cc (told, e));
+      }))
+
+  -- a step of the end, at which every word is free
+  closes : (queued : List Bag) (ending : Ending) → AllFree old → IsPlain x.reply
+      → ((t : ℕ) (how : Called) → x.reply ≡ CalledReply t how → t < old.tickets)
+      → SealedBehind h.when old.tickets old.epoch queued → EndHolds h.when old.tickets ending
+      → new ≡ record old { queued = queued; ending = ending } → Holds new (log ++ x ∷ [])
+  closes queued ending free plain called sealed ends did = holds_along new _ _ did (record {
+    since = h.since;
+    when = h.when;
+    seats = h.seats;
+    queued = sealed;
+    closed = λ shut. free;
+    ending = ends;
+    logged = log_push v v log x h.logged
+        (passes_same v)
+        (record {
+          published = λ p told. absurd (plain.published p told);
+          lasting = λ p pinned on. (pinned, refl);
+          deferred = λ t told. absurd (plain.deferred t told);
+          called = λ t how told. (called t how told, λ q pinned. absurd (cc (pinned, ap is_pinned (free q))));
+        });
+  })
+    where
+      v : View
+      v = view_of old h.since h.when
+
+  end_goes : (e : Ending) → old.ending ≡ e → EndGoes old e x.reply new → Holds new (log ++ x ∷ [])
+  end_goes Open e did = stay old new log x h (quiet_refused x.reply _ did.0) did.1
+  end_goes Over e did = stay old new log x h (quiet_refused x.reply _ did.0) did.1
+  end_goes (Emptying (job ∷ jobs) n) e did =
+      let hand : EndHolds h.when old.tickets (Emptying (job ∷ jobs) n) =
+      subst (EndHolds h.when old.tickets) e h.ending in
+      closes old.queued (Emptying jobs (n + 1)) (h.closed (λ opened. absurd (cc (opened, e))))
+      (plain_called x.reply job.ticket _ did.0)
+      (λ t how a. let same : job.ticket ≡ t = cc (did.0, a) in omega (arith, same, hand.1.0))
+      h.queued (hand.0, hand.1.2) did.1
+  end_goes (Emptying [] n) e (inl (bag, queued, out, told, did)) =
+      let parts = sealed_got h.when old.tickets old.epoch old.queued queued bag out h.queued in
+      let quiet = quiet_stepped x.reply told in
+      closes queued (Emptying bag.jobs n) (h.closed (λ opened. absurd (cc (opened, e)))) quiet.plain
+      (λ t how a. absurd (quiet.called t how a)) parts.sealed (bag.seal, parts.jobs) did
+  end_goes (Emptying [] n) e (inr (none, told, did)) =
+      let quiet = quiet_done x.reply _ told in
+      closes old.queued Over (h.closed (λ opened. absurd (cc (opened, e)))) quiet.plain
+      (λ t how a. absurd (quiet.called t how a)) h.queued tt did
+
+  moves_step : (s : Step) → Moves old s x.reply new → Holds new (log ++ x ∷ [])
+  moves_step Register (inl (p, opened, there, free, lowest, told, did)) = registers p opened there free told did
+  moves_step Register (inr (inl did)) = stay old new log x h (quiet_refused x.reply _ did.2) did.3
+  moves_step Register (inr (inr did)) = stay old new log x h (quiet_refused x.reply _ did.1) did.2
+  moves_step (Begin p c) did = begins p c (refusal c (seat_of old p) old.tickets) refl did
+  moves_step (Go p) (inl did) = stay old new log x h (quiet_refused x.reply _ did.1) did.2
+  moves_step (Go p) (inr did) = go_keeps old new log x h linked p did.0 (seat_of old p).progress refl did.1
+  moves_step EndStep (inl (opened, free, told, did)) = let quiet = quiet_began x.reply told in
+      closes old.queued (Emptying [] 0) free quiet.plain (λ t how a. absurd (quiet.called t how a)) h.queued
+      (0, tt) did
+  moves_step EndStep (inr (inl did)) = stay old new log x h (quiet_refused x.reply _ did.2) did.3
+  moves_step EndStep (inr (inr did)) = stay old new log x h (quiet_refused x.reply _ did.1) did.2
+  moves_step EndGo did = end_goes old.ending refl did
+
+-- WHOLE RUNS
+
+-- the places play no part
+holds_aside : (s : State) (log : List Entry) (places : List Bool) (seen : List ℕ) → Holds (with_places s places seen) log
+    → Holds s log
+holds_aside s log places seen h = record {
+  since = h.since;
+  when = h.when;
+  seats = h.seats;
+  queued = h.queued;
+  closed = h.closed;
+  ending = h.ending;
+  logged = h.logged;
+}
+
+runs_hold : (old new : State) (log entries : List Entry) → AllLinked old → Holds old log → Runs old entries new
+    → Holds new (log ++ entries)
+runs_hold old new log [] linked h run =
+    holds_along new old _ run (subst (Holds old) (sym (append-nil log)) h)
+runs_hold old new log (x ∷ entries) linked h (mid, did, run) =
+    subst (Holds new) (append_assoc log (x ∷ []) entries)
+    (runs_hold mid new (log ++ x ∷ []) entries (step_linked old mid x.step x.reply linked did)
+    (holds_aside mid _ _ _ (moves_step old _ log x h linked x.step did.0)) run)
+
+fresh_holds : (s : State) → IsFresh s → Holds s []
+fresh_holds s fresh = record {
+  since = λ p. 0;
+  when = λ t. 0;
+  seats = λ p. subst (λ (seat : Seat). SeatIsFine (view_of s (λ q. 0) (λ t. 0)) p seat) (sym (fresh.free p)) (record {
+    published = λ n e. absurd (cc);
+    before = omega arith;
+    recent = λ pinned. absurd (cc);
+    agrees = refl;
+    aims = tt;
+    held = tt;
+    knows = tt;
+  });
+  queued = subst (SealedBehind (λ t. 0) s.tickets s.epoch) (sym fresh.none_queued) tt;
+  closed = λ shut. absurd (shut fresh.open_end);
+  ending = subst (EndHolds (λ t. 0) s.tickets) (sym fresh.open_end) tt;
+  logged = record {
+    on = λ p at now. elim now.published [ inl e ↦ absurd (cc (e)) | inr e ↦ absurd (cc (e)) ];
+    blocked = λ t i p at d le now. absurd (cc (d));
+    deferred = λ t i d. absurd (cc (d));
+    called = λ t i how c. absurd (cc (c));
+    grace = λ t j how c blocked. cc (c);
+  };
+}
+
+pub every_run_keeps_grace : (s new : State) (log : List Entry) → IsFresh s → Runs s log new → KeepsGrace log
+every_run_keeps_grace s new log fresh run =
+    (runs_hold s new [] log (fresh_linked s fresh) (fresh_holds s fresh) run).logged.grace

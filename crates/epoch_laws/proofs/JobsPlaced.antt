@@ -1,0 +1,175 @@
+-- Where a participant may have jobs, by the stage of its machine.
+use Rattle.std.proofs.Common.{◌≡◌, ◌≢◌, ℕ, ◌+◌, ◌-◌, ◌^◌, ◌==◌, Bool, true, false, List, [], ◌∷◌, length, Option, Some, None, refl, subst, if◌then◌else◌}
+use Rattle.epoch_machine.specs.declared.machine.Action.{Action}
+use Rattle.epoch_machine.specs.declared.machine.Action.TheVariants.{Pin, Unpin, Repin, Defer, Flush, Release}
+use Rattle.epoch_machine.specs.declared.machine.Stage.{Stage}
+use Rattle.epoch_machine.specs.declared.machine.Stage.TheVariants.{Idle, LoadPin, Scan, Advance, Take, Calling, LoadScan, LoadSeal, Keep, LoadRepin, StoreUnpinned, StoreFree, End}
+use Rattle.epoch_machine.specs.Machine.{Machine, is_empty, after_collect, after_pin, after_put, after_unpin, after_job, holds_up, scanned, past_word, first_stage, begun}
+use Rattle.epoch_laws.specs.declared.step.Call.{Call}
+use Rattle.epoch_laws.specs.declared.step.Call.TheVariants.{Pin as PinCall, Unpin as UnpinCall, Repin as RepinCall, Pause, Resume, Defer as DeferCall, Flush as FlushCall, Release as ReleaseCall}
+use Rattle.epoch_laws.specs.declared.step.Answer.TheVariants.{Unit as UnitAnswer}
+use Rattle.epoch_laws.specs.declared.step.Reply.TheVariants.{Done}
+use Rattle.epoch_laws.specs.declared.step.Deferral.{Deferral}
+use Rattle.epoch_laws.specs.declared.step.Word.TheVariants.{Free}
+use Rattle.epoch_laws.specs.declared.step.Progress.{Progress}
+use Rattle.epoch_laws.specs.declared.step.Progress.TheVariants.{Driven, CallsNow, Ends}
+use Rattle.epoch_laws.specs.Run.{Seat, drives, begun_seat, with_guards, ended_seat}
+
+-- jobs are in hand only while they are called
+abbrev pub HandAt : List Deferral → Stage → Type 0
+HandAt hand (Calling x k) = Unit {0}
+HandAt hand _ = hand ≡ []
+
+-- where a release can't go back, no job is held
+abbrev pub HeldAt : Machine Deferral → Stage → Type 0
+HeldAt m StoreFree = m.held ≡ []
+HeldAt m StoreUnpinned = m.action ≡ Release → m.full ≡ false → m.held ≡ []
+HeldAt m _ = Unit {0}
+
+-- a machine that isn't driven has nothing to ask, and what ends without it tells of no job
+abbrev pub RestsAt : Progress → Stage → Type 0
+RestsAt (Driven c) s = Unit {0}
+RestsAt (Ends reply) s = (s ≡ Idle) × (reply ≡ Done UnitAnswer)
+RestsAt _ s = s ≡ Idle
+
+pub record PlacesJobs (seat : Seat) (s : Stage) : Type 0 where
+  pub hand : HandAt seat.machine.hand s
+  pub held : HeldAt seat.machine s
+  pub rests : RestsAt seat.progress s
+  pub free : seat.word ≡ Free → (seat.machine.held ≡ []) × (seat.machine.hand ≡ [])
+
+-- at its own stage
+abbrev pub PlacesHere : Seat → Type 0
+PlacesHere seat = PlacesJobs seat seat.machine.stage
+
+-- by a test
+pick : (P : Stage → Type 0) (b : Bool) (s t : Stage) → P s → P t → P (if b then s else t)
+pick P true s t one other = one
+pick P false s t one other = other
+
+pub hand_none : (hand : List Deferral) (s : Stage) → hand ≡ [] → HandAt hand s
+hand_none hand (Calling x k) none = tt
+hand_none hand _ none = none
+
+-- THE STAGES AFTER EACH PART: m is the machine that goes there
+
+pub held_collected : (m : Machine Deferral) (a : Action) (jobs : List Deferral)
+    → m.held ≡ jobs
+    → HeldAt m (after_collect a jobs)
+held_collected m Release [] none = λ release full. none
+held_collected m Release (job ∷ jobs) is = tt
+held_collected m _ jobs is = tt
+
+pub held_pinned : (m n : Machine Deferral) → n.held ≡ m.held → HeldAt n (after_pin m)
+held_pinned m n same =
+    pick (HeldAt n) (m.pins == 1) LoadScan (after_collect m.action m.held) tt (held_collected n m.action m.held same)
+
+pub held_put : (m : Machine Deferral) (a : Action) (full : Bool)
+    → (m.full ≡ false → m.held ≡ [])
+    → HeldAt m (after_put a full)
+held_put m Flush full none = tt
+held_put m Defer false none = tt
+held_put m Release full none = λ release. none
+held_put m _ full none = tt
+
+pub held_unpinned : (m : Machine Deferral) (a : Action) (full : Bool)
+    → (a ≡ Release → full ≡ false → m.held ≡ [])
+    → HeldAt m (after_unpin a full)
+held_unpinned m Release false none = none refl refl
+held_unpinned m _ full none = tt
+
+pub held_called : (m n : Machine Deferral) (x k : ℕ) (jobs : List Deferral)
+    → n.held ≡ m.held
+    → HeldAt n (after_job m x k jobs)
+held_called m n x k (job ∷ jobs) same = tt
+held_called m n x k [] same =
+    let last : Bool = k + 1 == m.sizes.collect_bags in
+    pick (HeldAt n) last (after_collect m.action m.held) (Take x (k + 1)) (held_collected n m.action m.held same) tt
+
+pub hand_called : (m : Machine Deferral) (x k : ℕ) (jobs : List Deferral) → HandAt jobs (after_job m x k jobs)
+hand_called m x k (job ∷ jobs) = tt
+hand_called m x k [] = hand_none [] _ refl
+
+held_scanned : (m : Machine Deferral) (e : ℕ) → HeldAt m (scanned e)
+held_scanned m e = pick (HeldAt m) (e == 2 ^ 63 - 1) (Take e 0) (Advance e) tt tt
+
+pub held_past : (m : Machine Deferral) (positions e k w : ℕ) → HeldAt m (past_word positions e k w)
+held_past m positions e k w =
+    pick (HeldAt m) (holds_up e w) (Take e 0) _ tt
+    (pick (HeldAt m) (k + 1 == positions) (scanned e) (Scan e (k + 1)) (held_scanned m e) tt)
+
+pub held_by : (m : Machine Deferral) (b : Bool) (s t : Stage) → HeldAt m s → HeldAt m t → HeldAt m (if b then s else t)
+held_by m = pick (HeldAt m)
+
+held_first : (m n : Machine Deferral) (a : Action) → n.action ≡ a → HeldAt n (first_stage a m)
+held_first m n Pin is = pick (HeldAt n) (m.guards == 0) LoadPin End tt tt
+held_first m n Unpin is = pick (HeldAt n) (m.guards == 1) StoreUnpinned End (λ release. absurd (cc)) tt
+held_first m n Repin is = pick (HeldAt n) (m.guards == 1) LoadRepin End tt tt
+held_first m n Defer is = pick (HeldAt n) (length m.held == m.sizes.bag_jobs) LoadSeal Keep tt tt
+held_first m n Flush is = pick (HeldAt n) (is_empty m.held) LoadScan LoadSeal tt tt
+held_first m n Release is = tt
+
+-- HOW A CALL BEGINS AND ENDS
+
+-- a participant after a step that moves no job
+pub record LeavesJobs (old new : Seat) : Type 0 where
+  pub places : PlacesHere new
+  pub held : new.machine.held ≡ old.machine.held
+  pub hand : new.machine.hand ≡ old.machine.hand
+
+module _ (seat : Seat) (taken : seat.word ≢ Free) where
+  -- the machine stays
+  pub resting : (progress : Progress) → RestsAt progress seat.machine.stage → PlacesHere seat
+      → LeavesJobs seat (record seat { progress = progress })
+  resting progress rests places = record {
+    places = record { hand = places.hand; held = places.held; rests = rests; free = places.free };
+    held = refl;
+    hand = refl;
+  }
+
+  begun_driven : (a : Action) (c : Call) → HandAt seat.machine.hand Idle → LeavesJobs seat (drives a c seat)
+  begun_driven a c none = record {
+    places = record {
+      hand = hand_none seat.machine.hand _ none;
+      held = held_first seat.machine (begun a seat.machine) a refl;
+      rests = tt;
+      free = λ free. absurd (taken free);
+    };
+    held = refl;
+    hand = refl;
+  }
+
+  pub begun_leaves : (c : Call)
+      → seat.machine.stage ≡ Idle
+      → PlacesHere seat
+      → LeavesJobs seat (begun_seat c seat)
+  begun_leaves c idle places = begins c (subst (HandAt seat.machine.hand) idle places.hand)
+    where
+      begins : (c : Call) → HandAt seat.machine.hand Idle → LeavesJobs seat (begun_seat c seat)
+      begins PinCall none = begun_driven Pin PinCall none
+      begins (UnpinCall g) none = begun_driven Unpin (UnpinCall g) none
+      begins (RepinCall (Some g)) none = begun_driven Repin (RepinCall (Some g)) none
+      begins (Pause (Some g)) none = begun_driven Unpin (Pause (Some g)) none
+      begins (Resume (Some g)) none = begun_driven Pin (Resume (Some g)) none
+      begins (DeferCall (Some g)) none = begun_driven Defer (DeferCall (Some g)) none
+      begins (FlushCall (Some g)) none = begun_driven Flush (FlushCall (Some g)) none
+      begins ReleaseCall none = begun_driven Release ReleaseCall none
+      begins (DeferCall None) none = resting CallsNow idle places
+      begins _ none = resting (Ends (Done UnitAnswer)) (idle, refl) places
+
+  pub ended_leaves : (c : Call) → seat.machine.hand ≡ [] → LeavesJobs seat (ended_seat c seat)
+  ended_leaves c none = ends c
+    where
+      idles : (guards : List ℕ) (paused : Option ℕ) → LeavesJobs seat (with_guards seat guards paused)
+      idles guards paused = record {
+        places = record { hand = none; held = tt; rests = refl; free = λ free. absurd (taken free) };
+        held = refl;
+        hand = refl;
+      }
+
+      ends : (c : Call) → LeavesJobs seat (ended_seat c seat)
+      ends PinCall = idles _ _
+      ends (UnpinCall (Some g)) = idles _ _
+      ends (Pause (Some g)) = idles _ _
+      ends (Resume (Some g)) = idles _ _
+      ends _ = idles _ _

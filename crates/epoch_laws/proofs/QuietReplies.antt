@@ -1,0 +1,77 @@
+-- Replies that tell nothing of pins and deferrals.
+use Rattle.std.proofs.Common.{◌≡◌, ◌≢◌, ℕ, Bool, true, false, inl, inr}
+use Rattle.epoch_bags.specs.declared.job.Called.{Called}
+use Rattle.epoch_cells.specs.declared.fault.Fault.{Fault}
+use Rattle.epoch_laws.specs.declared.step.Answer.{Answer}
+use Rattle.epoch_laws.specs.declared.step.Call.{Call}
+use Rattle.epoch_laws.specs.declared.step.Call.TheVariants.{Pin, Unpin, Repin, Pause, Resume, Defer, Flush, Release}
+use Rattle.epoch_laws.specs.declared.step.Reply.{Reply}
+use Rattle.epoch_laws.specs.declared.step.Reply.TheVariants.{Began, Stepped, Pinned, Unpinned, Repinned, Deferred, Called as CalledReply, CalledNow, Done, Refused}
+use Rattle.epoch_laws.specs.Run.{Seat, full_or_done, end_reply}
+use Rattle.epoch_laws.proofs.Log.{IsPublish, IsWithdrawal}
+
+-- nothing is told but perhaps a call
+pub record IsPlain (r : Reply) : Type 0 where
+  pub published : (q : ℕ) → ¬ (IsPublish r q)
+  pub withdrawn : (q : ℕ) → ¬ (IsWithdrawal r q)
+  pub deferred : (t : ℕ) → r ≢ Deferred t
+
+pub record IsQuiet (r : Reply) : Type 0 where
+  pub plain : IsPlain r
+  pub called : (t : ℕ) (how : Called) → r ≢ CalledReply t how
+
+pub plain_by : (r : Reply) → ((q : ℕ) → r ≢ Pinned q) → ((q : ℕ) → r ≢ Repinned q) → ((q : ℕ) → r ≢ Unpinned q)
+    → ((t : ℕ) → r ≢ Deferred t) → IsPlain r
+plain_by r pinned repinned unpinned deferred = record {
+  published = λ q h. elim h [ inl e ↦ pinned q e | inr e ↦ repinned q e ];
+  withdrawn = λ q h. elim h [ inl e ↦ unpinned q e | inr e ↦ repinned q e ];
+  deferred = deferred;
+}
+
+pub plain_called : (r : Reply) (t : ℕ) (how : Called) → r ≡ CalledReply t how → IsPlain r
+plain_called r t how e = plain_by r (λ q h. cc) (λ q h. cc) (λ q h. cc) (λ u h. cc)
+
+pub quiet_stepped : (r : Reply) → r ≡ Stepped → IsQuiet r
+quiet_stepped r e = record {
+  plain = plain_by r (λ q h. cc) (λ q h. cc) (λ q h. cc) (λ t h. cc);
+  called = λ t how h. cc;
+}
+
+pub quiet_began : (r : Reply) → r ≡ Began → IsQuiet r
+quiet_began r e = record {
+  plain = plain_by r (λ q h. cc) (λ q h. cc) (λ q h. cc) (λ t h. cc);
+  called = λ t how h. cc;
+}
+
+pub quiet_now : (r : Reply) (how : Called) → r ≡ CalledNow how → IsQuiet r
+quiet_now r how e = record {
+  plain = plain_by r (λ q h. cc) (λ q h. cc) (λ q h. cc) (λ t h. cc);
+  called = λ t how h. cc;
+}
+
+pub quiet_done : (r : Reply) (a : Answer) → r ≡ Done a → IsQuiet r
+quiet_done r a e = record {
+  plain = plain_by r (λ q h. cc) (λ q h. cc) (λ q h. cc) (λ t h. cc);
+  called = λ t how h. cc;
+}
+
+pub quiet_refused : (r : Reply) (f : Fault) → r ≡ Refused f → IsQuiet r
+quiet_refused r f e = record {
+  plain = plain_by r (λ q h. cc) (λ q h. cc) (λ q h. cc) (λ t h. cc);
+  called = λ t how h. cc;
+}
+
+quiet_full : (r : Reply) (full : Bool) → r ≡ full_or_done full → IsQuiet r
+quiet_full r true e = quiet_refused r _ e
+quiet_full r false e = quiet_done r _ e
+
+-- the end of a call
+pub quiet_end : (r : Reply) (c : Call) (seat : Seat) → r ≡ end_reply c seat → IsQuiet r
+quiet_end r Pin seat e = quiet_done r _ e
+quiet_end r (Unpin g) seat e = quiet_done r _ e
+quiet_end r (Repin g) seat e = quiet_done r _ e
+quiet_end r (Pause g) seat e = quiet_done r _ e
+quiet_end r (Resume g) seat e = quiet_done r _ e
+quiet_end r (Defer g) seat e = quiet_full r seat.machine.full e
+quiet_end r (Flush g) seat e = quiet_full r seat.machine.full e
+quiet_end r Release seat e = quiet_full r seat.machine.full e

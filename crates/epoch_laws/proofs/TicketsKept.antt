@@ -1,0 +1,128 @@
+-- Every step of a participant keeps the tally.
+use Rattle.std.proofs.Common.{◌≡◌, ◌≢◌, ℕ, ◌+◌, ◌==◌, false, List, [], ◌∷◌, ◌++◌, refl, ap, sym, subst, ◌∙◌, arith}
+use Rattle.epoch_machine.specs.declared.machine.Stage.{Stage}
+use Rattle.epoch_machine.specs.declared.machine.Stage.TheVariants.{Idle, LoadPin, StorePin, ReloadPin, LoadScan, Scan, Advance, Take, Calling, LoadSeal, Put, Keep, LoadRepin, StoreRepin, ReloadRepin, StoreUnpinned, StoreFree, End}
+use Rattle.epoch_machine.specs.declared.machine.Answer.TheVariants.{Stored}
+use Rattle.epoch_machine.specs.Machine.{Machine, ask_at, hears}
+use Rattle.epoch_laws.specs.declared.step.Call.{Call}
+use Rattle.epoch_laws.specs.declared.step.Reply.{Reply}
+use Rattle.epoch_laws.specs.declared.step.Reply.TheVariants.{Began, Done}
+use Rattle.epoch_laws.specs.declared.step.Answer.TheVariants.{Unit as UnitAnswer, Released}
+use Rattle.epoch_laws.specs.declared.step.Entry.{Entry}
+use Rattle.epoch_laws.specs.declared.step.Deferral.{Deferral}
+use Rattle.epoch_laws.specs.declared.step.Word.TheVariants.{Free, Unpinned, Pinned}
+use Rattle.epoch_laws.specs.declared.step.Progress.{Progress}
+use Rattle.epoch_laws.specs.declared.step.Progress.TheVariants.{Idle as IdleProgress, Driven, CallsNow, Ends}
+use Rattle.epoch_laws.specs.Run.{Seat, State, seat_of, word_of, number_of, with_seat, free_seat, Open, begun_seat, end_reply, ended_seat, Drives, Goes}
+use Rattle.epoch_laws.specs.Tickets.{times}
+use Rattle.epoch_laws.proofs.SeatLemmas.{seat_there}
+use Rattle.epoch_laws.proofs.JobsPlaced.{HeldAt, RestsAt, PlacesJobs, PlacesHere, LeavesJobs, held_pinned, held_unpinned, held_past, held_by, resting, begun_leaves, ended_leaves}
+use Rattle.epoch_laws.proofs.TicketsTallied.{Tallies, tells, untold_calls, untold_deferrals, end_untold, none_given, stayed, acts}
+use Rattle.epoch_laws.proofs.JobsMoved.{IsGoing, ending_open, keeps_jobs, staged, puts, takes, calls, keeps}
+
+module _ (old new : State) (log : List Entry) (x : Entry) (h : Tallies old log) where
+  abbrev Kept : Type 0
+  Kept = Tallies new (log ++ x ∷ [])
+
+  module _ (p : ℕ) (taken : word_of old p ≢ Free) where
+    abbrev seat : Seat
+    seat = seat_of old p
+
+    abbrev m : Machine Deferral
+    m = seat.machine
+
+    opened : old.ending ≡ Open
+    opened = ending_open old.ending (λ shut. taken (h.closed shut p))
+
+    -- no job moves
+    leaves_jobs : (told : Reply) (after : Seat) → x.reply ≡ told → tells told ≡ false → LeavesJobs seat after
+        → new ≡ with_seat old p after
+        → Kept
+    leaves_jobs told after is quiet leaves did =
+        acts old new log x h told p after old.epoch old.queued old.tickets is (record {
+          there = seat_there old p taken;
+          ending = opened;
+          places = leaves.places;
+          moved = λ t. omega (
+            arith,
+            untold_calls t told quiet,
+            untold_deferrals t told quiet,
+            ap (times t) leaves.held,
+            ap (times t) leaves.hand,
+          );
+          given = none_given old.tickets told quiet;
+        }) did
+
+    pub begins : (c : Call)
+        → seat.progress ≡ IdleProgress
+        → x.reply ≡ Began
+        → new ≡ with_seat old p (begun_seat c seat)
+        → Kept
+    begins c idle is did =
+        let at : PlacesHere seat = h.seats p in
+        let rests : m.stage ≡ Idle = subst (λ (progress : Progress). RestsAt progress m.stage) idle at.rests in
+        leaves_jobs _ (begun_seat c seat) is refl (begun_leaves seat taken c rests at) did
+
+    module _ (c : Call) (driven : seat.progress ≡ Driven c) where
+      g : IsGoing old new log x p c
+      g = record { tallies = h; taken = taken; driven = driven }
+
+      frees : PlacesJobs seat StoreFree
+          → (x.reply ≡ Done Released) × (new ≡ with_seat old p (free_seat old.sizes))
+          → Kept
+      frees at did = leaves_jobs _ (free_seat old.sizes) did.0 refl (record {
+        places = record { hand = refl; held = tt; rests = refl; free = λ free. (refl, refl) };
+        held = sym at.held;
+        hand = sym at.hand;
+      }) did.1
+
+      ends : m.hand ≡ [] → (x.reply ≡ end_reply c seat) × (new ≡ with_seat old p (ended_seat c seat)) → Kept
+      ends none did =
+          leaves_jobs _ (ended_seat c seat) did.0 (end_untold c seat) (ended_leaves seat taken c none) did.1
+
+      goes_at : (s : Stage) → PlacesJobs seat s → Drives old p seat c s (ask_at s) x.reply new → Kept
+      goes_at Idle at did = ends at.hand did
+      goes_at LoadPin at did = staged g _ at.hand tt did
+      goes_at (StorePin e) at did =
+          let n : Machine Deferral = hears m (StorePin e) Stored in
+          keeps_jobs g _ (Pinned e) n old.epoch refl (λ free. cc) tt at.hand (refl, refl) did
+      goes_at ReloadPin at did = staged g _ at.hand (held_pinned m m refl) did
+      goes_at LoadScan at did = staged g _ at.hand tt did
+      goes_at (Scan e k) at did =
+          staged g _ at.hand (held_past m m.sizes.positions e k (number_of (word_of old k))) did
+      goes_at (Advance e) at did =
+          keeps_jobs g _ seat.word (hears m (Advance e) Stored) (e + 1) refl taken tt at.hand (refl, refl) did
+      goes_at (Take y k) at (step, jobs, queued, is, took, did) = takes g y k step jobs queued at.hand is took did
+      goes_at (Calling y k) at did = calls g y k did
+      goes_at LoadSeal at did = staged g _ at.hand tt did
+      goes_at (Put seal) at (step, queued, is, put, did) = puts g seal step queued at.hand is put did
+      goes_at Keep at did = keeps g at.hand did
+      goes_at LoadRepin at did =
+          staged g _ at.hand (held_by m (m.published == old.epoch) End (StoreRepin old.epoch) tt tt) did
+      goes_at (StoreRepin e) at did =
+          let n : Machine Deferral = hears m (StoreRepin e) Stored in
+          keeps_jobs g _ (Pinned e) n old.epoch refl (λ free. cc) tt at.hand (refl, refl) did
+      goes_at ReloadRepin at did = staged g _ at.hand tt did
+      goes_at StoreUnpinned at did =
+          let n : Machine Deferral = hears m StoreUnpinned Stored in
+          let held : HeldAt n n.stage = held_unpinned n m.action m.full at.held in
+          keeps_jobs g _ Unpinned n old.epoch refl (λ free. cc) held at.hand (refl, refl) did
+      goes_at StoreFree at did = frees at did
+      goes_at End at did = ends at.hand did
+
+    pub goes : (progress : Progress) → seat.progress ≡ progress → Goes old p seat progress x.reply new → Kept
+    goes progress at did =
+        by_progress progress at (subst (λ (q : Progress). RestsAt q m.stage) at (h.seats p).rests) did
+      where
+        by_progress : (progress : Progress) → seat.progress ≡ progress → RestsAt progress m.stage
+            → Goes old p seat progress x.reply new
+            → Kept
+        by_progress IdleProgress at rests did = stayed old new log x h _ did.0 refl did.1
+        by_progress (Driven c) at rests did = goes_at c at m.stage (h.seats p) did
+        by_progress CallsNow at rests did =
+            let ends : Progress = Ends (Done UnitAnswer) in
+            let after : Seat = record seat { progress = ends } in
+            leaves_jobs _ after did.0 refl (resting seat taken ends (rests, refl) (h.seats p)) did.1
+        by_progress (Ends reply) at rests did =
+            let after : Seat = record seat { progress = IdleProgress } in
+            leaves_jobs _ after (did.0 ∙ rests.1) refl (resting seat taken IdleProgress rests.0 (h.seats p)) did.1

@@ -1,0 +1,142 @@
+-- What holds of the world and its log between any two steps, and what a step on one seat must keep of it.
+use Rattle.std.proofs.Common.{◌≡◌, ◌≢◌, ℕ, ◌+◌, ◌<◌, ◌≤◌, true, List, [], ◌∷◌, ◌++◌, length, ◌⊎◌, inl, inr, ap, sym, subst, ◌∙◌, arith, eqb, cond, slice_index_or, slice_set}
+use Rattle.std.proofs.lemmas.Bool.Decides.{nat_tests}
+use Rattle.epoch_bags.specs.declared.job.Called.{Called}
+use Rattle.epoch_machine.specs.declared.machine.Sizes.{Sizes}
+use Rattle.epoch_laws.specs.declared.step.Reply.{Reply}
+use Rattle.epoch_laws.specs.declared.step.Reply.TheVariants.{Deferred, Called as CalledReply}
+use Rattle.epoch_laws.specs.declared.step.Entry.{Entry}
+use Rattle.epoch_laws.specs.Run.{Seat, State, seat_of, word_of, with_seat, free_seat, Ending, Open, Emptying, AllFree}
+use Rattle.epoch_laws.proofs.SeatLemmas.{seat_written, seat_other, same_or_other}
+use Rattle.epoch_laws.proofs.DeferralEpochs.{DeferredBy, SealedBehind, deferred_more}
+use Rattle.epoch_laws.proofs.Log.{IsPublish, IsWithdrawal}
+use Rattle.epoch_laws.proofs.SeatsFine.{View, is_pinned, SeatIsFine, WasPinned, Passes, fine_more}
+use Rattle.epoch_laws.proofs.LogKept.{LogHolds, Tells, Lasts, log_push}
+
+abbrev pub view_of : State → (ℕ → ℕ) → (ℕ → ℕ) → View
+view_of s since when =
+    record { epoch = s.epoch; tickets = s.tickets; word = word_of s; since = since; when = when }
+
+-- the jobs in the hands of the end
+abbrev pub EndHolds : (ℕ → ℕ) → ℕ → Ending → Type 0
+EndHolds when tickets (Emptying hand n) = (bound : ℕ) × DeferredBy when tickets bound hand
+EndHolds when tickets _ = Unit {0}
+
+pub record Holds (s : State) (log : List Entry) : Type 0 where
+  pub since : ℕ → ℕ
+  pub when : ℕ → ℕ
+  pub seats : (p : ℕ) → SeatIsFine (view_of s since when) p (seat_of s p)
+  pub queued : SealedBehind when s.tickets s.epoch s.queued
+  pub closed : s.ending ≢ Open → AllFree s
+  pub ending : EndHolds when s.tickets s.ending
+  pub logged : LogHolds (view_of s since when) log
+
+pub holds_along : (new last : State) (log : List Entry) → new ≡ last → Holds last log → Holds new log
+holds_along new last log e h = subst (λ (s : State). Holds s log) (sym e) h
+
+-- a function changed at one place
+abbrev pub changed : (ℕ → ℕ) → ℕ → ℕ → ℕ → ℕ
+changed f p e q = cond (eqb q p) e (f q)
+
+pub changed_same : (f : ℕ → ℕ) (p e : ℕ) → changed f p e p ≡ e
+changed_same f p e = grind (arith, nat_tests)
+
+pub changed_other : (f : ℕ → ℕ) (p e q : ℕ) → q ≢ p → changed f p e q ≡ f q
+changed_other f p e q ne = grind (arith, nat_tests)
+
+-- What a step of p must show: its seat after the step is fine in the new view, and what the reply tells of p.
+pub record Acts (old new : State) (since when since' when' : ℕ → ℕ) (p : ℕ) (after : Seat) (r : Reply) : Type 0 where
+  pub there : p < length old.seats
+  pub still_open : ¬ (old.ending ≢ Open)
+  pub sizes : new.sizes ≡ old.sizes
+  pub seats : new.seats ≡ slice_set old.seats p after
+  pub ending : new.ending ≡ old.ending
+  pub epoch : old.epoch ≤ new.epoch
+  pub tickets : old.tickets ≤ new.tickets
+  pub when_old : (t : ℕ) → t < old.tickets → when' t ≡ when t
+  pub since_other : (q : ℕ) → q ≢ p → since' q ≡ since q
+  pub near : (q : ℕ) → q ≢ p → is_pinned (word_of old q) ≡ true → new.epoch ≤ since q + 1
+  pub own : is_pinned after.word ≡ true
+      → ((is_pinned (word_of old p) ≡ true) × (since' p ≡ since p)) ⊎ (old.epoch ≤ since' p)
+  pub fine : Passes (view_of old since when) (view_of new since' when') → SeatIsFine (view_of new since' when') p after
+  pub queued : SealedBehind when' new.tickets new.epoch new.queued
+  pub published : (q : ℕ) → IsPublish r q → (q ≡ p) × (is_pinned after.word ≡ true)
+  pub lasting : is_pinned (word_of old p) ≡ true → ¬ (IsWithdrawal r p)
+      → (is_pinned after.word ≡ true) × (since' p ≡ since p)
+  pub deferred : (t : ℕ) → r ≡ Deferred t → (t ≡ old.tickets) × (t < new.tickets) × ((q : ℕ) → since' q ≤ when' t)
+  pub called : (t : ℕ) (how : Called) → r ≡ CalledReply t how
+      → (t < old.tickets) × ((q : ℕ) → is_pinned (word_of old q) ≡ true → when t < since q)
+
+end_more : (when when' : ℕ → ℕ) (n n' : ℕ) (e : Ending) → n ≤ n' → ((t : ℕ) → t < n → when' t ≡ when t)
+    → EndHolds when n e → EndHolds when' n' e
+end_more when when' n n' (Emptying hand k) more same h =
+    (h.0, deferred_more when when' n n' h.0 h.0 hand more (omega arith) same h.1)
+end_more when when' n n' _ more same h = tt
+
+pub acted : (old new : State) (log : List Entry) (x : Entry) (h : Holds old log) (since' when' : ℕ → ℕ) (p : ℕ)
+    (after : Seat) → Acts old new h.since h.when since' when' p after x.reply → Holds new (log ++ x ∷ [])
+acted old new log x h since' when' p after a = record {
+  since = since';
+  when = when';
+  seats = λ q. elim (same_or_other q p) [
+    | inl same ↦ subst (λ r. SeatIsFine v' r (seat_of new r)) (sym same)
+        (subst (λ (seat : Seat). SeatIsFine v' p seat) (sym written) (a.fine passes))
+    | inr ne ↦ subst (λ (seat : Seat). SeatIsFine v' q seat) (sym (other q ne)) (untouched q ne)
+  ];
+  queued = a.queued;
+  closed = λ shut. absurd (a.still_open (λ e. shut (a.ending ∙ e)));
+  ending = subst (EndHolds when' new.tickets) (sym a.ending)
+      (end_more h.when when' old.tickets new.tickets old.ending a.tickets a.when_old h.ending);
+  logged = log_push v v' log x h.logged passes tells;
+}
+  where
+    v : View
+    v = view_of old h.since h.when
+
+    v' : View
+    v' = view_of new since' when'
+
+    looked_up : (q : ℕ) → seat_of new q ≡ seat_of (with_seat old p after) q
+    looked_up q = ap (λ (ss : List Seat). slice_index_or ss q (free_seat new.sizes)) a.seats
+        ∙ ap (λ (z : Sizes). slice_index_or (slice_set old.seats p after) q (free_seat z)) a.sizes
+
+    written : seat_of new p ≡ after
+    written = looked_up p ∙ seat_written old p after a.there
+
+    other : (q : ℕ) → q ≢ p → seat_of new q ≡ seat_of old q
+    other q ne = looked_up q ∙ seat_other old p q after ne
+
+    word_at : word_of new p ≡ after.word
+    word_at = ap (λ (seat : Seat). seat.word) written
+
+    word_other : (q : ℕ) → q ≢ p → word_of new q ≡ word_of old q
+    word_other q ne = ap (λ (seat : Seat). seat.word) (other q ne)
+
+    was_pinned : (j : ℕ) → WasPinned v v' j
+    was_pinned j = elim (same_or_other j p) [
+      | inl same ↦ subst (WasPinned v v') (sym same) (λ pinned. a.own (ap is_pinned (sym word_at) ∙ pinned))
+      | inr ne ↦ λ pinned. inl (ap is_pinned (sym (word_other j ne)) ∙ pinned, a.since_other j ne)
+    ]
+
+    passes : Passes v v'
+    passes = record { epoch = a.epoch; tickets = a.tickets; when = a.when_old; pinned = was_pinned }
+
+    untouched : (q : ℕ) → q ≢ p → SeatIsFine v' q (seat_of old q)
+    untouched q ne = fine_more v v' q (word_of old q) (seat_of old q).machine (seat_of old q).machine.stage passes
+        (a.since_other q ne) (a.near q ne) (h.seats q)
+
+    lasts : (q : ℕ) → Lasts v v' x.reply q
+    lasts q = elim (same_or_other q p) [
+      | inl same ↦ subst (Lasts v v' x.reply) (sym same)
+          (λ pinned on. let l = a.lasting pinned on in (ap is_pinned word_at ∙ l.0, l.1))
+      | inr ne ↦ λ pinned on. (ap is_pinned (word_other q ne) ∙ pinned, a.since_other q ne)
+    ]
+
+    tells : Tells v v' x.reply
+    tells = record {
+      published = λ q told. let r = a.published q told in
+          subst (λ (k : ℕ). is_pinned (word_of new k) ≡ true) (sym r.0) (ap is_pinned word_at ∙ r.1);
+      lasting = lasts;
+      deferred = a.deferred;
+      called = a.called;
+    }

@@ -1,0 +1,146 @@
+-- What a world keeps between any two steps, so that its code never runs out of range.
+use Rattle.std.specs.Prelude.{◌≡◌, ℕ, ◌+◌, ◌-◌, ◌^◌, ◌<◌, ◌≤◌, Bool, true, false, List, length, Option, Some, None, sum_by, if◌then◌else◌}
+use Rattle.epoch_machine.specs.declared.machine.Action.{Action}
+use Rattle.epoch_machine.specs.declared.machine.Action.TheVariants.{Pin as PinAction, Unpin as UnpinAction, Repin as RepinAction, Defer as DeferAction, Flush as FlushAction, Release as ReleaseAction}
+use Rattle.epoch_machine.specs.declared.machine.Sizes.{Sizes}
+use Rattle.epoch_machine.specs.declared.machine.Stage.{Stage}
+use Rattle.epoch_machine.specs.declared.machine.Stage.TheVariants.{Idle as Resting, Keep, End}
+use Rattle.epoch_machine.specs.Machine.{Machine}
+use Rattle.epoch_laws.specs.declared.step.Answer.TheVariants.{Unit as UnitAnswer}
+use Rattle.epoch_laws.specs.declared.step.Call.{Call}
+use Rattle.epoch_laws.specs.declared.step.Call.TheVariants.{Pin, Unpin, Repin, Pause, Resume, Defer, Flush, Release}
+use Rattle.epoch_laws.specs.declared.step.Deferral.{Deferral}
+use Rattle.epoch_laws.specs.declared.step.Progress.{Progress}
+use Rattle.epoch_laws.specs.declared.step.Progress.TheVariants.{Driven, Ends}
+use Rattle.epoch_laws.specs.declared.step.Reply.TheVariants.{Done}
+use Rattle.epoch_laws.specs.Run.{Bag, Seat, State, Ending, Emptying, seat_of, is_out}
+
+-- CALLS, MACHINES AND GUARDS SAY THE SAME
+
+-- the action that drives a call
+abbrev pub action_of : Call → Action
+action_of Pin = PinAction
+action_of (Unpin g) = UnpinAction
+action_of (Repin g) = RepinAction
+action_of (Pause g) = UnpinAction
+action_of (Resume g) = PinAction
+action_of (Defer g) = DeferAction
+action_of (Flush g) = FlushAction
+action_of Release = ReleaseAction
+
+-- no action is under way
+abbrev pub rests : Stage → Bool
+rests Resting = true
+rests _ = false
+
+-- what the Begin of a driven call found of the guards, which stay as they are until the call ends
+abbrev pub BeganUnder : Call → List ℕ → Type 0
+BeganUnder Pin guards = length guards < 64
+BeganUnder (Resume (Some g)) guards = Unit {0}
+BeganUnder (Unpin (Some g)) guards = is_out g guards ≡ true
+BeganUnder (Repin (Some g)) guards = is_out g guards ≡ true
+BeganUnder (Pause (Some g)) guards = is_out g guards ≡ true
+BeganUnder (Defer (Some g)) guards = is_out g guards ≡ true
+BeganUnder (Flush (Some g)) guards = is_out g guards ≡ true
+BeganUnder Release guards = length guards ≡ 0
+BeganUnder _ guards = ⊥
+
+pub record IsDriven (c : Call) (m : Machine Deferral) (guards : List ℕ) : Type 0 where
+  pub under_way : rests m.stage ≡ false
+  pub action : m.action ≡ action_of c
+  pub under : BeganUnder c guards
+
+-- the machine rests but where it drives the call under way; a call that it doesn't drive has nothing to answer
+abbrev pub Follows : Progress → Machine Deferral → List ℕ → Type 0
+Follows (Driven c) m guards = IsDriven c m guards
+Follows (Ends reply) m guards = (m.stage ≡ Resting) × (reply ≡ Done UnitAnswer)
+Follows _ m guards = m.stage ≡ Resting
+
+pub record IsLinked (sizes : Sizes) (seat : Seat) : Type 0 where
+  pub sized : seat.machine.sizes ≡ sizes
+  pub counted : seat.machine.guards ≡ length seat.guards
+  pub follows : Follows seat.progress seat.machine seat.guards
+
+pub record AllLinked (s : State) : Type 0 where
+  pub positions : s.sizes.positions ≡ length s.seats
+  pub seats : (p : ℕ) → IsLinked s.sizes (seat_of s p)
+
+-- GUARDS ARE FEW
+
+abbrev pub paused_count : Option ℕ → ℕ
+paused_count None = 0
+paused_count (Some g) = 1
+
+-- who is paused resumes, and does nothing else
+abbrev pub Awake : Progress → Option ℕ → Type 0
+Awake (Driven (Resume (Some g))) paused = paused ≡ Some g
+Awake (Driven c) paused = paused ≡ None
+Awake _ paused = Unit {0}
+
+pub record HasRoom (seat : Seat) : Type 0 where
+  pub few : length seat.guards + paused_count seat.paused ≤ 64
+  pub awake : Awake seat.progress seat.paused
+
+abbrev pub AllRoomy : State → Type 0
+AllRoomy s = (p : ℕ) → HasRoom (seat_of s p)
+
+-- TICKETS ARE FEW
+
+-- an action still has a step to make
+abbrev pub is_busy : Stage → Bool
+is_busy Resting = false
+is_busy End = false
+is_busy _ = true
+
+-- a deferral that is under way, and before its end, may still take a ticket
+abbrev pub pending_at : Action → Stage → ℕ
+pending_at DeferAction s = if is_busy s then 1 else 0
+pending_at _ s = 0
+
+abbrev pub pending : Seat → ℕ
+pending seat = pending_at seat.machine.action seat.machine.stage
+
+-- only a deferral keeps a job
+abbrev pub KeepsAt : Action → Stage → Type 0
+KeepsAt a Keep = a ≡ DeferAction
+KeepsAt a _ = Unit {0}
+
+abbrev pub Keeps : Seat → Type 0
+Keeps seat = KeepsAt seat.machine.action seat.machine.stage
+
+-- the tickets given, with those that may still be taken, are few enough
+pub record Bounded (s : State) : Type 0 where
+  pub tickets : s.tickets + sum_by pending s.seats ≤ (2 ^ 64 - 4097) + length s.seats
+  pub keeps : (p : ℕ) → Keeps (seat_of s p)
+
+-- JOBS ARE NO MORE THAN TICKETS
+
+-- the jobs of a participant: held, and in hand
+abbrev pub jobs_in : Machine Deferral → ℕ
+jobs_in m = length m.held + length m.hand
+
+abbrev pub jobs_at_seats : List Seat → ℕ
+jobs_at_seats seats = sum_by (λ seat. jobs_in seat.machine) seats
+
+abbrev pub jobs_queued : List Bag → ℕ
+jobs_queued bags = sum_by (λ bag. length bag.jobs) bags
+
+-- the jobs that an end has in hand, with those that it called
+abbrev pub jobs_at_end : Ending → ℕ
+jobs_at_end (Emptying hand n) = length hand + n
+jobs_at_end _ = 0
+
+abbrev pub all_jobs : State → ℕ
+all_jobs s = jobs_at_seats s.seats + jobs_queued s.queued + jobs_at_end s.ending
+
+abbrev pub JobsFew : State → Type 0
+JobsFew s = all_jobs s ≤ s.tickets
+
+-- ALL OF IT
+
+pub record IsKept (s : State) : Type 0 where
+  pub linked : AllLinked s
+  pub roomy : AllRoomy s
+  pub bounded : Bounded s
+  pub jobs : JobsFew s
+  pub few : length s.seats ≤ 64

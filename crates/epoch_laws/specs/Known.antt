@@ -1,0 +1,23 @@
+-- What a log tells of one participant, its guards aside, and what an entry does to its guards.
+use Rattle.std.specs.Prelude.{ℕ, List, [], ◌∷◌, ◌++◌}
+use Rattle.epoch_laws.specs.declared.history.known.Known.{Known}
+use Rattle.epoch_laws.specs.declared.history.known.Change.{Change}
+use Rattle.epoch_laws.specs.declared.history.known.Change.TheVariants.{Adds, Takes, Keeps}
+use Rattle.epoch_laws.specs.Lawful.{Told}
+use Rattle.epoch_laws.specs.Run.{without}
+
+abbrev pub known_of : Told → Known
+known_of t = record {
+  call = t.call;
+  pinned = t.pinned;
+  did_pin = t.did_pin;
+  did_unpin = t.did_unpin;
+  did_repin = t.did_repin;
+  did_defer = t.did_defer;
+}
+
+-- the guards after a change
+abbrev pub changed : Change → List ℕ → List ℕ
+changed (Adds g) guards = guards ++ g ∷ []
+changed (Takes g) guards = without g guards
+changed Keeps guards = guards

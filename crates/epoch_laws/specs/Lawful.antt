@@ -1,0 +1,208 @@
+-- What is said of steps and replies alone: in which calls each event may stand, and how often.
+use Rattle.std.specs.Prelude.{◌≡◌, ℕ, ◌<◌, Bool, true, false, List, [], ◌∷◌, ◌++◌, length, Option, Some, None, ◌==◌, if◌then◌else◌}
+use Rattle.epoch_bags.specs.declared.job.Called.{Called}
+use Rattle.epoch_laws.specs.declared.step.Call.{Call}
+use Rattle.epoch_laws.specs.declared.step.Call.TheVariants.{Pin, Unpin, Pause, Resume, Repin, Defer, Flush, Release}
+use Rattle.epoch_laws.specs.declared.step.Step.{Step}
+use Rattle.epoch_laws.specs.declared.step.Step.TheVariants.{Register, Begin, Go, End, EndGo}
+use Rattle.epoch_laws.specs.declared.step.Answer.{Answer}
+use Rattle.epoch_laws.specs.declared.step.Answer.TheVariants.{Guard}
+use Rattle.epoch_laws.specs.declared.step.Reply.{Reply}
+use Rattle.epoch_laws.specs.declared.step.Reply.TheVariants.{Registered, Began, Stepped, Pinned, Unpinned, Repinned, Deferred, Called as CalledReply, CalledNow, Done, Refused}
+use Rattle.epoch_laws.specs.declared.step.Entry.{Entry}
+use Rattle.epoch_laws.specs.Run.{without}
+use Rattle.epoch_laws.specs.Grace.{Stands}
+
+-- WHAT A LOG TELLS OF ONE PARTICIPANT
+
+pub record Told : Type 0 where
+  pub call : Option Call  -- the call under way, if there is one
+  pub guards : List ℕ  -- the guards counted
+  pub pinned : Bool
+  -- which events the call under way has told
+  pub did_pin : Bool
+  pub did_unpin : Bool
+  pub did_repin : Bool
+  pub did_defer : Bool
+
+abbrev pub nothing : Told
+nothing = record {
+  call = None;
+  guards = [];
+  pinned = false;
+  did_pin = false;
+  did_unpin = false;
+  did_repin = false;
+  did_defer = false;
+}
+
+-- a guard is counted from the end of Pin or Resume, up to the end of Unpin or Pause
+abbrev pub counted_after : Option Call → Answer → List ℕ → List ℕ
+counted_after (Some Pin) (Guard g) guards = guards ++ g ∷ []
+counted_after (Some (Resume (Some g))) answer guards = guards ++ g ∷ []
+counted_after (Some (Unpin (Some g))) answer guards = without g guards
+counted_after (Some (Pause (Some g))) answer guards = without g guards
+counted_after _ answer guards = guards
+
+-- a call whose Begin was refused is no call
+abbrev pub after_begin : Told → Call → Reply → Told
+after_begin t c Began = record t {
+  call = Some c;
+  did_pin = false;
+  did_unpin = false;
+  did_repin = false;
+  did_defer = false;
+}
+after_begin t c _ = t
+
+abbrev pub after_end : Told → List ℕ → Told
+after_end t guards = record t { call = None; guards = guards }
+
+abbrev pub after_go : Told → Reply → Told
+after_go t (Pinned p) = record t { pinned = true; did_pin = true }
+after_go t (Unpinned p) = record t { pinned = false; did_unpin = true }
+after_go t (Repinned p) = record t { did_repin = true }
+after_go t (Deferred ticket) = record t { did_defer = true }
+after_go t (Done answer) = after_end t (counted_after t.call answer t.guards)
+after_go t (Refused fault) = after_end t t.guards
+after_go t _ = t
+
+-- what is told of p after one more step and its reply
+abbrev pub told_after : ℕ → Told → Step → Reply → Told
+told_after p t (Begin q c) reply = if q == p then after_begin t c reply else t
+told_after p t (Go q) reply = if q == p then after_go t reply else t
+told_after p t _ reply = t
+
+-- what is told of p after a whole log
+abbrev pub told_from : ℕ → Told → List Entry → Told
+told_from p t [] = t
+told_from p t (entry ∷ log) = told_from p (told_after p t entry.step entry.reply) log
+
+abbrev pub told_of : ℕ → List Entry → Told
+told_of p log = told_from p nothing log
+
+-- IN WHICH CALLS AN EVENT MAY STAND, BY THE GUARDS COUNTED
+
+-- the first guard is pinned, or the position is given up
+abbrev pub MayPin : Option Call → List ℕ → Type 0
+MayPin (Some Pin) guards = guards ≡ []
+MayPin (Some (Resume (Some g))) guards = guards ≡ []
+MayPin (Some Release) guards = Unit {0}
+MayPin _ guards = ⊥
+
+-- the guard given up is the only one counted, or the position is given up, after the pin of the same call
+abbrev pub MayUnpin : Option Call → List ℕ → Bool → Type 0
+MayUnpin (Some (Unpin (Some g))) guards did_pin = guards ≡ g ∷ []
+MayUnpin (Some (Pause (Some g))) guards did_pin = guards ≡ g ∷ []
+MayUnpin (Some Release) guards did_pin = did_pin ≡ true
+MayUnpin _ guards did_pin = ⊥
+
+abbrev pub MayRepin : Option Call → List ℕ → Type 0
+MayRepin (Some (Repin (Some g))) guards = length guards ≡ 1
+MayRepin _ guards = ⊥
+
+abbrev pub MayDefer : Option Call → Type 0
+MayDefer (Some (Defer (Some g))) = Unit {0}
+MayDefer _ = ⊥
+
+abbrev pub MayCall : Option Call → Type 0
+MayCall (Some Pin) = Unit {0}
+MayCall (Some (Resume (Some g))) = Unit {0}
+MayCall (Some (Flush (Some g))) = Unit {0}
+MayCall (Some Release) = Unit {0}
+MayCall _ = ⊥
+
+-- a job called at once, under an unprotected guard, is no event
+abbrev pub MayCallNow : Option Call → Type 0
+MayCallNow (Some (Defer None)) = Unit {0}
+MayCallNow _ = ⊥
+
+-- WHAT A CALL HAS TOLD BY ITS END
+
+-- a call that is done
+abbrev pub HasTold : Option Call → Told → Type 0
+HasTold (Some Pin) t = t.guards ≡ [] → t.did_pin ≡ true
+HasTold (Some (Resume (Some g))) t = t.guards ≡ [] → t.did_pin ≡ true
+HasTold (Some (Unpin (Some g))) t = t.guards ≡ g ∷ [] → t.did_unpin ≡ true
+HasTold (Some (Pause (Some g))) t = t.guards ≡ g ∷ [] → t.did_unpin ≡ true
+HasTold (Some (Defer (Some g))) t = t.did_defer ≡ true
+HasTold (Some Release) t = (t.did_pin ≡ true) × (t.did_unpin ≡ true)
+HasTold (Some _) t = Unit {0}
+HasTold None t = ⊥
+
+-- a call that is refused at its end has deferred nothing; where no call is under way, the Go itself is refused
+abbrev pub HasToldRefused : Option Call → Told → Type 0
+HasToldRefused (Some (Defer (Some g))) t = t.did_defer ≡ false
+HasToldRefused (Some (Flush (Some g))) t = Unit {0}
+HasToldRefused (Some Release) t = (t.did_pin ≡ true) × (t.did_unpin ≡ true)
+HasToldRefused (Some _) t = ⊥
+HasToldRefused None t = Unit {0}
+
+-- WHICH REPLY A STEP MAY HAVE
+
+-- a Go of p, by what was told of p before it; no call tells an event twice
+abbrev pub MayTell : ℕ → Told → Reply → Type 0
+MayTell p t Stepped = Unit {0}
+MayTell p t (Pinned q) = (q ≡ p) × MayPin t.call t.guards × (t.did_pin ≡ false)
+MayTell p t (Unpinned q) = (q ≡ p) × MayUnpin t.call t.guards t.did_pin × (t.did_unpin ≡ false)
+MayTell p t (Repinned q) = (q ≡ p) × MayRepin t.call t.guards × (t.did_repin ≡ false)
+MayTell p t (Deferred ticket) = MayDefer t.call × (t.did_defer ≡ false)
+MayTell p t (CalledReply ticket how) = MayCall t.call × (t.pinned ≡ true)
+MayTell p t (CalledNow how) = MayCallNow t.call
+MayTell p t (Done answer) = HasTold t.call t
+MayTell p t (Refused fault) = HasToldRefused t.call t
+MayTell p t _ = ⊥
+
+abbrev pub MayRegister : Reply → Type 0
+MayRegister (Registered p) = Unit {0}
+MayRegister (Refused fault) = Unit {0}
+MayRegister _ = ⊥
+
+abbrev pub MayBegin : Reply → Type 0
+MayBegin Began = Unit {0}
+MayBegin (Refused fault) = Unit {0}
+MayBegin _ = ⊥
+
+abbrev pub MayEndGo : Reply → Type 0
+MayEndGo Stepped = Unit {0}
+MayEndGo (CalledReply ticket how) = Unit {0}
+MayEndGo (Done answer) = Unit {0}
+MayEndGo (Refused fault) = Unit {0}
+MayEndGo _ = ⊥
+
+abbrev pub MayReply : (ℕ → Told) → Step → Reply → Type 0
+MayReply told Register reply = MayRegister reply
+MayReply told (Begin p c) reply = MayBegin reply
+MayReply told (Go p) reply = MayTell p (told p) reply
+MayReply told End reply = MayBegin reply
+MayReply told EndGo reply = MayEndGo reply
+
+-- WHOLE LOGS
+
+abbrev pub MayReplyAll : (ℕ → Told) → List Entry → Type 0
+MayReplyAll told [] = Unit {0}
+MayReplyAll told (entry ∷ log) =
+    MayReply told entry.step entry.reply × MayReplyAll (λ p. told_after p (told p) entry.step entry.reply) log
+
+-- no ticket is called twice
+abbrev pub CallsNoneTwice : List Entry → Type 0
+CallsNoneTwice log = (t i j : ℕ) (how again : Called) → Stands log i (CalledReply t how)
+    → Stands log j (CalledReply t again) → i ≡ j
+
+-- t was called before place j
+abbrev pub IsCalledBefore : List Entry → ℕ → ℕ → Type 0
+IsCalledBefore log t j = (i : ℕ) × (how : Called) × (i < j) × Stands log i (CalledReply t how)
+
+-- t was deferred before place j
+abbrev pub IsDeferredBefore : List Entry → ℕ → ℕ → Type 0
+IsDeferredBefore log t j = (i : ℕ) × (i < j) × Stands log i (Deferred t)
+
+-- no ticket is called that wasn't deferred before
+abbrev pub CallsAfterDeferrals : List Entry → Type 0
+CallsAfterDeferrals log = (t j : ℕ) (how : Called) → Stands log j (CalledReply t how) → IsDeferredBefore log t j
+
+-- Each event stands only in its calls, and as often as it should; a job is called at most once, after it was deferred.
+pub record IsLawful (log : List Entry) : Type 0 where
+  pub in_calls : MayReplyAll (λ p. nothing) log
+  pub once : CallsNoneTwice log
+  pub deferred : CallsAfterDeferrals log

@@ -1,0 +1,11 @@
+pub mod Places
+pub mod Run
+pub mod Grace
+pub mod Tickets
+pub mod Lawful
+pub mod Known
+pub mod Events
+pub mod Shapes
+pub mod Kept
+pub mod Calls
+pub mod Full

@@ -1,0 +1,304 @@
+-- The world of all participants: what one step may do, and whole runs.
+use Rattle.std.specs.Prelude.{◌≡◌, ◌≢◌, ℕ, ◌+◌, ◌-◌, ◌*◌, ◌^◌, ◌<◌, ◌==◌, Bool, true, false, List, [], ◌∷◌, ◌++◌, length, Option, Some, None, ◌⊎◌, nat_le, zero, suc, if◌then◌else◌, slice_index_or, slice_set}
+use Rattle.std.specs.List.{list_any}
+use Rattle.epoch_bags.specs.Bags.{Sealed}
+use Rattle.epoch_bags.specs.Stores.{IsInserted}
+use Rattle.epoch_bags.specs.declared.job.Called.TheVariants.{Ran}
+use Rattle.epoch_cells.specs.declared.fault.Fault.{Fault}
+use Rattle.epoch_cells.specs.declared.fault.Fault.TheVariants.{TableFull, BagsFull, Busy, Idle as IdleFault, NotRegistered, StrangerGuard, GuardsOut, TooManyGuards, ParticipantsLeft, Ended, TicketsOut}
+use Rattle.epoch_bags.specs.declared.queue.PutStep.{PutStep}
+use Rattle.epoch_bags.specs.declared.queue.TakeStep.{TakeStep}
+use Rattle.epoch_machine.specs.declared.machine.Action.{Action}
+use Rattle.epoch_machine.specs.declared.machine.Action.TheVariants.{Pin as PinAction, Unpin as UnpinAction, Repin as RepinAction, Defer as DeferAction, Flush as FlushAction, Release as ReleaseAction}
+use Rattle.epoch_machine.specs.declared.machine.Sizes.{Sizes}
+use Rattle.epoch_machine.specs.declared.machine.Stage.{Stage}
+use Rattle.epoch_machine.specs.declared.machine.Ask.{Ask}
+use Rattle.epoch_machine.specs.declared.machine.Ask.TheVariants.{LoadEpoch, LoadWord, StorePinned, StoreRepinned, StoreUnpinned, StoreFree, StoreEpoch, PutBag, TakeBag, KeepJob, CallJob}
+use Rattle.epoch_machine.specs.declared.machine.Answer.TheVariants.{Epoch, Word as WordFound, Stored, Job}
+use Rattle.epoch_machine.specs.Machine.{Machine, ask_at, hears, put_heard, took_heard, gives, begun, ended, fresh, PutsHeld, TakesHand}
+use Rattle.epoch_laws.specs.declared.step.Call.{Call}
+use Rattle.epoch_laws.specs.declared.step.Call.TheVariants.{Pin, Unpin, Repin, Pause, Resume, Defer, Flush, Release}
+use Rattle.epoch_laws.specs.declared.step.Step.{Step}
+use Rattle.epoch_laws.specs.declared.step.Step.TheVariants.{Register, Begin, Go, End as EndStep, EndGo}
+use Rattle.epoch_laws.specs.declared.step.Answer.TheVariants.{Guard, Unit as UnitAnswer, Released, Count}
+use Rattle.epoch_laws.specs.declared.step.Reply.{Reply}
+use Rattle.epoch_laws.specs.declared.step.Reply.TheVariants.{Registered, Began, Stepped, Pinned as PinnedReply, Unpinned as UnpinnedReply, Repinned, Deferred, Called as CalledReply, CalledNow, Done, Refused}
+use Rattle.epoch_laws.specs.declared.step.Entry.{Entry}
+use Rattle.epoch_laws.specs.declared.step.Deferral.{Deferral}
+use Rattle.epoch_laws.specs.declared.step.Word.{Word}
+use Rattle.epoch_laws.specs.declared.step.Word.TheVariants.{Free, Unpinned, Pinned}
+use Rattle.epoch_laws.specs.declared.step.Progress.{Progress}
+use Rattle.epoch_laws.specs.declared.step.Progress.TheVariants.{Idle, Driven, CallsNow, Ends}
+use Rattle.epoch_laws.specs.Places.{Sight, sight, Looks}
+
+-- a job of the world, and a bag of the store
+abbrev pub Bag : Type 0
+Bag = Sealed Deferral
+
+-- one participant: its word, its machine, and what the world keeps of its calls
+pub record Seat : Type 0 where
+  pub word : Word
+  pub machine : Machine Deferral
+  pub progress : Progress
+  pub guards : List ℕ  -- the numbers of the guards counted
+  pub paused : Option ℕ  -- the guard that is paused
+
+-- the end of the whole collector
+pub data Ending : Type 0 where
+  Open : Ending
+  Emptying : (hand : List Deferral) (count : ℕ) → Ending
+  Over : Ending
+
+pub record State : Type 0 where
+  pub sizes : Sizes
+  pub epoch : ℕ
+  pub seats : List Seat
+  pub queued : List Bag  -- the bags in the store
+  pub tickets : ℕ  -- how many were given
+  pub ending : Ending
+  pub places : List Bool  -- for each place of the store, whether it is occupied
+  pub seen : List ℕ  -- for each participant, how many places its put has seen occupied since it began
+
+-- WORDS AND SEATS
+
+-- the word as a number
+abbrev pub number_of : Word → ℕ
+number_of Free = 0
+number_of Unpinned = 2
+number_of (Pinned e) = 2 * e + 1
+
+abbrev pub free_seat : Sizes → Seat
+free_seat sizes = record { word = Free; machine = fresh sizes; progress = Idle; guards = []; paused = None }
+
+-- the participant at a position; a position past the table is free
+abbrev pub seat_of : State → ℕ → Seat
+seat_of s p = slice_index_or s.seats p (free_seat s.sizes)
+
+abbrev pub word_of : State → ℕ → Word
+word_of s p = (seat_of s p).word
+
+abbrev pub with_seat : State → ℕ → Seat → State
+with_seat s p seat = record s { seats = slice_set s.seats p seat }
+
+-- the seat after its machine went on, its word staying or changed
+abbrev pub with_machine : Seat → Machine Deferral → Seat
+with_machine seat m = record seat { machine = m }
+
+abbrev pub with_word : Seat → Word → Machine Deferral → Seat
+with_word seat w m = record seat { word = w; machine = m }
+
+-- GUARDS
+
+abbrev pub is_out : ℕ → List ℕ → Bool
+is_out g guards = list_any (λ h. h == g) guards
+
+abbrev pub without : ℕ → List ℕ → List ℕ
+without g [] = []
+without g (h ∷ hs) = if h == g then hs else h ∷ without g hs
+
+unfoldable pub lowest_from : ℕ → ℕ → List ℕ → ℕ
+lowest_from k zero guards = k
+lowest_from k (suc fuel) guards = if is_out k guards then lowest_from (k + 1) fuel guards else k
+
+-- the least number of no guard that is out
+unfoldable pub lowest : List ℕ → ℕ
+lowest guards = lowest_from 0 64 guards
+
+-- HOW A CALL BEGINS
+
+abbrev pub is_free : Word → Bool
+is_free Free = true
+is_free _ = false
+
+abbrev pub is_idle : Progress → Bool
+is_idle Idle = true
+is_idle _ = false
+
+-- a call is under way that its machine drives
+abbrev pub is_driven : Progress → Bool
+is_driven (Driven c) = true
+is_driven _ = false
+
+-- who is paused may only resume
+abbrev pub waits : Call → Option ℕ → Bool
+waits (Resume g) paused = false
+waits _ (Some g) = true
+waits _ None = false
+
+-- a protecting guard has to be out; an unprotected one needs nothing
+abbrev pub guard_refusal : Option ℕ → List ℕ → Option Fault
+guard_refusal (Some g) guards = if is_out g guards then None else Some StrangerGuard
+guard_refusal None guards = None
+
+abbrev pub resume_refusal : Option ℕ → Option ℕ → Option Fault
+resume_refusal None paused = None
+resume_refusal (Some g) None = Some IdleFault
+resume_refusal (Some g) (Some h) = if g == h then None else Some StrangerGuard
+
+-- the call's own fault, or none
+abbrev pub call_refusal : Call → Seat → ℕ → Option Fault
+call_refusal Pin seat tickets = if nat_le 64 (length seat.guards) then Some TooManyGuards else None
+call_refusal (Unpin None) seat tickets = Some StrangerGuard
+call_refusal (Unpin (Some g)) seat tickets = guard_refusal (Some g) seat.guards
+call_refusal (Repin g) seat tickets = guard_refusal g seat.guards
+call_refusal (Pause g) seat tickets = guard_refusal g seat.guards
+call_refusal (Resume g) seat tickets = resume_refusal g seat.paused
+call_refusal (Defer None) seat tickets = None
+call_refusal (Defer (Some g)) seat tickets = if is_out g seat.guards then (if nat_le (2 ^ 64 - 4097) tickets then Some TicketsOut else None) else Some StrangerGuard
+call_refusal (Flush g) seat tickets = guard_refusal g seat.guards
+call_refusal Release seat tickets = if length seat.guards == 0 then None else Some GuardsOut
+
+-- not registered, busy, and then the call's own fault
+abbrev pub refusal : Call → Seat → ℕ → Option Fault
+refusal c seat tickets = if is_free seat.word then Some NotRegistered else (if is_idle seat.progress then (if waits c seat.paused then Some Busy else call_refusal c seat tickets) else Some Busy)
+
+abbrev pub drives : Action → Call → Seat → Seat
+drives a c seat = record seat { machine = begun a seat.machine; progress = Driven c }
+
+-- what a participant is after a call was begun: its machine is driven, or, under an unprotected guard, isn't
+abbrev pub begun_seat : Call → Seat → Seat
+begun_seat Pin seat = drives PinAction Pin seat
+begun_seat (Unpin g) seat = drives UnpinAction (Unpin g) seat
+begun_seat (Repin (Some g)) seat = drives RepinAction (Repin (Some g)) seat
+begun_seat (Pause (Some g)) seat = drives UnpinAction (Pause (Some g)) seat
+begun_seat (Resume (Some g)) seat = drives PinAction (Resume (Some g)) seat
+begun_seat (Defer (Some g)) seat = drives DeferAction (Defer (Some g)) seat
+begun_seat (Flush (Some g)) seat = drives FlushAction (Flush (Some g)) seat
+begun_seat Release seat = drives ReleaseAction Release seat
+begun_seat (Defer None) seat = record seat { progress = CallsNow }
+begun_seat _ seat = record seat { progress = Ends (Done UnitAnswer) }
+
+abbrev pub Begins : State → ℕ → Call → Option Fault → Reply → State → Type 0
+Begins old p c (Some f) reply new = (reply ≡ Refused f) × (new ≡ old)
+Begins old p c None reply new = (reply ≡ Began) × (new ≡ with_seat old p (begun_seat c (seat_of old p)))
+
+-- HOW A CALL ENDS
+
+abbrev pub full_or_done : Bool → Reply
+full_or_done true = Refused BagsFull
+full_or_done false = Done UnitAnswer
+
+abbrev pub end_reply : Call → Seat → Reply
+end_reply Pin seat = Done (Guard (lowest seat.guards))
+end_reply (Defer g) seat = full_or_done seat.machine.full
+end_reply (Flush g) seat = full_or_done seat.machine.full
+end_reply Release seat = full_or_done seat.machine.full
+end_reply _ seat = Done UnitAnswer
+
+abbrev pub with_guards : Seat → List ℕ → Option ℕ → Seat
+with_guards seat guards paused = record seat { machine = ended seat.machine; progress = Idle; guards = guards; paused = paused }
+
+-- guards are counted, and no longer counted, from the end of their call
+abbrev pub ended_seat : Call → Seat → Seat
+ended_seat Pin seat = with_guards seat (seat.guards ++ lowest seat.guards ∷ []) seat.paused
+ended_seat (Unpin (Some g)) seat = with_guards seat (without g seat.guards) seat.paused
+ended_seat (Pause (Some g)) seat = with_guards seat (without g seat.guards) (Some g)
+ended_seat (Resume (Some g)) seat = with_guards seat (seat.guards ++ g ∷ []) None
+ended_seat _ seat = with_guards seat seat.guards seat.paused
+
+-- ONE STEP
+
+-- what may come of one ask of p, whose machine is at this stage: the reply, and the state after it
+abbrev pub Performs : State → ℕ → Seat → Stage → Ask → Reply → State → Type 0
+Performs old p seat s LoadEpoch reply new = (reply ≡ Stepped) × (new ≡ with_seat old p (with_machine seat (hears seat.machine s (Epoch old.epoch))))
+Performs old p seat s (LoadWord k) reply new = (reply ≡ Stepped) × (new ≡ with_seat old p (with_machine seat (hears seat.machine s (WordFound (number_of (word_of old k))))))
+Performs old p seat s (StorePinned e) reply new = (reply ≡ PinnedReply p) × (new ≡ with_seat old p (with_word seat (Pinned e) (hears seat.machine s Stored)))
+Performs old p seat s (StoreRepinned e) reply new = (reply ≡ Repinned p) × (new ≡ with_seat old p (with_word seat (Pinned e) (hears seat.machine s Stored)))
+Performs old p seat s StoreUnpinned reply new = (reply ≡ UnpinnedReply p) × (new ≡ with_seat old p (with_word seat Unpinned (hears seat.machine s Stored)))
+Performs old p seat s StoreFree reply new = (reply ≡ Done Released) × (new ≡ with_seat old p (free_seat old.sizes))
+Performs old p seat s (StoreEpoch e) reply new = (reply ≡ Stepped) × (new ≡ record (with_seat old p (with_machine seat (hears seat.machine s Stored))) { epoch = e })
+Performs old p seat s (PutBag seal) reply new = (step : PutStep) × (queued : List Bag) × (reply ≡ Stepped) × PutsHeld seal seat.machine old.queued step queued × (new ≡ record (with_seat old p (with_machine seat (put_heard seat.machine step))) { queued = queued })
+Performs old p seat s (TakeBag x) reply new = (step : TakeStep) × (jobs : List Deferral) × (queued : List Bag) × (reply ≡ Stepped) × TakesHand x old.queued step queued jobs × (new ≡ record (with_seat old p (with_machine seat (took_heard seat.machine s step jobs))) { queued = queued })
+Performs old p seat s KeepJob reply new = (reply ≡ Deferred old.tickets) × (new ≡ record (with_seat old p (with_machine seat (hears seat.machine s (Job (record { ticket = old.tickets; removes = None }))))) { tickets = old.tickets + 1 })
+Performs old p seat s CallJob reply new = (job : Deferral) × (jobs : List Deferral) × (seat.machine.hand ≡ job ∷ jobs) × (reply ≡ CalledReply job.ticket Ran) × (new ≡ with_seat old p (with_machine seat (gives seat.machine s jobs)))
+
+-- what a call driven by its machine does next: the machine's ask, or its end
+abbrev pub Drives : State → ℕ → Seat → Call → Stage → Option Ask → Reply → State → Type 0
+Drives old p seat c s (Some ask) reply new = Performs old p seat s ask reply new
+Drives old p seat c s None reply new = (reply ≡ end_reply c seat) × (new ≡ with_seat old p (ended_seat c seat))
+
+-- what a step Go of p does
+abbrev pub Goes : State → ℕ → Seat → Progress → Reply → State → Type 0
+Goes old p seat Idle reply new = (reply ≡ Refused IdleFault) × (new ≡ old)
+Goes old p seat (Driven c) reply new = Drives old p seat c seat.machine.stage (ask_at seat.machine.stage) reply new
+Goes old p seat CallsNow reply new = (reply ≡ CalledNow Ran) × (new ≡ with_seat old p (record seat { progress = Ends (Done UnitAnswer) }))
+Goes old p seat (Ends r) reply new = (reply ≡ r) × (new ≡ with_seat old p (record seat { progress = Idle }))
+
+abbrev pub AllFree : State → Type 0
+AllFree s = (p : ℕ) → word_of s p ≡ Free
+
+-- an end takes any bag, calls its jobs one by one, and is over when no bag is left
+abbrev pub EndGoes : State → Ending → Reply → State → Type 0
+EndGoes old Open reply new = (reply ≡ Refused IdleFault) × (new ≡ old)
+EndGoes old Over reply new = (reply ≡ Refused IdleFault) × (new ≡ old)
+EndGoes old (Emptying (job ∷ jobs) n) reply new = (reply ≡ CalledReply job.ticket Ran) × (new ≡ record old { ending = Emptying jobs (n + 1) })
+EndGoes old (Emptying [] n) reply new =
+    ((bag : Bag) × (queued : List Bag) × IsInserted bag queued old.queued × (reply ≡ Stepped) × (new ≡ record old { queued = queued; ending = Emptying bag.jobs n }))
+    ⊎ ((old.queued ≡ []) × (reply ≡ Done (Count n)) × (new ≡ record old { ending = Over }))
+
+-- what this step does, with this reply, to all but the places
+abbrev pub Moves : State → Step → Reply → State → Type 0
+Moves old Register reply new =
+    ((p : ℕ) × (old.ending ≡ Open) × (p < length old.seats) × (word_of old p ≡ Free) × ((k : ℕ) → k < p → word_of old k ≢ Free) × (reply ≡ Registered p) × (new ≡ with_seat old p (record (free_seat old.sizes) { word = Unpinned })))
+    ⊎ ((old.ending ≡ Open) × ((k : ℕ) → k < length old.seats → word_of old k ≢ Free) × (reply ≡ Refused TableFull) × (new ≡ old))
+    ⊎ ((old.ending ≢ Open) × (reply ≡ Refused Ended) × (new ≡ old))
+Moves old (Begin p c) reply new = Begins old p c (refusal c (seat_of old p) old.tickets) reply new
+Moves old (Go p) reply new =
+    ((word_of old p ≡ Free) × (reply ≡ Refused NotRegistered) × (new ≡ old))
+    ⊎ ((word_of old p ≢ Free) × Goes old p (seat_of old p) (seat_of old p).progress reply new)
+Moves old EndStep reply new =
+    ((old.ending ≡ Open) × AllFree old × (reply ≡ Began) × (new ≡ record old { ending = Emptying [] 0 }))
+    ⊎ ((old.ending ≡ Open) × (¬ (AllFree old)) × (reply ≡ Refused ParticipantsLeft) × (new ≡ old))
+    ⊎ ((old.ending ≢ Open) × (reply ≡ Refused Ended) × (new ≡ old))
+Moves old EndGo reply new = EndGoes old old.ending reply new
+
+-- WHAT A STEP SEES OF THE PLACES
+
+abbrev pub with_places : State → List Bool → List ℕ → State
+with_places s places seen = record s { places = places; seen = seen }
+
+-- how many places the put of p has seen
+abbrev pub seen_by : State → ℕ → ℕ
+seen_by s p = slice_index_or s.seen p 0
+
+abbrev pub sight_of : State → ℕ → Sight
+sight_of s p = sight s.places (seen_by s p)
+
+-- what a step Go asks for, by the word and the stage
+abbrev pub turn_at : Word → Progress → Stage → Option Ask
+turn_at Free progress s = None
+turn_at _ (Driven c) s = ask_at s
+turn_at _ progress s = None
+
+abbrev pub turn_of : Seat → Option Ask
+turn_of seat = turn_at seat.word seat.progress seat.machine.stage
+
+-- a Go of p counts for the put of p alone; an end takes bags out
+abbrev pub Sees : State → Step → State → Type 0
+Sees old (Go p) new = Looks (turn_of (seat_of old p)) (seat_of old p).machine (seat_of new p).machine (sight_of old p) (sight_of new p) × ((q : ℕ) → q ≢ p → seen_by new q ≡ seen_by old q)
+Sees old EndGo new = (length new.places ≡ length old.places) × (new.seen ≡ old.seen)
+Sees old _ new = (new.places ≡ old.places) × (new.seen ≡ old.seen)
+
+-- the world takes this step, with this reply: the places aside it moves so, and it sees the places so
+abbrev pub Takes : State → Step → Reply → State → Type 0
+Takes old step reply new = Moves old step reply (with_places new old.places old.seen) × Sees old step new
+
+-- WHOLE RUNS
+
+-- the world goes by these steps and replies from old to new, one atomic step each
+abbrev pub Runs : State → List Entry → State → Type 0
+Runs old [] new = new ≡ old
+Runs old (entry ∷ entries) new = (mid : State) × Takes old entry.step entry.reply mid × Runs mid entries new
+
+-- a new world
+pub record IsFresh (s : State) : Type 0 where
+  pub sized : s.sizes.positions ≡ length s.seats
+  pub free : (p : ℕ) → seat_of s p ≡ free_seat s.sizes
+  pub none_queued : s.queued ≡ []
+  pub no_tickets : s.tickets ≡ 0
+  pub open_end : s.ending ≡ Open
+
+-- the steps with their replies
+abbrev pub entries_of : List Step → List Reply → List Entry
+entries_of (s ∷ ss) (r ∷ rs) = record { step = s; reply = r } ∷ entries_of ss rs
+entries_of _ _ = []

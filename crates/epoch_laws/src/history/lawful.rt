@@ -1,0 +1,173 @@
+//! Whether each event of a history stands only where it may.
+ghost use Rattle.std.specs.Prelude.{◌≡◌, ◌↔◌, IsTrue};
+ghost use Rattle.epoch_laws.specs.Lawful.{IsLawful, nothing, told_of, MayPin, MayUnpin, MayRepin, MayDefer, MayCall, MayCallNow, Told, HasTold, HasToldRefused, MayTell, MayRegister, MayBegin, MayEndGo, MayReply, MayReplyAll};
+ghost use Rattle.epoch_laws.specs.Known.{known_of};
+
+use crate::history::guards::{has_none, has_one, has_only};
+use crate::history::known::Known;
+use crate::history::tickets::{calls_after_deferrals, calls_none_twice};
+use crate::step::{Call, Entry, Reply, Step};
+
+/// Whether each event stands only in the calls in which it may and as often as it should, and each job is called at
+/// most once, after it was deferred.
+///
+/// It takes no memory. Its time grows with the third power of the number of entries at worst.
+pub fn is_lawful(entries: &[Entry]) -> bool
+    ensures { IsTrue result ↔ IsLawful entries.now }
+{
+    all_stand_in_calls(entries) && calls_none_twice(entries) && calls_after_deferrals(entries)
+}
+
+/// Whether each reply may be that of its step.
+fn all_stand_in_calls(entries: &[Entry]) -> bool
+    ensures { IsTrue result ↔ MayReplyAll (λ p. nothing) entries.now }
+{
+    for (place, entry) in entries.iter().enumerate() {
+        if !may_reply(&entries[..place], *entry) {
+            return false;
+        }
+    }
+    true
+}
+
+/// Whether the reply may be that of its step, after these entries.
+fn may_reply(before: &[Entry], entry: Entry) -> bool
+    ensures { IsTrue result ↔ MayReply (λ p. told_of p before.now) entry.step entry.reply }
+{
+    match entry.step {
+        Step::Register => may_register(entry.reply),
+        Step::Begin(_, _) | Step::End => may_begin(entry.reply),
+        Step::Go(participant) => may_tell(before, participant, entry.reply),
+        Step::EndGo => may_end_go(entry.reply),
+    }
+}
+
+fn may_register(reply: Reply) -> bool
+    ensures { IsTrue result ↔ MayRegister reply }
+{
+    matches!(reply, Reply::Registered(_) | Reply::Refused(_))
+}
+
+fn may_begin(reply: Reply) -> bool
+    ensures { IsTrue result ↔ MayBegin reply }
+{
+    matches!(reply, Reply::Began | Reply::Refused(_))
+}
+
+fn may_end_go(reply: Reply) -> bool
+    ensures { IsTrue result ↔ MayEndGo reply }
+{
+    matches!(
+        reply,
+        Reply::Stepped | Reply::Called(_, _) | Reply::Done(_) | Reply::Refused(_)
+    )
+}
+
+/// Whether a Go of this participant may have that reply, after these entries.
+fn may_tell(before: &[Entry], participant: u64, reply: Reply) -> bool
+    ensures { IsTrue result ↔ MayTell participant (told_of participant before.now) reply }
+{
+    let known = Known::of(before, participant);
+    match reply {
+        Reply::Stepped => true,
+        Reply::Pinned(other) => {
+            other == participant && may_pin(before, participant, known.call) && !known.did_pin
+        }
+        Reply::Unpinned(other) => {
+            other == participant && may_unpin(before, participant, known) && !known.did_unpin
+        }
+        Reply::Repinned(other) => {
+            other == participant && may_repin(before, participant, known.call) && !known.did_repin
+        }
+        Reply::Deferred(_) => may_defer(known.call) && !known.did_defer,
+        Reply::Called(_, _) => may_call(known.call) && known.pinned,
+        Reply::CalledNow(_) => may_call_now(known.call),
+        Reply::Done(_) => has_told(before, participant, known),
+        Reply::Refused(_) => has_told_refused(known),
+        Reply::Registered(_) | Reply::Began => false,
+    }
+}
+
+fn may_pin(before: &[Entry], participant: u64, call: Option<Call>) -> bool
+    ensures { IsTrue result ↔ MayPin call (told_of participant before.now).guards }
+{
+    match call {
+        Some(Call::Pin) | Some(Call::Resume(Some(_))) => has_none(before, participant),
+        Some(Call::Release) => true,
+        _ => false,
+    }
+}
+
+fn may_unpin(before: &[Entry], participant: u64, known: Known) -> bool
+    ensures { IsTrue result ↔ MayUnpin known.call (told_of participant before.now).guards known.did_pin }
+{
+    match known.call {
+        Some(Call::Unpin(Some(guard))) | Some(Call::Pause(Some(guard))) => {
+            has_only(before, participant, guard)
+        }
+        Some(Call::Release) => known.did_pin,
+        _ => false,
+    }
+}
+
+fn may_repin(before: &[Entry], participant: u64, call: Option<Call>) -> bool
+    ensures { IsTrue result ↔ MayRepin call (told_of participant before.now).guards }
+{
+    match call {
+        Some(Call::Repin(Some(_))) => has_one(before, participant),
+        _ => false,
+    }
+}
+
+fn may_defer(call: Option<Call>) -> bool
+    ensures { IsTrue result ↔ MayDefer call }
+{
+    matches!(call, Some(Call::Defer(Some(_))))
+}
+
+fn may_call(call: Option<Call>) -> bool
+    ensures { IsTrue result ↔ MayCall call }
+{
+    matches!(
+        call,
+        Some(Call::Pin | Call::Resume(Some(_)) | Call::Flush(Some(_)) | Call::Release)
+    )
+}
+
+fn may_call_now(call: Option<Call>) -> bool
+    ensures { IsTrue result ↔ MayCallNow call }
+{
+    matches!(call, Some(Call::Defer(None)))
+}
+
+/// Whether the call under way, which is done, has told what it should.
+fn has_told(before: &[Entry], participant: u64, known: Known) -> bool
+    requires { known ≡ known_of (told_of participant before.now) }
+    ensures { IsTrue result ↔ HasTold known.call (told_of participant before.now) }
+{
+    match known.call {
+        Some(Call::Pin) | Some(Call::Resume(Some(_))) => {
+            known.did_pin || !has_none(before, participant)
+        }
+        Some(Call::Unpin(Some(guard))) | Some(Call::Pause(Some(guard))) => {
+            known.did_unpin || !has_only(before, participant, guard)
+        }
+        Some(Call::Defer(Some(_))) => known.did_defer,
+        Some(Call::Release) => known.did_pin && known.did_unpin,
+        Some(_) => true,
+        None => false,
+    }
+}
+
+/// Whether the call under way, which is refused at its end, has told what it should.
+fn has_told_refused(known: Known) -> bool
+    ensures { (t : Told) → known ≡ known_of t → (IsTrue result ↔ HasToldRefused known.call t) }
+{
+    match known.call {
+        Some(Call::Defer(Some(_))) => !known.did_defer,
+        Some(Call::Flush(Some(_))) => true,
+        Some(Call::Release) => known.did_pin && known.did_unpin,
+        Some(_) => false,
+        None => true,
+    }
+}

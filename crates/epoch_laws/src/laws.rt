@@ -1,0 +1,34 @@
+//! What holds of every run of a world, whatever its store of bags: laws of the definitions.
+ghost use Rattle.std.specs.Prelude.{◌≡◌, ℕ, List};
+ghost use Rattle.epoch_laws.specs.declared.step.Entry.{Entry};
+ghost use Rattle.epoch_laws.specs.Run.{State, IsFresh, Runs, Over};
+ghost use Rattle.epoch_laws.specs.Grace.{KeepsGrace};
+ghost use Rattle.epoch_laws.specs.Tickets.{HoldsEachTicketOnce, times_called, times_deferred};
+ghost use Rattle.epoch_laws.specs.Lawful.{IsLawful};
+ghost use Rattle.epoch_laws.specs.Full.{FullAlong, none_found};
+
+/// No job is called while a participant that was pinned when it was deferred has stayed pinned.
+pub fn every_run_keeps_grace()
+    ensures { (s new : State) (log : List Entry) → IsFresh s → Runs s log new → KeepsGrace log }
+{}
+
+/// Each accepted job is in exactly one bag, or was called exactly once.
+pub fn every_run_holds_each_ticket_once()
+    ensures { (s new : State) (log : List Entry) → IsFresh s → Runs s log new → HoldsEachTicketOnce log new }
+{}
+
+/// When an end is over, every accepted job was called.
+pub fn every_end_calls_all()
+    ensures { (s new : State) (log : List Entry) → IsFresh s → Runs s log new → new.ending ≡ Over → (t : ℕ) → times_called t log ≡ times_deferred t log }
+{}
+
+/// Every event stands only where it may.
+pub fn every_run_is_lawful()
+    ensures { (s new : State) (log : List Entry) → IsFresh s → Runs s log new → IsLawful log }
+{}
+
+/// A call is refused because the bags are full only where its put found each place of the store occupied, each at a
+/// step that it took since the call began.
+pub fn every_full_reply_found_each_place()
+    ensures { (s new : State) (log : List Entry) → IsFresh s → (run : Runs s log new) → FullAlong none_found s new log run }
+{}

@@ -1,0 +1,15 @@
+//! The steps of all participants of a collector, what holds of every run of them, and checkers of recorded histories.
+#![tactic(auto)]
+
+mod history;
+mod laws;
+mod shape;
+mod step;
+
+pub use history::{Event, calls_none_twice, is_lawful, keeps_grace};
+pub use laws::{
+    every_end_calls_all, every_full_reply_found_each_place, every_run_holds_each_ticket_once,
+    every_run_is_lawful, every_run_keeps_grace,
+};
+pub use shape::Shape;
+pub use step::{Answer, Call, Deferral, Entry, Progress, Reply, Step, Word};

@@ -1,0 +1,4 @@
+pub mod ActionAsks
+pub mod CollectionAsks
+pub mod Exchanges
+pub mod Stages

@@ -1,5 +1,0 @@
-use Rattle.epoch_pin.specs.Pointers.{IsPointerWord}
-use Rattle.epoch_pin.proofs.atomic.Atomic.change_tag.Given as goal
-
-abbrev pub invariant-loop : goal.invariant-loop
-invariant-loop g l = IsPointerWord l.seen

@@ -1,6 +1,0 @@
-use Rattle.std.proofs.Common.{◌≡◌, None}
-use Rattle.epoch_base.specs.Table.{IsOf}
-use Rattle.epoch_pin.proofs.collector.Collector.register.Given as goal
-
-abbrev pub invariant-loop-position : goal.invariant-loop-position
-invariant-loop-position g l = IsOf l.fn.self.participants l.seat × (l.seat.me.0.position ≡ None)

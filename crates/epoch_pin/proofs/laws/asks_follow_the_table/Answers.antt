@@ -1,5 +1,0 @@
-use Rattle.epoch_pin.proofs.ActionAsks.{asks_follow}
-use Rattle.epoch_pin.proofs.laws.asks_follow_the_table.Goals as goal
-
-pub returns : goal.returns
-returns g c = asks_follow

@@ -1,0 +1,11 @@
+pub mod Views
+pub mod SeatSteps
+pub mod EpochLoads
+pub mod WordLoads
+pub mod OwnStores
+pub mod EpochStores
+pub mod Registering
+pub mod PlaceLooks
+pub mod PlaceClaims
+pub mod PlaceStores
+pub mod PlaceTries

@@ -1,0 +1,11 @@
+use Rattle.std.proofs.Common.{rules, ◌≡◌, ap, arith}
+use Rattle.epoch_tables.specs.SharedPlaces.{PlaceBoard}
+use Rattle.epoch_tables.proofs.PlaceLooks.{place_look_keeps}
+use Rattle.epoch_tables.proofs.shared_places.places.SharedPlaces.look.Goals as goal
+
+pub load-requires : goal.load-requires
+load-requires g c = let same : c.self.inside.places ≡ c.args.self.now.places = ap (λ (b : PlaceBoard). b.places) c.self.view_is in
+    let wide = c.self.invariant.words in
+    let key = c.self.invariant.key in
+    let below = c.requires.within in
+    rw c.word_index.ensures (search rules, omega arith, place_look_keeps _ _ _ _ _ (omega arith))

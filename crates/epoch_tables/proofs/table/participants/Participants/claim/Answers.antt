@@ -1,0 +1,16 @@
+use Rattle.std.proofs.Common.{rules, ◌≡◌, ℕ, ap, ◌∙◌, arith}
+use Rattle.epoch_tables.specs.Table.{Board}
+use Rattle.epoch_tables.specs.TableSteps.{after_claim}
+use Rattle.epoch_tables.proofs.Registering.{claim_keeps}
+use Rattle.epoch_tables.proofs.table.participants.Participants.claim.Goals as goal
+
+pub compare_exchange-requires : goal.compare_exchange-requires
+compare_exchange-requires c = let same : c.self.inside.positions ≡ c.args.self.now.positions = ap (λ (b : Board). b.positions) c.self.view_is in
+    let wide = c.self.invariant.words in
+    let below = c.requires.free.1 in
+    let key = c.self.invariant.key in
+    rw c.word_index.ensures (search rules, omega arith, claim_keeps _ _ _ _ _ c.requires.free.0 (omega arith))
+
+pub returns-clause-won : goal.returns-clause-won
+returns-clause-won c = λ zero. let told = c.compare_exchange.ensures.2.2 in
+    told c.args.position c.word_index.ensures zero ∙ ap (λ (z : ℕ). after_claim c.args.seat.now.me.0 c.args.position z) zero

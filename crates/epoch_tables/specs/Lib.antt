@@ -1,0 +1,4 @@
+pub mod Table
+pub mod TableSteps
+pub mod SharedPlaces
+pub mod SharedSteps

@@ -1,0 +1,106 @@
+-- The rule of the shared places for bags: what holds between any two steps, whatever threads take them.
+-- A place's word is 0 where it is empty, 2 while a seat has claimed it, and 2s + 1 where it holds a bag sealed with s.
+use Rattle.std.specs.Prelude.{◌≡◌, ◌≢◌, ℕ, ◌+◌, ◌*◌, ◌<◌, List, [], ◌∷◌, ◌++◌, length, slice_index, Option, Some, None, ◌⊎◌}
+use mathlib.Core.Option.{some}
+use lib.ListN.{get_elem?}
+use Rattle.atomic_table.specs.Table.{State, Me, Step}
+use Rattle.atomic_table.specs.Seated.{TableId}
+use Rattle.atomic_table.specs.declared.shared.Seat.{Seat}
+use Rattle.epoch_bags.specs.Bags.{Sealed}
+use Rattle.epoch_tables.specs.declared.shared_places.view.PlaceView.{PlaceView}
+
+-- what a caller sees of shared places: how many there are, and which table they are
+pub record PlaceBoard : Type 0 where
+  pub places : ℕ
+  pub table : TableId
+
+-- where the word of a place stands: 128 bytes behind the one before
+abbrev pub word_at : ℕ → ℕ
+word_at place = 16 * place
+
+abbrev pub words_for : ℕ → ℕ
+words_for places = 16 * places
+
+-- what the word of a place can be
+abbrev pub IsPlaceWord : ℕ → Type 0
+IsPlaceWord word = (word ≡ 0) ⊎ ((word ≡ 2) ⊎ ((seal : ℕ) × (word ≡ 2 * seal + 1)))
+
+-- what is at home in a place whose word is this one, and isn't 2
+abbrev pub IsAtHome : {J : Type 0} → ℕ → Option (Sealed J) → Type 0
+IsAtHome word None = word ≡ 0
+IsAtHome word (Some bag) = word ≡ 2 * bag.seal + 1
+
+abbrev pub Sees : {S J : Type 0} → State S (PlaceView J) → ℕ → PlaceView J → Type 0
+Sees s seat view = get_elem? s.views seat ≡ some view
+
+pub record PlacesAgree {J : Type 0} (places : ℕ) (s : State (Option (Sealed J)) (PlaceView J)) : Type 0 where
+  pub as_many : length s.words ≡ words_for places
+  pub as_many_slots : length s.homes ≡ places
+  pub is_word : (place : ℕ) → place < places → IsPlaceWord (slice_index s.words (word_at place))
+  -- A place that isn't claimed has its slot at home: with no bag at 0, and with a bag sealed with s at 2s + 1.
+  pub at_home : (place : ℕ) → place < places → slice_index s.words (word_at place) ≢ 2
+      → (bag : Option (Sealed J)) × (get_elem? s.homes place ≡ some (some bag))
+      × IsAtHome (slice_index s.words (word_at place)) bag
+  -- A place at 2 is claimed by one seat. A view names at most one place that its seat has claimed.
+  pub has_claimer : (place : ℕ) → place < places → slice_index s.words (word_at place) ≡ 2
+      → (seat : ℕ) × (view : PlaceView J) × Sees s seat view × (view.claimed ≡ Some place)
+  pub one_claimer_each : (seat other : ℕ) (view its : PlaceView J) (place : ℕ) → Sees s seat view → Sees s other its
+      → view.claimed ≡ Some place → its.claimed ≡ Some place → seat ≡ other
+  pub claims_match : (seat : ℕ) (view : PlaceView J) (place : ℕ) → Sees s seat view → view.claimed ≡ Some place
+      → (place < places) × (slice_index s.words (word_at place) ≡ 2)
+
+-- SEATS
+
+-- it is a seat at these places
+abbrev pub IsOf : {J : Type 0} → PlaceBoard → Seat (Option (Sealed J)) (PlaceView J) → Type 0
+IsOf board seat = seat.table_id ≡ board.table
+
+-- it is the same seat of the same places
+abbrev pub IsKept : {J : Type 0} → Seat (Option (Sealed J)) (PlaceView J) → Seat (Option (Sealed J)) (PlaceView J) → Type 0
+IsKept before after = (after.table_id ≡ before.table_id) × (after.id ≡ before.id)
+
+-- VIEWS
+
+abbrev pub with_claim : {J : Type 0} → Option ℕ → List ℕ → List (Option (Sealed J)) → PlaceView J
+with_claim claimed found left = record { claimed = claimed; found = found; left = left }
+
+-- it found this word
+abbrev pub after_look : {J : Type 0} → PlaceView J → ℕ → PlaceView J
+after_look v word = with_claim v.claimed (v.found ++ word ∷ []) v.left
+
+-- it found this word, and claimed the place
+abbrev pub after_claim : {J : Type 0} → PlaceView J → ℕ → ℕ → PlaceView J
+after_claim v place word = with_claim (Some place) (v.found ++ word ∷ []) v.left
+
+-- it filled or emptied the place that it had claimed, and left this there
+abbrev pub after_store : {J : Type 0} → PlaceView J → Option (Sealed J) → PlaceView J
+after_store v content = with_claim None v.found (v.left ++ content ∷ [])
+
+-- WHAT EACH STEP TELLS
+-- of the step, the seat before, the word found (at a store, the word stored), and the seat after
+
+abbrev pub PlaceStep : Type 0 → Type 0
+PlaceStep J = Step (Option (Sealed J))
+
+abbrev pub PlaceMe : Type 0 → Type 0
+PlaceMe J = Me (Option (Sealed J)) (PlaceView J)
+
+module _ {J : Type 0} where
+  abbrev pub Sits : PlaceStep J → PlaceMe J → ℕ → PlaceMe J → Type 0
+  Sits step before word after = after ≡ (with_claim None [] [], [])
+
+  abbrev pub Looks : PlaceStep J → PlaceMe J → ℕ → PlaceMe J → Type 0
+  Looks step before word after = IsPlaceWord word × (after ≡ (after_look before.0 word, before.1))
+
+  -- A claim that is won takes the slot, with what was at home there.
+  abbrev pub Claims : PlaceStep J → PlaceMe J → ℕ → PlaceMe J → Type 0
+  Claims step before word after = IsPlaceWord word
+      × (word ≢ step.first → after ≡ (after_look before.0 word, before.1))
+      × (word ≡ step.first → (place : ℕ) → step.word ≡ word_at place
+      → (bag : Option (Sealed J)) × IsAtHome word bag
+      × (after ≡ (after_claim before.0 place word, (place, bag) ∷ before.1)))
+
+  -- The slot goes home with what is left in it, and the view keeps that.
+  abbrev pub Stores : PlaceStep J → PlaceMe J → ℕ → PlaceMe J → Type 0
+  Stores step before word after = (place : ℕ) → (content : Option (Sealed J)) → before.1 ≡ (place, content) ∷ []
+      → after ≡ (after_store before.0 content, [])

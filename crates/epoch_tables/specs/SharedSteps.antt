@@ -1,0 +1,90 @@
+-- The steps of a put and of a collection over shared places: where a cursor stands, and what each step does.
+use Rattle.std.specs.Prelude.{◌≡◌, ◌≢◌, ℕ, ◌+◌, ◌*◌, ◌<◌, ◌≤◌, List, [], ◌∷◌, ◌++◌, length, ◌==◌, if◌then◌else◌, Option, Some, None}
+use Rattle.epoch_bags.specs.Bags.{Sealed, IsExpired}
+use Rattle.epoch_tables.specs.SharedPlaces.{PlaceMe, with_claim, after_look, after_claim, after_store}
+use Rattle.epoch_tables.specs.declared.shared_places.view.PlaceView.{PlaceView}
+use Rattle.epoch_bags.specs.declared.queue.PutStep.{PutStep}
+use Rattle.epoch_bags.specs.declared.queue.PutStep.TheVariants.{Again as PutAgain, Done, Full}
+use Rattle.epoch_bags.specs.declared.queue.TakeStep.{TakeStep}
+use Rattle.epoch_bags.specs.declared.queue.TakeStep.TheVariants.{Again as TakeAgain, Empty as TakeEnds, Got}
+use Rattle.epoch_bags.specs.declared.queue.places.PutCursor.{PutCursor}
+use Rattle.epoch_bags.specs.declared.queue.places.PutCursor.TheVariants.{Look as PutLook, Claim as PutClaim, Fill}
+use Rattle.epoch_bags.specs.declared.queue.places.TakeCursor.{TakeCursor}
+use Rattle.epoch_bags.specs.declared.queue.places.TakeCursor.TheVariants.{Look as TakeLook, Claim as TakeClaim, Empty}
+
+-- this is the word of a place that holds a bag expired for the epoch x
+abbrev pub IsExpiredWord : ℕ → ℕ → Type 0
+IsExpiredWord x word = (seal : ℕ) × (word ≡ 2 * seal + 1) × (seal + 2 ≤ x)
+
+-- WHERE A CURSOR STANDS
+
+module _ {J : Type 0} where
+  -- the seat has claimed no place, and has no slot in hand
+  abbrev pub RestsAt : PlaceMe J → Type 0
+  RestsAt me = (me.0.claimed ≡ None) × (me.1 ≡ [])
+
+  -- the seat has claimed this place, and has in hand its slot alone, with this content
+  abbrev pub HoldsAt : ℕ → Option (Sealed J) → PlaceMe J → Type 0
+  HoldsAt place content me = (me.0.claimed ≡ Some place) × (me.1 ≡ (place, content) ∷ [])
+
+  -- the seat is where a put with this cursor has it: with an empty slot in hand from the claim on
+  abbrev pub PutsAt : ℕ → PutCursor → PlaceMe J → Type 0
+  PutsAt places (PutLook place) me = (place < places) × RestsAt me
+  PutsAt places (PutClaim place) me = (place < places) × RestsAt me
+  PutsAt places (Fill place) me = (place < places) × HoldsAt place None me
+
+  -- The seat is where a collection for the epoch x with this cursor has it: with an expired bag in hand from the
+  -- claim on. At the number of places the cursor is past the last one.
+  abbrev pub TakesAt : ℕ → ℕ → TakeCursor → PlaceMe J → Type 0
+  TakesAt places x (TakeLook place) me = (place ≤ places) × RestsAt me
+  TakesAt places x (TakeClaim place word) me = (place < places) × IsExpiredWord x word × RestsAt me
+  TakesAt places x (Empty place) me = (place < places) × ((bag : Sealed J) × IsExpired x bag × HoldsAt place (Some bag) me)
+
+-- WHAT A STEP DOES
+
+-- the put goes on behind this place, or has seen each place occupied
+abbrev pub PutPasses : ℕ → ℕ → PutStep → PutCursor → Type 0
+PutPasses places place step next = (next ≡ PutLook (place + 1)) × (step ≡ (if place + 1 == places then Full else PutAgain))
+
+-- the collection goes on behind this place, or was at the last one
+abbrev pub TakePasses : ℕ → ℕ → TakeStep → TakeCursor → Type 0
+TakePasses places place step next = (next ≡ TakeLook (place + 1)) × (step ≡ (if place + 1 == places then TakeEnds else TakeAgain))
+
+module _ {J : Type 0} where
+  -- One step of a put of this sealed bag. A look and a claim find a word, and an occupied place is passed.
+  abbrev pub PutMoves : ℕ → PutCursor → PlaceView J → Sealed J → PutStep → PutCursor → PlaceView J → Type 0
+  PutMoves places (PutLook place) before bag step next after = (word : ℕ) × (after ≡ after_look before word)
+      × (word ≡ 0 → (step ≡ PutAgain) × (next ≡ PutClaim place))
+      × (word ≢ 0 → PutPasses places place step next)
+  PutMoves places (PutClaim place) before bag step next after = (word : ℕ)
+      × (word ≡ 0 → (after ≡ after_claim before place 0) × (step ≡ PutAgain) × (next ≡ Fill place))
+      × (word ≢ 0 → (after ≡ after_look before word) × PutPasses places place step next)
+  PutMoves places (Fill place) before bag step next after = (step ≡ Done) × (after ≡ after_store before (Some bag))
+
+  -- a look of a collection finds a word: that of an expired bag is claimed next, and else the place is passed
+  abbrev pub LooksForBag : ℕ → ℕ → ℕ → PlaceView J → TakeStep → TakeCursor → PlaceView J → Type 0
+  LooksForBag places x place before step next after = (word : ℕ) × (after ≡ after_look before word)
+      × (IsExpiredWord x word → (step ≡ TakeAgain) × (next ≡ TakeClaim place word))
+      × ((¬ IsExpiredWord x word) → TakePasses places place step next)
+
+  -- One step of a collection for the epoch x, and what is in the hand after it. Past the last place it touches no word.
+  -- The bag that is got is the very one that was in the slot.
+  abbrev pub TakeMoves : ℕ → ℕ → TakeCursor → PlaceMe J → TakeStep → TakeCursor → PlaceMe J → Sealed J → Type 0
+  TakeMoves places x (TakeLook place) before step next after hand = (place ≡ places → (step ≡ TakeEnds) × (after ≡ before))
+      × (place ≢ places → LooksForBag places x place before.0 step next after.0)
+  TakeMoves places x (TakeClaim place claims) before step next after hand = (word : ℕ)
+      × (word ≡ claims → (after.0 ≡ after_claim before.0 place word) × (step ≡ TakeAgain) × (next ≡ Empty place))
+      × (word ≢ claims → (after.0 ≡ after_look before.0 word) × TakePasses places place step next)
+  TakeMoves places x (Empty place) before step next after hand = (step ≡ Got) × (next ≡ TakeLook (place + 1))
+      × (after.0 ≡ after_store before.0 None) × (before.1 ≡ (place, Some hand) ∷ []) × IsExpired x hand
+
+-- AN END
+
+module _ {J : Type 0} where
+  -- So many places were looked at, each once, and their claims where one was tried. They found these words: the last
+  -- is that of the bag that is taken out, where one is.
+  abbrev pub TriesEach : ℕ → PlaceView J → Option (Sealed J) → PlaceView J → Type 0
+  TriesEach places before None after = (words : List ℕ) × (places ≤ length words)
+      × (after ≡ with_claim None (before.found ++ words) before.left)
+  TriesEach places before (Some bag) after = (words : List ℕ)
+      × (after ≡ with_claim None (before.found ++ (words ++ (2 * bag.seal + 1) ∷ [])) (before.left ++ None ∷ []))

@@ -1,0 +1,89 @@
+//! The steps on the shared places, each one atomic instruction.
+ghost use Rattle.std.specs.Prelude.{◌≡◌, ◌≢◌, ℕ, ◌*◌, ◌<◌, ◌∷◌, [], Option, Some, None};
+ghost use Rattle.epoch_bags.specs.Bags.{Sealed};
+ghost use Rattle.epoch_tables.specs.SharedPlaces.{IsPlaceWord, IsAtHome, IsOf, IsKept, after_look, after_claim, after_store};
+
+use crate::shared_places::places::{PlaceSeat, SharedPlaces};
+use crate::shared_places::plays::{Claim, Look, Store};
+use epoch_bags::SealedBag;
+use std::mem;
+
+/// Where the word of a place stands.
+///
+/// The words are 128 bytes apart: neighbours in one line of the cache, or in two that are fetched
+/// together, would slow each other's threads down.
+#[inline(always)]
+pub(crate) fn word_index(place: usize) -> usize
+    requires { place < 4096 }
+    ensures { result ≡ 16 * place }
+{
+    16 * place
+}
+
+impl<J> SharedPlaces<J> {
+    /// Loads a place's word: 0 where it is empty, 2 where it is claimed, and 2s + 1 where it holds a
+    /// bag sealed with s. No bag is moved.
+    #[inline(always)]
+    pub fn look(&self, seat: &mut PlaceSeat<J>, place: usize) -> u64
+        requires of { IsOf self.now seat.old }
+        requires within { place < self.now.places }
+        ensures kept { IsKept seat.old seat.new }
+        ensures answer { IsPlaceWord result }
+        ensures view { seat.new.me ≡ (after_look seat.old.me.0 result, seat.old.me.1) }
+    {
+        self.table.shared.load::<Look>(seat, word_index(place))
+    }
+
+    /// Tries to claim a place whose word is this one, and answers the word found: this one exactly
+    /// where the seat has the place now, and in hand what was at home there.
+    #[inline(always)]
+    pub fn claim(&self, seat: &mut PlaceSeat<J>, place: usize, word: u64) -> u64
+        requires of { IsOf self.now seat.old }
+        requires within { place < self.now.places }
+        requires free { seat.old.me.0.claimed ≡ None }
+        requires word { word ≢ 2 }
+        ensures kept { IsKept seat.old seat.new }
+        ensures answer { IsPlaceWord result }
+        ensures won { result ≡ word → (bag : Option (Sealed J)) × IsAtHome word bag
+            × (seat.new.me ≡ (after_claim seat.old.me.0 place word, (place, bag) ∷ seat.old.me.1)) }
+        ensures lost { result ≢ word → seat.new.me ≡ (after_look seat.old.me.0 result, seat.old.me.1) }
+    {
+        self.table
+            .shared
+            .compare_exchange::<Claim>(seat, word_index(place), word, 2)
+    }
+
+    /// Moves `bag` into the claimed place, which has none, and stores its seal. `bag` is `None` then.
+    #[inline(never)]
+    pub fn fill(&self, seat: &mut PlaceSeat<J>, place: usize, bag: &mut Option<SealedBag<J>>)
+        requires of { IsOf self.now seat.old }
+        requires claimed { (place < self.now.places) × (seat.old.me.0.claimed ≡ Some place) }
+        requires hand { seat.old.me.1 ≡ (place, None) ∷ [] }
+        requires bag { (put : Sealed J) × (bag.old ≡ Some put) }
+        ensures kept { IsKept seat.old seat.new }
+        ensures bag { bag.new ≡ None }
+        ensures view { seat.new.me ≡ (after_store seat.old.me.0 bag.old, []) }
+    {
+        let Some(put) = &*bag else { unreachable!() };
+        let seal = put.seal();
+        mem::swap(bag, seat.slot_mut(&self.table.shared, place));
+        self.table
+            .shared
+            .store::<Store>(seat, word_index(place), 2 * seal + 1);
+    }
+
+    /// Moves what the claimed place holds into `bag`, which is `None` before, and stores 0.
+    #[inline(never)]
+    pub fn empty(&self, seat: &mut PlaceSeat<J>, place: usize, bag: &mut Option<SealedBag<J>>)
+        requires of { IsOf self.now seat.old }
+        requires claimed { (place < self.now.places) × (seat.old.me.0.claimed ≡ Some place) }
+        requires hand { (held : Option (Sealed J)) × (seat.old.me.1 ≡ (place, held) ∷ []) }
+        requires none { bag.old ≡ None }
+        ensures kept { IsKept seat.old seat.new }
+        ensures bag { seat.old.me.1 ≡ (place, bag.new) ∷ [] }
+        ensures view { seat.new.me ≡ (after_store seat.old.me.0 None, []) }
+    {
+        mem::swap(seat.slot_mut(&self.table.shared, place), bag);
+        self.table.shared.store::<Store>(seat, word_index(place), 0);
+    }
+}

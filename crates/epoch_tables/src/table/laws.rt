@@ -1,0 +1,21 @@
+//! What the rule of the table means for epochs and for bags.
+//!
+//! Each function here does nothing: its contract is a law about any table that keeps the rule.
+ghost use Rattle.epoch_tables.specs.Table.{IsNeverLowered, ReadsAfterSeal, NeverFalls};
+
+/// Once a seat has passed all positions in its scan for an epoch, and until it scans anew, the present
+/// epoch is that one or the next. So the plain store of the next one never lowers it.
+pub fn store_never_lowers()
+    ensures { IsNeverLowered (Unit {0}) }
+{}
+
+/// Where a bag is expired for an epoch that any seat has read or stored, every pinned seat that has
+/// read the epoch since it published read one after the bag's seal.
+pub fn expired_means_read_later()
+    ensures { ReadsAfterSeal (Unit {0}) }
+{}
+
+/// The epoch is never below one that a seat has read or stored.
+pub fn epoch_never_falls()
+    ensures { NeverFalls (Unit {0}) }
+{}

@@ -1,0 +1,89 @@
+//! The participants' table, and the seats at it.
+ghost use Rattle.std.specs.Prelude.{◌≡◌, ◌<◌, ◌≤◌, ℕ, ◌*◌, [], ◌∷◌, IfOk, IfErr, replicate};
+ghost use Rattle.epoch_tables.specs.Table.{EpochsAgree, words_for, IsOf};
+ghost use Rattle.epoch_tables.specs.TableSteps.{spent, without_position};
+ghost use Rattle.epoch_cells.specs.declared.fault.Fault.TheVariants.{NoMemory};
+
+use crate::table::plays::Sit;
+use crate::table::view::ParticipantView;
+use atomic_table::{Seat, Table, TableRule};
+use epoch_cells::Fault;
+use std::alloc::Global;
+use std::marker::Model;
+
+/// How many positions a table has at most.
+pub const MOST_POSITIONS: usize = 4096;
+
+/// The rule that holds between any two steps on the table.
+pub struct EpochRule;
+
+impl TableRule<(), ParticipantView, u64> for EpochRule {
+    ghost holds = { EpochsAgree };
+
+    ghost first = { λ _. spent };
+}
+
+/// A seat at the participants' table: what a thread takes its steps with. It has no bytes.
+pub type ParticipantSeat = Seat<(), ParticipantView>;
+
+/// The participants' table: a word for the epoch, and a word for each position.
+///
+/// Threads share it by `&`. Each step is one atomic instruction, and none waits or takes memory.
+#[derive(Drop)]
+pub struct Participants {
+    pub(crate) table: Table<(), ParticipantView, u64, EpochRule, Global>,
+    positions: usize,
+}
+
+impl Model for Participants {
+    ghost use Rattle.std.specs.Prelude.{◌≡◌, ◌<◌, ◌≤◌};
+    ghost use Rattle.epoch_tables.specs.Table.{Board, words_for};
+
+    ghost Value = { Board };
+
+    ghost view = { λ a. record { positions = a.positions; table = a.table.shared.table_id } };
+
+    ghost invariant = { λ a. record {
+      words : a.table.shared.table_id.words ≡ words_for a.positions;
+      key : a.table.shared.key ≡ a.positions;
+      some : 0 < a.positions;
+      most : a.positions ≤ 4096;
+    } };
+}
+
+impl Participants {
+    /// A table with so many positions, from 1 to [`MOST_POSITIONS`], all free, in epoch 0.
+    ///
+    /// `NoMemory`: an allocation was refused.
+    pub fn new(alloc: Global, positions: usize) -> Result<Participants, Fault>
+        requires some { 0 < positions }
+        requires most { positions ≤ MOST_POSITIONS }
+        ensures ok { IfOk result (λ table. table.positions ≡ positions) }
+        ensures err { IfErr result (λ fault. fault ≡ NoMemory) }
+    {
+        let Ok(words) = Vec::from_elem(alloc, 0, 16 * positions + 16) else {
+            return Err(Fault::NoMemory);
+        };
+        let Ok((table, _)) = Table::of_words(alloc, words.as_slice(), &(positions as u64)) else {
+            return Err(Fault::NoMemory);
+        };
+        Ok(Participants { table, positions })
+    }
+
+    /// How many positions it has, from 1 to [`MOST_POSITIONS`].
+    pub fn positions(&self) -> usize
+        ensures value { result ≡ self.now.positions }
+        ensures some { 0 < result }
+        ensures most { result ≤ MOST_POSITIONS }
+    {
+        self.positions
+    }
+
+    /// A new seat, which has no position. Making it loads the epoch.
+    pub fn seat(&self) -> ParticipantSeat
+        ensures of { IsOf self.now result }
+        ensures view { (epoch : ℕ) × (result.me.0 ≡ without_position epoch (2 * epoch ∷ [])) }
+    {
+        self.table.shared.load_new_seat::<Sit>(0).1
+    }
+}

@@ -1,0 +1,116 @@
+//! The steps on the participants' table, each one atomic instruction.
+ghost use Rattle.std.specs.Prelude.{◌≡◌, ◌≢◌, ℕ, ◌+◌, ◌*◌, ◌/◌, ◌<◌, ◌≤◌, Some, None};
+ghost use Rattle.epoch_tables.specs.Table.{IsWord, LetsPass, IsOf, IsKept};
+ghost use Rattle.epoch_tables.specs.TableSteps.{after_epoch, after_own, after_free, after_word, after_pass, after_advance, after_claim};
+
+use crate::table::participants::{ParticipantSeat, Participants};
+use crate::table::plays::{Claim, Free, LoadEpoch, LoadWord, Publish, StoreEpoch, Unpin};
+use epoch_bags::GREATEST_EPOCH;
+
+/// Where the word of a position stands.
+///
+/// The words are 128 bytes apart: neighbours in one line of the cache, or in two that are fetched
+/// together, would slow each other's threads down.
+fn word_index(position: usize) -> usize
+    requires { position < 4096 }
+    ensures { result ≡ 16 * position + 16 }
+{
+    16 * position + 16
+}
+
+impl Participants {
+    /// Loads the epoch word, which is twice the epoch, and no lower than any that this seat has seen.
+    pub fn load_epoch(&self, seat: &mut ParticipantSeat) -> u64
+        requires of { IsOf self.now seat.old }
+        ensures kept { IsKept seat.old seat.new }
+        ensures answer { result ≡ 2 * (result / 2) }
+        ensures rises { seat.old.me.0.seen ≤ result / 2 }
+        ensures view { seat.new.me.0 ≡ after_epoch seat.old.me.0 (result / 2) }
+    {
+        self.table.shared.load::<LoadEpoch>(seat, 0)
+    }
+
+    /// Stores the own word: pinned in the epoch of this number, which this seat has read or gone past.
+    pub fn publish(&self, seat: &mut ParticipantSeat, position: usize, epoch: u64)
+        requires of { IsOf self.now seat.old }
+        requires own { (seat.old.me.0.position ≡ Some position) × (position < self.now.positions) }
+        requires read { epoch ≤ seat.old.me.0.seen }
+        requires within { epoch ≤ GREATEST_EPOCH }
+        ensures kept { IsKept seat.old seat.new }
+        ensures view { seat.new.me.0 ≡ after_own seat.old.me.0 (Some epoch) }
+    {
+        self.table
+            .shared
+            .store::<Publish>(seat, word_index(position), 2 * epoch + 1);
+    }
+
+    /// Stores the own word: registered, and not pinned.
+    pub fn unpin(&self, seat: &mut ParticipantSeat, position: usize)
+        requires of { IsOf self.now seat.old }
+        requires own { (seat.old.me.0.position ≡ Some position) × (position < self.now.positions) }
+        ensures kept { IsKept seat.old seat.new }
+        ensures view { seat.new.me.0 ≡ after_own seat.old.me.0 None }
+    {
+        self.table
+            .shared
+            .store::<Unpin>(seat, word_index(position), 2);
+    }
+
+    /// Stores the own word: free. The seat has no position from then on.
+    pub fn free(&self, seat: &mut ParticipantSeat, position: usize)
+        requires of { IsOf self.now seat.old }
+        requires own { (seat.old.me.0.position ≡ Some position) × (position < self.now.positions) }
+        ensures kept { IsKept seat.old seat.new }
+        ensures view { seat.new.me.0 ≡ after_free seat.old.me.0 }
+    {
+        self.table
+            .shared
+            .store::<Free>(seat, word_index(position), 0);
+    }
+
+    /// Loads the word of the position that this seat's scan is at, and passes it where the word lets it.
+    pub fn load_word(&self, seat: &mut ParticipantSeat, position: usize) -> u64
+        requires of { IsOf self.now seat.old }
+        requires within { position < self.now.positions }
+        requires scanning { (epoch : ℕ) × (seat.old.me.0.scan ≡ Some (epoch, position)) }
+        ensures kept { IsKept seat.old seat.new }
+        ensures answer { IsWord result }
+        ensures view { (epoch : ℕ) → seat.old.me.0.scan ≡ Some (epoch, position)
+            → (LetsPass epoch result → seat.new.me.0 ≡ after_pass seat.old.me.0 epoch position result)
+            × (¬ LetsPass epoch result → seat.new.me.0 ≡ after_word seat.old.me.0 result) }
+    {
+        self.table
+            .shared
+            .load::<LoadWord>(seat, word_index(position))
+    }
+
+    /// Stores the epoch after this one, for which this seat's scan has passed all positions.
+    ///
+    /// The store is a plain one. It never lowers the epoch: see `store_never_lowers`.
+    pub fn advance(&self, seat: &mut ParticipantSeat, epoch: u64)
+        requires of { IsOf self.now seat.old }
+        requires scanned { seat.old.me.0.scan ≡ Some (epoch, self.now.positions) }
+        requires within { epoch < GREATEST_EPOCH }
+        ensures kept { IsKept seat.old seat.new }
+        ensures ahead { seat.old.me.0.seen ≤ epoch + 1 }
+        ensures view { seat.new.me.0 ≡ after_advance seat.old.me.0 (epoch + 1) }
+    {
+        self.table
+            .shared
+            .store::<StoreEpoch>(seat, 0, 2 * (epoch + 1));
+    }
+
+    /// Tries to claim a position, and answers the word found there: 0 exactly where the seat has it now.
+    pub fn claim(&self, seat: &mut ParticipantSeat, position: usize) -> u64
+        requires of { IsOf self.now seat.old }
+        requires free { (seat.old.me.0.position ≡ None) × (position < self.now.positions) }
+        ensures kept { IsKept seat.old seat.new }
+        ensures answer { IsWord result }
+        ensures won { result ≡ 0 → seat.new.me.0 ≡ after_claim seat.old.me.0 position 0 }
+        ensures lost { result ≢ 0 → seat.new.me.0 ≡ after_word seat.old.me.0 result }
+    {
+        self.table
+            .shared
+            .compare_exchange::<Claim>(seat, word_index(position), 0, 2)
+    }
+}

@@ -1,0 +1,52 @@
+//! What the tests want. A comparison stands here once: written out in a test, it would be proved beside all that the
+//! test owns.
+use std::alloc::Global;
+use std::fmt::Debug;
+use std::process::Abort;
+use std::test::Fail;
+
+/// Both are equal. `what` says what was seen.
+pub(crate) fn want<T: PartialEq + Debug + Drop>(rt: &impl Abort, what: &str, seen: T, wanted: T) {
+    assert_eq!(rt; seen, wanted, "{what}");
+}
+
+/// This holds.
+pub(crate) fn want_true(rt: &impl Abort, what: &str, holds: bool) {
+    assert!(rt; holds, "{what}");
+}
+
+/// The value is shown as this text.
+pub(crate) fn want_shown<T: Debug>(
+    rt: &impl Abort,
+    alloc: Global,
+    value: &T,
+    wanted: &str,
+) -> Result<(), Fail> {
+    let text = format!(in alloc; "{value:?}")?;
+    want(rt, "the text shown", text.as_str(), wanted);
+    Ok(())
+}
+
+/// What was answered, where a success is wanted.
+pub(crate) fn want_ok<T, E: Drop>(rt: &impl Abort, what: &str, answer: Result<T, E>) -> T {
+    match answer {
+        Ok(value) => value,
+        Err(_) => panic!(rt; "{what}"),
+    }
+}
+
+/// The error, where one is wanted.
+pub(crate) fn want_err<T: Drop, E>(rt: &impl Abort, what: &str, answer: Result<T, E>) -> E {
+    match answer {
+        Ok(_) => panic!(rt; "{what}"),
+        Err(error) => error,
+    }
+}
+
+/// What is there.
+pub(crate) fn want_some<T>(rt: &impl Abort, what: &str, found: Option<T>) -> T {
+    match found {
+        Some(value) => value,
+        None => panic!(rt; "{what}"),
+    }
+}
