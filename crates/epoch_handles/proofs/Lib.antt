@@ -5,6 +5,7 @@ pub mod Expiries
 pub mod Flushing
 pub mod PlacesTold
 pub mod Putting
+pub mod Registering
 pub mod Releasing
 pub mod Scanning
 pub mod SeatKept

@@ -1,5 +1,6 @@
 -- What the calls of a handle keep and promise.
-use Rattle.std.specs.Prelude.{◌≡◌, ◌≢◌, ℕ, ◌<◌, ◌≤◌, List, [], ◌∷◌, ◌++◌, Option, Some, None, true, false, ◌⊎◌}
+use Rattle.std.specs.Prelude.{◌≡◌, ◌≢◌, ℕ, ◌+◌, ◌<◌, ◌≤◌, List, [], ◌∷◌, ◌++◌, length, Option, Some, None, true, false, ◌⊎◌}
+use Rattle.std.specs.List.{All}
 use Rattle.epoch_bags.specs.Bags.{Sealed}
 use Rattle.epoch_tables.specs.Table.{IsOf}
 use Rattle.epoch_tables.specs.TableSteps.{after_epoch, after_own}
@@ -125,13 +126,28 @@ abbrev pub Does : {T W : Type 0} → Local T W → Action → Local T W → Type
 Does {T} {W} old action new = (last : Machine (Job W)) × (last.stage ≡ End) × (new.machine ≡ ended last)
     × Drives old.collector.now.places.places (begun action old.machine) (sight_of old) last (sight_of new)
 
+-- the same participant of the same collector, between two calls, with one guard fewer
+pub record IsBetween {T W : Type 0} (old between : Local T W) : Type 0 where
+  pub same : IsSame old between
+  pub ready : IsReady between
+  pub counted : between.machine.guards + 1 ≡ old.machine.guards
+
 -- the guard is one that this participant has out, as far as can be told: it is of its position and of its collector's number
 pub record Owns {T W : Type 0} (h : Local T W) (guard : Guard T W) : Type 0 where
   pub position : guard.position ≡ Some h.position
   pub collector : guard.collector.now.id ≡ h.collector.now.id
   pub out : 0 < h.machine.guards
 
--- a new participant of this collector: registered, not pinned, with an empty bag
+-- Behind the epoch, the words found are those of all positions before this one, of which none was free.
+abbrev pub LosesEach : ℕ → List ℕ → Type 0
+LosesEach position found = (epoch : ℕ) × (taken : List ℕ) × (found ≡ epoch ∷ taken) × (length taken ≡ position) × All (λ word. word ≢ 0) taken
+
+-- It has tried each position from 0 to its own, once and in order, and only its own was free.
+abbrev pub TriesInOrder : ℕ → List ℕ → Type 0
+TriesInOrder position found = (before : List ℕ) × LosesEach position before × (found ≡ before ++ 0 ∷ [])
+
+-- a new participant of this collector: registered at the first position that was found free, not pinned, with an empty bag
 pub record IsNew {T W : Type 0} (collector : Collector T W) (h : Local T W) : Type 0 where
   pub of : h.collector.now ≡ collector
   pub machine : h.machine ≡ fresh collector.sizes
+  pub tries : TriesInOrder h.position h.seat.me.0.found

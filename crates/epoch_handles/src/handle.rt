@@ -1,7 +1,7 @@
 //! Handles: what a thread is a participant by.
 ghost use Rattle.std.specs.Prelude.{◌≡◌, ℕ, ◌+◌, ◌<◌, ◌^◌, ◌↔◌, ◌≢◌, [], ◌∷◌, ◌++◌, ◌⊎◌, IsTrue, IsSome, IsOk, IsErr, Err, IfOk, IfErr, IsOkUnless, Some, None, length};
 ghost use Rattle.epoch_cells.specs.declared.fault.Fault.TheVariants.{TableFull, StrangerGuard, BagsFull};
-ghost use Rattle.epoch_handles.specs.Handles.{IsReady, IsNew, IsSame, Owns, Does};
+ghost use Rattle.epoch_handles.specs.Handles.{IsReady, IsNew, IsSame, IsBetween, Owns, Does};
 ghost use Rattle.epoch_handles.specs.Releases.{IsReleased};
 ghost use Rattle.epoch_machine.specs.declared.machine.Action.TheVariants.{Pin, Unpin, Repin, Defer, Flush, Release};
 
@@ -252,7 +252,7 @@ impl<'c, T: Drop, W: Run> LocalHandle<'c, T, W> {
         ensures ready { IsReady self.new.local }
         ensures counted { self.new.local.machine.guards ≡ self.old.local.machine.guards }
         ensures unprotected { guard.old.position ≡ None → self.new ≡ self.old }
-        ensures does { IsSome guard.old.position → (between : _) × Does self.old.local Unpin between × Does between Pin self.new.local }
+        ensures does { IsSome guard.old.position → (between : _) × IsBetween self.old.local between × Does self.old.local Unpin between × Does between Pin self.new.local }
     {
         if !guard.is_protecting() {
             return f();

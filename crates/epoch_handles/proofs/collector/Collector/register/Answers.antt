@@ -1,7 +1,9 @@
-use Rattle.std.proofs.Common.{◌∙◌, ap, arith}
+use Rattle.std.proofs.Common.{◌∙◌, ◌+◌, refl, sym, ap, subst, arith}
+use Rattle.epoch_handles.specs.Handles.{LosesEach}
 use Rattle.epoch_bags.specs.declared.job.Job.{Job}
 use Rattle.epoch_tables.specs.declared.table.view.ParticipantView.{ParticipantView}
 use Rattle.epoch_machine.specs.Machine.{Machine}
+use Rattle.epoch_handles.proofs.Registering.{loses_one_more}
 use Rattle.epoch_handles.proofs.collector.Collector.register.Goals as goal
 
 pub new-requires : goal.new-requires
@@ -30,3 +32,18 @@ invariant_of-result g c =
         };
       };
     }
+
+-- each position before this one was tried and lost, and this one is won
+pub returns-then-claim-eq0-clause-fresh : goal.returns-then-claim-eq0-clause-fresh
+returns-then-claim-eq0-clause-fresh g c = record {
+  of = refl;
+  machine = c.new.ensures;
+  tries = (c.loop-position.seat.me.0.found, c.loop-position.invariant.2, ap (λ (z : ParticipantView). z.found) (c.claim.ensures.won c.if-claim-eq0.true));
+}
+
+-- this position is lost as those before it were
+pub loop-position-preserved : goal.loop-position-preserved
+loop-position-preserved g c =
+    let lost = c.claim.ensures.lost c.if-claim-eq0.false in let kept = c.claim.ensures.kept in let seat = c.loop-position.invariant in
+    let more = loses_one_more c.loop-position.position c.loop-position.seat.me.0.found c.claim.result seat.2 c.if-claim-eq0.false in
+    ((kept.0 ∙ seat.0.0, kept.2 ∙ seat.0.1), ap (λ (z : ParticipantView). z.position) lost ∙ seat.1, subst (LosesEach (c.loop-position.position + 1)) (sym (ap (λ (z : ParticipantView). z.found) lost)) more)
