@@ -1,7 +1,7 @@
 //! Exchanges of one pointer for another.
 ghost use Rattle.std.specs.Prelude.{◌≡◌, ◌≢◌, IfOk, IfErr};
-ghost use Rattle.epoch_atomic.specs.Pointers.{IsPointerWord, BecomesBelow, BecomesBoth};
-ghost use Rattle.epoch_atomic.specs.Exchanges.{OnChanged, OnFull, OnStuck, FindsAnother};
+ghost use Rattle.epoch_atomic.specs.Pointers.{IsPointerWord, BecomesBelow, BecomesBoth, IsUnder};
+ghost use Rattle.epoch_atomic.specs.Exchanges.{OnChanged, OnFull, OnStuck, FindsAnother, AnswersUnder};
 
 use crate::atomic::orders::CompareAndSetOrdering;
 use crate::atomic::pointer::Pointer;
@@ -42,7 +42,7 @@ impl<T: Pointable> Atomic<T> {
     /// Stores `new` where `current` stands, pointer and tag both, and answers the pointer that was written.
     ///
     /// An owned value is placed in a cell first, and is taken back where the exchange is lost. What an
-    /// [`ExchangeFault`] says is all that the call left.
+    /// [`ExchangeFault`] says is all that the call left. Each pointer that is answered was got under this guard.
     #[inline(always)]
     pub fn compare_exchange<'g, P: Pointer<'g, T>, W>(
         &self,
@@ -57,6 +57,8 @@ impl<T: Pointable> Atomic<T> {
         ensures handed_back { IfErr result (λ fault. OnChanged fault (λ found back. BecomesBoth (P.becomes new) (P.becomes back))) }
         ensures full { IfErr result (λ fault. OnFull fault (λ back. P.takes_cell × (back ≡ new))) }
         ensures stuck { IfErr result (λ fault. OnStuck fault (λ stuck. P.takes_cell × P.becomes new stuck.name stuck.tag)) }
+        ensures home { IfOk result (λ written. IsUnder guard.now.collector.now.id written.home) }
+        ensures fault_home { IfErr result (λ fault. AnswersUnder guard.now.collector.now.id fault) }
     {
         let expected = pointer_word::<T>(current.name, current.tag);
         let shared = match new.enter(guard) {
@@ -65,7 +67,7 @@ impl<T: Pointable> Atomic<T> {
         };
         let word = pointer_word::<T>(shared.name, shared.tag);
         let found = match self.exchange_word(expected, word, success, failure) {
-            Ok(_) => return Ok(shared.with_tag(shared.tag())),
+            Ok(_) => return Ok(shared.under(guard).with_tag(shared.tag())),
             Err(found) => found,
         };
         match P::back(shared, guard) {
@@ -108,6 +110,8 @@ impl<T: Pointable> Atomic<T> {
         ensures handed_back { IfErr result (λ fault. OnChanged fault (λ found back. BecomesBoth (P.becomes new) (P.becomes back))) }
         ensures full { IfErr result (λ fault. OnFull fault (λ back. P.takes_cell × (back ≡ new))) }
         ensures stuck { IfErr result (λ fault. OnStuck fault (λ stuck. P.takes_cell × P.becomes new stuck.name stuck.tag)) }
+        ensures home { IfOk result (λ written. IsUnder guard.now.collector.now.id written.home) }
+        ensures fault_home { IfErr result (λ fault. AnswersUnder guard.now.collector.now.id fault) }
     {
         self.compare_exchange(current, new, success, failure, guard)
     }
@@ -125,6 +129,8 @@ impl<T: Pointable> Atomic<T> {
         ensures handed_back { IfErr result (λ fault. OnChanged fault (λ found back. BecomesBoth (P.becomes new) (P.becomes back))) }
         ensures full { IfErr result (λ fault. OnFull fault (λ back. P.takes_cell × (back ≡ new))) }
         ensures stuck { IfErr result (λ fault. OnStuck fault (λ stuck. P.takes_cell × P.becomes new stuck.name stuck.tag)) }
+        ensures home { IfOk result (λ written. IsUnder guard.now.collector.now.id written.home) }
+        ensures fault_home { IfErr result (λ fault. AnswersUnder guard.now.collector.now.id fault) }
     {
         self.compare_exchange(current, new, order.success(), order.failure(), guard)
     }
@@ -142,6 +148,8 @@ impl<T: Pointable> Atomic<T> {
         ensures handed_back { IfErr result (λ fault. OnChanged fault (λ found back. BecomesBoth (P.becomes new) (P.becomes back))) }
         ensures full { IfErr result (λ fault. OnFull fault (λ back. P.takes_cell × (back ≡ new))) }
         ensures stuck { IfErr result (λ fault. OnStuck fault (λ stuck. P.takes_cell × P.becomes new stuck.name stuck.tag)) }
+        ensures home { IfOk result (λ written. IsUnder guard.now.collector.now.id written.home) }
+        ensures fault_home { IfErr result (λ fault. AnswersUnder guard.now.collector.now.id fault) }
     {
         self.compare_exchange_weak(current, new, order.success(), order.failure(), guard)
     }

@@ -23,6 +23,7 @@ pub trait Pointer<'g, T: Pointable>: Sized {
     /// back where the cells are full.
     fn enter<W>(self, guard: &'g Guard<'_, T, W>) -> Result<Shared<'g, T>, Self>
         ensures ok { IfOk result (λ shared. becomes self shared.name shared.tag) }
+        ensures home { IfOk result (λ shared. takes_cell → IsUnder guard.now.collector.now.id shared.home) }
         ensures full { IfErr result (λ back. takes_cell × (back ≡ self)) };
 
     /// The word of the pointer that it becomes, as [`Pointer::enter`] says.
@@ -43,10 +44,12 @@ impl<'g, T: Pointable> Pointer<'g, T> for Shared<'g, T> {
     ghost becomes = { λ shared name tag. (name ≡ shared.name) × (tag ≡ shared.tag) };
 
     #[inline(always)]
-    fn enter<W>(self, _guard: &'g Guard<'_, T, W>) -> Result<Shared<'g, T>, Self>
+    fn enter<W>(self, guard: &'g Guard<'_, T, W>) -> Result<Shared<'g, T>, Self>
         ensures ok { IfOk result (λ shared. (shared.name ≡ self.entry.name) × (shared.tag ≡ self.entry.tag)) }
+        ensures home { IfOk result (λ shared. ⊥ → IsUnder guard.now.collector.now.id shared.home) }
         ensures full { IfErr result (λ back. ⊥ × (back ≡ self.entry)) }
     {
+        let _ = guard;
         Ok(self)
     }
 
@@ -75,6 +78,7 @@ impl<'g, T: Pointable + Drop> Pointer<'g, T> for Owned<T> {
     #[inline(always)]
     fn enter<W>(self, guard: &'g Guard<'_, T, W>) -> Result<Shared<'g, T>, Self>
         ensures ok { IfOk result (λ shared. IsSome shared.name × (shared.tag ≡ self.tag)) }
+        ensures home { IfOk result (λ shared. Unit {0} → IsUnder guard.now.collector.now.id shared.home) }
         ensures full { IfErr result (λ back. Unit {0} × (back ≡ self)) }
     {
         match self.into_shared(guard) {

@@ -4,12 +4,12 @@ ghost use Rattle.std.proofs.Common.{rules};
 ghost use Rattle.std.specs.Cmp.{partial_order_from_own_ties};
 ghost use Rattle.std.specs.Cmp.Rules.{comparing};
 ghost use Rattle.std.specs.Ordering.{nat_cmp, on, as_partial_cmp};
-ghost use Rattle.epoch_atomic.specs.Pointers.{word_of};
+ghost use Rattle.epoch_atomic.specs.Pointers.{word_of, IsUnder};
 
 use crate::atomic::owned::Owned;
 use crate::atomic::word::number;
 use epoch_cells::{Name, Reading, Writing};
-use epoch_handles::Home;
+use epoch_handles::{Guard, Home, home_of};
 use epoch_values::{Pointable, tag_of};
 use std::cmp::Ordering;
 use std::fmt;
@@ -54,6 +54,19 @@ impl<'g, T> Shared<'g, T> {
         ensures { result ≡ self.now.tag }
     {
         self.tag as usize
+    }
+
+    // The same pointer, as one that was got under this guard.
+    #[inline(always)]
+    pub(crate) fn under<W>(&self, guard: &'g Guard<'_, T, W>) -> Shared<'g, T>
+        ensures name { result.name ≡ self.now.name }
+        ensures tag { result.tag ≡ self.now.tag }
+        ensures home { IsUnder guard.now.collector.now.id result.home }
+    {
+        Shared {
+            home: Some(home_of(guard)),
+            ..*self
+        }
     }
 }
 

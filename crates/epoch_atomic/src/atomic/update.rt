@@ -40,6 +40,8 @@ impl<T: Pointable> Atomic<T> {
         ensures ended { (last : F) × IfErr result (λ fault. Ends F.step f max_tries fault last) }
         ensures read { IfOk result (λ before. IsRead T.ALIGN before.name before.tag) }
         ensures seen { IfErr result (λ fault. IsRead T.ALIGN (pointer_of fault).name (pointer_of fault).tag) }
+        ensures home { IfOk result (λ before. IsUnder guard.now.collector.now.id before.home) }
+        ensures seen_home { IfErr result (λ fault. IsUnder guard.now.collector.now.id (pointer_of fault).home) }
     {
         let mut f = f;
         self.try_updates(set_order, fetch_order, max_tries, guard, &mut f)
@@ -59,6 +61,8 @@ impl<T: Pointable> Atomic<T> {
         ensures ended { IfErr result (λ fault. Ends F.step f.old max_tries fault f.new) }
         ensures read { IfOk result (λ before. IsRead T.ALIGN before.name before.tag) }
         ensures seen { IfErr result (λ fault. IsRead T.ALIGN (pointer_of fault).name (pointer_of fault).tag) }
+        ensures home { IfOk result (λ before. IsUnder guard.now.collector.now.id before.home) }
+        ensures seen_home { IfErr result (λ fault. IsUnder guard.now.collector.now.id (pointer_of fault).home) }
     {
         let mut seen = self.word.load(fetch_order);
         for _ in 0..max_tries {
