@@ -1,6 +1,9 @@
 //! Values that have one owner.
 ghost use Rattle.std.specs.Prelude.{◌≡◌, ◌%◌, ◌<◌, IfOk, IsOkUnless};
+ghost use Rattle.std.specs.Borrow.{Lends, sem};
 ghost use Rattle.epoch_cells.specs.declared.fault.Fault.TheVariants.{NoMemory};
+ghost use Rattle.epoch_atomic.specs.contracts.atomic.owned.Owned.{the_row};
+ghost use Rattle.epoch_atomic.specs.OwnedValues.{with_owned_value};
 
 use crate::atomic::borrow::{Borrow, BorrowMut};
 use epoch_cells::Fault;
@@ -115,7 +118,10 @@ impl<T: Pointable> Deref for Owned<T> {
 impl<T: Pointable> DerefMut for Owned<T> {
     ghost deref_mut_gives = { λ owned value. value ≡ owned.value.value };
 
-    fn deref_mut(&mut self) -> &mut T {
+    fn deref_mut(&mut self) -> &mut T
+        ensures* writes_back { sem 𝓛 (Lends (the_row T.row) T.row self.entry result (with_owned_value self.old)) }
+        ensures value { result.now ≡ self.old.value.value }
+    {
         &mut self.value
     }
 }
@@ -131,8 +137,11 @@ impl<T: Pointable> Borrow<T> for Owned<T> {
 impl<T: Pointable> BorrowMut<T> for Owned<T> {
     ghost borrow_mut_gives = { λ owned value. value ≡ owned.value.value };
 
-    fn borrow_mut(&mut self) -> &mut T {
-        &mut self.value
+    fn borrow_mut(&mut self) -> &mut T
+        ensures* writes_back { sem 𝓛 (Lends (the_row T.row) T.row self.entry result (with_owned_value self.old)) }
+        ensures value { result.now ≡ self.old.value.value }
+    {
+        self.deref_mut()
     }
 }
 
@@ -146,9 +155,10 @@ impl<T: Pointable> AsRef<T> for Owned<T> {
 
 impl<T: Pointable> AsMut<T> for Owned<T> {
     fn as_mut(&mut self) -> &mut T
-        ensures { result.now ≡ self.old.value.value }
+        ensures* writes_back { sem 𝓛 (Lends (the_row T.row) T.row self.entry result (with_owned_value self.old)) }
+        ensures value { result.now ≡ self.old.value.value }
     {
-        &mut self.value
+        self.deref_mut()
     }
 }
 
