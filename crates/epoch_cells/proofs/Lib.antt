@@ -1,1 +1,2 @@
+pub mod LentWritings
 pub mod PlainCellLists

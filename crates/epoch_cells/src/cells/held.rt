@@ -1,5 +1,7 @@
 //! What stands in a cell, and the claims to read and to write it.
-ghost use Rattle.std.specs.Prelude.{◌≡◌, ◌≢◌, ◌+◌, ◌*◌, ◌/◌, ◌%◌, ◌<◌, ◌≤◌, IsSomeAnd, IfSome, IfOk, IfErr};
+ghost use Rattle.std.specs.Prelude.{◌≡◌, ◌≢◌, ◌+◌, ◌*◌, ◌/◌, ◌%◌, ◌<◌, ◌≤◌, IsSomeAnd, IfSome, IfOk, IfErr, []};
+ghost use Rattle.std.specs.Borrow.{Lends, sem};
+ghost use mir.Syntax.{named};
 ghost use Rattle.counted_slot.specs.Counting.{readers, IsTurn, Gains};
 
 use crate::cells::name::Name;
@@ -11,6 +13,19 @@ use counted_slot::{Claim, Counted, FREE, Fits, MARKED, MOST_READERS, ONE_READER,
 pub struct Held<T> {
     pub name: Name,
     pub value: Box<T>,
+}
+
+impl<T> Held<T> {
+    ghost use Rattle.epoch_cells.specs.contracts.cells.held.Held.{the_row};
+    ghost use Rattle.epoch_cells.specs.LentCells.{with_held};
+
+    // The value, to be changed. The name stays beside it.
+    fn value_mut(&mut self) -> &mut T
+        ensures* writes_back { sem 𝓛 (Lends (the_row T.row) T.row self.entry result (with_held self.old)) }
+        ensures value { result.now ≡ self.old.value.value }
+    {
+        &mut self.value
+    }
 }
 
 impl<T> Fits for Held<T> {
@@ -74,15 +89,17 @@ impl<'a, T: Drop> Reading<'a, T> {
 /// The value is out of its cell, which nobody else may enter meanwhile. It must be spent by `leave`.
 pub struct Writing<'a, T> {
     claim: Claim<'a, Option<Held<T>>>,
-    value: Box<T>,
-    // The name that stood beside the value.
-    stored: Name,
+    // What stood in the cell, the value beside its name.
+    held: Held<T>,
     name: Name,
     pub ghost writes: { claim.right ≡ 2 },
-    pub ghost named: { stored ≡ name },
+    pub ghost named: { held.name ≡ name },
 }
 
 impl<'a, T: Drop> Writing<'a, T> {
+    ghost use Rattle.epoch_cells.specs.contracts.cells.held.Writing.{the_row};
+    ghost use Rattle.epoch_cells.specs.LentCells.{with_written};
+
     /// The name that the value was asked for by.
     pub fn name(&self) -> Name
         ensures { result ≡ self.now.name }
@@ -92,47 +109,30 @@ impl<'a, T: Drop> Writing<'a, T> {
 
     /// The value.
     pub fn get(&self) -> &T
-        ensures named { self.now.stored ≡ self.now.name }
-        ensures value { result.now ≡ self.now.value.value }
+        ensures named { self.now.held.name ≡ self.now.name }
+        ensures value { result.now ≡ self.now.held.value.value }
     {
-        &self.value
+        &self.held.value
     }
 
-    /// The value, to be changed.
+    /// The value, to be changed. The name that it stands beside stays.
     pub fn get_mut(&mut self) -> &mut T
-        ensures named { self.old.stored ≡ self.old.name }
-        ensures value { result.now ≡ self.old.value.value }
+        ensures* writes_back { sem 𝓛 (Lends (the_row (record { mir = named 1; lft = [] }) T.row) T.row self.entry result (with_written self.old)) }
+        ensures named { self.old.held.name ≡ self.old.name }
+        ensures value { result.now ≡ self.old.held.value.value }
     {
-        &mut self.value
+        self.held.value_mut()
     }
 
     /// Puts the value back beside its own name, and ends the writing.
     pub fn leave(self) {
         let Self {
             claim,
-            value,
-            stored,
+            held,
             name: _,
         } = self;
-        let held = Held {
-            name: stored,
-            value,
-        };
-        let _ = claim.put(Some(held), word_of(stored.turn(), PRESENT));
-    }
-
-    /// Ends the writing with the value out, which leaves the slot free for its next turn.
-    pub fn vacate(self) -> Box<T>
-        ensures { result ≡ self.entry.value }
-    {
-        let Self {
-            claim,
-            value,
-            stored,
-            name: _,
-        } = self;
-        let _ = claim.put(None, vacant(stored.turn()));
-        value
+        let word = word_of(held.name.turn(), PRESENT);
+        let _ = claim.put(Some(held), word);
     }
 }
 
@@ -289,24 +289,10 @@ pub fn try_write<'a, T: Drop>(slot: &'a Slot<T>, name: Name) -> Result<Writing<'
         return Err(Miss::Held);
     }
     match held {
-        Some(
-            Held {
-                name: stored,
-                value,
-            },
-        ) => {
-            if stored == name {
-                return Ok(Writing {
-                    claim,
-                    value,
-                    stored,
-                    name,
-                });
+        Some(held) => {
+            if held.name == name {
+                return Ok(Writing { claim, held, name });
             }
-            let held = Held {
-                name: stored,
-                value,
-            };
             let _ = claim.put(Some(held), seen);
         }
         None => {
