@@ -1,5 +1,6 @@
--- Which shapes a world may have.
+-- Which shapes a world may have, and the sizes of its machines.
 use Rattle.std.specs.Prelude.{◌≡◌, ℕ, ◌^◌, ◌<◌, ◌≤◌, Bool, true, ◌||◌, ◌==◌}
+use Rattle.epoch_machine.specs.declared.machine.Sizes.{Sizes}
 use Rattle.epoch_laws.specs.declared.shape.Shape.{Shape}
 
 -- a power of two up to 256
@@ -17,3 +18,7 @@ pub record IsValid (shape : Shape) : Type 0 where
   pub start_turn : shape.start_turn < 2 ^ 32
   pub bag_jobs : (0 < shape.bag_jobs) × (shape.bag_jobs ≤ 64)
   pub collect_bags : (0 < shape.collect_bags) × (shape.collect_bags ≤ 64)
+
+-- the sizes that a world of this shape gives its machines
+abbrev pub sizes_of : Shape → Sizes
+sizes_of shape = record { positions = shape.participants; bag_jobs = shape.bag_jobs; collect_bags = shape.collect_bags }

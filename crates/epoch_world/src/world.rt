@@ -4,7 +4,7 @@ ghost use Rattle.epoch_cells.specs.declared.fault.Fault.TheVariants.{NoMemory};
 ghost use Rattle.epoch_laws.specs.declared.step.Entry.{Entry};
 ghost use Rattle.epoch_laws.specs.declared.step.Step.TheVariants.{Register, Begin, Go, End as EndStep, EndGo};
 ghost use Rattle.epoch_machine.specs.Machine.{IsSized};
-ghost use Rattle.epoch_laws.specs.Shapes.{IsValid};
+ghost use Rattle.epoch_laws.specs.Shapes.{IsValid, sizes_of};
 ghost use Rattle.epoch_laws.specs.Run.{State, IsFresh, Runs, Takes, Over, entries_of, free_seat, number_of, refusal, seat_of, word_of, Seat as Participant};
 ghost use Rattle.epoch_world.specs.Seats.{WordFits};
 ghost use Rattle.epoch_world.specs.Worlds.{IsEmptying};
@@ -80,6 +80,7 @@ impl<S: BagStore<Job = Deferral>> World<S> {
         ensures fresh { IfOk result IsFresh }
         ensures epoch { IfOk result (λ world. world.epoch ≡ shape.start_epoch) }
         ensures positions { IfOk result (λ world. length world.seats ≡ shape.participants) }
+        ensures sizes { IfOk result (λ world. world.sizes ≡ sizes_of shape) }
         ensures places { IfOk result (λ world. length world.places ≡ shape.bags) }
         ensures no_memory { IfErr result (λ fault. fault ≡ NoMemory) }
     {
