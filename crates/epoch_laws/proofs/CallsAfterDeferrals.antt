@@ -6,9 +6,10 @@ use Rattle.epoch_bags.specs.declared.job.Called.{Called}
 use Rattle.epoch_laws.specs.declared.step.Reply.{Reply}
 use Rattle.epoch_laws.specs.declared.step.Reply.TheVariants.{Deferred, Called as CalledReply}
 use Rattle.epoch_laws.specs.declared.step.Entry.{Entry}
-use Rattle.epoch_laws.specs.Run.{State, Takes, Runs, IsFresh}
+use Rattle.epoch_laws.specs.Run.{State, Runs, IsFresh}
 use Rattle.epoch_laws.specs.Grace.{Stands}
 use Rattle.epoch_laws.specs.Tickets.{calls_of, deferrals_of, times_called, times_deferred, HoldsEachTicketOnce}
+use Rattle.epoch_laws.proofs.RunsGoOn.{runs_push}
 use Rattle.epoch_laws.proofs.Log.{stands_push, stands_keep}
 use Rattle.epoch_laws.proofs.TicketSums.{called_push, deferred_push}
 use Rattle.epoch_laws.proofs.TicketsOnce.{holds_each_once}
@@ -111,11 +112,6 @@ module _ (log : List Entry) (x : Entry) (new : State) (h : CallsFollow log)
   }
 
 -- WHOLE RUNS
-
-runs_push : (s old new : State) (log : List Entry) (x : Entry) → Runs s log old → Takes old x.step x.reply new
-    → Runs s (log ++ x ∷ []) new
-runs_push s old new [] x run took = (new, subst (λ (from : State). Takes from x.step x.reply new) run took, refl)
-runs_push s old new (first ∷ log) x (mid, began, run) took = (mid, began, runs_push mid old new log x run took)
 
 calls_along : (s old new : State) (log entries : List Entry) → IsFresh s → Runs s log old → CallsFollow log
     → Runs old entries new → CallsFollow (log ++ entries)

@@ -43,4 +43,6 @@ pub mod PutsFind
 pub mod FullOfGo
 pub mod FullFound
 pub mod RunsGoOn
+pub mod TicketsNumbered
+pub mod EndsCounted
 pub mod CallsGoOn

@@ -6,7 +6,8 @@ use Rattle.epoch_laws.specs.declared.step.Reply.{Reply}
 use Rattle.epoch_laws.specs.declared.step.Entry.{Entry}
 use Rattle.epoch_laws.specs.Run.{State, Takes, Runs, entries_of}
 
-runs_push : (s t u : State) (log : List Entry) (x : Entry) → Runs s log t → Takes t x.step x.reply u → Runs s (log ++ x ∷ []) u
+-- a run goes on by one step
+pub runs_push : (s t u : State) (log : List Entry) (x : Entry) → Runs s log t → Takes t x.step x.reply u → Runs s (log ++ x ∷ []) u
 runs_push s t u [] x run did = (u, subst (λ (o : State). Takes o x.step x.reply u) run did, refl)
 runs_push s t u (y ∷ log) x run did = (run.0, run.1, runs_push run.0 t u log x run.2 did)
 

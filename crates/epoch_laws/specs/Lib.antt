@@ -2,6 +2,7 @@ pub mod Places
 pub mod Run
 pub mod Grace
 pub mod Tickets
+pub mod Ends
 pub mod Lawful
 pub mod Known
 pub mod Events

@@ -1,10 +1,11 @@
--- Where each job is: in one bag, or called once.
-use Rattle.std.specs.Prelude.{◌≡◌, ℕ, ◌+◌, List, sum_by, ◌==◌, nat_lt, if◌then◌else◌}
+-- Where each job is, in one bag or called once, and which ticket it has.
+use Rattle.std.specs.Prelude.{◌≡◌, ℕ, ◌+◌, List, take, sum_by, ◌==◌, nat_lt, if◌then◌else◌}
 use Rattle.epoch_laws.specs.declared.step.Reply.{Reply}
 use Rattle.epoch_laws.specs.declared.step.Reply.TheVariants.{Deferred, Called}
 use Rattle.epoch_laws.specs.declared.step.Entry.{Entry}
 use Rattle.epoch_laws.specs.declared.step.Deferral.{Deferral}
 use Rattle.epoch_laws.specs.Run.{Bag, Seat, State, Ending, Emptying}
+use Rattle.epoch_laws.specs.Grace.{Stands}
 
 -- how often the job of a ticket is among these
 abbrev pub times : ℕ → List Deferral → ℕ
@@ -42,3 +43,15 @@ times_deferred t log = sum_by (λ entry. deferrals_of t entry.reply) log
 pub record HoldsEachTicketOnce (log : List Entry) (s : State) : Type 0 where
   pub placed : (t : ℕ) → times_in_bags t s + times_called t log ≡ times_deferred t log
   pub accepted : (t : ℕ) → times_deferred t log ≡ (if nat_lt t s.tickets then 1 else 0)
+
+abbrev pub is_deferral : Reply → ℕ
+is_deferral (Deferred t) = 1
+is_deferral _ = 0
+
+-- how many jobs were accepted
+abbrev pub deferrals : List Entry → ℕ
+deferrals log = sum_by (λ entry. is_deferral entry.reply) log
+
+-- the ticket of an accepted job is the number of those accepted before it
+abbrev pub NumbersTickets : List Entry → Type 0
+NumbersTickets log = (t i : ℕ) → Stands log i (Deferred t) → t ≡ deferrals (take i log)

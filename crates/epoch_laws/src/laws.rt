@@ -3,7 +3,8 @@ ghost use Rattle.std.specs.Prelude.{◌≡◌, ℕ, List};
 ghost use Rattle.epoch_laws.specs.declared.step.Entry.{Entry};
 ghost use Rattle.epoch_laws.specs.Run.{State, IsFresh, Runs, Over};
 ghost use Rattle.epoch_laws.specs.Grace.{KeepsGrace};
-ghost use Rattle.epoch_laws.specs.Tickets.{HoldsEachTicketOnce, times_called, times_deferred};
+ghost use Rattle.epoch_laws.specs.Tickets.{HoldsEachTicketOnce, NumbersTickets, times_called, times_deferred};
+ghost use Rattle.epoch_laws.specs.Ends.{EndsAtCount};
 ghost use Rattle.epoch_laws.specs.Lawful.{IsLawful};
 ghost use Rattle.epoch_laws.specs.Full.{FullAlong, none_found};
 
@@ -17,9 +18,19 @@ pub fn every_run_holds_each_ticket_once()
     ensures { (s new : State) (log : List Entry) → IsFresh s → Runs s log new → HoldsEachTicketOnce log new }
 {}
 
+/// The ticket of an accepted job is the number of those accepted before it.
+pub fn every_run_numbers_tickets()
+    ensures { (s new : State) (log : List Entry) → IsFresh s → Runs s log new → NumbersTickets log }
+{}
+
 /// When an end is over, every accepted job was called.
 pub fn every_end_calls_all()
     ensures { (s new : State) (log : List Entry) → IsFresh s → Runs s log new → new.ending ≡ Over → (t : ℕ) → times_called t log ≡ times_deferred t log }
+{}
+
+/// An end that answers how many jobs it called has called so many, and every accepted job was called.
+pub fn every_end_answers_its_calls()
+    ensures { (s new : State) (log : List Entry) → IsFresh s → Runs s log new → EndsAtCount log }
 {}
 
 /// Every event stands only where it may.

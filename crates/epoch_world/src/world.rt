@@ -9,7 +9,8 @@ ghost use Rattle.epoch_laws.specs.Run.{State, IsFresh, Runs, Takes, Over, entrie
 ghost use Rattle.epoch_world.specs.Seats.{WordFits};
 ghost use Rattle.epoch_world.specs.Worlds.{IsEmptying};
 ghost use Rattle.epoch_laws.specs.Grace.{KeepsGrace};
-ghost use Rattle.epoch_laws.specs.Tickets.{HoldsEachTicketOnce, times_called, times_deferred};
+ghost use Rattle.epoch_laws.specs.Tickets.{HoldsEachTicketOnce, NumbersTickets, times_called, times_deferred};
+ghost use Rattle.epoch_laws.specs.Ends.{EndsAtCount};
 ghost use Rattle.epoch_laws.specs.Lawful.{IsLawful};
 ghost use Rattle.epoch_laws.specs.Full.{FullWhereFound};
 ghost use Rattle.epoch_laws.specs.Calls.{call_of, EndsAtLast};
@@ -123,12 +124,16 @@ impl<S: BagStore<Job = Deferral>> World<S> {
         ensures grace { IfOk result (λ replies. (fresh : State) (earlier : List Entry) → IsFresh fresh → Runs fresh earlier self.old → KeepsGrace (earlier ++ entries_of steps.now replies.items)) }
         // Each accepted job is in exactly one bag, or was called exactly once.
         ensures once { IfOk result (λ replies. (fresh : State) (earlier : List Entry) → IsFresh fresh → Runs fresh earlier self.old → HoldsEachTicketOnce (earlier ++ entries_of steps.now replies.items) self.new) }
+        // The ticket of an accepted job is the number of those accepted before it.
+        ensures tickets { IfOk result (λ replies. (fresh : State) (earlier : List Entry) → IsFresh fresh → Runs fresh earlier self.old → NumbersTickets (earlier ++ entries_of steps.now replies.items)) }
         // Each event stands only where it may.
         ensures lawful { IfOk result (λ replies. (fresh : State) (earlier : List Entry) → IsFresh fresh → Runs fresh earlier self.old → IsLawful (earlier ++ entries_of steps.now replies.items)) }
         // The bags are told to be full only where the put found each place of the store occupied.
         ensures full { IfOk result (λ replies. (fresh : State) (earlier : List Entry) → IsFresh fresh → Runs fresh earlier self.old → FullWhereFound fresh (earlier ++ entries_of steps.now replies.items) self.new) }
         // When an end is over, every accepted job was called.
         ensures all_called { IfOk result (λ replies. (fresh : State) (earlier : List Entry) → IsFresh fresh → Runs fresh earlier self.old → self.new.ending ≡ Over → (t : ℕ) → times_called t (earlier ++ entries_of steps.now replies.items) ≡ times_deferred t (earlier ++ entries_of steps.now replies.items)) }
+        // An end that answered how many jobs it called has called so many, and every accepted job was called.
+        ensures ended { IfOk result (λ replies. (fresh : State) (earlier : List Entry) → IsFresh fresh → Runs fresh earlier self.old → EndsAtCount (earlier ++ entries_of steps.now replies.items)) }
 
         ensures err { OnErr result (self.new ≡ self.old) }
         ensures no_memory { IfErr result (λ fault. fault ≡ NoMemory) }
@@ -155,6 +160,8 @@ impl<S: BagStore<Job = Deferral>> World<S> {
         ensures grace { IfOk result (λ replies. (fresh : State) (earlier : List Entry) → IsFresh fresh → Runs fresh earlier self.old → KeepsGrace (earlier ++ call_of participant call replies.items)) }
         // Each accepted job is in exactly one bag, or was called exactly once.
         ensures once { IfOk result (λ replies. (fresh : State) (earlier : List Entry) → IsFresh fresh → Runs fresh earlier self.old → HoldsEachTicketOnce (earlier ++ call_of participant call replies.items) self.new) }
+        // The ticket of an accepted job is the number of those accepted before it.
+        ensures tickets { IfOk result (λ replies. (fresh : State) (earlier : List Entry) → IsFresh fresh → Runs fresh earlier self.old → NumbersTickets (earlier ++ call_of participant call replies.items)) }
         // Each event stands only where it may.
         ensures lawful { IfOk result (λ replies. (fresh : State) (earlier : List Entry) → IsFresh fresh → Runs fresh earlier self.old → IsLawful (earlier ++ call_of participant call replies.items)) }
         // The bags are told to be full only where the put found each place of the store occupied.

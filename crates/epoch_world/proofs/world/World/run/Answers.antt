@@ -2,6 +2,8 @@ use Rattle.std.proofs.Common.{arith, ap, ◌∙◌, length, length-append}
 use Rattle.epoch_laws.proofs.RunsGoOn.{runs_more, runs_whole, runs_append}
 use Rattle.epoch_laws.proofs.GraceKept.{every_run_keeps_grace}
 use Rattle.epoch_laws.proofs.TicketsOnce.{holds_each_once, end_calls_all}
+use Rattle.epoch_laws.proofs.TicketsNumbered.{numbers_tickets}
+use Rattle.epoch_laws.proofs.EndsCounted.{ends_at_count}
 use Rattle.epoch_laws.proofs.EventsLawful.{replies_stand}
 use Rattle.epoch_laws.proofs.FullFound.{found_full}
 use Rattle.epoch_laws.proofs.CallsAfterDeferrals.{calls_follow}
@@ -23,6 +25,10 @@ pub returns-clause-once : goal.returns-clause-once
 returns-clause-once g c fresh earlier new run =
     holds_each_once fresh _ _ new (runs_append _ _ _ earlier _ run (runs_whole _ _ c.args.steps.now c.loop-step.step-index _ (omega arith) c.loop-step.invariant.run))
 
+pub returns-clause-tickets : goal.returns-clause-tickets
+returns-clause-tickets g c fresh earlier new run =
+    numbers_tickets fresh _ _ new (runs_append _ _ _ earlier _ run (runs_whole _ _ c.args.steps.now c.loop-step.step-index _ (omega arith) c.loop-step.invariant.run))
+
 pub returns-clause-lawful : goal.returns-clause-lawful
 returns-clause-lawful g c fresh earlier new run =
     let whole = runs_append _ _ _ earlier _ run (runs_whole _ _ c.args.steps.now c.loop-step.step-index _ (omega arith) c.loop-step.invariant.run) in
@@ -36,3 +42,7 @@ returns-clause-full g c fresh earlier new run =
 pub returns-clause-all_called : goal.returns-clause-all_called
 returns-clause-all_called g c fresh earlier new run over =
     end_calls_all fresh _ _ new (runs_append _ _ _ earlier _ run (runs_whole _ _ c.args.steps.now c.loop-step.step-index _ (omega arith) c.loop-step.invariant.run)) over
+
+pub returns-clause-ended : goal.returns-clause-ended
+returns-clause-ended g c fresh earlier new run =
+    ends_at_count fresh _ _ new (runs_append _ _ _ earlier _ run (runs_whole _ _ c.args.steps.now c.loop-step.step-index _ (omega arith) c.loop-step.invariant.run))
