@@ -9,7 +9,7 @@ use Rattle.epoch_laws.specs.declared.step.Word.TheVariants.{Free}
 use Rattle.epoch_laws.specs.declared.step.Progress.{Progress}
 use Rattle.epoch_laws.specs.declared.step.Progress.TheVariants.{Idle, Driven, CallsNow, Ends}
 use Rattle.epoch_laws.specs.Run.{Seat, State, seat_of, with_seat}
-use Rattle.epoch_laws.specs.Lawful.{Told, counted_after, HasTold}
+use Rattle.epoch_laws.specs.Lawful.{Told, counted_after, HasTold, AnswerFits}
 use Rattle.epoch_laws.proofs.SeatLemmas.{seat_written, seat_other, same_or_other}
 use Rattle.epoch_laws.proofs.GuardLists.{has_any}
 use Rattle.epoch_laws.proofs.ToldAtStages.{ToldAt}
@@ -23,7 +23,8 @@ ToldOf t m Idle = (t.call ≡ None) × PinnedByGuards t
 ToldOf t m (Driven c) = (t.call ≡ Some c) × ToldAt t c m.full m.stage
 ToldOf t m CallsNow = (t.call ≡ Some (Defer None)) × PinnedByGuards t
 ToldOf t m (Ends reply) =
-    HasTold t.call t × (counted_after t.call UnitAnswer t.guards ≡ t.guards) × PinnedByGuards t
+    HasTold t.call t × AnswerFits t.call UnitAnswer × (counted_after t.call UnitAnswer t.guards ≡ t.guards)
+    × PinnedByGuards t
 
 -- what is told of a position that nobody has taken
 pub record IsAway (t : Told) : Type 0 where

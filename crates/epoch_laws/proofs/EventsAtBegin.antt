@@ -8,7 +8,7 @@ use Rattle.epoch_laws.specs.declared.step.Reply.TheVariants.{Began, Done}
 use Rattle.epoch_laws.specs.declared.step.Progress.{Progress}
 use Rattle.epoch_laws.specs.declared.step.Progress.TheVariants.{Idle, Ends}
 use Rattle.epoch_laws.specs.Run.{Seat, drives, begun_seat}
-use Rattle.epoch_laws.specs.Lawful.{Told, counted_after, after_begin, HasTold}
+use Rattle.epoch_laws.specs.Lawful.{Told, counted_after, after_begin, HasTold, AnswerFits}
 use Rattle.epoch_laws.proofs.SeatLemmas.{IsAccepted}
 use Rattle.epoch_laws.proofs.SeatLinks.{action_of, BeganUnder, IsLinked}
 use Rattle.epoch_laws.proofs.CallsLinked.{begun_linked}
@@ -36,12 +36,12 @@ module _ (t : Told) (seat : Seat) (sizes : Sizes) (tickets : ℕ)
   }
 
   -- the call does nothing
-  ends : (c : Call) → IsAccepted c seat tickets → HasTold (Some c) (after_begin t c Began)
+  ends : (c : Call) → IsAccepted c seat tickets → HasTold (Some c) (after_begin t c Began) → AnswerFits (Some c) UnitAnswer
       → counted_after (Some c) UnitAnswer t.guards ≡ t.guards
       → Begins c (record seat { progress = Ends (Done UnitAnswer) })
-  ends c ok told counted = record {
+  ends c ok told fits counted = record {
     guards = h.guards;
-    told = (told, counted, rests ok.idle);
+    told = (told, fits, counted, rests ok.idle);
     away = λ free. absurd (ok.taken free);
   }
 
@@ -53,15 +53,15 @@ module _ (t : Told) (seat : Seat) (sizes : Sizes) (tickets : ℕ)
   by_call Pin ok on = driven Pin ok on.follows.under
   by_call (Unpin None) ok on = absurd (cc (ok.own))
   by_call (Unpin (Some g)) ok on = driven (Unpin (Some g)) ok on.follows.under
-  by_call (Repin None) ok on = ends (Repin None) ok tt refl
+  by_call (Repin None) ok on = ends (Repin None) ok tt tt refl
   by_call (Repin (Some g)) ok on = driven (Repin (Some g)) ok on.follows.under
-  by_call (Pause None) ok on = ends (Pause None) ok tt refl
+  by_call (Pause None) ok on = ends (Pause None) ok tt tt refl
   by_call (Pause (Some g)) ok on = driven (Pause (Some g)) ok on.follows.under
-  by_call (Resume None) ok on = ends (Resume None) ok tt refl
+  by_call (Resume None) ok on = ends (Resume None) ok tt tt refl
   by_call (Resume (Some g)) ok on = driven (Resume (Some g)) ok on.follows.under
   by_call (Defer None) ok on = calls_now ok
   by_call (Defer (Some g)) ok on = driven (Defer (Some g)) ok on.follows.under
-  by_call (Flush None) ok on = ends (Flush None) ok tt refl
+  by_call (Flush None) ok on = ends (Flush None) ok tt tt refl
   by_call (Flush (Some g)) ok on = driven (Flush (Some g)) ok on.follows.under
   by_call Release ok on = driven Release ok on.follows.under
 

@@ -9,7 +9,7 @@ use Rattle.epoch_laws.specs.declared.step.Reply.{Reply}
 use Rattle.epoch_laws.specs.declared.step.Reply.TheVariants.{Done}
 use Rattle.epoch_laws.specs.declared.step.Word.TheVariants.{Free}
 use Rattle.epoch_laws.specs.Run.{Seat, without, lowest, full_or_done, end_reply, with_guards, ended_seat}
-use Rattle.epoch_laws.specs.Lawful.{Told, counted_after, after_go, HasTold, HasToldRefused, MayTell}
+use Rattle.epoch_laws.specs.Lawful.{Told, counted_after, after_go, HasTold, AnswerFits, HasToldRefused, MayTell}
 use Rattle.epoch_laws.proofs.SeatLinks.{BeganUnder}
 use Rattle.epoch_laws.proofs.GuardLists.{has_any, some_with}
 use Rattle.epoch_laws.proofs.ToldAtStages.{AtEnd, ToldAt}
@@ -29,27 +29,30 @@ may_be_full _ = false
 -- what a call has told when it is refused, or done
 abbrev HasToldBy : Told → Call → Bool → Type 0
 HasToldBy t c true = HasToldRefused (Some c) t
-HasToldBy t c false = HasTold (Some c) t
+HasToldBy t c false = HasTold (Some c) t × AnswerFits (Some c) UnitAnswer
 
 told_by : (t : Told) (c : Call) (full : Bool) → BeganUnder c t.guards → may_be_full c ≡ true → AtEnd t c full
     → HasToldBy t c full
 told_by t (Defer (Some g)) true under may told = told
-told_by t (Defer (Some g)) false under may told = told
+told_by t (Defer (Some g)) false under may told = (told, tt)
 told_by t (Defer None) full under may told = absurd under
 told_by t (Flush (Some g)) true under may told = tt
-told_by t (Flush (Some g)) false under may told = tt
+told_by t (Flush (Some g)) false under may told = (tt, tt)
 told_by t (Flush None) full under may told = absurd under
 told_by t Release true under may told = (told.1, told.2)
-told_by t Release false under may told = (told.1, told.2)
+told_by t Release false under may told = absurd (cc (told.0))
 told_by t _ full under may told = absurd (cc)
 
 module _ (t : Told) (seat : Seat) (p : ℕ) (taken : seat.word ≢ Free) (h : Agrees t seat) where
   -- the call is done, and leaves these guards
   done : (c : Call) (answer : Answer) (left : List ℕ) (paused : Option ℕ) → t.call ≡ Some c → HasTold (Some c) t
-      → counted_after (Some c) answer t.guards ≡ left → t.pinned ≡ has_any left
+      → AnswerFits (Some c) answer → counted_after (Some c) answer t.guards ≡ left → t.pinned ≡ has_any left
       → Tells p t (Done answer) (with_guards seat left paused)
-  done c answer left paused call told counted on = (
-    subst (λ (under_way : Option Call). HasTold under_way t) (sym call) told,
+  done c answer left paused call told fits counted on = (
+    (
+      subst (λ (under_way : Option Call). HasTold under_way t) (sym call) told,
+      subst (λ (under_way : Option Call). AnswerFits under_way answer) (sym call) fits,
+    ),
     record { guards = leaves; told = (refl, on ∙ sym (ap has_any leaves)); away = λ free. absurd (taken free) },
   )
     where
@@ -65,7 +68,7 @@ module _ (t : Told) (seat : Seat) (p : ℕ) (taken : seat.word ≢ Free) (h : Ag
     record { guards = h.guards; told = (refl, on); away = λ free. absurd (taken free) },
   )
   full_or_not c false call told counted on =
-      done c UnitAnswer seat.guards seat.paused call told (counted ∙ h.guards) (on ∙ ap has_any h.guards)
+      done c UnitAnswer seat.guards seat.paused call told.0 told.1 (counted ∙ h.guards) (on ∙ ap has_any h.guards)
 
   refusable : (c : Call) → t.call ≡ Some c → BeganUnder c t.guards → may_be_full c ≡ true → AtEnd t c seat.machine.full
       → counted_after (Some c) UnitAnswer t.guards ≡ t.guards → PinnedByGuards t
@@ -83,17 +86,17 @@ module _ (t : Told) (seat : Seat) (p : ℕ) (taken : seat.word ≢ Free) (h : Ag
       → Tells p t (end_reply c seat) (ended_seat c seat)
   end_agrees Pin call under (told, on) =
       let g : ℕ = lowest seat.guards in
-      done Pin (Guard g) _ seat.paused call told (ap (λ (guards : List ℕ). guards ++ g ∷ []) h.guards) (with_one g on)
-  end_agrees (Resume (Some g)) call under (told, on) = done (Resume (Some g)) UnitAnswer _ None call told
+      done Pin (Guard g) _ seat.paused call told tt (ap (λ (guards : List ℕ). guards ++ g ∷ []) h.guards) (with_one g on)
+  end_agrees (Resume (Some g)) call under (told, on) = done (Resume (Some g)) UnitAnswer _ None call told tt
       (ap (λ (guards : List ℕ). guards ++ g ∷ []) h.guards) (with_one g on)
   end_agrees (Resume None) call under at = absurd under
   end_agrees (Unpin (Some g)) call under (told, on) =
-      done (Unpin (Some g)) UnitAnswer _ seat.paused call told (ap (without g) h.guards) (without_one g on)
+      done (Unpin (Some g)) UnitAnswer _ seat.paused call told tt (ap (without g) h.guards) (without_one g on)
   end_agrees (Unpin None) call under at = absurd under
   end_agrees (Pause (Some g)) call under (told, on) =
-      done (Pause (Some g)) UnitAnswer _ (Some g) call told (ap (without g) h.guards) (without_one g on)
+      done (Pause (Some g)) UnitAnswer _ (Some g) call told tt (ap (without g) h.guards) (without_one g on)
   end_agrees (Pause None) call under at = absurd under
-  end_agrees (Repin (Some g)) call under (told, on) = full_or_not (Repin (Some g)) false call tt refl on
+  end_agrees (Repin (Some g)) call under (told, on) = full_or_not (Repin (Some g)) false call (tt, tt) refl on
   end_agrees (Repin None) call under at = absurd under
   end_agrees (Defer g) call under (told, on) = refusable (Defer g) call under refl told refl on
   end_agrees (Flush g) call under (told, on) = refusable (Flush g) call under refl told refl on

@@ -9,14 +9,15 @@ use Rattle.epoch_laws.specs.declared.step.Step.TheVariants.{Register, Begin, Go,
 use Rattle.epoch_laws.specs.declared.step.Reply.{Reply}
 use Rattle.epoch_laws.specs.declared.step.Reply.TheVariants.{Began, Refused}
 use Rattle.epoch_laws.specs.declared.step.Entry.{Entry}
+use Rattle.epoch_laws.specs.declared.step.Progress.{Progress}
 use Rattle.epoch_laws.specs.declared.step.Word.TheVariants.{Free, Unpinned}
 use Rattle.epoch_laws.specs.Run.{with_places, Seat, State, Ending, Open, Emptying, Over, seat_of, word_of, with_seat, free_seat, refusal, begun_seat, Begins, EndGoes, Moves, Runs, IsFresh}
-use Rattle.epoch_laws.specs.Lawful.{Told, nothing, after_begin, after_go, told_after, HasToldRefused, MayRegister, MayBegin, MayEndGo, MayReply, MayReplyAll}
+use Rattle.epoch_laws.specs.Lawful.{Told, nothing, after_begin, after_go, told_after, HasToldRefused, MayRegister, MayEnd, MayEndGo, MayReply, MayReplyAll}
 use Rattle.epoch_laws.proofs.SeatLemmas.{seat_written, seat_other, seat_there, same_or_other, IsAccepted, begin_given}
 use Rattle.epoch_laws.proofs.SeatLinks.{AllLinked}
 use Rattle.epoch_laws.proofs.Linked.{step_linked, fresh_linked}
 use Rattle.epoch_laws.proofs.GuardLists.{has_any}
-use Rattle.epoch_laws.proofs.EventsAgree.{Agrees, IsAway, AllAgree, seat_agrees, told_agrees}
+use Rattle.epoch_laws.proofs.EventsAgree.{ToldOf, Agrees, IsAway, AllAgree, seat_agrees, told_agrees}
 use Rattle.epoch_laws.proofs.EventsAtBegin.{begin_agrees}
 use Rattle.epoch_laws.proofs.EventsOfGo.{tell_go}
 
@@ -34,7 +35,7 @@ module _ (old new : State) (told : ℕ → Told) (reply : Reply) (h : AllAgree o
       let ok : IsAccepted c (seat_of old p) old.tickets = begin_given c (seat_of old p) old.tickets e in
       subst (λ (r : Reply). ShowsStep new told (Begin p c) r) (sym did.0)
       (subst (λ (s : State). ShowsStep s told (Begin p c) Began) (sym did.1) (
-        tt,
+        (subst (λ (progress : Progress). ToldOf (told p) (seat_of old p).machine progress) ok.idle (h p).told).0,
         seat_agrees old told (λ u. after_begin u c Began) p (begun_seat c (seat_of old p)) h
             (seat_there old p ok.taken)
             (begin_agrees (told p) (seat_of old p) old.sizes old.tickets (h p) (linked.seats p) c ok),
@@ -98,9 +99,9 @@ module _ (old new : State) (told : ℕ → Told) (reply : Reply) (h : AllAgree o
   step_shown (Go p) (inl did) = away_shown p did.0 did.1 did.2
   step_shown (Go p) (inr did) =
       tell_go old new told reply h p did.0 (linked.seats p) (seat_of old p).progress refl did.1
-  step_shown EndStep (inl did) = (subst MayBegin (sym did.2) tt, untold_along _ did.3 refl refl)
-  step_shown EndStep (inr (inl did)) = (subst MayBegin (sym did.2) tt, untold_along old did.3 refl refl)
-  step_shown EndStep (inr (inr did)) = (subst MayBegin (sym did.1) tt, untold_along old did.2 refl refl)
+  step_shown EndStep (inl did) = (subst MayEnd (sym did.2) tt, untold_along _ did.3 refl refl)
+  step_shown EndStep (inr (inl did)) = (subst MayEnd (sym did.2) tt, untold_along old did.3 refl refl)
+  step_shown EndStep (inr (inr did)) = (subst MayEnd (sym did.1) tt, untold_along old did.2 refl refl)
   step_shown EndGo did = end_shown old.ending did
 
 replies_from : (old new : State) (log : List Entry) (told : ℕ → Told)

@@ -22,7 +22,7 @@ use Rattle.epoch_laws.specs.declared.step.Word.TheVariants.{Free, Unpinned, Pinn
 use Rattle.epoch_laws.specs.declared.step.Progress.{Progress}
 use Rattle.epoch_laws.specs.declared.step.Progress.TheVariants.{Idle, Driven, CallsNow, Ends}
 use Rattle.epoch_laws.specs.Run.{Seat, State, seat_of, word_of, number_of, with_seat, with_word, with_machine, free_seat, end_reply, ended_seat, Drives, Goes}
-use Rattle.epoch_laws.specs.Lawful.{Told, after_go, told_after, counted_after, MayPin, MayUnpin, MayRepin, MayDefer, MayCall, MayCallNow, HasTold, HasToldRefused, MayTell}
+use Rattle.epoch_laws.specs.Lawful.{Told, after_go, told_after, counted_after, MayPin, MayUnpin, MayRepin, MayDefer, MayCall, MayCallNow, HasTold, AnswerFits, HasToldRefused, MayTell}
 use Rattle.epoch_laws.proofs.SeatLemmas.{seat_there}
 use Rattle.epoch_laws.proofs.SeatLinks.{action_of, BeganUnder, IsDriven, IsLinked, follows_at}
 use Rattle.epoch_laws.proofs.GuardLists.{has_any, none_is}
@@ -119,7 +119,10 @@ module _ (old new : State) (told : ℕ → Told) (reply : Reply) (h : AllAgree o
     -- nothing is told of a position that was released
     freed : At StoreFree → Tells p t (Done Released) (free_seat old.sizes)
     freed (told, on) = (
-      in_call (λ call. HasTold call t) (subst (λ (d : Call). HasTold (Some d) t) (sym told.0) (told.1, told.2)),
+      (
+        in_call (λ call. HasTold call t) (subst (λ (d : Call). HasTold (Some d) t) (sym told.0) (told.1, told.2)),
+        in_call (λ call. AnswerFits call Released) (subst (λ (d : Call). AnswerFits (Some d) Released) (sym told.0) tt),
+      ),
       record {
         guards = none;
         told = (refl, on ∙ sym (ap has_any none));
@@ -205,6 +208,7 @@ module _ (old new : State) (told : ℕ → Told) (reply : Reply) (h : AllAgree o
           guards = (h p).guards;
           told = (
             subst (λ (call : Option Call). HasTold call t) (sym was.0) tt,
+            subst (λ (call : Option Call). AnswerFits call UnitAnswer) (sym was.0) tt,
             ap (λ (call : Option Call). counted_after call UnitAnswer t.guards) was.0,
             was.1,
           );
@@ -218,8 +222,8 @@ module _ (old new : State) (told : ℕ → Told) (reply : Reply) (h : AllAgree o
   tell_ends last ends told_so e = by_told (told_of (Ends last) ends)
     where
       by_told : ToldOf t m (Ends last) → Goal
-      by_told (told, counted, on) = tells (Done UnitAnswer) (record seat { progress = Idle }) _ (
-        told,
+      by_told (told, fits, counted, on) = tells (Done UnitAnswer) (record seat { progress = Idle }) _ (
+        (told, fits),
         record {
           guards = counted ∙ (h p).guards;
           told = (refl, on ∙ sym (ap has_any counted));

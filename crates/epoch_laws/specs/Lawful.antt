@@ -1,4 +1,5 @@
--- What is said of steps and replies alone: in which calls each event may stand, and how often.
+-- What is said of steps and replies alone: in which calls each event may stand, and how often; where calls begin and
+-- which answer they are done with.
 use Rattle.std.specs.Prelude.{◌≡◌, ℕ, ◌<◌, Bool, true, false, List, [], ◌∷◌, ◌++◌, length, Option, Some, None, ◌==◌, if◌then◌else◌}
 use Rattle.epoch_bags.specs.declared.job.Called.{Called}
 use Rattle.epoch_laws.specs.declared.step.Call.{Call}
@@ -6,7 +7,7 @@ use Rattle.epoch_laws.specs.declared.step.Call.TheVariants.{Pin, Unpin, Pause, R
 use Rattle.epoch_laws.specs.declared.step.Step.{Step}
 use Rattle.epoch_laws.specs.declared.step.Step.TheVariants.{Register, Begin, Go, End, EndGo}
 use Rattle.epoch_laws.specs.declared.step.Answer.{Answer}
-use Rattle.epoch_laws.specs.declared.step.Answer.TheVariants.{Guard}
+use Rattle.epoch_laws.specs.declared.step.Answer.TheVariants.{Guard, Unit as UnitAnswer, Released, Count}
 use Rattle.epoch_laws.specs.declared.step.Reply.{Reply}
 use Rattle.epoch_laws.specs.declared.step.Reply.TheVariants.{Registered, Began, Stepped, Pinned, Unpinned, Repinned, Deferred, Called as CalledReply, CalledNow, Done, Refused}
 use Rattle.epoch_laws.specs.declared.step.Entry.{Entry}
@@ -130,6 +131,15 @@ HasTold (Some Release) t = (t.did_pin ≡ true) × (t.did_unpin ≡ true)
 HasTold (Some _) t = Unit {0}
 HasTold None t = ⊥
 
+-- a pin that is done answers its guard, a release that the position is free, and any other call nothing
+abbrev pub AnswerFits : Option Call → Answer → Type 0
+AnswerFits (Some Pin) (Guard g) = Unit {0}
+AnswerFits (Some Pin) answer = ⊥
+AnswerFits (Some Release) Released = Unit {0}
+AnswerFits (Some Release) answer = ⊥
+AnswerFits (Some c) UnitAnswer = Unit {0}
+AnswerFits _ answer = ⊥
+
 -- a call that is refused at its end has deferred nothing; where no call is under way, the Go itself is refused
 abbrev pub HasToldRefused : Option Call → Told → Type 0
 HasToldRefused (Some (Defer (Some g))) t = t.did_defer ≡ false
@@ -149,7 +159,7 @@ MayTell p t (Repinned q) = (q ≡ p) × MayRepin t.call t.guards × (t.did_repin
 MayTell p t (Deferred ticket) = MayDefer t.call × (t.did_defer ≡ false)
 MayTell p t (CalledReply ticket how) = MayCall t.call × (t.pinned ≡ true)
 MayTell p t (CalledNow how) = MayCallNow t.call
-MayTell p t (Done answer) = HasTold t.call t
+MayTell p t (Done answer) = HasTold t.call t × AnswerFits t.call answer
 MayTell p t (Refused fault) = HasToldRefused t.call t
 MayTell p t _ = ⊥
 
@@ -158,23 +168,29 @@ MayRegister (Registered p) = Unit {0}
 MayRegister (Refused fault) = Unit {0}
 MayRegister _ = ⊥
 
-abbrev pub MayBegin : Reply → Type 0
-MayBegin Began = Unit {0}
-MayBegin (Refused fault) = Unit {0}
-MayBegin _ = ⊥
+-- a call begins only where none is under way
+abbrev pub MayBegin : Option Call → Reply → Type 0
+MayBegin call Began = call ≡ None
+MayBegin call (Refused fault) = Unit {0}
+MayBegin call _ = ⊥
+
+abbrev pub MayEnd : Reply → Type 0
+MayEnd Began = Unit {0}
+MayEnd (Refused fault) = Unit {0}
+MayEnd _ = ⊥
 
 abbrev pub MayEndGo : Reply → Type 0
 MayEndGo Stepped = Unit {0}
 MayEndGo (CalledReply ticket how) = Unit {0}
-MayEndGo (Done answer) = Unit {0}
+MayEndGo (Done (Count n)) = Unit {0}
 MayEndGo (Refused fault) = Unit {0}
 MayEndGo _ = ⊥
 
 abbrev pub MayReply : (ℕ → Told) → Step → Reply → Type 0
 MayReply told Register reply = MayRegister reply
-MayReply told (Begin p c) reply = MayBegin reply
+MayReply told (Begin p c) reply = MayBegin (told p).call reply
 MayReply told (Go p) reply = MayTell p (told p) reply
-MayReply told End reply = MayBegin reply
+MayReply told End reply = MayEnd reply
 MayReply told EndGo reply = MayEndGo reply
 
 -- WHOLE LOGS
@@ -201,7 +217,8 @@ IsDeferredBefore log t j = (i : ℕ) × (i < j) × Stands log i (Deferred t)
 abbrev pub CallsAfterDeferrals : List Entry → Type 0
 CallsAfterDeferrals log = (t j : ℕ) (how : Called) → Stands log j (CalledReply t how) → IsDeferredBefore log t j
 
--- Each event stands only in its calls, and as often as it should; a job is called at most once, after it was deferred.
+-- Each event stands only in its calls, and as often as it should; a call begins only where none is under way, and is
+-- done with its own kind of answer; a job is called at most once, after it was deferred.
 pub record IsLawful (log : List Entry) : Type 0 where
   pub in_calls : MayReplyAll (λ p. nothing) log
   pub once : CallsNoneTwice log

@@ -421,6 +421,40 @@ fn jobs_are_called_only_where_they_may(rt: HostRuntime) {
 }
 
 #[test]
+fn a_call_is_done_with_its_own_answer_before_the_next_begins(rt: HostRuntime) {
+    let [pins, publishes] = [begin(0, Call::Pin), pinned(0)];
+    let released = Reply::Done(Answer::Released);
+    want_unlawful(&rt, "a pin answers its guard", &[pins, publishes, done(0)]);
+    want_unlawful(
+        &rt,
+        "a pin releases nothing",
+        &[pins, publishes, go(0, released)],
+    );
+    want_unlawful(
+        &rt,
+        "an unpin answers no guard",
+        &[
+            pins,
+            publishes,
+            guard(0, 0),
+            begin(0, Call::Unpin(Some(0))),
+            unpinned(0),
+            guard(0, 0),
+        ],
+    );
+    want_unlawful(
+        &rt,
+        "a call begins within another",
+        &[pins, begin(0, Call::Flush(None))],
+    );
+    want_lawful(
+        &rt,
+        "a call begins beside another participant's",
+        &[pins, begin(1, Call::Pin)],
+    );
+}
+
+#[test]
 fn replies_stand_only_at_their_steps(rt: HostRuntime) {
     let registers = Entry {
         step: Step::Register,

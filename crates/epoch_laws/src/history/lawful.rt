@@ -1,15 +1,16 @@
 //! Whether each event of a history stands only where it may.
 ghost use Rattle.std.specs.Prelude.{◌≡◌, ◌↔◌, IsTrue};
-ghost use Rattle.epoch_laws.specs.Lawful.{IsLawful, nothing, told_of, MayPin, MayUnpin, MayRepin, MayDefer, MayCall, MayCallNow, Told, HasTold, HasToldRefused, MayTell, MayRegister, MayBegin, MayEndGo, MayReply, MayReplyAll};
+ghost use Rattle.epoch_laws.specs.Lawful.{IsLawful, nothing, told_of, MayPin, MayUnpin, MayRepin, MayDefer, MayCall, MayCallNow, Told, HasTold, HasToldRefused, AnswerFits, MayTell, MayRegister, MayBegin, MayEnd, MayEndGo, MayReply, MayReplyAll};
 ghost use Rattle.epoch_laws.specs.Known.{known_of};
 
 use crate::history::guards::{has_none, has_one, has_only};
 use crate::history::known::Known;
 use crate::history::tickets::{calls_after_deferrals, calls_none_twice};
-use crate::step::{Call, Entry, Reply, Step};
+use crate::step::{Answer, Call, Entry, Reply, Step};
 
-/// Whether each event stands only in the calls in which it may and as often as it should, and each job is called at
-/// most once, after it was deferred.
+/// Whether each event stands only in the calls in which it may and as often as it should, each call begins only where
+/// none is under way and is done with its own kind of answer, and each job is called at most once, after it was
+/// deferred.
 ///
 /// It takes no memory. Its time grows with the third power of the number of entries at worst.
 pub fn is_lawful(entries: &[Entry]) -> bool
@@ -36,7 +37,8 @@ fn may_reply(before: &[Entry], entry: Entry) -> bool
 {
     match entry.step {
         Step::Register => may_register(entry.reply),
-        Step::Begin(_, _) | Step::End => may_begin(entry.reply),
+        Step::Begin(participant, _) => may_begin(Known::of(before, participant).call, entry.reply),
+        Step::End => may_end(entry.reply),
         Step::Go(participant) => may_tell(before, participant, entry.reply),
         Step::EndGo => may_end_go(entry.reply),
     }
@@ -48,8 +50,19 @@ fn may_register(reply: Reply) -> bool
     matches!(reply, Reply::Registered(_) | Reply::Refused(_))
 }
 
-fn may_begin(reply: Reply) -> bool
-    ensures { IsTrue result ↔ MayBegin reply }
+/// Whether a call may begin so, where this call is under way.
+fn may_begin(call: Option<Call>, reply: Reply) -> bool
+    ensures { IsTrue result ↔ MayBegin call reply }
+{
+    match reply {
+        Reply::Began => call.is_none(),
+        Reply::Refused(_) => true,
+        _ => false,
+    }
+}
+
+fn may_end(reply: Reply) -> bool
+    ensures { IsTrue result ↔ MayEnd reply }
 {
     matches!(reply, Reply::Began | Reply::Refused(_))
 }
@@ -59,7 +72,7 @@ fn may_end_go(reply: Reply) -> bool
 {
     matches!(
         reply,
-        Reply::Stepped | Reply::Called(_, _) | Reply::Done(_) | Reply::Refused(_)
+        Reply::Stepped | Reply::Called(_, _) | Reply::Done(Answer::Count(_)) | Reply::Refused(_)
     )
 }
 
@@ -82,7 +95,9 @@ fn may_tell(before: &[Entry], participant: u64, reply: Reply) -> bool
         Reply::Deferred(_) => may_defer(known.call) && !known.did_defer,
         Reply::Called(_, _) => may_call(known.call) && known.pinned,
         Reply::CalledNow(_) => may_call_now(known.call),
-        Reply::Done(_) => has_told(before, participant, known),
+        Reply::Done(answer) => {
+            has_told(before, participant, known) && answer_fits(known.call, answer)
+        }
         Reply::Refused(_) => has_told_refused(known),
         Reply::Registered(_) | Reply::Began => false,
     }
@@ -155,6 +170,18 @@ fn has_told(before: &[Entry], participant: u64, known: Known) -> bool
         Some(Call::Defer(Some(_))) => known.did_defer,
         Some(Call::Release) => known.did_pin && known.did_unpin,
         Some(_) => true,
+        None => false,
+    }
+}
+
+/// Whether this call, which is done, may have that answer.
+fn answer_fits(call: Option<Call>, answer: Answer) -> bool
+    ensures { IsTrue result ↔ AnswerFits call answer }
+{
+    match call {
+        Some(Call::Pin) => matches!(answer, Answer::Guard(_)),
+        Some(Call::Release) => matches!(answer, Answer::Released),
+        Some(_) => matches!(answer, Answer::Unit),
         None => false,
     }
 }
