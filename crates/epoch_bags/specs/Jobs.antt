@@ -1,4 +1,4 @@
--- What the call of a job answers.
+-- What the call of a job answers, and that it was made.
 use Rattle.std.specs.Prelude.{◌≡◌, ◌≢◌}
 use Rattle.epoch_bags.specs.declared.job.Job.{Job}
 use Rattle.epoch_bags.specs.declared.job.Job.TheVariants.{Remove, Call}
@@ -9,3 +9,8 @@ use Rattle.epoch_bags.specs.declared.job.Called.TheVariants.{Ran}
 abbrev pub Answers : {W : Type 0} → Job W → Called → Type 0
 Answers (Call work) called = called ≡ Ran
 Answers (Remove name) called = called ≢ Ran
+
+-- The work of a caller's job was called: `done` is what its call shows. What came of a removal is told by the answer.
+abbrev pub IsCalled : {W : Type 0} → (W → Type 0) → Job W → Type 0
+IsCalled done (Call work) = done work
+IsCalled done (Remove name) = Unit {0}

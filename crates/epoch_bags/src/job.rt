@@ -1,16 +1,20 @@
 //! Jobs: what is called once, when nobody who was pinned at its deferral is pinned any more.
 ghost use Rattle.std.specs.Prelude.{◌≡◌, [], ◌∷◌, None, MatchOption, IfSome};
-ghost use Rattle.epoch_bags.specs.Jobs.{Answers};
+ghost use Rattle.epoch_bags.specs.Jobs.{Answers, IsCalled};
 
 use crate::bag::SealedBag;
 use epoch_cells::{Cells, Name, Removal};
 
 /// What can be called once.
 pub trait Run: Drop {
+    /// That it was called. Where the type is a parameter, nothing but a call shows it.
+    ghost done: { Self → Type 0 };
+
     /// Calls it.
     fn call(self)
     where
-        Self: Sized;
+        Self: Sized,
+        ensures done { done self };
 }
 
 /// A caller's job, which keeps that it may be called.
@@ -23,6 +27,8 @@ pub struct Work {
 }
 
 impl Run for Work {
+    ghost done = { λ work. post work.run tt };
+
     #[inline(always)]
     fn call(self) {
         let Work { run } = self;
@@ -63,7 +69,8 @@ impl<W: Run> Job<W> {
     /// Calls the job, and says what that did.
     #[inline(always)]
     pub fn call<T: Drop>(self, cells: &Cells<T>) -> Called
-        ensures { Answers self result }
+        ensures answers { Answers self result }
+        ensures called { IsCalled W.done self }
     {
         match self {
             Job::Call(work) => {
@@ -82,7 +89,7 @@ impl<W: Run> Job<W> {
 impl<W: Run> SealedBag<Job<W>> {
     /// Takes the oldest job out and calls it. `None` exactly where none is left.
     pub fn call_next<T: Drop>(&mut self, cells: &Cells<T>) -> Option<Called>
-        ensures called { MatchOption result (self.old.jobs ≡ []) (λ called. (job : _) × (self.old.jobs ≡ job ∷ self.new.jobs) × Answers job called) }
+        ensures called { MatchOption result (self.old.jobs ≡ []) (λ called. (job : _) × (self.old.jobs ≡ job ∷ self.new.jobs) × Answers job called × IsCalled W.done job) }
         ensures none { result ≡ None → self.new ≡ self.old }
         ensures seal { self.new.seal ≡ self.old.seal }
     {
