@@ -2,7 +2,8 @@
 ghost use Rattle.std.specs.Prelude.{◌≡◌, ℕ, ◌*◌, ◌<◌, ◌≤◌, ◌^◌, None, length, slice_index_or};
 ghost use Rattle.epoch_tables.specs.SharedPlaces.{IsOf, IsKept};
 ghost use Rattle.epoch_tables.specs.SharedSteps.{RestsAt};
-ghost use Rattle.epoch_handles.specs.Ends.{jobs_in, jobs_of};
+ghost use Rattle.epoch_bags.specs.Jobs.{IsCalled};
+ghost use Rattle.epoch_handles.specs.Ends.{jobs_in, jobs_of, IsBagCalled};
 
 use crate::collector::Collector;
 use epoch_bags::{Job, Run, SealedBag};
@@ -51,6 +52,7 @@ fn end_one<T: Drop>(places: &SharedPlaces<Job>, seat: &mut PlaceSeat<Job>, cells
 pub fn end_bags<T: Drop, W: Run>(cells: &Cells<T>, bags: &mut [Option<SealedBag<Job<W>>>]) -> u64
     requires few { length bags.old < 2 ^ 57 }
     ensures count { result ≡ jobs_in bags.old }
+    ensures called { (place : ℕ) → place < length bags.old → IsBagCalled (IsCalled W.done) (slice_index_or bags.old place None) }
     ensures few { result ≤ 64 * length bags.old }
     ensures none { (place : ℕ) → place < length bags.old → slice_index_or bags.new place None ≡ None }
 {
@@ -64,6 +66,7 @@ pub fn end_bags<T: Drop, W: Run>(cells: &Cells<T>, bags: &mut [Option<SealedBag<
 /// Calls every job of the bag, if there is one, and leaves none. Answers how many jobs.
 fn end_bag<T: Drop, W: Run>(cells: &Cells<T>, place: &mut Option<SealedBag<Job<W>>>) -> u64
     ensures count { result ≡ jobs_of place.old }
+    ensures called { IsBagCalled (IsCalled W.done) place.old }
     ensures few { result ≤ 64 }
     ensures none { place.new ≡ None }
 {
@@ -71,9 +74,7 @@ fn end_bag<T: Drop, W: Run>(cells: &Cells<T>, place: &mut Option<SealedBag<Job<W
         return 0;
     };
     let count = bag.len();
-    for _ in 0..count {
-        let _ = bag.call_next(cells);
-    }
+    while let Some(_) = bag.call_next(cells) {}
     *place = None;
     count as u64
 }
