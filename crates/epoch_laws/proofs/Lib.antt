@@ -45,4 +45,6 @@ pub mod FullFound
 pub mod RunsGoOn
 pub mod TicketsNumbered
 pub mod EndsCounted
+pub mod RefusalsSince
+pub mod RefusalsLeave
 pub mod CallsGoOn

@@ -10,3 +10,4 @@ pub mod Shapes
 pub mod Kept
 pub mod Calls
 pub mod Full
+pub mod Refusals

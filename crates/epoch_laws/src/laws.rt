@@ -1,12 +1,13 @@
 //! What holds of every run of a world, whatever its store of bags: laws of the definitions.
 ghost use Rattle.std.specs.Prelude.{◌≡◌, ℕ, List};
 ghost use Rattle.epoch_laws.specs.declared.step.Entry.{Entry};
-ghost use Rattle.epoch_laws.specs.Run.{State, IsFresh, Runs, Over};
+ghost use Rattle.epoch_laws.specs.Run.{State, IsFresh, Runs, Over, seat_of};
 ghost use Rattle.epoch_laws.specs.Grace.{KeepsGrace};
 ghost use Rattle.epoch_laws.specs.Tickets.{HoldsEachTicketOnce, NumbersTickets, times_called, times_deferred};
 ghost use Rattle.epoch_laws.specs.Ends.{EndsAtCount};
 ghost use Rattle.epoch_laws.specs.Lawful.{IsLawful};
 ghost use Rattle.epoch_laws.specs.Full.{FullAlong, none_found};
+ghost use Rattle.epoch_laws.specs.Refusals.{RefusedAlong, all_quiet};
 
 /// No job is called while a participant that was pinned when it was deferred has stayed pinned.
 pub fn every_run_keeps_grace()
@@ -42,4 +43,11 @@ pub fn every_run_is_lawful()
 /// step that it took since the call began.
 pub fn every_full_reply_found_each_place()
     ensures { (s new : State) (log : List Entry) → IsFresh s → (run : Runs s log new) → FullAlong none_found s new log run }
+{}
+
+/// A Begin, a Register or an End that is refused changes nothing. A call that is refused because the bags are full
+/// leaves its guards and its held bag as they were when it began; a deferral changes nothing at all, a flush leaves
+/// its word, and a release leaves its position taken and unpinned. No other call is refused so.
+pub fn every_refused_call_leaves_all()
+    ensures { (s new : State) (log : List Entry) → IsFresh s → (run : Runs s log new) → RefusedAlong (seat_of s) all_quiet s new log run }
 {}

@@ -1,0 +1,519 @@
+-- In every run a call that is refused leaves what it has to.
+use Rattle.std.proofs.Common.{◌≡◌, ◌≢◌, ℕ, ◌+◌, ◌-◌, ◌^◌, ◌<◌, ◌==◌, slice_index_or, Bool, true, false, List, [], ◌∷◌, length, Option, Some, None, inl, inr, refl, ap, ap₂, sym, subst, ◌∙◌, arith, if◌then◌else◌}
+use Rattle.std.proofs.lemmas.Bool.Decides.{nat_tests}
+use Rattle.std.proofs.lemmas.List.{set-get_or}
+use Rattle.epoch_bags.specs.declared.job.Called.TheVariants.{Ran}
+use Rattle.epoch_bags.specs.declared.queue.PutStep.{PutStep}
+use Rattle.epoch_bags.specs.declared.queue.PutStep.TheVariants.{Again, Done as PutDone, Full}
+use Rattle.epoch_bags.specs.declared.queue.TakeStep.{TakeStep}
+use Rattle.epoch_bags.specs.declared.queue.TakeStep.TheVariants.{Again as TakeAgain, Empty, Got}
+use Rattle.epoch_cells.specs.declared.fault.Fault.{Fault}
+use Rattle.epoch_cells.specs.declared.fault.Fault.TheVariants.{BagsFull, Idle as IdleFault, NotRegistered}
+use Rattle.epoch_machine.specs.declared.machine.Action.{Action}
+use Rattle.epoch_machine.specs.declared.machine.Action.TheVariants.{Defer as DeferAction, Flush as FlushAction, Release as ReleaseAction}
+use Rattle.epoch_machine.specs.declared.machine.Ask.{Ask}
+use Rattle.epoch_machine.specs.declared.machine.Ask.TheVariants.{LoadEpoch, LoadWord, StorePinned, StoreRepinned, StoreUnpinned as AskUnpinned, StoreFree as AskFree, StoreEpoch, PutBag, TakeBag, KeepJob, CallJob}
+use Rattle.epoch_machine.specs.declared.machine.Stage.{Stage}
+use Rattle.epoch_machine.specs.declared.machine.Stage.TheVariants.{LoadPin, StorePin, ReloadPin, LoadScan, Scan, Advance, Take, Calling, LoadSeal, Put, Keep, StoreUnpinned, StoreFree, End}
+use Rattle.epoch_machine.specs.declared.machine.Answer.TheVariants.{Epoch as EpochFound, Word as WordFound, Stored, Job}
+use Rattle.epoch_machine.specs.Machine.{Machine, with_stage, is_empty, after_collect, after_pin, after_put, after_unpin, after_job, holds_up, scanned, past_word, ask_at, hears, put_heard, took_heard, gives, PutsHeld}
+use Rattle.epoch_laws.specs.declared.step.Answer.TheVariants.{Unit as UnitAnswer, Released}
+use Rattle.epoch_laws.specs.declared.step.Call.{Call}
+use Rattle.epoch_laws.specs.declared.step.Call.TheVariants.{Pin, Unpin, Repin, Pause, Resume, Defer, Flush, Release}
+use Rattle.epoch_laws.specs.declared.step.Deferral.{Deferral}
+use Rattle.epoch_laws.specs.declared.step.Entry.{Entry}
+use Rattle.epoch_laws.specs.declared.step.Progress.{Progress}
+use Rattle.epoch_laws.specs.declared.step.Progress.TheVariants.{Idle, Driven, CallsNow, Ends}
+use Rattle.epoch_laws.specs.declared.step.Reply.{Reply}
+use Rattle.epoch_laws.specs.declared.step.Reply.TheVariants.{Stepped, Pinned as PinnedReply, Unpinned as UnpinnedReply, Repinned, Deferred, Called as CalledReply, CalledNow, Done, Refused, Began}
+use Rattle.epoch_laws.specs.declared.step.Step.{Step}
+use Rattle.epoch_laws.specs.declared.step.Step.TheVariants.{Register, Begin, Go, End as EndStep, EndGo}
+use Rattle.epoch_laws.specs.declared.step.Word.{Word}
+use Rattle.epoch_laws.specs.declared.step.Word.TheVariants.{Free, Unpinned, Pinned}
+use Rattle.epoch_laws.specs.Run.{Bag, Seat, State, seat_of, word_of, number_of, with_seat, with_word, with_machine, with_places, free_seat, refusal, begun_seat, Ending, Open, Emptying, Over, ended_seat, end_reply, full_or_done, Begins, Performs, Drives, Goes, EndGoes, Takes, Runs, IsFresh}
+use Rattle.epoch_laws.specs.Refusals.{before_after, LeavesRest, quiet_after, KeepsBag, Leaves, LeavesAtRefusal, RefusedAlong, all_quiet}
+use Rattle.epoch_laws.proofs.SeatLemmas.{seat_written, seat_other, seat_there, same_or_other, begin_given}
+use Rattle.epoch_laws.proofs.SeatLinks.{action_of, AllLinked, IsDriven, follows_at}
+use Rattle.epoch_laws.proofs.Linked.{step_linked, fresh_linked}
+use Rattle.epoch_laws.proofs.ToldAtStages.{either_stage}
+use Rattle.epoch_laws.proofs.RefusalsSince.{KeptBag, Kept, DeferAt, FlushAt, ReleaseAt, SinceAt, SinceBy, Since, AllSince, is_plain, plain_since, since_more, begun_since, release_collected, release_unpinned}
+
+keeps_bag : (b a : Seat) → KeptBag b a → KeepsBag b a
+keeps_bag b a kept = record { guards = kept.0; paused = kept.1; held = kept.2 }
+
+-- what a step has to show
+abbrev ShowsLeft : (ℕ → Seat) → (ℕ → Type 0) → State → Step → Reply → State → Type 0
+ShowsLeft before quiet old step reply new = LeavesAtRefusal before quiet old step reply new
+    × AllSince (before_after before old step reply) (quiet_after quiet old step reply new) new
+
+-- A STEP GO
+
+module _ (old new : State) (reply : Reply) (before : ℕ → Seat) (quiet : ℕ → Type 0) (h : AllSince before quiet old) (p : ℕ)
+    (taken : word_of old p ≢ Free) where
+  abbrev seat : Seat
+  seat = seat_of old p
+
+  abbrev m : Machine Deferral
+  m = seat.machine
+
+  abbrev b : Seat
+  b = before p
+
+  abbrev aside : State
+  aside = with_places new old.places old.seen
+
+  abbrev later : ℕ → Type 0
+  later = quiet_after quiet old (Go p) reply new
+
+  abbrev Goal : Type 0
+  Goal = ShowsLeft before quiet old (Go p) reply new
+
+  -- the seats of this state are those before the step, but for that of p
+  abbrev Writes : State → Seat → Type 0
+  Writes last after = (q : ℕ) → seat_of last q ≡ seat_of (with_seat old p after) q
+
+  others_more : (q : ℕ) → q ≢ p → quiet q → later q
+  others_more q other was = (was, λ same. absurd (other same))
+
+  tells : (tell : Reply) (after : Seat) (last : State) → LeavesAtRefusal before quiet old (Go p) tell new
+      → reply ≡ tell → aside ≡ last → Writes last after → SinceBy b (later p) after after.progress → Goal
+  tells tell after last leaves told e writes own = (
+    subst (λ (r : Reply). LeavesAtRefusal before quiet old (Go p) r new) (sym told) leaves,
+    all_since,
+  )
+    where
+      found : (q : ℕ) → seat_of new q ≡ seat_of (with_seat old p after) q
+      found q = ap (λ (s : State). seat_of s q) e ∙ writes q
+
+      all_since : AllSince before later new
+      all_since q = elim (same_or_other q p) [
+        | inl same ↦ subst (λ (k : ℕ). Since (before k) (later k) (seat_of new k)) (sym same)
+            (subst (Since b (later p)) (sym (found p ∙ seat_written old p after (seat_there old p taken))) own)
+        | inr other ↦ subst (Since (before q) (later q)) (sym (found q ∙ seat_other old p q after other))
+            (since_more (before q) (quiet q) (later q) (seat_of old q) (others_more q other) (h q))
+      ]
+
+  -- only the seat of p is written
+  rest : (after : Seat) → aside ≡ with_seat old p after → LeavesRest old p new
+  rest after e = record {
+    epoch = ap (λ (s : State). s.epoch) e;
+    bags = ap (λ (s : State). s.queued) e;
+    tickets = ap (λ (s : State). s.tickets) e;
+    others = λ q other. ap (λ (s : State). seat_of s q) e ∙ seat_other old p q after other;
+  }
+
+  module _ (c : Call) (drive : seat.progress ≡ Driven c) where
+    on : (after : Seat) → after.progress ≡ seat.progress → SinceAt b (later p) after c after.machine.stage
+        → SinceBy b (later p) after after.progress
+    on after same at = subst (λ (progress : Progress). SinceBy b (later p) after progress) (sym (same ∙ drive)) at
+
+    -- a call that is never told so
+    plain_goes : is_plain c ≡ true → (tell : Reply) (w : Word) (n : Machine Deferral) (last : State)
+        → LeavesAtRefusal before quiet old (Go p) tell new
+        → reply ≡ tell → aside ≡ last → Writes last (with_word seat w n) → Goal
+    plain_goes plain tell w n last leaves told e writes = tells tell (with_word seat w n) last leaves told e writes
+        (on (with_word seat w n) refl (plain_since b (later p) (with_word seat w n) n.stage c plain))
+
+    plain_performs : is_plain c ≡ true → (s : Stage) (ask : Ask) → Performs old p seat s ask reply aside → Goal
+    plain_performs plain s LoadEpoch did =
+        plain_goes plain Stepped seat.word (hears m s (EpochFound old.epoch)) _ tt did.0 did.1 (λ q. refl)
+    plain_performs plain s (LoadWord k) did =
+        plain_goes plain Stepped seat.word (hears m s (WordFound (number_of (word_of old k)))) _ tt did.0 did.1 (λ q. refl)
+    plain_performs plain s (StorePinned e) did =
+        plain_goes plain (PinnedReply p) (Pinned e) (hears m s Stored) _ tt did.0 did.1 (λ q. refl)
+    plain_performs plain s (StoreRepinned e) did =
+        plain_goes plain (Repinned p) (Pinned e) (hears m s Stored) _ tt did.0 did.1 (λ q. refl)
+    plain_performs plain s AskUnpinned did =
+        plain_goes plain (UnpinnedReply p) Unpinned (hears m s Stored) _ tt did.0 did.1 (λ q. refl)
+    plain_performs plain s AskFree did = tells (Done Released) (free_seat old.sizes) _ tt did.0 did.1 (λ q. refl) tt
+    plain_performs plain s (StoreEpoch e) did =
+        plain_goes plain Stepped seat.word (hears m s Stored) _ tt did.0 did.1 (λ q. refl)
+    plain_performs plain s (PutBag seal) (step, queued, told, put, e) =
+        plain_goes plain Stepped seat.word (put_heard m step) _ tt told e (λ q. refl)
+    plain_performs plain s (TakeBag x) (step, jobs, queued, told, took, e) =
+        plain_goes plain Stepped seat.word (took_heard m s step jobs) _ tt told e (λ q. refl)
+    plain_performs plain s KeepJob did = plain_goes plain (Deferred old.tickets) seat.word
+        (hears m s (Job (record { ticket = old.tickets; removes = None }))) _ tt did.0 did.1 (λ q. refl)
+    plain_performs plain s CallJob (job, jobs, hand, told, e) =
+        plain_goes plain (CalledReply job.ticket Ran) seat.word (gives m s jobs) _ tt told e (λ q. refl)
+
+    plain_ends : is_plain c ≡ true → (reply ≡ end_reply c seat) × (aside ≡ with_seat old p (ended_seat c seat)) → Goal
+    plain_ends plain did = tells (end_reply c seat) (ended_seat c seat) _ (by_call c plain) did.0 did.1 (λ q. refl) (rests c)
+      where
+        by_call : (d : Call) → is_plain d ≡ true → LeavesAtRefusal before quiet old (Go p) (end_reply d seat) new
+        by_call (Defer g) plain = absurd (cc (plain))
+        by_call (Flush g) plain = absurd (cc (plain))
+        by_call Release plain = absurd (cc (plain))
+        by_call _ plain = tt
+
+        rests : (d : Call) → SinceBy b (later p) (ended_seat d seat) (ended_seat d seat).progress
+        rests Pin = tt
+        rests (Unpin (Some g)) = tt
+        rests (Pause (Some g)) = tt
+        rests (Resume (Some g)) = tt
+        rests _ = tt
+
+    plain_drives : is_plain c ≡ true → (s : Stage) (ask : Option Ask) → Drives old p seat c s ask reply aside → Goal
+    plain_drives plain s (Some ask) did = plain_performs plain s ask did
+    plain_drives plain s None did = plain_ends plain did
+
+    -- the machine goes on
+    steps : (n : Machine Deferral) (last : State) → reply ≡ Stepped → aside ≡ last → Writes last (with_machine seat n)
+        → SinceAt b (later p) (with_machine seat n) c n.stage → Goal
+    steps n last told e writes at = tells Stepped (with_machine seat n) last tt told e writes (on (with_machine seat n) refl at)
+
+  -- a call that is refused at its end, or done
+  full_or_not : (c : Call) (full : Bool) → seat.progress ≡ Driven c
+      → (full ≡ true → Leaves (quiet_after quiet old (Go p) (Refused BagsFull) new p) (Driven c) b (seat_of new p))
+      → LeavesAtRefusal before quiet old (Go p) (full_or_done full) new
+  full_or_not c true drive leaves =
+      subst (λ (progress : Progress). Leaves (quiet_after quiet old (Go p) (Refused BagsFull) new p) progress b (seat_of new p))
+      (sym drive) (leaves refl)
+  full_or_not c false drive leaves = tt
+
+  -- A DEFERRAL
+
+  module _ (g : Option ℕ) (drive : seat.progress ≡ Driven (Defer g)) (action : m.action ≡ DeferAction) where
+    defer_puts : (seal : ℕ) (step : PutStep) (queued : List Bag) → m.stage ≡ Put seal → quiet p × Kept b seat
+        → PutsHeld seal m old.queued step queued → reply ≡ Stepped
+        → aside ≡ record (with_seat old p (with_machine seat (put_heard m step))) { queued = queued } → Goal
+    defer_puts seal Again queued at (q, kept) put told e =
+        let same : aside ≡ with_seat old p (with_machine seat m) =
+        subst (λ (bags : List Bag). aside ≡ record (with_seat old p (with_machine seat m)) { queued = bags }) put e in
+        let still : DeferAt (later p × Kept b seat) m.full (Put seal) = ((q, λ own. rest (with_machine seat m) same), kept) in
+        steps (Defer g) drive m _ told e (λ k. refl)
+        (subst (λ (s : Stage). DeferAt (later p × Kept b seat) m.full s) (sym at) still)
+    defer_puts seal PutDone queued at was put told e = steps (Defer g) drive (put_heard m PutDone) _ told e (λ k. refl)
+        (subst (λ (a : Action). DeferAt (later p × Kept b (with_machine seat (put_heard m PutDone))) false (after_put a false))
+        (sym action) refl)
+    defer_puts seal Full queued at (q, kept) put told e =
+        let n : Machine Deferral = put_heard m Full in
+        let same : aside ≡ with_seat old p (with_machine seat n) =
+        subst (λ (bags : List Bag). aside ≡ record (with_seat old p (with_machine seat n)) { queued = bags }) put e in
+        steps (Defer g) drive n _ told e (λ k. refl)
+        (subst (λ (a : Action). DeferAt (later p × Kept b (with_machine seat n)) true (after_put a true)) (sym action)
+        (λ full. ((q, λ own. rest (with_machine seat n) same), kept)))
+
+    defer_ends : (m.full ≡ true → quiet p × Kept b seat)
+        → (reply ≡ end_reply (Defer g) seat) × (aside ≡ with_seat old p (ended_seat (Defer g) seat)) → Goal
+    defer_ends at did = tells (full_or_done m.full) (ended_seat (Defer g) seat) _
+        (full_or_not (Defer g) m.full drive leaves) did.0 did.1 (λ q. refl) tt
+      where
+        wrote : seat_of new p ≡ ended_seat (Defer g) seat
+        wrote = ap (λ (s : State). seat_of s p) did.1 ∙ seat_written old p _ (seat_there old p taken)
+
+        leaves : m.full ≡ true
+            → Leaves (quiet_after quiet old (Go p) (Refused BagsFull) new p) (Driven (Defer g)) b (seat_of new p)
+        leaves full = subst
+            (λ (after : Seat). Leaves (quiet_after quiet old (Go p) (Refused BagsFull) new p) (Driven (Defer g)) b after)
+            (sym wrote)
+            (((at full).0, λ own. rest (ended_seat (Defer g) seat) did.1), (at full).1.0, keeps_bag b (ended_seat (Defer g) seat) (at full).1.1)
+
+    defer_drives : (s : Stage) → m.stage ≡ s → DeferAt (quiet p × Kept b seat) m.full s
+        → Drives old p seat (Defer g) s (ask_at s) reply aside → Goal
+    defer_drives LoadSeal is (q, kept) did = steps (Defer g) drive (with_stage m (Put old.epoch)) _ did.0 did.1 (λ k. refl)
+        ((q, λ own. rest _ did.1), kept)
+    defer_drives (Put seal) is at (step, queued, told, put, e) = defer_puts seal step queued is at put told e
+    defer_drives Keep is none did =
+        let n : Machine Deferral = hears m Keep (Job (record { ticket = old.tickets; removes = None })) in
+        tells (Deferred old.tickets) (with_machine seat n) _ tt did.0 did.1 (λ q. refl)
+        (on (Defer g) drive (with_machine seat n) refl (λ full. absurd (cc (full, none))))
+    defer_drives End is at did = defer_ends at did
+    defer_drives _ is at did = absurd at
+
+  -- A FLUSH
+
+  module _ (g : Option ℕ) (drive : seat.progress ≡ Driven (Flush g)) (action : m.action ≡ FlushAction) where
+    abbrev FlushOn : Machine Deferral → Stage → Type 0
+    FlushOn n s = FlushAt (Kept b (with_machine seat n)) n.full s
+
+    flush_steps : (n : Machine Deferral) (last : State) → reply ≡ Stepped → aside ≡ last → Writes last (with_machine seat n)
+        → FlushOn n n.stage → Goal
+    flush_steps n last told e writes at = steps (Flush g) drive n last told e writes at
+
+    flush_collected : (held : List Deferral) → (m.full ≡ true → Kept b seat)
+        → FlushAt (Kept b seat) m.full (after_collect m.action held)
+    flush_collected held at =
+        subst (λ (a : Action). FlushAt (Kept b seat) m.full (after_collect a held)) (sym action) at
+
+    flush_job : (x k : ℕ) (jobs : List Deferral) → (m.full ≡ true → Kept b seat)
+        → FlushAt (Kept b seat) m.full (after_job m x k jobs)
+    flush_job x k jobs at = either_stage (FlushAt (Kept b seat) m.full) (is_empty jobs) _ (Calling x k)
+        (either_stage (FlushAt (Kept b seat) m.full) (k + 1 == m.sizes.collect_bags) (after_collect m.action m.held) (Take x (k + 1))
+        (flush_collected m.held at) at) at
+
+    flush_word : (e k w : ℕ) → (m.full ≡ true → Kept b seat)
+        → FlushAt (Kept b seat) m.full (past_word m.sizes.positions e k w)
+    flush_word e k w at = either_stage (FlushAt (Kept b seat) m.full) (holds_up e w) (Take e 0) _ at
+        (either_stage (FlushAt (Kept b seat) m.full) (k + 1 == m.sizes.positions) (scanned e) (Scan e (k + 1))
+        (either_stage (FlushAt (Kept b seat) m.full) (e == 2 ^ 63 - 1) (Take e 0) (Advance e) at at) at)
+
+    flush_puts : (seal : ℕ) (step : PutStep) (last : State) → m.stage ≡ Put seal → Kept b seat → reply ≡ Stepped
+        → aside ≡ last → Writes last (with_machine seat (put_heard m step)) → Goal
+    flush_puts seal Again last at kept told e writes = flush_steps m last told e writes (subst (FlushOn m) (sym at) kept)
+    flush_puts seal PutDone last at kept told e writes = flush_steps (put_heard m PutDone) last told e writes
+        (subst (λ (a : Action). FlushOn (put_heard m PutDone) (after_put a false)) (sym action) (λ full. absurd (cc (full))))
+    flush_puts seal Full last at kept told e writes = flush_steps (put_heard m Full) last told e writes
+        (subst (λ (a : Action). FlushOn (put_heard m Full) (after_put a true)) (sym action) (λ full. kept))
+
+    flush_takes : (x k : ℕ) (step : TakeStep) (jobs : List Deferral) (last : State) → m.stage ≡ Take x k
+        → (m.full ≡ true → Kept b seat) → reply ≡ Stepped → aside ≡ last
+        → Writes last (with_machine seat (took_heard m (Take x k) step jobs)) → Goal
+    flush_takes x k TakeAgain jobs last at kept told e writes = flush_steps m last told e writes (subst (FlushOn m) (sym at) kept)
+    flush_takes x k Empty jobs last at kept told e writes =
+        flush_steps (took_heard m (Take x k) Empty jobs) last told e writes (flush_collected m.held kept)
+    flush_takes x k Got jobs last at kept told e writes =
+        flush_steps (took_heard m (Take x k) Got jobs) last told e writes (flush_job x k jobs kept)
+
+    flush_ends : (m.full ≡ true → Kept b seat)
+        → (reply ≡ end_reply (Flush g) seat) × (aside ≡ with_seat old p (ended_seat (Flush g) seat)) → Goal
+    flush_ends at did = tells (full_or_done m.full) (ended_seat (Flush g) seat) _
+        (full_or_not (Flush g) m.full drive leaves) did.0 did.1 (λ q. refl) tt
+      where
+        wrote : seat_of new p ≡ ended_seat (Flush g) seat
+        wrote = ap (λ (s : State). seat_of s p) did.1 ∙ seat_written old p _ (seat_there old p taken)
+
+        leaves : m.full ≡ true
+            → Leaves (quiet_after quiet old (Go p) (Refused BagsFull) new p) (Driven (Flush g)) b (seat_of new p)
+        leaves full = subst
+            (λ (after : Seat). Leaves (quiet_after quiet old (Go p) (Refused BagsFull) new p) (Driven (Flush g)) b after)
+            (sym wrote) ((at full).0, keeps_bag b (ended_seat (Flush g) seat) (at full).1)
+
+    flush_drives : (s : Stage) → m.stage ≡ s → FlushAt (Kept b seat) m.full s
+        → Drives old p seat (Flush g) s (ask_at s) reply aside → Goal
+    flush_drives LoadSeal is at did = flush_steps (with_stage m (Put old.epoch)) _ did.0 did.1 (λ q. refl) at
+    flush_drives (Put seal) is at (step, queued, told, put, e) = flush_puts seal step _ is at told e (λ q. refl)
+    flush_drives LoadScan is at did = flush_steps (with_stage m (Scan old.epoch 0)) _ did.0 did.1 (λ q. refl) at
+    flush_drives (Scan e k) is at did =
+        let w : ℕ = number_of (word_of old k) in
+        flush_steps (with_stage m (past_word m.sizes.positions e k w)) _ did.0 did.1 (λ q. refl) (flush_word e k w at)
+    flush_drives (Advance e) is at did = flush_steps (with_stage m (Take (e + 1) 0)) _ did.0 did.1 (λ q. refl) at
+    flush_drives (Take x k) is at (step, jobs, queued, told, took, e) = flush_takes x k step jobs _ is at told e (λ q. refl)
+    flush_drives (Calling x k) is at (job, jobs, hand, told, e) =
+        let n : Machine Deferral = gives m (Calling x k) jobs in
+        tells (CalledReply job.ticket Ran) (with_machine seat n) _ tt told e (λ q. refl)
+        (on (Flush g) drive (with_machine seat n) refl (flush_job x k jobs at))
+    flush_drives End is at did = flush_ends at did
+    flush_drives _ is at did = absurd at
+
+  -- A RELEASE
+
+  module _ (drive : seat.progress ≡ Driven Release) (action : m.action ≡ ReleaseAction) where
+    abbrev ReleaseOn : Word → Machine Deferral → Stage → Type 0
+    ReleaseOn w n s = ReleaseAt (KeptBag b (with_word seat w n)) (w ≡ Unpinned) n.full s
+
+    abbrev Own : Stage → Type 0
+    Own s = ReleaseAt (KeptBag b seat) (seat.word ≡ Unpinned) m.full s
+
+    release_steps : (n : Machine Deferral) (last : State) → reply ≡ Stepped → aside ≡ last → Writes last (with_machine seat n)
+        → ReleaseOn seat.word n n.stage → Goal
+    release_steps n last told e writes at = steps Release drive n last told e writes at
+
+    collected : (held : List Deferral) → KeptBag b seat → Own (after_collect m.action held)
+    collected held kept = subst (λ (a : Action). Own (after_collect a held)) (sym action)
+        (release_collected (KeptBag b seat) (seat.word ≡ Unpinned) m.full held kept)
+
+    release_job : (x k : ℕ) (jobs : List Deferral) → KeptBag b seat → Own (after_job m x k jobs)
+    release_job x k jobs kept = either_stage Own (is_empty jobs) _ (Calling x k)
+        (either_stage Own (k + 1 == m.sizes.collect_bags) (after_collect m.action m.held) (Take x (k + 1)) (collected m.held kept) kept) kept
+
+    release_word : (e k w : ℕ) → KeptBag b seat → Own (past_word m.sizes.positions e k w)
+    release_word e k w kept = either_stage Own (holds_up e w) (Take e 0) _ kept
+        (either_stage Own (k + 1 == m.sizes.positions) (scanned e) (Scan e (k + 1))
+        (either_stage Own (e == 2 ^ 63 - 1) (Take e 0) (Advance e) kept kept) kept)
+
+    release_puts : (seal : ℕ) (step : PutStep) (last : State) → m.stage ≡ Put seal → KeptBag b seat → reply ≡ Stepped
+        → aside ≡ last → Writes last (with_machine seat (put_heard m step)) → Goal
+    release_puts seal Again last at kept told e writes = release_steps m last told e writes (subst Own (sym at) kept)
+    release_puts seal PutDone last at kept told e writes = release_steps (put_heard m PutDone) last told e writes
+        (subst (λ (a : Action). ReleaseOn seat.word (put_heard m PutDone) (after_put a false)) (sym action) (λ full. absurd (cc (full))))
+    release_puts seal Full last at kept told e writes = release_steps (put_heard m Full) last told e writes
+        (subst (λ (a : Action). ReleaseOn seat.word (put_heard m Full) (after_put a true)) (sym action) (λ full. kept))
+
+    release_takes : (x k : ℕ) (step : TakeStep) (jobs : List Deferral) (last : State) → m.stage ≡ Take x k
+        → KeptBag b seat → reply ≡ Stepped → aside ≡ last
+        → Writes last (with_machine seat (took_heard m (Take x k) step jobs)) → Goal
+    release_takes x k TakeAgain jobs last at kept told e writes = release_steps m last told e writes (subst Own (sym at) kept)
+    release_takes x k Empty jobs last at kept told e writes =
+        release_steps (took_heard m (Take x k) Empty jobs) last told e writes (collected m.held kept)
+    release_takes x k Got jobs last at kept told e writes =
+        release_steps (took_heard m (Take x k) Got jobs) last told e writes (release_job x k jobs kept)
+
+    release_ends : (m.full ≡ true → KeptBag b seat) → seat.word ≡ Unpinned
+        → (reply ≡ end_reply Release seat) × (aside ≡ with_seat old p (ended_seat Release seat)) → Goal
+    release_ends at off did = tells (full_or_done m.full) (ended_seat Release seat) _
+        (full_or_not Release m.full drive leaves) did.0 did.1 (λ q. refl) tt
+      where
+        wrote : seat_of new p ≡ ended_seat Release seat
+        wrote = ap (λ (s : State). seat_of s p) did.1 ∙ seat_written old p _ (seat_there old p taken)
+
+        leaves : m.full ≡ true
+            → Leaves (quiet_after quiet old (Go p) (Refused BagsFull) new p) (Driven Release) b (seat_of new p)
+        leaves full = subst
+            (λ (after : Seat). Leaves (quiet_after quiet old (Go p) (Refused BagsFull) new p) (Driven Release) b after)
+            (sym wrote) (off, keeps_bag b (ended_seat Release seat) (at full))
+
+    release_drives : (s : Stage) → m.stage ≡ s → Own s → Drives old p seat Release s (ask_at s) reply aside → Goal
+    release_drives LoadPin is at did = release_steps (with_stage m (StorePin old.epoch)) _ did.0 did.1 (λ q. refl) at
+    release_drives (StorePin e) is at did =
+        let n : Machine Deferral = hears m (StorePin e) Stored in
+        tells (PinnedReply p) (with_word seat (Pinned e) n) _ tt did.0 did.1 (λ q. refl)
+        (on Release drive (with_word seat (Pinned e) n) refl at)
+    release_drives ReloadPin is at did = release_steps (with_stage m (after_pin m)) _ did.0 did.1 (λ q. refl)
+        (either_stage Own (m.pins == 1) LoadScan (after_collect m.action m.held) at (collected m.held at))
+    release_drives LoadScan is at did = release_steps (with_stage m (Scan old.epoch 0)) _ did.0 did.1 (λ q. refl) at
+    release_drives (Scan e k) is at did =
+        let w : ℕ = number_of (word_of old k) in
+        release_steps (with_stage m (past_word m.sizes.positions e k w)) _ did.0 did.1 (λ q. refl) (release_word e k w at)
+    release_drives (Advance e) is at did = release_steps (with_stage m (Take (e + 1) 0)) _ did.0 did.1 (λ q. refl) at
+    release_drives (Take x k) is at (step, jobs, queued, told, took, e) = release_takes x k step jobs _ is at told e (λ q. refl)
+    release_drives (Calling x k) is at (job, jobs, hand, told, e) =
+        let n : Machine Deferral = gives m (Calling x k) jobs in
+        tells (CalledReply job.ticket Ran) (with_machine seat n) _ tt told e (λ q. refl)
+        (on Release drive (with_machine seat n) refl (release_job x k jobs at))
+    release_drives LoadSeal is at did = release_steps (with_stage m (Put old.epoch)) _ did.0 did.1 (λ q. refl) at
+    release_drives (Put seal) is at (step, queued, told, put, e) = release_puts seal step _ is at told e (λ q. refl)
+    release_drives StoreUnpinned is at did =
+        let n : Machine Deferral = hears m StoreUnpinned Stored in
+        tells (UnpinnedReply p) (with_word seat Unpinned n) _ tt did.0 did.1 (λ q. refl)
+        (on Release drive (with_word seat Unpinned n) refl
+        (subst (λ (a : Action). ReleaseOn Unpinned n (after_unpin a m.full)) (sym action)
+        (release_unpinned (KeptBag b seat) (Unpinned ≡ Unpinned) m.full at refl)))
+    release_drives StoreFree is at did = tells (Done Released) (free_seat old.sizes) _ tt did.0 did.1 (λ q. refl) tt
+    release_drives End is at did = release_ends at.0 at.1 did
+    release_drives _ is at did = absurd at
+
+  -- EVERY GO
+
+  drives : (c : Call) → seat.progress ≡ Driven c → m.action ≡ action_of c → SinceAt b (quiet p) seat c m.stage
+      → Drives old p seat c m.stage (ask_at m.stage) reply aside → Goal
+  drives (Defer g) drive action at did = defer_drives g drive action m.stage refl at did
+  drives (Flush g) drive action at did = flush_drives g drive action m.stage refl at did
+  drives Release drive action at did = release_drives drive action m.stage refl at did
+  drives Pin drive action at did = plain_drives Pin drive refl m.stage (ask_at m.stage) did
+  drives (Unpin g) drive action at did = plain_drives (Unpin g) drive refl m.stage (ask_at m.stage) did
+  drives (Repin g) drive action at did = plain_drives (Repin g) drive refl m.stage (ask_at m.stage) did
+  drives (Pause g) drive action at did = plain_drives (Pause g) drive refl m.stage (ask_at m.stage) did
+  drives (Resume g) drive action at did = plain_drives (Resume g) drive refl m.stage (ask_at m.stage) did
+
+  pub goes : AllLinked old → (progress : Progress) → seat.progress ≡ progress → Goes old p seat progress reply aside → Goal
+  goes linked Idle at did = tells (Refused IdleFault) seat old tt did.0 did.1 same_seat
+      (since_more b (quiet p) (later p) seat more (h p))
+    where
+      same_seat : (q : ℕ) → seat_of old q ≡ seat_of (with_seat old p seat) q
+      same_seat q = sym (ap (λ (seats : List Seat). slice_index_or seats q (free_seat old.sizes)) (set-get_or old.seats p (free_seat old.sizes)))
+
+      more : quiet p → later p
+      more was = (was, λ own. rest seat (did.1 ∙ ap (λ (seats : List Seat). record old { seats = seats }) (sym (set-get_or old.seats p (free_seat old.sizes)))))
+  goes linked (Driven c) at did =
+      let driven : IsDriven c m seat.guards = follows_at old.sizes seat (linked.seats p) (Driven c) at in
+      drives c at driven.action (subst (λ (progress : Progress). SinceBy b (quiet p) seat progress) at (h p)) did
+  goes linked CallsNow at did = tells (CalledNow Ran) (record seat { progress = Ends (Done UnitAnswer) }) _ tt did.0 did.1 (λ q. refl) tt
+  goes linked (Ends last) at did =
+      let done : last ≡ Done UnitAnswer = (follows_at old.sizes seat (linked.seats p) (Ends last) at).1 in
+      tells (Done UnitAnswer) (record seat { progress = Idle }) _ tt (did.0 ∙ done) did.1 (λ q. refl) tt
+
+-- EVERY STEP
+
+module _ (old new : State) (reply : Reply) (before : ℕ → Seat) (quiet : ℕ → Type 0) (h : AllSince before quiet old)
+    (linked : AllLinked old) where
+  abbrev aside_of : State
+  aside_of = with_places new old.places old.seen
+
+  abbrev Shown : Step → Reply → Type 0
+  Shown step told = ShowsLeft before quiet old step told new
+
+  -- nothing has changed
+  unchanged : aside_of ≡ old → (new.places ≡ old.places) × (new.seen ≡ old.seen) → new ≡ old
+  unchanged e same = ap₂ (λ (places : List Bool) (seen : List ℕ). with_places new places seen) same.0 same.1 ∙ e
+
+  -- no seat is written
+  stays : (last : State) → aside_of ≡ last → ((q : ℕ) → seat_of last q ≡ seat_of old q) → AllSince before quiet new
+  stays last e same q = subst (Since (before q) (quiet q)) (sym (ap (λ (s : State). seat_of s q) e ∙ same q)) (h q)
+
+  registers : (p : ℕ) → p < length old.seats → aside_of ≡ with_seat old p (record (free_seat old.sizes) { word = Unpinned })
+      → AllSince before quiet new
+  registers p there e q = elim (same_or_other q p) [
+    | inl same ↦ subst (λ (k : ℕ). Since (before k) (quiet k) (seat_of new k)) (sym same)
+        (subst (Since (before p) (quiet p)) (sym (ap (λ (s : State). seat_of s p) e ∙ seat_written old p _ there)) tt)
+    | inr other ↦ subst (Since (before q) (quiet q)) (sym (ap (λ (s : State). seat_of s q) e ∙ seat_other old p q _ other)) (h q)
+  ]
+
+  begun : (p : ℕ) (c : Call) → word_of old p ≢ Free → aside_of ≡ with_seat old p (begun_seat c (seat_of old p))
+      → AllSince (before_after before old (Begin p c) Began) (quiet_after quiet old (Begin p c) Began new) new
+  begun p c taken e q = elim (same_or_other q p) [
+    | inl same ↦ subst (λ (k : ℕ). Since (if p == k then seat_of old p else before k) (k ≢ p → quiet k) (seat_of new k)) (sym same) own
+    | inr other ↦ subst (λ (b : Seat). Since b (q ≢ p → quiet q) (seat_of new q)) (sym (at_other q other))
+        (subst (Since (before q) (q ≢ p → quiet q)) (sym (ap (λ (s : State). seat_of s q) e ∙ seat_other old p q _ other))
+        (since_more (before q) (quiet q) (q ≢ p → quiet q) (seat_of old q) (λ was ne. was) (h q)))
+  ]
+    where
+      at_same : (if p == p then seat_of old p else before p) ≡ seat_of old p
+      at_same = grind (arith, nat_tests)
+
+      at_other : (q : ℕ) → q ≢ p → (if p == q then seat_of old p else before q) ≡ before q
+      at_other q other = grind (arith, nat_tests)
+
+      own : Since (if p == p then seat_of old p else before p) (p ≢ p → quiet p) (seat_of new p)
+      own = subst (λ (b : Seat). Since b (p ≢ p → quiet p) (seat_of new p)) (sym at_same)
+          (subst (Since (seat_of old p) (p ≢ p → quiet p))
+          (sym (ap (λ (s : State). seat_of s p) e ∙ seat_written old p _ (seat_there old p taken)))
+          (begun_since (p ≢ p → quiet p) (seat_of old p) c (λ ne. absurd (ne refl))))
+
+  begins : (p : ℕ) (c : Call) (fault : Option Fault) → refusal c (seat_of old p) old.tickets ≡ fault
+      → (new.places ≡ old.places) × (new.seen ≡ old.seen) → Begins old p c fault reply aside_of → Shown (Begin p c) reply
+  begins p c (Some fault) at same did = subst (Shown (Begin p c)) (sym did.0)
+      (unchanged did.1 same, stays old did.1 (λ q. refl))
+  begins p c None at same did = subst (Shown (Begin p c)) (sym did.0)
+      (tt, begun p c (begin_given c (seat_of old p) old.tickets at).taken did.1)
+
+  -- a Go of a position that is free
+  goes_free : (p : ℕ) → reply ≡ Refused NotRegistered → aside_of ≡ old → Shown (Go p) reply
+  goes_free p told e = (
+    subst (λ (r : Reply). LeavesAtRefusal before quiet old (Go p) r new) (sym told) tt,
+    λ q. subst (Since (before q) (quiet_after quiet old (Go p) reply new q)) (sym (ap (λ (s : State). seat_of s q) e))
+        (since_more (before q) (quiet q) _ (seat_of old q) (λ was. (was, λ own. apart)) (h q)),
+  )
+    where
+      apart : LeavesRest old p new
+      apart = record {
+        epoch = ap (λ (s : State). s.epoch) e;
+        bags = ap (λ (s : State). s.queued) e;
+        tickets = ap (λ (s : State). s.tickets) e;
+        others = λ q other. ap (λ (s : State). seat_of s q) e;
+      }
+
+  ends_all : (ending : Ending) → EndGoes old ending reply aside_of → AllSince before quiet new
+  ends_all Open did = stays old did.1 (λ q. refl)
+  ends_all Over did = stays old did.1 (λ q. refl)
+  ends_all (Emptying (job ∷ jobs) n) did = stays _ did.1 (λ q. refl)
+  ends_all (Emptying [] n) (inl did) = stays _ did.4 (λ q. refl)
+  ends_all (Emptying [] n) (inr did) = stays _ did.2 (λ q. refl)
+
+  step_shown : (step : Step) → Takes old step reply new → Shown step reply
+  step_shown Register (inl did, same) = subst (Shown Register) (sym did.5) (tt, registers did.0 did.2 did.6)
+  step_shown Register (inr (inl did), same) = subst (Shown Register) (sym did.2) (unchanged did.3 same, stays old did.3 (λ q. refl))
+  step_shown Register (inr (inr did), same) = subst (Shown Register) (sym did.1) (unchanged did.2 same, stays old did.2 (λ q. refl))
+  step_shown (Begin p c) (did, same) = begins p c (refusal c (seat_of old p) old.tickets) refl same did
+  step_shown (Go p) (inl did, sees) = goes_free p did.1 did.2
+  step_shown (Go p) (inr did, sees) = goes old new reply before quiet h p did.0 linked (seat_of old p).progress refl did.1
+  step_shown EndStep (inl did, same) = subst (Shown EndStep) (sym did.2) (tt, stays _ did.3 (λ q. refl))
+  step_shown EndStep (inr (inl did), same) = subst (Shown EndStep) (sym did.2) (unchanged did.3 same, stays old did.3 (λ q. refl))
+  step_shown EndStep (inr (inr did), same) = subst (Shown EndStep) (sym did.1) (unchanged did.2 same, stays old did.2 (λ q. refl))
+  step_shown EndGo (did, sees) = (tt, ends_all old.ending did)
+
+-- WHOLE RUNS
+
+refused_from : (old new : State) (log : List Entry) (before : ℕ → Seat) (quiet : ℕ → Type 0) → AllSince before quiet old
+    → AllLinked old → (run : Runs old log new) → RefusedAlong before quiet old new log run
+refused_from old new [] before quiet h linked run = tt
+refused_from old new (x ∷ log) before quiet h linked (mid, did, run) =
+    let shown : ShowsLeft before quiet old x.step x.reply mid = step_shown old mid x.reply before quiet h linked x.step did in
+    (shown.0, refused_from mid new log _ _ shown.1 (step_linked old mid x.step x.reply linked did) run)
+
+pub refused_along : (s new : State) (log : List Entry) → IsFresh s → (run : Runs s log new)
+    → RefusedAlong (seat_of s) all_quiet s new log run
+refused_along s new log fresh run = refused_from s new log (seat_of s) all_quiet none (fresh_linked s fresh) run
+  where
+    none : AllSince (seat_of s) all_quiet s
+    none q = subst (λ (seat : Seat). Since (seat_of s q) (Unit {0}) seat) (sym (fresh.free q)) tt

@@ -1,0 +1,137 @@
+-- What each participant whose call may yet be refused has left as it was since the call began.
+use Rattle.std.proofs.Common.{◌≡◌, ℕ, ◌==◌, Bool, true, false, List, [], ◌∷◌, length, Some, refl}
+use Rattle.epoch_machine.specs.declared.machine.Action.TheVariants.{Release as ReleaseAction}
+use Rattle.epoch_machine.specs.declared.machine.Stage.{Stage}
+use Rattle.epoch_machine.specs.declared.machine.Stage.TheVariants.{LoadPin, StorePin, ReloadPin, LoadScan, Scan, Advance, Take, Calling, LoadSeal, Put, Keep, StoreUnpinned, StoreFree, End}
+use Rattle.epoch_machine.specs.Machine.{is_empty, after_collect, after_unpin}
+use Rattle.epoch_laws.specs.declared.step.Call.{Call}
+use Rattle.epoch_laws.specs.declared.step.Call.TheVariants.{Pin, Unpin, Repin, Pause, Resume, Defer, Flush, Release}
+use Rattle.epoch_laws.specs.declared.step.Deferral.{Deferral}
+use Rattle.epoch_laws.specs.declared.step.Progress.{Progress}
+use Rattle.epoch_laws.specs.declared.step.Progress.TheVariants.{Driven}
+use Rattle.epoch_laws.specs.declared.step.Word.TheVariants.{Unpinned}
+use Rattle.epoch_laws.specs.Run.{Seat, State, seat_of, begun_seat}
+use Rattle.epoch_laws.proofs.ToldAtStages.{either_stage}
+
+-- guards, the paused one and the held bag
+abbrev pub KeptBag : (before after : Seat) → Type 0
+KeptBag before after =
+    (after.guards ≡ before.guards) × (after.paused ≡ before.paused) × (after.machine.held ≡ before.machine.held)
+
+abbrev pub Kept : (before after : Seat) → Type 0
+Kept before after = (after.word ≡ before.word) × KeptBag before after
+
+-- BY THE STAGE OF EACH CALL
+
+abbrev pub DeferAt : Type 0 → Bool → Stage → Type 0
+DeferAt kept full LoadSeal = kept
+DeferAt kept full (Put e) = kept
+DeferAt kept full Keep = full ≡ false
+DeferAt kept full End = full ≡ true → kept
+DeferAt kept full _ = ⊥
+
+abbrev pub FlushAt : Type 0 → Bool → Stage → Type 0
+FlushAt kept full LoadSeal = kept
+FlushAt kept full (Put e) = kept
+FlushAt kept full LoadScan = full ≡ true → kept
+FlushAt kept full (Scan e k) = full ≡ true → kept
+FlushAt kept full (Advance e) = full ≡ true → kept
+FlushAt kept full (Take x k) = full ≡ true → kept
+FlushAt kept full (Calling x k) = full ≡ true → kept
+FlushAt kept full End = full ≡ true → kept
+FlushAt kept full _ = ⊥
+
+abbrev pub ReleaseAt : Type 0 → Type 0 → Bool → Stage → Type 0
+ReleaseAt kept off full LoadPin = kept
+ReleaseAt kept off full (StorePin e) = kept
+ReleaseAt kept off full ReloadPin = kept
+ReleaseAt kept off full LoadScan = kept
+ReleaseAt kept off full (Scan e k) = kept
+ReleaseAt kept off full (Advance e) = kept
+ReleaseAt kept off full (Take x k) = kept
+ReleaseAt kept off full (Calling x k) = kept
+ReleaseAt kept off full LoadSeal = kept
+ReleaseAt kept off full (Put e) = kept
+ReleaseAt kept off full StoreUnpinned = full ≡ true → kept
+ReleaseAt kept off full StoreFree = Unit {0}
+ReleaseAt kept off full End = (full ≡ true → kept) × off
+ReleaseAt kept off full _ = ⊥
+
+abbrev pub SinceAt : Seat → Type 0 → Seat → Call → Stage → Type 0
+SinceAt b quiet a (Defer g) s = DeferAt (quiet × Kept b a) a.machine.full s
+SinceAt b quiet a (Flush g) s = FlushAt (Kept b a) a.machine.full s
+SinceAt b quiet a Release s = ReleaseAt (KeptBag b a) (a.word ≡ Unpinned) a.machine.full s
+SinceAt b quiet a _ s = Unit {0}
+
+abbrev pub SinceBy : Seat → Type 0 → Seat → Progress → Type 0
+SinceBy b quiet a (Driven c) = SinceAt b quiet a c a.machine.stage
+SinceBy b quiet a _ = Unit {0}
+
+abbrev pub Since : Seat → Type 0 → Seat → Type 0
+Since b quiet a = SinceBy b quiet a a.progress
+
+abbrev pub AllSince : (ℕ → Seat) → (ℕ → Type 0) → State → Type 0
+AllSince before quiet s = (q : ℕ) → Since (before q) (quiet q) (seat_of s q)
+
+-- a call that is never told that the bags are full
+abbrev pub is_plain : Call → Bool
+is_plain (Defer g) = false
+is_plain (Flush g) = false
+is_plain Release = false
+is_plain _ = true
+
+pub plain_since : (b : Seat) (quiet : Type 0) (a : Seat) (s : Stage) (c : Call) → is_plain c ≡ true → SinceAt b quiet a c s
+plain_since b quiet a s (Defer g) plain = absurd (cc (plain))
+plain_since b quiet a s (Flush g) plain = absurd (cc (plain))
+plain_since b quiet a s Release plain = absurd (cc (plain))
+plain_since b quiet a s _ plain = tt
+
+-- QUIET STAYS
+
+defer_more : (P Q : Type 0) (full : Bool) (s : Stage) → (P → Q) → DeferAt P full s → DeferAt Q full s
+defer_more P Q full LoadSeal more at = more at
+defer_more P Q full (Put e) more at = more at
+defer_more P Q full Keep more at = at
+defer_more P Q full End more at = λ is. more (at is)
+defer_more P Q full _ more at = absurd at
+
+pub since_more : (b : Seat) (P Q : Type 0) (a : Seat) → (P → Q) → Since b P a → Since b Q a
+since_more b P Q a more at = by_progress a.progress at
+  where
+    by_call : (c : Call) (s : Stage) → SinceAt b P a c s → SinceAt b Q a c s
+    by_call (Defer g) s at = defer_more (P × Kept b a) (Q × Kept b a) a.machine.full s (λ both. (more both.0, both.1)) at
+    by_call (Flush g) s at = at
+    by_call Release s at = at
+    by_call _ s at = tt
+
+    by_progress : (progress : Progress) → SinceBy b P a progress → SinceBy b Q a progress
+    by_progress (Driven c) at = by_call c a.machine.stage at
+    by_progress _ at = tt
+
+-- HOW A CALL BEGINS
+
+pub begun_since : (quiet : Type 0) (seat : Seat) (c : Call) → quiet → Since seat quiet (begun_seat c seat)
+begun_since quiet seat (Defer (Some g)) q =
+    either_stage (DeferAt (quiet × Kept seat seat) false) (length seat.machine.held == seat.machine.sizes.bag_jobs)
+    LoadSeal Keep (q, (refl, (refl, refl, refl))) refl
+begun_since quiet seat (Flush (Some g)) q = either_stage (FlushAt (Kept seat seat) false) (is_empty seat.machine.held)
+    LoadScan LoadSeal (λ is. absurd (cc (is))) (refl, (refl, refl, refl))
+begun_since quiet seat Release q = (refl, refl, refl)
+begun_since quiet seat Pin q = tt
+begun_since quiet seat (Resume (Some g)) q = tt
+begun_since quiet seat (Unpin g) q = tt
+begun_since quiet seat (Repin (Some g)) q = tt
+begun_since quiet seat (Pause (Some g)) q = tt
+begun_since quiet seat _ q = tt
+
+-- HOW A RELEASE GOES ON
+
+pub release_collected : (kept off : Type 0) (full : Bool) (held : List Deferral) → kept
+    → ReleaseAt kept off full (after_collect ReleaseAction held)
+release_collected kept off full [] k = λ is. k
+release_collected kept off full (job ∷ jobs) k = k
+
+pub release_unpinned : (kept off : Type 0) (full : Bool) → (full ≡ true → kept) → off
+    → ReleaseAt kept off full (after_unpin ReleaseAction full)
+release_unpinned kept off true k o = (k, o)
+release_unpinned kept off false k o = tt
