@@ -30,11 +30,12 @@ use Rattle.epoch_laws.specs.declared.step.Step.{Step}
 use Rattle.epoch_laws.specs.declared.step.Step.TheVariants.{Register, Begin, Go, End as EndStep, EndGo}
 use Rattle.epoch_laws.specs.declared.step.Word.{Word}
 use Rattle.epoch_laws.specs.declared.step.Word.TheVariants.{Free, Unpinned, Pinned}
-use Rattle.epoch_laws.specs.Run.{Bag, Seat, State, seat_of, word_of, number_of, with_seat, with_word, with_machine, with_places, free_seat, refusal, begun_seat, Ending, Open, Emptying, Over, ended_seat, end_reply, full_or_done, Begins, Performs, Drives, Goes, EndGoes, Takes, Runs, IsFresh}
-use Rattle.epoch_laws.specs.Refusals.{before_after, LeavesRest, quiet_after, KeepsBag, Leaves, LeavesAtRefusal, RefusedAlong, all_quiet}
+use Rattle.epoch_laws.specs.Run.{Bag, Seat, State, seat_of, turn_at, turn_of, word_of, number_of, with_seat, with_word, with_machine, with_places, free_seat, refusal, begun_seat, Ending, Open, Emptying, Over, ended_seat, end_reply, full_or_done, Begins, Performs, Drives, Goes, EndGoes, Takes, Runs, IsFresh}
+use Rattle.epoch_laws.specs.Refusals.{before_after, LeavesRest, quiet_after, Collects, collected_after, KeepsBag, Leaves, LeavesAtRefusal, RefusedAlong, all_quiet, none_collected}
 use Rattle.epoch_laws.proofs.SeatLemmas.{seat_written, seat_other, seat_there, same_or_other, begin_given}
 use Rattle.epoch_laws.proofs.SeatLinks.{action_of, AllLinked, IsDriven, follows_at}
 use Rattle.epoch_laws.proofs.Linked.{step_linked, fresh_linked}
+use Rattle.epoch_laws.proofs.PutsFind.{turn_taken}
 use Rattle.epoch_laws.proofs.ToldAtStages.{either_stage}
 use Rattle.epoch_laws.proofs.RefusalsSince.{KeptBag, Kept, DeferAt, FlushAt, ReleaseAt, SinceAt, SinceBy, Since, AllSince, is_plain, plain_since, since_more, begun_since, release_collected, release_unpinned}
 
@@ -42,13 +43,14 @@ keeps_bag : (b a : Seat) → KeptBag b a → KeepsBag b a
 keeps_bag b a kept = record { guards = kept.0; paused = kept.1; held = kept.2 }
 
 -- what a step has to show
-abbrev ShowsLeft : (ℕ → Seat) → (ℕ → Type 0) → State → Step → Reply → State → Type 0
-ShowsLeft before quiet old step reply new = LeavesAtRefusal before quiet old step reply new
-    × AllSince (before_after before old step reply) (quiet_after quiet old step reply new) new
+abbrev ShowsLeft : (ℕ → Seat) → (quiet collected : ℕ → Type 0) → State → Step → Reply → State → Type 0
+ShowsLeft before quiet collected old step reply new = LeavesAtRefusal before quiet collected old step reply new
+    × AllSince (before_after before old step reply) (quiet_after quiet old step reply new)
+    (collected_after collected old step reply) new
 
 -- A STEP GO
 
-module _ (old new : State) (reply : Reply) (before : ℕ → Seat) (quiet : ℕ → Type 0) (h : AllSince before quiet old) (p : ℕ)
+module _ (old new : State) (reply : Reply) (before : ℕ → Seat) (quiet collected : ℕ → Type 0) (h : AllSince before quiet collected old) (p : ℕ)
     (taken : word_of old p ≢ Free) where
   abbrev seat : Seat
   seat = seat_of old p
@@ -65,8 +67,11 @@ module _ (old new : State) (reply : Reply) (before : ℕ → Seat) (quiet : ℕ 
   abbrev later : ℕ → Type 0
   later = quiet_after quiet old (Go p) reply new
 
+  abbrev got : ℕ → Type 0
+  got = collected_after collected old (Go p) reply
+
   abbrev Goal : Type 0
-  Goal = ShowsLeft before quiet old (Go p) reply new
+  Goal = ShowsLeft before quiet collected old (Go p) reply new
 
   -- the seats of this state are those before the step, but for that of p
   abbrev Writes : State → Seat → Type 0
@@ -75,22 +80,22 @@ module _ (old new : State) (reply : Reply) (before : ℕ → Seat) (quiet : ℕ 
   others_more : (q : ℕ) → q ≢ p → quiet q → later q
   others_more q other was = (was, λ same. absurd (other same))
 
-  tells : (tell : Reply) (after : Seat) (last : State) → LeavesAtRefusal before quiet old (Go p) tell new
-      → reply ≡ tell → aside ≡ last → Writes last after → SinceBy b (later p) after after.progress → Goal
+  tells : (tell : Reply) (after : Seat) (last : State) → LeavesAtRefusal before quiet collected old (Go p) tell new
+      → reply ≡ tell → aside ≡ last → Writes last after → SinceBy b (later p) (got p) after after.progress → Goal
   tells tell after last leaves told e writes own = (
-    subst (λ (r : Reply). LeavesAtRefusal before quiet old (Go p) r new) (sym told) leaves,
+    subst (λ (r : Reply). LeavesAtRefusal before quiet collected old (Go p) r new) (sym told) leaves,
     all_since,
   )
     where
       found : (q : ℕ) → seat_of new q ≡ seat_of (with_seat old p after) q
       found q = ap (λ (s : State). seat_of s q) e ∙ writes q
 
-      all_since : AllSince before later new
+      all_since : AllSince before later got new
       all_since q = elim (same_or_other q p) [
-        | inl same ↦ subst (λ (k : ℕ). Since (before k) (later k) (seat_of new k)) (sym same)
-            (subst (Since b (later p)) (sym (found p ∙ seat_written old p after (seat_there old p taken))) own)
-        | inr other ↦ subst (Since (before q) (later q)) (sym (found q ∙ seat_other old p q after other))
-            (since_more (before q) (quiet q) (later q) (seat_of old q) (others_more q other) (h q))
+        | inl same ↦ subst (λ (k : ℕ). Since (before k) (later k) (got k) (seat_of new k)) (sym same)
+            (subst (Since b (later p) (got p)) (sym (found p ∙ seat_written old p after (seat_there old p taken))) own)
+        | inr other ↦ subst (Since (before q) (later q) (got q)) (sym (found q ∙ seat_other old p q after other))
+            (since_more (before q) (quiet q) (later q) (collected q) (got q) (seat_of old q) (others_more q other) inl (h q))
       ]
 
   -- only the seat of p is written
@@ -103,16 +108,16 @@ module _ (old new : State) (reply : Reply) (before : ℕ → Seat) (quiet : ℕ 
   }
 
   module _ (c : Call) (drive : seat.progress ≡ Driven c) where
-    on : (after : Seat) → after.progress ≡ seat.progress → SinceAt b (later p) after c after.machine.stage
-        → SinceBy b (later p) after after.progress
-    on after same at = subst (λ (progress : Progress). SinceBy b (later p) after progress) (sym (same ∙ drive)) at
+    on : (after : Seat) → after.progress ≡ seat.progress → SinceAt b (later p) (got p) after c after.machine.stage
+        → SinceBy b (later p) (got p) after after.progress
+    on after same at = subst (λ (progress : Progress). SinceBy b (later p) (got p) after progress) (sym (same ∙ drive)) at
 
     -- a call that is never told so
     plain_goes : is_plain c ≡ true → (tell : Reply) (w : Word) (n : Machine Deferral) (last : State)
-        → LeavesAtRefusal before quiet old (Go p) tell new
+        → LeavesAtRefusal before quiet collected old (Go p) tell new
         → reply ≡ tell → aside ≡ last → Writes last (with_word seat w n) → Goal
     plain_goes plain tell w n last leaves told e writes = tells tell (with_word seat w n) last leaves told e writes
-        (on (with_word seat w n) refl (plain_since b (later p) (with_word seat w n) n.stage c plain))
+        (on (with_word seat w n) refl (plain_since b (later p) (got p) (with_word seat w n) n.stage c plain))
 
     plain_performs : is_plain c ≡ true → (s : Stage) (ask : Ask) → Performs old p seat s ask reply aside → Goal
     plain_performs plain s LoadEpoch did =
@@ -140,13 +145,13 @@ module _ (old new : State) (reply : Reply) (before : ℕ → Seat) (quiet : ℕ 
     plain_ends : is_plain c ≡ true → (reply ≡ end_reply c seat) × (aside ≡ with_seat old p (ended_seat c seat)) → Goal
     plain_ends plain did = tells (end_reply c seat) (ended_seat c seat) _ (by_call c plain) did.0 did.1 (λ q. refl) (rests c)
       where
-        by_call : (d : Call) → is_plain d ≡ true → LeavesAtRefusal before quiet old (Go p) (end_reply d seat) new
+        by_call : (d : Call) → is_plain d ≡ true → LeavesAtRefusal before quiet collected old (Go p) (end_reply d seat) new
         by_call (Defer g) plain = absurd (cc (plain))
         by_call (Flush g) plain = absurd (cc (plain))
         by_call Release plain = absurd (cc (plain))
         by_call _ plain = tt
 
-        rests : (d : Call) → SinceBy b (later p) (ended_seat d seat) (ended_seat d seat).progress
+        rests : (d : Call) → SinceBy b (later p) (got p) (ended_seat d seat) (ended_seat d seat).progress
         rests Pin = tt
         rests (Unpin (Some g)) = tt
         rests (Pause (Some g)) = tt
@@ -159,15 +164,15 @@ module _ (old new : State) (reply : Reply) (before : ℕ → Seat) (quiet : ℕ 
 
     -- the machine goes on
     steps : (n : Machine Deferral) (last : State) → reply ≡ Stepped → aside ≡ last → Writes last (with_machine seat n)
-        → SinceAt b (later p) (with_machine seat n) c n.stage → Goal
+        → SinceAt b (later p) (got p) (with_machine seat n) c n.stage → Goal
     steps n last told e writes at = tells Stepped (with_machine seat n) last tt told e writes (on (with_machine seat n) refl at)
 
   -- a call that is refused at its end, or done
   full_or_not : (c : Call) (full : Bool) → seat.progress ≡ Driven c
-      → (full ≡ true → Leaves (quiet_after quiet old (Go p) (Refused BagsFull) new p) (Driven c) b (seat_of new p))
-      → LeavesAtRefusal before quiet old (Go p) (full_or_done full) new
+      → (full ≡ true → Leaves (quiet_after quiet old (Go p) (Refused BagsFull) new p) (collected p) (Driven c) b (seat_of new p))
+      → LeavesAtRefusal before quiet collected old (Go p) (full_or_done full) new
   full_or_not c true drive leaves =
-      subst (λ (progress : Progress). Leaves (quiet_after quiet old (Go p) (Refused BagsFull) new p) progress b (seat_of new p))
+      subst (λ (progress : Progress). Leaves (quiet_after quiet old (Go p) (Refused BagsFull) new p) (collected p) progress b (seat_of new p))
       (sym drive) (leaves refl)
   full_or_not c false drive leaves = tt
 
@@ -203,9 +208,9 @@ module _ (old new : State) (reply : Reply) (before : ℕ → Seat) (quiet : ℕ 
         wrote = ap (λ (s : State). seat_of s p) did.1 ∙ seat_written old p _ (seat_there old p taken)
 
         leaves : m.full ≡ true
-            → Leaves (quiet_after quiet old (Go p) (Refused BagsFull) new p) (Driven (Defer g)) b (seat_of new p)
+            → Leaves (quiet_after quiet old (Go p) (Refused BagsFull) new p) (collected p) (Driven (Defer g)) b (seat_of new p)
         leaves full = subst
-            (λ (after : Seat). Leaves (quiet_after quiet old (Go p) (Refused BagsFull) new p) (Driven (Defer g)) b after)
+            (λ (after : Seat). Leaves (quiet_after quiet old (Go p) (Refused BagsFull) new p) (collected p) (Driven (Defer g)) b after)
             (sym wrote)
             (((at full).0, λ own. rest (ended_seat (Defer g) seat) did.1), (at full).1.0, keeps_bag b (ended_seat (Defer g) seat) (at full).1.1)
 
@@ -225,28 +230,36 @@ module _ (old new : State) (reply : Reply) (before : ℕ → Seat) (quiet : ℕ 
 
   module _ (g : Option ℕ) (drive : seat.progress ≡ Driven (Flush g)) (action : m.action ≡ FlushAction) where
     abbrev FlushOn : Machine Deferral → Stage → Type 0
-    FlushOn n s = FlushAt (Kept b (with_machine seat n)) n.full s
+    FlushOn n s = FlushAt (Kept b (with_machine seat n)) (got p) n.full s
 
     flush_steps : (n : Machine Deferral) (last : State) → reply ≡ Stepped → aside ≡ last → Writes last (with_machine seat n)
         → FlushOn n n.stage → Goal
     flush_steps n last told e writes at = steps (Flush g) drive n last told e writes at
 
-    flush_collected : (held : List Deferral) → (m.full ≡ true → Kept b seat)
-        → FlushAt (Kept b seat) m.full (after_collect m.action held)
-    flush_collected held at =
-        subst (λ (a : Action). FlushAt (Kept b seat) m.full (after_collect a held)) (sym action) at
+    -- a step of a collection
+    collects : (s : Stage) → m.stage ≡ s → Collects (ask_at s) → got p
+    collects s at collecting = inr (refl, subst Collects (sym asked) collecting)
+      where
+        asked : turn_of seat ≡ ask_at s
+        asked = turn_taken seat.word seat.progress m.stage taken
+            ∙ ap (λ (now : Progress). turn_at Unpinned now m.stage) drive ∙ ap ask_at at
 
-    flush_job : (x k : ℕ) (jobs : List Deferral) → (m.full ≡ true → Kept b seat)
-        → FlushAt (Kept b seat) m.full (after_job m x k jobs)
-    flush_job x k jobs at = either_stage (FlushAt (Kept b seat) m.full) (is_empty jobs) _ (Calling x k)
-        (either_stage (FlushAt (Kept b seat) m.full) (k + 1 == m.sizes.collect_bags) (after_collect m.action m.held) (Take x (k + 1))
-        (flush_collected m.held at) at) at
+    flush_collected : (held : List Deferral) → got p → (m.full ≡ true → Kept b seat)
+        → FlushAt (Kept b seat) (got p) m.full (after_collect m.action held)
+    flush_collected held collecting at =
+        subst (λ (a : Action). FlushAt (Kept b seat) (got p) m.full (after_collect a held)) (sym action) (collecting, at)
+
+    flush_job : (x k : ℕ) (jobs : List Deferral) → got p → (m.full ≡ true → Kept b seat)
+        → FlushAt (Kept b seat) (got p) m.full (after_job m x k jobs)
+    flush_job x k jobs collecting at = either_stage (FlushAt (Kept b seat) (got p) m.full) (is_empty jobs) _ (Calling x k)
+        (either_stage (FlushAt (Kept b seat) (got p) m.full) (k + 1 == m.sizes.collect_bags) (after_collect m.action m.held) (Take x (k + 1))
+        (flush_collected m.held collecting at) at) at
 
     flush_word : (e k w : ℕ) → (m.full ≡ true → Kept b seat)
-        → FlushAt (Kept b seat) m.full (past_word m.sizes.positions e k w)
-    flush_word e k w at = either_stage (FlushAt (Kept b seat) m.full) (holds_up e w) (Take e 0) _ at
-        (either_stage (FlushAt (Kept b seat) m.full) (k + 1 == m.sizes.positions) (scanned e) (Scan e (k + 1))
-        (either_stage (FlushAt (Kept b seat) m.full) (e == 2 ^ 63 - 1) (Take e 0) (Advance e) at at) at)
+        → FlushAt (Kept b seat) (got p) m.full (past_word m.sizes.positions e k w)
+    flush_word e k w at = either_stage (FlushAt (Kept b seat) (got p) m.full) (holds_up e w) (Take e 0) _ at
+        (either_stage (FlushAt (Kept b seat) (got p) m.full) (k + 1 == m.sizes.positions) (scanned e) (Scan e (k + 1))
+        (either_stage (FlushAt (Kept b seat) (got p) m.full) (e == 2 ^ 63 - 1) (Take e 0) (Advance e) at at) at)
 
     flush_puts : (seal : ℕ) (step : PutStep) (last : State) → m.stage ≡ Put seal → Kept b seat → reply ≡ Stepped
         → aside ≡ last → Writes last (with_machine seat (put_heard m step)) → Goal
@@ -261,25 +274,25 @@ module _ (old new : State) (reply : Reply) (before : ℕ → Seat) (quiet : ℕ 
         → Writes last (with_machine seat (took_heard m (Take x k) step jobs)) → Goal
     flush_takes x k TakeAgain jobs last at kept told e writes = flush_steps m last told e writes (subst (FlushOn m) (sym at) kept)
     flush_takes x k Empty jobs last at kept told e writes =
-        flush_steps (took_heard m (Take x k) Empty jobs) last told e writes (flush_collected m.held kept)
+        flush_steps (took_heard m (Take x k) Empty jobs) last told e writes (flush_collected m.held (collects (Take x k) at tt) kept)
     flush_takes x k Got jobs last at kept told e writes =
-        flush_steps (took_heard m (Take x k) Got jobs) last told e writes (flush_job x k jobs kept)
+        flush_steps (took_heard m (Take x k) Got jobs) last told e writes (flush_job x k jobs (collects (Take x k) at tt) kept)
 
-    flush_ends : (m.full ≡ true → Kept b seat)
+    flush_ends : collected p → (m.full ≡ true → Kept b seat)
         → (reply ≡ end_reply (Flush g) seat) × (aside ≡ with_seat old p (ended_seat (Flush g) seat)) → Goal
-    flush_ends at did = tells (full_or_done m.full) (ended_seat (Flush g) seat) _
+    flush_ends collecting at did = tells (full_or_done m.full) (ended_seat (Flush g) seat) _
         (full_or_not (Flush g) m.full drive leaves) did.0 did.1 (λ q. refl) tt
       where
         wrote : seat_of new p ≡ ended_seat (Flush g) seat
         wrote = ap (λ (s : State). seat_of s p) did.1 ∙ seat_written old p _ (seat_there old p taken)
 
         leaves : m.full ≡ true
-            → Leaves (quiet_after quiet old (Go p) (Refused BagsFull) new p) (Driven (Flush g)) b (seat_of new p)
+            → Leaves (quiet_after quiet old (Go p) (Refused BagsFull) new p) (collected p) (Driven (Flush g)) b (seat_of new p)
         leaves full = subst
-            (λ (after : Seat). Leaves (quiet_after quiet old (Go p) (Refused BagsFull) new p) (Driven (Flush g)) b after)
-            (sym wrote) ((at full).0, keeps_bag b (ended_seat (Flush g) seat) (at full).1)
+            (λ (after : Seat). Leaves (quiet_after quiet old (Go p) (Refused BagsFull) new p) (collected p) (Driven (Flush g)) b after)
+            (sym wrote) (collecting, (at full).0, keeps_bag b (ended_seat (Flush g) seat) (at full).1)
 
-    flush_drives : (s : Stage) → m.stage ≡ s → FlushAt (Kept b seat) m.full s
+    flush_drives : (s : Stage) → m.stage ≡ s → FlushAt (Kept b seat) (collected p) m.full s
         → Drives old p seat (Flush g) s (ask_at s) reply aside → Goal
     flush_drives LoadSeal is at did = flush_steps (with_stage m (Put old.epoch)) _ did.0 did.1 (λ q. refl) at
     flush_drives (Put seal) is at (step, queued, told, put, e) = flush_puts seal step _ is at told e (λ q. refl)
@@ -292,8 +305,8 @@ module _ (old new : State) (reply : Reply) (before : ℕ → Seat) (quiet : ℕ 
     flush_drives (Calling x k) is at (job, jobs, hand, told, e) =
         let n : Machine Deferral = gives m (Calling x k) jobs in
         tells (CalledReply job.ticket Ran) (with_machine seat n) _ tt told e (λ q. refl)
-        (on (Flush g) drive (with_machine seat n) refl (flush_job x k jobs at))
-    flush_drives End is at did = flush_ends at did
+        (on (Flush g) drive (with_machine seat n) refl (flush_job x k jobs (collects (Calling x k) is tt) at))
+    flush_drives End is at did = flush_ends at.0 at.1 did
     flush_drives _ is at did = absurd at
 
   -- A RELEASE
@@ -309,13 +322,13 @@ module _ (old new : State) (reply : Reply) (before : ℕ → Seat) (quiet : ℕ 
         → ReleaseOn seat.word n n.stage → Goal
     release_steps n last told e writes at = steps Release drive n last told e writes at
 
-    collected : (held : List Deferral) → KeptBag b seat → Own (after_collect m.action held)
-    collected held kept = subst (λ (a : Action). Own (after_collect a held)) (sym action)
+    release_to : (held : List Deferral) → KeptBag b seat → Own (after_collect m.action held)
+    release_to held kept = subst (λ (a : Action). Own (after_collect a held)) (sym action)
         (release_collected (KeptBag b seat) (seat.word ≡ Unpinned) m.full held kept)
 
     release_job : (x k : ℕ) (jobs : List Deferral) → KeptBag b seat → Own (after_job m x k jobs)
     release_job x k jobs kept = either_stage Own (is_empty jobs) _ (Calling x k)
-        (either_stage Own (k + 1 == m.sizes.collect_bags) (after_collect m.action m.held) (Take x (k + 1)) (collected m.held kept) kept) kept
+        (either_stage Own (k + 1 == m.sizes.collect_bags) (after_collect m.action m.held) (Take x (k + 1)) (release_to m.held kept) kept) kept
 
     release_word : (e k w : ℕ) → KeptBag b seat → Own (past_word m.sizes.positions e k w)
     release_word e k w kept = either_stage Own (holds_up e w) (Take e 0) _ kept
@@ -335,7 +348,7 @@ module _ (old new : State) (reply : Reply) (before : ℕ → Seat) (quiet : ℕ 
         → Writes last (with_machine seat (took_heard m (Take x k) step jobs)) → Goal
     release_takes x k TakeAgain jobs last at kept told e writes = release_steps m last told e writes (subst Own (sym at) kept)
     release_takes x k Empty jobs last at kept told e writes =
-        release_steps (took_heard m (Take x k) Empty jobs) last told e writes (collected m.held kept)
+        release_steps (took_heard m (Take x k) Empty jobs) last told e writes (release_to m.held kept)
     release_takes x k Got jobs last at kept told e writes =
         release_steps (took_heard m (Take x k) Got jobs) last told e writes (release_job x k jobs kept)
 
@@ -348,9 +361,9 @@ module _ (old new : State) (reply : Reply) (before : ℕ → Seat) (quiet : ℕ 
         wrote = ap (λ (s : State). seat_of s p) did.1 ∙ seat_written old p _ (seat_there old p taken)
 
         leaves : m.full ≡ true
-            → Leaves (quiet_after quiet old (Go p) (Refused BagsFull) new p) (Driven Release) b (seat_of new p)
+            → Leaves (quiet_after quiet old (Go p) (Refused BagsFull) new p) (collected p) (Driven Release) b (seat_of new p)
         leaves full = subst
-            (λ (after : Seat). Leaves (quiet_after quiet old (Go p) (Refused BagsFull) new p) (Driven Release) b after)
+            (λ (after : Seat). Leaves (quiet_after quiet old (Go p) (Refused BagsFull) new p) (collected p) (Driven Release) b after)
             (sym wrote) (off, keeps_bag b (ended_seat Release seat) (at full))
 
     release_drives : (s : Stage) → m.stage ≡ s → Own s → Drives old p seat Release s (ask_at s) reply aside → Goal
@@ -360,7 +373,7 @@ module _ (old new : State) (reply : Reply) (before : ℕ → Seat) (quiet : ℕ 
         tells (PinnedReply p) (with_word seat (Pinned e) n) _ tt did.0 did.1 (λ q. refl)
         (on Release drive (with_word seat (Pinned e) n) refl at)
     release_drives ReloadPin is at did = release_steps (with_stage m (after_pin m)) _ did.0 did.1 (λ q. refl)
-        (either_stage Own (m.pins == 1) LoadScan (after_collect m.action m.held) at (collected m.held at))
+        (either_stage Own (m.pins == 1) LoadScan (after_collect m.action m.held) at (release_to m.held at))
     release_drives LoadScan is at did = release_steps (with_stage m (Scan old.epoch 0)) _ did.0 did.1 (λ q. refl) at
     release_drives (Scan e k) is at did =
         let w : ℕ = number_of (word_of old k) in
@@ -385,7 +398,7 @@ module _ (old new : State) (reply : Reply) (before : ℕ → Seat) (quiet : ℕ 
 
   -- EVERY GO
 
-  drives : (c : Call) → seat.progress ≡ Driven c → m.action ≡ action_of c → SinceAt b (quiet p) seat c m.stage
+  drives : (c : Call) → seat.progress ≡ Driven c → m.action ≡ action_of c → SinceAt b (quiet p) (collected p) seat c m.stage
       → Drives old p seat c m.stage (ask_at m.stage) reply aside → Goal
   drives (Defer g) drive action at did = defer_drives g drive action m.stage refl at did
   drives (Flush g) drive action at did = flush_drives g drive action m.stage refl at did
@@ -398,7 +411,7 @@ module _ (old new : State) (reply : Reply) (before : ℕ → Seat) (quiet : ℕ 
 
   pub goes : AllLinked old → (progress : Progress) → seat.progress ≡ progress → Goes old p seat progress reply aside → Goal
   goes linked Idle at did = tells (Refused IdleFault) seat old tt did.0 did.1 same_seat
-      (since_more b (quiet p) (later p) seat more (h p))
+      (since_more b (quiet p) (later p) (collected p) (got p) seat more inl (h p))
     where
       same_seat : (q : ℕ) → seat_of old q ≡ seat_of (with_seat old p seat) q
       same_seat q = sym (ap (λ (seats : List Seat). slice_index_or seats q (free_seat old.sizes)) (set-get_or old.seats p (free_seat old.sizes)))
@@ -407,7 +420,7 @@ module _ (old new : State) (reply : Reply) (before : ℕ → Seat) (quiet : ℕ 
       more was = (was, λ own. rest seat (did.1 ∙ ap (λ (seats : List Seat). record old { seats = seats }) (sym (set-get_or old.seats p (free_seat old.sizes)))))
   goes linked (Driven c) at did =
       let driven : IsDriven c m seat.guards = follows_at old.sizes seat (linked.seats p) (Driven c) at in
-      drives c at driven.action (subst (λ (progress : Progress). SinceBy b (quiet p) seat progress) at (h p)) did
+      drives c at driven.action (subst (λ (progress : Progress). SinceBy b (quiet p) (collected p) seat progress) at (h p)) did
   goes linked CallsNow at did = tells (CalledNow Ran) (record seat { progress = Ends (Done UnitAnswer) }) _ tt did.0 did.1 (λ q. refl) tt
   goes linked (Ends last) at did =
       let done : last ≡ Done UnitAnswer = (follows_at old.sizes seat (linked.seats p) (Ends last) at).1 in
@@ -415,37 +428,38 @@ module _ (old new : State) (reply : Reply) (before : ℕ → Seat) (quiet : ℕ 
 
 -- EVERY STEP
 
-module _ (old new : State) (reply : Reply) (before : ℕ → Seat) (quiet : ℕ → Type 0) (h : AllSince before quiet old)
+module _ (old new : State) (reply : Reply) (before : ℕ → Seat) (quiet collected : ℕ → Type 0) (h : AllSince before quiet collected old)
     (linked : AllLinked old) where
   abbrev aside_of : State
   aside_of = with_places new old.places old.seen
 
   abbrev Shown : Step → Reply → Type 0
-  Shown step told = ShowsLeft before quiet old step told new
+  Shown step told = ShowsLeft before quiet collected old step told new
 
   -- nothing has changed
   unchanged : aside_of ≡ old → (new.places ≡ old.places) × (new.seen ≡ old.seen) → new ≡ old
   unchanged e same = ap₂ (λ (places : List Bool) (seen : List ℕ). with_places new places seen) same.0 same.1 ∙ e
 
   -- no seat is written
-  stays : (last : State) → aside_of ≡ last → ((q : ℕ) → seat_of last q ≡ seat_of old q) → AllSince before quiet new
-  stays last e same q = subst (Since (before q) (quiet q)) (sym (ap (λ (s : State). seat_of s q) e ∙ same q)) (h q)
+  stays : (last : State) → aside_of ≡ last → ((q : ℕ) → seat_of last q ≡ seat_of old q) → AllSince before quiet collected new
+  stays last e same q = subst (Since (before q) (quiet q) (collected q)) (sym (ap (λ (s : State). seat_of s q) e ∙ same q)) (h q)
 
   registers : (p : ℕ) → p < length old.seats → aside_of ≡ with_seat old p (record (free_seat old.sizes) { word = Unpinned })
-      → AllSince before quiet new
+      → AllSince before quiet collected new
   registers p there e q = elim (same_or_other q p) [
-    | inl same ↦ subst (λ (k : ℕ). Since (before k) (quiet k) (seat_of new k)) (sym same)
-        (subst (Since (before p) (quiet p)) (sym (ap (λ (s : State). seat_of s p) e ∙ seat_written old p _ there)) tt)
-    | inr other ↦ subst (Since (before q) (quiet q)) (sym (ap (λ (s : State). seat_of s q) e ∙ seat_other old p q _ other)) (h q)
+    | inl same ↦ subst (λ (k : ℕ). Since (before k) (quiet k) (collected k) (seat_of new k)) (sym same)
+        (subst (Since (before p) (quiet p) (collected p)) (sym (ap (λ (s : State). seat_of s p) e ∙ seat_written old p _ there)) tt)
+    | inr other ↦ subst (Since (before q) (quiet q) (collected q)) (sym (ap (λ (s : State). seat_of s q) e ∙ seat_other old p q _ other)) (h q)
   ]
 
   begun : (p : ℕ) (c : Call) → word_of old p ≢ Free → aside_of ≡ with_seat old p (begun_seat c (seat_of old p))
-      → AllSince (before_after before old (Begin p c) Began) (quiet_after quiet old (Begin p c) Began new) new
+      → AllSince (before_after before old (Begin p c) Began) (quiet_after quiet old (Begin p c) Began new)
+      (collected_after collected old (Begin p c) Began) new
   begun p c taken e q = elim (same_or_other q p) [
-    | inl same ↦ subst (λ (k : ℕ). Since (if p == k then seat_of old p else before k) (k ≢ p → quiet k) (seat_of new k)) (sym same) own
-    | inr other ↦ subst (λ (b : Seat). Since b (q ≢ p → quiet q) (seat_of new q)) (sym (at_other q other))
-        (subst (Since (before q) (q ≢ p → quiet q)) (sym (ap (λ (s : State). seat_of s q) e ∙ seat_other old p q _ other))
-        (since_more (before q) (quiet q) (q ≢ p → quiet q) (seat_of old q) (λ was ne. was) (h q)))
+    | inl same ↦ subst (λ (k : ℕ). Since (if p == k then seat_of old p else before k) (k ≢ p → quiet k) ((k ≢ p) × collected k) (seat_of new k)) (sym same) own
+    | inr other ↦ subst (λ (b : Seat). Since b (q ≢ p → quiet q) ((q ≢ p) × collected q) (seat_of new q)) (sym (at_other q other))
+        (subst (Since (before q) (q ≢ p → quiet q) ((q ≢ p) × collected q)) (sym (ap (λ (s : State). seat_of s q) e ∙ seat_other old p q _ other))
+        (since_more (before q) (quiet q) (q ≢ p → quiet q) (collected q) ((q ≢ p) × collected q) (seat_of old q) (λ was ne. was) (λ was. (other, was)) (h q)))
   ]
     where
       at_same : (if p == p then seat_of old p else before p) ≡ seat_of old p
@@ -454,11 +468,11 @@ module _ (old new : State) (reply : Reply) (before : ℕ → Seat) (quiet : ℕ 
       at_other : (q : ℕ) → q ≢ p → (if p == q then seat_of old p else before q) ≡ before q
       at_other q other = grind (arith, nat_tests)
 
-      own : Since (if p == p then seat_of old p else before p) (p ≢ p → quiet p) (seat_of new p)
-      own = subst (λ (b : Seat). Since b (p ≢ p → quiet p) (seat_of new p)) (sym at_same)
-          (subst (Since (seat_of old p) (p ≢ p → quiet p))
+      own : Since (if p == p then seat_of old p else before p) (p ≢ p → quiet p) ((p ≢ p) × collected p) (seat_of new p)
+      own = subst (λ (b : Seat). Since b (p ≢ p → quiet p) ((p ≢ p) × collected p) (seat_of new p)) (sym at_same)
+          (subst (Since (seat_of old p) (p ≢ p → quiet p) ((p ≢ p) × collected p))
           (sym (ap (λ (s : State). seat_of s p) e ∙ seat_written old p _ (seat_there old p taken)))
-          (begun_since (p ≢ p → quiet p) (seat_of old p) c (λ ne. absurd (ne refl))))
+          (begun_since (p ≢ p → quiet p) ((p ≢ p) × collected p) (seat_of old p) c (λ ne. absurd (ne refl))))
 
   begins : (p : ℕ) (c : Call) (fault : Option Fault) → refusal c (seat_of old p) old.tickets ≡ fault
       → (new.places ≡ old.places) × (new.seen ≡ old.seen) → Begins old p c fault reply aside_of → Shown (Begin p c) reply
@@ -470,9 +484,9 @@ module _ (old new : State) (reply : Reply) (before : ℕ → Seat) (quiet : ℕ 
   -- a Go of a position that is free
   goes_free : (p : ℕ) → reply ≡ Refused NotRegistered → aside_of ≡ old → Shown (Go p) reply
   goes_free p told e = (
-    subst (λ (r : Reply). LeavesAtRefusal before quiet old (Go p) r new) (sym told) tt,
-    λ q. subst (Since (before q) (quiet_after quiet old (Go p) reply new q)) (sym (ap (λ (s : State). seat_of s q) e))
-        (since_more (before q) (quiet q) _ (seat_of old q) (λ was. (was, λ own. apart)) (h q)),
+    subst (λ (r : Reply). LeavesAtRefusal before quiet collected old (Go p) r new) (sym told) tt,
+    λ q. subst (Since (before q) (quiet_after quiet old (Go p) reply new q) (collected_after collected old (Go p) reply q)) (sym (ap (λ (s : State). seat_of s q) e))
+        (since_more (before q) (quiet q) _ (collected q) _ (seat_of old q) (λ was. (was, λ own. apart)) inl (h q)),
   )
     where
       apart : LeavesRest old p new
@@ -483,7 +497,7 @@ module _ (old new : State) (reply : Reply) (before : ℕ → Seat) (quiet : ℕ 
         others = λ q other. ap (λ (s : State). seat_of s q) e;
       }
 
-  ends_all : (ending : Ending) → EndGoes old ending reply aside_of → AllSince before quiet new
+  ends_all : (ending : Ending) → EndGoes old ending reply aside_of → AllSince before quiet collected new
   ends_all Open did = stays old did.1 (λ q. refl)
   ends_all Over did = stays old did.1 (λ q. refl)
   ends_all (Emptying (job ∷ jobs) n) did = stays _ did.1 (λ q. refl)
@@ -496,7 +510,7 @@ module _ (old new : State) (reply : Reply) (before : ℕ → Seat) (quiet : ℕ 
   step_shown Register (inr (inr did), same) = subst (Shown Register) (sym did.1) (unchanged did.2 same, stays old did.2 (λ q. refl))
   step_shown (Begin p c) (did, same) = begins p c (refusal c (seat_of old p) old.tickets) refl same did
   step_shown (Go p) (inl did, sees) = goes_free p did.1 did.2
-  step_shown (Go p) (inr did, sees) = goes old new reply before quiet h p did.0 linked (seat_of old p).progress refl did.1
+  step_shown (Go p) (inr did, sees) = goes old new reply before quiet collected h p did.0 linked (seat_of old p).progress refl did.1
   step_shown EndStep (inl did, same) = subst (Shown EndStep) (sym did.2) (tt, stays _ did.3 (λ q. refl))
   step_shown EndStep (inr (inl did), same) = subst (Shown EndStep) (sym did.2) (unchanged did.3 same, stays old did.3 (λ q. refl))
   step_shown EndStep (inr (inr did), same) = subst (Shown EndStep) (sym did.1) (unchanged did.2 same, stays old did.2 (λ q. refl))
@@ -504,16 +518,16 @@ module _ (old new : State) (reply : Reply) (before : ℕ → Seat) (quiet : ℕ 
 
 -- WHOLE RUNS
 
-refused_from : (old new : State) (log : List Entry) (before : ℕ → Seat) (quiet : ℕ → Type 0) → AllSince before quiet old
-    → AllLinked old → (run : Runs old log new) → RefusedAlong before quiet old new log run
-refused_from old new [] before quiet h linked run = tt
-refused_from old new (x ∷ log) before quiet h linked (mid, did, run) =
-    let shown : ShowsLeft before quiet old x.step x.reply mid = step_shown old mid x.reply before quiet h linked x.step did in
-    (shown.0, refused_from mid new log _ _ shown.1 (step_linked old mid x.step x.reply linked did) run)
+refused_from : (old new : State) (log : List Entry) (before : ℕ → Seat) (quiet collected : ℕ → Type 0) → AllSince before quiet collected old
+    → AllLinked old → (run : Runs old log new) → RefusedAlong before quiet collected old new log run
+refused_from old new [] before quiet collected h linked run = tt
+refused_from old new (x ∷ log) before quiet collected h linked (mid, did, run) =
+    let shown : ShowsLeft before quiet collected old x.step x.reply mid = step_shown old mid x.reply before quiet collected h linked x.step did in
+    (shown.0, refused_from mid new log _ _ _ shown.1 (step_linked old mid x.step x.reply linked did) run)
 
 pub refused_along : (s new : State) (log : List Entry) → IsFresh s → (run : Runs s log new)
-    → RefusedAlong (seat_of s) all_quiet s new log run
-refused_along s new log fresh run = refused_from s new log (seat_of s) all_quiet none (fresh_linked s fresh) run
+    → RefusedAlong (seat_of s) all_quiet none_collected s new log run
+refused_along s new log fresh run = refused_from s new log (seat_of s) all_quiet none_collected none (fresh_linked s fresh) run
   where
-    none : AllSince (seat_of s) all_quiet s
-    none q = subst (λ (seat : Seat). Since (seat_of s q) (Unit {0}) seat) (sym (fresh.free q)) tt
+    none : AllSince (seat_of s) all_quiet none_collected s
+    none q = subst (λ (seat : Seat). Since (seat_of s q) (Unit {0}) ⊥ seat) (sym (fresh.free q)) tt

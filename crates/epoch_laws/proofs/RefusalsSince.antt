@@ -30,16 +30,16 @@ DeferAt kept full Keep = full ≡ false
 DeferAt kept full End = full ≡ true → kept
 DeferAt kept full _ = ⊥
 
-abbrev pub FlushAt : Type 0 → Bool → Stage → Type 0
-FlushAt kept full LoadSeal = kept
-FlushAt kept full (Put e) = kept
-FlushAt kept full LoadScan = full ≡ true → kept
-FlushAt kept full (Scan e k) = full ≡ true → kept
-FlushAt kept full (Advance e) = full ≡ true → kept
-FlushAt kept full (Take x k) = full ≡ true → kept
-FlushAt kept full (Calling x k) = full ≡ true → kept
-FlushAt kept full End = full ≡ true → kept
-FlushAt kept full _ = ⊥
+abbrev pub FlushAt : (kept collected : Type 0) → Bool → Stage → Type 0
+FlushAt kept collected full LoadSeal = kept
+FlushAt kept collected full (Put e) = kept
+FlushAt kept collected full LoadScan = full ≡ true → kept
+FlushAt kept collected full (Scan e k) = full ≡ true → kept
+FlushAt kept collected full (Advance e) = full ≡ true → kept
+FlushAt kept collected full (Take x k) = full ≡ true → kept
+FlushAt kept collected full (Calling x k) = full ≡ true → kept
+FlushAt kept collected full End = collected × (full ≡ true → kept)
+FlushAt kept collected full _ = ⊥
 
 abbrev pub ReleaseAt : Type 0 → Type 0 → Bool → Stage → Type 0
 ReleaseAt kept off full LoadPin = kept
@@ -57,21 +57,21 @@ ReleaseAt kept off full StoreFree = Unit {0}
 ReleaseAt kept off full End = (full ≡ true → kept) × off
 ReleaseAt kept off full _ = ⊥
 
-abbrev pub SinceAt : Seat → Type 0 → Seat → Call → Stage → Type 0
-SinceAt b quiet a (Defer g) s = DeferAt (quiet × Kept b a) a.machine.full s
-SinceAt b quiet a (Flush g) s = FlushAt (Kept b a) a.machine.full s
-SinceAt b quiet a Release s = ReleaseAt (KeptBag b a) (a.word ≡ Unpinned) a.machine.full s
-SinceAt b quiet a _ s = Unit {0}
+abbrev pub SinceAt : Seat → (quiet collected : Type 0) → Seat → Call → Stage → Type 0
+SinceAt b quiet collected a (Defer g) s = DeferAt (quiet × Kept b a) a.machine.full s
+SinceAt b quiet collected a (Flush g) s = FlushAt (Kept b a) collected a.machine.full s
+SinceAt b quiet collected a Release s = ReleaseAt (KeptBag b a) (a.word ≡ Unpinned) a.machine.full s
+SinceAt b quiet collected a _ s = Unit {0}
 
-abbrev pub SinceBy : Seat → Type 0 → Seat → Progress → Type 0
-SinceBy b quiet a (Driven c) = SinceAt b quiet a c a.machine.stage
-SinceBy b quiet a _ = Unit {0}
+abbrev pub SinceBy : Seat → (quiet collected : Type 0) → Seat → Progress → Type 0
+SinceBy b quiet collected a (Driven c) = SinceAt b quiet collected a c a.machine.stage
+SinceBy b quiet collected a _ = Unit {0}
 
-abbrev pub Since : Seat → Type 0 → Seat → Type 0
-Since b quiet a = SinceBy b quiet a a.progress
+abbrev pub Since : Seat → (quiet collected : Type 0) → Seat → Type 0
+Since b quiet collected a = SinceBy b quiet collected a a.progress
 
-abbrev pub AllSince : (ℕ → Seat) → (ℕ → Type 0) → State → Type 0
-AllSince before quiet s = (q : ℕ) → Since (before q) (quiet q) (seat_of s q)
+abbrev pub AllSince : (ℕ → Seat) → (quiet collected : ℕ → Type 0) → State → Type 0
+AllSince before quiet collected s = (q : ℕ) → Since (before q) (quiet q) (collected q) (seat_of s q)
 
 -- a call that is never told that the bags are full
 abbrev pub is_plain : Call → Bool
@@ -80,11 +80,11 @@ is_plain (Flush g) = false
 is_plain Release = false
 is_plain _ = true
 
-pub plain_since : (b : Seat) (quiet : Type 0) (a : Seat) (s : Stage) (c : Call) → is_plain c ≡ true → SinceAt b quiet a c s
-plain_since b quiet a s (Defer g) plain = absurd (cc (plain))
-plain_since b quiet a s (Flush g) plain = absurd (cc (plain))
-plain_since b quiet a s Release plain = absurd (cc (plain))
-plain_since b quiet a s _ plain = tt
+pub plain_since : (b : Seat) (quiet collected : Type 0) (a : Seat) (s : Stage) (c : Call) → is_plain c ≡ true → SinceAt b quiet collected a c s
+plain_since b quiet collected a s (Defer g) plain = absurd (cc (plain))
+plain_since b quiet collected a s (Flush g) plain = absurd (cc (plain))
+plain_since b quiet collected a s Release plain = absurd (cc (plain))
+plain_since b quiet collected a s _ plain = tt
 
 -- QUIET STAYS
 
@@ -95,34 +95,45 @@ defer_more P Q full Keep more at = at
 defer_more P Q full End more at = λ is. more (at is)
 defer_more P Q full _ more at = absurd at
 
-pub since_more : (b : Seat) (P Q : Type 0) (a : Seat) → (P → Q) → Since b P a → Since b Q a
-since_more b P Q a more at = by_progress a.progress at
+flush_more : (kept C D : Type 0) (full : Bool) (s : Stage) → (C → D) → FlushAt kept C full s → FlushAt kept D full s
+flush_more kept C D full LoadSeal more at = at
+flush_more kept C D full (Put e) more at = at
+flush_more kept C D full LoadScan more at = at
+flush_more kept C D full (Scan e k) more at = at
+flush_more kept C D full (Advance e) more at = at
+flush_more kept C D full (Take x k) more at = at
+flush_more kept C D full (Calling x k) more at = at
+flush_more kept C D full End more at = (more at.0, at.1)
+flush_more kept C D full _ more at = absurd at
+
+pub since_more : (b : Seat) (P Q C D : Type 0) (a : Seat) → (P → Q) → (C → D) → Since b P C a → Since b Q D a
+since_more b P Q C D a more got at = by_progress a.progress at
   where
-    by_call : (c : Call) (s : Stage) → SinceAt b P a c s → SinceAt b Q a c s
+    by_call : (c : Call) (s : Stage) → SinceAt b P C a c s → SinceAt b Q D a c s
     by_call (Defer g) s at = defer_more (P × Kept b a) (Q × Kept b a) a.machine.full s (λ both. (more both.0, both.1)) at
-    by_call (Flush g) s at = at
+    by_call (Flush g) s at = flush_more (Kept b a) C D a.machine.full s got at
     by_call Release s at = at
     by_call _ s at = tt
 
-    by_progress : (progress : Progress) → SinceBy b P a progress → SinceBy b Q a progress
+    by_progress : (progress : Progress) → SinceBy b P C a progress → SinceBy b Q D a progress
     by_progress (Driven c) at = by_call c a.machine.stage at
     by_progress _ at = tt
 
 -- HOW A CALL BEGINS
 
-pub begun_since : (quiet : Type 0) (seat : Seat) (c : Call) → quiet → Since seat quiet (begun_seat c seat)
-begun_since quiet seat (Defer (Some g)) q =
+pub begun_since : (quiet collected : Type 0) (seat : Seat) (c : Call) → quiet → Since seat quiet collected (begun_seat c seat)
+begun_since quiet collected seat (Defer (Some g)) q =
     either_stage (DeferAt (quiet × Kept seat seat) false) (length seat.machine.held == seat.machine.sizes.bag_jobs)
     LoadSeal Keep (q, (refl, (refl, refl, refl))) refl
-begun_since quiet seat (Flush (Some g)) q = either_stage (FlushAt (Kept seat seat) false) (is_empty seat.machine.held)
+begun_since quiet collected seat (Flush (Some g)) q = either_stage (FlushAt (Kept seat seat) collected false) (is_empty seat.machine.held)
     LoadScan LoadSeal (λ is. absurd (cc (is))) (refl, (refl, refl, refl))
-begun_since quiet seat Release q = (refl, refl, refl)
-begun_since quiet seat Pin q = tt
-begun_since quiet seat (Resume (Some g)) q = tt
-begun_since quiet seat (Unpin g) q = tt
-begun_since quiet seat (Repin (Some g)) q = tt
-begun_since quiet seat (Pause (Some g)) q = tt
-begun_since quiet seat _ q = tt
+begun_since quiet collected seat Release q = (refl, refl, refl)
+begun_since quiet collected seat Pin q = tt
+begun_since quiet collected seat (Resume (Some g)) q = tt
+begun_since quiet collected seat (Unpin g) q = tt
+begun_since quiet collected seat (Repin (Some g)) q = tt
+begun_since quiet collected seat (Pause (Some g)) q = tt
+begun_since quiet collected seat _ q = tt
 
 -- HOW A RELEASE GOES ON
 

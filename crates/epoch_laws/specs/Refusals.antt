@@ -1,6 +1,8 @@
 -- What is said of whole runs: a call that is refused leaves all as it was when it began, but for what is said here.
-use Rattle.std.specs.Prelude.{◌≡◌, ◌≢◌, ℕ, List, [], ◌∷◌, ◌==◌, if◌then◌else◌}
+use Rattle.std.specs.Prelude.{◌≡◌, ◌≢◌, ℕ, List, [], ◌∷◌, ◌==◌, Option, Some, ◌⊎◌, if◌then◌else◌}
 use Rattle.epoch_cells.specs.declared.fault.Fault.TheVariants.{BagsFull}
+use Rattle.epoch_machine.specs.declared.machine.Ask.{Ask}
+use Rattle.epoch_machine.specs.declared.machine.Ask.TheVariants.{TakeBag, CallJob}
 use Rattle.epoch_laws.specs.declared.step.Call.TheVariants.{Defer, Flush, Release}
 use Rattle.epoch_laws.specs.declared.step.Entry.{Entry}
 use Rattle.epoch_laws.specs.declared.step.Progress.{Progress}
@@ -10,7 +12,7 @@ use Rattle.epoch_laws.specs.declared.step.Reply.TheVariants.{Began, Refused}
 use Rattle.epoch_laws.specs.declared.step.Step.{Step}
 use Rattle.epoch_laws.specs.declared.step.Step.TheVariants.{Begin, Go, EndGo}
 use Rattle.epoch_laws.specs.declared.step.Word.TheVariants.{Unpinned}
-use Rattle.epoch_laws.specs.Run.{Seat, State, Runs, seat_of}
+use Rattle.epoch_laws.specs.Run.{Seat, State, Runs, seat_of, turn_of}
 
 -- SINCE A CALL BEGAN
 
@@ -32,6 +34,18 @@ quiet_after quiet s (Begin p c) Began new q = q ≢ p → quiet q
 quiet_after quiet s (Go p) reply new q = quiet q × (q ≡ p → LeavesRest s p new)
 quiet_after quiet s _ reply new q = quiet q
 
+-- a step that looks for a bag to collect, or calls a job of one
+abbrev pub Collects : Option Ask → Type 0
+Collects (Some (TakeBag x)) = Unit {0}
+Collects (Some CallJob) = Unit {0}
+Collects _ = ⊥
+
+-- a step of the call of q, since it began, was one of a collection
+abbrev pub collected_after : (ℕ → Type 0) → State → Step → Reply → ℕ → Type 0
+collected_after collected s (Begin p c) Began q = (q ≢ p) × collected q
+collected_after collected s (Go p) reply q = collected q ⊎ ((q ≡ p) × Collects (turn_of (seat_of s p)))
+collected_after collected s _ reply q = collected q
+
 -- WHAT A REFUSED CALL LEAVES
 
 -- The guards, the paused one and the held bag are those before.
@@ -40,31 +54,36 @@ pub record KeepsBag (before after : Seat) : Type 0 where
   pub paused : after.paused ≡ before.paused
   pub held : after.machine.held ≡ before.machine.held
 
--- A deferral changes nothing. A flush may have collected, and a release has pinned, may have collected, and unpinned;
--- its word says so. No other call is told that the bags are full.
-abbrev pub Leaves : Type 0 → Progress → (before after : Seat) → Type 0
-Leaves quiet (Driven (Defer g)) before after = quiet × (after.word ≡ before.word) × KeepsBag before after
-Leaves quiet (Driven (Flush g)) before after = (after.word ≡ before.word) × KeepsBag before after
-Leaves quiet (Driven Release) before after = (after.word ≡ Unpinned) × KeepsBag before after
-Leaves quiet _ before after = ⊥
+-- A deferral changes nothing. A flush has collected. A release has pinned, may have collected, and unpinned; its word
+-- says so. No other call is told that the bags are full.
+abbrev pub Leaves : (quiet collected : Type 0) → Progress → (before after : Seat) → Type 0
+Leaves quiet collected (Driven (Defer g)) before after = quiet × (after.word ≡ before.word) × KeepsBag before after
+Leaves quiet collected (Driven (Flush g)) before after = collected × (after.word ≡ before.word) × KeepsBag before after
+Leaves quiet collected (Driven Release) before after = (after.word ≡ Unpinned) × KeepsBag before after
+Leaves quiet collected _ before after = ⊥
 
 -- a Begin, a Register or an End that is refused changes nothing at all
-abbrev pub LeavesAtRefusal : (ℕ → Seat) → (ℕ → Type 0) → State → Step → Reply → State → Type 0
-LeavesAtRefusal before quiet s (Go p) (Refused BagsFull) new =
-    Leaves (quiet_after quiet s (Go p) (Refused BagsFull) new p) (seat_of s p).progress (before p) (seat_of new p)
-LeavesAtRefusal before quiet s (Go p) reply new = Unit {0}
-LeavesAtRefusal before quiet s EndGo reply new = Unit {0}
-LeavesAtRefusal before quiet s step (Refused fault) new = new ≡ s
-LeavesAtRefusal before quiet s step reply new = Unit {0}
+abbrev pub LeavesAtRefusal : (ℕ → Seat) → (quiet collected : ℕ → Type 0) → State → Step → Reply → State → Type 0
+LeavesAtRefusal before quiet collected s (Go p) (Refused BagsFull) new =
+    Leaves (quiet_after quiet s (Go p) (Refused BagsFull) new p) (collected p) (seat_of s p).progress
+    (before p) (seat_of new p)
+LeavesAtRefusal before quiet collected s (Go p) reply new = Unit {0}
+LeavesAtRefusal before quiet collected s EndGo reply new = Unit {0}
+LeavesAtRefusal before quiet collected s step (Refused fault) new = new ≡ s
+LeavesAtRefusal before quiet collected s step reply new = Unit {0}
 
 -- WHOLE RUNS
 
-abbrev pub RefusedAlong : (ℕ → Seat) → (ℕ → Type 0) → (s new : State) (log : List Entry) → Runs s log new → Type 0
-RefusedAlong before quiet s new [] run = Unit {0}
-RefusedAlong before quiet s new (x ∷ log) (mid, did, run) =
-    LeavesAtRefusal before quiet s x.step x.reply mid
-    × RefusedAlong (before_after before s x.step x.reply) (quiet_after quiet s x.step x.reply mid) mid new log run
+abbrev pub RefusedAlong : (ℕ → Seat) → (quiet collected : ℕ → Type 0) → (s new : State) (log : List Entry) → Runs s log new → Type 0
+RefusedAlong before quiet collected s new [] run = Unit {0}
+RefusedAlong before quiet collected s new (x ∷ log) (mid, did, run) =
+    LeavesAtRefusal before quiet collected s x.step x.reply mid
+    × RefusedAlong (before_after before s x.step x.reply) (quiet_after quiet s x.step x.reply mid)
+    (collected_after collected s x.step x.reply) mid new log run
 
 -- at the start of a run no call is under way
 abbrev pub all_quiet : ℕ → Type 0
 all_quiet p = Unit {0}
+
+abbrev pub none_collected : ℕ → Type 0
+none_collected p = ⊥

@@ -7,7 +7,7 @@ ghost use Rattle.epoch_laws.specs.Tickets.{HoldsEachTicketOnce, NumbersTickets, 
 ghost use Rattle.epoch_laws.specs.Ends.{EndsAtCount};
 ghost use Rattle.epoch_laws.specs.Lawful.{IsLawful};
 ghost use Rattle.epoch_laws.specs.Full.{FullAlong, none_found};
-ghost use Rattle.epoch_laws.specs.Refusals.{RefusedAlong, all_quiet};
+ghost use Rattle.epoch_laws.specs.Refusals.{RefusedAlong, all_quiet, none_collected};
 
 /// No job is called while a participant that was pinned when it was deferred has stayed pinned.
 pub fn every_run_keeps_grace()
@@ -46,8 +46,8 @@ pub fn every_full_reply_found_each_place()
 {}
 
 /// A Begin, a Register or an End that is refused changes nothing. A call that is refused because the bags are full
-/// leaves its guards and its held bag as they were when it began; a deferral changes nothing at all, a flush leaves
-/// its word, and a release leaves its position taken and unpinned. No other call is refused so.
-pub fn every_refused_call_leaves_all()
-    ensures { (s new : State) (log : List Entry) → IsFresh s → (run : Runs s log new) → RefusedAlong (seat_of s) all_quiet s new log run }
+/// leaves its guards and its held bag as they were when it began: a deferral has changed no word, epoch, bag or ticket,
+/// a flush has collected, and a release leaves its position taken and unpinned. No other call is refused so.
+pub fn every_refusal_leaves_what_it_must()
+    ensures { (s new : State) (log : List Entry) → IsFresh s → (run : Runs s log new) → RefusedAlong (seat_of s) all_quiet none_collected s new log run }
 {}

@@ -9,7 +9,7 @@ mod step;
 pub use history::{Event, calls_none_twice, is_lawful, keeps_grace};
 pub use laws::{
     every_end_answers_its_calls, every_end_calls_all, every_full_reply_found_each_place,
-    every_refused_call_leaves_all, every_run_holds_each_ticket_once, every_run_is_lawful,
+    every_refusal_leaves_what_it_must, every_run_holds_each_ticket_once, every_run_is_lawful,
     every_run_keeps_grace, every_run_numbers_tickets,
 };
 pub use shape::Shape;

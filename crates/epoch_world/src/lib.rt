@@ -6,7 +6,7 @@ mod world;
 pub use epoch_laws::{
     Answer, Call, Deferral, Entry, Event, Progress, Reply, Shape, Step, Word, calls_none_twice,
     every_end_answers_its_calls, every_end_calls_all, every_full_reply_found_each_place,
-    every_refused_call_leaves_all, every_run_holds_each_ticket_once, every_run_is_lawful,
+    every_refusal_leaves_what_it_must, every_run_holds_each_ticket_once, every_run_is_lawful,
     every_run_keeps_grace, every_run_numbers_tickets, is_lawful, keeps_grace,
 };
 pub use world::{Seat, World};
