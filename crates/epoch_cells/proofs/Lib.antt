@@ -1,2 +1,3 @@
 pub mod LentWritings
 pub mod PlainCellLists
+pub mod SlotNumberLists

@@ -1,3 +1,4 @@
 pub mod Faults
 pub mod LentCells
 pub mod PlainCells
+pub mod SlotNumbers

@@ -1,10 +1,13 @@
 //! Numbered cells, which threads share: values that are read while others remove them.
 //!
-//! A value stands in its cell beside its own name. Every call that is given a name claims the cell of
-//! the name's slot, compares the name that stands there with the one asked for, and gives the claim
-//! back where they differ.
-ghost use Rattle.std.specs.Prelude.{◌≡◌, ◌≤◌, ◌<◌, IfSome, IfOk, IfErr, IsOkUnless, vec_len};
+//! A value stands in its cell beside its own name, whose slot is the cell's. Every call that is given a
+//! name claims the cell of the name's slot, compares the name that stands there with the one asked for,
+//! and gives the claim back where they differ. A call that takes a value out spends its one claim before
+//! it compares, and would put the value of another turn back. None is met: the claim was won at a word
+//! of the name's own turn, and a value is placed beside the turn of its slot's word.
+ghost use Rattle.std.specs.Prelude.{◌≡◌, ◌≤◌, ◌<◌, ◌+◌, ◌++◌, ◌∷◌, [], IfSome, IfOk, IfErr, OnOk, IsOkUnless, vec_len};
 ghost use Rattle.epoch_cells.specs.declared.fault.Fault.TheVariants.{NoMemory, CellsFull};
+ghost use Rattle.epoch_cells.specs.SlotNumbers.{AreNumbered};
 
 mod held;
 mod name;
@@ -13,7 +16,7 @@ mod word;
 
 use crate::cells::held::{Miss, Slot, is_free, started, try_place, try_read, try_take, try_write};
 use crate::fault::{Fault, Refused};
-pub use held::{Reading, Writing};
+pub use held::{Held, Reading, Writing};
 pub use name::{MOST_SLOT, Name};
 pub use plain::PlainCells;
 use std::alloc::Global;
@@ -34,6 +37,8 @@ pub struct Cells<T> {
     // it costs looks, and no more.
     first_free: AtomicUsize,
     pub ghost few: { vec_len slots ≤ 16777215 },
+    // The first slot has number 1, and each one the next number.
+    pub ghost numbered: { ∥ AreNumbered slots.items ∥₁ },
 }
 
 /// What a removal met.
@@ -57,10 +62,8 @@ impl<T: Drop> Cells<T> {
         ensures slots { IfOk result (λ cells. vec_len cells.slots ≡ capacity) }
     {
         let mut slots = Vec::with_capacity(alloc, capacity as usize).map_err(|_| Fault::NoMemory)?;
-        for _ in 0..capacity {
-            slots
-                .push(started(start_turn))
-                .map_err(|_| Fault::NoMemory)?;
+        for index in 0..capacity {
+            push(&mut slots, started(index + 1, start_turn))?;
         }
         Ok(Cells {
             slots,
@@ -104,6 +107,7 @@ impl<T: Drop> Cells<T> {
 
     // Places the value in the first free slot from place `from` up to `to`.
     #[inline(always)]
+    #[tactic(auto, using(crate::proofs::SlotNumberLists::number_of))]
     fn place_between(&self, from: usize, to: usize, value: Box<T>) -> Result<Name, Box<T>>
         requires { to ≤ vec_len self.now.slots }
         ensures ok { IfOk result (λ name. name.slot ≤ to) }
@@ -186,6 +190,14 @@ impl<T: Drop> Cells<T> {
     /// `None`: it is gone, or is read or written, or each try was lost to others.
     #[inline(always)]
     pub fn take(&self, name: Name) -> Option<Box<T>> {
+        Some(self.take_held(name)?.into_value())
+    }
+
+    /// As [`Cells::take`]: what stood in the cell, the value beside its own name, which is the one asked for.
+    #[inline(always)]
+    pub fn take_held(&self, name: Name) -> Option<Held<T>>
+        ensures { IfSome result (λ held. held.name ≡ name) }
+    {
         self.take_out(name).ok()
     }
 
@@ -200,16 +212,19 @@ impl<T: Drop> Cells<T> {
     }
 
     #[inline(always)]
-    fn take_out(&self, name: Name) -> Result<Box<T>, Miss> {
+    #[tactic(auto, using(crate::proofs::SlotNumberLists::number_of))]
+    fn take_out(&self, name: Name) -> Result<Held<T>, Miss>
+        ensures { IfOk result (λ held. held.name ≡ name) }
+    {
         let index = name.slot() as usize - 1;
         let Some(slot) = self.slots.get(index) else {
             return Err(Miss::Gone);
         };
         for _ in 0..CELL_TRIES {
             match try_take(slot, name) {
-                Ok(value) => {
+                Ok(held) => {
                     self.lower(index);
-                    return Ok(value);
+                    return Ok(held);
                 }
                 Err(Miss::Lost) => {}
                 Err(miss) => return Err(miss),
@@ -240,6 +255,7 @@ impl<T: Drop> Cells<T> {
 fn place_in<T: Drop>(slot: &Slot<T>, number: u32, value: Box<T>) -> Result<Name, Box<T>>
     requires some { 0 < number }
     requires within { number ≤ 16777215 }
+    requires numbered { slot.now ≡ number }
     ensures ok { IfOk result (λ name. name.slot ≡ number) }
     ensures handed_back { IfErr result (λ back. back ≡ value) }
 {
@@ -252,4 +268,16 @@ fn place_in<T: Drop>(slot: &Slot<T>, number: u32, value: Box<T>) -> Result<Name,
         }
     }
     Err(kept)
+}
+
+// Puts one item behind the others.
+fn push<X: Drop>(items: &mut Vec<X>, item: X) -> Result<(), Fault>
+    ensures memory { IsOkUnless result NoMemory }
+    ensures ok { OnOk result (items.new.items ≡ items.old.items ++ item ∷ []) }
+    ensures length { OnOk result (vec_len items.new ≡ vec_len items.old + 1) }
+{
+    match items.push(item) {
+        Ok(()) => Ok(()),
+        Err(_) => Err(Fault::NoMemory),
+    }
 }

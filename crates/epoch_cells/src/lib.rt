@@ -4,5 +4,5 @@
 mod cells;
 mod fault;
 
-pub use cells::{CELL_TRIES, Cells, MOST_SLOT, Name, PlainCells, Reading, Removal, Writing};
+pub use cells::{CELL_TRIES, Cells, Held, MOST_SLOT, Name, PlainCells, Reading, Removal, Writing};
 pub use fault::{Fault, Refused};

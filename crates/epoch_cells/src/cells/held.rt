@@ -8,16 +8,32 @@ use crate::cells::name::Name;
 use crate::cells::word::{readers_of, state_of, turn_of, vacant, word_of};
 use counted_slot::{Claim, Counted, FREE, Fits, MARKED, MOST_READERS, ONE_READER, PRESENT, TAKEN};
 
-/// What stands in a cell: the value's box beside its own name.
+/// A value's box beside its own name: what stands in a cell, and what is taken out of one.
 #[derive(Drop)]
 pub struct Held<T> {
-    pub name: Name,
-    pub value: Box<T>,
+    name: Name,
+    value: Box<T>,
 }
 
 impl<T> Held<T> {
     ghost use Rattle.epoch_cells.specs.contracts.cells.held.Held.{the_row};
     ghost use Rattle.epoch_cells.specs.LentCells.{with_held};
+
+    /// The name that the value stood beside.
+    pub fn name(&self) -> Name
+        ensures { result ≡ self.now.name }
+    {
+        self.name
+    }
+
+    /// The value alone.
+    #[inline(always)]
+    pub fn into_value(self) -> Box<T>
+        ensures { result ≡ self.value }
+    {
+        let Held { name: _, value } = self;
+        value
+    }
 
     // The value, to be changed. The name stays beside it.
     fn value_mut(&mut self) -> &mut T
@@ -28,13 +44,14 @@ impl<T> Held<T> {
     }
 }
 
+// The tag of a slot is its number, which is the slot of each name that stands in it.
 impl<T> Fits for Held<T> {
-    type Tag = ();
+    type Tag = u32;
 
-    ghost fits = { λ _ _. Unit {0} };
+    ghost fits = { λ number held. held.name.slot ≡ number };
 }
 
-/// A slot: `None` stands where it has no value.
+/// A slot: `None` stands where it has no value. In a clause it is its number.
 pub type Slot<T> = Counted<Option<Held<T>>>;
 
 /// Why a try to claim a cell gave nothing.
@@ -94,6 +111,7 @@ pub struct Writing<'a, T> {
     name: Name,
     pub ghost writes: { claim.right ≡ 2 },
     pub ghost named: { held.name ≡ name },
+    pub ghost fits: { name.slot ≡ claim.tag },
 }
 
 impl<'a, T: Drop> Writing<'a, T> {
@@ -136,9 +154,11 @@ impl<'a, T: Drop> Writing<'a, T> {
     }
 }
 
-/// A slot that begins at this turn.
-pub fn started<T: Drop>(start_turn: u32) -> Slot<T> {
-    let slot = Counted::new(None, &());
+/// The slot of this number, which begins at this turn.
+pub fn started<T: Drop>(number: u32, start_turn: u32) -> Slot<T>
+    ensures { result ≡ number }
+{
+    let slot = Counted::new(None, &number);
     let (found, claim) = slot.turn(FREE, TAKEN);
     if found == FREE {
         let _ = claim.put(None, word_of(start_turn, FREE));
@@ -162,6 +182,7 @@ pub fn try_place<T: Drop>(
 ) -> Result<Name, (Miss, Box<T>)>
     requires some { 0 < number }
     requires within { number ≤ 16777215 }
+    requires numbered { slot.now ≡ number }
     ensures ok { IfOk result (λ name. name.slot ≡ number) }
     ensures handed_back { IfErr result (λ back. back.1 ≡ value) }
 {
@@ -211,7 +232,10 @@ pub fn try_read<'a, T: Drop>(slot: &'a Slot<T>, name: Name) -> Result<Reading<'a
 
 /// One try to take the value of this name out, which leaves its slot free for the next turn.
 #[inline(always)]
-pub fn try_take<T: Drop>(slot: &Slot<T>, name: Name) -> Result<Box<T>, Miss> {
+pub fn try_take<T: Drop>(slot: &Slot<T>, name: Name) -> Result<Held<T>, Miss>
+    requires numbered { slot.now ≡ name.slot }
+    ensures { IfOk result (λ held. held.name ≡ name) }
+{
     let seen = slot.load();
     if turn_of(seen) != name.turn() || state_of(seen) == FREE {
         return Err(Miss::Gone);
@@ -225,26 +249,23 @@ pub fn try_take<T: Drop>(slot: &Slot<T>, name: Name) -> Result<Box<T>, Miss> {
         return Err(Miss::Lost);
     }
     match claim.put(None, vacant(name.turn())) {
-        Some(
-            Held {
-                name: stored,
-                value,
-            },
-        ) => {
-            if stored == name {
-                return Ok(value);
+        Some(held) => {
+            if held.name == name {
+                return Ok(held);
             }
-            put_back(slot, stored, value);
+            put_back(slot, held);
         }
         None => {}
     }
     Err(Miss::Gone)
 }
 
-/// Puts a value back that was taken out by another name. This isn't met.
+/// Puts a value back that was taken out by the name of another turn. This isn't met.
 #[cold]
 #[inline(never)]
-fn put_back<T: Drop>(slot: &Slot<T>, stored: Name, value: Box<T>) {
+fn put_back<T: Drop>(slot: &Slot<T>, held: Held<T>)
+    requires { held.name.slot ≡ slot.now }
+{
     let seen = slot.load();
     if state_of(seen) != FREE {
         return;
@@ -254,13 +275,8 @@ fn put_back<T: Drop>(slot: &Slot<T>, stored: Name, value: Box<T>) {
         claim.done();
         return;
     }
-    let _ = claim.put(
-        Some(Held {
-            name: stored,
-            value,
-        }),
-        word_of(stored.turn(), PRESENT),
-    );
+    let word = word_of(held.name.turn(), PRESENT);
+    let _ = claim.put(Some(held), word);
 }
 
 /// One try to claim the value of this name for writing.

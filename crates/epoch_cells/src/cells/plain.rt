@@ -1,11 +1,11 @@
 //! Numbered cells that nobody shares: a plain map from names to values.
-ghost use Rattle.std.specs.Prelude.{◌≡◌, ◌≢◌, ℕ, ◌+◌, ◌-◌, ◌<◌, ◌≤◌, ◌↔◌, ◌++◌, ◌∷◌, [], false, None, Some, length, slice_get, IsTrue, IsNone, IsSome, IfSome, IfOk, IfErr, OnOk, OnErr, IsOkUnless, MatchOption, MatchResult, All, ◌⊎◌};
+ghost use Rattle.std.specs.Prelude.{◌≡◌, ◌≢◌, ℕ, ◌+◌, ◌-◌, ◌<◌, ◌≤◌, ◌↔◌, false, None, Some, length, slice_get, IsTrue, IsNone, IsSome, IfSome, IfOk, IfErr, OnOk, OnErr, IsOkUnless, MatchOption, MatchResult, All, ◌⊎◌};
 ghost use Rattle.epoch_cells.specs.PlainCells.{Numbered, filled, empty, has, cell_of, with_cell, IsFree, unread, readable, removal_of, IsRead, Lowers, Stands, KeepsOthers};
 ghost use Rattle.epoch_cells.specs.declared.fault.Fault.TheVariants.{NoMemory, CellsFull};
 ghost use Rattle.epoch_cells.specs.declared.cells.Removal.TheVariants.{Destroyed, HeldElsewhere, Gone};
 
-use crate::cells::Removal;
 use crate::cells::name::{MOST_SLOT, Name};
+use crate::cells::{Removal, push};
 use crate::fault::Fault;
 use counted_slot::MOST_READERS;
 use std::alloc::Global;
@@ -293,15 +293,5 @@ impl<V: Copy + Drop> PlainCells<V> {
     {
         let index = self.find(name)?;
         self.cells[index].enter()
-    }
-}
-
-fn push<V: Drop>(cells: &mut Vec<Cell<V>>, cell: Cell<V>) -> Result<(), Fault>
-    ensures memory { IsOkUnless result NoMemory }
-    ensures ok { OnOk result (cells.new.items ≡ cells.old.items ++ cell ∷ []) }
-{
-    match cells.push(cell) {
-        Ok(()) => Ok(()),
-        Err(_) => Err(Fault::NoMemory),
     }
 }
