@@ -7,7 +7,7 @@ pub use epoch_bags::{
     PutCursor, PutStep, Run, SealedBag, TakeCursor, TakeStep, Work, take_some,
 };
 pub use epoch_cells::{
-    CELL_TRIES, Cells, Fault, MOST_SLOT, Name, PlainCells, Reading, Refused, Removal, Writing,
+    CELL_TRIES, Cells, Fault, Held, MOST_SLOT, Name, PlainCells, Reading, Refused, Removal, Writing,
 };
 
 /// Stores of sealed bags, and the places that threads share.

@@ -9,6 +9,7 @@ use Rattle.epoch_bags.specs.declared.queue.places.TakeCursor.TheVariants.{Look a
 use Rattle.epoch_bags.specs.declared.queue.places.PutCursor.TheVariants.{Look as PutLook}
 use Rattle.epoch_bags.specs.declared.queue.TakeStep.{TakeStep}
 use Rattle.epoch_bags.specs.declared.queue.TakeStep.TheVariants.{Again as TakeAgain, Empty as TakeEnds, Got}
+use Rattle.epoch_bags.specs.Jobs.{IsCalled}
 use Rattle.epoch_bags.specs.declared.job.Job.{Job}
 use Rattle.epoch_machine.specs.declared.machine.Action.{Action}
 use Rattle.epoch_machine.specs.declared.machine.Action.TheVariants.{Pin, Unpin, Repin, Defer, Flush, Release}
@@ -19,9 +20,9 @@ use Rattle.epoch_machine.specs.declared.machine.Stage.TheVariants.{Take}
 use Rattle.epoch_handles.specs.declared.local.Local.{Local}
 use Rattle.epoch_machine.specs.Machine.{Machine, asks, ask_at, gives, rest, after_job, after_collect, took_heard, is_taking, with_stage}
 use Rattle.epoch_machine.specs.Asks.{Log, Exchange, JobGiven, TakeStepped}
-use Rattle.epoch_handles.specs.Drives.{Sight, Cursors, Performed, at_start}
+use Rattle.epoch_handles.specs.Drives.{Sight, Cursors, Performed, AreCalled, at_start}
 use Rattle.epoch_handles.specs.Handles.{sight_of, IsSame, Scans, CallsHand, TakesBags, Collects}
-use Rattle.epoch_handles.proofs.Driving.{performed_on}
+use Rattle.epoch_handles.proofs.Driving.{performed_on, called_on, none_is_called}
 use Rattle.epoch_machine.proofs.Stages.{nothing_given}
 
 -- JOBS
@@ -41,17 +42,18 @@ nothing_left m x k [] none = refl
 nothing_left m x k (job ∷ jobs) none = absurd (none refl)
 
 -- of the jobs in hand these are left, and the others were called
-pub record HasCalled {T W : Type 0} (h : Local T W) (x k : ℕ) (n : Local T W) : Type 0 where
+pub record HasCalled {T W : Type 0} (done : W → Type 0) (h : Local T W) (x k : ℕ) (n : Local T W) : Type 0 where
   pub machine : n.machine ≡ with_hand h.machine x k n.machine.hand
-  pub performed : (c : Cursors) → (log : Log (Job W)) × Performed h.collector.now.places.places h.machine (sight_of h) c log n.machine (sight_of h) c
+  pub performed : (c : Cursors) → (log : Log (Job W)) × Performed h.collector.now.places.places h.machine (sight_of h) c log n.machine (sight_of h) c × AreCalled (IsCalled done) log
 
 module _ {T W : Type 0} where
-  pub one_more_called : (h n : Local T W) (x k : ℕ) (job : Job W) (m : Machine (Job W))
-      → HasCalled h x k n
+  pub one_more_called : (done : W → Type 0) (h n : Local T W) (x k : ℕ) (job : Job W) (m : Machine (Job W))
+      → HasCalled done h x k n
       → n.machine.hand ≡ job ∷ rest n.machine.hand
       → m ≡ gives n.machine n.machine.stage (rest n.machine.hand)
-      → HasCalled h x k (record h { machine = m })
-  one_more_called h n x k job m called first is =
+      → IsCalled done job
+      → HasCalled done h x k (record h { machine = m })
+  one_more_called done h n x k job m called first is ran =
       let jobs = rest n.machine.hand in
       let was : n.machine ≡ with_hand h.machine x k (job ∷ jobs) = called.machine ∙ ap (λ (js : List (Job W)). with_hand h.machine x k js) first in
       let goes : m ≡ with_hand h.machine x k jobs = is ∙ ap (λ (z : Machine (Job W)). gives z z.stage jobs) was in
@@ -64,15 +66,16 @@ module _ {T W : Type 0} where
               (subst (λ (z : Machine (Job W)). Performed h.collector.now.places.places n.machine (sight_of h) c (record { ask = CallJob; reply = JobGiven job } ∷ []) z (sight_of h) c) (sym goes)
               (subst (λ (z : Machine (Job W)). Performed h.collector.now.places.places z (sight_of h) c (record { ask = CallJob; reply = JobGiven job } ∷ []) (with_hand h.machine x k jobs) (sight_of h) c) (sym was)
               (call_performed h.collector.now.places.places h.machine (sight_of h) c x k job jobs))),
+          called_on (IsCalled done) (called.performed c).0 (record { ask = CallJob; reply = JobGiven job } ∷ []) (called.performed c).2 (ran, tt),
         );
       }
 
-  pub all_called : (h n : Local T W) (x k : ℕ) (m : Machine (Job W))
-      → HasCalled h x k n
+  pub all_called : (done : W → Type 0) (h n : Local T W) (x k : ℕ) (m : Machine (Job W))
+      → HasCalled done h x k n
       → asks n.machine ≢ Some CallJob
       → m ≡ gives n.machine n.machine.stage (rest n.machine.hand)
-      → CallsHand h x k (record h { machine = m })
-  all_called h n x k m called none is =
+      → CallsHand done h x k (record h { machine = m })
+  all_called done h n x k m called none is =
       let empty : n.machine.hand ≡ [] = nothing_left h.machine x k n.machine.hand (λ asked. none (ap (λ (z : Machine (Job W)). ask_at z.stage) called.machine ∙ asked)) in
       let was : n.machine ≡ with_hand h.machine x k [] = called.machine ∙ ap (λ (js : List (Job W)). with_hand h.machine x k js) empty in
       let same : m ≡ n.machine = is ∙ sym (nothing_given n.machine n.machine refl (λ x k at. none (ap ask_at at))) in
@@ -81,13 +84,14 @@ module _ {T W : Type 0} where
         performed = λ c. (
           (called.performed c).0,
           subst (λ (z : Machine (Job W)). Performed h.collector.now.places.places h.machine (sight_of h) c (called.performed c).0 z (sight_of h) c) (sym same) (called.performed c).1,
+          (called.performed c).2,
         );
       }
 
 -- BAGS
 
 -- a collection for x has come to this cursor, and looks for a bag
-pub record HasTaken {T W : Type 0} (h : Local T W) (x : ℕ) (cursor : TakeCursor) (n : Local T W) : Type 0 where
+pub record HasTaken {T W : Type 0} (done : W → Type 0) (h : Local T W) (x : ℕ) (cursor : TakeCursor) (n : Local T W) : Type 0 where
   pub taken : ℕ
   pub machine : n.machine ≡ record h.machine { stage = Take x taken; hand = n.machine.hand }
   pub claimer : IsAt h.collector.now.places n.claimer
@@ -95,7 +99,7 @@ pub record HasTaken {T W : Type 0} (h : Local T W) (x : ℕ) (cursor : TakeCurso
   pub seat : n.seat ≡ h.seat
   pub same : IsSame h n
   pub performed : (log : Log (Job W)) × Performed h.collector.now.places.places h.machine (sight_of h) at_start log n.machine (sight_of n)
-      (record { put = PutLook 0; take = cursor })
+      (record { put = PutLook 0; take = cursor }) × AreCalled (IsCalled done) log
 
 -- the epoch of the collection that is asked for
 expiry_of : Option Ask → ℕ
@@ -132,14 +136,14 @@ got_stage m n x k is = ap (λ (z : Machine _). z.stage) is ∙ sym (ap (λ (z : 
 
 module _ {T W : Type 0} where
   -- what one step of the collection performs
-  take_performed : (h n : Local T W) (x : ℕ) (cursor next : TakeCursor) (step : TakeStep) (m : Machine (Job W)) (me : PlaceMe (Job W)) (bag : Sealed (Job W))
-      → (taken : HasTaken h x cursor n)
+  take_performed : (done : W → Type 0) (h n : Local T W) (x : ℕ) (cursor next : TakeCursor) (step : TakeStep) (m : Machine (Job W)) (me : PlaceMe (Job W)) (bag : Sealed (Job W))
+      → (taken : HasTaken done h x cursor n)
       → m ≡ took_heard n.machine n.machine.stage step m.hand
       → (step ≡ Got → m.hand ≡ bag.jobs)
       → TakeMoves h.collector.now.places.places x cursor n.claimer.me step next me bag
       → (log : Log (Job W)) × Performed h.collector.now.places.places h.machine (sight_of h) at_start log m (record { words = n.seat.me.0; places = me })
-      (record { put = PutLook 0; take = next })
-  take_performed h n x cursor next step m me bag taken after jobs moves =
+      (record { put = PutLook 0; take = next }) × AreCalled (IsCalled done) log
+  take_performed done h n x cursor next step m me bag taken after jobs moves =
       let exchange : Exchange (Job W) = record { ask = TakeBag x; reply = TakeStepped step m.hand } in (
         taken.performed.0 ++ exchange ∷ [],
         performed_on h.collector.now.places.places h.machine n.machine m (sight_of h) (sight_of n) (record { words = n.seat.me.0; places = me }) at_start
@@ -148,33 +152,34 @@ module _ {T W : Type 0} where
               tt,
               (record { words = n.seat.me.0; places = me }, record { put = PutLook 0; take = next }, (refl, refl, (bag, jobs, moves)), (after, refl, refl)),
             ),
+        called_on (IsCalled done) taken.performed.0 (exchange ∷ []) taken.performed.2 (tt, tt),
       )
 
-  pub take_begins : (h : Local T W) (x : ℕ) (cursor : TakeCursor)
+  pub take_begins : (done : W → Type 0) (h : Local T W) (x : ℕ) (cursor : TakeCursor)
       → h.machine.stage ≡ Take x 0
       → IsAt h.collector.now.places h.claimer
       → cursor ≡ TakeLook 0
       → TakesAt h.collector.now.places.places x cursor h.claimer.me
-      → HasTaken h x cursor h
-  take_begins h x cursor begins is_at first at = record {
+      → HasTaken done h x cursor h
+  take_begins done h x cursor begins is_at first at = record {
     taken = 0;
     machine = ap (λ (s : Stage). record h.machine { stage = s }) begins;
     claimer = is_at;
     at = at;
     seat = refl;
     same = record { position = refl; collector = refl };
-    performed = ([], (refl, refl, ap (λ (z : TakeCursor). record { put = PutLook 0; take = z }) first));
+    performed = ([], (refl, refl, ap (λ (z : TakeCursor). record { put = PutLook 0; take = z }) first), tt);
   }
 
   -- it goes on
-  pub take_again : (h n : Local T W) (x : ℕ) (cursor next : TakeCursor) (m : Machine (Job W)) (claimer : _) (bag : Sealed (Job W))
-      → (taken : HasTaken h x cursor n)
+  pub take_again : (done : W → Type 0) (h n : Local T W) (x : ℕ) (cursor next : TakeCursor) (m : Machine (Job W)) (claimer : _) (bag : Sealed (Job W))
+      → (taken : HasTaken done h x cursor n)
       → m ≡ took_heard n.machine n.machine.stage TakeAgain m.hand
       → IsAt h.collector.now.places claimer
       → TakesAt h.collector.now.places.places x next claimer.me
       → TakeMoves h.collector.now.places.places x cursor n.claimer.me TakeAgain next claimer.me bag
-      → HasTaken h x next (record n { claimer = claimer; machine = m })
-  take_again h n x cursor next m claimer bag taken after is_at at moves =
+      → HasTaken done h x next (record n { claimer = claimer; machine = m })
+  take_again done h n x cursor next m claimer bag taken after is_at at moves =
       let same : m ≡ n.machine = after ∙ ap (λ (s : Stage). took_heard n.machine s TakeAgain m.hand) (ap (λ (z : Machine (Job W)). z.stage) taken.machine) in
       record {
         taken = taken.taken;
@@ -183,21 +188,21 @@ module _ {T W : Type 0} where
         at = at;
         seat = taken.seat;
         same = record { position = taken.same.position; collector = taken.same.collector };
-        performed = take_performed h n x cursor next TakeAgain m claimer.me bag taken after (λ got. absurd (cc got)) moves;
+        performed = take_performed done h n x cursor next TakeAgain m claimer.me bag taken after (λ got. absurd (cc got)) moves;
       }
 
   -- no further bag is found
-  pub take_ends : (h n : Local T W) (x : ℕ) (cursor next : TakeCursor) (m : Machine (Job W)) (claimer : _) (bag : Sealed (Job W))
-      → (taken : HasTaken h x cursor n)
+  pub take_ends : (done : W → Type 0) (h n : Local T W) (x : ℕ) (cursor next : TakeCursor) (m : Machine (Job W)) (claimer : _) (bag : Sealed (Job W))
+      → (taken : HasTaken done h x cursor n)
       → m ≡ took_heard n.machine n.machine.stage TakeEnds m.hand
       → IsAt h.collector.now.places claimer
       → RestsAt claimer.me
       → TakeMoves h.collector.now.places.places x cursor n.claimer.me TakeEnds next claimer.me bag
-      → TakesBags h (record n { claimer = claimer; machine = m })
-  take_ends h n x cursor next m claimer bag taken after is_at rests moves =
+      → TakesBags done h (record n { claimer = claimer; machine = m })
+  take_ends done h n x cursor next m claimer bag taken after is_at rests moves =
       let ends : m ≡ with_stage n.machine (after_collect n.machine.action n.machine.held) =
       after ∙ ap (λ (s : Stage). took_heard n.machine s TakeEnds m.hand) (ap (λ (z : Machine (Job W)). z.stage) taken.machine) in
-      let done = take_performed h n x cursor next TakeEnds m claimer.me bag taken after (λ got. absurd (cc got)) moves in
+      let steps = take_performed done h n x cursor next TakeEnds m claimer.me bag taken after (λ got. absurd (cc got)) moves in
       record {
         claimer = is_at;
         rests = rests;
@@ -205,7 +210,7 @@ module _ {T W : Type 0} where
         same = record { position = taken.same.position; collector = taken.same.collector };
         machine = ends ∙ ap (λ (z : Machine (Job W)). with_stage z (after_collect z.action z.held)) taken.machine
             ∙ ap (λ (js : List (Job W)). record h.machine { stage = after_collect h.machine.action h.machine.held; hand = js }) (sym (ap (λ (z : Machine (Job W)). z.hand) ends));
-        performed = (record { put = PutLook 0; take = next }, done.0, done.1);
+        performed = (record { put = PutLook 0; take = next }, steps.0, steps.1, steps.2);
       }
 
   -- a bag is got, which is in hand then
@@ -217,7 +222,7 @@ module _ {T W : Type 0} where
       after ∙ ap (λ (z : Machine (Job W)). took_heard z z.stage Got m.hand) was
 
   -- behind a bag got, whose jobs were called
-  pub record HasCalledBag (h : Local T W) (x k : ℕ) (next : TakeCursor) (w : Local T W) : Type 0 where
+  pub record HasCalledBag (done : W → Type 0) (h : Local T W) (x k : ℕ) (next : TakeCursor) (w : Local T W) : Type 0 where
     pub machine : w.machine ≡ with_hand h.machine x k []
     pub claimer : IsAt h.collector.now.places w.claimer
     pub at : TakesAt h.collector.now.places.places x next w.claimer.me
@@ -225,10 +230,10 @@ module _ {T W : Type 0} where
     pub seat : w.seat ≡ h.seat
     pub same : IsSame h w
     pub performed : (log : Log (Job W)) × Performed h.collector.now.places.places h.machine (sight_of h) at_start log w.machine (sight_of w)
-        (record { put = PutLook 0; take = next })
+        (record { put = PutLook 0; take = next }) × AreCalled (IsCalled done) log
 
-  pub bag_called : (h n w : Local T W) (x : ℕ) (cursor next : TakeCursor) (m : Machine (Job W)) (claimer : _) (bag : Sealed (Job W))
-      → (taken : HasTaken h x cursor n)
+  pub bag_called : (done : W → Type 0) (h n w : Local T W) (x : ℕ) (cursor next : TakeCursor) (m : Machine (Job W)) (claimer : _) (bag : Sealed (Job W))
+      → (taken : HasTaken done h x cursor n)
       → m ≡ took_heard n.machine n.machine.stage Got m.hand
       → m.hand ≡ bag.jobs
       → IsAt h.collector.now.places claimer
@@ -236,13 +241,13 @@ module _ {T W : Type 0} where
       → RestsAt claimer.me
       → TakeMoves h.collector.now.places.places x cursor n.claimer.me Got next claimer.me bag
       → w ≡ record n { claimer = claimer; machine = w.machine }
-      → CallsHand (record n { claimer = claimer; machine = m }) x taken.taken w
-      → HasCalledBag h x taken.taken next w
-  bag_called h n w x cursor next m claimer bag taken after jobs is_at at rests moves only calls =
+      → CallsHand done (record n { claimer = claimer; machine = m }) x taken.taken w
+      → HasCalledBag done h x taken.taken next w
+  bag_called done h n w x cursor next m claimer bag taken after jobs is_at at rests moves only calls =
       let got = take_got h n x taken.taken m taken.machine after in
-      let done = take_performed h n x cursor next Got m claimer.me bag taken after (λ _. jobs) moves in
+      let steps = take_performed done h n x cursor next Got m claimer.me bag taken after (λ _. jobs) moves in
       let called = subst (λ z. (log : Log (Job W)) × Performed z.now.places.places m (record { words = n.seat.me.0; places = claimer.me }) (record { put = PutLook 0; take = next }) log
-      w.machine (record { words = n.seat.me.0; places = claimer.me }) (record { put = PutLook 0; take = next })) taken.same.collector (calls.performed (record { put = PutLook 0; take = next })) in
+      w.machine (record { words = n.seat.me.0; places = claimer.me }) (record { put = PutLook 0; take = next }) × AreCalled (IsCalled done) log) taken.same.collector (calls.performed (record { put = PutLook 0; take = next })) in
       record {
         machine = calls.machine ∙ ap (λ (z : Machine (Job W)). with_hand z x taken.taken []) got;
         claimer = subst (λ z. IsAt h.collector.now.places z.claimer) (sym only) is_at;
@@ -251,16 +256,17 @@ module _ {T W : Type 0} where
         seat = ap (λ (z : Local T W). z.seat) only ∙ taken.seat;
         same = record { position = ap (λ (z : Local T W). z.position) only ∙ taken.same.position; collector = ap (λ (z : Local T W). z.collector) only ∙ taken.same.collector };
         performed = (
-          done.0 ++ called.0,
-          subst (λ (z : Local T W). Performed h.collector.now.places.places h.machine (sight_of h) at_start (done.0 ++ called.0) w.machine (sight_of z) (record { put = PutLook 0; take = next })) (sym only)
+          steps.0 ++ called.0,
+          subst (λ (z : Local T W). Performed h.collector.now.places.places h.machine (sight_of h) at_start (steps.0 ++ called.0) w.machine (sight_of z) (record { put = PutLook 0; take = next })) (sym only)
               (performed_on h.collector.now.places.places h.machine m w.machine (sight_of h) (record { words = n.seat.me.0; places = claimer.me }) (record { words = n.seat.me.0; places = claimer.me })
-              at_start (record { put = PutLook 0; take = next }) (record { put = PutLook 0; take = next }) done.0 called.0 done.1 called.1),
+              at_start (record { put = PutLook 0; take = next }) (record { put = PutLook 0; take = next }) steps.0 called.0 steps.1 called.1),
+          called_on (IsCalled done) steps.0 called.0 steps.2 called.2,
         );
       }
 
   -- the same of the step as its call tells of it
-  pub hand_called : (h n w : Local T W) (x : ℕ) (cursor next : TakeCursor) (step : TakeStep) (m : Machine (Job W)) (claimer : _)
-      → (taken : HasTaken h x cursor n)
+  pub hand_called : (done : W → Type 0) (h n w : Local T W) (x : ℕ) (cursor next : TakeCursor) (step : TakeStep) (m : Machine (Job W)) (claimer : _)
+      → (taken : HasTaken done h x cursor n)
       → step ≡ Got
       → m ≡ took_heard n.machine n.machine.stage step m.hand
       → IsKept n.claimer claimer
@@ -269,13 +275,13 @@ module _ {T W : Type 0} where
       → ((y : ℕ) → asks n.machine ≡ Some (TakeBag y) → (bag : Sealed (Job W)) × (step ≡ Got → m.hand ≡ bag.jobs)
       × TakeMoves n.collector.now.places.places y cursor n.claimer.me step next claimer.me bag)
       → w ≡ record n { claimer = claimer; machine = w.machine }
-      → ((y k : ℕ) → m.stage ≡ after_job m y k m.hand → CallsHand (record n { claimer = claimer; machine = m }) y k w)
-      → HasCalledBag h x taken.taken next w
-  hand_called h n w x cursor next step m claimer taken got told kept at rests moves only calls =
+      → ((y k : ℕ) → m.stage ≡ after_job m y k m.hand → CallsHand done (record n { claimer = claimer; machine = m }) y k w)
+      → HasCalledBag done h x taken.taken next w
+  hand_called done h n w x cursor next step m claimer taken got told kept at rests moves only calls =
       let asked = ap (λ (z : Machine (Job W)). ask_at z.stage) taken.machine in
       let moved = moves x asked in
       let after = subst (λ (s : TakeStep). m ≡ took_heard n.machine n.machine.stage s m.hand) got told in
-      bag_called h n w x cursor next m claimer moved.0 taken after (moved.1 got) (kept.0 ∙ taken.claimer)
+      bag_called done h n w x cursor next m claimer moved.0 taken after (moved.1 got) (kept.0 ∙ taken.claimer)
       (subst (λ z. TakesAt z.now.places.places x next claimer.me) taken.same.collector (at x asked))
       (rests (λ again. absurd (cc (got, again))))
       (subst (λ (s : TakeStep). TakeMoves h.collector.now.places.places x cursor n.claimer.me s next claimer.me moved.0) got
@@ -283,8 +289,8 @@ module _ {T W : Type 0} where
       only (calls x taken.taken (got_stage h.machine m x taken.taken (take_got h n x taken.taken m taken.machine after)))
 
   -- a further bag is looked for
-  pub next_bag : (h w : Local T W) (x k : ℕ) (next : TakeCursor) → HasCalledBag h x k next w → is_taking w.machine.stage ≡ true → HasTaken h x next w
-  next_bag h w x k next called takes =
+  pub next_bag : (done : W → Type 0) (h w : Local T W) (x k : ℕ) (next : TakeCursor) → HasCalledBag done h x k next w → is_taking w.machine.stage ≡ true → HasTaken done h x next w
+  next_bag done h w x k next called takes =
       let stage = goes_on_at h.machine.action h.machine.held (k + 1 == h.machine.sizes.collect_bags) x (k + 1) (sym (ap (λ (z : Machine (Job W)). is_taking z.stage) called.machine) ∙ takes) in
       let goes = called.machine ∙ ap (λ (s : Stage). record h.machine { stage = s; hand = [] }) stage in
       record {
@@ -298,8 +304,8 @@ module _ {T W : Type 0} where
       }
 
   -- as many bags were taken as a collection takes
-  pub last_bag : (h w : Local T W) (x k : ℕ) (next : TakeCursor) → HasCalledBag h x k next w → is_taking w.machine.stage ≡ false → TakesBags h w
-  last_bag h w x k next called stopped =
+  pub last_bag : (done : W → Type 0) (h w : Local T W) (x k : ℕ) (next : TakeCursor) → HasCalledBag done h x k next w → is_taking w.machine.stage ≡ false → TakesBags done h w
+  last_bag done h w x k next called stopped =
       let stage = stops_at h.machine.action h.machine.held (k + 1 == h.machine.sizes.collect_bags) x (k + 1) (sym (ap (λ (z : Machine (Job W)). is_taking z.stage) called.machine) ∙ stopped) in
       let goes = called.machine ∙ ap (λ (s : Stage). record h.machine { stage = s; hand = [] }) stage in
       record {
@@ -308,14 +314,14 @@ module _ {T W : Type 0} where
         seat = called.seat;
         same = called.same;
         machine = goes ∙ ap (λ (js : List (Job W)). record h.machine { stage = after_collect h.machine.action h.machine.held; hand = js }) (sym (ap (λ (z : Machine (Job W)). z.hand) goes));
-        performed = (record { put = PutLook 0; take = next }, called.performed.0, called.performed.1);
+        performed = (record { put = PutLook 0; take = next }, called.performed.0, called.performed.1, called.performed.2);
       }
 
   -- THE WHOLE
 
   -- a scan, and the bags taken behind it
-  pub collected : (h n o : Local T W) (x : ℕ) → Scans h x n → TakesBags n o → Collects h o
-  collected h n o x scans takes =
+  pub collected : (done : W → Type 0) (h n o : Local T W) (x : ℕ) → Scans h x n → TakesBags done n o → Collects done h o
+  collected done h n o x scans takes =
       let same_table = scans.same.collector in
       record {
         seated = record {
@@ -335,7 +341,7 @@ module _ {T W : Type 0} where
           read = ap (λ seat. seat.me.0.first_read) takes.seat ∙ scans.pin.read;
         };
         machine = takes.machine ∙ ap (λ (z : Machine (Job W)). record z { stage = after_collect z.action z.held; hand = o.machine.hand }) scans.machine;
-        drives = λ c. let first = scans.reaches c in
-            let second = subst (λ z. (d : Cursors) × (log : Log (Job W)) × Performed z.now.places.places n.machine (sight_of n) at_start log o.machine (sight_of o) d) same_table takes.performed in
-            (second.0, first.0 ++ second.1, performed_on h.collector.now.places.places h.machine n.machine o.machine (sight_of h) (sight_of n) (sight_of o) c at_start second.0 first.0 second.1 first.1 second.2);
+        calls = λ c. let first = scans.reaches c in
+            let second = subst (λ z. (d : Cursors) × (log : Log (Job W)) × Performed z.now.places.places n.machine (sight_of n) at_start log o.machine (sight_of o) d × AreCalled (IsCalled done) log) same_table takes.performed in
+            (second.0, first.0 ++ second.1, performed_on h.collector.now.places.places h.machine n.machine o.machine (sight_of h) (sight_of n) (sight_of o) c at_start second.0 first.0 second.1 first.1 second.2, called_on (IsCalled done) first.0 second.1 (none_is_called (IsCalled done) first.0 first.2) second.3);
       }

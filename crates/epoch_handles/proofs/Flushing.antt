@@ -1,6 +1,7 @@
 -- A flush from its parts: how it begins, what its put and its collection leave, and that the two are its asks.
 use Rattle.std.proofs.Common.{◌≡◌, ◌∙◌, ℕ, ◌<◌, ◌⊎◌, if◌then◌else◌, Bool, true, false, List, [], refl, sym, ap, subst, arith, inl, inr, Some}
 use Rattle.epoch_tables.specs.SharedSteps.{RestsAt}
+use Rattle.epoch_bags.specs.Jobs.{IsCalled}
 use Rattle.epoch_bags.specs.declared.job.Job.{Job}
 use Rattle.epoch_machine.specs.declared.machine.Action.{Action}
 use Rattle.epoch_machine.specs.declared.machine.Action.TheVariants.{Flush}
@@ -8,9 +9,9 @@ use Rattle.epoch_machine.specs.declared.machine.Stage.{Stage}
 use Rattle.epoch_machine.specs.declared.machine.Stage.TheVariants.{End, LoadScan, LoadSeal}
 use Rattle.epoch_handles.specs.declared.local.Local.{Local}
 use Rattle.epoch_machine.specs.Machine.{Machine, begun, ended, is_empty, after_collect, after_put, guards_after}
-use Rattle.epoch_handles.specs.Drives.{Drives}
-use Rattle.epoch_handles.specs.Handles.{IsSeated, IsReady, IsSame, IsPinned, KeepsPin, Collects, Puts, Does, sight_of}
-use Rattle.epoch_handles.proofs.Driving.{drives_none, drives_on}
+use Rattle.epoch_handles.specs.Drives.{DrivesStraight, Calls}
+use Rattle.epoch_handles.specs.Handles.{IsSeated, IsReady, IsSame, IsPinned, KeepsPin, Collects, Puts, DoesAndCalls, sight_of}
+use Rattle.epoch_handles.proofs.Driving.{drives_none, calls_of, calls_on}
 use Rattle.epoch_handles.proofs.StraightCalls.{reading, ready_with, seated_with}
 
 module _ {J : Type 0} where
@@ -96,7 +97,7 @@ module _ {T W : Type 0} where
     pub pin : KeepsPin h n
     pub flushes : Flushes h.machine n.machine
     pub scans : n.machine.stage ≡ LoadScan
-    pub drives : Drives h.collector.now.places.places (begun Flush h.machine) (sight_of h) n.machine (sight_of n)
+    pub drives : DrivesStraight h.collector.now.places.places (begun Flush h.machine) (sight_of h) n.machine (sight_of n)
 
   -- with no job held it begins there
   pub scan_begins : (h : Local T W) (m : Machine (Job W))
@@ -111,7 +112,7 @@ module _ {T W : Type 0} where
     pin = record { published = refl; read = refl };
     flushes = flush_begun h.machine m is;
     scans = ap (λ (z : Machine (Job W)). z.stage) is ∙ flush_scans h.machine none;
-    drives = subst (λ (z : Machine (Job W)). Drives h.collector.now.places.places z (sight_of h) m (sight_of h)) is (drives_none h.collector.now.places.places m (sight_of h));
+    drives = subst (λ (z : Machine (Job W)). DrivesStraight h.collector.now.places.places z (sight_of h) m (sight_of h)) is (drives_none h.collector.now.places.places m (sight_of h));
   }
 
   -- a held bag is put first
@@ -128,47 +129,48 @@ module _ {T W : Type 0} where
         pin = record { published = puts.pin.published; read = puts.pin.read };
         flushes = put_flushes h.machine m n.machine flushes puts.machine;
         scans = put_comes_to_scan m n.machine flushes.action puts.machine;
-        drives = subst (λ (z : Machine (Job W)). Drives h.collector.now.places.places z (sight_of h) n.machine (sight_of n)) is puts.drives;
+        drives = subst (λ (z : Machine (Job W)). DrivesStraight h.collector.now.places.places z (sight_of h) n.machine (sight_of n)) is puts.drives;
       }
 
   -- The flush of h has nothing left to ask at o.
-  pub record HasFlushed (h o : Local T W) : Type 0 where
+  pub record HasFlushed (done : W → Type 0) (h o : Local T W) : Type 0 where
     pub seated : IsSeated o
     pub rests : RestsAt o.claimer.me
     pub same : IsSame h o
     pub pin : KeepsPin h o
     pub flushes : Flushes h.machine o.machine
     pub ends : o.machine.stage ≡ End
-    pub drives : Drives h.collector.now.places.places (begun Flush h.machine) (sight_of h) o.machine (sight_of o)
+    pub calls : Calls (IsCalled done) h.collector.now.places.places (begun Flush h.machine) (sight_of h) o.machine (sight_of o)
 
-  pub collection_ends : (h n o : Local T W) → ComesToScan h n → Collects n o → HasFlushed h o
-  collection_ends h n o comes collects = record {
+  pub collection_ends : (done : W → Type 0) (h n o : Local T W) → ComesToScan h n → Collects done n o → HasFlushed done h o
+  collection_ends done h n o comes collects = record {
     seated = collects.seated;
     rests = collects.rests;
     same = record { position = collects.same.position ∙ comes.same.position; collector = collects.same.collector ∙ comes.same.collector };
     pin = record { published = collects.pin.published ∙ comes.pin.published; read = collects.pin.read ∙ comes.pin.read };
     flushes = flushes_still h.machine n.machine o.machine _ _ _ _ collects.machine comes.flushes;
     ends = ap (λ (z : Machine (Job W)). z.stage) collects.machine ∙ ap (λ (a : Action). after_collect a n.machine.held) comes.flushes.action;
-    drives = drives_on h.collector.now.places.places (begun Flush h.machine) n.machine o.machine (sight_of h) (sight_of n) (sight_of o) comes.drives
-        (subst (λ z. Drives z.now.places.places n.machine (sight_of n) o.machine (sight_of o)) comes.same.collector collects.drives);
+    calls = calls_on (IsCalled done) h.collector.now.places.places (begun Flush h.machine) n.machine o.machine (sight_of h) (sight_of n) (sight_of o)
+        (calls_of (IsCalled done) h.collector.now.places.places (begun Flush h.machine) n.machine (sight_of h) (sight_of n) comes.drives)
+        (subst (λ z. Calls (IsCalled done) z.now.places.places n.machine (sight_of n) o.machine (sight_of o)) comes.same.collector collects.calls);
   }
 
   -- THE WHOLE
 
-  pub flush_does : (h o : Local T W) (m : Machine (Job W))
-      → HasFlushed h o
+  pub flush_does : (done : W → Type 0) (h o : Local T W) (m : Machine (Job W))
+      → HasFlushed done h o
       → m ≡ ended o.machine
-      → Does h Flush (record o { machine = m })
-  flush_does h o m flushed is = (o.machine, flushed.ends, is, flushed.drives)
+      → DoesAndCalls done h Flush (record o { machine = m })
+  flush_does done h o m flushed is = (o.machine, flushed.ends, is, flushed.calls)
 
   -- it stays pinned as it was, with its guards
-  pub flush_ready : (h o : Local T W) (m : Machine (Job W))
+  pub flush_ready : (done : W → Type 0) (h o : Local T W) (m : Machine (Job W))
       → IsReady h
       → 0 < h.machine.guards
-      → HasFlushed h o
+      → HasFlushed done h o
       → m ≡ ended o.machine
       → IsReady (record o { machine = m })
-  flush_ready h o m ready out flushed is =
+  flush_ready done h o m ready out flushed is =
       let counted : m.guards ≡ h.machine.guards = ap (λ (z : Machine (Job W)). z.guards) is ∙ none_counted o.machine flushed.flushes.action ∙ flushed.flushes.guards in
       let still : m.published ≡ h.machine.published = ap (λ (z : Machine (Job W)). z.published) is ∙ flushed.flushes.published in
       let first = reading h.seat.me.0.first_read (ready.agrees.read out) in

@@ -94,6 +94,7 @@ module _ {T W : Type 0} where
         (record { ask = LoadEpoch; reply = Heard (Epoch seal) } ∷ []) (with_stage h.machine (Put seal)) (sight_of n) at_start)
         (sym begins)
         (refl, tt, (sight_of n, at_start, (rises, sight_behind h n _ steps, refl), (refl, refl, refl))),
+    (tt, tt),
   )
 
   pub put_begins : (h n : Local T W) (seal : ℕ) (cursor : PutCursor) (m : Machine (Job W))
@@ -141,7 +142,7 @@ module _ {T W : Type 0} where
           (refl, refl, subst (λ z. PutMoves z.now.places.places cursor n.claimer.me.0 (record { seal = seal; jobs = n.machine.held }) step next me.0) put.same.collector moves),
           (after, refl, refl),
         ),
-      )
+      ) (tt, tt)
 
   -- the same participant behind a step of its seat at the places
   seated_at : (n : Local T W) (m : Machine (Job W)) (claimer : _)

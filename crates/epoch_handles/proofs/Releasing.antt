@@ -3,6 +3,7 @@ use Rattle.std.proofs.Common.{◌≡◌, ◌≢◌, ◌∙◌, ℕ, ◌⊎◌, B
 use Rattle.std.proofs.lemmas.Bool.{true≢false, false≢true}
 use Rattle.epoch_tables.specs.TableSteps.{after_own, after_free}
 use Rattle.epoch_tables.specs.SharedSteps.{RestsAt}
+use Rattle.epoch_bags.specs.Jobs.{IsCalled}
 use Rattle.epoch_bags.specs.declared.job.Job.{Job}
 use Rattle.epoch_tables.specs.declared.table.view.ParticipantView.{ParticipantView}
 use Rattle.epoch_machine.specs.declared.machine.Action.{Action}
@@ -15,10 +16,10 @@ use Rattle.epoch_machine.specs.declared.machine.Stage.TheVariants.{End, LoadSeal
 use Rattle.epoch_handles.specs.declared.local.Local.{Local}
 use Rattle.epoch_machine.specs.Machine.{Machine, begun, heard, ended, fresh, guards_after, is_empty, after_unpin, after_put, after_collect, with_stage}
 use Rattle.epoch_machine.specs.Asks.{Heard}
-use Rattle.epoch_handles.specs.Drives.{Sight, Drives, with_words}
+use Rattle.epoch_handles.specs.Drives.{Sight, DrivesStraight, Calls, with_words}
 use Rattle.epoch_handles.specs.Handles.{IsReady, IsSame, IsLeftWhole, Steps, PinSteps, Collects, sight_of}
 use Rattle.epoch_handles.specs.Releases.{IsLeaving, IsRefused, IsFreed, IsReleased}
-use Rattle.epoch_handles.proofs.Driving.{drives_on}
+use Rattle.epoch_handles.proofs.Driving.{drives_on, calls_of, calls_on}
 use Rattle.epoch_handles.proofs.StraightCalls.{unpin_performed, sight_behind, pin_drives, pinned_behind, seated_with, ready_with, rests_still}
 
 -- THE STORES THAT END A RELEASE
@@ -39,18 +40,18 @@ module _ {J : Type 0} where
       (ap (λ (a : Action). with_stage m (after_unpin a m.full)) action ∙ ap (λ (b : Bool). with_stage m (after_unpin Release b)) full)
 
   free_performed : (places : ℕ) (m : Machine J) (v : Sight J)
-      → Drives places (with_stage m StageFree) v (fresh m.sizes) (with_words v (after_free v.words))
-  free_performed places m v = λ c. (c, record { ask = StoreFree; reply = Heard Stored } ∷ [], (refl, tt, (_, c, (refl, refl), (refl, refl, refl))))
+      → DrivesStraight places (with_stage m StageFree) v (fresh m.sizes) (with_words v (after_free v.words))
+  free_performed places m v = λ c. (c, record { ask = StoreFree; reply = Heard Stored } ∷ [], (refl, tt, (_, c, (refl, refl), (refl, refl, refl))), (tt, tt))
 
   -- the two stores of a participant that leaves
   pub leaving_performed : (places : ℕ) (m : Machine J) (v : Sight J)
       → m.stage ≡ StageUnpinned
       → m.action ≡ Release
       → m.full ≡ false
-      → Drives places m v (fresh m.sizes) (with_words v (after_free (after_own v.words None)))
+      → DrivesStraight places m v (fresh m.sizes) (with_words v (after_free (after_own v.words None)))
   leaving_performed places m v at action room =
       drives_on places m (with_stage m StageFree) (fresh m.sizes) v (with_words v (after_own v.words None)) _
-      (subst (λ (z : Machine J). Drives places m v z (with_words v (after_own v.words None))) (store_leads_on m at action room)
+      (subst (λ (z : Machine J). DrivesStraight places m v z (with_words v (after_own v.words None))) (store_leads_on m at action room)
       (unpin_performed places m v at))
       (free_performed places m (with_words v (after_own v.words None)))
 
@@ -66,7 +67,7 @@ module _ {T W : Type 0} where
       ∙ ap (λ z. record { words = after_free (after_own h.seat.me.0 None); places = z.me }) (claimer ∙ steps.claimer)
 
   -- the participant behind the two stores: n behind the first one, o behind the second
-  pub left_for_good : (h n o : Local T W) (told last : Machine (Job W))
+  pub left_for_good : (done : W → Type 0) (h n o : Local T W) (told last : Machine (Job W))
       → h.machine.stage ≡ StageUnpinned
       → h.machine.action ≡ Release
       → h.machine.full ≡ false
@@ -76,8 +77,8 @@ module _ {T W : Type 0} where
       → o ≡ record n { machine = told; seat = o.seat }
       → o.seat.me.0 ≡ after_free n.seat.me.0
       → last ≡ heard o.machine Stored
-      → IsFreed h (record o { machine = last })
-  left_for_good h n o told last at action room none steps is only knows is_last =
+      → IsFreed done h (record o { machine = last })
+  left_for_good done h n o told last at action room none steps is only knows is_last =
       let freed : last ≡ fresh h.machine.sizes = is_last ∙ ap (λ (z : Machine (Job W)). heard z Stored)
       (ap (λ (z : Local T W). z.machine) only ∙ is ∙ ap (λ (z : Machine (Job W)). heard z Stored) steps.machine ∙ store_leads_on h.machine at action room) in
       record {
@@ -88,10 +89,11 @@ module _ {T W : Type 0} where
         position = ap (λ (z : ParticipantView). z.position) knows;
         machine = freed;
         whole = λ some. absurd (some none);
-        drives = subst (λ (z : Machine (Job W)). Drives h.collector.now.places.places h.machine (sight_of h) z (sight_of o)) (sym freed)
-            (subst (λ (z : Sight (Job W)). Drives h.collector.now.places.places h.machine (sight_of h) (fresh h.machine.sizes) z)
+        calls = calls_of (IsCalled done) h.collector.now.places.places h.machine last (sight_of h) (sight_of o)
+            (subst (λ (z : Machine (Job W)). DrivesStraight h.collector.now.places.places h.machine (sight_of h) z (sight_of o)) (sym freed)
+            (subst (λ (z : Sight (Job W)). DrivesStraight h.collector.now.places.places h.machine (sight_of h) (fresh h.machine.sizes) z)
             (sym (sight_gone h n o steps (ap (λ (z : Local T W). z.claimer) only) knows))
-            (leaving_performed h.collector.now.places.places h.machine (sight_of h) at action room));
+            (leaving_performed h.collector.now.places.places h.machine (sight_of h) at action room)));
       }
 
   -- A RELEASE THAT IS REFUSED
@@ -107,7 +109,7 @@ module _ {T W : Type 0} where
   told_last h n told at action full same is =
       is ∙ ap (λ (z : Machine (Job W)). heard z Stored) same ∙ store_is_last h.machine at action full
 
-  pub stayed : (h n : Local T W) (told last : Machine (Job W))
+  pub stayed : (done : W → Type 0) (h n : Local T W) (told last : Machine (Job W))
       → RestsAt h.claimer.me
       → h.machine.stage ≡ StageUnpinned
       → h.machine.action ≡ Release
@@ -117,8 +119,8 @@ module _ {T W : Type 0} where
       → Steps h n (after_own h.seat.me.0 None)
       → told ≡ heard n.machine Stored
       → last ≡ ended told
-      → IsRefused h (record n { machine = last })
-  stayed h n told last rests at action full held none steps is is_last =
+      → IsRefused done h (record n { machine = last })
+  stayed done h n told last rests at action full held none steps is is_last =
       let over : told ≡ with_stage h.machine End = told_last h n told at action full steps.machine is in
       let leaves : last ≡ ended (with_stage h.machine End) = is_last ∙ ap (λ (z : Machine (Job W)). ended z) over in
       let counted : last.guards ≡ 0 = ap (λ (z : Machine (Job W)). z.guards) leaves ∙ ap (λ (a : Action). guards_after a h.machine.guards) action ∙ none in
@@ -129,9 +131,10 @@ module _ {T W : Type 0} where
           told,
           ap (λ (z : Machine (Job W)). z.stage) over,
           is_last,
-          subst (λ (z : Machine (Job W)). Drives h.collector.now.places.places h.machine (sight_of h) z (sight_of n)) heard_told
-              (subst (λ (z : Sight (Job W)). Drives h.collector.now.places.places h.machine (sight_of h) (heard h.machine Stored) z) (sym (sight_behind h n _ steps))
-              (unpin_performed h.collector.now.places.places h.machine (sight_of h) at)),
+          calls_of (IsCalled done) h.collector.now.places.places h.machine told (sight_of h) (sight_of n)
+              (subst (λ (z : Machine (Job W)). DrivesStraight h.collector.now.places.places h.machine (sight_of h) z (sight_of n)) heard_told
+              (subst (λ (z : Sight (Job W)). DrivesStraight h.collector.now.places.places h.machine (sight_of h) (heard h.machine Stored) z) (sym (sight_behind h n _ steps))
+              (unpin_performed h.collector.now.places.places h.machine (sight_of h) at))),
         );
         ready = ready_with n last steps.seated (rests_still h n _ steps rests)
             (ap (λ (z : Machine (Job W)). z.sizes) leaves ∙ ap (λ (z : Machine (Job W)). z.sizes) (sym steps.machine))
@@ -176,29 +179,29 @@ module _ {T W : Type 0} where
   left_still jobs n o kept whole = subst (λ z. IsLeftWhole jobs z.me.0) (sym kept) whole
 
   -- what a release did before this way out belongs to it
-  pub freed_behind : (h n o : Local T W)
+  pub freed_behind : (done : W → Type 0) (h n o : Local T W)
       → IsSame h n
       → n.machine.sizes ≡ h.machine.sizes
-      → Drives h.collector.now.places.places h.machine (sight_of h) n.machine (sight_of n)
+      → Calls (IsCalled done) h.collector.now.places.places h.machine (sight_of h) n.machine (sight_of n)
       → (h.machine.held ≢ [] → IsLeftWhole h.machine.held o.claimer.me.0)
-      → IsFreed n o
-      → IsFreed h o
-  freed_behind h n o same sizes before whole freed = record {
+      → IsFreed done n o
+      → IsFreed done h o
+  freed_behind done h n o same sizes before whole freed = record {
     same = record { position = freed.same.position ∙ same.position; collector = freed.same.collector ∙ same.collector };
     position = freed.position;
     machine = freed.machine ∙ ap (λ (z : Sizes). fresh z) sizes;
     whole = whole;
-    drives = drives_on h.collector.now.places.places h.machine n.machine o.machine (sight_of h) (sight_of n) (sight_of o) before
-        (subst (λ z. Drives z.now.places.places n.machine (sight_of n) o.machine (sight_of o)) same.collector freed.drives);
+    calls = calls_on (IsCalled done) h.collector.now.places.places h.machine n.machine o.machine (sight_of h) (sight_of n) (sight_of o) before
+        (subst (λ z. Calls (IsCalled done) z.now.places.places n.machine (sight_of n) o.machine (sight_of o)) same.collector freed.calls);
   }
 
-  pub refused_behind : (h n o : Local T W)
+  pub refused_behind : (done : W → Type 0) (h n o : Local T W)
       → IsSame h n
       → n.machine.held ≡ h.machine.held
-      → Drives h.collector.now.places.places h.machine (sight_of h) n.machine (sight_of n)
-      → IsRefused n o
-      → IsRefused h o
-  refused_behind h n o same held before refused =
+      → Calls (IsCalled done) h.collector.now.places.places h.machine (sight_of h) n.machine (sight_of n)
+      → IsRefused done n o
+      → IsRefused done h o
+  refused_behind done h n o same held before refused =
       let last = refused.ends.0 in
       record {
         same = record { position = refused.same.position ∙ same.position; collector = refused.same.collector ∙ same.collector };
@@ -206,8 +209,8 @@ module _ {T W : Type 0} where
           last,
           refused.ends.1,
           refused.ends.2,
-          drives_on h.collector.now.places.places h.machine n.machine last (sight_of h) (sight_of n) (sight_of o) before
-              (subst (λ z. Drives z.now.places.places n.machine (sight_of n) last (sight_of o)) same.collector refused.ends.3),
+          calls_on (IsCalled done) h.collector.now.places.places h.machine n.machine last (sight_of h) (sight_of n) (sight_of o) before
+              (subst (λ z. Calls (IsCalled done) z.now.places.places n.machine (sight_of n) last (sight_of o)) same.collector refused.ends.3),
         );
         ready = refused.ready;
         held = ((λ none. refused.held.0 (held ∙ none)), refused.held.1 ∙ held);
@@ -218,13 +221,13 @@ module _ {T W : Type 0} where
 
 module _ {T W : Type 0} where
   -- behind its pin
-  pub release_pins : (h n : Local T W) (e : ℕ) (m : Machine (Job W))
+  pub release_pins : (done : W → Type 0) (h n : Local T W) (e : ℕ) (m : Machine (Job W))
       → IsReady h
       → h.machine.guards ≡ 0
       → PinSteps h e n
       → ((again : ℕ) → m ≡ heard (heard (heard (begun Release n.machine) (Epoch e)) Stored) (Epoch again))
-      → IsLeaving h (record n { machine = m })
-  release_pins h n e m ready none steps after =
+      → IsLeaving done h (record n { machine = m })
+  release_pins done h n e m ready none steps after =
       let is : m ≡ heard (heard (heard (begun Release h.machine) (Epoch e)) Stored) (Epoch steps.again) = after steps.again
       ∙ ap (λ (z : Machine (Job W)). heard (heard (heard (begun Release z) (Epoch e)) Stored) (Epoch steps.again)) steps.steps.machine in
       record {
@@ -237,13 +240,14 @@ module _ {T W : Type 0} where
         none = ap (λ (z : Machine (Job W)). z.guards) is ∙ none;
         held = ap (λ (z : Machine (Job W)). z.held) is;
         sizes = ap (λ (z : Machine (Job W)). z.sizes) is;
-        drives = subst (λ (z : Machine (Job W)). Drives h.collector.now.places.places (begun Release h.machine) (sight_of h) z (sight_of n)) (sym is)
-            (pin_drives h n (begun Release h.machine) e refl steps);
+        calls = calls_of (IsCalled done) h.collector.now.places.places (begun Release h.machine) m (sight_of h) (sight_of n)
+            (subst (λ (z : Machine (Job W)). DrivesStraight h.collector.now.places.places (begun Release h.machine) (sight_of h) z (sight_of n)) (sym is)
+            (pin_drives h n (begun Release h.machine) e refl steps));
       }
 
   -- behind its collection
-  pub release_collects : (h n o : Local T W) → IsLeaving h n → Collects n o → IsLeaving h o
-  release_collects h n o leaving collects = record {
+  pub release_collects : (done : W → Type 0) (h n o : Local T W) → IsLeaving done h n → Collects done n o → IsLeaving done h o
+  release_collects done h n o leaving collects = record {
     seated = collects.seated;
     rests = collects.rests;
     pinned = record {
@@ -256,37 +260,37 @@ module _ {T W : Type 0} where
     none = ap (λ (z : Machine (Job W)). z.guards) collects.machine ∙ leaving.none;
     held = ap (λ (z : Machine (Job W)). z.held) collects.machine ∙ leaving.held;
     sizes = ap (λ (z : Machine (Job W)). z.sizes) collects.machine ∙ leaving.sizes;
-    drives = drives_on h.collector.now.places.places (begun Release h.machine) n.machine o.machine (sight_of h) (sight_of n) (sight_of o) leaving.drives
-        (subst (λ z. Drives z.now.places.places n.machine (sight_of n) o.machine (sight_of o)) leaving.same.collector collects.drives);
+    calls = calls_on (IsCalled done) h.collector.now.places.places (begun Release h.machine) n.machine o.machine (sight_of h) (sight_of n) (sight_of o) leaving.calls
+        (subst (λ z. Calls (IsCalled done) z.now.places.places n.machine (sight_of n) o.machine (sight_of o)) leaving.same.collector collects.calls);
   }
 
-  pub collected_to_leave : (h n o : Local T W) → IsLeaving h n → Collects n o → o.machine.stage ≡ after_collect Release o.machine.held
-  collected_to_leave h n o leaving collects =
+  pub collected_to_leave : (done : W → Type 0) (h n o : Local T W) → IsLeaving done h n → Collects done n o → o.machine.stage ≡ after_collect Release o.machine.held
+  collected_to_leave done h n o leaving collects =
       ap (λ (z : Machine (Job W)). z.stage) collects.machine
       ∙ ap (λ (a : Action). after_collect a n.machine.held) leaving.action
       ∙ ap (λ (z : List (Job W)). after_collect Release z) (sym (ap (λ (z : Machine (Job W)). z.held) collects.machine))
 
   -- HOW IT COMES OUT
 
-  pub refused_at_last : (h n o : Local T W) → IsLeaving h n → IsRefused n o → IsRefused (record h { machine = begun Release h.machine }) o
-  refused_at_last h n o leaving refused =
-      refused_behind (record h { machine = begun Release h.machine }) n o
-      (record { position = leaving.same.position; collector = leaving.same.collector }) leaving.held leaving.drives refused
+  pub refused_at_last : (done : W → Type 0) (h n o : Local T W) → IsLeaving done h n → IsRefused done n o → IsRefused done (record h { machine = begun Release h.machine }) o
+  refused_at_last done h n o leaving refused =
+      refused_behind done (record h { machine = begun Release h.machine }) n o
+      (record { position = leaving.same.position; collector = leaving.same.collector }) leaving.held leaving.calls refused
 
-  pub freed_at_last : (h n o : Local T W) → IsLeaving h n → IsFreed n o → IsReleased h o
-  freed_at_last h n o leaving freed =
-      freed_behind (record h { machine = begun Release h.machine }) n o
-      (record { position = leaving.same.position; collector = leaving.same.collector }) leaving.sizes leaving.drives
+  pub freed_at_last : (done : W → Type 0) (h n o : Local T W) → IsLeaving done h n → IsFreed done n o → IsReleased done h o
+  freed_at_last done h n o leaving freed =
+      freed_behind done (record h { machine = begun Release h.machine }) n o
+      (record { position = leaving.same.position; collector = leaving.same.collector }) leaving.sizes leaving.calls
       (subst (λ (z : List (Job W)). z ≢ [] → IsLeftWhole z o.claimer.me.0) leaving.held freed.whole) freed
 
-  pub same_at_last : (h n o : Local T W) (free : Bool)
-      → IsLeaving h n
-      → (free ≡ false → IsRefused n o)
-      → (free ≡ true → IsFreed n o)
+  pub same_at_last : (done : W → Type 0) (h n o : Local T W) (free : Bool)
+      → IsLeaving done h n
+      → (free ≡ false → IsRefused done n o)
+      → (free ≡ true → IsFreed done n o)
       → IsSame h o
-  same_at_last h n o false leaving refused freed =
+  same_at_last done h n o false leaving refused freed =
       let same = (refused refl).same in
       record { position = same.position ∙ leaving.same.position; collector = same.collector ∙ leaving.same.collector }
-  same_at_last h n o true leaving refused freed =
+  same_at_last done h n o true leaving refused freed =
       let same = (freed refl).same in
       record { position = same.position ∙ leaving.same.position; collector = same.collector ∙ leaving.same.collector }

@@ -103,6 +103,7 @@ module _ {T W : Type 0} where
                   (ap (λ (b : Bool). with_stage h.machine (if b then scanned e else Scan e 0)) (ne_eqb 0 h.machine.sizes.positions (λ is. absurd (omega arith))), refl, refl),
                 ),
               ),
+          (tt, tt),
         );
       }
 
@@ -117,7 +118,7 @@ module _ {T W : Type 0} where
       reaches_on h.collector.now.places.places h.machine (with_stage h.machine (at_scan h.machine.sizes.positions e k)) _ (sight_of h) (sight_of n) (sight_of o) at_start at_start
       passed.reaches (record { ask = LoadWord k; reply = Heard (Word w) } ∷ [])
       (scan_goes_on h.collector.now.places.places h.machine.sizes.positions h.machine (sight_of n) (sight_of o) e k w refl within is_word passed.scan
-      (λ lets. sight_behind n o _ (found.0 lets), λ holds. sight_behind n o _ (found.1 holds)))
+      (λ lets. sight_behind n o _ (found.0 lets), λ holds. sight_behind n o _ (found.1 holds))) (tt, tt)
 
   pub scan_passes : (h n o : Local T W) (e k w : ℕ)
       → HasPassed h e k n
@@ -219,4 +220,4 @@ module _ {T W : Type 0} where
       passed.reaches (record { ask = StoreEpoch (e + 1); reply = Heard Stored } ∷ [])
       (subst (λ (s : Stage). Performed h.collector.now.places.places (with_stage h.machine s) (sight_of n) at_start
       (record { ask = StoreEpoch (e + 1); reply = Heard Stored } ∷ []) (with_stage h.machine (Take (e + 1) 0)) (sight_of o) at_start) (sym advances)
-      (refl, tt, (sight_of o, at_start, (ahead, sight_behind n o _ steps, refl), (refl, refl, refl)))))
+      (refl, tt, (sight_of o, at_start, (ahead, sight_behind n o _ steps, refl), (refl, refl, refl)))) (tt, tt))

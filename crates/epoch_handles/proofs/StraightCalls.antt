@@ -13,7 +13,7 @@ use Rattle.epoch_machine.specs.declared.machine.Stage.TheVariants.{Idle, LoadPin
 use Rattle.epoch_handles.specs.declared.local.Local.{Local}
 use Rattle.epoch_machine.specs.Machine.{Machine, begun, heard}
 use Rattle.epoch_machine.specs.Asks.{Heard}
-use Rattle.epoch_handles.specs.Drives.{Sight, Drives, at_start, with_words}
+use Rattle.epoch_handles.specs.Drives.{Sight, DrivesStraight, at_start, with_words}
 use Rattle.epoch_handles.proofs.Driving.{drives_on}
 use Rattle.epoch_handles.specs.Handles.{IsSeated, IsReady, IsPinned, Steps, PinSteps, sight_of}
 
@@ -83,11 +83,11 @@ module _ {J : Type 0} where
       → m.stage ≡ LoadPin
       → v.words.seen ≤ e
       → e ≤ again
-      → Drives places m v (heard (heard (heard m (Epoch e)) Stored) (Epoch again))
+      → DrivesStraight places m v (heard (heard (heard m (Epoch e)) Stored) (Epoch again))
       (with_words v (after_epoch (after_own (after_epoch v.words e) (Some e)) again))
   pin_performed places m v e again at rises rises_again =
       subst (λ (s : Stage). let n : Machine J = record m { stage = s } in
-      Drives places n v (heard (heard (heard n (Epoch e)) Stored) (Epoch again))
+      DrivesStraight places n v (heard (heard (heard n (Epoch e)) Stored) (Epoch again))
       (with_words v (after_epoch (after_own (after_epoch v.words e) (Some e)) again))) (sym at)
       (λ c. (
         at_start,
@@ -113,26 +113,28 @@ module _ {J : Type 0} where
             ),
           ),
         ),
+        (tt, (tt, (tt, tt))),
       ))
 
   pub repin_same_performed : (places : ℕ) (m : Machine J) (v : Sight J) (e : ℕ)
       → m.stage ≡ LoadRepin
       → v.words.seen ≤ e
-      → Drives places m v (heard m (Epoch e)) (with_words v (after_epoch v.words e))
+      → DrivesStraight places m v (heard m (Epoch e)) (with_words v (after_epoch v.words e))
   repin_same_performed places m v e at rises =
       subst (λ (s : Stage). let n : Machine J = record m { stage = s } in
-      Drives places n v (heard n (Epoch e)) (with_words v (after_epoch v.words e))) (sym at)
+      DrivesStraight places n v (heard n (Epoch e)) (with_words v (after_epoch v.words e))) (sym at)
       (λ c. (
         at_start,
         record { ask = LoadEpoch; reply = Heard (Epoch e) } ∷ [],
         (refl, tt, (_, at_start, (rises, refl, refl), (refl, refl, refl))),
+        (tt, tt),
       ))
 
   -- a machine at the store of a repin, which reads the epoch again behind it
   repin_stores : (places : ℕ) (m : Machine J) (v : Sight J) (e again : ℕ)
       → e ≤ v.words.seen
       → v.words.seen ≤ again
-      → Drives places (record m { stage = StoreRepin e }) v (heard (heard (record m { stage = StoreRepin e }) Stored) (Epoch again))
+      → DrivesStraight places (record m { stage = StoreRepin e }) v (heard (heard (record m { stage = StoreRepin e }) Stored) (Epoch again))
       (with_words v (after_epoch (after_own v.words (Some e)) again))
   repin_stores places m v e again read rises = λ c. (
     at_start,
@@ -147,6 +149,7 @@ module _ {J : Type 0} where
         (refl, tt, (_, at_start, (rises, refl, refl), (refl, refl, refl))),
       ),
     ),
+    (tt, (tt, tt)),
   )
 
   pub repin_moved_performed : (places : ℕ) (m : Machine J) (v : Sight J) (e again : ℕ)
@@ -154,22 +157,22 @@ module _ {J : Type 0} where
       → m.published ≢ e
       → v.words.seen ≤ e
       → e ≤ again
-      → Drives places (begun Repin m) v (heard (heard (heard (begun Repin m) (Epoch e)) Stored) (Epoch again))
+      → DrivesStraight places (begun Repin m) v (heard (heard (heard (begun Repin m) (Epoch e)) Stored) (Epoch again))
       (with_words v (after_epoch (after_own (after_epoch v.words e) (Some e)) again))
   repin_moved_performed places m v e again one moved rises rises_again =
       drives_on places (begun Repin m) (heard (begun Repin m) (Epoch e)) _ v (with_words v (after_epoch v.words e)) _
       (repin_same_performed places (begun Repin m) v e (repin_begins m one) rises)
-      (subst (λ (z : Machine J). Drives places z (with_words v (after_epoch v.words e)) (heard (heard z Stored) (Epoch again))
+      (subst (λ (z : Machine J). DrivesStraight places z (with_words v (after_epoch v.words e)) (heard (heard z Stored) (Epoch again))
       (with_words v (after_epoch (after_own (after_epoch v.words e) (Some e)) again))) (sym (repin_moves m e one moved))
       (repin_stores places (begun Repin m) (with_words v (after_epoch v.words e)) e again (omega arith) rises_again))
 
   pub unpin_performed : (places : ℕ) (m : Machine J) (v : Sight J)
       → m.stage ≡ StageUnpinned
-      → Drives places m v (heard m Stored) (with_words v (after_own v.words None))
+      → DrivesStraight places m v (heard m Stored) (with_words v (after_own v.words None))
   unpin_performed places m v at =
       subst (λ (s : Stage). let n : Machine J = record m { stage = s } in
-      Drives places n v (heard n Stored) (with_words v (after_own v.words None))) (sym at)
-      (λ c. (c, record { ask = StoreUnpinned; reply = Heard Stored } ∷ [], (refl, tt, (_, c, (refl, refl), (refl, refl, refl)))))
+      DrivesStraight places n v (heard n Stored) (with_words v (after_own v.words None))) (sym at)
+      (λ c. (c, record { ask = StoreUnpinned; reply = Heard Stored } ∷ [], (refl, tt, (_, c, (refl, refl), (refl, refl, refl))), (tt, tt)))
 
 -- WHAT A HANDLE KNOWS
 
@@ -193,9 +196,9 @@ module _ {T W : Type 0} where
   pub pin_drives : (h n : Local T W) (m : Machine (Job W)) (e : ℕ)
       → m.stage ≡ LoadPin
       → (steps : PinSteps h e n)
-      → Drives h.collector.now.places.places m (sight_of h) (heard (heard (heard m (Epoch e)) Stored) (Epoch steps.again)) (sight_of n)
+      → DrivesStraight h.collector.now.places.places m (sight_of h) (heard (heard (heard m (Epoch e)) Stored) (Epoch steps.again)) (sight_of n)
   pin_drives h n m e at steps =
-      subst (λ (z : Sight (Job W)). Drives h.collector.now.places.places m (sight_of h) (heard (heard (heard m (Epoch e)) Stored) (Epoch steps.again)) z)
+      subst (λ (z : Sight (Job W)). DrivesStraight h.collector.now.places.places m (sight_of h) (heard (heard (heard m (Epoch e)) Stored) (Epoch steps.again)) z)
       (sym (sight_behind h n _ steps.steps))
       (pin_performed h.collector.now.places.places m (sight_of h) e steps.again at steps.rises steps.rises_again)
 

@@ -60,10 +60,33 @@ Performed places m v c [] n u d = (n ≡ m) × (u ≡ v) × (d ≡ c)
 Performed {J} places m v c (x ∷ log) n u d = (asks m ≡ Some x.ask) × IsReply x.ask m.hand x.reply
     × ((w : Sight J) × (b : Cursors) × Performs places m v c x.ask x.reply w b × Performed places (told m x.reply) w b log n u d)
 
--- From the machine m and what its seats know, its asks were performed as far as the machine n, with the cursors there.
+-- Of a job that the machine gives this holds. A job is given to be called.
+abbrev pub HoldsOfGiven : {J : Type 0} → (J → Type 0) → Reply J → Type 0
+HoldsOfGiven IsCalled (JobGiven job) = IsCalled job
+HoldsOfGiven IsCalled reply = Unit {0}
+
+-- each job that the machine gave was called
+abbrev pub AreCalled : {J : Type 0} → (J → Type 0) → Log J → Type 0
+AreCalled IsCalled [] = Unit {0}
+AreCalled IsCalled (x ∷ log) = HoldsOfGiven IsCalled x.reply × AreCalled IsCalled log
+
+-- the machine gave no job
+abbrev pub IsNoneGiven : {J : Type 0} → Log J → Type 0
+IsNoneGiven log = AreCalled (λ _. ⊥) log
+
+-- From the machine m and what its seats know, its asks were performed as far as the machine n, with the cursors there. It
+-- gave no job.
 abbrev pub Reaches : {J : Type 0} → ℕ → Machine J → Sight J → Machine J → Sight J → Cursors → Type 0
-Reaches {J} places m v n u d = (c : Cursors) → (log : Log J) × Performed places m v c log n u d
+Reaches {J} places m v n u d = (c : Cursors) → (log : Log J) × Performed places m v c log n u d × IsNoneGiven log
 
 -- the same, wherever the cursors are
+abbrev pub DrivesStraight : {J : Type 0} → ℕ → Machine J → Sight J → Machine J → Sight J → Type 0
+DrivesStraight {J} places m v n u = (c : Cursors) → (d : Cursors) × (log : Log J) × Performed places m v c log n u d × IsNoneGiven log
+
+-- the same, whatever jobs it gave
 abbrev pub Drives : {J : Type 0} → ℕ → Machine J → Sight J → Machine J → Sight J → Type 0
 Drives {J} places m v n u = (c : Cursors) → (d : Cursors) × (log : Log J) × Performed places m v c log n u d
+
+-- the same, where each job that it gave was called
+abbrev pub Calls : {J : Type 0} → (J → Type 0) → ℕ → Machine J → Sight J → Machine J → Sight J → Type 0
+Calls {J} IsCalled places m v n u = (c : Cursors) → (d : Cursors) × (log : Log J) × Performed places m v c log n u d × AreCalled IsCalled log

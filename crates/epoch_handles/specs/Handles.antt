@@ -6,6 +6,7 @@ use Rattle.epoch_tables.specs.Table.{IsOf}
 use Rattle.epoch_tables.specs.TableSteps.{after_epoch, after_own}
 use Rattle.epoch_tables.specs.SharedPlaces.{IsOf as IsAt}
 use Rattle.epoch_tables.specs.SharedSteps.{RestsAt}
+use Rattle.epoch_bags.specs.Jobs.{IsCalled}
 use Rattle.epoch_bags.specs.declared.job.Job.{Job}
 use Rattle.epoch_tables.specs.declared.shared_places.view.PlaceView.{PlaceView}
 use Rattle.epoch_tables.specs.declared.table.view.ParticipantView.{ParticipantView}
@@ -15,7 +16,7 @@ use Rattle.epoch_handles.specs.declared.collector.Collector.{Collector}
 use Rattle.epoch_handles.specs.declared.guard.Guard.{Guard}
 use Rattle.epoch_handles.specs.declared.local.Local.{Local}
 use Rattle.epoch_machine.specs.Machine.{Machine, begun, ended, fresh, with_stage, after_collect, after_put, after_job}
-use Rattle.epoch_handles.specs.Drives.{Sight, Cursors, Performed, Drives, Reaches, at_start}
+use Rattle.epoch_handles.specs.Drives.{Sight, Cursors, Performed, AreCalled, DrivesStraight, Drives, Calls, Reaches, at_start}
 use Rattle.epoch_machine.specs.Asks.{Log}
 
 -- what the seats of a participant know
@@ -71,27 +72,27 @@ pub record Scans {T W : Type 0} (old : Local T W) (expiry : ℕ) (new : Local T 
   pub reaches : Reaches old.collector.now.places.places old.machine (sight_of old) new.machine (sight_of new) at_start
 
 -- It called what was left of the bag in hand: the next bag is looked for, unless this was the last one.
-pub record CallsHand {T W : Type 0} (old : Local T W) (expiry taken : ℕ) (new : Local T W) : Type 0 where
+pub record CallsHand {T W : Type 0} (done : W → Type 0) (old : Local T W) (expiry taken : ℕ) (new : Local T W) : Type 0 where
   pub machine : new.machine ≡ record old.machine { stage = after_job old.machine expiry taken []; hand = [] }
-  pub performed : (c : Cursors) → (log : Log (Job W)) × Performed old.collector.now.places.places old.machine (sight_of old) c log new.machine (sight_of old) c
+  pub performed : (c : Cursors) → (log : Log (Job W)) × Performed old.collector.now.places.places old.machine (sight_of old) c log new.machine (sight_of old) c × AreCalled (IsCalled done) log
 
 -- It took bags that are expired for the epoch of its scan, and called their jobs.
-pub record TakesBags {T W : Type 0} (old new : Local T W) : Type 0 where
+pub record TakesBags {T W : Type 0} (done : W → Type 0) (old new : Local T W) : Type 0 where
   pub claimer : IsAt old.collector.now.places new.claimer
   pub rests : RestsAt new.claimer.me
   pub seat : new.seat ≡ old.seat
   pub same : IsSame old new
   pub machine : new.machine ≡ record old.machine { stage = after_collect old.machine.action old.machine.held; hand = new.machine.hand }
-  pub performed : (d : Cursors) × (log : Log (Job W)) × Performed old.collector.now.places.places old.machine (sight_of old) at_start log new.machine (sight_of new) d
+  pub performed : (d : Cursors) × (log : Log (Job W)) × Performed old.collector.now.places.places old.machine (sight_of old) at_start log new.machine (sight_of new) d × AreCalled (IsCalled done) log
 
 -- It collected: it scanned, and took bags and called their jobs, as many as a collection takes or as it found.
-pub record Collects {T W : Type 0} (old new : Local T W) : Type 0 where
+pub record Collects {T W : Type 0} (done : W → Type 0) (old new : Local T W) : Type 0 where
   pub seated : IsSeated new
   pub rests : RestsAt new.claimer.me
   pub same : IsSame old new
   pub pin : KeepsPin old new
   pub machine : new.machine ≡ record old.machine { stage = after_collect old.machine.action old.machine.held; hand = new.machine.hand }
-  pub drives : Drives old.collector.now.places.places old.machine (sight_of old) new.machine (sight_of new)
+  pub calls : Calls (IsCalled done) old.collector.now.places.places old.machine (sight_of old) new.machine (sight_of new)
 
 -- what the seat left in a place last is a bag of just these jobs, in this order
 abbrev pub IsLeftWhole : {J : Type 0} → List J → PlaceView J → Type 0
@@ -106,7 +107,7 @@ pub record Puts {T W : Type 0} (old new : Local T W) : Type 0 where
   pub machine : (new.machine ≡ record old.machine { stage = after_put old.machine.action false; full = false; held = [] })
       ⊎ (new.machine ≡ record old.machine { stage = after_put old.machine.action true; full = true })
   pub whole : new.machine.full ≡ false → IsLeftWhole old.machine.held new.claimer.me.0
-  pub drives : Drives old.collector.now.places.places old.machine (sight_of old) new.machine (sight_of new)
+  pub drives : DrivesStraight old.collector.now.places.places old.machine (sight_of old) new.machine (sight_of new)
 
 -- The word says what the machine says: pinned in the published epoch while guards are out, and not pinned while none is.
 pub record Agrees {J : Type 0} (m : Machine J) (v : ParticipantView) : Type 0 where
@@ -125,6 +126,16 @@ pub record IsReady {T W : Type 0} (h : Local T W) : Type 0 where
 abbrev pub Does : {T W : Type 0} → Local T W → Action → Local T W → Type 0
 Does {T} {W} old action new = (last : Machine (Job W)) × (last.stage ≡ End) × (new.machine ≡ ended last)
     × Drives old.collector.now.places.places (begun action old.machine) (sight_of old) last (sight_of new)
+
+-- the same of an action whose machine gave no job
+abbrev pub DoesStraight : {T W : Type 0} → Local T W → Action → Local T W → Type 0
+DoesStraight {T} {W} old action new = (last : Machine (Job W)) × (last.stage ≡ End) × (new.machine ≡ ended last)
+    × DrivesStraight old.collector.now.places.places (begun action old.machine) (sight_of old) last (sight_of new)
+
+-- the same of an action that collects: each job that its machine gave was called
+abbrev pub DoesAndCalls : {T W : Type 0} → (W → Type 0) → Local T W → Action → Local T W → Type 0
+DoesAndCalls {T} {W} done old action new = (last : Machine (Job W)) × (last.stage ≡ End) × (new.machine ≡ ended last)
+    × Calls (IsCalled done) old.collector.now.places.places (begun action old.machine) (sight_of old) last (sight_of new)
 
 -- the same participant of the same collector, between two calls, with one guard fewer
 pub record IsBetween {T W : Type 0} (old between : Local T W) : Type 0 where

@@ -2,7 +2,7 @@
 ghost use Rattle.std.specs.Prelude.{◌≡◌, ℕ, ◌+◌, ◌<◌, ◌^◌, ◌↔◌, ◌≢◌, [], ◌∷◌, ◌++◌, ◌⊎◌, IsTrue, IsSome, IsOk, IsErr, Err, IfOk, IfErr, IsOkUnless, Some, None, length};
 ghost use Rattle.epoch_cells.specs.declared.fault.Fault.TheVariants.{TableFull, StrangerGuard, BagsFull};
 ghost use Rattle.epoch_bags.specs.Jobs.{IsCalled};
-ghost use Rattle.epoch_handles.specs.Handles.{IsReady, IsNew, IsSame, IsBetween, Owns, Does};
+ghost use Rattle.epoch_handles.specs.Handles.{IsReady, IsNew, IsSame, IsBetween, Owns, Does, DoesAndCalls};
 ghost use Rattle.epoch_handles.specs.Releases.{IsReleased};
 ghost use Rattle.epoch_machine.specs.declared.machine.Action.TheVariants.{Pin, Unpin, Repin, Defer, Flush, Release};
 
@@ -228,6 +228,7 @@ impl<'c, T: Drop, W: Run> LocalHandle<'c, T, W> {
         ensures unprotected { guard.now.position ≡ None → IsOk result × (self.new ≡ self.old) }
         ensures stranger { IsSome guard.now.position → ¬ Owns self.old.local guard.now → (result ≡ Err StrangerGuard) × (self.new ≡ self.old) }
         ensures does { Owns self.old.local guard.now → Does self.old.local Flush self.new.local }
+        ensures called { Owns self.old.local guard.now → DoesAndCalls W.done self.old.local Flush self.new.local }
         ensures full { Owns self.old.local guard.now → IsErr result → (result ≡ Err BagsFull) × (self.old.local.machine.held ≢ []) × (self.new.local.machine.held ≡ self.old.local.machine.held) }
         ensures empty { Owns self.old.local guard.now → IsOk result → self.new.local.machine.held ≡ [] }
     {
@@ -277,10 +278,11 @@ impl<'c, T: Drop, W: Run> LocalHandle<'c, T, W> {
         ensures full { IfErr result (λ back. back.1 ≡ BagsFull) }
         ensures same { IfErr result (λ back. IsSame self.entry.local back.0.local) }
         ensures does { IfErr result (λ back. Does self.entry.local Release back.0.local) }
+        ensures called { IfErr result (λ back. DoesAndCalls W.done self.entry.local Release back.0.local) }
         ensures ready { IfErr result (λ back. IsReady back.0.local) }
         ensures held { IfErr result (λ back. (self.entry.local.machine.held ≢ []) × (back.0.local.machine.held ≡ self.entry.local.machine.held)) }
         ensures counted { IfErr result (λ back. back.0.local.machine.guards ≡ 0) }
-        ensures frees { IsOk result → (last : _) × IsReleased self.entry.local last }
+        ensures frees { IsOk result → (last : _) × IsReleased W.done self.entry.local last }
     {
         let LocalHandle { mut local } = self;
         let freed = local.release();
@@ -321,6 +323,7 @@ impl<'c, T: Drop, W: Run> LocalHandle<'c, T, W> {
         ensures of { result.collector.now ≡ self.old.local.collector.now }
         ensures same { IsSame self.old.local self.new.local }
         ensures does { Does self.old.local Pin self.new.local }
+        ensures called { DoesAndCalls W.done self.old.local Pin self.new.local }
         ensures ready { IsReady self.new.local }
         ensures counted { self.new.local.machine.guards ≡ self.old.local.machine.guards + 1 }
     {

@@ -13,7 +13,7 @@ impl<'c, T: Drop, W: Run> Local<'c, T, W> {
     #[inline(always)]
     fn call_hand(&mut self)
         ensures only { self.new ≡ record self.old { machine = self.new.machine } }
-        ensures calls { (expiry taken : ℕ) → self.old.machine.stage ≡ after_job self.old.machine expiry taken self.old.machine.hand → CallsHand self.old expiry taken self.new }
+        ensures calls { (expiry taken : ℕ) → self.old.machine.stage ≡ after_job self.old.machine expiry taken self.old.machine.hand → CallsHand W.done self.old expiry taken self.new }
     {
         while let Some(job) = self.machine.give() {
             let _ = job.call(&self.collector.cells);
@@ -27,7 +27,7 @@ impl<'c, T: Drop, W: Run> Local<'c, T, W> {
         requires seated { IsSeated self.old }
         requires rests { RestsAt self.old.claimer.me }
         requires takes { (expiry : ℕ) × (self.old.machine.stage ≡ Take expiry 0) }
-        ensures { TakesBags self.old self.new }
+        ensures { TakesBags W.done self.old self.new }
     {
         let mut cursor = self.collector.places.start_take();
         'bags: loop {
@@ -53,7 +53,7 @@ impl<'c, T: Drop, W: Run> Local<'c, T, W> {
         requires rests { RestsAt self.old.claimer.me }
         requires pinned { IsPinned self.old.seat.me.0 }
         requires begins { self.old.machine.stage ≡ LoadScan }
-        ensures { Collects self.old self.new }
+        ensures { Collects W.done self.old self.new }
     {
         let _ = self.scan();
         self.take_bags();

@@ -1,6 +1,6 @@
 //! Flushes: the held bag is put, and bags are collected.
 ghost use Rattle.std.specs.Prelude.{◌≡◌, ◌≢◌, ℕ, ◌<◌, true, false, []};
-ghost use Rattle.epoch_handles.specs.Handles.{IsReady, IsSame, Does};
+ghost use Rattle.epoch_handles.specs.Handles.{IsReady, IsSame, Does, DoesAndCalls};
 ghost use Rattle.epoch_machine.specs.declared.machine.Action.TheVariants.{Flush};
 
 use crate::local::Local;
@@ -16,6 +16,7 @@ impl<'c, T: Drop, W: Run> Local<'c, T, W> {
         requires out { 0 < self.old.machine.guards }
         ensures same { IsSame self.old self.new }
         ensures does { Does self.old Flush self.new }
+        ensures called { DoesAndCalls W.done self.old Flush self.new }
         ensures ready { IsReady self.new }
         ensures counted { self.new.machine.guards ≡ self.old.machine.guards }
         ensures full { result ≡ true → (self.old.machine.held ≢ []) × (self.new.machine.held ≡ self.old.machine.held) }

@@ -2,7 +2,7 @@
 ghost use Rattle.std.specs.Prelude.{◌≡◌, ◌≢◌, true, false, [], None};
 ghost use Rattle.epoch_tables.specs.TableSteps.{after_free};
 ghost use Rattle.epoch_tables.specs.SharedSteps.{RestsAt};
-ghost use Rattle.epoch_handles.specs.Handles.{IsSeated, IsReady, IsSame, IsPinned, Does};
+ghost use Rattle.epoch_handles.specs.Handles.{IsSeated, IsReady, IsSame, IsPinned, Does, DoesAndCalls};
 ghost use Rattle.epoch_machine.specs.Machine.{after_collect};
 ghost use Rattle.epoch_handles.specs.Releases.{IsLeaving, IsRefused, IsFreed, IsReleased};
 ghost use Rattle.epoch_machine.specs.declared.machine.Action.TheVariants.{Release};
@@ -35,11 +35,12 @@ impl<'c, T: Drop, W: Run> Local<'c, T, W> {
         ensures same { IsSame self.old self.new }
         // where it is refused: the action is over, the participant not pinned, and the bag held as before
         ensures does { result ≡ false → Does self.old Release self.new }
+        ensures called { result ≡ false → DoesAndCalls W.done self.old Release self.new }
         ensures ready { result ≡ false → IsReady self.new }
         ensures held { result ≡ false → (self.old.machine.held ≢ []) × (self.new.machine.held ≡ self.old.machine.held) }
         ensures counted { result ≡ false → self.new.machine.guards ≡ 0 }
         // where it is accepted: the held bag is whole in a place, and the machine was driven to the store of 0
-        ensures frees { result ≡ true → IsReleased self.old self.new }
+        ensures frees { result ≡ true → IsReleased W.done self.old self.new }
     {
         self.pin_to_leave();
         self.leave()
@@ -49,7 +50,7 @@ impl<'c, T: Drop, W: Run> Local<'c, T, W> {
     fn pin_to_leave(&mut self)
         requires ready { IsReady self.old }
         requires none { self.old.machine.guards ≡ 0 }
-        ensures leaving { IsLeaving self.old self.new }
+        ensures leaving { IsLeaving W.done self.old self.new }
         ensures begins { self.new.machine.stage ≡ after_collect Release self.new.machine.held }
     {
         let epoch = self.pin_steps();
@@ -68,8 +69,8 @@ impl<'c, T: Drop, W: Run> Local<'c, T, W> {
         requires action { self.old.machine.action ≡ Release }
         requires room { self.old.machine.full ≡ false }
         requires none { self.old.machine.guards ≡ 0 }
-        ensures refused { result ≡ false → IsRefused self.old self.new }
-        ensures freed { result ≡ true → IsFreed self.old self.new }
+        ensures refused { result ≡ false → IsRefused W.done self.old self.new }
+        ensures freed { result ≡ true → IsFreed W.done self.old self.new }
     {
         if self.machine.holds_none() {
             self.leave_for_good();
@@ -92,7 +93,7 @@ impl<'c, T: Drop, W: Run> Local<'c, T, W> {
         requires action { self.old.machine.action ≡ Release }
         requires room { self.old.machine.full ≡ false }
         requires none { self.old.machine.held ≡ [] }
-        ensures freed { IsFreed self.old self.new }
+        ensures freed { IsFreed W.done self.old self.new }
         ensures kept { self.new.claimer ≡ self.old.claimer }
     {
         self.store_unpinned();
@@ -110,7 +111,7 @@ impl<'c, T: Drop, W: Run> Local<'c, T, W> {
         requires full { self.old.machine.full ≡ true }
         requires held { self.old.machine.held ≢ [] }
         requires none { self.old.machine.guards ≡ 0 }
-        ensures { IsRefused self.old self.new }
+        ensures { IsRefused W.done self.old self.new }
     {
         self.store_unpinned();
         self.machine.take(Answer::Stored);

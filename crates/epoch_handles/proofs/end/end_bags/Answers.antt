@@ -1,4 +1,4 @@
-use Rattle.std.proofs.Common.{◌≡◌, ◌≢◌, ◌∙◌, ℕ, ◌<◌, None, length, slice_index_or, inl, inr, ap, sym, subst, arith}
+use Rattle.std.proofs.Common.{◌≢◌, ◌∙◌, ℕ, ◌<◌, None, length, slice_index_or, inl, inr, ap, sym, subst, arith}
 use Rattle.std.proofs.lemmas.Bool.Decides.{eqb_tells}
 use Rattle.std.proofs.lemmas.Grind.{common_steps, get_or-set_at}
 use Rattle.std.proofs.lemmas.List.{get_or_default, get_or-set_other}

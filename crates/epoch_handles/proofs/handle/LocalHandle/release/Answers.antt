@@ -15,6 +15,9 @@ invariant_of-result g c = record { ready = c.release-freed.ensures.ready c.if-fr
 pub returns-clause-does : goal.returns-clause-does
 returns-clause-does g c = c.release-freed.ensures.does c.if-freed.false
 
+pub returns-clause-called : goal.returns-clause-called
+returns-clause-called g c = c.release-freed.ensures.called c.if-freed.false
+
 pub returns-clause-held : goal.returns-clause-held
 returns-clause-held g c = c.release-freed.ensures.held c.if-freed.false
 

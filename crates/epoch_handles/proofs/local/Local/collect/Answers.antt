@@ -11,4 +11,4 @@ take_bags-requires g c =
     (omega arith, (scans.seated, (subst (λ z. RestsAt z.me) (sym scans.claimer) c.requires.rests, (c.scan.result, ap (λ (z : Machine (Job g.row.W.Denot)). z.stage) scans.machine))))
 
 pub returns : goal.returns
-returns g c = collected c.args.self.now c.scan.new.self c.take_bags.new.self c.scan.result c.scan.ensures.scans c.take_bags.ensures
+returns g c = collected g.W.Run.done c.args.self.now c.scan.new.self c.take_bags.new.self c.scan.result c.scan.ensures.scans c.take_bags.ensures

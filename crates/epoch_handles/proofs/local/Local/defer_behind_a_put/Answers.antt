@@ -2,7 +2,7 @@ use Rattle.std.proofs.Common.{◌≡◌, ◌∙◌, ℕ, ap, subst, sym, arith, 
 use Rattle.epoch_bags.specs.declared.job.Job.{Job}
 use Rattle.epoch_machine.specs.declared.machine.Action.TheVariants.{Defer}
 use Rattle.epoch_machine.specs.Machine.{Machine, begun, guards_after}
-use Rattle.epoch_handles.specs.Drives.{Drives}
+use Rattle.epoch_handles.specs.Drives.{DrivesStraight}
 use Rattle.epoch_handles.specs.Handles.{sight_of}
 use Rattle.epoch_handles.proofs.Driving.{drives_on}
 use Rattle.epoch_handles.proofs.StraightCalls.{seated_with}
@@ -46,7 +46,7 @@ returns-then-found_full-clause-does g c =
       p.machine,
       ap (λ (z : Machine (Job g.row.W.Denot)). z.stage) is,
       c.end.ensures,
-      subst (λ (z : Machine (Job g.row.W.Denot)). Drives h.collector.now.places.places z (sight_of h) p.machine (sight_of p)) c.begin.ensures c.put.ensures.drives,
+      λ k. let x = (subst (λ (z : Machine (Job g.row.W.Denot)). DrivesStraight h.collector.now.places.places z (sight_of h) p.machine (sight_of p)) c.begin.ensures c.put.ensures.drives) k in (x.0, x.1, x.2),
     )
 
 pub returns-then-found_full-clause-ready : goal.returns-then-found_full-clause-ready
@@ -76,10 +76,10 @@ returns-clause-does g c =
       o,
       ap (λ (z : Machine (Job g.row.W.Denot)). z.stage) (kept_alone h.machine p.machine o c.args.job at c.take.ensures),
       c.end-2.ensures,
-      drives_on places (begun Defer h.machine) p.machine o (sight_of h) (sight_of p) (sight_of p)
-          (subst (λ (z : Machine (Job g.row.W.Denot)). Drives places z (sight_of h) p.machine (sight_of p)) c.begin.ensures c.put.ensures.drives)
-          (subst (λ (z : Machine (Job g.row.W.Denot)). Drives places p.machine (sight_of p) z (sight_of p)) (sym c.take.ensures)
-          (keep_performed places p.machine (sight_of p) c.args.job (ap (λ (z : Machine (Job g.row.W.Denot)). z.stage) at))),
+      λ k. let x = (drives_on places (begun Defer h.machine) p.machine o (sight_of h) (sight_of p) (sight_of p)
+          (subst (λ (z : Machine (Job g.row.W.Denot)). DrivesStraight places z (sight_of h) p.machine (sight_of p)) c.begin.ensures c.put.ensures.drives)
+          (subst (λ (z : Machine (Job g.row.W.Denot)). DrivesStraight places p.machine (sight_of p) z (sight_of p)) (sym c.take.ensures)
+          (keep_performed places p.machine (sight_of p) c.args.job (ap (λ (z : Machine (Job g.row.W.Denot)). z.stage) at)))) k in (x.0, x.1, x.2),
     )
 
 pub returns-clause-ready : goal.returns-clause-ready

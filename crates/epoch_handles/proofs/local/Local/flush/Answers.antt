@@ -18,20 +18,20 @@ pub end_uncounted-requires : goal.end_uncounted-requires
 end_uncounted-requires g c =
     let h = c.args.self.now in let o = c.collect.new.self in
     let comes = scan_begins h c.begin.new.self c.requires.ready c.begin.ensures (sym c.holds_none-none.ensures ∙ c.if-none.true) in
-    let flushed = collection_ends h (record h { machine = c.begin.new.self }) o comes c.collect.ensures in
+    let flushed = collection_ends g.W.Run.done h (record h { machine = c.begin.new.self }) o comes c.collect.ensures in
     (omega arith, (flushed.ends, none_counted o.machine flushed.flushes.action))
 
-pub returns-then-none-clause-does : goal.returns-then-none-clause-does
-returns-then-none-clause-does g c =
+pub returns-then-none-clause-called : goal.returns-then-none-clause-called
+returns-then-none-clause-called g c =
     let h = c.args.self.now in let o = c.collect.new.self in
     let comes = scan_begins h c.begin.new.self c.requires.ready c.begin.ensures (sym c.holds_none-none.ensures ∙ c.if-none.true) in
-    flush_does h o c.end_uncounted.new.self (collection_ends h (record h { machine = c.begin.new.self }) o comes c.collect.ensures) c.end_uncounted.ensures
+    flush_does g.W.Run.done h o c.end_uncounted.new.self (collection_ends g.W.Run.done h (record h { machine = c.begin.new.self }) o comes c.collect.ensures) c.end_uncounted.ensures
 
 pub returns-then-none-clause-ready : goal.returns-then-none-clause-ready
 returns-then-none-clause-ready g c =
     let h = c.args.self.now in let o = c.collect.new.self in
     let comes = scan_begins h c.begin.new.self c.requires.ready c.begin.ensures (sym c.holds_none-none.ensures ∙ c.if-none.true) in
-    flush_ready h o c.end_uncounted.new.self c.requires.ready c.requires.out (collection_ends h (record h { machine = c.begin.new.self }) o comes c.collect.ensures) c.end_uncounted.ensures
+    flush_ready g.W.Run.done h o c.end_uncounted.new.self c.requires.ready c.requires.out (collection_ends g.W.Run.done h (record h { machine = c.begin.new.self }) o comes c.collect.ensures) c.end_uncounted.ensures
 
 -- WITH A BAG THAT IS PUT
 
@@ -50,19 +50,26 @@ collect-requires-2 g c =
 pub end_uncounted-requires-2 : goal.end_uncounted-requires-2
 end_uncounted-requires-2 g c =
     let h = c.args.self.now in let n = c.put.new.self in let o = c.collect-2.new.self in
-    let flushed = collection_ends h n o (put_before_scan h n c.begin.new.self c.begin.ensures c.put.ensures) c.collect-2.ensures in
+    let flushed = collection_ends g.W.Run.done h n o (put_before_scan h n c.begin.new.self c.begin.ensures c.put.ensures) c.collect-2.ensures in
     (omega arith, (flushed.ends, none_counted o.machine flushed.flushes.action))
 
 pub found_full-requires : goal.found_full-requires
 found_full-requires g c = omega arith
 
-pub returns-clause-does : goal.returns-clause-does
-returns-clause-does g c =
+pub returns-clause-called : goal.returns-clause-called
+returns-clause-called g c =
     let h = c.args.self.now in let n = c.put.new.self in let o = c.collect-2.new.self in
-    flush_does h o c.end_uncounted-2.new.self (collection_ends h n o (put_before_scan h n c.begin.new.self c.begin.ensures c.put.ensures) c.collect-2.ensures) c.end_uncounted-2.ensures
+    flush_does g.W.Run.done h o c.end_uncounted-2.new.self (collection_ends g.W.Run.done h n o (put_before_scan h n c.begin.new.self c.begin.ensures c.put.ensures) c.collect-2.ensures) c.end_uncounted-2.ensures
 
 pub returns-clause-ready : goal.returns-clause-ready
 returns-clause-ready g c =
     let h = c.args.self.now in let n = c.put.new.self in let o = c.collect-2.new.self in
-    flush_ready h o c.end_uncounted-2.new.self c.requires.ready c.requires.out
-    (collection_ends h n o (put_before_scan h n c.begin.new.self c.begin.ensures c.put.ensures) c.collect-2.ensures) c.end_uncounted-2.ensures
+    flush_ready g.W.Run.done h o c.end_uncounted-2.new.self c.requires.ready c.requires.out
+    (collection_ends g.W.Run.done h n o (put_before_scan h n c.begin.new.self c.begin.ensures c.put.ensures) c.collect-2.ensures) c.end_uncounted-2.ensures
+
+-- what is told of the jobs left out
+pub returns-then-none-clause-does : goal.returns-then-none-clause-does
+returns-then-none-clause-does g c = let x = returns-then-none-clause-called g c in (x.0, x.1, x.2, λ k. let y = x.3 k in (y.0, y.1, y.2))
+
+pub returns-clause-does : goal.returns-clause-does
+returns-clause-does g c = let x = returns-clause-called g c in (x.0, x.1, x.2, λ k. let y = x.3 k in (y.0, y.1, y.2))

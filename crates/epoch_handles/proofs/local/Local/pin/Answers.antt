@@ -5,7 +5,7 @@ use Rattle.epoch_machine.specs.declared.machine.Action.TheVariants.{Pin}
 use Rattle.epoch_machine.specs.declared.machine.Answer.TheVariants.{Epoch, Stored}
 use Rattle.epoch_machine.specs.declared.machine.Stage.TheVariants.{End}
 use Rattle.epoch_machine.specs.Machine.{Machine, begun, heard, ended, guards_after}
-use Rattle.epoch_handles.specs.Drives.{Drives}
+use Rattle.epoch_handles.specs.Drives.{DrivesStraight}
 use Rattle.epoch_handles.specs.Handles.{sight_of}
 use Rattle.epoch_handles.proofs.Driving.{drives_none}
 use Rattle.epoch_handles.proofs.StraightCalls.{reading, pin_begins, pin_asks_nothing, pin_leaves, pin_drives, pinned_behind, seated_with, ready_with, rests_still}
@@ -47,7 +47,7 @@ returns-clause-drives g c = λ collects.
     let h = c.args.self.now in let n = c.pin_steps-epoch.new.self in let steps = c.pin_steps-epoch.ensures.steps in
     let e : ℕ = c.pin_steps-epoch.result in let m = begun Pin h.machine in let told = c.pin_first.ensures in
     let none : h.machine.guards ≡ 0 = sym c.guards.ensures ∙ c.if-guards-ne0.false in
-    subst (λ z. Drives h.collector.now.places.places m (sight_of h) z (sight_of n)) (sym
+    subst (λ z. DrivesStraight h.collector.now.places.places m (sight_of h) z (sight_of n)) (sym
     (subst (λ z. c.pin_first.new.self ≡ heard (heard (heard (begun Pin z) (Epoch e)) Stored) (Epoch steps.again)) steps.steps.machine (told.collects collects steps.again)))
     (pin_drives h n m e (pin_begins h.machine none) steps)
 

@@ -7,7 +7,7 @@ use Rattle.epoch_handles.proofs.local.Local.pin_to_leave.Goals as goal
 
 -- no collection follows the pin
 pub returns-then-not-release_pinned-clause-leaving : goal.returns-then-not-release_pinned-clause-leaving
-returns-then-not-release_pinned-clause-leaving g c = release_pins c.args.self.now c.pin_steps-epoch.new.self c.pin_steps-epoch.result c.release_pinned.new.self
+returns-then-not-release_pinned-clause-leaving g c = release_pins g.W.Run.done c.args.self.now c.pin_steps-epoch.new.self c.pin_steps-epoch.result c.release_pinned.new.self
     c.requires.ready c.requires.none c.pin_steps-epoch.ensures.steps c.release_pinned.ensures.after
 
 pub returns-then-not-release_pinned-clause-begins : goal.returns-then-not-release_pinned-clause-begins
@@ -18,20 +18,20 @@ returns-then-not-release_pinned-clause-begins g c =
 
 pub collect-requires : goal.collect-requires
 collect-requires g c =
-    let pins = release_pins c.args.self.now c.pin_steps-epoch.new.self c.pin_steps-epoch.result c.release_pinned.new.self
+    let pins = release_pins g.W.Run.done c.args.self.now c.pin_steps-epoch.new.self c.pin_steps-epoch.result c.release_pinned.new.self
     c.requires.ready c.requires.none c.pin_steps-epoch.ensures.steps c.release_pinned.ensures.after in
     (omega arith, (pins.seated, (pins.rests, (pins.pinned, c.release_pinned.ensures.scans c.if-not-release_pinned.false))))
 
 pub returns-clause-leaving : goal.returns-clause-leaving
 returns-clause-leaving g c =
-    release_collects c.args.self.now (record c.pin_steps-epoch.new.self { machine = c.release_pinned.new.self }) c.collect.new.self
-    (release_pins c.args.self.now c.pin_steps-epoch.new.self c.pin_steps-epoch.result c.release_pinned.new.self
+    release_collects g.W.Run.done c.args.self.now (record c.pin_steps-epoch.new.self { machine = c.release_pinned.new.self }) c.collect.new.self
+    (release_pins g.W.Run.done c.args.self.now c.pin_steps-epoch.new.self c.pin_steps-epoch.result c.release_pinned.new.self
     c.requires.ready c.requires.none c.pin_steps-epoch.ensures.steps c.release_pinned.ensures.after)
     c.collect.ensures
 
 pub returns-clause-begins : goal.returns-clause-begins
 returns-clause-begins g c =
-    collected_to_leave c.args.self.now (record c.pin_steps-epoch.new.self { machine = c.release_pinned.new.self }) c.collect.new.self
-    (release_pins c.args.self.now c.pin_steps-epoch.new.self c.pin_steps-epoch.result c.release_pinned.new.self
+    collected_to_leave g.W.Run.done c.args.self.now (record c.pin_steps-epoch.new.self { machine = c.release_pinned.new.self }) c.collect.new.self
+    (release_pins g.W.Run.done c.args.self.now c.pin_steps-epoch.new.self c.pin_steps-epoch.result c.release_pinned.new.self
     c.requires.ready c.requires.none c.pin_steps-epoch.ensures.steps c.release_pinned.ensures.after)
     c.collect.ensures

@@ -10,7 +10,7 @@ use Rattle.epoch_handles.proofs.local.Local.take_bags.Goals as goal
 pub bags-init : goal.bags-init
 bags-init g c =
     let h = c.args.self.now in let x = c.requires.takes.0 in
-    (x, take_begins h x c.start_take-cursor.result c.requires.takes.1 c.requires.seated.places_of c.start_take-cursor.ensures.first (c.start_take-cursor.ensures.at x h.claimer.me c.requires.rests))
+    (x, take_begins g.W.Run.done h x c.start_take-cursor.result c.requires.takes.1 c.requires.seated.places_of c.start_take-cursor.ensures.first (c.start_take-cursor.ensures.at x h.claimer.me c.requires.rests))
 
 -- the machine asks for a step of the collection, and the seat is where its cursor says
 pub take_shared-step-requires : goal.take_shared-step-requires
@@ -38,7 +38,7 @@ bags-preserved-in-Again g c =
     let asked = ap (λ (z : Machine (Job g.row.W.Denot)). ask_at z.stage) taken.machine in
     let moved = told.moves x asked in (
       x,
-      take_again h n x c.bags.cursor c.take_shared-step.new.cursor c.take_shared-step.new.self c.take_shared-step.new.seat moved.0 taken
+      take_again g.W.Run.done h n x c.bags.cursor c.take_shared-step.new.cursor c.take_shared-step.new.self c.take_shared-step.new.seat moved.0 taken
           (subst (λ (step : TakeStep). c.take_shared-step.new.self ≡ took_heard n.machine n.machine.stage step c.take_shared-step.new.self.hand) c.in-Again.is told.after)
           (told.kept.0 ∙ taken.claimer)
           (subst (λ z. TakesAt z.now.places.places x c.take_shared-step.new.cursor c.take_shared-step.new.seat.me) places (told.at x asked))
@@ -52,7 +52,7 @@ returns-in-Empty g c =
     let told = c.take_shared-step.ensures in let places = taken.same.collector in
     let asked = ap (λ (z : Machine (Job g.row.W.Denot)). ask_at z.stage) taken.machine in
     let moved = told.moves x asked in
-    take_ends h n x c.bags.cursor c.take_shared-step.new.cursor c.take_shared-step.new.self c.take_shared-step.new.seat moved.0 taken
+    take_ends g.W.Run.done h n x c.bags.cursor c.take_shared-step.new.cursor c.take_shared-step.new.self c.take_shared-step.new.seat moved.0 taken
     (subst (λ (step : TakeStep). c.take_shared-step.new.self ≡ took_heard n.machine n.machine.stage step c.take_shared-step.new.self.hand) c.in-Empty.is told.after)
     (told.kept.0 ∙ taken.claimer)
     (told.rests (λ again. absurd (cc (c.in-Empty.is, again))))
@@ -66,15 +66,15 @@ is_taking-requires g c = omega arith
 pub returns-then-not-is_taking : goal.returns-then-not-is_taking
 returns-then-not-is_taking g c =
     let h = c.args.self.now in let n = c.bags.self in let w = c.call_hand.new.self in let told = c.take_shared-step.ensures in let next = c.take_shared-step.new.cursor in
-    last_bag h w c.bags.invariant.0 c.bags.invariant.1.taken next
-    (hand_called h n w c.bags.invariant.0 c.bags.cursor next c.take_shared-step.result c.take_shared-step.new.self c.take_shared-step.new.seat c.bags.invariant.1
+    last_bag g.W.Run.done h w c.bags.invariant.0 c.bags.invariant.1.taken next
+    (hand_called g.W.Run.done h n w c.bags.invariant.0 c.bags.cursor next c.take_shared-step.result c.take_shared-step.new.self c.take_shared-step.new.seat c.bags.invariant.1
     c.in-Got.is told.after told.kept told.at told.rests told.moves c.call_hand.ensures.only c.call_hand.ensures.calls) (sym c.is_taking.ensures ∙ c.if-not-is_taking.true)
 
 pub bags-preserved : goal.bags-preserved
 bags-preserved g c =
     let h = c.args.self.now in let n = c.bags.self in let w = c.call_hand.new.self in let told = c.take_shared-step.ensures in let next = c.take_shared-step.new.cursor in (
       c.bags.invariant.0,
-      next_bag h w c.bags.invariant.0 c.bags.invariant.1.taken next
-          (hand_called h n w c.bags.invariant.0 c.bags.cursor next c.take_shared-step.result c.take_shared-step.new.self c.take_shared-step.new.seat c.bags.invariant.1
+      next_bag g.W.Run.done h w c.bags.invariant.0 c.bags.invariant.1.taken next
+          (hand_called g.W.Run.done h n w c.bags.invariant.0 c.bags.cursor next c.take_shared-step.result c.take_shared-step.new.self c.take_shared-step.new.seat c.bags.invariant.1
           c.in-Got.is told.after told.kept told.at told.rests told.moves c.call_hand.ensures.only c.call_hand.ensures.calls) (sym c.is_taking.ensures ∙ c.if-not-is_taking.false),
     )
