@@ -256,7 +256,7 @@ impl<'c, T: Drop, W: Run> LocalHandle<'c, T, W> {
         ensures ready { IsReady self.new.local }
         ensures counted { self.new.local.machine.guards ≡ self.old.local.machine.guards }
         ensures unprotected { guard.old.position ≡ None → self.new ≡ self.old }
-        ensures does { IsSome guard.old.position → (between : _) × IsBetween self.old.local between × Does self.old.local Unpin between × Does between Pin self.new.local }
+        ensures does { IsSome guard.old.position → (between : _) × IsBetween self.old.local between × Does self.old.local Unpin between × Does between Pin self.new.local × DoesAndCalls W.done between Pin self.new.local }
     {
         if !guard.is_protecting() {
             return f();

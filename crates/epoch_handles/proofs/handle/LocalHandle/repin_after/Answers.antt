@@ -1,0 +1,18 @@
+use Rattle.std.proofs.Common.{rules, ◌≡◌, Option, None, IsSome, subst, ⊎_elim}
+use Rattle.std.proofs.lemmas.Bool.{false≢true}
+use Rattle.epoch_handles.specs.Handles.{Owns}
+use Rattle.epoch_handles.proofs.Tests.{not_both}
+use Rattle.epoch_handles.proofs.handle.LocalHandle.repin_after.Goals as goal
+
+none_is_not_some : {A : Type 0} {o : Option A} → o ≡ None → IsSome o → ⊥
+none_is_not_some none some = false≢true (subst IsSome none some)
+
+-- the guard protects nothing, so nothing is said here
+pub returns-then-not-is_protecting-clause-does : goal.returns-then-not-is_protecting-clause-does
+returns-then-not-is_protecting-clause-does g c = λ some. absurd (not_both c.if-not-is_protecting.true (c.is_protecting.ensures.1 some))
+
+-- a guard that protects is this handle's, so one is out
+pub unpin-requires : goal.unpin-requires
+unpin-requires g c =
+    let own : Owns c.args.self.now.local c.args.guard.now = ⊎_elim (λ none. absurd (none_is_not_some none (c.is_protecting.ensures.0 c.if-not-is_protecting.false))) (λ owns. owns) c.requires.guard in
+    (search rules, (c.args.self.now.ready, own.out))
