@@ -1,4 +1,4 @@
-//! Tests of `epoch_pin` by its public calls: handles, guards and a collector's end, on one thread and on several.
+//! Tests of `epoch_pin` by its public calls: handles, guards and a collector's end, on one thread.
 #![tactic(auto)]
 
 #[cfg(test)]
@@ -18,10 +18,6 @@ mod jobs;
 #[cfg(test)]
 mod program;
 #[cfg(test)]
-mod removals;
-#[cfg(test)]
 mod repins;
-#[cfg(test)]
-mod threads;
 #[cfg(test)]
 mod wants;

@@ -1,9 +1,18 @@
-//! Collectors and guards as the tests make and spend them.
-use crate::wants::want;
-use epoch_pin::{Capacities, Collector, Guard};
+//! Calls on collectors, handles and guards as the tests make them: each asserts first what the call requires, and
+//! then what it has to answer.
+use crate::wants::{want, want_count};
+use epoch_base::{Fault, Job};
+use epoch_pin::{Capacities, Collector, Guard, LocalHandle};
 use std::alloc::Global;
 use std::process::Abort;
+use std::sync::Arc;
+use std::sync::atomic::AtomicU64;
 use std::test::Fail;
+
+/// A count of calls, or of drops, that stands at 0.
+pub(crate) fn count(alloc: Global) -> Result<Arc<AtomicU64>, Fail> {
+    Ok(Arc::new(alloc, AtomicU64::new(0))?)
+}
 
 /// A collector with these capacities.
 pub(crate) fn collector<T: Drop>(
@@ -15,14 +24,104 @@ pub(crate) fn collector<T: Drop>(
     Ok(Collector::new(alloc, capacities, 1)?)
 }
 
-/// Spends an unprotected guard.
-pub(crate) fn let_go<T>(rt: &impl Abort, guard: Guard<'_, T>) {
-    if let Err(_guard) = guard.let_go() {
-        panic!(rt; "the guard is kept");
+/// A new participant, for which a position is free.
+pub(crate) fn register<'c, T: Drop>(
+    rt: &impl Abort,
+    collector: &'c Collector<T>,
+) -> LocalHandle<'c, T> {
+    collector.register().expect(rt, "a free position")
+}
+
+/// Pins the handle.
+pub(crate) fn pin<'c, T: Drop>(rt: &impl Abort, handle: &mut LocalHandle<'c, T>) -> Guard<'c, T> {
+    assert!(rt; handle.can_pin(), "a further guard can be counted");
+    handle.pin()
+}
+
+/// Spends a guard of the handle.
+pub(crate) fn unpin<'c, T: Drop>(
+    rt: &impl Abort,
+    handle: &mut LocalHandle<'c, T>,
+    guard: Guard<'c, T>,
+) {
+    assert!(rt; handle.owns(&guard), "the guard is one of the handle");
+    handle.unpin(guard);
+}
+
+/// Repins the handle under a guard of it.
+pub(crate) fn repin<'c, T: Drop>(
+    rt: &impl Abort,
+    handle: &mut LocalHandle<'c, T>,
+    guard: &mut Guard<'c, T>,
+) {
+    assert!(rt; handle.owns(guard), "the guard is one of the handle");
+    handle.repin(guard);
+}
+
+/// Pins, flushes and unpins. Answers what the flush answered.
+pub(crate) fn round<T: Drop>(
+    rt: &impl Abort,
+    handle: &mut LocalHandle<'_, T>,
+) -> Result<(), Fault> {
+    let guard = pin(rt, handle);
+    let flushed = handle.flush(&guard);
+    unpin(rt, handle, guard);
+    flushed
+}
+
+/// Makes a round for each number. Its flush answers `flushed`, and the count stands at the number after it.
+pub(crate) fn rounds<T: Drop>(
+    rt: &impl Abort,
+    handle: &mut LocalHandle<'_, T>,
+    flushed: Result<(), Fault>,
+    count: &AtomicU64,
+    counted: &[u64],
+) {
+    for (index, wanted) in counted.iter().enumerate() {
+        assert_eq!(rt;
+            round(rt, handle),
+            flushed,
+            "round {index}, before {wanted}"
+        );
+        want_count(rt, "the count after a round", count, *wanted);
     }
+}
+
+/// A flush under the guard goes through.
+pub(crate) fn flush<T: Drop>(
+    rt: &impl Abort,
+    handle: &mut LocalHandle<'_, T>,
+    guard: &Guard<'_, T>,
+) {
+    want(rt, "a flush", handle.flush(guard), Ok(()));
+}
+
+/// Releases the handle, whose bag finds a place.
+pub(crate) fn release<T: Drop>(rt: &impl Abort, handle: LocalHandle<'_, T>) {
+    assert!(rt; handle.guards_out() == 0, "each guard is spent");
+    if let Err((_back, fault)) = handle.release() {
+        panic!(rt; "{fault}");
+    }
+}
+
+/// Defers the job, which is not refused.
+pub(crate) fn defer<T: Drop>(
+    rt: &impl Abort,
+    handle: &mut LocalHandle<'_, T>,
+    guard: &Guard<'_, T>,
+    job: Job,
+) {
+    assert!(rt; handle.defer(guard, job).is_ok(), "the job is kept");
 }
 
 /// Ends the collector, which calls so many jobs.
 pub(crate) fn end<T: Drop>(rt: &impl Abort, collector: Collector<T>, jobs: u64) {
     want(rt, "the jobs that the end calls", collector.end(), jobs);
+}
+
+/// Spends an unprotected guard.
+pub(crate) fn let_go<T>(rt: &impl Abort, guard: Guard<'_, T>) {
+    if let Err(_guard) = guard.let_go() {
+        panic!(rt; "the guard is kept");
+    }
 }

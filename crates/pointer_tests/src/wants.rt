@@ -3,6 +3,8 @@
 use std::alloc::Global;
 use std::fmt::Debug;
 use std::process::Abort;
+use std::sync::atomic::AtomicU64;
+use std::sync::atomic::Ordering::SeqCst;
 use std::test::Fail;
 
 /// Both are equal. `what` says what was seen.
@@ -49,4 +51,9 @@ pub(crate) fn want_some<T>(rt: &impl Abort, what: &str, found: Option<T>) -> T {
         Some(value) => value,
         None => panic!(rt; "{what}"),
     }
+}
+
+/// The count stands at this number.
+pub(crate) fn want_count(rt: &impl Abort, what: &str, count: &AtomicU64, wanted: u64) {
+    want(rt, what, count.load(SeqCst), wanted);
 }

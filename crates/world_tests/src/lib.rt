@@ -1,8 +1,6 @@
-//! Tests of `epoch_world` by its public calls: worlds over three stores of bags, and checked histories.
+//! Tests of `epoch_world` by its public calls: worlds over three stores of bags.
 #![tactic(auto)]
 
-#[cfg(test)]
-mod histories;
 #[cfg(test)]
 mod wants;
 #[cfg(test)]

@@ -2,7 +2,7 @@
 ghost use Rattle.std.specs.Prelude.{◌<◌, ◌≤◌};
 
 use crate::wants::want;
-use epoch_base::{Name, PlainCells, Removal};
+use epoch_cells::{Name, PlainCells, Removal};
 use std::process::Abort;
 use std::test::Fail;
 

@@ -1,5 +1,5 @@
 use crate::wants::want;
-use epoch_base::{Cells, Fault, MOST_SLOT, Name, Reading, Refused, Removal};
+use epoch_cells::{Cells, Fault, MOST_SLOT, Name, Reading, Refused, Removal};
 use std::alloc::Global;
 use std::process::Abort;
 use std::test::Fail;

@@ -2,7 +2,7 @@
 ghost use Rattle.std.specs.Prelude.{◌≤◌};
 
 use crate::wants::want;
-use epoch_base::{Cells, Fault, Name};
+use epoch_cells::{Cells, Fault, Name};
 use std::alloc::{AllocError, Global};
 use std::sync::Wait;
 use std::sync::atomic::AtomicU64;

@@ -1,0 +1,7 @@
+//! Tests of `epoch_cells` by its public calls: shared and plain cells, on one thread and on several.
+#![tactic(auto)]
+
+#[cfg(test)]
+mod cells;
+#[cfg(test)]
+mod wants;
