@@ -260,7 +260,8 @@ pub fn try_take<T: Drop>(slot: &Slot<T>, name: Name) -> Result<Held<T>, Miss>
     Err(Miss::Gone)
 }
 
-/// Puts a value back that was taken out by the name of another turn. This isn't met.
+/// Puts a value back that was taken out by the name of another turn, or drops it where its slot is used by then.
+/// This isn't met.
 #[cold]
 #[inline(never)]
 fn put_back<T: Drop>(slot: &Slot<T>, held: Held<T>)
