@@ -1,9 +1,11 @@
 -- Bags that stand somewhere in a list.
-use Rattle.std.proofs.Common.{◌≡◌, ◌≢◌, ℕ, zero, suc, ◌-◌, ◌<◌, ◌≤◌, List, [], ◌∷◌, ◌++◌, Option, None, Some, IsSome, length, option_to_list, slice_get, true, refl, sym, ap, subst, min, arith, append-nil}
+use Rattle.std.proofs.Common.{◌≡◌, ◌≢◌, ℕ, zero, suc, ◌+◌, ◌-◌, ◌<◌, ◌≤◌, nat_le, nat_lt, ◌&&◌, if◌then◌else◌, ◌⊎◌, inl, inr, ◌∙◌, Bool, false, List, [], ◌∷◌, ◌++◌, Option, None, Some, IsSome, length, option_to_list, slice_get, slice_index_or, true, refl, sym, ap, subst, min, arith, append-nil}
 use Rattle.std.proofs.lemmas.Bool.{false≢true}
-use Rattle.epoch_bags.specs.Bags.{Sealed, Unsealed}
-use Rattle.epoch_bags.specs.Stores.{IsInserted, PutsJobs, TakesAny}
-use Rattle.epoch_bags.specs.Queues.{first_occupied}
+use Rattle.std.proofs.lemmas.Bool.Decides.{nat_tests}
+use Rattle.std.proofs.Math.Nat.{min-zero, min-le_left, min-eq_left, min-eq_right}
+use Rattle.epoch_bags.specs.Bags.{Sealed, Unsealed, IsExpired}
+use Rattle.epoch_bags.specs.Stores.{IsInserted, AllExpired, PutsJobs, TakesAny}
+use Rattle.epoch_bags.specs.Queues.{first_occupied, first_expired}
 
 -- behind all others
 pub inserted_last : {J : Type 0} (bag : Sealed J) (old : List (Sealed J)) → IsInserted bag old (old ++ bag ∷ [])
@@ -52,3 +54,74 @@ puts_last seal number old items new held taken left jobs same_list same_seal sam
   empty = empty;
   limit = limit;
 }
+
+-- where all are expired, all from the front on are
+pub expired_all : {J : Type 0} (x : ℕ) (bags : List (Sealed J)) → AllExpired x bags → first_expired x bags ≡ length bags
+expired_all x [] all = refl
+expired_all x (bag ∷ bags) all =
+    ap (λ (t : Bool). if t then first_expired x bags + 1 else 0) (at_most (bag.seal + 2) x all.0) ∙ omega (arith, expired_all x bags all.1)
+  where
+    at_most : (m n : ℕ) → m ≤ n → nat_le m n ≡ true
+    at_most m n le = grind (arith, nat_tests)
+
+-- nothing is there
+pub not_some : {A : Type 0} (o : Option A) → o ≡ None → ¬ (IsSome o)
+not_some o none some = cc (none, some)
+
+-- an empty queue has none
+pub none_there : {J : Type 0} (x : ℕ) (bags : List (Sealed J)) → ¬ (0 < length bags) → first_expired x bags ≡ 0
+none_there x [] none = refl
+none_there x (bag ∷ bags) none = absurd (none (omega arith))
+
+-- nor has one whose front is not expired
+pub front_late : {J : Type 0} (x : ℕ) (bags : List (Sealed J)) (front : Sealed J) → front ≡ slice_index_or bags 0 front → ¬ (IsExpired x front) → first_expired x bags ≡ 0
+front_late x [] front is late = refl
+front_late {J} x (bag ∷ bags) front is late = ap (λ (t : Bool). if t then first_expired x bags + 1 else 0) (not_most (bag.seal + 2) x (λ le. late (omega (arith, le, ap (λ (b : Sealed J). b.seal) is))))
+  where
+    not_most : (m n : ℕ) → ¬ (m ≤ n) → nat_le m n ≡ false
+    not_most m n not = by_test (nat_le m n) refl
+      where
+        by_test : (t : Bool) → nat_le m n ≡ t → nat_le m n ≡ false
+        by_test true e = let le : m ≤ n = grind (arith, nat_tests) in absurd (not le)
+        by_test false e = e
+
+-- one with an expired front has one more than without it
+pub front_first : {J : Type 0} (x : ℕ) (old new : List (Sealed J)) (front hand : Sealed J) → front ≡ slice_index_or old 0 front → old ≡ hand ∷ new → IsExpired x front → first_expired x old ≡ first_expired x new + 1
+front_first {J} x old new front hand at is expired =
+    let same : front ≡ hand = at ∙ ap (λ (bags : List (Sealed J)). slice_index_or bags 0 front) is in
+    ap (first_expired x) is ∙ ap (λ (t : Bool). if t then first_expired x new + 1 else 0) (at_most (hand.seal + 2) x (omega (arith, expired, ap (λ (b : Sealed J). b.seal) same)))
+  where
+    at_most : (m n : ℕ) → m ≤ n → nat_le m n ≡ true
+    at_most m n le = grind (arith, nat_tests)
+
+-- the least of none and any number
+pub least_none : (m n : ℕ) → n ≡ 0 → min m n ≡ 0
+least_none m n none = ap (min m) none ∙ min-zero m
+
+pub least_more : (m n : ℕ) → 0 < m → min m (n + 1) ≡ min (m - 1) n + 1
+least_more m n some = elim (split m n) [
+  | inl le ↦ let one : min m (n + 1) ≡ m = min-eq_left (omega arith) in let other : min (m - 1) n ≡ m - 1 = min-eq_left (omega arith) in omega arith
+  | inr lt ↦ let one : min m (n + 1) ≡ n + 1 = min-eq_right (omega arith) in let other : min (m - 1) n ≡ n = min-eq_right (omega arith) in omega arith
+]
+  where
+    split : (a b : ℕ) → (a ≤ b) ⊎ (b < a)
+    split a b = grind arith
+
+pub least_twice : (m n : ℕ) → min m (min m n) ≡ min m n
+least_twice m n = min-eq_right (min-le_left m n)
+
+-- where a place is free, there are fewer bags than places
+pub room_first : (places taken place : ℕ) → slice_get (first_occupied places taken) place ≡ Some false → (nat_lt 0 places && nat_lt taken places) ≡ true
+room_first places taken place free = both (less places taken place free)
+  where
+    less : (places taken place : ℕ) → slice_get (first_occupied places taken) place ≡ Some false → taken < places
+    less zero taken place free = absurd (cc (free))
+    less (suc places) zero place free = omega arith
+    less (suc places) (suc taken) zero free = absurd (cc (free))
+    less (suc places) (suc taken) (suc place) free = omega (arith, less places taken place free)
+
+    is_less : (m n : ℕ) → m < n → nat_lt m n ≡ true
+    is_less m n lt = grind (arith, nat_tests)
+
+    both : taken < places → (nat_lt 0 places && nat_lt taken places) ≡ true
+    both lt = ap (λ (b : Bool). b && nat_lt taken places) (is_less 0 places (omega arith)) ∙ is_less taken places lt

@@ -1,7 +1,7 @@
 -- Numbered places: their words, and the bags at home beside them.
-use Rattle.std.specs.Prelude.{◌≡◌, ℕ, ◌-◌, ◌*◌, ◌≤◌, List, drop, length, slice_index_or}
-use Rattle.epoch_bags.specs.Stores.{AllExpired}
-use Rattle.epoch_bags.specs.PlaceLists.{PlaceList, bags_in, IsClaimedAt}
+use Rattle.std.specs.Prelude.{◌≡◌, ℕ, ◌+◌, ◌-◌, ◌*◌, ◌/◌, ◌%◌, ◌==◌, nat_le, Bool, true, false, ◌&&◌, ◌||◌, if◌then◌else◌, List, [], ◌∷◌, Option, None, Some, drop, slice_get, slice_index_or}
+use Rattle.epoch_bags.specs.Bags.{Sealed}
+use Rattle.epoch_bags.specs.PlaceLists.{PlaceList}
 use Rattle.epoch_bags.specs.declared.queue.places.PutCursor.{PutCursor}
 use Rattle.epoch_bags.specs.declared.queue.places.PutCursor.TheVariants.{Look as PutLook, Claim as PutClaim, Fill}
 use Rattle.epoch_bags.specs.declared.queue.places.TakeCursor.{TakeCursor}
@@ -18,6 +18,23 @@ abbrev pub put_left : ℕ → PutCursor → ℕ
 put_left places (PutLook place) = 3 * (places - place)
 put_left places (PutClaim place) = 3 * (places - place) - 1
 put_left places (Fill place) = 3 * (places - place) - 2
+
+-- one of these words is that of an empty place
+abbrev pub has_empty : List ℕ → Bool
+has_empty [] = false
+has_empty (word ∷ words) = (word == 0) || has_empty words
+
+-- a place without a bag at home
+abbrev pub is_home_free : {J : Type 0} → Option (Option (Sealed J)) → Bool
+is_home_free (Some None) = true
+is_home_free _ = false
+
+-- a put at this cursor will find a place if nobody else changes one: the place that it has claimed, or one from its own
+-- place on
+abbrev pub has_room : {J : Type 0} → PlaceList J → PutCursor → Bool
+has_room store (PutLook at) = has_empty (drop at store.words)
+has_room store (PutClaim at) = has_empty (drop at store.words)
+has_room store (Fill at) = is_home_free (slice_get store.bags at) || has_empty (drop (at + 1) store.words)
 
 -- the place that the collection's next step is at
 abbrev pub take_place : TakeCursor → ℕ
@@ -37,15 +54,27 @@ ClaimsAt (TakeLook at) place = ⊥
 ClaimsAt (TakeClaim at word) place = ⊥
 ClaimsAt (Empty at) place = place ≡ at
 
--- the word that the collection will claim is what stands there
-abbrev pub Meets : List ℕ → TakeCursor → Type 0
-Meets words (TakeLook at) = Unit {0}
-Meets words (TakeClaim at word) = slice_index_or words at 0 ≡ word
-Meets words (Empty at) = Unit {0}
+-- the word tells of a bag that is expired for the epoch x
+abbrev pub tells_expired : ℕ → ℕ → Bool
+tells_expired x word = (word % 2 == 1) && nat_le (word / 2 + 2) x
 
--- no other collection has claimed a bag, all are expired, and at least so many stand at the places ahead
-pub record IsAhead {J : Type 0} (x : ℕ) (store : PlaceList J) (cursor : TakeCursor) (bags : ℕ) : Type 0 where
-  pub alone : (place : ℕ) → IsClaimedAt store place → ClaimsAt cursor place
-  pub expired : AllExpired x (bags_in store.bags)
-  pub meets : Meets store.words cursor
-  pub count : bags ≤ length (bags_in (drop (take_place cursor) store.bags))
+abbrev pub one_if : Bool → ℕ
+one_if true = 1
+one_if false = 0
+
+-- how many of these words do
+abbrev pub words_expired : ℕ → List ℕ → ℕ
+words_expired x [] = 0
+words_expired x (word ∷ words) = one_if (tells_expired x word) + words_expired x words
+
+-- 1 where a bag is at home that is expired for the epoch x
+abbrev pub home_expired : {J : Type 0} → ℕ → Option (Sealed J) → ℕ
+home_expired x None = 0
+home_expired x (Some bag) = one_if (nat_le (bag.seal + 2) x)
+
+-- how many bags a collection for the epoch x, at this cursor, will take if nobody else changes a place: that of the
+-- place it is at, if its claim will be won, and those that the words behind it tell of
+abbrev pub bags_ahead : {J : Type 0} → ℕ → PlaceList J → TakeCursor → ℕ
+bags_ahead x store (TakeLook at) = words_expired x (drop at store.words)
+bags_ahead x store (TakeClaim at word) = (if slice_index_or store.words at 0 == word then home_expired x (slice_index_or store.bags at None) else 0) + words_expired x (drop (at + 1) store.words)
+bags_ahead x store (Empty at) = home_expired x (slice_index_or store.bags at None) + words_expired x (drop (at + 1) store.words)

@@ -1,5 +1,5 @@
 -- A queue of bags with a bound.
-use Rattle.std.specs.Prelude.{◌≡◌, ℕ, suc, zero, List, [], ◌∷◌, Option, Some, None, Bool, true, false, length, refl}
+use Rattle.std.specs.Prelude.{◌≡◌, ℕ, suc, zero, ◌+◌, nat_le, if◌then◌else◌, List, [], ◌∷◌, Option, Some, None, Bool, true, false, length, refl}
 use Rattle.std.proofs.Common.{ap}
 use Rattle.epoch_bags.specs.Bags.{Sealed}
 
@@ -19,6 +19,11 @@ abbrev pub PopsFrontWhere : {J : Type 0} → (Sealed J → Bool → Type 0) → 
 PopsFrontWhere says [] popped new = (popped ≡ None) × (new ≡ [])
 PopsFrontWhere says (bag ∷ bags) None new = says bag false × (new ≡ bag ∷ bags)
 PopsFrontWhere says (bag ∷ bags) (Some popped) new = says bag true × (popped ≡ bag) × (new ≡ bags)
+
+-- how many bags from the front on are expired for the epoch x
+abbrev pub first_expired : {J : Type 0} → ℕ → List (Sealed J) → ℕ
+first_expired x [] = 0
+first_expired x (bag ∷ bags) = if nat_le (bag.seal + 2) x then first_expired x bags + 1 else 0
 
 -- there are as many as places
 pub length-first_occupied : (places taken : ℕ) → length (first_occupied places taken) ≡ places

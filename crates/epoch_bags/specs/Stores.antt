@@ -1,5 +1,5 @@
 -- What a step does to the bags of a store, of any jobs.
-use Rattle.std.specs.Prelude.{◌≡◌, ℕ, ◌-◌, List, [], ◌∷◌, ◌++◌, Option, Some, None}
+use Rattle.std.specs.Prelude.{◌≡◌, ℕ, ◌+◌, Bool, true, false, List, [], ◌∷◌, ◌++◌, Option, Some, None}
 use Rattle.epoch_bags.specs.Bags.{Unsealed, Sealed, IsExpired}
 use Rattle.epoch_bags.specs.declared.queue.PutStep.{PutStep}
 use Rattle.epoch_bags.specs.declared.queue.PutStep.TheVariants.{Again, Done, Full}
@@ -30,6 +30,12 @@ PutsBag seal old held Done new left = PutsJobs seal old held new left
 PutsBag seal old held Again new left = (left ≡ held) × (new ≡ old)
 PutsBag seal old held Full new left = (left ≡ held) × (new ≡ old)
 
+-- what the put would have come to is told before its last step as at it
+abbrev pub FindsRoom : Bool → PutStep → Bool → Type 0
+FindsRoom before Again after = after ≡ before
+FindsRoom before Done after = before ≡ true
+FindsRoom before Full after = before ≡ false
+
 -- one bag that is expired is taken out into the hand
 pub record TakesExpired {J : Type 0} (x : ℕ) (old new : List (Sealed J)) (hand : Sealed J) : Type 0 where
   pub expired : IsExpired x hand
@@ -41,11 +47,11 @@ TakesBag x old hand Got new after = TakesExpired x old new after
 TakesBag x old hand TakeAgain new after = (after ≡ hand) × (new ≡ old)
 TakesBag x old hand Empty new after = (after ≡ hand) × (new ≡ old)
 
--- of so many bags ahead one is got, or none where none is ahead
-abbrev pub FindsBag : (ℕ → Type 0) → ℕ → TakeStep → Type 0
-FindsBag ahead bags TakeAgain = ahead bags
-FindsBag ahead bags Got = ahead (bags - 1)
-FindsBag ahead bags Empty = bags ≡ 0
+-- as many bags are ahead after the step as before it, but for one that is got; where none is found, none was ahead
+abbrev pub FindsBag : ℕ → TakeStep → ℕ → Type 0
+FindsBag before TakeAgain after = after ≡ before
+FindsBag before Got after = before ≡ after + 1
+FindsBag before Empty after = (before ≡ 0) × (after ≡ 0)
 
 -- some bag is taken out, or there is none
 abbrev pub TakesAny : {J : Type 0} → List (Sealed J) → Option (Sealed J) → List (Sealed J) → Type 0

@@ -3,9 +3,9 @@
 //! A put and a collection each keep a cursor, which says how far they have come. A store holds its bags at
 //! *places*; a collection *claims* a place before it takes the bag that is at home there. A claimed bag counts
 //! as in the store until it is taken.
-ghost use Rattle.std.specs.Prelude.{◌≡◌, ◌≢◌, ℕ, ◌+◌, ◌*◌, ◌<◌, ◌≤◌, List, Bool, true, Some, [], IfOk, IfErr, length, min, slice_get, ◌⊎◌};
+ghost use Rattle.std.specs.Prelude.{◌≡◌, ◌≢◌, ℕ, ◌+◌, ◌*◌, ◌<◌, ◌≤◌, List, Bool, true, false, Some, [], IfOk, IfErr, length, min, slice_get, ◌⊎◌};
 ghost use Rattle.epoch_bags.specs.Bags.{Sealed};
-ghost use Rattle.epoch_bags.specs.Stores.{AllExpired, PutsBag, TakesBag, FindsBag, TakesAny};
+ghost use Rattle.epoch_bags.specs.Stores.{AllExpired, PutsBag, FindsRoom, TakesBag, FindsBag, TakesAny};
 
 mod bag_queue;
 mod collection;
@@ -69,6 +69,9 @@ pub trait BagStore: Drop {
     /// How many places the put has seen occupied.
     ghost passed: { Self.Putting → ℕ };
 
+    /// Whether a put, that nobody disturbs, will find a place.
+    ghost has_room: { Self → Self.Putting → Bool };
+
     /// It is this collection that claims the bag at this place.
     ghost Claims: { Self.Taking → ℕ → Type 0 };
 
@@ -78,8 +81,8 @@ pub trait BagStore: Drop {
     /// How many steps a collection takes at most in a store of this capacity, before one that answers `Empty` at once.
     ghost takes_left: { ℕ → Self.Taking → ℕ };
 
-    /// For this epoch, a collection that nobody disturbs will still take so many bags.
-    ghost Ahead: { ℕ → Self → Self.Taking → ℕ → Type 0 };
+    /// How many bags a collection for this epoch, that nobody disturbs, will still take if it is not stopped.
+    ghost ahead: { ℕ → Self → Self.Taking → ℕ };
 
     /// An empty store with room for so many bags, from 1 to [`MOST_BAGS`]. `NoMemory`: an allocation was refused.
     fn with_room(alloc: Global, bags: usize) -> Result<Self, Fault>
@@ -93,13 +96,15 @@ pub trait BagStore: Drop {
     /// How many bags it has room for, from 1 to [`MOST_BAGS`].
     fn capacity(&self) -> usize
         ensures value { result ≡ capacity self.now }
+        ensures within { length (queued self.now) ≤ capacity self.now }
         ensures some { 0 < result }
         ensures most { result ≤ MOST_BAGS };
 
     /// The cursor of a put that has taken no step.
     fn start_put(&self) -> Self::Putting
         ensures passed { passed result ≡ 0 }
-        ensures few { puts_left (capacity self.now) result ≤ 3 * capacity self.now + 65 };
+        ensures few { puts_left (capacity self.now) result ≤ 3 * capacity self.now + 65 }
+        ensures room { (place : ℕ) → slice_get (occupied self.now) place ≡ Some false → has_room self.now result ≡ true };
 
     /// One step of a put of the bag `held`, to be sealed with `seal`.
     ///
@@ -113,9 +118,13 @@ pub trait BagStore: Drop {
         ensures bag { PutsBag seal.number (queued self.old) held.old result (queued self.new) held.new }
         ensures capacity { capacity self.new ≡ capacity self.old }
 
-        // Full comes only where each place was seen occupied by some step of this put.
+        // Full comes exactly where each place was seen occupied by some step of this put, which isn't done.
         ensures occupied { result ≢ PutStep.Done → (place : ℕ) → passed cursor.old ≤ place → place < passed cursor.new → slice_get (occupied self.old) place ≡ Some true }
         ensures full { result ≡ PutStep.Full → capacity self.old ≤ passed cursor.new }
+        ensures again { result ≡ PutStep.Again → passed cursor.new < capacity self.old }
+
+        // Where nobody disturbs it, it is done exactly where it finds a place.
+        ensures room { FindsRoom (has_room self.old cursor.old) result (has_room self.new cursor.new) }
 
         // Its number falls with each step.
         ensures fewer { 0 < puts_left (capacity self.old) cursor.old → puts_left (capacity self.old) cursor.new < puts_left (capacity self.old) cursor.old }
@@ -126,7 +135,9 @@ pub trait BagStore: Drop {
     fn start_take(&self) -> Self::Taking
         ensures few { takes_left (capacity self.now) result ≤ 3 * capacity self.now + 65 }
         ensures claims { (place : ℕ) → ¬ (Claims result place) }
-        ensures ahead { (epoch : ℕ) → ((place : ℕ) → ¬ (Claimed self.now place)) → AllExpired epoch (queued self.now) → Ahead epoch self.now result (min 64 (length (queued self.now))) };
+
+        // Where no bag is claimed and all are expired, all are ahead, or as many as a collection ever takes.
+        ensures ahead { (epoch : ℕ) → ((place : ℕ) → ¬ (Claimed self.now place)) → AllExpired epoch (queued self.now) → min 64 (ahead epoch self.now result) ≡ min 64 (length (queued self.now)) };
 
     /// One step of a collection of bags that are expired for `expiry`. The bag `hand` has no jobs left.
     ///
@@ -148,7 +159,7 @@ pub trait BagStore: Drop {
         // It claims for itself alone, and only between its steps that answer Again.
         ensures claims { (place : ℕ) → Claimed self.new place → Claims cursor.new place ⊎ (Claimed self.old place × (¬ (Claims cursor.old place))) }
         ensures lets_go { result ≢ TakeStep.Again → (place : ℕ) → ¬ (Claims cursor.new place) }
-        ensures ahead { (bags : ℕ) → Ahead expiry.number self.old cursor.old bags → FindsBag (Ahead expiry.number self.new cursor.new) bags result };
+        ensures ahead { FindsBag (ahead expiry.number self.old cursor.old) result (ahead expiry.number self.new cursor.new) };
 
     /// Takes out one bag whatever its seal. `None` exactly where the store has none.
     ///

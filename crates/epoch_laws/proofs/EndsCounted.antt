@@ -186,7 +186,7 @@ counts_along : (old new : State) (log entries : List Entry) → CountsEnd old lo
 counts_along old new log [] h run =
     subst (λ (at : State). CountsEnd at (log ++ [])) (sym run) (subst (CountsEnd old) (sym (append-nil log)) h)
 counts_along old new log (x ∷ entries) h (mid, took, run) =
-    let aside : State = with_places mid old.places old.seen in
+    let aside : State = with_places mid old.places old.seen old.ahead in
     let next : CountsEnd mid (log ++ x ∷ []) =
     counts_push old mid log x h (step_ends old aside x.step x.reply took.0) in
     subst (CountsEnd new) (append_assoc log (x ∷ []) entries) (counts_along mid new (log ++ x ∷ []) entries next run)

@@ -111,7 +111,7 @@ replies_from : (old new : State) (log : List Entry) (told : ℕ → Told)
     → MayReplyAll told log
 replies_from old new [] told h linked run = tt
 replies_from old new (x ∷ log) told h linked (mid, took, run) =
-    let aside : State = with_places mid old.places old.seen in
+    let aside : State = with_places mid old.places old.seen old.ahead in
     let shown : ShowsStep mid told x.step x.reply = step_shown old aside told x.reply h linked x.step took.0 in
     let still_linked : AllLinked mid = step_linked old mid x.step x.reply linked took in
     (shown.0, replies_from mid new log (λ q. told_after q (told q) x.step x.reply) shown.1 still_linked run)

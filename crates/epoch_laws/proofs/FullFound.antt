@@ -26,7 +26,7 @@ use Rattle.epoch_laws.proofs.PutsFind.{PutFinds, AllFind, rest_finds, begun_find
 
 module _ (old new : State) (reply : Reply) (found : ℕ → ℕ → Type 0) (h : AllFind found old) (linked : AllLinked old) where
   abbrev aside_of : State
-  aside_of = with_places new old.places old.seen
+  aside_of = with_places new old.places old.seen old.ahead
 
   -- nothing is found, and no seat is written
   stays : (step : Step) → Sees old step new → ((q : ℕ) → seen_by new q ≡ seen_by old q)
@@ -88,7 +88,7 @@ module _ (old new : State) (reply : Reply) (found : ℕ → ℕ → Type 0) (h :
       by_ending (Emptying [] n) (inr did) = along _ did.2 (λ q. refl)
 
   -- a step that neither an end nor a participant goes on with
-  still : (new.places ≡ old.places) × (new.seen ≡ old.seen) → (last : State) → aside_of ≡ last → ((q : ℕ) → seat_of last q ≡ seat_of old q)
+  still : (new.places ≡ old.places) × (new.seen ≡ old.seen) × (new.ahead ≡ old.ahead) → (last : State) → aside_of ≡ last → ((q : ℕ) → seat_of last q ≡ seat_of old q)
       → AllFind found new
   still same last e seats = find_along old new found found h (ap length same.0) (λ q k was. was)
       (λ q. ap (λ (all : List ℕ). slice_index_or all q 0) same.1) (λ q. ap (λ (s : State). seat_of s q) e ∙ seats q)

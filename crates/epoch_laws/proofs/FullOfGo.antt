@@ -44,7 +44,7 @@ module _ (old new : State) (reply : Reply) (found : ℕ → ℕ → Type 0) (h :
   m = seat.machine
 
   abbrev aside : State
-  aside = with_places new old.places old.seen
+  aside = with_places new old.places old.seen old.ahead
 
   abbrev later : ℕ → ℕ → Type 0
   later = found_after found old (Go p) reply

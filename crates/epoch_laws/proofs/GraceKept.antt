@@ -124,9 +124,9 @@ module _ (old new : State) (log : List Entry) (x : Entry) (h : Holds old log) (l
 -- WHOLE RUNS
 
 -- the places play no part
-holds_aside : (s : State) (log : List Entry) (places : List Bool) (seen : List ℕ) → Holds (with_places s places seen) log
+holds_aside : (s : State) (log : List Entry) (places : List Bool) (seen : List ℕ) (ahead : List ℕ) → Holds (with_places s places seen ahead) log
     → Holds s log
-holds_aside s log places seen h = record {
+holds_aside s log places seen ahead h = record {
   since = h.since;
   when = h.when;
   seats = h.seats;
@@ -136,16 +136,16 @@ holds_aside s log places seen h = record {
   logged = h.logged;
 }
 
-runs_hold : (old new : State) (log entries : List Entry) → AllLinked old → Holds old log → Runs old entries new
+pub runs_hold : (old new : State) (log entries : List Entry) → AllLinked old → Holds old log → Runs old entries new
     → Holds new (log ++ entries)
 runs_hold old new log [] linked h run =
     holds_along new old _ run (subst (Holds old) (sym (append-nil log)) h)
 runs_hold old new log (x ∷ entries) linked h (mid, did, run) =
     subst (Holds new) (append_assoc log (x ∷ []) entries)
     (runs_hold mid new (log ++ x ∷ []) entries (step_linked old mid x.step x.reply linked did)
-    (holds_aside mid _ _ _ (moves_step old _ log x h linked x.step did.0)) run)
+    (holds_aside mid _ _ _ _ (moves_step old _ log x h linked x.step did.0)) run)
 
-fresh_holds : (s : State) → IsFresh s → Holds s []
+pub fresh_holds : (s : State) → IsFresh s → Holds s []
 fresh_holds s fresh = record {
   since = λ p. 0;
   when = λ t. 0;

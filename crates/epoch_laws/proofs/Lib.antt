@@ -4,6 +4,7 @@ pub mod MachineGoesOn
 pub mod CallsLinked
 pub mod Linked
 pub mod DeferralEpochs
+pub mod StoredBags
 pub mod Log
 pub mod PlacesRead
 pub mod ToldGrows

@@ -150,7 +150,7 @@ moved_linked old new step reply h did = moves_linked old new reply h step did
 pub step_linked : (old new : State) (step : Step) (reply : Reply) → AllLinked old → Takes old step reply new
     → AllLinked new
 step_linked old new step reply h did =
-    let aside : AllLinked (with_places new old.places old.seen) = moved_linked old _ step reply h did.0 in
+    let aside : AllLinked (with_places new old.places old.seen old.ahead) = moved_linked old _ step reply h did.0 in
     record { positions = aside.positions; seats = aside.seats }
 
 -- in a new world they are

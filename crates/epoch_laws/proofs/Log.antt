@@ -27,7 +27,7 @@ stands_keep [] x k event h = absurd (cc)
 stands_keep (first ∷ log) x zero event h = h
 stands_keep (first ∷ log) x (suc k) event h = stands_keep log x k event h
 
-stands_new : (log : List Entry) (x : Entry) → Stands (log ++ x ∷ []) (length log) x.reply
+pub stands_new : (log : List Entry) (x : Entry) → Stands (log ++ x ∷ []) (length log) x.reply
 stands_new [] x = refl
 stands_new (first ∷ log) x = stands_new log x
 

@@ -62,7 +62,7 @@ module _ (old new : State) (reply : Reply) (before : ℕ → Seat) (quiet collec
   b = before p
 
   abbrev aside : State
-  aside = with_places new old.places old.seen
+  aside = with_places new old.places old.seen old.ahead
 
   abbrev later : ℕ → Type 0
   later = quiet_after quiet old (Go p) reply new
@@ -431,14 +431,16 @@ module _ (old new : State) (reply : Reply) (before : ℕ → Seat) (quiet collec
 module _ (old new : State) (reply : Reply) (before : ℕ → Seat) (quiet collected : ℕ → Type 0) (h : AllSince before quiet collected old)
     (linked : AllLinked old) where
   abbrev aside_of : State
-  aside_of = with_places new old.places old.seen
+  aside_of = with_places new old.places old.seen old.ahead
 
   abbrev Shown : Step → Reply → Type 0
   Shown step told = ShowsLeft before quiet collected old step told new
 
   -- nothing has changed
-  unchanged : aside_of ≡ old → (new.places ≡ old.places) × (new.seen ≡ old.seen) → new ≡ old
-  unchanged e same = ap₂ (λ (places : List Bool) (seen : List ℕ). with_places new places seen) same.0 same.1 ∙ e
+  unchanged : aside_of ≡ old → (new.places ≡ old.places) × (new.seen ≡ old.seen) × (new.ahead ≡ old.ahead) → new ≡ old
+  unchanged e same =
+      ap (λ (ahead : List ℕ). with_places new new.places new.seen ahead) same.2
+      ∙ ap₂ (λ (places : List Bool) (seen : List ℕ). with_places new places seen old.ahead) same.0 same.1 ∙ e
 
   -- no seat is written
   stays : (last : State) → aside_of ≡ last → ((q : ℕ) → seat_of last q ≡ seat_of old q) → AllSince before quiet collected new
@@ -475,7 +477,7 @@ module _ (old new : State) (reply : Reply) (before : ℕ → Seat) (quiet collec
           (begun_since (p ≢ p → quiet p) ((p ≢ p) × collected p) (seat_of old p) c (λ ne. absurd (ne refl))))
 
   begins : (p : ℕ) (c : Call) (fault : Option Fault) → refusal c (seat_of old p) old.tickets ≡ fault
-      → (new.places ≡ old.places) × (new.seen ≡ old.seen) → Begins old p c fault reply aside_of → Shown (Begin p c) reply
+      → (new.places ≡ old.places) × (new.seen ≡ old.seen) × (new.ahead ≡ old.ahead) → Begins old p c fault reply aside_of → Shown (Begin p c) reply
   begins p c (Some fault) at same did = subst (Shown (Begin p c)) (sym did.0)
       (unchanged did.1 same, stays old did.1 (λ q. refl))
   begins p c None at same did = subst (Shown (Begin p c)) (sym did.0)

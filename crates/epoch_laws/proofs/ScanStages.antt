@@ -13,7 +13,7 @@ use Rattle.epoch_laws.proofs.SeatsFine.{View, is_pinned, is_release, ends_unguar
 use Rattle.epoch_laws.proofs.NextStages.{next_either, next_by_test}
 
 -- a word that is pinned and doesn't hold the scan up is pinned in its epoch
-same_epoch : (e n : ℕ) → holds_up e (2 * n + 1) ≡ false → n ≡ e
+pub same_epoch : (e n : ℕ) → holds_up e (2 * n + 1) ≡ false → n ≡ e
 same_epoch e n h = same (unless_both _ _ h (ap (λ (r : ℕ). r == 1) (mul-add-mod_self_left 2 n 1)))
   where
     unless_both : (a b : Bool) → (a && not b) ≡ false → a ≡ true → b ≡ true

@@ -64,10 +64,10 @@ module _ (old new : State) (log : List Entry) (x : Entry) (h : Tallies old log) 
   step_tallies EndGo did = end_goes old.ending refl did
 
 -- the places play no part
-tallies_aside : (s : State) (log : List Entry) (places : List Bool) (seen : List ℕ)
-    → Tallies (with_places s places seen) log
+tallies_aside : (s : State) (log : List Entry) (places : List Bool) (seen : List ℕ) (ahead : List ℕ)
+    → Tallies (with_places s places seen ahead) log
     → Tallies s log
-tallies_aside s log places seen h =
+tallies_aside s log places seen ahead h =
     record { seats = h.seats; placed = h.placed; accepted = h.accepted; closed = h.closed; over = h.over }
 
 runs_tally : (old new : State) (log entries : List Entry)
@@ -77,8 +77,8 @@ runs_tally : (old new : State) (log entries : List Entry)
 runs_tally old new log [] h run =
     subst (λ s. Tallies s (log ++ [])) (sym run) (subst (Tallies old) (sym (append-nil log)) h)
 runs_tally old new log (x ∷ entries) h (mid, did, run) =
-    let aside = step_tallies old (with_places mid old.places old.seen) log x h x.step did.0 in
-    let step : Tallies mid (log ++ x ∷ []) = tallies_aside mid (log ++ x ∷ []) old.places old.seen aside in
+    let aside = step_tallies old (with_places mid old.places old.seen old.ahead) log x h x.step did.0 in
+    let step : Tallies mid (log ++ x ∷ []) = tallies_aside mid (log ++ x ∷ []) old.places old.seen old.ahead aside in
     subst (Tallies new) (append_assoc log (x ∷ []) entries) (runs_tally mid new (log ++ x ∷ []) entries step run)
 
 fresh_tallies : (s : State) → IsFresh s → Tallies s []
@@ -102,7 +102,7 @@ fresh_tallies s fresh = record {
         let hand = ap (λ (seat : Seat). seat.machine.hand) (fresh.free p) in
         (held, hand)
 
-run_tallies : (s new : State) (log : List Entry) → IsFresh s → Runs s log new → Tallies new log
+pub run_tallies : (s new : State) (log : List Entry) → IsFresh s → Runs s log new → Tallies new log
 run_tallies s new log fresh run = runs_tally s new [] log (fresh_tallies s fresh) run
 
 pub holds_each_once : (s new : State) (log : List Entry) → IsFresh s → Runs s log new → HoldsEachTicketOnce log new

@@ -13,7 +13,9 @@ use Rattle.epoch_laws.specs.declared.step.Deferral.{Deferral}
 use Rattle.epoch_laws.specs.declared.step.Progress.{Progress}
 use Rattle.epoch_laws.specs.declared.step.Progress.TheVariants.{Driven, Ends}
 use Rattle.epoch_laws.specs.declared.step.Reply.TheVariants.{Done}
-use Rattle.epoch_laws.specs.Run.{Bag, Seat, State, Ending, Emptying, seat_of, is_out}
+use Rattle.epoch_laws.specs.Collections.{collects}
+use Rattle.epoch_laws.specs.Run.{Bag, Seat, State, Ending, Emptying, seat_of, word_of, is_out}
+use Rattle.epoch_laws.specs.declared.step.Word.TheVariants.{Free}
 
 -- CALLS, MACHINES AND GUARDS SAY THE SAME
 
@@ -136,6 +138,12 @@ all_jobs s = jobs_at_seats s.seats + jobs_queued s.queued + jobs_at_end s.ending
 abbrev pub JobsFew : State → Type 0
 JobsFew s = all_jobs s ≤ s.tickets
 
+-- WHO COLLECTS
+
+-- a free position doesn't
+abbrev pub FreeRests : State → Type 0
+FreeRests s = (p : ℕ) → word_of s p ≡ Free → collects (seat_of s p).machine.stage ≡ false
+
 -- ALL OF IT
 
 pub record IsKept (s : State) : Type 0 where
@@ -143,4 +151,5 @@ pub record IsKept (s : State) : Type 0 where
   pub roomy : AllRoomy s
   pub bounded : Bounded s
   pub jobs : JobsFew s
+  pub free : FreeRests s
   pub few : length s.seats ≤ 64

@@ -1,4 +1,5 @@
 pub mod Places
+pub mod Collections
 pub mod Run
 pub mod Grace
 pub mod Tickets

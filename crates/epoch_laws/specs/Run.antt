@@ -15,7 +15,7 @@ use Rattle.epoch_machine.specs.declared.machine.Stage.{Stage}
 use Rattle.epoch_machine.specs.declared.machine.Ask.{Ask}
 use Rattle.epoch_machine.specs.declared.machine.Ask.TheVariants.{LoadEpoch, LoadWord, StorePinned, StoreRepinned, StoreUnpinned, StoreFree, StoreEpoch, PutBag, TakeBag, KeepJob, CallJob}
 use Rattle.epoch_machine.specs.declared.machine.Answer.TheVariants.{Epoch, Word as WordFound, Stored, Job}
-use Rattle.epoch_machine.specs.Machine.{Machine, ask_at, hears, put_heard, took_heard, gives, begun, ended, fresh, PutsHeld, TakesHand}
+use Rattle.epoch_machine.specs.Machine.{Machine, ask_at, hears, put_heard, took_heard, gives, begun, ended, fresh, is_taking, IsSized, PutsHeld, TakesHand}
 use Rattle.epoch_laws.specs.declared.step.Call.{Call}
 use Rattle.epoch_laws.specs.declared.step.Call.TheVariants.{Pin, Unpin, Repin, Pause, Resume, Defer, Flush, Release}
 use Rattle.epoch_laws.specs.declared.step.Step.{Step}
@@ -30,6 +30,7 @@ use Rattle.epoch_laws.specs.declared.step.Word.TheVariants.{Free, Unpinned, Pinn
 use Rattle.epoch_laws.specs.declared.step.Progress.{Progress}
 use Rattle.epoch_laws.specs.declared.step.Progress.TheVariants.{Idle, Driven, CallsNow, Ends}
 use Rattle.epoch_laws.specs.Places.{Sight, sight, Looks}
+use Rattle.epoch_laws.specs.Collections.{Reach, reach, Finds}
 
 -- a job of the world, and a bag of the store
 abbrev pub Bag : Type 0
@@ -58,6 +59,7 @@ pub record State : Type 0 where
   pub ending : Ending
   pub places : List Bool  -- for each place of the store, whether it is occupied
   pub seen : List ℕ  -- for each participant, how many places its put has seen occupied since it began
+  pub ahead : List ℕ  -- for each participant, how many bags its collection will still take if nobody disturbs it
 
 -- WORDS AND SEATS
 
@@ -252,10 +254,10 @@ Moves old EndStep reply new =
     ⊎ ((old.ending ≢ Open) × (reply ≡ Refused Ended) × (new ≡ old))
 Moves old EndGo reply new = EndGoes old old.ending reply new
 
--- WHAT A STEP SEES OF THE PLACES
+-- WHAT A STEP SEES OF THE PLACES, AND WHAT A COLLECTION FINDS
 
-abbrev pub with_places : State → List Bool → List ℕ → State
-with_places s places seen = record s { places = places; seen = seen }
+abbrev pub with_places : State → List Bool → List ℕ → List ℕ → State
+with_places s places seen ahead = record s { places = places; seen = seen; ahead = ahead }
 
 -- how many places the put of p has seen
 abbrev pub seen_by : State → ℕ → ℕ
@@ -263,6 +265,17 @@ seen_by s p = slice_index_or s.seen p 0
 
 abbrev pub sight_of : State → ℕ → Sight
 sight_of s p = sight s.places (seen_by s p)
+
+-- what is ahead of the collection of p
+abbrev pub ahead_of : State → ℕ → ℕ
+ahead_of s p = slice_index_or s.ahead p 0
+
+abbrev pub reach_of : State → ℕ → Reach
+reach_of s p = reach s.queued (ahead_of s p)
+
+-- no participant is taking bags
+abbrev pub NoneTakes : State → Type 0
+NoneTakes s = (q : ℕ) → is_taking (seat_of s q).machine.stage ≡ false
 
 -- what a step Go asks for, by the word and the stage
 abbrev pub turn_at : Word → Progress → Stage → Option Ask
@@ -273,15 +286,16 @@ turn_at _ progress s = None
 abbrev pub turn_of : Seat → Option Ask
 turn_of seat = turn_at seat.word seat.progress seat.machine.stage
 
--- a Go of p counts for the put of p alone; an end takes bags out
+-- A Go of p counts for the put of p alone; an end takes bags out. Of the collection of p a Go of p alone tells: a step of
+-- another, or of an end, may put a bag ahead of it, or take one from there. No other step changes any of this.
 abbrev pub Sees : State → Step → State → Type 0
-Sees old (Go p) new = Looks (turn_of (seat_of old p)) (seat_of old p).machine (seat_of new p).machine (sight_of old p) (sight_of new p) × ((q : ℕ) → q ≢ p → seen_by new q ≡ seen_by old q)
+Sees old (Go p) new = Looks (turn_of (seat_of old p)) (seat_of old p).machine (seat_of new p).machine (sight_of old p) (sight_of new p) × ((q : ℕ) → q ≢ p → seen_by new q ≡ seen_by old q) × Finds (NoneTakes old) (turn_of (seat_of old p)) (seat_of new p).machine (reach_of old p) (reach_of new p)
 Sees old EndGo new = (length new.places ≡ length old.places) × (new.seen ≡ old.seen)
-Sees old _ new = (new.places ≡ old.places) × (new.seen ≡ old.seen)
+Sees old _ new = (new.places ≡ old.places) × (new.seen ≡ old.seen) × (new.ahead ≡ old.ahead)
 
 -- the world takes this step, with this reply: the places aside it moves so, and it sees the places so
 abbrev pub Takes : State → Step → Reply → State → Type 0
-Takes old step reply new = Moves old step reply (with_places new old.places old.seen) × Sees old step new
+Takes old step reply new = Moves old step reply (with_places new old.places old.seen old.ahead) × Sees old step new
 
 -- WHOLE RUNS
 
@@ -293,6 +307,7 @@ Runs old (entry ∷ entries) new = (mid : State) × Takes old entry.step entry.r
 -- a new world
 pub record IsFresh (s : State) : Type 0 where
   pub sized : s.sizes.positions ≡ length s.seats
+  pub in_range : IsSized s.sizes
   pub free : (p : ℕ) → seat_of s p ≡ free_seat s.sizes
   pub none_queued : s.queued ≡ []
   pub no_tickets : s.tickets ≡ 0

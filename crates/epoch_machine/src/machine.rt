@@ -2,6 +2,7 @@
 //! it says what it asks next, and goes on by the answer.
 ghost use Rattle.std.specs.Prelude.{◌≡◌, ◌≢◌, ℕ, Bool, true, false, ◌+◌, ◌-◌, ◌*◌, ◌^◌, ◌<◌, ◌≤◌, ◌↔◌, List, [], ◌∷◌, ◌++◌, not, ◌==◌, if◌then◌else◌, Option, Some, None, slice_get, IsTrue, MatchOption, IfSome, length, ◌⊎◌};
 ghost use Rattle.epoch_bags.specs.Bags.{Sealed};
+ghost use Rattle.epoch_bags.specs.Stores.{FindsBag, FindsRoom};
 ghost use Rattle.epoch_machine.specs.Machine.{IsAnswer, AskFits, asks, begun, heard, put_heard, took_heard, gives, ended, fresh, after_collect, after_pin, after_put, after_unpin, after_job, holds_up, past_word, first_stage, guards_after, is_empty, rest, IsSized, StageFits, is_calling, PutsHeld, TakesHand};
 ghost use Rattle.epoch_machine.specs.declared.machine.Ask.TheVariants.{PutBag, TakeBag, CallJob};
 ghost use Rattle.epoch_machine.specs.declared.machine.Stage.TheVariants.{Idle, End};
@@ -512,6 +513,8 @@ impl<J: Default + Drop> Machine<J> {
         ensures capacity { S.capacity store.new ≡ S.capacity store.old }
         ensures occupied { result ≢ PutStep.Done → (place : ℕ) → S.passed cursor.old ≤ place → place < S.passed cursor.new → slice_get (S.occupied store.old) place ≡ Some true }
         ensures full { result ≡ PutStep.Full → S.capacity store.old ≤ S.passed cursor.new }
+        ensures again { result ≡ PutStep.Again → S.passed cursor.new < S.capacity store.old }
+        ensures room { FindsRoom (S.has_room store.old cursor.old) result (S.has_room store.new cursor.new) }
         ensures fewer { 0 < S.puts_left (S.capacity store.old) cursor.old → S.puts_left (S.capacity store.old) cursor.new < S.puts_left (S.capacity store.old) cursor.old }
         ensures last { S.puts_left (S.capacity store.old) cursor.old ≡ 0 → result ≡ PutStep.Full }
         ensures claims { (place : ℕ) → S.Claimed store.new place → S.Claimed store.old place }
@@ -550,6 +553,7 @@ impl<J: Default + Drop> Machine<J> {
         ensures last { S.takes_left (S.capacity store.old) cursor.old ≡ 0 → result ≡ TakeStep.Empty }
         ensures claims { (place : ℕ) → S.Claimed store.new place → S.Claims cursor.new place ⊎ (S.Claimed store.old place × (¬ (S.Claims cursor.old place))) }
         ensures lets_go { result ≢ TakeStep.Again → (place : ℕ) → ¬ (S.Claims cursor.new place) }
+        ensures ahead { (expiry : ℕ) → asks self.old ≡ Some (TakeBag expiry) → FindsBag (S.ahead expiry store.old cursor.old) result (S.ahead expiry store.new cursor.new) }
     {
         let Stage::Take(expiry, taken) = self.stage else {
             unreachable!()

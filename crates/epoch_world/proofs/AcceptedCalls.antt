@@ -1,5 +1,5 @@
 -- A call begins where nothing refuses it, and takes no more steps than its replies have room for.
-use Rattle.std.proofs.Common.{◌≡◌, ℕ, ◌+◌, ◌<◌, Bool, List, length, Option, Some, None, refl, ap, ap₂, sym, subst, ◌∙◌, slice_index_or, slice_set, get_or-set_same}
+use Rattle.std.proofs.Common.{◌≡◌, ℕ, ◌+◌, ◌<◌, Bool, false, List, length, Option, Some, None, refl, ap, ap₂, sym, subst, ◌∙◌, slice_index_or, slice_set, get_or-set_same}
 use Rattle.epoch_cells.specs.declared.fault.Fault.{Fault}
 use Rattle.epoch_machine.specs.declared.machine.Sizes.{Sizes}
 use Rattle.epoch_machine.specs.declared.machine.Stage.TheVariants.{Idle as Resting}
@@ -8,6 +8,7 @@ use Rattle.epoch_laws.specs.declared.step.Step.TheVariants.{Begin}
 use Rattle.epoch_laws.specs.declared.step.Reply.TheVariants.{Began, Refused}
 use Rattle.epoch_laws.specs.declared.step.Entry.{Entry}
 use Rattle.epoch_laws.specs.Run.{Seat, State, Moves, Takes, with_places, Begins, Runs, IsFresh, refusal, seat_of, with_seat, begun_seat, free_seat}
+use Rattle.epoch_machine.specs.Machine.{is_taking}
 use Rattle.epoch_laws.specs.Kept.{IsKept}
 use Rattle.epoch_laws.specs.Lawful.{IsLawful}
 use Rattle.epoch_world.specs.Steps.{InStore, steps_left, call_bound}
@@ -23,7 +24,8 @@ use Rattle.epoch_world.proofs.WorldKept.{rests_where_accepted}
 pub record IsGiven (s now : State) (p : ℕ) (c : Call) (o : Option Fault) (seat : Seat) : Type 0 where
   pub places : List Bool
   pub seen : List ℕ
-  pub is : with_places s places seen ≡ now
+  pub ahead : List ℕ
+  pub is : with_places s places seen ahead ≡ now
   pub asked : o ≡ refusal c (seat_of now p) now.tickets
   pub none : o ≡ None
   pub found : seat ≡ slice_index_or s.seats p seat
@@ -44,9 +46,12 @@ module _ (s now : State) (p : ℕ) (c : Call) (o : Option Fault) (seat : Seat) (
   pub given_rests : IsKept s → seat.machine.stage ≡ Resting
   given_rests kept = rests_where_accepted s p c seat kept given_at given_here
 
-  pub given_moves : (after : Seat) (places : List Bool) (seen : List ℕ) → after ≡ begun_seat c seat
-      → Moves (with_places s places seen) (Begin p c) Began (with_seat (with_places s places seen) p after)
-  given_moves after places seen begun = begin_moves (with_places s places seen) _ p c seat after given_at given_here begun refl
+  pub given_quiet : IsKept s → is_taking (seat_of s p).machine.stage ≡ false
+  given_quiet kept = ap (λ (q : Seat). is_taking q.machine.stage) (sym given_at) ∙ ap is_taking (given_rests kept)
+
+  pub given_moves : (after : Seat) (places : List Bool) (seen : List ℕ) (ahead : List ℕ) → after ≡ begun_seat c seat
+      → Moves (with_places s places seen ahead) (Begin p c) Began (with_seat (with_places s places seen ahead) p after)
+  given_moves after places seen ahead begun = begin_moves (with_places s places seen ahead) _ p c seat after given_at given_here begun refl
 
   -- the whole call takes fewer steps than its replies have room for
   pub given_few : (after : Seat) (n : InStore) (most steps : ℕ) → IsKept s → after ≡ begun_seat c seat → n.most ≡ most → steps ≡ call_bound s.sizes most + 1

@@ -17,25 +17,26 @@ use Rattle.epoch_world.specs.Worlds.{state_of, IsDrivenAt}
 
 -- HOW FAR THE END IS PLAYS NO PART, NOR DO THE PLACES
 
-pub linked_at : (sizes : Sizes) (epoch tickets : ℕ) (seats : List Seat) (queued : List Bag) (ending later : Ending) (places : List Bool) (seen : List ℕ)
-    → AllLinked (state_of sizes epoch seats queued tickets ending) → AllLinked (with_places (state_of sizes epoch seats queued tickets later) places seen)
-linked_at sizes epoch tickets seats queued ending later places seen h = record { positions = h.positions; seats = h.seats }
+pub linked_at : (sizes : Sizes) (epoch tickets : ℕ) (seats : List Seat) (queued : List Bag) (ending later : Ending) (places : List Bool) (seen : List ℕ) (ahead : List ℕ)
+    → AllLinked (state_of sizes epoch seats queued tickets ending) → AllLinked (with_places (state_of sizes epoch seats queued tickets later) places seen ahead)
+linked_at sizes epoch tickets seats queued ending later places seen ahead h = record { positions = h.positions; seats = h.seats }
 
 -- an end has jobs of its own, and what is kept with them is kept without them
 pub kept_open : (sizes : Sizes) (epoch tickets : ℕ) (seats : List Seat) (queued : List Bag) (ending : Ending)
     → IsKept (state_of sizes epoch seats queued tickets ending) → IsKept (state_of sizes epoch seats queued tickets Open)
 kept_open sizes epoch tickets seats queued ending h = record {
-  linked = linked_at sizes epoch tickets seats queued ending Open [] [] h.linked;
+  linked = linked_at sizes epoch tickets seats queued ending Open [] [] [] h.linked;
   roomy = h.roomy;
   bounded = record { tickets = h.bounded.tickets; keeps = h.bounded.keeps };
   jobs = omega (arith, h.jobs);
+  free = h.free;
   few = h.few;
 }
 
-pub driven_at : (sizes : Sizes) (epoch tickets p : ℕ) (seats : List Seat) (queued : List Bag) (ending later : Ending) (places : List Bool) (seen : List ℕ) (ask : Ask)
+pub driven_at : (sizes : Sizes) (epoch tickets p : ℕ) (seats : List Seat) (queued : List Bag) (ending later : Ending) (places : List Bool) (seen : List ℕ) (ahead : List ℕ) (ask : Ask)
     → IsDrivenAt (state_of sizes epoch seats queued tickets ending) p ask
-    → IsDrivenAt (with_places (state_of sizes epoch seats queued tickets later) places seen) p ask
-driven_at sizes epoch tickets p seats queued ending later places seen ask h = record { taken = h.taken; under_way = h.under_way; asked = h.asked; within = h.within }
+    → IsDrivenAt (with_places (state_of sizes epoch seats queued tickets later) places seen ahead) p ask
+driven_at sizes epoch tickets p seats queued ending later places seen ahead ask h = record { taken = h.taken; under_way = h.under_way; asked = h.asked; within = h.within }
 
 -- FEWER STEPS ARE LEFT
 

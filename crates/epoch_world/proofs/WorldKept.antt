@@ -22,6 +22,7 @@ use Rattle.epoch_laws.specs.Kept.{IsDriven, rests, BeganUnder, Awake, HasRoom, I
 use Rattle.epoch_laws.proofs.SeatLemmas.{begin_given}
 use Rattle.epoch_laws.proofs.Linked.{moved_linked, fresh_linked, follows_at}
 use Rattle.epoch_world.proofs.GuardsFew.{moves_room, fresh_room}
+use Rattle.epoch_world.proofs.FreeSeats.{moves_free, fresh_free}
 use Rattle.epoch_world.proofs.JobsCounted.{moves_jobs, fresh_jobs}
 use Rattle.epoch_world.proofs.TicketsBounded.{tickets_bounded, fresh_bounded, keep_fits}
 
@@ -31,11 +32,12 @@ kept_moves old new step reply h same did = record {
   roomy = moves_room old new reply h.linked h.roomy step did;
   bounded = tickets_bounded old new step reply did h.bounded;
   jobs = moves_jobs old new step reply h.jobs did;
+  free = moves_free old new h.free step reply did;
   few = omega (arith, h.few, same);
 }
 
 pub fresh_kept : (s : State) → IsFresh s → length s.seats ≤ 64 → IsKept s
-fresh_kept s fresh few = record { linked = fresh_linked s fresh; roomy = fresh_room s fresh; bounded = fresh_bounded s fresh; jobs = fresh_jobs s fresh; few = few }
+fresh_kept s fresh few = record { linked = fresh_linked s fresh; roomy = fresh_room s fresh; bounded = fresh_bounded s fresh; jobs = fresh_jobs s fresh; free = fresh_free s fresh; few = few }
 
 -- where a call isn't refused, the machine rests
 pub rests_where_accepted : (s : State) (p : ℕ) (c : Call) (seat : Seat) → IsKept s → seat ≡ seat_of s p → refusal c seat s.tickets ≡ None → seat.machine.stage ≡ Resting

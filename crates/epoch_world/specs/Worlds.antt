@@ -1,5 +1,5 @@
 -- What a world keeps between any two steps, beside what its participants keep of themselves.
-use Rattle.std.specs.Prelude.{◌≡◌, ◌≢◌, ℕ, true, List, [], Some}
+use Rattle.std.specs.Prelude.{◌≡◌, ◌≢◌, ℕ, true, false, List, [], ◌∷◌, Some, slice_get, slice_index_or}
 use Rattle.epoch_machine.specs.Machine.{asks, AskFits}
 use Rattle.epoch_machine.specs.declared.machine.Ask.{Ask}
 use Rattle.epoch_machine.specs.declared.machine.Sizes.{Sizes}
@@ -7,7 +7,8 @@ use Rattle.epoch_laws.specs.declared.step.Deferral.{Deferral}
 use Rattle.epoch_laws.specs.declared.step.Word.TheVariants.{Free}
 use Rattle.epoch_world.specs.declared.world.EndStage.{EndStage}
 use Rattle.epoch_world.specs.declared.world.EndStage.TheVariants.{Open as OpenStage, Emptying as EmptyingStage, Over as OverStage}
-use Rattle.epoch_laws.specs.Run.{Bag, Seat, State, Ending, Open, Emptying, Over, seat_of, word_of, is_driven}
+use Rattle.epoch_laws.specs.Run.{Bag, Seat, State, Ending, Open, Emptying, Over, seat_of, word_of, free_seat, is_driven}
+use Rattle.epoch_laws.specs.Collections.{expiry_of, OwnClaims}
 
 -- how far the end is; the jobs are those left of the bag taken, and so many were called
 abbrev pub ending_of : EndStage → List Deferral → ℕ → Ending
@@ -17,7 +18,7 @@ ending_of OverStage hand count = Over
 
 -- the state of a world of these parts, but for the places of the store
 abbrev pub state_of : Sizes → ℕ → List Seat → List Bag → ℕ → Ending → State
-state_of sizes epoch seats queued tickets ending = record { sizes = sizes; epoch = epoch; seats = seats; queued = queued; tickets = tickets; ending = ending; places = []; seen = [] }
+state_of sizes epoch seats queued tickets ending = record { sizes = sizes; epoch = epoch; seats = seats; queued = queued; tickets = tickets; ending = ending; places = []; seen = []; ahead = [] }
 
 -- the participant at a position has a call under way, and its machine asks for this
 pub record IsDrivenAt (s : State) (p : ℕ) (ask : Ask) : Type 0 where
@@ -25,6 +26,17 @@ pub record IsDrivenAt (s : State) (p : ℕ) (ask : Ask) : Type 0 where
   pub under_way : is_driven (seat_of s p).progress ≡ true
   pub asked : asks (seat_of s p).machine ≡ Some ask
   pub within : AskFits (seat_of s p).machine.sizes ask
+
+-- what is ahead of each participant's collection, where ahead says it by the epoch and the cursor
+abbrev pub aheads : {C : Type 0} → (ℕ → C → ℕ) → List Seat → List C → List ℕ
+aheads ahead (seat ∷ seats) (cursor ∷ cursors) = ahead (expiry_of seat.machine.stage) cursor ∷ aheads ahead seats cursors
+aheads ahead _ _ = []
+
+-- a bag is claimed by nobody but a participant that is taking bags
+abbrev pub ClaimsKnown : {C : Type 0} → (ℕ → Type 0) → (C → ℕ → Type 0) → Sizes → List Seat → List C → Type 0
+ClaimsKnown {C} Claimed Claims sizes seats cursors = (place : ℕ)
+    → ((q : ℕ) (cursor : C) → slice_get cursors q ≡ Some cursor → ¬ (OwnClaims (slice_index_or seats q (free_seat sizes)).machine.stage (Claims cursor) place))
+    → ¬ (Claimed place)
 
 -- an end is under way
 abbrev pub IsEmptying : Ending → Type 0

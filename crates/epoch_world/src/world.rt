@@ -56,12 +56,12 @@ impl<S: BagStore<Job = Deferral>> Model for World<S> {
     ghost use Rattle.std.specs.Prelude.{◌≡◌, ◌^◌, ◌<◌, ◌≤◌, length, map};
     ghost use Rattle.epoch_machine.specs.Machine.{IsSized};
     ghost use Rattle.epoch_laws.specs.Run.{State, with_places};
-    ghost use Rattle.epoch_world.specs.Worlds.{state_of, ending_of};
+    ghost use Rattle.epoch_world.specs.Worlds.{state_of, ending_of, aheads, ClaimsKnown};
     ghost use Rattle.epoch_laws.specs.Kept.{IsKept};
 
     ghost Value = { State };
 
-    ghost view = { λ a. with_places (state_of a.sizes a.epoch a.seats.items (S.queued a.store) a.tickets (ending_of a.end a.hand.jobs a.count)) (S.occupied a.store) (map S.passed a.putting.items) };
+    ghost view = { λ a. with_places (state_of a.sizes a.epoch a.seats.items (S.queued a.store) a.tickets (ending_of a.end a.hand.jobs a.count)) (S.occupied a.store) (map S.passed a.putting.items) (aheads (λ x cursor. S.ahead x a.store cursor) a.seats.items a.taking.items) };
 
     ghost invariant = { λ a. record {
       sized : IsSized a.sizes;
@@ -69,6 +69,7 @@ impl<S: BagStore<Job = Deferral>> Model for World<S> {
       putting : length a.putting.items ≡ length a.seats.items;
       taking : length a.taking.items ≡ length a.seats.items;
       kept : IsKept (state_of a.sizes a.epoch a.seats.items (S.queued a.store) a.tickets (ending_of a.end a.hand.jobs a.count));
+      claimed : ClaimsKnown (S.Claimed a.store) S.Claims a.sizes a.seats.items a.taking.items;
     } };
 }
 
@@ -81,6 +82,7 @@ impl<S: BagStore<Job = Deferral>> World<S> {
         ensures fresh { IfOk result IsFresh }
         ensures epoch { IfOk result (λ world. world.epoch ≡ shape.start_epoch) }
         ensures positions { IfOk result (λ world. length world.seats ≡ shape.participants) }
+        ensures sizes { IfOk result (λ world. world.sizes ≡ record { positions = shape.participants; bag_jobs = shape.bag_jobs; collect_bags = shape.collect_bags }) }
         ensures sizes { IfOk result (λ world. world.sizes ≡ sizes_of shape) }
         ensures places { IfOk result (λ world. length world.places ≡ shape.bags) }
         ensures no_memory { IfErr result (λ fault. fault ≡ NoMemory) }

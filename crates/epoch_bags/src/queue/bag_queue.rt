@@ -1,9 +1,9 @@
 //! The plain store: a queue of bags with a bound, which puts and takes in one step each.
-ghost use Rattle.std.specs.Prelude.{◌≡◌, ◌≢◌, ℕ, ◌+◌, ◌-◌, ◌*◌, ◌<◌, ◌≤◌, ◌↔◌, List, [], ◌∷◌, ◌++◌, Option, None, Some, length, IfOk, IfErr, IsErr, OnOk, OnErr, IsTrue, min, slice_get, vec_len, vec_capacity};
+ghost use Rattle.std.specs.Prelude.{◌≡◌, ◌≢◌, ℕ, ◌+◌, ◌-◌, ◌*◌, ◌<◌, ◌≤◌, ◌↔◌, List, [], ◌∷◌, ◌++◌, Option, None, Some, length, IfOk, IfErr, IsErr, OnOk, OnErr, IsTrue, nat_lt, ◌&&◌, true, false, min, slice_get, vec_len, vec_capacity};
 ghost use Rattle.std.specs.Fn.{FnReturnsAt};
 ghost use Rattle.epoch_bags.specs.Bags.{Sealed, IsExpired};
-ghost use Rattle.epoch_bags.specs.Stores.{AllExpired, PutsBag, PutsJobs, TakesBag, TakesExpired, FindsBag, TakesAny};
-ghost use Rattle.epoch_bags.specs.Queues.{first_occupied, PopsFrontWhere};
+ghost use Rattle.epoch_bags.specs.Stores.{AllExpired, PutsBag, FindsRoom, PutsJobs, TakesBag, TakesExpired, FindsBag, TakesAny};
+ghost use Rattle.epoch_bags.specs.Queues.{first_occupied, first_expired, PopsFrontWhere};
 
 use super::size::tell_size;
 use crate::{Bag, BagStore, Epoch, MOST_BAGS, PutStep, SealedBag, TakeStep};
@@ -155,13 +155,15 @@ impl<J: Default + Drop> BagStore for BagQueue<J> {
 
     ghost passed = { λ cursor. cursor };
 
+    ghost has_room = { λ queue cursor. nat_lt cursor queue.capacity && nat_lt (length queue.bags) queue.capacity };
+
     ghost Claims = { λ cursor place. ⊥ };
 
     ghost puts_left = { λ capacity cursor. min 1 (capacity - cursor) };
 
     ghost takes_left = { λ capacity cursor. cursor };
 
-    ghost Ahead = { λ epoch queue cursor bags. (bags ≤ length queue.bags) × (bags ≤ cursor) × AllExpired epoch queue.bags };
+    ghost ahead = { λ epoch queue cursor. min cursor (first_expired epoch queue.bags) };
 
     fn with_room(alloc: Global, bags: usize) -> Result<BagQueue<J>, Fault> {
         BagQueue::new(alloc, bags)

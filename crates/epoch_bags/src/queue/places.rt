@@ -5,7 +5,8 @@
 //! goes over the places once: it looks, claims the very word that tells of an expired bag, and empties the place.
 ghost use Rattle.std.specs.Prelude.{◌≡◌, ◌≢◌, ℕ, ◌+◌, ◌-◌, ◌*◌, ◌<◌, ◌≤◌, ◌↔◌, ◌%◌, ◌/◌, List, [], ◌∷◌, ◌++◌, Option, None, Some, IsSome, length, IfOk, IfErr, IsTrue, true, false, ◌==◌, if◌then◌else◌, slice_index_or, slice_get, slice_set, min, vec_capacity};
 ghost use Rattle.epoch_bags.specs.Bags.{Sealed, IsExpired};
-ghost use Rattle.epoch_bags.specs.Stores.{AllExpired, PutsBag, PutsJobs, TakesBag, TakesExpired, FindsBag, TakesAny};
+ghost use Rattle.epoch_bags.specs.Stores.{AllExpired, PutsBag, FindsRoom, PutsJobs, TakesBag, TakesExpired, FindsBag, TakesAny};
+ghost use Rattle.epoch_bags.specs.Places.{has_empty};
 ghost use Rattle.epoch_bags.specs.PlaceLists.{ArePlaces, bags_in, taken_places, IsClaimedAt, Fills, Empties, Leaves};
 
 use super::size::tell_size;
@@ -141,6 +142,7 @@ fn fill<J: Default + Drop>(
     ensures limit { held.new.limit ≡ held.old.limit }
     ensures not { result ≡ false → (places.new ≡ places.old) × (held.new ≡ held.old) }
     ensures there { result ≡ false → slice_index_or places.old.words place 0 ≢ 0 }
+    ensures home { result ≡ false → IsSome (slice_index_or places.old.bags place None) }
 {
     if places.bags[place].is_some() {
         return false;
@@ -241,7 +243,7 @@ fn has_bag<J>(places: &Places<J>, place: usize) -> bool
 }
 
 impl<J: Default + Drop> BagStore for Places<J> {
-    ghost use Rattle.epoch_bags.specs.Places.{put_passed, put_left, take_left, ClaimsAt, IsAhead};
+    ghost use Rattle.epoch_bags.specs.Places.{put_passed, put_left, take_left, ClaimsAt, has_room, bags_ahead};
 
     type Job = J;
 
@@ -259,13 +261,15 @@ impl<J: Default + Drop> BagStore for Places<J> {
 
     ghost passed = { λ cursor. put_passed cursor };
 
+    ghost has_room = { λ places cursor. has_room places cursor };
+
     ghost Claims = { λ cursor place. ClaimsAt cursor place };
 
     ghost puts_left = { λ places cursor. put_left places cursor };
 
     ghost takes_left = { λ places cursor. take_left places cursor };
 
-    ghost Ahead = { λ epoch places cursor bags. IsAhead epoch places cursor bags };
+    ghost ahead = { λ epoch places cursor. bags_ahead epoch places cursor };
 
     fn with_room(alloc: Global, bags: usize) -> Result<Places<J>, Fault> {
         Places::new(alloc, bags)
@@ -276,7 +280,8 @@ impl<J: Default + Drop> BagStore for Places<J> {
     }
 
     fn start_put(&self) -> PutCursor
-        ensures { result ≡ PutCursor.Look 0 }
+        ensures start { result ≡ PutCursor.Look 0 }
+        ensures room { (place : ℕ) → slice_get (taken_places self.now.words) place ≡ Some false → has_empty self.now.words ≡ true }
     {
         PutCursor::Look(0)
     }
@@ -318,6 +323,7 @@ impl<J: Default + Drop> BagStore for Places<J> {
     }
 
     fn start_take(&self) -> TakeCursor {
+        let _agrees = count(self);
         TakeCursor::Look(0)
     }
 

@@ -6,6 +6,7 @@ ghost use Rattle.epoch_machine.specs.declared.machine.Stage.TheVariants.{Idle, E
 ghost use Rattle.epoch_world.specs.Seats.{shared, SeatPerforms, WordFits, adds_guard};
 ghost use Rattle.epoch_world.specs.Steps.{in_store, machine_steps};
 ghost use Rattle.epoch_laws.specs.Places.{sight, Looks};
+ghost use Rattle.epoch_laws.specs.Collections.{reach, expiry_of, Finds, MayClaim};
 
 use crate::world::guards::{is_out, lowest, without};
 use arrayvec::ArrayVec;
@@ -106,6 +107,8 @@ impl Seat {
         ensures within { epoch.new < 2 ^ 63 }
         ensures step { SeatPerforms self.old.machine.sizes position word (shared epoch.old (S.queued store.old) tickets.old) self.old self.old.machine.stage ask result self.new (shared epoch.new (S.queued store.new) tickets.new) }
         ensures looks { Looks (Some ask) self.old.machine self.new.machine (sight (S.occupied store.old) (S.passed putting.old)) (sight (S.occupied store.new) (S.passed putting.new)) }
+        ensures finds { Finds ((place : ℕ) → ¬ (S.Claimed store.old place)) (Some ask) self.new.machine (reach (S.queued store.old) (S.ahead (expiry_of self.old.machine.stage) store.old taking.old)) (reach (S.queued store.new) (S.ahead (expiry_of self.new.machine.stage) store.new taking.new)) }
+        ensures claims { MayClaim ask self.new.machine.stage (S.Claimed store.old) (S.Claims taking.old) (S.Claimed store.new) (S.Claims taking.new) }
 
         // The call has fewer steps left.
         ensures fewer { machine_steps self.new.machine (in_store (S.puts_left (S.capacity store.old) putting.new) (S.takes_left (S.capacity store.old) taking.new) (3 * S.capacity store.old + 65)) < machine_steps self.old.machine (in_store (S.puts_left (S.capacity store.old) putting.old) (S.takes_left (S.capacity store.old) taking.old) (3 * S.capacity store.old + 65)) }

@@ -1,10 +1,11 @@
-use Rattle.std.proofs.Common.{[], ◌∙◌, sym}
+use Rattle.std.proofs.Common.{[], ◌∙◌, sym, get_or-set_other}
 use Rattle.std.proofs.lemmas.List.{length-set}
 use Rattle.epoch_laws.specs.declared.step.Step.TheVariants.{Begin}
 use Rattle.epoch_laws.specs.declared.step.Reply.TheVariants.{Began}
 use Rattle.epoch_laws.specs.Run.{State}
 use Rattle.epoch_world.specs.Worlds.{state_of, ending_of}
-use Rattle.epoch_world.proofs.AcceptedCalls.{IsGiven, given_rests, given_moves, refused_takes}
+use Rattle.epoch_world.proofs.AcceptedCalls.{IsGiven, given_rests, given_quiet, given_moves, refused_takes}
+use Rattle.epoch_world.proofs.CollectionSteps.{claims_quiet}
 use Rattle.epoch_world.proofs.WorldKept.{kept_moves}
 use Rattle.epoch_world.proofs.world.World.begin.Goals as goal
 
@@ -18,7 +19,7 @@ begin-requires g c =
     state_of c.self.inside.sizes c.self.inside.epoch c.self.inside.seats.items (g.S.BagStore.queued c.self.inside.store) c.self.inside.tickets
     (ending_of c.self.inside.end c.self.inside.hand.jobs c.self.inside.count) in
     let given : IsGiven old c.args.self.now c.args.position c.args.call c.refusal.result c.index_mut.result.now =
-    record { places = _; seen = _; is = c.self.view_is; asked = c.refusal.ensures; none = c.in_default.is; found = c.index_mut.ensures.value } in
+    record { places = _; seen = _; ahead = _; is = c.self.view_is; asked = c.refusal.ensures; none = c.in_default.is; found = c.index_mut.ensures.value } in
     given_rests _ _ _ _ _ _ given c.self.invariant.kept
 
 pub invariant_of-self : goal.invariant_of-self
@@ -27,7 +28,7 @@ invariant_of-self g c =
     state_of c.self.inside.sizes c.self.inside.epoch c.self.inside.seats.items (g.S.BagStore.queued c.self.inside.store) c.self.inside.tickets
     (ending_of c.self.inside.end c.self.inside.hand.jobs c.self.inside.count) in
     let given : IsGiven old c.args.self.now c.args.position c.args.call c.refusal.result c.index_mut.result.now =
-    record { places = _; seen = _; is = c.self.view_is; asked = c.refusal.ensures; none = c.in_default.is; found = c.index_mut.ensures.value } in
+    record { places = _; seen = _; ahead = _; is = c.self.view_is; asked = c.refusal.ensures; none = c.in_default.is; found = c.index_mut.ensures.value } in
     let same = sym (length-set c.self.inside.seats.items c.args.position c.begin.new.self) in
     record {
       sized = c.self.invariant.sized;
@@ -35,5 +36,7 @@ invariant_of-self g c =
       putting = c.self.invariant.putting ∙ same;
       taking = c.self.invariant.taking ∙ same;
       kept = kept_moves old _ (Begin c.args.position c.args.call) Began c.self.invariant.kept (length-set c.self.inside.seats.items c.args.position c.begin.new.self)
-          (given_moves _ _ _ _ _ _ given c.begin.new.self [] [] c.begin.ensures);
+          (given_moves _ _ _ _ _ _ given c.begin.new.self [] [] [] c.begin.ensures);
+      claimed = claims_quiet g.S.BagStore.Claims c.self.inside.sizes _ c.self.inside.seats.items _ c.self.inside.taking.items c.args.position
+          (given_quiet _ _ _ _ _ _ given c.self.invariant.kept) (λ q other. get_or-set_other c.self.inside.seats.items c.args.position q c.begin.new.self _ other) c.self.invariant.claimed;
     }

@@ -5,7 +5,7 @@ use Rattle.epoch_laws.specs.declared.step.Deferral.{Deferral}
 use Rattle.epoch_laws.specs.declared.step.Reply.TheVariants.{Began, Refused}
 use Rattle.epoch_laws.specs.declared.step.Step.TheVariants.{End as EndStep}
 use Rattle.epoch_laws.specs.Run.{State, Open, Emptying, Takes, with_places}
-use Rattle.epoch_world.specs.Worlds.{state_of, ending_of}
+use Rattle.epoch_world.specs.Worlds.{state_of, ending_of, aheads}
 use Rattle.epoch_world.proofs.WorldKept.{kept_moves}
 use Rattle.epoch_world.proofs.WorldSteps.{end_moves, end_refused}
 use Rattle.epoch_world.proofs.world.World.begin_end.Goals as goal
@@ -14,7 +14,8 @@ pub returns-then-not-all_free : goal.returns-then-not-all_free
 returns-then-not-all_free g c =
     let old : State =
     with_places (state_of c.self.inside.sizes c.self.inside.epoch c.self.inside.seats.items (g.S.BagStore.queued c.self.inside.store) c.self.inside.tickets
-    (ending_of c.self.inside.end c.self.inside.hand.jobs c.self.inside.count)) (g.S.BagStore.occupied c.self.inside.store) (map g.S.BagStore.passed c.self.inside.putting.items) in
+    (ending_of c.self.inside.end c.self.inside.hand.jobs c.self.inside.count)) (g.S.BagStore.occupied c.self.inside.store) (map g.S.BagStore.passed c.self.inside.putting.items)
+    (aheads (λ x cursor. g.S.BagStore.ahead x c.self.inside.store cursor) c.self.inside.seats.items c.self.inside.taking.items) in
     let opened : old.ending ≡ Open = ap (λ (e : EndStage). ending_of e c.self.inside.hand.jobs c.self.inside.count) c.in-Open.is in
     subst (λ (s : State). Takes s EndStep (Refused ParticipantsLeft) s) c.self.view_is (end_refused old opened (c.all_free.ensures.no c.if-not-all_free.true))
 
@@ -32,13 +33,15 @@ invariant_of-self g c =
       putting = c.self.invariant.putting;
       taking = c.self.invariant.taking;
       kept = kept_moves old new EndStep Began c.self.invariant.kept refl (end_moves old new opened (c.all_free.ensures.yes c.if-not-all_free.false) emptying);
+      claimed = c.self.invariant.claimed;
     }
 
 pub returns : goal.returns
 returns g c =
     let old : State =
     with_places (state_of c.self.inside.sizes c.self.inside.epoch c.self.inside.seats.items (g.S.BagStore.queued c.self.inside.store) c.self.inside.tickets
-    (ending_of c.self.inside.end c.self.inside.hand.jobs c.self.inside.count)) (g.S.BagStore.occupied c.self.inside.store) (map g.S.BagStore.passed c.self.inside.putting.items) in
+    (ending_of c.self.inside.end c.self.inside.hand.jobs c.self.inside.count)) (g.S.BagStore.occupied c.self.inside.store) (map g.S.BagStore.passed c.self.inside.putting.items)
+    (aheads (λ x cursor. g.S.BagStore.ahead x c.self.inside.store cursor) c.self.inside.seats.items c.self.inside.taking.items) in
     let opened : old.ending ≡ Open = ap (λ (e : EndStage). ending_of e c.self.inside.hand.jobs c.self.inside.count) c.in-Open.is in
     let new : State = record old { ending = Emptying c.seal-self-inside.result.jobs 0 } in
     let emptying : new ≡ record old { ending = Emptying [] 0 } = ap (λ (hand : List Deferral). record old { ending = Emptying hand 0 }) (c.seal-self-inside.ensures.jobs ∙ c.new.ensures.empty) in

@@ -10,9 +10,11 @@ invariant_of-result g c = record {
   taking = c.in_ok-taking.ensures.ok ∙ sym c.in_ok-seats.ensures.count;
   kept = fresh_kept _ (record {
     sized = sym c.in_ok-seats.ensures.count;
+    in_range = record { positions = c.requires.participants.0; bag_jobs = c.requires.bag_jobs; collect_bags = c.requires.collect_bags };
     free = c.in_ok-seats.ensures.free;
     none_queued = c.in_ok-store.ensures.empty;
     no_tickets = refl;
     open_end = refl;
   }) (omega (arith, c.in_ok-seats.ensures.count, c.requires.participants.1));
+  claimed = λ place none claimed. c.in_ok-store.ensures.unclaimed place claimed;
 }

@@ -1,4 +1,5 @@
-use Rattle.std.proofs.Common.{◌∙◌, sym, ap, refl}
+use Rattle.std.proofs.Common.{◌∙◌, sym, ap, refl, get_or-set_other}
+use Rattle.epoch_world.proofs.CollectionSteps.{claims_quiet}
 use Rattle.std.proofs.lemmas.List.{length-set}
 use Rattle.epoch_world.specs.declared.world.EndStage.{EndStage}
 use Rattle.epoch_laws.specs.declared.step.Reply.TheVariants.{Registered}
@@ -23,4 +24,6 @@ invariant_of-self g c =
           (register_moves old _ c.in-Some.index c.register.new.self
           (ap (λ (e : EndStage). ending_of e c.self.inside.hand.jobs c.self.inside.count) c.in-Open.is)
           c.in-Some.ensures.some.0 c.in-Some.ensures.some.1 c.in-Some.ensures.least c.register.ensures refl);
+      claimed = claims_quiet g.S.BagStore.Claims c.self.inside.sizes _ c.self.inside.seats.items _ c.self.inside.taking.items c.in-Some.index
+          (c.self.invariant.kept.free c.in-Some.index (c.in-Some.ensures.some.1 _)) (λ q other. get_or-set_other c.self.inside.seats.items c.in-Some.index q c.register.new.self _ other) c.self.invariant.claimed;
     }

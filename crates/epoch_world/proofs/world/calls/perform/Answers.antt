@@ -3,20 +3,22 @@ use Rattle.epoch_laws.specs.Run.{Seat, State, Open, with_places, number_of, word
 use Rattle.epoch_world.specs.Seats.{shared}
 use Rattle.epoch_world.specs.Steps.{InStore, in_store}
 use Rattle.epoch_world.specs.Worlds.{state_of}
+use Rattle.epoch_machine.specs.Machine.{asks}
+use Rattle.epoch_world.proofs.CollectionSteps.{performed_finds, performed_claims}
 use Rattle.epoch_world.proofs.Performed.{found_there, performed}
 use Rattle.epoch_world.proofs.TurnsTaken.{linked_at, driven_at, performs_less, seat_less}
 use Rattle.epoch_world.proofs.world.calls.perform.Goals as goal
 
 pub returns-clause-step : goal.returns-clause-step
-returns-clause-step g c ending places seen =
+returns-clause-step g c ending places seen ahead =
     let old : State =
-    with_places (state_of c.args.sizes c.args.epoch.now c.args.seats.now.items (g.S.BagStore.queued c.args.store.now) c.args.tickets.now ending) places seen in
+    with_places (state_of c.args.sizes c.args.epoch.now c.args.seats.now.items (g.S.BagStore.queued c.args.store.now) c.args.tickets.now ending) places seen ahead in
     let seat : Seat = c.index_mut-seat.result.now in
     performed old old _ c.args.index c.number_at-word.result seat c.perform.new.self c.perform.result c.args.ask
     (shared c.perform.new.epoch (g.S.BagStore.queued c.perform.new.store) c.perform.new.tickets) refl
-    (linked_at c.args.sizes c.args.epoch.now c.args.tickets.now c.args.seats.now.items (g.S.BagStore.queued c.args.store.now) Open ending places seen c.requires.kept.linked)
+    (linked_at c.args.sizes c.args.epoch.now c.args.tickets.now c.args.seats.now.items (g.S.BagStore.queued c.args.store.now) Open ending places seen ahead c.requires.kept.linked)
     (found_there c.args.seats.now.items c.args.sizes c.args.index seat c.requires.there c.index_mut-seat.ensures.value)
-    (driven_at c.args.sizes c.args.epoch.now c.args.tickets.now c.args.index c.args.seats.now.items (g.S.BagStore.queued c.args.store.now) Open ending places seen c.args.ask c.requires.driven)
+    (driven_at c.args.sizes c.args.epoch.now c.args.tickets.now c.args.index c.args.seats.now.items (g.S.BagStore.queued c.args.store.now) Open ending places seen ahead c.args.ask c.requires.driven)
     (λ k asked. c.number_at-word.ensures c.args.sizes ∙ ap (λ (j : ℕ). number_of (word_of old j)) (c.scanned.ensures k asked))
     c.perform.ensures.step refl
 
@@ -36,3 +38,19 @@ returns-clause-fewer g c goes_on =
     (shared c.perform.new.epoch (g.S.BagStore.queued c.perform.new.store) c.perform.new.tickets)
     seat c.perform.new.self c.args.ask c.perform.result before behind c.perform.ensures.step
     (ap (λ (q : Seat). is_driven q.progress) is ∙ c.requires.driven.under_way) goes_on c.perform.ensures.fewer)
+
+pub returns-clause-finds : goal.returns-clause-finds
+returns-clause-finds g c =
+    let seat : Seat = c.index_mut-seat.result.now in
+    performed_finds c.args.seats.now.items c.args.sizes c.args.index seat c.perform.new.self c.args.ask c.requires.there
+    (found_there c.args.seats.now.items c.args.sizes c.args.index seat c.requires.there c.index_mut-seat.ensures.value) _
+    (λ x. g.S.BagStore.ahead x c.args.store.now c.args.taking.now) (λ x. g.S.BagStore.ahead x c.perform.new.store c.perform.new.taking) _ _
+    c.requires.driven.taken c.requires.driven.under_way c.requires.driven.asked c.perform.ensures.finds
+
+pub returns-clause-claims : goal.returns-clause-claims
+returns-clause-claims g c =
+    let seat : Seat = c.index_mut-seat.result.now in
+    let is : seat ≡ slice_index_or c.args.seats.now.items c.args.index (free_seat c.args.sizes) =
+    found_there c.args.seats.now.items c.args.sizes c.args.index seat c.requires.there c.index_mut-seat.ensures.value in
+    performed_claims c.args.seats.now.items c.args.sizes c.args.index seat c.perform.new.self c.args.ask c.requires.there is _ _ _ _
+    (ap (λ (q : Seat). asks q.machine) is ∙ c.requires.driven.asked) c.perform.ensures.claims

@@ -1,6 +1,7 @@
-use Rattle.std.proofs.Common.{arith, ap, ◌∙◌}
-use Rattle.epoch_bags.specs.Places.{put_passed}
-use Rattle.epoch_bags.proofs.PlaceSteps.{passed_one, claims_empty, fills_bag}
+use Rattle.std.proofs.Common.{arith, ap, sym, ◌∙◌, ◌+◌, ℕ, List, length, drop}
+use Rattle.epoch_bags.specs.PlaceLists.{PlaceList}
+use Rattle.epoch_bags.specs.Places.{put_passed, has_empty, has_room}
+use Rattle.epoch_bags.proofs.PlaceSteps.{room_past, room_passed, room_claimed, room_filled, room_taken, puts_on, passed_one, claims_empty, fills_bag}
 use Rattle.epoch_bags.proofs.queue.places.PlacesBagStore.put_step.Goals as goal
 
 -- the place was empty, so the claim is of a place without a bag
@@ -33,3 +34,43 @@ pub returns-else-fill-clause-occupied : goal.returns-else-fill-clause-occupied
 returns-else-fill-clause-occupied g c on place from below =
     passed_one c.args.self.now.words c.in-Fill.place place (omega arith) (c.fill.ensures.there c.if-fill.false)
     (omega (arith, from, ap put_passed c.in-Fill.is)) (omega (arith, below, ap put_passed c.put_further-in-Fill.ensures.cursor))
+
+-- WHETHER IT WILL FIND A PLACE
+
+pub returns-then-place-places-clause-room : goal.returns-then-place-places-clause-room
+returns-then-place-places-clause-room g c = room_past c.args.self.now c.args.cursor.now (omega (arith, ap put_passed c.in-Look.is)) c.count-places.ensures.agrees.beside
+
+pub returns-then-place-places-2-clause-room : goal.returns-then-place-places-2-clause-room
+returns-then-place-places-2-clause-room g c = room_past c.args.self.now c.args.cursor.now (omega (arith, ap put_passed c.in-Claim.is)) c.count-places.ensures.agrees.beside
+
+pub returns-then-place-places-3-clause-room : goal.returns-then-place-places-3-clause-room
+returns-then-place-places-3-clause-room g c = room_past c.args.self.now c.args.cursor.now (omega (arith, ap put_passed c.in-Fill.is)) c.count-places.ensures.agrees.beside
+
+pub returns-then-look-eq-EMPTY-clause-room : goal.returns-then-look-eq-EMPTY-clause-room
+returns-then-look-eq-EMPTY-clause-room g c = ap (has_room c.args.self.now) (sym c.in-Look.is)
+
+pub returns-else-look-eq-EMPTY-clause-room : goal.returns-else-look-eq-EMPTY-clause-room
+returns-else-look-eq-EMPTY-clause-room g c =
+    puts_on c.args.self.now c.put_further.new.cursor c.put_further.result c.in-Look.place c.count-places.result _ c.count-places.ensures.value c.put_further.ensures.cursor c.put_further.ensures.result
+    (room_passed c.args.self.now c.in-Look.place (omega arith) (λ zero_word. c.if-look-eq-EMPTY.false (c.look.ensures ∙ zero_word)) ∙ ap (has_room c.args.self.now) (sym c.in-Look.is))
+
+pub returns-then-claim-clause-room : goal.returns-then-claim-clause-room
+returns-then-claim-clause-room g c =
+    let won = c.claim.ensures.won c.if-claim.true in
+    room_claimed c.args.self.now c.claim.new.places c.in-Claim.place (omega arith) c.count-places.ensures.agrees won.0 c.claim.ensures.bags ∙ ap (has_room c.args.self.now) (sym c.in-Claim.is)
+
+pub returns-else-claim-clause-room : goal.returns-else-claim-clause-room
+returns-else-claim-clause-room g c =
+    let lost = c.claim.ensures.lost c.if-claim.false in
+    puts_on c.claim.new.places c.put_further-in-Claim.new.cursor c.put_further-in-Claim.result c.in-Claim.place c.count-places.result _ (c.count-places.ensures.value ∙ ap length (sym lost.1)) c.put_further-in-Claim.ensures.cursor c.put_further-in-Claim.ensures.result
+    (ap (λ (l : List ℕ). has_empty (drop (c.in-Claim.place + 1) l)) lost.1 ∙ room_passed c.args.self.now c.in-Claim.place (omega arith) lost.0 ∙ ap (has_room c.args.self.now) (sym c.in-Claim.is))
+
+pub returns-then-fill-clause-room : goal.returns-then-fill-clause-room
+returns-then-fill-clause-room g c =
+    ap (has_room c.args.self.now) c.in-Fill.is ∙ room_filled c.args.self.now c.in-Fill.place (omega (arith, c.count-places.ensures.agrees.beside)) (c.fill.ensures.done c.if-fill.true).was_empty
+
+pub returns-else-fill-clause-room : goal.returns-else-fill-clause-room
+returns-else-fill-clause-room g c =
+    let same = (c.fill.ensures.not c.if-fill.false).0 in
+    puts_on c.fill.new.places c.put_further-in-Fill.new.cursor c.put_further-in-Fill.result c.in-Fill.place c.count-places.result _ (c.count-places.ensures.value ∙ ap (λ (s : PlaceList g.row.J.Denot). length s.words) (sym same)) c.put_further-in-Fill.ensures.cursor c.put_further-in-Fill.ensures.result
+    (ap (λ (s : PlaceList g.row.J.Denot). has_empty (drop (c.in-Fill.place + 1) s.words)) same ∙ room_taken c.args.self.now c.in-Fill.place (omega (arith, c.count-places.ensures.agrees.beside)) (c.fill.ensures.home c.if-fill.false) ∙ ap (has_room c.args.self.now) (sym c.in-Fill.is))

@@ -1,0 +1,10 @@
+pub mod QuietSteps
+pub mod SizesStay
+pub mod QuietRounds
+pub mod FirstRound
+pub mod PutFound
+pub mod FewCollected
+pub mod EachCollectsFew
+pub mod SureSteps
+pub mod SharpCalls
+pub mod SharpList

@@ -1,0 +1,132 @@
+-- Steps that can come to one thing alone, and what they come to.
+use Rattle.std.proofs.Common.{◌≡◌, ℕ, ◌+◌, List, [], ◌∷◌, Bool, true, false, Option, Some, None, inl, inr, ap, sym, subst, ◌∙◌}
+use Rattle.epoch_machine.specs.declared.machine.Answer.TheVariants.{Epoch, Word as WordFound, Stored, Job}
+use Rattle.epoch_machine.specs.declared.machine.Ask.{Ask}
+use Rattle.epoch_machine.specs.declared.machine.Ask.TheVariants.{LoadEpoch, LoadWord, StorePinned, StoreRepinned, StoreUnpinned, StoreFree, StoreEpoch, PutBag, TakeBag, KeepJob, CallJob}
+use Rattle.epoch_machine.specs.declared.machine.Stage.{Stage}
+use Rattle.epoch_machine.specs.Machine.{ask_at, hears}
+use Rattle.epoch_laws.specs.declared.step.Call.{Call}
+use Rattle.epoch_laws.specs.declared.step.Progress.{Progress}
+use Rattle.epoch_laws.specs.declared.step.Progress.TheVariants.{Idle, Driven, CallsNow, Ends}
+use Rattle.epoch_laws.specs.declared.step.Reply.{Reply}
+use Rattle.epoch_laws.specs.declared.step.Reply.TheVariants.{Stepped, Pinned as PinnedReply, Unpinned as UnpinnedReply, Deferred}
+use Rattle.epoch_laws.specs.declared.step.Step.TheVariants.{Go}
+use Rattle.epoch_laws.specs.declared.step.Word.{Word}
+use Rattle.epoch_laws.specs.declared.step.Word.TheVariants.{Free, Unpinned, Pinned}
+use Rattle.epoch_laws.specs.Calls.{goes_of, ends_call, EndsAtLast}
+use Rattle.epoch_laws.specs.Run.{Seat, State, seat_of, word_of, number_of, with_seat, with_machine, with_word, with_places, end_reply, ended_seat, Performs, Drives, Goes, Moves, Takes, Runs}
+
+pub record Outcome : Type 0 where
+  pub reply : Reply
+  pub state : State
+
+abbrev pub outcome : Reply → State → Option Outcome
+outcome r s = Some (record { reply = r; state = s })
+
+abbrev pub sure_ask : State → ℕ → Seat → Stage → Ask → Option Outcome
+sure_ask s p seat at LoadEpoch = outcome Stepped (with_seat s p (with_machine seat (hears seat.machine at (Epoch s.epoch))))
+sure_ask s p seat at (LoadWord k) = outcome Stepped (with_seat s p (with_machine seat (hears seat.machine at (WordFound (number_of (word_of s k))))))
+sure_ask s p seat at (StorePinned e) = outcome (PinnedReply p) (with_seat s p (with_word seat (Pinned e) (hears seat.machine at Stored)))
+sure_ask s p seat at StoreUnpinned = outcome (UnpinnedReply p) (with_seat s p (with_word seat Unpinned (hears seat.machine at Stored)))
+sure_ask s p seat at (StoreEpoch e) = outcome Stepped (record (with_seat s p (with_machine seat (hears seat.machine at Stored))) { epoch = e })
+sure_ask s p seat at KeepJob = outcome (Deferred s.tickets) (record (with_seat s p (with_machine seat (hears seat.machine at (Job (record { ticket = s.tickets; removes = None }))))) { tickets = s.tickets + 1 })
+sure_ask s p seat at _ = None
+
+abbrev pub sure_drive : State → ℕ → Seat → Call → Stage → Option Ask → Option Outcome
+sure_drive s p seat c at (Some ask) = sure_ask s p seat at ask
+sure_drive s p seat c at None = outcome (end_reply c seat) (with_seat s p (ended_seat c seat))
+
+abbrev pub sure_by : State → ℕ → Seat → Progress → Option Outcome
+sure_by s p seat (Driven c) = sure_drive s p seat c seat.machine.stage (ask_at seat.machine.stage)
+sure_by s p seat _ = None
+
+abbrev pub sure_at : State → ℕ → Seat → Word → Option Outcome
+sure_at s p seat Free = None
+sure_at s p seat _ = sure_by s p seat seat.progress
+
+-- what the step Go of p comes to, where that is sure
+abbrev pub sure : State → ℕ → Option Outcome
+sure s p = sure_at s p (seat_of s p) (seat_of s p).word
+
+abbrev pub Is : Outcome → Reply → State → Type 0
+Is o r new = (r ≡ o.reply) × (new ≡ o.state)
+
+is_so : (a b : Reply) (s t : State) (r : Reply) (new : State) (o : Outcome) → outcome a s ≡ Some o → r ≡ a → new ≡ s → Is o r new
+is_so a b s t r new o e told did = subst (λ (z : Outcome). Is z r new) at (told, did)
+  where
+    at : record { reply = a; state = s } ≡ o
+    at = cc (e)
+
+performed : (s : State) (p : ℕ) (seat : Seat) (at : Stage) (ask : Ask) (r : Reply) (new : State) (o : Outcome) → sure_ask s p seat at ask ≡ Some o → Performs s p seat at ask r new → Is o r new
+performed s p seat at LoadEpoch r new o e did = is_so _ r _ s r new o e did.0 did.1
+performed s p seat at (LoadWord k) r new o e did = is_so _ r _ s r new o e did.0 did.1
+performed s p seat at (StorePinned k) r new o e did = is_so _ r _ s r new o e did.0 did.1
+performed s p seat at (StoreRepinned k) r new o e did = absurd (cc (e))
+performed s p seat at StoreUnpinned r new o e did = is_so _ r _ s r new o e did.0 did.1
+performed s p seat at StoreFree r new o e did = absurd (cc (e))
+performed s p seat at (StoreEpoch k) r new o e did = is_so _ r _ s r new o e did.0 did.1
+performed s p seat at (PutBag k) r new o e did = absurd (cc (e))
+performed s p seat at (TakeBag k) r new o e did = absurd (cc (e))
+performed s p seat at KeepJob r new o e did = is_so _ r _ s r new o e did.0 did.1
+performed s p seat at CallJob r new o e did = absurd (cc (e))
+
+driven : (s : State) (p : ℕ) (seat : Seat) (c : Call) (at : Stage) (ask : Option Ask) (r : Reply) (new : State) (o : Outcome) → sure_drive s p seat c at ask ≡ Some o → Drives s p seat c at ask r new → Is o r new
+driven s p seat c at (Some ask) r new o e did = performed s p seat at ask r new o e did
+driven s p seat c at None r new o e did = is_so _ r _ s r new o e did.0 did.1
+
+went : (s : State) (p : ℕ) (seat : Seat) (now : Progress) (r : Reply) (new : State) (o : Outcome) → sure_by s p seat now ≡ Some o → Goes s p seat now r new → Is o r new
+went s p seat (Driven c) r new o e did = driven s p seat c seat.machine.stage (ask_at seat.machine.stage) r new o e did
+went s p seat Idle r new o e did = absurd (cc (e))
+went s p seat CallsNow r new o e did = absurd (cc (e))
+went s p seat (Ends x) r new o e did = absurd (cc (e))
+
+not_free : (s : State) (p : ℕ) (seat : Seat) (w : Word) (o : Outcome) → sure_at s p seat w ≡ Some o → (sure_by s p seat seat.progress ≡ Some o) × (w ≡ Free → ⊥)
+not_free s p seat Free o e = absurd (cc (e))
+not_free s p seat Unpinned o e = (e, λ f. cc (f))
+not_free s p seat (Pinned k) o e = (e, λ f. cc (f))
+
+pub sure_goes : (s : State) (p : ℕ) (r : Reply) (new : State) (o : Outcome) → sure s p ≡ Some o → Moves s (Go p) r new → Is o r new
+sure_goes s p r new o e (inl did) = absurd ((not_free s p (seat_of s p) (seat_of s p).word o e).1 did.0)
+sure_goes s p r new o e (inr did) = went s p (seat_of s p) (seat_of s p).progress r new o (not_free s p (seat_of s p) (seat_of s p).word o e).0 did.1
+
+-- THE PLACES ASIDE
+
+abbrev pub core : State → State
+core s = with_places s [] [] []
+
+-- a Go of p comes to this, whatever the places are
+abbrev pub Surely : State → ℕ → Reply → State → Type 0
+Surely at p r after = (places : List Bool) (seen ahead : List ℕ) → sure (with_places at places seen ahead) p ≡ outcome r (with_places after places seen ahead)
+
+pub back : (at old : State) → core old ≡ at → old ≡ with_places at old.places old.seen old.ahead
+back at old e = ap (λ (s : State). with_places s old.places old.seen old.ahead) e
+
+pub surely_goes : (at after old new : State) (p : ℕ) (r told : Reply) → Surely at p r after → core old ≡ at → Takes old (Go p) told new → (told ≡ r) × (core new ≡ core after)
+surely_goes at after old new p r told sure_so e did =
+    let o : Outcome = record { reply = r; state = with_places after old.places old.seen old.ahead } in
+    let is = sure_goes (with_places at old.places old.seen old.ahead) p told (with_places new old.places old.seen old.ahead) o (sure_so old.places old.seen old.ahead)
+    (subst (λ (s : State). Moves s (Go p) told (with_places new old.places old.seen old.ahead)) (back at old e) did.0) in
+    (is.0, ap core is.1)
+
+-- WHAT A CALL COMES TO
+
+-- from that state on, p's steps up to its call's end come to this
+abbrev pub Leads : ℕ → State → (State → List Reply → State → Type 0) → Type 0
+Leads p at Result = (old new : State) (rs : List Reply) → core old ≡ at → EndsAtLast rs → Runs old (goes_of p rs) new → Result old rs new
+
+pub goes : (p : ℕ) (at after : State) (r : Reply) (Result Later : State → List Reply → State → Type 0) → Surely at p r after → ends_call r ≡ false
+    → Leads p (core after) Later → ((old mid new : State) (rs : List Reply) → Takes old (Go p) r mid → Later mid rs new → Result old (r ∷ rs) new) → Leads p at Result
+goes p at after r Result Later is on next back old new [] e ends run = absurd ends
+goes p at after r Result Later is on next back old new (x ∷ []) e ends (mid, did, run) = let one = surely_goes at after old mid p r x is e did in absurd (cc (ends, on, ap ends_call one.0))
+goes p at after r Result Later is on next back old new (x ∷ y ∷ rs) e ends (mid, did, run) =
+    let one = surely_goes at after old mid p r x is e did in
+    subst (λ (z : Reply). Result old (z ∷ y ∷ rs) new) (sym one.0)
+    (back old mid new (y ∷ rs) (subst (λ (z : Reply). Takes old (Go p) z mid) one.0 did) (next mid new (y ∷ rs) one.1 ends.1 run))
+
+pub ends : (p : ℕ) (at after : State) (r : Reply) (Result : State → List Reply → State → Type 0) → Surely at p r after → ends_call r ≡ true
+    → ((old new : State) → core new ≡ core after → Result old (r ∷ []) new) → Leads p at Result
+ends p at after r Result is on over old new [] e last run = absurd last
+ends p at after r Result is on over old new (x ∷ []) e last (mid, did, run) =
+    let one = surely_goes at after old mid p r x is e did in
+    subst (λ (z : Reply). Result old (z ∷ []) new) (sym one.0) (over old new (ap core run ∙ one.1))
+ends p at after r Result is on over old new (x ∷ y ∷ rs) e last (mid, did, run) = let one = surely_goes at after old mid p r x is e did in absurd (cc (last.0, on, ap ends_call one.0))
