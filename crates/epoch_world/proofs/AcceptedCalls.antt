@@ -9,9 +9,12 @@ use Rattle.epoch_laws.specs.declared.step.Reply.TheVariants.{Began, Refused}
 use Rattle.epoch_laws.specs.declared.step.Entry.{Entry}
 use Rattle.epoch_laws.specs.Run.{Seat, State, Moves, Takes, with_places, Begins, Runs, IsFresh, refusal, seat_of, with_seat, begun_seat, free_seat}
 use Rattle.epoch_machine.specs.Machine.{is_taking}
+use Rattle.epoch_laws.specs.Collections.{expiry_of}
 use Rattle.epoch_laws.specs.Kept.{IsKept}
 use Rattle.epoch_laws.specs.Lawful.{IsLawful}
 use Rattle.epoch_world.specs.Steps.{InStore, steps_left, call_bound}
+use Rattle.epoch_world.specs.Worlds.{aheads}
+use Rattle.epoch_world.proofs.AheadsStay.{same_aheads, begun_for}
 use Rattle.epoch_laws.proofs.SeatLemmas.{seat_there, begin_given}
 use Rattle.epoch_laws.proofs.EventsLawful.{replies_stand}
 use Rattle.epoch_laws.proofs.CallsAfterDeferrals.{calls_follow}
@@ -49,6 +52,15 @@ module _ (s now : State) (p : ℕ) (c : Call) (o : Option Fault) (seat : Seat) (
   pub given_quiet : IsKept s → is_taking (seat_of s p).machine.stage ≡ false
   given_quiet kept = ap (λ (q : Seat). is_taking q.machine.stage) (sym given_at) ∙ ap is_taking (given_rests kept)
 
+  -- nothing more or less is ahead of any collection
+  pub given_aheads : {C : Type 0} (ahead : ℕ → C → ℕ) (cursors : List C) (after : Seat) → IsKept s → after ≡ begun_seat c seat
+      → aheads ahead (slice_set s.seats p after) cursors ≡ aheads ahead s.seats cursors
+  given_aheads ahead cursors after kept begun =
+      let rests : expiry_of seat.machine.stage ≡ 0 = ap expiry_of (given_rests kept) in
+      let after_rests : expiry_of after.machine.stage ≡ 0 = ap (λ (q : Seat). expiry_of q.machine.stage) begun ∙ begun_for c seat rests in
+      let before_rests : expiry_of (seat_of s p).machine.stage ≡ 0 = ap (λ (q : Seat). expiry_of q.machine.stage) (sym given_at) ∙ rests in
+      same_aheads ahead s.seats cursors p after (free_seat s.sizes) (after_rests ∙ sym before_rests)
+
   pub given_moves : (after : Seat) (places : List Bool) (seen : List ℕ) (ahead : List ℕ) → after ≡ begun_seat c seat
       → Moves (with_places s places seen ahead) (Begin p c) Began (with_seat (with_places s places seen ahead) p after)
   given_moves after places seen ahead begun = begin_moves (with_places s places seen ahead) _ p c seat after given_at given_here begun refl
@@ -63,7 +75,7 @@ module _ (s now : State) (p : ℕ) (c : Call) (o : Option Fault) (seat : Seat) (
 
 pub refused_takes : (s : State) (p : ℕ) (c : Call) (o : Option Fault) (f : Fault) → o ≡ refusal c (seat_of s p) s.tickets → o ≡ Some f → Takes s (Begin p c) (Refused f) s
 refused_takes s p c o f found some =
-    (subst (λ (r : Option Fault). Begins s p c r (Refused f) s) (sym some ∙ found) (refl, refl), (refl, refl))
+    (subst (λ (r : Option Fault). Begins s p c r (Refused f) s) (sym some ∙ found) (refl, refl), (refl, refl, refl))
 
 pub run_is_lawful : (s new : State) (log : List Entry) → IsFresh s → Runs s log new → IsLawful log
 run_is_lawful s new log fresh run =

@@ -17,8 +17,8 @@ use Rattle.epoch_laws.specs.declared.step.Progress.TheVariants.{Driven}
 use Rattle.epoch_laws.specs.declared.step.Word.{Word}
 use Rattle.epoch_laws.specs.declared.step.Word.TheVariants.{Free}
 use Rattle.epoch_laws.specs.Collections.{Reach, reach, collects, expiry_of, TakesAhead, Finds, OwnClaims, LeavesClaims, MayClaim}
-use Rattle.epoch_laws.specs.Run.{Bag, Seat, State, NoneTakes, turn_at, turn_of, free_seat}
-use Rattle.epoch_world.specs.Worlds.{aheads, ClaimsKnown, is_driven}
+use Rattle.epoch_laws.specs.Run.{Bag, Seat, State, NoneTakes, is_driven, turn_at, turn_of, free_seat}
+use Rattle.epoch_world.specs.Worlds.{aheads, ClaimsKnown}
 use Rattle.epoch_laws.proofs.SeatLemmas.{same_or_other}
 use Rattle.epoch_laws.proofs.StoredBags.{one_less}
 

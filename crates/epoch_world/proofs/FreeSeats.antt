@@ -1,9 +1,9 @@
--- A free position isn't taking bags.
+-- A free position doesn't collect.
 use Rattle.std.proofs.Common.{◌≡◌, ◌≢◌, ℕ, ◌<◌, false, [], ◌∷◌, length, Option, Some, None, ◌⊎◌, inl, inr, refl, ap, sym, subst, ◌∙◌}
 use Rattle.epoch_cells.specs.declared.fault.Fault.{Fault}
 use Rattle.epoch_machine.specs.declared.machine.Ask.{Ask}
 use Rattle.epoch_machine.specs.declared.machine.Ask.TheVariants.{StorePinned, StoreRepinned, StoreUnpinned, StoreFree, PutBag, TakeBag, CallJob}
-use Rattle.epoch_machine.specs.Machine.{ask_at, is_taking}
+use Rattle.epoch_machine.specs.Machine.{ask_at}
 use Rattle.epoch_laws.specs.declared.step.Call.{Call}
 use Rattle.epoch_laws.specs.declared.step.Call.TheVariants.{Pin, Unpin, Repin, Pause, Resume, Defer, Flush, Release}
 use Rattle.epoch_laws.specs.declared.step.Progress.{Progress}
@@ -12,6 +12,7 @@ use Rattle.epoch_laws.specs.declared.step.Reply.{Reply}
 use Rattle.epoch_laws.specs.declared.step.Step.{Step}
 use Rattle.epoch_laws.specs.declared.step.Step.TheVariants.{Register, Begin, Go, End as EndStep, EndGo}
 use Rattle.epoch_laws.specs.declared.step.Word.TheVariants.{Free, Unpinned}
+use Rattle.epoch_laws.specs.Collections.{collects}
 use Rattle.epoch_laws.specs.Kept.{FreeRests}
 use Rattle.epoch_laws.specs.Run.{Seat, State, Ending, Open, Emptying, Over, seat_of, word_of, with_seat, free_seat, begun_seat, ended_seat, refusal, Begins, Performs, Drives, Goes, EndGoes, Moves, IsFresh}
 use Rattle.epoch_laws.proofs.SeatLemmas.{seat_written, seat_other, seat_there, same_or_other, begin_given}
@@ -19,22 +20,22 @@ use Rattle.epoch_laws.proofs.SeatLemmas.{seat_written, seat_other, seat_there, s
 module _ (old new : State) (h : FreeRests old) where
   -- no seat is written
   along : (last : State) → new ≡ last → ((q : ℕ) → seat_of last q ≡ seat_of old q) → FreeRests new
-  along last e same = subst FreeRests (sym e) (λ q free. ap (λ (seat : Seat). is_taking seat.machine.stage) (same q) ∙ h q (ap (λ (seat : Seat). seat.word) (sym (same q)) ∙ free))
+  along last e same = subst FreeRests (sym e) (λ q free. ap (λ (seat : Seat). collects seat.machine.stage) (same q) ∙ h q (ap (λ (seat : Seat). seat.word) (sym (same q)) ∙ free))
 
   module _ (p : ℕ) (reply : Reply) (taken : word_of old p ≢ Free) where
     abbrev seat : Seat
     seat = seat_of old p
 
-    written : (after : Seat) → (after.word ≡ Free → is_taking after.machine.stage ≡ false) → (last : State) → new ≡ last → ((q : ℕ) → seat_of last q ≡ seat_of (with_seat old p after) q) → FreeRests new
+    written : (after : Seat) → (after.word ≡ Free → collects after.machine.stage ≡ false) → (last : State) → new ≡ last → ((q : ℕ) → seat_of last q ≡ seat_of (with_seat old p after) q) → FreeRests new
     written after own last e wrote = subst FreeRests (sym e) (λ q free. by_position q free (same_or_other q p))
       where
-        by_position : (q : ℕ) → word_of last q ≡ Free → (q ≡ p) ⊎ (q ≢ p) → is_taking (seat_of last q).machine.stage ≡ false
+        by_position : (q : ℕ) → word_of last q ≡ Free → (q ≡ p) ⊎ (q ≢ p) → collects (seat_of last q).machine.stage ≡ false
         by_position q free (inl same) =
             let here : seat_of last q ≡ after = wrote q ∙ ap (λ (k : ℕ). seat_of (with_seat old p after) k) same ∙ seat_written old p after (seat_there old p taken) in
-            ap (λ (s : Seat). is_taking s.machine.stage) here ∙ own (ap (λ (s : Seat). s.word) (sym here) ∙ free)
+            ap (λ (s : Seat). collects s.machine.stage) here ∙ own (ap (λ (s : Seat). s.word) (sym here) ∙ free)
         by_position q free (inr other) =
             let there : seat_of last q ≡ seat_of old q = wrote q ∙ seat_other old p q after other in
-            ap (λ (s : Seat). is_taking s.machine.stage) there ∙ h q (ap (λ (s : Seat). s.word) (sym there) ∙ free)
+            ap (λ (s : Seat). collects s.machine.stage) there ∙ h q (ap (λ (s : Seat). s.word) (sym there) ∙ free)
 
     -- its word stays
     stays : (after : Seat) → after.word ≡ seat.word → (last : State) → new ≡ last → ((q : ℕ) → seat_of last q ≡ seat_of (with_seat old p after) q) → FreeRests new
@@ -83,12 +84,12 @@ module _ (old new : State) (h : FreeRests old) where
   registers p there e = subst FreeRests (sym e) (λ q free. by_position q free (same_or_other q p))
     where
       by_position : (q : ℕ) → word_of (with_seat old p (record (free_seat old.sizes) { word = Unpinned })) q ≡ Free → (q ≡ p) ⊎ (q ≢ p)
-          → is_taking (seat_of (with_seat old p (record (free_seat old.sizes) { word = Unpinned })) q).machine.stage ≡ false
-      by_position q free (inl same) = ap (λ (k : ℕ). is_taking (seat_of (with_seat old p (record (free_seat old.sizes) { word = Unpinned })) k).machine.stage) same
-          ∙ ap (λ (s : Seat). is_taking s.machine.stage) (seat_written old p (record (free_seat old.sizes) { word = Unpinned }) there)
+          → collects (seat_of (with_seat old p (record (free_seat old.sizes) { word = Unpinned })) q).machine.stage ≡ false
+      by_position q free (inl same) = ap (λ (k : ℕ). collects (seat_of (with_seat old p (record (free_seat old.sizes) { word = Unpinned })) k).machine.stage) same
+          ∙ ap (λ (s : Seat). collects s.machine.stage) (seat_written old p (record (free_seat old.sizes) { word = Unpinned }) there)
       by_position q free (inr other) =
           let at = seat_other old p q (record (free_seat old.sizes) { word = Unpinned }) other in
-          ap (λ (s : Seat). is_taking s.machine.stage) at ∙ h q (ap (λ (s : Seat). s.word) (sym at) ∙ free)
+          ap (λ (s : Seat). collects s.machine.stage) at ∙ h q (ap (λ (s : Seat). s.word) (sym at) ∙ free)
 
   begins : (p : ℕ) (c : Call) (o : Option Fault) (reply : Reply) → refusal c (seat_of old p) old.tickets ≡ o → Begins old p c o reply new → FreeRests new
   begins p c (Some f) reply at did = along old did.1 (λ q. refl)
@@ -116,4 +117,4 @@ module _ (old new : State) (h : FreeRests old) where
   moves_free EndGo reply did = ends old.ending reply did
 
 pub fresh_free : (s : State) → IsFresh s → FreeRests s
-fresh_free s fresh p free = ap (λ (seat : Seat). is_taking seat.machine.stage) (fresh.free p)
+fresh_free s fresh p free = ap (λ (seat : Seat). collects seat.machine.stage) (fresh.free p)

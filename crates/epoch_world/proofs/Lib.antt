@@ -9,6 +9,7 @@ pub mod Performed
 pub mod StepsFall
 pub mod TurnsTaken
 pub mod PlacesSeen
+pub mod AheadsStay
 pub mod AcceptedCalls
 pub mod WorldSteps
 pub mod ExpiredBags

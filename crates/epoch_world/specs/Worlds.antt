@@ -1,5 +1,5 @@
 -- What a world keeps between any two steps, beside what its participants keep of themselves.
-use Rattle.std.specs.Prelude.{◌≡◌, ◌≢◌, ℕ, true, false, List, [], ◌∷◌, Some, slice_get, slice_index_or}
+use Rattle.std.specs.Prelude.{◌≡◌, ◌≢◌, ℕ, true, List, [], ◌∷◌, Some, slice_get, slice_index_or}
 use Rattle.epoch_machine.specs.Machine.{asks, AskFits}
 use Rattle.epoch_machine.specs.declared.machine.Ask.{Ask}
 use Rattle.epoch_machine.specs.declared.machine.Sizes.{Sizes}

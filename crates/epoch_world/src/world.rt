@@ -14,6 +14,8 @@ ghost use Rattle.epoch_laws.specs.Ends.{EndsAtCount};
 ghost use Rattle.epoch_laws.specs.Lawful.{IsLawful};
 ghost use Rattle.epoch_laws.specs.Full.{FullWhereFound};
 ghost use Rattle.epoch_laws.specs.Calls.{call_of, EndsAtLast};
+ghost use Rattle.epoch_rounds.specs.Rounds.{RoundsCallAll};
+ghost use Rattle.epoch_rounds.specs.Collected.{CollectsFew};
 
 mod calls;
 mod guards;
@@ -82,7 +84,6 @@ impl<S: BagStore<Job = Deferral>> World<S> {
         ensures fresh { IfOk result IsFresh }
         ensures epoch { IfOk result (λ world. world.epoch ≡ shape.start_epoch) }
         ensures positions { IfOk result (λ world. length world.seats ≡ shape.participants) }
-        ensures sizes { IfOk result (λ world. world.sizes ≡ record { positions = shape.participants; bag_jobs = shape.bag_jobs; collect_bags = shape.collect_bags }) }
         ensures sizes { IfOk result (λ world. world.sizes ≡ sizes_of shape) }
         ensures places { IfOk result (λ world. length world.places ≡ shape.bags) }
         ensures no_memory { IfErr result (λ fault. fault ≡ NoMemory) }
@@ -136,6 +137,11 @@ impl<S: BagStore<Job = Deferral>> World<S> {
         ensures all_called { IfOk result (λ replies. (fresh : State) (earlier : List Entry) → IsFresh fresh → Runs fresh earlier self.old → self.new.ending ≡ Over → (t : ℕ) → times_called t (earlier ++ entries_of steps.now replies.items) ≡ times_deferred t (earlier ++ entries_of steps.now replies.items)) }
         // An end that answered how many jobs it called has called so many, and every accepted job was called.
         ensures ended { IfOk result (λ replies. (fresh : State) (earlier : List Entry) → IsFresh fresh → Runs fresh earlier self.old → EndsAtCount (earlier ++ entries_of steps.now replies.items)) }
+        // Rounds of a participant whom nobody disturbs call every job of the bags in the store: one round that puts its own
+        // bag, one more, and one for each collection that the bags take.
+        ensures rounds { IfOk result (λ replies. (fresh start : State) (earlier since : List Entry) → IsFresh fresh → Runs fresh earlier start → Runs start since self.old → RoundsCallAll start (since ++ entries_of steps.now replies.items) self.new) }
+        // Each call takes at most as many bags as one collection may take, and calls at most the jobs of so many full bags.
+        ensures few { IfOk result (λ replies. (fresh : State) (earlier : List Entry) → IsFresh fresh → Runs fresh earlier self.old → CollectsFew fresh (earlier ++ entries_of steps.now replies.items) self.new) }
 
         ensures err { OnErr result (self.new ≡ self.old) }
         ensures no_memory { IfErr result (λ fault. fault ≡ NoMemory) }
@@ -168,6 +174,10 @@ impl<S: BagStore<Job = Deferral>> World<S> {
         ensures lawful { IfOk result (λ replies. (fresh : State) (earlier : List Entry) → IsFresh fresh → Runs fresh earlier self.old → IsLawful (earlier ++ call_of participant call replies.items)) }
         // The bags are told to be full only where the put found each place of the store occupied.
         ensures full { IfOk result (λ replies. (fresh : State) (earlier : List Entry) → IsFresh fresh → Runs fresh earlier self.old → FullWhereFound fresh (earlier ++ call_of participant call replies.items) self.new) }
+        // Rounds of a participant whom nobody disturbs call every job of the bags in the store.
+        ensures rounds { IfOk result (λ replies. (fresh start : State) (earlier since : List Entry) → IsFresh fresh → Runs fresh earlier start → Runs start since self.old → RoundsCallAll start (since ++ call_of participant call replies.items) self.new) }
+        // Each call takes at most as many bags as one collection may take, and calls at most the jobs of so many full bags.
+        ensures few { IfOk result (λ replies. (fresh : State) (earlier : List Entry) → IsFresh fresh → Runs fresh earlier self.old → CollectsFew fresh (earlier ++ call_of participant call replies.items) self.new) }
 
         ensures err { OnErr result (self.new ≡ self.old) }
         ensures no_memory { IfErr result (λ fault. fault ≡ NoMemory) }

@@ -45,4 +45,4 @@ returns g c =
     let opened : old.ending ≡ Open = ap (λ (e : EndStage). ending_of e c.self.inside.hand.jobs c.self.inside.count) c.in-Open.is in
     let new : State = record old { ending = Emptying c.seal-self-inside.result.jobs 0 } in
     let emptying : new ≡ record old { ending = Emptying [] 0 } = ap (λ (hand : List Deferral). record old { ending = Emptying hand 0 }) (c.seal-self-inside.ensures.jobs ∙ c.new.ensures.empty) in
-    subst (λ (s : State). Takes s EndStep Began new) c.self.view_is (end_moves old new opened (c.all_free.ensures.yes c.if-not-all_free.false) emptying, (refl, refl))
+    subst (λ (s : State). Takes s EndStep Began new) c.self.view_is (end_moves old new opened (c.all_free.ensures.yes c.if-not-all_free.false) emptying, (refl, refl, refl))

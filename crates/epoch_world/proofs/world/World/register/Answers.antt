@@ -1,11 +1,13 @@
-use Rattle.std.proofs.Common.{◌∙◌, sym, ap, refl, get_or-set_other}
+use Rattle.std.proofs.Common.{◌≡◌, ◌∙◌, sym, ap, refl, subst, map, slice_set, slice_index_or, get_or-set_other}
 use Rattle.epoch_world.proofs.CollectionSteps.{claims_quiet}
 use Rattle.std.proofs.lemmas.List.{length-set}
 use Rattle.epoch_world.specs.declared.world.EndStage.{EndStage}
 use Rattle.epoch_laws.specs.declared.step.Reply.TheVariants.{Registered}
 use Rattle.epoch_laws.specs.declared.step.Step.TheVariants.{Register}
-use Rattle.epoch_laws.specs.Run.{State}
-use Rattle.epoch_world.specs.Worlds.{state_of, ending_of}
+use Rattle.epoch_laws.specs.Collections.{expiry_of}
+use Rattle.epoch_laws.specs.Run.{Seat, State, Takes, free_seat, with_places}
+use Rattle.epoch_world.specs.Worlds.{state_of, ending_of, aheads}
+use Rattle.epoch_world.proofs.AheadsStay.{same_aheads, none_for, not_taking}
 use Rattle.epoch_world.proofs.WorldKept.{kept_moves}
 use Rattle.epoch_world.proofs.WorldSteps.{register_moves}
 use Rattle.epoch_world.proofs.world.World.register.Goals as goal
@@ -25,5 +27,28 @@ invariant_of-self g c =
           (ap (λ (e : EndStage). ending_of e c.self.inside.hand.jobs c.self.inside.count) c.in-Open.is)
           c.in-Some.ensures.some.0 c.in-Some.ensures.some.1 c.in-Some.ensures.least c.register.ensures refl);
       claimed = claims_quiet g.S.BagStore.Claims c.self.inside.sizes _ c.self.inside.seats.items _ c.self.inside.taking.items c.in-Some.index
-          (c.self.invariant.kept.free c.in-Some.index (c.in-Some.ensures.some.1 _)) (λ q other. get_or-set_other c.self.inside.seats.items c.in-Some.index q c.register.new.self _ other) c.self.invariant.claimed;
+          (not_taking _ (c.self.invariant.kept.free c.in-Some.index (c.in-Some.ensures.some.1 _))) (λ q other. get_or-set_other c.self.inside.seats.items c.in-Some.index q c.register.new.self _ other) c.self.invariant.claimed;
     }
+
+pub returns : goal.returns
+returns g c =
+    let old : State =
+    with_places (state_of c.self.inside.sizes c.self.inside.epoch c.self.inside.seats.items (g.S.BagStore.queued c.self.inside.store) c.self.inside.tickets
+    (ending_of c.self.inside.end c.self.inside.hand.jobs c.self.inside.count)) (g.S.BagStore.occupied c.self.inside.store) (map g.S.BagStore.passed c.self.inside.putting.items)
+    (aheads (λ x cursor. g.S.BagStore.ahead x c.self.inside.store cursor) c.self.inside.seats.items c.self.inside.taking.items) in
+    let all = slice_set c.self.inside.seats.items c.in-Some.index c.register.new.self in
+    let new : State = record old { seats = all; ahead = aheads (λ x cursor. g.S.BagStore.ahead x c.self.inside.store cursor) all c.self.inside.taking.items } in
+    let before_rests : expiry_of (slice_index_or c.self.inside.seats.items c.in-Some.index (free_seat c.self.inside.sizes)).machine.stage ≡ 0 =
+    none_for _ (c.self.invariant.kept.free c.in-Some.index (c.in-Some.ensures.some.1 _)) in
+    let after_rests : expiry_of c.register.new.self.machine.stage ≡ 0 = ap (λ (seat : Seat). expiry_of seat.machine.stage) c.register.ensures in
+    subst (λ (s : State). Takes s Register (Registered c.in-Some.index) new) c.self.view_is (
+      register_moves old _ c.in-Some.index c.register.new.self
+          (ap (λ (e : EndStage). ending_of e c.self.inside.hand.jobs c.self.inside.count) c.in-Open.is)
+          c.in-Some.ensures.some.0 c.in-Some.ensures.some.1 c.in-Some.ensures.least c.register.ensures refl,
+      (
+        refl,
+        refl,
+        same_aheads (λ x cursor. g.S.BagStore.ahead x c.self.inside.store cursor) c.self.inside.seats.items c.self.inside.taking.items c.in-Some.index
+            c.register.new.self (free_seat c.self.inside.sizes) (after_rests ∙ sym before_rests),
+      ),
+    )

@@ -7,6 +7,8 @@ use Rattle.epoch_laws.proofs.EndsCounted.{ends_at_count}
 use Rattle.epoch_laws.proofs.EventsLawful.{replies_stand}
 use Rattle.epoch_laws.proofs.FullFound.{found_full}
 use Rattle.epoch_laws.proofs.CallsAfterDeferrals.{calls_follow}
+use Rattle.epoch_rounds.proofs.PutFound.{rounds_call_all}
+use Rattle.epoch_rounds.proofs.EachCollectsFew.{collects_few}
 use Rattle.epoch_world.proofs.world.World.run.Goals as goal
 
 pub loop-step-preserved : goal.loop-step-preserved
@@ -46,3 +48,11 @@ returns-clause-all_called g c fresh earlier new run over =
 pub returns-clause-ended : goal.returns-clause-ended
 returns-clause-ended g c fresh earlier new run =
     ends_at_count fresh _ _ new (runs_append _ _ _ earlier _ run (runs_whole _ _ c.args.steps.now c.loop-step.step-index _ (omega arith) c.loop-step.invariant.run))
+
+pub returns-clause-rounds : goal.returns-clause-rounds
+returns-clause-rounds g c fresh start earlier since new run more =
+    rounds_call_all fresh start _ earlier _ new run (runs_append _ _ _ since _ more (runs_whole _ _ c.args.steps.now c.loop-step.step-index _ (omega arith) c.loop-step.invariant.run))
+
+pub returns-clause-few : goal.returns-clause-few
+returns-clause-few g c fresh earlier new run =
+    collects_few fresh _ _ new (runs_append _ _ _ earlier _ run (runs_whole _ _ c.args.steps.now c.loop-step.step-index _ (omega arith) c.loop-step.invariant.run))

@@ -1,0 +1,49 @@
+-- What is ahead of the collections stays where a participant registers or begins a call.
+use Rattle.std.proofs.Common.{◌≡◌, ℕ, zero, suc, ◌==◌, if◌then◌else◌, Bool, true, false, List, [], ◌∷◌, length, Some, None, refl, ap, slice_index_or, slice_set}
+use Rattle.epoch_machine.specs.declared.machine.Stage.{Stage}
+use Rattle.epoch_machine.specs.declared.machine.Stage.TheVariants.{LoadPin, LoadRepin, LoadSeal, LoadScan, StoreUnpinned, Keep, End, Take, Calling}
+use Rattle.epoch_machine.specs.Machine.{is_empty, is_taking}
+use Rattle.epoch_laws.specs.declared.step.Call.{Call}
+use Rattle.epoch_laws.specs.declared.step.Call.TheVariants.{Pin, Unpin, Repin, Pause, Resume, Defer, Flush, Release}
+use Rattle.epoch_laws.specs.Collections.{collects, expiry_of}
+use Rattle.epoch_laws.specs.Run.{Seat, begun_seat}
+use Rattle.epoch_world.specs.Worlds.{aheads}
+
+-- a participant counts for it by the epoch of its stage alone
+pub same_aheads : {C : Type 0} (ahead : ℕ → C → ℕ) (seats : List Seat) (cursors : List C) (p : ℕ) (after other : Seat)
+    → expiry_of after.machine.stage ≡ expiry_of (slice_index_or seats p other).machine.stage
+    → aheads ahead (slice_set seats p after) cursors ≡ aheads ahead seats cursors
+same_aheads ahead [] cursors p after other same = refl
+same_aheads ahead (seat ∷ seats) [] zero after other same = refl
+same_aheads ahead (seat ∷ seats) [] (suc p) after other same = refl
+same_aheads ahead (seat ∷ seats) (cursor ∷ cursors) zero after other same =
+    ap (λ (x : ℕ). ahead x cursor ∷ aheads ahead seats cursors) same
+same_aheads ahead (seat ∷ seats) (cursor ∷ cursors) (suc p) after other same =
+    ap (λ (rest : List ℕ). ahead (expiry_of seat.machine.stage) cursor ∷ rest) (same_aheads ahead seats cursors p after other same)
+
+-- who doesn't collect has no such epoch, and takes no bags
+pub none_for : (s : Stage) → collects s ≡ false → expiry_of s ≡ 0
+none_for (Take x k) off = absurd (cc (off))
+none_for (Calling x k) off = absurd (cc (off))
+none_for _ off = refl
+
+pub not_taking : (s : Stage) → collects s ≡ false → is_taking s ≡ false
+not_taking (Take x k) off = absurd (cc (off))
+not_taking _ off = refl
+
+either : (t : Bool) (a b : Stage) → expiry_of a ≡ 0 → expiry_of b ≡ 0 → expiry_of (if t then a else b) ≡ 0
+either true a b one other = one
+either false a b one other = other
+
+-- no call begins by collecting
+pub begun_for : (c : Call) (seat : Seat) → expiry_of seat.machine.stage ≡ 0 → expiry_of (begun_seat c seat).machine.stage ≡ 0
+begun_for Pin seat rests = either (seat.machine.guards == 0) LoadPin End refl refl
+begun_for (Unpin g) seat rests = either (seat.machine.guards == 1) StoreUnpinned End refl refl
+begun_for (Repin (Some g)) seat rests = either (seat.machine.guards == 1) LoadRepin End refl refl
+begun_for (Pause (Some g)) seat rests = either (seat.machine.guards == 1) StoreUnpinned End refl refl
+begun_for (Resume (Some g)) seat rests = either (seat.machine.guards == 0) LoadPin End refl refl
+begun_for (Defer (Some g)) seat rests = either (length seat.machine.held == seat.machine.sizes.bag_jobs) LoadSeal Keep refl refl
+begun_for (Flush (Some g)) seat rests = either (is_empty seat.machine.held) LoadScan LoadSeal refl refl
+begun_for Release seat rests = refl
+begun_for (Defer None) seat rests = rests
+begun_for _ seat rests = rests
