@@ -12,6 +12,5 @@ pub mod PlacesSeen
 pub mod AheadsStay
 pub mod AcceptedCalls
 pub mod WorldSteps
-pub mod ExpiredBags
 pub mod CollectionSteps
 pub mod FreeSeats

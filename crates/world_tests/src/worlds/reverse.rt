@@ -1,7 +1,8 @@
 //! A third store, which has no proof about worlds of its own: the bag that was put last is looked at first.
-ghost use Rattle.std.specs.Prelude.{◌≡◌, ◌≢◌, ℕ, ◌+◌, ◌-◌, ◌*◌, ◌<◌, ◌≤◌, List, [], ◌++◌, IfOk, IfErr, OnErr, Some, true, length, min, slice_get, vec_capacity};
-ghost use Rattle.epoch_bags.specs.Stores.{AllExpired, PutsBag, TakesBag, FindsBag, TakesAny};
+ghost use Rattle.std.specs.Prelude.{◌≡◌, ◌≢◌, ℕ, ◌+◌, ◌-◌, ◌*◌, ◌<◌, ◌≤◌, List, [], ◌++◌, IfOk, IfErr, OnErr, Some, true, false, nat_lt, ◌&&◌, length, min, take, slice_get, vec_capacity};
+ghost use Rattle.epoch_bags.specs.Stores.{AllExpired, PutsBag, FindsRoom, TakesBag, FindsBag, TakesAny};
 ghost use Rattle.epoch_bags.specs.Queues.{first_occupied};
+ghost use Rattle.world_tests.specs.Piles.{expired_count};
 ghost use Rattle.epoch_laws.specs.declared.step.Entry.{Entry};
 ghost use Rattle.epoch_laws.specs.Run.{State, IsFresh, Runs, entries_of};
 ghost use Rattle.epoch_laws.specs.Grace.{KeepsGrace};
@@ -43,13 +44,15 @@ impl BagStore for Reverse {
 
     ghost passed = { λ cursor. cursor };
 
+    ghost has_room = { λ pile cursor. nat_lt cursor pile.capacity && nat_lt (length pile.bags.items) pile.capacity };
+
     ghost Claims = { λ cursor place. ⊥ };
 
     ghost puts_left = { λ capacity cursor. min 1 (capacity - cursor) };
 
     ghost takes_left = { λ capacity cursor. cursor };
 
-    ghost Ahead = { λ epoch pile cursor bags. (bags ≤ cursor) × (cursor ≤ length pile.bags.items) × AllExpired epoch pile.bags.items };
+    ghost ahead = { λ epoch pile cursor. expired_count epoch (take cursor pile.bags.items) };
 
     fn with_room(alloc: Global, bags: usize) -> Result<Reverse, Fault> {
         match Vec::with_capacity(alloc, bags) {
