@@ -2,3 +2,4 @@ pub mod BagLists
 pub mod PlaceWords
 pub mod PlacedBags
 pub mod PlaceSteps
+pub mod ClaimedPlaces

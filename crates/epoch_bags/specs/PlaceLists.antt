@@ -1,5 +1,5 @@
 -- A list of places, each a word and a home for a bag.
-use Rattle.std.specs.Prelude.{◌≡◌, ◌≢◌, ℕ, ◌+◌, ◌*◌, ◌<◌, ◌≤◌, List, [], ◌∷◌, ◌++◌, Option, Some, None, IsSome, length, slice_index_or, slice_set, Bool, true, not, ◌==◌, ◌||◌, suc, refl}
+use Rattle.std.specs.Prelude.{◌≡◌, ◌≢◌, ℕ, ◌+◌, ◌*◌, ◌<◌, ◌≤◌, List, [], ◌∷◌, ◌++◌, Option, Some, None, IsSome, length, slice_index_or, slice_set, Bool, true, not, is_some, ◌==◌, ◌||◌, suc, refl}
 use Rattle.std.proofs.Common.{ap}
 use Rattle.std.specs.Option.{option_to_list}
 use Rattle.epoch_bags.specs.Bags.{Sealed, IsExpired}
@@ -36,9 +36,18 @@ pub length-taken_places : (words : List ℕ) → length (taken_places words) ≡
 length-taken_places [] = refl
 length-taken_places (word ∷ words) = ap suc (length-taken_places words)
 
+-- for each place, whether a bag is at home there
+abbrev pub homes_taken : {J : Type 0} → List (Option (Sealed J)) → List Bool
+homes_taken [] = []
+homes_taken (home ∷ homes) = is_some home ∷ homes_taken homes
+
 -- at this place stands a bag that a collection has claimed
 abbrev pub IsClaimedAt : {J : Type 0} → PlaceList J → ℕ → Type 0
 IsClaimedAt store place = (slice_index_or store.words place 0 ≡ 2) × IsSome (slice_index_or store.bags place None)
+
+-- this place is claimed, and no bag is at home there
+abbrev pub IsReservedAt : {J : Type 0} → PlaceList J → ℕ → Type 0
+IsReservedAt store place = (slice_index_or store.words place 0 ≡ 2) × (slice_index_or store.bags place None ≡ None)
 
 -- the place has no bag at home, and then this one, with the word that tells its seal
 pub record Fills {J : Type 0} (old : PlaceList J) (place : ℕ) (bag : Sealed J) (new : PlaceList J) : Type 0 where
@@ -52,10 +61,10 @@ pub record Empties {J : Type 0} (old : PlaceList J) (place : ℕ) (bag : Sealed 
   pub words : new.words ≡ slice_set old.words place 0
   pub bags : new.bags ≡ slice_set old.bags place None
 
--- No bag moves, the place is not left claimed with a bag at home, and such a bag is not expired for the epoch x.
+-- No bag moves, the place is not left claimed, and a bag at home there is not expired for the epoch x.
 pub record Leaves {J : Type 0} (x : ℕ) (old : PlaceList J) (place : ℕ) (new : PlaceList J) : Type 0 where
   pub bags : new.bags ≡ old.bags
   pub as_many : length new.words ≡ length old.words
-  pub unclaimed : ¬ (IsClaimedAt new place)
+  pub unclaimed : slice_index_or new.words place 0 ≢ 2
   pub others : (other : ℕ) → other ≢ place → slice_index_or new.words other 0 ≡ slice_index_or old.words other 0
   pub not_expired : (bag : Sealed J) → slice_index_or old.bags place None ≡ Some bag → ¬ (IsExpired x bag)

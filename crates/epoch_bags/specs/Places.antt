@@ -13,6 +13,12 @@ put_passed (PutLook place) = place
 put_passed (PutClaim place) = place
 put_passed (Fill place) = place
 
+-- the put has claimed this place, and fills it next
+abbrev pub ReservesAt : PutCursor → ℕ → Type 0
+ReservesAt (PutLook at) place = ⊥
+ReservesAt (PutClaim at) place = ⊥
+ReservesAt (Fill at) place = place ≡ at
+
 -- how many steps a put takes at most before one past the last place
 abbrev pub put_left : ℕ → PutCursor → ℕ
 put_left places (PutLook place) = 3 * (places - place)

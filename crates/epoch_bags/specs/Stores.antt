@@ -18,6 +18,12 @@ abbrev pub AllExpired : {J : Type 0} → ℕ → List (Sealed J) → Type 0
 AllExpired x [] = Unit {0}
 AllExpired x (bag ∷ bags) = IsExpired x bag × AllExpired x bags
 
+-- how many of these are true
+abbrev pub how_many : List Bool → ℕ
+how_many [] = 0
+how_many (true ∷ all) = how_many all + 1
+how_many (false ∷ all) = how_many all
+
 -- the jobs held go into the store, in a bag sealed with this epoch; what was held is left empty, of the same limit
 pub record PutsJobs {J : Type 0} (seal : ℕ) (old : List (Sealed J)) (held : Unsealed J) (new : List (Sealed J)) (left : Unsealed J) : Type 0 where
   pub inserted : IsInserted (record { seal = seal; jobs = held.jobs }) old new

@@ -5,7 +5,7 @@
 //! as in the store until it is taken.
 ghost use Rattle.std.specs.Prelude.{◌≡◌, ◌≢◌, ℕ, ◌+◌, ◌*◌, ◌<◌, ◌≤◌, List, Bool, true, false, Some, [], IfOk, IfErr, length, min, slice_get, ◌⊎◌};
 ghost use Rattle.epoch_bags.specs.Bags.{Sealed};
-ghost use Rattle.epoch_bags.specs.Stores.{AllExpired, PutsBag, FindsRoom, TakesBag, FindsBag, TakesAny};
+ghost use Rattle.epoch_bags.specs.Stores.{AllExpired, how_many, PutsBag, FindsRoom, TakesBag, FindsBag, TakesAny};
 
 mod bag_queue;
 mod collection;
@@ -63,8 +63,14 @@ pub trait BagStore: Drop {
     /// For each place, whether it has no room now.
     ghost occupied: { Self → List Bool };
 
+    /// For each place, whether a bag stands there.
+    ghost standing: { Self → List Bool };
+
     /// The bag at this place is claimed.
     ghost Claimed: { Self → ℕ → Type 0 };
+
+    /// The place is claimed, and no bag stands there.
+    ghost Reserved: { Self → ℕ → Type 0 };
 
     /// How many places the put has seen occupied.
     ghost passed: { Self.Putting → ℕ };
@@ -72,7 +78,10 @@ pub trait BagStore: Drop {
     /// Whether a put, that nobody disturbs, will find a place.
     ghost has_room: { Self → Self.Putting → Bool };
 
-    /// It is this collection that claims the bag at this place.
+    /// It is this put that claims the place.
+    ghost Reserves: { Self.Putting → ℕ → Type 0 };
+
+    /// It is this collection that claims the place.
     ghost Claims: { Self.Taking → ℕ → Type 0 };
 
     /// How many steps a put takes at most in a store of this capacity, before one that answers `Full` at once.
@@ -91,12 +100,17 @@ pub trait BagStore: Drop {
         ensures empty { IfOk result (λ store. queued store ≡ []) }
         ensures capacity { IfOk result (λ store. capacity store ≡ bags) }
         ensures unclaimed { IfOk result (λ store. (place : ℕ) → ¬ (Claimed store place)) }
+        ensures unreserved { IfOk result (λ store. (place : ℕ) → ¬ (Reserved store place)) }
         ensures no_memory { IfErr result (λ fault. fault ≡ Fault.NoMemory) };
 
     /// How many bags it has room for, from 1 to [`MOST_BAGS`].
     fn capacity(&self) -> usize
         ensures value { result ≡ capacity self.now }
         ensures within { length (queued self.now) ≤ capacity self.now }
+
+        // As many bags stand as are queued, and an occupied place without one is claimed.
+        ensures standing { how_many (standing self.now) ≡ length (queued self.now) }
+        ensures occupied { (place : ℕ) → slice_get (occupied self.now) place ≡ Some true → (slice_get (standing self.now) place ≡ Some true) ⊎ Reserved self.now place }
         ensures some { 0 < result }
         ensures most { result ≤ MOST_BAGS };
 
@@ -104,6 +118,7 @@ pub trait BagStore: Drop {
     fn start_put(&self) -> Self::Putting
         ensures passed { passed result ≡ 0 }
         ensures few { puts_left (capacity self.now) result ≤ 3 * capacity self.now + 65 }
+        ensures reserves { (place : ℕ) → ¬ (Reserves result place) }
         ensures room { (place : ℕ) → slice_get (occupied self.now) place ≡ Some false → has_room self.now result ≡ true };
 
     /// One step of a put of the bag `held`, to be sealed with `seal`.
@@ -122,6 +137,7 @@ pub trait BagStore: Drop {
         ensures occupied { result ≢ PutStep.Done → (place : ℕ) → passed cursor.old ≤ place → place < passed cursor.new → slice_get (occupied self.old) place ≡ Some true }
         ensures full { result ≡ PutStep.Full → capacity self.old ≤ passed cursor.new }
         ensures again { result ≡ PutStep.Again → passed cursor.new < capacity self.old }
+        ensures onward { result ≢ PutStep.Done → passed cursor.old ≤ passed cursor.new }
 
         // Where nobody disturbs it, it is done exactly where it finds a place.
         ensures room { FindsRoom (has_room self.old cursor.old) result (has_room self.new cursor.new) }
@@ -129,7 +145,11 @@ pub trait BagStore: Drop {
         // Its number falls with each step.
         ensures fewer { 0 < puts_left (capacity self.old) cursor.old → puts_left (capacity self.old) cursor.new < puts_left (capacity self.old) cursor.old }
         ensures last { puts_left (capacity self.old) cursor.old ≡ 0 → result ≡ PutStep.Full }
-        ensures claims { (place : ℕ) → Claimed self.new place → Claimed self.old place };
+        ensures claims { (place : ℕ) → Claimed self.new place → Claimed self.old place }
+
+        // It claims for itself alone, and only between its steps that answer Again.
+        ensures reserves { (place : ℕ) → Reserved self.new place → Reserves cursor.new place ⊎ (Reserved self.old place × (¬ (Reserves cursor.old place))) }
+        ensures lets_go { result ≢ PutStep.Again → (place : ℕ) → ¬ (Reserves cursor.new place) };
 
     /// The cursor of a collection that has taken no step.
     fn start_take(&self) -> Self::Taking
@@ -158,6 +178,7 @@ pub trait BagStore: Drop {
 
         // It claims for itself alone, and only between its steps that answer Again.
         ensures claims { (place : ℕ) → Claimed self.new place → Claims cursor.new place ⊎ (Claimed self.old place × (¬ (Claims cursor.old place))) }
+        ensures reserves { (place : ℕ) → Reserved self.new place → Claims cursor.new place ⊎ (Reserved self.old place × (¬ (Claims cursor.old place))) }
         ensures lets_go { result ≢ TakeStep.Again → (place : ℕ) → ¬ (Claims cursor.new place) }
         ensures ahead { FindsBag (ahead expiry.number self.old cursor.old) result (ahead expiry.number self.new cursor.new) };
 
@@ -167,7 +188,8 @@ pub trait BagStore: Drop {
     fn take_any(&mut self) -> Option<SealedBag<Self::Job>>
         ensures bag { TakesAny (queued self.old) result (queued self.new) }
         ensures capacity { capacity self.new ≡ capacity self.old }
-        ensures claims { (place : ℕ) → Claimed self.new place → Claimed self.old place };
+        ensures claims { (place : ℕ) → Claimed self.new place → Claimed self.old place }
+        ensures reserves { (place : ℕ) → Reserved self.new place → Reserved self.old place };
 
     ghost place_for_each: { (store : Self) → length (occupied store) ≡ capacity store };
 }

@@ -514,6 +514,7 @@ impl<J: Default + Drop> Machine<J> {
         ensures occupied { result ≢ PutStep.Done → (place : ℕ) → S.passed cursor.old ≤ place → place < S.passed cursor.new → slice_get (S.occupied store.old) place ≡ Some true }
         ensures full { result ≡ PutStep.Full → S.capacity store.old ≤ S.passed cursor.new }
         ensures again { result ≡ PutStep.Again → S.passed cursor.new < S.capacity store.old }
+        ensures onward { result ≢ PutStep.Done → S.passed cursor.old ≤ S.passed cursor.new }
         ensures room { FindsRoom (S.has_room store.old cursor.old) result (S.has_room store.new cursor.new) }
         ensures fewer { 0 < S.puts_left (S.capacity store.old) cursor.old → S.puts_left (S.capacity store.old) cursor.new < S.puts_left (S.capacity store.old) cursor.old }
         ensures last { S.puts_left (S.capacity store.old) cursor.old ≡ 0 → result ≡ PutStep.Full }

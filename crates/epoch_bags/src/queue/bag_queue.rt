@@ -151,11 +151,17 @@ impl<J: Default + Drop> BagStore for BagQueue<J> {
 
     ghost occupied = { λ queue. first_occupied queue.capacity (length queue.bags) };
 
+    ghost standing = { λ queue. first_occupied queue.capacity (length queue.bags) };
+
     ghost Claimed = { λ queue place. ⊥ };
+
+    ghost Reserved = { λ queue place. ⊥ };
 
     ghost passed = { λ cursor. cursor };
 
     ghost has_room = { λ queue cursor. nat_lt cursor queue.capacity && nat_lt (length queue.bags) queue.capacity };
+
+    ghost Reserves = { λ cursor place. ⊥ };
 
     ghost Claims = { λ cursor place. ⊥ };
 

@@ -7,7 +7,7 @@ ghost use Rattle.std.specs.Prelude.{◌≡◌, ◌≢◌, ℕ, ◌+◌, ◌-◌,
 ghost use Rattle.epoch_bags.specs.Bags.{Sealed, IsExpired};
 ghost use Rattle.epoch_bags.specs.Stores.{AllExpired, PutsBag, FindsRoom, PutsJobs, TakesBag, TakesExpired, FindsBag, TakesAny};
 ghost use Rattle.epoch_bags.specs.Places.{has_empty};
-ghost use Rattle.epoch_bags.specs.PlaceLists.{ArePlaces, bags_in, taken_places, IsClaimedAt, Fills, Empties, Leaves};
+ghost use Rattle.epoch_bags.specs.PlaceLists.{ArePlaces, bags_in, taken_places, homes_taken, IsClaimedAt, IsReservedAt, Fills, Empties, Leaves};
 
 use super::size::tell_size;
 use crate::{Bag, BagStore, Epoch, MOST_BAGS, PutStep, SealedBag, TakeStep};
@@ -184,6 +184,7 @@ fn empty<J: Drop>(
     ensures hand { result ≡ false → hand.new ≡ hand.old }
 {
     let Some(bag) = &places.bags[place] else {
+        places.words[place] = EMPTY;
         return false;
     };
     if !bag.is_expired(expiry) {
@@ -243,7 +244,7 @@ fn has_bag<J>(places: &Places<J>, place: usize) -> bool
 }
 
 impl<J: Default + Drop> BagStore for Places<J> {
-    ghost use Rattle.epoch_bags.specs.Places.{put_passed, put_left, take_left, ClaimsAt, has_room, bags_ahead};
+    ghost use Rattle.epoch_bags.specs.Places.{put_passed, put_left, take_left, ReservesAt, ClaimsAt, has_room, bags_ahead};
 
     type Job = J;
 
@@ -257,11 +258,17 @@ impl<J: Default + Drop> BagStore for Places<J> {
 
     ghost occupied = { λ places. taken_places places.words };
 
+    ghost standing = { λ places. homes_taken places.bags };
+
     ghost Claimed = { λ places place. IsClaimedAt places place };
+
+    ghost Reserved = { λ places place. IsReservedAt places place };
 
     ghost passed = { λ cursor. put_passed cursor };
 
     ghost has_room = { λ places cursor. has_room places cursor };
+
+    ghost Reserves = { λ cursor place. ReservesAt cursor place };
 
     ghost Claims = { λ cursor place. ClaimsAt cursor place };
 
@@ -311,6 +318,7 @@ impl<J: Default + Drop> BagStore for Places<J> {
             }
             PutCursor::Fill(place) => {
                 if place >= places {
+                    *cursor = PutCursor::Look(place);
                     return PutStep::Full;
                 }
                 if fill(self, place, seal, held) {

@@ -1,7 +1,8 @@
-use Rattle.std.proofs.Common.{arith, ap, sym, ◌∙◌, ◌+◌, ℕ, List, length, drop}
-use Rattle.epoch_bags.specs.PlaceLists.{PlaceList}
+use Rattle.std.proofs.Common.{inl, inr, subst, arith, ap, sym, ◌∙◌, ◌+◌, ℕ, List, length, drop}
+use Rattle.epoch_bags.specs.PlaceLists.{PlaceList, IsReservedAt}
 use Rattle.epoch_bags.specs.Places.{put_passed, has_empty, has_room}
 use Rattle.epoch_bags.proofs.PlaceSteps.{room_past, room_passed, room_claimed, room_filled, room_taken, puts_on, passed_one, claims_empty, fills_bag}
+use Rattle.epoch_bags.proofs.ClaimedPlaces.{look_reserves, claim_reserves, fill_reserves, reserves_one, reserves_same, reserves_less, reserves_not, reserves_past}
 use Rattle.epoch_bags.proofs.queue.places.PlacesBagStore.put_step.Goals as goal
 
 -- the place was empty, so the claim is of a place without a bag
@@ -74,3 +75,45 @@ returns-else-fill-clause-room g c =
     let same = (c.fill.ensures.not c.if-fill.false).0 in
     puts_on c.fill.new.places c.put_further-in-Fill.new.cursor c.put_further-in-Fill.result c.in-Fill.place c.count-places.result _ (c.count-places.ensures.value ∙ ap (λ (s : PlaceList g.row.J.Denot). length s.words) (sym same)) c.put_further-in-Fill.ensures.cursor c.put_further-in-Fill.ensures.result
     (ap (λ (s : PlaceList g.row.J.Denot). has_empty (drop (c.in-Fill.place + 1) s.words)) same ∙ room_taken c.args.self.now c.in-Fill.place (omega (arith, c.count-places.ensures.agrees.beside)) (c.fill.ensures.home c.if-fill.false) ∙ ap (has_room c.args.self.now) (sym c.in-Fill.is))
+
+-- WHAT IT CLAIMS
+
+pub returns-then-look-eq-EMPTY-clause-reserves : goal.returns-then-look-eq-EMPTY-clause-reserves
+returns-then-look-eq-EMPTY-clause-reserves g c place reserved = inr (reserved, look_reserves c.args.cursor.now c.in-Look.place place c.in-Look.is)
+
+pub returns-else-look-eq-EMPTY-clause-reserves : goal.returns-else-look-eq-EMPTY-clause-reserves
+returns-else-look-eq-EMPTY-clause-reserves g c place reserved = inr (reserved, look_reserves c.args.cursor.now c.in-Look.place place c.in-Look.is)
+
+pub returns-then-place-places-clause-reserves : goal.returns-then-place-places-clause-reserves
+returns-then-place-places-clause-reserves g c place reserved = inr (reserved, look_reserves c.args.cursor.now c.in-Look.place place c.in-Look.is)
+
+pub returns-then-place-places-2-clause-reserves : goal.returns-then-place-places-2-clause-reserves
+returns-then-place-places-2-clause-reserves g c place reserved = inr (reserved, claim_reserves c.args.cursor.now c.in-Claim.place place c.in-Claim.is)
+
+pub returns-then-claim-clause-reserves : goal.returns-then-claim-clause-reserves
+returns-then-claim-clause-reserves g c place reserved = elim (reserves_one c.args.self.now c.claim.new.places c.in-Claim.place place (c.claim.ensures.won c.if-claim.true).1 c.claim.ensures.bags reserved) [
+  | inl here ↦ inl here
+  | inr before ↦ inr (before, claim_reserves c.args.cursor.now c.in-Claim.place place c.in-Claim.is)
+]
+
+pub returns-else-claim-clause-reserves : goal.returns-else-claim-clause-reserves
+returns-else-claim-clause-reserves g c place reserved = inr (
+  reserves_same c.args.self.now c.claim.new.places place (c.claim.ensures.lost c.if-claim.false).1 c.claim.ensures.bags reserved,
+  claim_reserves c.args.cursor.now c.in-Claim.place place c.in-Claim.is,
+)
+
+pub returns-then-place-places-3-clause-reserves : goal.returns-then-place-places-3-clause-reserves
+returns-then-place-places-3-clause-reserves g c place reserved =
+    inr (reserved, fill_reserves c.args.cursor.now c.in-Fill.place place c.in-Fill.is (reserves_past c.args.self.now c.in-Fill.place place (omega arith) reserved))
+
+pub returns-then-fill-clause-reserves : goal.returns-then-fill-clause-reserves
+returns-then-fill-clause-reserves g c place reserved =
+    let filled = c.fill.ensures.done c.if-fill.true in
+    let less = reserves_less c.args.self.now c.fill.new.places c.in-Fill.place _ place _ (omega arith) (λ even. absurd (omega arith)) filled.words filled.bags reserved in
+    inr (less.0, fill_reserves c.args.cursor.now c.in-Fill.place place c.in-Fill.is less.1)
+
+pub returns-else-fill-clause-reserves : goal.returns-else-fill-clause-reserves
+returns-else-fill-clause-reserves g c place reserved =
+    let same = (c.fill.ensures.not c.if-fill.false).0 in
+    let before : IsReservedAt c.args.self.now place = subst (λ (s : PlaceList _). IsReservedAt s place) same reserved in
+    inr (before, fill_reserves c.args.cursor.now c.in-Fill.place place c.in-Fill.is (reserves_not c.args.self.now c.in-Fill.place place (c.fill.ensures.home c.if-fill.false) before))

@@ -1,8 +1,9 @@
 use Rattle.std.proofs.Common.{◌≡◌, arith, ap, subst, length, []}
 use Rattle.epoch_bags.specs.Stores.{TakesAny}
-use Rattle.epoch_bags.specs.PlaceLists.{PlaceList, bags_in, IsClaimedAt}
+use Rattle.epoch_bags.specs.PlaceLists.{PlaceList, bags_in, IsClaimedAt, IsReservedAt}
 use Rattle.epoch_bags.proofs.PlacedBags.{none_in}
 use Rattle.epoch_bags.proofs.PlaceSteps.{clears_bag, clears_claim}
+use Rattle.epoch_bags.proofs.ClaimedPlaces.{reserves_less}
 use Rattle.epoch_bags.proofs.queue.places.PlacesBagStore.take_any.Goals as goal
 
 pub returns-then-has_bag-clause-bag : goal.returns-then-has_bag-clause-bag
@@ -15,6 +16,12 @@ returns-then-has_bag-clause-claims g c place claimed =
     subst (λ (p : PlaceList g.row.J.Denot). IsClaimedAt p place) c.loop-place.invariant.same
     (clears_claim c.loop-place.self c.clear.new.places c.loop-place.place (omega (arith, ap (λ (p : PlaceList g.row.J.Denot). length p.words) c.loop-place.invariant.same))
     c.clear.ensures.words c.clear.ensures.bags place claimed)
+
+pub returns-then-has_bag-clause-reserves : goal.returns-then-has_bag-clause-reserves
+returns-then-has_bag-clause-reserves g c place reserved =
+    subst (λ (p : PlaceList g.row.J.Denot). IsReservedAt p place) c.loop-place.invariant.same
+    (reserves_less c.loop-place.self c.clear.new.places c.loop-place.place 0 place _ (omega (arith, ap (λ (p : PlaceList g.row.J.Denot). length p.words) c.loop-place.invariant.same))
+    (λ zero_word. absurd (omega arith)) c.clear.ensures.words c.clear.ensures.bags reserved).0
 
 pub returns-clause-bag : goal.returns-clause-bag
 returns-clause-bag g c =
