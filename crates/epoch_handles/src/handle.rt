@@ -9,12 +9,13 @@ ghost use Rattle.epoch_machine.specs.declared.machine.Action.TheVariants.{Pin, U
 use crate::collector::Collector;
 use crate::guard::Guard;
 use crate::local::Local;
+use crate::released::Released;
 use epoch_bags::{Job, Run, Work};
 use epoch_cells::{Fault, Refused};
 use epoch_machine::Machine;
 use std::fmt;
 
-/// A participant of one thread. It must be spent, by `release`.
+/// A participant of one thread. It must be spent, by `release`, or by `leave` and then its answer.
 pub struct LocalHandle<'c, T, W = Work> {
     pub(crate) local: Local<'c, T, W>,
     pub(crate) ghost ready: { IsReady local },
@@ -268,9 +269,33 @@ impl<'c, T: Drop, W: Run> LocalHandle<'c, T, W> {
         answer
     }
 
-    /// Ends the participant: it pins, puts its held bag, if it has a job, unpins, and frees its position. After an
-    /// accepted release the word is 0, and the held bag, if it had a job, was put whole. No value has that last
-    /// state: `frees` says that there is one.
+    /// Gives the position up: the participant pins, puts its held bag, if it has a job, unpins, and frees its
+    /// position. What is answered is the state behind that, and is only to be spent: the word is 0, the machine is
+    /// that of a free position, and the held bag, if it had a job, was put whole.
+    ///
+    /// `BagsFull`: each place was seen occupied. The handle comes back unpinned, with its bag as it was.
+    #[inline(always)]
+    pub fn leave(self) -> Result<Released<'c, T, W>, (LocalHandle<'c, T, W>, Fault)>
+        requires { self.local.machine.guards ≡ 0 }
+        ensures full { IfErr result (λ back. back.1 ≡ BagsFull) }
+        ensures same { IfErr result (λ back. IsSame self.entry.local back.0.local) }
+        ensures does { IfErr result (λ back. Does self.entry.local Release back.0.local) }
+        ensures called { IfErr result (λ back. DoesAndCalls W.done self.entry.local Release back.0.local) }
+        ensures ready { IfErr result (λ back. IsReady back.0.local) }
+        ensures held { IfErr result (λ back. (self.entry.local.machine.held ≢ []) × (back.0.local.machine.held ≡ self.entry.local.machine.held)) }
+        ensures counted { IfErr result (λ back. back.0.local.machine.guards ≡ 0) }
+        ensures frees { IfOk result (λ released. IsReleased W.done self.entry.local released.local) }
+    {
+        let LocalHandle { mut local } = self;
+        let freed = local.release();
+        if freed {
+            return Ok(Released { local });
+        }
+        Err((LocalHandle { local }, Fault::BagsFull))
+    }
+
+    /// Ends the participant: as [`LocalHandle::leave`], whose answer it spends. After an accepted release no value
+    /// has the last state: `frees` says that there is one.
     ///
     /// `BagsFull`: each place was seen occupied. The handle comes back unpinned, with its bag as it was.
     pub fn release(self) -> Result<(), (LocalHandle<'c, T, W>, Fault)>
@@ -284,13 +309,13 @@ impl<'c, T: Drop, W: Run> LocalHandle<'c, T, W> {
         ensures counted { IfErr result (λ back. back.0.local.machine.guards ≡ 0) }
         ensures frees { IsOk result → (last : _) × IsReleased W.done self.entry.local last }
     {
-        let LocalHandle { mut local } = self;
-        let freed = local.release();
-        if freed {
-            Local::spend(local);
-            return Ok(());
+        match self.leave() {
+            Ok(released) => {
+                released.spend();
+                Ok(())
+            }
+            Err(back) => Err(back),
         }
-        Err((LocalHandle { local }, Fault::BagsFull))
     }
 
     /// As [`LocalHandle::defer`]: a job is the caller's box, and there is no call that trusts its caller more.

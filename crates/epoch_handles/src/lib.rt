@@ -8,6 +8,7 @@ mod handle;
 mod home;
 mod laws;
 mod local;
+mod released;
 
 pub use collector::{Capacities, Collector};
 pub use end::end_bags;
@@ -15,3 +16,4 @@ pub use guard::{Guard, unprotected};
 pub use handle::LocalHandle;
 pub use home::{Home, home_of};
 pub use laws::{answers_are_found, expiries_are_seen, replies_are_found};
+pub use released::Released;

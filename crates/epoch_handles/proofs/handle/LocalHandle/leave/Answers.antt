@@ -1,16 +1,15 @@
-use Rattle.std.proofs.Common.{arith}
-use Rattle.epoch_handles.proofs.handle.LocalHandle.release.Goals as goal
+use Rattle.epoch_handles.proofs.handle.LocalHandle.leave.Goals as goal
 
 -- a freed participant has no position
-pub spend-requires : goal.spend-requires
-spend-requires g c = (omega arith, (c.release-freed.ensures.frees c.if-freed.true).position)
-
--- it is released by then
-pub returns-then-freed-clause-frees : goal.returns-then-freed-clause-frees
-returns-then-freed-clause-frees g c = λ _. (c.release-freed.new.self, c.release-freed.ensures.frees c.if-freed.true)
-
 pub invariant_of-result : goal.invariant_of-result
-invariant_of-result g c = record { ready = c.release-freed.ensures.ready c.if-freed.false }
+invariant_of-result g c = record { gone = (c.release-freed.ensures.frees c.if-freed.true).position }
+
+pub returns-then-freed-clause-frees : goal.returns-then-freed-clause-frees
+returns-then-freed-clause-frees g c = c.release-freed.ensures.frees c.if-freed.true
+
+-- a refused one is between two calls
+pub invariant_of-result-2 : goal.invariant_of-result-2
+invariant_of-result-2 g c = record { ready = c.release-freed.ensures.ready c.if-freed.false }
 
 pub returns-clause-does : goal.returns-clause-does
 returns-clause-does g c = c.release-freed.ensures.does c.if-freed.false
