@@ -29,16 +29,16 @@ module _ {J : Type 0} where
   adds_none : (v u : PlaceView J) → u.found ≡ v.found → Adds v [] u
   adds_none v u same = same ∙ sym (append-nil v.found)
 
-  put_told : (places : ℕ) (cursor next : PutCursor) (step : PutStep) (bag : Sealed J) (v u : PlaceView J)
+  put_told : (places : ℕ) (cursor next : PutCursor) (step : PutStep) (bag : Sealed J) (v u : PlaceMe J)
       → PutMoves places cursor v bag step next u
-      → (found : List ℕ) × Adds v found u × PutTells places cursor found step next
+      → (found : List ℕ) × Adds v.0 found u.0 × PutTells places cursor found step next
   put_told places (PutLook place) next step bag v u (word, is, free, occupied) =
-      (word ∷ [], ap (λ (z : PlaceView J). z.found) is, (word, refl, free, occupied))
+      (word ∷ [], ap (λ (z : PlaceMe J). z.0.found) is, (word, refl, free, occupied))
   put_told places (PutClaim place) next step bag v u (word, free, occupied) = elim (eqb_tells word 0) [
-    | inl zero ↦ (word ∷ [], ap (λ (z : PlaceView J). z.found) (free zero.1).0 ∙ ap (λ (w : ℕ). v.found ++ w ∷ []) (sym zero.1), (word, refl, (λ at. ((free at).1, (free at).2)), (λ other. (occupied other).1)))
-    | inr differs ↦ (word ∷ [], ap (λ (z : PlaceView J). z.found) (occupied differs.1).0, (word, refl, (λ at. ((free at).1, (free at).2)), (λ other. (occupied other).1)))
+    | inl zero ↦ (word ∷ [], ap (λ (z : PlaceMe J). z.0.found) (free zero.1).0.2, (word, refl, (λ at. ((free at).1, (free at).2)), (λ other. (occupied other).1)))
+    | inr differs ↦ (word ∷ [], ap (λ (z : PlaceMe J). z.0.found) (occupied differs.1).0, (word, refl, (λ at. ((free at).1, (free at).2)), (λ other. (occupied other).1)))
   ]
-  put_told places (Fill place) next step bag v u (done, is) = ([], adds_none v u (ap (λ (z : PlaceView J). z.found) is), (refl, done))
+  put_told places (Fill place) next step bag v u (done, is) = ([], adds_none v.0 u.0 (ap (λ (z : PlaceMe J). z.0.found) is), (refl, done))
 
   take_told : (places x : ℕ) (cursor next : TakeCursor) (step : TakeStep) (bag : Sealed J) (v u : PlaceMe J)
       → TakeMoves places x cursor v step next u bag
@@ -47,13 +47,13 @@ module _ {J : Type 0} where
     | inl last ↦ ([], adds_none v.0 u.0 (ap (λ (z : PlaceMe J). z.0.found) (past last.1).1), ((λ at. (refl, (past at).0)), (λ other. absurd (other last.1))))
     | inr before ↦ (
         let word = (looks before.1).0 in
-        (word ∷ [], ap (λ (z : PlaceView J). z.found) (looks before.1).1, ((λ at. absurd (before.1 at)), (λ other. (word, refl, (looks before.1).2, (looks before.1).3)))))
+        (word ∷ [], ap (λ (z : PlaceMe J). z.0.found) (looks before.1).1, ((λ at. absurd (before.1 at)), (λ other. (word, refl, (looks before.1).2, (looks before.1).3)))))
   ]
   take_told places x (TakeClaim place claims) next step bag v u (word, won, lost) = elim (eqb_tells word claims) [
-    | inl same ↦ (word ∷ [], ap (λ (z : PlaceView J). z.found) (won same.1).0, (word, refl, (λ at. ((won at).1, (won at).2)), (λ other. (lost other).1)))
-    | inr differs ↦ (word ∷ [], ap (λ (z : PlaceView J). z.found) (lost differs.1).0, (word, refl, (λ at. ((won at).1, (won at).2)), (λ other. (lost other).1)))
+    | inl same ↦ (word ∷ [], ap (λ (z : PlaceMe J). z.0.found) (won same.1).0.2, (word, refl, (λ at. ((won at).1, (won at).2)), (λ other. (lost other).1)))
+    | inr differs ↦ (word ∷ [], ap (λ (z : PlaceMe J). z.0.found) (lost differs.1).0, (word, refl, (λ at. ((won at).1, (won at).2)), (λ other. (lost other).1)))
   ]
-  take_told places x (Empty place) next step bag v u (got, goes, is, hand, expired) = ([], adds_none v.0 u.0 (ap (λ (z : PlaceView J). z.found) is), (refl, got, goes))
+  take_told places x (Empty place) next step bag v u (got, goes, is, hand, expired) = ([], adds_none v.0 u.0 (ap (λ (z : PlaceMe J). z.0.found) is), (refl, got, goes))
 
   -- a step at the other table finds no word at a place
   silent : (v u : Sight J) → u.places ≡ v.places → Adds v.places.0 [] u.places.0
@@ -75,7 +75,7 @@ module _ {J : Type 0} where
   one_told places m v u c d KeepJob (Heard (Job job)) (is, same) = ([], silent v u (ap (λ (z : Sight J). z.places) is), (refl, same))
   one_told places m v u c d CallJob (JobGiven job) (is, same) = ([], silent v u (ap (λ (z : Sight J). z.places) is), (refl, same))
   one_told places m v u c d (PutBag seal) (PutStepped step) (is, same, moves) =
-      let put = put_told places c.put d.put step (record { seal = seal; jobs = m.held }) v.places.0 u.places.0 moves in
+      let put = put_told places c.put d.put step (record { seal = seal; jobs = m.held }) v.places u.places moves in
       (put.0, put.1, (same, put.2))
   one_told places m v u c d (TakeBag x) (TakeStepped step jobs) (is, same, (bag, got, moves)) =
       let take = take_told places x c.take d.take step bag v.places u.places moves in

@@ -8,7 +8,6 @@ use Rattle.epoch_tables.specs.SharedSteps.{RestsAt, PutsAt, PutPasses, PutMoves}
 use Rattle.epoch_bags.specs.declared.queue.places.PutCursor.{PutCursor}
 use Rattle.epoch_bags.specs.declared.queue.places.PutCursor.TheVariants.{Look as PutLook, Claim as PutClaim, Fill}
 use Rattle.epoch_bags.specs.declared.queue.places.TakeCursor.TheVariants.{Look as TakeLook}
-use Rattle.epoch_tables.specs.declared.shared_places.view.PlaceView.{PlaceView}
 use Rattle.epoch_bags.specs.declared.queue.PutStep.{PutStep}
 use Rattle.epoch_bags.specs.declared.queue.PutStep.TheVariants.{Again, Done, Full}
 use Rattle.epoch_bags.specs.declared.job.Job.{Job}
@@ -60,21 +59,21 @@ not_done places place word next free occupied = elim (eqb_tells word 0) [
 
 module _ {J : Type 0} where
   -- the step that is done left the bag in its place, just as it is
-  left_whole : (places seal : ℕ) (cursor next : PutCursor) (jobs : List J) (before after : PlaceView J)
+  left_whole : (places seal : ℕ) (cursor next : PutCursor) (jobs : List J) (before after : PlaceMe J)
       → PutMoves places cursor before (record { seal = seal; jobs = jobs }) Done next after
-      → IsLeftWhole jobs after
+      → IsLeftWhole jobs after.0
   left_whole places seal (PutLook place) next jobs before after (word, is, free, occupied) = absurd (not_done places place word next (λ at. (free at).0) occupied)
   left_whole places seal (PutClaim place) next jobs before after (word, free, occupied) =
       absurd (not_done places place word next (λ at. (free at).1) (λ differs. (occupied differs).1))
-  left_whole places seal (Fill place) next jobs before after (done, is) = (seal, before.left, ap (λ (z : PlaceView J). z.left) is)
+  left_whole places seal (Fill place) next jobs before after (done, is) = (seal, before.0.left, ap (λ (z : PlaceMe J). z.0.left) is)
 
   -- where the machine says that the put found a place
-  put_whole : (places seal : ℕ) (cursor next : PutCursor) (step : PutStep) (n m : Machine J) (before after : PlaceView J)
+  put_whole : (places seal : ℕ) (cursor next : PutCursor) (step : PutStep) (n m : Machine J) (before after : PlaceMe J)
       → step ≢ Again
       → m ≡ put_heard n step
       → PutMoves places cursor before (record { seal = seal; jobs = n.held }) step next after
       → m.full ≡ false
-      → IsLeftWhole n.held after
+      → IsLeftWhole n.held after.0
   put_whole places seal cursor next Again n m before after over is moves room = absurd (over refl)
   put_whole places seal cursor next Done n m before after over is moves room = left_whole places seal cursor next n.held before after moves
   put_whole places seal cursor next Full n m before after over is moves room = absurd (false≢true (sym room ∙ ap (λ (z : Machine J). z.full) is))
@@ -129,7 +128,7 @@ module _ {T W : Type 0} where
   put_performed : (h n : Local T W) (seal : ℕ) (cursor next : PutCursor) (step : PutStep) (m : Machine (Job W)) (me : PlaceMe (Job W))
       → HasPut h seal cursor n
       → m ≡ put_heard n.machine step
-      → PutMoves n.collector.now.places.places cursor n.claimer.me.0 (record { seal = seal; jobs = n.machine.held }) step next me.0
+      → PutMoves n.collector.now.places.places cursor n.claimer.me (record { seal = seal; jobs = n.machine.held }) step next me
       → Reaches h.collector.now.places.places h.machine (sight_of h) m (record { words = n.seat.me.0; places = me }) (putting next)
   put_performed h n seal cursor next step m me put after moves =
       reaches_on h.collector.now.places.places h.machine n.machine m (sight_of h) (sight_of n) (record { words = n.seat.me.0; places = me }) (putting cursor) (putting next)
@@ -139,7 +138,7 @@ module _ {T W : Type 0} where
         (
           record { words = n.seat.me.0; places = me },
           putting next,
-          (refl, refl, subst (λ z. PutMoves z.now.places.places cursor n.claimer.me.0 (record { seal = seal; jobs = n.machine.held }) step next me.0) put.same.collector moves),
+          (refl, refl, subst (λ z. PutMoves z.now.places.places cursor n.claimer.me (record { seal = seal; jobs = n.machine.held }) step next me) put.same.collector moves),
           (after, refl, refl),
         ),
       ) (tt, tt)
@@ -163,7 +162,7 @@ module _ {T W : Type 0} where
       → m ≡ put_heard n.machine Again
       → IsKept n.claimer claimer
       → PutsAt n.collector.now.places.places next claimer.me
-      → PutMoves n.collector.now.places.places cursor n.claimer.me.0 (record { seal = seal; jobs = n.machine.held }) Again next claimer.me.0
+      → PutMoves n.collector.now.places.places cursor n.claimer.me (record { seal = seal; jobs = n.machine.held }) Again next claimer.me
       → HasPut h seal next (record n { claimer = claimer; machine = m })
   put_again h n seal cursor next m claimer put after kept at moves = record {
     seated = seated_at n m claimer (ap (λ (z : Machine (Job W)). z.sizes) after) kept put.seated;
@@ -192,7 +191,7 @@ module _ {T W : Type 0} where
       → m ≡ put_heard n.machine step
       → IsKept n.claimer claimer
       → RestsAt claimer.me
-      → PutMoves n.collector.now.places.places cursor n.claimer.me.0 (record { seal = seal; jobs = n.machine.held }) step next claimer.me.0
+      → PutMoves n.collector.now.places.places cursor n.claimer.me (record { seal = seal; jobs = n.machine.held }) step next claimer.me
       → Puts h (record n { claimer = claimer; machine = m })
   put_ends h n seal cursor next step m claimer put over after kept rests moves = record {
     seated = seated_at n m claimer (ap (λ (z : Machine (Job W)). z.sizes) after ∙ sizes_kept n.machine step) kept put.seated;
@@ -200,7 +199,7 @@ module _ {T W : Type 0} where
     same = record { position = put.same.position; collector = put.same.collector };
     pin = record { published = put.pin.published; read = put.pin.read };
     whole = λ room. subst (λ (z : Machine (Job W)). IsLeftWhole z.held claimer.me.0) put.machine
-        (put_whole n.collector.now.places.places seal cursor next step n.machine m n.claimer.me.0 claimer.me.0 over after moves room);
+        (put_whole n.collector.now.places.places seal cursor next step n.machine m n.claimer.me claimer.me over after moves room);
     machine = put_over h seal step m over (after ∙ ap (λ (z : Machine (Job W)). put_heard z step) put.machine);
     drives = reached h.collector.now.places.places h.machine m (sight_of h) (record { words = n.seat.me.0; places = claimer.me }) (putting next)
         (put_performed h n seal cursor next step m claimer.me put after moves);

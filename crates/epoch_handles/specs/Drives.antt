@@ -49,7 +49,7 @@ Performs places m v c (StoreEpoch e) (Heard Stored) u d = (v.words.seen ≤ e) �
 Performs places m v c KeepJob (Heard (Job job)) u d = (u ≡ v) × (d ≡ c)
 Performs places m v c CallJob (JobGiven job) u d = (u ≡ v) × (d ≡ c)
 Performs places m v c (PutBag seal) (PutStepped step) u d = (u.words ≡ v.words) × (d.take ≡ c.take)
-    × PutMoves places c.put v.places.0 (record { seal = seal; jobs = m.held }) step d.put u.places.0
+    × PutMoves places c.put v.places (record { seal = seal; jobs = m.held }) step d.put u.places
 Performs {J} places m v c (TakeBag x) (TakeStepped step jobs) u d = (u.words ≡ v.words) × (d.put ≡ c.put)
     × ((bag : Sealed J) × (step ≡ Got → jobs ≡ bag.jobs) × TakeMoves places x c.take v.places step d.take u.places bag)
 Performs places m v c ask reply u d = ⊥

@@ -1,7 +1,7 @@
 -- The steps of a put and of a collection over shared places: where a cursor stands, and what each step does.
 use Rattle.std.specs.Prelude.{◌≡◌, ◌≢◌, ℕ, ◌+◌, ◌*◌, ◌<◌, ◌≤◌, List, [], ◌∷◌, ◌++◌, length, ◌==◌, if◌then◌else◌, Option, Some, None}
 use Rattle.epoch_bags.specs.Bags.{Sealed, IsExpired}
-use Rattle.epoch_tables.specs.SharedPlaces.{PlaceMe, with_claim, after_look, after_claim, after_store}
+use Rattle.epoch_tables.specs.SharedPlaces.{PlaceMe, IsAtHome, with_claim, after_look, after_claim, after_store}
 use Rattle.epoch_tables.specs.declared.shared_places.view.PlaceView.{PlaceView}
 use Rattle.epoch_bags.specs.declared.queue.PutStep.{PutStep}
 use Rattle.epoch_bags.specs.declared.queue.PutStep.TheVariants.{Again as PutAgain, Done, Full}
@@ -51,32 +51,45 @@ abbrev pub TakePasses : ℕ → ℕ → TakeStep → TakeCursor → Type 0
 TakePasses places place step next = (next ≡ TakeLook (place + 1)) × (step ≡ (if place + 1 == places then TakeEnds else TakeAgain))
 
 module _ {J : Type 0} where
+  -- a step that found this word, and left the hands as they are
+  abbrev pub Finds : PlaceMe J → ℕ → PlaceMe J → Type 0
+  Finds before word after = after ≡ (after_look before.0 word, before.1)
+
+  -- A claim that found this word and has won the place. What was at home there is in hand now.
+  abbrev pub Wins : ℕ → PlaceMe J → ℕ → PlaceMe J → Type 0
+  Wins place before word after = (home : Option (Sealed J)) × IsAtHome word home
+      × (after ≡ (after_claim before.0 place word, (place, home) ∷ before.1))
+
+  -- the place has this content from now on, and nothing is in hand
+  abbrev pub Leaves : PlaceMe J → Option (Sealed J) → PlaceMe J → Type 0
+  Leaves before content after = after ≡ (after_store before.0 content, [])
+
   -- One step of a put of this sealed bag. A look and a claim find a word, and an occupied place is passed.
-  abbrev pub PutMoves : ℕ → PutCursor → PlaceView J → Sealed J → PutStep → PutCursor → PlaceView J → Type 0
-  PutMoves places (PutLook place) before bag step next after = (word : ℕ) × (after ≡ after_look before word)
+  abbrev pub PutMoves : ℕ → PutCursor → PlaceMe J → Sealed J → PutStep → PutCursor → PlaceMe J → Type 0
+  PutMoves places (PutLook place) before bag step next after = (word : ℕ) × Finds before word after
       × (word ≡ 0 → (step ≡ PutAgain) × (next ≡ PutClaim place))
       × (word ≢ 0 → PutPasses places place step next)
   PutMoves places (PutClaim place) before bag step next after = (word : ℕ)
-      × (word ≡ 0 → (after ≡ after_claim before place 0) × (step ≡ PutAgain) × (next ≡ Fill place))
-      × (word ≢ 0 → (after ≡ after_look before word) × PutPasses places place step next)
-  PutMoves places (Fill place) before bag step next after = (step ≡ Done) × (after ≡ after_store before (Some bag))
+      × (word ≡ 0 → Wins place before word after × (step ≡ PutAgain) × (next ≡ Fill place))
+      × (word ≢ 0 → Finds before word after × PutPasses places place step next)
+  PutMoves places (Fill place) before bag step next after = (step ≡ Done) × Leaves before (Some bag) after
 
   -- a look of a collection finds a word: that of an expired bag is claimed next, and else the place is passed
-  abbrev pub LooksForBag : ℕ → ℕ → ℕ → PlaceView J → TakeStep → TakeCursor → PlaceView J → Type 0
-  LooksForBag places x place before step next after = (word : ℕ) × (after ≡ after_look before word)
+  abbrev pub LooksForBag : ℕ → ℕ → ℕ → PlaceMe J → TakeStep → TakeCursor → PlaceMe J → Type 0
+  LooksForBag places x place before step next after = (word : ℕ) × Finds before word after
       × (IsExpiredWord x word → (step ≡ TakeAgain) × (next ≡ TakeClaim place word))
       × ((¬ IsExpiredWord x word) → TakePasses places place step next)
 
   -- One step of a collection for the epoch x, and what is in the hand after it. Past the last place it touches no word.
-  -- The bag that is got is the very one that was in the slot.
+  -- The bag that is got is the very one that was in the slot, since the claim that won it.
   abbrev pub TakeMoves : ℕ → ℕ → TakeCursor → PlaceMe J → TakeStep → TakeCursor → PlaceMe J → Sealed J → Type 0
   TakeMoves places x (TakeLook place) before step next after hand = (place ≡ places → (step ≡ TakeEnds) × (after ≡ before))
-      × (place ≢ places → LooksForBag places x place before.0 step next after.0)
+      × (place ≢ places → LooksForBag places x place before step next after)
   TakeMoves places x (TakeClaim place claims) before step next after hand = (word : ℕ)
-      × (word ≡ claims → (after.0 ≡ after_claim before.0 place word) × (step ≡ TakeAgain) × (next ≡ Empty place))
-      × (word ≢ claims → (after.0 ≡ after_look before.0 word) × TakePasses places place step next)
+      × (word ≡ claims → Wins place before word after × (step ≡ TakeAgain) × (next ≡ Empty place))
+      × (word ≢ claims → Finds before word after × TakePasses places place step next)
   TakeMoves places x (Empty place) before step next after hand = (step ≡ Got) × (next ≡ TakeLook (place + 1))
-      × (after.0 ≡ after_store before.0 None) × (before.1 ≡ (place, Some hand) ∷ []) × IsExpired x hand
+      × Leaves before None after × (before.1 ≡ (place, Some hand) ∷ []) × IsExpired x hand
 
 -- AN END
 

@@ -49,7 +49,7 @@ impl<J: Default + Drop> Machine<J> {
         ensures at { result ≡ PutStep.Again → PutsAt places.now.places cursor.new seat.new.me }
         ensures rests { result ≢ PutStep.Again → RestsAt seat.new.me }
         ensures fewer { result ≡ PutStep.Again → put_left places.now.places cursor.new < put_left places.now.places cursor.old }
-        ensures moves { (seal : ℕ) → asks self.old ≡ Some (PutBag seal) → PutMoves places.now.places cursor.old seat.old.me.0 (record { seal = seal; jobs = self.old.held }) result cursor.new seat.new.me.0 }
+        ensures moves { (seal : ℕ) → asks self.old ≡ Some (PutBag seal) → PutMoves places.now.places cursor.old seat.old.me (record { seal = seal; jobs = self.old.held }) result cursor.new seat.new.me }
     {
         let Stage::Put(seal) = self.stage else {
             unreachable!()

@@ -43,7 +43,7 @@ impl<J: Default + Drop> SharedPlaces<J> {
         ensures kept { IsKept seat.old seat.new }
         ensures at { result ≡ PutStep.Again → PutsAt self.now.places cursor.new seat.new.me }
         ensures rests { result ≢ PutStep.Again → RestsAt seat.new.me }
-        ensures moves { PutMoves self.now.places cursor.old seat.old.me.0 (record { seal = seal.number; jobs = held.old.jobs }) result cursor.new seat.new.me.0 }
+        ensures moves { PutMoves self.now.places cursor.old seat.old.me (record { seal = seal.number; jobs = held.old.jobs }) result cursor.new seat.new.me }
         ensures fewer { result ≡ PutStep.Again → put_left self.now.places cursor.new < put_left self.now.places cursor.old }
         ensures done { result ≡ PutStep.Done → held.new.jobs ≡ [] }
         ensures not { result ≢ PutStep.Done → held.new ≡ held.old }
