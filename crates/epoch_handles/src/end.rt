@@ -1,5 +1,5 @@
 //! The end of a collector: what is left is called.
-ghost use Rattle.std.specs.Prelude.{◌≡◌, ℕ, ◌*◌, ◌<◌, ◌≤◌, ◌^◌, None, length, slice_index_or};
+ghost use Rattle.std.specs.Prelude.{◌≡◌, ℕ, ◌*◌, ◌<◌, ◌≤◌, None, length, slice_index_or};
 ghost use Rattle.epoch_tables.specs.SharedPlaces.{IsOf, IsKept};
 ghost use Rattle.epoch_tables.specs.SharedSteps.{RestsAt};
 ghost use Rattle.epoch_bags.specs.Jobs.{IsCalled};
@@ -9,6 +9,7 @@ use crate::collector::Collector;
 use epoch_bags::{Job, Run, SealedBag};
 use epoch_cells::Cells;
 use epoch_tables::shared_places::{PlaceSeat, SharedPlaces};
+use std::mem;
 
 impl<T: Drop> Collector<T> {
     /// Ends the collector: calls every job that is left in its places, drops the values that are left in its cells,
@@ -48,14 +49,21 @@ fn end_one<T: Drop>(places: &SharedPlaces<Job>, seat: &mut PlaceSeat<Job>, cells
     end_bags(cells, &mut bag)
 }
 
+/// Tells that 64 jobs for each of the bags are fewer than 2^64, since their number of bytes is a `usize`.
+fn tell_few<W>(bags: &[Option<SealedBag<Job<W>>>])
+    ensures { 64 * length bags.now < 18446744073709551616 }
+{
+    let _bytes = mem::size_of_val(bags);
+}
+
 /// Calls every job of each bag, the oldest of a bag first, and leaves each place `None`. Answers how many jobs.
 pub fn end_bags<T: Drop, W: Run>(cells: &Cells<T>, bags: &mut [Option<SealedBag<Job<W>>>]) -> u64
-    requires few { length bags.old < 2 ^ 57 }
     ensures count { result ≡ jobs_in bags.old }
     ensures called { (place : ℕ) → place < length bags.old → IsBagCalled (IsCalled W.done) (slice_index_or bags.old place None) }
     ensures few { result ≤ 64 * length bags.old }
     ensures none { (place : ℕ) → place < length bags.old → slice_index_or bags.new place None ≡ None }
 {
+    tell_few(bags);
     let mut count = 0;
     for place in 0..bags.len() {
         count += end_bag(cells, &mut bags[place]);
