@@ -145,6 +145,7 @@ module _ {T W : Type 0} where
             });
         held = (held, ap (λ (z : Machine (Job W)). z.held) leaves);
         counted = counted;
+        full = ap (λ (z : Machine (Job W)). z.full) leaves ∙ full;
       }
 
 -- WHAT FOLLOWS THE PIN AND THE COLLECTION
@@ -215,6 +216,7 @@ module _ {T W : Type 0} where
         ready = refused.ready;
         held = ((λ none. refused.held.0 (held ∙ none)), refused.held.1 ∙ held);
         counted = refused.counted;
+        full = refused.full;
       }
 
 -- HOW A RELEASE COMES THERE

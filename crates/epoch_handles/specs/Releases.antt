@@ -1,5 +1,5 @@
 -- What the parts of a release come to.
-use Rattle.std.specs.Prelude.{◌≡◌, ◌≢◌, [], None, false}
+use Rattle.std.specs.Prelude.{◌≡◌, ◌≢◌, [], None, true, false}
 use Rattle.epoch_bags.specs.Jobs.{IsCalled}
 use Rattle.epoch_bags.specs.declared.job.Job.{Job}
 use Rattle.epoch_tables.specs.SharedSteps.{RestsAt}
@@ -28,13 +28,14 @@ abbrev pub Ends : {T W : Type 0} → (W → Type 0) → Local T W → Local T W 
 Ends {T} {W} done old new = (last : Machine (Job W)) × (last.stage ≡ End) × (new.machine ≡ ended last)
     × Calls (IsCalled done) old.collector.now.places.places old.machine (sight_of old) last (sight_of new)
 
--- The held bag found no place: the participant is not pinned, keeps its position, and holds the bag as before.
+-- The held bag found no place, and the machine says so: the participant is not pinned, keeps its position, and holds the bag as before.
 pub record IsRefused {T W : Type 0} (done : W → Type 0) (old new : Local T W) : Type 0 where
   pub same : IsSame old new
   pub ends : Ends done old new
   pub ready : IsReady new
   pub held : (old.machine.held ≢ []) × (new.machine.held ≡ old.machine.held)
   pub counted : new.machine.guards ≡ 0
+  pub full : new.machine.full ≡ true
 
 -- The position is free, the machine is that of a free position, and the held bag, if it had a job, was left whole in a place.
 pub record IsFreed {T W : Type 0} (done : W → Type 0) (old new : Local T W) : Type 0 where

@@ -1,5 +1,5 @@
 //! Handles: what a thread is a participant by.
-ghost use Rattle.std.specs.Prelude.{◌≡◌, ℕ, ◌+◌, ◌<◌, ◌^◌, ◌↔◌, ◌≢◌, [], ◌∷◌, ◌++◌, ◌⊎◌, IsTrue, IsSome, IsOk, IsErr, Err, IfOk, IfErr, IsOkUnless, Some, None, length};
+ghost use Rattle.std.specs.Prelude.{◌≡◌, true, ℕ, ◌+◌, ◌<◌, ◌^◌, ◌↔◌, ◌≢◌, [], ◌∷◌, ◌++◌, ◌⊎◌, IsTrue, IsSome, IsOk, IsErr, Err, IfOk, IfErr, IsOkUnless, Some, None, length};
 ghost use Rattle.epoch_cells.specs.declared.fault.Fault.TheVariants.{TableFull, StrangerGuard, BagsFull};
 ghost use Rattle.epoch_bags.specs.Jobs.{IsCalled};
 ghost use Rattle.epoch_handles.specs.Handles.{IsReady, IsNew, IsSame, IsBetween, Owns, Does, DoesAndCalls};
@@ -161,6 +161,7 @@ impl<'c, T: Drop, W: Run> LocalHandle<'c, T, W> {
         ensures room { Owns self.old.local guard.now → length self.old.local.machine.held < self.old.local.machine.sizes.bag_jobs → IsOk result × (self.new.local.machine.held ≡ self.old.local.machine.held ++ job ∷ []) }
         ensures kept { Owns self.old.local guard.now → IsOk result → (self.new.local.machine.held ≡ self.old.local.machine.held ++ job ∷ []) ⊎ (self.new.local.machine.held ≡ job ∷ []) }
         ensures err { IsErr result → self.new.local.machine.held ≡ self.old.local.machine.held }
+        ensures found { Owns self.old.local guard.now → IsErr result ↔ (self.new.local.machine.full ≡ true) }
         ensures handed_back { IfErr result (λ refused. refused.value ≡ job) }
     {
         if !self.owns(guard) {
@@ -203,6 +204,7 @@ impl<'c, T: Drop, W: Run> LocalHandle<'c, T, W> {
         ensures full { IfErr result (λ refused. refused.fault ≡ BagsFull) }
         ensures kept { IsOk result → self.new.local.machine.held ≡ job ∷ [] }
         ensures err { IsErr result → self.new.local.machine.held ≡ self.old.local.machine.held }
+        ensures found { IsErr result ↔ (self.new.local.machine.full ≡ true) }
         ensures handed_back { IfErr result (λ refused. refused.value ≡ job) }
     {
         match self.local.defer_behind_a_put(job) {
@@ -232,6 +234,7 @@ impl<'c, T: Drop, W: Run> LocalHandle<'c, T, W> {
         ensures called { Owns self.old.local guard.now → DoesAndCalls W.done self.old.local Flush self.new.local }
         ensures full { Owns self.old.local guard.now → IsErr result → (result ≡ Err BagsFull) × (self.old.local.machine.held ≢ []) × (self.new.local.machine.held ≡ self.old.local.machine.held) }
         ensures empty { Owns self.old.local guard.now → IsOk result → self.new.local.machine.held ≡ [] }
+        ensures found { Owns self.old.local guard.now → IsErr result ↔ (self.new.local.machine.full ≡ true) }
     {
         if !guard.is_protecting() {
             return Ok(());
@@ -284,6 +287,7 @@ impl<'c, T: Drop, W: Run> LocalHandle<'c, T, W> {
         ensures ready { IfErr result (λ back. IsReady back.0.local) }
         ensures held { IfErr result (λ back. (self.entry.local.machine.held ≢ []) × (back.0.local.machine.held ≡ self.entry.local.machine.held)) }
         ensures counted { IfErr result (λ back. back.0.local.machine.guards ≡ 0) }
+        ensures found { IfErr result (λ back. back.0.local.machine.full ≡ true) }
         ensures frees { IfOk result (λ released. IsReleased W.done self.entry.local released.local) }
     {
         let LocalHandle { mut local } = self;
@@ -307,6 +311,7 @@ impl<'c, T: Drop, W: Run> LocalHandle<'c, T, W> {
         ensures ready { IfErr result (λ back. IsReady back.0.local) }
         ensures held { IfErr result (λ back. (self.entry.local.machine.held ≢ []) × (back.0.local.machine.held ≡ self.entry.local.machine.held)) }
         ensures counted { IfErr result (λ back. back.0.local.machine.guards ≡ 0) }
+        ensures found { IfErr result (λ back. back.0.local.machine.full ≡ true) }
         ensures frees { IsOk result → (last : _) × IsReleased W.done self.entry.local last }
     {
         match self.leave() {
@@ -334,6 +339,7 @@ impl<'c, T: Drop, W: Run> LocalHandle<'c, T, W> {
         ensures room { Owns self.old.local guard.now → length self.old.local.machine.held < self.old.local.machine.sizes.bag_jobs → IsOk result × (self.new.local.machine.held ≡ self.old.local.machine.held ++ job ∷ []) }
         ensures kept { Owns self.old.local guard.now → IsOk result → (self.new.local.machine.held ≡ self.old.local.machine.held ++ job ∷ []) ⊎ (self.new.local.machine.held ≡ job ∷ []) }
         ensures err { IsErr result → self.new.local.machine.held ≡ self.old.local.machine.held }
+        ensures found { Owns self.old.local guard.now → IsErr result ↔ (self.new.local.machine.full ≡ true) }
         ensures handed_back { IfErr result (λ refused. refused.value ≡ job) }
     {
         self.defer(guard, job)

@@ -1,5 +1,5 @@
 //! Deferrals: a job is kept in the held bag.
-ghost use Rattle.std.specs.Prelude.{◌≡◌, ℕ, ◌<◌, [], ◌∷◌, ◌++◌, length, IsOk, IsErr, IfErr};
+ghost use Rattle.std.specs.Prelude.{◌≡◌, ◌↔◌, ℕ, ◌<◌, true, false, [], ◌∷◌, ◌++◌, length, IsOk, IsErr, IfErr};
 ghost use Rattle.epoch_handles.specs.Handles.{IsReady, IsSame, Does};
 ghost use Rattle.epoch_machine.specs.declared.machine.Action.TheVariants.{Defer};
 
@@ -19,6 +19,7 @@ impl<'c, T: Drop, W: Run> Local<'c, T, W> {
         ensures ready { IsReady self.new }
         ensures counted { self.new.machine.guards ≡ self.old.machine.guards }
         ensures kept { self.new.machine.held ≡ self.old.machine.held ++ job ∷ [] }
+        ensures found { self.new.machine.full ≡ false }
     {
         self.machine.keep_with_room(job);
     }
@@ -35,6 +36,7 @@ impl<'c, T: Drop, W: Run> Local<'c, T, W> {
         ensures counted { self.new.machine.guards ≡ self.old.machine.guards }
         ensures kept { IsOk result → self.new.machine.held ≡ job ∷ [] }
         ensures err { IsErr result → self.new.machine.held ≡ self.old.machine.held }
+        ensures found { IsErr result ↔ (self.new.machine.full ≡ true) }
         ensures handed_back { IfErr result (λ back. back ≡ job) }
     {
         // Its range shows that the count at the end fits.

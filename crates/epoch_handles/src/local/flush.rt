@@ -21,6 +21,7 @@ impl<'c, T: Drop, W: Run> Local<'c, T, W> {
         ensures counted { self.new.machine.guards ≡ self.old.machine.guards }
         ensures full { result ≡ true → (self.old.machine.held ≢ []) × (self.new.machine.held ≡ self.old.machine.held) }
         ensures not { result ≡ false → self.new.machine.held ≡ [] }
+        ensures found { result ≡ self.new.machine.full }
     {
         let none = self.machine.holds_none();
         self.machine.begin(Action::Flush);

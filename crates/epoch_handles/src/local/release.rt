@@ -39,6 +39,7 @@ impl<'c, T: Drop, W: Run> Local<'c, T, W> {
         ensures ready { result ≡ false → IsReady self.new }
         ensures held { result ≡ false → (self.old.machine.held ≢ []) × (self.new.machine.held ≡ self.old.machine.held) }
         ensures counted { result ≡ false → self.new.machine.guards ≡ 0 }
+        ensures found { result ≡ false → self.new.machine.full ≡ true }
         // where it is accepted: the held bag is whole in a place, and the machine was driven to the store of 0
         ensures frees { result ≡ true → IsReleased W.done self.old self.new }
     {

@@ -19,6 +19,9 @@ returns-then-not-owns-clause-room g c = λ owns _. absurd (not_both c.if-not-own
 pub returns-then-not-owns-clause-kept : goal.returns-then-not-owns-clause-kept
 returns-then-not-owns-clause-kept g c = λ owns _. absurd (not_both c.if-not-owns.true (c.owns.ensures.1 owns))
 
+pub returns-then-not-owns-clause-found : goal.returns-then-not-owns-clause-found
+returns-then-not-owns-clause-found g c = λ owns. absurd (not_both c.if-not-owns.true (c.owns.ensures.1 owns))
+
 -- the bag has room
 
 pub keep_at_once-requires : goal.keep_at_once-requires

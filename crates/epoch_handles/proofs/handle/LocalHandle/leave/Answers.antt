@@ -22,3 +22,6 @@ returns-clause-held g c = c.release-freed.ensures.held c.if-freed.false
 
 pub returns-clause-counted : goal.returns-clause-counted
 returns-clause-counted g c = c.release-freed.ensures.counted c.if-freed.false
+
+pub returns-clause-found : goal.returns-clause-found
+returns-clause-found g c = c.release-freed.ensures.found c.if-freed.false

@@ -1,4 +1,5 @@
-use Rattle.std.proofs.Common.{◌≡◌, ◌∙◌, ℕ, ap, subst, sym, arith, []}
+use Rattle.std.proofs.Common.{◌≡◌, ◌∙◌, ℕ, refl, ap, subst, sym, arith, []}
+use Rattle.std.proofs.lemmas.Bool.{false≢true}
 use Rattle.epoch_bags.specs.declared.job.Job.{Job}
 use Rattle.epoch_machine.specs.declared.machine.Action.TheVariants.{Defer}
 use Rattle.epoch_machine.specs.Machine.{Machine, begun, guards_after}
@@ -59,6 +60,11 @@ returns-then-found_full-clause-ready g c =
     (ap (λ (z : Machine (Job g.row.W.Denot)). z.guards) ends ∙ ap (λ (z : Machine (Job g.row.W.Denot)). guards_after z.action z.guards) is)
     (ap (λ (z : Machine (Job g.row.W.Denot)). z.published) ends ∙ ap (λ (z : Machine (Job g.row.W.Denot)). z.published) is)
 
+-- the machine says so
+pub returns-then-found_full-clause-found : goal.returns-then-found_full-clause-found
+returns-then-found_full-clause-found g c =
+    ((λ _. ap (λ (z : Machine (Job g.row.W.Denot)). z.full) c.end.ensures ∙ sym c.found_full.ensures ∙ c.if-found_full.true), (λ _. refl))
+
 -- the bag is in a place
 pub end-requires-2 : goal.end-requires-2
 end-requires-2 g c =
@@ -92,3 +98,12 @@ returns-clause-ready g c =
     (ap (λ (z : Machine (Job g.row.W.Denot)). z.stage) ends)
     (ap (λ (z : Machine (Job g.row.W.Denot)). z.guards) ends ∙ ap (λ (z : Machine (Job g.row.W.Denot)). guards_after z.action z.guards) is)
     (ap (λ (z : Machine (Job g.row.W.Denot)). z.published) ends ∙ ap (λ (z : Machine (Job g.row.W.Denot)). z.published) is)
+
+-- the machine says so
+pub returns-clause-found : goal.returns-clause-found
+returns-clause-found g c =
+    let h = c.args.self.now in let p = c.put.new.self in let o = c.take.new.self in
+    let at = found_room h.machine c.begin.new.self p.machine c.begin.ensures c.put.ensures.machine (sym c.found_full.ensures ∙ c.if-found_full.false) in
+    let is : o ≡ with_kept h.machine [] c.args.job = kept_alone h.machine p.machine o c.args.job at c.take.ensures in
+    let room = ap (λ (z : Machine (Job g.row.W.Denot)). z.full) c.end-2.ensures ∙ ap (λ (z : Machine (Job g.row.W.Denot)). z.full) is in
+    ((λ err. absurd (false≢true err)), (λ full. absurd (false≢true (sym room ∙ full))))

@@ -33,6 +33,13 @@ returns-then-none-clause-ready g c =
     let comes = scan_begins h c.begin.new.self c.requires.ready c.begin.ensures (sym c.holds_none-none.ensures ∙ c.if-none.true) in
     flush_ready g.W.Run.done h o c.end_uncounted.new.self c.requires.ready c.requires.out (collection_ends g.W.Run.done h (record h { machine = c.begin.new.self }) o comes c.collect.ensures) c.end_uncounted.ensures
 
+-- nothing was put
+pub returns-then-none-clause-found : goal.returns-then-none-clause-found
+returns-then-none-clause-found g c =
+    sym (ap (λ (z : Machine (Job g.row.W.Denot)). z.full) c.end_uncounted.ensures
+    ∙ ap (λ (z : Machine (Job g.row.W.Denot)). z.full) c.collect.ensures.machine
+    ∙ ap (λ (z : Machine (Job g.row.W.Denot)). z.full) c.begin.ensures)
+
 -- WITH A BAG THAT IS PUT
 
 pub put-requires : goal.put-requires

@@ -25,6 +25,10 @@ pub returns-clause-kept : goal.returns-clause-kept
 returns-clause-kept g c =
     ap (λ (z : Machine (Job g.row.W.Denot)). z.held) (kept_at_once c.args.self.now.machine c.keep_with_room.new.self c.args.job c.requires.room c.keep_with_room.ensures)
 
+pub returns-clause-found : goal.returns-clause-found
+returns-clause-found g c =
+    ap (λ (z : Machine (Job g.row.W.Denot)). z.full) (kept_at_once c.args.self.now.machine c.keep_with_room.new.self c.args.job c.requires.room c.keep_with_room.ensures)
+
 pub returns-clause-ready : goal.returns-clause-ready
 returns-clause-ready g c =
     let h = c.args.self.now in let n = c.keep_with_room.new.self in let ready = c.requires.ready in

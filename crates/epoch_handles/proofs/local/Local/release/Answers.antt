@@ -25,6 +25,10 @@ pub returns-clause-counted : goal.returns-clause-counted
 returns-clause-counted g c = λ refused.
     (refused_at_last g.W.Run.done c.args.self.now c.pin_to_leave.new.self c.leave.new.self c.pin_to_leave.ensures.leaving (c.leave.ensures.refused refused)).counted
 
+pub returns-clause-found : goal.returns-clause-found
+returns-clause-found g c = λ refused.
+    (refused_at_last g.W.Run.done c.args.self.now c.pin_to_leave.new.self c.leave.new.self c.pin_to_leave.ensures.leaving (c.leave.ensures.refused refused)).full
+
 -- where the position is free
 pub returns-clause-frees : goal.returns-clause-frees
 returns-clause-frees g c = λ free.
