@@ -1,20 +1,22 @@
 //! The end of a collector: what is left is called.
-ghost use Rattle.std.specs.Prelude.{◌≡◌, ℕ, ◌*◌, ◌<◌, ◌≤◌, None, length, slice_index_or};
-ghost use Rattle.epoch_tables.specs.SharedPlaces.{IsOf, IsKept};
+ghost use Rattle.std.specs.Prelude.{◌≡◌, ℕ, ◌*◌, ◌<◌, ◌≤◌, [], None, length, slice_index_or};
+ghost use Rattle.epoch_tables.specs.SharedPlaces.{IsOf, IsKept, with_claim};
 ghost use Rattle.epoch_tables.specs.SharedSteps.{RestsAt};
 ghost use Rattle.epoch_bags.specs.Jobs.{IsCalled};
-ghost use Rattle.epoch_handles.specs.Ends.{jobs_in, jobs_of, IsBagCalled};
+ghost use Rattle.epoch_handles.specs.Ends.{jobs_in, jobs_of, IsBagCalled, CallsEach};
 
 use crate::collector::Collector;
-use epoch_bags::{Job, Run, SealedBag};
+use epoch_bags::{Job, Run, SealedBag, Work};
 use epoch_cells::Cells;
 use epoch_tables::shared_places::{PlaceSeat, SharedPlaces};
 use std::mem;
 
 impl<T: Drop> Collector<T> {
     /// Ends the collector: calls every job that is left in its places, drops the values that are left in its cells,
-    /// and answers how many jobs it called.
-    pub fn end(self) -> u64 {
+    /// and answers how many jobs it called. It tries once for each place to take a bag out.
+    pub fn end(self) -> u64
+        ensures called { (after : _) × CallsEach ⟦<Work as Run>⟧.done self.places.places (with_claim None [] []) after self.places.places result }
+    {
         let Collector {
             id: _,
             participants: _,
@@ -22,31 +24,46 @@ impl<T: Drop> Collector<T> {
             cells,
             sizes: _,
         } = self;
-        end_places(&places, &cells)
+        let mut seat = places.seat();
+        end_places(&places, &mut seat, &cells)
     }
 }
 
 /// Calls every job that is left in the places, with nobody else at work. Answers how many jobs.
-fn end_places<T: Drop>(places: &SharedPlaces<Job>, cells: &Cells<T>) -> u64 {
-    let mut seat = places.seat();
+fn end_places<T: Drop, W: Run>(
+    places: &SharedPlaces<Job<W>>,
+    seat: &mut PlaceSeat<Job<W>>,
+    cells: &Cells<T>,
+) -> u64
+    requires of { IsOf places.now seat.old }
+    requires rests { RestsAt seat.old.me }
+    ensures { CallsEach W.done places.now.places seat.old.me.0 seat.new.me.0 places.now.places result }
+{
     let mut count = 0;
     for taken in 0..places.places() {
-        count += end_one(places, &mut seat, cells);
+        count += end_one(places, seat, cells);
         let _ = taken;
     }
     count
 }
 
 /// Takes out one bag, and calls its jobs. Answers how many.
-fn end_one<T: Drop>(places: &SharedPlaces<Job>, seat: &mut PlaceSeat<Job>, cells: &Cells<T>) -> u64
+fn end_one<T: Drop, W: Run>(
+    places: &SharedPlaces<Job<W>>,
+    seat: &mut PlaceSeat<Job<W>>,
+    cells: &Cells<T>,
+) -> u64
     requires of { IsOf places.now seat.old }
     requires rests { RestsAt seat.old.me }
     ensures kept { IsKept seat.old seat.new }
     ensures rests { RestsAt seat.new.me }
     ensures few { result ≤ 64 }
+    ensures called { CallsEach W.done places.now.places seat.old.me.0 seat.new.me.0 1 result }
 {
-    let mut bag = [places.take_any(seat)];
-    end_bags(cells, &mut bag)
+    let mut bag = places.take_any(seat);
+    let count = end_bag(cells, &mut bag);
+    let None = bag else { unreachable!() };
+    count
 }
 
 /// Tells that 64 jobs for each of the bags are fewer than 2^64, since their number of bytes is a `usize`.

@@ -1,6 +1,7 @@
 use Rattle.std.proofs.Common.{◌*◌, ◌≤◌}
 use Rattle.epoch_tables.specs.SharedPlaces.{IsOf}
 use Rattle.epoch_tables.specs.SharedSteps.{RestsAt}
+use Rattle.epoch_handles.specs.Ends.{CallsEach}
 use Rattle.epoch_handles.proofs.end.end_places.Given as goal
 
 abbrev pub invariant-loop-taken : goal.invariant-loop-taken
@@ -8,4 +9,5 @@ invariant-loop-taken g l = record {
   of : IsOf l.places l.seat;
   rests : RestsAt l.seat.me;
   few : l.count ≤ 64 * l.taken;
+  called : CallsEach g.W.Run.done l.places.places l.fn.seat.me.0 l.seat.me.0 l.taken l.count;
 }
