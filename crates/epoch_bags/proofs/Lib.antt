@@ -3,3 +3,4 @@ pub mod PlaceWords
 pub mod PlacedBags
 pub mod PlaceSteps
 pub mod ClaimedPlaces
+pub mod CursorMoves

@@ -3,4 +3,5 @@ pub mod Stores
 pub mod Queues
 pub mod PlaceLists
 pub mod Places
+pub mod CursorSteps
 pub mod Jobs

@@ -5,6 +5,8 @@
 //! as in the store until it is taken.
 ghost use Rattle.std.specs.Prelude.{◌≡◌, ◌≢◌, ℕ, ◌+◌, ◌*◌, ◌<◌, ◌≤◌, List, Bool, true, false, Some, [], IfOk, IfErr, length, min, slice_get, ◌⊎◌};
 ghost use Rattle.epoch_bags.specs.Bags.{Sealed};
+ghost use Rattle.epoch_bags.specs.declared.queue.PutStep.{PutStep};
+ghost use Rattle.epoch_bags.specs.declared.queue.TakeStep.{TakeStep};
 ghost use Rattle.epoch_bags.specs.Stores.{AllExpired, how_many, PutsBag, FindsRoom, TakesBag, FindsBag, TakesAny};
 
 mod bag_queue;
@@ -93,6 +95,12 @@ pub trait BagStore: Drop {
     /// How many bags a collection for this epoch, that nobody disturbs, will still take if it is not stopped.
     ghost ahead: { ℕ → Self → Self.Taking → ℕ };
 
+    /// What one step of a put of this bag does to the store and to the cursor, beyond what is said of every store.
+    ghost PutMoves: { Self → Self → Sealed Self.Job → Self.Putting → PutStep → Self.Putting → Type 0 };
+
+    /// What one step of a collection for this epoch does, which leaves this bag in the hand, beyond what is said of every store.
+    ghost TakeMoves: { ℕ → Self → Self → Sealed Self.Job → Self.Taking → TakeStep → Self.Taking → Type 0 };
+
     /// An empty store with room for so many bags, from 1 to [`MOST_BAGS`]. `NoMemory`: an allocation was refused.
     fn with_room(alloc: Global, bags: usize) -> Result<Self, Fault>
         requires some { 0 < bags }
@@ -133,6 +141,9 @@ pub trait BagStore: Drop {
         ensures bag { PutsBag seal.number (queued self.old) held.old result (queued self.new) held.new }
         ensures capacity { capacity self.new ≡ capacity self.old }
 
+        // It is one atomic step, as the store says of its own.
+        ensures moves { PutMoves self.old self.new (record { seal = seal.number; jobs = held.old.jobs }) cursor.old result cursor.new }
+
         // Full comes exactly where each place was seen occupied by some step of this put, which isn't done.
         ensures occupied { result ≢ PutStep.Done → (place : ℕ) → passed cursor.old ≤ place → place < passed cursor.new → slice_get (occupied self.old) place ≡ Some true }
         ensures full { result ≡ PutStep.Full → capacity self.old ≤ passed cursor.new }
@@ -171,6 +182,9 @@ pub trait BagStore: Drop {
         requires { hand.old.jobs ≡ [] }
         ensures bag { TakesBag expiry.number (queued self.old) hand.old result (queued self.new) hand.new }
         ensures capacity { capacity self.new ≡ capacity self.old }
+
+        // It is one atomic step, as the store says of its own.
+        ensures moves { TakeMoves expiry.number self.old self.new hand.new cursor.old result cursor.new }
 
         // Its number falls with each step.
         ensures fewer { 0 < takes_left (capacity self.old) cursor.old → takes_left (capacity self.old) cursor.new < takes_left (capacity self.old) cursor.old }

@@ -4,7 +4,8 @@ use Rattle.std.proofs.lemmas.Bool.{false≢true}
 use Rattle.std.proofs.lemmas.Bool.Decides.{eqb_tells}
 use Rattle.epoch_tables.specs.TableSteps.{after_epoch}
 use Rattle.epoch_tables.specs.SharedPlaces.{PlaceMe, IsKept}
-use Rattle.epoch_tables.specs.SharedSteps.{RestsAt, PutsAt, PutPasses, PutMoves}
+use Rattle.epoch_tables.specs.SharedSteps.{RestsAt, PutsAt, PutMoves}
+use Rattle.epoch_bags.specs.CursorSteps.{PutPasses}
 use Rattle.epoch_bags.specs.declared.queue.places.PutCursor.{PutCursor}
 use Rattle.epoch_bags.specs.declared.queue.places.PutCursor.TheVariants.{Look as PutLook, Claim as PutClaim, Fill}
 use Rattle.epoch_bags.specs.declared.queue.places.TakeCursor.TheVariants.{Look as TakeLook}

@@ -1,6 +1,6 @@
 -- What the replies of a thread's machine tell of the tables that participants share.
 use Rattle.std.specs.Prelude.{◌≡◌, ◌≢◌, ℕ, ◌+◌, ◌*◌, ◌≤◌, List, [], ◌∷◌, ◌++◌}
-use Rattle.epoch_tables.specs.SharedSteps.{IsExpiredWord, PutPasses, TakePasses}
+use Rattle.epoch_bags.specs.CursorSteps.{IsExpiredWord, PutPasses, TakePasses}
 use Rattle.epoch_bags.specs.declared.queue.PutStep.{PutStep}
 use Rattle.epoch_bags.specs.declared.queue.PutStep.TheVariants.{Again as PutAgain, Done}
 use Rattle.epoch_bags.specs.declared.queue.TakeStep.{TakeStep}

@@ -1,20 +1,15 @@
 -- The steps of a put and of a collection over shared places: where a cursor stands, and what each step does.
-use Rattle.std.specs.Prelude.{◌≡◌, ◌≢◌, ℕ, ◌+◌, ◌*◌, ◌<◌, ◌≤◌, List, [], ◌∷◌, ◌++◌, length, ◌==◌, if◌then◌else◌, Option, Some, None}
+use Rattle.std.specs.Prelude.{◌≡◌, ℕ, ◌+◌, ◌*◌, ◌<◌, ◌≤◌, List, [], ◌∷◌, ◌++◌, length, Option, Some, None}
 use Rattle.epoch_bags.specs.Bags.{Sealed, IsExpired}
+use Rattle.epoch_bags.specs.CursorSteps.{IsExpiredWord, PutGoes, TakeGoes}
 use Rattle.epoch_tables.specs.SharedPlaces.{PlaceMe, IsAtHome, with_claim, after_look, after_claim, after_store}
 use Rattle.epoch_tables.specs.declared.shared_places.view.PlaceView.{PlaceView}
 use Rattle.epoch_bags.specs.declared.queue.PutStep.{PutStep}
-use Rattle.epoch_bags.specs.declared.queue.PutStep.TheVariants.{Again as PutAgain, Done, Full}
 use Rattle.epoch_bags.specs.declared.queue.TakeStep.{TakeStep}
-use Rattle.epoch_bags.specs.declared.queue.TakeStep.TheVariants.{Again as TakeAgain, Empty as TakeEnds, Got}
 use Rattle.epoch_bags.specs.declared.queue.places.PutCursor.{PutCursor}
 use Rattle.epoch_bags.specs.declared.queue.places.PutCursor.TheVariants.{Look as PutLook, Claim as PutClaim, Fill}
 use Rattle.epoch_bags.specs.declared.queue.places.TakeCursor.{TakeCursor}
 use Rattle.epoch_bags.specs.declared.queue.places.TakeCursor.TheVariants.{Look as TakeLook, Claim as TakeClaim, Empty}
-
--- this is the word of a place that holds a bag expired for the epoch x
-abbrev pub IsExpiredWord : ℕ → ℕ → Type 0
-IsExpiredWord x word = (seal : ℕ) × (word ≡ 2 * seal + 1) × (seal + 2 ≤ x)
 
 -- WHERE A CURSOR STANDS
 
@@ -42,14 +37,6 @@ module _ {J : Type 0} where
 
 -- WHAT A STEP DOES
 
--- the put goes on behind this place, or has seen each place occupied
-abbrev pub PutPasses : ℕ → ℕ → PutStep → PutCursor → Type 0
-PutPasses places place step next = (next ≡ PutLook (place + 1)) × (step ≡ (if place + 1 == places then Full else PutAgain))
-
--- the collection goes on behind this place, or was at the last one
-abbrev pub TakePasses : ℕ → ℕ → TakeStep → TakeCursor → Type 0
-TakePasses places place step next = (next ≡ TakeLook (place + 1)) × (step ≡ (if place + 1 == places then TakeEnds else TakeAgain))
-
 module _ {J : Type 0} where
   -- a step that found this word, and left the hands as they are
   abbrev pub Finds : PlaceMe J → ℕ → PlaceMe J → Type 0
@@ -64,32 +51,17 @@ module _ {J : Type 0} where
   abbrev pub Leaves : PlaceMe J → Option (Sealed J) → PlaceMe J → Type 0
   Leaves before content after = after ≡ (after_store before.0 content, [])
 
-  -- One step of a put of this sealed bag. A look and a claim find a word, and an occupied place is passed.
+  -- one step of a put of this sealed bag
   abbrev pub PutMoves : ℕ → PutCursor → PlaceMe J → Sealed J → PutStep → PutCursor → PlaceMe J → Type 0
-  PutMoves places (PutLook place) before bag step next after = (word : ℕ) × Finds before word after
-      × (word ≡ 0 → (step ≡ PutAgain) × (next ≡ PutClaim place))
-      × (word ≢ 0 → PutPasses places place step next)
-  PutMoves places (PutClaim place) before bag step next after = (word : ℕ)
-      × (word ≡ 0 → Wins place before word after × (step ≡ PutAgain) × (next ≡ Fill place))
-      × (word ≢ 0 → Finds before word after × PutPasses places place step next)
-  PutMoves places (Fill place) before bag step next after = (step ≡ Done) × Leaves before (Some bag) after
+  PutMoves places cursor before bag step next after =
+      PutGoes places (λ place word. Finds before word after) (λ place word. Wins place before word after) (λ place. Leaves before (Some bag) after) cursor step next
 
-  -- a look of a collection finds a word: that of an expired bag is claimed next, and else the place is passed
-  abbrev pub LooksForBag : ℕ → ℕ → ℕ → PlaceMe J → TakeStep → TakeCursor → PlaceMe J → Type 0
-  LooksForBag places x place before step next after = (word : ℕ) × Finds before word after
-      × (IsExpiredWord x word → (step ≡ TakeAgain) × (next ≡ TakeClaim place word))
-      × ((¬ IsExpiredWord x word) → TakePasses places place step next)
-
-  -- One step of a collection for the epoch x, and what is in the hand after it. Past the last place it touches no word.
-  -- The bag that is got is the very one that was in the slot, since the claim that won it.
+  -- One step of a collection for the epoch x, and what is in the hand after it. The bag that is got is the very one that
+  -- was in the slot, since the claim that won it.
   abbrev pub TakeMoves : ℕ → ℕ → TakeCursor → PlaceMe J → TakeStep → TakeCursor → PlaceMe J → Sealed J → Type 0
-  TakeMoves places x (TakeLook place) before step next after hand = (place ≡ places → (step ≡ TakeEnds) × (after ≡ before))
-      × (place ≢ places → LooksForBag places x place before step next after)
-  TakeMoves places x (TakeClaim place claims) before step next after hand = (word : ℕ)
-      × (word ≡ claims → Wins place before word after × (step ≡ TakeAgain) × (next ≡ Empty place))
-      × (word ≢ claims → Finds before word after × TakePasses places place step next)
-  TakeMoves places x (Empty place) before step next after hand = (step ≡ Got) × (next ≡ TakeLook (place + 1))
-      × Leaves before None after × (before.1 ≡ (place, Some hand) ∷ []) × IsExpired x hand
+  TakeMoves places x cursor before step next after hand =
+      TakeGoes places (λ place word. Finds before word after) (λ place word. Wins place before word after)
+      (λ place. Leaves before None after × (before.1 ≡ (place, Some hand) ∷ []) × IsExpired x hand) (after ≡ before) x cursor step next
 
 -- AN END
 

@@ -171,6 +171,10 @@ impl<J: Default + Drop> BagStore for BagQueue<J> {
 
     ghost ahead = { λ epoch queue cursor. min cursor (first_expired epoch queue.bags) };
 
+    ghost PutMoves = { λ old new bag cursor step next. Unit {0} };
+
+    ghost TakeMoves = { λ epoch old new hand cursor step next. Unit {0} };
+
     fn with_room(alloc: Global, bags: usize) -> Result<BagQueue<J>, Fault> {
         BagQueue::new(alloc, bags)
     }

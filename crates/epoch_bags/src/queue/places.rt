@@ -245,6 +245,7 @@ fn has_bag<J>(places: &Places<J>, place: usize) -> bool
 
 impl<J: Default + Drop> BagStore for Places<J> {
     ghost use Rattle.epoch_bags.specs.Places.{put_passed, put_left, take_left, ReservesAt, ClaimsAt, has_room, bags_ahead};
+    ghost use Rattle.epoch_bags.specs.CursorSteps.{PutStands, TakeStands, PutsInList, TakesFromList};
 
     type Job = J;
 
@@ -277,6 +278,10 @@ impl<J: Default + Drop> BagStore for Places<J> {
     ghost takes_left = { λ places cursor. take_left places cursor };
 
     ghost ahead = { λ epoch places cursor. bags_ahead epoch places cursor };
+
+    ghost PutMoves = { λ old new bag cursor step next. PutStands old cursor → PutsInList old new bag cursor step next };
+
+    ghost TakeMoves = { λ epoch old new hand cursor step next. TakeStands epoch old cursor → TakesFromList old new hand epoch cursor step next };
 
     fn with_room(alloc: Global, bags: usize) -> Result<Places<J>, Fault> {
         Places::new(alloc, bags)

@@ -1,8 +1,13 @@
-use Rattle.std.proofs.Common.{inl, inr, subst, arith, ap, sym, ◌∙◌, ◌+◌, ℕ, List, length, drop}
+use Rattle.std.proofs.Common.{inl, inr, subst, refl, arith, ap, sym, ◌∙◌, ◌+◌, ℕ, List, length, drop}
 use Rattle.epoch_bags.specs.PlaceLists.{PlaceList, IsReservedAt}
 use Rattle.epoch_bags.specs.Places.{put_passed, has_empty, has_room}
 use Rattle.epoch_bags.proofs.PlaceSteps.{room_past, room_passed, room_claimed, room_filled, room_taken, puts_on, passed_one, claims_empty, fills_bag}
 use Rattle.epoch_bags.proofs.ClaimedPlaces.{look_reserves, claim_reserves, fill_reserves, reserves_one, reserves_same, reserves_less, reserves_not, reserves_past}
+use Rattle.epoch_bags.specs.declared.queue.PutStep.TheVariants.{Again, Done, Full}
+use Rattle.epoch_bags.specs.declared.queue.places.PutCursor.TheVariants.{Look as PutLook, Claim as PutClaim, Fill}
+use Rattle.epoch_bags.specs.CursorSteps.{PutPasses, PutStands, PutsInList}
+use Rattle.epoch_bags.proofs.BagLists.{not_some}
+use Rattle.epoch_bags.proofs.CursorMoves.{same_places, put_finds, put_passes, put_wins, put_loses}
 use Rattle.epoch_bags.proofs.queue.places.PlacesBagStore.put_step.Goals as goal
 
 -- the place was empty, so the claim is of a place without a bag
@@ -117,3 +122,52 @@ returns-else-fill-clause-reserves g c place reserved =
     let same = (c.fill.ensures.not c.if-fill.false).0 in
     let before : IsReservedAt c.args.self.now place = subst (λ (s : PlaceList _). IsReservedAt s place) same reserved in
     inr (before, fill_reserves c.args.cursor.now c.in-Fill.place place c.in-Fill.is (reserves_not c.args.self.now c.in-Fill.place place (c.fill.ensures.home c.if-fill.false) before))
+
+-- WHAT IT DOES
+
+pub returns-then-place-places-clause-moves : goal.returns-then-place-places-clause-moves
+returns-then-place-places-clause-moves g c =
+    subst (λ u. PutStands c.args.self.now u → PutsInList c.args.self.now c.args.self.now (record { seal = c.args.seal.number; jobs = c.args.held.now.jobs }) u Full c.args.cursor.now) (sym c.in-Look.is)
+    (λ stands. absurd (omega (arith, stands, c.count-places.ensures.value)))
+
+pub returns-then-look-eq-EMPTY-clause-moves : goal.returns-then-look-eq-EMPTY-clause-moves
+returns-then-look-eq-EMPTY-clause-moves g c =
+    subst (λ u. PutStands c.args.self.now u → PutsInList c.args.self.now c.args.self.now (record { seal = c.args.seal.number; jobs = c.args.held.now.jobs }) u Again (PutClaim c.in-Look.place)) (sym c.in-Look.is)
+    (λ stands. put_finds c.args.self.now c.args.self.now (record { seal = c.args.seal.number; jobs = c.args.held.now.jobs }) c.in-Look.place (sym c.look.ensures ∙ c.if-look-eq-EMPTY.true) refl)
+
+pub returns-else-look-eq-EMPTY-clause-moves : goal.returns-else-look-eq-EMPTY-clause-moves
+returns-else-look-eq-EMPTY-clause-moves g c =
+    subst (λ u. PutStands c.args.self.now u → PutsInList c.args.self.now c.args.self.now (record { seal = c.args.seal.number; jobs = c.args.held.now.jobs }) u c.put_further.result c.put_further.new.cursor) (sym c.in-Look.is)
+    (λ stands. put_passes c.args.self.now c.args.self.now (record { seal = c.args.seal.number; jobs = c.args.held.now.jobs }) c.in-Look.place _ _ (λ zero_word. c.if-look-eq-EMPTY.false (c.look.ensures ∙ zero_word)) refl
+    (subst (λ n. PutPasses n c.in-Look.place c.put_further.result c.put_further.new.cursor) c.count-places.ensures.value (c.put_further.ensures.cursor, c.put_further.ensures.result)))
+
+pub returns-then-place-places-2-clause-moves : goal.returns-then-place-places-2-clause-moves
+returns-then-place-places-2-clause-moves g c =
+    subst (λ u. PutStands c.args.self.now u → PutsInList c.args.self.now c.args.self.now (record { seal = c.args.seal.number; jobs = c.args.held.now.jobs }) u Full c.args.cursor.now) (sym c.in-Claim.is)
+    (λ stands. absurd (omega (arith, stands, c.count-places.ensures.value)))
+
+pub returns-then-claim-clause-moves : goal.returns-then-claim-clause-moves
+returns-then-claim-clause-moves g c =
+    subst (λ u. PutStands c.args.self.now u → PutsInList c.args.self.now c.claim.new.places (record { seal = c.args.seal.number; jobs = c.args.held.now.jobs }) u Again (Fill c.in-Claim.place)) (sym c.in-Claim.is)
+    (λ stands. let won = c.claim.ensures.won c.if-claim.true in put_wins c.args.self.now c.claim.new.places (record { seal = c.args.seal.number; jobs = c.args.held.now.jobs }) c.in-Claim.place won.0 won.1 c.claim.ensures.bags)
+
+pub returns-else-claim-clause-moves : goal.returns-else-claim-clause-moves
+returns-else-claim-clause-moves g c =
+    subst (λ u. PutStands c.args.self.now u → PutsInList c.args.self.now c.claim.new.places (record { seal = c.args.seal.number; jobs = c.args.held.now.jobs }) u c.put_further-in-Claim.result c.put_further-in-Claim.new.cursor) (sym c.in-Claim.is)
+    (λ stands. let lost = c.claim.ensures.lost c.if-claim.false in put_loses c.args.self.now c.claim.new.places (record { seal = c.args.seal.number; jobs = c.args.held.now.jobs }) c.in-Claim.place _ _ lost.0 (same_places c.args.self.now c.claim.new.places lost.1 c.claim.ensures.bags)
+    (subst (λ n. PutPasses n c.in-Claim.place c.put_further-in-Claim.result c.put_further-in-Claim.new.cursor) c.count-places.ensures.value (c.put_further-in-Claim.ensures.cursor, c.put_further-in-Claim.ensures.result)))
+
+pub returns-then-place-places-3-clause-moves : goal.returns-then-place-places-3-clause-moves
+returns-then-place-places-3-clause-moves g c =
+    subst (λ u. PutStands c.args.self.now u → PutsInList c.args.self.now c.args.self.now (record { seal = c.args.seal.number; jobs = c.args.held.now.jobs }) u Full (PutLook c.in-Fill.place)) (sym c.in-Fill.is)
+    (λ stands. absurd (omega (arith, stands.0, c.count-places.ensures.value)))
+
+pub returns-then-fill-clause-moves : goal.returns-then-fill-clause-moves
+returns-then-fill-clause-moves g c =
+    subst (λ u. PutStands c.args.self.now u → PutsInList c.args.self.now c.fill.new.places (record { seal = c.args.seal.number; jobs = c.args.held.now.jobs }) u Done (PutLook (c.in-Fill.place + 1))) (sym c.in-Fill.is)
+    (λ stands. (refl, c.fill.ensures.done c.if-fill.true))
+
+pub returns-else-fill-clause-moves : goal.returns-else-fill-clause-moves
+returns-else-fill-clause-moves g c =
+    subst (λ u. PutStands c.args.self.now u → PutsInList c.args.self.now c.fill.new.places (record { seal = c.args.seal.number; jobs = c.args.held.now.jobs }) u c.put_further-in-Fill.result c.put_further-in-Fill.new.cursor) (sym c.in-Fill.is)
+    (λ stands. absurd (not_some _ stands.1 (c.fill.ensures.home c.if-fill.false)))

@@ -1,7 +1,7 @@
 use Rattle.std.proofs.Common.{◌≡◌, ℕ, ◌∷◌, Option, Some, None, refl, ap, ◌∙◌, arith}
 use Rattle.epoch_bags.specs.Bags.{Sealed, IsExpired}
 use Rattle.epoch_tables.specs.SharedPlaces.{IsAtHome}
-use Rattle.epoch_tables.specs.SharedSteps.{IsExpiredWord}
+use Rattle.epoch_bags.specs.CursorSteps.{IsExpiredWord}
 use Rattle.epoch_tables.proofs.shared_places.places.SharedPlaces.take_step.Goals as goal
 
 -- what is at home under the word of an expired bag is such a bag
