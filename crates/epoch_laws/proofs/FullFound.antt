@@ -1,5 +1,5 @@
--- In every run a reply BagsFull stands only behind steps of a put that found each place occupied.
-use Rattle.std.proofs.Common.{◌≡◌, ℕ, slice_index_or, ◌<◌, List, [], ◌∷◌, length, Option, Some, None, inl, inr, refl, ap, sym, subst, ◌∙◌}
+-- In every run a call is told that the bags are full exactly where its put has found each place occupied.
+use Rattle.std.proofs.Common.{◌≡◌, ◌≢◌, ℕ, slice_index_or, ◌<◌, List, [], ◌∷◌, length, Option, Some, None, inl, inr, refl, ap, sym, subst, ◌∙◌}
 use Rattle.epoch_cells.specs.declared.fault.Fault.{Fault}
 use Rattle.epoch_cells.specs.declared.fault.Fault.TheVariants.{NotRegistered}
 use Rattle.epoch_machine.specs.declared.machine.Stage.TheVariants.{Idle as Resting}
@@ -7,20 +7,21 @@ use Rattle.epoch_laws.specs.declared.step.Call.{Call}
 use Rattle.epoch_laws.specs.declared.step.Entry.{Entry}
 use Rattle.epoch_laws.specs.declared.step.Progress.TheVariants.{Idle}
 use Rattle.epoch_laws.specs.declared.step.Reply.{Reply}
-use Rattle.epoch_laws.specs.declared.step.Reply.TheVariants.{Refused}
+use Rattle.epoch_laws.specs.declared.step.Reply.TheVariants.{Began, Refused}
 use Rattle.epoch_laws.specs.declared.step.Step.{Step}
 use Rattle.epoch_laws.specs.declared.step.Step.TheVariants.{Register, Begin, Go, End as EndStep, EndGo}
 use Rattle.epoch_laws.specs.declared.step.Word.{Word}
 use Rattle.epoch_laws.specs.declared.step.Word.TheVariants.{Free, Unpinned}
-use Rattle.epoch_laws.specs.Full.{found_after, MayTellFull, FullAlong, none_found, FullWhereFound}
+use Rattle.epoch_laws.specs.Full.{Puts, found_after, TellsFull, FullAlong, none_found, FullWhereFound}
 use Rattle.epoch_laws.specs.Places.{Looks}
-use Rattle.epoch_laws.specs.Run.{State, Ending, Open, Emptying, Over, seat_of, word_of, with_seat, with_places, free_seat, seen_by, sight_of, turn_at, refusal, Begins, EndGoes, Sees, Takes, Runs, IsFresh}
+use Rattle.epoch_laws.specs.Run.{State, Ending, Open, Emptying, Over, seat_of, word_of, with_seat, with_places, free_seat, seen_by, sight_of, turn_at, turn_of, refusal, Begins, EndGoes, Sees, Takes, Runs, IsFresh}
 use Rattle.epoch_laws.proofs.SeatLemmas.{seat_there, begin_given, same_or_other}
 use Rattle.epoch_laws.proofs.SeatLinks.{AllLinked, follows_at}
 use Rattle.epoch_laws.proofs.Linked.{step_linked, fresh_linked}
-use Rattle.epoch_laws.proofs.PutStages.{is_put}
+use Rattle.epoch_laws.proofs.SeatsFind.{PutFinds, SameFound, as_before, rest_finds, begun_finds}
+use Rattle.epoch_laws.proofs.PutsFind.{AllFind, same_count, find_along, find_written}
+use Rattle.epoch_laws.proofs.FoundAfter.{others_same, own_same}
 use Rattle.epoch_laws.proofs.FullOfGo.{ShowsFull, goes}
-use Rattle.epoch_laws.proofs.PutsFind.{PutFinds, AllFind, rest_finds, begun_finds, same_count, find_along, find_written}
 
 -- EVERY STEP
 
@@ -30,22 +31,24 @@ module _ (old new : State) (reply : Reply) (found : ℕ → ℕ → Type 0) (h :
 
   -- nothing is found, and no seat is written
   stays : (step : Step) → Sees old step new → ((q : ℕ) → seen_by new q ≡ seen_by old q)
-      → ((q k : ℕ) → found q k → found_after found old step reply q k)
-      → (last : State) → aside_of ≡ last → ((q : ℕ) → seat_of last q ≡ seat_of old q) → AllFind (found_after found old step reply) new
-  stays step sees seen more last e same =
-      find_along old new found _ h (same_count old new step sees) more seen (λ q. ap (λ (s : State). seat_of s q) e ∙ same q)
+      → ((q : ℕ) → SameFound (found q) (found_after found old step reply new q))
+      → (last : State) → aside_of ≡ last → ((q : ℕ) → seat_of last q ≡ seat_of old q)
+      → AllFind (found_after found old step reply new) new
+  stays step sees seen same last e seats =
+      find_along old new found _ h (same_count old new step sees) same seen
+      (λ q. ap (λ (s : State). seat_of s q) e ∙ seats q)
 
   registers : (p : ℕ) → p < length old.seats → Sees old Register new → aside_of ≡ with_seat old p (record (free_seat old.sizes) { word = Unpinned })
       → AllFind found new
-  registers p there sees e = find_written old new found found h (same_count old new Register sees) p _ there (λ q k other was. was)
-      (λ q other. ap (λ (all : List ℕ). slice_index_or all q 0) sees.1) (λ q. ap (λ (s : State). seat_of s q) e)
-      (rest_finds _ _ _ _ refl refl)
+  registers p there sees e = find_written old new found found h (same_count old new Register sees) p _ there
+      (λ q other. as_before (found q)) (λ q other. ap (λ (all : List ℕ). slice_index_or all q 0) sees.1) (λ q. ap (λ (s : State). seat_of s q) e)
+      (rest_finds _ _ _ (record (free_seat old.sizes) { word = Unpinned }) refl tt (λ plain. refl))
 
   begins : (p : ℕ) (c : Call) (fault : Option Fault) → refusal c (seat_of old p) old.tickets ≡ fault → Sees old (Begin p c) new
       → Begins old p c fault reply aside_of → ShowsFull found old new (Begin p c) reply
   begins p c (Some fault) at sees did = subst (ShowsFull found old new (Begin p c)) (sym did.0) (
     tt,
-    find_along old new found _ h (same_count old new (Begin p c) sees) (λ q k was. was)
+    find_along old new found _ h (same_count old new (Begin p c) sees) (λ q. as_before (found q))
         (λ q. ap (λ (all : List ℕ). slice_index_or all q 0) sees.1) (λ q. ap (λ (s : State). seat_of s q) did.1),
   )
   begins p c None at sees did =
@@ -53,17 +56,30 @@ module _ (old new : State) (reply : Reply) (found : ℕ → ℕ → Type 0) (h :
       let rests : (seat_of old p).machine.stage ≡ Resting = follows_at old.sizes (seat_of old p) (linked.seats p) Idle given.idle in
       subst (ShowsFull found old new (Begin p c)) (sym did.0) (
         tt,
-        find_written old new found _ h (same_count old new (Begin p c) sees) p _ (seat_there old p given.taken) (λ q k other was. (other, was))
+        find_written old new found _ h (same_count old new (Begin p c) sees) p _ (seat_there old p given.taken) begun_same
             (λ q other. ap (λ (all : List ℕ). slice_index_or all q 0) sees.1) (λ q. ap (λ (s : State). seat_of s q) did.1)
-            (begun_finds _ _ _ c (seat_of old p) (ap is_put rests)),
+            (begun_finds _ _ _ c (seat_of old p) rests (h p).by_action (λ k was. was.0 refl)),
       )
+    where
+      begun_same : (q : ℕ) → q ≢ p → SameFound (found q) (found_after found old (Begin p c) Began new q)
+      begun_same q other = record { more = λ k was. (other, was); back = λ k was. was.1 }
 
   goes_free : (p : ℕ) → word_of old p ≡ Free → Sees old (Go p) new → reply ≡ Refused NotRegistered → aside_of ≡ old → ShowsFull found old new (Go p) reply
   goes_free p free sees told e = (
-    subst (MayTellFull found old (Go p)) (sym told) tt,
-    stays (Go p) sees seen (λ q k was. inl was) old e (λ q. refl),
+    subst (TellsFull found old (Go p)) (sym told) tt,
+    stays (Go p) sees seen same_found old e (λ q. refl),
   )
     where
+      off : ¬ (Puts (turn_of (seat_of old p)))
+      off puts = subst (λ (w : Word). Puts (turn_at w (seat_of old p).progress (seat_of old p).machine.stage)) free puts
+
+      same_found : (q : ℕ) → SameFound (found q) (found_after found old (Go p) reply new q)
+      same_found q = elim (same_or_other q p) [
+        | inl same ↦ subst (λ (k : ℕ). SameFound (found k) (found_after found old (Go p) reply new k)) (sym same)
+            (own_same found old new reply p off)
+        | inr other ↦ others_same found old new reply p q other
+      ]
+
       own : seen_by new p ≡ seen_by old p
       own = (subst (λ (w : Word). Looks (turn_at w (seat_of old p).progress (seat_of old p).machine.stage) (seat_of old p).machine (seat_of new p).machine (sight_of old p) (sight_of new p)) free sees.0).1
 
@@ -78,7 +94,7 @@ module _ (old new : State) (reply : Reply) (found : ℕ → ℕ → Type 0) (h :
   ends_all ending sees did = by_ending ending did
     where
       along : (last : State) → aside_of ≡ last → ((q : ℕ) → seat_of last q ≡ seat_of old q) → AllFind found new
-      along = stays EndGo sees (λ q. ap (λ (all : List ℕ). slice_index_or all q 0) sees.1) (λ q k was. was)
+      along = stays EndGo sees (λ q. ap (λ (all : List ℕ). slice_index_or all q 0) sees.1) (λ q. as_before (found q))
 
       by_ending : (ending : Ending) → EndGoes old ending reply aside_of → AllFind found new
       by_ending Open did = along old did.1 (λ q. refl)
@@ -90,7 +106,7 @@ module _ (old new : State) (reply : Reply) (found : ℕ → ℕ → Type 0) (h :
   -- a step that neither an end nor a participant goes on with
   still : (new.places ≡ old.places) × (new.seen ≡ old.seen) × (new.ahead ≡ old.ahead) → (last : State) → aside_of ≡ last → ((q : ℕ) → seat_of last q ≡ seat_of old q)
       → AllFind found new
-  still same last e seats = find_along old new found found h (ap length same.0) (λ q k was. was)
+  still same last e seats = find_along old new found found h (ap length same.0) (λ q. as_before (found q))
       (λ q. ap (λ (all : List ℕ). slice_index_or all q 0) same.1) (λ q. ap (λ (s : State). seat_of s q) e ∙ seats q)
 
   step_shown : (step : Step) → Takes old step reply new → ShowsFull found old new step reply
@@ -114,11 +130,9 @@ full_from old new (x ∷ log) found h linked (mid, did, run) =
     let shown : ShowsFull found old mid x.step x.reply = step_shown old mid x.reply found h linked x.step did in
     (shown.0, full_from mid new log _ shown.1 (step_linked old mid x.step x.reply linked did) run)
 
-pub full_along : (s new : State) (log : List Entry) → IsFresh s → (run : Runs s log new) → FullAlong none_found s new log run
-full_along s new log fresh run = full_from s new log none_found all_free (fresh_linked s fresh) run
+pub found_full : (s new : State) (log : List Entry) → IsFresh s → FullWhereFound s log new
+found_full s new log fresh run = full_from s new log none_found all_free (fresh_linked s fresh) run
   where
     all_free : AllFind none_found s
-    all_free p = subst (PutFinds (none_found p) (length s.places) (seen_by s p)) (sym (fresh.free p)) (rest_finds _ _ _ (free_seat s.sizes) refl refl)
-
-pub found_full : (s new : State) (log : List Entry) → IsFresh s → Runs s log new → FullWhereFound s log new
-found_full s new log fresh run = record { run = run; along = full_along s new log fresh run }
+    all_free p = subst (PutFinds (none_found p) (length s.places) (seen_by s p)) (sym (fresh.free p))
+        (rest_finds _ _ _ (free_seat s.sizes) refl tt (λ plain. refl))

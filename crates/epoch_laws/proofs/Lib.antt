@@ -40,6 +40,9 @@ pub mod EventsOfGo
 pub mod EventsLawful
 pub mod CallsAfterDeferrals
 pub mod PutStages
+pub mod SeatsFind
+pub mod PutSteps
+pub mod FoundAfter
 pub mod PutsFind
 pub mod FullOfGo
 pub mod FullFound

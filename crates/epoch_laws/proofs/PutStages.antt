@@ -1,50 +1,116 @@
--- Nothing but the load of a seal leads to a put.
-use Rattle.std.proofs.Common.{◌≡◌, ℕ, ◌+◌, ◌-◌, ◌^◌, ◌==◌, Bool, true, false, List, [], ◌∷◌, length, refl, if◌then◌else◌}
+-- What the put of a call has found of the places, by the stage of its machine, and at the stage behind it.
+use Rattle.std.proofs.Common.{◌≡◌, ◌≢◌, ℕ, ◌+◌, ◌-◌, ◌^◌, ◌<◌, ◌==◌, Bool, true, false, List, [], ◌∷◌, length, refl, arith}
 use Rattle.epoch_machine.specs.declared.machine.Action.{Action}
 use Rattle.epoch_machine.specs.declared.machine.Action.TheVariants.{Pin, Unpin, Repin, Defer, Flush, Release}
 use Rattle.epoch_machine.specs.declared.machine.Stage.{Stage}
-use Rattle.epoch_machine.specs.declared.machine.Stage.TheVariants.{LoadPin, LoadScan, Scan, Advance, Take, LoadSeal, Put, Keep, LoadRepin, StoreUnpinned, End}
+use Rattle.epoch_machine.specs.declared.machine.Stage.TheVariants.{LoadPin, StorePin, ReloadPin, LoadScan, Scan, Advance, Take, Calling, LoadSeal, Put, Keep, LoadRepin, StoreUnpinned, StoreFree, End}
 use Rattle.epoch_machine.specs.Machine.{Machine, is_empty, after_collect, after_pin, after_put, after_unpin, after_job, holds_up, scanned, past_word, first_stage}
 use Rattle.epoch_laws.specs.declared.step.Deferral.{Deferral}
+use Rattle.epoch_laws.specs.Full.{FoundEach}
+use Rattle.epoch_laws.proofs.ToldAtStages.{either_stage}
 
-abbrev pub is_put : Stage → Bool
-is_put (Put s) = true
-is_put _ = false
+-- WHAT IS FOUND
 
-pub either_puts_not : (b : Bool) (s t : Stage) → is_put s ≡ false → is_put t ≡ false → is_put (if b then s else t) ≡ false
-either_puts_not true s t one other = one
-either_puts_not false s t one other = other
+abbrev pub NoneFound : (ℕ → Type 0) → Type 0
+NoneFound found = (k : ℕ) → ¬ (found k)
 
-pub collect_puts_not : (a : Action) (jobs : List Deferral) → is_put (after_collect a jobs) ≡ false
-collect_puts_not Release [] = refl
-collect_puts_not Release (job ∷ jobs) = refl
-collect_puts_not _ jobs = refl
+-- Just the places that a put has seen are found, and it hasn't seen each.
+pub record FoundSeen (found : ℕ → Type 0) (count seen : ℕ) : Type 0 where
+  pub so_far : (k : ℕ) → k < seen → found k
+  pub only : (k : ℕ) → found k → k < seen
+  pub short : 0 < count → seen < count
 
-pub pin_puts_not : (m : Machine Deferral) → is_put (after_pin m) ≡ false
-pin_puts_not m = either_puts_not (m.pins == 1) LoadScan (after_collect m.action m.held) refl (collect_puts_not m.action m.held)
+-- what a call has found that is told so at its end: each place where the bags are full, and else not each
+abbrev pub FoundWhere : (found : ℕ → Type 0) (count : ℕ) → Bool → Type 0
+FoundWhere found count true = FoundEach found count
+FoundWhere found count false = 0 < count → ¬ (FoundEach found count)
 
-pub put_puts_not : (a : Action) (full : Bool) → is_put (after_put a full) ≡ false
-put_puts_not Defer false = refl
-put_puts_not _ full = refl
+pub none_missed : (found : ℕ → Type 0) (count : ℕ) → NoneFound found → FoundWhere found count false
+none_missed found count none some each = none 0 (each 0 some)
 
-pub unpin_puts_not : (a : Action) (full : Bool) → is_put (after_unpin a full) ≡ false
-unpin_puts_not Release false = refl
-unpin_puts_not _ full = refl
+pub seen_missed : (found : ℕ → Type 0) (count seen : ℕ) → FoundSeen found count seen → FoundWhere found count false
+seen_missed found count seen at some each = absurd (omega (arith, at.only seen (each seen (at.short some))))
 
-pub job_puts_not : (m : Machine Deferral) (x k : ℕ) (jobs : List Deferral) → is_put (after_job m x k jobs) ≡ false
-job_puts_not m x k (job ∷ jobs) = refl
-job_puts_not m x k [] = either_puts_not (k + 1 == m.sizes.collect_bags) (after_collect m.action m.held) (Take x (k + 1))
-    (collect_puts_not m.action m.held) refl
+-- BY THE STAGE
 
-pub word_puts_not : (n e k w : ℕ) → is_put (past_word n e k w) ≡ false
-word_puts_not n e k w = either_puts_not (holds_up e w) (Take e 0) (if k + 1 == n then scanned e else Scan e (k + 1)) refl
-    (either_puts_not (k + 1 == n) (scanned e) (Scan e (k + 1))
-    (either_puts_not (e == 2 ^ 63 - 1) (Take e 0) (Advance e) refl refl) refl)
+-- the actions that have a put
+abbrev pub puts_bag : Action → Bool
+puts_bag Defer = true
+puts_bag Flush = true
+puts_bag Release = true
+puts_bag _ = false
 
-pub first_puts_not : (a : Action) (m : Machine Deferral) → is_put (first_stage a m) ≡ false
-first_puts_not Pin m = either_puts_not (m.guards == 0) LoadPin End refl refl
-first_puts_not Unpin m = either_puts_not (m.guards == 1) StoreUnpinned End refl refl
-first_puts_not Repin m = either_puts_not (m.guards == 1) LoadRepin End refl refl
-first_puts_not Defer m = either_puts_not (length m.held == m.sizes.bag_jobs) LoadSeal Keep refl refl
-first_puts_not Flush m = either_puts_not (is_empty m.held) LoadScan LoadSeal refl refl
-first_puts_not Release m = refl
+-- a release pins and collects before its put
+abbrev pub NoneYet : (ℕ → Type 0) → Action → Type 0
+NoneYet found Release = NoneFound found
+NoneYet found _ = Unit {0}
+
+-- Before its put a call has found nothing. A position is given up only where the put wasn't full.
+abbrev pub FoundAt : (found : ℕ → Type 0) (count seen : ℕ) → Action → Bool → Stage → Type 0
+FoundAt found count seen a full LoadPin = NoneYet found a
+FoundAt found count seen a full (StorePin e) = NoneYet found a
+FoundAt found count seen a full ReloadPin = NoneYet found a
+FoundAt found count seen a full LoadScan = NoneYet found a
+FoundAt found count seen a full (Scan e k) = NoneYet found a
+FoundAt found count seen a full (Advance e) = NoneYet found a
+FoundAt found count seen a full (Take x k) = NoneYet found a
+FoundAt found count seen a full (Calling x k) = NoneYet found a
+FoundAt found count seen a full LoadSeal = (puts_bag a ≡ true) × NoneFound found
+FoundAt found count seen a full (Put s) = (puts_bag a ≡ true) × FoundSeen found count seen
+FoundAt found count seen a full StoreFree = full ≡ false
+FoundAt found count seen a full _ = Unit {0}
+
+-- THE STAGES BEHIND A PART OF A CALL
+
+module _ (found : ℕ → Type 0) (count seen : ℕ) where
+  found_collected : (a : Action) (full : Bool) (held : List Deferral) → NoneYet found a
+      → FoundAt found count seen a full (after_collect a held)
+  found_collected Release full [] none = tt
+  found_collected Release full (job ∷ jobs) none = (refl, none)
+  found_collected _ full held none = tt
+
+  pub found_put : (a : Action) (full : Bool) → FoundAt found count seen a full (after_put a full)
+  found_put Defer false = tt
+  found_put _ full = tt
+
+  pub found_unpinned : (a : Action) (full : Bool) → FoundAt found count seen a full (after_unpin a full)
+  found_unpinned Release false = refl
+  found_unpinned _ full = tt
+
+  abbrev Began : Action → Stage → Type 0
+  Began a s = FoundAt found count seen a false s
+
+  pub found_first : (a : Action) (m : Machine Deferral) → NoneFound found → Began a (first_stage a m)
+  found_first Pin m none = either_stage (Began Pin) (m.guards == 0) LoadPin End tt tt
+  found_first Unpin m none = either_stage (Began Unpin) (m.guards == 1) StoreUnpinned End tt tt
+  found_first Repin m none = either_stage (Began Repin) (m.guards == 1) LoadRepin End tt tt
+  found_first Defer m none =
+      either_stage (Began Defer) (length m.held == m.sizes.bag_jobs) LoadSeal Keep (refl, none) tt
+  found_first Flush m none = either_stage (Began Flush) (is_empty m.held) LoadScan LoadSeal tt (refl, none)
+  found_first Release m none = none
+
+-- the same of a machine
+module _ (found : ℕ → Type 0) (count seen : ℕ) (m : Machine Deferral) (none : NoneYet found m.action) where
+  abbrev At : Stage → Type 0
+  At s = FoundAt found count seen m.action m.full s
+
+  pub machine_collected : At (after_collect m.action m.held)
+  machine_collected = found_collected found count seen m.action m.full m.held none
+
+  pub machine_pinned : At (after_pin m)
+  machine_pinned = either_stage At (m.pins == 1) LoadScan (after_collect m.action m.held) none machine_collected
+
+  pub machine_scanned : (e k w : ℕ) → At (past_word m.sizes.positions e k w)
+  machine_scanned e k w = either_stage At (holds_up e w) (Take e 0) _ none
+      (either_stage At (k + 1 == m.sizes.positions) (scanned e) (Scan e (k + 1))
+      (either_stage At (e == 2 ^ 63 - 1) (Take e 0) (Advance e) none none) none)
+
+  pub machine_called : (x k : ℕ) (jobs : List Deferral) → At (after_job m x k jobs)
+  machine_called x k jobs = either_stage At (is_empty jobs) _ (Calling x k)
+      (either_stage At (k + 1 == m.sizes.collect_bags) (after_collect m.action m.held) (Take x (k + 1))
+      machine_collected none) none
+
+-- behind a put there is none
+pub put_ends : (a : Action) (full : Bool) (s : ℕ) → after_put a full ≢ Put s
+put_ends Defer false s = λ is. cc
+put_ends _ full s = λ is. cc

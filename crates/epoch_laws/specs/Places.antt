@@ -1,7 +1,7 @@
 -- What a step sees of the places of the store of bags, and does to them.
 use Rattle.std.specs.Prelude.{◌≡◌, ◌≢◌, ℕ, ◌<◌, ◌≤◌, Bool, true, List, length, Option, Some, slice_get}
 use Rattle.epoch_bags.specs.declared.queue.PutStep.{PutStep}
-use Rattle.epoch_bags.specs.declared.queue.PutStep.TheVariants.{Done, Full}
+use Rattle.epoch_bags.specs.declared.queue.PutStep.TheVariants.{Again, Done, Full}
 use Rattle.epoch_machine.specs.declared.machine.Ask.{Ask}
 use Rattle.epoch_machine.specs.declared.machine.Ask.TheVariants.{LoadEpoch, PutBag, TakeBag}
 use Rattle.epoch_machine.specs.Machine.{Machine, put_heard}
@@ -15,10 +15,12 @@ pub record Sight : Type 0 where
 abbrev pub sight : List Bool → ℕ → Sight
 sight places seen = record { places = places; seen = seen }
 
--- Each place that a step of a put goes past was occupied when the step was taken, unless the bag is in the store. It
--- is full only behind the last place.
+-- Each place that a step of a put goes past was occupied when the step was taken, unless the bag is in the store. A put
+-- doesn't go back, and it is full behind the last place, and only there.
 pub record PutSees (step : PutStep) (old new : Sight) : Type 0 where
   pub occupied : step ≢ Done → (k : ℕ) → old.seen ≤ k → k < new.seen → slice_get old.places k ≡ Some true
+  pub onward : step ≢ Done → old.seen ≤ new.seen
+  pub again : step ≡ Again → new.seen < length old.places
   pub full : step ≡ Full → length old.places ≤ new.seen
   pub places : length new.places ≡ length old.places
 

@@ -6,7 +6,7 @@ ghost use Rattle.epoch_laws.specs.Grace.{KeepsGrace};
 ghost use Rattle.epoch_laws.specs.Tickets.{HoldsEachTicketOnce, NumbersTickets, times_called, times_deferred};
 ghost use Rattle.epoch_laws.specs.Ends.{EndsAtCount};
 ghost use Rattle.epoch_laws.specs.Lawful.{IsLawful};
-ghost use Rattle.epoch_laws.specs.Full.{FullAlong, none_found};
+ghost use Rattle.epoch_laws.specs.Full.{FullWhereFound};
 ghost use Rattle.epoch_laws.specs.Refusals.{RefusedAlong, all_quiet, none_collected};
 
 /// No job is called while a participant that was pinned when it was deferred has stayed pinned.
@@ -39,10 +39,10 @@ pub fn every_run_is_lawful()
     ensures { (s new : State) (log : List Entry) → IsFresh s → Runs s log new → IsLawful log }
 {}
 
-/// A call is refused because the bags are full only where its put found each place of the store occupied, each at a
-/// step that it took since the call began.
+/// A call is refused at its end because the bags are full exactly where its put found each place of the store occupied,
+/// each at a step that it took since the call began: one that looked at the place and didn't put the bag.
 pub fn every_full_reply_found_each_place()
-    ensures { (s new : State) (log : List Entry) → IsFresh s → (run : Runs s log new) → FullAlong none_found s new log run }
+    ensures { (s new : State) (log : List Entry) → IsFresh s → FullWhereFound s log new }
 {}
 
 /// A Begin, a Register or an End that is refused changes nothing. A call that is refused because the bags are full

@@ -1,5 +1,5 @@
 use Rattle.epoch_laws.proofs.laws.every_full_reply_found_each_place.Goals as goal
-use Rattle.epoch_laws.proofs.FullFound.{full_along}
+use Rattle.epoch_laws.proofs.FullFound.{found_full}
 
 pub returns : goal.returns
-returns c s new log fresh run = full_along s new log fresh run
+returns c = found_full
