@@ -40,6 +40,10 @@ IsRead align name tag = (word : ℕ) × Reads align word name tag
 abbrev pub BecomesBelow : (align : ℕ) → (Option Name → ℕ → Type 0) → Option Name → ℕ → Type 0
 BecomesBelow align becomes name tag = (exact : ℕ) × becomes name exact × (tag ≡ exact % align) × (tag < align)
 
+-- It is the word of a pointer that this becomes, whose tag is taken modulo the alignment.
+abbrev pub BecomesWord : (align : ℕ) → (Option Name → ℕ → Type 0) → ℕ → Type 0
+BecomesWord align becomes word = (name : Option Name) × (exact : ℕ) × becomes name exact × (word ≡ word_of name (exact % align))
+
 -- Both become a pointer with one name and one tag.
 abbrev pub BecomesBoth : (Option Name → ℕ → Type 0) → (Option Name → ℕ → Type 0) → Type 0
 BecomesBoth one other = (name : Option Name) × (tag : ℕ) × one name tag × other name tag

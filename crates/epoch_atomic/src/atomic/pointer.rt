@@ -2,7 +2,7 @@
 ghost use Rattle.std.specs.Prelude.{◌≡◌, ℕ, Option, IsSome, IfOk, IfErr, Some};
 ghost use Rattle.epoch_cells.specs.declared.cells.name.Name.{Name};
 ghost use Rattle.epoch_cells.specs.declared.fault.Fault.TheVariants.{CellsFull};
-ghost use Rattle.epoch_atomic.specs.Pointers.{IsUnder, IsPointerWord};
+ghost use Rattle.epoch_atomic.specs.Pointers.{IsUnder, IsPointerWord, BecomesWord};
 
 use crate::atomic::owned::Owned;
 use crate::atomic::shared::Shared;
@@ -26,9 +26,11 @@ pub trait Pointer<'g, T: Pointable>: Sized {
         ensures home { IfOk result (λ shared. takes_cell → IsUnder guard.now.collector.now.id shared.home) }
         ensures full { IfErr result (λ back. takes_cell × (back ≡ self)) };
 
-    /// The word of the pointer that it becomes, as [`Pointer::enter`] says.
+    /// The word of the pointer that it becomes, as [`Pointer::enter`] says: of its name, and of its tag modulo the
+    /// alignment.
     fn enter_word<W>(self, guard: &'g Guard<'_, T, W>) -> Result<u64, Self>
         ensures rule { IfOk result (λ word. IsPointerWord word) }
+        ensures word { IfOk result (λ word. BecomesWord T.ALIGN (becomes self) word) }
         ensures full { IfErr result (λ back. takes_cell × (back ≡ self)) };
 
     /// Undoes [`Pointer::enter`] under the same guard. An [`Owned`] is taken out of its cell again; where somebody
@@ -56,6 +58,7 @@ impl<'g, T: Pointable> Pointer<'g, T> for Shared<'g, T> {
     #[inline(always)]
     fn enter_word<W>(self, _guard: &'g Guard<'_, T, W>) -> Result<u64, Self>
         ensures rule { IfOk result (λ word. IsPointerWord word) }
+        ensures word { IfOk result (λ word. BecomesWord T.ALIGN (λ name tag. (name ≡ self.entry.name) × (tag ≡ self.entry.tag)) word) }
         ensures full { IfErr result (λ back. ⊥ × (back ≡ self.entry)) }
     {
         Ok(pointer_word::<T>(self.name, self.tag))
@@ -90,6 +93,7 @@ impl<'g, T: Pointable + Drop> Pointer<'g, T> for Owned<T> {
     #[inline(always)]
     fn enter_word<W>(self, guard: &'g Guard<'_, T, W>) -> Result<u64, Self>
         ensures rule { IfOk result (λ word. IsPointerWord word) }
+        ensures word { IfOk result (λ word. BecomesWord T.ALIGN (λ name tag. IsSome name × (tag ≡ self.tag)) word) }
         ensures full { IfErr result (λ back. Unit {0} × (back ≡ self)) }
     {
         let Owned { value, tag } = self;
