@@ -53,7 +53,7 @@ module _ {J : Type 0} where
     | inl same ↦ (word ∷ [], ap (λ (z : PlaceMe J). z.0.found) (won same.1).0.2, (word, refl, (λ at. ((won at).1, (won at).2)), (λ other. (lost other).1)))
     | inr differs ↦ (word ∷ [], ap (λ (z : PlaceMe J). z.0.found) (lost differs.1).0, (word, refl, (λ at. ((won at).1, (won at).2)), (λ other. (lost other).1)))
   ]
-  take_told places x (Empty place) next step bag v u (got, goes, is, hand, expired) = ([], adds_none v.0 u.0 (ap (λ (z : PlaceMe J). z.0.found) is), (refl, got, goes))
+  take_told places x (Empty place) next step bag v u (got, goes, (is, hand, expired)) = ([], adds_none v.0 u.0 (ap (λ (z : PlaceMe J). z.0.found) is), (refl, got, goes))
 
   -- a step at the other table finds no word at a place
   silent : (v u : Sight J) → u.places ≡ v.places → Adds v.places.0 [] u.places.0

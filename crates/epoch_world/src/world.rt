@@ -131,7 +131,7 @@ impl<S: BagStore<Job = Deferral>> World<S> {
         ensures tickets { IfOk result (λ replies. (fresh : State) (earlier : List Entry) → IsFresh fresh → Runs fresh earlier self.old → NumbersTickets (earlier ++ entries_of steps.now replies.items)) }
         // Each event stands only where it may.
         ensures lawful { IfOk result (λ replies. (fresh : State) (earlier : List Entry) → IsFresh fresh → Runs fresh earlier self.old → IsLawful (earlier ++ entries_of steps.now replies.items)) }
-        // The bags are told to be full only where the put found each place of the store occupied.
+        // The bags are told to be full exactly where the call's put found each place of the store occupied.
         ensures full { IfOk result (λ replies. (fresh : State) (earlier : List Entry) → IsFresh fresh → Runs fresh earlier self.old → FullWhereFound fresh (earlier ++ entries_of steps.now replies.items) self.new) }
         // When an end is over, every accepted job was called.
         ensures all_called { IfOk result (λ replies. (fresh : State) (earlier : List Entry) → IsFresh fresh → Runs fresh earlier self.old → self.new.ending ≡ Over → (t : ℕ) → times_called t (earlier ++ entries_of steps.now replies.items) ≡ times_deferred t (earlier ++ entries_of steps.now replies.items)) }
@@ -172,7 +172,7 @@ impl<S: BagStore<Job = Deferral>> World<S> {
         ensures tickets { IfOk result (λ replies. (fresh : State) (earlier : List Entry) → IsFresh fresh → Runs fresh earlier self.old → NumbersTickets (earlier ++ call_of participant call replies.items)) }
         // Each event stands only where it may.
         ensures lawful { IfOk result (λ replies. (fresh : State) (earlier : List Entry) → IsFresh fresh → Runs fresh earlier self.old → IsLawful (earlier ++ call_of participant call replies.items)) }
-        // The bags are told to be full only where the put found each place of the store occupied.
+        // The bags are told to be full exactly where the call's put found each place of the store occupied.
         ensures full { IfOk result (λ replies. (fresh : State) (earlier : List Entry) → IsFresh fresh → Runs fresh earlier self.old → FullWhereFound fresh (earlier ++ call_of participant call replies.items) self.new) }
         // Rounds of a participant whom nobody disturbs call every job of the bags in the store.
         ensures rounds { IfOk result (λ replies. (fresh start : State) (earlier since : List Entry) → IsFresh fresh → Runs fresh earlier start → Runs start since self.old → RoundsCallAll start (since ++ call_of participant call replies.items) self.new) }

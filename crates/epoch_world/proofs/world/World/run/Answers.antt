@@ -38,8 +38,7 @@ returns-clause-lawful g c fresh earlier new run =
     record { in_calls = replies_stand fresh _ _ new whole; once = calls.once; deferred = calls.deferred }
 
 pub returns-clause-full : goal.returns-clause-full
-returns-clause-full g c fresh earlier new run =
-    found_full fresh _ _ new (runs_append _ _ _ earlier _ run (runs_whole _ _ c.args.steps.now c.loop-step.step-index _ (omega arith) c.loop-step.invariant.run))
+returns-clause-full g c fresh earlier new run = found_full fresh _ _ new
 
 pub returns-clause-all_called : goal.returns-clause-all_called
 returns-clause-all_called g c fresh earlier new run over =
