@@ -1,11 +1,12 @@
 -- Bags that stand somewhere in a list.
-use Rattle.std.proofs.Common.{◌≡◌, ◌≢◌, ℕ, zero, suc, ◌+◌, ◌-◌, ◌<◌, ◌≤◌, nat_le, nat_lt, ◌&&◌, if◌then◌else◌, ◌⊎◌, inl, inr, ◌∙◌, Bool, false, List, [], ◌∷◌, ◌++◌, Option, None, Some, IsSome, length, option_to_list, slice_get, slice_index_or, true, refl, sym, ap, subst, min, arith, append-nil}
+use Rattle.std.proofs.Common.{◌≡◌, ◌≢◌, ℕ, zero, suc, ◌+◌, ◌-◌, ◌<◌, ◌≤◌, nat_lt, ◌&&◌, if◌then◌else◌, ◌⊎◌, inl, inr, ◌∙◌, Bool, false, List, [], ◌∷◌, ◌++◌, Option, None, Some, IsSome, length, option_to_list, slice_get, slice_index_or, true, refl, sym, ap, subst, min, arith, append-nil}
 use Rattle.std.proofs.lemmas.Bool.{false≢true}
 use Rattle.std.proofs.lemmas.Bool.Decides.{nat_tests}
 use Rattle.std.proofs.Math.Nat.{min-zero, min-le_left, min-eq_left, min-eq_right}
 use Rattle.epoch_bags.specs.Bags.{Sealed, Unsealed, IsExpired}
 use Rattle.epoch_bags.specs.Stores.{IsInserted, AllExpired, PutsJobs, TakesAny}
 use Rattle.epoch_bags.specs.Queues.{first_occupied, first_expired}
+use Rattle.epoch_bags.proofs.NumberTests.{at_most, not_most}
 
 -- behind all others
 pub inserted_last : {J : Type 0} (bag : Sealed J) (old : List (Sealed J)) → IsInserted bag old (old ++ bag ∷ [])
@@ -60,9 +61,6 @@ pub expired_all : {J : Type 0} (x : ℕ) (bags : List (Sealed J)) → AllExpired
 expired_all x [] all = refl
 expired_all x (bag ∷ bags) all =
     ap (λ (t : Bool). if t then first_expired x bags + 1 else 0) (at_most (bag.seal + 2) x all.0) ∙ omega (arith, expired_all x bags all.1)
-  where
-    at_most : (m n : ℕ) → m ≤ n → nat_le m n ≡ true
-    at_most m n le = grind (arith, nat_tests)
 
 -- nothing is there
 pub not_some : {A : Type 0} (o : Option A) → o ≡ None → ¬ (IsSome o)
@@ -77,22 +75,12 @@ none_there x (bag ∷ bags) none = absurd (none (omega arith))
 pub front_late : {J : Type 0} (x : ℕ) (bags : List (Sealed J)) (front : Sealed J) → front ≡ slice_index_or bags 0 front → ¬ (IsExpired x front) → first_expired x bags ≡ 0
 front_late x [] front is late = refl
 front_late {J} x (bag ∷ bags) front is late = ap (λ (t : Bool). if t then first_expired x bags + 1 else 0) (not_most (bag.seal + 2) x (λ le. late (omega (arith, le, ap (λ (b : Sealed J). b.seal) is))))
-  where
-    not_most : (m n : ℕ) → ¬ (m ≤ n) → nat_le m n ≡ false
-    not_most m n not = by_test (nat_le m n) refl
-      where
-        by_test : (t : Bool) → nat_le m n ≡ t → nat_le m n ≡ false
-        by_test true e = let le : m ≤ n = grind (arith, nat_tests) in absurd (not le)
-        by_test false e = e
 
 -- one with an expired front has one more than without it
 pub front_first : {J : Type 0} (x : ℕ) (old new : List (Sealed J)) (front hand : Sealed J) → front ≡ slice_index_or old 0 front → old ≡ hand ∷ new → IsExpired x front → first_expired x old ≡ first_expired x new + 1
 front_first {J} x old new front hand at is expired =
     let same : front ≡ hand = at ∙ ap (λ (bags : List (Sealed J)). slice_index_or bags 0 front) is in
     ap (first_expired x) is ∙ ap (λ (t : Bool). if t then first_expired x new + 1 else 0) (at_most (hand.seal + 2) x (omega (arith, expired, ap (λ (b : Sealed J). b.seal) same)))
-  where
-    at_most : (m n : ℕ) → m ≤ n → nat_le m n ≡ true
-    at_most m n le = grind (arith, nat_tests)
 
 -- the least of none and any number
 pub least_none : (m n : ℕ) → n ≡ 0 → min m n ≡ 0

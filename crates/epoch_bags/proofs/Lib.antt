@@ -1,6 +1,9 @@
+pub mod NumberTests
 pub mod BagLists
 pub mod PlaceWords
 pub mod PlacedBags
 pub mod PlaceSteps
+pub mod BagsAhead
+pub mod RoomFound
 pub mod ClaimedPlaces
 pub mod CursorMoves

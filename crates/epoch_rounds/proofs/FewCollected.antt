@@ -117,9 +117,6 @@ module _ (z : Sizes) (sized : IsSized z) where
         by_action Defer jobs e = (held, (few, calls))
         by_action Flush jobs e = (held, (few, calls))
 
-    none_fits : taken ≡ 0 → taken ≤ z.collect_bags
-    none_fits none = omega arith
-
     pinned : taken ≡ 0 → called ≡ 0 → Fine (after_pin m)
     pinned none silent = pick Fine (m.pins == 1) LoadScan (after_collect m.action m.held) (λ t. (held, (none, silent))) (λ f. collected (omega arith) (omega arith))
 

@@ -1,24 +1,11 @@
 -- What a collection finds that goes down a pile.
-use Rattle.std.proofs.Common.{◌≡◌, ℕ, zero, suc, ◌+◌, ◌≤◌, nat_le, Bool, true, false, min, List, [], ◌∷◌, ◌++◌, take, drop, length, slice_index_or, refl, ap, ◌∙◌, arith, add-one}
-use Rattle.std.proofs.lemmas.Bool.Decides.{nat_tests}
+use Rattle.std.proofs.Common.{◌≡◌, ℕ, zero, suc, ◌+◌, ◌≤◌, nat_le, min, List, [], ◌∷◌, ◌++◌, take, drop, length, slice_index_or, refl, ap, ◌∙◌, arith, add-one}
 use Rattle.std.proofs.Math.Seq.{take-length}
 use Rattle.epoch_bags.specs.Bags.{Sealed, IsExpired}
 use Rattle.epoch_bags.specs.Places.{one_if}
 use Rattle.epoch_bags.specs.Stores.{AllExpired}
+use Rattle.epoch_bags.proofs.NumberTests.{at_most, not_most}
 use Rattle.world_tests.specs.Piles.{expired_count}
-
-counts_one : (m n : ℕ) → m ≤ n → one_if (nat_le m n) ≡ 1
-counts_one m n le = ap one_if (at_most m n le)
-  where
-    at_most : (m n : ℕ) → m ≤ n → nat_le m n ≡ true
-    at_most m n le = grind (arith, nat_tests)
-
-counts_none : (m n : ℕ) → ¬ (m ≤ n) → one_if (nat_le m n) ≡ 0
-counts_none m n not = by_test (nat_le m n) refl
-  where
-    by_test : (t : Bool) → nat_le m n ≡ t → one_if (nat_le m n) ≡ 0
-    by_test true e = let le : m ≤ n = grind (arith, nat_tests) in absurd (not le)
-    by_test false e = ap one_if e
 
 -- where none is left to be looked at, none is expired
 pub none_below : {J : Type 0} (x cursor : ℕ) (bags : List (Sealed J)) → min cursor (length bags) ≡ 0 → expired_count x (take cursor bags) ≡ 0
@@ -38,7 +25,7 @@ one_below x (suc cursor) (suc place) (bag ∷ bags) other is = omega (arith, one
 pub one_passed : {J : Type 0} (x cursor place : ℕ) (bags : List (Sealed J)) (bag : Sealed J) → min cursor (length bags) ≡ place + 1
     → bag ≡ slice_index_or bags place bag → ¬ (IsExpired x bag) → expired_count x (take cursor bags) ≡ expired_count x (take place bags)
 one_passed {J} x cursor place bags bag is at late =
-    omega (arith, one_below x cursor place bags bag is, ap (λ (b : Sealed J). one_if (nat_le (b.seal + 2) x)) at, counts_none (bag.seal + 2) x late)
+    omega (arith, one_below x cursor place bags bag is, ap (λ (b : Sealed J). one_if (nat_le (b.seal + 2) x)) at, ap one_if (not_most (bag.seal + 2) x late))
 
 -- those below one that is taken out stay
 below_kept : {A : Type 0} (place : ℕ) (xs : List A) → place ≤ length xs → take place (take place xs ++ drop (suc place) xs) ≡ take place xs
@@ -56,14 +43,14 @@ one_taken {J} x cursor place old new bag is at expired rest =
       arith,
       one_below x cursor place old bag is,
       ap (λ (b : Sealed J). one_if (nat_le (b.seal + 2) x)) at,
-      counts_one (bag.seal + 2) x expired,
+      ap one_if (at_most (bag.seal + 2) x expired),
       ap (expired_count x) kept,
     )
 
 -- where all are expired, all count
 all_count : {J : Type 0} (x : ℕ) (bags : List (Sealed J)) → AllExpired x bags → expired_count x bags ≡ length bags
 all_count x [] all = refl
-all_count x (bag ∷ bags) all = omega (arith, counts_one (bag.seal + 2) x all.0, all_count x bags all.1)
+all_count x (bag ∷ bags) all = omega (arith, ap one_if (at_most (bag.seal + 2) x all.0), all_count x bags all.1)
 
 pub all_below : {J : Type 0} (x : ℕ) (bags : List (Sealed J)) → AllExpired x bags → expired_count x (take (length bags) bags) ≡ length bags
 all_below x bags all = ap (expired_count x) (take-length bags) ∙ all_count x bags all

@@ -336,6 +336,7 @@ impl<J: Default + Drop> BagStore for Places<J> {
     }
 
     fn start_take(&self) -> TakeCursor {
+        // Counting tells that each word agrees with what is at home.
         let _agrees = count(self);
         TakeCursor::Look(0)
     }

@@ -8,6 +8,8 @@ ghost use Rattle.epoch_laws.specs.Run.{State, IsFresh, Runs, entries_of};
 ghost use Rattle.epoch_laws.specs.Grace.{KeepsGrace};
 ghost use Rattle.epoch_laws.specs.Tickets.{HoldsEachTicketOnce};
 ghost use Rattle.epoch_laws.specs.Lawful.{IsLawful};
+ghost use Rattle.epoch_rounds.specs.Rounds.{RoundsCallAll};
+ghost use Rattle.epoch_rounds.specs.Collected.{CollectsFew};
 
 use epoch_base::{Bag, BagStore, Epoch, Fault, MOST_BAGS, PutStep, SealedBag, TakeStep};
 use epoch_world::{Deferral, Reply, Step, World};
@@ -127,6 +129,8 @@ pub fn run_over_pile(world: &mut World<Reverse>, steps: &[Step]) -> Result<Vec<R
     ensures grace { IfOk result (λ replies. (fresh : State) (earlier : List Entry) → IsFresh fresh → Runs fresh earlier world.old → KeepsGrace (earlier ++ entries_of steps.now replies.items)) }
     ensures once { IfOk result (λ replies. (fresh : State) (earlier : List Entry) → IsFresh fresh → Runs fresh earlier world.old → HoldsEachTicketOnce (earlier ++ entries_of steps.now replies.items) world.new) }
     ensures lawful { IfOk result (λ replies. (fresh : State) (earlier : List Entry) → IsFresh fresh → Runs fresh earlier world.old → IsLawful (earlier ++ entries_of steps.now replies.items)) }
+    ensures rounds { IfOk result (λ replies. (fresh start : State) (earlier since : List Entry) → IsFresh fresh → Runs fresh earlier start → Runs start since world.old → RoundsCallAll start (since ++ entries_of steps.now replies.items) world.new) }
+    ensures few { IfOk result (λ replies. (fresh : State) (earlier : List Entry) → IsFresh fresh → Runs fresh earlier world.old → CollectsFew fresh (earlier ++ entries_of steps.now replies.items) world.new) }
 {
     world.run(steps)
 }

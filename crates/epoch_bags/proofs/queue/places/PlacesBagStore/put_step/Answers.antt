@@ -1,7 +1,8 @@
 use Rattle.std.proofs.Common.{inl, inr, subst, refl, arith, ap, sym, ◌∙◌, ◌+◌, ℕ, List, length, drop}
 use Rattle.epoch_bags.specs.PlaceLists.{PlaceList, IsReservedAt}
 use Rattle.epoch_bags.specs.Places.{put_passed, has_empty, has_room}
-use Rattle.epoch_bags.proofs.PlaceSteps.{room_past, room_passed, room_claimed, room_filled, room_taken, puts_on, passed_one, claims_empty, fills_bag}
+use Rattle.epoch_bags.proofs.PlaceSteps.{passed_one, claims_empty, fills_bag}
+use Rattle.epoch_bags.proofs.RoomFound.{room_past, room_passed, room_claimed, room_filled, room_taken, puts_on}
 use Rattle.epoch_bags.proofs.ClaimedPlaces.{look_reserves, claim_reserves, fill_reserves, reserves_one, reserves_same, reserves_less, reserves_not, reserves_past}
 use Rattle.epoch_bags.specs.declared.queue.PutStep.TheVariants.{Again, Done, Full}
 use Rattle.epoch_bags.specs.declared.queue.places.PutCursor.TheVariants.{Look as PutLook, Claim as PutClaim, Fill}

@@ -1,4 +1,4 @@
-use Rattle.epoch_bags.proofs.PlaceSteps.{free_room}
+use Rattle.epoch_bags.proofs.RoomFound.{free_room}
 use Rattle.epoch_bags.proofs.queue.places.PlacesBagStore.start_put.Goals as goal
 
 pub returns-clause-room : goal.returns-clause-room

@@ -1,5 +1,5 @@
 use Rattle.std.proofs.Common.{ap, min}
-use Rattle.epoch_bags.proofs.PlaceSteps.{all_told}
+use Rattle.epoch_bags.proofs.BagsAhead.{all_told}
 use Rattle.epoch_bags.proofs.queue.places.PlacesBagStore.start_take.Goals as goal
 
 pub returns-clause-ahead : goal.returns-clause-ahead

@@ -1,7 +1,8 @@
 use Rattle.std.proofs.Common.{inl, inr, ◌+◌, arith, refl, subst, ap, sym, ◌∙◌, ◌%◌, ◌/◌}
 use Rattle.epoch_bags.specs.Places.{take_place, bags_ahead}
 use Rattle.epoch_bags.proofs.PlaceWords.{not_both}
-use Rattle.epoch_bags.proofs.PlaceSteps.{finds_none, empties_bag, look_passes, ahead_got, ahead_left, goes_on}
+use Rattle.epoch_bags.proofs.PlaceSteps.{empties_bag}
+use Rattle.epoch_bags.proofs.BagsAhead.{finds_none, look_passes, ahead_got, ahead_left, goes_on}
 use Rattle.epoch_bags.proofs.ClaimedPlaces.{look_claims_none, claim_claims_none, empty_claims, reserves_one, reserves_same, reserves_less, reserves_left, reserves_past}
 use Rattle.epoch_bags.specs.declared.queue.TakeStep.TheVariants.{Again as TakeAgain, Empty as TakeEnds, Got}
 use Rattle.epoch_bags.specs.declared.queue.places.TakeCursor.TheVariants.{Look as TakeLook, Claim as TakeClaim, Empty}
