@@ -10,5 +10,5 @@ module _ {J : Type 0} (before : PlaceView J) where
   looked n m word v u tried most is = let words : List ℕ = tried.0 in (
     words ++ word ∷ [],
     omega (arith, length-append words (word ∷ []), tried.1, most),
-    is ∙ ap (λ (z : PlaceView J). after_look z word) tried.2 ∙ ap (λ (l : List ℕ). with_claim None l before.left) (append_assoc before.found words (word ∷ [])),
+    is ∙ ap (λ (z : PlaceView J). after_look z word) tried.2 ∙ ap (λ (l : List ℕ). with_claim None l before.left before.won) (append_assoc before.found words (word ∷ [])),
   )

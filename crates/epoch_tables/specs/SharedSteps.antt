@@ -42,10 +42,10 @@ module _ {J : Type 0} where
   abbrev pub Finds : PlaceMe J → ℕ → PlaceMe J → Type 0
   Finds before word after = after ≡ (after_look before.0 word, before.1)
 
-  -- A claim that found this word and has won the place. What was at home there is in hand now.
+  -- A claim that found this word and has won the place. Just what was at home there is in hand now.
   abbrev pub Wins : ℕ → PlaceMe J → ℕ → PlaceMe J → Type 0
   Wins place before word after = (home : Option (Sealed J)) × IsAtHome word home
-      × (after ≡ (after_claim before.0 place word, (place, home) ∷ before.1))
+      × (after ≡ (after_claim before.0 place word home, (place, home) ∷ before.1))
 
   -- the place has this content from now on, and nothing is in hand
   abbrev pub Leaves : PlaceMe J → Option (Sealed J) → PlaceMe J → Type 0
@@ -70,6 +70,6 @@ module _ {J : Type 0} where
   -- is that of the bag that is taken out, where one is.
   abbrev pub TriesEach : ℕ → PlaceView J → Option (Sealed J) → PlaceView J → Type 0
   TriesEach places before None after = (words : List ℕ) × (places ≤ length words)
-      × (after ≡ with_claim None (before.found ++ words) before.left)
+      × (after ≡ with_claim None (before.found ++ words) before.left before.won)
   TriesEach places before (Some bag) after = (words : List ℕ)
-      × (after ≡ with_claim None (before.found ++ (words ++ (2 * bag.seal + 1) ∷ [])) (before.left ++ None ∷ []))
+      × (after ≡ with_claim None (before.found ++ (words ++ (2 * bag.seal + 1) ∷ [])) (before.left ++ None ∷ []) (before.won ++ Some bag ∷ []))

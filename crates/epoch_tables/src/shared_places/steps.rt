@@ -45,7 +45,7 @@ impl<J> SharedPlaces<J> {
         ensures kept { IsKept seat.old seat.new }
         ensures answer { IsPlaceWord result }
         ensures won { result ≡ word → (bag : Option (Sealed J)) × IsAtHome word bag
-            × (seat.new.me ≡ (after_claim seat.old.me.0 place word, (place, bag) ∷ seat.old.me.1)) }
+            × (seat.new.me ≡ (after_claim seat.old.me.0 place word bag, (place, bag) ∷ seat.old.me.1)) }
         ensures lost { result ≢ word → seat.new.me ≡ (after_look seat.old.me.0 result, seat.old.me.1) }
     {
         self.table

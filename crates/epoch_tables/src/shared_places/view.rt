@@ -27,4 +27,6 @@ pub struct PlaceView<J> {
     pub found: [u64; 0],
     /// What each of its fills and empties left in the place, the oldest first.
     pub left: LeftBags<J>,
+    /// What was at home in each place that it claimed, the oldest first.
+    pub won: LeftBags<J>,
 }

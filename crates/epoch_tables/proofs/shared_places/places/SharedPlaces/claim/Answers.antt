@@ -14,4 +14,4 @@ compare_exchange-requires g c = let same : c.self.inside.places ≡ c.args.self.
 pub returns-clause-won : goal.returns-clause-won
 returns-clause-won g c = λ hit. let told = c.compare_exchange.ensures.2.2 hit c.args.place c.word_index.ensures in
     let place : ℕ = c.args.place in
-    (told.0, subst (λ (z : ℕ). IsAtHome z told.0) hit told.1, told.2 ∙ ap (λ (z : ℕ). (after_claim c.args.seat.now.me.0 place z, (place, told.0) ∷ c.args.seat.now.me.1)) hit)
+    (told.0, subst (λ (z : ℕ). IsAtHome z told.0) hit told.1, told.2 ∙ ap (λ (z : ℕ). (after_claim c.args.seat.now.me.0 place z told.0, (place, told.0) ∷ c.args.seat.now.me.1)) hit)
