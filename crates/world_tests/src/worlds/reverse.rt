@@ -42,11 +42,17 @@ impl BagStore for Reverse {
 
     ghost occupied = { λ pile. first_occupied pile.capacity (length pile.bags.items) };
 
+    ghost standing = { λ pile. first_occupied pile.capacity (length pile.bags.items) };
+
     ghost Claimed = { λ pile place. ⊥ };
+
+    ghost Reserved = { λ pile place. ⊥ };
 
     ghost passed = { λ cursor. cursor };
 
     ghost has_room = { λ pile cursor. nat_lt cursor pile.capacity && nat_lt (length pile.bags.items) pile.capacity };
+
+    ghost Reserves = { λ cursor place. ⊥ };
 
     ghost Claims = { λ cursor place. ⊥ };
 
@@ -55,6 +61,10 @@ impl BagStore for Reverse {
     ghost takes_left = { λ capacity cursor. cursor };
 
     ghost ahead = { λ epoch pile cursor. expired_count epoch (take cursor pile.bags.items) };
+
+    ghost PutMoves = { λ old new bag cursor step next. Unit {0} };
+
+    ghost TakeMoves = { λ epoch old new hand cursor step next. Unit {0} };
 
     fn with_room(alloc: Global, bags: usize) -> Result<Reverse, Fault> {
         match Vec::with_capacity(alloc, bags) {
