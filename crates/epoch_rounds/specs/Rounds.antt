@@ -81,7 +81,7 @@ pub record PutsAndCalls (p : ℕ) (s : State) (first others later : List Entry) 
   pub ends : Runs done later new
   pub calls_all : AreRounds p (suc (collections (length put.queued) put.sizes.collect_bags)) others → CallsAll put.queued (after ++ others) done
 
--- A run from s to new begins with such a round of a participant whom nobody disturbs.
+-- Said of a run from s to new, wherever it begins with such a round of a participant whom nobody disturbs.
 abbrev pub RoundsCallAll : State → List Entry → State → Type 0
 RoundsCallAll s log new = (p : ℕ) (first others later : List Entry) → log ≡ first ++ (others ++ later)
     → IsQuiet p s → s.epoch + 4 ≤ 2 ^ 63 → (round : IsRound p first) → round.flushed ≡ Done UnitAnswer
