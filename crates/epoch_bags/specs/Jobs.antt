@@ -1,5 +1,6 @@
 -- What the call of a job answers, and that it was made.
 use Rattle.std.specs.Prelude.{◌≡◌, ◌≢◌}
+use Rattle.epoch_cells.specs.declared.cells.name.Name.{Name}
 use Rattle.epoch_bags.specs.declared.job.Job.{Job}
 use Rattle.epoch_bags.specs.declared.job.Job.TheVariants.{Remove, Call}
 use Rattle.epoch_bags.specs.declared.job.Called.{Called}
@@ -14,3 +15,8 @@ Answers (Remove name) called = called ≢ Ran
 abbrev pub IsCalled : {W : Type 0} → (W → Type 0) → Job W → Type 0
 IsCalled done (Call work) = done work
 IsCalled done (Remove name) = Unit {0}
+
+-- where the job is a removal, it was tried
+abbrev pub IsTried : {W : Type 0} → (Name → Type 0) → Job W → Type 0
+IsTried tried (Call work) = Unit {0}
+IsTried tried (Remove name) = tried name

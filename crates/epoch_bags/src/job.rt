@@ -1,12 +1,38 @@
 //! Jobs: what is called once, when nobody who was pinned at its deferral is pinned any more.
 ghost use Rattle.std.specs.Prelude.{◌≡◌, [], ◌∷◌, None, MatchOption, IfSome};
-ghost use Rattle.epoch_bags.specs.Jobs.{Answers, IsCalled};
+ghost use Rattle.epoch_cells.specs.declared.cells.name.Name.{Name};
+ghost use Rattle.epoch_bags.specs.Jobs.{Answers, IsCalled, IsTried};
 
 use crate::bag::SealedBag;
 use epoch_cells::{Cells, Name, Removal};
 
+/// How values are removed by their names.
+pub trait Remove {
+    /// That a removal of the name was tried. Where the type is a parameter, nothing but `remove` shows it.
+    ghost tried: { Name → Type 0 };
+
+    /// Tries to remove the value of this name, as [`Cells::remove`].
+    fn remove<T: Drop>(cells: &Cells<T>, name: Name) -> Removal
+        ensures tried { tried name };
+}
+
+/// Values are removed by their cells: the one way that there is. No value of it is made.
+pub struct FromCells;
+
+impl Remove for FromCells {
+    ghost tried = { λ _. Unit {0} };
+
+    #[inline(always)]
+    fn remove<T: Drop>(cells: &Cells<T>, name: Name) -> Removal {
+        cells.remove(name)
+    }
+}
+
 /// What can be called once.
 pub trait Run: Drop {
+    /// How the values are removed whose removal is deferred: [`FromCells`].
+    type Removing: Remove;
+
     /// That it was called. Where the type is a parameter, nothing but a call shows it.
     ghost done: { Self → Type 0 };
 
@@ -27,6 +53,8 @@ pub struct Work {
 }
 
 impl Run for Work {
+    type Removing = FromCells;
+
     ghost done = { λ work. post work.run tt };
 
     #[inline(always)]
@@ -71,13 +99,14 @@ impl<W: Run> Job<W> {
     pub fn call<T: Drop>(self, cells: &Cells<T>) -> Called
         ensures answers { Answers self result }
         ensures called { IsCalled W.done self }
+        ensures tried { IsTried W.Removing.tried self }
     {
         match self {
             Job::Call(work) => {
                 work.call();
                 Called::Ran
             }
-            Job::Remove(name) => match cells.remove(name) {
+            Job::Remove(name) => match W::Removing::remove(cells, name) {
                 Removal::Destroyed => Called::Destroyed,
                 Removal::HeldElsewhere => Called::HeldElsewhere,
                 Removal::Gone => Called::Gone,
@@ -89,7 +118,7 @@ impl<W: Run> Job<W> {
 impl<W: Run> SealedBag<Job<W>> {
     /// Takes the oldest job out and calls it. `None` exactly where none is left.
     pub fn call_next<T: Drop>(&mut self, cells: &Cells<T>) -> Option<Called>
-        ensures called { MatchOption result (self.old.jobs ≡ []) (λ called. (job : _) × (self.old.jobs ≡ job ∷ self.new.jobs) × Answers job called × IsCalled W.done job) }
+        ensures called { MatchOption result (self.old.jobs ≡ []) (λ called. (job : _) × (self.old.jobs ≡ job ∷ self.new.jobs) × Answers job called × IsCalled W.done job × IsTried W.Removing.tried job) }
         ensures none { result ≡ None → self.new ≡ self.old }
         ensures seal { self.new.seal ≡ self.old.seal }
     {

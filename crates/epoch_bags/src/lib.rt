@@ -8,7 +8,7 @@ pub mod queue;
 
 pub use bag::{BAG_JOBS, Bag, SealedBag};
 pub use epoch::{Epoch, GREATEST_EPOCH};
-pub use job::{Called, Job, Run, Work};
+pub use job::{Called, FromCells, Job, Remove, Run, Work};
 pub use queue::{
     BagQueue, BagStore, MOST_BAGS, Places, PutCursor, PutStep, TakeCursor, TakeStep, take_some,
 };

@@ -1,7 +1,7 @@
 //! Handles: what a thread is a participant by.
 ghost use Rattle.std.specs.Prelude.{◌≡◌, true, ℕ, ◌+◌, ◌<◌, ◌^◌, ◌↔◌, ◌≢◌, [], ◌∷◌, ◌++◌, ◌⊎◌, IsTrue, IsSome, IsOk, IsErr, Err, IfOk, IfErr, IsOkUnless, Some, None, length};
 ghost use Rattle.epoch_cells.specs.declared.fault.Fault.TheVariants.{TableFull, StrangerGuard, BagsFull};
-ghost use Rattle.epoch_bags.specs.Jobs.{IsCalled};
+ghost use Rattle.epoch_bags.specs.Jobs.{IsCalled, IsTried};
 ghost use Rattle.epoch_handles.specs.Handles.{IsReady, IsNew, IsSame, IsBetween, Owns, Does, DoesAndCalls};
 ghost use Rattle.epoch_handles.specs.Releases.{IsReleased};
 ghost use Rattle.epoch_machine.specs.declared.machine.Action.TheVariants.{Pin, Unpin, Repin, Defer, Flush, Release};
@@ -156,6 +156,7 @@ impl<'c, T: Drop, W: Run> LocalHandle<'c, T, W> {
         ensures counted { self.new.local.machine.guards ≡ self.old.local.machine.guards }
         ensures unprotected { guard.now.position ≡ None → IsOk result × (self.new ≡ self.old) }
         ensures at_once { guard.now.position ≡ None → IsCalled W.done job }
+        ensures tried { guard.now.position ≡ None → IsTried W.Removing.tried job }
         ensures stranger { IsSome guard.now.position → ¬ Owns self.old.local guard.now → IfErr result (λ refused. refused.fault ≡ StrangerGuard) × IsErr result × (self.new ≡ self.old) }
         ensures does { IsSome guard.now.position → Owns self.old.local guard.now → Does self.old.local Defer self.new.local × IfErr result (λ refused. refused.fault ≡ BagsFull) }
         ensures room { Owns self.old.local guard.now → length self.old.local.machine.held < self.old.local.machine.sizes.bag_jobs → IsOk result × (self.new.local.machine.held ≡ self.old.local.machine.held ++ job ∷ []) }
@@ -179,6 +180,7 @@ impl<'c, T: Drop, W: Run> LocalHandle<'c, T, W> {
     fn defer_unowned(&self, guard: &Guard<'_, T, W>, job: Job<W>) -> Result<(), Refused<Job<W>>>
         ensures unprotected { guard.now.position ≡ None → IsOk result }
         ensures at_once { guard.now.position ≡ None → IsCalled W.done job }
+        ensures tried { guard.now.position ≡ None → IsTried W.Removing.tried job }
         ensures stranger { IsSome guard.now.position → IfErr result (λ refused. refused.fault ≡ StrangerGuard) × IsErr result }
         ensures handed_back { IfErr result (λ refused. refused.value ≡ job) }
     {
@@ -334,6 +336,7 @@ impl<'c, T: Drop, W: Run> LocalHandle<'c, T, W> {
         ensures counted { self.new.local.machine.guards ≡ self.old.local.machine.guards }
         ensures unprotected { guard.now.position ≡ None → IsOk result × (self.new ≡ self.old) }
         ensures at_once { guard.now.position ≡ None → IsCalled W.done job }
+        ensures tried { guard.now.position ≡ None → IsTried W.Removing.tried job }
         ensures stranger { IsSome guard.now.position → ¬ Owns self.old.local guard.now → IfErr result (λ refused. refused.fault ≡ StrangerGuard) × IsErr result × (self.new ≡ self.old) }
         ensures does { IsSome guard.now.position → Owns self.old.local guard.now → Does self.old.local Defer self.new.local × IfErr result (λ refused. refused.fault ≡ BagsFull) }
         ensures room { Owns self.old.local guard.now → length self.old.local.machine.held < self.old.local.machine.sizes.bag_jobs → IsOk result × (self.new.local.machine.held ≡ self.old.local.machine.held ++ job ∷ []) }

@@ -57,6 +57,7 @@ impl<'c, T: Drop, W: Run> DestroyNow<T> for Guard<'c, T, W> {
     fn destroy_now<'g>(&self, shared: Shared<'g, T>) -> Result<Called, Shared<'g, T>>
         ensures ok { IsOk result ↔ (IsNone self.now.position × IsSome shared.entry.name × IsUnder self.now.collector.now.id shared.entry.home) }
         ensures called { IfOk result (λ called. called ≢ Ran) }
+        ensures tried { IsOk result → IfSome shared.entry.name (λ name. W.Removing.tried name) }
         ensures handed_back { IfErr result (λ back. back ≡ shared.entry) }
     {
         let Some(name) = shared.name_under(home_of(self).id) else {
@@ -81,6 +82,7 @@ impl<'c, T: Drop, W: Run> DeferDestroy<T, W> for LocalHandle<'c, T, W> {
         ensures counted { self.new.local.machine.guards ≡ self.old.local.machine.guards }
         ensures unprotected { guard.now.position ≡ None → self.new ≡ self.old }
         ensures at_once { (name : Name) → guard.now.position ≡ None → Names self.old.local shared.entry name → IsOk result }
+        ensures tried { (name : Name) → guard.now.position ≡ None → Names self.old.local shared.entry name → W.Removing.tried name }
         ensures stranger { IsSome guard.now.position → ¬ Owns self.old.local guard.now → IfErr result (λ refused. refused.fault ≡ StrangerGuard) × IsErr result × (self.new ≡ self.old) }
         ensures pointer { (guard.now.position ≡ None) ⊎ Owns self.old.local guard.now → ((name : Name) → ¬ Names self.old.local shared.entry name) → IfErr result (λ refused. refused.fault ≡ StrangerPointer) × IsErr result × (self.new ≡ self.old) }
         ensures does { (name : Name) → Owns self.old.local guard.now → Names self.old.local shared.entry name → Does self.old.local Defer self.new.local × IfErr result (λ refused. refused.fault ≡ BagsFull) }

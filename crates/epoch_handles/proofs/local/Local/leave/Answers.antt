@@ -1,14 +1,41 @@
-use Rattle.std.proofs.Common.{◌∙◌, false, ap, sym, arith}
+use Rattle.std.proofs.Common.{◌∙◌, true, false, ap, sym, arith}
+use Rattle.std.proofs.lemmas.Bool.{false≢true}
 use Rattle.epoch_bags.specs.Jobs.{IsCalled}
 use Rattle.epoch_bags.specs.declared.job.Job.{Job}
 use Rattle.epoch_machine.specs.declared.machine.Action.{Action}
-use Rattle.epoch_machine.specs.Machine.{Machine, after_put}
+use Rattle.epoch_machine.specs.Machine.{Machine, after_put, is_empty}
 use Rattle.epoch_handles.specs.Handles.{sight_of}
 use Rattle.epoch_handles.proofs.Driving.{calls_of}
 use Rattle.epoch_handles.proofs.Releasing.{was_put, was_full, left_still, freed_behind, refused_behind}
 use Rattle.epoch_handles.proofs.local.Local.leave.Goals as goal
 
 -- the bag found no place
+pub stay-requires : goal.stay-requires
+stay-requires g c =
+    let h = c.args.self.now in let n = c.put.new.self in let puts = c.put.ensures in
+    let is = was_full h.machine n.machine puts.machine (sym c.found_full.ensures ∙ c.if-found_full.true) in (
+      omega arith,
+      (
+        puts.seated,
+        (
+          puts.rests,
+          (
+            ap (λ (z : Machine (Job g.row.W.Denot)). z.stage) is ∙ ap (λ (a : Action). after_put a true) c.requires.action,
+            (
+              ap (λ (z : Machine (Job g.row.W.Denot)). z.action) is ∙ c.requires.action,
+              (
+                ap (λ (z : Machine (Job g.row.W.Denot)). z.full) is,
+                (
+                  (λ none. absurd (false≢true (sym c.if-holds_none.false ∙ c.holds_none.ensures ∙ ap is_empty (sym (ap (λ (z : Machine (Job g.row.W.Denot)). z.held) is) ∙ none)))),
+                  ap (λ (z : Machine (Job g.row.W.Denot)). z.guards) is ∙ c.requires.none,
+                ),
+              ),
+            ),
+          ),
+        ),
+      ),
+    )
+
 pub returns-then-found_full-clause-refused : goal.returns-then-found_full-clause-refused
 returns-then-found_full-clause-refused g c = λ _.
     let h = c.args.self.now in let n = c.put.new.self in let puts = c.put.ensures in

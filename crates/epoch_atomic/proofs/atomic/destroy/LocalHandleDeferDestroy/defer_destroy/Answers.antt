@@ -90,3 +90,18 @@ pub returns-clause-kept : goal.returns-clause-kept
 returns-clause-kept g c = λ name owns names ok.
     let same = same_Some c.in-Some.name name (sym c.in-Some.ensures.name ∙ names.name_of) in
     subst (λ (n : Name). (c.defer.new.self.local.machine.held ≡ c.args.self.now.local.machine.held ++ Remove n ∷ []) ⊎ (c.defer.new.self.local.machine.held ≡ Remove n ∷ [])) same (c.in_default-defer.ensures.kept owns ok)
+
+-- without protection the removal was tried
+pub returns-clause-tried : goal.returns-clause-tried
+returns-clause-tried g c = λ name none names.
+    subst (λ (n : Name). g.W.Removing.Remove.tried n) (same_Some c.in-Some.name name (sym c.in-Some.ensures.name ∙ names.name_of)) (c.in_default-defer.ensures.tried none)
+
+pub returns-in-Err-clause-tried : goal.returns-in-Err-clause-tried
+returns-in-Err-clause-tried g c = λ name none names.
+    subst (λ (n : Name). g.W.Removing.Remove.tried n) (same_Some c.in-Some.name name (sym c.in-Some.ensures.name ∙ names.name_of)) (c.in-Err.ensures.tried none)
+
+pub returns-in_default-clause-tried : goal.returns-in_default-clause-tried
+returns-in_default-clause-tried g c = λ _ _ names. absurd (false≢true (c.in_default.ensures.some.1 (is_some_of names.name_of, under_same c.args.shared.home (sym (c.id.ensures ∙ ap (λ collector. collector.id) c.collector.ensures)) names.under)))
+
+pub returns-then-not-owns-clause-tried : goal.returns-then-not-owns-clause-tried
+returns-then-not-owns-clause-tried g c = λ _ none _. absurd (none_is_not_some none (c.is_protecting.ensures.0 c.if-is_protecting.true))
