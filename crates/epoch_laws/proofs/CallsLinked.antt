@@ -37,7 +37,7 @@ length_without g (first ∷ guards) h = at_first (first == g) refl (length_witho
 pub none_out : (n : ℕ) → (n == 0) ≡ true → n ≡ 0
 none_out n h = grind (arith, nat_tests)
 
-has_room : (n : ℕ) (f : Fault) (b : Bool) → nat_le 64 n ≡ b → (if b then Some f else None) ≡ None → n < 64
+pub has_room : (n : ℕ) (f : Fault) (b : Bool) → nat_le 64 n ≡ b → (if b then Some f else None) ≡ None → n < 64
 has_room n f true full h = absurd (cc)
 has_room n f false room h = grind (arith, nat_tests)
 

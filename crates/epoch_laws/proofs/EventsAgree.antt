@@ -1,5 +1,5 @@
 -- What a log tells of a participant, and how it agrees with the seat.
-use Rattle.std.proofs.Common.{◌≡◌, ◌≢◌, ℕ, ◌<◌, ◌==◌, false, [], length, Some, None, inl, inr, sym, subst, arith, if◌then◌else◌}
+use Rattle.std.proofs.Common.{◌≡◌, ◌≢◌, ℕ, ◌<◌, ◌==◌, true, false, [], length, Some, None, inl, inr, sym, subst, arith, if◌then◌else◌}
 use Rattle.std.proofs.lemmas.Bool.Decides.{nat_tests}
 use Rattle.epoch_machine.specs.Machine.{Machine}
 use Rattle.epoch_laws.specs.declared.step.Call.TheVariants.{Defer}
@@ -9,7 +9,7 @@ use Rattle.epoch_laws.specs.declared.step.Word.TheVariants.{Free}
 use Rattle.epoch_laws.specs.declared.step.Progress.{Progress}
 use Rattle.epoch_laws.specs.declared.step.Progress.TheVariants.{Idle, Driven, CallsNow, Ends}
 use Rattle.epoch_laws.specs.Run.{Seat, State, seat_of, with_seat}
-use Rattle.epoch_laws.specs.Lawful.{Told, counted_after, HasTold, AnswerFits}
+use Rattle.epoch_laws.specs.Lawful.{Told, after_refused, after_done, HasTold, AnswerFits}
 use Rattle.epoch_laws.proofs.SeatLemmas.{seat_written, seat_other, same_or_other}
 use Rattle.epoch_laws.proofs.GuardLists.{has_any}
 use Rattle.epoch_laws.proofs.ToldAtStages.{ToldAt}
@@ -18,23 +18,29 @@ use Rattle.epoch_laws.proofs.ToldAtStages.{ToldAt}
 abbrev pub PinnedByGuards : Told → Type 0
 PinnedByGuards t = t.pinned ≡ has_any t.guards
 
+-- a call that is done leaves the position, the guards and the paused one
+abbrev pub LeavesAll : Told → Type 0
+LeavesAll t = after_done t.call UnitAnswer t ≡ after_refused t
+
 abbrev pub ToldOf : Told → Machine Deferral → Progress → Type 0
 ToldOf t m Idle = (t.call ≡ None) × PinnedByGuards t
 ToldOf t m (Driven c) = (t.call ≡ Some c) × ToldAt t c m.full m.stage
-ToldOf t m CallsNow = (t.call ≡ Some (Defer None)) × PinnedByGuards t
-ToldOf t m (Ends reply) =
-    HasTold t.call t × AnswerFits t.call UnitAnswer × (counted_after t.call UnitAnswer t.guards ≡ t.guards)
-    × PinnedByGuards t
+ToldOf t m CallsNow = (t.call ≡ Some (Defer None)) × (t.did_call_now ≡ false) × PinnedByGuards t
+ToldOf t m (Ends reply) = HasTold t.call t × AnswerFits t.call UnitAnswer × LeavesAll t × PinnedByGuards t
 
 -- what is told of a position that nobody has taken
 pub record IsAway (t : Told) : Type 0 where
+  pub registered : t.registered ≡ false
   pub call : t.call ≡ None
   pub guards : t.guards ≡ []
+  pub paused : t.paused ≡ None
   pub pinned : t.pinned ≡ false
 
 pub record Agrees (t : Told) (seat : Seat) : Type 0 where
   pub guards : t.guards ≡ seat.guards
+  pub paused : t.paused ≡ seat.paused
   pub told : ToldOf t seat.machine seat.progress
+  pub here : seat.word ≢ Free → t.registered ≡ true
   pub away : seat.word ≡ Free → IsAway t
 
 abbrev pub AllAgree : State → (ℕ → Told) → Type 0

@@ -1,24 +1,23 @@
 -- Each event stands in a call where it may, in every run.
-use Rattle.std.proofs.Common.{◌≡◌, ℕ, ◌<◌, List, [], ◌∷◌, length, Option, Some, None, inl, inr, refl, ap, sym, subst, ◌∙◌, slice_index_or}
+use Rattle.std.proofs.Common.{◌≡◌, ℕ, ◌<◌, true, List, [], ◌∷◌, length, Option, Some, None, inl, inr, refl, ap, sym, subst, ◌∙◌, slice_index_or}
 use Rattle.epoch_cells.specs.declared.fault.Fault.{Fault}
-use Rattle.epoch_cells.specs.declared.fault.Fault.TheVariants.{NotRegistered}
+use Rattle.epoch_cells.specs.declared.fault.Fault.TheVariants.{TableFull, NotRegistered, Ended}
 use Rattle.epoch_machine.specs.declared.machine.Sizes.{Sizes}
 use Rattle.epoch_laws.specs.declared.step.Call.{Call}
 use Rattle.epoch_laws.specs.declared.step.Step.{Step}
 use Rattle.epoch_laws.specs.declared.step.Step.TheVariants.{Register, Begin, Go, End as EndStep, EndGo}
 use Rattle.epoch_laws.specs.declared.step.Reply.{Reply}
-use Rattle.epoch_laws.specs.declared.step.Reply.TheVariants.{Began, Refused}
+use Rattle.epoch_laws.specs.declared.step.Reply.TheVariants.{Registered, Began, Refused}
 use Rattle.epoch_laws.specs.declared.step.Entry.{Entry}
-use Rattle.epoch_laws.specs.declared.step.Progress.{Progress}
 use Rattle.epoch_laws.specs.declared.step.Word.TheVariants.{Free, Unpinned}
 use Rattle.epoch_laws.specs.Run.{with_places, Seat, State, Ending, Open, Emptying, Over, seat_of, word_of, with_seat, free_seat, refusal, begun_seat, Begins, EndGoes, Moves, Runs, IsFresh}
-use Rattle.epoch_laws.specs.Lawful.{Told, nothing, after_begin, after_go, told_after, HasToldRefused, MayRegister, MayEnd, MayEndGo, MayReply, MayReplyAll}
-use Rattle.epoch_laws.proofs.SeatLemmas.{seat_written, seat_other, seat_there, same_or_other, IsAccepted, begin_given}
+use Rattle.epoch_laws.specs.Lawful.{Told, nothing, after_begin, after_go, told_after, HasToldRefused, MayEnd, MayEndGo, MayReply, MayReplyAll}
+use Rattle.epoch_laws.proofs.SeatLemmas.{seat_there, IsAccepted, begin_given}
 use Rattle.epoch_laws.proofs.SeatLinks.{AllLinked}
 use Rattle.epoch_laws.proofs.Linked.{step_linked, fresh_linked}
 use Rattle.epoch_laws.proofs.GuardLists.{has_any}
-use Rattle.epoch_laws.proofs.EventsAgree.{ToldOf, Agrees, IsAway, AllAgree, seat_agrees, told_agrees}
-use Rattle.epoch_laws.proofs.EventsAtBegin.{begin_agrees}
+use Rattle.epoch_laws.proofs.EventsAgree.{Agrees, IsAway, AllAgree, seat_agrees, told_agrees}
+use Rattle.epoch_laws.proofs.EventsAtBegin.{begin_agrees, begin_allowed}
 use Rattle.epoch_laws.proofs.EventsOfGo.{tell_go}
 
 -- what a step has to show: its reply may stand, and what is told from then on agrees with the seats
@@ -35,7 +34,7 @@ module _ (old new : State) (told : ℕ → Told) (reply : Reply) (h : AllAgree o
       let ok : IsAccepted c (seat_of old p) old.tickets = begin_given c (seat_of old p) old.tickets e in
       subst (λ (r : Reply). ShowsStep new told (Begin p c) r) (sym did.0)
       (subst (λ (s : State). ShowsStep s told (Begin p c) Began) (sym did.1) (
-        (subst (λ (progress : Progress). ToldOf (told p) (seat_of old p).machine progress) ok.idle (h p).told).0,
+        begin_allowed (told p) (seat_of old p) old.sizes old.tickets (h p) (linked.seats p) c ok,
         seat_agrees old told (λ u. after_begin u c Began) p (begun_seat c (seat_of old p)) h
             (seat_there old p ok.taken)
             (begin_agrees (told p) (seat_of old p) old.sizes old.tickets (h p) (linked.seats p) c ok),
@@ -56,20 +55,30 @@ module _ (old new : State) (told : ℕ → Told) (reply : Reply) (h : AllAgree o
   abbrev taken : Seat
   taken = record (free_seat old.sizes) { word = Unpinned }
 
-  registered : (p : ℕ) → p < length old.seats → word_of old p ≡ Free → new ≡ with_seat old p taken → AllAgree new told
-  registered p there free e = subst (λ (s : State). AllAgree s told) (sym e) (λ q. elim (same_or_other q p) [
-    | inl same ↦ subst (λ (k : ℕ). Agrees (told k) (seat_of (with_seat old p taken) k)) (sym same)
-        (subst (λ (at : Seat). Agrees (told p) at) (sym (seat_written old p taken there)) own)
-    | inr ne ↦ subst (λ (at : Seat). Agrees (told q) at) (sym (seat_other old p q taken ne)) (h q)
-  ])
+  registered : (p : ℕ) → p < length old.seats → word_of old p ≡ Free → reply ≡ Registered p
+      → new ≡ with_seat old p taken → ShowsStep new told Register reply
+  registered p there free told_so e = subst (λ (r : Reply). ShowsStep new told Register r) (sym told_so)
+      (subst (λ (s : State). ShowsStep s told Register (Registered p)) (sym e) (
+        away.registered,
+        seat_agrees old told (λ u. record u { registered = true }) p taken h there own,
+      ))
     where
-      own : Agrees (told p) taken
-      own = let away : IsAway (told p) = (h p).away free in
-          record {
-            guards = away.guards;
-            told = (away.call, away.pinned ∙ sym (ap has_any away.guards));
-            away = λ still_free. absurd (cc);
-          }
+      away : IsAway (told p)
+      away = (h p).away free
+
+      own : Agrees (record (told p) { registered = true }) taken
+      own = record {
+        guards = away.guards;
+        paused = away.paused;
+        told = (away.call, away.pinned ∙ sym (ap has_any away.guards));
+        here = λ word. refl;
+        away = λ still_free. absurd (cc);
+      }
+
+  -- a registration that is refused
+  unregistered : (fault : Fault) → reply ≡ Refused fault → new ≡ old → ShowsStep new told Register reply
+  unregistered fault told_so e = subst (λ (r : Reply). ShowsStep new told Register r) (sym told_so)
+      (tt, untold_along old e refl refl)
 
   -- a Go of a position that is free
   away_shown : (p : ℕ) → word_of old p ≡ Free → reply ≡ Refused NotRegistered → new ≡ old
@@ -92,9 +101,9 @@ module _ (old new : State) (told : ℕ → Told) (reply : Reply) (h : AllAgree o
   end_shown (Emptying [] n) (inr did) = (subst MayEndGo (sym did.1) tt, untold_along _ did.2 refl refl)
 
   step_shown : (step : Step) → Moves old step reply new → ShowsStep new told step reply
-  step_shown Register (inl did) = (subst MayRegister (sym did.5) tt, registered did.0 did.2 did.3 did.6)
-  step_shown Register (inr (inl did)) = (subst MayRegister (sym did.2) tt, untold_along old did.3 refl refl)
-  step_shown Register (inr (inr did)) = (subst MayRegister (sym did.1) tt, untold_along old did.2 refl refl)
+  step_shown Register (inl did) = registered did.0 did.2 did.3 did.5 did.6
+  step_shown Register (inr (inl did)) = unregistered TableFull did.2 did.3
+  step_shown Register (inr (inr did)) = unregistered Ended did.1 did.2
   step_shown (Begin p c) did = begin_shown p c (refusal c (seat_of old p) old.tickets) refl did
   step_shown (Go p) (inl did) = away_shown p did.0 did.1 did.2
   step_shown (Go p) (inr did) =
@@ -122,8 +131,10 @@ replies_stand s new log fresh run = replies_from s new log (λ p. nothing) all_f
     none_told : Agrees nothing (free_seat s.sizes)
     none_told = record {
       guards = refl;
+      paused = refl;
       told = (refl, refl);
-      away = λ free. record { call = refl; guards = refl; pinned = refl };
+      here = λ word. absurd (word refl);
+      away = λ free. record { registered = refl; call = refl; guards = refl; paused = refl; pinned = refl };
     }
 
     all_free : AllAgree s (λ p. nothing)

@@ -11,7 +11,6 @@ use Rattle.epoch_machine.specs.declared.machine.Stage.TheVariants.{Idle as Resti
 use Rattle.epoch_machine.specs.declared.machine.Answer.TheVariants.{Stored, Job}
 use Rattle.epoch_machine.specs.Machine.{Machine, with_stage, after_pin, ask_at, hears, put_heard, took_heard, gives}
 use Rattle.epoch_laws.specs.declared.step.Call.{Call}
-use Rattle.epoch_laws.specs.declared.step.Call.TheVariants.{Defer}
 use Rattle.epoch_laws.specs.declared.step.Answer.TheVariants.{Unit as UnitAnswer, Released}
 use Rattle.epoch_laws.specs.declared.step.Step.TheVariants.{Go}
 use Rattle.epoch_laws.specs.declared.step.Reply.{Reply}
@@ -22,7 +21,7 @@ use Rattle.epoch_laws.specs.declared.step.Word.TheVariants.{Free, Unpinned, Pinn
 use Rattle.epoch_laws.specs.declared.step.Progress.{Progress}
 use Rattle.epoch_laws.specs.declared.step.Progress.TheVariants.{Idle, Driven, CallsNow, Ends}
 use Rattle.epoch_laws.specs.Run.{Seat, State, seat_of, word_of, number_of, with_seat, with_word, with_machine, free_seat, end_reply, ended_seat, Drives, Goes}
-use Rattle.epoch_laws.specs.Lawful.{Told, after_go, told_after, counted_after, MayPin, MayUnpin, MayRepin, MayDefer, MayCall, MayCallNow, HasTold, AnswerFits, HasToldRefused, MayTell}
+use Rattle.epoch_laws.specs.Lawful.{Told, after_done, after_go, told_after, MayPin, MayUnpin, MayRepin, MayDefer, MayCall, MayCallNow, HasTold, AnswerFits, HasToldRefused, MayTell}
 use Rattle.epoch_laws.proofs.SeatLemmas.{seat_there}
 use Rattle.epoch_laws.proofs.SeatLinks.{action_of, BeganUnder, IsDriven, IsLinked, follows_at}
 use Rattle.epoch_laws.proofs.GuardLists.{has_any, none_is}
@@ -33,6 +32,10 @@ use Rattle.epoch_laws.proofs.EventsAtEnd.{Tells, end_agrees}
 -- what a step of p has to show: its reply may stand, and what is told from then on agrees with the seats
 abbrev pub Shows : State → (ℕ → Told) → ℕ → Reply → Type 0
 Shows new told p reply = MayTell p (told p) reply × AllAgree new (λ q. told_after q (told q) (Go p) reply)
+
+-- an event of a call under way changes none of these
+abbrev KeepsCall : Told → Told → Type 0
+KeepsCall t u = (u.registered ≡ t.registered) × (u.call ≡ t.call) × (u.guards ≡ t.guards) × (u.paused ≡ t.paused)
 
 module _ (old new : State) (told : ℕ → Told) (reply : Reply) (h : AllAgree old told) (p : ℕ)
     (taken : word_of old p ≢ Free) (linked : IsLinked old.sizes (seat_of old p)) where
@@ -83,18 +86,20 @@ module _ (old new : State) (told : ℕ → Told) (reply : Reply) (h : AllAgree o
     in_call P may = subst P (sym told_call.0) may
 
     -- the call goes on
-    goes_on : (w : Word) (n : Machine Deferral) (u : Told) → u.call ≡ t.call → u.guards ≡ t.guards → w ≢ Free
-        → ToldAt u c n.full n.stage → Agrees u (with_word seat w n)
-    goes_on w n u call guards kept at = record {
+    goes_on : (w : Word) (n : Machine Deferral) (u : Told) → KeepsCall t u → w ≢ Free → ToldAt u c n.full n.stage
+        → Agrees u (with_word seat w n)
+    goes_on w n u (registered, call, guards, paused) kept at = record {
       guards = guards ∙ (h p).guards;
+      paused = paused ∙ (h p).paused;
       told = subst (λ (progress : Progress). ToldOf u n progress) (sym drive) (call ∙ told_call.0, at);
+      here = λ word. registered ∙ (h p).here taken;
       away = λ free. absurd (kept free);
     }
 
     -- the step tells nothing, and the machine goes on
     steps : (n : Machine Deferral) (last : State) → ToldAt t c n.full n.stage
         → reply ≡ Stepped → new ≡ last → Writes last (with_machine seat n) → Goal
-    steps n last at = tells Stepped (with_machine seat n) last (tt, goes_on seat.word n t refl refl taken at)
+    steps n last at = tells Stepped (with_machine seat n) last (tt, goes_on seat.word n t (refl, refl, refl, refl) taken at)
 
     moves : (s : Stage) → At s
         → (reply ≡ Stepped) × (new ≡ with_seat old p (with_machine seat (with_stage m s))) → Goal
@@ -123,16 +128,18 @@ module _ (old new : State) (told : ℕ → Told) (reply : Reply) (h : AllAgree o
         in_call (λ call. HasTold call t) (subst (λ (d : Call). HasTold (Some d) t) (sym told.0) (told.1, told.2)),
         in_call (λ call. AnswerFits call Released) (subst (λ (d : Call). AnswerFits (Some d) Released) (sym told.0) tt),
       ),
-      record {
-        guards = none;
-        told = (refl, on ∙ sym (ap has_any none));
-        away = λ free. record { call = refl; guards = none; pinned = on };
-      },
+      subst (λ (call : Option Call). Agrees (after_done call Released t) (free_seat old.sizes))
+          (sym (told_call.0 ∙ ap Some told.0)) (record {
+            guards = none;
+            paused = refl;
+            told = (refl, on ∙ sym (ap has_any none));
+            here = λ word. absurd (word refl);
+            away = λ free. record { registered = refl; call = refl; guards = none; paused = refl; pinned = on };
+          }),
     )
       where
-        none : counted_after t.call Released t.guards ≡ []
-        none = ap (λ (call : Option Call). counted_after call Released t.guards) (told_call.0 ∙ ap Some told.0)
-            ∙ none_is t.guards (subst (λ (d : Call). BeganUnder d t.guards) told.0 under)
+        none : t.guards ≡ []
+        none = none_is t.guards (subst (λ (d : Call). BeganUnder d t.guards) told.0 under)
 
     tell_drive : (s : Stage) → At s → Drives old p seat c s (ask_at s) reply new → Goal
     tell_drive Resting (told, on) did = absurd told
@@ -140,7 +147,7 @@ module _ (old new : State) (told : ℕ → Told) (reply : Reply) (h : AllAgree o
     tell_drive (StorePin e) (told, on) did =
         tells (PinnedReply p) (with_word seat (Pinned e) (hears m (StorePin e) Stored)) _ (
           (refl, in_call (λ call. MayPin call t.guards) told.0, told.1),
-          goes_on (Pinned e) _ (after_go t (PinnedReply p)) refl refl (λ free. cc) ((told.0, refl, told.2), refl),
+          goes_on (Pinned e) _ (after_go t (PinnedReply p)) (refl, refl, refl, refl) (λ free. cc) ((told.0, refl, told.2), refl),
         ) did.0 did.1 (λ q. refl)
     tell_drive ReloadPin at did = moves (after_pin m) (machine_pinned t c m drives under at) did
     tell_drive LoadScan at did = moves (Scan old.epoch 0) at did
@@ -152,7 +159,7 @@ module _ (old new : State) (told : ℕ → Told) (reply : Reply) (h : AllAgree o
     tell_drive (Calling x k) (told, on) (job, jobs, hand, told_so, e) =
         tells (CalledReply job.ticket Ran) (with_machine seat (gives m (Calling x k) jobs)) _ (
           (in_call MayCall (may_call t c under told), on),
-          goes_on seat.word _ t refl refl taken (machine_called t c m drives under x k jobs told on),
+          goes_on seat.word _ t (refl, refl, refl, refl) taken (machine_called t c m drives under x k jobs told on),
         ) told_so e (λ q. refl)
     tell_drive LoadSeal at did = moves (Put old.epoch) at did
     tell_drive (Put seal) at (step, queued, told_so, puts, e) = tell_put seal step _ at told_so e (λ q. refl)
@@ -160,20 +167,20 @@ module _ (old new : State) (told : ℕ → Told) (reply : Reply) (h : AllAgree o
         let job : Deferral = record { ticket = old.tickets; removes = None } in
         tells (Deferred old.tickets) (with_machine seat (hears m Keep (Job job))) _ (
           (in_call MayDefer told.0, told.1),
-          goes_on seat.word _ (after_go t (Deferred old.tickets)) refl refl taken
+          goes_on seat.word _ (after_go t (Deferred old.tickets)) (refl, refl, refl, refl) taken
               (told_kept t c m.full old.tickets under told.0 told.2 on),
         ) did.0 did.1 (λ q. refl)
     tell_drive LoadRepin at did = moves _ (machine_reloaded t c m drives under old.epoch at) did
     tell_drive (StoreRepin e) (told, on) did =
         tells (Repinned p) (with_word seat (Pinned e) (hears m (StoreRepin e) Stored)) _ (
           (refl, in_call (λ call. MayRepin call t.guards) told.0, told.1),
-          goes_on (Pinned e) _ (after_go t (Repinned p)) refl refl (λ free. cc) (told.0, on),
+          goes_on (Pinned e) _ (after_go t (Repinned p)) (refl, refl, refl, refl) (λ free. cc) (told.0, on),
         ) did.0 did.1 (λ q. refl)
     tell_drive ReloadRepin (told, on) did = moves End (told_repinned t c m.full under told on) did
     tell_drive StoreUnpinned (told, on) did =
         tells (UnpinnedReply p) (with_word seat Unpinned (hears m StoreUnpinned Stored)) _ (
           (refl, in_call (λ call. MayUnpin call t.guards t.did_pin) told.0, told.1),
-          goes_on Unpinned _ (after_go t (UnpinnedReply p)) refl refl (λ free. cc)
+          goes_on Unpinned _ (after_go t (UnpinnedReply p)) (refl, refl, refl, refl) (λ free. cc)
               (machine_unpinned t c m drives under p told.0),
         ) did.0 did.1 (λ q. refl)
     tell_drive StoreFree at did = tells (Done Released) (free_seat old.sizes) _ (freed at) did.0 did.1 (λ q. refl)
@@ -192,7 +199,9 @@ module _ (old new : State) (told : ℕ → Told) (reply : Reply) (h : AllAgree o
         subst (λ (call : Option Call). HasToldRefused call t) (sym was.0) tt,
         told_agrees old told (λ u. after_go u (Refused IdleFault)) p h (record {
           guards = (h p).guards;
+          paused = (h p).paused;
           told = subst (λ (now : Progress). ToldOf (after_go t (Refused IdleFault)) m now) (sym idle) (refl, was.1);
+          here = (h p).here;
           away = λ free. absurd (taken free);
         }),
       ))
@@ -200,18 +209,24 @@ module _ (old new : State) (told : ℕ → Told) (reply : Reply) (h : AllAgree o
   -- a job is called at once
   tell_calls_now : seat.progress ≡ CallsNow → reply ≡ CalledNow Ran
       → new ≡ with_seat old p (record seat { progress = Ends (Done UnitAnswer) }) → Goal
-  tell_calls_now now told_so e =
-      let was : (t.call ≡ Some (Defer None)) × PinnedByGuards t = told_of CallsNow now in
-      tells (CalledNow Ran) (record seat { progress = Ends (Done UnitAnswer) }) _ (
-        subst MayCallNow (sym was.0) tt,
+  tell_calls_now now told_so e = by_told (told_of CallsNow now)
+    where
+      called : Told
+      called = after_go t (CalledNow Ran)
+
+      by_told : ToldOf t m CallsNow → Goal
+      by_told (call, not_yet, on) = tells (CalledNow Ran) (record seat { progress = Ends (Done UnitAnswer) }) _ (
+        (subst MayCallNow (sym call) tt, not_yet),
         record {
           guards = (h p).guards;
+          paused = (h p).paused;
           told = (
-            subst (λ (call : Option Call). HasTold call t) (sym was.0) tt,
-            subst (λ (call : Option Call). AnswerFits call UnitAnswer) (sym was.0) tt,
-            ap (λ (call : Option Call). counted_after call UnitAnswer t.guards) was.0,
-            was.1,
+            subst (λ (d : Option Call). HasTold d called) (sym call) refl,
+            subst (λ (d : Option Call). AnswerFits d UnitAnswer) (sym call) tt,
+            ap (λ (d : Option Call). after_done d UnitAnswer called) call,
+            on,
           );
+          here = (h p).here;
           away = λ free. absurd (taken free);
         },
       ) told_so e (λ q. refl)
@@ -222,13 +237,15 @@ module _ (old new : State) (told : ℕ → Told) (reply : Reply) (h : AllAgree o
   tell_ends last ends told_so e = by_told (told_of (Ends last) ends)
     where
       by_told : ToldOf t m (Ends last) → Goal
-      by_told (told, fits, counted, on) = tells (Done UnitAnswer) (record seat { progress = Idle }) _ (
+      by_told (told, fits, leaves, on) = tells (Done UnitAnswer) (record seat { progress = Idle }) _ (
         (told, fits),
-        record {
-          guards = counted ∙ (h p).guards;
-          told = (refl, on ∙ sym (ap has_any counted));
+        subst (λ (u : Told). Agrees u (record seat { progress = Idle })) (sym leaves) (record {
+          guards = (h p).guards;
+          paused = (h p).paused;
+          told = (refl, on);
+          here = (h p).here;
           away = λ free. absurd (taken free);
-        },
+        }),
       ) (told_so ∙ (follows_at old.sizes seat linked (Ends last) ends).1) e (λ q. refl)
 
   pub tell_go : (progress : Progress) → seat.progress ≡ progress → Goes old p seat progress reply new → Goal

@@ -1,11 +1,11 @@
 -- How often a guard is in a list of guards, and how many there are, after one is added or taken.
-use Rattle.std.proofs.Common.{◌≡◌, ◌≢◌, ◌⊎◌, ℕ, ◌+◌, ◌-◌, ◌≤◌, ◌==◌, Bool, true, false, List, [], ◌∷◌, length, count_by, ap, ◌∙◌, arith, if◌then◌else◌, nat_lt}
+use Rattle.std.proofs.Common.{◌≡◌, ◌≢◌, ◌⊎◌, ℕ, ◌+◌, ◌-◌, ◌≤◌, ◌==◌, ◌||◌, Bool, true, false, List, [], ◌∷◌, length, count_by, refl, ap, ◌∙◌, arith, if◌then◌else◌, nat_lt}
 use Rattle.std.proofs.lemmas.Bool.Decides.{nat_tests}
 use Rattle.std.proofs.lemmas.List.Sums.{sum_by-cons, count_by-le-length}
 use Rattle.epoch_laws.specs.declared.history.known.Change.{Change}
 use Rattle.epoch_laws.specs.declared.history.known.Change.TheVariants.{Takes}
 use Rattle.epoch_laws.specs.Known.{changed}
-use Rattle.epoch_laws.specs.Run.{without}
+use Rattle.epoch_laws.specs.Run.{is_out, without}
 
 abbrev pub times_in : ℕ → List ℕ → ℕ
 times_in g guards = count_by (λ (other : ℕ). other == g) guards
@@ -47,6 +47,16 @@ length_without h (x ∷ guards) = at_first (length_without h guards) (x == h) (g
         ≡ (if nat_lt 0 (times_in h (x ∷ guards)) then length (x ∷ guards) - 1 else length (x ∷ guards))
     at_first rest true tells = grind (arith, nat_tests, times_cons h x guards)
     at_first rest false tells = grind (arith, nat_tests, times_cons h x guards, few h guards)
+
+-- a guard is out where it is counted
+pub out_counted : (g : ℕ) (guards : List ℕ) → is_out g guards ≡ nat_lt 0 (times_in g guards)
+out_counted g [] = grind (arith, nat_tests)
+out_counted g (x ∷ guards) = at_first (x == g) refl (out_counted g guards)
+  where
+    at_first : (first : Bool) → (x == g) ≡ first → is_out g guards ≡ nat_lt 0 (times_in g guards)
+        → (first || is_out g guards) ≡ nat_lt 0 (times_in g (x ∷ guards))
+    at_first true same rest = grind (arith, nat_tests, times_cons g x guards)
+    at_first false other rest = grind (arith, nat_tests, times_cons g x guards)
 
 pub only_one : (g : ℕ) (guards : List ℕ) → length guards ≡ 1 → times_in g guards ≡ 1 → guards ≡ g ∷ []
 only_one g [] one times = absurd (omega arith)

@@ -2,6 +2,7 @@ pub mod SeatLemmas
 pub mod SeatLinks
 pub mod MachineGoesOn
 pub mod CallsLinked
+pub mod GuardsAllowed
 pub mod Linked
 pub mod DeferralEpochs
 pub mod StoredBags

@@ -8,12 +8,15 @@ use Rattle.epoch_laws.specs.Run.{without}
 
 abbrev pub known_of : Told → Known
 known_of t = record {
+  registered = t.registered;
   call = t.call;
+  paused = t.paused;
   pinned = t.pinned;
   did_pin = t.did_pin;
   did_unpin = t.did_unpin;
   did_repin = t.did_repin;
   did_defer = t.did_defer;
+  did_call_now = t.did_call_now;
 }
 
 -- the guards after a change

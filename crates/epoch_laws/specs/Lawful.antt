@@ -11,30 +11,36 @@ use Rattle.epoch_laws.specs.declared.step.Answer.TheVariants.{Guard, Unit as Uni
 use Rattle.epoch_laws.specs.declared.step.Reply.{Reply}
 use Rattle.epoch_laws.specs.declared.step.Reply.TheVariants.{Registered, Began, Stepped, Pinned, Unpinned, Repinned, Deferred, Called as CalledReply, CalledNow, Done, Refused}
 use Rattle.epoch_laws.specs.declared.step.Entry.{Entry}
-use Rattle.epoch_laws.specs.Run.{without}
+use Rattle.epoch_laws.specs.Run.{is_out, waits, without}
 use Rattle.epoch_laws.specs.Grace.{Stands}
 
 -- WHAT A LOG TELLS OF ONE PARTICIPANT
 
 pub record Told : Type 0 where
+  pub registered : Bool  -- the position is taken
   pub call : Option Call  -- the call under way, if there is one
   pub guards : List ℕ  -- the guards counted
+  pub paused : Option ℕ  -- the guard that is paused, if there is one
   pub pinned : Bool
   -- which events the call under way has told
   pub did_pin : Bool
   pub did_unpin : Bool
   pub did_repin : Bool
   pub did_defer : Bool
+  pub did_call_now : Bool
 
 abbrev pub nothing : Told
 nothing = record {
+  registered = false;
   call = None;
   guards = [];
+  paused = None;
   pinned = false;
   did_pin = false;
   did_unpin = false;
   did_repin = false;
   did_defer = false;
+  did_call_now = false;
 }
 
 -- a guard is counted from the end of Pin or Resume, up to the end of Unpin or Pause
@@ -45,6 +51,22 @@ counted_after (Some (Unpin (Some g))) answer guards = without g guards
 counted_after (Some (Pause (Some g))) answer guards = without g guards
 counted_after _ answer guards = guards
 
+-- a guard is paused from the end of Pause, up to the end of Resume; whoever has released its position has none
+abbrev pub paused_after : Option Call → Option ℕ → Option ℕ
+paused_after (Some (Pause (Some g))) paused = Some g
+paused_after (Some (Resume (Some g))) paused = None
+paused_after (Some Release) paused = None
+paused_after _ paused = paused
+
+-- a position is taken up to the end of Release
+abbrev pub registered_after : Option Call → Bool → Bool
+registered_after (Some Release) registered = false
+registered_after _ registered = registered
+
+abbrev pub after_register : ℕ → Told → Reply → Told
+after_register p t (Registered q) = if q == p then record t { registered = true } else t
+after_register p t _ = t
+
 -- a call whose Begin was refused is no call
 abbrev pub after_begin : Told → Call → Reply → Told
 after_begin t c Began = record t {
@@ -53,23 +75,34 @@ after_begin t c Began = record t {
   did_unpin = false;
   did_repin = false;
   did_defer = false;
+  did_call_now = false;
 }
 after_begin t c _ = t
 
-abbrev pub after_end : Told → List ℕ → Told
-after_end t guards = record t { call = None; guards = guards }
+abbrev pub after_refused : Told → Told
+after_refused t = record t { call = None }
+
+abbrev pub after_done : Option Call → Answer → Told → Told
+after_done call answer t = record t {
+  registered = registered_after call t.registered;
+  call = None;
+  guards = counted_after call answer t.guards;
+  paused = paused_after call t.paused;
+}
 
 abbrev pub after_go : Told → Reply → Told
 after_go t (Pinned p) = record t { pinned = true; did_pin = true }
 after_go t (Unpinned p) = record t { pinned = false; did_unpin = true }
 after_go t (Repinned p) = record t { did_repin = true }
 after_go t (Deferred ticket) = record t { did_defer = true }
-after_go t (Done answer) = after_end t (counted_after t.call answer t.guards)
-after_go t (Refused fault) = after_end t t.guards
+after_go t (CalledNow how) = record t { did_call_now = true }
+after_go t (Done answer) = after_done t.call answer t
+after_go t (Refused fault) = after_refused t
 after_go t _ = t
 
 -- what is told of p after one more step and its reply
 abbrev pub told_after : ℕ → Told → Step → Reply → Told
+told_after p t Register reply = after_register p t reply
 told_after p t (Begin q c) reply = if q == p then after_begin t c reply else t
 told_after p t (Go q) reply = if q == p then after_go t reply else t
 told_after p t _ reply = t
@@ -127,6 +160,7 @@ HasTold (Some (Resume (Some g))) t = t.guards ≡ [] → t.did_pin ≡ true
 HasTold (Some (Unpin (Some g))) t = t.guards ≡ g ∷ [] → t.did_unpin ≡ true
 HasTold (Some (Pause (Some g))) t = t.guards ≡ g ∷ [] → t.did_unpin ≡ true
 HasTold (Some (Defer (Some g))) t = t.did_defer ≡ true
+HasTold (Some (Defer None)) t = t.did_call_now ≡ true
 HasTold (Some Release) t = (t.did_pin ≡ true) × (t.did_unpin ≡ true)
 HasTold (Some _) t = Unit {0}
 HasTold None t = ⊥
@@ -158,21 +192,42 @@ MayTell p t (Unpinned q) = (q ≡ p) × MayUnpin t.call t.guards t.did_pin × (t
 MayTell p t (Repinned q) = (q ≡ p) × MayRepin t.call t.guards × (t.did_repin ≡ false)
 MayTell p t (Deferred ticket) = MayDefer t.call × (t.did_defer ≡ false)
 MayTell p t (CalledReply ticket how) = MayCall t.call × (t.pinned ≡ true)
-MayTell p t (CalledNow how) = MayCallNow t.call
+MayTell p t (CalledNow how) = MayCallNow t.call × (t.did_call_now ≡ false)
 MayTell p t (Done answer) = HasTold t.call t × AnswerFits t.call answer
 MayTell p t (Refused fault) = HasToldRefused t.call t
 MayTell p t _ = ⊥
 
-abbrev pub MayRegister : Reply → Type 0
-MayRegister (Registered p) = Unit {0}
-MayRegister (Refused fault) = Unit {0}
-MayRegister _ = ⊥
+-- a position that is taken isn't taken again
+abbrev pub MayRegister : (ℕ → Told) → Reply → Type 0
+MayRegister told (Registered p) = (told p).registered ≡ false
+MayRegister told (Refused fault) = Unit {0}
+MayRegister told _ = ⊥
 
--- a call begins only where none is under way
-abbrev pub MayBegin : Option Call → Reply → Type 0
-MayBegin call Began = call ≡ None
-MayBegin call (Refused fault) = Unit {0}
-MayBegin call _ = ⊥
+-- a pin finds room for its guard, the guard of any other call is counted, that of a resume is the paused one, and a
+-- release leaves none counted
+abbrev pub GuardsAllow : Call → List ℕ → Option ℕ → Type 0
+GuardsAllow Pin guards paused = length guards < 64
+GuardsAllow (Unpin None) guards paused = ⊥
+GuardsAllow (Unpin (Some g)) guards paused = is_out g guards ≡ true
+GuardsAllow (Repin (Some g)) guards paused = is_out g guards ≡ true
+GuardsAllow (Pause (Some g)) guards paused = is_out g guards ≡ true
+GuardsAllow (Resume (Some g)) guards paused = paused ≡ Some g
+GuardsAllow (Defer (Some g)) guards paused = is_out g guards ≡ true
+GuardsAllow (Flush (Some g)) guards paused = is_out g guards ≡ true
+GuardsAllow Release guards paused = guards ≡ []
+GuardsAllow _ guards paused = Unit {0}
+
+-- A call is accepted only of a participant that is registered, and has no call under way; who is paused only resumes.
+pub record MayAccept (t : Told) (c : Call) : Type 0 where
+  pub registered : t.registered ≡ true
+  pub idle : t.call ≡ None
+  pub awake : waits c t.paused ≡ false
+  pub guards : GuardsAllow c t.guards t.paused
+
+abbrev pub MayBegin : Told → Call → Reply → Type 0
+MayBegin t c Began = MayAccept t c
+MayBegin t c (Refused fault) = Unit {0}
+MayBegin t c _ = ⊥
 
 abbrev pub MayEnd : Reply → Type 0
 MayEnd Began = Unit {0}
@@ -187,8 +242,8 @@ MayEndGo (Refused fault) = Unit {0}
 MayEndGo _ = ⊥
 
 abbrev pub MayReply : (ℕ → Told) → Step → Reply → Type 0
-MayReply told Register reply = MayRegister reply
-MayReply told (Begin p c) reply = MayBegin (told p).call reply
+MayReply told Register reply = MayRegister told reply
+MayReply told (Begin p c) reply = MayBegin (told p) c reply
 MayReply told (Go p) reply = MayTell p (told p) reply
 MayReply told End reply = MayEnd reply
 MayReply told EndGo reply = MayEndGo reply
@@ -217,8 +272,9 @@ IsDeferredBefore log t j = (i : ℕ) × (i < j) × Stands log i (Deferred t)
 abbrev pub CallsAfterDeferrals : List Entry → Type 0
 CallsAfterDeferrals log = (t j : ℕ) (how : Called) → Stands log j (CalledReply t how) → IsDeferredBefore log t j
 
--- Each event stands only in its calls, and as often as it should; a call begins only where none is under way, and is
--- done with its own kind of answer; a job is called at most once, after it was deferred.
+-- Each event stands only in its calls, and as often as it should; a call begins only of a participant that is
+-- registered and has none under way, and whose guards allow it, and is done with its own kind of answer; a job is
+-- called at most once, after it was deferred.
 pub record IsLawful (log : List Entry) : Type 0 where
   pub in_calls : MayReplyAll (λ p. nothing) log
   pub once : CallsNoneTwice log

@@ -35,6 +35,13 @@ fn go(participant: u64, reply: Reply) -> Entry {
     }
 }
 
+fn registered(participant: u64) -> Entry {
+    Entry {
+        step: Step::Register,
+        reply: Reply::Registered(participant),
+    }
+}
+
 fn begin(participant: u64, call: Call) -> Entry {
     Entry {
         step: Step::Begin(participant, call),
@@ -207,15 +214,11 @@ fn a_call_while_somebody_stays_pinned_is_refused(rt: HostRuntime) {
 /// A participant pins, defers a job, unpins, pins again, and calls the job at a flush.
 #[test]
 fn a_whole_history_passes(rt: HostRuntime) {
-    let registered = Entry {
-        step: Step::Register,
-        reply: Reply::Registered(0),
-    };
     want_all(
         &rt,
         "a whole history",
         &[
-            registered,
+            registered(0),
             begin(0, Call::Pin),
             told(Reply::Stepped),
             pinned(0),
@@ -243,6 +246,7 @@ fn pins_stand_only_where_guards_allow(rt: HostRuntime) {
         &rt,
         "only the last guard unpins",
         &[
+            registered(0),
             begin(0, Call::Pin),
             pinned(0),
             guard(0, 0),
@@ -255,26 +259,34 @@ fn pins_stand_only_where_guards_allow(rt: HostRuntime) {
             done(0),
         ],
     );
-    want_unlawful(&rt, "in no call", &[pinned(0)]);
+    want_unlawful(&rt, "in no call", &[registered(0), pinned(0)]);
     want_unlawful(
         &rt,
         "in an unpin",
-        &[begin(0, Call::Unpin(Some(0))), pinned(0)],
+        &[
+            registered(0),
+            begin(0, Call::Pin),
+            pinned(0),
+            guard(0, 0),
+            begin(0, Call::Unpin(Some(0))),
+            pinned(0),
+        ],
     );
     want_unlawful(
         &rt,
         "twice in one call",
-        &[begin(0, Call::Pin), pinned(0), pinned(0)],
+        &[registered(0), begin(0, Call::Pin), pinned(0), pinned(0)],
     );
     want_unlawful(
         &rt,
         "of another participant",
-        &[begin(0, Call::Pin), go(0, Reply::Pinned(1))],
+        &[registered(0), begin(0, Call::Pin), go(0, Reply::Pinned(1))],
     );
     want_unlawful(
         &rt,
         "with a guard counted",
         &[
+            registered(0),
             begin(0, Call::Pin),
             pinned(0),
             guard(0, 0),
@@ -285,7 +297,7 @@ fn pins_stand_only_where_guards_allow(rt: HostRuntime) {
     want_unlawful(
         &rt,
         "not before the end of the first pin",
-        &[begin(0, Call::Pin), guard(0, 0)],
+        &[registered(0), begin(0, Call::Pin), guard(0, 0)],
     );
 }
 
@@ -293,13 +305,21 @@ fn pins_stand_only_where_guards_allow(rt: HostRuntime) {
 fn unpins_stand_only_where_guards_allow(rt: HostRuntime) {
     want_unlawful(
         &rt,
-        "with no guard counted",
-        &[begin(0, Call::Unpin(Some(0))), unpinned(0)],
+        "in a flush",
+        &[
+            registered(0),
+            begin(0, Call::Pin),
+            pinned(0),
+            guard(0, 0),
+            begin(0, Call::Flush(Some(0))),
+            unpinned(0),
+        ],
     );
     want_unlawful(
         &rt,
         "with another guard counted",
         &[
+            registered(0),
             begin(0, Call::Pin),
             pinned(0),
             guard(0, 0),
@@ -311,19 +331,9 @@ fn unpins_stand_only_where_guards_allow(rt: HostRuntime) {
     );
     want_unlawful(
         &rt,
-        "of a guard that isn't counted",
-        &[
-            begin(0, Call::Pin),
-            pinned(0),
-            guard(0, 0),
-            begin(0, Call::Unpin(Some(5))),
-            unpinned(0),
-        ],
-    );
-    want_unlawful(
-        &rt,
         "not before the end of the unpin",
         &[
+            registered(0),
             begin(0, Call::Pin),
             pinned(0),
             guard(0, 0),
@@ -334,30 +344,32 @@ fn unpins_stand_only_where_guards_allow(rt: HostRuntime) {
     want_unlawful(
         &rt,
         "before the pin of a release",
-        &[begin(0, Call::Release), unpinned(0)],
+        &[registered(0), begin(0, Call::Release), unpinned(0)],
     );
 }
 
 #[test]
 fn jobs_are_called_only_where_they_may(rt: HostRuntime) {
+    let zero = registered(0);
     let [first, second, third] = [begin(0, Call::Pin), pinned(0), guard(0, 0)];
-    want_lawful(&rt, "a pin", &[first, second, third]);
+    want_lawful(&rt, "a pin", &[zero, first, second, third]);
     let defers = begin(0, Call::Defer(Some(0)));
     let flushes = begin(0, Call::Flush(Some(0)));
     want_unlawful(
         &rt,
         "in a deferral",
-        &[first, second, third, defers, deferred(0), called(0)],
+        &[zero, first, second, third, defers, deferred(0), called(0)],
     );
     want_unlawful(
         &rt,
         "never deferred",
-        &[first, second, third, flushes, called(0)],
+        &[zero, first, second, third, flushes, called(0)],
     );
     want_unlawful(
         &rt,
         "twice",
         &[
+            zero,
             first,
             second,
             third,
@@ -373,6 +385,7 @@ fn jobs_are_called_only_where_they_may(rt: HostRuntime) {
         &rt,
         "deferred only after it",
         &[
+            zero,
             first,
             second,
             third,
@@ -388,6 +401,7 @@ fn jobs_are_called_only_where_they_may(rt: HostRuntime) {
         &rt,
         "before the pin of its call",
         &[
+            zero,
             first,
             second,
             third,
@@ -404,12 +418,13 @@ fn jobs_are_called_only_where_they_may(rt: HostRuntime) {
     want_unlawful(
         &rt,
         "a deferral that is done has deferred",
-        &[first, second, third, defers, done(0)],
+        &[zero, first, second, third, defers, done(0)],
     );
     want_unlawful(
         &rt,
         "a deferral that is refused has deferred nothing",
         &[
+            zero,
             first,
             second,
             third,
@@ -422,18 +437,24 @@ fn jobs_are_called_only_where_they_may(rt: HostRuntime) {
 
 #[test]
 fn a_call_is_done_with_its_own_answer_before_the_next_begins(rt: HostRuntime) {
+    let zero = registered(0);
     let [pins, publishes] = [begin(0, Call::Pin), pinned(0)];
     let released = Reply::Done(Answer::Released);
-    want_unlawful(&rt, "a pin answers its guard", &[pins, publishes, done(0)]);
+    want_unlawful(
+        &rt,
+        "a pin answers its guard",
+        &[zero, pins, publishes, done(0)],
+    );
     want_unlawful(
         &rt,
         "a pin releases nothing",
-        &[pins, publishes, go(0, released)],
+        &[zero, pins, publishes, go(0, released)],
     );
     want_unlawful(
         &rt,
         "an unpin answers no guard",
         &[
+            zero,
             pins,
             publishes,
             guard(0, 0),
@@ -445,13 +466,99 @@ fn a_call_is_done_with_its_own_answer_before_the_next_begins(rt: HostRuntime) {
     want_unlawful(
         &rt,
         "a call begins within another",
-        &[pins, begin(0, Call::Flush(None))],
+        &[zero, pins, begin(0, Call::Flush(None))],
     );
     want_lawful(
         &rt,
         "a call begins beside another participant's",
-        &[pins, begin(1, Call::Pin)],
+        &[zero, registered(1), pins, begin(1, Call::Pin)],
     );
+}
+
+#[test]
+fn a_call_begins_only_where_its_world_accepts_it(rt: HostRuntime) {
+    let zero = registered(0);
+    let [pins, publishes, counts] = [begin(0, Call::Pin), pinned(0), guard(0, 0)];
+    want_unlawful(&rt, "of nobody", &[pins]);
+    want_unlawful(
+        &rt,
+        "an unpin of no guard",
+        &[zero, begin(0, Call::Unpin(None))],
+    );
+    want_lawful(
+        &rt,
+        "a repin of no guard",
+        &[zero, begin(0, Call::Repin(None)), done(0)],
+    );
+    want_unlawful(
+        &rt,
+        "an unpin of a guard that isn't counted",
+        &[
+            zero,
+            pins,
+            publishes,
+            counts,
+            begin(0, Call::Unpin(Some(5))),
+        ],
+    );
+    want_unlawful(
+        &rt,
+        "a release with a guard counted",
+        &[zero, pins, publishes, counts, begin(0, Call::Release)],
+    );
+    let [pauses, withdraws] = [begin(0, Call::Pause(Some(0))), unpinned(0)];
+    want_unlawful(
+        &rt,
+        "a pin of a paused participant",
+        &[
+            zero,
+            pins,
+            publishes,
+            counts,
+            pauses,
+            withdraws,
+            done(0),
+            pins,
+        ],
+    );
+    let resumes = begin(0, Call::Resume(Some(0)));
+    want_lawful(
+        &rt,
+        "a resume of the paused guard",
+        &[
+            zero,
+            pins,
+            publishes,
+            counts,
+            pauses,
+            withdraws,
+            done(0),
+            resumes,
+        ],
+    );
+    want_unlawful(
+        &rt,
+        "a resume of another",
+        &[
+            zero,
+            pins,
+            publishes,
+            counts,
+            pauses,
+            withdraws,
+            done(0),
+            begin(0, Call::Resume(Some(1))),
+        ],
+    );
+}
+
+#[test]
+fn a_deferral_under_an_unprotected_guard_calls_its_job(rt: HostRuntime) {
+    let [zero, defers] = [registered(0), begin(0, Call::Defer(None))];
+    let now = told(Reply::CalledNow(Called::Ran));
+    want_lawful(&rt, "once", &[zero, defers, now, done(0)]);
+    want_unlawful(&rt, "not before its end", &[zero, defers, done(0)]);
+    want_unlawful(&rt, "twice", &[zero, defers, now, now]);
 }
 
 #[test]
@@ -479,7 +586,7 @@ fn replies_stand_only_at_their_steps(rt: HostRuntime) {
     want_unlawful(
         &rt,
         "a call refused at its begin is no call",
-        &[refused, pinned(0)],
+        &[registered(0), refused, pinned(0)],
     );
 }
 

@@ -1,12 +1,16 @@
 //! Which guards a list of entries counts as out.
 //!
 //! A list of entries may count any number of guards, so they are counted anew from the list, and kept nowhere.
-ghost use Rattle.std.specs.Prelude.{◌≡◌, ◌↔◌, ◌==◌, ℕ, ◌+◌, ◌^◌, ◌<◌, ◌≤◌, List, [], ◌∷◌, IsTrue, length, count_by};
+ghost use Rattle.std.specs.Prelude.{◌≡◌, ◌↔◌, ◌==◌, ℕ, ◌+◌, ◌^◌, ◌<◌, ◌≤◌, List, [], ◌∷◌, true, IsTrue, length, count_by};
 ghost use Rattle.epoch_laws.specs.Lawful.{told_of};
 ghost use Rattle.epoch_laws.specs.Known.{changed};
+ghost use Rattle.epoch_laws.specs.Run.{is_out};
 
 use crate::history::known::{Change, Known};
 use crate::step::Entry;
+
+/// How many guards of one participant may be out.
+const GUARDS: usize = 64;
 
 /// Whether no guard of this participant is counted.
 pub fn has_none(entries: &[Entry], participant: u64) -> bool
@@ -27,6 +31,20 @@ pub fn has_only(entries: &[Entry], participant: u64, guard: u64) -> bool
     ensures { IsTrue result ↔ ((told_of participant entries.now).guards ≡ guard ∷ []) }
 {
     guards_out(entries, participant) == 1 && times_out(entries, participant, guard) == 1
+}
+
+/// Whether this participant may have one more guard.
+pub fn has_room(entries: &[Entry], participant: u64) -> bool
+    ensures { IsTrue result ↔ (length (told_of participant entries.now).guards < 64) }
+{
+    guards_out(entries, participant) < GUARDS
+}
+
+/// Whether this guard of this participant is counted.
+pub fn has_out(entries: &[Entry], participant: u64, guard: u64) -> bool
+    ensures { IsTrue result ↔ (is_out guard (told_of participant entries.now).guards ≡ true) }
+{
+    times_out(entries, participant, guard) > 0
 }
 
 /// How many guards of this participant are counted.

@@ -1,6 +1,6 @@
 //! What a list of entries tells of one participant, its guards aside.
-ghost use Rattle.std.specs.Prelude.{◌≡◌, ℕ, List};
-ghost use Rattle.epoch_laws.specs.Lawful.{Told, nothing, told_after, told_of, after_begin, after_go, counted_after};
+ghost use Rattle.std.specs.Prelude.{◌≡◌, ℕ, Bool, List, Option};
+ghost use Rattle.epoch_laws.specs.Lawful.{Told, nothing, told_after, told_of, after_register, after_begin, after_go, counted_after, paused_after, registered_after};
 ghost use Rattle.epoch_laws.specs.Known.{known_of, changed};
 
 use crate::step::{Answer, Call, Entry, Reply, Step};
@@ -8,14 +8,19 @@ use crate::step::{Answer, Call, Entry, Reply, Step};
 /// What is told of a participant.
 #[derive(Clone, Copy)]
 pub struct Known {
+    /// Whether its position is taken.
+    pub registered: bool,
     /// The call under way, if there is one.
     pub call: Option<Call>,
+    /// The guard that is paused, if there is one.
+    pub paused: Option<u64>,
     pub pinned: bool,
     /// Whether the call under way has told that it pinned; and so on.
     pub did_pin: bool,
     pub did_unpin: bool,
     pub did_repin: bool,
     pub did_defer: bool,
+    pub did_call_now: bool,
 }
 
 /// What an entry does to the guards counted.
@@ -32,12 +37,15 @@ impl Known {
         ensures { result ≡ known_of nothing }
     {
         Known {
+            registered: false,
             call: None,
+            paused: None,
             pinned: false,
             did_pin: false,
             did_unpin: false,
             did_repin: false,
             did_defer: false,
+            did_call_now: false,
         }
     }
 
@@ -57,8 +65,21 @@ impl Known {
         ensures { (t : Told) → self ≡ known_of t → result ≡ known_of (told_after participant t entry.step entry.reply) }
     {
         match entry.step {
+            Step::Register => self.after_register(participant, entry.reply),
             Step::Begin(other, call) if other == participant => self.after_begin(call, entry.reply),
             Step::Go(other) if other == participant => self.after_go(entry.reply),
+            _ => self,
+        }
+    }
+
+    fn after_register(self, participant: u64, reply: Reply) -> Known
+        ensures { (t : Told) → self ≡ known_of t → result ≡ known_of (after_register participant t reply) }
+    {
+        match reply {
+            Reply::Registered(other) if other == participant => Known {
+                registered: true,
+                ..self
+            },
             _ => self,
         }
     }
@@ -69,11 +90,12 @@ impl Known {
         match reply {
             Reply::Began => Known {
                 call: Some(call),
-                pinned: self.pinned,
                 did_pin: false,
                 did_unpin: false,
                 did_repin: false,
                 did_defer: false,
+                did_call_now: false,
+                ..self
             },
             _ => self,
         }
@@ -101,7 +123,17 @@ impl Known {
                 did_defer: true,
                 ..self
             },
-            Reply::Done(_) | Reply::Refused(_) => Known { call: None, ..self },
+            Reply::CalledNow(_) => Known {
+                did_call_now: true,
+                ..self
+            },
+            Reply::Done(_) => Known {
+                registered: still_registered(self.call, self.registered),
+                call: None,
+                paused: still_paused(self.call, self.paused),
+                ..self
+            },
+            Reply::Refused(_) => Known { call: None, ..self },
             _ => self,
         }
     }
@@ -116,6 +148,27 @@ impl Known {
             ),
             _ => Change::Keeps,
         }
+    }
+}
+
+/// Whether a position is taken after the end of a call, where it was so before.
+fn still_registered(call: Option<Call>, registered: bool) -> bool
+    ensures { result ≡ registered_after call registered }
+{
+    match call {
+        Some(Call::Release) => false,
+        _ => registered,
+    }
+}
+
+/// Which guard is paused after the end of a call, where this one was before.
+fn still_paused(call: Option<Call>, paused: Option<u64>) -> Option<u64>
+    ensures { result ≡ paused_after call paused }
+{
+    match call {
+        Some(Call::Pause(Some(guard))) => Some(guard),
+        Some(Call::Resume(Some(_)) | Call::Release) => None,
+        _ => paused,
     }
 }
 

@@ -1,16 +1,17 @@
 //! Whether each event of a history stands only where it may.
-ghost use Rattle.std.specs.Prelude.{◌≡◌, ◌↔◌, IsTrue};
-ghost use Rattle.epoch_laws.specs.Lawful.{IsLawful, nothing, told_of, MayPin, MayUnpin, MayRepin, MayDefer, MayCall, MayCallNow, Told, HasTold, HasToldRefused, AnswerFits, MayTell, MayRegister, MayBegin, MayEnd, MayEndGo, MayReply, MayReplyAll};
+ghost use Rattle.std.specs.Prelude.{◌≡◌, ◌↔◌, IsTrue, Some};
+ghost use Rattle.epoch_laws.specs.Lawful.{IsLawful, nothing, told_of, MayPin, MayUnpin, MayRepin, MayDefer, MayCall, MayCallNow, Told, HasTold, HasToldRefused, AnswerFits, MayTell, MayRegister, GuardsAllow, MayAccept, MayBegin, MayEnd, MayEndGo, MayReply, MayReplyAll};
 ghost use Rattle.epoch_laws.specs.Known.{known_of};
+ghost use Rattle.epoch_laws.specs.Run.{waits as call_waits};
 
-use crate::history::guards::{has_none, has_one, has_only};
+use crate::history::guards::{has_none, has_one, has_only, has_out, has_room};
 use crate::history::known::Known;
 use crate::history::tickets::{calls_after_deferrals, calls_none_twice};
 use crate::step::{Answer, Call, Entry, Reply, Step};
 
-/// Whether each event stands only in the calls in which it may and as often as it should, each call begins only where
-/// none is under way and is done with its own kind of answer, and each job is called at most once, after it was
-/// deferred.
+/// Whether each event stands only in the calls in which it may and as often as it should, each call begins only of a
+/// participant that is registered and has none under way, and whose guards allow it, and is done with its own kind of
+/// answer, and each job is called at most once, after it was deferred.
 ///
 /// It takes no memory. Its time grows with the third power of the number of entries at worst.
 pub fn is_lawful(entries: &[Entry]) -> bool
@@ -36,28 +37,78 @@ fn may_reply(before: &[Entry], entry: Entry) -> bool
     ensures { IsTrue result ↔ MayReply (λ p. told_of p before.now) entry.step entry.reply }
 {
     match entry.step {
-        Step::Register => may_register(entry.reply),
-        Step::Begin(participant, _) => may_begin(Known::of(before, participant).call, entry.reply),
+        Step::Register => may_register(before, entry.reply),
+        Step::Begin(participant, call) => may_begin(before, participant, call, entry.reply),
         Step::End => may_end(entry.reply),
         Step::Go(participant) => may_tell(before, participant, entry.reply),
         Step::EndGo => may_end_go(entry.reply),
     }
 }
 
-fn may_register(reply: Reply) -> bool
-    ensures { IsTrue result ↔ MayRegister reply }
-{
-    matches!(reply, Reply::Registered(_) | Reply::Refused(_))
-}
-
-/// Whether a call may begin so, where this call is under way.
-fn may_begin(call: Option<Call>, reply: Reply) -> bool
-    ensures { IsTrue result ↔ MayBegin call reply }
+fn may_register(before: &[Entry], reply: Reply) -> bool
+    ensures { IsTrue result ↔ MayRegister (λ p. told_of p before.now) reply }
 {
     match reply {
-        Reply::Began => call.is_none(),
+        Reply::Registered(participant) => !Known::of(before, participant).registered,
         Reply::Refused(_) => true,
         _ => false,
+    }
+}
+
+fn may_begin(before: &[Entry], participant: u64, call: Call, reply: Reply) -> bool
+    ensures { IsTrue result ↔ MayBegin (told_of participant before.now) call reply }
+{
+    match reply {
+        Reply::Began => may_accept(before, participant, call),
+        Reply::Refused(_) => true,
+        _ => false,
+    }
+}
+
+/// Whether this call of this participant may be accepted, after these entries.
+fn may_accept(before: &[Entry], participant: u64, call: Call) -> bool
+    ensures { IsTrue result ↔ MayAccept (told_of participant before.now) call }
+{
+    let known = Known::of(before, participant);
+    known.registered
+        && known.call.is_none()
+        && !waits(call, known.paused)
+        && guards_allow(before, participant, call, known.paused)
+}
+
+/// Whether this call has to wait for the guard that is paused.
+fn waits(call: Call, paused: Option<u64>) -> bool
+    ensures { result ≡ call_waits call paused }
+{
+    match call {
+        Call::Resume(_) => false,
+        _ => paused.is_some(),
+    }
+}
+
+/// Whether the guards of this participant allow this call.
+fn guards_allow(before: &[Entry], participant: u64, call: Call, paused: Option<u64>) -> bool
+    ensures { IsTrue result ↔ GuardsAllow call (told_of participant before.now).guards paused }
+{
+    match call {
+        Call::Pin => has_room(before, participant),
+        Call::Unpin(None) => false,
+        Call::Resume(Some(guard)) => is_same(paused, guard),
+        Call::Unpin(Some(guard)) | Call::Repin(Some(guard)) | Call::Pause(Some(guard)) => {
+            has_out(before, participant, guard)
+        }
+        Call::Defer(Some(guard)) | Call::Flush(Some(guard)) => has_out(before, participant, guard),
+        Call::Release => has_none(before, participant),
+        _ => true,
+    }
+}
+
+fn is_same(paused: Option<u64>, guard: u64) -> bool
+    ensures { IsTrue result ↔ (paused ≡ Some guard) }
+{
+    match paused {
+        Some(other) => other == guard,
+        None => false,
     }
 }
 
@@ -94,7 +145,7 @@ fn may_tell(before: &[Entry], participant: u64, reply: Reply) -> bool
         }
         Reply::Deferred(_) => may_defer(known.call) && !known.did_defer,
         Reply::Called(_, _) => may_call(known.call) && known.pinned,
-        Reply::CalledNow(_) => may_call_now(known.call),
+        Reply::CalledNow(_) => may_call_now(known.call) && !known.did_call_now,
         Reply::Done(answer) => {
             has_told(before, participant, known) && answer_fits(known.call, answer)
         }
@@ -168,6 +219,7 @@ fn has_told(before: &[Entry], participant: u64, known: Known) -> bool
             known.did_unpin || !has_only(before, participant, guard)
         }
         Some(Call::Defer(Some(_))) => known.did_defer,
+        Some(Call::Defer(None)) => known.did_call_now,
         Some(Call::Release) => known.did_pin && known.did_unpin,
         Some(_) => true,
         None => false,
