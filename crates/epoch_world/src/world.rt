@@ -1,5 +1,5 @@
 //! The world: all participants of one collector over a store of bags, which takes steps one at a time.
-ghost use Rattle.std.specs.Prelude.{◌≡◌, ◌≢◌, ℕ, ◌+◌, ◌-◌, ◌^◌, ◌<◌, ◌≤◌, List, [], ◌∷◌, ◌++◌, length, IfOk, IfErr, OnErr, MatchOption, IfNone, IfSome, slice_index_or, slice_get, Some, None, true, false, vec_capacity};
+ghost use Rattle.std.specs.Prelude.{◌≡◌, ◌≢◌, ℕ, ◌+◌, ◌-◌, ◌^◌, ◌<◌, ◌≤◌, List, [], ◌∷◌, ◌++◌, length, IfOk, IfErr, OnErr, MatchOption, IfNone, IfSome, slice_index_or, slice_get, Some, None, true, false, IsTrue, ◌↔◌, vec_capacity};
 ghost use Rattle.epoch_cells.specs.declared.fault.Fault.TheVariants.{NoMemory};
 ghost use Rattle.epoch_laws.specs.declared.step.Entry.{Entry};
 ghost use Rattle.epoch_laws.specs.declared.step.Step.TheVariants.{Register, Begin, Go, End as EndStep, EndGo};
@@ -232,6 +232,14 @@ impl<S: BagStore<Job = Deferral>> World<S> {
     {
         let seat = self.seats.get(position as usize)?;
         Some(number_of(seat.word()))
+    }
+
+    /// Whether the held bag of the participant at a position takes a further job without being put first, or `None` where
+    /// nobody is registered. It is no step.
+    pub fn has_room(&self, position: u64) -> Option<bool>
+        ensures { MatchOption result (word_of self.now position ≡ Word.Free) (λ room. (word_of self.now position ≢ Word.Free) × (IsTrue room ↔ (length (seat_of self.now position).machine.held < self.now.sizes.bag_jobs))) }
+    {
+        self.seats.get(position as usize)?.has_room()
     }
 
     fn register(&mut self) -> Reply
