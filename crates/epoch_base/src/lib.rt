@@ -3,8 +3,8 @@
 #![tactic(auto)]
 
 pub use epoch_bags::{
-    BAG_JOBS, Bag, BagQueue, BagStore, Called, Epoch, GREATEST_EPOCH, Job, MOST_BAGS, Places,
-    PutCursor, PutStep, Run, SealedBag, TakeCursor, TakeStep, Work, take_some,
+    BAG_JOBS, Bag, BagQueue, BagStore, Called, Epoch, FromCells, GREATEST_EPOCH, Job, MOST_BAGS,
+    Places, PutCursor, PutStep, Remove, Run, SealedBag, TakeCursor, TakeStep, Work, take_some,
 };
 pub use epoch_cells::{
     CELL_TRIES, Cells, Fault, Held, MOST_SLOT, Name, PlainCells, Reading, Refused, Removal, Writing,
