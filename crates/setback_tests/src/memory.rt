@@ -1,0 +1,203 @@
+//! Memory that is refused to whoever makes a table, a store, a collector or a value: `rt try --test memory --fail-alloc
+//! 1..` refuses each allocation of each test in turn, and each test passes whichever that is. In a plain run of the
+//! tests no allocation is refused. What a world leaves where memory is refused stands in the tests of worlds.
+
+use crate::wants::want;
+use epoch_base::queue::SharedPlaces;
+use epoch_base::table::Participants;
+use epoch_base::{BagQueue, Cells, Fault, Places, PlainCells};
+use epoch_pin::atomic::{Array, Atomic, Owned};
+use epoch_pin::{Capacities, Collector, Guard, unprotected};
+use std::alloc::Global;
+use std::process::Abort;
+
+/// One allocation is refused at most: one of both is made at least, and the other is refused for want of memory alone.
+fn want_made(rt: &impl Abort, what: &str, first: Option<Fault>, second: Option<Fault>) {
+    match (first, second) {
+        (None, None) => {}
+        (Some(fault), None) | (None, Some(fault)) => want(rt, what, fault, Fault::NoMemory),
+        (Some(_), Some(_)) => panic!(rt; "{what}: both are refused"),
+    }
+}
+
+/// Why no table of participants is made.
+fn participants_refused(alloc: Global) -> Option<Fault> {
+    Participants::new(alloc, 3).err()
+}
+
+/// Why no table of places is made.
+fn shared_places_refused(alloc: Global) -> Option<Fault> {
+    match SharedPlaces::<u64>::new(alloc, 2) {
+        Ok(_places) => None,
+        Err(fault) => Some(fault),
+    }
+}
+
+/// Why no cells are made.
+fn cells_refused(alloc: Global) -> Option<Fault> {
+    Cells::<u64>::new(alloc, 2, 0).err()
+}
+
+/// Why no plain cells are made.
+fn plain_cells_refused(alloc: Global) -> Option<Fault> {
+    PlainCells::<u64>::new(alloc, 2, 0).err()
+}
+
+/// Why no queue of bags is made.
+fn queue_refused(alloc: Global) -> Option<Fault> {
+    BagQueue::<u64>::new(alloc, 2).err()
+}
+
+/// Why no places for bags are made.
+fn places_refused(alloc: Global) -> Option<Fault> {
+    Places::<u64>::new(alloc, 2).err()
+}
+
+/// A collector with one participant, two cells and one place.
+fn new_collector(alloc: Global) -> Result<Collector<u64>, Fault> {
+    Collector::new(alloc, Capacities::usual(1, 2, 1), 1)
+}
+
+/// A collector, for which memory is asked once more where it is refused.
+fn collector_at_last(alloc: Global) -> Result<Collector<u64>, Fault> {
+    match new_collector(alloc) {
+        Ok(collector) => Ok(collector),
+        Err(_) => new_collector(alloc),
+    }
+}
+
+/// Why no collector is made. One that is made is ended, and calls no job.
+fn collector_refused(rt: &impl Abort, alloc: Global) -> Option<Fault> {
+    match new_collector(alloc) {
+        Ok(collector) => {
+            want(rt, "the jobs that an end calls", collector.end(), 0);
+            None
+        }
+        Err(fault) => Some(fault),
+    }
+}
+
+/// Why no value is owned.
+fn owned_refused(alloc: Global) -> Option<Fault> {
+    Owned::new(alloc, 5u64).err()
+}
+
+/// Why no value is owned that is made of a number.
+fn init_refused(alloc: Global) -> Option<Fault> {
+    Owned::<u64>::init(alloc, 5).err()
+}
+
+/// Why no array is made.
+fn array_refused(alloc: Global) -> Option<Fault> {
+    Array::<u64>::new(alloc, 3).err()
+}
+
+/// Why no array is owned.
+fn owned_array_refused(alloc: Global) -> Option<Fault> {
+    Owned::<Array<u64>>::init(alloc, 3).err()
+}
+
+/// An owned 5, for which memory is asked once more where it is refused.
+fn owned_at_last(alloc: Global) -> Result<Owned<u64>, Fault> {
+    match Owned::new(alloc, 5u64) {
+        Ok(owned) => Ok(owned),
+        Err(_) => Owned::new(alloc, 5u64),
+    }
+}
+
+/// Why no clone of this value is made. A clone is equal to it.
+fn clone_refused(rt: &impl Abort, alloc: Global, owned: &Owned<u64>) -> Option<Fault> {
+    match owned.try_clone(alloc) {
+        Ok(copy) => {
+            want(rt, "the value of a clone", *copy, **owned);
+            None
+        }
+        Err(fault) => Some(fault),
+    }
+}
+
+/// Why no pointer to a value is made.
+fn pointer_refused(alloc: Global, guard: &Guard<'_, u64>) -> Option<Fault> {
+    Atomic::new(alloc, 5u64, guard).err()
+}
+
+#[test]
+fn tables_are_made_or_memory_is_refused(rt: HostRuntime) {
+    let alloc = rt.alloc();
+    let (first, second) = (participants_refused(alloc), participants_refused(alloc));
+    want_made(&rt, "a table of participants", first, second);
+    let (first, second) = (shared_places_refused(alloc), shared_places_refused(alloc));
+    want_made(&rt, "a table of places", first, second);
+}
+
+#[test]
+fn stores_are_made_or_memory_is_refused(rt: HostRuntime) {
+    let alloc = rt.alloc();
+    want_made(&rt, "cells", cells_refused(alloc), cells_refused(alloc));
+    want_made(
+        &rt,
+        "plain cells",
+        plain_cells_refused(alloc),
+        plain_cells_refused(alloc),
+    );
+    want_made(&rt, "a queue", queue_refused(alloc), queue_refused(alloc));
+    want_made(&rt, "places", places_refused(alloc), places_refused(alloc));
+}
+
+#[test]
+fn a_collector_is_made_or_memory_is_refused(rt: HostRuntime) {
+    let alloc = rt.alloc();
+    let (first, second) = (collector_refused(&rt, alloc), collector_refused(&rt, alloc));
+    want_made(&rt, "a collector", first, second);
+}
+
+#[test]
+fn owned_values_are_made_or_memory_is_refused(rt: HostRuntime) {
+    let alloc = rt.alloc();
+    want_made(
+        &rt,
+        "an owned value",
+        owned_refused(alloc),
+        owned_refused(alloc),
+    );
+    want_made(
+        &rt,
+        "one of a number",
+        init_refused(alloc),
+        init_refused(alloc),
+    );
+    want_made(&rt, "an array", array_refused(alloc), array_refused(alloc));
+    want_made(
+        &rt,
+        "an owned array",
+        owned_array_refused(alloc),
+        owned_array_refused(alloc),
+    );
+}
+
+#[test]
+fn a_clone_is_made_or_memory_is_refused(rt: HostRuntime) -> Result<(), Fault> {
+    let alloc = rt.alloc();
+    let owned = owned_at_last(alloc)?;
+    let first = clone_refused(&rt, alloc, &owned);
+    let second = clone_refused(&rt, alloc, &owned);
+    want_made(&rt, "a clone", first, second);
+    Ok(())
+}
+
+#[test]
+fn a_pointer_to_a_value_is_made_or_memory_is_refused(rt: HostRuntime) -> Result<(), Fault> {
+    let alloc = rt.alloc();
+    let collector = collector_at_last(alloc)?;
+    let guard = unprotected(&collector);
+    let (first, second) = (
+        pointer_refused(alloc, &guard),
+        pointer_refused(alloc, &guard),
+    );
+    want_made(&rt, "a pointer", first, second);
+    if let Err(_guard) = guard.let_go() {
+        panic!(rt; "the guard is kept");
+    }
+    want(&rt, "the jobs that the end calls", collector.end(), 0);
+    Ok(())
+}
