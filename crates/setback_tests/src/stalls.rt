@@ -122,6 +122,11 @@ fn want_numbers(rt: &impl Abort, what: &str, play: &Play, wanted: (u64, usize)) 
     want(rt, what, play.numbers(), wanted);
 }
 
+/// What the world says of the room in the bag of the participant at this position.
+fn want_room(rt: &impl Abort, what: &str, play: &Play, position: u64, wanted: Option<bool>) {
+    want(rt, what, play.world.has_room(position), wanted);
+}
+
 /// The first participant makes these calls and `deferrals`, and stalls after so many steps of a further call. It goes
 /// to its end behind all that the second one does. Answers whether it had ended before.
 fn stalls_once(
@@ -238,5 +243,23 @@ fn behind_its_store_a_pin_keeps_the_epoch(rt: HostRuntime) -> Result<(), Fail> {
         play.rounds(1)?;
         want_numbers(&rt, "behind a round", &play, (1, 0));
     }
+    Ok(())
+}
+
+#[test]
+fn a_bag_has_no_room_until_the_65th_deferral_has_put_it(rt: HostRuntime) -> Result<(), Fail> {
+    let mut play = Play::new(rt.alloc())?;
+    want_room(&rt, "past the table", &play, 2, None);
+    play.call(1, &[Call::Release], 1)?;
+    want_room(&rt, "at a free position", &play, 1, None);
+    play.call(0, &[Call::Pin], 1)?;
+    play.call(0, &[DEFER], 63)?;
+    want_room(&rt, "with 63 jobs", &play, 0, Some(true));
+    play.call(0, &[DEFER], 1)?;
+    want_room(&rt, "with 64 jobs", &play, 0, Some(false));
+    play.stall(DEFER, 1)?;
+    want_room(&rt, "before the put of these", &play, 0, Some(false));
+    play.go(0, MANY)?;
+    want_room(&rt, "with the 65th", &play, 0, Some(true));
     Ok(())
 }
