@@ -1,5 +1,5 @@
-//! Memory that is refused to whoever makes a table, a store, a collector or a value: `rt try --test memory --fail-alloc
-//! 1..` refuses each allocation of each test in turn, and each test passes whichever that is. In a plain run of the
+//! Memory that is refused to whoever makes a table, a store, a collector or a value: `rt try --test --fail-alloc N`
+//! refuses the Nth allocation of each test, and each of these tests passes whichever that is. In a plain run of the
 //! tests no allocation is refused. What a world leaves where memory is refused stands in the tests of worlds.
 
 use crate::wants::want;
