@@ -58,6 +58,11 @@ abbrev pub Lowers : {V : Type 0} → ℕ → Option (Numbered V) → List (Numbe
 Lowers slot (Some cell) old new = new ≡ with_cell old slot (record cell { readers = cell.readers - 1 })
 Lowers slot None old new = ⊥
 
+-- the cell has this value, and its readers as before
+abbrev pub Replaces : {V : Type 0} → ℕ → V → Option (Numbered V) → List (Numbered V) → List (Numbered V) → Type 0
+Replaces slot value (Some cell) old new = new ≡ with_cell old slot (record cell { value = Some value })
+Replaces slot value None old new = ⊥
+
 -- the value of this turn is in the slot
 abbrev pub Stands : {V : Type 0} → List (Numbered V) → ℕ → ℕ → Type 0
 Stands cells slot turn = (cell : Numbered _) × (slice_get cells (slot - 1) ≡ Some cell) × (has cell turn ≡ true)

@@ -6,7 +6,7 @@ use Rattle.epoch_machine.specs.declared.machine.Stage.{Stage}
 use Rattle.epoch_machine.specs.declared.machine.Stage.TheVariants.{Idle as Resting}
 use Rattle.epoch_machine.specs.Machine.{Machine, first_stage, begun}
 use Rattle.epoch_laws.specs.declared.step.Call.{Call}
-use Rattle.epoch_laws.specs.declared.step.Call.TheVariants.{Pin, Unpin, Repin, Pause, Resume, Defer, Flush, Release}
+use Rattle.epoch_laws.specs.declared.step.Call.TheVariants.{Pin, Unpin, Repin, Pause, Resume, Defer, Flush, Release, DeferDestroy, Access as AccessCall}
 use Rattle.epoch_laws.specs.declared.step.Reply.TheVariants.{Began}
 use Rattle.epoch_laws.specs.declared.step.Entry.{Entry}
 use Rattle.epoch_laws.specs.declared.step.Deferral.{Deferral}
@@ -28,7 +28,7 @@ out_counts g n [] counted out = absurd (cc)
 out_counts g n (first ∷ guards) counted out = omega arith
 
 module _ (old new : State) (log : List Entry) (x : Entry) (h : Holds old log) (linked : AllLinked old) (p : ℕ)
-    (c : Call) (given : IsAccepted c (seat_of old p) old.tickets) (told : x.reply ≡ Began) where
+    (c : Call) (given : IsAccepted c (seat_of old p) old.tickets old.heap) (told : x.reply ≡ Began) where
   abbrev seat : Seat
   seat = seat_of old p
 
@@ -60,7 +60,7 @@ module _ (old new : State) (log : List Entry) (x : Entry) (h : Holds old log) (l
   counts : (g : ℕ) → is_out g seat.guards ≡ true → 0 < seat.machine.guards
   counts g out = out_counts g seat.machine.guards seat.guards (linked.seats p).counted out
 
-  pub accepted_holds : (by : Call) → call_refusal by seat old.tickets ≡ None
+  pub accepted_holds : (by : Call) → call_refusal by seat old.tickets old.heap ≡ None
       → new ≡ with_seat old p (begun_seat by seat) → Holds new (log ++ x ∷ [])
   accepted_holds Pin own e = drives_holds PinAction _ tt e
   accepted_holds (Unpin None) own e = absurd (cc)
@@ -77,3 +77,7 @@ module _ (old new : State) (log : List Entry) (x : Entry) (h : Holds old log) (l
   accepted_holds (Flush (Some g)) own e = drives_holds FlushAction _ (counts g (guard_given _ _ _ own)) e
   accepted_holds Release own e =
       drives_holds ReleaseAction _ ((linked.seats p).counted ∙ none_out _ (guard_given _ _ _ own)) e
+  accepted_holds (DeferDestroy None ptr) own e = waits_holds _ e
+  accepted_holds (DeferDestroy (Some g) ptr) own e =
+      drives_holds DeferAction _ (counts g (guard_given _ _ _ own)) e
+  accepted_holds (AccessCall a) own e = waits_holds _ e

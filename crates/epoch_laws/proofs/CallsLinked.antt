@@ -8,13 +8,17 @@ use Rattle.epoch_machine.specs.declared.machine.Action.TheVariants.{Pin as PinAc
 use Rattle.epoch_machine.specs.declared.machine.Sizes.{Sizes}
 use Rattle.epoch_machine.specs.Machine.{Machine, guards_after}
 use Rattle.epoch_laws.specs.declared.step.Call.{Call}
-use Rattle.epoch_laws.specs.declared.step.Call.TheVariants.{Pin, Unpin, Repin, Pause, Resume, Defer, Flush, Release}
+use Rattle.epoch_laws.specs.declared.step.Call.TheVariants.{Pin, Unpin, Repin, Pause, Resume, Defer, Flush, Release, DeferDestroy, Access as AccessCall}
 use Rattle.epoch_laws.specs.declared.step.Deferral.{Deferral}
-use Rattle.epoch_laws.specs.declared.step.Progress.TheVariants.{Idle}
+use Rattle.epoch_laws.specs.declared.step.Progress.TheVariants.{Idle, Accesses, Ends}
 use Rattle.epoch_laws.specs.Run.{Seat, is_out, without, lowest, call_refusal, drives, begun_seat, with_guards, ended_seat}
 use Rattle.epoch_laws.proofs.SeatLemmas.{guard_given}
 use Rattle.epoch_laws.proofs.SeatLinks.{action_of, BeganUnder, IsDriven, IsLinked, follows_at, progress_linked}
 use Rattle.epoch_laws.proofs.MachineGoesOn.{first_on}
+use Rattle.epoch_heap.specs.declared.access.Access.{Access}
+use Rattle.epoch_heap.specs.declared.access.Answer.TheVariants.{Absent}
+use Rattle.epoch_laws.specs.declared.step.Reply.TheVariants.{Done}
+use Rattle.epoch_heap.specs.Heap.{Heap, null, has_steps}
 
 -- NUMBERS OF GUARDS
 
@@ -57,24 +61,35 @@ module _ (sizes : Sizes) (seat : Seat) (h : IsLinked sizes seat) where
 
   -- a call under an unprotected guard drives nothing
   ends_at_once : seat.progress ≡ Idle → IsLinked sizes (begun_seat (Repin None) seat)
-  ends_at_once idle = progress_linked sizes seat h _ (follows_at sizes seat h Idle idle, refl)
+  ends_at_once idle = progress_linked sizes seat h _ (follows_at sizes seat h Idle idle, (_, refl))
 
-  pub begun_linked : (c : Call) (tickets : ℕ) → seat.progress ≡ Idle → call_refusal c seat tickets ≡ None
+  -- a call on cells and pointers drives nothing
+  accesses : (a : Access) (b : Bool) → seat.progress ≡ Idle
+      → IsLinked sizes (record seat { progress = if b then Accesses a 0 null else Ends (Done Absent) })
+  accesses a true idle = progress_linked sizes seat h _ (follows_at sizes seat h Idle idle)
+  accesses a false idle = progress_linked sizes seat h _ (follows_at sizes seat h Idle idle, (_, refl))
+
+  pub begun_linked : (c : Call) (tickets : ℕ) (heap : Heap) → seat.progress ≡ Idle
+      → call_refusal c seat tickets heap ≡ None
       → IsLinked sizes (begun_seat c seat)
-  begun_linked Pin n idle e = drives_linked PinAction Pin refl (has_room _ _ _ refl e)
-  begun_linked (Unpin None) n idle e = absurd (cc)
-  begun_linked (Unpin (Some g)) n idle e = drives_linked UnpinAction (Unpin (Some g)) refl (guard_given _ _ _ e)
-  begun_linked (Repin None) n idle e = ends_at_once idle
-  begun_linked (Repin (Some g)) n idle e = drives_linked RepinAction (Repin (Some g)) refl (guard_given _ _ _ e)
-  begun_linked (Pause None) n idle e = ends_at_once idle
-  begun_linked (Pause (Some g)) n idle e = drives_linked UnpinAction (Pause (Some g)) refl (guard_given _ _ _ e)
-  begun_linked (Resume None) n idle e = ends_at_once idle
-  begun_linked (Resume (Some g)) n idle e = drives_linked PinAction (Resume (Some g)) refl tt
-  begun_linked (Defer None) n idle e = progress_linked sizes seat h _ (follows_at sizes seat h Idle idle)
-  begun_linked (Defer (Some g)) n idle e = drives_linked DeferAction (Defer (Some g)) refl (guard_given _ _ _ e)
-  begun_linked (Flush None) n idle e = ends_at_once idle
-  begun_linked (Flush (Some g)) n idle e = drives_linked FlushAction (Flush (Some g)) refl (guard_given _ _ _ e)
-  begun_linked Release n idle e = drives_linked ReleaseAction Release refl (none_out _ (guard_given _ _ _ e))
+  begun_linked Pin n heap idle e = drives_linked PinAction Pin refl (has_room _ _ _ refl e)
+  begun_linked (Unpin None) n heap idle e = absurd (cc)
+  begun_linked (Unpin (Some g)) n heap idle e = drives_linked UnpinAction (Unpin (Some g)) refl (guard_given _ _ _ e)
+  begun_linked (Repin None) n heap idle e = ends_at_once idle
+  begun_linked (Repin (Some g)) n heap idle e = drives_linked RepinAction (Repin (Some g)) refl (guard_given _ _ _ e)
+  begun_linked (Pause None) n heap idle e = ends_at_once idle
+  begun_linked (Pause (Some g)) n heap idle e = drives_linked UnpinAction (Pause (Some g)) refl (guard_given _ _ _ e)
+  begun_linked (Resume None) n heap idle e = ends_at_once idle
+  begun_linked (Resume (Some g)) n heap idle e = drives_linked PinAction (Resume (Some g)) refl tt
+  begun_linked (Defer None) n heap idle e = progress_linked sizes seat h _ (follows_at sizes seat h Idle idle)
+  begun_linked (Defer (Some g)) n heap idle e = drives_linked DeferAction (Defer (Some g)) refl (guard_given _ _ _ e)
+  begun_linked (Flush None) n heap idle e = ends_at_once idle
+  begun_linked (Flush (Some g)) n heap idle e = drives_linked FlushAction (Flush (Some g)) refl (guard_given _ _ _ e)
+  begun_linked Release n heap idle e = drives_linked ReleaseAction Release refl (none_out _ (guard_given _ _ _ e))
+  begun_linked (DeferDestroy None ptr) n heap idle e = progress_linked sizes seat h _ (follows_at sizes seat h Idle idle)
+  begun_linked (DeferDestroy (Some g) ptr) n heap idle e =
+      drives_linked DeferAction (DeferDestroy (Some g) ptr) refl (guard_given _ _ _ e)
+  begun_linked (AccessCall a) n heap idle e = accesses a (has_steps a) idle
 
   -- ENDING
 
@@ -107,3 +122,5 @@ module _ (sizes : Sizes) (seat : Seat) (h : IsLinked sizes seat) where
   ended_linked (Defer g) d = counts_linked _ _ (as_many DeferAction d.action refl)
   ended_linked (Flush g) d = counts_linked _ _ (as_many FlushAction d.action refl)
   ended_linked Release d = counts_linked _ _ (as_many ReleaseAction d.action refl)
+  ended_linked (DeferDestroy g ptr) d = counts_linked _ _ (as_many DeferAction d.action refl)
+  ended_linked (AccessCall a) d = absurd d.under

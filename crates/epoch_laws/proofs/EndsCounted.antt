@@ -6,11 +6,11 @@ use Rattle.epoch_machine.specs.declared.machine.Ask.{Ask}
 use Rattle.epoch_machine.specs.declared.machine.Ask.TheVariants.{LoadEpoch, LoadWord, StorePinned, StoreRepinned, StoreUnpinned, StoreFree, StoreEpoch, PutBag, TakeBag, KeepJob, CallJob}
 use Rattle.epoch_machine.specs.declared.machine.Stage.{Stage}
 use Rattle.epoch_machine.specs.Machine.{ask_at}
-use Rattle.epoch_laws.specs.declared.step.Answer.TheVariants.{Count}
+use Rattle.epoch_heap.specs.declared.access.Answer.TheVariants.{Count}
 use Rattle.epoch_laws.specs.declared.step.Call.{Call}
 use Rattle.epoch_laws.specs.declared.step.Entry.{Entry}
 use Rattle.epoch_laws.specs.declared.step.Progress.{Progress}
-use Rattle.epoch_laws.specs.declared.step.Progress.TheVariants.{Idle, Driven, CallsNow, Ends}
+use Rattle.epoch_laws.specs.declared.step.Progress.TheVariants.{Idle, Driven, CallsNow, Accesses, Ends}
 use Rattle.epoch_laws.specs.declared.step.Reply.{Reply}
 use Rattle.epoch_laws.specs.declared.step.Reply.TheVariants.{Done}
 use Rattle.epoch_laws.specs.declared.step.Step.{Step}
@@ -48,7 +48,8 @@ goes_apart : (old new : State) (p : ℕ) (seat : Seat) (progress : Progress) (re
 goes_apart old new p seat Idle reply did = ap end_of did.1
 goes_apart old new p seat (Driven c) reply did =
     drives_apart old new p seat c seat.machine.stage (ask_at seat.machine.stage) reply did
-goes_apart old new p seat CallsNow reply did = ap end_of did.1
+goes_apart old new p seat (CallsNow removes) reply did = ap end_of did.1
+goes_apart old new p seat (Accesses a k found) reply (did, touches, told, is) = ap end_of is
 goes_apart old new p seat (Ends last) reply did = ap end_of did.1
 
 begins_apart : (old new : State) (p : ℕ) (c : Call) (fault : Option Fault) (reply : Reply)
@@ -121,7 +122,7 @@ step_ends old new Register reply (inl did) = apart _ _ _ _ refl (λ is. absurd (
 step_ends old new Register reply (inr (inl did)) = apart _ _ _ _ refl (λ is. absurd (cc (is))) (ap end_of did.3)
 step_ends old new Register reply (inr (inr did)) = apart _ _ _ _ refl (λ is. absurd (cc (is))) (ap end_of did.2)
 step_ends old new (Begin p c) reply did = apart _ _ _ _ refl (λ is. absurd (cc (is)))
-    (begins_apart old new p c (refusal c (seat_of old p) old.tickets) reply did)
+    (begins_apart old new p c (refusal c (seat_of old p) old.tickets old.heap) reply did)
 step_ends old new (Go p) reply (inl did) = apart _ _ _ _ refl (λ is. absurd (cc (is))) (ap end_of did.2)
 step_ends old new (Go p) reply (inr did) = apart _ _ _ _ refl (λ is. absurd (cc (is)))
     (goes_apart old new p (seat_of old p) (seat_of old p).progress reply did.1)
@@ -186,7 +187,7 @@ counts_along : (old new : State) (log entries : List Entry) → CountsEnd old lo
 counts_along old new log [] h run =
     subst (λ (at : State). CountsEnd at (log ++ [])) (sym run) (subst (CountsEnd old) (sym (append-nil log)) h)
 counts_along old new log (x ∷ entries) h (mid, took, run) =
-    let aside : State = with_places mid old.places old.seen old.ahead in
+    let aside : State = with_places mid old.places old.seen old.ahead old.room in
     let next : CountsEnd mid (log ++ x ∷ []) =
     counts_push old mid log x h (step_ends old aside x.step x.reply took.0) in
     subst (CountsEnd new) (append_assoc log (x ∷ []) entries) (counts_along mid new (log ++ x ∷ []) entries next run)

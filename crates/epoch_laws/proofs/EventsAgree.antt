@@ -1,32 +1,42 @@
 -- What a log tells of a participant, and how it agrees with the seat.
-use Rattle.std.proofs.Common.{◌≡◌, ◌≢◌, ℕ, ◌<◌, ◌==◌, true, false, [], length, Some, None, inl, inr, sym, subst, arith, if◌then◌else◌}
+use Rattle.std.proofs.Common.{◌≡◌, ◌≢◌, ℕ, ◌<◌, ◌==◌, true, false, [], length, Option, Some, None, inl, inr, sym, subst, arith, if◌then◌else◌}
 use Rattle.std.proofs.lemmas.Bool.Decides.{nat_tests}
 use Rattle.epoch_machine.specs.Machine.{Machine}
-use Rattle.epoch_laws.specs.declared.step.Call.TheVariants.{Defer}
-use Rattle.epoch_laws.specs.declared.step.Answer.TheVariants.{Unit as UnitAnswer}
+use Rattle.epoch_laws.specs.declared.step.Call.{Call}
+use Rattle.epoch_laws.specs.declared.step.Call.TheVariants.{Access as AccessCall}
 use Rattle.epoch_laws.specs.declared.step.Deferral.{Deferral}
+use Rattle.epoch_laws.specs.declared.step.Reply.{Reply}
+use Rattle.epoch_laws.specs.declared.step.Reply.TheVariants.{Done}
 use Rattle.epoch_laws.specs.declared.step.Word.TheVariants.{Free}
 use Rattle.epoch_laws.specs.declared.step.Progress.{Progress}
-use Rattle.epoch_laws.specs.declared.step.Progress.TheVariants.{Idle, Driven, CallsNow, Ends}
+use Rattle.epoch_laws.specs.declared.step.Progress.TheVariants.{Idle, Driven, CallsNow, Ends, Accesses}
 use Rattle.epoch_laws.specs.Run.{Seat, State, seat_of, with_seat}
-use Rattle.epoch_laws.specs.Lawful.{Told, after_refused, after_done, HasTold, AnswerFits}
+use Rattle.epoch_laws.specs.Lawful.{Told, after_refused, after_done, HasTold, AnswerFits, MayCallNow}
 use Rattle.epoch_laws.proofs.SeatLemmas.{seat_written, seat_other, same_or_other}
 use Rattle.epoch_laws.proofs.GuardLists.{has_any}
 use Rattle.epoch_laws.proofs.ToldAtStages.{ToldAt}
+use Rattle.epoch_laws.proofs.AccessesTold.{Named}
+use Rattle.epoch_heap.specs.declared.access.Answer.{Answer}
 
 -- outside a driven call a participant is pinned where a guard is counted
 abbrev pub PinnedByGuards : Told → Type 0
 PinnedByGuards t = t.pinned ≡ has_any t.guards
 
--- a call that is done leaves the position, the guards and the paused one
+-- a call that is done, whatever it answers, leaves the position, the guards and the paused one
 abbrev pub LeavesAll : Told → Type 0
-LeavesAll t = after_done t.call UnitAnswer t ≡ after_refused t
+LeavesAll t = (answer : Answer) → after_done t.call answer t ≡ after_refused t
+
+-- the call is done with its own kind of answer
+abbrev pub ReplyFits : Option Call → Reply → Type 0
+ReplyFits call (Done answer) = AnswerFits call answer
+ReplyFits call _ = ⊥
 
 abbrev pub ToldOf : Told → Machine Deferral → Progress → Type 0
 ToldOf t m Idle = (t.call ≡ None) × PinnedByGuards t
 ToldOf t m (Driven c) = (t.call ≡ Some c) × ToldAt t c m.full m.stage
-ToldOf t m CallsNow = (t.call ≡ Some (Defer None)) × (t.did_call_now ≡ false) × PinnedByGuards t
-ToldOf t m (Ends reply) = HasTold t.call t × AnswerFits t.call UnitAnswer × LeavesAll t × PinnedByGuards t
+ToldOf t m (CallsNow removes) = MayCallNow t.call × (t.did_call_now ≡ false) × PinnedByGuards t
+ToldOf t m (Accesses a k found) = (t.call ≡ Some (AccessCall a)) × Named a × PinnedByGuards t
+ToldOf t m (Ends reply) = HasTold t.call t × ReplyFits t.call reply × LeavesAll t × PinnedByGuards t
 
 -- what is told of a position that nobody has taken
 pub record IsAway (t : Told) : Type 0 where

@@ -3,9 +3,9 @@ use Rattle.std.proofs.Common.{◌≡◌, ◌≢◌, ℕ, Bool, true, false, not,
 use Rattle.epoch_cells.specs.declared.fault.Fault.TheVariants.{BagsFull}
 use Rattle.epoch_machine.specs.declared.machine.Stage.TheVariants.{End}
 use Rattle.epoch_laws.specs.declared.step.Call.{Call}
-use Rattle.epoch_laws.specs.declared.step.Call.TheVariants.{Pin, Unpin, Repin, Pause, Resume, Defer, Flush, Release}
-use Rattle.epoch_laws.specs.declared.step.Answer.{Answer}
-use Rattle.epoch_laws.specs.declared.step.Answer.TheVariants.{Guard, Unit as UnitAnswer}
+use Rattle.epoch_laws.specs.declared.step.Call.TheVariants.{Pin, Unpin, Repin, Pause, Resume, Defer, Flush, Release, DeferDestroy, Access as AccessCall}
+use Rattle.epoch_heap.specs.declared.access.Answer.{Answer}
+use Rattle.epoch_heap.specs.declared.access.Answer.TheVariants.{Guard, Unit as UnitAnswer}
 use Rattle.epoch_laws.specs.declared.step.Reply.{Reply}
 use Rattle.epoch_laws.specs.declared.step.Reply.TheVariants.{Done, Refused}
 use Rattle.epoch_laws.specs.declared.step.Word.TheVariants.{Free}
@@ -24,6 +24,7 @@ Tells p t reply after = MayTell p t reply × Agrees (after_go t reply) after
 abbrev may_be_full : Call → Bool
 may_be_full (Defer g) = true
 may_be_full (Flush g) = true
+may_be_full (DeferDestroy g ptr) = true
 may_be_full _ = false
 
 -- what a call has told when it is refused, or done
@@ -39,6 +40,9 @@ told_by t (Defer None) full under may told = absurd under
 told_by t (Flush (Some g)) true under may told = tt
 told_by t (Flush (Some g)) false under may told = (tt, tt)
 told_by t (Flush None) full under may told = absurd under
+told_by t (DeferDestroy (Some g) ptr) true under may told = told
+told_by t (DeferDestroy (Some g) ptr) false under may told = (told, tt)
+told_by t (DeferDestroy None ptr) full under may told = absurd under
 told_by t _ full under may told = absurd (cc)
 
 module _ (t : Told) (seat : Seat) (p : ℕ) (taken : seat.word ≢ Free) (h : Agrees t seat) where
@@ -123,3 +127,6 @@ module _ (t : Told) (seat : Seat) (p : ℕ) (taken : seat.word ≢ Free) (h : Ag
   end_agrees Release call under (told, on) =
       subst (λ (full : Bool). Tells p t (full_or_done full) (with_guards seat seat.guards seat.paused)) (sym told.0)
       (refused Release call (told.1, told.2) on)
+  end_agrees (DeferDestroy g ptr) call under (told, on) =
+      refusable (DeferDestroy g ptr) call under refl told refl refl refl on
+  end_agrees (AccessCall a) call under at = absurd under

@@ -25,19 +25,19 @@ abbrev ShowsStep : State → (ℕ → Told) → Step → Reply → Type 0
 ShowsStep new told step reply = MayReply told step reply × AllAgree new (λ q. told_after q (told q) step reply)
 
 module _ (old new : State) (told : ℕ → Told) (reply : Reply) (h : AllAgree old told) (linked : AllLinked old) where
-  begin_shown : (p : ℕ) (c : Call) (fault : Option Fault) → refusal c (seat_of old p) old.tickets ≡ fault
+  begin_shown : (p : ℕ) (c : Call) (fault : Option Fault) → refusal c (seat_of old p) old.tickets old.heap ≡ fault
       → Begins old p c fault reply new → ShowsStep new told (Begin p c) reply
   begin_shown p c (Some fault) e did = subst (λ (r : Reply). ShowsStep new told (Begin p c) r) (sym did.0)
       (subst (λ (s : State). ShowsStep s told (Begin p c) (Refused fault)) (sym did.1)
       (tt, told_agrees old told (λ u. after_begin u c (Refused fault)) p h (h p)))
   begin_shown p c None e did =
-      let ok : IsAccepted c (seat_of old p) old.tickets = begin_given c (seat_of old p) old.tickets e in
+      let ok : IsAccepted c (seat_of old p) old.tickets old.heap = begin_given c (seat_of old p) old.tickets old.heap e in
       subst (λ (r : Reply). ShowsStep new told (Begin p c) r) (sym did.0)
       (subst (λ (s : State). ShowsStep s told (Begin p c) Began) (sym did.1) (
-        begin_allowed (told p) (seat_of old p) old.sizes old.tickets (h p) (linked.seats p) c ok,
+        begin_allowed (told p) (seat_of old p) old.sizes old.tickets old.heap (h p) (linked.seats p) c ok,
         seat_agrees old told (λ u. after_begin u c Began) p (begun_seat c (seat_of old p)) h
             (seat_there old p ok.taken)
-            (begin_agrees (told p) (seat_of old p) old.sizes old.tickets (h p) (linked.seats p) c ok),
+            (begin_agrees (told p) (seat_of old p) old.sizes old.tickets old.heap (h p) (linked.seats p) c ok),
       ))
 
   -- no seat is written, and nothing is told of a participant
@@ -104,7 +104,7 @@ module _ (old new : State) (told : ℕ → Told) (reply : Reply) (h : AllAgree o
   step_shown Register (inl did) = registered did.0 did.2 did.3 did.5 did.6
   step_shown Register (inr (inl did)) = unregistered TableFull did.2 did.3
   step_shown Register (inr (inr did)) = unregistered Ended did.1 did.2
-  step_shown (Begin p c) did = begin_shown p c (refusal c (seat_of old p) old.tickets) refl did
+  step_shown (Begin p c) did = begin_shown p c (refusal c (seat_of old p) old.tickets old.heap) refl did
   step_shown (Go p) (inl did) = away_shown p did.0 did.1 did.2
   step_shown (Go p) (inr did) =
       tell_go old new told reply h p did.0 (linked.seats p) (seat_of old p).progress refl did.1
@@ -120,7 +120,7 @@ replies_from : (old new : State) (log : List Entry) (told : ℕ → Told)
     → MayReplyAll told log
 replies_from old new [] told h linked run = tt
 replies_from old new (x ∷ log) told h linked (mid, took, run) =
-    let aside : State = with_places mid old.places old.seen old.ahead in
+    let aside : State = with_places mid old.places old.seen old.ahead old.room in
     let shown : ShowsStep mid told x.step x.reply = step_shown old aside told x.reply h linked x.step took.0 in
     let still_linked : AllLinked mid = step_linked old mid x.step x.reply linked took in
     (shown.0, replies_from mid new log (λ q. told_after q (told q) x.step x.reply) shown.1 still_linked run)

@@ -1,6 +1,5 @@
 -- The reply of a Go may stand, and what it tells agrees with the participant's seat after it.
 use Rattle.std.proofs.Common.{◌≡◌, ◌≢◌, ℕ, ◌+◌, true, false, List, [], Option, Some, None, refl, ap, sym, subst, ◌∙◌}
-use Rattle.epoch_bags.specs.declared.job.Called.TheVariants.{Ran}
 use Rattle.epoch_cells.specs.declared.fault.Fault.TheVariants.{Idle as IdleFault}
 use Rattle.epoch_bags.specs.declared.queue.PutStep.{PutStep}
 use Rattle.epoch_bags.specs.declared.queue.PutStep.TheVariants.{Again, Done as PutDone, Full}
@@ -11,7 +10,9 @@ use Rattle.epoch_machine.specs.declared.machine.Stage.TheVariants.{Idle as Resti
 use Rattle.epoch_machine.specs.declared.machine.Answer.TheVariants.{Stored, Job}
 use Rattle.epoch_machine.specs.Machine.{Machine, with_stage, after_pin, ask_at, hears, put_heard, took_heard, gives}
 use Rattle.epoch_laws.specs.declared.step.Call.{Call}
-use Rattle.epoch_laws.specs.declared.step.Answer.TheVariants.{Unit as UnitAnswer, Released}
+use Rattle.epoch_laws.specs.declared.step.Call.TheVariants.{Defer, DeferDestroy}
+use Rattle.epoch_heap.specs.declared.access.Answer.{Answer}
+use Rattle.epoch_heap.specs.declared.access.Answer.TheVariants.{Unit as UnitAnswer, Released}
 use Rattle.epoch_laws.specs.declared.step.Step.TheVariants.{Go}
 use Rattle.epoch_laws.specs.declared.step.Reply.{Reply}
 use Rattle.epoch_laws.specs.declared.step.Reply.TheVariants.{Stepped, Pinned as PinnedReply, Unpinned as UnpinnedReply, Repinned, Deferred, Called as CalledReply, CalledNow, Done, Refused}
@@ -19,19 +20,34 @@ use Rattle.epoch_laws.specs.declared.step.Deferral.{Deferral}
 use Rattle.epoch_laws.specs.declared.step.Word.{Word}
 use Rattle.epoch_laws.specs.declared.step.Word.TheVariants.{Free, Unpinned, Pinned}
 use Rattle.epoch_laws.specs.declared.step.Progress.{Progress}
-use Rattle.epoch_laws.specs.declared.step.Progress.TheVariants.{Idle, Driven, CallsNow, Ends}
-use Rattle.epoch_laws.specs.Run.{Seat, State, seat_of, word_of, number_of, with_seat, with_word, with_machine, free_seat, end_reply, ended_seat, Drives, Goes}
-use Rattle.epoch_laws.specs.Lawful.{Told, after_done, after_go, told_after, MayPin, MayUnpin, MayRepin, MayDefer, MayCall, MayCallNow, HasTold, AnswerFits, HasToldRefused, MayTell}
+use Rattle.epoch_laws.specs.declared.step.Progress.TheVariants.{Idle, Driven, CallsNow, Ends, Accesses}
+use Rattle.epoch_laws.specs.Run.{Seat, State, seat_of, word_of, number_of, with_seat, with_word, with_machine, free_seat, end_reply, ended_seat, Drives, Goes, access_reply, accessed_seat, removed_by}
+use Rattle.epoch_laws.specs.Lawful.{Told, after_done, after_refused, after_go, told_after, MayPin, MayUnpin, MayRepin, MayDefer, MayCall, MayCallNow, HasTold, AnswerFits, HasToldRefused, MayTell}
 use Rattle.epoch_laws.proofs.SeatLemmas.{seat_there}
 use Rattle.epoch_laws.proofs.SeatLinks.{action_of, BeganUnder, IsDriven, IsLinked, follows_at}
 use Rattle.epoch_laws.proofs.GuardLists.{has_any, none_is}
 use Rattle.epoch_laws.proofs.ToldAtStages.{ToldAt, told_repinned, told_kept, may_call, machine_collected, machine_pinned, machine_scanned, machine_called, machine_put, machine_unpinned, machine_reloaded}
-use Rattle.epoch_laws.proofs.EventsAgree.{PinnedByGuards, ToldOf, Agrees, AllAgree, seat_agrees, told_agrees}
+use Rattle.epoch_laws.proofs.EventsAgree.{PinnedByGuards, ReplyFits, ToldOf, Agrees, AllAgree, seat_agrees, told_agrees}
 use Rattle.epoch_laws.proofs.EventsAtEnd.{Tells, end_agrees}
+use Rattle.epoch_heap.specs.declared.access.Access.{Access}
+use Rattle.epoch_heap.specs.declared.access.Accessed.{Accessed}
+use Rattle.epoch_heap.specs.declared.access.Accessed.TheVariants.{Again, Answers, NoSlot}
+use Rattle.epoch_heap.specs.declared.access.Ptr.{Ptr}
+use Rattle.epoch_cells.specs.declared.cells.name.Name.{Name}
+use Rattle.epoch_bags.specs.declared.job.Called.{Called}
+use Rattle.epoch_heap.specs.Heap.{outcome_of, after_job}
+use Rattle.epoch_laws.proofs.AccessesTold.{IsTold, told_by_touch}
 
 -- what a step of p has to show: its reply may stand, and what is told from then on agrees with the seats
 abbrev pub Shows : State → (ℕ → Told) → ℕ → Reply → Type 0
 Shows new told p reply = MayTell p (told p) reply × AllAgree new (λ q. told_after q (told q) (Go p) reply)
+
+-- a call that calls a job at once is done then
+now_told : (call : Option Call) (t : Told) → MayCallNow call → t.did_call_now ≡ true
+    → HasTold call t × AnswerFits call UnitAnswer × ((answer : Answer) → after_done call answer t ≡ after_refused t)
+now_told (Some (Defer None)) t may did = (did, tt, λ answer. refl)
+now_told (Some (DeferDestroy None ptr)) t may did = (did, tt, λ answer. refl)
+now_told _ t may did = absurd may
 
 -- an event of a call under way changes none of these
 abbrev KeepsCall : Told → Told → Type 0
@@ -157,14 +173,14 @@ module _ (old new : State) (told : ℕ → Told) (reply : Reply) (h : AllAgree o
     tell_drive (Take x k) at (step, jobs, queued, told_so, took, e) =
         tell_take x k step jobs _ at told_so e (λ q. refl)
     tell_drive (Calling x k) (told, on) (job, jobs, hand, told_so, e) =
-        tells (CalledReply job.ticket Ran) (with_machine seat (gives m (Calling x k) jobs)) _ (
+        tells (CalledReply job.ticket (outcome_of old.heap job.removes)) (with_machine seat (gives m (Calling x k) jobs)) _ (
           (in_call MayCall (may_call t c under told), on),
           goes_on seat.word _ t (refl, refl, refl, refl) taken (machine_called t c m drives under x k jobs told on),
         ) told_so e (λ q. refl)
     tell_drive LoadSeal at did = moves (Put old.epoch) at did
     tell_drive (Put seal) at (step, queued, told_so, puts, e) = tell_put seal step _ at told_so e (λ q. refl)
     tell_drive Keep (told, on) did =
-        let job : Deferral = record { ticket = old.tickets; removes = None } in
+        let job : Deferral = record { ticket = old.tickets; removes = removed_by seat.progress } in
         tells (Deferred old.tickets) (with_machine seat (hears m Keep (Job job))) _ (
           (in_call MayDefer told.0, told.1),
           goes_on seat.word _ (after_go t (Deferred old.tickets)) (refl, refl, refl, refl) taken
@@ -207,29 +223,69 @@ module _ (old new : State) (told : ℕ → Told) (reply : Reply) (h : AllAgree o
       ))
 
   -- a job is called at once
-  tell_calls_now : seat.progress ≡ CallsNow → reply ≡ CalledNow Ran
-      → new ≡ with_seat old p (record seat { progress = Ends (Done UnitAnswer) }) → Goal
-  tell_calls_now now told_so e = by_told (told_of CallsNow now)
+  tell_calls_now : (removes : Option Name) (how : Called) → seat.progress ≡ CallsNow removes → reply ≡ CalledNow how
+      → new ≡ record (with_seat old p (record seat { progress = Ends (Done UnitAnswer) })) { heap = after_job old.heap removes } → Goal
+  tell_calls_now removes how now told_so e = by_told (told_of (CallsNow removes) now)
     where
       called : Told
-      called = after_go t (CalledNow Ran)
+      called = after_go t (CalledNow how)
 
-      by_told : ToldOf t m CallsNow → Goal
-      by_told (call, not_yet, on) = tells (CalledNow Ran) (record seat { progress = Ends (Done UnitAnswer) }) _ (
-        (subst MayCallNow (sym call) tt, not_yet),
+      by_told : ToldOf t m (CallsNow removes) → Goal
+      by_told (may, not_yet, on) =
+          let leaves = now_told t.call called may refl in
+          tells (CalledNow how) (record seat { progress = Ends (Done UnitAnswer) }) _ (
+            (may, not_yet),
+            record {
+              guards = (h p).guards;
+              paused = (h p).paused;
+              told = (leaves.0, leaves.1, leaves.2, on);
+              here = (h p).here;
+              away = λ free. absurd (taken free);
+            },
+          ) told_so e (λ q. refl)
+
+  -- a call on cells and pointers goes on
+  tell_access : (a : Access) (k : ℕ) (found : Ptr) (told : Accessed) → seat.progress ≡ Accesses a k found
+      → IsTold t a told → Tells p t (access_reply told) (accessed_seat a k told seat)
+  tell_access a k found told now may = by_told (told_of (Accesses a k found) now) told may
+    where
+      by_told : ToldOf t m (Accesses a k found) → (told : Accessed) → IsTold t a told
+          → Tells p t (access_reply told) (accessed_seat a k told seat)
+      by_told (call, names, on) (Again other) may = (
+        tt,
+        record {
+          guards = (h p).guards;
+          paused = (h p).paused;
+          told = (call, names, on);
+          here = (h p).here;
+          away = λ free. absurd (taken free);
+        },
+      )
+      by_told (call, names, on) (Answers answer) may = (
+        tt,
         record {
           guards = (h p).guards;
           paused = (h p).paused;
           told = (
-            subst (λ (d : Option Call). HasTold d called) (sym call) refl,
-            subst (λ (d : Option Call). AnswerFits d UnitAnswer) (sym call) tt,
-            ap (λ (d : Option Call). after_done d UnitAnswer called) call,
+            subst (λ (under_way : Option Call). HasTold under_way t) (sym call) tt,
+            subst (λ (under_way : Option Call). AnswerFits under_way answer) (sym call) (may names),
+            λ other. ap (λ (under_way : Option Call). after_done under_way other t) call,
             on,
           );
           here = (h p).here;
           away = λ free. absurd (taken free);
         },
-      ) told_so e (λ q. refl)
+      )
+      by_told (call, names, on) NoSlot may = (
+        subst (λ (under_way : Option Call). HasToldRefused under_way t) (sym call) may,
+        record {
+          guards = (h p).guards;
+          paused = (h p).paused;
+          told = (refl, on);
+          here = (h p).here;
+          away = λ free. absurd (taken free);
+        },
+      )
 
   -- a call that the machine doesn't drive is done
   tell_ends : (last : Reply) → seat.progress ≡ Ends last → reply ≡ last
@@ -237,19 +293,24 @@ module _ (old new : State) (told : ℕ → Told) (reply : Reply) (h : AllAgree o
   tell_ends last ends told_so e = by_told (told_of (Ends last) ends)
     where
       by_told : ToldOf t m (Ends last) → Goal
-      by_told (told, fits, leaves, on) = tells (Done UnitAnswer) (record seat { progress = Idle }) _ (
-        (told, fits),
-        subst (λ (u : Told). Agrees u (record seat { progress = Idle })) (sym leaves) (record {
-          guards = (h p).guards;
-          paused = (h p).paused;
-          told = (refl, on);
-          here = (h p).here;
-          away = λ free. absurd (taken free);
-        }),
-      ) (told_so ∙ (follows_at old.sizes seat linked (Ends last) ends).1) e (λ q. refl)
+      by_told (told, fits, leaves, on) =
+          let done : (answer : Answer) × (last ≡ Done answer) = (follows_at old.sizes seat linked (Ends last) ends).1 in
+          tells (Done done.0) (record seat { progress = Idle }) _ (
+            (told, subst (ReplyFits t.call) done.1 fits),
+            subst (λ (u : Told). Agrees u (record seat { progress = Idle })) (sym (leaves done.0)) (record {
+              guards = (h p).guards;
+              paused = (h p).paused;
+              told = (refl, on);
+              here = (h p).here;
+              away = λ free. absurd (taken free);
+            }),
+          ) (told_so ∙ done.1) e (λ q. refl)
 
   pub tell_go : (progress : Progress) → seat.progress ≡ progress → Goes old p seat progress reply new → Goal
   tell_go Idle at did = tell_idle at did.0 did.1
   tell_go (Driven c) at did = tell_drive c at m.stage (told_call c at).1 did
-  tell_go CallsNow at did = tell_calls_now at did.0 did.1
+  tell_go (CallsNow removes) at did = tell_calls_now removes _ at did.0 did.1
+  tell_go (Accesses a k found) at (did, touches, told_so, e) =
+      tells (access_reply did.told) (accessed_seat a k did.told seat) _
+      (tell_access a k found did.told at (told_by_touch t a k found old.heap did touches)) told_so e (λ q. refl)
   tell_go (Ends last) at did = tell_ends last at did.0 did.1

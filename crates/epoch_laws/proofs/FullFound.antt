@@ -27,7 +27,7 @@ use Rattle.epoch_laws.proofs.FullOfGo.{ShowsFull, goes}
 
 module _ (old new : State) (reply : Reply) (found : ℕ → ℕ → Type 0) (h : AllFind found old) (linked : AllLinked old) where
   abbrev aside_of : State
-  aside_of = with_places new old.places old.seen old.ahead
+  aside_of = with_places new old.places old.seen old.ahead old.room
 
   -- nothing is found, and no seat is written
   stays : (step : Step) → Sees old step new → ((q : ℕ) → seen_by new q ≡ seen_by old q)
@@ -44,7 +44,7 @@ module _ (old new : State) (reply : Reply) (found : ℕ → ℕ → Type 0) (h :
       (λ q other. as_before (found q)) (λ q other. ap (λ (all : List ℕ). slice_index_or all q 0) sees.1) (λ q. ap (λ (s : State). seat_of s q) e)
       (rest_finds _ _ _ (record (free_seat old.sizes) { word = Unpinned }) refl tt (λ plain. refl))
 
-  begins : (p : ℕ) (c : Call) (fault : Option Fault) → refusal c (seat_of old p) old.tickets ≡ fault → Sees old (Begin p c) new
+  begins : (p : ℕ) (c : Call) (fault : Option Fault) → refusal c (seat_of old p) old.tickets old.heap ≡ fault → Sees old (Begin p c) new
       → Begins old p c fault reply aside_of → ShowsFull found old new (Begin p c) reply
   begins p c (Some fault) at sees did = subst (ShowsFull found old new (Begin p c)) (sym did.0) (
     tt,
@@ -52,7 +52,7 @@ module _ (old new : State) (reply : Reply) (found : ℕ → ℕ → Type 0) (h :
         (λ q. ap (λ (all : List ℕ). slice_index_or all q 0) sees.1) (λ q. ap (λ (s : State). seat_of s q) did.1),
   )
   begins p c None at sees did =
-      let given = begin_given c (seat_of old p) old.tickets at in
+      let given = begin_given c (seat_of old p) old.tickets old.heap at in
       let rests : (seat_of old p).machine.stage ≡ Resting = follows_at old.sizes (seat_of old p) (linked.seats p) Idle given.idle in
       subst (ShowsFull found old new (Begin p c)) (sym did.0) (
         tt,
@@ -104,7 +104,7 @@ module _ (old new : State) (reply : Reply) (found : ℕ → ℕ → Type 0) (h :
       by_ending (Emptying [] n) (inr did) = along _ did.2 (λ q. refl)
 
   -- a step that neither an end nor a participant goes on with
-  still : (new.places ≡ old.places) × (new.seen ≡ old.seen) × (new.ahead ≡ old.ahead) → (last : State) → aside_of ≡ last → ((q : ℕ) → seat_of last q ≡ seat_of old q)
+  still : (new.places ≡ old.places) × (new.seen ≡ old.seen) × (new.ahead ≡ old.ahead) × (new.room ≡ old.room) → (last : State) → aside_of ≡ last → ((q : ℕ) → seat_of last q ≡ seat_of old q)
       → AllFind found new
   still same last e seats = find_along old new found found h (ap length same.0) (λ q. as_before (found q))
       (λ q. ap (λ (all : List ℕ). slice_index_or all q 0) same.1) (λ q. ap (λ (s : State). seat_of s q) e ∙ seats q)
@@ -113,7 +113,7 @@ module _ (old new : State) (reply : Reply) (found : ℕ → ℕ → Type 0) (h :
   step_shown Register (inl did, sees) = (tt, registers did.0 did.2 sees did.6)
   step_shown Register (inr (inl did), sees) = (tt, still sees old did.3 (λ q. refl))
   step_shown Register (inr (inr did), sees) = (tt, still sees old did.2 (λ q. refl))
-  step_shown (Begin p c) (did, sees) = begins p c (refusal c (seat_of old p) old.tickets) refl sees did
+  step_shown (Begin p c) (did, sees) = begins p c (refusal c (seat_of old p) old.tickets old.heap) refl sees did
   step_shown (Go p) (inl did, sees) = goes_free p did.0 sees did.1 did.2
   step_shown (Go p) (inr did, sees) = goes old new reply found h p did.0 sees linked (seat_of old p).progress refl did.1
   step_shown EndStep (inl did, sees) = (tt, still sees _ did.3 (λ q. refl))

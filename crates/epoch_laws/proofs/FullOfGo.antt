@@ -1,7 +1,6 @@
 -- A Go that ends a call tells that the bags are full exactly where its put found each place occupied.
-use Rattle.std.proofs.Common.{◌≡◌, ◌≢◌, ℕ, slice_index_or, ◌==◌, Bool, true, false, List, length, Option, None, refl, ap, ap₂, sym, subst, ◌∙◌, if◌then◌else◌, arith}
+use Rattle.std.proofs.Common.{◌≡◌, ◌≢◌, ℕ, slice_index_or, ◌==◌, Bool, true, false, List, length, Option, refl, ap, ap₂, sym, subst, ◌∙◌, if◌then◌else◌, arith}
 use Rattle.std.proofs.lemmas.List.{set-get_or}
-use Rattle.epoch_bags.specs.declared.job.Called.TheVariants.{Ran}
 use Rattle.epoch_bags.specs.declared.queue.PutStep.{PutStep}
 use Rattle.epoch_bags.specs.declared.queue.TakeStep.{TakeStep}
 use Rattle.epoch_bags.specs.declared.queue.TakeStep.TheVariants.{Again as TakeAgain, Empty, Got}
@@ -11,12 +10,12 @@ use Rattle.epoch_machine.specs.declared.machine.Ask.{Ask}
 use Rattle.epoch_machine.specs.declared.machine.Stage.{Stage}
 use Rattle.epoch_machine.specs.declared.machine.Stage.TheVariants.{Idle as Resting, LoadPin, StorePin, ReloadPin, LoadScan, Scan, Advance, Take, Calling, LoadSeal, Put, Keep, LoadRepin, StoreRepin, ReloadRepin, StoreUnpinned, StoreFree, End}
 use Rattle.epoch_machine.specs.Machine.{Machine, after_collect, after_pin, after_job, past_word, ask_at, with_stage, hears, put_heard, took_heard, gives, PutsHeld}
-use Rattle.epoch_laws.specs.declared.step.Answer.TheVariants.{Unit as UnitAnswer, Released}
+use Rattle.epoch_heap.specs.declared.access.Answer.TheVariants.{Unit as UnitAnswer, Released}
 use Rattle.epoch_laws.specs.declared.step.Call.{Call}
-use Rattle.epoch_laws.specs.declared.step.Call.TheVariants.{Defer, Flush, Release}
+use Rattle.epoch_laws.specs.declared.step.Call.TheVariants.{Defer, Flush, Release, DeferDestroy}
 use Rattle.epoch_laws.specs.declared.step.Deferral.{Deferral}
 use Rattle.epoch_laws.specs.declared.step.Progress.{Progress}
-use Rattle.epoch_laws.specs.declared.step.Progress.TheVariants.{Idle, Driven, CallsNow, Ends}
+use Rattle.epoch_laws.specs.declared.step.Progress.TheVariants.{Idle, Driven, CallsNow, Ends, Accesses}
 use Rattle.epoch_laws.specs.declared.step.Reply.{Reply}
 use Rattle.epoch_laws.specs.declared.step.Reply.TheVariants.{Stepped, Pinned as PinnedReply, Unpinned as UnpinnedReply, Repinned, Deferred, Called as CalledReply, CalledNow, Done, Refused}
 use Rattle.epoch_laws.specs.declared.step.Step.{Step}
@@ -25,7 +24,7 @@ use Rattle.epoch_laws.specs.declared.step.Word.{Word}
 use Rattle.epoch_laws.specs.declared.step.Word.TheVariants.{Free, Unpinned, Pinned}
 use Rattle.epoch_laws.specs.Full.{Puts, found_after, TellsFull}
 use Rattle.epoch_laws.specs.Places.{Looks, PutSees}
-use Rattle.epoch_laws.specs.Run.{Bag, Seat, State, seat_of, word_of, number_of, with_seat, with_word, with_machine, with_places, free_seat, seen_by, sight_of, turn_at, turn_of, ended_seat, end_reply, full_or_done, Drives, Goes, Sees}
+use Rattle.epoch_laws.specs.Run.{Bag, Seat, State, seat_of, word_of, number_of, with_seat, with_word, with_machine, with_places, free_seat, seen_by, sight_of, turn_at, turn_of, ended_seat, end_reply, full_or_done, Drives, Goes, Sees, access_reply, accessed_seat, progress_after, removed_by}
 use Rattle.epoch_laws.proofs.SeatLemmas.{seat_there, seat_written}
 use Rattle.epoch_laws.proofs.SeatLinks.{action_of, Follows, AllLinked, follows_at}
 use Rattle.epoch_laws.proofs.ToldAtStages.{either_stage}
@@ -34,6 +33,10 @@ use Rattle.epoch_laws.proofs.SeatsFind.{FoundIn, PutFinds, SameFound, none_still
 use Rattle.epoch_laws.proofs.PutSteps.{put_finds, same_step}
 use Rattle.epoch_laws.proofs.FoundAfter.{others_same, own_same, put_more}
 use Rattle.epoch_laws.proofs.PutsFind.{AllFind, same_count, turn_taken, find_written}
+use Rattle.epoch_heap.specs.declared.access.Access.{Access}
+use Rattle.epoch_heap.specs.declared.access.Accessed.{Accessed}
+use Rattle.epoch_heap.specs.declared.access.Accessed.TheVariants.{Again, Answers, NoSlot}
+use Rattle.epoch_heap.specs.Heap.{outcome_of}
 
 -- what a step has to show
 abbrev pub ShowsFull : (ℕ → ℕ → Type 0) → State → State → Step → Reply → Type 0
@@ -50,7 +53,7 @@ module _ (old new : State) (reply : Reply) (found : ℕ → ℕ → Type 0) (h :
   m = seat.machine
 
   abbrev aside : State
-  aside = with_places new old.places old.seen old.ahead
+  aside = with_places new old.places old.seen old.ahead old.room
 
   abbrev later : ℕ → ℕ → Type 0
   later = found_after found old (Go p) reply new
@@ -154,6 +157,7 @@ module _ (old new : State) (reply : Reply) (found : ℕ → ℕ → Type 0) (h :
     tells_end (Defer g) same = tells_full m.full finds_where
     tells_end (Flush g) same = tells_full m.full finds_where
     tells_end Release same = tells_full m.full finds_where
+    tells_end (DeferDestroy g ptr) same = tells_full m.full finds_where
     tells_end _ same = finds_missed ((h p).by_action (ap puts_bag same))
 
     ends : (reply ≡ end_reply c seat) × (aside ≡ with_seat old p (ended_seat c seat)) → Goal
@@ -230,12 +234,12 @@ module _ (old new : State) (reply : Reply) (found : ℕ → ℕ → Type 0) (h :
         let n : Machine Deferral = gives m (Calling x k) jobs in
         let finds : Finds (with_machine seat n) =
         goes_on (Calling x k) at (λ no. no) seat.word n refl refl (called x k jobs (was (Calling x k) at (λ no. no))) in
-        tells (CalledReply job.ticket Ran) _ _ tt finds told e (λ q. refl)
+        tells (CalledReply job.ticket (outcome_of old.heap job.removes)) _ _ tt finds told e (λ q. refl)
     drives LoadSeal at did = tells Stepped _ _ tt (seals old.epoch at) did.0 did.1 (λ q. refl)
     drives (Put s) at (step, queued, told, put, e) =
         tells Stepped _ _ tt (puts s step queued at put e) told e (λ q. refl)
     drives Keep at did =
-        let n : Machine Deferral = hears m Keep (Job (record { ticket = old.tickets; removes = None })) in
+        let n : Machine Deferral = hears m Keep (Job (record { ticket = old.tickets; removes = removed_by seat.progress })) in
         let finds : Finds (with_machine seat n) = goes_on Keep at (λ no. no) seat.word n refl refl tt in
         tells (Deferred old.tickets) _ _ tt finds did.0 did.1 (λ q. refl)
     drives LoadRepin at did =
@@ -268,6 +272,17 @@ module _ (old new : State) (reply : Reply) (found : ℕ → ℕ → Type 0) (h :
   found_in : (progress : Progress) → seat.progress ≡ progress → FoundIn (found p) (length old.places) m.full progress
   found_in progress now = subst (FoundIn (found p) (length old.places) m.full) now (h p).by_progress
 
+  may_access : (told : Accessed) → TellsFull found old (Go p) (access_reply told)
+  may_access (Again other) = tt
+  may_access (Answers answer) = tt
+  may_access NoSlot = tt
+
+  in_access : (a : Access) (k : ℕ) (told : Accessed) → NoneFound (later p)
+      → FoundIn (later p) (length new.places) m.full (progress_after a k told)
+  in_access a k (Again other) none = none
+  in_access a k (Answers answer) none = none
+  in_access a k NoSlot none = tt
+
   pub goes : AllLinked old → (progress : Progress) → seat.progress ≡ progress
       → Goes old p seat progress reply aside → Goal
   goes linked progress now did = by_progress progress now (follows_at old.sizes seat (linked.seats p) progress now) did
@@ -283,11 +298,16 @@ module _ (old new : State) (reply : Reply) (found : ℕ → ℕ → Type 0) (h :
           subst (FoundIn (later p) (length new.places) m.full) (sym now) tt in
           tells (Refused IdleFault) seat _ tt (rest_finds _ _ _ seat rests nothing (h p).by_action) did.0 did.1 same_seat
       by_progress (Driven c) now driven did = drives c now driven.action m.stage refl did
-      by_progress CallsNow now rests did =
-          let none : NoneFound (later p) = finds_none CallsNow now (λ no. no) (found_in CallsNow now) in
+      by_progress (CallsNow removes) now rests did =
+          let none : NoneFound (later p) = finds_none (CallsNow removes) now (λ no. no) (found_in (CallsNow removes) now) in
           let after : Seat = record seat { progress = Ends (Done UnitAnswer) } in
-          tells (CalledNow Ran) after _ tt (rest_finds _ _ _ after rests none (h p).by_action) did.0 did.1 (λ q. refl)
+          tells (CalledNow (outcome_of old.heap removes)) after _ tt (rest_finds _ _ _ after rests none (h p).by_action) did.0 did.1 (λ q. refl)
+      by_progress (Accesses a k last) now rests (did, touches, told, e) =
+          let none : NoneFound (later p) = finds_none (Accesses a k last) now (λ no. no) (found_in (Accesses a k last) now) in
+          let after : Seat = accessed_seat a k did.told seat in
+          tells (access_reply did.told) after _ (may_access did.told)
+          (rest_finds _ _ _ after rests (in_access a k did.told none) (h p).by_action) told e (λ q. refl)
       by_progress (Ends r) now (rests, done) did =
           let after : Seat = record seat { progress = Idle } in
-          tells (Done UnitAnswer) after _ (none_missed (found p) (length old.places) (found_in (Ends r) now))
-          (rest_finds _ _ _ after rests tt (h p).by_action) (did.0 ∙ done) did.1 (λ q. refl)
+          tells (Done done.0) after _ (none_missed (found p) (length old.places) (found_in (Ends r) now))
+          (rest_finds _ _ _ after rests tt (h p).by_action) (did.0 ∙ done.1) did.1 (λ q. refl)

@@ -1,6 +1,6 @@
 -- The steps of a driven machine that move no bag keep what holds: its stage changes, it advances the epoch, or it
 -- keeps a job.
-use Rattle.std.proofs.Common.{◌≡◌, ◌≢◌, ℕ, ◌+◌, ◌<◌, ◌≤◌, not, List, [], ◌∷◌, ◌++◌, None, inl, inr, refl, ap, sym, subst, arith, le_of_eq, le_refl}
+use Rattle.std.proofs.Common.{◌≡◌, ◌≢◌, ℕ, ◌+◌, ◌<◌, ◌≤◌, not, List, [], ◌∷◌, ◌++◌, inl, inr, refl, ap, sym, subst, arith, le_of_eq, le_refl}
 use Rattle.epoch_machine.specs.declared.machine.Stage.{Stage}
 use Rattle.epoch_machine.specs.declared.machine.Stage.TheVariants.{Advance, Take, Keep, End}
 use Rattle.epoch_machine.specs.declared.machine.Answer.TheVariants.{Job}
@@ -9,7 +9,7 @@ use Rattle.epoch_laws.specs.declared.step.Deferral.{Deferral}
 use Rattle.epoch_laws.specs.declared.step.Reply.TheVariants.{Stepped, Deferred}
 use Rattle.epoch_laws.specs.declared.step.Entry.{Entry}
 use Rattle.epoch_laws.specs.declared.step.Word.TheVariants.{Free}
-use Rattle.epoch_laws.specs.Run.{Seat, State, seat_of, word_of, with_seat, with_machine}
+use Rattle.epoch_laws.specs.Run.{Seat, State, seat_of, word_of, with_seat, with_machine, removed_by}
 use Rattle.epoch_laws.proofs.SeatLemmas.{seat_there}
 use Rattle.epoch_laws.proofs.DeferralEpochs.{deferred_push, sealed_more}
 use Rattle.epoch_laws.proofs.QuietReplies.{IsQuiet, quiet_stepped}
@@ -73,7 +73,7 @@ module _ (old new : State) (log : List Entry) (x : Entry) (h : Holds old log) (p
 
   -- the job of the ticket that is given now
   abbrev job : Deferral
-  job = record { ticket = old.tickets; removes = None }
+  job = record { ticket = old.tickets; removes = removed_by seat.progress }
 
   -- p keeps it
   pub keeps : IsFineAt Keep → x.reply ≡ Deferred old.tickets

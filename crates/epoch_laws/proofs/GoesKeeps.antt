@@ -1,6 +1,5 @@
 -- A step Go keeps what holds, whatever stage the machine is at.
 use Rattle.std.proofs.Common.{◌≡◌, ◌≢◌, ℕ, ◌≤◌, ◌==◌, true, false, List, [], ◌∷◌, ◌++◌, length, Option, Some, None, inl, inr, refl, ap, ◌∙◌, arith}
-use Rattle.epoch_bags.specs.declared.job.Called.TheVariants.{Ran}
 use Rattle.epoch_machine.specs.declared.machine.Sizes.{Sizes}
 use Rattle.epoch_machine.specs.declared.machine.Stage.{Stage}
 use Rattle.epoch_machine.specs.declared.machine.Stage.TheVariants.{Idle as Resting, LoadPin, StorePin, ReloadPin, LoadScan, Scan, Advance, Take, Calling, LoadSeal, Put, Keep, LoadRepin, StoreRepin, ReloadRepin, StoreUnpinned, StoreFree, End}
@@ -12,17 +11,19 @@ use Rattle.epoch_laws.specs.declared.step.Deferral.{Deferral}
 use Rattle.epoch_laws.specs.declared.step.Entry.{Entry}
 use Rattle.epoch_laws.specs.declared.step.Word.TheVariants.{Free, Unpinned, Pinned}
 use Rattle.epoch_laws.specs.declared.step.Progress.{Progress}
-use Rattle.epoch_laws.specs.declared.step.Progress.TheVariants.{Idle, Driven, CallsNow, Ends}
-use Rattle.epoch_laws.specs.Run.{Seat, State, seat_of, word_of, with_seat, with_word, free_seat, with_guards, ended_seat, Drives, Goes}
+use Rattle.epoch_laws.specs.declared.step.Progress.TheVariants.{Idle, Driven, CallsNow, Ends, Accesses}
+use Rattle.epoch_laws.specs.Run.{Seat, State, seat_of, word_of, with_seat, with_word, free_seat, with_guards, ended_seat, Drives, Goes, with_heap, accessed_seat}
 use Rattle.epoch_laws.proofs.SeatLinks.{rests, AllLinked, follows_at}
-use Rattle.epoch_laws.proofs.QuietReplies.{IsQuiet, quiet_stepped, quiet_now, quiet_done, quiet_refused, quiet_end}
+use Rattle.epoch_laws.proofs.QuietReplies.{IsQuiet, quiet_stepped, quiet_now, quiet_done, quiet_refused, quiet_end, quiet_access}
 use Rattle.epoch_laws.proofs.SeatsFine.{View, is_pinned, IsFine, fine_next}
-use Rattle.epoch_laws.proofs.WorldHolds.{Holds, view_of}
+use Rattle.epoch_laws.proofs.WorldHolds.{Holds, view_of, heap_aside}
 use Rattle.epoch_laws.proofs.NextStages.{next_either, next_end, next_pinned, next_unpinned}
 use Rattle.epoch_laws.proofs.ScanStages.{next_looked, past_seats}
 use Rattle.epoch_laws.proofs.SeatSteps.{stay, quiet_step, publishes, withdraws}
 use Rattle.epoch_laws.proofs.GoSteps.{moves, advances, keeps}
 use Rattle.epoch_laws.proofs.BagSteps.{puts, takes, calls}
+use Rattle.epoch_heap.specs.declared.access.Answer.TheVariants.{Unit as UnitAnswer}
+use Rattle.epoch_laws.specs.declared.step.Reply.TheVariants.{Done}
 
 module _ (old new : State) (log : List Entry) (x : Entry) (h : Holds old log) (linked : AllLinked old) (p : ℕ)
     (taken : word_of old p ≢ Free) where
@@ -91,7 +92,8 @@ module _ (old new : State) (log : List Entry) (x : Entry) (h : Holds old log) (l
   go_at c (Take y k) on fine (step, jobs, queued, told, took, e) =
       takes old new log x h p taken y k fine step jobs queued took told e
   go_at c (Calling y k) on fine (job, jobs, hand, told, e) =
-      calls old new log x h p taken y k fine job jobs Ran hand told e
+      heap_aside new _ old.heap (calls old (with_heap new old.heap) log x h p taken y k fine job jobs _ hand told
+      (ap (λ (s : State). with_heap s old.heap) e))
   go_at c LoadSeal on fine did = moves old new log x h p taken LoadSeal (Put old.epoch) fine
       (record { publishes = refl; aims = fine.aims; knows = (omega arith, fine.held) }) did.0 did.1
   go_at c (Put s) on fine (step, queued, told, put, e) = puts old new log x h p taken s fine step queued put told e
@@ -122,6 +124,11 @@ module _ (old new : State) (log : List Entry) (x : Entry) (h : Holds old log) (l
   go_keeps Idle now did = stay old new log x h (quiet_refused x.reply _ did.0) did.1
   go_keeps (Driven c) now did =
       go_at c m.stage (follows_at old.sizes seat (linked.seats p) (Driven c) now).under_way (h.seats p) did
-  go_keeps CallsNow now did = quiet_step old new log x h p _ taken refl (quiet_now x.reply _ did.0) (h.seats p) did.1
+  go_keeps (CallsNow removes) now did = heap_aside new _ old.heap
+      (quiet_step old (with_heap new old.heap) log x h p (record seat { progress = Ends (Done UnitAnswer) }) taken refl
+      (quiet_now x.reply _ did.0) (h.seats p) (ap (λ (s : State). with_heap s old.heap) did.1))
+  go_keeps (Accesses a k found) now (did, touches, told, e) = heap_aside new _ old.heap
+      (quiet_step old (with_heap new old.heap) log x h p (accessed_seat a k did.told seat) taken refl
+      (quiet_access x.reply did.told told) (h.seats p) (ap (λ (s : State). with_heap s old.heap) e))
   go_keeps (Ends reply) now did = let follows = follows_at old.sizes seat (linked.seats p) (Ends reply) now in
-      quiet_step old new log x h p _ taken refl (quiet_done x.reply _ (did.0 ∙ follows.1)) (h.seats p) did.1
+      quiet_step old new log x h p _ taken refl (quiet_done x.reply _ (did.0 ∙ follows.1.1)) (h.seats p) did.1

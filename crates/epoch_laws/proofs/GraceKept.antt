@@ -9,7 +9,7 @@ use Rattle.epoch_laws.specs.declared.step.Reply.TheVariants.{Registered, Called 
 use Rattle.epoch_laws.specs.declared.step.Entry.{Entry}
 use Rattle.epoch_laws.specs.declared.step.Word.TheVariants.{Free, Unpinned}
 use Rattle.epoch_laws.specs.Grace.{KeepsGrace}
-use Rattle.epoch_laws.specs.Run.{with_places, Bag, Seat, State, seat_of, word_of, with_seat, free_seat, Ending, Open, Emptying, Over, AllFree, refusal, Begins, EndGoes, Moves, Runs, IsFresh}
+use Rattle.epoch_laws.specs.Run.{with_places, Bag, Seat, State, seat_of, word_of, with_seat, free_seat, Ending, Open, Emptying, Over, AllFree, refusal, Begins, EndGoes, Moves, Runs, IsFresh, Takes}
 use Rattle.epoch_laws.proofs.SeatLemmas.{begin_given}
 use Rattle.epoch_laws.proofs.SeatLinks.{AllLinked}
 use Rattle.epoch_laws.proofs.Linked.{step_linked, fresh_linked}
@@ -21,14 +21,15 @@ use Rattle.epoch_laws.proofs.WorldHolds.{Holds, holds_along, view_of, acted, End
 use Rattle.epoch_laws.proofs.SeatSteps.{stay}
 use Rattle.epoch_laws.proofs.GoesKeeps.{go_keeps}
 use Rattle.epoch_laws.proofs.BeginsKeep.{accepted_holds}
+use Rattle.epoch_heap.specs.Heap.{Heap}
 
 -- EVERY STEP
 
 module _ (old new : State) (log : List Entry) (x : Entry) (h : Holds old log) (linked : AllLinked old) where
-  begins : (p : ℕ) (c : Call) (r : Option Fault) → refusal c (seat_of old p) old.tickets ≡ r
+  begins : (p : ℕ) (c : Call) (r : Option Fault) → refusal c (seat_of old p) old.tickets old.heap ≡ r
       → Begins old p c r x.reply new → Holds new (log ++ x ∷ [])
   begins p c (Some f) e did = stay old new log x h (quiet_refused x.reply f did.0) did.1
-  begins p c None e did = let given = begin_given c (seat_of old p) old.tickets e in
+  begins p c None e did = let given = begin_given c (seat_of old p) old.tickets old.heap e in
       accepted_holds old new log x h linked p c given did.0 c given.own did.1
 
   registers : (p : ℕ) → old.ending ≡ Open → p < length old.seats → word_of old p ≡ Free → x.reply ≡ Registered p
@@ -63,11 +64,11 @@ module _ (old new : State) (log : List Entry) (x : Entry) (h : Holds old log) (l
       }))
 
   -- a step of the end, at which every word is free
-  closes : (queued : List Bag) (ending : Ending) → AllFree old → IsPlain x.reply
+  closes : (queued : List Bag) (ending : Ending) (heap : Heap) → AllFree old → IsPlain x.reply
       → ((t : ℕ) (how : Called) → x.reply ≡ CalledReply t how → t < old.tickets)
       → SealedBehind h.when old.tickets old.epoch queued → EndHolds h.when old.tickets ending
-      → new ≡ record old { queued = queued; ending = ending } → Holds new (log ++ x ∷ [])
-  closes queued ending free plain called sealed ends did = holds_along new _ _ did (record {
+      → new ≡ record old { queued = queued; ending = ending; heap = heap } → Holds new (log ++ x ∷ [])
+  closes queued ending heap free plain called sealed ends did = holds_along new _ _ did (record {
     since = h.since;
     when = h.when;
     seats = h.seats;
@@ -93,29 +94,29 @@ module _ (old new : State) (log : List Entry) (x : Entry) (h : Holds old log) (l
   end_goes (Emptying (job ∷ jobs) n) e did =
       let hand : EndHolds h.when old.tickets (Emptying (job ∷ jobs) n) =
       subst (EndHolds h.when old.tickets) e h.ending in
-      closes old.queued (Emptying jobs (n + 1)) (h.closed (λ opened. absurd (cc (opened, e))))
+      closes old.queued (Emptying jobs (n + 1)) _ (h.closed (λ opened. absurd (cc (opened, e))))
       (plain_called x.reply job.ticket _ did.0)
       (λ t how a. let same : job.ticket ≡ t = cc (did.0, a) in omega (arith, same, hand.1.0))
       h.queued (hand.0, hand.1.2) did.1
   end_goes (Emptying [] n) e (inl (bag, queued, out, told, did)) =
       let parts = sealed_got h.when old.tickets old.epoch old.queued queued bag out h.queued in
       let quiet = quiet_stepped x.reply told in
-      closes queued (Emptying bag.jobs n) (h.closed (λ opened. absurd (cc (opened, e)))) quiet.plain
+      closes queued (Emptying bag.jobs n) old.heap (h.closed (λ opened. absurd (cc (opened, e)))) quiet.plain
       (λ t how a. absurd (quiet.called t how a)) parts.sealed (bag.seal, parts.jobs) did
   end_goes (Emptying [] n) e (inr (none, told, did)) =
       let quiet = quiet_done x.reply _ told in
-      closes old.queued Over (h.closed (λ opened. absurd (cc (opened, e)))) quiet.plain
+      closes old.queued Over old.heap (h.closed (λ opened. absurd (cc (opened, e)))) quiet.plain
       (λ t how a. absurd (quiet.called t how a)) h.queued tt did
 
   moves_step : (s : Step) → Moves old s x.reply new → Holds new (log ++ x ∷ [])
   moves_step Register (inl (p, opened, there, free, lowest, told, did)) = registers p opened there free told did
   moves_step Register (inr (inl did)) = stay old new log x h (quiet_refused x.reply _ did.2) did.3
   moves_step Register (inr (inr did)) = stay old new log x h (quiet_refused x.reply _ did.1) did.2
-  moves_step (Begin p c) did = begins p c (refusal c (seat_of old p) old.tickets) refl did
+  moves_step (Begin p c) did = begins p c (refusal c (seat_of old p) old.tickets old.heap) refl did
   moves_step (Go p) (inl did) = stay old new log x h (quiet_refused x.reply _ did.1) did.2
   moves_step (Go p) (inr did) = go_keeps old new log x h linked p did.0 (seat_of old p).progress refl did.1
   moves_step EndStep (inl (opened, free, told, did)) = let quiet = quiet_began x.reply told in
-      closes old.queued (Emptying [] 0) free quiet.plain (λ t how a. absurd (quiet.called t how a)) h.queued
+      closes old.queued (Emptying [] 0) old.heap free quiet.plain (λ t how a. absurd (quiet.called t how a)) h.queued
       (0, tt) did
   moves_step EndStep (inr (inl did)) = stay old new log x h (quiet_refused x.reply _ did.2) did.3
   moves_step EndStep (inr (inr did)) = stay old new log x h (quiet_refused x.reply _ did.1) did.2
@@ -124,9 +125,9 @@ module _ (old new : State) (log : List Entry) (x : Entry) (h : Holds old log) (l
 -- WHOLE RUNS
 
 -- the places play no part
-holds_aside : (s : State) (log : List Entry) (places : List Bool) (seen : List ℕ) (ahead : List ℕ) → Holds (with_places s places seen ahead) log
+holds_aside : (s : State) (log : List Entry) (places : List Bool) (seen : List ℕ) (ahead : List ℕ) (room : List Bool) → Holds (with_places s places seen ahead room) log
     → Holds s log
-holds_aside s log places seen ahead h = record {
+holds_aside s log places seen ahead room h = record {
   since = h.since;
   when = h.when;
   seats = h.seats;
@@ -136,6 +137,10 @@ holds_aside s log places seen ahead h = record {
   logged = h.logged;
 }
 
+pub step_holds : (old new : State) (log : List Entry) (x : Entry) → AllLinked old → Holds old log
+    → Takes old x.step x.reply new → Holds new (log ++ x ∷ [])
+step_holds old new log x linked h did = holds_aside new _ _ _ _ _ (moves_step old _ log x h linked x.step did.0)
+
 pub runs_hold : (old new : State) (log entries : List Entry) → AllLinked old → Holds old log → Runs old entries new
     → Holds new (log ++ entries)
 runs_hold old new log [] linked h run =
@@ -143,7 +148,7 @@ runs_hold old new log [] linked h run =
 runs_hold old new log (x ∷ entries) linked h (mid, did, run) =
     subst (Holds new) (append_assoc log (x ∷ []) entries)
     (runs_hold mid new (log ++ x ∷ []) entries (step_linked old mid x.step x.reply linked did)
-    (holds_aside mid _ _ _ _ (moves_step old _ log x h linked x.step did.0)) run)
+    (step_holds old mid log x linked h did) run)
 
 pub fresh_holds : (s : State) → IsFresh s → Holds s []
 fresh_holds s fresh = record {

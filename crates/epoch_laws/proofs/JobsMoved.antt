@@ -1,29 +1,30 @@
 -- What a step of a participant's machine does to its jobs.
-use Rattle.std.proofs.Common.{◌≡◌, ◌≢◌, ℕ, ◌+◌, true, false, List, [], ◌∷◌, ◌++◌, None, refl, ap, sym, subst, ◌∙◌, arith}
+use Rattle.std.proofs.Common.{◌≡◌, ◌≢◌, ℕ, ◌+◌, true, false, List, [], ◌∷◌, ◌++◌, refl, ap, sym, subst, ◌∙◌, arith}
 use Rattle.epoch_bags.specs.declared.queue.PutStep.{PutStep}
 use Rattle.epoch_bags.specs.declared.queue.PutStep.TheVariants.{Again, Done as PutDone, Full}
 use Rattle.epoch_bags.specs.declared.queue.TakeStep.{TakeStep}
 use Rattle.epoch_bags.specs.declared.queue.TakeStep.TheVariants.{Again as TakeAgain, Empty, Got}
 use Rattle.epoch_machine.specs.declared.machine.Stage.{Stage}
 use Rattle.epoch_machine.specs.declared.machine.Stage.TheVariants.{Take, Calling, Keep}
-use Rattle.epoch_machine.specs.declared.machine.Ask.TheVariants.{CallJob, KeepJob}
+use Rattle.epoch_machine.specs.declared.machine.Ask.TheVariants.{KeepJob}
 use Rattle.epoch_machine.specs.declared.machine.Answer.TheVariants.{Job}
 use Rattle.epoch_machine.specs.Machine.{Machine, hears, put_heard, took_heard, gives, with_stage, PutsHeld, TakesHand}
 use Rattle.epoch_laws.specs.declared.step.Call.{Call}
 use Rattle.epoch_laws.specs.declared.step.Reply.{Reply}
-use Rattle.epoch_laws.specs.declared.step.Reply.TheVariants.{Stepped}
+use Rattle.epoch_laws.specs.declared.step.Reply.TheVariants.{Stepped, Called as CalledReply}
 use Rattle.epoch_laws.specs.declared.step.Entry.{Entry}
 use Rattle.epoch_laws.specs.declared.step.Deferral.{Deferral}
 use Rattle.epoch_laws.specs.declared.step.Word.{Word}
 use Rattle.epoch_laws.specs.declared.step.Word.TheVariants.{Free}
 use Rattle.epoch_laws.specs.declared.step.Progress.{Progress}
 use Rattle.epoch_laws.specs.declared.step.Progress.TheVariants.{Driven}
-use Rattle.epoch_laws.specs.Run.{Bag, Seat, State, seat_of, word_of, with_seat, with_machine, with_word, Ending, Open, Performs}
+use Rattle.epoch_laws.specs.Run.{Bag, Seat, State, seat_of, word_of, with_seat, with_machine, with_word, Ending, Open, Performs, removed_by}
 use Rattle.epoch_laws.specs.Tickets.{times, times_queued, calls_of, deferrals_of}
 use Rattle.epoch_laws.proofs.SeatLemmas.{seat_there}
 use Rattle.epoch_laws.proofs.TicketSums.{queued_put, times_cons, times_push, ticket_given}
 use Rattle.epoch_laws.proofs.JobsPlaced.{HandAt, HeldAt, RestsAt, PlacesHere, hand_none, held_collected, held_put, held_called, hand_called}
 use Rattle.epoch_laws.proofs.TicketsTallied.{Tallies, tells, untold_calls, untold_deferrals, acted, GivesTicket, none_given, acts}
+use Rattle.epoch_bags.specs.declared.job.Called.{Called}
 
 -- at the seat, at the machine that it goes on to, jobs move as the reply tells
 abbrev MovesAt : Machine Deferral → List Bag → Reply → Machine Deferral → List Bag → Type 0
@@ -152,8 +153,11 @@ module _ {old new : State} {log : List Entry} {x : Entry} {p : ℕ} {c : Call} (
       (λ t. omega (arith, ap (times t) none, ap (times t) in_hand, queued_put t queued old.queued bag inserted))
       did
 
-  pub calls : (y k : ℕ) → Performs old p seat (Calling y k) CallJob x.reply new → Kept
-  calls y k (job, jobs, in_hand, is, did) =
+  pub calls : (y k : ℕ) (job : Deferral) (jobs : List Deferral) (how : Called) → m.hand ≡ job ∷ jobs
+      → x.reply ≡ CalledReply job.ticket how
+      → new ≡ with_seat old p (with_machine seat (gives m (Calling y k) jobs))
+      → Kept
+  calls y k job jobs how in_hand is did =
       let n : Machine Deferral = gives m (Calling y k) jobs in
       goes_on _ seat.word n old.epoch old.queued old.tickets is g.taken
       (hand_called m y k jobs) (held_called m n y k jobs refl)
@@ -163,7 +167,7 @@ module _ {old new : State} {log : List Entry} {x : Entry} {p : ℕ} {c : Call} (
 
   pub keeps : m.hand ≡ [] → Performs old p seat Keep KeepJob x.reply new → Kept
   keeps none (is, did) =
-      let job : Deferral = record { ticket = old.tickets; removes = None } in
+      let job : Deferral = record { ticket = old.tickets; removes = removed_by seat.progress } in
       goes_on _ seat.word (hears m Keep (Job job)) old.epoch old.queued (old.tickets + 1) is g.taken none tt
       (λ t. omega (arith, times_push t m.held job))
       (ticket_given old.tickets)

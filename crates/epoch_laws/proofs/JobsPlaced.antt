@@ -6,14 +6,19 @@ use Rattle.epoch_machine.specs.declared.machine.Stage.{Stage}
 use Rattle.epoch_machine.specs.declared.machine.Stage.TheVariants.{Idle, LoadPin, Scan, Advance, Take, Calling, LoadScan, LoadSeal, Keep, LoadRepin, StoreUnpinned, StoreFree, End}
 use Rattle.epoch_machine.specs.Machine.{Machine, is_empty, after_collect, after_pin, after_put, after_unpin, after_job, holds_up, scanned, past_word, first_stage, begun}
 use Rattle.epoch_laws.specs.declared.step.Call.{Call}
-use Rattle.epoch_laws.specs.declared.step.Call.TheVariants.{Pin as PinCall, Unpin as UnpinCall, Repin as RepinCall, Pause, Resume, Defer as DeferCall, Flush as FlushCall, Release as ReleaseCall}
-use Rattle.epoch_laws.specs.declared.step.Answer.TheVariants.{Unit as UnitAnswer}
+use Rattle.epoch_laws.specs.declared.step.Call.TheVariants.{Pin as PinCall, Unpin as UnpinCall, Repin as RepinCall, Pause, Resume, Defer as DeferCall, Flush as FlushCall, Release as ReleaseCall, DeferDestroy, Access as AccessCall}
+use Rattle.epoch_heap.specs.declared.access.Answer.TheVariants.{Unit as UnitAnswer, Absent}
 use Rattle.epoch_laws.specs.declared.step.Reply.TheVariants.{Done}
 use Rattle.epoch_laws.specs.declared.step.Deferral.{Deferral}
 use Rattle.epoch_laws.specs.declared.step.Word.TheVariants.{Free}
 use Rattle.epoch_laws.specs.declared.step.Progress.{Progress}
-use Rattle.epoch_laws.specs.declared.step.Progress.TheVariants.{Driven, CallsNow, Ends}
-use Rattle.epoch_laws.specs.Run.{Seat, drives, begun_seat, with_guards, ended_seat}
+use Rattle.epoch_laws.specs.declared.step.Progress.TheVariants.{Driven, CallsNow, Ends, Accesses}
+use Rattle.epoch_laws.specs.Run.{Seat, drives, begun_seat, with_guards, ended_seat, progress_after, accessed_seat}
+use Rattle.epoch_heap.specs.declared.access.Answer.{Answer}
+use Rattle.epoch_heap.specs.declared.access.Access.{Access}
+use Rattle.epoch_heap.specs.declared.access.Accessed.{Accessed}
+use Rattle.epoch_heap.specs.declared.access.Accessed.TheVariants.{Again, Answers, NoSlot}
+use Rattle.epoch_heap.specs.Heap.{null, has_steps}
 
 -- jobs are in hand only while they are called
 abbrev pub HandAt : List Deferral → Stage → Type 0
@@ -29,7 +34,7 @@ HeldAt m _ = Unit {0}
 -- a machine that isn't driven has nothing to ask, and what ends without it tells of no job
 abbrev pub RestsAt : Progress → Stage → Type 0
 RestsAt (Driven c) s = Unit {0}
-RestsAt (Ends reply) s = (s ≡ Idle) × (reply ≡ Done UnitAnswer)
+RestsAt (Ends reply) s = (s ≡ Idle) × ((answer : Answer) × (reply ≡ Done answer))
 RestsAt _ s = s ≡ Idle
 
 pub record PlacesJobs (seat : Seat) (s : Stage) : Type 0 where
@@ -145,6 +150,11 @@ module _ (seat : Seat) (taken : seat.word ≢ Free) where
       → LeavesJobs seat (begun_seat c seat)
   begun_leaves c idle places = begins c (subst (HandAt seat.machine.hand) idle places.hand)
     where
+      accesses : (a : Access) (b : Bool)
+          → LeavesJobs seat (record seat { progress = if b then Accesses a 0 null else Ends (Done Absent) })
+      accesses a true = resting (Accesses a 0 null) idle places
+      accesses a false = resting (Ends (Done Absent)) (idle, (_, refl)) places
+
       begins : (c : Call) → HandAt seat.machine.hand Idle → LeavesJobs seat (begun_seat c seat)
       begins PinCall none = begun_driven Pin PinCall none
       begins (UnpinCall g) none = begun_driven Unpin (UnpinCall g) none
@@ -154,8 +164,26 @@ module _ (seat : Seat) (taken : seat.word ≢ Free) where
       begins (DeferCall (Some g)) none = begun_driven Defer (DeferCall (Some g)) none
       begins (FlushCall (Some g)) none = begun_driven Flush (FlushCall (Some g)) none
       begins ReleaseCall none = begun_driven Release ReleaseCall none
-      begins (DeferCall None) none = resting CallsNow idle places
-      begins _ none = resting (Ends (Done UnitAnswer)) (idle, refl) places
+      begins (DeferDestroy (Some g) ptr) none = begun_driven Defer (DeferDestroy (Some g) ptr) none
+      begins (DeferCall None) none = resting (CallsNow None) idle places
+      begins (DeferDestroy None ptr) none = resting (CallsNow ptr.name) idle places
+      begins (AccessCall a) none = accesses a (has_steps a)
+      begins _ none = resting (Ends (Done UnitAnswer)) (idle, (_, refl)) places
+
+  pub accessed_leaves : (a : Access) (k : ℕ) (told : Accessed)
+      → seat.machine.stage ≡ Idle
+      → PlacesHere seat
+      → LeavesJobs seat (accessed_seat a k told seat)
+  accessed_leaves a k told idle places = record {
+    places = record { hand = places.hand; held = places.held; rests = goes_on told; free = places.free };
+    held = refl;
+    hand = refl;
+  }
+    where
+      goes_on : (told : Accessed) → RestsAt (progress_after a k told) seat.machine.stage
+      goes_on (Again found) = idle
+      goes_on (Answers answer) = (idle, (_, refl))
+      goes_on NoSlot = idle
 
   pub ended_leaves : (c : Call) → seat.machine.hand ≡ [] → LeavesJobs seat (ended_seat c seat)
   ended_leaves c none = ends c

@@ -34,6 +34,7 @@ pub mod TicketsOnce
 pub mod GuardLists
 pub mod ToldAtStages
 pub mod ToldAtBegin
+pub mod AccessesTold
 pub mod EventsAgree
 pub mod EventsAtBegin
 pub mod EventsAtEnd

@@ -7,14 +7,17 @@ use Rattle.epoch_machine.specs.Machine.{Machine, with_stage, ask_at}
 use Rattle.epoch_laws.specs.declared.step.Call.{Call}
 use Rattle.epoch_laws.specs.declared.step.Deferral.{Deferral}
 use Rattle.epoch_laws.specs.declared.step.Progress.{Progress}
-use Rattle.epoch_laws.specs.declared.step.Progress.TheVariants.{Idle, Driven, CallsNow, Ends}
+use Rattle.epoch_laws.specs.declared.step.Progress.TheVariants.{Idle, Driven, CallsNow, Ends, Accesses}
 use Rattle.epoch_laws.specs.declared.step.Reply.{Reply}
 use Rattle.epoch_laws.specs.declared.step.Step.{Step}
 use Rattle.epoch_laws.specs.declared.step.Step.TheVariants.{Register, Begin, Go, End as EndStep, EndGo}
 use Rattle.epoch_laws.specs.declared.step.Word.{Word}
 use Rattle.epoch_laws.specs.declared.step.Word.TheVariants.{Unpinned}
-use Rattle.epoch_laws.specs.Run.{Seat, State, Ending, Open, Emptying, Over, seat_of, with_seat, with_word, free_seat, refusal, begun_seat, Begins, ended_seat, Drives, Goes, EndGoes, Moves, Takes, with_places, IsFresh}
+use Rattle.epoch_laws.specs.Run.{Seat, State, Ending, Open, Emptying, Over, seat_of, with_seat, with_word, free_seat, refusal, begun_seat, Begins, ended_seat, Drives, Goes, EndGoes, Moves, Takes, with_places, IsFresh, accessed_seat}
 use Rattle.epoch_laws.proofs.SeatLemmas.{seat_there, begin_given}
+use Rattle.epoch_heap.specs.declared.access.Access.{Access}
+use Rattle.epoch_heap.specs.declared.access.Accessed.{Accessed}
+use Rattle.epoch_heap.specs.declared.access.Accessed.TheVariants.{Again, Answers, NoSlot}
 pub use Rattle.epoch_laws.proofs.SeatLinks.{action_of, rests, BeganUnder, IsDriven, Follows, IsLinked, AllLinked, free_linked, follows_at, progress_linked, linked_written, linked_along}
 use Rattle.epoch_laws.proofs.MachineGoesOn.{GoesOn, going_on, either_on, pin_on, unpin_on, job_on, word_on, put_goes_on, take_goes_on}
 pub use Rattle.epoch_laws.proofs.CallsLinked.{length_without, none_out, begun_linked, ended_linked}
@@ -93,11 +96,21 @@ module _ (old new : State) (p : ℕ) (reply : Reply) (h : AllLinked old) (there 
       writes (ended_seat c seat) (ended_linked old.sizes seat (h.seats p) c (follows (Driven c) drive))
       _ did.1 refl refl
 
+  -- a call on cells and pointers goes on
+  accessed : (a : Access) (k : ℕ) (told : Accessed) → m.stage ≡ Resting
+      → IsLinked old.sizes (accessed_seat a k told seat)
+  accessed a k (Again found) idle = record { sized = (h.seats p).sized; counted = (h.seats p).counted; follows = idle }
+  accessed a k (Answers answer) idle =
+      record { sized = (h.seats p).sized; counted = (h.seats p).counted; follows = (idle, (_, refl)) }
+  accessed a k NoSlot idle = record { sized = (h.seats p).sized; counted = (h.seats p).counted; follows = idle }
+
   go_linked : (progress : Progress) → seat.progress ≡ progress → Goes old p seat progress reply new → AllLinked new
   go_linked Idle e did = subst AllLinked (sym did.1) h
   go_linked (Driven c) e did = go_at c e m.stage (follows (Driven c) e).under_way did
-  go_linked CallsNow e did =
-      writes _ (progress_linked old.sizes seat (h.seats p) _ (follows CallsNow e, refl)) _ did.1 refl refl
+  go_linked (CallsNow removes) e did =
+      writes _ (progress_linked old.sizes seat (h.seats p) _ (follows (CallsNow removes) e, (_, refl))) _ did.1 refl refl
+  go_linked (Accesses a k found) e (did, touches, told, is) =
+      writes _ (accessed a k did.told (follows (Accesses a k found) e)) _ is refl refl
   go_linked (Ends r) e did =
       writes _ (progress_linked old.sizes seat (h.seats p) Idle (follows (Ends r) e).0) _ did.1 refl refl
 
@@ -111,12 +124,12 @@ module _ (old new : State) (reply : Reply) (h : AllLinked old) where
   same_table : (last : State) → new ≡ last → last.sizes ≡ old.sizes → last.seats ≡ old.seats → AllLinked new
   same_table last e sizes seats = subst AllLinked (sym e) (linked_along old last h sizes seats)
 
-  begin_linked : (p : ℕ) (c : Call) (r : Option Fault) → refusal c (seat_of old p) old.tickets ≡ r
+  begin_linked : (p : ℕ) (c : Call) (r : Option Fault) → refusal c (seat_of old p) old.tickets old.heap ≡ r
       → Begins old p c r reply new → AllLinked new
   begin_linked p c (Some f) e did = stays_linked did.1
   begin_linked p c None e did =
-      let given = begin_given c (seat_of old p) old.tickets e in
-      let linked = begun_linked old.sizes (seat_of old p) (h.seats p) c old.tickets given.idle given.own in
+      let given = begin_given c (seat_of old p) old.tickets old.heap e in
+      let linked = begun_linked old.sizes (seat_of old p) (h.seats p) c old.tickets old.heap given.idle given.own in
       writes old new p reply h (seat_there old p given.taken) (begun_seat c (seat_of old p)) linked _ did.1 refl refl
 
   end_linked : (e : Ending) → EndGoes old e reply new → AllLinked new
@@ -133,7 +146,7 @@ module _ (old new : State) (reply : Reply) (h : AllLinked old) where
       writes old new p reply h there registered linked _ did refl refl
   moves_linked Register (inr (inl did)) = stays_linked did.3
   moves_linked Register (inr (inr did)) = stays_linked did.2
-  moves_linked (Begin p c) did = begin_linked p c (refusal c (seat_of old p) old.tickets) refl did
+  moves_linked (Begin p c) did = begin_linked p c (refusal c (seat_of old p) old.tickets old.heap) refl did
   moves_linked (Go p) (inl did) = stays_linked did.2
   moves_linked (Go p) (inr did) =
       go_linked old new p reply h (seat_there old p did.0) (seat_of old p).progress refl did.1
@@ -150,7 +163,7 @@ moved_linked old new step reply h did = moves_linked old new reply h step did
 pub step_linked : (old new : State) (step : Step) (reply : Reply) → AllLinked old → Takes old step reply new
     → AllLinked new
 step_linked old new step reply h did =
-    let aside : AllLinked (with_places new old.places old.seen old.ahead) = moved_linked old _ step reply h did.0 in
+    let aside : AllLinked (with_places new old.places old.seen old.ahead old.room) = moved_linked old _ step reply h did.0 in
     record { positions = aside.positions; seats = aside.seats }
 
 -- in a new world they are

@@ -1,5 +1,5 @@
 -- What one more entry does to what the log says.
-use Rattle.std.proofs.Common.{◌≡◌, ℕ, zero, suc, ◌+◌, ◌<◌, ◌≤◌, List, [], ◌∷◌, ◌++◌, length, Some, ◌⊎◌, inl, inr, refl, ap, sym, ◌∙◌, arith}
+use Rattle.std.proofs.Common.{◌≡◌, ℕ, zero, suc, ◌+◌, ◌<◌, ◌≤◌, List, [], ◌∷◌, ◌++◌, length, Some, ◌⊎◌, inl, inr, refl, ap, sym, ◌∙◌, arith, subst}
 use Rattle.epoch_bags.specs.declared.job.Called.{Called}
 use Rattle.epoch_laws.specs.declared.step.Reply.{Reply}
 use Rattle.epoch_laws.specs.declared.step.Reply.TheVariants.{Pinned, Unpinned, Repinned, Deferred, Called as CalledReply}
@@ -119,3 +119,65 @@ grace_push log x grace calls defers t j how called blocked =
     at_call (inr c) (inl d) = calls t blocked.place blocked.who (stays d).at how c.1 d (stays d).before
         (stays_to_the_end log blocked.who blocked.place j (sym c.0) (stays d))
     at_call (inr c) (inr d) = absurd (cc (c.1, d.1))
+
+-- WHO STAYS PINNED
+
+publishes_keep : (log : List Entry) (x : Entry) (k p : ℕ) → Publishes log k p → Publishes (log ++ x ∷ []) k p
+publishes_keep log x k p (inl h) = inl (stands_keep log x k _ h)
+publishes_keep log x k p (inr h) = inr (stands_keep log x k _ h)
+
+withdraws_push : (log : List Entry) (x : Entry) (k p : ℕ) → Withdraws (log ++ x ∷ []) k p
+    → Withdraws log k p ⊎ ((k ≡ length log) × IsWithdrawal x.reply p)
+withdraws_push log x k p (inl h) =
+    elim (stands_push log x k _ h) [ inl old ↦ inl (inl old) | inr new ↦ inr (new.0, inl new.1) ]
+withdraws_push log x k p (inr h) =
+    elim (stands_push log x k _ h) [ inl old ↦ inl (inr old) | inr new ↦ inr (new.0, inr new.1) ]
+
+pub length_push : (log : List Entry) (x : Entry) → length (log ++ x ∷ []) ≡ length log + 1
+length_push [] x = refl
+length_push (first ∷ log) x = omega (arith, length_push log x)
+
+-- who is pinned stays so where the last entry doesn't withdraw it
+pub pinned_keep : (log : List Entry) (x : Entry) (p at : ℕ) → PinnedSince log p at → ¬ (IsWithdrawal x.reply p)
+    → PinnedSince (log ++ x ∷ []) p at
+pinned_keep log x p at now on = record {
+  published = publishes_keep log x at p now.published;
+  lasts = λ k lt ends. elim (withdraws_push log x k p ends) [ inl old ↦ now.lasts k lt old | inr new ↦ on new.1 ];
+}
+
+-- who publishes with the last entry is pinned since
+pub pinned_new : (log : List Entry) (x : Entry) (p : ℕ) → IsPublish x.reply p → PinnedSince (log ++ x ∷ []) p (length log)
+pinned_new log x p h = record {
+  published = elim h [ inl e ↦ inl (stands_new log x ∙ ap Some e) | inr e ↦ inr (stands_new log x ∙ ap Some e) ];
+  lasts = λ k lt ends. absurd (omega (arith, withdraws_within (log ++ x ∷ []) k p ends, length_push log x));
+}
+
+pub pinned_within : (log : List Entry) (p at : ℕ) → PinnedSince log p at → at < length log
+pinned_within log p at now = publishes_within log at p now.published
+
+-- where grace is kept, what was deferred while p was pinned isn't called while p stays so
+pub grace_refuses : (log : List Entry) (x : Entry) → KeepsGrace (log ++ x ∷ []) → (t : ℕ) (how : Called)
+    → x.reply ≡ CalledReply t how → (i p at : ℕ) → Stands log i (Deferred t) → PinnedSince log p at → at ≤ i → ⊥
+grace_refuses [] x grace t how called i p at deferred now le = cc (deferred)
+grace_refuses (first ∷ rest) x grace t how called i p at deferred now le = grace t (length rest) how
+    (subst (λ (k : ℕ). Stands (log ++ x ∷ []) k (CalledReply t how)) up (stands_new log x ∙ ap Some called))
+    (record {
+      who = p;
+      place = i;
+      deferred = stands_keep log x i _ deferred;
+      stays = record {
+        at = at;
+        before = le;
+        published = publishes_keep log x at p now.published;
+        lasted = λ k after upto ends. elim (withdraws_push log x k p ends) [
+          | inl old ↦ now.lasts k after old
+          | inr new ↦ absurd (omega (arith, new.0))
+        ];
+      };
+    })
+  where
+    log : List Entry
+    log = first ∷ rest
+
+    up : length (first ∷ rest) ≡ length rest + 1
+    up = omega arith

@@ -6,7 +6,7 @@ use Rattle.epoch_machine.specs.declared.machine.Stage.{Stage}
 use Rattle.epoch_machine.specs.Machine.{Machine}
 use Rattle.epoch_laws.specs.declared.step.Deferral.{Deferral}
 use Rattle.epoch_laws.specs.declared.step.Progress.{Progress}
-use Rattle.epoch_laws.specs.declared.step.Progress.TheVariants.{Idle, Driven, CallsNow, Ends}
+use Rattle.epoch_laws.specs.declared.step.Progress.TheVariants.{Idle, Driven, CallsNow, Ends, Accesses}
 use Rattle.epoch_laws.specs.declared.step.Step.{Step}
 use Rattle.epoch_laws.specs.declared.step.Step.TheVariants.{Go, EndGo}
 use Rattle.epoch_laws.specs.declared.step.Word.{Word}
@@ -41,7 +41,8 @@ turn_taken Free progress s taken = absurd (taken refl)
 turn_taken Unpinned progress s taken = refl
 turn_taken (Pinned e) Idle s taken = refl
 turn_taken (Pinned e) (Driven c) s taken = refl
-turn_taken (Pinned e) CallsNow s taken = refl
+turn_taken (Pinned e) (CallsNow removes) s taken = refl
+turn_taken (Pinned e) (Accesses a k found) s taken = refl
 turn_taken (Pinned e) (Ends r) s taken = refl
 
 -- ALL SEATS

@@ -2,13 +2,15 @@
 use Rattle.std.proofs.Common.{◌≡◌, ◌≢◌, ℕ, Bool, true, false, inl, inr}
 use Rattle.epoch_bags.specs.declared.job.Called.{Called}
 use Rattle.epoch_cells.specs.declared.fault.Fault.{Fault}
-use Rattle.epoch_laws.specs.declared.step.Answer.{Answer}
+use Rattle.epoch_heap.specs.declared.access.Answer.{Answer}
 use Rattle.epoch_laws.specs.declared.step.Call.{Call}
-use Rattle.epoch_laws.specs.declared.step.Call.TheVariants.{Pin, Unpin, Repin, Pause, Resume, Defer, Flush, Release}
+use Rattle.epoch_laws.specs.declared.step.Call.TheVariants.{Pin, Unpin, Repin, Pause, Resume, Defer, Flush, Release, DeferDestroy, Access as AccessCall}
 use Rattle.epoch_laws.specs.declared.step.Reply.{Reply}
 use Rattle.epoch_laws.specs.declared.step.Reply.TheVariants.{Began, Stepped, Pinned, Unpinned, Repinned, Deferred, Called as CalledReply, CalledNow, Done, Refused}
-use Rattle.epoch_laws.specs.Run.{Seat, full_or_done, end_reply}
+use Rattle.epoch_laws.specs.Run.{Seat, full_or_done, end_reply, access_reply}
 use Rattle.epoch_laws.proofs.Log.{IsPublish, IsWithdrawal}
+use Rattle.epoch_heap.specs.declared.access.Accessed.{Accessed}
+use Rattle.epoch_heap.specs.declared.access.Accessed.TheVariants.{Again, Answers, NoSlot}
 
 -- nothing is told but perhaps a call
 pub record IsPlain (r : Reply) : Type 0 where
@@ -61,6 +63,12 @@ quiet_refused r f e = record {
   called = λ t how h. cc;
 }
 
+-- a step of a call on cells and pointers
+pub quiet_access : (r : Reply) (told : Accessed) → r ≡ access_reply told → IsQuiet r
+quiet_access r (Again found) e = quiet_stepped r e
+quiet_access r (Answers answer) e = quiet_stepped r e
+quiet_access r NoSlot e = quiet_refused r _ e
+
 quiet_full : (r : Reply) (full : Bool) → r ≡ full_or_done full → IsQuiet r
 quiet_full r true e = quiet_refused r _ e
 quiet_full r false e = quiet_done r _ e
@@ -75,3 +83,5 @@ quiet_end r (Resume g) seat e = quiet_done r _ e
 quiet_end r (Defer g) seat e = quiet_full r seat.machine.full e
 quiet_end r (Flush g) seat e = quiet_full r seat.machine.full e
 quiet_end r Release seat e = quiet_full r seat.machine.full e
+quiet_end r (DeferDestroy g ptr) seat e = quiet_full r seat.machine.full e
+quiet_end r (AccessCall a) seat e = quiet_done r _ e

@@ -1,14 +1,13 @@
 -- In every run a call that is refused leaves what it has to.
-use Rattle.std.proofs.Common.{◌≡◌, ◌≢◌, ℕ, ◌+◌, ◌-◌, ◌^◌, ◌<◌, ◌==◌, slice_index_or, Bool, true, false, List, [], ◌∷◌, length, Option, Some, None, inl, inr, refl, ap, ap₂, sym, subst, ◌∙◌, arith, if◌then◌else◌}
+use Rattle.std.proofs.Common.{◌≡◌, ◌≢◌, ℕ, ◌+◌, ◌-◌, ◌^◌, ◌<◌, ◌==◌, slice_index_or, slice_get, Bool, true, false, List, [], ◌∷◌, length, Option, Some, None, inl, inr, refl, ap, ap₂, sym, subst, ◌∙◌, arith, if◌then◌else◌}
 use Rattle.std.proofs.lemmas.Bool.Decides.{nat_tests}
 use Rattle.std.proofs.lemmas.List.{set-get_or}
-use Rattle.epoch_bags.specs.declared.job.Called.TheVariants.{Ran}
 use Rattle.epoch_bags.specs.declared.queue.PutStep.{PutStep}
 use Rattle.epoch_bags.specs.declared.queue.PutStep.TheVariants.{Again, Done as PutDone, Full}
 use Rattle.epoch_bags.specs.declared.queue.TakeStep.{TakeStep}
 use Rattle.epoch_bags.specs.declared.queue.TakeStep.TheVariants.{Again as TakeAgain, Empty, Got}
 use Rattle.epoch_cells.specs.declared.fault.Fault.{Fault}
-use Rattle.epoch_cells.specs.declared.fault.Fault.TheVariants.{BagsFull, Idle as IdleFault, NotRegistered}
+use Rattle.epoch_cells.specs.declared.fault.Fault.TheVariants.{CellsFull, BagsFull, Idle as IdleFault, NotRegistered}
 use Rattle.epoch_machine.specs.declared.machine.Action.{Action}
 use Rattle.epoch_machine.specs.declared.machine.Action.TheVariants.{Defer as DeferAction, Flush as FlushAction, Release as ReleaseAction}
 use Rattle.epoch_machine.specs.declared.machine.Ask.{Ask}
@@ -17,30 +16,57 @@ use Rattle.epoch_machine.specs.declared.machine.Stage.{Stage}
 use Rattle.epoch_machine.specs.declared.machine.Stage.TheVariants.{LoadPin, StorePin, ReloadPin, LoadScan, Scan, Advance, Take, Calling, LoadSeal, Put, Keep, StoreUnpinned, StoreFree, End}
 use Rattle.epoch_machine.specs.declared.machine.Answer.TheVariants.{Epoch as EpochFound, Word as WordFound, Stored, Job}
 use Rattle.epoch_machine.specs.Machine.{Machine, with_stage, is_empty, after_collect, after_pin, after_put, after_unpin, after_job, holds_up, scanned, past_word, ask_at, hears, put_heard, took_heard, gives, PutsHeld}
-use Rattle.epoch_laws.specs.declared.step.Answer.TheVariants.{Unit as UnitAnswer, Released}
+use Rattle.epoch_heap.specs.declared.access.Access.{Access}
+use Rattle.epoch_heap.specs.declared.access.Access.TheVariants.{Place}
+use Rattle.epoch_heap.specs.declared.access.Accessed.{Accessed}
+use Rattle.epoch_heap.specs.declared.access.Accessed.TheVariants.{Again, Answers, NoSlot}
+use Rattle.epoch_heap.specs.declared.access.Answer.{Answer}
+use Rattle.epoch_heap.specs.declared.access.Answer.TheVariants.{Unit as UnitAnswer, Released, Name as NameAnswer}
+use Rattle.epoch_heap.specs.declared.access.Ptr.{Ptr}
+use Rattle.epoch_heap.specs.Heap.{Cell, Touched, Places, outcome_of}
 use Rattle.epoch_laws.specs.declared.step.Call.{Call}
-use Rattle.epoch_laws.specs.declared.step.Call.TheVariants.{Pin, Unpin, Repin, Pause, Resume, Defer, Flush, Release}
+use Rattle.epoch_laws.specs.declared.step.Call.TheVariants.{Pin, Unpin, Repin, Pause, Resume, Defer, Flush, Release, DeferDestroy, Access as AccessCall}
 use Rattle.epoch_laws.specs.declared.step.Deferral.{Deferral}
 use Rattle.epoch_laws.specs.declared.step.Entry.{Entry}
 use Rattle.epoch_laws.specs.declared.step.Progress.{Progress}
-use Rattle.epoch_laws.specs.declared.step.Progress.TheVariants.{Idle, Driven, CallsNow, Ends}
+use Rattle.epoch_laws.specs.declared.step.Progress.TheVariants.{Idle, Driven, CallsNow, Accesses, Ends}
 use Rattle.epoch_laws.specs.declared.step.Reply.{Reply}
 use Rattle.epoch_laws.specs.declared.step.Reply.TheVariants.{Stepped, Pinned as PinnedReply, Unpinned as UnpinnedReply, Repinned, Deferred, Called as CalledReply, CalledNow, Done, Refused, Began}
 use Rattle.epoch_laws.specs.declared.step.Step.{Step}
 use Rattle.epoch_laws.specs.declared.step.Step.TheVariants.{Register, Begin, Go, End as EndStep, EndGo}
 use Rattle.epoch_laws.specs.declared.step.Word.{Word}
 use Rattle.epoch_laws.specs.declared.step.Word.TheVariants.{Free, Unpinned, Pinned}
-use Rattle.epoch_laws.specs.Run.{Bag, Seat, State, seat_of, turn_at, turn_of, word_of, number_of, with_seat, with_word, with_machine, with_places, free_seat, refusal, begun_seat, Ending, Open, Emptying, Over, ended_seat, end_reply, full_or_done, Begins, Performs, Drives, Goes, EndGoes, Takes, Runs, IsFresh}
-use Rattle.epoch_laws.specs.Refusals.{before_after, LeavesRest, quiet_after, Collects, collected_after, KeepsBag, Leaves, LeavesAtRefusal, RefusedAlong, all_quiet, none_collected}
+use Rattle.epoch_laws.specs.Run.{Bag, Seat, State, seat_of, turn_at, turn_of, word_of, number_of, with_seat, with_word, with_machine, with_places, free_seat, refusal, begun_seat, Ending, Open, Emptying, Over, ended_seat, end_reply, full_or_done, with_guards, progress_after, access_reply, accessed_seat, removed_by, Begins, Performs, Drives, Goes, EndGoes, Takes, Runs, IsFresh}
+use Rattle.epoch_laws.specs.Refusals.{LeavesUnplaced, before_after, LeavesRest, quiet_after, Collects, collected_after, KeepsBag, Leaves, LeavesAtRefusal, RefusedAlong, all_quiet, none_collected}
 use Rattle.epoch_laws.proofs.SeatLemmas.{seat_written, seat_other, seat_there, same_or_other, begin_given}
 use Rattle.epoch_laws.proofs.SeatLinks.{action_of, AllLinked, IsDriven, follows_at}
 use Rattle.epoch_laws.proofs.Linked.{step_linked, fresh_linked}
 use Rattle.epoch_laws.proofs.PutsFind.{turn_taken}
+use Rattle.epoch_laws.specs.Lawful.{nothing}
+use Rattle.epoch_laws.proofs.AccessesTold.{IsTold, told_by_touch}
 use Rattle.epoch_laws.proofs.ToldAtStages.{either_stage}
-use Rattle.epoch_laws.proofs.RefusalsSince.{KeptBag, Kept, DeferAt, FlushAt, ReleaseAt, SinceAt, SinceBy, Since, AllSince, is_plain, plain_since, since_more, begun_since, release_collected, release_unpinned}
+use Rattle.epoch_laws.proofs.RefusalsSince.{KeptBag, Kept, DeferAt, FlushAt, ReleaseAt, SinceAt, PlaceSince, SinceBy, Since, AllSince, is_plain, plain_since, since_more, begun_since, release_collected, release_unpinned}
 
 keeps_bag : (b a : Seat) → KeptBag b a → KeepsBag b a
-keeps_bag b a kept = record { guards = kept.0; paused = kept.1; held = kept.2 }
+keeps_bag b a kept = record { guards = kept.0; paused = kept.1; readings = kept.2; held = kept.3 }
+
+-- a call that keeps a job
+abbrev Defers : Call → Type 0
+Defers (Defer g) = Unit {0}
+Defers (DeferDestroy g ptr) = Unit {0}
+Defers _ = ⊥
+
+defers_since : (b : Seat) (quiet collected : Type 0) (a : Seat) (c : Call) (s : Stage) → Defers c
+    → DeferAt (quiet × Kept b a) a.machine.full s → SinceAt b quiet collected a c s
+defers_since b quiet collected a (Defer g) s kind at = at
+defers_since b quiet collected a (DeferDestroy g ptr) s kind at = at
+defers_since b quiet collected a _ s kind at = absurd kind
+
+defers_leave : (quiet collected : Type 0) (b a : Seat) (c : Call) → Defers c
+    → quiet × (a.word ≡ b.word) × KeepsBag b a → Leaves quiet collected (Driven c) b a
+defers_leave quiet collected b a (Defer g) kind left = left
+defers_leave quiet collected b a (DeferDestroy g ptr) kind left = left
+defers_leave quiet collected b a _ kind left = absurd kind
 
 -- what a step has to show
 abbrev ShowsLeft : (ℕ → Seat) → (quiet collected : ℕ → Type 0) → State → Step → Reply → State → Type 0
@@ -62,7 +88,7 @@ module _ (old new : State) (reply : Reply) (before : ℕ → Seat) (quiet collec
   b = before p
 
   abbrev aside : State
-  aside = with_places new old.places old.seen old.ahead
+  aside = with_places new old.places old.seen old.ahead old.room
 
   abbrev later : ℕ → Type 0
   later = quiet_after quiet old (Go p) reply new
@@ -104,6 +130,7 @@ module _ (old new : State) (reply : Reply) (before : ℕ → Seat) (quiet collec
     epoch = ap (λ (s : State). s.epoch) e;
     bags = ap (λ (s : State). s.queued) e;
     tickets = ap (λ (s : State). s.tickets) e;
+    heap = ap (λ (s : State). s.heap) e;
     others = λ q other. ap (λ (s : State). seat_of s q) e ∙ seat_other old p q after other;
   }
 
@@ -138,15 +165,16 @@ module _ (old new : State) (reply : Reply) (before : ℕ → Seat) (quiet collec
     plain_performs plain s (TakeBag x) (step, jobs, queued, told, took, e) =
         plain_goes plain Stepped seat.word (took_heard m s step jobs) _ tt told e (λ q. refl)
     plain_performs plain s KeepJob did = plain_goes plain (Deferred old.tickets) seat.word
-        (hears m s (Job (record { ticket = old.tickets; removes = None }))) _ tt did.0 did.1 (λ q. refl)
+        (hears m s (Job (record { ticket = old.tickets; removes = removed_by seat.progress }))) _ tt did.0 did.1 (λ q. refl)
     plain_performs plain s CallJob (job, jobs, hand, told, e) =
-        plain_goes plain (CalledReply job.ticket Ran) seat.word (gives m s jobs) _ tt told e (λ q. refl)
+        plain_goes plain (CalledReply job.ticket (outcome_of old.heap job.removes)) seat.word (gives m s jobs) _ tt told e (λ q. refl)
 
     plain_ends : is_plain c ≡ true → (reply ≡ end_reply c seat) × (aside ≡ with_seat old p (ended_seat c seat)) → Goal
     plain_ends plain did = tells (end_reply c seat) (ended_seat c seat) _ (by_call c plain) did.0 did.1 (λ q. refl) (rests c)
       where
         by_call : (d : Call) → is_plain d ≡ true → LeavesAtRefusal before quiet collected old (Go p) (end_reply d seat) new
         by_call (Defer g) plain = absurd (cc (plain))
+        by_call (DeferDestroy g ptr) plain = absurd (cc (plain))
         by_call (Flush g) plain = absurd (cc (plain))
         by_call Release plain = absurd (cc (plain))
         by_call _ plain = tt
@@ -178,7 +206,18 @@ module _ (old new : State) (reply : Reply) (before : ℕ → Seat) (quiet collec
 
   -- A DEFERRAL
 
-  module _ (g : Option ℕ) (drive : seat.progress ≡ Driven (Defer g)) (action : m.action ≡ DeferAction) where
+  defers_end : (c : Call) → Defers c → (reply ≡ end_reply c seat) × (aside ≡ with_seat old p (ended_seat c seat))
+      → (reply ≡ full_or_done m.full) × (aside ≡ with_seat old p (with_guards seat seat.guards seat.paused))
+  defers_end (Defer g) kind did = did
+  defers_end (DeferDestroy g ptr) kind did = did
+  defers_end _ kind did = absurd kind
+
+  module _ (c : Call) (kind : Defers c) (drive : seat.progress ≡ Driven c) (action : m.action ≡ DeferAction) where
+    defer_steps : (n : Machine Deferral) (last : State) → reply ≡ Stepped → aside ≡ last → Writes last (with_machine seat n)
+        → DeferAt (later p × Kept b (with_machine seat n)) n.full n.stage → Goal
+    defer_steps n last told e writes at = steps c drive n last told e writes
+        (defers_since b (later p) (got p) (with_machine seat n) c n.stage kind at)
+
     defer_puts : (seal : ℕ) (step : PutStep) (queued : List Bag) → m.stage ≡ Put seal → quiet p × Kept b seat
         → PutsHeld seal m old.queued step queued → reply ≡ Stepped
         → aside ≡ record (with_seat old p (with_machine seat (put_heard m step))) { queued = queued } → Goal
@@ -186,43 +225,50 @@ module _ (old new : State) (reply : Reply) (before : ℕ → Seat) (quiet collec
         let same : aside ≡ with_seat old p (with_machine seat m) =
         subst (λ (bags : List Bag). aside ≡ record (with_seat old p (with_machine seat m)) { queued = bags }) put e in
         let still : DeferAt (later p × Kept b seat) m.full (Put seal) = ((q, λ own. rest (with_machine seat m) same), kept) in
-        steps (Defer g) drive m _ told e (λ k. refl)
+        defer_steps m _ told e (λ k. refl)
         (subst (λ (s : Stage). DeferAt (later p × Kept b seat) m.full s) (sym at) still)
-    defer_puts seal PutDone queued at was put told e = steps (Defer g) drive (put_heard m PutDone) _ told e (λ k. refl)
+    defer_puts seal PutDone queued at was put told e = defer_steps (put_heard m PutDone) _ told e (λ k. refl)
         (subst (λ (a : Action). DeferAt (later p × Kept b (with_machine seat (put_heard m PutDone))) false (after_put a false))
         (sym action) refl)
     defer_puts seal Full queued at (q, kept) put told e =
         let n : Machine Deferral = put_heard m Full in
         let same : aside ≡ with_seat old p (with_machine seat n) =
         subst (λ (bags : List Bag). aside ≡ record (with_seat old p (with_machine seat n)) { queued = bags }) put e in
-        steps (Defer g) drive n _ told e (λ k. refl)
+        defer_steps n _ told e (λ k. refl)
         (subst (λ (a : Action). DeferAt (later p × Kept b (with_machine seat n)) true (after_put a true)) (sym action)
         (λ full. ((q, λ own. rest (with_machine seat n) same), kept)))
 
     defer_ends : (m.full ≡ true → quiet p × Kept b seat)
-        → (reply ≡ end_reply (Defer g) seat) × (aside ≡ with_seat old p (ended_seat (Defer g) seat)) → Goal
-    defer_ends at did = tells (full_or_done m.full) (ended_seat (Defer g) seat) _
-        (full_or_not (Defer g) m.full drive leaves) did.0 did.1 (λ q. refl) tt
+        → (reply ≡ end_reply c seat) × (aside ≡ with_seat old p (ended_seat c seat)) → Goal
+    defer_ends at ends = tells (full_or_done m.full) after _ (full_or_not c m.full drive leaves) did.0 did.1 (λ q. refl) tt
       where
-        wrote : seat_of new p ≡ ended_seat (Defer g) seat
+        after : Seat
+        after = with_guards seat seat.guards seat.paused
+
+        did : (reply ≡ full_or_done m.full) × (aside ≡ with_seat old p after)
+        did = defers_end c kind ends
+
+        wrote : seat_of new p ≡ after
         wrote = ap (λ (s : State). seat_of s p) did.1 ∙ seat_written old p _ (seat_there old p taken)
 
         leaves : m.full ≡ true
-            → Leaves (quiet_after quiet old (Go p) (Refused BagsFull) new p) (collected p) (Driven (Defer g)) b (seat_of new p)
+            → Leaves (quiet_after quiet old (Go p) (Refused BagsFull) new p) (collected p) (Driven c) b (seat_of new p)
         leaves full = subst
-            (λ (after : Seat). Leaves (quiet_after quiet old (Go p) (Refused BagsFull) new p) (collected p) (Driven (Defer g)) b after)
+            (λ (after : Seat). Leaves (quiet_after quiet old (Go p) (Refused BagsFull) new p) (collected p) (Driven c) b after)
             (sym wrote)
-            (((at full).0, λ own. rest (ended_seat (Defer g) seat) did.1), (at full).1.0, keeps_bag b (ended_seat (Defer g) seat) (at full).1.1)
+            (defers_leave _ (collected p) b after c kind
+            (((at full).0, λ own. rest after did.1), (at full).1.0, keeps_bag b after (at full).1.1))
 
     defer_drives : (s : Stage) → m.stage ≡ s → DeferAt (quiet p × Kept b seat) m.full s
-        → Drives old p seat (Defer g) s (ask_at s) reply aside → Goal
-    defer_drives LoadSeal is (q, kept) did = steps (Defer g) drive (with_stage m (Put old.epoch)) _ did.0 did.1 (λ k. refl)
+        → Drives old p seat c s (ask_at s) reply aside → Goal
+    defer_drives LoadSeal is (q, kept) did = defer_steps (with_stage m (Put old.epoch)) _ did.0 did.1 (λ k. refl)
         ((q, λ own. rest _ did.1), kept)
     defer_drives (Put seal) is at (step, queued, told, put, e) = defer_puts seal step queued is at put told e
     defer_drives Keep is none did =
-        let n : Machine Deferral = hears m Keep (Job (record { ticket = old.tickets; removes = None })) in
+        let n : Machine Deferral = hears m Keep (Job (record { ticket = old.tickets; removes = removed_by seat.progress })) in
         tells (Deferred old.tickets) (with_machine seat n) _ tt did.0 did.1 (λ q. refl)
-        (on (Defer g) drive (with_machine seat n) refl (λ full. absurd (cc (full, none))))
+        (on c drive (with_machine seat n) refl
+        (defers_since b (later p) (got p) (with_machine seat n) c End kind (λ full. absurd (cc (full, none)))))
     defer_drives End is at did = defer_ends at did
     defer_drives _ is at did = absurd at
 
@@ -304,7 +350,7 @@ module _ (old new : State) (reply : Reply) (before : ℕ → Seat) (quiet collec
     flush_drives (Take x k) is at (step, jobs, queued, told, took, e) = flush_takes x k step jobs _ is at told e (λ q. refl)
     flush_drives (Calling x k) is at (job, jobs, hand, told, e) =
         let n : Machine Deferral = gives m (Calling x k) jobs in
-        tells (CalledReply job.ticket Ran) (with_machine seat n) _ tt told e (λ q. refl)
+        tells (CalledReply job.ticket (outcome_of old.heap job.removes)) (with_machine seat n) _ tt told e (λ q. refl)
         (on (Flush g) drive (with_machine seat n) refl (flush_job x k jobs (collects (Calling x k) is tt) at))
     flush_drives End is at did = flush_ends at.0 at.1 did
     flush_drives _ is at did = absurd at
@@ -382,7 +428,7 @@ module _ (old new : State) (reply : Reply) (before : ℕ → Seat) (quiet collec
     release_drives (Take x k) is at (step, jobs, queued, told, took, e) = release_takes x k step jobs _ is at told e (λ q. refl)
     release_drives (Calling x k) is at (job, jobs, hand, told, e) =
         let n : Machine Deferral = gives m (Calling x k) jobs in
-        tells (CalledReply job.ticket Ran) (with_machine seat n) _ tt told e (λ q. refl)
+        tells (CalledReply job.ticket (outcome_of old.heap job.removes)) (with_machine seat n) _ tt told e (λ q. refl)
         (on Release drive (with_machine seat n) refl (release_job x k jobs at))
     release_drives LoadSeal is at did = release_steps (with_stage m (Put old.epoch)) _ did.0 did.1 (λ q. refl) at
     release_drives (Put seal) is at (step, queued, told, put, e) = release_puts seal step _ is at told e (λ q. refl)
@@ -400,7 +446,8 @@ module _ (old new : State) (reply : Reply) (before : ℕ → Seat) (quiet collec
 
   drives : (c : Call) → seat.progress ≡ Driven c → m.action ≡ action_of c → SinceAt b (quiet p) (collected p) seat c m.stage
       → Drives old p seat c m.stage (ask_at m.stage) reply aside → Goal
-  drives (Defer g) drive action at did = defer_drives g drive action m.stage refl at did
+  drives (Defer g) drive action at did = defer_drives (Defer g) tt drive action m.stage refl at did
+  drives (DeferDestroy g ptr) drive action at did = defer_drives (DeferDestroy g ptr) tt drive action m.stage refl at did
   drives (Flush g) drive action at did = flush_drives g drive action m.stage refl at did
   drives Release drive action at did = release_drives drive action m.stage refl at did
   drives Pin drive action at did = plain_drives Pin drive refl m.stage (ask_at m.stage) did
@@ -408,6 +455,53 @@ module _ (old new : State) (reply : Reply) (before : ℕ → Seat) (quiet collec
   drives (Repin g) drive action at did = plain_drives (Repin g) drive refl m.stage (ask_at m.stage) did
   drives (Pause g) drive action at did = plain_drives (Pause g) drive refl m.stage (ask_at m.stage) did
   drives (Resume g) drive action at did = plain_drives (Resume g) drive refl m.stage (ask_at m.stage) did
+  drives (AccessCall a) drive action at did = plain_drives (AccessCall a) drive refl m.stage (ask_at m.stage) did
+
+  -- A CALL ON CELLS AND POINTERS
+
+  no_slot : (told : Accessed) → told ≢ NoSlot → LeavesAtRefusal before quiet collected old (Go p) (access_reply told) new
+  no_slot (Again found) some = tt
+  no_slot (Answers answer) some = tt
+  no_slot NoSlot some = absurd (some refl)
+
+  since_told : (a : Access) (k : ℕ) → ((after : Seat) → PlaceSince b (later p) after a) → (told : Accessed)
+      → SinceBy b (later p) (got p) (accessed_seat a k told seat) (progress_after a k told)
+  since_told a k since (Again found) = since (accessed_seat a k (Again found) seat)
+  since_told a k since (Answers answer) = tt
+  since_told a k since NoSlot = tt
+
+  places : (v k : ℕ) (found : Ptr) (cell : Option Cell) (did : Touched) → PlaceSince b (quiet p) seat (Place v)
+      → seat.progress ≡ Accesses (Place v) k found → Places v k found old.heap cell did → reply ≡ access_reply did.told
+      → aside ≡ record (with_seat old p (accessed_seat (Place v) k did.told seat)) { heap = did.heap } → Goal
+  places v k found None did (q, same) at is told e =
+      tells (Refused CellsFull) after _ unplaced (told ∙ ap (λ (d : Touched). access_reply d.told) is) wrote (λ q. refl) tt
+    where
+      after : Seat
+      after = record seat { progress = Idle }
+
+      wrote : aside ≡ with_seat old p after
+      wrote = subst (λ (d : Touched). aside ≡ record (with_seat old p (accessed_seat (Place v) k d.told seat)) { heap = d.heap }) is e
+
+      left : seat_of new p ≡ b
+      left = ap (λ (s : State). seat_of s p) wrote ∙ seat_written old p after (seat_there old p taken) ∙ sym same
+
+      unplaced : LeavesAtRefusal before quiet collected old (Go p) (Refused CellsFull) new
+      unplaced = subst
+          (λ (progress : Progress). LeavesUnplaced (quiet_after quiet old (Go p) (Refused CellsFull) new p) progress b (seat_of new p))
+          (sym at) ((q, λ own. rest after wrote), left)
+  places v k found (Some cell) did since at (inl (free, n, slot, turn, is)) told e =
+      tells Stepped (record seat { progress = Ends (Done (NameAnswer n)) }) _ tt (told ∙ ap (λ (d : Touched). access_reply d.told) is)
+      (subst (λ (d : Touched). aside ≡ record (with_seat old p (accessed_seat (Place v) k d.told seat)) { heap = d.heap }) is e)
+      (λ q. refl) tt
+  places v k found (Some cell) did (q, same) at (inr (used, is)) told e =
+      tells Stepped after _ tt (told ∙ ap (λ (d : Touched). access_reply d.told) is) wrote (λ q. refl)
+      ((q, λ own. rest after wrote), same)
+    where
+      after : Seat
+      after = record seat { progress = Accesses (Place v) (k + 1) found }
+
+      wrote : aside ≡ with_seat old p after
+      wrote = subst (λ (d : Touched). aside ≡ record (with_seat old p (accessed_seat (Place v) k d.told seat)) { heap = d.heap }) is e
 
   pub goes : AllLinked old → (progress : Progress) → seat.progress ≡ progress → Goes old p seat progress reply aside → Goal
   goes linked Idle at did = tells (Refused IdleFault) seat old tt did.0 did.1 same_seat
@@ -421,26 +515,32 @@ module _ (old new : State) (reply : Reply) (before : ℕ → Seat) (quiet collec
   goes linked (Driven c) at did =
       let driven : IsDriven c m seat.guards = follows_at old.sizes seat (linked.seats p) (Driven c) at in
       drives c at driven.action (subst (λ (progress : Progress). SinceBy b (quiet p) (collected p) seat progress) at (h p)) did
-  goes linked CallsNow at did = tells (CalledNow Ran) (record seat { progress = Ends (Done UnitAnswer) }) _ tt did.0 did.1 (λ q. refl) tt
+  goes linked (CallsNow removes) at did =
+      tells (CalledNow (outcome_of old.heap removes)) (record seat { progress = Ends (Done UnitAnswer) }) _ tt did.0 did.1 (λ q. refl) tt
+  goes linked (Accesses (Place v) k found) at (did, touches, told, e) = places v k found (slice_get old.heap.cells k) did
+      (subst (λ (progress : Progress). SinceBy b (quiet p) (collected p) seat progress) at (h p)) at touches told e
+  goes linked (Accesses a k found) at (did, touches, told, e) = tells (access_reply did.told) (accessed_seat a k did.told seat) _
+      (no_slot did.told (λ none. subst (IsTold nothing a) none (told_by_touch nothing a k found old.heap did touches)))
+      told e (λ q. refl) (since_told a k (λ after. tt) did.told)
   goes linked (Ends last) at did =
-      let done : last ≡ Done UnitAnswer = (follows_at old.sizes seat (linked.seats p) (Ends last) at).1 in
-      tells (Done UnitAnswer) (record seat { progress = Idle }) _ tt (did.0 ∙ done) did.1 (λ q. refl) tt
+      let done : (answer : Answer) × (last ≡ Done answer) = (follows_at old.sizes seat (linked.seats p) (Ends last) at).1 in
+      tells (Done done.0) (record seat { progress = Idle }) _ tt (did.0 ∙ done.1) did.1 (λ q. refl) tt
 
 -- EVERY STEP
 
 module _ (old new : State) (reply : Reply) (before : ℕ → Seat) (quiet collected : ℕ → Type 0) (h : AllSince before quiet collected old)
     (linked : AllLinked old) where
   abbrev aside_of : State
-  aside_of = with_places new old.places old.seen old.ahead
+  aside_of = with_places new old.places old.seen old.ahead old.room
 
   abbrev Shown : Step → Reply → Type 0
   Shown step told = ShowsLeft before quiet collected old step told new
 
   -- nothing has changed
-  unchanged : aside_of ≡ old → (new.places ≡ old.places) × (new.seen ≡ old.seen) × (new.ahead ≡ old.ahead) → new ≡ old
+  unchanged : aside_of ≡ old → (new.places ≡ old.places) × (new.seen ≡ old.seen) × (new.ahead ≡ old.ahead) × (new.room ≡ old.room) → new ≡ old
   unchanged e same =
-      ap (λ (ahead : List ℕ). with_places new new.places new.seen ahead) same.2
-      ∙ ap₂ (λ (places : List Bool) (seen : List ℕ). with_places new places seen old.ahead) same.0 same.1 ∙ e
+      ap₂ (λ (ahead : List ℕ) (room : List Bool). with_places new new.places new.seen ahead room) same.2 same.3
+      ∙ ap₂ (λ (places : List Bool) (seen : List ℕ). with_places new places seen old.ahead old.room) same.0 same.1 ∙ e
 
   -- no seat is written
   stays : (last : State) → aside_of ≡ last → ((q : ℕ) → seat_of last q ≡ seat_of old q) → AllSince before quiet collected new
@@ -454,10 +554,10 @@ module _ (old new : State) (reply : Reply) (before : ℕ → Seat) (quiet collec
     | inr other ↦ subst (Since (before q) (quiet q) (collected q)) (sym (ap (λ (s : State). seat_of s q) e ∙ seat_other old p q _ other)) (h q)
   ]
 
-  begun : (p : ℕ) (c : Call) → word_of old p ≢ Free → aside_of ≡ with_seat old p (begun_seat c (seat_of old p))
+  begun : (p : ℕ) (c : Call) → word_of old p ≢ Free → (seat_of old p).progress ≡ Idle → aside_of ≡ with_seat old p (begun_seat c (seat_of old p))
       → AllSince (before_after before old (Begin p c) Began) (quiet_after quiet old (Begin p c) Began new)
       (collected_after collected old (Begin p c) Began) new
-  begun p c taken e q = elim (same_or_other q p) [
+  begun p c taken idle e q = elim (same_or_other q p) [
     | inl same ↦ subst (λ (k : ℕ). Since (if p == k then seat_of old p else before k) (k ≢ p → quiet k) ((k ≢ p) × collected k) (seat_of new k)) (sym same) own
     | inr other ↦ subst (λ (b : Seat). Since b (q ≢ p → quiet q) ((q ≢ p) × collected q) (seat_of new q)) (sym (at_other q other))
         (subst (Since (before q) (q ≢ p → quiet q) ((q ≢ p) × collected q)) (sym (ap (λ (s : State). seat_of s q) e ∙ seat_other old p q _ other))
@@ -474,14 +574,14 @@ module _ (old new : State) (reply : Reply) (before : ℕ → Seat) (quiet collec
       own = subst (λ (b : Seat). Since b (p ≢ p → quiet p) ((p ≢ p) × collected p) (seat_of new p)) (sym at_same)
           (subst (Since (seat_of old p) (p ≢ p → quiet p) ((p ≢ p) × collected p))
           (sym (ap (λ (s : State). seat_of s p) e ∙ seat_written old p _ (seat_there old p taken)))
-          (begun_since (p ≢ p → quiet p) ((p ≢ p) × collected p) (seat_of old p) c (λ ne. absurd (ne refl))))
+          (begun_since (p ≢ p → quiet p) ((p ≢ p) × collected p) (seat_of old p) c idle (λ ne. absurd (ne refl))))
 
-  begins : (p : ℕ) (c : Call) (fault : Option Fault) → refusal c (seat_of old p) old.tickets ≡ fault
-      → (new.places ≡ old.places) × (new.seen ≡ old.seen) × (new.ahead ≡ old.ahead) → Begins old p c fault reply aside_of → Shown (Begin p c) reply
+  begins : (p : ℕ) (c : Call) (fault : Option Fault) → refusal c (seat_of old p) old.tickets old.heap ≡ fault
+      → (new.places ≡ old.places) × (new.seen ≡ old.seen) × (new.ahead ≡ old.ahead) × (new.room ≡ old.room) → Begins old p c fault reply aside_of → Shown (Begin p c) reply
   begins p c (Some fault) at same did = subst (Shown (Begin p c)) (sym did.0)
       (unchanged did.1 same, stays old did.1 (λ q. refl))
   begins p c None at same did = subst (Shown (Begin p c)) (sym did.0)
-      (tt, begun p c (begin_given c (seat_of old p) old.tickets at).taken did.1)
+      (tt, let given = begin_given c (seat_of old p) old.tickets old.heap at in begun p c given.taken given.idle did.1)
 
   -- a Go of a position that is free
   goes_free : (p : ℕ) → reply ≡ Refused NotRegistered → aside_of ≡ old → Shown (Go p) reply
@@ -496,6 +596,7 @@ module _ (old new : State) (reply : Reply) (before : ℕ → Seat) (quiet collec
         epoch = ap (λ (s : State). s.epoch) e;
         bags = ap (λ (s : State). s.queued) e;
         tickets = ap (λ (s : State). s.tickets) e;
+        heap = ap (λ (s : State). s.heap) e;
         others = λ q other. ap (λ (s : State). seat_of s q) e;
       }
 
@@ -510,7 +611,7 @@ module _ (old new : State) (reply : Reply) (before : ℕ → Seat) (quiet collec
   step_shown Register (inl did, same) = subst (Shown Register) (sym did.5) (tt, registers did.0 did.2 did.6)
   step_shown Register (inr (inl did), same) = subst (Shown Register) (sym did.2) (unchanged did.3 same, stays old did.3 (λ q. refl))
   step_shown Register (inr (inr did), same) = subst (Shown Register) (sym did.1) (unchanged did.2 same, stays old did.2 (λ q. refl))
-  step_shown (Begin p c) (did, same) = begins p c (refusal c (seat_of old p) old.tickets) refl same did
+  step_shown (Begin p c) (did, same) = begins p c (refusal c (seat_of old p) old.tickets old.heap) refl same did
   step_shown (Go p) (inl did, sees) = goes_free p did.1 did.2
   step_shown (Go p) (inr did, sees) = goes old new reply before quiet collected h p did.0 linked (seat_of old p).progress refl did.1
   step_shown EndStep (inl did, same) = subst (Shown EndStep) (sym did.2) (tt, stays _ did.3 (λ q. refl))

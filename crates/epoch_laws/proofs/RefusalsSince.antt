@@ -1,22 +1,27 @@
 -- What each participant whose call may yet be refused has left as it was since the call began.
-use Rattle.std.proofs.Common.{◌≡◌, ℕ, ◌==◌, Bool, true, false, List, [], ◌∷◌, length, Some, refl}
+use Rattle.std.proofs.Common.{if◌then◌else◌, ap, ◌≡◌, ℕ, ◌==◌, Bool, true, false, List, [], ◌∷◌, length, Some, None, refl}
 use Rattle.epoch_machine.specs.declared.machine.Action.TheVariants.{Release as ReleaseAction}
 use Rattle.epoch_machine.specs.declared.machine.Stage.{Stage}
 use Rattle.epoch_machine.specs.declared.machine.Stage.TheVariants.{LoadPin, StorePin, ReloadPin, LoadScan, Scan, Advance, Take, Calling, LoadSeal, Put, Keep, StoreUnpinned, StoreFree, End}
 use Rattle.epoch_machine.specs.Machine.{is_empty, after_collect, after_unpin}
+use Rattle.epoch_heap.specs.declared.access.Access.{Access}
+use Rattle.epoch_heap.specs.declared.access.Access.TheVariants.{Place}
+use Rattle.epoch_heap.specs.declared.access.Answer.TheVariants.{Absent}
+use Rattle.epoch_heap.specs.Heap.{null, has_steps}
 use Rattle.epoch_laws.specs.declared.step.Call.{Call}
-use Rattle.epoch_laws.specs.declared.step.Call.TheVariants.{Pin, Unpin, Repin, Pause, Resume, Defer, Flush, Release}
+use Rattle.epoch_laws.specs.declared.step.Call.TheVariants.{Pin, Unpin, Repin, Pause, Resume, Defer, Flush, Release, DeferDestroy, Access as AccessCall}
 use Rattle.epoch_laws.specs.declared.step.Deferral.{Deferral}
 use Rattle.epoch_laws.specs.declared.step.Progress.{Progress}
-use Rattle.epoch_laws.specs.declared.step.Progress.TheVariants.{Driven}
+use Rattle.epoch_laws.specs.declared.step.Progress.TheVariants.{Idle, Driven, Accesses, Ends}
+use Rattle.epoch_laws.specs.declared.step.Reply.TheVariants.{Done}
 use Rattle.epoch_laws.specs.declared.step.Word.TheVariants.{Unpinned}
 use Rattle.epoch_laws.specs.Run.{Seat, State, seat_of, begun_seat}
 use Rattle.epoch_laws.proofs.ToldAtStages.{either_stage}
 
--- guards, the paused one and the held bag
+-- guards, the paused one, the readings and the held bag
 abbrev pub KeptBag : (before after : Seat) → Type 0
-KeptBag before after =
-    (after.guards ≡ before.guards) × (after.paused ≡ before.paused) × (after.machine.held ≡ before.machine.held)
+KeptBag before after = (after.guards ≡ before.guards) × (after.paused ≡ before.paused)
+    × (after.readings ≡ before.readings) × (after.machine.held ≡ before.machine.held)
 
 abbrev pub Kept : (before after : Seat) → Type 0
 Kept before after = (after.word ≡ before.word) × KeptBag before after
@@ -60,11 +65,18 @@ ReleaseAt kept off full _ = ⊥
 abbrev pub SinceAt : Seat → (quiet collected : Type 0) → Seat → Call → Stage → Type 0
 SinceAt b quiet collected a (Defer g) s = DeferAt (quiet × Kept b a) a.machine.full s
 SinceAt b quiet collected a (Flush g) s = FlushAt (Kept b a) collected a.machine.full s
+SinceAt b quiet collected a (DeferDestroy g ptr) s = DeferAt (quiet × Kept b a) a.machine.full s
 SinceAt b quiet collected a Release s = ReleaseAt (KeptBag b a) (a.word ≡ Unpinned) a.machine.full s
 SinceAt b quiet collected a _ s = Unit {0}
 
+-- a place has changed nothing but its progress
+abbrev pub PlaceSince : Seat → Type 0 → Seat → Access → Type 0
+PlaceSince b quiet a (Place v) = quiet × (b ≡ record a { progress = Idle })
+PlaceSince b quiet a _ = Unit {0}
+
 abbrev pub SinceBy : Seat → (quiet collected : Type 0) → Seat → Progress → Type 0
 SinceBy b quiet collected a (Driven c) = SinceAt b quiet collected a c a.machine.stage
+SinceBy b quiet collected a (Accesses access k found) = PlaceSince b quiet a access
 SinceBy b quiet collected a _ = Unit {0}
 
 abbrev pub Since : Seat → (quiet collected : Type 0) → Seat → Type 0
@@ -76,12 +88,14 @@ AllSince before quiet collected s = (q : ℕ) → Since (before q) (quiet q) (co
 -- a call that is never told that the bags are full
 abbrev pub is_plain : Call → Bool
 is_plain (Defer g) = false
+is_plain (DeferDestroy g ptr) = false
 is_plain (Flush g) = false
 is_plain Release = false
 is_plain _ = true
 
 pub plain_since : (b : Seat) (quiet collected : Type 0) (a : Seat) (s : Stage) (c : Call) → is_plain c ≡ true → SinceAt b quiet collected a c s
 plain_since b quiet collected a s (Defer g) plain = absurd (cc (plain))
+plain_since b quiet collected a s (DeferDestroy g ptr) plain = absurd (cc (plain))
 plain_since b quiet collected a s (Flush g) plain = absurd (cc (plain))
 plain_since b quiet collected a s Release plain = absurd (cc (plain))
 plain_since b quiet collected a s _ plain = tt
@@ -111,29 +125,46 @@ since_more b P Q C D a more got at = by_progress a.progress at
   where
     by_call : (c : Call) (s : Stage) → SinceAt b P C a c s → SinceAt b Q D a c s
     by_call (Defer g) s at = defer_more (P × Kept b a) (Q × Kept b a) a.machine.full s (λ both. (more both.0, both.1)) at
+    by_call (DeferDestroy g ptr) s at =
+        defer_more (P × Kept b a) (Q × Kept b a) a.machine.full s (λ both. (more both.0, both.1)) at
     by_call (Flush g) s at = flush_more (Kept b a) C D a.machine.full s got at
     by_call Release s at = at
     by_call _ s at = tt
 
     by_progress : (progress : Progress) → SinceBy b P C a progress → SinceBy b Q D a progress
     by_progress (Driven c) at = by_call c a.machine.stage at
+    by_progress (Accesses (Place v) k found) at = (more at.0, at.1)
     by_progress _ at = tt
 
 -- HOW A CALL BEGINS
 
-pub begun_since : (quiet collected : Type 0) (seat : Seat) (c : Call) → quiet → Since seat quiet collected (begun_seat c seat)
-begun_since quiet collected seat (Defer (Some g)) q =
+deferral_since : (quiet : Type 0) (seat : Seat) → quiet
+    → DeferAt (quiet × Kept seat seat) false (if length seat.machine.held == seat.machine.sizes.bag_jobs then LoadSeal else Keep)
+deferral_since quiet seat q =
     either_stage (DeferAt (quiet × Kept seat seat) false) (length seat.machine.held == seat.machine.sizes.bag_jobs)
-    LoadSeal Keep (q, (refl, (refl, refl, refl))) refl
-begun_since quiet collected seat (Flush (Some g)) q = either_stage (FlushAt (Kept seat seat) collected false) (is_empty seat.machine.held)
-    LoadScan LoadSeal (λ is. absurd (cc (is))) (refl, (refl, refl, refl))
-begun_since quiet collected seat Release q = (refl, refl, refl)
-begun_since quiet collected seat Pin q = tt
-begun_since quiet collected seat (Resume (Some g)) q = tt
-begun_since quiet collected seat (Unpin g) q = tt
-begun_since quiet collected seat (Repin (Some g)) q = tt
-begun_since quiet collected seat (Pause (Some g)) q = tt
-begun_since quiet collected seat _ q = tt
+    LoadSeal Keep (q, (refl, (refl, refl, refl, refl))) refl
+
+place_since : (quiet collected : Type 0) (seat : Seat) (a : Access) (some : Bool) → seat.progress ≡ Idle → quiet
+    → Since seat quiet collected (record seat { progress = if some then Accesses a 0 null else Ends (Done Absent) })
+place_since quiet collected seat (Place v) true idle q = (q, ap (λ (progress : Progress). record seat { progress = progress }) idle)
+place_since quiet collected seat _ true idle q = tt
+place_since quiet collected seat a false idle q = tt
+
+pub begun_since : (quiet collected : Type 0) (seat : Seat) (c : Call) → seat.progress ≡ Idle → quiet
+    → Since seat quiet collected (begun_seat c seat)
+begun_since quiet collected seat (Defer (Some g)) idle q = deferral_since quiet seat q
+begun_since quiet collected seat (DeferDestroy (Some g) ptr) idle q = deferral_since quiet seat q
+begun_since quiet collected seat (DeferDestroy None ptr) idle q = tt
+begun_since quiet collected seat (AccessCall a) idle q = place_since quiet collected seat a (has_steps a) idle q
+begun_since quiet collected seat (Flush (Some g)) idle q = either_stage (FlushAt (Kept seat seat) collected false) (is_empty seat.machine.held)
+    LoadScan LoadSeal (λ is. absurd (cc (is))) (refl, (refl, refl, refl, refl))
+begun_since quiet collected seat Release idle q = (refl, refl, refl, refl)
+begun_since quiet collected seat Pin idle q = tt
+begun_since quiet collected seat (Resume (Some g)) idle q = tt
+begun_since quiet collected seat (Unpin g) idle q = tt
+begun_since quiet collected seat (Repin (Some g)) idle q = tt
+begun_since quiet collected seat (Pause (Some g)) idle q = tt
+begun_since quiet collected seat _ idle q = tt
 
 -- HOW A RELEASE GOES ON
 

@@ -24,10 +24,13 @@ all_may_reply told (first ∷ log) each = (
   all_may_reply (λ p. told_after p (told p) first.step first.reply) log (λ k within. each (suc k) (omega arith)),
 )
 
+-- the entry may have its reply after the first k
+abbrev pub MayReplyBefore : List Entry → ℕ → Entry → Type 0
+MayReplyBefore log k entry = MayReply (λ p. told_of p (take k log)) entry.step entry.reply
+
 -- the entry read at place k may have its reply
 abbrev pub MayReplyRead : List Entry → ℕ → Entry → Type 0
-MayReplyRead log k default =
-    MayReply (λ p. told_of p (take k log)) (get_or log k default).step (get_or log k default).reply
+MayReplyRead log k default = MayReplyBefore log k (get_or log k default)
 
 pub may_reply_read : (log : List Entry) (k : ℕ) (default : Entry) → k < length log → MayReplyAll (λ p. nothing) log
     → MayReplyRead log k default

@@ -8,6 +8,7 @@ use Rattle.epoch_laws.specs.declared.step.Word.TheVariants.{Free}
 use Rattle.epoch_laws.specs.declared.step.Progress.{Progress}
 use Rattle.epoch_laws.specs.declared.step.Progress.TheVariants.{Idle}
 use Rattle.epoch_laws.specs.Run.{Seat, State, seat_of, word_of, with_seat, free_seat, is_free, is_idle, waits, call_refusal, refusal}
+use Rattle.epoch_heap.specs.Heap.{Heap}
 
 pub seat_written : (s : State) (p : ℕ) (seat : Seat) → p < length s.seats → seat_of (with_seat s p seat) p ≡ seat
 seat_written s p seat lt = get_or-set_same s.seats p seat (free_seat s.sizes) lt
@@ -34,28 +35,29 @@ pub same_or_other : (q p : ℕ) → (q ≡ p) ⊎ (q ≢ p)
 same_or_other q p = grind arith
 
 -- What holds where a call isn't refused.
-pub record IsAccepted (c : Call) (seat : Seat) (tickets : ℕ) : Type 0 where
+pub record IsAccepted (c : Call) (seat : Seat) (tickets : ℕ) (heap : Heap) : Type 0 where
   pub taken : seat.word ≢ Free
   pub idle : seat.progress ≡ Idle
   pub awake : waits c seat.paused ≡ false  -- who is paused only resumes
-  pub own : call_refusal c seat tickets ≡ None
+  pub own : call_refusal c seat tickets heap ≡ None
 
 idle_is : (progress : Progress) → is_idle progress ≡ true → progress ≡ Idle
 idle_is Idle h = refl
 idle_is _ h = absurd (cc)
 
 -- what is tested of a seat that is taken and idle, and of one that is taken
-abbrev waits_or_own : Call → Seat → ℕ → Option Fault
-waits_or_own c seat tickets = if waits c seat.paused then Some Busy else call_refusal c seat tickets
+abbrev waits_or_own : Call → Seat → ℕ → Heap → Option Fault
+waits_or_own c seat tickets heap = if waits c seat.paused then Some Busy else call_refusal c seat tickets heap
 
-abbrev idle_or_busy : Call → Seat → ℕ → Option Fault
-idle_or_busy c seat tickets = if is_idle seat.progress then waits_or_own c seat tickets else Some Busy
+abbrev idle_or_busy : Call → Seat → ℕ → Heap → Option Fault
+idle_or_busy c seat tickets heap = if is_idle seat.progress then waits_or_own c seat tickets heap else Some Busy
 
-pub begin_given : (c : Call) (seat : Seat) (tickets : ℕ) → refusal c seat tickets ≡ None → IsAccepted c seat tickets
-begin_given c seat tickets e = at_word (is_free seat.word) refl e
+pub begin_given : (c : Call) (seat : Seat) (tickets : ℕ) (heap : Heap) → refusal c seat tickets heap ≡ None
+    → IsAccepted c seat tickets heap
+begin_given c seat tickets heap e = at_word (is_free seat.word) refl e
   where
     at_pause : (b : Bool) → waits c seat.paused ≡ b → is_idle seat.progress ≡ true → is_free seat.word ≡ false
-        → (if b then Some Busy else call_refusal c seat tickets) ≡ None → IsAccepted c seat tickets
+        → (if b then Some Busy else call_refusal c seat tickets heap) ≡ None → IsAccepted c seat tickets heap
     at_pause true waiting idle taken h = absurd (cc)
     at_pause false waiting idle taken h = record {
       taken = λ free. absurd (cc (taken, ap is_free free));
@@ -65,12 +67,12 @@ begin_given c seat tickets e = at_word (is_free seat.word) refl e
     }
 
     at_progress : (b : Bool) → is_idle seat.progress ≡ b → is_free seat.word ≡ false
-        → (if b then waits_or_own c seat tickets else Some Busy) ≡ None → IsAccepted c seat tickets
+        → (if b then waits_or_own c seat tickets heap else Some Busy) ≡ None → IsAccepted c seat tickets heap
     at_progress true idle taken h = at_pause (waits c seat.paused) refl idle taken h
     at_progress false idle taken h = absurd (cc)
 
     at_word : (b : Bool) → is_free seat.word ≡ b
-        → (if b then Some NotRegistered else idle_or_busy c seat tickets) ≡ None → IsAccepted c seat tickets
+        → (if b then Some NotRegistered else idle_or_busy c seat tickets heap) ≡ None → IsAccepted c seat tickets heap
     at_word true free h = absurd (cc)
     at_word false taken h = at_progress (is_idle seat.progress) refl taken h
 

@@ -1,15 +1,19 @@
 -- What the put of a participant has found of the places, by its seat, between any two steps.
-use Rattle.std.proofs.Common.{◌≡◌, ℕ, Bool, true, false, Some, None, refl, ap, sym, subst, ◌∙◌}
+use Rattle.std.proofs.Common.{◌≡◌, ℕ, Bool, true, false, Some, None, refl, ap, sym, subst, ◌∙◌, if◌then◌else◌}
 use Rattle.epoch_machine.specs.declared.machine.Action.{Action}
 use Rattle.epoch_machine.specs.declared.machine.Action.TheVariants.{Pin as PinAction, Unpin as UnpinAction, Repin as RepinAction, Defer as DeferAction, Flush as FlushAction, Release as ReleaseAction}
 use Rattle.epoch_machine.specs.declared.machine.Stage.{Stage}
 use Rattle.epoch_machine.specs.declared.machine.Stage.TheVariants.{Idle as Resting, LoadPin, StorePin, ReloadPin, LoadScan, Scan, Advance, Take, Calling, LoadSeal, Put, StoreFree}
 use Rattle.epoch_machine.specs.Machine.{Machine}
+use Rattle.epoch_heap.specs.declared.access.Access.{Access}
+use Rattle.epoch_heap.specs.declared.access.Answer.TheVariants.{Absent}
+use Rattle.epoch_heap.specs.Heap.{null, has_steps}
 use Rattle.epoch_laws.specs.declared.step.Call.{Call}
-use Rattle.epoch_laws.specs.declared.step.Call.TheVariants.{Pin, Unpin, Repin, Pause, Resume, Defer, Flush, Release}
+use Rattle.epoch_laws.specs.declared.step.Call.TheVariants.{Pin, Unpin, Repin, Pause, Resume, Defer, Flush, Release, DeferDestroy, Access as AccessCall}
 use Rattle.epoch_laws.specs.declared.step.Deferral.{Deferral}
 use Rattle.epoch_laws.specs.declared.step.Progress.{Progress}
-use Rattle.epoch_laws.specs.declared.step.Progress.TheVariants.{Idle, Driven, CallsNow, Ends}
+use Rattle.epoch_laws.specs.declared.step.Progress.TheVariants.{Idle, Driven, CallsNow, Accesses, Ends}
+use Rattle.epoch_laws.specs.declared.step.Reply.TheVariants.{Done}
 use Rattle.epoch_laws.specs.declared.step.Word.{Word}
 use Rattle.epoch_laws.specs.Run.{Seat, with_word, drives, begun_seat, ended_seat}
 use Rattle.epoch_laws.proofs.PutStages.{NoneFound, FoundSeen, FoundWhere, none_missed, puts_bag, NoneYet, FoundAt, found_first}
@@ -76,7 +80,8 @@ module _ (was found : ℕ → Type 0) (same : SameFound was found) where
       → FoundIn found count full progress
   in_still count full Idle at = tt
   in_still count full (Driven c) at = where_still count full at
-  in_still count full CallsNow at = none_still at
+  in_still count full (CallsNow removes) at = none_still at
+  in_still count full (Accesses a k last) at = none_still at
   in_still count full (Ends r) at = none_still at
 
   pub finds_still : (count seen : ℕ) (seat : Seat) → PutFinds was count seen seat → PutFinds found count seen seat
@@ -105,6 +110,11 @@ module _ (found : ℕ → Type 0) (count seen : ℕ) where
     by_action = λ plain. refl;
   }
 
+  access_finds : (a : Access) (b : Bool) (seat : Seat) → seat.machine.stage ≡ Resting → FullByPut seat.machine
+      → NoneFound found → PutFinds found count seen (record seat { progress = if b then Accesses a 0 null else Ends (Done Absent) })
+  access_finds a true seat rests by_action none = rest_finds _ rests none by_action
+  access_finds a false seat rests by_action none = rest_finds _ rests none by_action
+
   pub begun_finds : (c : Call) (seat : Seat) → seat.machine.stage ≡ Resting
       → FullByPut seat.machine → NoneFound found → PutFinds found count seen (begun_seat c seat)
   begun_finds Pin seat rests by_action none = driven_finds PinAction Pin seat none
@@ -116,6 +126,9 @@ module _ (found : ℕ → Type 0) (count seen : ℕ) where
   begun_finds (Flush (Some g)) seat rests by_action none = driven_finds FlushAction (Flush (Some g)) seat none
   begun_finds Release seat rests by_action none = driven_finds ReleaseAction Release seat none
   begun_finds (Defer None) seat rests by_action none = rest_finds _ rests none by_action
+  begun_finds (DeferDestroy (Some g) ptr) seat rests by_action none = driven_finds DeferAction (DeferDestroy (Some g) ptr) seat none
+  begun_finds (DeferDestroy None ptr) seat rests by_action none = rest_finds _ rests none by_action
+  begun_finds (AccessCall a) seat rests by_action none = access_finds a (has_steps a) seat rests by_action none
   begun_finds _ seat rests by_action none = rest_finds _ rests none by_action
 
   pub ended_finds : (c : Call) (seat : Seat) → FullByPut seat.machine

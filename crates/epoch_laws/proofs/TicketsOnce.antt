@@ -19,17 +19,17 @@ module _ (old new : State) (log : List Entry) (x : Entry) (h : Tallies old log) 
   Kept = Tallies new (log ++ x ∷ [])
 
   call_begins : (p : ℕ) (c : Call) (refused : Option Fault)
-      → refusal c (seat_of old p) old.tickets ≡ refused
+      → refusal c (seat_of old p) old.tickets old.heap ≡ refused
       → Begins old p c refused x.reply new
       → Kept
   call_begins p c (Some fault) at did = stayed old new log x h _ did.0 refl did.1
   call_begins p c None at did =
-      let given = begin_given c (seat_of old p) old.tickets at in
+      let given = begin_given c (seat_of old p) old.tickets old.heap at in
       begins old new log x h p given.taken c given.idle did.0 did.1
 
   end_begins : old.ending ≡ Open → AllFree old → x.reply ≡ Began → new ≡ record old { ending = Emptying [] 0 } → Kept
   end_begins opened free is did =
-      closes old new log x h _ old.queued (Emptying [] 0) is free (λ over. absurd (cc))
+      closes old new log x h _ old.queued (Emptying [] 0) old.heap is free (λ over. absurd (cc))
       (λ t. omega (arith, ap (times_at_end t) opened)) (λ t. refl) did
 
   -- once an end has begun, no participant is left
@@ -40,22 +40,22 @@ module _ (old new : State) (log : List Entry) (x : Entry) (h : Tallies old log) 
   end_goes Open at did = stayed old new log x h _ did.0 refl did.1
   end_goes Over at did = stayed old new log x h _ did.0 refl did.1
   end_goes (Emptying (job ∷ jobs) n) at (is, did) =
-      closes old new log x h _ old.queued (Emptying jobs (n + 1)) is
+      closes old new log x h _ old.queued (Emptying jobs (n + 1)) _ is
       (none_left _ at (λ opened. cc)) (λ over. absurd (cc))
       (λ t. omega (arith, ap (times_at_end t) at, times_cons t job jobs)) (λ t. refl) did
   end_goes (Emptying [] n) at (inl (bag, queued, inserted, is, did)) =
-      closes old new log x h _ queued (Emptying bag.jobs n) is
+      closes old new log x h _ queued (Emptying bag.jobs n) old.heap is
       (none_left _ at (λ opened. cc)) (λ over. absurd (cc))
       (λ t. omega (arith, ap (times_at_end t) at, queued_put t queued old.queued bag inserted)) (λ t. refl) did
   end_goes (Emptying [] n) at (inr (none, is, did)) =
-      closes old new log x h _ old.queued Over is (none_left _ at (λ opened. cc)) (λ over. none)
+      closes old new log x h _ old.queued Over old.heap is (none_left _ at (λ opened. cc)) (λ over. none)
       (λ t. omega (arith, ap (times_at_end t) at)) (λ t. refl) did
 
   step_tallies : (s : Step) → Moves old s x.reply new → Kept
   step_tallies Register (inl did) = registers old new log x h did.0 did.1 did.2 did.3 did.5 did.6
   step_tallies Register (inr (inl did)) = stayed old new log x h _ did.2 refl did.3
   step_tallies Register (inr (inr did)) = stayed old new log x h _ did.1 refl did.2
-  step_tallies (Begin p c) did = call_begins p c (refusal c (seat_of old p) old.tickets) refl did
+  step_tallies (Begin p c) did = call_begins p c (refusal c (seat_of old p) old.tickets old.heap) refl did
   step_tallies (Go p) (inl did) = stayed old new log x h _ did.1 refl did.2
   step_tallies (Go p) (inr did) = goes old new log x h p did.0 (seat_of old p).progress refl did.1
   step_tallies EndStep (inl did) = end_begins did.0 did.1 did.2 did.3
@@ -64,10 +64,10 @@ module _ (old new : State) (log : List Entry) (x : Entry) (h : Tallies old log) 
   step_tallies EndGo did = end_goes old.ending refl did
 
 -- the places play no part
-tallies_aside : (s : State) (log : List Entry) (places : List Bool) (seen : List ℕ) (ahead : List ℕ)
-    → Tallies (with_places s places seen ahead) log
+tallies_aside : (s : State) (log : List Entry) (places : List Bool) (seen : List ℕ) (ahead : List ℕ) (room : List Bool)
+    → Tallies (with_places s places seen ahead room) log
     → Tallies s log
-tallies_aside s log places seen ahead h =
+tallies_aside s log places seen ahead room h =
     record { seats = h.seats; placed = h.placed; accepted = h.accepted; closed = h.closed; over = h.over }
 
 runs_tally : (old new : State) (log entries : List Entry)
@@ -77,8 +77,8 @@ runs_tally : (old new : State) (log entries : List Entry)
 runs_tally old new log [] h run =
     subst (λ s. Tallies s (log ++ [])) (sym run) (subst (Tallies old) (sym (append-nil log)) h)
 runs_tally old new log (x ∷ entries) h (mid, did, run) =
-    let aside = step_tallies old (with_places mid old.places old.seen old.ahead) log x h x.step did.0 in
-    let step : Tallies mid (log ++ x ∷ []) = tallies_aside mid (log ++ x ∷ []) old.places old.seen old.ahead aside in
+    let aside = step_tallies old (with_places mid old.places old.seen old.ahead old.room) log x h x.step did.0 in
+    let step : Tallies mid (log ++ x ∷ []) = tallies_aside mid (log ++ x ∷ []) old.places old.seen old.ahead old.room aside in
     subst (Tallies new) (append_assoc log (x ∷ []) entries) (runs_tally mid new (log ++ x ∷ []) entries step run)
 
 fresh_tallies : (s : State) → IsFresh s → Tallies s []

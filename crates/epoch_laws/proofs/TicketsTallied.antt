@@ -1,16 +1,19 @@
 -- The tally of the tickets, and what keeps it: jobs move as the reply tells.
 use Rattle.std.proofs.Common.{◌≡◌, ◌≢◌, ℕ, ◌+◌, ◌<◌, Bool, true, false, List, [], ◌∷◌, ◌++◌, length, inl, inr, refl, ap, sym, subst, ◌∙◌, arith, if◌then◌else◌, nat_lt}
 use Rattle.epoch_laws.specs.declared.step.Call.{Call}
-use Rattle.epoch_laws.specs.declared.step.Call.TheVariants.{Pin, Defer, Flush, Release}
+use Rattle.epoch_laws.specs.declared.step.Call.TheVariants.{Pin, Defer, Flush, Release, DeferDestroy}
 use Rattle.epoch_laws.specs.declared.step.Reply.{Reply}
 use Rattle.epoch_laws.specs.declared.step.Reply.TheVariants.{Registered, Deferred, Called}
 use Rattle.epoch_laws.specs.declared.step.Entry.{Entry}
 use Rattle.epoch_laws.specs.declared.step.Word.TheVariants.{Free, Unpinned}
-use Rattle.epoch_laws.specs.Run.{Bag, Seat, State, seat_of, word_of, with_seat, free_seat, Ending, Open, Over, AllFree, end_reply, full_or_done}
+use Rattle.epoch_laws.specs.Run.{Bag, Seat, State, seat_of, word_of, with_seat, free_seat, Ending, Open, Over, AllFree, end_reply, full_or_done, with_heap, access_reply}
 use Rattle.epoch_laws.specs.Tickets.{times, times_queued, times_in_bags, times_at_end, calls_of, deferrals_of, times_called, times_deferred}
 use Rattle.epoch_laws.proofs.SeatLemmas.{seat_written, seat_other, same_or_other}
 use Rattle.epoch_laws.proofs.TicketSums.{called_push, deferred_push, times_at, seats_set}
 use Rattle.epoch_laws.proofs.JobsPlaced.{PlacesHere}
+use Rattle.epoch_heap.specs.declared.access.Accessed.{Accessed}
+use Rattle.epoch_heap.specs.declared.access.Accessed.TheVariants.{Again, Answers, NoSlot}
+use Rattle.epoch_heap.specs.Heap.{Heap}
 
 -- what holds between any two steps
 pub record Tallies (s : State) (log : List Entry) : Type 0 where
@@ -19,6 +22,11 @@ pub record Tallies (s : State) (log : List Entry) : Type 0 where
   pub accepted : (t : ℕ) → times_deferred t log ≡ (if nat_lt t s.tickets then 1 else 0)
   pub closed : s.ending ≢ Open → AllFree s
   pub over : s.ending ≡ Over → s.queued ≡ []
+
+-- the cells and pointers play no part
+pub heap_beside : (s : State) (log : List Entry) (heap : Heap) → Tallies (with_heap s heap) log → Tallies s log
+heap_beside s log heap h =
+    record { seats = h.seats; placed = h.placed; accepted = h.accepted; closed = h.closed; over = h.over }
 
 -- whether a reply tells of a ticket
 abbrev pub tells : Reply → Bool
@@ -34,6 +42,12 @@ pub untold_deferrals : (t : ℕ) (told : Reply) → tells told ≡ false → def
 untold_deferrals t (Deferred u) quiet = absurd (cc)
 untold_deferrals t _ quiet = refl
 
+-- a step of a call on cells and pointers tells of none
+pub access_untold : (told : Accessed) → tells (access_reply told) ≡ false
+access_untold (Again found) = refl
+access_untold (Answers answer) = refl
+access_untold NoSlot = refl
+
 -- the end of a call tells of none
 pub end_untold : (c : Call) (seat : Seat) → tells (end_reply c seat) ≡ false
 end_untold c seat = ends c
@@ -46,6 +60,7 @@ end_untold c seat = ends c
     ends (Defer g) = by_full seat.machine.full
     ends (Flush g) = by_full seat.machine.full
     ends Release = by_full seat.machine.full
+    ends (DeferDestroy g ptr) = by_full seat.machine.full
     ends Pin = refl
     ends _ = refl
 
@@ -144,15 +159,15 @@ module _ (old new : State) (log : List Entry) (x : Entry) (h : Tallies old log) 
       }) did
 
   -- a step of the end, when no participant is left
-  pub closes : (told : Reply) (queued : List Bag) (ending : Ending)
+  pub closes : (told : Reply) (queued : List Bag) (ending : Ending) (heap : Heap)
       → x.reply ≡ told
       → AllFree old
       → (ending ≡ Over → queued ≡ [])
       → ((t : ℕ) → times_left t queued ending + calls_of t told ≡ times_left t old.queued old.ending)
       → ((t : ℕ) → deferrals_of t told ≡ 0)
-      → new ≡ record old { queued = queued; ending = ending }
+      → new ≡ record old { queued = queued; ending = ending; heap = heap }
       → Kept
-  closes told queued ending is free over moved none did = subst (λ s. Tallies s (log ++ x ∷ [])) (sym did) (record {
+  closes told queued ending heap is free over moved none did = subst (λ s. Tallies s (log ++ x ∷ [])) (sym did) (record {
     seats = h.seats;
     placed = λ t. omega (
       arith,

@@ -5,7 +5,7 @@ use Rattle.epoch_machine.specs.declared.machine.Stage.{Stage}
 use Rattle.epoch_machine.specs.declared.machine.Stage.TheVariants.{LoadPin, LoadScan, LoadSeal, Keep, LoadRepin, StoreUnpinned, End}
 use Rattle.epoch_machine.specs.Machine.{Machine, is_empty, first_stage}
 use Rattle.epoch_laws.specs.declared.step.Call.{Call}
-use Rattle.epoch_laws.specs.declared.step.Call.TheVariants.{Pin, Unpin, Repin, Pause, Resume, Defer, Flush, Release}
+use Rattle.epoch_laws.specs.declared.step.Call.TheVariants.{Pin, Unpin, Repin, Pause, Resume, Defer, Flush, Release, DeferDestroy, Access as AccessCall}
 use Rattle.epoch_laws.specs.declared.step.Reply.TheVariants.{Began}
 use Rattle.epoch_laws.specs.declared.step.Deferral.{Deferral}
 use Rattle.epoch_laws.specs.Run.{is_out, without}
@@ -87,3 +87,8 @@ module _ (t : Told) (m : Machine Deferral)
       LoadScan LoadSeal (tt, out_pinned g out) (tt, out_pinned g out)
   told_first (Flush None) under = absurd under
   told_first Release none = ((tt, refl, refl), pinned_by true (none_left t.guards none))
+  told_first (DeferDestroy (Some g) ptr) out =
+      either_stage (At (DeferDestroy (Some g) ptr)) (length m.held == m.sizes.bag_jobs)
+      LoadSeal Keep (refl, out_pinned g out) ((tt, refl, refl), out_pinned g out)
+  told_first (DeferDestroy None ptr) under = absurd under
+  told_first (AccessCall a) under = absurd under

@@ -5,7 +5,7 @@ use Rattle.epoch_machine.specs.declared.machine.Stage.{Stage}
 use Rattle.epoch_machine.specs.declared.machine.Stage.TheVariants.{Idle, LoadPin, StorePin, ReloadPin, LoadScan, Scan, Advance, Take, Calling, LoadSeal, Put, Keep, LoadRepin, StoreRepin, ReloadRepin, StoreUnpinned, StoreFree, End}
 use Rattle.epoch_machine.specs.Machine.{Machine, is_empty, after_collect, after_pin, after_put, after_unpin, after_job, holds_up, scanned, past_word}
 use Rattle.epoch_laws.specs.declared.step.Call.{Call}
-use Rattle.epoch_laws.specs.declared.step.Call.TheVariants.{Pin, Unpin, Repin, Pause, Resume, Defer, Flush, Release}
+use Rattle.epoch_laws.specs.declared.step.Call.TheVariants.{Pin, Unpin, Repin, Pause, Resume, Defer, Flush, Release, DeferDestroy}
 use Rattle.epoch_laws.specs.declared.step.Reply.TheVariants.{Unpinned, Deferred}
 use Rattle.epoch_laws.specs.declared.step.Deferral.{Deferral}
 use Rattle.epoch_laws.specs.Run.{is_out, without}
@@ -26,6 +26,7 @@ Collecting t _ = ⊥
 -- the calls that put the held bag into the store
 abbrev pub Putting : Told → Call → Type 0
 Putting t (Defer g) = t.did_defer ≡ false
+Putting t (DeferDestroy g ptr) = t.did_defer ≡ false
 Putting t (Flush g) = Unit {0}
 Putting t Release = (t.did_pin ≡ true) × (t.did_unpin ≡ false)
 Putting t _ = ⊥
@@ -33,6 +34,7 @@ Putting t _ = ⊥
 -- nothing is left to ask; full says that the put found no place
 abbrev pub AtEnd : Told → Call → Bool → Type 0
 AtEnd t (Defer g) full = t.did_defer ≡ not full
+AtEnd t (DeferDestroy g ptr) full = t.did_defer ≡ not full
 AtEnd t (Flush g) full = Unit {0}
 AtEnd t Release full = (full ≡ true) × (t.did_pin ≡ true) × (t.did_unpin ≡ true)
 AtEnd t c full = HasTold (Some c) t
@@ -111,6 +113,9 @@ pub told_put : (t : Told) (c : Call) (full : Bool) → BeganUnder c t.guards
 told_put t (Defer (Some g)) false under h on = ((tt, h, refl), on)
 told_put t (Defer (Some g)) true under h on = (h, still_some t.pinned g t.guards on under)
 told_put t (Defer None) full under h on = absurd under
+told_put t (DeferDestroy (Some g) ptr) false under h on = ((tt, h, refl), on)
+told_put t (DeferDestroy (Some g) ptr) true under h on = (h, still_some t.pinned g t.guards on under)
+told_put t (DeferDestroy None ptr) full under h on = absurd under
 told_put t (Flush g) full under h on = (tt, on)
 told_put t Release full under h on = (h, on)
 told_put t _ full under h on = absurd h
@@ -131,6 +136,9 @@ told_repinned t _ full under h on = absurd h
 pub told_kept : (t : Told) (c : Call) (full : Bool) (ticket : ℕ) → BeganUnder c t.guards
     → MayDefer (Some c) → full ≡ false → t.pinned ≡ true → ToldAt (after_go t (Deferred ticket)) c full End
 told_kept t (Defer (Some g)) full ticket under h none on = (sym (ap not none), still_some t.pinned g t.guards on under)
+told_kept t (DeferDestroy (Some g) ptr) full ticket under h none on =
+    (sym (ap not none), still_some t.pinned g t.guards on under)
+told_kept t (DeferDestroy None ptr) full ticket under h none on = absurd under
 told_kept t _ full ticket under h none on = absurd h
 
 pub may_call : (t : Told) (c : Call) → BeganUnder c t.guards → Collecting t c → MayCall (Some c)

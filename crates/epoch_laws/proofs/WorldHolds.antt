@@ -6,12 +6,13 @@ use Rattle.epoch_machine.specs.declared.machine.Sizes.{Sizes}
 use Rattle.epoch_laws.specs.declared.step.Reply.{Reply}
 use Rattle.epoch_laws.specs.declared.step.Reply.TheVariants.{Deferred, Called as CalledReply}
 use Rattle.epoch_laws.specs.declared.step.Entry.{Entry}
-use Rattle.epoch_laws.specs.Run.{Seat, State, seat_of, word_of, with_seat, free_seat, Ending, Open, Emptying, AllFree}
+use Rattle.epoch_laws.specs.Run.{Seat, State, seat_of, word_of, with_seat, free_seat, Ending, Open, Emptying, AllFree, with_heap}
 use Rattle.epoch_laws.proofs.SeatLemmas.{seat_written, seat_other, same_or_other}
 use Rattle.epoch_laws.proofs.DeferralEpochs.{DeferredBy, SealedBehind, deferred_more}
 use Rattle.epoch_laws.proofs.Log.{IsPublish, IsWithdrawal}
 use Rattle.epoch_laws.proofs.SeatsFine.{View, is_pinned, SeatIsFine, WasPinned, Passes, fine_more}
 use Rattle.epoch_laws.proofs.LogKept.{LogHolds, Tells, Lasts, log_push}
+use Rattle.epoch_heap.specs.Heap.{Heap}
 
 abbrev pub view_of : State → (ℕ → ℕ) → (ℕ → ℕ) → View
 view_of s since when =
@@ -33,6 +34,18 @@ pub record Holds (s : State) (log : List Entry) : Type 0 where
 
 pub holds_along : (new last : State) (log : List Entry) → new ≡ last → Holds last log → Holds new log
 holds_along new last log e h = subst (λ (s : State). Holds s log) (sym e) h
+
+-- the cells and pointers play no part
+pub heap_aside : (s : State) (log : List Entry) (heap : Heap) → Holds (with_heap s heap) log → Holds s log
+heap_aside s log heap h = record {
+  since = h.since;
+  when = h.when;
+  seats = h.seats;
+  queued = h.queued;
+  closed = h.closed;
+  ending = h.ending;
+  logged = h.logged;
+}
 
 -- a function changed at one place
 abbrev pub changed : (ℕ → ℕ) → ℕ → ℕ → ℕ → ℕ

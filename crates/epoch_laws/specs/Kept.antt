@@ -6,16 +6,16 @@ use Rattle.epoch_machine.specs.declared.machine.Sizes.{Sizes}
 use Rattle.epoch_machine.specs.declared.machine.Stage.{Stage}
 use Rattle.epoch_machine.specs.declared.machine.Stage.TheVariants.{Idle as Resting, Keep, End}
 use Rattle.epoch_machine.specs.Machine.{Machine}
-use Rattle.epoch_laws.specs.declared.step.Answer.TheVariants.{Unit as UnitAnswer}
 use Rattle.epoch_laws.specs.declared.step.Call.{Call}
-use Rattle.epoch_laws.specs.declared.step.Call.TheVariants.{Pin, Unpin, Repin, Pause, Resume, Defer, Flush, Release}
+use Rattle.epoch_laws.specs.declared.step.Call.TheVariants.{Pin, Unpin, Repin, Pause, Resume, Defer, Flush, Release, DeferDestroy, Access as AccessCall}
 use Rattle.epoch_laws.specs.declared.step.Deferral.{Deferral}
 use Rattle.epoch_laws.specs.declared.step.Progress.{Progress}
 use Rattle.epoch_laws.specs.declared.step.Progress.TheVariants.{Driven, Ends}
 use Rattle.epoch_laws.specs.declared.step.Reply.TheVariants.{Done}
-use Rattle.epoch_laws.specs.Collections.{collects}
+use Rattle.epoch_laws.specs.Readings.{KeepsReadings}
 use Rattle.epoch_laws.specs.Run.{Bag, Seat, State, Ending, Emptying, seat_of, word_of, is_out}
 use Rattle.epoch_laws.specs.declared.step.Word.TheVariants.{Free}
+use Rattle.epoch_heap.specs.declared.access.Answer.{Answer}
 
 -- CALLS, MACHINES AND GUARDS SAY THE SAME
 
@@ -29,6 +29,8 @@ action_of (Resume g) = PinAction
 action_of (Defer g) = DeferAction
 action_of (Flush g) = FlushAction
 action_of Release = ReleaseAction
+action_of (DeferDestroy g ptr) = DeferAction
+action_of (AccessCall a) = PinAction  -- it drives none
 
 -- no action is under way
 abbrev pub rests : Stage → Bool
@@ -45,6 +47,7 @@ BeganUnder (Pause (Some g)) guards = is_out g guards ≡ true
 BeganUnder (Defer (Some g)) guards = is_out g guards ≡ true
 BeganUnder (Flush (Some g)) guards = is_out g guards ≡ true
 BeganUnder Release guards = length guards ≡ 0
+BeganUnder (DeferDestroy (Some g) ptr) guards = is_out g guards ≡ true
 BeganUnder _ guards = ⊥
 
 pub record IsDriven (c : Call) (m : Machine Deferral) (guards : List ℕ) : Type 0 where
@@ -52,10 +55,10 @@ pub record IsDriven (c : Call) (m : Machine Deferral) (guards : List ℕ) : Type
   pub action : m.action ≡ action_of c
   pub under : BeganUnder c guards
 
--- the machine rests but where it drives the call under way; a call that it doesn't drive has nothing to answer
+-- the machine rests but where it drives the call under way; a call that it doesn't drive is done at its end
 abbrev pub Follows : Progress → Machine Deferral → List ℕ → Type 0
 Follows (Driven c) m guards = IsDriven c m guards
-Follows (Ends reply) m guards = (m.stage ≡ Resting) × (reply ≡ Done UnitAnswer)
+Follows (Ends reply) m guards = (m.stage ≡ Resting) × ((answer : Answer) × (reply ≡ Done answer))
 Follows _ m guards = m.stage ≡ Resting
 
 pub record IsLinked (sizes : Sizes) (seat : Seat) : Type 0 where
@@ -138,11 +141,16 @@ all_jobs s = jobs_at_seats s.seats + jobs_queued s.queued + jobs_at_end s.ending
 abbrev pub JobsFew : State → Type 0
 JobsFew s = all_jobs s ≤ s.tickets
 
--- WHO COLLECTS
+-- WHO IS AT WORK
 
--- a free position doesn't
+-- a free position isn't
 abbrev pub FreeRests : State → Type 0
-FreeRests s = (p : ℕ) → word_of s p ≡ Free → collects (seat_of s p).machine.stage ≡ false
+FreeRests s = (p : ℕ) → word_of s p ≡ Free → rests (seat_of s p).machine.stage ≡ true
+
+-- CELLS ARE FEW
+
+abbrev pub CellsFew : State → Type 0
+CellsFew s = length s.heap.cells ≤ 4096
 
 -- ALL OF IT
 
@@ -152,4 +160,6 @@ pub record IsKept (s : State) : Type 0 where
   pub bounded : Bounded s
   pub jobs : JobsFew s
   pub free : FreeRests s
+  pub readings : KeepsReadings s
+  pub cells : CellsFew s
   pub few : length s.seats ≤ 64

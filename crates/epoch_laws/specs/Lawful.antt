@@ -3,14 +3,19 @@
 use Rattle.std.specs.Prelude.{◌≡◌, ℕ, ◌<◌, Bool, true, false, List, [], ◌∷◌, ◌++◌, length, Option, Some, None, ◌==◌, if◌then◌else◌}
 use Rattle.epoch_bags.specs.declared.job.Called.{Called}
 use Rattle.epoch_laws.specs.declared.step.Call.{Call}
-use Rattle.epoch_laws.specs.declared.step.Call.TheVariants.{Pin, Unpin, Pause, Resume, Repin, Defer, Flush, Release}
+use Rattle.epoch_laws.specs.declared.step.Call.TheVariants.{Pin, Unpin, Pause, Resume, Repin, Defer, Flush, Release, DeferDestroy, Access as AccessCall}
 use Rattle.epoch_laws.specs.declared.step.Step.{Step}
 use Rattle.epoch_laws.specs.declared.step.Step.TheVariants.{Register, Begin, Go, End, EndGo}
-use Rattle.epoch_laws.specs.declared.step.Answer.{Answer}
-use Rattle.epoch_laws.specs.declared.step.Answer.TheVariants.{Guard, Unit as UnitAnswer, Released, Count}
+use Rattle.epoch_heap.specs.declared.access.Access.{Access}
+use Rattle.epoch_heap.specs.declared.access.Access.TheVariants.{Place, Read, Leave, Write, Take, Point}
+use Rattle.epoch_heap.specs.declared.access.Change.{Change}
+use Rattle.epoch_heap.specs.declared.access.Change.TheVariants.{Load, Store, Swap, CompareExchange, FetchAnd, FetchOr, FetchXor, FetchUpdate}
+use Rattle.epoch_heap.specs.declared.access.Answer.{Answer}
+use Rattle.epoch_heap.specs.declared.access.Answer.TheVariants.{Guard, Unit as UnitAnswer, Released, Count, Name as NameAnswer, Value, Absent, Pointer, Exchanged, Unchanged, Updated, Stopped, RanOut}
 use Rattle.epoch_laws.specs.declared.step.Reply.{Reply}
 use Rattle.epoch_laws.specs.declared.step.Reply.TheVariants.{Registered, Began, Stepped, Pinned, Unpinned, Repinned, Deferred, Called as CalledReply, CalledNow, Done, Refused}
 use Rattle.epoch_laws.specs.declared.step.Entry.{Entry}
+use Rattle.epoch_heap.specs.Heap.{guard_of}
 use Rattle.epoch_laws.specs.Run.{is_out, waits, without}
 use Rattle.epoch_laws.specs.Grace.{Stands}
 
@@ -137,6 +142,7 @@ MayRepin _ guards = ⊥
 
 abbrev pub MayDefer : Option Call → Type 0
 MayDefer (Some (Defer (Some g))) = Unit {0}
+MayDefer (Some (DeferDestroy (Some g) ptr)) = Unit {0}
 MayDefer _ = ⊥
 
 abbrev pub MayCall : Option Call → Type 0
@@ -149,6 +155,7 @@ MayCall _ = ⊥
 -- a job called at once, under an unprotected guard, is no event
 abbrev pub MayCallNow : Option Call → Type 0
 MayCallNow (Some (Defer None)) = Unit {0}
+MayCallNow (Some (DeferDestroy None ptr)) = Unit {0}
 MayCallNow _ = ⊥
 
 -- WHAT A CALL HAS TOLD BY ITS END
@@ -161,24 +168,82 @@ HasTold (Some (Unpin (Some g))) t = t.guards ≡ g ∷ [] → t.did_unpin ≡ tr
 HasTold (Some (Pause (Some g))) t = t.guards ≡ g ∷ [] → t.did_unpin ≡ true
 HasTold (Some (Defer (Some g))) t = t.did_defer ≡ true
 HasTold (Some (Defer None)) t = t.did_call_now ≡ true
+HasTold (Some (DeferDestroy (Some g) ptr)) t = t.did_defer ≡ true
+HasTold (Some (DeferDestroy None ptr)) t = t.did_call_now ≡ true
 HasTold (Some Release) t = (t.did_pin ≡ true) × (t.did_unpin ≡ true)
 HasTold (Some _) t = Unit {0}
 HasTold None t = ⊥
 
--- a pin that is done answers its guard, a release that the position is free, and any other call nothing
+-- a value, or that there is no such cell or that it is held otherwise
+abbrev pub IsValue : Answer → Type 0
+IsValue (Value v) = Unit {0}
+IsValue Absent = Unit {0}
+IsValue _ = ⊥
+
+-- a pointer, or that the cell of its field is gone
+abbrev pub IsPointer : Answer → Type 0
+IsPointer (Pointer ptr) = Unit {0}
+IsPointer Absent = Unit {0}
+IsPointer _ = ⊥
+
+-- nothing, or that the cell is gone or held otherwise
+abbrev pub IsWritten : Answer → Type 0
+IsWritten UnitAnswer = Unit {0}
+IsWritten Absent = Unit {0}
+IsWritten _ = ⊥
+
+abbrev pub IsExchange : Answer → Type 0
+IsExchange (Exchanged ptr) = Unit {0}
+IsExchange (Unchanged ptr) = Unit {0}
+IsExchange Absent = Unit {0}
+IsExchange _ = ⊥
+
+abbrev pub IsUpdate : Answer → Type 0
+IsUpdate (Updated ptr) = Unit {0}
+IsUpdate (Stopped ptr) = Unit {0}
+IsUpdate (RanOut ptr) = Unit {0}
+IsUpdate Absent = Unit {0}
+IsUpdate _ = ⊥
+
+abbrev pub ChangeAnswers : Change → Answer → Type 0
+ChangeAnswers Load answer = IsPointer answer
+ChangeAnswers (Store other) answer = IsWritten answer
+ChangeAnswers (Swap other) answer = IsPointer answer
+ChangeAnswers (CompareExchange current other) answer = IsExchange answer
+ChangeAnswers (FetchAnd n) answer = IsPointer answer
+ChangeAnswers (FetchOr n) answer = IsPointer answer
+ChangeAnswers (FetchXor n) answer = IsPointer answer
+ChangeAnswers (FetchUpdate tries by) answer = IsUpdate answer
+
+-- a call on cells and pointers is done with its own kind of answer
+abbrev pub AccessAnswers : Access → Answer → Type 0
+AccessAnswers (Place v) (NameAnswer n) = Unit {0}
+AccessAnswers (Place v) answer = ⊥
+AccessAnswers (Read g ptr) answer = IsValue answer
+AccessAnswers (Leave ptr) UnitAnswer = Unit {0}
+AccessAnswers (Leave ptr) answer = ⊥
+AccessAnswers (Write g ptr v) answer = IsWritten answer
+AccessAnswers (Take g ptr) answer = IsValue answer
+AccessAnswers (Point g spot change) answer = ChangeAnswers change answer
+
+-- a pin that is done answers its guard, a release that the position is free, and any other call nothing, but for those
+-- on cells and pointers
 abbrev pub AnswerFits : Option Call → Answer → Type 0
 AnswerFits (Some Pin) (Guard g) = Unit {0}
 AnswerFits (Some Pin) answer = ⊥
 AnswerFits (Some Release) Released = Unit {0}
 AnswerFits (Some Release) answer = ⊥
+AnswerFits (Some (AccessCall a)) answer = AccessAnswers a answer
 AnswerFits (Some c) UnitAnswer = Unit {0}
 AnswerFits _ answer = ⊥
 
--- a call that is refused at its end has deferred nothing; where no call is under way, the Go itself is refused
+-- a call that is refused at its end has deferred nothing, or finds no free cell for a value; where no call is under way, the Go itself is refused
 abbrev pub HasToldRefused : Option Call → Told → Type 0
 HasToldRefused (Some (Defer (Some g))) t = t.did_defer ≡ false
+HasToldRefused (Some (DeferDestroy (Some g) ptr)) t = t.did_defer ≡ false
 HasToldRefused (Some (Flush (Some g))) t = Unit {0}
 HasToldRefused (Some Release) t = (t.did_pin ≡ true) × (t.did_unpin ≡ true)
+HasToldRefused (Some (AccessCall (Place v))) t = Unit {0}
 HasToldRefused (Some _) t = ⊥
 HasToldRefused None t = Unit {0}
 
@@ -203,6 +268,11 @@ MayRegister told (Registered p) = (told p).registered ≡ false
 MayRegister told (Refused fault) = Unit {0}
 MayRegister told _ = ⊥
 
+-- an unprotected guard is never counted
+abbrev pub GuardAllows : Option ℕ → List ℕ → Type 0
+GuardAllows (Some g) guards = is_out g guards ≡ true
+GuardAllows None guards = Unit {0}
+
 -- a pin finds room for its guard, the guard of any other call is counted, that of a resume is the paused one, and a
 -- release leaves none counted
 abbrev pub GuardsAllow : Call → List ℕ → Option ℕ → Type 0
@@ -215,6 +285,8 @@ GuardsAllow (Resume (Some g)) guards paused = paused ≡ Some g
 GuardsAllow (Defer (Some g)) guards paused = is_out g guards ≡ true
 GuardsAllow (Flush (Some g)) guards paused = is_out g guards ≡ true
 GuardsAllow Release guards paused = guards ≡ []
+GuardsAllow (DeferDestroy (Some g) ptr) guards paused = is_out g guards ≡ true
+GuardsAllow (AccessCall a) guards paused = GuardAllows (guard_of a) guards
 GuardsAllow _ guards paused = Unit {0}
 
 -- A call is accepted only of a participant that is registered, and has no call under way; who is paused only resumes.

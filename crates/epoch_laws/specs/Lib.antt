@@ -1,5 +1,6 @@
 pub mod Places
 pub mod Collections
+pub mod Room
 pub mod Run
 pub mod Grace
 pub mod Tickets
@@ -8,6 +9,7 @@ pub mod Lawful
 pub mod Known
 pub mod Events
 pub mod Shapes
+pub mod Readings
 pub mod Kept
 pub mod Calls
 pub mod Full

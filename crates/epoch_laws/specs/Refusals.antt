@@ -1,12 +1,13 @@
 -- What is said of whole runs: a call that is refused leaves all as it was when it began, but for what is said here.
 use Rattle.std.specs.Prelude.{◌≡◌, ◌≢◌, ℕ, List, [], ◌∷◌, ◌==◌, Option, Some, ◌⊎◌, if◌then◌else◌}
-use Rattle.epoch_cells.specs.declared.fault.Fault.TheVariants.{BagsFull}
+use Rattle.epoch_cells.specs.declared.fault.Fault.TheVariants.{CellsFull, BagsFull}
 use Rattle.epoch_machine.specs.declared.machine.Ask.{Ask}
 use Rattle.epoch_machine.specs.declared.machine.Ask.TheVariants.{TakeBag, CallJob}
-use Rattle.epoch_laws.specs.declared.step.Call.TheVariants.{Defer, Flush, Release}
+use Rattle.epoch_heap.specs.declared.access.Access.TheVariants.{Place}
+use Rattle.epoch_laws.specs.declared.step.Call.TheVariants.{Defer, Flush, Release, DeferDestroy}
 use Rattle.epoch_laws.specs.declared.step.Entry.{Entry}
 use Rattle.epoch_laws.specs.declared.step.Progress.{Progress}
-use Rattle.epoch_laws.specs.declared.step.Progress.TheVariants.{Driven}
+use Rattle.epoch_laws.specs.declared.step.Progress.TheVariants.{Driven, Accesses}
 use Rattle.epoch_laws.specs.declared.step.Reply.{Reply}
 use Rattle.epoch_laws.specs.declared.step.Reply.TheVariants.{Began, Refused}
 use Rattle.epoch_laws.specs.declared.step.Step.{Step}
@@ -21,11 +22,13 @@ abbrev pub before_after : (ℕ → Seat) → State → Step → Reply → ℕ �
 before_after before s (Begin p c) Began q = if p == q then seat_of s p else before q
 before_after before s _ reply q = before q
 
--- A step of p leaves the epoch, the bags in the store, the tickets and all other participants as they were.
+-- A step of p leaves the epoch, the bags in the store, the tickets, the cells and pointers, and all other participants
+-- as they were.
 pub record LeavesRest (s : State) (p : ℕ) (new : State) : Type 0 where
   pub epoch : new.epoch ≡ s.epoch
   pub bags : new.queued ≡ s.queued
   pub tickets : new.tickets ≡ s.tickets
+  pub heap : new.heap ≡ s.heap
   pub others : (q : ℕ) → q ≢ p → seat_of new q ≡ seat_of s q
 
 -- each step of the call of q has left them so since the call began; quiet says it up to this step
@@ -48,25 +51,34 @@ collected_after collected s _ reply q = collected q
 
 -- WHAT A REFUSED CALL LEAVES
 
--- The guards, the paused one and the held bag are those before.
+-- The guards, the paused one, the readings and the held bag are those before.
 pub record KeepsBag (before after : Seat) : Type 0 where
   pub guards : after.guards ≡ before.guards
   pub paused : after.paused ≡ before.paused
+  pub readings : after.readings ≡ before.readings
   pub held : after.machine.held ≡ before.machine.held
 
 -- A deferral changes nothing. A flush has collected. A release has pinned, may have collected, and unpinned; its word
 -- says so. No other call is told that the bags are full.
 abbrev pub Leaves : (quiet collected : Type 0) → Progress → (before after : Seat) → Type 0
 Leaves quiet collected (Driven (Defer g)) before after = quiet × (after.word ≡ before.word) × KeepsBag before after
+Leaves quiet collected (Driven (DeferDestroy g ptr)) before after = quiet × (after.word ≡ before.word) × KeepsBag before after
 Leaves quiet collected (Driven (Flush g)) before after = collected × (after.word ≡ before.word) × KeepsBag before after
 Leaves quiet collected (Driven Release) before after = (after.word ≡ Unpinned) × KeepsBag before after
 Leaves quiet collected _ before after = ⊥
+
+-- A place changes nothing, and no other call is told that no cell is free.
+abbrev pub LeavesUnplaced : (quiet : Type 0) → Progress → (before after : Seat) → Type 0
+LeavesUnplaced quiet (Accesses (Place v) k found) before after = quiet × (after ≡ before)
+LeavesUnplaced quiet _ before after = ⊥
 
 -- a Begin, a Register or an End that is refused changes nothing at all
 abbrev pub LeavesAtRefusal : (ℕ → Seat) → (quiet collected : ℕ → Type 0) → State → Step → Reply → State → Type 0
 LeavesAtRefusal before quiet collected s (Go p) (Refused BagsFull) new =
     Leaves (quiet_after quiet s (Go p) (Refused BagsFull) new p) (collected p) (seat_of s p).progress
     (before p) (seat_of new p)
+LeavesAtRefusal before quiet collected s (Go p) (Refused CellsFull) new =
+    LeavesUnplaced (quiet_after quiet s (Go p) (Refused CellsFull) new p) (seat_of s p).progress (before p) (seat_of new p)
 LeavesAtRefusal before quiet collected s (Go p) reply new = Unit {0}
 LeavesAtRefusal before quiet collected s EndGo reply new = Unit {0}
 LeavesAtRefusal before quiet collected s step (Refused fault) new = new ≡ s

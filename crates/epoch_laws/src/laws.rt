@@ -47,7 +47,8 @@ pub fn every_full_reply_found_each_place()
 
 /// A Begin, a Register or an End that is refused changes nothing. A call that is refused because the bags are full
 /// leaves its guards and its held bag as they were when it began: a deferral has changed no word, epoch, bag or ticket,
-/// a flush has collected, and a release leaves its position taken and unpinned. No other call is refused so.
+/// a flush has collected, and a release leaves its position taken and unpinned. No other call is refused so. A place
+/// that is refused because no cell is free has changed nothing, and no other call is refused so.
 pub fn every_refusal_leaves_what_it_must()
     ensures { (s new : State) (log : List Entry) → IsFresh s → (run : Runs s log new) → RefusedAlong (seat_of s) all_quiet none_collected s new log run }
 {}

@@ -6,6 +6,7 @@ mod laws;
 mod shape;
 mod step;
 
+pub use epoch_heap::{Access, Accessed, Answer, Change, Ptr, Spot, Update};
 pub use history::{Event, calls_none_twice, is_lawful, keeps_grace};
 pub use laws::{
     every_end_answers_its_calls, every_end_calls_all, every_full_reply_found_each_place,
@@ -13,4 +14,4 @@ pub use laws::{
     every_run_keeps_grace, every_run_numbers_tickets,
 };
 pub use shape::Shape;
-pub use step::{Answer, Call, Deferral, Entry, Progress, Reply, Step, Word};
+pub use step::{Call, Deferral, Entry, Progress, Reply, Step, Word};

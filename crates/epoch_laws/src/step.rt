@@ -2,6 +2,7 @@
 
 use epoch_bags::Called;
 use epoch_cells::{Fault, Name};
+use epoch_heap::{Access, Answer, Ptr};
 
 /// What a participant is asked to do. A guard is its number, or `None` for an unprotected guard.
 #[derive(Clone, Copy, Debug, PartialEq, Eq)]
@@ -22,6 +23,10 @@ pub enum Call {
     Flush(Option<u64>),
     /// Gives the position up.
     Release,
+    /// Defers the removal of the pointer's cell, or removes it at once under an unprotected guard.
+    DeferDestroy(Option<u64>, Ptr),
+    /// A call on cells and pointers.
+    Access(Access),
 }
 
 /// One step of the world.
@@ -37,18 +42,6 @@ pub enum Step {
     End,
     /// Takes one bag that is left, or calls the next of its jobs.
     EndGo,
-}
-
-/// What a call answers at its end.
-#[derive(Clone, Copy, Debug, PartialEq, Eq)]
-pub enum Answer {
-    /// A pin: the number of the guard, from 0 to 63.
-    Guard(u64),
-    Unit,
-    /// A release: the position is free.
-    Released,
-    /// An end: how many jobs it called.
-    Count(u64),
 }
 
 /// What a step tells.
@@ -100,8 +93,10 @@ pub enum Progress {
     Idle,
     /// The machine's asks are performed one by one.
     Driven(Call),
-    /// A job is called at once by the next step.
-    CallsNow,
+    /// A job is called at once by the next step: the removal of this name, or work.
+    CallsNow(Option<Name>),
+    /// The call on cells and pointers has made so many steps, and found this pointer last.
+    Accesses(Access, u64, Ptr),
     /// Nothing is left to do but this reply.
     Ends(Reply),
 }

@@ -519,6 +519,8 @@ impl<J: Default + Drop> Machine<J> {
         ensures fewer { 0 < S.puts_left (S.capacity store.old) cursor.old → S.puts_left (S.capacity store.old) cursor.new < S.puts_left (S.capacity store.old) cursor.old }
         ensures last { S.puts_left (S.capacity store.old) cursor.old ≡ 0 → result ≡ PutStep.Full }
         ensures claims { (place : ℕ) → S.Claimed store.new place → S.Claimed store.old place }
+        ensures reserves { (place : ℕ) → S.Reserved store.new place → S.Reserves cursor.new place ⊎ (S.Reserved store.old place × (¬ (S.Reserves cursor.old place))) }
+        ensures lets_go { result ≢ PutStep.Again → (place : ℕ) → ¬ (S.Reserves cursor.new place) }
     {
         let Stage::Put(seal) = self.stage else {
             unreachable!()
@@ -553,6 +555,7 @@ impl<J: Default + Drop> Machine<J> {
         ensures fewer { 0 < S.takes_left (S.capacity store.old) cursor.old → S.takes_left (S.capacity store.old) cursor.new < S.takes_left (S.capacity store.old) cursor.old }
         ensures last { S.takes_left (S.capacity store.old) cursor.old ≡ 0 → result ≡ TakeStep.Empty }
         ensures claims { (place : ℕ) → S.Claimed store.new place → S.Claims cursor.new place ⊎ (S.Claimed store.old place × (¬ (S.Claims cursor.old place))) }
+        ensures reserves { (place : ℕ) → S.Reserved store.new place → S.Claims cursor.new place ⊎ (S.Reserved store.old place × (¬ (S.Claims cursor.old place))) }
         ensures lets_go { result ≢ TakeStep.Again → (place : ℕ) → ¬ (S.Claims cursor.new place) }
         ensures ahead { (expiry : ℕ) → asks self.old ≡ Some (TakeBag expiry) → FindsBag (S.ahead expiry store.old cursor.old) result (S.ahead expiry store.new cursor.new) }
     {

@@ -7,7 +7,7 @@ use Rattle.epoch_machine.specs.declared.machine.Action.TheVariants.{Pin as PinAc
 use Rattle.epoch_machine.specs.declared.machine.Sizes.{Sizes}
 use Rattle.epoch_machine.specs.Machine.{IsSized, begun}
 use Rattle.epoch_laws.specs.declared.step.Call.{Call}
-use Rattle.epoch_laws.specs.declared.step.Call.TheVariants.{Pin, Unpin, Repin, Pause, Resume, Defer, Flush, Release}
+use Rattle.epoch_laws.specs.declared.step.Call.TheVariants.{Pin, Unpin, Repin, Pause, Resume, Defer, Flush, Release, DeferDestroy}
 use Rattle.epoch_laws.specs.declared.step.Entry.{Entry}
 use Rattle.epoch_laws.specs.declared.step.Progress.TheVariants.{Idle}
 use Rattle.epoch_laws.specs.declared.step.Reply.{Reply}
@@ -99,14 +99,14 @@ module _ (z : Sizes) (sized : IsSized z) (taken called : ℕ → ℕ) (old new :
           (record { held = omega arith; at = few })
       by_position q (inr other) = Same (taken q) (called q) (seat_of old q) (seat_of new q) (ap (λ (s : State). seat_of s q) e ∙ seat_other old p q _ other) (h.counts q)
 
-  begins : (p : ℕ) (c : Call) (o : Option Fault) → refusal c (seat_of old p) old.tickets ≡ o → Moves old (Begin p c) r new → Begins old p c o r new → After (Begin p c)
+  begins : (p : ℕ) (c : Call) (o : Option Fault) → refusal c (seat_of old p) old.tickets old.heap ≡ o → Moves old (Begin p c) r new → Begins old p c o r new → After (Begin p c)
   begins p c (Some f) at did (is, e) = stays (Begin p c) did
       (λ q. ap (λ (x : Reply). taken_after q (taken q) old (Begin p c) x new) is) (λ q. ap (called_after q (called q) (Begin p c)) is) old e refl (λ q. refl)
   begins p c None at did (is, e) = built (Begin p c) did (subst (AllSmall z.bag_jobs) (sym (ap (λ (s : State). s.queued) e)) h.small)
       (λ q. subst (λ (x : Reply). Counts z (taken_after q (taken q) old (Begin p c) x new) (called_after q (called q) (Begin p c) x) (seat_of new q).machine (seat_of new q).machine.stage) (sym is) (by_position q (same_or_other q p)))
     where
-      given : IsAccepted c (seat_of old p) old.tickets
-      given = begin_given c (seat_of old p) old.tickets at
+      given : IsAccepted c (seat_of old p) old.tickets old.heap
+      given = begin_given c (seat_of old p) old.tickets old.heap at
 
       held : length (seat_of old p).machine.held ≤ z.bag_jobs
       held = weak z.bag_jobs (length (seat_of old p).machine.held) (seat_of old p).machine.stage (h.counts p).held
@@ -129,6 +129,8 @@ module _ (z : Sizes) (sized : IsSized z) (taken called : ℕ → ℕ) (old new :
       begun_call (Flush (Some g)) = driven FlushAction
       begun_call Release = driven ReleaseAction
       begun_call (Defer None) = resting
+      begun_call (DeferDestroy (Some g) ptr) = driven DeferAction
+      begun_call (DeferDestroy None ptr) = resting
       begun_call _ = resting
 
       by_position : (q : ℕ) → (q ≡ p) ⊎ (q ≢ p) → Counts z (if p == q then 0 else taken q) (if p == q then 0 else called q) (seat_of new q).machine (seat_of new q).machine.stage
@@ -156,7 +158,7 @@ module _ (z : Sizes) (sized : IsSized z) (taken called : ℕ → ℕ) (old new :
       by_case (inl to) = registers to.0 did to.2 to.6
       by_case (inr (inl to)) = stays Register did (λ q. refl) (λ q. refl) old to.3 refl (λ q. refl)
       by_case (inr (inr to)) = stays Register did (λ q. refl) (λ q. refl) old to.2 refl (λ q. refl)
-  moves (Begin p c) did = begins p c (refusal c (seat_of old p) old.tickets) refl did did
+  moves (Begin p c) did = begins p c (refusal c (seat_of old p) old.tickets old.heap) refl did did
   moves (Go p) did = by_case did
     where
       by_case : Moves old (Go p) r new → After (Go p)
@@ -179,16 +181,16 @@ module _ (z : Sizes) (sized : IsSized z) (taken called : ℕ → ℕ) (old new :
   moves EndGo did = ends old.ending did did
 
 -- the places play no part
-taken_aside : (q taken : ℕ) (old new : State) (step : Step) (r : Reply) (places : List Bool) (seen ahead : List ℕ) → taken_after q taken old step r (with_places new places seen ahead) ≡ taken_after q taken old step r new
-taken_aside q taken old new (Begin p c) Began places seen ahead = refl
-taken_aside q taken old new (Begin p c) _ places seen ahead = refl
-taken_aside q taken old new (Go p) r places seen ahead = refl
-taken_aside q taken old new Register r places seen ahead = refl
-taken_aside q taken old new EndStep r places seen ahead = refl
-taken_aside q taken old new EndGo r places seen ahead = refl
+taken_aside : (q taken : ℕ) (old new : State) (step : Step) (r : Reply) (places : List Bool) (seen ahead : List ℕ) (room : List Bool) → taken_after q taken old step r (with_places new places seen ahead room) ≡ taken_after q taken old step r new
+taken_aside q taken old new (Begin p c) Began places seen ahead room = refl
+taken_aside q taken old new (Begin p c) _ places seen ahead room = refl
+taken_aside q taken old new (Go p) r places seen ahead room = refl
+taken_aside q taken old new Register r places seen ahead room = refl
+taken_aside q taken old new EndStep r places seen ahead room = refl
+taken_aside q taken old new EndGo r places seen ahead room = refl
 
-aside : (z : Sizes) (taken others called : ℕ → ℕ) (s : State) (places : List Bool) (seen ahead : List ℕ) → ((q : ℕ) → taken q ≡ others q) → Holds z taken called (with_places s places seen ahead) → Holds z others called s
-aside z taken others called s places seen ahead same h = record {
+aside : (z : Sizes) (taken others called : ℕ → ℕ) (s : State) (places : List Bool) (seen ahead : List ℕ) (room : List Bool) → ((q : ℕ) → taken q ≡ others q) → Holds z taken called (with_places s places seen ahead room) → Holds z others called s
+aside z taken others called s places seen ahead room same h = record {
   linked = record { positions = h.linked.positions; seats = h.linked.seats };
   sizes = h.sizes;
   small = h.small;
@@ -204,8 +206,8 @@ few_along z sized taken called old new (x ∷ log) h (mid, did, run) = (
 )
   where
     after : Holds z (λ q. taken_after q (taken q) old x.step x.reply mid) (λ q. called_after q (called q) x.step x.reply) mid
-    after = aside z _ _ _ mid old.places old.seen old.ahead (λ q. taken_aside q (taken q) old mid x.step x.reply old.places old.seen old.ahead)
-        (moves z sized taken called old (with_places mid old.places old.seen old.ahead) x.reply h x.step did.0)
+    after = aside z _ _ _ mid old.places old.seen old.ahead old.room (λ q. taken_aside q (taken q) old mid x.step x.reply old.places old.seen old.ahead old.room)
+        (moves z sized taken called old (with_places mid old.places old.seen old.ahead old.room) x.reply h x.step did.0)
 
     few : (p : ℕ) → IsFew z (taken_after p (taken p) old x.step x.reply mid) (called_after p (called p) x.step x.reply)
     few p = let both = bound z sized _ _ _ _ _ (after.counts p).at in record { bags = both.0; jobs = both.1 }

@@ -1,11 +1,11 @@
 -- One call takes at most as many bags as a collection may, each of at most as many jobs as a bag has room for.
-use Rattle.std.proofs.Common.{◌≡◌, ◌≢◌, ℕ, suc, ◌+◌, ◌-◌, ◌*◌, ◌^◌, ◌<◌, ◌≤◌, ◌==◌, Bool, true, false, List, [], ◌∷◌, ◌++◌, length, Some, None, refl, ap, sym, subst, subst₂, ◌∙◌, arith, if◌then◌else◌, slice_index_or, length-append, add-one}
+use Rattle.std.proofs.Common.{◌≡◌, ◌≢◌, ℕ, suc, ◌+◌, ◌-◌, ◌*◌, ◌^◌, ◌<◌, ◌≤◌, ◌==◌, Bool, true, false, List, [], ◌∷◌, ◌++◌, length, Some, refl, ap, sym, subst, subst₂, ◌∙◌, arith, if◌then◌else◌, slice_index_or, length-append, add-one}
 use Rattle.std.proofs.Math.Nat.{mul-le-mul_right, suc-mul}
 use Rattle.std.proofs.lemmas.Bool.Decides.{nat_tests}
 use Rattle.std.proofs.lemmas.List.{set-get_or}
 use Rattle.epoch_bags.specs.Stores.{IsInserted}
 use Rattle.epoch_bags.specs.declared.queue.PutStep.{PutStep}
-use Rattle.epoch_bags.specs.declared.queue.PutStep.TheVariants.{Again, Done as PutDone, Full}
+use Rattle.epoch_bags.specs.declared.queue.PutStep.TheVariants.{Again as PutAgain, Done as PutDone, Full}
 use Rattle.epoch_bags.specs.declared.queue.TakeStep.{TakeStep}
 use Rattle.epoch_bags.specs.declared.queue.TakeStep.TheVariants.{Again as TakeAgain, Empty, Got}
 use Rattle.epoch_machine.specs.declared.machine.Action.{Action}
@@ -14,19 +14,22 @@ use Rattle.epoch_machine.specs.declared.machine.Sizes.{Sizes}
 use Rattle.epoch_machine.specs.declared.machine.Stage.{Stage}
 use Rattle.epoch_machine.specs.declared.machine.Stage.TheVariants.{Idle as Resting, LoadPin, StorePin, ReloadPin, LoadScan, Scan, Advance, Take, Calling, LoadSeal, Put, Keep, LoadRepin, StoreRepin, ReloadRepin, StoreUnpinned, StoreFree, End}
 use Rattle.epoch_machine.specs.Machine.{Machine, IsSized, ask_at, hears, ended, PutsHeld, TakesHand, with_stage, is_empty, put_heard, took_heard, gives, after_collect, after_pin, after_put, after_unpin, after_job, holds_up, scanned, past_word, first_stage, begun}
+use Rattle.epoch_heap.specs.Heap.{outcome_of, after_job as heap_after}
+use Rattle.epoch_heap.specs.declared.access.Accessed.{Accessed}
+use Rattle.epoch_heap.specs.declared.access.Accessed.TheVariants.{Again, Answers, NoSlot}
+use Rattle.epoch_heap.specs.declared.access.Answer.{Answer}
 use Rattle.epoch_laws.specs.declared.step.Deferral.{Deferral}
-use Rattle.epoch_bags.specs.declared.job.Called.TheVariants.{Ran}
 use Rattle.epoch_laws.specs.declared.step.Reply.{Reply}
 use Rattle.epoch_laws.specs.declared.step.Reply.TheVariants.{Stepped, Called, Pinned as PinnedReply, Unpinned as UnpinnedReply, Repinned, Deferred, Done}
 use Rattle.epoch_machine.specs.declared.machine.Answer.TheVariants.{Stored, Job}
-use Rattle.epoch_laws.specs.declared.step.Answer.TheVariants.{Released, Unit as UnitAnswer}
+use Rattle.epoch_heap.specs.declared.access.Answer.TheVariants.{Released}
 use Rattle.epoch_laws.specs.declared.step.Call.{Call}
-use Rattle.epoch_laws.specs.declared.step.Call.TheVariants.{Pin as PinCall, Unpin as UnpinCall, Pause, Resume, Defer as DeferCall, Flush as FlushCall, Release as ReleaseCall}
+use Rattle.epoch_laws.specs.declared.step.Call.TheVariants.{Pin as PinCall, Unpin as UnpinCall, Pause, Resume, Defer as DeferCall, Flush as FlushCall, Release as ReleaseCall, DeferDestroy}
 use Rattle.epoch_laws.specs.declared.step.Progress.{Progress}
-use Rattle.epoch_laws.specs.declared.step.Progress.TheVariants.{Idle, Driven, CallsNow, Ends}
+use Rattle.epoch_laws.specs.declared.step.Progress.TheVariants.{Idle, Driven, CallsNow, Accesses, Ends}
 use Rattle.epoch_laws.specs.declared.step.Word.{Word}
 use Rattle.epoch_laws.specs.declared.step.Word.TheVariants.{Free, Unpinned, Pinned}
-use Rattle.epoch_laws.specs.Run.{Bag, Seat, State, seat_of, word_of, number_of, with_seat, with_machine, with_word, free_seat, ended_seat, end_reply, full_or_done, Drives, Goes}
+use Rattle.epoch_laws.specs.Run.{Bag, Seat, State, seat_of, word_of, number_of, with_seat, with_machine, with_word, free_seat, ended_seat, end_reply, full_or_done, removed_by, access_reply, Drives, Goes}
 use Rattle.epoch_laws.proofs.SeatLinks.{rests, AllLinked, follows_at}
 use Rattle.epoch_laws.proofs.StoredBags.{one_less}
 
@@ -219,7 +222,7 @@ module _ (z : Sizes) (sized : IsSized z) where
 
     puts : (seal : ℕ) → m.stage ≡ Put seal → Here (Put seal) → (step : PutStep) (bags : List Bag) → r ≡ Stepped → PutsHeld seal m old.queued step bags
         → new ≡ record (with_seat old q (with_machine seat (put_heard m step))) { queued = bags } → GoesTo
-    puts seal at h Again bags is same did = moves seat.word m Stepped refl is (record { held = subst (HeldFits z.bag_jobs (length m.held)) (sym at) h.held; at = subst (CountAt z taken called (length m.hand) m.action) (sym at) h.at }) _ did same (λ k. refl)
+    puts seal at h PutAgain bags is same did = moves seat.word m Stepped refl is (record { held = subst (HeldFits z.bag_jobs (length m.held)) (sym at) h.held; at = subst (CountAt z taken called (length m.hand) m.action) (sym at) h.at }) _ did same (λ k. refl)
     puts seal at h PutDone bags is put did =
         goes_to _ bags Stepped is (ap (λ (s : State). s.queued) did) (λ k. ap (λ (s : State). seat_of s k) did) counts (small_put z.bag_jobs old.queued bags _ put small (weak z.bag_jobs (length m.held) (Put seal) h.held))
       where
@@ -273,12 +276,12 @@ module _ (z : Sizes) (sized : IsSized z) where
         goes_to _ bags Stepped is (ap (λ (s : State). s.queued) did) (λ k. ap (λ (s : State). seat_of s k) did)
         (subst₂ (λ (t c : ℕ). Counts z t c (took_heard m (Take x k) Got jobs) (took_heard m (Take x k) Got jobs).stage) (omega arith) (omega arith) (record { held = fine.0; at = fine.1 })) got.0
 
-    calls : (x k : ℕ) → m.sizes ≡ z → Here (Calling x k) → (job : Deferral) (jobs : List Deferral) → m.hand ≡ job ∷ jobs → r ≡ Called job.ticket Ran
-        → new ≡ with_seat old q (with_machine seat (gives m (Calling x k) jobs)) → GoesTo
+    calls : (x k : ℕ) → m.sizes ≡ z → Here (Calling x k) → (job : Deferral) (jobs : List Deferral) → m.hand ≡ job ∷ jobs → r ≡ Called job.ticket (outcome_of old.heap job.removes)
+        → new ≡ record (with_seat old q (with_machine seat (gives m (Calling x k) jobs))) { heap = heap_after old.heap job.removes } → GoesTo
     calls x k same h job jobs hand is did =
         let n : Machine Deferral = record m { hand = jobs } in
         let fine = after_jobs taken (called + 1) n h.held x k jobs refl same h.at.0 (omega (arith, h.at.1, ap length hand)) h.at.2 in
-        goes_to _ old.queued (Called job.ticket Ran) is (ap (λ (s : State). s.queued) did) (λ k. ap (λ (s : State). seat_of s k) did)
+        goes_to _ old.queued (Called job.ticket (outcome_of old.heap job.removes)) is (ap (λ (s : State). s.queued) did) (λ k. ap (λ (s : State). seat_of s k) did)
         (subst (λ (t : ℕ). Counts z t (called + 1) (gives m (Calling x k) jobs) (gives m (Calling x k) jobs).stage) (omega arith) (record { held = fine.0; at = fine.1 })) small
 
     go : (c : Call) (s : Stage) → m.stage ≡ s → rests s ≡ false → m.sizes ≡ z → Here s → Drives old q seat c s (ask_at s) r new → GoesTo
@@ -295,8 +298,8 @@ module _ (z : Sizes) (sized : IsSized z) where
     go c (Calling x k) at on same h did = calls x k same h did.0 did.1 did.2 did.3 did.4
     go c LoadSeal at on same h did = staged (Put old.epoch) (h.held, h.at) did
     go c (Put seal) at on same h did = puts seal at h did.0 did.1 did.2 did.3 did.4
-    go c Keep at on same h did = moves seat.word (hears m Keep (Job (record { ticket = old.tickets; removes = None }))) (Deferred old.tickets) refl did.0
-        (record { held = omega (arith, h.held, length-append m.held (record { ticket = old.tickets; removes = None } ∷ [])); at = h.at }) _ did.1 refl (λ k. refl)
+    go c Keep at on same h did = moves seat.word (hears m Keep (Job (record { ticket = old.tickets; removes = removed_by seat.progress }))) (Deferred old.tickets) refl did.0
+        (record { held = omega (arith, h.held, length-append m.held (record { ticket = old.tickets; removes = removed_by seat.progress } ∷ [])); at = h.at }) _ did.1 refl (λ k. refl)
     go c LoadRepin at on same h did = staged (if m.published == old.epoch then End else StoreRepin old.epoch)
         (pick (λ s. HeldFits z.bag_jobs (length m.held) s × CountAt z taken called (length m.hand) m.action s) (m.published == old.epoch) End (StoreRepin old.epoch) (λ t. (h.held, h.at)) (λ f. (h.held, h.at))) did
     go c (StoreRepin e) at on same h did = moves (Pinned e) (hears m (StoreRepin e) Stored) (Repinned q) refl did.0 (record { held = h.held; at = h.at }) _ did.1 refl (λ k. refl)
@@ -334,6 +337,7 @@ module _ (z : Sizes) (sized : IsSized z) where
         silent (DeferCall g) = full m.full
         silent (FlushCall g) = full m.full
         silent ReleaseCall = full m.full
+        silent (DeferDestroy g ptr) = full m.full
         silent _ = refl
 
     pub go_counts : AllLinked old → old.sizes ≡ z → word_of old q ≢ Free → (progress : Progress) → seat.progress ≡ progress → Here m.stage → Goes old q seat progress r new → GoesTo
@@ -343,6 +347,15 @@ module _ (z : Sizes) (sized : IsSized z) where
         same_seat k = sym (ap (λ (seats : List Seat). slice_index_or seats k (free_seat old.sizes)) (set-get_or old.seats q (free_seat old.sizes)))
     go_counts linked at taken_now (Driven c) is h did =
         go c m.stage refl (follows_at old.sizes seat (linked.seats q) (Driven c) is).under_way ((linked.seats q).sized ∙ at) h did
-    go_counts linked at taken_now CallsNow is h did = goes_to _ old.queued _ did.0 (ap (λ (s : State). s.queued) did.1) (λ k. ap (λ (s : State). seat_of s k) did.1) (stays m h) small
+    go_counts linked at taken_now (CallsNow removes) is h did = goes_to _ old.queued _ did.0 (ap (λ (s : State). s.queued) did.1) (λ k. ap (λ (s : State). seat_of s k) did.1) (stays m h) small
+    go_counts linked at taken_now (Accesses a k found) is h (did, touches, told_so, e) =
+        goes_to _ old.queued (access_reply did.told) told_so (ap (λ (s : State). s.queued) e) (λ k. ap (λ (s : State). seat_of s k) e)
+        (subst (λ (n : ℕ). Counts z (taken + (left - left)) (called + n) m m.stage) (sym (by_access did.told)) (stays m h)) small
+      where
+        by_access : (touched : Accessed) → told (access_reply touched) ≡ 0
+        by_access (Again ptr) = refl
+        by_access (Answers answer) = refl
+        by_access NoSlot = refl
     go_counts linked at taken_now (Ends reply) is h did =
-        goes_to _ old.queued (Done UnitAnswer) (did.0 ∙ (follows_at old.sizes seat (linked.seats q) (Ends reply) is).1) (ap (λ (s : State). s.queued) did.1) (λ k. ap (λ (s : State). seat_of s k) did.1) (stays m h) small
+        let done : (answer : Answer) × (reply ≡ Done answer) = (follows_at old.sizes seat (linked.seats q) (Ends reply) is).1 in
+        goes_to _ old.queued (Done done.0) (did.0 ∙ done.1) (ap (λ (s : State). s.queued) did.1) (λ k. ap (λ (s : State). seat_of s k) did.1) (stays m h) small

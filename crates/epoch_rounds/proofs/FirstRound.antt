@@ -13,7 +13,8 @@ use Rattle.epoch_machine.specs.declared.machine.Sizes.{Sizes}
 use Rattle.epoch_machine.specs.declared.machine.Stage.{Stage}
 use Rattle.epoch_machine.specs.declared.machine.Stage.TheVariants.{Idle as Resting, LoadPin, StorePin, ReloadPin, LoadScan, Scan, Advance, Take, Calling, LoadSeal, Put, Keep, LoadRepin, StoreRepin, ReloadRepin, StoreUnpinned, StoreFree, End}
 use Rattle.epoch_machine.specs.Machine.{Machine, IsSized, PutsHeld, is_empty, is_taking, ask_at, hears, put_heard, took_heard, with_stage, after_collect, after_put, after_job, holds_up, scanned, past_word, begun}
-use Rattle.epoch_laws.specs.declared.step.Answer.TheVariants.{Guard, Unit as UnitAnswer}
+use Rattle.epoch_heap.specs.declared.access.Answer.TheVariants.{Guard, Unit as UnitAnswer}
+use Rattle.epoch_heap.specs.Heap.{Heap, after_job as heap_after}
 use Rattle.epoch_laws.specs.declared.step.Call.TheVariants.{Pin, Unpin, Flush}
 use Rattle.epoch_laws.specs.declared.step.Deferral.{Deferral}
 use Rattle.epoch_laws.specs.declared.step.Entry.{Entry}
@@ -95,9 +96,10 @@ module _ (p g epoch : ℕ) (sizes : Sizes) where
     m = seat.machine
 
     abbrev aside : State
-    aside = with_places new old.places old.seen old.ahead
+    aside = with_places new old.places old.seen old.ahead old.room
 
-    module _ (h : Flushes old) (n : Machine Deferral) (e : ℕ) (q : List Bag) (did : aside ≡ record (with_seat old p (with_machine seat n)) { epoch = e; queued = q }) where
+    module _ (h : Flushes old) (n : Machine Deferral) (e : ℕ) (q : List Bag) (heap : Heap)
+        (did : aside ≡ record (with_seat old p (with_machine seat n)) { epoch = e; queued = q; heap = heap }) where
       as_many : length new.seats ≡ length old.seats
       as_many = ap (λ (s : State). length s.seats) did ∙ length-set old.seats p (with_machine seat n)
 
@@ -133,15 +135,15 @@ module _ (p g epoch : ℕ) (sizes : Sizes) where
 
     beyond_take : (h : Flushes old) (x k : ℕ) (step : TakeStep) (jobs : List Deferral) (q : List Bag) → m.stage ≡ Take x k
         → aside ≡ record (with_seat old p (with_machine seat (took_heard m (Take x k) step jobs))) { queued = q } → Beyond new
-    beyond_take h x k TakeAgain jobs q at did = beyond_on h m old.epoch q did h.action (subst IsBeyond (sym at) tt)
-    beyond_take h x k Empty jobs q at did = beyond_on h _ old.epoch q did h.action (beyond_collect m.held h.action)
-    beyond_take h x k Got jobs q at did = beyond_on h _ old.epoch q did h.action (beyond_job x k jobs h.action)
+    beyond_take h x k TakeAgain jobs q at did = beyond_on h m old.epoch q old.heap did h.action (subst IsBeyond (sym at) tt)
+    beyond_take h x k Empty jobs q at did = beyond_on h _ old.epoch q old.heap did h.action (beyond_collect m.held h.action)
+    beyond_take h x k Got jobs q at did = beyond_on h _ old.epoch q old.heap did h.action (beyond_job x k jobs h.action)
 
     beyond_go : (h : Flushes old) (s : Stage) → m.stage ≡ s → IsBeyond s → ends_call r ≡ false → Drives old p seat (Flush (Some g)) s (ask_at s) r aside → Beyond new
-    beyond_go h (Scan e k) at b on did = beyond_on h _ old.epoch old.queued did.1 h.action (beyond_word m.sizes.positions e k (number_of (word_of old k)))
-    beyond_go h (Advance e) at b on did = beyond_on h (hears m (Advance e) Stored) (e + 1) old.queued did.1 h.action tt
+    beyond_go h (Scan e k) at b on did = beyond_on h _ old.epoch old.queued old.heap did.1 h.action (beyond_word m.sizes.positions e k (number_of (word_of old k)))
+    beyond_go h (Advance e) at b on did = beyond_on h (hears m (Advance e) Stored) (e + 1) old.queued old.heap did.1 h.action tt
     beyond_go h (Take x k) at b on did = beyond_take h x k did.0 did.1 did.2 at did.5
-    beyond_go h (Calling x k) at b on did = beyond_on h _ old.epoch old.queued did.4 h.action (beyond_job x k did.1 h.action)
+    beyond_go h (Calling x k) at b on did = beyond_on h _ old.epoch old.queued (heap_after old.heap did.0.removes) did.4 h.action (beyond_job x k did.1 h.action)
     beyond_go h End at b on did = absurd (cc (on, ap ends_call did.0, full_ends m.full))
       where
         full_ends : (full : Bool) → ends_call (full_or_done full) ≡ true
@@ -167,12 +169,12 @@ module _ (p g epoch : ℕ) (sizes : Sizes) where
         → SealedBy (epoch + 1) q → IsBefore epoch n n.stage
         → aside ≡ record (with_seat old p (with_machine seat n)) { queued = q } → Before new
     before_on h n q action guards same_sizes hand seals stage did =
-        let is : seat_of new p ≡ with_machine seat n = here h.flushes n old.epoch q did in
-        let many : length new.seats ≡ length old.seats = as_many h.flushes n old.epoch q did in
+        let is : seat_of new p ≡ with_machine seat n = here h.flushes n old.epoch q old.heap did in
+        let many : length new.seats ≡ length old.seats = as_many h.flushes n old.epoch q old.heap did in
         record {
-          flushes = flushes_on h.flushes n old.epoch q did (action ∙ h.flushes.action);
+          flushes = flushes_on h.flushes n old.epoch q old.heap did (action ∙ h.flushes.action);
           positions = h.positions ∙ sym many;
-          others = λ k other. subst IsStill (sym (wrote h.flushes n old.epoch q did k ∙ seat_other old p k _ other)) (h.others k other);
+          others = λ k other. subst IsStill (sym (wrote h.flushes n old.epoch q old.heap did k ∙ seat_other old p k _ other)) (h.others k other);
           word = ap (λ (st : Seat). st.word) is ∙ h.word;
           near = subst (λ (e : ℕ). (e ≡ epoch) ⊎ (e ≡ epoch + 1)) (sym (ap (λ (s : State). s.epoch) did)) h.near;
           seals = subst (SealedBy (epoch + 1)) (sym (ap (λ (s : State). s.queued) did)) seals;
@@ -208,7 +210,7 @@ module _ (p g epoch : ℕ) (sizes : Sizes) where
     before_goes h _ at b did = absurd b
 
     before_go : (h : Before old) (s : Stage) → m.stage ≡ s → IsBefore epoch m s → Drives old p seat (Flush (Some g)) s (ask_at s) r aside → Before new ⊎ Beyond new
-    before_go h LoadScan at b did = inr (beyond_on h.flushes (with_stage m (Scan old.epoch 0)) old.epoch old.queued did.1 h.flushes.action tt)
+    before_go h LoadScan at b did = inr (beyond_on h.flushes (with_stage m (Scan old.epoch 0)) old.epoch old.queued old.heap did.1 h.flushes.action tt)
     before_go h LoadSeal at b did = went (before_goes h LoadSeal at b did)
       where
         went : (LoadSeal ≡ LoadScan) ⊎ ((r ≡ Stepped) × Before new) → Before new ⊎ Beyond new
@@ -235,7 +237,7 @@ module _ (p g epoch : ℕ) (sizes : Sizes) where
 
 -- FROM A NEW WORLD ON
 
-runs_linked : (old new : State) (log : List Entry) → AllLinked old → Runs old log new → AllLinked new
+pub runs_linked : (old new : State) (log : List Entry) → AllLinked old → Runs old log new → AllLinked new
 runs_linked old new [] h run = subst AllLinked (sym run) h
 runs_linked old new (x ∷ log) h (mid, did, run) = runs_linked mid new log (step_linked old mid x.step x.reply h did) run
 
@@ -321,8 +323,8 @@ before_begun p g epoch next bound bags sizes sized jobs total called old new is_
     to : Seat
     to = drives FlushAction (Flush (Some g)) (seat_of old p)
 
-    made : with_places new old.places old.seen old.ahead ≡ with_seat old p to
-    made = begun_by old _ p (Flush (Some g)) (refusal (Flush (Some g)) (seat_of old p) old.tickets) did
+    made : with_places new old.places old.seen old.ahead old.room ≡ with_seat old p to
+    made = begun_by old _ p (Flush (Some g)) (refusal (Flush (Some g)) (seat_of old p) old.tickets old.heap) did
 
     as_many : length new.seats ≡ length old.seats
     as_many = ap (λ (s : State). length s.seats) made ∙ length-set old.seats p to

@@ -8,3 +8,4 @@ pub mod EachCollectsFew
 pub mod SureSteps
 pub mod SharpCalls
 pub mod SharpList
+pub mod LonePuts

@@ -2,7 +2,7 @@
 use Rattle.std.proofs.Common.{◌≡◌, ℕ, List, [], ◌∷◌, ◌++◌, Some, inl, inr, refl, ap, sym, subst, ◌∙◌, append_assoc}
 use Rattle.epoch_machine.specs.declared.machine.Sizes.{Sizes}
 use Rattle.epoch_machine.specs.declared.machine.Stage.TheVariants.{LoadScan}
-use Rattle.epoch_laws.specs.declared.step.Answer.TheVariants.{Guard, Unit as UnitAnswer}
+use Rattle.epoch_heap.specs.declared.access.Answer.TheVariants.{Guard, Unit as UnitAnswer}
 use Rattle.epoch_laws.specs.declared.step.Call.TheVariants.{Pin, Unpin, Flush}
 use Rattle.epoch_laws.specs.declared.step.Entry.{Entry}
 use Rattle.epoch_laws.specs.declared.step.Reply.{Reply}

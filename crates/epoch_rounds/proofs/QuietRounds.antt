@@ -9,7 +9,7 @@ use Rattle.epoch_machine.specs.declared.machine.Sizes.{Sizes}
 use Rattle.epoch_machine.specs.declared.machine.Stage.{Stage}
 use Rattle.epoch_machine.specs.declared.machine.Stage.TheVariants.{LoadPin, LoadScan, LoadSeal, StoreUnpinned, End}
 use Rattle.epoch_machine.specs.Machine.{Machine, IsSized, is_empty, begun, first_stage}
-use Rattle.epoch_laws.specs.declared.step.Answer.TheVariants.{Guard, Unit as UnitAnswer}
+use Rattle.epoch_heap.specs.declared.access.Answer.TheVariants.{Guard, Unit as UnitAnswer}
 use Rattle.epoch_laws.specs.declared.step.Call.{Call}
 use Rattle.epoch_laws.specs.declared.step.Call.TheVariants.{Pin, Unpin, Flush}
 use Rattle.epoch_laws.specs.declared.step.Deferral.{Deferral}
@@ -106,8 +106,8 @@ begins v a t called old new h (did, sees) drive action full stage free at = reco
     to : Seat
     to = drives a v.call (seat_of old v.p)
 
-    made : with_places new old.places old.seen old.ahead ≡ with_seat old v.p to
-    made = begun_by old _ v.p v.call (refusal v.call (seat_of old v.p) old.tickets) did ∙ ap (with_seat old v.p) drive
+    made : with_places new old.places old.seen old.ahead old.room ≡ with_seat old v.p to
+    made = begun_by old _ v.p v.call (refusal v.call (seat_of old v.p) old.tickets old.heap) did ∙ ap (with_seat old v.p) drive
 
     as_many : length new.seats ≡ length old.seats
     as_many = ap (λ (s : State). length s.seats) made ∙ length-set old.seats v.p to

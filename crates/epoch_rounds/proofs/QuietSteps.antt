@@ -3,7 +3,6 @@ use Rattle.std.proofs.Common.{◌≡◌, ◌≢◌, ℕ, ◌+◌, ◌-◌, ◌*�
 use Rattle.std.proofs.lemmas.Bool.Decides.{nat_tests}
 use Rattle.std.proofs.Math.Nat.{min-eq_left, min-eq_right}
 use Rattle.epoch_bags.specs.Stores.{AllExpired}
-use Rattle.epoch_bags.specs.declared.job.Called.TheVariants.{Ran}
 use Rattle.epoch_bags.specs.declared.queue.TakeStep.{TakeStep}
 use Rattle.epoch_bags.specs.declared.queue.TakeStep.TheVariants.{Again as TakeAgain, Empty, Got}
 use Rattle.epoch_machine.specs.declared.machine.Action.{Action}
@@ -15,9 +14,10 @@ use Rattle.epoch_machine.specs.declared.machine.Sizes.{Sizes}
 use Rattle.epoch_machine.specs.declared.machine.Stage.{Stage}
 use Rattle.epoch_machine.specs.declared.machine.Stage.TheVariants.{Idle as Resting, LoadPin, StorePin, ReloadPin, LoadScan, Scan, Advance, Take, Calling, LoadSeal, Put, Keep, LoadRepin, StoreRepin, ReloadRepin, StoreUnpinned, StoreFree, End}
 use Rattle.epoch_machine.specs.Machine.{Machine, is_taking, TakesHand, ask_at, hears, took_heard, gives, with_stage, after_collect, after_pin, after_unpin, after_job, holds_up, scanned, past_word, guards_after}
-use Rattle.epoch_laws.specs.declared.step.Answer.TheVariants.{Guard, Unit as UnitAnswer}
+use Rattle.epoch_heap.specs.declared.access.Answer.TheVariants.{Guard, Unit as UnitAnswer}
+use Rattle.epoch_heap.specs.Heap.{Heap, outcome_of, after_job as heap_after}
 use Rattle.epoch_laws.specs.declared.step.Call.{Call}
-use Rattle.epoch_laws.specs.declared.step.Call.TheVariants.{Pin, Unpin, Repin, Pause, Resume, Defer, Flush, Release}
+use Rattle.epoch_laws.specs.declared.step.Call.TheVariants.{Pin, Unpin, Repin, Pause, Resume, Defer, Flush, Release, DeferDestroy, Access as AccessCall}
 use Rattle.epoch_laws.specs.declared.step.Deferral.{Deferral}
 use Rattle.epoch_laws.specs.declared.step.Progress.{Progress}
 use Rattle.epoch_laws.specs.declared.step.Progress.TheVariants.{Driven}
@@ -189,6 +189,8 @@ to_end (Pause g) held h = absurd h
 to_end (Resume g) held h = absurd h
 to_end (Defer g) held h = absurd h
 to_end Release held h = absurd h
+to_end (DeferDestroy g ptr) held h = absurd h
+to_end (AccessCall a) held h = absurd h
 
 near_next : (v : Plan) (epoch : ℕ) → IsNext v.epoch v.next → epoch ≡ v.next → Near v epoch
 near_next v epoch (inl n) e = inr (e, n.1)
@@ -204,6 +206,8 @@ collected v epoch left w (Pause g) next h word e few all = absurd h
 collected v epoch left w (Resume g) next h word e few all = absurd h
 collected v epoch left w (Defer g) next h word e few all = absurd h
 collected v epoch left w Release next h word e few all = absurd h
+collected v epoch left w (DeferDestroy g ptr) next h word e few all = absurd h
+collected v epoch left w (AccessCall a) next h word e few all = absurd h
 
 unpinned_end : (c : Call) (full : Bool) → IsUnpin c → after_unpin (action_of c) full ≡ End
 unpinned_end (Unpin (Some g)) full h = refl
@@ -215,6 +219,8 @@ unpinned_end (Pause g) full h = absurd h
 unpinned_end (Resume g) full h = absurd h
 unpinned_end (Defer g) full h = absurd h
 unpinned_end Release full h = absurd h
+unpinned_end (DeferDestroy g ptr) full h = absurd h
+unpinned_end (AccessCall a) full h = absurd h
 
 unpinned_after : (v : Plan) (epoch left : ℕ) (c : Call) → IsUnpin c → epoch ≡ v.epoch → left ≤ v.bags → After v epoch left Unpinned c
 unpinned_after v epoch left (Unpin (Some g)) h e few = (refl, e, few)
@@ -226,6 +232,8 @@ unpinned_after v epoch left (Pause g) h e few = absurd h
 unpinned_after v epoch left (Resume g) h e few = absurd h
 unpinned_after v epoch left (Defer g) h e few = absurd h
 unpinned_after v epoch left Release h e few = absurd h
+unpinned_after v epoch left (DeferDestroy g ptr) h e few = absurd h
+unpinned_after v epoch left (AccessCall a) h e few = absurd h
 
 -- a pinned word holds up a scan for another epoch, and no other scan
 holds_pinned : (e n : ℕ) → n ≡ e → holds_up e (2 * n + 1) ≡ false
@@ -311,16 +319,16 @@ module _ (v : Plan) (called : ℕ → ℕ) (old new : State) (r : Reply) (next :
   after t = called t + calls_of t r
 
   abbrev aside : State
-  aside = with_places new old.places old.seen old.ahead
+  aside = with_places new old.places old.seen old.ahead old.room
 
   others_along : (s : State) (to : Seat) → ((q : ℕ) → seat_of s q ≡ seat_of (with_seat old v.p to) q) → (q : ℕ) → q ≢ v.p → IsStill (seat_of s q)
   others_along s to wrote q other = subst IsStill (sym (wrote q ∙ seat_other old v.p q to other)) (h.others q other)
 
   -- p's seat, the epoch and the bags after a step that goes on
-  goes_to : (word : Word) (n : Machine Deferral) (e : ℕ) (q : List Bag) → word ≢ Free → ends_call r ≡ false
+  goes_to : (word : Word) (n : Machine Deferral) (e : ℕ) (q : List Bag) (heap : Heap) → word ≢ Free → ends_call r ≡ false
       → Known v after e q ahead word n n.stage
-      → aside ≡ record (with_seat old v.p (with_word seat word n)) { epoch = e; queued = q } → Comes v after r new ahead
-  goes_to word n e q free on known did = inl (
+      → aside ≡ record (with_seat old v.p (with_word seat word n)) { epoch = e; queued = q; heap = heap } → Comes v after r new ahead
+  goes_to word n e q heap free on known did = inl (
     on,
     record {
       there = subst (λ (k : ℕ). v.p < k) (sym as_many) h.there;
@@ -365,7 +373,7 @@ module _ (v : Plan) (called : ℕ → ℕ) (old new : State) (r : Reply) (next :
 
   -- only the stage changes
   staged : (t : Stage) → Fine t → (r ≡ Stepped) × (aside ≡ with_seat old v.p (with_machine seat (with_stage m t))) → Comes v after r new ahead
-  staged t fine did = goes_to w (with_stage m t) old.epoch old.queued h.taken (ap ends_call did.0) (known_at t (λ u. ap (calls_of u) did.0) fine) did.1
+  staged t fine did = goes_to w (with_stage m t) old.epoch old.queued old.heap h.taken (ap ends_call did.0) (known_at t (λ u. ap (calls_of u) did.0) fine) did.1
 
   -- where all bags are ahead of a collection that begins at this stage
   abbrev FineAhead : Stage → Type 0
@@ -475,7 +483,7 @@ module _ (v : Plan) (called : ℕ → ℕ) (old new : State) (r : Reply) (next :
       → FindsFor (Some (TakeBag x))
       → aside ≡ record (with_seat old v.p (with_machine seat (took_heard m (Take x k) step jobs))) { queued = queued } → Comes v after r new ahead
   takes x k stage at hand TakeAgain jobs queued told same finds did =
-      goes_to w m old.epoch queued h.taken (ap ends_call told) (record {
+      goes_to w m old.epoch queued old.heap h.taken (ap ends_call told) (record {
         held = h.known.held;
         full = h.known.full;
         action = h.known.action;
@@ -497,7 +505,7 @@ module _ (v : Plan) (called : ℕ → ℕ) (old new : State) (r : Reply) (next :
       }) did
   takes x k stage at hand Empty jobs queued told same finds did =
       let now : new.queued ≡ queued = ap (λ (s : State). s.queued) did in
-      goes_to w (with_stage m (after_collect m.action m.held)) old.epoch queued h.taken (ap ends_call told) (record {
+      goes_to w (with_stage m (after_collect m.action m.held)) old.epoch queued old.heap h.taken (ap ends_call told) (record {
         held = h.known.held;
         full = h.known.full;
         action = h.known.action;
@@ -521,7 +529,7 @@ module _ (v : Plan) (called : ℕ → ℕ) (old new : State) (r : Reply) (next :
       let fine = after_jobs x k old.epoch (length queued) jobs at.0 at.1 at.2 at.3 (omega (arith, fewer, at.4)) at.5
       (λ on bound. enough_less k left (length queued) _ _ (at.6 bound)
       (counts (took_heard m (Take x k) Got jobs) (stage_now (took_heard m (Take x k) Got jobs) w (λ q. ap (λ (s : State). seat_of s q) did)) on x queued (ap (λ (s : State). s.queued) did) finds) fewer) in
-      goes_to w (took_heard m (Take x k) Got jobs) old.epoch queued h.taken (ap ends_call told) (record {
+      goes_to w (took_heard m (Take x k) Got jobs) old.epoch queued old.heap h.taken (ap ends_call told) (record {
         held = h.known.held;
         full = h.known.full;
         action = h.known.action;
@@ -534,13 +542,14 @@ module _ (v : Plan) (called : ℕ → ℕ) (old new : State) (r : Reply) (next :
       }) did
 
   calls : (x k : ℕ) → KnowsAt v old.epoch left (ahead_of old v.p) w (Calling x k)
-      → (job : Deferral) (jobs : List Deferral) → m.hand ≡ job ∷ jobs → r ≡ CalledReply job.ticket Ran
+      → (job : Deferral) (jobs : List Deferral) → m.hand ≡ job ∷ jobs → r ≡ CalledReply job.ticket (outcome_of old.heap job.removes)
       → FindsFor (Some CallJob)
-      → aside ≡ with_seat old v.p (with_machine seat (gives m (Calling x k) jobs)) → Comes v after r new ahead
+      → aside ≡ record (with_seat old v.p (with_machine seat (gives m (Calling x k) jobs))) { heap = heap_after old.heap job.removes }
+      → Comes v after r new ahead
   calls x k at job jobs hand told finds did =
       let fine = after_jobs x k old.epoch left jobs at.0 at.1 at.2 at.3 at.4 at.5
       (λ on bound. subst (Enough (k + 1) left) (sym (finds (ap collects (stage_now (gives m (Calling x k) jobs) w (λ q. ap (λ (s : State). seat_of s q) did)) ∙ on))) (at.6 bound)) in
-      goes_to w (gives m (Calling x k) jobs) old.epoch old.queued h.taken (ap ends_call told) (record {
+      goes_to w (gives m (Calling x k) jobs) old.epoch old.queued (heap_after old.heap job.removes) h.taken (ap ends_call told) (record {
         held = h.known.held;
         full = h.known.full;
         action = h.known.action;
@@ -637,13 +646,15 @@ module _ (v : Plan) (called : ℕ → ℕ) (old new : State) (r : Reply) (next :
       by_call (Resume g) is told did = absurd (subst (After v old.epoch left w) is at)
       by_call (Defer g) is told did = absurd (subst (After v old.epoch left w) is at)
       by_call Release is told did = absurd (subst (After v old.epoch left w) is at)
+      by_call (DeferDestroy g ptr) is told did = absurd (subst (After v old.epoch left w) is at)
+      by_call (AccessCall a) is told did = absurd (subst (After v old.epoch left w) is at)
 
   go : (s : Stage) → m.stage ≡ s → Known v called old.epoch old.queued (ahead_of old v.p) w m s → FindsFor (ask_at s)
       → Drives old v.p seat v.call s (ask_at s) r aside → Comes v after r new ahead
   go Resting stage k finds did = absurd k.at
   go LoadPin stage k finds did = staged (StorePin old.epoch) (k.hand, (k.at.0, k.at.1, k.at.1, k.at.2)) did
   go (StorePin e) stage k finds did =
-      goes_to (Pinned e) (hears m (StorePin e) Stored) old.epoch old.queued (λ x. absurd (cc)) (ap ends_call did.0) (record {
+      goes_to (Pinned e) (hears m (StorePin e) Stored) old.epoch old.queued old.heap (λ x. absurd (cc)) (ap ends_call did.0) (record {
         held = k.held;
         full = k.full;
         action = k.action;
@@ -670,7 +681,7 @@ module _ (v : Plan) (called : ℕ → ℕ) (old new : State) (r : Reply) (next :
       (subst (λ (t : Stage). AllAhead (expiry_of t) (reach_of new v.p)) (stage_now (with_stage m (past_word m.sizes.positions e j (number_of (word_of old j)))) w (λ q. ap (λ (s : State). seat_of s q) did.1))
       (finds (none_takes (ap is_taking stage))))) did
   go (Advance e) stage k finds did =
-      goes_to w (hears m (Advance e) Stored) (e + 1) old.queued h.taken (ap ends_call did.0) (record {
+      goes_to w (hears m (Advance e) Stored) (e + 1) old.queued old.heap h.taken (ap ends_call did.0) (record {
         held = k.held;
         full = k.full;
         action = k.action;
@@ -695,7 +706,7 @@ module _ (v : Plan) (called : ℕ → ℕ) (old new : State) (r : Reply) (next :
   go (Calling x j) stage k finds did = calls x j k.at did.0 did.1 did.2 did.3 finds did.4
   go StoreUnpinned stage k finds did =
       let over : after_unpin m.action m.full ≡ End = ap (λ (a : Action). after_unpin a m.full) k.action ∙ unpinned_end v.call m.full k.at.0 in
-      goes_to Unpinned (hears m StoreUnpinned Stored) old.epoch old.queued (λ x. absurd (cc)) (ap ends_call did.0) (record {
+      goes_to Unpinned (hears m StoreUnpinned Stored) old.epoch old.queued old.heap (λ x. absurd (cc)) (ap ends_call did.0) (record {
         held = k.held;
         full = k.full;
         action = k.action;

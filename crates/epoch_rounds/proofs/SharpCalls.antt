@@ -11,8 +11,8 @@ use Rattle.epoch_machine.specs.declared.machine.Ask.TheVariants.{PutBag, TakeBag
 use Rattle.epoch_machine.specs.declared.machine.Stage.{Stage}
 use Rattle.epoch_machine.specs.declared.machine.Stage.TheVariants.{Idle as Resting, LoadPin, StorePin, ReloadPin, LoadScan, Scan, Advance, Take, LoadSeal, Put, Keep, StoreUnpinned, End}
 use Rattle.epoch_machine.specs.Machine.{put_heard, with_stage, after_collect}
-use Rattle.epoch_laws.specs.declared.step.Answer.{Answer}
-use Rattle.epoch_laws.specs.declared.step.Answer.TheVariants.{Guard, Unit as UnitAnswer}
+use Rattle.epoch_heap.specs.declared.access.Answer.{Answer}
+use Rattle.epoch_heap.specs.declared.access.Answer.TheVariants.{Guard, Unit as UnitAnswer}
 use Rattle.epoch_laws.specs.declared.step.Call.TheVariants.{Pin, Unpin, Defer, Flush}
 use Rattle.epoch_laws.specs.declared.step.Deferral.{Deferral}
 use Rattle.epoch_laws.specs.declared.step.Progress.{Progress}
@@ -22,12 +22,13 @@ use Rattle.epoch_laws.specs.declared.step.Reply.TheVariants.{Stepped, Pinned as 
 use Rattle.epoch_laws.specs.declared.step.Step.TheVariants.{Go}
 use Rattle.epoch_laws.specs.declared.step.Word.{Word}
 use Rattle.epoch_laws.specs.declared.step.Word.TheVariants.{Unpinned, Pinned}
+use Rattle.epoch_heap.specs.Heap.{Heap}
 use Rattle.epoch_laws.specs.Calls.{goes_of, ends_call}
-use Rattle.epoch_laws.specs.Run.{Bag, Seat, State, Open, seat_of, with_seat, with_machine, with_places, lowest, lowest_from, Performs, Moves, Takes, Runs}
+use Rattle.epoch_laws.specs.Run.{Bag, Seat, State, Open, seat_of, with_seat, with_machine, with_places, with_heap, lowest, lowest_from, Performs, Moves, Takes, Runs}
 use Rattle.epoch_rounds.specs.Sharp.{pair_sizes, EndsIn}
 use Rattle.epoch_laws.proofs.Log.{IsWithdrawal}
 use Rattle.epoch_laws.proofs.StoredBags.{one_less}
-use Rattle.epoch_rounds.proofs.SureSteps.{core, back, Surely, Leads, goes, ends}
+use Rattle.epoch_rounds.proofs.SureSteps.{no_heap, core, back, Surely, Leads, goes, ends}
 
 -- THE STATES
 
@@ -39,10 +40,11 @@ seat w s a guards published pins full held now out = record {
   progress = now;
   guards = out;
   paused = None;
+  readings = [];
 }
 
 abbrev pub world : ℕ → List Bag → ℕ → Seat → Seat → State
-world epoch bags tickets zeroth first = record { sizes = pair_sizes; epoch = epoch; seats = zeroth ∷ first ∷ []; queued = bags; tickets = tickets; ending = Open; places = []; seen = []; ahead = [] }
+world epoch bags tickets zeroth first = record { sizes = pair_sizes; epoch = epoch; seats = zeroth ∷ first ∷ []; queued = bags; tickets = tickets; ending = Open; heap = no_heap; places = []; seen = []; ahead = []; room = [] }
 
 -- the job that 1 defers
 abbrev pub job : Deferral
@@ -268,85 +270,85 @@ took old new p seat x k r none (Got, jobs, queued, told, (bag, its, expired, ins
 none_in_none : (x : ℕ) → NoneExpired x []
 none_in_none x bag left inserted expired = absurd (omega (arith, one_less [] left bag inserted))
 
-moved1 : (pl : List Bool) (se ah : List ℕ) (new : State) (told : Reply) → Moves (with_places b1_7 pl se ah) (Go 0) told (with_places new pl se ah)
+moved1 : (pl : List Bool) (se ah : List ℕ) (ro : List Bool) (hp : Heap) (new : State) (told : Reply) → Moves (with_heap (with_places b1_7 pl se ah ro) hp) (Go 0) told (with_places new pl se ah ro)
     → (told ≡ Stepped) × ((core new ≡ b1_7) ⊎ (core new ≡ b1_8))
-moved1 pl se ah new told (inl did) = absurd (cc (did.0))
-moved1 pl se ah new told (inr did) =
-    let t = took (with_places b1_7 pl se ah) (with_places new pl se ah) 0 (seat_of b1_7 0) 1 0 told (none_in_none 1) did.1 in
+moved1 pl se ah ro hp new told (inl did) = absurd (cc (did.0))
+moved1 pl se ah ro hp new told (inr did) =
+    let t = took (with_heap (with_places b1_7 pl se ah ro) hp) (with_places new pl se ah ro) 0 (seat_of b1_7 0) 1 0 told (none_in_none 1) did.1 in
     (t.0, elim t.1 [ inl e ↦ inl (ap core e) | inr e ↦ inr (ap core e) ])
 
 one1 : OneOf b1_7 0 b1_8
-one1 old new told e did = moved1 old.places old.seen old.ahead new told (subst (λ (s : State). Moves s (Go 0) told (with_places new old.places old.seen old.ahead)) (back b1_7 old e) did.0)
+one1 old new told e did = moved1 old.places old.seen old.ahead old.room old.heap new told (subst (λ (s : State). Moves s (Go 0) told (with_places new old.places old.seen old.ahead old.room)) (back b1_7 old e) did.0)
 
 pub call1 : Leads 0 b1_0 (To c1)
 unfolding lowest lowest_from
 call1 =
-    (go 0 b1_0 b1_1 c1 Stepped (λ pl se ah. refl) refl
-    (go 0 b1_1 b1_2 c1 (PinnedReply 0) (λ pl se ah. refl) refl
-    (go 0 b1_2 b1_3 c1 Stepped (λ pl se ah. refl) refl
-    (go 0 b1_3 b1_4 c1 Stepped (λ pl se ah. refl) refl
-    (go 0 b1_4 b1_5 c1 Stepped (λ pl se ah. refl) refl
-    (go 0 b1_5 b1_6 c1 Stepped (λ pl se ah. refl) refl
-    (go 0 b1_6 b1_7 c1 Stepped (λ pl se ah. refl) refl
+    (go 0 b1_0 b1_1 c1 Stepped (λ pl se ah ro hp. refl) refl
+    (go 0 b1_1 b1_2 c1 (PinnedReply 0) (λ pl se ah ro hp. refl) refl
+    (go 0 b1_2 b1_3 c1 Stepped (λ pl se ah ro hp. refl) refl
+    (go 0 b1_3 b1_4 c1 Stepped (λ pl se ah ro hp. refl) refl
+    (go 0 b1_4 b1_5 c1 Stepped (λ pl se ah ro hp. refl) refl
+    (go 0 b1_5 b1_6 c1 Stepped (λ pl se ah ro hp. refl) refl
+    (go 0 b1_6 b1_7 c1 Stepped (λ pl se ah ro hp. refl) refl
     (loops 0 b1_7 b1_8 (To c1) one1
-    (end 0 b1_8 c1 (Done (Guard 0)) (λ pl se ah. refl) refl) (λ old mid new rs did e. e)))))))))
+    (end 0 b1_8 c1 (Done (Guard 0)) (λ pl se ah ro hp. refl) refl) (λ old mid new rs did e. e)))))))))
 
 pub call2 : Leads 0 b2_0 (Exactly ((UnpinnedReply 0) ∷ (Done UnitAnswer) ∷ []) c2)
 unfolding lowest lowest_from
 call2 =
-    (go_so 0 b2_0 b2_1 c2 (UnpinnedReply 0) ((Done UnitAnswer) ∷ []) (λ pl se ah. refl) refl
-    (end_so 0 b2_1 c2 (Done UnitAnswer) (λ pl se ah. refl) refl))
+    (go_so 0 b2_0 b2_1 c2 (UnpinnedReply 0) ((Done UnitAnswer) ∷ []) (λ pl se ah ro hp. refl) refl
+    (end_so 0 b2_1 c2 (Done UnitAnswer) (λ pl se ah ro hp. refl) refl))
 
-moved3 : (pl : List Bool) (se ah : List ℕ) (new : State) (told : Reply) → Moves (with_places b3_7 pl se ah) (Go 1) told (with_places new pl se ah)
+moved3 : (pl : List Bool) (se ah : List ℕ) (ro : List Bool) (hp : Heap) (new : State) (told : Reply) → Moves (with_heap (with_places b3_7 pl se ah ro) hp) (Go 1) told (with_places new pl se ah ro)
     → (told ≡ Stepped) × ((core new ≡ b3_7) ⊎ (core new ≡ b3_8))
-moved3 pl se ah new told (inl did) = absurd (cc (did.0))
-moved3 pl se ah new told (inr did) =
-    let t = took (with_places b3_7 pl se ah) (with_places new pl se ah) 1 (seat_of b3_7 1) 2 0 told (none_in_none 2) did.1 in
+moved3 pl se ah ro hp new told (inl did) = absurd (cc (did.0))
+moved3 pl se ah ro hp new told (inr did) =
+    let t = took (with_heap (with_places b3_7 pl se ah ro) hp) (with_places new pl se ah ro) 1 (seat_of b3_7 1) 2 0 told (none_in_none 2) did.1 in
     (t.0, elim t.1 [ inl e ↦ inl (ap core e) | inr e ↦ inr (ap core e) ])
 
 one3 : OneOf b3_7 1 b3_8
-one3 old new told e did = moved3 old.places old.seen old.ahead new told (subst (λ (s : State). Moves s (Go 1) told (with_places new old.places old.seen old.ahead)) (back b3_7 old e) did.0)
+one3 old new told e did = moved3 old.places old.seen old.ahead old.room old.heap new told (subst (λ (s : State). Moves s (Go 1) told (with_places new old.places old.seen old.ahead old.room)) (back b3_7 old e) did.0)
 
 pub call3 : Leads 1 b3_0 (To c3)
 unfolding lowest lowest_from
 call3 =
-    (go 1 b3_0 b3_1 c3 Stepped (λ pl se ah. refl) refl
-    (go 1 b3_1 b3_2 c3 (PinnedReply 1) (λ pl se ah. refl) refl
-    (go 1 b3_2 b3_3 c3 Stepped (λ pl se ah. refl) refl
-    (go 1 b3_3 b3_4 c3 Stepped (λ pl se ah. refl) refl
-    (go 1 b3_4 b3_5 c3 Stepped (λ pl se ah. refl) refl
-    (go 1 b3_5 b3_6 c3 Stepped (λ pl se ah. refl) refl
-    (go 1 b3_6 b3_7 c3 Stepped (λ pl se ah. refl) refl
+    (go 1 b3_0 b3_1 c3 Stepped (λ pl se ah ro hp. refl) refl
+    (go 1 b3_1 b3_2 c3 (PinnedReply 1) (λ pl se ah ro hp. refl) refl
+    (go 1 b3_2 b3_3 c3 Stepped (λ pl se ah ro hp. refl) refl
+    (go 1 b3_3 b3_4 c3 Stepped (λ pl se ah ro hp. refl) refl
+    (go 1 b3_4 b3_5 c3 Stepped (λ pl se ah ro hp. refl) refl
+    (go 1 b3_5 b3_6 c3 Stepped (λ pl se ah ro hp. refl) refl
+    (go 1 b3_6 b3_7 c3 Stepped (λ pl se ah ro hp. refl) refl
     (loops 1 b3_7 b3_8 (To c3) one3
-    (end 1 b3_8 c3 (Done (Guard 0)) (λ pl se ah. refl) refl) (λ old mid new rs did e. e)))))))))
+    (end 1 b3_8 c3 (Done (Guard 0)) (λ pl se ah ro hp. refl) refl) (λ old mid new rs did e. e)))))))))
 
 pub call4 : Leads 1 b4_0 (Exactly ((UnpinnedReply 1) ∷ (Done UnitAnswer) ∷ []) c4)
 unfolding lowest lowest_from
 call4 =
-    (go_so 1 b4_0 b4_1 c4 (UnpinnedReply 1) ((Done UnitAnswer) ∷ []) (λ pl se ah. refl) refl
-    (end_so 1 b4_1 c4 (Done UnitAnswer) (λ pl se ah. refl) refl))
+    (go_so 1 b4_0 b4_1 c4 (UnpinnedReply 1) ((Done UnitAnswer) ∷ []) (λ pl se ah ro hp. refl) refl
+    (end_so 1 b4_1 c4 (Done UnitAnswer) (λ pl se ah ro hp. refl) refl))
 
 pub call5 : Leads 0 b5_0 (Exactly (Stepped ∷ (PinnedReply 0) ∷ Stepped ∷ (Done (Guard 0)) ∷ []) c5)
 unfolding lowest lowest_from
 call5 =
-    (go_so 0 b5_0 b5_1 c5 Stepped ((PinnedReply 0) ∷ Stepped ∷ (Done (Guard 0)) ∷ []) (λ pl se ah. refl) refl
-    (go_so 0 b5_1 b5_2 c5 (PinnedReply 0) (Stepped ∷ (Done (Guard 0)) ∷ []) (λ pl se ah. refl) refl
-    (go_so 0 b5_2 b5_3 c5 Stepped ((Done (Guard 0)) ∷ []) (λ pl se ah. refl) refl
-    (end_so 0 b5_3 c5 (Done (Guard 0)) (λ pl se ah. refl) refl))))
+    (go_so 0 b5_0 b5_1 c5 Stepped ((PinnedReply 0) ∷ Stepped ∷ (Done (Guard 0)) ∷ []) (λ pl se ah ro hp. refl) refl
+    (go_so 0 b5_1 b5_2 c5 (PinnedReply 0) (Stepped ∷ (Done (Guard 0)) ∷ []) (λ pl se ah ro hp. refl) refl
+    (go_so 0 b5_2 b5_3 c5 Stepped ((Done (Guard 0)) ∷ []) (λ pl se ah ro hp. refl) refl
+    (end_so 0 b5_3 c5 (Done (Guard 0)) (λ pl se ah ro hp. refl) refl))))
 
 pub call6 : Leads 1 b6_0 (Exactly (Stepped ∷ (PinnedReply 1) ∷ Stepped ∷ (Done (Guard 0)) ∷ []) c6)
 unfolding lowest lowest_from
 call6 =
-    (go_so 1 b6_0 b6_1 c6 Stepped ((PinnedReply 1) ∷ Stepped ∷ (Done (Guard 0)) ∷ []) (λ pl se ah. refl) refl
-    (go_so 1 b6_1 b6_2 c6 (PinnedReply 1) (Stepped ∷ (Done (Guard 0)) ∷ []) (λ pl se ah. refl) refl
-    (go_so 1 b6_2 b6_3 c6 Stepped ((Done (Guard 0)) ∷ []) (λ pl se ah. refl) refl
-    (end_so 1 b6_3 c6 (Done (Guard 0)) (λ pl se ah. refl) refl))))
+    (go_so 1 b6_0 b6_1 c6 Stepped ((PinnedReply 1) ∷ Stepped ∷ (Done (Guard 0)) ∷ []) (λ pl se ah ro hp. refl) refl
+    (go_so 1 b6_1 b6_2 c6 (PinnedReply 1) (Stepped ∷ (Done (Guard 0)) ∷ []) (λ pl se ah ro hp. refl) refl
+    (go_so 1 b6_2 b6_3 c6 Stepped ((Done (Guard 0)) ∷ []) (λ pl se ah ro hp. refl) refl
+    (end_so 1 b6_3 c6 (Done (Guard 0)) (λ pl se ah ro hp. refl) refl))))
 
 pub call7 : Leads 1 b7_0 (Exactly ((Deferred 0) ∷ (Done UnitAnswer) ∷ []) c7)
 unfolding lowest lowest_from
 call7 =
-    (go_so 1 b7_0 b7_1 c7 (Deferred 0) ((Done UnitAnswer) ∷ []) (λ pl se ah. refl) refl
-    (end_so 1 b7_1 c7 (Done UnitAnswer) (λ pl se ah. refl) refl))
+    (go_so 1 b7_0 b7_1 c7 (Deferred 0) ((Done UnitAnswer) ∷ []) (λ pl se ah ro hp. refl) refl
+    (end_so 1 b7_1 c7 (Done UnitAnswer) (λ pl se ah ro hp. refl) refl))
 
 -- THE FLUSH
 
@@ -425,28 +427,28 @@ flushed_more : (old mid new : State) (rs : List Reply) → Takes old (Go 1) Step
 flushed_more old mid new rs did (inl e) = inl (ends_more rs e)
 flushed_more old mid new rs did (inr c) = inr (collected_more old mid new rs did c)
 
-movedd : (pl : List Bool) (se ah : List ℕ) (new : State) (told : Reply) → Moves (with_places d4 pl se ah) (Go 1) told (with_places new pl se ah)
+movedd : (pl : List Bool) (se ah : List ℕ) (ro : List Bool) (hp : Heap) (new : State) (told : Reply) → Moves (with_heap (with_places d4 pl se ah ro) hp) (Go 1) told (with_places new pl se ah ro)
     → (told ≡ Stepped) × ((core new ≡ d4) ⊎ (core new ≡ d5))
-movedd pl se ah new told (inl did) = absurd (cc (did.0))
-movedd pl se ah new told (inr did) =
-    let t = took (with_places d4 pl se ah) (with_places new pl se ah) 1 (seat_of d4 1) 3 0 told (none_old) did.1 in
+movedd pl se ah ro hp new told (inl did) = absurd (cc (did.0))
+movedd pl se ah ro hp new told (inr did) =
+    let t = took (with_heap (with_places d4 pl se ah ro) hp) (with_places new pl se ah ro) 1 (seat_of d4 1) 3 0 told (none_old) did.1 in
     (t.0, elim t.1 [ inl e ↦ inl (ap core e) | inr e ↦ inr (ap core e) ])
 
 oned : OneOf d4 1 d5
-oned old new told e did = movedd old.places old.seen old.ahead new told (subst (λ (s : State). Moves s (Go 1) told (with_places new old.places old.seen old.ahead)) (back d4 old e) did.0)
+oned old new told e did = movedd old.places old.seen old.ahead old.room old.heap new told (subst (λ (s : State). Moves s (Go 1) told (with_places new old.places old.seen old.ahead old.room)) (back d4 old e) did.0)
 
-movedg : (pl : List Bool) (se ah : List ℕ) (new : State) (told : Reply) → Moves (with_places g4 pl se ah) (Go 1) told (with_places new pl se ah)
+movedg : (pl : List Bool) (se ah : List ℕ) (ro : List Bool) (hp : Heap) (new : State) (told : Reply) → Moves (with_heap (with_places g4 pl se ah ro) hp) (Go 1) told (with_places new pl se ah ro)
     → (told ≡ Stepped) × ((core new ≡ g4) ⊎ (core new ≡ g5))
-movedg pl se ah new told (inl did) = absurd (cc (did.0))
-movedg pl se ah new told (inr did) =
-    let t = took (with_places g4 pl se ah) (with_places new pl se ah) 1 (seat_of g4 1) 3 0 told (none_in_none 3) did.1 in
+movedg pl se ah ro hp new told (inl did) = absurd (cc (did.0))
+movedg pl se ah ro hp new told (inr did) =
+    let t = took (with_heap (with_places g4 pl se ah ro) hp) (with_places new pl se ah ro) 1 (seat_of g4 1) 3 0 told (none_in_none 3) did.1 in
     (t.0, elim t.1 [ inl e ↦ inl (ap core e) | inr e ↦ inr (ap core e) ])
 
 oneg : OneOf g4 1 g5
-oneg old new told e did = movedg old.places old.seen old.ahead new told (subst (λ (s : State). Moves s (Go 1) told (with_places new old.places old.seen old.ahead)) (back g4 old e) did.0)
+oneg old new told e did = movedg old.places old.seen old.ahead old.room old.heap new told (subst (λ (s : State). Moves s (Go 1) told (with_places new old.places old.seen old.ahead old.room)) (back g4 old e) did.0)
 
 collecting : Leads 1 d4 Collecting
-collecting = loops 1 d4 d5 Collecting oned (ends 1 d5 d6 (Done UnitAnswer) Collecting (λ pl se ah. refl) refl (λ old new e. (e, (done_stays UnitAnswer, tt)))) (λ old mid new rs did e. (e.0, (stepped_stays, e.1)))
+collecting = loops 1 d4 d5 Collecting oned (ends 1 d5 d6 (Done UnitAnswer) Collecting (λ pl se ah ro hp. refl) refl (λ old new e. (e, (done_stays UnitAnswer, tt)))) (λ old mid new rs did e. (e.0, (stepped_stays, e.1)))
 
 collects : Leads 1 d4 Collected
 collects old new rs e last run =
@@ -455,30 +457,30 @@ collects old new rs e last run =
 
 after_put : Leads 1 d0 Collected
 after_put =
-    goes 1 d0 d1 Stepped Collected Collected (λ pl se ah. refl) refl
-    (goes 1 d1 d2 Stepped Collected Collected (λ pl se ah. refl) refl
-    (goes 1 d2 d3 Stepped Collected Collected (λ pl se ah. refl) refl
-    (goes 1 d3 d4 Stepped Collected Collected (λ pl se ah. refl) refl collects
+    goes 1 d0 d1 Stepped Collected Collected (λ pl se ah ro hp. refl) refl
+    (goes 1 d1 d2 Stepped Collected Collected (λ pl se ah ro hp. refl) refl
+    (goes 1 d2 d3 Stepped Collected Collected (λ pl se ah ro hp. refl) refl
+    (goes 1 d3 d4 Stepped Collected Collected (λ pl se ah ro hp. refl) refl collects
     collected_more) collected_more) collected_more) collected_more
 
 after_full : Leads 1 g0 EndsFull
 after_full =
-    goes 1 g0 g1 Stepped EndsFull EndsFull (λ pl se ah. refl) refl
-    (goes 1 g1 g2 Stepped EndsFull EndsFull (λ pl se ah. refl) refl
-    (goes 1 g2 g3 Stepped EndsFull EndsFull (λ pl se ah. refl) refl
-    (goes 1 g3 g4 Stepped EndsFull EndsFull (λ pl se ah. refl) refl
-    (loops 1 g4 g5 EndsFull oneg (ends 1 g5 g6 (Refused BagsFull) EndsFull (λ pl se ah. refl) refl (λ old new e. refl))
+    goes 1 g0 g1 Stepped EndsFull EndsFull (λ pl se ah ro hp. refl) refl
+    (goes 1 g1 g2 Stepped EndsFull EndsFull (λ pl se ah ro hp. refl) refl
+    (goes 1 g2 g3 Stepped EndsFull EndsFull (λ pl se ah ro hp. refl) refl
+    (goes 1 g3 g4 Stepped EndsFull EndsFull (λ pl se ah ro hp. refl) refl
+    (loops 1 g4 g5 EndsFull oneg (ends 1 g5 g6 (Refused BagsFull) EndsFull (λ pl se ah ro hp. refl) refl (λ old new e. refl))
     (λ old mid new rs did e. ends_more rs e)) (λ old mid new rs did e. ends_more rs e)) (λ old mid new rs did e. ends_more rs e)) (λ old mid new rs did e. ends_more rs e)) (λ old mid new rs did e. ends_more rs e)
 
-putted : (pl : List Bool) (se ah : List ℕ) (new : State) (told : Reply) → Moves (with_places f1 pl se ah) (Go 1) told (with_places new pl se ah)
+putted : (pl : List Bool) (se ah : List ℕ) (ro : List Bool) (hp : Heap) (new : State) (told : Reply) → Moves (with_heap (with_places f1 pl se ah ro) hp) (Go 1) told (with_places new pl se ah ro)
     → (told ≡ Stepped) × ((core new ≡ f1) ⊎ ((core new ≡ d0) ⊎ (core new ≡ g0)))
-putted pl se ah new told (inl did) = absurd (cc (did.0))
-putted pl se ah new told (inr did) =
-    let t = put (with_places f1 pl se ah) (with_places new pl se ah) 1 (seat_of f1 1) 2 told refl did.1 in
+putted pl se ah ro hp new told (inl did) = absurd (cc (did.0))
+putted pl se ah ro hp new told (inr did) =
+    let t = put (with_heap (with_places f1 pl se ah ro) hp) (with_places new pl se ah ro) 1 (seat_of f1 1) 2 told refl did.1 in
     (t.0, elim t.1 [ inl e ↦ inl (ap core e) | inr other ↦ inr (elim other [ inl e ↦ inl (ap core e) | inr e ↦ inr (ap core e) ]) ])
 
 put_one : (old new : State) (told : Reply) → core old ≡ f1 → Takes old (Go 1) told new → (told ≡ Stepped) × ((core new ≡ f1) ⊎ ((core new ≡ d0) ⊎ (core new ≡ g0)))
-put_one old new told e did = putted old.places old.seen old.ahead new told (subst (λ (s : State). Moves s (Go 1) told (with_places new old.places old.seen old.ahead)) (back f1 old e) did.0)
+put_one old new told e did = putted old.places old.seen old.ahead old.room old.heap new told (subst (λ (s : State). Moves s (Go 1) told (with_places new old.places old.seen old.ahead old.room)) (back f1 old e) did.0)
 
 puts : Leads 1 f1 Flushed
 puts old new [] e last run = absurd last
@@ -495,4 +497,4 @@ puts old new (x ∷ y ∷ rs) e last (mid, did, run) =
     ]))
 
 pub call8 : Leads 1 f0 Flushed
-call8 = goes 1 f0 f1 Stepped Flushed Flushed (λ pl se ah. refl) refl puts flushed_more
+call8 = goes 1 f0 f1 Stepped Flushed Flushed (λ pl se ah ro hp. refl) refl puts flushed_more

@@ -2,7 +2,8 @@
 use Rattle.std.proofs.Common.{◌≡◌, ℕ, zero, suc, ◌+◌, ◌<◌, List, [], ◌∷◌, ◌++◌, append_assoc, append-nil, length, length-append, Bool, true, false, Some, inl, inr, refl, ap, sym, subst, ◌∙◌, arith, slice_index_or, slice_get}
 use Rattle.epoch_cells.specs.declared.fault.Fault.TheVariants.{BagsFull}
 use Rattle.epoch_machine.specs.declared.machine.Sizes.{Sizes}
-use Rattle.epoch_laws.specs.declared.step.Answer.TheVariants.{Guard, Unit as UnitAnswer}
+use Rattle.epoch_heap.specs.declared.access.Answer.TheVariants.{Guard, Unit as UnitAnswer}
+use Rattle.epoch_heap.specs.Heap.{Heap}
 use Rattle.epoch_laws.specs.declared.step.Call.{Call}
 use Rattle.epoch_laws.specs.declared.step.Call.TheVariants.{Pin, Unpin, Defer, Flush}
 use Rattle.epoch_laws.specs.declared.step.Entry.{Entry}
@@ -12,20 +13,22 @@ use Rattle.epoch_laws.specs.declared.step.Step.TheVariants.{Register, Begin, Go}
 use Rattle.epoch_laws.specs.declared.step.Word.TheVariants.{Unpinned}
 use Rattle.epoch_laws.specs.Calls.{call_of, goes_of, ends_call, EndsAtLast}
 use Rattle.epoch_laws.specs.Grace.{Stands}
-use Rattle.epoch_laws.specs.Run.{Bag, Seat, State, Ending, Open, with_places, free_seat, IsFresh, Moves, Takes, Runs}
+use Rattle.epoch_laws.specs.Run.{Bag, Seat, State, HasFreePlace, Ending, Open, seat_of, with_places, with_heap, free_seat, IsFresh, Moves, Takes, Runs}
+use Rattle.epoch_laws.specs.Room.{is_at_places}
 use Rattle.epoch_rounds.specs.Sharp.{pair_sizes, EndsIn, TakesSharpList, IsSharp}
 use Rattle.epoch_laws.proofs.Log.{IsWithdrawal, PinnedSince, stands_push, stands_keep, stands_new, stands_within}
-use Rattle.epoch_rounds.proofs.SureSteps.{core, back, Leads}
+use Rattle.epoch_rounds.proofs.LonePuts.{lone_calls, places_stay}
+use Rattle.epoch_rounds.proofs.SureSteps.{no_heap, core, back, Leads}
 use Rattle.epoch_rounds.proofs.SharpCalls.{To, Exactly, its_bag, c0, c1, c2, c3, c4, c5, c6, c7, b1_0, b2_0, b3_0, b4_0, b5_0, b6_0, b7_0, f0, AllStay, Flushed, Collected, call1, call2, call3, call4, call5, call6, call7, call8}
 
 -- HOW A CALL BEGINS
 
 abbrev BeginsTo : State → ℕ → Call → State → Type 0
-BeginsTo at p c after = (places : List Bool) (seen ahead : List ℕ) (new : State) (told : Reply) → Moves (with_places at places seen ahead) (Begin p c) told new → (told ≡ Began) × (core new ≡ after)
+BeginsTo at p c after = (places : List Bool) (seen ahead : List ℕ) (room : List Bool) (heap : Heap) (new : State) (told : Reply) → Moves (with_heap (with_places at places seen ahead room) heap) (Begin p c) told new → (told ≡ Began) × (core new ≡ after)
 
 begins_to : (at after old mid : State) (p : ℕ) (c : Call) (told : Reply) → BeginsTo at p c after → core old ≡ at → Takes old (Begin p c) told mid → (told ≡ Began) × (core mid ≡ after)
 begins_to at after old mid p c told is e did =
-    is old.places old.seen old.ahead (with_places mid old.places old.seen old.ahead) told (subst (λ (s : State). Moves s (Begin p c) told (with_places mid old.places old.seen old.ahead)) (back at old e) did.0)
+    is old.places old.seen old.ahead old.room old.heap (with_places mid old.places old.seen old.ahead old.room) told (subst (λ (s : State). Moves s (Begin p c) told (with_places mid old.places old.seen old.ahead old.room)) (back at old e) did.0)
 
 -- a call of the list, from its Begin on
 record Called (p : ℕ) (c : Call) (Result : State → List Reply → State → Type 0) (old new : State) (replies : List Reply) : Type 0 where
@@ -60,7 +63,7 @@ two_seats (a ∷ b ∷ []) d len at = ap (λ (x : Seat). x ∷ b ∷ []) (at 0) 
 two_seats (a ∷ b ∷ c ∷ seats) d len at = absurd (omega (arith, len))
 
 abbrev made : Sizes → ℕ → List Seat → List Bag → ℕ → Ending → State
-made sizes epoch seats queued tickets ending = record { sizes = sizes; epoch = epoch; seats = seats; queued = queued; tickets = tickets; ending = ending; places = []; seen = []; ahead = [] }
+made sizes epoch seats queued tickets ending = record { sizes = sizes; epoch = epoch; seats = seats; queued = queued; tickets = tickets; ending = ending; heap = no_heap; places = []; seen = []; ahead = []; room = [] }
 
 abbrev unregistered : State
 unregistered = made pair_sizes 0 (free_seat pair_sizes ∷ free_seat pair_sizes ∷ []) [] 0 Open
@@ -83,27 +86,27 @@ fresh_core s fresh sized first =
     seats : s.seats ≡ free_seat pair_sizes ∷ free_seat pair_sizes ∷ []
     seats = two_seats s.seats (free_seat pair_sizes) (sym fresh.sized ∙ ap (λ (z : Sizes). z.positions) sized) free
 
-registers_first : (pl : List Bool) (se ah : List ℕ) (new : State) (told : Reply) → Moves (with_places unregistered pl se ah) Register told new → core new ≡ half_registered
-registers_first pl se ah new told (inl (zero, opened, there, free, least, told_so, did)) = ap core did
-registers_first pl se ah new told (inl (suc p, opened, there, free, least, told_so, did)) = absurd (least 0 (omega arith) refl)
-registers_first pl se ah new told (inr (inl did)) = absurd (did.1 0 (omega arith) refl)
-registers_first pl se ah new told (inr (inr did)) = absurd (did.0 refl)
+registers_first : (pl : List Bool) (se ah : List ℕ) (ro : List Bool) (hp : Heap) (new : State) (told : Reply) → Moves (with_heap (with_places unregistered pl se ah ro) hp) Register told new → core new ≡ half_registered
+registers_first pl se ah ro hp new told (inl (zero, opened, there, free, least, told_so, did)) = ap core did
+registers_first pl se ah ro hp new told (inl (suc p, opened, there, free, least, told_so, did)) = absurd (least 0 (omega arith) refl)
+registers_first pl se ah ro hp new told (inr (inl did)) = absurd (did.1 0 (omega arith) refl)
+registers_first pl se ah ro hp new told (inr (inr did)) = absurd (did.0 refl)
 
-registers_second : (pl : List Bool) (se ah : List ℕ) (new : State) (told : Reply) → Moves (with_places half_registered pl se ah) Register told new → core new ≡ c0
-registers_second pl se ah new told (inl (zero, opened, there, free, least, told_so, did)) = absurd (cc (free))
-registers_second pl se ah new told (inl (suc zero, opened, there, free, least, told_so, did)) = ap core did
-registers_second pl se ah new told (inl (suc (suc p), opened, there, free, least, told_so, did)) = absurd (omega (arith, there))
-registers_second pl se ah new told (inr (inl did)) = absurd (did.1 1 (omega arith) refl)
-registers_second pl se ah new told (inr (inr did)) = absurd (did.0 refl)
+registers_second : (pl : List Bool) (se ah : List ℕ) (ro : List Bool) (hp : Heap) (new : State) (told : Reply) → Moves (with_heap (with_places half_registered pl se ah ro) hp) Register told new → core new ≡ c0
+registers_second pl se ah ro hp new told (inl (zero, opened, there, free, least, told_so, did)) = absurd (cc (free))
+registers_second pl se ah ro hp new told (inl (suc zero, opened, there, free, least, told_so, did)) = ap core did
+registers_second pl se ah ro hp new told (inl (suc (suc p), opened, there, free, least, told_so, did)) = absurd (omega (arith, there))
+registers_second pl se ah ro hp new told (inr (inl did)) = absurd (did.1 1 (omega arith) refl)
+registers_second pl se ah ro hp new told (inr (inr did)) = absurd (did.0 refl)
 
 registered_both : (old new : State) (r s : Reply) → core old ≡ unregistered → Runs old (record { step = Register; reply = r } ∷ record { step = Register; reply = s } ∷ []) new → core new ≡ c0
 registered_both old new r s e (mid, one, more) =
-    ap core more.2 ∙ registers_second mid.places mid.seen mid.ahead (with_places more.0 mid.places mid.seen mid.ahead) s
-    (subst (λ (x : State). Moves x Register s (with_places more.0 mid.places mid.seen mid.ahead)) (back half_registered mid half) more.1.0)
+    ap core more.2 ∙ registers_second mid.places mid.seen mid.ahead mid.room mid.heap (with_places more.0 mid.places mid.seen mid.ahead mid.room) s
+    (subst (λ (x : State). Moves x Register s (with_places more.0 mid.places mid.seen mid.ahead mid.room)) (back half_registered mid half) more.1.0)
   where
     half : core mid ≡ half_registered
-    half = registers_first old.places old.seen old.ahead (with_places mid old.places old.seen old.ahead) r
-        (subst (λ (x : State). Moves x Register r (with_places mid old.places old.seen old.ahead)) (back unregistered old e) one.0)
+    half = registers_first old.places old.seen old.ahead old.room old.heap (with_places mid old.places old.seen old.ahead old.room) r
+        (subst (λ (x : State). Moves x Register r (with_places mid old.places old.seen old.ahead old.room)) (back unregistered old e) one.0)
 
 -- RUNS AND LOGS
 
@@ -196,38 +199,31 @@ deferred_in l m rs e =
 
 -- THE LIST
 
-module _ (fresh new : State) (log : List Entry) (is_fresh : IsFresh fresh) (sized : fresh.sizes ≡ pair_sizes) (first : fresh.epoch ≡ 0) (t : TakesSharpList fresh log new) where
+module _ (fresh new : State) (log : List Entry) (is_fresh : IsFresh fresh) (sized : fresh.sizes ≡ pair_sizes) (first : fresh.epoch ≡ 0) (some : 0 < length fresh.places) (t : TakesSharpList fresh log new) where
   k1 : Called 0 Pin (To c1) t.s0 t.s1 t.r1
-  k1 = called 0 Pin c0 b1_0 (To c1) (λ pl se ah mid told did. (did.0, ap core did.1)) call1 t.s0 t.s1 t.r1
+  k1 = called 0 Pin c0 b1_0 (To c1) (λ pl se ah ro hp mid told did. (did.0, ap core did.1)) call1 t.s0 t.s1 t.r1
       (registered_both fresh t.s0 t.first t.second (fresh_core fresh is_fresh sized first) t.registered) t.one.ends t.one.run
 
   k2 : Called 0 (Unpin (Some 0)) (Exactly (UnpinnedReply 0 ∷ Done UnitAnswer ∷ []) c2) t.s1 t.s2 t.r2
-  k2 = called 0 (Unpin (Some 0)) c1 b2_0 (Exactly (UnpinnedReply 0 ∷ Done UnitAnswer ∷ []) c2) (λ pl se ah mid told did. (did.0, ap core did.1)) call2 t.s1 t.s2 t.r2 k1.result t.two.ends t.two.run
+  k2 = called 0 (Unpin (Some 0)) c1 b2_0 (Exactly (UnpinnedReply 0 ∷ Done UnitAnswer ∷ []) c2) (λ pl se ah ro hp mid told did. (did.0, ap core did.1)) call2 t.s1 t.s2 t.r2 k1.result t.two.ends t.two.run
 
   k3 : Called 1 Pin (To c3) t.s2 t.s3 t.r3
-  k3 = called 1 Pin c2 b3_0 (To c3) (λ pl se ah mid told did. (did.0, ap core did.1)) call3 t.s2 t.s3 t.r3 k2.result.1 t.three.ends t.three.run
+  k3 = called 1 Pin c2 b3_0 (To c3) (λ pl se ah ro hp mid told did. (did.0, ap core did.1)) call3 t.s2 t.s3 t.r3 k2.result.1 t.three.ends t.three.run
 
   k4 : Called 1 (Unpin (Some 0)) (Exactly (UnpinnedReply 1 ∷ Done UnitAnswer ∷ []) c4) t.s3 t.s4 t.r4
-  k4 = called 1 (Unpin (Some 0)) c3 b4_0 (Exactly (UnpinnedReply 1 ∷ Done UnitAnswer ∷ []) c4) (λ pl se ah mid told did. (did.0, ap core did.1)) call4 t.s3 t.s4 t.r4 k3.result t.four.ends t.four.run
+  k4 = called 1 (Unpin (Some 0)) c3 b4_0 (Exactly (UnpinnedReply 1 ∷ Done UnitAnswer ∷ []) c4) (λ pl se ah ro hp mid told did. (did.0, ap core did.1)) call4 t.s3 t.s4 t.r4 k3.result t.four.ends t.four.run
 
   k5 : Called 0 Pin (Exactly (Stepped ∷ PinnedReply 0 ∷ Stepped ∷ Done (Guard 0) ∷ []) c5) t.s4 t.s5 t.r5
-  k5 = called 0 Pin c4 b5_0 (Exactly (Stepped ∷ PinnedReply 0 ∷ Stepped ∷ Done (Guard 0) ∷ []) c5) (λ pl se ah mid told did. (did.0, ap core did.1)) call5 t.s4 t.s5 t.r5 k4.result.1 t.five.ends t.five.run
+  k5 = called 0 Pin c4 b5_0 (Exactly (Stepped ∷ PinnedReply 0 ∷ Stepped ∷ Done (Guard 0) ∷ []) c5) (λ pl se ah ro hp mid told did. (did.0, ap core did.1)) call5 t.s4 t.s5 t.r5 k4.result.1 t.five.ends t.five.run
 
   k6 : Called 1 Pin (Exactly (Stepped ∷ PinnedReply 1 ∷ Stepped ∷ Done (Guard 0) ∷ []) c6) t.s5 t.s6 t.r6
-  k6 = called 1 Pin c5 b6_0 (Exactly (Stepped ∷ PinnedReply 1 ∷ Stepped ∷ Done (Guard 0) ∷ []) c6) (λ pl se ah mid told did. (did.0, ap core did.1)) call6 t.s5 t.s6 t.r6 k5.result.1 t.six.ends t.six.run
+  k6 = called 1 Pin c5 b6_0 (Exactly (Stepped ∷ PinnedReply 1 ∷ Stepped ∷ Done (Guard 0) ∷ []) c6) (λ pl se ah ro hp mid told did. (did.0, ap core did.1)) call6 t.s5 t.s6 t.r6 k5.result.1 t.six.ends t.six.run
 
   k7 : Called 1 (Defer (Some 0)) (Exactly (Deferred 0 ∷ Done UnitAnswer ∷ []) c7) t.s6 t.s7 t.r7
-  k7 = called 1 (Defer (Some 0)) c6 b7_0 (Exactly (Deferred 0 ∷ Done UnitAnswer ∷ []) c7) (λ pl se ah mid told did. (did.0, ap core did.1)) call7 t.s6 t.s7 t.r7 k6.result.1 t.seven.ends t.seven.run
+  k7 = called 1 (Defer (Some 0)) c6 b7_0 (Exactly (Deferred 0 ∷ Done UnitAnswer ∷ []) c7) (λ pl se ah ro hp mid told did. (did.0, ap core did.1)) call7 t.s6 t.s7 t.r7 k6.result.1 t.seven.ends t.seven.run
 
   k8 : Called 1 (Flush (Some 0)) Flushed t.s7 new t.r8
-  k8 = called 1 (Flush (Some 0)) c7 f0 Flushed (λ pl se ah mid told did. (did.0, ap core did.1)) call8 t.s7 new t.r8 k7.result.1 t.eight.ends t.eight.run
-
-  collected : Collected k8.mid k8.rs new
-  collected = by_end k8.result
-    where
-      by_end : Flushed k8.mid k8.rs new → Collected k8.mid k8.rs new
-      by_end (inl e) = absurd (t.put (subst (EndsIn (Refused BagsFull)) (sym k8.whole) (ends_cons Began (Refused BagsFull) k8.rs e)))
-      by_end (inr c) = c
+  k8 = called 1 (Flush (Some 0)) c7 f0 Flushed (λ pl se ah ro hp mid told did. (did.0, ap core did.1)) call8 t.s7 new t.r8 k7.result.1 t.eight.ends t.eight.run
 
   abbrev both : List Entry
   both = record { step = Register; reply = t.first } ∷ record { step = Register; reply = t.second } ∷ []
@@ -264,6 +260,26 @@ module _ (fresh new : State) (log : List Entry) (is_fresh : IsFresh fresh) (size
       (runs_append fresh t.s0 t.s1 both (call_of 0 Pin t.r1) t.registered t.one.run)
       t.two.run) t.three.run) t.four.run) t.five.run) t.six.run) t.seven.run
 
+  -- a place is free for the Flush, and nobody else is at the places
+  free : HasFreePlace 1 t.s7
+  free = record {
+    others = λ q other. ap (λ (s : State). is_at_places (seat_of s q).machine.stage) k7.result.1 ∙ away q;
+    fewer = omega (arith, some, ap (λ (s : State). length s.queued) k7.result.1, places_stay fresh t.s7 l7 run7);
+  }
+    where
+      away : (q : ℕ) → is_at_places (seat_of c7 q).machine.stage ≡ false
+      away zero = refl
+      away (suc zero) = refl
+      away (suc (suc q)) = refl
+
+  collected : Collected k8.mid k8.rs new
+  collected = by_end k8.result
+    where
+      by_end : Flushed k8.mid k8.rs new → Collected k8.mid k8.rs new
+      by_end (inl e) = absurd (lone_calls fresh t.s7 new l7 1 (Flush (Some 0)) t.r8 is_fresh run7 free t.eight
+          (subst (EndsIn (Refused BagsFull)) (sym k8.whole) (ends_cons Began (Refused BagsFull) k8.rs e)))
+      by_end (inr c) = c
+
   whole5 : t.r5 ≡ pin_replies 0
   whole5 = k5.whole ∙ ap (λ (rs : List Reply). Began ∷ rs) k5.result.0
 
@@ -289,6 +305,9 @@ module _ (fresh new : State) (log : List Entry) (is_fresh : IsFresh fresh) (size
 
   log_is : log ≡ l7 ++ begin 1 (Flush (Some 0)) ∷ flushing
   log_is = t.whole ∙ ap (λ (rs : List Reply). l7 ++ call_of 1 (Flush (Some 0)) rs) k8.whole
+
+  pub sharp_run : Runs fresh log new
+  sharp_run = subst (λ (l : List Entry). Runs fresh l new) (sym t.whole) (runs_append fresh t.s7 new l7 (call_of 1 (Flush (Some 0)) t.r8) run7 t.eight.run)
 
   pub sharp : IsSharp fresh log new
   sharp = record {

@@ -6,7 +6,7 @@ use Rattle.epoch_machine.specs.declared.machine.Ask.TheVariants.{PutBag, TakeBag
 use Rattle.epoch_machine.specs.declared.machine.Sizes.{Sizes}
 use Rattle.epoch_laws.specs.declared.step.Entry.{Entry}
 use Rattle.epoch_laws.specs.declared.step.Progress.{Progress}
-use Rattle.epoch_laws.specs.declared.step.Progress.TheVariants.{Idle, Driven, CallsNow, Ends}
+use Rattle.epoch_laws.specs.declared.step.Progress.TheVariants.{Idle, Driven, CallsNow, Accesses, Ends}
 use Rattle.epoch_laws.specs.declared.step.Call.{Call}
 use Rattle.epoch_laws.specs.declared.step.Reply.{Reply}
 use Rattle.epoch_laws.specs.declared.step.Step.{Step}
@@ -34,7 +34,8 @@ module _ (old new : State) (p : ℕ) (reply : Reply) where
   goes_same : (progress : Progress) → Goes old p seat progress reply new → new.sizes ≡ old.sizes
   goes_same Idle did = ap of did.1
   goes_same (Driven c) did = drives_same c (ask_at seat.machine.stage) did
-  goes_same CallsNow did = ap of did.1
+  goes_same (CallsNow removes) did = ap of did.1
+  goes_same (Accesses a k found) did = ap of did.3
   goes_same (Ends r) did = ap of did.1
 
   begins_same : (c : Call) (o : Option Fault) → Begins old p c o reply new → new.sizes ≡ old.sizes
@@ -52,7 +53,7 @@ pub moves_same : (old new : State) (reply : Reply) (step : Step) → Moves old s
 moves_same old new reply Register (inl did) = ap of did.6
 moves_same old new reply Register (inr (inl did)) = ap of did.3
 moves_same old new reply Register (inr (inr did)) = ap of did.2
-moves_same old new reply (Begin p c) did = begins_same old new p reply c (refusal c (seat_of old p) old.tickets) did
+moves_same old new reply (Begin p c) did = begins_same old new p reply c (refusal c (seat_of old p) old.tickets old.heap) did
 moves_same old new reply (Go p) (inl did) = ap of did.2
 moves_same old new reply (Go p) (inr did) = goes_same old new p reply (seat_of old p).progress did.1
 moves_same old new reply EndStep (inl did) = ap of did.3

@@ -7,14 +7,15 @@ use Rattle.epoch_machine.specs.declared.machine.Stage.{Stage}
 use Rattle.epoch_machine.specs.Machine.{ask_at, hears}
 use Rattle.epoch_laws.specs.declared.step.Call.{Call}
 use Rattle.epoch_laws.specs.declared.step.Progress.{Progress}
-use Rattle.epoch_laws.specs.declared.step.Progress.TheVariants.{Idle, Driven, CallsNow, Ends}
+use Rattle.epoch_laws.specs.declared.step.Progress.TheVariants.{Idle, Driven, CallsNow, Accesses, Ends}
 use Rattle.epoch_laws.specs.declared.step.Reply.{Reply}
 use Rattle.epoch_laws.specs.declared.step.Reply.TheVariants.{Stepped, Pinned as PinnedReply, Unpinned as UnpinnedReply, Deferred}
 use Rattle.epoch_laws.specs.declared.step.Step.TheVariants.{Go}
 use Rattle.epoch_laws.specs.declared.step.Word.{Word}
 use Rattle.epoch_laws.specs.declared.step.Word.TheVariants.{Free, Unpinned, Pinned}
+use Rattle.epoch_heap.specs.Heap.{Heap}
 use Rattle.epoch_laws.specs.Calls.{goes_of, ends_call, EndsAtLast}
-use Rattle.epoch_laws.specs.Run.{Seat, State, seat_of, word_of, number_of, with_seat, with_machine, with_word, with_places, end_reply, ended_seat, Performs, Drives, Goes, Moves, Takes, Runs}
+use Rattle.epoch_laws.specs.Run.{Seat, State, seat_of, word_of, number_of, with_seat, with_machine, with_word, with_places, with_heap, removed_by, end_reply, ended_seat, Performs, Drives, Goes, Moves, Takes, Runs}
 
 pub record Outcome : Type 0 where
   pub reply : Reply
@@ -29,7 +30,7 @@ sure_ask s p seat at (LoadWord k) = outcome Stepped (with_seat s p (with_machine
 sure_ask s p seat at (StorePinned e) = outcome (PinnedReply p) (with_seat s p (with_word seat (Pinned e) (hears seat.machine at Stored)))
 sure_ask s p seat at StoreUnpinned = outcome (UnpinnedReply p) (with_seat s p (with_word seat Unpinned (hears seat.machine at Stored)))
 sure_ask s p seat at (StoreEpoch e) = outcome Stepped (record (with_seat s p (with_machine seat (hears seat.machine at Stored))) { epoch = e })
-sure_ask s p seat at KeepJob = outcome (Deferred s.tickets) (record (with_seat s p (with_machine seat (hears seat.machine at (Job (record { ticket = s.tickets; removes = None }))))) { tickets = s.tickets + 1 })
+sure_ask s p seat at KeepJob = outcome (Deferred s.tickets) (record (with_seat s p (with_machine seat (hears seat.machine at (Job (record { ticket = s.tickets; removes = removed_by seat.progress }))))) { tickets = s.tickets + 1 })
 sure_ask s p seat at _ = None
 
 abbrev pub sure_drive : State → ℕ → Seat → Call → Stage → Option Ask → Option Outcome
@@ -77,7 +78,8 @@ driven s p seat c at None r new o e did = is_so _ r _ s r new o e did.0 did.1
 went : (s : State) (p : ℕ) (seat : Seat) (now : Progress) (r : Reply) (new : State) (o : Outcome) → sure_by s p seat now ≡ Some o → Goes s p seat now r new → Is o r new
 went s p seat (Driven c) r new o e did = driven s p seat c seat.machine.stage (ask_at seat.machine.stage) r new o e did
 went s p seat Idle r new o e did = absurd (cc (e))
-went s p seat CallsNow r new o e did = absurd (cc (e))
+went s p seat (CallsNow removes) r new o e did = absurd (cc (e))
+went s p seat (Accesses a k found) r new o e did = absurd (cc (e))
 went s p seat (Ends x) r new o e did = absurd (cc (e))
 
 not_free : (s : State) (p : ℕ) (seat : Seat) (w : Word) (o : Outcome) → sure_at s p seat w ≡ Some o → (sure_by s p seat seat.progress ≡ Some o) × (w ≡ Free → ⊥)
@@ -89,23 +91,26 @@ pub sure_goes : (s : State) (p : ℕ) (r : Reply) (new : State) (o : Outcome) �
 sure_goes s p r new o e (inl did) = absurd ((not_free s p (seat_of s p) (seat_of s p).word o e).1 did.0)
 sure_goes s p r new o e (inr did) = went s p (seat_of s p) (seat_of s p).progress r new o (not_free s p (seat_of s p) (seat_of s p).word o e).0 did.1
 
--- THE PLACES ASIDE
+-- THE PLACES AND THE CELLS ASIDE
+
+abbrev pub no_heap : Heap
+no_heap = record { roots = []; cells = []; fields = 0; align = 1; start_turn = 0 }
 
 abbrev pub core : State → State
-core s = with_places s [] [] []
+core s = with_heap (with_places s [] [] [] []) no_heap
 
--- a Go of p comes to this, whatever the places are
+-- a Go of p comes to this, whatever the places and the cells are
 abbrev pub Surely : State → ℕ → Reply → State → Type 0
-Surely at p r after = (places : List Bool) (seen ahead : List ℕ) → sure (with_places at places seen ahead) p ≡ outcome r (with_places after places seen ahead)
+Surely at p r after = (places : List Bool) (seen ahead : List ℕ) (room : List Bool) (heap : Heap) → sure (with_heap (with_places at places seen ahead room) heap) p ≡ outcome r (with_heap (with_places after places seen ahead room) heap)
 
-pub back : (at old : State) → core old ≡ at → old ≡ with_places at old.places old.seen old.ahead
-back at old e = ap (λ (s : State). with_places s old.places old.seen old.ahead) e
+pub back : (at old : State) → core old ≡ at → old ≡ with_heap (with_places at old.places old.seen old.ahead old.room) old.heap
+back at old e = ap (λ (s : State). with_heap (with_places s old.places old.seen old.ahead old.room) old.heap) e
 
 pub surely_goes : (at after old new : State) (p : ℕ) (r told : Reply) → Surely at p r after → core old ≡ at → Takes old (Go p) told new → (told ≡ r) × (core new ≡ core after)
 surely_goes at after old new p r told sure_so e did =
-    let o : Outcome = record { reply = r; state = with_places after old.places old.seen old.ahead } in
-    let is = sure_goes (with_places at old.places old.seen old.ahead) p told (with_places new old.places old.seen old.ahead) o (sure_so old.places old.seen old.ahead)
-    (subst (λ (s : State). Moves s (Go p) told (with_places new old.places old.seen old.ahead)) (back at old e) did.0) in
+    let o : Outcome = record { reply = r; state = with_heap (with_places after old.places old.seen old.ahead old.room) old.heap } in
+    let is = sure_goes (with_heap (with_places at old.places old.seen old.ahead old.room) old.heap) p told (with_places new old.places old.seen old.ahead old.room) o (sure_so old.places old.seen old.ahead old.room old.heap)
+    (subst (λ (s : State). Moves s (Go p) told (with_places new old.places old.seen old.ahead old.room)) (back at old e) did.0) in
     (is.0, ap core is.1)
 
 -- WHAT A CALL COMES TO

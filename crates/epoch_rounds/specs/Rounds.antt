@@ -1,7 +1,7 @@
 -- Rounds of one participant whom nobody disturbs, and that they call every job of the bags in the store.
 use Rattle.std.specs.Prelude.{◌≡◌, ◌≢◌, ℕ, zero, suc, ◌+◌, ◌/◌, ◌%◌, ◌^◌, ◌≤◌, min, true, List, [], ◌∷◌, ◌++◌, length, Some}
 use Rattle.epoch_machine.specs.declared.machine.Stage.TheVariants.{LoadScan}
-use Rattle.epoch_laws.specs.declared.step.Answer.TheVariants.{Guard, Unit as UnitAnswer}
+use Rattle.epoch_heap.specs.declared.access.Answer.TheVariants.{Guard, Unit as UnitAnswer}
 use Rattle.epoch_laws.specs.declared.step.Call.{Call}
 use Rattle.epoch_laws.specs.declared.step.Call.TheVariants.{Pin, Flush, Unpin}
 use Rattle.epoch_laws.specs.declared.step.Entry.{Entry}

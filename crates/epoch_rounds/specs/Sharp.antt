@@ -1,17 +1,17 @@
 -- A state that shows how long a bag has to wait: one epoch less, and a job would be called that somebody still blocks.
-use Rattle.std.specs.Prelude.{◌≡◌, ℕ, ◌+◌, List, [], ◌∷◌, ◌++◌, length, Some, slice_get}
+use Rattle.std.specs.Prelude.{◌≡◌, ℕ, ◌+◌, List, [], ◌∷◌, ◌++◌, length, map, Some, slice_get}
 use Rattle.epoch_machine.specs.declared.machine.Sizes.{Sizes}
 use Rattle.epoch_machine.specs.declared.machine.Stage.TheVariants.{Take}
-use Rattle.epoch_cells.specs.declared.fault.Fault.TheVariants.{BagsFull}
 use Rattle.epoch_laws.specs.declared.step.Call.{Call}
 use Rattle.epoch_laws.specs.declared.step.Call.TheVariants.{Pin, Unpin, Defer, Flush}
 use Rattle.epoch_laws.specs.declared.step.Entry.{Entry}
 use Rattle.epoch_laws.specs.declared.step.Reply.{Reply}
-use Rattle.epoch_laws.specs.declared.step.Reply.TheVariants.{Deferred, Refused}
+use Rattle.epoch_laws.specs.declared.step.Reply.TheVariants.{Deferred}
+use Rattle.epoch_laws.specs.declared.step.Step.{Step}
 use Rattle.epoch_laws.specs.declared.step.Step.TheVariants.{Register, Go}
 use Rattle.epoch_laws.specs.Calls.{goes_of, call_of, EndsAtLast}
 use Rattle.epoch_laws.specs.Grace.{StaysPinned}
-use Rattle.epoch_laws.specs.Run.{Bag, State, seat_of, Runs}
+use Rattle.epoch_laws.specs.Run.{Bag, State, seat_of, Runs, IsFresh}
 use Rattle.epoch_laws.specs.Tickets.{times}
 
 -- bags of 64 jobs, of which a collection takes 8, for two participants
@@ -77,5 +77,17 @@ pub record TakesSharpList (fresh : State) (log : List Entry) (new : State) : Typ
   pub six : Ends 1 Pin s5 r6 s6
   pub seven : Ends 1 (Defer (Some 0)) s6 r7 s7
   pub eight : Ends 1 (Flush (Some 0)) s7 r8 new
-  pub put : ¬ (EndsIn (Refused BagsFull) r8)
   pub whole : log ≡ ((((((((record { step = Register; reply = first } ∷ record { step = Register; reply = second } ∷ []) ++ call_of 0 Pin r1) ++ call_of 0 (Unpin (Some 0)) r2) ++ call_of 1 Pin r3) ++ call_of 1 (Unpin (Some 0)) r4) ++ call_of 0 Pin r5) ++ call_of 1 Pin r6) ++ call_of 1 (Defer (Some 0)) r7) ++ call_of 1 (Flush (Some 0)) r8
+
+-- A new world of two positions and one place, in epoch 0, goes by these steps to such a state; the log is that of its run.
+pub record LeadsToSharp (steps : List Step) : Type 0 where
+  pub fresh : State
+  pub new : State
+  pub log : List Entry
+  pub is_fresh : IsFresh fresh
+  pub sized : fresh.sizes ≡ pair_sizes
+  pub at_first : fresh.epoch ≡ 0
+  pub one_place : length fresh.places ≡ 1
+  pub listed : steps ≡ map (λ (entry : Entry). entry.step) log
+  pub run : Runs fresh log new
+  pub sharp : IsSharp fresh log new

@@ -3,4 +3,6 @@
 
 mod laws;
 
-pub use laws::{every_call_collects_few, quiet_rounds_call_all, sharp_list_is_sharp};
+pub use laws::{
+    every_call_collects_few, lone_calls_find_a_place, quiet_rounds_call_all, sharp_list_is_sharp,
+};

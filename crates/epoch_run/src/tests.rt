@@ -5,6 +5,8 @@ use epoch_bags::{Job, Work};
 use epoch_script::Ending;
 use std::alloc::{AllocError, Global};
 use std::fmt::Debug;
+use std::io;
+use std::io::{ErrorKind, Write};
 use std::process::Abort;
 use std::sync::atomic::{AtomicU64, Ordering};
 use std::sync::{Arc, Wait};
@@ -150,4 +152,131 @@ fn other_words_are_told_how_the_program_is_called(rt: HostRuntime) -> Result<(),
         expect_usage(&rt, rt.alloc(), line)?;
     }
     Ok(())
+}
+
+/// Keeps what is written to it. One write or flush is refused, behind so many others.
+#[derive(Drop)]
+struct Sink {
+    taken: Vec<u8>,
+    before: u64,
+    kind: ErrorKind,
+}
+
+impl Sink {
+    fn new(alloc: Global, before: u64, kind: ErrorKind) -> Sink {
+        Sink {
+            taken: Vec::new(alloc),
+            before,
+            kind,
+        }
+    }
+
+    fn pass(&mut self) -> io::Result<()> {
+        if self.before == 0 {
+            self.before = u64::MAX;
+            return Err(io::Error::from(self.kind));
+        }
+        self.before -= 1;
+        Ok(())
+    }
+}
+
+impl Write for Sink {
+    fn write(&mut self, buf: &[u8]) -> io::Result<usize> {
+        self.pass()?;
+        self.taken.extend_from_slice(buf)?;
+        Ok(buf.len())
+    }
+
+    fn flush(&mut self) -> io::Result<()> {
+        self.pass()
+    }
+}
+
+/// How a run of these words ends, where one write of its answers and of what it tells is refused.
+fn ending_where_refused<R: Threads + Wait + Sync>(
+    rt: &R,
+    alloc: Global,
+    line: &str,
+    (before, kind): (u64, ErrorKind),
+) -> Result<Ending, Fail> {
+    let words = words_of(alloc, line)?;
+    let called = Arc::new(alloc, AtomicU64::new(0))?;
+    let jobs = counting_jobs(alloc, jobs_asked(&words), &called)?;
+    let mut answers = Sink::new(alloc, before, kind);
+    let mut faults = Sink::new(alloc, before, kind);
+    let ending = perform(rt, alloc, &words, jobs, &called, &mut answers, &mut faults);
+    Ok(ending)
+}
+
+/// More writes than any run here has.
+const MANY: u64 = 100;
+
+/// Each write and flush is refused in turn, as long as there is a further one: the run ends so, and at last as it would
+/// have.
+fn expect_each_refused<R: Threads + Wait + Sync + Abort>(
+    rt: &R,
+    alloc: Global,
+    line: &str,
+    (kind, refused): (ErrorKind, Ending),
+    done: Ending,
+) -> Result<(), Fail> {
+    for before in 0..MANY {
+        let ending = ending_where_refused(rt, alloc, line, (before, kind))?;
+        if before > 1 && ending == done {
+            return Ok(());
+        }
+        want(rt, line, (before, ending), (before, refused));
+    }
+    Err(Fail::from("its writes have no end"))
+}
+
+#[test]
+fn a_refused_write_ends_a_run_of_words(rt: HostRuntime) -> Result<(), Fail> {
+    let refusals = [
+        (ErrorKind::BrokenPipe, Ending::StreamFailed),
+        (ErrorKind::OutOfMemory, Ending::NoMemory),
+    ];
+    for refusal in refusals {
+        let line = "threads 1 1";
+        expect_each_refused(&rt, rt.alloc(), line, refusal, Ending::Finished)?;
+        let line = "threads 1";
+        expect_each_refused(&rt, rt.alloc(), line, refusal, Ending::NotUnderstood)?;
+    }
+    Ok(())
+}
+
+/// What a run of these words gave, whose words and jobs are there. Its answers take no memory where they have room.
+fn outcome_with_room<R: Threads + Wait + Sync>(
+    rt: &R,
+    alloc: Global,
+    line: &str,
+) -> Result<Outcome, AllocError> {
+    let words = words_of(alloc, line)?;
+    let called = Arc::new(alloc, AtomicU64::new(0))?;
+    let jobs = counting_jobs(alloc, jobs_asked(&words), &called)?;
+    let mut answers = Vec::with_capacity(alloc, 100)?;
+    let mut faults = Vec::new(alloc);
+    let ending = perform(rt, alloc, &words, jobs, &called, &mut answers, &mut faults);
+    Ok(Outcome {
+        ending,
+        answers,
+        faults,
+    })
+}
+
+/// `rt try --test --fail-alloc N` refuses the Nth allocation of a test, and this one passes whichever that is. In a plain
+/// run none is refused.
+#[test]
+fn a_run_of_threads_to_which_memory_is_refused_prints_nothing(rt: HostRuntime) -> Result<(), Fail> {
+    let line = "threads 2 2";
+    if let Ok(outcome) = outcome_with_room(&rt, rt.alloc(), line) {
+        if outcome.ending == Ending::Finished {
+            return want_told(&rt, line, &outcome, (Ending::Finished, 0), "called 4\n", "");
+        }
+        want_told(&rt, line, &outcome, (Ending::Refused, 4), "", "")?;
+    }
+    // One allocation is refused at most, so a further run is done to its end.
+    let outcome = outcome_with_room(&rt, rt.alloc(), line)?;
+    want_told(&rt, line, &outcome, (Ending::Finished, 0), "called 4\n", "")
 }

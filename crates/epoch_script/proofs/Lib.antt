@@ -1,2 +1,4 @@
-pub mod FirstWords
+pub mod Cuts
+pub mod ReadNames
+pub mod ReadAccesses
 pub mod SameSizes

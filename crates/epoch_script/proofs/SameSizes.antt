@@ -1,6 +1,7 @@
 -- A text says at most one shape.
 use Rattle.std.proofs.Common.{◌≡◌, ℕ, List, Option, Some, None, MatchOption, subst}
-use Rattle.epoch_script.specs.Lines.{Behind, Leading, SpellsNumber, SpellsShape, SpellsSizes, SpellsLastSizes, others}
+use Rattle.epoch_script.specs.Words.{Behind, SpellsNumber, others}
+use Rattle.epoch_script.specs.Lines.{Leading, SpellsShape, SpellsSizes, SpellsLastSizes}
 use Rattle.epoch_laws.specs.Shapes.{IsValid}
 use Rattle.epoch_laws.specs.declared.shape.Shape.{Shape}
 
@@ -69,4 +70,4 @@ pub said_shape_is_valid : (line rest : List ℕ) (shape said : Shape) → others
 said_shape_is_valid line rest shape said cut read says =
     let P : Option (List ℕ) → Type 0 = λ o. Behind o (SpellsSizes said) in
     let sizes : SpellsSizes said rest = subst P cut says.0.1 in
-    subst IsValid (same_sizes said shape rest sizes read) says.2
+    subst IsValid (same_sizes said shape rest sizes read) says.1

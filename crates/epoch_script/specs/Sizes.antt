@@ -1,6 +1,6 @@
 -- What a command line says of how large a run of threads is.
 use Rattle.std.specs.Prelude.{◌≡◌, ℕ, ◌≤◌, List, codes}
-use Rattle.epoch_script.specs.Lines.{SpellsNumber}
+use Rattle.epoch_script.specs.Words.{SpellsNumber}
 use Rattle.epoch_script.specs.declared.size.Size.{Size}
 
 -- a number from 1 to 64, in decimal digits

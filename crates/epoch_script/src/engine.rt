@@ -77,9 +77,17 @@ pub fn run<R: BufRead, A: Write, F: Write>(
         Ok(()) => Ending::Finished,
         Err(ending) => ending,
     };
-    match tell(ending, faults) {
+    after_telling(ending, tell(ending, faults))
+}
+
+/// How a run ends that has come to this ending: so where it was told, and else as the error says.
+fn after_telling(ending: Ending, told: io::Result<()>) -> Ending
+    ensures ok { IsOk told → result ≡ ending }
+    ensures err { IfErr told (λ error. TellsOf (error_kind error) result) }
+{
+    match told {
         Ok(()) => ending,
-        Err(_) => Ending::StreamFailed,
+        Err(error) => Ending::from(error),
     }
 }
 

@@ -1,7 +1,9 @@
 //! From the text of a line to what it says.
-ghost use Rattle.std.specs.Prelude.{◌≡◌, ◌↔◌, ℕ, List, IsTrue, MatchOption};
-ghost use Rattle.epoch_script.specs.Lines.{LacksCells, Reads, ReadsPair, ReadsTriple, SpellsBoth, SpellsCall, SpellsCommand, SpellsGuard, SpellsNumber, SpellsShape, SpellsNumberBefore, SpellsSizes, SpellsLastSizes, SpellsSteps, first_word, others};
+ghost use Rattle.epoch_script.specs.Words.{Reads, ReadsPair, ReadsTriple};
+ghost use Rattle.epoch_script.specs.Lines.{SpellsBoth, SpellsCall, SpellsCommand, SpellsShape, SpellsSizes, SpellsLastSizes, SpellsSteps};
 
+use crate::accesses::{read_access, read_guarded};
+use crate::words::{cut, read_guard, read_number, read_number_before};
 use epoch_world::{Call, Shape, Step};
 
 /// The greatest number of steps that one line may ask for.
@@ -95,44 +97,17 @@ fn read_call(text: &str) -> Option<Call>
         ("pause", Some(rest)) => Some(Call::Pause(read_guard(rest)?)),
         ("resume", Some(rest)) => Some(Call::Resume(read_guard(rest)?)),
         ("defer", Some(rest)) => Some(Call::Defer(read_guard(rest)?)),
+        ("defer-destroy", Some(rest)) => {
+            let (guard, ptr) = read_guarded(rest)?;
+            Some(Call::DeferDestroy(guard, ptr))
+        }
         ("flush", Some(rest)) => Some(Call::Flush(read_guard(rest)?)),
         ("release", None) => Some(Call::Release),
-        _ => None,
+        _ => Some(Call::Access(read_access(text)?)),
     }
 }
 
-/// A guard: its number, or `-` for an unprotected one.
-fn read_guard(text: &str) -> Option<Option<u64>>
-    ensures { Reads SpellsGuard text.now result }
-{
-    if text == "-" {
-        return Some(None);
-    }
-    Some(Some(read_number(text)?))
-}
-
-/// The number that decimal digits write, and no other text; `None` also above `2^64 - 1`.
-pub fn read_number(text: &str) -> Option<u64>
-    ensures { Reads SpellsNumber text.now result }
-{
-    if text.starts_with('+') {
-        return None;
-    }
-    text.parse().ok()
-}
-
-/// The first word of a text, and what stands behind its space; `None` after the last word.
-fn cut(text: &str) -> (&str, Option<&str>)
-    ensures first { result.0.now ≡ first_word text.now }
-    ensures others { MatchOption result.1 (others text.now ≡ None) (λ rest. others text.now ≡ Some rest.now) }
-{
-    match text.split_once(' ') {
-        Some((first, others)) => (first, Some(others)),
-        None => (text, None),
-    }
-}
-
-/// The shape that a line says, or `None` where it is none, or none of a world without cells.
+/// The shape that a line says, or `None` where it is none.
 #[tactic(auto, using(crate::proofs::SameSizes::said_shape_is_valid))]
 pub fn read_shape(line: &str) -> Option<Shape>
     ensures { Reads SpellsShape line.now result }
@@ -141,19 +116,10 @@ pub fn read_shape(line: &str) -> Option<Shape>
         return None;
     };
     let shape = read_sizes(rest)?;
-    if !lacks_cells(&shape) {
-        return None;
-    }
     if !shape.is_valid() {
         return None;
     }
     Some(shape)
-}
-
-fn lacks_cells(shape: &Shape) -> bool
-    ensures { IsTrue result ↔ LacksCells shape.now }
-{
-    shape.cells == 0 && shape.roots == 0 && shape.fields == 0
 }
 
 /// Eight numbers, or ten.
@@ -195,12 +161,4 @@ fn read_last_sizes(text: &str) -> Option<(u64, u64, u64)>
             Some((start_turn, bag_jobs, read_number(rest)?))
         }
     }
-}
-
-/// The number that the first word writes, and what stands behind its space.
-fn read_number_before(text: &str) -> Option<(u64, &str)>
-    ensures { MatchOption result ((number : ℕ) (rest : List ℕ) → ¬ SpellsNumberBefore number rest text.now) (λ read. SpellsNumberBefore read.0 read.1.now text.now) }
-{
-    let (first, others) = cut(text);
-    Some((read_number(first)?, others?))
 }

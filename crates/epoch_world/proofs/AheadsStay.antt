@@ -1,11 +1,13 @@
 -- What is ahead of the collections stays where a participant registers or begins a call.
-use Rattle.std.proofs.Common.{◌≡◌, ℕ, zero, suc, ◌==◌, if◌then◌else◌, Bool, true, false, List, [], ◌∷◌, length, Some, None, refl, ap, slice_index_or, slice_set}
+use Rattle.std.proofs.Common.{◌≡◌, ℕ, zero, suc, ◌==◌, if◌then◌else◌, Bool, true, false, List, [], ◌∷◌, length, Some, refl, ap, slice_index_or, slice_set}
 use Rattle.epoch_machine.specs.declared.machine.Stage.{Stage}
-use Rattle.epoch_machine.specs.declared.machine.Stage.TheVariants.{LoadPin, LoadRepin, LoadSeal, LoadScan, StoreUnpinned, Keep, End, Take, Calling}
+use Rattle.epoch_machine.specs.declared.machine.Stage.TheVariants.{LoadPin, LoadRepin, LoadSeal, LoadScan, StoreUnpinned, Keep, End, Take, Calling, Put}
 use Rattle.epoch_machine.specs.Machine.{is_empty, is_taking}
 use Rattle.epoch_laws.specs.declared.step.Call.{Call}
-use Rattle.epoch_laws.specs.declared.step.Call.TheVariants.{Pin, Unpin, Repin, Pause, Resume, Defer, Flush, Release}
-use Rattle.epoch_laws.specs.Collections.{collects, expiry_of}
+use Rattle.epoch_laws.specs.declared.step.Call.TheVariants.{Pin, Unpin, Repin, Pause, Resume, Defer, Flush, Release, DeferDestroy}
+use Rattle.epoch_laws.specs.Collections.{expiry_of}
+use Rattle.epoch_laws.specs.Kept.{rests}
+use Rattle.epoch_laws.specs.Room.{is_putting}
 use Rattle.epoch_laws.specs.Run.{Seat, begun_seat}
 use Rattle.epoch_world.specs.Worlds.{aheads}
 
@@ -21,15 +23,19 @@ same_aheads ahead (seat ∷ seats) (cursor ∷ cursors) zero after other same =
 same_aheads ahead (seat ∷ seats) (cursor ∷ cursors) (suc p) after other same =
     ap (λ (rest : List ℕ). ahead (expiry_of seat.machine.stage) cursor ∷ rest) (same_aheads ahead seats cursors p after other same)
 
--- who doesn't collect has no such epoch, and takes no bags
-pub none_for : (s : Stage) → collects s ≡ false → expiry_of s ≡ 0
-none_for (Take x k) off = absurd (cc (off))
-none_for (Calling x k) off = absurd (cc (off))
-none_for _ off = refl
+-- who rests has no such epoch, and neither takes nor puts a bag
+pub none_for : (s : Stage) → rests s ≡ true → expiry_of s ≡ 0
+none_for (Take x k) on = absurd (cc (on))
+none_for (Calling x k) on = absurd (cc (on))
+none_for _ on = refl
 
-pub not_taking : (s : Stage) → collects s ≡ false → is_taking s ≡ false
-not_taking (Take x k) off = absurd (cc (off))
-not_taking _ off = refl
+pub not_taking : (s : Stage) → rests s ≡ true → is_taking s ≡ false
+not_taking (Take x k) on = absurd (cc (on))
+not_taking _ on = refl
+
+pub not_putting : (s : Stage) → rests s ≡ true → is_putting s ≡ false
+not_putting (Put seal) on = absurd (cc (on))
+not_putting _ on = refl
 
 either : (t : Bool) (a b : Stage) → expiry_of a ≡ 0 → expiry_of b ≡ 0 → expiry_of (if t then a else b) ≡ 0
 either true a b one other = one
@@ -45,5 +51,5 @@ begun_for (Resume (Some g)) seat rests = either (seat.machine.guards == 0) LoadP
 begun_for (Defer (Some g)) seat rests = either (length seat.machine.held == seat.machine.sizes.bag_jobs) LoadSeal Keep refl refl
 begun_for (Flush (Some g)) seat rests = either (is_empty seat.machine.held) LoadScan LoadSeal refl refl
 begun_for Release seat rests = refl
-begun_for (Defer None) seat rests = rests
+begun_for (DeferDestroy (Some g) ptr) seat rests = either (length seat.machine.held == seat.machine.sizes.bag_jobs) LoadSeal Keep refl refl
 begun_for _ seat rests = rests

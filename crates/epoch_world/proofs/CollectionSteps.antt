@@ -18,7 +18,7 @@ use Rattle.epoch_laws.specs.declared.step.Word.{Word}
 use Rattle.epoch_laws.specs.declared.step.Word.TheVariants.{Free}
 use Rattle.epoch_laws.specs.Collections.{Reach, reach, collects, expiry_of, TakesAhead, Finds, OwnClaims, LeavesClaims, MayClaim}
 use Rattle.epoch_laws.specs.Run.{Bag, Seat, State, NoneTakes, is_driven, turn_at, turn_of, free_seat}
-use Rattle.epoch_world.specs.Worlds.{aheads, ClaimsKnown}
+use Rattle.epoch_world.specs.Worlds.{aheads, NobodyClaims, ClaimsKnown}
 use Rattle.epoch_laws.proofs.SeatLemmas.{same_or_other}
 use Rattle.epoch_laws.proofs.StoredBags.{one_less}
 
@@ -29,7 +29,7 @@ asks_taking : (s : Stage) (x : ℕ) → ask_at s ≡ Some (TakeBag x) → is_tak
 asks_taking (Take x k) y asked = refl
 asks_taking _ y asked = absurd (cc (asked))
 
-taking_asks : (s : Stage) → is_taking s ≡ true → (x : ℕ) × (ask_at s ≡ Some (TakeBag x))
+pub taking_asks : (s : Stage) → is_taking s ≡ true → (x : ℕ) × (ask_at s ≡ Some (TakeBag x))
 taking_asks (Take x k) taking = (x, refl)
 taking_asks _ taking = absurd (cc (taking))
 
@@ -179,7 +179,7 @@ module _ (seats : List Seat) (sizes : Sizes) (p : ℕ) (seat after : Seat) (ask 
 
 -- FROM ONE PARTICIPANT TO ALL
 
-not_both : (t : Bool) → t ≡ true → t ≡ false → ⊥
+pub not_both : (t : Bool) → t ≡ true → t ≡ false → ⊥
 not_both t holds fails = cc (holds, fails)
 
 same_some : {A : Type 0} {a b : A} → Some a ≡ Some b → a ≡ b
@@ -209,11 +209,47 @@ finds_under A B more (Some (LoadWord k)) n old new finds = λ b. finds (more b)
 finds_under A B more (Some (StoreEpoch e)) n old new finds = λ b. finds (more b)
 finds_under A B more _ n old new finds = finds
 
+-- who claims a place, at such a stage
+module _ {C : Type 0} (at : Stage → Bool) (Claims : C → ℕ → Type 0) (sizes : Sizes) (place : ℕ) where
+  abbrev Nobody : List Seat → List C → Type 0
+  Nobody seats cursors = NobodyClaims at Claims sizes seats cursors place
+
+  abbrev At : List Seat → ℕ → Bool
+  At seats q = at (slice_index_or seats q (free_seat sizes)).machine.stage
+
+  pub nobody_there : (seats : List Seat) (cursors : List C) → ((q : ℕ) → At seats q ≡ false) → Nobody seats cursors
+  nobody_there seats cursors off q cursor found own = not_both _ own.0 (off q)
+
+  -- nobody did before a step of p, if not p itself, where nobody does after it
+  pub nobody_before : (old new : List Seat) (cursors : List C) (p : ℕ) (was is : C) → p < length cursors
+      → ((q : ℕ) → q ≢ p → slice_index_or new q (free_seat sizes) ≡ slice_index_or old q (free_seat sizes))
+      → ¬ ((At old p ≡ true) × Claims was place) → Nobody new (slice_set cursors p is) → Nobody old (slice_set cursors p was)
+  nobody_before old new cursors p was is there others not_own none q cursor found = by_position (same_or_other q p)
+    where
+      by_position : (q ≡ p) ⊎ (q ≢ p) → ¬ ((At old q ≡ true) × Claims cursor place)
+      by_position (inl same) =
+          let its : was ≡ cursor = same_some (sym (get_set_same cursors p was there) ∙ ap (slice_get (slice_set cursors p was)) (sym same) ∙ found) in
+          subst (λ (k : ℕ). ¬ ((At old k ≡ true) × Claims cursor place)) (sym same)
+          (subst (λ (c : C). ¬ ((At old p ≡ true) × Claims c place)) its not_own)
+      by_position (inr other) = λ own.
+          none q cursor (get_set_other cursors p q is other ∙ sym (get_set_other cursors p q was other) ∙ found)
+          (subst (λ (seat : Seat). (at seat.machine.stage ≡ true) × Claims cursor place) (sym (others q other)) own)
+
+  -- the seat of p is written, which wasn't at such a stage
+  pub nobody_quiet : (old new : List Seat) (cursors : List C) (p : ℕ) → At old p ≡ false
+      → ((q : ℕ) → q ≢ p → slice_index_or new q (free_seat sizes) ≡ slice_index_or old q (free_seat sizes))
+      → Nobody new cursors → Nobody old cursors
+  nobody_quiet old new cursors p off others none q cursor found = by_position (same_or_other q p)
+    where
+      by_position : (q ≡ p) ⊎ (q ≢ p) → ¬ ((At old q ≡ true) × Claims cursor place)
+      by_position (inl same) = λ own. not_both _ own.0 (ap (At old) same ∙ off)
+      by_position (inr other) = λ own. none q cursor found (subst (λ (seat : Seat). (at seat.machine.stage ≡ true) × Claims cursor place) (sym (others q other)) own)
+
 module _ {C : Type 0} (Claims : C → ℕ → Type 0) (sizes : Sizes) where
   -- where nobody is taking bags, none is claimed
   pub none_claimed : (Claimed : ℕ → Type 0) (s : State) (cursors : List C) → s.sizes ≡ sizes → ClaimsKnown Claimed Claims sizes s.seats cursors → NoneTakes s → (place : ℕ) → ¬ (Claimed place)
   none_claimed Claimed s cursors same known none place =
-      known place (λ q cursor there own. not_both _ own.0 (ap (λ (z : Sizes). is_taking (slice_index_or s.seats q (free_seat z)).machine.stage) (sym same) ∙ none q))
+      known place (nobody_there is_taking Claims sizes place s.seats cursors (λ q. ap (λ (z : Sizes). is_taking (slice_index_or s.seats q (free_seat z)).machine.stage) (sym same) ∙ none q))
 
   -- one participant's step
   pub claims_known : (Claimed Claimed' : ℕ → Type 0) (old new : List Seat) (cursors : List C) (p : ℕ) (was is : C) → p < length cursors
@@ -222,27 +258,14 @@ module _ {C : Type 0} (Claims : C → ℕ → Type 0) (sizes : Sizes) where
       → ClaimsKnown Claimed Claims sizes old (slice_set cursors p was) → ClaimsKnown Claimed' Claims sizes new (slice_set cursors p is)
   claims_known Claimed Claimed' old new cursors p was is there others leaves known place none claimed =
       let before = leaves place (none p is (get_set_same cursors p is there)) claimed in
-      known place (λ q cursor at. by_position q cursor at (same_or_other q p) before.1) before.0
-    where
-      by_position : (q : ℕ) (cursor : C) → slice_get (slice_set cursors p was) q ≡ Some cursor → (q ≡ p) ⊎ (q ≢ p) → ¬ (OwnClaims (slice_index_or old p (free_seat sizes)).machine.stage (Claims was) place)
-          → ¬ (OwnClaims (slice_index_or old q (free_seat sizes)).machine.stage (Claims cursor) place)
-      by_position q cursor at (inl same) not_own =
-          let its : was ≡ cursor = same_some (sym (get_set_same cursors p was there) ∙ ap (slice_get (slice_set cursors p was)) (sym same) ∙ at) in
-          subst (λ (k : ℕ). ¬ (OwnClaims (slice_index_or old k (free_seat sizes)).machine.stage (Claims cursor) place)) (sym same)
-          (subst (λ (c : C). ¬ (OwnClaims (slice_index_or old p (free_seat sizes)).machine.stage (Claims c) place)) its not_own)
-      by_position q cursor at (inr other) not_own = λ own.
-          none q cursor (get_set_other cursors p q is other ∙ sym (get_set_other cursors p q was other) ∙ at)
-          (subst (λ (seat : Seat). OwnClaims seat.machine.stage (Claims cursor) place) (sym (others q other)) own)
+      known place (nobody_before is_taking Claims sizes place old new cursors p was is there others before.1 none) before.0
 
   -- a seat that isn't taking bags is written
   pub claims_quiet : (Claimed : ℕ → Type 0) (old new : List Seat) (cursors : List C) (p : ℕ) → is_taking (slice_index_or old p (free_seat sizes)).machine.stage ≡ false
       → ((q : ℕ) → q ≢ p → slice_index_or new q (free_seat sizes) ≡ slice_index_or old q (free_seat sizes))
       → ClaimsKnown Claimed Claims sizes old cursors → ClaimsKnown Claimed Claims sizes new cursors
-  claims_quiet Claimed old new cursors p off others known place none claimed = known place (λ q cursor at. by_position q cursor at (same_or_other q p)) claimed
-    where
-      by_position : (q : ℕ) (cursor : C) → slice_get cursors q ≡ Some cursor → (q ≡ p) ⊎ (q ≢ p) → ¬ (OwnClaims (slice_index_or old q (free_seat sizes)).machine.stage (Claims cursor) place)
-      by_position q cursor at (inl same) = λ own. not_both _ own.0 (ap (λ (k : ℕ). is_taking (slice_index_or old k (free_seat sizes)).machine.stage) same ∙ off)
-      by_position q cursor at (inr other) = λ own. none q cursor at (subst (λ (seat : Seat). OwnClaims seat.machine.stage (Claims cursor) place) (sym (others q other)) own)
+  claims_quiet Claimed old new cursors p off others known place none claimed =
+      known place (nobody_quiet is_taking Claims sizes place old new cursors p off others none) claimed
 
   -- no further bag is claimed
   pub claims_less : (Claimed Claimed' : ℕ → Type 0) (seats : List Seat) (cursors : List C) → ((place : ℕ) → Claimed' place → Claimed place)

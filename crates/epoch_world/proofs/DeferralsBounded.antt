@@ -13,30 +13,31 @@ use Rattle.epoch_machine.specs.declared.machine.Stage.TheVariants.{Idle, LoadPin
 use Rattle.epoch_machine.specs.declared.machine.Answer.TheVariants.{Job, Stored}
 use Rattle.epoch_machine.specs.Machine.{Machine, ask_at, hears, put_heard, took_heard, gives, with_stage, first_stage, ended}
 use Rattle.epoch_laws.specs.declared.step.Call.{Call}
-use Rattle.epoch_laws.specs.declared.step.Call.TheVariants.{Pin as PinCall, Unpin as UnpinCall, Repin as RepinCall, Pause, Resume, Defer as DeferCall, Flush as FlushCall, Release as ReleaseCall}
+use Rattle.epoch_laws.specs.declared.step.Call.TheVariants.{Pin as PinCall, Unpin as UnpinCall, Repin as RepinCall, Pause, Resume, Defer as DeferCall, Flush as FlushCall, Release as ReleaseCall, DeferDestroy, Access as AccessCall}
 use Rattle.epoch_laws.specs.declared.step.Reply.{Reply}
 use Rattle.epoch_laws.specs.declared.step.Deferral.{Deferral}
 use Rattle.epoch_laws.specs.declared.step.Word.{Word}
 use Rattle.epoch_laws.specs.declared.step.Word.TheVariants.{Free, Unpinned, Pinned}
 use Rattle.epoch_laws.specs.declared.step.Progress.{Progress}
-use Rattle.epoch_laws.specs.declared.step.Progress.TheVariants.{Idle as IdleProgress, Driven, CallsNow, Ends}
+use Rattle.epoch_laws.specs.declared.step.Progress.TheVariants.{Idle as IdleProgress, Driven, CallsNow, Ends, Accesses}
 use Rattle.epoch_laws.specs.Run.{Bag, Seat, State, seat_of, word_of, number_of, with_seat, with_machine, with_word, free_seat, drives, begun_seat, ended_seat, call_refusal, Drives, Goes}
 use Rattle.epoch_laws.proofs.SeatLemmas.{seat_written, seat_other, seat_there, same_or_other}
 use Rattle.epoch_laws.proofs.TicketsTallied.{acted}
-use Rattle.epoch_world.proofs.PendingDeferrals.{Bounded, is_busy, pending_at, pending, KeepsAt, Keeps, pending_one, none_pending, sum_most, keeps_collected, keeps_pinned, keeps_put, keeps_unpinned, keeps_called, keeps_past, keeps_first, keeps_by, room_given, busy_takes}
+use Rattle.epoch_world.proofs.PendingDeferrals.{Bounded, is_busy, pending_at, pending, KeepsAt, Keeps, pending_one, none_pending, sum_most, keeps_collected, keeps_pinned, keeps_put, keeps_unpinned, keeps_called, keeps_past, keeps_first, keeps_by, room_given, busy_takes, removal_room_given}
+use Rattle.epoch_heap.specs.Heap.{Heap}
 
 module _ (old new : State) (h : Bounded old) where
   pub same : new ≡ old → Bounded new
   same did = subst Bounded (sym did) h
 
   -- one participant goes on, and no more tickets may be taken than before, or the limit is far
-  acts : (p : ℕ) (seat : Seat) (epoch : ℕ) (queued : List Bag) (tickets : ℕ)
+  acts_beside : (p : ℕ) (seat : Seat) (epoch : ℕ) (queued : List Bag) (tickets : ℕ) (heap : Heap)
       → p < length old.seats
       → Keeps seat
       → (tickets + pending seat ≤ old.tickets + pending (seat_of old p)) ⊎ (tickets < 2 ^ 64 - 4097)
-      → new ≡ acted old p seat epoch queued tickets
+      → new ≡ record (acted old p seat epoch queued tickets) { heap = heap }
       → Bounded new
-  acts p seat epoch queued tickets there keeps fits did = subst Bounded (sym did) (record {
+  acts_beside p seat epoch queued tickets heap there keeps fits did = subst Bounded (sym did) (record {
     tickets = bound fits;
     keeps = λ q. elim (same_or_other q p) [
       | inl same ↦ subst Keeps (sym (ap (seat_of after) same ∙ seat_written old p seat there)) keeps
@@ -59,6 +60,15 @@ module _ (old new : State) (h : Bounded old) where
         arith,
         sum_most pending after.seats (λ (s : Seat). pending_one s.machine.action s.machine.stage),
       )
+
+  -- cells and pointers stay
+  acts : (p : ℕ) (seat : Seat) (epoch : ℕ) (queued : List Bag) (tickets : ℕ)
+      → p < length old.seats
+      → Keeps seat
+      → (tickets + pending seat ≤ old.tickets + pending (seat_of old p)) ⊎ (tickets < 2 ^ 64 - 4097)
+      → new ≡ acted old p seat epoch queued tickets
+      → Bounded new
+  acts p seat epoch queued tickets = acts_beside p seat epoch queued tickets old.heap
 
   pub registers : (p : ℕ)
       → p < length old.seats
@@ -84,8 +94,18 @@ module _ (old new : State) (h : Bounded old) where
     waits after epoch queued keeps fewer did =
         acts p after epoch queued old.tickets (seat_there old p taken) keeps (inl (omega (arith, fewer))) did
 
+    -- nor is one where cells and pointers change
+    waits_beside : (after : Seat) (heap : Heap)
+        → Keeps after
+        → pending after ≤ pending seat
+        → new ≡ record (with_seat old p after) { heap = heap }
+        → Bounded new
+    waits_beside after heap keeps fewer did =
+        acts_beside p after old.epoch old.queued old.tickets heap (seat_there old p taken) keeps
+        (inl (omega (arith, fewer))) did
+
     pub begins : (c : Call)
-        → call_refusal c seat old.tickets ≡ None
+        → call_refusal c seat old.tickets old.heap ≡ None
         → new ≡ with_seat old p (begun_seat c seat)
         → Bounded new
     begins c given did = by_call c given did
@@ -102,7 +122,7 @@ module _ (old new : State) (h : Bounded old) where
             waits (record seat { progress = progress }) old.epoch old.queued (h.keeps p) (omega arith) did
 
         by_call : (c : Call)
-            → call_refusal c seat old.tickets ≡ None
+            → call_refusal c seat old.tickets old.heap ≡ None
             → new ≡ with_seat old p (begun_seat c seat)
             → Bounded new
         by_call PinCall given did = driven Pin PinCall refl did
@@ -113,10 +133,16 @@ module _ (old new : State) (h : Bounded old) where
         by_call (DeferCall (Some g)) given did =
             let after : Seat = drives Defer (DeferCall (Some g)) seat in
             acts p after old.epoch old.queued old.tickets (seat_there old p taken)
-            (keeps_first Defer m) (inr (room_given g seat old.tickets given)) did
+            (keeps_first Defer m) (inr (room_given g seat old.tickets old.heap given)) did
         by_call (FlushCall (Some g)) given did = driven Flush (FlushCall (Some g)) refl did
         by_call ReleaseCall given did = driven Release ReleaseCall refl did
+        by_call (DeferDestroy (Some g) ptr) given did =
+            let after : Seat = drives Defer (DeferDestroy (Some g) ptr) seat in
+            acts p after old.epoch old.queued old.tickets (seat_there old p taken)
+            (keeps_first Defer m) (inr (removal_room_given g ptr seat old.tickets old.heap given)) did
         by_call (DeferCall None) given did = stays _ did
+        by_call (DeferDestroy None ptr) given did = stays _ did
+        by_call (AccessCall a) given did = stays _ did
         by_call _ given did = stays _ did
 
     ends : (c : Call) → new ≡ with_seat old p (ended_seat c seat) → Bounded new
@@ -201,8 +227,9 @@ module _ (old new : State) (h : Bounded old) where
     goes_at c (Take y k) reply keeps at (step, jobs, queued, is, took, did) =
         takes (Take y k) at refl y k step jobs queued did
     goes_at c (Calling y k) reply keeps at (job, jobs, in_hand, is, did) =
-        goes_on (Calling y k) at refl seat.word (gives m (Calling y k) jobs) old.epoch old.queued refl
-        (keeps_called m.action m y k jobs) did
+        let n : Machine Deferral = gives m (Calling y k) jobs in
+        waits_beside (with_machine seat n) _ (keeps_called m.action m y k jobs)
+        (busy_takes m.action n.action m.stage n.stage (Calling y k) refl at refl) did
     goes_at c LoadSeal reply keeps at did = staged LoadSeal at refl _ tt did.1
     goes_at c (Put seal) reply keeps at (step, queued, is, put, did) = puts (Put seal) at refl step queued did
     goes_at c Keep reply keeps at did = gives_ticket _ keeps at did.1
@@ -220,5 +247,6 @@ module _ (old new : State) (h : Bounded old) where
     pub goes : (progress : Progress) (reply : Reply) → Goes old p seat progress reply new → Bounded new
     goes IdleProgress reply did = same did.1
     goes (Driven c) reply did = goes_at c m.stage reply (h.keeps p) refl did
-    goes CallsNow reply did = waits _ old.epoch old.queued (h.keeps p) (omega arith) did.1
+    goes (CallsNow removes) reply did = waits_beside _ _ (h.keeps p) (omega arith) did.1
+    goes (Accesses a k found) reply (did, touches, told, e) = waits_beside _ _ (h.keeps p) (omega arith) e
     goes (Ends r) reply did = waits _ old.epoch old.queued (h.keeps p) (omega arith) did.1

@@ -1,41 +1,40 @@
--- A free position doesn't collect.
-use Rattle.std.proofs.Common.{◌≡◌, ◌≢◌, ℕ, ◌<◌, false, [], ◌∷◌, length, Option, Some, None, ◌⊎◌, inl, inr, refl, ap, sym, subst, ◌∙◌}
+-- Nobody is at work at a free position.
+use Rattle.std.proofs.Common.{◌≡◌, ◌≢◌, ℕ, ◌<◌, true, [], ◌∷◌, length, Option, Some, None, ◌⊎◌, inl, inr, refl, ap, sym, subst, ◌∙◌}
 use Rattle.epoch_cells.specs.declared.fault.Fault.{Fault}
 use Rattle.epoch_machine.specs.declared.machine.Ask.{Ask}
 use Rattle.epoch_machine.specs.declared.machine.Ask.TheVariants.{StorePinned, StoreRepinned, StoreUnpinned, StoreFree, PutBag, TakeBag, CallJob}
 use Rattle.epoch_machine.specs.Machine.{ask_at}
 use Rattle.epoch_laws.specs.declared.step.Call.{Call}
-use Rattle.epoch_laws.specs.declared.step.Call.TheVariants.{Pin, Unpin, Repin, Pause, Resume, Defer, Flush, Release}
+use Rattle.epoch_laws.specs.declared.step.Call.TheVariants.{Pin, Unpin, Repin, Pause, Resume, Defer, Flush, Release, DeferDestroy, Access as AccessCall}
 use Rattle.epoch_laws.specs.declared.step.Progress.{Progress}
-use Rattle.epoch_laws.specs.declared.step.Progress.TheVariants.{Idle, Driven, CallsNow, Ends}
+use Rattle.epoch_laws.specs.declared.step.Progress.TheVariants.{Idle, Driven, CallsNow, Accesses, Ends}
 use Rattle.epoch_laws.specs.declared.step.Reply.{Reply}
 use Rattle.epoch_laws.specs.declared.step.Step.{Step}
 use Rattle.epoch_laws.specs.declared.step.Step.TheVariants.{Register, Begin, Go, End as EndStep, EndGo}
 use Rattle.epoch_laws.specs.declared.step.Word.TheVariants.{Free, Unpinned}
-use Rattle.epoch_laws.specs.Collections.{collects}
-use Rattle.epoch_laws.specs.Kept.{FreeRests}
+use Rattle.epoch_laws.specs.Kept.{FreeRests, rests}
 use Rattle.epoch_laws.specs.Run.{Seat, State, Ending, Open, Emptying, Over, seat_of, word_of, with_seat, free_seat, begun_seat, ended_seat, refusal, Begins, Performs, Drives, Goes, EndGoes, Moves, IsFresh}
 use Rattle.epoch_laws.proofs.SeatLemmas.{seat_written, seat_other, seat_there, same_or_other, begin_given}
 
 module _ (old new : State) (h : FreeRests old) where
   -- no seat is written
   along : (last : State) → new ≡ last → ((q : ℕ) → seat_of last q ≡ seat_of old q) → FreeRests new
-  along last e same = subst FreeRests (sym e) (λ q free. ap (λ (seat : Seat). collects seat.machine.stage) (same q) ∙ h q (ap (λ (seat : Seat). seat.word) (sym (same q)) ∙ free))
+  along last e same = subst FreeRests (sym e) (λ q free. ap (λ (seat : Seat). rests seat.machine.stage) (same q) ∙ h q (ap (λ (seat : Seat). seat.word) (sym (same q)) ∙ free))
 
   module _ (p : ℕ) (reply : Reply) (taken : word_of old p ≢ Free) where
     abbrev seat : Seat
     seat = seat_of old p
 
-    written : (after : Seat) → (after.word ≡ Free → collects after.machine.stage ≡ false) → (last : State) → new ≡ last → ((q : ℕ) → seat_of last q ≡ seat_of (with_seat old p after) q) → FreeRests new
+    written : (after : Seat) → (after.word ≡ Free → rests after.machine.stage ≡ true) → (last : State) → new ≡ last → ((q : ℕ) → seat_of last q ≡ seat_of (with_seat old p after) q) → FreeRests new
     written after own last e wrote = subst FreeRests (sym e) (λ q free. by_position q free (same_or_other q p))
       where
-        by_position : (q : ℕ) → word_of last q ≡ Free → (q ≡ p) ⊎ (q ≢ p) → collects (seat_of last q).machine.stage ≡ false
+        by_position : (q : ℕ) → word_of last q ≡ Free → (q ≡ p) ⊎ (q ≢ p) → rests (seat_of last q).machine.stage ≡ true
         by_position q free (inl same) =
             let here : seat_of last q ≡ after = wrote q ∙ ap (λ (k : ℕ). seat_of (with_seat old p after) k) same ∙ seat_written old p after (seat_there old p taken) in
-            ap (λ (s : Seat). collects s.machine.stage) here ∙ own (ap (λ (s : Seat). s.word) (sym here) ∙ free)
+            ap (λ (s : Seat). rests s.machine.stage) here ∙ own (ap (λ (s : Seat). s.word) (sym here) ∙ free)
         by_position q free (inr other) =
             let there : seat_of last q ≡ seat_of old q = wrote q ∙ seat_other old p q after other in
-            ap (λ (s : Seat). collects s.machine.stage) there ∙ h q (ap (λ (s : Seat). s.word) (sym there) ∙ free)
+            ap (λ (s : Seat). rests s.machine.stage) there ∙ h q (ap (λ (s : Seat). s.word) (sym there) ∙ free)
 
     -- its word stays
     stays : (after : Seat) → after.word ≡ seat.word → (last : State) → new ≡ last → ((q : ℕ) → seat_of last q ≡ seat_of (with_seat old p after) q) → FreeRests new
@@ -65,7 +64,8 @@ module _ (old new : State) (h : FreeRests old) where
     goes : (progress : Progress) → Goes old p seat progress reply new → FreeRests new
     goes Idle did = along old did.1 (λ q. refl)
     goes (Driven c) did = drives c (ask_at seat.machine.stage) did
-    goes CallsNow did = stays _ refl _ did.1 (λ q. refl)
+    goes (CallsNow removes) did = stays _ refl _ did.1 (λ q. refl)
+    goes (Accesses a k found) did = stays _ refl _ did.3 (λ q. refl)
     goes (Ends r) did = stays _ refl _ did.1 (λ q. refl)
 
     begun_word : (c : Call) → (begun_seat c seat).word ≡ seat.word
@@ -78,23 +78,26 @@ module _ (old new : State) (h : FreeRests old) where
     begun_word (Flush (Some g)) = refl
     begun_word Release = refl
     begun_word (Defer None) = refl
+    begun_word (DeferDestroy (Some g) ptr) = refl
+    begun_word (DeferDestroy None ptr) = refl
+    begun_word (AccessCall a) = refl
     begun_word _ = refl
 
   registers : (p : ℕ) → p < length old.seats → new ≡ with_seat old p (record (free_seat old.sizes) { word = Unpinned }) → FreeRests new
   registers p there e = subst FreeRests (sym e) (λ q free. by_position q free (same_or_other q p))
     where
       by_position : (q : ℕ) → word_of (with_seat old p (record (free_seat old.sizes) { word = Unpinned })) q ≡ Free → (q ≡ p) ⊎ (q ≢ p)
-          → collects (seat_of (with_seat old p (record (free_seat old.sizes) { word = Unpinned })) q).machine.stage ≡ false
-      by_position q free (inl same) = ap (λ (k : ℕ). collects (seat_of (with_seat old p (record (free_seat old.sizes) { word = Unpinned })) k).machine.stage) same
-          ∙ ap (λ (s : Seat). collects s.machine.stage) (seat_written old p (record (free_seat old.sizes) { word = Unpinned }) there)
+          → rests (seat_of (with_seat old p (record (free_seat old.sizes) { word = Unpinned })) q).machine.stage ≡ true
+      by_position q free (inl same) = ap (λ (k : ℕ). rests (seat_of (with_seat old p (record (free_seat old.sizes) { word = Unpinned })) k).machine.stage) same
+          ∙ ap (λ (s : Seat). rests s.machine.stage) (seat_written old p (record (free_seat old.sizes) { word = Unpinned }) there)
       by_position q free (inr other) =
           let at = seat_other old p q (record (free_seat old.sizes) { word = Unpinned }) other in
-          ap (λ (s : Seat). collects s.machine.stage) at ∙ h q (ap (λ (s : Seat). s.word) (sym at) ∙ free)
+          ap (λ (s : Seat). rests s.machine.stage) at ∙ h q (ap (λ (s : Seat). s.word) (sym at) ∙ free)
 
-  begins : (p : ℕ) (c : Call) (o : Option Fault) (reply : Reply) → refusal c (seat_of old p) old.tickets ≡ o → Begins old p c o reply new → FreeRests new
+  begins : (p : ℕ) (c : Call) (o : Option Fault) (reply : Reply) → refusal c (seat_of old p) old.tickets old.heap ≡ o → Begins old p c o reply new → FreeRests new
   begins p c (Some f) reply at did = along old did.1 (λ q. refl)
   begins p c None reply at did =
-      let given = begin_given c (seat_of old p) old.tickets at in
+      let given = begin_given c (seat_of old p) old.tickets old.heap at in
       stays p reply given.taken (begun_seat c (seat_of old p)) (begun_word p reply given.taken c) _ did.1 (λ q. refl)
 
   ends : (ending : Ending) (reply : Reply) → EndGoes old ending reply new → FreeRests new
@@ -108,7 +111,7 @@ module _ (old new : State) (h : FreeRests old) where
   moves_free Register reply (inl did) = registers did.0 did.2 did.6
   moves_free Register reply (inr (inl did)) = along old did.3 (λ q. refl)
   moves_free Register reply (inr (inr did)) = along old did.2 (λ q. refl)
-  moves_free (Begin p c) reply did = begins p c (refusal c (seat_of old p) old.tickets) reply refl did
+  moves_free (Begin p c) reply did = begins p c (refusal c (seat_of old p) old.tickets old.heap) reply refl did
   moves_free (Go p) reply (inl did) = along old did.2 (λ q. refl)
   moves_free (Go p) reply (inr did) = goes p reply did.0 (seat_of old p).progress did.1
   moves_free EndStep reply (inl did) = along _ did.3 (λ q. refl)
@@ -117,4 +120,4 @@ module _ (old new : State) (h : FreeRests old) where
   moves_free EndGo reply did = ends old.ending reply did
 
 pub fresh_free : (s : State) → IsFresh s → FreeRests s
-fresh_free s fresh p free = ap (λ (seat : Seat). collects seat.machine.stage) (fresh.free p)
+fresh_free s fresh p free = ap (λ (seat : Seat). rests seat.machine.stage) (fresh.free p)

@@ -10,7 +10,7 @@ use Rattle.epoch_machine.specs.declared.machine.Sizes.{Sizes}
 use Rattle.epoch_machine.specs.declared.machine.Stage.{Stage}
 use Rattle.epoch_machine.specs.Machine.{Machine, ask_at}
 use Rattle.epoch_laws.specs.declared.step.Call.{Call}
-use Rattle.epoch_laws.specs.declared.step.Call.TheVariants.{Pin, Unpin, Repin, Pause, Resume, Defer, Flush, Release}
+use Rattle.epoch_laws.specs.declared.step.Call.TheVariants.{Pin, Unpin, Repin, Pause, Resume, Defer, Flush, Release, DeferDestroy, Access as AccessCall}
 use Rattle.epoch_laws.specs.declared.step.Step.{Step}
 use Rattle.epoch_laws.specs.declared.step.Step.TheVariants.{Register, Begin, Go, End as EndStep, EndGo}
 use Rattle.epoch_laws.specs.declared.step.Reply.{Reply}
@@ -18,11 +18,17 @@ use Rattle.epoch_laws.specs.declared.step.Deferral.{Deferral}
 use Rattle.epoch_laws.specs.declared.step.Word.{Word}
 use Rattle.epoch_laws.specs.declared.step.Word.TheVariants.{Unpinned}
 use Rattle.epoch_laws.specs.declared.step.Progress.{Progress}
-use Rattle.epoch_laws.specs.declared.step.Progress.TheVariants.{Idle, Driven, CallsNow, Ends}
-use Rattle.epoch_laws.specs.Run.{Seat, State, Ending, Open, Emptying, Over, seat_of, with_seat, with_word, free_seat, lowest, waits, resume_refusal, call_refusal, refusal, begun_seat, Begins, ended_seat, Performs, Drives, Goes, EndGoes, Moves, IsFresh}
+use Rattle.epoch_laws.specs.declared.step.Progress.TheVariants.{Idle, Driven, CallsNow, Ends, Accesses}
+use Rattle.epoch_laws.specs.Run.{Seat, State, Ending, Open, Emptying, Over, seat_of, with_seat, with_word, free_seat, lowest, waits, resume_refusal, call_refusal, refusal, begun_seat, Begins, ended_seat, Performs, Drives, Goes, EndGoes, Moves, IsFresh, accessed_seat}
 use Rattle.epoch_laws.specs.Kept.{IsDriven, AllLinked, paused_count, Awake, HasRoom, AllRoomy}
 use Rattle.epoch_laws.proofs.SeatLemmas.{seat_written, seat_other, seat_there, same_or_other, IsAccepted, begin_given}
 use Rattle.epoch_laws.proofs.Linked.{length_without, follows_at}
+use Rattle.epoch_heap.specs.declared.access.Access.{Access}
+use Rattle.epoch_heap.specs.declared.access.Accessed.{Accessed}
+use Rattle.epoch_heap.specs.declared.access.Accessed.TheVariants.{Again, Answers, NoSlot}
+use Rattle.epoch_heap.specs.declared.access.Answer.TheVariants.{Absent}
+use Rattle.epoch_laws.specs.declared.step.Reply.TheVariants.{Done}
+use Rattle.epoch_heap.specs.Heap.{Heap, null, has_steps}
 
 none_waits : (paused : Option ℕ) (b : Bool) → waits Pin paused ≡ false → paused ≡ None
 none_waits None b h = refl
@@ -41,21 +47,28 @@ module _ (seat : Seat) (h : HasRoom seat) where
   at_progress : (progress : Progress) → Awake progress seat.paused → HasRoom (record seat { progress = progress })
   at_progress progress awake = record { few = h.few; awake = awake }
 
-  pub begun_room : (c : Call) (tickets : ℕ) → waits c seat.paused ≡ false → call_refusal c seat tickets ≡ None → HasRoom (begun_seat c seat)
-  begun_room Pin n awake given = record { few = h.few; awake = none_waits seat.paused true awake }
-  begun_room (Unpin None) n awake given = absurd (cc)
-  begun_room (Unpin (Some g)) n awake given = record { few = h.few; awake = none_waits seat.paused true awake }
-  begun_room (Repin None) n awake given = at_progress _ tt
-  begun_room (Repin (Some g)) n awake given = record { few = h.few; awake = none_waits seat.paused true awake }
-  begun_room (Pause None) n awake given = at_progress _ tt
-  begun_room (Pause (Some g)) n awake given = record { few = h.few; awake = none_waits seat.paused true awake }
-  begun_room (Resume None) n awake given = at_progress _ tt
-  begun_room (Resume (Some g)) n awake given = record { few = h.few; awake = resumed g seat.paused given }
-  begun_room (Defer None) n awake given = at_progress _ tt
-  begun_room (Defer (Some g)) n awake given = record { few = h.few; awake = none_waits seat.paused true awake }
-  begun_room (Flush None) n awake given = at_progress _ tt
-  begun_room (Flush (Some g)) n awake given = record { few = h.few; awake = none_waits seat.paused true awake }
-  begun_room Release n awake given = record { few = h.few; awake = none_waits seat.paused true awake }
+  accesses : (a : Access) (b : Bool) → HasRoom (record seat { progress = if b then Accesses a 0 null else Ends (Done Absent) })
+  accesses a true = at_progress _ tt
+  accesses a false = at_progress _ tt
+
+  pub begun_room : (c : Call) (tickets : ℕ) (heap : Heap) → waits c seat.paused ≡ false → call_refusal c seat tickets heap ≡ None → HasRoom (begun_seat c seat)
+  begun_room Pin n heap awake given = record { few = h.few; awake = none_waits seat.paused true awake }
+  begun_room (Unpin None) n heap awake given = absurd (cc)
+  begun_room (Unpin (Some g)) n heap awake given = record { few = h.few; awake = none_waits seat.paused true awake }
+  begun_room (Repin None) n heap awake given = at_progress _ tt
+  begun_room (Repin (Some g)) n heap awake given = record { few = h.few; awake = none_waits seat.paused true awake }
+  begun_room (Pause None) n heap awake given = at_progress _ tt
+  begun_room (Pause (Some g)) n heap awake given = record { few = h.few; awake = none_waits seat.paused true awake }
+  begun_room (Resume None) n heap awake given = at_progress _ tt
+  begun_room (Resume (Some g)) n heap awake given = record { few = h.few; awake = resumed g seat.paused given }
+  begun_room (Defer None) n heap awake given = at_progress _ tt
+  begun_room (Defer (Some g)) n heap awake given = record { few = h.few; awake = none_waits seat.paused true awake }
+  begun_room (Flush None) n heap awake given = at_progress _ tt
+  begun_room (Flush (Some g)) n heap awake given = record { few = h.few; awake = none_waits seat.paused true awake }
+  begun_room Release n heap awake given = record { few = h.few; awake = none_waits seat.paused true awake }
+  begun_room (DeferDestroy None ptr) n heap awake given = at_progress _ tt
+  begun_room (DeferDestroy (Some g) ptr) n heap awake given = record { few = h.few; awake = none_waits seat.paused true awake }
+  begun_room (AccessCall a) n heap awake given = accesses a (has_steps a)
 
   counted : (guards : List ℕ) (paused : Option ℕ) (m : Machine Deferral) → length guards + paused_count paused ≤ 64 → HasRoom (record seat { machine = m; progress = Idle; guards = guards; paused = paused })
   counted guards paused m few = record { few = few; awake = tt }
@@ -72,6 +85,8 @@ module _ (seat : Seat) (h : HasRoom seat) where
   ended_room (Defer g) awake d = counted _ _ _ h.few
   ended_room (Flush g) awake d = counted _ _ _ h.few
   ended_room Release awake d = counted _ _ _ h.few
+  ended_room (DeferDestroy g ptr) awake d = counted _ _ _ h.few
+  ended_room (AccessCall a) awake d = absurd d.under
 
 free_room : (sizes : Sizes) → HasRoom (free_seat sizes)
 free_room sizes = record { few = omega arith; awake = tt }
@@ -121,22 +136,28 @@ module _ (old new : State) (p : ℕ) (reply : Reply) (linked : AllLinked old) (h
   drives_room c s None drive did = writes _ _ did.1 refl refl (ended_room seat (h p) c
       (subst (λ (now : Progress). Awake now seat.paused) drive (h p).awake) (follows_at old.sizes seat (linked.seats p) (Driven c) drive))
 
+  accessed : (a : Access) (k : ℕ) (told : Accessed) → HasRoom (accessed_seat a k told seat)
+  accessed a k (Again found) = record { few = (h p).few; awake = tt }
+  accessed a k (Answers answer) = record { few = (h p).few; awake = tt }
+  accessed a k NoSlot = record { few = (h p).few; awake = tt }
+
   go_room : (progress : Progress) → seat.progress ≡ progress → Goes old p seat progress reply new → AllRoomy new
   go_room Idle e did = subst AllRoomy (sym did.1) h
   go_room (Driven c) e did = drives_room c seat.machine.stage (ask_at seat.machine.stage) e did
-  go_room CallsNow e did = writes _ _ did.1 refl refl (at_progress seat (h p) _ tt)
+  go_room (CallsNow removes) e did = writes _ _ did.1 refl refl (at_progress seat (h p) _ tt)
+  go_room (Accesses a k found) e (did, touches, told, is) = writes _ _ is refl refl (accessed a k did.told)
   go_room (Ends r) e did = writes _ _ did.1 refl refl (at_progress seat (h p) _ tt)
 
 module _ (old new : State) (reply : Reply) (linked : AllLinked old) (h : AllRoomy old) where
   stays : new ≡ old → AllRoomy new
   stays e = subst AllRoomy (sym e) h
 
-  begins : (p : ℕ) (c : Call) (r : Option Fault) → refusal c (seat_of old p) old.tickets ≡ r → Begins old p c r reply new → AllRoomy new
+  begins : (p : ℕ) (c : Call) (r : Option Fault) → refusal c (seat_of old p) old.tickets old.heap ≡ r → Begins old p c r reply new → AllRoomy new
   begins p c (Some f) e did = stays did.1
   begins p c None e did =
-      let given : IsAccepted c (seat_of old p) old.tickets = begin_given c (seat_of old p) old.tickets e in
+      let given : IsAccepted c (seat_of old p) old.tickets old.heap = begin_given c (seat_of old p) old.tickets old.heap e in
       room_written old new p (begun_seat c (seat_of old p)) h (seat_there old p given.taken) (ap (λ (s : State). s.sizes) did.1) (ap (λ (s : State). s.seats) did.1)
-      (begun_room (seat_of old p) (h p) c old.tickets given.awake given.own)
+      (begun_room (seat_of old p) (h p) c old.tickets old.heap given.awake given.own)
 
   ends : (e : Ending) → EndGoes old e reply new → AllRoomy new
   ends Open did = stays did.1
@@ -150,7 +171,7 @@ module _ (old new : State) (reply : Reply) (linked : AllLinked old) (h : AllRoom
       (ap (λ (s : State). s.sizes) did.6) (ap (λ (s : State). s.seats) did.6) (record { few = omega arith; awake = tt })
   moves_room Register (inr (inl did)) = stays did.3
   moves_room Register (inr (inr did)) = stays did.2
-  moves_room (Begin p c) did = begins p c (refusal c (seat_of old p) old.tickets) refl did
+  moves_room (Begin p c) did = begins p c (refusal c (seat_of old p) old.tickets old.heap) refl did
   moves_room (Go p) (inl did) = stays did.2
   moves_room (Go p) (inr did) = go_room old new p reply linked h (seat_there old p did.0) (seat_of old p).progress refl did.1
   moves_room EndStep (inl did) = room_along old new h (ap (λ (s : State). s.sizes) did.3) (ap (λ (s : State). s.seats) did.3)

@@ -16,19 +16,20 @@ use Rattle.epoch_machine.specs.declared.machine.Answer.{Answer}
 use Rattle.epoch_machine.specs.declared.machine.Answer.TheVariants.{Epoch, Word as WordFound, Stored, Job}
 use Rattle.epoch_machine.specs.Machine.{Machine, ask_at, hears, put_heard, took_heard, gives, PutsHeld, TakesHand}
 use Rattle.epoch_laws.specs.declared.step.Call.{Call}
-use Rattle.epoch_laws.specs.declared.step.Call.TheVariants.{Pin, Unpin, Repin, Pause, Resume, Defer, Flush, Release}
+use Rattle.epoch_laws.specs.declared.step.Call.TheVariants.{Pin, Unpin, Repin, Pause, Resume, Defer, Flush, Release, DeferDestroy, Access as AccessCall}
 use Rattle.epoch_laws.specs.declared.step.Step.{Step}
 use Rattle.epoch_laws.specs.declared.step.Step.TheVariants.{Register, Begin, Go, End as EndStep, EndGo}
 use Rattle.epoch_laws.specs.declared.step.Reply.{Reply}
 use Rattle.epoch_laws.specs.declared.step.Deferral.{Deferral}
 use Rattle.epoch_laws.specs.declared.step.Word.{Word}
 use Rattle.epoch_laws.specs.declared.step.Progress.{Progress}
-use Rattle.epoch_laws.specs.declared.step.Progress.TheVariants.{Idle, Driven, CallsNow, Ends}
-use Rattle.epoch_laws.specs.Run.{Bag, Seat, State, seat_of, with_word, free_seat, Ending, Open, Emptying, Over, refusal, begun_seat, Begins, ended_seat, Performs, Drives, Goes, EndGoes, Moves, IsFresh}
+use Rattle.epoch_laws.specs.declared.step.Progress.TheVariants.{Idle, Driven, CallsNow, Ends, Accesses}
+use Rattle.epoch_laws.specs.Run.{Bag, Seat, State, seat_of, with_word, free_seat, Ending, Open, Emptying, Over, refusal, begun_seat, Begins, ended_seat, Performs, Drives, Goes, EndGoes, Moves, IsFresh, with_seat, removed_by}
 use Rattle.epoch_laws.specs.Kept.{jobs_in, jobs_queued, jobs_at_seats, jobs_at_end, JobsFew}
 use Rattle.epoch_laws.proofs.SeatLemmas.{seat_there, begin_given}
 use Rattle.epoch_laws.proofs.TicketSums.{sum_zero}
 use Rattle.epoch_laws.proofs.TicketsTallied.{acted}
+use Rattle.epoch_heap.specs.Heap.{Heap}
 
 -- a bag more in the store
 queued_more : (bag : Bag) (old new : List Bag)
@@ -98,6 +99,9 @@ begun_same (Defer (Some g)) seat = refl
 begun_same (Flush (Some g)) seat = refl
 begun_same Release seat = refl
 begun_same (Defer None) seat = refl
+begun_same (DeferDestroy (Some g) ptr) seat = refl
+begun_same (DeferDestroy None ptr) seat = refl
+begun_same (AccessCall a) seat = refl
 begun_same _ seat = refl
 
 ended_same : (c : Call) (seat : Seat) → jobs_in (ended_seat c seat).machine ≡ jobs_in seat.machine
@@ -114,24 +118,33 @@ module _ (old new : State) (h : JobsFew old) where
   same did = subst JobsFew (sym did) h
 
   -- a step of one participant
+  acts_beside : (p : ℕ) (after : Seat) (epoch : ℕ) (queued : List Bag) (tickets : ℕ) (heap : Heap)
+      → p < length old.seats
+      → jobs_in after.machine + jobs_queued queued + old.tickets
+      ≤ jobs_in (seat_of old p).machine + jobs_queued old.queued + tickets
+      → new ≡ record (acted old p after epoch queued tickets) { heap = heap }
+      → JobsFew new
+  acts_beside p after epoch queued tickets heap there fits did =
+      let seats : jobs_at_seats (slice_set old.seats p after) + jobs_in (seat_of old p).machine
+      ≡ jobs_at_seats old.seats + jobs_in after.machine =
+      sum_by-set _ old.seats p after (free_seat old.sizes) there in
+      subst JobsFew (sym did) (omega (arith, h, fits, seats))
+
+  -- cells and pointers stay
   acts : (p : ℕ) (after : Seat) (epoch : ℕ) (queued : List Bag) (tickets : ℕ)
       → p < length old.seats
       → jobs_in after.machine + jobs_queued queued + old.tickets
       ≤ jobs_in (seat_of old p).machine + jobs_queued old.queued + tickets
       → new ≡ acted old p after epoch queued tickets
       → JobsFew new
-  acts p after epoch queued tickets there fits did =
-      let seats : jobs_at_seats (slice_set old.seats p after) + jobs_in (seat_of old p).machine
-      ≡ jobs_at_seats old.seats + jobs_in after.machine =
-      sum_by-set _ old.seats p after (free_seat old.sizes) there in
-      subst JobsFew (sym did) (omega (arith, h, fits, seats))
+  acts p after epoch queued tickets = acts_beside p after epoch queued tickets old.heap
 
   -- a step of the end
-  closes : (queued : List Bag) (ending : Ending)
+  closes : (queued : List Bag) (ending : Ending) (heap : Heap)
       → jobs_queued queued + jobs_at_end ending ≤ jobs_queued old.queued + jobs_at_end old.ending
-      → new ≡ record old { queued = queued; ending = ending }
+      → new ≡ record old { queued = queued; ending = ending; heap = heap }
       → JobsFew new
-  closes queued ending fits did = subst JobsFew (sym did) (omega (arith, h, fits))
+  closes queued ending heap fits did = subst JobsFew (sym did) (omega (arith, h, fits))
 
   module _ (p : ℕ) (there : p < length old.seats) where
     abbrev seat : Seat
@@ -146,6 +159,14 @@ module _ (old new : State) (h : JobsFew old) where
         → new ≡ acted old p after epoch old.queued old.tickets
         → JobsFew new
     keeps after epoch fits did = acts p after epoch old.queued old.tickets there (omega (arith, fits)) did
+
+    -- nor where cells and pointers change
+    keeps_beside : (after : Seat) (heap : Heap)
+        → jobs_in after.machine ≤ jobs_in m
+        → new ≡ record (with_seat old p after) { heap = heap }
+        → JobsFew new
+    keeps_beside after heap fits did =
+        acts_beside p after old.epoch old.queued old.tickets heap there (omega (arith, fits)) did
 
     -- its machine hears an answer that brings no job
     hears_none : (word : Word) (s : Stage) (a : Answer Deferral) (epoch : ℕ)
@@ -170,11 +191,11 @@ module _ (old new : State) (h : JobsFew old) where
         acts p (with_word seat seat.word (took_heard m s step jobs)) old.epoch queued old.tickets there
         (omega (arith, took_few m s step jobs, taken_few x old.queued queued step jobs takes)) did
     performs s KeepJob reply did =
-        let job : Deferral = record { ticket = old.tickets; removes = None } in
+        let job : Deferral = record { ticket = old.tickets; removes = removed_by seat.progress } in
         acts p (with_word seat seat.word (hears m s (Job job))) old.epoch old.queued (old.tickets + 1) there
         (omega (arith, hears_few m (Job job) s)) did.1
     performs s CallJob reply (job, jobs, hand, told, did) =
-        keeps (with_word seat seat.word (gives m s jobs)) old.epoch (gives_few m s job jobs hand) did
+        keeps_beside (with_word seat seat.word (gives m s jobs)) _ (gives_few m s job jobs hand) did
 
     drives : (c : Call) (s : Stage) (ask : Option Ask) (reply : Reply)
         → Drives old p seat c s ask reply new → JobsFew new
@@ -184,16 +205,17 @@ module _ (old new : State) (h : JobsFew old) where
     goes : (progress : Progress) (reply : Reply) → Goes old p seat progress reply new → JobsFew new
     goes Idle reply did = same did.1
     goes (Driven c) reply did = drives c m.stage (ask_at m.stage) reply did
-    goes CallsNow reply did = keeps _ old.epoch (omega arith) did.1
+    goes (CallsNow removes) reply did = keeps_beside _ _ (omega arith) did.1
+    goes (Accesses a k found) reply (did, touches, told, e) = keeps_beside _ _ (omega arith) e
     goes (Ends r) reply did = keeps _ old.epoch (omega arith) did.1
 
   begins : (p : ℕ) (c : Call) (refused : Option Fault) (reply : Reply)
-      → refusal c (seat_of old p) old.tickets ≡ refused
+      → refusal c (seat_of old p) old.tickets old.heap ≡ refused
       → Begins old p c refused reply new
       → JobsFew new
   begins p c (Some fault) reply at did = same did.1
   begins p c None reply at did =
-      let given = begin_given c (seat_of old p) old.tickets at in
+      let given = begin_given c (seat_of old p) old.tickets old.heap at in
       keeps p (seat_there old p given.taken) (begun_seat c (seat_of old p)) old.epoch
       (omega (arith, begun_same c (seat_of old p))) did.1
 
@@ -204,20 +226,20 @@ module _ (old new : State) (h : JobsFew old) where
   ends Open reply at did = same did.1
   ends Over reply at did = same did.1
   ends (Emptying (job ∷ jobs) n) reply at did =
-      closes old.queued (Emptying jobs (n + 1)) (omega (arith, ap jobs_at_end at)) did.1
+      closes old.queued (Emptying jobs (n + 1)) _ (omega (arith, ap jobs_at_end at)) did.1
   ends (Emptying [] n) reply at (inl (bag, queued, inserted, told, did)) =
-      closes queued (Emptying bag.jobs n)
+      closes queued (Emptying bag.jobs n) old.heap
       (omega (arith, ap jobs_at_end at, queued_more bag queued old.queued inserted)) did
-  ends (Emptying [] n) reply at (inr (none, told, did)) = closes old.queued Over (omega arith) did
+  ends (Emptying [] n) reply at (inr (none, told, did)) = closes old.queued Over old.heap (omega arith) did
 
   moves : (step : Step) (reply : Reply) → Moves old step reply new → JobsFew new
   moves Register reply (inl did) = keeps did.0 did.2 _ old.epoch (omega arith) did.6
   moves Register reply (inr (inl did)) = same did.3
   moves Register reply (inr (inr did)) = same did.2
-  moves (Begin p c) reply did = begins p c (refusal c (seat_of old p) old.tickets) reply refl did
+  moves (Begin p c) reply did = begins p c (refusal c (seat_of old p) old.tickets old.heap) reply refl did
   moves (Go p) reply (inl did) = same did.2
   moves (Go p) reply (inr did) = goes p (seat_there old p did.0) (seat_of old p).progress reply did.1
-  moves EndStep reply (inl did) = closes old.queued (Emptying [] 0) (omega arith) did.3
+  moves EndStep reply (inl did) = closes old.queued (Emptying [] 0) old.heap (omega arith) did.3
   moves EndStep reply (inr (inl did)) = same did.3
   moves EndStep reply (inr (inr did)) = same did.2
   moves EndGo reply did = ends old.ending reply refl did

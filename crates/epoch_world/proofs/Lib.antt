@@ -6,11 +6,17 @@ pub mod GuardsFew
 pub mod JobsCounted
 pub mod WorldKept
 pub mod Performed
+pub mod AccessesFall
+pub mod SlotsStay
 pub mod StepsFall
 pub mod TurnsTaken
 pub mod PlacesSeen
 pub mod AheadsStay
+pub mod ReadingLists
 pub mod AcceptedCalls
 pub mod WorldSteps
 pub mod CollectionSteps
 pub mod FreeSeats
+pub mod RoomSteps
+pub mod ListedSteps
+pub mod RoomForReadings

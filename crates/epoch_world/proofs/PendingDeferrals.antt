@@ -2,13 +2,15 @@
 use Rattle.std.proofs.Common.{◌≡◌, ℕ, ◌+◌, ◌-◌, ◌^◌, ◌<◌, ◌≤◌, ◌==◌, Bool, true, false, List, [], ◌∷◌, length, Some, None, refl, ap, arith, if◌then◌else◌, sum_by}
 use Rattle.std.proofs.lemmas.Bool.{leb-false}
 use Rattle.std.proofs.lemmas.List.Sums.{sum_by-cons}
-use Rattle.epoch_cells.specs.declared.fault.Fault.TheVariants.{StrangerGuard, TicketsOut}
+use Rattle.epoch_cells.specs.declared.fault.Fault.TheVariants.{StrangerGuard, StrangerPointer, TicketsOut}
 use Rattle.epoch_machine.specs.declared.machine.Action.{Action}
 use Rattle.epoch_machine.specs.declared.machine.Action.TheVariants.{Pin, Unpin, Repin, Defer, Flush, Release}
 use Rattle.epoch_machine.specs.declared.machine.Stage.{Stage}
 use Rattle.epoch_machine.specs.declared.machine.Stage.TheVariants.{LoadPin, LoadScan, Scan, Advance, Take, LoadSeal, Keep, LoadRepin, StoreUnpinned, End}
 use Rattle.epoch_machine.specs.Machine.{Machine, is_empty, after_collect, after_pin, after_put, after_unpin, after_job, holds_up, scanned, past_word, first_stage}
-use Rattle.epoch_laws.specs.declared.step.Call.TheVariants.{Defer as DeferCall}
+use Rattle.epoch_laws.specs.declared.step.Call.TheVariants.{Defer as DeferCall, DeferDestroy}
+use Rattle.epoch_heap.specs.declared.access.Ptr.{Ptr}
+use Rattle.epoch_heap.specs.Heap.{Heap}
 use Rattle.epoch_laws.specs.declared.step.Deferral.{Deferral}
 pub use Rattle.epoch_laws.specs.Kept.{is_busy, pending_at, pending, KeepsAt, Keeps, Bounded}
 use Rattle.epoch_laws.specs.Run.{Seat, call_refusal}
@@ -92,10 +94,10 @@ keeps_first Flush m = pick (KeepsAt Flush) (is_empty m.held) LoadScan LoadSeal t
 keeps_first Release m = tt
 
 -- a deferral is begun only below the limit
-pub room_given : (g : ℕ) (seat : Seat) (tickets : ℕ)
-    → call_refusal (DeferCall (Some g)) seat tickets ≡ None
+pub room_given : (g : ℕ) (seat : Seat) (tickets : ℕ) (heap : Heap)
+    → call_refusal (DeferCall (Some g)) seat tickets heap ≡ None
     → tickets < 2 ^ 64 - 4097
-room_given g seat tickets given = leb-false (2 ^ 64 - 4097) tickets (not_refused _ _ given)
+room_given g seat tickets heap given = leb-false (2 ^ 64 - 4097) tickets (not_refused _ _ given)
   where
     not_refused : (out late : Bool)
         → (if out then (if late then Some TicketsOut else None) else Some StrangerGuard) ≡ None
@@ -103,6 +105,20 @@ room_given g seat tickets given = leb-false (2 ^ 64 - 4097) tickets (not_refused
     not_refused true true given = absurd (cc)
     not_refused true false given = refl
     not_refused false late given = absurd (cc)
+
+-- as is that of a removal
+pub removal_room_given : (g : ℕ) (ptr : Ptr) (seat : Seat) (tickets : ℕ) (heap : Heap)
+    → call_refusal (DeferDestroy (Some g) ptr) seat tickets heap ≡ None
+    → tickets < 2 ^ 64 - 4097
+removal_room_given g ptr seat tickets heap given = leb-false (2 ^ 64 - 4097) tickets (not_refused _ _ _ given)
+  where
+    not_refused : (out known late : Bool)
+        → (if out then (if known then (if late then Some TicketsOut else None) else Some StrangerPointer) else Some StrangerGuard) ≡ None
+        → late ≡ false
+    not_refused true true true given = absurd (cc)
+    not_refused true true false given = refl
+    not_refused true false late given = absurd (cc)
+    not_refused false known late given = absurd (cc)
 
 -- a machine under the same action takes no more, if it was busy
 pub busy_takes : (a b : Action) (s t u : Stage)

@@ -11,10 +11,17 @@ use Rattle.epoch_machine.specs.declared.machine.Stage.{Stage}
 use Rattle.epoch_machine.specs.declared.machine.Stage.TheVariants.{LoadPin, ReloadPin, LoadScan, Scan, Advance, Take, Calling, LoadSeal, Keep, LoadRepin, StoreRepin, ReloadRepin, StoreUnpinned, End}
 use Rattle.epoch_machine.specs.Machine.{Machine, StageFits, rest, is_empty, ask_at, hears, holds_up, scanned, took_heard, gives, after_collect, first_stage}
 use Rattle.epoch_laws.specs.declared.step.Call.{Call}
-use Rattle.epoch_laws.specs.declared.step.Call.TheVariants.{Pin as PinCall, Unpin as UnpinCall, Repin as RepinCall, Pause, Resume, Defer as DeferCall, Flush as FlushCall, Release as ReleaseCall}
+use Rattle.epoch_laws.specs.declared.step.Call.TheVariants.{Pin as PinCall, Unpin as UnpinCall, Repin as RepinCall, Pause, Resume, Defer as DeferCall, Flush as FlushCall, Release as ReleaseCall, DeferDestroy, Access as AccessCall}
 use Rattle.epoch_laws.specs.declared.step.Deferral.{Deferral}
 use Rattle.epoch_laws.specs.Run.{Seat, begun_seat}
-use Rattle.epoch_world.specs.Steps.{InStore, in_store, past_collect, collects, steps_at, machine_steps, steps_left, call_bound}
+use Rattle.epoch_world.specs.Steps.{InStore, in_store, past_collect, collects, steps_at, machine_steps, steps_left, call_bound, steps_of, IsSteady}
+use Rattle.epoch_heap.specs.declared.access.Access.{Access}
+use Rattle.epoch_heap.specs.declared.access.Access.TheVariants.{Place, Point}
+use Rattle.epoch_heap.specs.declared.access.Answer.TheVariants.{Absent}
+use Rattle.epoch_heap.specs.declared.access.Change.TheVariants.{FetchUpdate}
+use Rattle.epoch_laws.specs.declared.step.Progress.TheVariants.{Accesses, Ends}
+use Rattle.epoch_laws.specs.declared.step.Reply.TheVariants.{Done}
+use Rattle.epoch_heap.specs.Heap.{Heap, null, has_steps}
 
 either_below : (left : Stage → ℕ) (b : Bool) (s t : Stage) (k : ℕ) → left s < k → left t < k → left (if b then s else t) < k
 either_below left true s t k one other = one
@@ -143,22 +150,51 @@ gave_less m now after puts takes most job is asked hand went =
 
 -- A WHOLE CALL
 
-first_fits : (a : Action) (m : Machine Deferral) (n : InStore) → steps_at a m.sizes (length m.hand) n (first_stage a m) < call_bound m.sizes n.most + 1
-first_fits Pin m n = either_below (steps_at Pin m.sizes (length m.hand) n) (m.guards == 0) LoadPin End _ (omega arith) (omega arith)
-first_fits Unpin m n = either_below (steps_at Unpin m.sizes (length m.hand) n) (m.guards == 1) StoreUnpinned End _ (omega arith) (omega arith)
-first_fits Repin m n = either_below (steps_at Repin m.sizes (length m.hand) n) (m.guards == 1) LoadRepin End _ (omega arith) (omega arith)
-first_fits Defer m n = either_below (steps_at Defer m.sizes (length m.hand) n) (length m.held == m.sizes.bag_jobs) LoadSeal Keep _ (omega arith) (omega arith)
-first_fits Flush m n = either_below (steps_at Flush m.sizes (length m.hand) n) (is_empty m.held) LoadScan LoadSeal _ (omega arith) (omega arith)
-first_fits Release m n = omega arith
+first_fits : (a : Action) (m : Machine Deferral) (n : InStore) (slots : ℕ) → steps_at a m.sizes (length m.hand) n (first_stage a m) < call_bound slots m.sizes n.most + 1
+first_fits Pin m n slots = either_below (steps_at Pin m.sizes (length m.hand) n) (m.guards == 0) LoadPin End _ (omega arith) (omega arith)
+first_fits Unpin m n slots = either_below (steps_at Unpin m.sizes (length m.hand) n) (m.guards == 1) StoreUnpinned End _ (omega arith) (omega arith)
+first_fits Repin m n slots = either_below (steps_at Repin m.sizes (length m.hand) n) (m.guards == 1) LoadRepin End _ (omega arith) (omega arith)
+first_fits Defer m n slots = either_below (steps_at Defer m.sizes (length m.hand) n) (length m.held == m.sizes.bag_jobs) LoadSeal Keep _ (omega arith) (omega arith)
+first_fits Flush m n slots = either_below (steps_at Flush m.sizes (length m.hand) n) (is_empty m.held) LoadScan LoadSeal _ (omega arith) (omega arith)
+first_fits Release m n slots = omega arith
+
+access_fits : (a : Access) (b : Bool) (m : Machine Deferral) (n : InStore) (slots : ℕ)
+    → steps_of slots (if b then Accesses a 0 null else Ends (Done Absent)) m n < call_bound slots m.sizes n.most + 1
+access_fits a false m n slots = omega arith
+access_fits (Place v) true m n slots = omega arith
+access_fits (Point g spot (FetchUpdate tries by)) true m n slots = omega arith
+access_fits _ true m n slots = omega arith
 
 -- behind the Begin of any call
-pub begun_fits : (c : Call) (seat : Seat) (n : InStore) → steps_left (begun_seat c seat) n < call_bound seat.machine.sizes n.most + 1
-begun_fits PinCall seat n = first_fits Pin seat.machine n
-begun_fits (UnpinCall g) seat n = first_fits Unpin seat.machine n
-begun_fits (RepinCall (Some g)) seat n = first_fits Repin seat.machine n
-begun_fits (Pause (Some g)) seat n = first_fits Unpin seat.machine n
-begun_fits (Resume (Some g)) seat n = first_fits Pin seat.machine n
-begun_fits (DeferCall (Some g)) seat n = first_fits Defer seat.machine n
-begun_fits (FlushCall (Some g)) seat n = first_fits Flush seat.machine n
-begun_fits ReleaseCall seat n = first_fits Release seat.machine n
-begun_fits _ seat n = omega arith
+pub begun_fits : (c : Call) (seat : Seat) (n : InStore) (slots : ℕ)
+    → steps_left slots (begun_seat c seat) n < call_bound slots seat.machine.sizes n.most + 1
+begun_fits PinCall seat n slots = first_fits Pin seat.machine n slots
+begun_fits (UnpinCall g) seat n slots = first_fits Unpin seat.machine n slots
+begun_fits (RepinCall (Some g)) seat n slots = first_fits Repin seat.machine n slots
+begun_fits (Pause (Some g)) seat n slots = first_fits Unpin seat.machine n slots
+begun_fits (Resume (Some g)) seat n slots = first_fits Pin seat.machine n slots
+begun_fits (DeferCall (Some g)) seat n slots = first_fits Defer seat.machine n slots
+begun_fits (FlushCall (Some g)) seat n slots = first_fits Flush seat.machine n slots
+begun_fits ReleaseCall seat n slots = first_fits Release seat.machine n slots
+begun_fits (DeferDestroy (Some g) ptr) seat n slots = first_fits Defer seat.machine n slots
+begun_fits (AccessCall a) seat n slots = access_fits a (has_steps a) seat.machine n slots
+begun_fits _ seat n slots = omega arith
+
+-- what begins has made no step of an update
+pub begun_steady : (h : Heap) (c : Call) (seat : Seat) → IsSteady h (begun_seat c seat).progress
+begun_steady h PinCall seat = tt
+begun_steady h (UnpinCall g) seat = tt
+begun_steady h (RepinCall (Some g)) seat = tt
+begun_steady h (Pause (Some g)) seat = tt
+begun_steady h (Resume (Some g)) seat = tt
+begun_steady h (DeferCall (Some g)) seat = tt
+begun_steady h (FlushCall (Some g)) seat = tt
+begun_steady h ReleaseCall seat = tt
+begun_steady h (DeferDestroy (Some g) ptr) seat = tt
+begun_steady h (AccessCall a) seat = at_first a (has_steps a)
+  where
+    at_first : (a : Access) (more : Bool) → IsSteady h (if more then Accesses a 0 null else Ends (Done Absent))
+    at_first (Point g spot (FetchUpdate tries by)) true = tt
+    at_first _ true = tt
+    at_first a false = tt
+begun_steady h _ seat = tt

@@ -14,39 +14,41 @@ use Rattle.epoch_laws.specs.declared.step.Deferral.{Deferral}
 use Rattle.epoch_laws.specs.Run.{Bag, State, seat_of, free_seat, Ending, Open, Emptying, Over, refusal, Begins, EndGoes, Moves, IsFresh}
 use Rattle.epoch_laws.proofs.SeatLemmas.{begin_given}
 use Rattle.epoch_laws.proofs.TicketSums.{sum_zero}
+use Rattle.epoch_heap.specs.Heap.{Heap}
 use Rattle.epoch_world.proofs.PendingDeferrals.{pending_at, pending, KeepsAt, Keeps}
 pub use Rattle.epoch_world.proofs.PendingDeferrals.{Bounded}
 use Rattle.epoch_world.proofs.DeferralsBounded.{same, registers, begins, goes}
 
 module _ (old new : State) (h : Bounded old) where
   call_begins : (p : ℕ) (c : Call) (refused : Option Fault) (reply : Reply)
-      → refusal c (seat_of old p) old.tickets ≡ refused
+      → refusal c (seat_of old p) old.tickets old.heap ≡ refused
       → Begins old p c refused reply new
       → Bounded new
   call_begins p c (Some fault) reply at did = same old new h did.1
   call_begins p c None reply at did =
-      let given = begin_given c (seat_of old p) old.tickets at in
+      let given = begin_given c (seat_of old p) old.tickets old.heap at in
       begins old new h p given.taken c given.own did.1
 
   -- a step of the end leaves participants and tickets alone
-  closes : (queued : List Bag) (ending : Ending) → new ≡ record old { queued = queued; ending = ending } → Bounded new
-  closes queued ending did = subst Bounded (sym did) (record { tickets = h.tickets; keeps = h.keeps })
+  closes : (queued : List Bag) (ending : Ending) (heap : Heap)
+      → new ≡ record old { queued = queued; ending = ending; heap = heap } → Bounded new
+  closes queued ending heap did = subst Bounded (sym did) (record { tickets = h.tickets; keeps = h.keeps })
 
   end_goes : (ending : Ending) (reply : Reply) → EndGoes old ending reply new → Bounded new
   end_goes Open reply did = same old new h did.1
   end_goes Over reply did = same old new h did.1
-  end_goes (Emptying (job ∷ jobs) n) reply did = closes old.queued _ did.1
-  end_goes (Emptying [] n) reply (inl (bag, queued, inserted, is, did)) = closes queued _ did
-  end_goes (Emptying [] n) reply (inr (none, is, did)) = closes old.queued Over did
+  end_goes (Emptying (job ∷ jobs) n) reply did = closes old.queued _ _ did.1
+  end_goes (Emptying [] n) reply (inl (bag, queued, inserted, is, did)) = closes queued _ old.heap did
+  end_goes (Emptying [] n) reply (inr (none, is, did)) = closes old.queued Over old.heap did
 
   step_bounded : (step : Step) (reply : Reply) → Moves old step reply new → Bounded new
   step_bounded Register reply (inl did) = registers old new h did.0 did.2 did.6
   step_bounded Register reply (inr (inl did)) = same old new h did.3
   step_bounded Register reply (inr (inr did)) = same old new h did.2
-  step_bounded (Begin p c) reply did = call_begins p c (refusal c (seat_of old p) old.tickets) reply refl did
+  step_bounded (Begin p c) reply did = call_begins p c (refusal c (seat_of old p) old.tickets old.heap) reply refl did
   step_bounded (Go p) reply (inl did) = same old new h did.2
   step_bounded (Go p) reply (inr did) = goes old new h p did.0 (seat_of old p).progress reply did.1
-  step_bounded EndStep reply (inl did) = closes old.queued (Emptying [] 0) did.3
+  step_bounded EndStep reply (inl did) = closes old.queued (Emptying [] 0) old.heap did.3
   step_bounded EndStep reply (inr (inl did)) = same old new h did.3
   step_bounded EndStep reply (inr (inr did)) = same old new h did.2
   step_bounded EndGo reply did = end_goes old.ending reply did

@@ -1,5 +1,5 @@
 -- Every step keeps what the world's code rests on.
-use Rattle.std.proofs.Common.{◌≡◌, ℕ, ◌+◌, ◌^◌, ◌<◌, ◌≤◌, true, false, refl, List, ◌∷◌, length, Option, Some, None, ap, sym, subst, ◌∙◌, arith}
+use Rattle.std.proofs.Common.{◌≡◌, ℕ, ◌+◌, ◌^◌, ◌<◌, ◌≤◌, true, false, refl, List, ◌∷◌, length, Option, Some, None, ap, sym, subst, ◌∙◌, inl, inr, arith}
 use Rattle.epoch_machine.specs.declared.machine.Action.{Action}
 use Rattle.epoch_machine.specs.declared.machine.Action.TheVariants.{Pin as PinAction, Unpin as UnpinAction, Repin as RepinAction, Defer as DeferAction, Flush as FlushAction, Release as ReleaseAction}
 use Rattle.epoch_machine.specs.Machine.{guards_after, ask_at, asks}
@@ -9,22 +9,39 @@ use Rattle.epoch_machine.specs.declared.machine.Stage.TheVariants.{Idle as Resti
 use Rattle.epoch_world.specs.declared.world.EndStage.{EndStage}
 use Rattle.epoch_world.specs.declared.world.EndStage.TheVariants.{Open as OpenStage, Emptying as EmptyingStage, Over as OverStage}
 use Rattle.epoch_laws.specs.declared.step.Call.{Call}
-use Rattle.epoch_laws.specs.declared.step.Call.TheVariants.{Pin, Unpin, Repin, Pause, Resume, Defer, Flush, Release}
+use Rattle.epoch_laws.specs.declared.step.Call.TheVariants.{Pin, Unpin, Repin, Pause, Resume, Defer, Flush, Release, DeferDestroy, Access as AccessCall}
 use Rattle.epoch_laws.specs.declared.step.Deferral.{Deferral}
 use Rattle.epoch_laws.specs.declared.step.Step.{Step}
+use Rattle.epoch_laws.specs.declared.step.Step.TheVariants.{EndGo}
 use Rattle.epoch_laws.specs.declared.step.Reply.{Reply}
+use Rattle.epoch_laws.specs.declared.step.Reply.TheVariants.{Called}
+use Rattle.epoch_machine.specs.declared.machine.Sizes.{Sizes}
 use Rattle.epoch_laws.specs.declared.step.Progress.{Progress}
 use Rattle.epoch_laws.specs.declared.step.Progress.TheVariants.{Idle, Driven}
-use Rattle.epoch_laws.specs.Run.{Seat, State, seat_of, refusal, Moves, IsFresh}
+use Rattle.epoch_laws.specs.Run.{Bag, Seat, State, Emptying, seat_of, refusal, Moves, IsFresh}
 use Rattle.epoch_world.specs.Seats.{adds_guard}
-use Rattle.epoch_world.specs.Worlds.{ending_of, IsEmptying}
+use Rattle.epoch_world.specs.Worlds.{state_of, ending_of, IsEmptying}
 use Rattle.epoch_laws.specs.Kept.{IsDriven, rests, BeganUnder, Awake, HasRoom, IsKept, paused_count, jobs_at_end}
 use Rattle.epoch_laws.proofs.SeatLemmas.{begin_given}
 use Rattle.epoch_laws.proofs.Linked.{moved_linked, fresh_linked, follows_at}
+use Rattle.epoch_heap.specs.Heap.{Heap, outcome_of, after_job}
+use Rattle.epoch_reach.proofs.HeapSteps.{heap_goes}
+use Rattle.epoch_reach.proofs.ReadingsKept.{readings_move, fresh_readings}
+use Rattle.epoch_world.proofs.SlotsStay.{job_slots, access_slots}
 use Rattle.epoch_world.proofs.GuardsFew.{moves_room, fresh_room}
 use Rattle.epoch_world.proofs.FreeSeats.{moves_free, fresh_free}
 use Rattle.epoch_world.proofs.JobsCounted.{moves_jobs, fresh_jobs}
 use Rattle.epoch_world.proofs.TicketsBounded.{tickets_bounded, fresh_bounded, keep_fits}
+
+-- no step makes a cell more or less
+moves_slots : (old new : State) (step : Step) (reply : Reply) → Moves old step reply new → length new.heap.cells ≡ length old.heap.cells
+moves_slots old new step reply did = elim (heap_goes old new step reply step refl did) [
+  | inl same ↦ ap (λ (h : Heap). length h.cells) same
+  | inr (inl calls) ↦ ap (λ (h : Heap). length h.cells) calls.heap ∙ job_slots old.heap calls.removes
+  | inr (inr (inl calls)) ↦ ap (λ (h : Heap). length h.cells) calls.heap ∙ job_slots old.heap calls.removes
+  | inr (inr (inr access)) ↦ ap (λ (h : Heap). length h.cells) access.makes.heap
+      ∙ access_slots access.call access.steps access.found old.heap access.makes.did access.makes.touches
+]
 
 pub kept_moves : (old new : State) (step : Step) (reply : Reply) → IsKept old → length new.seats ≡ length old.seats → Moves old step reply new → IsKept new
 kept_moves old new step reply h same did = record {
@@ -34,15 +51,39 @@ kept_moves old new step reply h same did = record {
   jobs = moves_jobs old new step reply h.jobs did;
   free = moves_free old new h.free step reply did;
   few = omega (arith, h.few, same);
+  readings = readings_move old new reply h.readings h.linked step did;
+  cells = omega (arith, h.cells, moves_slots old new step reply did);
 }
 
-pub fresh_kept : (s : State) → IsFresh s → length s.seats ≤ 64 → IsKept s
-fresh_kept s fresh few = record { linked = fresh_linked s fresh; roomy = fresh_room s fresh; bounded = fresh_bounded s fresh; jobs = fresh_jobs s fresh; free = fresh_free s fresh; few = few }
+pub fresh_kept : (s : State) → IsFresh s → length s.seats ≤ 64 → length s.heap.cells ≤ 4096 → IsKept s
+fresh_kept s fresh few cells = record {
+  linked = fresh_linked s fresh;
+  roomy = fresh_room s fresh;
+  bounded = fresh_bounded s fresh;
+  jobs = fresh_jobs s fresh;
+  free = fresh_free s fresh;
+  few = few;
+  readings = fresh_readings s fresh;
+  cells = cells;
+}
+
+-- an end calls the next job of the bag that it has taken
+pub called_kept : (sizes : Sizes) (epoch : ℕ) (seats : List Seat) (queued : List Bag) (tickets : ℕ) (stage : EndStage) (hand left : List Deferral)
+    (n : ℕ) (before after : Heap) (job : Deferral)
+    → IsKept (state_of sizes epoch seats queued tickets (ending_of stage hand n) before) → IsEmptying (ending_of stage hand n) → hand ≡ job ∷ left
+    → after ≡ after_job before job.removes → IsKept (state_of sizes epoch seats queued tickets (ending_of stage left (n + 1)) after)
+called_kept sizes epoch seats queued tickets EmptyingStage hand left n before after job h emptying is called =
+    let old : State = state_of sizes epoch seats queued tickets (Emptying (job ∷ left) n) before in
+    let kept : IsKept old = subst (λ (jobs : List Deferral). IsKept (state_of sizes epoch seats queued tickets (Emptying jobs n) before)) is h in
+    subst (λ (heap : Heap). IsKept (state_of sizes epoch seats queued tickets (Emptying left (n + 1)) heap)) (sym called)
+    (kept_moves old _ EndGo (Called job.ticket (outcome_of before job.removes)) kept refl (refl, refl))
+called_kept sizes epoch seats queued tickets OpenStage hand left n before after job h emptying is called = absurd emptying
+called_kept sizes epoch seats queued tickets OverStage hand left n before after job h emptying is called = absurd emptying
 
 -- where a call isn't refused, the machine rests
-pub rests_where_accepted : (s : State) (p : ℕ) (c : Call) (seat : Seat) → IsKept s → seat ≡ seat_of s p → refusal c seat s.tickets ≡ None → seat.machine.stage ≡ Resting
+pub rests_where_accepted : (s : State) (p : ℕ) (c : Call) (seat : Seat) → IsKept s → seat ≡ seat_of s p → refusal c seat s.tickets s.heap ≡ None → seat.machine.stage ≡ Resting
 rests_where_accepted s p c seat h is given =
-    let accepted = begin_given c (seat_of s p) s.tickets (ap (λ (q : Seat). refusal c q s.tickets) (sym is) ∙ given) in
+    let accepted = begin_given c (seat_of s p) s.tickets s.heap (ap (λ (q : Seat). refusal c q s.tickets s.heap) (sym is) ∙ given) in
     ap (λ (q : Seat). q.machine.stage) is ∙ follows_at s.sizes (seat_of s p) (h.linked.seats p) Idle accepted.idle
 
 -- a machine under way that asks nothing more is at its end
@@ -71,6 +112,8 @@ room_left (Pause g) guards paused under awake few adds = absurd (cc)
 room_left (Defer g) guards paused under awake few adds = absurd (cc)
 room_left (Flush g) guards paused under awake few adds = absurd (cc)
 room_left Release guards paused under awake few adds = absurd (cc)
+room_left (DeferDestroy g ptr) guards paused under awake few adds = absurd (cc)
+room_left (AccessCall a) guards paused under awake few adds = absurd (cc)
 
 pub room_where_driven : (s : State) (p : ℕ) (c : Call) (seat : Seat) → IsKept s → seat ≡ seat_of s p → seat.progress ≡ Driven c → adds_guard c ≡ true → length seat.guards < 64
 room_where_driven s p c seat h is drive adds =

@@ -1,3 +1,4 @@
 pub mod Seats
 pub mod Worlds
 pub mod Steps
+pub mod Listed

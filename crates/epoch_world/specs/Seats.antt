@@ -1,6 +1,5 @@
 -- One participant's part of a step: what its seat is after it, and what participants share.
-use Rattle.std.specs.Prelude.{◌≡◌, ℕ, ◌+◌, ◌^◌, ◌<◌, List, ◌∷◌, Some, None, Bool, true, false}
-use Rattle.epoch_bags.specs.declared.job.Called.TheVariants.{Ran}
+use Rattle.std.specs.Prelude.{◌≡◌, ℕ, ◌+◌, ◌^◌, ◌<◌, List, ◌∷◌, Some, Bool, true, false, is_some, length}
 use Rattle.epoch_bags.specs.declared.queue.PutStep.{PutStep}
 use Rattle.epoch_bags.specs.declared.queue.TakeStep.{TakeStep}
 use Rattle.epoch_machine.specs.declared.machine.Sizes.{Sizes}
@@ -13,20 +12,29 @@ use Rattle.epoch_laws.specs.declared.step.Call.{Call}
 use Rattle.epoch_laws.specs.declared.step.Call.TheVariants.{Pin, Resume}
 use Rattle.epoch_laws.specs.declared.step.Reply.{Reply}
 use Rattle.epoch_laws.specs.declared.step.Reply.TheVariants.{Stepped, Pinned as PinnedReply, Unpinned as UnpinnedReply, Repinned, Deferred, Called as CalledReply, Done}
-use Rattle.epoch_laws.specs.declared.step.Answer.TheVariants.{Released}
 use Rattle.epoch_laws.specs.declared.step.Deferral.{Deferral}
 use Rattle.epoch_laws.specs.declared.step.Word.{Word}
 use Rattle.epoch_laws.specs.declared.step.Word.TheVariants.{Unpinned, Pinned}
-use Rattle.epoch_laws.specs.Run.{Bag, Seat, free_seat, with_machine, with_word}
+use Rattle.epoch_laws.specs.Run.{Bag, Seat, free_seat, with_machine, with_word, removed_by}
+use Rattle.epoch_cells.specs.declared.cells.name.Name.{Name}
+use Rattle.epoch_heap.specs.declared.access.Access.{Access}
+use Rattle.epoch_heap.specs.declared.access.Access.TheVariants.{Read}
+use Rattle.epoch_heap.specs.declared.access.Accessed.{Accessed}
+use Rattle.epoch_heap.specs.declared.access.Accessed.TheVariants.{Answers}
+use Rattle.epoch_heap.specs.declared.access.Answer.TheVariants.{Released, Value}
+use Rattle.epoch_laws.specs.declared.step.Progress.{Progress}
+use Rattle.epoch_laws.specs.declared.step.Progress.TheVariants.{Accesses}
+use Rattle.epoch_heap.specs.Heap.{Heap, cell_at, outcome_of, after_job, AccessFits}
 
 -- what participants share, but for their words
 pub record Shared : Type 0 where
   pub epoch : ℕ
   pub queued : List Bag
   pub tickets : ℕ
+  pub heap : Heap
 
-abbrev pub shared : ℕ → List Bag → ℕ → Shared
-shared epoch queued tickets = record { epoch = epoch; queued = queued; tickets = tickets }
+abbrev pub shared : ℕ → List Bag → ℕ → Heap → Shared
+shared epoch queued tickets heap = record { epoch = epoch; queued = queued; tickets = tickets; heap = heap }
 
 -- What comes of one ask of the participant p: the reply, its seat and what is shared after it. The word is the one
 -- that a scan looks at.
@@ -40,8 +48,8 @@ SeatPerforms sizes p word old seat s StoreFree reply after new = (reply ≡ Done
 SeatPerforms sizes p word old seat s (StoreEpoch e) reply after new = (reply ≡ Stepped) × (after ≡ with_machine seat (hears seat.machine s Stored)) × (new ≡ record old { epoch = e })
 SeatPerforms sizes p word old seat s (PutBag seal) reply after new = (step : PutStep) × (reply ≡ Stepped) × PutsHeld seal seat.machine old.queued step new.queued × (after ≡ with_machine seat (put_heard seat.machine step)) × (new ≡ record old { queued = new.queued })
 SeatPerforms sizes p word old seat s (TakeBag x) reply after new = (step : TakeStep) × (reply ≡ Stepped) × TakesHand x old.queued step new.queued after.machine.hand × (after ≡ with_machine seat (took_heard seat.machine s step after.machine.hand)) × (new ≡ record old { queued = new.queued })
-SeatPerforms sizes p word old seat s KeepJob reply after new = (reply ≡ Deferred old.tickets) × (after ≡ with_machine seat (hears seat.machine s (Job (record { ticket = old.tickets; removes = None })))) × (new ≡ record old { tickets = old.tickets + 1 })
-SeatPerforms sizes p word old seat s CallJob reply after new = (job : Deferral) × (jobs : List Deferral) × (seat.machine.hand ≡ job ∷ jobs) × (reply ≡ CalledReply job.ticket Ran) × (after ≡ with_machine seat (gives seat.machine s jobs)) × (new ≡ old)
+SeatPerforms sizes p word old seat s KeepJob reply after new = (reply ≡ Deferred old.tickets) × (after ≡ with_machine seat (hears seat.machine s (Job (record { ticket = old.tickets; removes = removed_by seat.progress })))) × (new ≡ record old { tickets = old.tickets + 1 })
+SeatPerforms sizes p word old seat s CallJob reply after new = (job : Deferral) × (jobs : List Deferral) × (seat.machine.hand ≡ job ∷ jobs) × (reply ≡ CalledReply job.ticket (outcome_of old.heap job.removes)) × (after ≡ with_machine seat (gives seat.machine s jobs)) × (new ≡ record old { heap = after_job old.heap job.removes })
 
 -- the number that a word stands for fits
 abbrev pub WordFits : Word → Type 0
@@ -53,3 +61,17 @@ abbrev pub adds_guard : Call → Bool
 adds_guard Pin = true
 adds_guard (Resume (Some g)) = true
 adds_guard _ = false
+
+abbrev pub ProgressFits : Progress → Type 0
+ProgressFits (Accesses a k found) = AccessFits a k
+ProgressFits _ = Unit {0}
+
+-- the list of readings has room where a step reads a cell that is there
+abbrev pub CanRead : Access → List Name → Heap → Type 0
+CanRead (Read g ptr) readings h = (n : Name) → ptr.name ≡ Some n → is_some (cell_at h n) ≡ true → length readings < 4096
+CanRead _ readings h = Unit {0}
+
+-- and where it did so
+abbrev pub HasRead : Access → Accessed → List Name → Type 0
+HasRead (Read g ptr) (Answers (Value v)) readings = length readings < 4096
+HasRead _ told readings = Unit {0}

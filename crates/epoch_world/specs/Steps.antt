@@ -1,5 +1,5 @@
 -- How many steps a call still takes at most.
-use Rattle.std.specs.Prelude.{ℕ, ◌+◌, ◌-◌, ◌*◌, length}
+use Rattle.std.specs.Prelude.{ℕ, ◌+◌, ◌-◌, ◌*◌, length, ◌≡◌, zero, suc, Some}
 use Rattle.epoch_machine.specs.declared.machine.Action.{Action}
 use Rattle.epoch_machine.specs.declared.machine.Action.TheVariants.{Flush, Release}
 use Rattle.epoch_machine.specs.declared.machine.Sizes.{Sizes}
@@ -8,8 +8,13 @@ use Rattle.epoch_machine.specs.declared.machine.Stage.TheVariants.{Idle as Resti
 use Rattle.epoch_machine.specs.Machine.{Machine}
 use Rattle.epoch_laws.specs.declared.step.Deferral.{Deferral}
 use Rattle.epoch_laws.specs.declared.step.Progress.{Progress}
-use Rattle.epoch_laws.specs.declared.step.Progress.TheVariants.{Idle, Driven, CallsNow, Ends}
+use Rattle.epoch_laws.specs.declared.step.Progress.TheVariants.{Idle, Driven, CallsNow, Ends, Accesses}
 use Rattle.epoch_laws.specs.Run.{Seat}
+use Rattle.epoch_heap.specs.declared.access.Access.{Access}
+use Rattle.epoch_heap.specs.declared.access.Access.TheVariants.{Place, Point}
+use Rattle.epoch_heap.specs.declared.access.Change.TheVariants.{FetchUpdate}
+use Rattle.epoch_heap.specs.declared.access.Ptr.{Ptr}
+use Rattle.epoch_heap.specs.Heap.{Heap, pointer_at}
 
 -- how many steps in the store the put and the collection under way have left, and how many a new one has at most
 pub record InStore : Type 0 where
@@ -62,16 +67,29 @@ steps_at a sizes hand n End = 1
 abbrev pub machine_steps : Machine Deferral → InStore → ℕ
 machine_steps m n = steps_at m.action m.sizes (length m.hand) n m.stage
 
-abbrev pub steps_of : Progress → Machine Deferral → InStore → ℕ
-steps_of (Driven c) m n = machine_steps m n
-steps_of CallsNow m n = 2
-steps_of (Ends r) m n = 1
-steps_of Idle m n = 0
+-- A call on cells and pointers, of which so many steps are made; slots is how many a Place may look at. Where nobody
+-- else acts, an update makes its first exchange.
+abbrev pub access_steps : ℕ → Access → ℕ → ℕ
+access_steps slots (Place v) k = slots - k + 1
+access_steps slots (Point g spot (FetchUpdate tries by)) zero = 3
+access_steps slots _ k = 2
+
+abbrev pub steps_of : ℕ → Progress → Machine Deferral → InStore → ℕ
+steps_of slots (Driven c) m n = machine_steps m n
+steps_of slots (CallsNow removes) m n = 2
+steps_of slots (Accesses a k found) m n = access_steps slots a k
+steps_of slots (Ends r) m n = 1
+steps_of slots Idle m n = 0
 
 -- a participant's call under way
-abbrev pub steps_left : Seat → InStore → ℕ
-steps_left seat n = steps_of seat.progress seat.machine n
+abbrev pub steps_left : ℕ → Seat → InStore → ℕ
+steps_left slots seat n = steps_of slots seat.progress seat.machine n
 
 -- any call, from its Begin on
-abbrev pub call_bound : Sizes → ℕ → ℕ
-call_bound sizes most = sizes.positions + sizes.collect_bags * 64 + 2 * most + 10
+abbrev pub call_bound : ℕ → Sizes → ℕ → ℕ
+call_bound slots sizes most = slots + sizes.positions + sizes.collect_bags * 64 + 2 * most + 10
+
+-- where p's update is about to exchange, what it found last stands, if a pointer stands there at all
+abbrev pub IsSteady : Heap → Progress → Type 0
+IsSteady h (Accesses (Point g spot (FetchUpdate tries by)) (suc k) found) = (ptr : Ptr) → pointer_at h spot ≡ Some ptr → ptr ≡ found
+IsSteady h _ = Unit {0}

@@ -1,14 +1,17 @@
 -- What a world keeps between any two steps, beside what its participants keep of themselves.
-use Rattle.std.specs.Prelude.{◌≡◌, ◌≢◌, ℕ, true, List, [], ◌∷◌, Some, slice_get, slice_index_or}
-use Rattle.epoch_machine.specs.Machine.{asks, AskFits}
+use Rattle.std.specs.Prelude.{◌≡◌, ◌≢◌, ℕ, Bool, true, List, [], ◌∷◌, Some, slice_get, slice_index_or}
+use Rattle.epoch_machine.specs.Machine.{asks, is_taking, AskFits}
 use Rattle.epoch_machine.specs.declared.machine.Ask.{Ask}
 use Rattle.epoch_machine.specs.declared.machine.Sizes.{Sizes}
+use Rattle.epoch_machine.specs.declared.machine.Stage.{Stage}
 use Rattle.epoch_laws.specs.declared.step.Deferral.{Deferral}
 use Rattle.epoch_laws.specs.declared.step.Word.TheVariants.{Free}
 use Rattle.epoch_world.specs.declared.world.EndStage.{EndStage}
 use Rattle.epoch_world.specs.declared.world.EndStage.TheVariants.{Open as OpenStage, Emptying as EmptyingStage, Over as OverStage}
 use Rattle.epoch_laws.specs.Run.{Bag, Seat, State, Ending, Open, Emptying, Over, seat_of, word_of, free_seat, is_driven}
-use Rattle.epoch_laws.specs.Collections.{expiry_of, OwnClaims}
+use Rattle.epoch_laws.specs.Collections.{expiry_of}
+use Rattle.epoch_laws.specs.Room.{is_putting}
+use Rattle.epoch_heap.specs.Heap.{Heap}
 
 -- how far the end is; the jobs are those left of the bag taken, and so many were called
 abbrev pub ending_of : EndStage → List Deferral → ℕ → Ending
@@ -17,8 +20,8 @@ ending_of EmptyingStage hand count = Emptying hand count
 ending_of OverStage hand count = Over
 
 -- the state of a world of these parts, but for the places of the store
-abbrev pub state_of : Sizes → ℕ → List Seat → List Bag → ℕ → Ending → State
-state_of sizes epoch seats queued tickets ending = record { sizes = sizes; epoch = epoch; seats = seats; queued = queued; tickets = tickets; ending = ending; places = []; seen = []; ahead = [] }
+abbrev pub state_of : Sizes → ℕ → List Seat → List Bag → ℕ → Ending → Heap → State
+state_of sizes epoch seats queued tickets ending heap = record { sizes = sizes; epoch = epoch; seats = seats; queued = queued; tickets = tickets; ending = ending; places = []; seen = []; ahead = []; room = []; heap = heap }
 
 -- the participant at a position has a call under way, and its machine asks for this
 pub record IsDrivenAt (s : State) (p : ℕ) (ask : Ask) : Type 0 where
@@ -32,11 +35,19 @@ abbrev pub aheads : {C : Type 0} → (ℕ → C → ℕ) → List Seat → List 
 aheads ahead (seat ∷ seats) (cursor ∷ cursors) = ahead (expiry_of seat.machine.stage) cursor ∷ aheads ahead seats cursors
 aheads ahead _ _ = []
 
+-- no participant at such a stage claims the place, by its cursor
+abbrev pub NobodyClaims : {C : Type 0} → (Stage → Bool) → (C → ℕ → Type 0) → Sizes → List Seat → List C → ℕ → Type 0
+NobodyClaims {C} at Claims sizes seats cursors place =
+    (q : ℕ) (cursor : C) → slice_get cursors q ≡ Some cursor → ¬ ((at (slice_index_or seats q (free_seat sizes)).machine.stage ≡ true) × Claims cursor place)
+
 -- a bag is claimed by nobody but a participant that is taking bags
 abbrev pub ClaimsKnown : {C : Type 0} → (ℕ → Type 0) → (C → ℕ → Type 0) → Sizes → List Seat → List C → Type 0
-ClaimsKnown {C} Claimed Claims sizes seats cursors = (place : ℕ)
-    → ((q : ℕ) (cursor : C) → slice_get cursors q ≡ Some cursor → ¬ (OwnClaims (slice_index_or seats q (free_seat sizes)).machine.stage (Claims cursor) place))
-    → ¬ (Claimed place)
+ClaimsKnown Claimed Claims sizes seats cursors = (place : ℕ) → NobodyClaims is_taking Claims sizes seats cursors place → ¬ (Claimed place)
+
+-- and a place without a bag by nobody but a participant that is putting or taking one
+abbrev pub ReservesKnown : {P T : Type 0} → (ℕ → Type 0) → (P → ℕ → Type 0) → (T → ℕ → Type 0) → Sizes → List Seat → List P → List T → Type 0
+ReservesKnown Reserved Reserves Claims sizes seats puts takes =
+    (place : ℕ) → NobodyClaims is_putting Reserves sizes seats puts place → NobodyClaims is_taking Claims sizes seats takes place → ¬ (Reserved place)
 
 -- an end is under way
 abbrev pub IsEmptying : Ending → Type 0

@@ -16,15 +16,20 @@ ghost use Rattle.epoch_laws.specs.Full.{FullWhereFound};
 ghost use Rattle.epoch_laws.specs.Calls.{call_of, EndsAtLast};
 ghost use Rattle.epoch_rounds.specs.Rounds.{RoundsCallAll};
 ghost use Rattle.epoch_rounds.specs.Collected.{CollectsFew};
+ghost use Rattle.epoch_reach.specs.Reach.{LeavesOnce, KeepsLoaded, past_of};
+ghost use Rattle.epoch_reach.specs.Given.{GivesNoNameTwice};
+ghost use Rattle.epoch_reach.specs.Removals.{CallsWhatWasDeferred};
+ghost use Rattle.epoch_reach.specs.Standing.{StandsOrDestroyed, given_of, LoadedStand};
 
 mod calls;
 mod guards;
 mod seat;
 
 use calls::{go_on, go_to_end, most_steps};
-use epoch_bags::{Bag, BagStore, Called, Epoch, Places, SealedBag};
+use epoch_bags::{Bag, BagStore, Epoch, Places, SealedBag};
 use epoch_cells::Fault;
-use epoch_laws::{Answer, Call, Deferral, Reply, Shape, Step, Word};
+use epoch_heap::{Answer, Heap};
+use epoch_laws::{Call, Deferral, Reply, Shape, Step, Word};
 use epoch_machine::Sizes;
 pub use seat::Seat;
 use std::alloc::Global;
@@ -52,26 +57,28 @@ pub struct World<S: BagStore<Job = Deferral> = Places<Deferral>> {
     end: EndStage,
     hand: SealedBag<Deferral>,
     count: u64,
+    heap: Heap,
 }
 
 impl<S: BagStore<Job = Deferral>> Model for World<S> {
     ghost use Rattle.std.specs.Prelude.{◌≡◌, ◌^◌, ◌<◌, ◌≤◌, length, map};
     ghost use Rattle.epoch_machine.specs.Machine.{IsSized};
     ghost use Rattle.epoch_laws.specs.Run.{State, with_places};
-    ghost use Rattle.epoch_world.specs.Worlds.{state_of, ending_of, aheads, ClaimsKnown};
+    ghost use Rattle.epoch_world.specs.Worlds.{state_of, ending_of, aheads, ClaimsKnown, ReservesKnown};
     ghost use Rattle.epoch_laws.specs.Kept.{IsKept};
 
     ghost Value = { State };
 
-    ghost view = { λ a. with_places (state_of a.sizes a.epoch a.seats.items (S.queued a.store) a.tickets (ending_of a.end a.hand.jobs a.count)) (S.occupied a.store) (map S.passed a.putting.items) (aheads (λ x cursor. S.ahead x a.store cursor) a.seats.items a.taking.items) };
+    ghost view = { λ a. with_places (state_of a.sizes a.epoch a.seats.items (S.queued a.store) a.tickets (ending_of a.end a.hand.jobs a.count) a.heap) (S.occupied a.store) (map S.passed a.putting.items) (aheads (λ x cursor. S.ahead x a.store cursor) a.seats.items a.taking.items) (map (λ cursor. S.has_room a.store cursor) a.putting.items) };
 
     ghost invariant = { λ a. record {
       sized : IsSized a.sizes;
       epoch : a.epoch < 2 ^ 63;
       putting : length a.putting.items ≡ length a.seats.items;
       taking : length a.taking.items ≡ length a.seats.items;
-      kept : IsKept (state_of a.sizes a.epoch a.seats.items (S.queued a.store) a.tickets (ending_of a.end a.hand.jobs a.count));
+      kept : IsKept (state_of a.sizes a.epoch a.seats.items (S.queued a.store) a.tickets (ending_of a.end a.hand.jobs a.count) a.heap);
       claimed : ClaimsKnown (S.Claimed a.store) S.Claims a.sizes a.seats.items a.taking.items;
+      reserved : ReservesKnown (S.Reserved a.store) S.Reserves S.Claims a.sizes a.seats.items a.putting.items a.taking.items;
     } };
 }
 
@@ -86,6 +93,11 @@ impl<S: BagStore<Job = Deferral>> World<S> {
         ensures positions { IfOk result (λ world. length world.seats ≡ shape.participants) }
         ensures sizes { IfOk result (λ world. world.sizes ≡ sizes_of shape) }
         ensures places { IfOk result (λ world. length world.places ≡ shape.bags) }
+        ensures cells { IfOk result (λ world. length world.heap.cells ≡ shape.cells) }
+        ensures roots { IfOk result (λ world. length world.heap.roots ≡ shape.roots) }
+        ensures fields { IfOk result (λ world. world.heap.fields ≡ shape.fields) }
+        ensures align { IfOk result (λ world. world.heap.align ≡ shape.align) }
+        ensures start_turn { IfOk result (λ world. world.heap.start_turn ≡ shape.start_turn) }
         ensures no_memory { IfErr result (λ fault. fault ≡ NoMemory) }
     {
         let sizes = Sizes {
@@ -94,6 +106,14 @@ impl<S: BagStore<Job = Deferral>> World<S> {
             collect_bags: shape.collect_bags,
         };
         let store = S::with_room(alloc, shape.bags as usize)?;
+        let heap = Heap::new(
+            alloc,
+            shape.roots as usize,
+            shape.cells as u32,
+            shape.fields,
+            shape.align,
+            shape.start_turn as u32,
+        )?;
         let count = shape.participants as usize;
         let seats = free_seats(alloc, count, sizes)?;
         let putting = repeated(alloc, count, store.start_put())?;
@@ -110,6 +130,7 @@ impl<S: BagStore<Job = Deferral>> World<S> {
             end: EndStage::Open,
             hand: Bag::new().seal(Epoch::starting()),
             count: 0,
+            heap,
         })
     }
 
@@ -142,6 +163,15 @@ impl<S: BagStore<Job = Deferral>> World<S> {
         ensures rounds { IfOk result (λ replies. (fresh start : State) (earlier since : List Entry) → IsFresh fresh → Runs fresh earlier start → Runs start since self.old → RoundsCallAll start (since ++ entries_of steps.now replies.items) self.new) }
         // Each call takes at most as many bags as one collection may take, and calls at most the jobs of so many full bags.
         ensures few { IfOk result (λ replies. (fresh : State) (earlier : List Entry) → IsFresh fresh → Runs fresh earlier self.old → CollectsFew fresh (earlier ++ entries_of steps.now replies.items) self.new) }
+        // Where cells leave once and out of reach, no name that is loaded under a guard still held is destroyed, and each
+        // such name has its cell.
+        ensures reach { IfOk result (λ replies. (fresh : State) (earlier : List Entry) → IsFresh fresh → Runs fresh earlier self.old → (run : Runs fresh (earlier ++ entries_of steps.now replies.items) self.new) → LeavesOnce fresh (earlier ++ entries_of steps.now replies.items) self.new run → KeepsLoaded (past_of fresh (earlier ++ entries_of steps.now replies.items) self.new run)) }
+        ensures loaded { IfOk result (λ replies. (fresh : State) (earlier : List Entry) → IsFresh fresh → Runs fresh earlier self.old → (run : Runs fresh (earlier ++ entries_of steps.now replies.items) self.new) → LeavesOnce fresh (earlier ++ entries_of steps.now replies.items) self.new run → LoadedStand (past_of fresh (earlier ++ entries_of steps.now replies.items) self.new run) self.new.heap) }
+        // No name is given twice, and each that was given has its cell or is destroyed, and not both.
+        ensures given { IfOk result (λ replies. (fresh : State) (earlier : List Entry) → IsFresh fresh → Runs fresh earlier self.old → (run : Runs fresh (earlier ++ entries_of steps.now replies.items) self.new) → GivesNoNameTwice fresh (earlier ++ entries_of steps.now replies.items) self.new run) }
+        ensures stands { IfOk result (λ replies. (fresh : State) (earlier : List Entry) → IsFresh fresh → Runs fresh earlier self.old → (run : Runs fresh (earlier ++ entries_of steps.now replies.items) self.new) → StandsOrDestroyed (given_of fresh (earlier ++ entries_of steps.now replies.items) self.new run) (past_of fresh (earlier ++ entries_of steps.now replies.items) self.new run) self.new.heap) }
+        // A job in a bag removes the name that its ticket's deferral named, or is work; and its call does just that.
+        ensures removals { IfOk result (λ replies. (fresh : State) (earlier : List Entry) → IsFresh fresh → Runs fresh earlier self.old → (run : Runs fresh (earlier ++ entries_of steps.now replies.items) self.new) → CallsWhatWasDeferred fresh (earlier ++ entries_of steps.now replies.items) self.new run) }
 
         ensures err { OnErr result (self.new ≡ self.old) }
         ensures no_memory { IfErr result (λ fault. fault ≡ NoMemory) }
@@ -178,11 +208,20 @@ impl<S: BagStore<Job = Deferral>> World<S> {
         ensures rounds { IfOk result (λ replies. (fresh start : State) (earlier since : List Entry) → IsFresh fresh → Runs fresh earlier start → Runs start since self.old → RoundsCallAll start (since ++ call_of participant call replies.items) self.new) }
         // Each call takes at most as many bags as one collection may take, and calls at most the jobs of so many full bags.
         ensures few { IfOk result (λ replies. (fresh : State) (earlier : List Entry) → IsFresh fresh → Runs fresh earlier self.old → CollectsFew fresh (earlier ++ call_of participant call replies.items) self.new) }
+        // Where cells leave once and out of reach, no name that is loaded under a guard still held is destroyed, and each
+        // such name has its cell.
+        ensures reach { IfOk result (λ replies. (fresh : State) (earlier : List Entry) → IsFresh fresh → Runs fresh earlier self.old → (run : Runs fresh (earlier ++ call_of participant call replies.items) self.new) → LeavesOnce fresh (earlier ++ call_of participant call replies.items) self.new run → KeepsLoaded (past_of fresh (earlier ++ call_of participant call replies.items) self.new run)) }
+        ensures loaded { IfOk result (λ replies. (fresh : State) (earlier : List Entry) → IsFresh fresh → Runs fresh earlier self.old → (run : Runs fresh (earlier ++ call_of participant call replies.items) self.new) → LeavesOnce fresh (earlier ++ call_of participant call replies.items) self.new run → LoadedStand (past_of fresh (earlier ++ call_of participant call replies.items) self.new run) self.new.heap) }
+        // No name is given twice, and each that was given has its cell or is destroyed, and not both.
+        ensures given { IfOk result (λ replies. (fresh : State) (earlier : List Entry) → IsFresh fresh → Runs fresh earlier self.old → (run : Runs fresh (earlier ++ call_of participant call replies.items) self.new) → GivesNoNameTwice fresh (earlier ++ call_of participant call replies.items) self.new run) }
+        ensures stands { IfOk result (λ replies. (fresh : State) (earlier : List Entry) → IsFresh fresh → Runs fresh earlier self.old → (run : Runs fresh (earlier ++ call_of participant call replies.items) self.new) → StandsOrDestroyed (given_of fresh (earlier ++ call_of participant call replies.items) self.new run) (past_of fresh (earlier ++ call_of participant call replies.items) self.new run) self.new.heap) }
+        // A job in a bag removes the name that its ticket's deferral named, or is work; and its call does just that.
+        ensures removals { IfOk result (λ replies. (fresh : State) (earlier : List Entry) → IsFresh fresh → Runs fresh earlier self.old → (run : Runs fresh (earlier ++ call_of participant call replies.items) self.new) → CallsWhatWasDeferred fresh (earlier ++ call_of participant call replies.items) self.new run) }
 
         ensures err { OnErr result (self.new ≡ self.old) }
         ensures no_memory { IfErr result (λ fault. fault ≡ NoMemory) }
     {
-        let steps = most_steps(self.sizes, self.store.capacity());
+        let steps = most_steps(self.sizes, self.store.capacity(), self.heap.slots());
         let mut replies = with_room(self.alloc, steps + 1)?;
         if let Some(fault) = self.refusal(participant, call) {
             replies.push_reserved(Reply::Refused(fault));
@@ -199,6 +238,7 @@ impl<S: BagStore<Job = Deferral>> World<S> {
             &mut self.seats,
             &mut self.store,
             &mut self.tickets,
+            &mut self.heap,
             &mut self.putting[index],
             &mut self.taking[index],
             &mut replies,
@@ -257,10 +297,10 @@ impl<S: BagStore<Job = Deferral>> World<S> {
 
     /// The fault that refuses this call now, or `None`.
     fn refusal(&self, position: u64, call: Call) -> Option<Fault>
-        ensures { result ≡ refusal call (seat_of self.now position) self.now.tickets }
+        ensures { result ≡ refusal call (seat_of self.now position) self.now.tickets self.now.heap }
     {
         match self.seats.get(position as usize) {
-            Some(seat) => seat.refusal(call, self.tickets),
+            Some(seat) => seat.refusal(call, self.tickets, &self.heap),
             None => Some(Fault::NotRegistered),
         }
     }
@@ -289,6 +329,7 @@ impl<S: BagStore<Job = Deferral>> World<S> {
             &mut self.seats,
             &mut self.store,
             &mut self.tickets,
+            &mut self.heap,
             &mut self.putting[index],
             &mut self.taking[index],
         )
@@ -325,7 +366,7 @@ impl<S: BagStore<Job = Deferral>> World<S> {
     {
         if let Some(job) = self.hand.take_next() {
             self.count += 1;
-            return Reply::Called(job.ticket, Called::Ran);
+            return Reply::Called(job.ticket, self.heap.call_job(job.removes));
         }
         match self.store.take_any() {
             Some(bag) => {
@@ -361,7 +402,8 @@ fn free_seats(alloc: Global, count: usize, sizes: Sizes) -> Result<Vec<Seat>, Fa
         return Err(Fault::NoMemory);
     };
     for _ in 0..count {
-        seats.push_reserved(Seat::free(sizes));
+        let seat = Seat::free(alloc, sizes)?;
+        seats.push_reserved(seat);
     }
     Ok(seats)
 }

@@ -1,15 +1,26 @@
 //! Memory that is refused to whoever makes a table, a store, a collector or a value: `rt try --test --fail-alloc N`
 //! refuses the Nth allocation of each test, and each of these tests passes whichever that is. In a plain run of the
 //! tests no allocation is refused. What a world leaves where memory is refused stands in the tests of worlds.
+ghost use Rattle.std.specs.Prelude.{◌≡◌, refl};
+ghost use Rattle.std.proofs.Common.{lit≤};
 
 use crate::wants::want;
 use epoch_base::queue::SharedPlaces;
 use epoch_base::table::Participants;
 use epoch_base::{BagQueue, Cells, Fault, Places, PlainCells};
-use epoch_pin::atomic::{Array, Atomic, Owned};
+use epoch_pin::atomic::{Array, Atomic, Owned, Pointable};
 use epoch_pin::{Capacities, Collector, Guard, unprotected};
-use std::alloc::Global;
+use epoch_world::sharp_steps;
+use std::alloc::{AllocError, Global};
 use std::process::Abort;
+
+/// Why no list of steps is made.
+fn sharp_refused(alloc: Global) -> Option<Fault> {
+    match sharp_steps(alloc) {
+        Ok(_steps) => None,
+        Err(fault) => Some(fault),
+    }
+}
 
 /// One allocation is refused at most: one of both is made at least, and the other is refused for want of memory alone.
 fn want_made(rt: &impl Abort, what: &str, first: Option<Fault>, second: Option<Fault>) {
@@ -53,9 +64,9 @@ fn places_refused(alloc: Global) -> Option<Fault> {
     Places::<u64>::new(alloc, 2).err()
 }
 
-/// A collector with one participant, two cells and one place.
+/// A collector with one participant, four cells and one place.
 fn new_collector(alloc: Global) -> Result<Collector<u64>, Fault> {
-    Collector::new(alloc, Capacities::usual(1, 2, 1), 1)
+    Collector::new(alloc, Capacities::usual(1, 4, 1), 1)
 }
 
 /// A collector, for which memory is asked once more where it is refused.
@@ -92,6 +103,11 @@ fn array_refused(alloc: Global) -> Option<Fault> {
     Array::<u64>::new(alloc, 3).err()
 }
 
+/// Why no array is owned of more elements than any memory has.
+fn boundless_array_refused(alloc: Global) -> Option<Fault> {
+    Owned::<Array<u64>>::init(alloc, usize::MAX).err()
+}
+
 /// Why no array is owned.
 fn owned_array_refused(alloc: Global) -> Option<Fault> {
     Owned::<Array<u64>>::init(alloc, 3).err()
@@ -116,9 +132,72 @@ fn clone_refused(rt: &impl Abort, alloc: Global, owned: &Owned<u64>) -> Option<F
     }
 }
 
+/// A number whose clone takes memory of its own, and gives it back.
+#[derive(Drop)]
+struct Costly {
+    alloc: Global,
+    number: u64,
+}
+
+impl Clone for Costly {
+    ghost is_clone = { λ x y. y ≡ x };
+
+    fn clone(&self) -> Result<Costly, AllocError> {
+        let number = Box::new(self.alloc, self.number)?;
+        Ok(Costly {
+            alloc: self.alloc,
+            number: *number,
+        })
+    }
+}
+
+impl Pointable for Costly {
+    ghost ALIGN = { 8 };
+
+    ghost log = { 3 };
+
+    ghost is_power = { refl };
+
+    ghost is_small = { lit≤ tt };
+
+    const ALIGN: usize = 8;
+
+    type Init = Costly;
+
+    ghost init_gives = { λ init costly. costly ≡ init };
+
+    fn init(_alloc: Global, init: Costly) -> Result<Costly, Fault> {
+        Ok(init)
+    }
+}
+
+/// An owned 5 whose clone is costly, for which memory is asked once more where it is refused.
+fn costly_at_last(alloc: Global) -> Result<Owned<Costly>, Fault> {
+    match Owned::new(alloc, Costly { alloc, number: 5 }) {
+        Ok(owned) => Ok(owned),
+        Err(_) => Owned::new(alloc, Costly { alloc, number: 5 }),
+    }
+}
+
+/// Why no clone of this value is made. A clone is equal to it.
+fn costly_clone_refused(rt: &impl Abort, alloc: Global, owned: &Owned<Costly>) -> Option<Fault> {
+    match owned.try_clone(alloc) {
+        Ok(copy) => {
+            want(rt, "the number of a clone", copy.number, owned.number);
+            None
+        }
+        Err(fault) => Some(fault),
+    }
+}
+
 /// Why no pointer to a value is made.
 fn pointer_refused(alloc: Global, guard: &Guard<'_, u64>) -> Option<Fault> {
     Atomic::new(alloc, 5u64, guard).err()
+}
+
+/// Why no pointer is made to a value that is made of a number.
+fn pointer_init_refused(alloc: Global, guard: &Guard<'_, u64>) -> Option<Fault> {
+    Atomic::<u64>::init(alloc, 5, guard).err()
 }
 
 #[test]
@@ -142,6 +221,13 @@ fn stores_are_made_or_memory_is_refused(rt: HostRuntime) {
     );
     want_made(&rt, "a queue", queue_refused(alloc), queue_refused(alloc));
     want_made(&rt, "places", places_refused(alloc), places_refused(alloc));
+}
+
+#[test]
+fn the_sharp_list_is_made_or_memory_is_refused(rt: HostRuntime) {
+    let alloc = rt.alloc();
+    let (first, second) = (sharp_refused(alloc), sharp_refused(alloc));
+    want_made(&rt, "the sharp list", first, second);
 }
 
 #[test]
@@ -186,6 +272,24 @@ fn a_clone_is_made_or_memory_is_refused(rt: HostRuntime) -> Result<(), Fault> {
 }
 
 #[test]
+fn a_clone_that_takes_memory_twice_is_made_or_memory_is_refused(
+    rt: HostRuntime,
+) -> Result<(), Fault> {
+    let alloc = rt.alloc();
+    let owned = costly_at_last(alloc)?;
+    let first = costly_clone_refused(&rt, alloc, &owned);
+    let second = costly_clone_refused(&rt, alloc, &owned);
+    want_made(&rt, "a clone", first, second);
+    Ok(())
+}
+
+#[test]
+fn an_array_of_more_elements_than_any_memory_has_is_refused(rt: HostRuntime) {
+    let fault = boundless_array_refused(rt.alloc());
+    want(&rt, "an array", fault, Some(Fault::NoMemory));
+}
+
+#[test]
 fn a_pointer_to_a_value_is_made_or_memory_is_refused(rt: HostRuntime) -> Result<(), Fault> {
     let alloc = rt.alloc();
     let collector = collector_at_last(alloc)?;
@@ -194,7 +298,12 @@ fn a_pointer_to_a_value_is_made_or_memory_is_refused(rt: HostRuntime) -> Result<
         pointer_refused(alloc, &guard),
         pointer_refused(alloc, &guard),
     );
+    let (third, fourth) = (
+        pointer_init_refused(alloc, &guard),
+        pointer_init_refused(alloc, &guard),
+    );
     want_made(&rt, "a pointer", first, second);
+    want_made(&rt, "a pointer to a value of a number", third, fourth);
     if let Err(_guard) = guard.let_go() {
         panic!(rt; "the guard is kept");
     }

@@ -3,5 +3,7 @@
 mod calls;
 mod deeds;
 mod memory;
+mod plain;
 mod reverse;
 mod rows;
+mod sizes;

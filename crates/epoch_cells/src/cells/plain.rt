@@ -1,6 +1,6 @@
 //! Numbered cells that nobody shares: a plain map from names to values.
 ghost use Rattle.std.specs.Prelude.{◌≡◌, ◌≢◌, ℕ, ◌+◌, ◌-◌, ◌<◌, ◌≤◌, ◌↔◌, false, None, Some, length, slice_get, IsTrue, IsNone, IsSome, IfSome, IfOk, IfErr, OnOk, OnErr, IsOkUnless, MatchOption, MatchResult, All, ◌⊎◌};
-ghost use Rattle.epoch_cells.specs.PlainCells.{Numbered, filled, empty, has, cell_of, with_cell, IsFree, unread, readable, removal_of, IsRead, Lowers, Stands, KeepsOthers};
+ghost use Rattle.epoch_cells.specs.PlainCells.{Numbered, filled, empty, has, cell_of, with_cell, IsFree, unread, readable, removal_of, IsRead, Lowers, Replaces, Stands, KeepsOthers};
 ghost use Rattle.epoch_cells.specs.declared.fault.Fault.TheVariants.{NoMemory, CellsFull};
 ghost use Rattle.epoch_cells.specs.declared.cells.Removal.TheVariants.{Destroyed, HeldElsewhere, Gone};
 
@@ -115,6 +115,14 @@ impl<V: Drop> Cell<V> {
         }
     }
 
+    // Replaces the value, which is there, also while it is read.
+    fn amend(&mut self, value: V)
+        requires { self.old.value ≢ None }
+        ensures { self.new ≡ record self.old { value = Some value } }
+    {
+        self.value = Some(value);
+    }
+
     // Counts one reader less, and says whether there was one.
     fn leave(&mut self) -> bool
         ensures left { IsTrue result ↔ (0 < self.old.readers) }
@@ -200,6 +208,18 @@ impl<V: Drop> PlainCells<V> {
         }
     }
 
+    /// The turn of a slot: that of its value, or of the next one that it takes, which is `2^32` where it takes none any
+    /// more. `None`: there is no such slot.
+    pub fn turn_at(&self, slot: u32) -> Option<u64>
+        requires { 0 < slot }
+        ensures { MatchOption result (slice_get self.now (slot - 1) ≡ None) (λ turn. (cell : Numbered V) × (slice_get self.now (slot - 1) ≡ Some cell) × (cell.turn ≡ turn)) }
+    {
+        match self.cells.get(slot as usize - 1) {
+            Some(cell) => Some(cell.turn),
+            None => None,
+        }
+    }
+
     /// The value of this name, without a reading.
     pub fn get(&self, name: Name) -> Option<&V>
         ensures { MatchOption result (cell_of self.now name.slot name.turn ≡ None) (λ value. (readers : ℕ) × (cell_of self.now name.slot name.turn ≡ Some (filled name.turn readers value.now))) }
@@ -239,6 +259,21 @@ impl<V: Drop> PlainCells<V> {
             return Err(value);
         };
         self.cells[index].replace(value)
+    }
+
+    /// Replaces the value of this name, also while it is read, and says whether its cell is there.
+    pub fn amend(&mut self, name: Name, value: V) -> bool
+        ensures amended { IsTrue result → Replaces name.slot value (cell_of self.old name.slot name.turn) self.old self.new }
+        ensures stays { result ≡ false → (cell_of self.old name.slot name.turn ≡ None) × (self.new ≡ self.old) }
+        ensures others { KeepsOthers name.slot name.turn self.old self.new }
+    {
+        match self.find(name) {
+            Some(index) => {
+                self.cells[index].amend(value);
+                true
+            }
+            None => false,
+        }
     }
 
     /// Takes the value of this name out, whose slot is for its next turn then.

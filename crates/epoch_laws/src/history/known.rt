@@ -3,7 +3,8 @@ ghost use Rattle.std.specs.Prelude.{◌≡◌, ℕ, Bool, List, Option};
 ghost use Rattle.epoch_laws.specs.Lawful.{Told, nothing, told_after, told_of, after_register, after_begin, after_go, counted_after, paused_after, registered_after};
 ghost use Rattle.epoch_laws.specs.Known.{known_of, changed};
 
-use crate::step::{Answer, Call, Entry, Reply, Step};
+use crate::step::{Call, Entry, Reply, Step};
+use epoch_heap::Answer;
 
 /// What is told of a participant.
 #[derive(Clone, Copy)]

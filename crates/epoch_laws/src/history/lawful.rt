@@ -1,13 +1,15 @@
 //! Whether each event of a history stands only where it may.
 ghost use Rattle.std.specs.Prelude.{◌≡◌, ◌↔◌, IsTrue, Some};
-ghost use Rattle.epoch_laws.specs.Lawful.{IsLawful, nothing, told_of, MayPin, MayUnpin, MayRepin, MayDefer, MayCall, MayCallNow, Told, HasTold, HasToldRefused, AnswerFits, MayTell, MayRegister, GuardsAllow, MayAccept, MayBegin, MayEnd, MayEndGo, MayReply, MayReplyAll};
+ghost use Rattle.epoch_laws.specs.Lawful.{IsLawful, nothing, told_of, MayPin, MayUnpin, MayRepin, MayDefer, MayCall, MayCallNow, Told, HasTold, HasToldRefused, IsValue, IsPointer, IsWritten, IsExchange, IsUpdate, ChangeAnswers, AccessAnswers, AnswerFits, MayTell, MayRegister, GuardAllows, GuardsAllow, MayAccept, MayBegin, MayEnd, MayEndGo, MayReply, MayReplyAll};
 ghost use Rattle.epoch_laws.specs.Known.{known_of};
+ghost use Rattle.epoch_heap.specs.Heap.{guard_of as access_guard};
 ghost use Rattle.epoch_laws.specs.Run.{waits as call_waits};
 
 use crate::history::guards::{has_none, has_one, has_only, has_out, has_room};
 use crate::history::known::Known;
 use crate::history::tickets::{calls_after_deferrals, calls_none_twice};
-use crate::step::{Answer, Call, Entry, Reply, Step};
+use crate::step::{Call, Entry, Reply, Step};
+use epoch_heap::{Access, Answer, Change};
 
 /// Whether each event stands only in the calls in which it may and as often as it should, each call begins only of a
 /// participant that is registered and has none under way, and whose guards allow it, and is done with its own kind of
@@ -99,7 +101,30 @@ fn guards_allow(before: &[Entry], participant: u64, call: Call, paused: Option<u
         }
         Call::Defer(Some(guard)) | Call::Flush(Some(guard)) => has_out(before, participant, guard),
         Call::Release => has_none(before, participant),
+        Call::DeferDestroy(Some(guard), _) => has_out(before, participant, guard),
+        Call::Access(access) => guard_allows(before, participant, guard_of(access)),
         _ => true,
+    }
+}
+
+/// Whether the guard, if it is a protecting one, is counted.
+fn guard_allows(before: &[Entry], participant: u64, guard: Option<u64>) -> bool
+    ensures { IsTrue result ↔ GuardAllows guard (told_of participant before.now).guards }
+{
+    match guard {
+        Some(guard) => has_out(before, participant, guard),
+        None => true,
+    }
+}
+
+/// The guard of a call on cells and pointers, if it is a protecting one.
+fn guard_of(access: Access) -> Option<u64>
+    ensures { result ≡ access_guard access }
+{
+    match access {
+        Access::Read(guard, _) | Access::Write(guard, _, _) => guard,
+        Access::Take(guard, _) | Access::Point(guard, _, _) => guard,
+        Access::Place(_) | Access::Leave(_) => None,
     }
 }
 
@@ -188,7 +213,10 @@ fn may_repin(before: &[Entry], participant: u64, call: Option<Call>) -> bool
 fn may_defer(call: Option<Call>) -> bool
     ensures { IsTrue result ↔ MayDefer call }
 {
-    matches!(call, Some(Call::Defer(Some(_))))
+    matches!(
+        call,
+        Some(Call::Defer(Some(_)) | Call::DeferDestroy(Some(_), _))
+    )
 }
 
 fn may_call(call: Option<Call>) -> bool
@@ -203,7 +231,7 @@ fn may_call(call: Option<Call>) -> bool
 fn may_call_now(call: Option<Call>) -> bool
     ensures { IsTrue result ↔ MayCallNow call }
 {
-    matches!(call, Some(Call::Defer(None)))
+    matches!(call, Some(Call::Defer(None) | Call::DeferDestroy(None, _)))
 }
 
 /// Whether the call under way, which is done, has told what it should.
@@ -218,8 +246,8 @@ fn has_told(before: &[Entry], participant: u64, known: Known) -> bool
         Some(Call::Unpin(Some(guard))) | Some(Call::Pause(Some(guard))) => {
             known.did_unpin || !has_only(before, participant, guard)
         }
-        Some(Call::Defer(Some(_))) => known.did_defer,
-        Some(Call::Defer(None)) => known.did_call_now,
+        Some(Call::Defer(Some(_)) | Call::DeferDestroy(Some(_), _)) => known.did_defer,
+        Some(Call::Defer(None) | Call::DeferDestroy(None, _)) => known.did_call_now,
         Some(Call::Release) => known.did_pin && known.did_unpin,
         Some(_) => true,
         None => false,
@@ -233,9 +261,72 @@ fn answer_fits(call: Option<Call>, answer: Answer) -> bool
     match call {
         Some(Call::Pin) => matches!(answer, Answer::Guard(_)),
         Some(Call::Release) => matches!(answer, Answer::Released),
+        Some(Call::Access(access)) => access_answers(access, answer),
         Some(_) => matches!(answer, Answer::Unit),
         None => false,
     }
+}
+
+/// Whether this call on cells and pointers may have that answer.
+fn access_answers(access: Access, answer: Answer) -> bool
+    ensures { IsTrue result ↔ AccessAnswers access answer }
+{
+    match access {
+        Access::Place(_) => matches!(answer, Answer::Name(_)),
+        Access::Read(_, _) | Access::Take(_, _) => is_value(answer),
+        Access::Leave(_) => matches!(answer, Answer::Unit),
+        Access::Write(_, _, _) => is_written(answer),
+        Access::Point(_, _, change) => change_answers(change, answer),
+    }
+}
+
+/// Whether a call on a pointer may have that answer.
+fn change_answers(change: Change, answer: Answer) -> bool
+    ensures { IsTrue result ↔ ChangeAnswers change answer }
+{
+    match change {
+        Change::Load | Change::Swap(_) => is_pointer(answer),
+        Change::Store(_) => is_written(answer),
+        Change::CompareExchange(_, _) => is_exchange(answer),
+        Change::FetchAnd(_) | Change::FetchOr(_) | Change::FetchXor(_) => is_pointer(answer),
+        Change::FetchUpdate(_, _) => is_update(answer),
+    }
+}
+
+fn is_value(answer: Answer) -> bool
+    ensures { IsTrue result ↔ IsValue answer }
+{
+    matches!(answer, Answer::Value(_) | Answer::Absent)
+}
+
+fn is_pointer(answer: Answer) -> bool
+    ensures { IsTrue result ↔ IsPointer answer }
+{
+    matches!(answer, Answer::Pointer(_) | Answer::Absent)
+}
+
+fn is_written(answer: Answer) -> bool
+    ensures { IsTrue result ↔ IsWritten answer }
+{
+    matches!(answer, Answer::Unit | Answer::Absent)
+}
+
+fn is_exchange(answer: Answer) -> bool
+    ensures { IsTrue result ↔ IsExchange answer }
+{
+    matches!(
+        answer,
+        Answer::Exchanged(_) | Answer::Unchanged(_) | Answer::Absent
+    )
+}
+
+fn is_update(answer: Answer) -> bool
+    ensures { IsTrue result ↔ IsUpdate answer }
+{
+    matches!(
+        answer,
+        Answer::Updated(_) | Answer::Stopped(_) | Answer::RanOut(_) | Answer::Absent
+    )
 }
 
 /// Whether the call under way, which is refused at its end, has told what it should.
@@ -243,9 +334,10 @@ fn has_told_refused(known: Known) -> bool
     ensures { (t : Told) → known ≡ known_of t → (IsTrue result ↔ HasToldRefused known.call t) }
 {
     match known.call {
-        Some(Call::Defer(Some(_))) => !known.did_defer,
+        Some(Call::Defer(Some(_)) | Call::DeferDestroy(Some(_), _)) => !known.did_defer,
         Some(Call::Flush(Some(_))) => true,
         Some(Call::Release) => known.did_pin && known.did_unpin,
+        Some(Call::Access(Access::Place(_))) => true,
         Some(_) => false,
         None => true,
     }

@@ -1,19 +1,24 @@
 //! One participant of the world: its word, its machine, and the guards and calls that the world keeps of it.
-ghost use Rattle.std.specs.Prelude.{◌≡◌, ◌≢◌, true, ℕ, ◌+◌, ◌*◌, ◌^◌, ◌<◌, ◌≤◌, Option, Some, None, IfSome, MatchOption, IsTrue, ◌↔◌, length, ◌⊎◌};
+ghost use Rattle.std.specs.Prelude.{◌≡◌, ◌≢◌, true, ℕ, ◌+◌, ◌*◌, ◌^◌, ◌<◌, ◌≤◌, Option, Some, None, IfSome, MatchOption, IsTrue, ◌↔◌, length, ◌⊎◌, IfOk, IfErr, vec_capacity, remove, if◌then◌else◌};
 ghost use Rattle.epoch_machine.specs.Machine.{asks, AskFits, heard, guards_after, IsSized};
-ghost use Rattle.epoch_laws.specs.Run.{free_seat, with_machine, with_word, refusal, waits, call_refusal, guard_refusal, resume_refusal, is_out, begun_seat, drives, ended_seat, end_reply};
+ghost use Rattle.epoch_laws.specs.Run.{free_seat, with_machine, with_word, refusal, waits, call_refusal, guard_refusal, resume_refusal, is_out, begun_seat, drives, ended_seat, end_reply, under_guard, access_refusal, reading_refusal, reads, removed_by, readings_after, without_reading, accessed_seat, access_reply};
 ghost use Rattle.epoch_machine.specs.declared.machine.Stage.TheVariants.{Idle, End};
-ghost use Rattle.epoch_world.specs.Seats.{shared, SeatPerforms, WordFits, adds_guard};
+ghost use Rattle.epoch_world.specs.Seats.{shared, SeatPerforms, WordFits, adds_guard, CanRead, HasRead};
+ghost use Rattle.epoch_cells.specs.declared.fault.Fault.TheVariants.{NoMemory};
+ghost use Rattle.epoch_heap.specs.Heap.{guard_of, has_steps, Touched, Touches, outcome_of, after_job};
 ghost use Rattle.epoch_world.specs.Steps.{in_store, machine_steps};
 ghost use Rattle.epoch_laws.specs.Places.{sight, Looks};
 ghost use Rattle.epoch_laws.specs.Collections.{reach, expiry_of, Finds, MayClaim};
+ghost use Rattle.epoch_laws.specs.Room.{TellsRoom, MayReserve};
 
 use crate::world::guards::{is_out, lowest, without};
 use arrayvec::ArrayVec;
-use epoch_bags::{BagStore, Called};
-use epoch_cells::Fault;
-use epoch_laws::{Answer, Call, Deferral, Progress, Reply, Word};
+use epoch_bags::BagStore;
+use epoch_cells::{Fault, Name};
+use epoch_heap::{Access, Accessed, Answer, Heap, Ptr, is_name};
+use epoch_laws::{Call, Deferral, Progress, Reply, Word};
 use epoch_machine::{Action, Answer as Found, Ask, Machine, Sizes};
+use std::alloc::Global;
 use std::marker::Model;
 
 /// How many guards a participant of the world may have out.
@@ -21,6 +26,12 @@ const GUARDS: usize = 64;
 
 /// How many of the greatest tickets are never given: one may be asked for by each participant under way.
 const TICKETS_ASIDE: u64 = 4096;
+
+/// How many readings a participant may have at once: as many as there may be cells.
+const READINGS: usize = 4096;
+
+/// No cell, and no tag.
+const NULL: Ptr = Ptr { name: None, tag: 0 };
 
 /// A participant.
 #[derive(Drop)]
@@ -30,11 +41,13 @@ pub struct Seat {
     progress: Progress,
     guards: ArrayVec<u64, 64>,
     paused: Option<u64>,
+    readings: Vec<Name>,
 }
 
 impl Model for Seat {
     ghost use Rattle.epoch_laws.specs.Run.{Seat};
-    ghost use Rattle.epoch_world.specs.Seats.{WordFits};
+    ghost use Rattle.epoch_world.specs.Seats.{WordFits, ProgressFits};
+    ghost use Rattle.std.specs.Prelude.{◌≤◌, vec_capacity};
 
     ghost Value = { Seat };
 
@@ -44,24 +57,32 @@ impl Model for Seat {
       progress = a.progress;
       guards = a.guards.items;
       paused = a.paused;
+      readings = a.readings.items;
     } };
 
-    ghost invariant = { λ a. WordFits a.word };
+    ghost invariant = { λ a. record { word : WordFits a.word; progress : ProgressFits a.progress; room : 4096 ≤ vec_capacity a.readings } };
 }
 
 impl Seat {
     /// A free position.
-    pub fn free(sizes: Sizes) -> Seat
+    ///
+    /// `NoMemory`: an allocation was refused.
+    pub fn free(alloc: Global, sizes: Sizes) -> Result<Seat, Fault>
         requires { IsSized sizes }
-        ensures { result ≡ free_seat sizes }
+        ensures seat { IfOk result (λ seat. seat ≡ free_seat sizes) }
+        ensures no_memory { IfErr result (λ fault. fault ≡ NoMemory) }
     {
-        Seat {
+        let Ok(readings) = Vec::with_capacity(alloc, READINGS) else {
+            return Err(Fault::NoMemory);
+        };
+        Ok(Seat {
             word: Word::Free,
             machine: Machine::new(sizes),
             progress: Progress::Idle,
             guards: ArrayVec::new(),
             paused: None,
-        }
+            readings,
+        })
     }
 
     /// What its word says.
@@ -107,6 +128,7 @@ impl Seat {
         epoch: &mut u64,
         store: &mut S,
         tickets: &mut u64,
+        heap: &mut Heap,
         putting: &mut S::Putting,
         taking: &mut S::Taking,
     ) -> Reply
@@ -115,10 +137,12 @@ impl Seat {
         requires epoch { epoch.old < 2 ^ 63 }
         requires tickets { ask ≡ Ask.KeepJob → tickets.old + 1 < 2 ^ 64 }
         ensures within { epoch.new < 2 ^ 63 }
-        ensures step { SeatPerforms self.old.machine.sizes position word (shared epoch.old (S.queued store.old) tickets.old) self.old self.old.machine.stage ask result self.new (shared epoch.new (S.queued store.new) tickets.new) }
+        ensures step { SeatPerforms self.old.machine.sizes position word (shared epoch.old (S.queued store.old) tickets.old heap.old) self.old self.old.machine.stage ask result self.new (shared epoch.new (S.queued store.new) tickets.new heap.new) }
         ensures looks { Looks (Some ask) self.old.machine self.new.machine (sight (S.occupied store.old) (S.passed putting.old)) (sight (S.occupied store.new) (S.passed putting.new)) }
         ensures finds { Finds ((place : ℕ) → ¬ (S.Claimed store.old place)) (Some ask) self.new.machine (reach (S.queued store.old) (S.ahead (expiry_of self.old.machine.stage) store.old taking.old)) (reach (S.queued store.new) (S.ahead (expiry_of self.new.machine.stage) store.new taking.new)) }
+        ensures room { TellsRoom (((place : ℕ) → ¬ (S.Reserved store.old place)) × (length (S.queued store.old) < length (S.occupied store.old))) (Some ask) self.new.machine (S.has_room store.old putting.old) (S.has_room store.new putting.new) }
         ensures claims { MayClaim ask self.new.machine.stage (S.Claimed store.old) (S.Claims taking.old) (S.Claimed store.new) (S.Claims taking.new) }
+        ensures reserves { MayReserve ask self.new.machine.stage (S.Reserved store.old) (S.Reserves putting.old) (S.Claims taking.old) (S.Reserved store.new) (S.Reserves putting.new) (S.Claims taking.new) }
 
         // The call has fewer steps left.
         ensures fewer { machine_steps self.new.machine (in_store (S.puts_left (S.capacity store.old) putting.new) (S.takes_left (S.capacity store.old) taking.new) (3 * S.capacity store.old + 65)) < machine_steps self.old.machine (in_store (S.puts_left (S.capacity store.old) putting.old) (S.takes_left (S.capacity store.old) taking.old) (3 * S.capacity store.old + 65)) }
@@ -126,7 +150,7 @@ impl Seat {
     {
         match ask {
             Ask::LoadEpoch => {
-                *putting = store.start_put();
+                *putting = begin_put(store);
                 self.machine.take(Found::Epoch(*epoch));
                 Reply::Stepped
             }
@@ -166,7 +190,7 @@ impl Seat {
             }
             Ask::KeepJob => Reply::Deferred(self.keep_job(tickets)),
             Ask::CallJob => match self.machine.give() {
-                Some(job) => Reply::Called(job.ticket, Called::Ran),
+                Some(job) => Reply::Called(job.ticket, heap.call_job(job.removes)),
                 None => unreachable!(),
             },
         }
@@ -205,15 +229,23 @@ impl Seat {
         requires tickets { tickets.old + 1 < 2 ^ 64 }
         ensures ticket { result ≡ tickets.old }
         ensures tickets { tickets.new ≡ tickets.old + 1 }
-        ensures seat { self.new ≡ with_machine self.old (heard self.old.machine (Found.Job (record { ticket = tickets.old; removes = None }))) }
+        ensures seat { self.new ≡ with_machine self.old (heard self.old.machine (Found.Job (record { ticket = tickets.old; removes = removed_by self.old.progress }))) }
     {
+        let removes = self.removed();
         let ticket = *tickets;
         *tickets = ticket + 1;
-        self.machine.take(Found::Job(Deferral {
-            ticket,
-            removes: None,
-        }));
+        self.machine.take(Found::Job(Deferral { ticket, removes }));
         ticket
+    }
+
+    /// The name whose removal the call under way defers.
+    fn removed(&self) -> Option<Name>
+        ensures { result ≡ removed_by self.now.progress }
+    {
+        match self.progress {
+            Progress::Driven(Call::DeferDestroy(_, ptr)) => ptr.name,
+            _ => None,
+        }
     }
 
     /// The position is free again.
@@ -226,11 +258,12 @@ impl Seat {
         self.progress = Progress::Idle;
         self.guards.clear();
         self.paused = None;
+        self.readings.clear();
     }
 
     /// The fault that refuses a call now, where `tickets` were given so far, or `None`.
-    pub fn refusal(&self, call: Call, tickets: u64) -> Option<Fault>
-        ensures { result ≡ refusal call self.now tickets }
+    pub fn refusal(&self, call: Call, tickets: u64, heap: &Heap) -> Option<Fault>
+        ensures { result ≡ refusal call self.now tickets heap.now }
     {
         if let Word::Free = self.word {
             return Some(Fault::NotRegistered);
@@ -241,7 +274,7 @@ impl Seat {
         if self.waits(call) {
             return Some(Fault::Busy);
         }
-        self.own_refusal(call, tickets)
+        self.own_refusal(call, tickets, heap)
     }
 
     /// Who is paused may only resume.
@@ -254,8 +287,8 @@ impl Seat {
         }
     }
 
-    fn own_refusal(&self, call: Call, tickets: u64) -> Option<Fault>
-        ensures { result ≡ call_refusal call self.now tickets }
+    fn own_refusal(&self, call: Call, tickets: u64, heap: &Heap) -> Option<Fault>
+        ensures { result ≡ call_refusal call self.now tickets heap.now }
     {
         match call {
             Call::Pin => {
@@ -282,13 +315,59 @@ impl Seat {
                 }
             }
             Call::Release => {
-                if self.guards.len() == 0 {
+                if self.guards.len() == 0 && self.readings.is_empty() {
                     None
                 } else {
                     Some(Fault::GuardsOut)
                 }
             }
+            Call::DeferDestroy(None, ptr) => {
+                if heap.is_removable(ptr.name) {
+                    None
+                } else {
+                    Some(Fault::StrangerPointer)
+                }
+            }
+            Call::DeferDestroy(Some(guard), ptr) => {
+                if !is_out(self.guards.as_slice(), guard) {
+                    Some(Fault::StrangerGuard)
+                } else if !heap.is_removable(ptr.name) {
+                    Some(Fault::StrangerPointer)
+                } else if tickets >= u64::MAX - TICKETS_ASIDE {
+                    Some(Fault::TicketsOut)
+                } else {
+                    None
+                }
+            }
+            Call::Access(access) => {
+                if !self.has_guard(guard_of(access)) {
+                    return Some(Fault::StrangerGuard);
+                }
+                self.access_refusal(access, heap)
+            }
         }
+    }
+
+    /// Whether the guard is out, or an unprotected one.
+    fn has_guard(&self, guard: Option<u64>) -> bool
+        ensures { (fault : Option Fault) → under_guard guard self.now.guards fault ≡ (if result then fault else Some Fault.StrangerGuard) }
+    {
+        match guard {
+            None => true,
+            Some(number) => is_out(self.guards.as_slice(), number),
+        }
+    }
+
+    fn access_refusal(&self, access: Access, heap: &Heap) -> Option<Fault>
+        ensures { result ≡ access_refusal access self.now.readings heap.now }
+    {
+        if !heap.has_place(access) {
+            return Some(Fault::NoSuchPlace);
+        }
+        if !heap.knows_names(access) {
+            return Some(Fault::StrangerPointer);
+        }
+        reading_refusal(access, self.readings.as_slice())
     }
 
     fn guard_refusal(&self, guard: Option<u64>) -> Option<Fault>
@@ -330,9 +409,12 @@ impl Seat {
         requires { IsSized sizes }
         ensures { self.new ≡ record (free_seat sizes) { word = Word.Unpinned } }
     {
-        let mut seat = Seat::free(sizes);
-        seat.word = Word::Unpinned;
-        *self = seat;
+        self.word = Word::Unpinned;
+        self.machine = Machine::new(sizes);
+        self.progress = Progress::Idle;
+        self.guards.clear();
+        self.paused = None;
+        self.readings.clear();
     }
 
     /// Begins a call that isn't refused.
@@ -349,7 +431,10 @@ impl Seat {
             Call::Defer(Some(_)) => self.drive(Action::Defer, call),
             Call::Flush(Some(_)) => self.drive(Action::Flush, call),
             Call::Release => self.drive(Action::Release, call),
-            Call::Defer(None) => self.progress = Progress::CallsNow,
+            Call::DeferDestroy(Some(_), _) => self.drive(Action::Defer, call),
+            Call::Defer(None) => self.progress = Progress::CallsNow(None),
+            Call::DeferDestroy(None, ptr) => self.progress = Progress::CallsNow(ptr.name),
+            Call::Access(access) => self.begin_access(access),
             Call::Repin(None) | Call::Pause(None) | Call::Resume(None) | Call::Flush(None) => {
                 self.progress = Progress::Ends(Reply::Done(Answer::Unit));
             }
@@ -364,13 +449,49 @@ impl Seat {
         self.progress = Progress::Driven(call);
     }
 
-    /// Calls a job at once: no participant may still need what it is about.
-    pub fn call_now(&mut self) -> Reply
-        ensures reply { result ≡ Reply.CalledNow Called.Ran }
+    fn begin_access(&mut self, access: Access)
+        ensures { self.new ≡ begun_seat (Call.Access access) self.old }
+    {
+        if has_steps(access) {
+            self.progress = Progress::Accesses(access, 0, NULL);
+        } else {
+            self.progress = Progress::Ends(Reply::Done(Answer::Absent));
+        }
+    }
+
+    /// One step of the call on cells and pointers that is under way.
+    pub fn access(&mut self, access: Access, made: u64, found: Ptr, heap: &mut Heap) -> Reply
+        requires under_way { self.old.progress ≡ Progress.Accesses access made found }
+        requires room { CanRead access self.old.readings heap.old }
+        ensures { (did : Touched) × Touches access made found heap.old did × (result ≡ access_reply did.told) × (self.new ≡ accessed_seat access made did.told self.old) × (heap.new ≡ did.heap) }
+    {
+        let _ = &self.readings;
+        let told = heap.touch(access, made, found);
+        keep_readings(&mut self.readings, access, told);
+        match told {
+            Accessed::Again(ptr) => {
+                self.progress = Progress::Accesses(access, made + 1, ptr);
+                Reply::Stepped
+            }
+            Accessed::Answers(answer) => {
+                self.progress = Progress::Ends(Reply::Done(answer));
+                Reply::Stepped
+            }
+            Accessed::NoSlot => {
+                self.progress = Progress::Idle;
+                Reply::Refused(Fault::CellsFull)
+            }
+        }
+    }
+
+    /// Calls a job at once, the removal of this name or work: no participant may still need what it is about.
+    pub fn call_now(&mut self, removes: Option<Name>, heap: &mut Heap) -> Reply
+        ensures reply { result ≡ Reply.CalledNow (outcome_of heap.old removes) }
+        ensures heap { heap.new ≡ after_job heap.old removes }
         ensures seat { self.new ≡ record self.old { progress = Progress.Ends (Reply.Done Answer.Unit) } }
     {
         self.progress = Progress::Ends(Reply::Done(Answer::Unit));
-        Reply::CalledNow(Called::Ran)
+        Reply::CalledNow(heap.call_job(removes))
     }
 
     /// No call is under way any more.
@@ -404,15 +525,132 @@ impl Seat {
                 self.guards.push(guard);
                 self.paused = None;
             }
-            Call::Defer(_) | Call::Flush(_) | Call::Release => {
+            Call::Defer(_) | Call::Flush(_) | Call::Release | Call::DeferDestroy(_, _) => {
                 if self.machine.found_full() {
                     reply = Reply::Refused(Fault::BagsFull);
                 }
             }
             Call::Unpin(None) | Call::Repin(_) | Call::Pause(None) | Call::Resume(None) => {}
+            Call::Access(_) => {}
         }
         self.machine.end();
         self.progress = Progress::Idle;
         reply
     }
+}
+
+/// The cursor of a put that has taken no step. It has room where fewer bags are in the store than it has places, and no
+/// place without a bag is claimed.
+fn begin_put<S: BagStore<Job = Deferral>>(store: &S) -> S::Putting
+    ensures passed { S.passed result ≡ 0 }
+    ensures few { S.puts_left (S.capacity store.now) result ≤ 3 * S.capacity store.now + 65 }
+    ensures room { ((place : ℕ) → ¬ (S.Reserved store.now place)) × (length (S.queued store.now) < length (S.occupied store.now)) → S.has_room store.now result ≡ true }
+{
+    let _places = store.capacity();
+    store.start_put()
+}
+
+/// The guard of a call on cells and pointers, if it is a protecting one.
+fn guard_of(access: Access) -> Option<u64>
+    ensures { result ≡ guard_of access }
+{
+    match access {
+        Access::Read(guard, _) | Access::Write(guard, _, _) | Access::Take(guard, _) => guard,
+        Access::Point(guard, _, _) => guard,
+        Access::Place(_) | Access::Leave(_) => None,
+    }
+}
+
+/// Whether the call has a step at all.
+fn has_steps(access: Access) -> bool
+    ensures { result ≡ has_steps access }
+{
+    match access {
+        Access::Read(_, ptr) | Access::Write(_, ptr, _) | Access::Take(_, ptr) => ptr
+            .name
+            .is_some(),
+        _ => true,
+    }
+}
+
+/// What is wrong with the readings: a second one, or none.
+fn reading_refusal(access: Access, readings: &[Name]) -> Option<Fault>
+    ensures { result ≡ reading_refusal access readings.now }
+{
+    match access {
+        Access::Read(_, ptr) => {
+            if reads(ptr.name, readings) {
+                Some(Fault::Busy)
+            } else {
+                None
+            }
+        }
+        Access::Leave(ptr) => {
+            if reads(ptr.name, readings) {
+                None
+            } else {
+                Some(Fault::StrangerPointer)
+            }
+        }
+        _ => None,
+    }
+}
+
+/// Whether the name is among those read.
+fn reads(name: Option<Name>, readings: &[Name]) -> bool
+    ensures { result ≡ reads name readings.now }
+{
+    let Some(wanted) = name else {
+        return false;
+    };
+    for other in readings {
+        if is_name(*other, wanted) {
+            return true;
+        }
+    }
+    false
+}
+
+/// A reading lasts from the step that finds the value up to that of its Leave.
+fn keep_readings(readings: &mut Vec<Name>, access: Access, told: Accessed)
+    requires within { HasRead access told readings.old.items }
+    requires room { 4096 ≤ vec_capacity readings.old }
+    ensures value { readings.new.items ≡ readings_after access told readings.old.items }
+    ensures room { 4096 ≤ vec_capacity readings.new }
+{
+    match (access, told) {
+        (Access::Read(_, ptr), Accessed::Answers(Answer::Value(_))) => {
+            if let Some(name) = ptr.name {
+                readings.push_reserved(name);
+            }
+        }
+        (Access::Leave(ptr), _) => {
+            if let Some(name) = ptr.name {
+                end_reading(readings, name);
+            }
+        }
+        _ => {}
+    }
+}
+
+/// Takes out the first reading of this name.
+fn end_reading(readings: &mut Vec<Name>, name: Name)
+    ensures value { readings.new.items ≡ without_reading (Some name) readings.old.items }
+    ensures room { vec_capacity readings.new ≡ vec_capacity readings.old }
+{
+    if let Some(index) = reading_at(readings.as_slice(), name) {
+        readings.remove(index);
+    }
+}
+
+/// The place of the first reading of this name.
+fn reading_at(readings: &[Name], name: Name) -> Option<usize>
+    ensures { MatchOption result (without_reading (Some name) readings.now ≡ readings.now) (λ index. (index < length readings.now) × (without_reading (Some name) readings.now ≡ remove readings.now index)) }
+{
+    for (index, other) in readings.iter().enumerate() {
+        if is_name(*other, name) {
+            return Some(index);
+        }
+    }
+    None
 }

@@ -25,7 +25,7 @@ const SHAPE: Shape = Shape {
 const UNIT: Reply = Reply::Done(Answer::Unit);
 
 /// Whose call, which one, and its last reply.
-const CALLS: &[(u64, Call, Reply)] = &[
+const CALLS: [(u64, Call, Reply); 22] = [
     (0, Call::Pin, Reply::Done(Answer::Guard(0))),
     (0, Call::Defer(Some(0)), UNIT),
     (0, Call::Flush(Some(0)), UNIT),

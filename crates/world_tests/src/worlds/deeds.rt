@@ -1,6 +1,7 @@
 //! What is done to a world, with what it has to tell of it.
 
 use crate::wants::want;
+use crate::worlds::plain;
 use epoch_base::{BagStore, Called, Fault};
 use epoch_world::{Answer, Call, Deferral, Reply, Shape, Step, World};
 use std::alloc::Global;
@@ -10,15 +11,15 @@ use std::test::Fail;
 /// More steps than any call or end of these tests has.
 const MANY: u64 = 30_000;
 
-const UNPIN: Call = Call::Unpin(Some(0));
+const UNPIN: plain::Call = plain::Call::Unpin(Some(0));
 
-const PAUSE: Call = Call::Pause(Some(0));
+const PAUSE: plain::Call = plain::Call::Pause(Some(0));
 
-const RESUME: Call = Call::Resume(Some(0));
+const RESUME: plain::Call = plain::Call::Resume(Some(0));
 
-const DEFER: Call = Call::Defer(Some(0));
+const DEFER: plain::Call = plain::Call::Defer(Some(0));
 
-const FLUSH: Call = Call::Flush(Some(0));
+const FLUSH: plain::Call = plain::Call::Flush(Some(0));
 
 const UNIT: Reply = Reply::Done(Answer::Unit);
 
@@ -27,11 +28,11 @@ const UNIT: Reply = Reply::Done(Answer::Unit);
 #[derive(Clone, Copy)]
 pub enum Deed {
     /// One step, and its reply.
-    Takes(Step, Reply),
+    Takes(plain::Step, plain::Reply),
     /// A participant's whole call.
-    Calls(u64, Call, &'static [Reply]),
+    Calls(u64, plain::Call, &'static [plain::Reply]),
     /// The rest of the call that a participant has under way.
-    Goes(u64, &'static [Reply]),
+    Goes(u64, &'static [plain::Reply]),
     /// A pin of a participant that is not pinned.
     Pins(u64),
     /// An unpin of its only guard.
@@ -42,12 +43,14 @@ pub enum Deed {
     Cycles(u64, u64),
     /// A pin, a flush that calls nothing, and the unpin, so many times.
     Rounds(u64, u64),
+    /// A pin, a flush that calls the jobs of these tickets, in this order, and answers so, and the unpin.
+    Collects(u64, &'static [(u64, u64)], plain::Reply),
     /// A pause and its resume, so many times.
     Pauses(u64, u64),
     /// Deferrals, each accepted, that get these tickets.
     Defers(u64, u64, u64),
     /// A flush that calls the jobs of these tickets, in this order, and then answers so.
-    Flushes(u64, &'static [(u64, u64)], Reply),
+    Flushes(u64, &'static [(u64, u64)], plain::Reply),
     /// An end that calls the jobs of these tickets, in this order.
     Ends(u64, u64),
     /// The present epoch.
@@ -112,7 +115,7 @@ fn done<S: BagStore<Job = Deferral>>(
     deed: Deed,
 ) -> Result<Vec<Reply>, Fail> {
     if let Deed::Takes(step, _) = deed {
-        return Ok(world.run(&[step])?);
+        return Ok(world.run(&[step.in_world()])?);
     }
     let mut replies = Vec::new(alloc);
     add_done(world, deed, &mut replies)?;
@@ -127,7 +130,9 @@ fn add_done<S: BagStore<Job = Deferral>>(
     replies: &mut Vec<Reply>,
 ) -> Result<(), Fail> {
     match deed {
-        Deed::Calls(participant, call, _) => call_by_steps(world, participant, call, replies),
+        Deed::Calls(participant, call, _) => {
+            call_by_steps(world, participant, call.in_world(), replies)
+        }
         Deed::Goes(participant, _) => {
             go_to_end(world, Step::Go(participant), Step::Go(participant), replies)
         }
@@ -139,27 +144,28 @@ fn add_done<S: BagStore<Job = Deferral>>(
 /// Makes a participant's calls, one after the other, so many times.
 fn call_all<S: BagStore<Job = Deferral>>(
     world: &mut World<S>,
-    (participant, calls, times): (u64, &[Call], u64),
+    (participant, calls, times): (u64, &[plain::Call], u64),
     replies: &mut Vec<Reply>,
 ) -> Result<(), Fail> {
     for _ in 0..times {
         for call in calls {
-            call_by_steps(world, participant, *call, replies)?;
+            call_by_steps(world, participant, call.in_world(), replies)?;
         }
     }
     Ok(())
 }
 
 /// Whose calls these are, which ones, and how many times they are made, one after the other.
-fn calls_of(deed: Deed) -> (u64, &'static [Call], u64) {
+fn calls_of(deed: Deed) -> (u64, &'static [plain::Call], u64) {
     match deed {
-        Deed::Pins(participant) => (participant, &[Call::Pin], 1),
+        Deed::Pins(participant) => (participant, &[plain::Call::Pin], 1),
         Deed::Unpins(participant) => (participant, &[UNPIN], 1),
         Deed::Guards(participant, first, end) => {
-            (participant, &[Call::Pin], end.saturating_sub(first))
+            (participant, &[plain::Call::Pin], end.saturating_sub(first))
         }
-        Deed::Cycles(participant, times) => (participant, &[Call::Pin, UNPIN], times),
-        Deed::Rounds(participant, times) => (participant, &[Call::Pin, FLUSH, UNPIN], times),
+        Deed::Cycles(participant, times) => (participant, &[plain::Call::Pin, UNPIN], times),
+        Deed::Rounds(participant, times) => (participant, &[plain::Call::Pin, FLUSH, UNPIN], times),
+        Deed::Collects(participant, _, _) => (participant, &[plain::Call::Pin, FLUSH, UNPIN], 1),
         Deed::Pauses(participant, times) => (participant, &[PAUSE, RESUME], times),
         Deed::Defers(participant, first, end) => (participant, &[DEFER], end.saturating_sub(first)),
         Deed::Flushes(participant, _, _) => (participant, &[FLUSH], 1),
@@ -212,13 +218,23 @@ fn expected(alloc: Global, deed: Deed) -> Result<Vec<Reply>, Fail> {
 /// Puts what has to be told of this behind the replies that are there.
 fn add_expected(replies: &mut Vec<Reply>, deed: Deed) -> Result<(), Fail> {
     match deed {
-        Deed::Takes(_, reply) => replies.push(reply)?,
-        Deed::Calls(_, _, told) | Deed::Goes(_, told) => replies.extend_from_slice(told)?,
+        Deed::Takes(_, reply) => replies.push(reply.in_world())?,
+        Deed::Calls(_, _, told) | Deed::Goes(_, told) => add_told(replies, told)?,
         Deed::Guards(_, first, end) => add_guards(replies, first, end)?,
         Deed::Defers(_, first, end) => add_deferred(replies, first, end)?,
-        Deed::Flushes(_, tickets, answer) => add_flushed(replies, tickets, answer)?,
+        Deed::Flushes(_, tickets, answer) => add_flushed(replies, tickets, answer.in_world())?,
+        Deed::Collects(participant, tickets, answer) => {
+            add_collected(replies, participant, tickets, answer.in_world())?;
+        }
         Deed::Ends(first, end) => add_ended(replies, first, end)?,
         deed => add_each_time(replies, deed)?,
+    }
+    Ok(())
+}
+
+fn add_told(replies: &mut Vec<Reply>, told: &[plain::Reply]) -> Result<(), Fail> {
+    for reply in told {
+        replies.push(reply.in_world())?;
     }
     Ok(())
 }
@@ -246,6 +262,17 @@ fn add_flushed(
         add_called(replies, *first, *end)?;
     }
     Ok(replies.push(answer)?)
+}
+
+fn add_collected(
+    replies: &mut Vec<Reply>,
+    participant: u64,
+    tickets: &[(u64, u64)],
+    answer: Reply,
+) -> Result<(), Fail> {
+    replies.extend_from_slice(&pinned(participant))?;
+    add_flushed(replies, tickets, answer)?;
+    Ok(replies.extend_from_slice(&unpinned(participant))?)
 }
 
 fn add_ended(replies: &mut Vec<Reply>, first: u64, end: u64) -> Result<(), Fail> {

@@ -24,24 +24,24 @@ const SHAPE: Shape = Shape {
 
 const UNIT: Reply = Reply::Done(Answer::Unit);
 
-/// The first list, and its replies.
-const FIRST: (&[Step], &[Reply]) = (
-    &[
-        Step::Register,
-        Step::Go(0),
-        Step::End,
-        Step::Begin(1, Call::Pin),
-    ],
-    &[
-        Reply::Registered(0),
-        Reply::Refused(Fault::Idle),
-        Reply::Refused(Fault::ParticipantsLeft),
-        Reply::Refused(Fault::NotRegistered),
-    ],
-);
+/// The first list.
+const FIRST: [Step; 4] = [
+    Step::Register,
+    Step::Go(0),
+    Step::End,
+    Step::Begin(1, Call::Pin),
+];
+
+/// Its replies.
+const FIRST_TOLD: [Reply; 4] = [
+    Reply::Registered(0),
+    Reply::Refused(Fault::Idle),
+    Reply::Refused(Fault::ParticipantsLeft),
+    Reply::Refused(Fault::NotRegistered),
+];
 
 /// Calls behind it, with the last reply of each, and how many jobs it calls.
-const CALLS: &[(Call, Reply, usize)] = &[
+const CALLS: [(Call, Reply, usize); 10] = [
     (Call::Pin, Reply::Done(Answer::Guard(0)), 0),
     (Call::Defer(Some(0)), UNIT, 0),
     (Call::Defer(Some(0)), UNIT, 0),
@@ -54,15 +54,15 @@ const CALLS: &[(Call, Reply, usize)] = &[
     (Call::Flush(Some(0)), UNIT, 2),
 ];
 
-/// The last list, and its replies.
-const LAST: (&[Step], &[Reply]) = (
-    &[
-        Step::Begin(0, Call::Unpin(Some(0))),
-        Step::Go(0),
-        Step::Go(0),
-    ],
-    &[Reply::Began, Reply::Unpinned(0), UNIT],
-);
+/// The last list.
+const LAST: [Step; 3] = [
+    Step::Begin(0, Call::Unpin(Some(0))),
+    Step::Go(0),
+    Step::Go(0),
+];
+
+/// Its replies.
+const LAST_TOLD: [Reply; 3] = [Reply::Began, Reply::Unpinned(0), UNIT];
 
 /// What a world tells of itself.
 fn numbers_of<S: BagStore<Job = Deferral>>(world: &World<S>) -> (u64, Option<u64>) {
@@ -140,13 +140,13 @@ fn call_again<S: BagStore<Job = Deferral>>(
 /// Whatever is refused on the way, all is told as if it had never come.
 fn tell_all<S: BagStore<Job = Deferral>>(rt: &impl Abort, alloc: Global) -> Result<(), Fault> {
     let mut world: World<S> = world_at_last(rt, alloc)?;
-    expect_run(rt, &mut world, FIRST)?;
+    expect_run(rt, &mut world, (&FIRST, &FIRST_TOLD))?;
     for (place, (call, last, called)) in CALLS.iter().enumerate() {
         let replies = call_again(rt, &mut world, *call)?;
         want_call(rt, place, &replies, *last, *called);
     }
     want(rt, "behind the calls", numbers_of(&world), (3, Some(5)));
-    expect_run(rt, &mut world, LAST)?;
+    expect_run(rt, &mut world, (&LAST, &LAST_TOLD))?;
     want(rt, "at the end", numbers_of(&world), (3, Some(2)));
     Ok(())
 }

@@ -2,13 +2,14 @@
 
 use crate::wants::want;
 use crate::worlds::deeds::Deed::{
-    Calls, Cycles, Defers, Ends, Epoch, Flushes, Goes, Guards, Pauses, Pins, Rounds, Takes, Unpins,
-    Word,
+    Calls, Collects, Cycles, Defers, Ends, Epoch, Flushes, Goes, Guards, Pauses, Pins, Rounds,
+    Takes, Unpins, Word,
 };
 use crate::worlds::deeds::{Row, expect_rows, new_world};
+use crate::worlds::plain::{Answer, Call, Reply, Step};
 use crate::worlds::reverse::{Reverse, run_over_pile};
 use epoch_base::{BagQueue, BagStore, Called, Fault, GREATEST_EPOCH, Places};
-use epoch_world::{Answer, Call, Deferral, Reply, Shape, Step, World};
+use epoch_world::{Deferral, Shape, World};
 use std::alloc::Global;
 use std::process::Abort;
 use std::test::Fail;
@@ -30,6 +31,14 @@ const ONE: Shape = Shape {
 /// Two participants, and a store for one bag.
 const TWO: Shape = Shape {
     participants: 2,
+    ..ONE
+};
+
+/// One participant, four places, bags of two jobs, and collections of one bag.
+pub const SMALL: Shape = Shape {
+    bags: 4,
+    bag_jobs: 2,
+    collect_bags: 1,
     ..ONE
 };
 
@@ -386,9 +395,7 @@ const BAGS: &[Row] = &[
             Calls(0, Call::Defer(Some(0)), &[FULL]),
             Flushes(0, &[], FULL),
             Unpins(0),
-            Pins(0),
-            Flushes(0, &[], FULL),
-            Unpins(0),
+            Collects(0, &[], FULL),
             Pins(0),
             Flushes(0, &[(0, 64)], FULL),
             Epoch(3),
@@ -400,6 +407,20 @@ const BAGS: &[Row] = &[
             Pins(0),
             Flushes(0, &[(64, 128)], DONE),
             Epoch(5),
+        ],
+    ),
+    (
+        "a bag of one job and one place hold two jobs",
+        Shape {
+            bag_jobs: 1,
+            collect_bags: 1,
+            ..ONE
+        },
+        &[
+            Takes(Step::Register, Reply::Registered(0)),
+            Pins(0),
+            Defers(0, 0, 2),
+            Calls(0, Call::Defer(Some(0)), &[FULL]),
         ],
     ),
     (
@@ -417,13 +438,9 @@ const BAGS: &[Row] = &[
             ),
             Word(0, Some(2)),
             Epoch(1),
-            Pins(0),
-            Flushes(0, &[], FULL),
-            Unpins(0),
+            Collects(0, &[], FULL),
             Epoch(2),
-            Pins(0),
-            Flushes(0, &[(0, 64)], FULL),
-            Unpins(0),
+            Collects(0, &[(0, 64)], FULL),
             Epoch(3),
             Calls(0, Call::Release, RELEASED),
             Word(0, Some(0)),
@@ -442,9 +459,7 @@ const BAGS: &[Row] = &[
             Epoch(8),
             Rounds(0, 1),
             Epoch(9),
-            Pins(0),
-            Flushes(0, &[(0, 10)], DONE),
-            Unpins(0),
+            Collects(0, &[(0, 10)], DONE),
             Epoch(10),
         ],
     ),
@@ -485,61 +500,93 @@ const BAGS: &[Row] = &[
 ];
 
 /// What stores tell that look first at the bag that was put first.
-const FIRST_OUT: &[Row] = &[(
-    "a collection takes eight bags, the first ones that were put",
-    Shape { bags: 16, ..ONE },
-    &[
-        Takes(Step::Register, Reply::Registered(0)),
-        Pins(0),
-        Defers(0, 0, 640),
-        Unpins(0),
-        Rounds(0, 1),
-        Epoch(2),
-        Pins(0),
-        Flushes(0, &[(0, 512)], DONE),
-        Unpins(0),
-        Epoch(3),
-        Pins(0),
-        Flushes(0, &[(512, 640)], DONE),
-        Unpins(0),
-        Epoch(4),
-    ],
-)];
+const FIRST_OUT: &[Row] = &[
+    (
+        "a collection takes eight bags, the first ones that were put",
+        Shape { bags: 16, ..ONE },
+        &[
+            Takes(Step::Register, Reply::Registered(0)),
+            Pins(0),
+            Defers(0, 0, 640),
+            Unpins(0),
+            Rounds(0, 1),
+            Epoch(2),
+            Collects(0, &[(0, 512)], DONE),
+            Epoch(3),
+            Collects(0, &[(512, 640)], DONE),
+            Epoch(4),
+        ],
+    ),
+    (
+        "a bag of two jobs is taken by each collection, the first one that was put",
+        SMALL,
+        &[
+            Takes(Step::Register, Reply::Registered(0)),
+            Pins(0),
+            Defers(0, 0, 5),
+            Unpins(0),
+            Rounds(0, 1),
+            Epoch(2),
+            Collects(0, &[(0, 2)], DONE),
+            Epoch(3),
+            Collects(0, &[(2, 4)], DONE),
+            Epoch(4),
+            Collects(0, &[(4, 5)], DONE),
+            Epoch(5),
+        ],
+    ),
+];
 
 /// What the store tells that looks first at the bag that was put last.
-const LAST_OUT: &[Row] = &[(
-    "a collection takes eight bags, the last ones that were put",
-    Shape { bags: 16, ..ONE },
-    &[
-        Takes(Step::Register, Reply::Registered(0)),
-        Pins(0),
-        Defers(0, 0, 640),
-        Unpins(0),
-        Rounds(0, 1),
-        Epoch(2),
-        Pins(0),
-        Flushes(
-            0,
-            &[
-                (576, 640),
-                (512, 576),
-                (448, 512),
-                (384, 448),
-                (320, 384),
-                (256, 320),
-                (192, 256),
-                (128, 192),
-            ],
-            DONE,
-        ),
-        Unpins(0),
-        Epoch(3),
-        Pins(0),
-        Flushes(0, &[(64, 128), (0, 64)], DONE),
-        Unpins(0),
-        Epoch(4),
-    ],
-)];
+const LAST_OUT: &[Row] = &[
+    (
+        "a collection takes eight bags, the last ones that were put",
+        Shape { bags: 16, ..ONE },
+        &[
+            Takes(Step::Register, Reply::Registered(0)),
+            Pins(0),
+            Defers(0, 0, 640),
+            Unpins(0),
+            Rounds(0, 1),
+            Epoch(2),
+            Collects(
+                0,
+                &[
+                    (576, 640),
+                    (512, 576),
+                    (448, 512),
+                    (384, 448),
+                    (320, 384),
+                    (256, 320),
+                    (192, 256),
+                    (128, 192),
+                ],
+                DONE,
+            ),
+            Epoch(3),
+            Collects(0, &[(64, 128), (0, 64)], DONE),
+            Epoch(4),
+        ],
+    ),
+    (
+        "a bag of two jobs is taken by each collection, the last one that was put",
+        SMALL,
+        &[
+            Takes(Step::Register, Reply::Registered(0)),
+            Pins(0),
+            Defers(0, 0, 5),
+            Unpins(0),
+            Rounds(0, 1),
+            Epoch(2),
+            Collects(0, &[(4, 5)], DONE),
+            Epoch(3),
+            Collects(0, &[(2, 4)], DONE),
+            Epoch(4),
+            Collects(0, &[(0, 2)], DONE),
+            Epoch(5),
+        ],
+    ),
+];
 
 /// What stores tell that put, and look at one bag, in one step.
 const WHOLE_PUTS: &[Row] = &[
@@ -659,7 +706,7 @@ const LIST: &[Step] = &[
 ];
 
 /// What that list tells.
-const TOLD: &[Reply] = &[
+const TOLD: [Reply; 6] = [
     Reply::Registered(0),
     Reply::Began,
     Reply::Stepped,
@@ -671,7 +718,14 @@ const TOLD: &[Reply] = &[
 #[test]
 fn one_list_over_a_pile_tells_one_reply_a_step(rt: HostRuntime) -> Result<(), Fail> {
     let mut world = new_world(&rt, rt.alloc(), ONE)?;
-    let replies = run_over_pile(&mut world, LIST)?;
-    want(&rt, "the replies", replies.as_slice(), TOLD);
+    let (mut steps, mut told) = (Vec::new(rt.alloc()), Vec::new(rt.alloc()));
+    for step in LIST {
+        steps.push(step.in_world())?;
+    }
+    for reply in TOLD.iter() {
+        told.push(reply.in_world())?;
+    }
+    let replies = run_over_pile(&mut world, steps.as_slice())?;
+    want(&rt, "the replies", replies.as_slice(), told.as_slice());
     Ok(())
 }

@@ -2,7 +2,8 @@ use Rattle.std.proofs.Common.{◌≡◌, ℕ, List, ◌∙◌, ap, sym, take, le
 use Rattle.std.proofs.lemmas.Bool.Decides.{nat_tests}
 use Rattle.std.proofs.lemmas.Grind.{common_steps}
 use Rattle.epoch_laws.specs.declared.history.known.Change.{Change}
-use Rattle.epoch_laws.specs.Lawful.{Told, told_of}
+use Rattle.epoch_laws.specs.declared.step.Entry.{Entry}
+use Rattle.epoch_laws.specs.Lawful.{Told, told_after, told_of}
 use Rattle.epoch_laws.specs.Known.{known_of, changed}
 use Rattle.epoch_laws.proofs.GuardsCounted.{length_without}
 use Rattle.epoch_laws.proofs.ToldGrows.{told_more}
@@ -27,9 +28,12 @@ loop-place-preserved c =
     ] in
     let more = sym (told_more c.args.participant log place _ c.loop-place-test.true) in
     record {
-      known = c.after-known.ensures before old.known ∙ ap known_of more;
+      known = c.after-known.ensures before old.known
+          ∙ ap (λ (entry : Entry). known_of (told_after c.args.participant before entry.step entry.reply)) c.index-entries-place.is
+          ∙ ap known_of more;
       counted = counted
           ∙ ap length (sym (c.change.ensures before old.known))
+          ∙ ap (λ (entry : Entry). length (told_after c.args.participant before entry.step entry.reply).guards) c.index-entries-place.is
           ∙ ap (λ (t : Told). length t.guards) more;
       few = elim c.match-change.branch [
         | in-Adds w ↦ omega (arith, old.few)

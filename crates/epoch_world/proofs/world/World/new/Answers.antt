@@ -1,4 +1,5 @@
-use Rattle.std.proofs.Common.{◌∙◌, sym, refl, arith}
+use Rattle.std.proofs.Common.{◌∙◌, sym, ap, refl, arith}
+use Rattle.epoch_cells.specs.PlainCells.{empty}
 use Rattle.epoch_world.proofs.WorldKept.{fresh_kept}
 use Rattle.epoch_world.proofs.world.World.new.Goals as goal
 
@@ -15,6 +16,9 @@ invariant_of-result g c = record {
     none_queued = c.in_ok-store.ensures.empty;
     no_tickets = refl;
     open_end = refl;
-  }) (omega (arith, c.in_ok-seats.ensures.count, c.requires.participants.1));
+    null_roots = c.in_ok-heap.ensures.null_roots;
+    empty_cells = λ k cell at. c.in_ok-heap.ensures.empty_cells k cell at ∙ ap (λ turn. empty turn) (sym c.in_ok-heap.ensures.start_turn);
+  }) (omega (arith, c.in_ok-seats.ensures.count, c.requires.participants.1)) (omega (arith, c.in_ok-heap.ensures.cells, c.requires.cells));
   claimed = λ place none claimed. c.in_ok-store.ensures.unclaimed place claimed;
+  reserved = λ place none_puts none_takes reserved. c.in_ok-store.ensures.unreserved place reserved;
 }

@@ -1,4 +1,4 @@
-use Rattle.std.proofs.Common.{arith, ap, ◌∙◌, length, length-append}
+use Rattle.std.proofs.Common.{arith, ap, ◌∙◌, length, length-append, subst}
 use Rattle.epoch_laws.proofs.RunsGoOn.{runs_more, runs_whole, runs_append}
 use Rattle.epoch_laws.proofs.GraceKept.{every_run_keeps_grace}
 use Rattle.epoch_laws.proofs.TicketsOnce.{holds_each_once, end_calls_all}
@@ -9,12 +9,20 @@ use Rattle.epoch_laws.proofs.FullFound.{found_full}
 use Rattle.epoch_laws.proofs.CallsAfterDeferrals.{calls_follow}
 use Rattle.epoch_rounds.proofs.PutFound.{rounds_call_all}
 use Rattle.epoch_rounds.proofs.EachCollectsFew.{collects_few}
+use Rattle.epoch_laws.specs.declared.step.Step.{Step}
+use Rattle.epoch_laws.specs.Run.{Takes}
+use Rattle.epoch_reach.proofs.ReachRuns.{every_run_keeps_reach}
+use Rattle.epoch_reach.proofs.LoadedStands.{loaded_stand}
+use Rattle.epoch_reach.proofs.NamesOnce.{no_name_twice}
+use Rattle.epoch_reach.proofs.CellsKept.{cells_stand}
+use Rattle.epoch_reach.proofs.JobsAsDeferred.{calls_as_deferred}
 use Rattle.epoch_world.proofs.world.World.run.Goals as goal
 
 pub loop-step-preserved : goal.loop-step-preserved
 loop-step-preserved g c = record {
   run = runs_more _ _ _ c.args.steps.now c.loop-step.step-index _ c.loop-step.replies.items _ c.step-reply.result (omega arith)
-      c.loop-step.invariant.count c.push_reserved.ensures.items c.loop-step.invariant.run c.step-reply.ensures;
+      c.loop-step.invariant.count c.push_reserved.ensures.items c.loop-step.invariant.run
+      (subst (λ (step : Step). Takes c.loop-step.self step c.step-reply.result c.step-reply.new.self) c.step-item.is c.step-reply.ensures);
   count = ap length c.push_reserved.ensures.items ∙ simp length-append (omega arith);
   room = omega arith;
 }
@@ -55,3 +63,18 @@ returns-clause-rounds g c fresh start earlier since new run more =
 pub returns-clause-few : goal.returns-clause-few
 returns-clause-few g c fresh earlier new run =
     collects_few fresh _ _ new (runs_append _ _ _ earlier _ run (runs_whole _ _ c.args.steps.now c.loop-step.step-index _ (omega arith) c.loop-step.invariant.run))
+
+pub returns-clause-reach : goal.returns-clause-reach
+returns-clause-reach g c fresh earlier new run whole = every_run_keeps_reach fresh _ _ new whole
+
+pub returns-clause-loaded : goal.returns-clause-loaded
+returns-clause-loaded g c fresh earlier new run whole leaves = loaded_stand fresh _ _ new whole leaves
+
+pub returns-clause-given : goal.returns-clause-given
+returns-clause-given g c fresh earlier new run whole = no_name_twice fresh _ _ whole
+
+pub returns-clause-stands : goal.returns-clause-stands
+returns-clause-stands g c fresh earlier new run whole = cells_stand fresh _ _ new whole
+
+pub returns-clause-removals : goal.returns-clause-removals
+returns-clause-removals g c fresh earlier new run whole = calls_as_deferred fresh _ _ new whole

@@ -1,0 +1,2 @@
+pub mod FoundCells
+pub mod HeapCalls

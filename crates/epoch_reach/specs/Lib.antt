@@ -1,0 +1,4 @@
+pub mod Reach
+pub mod Given
+pub mod Removals
+pub mod Standing

@@ -1,0 +1,87 @@
+//! A list of steps that shows how long a bag has to wait.
+ghost use Rattle.std.specs.Prelude.{◌≡◌, [], ◌∷◌, ◌++◌, IfOk, IfErr};
+ghost use Rattle.epoch_cells.specs.declared.fault.Fault.TheVariants.{NoMemory};
+ghost use Rattle.epoch_rounds.specs.Sharp.{LeadsToSharp};
+ghost use Rattle.epoch_world.specs.Listed.{ListsStep, ListsCall};
+
+use crate::world::World;
+use epoch_cells::Fault;
+use epoch_laws::{Call, Shape, Step};
+use std::alloc::Global;
+
+/// Two participants, and room for one bag.
+const PAIR: Shape = Shape {
+    participants: 2,
+    cells: 0,
+    roots: 0,
+    fields: 0,
+    bags: 1,
+    align: 1,
+    start_epoch: 0,
+    start_turn: 0,
+    bag_jobs: 64,
+    collect_bags: 8,
+};
+
+/// Steps for a new world of two participants and one bag, from epoch 0 on. They end with a collection for an epoch one
+/// past the seal of the bag, in which is a job that somebody still blocks who did not defer it: were a bag expired one
+/// epoch after its seal, that job would be called too early. So a bag waits two epochs.
+///
+/// `NoMemory`: an allocation was refused.
+pub fn sharp_steps(alloc: Global) -> Result<Vec<Step>, Fault>
+    ensures sharp { IfOk result (λ steps. LeadsToSharp steps.items) }
+    ensures no_memory { IfErr result (λ fault. fault ≡ NoMemory) }
+{
+    let mut world: World = World::new(alloc, PAIR)?;
+    let mut steps = Vec::new(alloc);
+    list_step(&mut world, &mut steps, Step::Register)?;
+    list_step(&mut world, &mut steps, Step::Register)?;
+    // The first pin of each collects, and advances the epoch: to 1, and to 2.
+    list_call(&mut world, &mut steps, 0, Call::Pin)?;
+    list_call(&mut world, &mut steps, 0, Call::Unpin(Some(0)))?;
+    list_call(&mut world, &mut steps, 1, Call::Pin)?;
+    list_call(&mut world, &mut steps, 1, Call::Unpin(Some(0)))?;
+    // Both are pinned in epoch 2 when the job is deferred and sealed, and so the flush advances the epoch to 3.
+    list_call(&mut world, &mut steps, 0, Call::Pin)?;
+    list_call(&mut world, &mut steps, 1, Call::Pin)?;
+    list_call(&mut world, &mut steps, 1, Call::Defer(Some(0)))?;
+    list_call(&mut world, &mut steps, 1, Call::Flush(Some(0)))?;
+    Ok(steps)
+}
+
+/// Takes a step, and writes it down.
+fn list_step(world: &mut World, steps: &mut Vec<Step>, step: Step) -> Result<(), Fault>
+    ensures ok { IfOk result (λ done. ListsStep step world.old steps.old.items world.new steps.new.items) }
+    ensures no_memory { IfErr result (λ fault. fault ≡ NoMemory) }
+{
+    let _reply = world.step(step);
+    add(steps, step)
+}
+
+/// Begins a call and goes on until it ends, and writes its steps down.
+fn list_call(
+    world: &mut World,
+    steps: &mut Vec<Step>,
+    participant: u64,
+    call: Call,
+) -> Result<(), Fault>
+    ensures ok { IfOk result (λ done. ListsCall participant call world.old steps.old.items world.new steps.new.items) }
+    ensures no_memory { IfErr result (λ fault. fault ≡ NoMemory) }
+{
+    let replies = world.call(participant, call)?;
+    add(steps, Step::Begin(participant, call))?;
+    for _ in 1..replies.len() {
+        add(steps, Step::Go(participant))?;
+    }
+    Ok(())
+}
+
+fn add(steps: &mut Vec<Step>, step: Step) -> Result<(), Fault>
+    ensures ok { IfOk result (λ done. steps.new.items ≡ steps.old.items ++ step ∷ []) }
+    ensures no_memory { IfErr result (λ fault. fault ≡ NoMemory) }
+{
+    match steps.push(step) {
+        Ok(()) => Ok(()),
+        Err(_) => Err(Fault::NoMemory),
+    }
+}

@@ -1,0 +1,17 @@
+//! Tests of cells and pointers in the world: rows of lines, random steps, long lists, and memory that is refused.
+#![tactic(auto)]
+
+#[cfg(test)]
+mod dice;
+#[cfg(test)]
+mod long;
+#[cfg(test)]
+mod memory;
+#[cfg(test)]
+mod random;
+#[cfg(test)]
+mod rows;
+#[cfg(test)]
+mod scripts;
+#[cfg(test)]
+mod wants;

@@ -1,0 +1,285 @@
+//! Calls of pointers and values.
+
+use crate::calls::handles::{end, let_go, pin, register, release, unpin};
+use crate::calls::made::{collector_at_last, owned_at_last};
+use crate::wants::want;
+use epoch_base::{Called, Fault};
+use epoch_pin::atomic::{
+    Atomic, DeferDestroy, DestroyNow, ExchangeFault, Owned, Shared, UpdateFault,
+};
+use epoch_pin::{Collector, Guard, unprotected};
+use std::process::Abort;
+use std::sync::atomic::Ordering::SeqCst;
+use std::test::Fail;
+
+/// What was answered, where a success is wanted.
+fn want_ok<T, E: Drop>(rt: &impl Abort, what: &str, answer: Result<T, E>) -> T {
+    match answer {
+        Ok(value) => value,
+        Err(_) => panic!(rt; "{what}"),
+    }
+}
+
+/// What is handed back, where that is wanted.
+fn want_err<T: Drop, E>(rt: &impl Abort, what: &str, answer: Result<T, E>) -> E {
+    match answer {
+        Ok(_) => panic!(rt; "{what}"),
+        Err(error) => error,
+    }
+}
+
+/// The value behind the pointer, by one reading or by another.
+fn value_of(shared: Shared<'_, u64>) -> Option<(u64, u64)> {
+    let first = shared.deref()?;
+    let second = match shared.as_ref() {
+        Some(second) => second,
+        None => {
+            first.leave();
+            return None;
+        }
+    };
+    let values = (*first.get(), *second.get());
+    first.leave();
+    second.leave();
+    Some(values)
+}
+
+/// The pointer is to this value.
+fn want_value(rt: &impl Abort, what: &str, shared: Shared<'_, u64>, value: u64) {
+    want(rt, what, value_of(shared), Some((value, value)));
+}
+
+/// The value that is owned again, and its tag.
+fn want_owned(rt: &impl Abort, what: &str, owned: Option<Owned<u64>>, wanted: (u64, usize)) {
+    let seen = owned.map(|owned| (*owned, owned.tag()));
+    want(rt, what, seen, Some(wanted));
+}
+
+/// A store into full cells hands its value back.
+fn want_full_store(
+    rt: &impl Abort,
+    guard: &Guard<'_, u64>,
+    atomic: &Atomic<u64>,
+    owned: Owned<u64>,
+) {
+    let value = *owned;
+    let back = want_err(
+        rt,
+        "both cells are used",
+        atomic.store(owned, SeqCst, guard),
+    );
+    want(rt, "the value handed back", *back, value);
+}
+
+/// Two values come to stand behind one pointer, a third one finds no cell, and the two are owned again.
+fn store_and_swap(
+    rt: &impl Abort,
+    guard: &Guard<'_, u64>,
+    (first, second, third): (Owned<u64>, Owned<u64>, Owned<u64>),
+) {
+    let atomic = want_ok(rt, "a cell is free", Atomic::from_owned(first, guard));
+    let one = atomic.load(SeqCst, guard);
+    want_value(rt, "the first value", one, 10);
+    let before = atomic.swap(second.with_tag(5), SeqCst, guard);
+    let before = want_ok(rt, "the other cell is free", before);
+    want(rt, "the first pointer", before == one, true);
+    let two = atomic.load_consume(guard);
+    want_value(rt, "the second value", two, 20);
+    want_full_store(rt, guard, &atomic, third);
+    let stored = atomic.store(one, SeqCst, guard).is_ok();
+    want(rt, "a pointer is stored", stored, true);
+    want_owned(rt, "the first", atomic.try_into_owned(guard), (10, 0));
+    let last = Atomic::from(two);
+    want_owned(rt, "the second", last.into_owned(guard), (20, 5));
+}
+
+#[test]
+fn loads_stores_and_swaps_take_no_memory(rt: HostRuntime) -> Result<(), Fail> {
+    let first = owned_at_last(rt.alloc(), 10)?;
+    let second = owned_at_last(rt.alloc(), 20)?;
+    let third = owned_at_last(rt.alloc(), 30)?;
+    let collector = collector_at_last(rt.alloc())?;
+    let guard = unprotected(&collector);
+    store_and_swap(&rt, &guard, (first, second, third));
+    let_go(&rt, guard);
+    end(&rt, collector, 0);
+    Ok(())
+}
+
+/// The new value of a lost exchange, which found null.
+fn lost(
+    rt: &impl Abort,
+    answer: Result<Shared<'_, u64>, ExchangeFault<'_, u64, Owned<u64>>>,
+) -> Owned<u64> {
+    match answer {
+        Err(ExchangeFault::Changed(error)) => {
+            want(rt, "null is found", error.current.is_null(), true);
+            error.new
+        }
+        _ => panic!(rt; "the exchange isn't lost"),
+    }
+}
+
+/// An owned value is lost by one exchange and placed by the next, and pointers are exchanged for one another.
+fn exchange(rt: &impl Abort, guard: &Guard<'_, u64>, owned: Owned<u64>) {
+    let atomic = Atomic::<u64>::null();
+    let null = Shared::<u64>::null();
+    let answer = atomic.compare_exchange(null.with_tag(1), owned, SeqCst, SeqCst, guard);
+    let owned = lost(rt, answer);
+    want(rt, "the value of a lost exchange", *owned, 10);
+    let won = atomic.compare_and_set(null, owned, SeqCst, guard);
+    let placed = want_ok(rt, "compare_and_set", won);
+    want_value(rt, "the value that is placed", placed, 10);
+    let won = atomic.compare_exchange_weak(placed, placed.with_tag(3), SeqCst, SeqCst, guard);
+    let tagged = want_ok(rt, "compare_exchange_weak", won);
+    want(rt, "its tag", tagged.tag(), 3);
+    let lost = atomic.compare_and_set_weak(placed, null, (SeqCst, SeqCst), guard);
+    want(rt, "one with another tag", lost.is_err(), true);
+    let won = atomic.compare_and_set_weak(tagged, null, SeqCst, guard);
+    want(rt, "compare_and_set_weak", won.is_ok(), true);
+    want_owned(rt, "the value", tagged.into_owned(), (10, 3));
+}
+
+#[test]
+fn exchanges_take_no_memory(rt: HostRuntime) -> Result<(), Fail> {
+    let owned = owned_at_last(rt.alloc(), 10)?;
+    let collector = collector_at_last(rt.alloc())?;
+    let guard = unprotected(&collector);
+    exchange(&rt, &guard, owned);
+    let_go(&rt, guard);
+    end(&rt, collector, 0);
+    Ok(())
+}
+
+/// The tag of the pointer.
+fn want_tag(rt: &impl Abort, what: &str, shared: Shared<'_, u64>, tag: usize) {
+    want(rt, what, (shared.tag(), shared.is_null()), (tag, true));
+}
+
+/// Where an update without a try ended.
+fn ran_out<'g>(
+    rt: &impl Abort,
+    answer: Result<Shared<'g, u64>, UpdateFault<'g, u64>>,
+) -> Shared<'g, u64> {
+    match answer {
+        Err(UpdateFault::RanOut(last)) => last,
+        _ => panic!(rt; "it has had a try"),
+    }
+}
+
+/// The tag of null goes from 0 to 6, 2, 3 and 1.
+fn change_tags(rt: &impl Abort, guard: &Guard<'_, u64>) {
+    let atomic = Atomic::<u64>::default();
+    want_tag(rt, "an or", atomic.fetch_or(6, SeqCst, guard), 0);
+    want_tag(rt, "an and", atomic.fetch_and(2, SeqCst, guard), 6);
+    want_tag(rt, "a xor", atomic.fetch_xor(1, SeqCst, guard), 2);
+    let made = atomic.fetch_update(SeqCst, SeqCst, 1, guard, |old| Some(old.with_tag(1)));
+    want_tag(rt, "an update", want_ok(rt, "it is made", made), 3);
+    let late = atomic.fetch_update(SeqCst, SeqCst, 0, guard, |old| Some(old));
+    want_tag(rt, "an update without a try", ran_out(rt, late), 1);
+    let clone = want_ok(rt, "a clone", atomic.clone());
+    want_tag(rt, "a clone", clone.load(SeqCst, guard), 1);
+}
+
+#[test]
+fn tags_updates_and_clones_of_an_atomic_take_no_memory(rt: HostRuntime) -> Result<(), Fail> {
+    let collector = collector_at_last(rt.alloc())?;
+    let guard = unprotected(&collector);
+    change_tags(&rt, &guard);
+    let_go(&rt, guard);
+    end(&rt, collector, 0);
+    Ok(())
+}
+
+/// Adds one to the value behind the pointer.
+fn add_one(rt: &impl Abort, shared: Shared<'_, u64>) {
+    let mut shared = shared;
+    match shared.deref_mut() {
+        Some(mut writing) => {
+            let number = *writing.get();
+            *writing.get_mut() = number.wrapping_add(1);
+            writing.leave();
+        }
+        None => panic!(rt; "the value is gone"),
+    }
+}
+
+/// A value is changed where it is owned, in its cell, and in its box, and is destroyed at last.
+fn change_and_destroy(rt: &impl Abort, guard: &Guard<'_, u64>, owned: Owned<u64>) {
+    let mut owned = owned;
+    *owned = 40;
+    let placed = want_ok(rt, "a cell is free", owned.into_shared(guard));
+    add_one(rt, placed);
+    want_value(rt, "the value in its cell", placed, 41);
+    let Some(owned) = placed.try_into_owned() else {
+        panic!(rt; "the value is gone");
+    };
+    let again = Owned::from(owned.into_box());
+    want(rt, "the value in its box", *again, 41);
+    let placed = want_ok(rt, "its next turn", again.into_shared(guard));
+    let called = guard
+        .destroy_now(placed)
+        .is_ok_and(|called| called == Called::Destroyed);
+    want(rt, "a destruction", called, true);
+    let called = guard
+        .destroy_now(placed)
+        .is_ok_and(|called| called == Called::Gone);
+    want(rt, "another one", called, true);
+}
+
+#[test]
+fn values_are_changed_and_destroyed_without_memory(rt: HostRuntime) -> Result<(), Fail> {
+    let owned = owned_at_last(rt.alloc(), 10)?;
+    let collector = collector_at_last(rt.alloc())?;
+    let guard = unprotected(&collector);
+    change_and_destroy(&rt, &guard, owned);
+    let_go(&rt, guard);
+    end(&rt, collector, 0);
+    Ok(())
+}
+
+/// Of two removals the first one is put, the second one held: the third one is refused.
+fn remove_later(
+    rt: &impl Abort,
+    collector: &Collector<u64>,
+    (first, second): (Owned<u64>, Owned<u64>),
+) {
+    let mut handle = register(rt, collector);
+    let guard = pin(rt, &mut handle);
+    let one = want_ok(rt, "a cell is free", first.into_shared(&guard));
+    let two = want_ok(rt, "the other cell is free", second.into_shared(&guard));
+    want(
+        rt,
+        "the first",
+        handle.defer_destroy(&guard, one).is_ok(),
+        true,
+    );
+    want(
+        rt,
+        "the second",
+        handle.defer_destroy(&guard, two).is_ok(),
+        true,
+    );
+    let refused = handle
+        .defer_destroy(&guard, two)
+        .map_err(|refused| refused.fault);
+    want(rt, "a third one", refused, Err(Fault::BagsFull));
+    unpin(rt, &mut handle, guard);
+    // The bag in the one place was sealed with 1, and is taken in epoch 3.
+    for flushed in [Err(Fault::BagsFull), Err(Fault::BagsFull), Ok(())] {
+        let guard = pin(rt, &mut handle);
+        want(rt, "a flush", handle.flush(&guard), flushed);
+        unpin(rt, &mut handle, guard);
+    }
+    release(rt, handle);
+}
+
+#[test]
+fn removals_are_deferred_without_memory(rt: HostRuntime) -> Result<(), Fail> {
+    let first = owned_at_last(rt.alloc(), 10)?;
+    let second = owned_at_last(rt.alloc(), 20)?;
+    let collector = collector_at_last(rt.alloc())?;
+    remove_later(&rt, &collector, (first, second));
+    end(&rt, collector, 1);
+    Ok(())
+}
