@@ -1,0 +1,192 @@
+//! A stack that threads share.
+use crate::calls::{Handle, Nodes, collector, pin, register, told, unpin, want, want_empty};
+use epoch_base::Fault;
+use epoch_pin::Capacities;
+use epoch_stack::Stack;
+use std::alloc::Global;
+use std::process::Abort;
+use std::sync::Wait;
+use std::sync::atomic::AtomicU64;
+use std::sync::atomic::Ordering::SeqCst;
+use std::test::Fail;
+use std::thread;
+
+/// As often as any call tries here.
+const TRIES: u32 = 100_000;
+
+/// Pushes the value. Where it finds no cell, or no place for its full bag, it lets go its guard, flushes under a
+/// new one, so that removals are called, and pushes again.
+fn push_at_last<R: Abort + Wait>(
+    rt: &R,
+    alloc: Global,
+    stack: &Stack<'_, u64>,
+    handle: &mut Handle<'_>,
+    value: u64,
+) {
+    for _ in rt.forever() {
+        let guard = pin(rt, handle);
+        let pushed = told(stack.push(alloc, handle, &guard, value, TRIES));
+        let _ = handle.flush(&guard);
+        unpin(rt, handle, guard);
+        match pushed {
+            Ok(()) => return,
+            Err((fault, _)) => want(rt, "a pause helps", fault == Fault::NoMemory, false),
+        }
+        thread::yield_now();
+    }
+}
+
+/// Pops a value, or `None` where the stack is empty. Where there is no place for its full bag, it lets go its guard,
+/// flushes under a new one, and pops again.
+fn pop_at_last<R: Abort + Wait>(
+    rt: &R,
+    stack: &Stack<'_, u64>,
+    handle: &mut Handle<'_>,
+) -> Option<u64> {
+    for _ in rt.forever() {
+        let guard = pin(rt, handle);
+        let popped = stack.pop(handle, &guard, TRIES);
+        let _ = handle.flush(&guard);
+        unpin(rt, handle, guard);
+        if let Ok(popped) = popped {
+            return popped;
+        }
+        thread::yield_now();
+    }
+    unreachable!()
+}
+
+/// Releases the handle, and flushes for as long as its bag finds no place.
+fn leave<R: Abort + Wait>(rt: &R, handle: Handle<'_>) {
+    let mut staying = handle;
+    for _ in rt.forever() {
+        if staying.guards_out() != 0 {
+            panic!(rt; "each guard is spent")
+        }
+        match staying.release() {
+            Ok(()) => return,
+            Err((handle, _)) => staying = handle,
+        }
+    }
+    unreachable!()
+}
+
+/// Counts that the value came off.
+fn count(rt: &impl Abort, counts: &[AtomicU64], popped: Option<u64>) {
+    let Some(value) = popped else {
+        return;
+    };
+    match counts.get(value as usize) {
+        Some(count) => {
+            count.fetch_add(1, SeqCst);
+        }
+        None => panic!(rt; "{value} was never pushed"),
+    }
+}
+
+/// Pushes each of `values` values from `first` on, and pops one behind each.
+fn push_and_pop<R: Abort + Wait>(
+    rt: &R,
+    alloc: Global,
+    collector: &Nodes,
+    stack: &Stack<'_, u64>,
+    counts: &[AtomicU64],
+    first: u64,
+    values: u64,
+) {
+    let mut handle = register(rt, collector);
+    for value in 0..values {
+        push_at_last(rt, alloc, stack, &mut handle, first.wrapping_add(value));
+        count(rt, counts, pop_at_last(rt, stack, &mut handle));
+    }
+    leave(rt, handle);
+}
+
+/// So many counts that stand at 0.
+fn counts_of(alloc: Global, values: u64) -> Result<Vec<AtomicU64>, Fail> {
+    let mut counts = Vec::new(alloc);
+    for _ in 0..values {
+        counts.push(AtomicU64::new(0))?;
+    }
+    Ok(counts)
+}
+
+/// Pops what is left on the stack.
+fn pop_the_rest<R: Abort + Wait>(
+    rt: &R,
+    collector: &Nodes,
+    stack: &Stack<'_, u64>,
+    counts: &[AtomicU64],
+) {
+    let mut handle = register(rt, collector);
+    for _ in counts {
+        count(rt, counts, pop_at_last(rt, stack, &mut handle));
+    }
+    let guard = pin(rt, &mut handle);
+    want_empty(rt, stack, &mut handle, &guard);
+    unpin(rt, &mut handle, guard);
+    leave(rt, handle);
+}
+
+/// Each value came off once.
+fn want_each_once(rt: &impl Abort, counts: &[AtomicU64]) {
+    for (value, count) in counts.iter().enumerate() {
+        assert_eq!(rt; count.load(SeqCst), 1, "how often {value} came off");
+    }
+}
+
+#[test]
+fn each_value_of_8_threads_comes_off_once(rt: HostRuntime) -> Result<(), Fail> {
+    let alloc = rt.alloc();
+    let counts = counts_of(alloc, 16_000)?;
+    let collector = collector(&rt, alloc, Capacities::usual(8, 64, 16))?;
+    let stack = Stack::new(&collector);
+    let (host, shared, nodes, all) = (&rt, &stack, &collector, counts.as_slice());
+    thread::scope(thread::scope_env(), &rt, |scope| {
+        for thread in 0..8u64 {
+            let first = thread.wrapping_mul(2000);
+            let _ = scope.spawn(move || push_and_pop(host, alloc, nodes, shared, all, first, 2000));
+        }
+    });
+    pop_the_rest(&rt, &collector, &stack, &counts);
+    want_each_once(&rt, &counts);
+    drop(stack);
+    let _ = collector.end();
+    Ok(())
+}
+
+/// Pushes the numbers below 5, and pops a value behind each.
+fn push_and_pop_some<R: Abort + Wait>(
+    rt: &R,
+    alloc: Global,
+    collector: &Nodes,
+    stack: &Stack<'_, u64>,
+) {
+    let mut handle = register(rt, collector);
+    for value in 0..5u64 {
+        push_at_last(rt, alloc, stack, &mut handle, value);
+        let popped = pop_at_last(rt, stack, &mut handle);
+        want(rt, "a value comes off", popped.is_some(), true);
+    }
+    leave(rt, handle);
+}
+
+#[test]
+fn treiber_stack(rt: HostRuntime) -> Result<(), Fail> {
+    let alloc = rt.alloc();
+    let collector = collector(&rt, alloc, Capacities::usual(3, 16, 16))?;
+    let stack = Stack::new(&collector);
+    let (host, shared, nodes) = (&rt, &stack, &collector);
+    thread::scope(thread::scope_env(), &rt, |scope| {
+        let _ = scope.spawn(move || push_and_pop_some(host, alloc, nodes, shared));
+        let _ = scope.spawn(move || push_and_pop_some(host, alloc, nodes, shared));
+    });
+    let mut handle = register(&rt, &collector);
+    let guard = pin(&rt, &mut handle);
+    want_empty(&rt, &stack, &mut handle, &guard);
+    unpin(&rt, &mut handle, guard);
+    leave(&rt, handle);
+    drop(stack);
+    let _ = collector.end();
+    Ok(())
+}
