@@ -1,11 +1,12 @@
 -- A collection, bag by bag and job by job: what its loops perform is what the machine asks.
-use Rattle.std.proofs.Common.{◌≡◌, ◌≢◌, ◌∙◌, ℕ, ◌+◌, ◌<◌, ◌==◌, if◌then◌else◌, Bool, true, false, List, [], ◌∷◌, ◌++◌, refl, sym, ap, subst, Option, Some}
+use Rattle.std.proofs.Common.{◌≡◌, ◌≢◌, ◌∙◌, ℕ, ◌+◌, ◌<◌, ◌==◌, if◌then◌else◌, Bool, true, false, List, [], ◌∷◌, ◌++◌, refl, sym, ap, subst, arith, Option, Some, ne_eqb}
 use Rattle.epoch_bags.specs.Bags.{Sealed}
+use Rattle.epoch_bags.specs.CursorSteps.{IsExpiredWord}
 use Rattle.epoch_tables.specs.Table.{IsOf}
 use Rattle.epoch_tables.specs.SharedPlaces.{PlaceMe, IsKept, IsOf as IsAt}
-use Rattle.epoch_tables.specs.SharedSteps.{RestsAt, TakesAt, TakeMoves}
+use Rattle.epoch_tables.specs.SharedSteps.{RestsAt, TakesAt, TakeMoves, Finds}
 use Rattle.epoch_bags.specs.declared.queue.places.TakeCursor.{TakeCursor}
-use Rattle.epoch_bags.specs.declared.queue.places.TakeCursor.TheVariants.{Look as TakeLook}
+use Rattle.epoch_bags.specs.declared.queue.places.TakeCursor.TheVariants.{Look as TakeLook, Claim as TakeClaim}
 use Rattle.epoch_bags.specs.declared.queue.places.PutCursor.TheVariants.{Look as PutLook}
 use Rattle.epoch_bags.specs.declared.queue.TakeStep.{TakeStep}
 use Rattle.epoch_bags.specs.declared.queue.TakeStep.TheVariants.{Again as TakeAgain, Empty as TakeEnds, Got}
@@ -21,7 +22,7 @@ use Rattle.epoch_handles.specs.declared.local.Local.{Local}
 use Rattle.epoch_machine.specs.Machine.{Machine, asks, ask_at, gives, rest, after_job, after_collect, took_heard, is_taking, with_stage}
 use Rattle.epoch_machine.specs.Asks.{Log, Exchange, JobGiven, TakeStepped}
 use Rattle.epoch_handles.specs.Drives.{Sight, Cursors, Performed, AreCalled, at_start}
-use Rattle.epoch_handles.specs.Handles.{sight_of, IsSame, Scans, CallsHand, TakesBags, Collects}
+use Rattle.epoch_handles.specs.Handles.{sight_of, IsSame, Scans, CallsHand, HasTaken, TakesBags, Collects}
 use Rattle.epoch_handles.proofs.Driving.{performed_on, called_on, none_is_called}
 use Rattle.epoch_machine.proofs.Stages.{nothing_given}
 
@@ -90,17 +91,6 @@ module _ {T W : Type 0} where
 
 -- BAGS
 
--- a collection for x has come to this cursor, and looks for a bag
-pub record HasTaken {T W : Type 0} (done : W → Type 0) (h : Local T W) (x : ℕ) (cursor : TakeCursor) (n : Local T W) : Type 0 where
-  pub taken : ℕ
-  pub machine : n.machine ≡ record h.machine { stage = Take x taken; hand = n.machine.hand }
-  pub claimer : IsAt h.collector.now.places n.claimer
-  pub at : TakesAt h.collector.now.places.places x cursor n.claimer.me
-  pub seat : n.seat ≡ h.seat
-  pub same : IsSame h n
-  pub performed : (log : Log (Job W)) × Performed h.collector.now.places.places h.machine (sight_of h) at_start log n.machine (sight_of n)
-      (record { put = PutLook 0; take = cursor }) × AreCalled (IsCalled done) log
-
 -- the epoch of the collection that is asked for
 expiry_of : Option Ask → ℕ
 expiry_of (Some (TakeBag x)) = x
@@ -133,6 +123,10 @@ stops_at a held false x k stopped = absurd (cc (stopped))
 -- the stage behind a bag got is that of its jobs
 pub got_stage : {J : Type 0} (m n : Machine J) (x k : ℕ) → n ≡ with_hand m x k n.hand → n.stage ≡ after_job n x k n.hand
 got_stage m n x k is = ap (λ (z : Machine _). z.stage) is ∙ sym (ap (λ (z : Machine _). after_job z x k n.hand) is)
+
+-- a seat that found a word rests as before
+still_rests : {J : Type 0} (before after : PlaceMe J) (word : ℕ) → Finds before word after → RestsAt before → RestsAt after
+still_rests before after word finds rests = (ap (λ (me : PlaceMe _). me.0.claimed) finds ∙ rests.0, ap (λ (me : PlaceMe _). me.1) finds ∙ rests.1)
 
 module _ {T W : Type 0} where
   -- what one step of the collection performs
@@ -171,6 +165,11 @@ module _ {T W : Type 0} where
     performed = ([], (refl, refl, ap (λ (z : TakeCursor). record { put = PutLook 0; take = z }) first), tt);
   }
 
+  -- a machine that looks for a bag is as it was behind a step that got none
+  waits_on : (h n : Local T W) (x taken : ℕ) → n.machine ≡ record h.machine { stage = Take x taken; hand = n.machine.hand }
+      → n.machine ≡ took_heard n.machine n.machine.stage TakeAgain n.machine.hand
+  waits_on h n x taken looks = sym (ap (λ (s : Stage). took_heard n.machine s TakeAgain n.machine.hand) (ap (λ (z : Machine (Job W)). z.stage) looks))
+
   -- it goes on
   pub take_again : (done : W → Type 0) (h n : Local T W) (x : ℕ) (cursor next : TakeCursor) (m : Machine (Job W)) (claimer : _) (bag : Sealed (Job W))
       → (taken : HasTaken done h x cursor n)
@@ -190,6 +189,34 @@ module _ {T W : Type 0} where
         same = record { position = taken.same.position; collector = taken.same.collector };
         performed = take_performed done h n x cursor next TakeAgain m claimer.me bag taken after (λ got. absurd (cc got)) moves;
       }
+
+  -- the word found at a place that isn't the last one tells of no expired bag
+  pub look_passes : (done : W → Type 0) (h n : Local T W) (x place word : ℕ) (claimer : _)
+      → HasTaken done h x (TakeLook place) n
+      → place + 1 < h.collector.now.places.places
+      → IsAt h.collector.now.places claimer
+      → Finds n.claimer.me word claimer.me
+      → ¬ IsExpiredWord x word
+      → HasTaken done h x (TakeLook (place + 1)) (record n { claimer = claimer })
+  look_passes done h n x place word claimer taken within is_at finds late =
+      let goes_on : TakeAgain ≡ (if place + 1 == h.collector.now.places.places then TakeEnds else TakeAgain) =
+      sym (ap (λ (b : Bool). if b then TakeEnds else TakeAgain) (ne_eqb (place + 1) h.collector.now.places.places (λ is. absurd (omega (arith, is, within))))) in
+      take_again done h n x (TakeLook place) (TakeLook (place + 1)) n.machine claimer (record { seal = 0; jobs = [] }) taken
+      (waits_on h n x taken.taken taken.machine) is_at (omega (arith, within), still_rests n.claimer.me claimer.me word finds taken.at.1)
+      ((λ last. absurd (omega (arith, last, within))), (λ not. (word, finds, (λ expired. absurd (late expired)), (λ is. (refl, goes_on)))))
+
+  -- the word found at a place is that of an expired bag
+  pub look_finds : (done : W → Type 0) (h n : Local T W) (x place word : ℕ) (claimer : _)
+      → HasTaken done h x (TakeLook place) n
+      → place < h.collector.now.places.places
+      → IsAt h.collector.now.places claimer
+      → Finds n.claimer.me word claimer.me
+      → IsExpiredWord x word
+      → HasTaken done h x (TakeClaim place word) (record n { claimer = claimer })
+  look_finds done h n x place word claimer taken within is_at finds expired =
+      take_again done h n x (TakeLook place) (TakeClaim place word) n.machine claimer (record { seal = 0; jobs = [] }) taken
+      (waits_on h n x taken.taken taken.machine) is_at (within, expired, still_rests n.claimer.me claimer.me word finds taken.at.1)
+      ((λ last. absurd (omega (arith, last, within))), (λ not. (word, finds, (λ is. (refl, refl)), (λ late. absurd (late expired)))))
 
   -- no further bag is found
   pub take_ends : (done : W → Type 0) (h n : Local T W) (x : ℕ) (cursor next : TakeCursor) (m : Machine (Job W)) (claimer : _) (bag : Sealed (Job W))

@@ -5,7 +5,9 @@ use Rattle.epoch_bags.specs.Bags.{Sealed}
 use Rattle.epoch_tables.specs.Table.{IsOf}
 use Rattle.epoch_tables.specs.TableSteps.{after_epoch, after_own}
 use Rattle.epoch_tables.specs.SharedPlaces.{IsOf as IsAt}
-use Rattle.epoch_tables.specs.SharedSteps.{RestsAt}
+use Rattle.epoch_tables.specs.SharedSteps.{RestsAt, TakesAt}
+use Rattle.epoch_bags.specs.declared.queue.places.TakeCursor.{TakeCursor}
+use Rattle.epoch_bags.specs.declared.queue.places.PutCursor.TheVariants.{Look as PutLook}
 use Rattle.epoch_bags.specs.Jobs.{IsCalled}
 use Rattle.epoch_bags.specs.declared.job.Job.{Job}
 use Rattle.epoch_tables.specs.declared.shared_places.view.PlaceView.{PlaceView}
@@ -75,6 +77,17 @@ pub record Scans {T W : Type 0} (old : Local T W) (expiry : ℕ) (new : Local T 
 pub record CallsHand {T W : Type 0} (done : W → Type 0) (old : Local T W) (expiry taken : ℕ) (new : Local T W) : Type 0 where
   pub machine : new.machine ≡ record old.machine { stage = after_job old.machine expiry taken []; hand = [] }
   pub performed : (c : Cursors) → (log : Log (Job W)) × Performed old.collector.now.places.places old.machine (sight_of old) c log new.machine (sight_of old) c × AreCalled (IsCalled done) log
+
+-- A collection for the epoch x has come to this cursor, and looks for a bag.
+pub record HasTaken {T W : Type 0} (done : W → Type 0) (h : Local T W) (x : ℕ) (cursor : TakeCursor) (n : Local T W) : Type 0 where
+  pub taken : ℕ
+  pub machine : n.machine ≡ record h.machine { stage = Take x taken; hand = n.machine.hand }
+  pub claimer : IsAt h.collector.now.places n.claimer
+  pub at : TakesAt h.collector.now.places.places x cursor n.claimer.me
+  pub seat : n.seat ≡ h.seat
+  pub same : IsSame h n
+  pub performed : (log : Log (Job W)) × Performed h.collector.now.places.places h.machine (sight_of h) at_start log n.machine (sight_of n)
+      (record { put = PutLook 0; take = cursor }) × AreCalled (IsCalled done) log
 
 -- It took bags that are expired for the epoch of its scan, and called their jobs.
 pub record TakesBags {T W : Type 0} (done : W → Type 0) (old new : Local T W) : Type 0 where

@@ -1,12 +1,14 @@
 //! Collections: bags are taken out of the shared places, and their jobs are called.
-ghost use Rattle.std.specs.Prelude.{◌≡◌, ℕ};
+ghost use Rattle.std.specs.Prelude.{◌≡◌, ℕ, ◌<◌, ◌^◌};
+ghost use Rattle.epoch_tables.specs.SharedPlaces.{IsOf as IsAt};
 ghost use Rattle.epoch_tables.specs.SharedSteps.{RestsAt};
 ghost use Rattle.epoch_machine.specs.Machine.{after_job};
-ghost use Rattle.epoch_handles.specs.Handles.{IsSeated, IsPinned, CallsHand, TakesBags, Collects};
+ghost use Rattle.epoch_handles.specs.Handles.{IsSeated, IsPinned, CallsHand, HasTaken, TakesBags, Collects};
 ghost use Rattle.epoch_machine.specs.declared.machine.Stage.TheVariants.{LoadScan, Take};
 
 use crate::local::Local;
-use epoch_bags::{Run, TakeStep};
+use epoch_bags::queue::places::is_expired_word;
+use epoch_bags::{Epoch, Run, TakeCursor, TakeStep};
 
 impl<'c, T: Drop, W: Run> Local<'c, T, W> {
     /// Calls what is left of the bag in hand, the oldest job first.
@@ -20,16 +22,39 @@ impl<'c, T: Drop, W: Run> Local<'c, T, W> {
         }
     }
 
+    /// Looks at the places, as the first steps of a collection for `expiry`: up to the first place whose word tells
+    /// of an expired bag, or as far as the last place, which is not looked at. Answers where the collection stands.
+    ///
+    /// A plain loop over the words: in most collections no bag is expired.
+    #[inline(always)]
+    fn pass_places(&mut self, expiry: u64) -> TakeCursor
+        requires places_of { IsAt self.old.collector.now.places self.old.claimer }
+        requires rests { RestsAt self.old.claimer.me }
+        requires takes { self.old.machine.stage ≡ Take expiry 0 }
+        requires within { expiry < 2 ^ 63 }
+        ensures { HasTaken W.done self.old expiry result self.new }
+    {
+        let last = self.collector.places.places() - 1;
+        for place in 0..last {
+            let word = self.collector.places.look(&mut self.claimer, place);
+            if is_expired_word(word, Epoch::new(expiry)) {
+                return TakeCursor::Claim(place, word);
+            }
+        }
+        TakeCursor::Look(last)
+    }
+
     /// Takes expired bags, as many as a collection takes or as it finds, and calls each one's jobs before it looks
     /// for the next.
     #[inline(always)]
-    fn take_bags(&mut self)
+    fn take_bags(&mut self, expiry: u64)
         requires seated { IsSeated self.old }
         requires rests { RestsAt self.old.claimer.me }
-        requires takes { (expiry : ℕ) × (self.old.machine.stage ≡ Take expiry 0) }
+        requires takes { self.old.machine.stage ≡ Take expiry 0 }
+        requires within { expiry < 2 ^ 63 }
         ensures { TakesBags W.done self.old self.new }
     {
-        let mut cursor = self.collector.places.start_take();
+        let mut cursor = self.pass_places(expiry);
         'bags: loop {
             let step = self
                 .machine
@@ -55,7 +80,7 @@ impl<'c, T: Drop, W: Run> Local<'c, T, W> {
         requires begins { self.old.machine.stage ≡ LoadScan }
         ensures { Collects W.done self.old self.new }
     {
-        let _ = self.scan();
-        self.take_bags();
+        let expiry = self.scan();
+        self.take_bags(expiry);
     }
 }

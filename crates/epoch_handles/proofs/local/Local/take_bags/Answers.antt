@@ -4,13 +4,11 @@ use Rattle.epoch_bags.specs.declared.queue.TakeStep.{TakeStep}
 use Rattle.epoch_tables.specs.SharedPlaces.{IsOf as IsAt}
 use Rattle.epoch_tables.specs.SharedSteps.{TakesAt, TakeMoves}
 use Rattle.epoch_machine.specs.Machine.{Machine, ask_at, took_heard}
-use Rattle.epoch_handles.proofs.Collecting.{take_begins, take_again, take_ends, hand_called, next_bag, last_bag, one_bag_asked}
+use Rattle.epoch_handles.proofs.Collecting.{take_again, take_ends, hand_called, next_bag, last_bag, one_bag_asked}
 use Rattle.epoch_handles.proofs.local.Local.take_bags.Goals as goal
 
 pub bags-init : goal.bags-init
-bags-init g c =
-    let h = c.args.self.now in let x = c.requires.takes.0 in
-    (x, take_begins g.W.Run.done h x c.start_take-cursor.result c.requires.takes.1 c.requires.seated.places_of c.start_take-cursor.ensures.first (c.start_take-cursor.ensures.at x h.claimer.me c.requires.rests))
+bags-init g c = (c.args.expiry, c.pass_places-cursor.ensures)
 
 -- the machine asks for a step of the collection, and the seat is where its cursor says
 pub take_shared-step-requires : goal.take_shared-step-requires

@@ -1,6 +1,6 @@
 use Rattle.std.proofs.Common.{ℕ}
 use Rattle.epoch_bags.specs.Places.{take_left}
-use Rattle.epoch_handles.proofs.Collecting.{HasTaken}
+use Rattle.epoch_handles.specs.Handles.{HasTaken}
 use Rattle.epoch_handles.proofs.local.Local.take_bags.Given as goal
 
 abbrev pub invariant-bags : goal.invariant-bags
