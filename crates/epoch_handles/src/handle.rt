@@ -300,8 +300,8 @@ impl<'c, T: Drop, W: Run> LocalHandle<'c, T, W> {
         Err((LocalHandle { local }, Fault::BagsFull))
     }
 
-    /// Ends the participant: as [`LocalHandle::leave`], whose answer it spends. After an accepted release no value
-    /// has the last state: `frees` says that there is one.
+    /// Ends the participant: as [`LocalHandle::leave`] with its answer spent, and without moving a handle into an
+    /// answer. After an accepted release no value has the last state: `frees` says that there is one.
     ///
     /// `BagsFull`: each place was seen occupied. The handle comes back unpinned, with its bag as it was.
     pub fn release(self) -> Result<(), (LocalHandle<'c, T, W>, Fault)>
@@ -316,13 +316,12 @@ impl<'c, T: Drop, W: Run> LocalHandle<'c, T, W> {
         ensures found { IfErr result (λ back. back.0.local.machine.full ≡ true) }
         ensures frees { IsOk result → (last : _) × IsReleased W.done self.entry.local last }
     {
-        match self.leave() {
-            Ok(released) => {
-                released.spend();
-                Ok(())
-            }
-            Err(back) => Err(back),
+        let LocalHandle { mut local } = self;
+        if local.release() {
+            Local::spend(local);
+            return Ok(());
         }
+        Err((LocalHandle { local }, Fault::BagsFull))
     }
 
     /// As [`LocalHandle::defer`]: a job is the caller's box, and there is no call that trusts its caller more.

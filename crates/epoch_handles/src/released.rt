@@ -1,5 +1,5 @@
 //! What is left of a handle that was released.
-ghost use Rattle.std.specs.Prelude.{◌≡◌, None};
+ghost use Rattle.std.specs.Prelude.{◌≡◌, [], None};
 
 use crate::local::Local;
 use epoch_bags::{Run, Work};
@@ -10,6 +10,7 @@ use std::fmt;
 pub struct Released<'c, T, W = Work> {
     pub(crate) local: Local<'c, T, W>,
     pub(crate) ghost gone: { local.seat.me.0.position ≡ None },
+    pub(crate) ghost empty: { local.machine.held ≡ [] },
 }
 
 impl<'c, T, W> fmt::Debug for Released<'c, T, W> {

@@ -11,6 +11,7 @@ ghost use Rattle.epoch_machine.specs.declared.machine.Stage.TheVariants.{StoreUn
 use crate::local::Local;
 use epoch_bags::Run;
 use epoch_machine::Answer;
+use std::mem;
 
 impl<'c, T, W> Local<'c, T, W> {
     /// Stores the own word: free. The participant has no position from then on.
@@ -119,17 +120,20 @@ impl<'c, T: Drop, W: Run> Local<'c, T, W> {
         self.machine.end();
     }
 
-    /// Ends a participant that has no position.
-    #[inline(never)]
+    /// Ends a participant that has no position. A freed machine holds no job, so there is nothing to drop in it: to
+    /// look for jobs among the blanks of its bags would take as long as the rest of a release.
+    #[inline(always)]
     pub(crate) fn spend(local: Local<'c, T, W>)
-        requires { local.seat.me.0.position ≡ None }
+        requires gone { local.seat.me.0.position ≡ None }
+        requires empty { local.machine.held ≡ [] }
     {
         let Local {
             collector: _,
             seat: _,
             claimer: _,
             position: _,
-            machine: _,
+            machine,
         } = local;
+        mem::forget(machine);
     }
 }

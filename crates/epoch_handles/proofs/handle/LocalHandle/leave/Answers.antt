@@ -1,8 +1,12 @@
+use Rattle.std.proofs.Common.{ap}
+use Rattle.epoch_machine.specs.Machine.{Machine}
 use Rattle.epoch_handles.proofs.handle.LocalHandle.leave.Goals as goal
 
--- a freed participant has no position
+-- a freed participant has no position, and holds no job
 pub invariant_of-result : goal.invariant_of-result
-invariant_of-result g c = record { gone = (c.release-freed.ensures.frees c.if-freed.true).position }
+invariant_of-result g c =
+    let freed = c.release-freed.ensures.frees c.if-freed.true in
+    record { gone = freed.position; empty = ap (λ (z : Machine _). z.held) freed.machine }
 
 pub returns-then-freed-clause-frees : goal.returns-then-freed-clause-frees
 returns-then-freed-clause-frees g c = c.release-freed.ensures.frees c.if-freed.true
