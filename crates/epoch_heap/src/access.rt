@@ -1,5 +1,7 @@
 //! Pointers, the calls on them and on cells, and what calls answer. The calls on pointers are those of crossbeam-epoch's
 //! `Atomic`; the calls on cells stand for what `Owned` and `Shared` do there.
+ghost use Rattle.std.specs.Prelude.{◌≡◌};
+ghost use Rattle.epoch_heap.specs.Heap.{guard_of};
 
 use epoch_cells::Name;
 
@@ -63,6 +65,19 @@ pub enum Access {
     Take(Option<u64>, Ptr),
     /// One or more steps on the pointer at this spot.
     Point(Option<u64>, Spot, Change),
+}
+
+impl Access {
+    /// The guard that the call names, if it is a protecting one. A `Place` and a `Leave` name none.
+    pub fn guard(self) -> Option<u64>
+        ensures { result ≡ guard_of self }
+    {
+        match self {
+            Access::Read(guard, _) | Access::Write(guard, _, _) => guard,
+            Access::Take(guard, _) | Access::Point(guard, _, _) => guard,
+            Access::Place(_) | Access::Leave(_) => None,
+        }
+    }
 }
 
 /// What a call answers at its end.

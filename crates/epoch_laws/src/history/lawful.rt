@@ -2,7 +2,6 @@
 ghost use Rattle.std.specs.Prelude.{◌≡◌, ◌↔◌, IsTrue, Some};
 ghost use Rattle.epoch_laws.specs.Lawful.{IsLawful, nothing, told_of, MayPin, MayUnpin, MayRepin, MayDefer, MayCall, MayCallNow, Told, HasTold, HasToldRefused, IsValue, IsPointer, IsWritten, IsExchange, IsUpdate, ChangeAnswers, AccessAnswers, AnswerFits, MayTell, MayRegister, GuardAllows, GuardsAllow, MayAccept, MayBegin, MayEnd, MayEndGo, MayReply, MayReplyAll};
 ghost use Rattle.epoch_laws.specs.Known.{known_of};
-ghost use Rattle.epoch_heap.specs.Heap.{guard_of as access_guard};
 ghost use Rattle.epoch_laws.specs.Run.{waits as call_waits};
 
 use crate::history::guards::{has_none, has_one, has_only, has_out, has_room};
@@ -102,7 +101,7 @@ fn guards_allow(before: &[Entry], participant: u64, call: Call, paused: Option<u
         Call::Defer(Some(guard)) | Call::Flush(Some(guard)) => has_out(before, participant, guard),
         Call::Release => has_none(before, participant),
         Call::DeferDestroy(Some(guard), _) => has_out(before, participant, guard),
-        Call::Access(access) => guard_allows(before, participant, guard_of(access)),
+        Call::Access(access) => guard_allows(before, participant, access.guard()),
         _ => true,
     }
 }
@@ -114,17 +113,6 @@ fn guard_allows(before: &[Entry], participant: u64, guard: Option<u64>) -> bool
     match guard {
         Some(guard) => has_out(before, participant, guard),
         None => true,
-    }
-}
-
-/// The guard of a call on cells and pointers, if it is a protecting one.
-fn guard_of(access: Access) -> Option<u64>
-    ensures { result ≡ access_guard access }
-{
-    match access {
-        Access::Read(guard, _) | Access::Write(guard, _, _) => guard,
-        Access::Take(guard, _) | Access::Point(guard, _, _) => guard,
-        Access::Place(_) | Access::Leave(_) => None,
     }
 }
 

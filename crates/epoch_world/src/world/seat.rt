@@ -5,7 +5,7 @@ ghost use Rattle.epoch_laws.specs.Run.{free_seat, with_machine, with_word, refus
 ghost use Rattle.epoch_machine.specs.declared.machine.Stage.TheVariants.{Idle, End};
 ghost use Rattle.epoch_world.specs.Seats.{shared, SeatPerforms, WordFits, adds_guard, CanRead, HasRead};
 ghost use Rattle.epoch_cells.specs.declared.fault.Fault.TheVariants.{NoMemory};
-ghost use Rattle.epoch_heap.specs.Heap.{guard_of, has_steps, Touched, Touches, outcome_of, after_job};
+ghost use Rattle.epoch_heap.specs.Heap.{has_steps, Touched, Touches, outcome_of, after_job};
 ghost use Rattle.epoch_world.specs.Steps.{in_store, machine_steps};
 ghost use Rattle.epoch_laws.specs.Places.{sight, Looks};
 ghost use Rattle.epoch_laws.specs.Collections.{reach, expiry_of, Finds, MayClaim};
@@ -340,7 +340,7 @@ impl Seat {
                 }
             }
             Call::Access(access) => {
-                if !self.has_guard(guard_of(access)) {
+                if !self.has_guard(access.guard()) {
                     return Some(Fault::StrangerGuard);
                 }
                 self.access_refusal(access, heap)
@@ -548,17 +548,6 @@ fn begin_put<S: BagStore<Job = Deferral>>(store: &S) -> S::Putting
 {
     let _places = store.capacity();
     store.start_put()
-}
-
-/// The guard of a call on cells and pointers, if it is a protecting one.
-fn guard_of(access: Access) -> Option<u64>
-    ensures { result ≡ guard_of access }
-{
-    match access {
-        Access::Read(guard, _) | Access::Write(guard, _, _) | Access::Take(guard, _) => guard,
-        Access::Point(guard, _, _) => guard,
-        Access::Place(_) | Access::Leave(_) => None,
-    }
 }
 
 /// Whether the call has a step at all.
