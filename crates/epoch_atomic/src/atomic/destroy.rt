@@ -1,5 +1,5 @@
 //! The removal of the value that a pointer names.
-ghost use Rattle.std.specs.Prelude.{◌≡◌, ◌≢◌, ◌↔◌, ◌<◌, [], ◌∷◌, ◌++◌, ◌⊎◌, IsOk, IsErr, IsNone, IsSome, IfOk, IfErr, IfSome, Some, None, length};
+ghost use Rattle.std.specs.Prelude.{◌≡◌, ◌≢◌, ◌↔◌, ◌<◌, [], ◌∷◌, ◌++◌, ◌⊎◌, true, IsOk, IsErr, IsNone, IsSome, IfOk, IfErr, IfSome, Some, None, length};
 ghost use Rattle.epoch_cells.specs.declared.cells.name.Name.{Name};
 ghost use Rattle.epoch_cells.specs.declared.fault.Fault.TheVariants.{StrangerGuard, StrangerPointer, BagsFull};
 ghost use Rattle.epoch_bags.specs.declared.job.Job.TheVariants.{Remove};
@@ -89,6 +89,7 @@ impl<'c, T: Drop, W: Run> DeferDestroy<T, W> for LocalHandle<'c, T, W> {
         ensures room { (name : Name) → Owns self.old.local guard.now → Names self.old.local shared.entry name → length self.old.local.machine.held < self.old.local.machine.sizes.bag_jobs → IsOk result × (self.new.local.machine.held ≡ self.old.local.machine.held ++ Remove name ∷ []) }
         ensures kept { (name : Name) → Owns self.old.local guard.now → Names self.old.local shared.entry name → IsOk result → (self.new.local.machine.held ≡ self.old.local.machine.held ++ Remove name ∷ []) ⊎ (self.new.local.machine.held ≡ Remove name ∷ []) }
         ensures err { IsErr result → self.new.local.machine.held ≡ self.old.local.machine.held }
+        ensures found { (name : Name) → Owns self.old.local guard.now → Names self.old.local shared.entry name → IsErr result ↔ (self.new.local.machine.full ≡ true) }
         ensures handed_back { IfErr result (λ refused. refused.value ≡ shared.entry) }
     {
         if guard.is_protecting() && !self.owns(guard) {

@@ -29,6 +29,9 @@ returns-then-not-owns-clause-pointer g c = λ which _. absurd (⊎_elim
 pub returns-then-not-owns-clause-does : goal.returns-then-not-owns-clause-does
 returns-then-not-owns-clause-does g c = λ _ owns _. absurd (not_both c.if-not-owns.true (c.owns.ensures.1 owns))
 
+pub returns-then-not-owns-clause-found : goal.returns-then-not-owns-clause-found
+returns-then-not-owns-clause-found g c = λ _ owns _. absurd (not_both c.if-not-owns.true (c.owns.ensures.1 owns))
+
 pub returns-then-not-owns-clause-room : goal.returns-then-not-owns-clause-room
 returns-then-not-owns-clause-room g c = λ _ owns _ _. absurd (not_both c.if-not-owns.true (c.owns.ensures.1 owns))
 
@@ -46,6 +49,9 @@ returns-in_default-clause-stranger g c = λ some stranger. elim c.else-is_protec
 pub returns-in_default-clause-does : goal.returns-in_default-clause-does
 returns-in_default-clause-does g c = λ _ _ names. absurd (false≢true (c.in_default.ensures.some.1 (is_some_of names.name_of, under_same c.args.shared.home (sym (c.id.ensures ∙ ap (λ collector. collector.id) c.collector.ensures)) names.under)))
 
+pub returns-in_default-clause-found : goal.returns-in_default-clause-found
+returns-in_default-clause-found g c = λ _ _ names. absurd (false≢true (c.in_default.ensures.some.1 (is_some_of names.name_of, under_same c.args.shared.home (sym (c.id.ensures ∙ ap (λ collector. collector.id) c.collector.ensures)) names.under)))
+
 pub returns-in_default-clause-room : goal.returns-in_default-clause-room
 returns-in_default-clause-room g c = λ _ _ names _. absurd (false≢true (c.in_default.ensures.some.1 (is_some_of names.name_of, under_same c.args.shared.home (sym (c.id.ensures ∙ ap (λ collector. collector.id) c.collector.ensures)) names.under)))
 
@@ -62,6 +68,9 @@ returns-in-Err-clause-pointer g c = λ _ stranger. absurd (stranger c.in-Some.na
 
 pub returns-in-Err-clause-does : goal.returns-in-Err-clause-does
 returns-in-Err-clause-does g c = λ _ owns _. c.in-Err.ensures.does (is_some_of owns.position) owns
+
+pub returns-in-Err-clause-found : goal.returns-in-Err-clause-found
+returns-in-Err-clause-found g c = λ _ owns _. c.in-Err.ensures.found owns
 
 pub returns-in-Err-clause-room : goal.returns-in-Err-clause-room
 returns-in-Err-clause-room g c = λ _ owns _ fits. absurd (false≢true (c.in-Err.ensures.room owns fits).0)
@@ -85,6 +94,9 @@ returns-clause-room g c = λ name owns names fits.
     let same = same_Some c.in-Some.name name (sym c.in-Some.ensures.name ∙ names.name_of) in
     let told = c.in_default-defer.ensures.room owns fits in
     (refl, subst (λ (n : Name). c.defer.new.self.local.machine.held ≡ c.args.self.now.local.machine.held ++ Remove n ∷ []) same told.1)
+
+pub returns-clause-found : goal.returns-clause-found
+returns-clause-found g c = λ _ owns _. c.in_default-defer.ensures.found owns
 
 pub returns-clause-kept : goal.returns-clause-kept
 returns-clause-kept g c = λ name owns names ok.
