@@ -1,5 +1,6 @@
 -- How often an update calls its function, and with what it ends.
 use Rattle.std.specs.Prelude.{◌≡◌, ℕ, zero, suc, ◌<◌, Option, Some, None}
+use Rattle.epoch_atomic.specs.Pointers.{IsRead, IsUnder}
 use Rattle.epoch_atomic.specs.declared.atomic.shared.Shared.{Shared}
 use Rattle.epoch_atomic.specs.declared.atomic.update.UpdateFault.{UpdateFault}
 use Rattle.epoch_atomic.specs.declared.atomic.update.UpdateFault.TheVariants.{Stopped, RanOut}
@@ -9,22 +10,26 @@ abbrev pub pointer_of : {T : Type 0} → UpdateFault T → Shared T
 pointer_of (Stopped before) = before
 pointer_of (RanOut seen) = seen
 
--- so many calls, each answered by some pointer, took the function from f to g
-abbrev pub Answers : {F A : Type 0} → (F → A → Option A → F → Type 0) → F → ℕ → F → Type 0
-Answers step f zero g = g ≡ f
-Answers {F} {A} step f (suc calls) g = (h : F) × (x : A) × (next : A) × Answers step f calls h × step h x (Some next) g
+-- the pointer reads as some word does, and is of the collector with this number
+abbrev pub IsReadUnder : {T : Type 0} → (align id : ℕ) → Shared T → Type 0
+IsReadUnder align id shared = IsRead align shared.name shared.tag × IsUnder id shared.home
+
+-- so many calls, each on such a pointer and answered by some pointer, took the function from f to g
+abbrev pub Answers : {F A : Type 0} → (A → Type 0) → (F → A → Option A → F → Type 0) → F → ℕ → F → Type 0
+Answers on step f zero g = g ≡ f
+Answers {F} {A} on step f (suc calls) g = (h : F) × (x : A) × (next : A) × Answers on step f calls h × on x × step h x (Some next) g
 
 -- The last call, one of at most so many, was on this pointer, was answered by some pointer, and left the function as h.
-abbrev pub Wins : {F A : Type 0} → (F → A → Option A → F → Type 0) → F → ℕ → A → F → Type 0
-Wins {F} {A} step f tries before h =
-    (calls : ℕ) × (g : F) × (next : A) × (calls < tries) × Answers step f calls g × step g before (Some next) h
+abbrev pub Wins : {F A : Type 0} → (A → Type 0) → (F → A → Option A → F → Type 0) → F → ℕ → A → F → Type 0
+Wins {F} {A} on step f tries before h =
+    (calls : ℕ) × (g : F) × (next : A) × (calls < tries) × Answers on step f calls g × step g before (Some next) h
 
 -- The last call, one of at most so many, was on this pointer, was answered by none, and left the function as h.
-abbrev pub Stops : {F A : Type 0} → (F → A → Option A → F → Type 0) → F → ℕ → A → F → Type 0
-Stops {F} step f tries before h =
-    (calls : ℕ) × (g : F) × (calls < tries) × Answers step f calls g × step g before None h
+abbrev pub Stops : {F A : Type 0} → (A → Type 0) → (F → A → Option A → F → Type 0) → F → ℕ → A → F → Type 0
+Stops {F} on step f tries before h =
+    (calls : ℕ) × (g : F) × (calls < tries) × Answers on step f calls g × step g before None h
 
 -- An update that isn't made was stopped by its function, or made each of its calls, and left the function as h.
-abbrev pub Ends : {F T : Type 0} → (F → Shared T → Option (Shared T) → F → Type 0) → F → ℕ → UpdateFault T → F → Type 0
-Ends step f tries (Stopped before) h = Stops step f tries before h
-Ends step f tries (RanOut seen) h = Answers step f tries h
+abbrev pub Ends : {F T : Type 0} → (Shared T → Type 0) → (F → Shared T → Option (Shared T) → F → Type 0) → F → ℕ → UpdateFault T → F → Type 0
+Ends on step f tries (Stopped before) h = Stops on step f tries before h
+Ends on step f tries (RanOut seen) h = Answers on step f tries h
