@@ -1,7 +1,13 @@
-//! Tests of `epoch_world` by its public calls: worlds over three stores of bags.
+//! Tests of `epoch_world` by its public calls, over three stores of bags: what steps tell, and whole calls beside them.
 #![tactic(auto)]
 
 #[cfg(test)]
-mod wants;
+mod calls;
 #[cfg(test)]
-mod worlds;
+mod deeds;
+#[cfg(test)]
+mod plain;
+#[cfg(test)]
+mod rows;
+#[cfg(test)]
+mod wants;

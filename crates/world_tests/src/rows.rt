@@ -1,15 +1,16 @@
 //! What is done to worlds over each of the three stores, and what it tells, worked out by hand.
 
-use crate::wants::want;
-use crate::worlds::deeds::Deed::{
+use crate::deeds::Deed::{
     Calls, Collects, Cycles, Defers, Ends, Epoch, Flushes, Goes, Guards, Pauses, Pins, Rounds,
     Takes, Unpins, Word,
 };
-use crate::worlds::deeds::{Row, expect_rows, new_world};
-use crate::worlds::plain::{Answer, Call, Reply, Step};
-use crate::worlds::reverse::{Reverse, run_over_pile};
-use epoch_base::{BagQueue, BagStore, Called, Fault, GREATEST_EPOCH, Places};
+use crate::deeds::{Row, expect_rows, new_world};
+use crate::plain::{Answer, Call, Reply, Step};
+use crate::wants::want;
+use epoch_bags::{BagQueue, BagStore, Called, GREATEST_EPOCH, Places};
+use epoch_cells::Fault;
 use epoch_world::{Deferral, Shape, World};
+use pile_store::Pile;
 use std::alloc::Global;
 use std::process::Abort;
 use std::test::Fail;
@@ -35,7 +36,7 @@ const TWO: Shape = Shape {
 };
 
 /// One participant, four places, bags of two jobs, and collections of one bag.
-pub const SMALL: Shape = Shape {
+const SMALL: Shape = Shape {
     bags: 4,
     bag_jobs: 2,
     collect_bags: 1,
@@ -650,7 +651,7 @@ const PILES: &[Row] = &[(
 fn expect_everywhere(rt: &impl Abort, alloc: Global, rows: &[Row]) -> Result<(), Fail> {
     expect_rows::<Places<Deferral>>(rt, alloc, rows)?;
     expect_rows::<BagQueue<Deferral>>(rt, alloc, rows)?;
-    expect_rows::<Reverse>(rt, alloc, rows)
+    expect_rows::<Pile>(rt, alloc, rows)
 }
 
 #[test]
@@ -672,14 +673,14 @@ fn full_stores_and_ends_tell_the_same_over_any_store(rt: HostRuntime) -> Result<
 fn bags_are_taken_in_the_order_of_the_store(rt: HostRuntime) -> Result<(), Fail> {
     expect_rows::<Places<Deferral>>(&rt, rt.alloc(), FIRST_OUT)?;
     expect_rows::<BagQueue<Deferral>>(&rt, rt.alloc(), FIRST_OUT)?;
-    expect_rows::<Reverse>(&rt, rt.alloc(), LAST_OUT)
+    expect_rows::<Pile>(&rt, rt.alloc(), LAST_OUT)
 }
 
 #[test]
 fn a_put_and_a_look_are_one_step_each_where_the_store_says_so(rt: HostRuntime) -> Result<(), Fail> {
     expect_rows::<BagQueue<Deferral>>(&rt, rt.alloc(), WHOLE_PUTS)?;
-    expect_rows::<Reverse>(&rt, rt.alloc(), WHOLE_PUTS)?;
-    expect_rows::<Reverse>(&rt, rt.alloc(), PILES)
+    expect_rows::<Pile>(&rt, rt.alloc(), WHOLE_PUTS)?;
+    expect_rows::<Pile>(&rt, rt.alloc(), PILES)
 }
 
 fn expect_empty<S: BagStore<Job = Deferral>>(rt: &impl Abort, alloc: Global) -> Result<(), Fail> {
@@ -693,39 +694,5 @@ fn expect_empty<S: BagStore<Job = Deferral>>(rt: &impl Abort, alloc: Global) -> 
 fn an_empty_list_gives_an_empty_list(rt: HostRuntime) -> Result<(), Fail> {
     expect_empty::<Places<Deferral>>(&rt, rt.alloc())?;
     expect_empty::<BagQueue<Deferral>>(&rt, rt.alloc())?;
-    expect_empty::<Reverse>(&rt, rt.alloc())
-}
-
-const LIST: &[Step] = &[
-    Step::Register,
-    Step::Begin(0, Call::Pin),
-    Step::Go(0),
-    Step::Go(0),
-    Step::Begin(0, Call::Unpin(Some(0))),
-    Step::Go(1),
-];
-
-/// What that list tells.
-const TOLD: [Reply; 6] = [
-    Reply::Registered(0),
-    Reply::Began,
-    Reply::Stepped,
-    Reply::Pinned(0),
-    Reply::Refused(Fault::Busy),
-    Reply::Refused(Fault::NotRegistered),
-];
-
-#[test]
-fn one_list_over_a_pile_tells_one_reply_a_step(rt: HostRuntime) -> Result<(), Fail> {
-    let mut world = new_world(&rt, rt.alloc(), ONE)?;
-    let (mut steps, mut told) = (Vec::new(rt.alloc()), Vec::new(rt.alloc()));
-    for step in LIST {
-        steps.push(step.in_world())?;
-    }
-    for reply in TOLD.iter() {
-        told.push(reply.in_world())?;
-    }
-    let replies = run_over_pile(&mut world, steps.as_slice())?;
-    want(&rt, "the replies", replies.as_slice(), told.as_slice());
-    Ok(())
+    expect_empty::<Pile>(&rt, rt.alloc())
 }

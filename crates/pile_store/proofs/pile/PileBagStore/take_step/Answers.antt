@@ -1,6 +1,6 @@
 use Rattle.std.proofs.Common.{◌-◌, arith, sym}
-use Rattle.world_tests.proofs.PileSteps.{one_passed, one_taken}
-use Rattle.world_tests.proofs.worlds.reverse.ReverseBagStore.take_step.Goals as goal
+use Rattle.pile_store.proofs.PileSteps.{one_passed, one_taken}
+use Rattle.pile_store.proofs.pile.PileBagStore.take_step.Goals as goal
 
 -- the bag that was looked at is taken, and those below it stay
 pub returns-then-is_expired-clause-ahead : goal.returns-then-is_expired-clause-ahead

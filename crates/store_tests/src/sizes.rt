@@ -1,14 +1,27 @@
 //! Bags that take other numbers of jobs than the usual, and collections of other numbers of bags.
 
 use crate::wants::want;
-use crate::worlds::deeds::new_world;
-use crate::worlds::reverse::Reverse;
-use crate::worlds::rows::SMALL;
-use epoch_base::{BagQueue, BagStore, Places};
+use crate::worlds::new_world;
+use epoch_bags::{BagQueue, BagStore, Places};
 use epoch_world::{Call, Deferral, Reply, Shape, Step, World};
+use pile_store::Pile;
 use std::alloc::Global;
 use std::process::Abort;
 use std::test::Fail;
+
+/// One participant and four places.
+const SHAPE: Shape = Shape {
+    participants: 1,
+    cells: 0,
+    roots: 0,
+    fields: 0,
+    bags: 4,
+    align: 1,
+    start_epoch: 0,
+    start_turn: 0,
+    bag_jobs: 64,
+    collect_bags: 8,
+};
 
 /// How many jobs a bag takes, and how many bags a collection.
 const SIZES: &[u64] = &[1, 2, 3, 8, 63, 64];
@@ -74,7 +87,7 @@ fn expect_emptied<S: BagStore<Job = Deferral>>(
     let shape = Shape {
         bag_jobs: jobs,
         collect_bags: taken,
-        ..SMALL
+        ..SHAPE
     };
     let mut world: World<S> = pinned_world(rt, alloc, shape)?;
     let kept = call_times(&mut world, DEFER, jobs_in(&bags))?;
@@ -113,7 +126,8 @@ fn expect_filled<S: BagStore<Job = Deferral>>(
     let shape = Shape {
         bags: 2,
         bag_jobs: jobs,
-        ..SMALL
+        collect_bags: 1,
+        ..SHAPE
     };
     let mut world: World<S> = pinned_world(rt, alloc, shape)?;
     let kept = call_times(&mut world, DEFER, jobs_in(&[jobs; 3]))?;
@@ -147,5 +161,5 @@ fn expect_sizes<S: BagStore<Job = Deferral>>(
 fn a_bag_takes_so_many_jobs_and_a_collection_so_many_bags(rt: HostRuntime) -> Result<(), Fail> {
     expect_sizes::<Places<Deferral>>(&rt, rt.alloc(), false)?;
     expect_sizes::<BagQueue<Deferral>>(&rt, rt.alloc(), false)?;
-    expect_sizes::<Reverse>(&rt, rt.alloc(), true)
+    expect_sizes::<Pile>(&rt, rt.alloc(), true)
 }

@@ -2,10 +2,11 @@
 //! tests passes whichever that is. In a plain run of the tests no allocation is refused.
 
 use crate::wants::want;
-use crate::worlds::deeds::new_world;
-use crate::worlds::reverse::Reverse;
-use epoch_base::{BagQueue, BagStore, Called, Fault, Places};
+use crate::worlds::new_world;
+use epoch_bags::{BagQueue, BagStore, Called, Places};
+use epoch_cells::Fault;
 use epoch_world::{Answer, Call, Deferral, Reply, Shape, Step, World};
+use pile_store::Pile;
 use std::alloc::Global;
 use std::process::Abort;
 
@@ -181,5 +182,5 @@ fn what_is_refused_over_a_queue_has_never_come(rt: HostRuntime) {
 
 #[test]
 fn what_is_refused_over_a_pile_has_never_come(rt: HostRuntime) {
-    expect_told::<Reverse>(&rt, rt.alloc());
+    expect_told::<Pile>(&rt, rt.alloc());
 }

@@ -1,24 +1,18 @@
-//! A third store, which has no proof about worlds of its own: the bag that was put last is looked at first.
+//! The pile: it looks first at the bag that was put last.
 ghost use Rattle.std.specs.Prelude.{◌≡◌, ◌≢◌, ℕ, ◌+◌, ◌-◌, ◌*◌, ◌<◌, ◌≤◌, List, [], ◌++◌, IfOk, IfErr, OnErr, Some, true, false, nat_lt, ◌&&◌, length, min, take, slice_get, vec_capacity};
 ghost use Rattle.epoch_bags.specs.Stores.{AllExpired, PutsBag, FindsRoom, TakesBag, FindsBag, TakesAny};
 ghost use Rattle.epoch_bags.specs.Queues.{first_occupied};
-ghost use Rattle.world_tests.specs.Piles.{expired_count};
-ghost use Rattle.epoch_laws.specs.declared.step.Entry.{Entry};
-ghost use Rattle.epoch_laws.specs.Run.{State, IsFresh, Runs, entries_of};
-ghost use Rattle.epoch_laws.specs.Grace.{KeepsGrace};
-ghost use Rattle.epoch_laws.specs.Tickets.{HoldsEachTicketOnce};
-ghost use Rattle.epoch_laws.specs.Lawful.{IsLawful};
-ghost use Rattle.epoch_rounds.specs.Rounds.{RoundsCallAll};
-ghost use Rattle.epoch_rounds.specs.Collected.{CollectsFew};
+ghost use Rattle.pile_store.specs.Piles.{expired_count};
 
-use epoch_base::{Bag, BagStore, Epoch, Fault, MOST_BAGS, PutStep, SealedBag, TakeStep};
-use epoch_world::{Deferral, Reply, Step, World};
+use epoch_bags::{Bag, BagStore, Epoch, MOST_BAGS, PutStep, SealedBag, TakeStep};
+use epoch_cells::Fault;
+use epoch_laws::Deferral;
 use std::alloc::Global;
 
 /// A pile of bags, the last one on top. A put takes one step. A collection goes down the pile once, one bag a step,
 /// and takes those that are expired.
 #[derive(Drop)]
-pub struct Reverse {
+pub struct Pile {
     capacity: usize,
     bags: Vec<SealedBag<Deferral>>,
     ghost some: { 0 < capacity },
@@ -27,7 +21,7 @@ pub struct Reverse {
     ghost within: { length bags.items ≤ capacity },
 }
 
-impl BagStore for Reverse {
+impl BagStore for Pile {
     type Job = Deferral;
 
     /// How many places the put has seen occupied.
@@ -66,9 +60,9 @@ impl BagStore for Reverse {
 
     ghost TakeMoves = { λ epoch old new hand cursor step next. Unit {0} };
 
-    fn with_room(alloc: Global, bags: usize) -> Result<Reverse, Fault> {
+    fn with_room(alloc: Global, bags: usize) -> Result<Pile, Fault> {
         match Vec::with_capacity(alloc, bags) {
-            Ok(pile) => Ok(Reverse {
+            Ok(pile) => Ok(Pile {
                 capacity: bags,
                 bags: pile,
             }),
@@ -131,16 +125,4 @@ impl BagStore for Reverse {
     ghost use Rattle.epoch_bags.specs.Queues.{length-first_occupied};
 
     ghost place_for_each = { λ pile. length-first_occupied pile.capacity (length pile.bags.items) };
-}
-
-/// Takes these steps over a pile. What holds of runs over any store holds of these, with no proof about this one.
-pub fn run_over_pile(world: &mut World<Reverse>, steps: &[Step]) -> Result<Vec<Reply>, Fault>
-    ensures runs { IfOk result (λ replies. Runs world.old (entries_of steps.now replies.items) world.new) }
-    ensures grace { IfOk result (λ replies. (fresh : State) (earlier : List Entry) → IsFresh fresh → Runs fresh earlier world.old → KeepsGrace (earlier ++ entries_of steps.now replies.items)) }
-    ensures once { IfOk result (λ replies. (fresh : State) (earlier : List Entry) → IsFresh fresh → Runs fresh earlier world.old → HoldsEachTicketOnce (earlier ++ entries_of steps.now replies.items) world.new) }
-    ensures lawful { IfOk result (λ replies. (fresh : State) (earlier : List Entry) → IsFresh fresh → Runs fresh earlier world.old → IsLawful (earlier ++ entries_of steps.now replies.items)) }
-    ensures rounds { IfOk result (λ replies. (fresh start : State) (earlier since : List Entry) → IsFresh fresh → Runs fresh earlier start → Runs start since world.old → RoundsCallAll start (since ++ entries_of steps.now replies.items) world.new) }
-    ensures few { IfOk result (λ replies. (fresh : State) (earlier : List Entry) → IsFresh fresh → Runs fresh earlier world.old → CollectsFew fresh (earlier ++ entries_of steps.now replies.items) world.new) }
-{
-    world.run(steps)
 }

@@ -1,6 +1,7 @@
 //! Steps and replies without cells, which constant tables can hold: a constant holds no name of a cell yet.
 
-use epoch_base::{Called, Fault};
+use epoch_bags::Called;
+use epoch_cells::Fault;
 
 /// A call that names no cell.
 #[derive(Clone, Copy)]

@@ -1,6 +1,6 @@
 use Rattle.std.proofs.Common.{length}
 use Rattle.epoch_bags.proofs.BagLists.{room_first}
-use Rattle.world_tests.proofs.worlds.reverse.ReverseBagStore.start_put.Goals as goal
+use Rattle.pile_store.proofs.pile.PileBagStore.start_put.Goals as goal
 
 -- a free place is one of the last
 pub returns-clause-room : goal.returns-clause-room

@@ -1,6 +1,6 @@
 use Rattle.std.proofs.Common.{length}
 use Rattle.epoch_bags.proofs.ClaimedPlaces.{count_first}
-use Rattle.world_tests.proofs.worlds.reverse.ReverseBagStore.capacity.Goals as goal
+use Rattle.pile_store.proofs.pile.PileBagStore.capacity.Goals as goal
 
 -- there are no more bags than places
 pub returns-clause-standing : goal.returns-clause-standing

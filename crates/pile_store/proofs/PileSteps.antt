@@ -5,7 +5,7 @@ use Rattle.epoch_bags.specs.Bags.{Sealed, IsExpired}
 use Rattle.epoch_bags.specs.Places.{one_if}
 use Rattle.epoch_bags.specs.Stores.{AllExpired}
 use Rattle.epoch_bags.proofs.NumberTests.{at_most, not_most}
-use Rattle.world_tests.specs.Piles.{expired_count}
+use Rattle.pile_store.specs.Piles.{expired_count}
 
 -- where none is left to be looked at, none is expired
 pub none_below : {J : Type 0} (x cursor : ℕ) (bags : List (Sealed J)) → min cursor (length bags) ≡ 0 → expired_count x (take cursor bags) ≡ 0

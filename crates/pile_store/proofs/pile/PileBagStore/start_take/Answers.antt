@@ -1,7 +1,7 @@
 use Rattle.std.proofs.Common.{◌≡◌, ℕ, ap, arith, length, min, take, ◌∙◌}
-use Rattle.world_tests.specs.Piles.{expired_count}
-use Rattle.world_tests.proofs.PileSteps.{all_below}
-use Rattle.world_tests.proofs.worlds.reverse.ReverseBagStore.start_take.Goals as goal
+use Rattle.pile_store.specs.Piles.{expired_count}
+use Rattle.pile_store.proofs.PileSteps.{all_below}
+use Rattle.pile_store.proofs.pile.PileBagStore.start_take.Goals as goal
 
 -- all are still to be looked at
 pub returns-clause-ahead : goal.returns-clause-ahead

@@ -1,10 +1,11 @@
 //! Whole calls beside their steps, on two worlds that began alike.
 
+use crate::deeds::{call_by_steps, new_world};
 use crate::wants::want;
-use crate::worlds::deeds::{call_by_steps, new_world};
-use crate::worlds::reverse::Reverse;
-use epoch_base::{BagQueue, BagStore, Fault, Places};
+use epoch_bags::{BagQueue, BagStore, Places};
+use epoch_cells::Fault;
 use epoch_world::{Answer, Call, Deferral, Reply, Shape, Step, World};
+use pile_store::Pile;
 use std::alloc::Global;
 use std::process::Abort;
 use std::test::Fail;
@@ -116,5 +117,5 @@ fn numbers_of<S: BagStore<Job = Deferral>>(world: &World<S>) -> (u64, [Option<u6
 fn a_whole_call_tells_and_leaves_what_its_steps_do(rt: HostRuntime) -> Result<(), Fail> {
     expect_alike::<Places<Deferral>>(&rt, rt.alloc())?;
     expect_alike::<BagQueue<Deferral>>(&rt, rt.alloc())?;
-    expect_alike::<Reverse>(&rt, rt.alloc())
+    expect_alike::<Pile>(&rt, rt.alloc())
 }

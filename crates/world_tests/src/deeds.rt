@@ -1,8 +1,9 @@
 //! What is done to a world, with what it has to tell of it.
 
+use crate::plain;
 use crate::wants::want;
-use crate::worlds::plain;
-use epoch_base::{BagStore, Called, Fault};
+use epoch_bags::{BagStore, Called};
+use epoch_cells::Fault;
 use epoch_world::{Answer, Call, Deferral, Reply, Shape, Step, World};
 use std::alloc::Global;
 use std::process::Abort;

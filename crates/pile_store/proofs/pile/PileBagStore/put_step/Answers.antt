@@ -1,6 +1,6 @@
 use Rattle.std.proofs.Common.{◌≤◌, length, arith}
 use Rattle.epoch_bags.proofs.BagLists.{all_occupied}
-use Rattle.world_tests.proofs.worlds.reverse.ReverseBagStore.put_step.Goals as goal
+use Rattle.pile_store.proofs.pile.PileBagStore.put_step.Goals as goal
 
 -- as many bags as places
 pub returns-then-len-self-clause-occupied : goal.returns-then-len-self-clause-occupied

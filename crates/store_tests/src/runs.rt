@@ -1,0 +1,69 @@
+//! What holds of runs over any store holds over a pile, which has no proof about worlds of its own.
+ghost use Rattle.std.specs.Prelude.{◌++◌, List, IfOk};
+ghost use Rattle.epoch_laws.specs.declared.step.Entry.{Entry};
+ghost use Rattle.epoch_laws.specs.Run.{State, IsFresh, Runs, entries_of};
+ghost use Rattle.epoch_laws.specs.Grace.{KeepsGrace};
+ghost use Rattle.epoch_laws.specs.Tickets.{HoldsEachTicketOnce};
+ghost use Rattle.epoch_laws.specs.Lawful.{IsLawful};
+ghost use Rattle.epoch_rounds.specs.Rounds.{RoundsCallAll};
+ghost use Rattle.epoch_rounds.specs.Collected.{CollectsFew};
+
+use crate::wants::want;
+use crate::worlds::new_world;
+use epoch_cells::Fault;
+use epoch_world::{Call, Reply, Shape, Step, World};
+use pile_store::Pile;
+
+/// One participant and one bag.
+const SHAPE: Shape = Shape {
+    participants: 1,
+    cells: 0,
+    roots: 0,
+    fields: 0,
+    bags: 1,
+    align: 1,
+    start_epoch: 0,
+    start_turn: 0,
+    bag_jobs: 64,
+    collect_bags: 8,
+};
+
+/// A list of steps.
+const LIST: [Step; 6] = [
+    Step::Register,
+    Step::Begin(0, Call::Pin),
+    Step::Go(0),
+    Step::Go(0),
+    Step::Begin(0, Call::Unpin(Some(0))),
+    Step::Go(1),
+];
+
+/// Its replies.
+const TOLD: [Reply; 6] = [
+    Reply::Registered(0),
+    Reply::Began,
+    Reply::Stepped,
+    Reply::Pinned(0),
+    Reply::Refused(Fault::Busy),
+    Reply::Refused(Fault::NotRegistered),
+];
+
+/// Takes these steps over a pile. What holds of runs over any store holds of these, with no proof about this one.
+fn run_over_pile(world: &mut World<Pile>, steps: &[Step]) -> Result<Vec<Reply>, Fault>
+    ensures runs { IfOk result (λ replies. Runs world.old (entries_of steps.now replies.items) world.new) }
+    ensures grace { IfOk result (λ replies. (fresh : State) (earlier : List Entry) → IsFresh fresh → Runs fresh earlier world.old → KeepsGrace (earlier ++ entries_of steps.now replies.items)) }
+    ensures once { IfOk result (λ replies. (fresh : State) (earlier : List Entry) → IsFresh fresh → Runs fresh earlier world.old → HoldsEachTicketOnce (earlier ++ entries_of steps.now replies.items) world.new) }
+    ensures lawful { IfOk result (λ replies. (fresh : State) (earlier : List Entry) → IsFresh fresh → Runs fresh earlier world.old → IsLawful (earlier ++ entries_of steps.now replies.items)) }
+    ensures rounds { IfOk result (λ replies. (fresh start : State) (earlier since : List Entry) → IsFresh fresh → Runs fresh earlier start → Runs start since world.old → RoundsCallAll start (since ++ entries_of steps.now replies.items) world.new) }
+    ensures few { IfOk result (λ replies. (fresh : State) (earlier : List Entry) → IsFresh fresh → Runs fresh earlier world.old → CollectsFew fresh (earlier ++ entries_of steps.now replies.items) world.new) }
+{
+    world.run(steps)
+}
+
+#[test]
+fn a_list_over_a_pile_tells_one_reply_a_step(rt: HostRuntime) -> Result<(), Fault> {
+    let mut world = new_world(&rt, rt.alloc(), SHAPE)?;
+    let replies = run_over_pile(&mut world, &LIST)?;
+    want(&rt, "the replies", replies.as_slice(), &TOLD[..]);
+    Ok(())
+}
