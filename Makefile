@@ -17,4 +17,4 @@ try:
 	@script=$$(realpath "$(INPUT)") && cd crates/epoch_run && rt try < "$$script"
 
 test:
-	@start=$$(date +%s); rt ci; status=$$?; echo "make test took $$(($$(date +%s) - start)) s"; exit $$status
+	@start=$$(date +%s); rt ci; status=$$?; echo "make test took $$(($$(date +%s) - start)) s on $$(nproc) processors"; exit $$status
