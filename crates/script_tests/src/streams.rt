@@ -459,8 +459,8 @@ impl Dice {
     }
 }
 
-/// Lines of the grammar; `#` is some number.
-const LINES: [&str; 24] = [
+/// Lines of the grammar, of jobs and of cells; `#` is some number.
+const LINES: [&str; 40] = [
     "register",
     "begin # pin",
     "begin 0 defer #",
@@ -485,20 +485,36 @@ const LINES: [&str; 24] = [
     "endgo",
     "endall",
     "go # 40",
+    "call # place 7",
+    "call 1 place #",
+    "call # read 0 1.0",
+    "call 0 read - 2.#",
+    "call # leave 1.0",
+    "call # write 0 2.0+# 9",
+    "call # take 0 1.#",
+    "call # defer-destroy 0 1.0",
+    "call 0 defer-destroy - 2.#",
+    "call # load 0 r0",
+    "call # store 1.0/0 2.0+#",
+    "call 0 swap 0 r# null",
+    "begin # cas 0 r0 1.0 null+#",
+    "call # cas-weak 0 r0 null 1.0",
+    "call # xor 0 r0 #",
+    "begin 1 update 0 1.0/0 # tag 3",
 ];
 
 /// A line of the grammar, with numbers that mostly fit.
 fn thrown_line(dice: &mut Dice) -> (u64, &'static str)
     ensures { result.0 < 3 }
 {
-    let line = LINES[dice.throw(24) as usize];
+    let line = LINES[dice.throw(40) as usize];
     (dice.throw(3), line)
 }
 
 /// A script of up to 60 lines of the grammar behind its shape and two registrations.
 fn thrown_script(alloc: Global, dice: &mut Dice) -> Result<String, AllocError> {
     let start = dice.throw(3);
-    let shape = (start, start + 1, "shape 2 0 0 0 2 1 # 0 3 2");
+    let shape = (start, start + 1, "shape 2 2 1 1 2 4 # 0 3 2");
     let mut lines = lines_of(alloc, &[shape, (0, 2, "register")])?;
     for _ in 0..dice.throw(60) {
         let (number, line) = thrown_line(dice);
@@ -508,12 +524,12 @@ fn thrown_script(alloc: Global, dice: &mut Dice) -> Result<String, AllocError> {
 }
 
 /// What may take the place of a byte of a script: what other lines are made of, and what no line has.
-const STRAY: [u8; 16] = *b"0123456789 -\nx\r\xff";
+const STRAY: [u8; 19] = *b"0123456789 -\nx\r\xff.+/";
 
 /// Puts up to two stray bytes in the place of others.
 fn spoil(dice: &mut Dice, script: &mut Vec<u8>) {
     for _ in 0..dice.throw(3) {
-        let stray = STRAY[dice.throw(16) as usize];
+        let stray = STRAY[dice.throw(19) as usize];
         put_byte(script, dice.throw(400) as usize, stray);
     }
 }
