@@ -52,7 +52,8 @@ told_read t g ptr h n (Some cell) (Some content) = λ names. tt
 told_read t g ptr h n (Some cell) None = λ names. tt
 told_read t g ptr h n None content = λ names. tt
 
-told_left : (t : Told) (ptr : Ptr) (h : Heap) (n : Name) (cell : Option Cell) → IsTold t (Leave ptr) (left_by h n cell).told
+told_left : (t : Told) (ptr : Ptr) (h : Heap) (n : Name) (cell : Option Cell)
+    → IsTold t (Leave ptr) (left_by h n cell).told
 told_left t ptr h n (Some cell) = λ names. tt
 told_left t ptr h n None = λ names. tt
 
@@ -107,12 +108,14 @@ pub told_by_touch : (t : Told) (a : Access) (k : ℕ) (found : Ptr) (h : Heap) (
     → IsTold t a did.told
 told_by_touch t (Place v) k found h did e = told_placed t v k found h (slice_get h.cells k) did e
 told_by_touch t (Read g ptr) k found h did e = along t (Read g ptr) did _ e
-    (told_at_name t (Read g ptr) _ h ptr.name (λ n. told_read t g ptr h n (cell_at h n) (readable (cell_at h n))) (λ none names. tt))
+    (told_at_name t (Read g ptr) _ h ptr.name (λ n. told_read t g ptr h n (cell_at h n) (readable (cell_at h n)))
+    (λ none names. tt))
 told_by_touch t (Leave ptr) k found h did e = along t (Leave ptr) did _ e
     (told_at_name t (Leave ptr) _ h ptr.name (λ n. told_left t ptr h n (cell_at h n))
     (λ none named. absurd (cc (named, ap is_some none))))
 told_by_touch t (Write g ptr v) k found h did e = along t (Write g ptr v) did _ e
-    (told_at_name t (Write g ptr v) _ h ptr.name (λ n. told_written t g ptr h n v (unread (cell_at h n))) (λ none names. tt))
+    (told_at_name t (Write g ptr v) _ h ptr.name (λ n. told_written t g ptr h n v (unread (cell_at h n)))
+    (λ none names. tt))
 told_by_touch t (Take g ptr) k found h did e = along t (Take g ptr) did _ e
     (told_at_name t (Take g ptr) _ h ptr.name (λ n. told_taken t g ptr h n (unread (cell_at h n))) (λ none names. tt))
 told_by_touch t (Point g spot change) k found h did e =

@@ -86,7 +86,8 @@ module _ (sizes : Sizes) (seat : Seat) (h : IsLinked sizes seat) where
   begun_linked (Flush None) n heap idle e = ends_at_once idle
   begun_linked (Flush (Some g)) n heap idle e = drives_linked FlushAction (Flush (Some g)) refl (guard_given _ _ _ e)
   begun_linked Release n heap idle e = drives_linked ReleaseAction Release refl (none_out _ (guard_given _ _ _ e))
-  begun_linked (DeferDestroy None ptr) n heap idle e = progress_linked sizes seat h _ (follows_at sizes seat h Idle idle)
+  begun_linked (DeferDestroy None ptr) n heap idle e =
+      progress_linked sizes seat h _ (follows_at sizes seat h Idle idle)
   begun_linked (DeferDestroy (Some g) ptr) n heap idle e =
       drives_linked DeferAction (DeferDestroy (Some g) ptr) refl (guard_given _ _ _ e)
   begun_linked (AccessCall a) n heap idle e = accesses a (has_steps a) idle

@@ -154,7 +154,8 @@ entry_push (first ∷ log) x y zero at = inl at
 entry_push (first ∷ log) x y (suc i) at = entry_push log x y i at
 
 -- where a number is told, before the last entry or by it
-told_push : (old new : State) (log : List Entry) (x : Entry) → CountsEnd old log → StepsEnd old.ending x.step x.reply new.ending
+told_push : (old new : State) (log : List Entry) (x : Entry)
+    → CountsEnd old log → StepsEnd old.ending x.step x.reply new.ending
     → (n : ℕ) → TellsCount log n ⊎ (x ≡ record { step = EndGo; reply = Done (Count n) })
     → (new.ending ≡ Over) × (n ≡ calls_at_end (log ++ x ∷ []))
 told_push old new log x h steps n (inl before) =

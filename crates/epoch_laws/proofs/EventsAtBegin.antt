@@ -29,7 +29,8 @@ named : (a : Access) (guards : List ℕ) (readings : List Name) (heap : Heap)
 named (Leave ptr) guards readings heap e = by_name ptr.name e
   where
     by_name : (name : Option Name)
-        → (if is_known heap name then (if reads name readings then None else Some StrangerPointer) else Some StrangerPointer) ≡ None
+        → (if is_known heap name then (if reads name readings then None else Some StrangerPointer)
+        else Some StrangerPointer) ≡ None
         → is_some name ≡ true
     by_name (Some n) e = refl
     by_name None e = absurd (cc (e))
@@ -53,7 +54,8 @@ module _ (t : Told) (seat : Seat) (sizes : Sizes) (tickets : ℕ) (heap : Heap)
   rests idle = (subst (λ (progress : Progress). ToldOf t seat.machine progress) idle h.told).1
 
   -- the machine drives the call
-  driven : (c : Call) → IsAccepted c seat tickets heap → BeganUnder c seat.guards → Begins c (drives (action_of c) c seat)
+  driven : (c : Call)
+      → IsAccepted c seat tickets heap → BeganUnder c seat.guards → Begins c (drives (action_of c) c seat)
   driven c ok under = record {
     guards = h.guards;
     paused = h.paused;
@@ -101,7 +103,8 @@ module _ (t : Told) (seat : Seat) (sizes : Sizes) (tickets : ℕ) (heap : Heap)
   }
   accesses a false none ok = ends (AccessCall a) Absent ok tt (absent_fits a none) (λ answer. refl)
 
-  by_call : (c : Call) → IsAccepted c seat tickets heap → IsLinked sizes (begun_seat c seat) → Begins c (begun_seat c seat)
+  by_call : (c : Call)
+      → IsAccepted c seat tickets heap → IsLinked sizes (begun_seat c seat) → Begins c (begun_seat c seat)
   by_call Pin ok on = driven Pin ok on.follows.under
   by_call (Unpin None) ok on = absurd (cc (ok.own))
   by_call (Unpin (Some g)) ok on = driven (Unpin (Some g)) ok on.follows.under

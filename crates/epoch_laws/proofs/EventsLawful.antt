@@ -31,7 +31,8 @@ module _ (old new : State) (told : ℕ → Told) (reply : Reply) (h : AllAgree o
       (subst (λ (s : State). ShowsStep s told (Begin p c) (Refused fault)) (sym did.1)
       (tt, told_agrees old told (λ u. after_begin u c (Refused fault)) p h (h p)))
   begin_shown p c None e did =
-      let ok : IsAccepted c (seat_of old p) old.tickets old.heap = begin_given c (seat_of old p) old.tickets old.heap e in
+      let ok : IsAccepted c (seat_of old p) old.tickets old.heap =
+      begin_given c (seat_of old p) old.tickets old.heap e in
       subst (λ (r : Reply). ShowsStep new told (Begin p c) r) (sym did.0)
       (subst (λ (s : State). ShowsStep s told (Begin p c) Began) (sym did.1) (
         begin_allowed (told p) (seat_of old p) old.sizes old.tickets old.heap (h p) (linked.seats p) c ok,

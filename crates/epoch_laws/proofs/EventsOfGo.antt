@@ -115,7 +115,8 @@ module _ (old new : State) (told : ℕ → Told) (reply : Reply) (h : AllAgree o
     -- the step tells nothing, and the machine goes on
     steps : (n : Machine Deferral) (last : State) → ToldAt t c n.full n.stage
         → reply ≡ Stepped → new ≡ last → Writes last (with_machine seat n) → Goal
-    steps n last at = tells Stepped (with_machine seat n) last (tt, goes_on seat.word n t (refl, refl, refl, refl) taken at)
+    steps n last at =
+        tells Stepped (with_machine seat n) last (tt, goes_on seat.word n t (refl, refl, refl, refl) taken at)
 
     moves : (s : Stage) → At s
         → (reply ≡ Stepped) × (new ≡ with_seat old p (with_machine seat (with_stage m s))) → Goal
@@ -163,7 +164,8 @@ module _ (old new : State) (told : ℕ → Told) (reply : Reply) (h : AllAgree o
     tell_drive (StorePin e) (told, on) did =
         tells (PinnedReply p) (with_word seat (Pinned e) (hears m (StorePin e) Stored)) _ (
           (refl, in_call (λ call. MayPin call t.guards) told.0, told.1),
-          goes_on (Pinned e) _ (after_go t (PinnedReply p)) (refl, refl, refl, refl) (λ free. cc) ((told.0, refl, told.2), refl),
+          goes_on (Pinned e) _ (after_go t (PinnedReply p)) (refl, refl, refl, refl) (λ free. cc)
+              ((told.0, refl, told.2), refl),
         ) did.0 did.1 (λ q. refl)
     tell_drive ReloadPin at did = moves (after_pin m) (machine_pinned t c m drives under at) did
     tell_drive LoadScan at did = moves (Scan old.epoch 0) at did
@@ -173,7 +175,8 @@ module _ (old new : State) (told : ℕ → Told) (reply : Reply) (h : AllAgree o
     tell_drive (Take x k) at (step, jobs, queued, told_so, took, e) =
         tell_take x k step jobs _ at told_so e (λ q. refl)
     tell_drive (Calling x k) (told, on) (job, jobs, hand, told_so, e) =
-        tells (CalledReply job.ticket (outcome_of old.heap job.removes)) (with_machine seat (gives m (Calling x k) jobs)) _ (
+        tells (CalledReply job.ticket (outcome_of old.heap job.removes))
+        (with_machine seat (gives m (Calling x k) jobs)) _ (
           (in_call MayCall (may_call t c under told), on),
           goes_on seat.word _ t (refl, refl, refl, refl) taken (machine_called t c m drives under x k jobs told on),
         ) told_so e (λ q. refl)
@@ -224,7 +227,8 @@ module _ (old new : State) (told : ℕ → Told) (reply : Reply) (h : AllAgree o
 
   -- a job is called at once
   tell_calls_now : (removes : Option Name) (how : Called) → seat.progress ≡ CallsNow removes → reply ≡ CalledNow how
-      → new ≡ record (with_seat old p (record seat { progress = Ends (Done UnitAnswer) })) { heap = after_job old.heap removes } → Goal
+      → new ≡ record (with_seat old p (record seat { progress = Ends (Done UnitAnswer) }))
+      { heap = after_job old.heap removes } → Goal
   tell_calls_now removes how now told_so e = by_told (told_of (CallsNow removes) now)
     where
       called : Told

@@ -25,7 +25,8 @@ use Rattle.epoch_laws.proofs.FullOfGo.{ShowsFull, goes}
 
 -- EVERY STEP
 
-module _ (old new : State) (reply : Reply) (found : ℕ → ℕ → Type 0) (h : AllFind found old) (linked : AllLinked old) where
+module _ (old new : State) (reply : Reply) (found : ℕ → ℕ → Type 0) (h : AllFind found old)
+    (linked : AllLinked old) where
   abbrev aside_of : State
   aside_of = with_places new old.places old.seen old.ahead old.room
 
@@ -38,13 +39,16 @@ module _ (old new : State) (reply : Reply) (found : ℕ → ℕ → Type 0) (h :
       find_along old new found _ h (same_count old new step sees) same seen
       (λ q. ap (λ (s : State). seat_of s q) e ∙ seats q)
 
-  registers : (p : ℕ) → p < length old.seats → Sees old Register new → aside_of ≡ with_seat old p (record (free_seat old.sizes) { word = Unpinned })
+  registers : (p : ℕ) → p < length old.seats
+      → Sees old Register new → aside_of ≡ with_seat old p (record (free_seat old.sizes) { word = Unpinned })
       → AllFind found new
   registers p there sees e = find_written old new found found h (same_count old new Register sees) p _ there
-      (λ q other. as_before (found q)) (λ q other. ap (λ (all : List ℕ). slice_index_or all q 0) sees.1) (λ q. ap (λ (s : State). seat_of s q) e)
+      (λ q other. as_before (found q)) (λ q other. ap (λ (all : List ℕ). slice_index_or all q 0) sees.1)
+      (λ q. ap (λ (s : State). seat_of s q) e)
       (rest_finds _ _ _ (record (free_seat old.sizes) { word = Unpinned }) refl tt (λ plain. refl))
 
-  begins : (p : ℕ) (c : Call) (fault : Option Fault) → refusal c (seat_of old p) old.tickets old.heap ≡ fault → Sees old (Begin p c) new
+  begins : (p : ℕ) (c : Call) (fault : Option Fault)
+      → refusal c (seat_of old p) old.tickets old.heap ≡ fault → Sees old (Begin p c) new
       → Begins old p c fault reply aside_of → ShowsFull found old new (Begin p c) reply
   begins p c (Some fault) at sees did = subst (ShowsFull found old new (Begin p c)) (sym did.0) (
     tt,
@@ -53,18 +57,22 @@ module _ (old new : State) (reply : Reply) (found : ℕ → ℕ → Type 0) (h :
   )
   begins p c None at sees did =
       let given = begin_given c (seat_of old p) old.tickets old.heap at in
-      let rests : (seat_of old p).machine.stage ≡ Resting = follows_at old.sizes (seat_of old p) (linked.seats p) Idle given.idle in
+      let rests : (seat_of old p).machine.stage ≡ Resting =
+      follows_at old.sizes (seat_of old p) (linked.seats p) Idle given.idle in
       subst (ShowsFull found old new (Begin p c)) (sym did.0) (
         tt,
-        find_written old new found _ h (same_count old new (Begin p c) sees) p _ (seat_there old p given.taken) begun_same
-            (λ q other. ap (λ (all : List ℕ). slice_index_or all q 0) sees.1) (λ q. ap (λ (s : State). seat_of s q) did.1)
+        find_written old new found _ h (same_count old new (Begin p c) sees) p _ (seat_there old p given.taken)
+            begun_same
+            (λ q other. ap (λ (all : List ℕ). slice_index_or all q 0) sees.1)
+            (λ q. ap (λ (s : State). seat_of s q) did.1)
             (begun_finds _ _ _ c (seat_of old p) rests (h p).by_action (λ k was. was.0 refl)),
       )
     where
       begun_same : (q : ℕ) → q ≢ p → SameFound (found q) (found_after found old (Begin p c) Began new q)
       begun_same q other = record { more = λ k was. (other, was); back = λ k was. was.1 }
 
-  goes_free : (p : ℕ) → word_of old p ≡ Free → Sees old (Go p) new → reply ≡ Refused NotRegistered → aside_of ≡ old → ShowsFull found old new (Go p) reply
+  goes_free : (p : ℕ) → word_of old p ≡ Free
+      → Sees old (Go p) new → reply ≡ Refused NotRegistered → aside_of ≡ old → ShowsFull found old new (Go p) reply
   goes_free p free sees told e = (
     subst (TellsFull found old (Go p)) (sym told) tt,
     stays (Go p) sees seen same_found old e (λ q. refl),
@@ -81,7 +89,10 @@ module _ (old new : State) (reply : Reply) (found : ℕ → ℕ → Type 0) (h :
       ]
 
       own : seen_by new p ≡ seen_by old p
-      own = (subst (λ (w : Word). Looks (turn_at w (seat_of old p).progress (seat_of old p).machine.stage) (seat_of old p).machine (seat_of new p).machine (sight_of old p) (sight_of new p)) free sees.0).1
+      own =
+          (subst
+          (λ (w : Word). Looks (turn_at w (seat_of old p).progress (seat_of old p).machine.stage)
+          (seat_of old p).machine (seat_of new p).machine (sight_of old p) (sight_of new p)) free sees.0).1
 
       seen : (q : ℕ) → seen_by new q ≡ seen_by old q
       seen q = elim (same_or_other q p) [
@@ -104,7 +115,8 @@ module _ (old new : State) (reply : Reply) (found : ℕ → ℕ → Type 0) (h :
       by_ending (Emptying [] n) (inr did) = along _ did.2 (λ q. refl)
 
   -- a step that neither an end nor a participant goes on with
-  still : (new.places ≡ old.places) × (new.seen ≡ old.seen) × (new.ahead ≡ old.ahead) × (new.room ≡ old.room) → (last : State) → aside_of ≡ last → ((q : ℕ) → seat_of last q ≡ seat_of old q)
+  still : (new.places ≡ old.places) × (new.seen ≡ old.seen) × (new.ahead ≡ old.ahead) × (new.room ≡ old.room)
+      → (last : State) → aside_of ≡ last → ((q : ℕ) → seat_of last q ≡ seat_of old q)
       → AllFind found new
   still same last e seats = find_along old new found found h (ap length same.0) (λ q. as_before (found q))
       (λ q. ap (λ (all : List ℕ). slice_index_or all q 0) same.1) (λ q. ap (λ (s : State). seat_of s q) e ∙ seats q)
@@ -123,7 +135,8 @@ module _ (old new : State) (reply : Reply) (found : ℕ → ℕ → Type 0) (h :
 
 -- WHOLE RUNS
 
-full_from : (old new : State) (log : List Entry) (found : ℕ → ℕ → Type 0) → AllFind found old → AllLinked old → (run : Runs old log new)
+full_from : (old new : State) (log : List Entry) (found : ℕ → ℕ → Type 0)
+    → AllFind found old → AllLinked old → (run : Runs old log new)
     → FullAlong found old new log run
 full_from old new [] found h linked run = tt
 full_from old new (x ∷ log) found h linked (mid, did, run) =

@@ -239,7 +239,8 @@ module _ (old new : State) (reply : Reply) (found : ℕ → ℕ → Type 0) (h :
     drives (Put s) at (step, queued, told, put, e) =
         tells Stepped _ _ tt (puts s step queued at put e) told e (λ q. refl)
     drives Keep at did =
-        let n : Machine Deferral = hears m Keep (Job (record { ticket = old.tickets; removes = removed_by seat.progress })) in
+        let n : Machine Deferral =
+        hears m Keep (Job (record { ticket = old.tickets; removes = removed_by seat.progress })) in
         let finds : Finds (with_machine seat n) = goes_on Keep at (λ no. no) seat.word n refl refl tt in
         tells (Deferred old.tickets) _ _ tt finds did.0 did.1 (λ q. refl)
     drives LoadRepin at did =
@@ -296,14 +297,18 @@ module _ (old new : State) (reply : Reply) (found : ℕ → ℕ → Type 0) (h :
       by_progress Idle now rests did =
           let nothing : FoundIn (later p) (length new.places) m.full seat.progress =
           subst (FoundIn (later p) (length new.places) m.full) (sym now) tt in
-          tells (Refused IdleFault) seat _ tt (rest_finds _ _ _ seat rests nothing (h p).by_action) did.0 did.1 same_seat
+          tells (Refused IdleFault) seat _ tt (rest_finds _ _ _ seat rests nothing (h p).by_action) did.0 did.1
+          same_seat
       by_progress (Driven c) now driven did = drives c now driven.action m.stage refl did
       by_progress (CallsNow removes) now rests did =
-          let none : NoneFound (later p) = finds_none (CallsNow removes) now (λ no. no) (found_in (CallsNow removes) now) in
+          let none : NoneFound (later p) =
+          finds_none (CallsNow removes) now (λ no. no) (found_in (CallsNow removes) now) in
           let after : Seat = record seat { progress = Ends (Done UnitAnswer) } in
-          tells (CalledNow (outcome_of old.heap removes)) after _ tt (rest_finds _ _ _ after rests none (h p).by_action) did.0 did.1 (λ q. refl)
+          tells (CalledNow (outcome_of old.heap removes)) after _ tt (rest_finds _ _ _ after rests none (h p).by_action)
+          did.0 did.1 (λ q. refl)
       by_progress (Accesses a k last) now rests (did, touches, told, e) =
-          let none : NoneFound (later p) = finds_none (Accesses a k last) now (λ no. no) (found_in (Accesses a k last) now) in
+          let none : NoneFound (later p) =
+          finds_none (Accesses a k last) now (λ no. no) (found_in (Accesses a k last) now) in
           let after : Seat = accessed_seat a k did.told seat in
           tells (access_reply did.told) after _ (may_access did.told)
           (rest_finds _ _ _ after rests (in_access a k did.told none) (h p).by_action) told e (λ q. refl)

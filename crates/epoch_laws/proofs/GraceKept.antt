@@ -125,7 +125,8 @@ module _ (old new : State) (log : List Entry) (x : Entry) (h : Holds old log) (l
 -- WHOLE RUNS
 
 -- the places play no part
-holds_aside : (s : State) (log : List Entry) (places : List Bool) (seen : List ℕ) (ahead : List ℕ) (room : List Bool) → Holds (with_places s places seen ahead room) log
+holds_aside : (s : State) (log : List Entry) (places : List Bool) (seen : List ℕ) (ahead : List ℕ) (room : List Bool)
+    → Holds (with_places s places seen ahead room) log
     → Holds s log
 holds_aside s log places seen ahead room h = record {
   since = h.since;

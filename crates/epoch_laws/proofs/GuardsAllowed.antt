@@ -20,7 +20,8 @@ paused_given g (Some h) e = ap Some (same (g == h) refl e)
     same true is none = grind (arith, nat_tests)
     same false is none = absurd (cc)
 
-under_given : (g : Option ℕ) (guards : List ℕ) (fault : Option Fault) → under_guard g guards fault ≡ None → GuardAllows g guards
+under_given : (g : Option ℕ) (guards : List ℕ) (fault : Option Fault)
+    → under_guard g guards fault ≡ None → GuardAllows g guards
 under_given None guards fault e = tt
 under_given (Some g) guards fault e = guard_given _ _ _ e
 
@@ -42,4 +43,5 @@ guards_allowed (Flush (Some g)) seat n heap e = guard_given _ _ _ e
 guards_allowed Release seat n heap e = none_is seat.guards (none_out _ (guard_given _ _ _ e))
 guards_allowed (DeferDestroy None ptr) seat n heap e = tt
 guards_allowed (DeferDestroy (Some g) ptr) seat n heap e = guard_given _ _ _ e
-guards_allowed (AccessCall a) seat n heap e = under_given (guard_of a) seat.guards (access_refusal a seat.readings heap) e
+guards_allowed (AccessCall a) seat n heap e =
+    under_given (guard_of a) seat.guards (access_refusal a seat.readings heap) e

@@ -108,7 +108,8 @@ module _ (old new : State) (p : ℕ) (reply : Reply) (h : AllLinked old) (there 
   go_linked Idle e did = subst AllLinked (sym did.1) h
   go_linked (Driven c) e did = go_at c e m.stage (follows (Driven c) e).under_way did
   go_linked (CallsNow removes) e did =
-      writes _ (progress_linked old.sizes seat (h.seats p) _ (follows (CallsNow removes) e, (_, refl))) _ did.1 refl refl
+      writes _ (progress_linked old.sizes seat (h.seats p) _ (follows (CallsNow removes) e, (_, refl))) _ did.1 refl
+      refl
   go_linked (Accesses a k found) e (did, touches, told, is) =
       writes _ (accessed a k did.told (follows (Accesses a k found) e)) _ is refl refl
   go_linked (Ends r) e did =
@@ -163,7 +164,8 @@ moved_linked old new step reply h did = moves_linked old new reply h step did
 pub step_linked : (old new : State) (step : Step) (reply : Reply) → AllLinked old → Takes old step reply new
     → AllLinked new
 step_linked old new step reply h did =
-    let aside : AllLinked (with_places new old.places old.seen old.ahead old.room) = moved_linked old _ step reply h did.0 in
+    let aside : AllLinked (with_places new old.places old.seen old.ahead old.room) =
+    moved_linked old _ step reply h did.0 in
     record { positions = aside.positions; seats = aside.seats }
 
 -- in a new world they are

@@ -146,7 +146,8 @@ pinned_keep log x p at now on = record {
 }
 
 -- who publishes with the last entry is pinned since
-pub pinned_new : (log : List Entry) (x : Entry) (p : ℕ) → IsPublish x.reply p → PinnedSince (log ++ x ∷ []) p (length log)
+pub pinned_new : (log : List Entry) (x : Entry) (p : ℕ)
+    → IsPublish x.reply p → PinnedSince (log ++ x ∷ []) p (length log)
 pinned_new log x p h = record {
   published = elim h [ inl e ↦ inl (stands_new log x ∙ ap Some e) | inr e ↦ inr (stands_new log x ∙ ap Some e) ];
   lasts = λ k lt ends. absurd (omega (arith, withdraws_within (log ++ x ∷ []) k p ends, length_push log x));

@@ -36,7 +36,8 @@ same_count old new EndGo did = did.0
 same_count old new _ did = ap length did.0
 
 -- what a participant's word is plays no part but that it isn't free
-pub turn_taken : (w : Word) (progress : Progress) (s : Stage) → w ≢ Free → turn_at w progress s ≡ turn_at Unpinned progress s
+pub turn_taken : (w : Word) (progress : Progress) (s : Stage)
+    → w ≢ Free → turn_at w progress s ≡ turn_at Unpinned progress s
 turn_taken Free progress s taken = absurd (taken refl)
 turn_taken Unpinned progress s taken = refl
 turn_taken (Pinned e) Idle s taken = refl

@@ -76,7 +76,8 @@ ShowsLeft before quiet collected old step reply new = LeavesAtRefusal before qui
 
 -- A STEP GO
 
-module _ (old new : State) (reply : Reply) (before : ℕ → Seat) (quiet collected : ℕ → Type 0) (h : AllSince before quiet collected old) (p : ℕ)
+module _ (old new : State) (reply : Reply) (before : ℕ → Seat) (quiet collected : ℕ → Type 0)
+    (h : AllSince before quiet collected old) (p : ℕ)
     (taken : word_of old p ≢ Free) where
   abbrev seat : Seat
   seat = seat_of old p
@@ -121,7 +122,8 @@ module _ (old new : State) (reply : Reply) (before : ℕ → Seat) (quiet collec
         | inl same ↦ subst (λ (k : ℕ). Since (before k) (later k) (got k) (seat_of new k)) (sym same)
             (subst (Since b (later p) (got p)) (sym (found p ∙ seat_written old p after (seat_there old p taken))) own)
         | inr other ↦ subst (Since (before q) (later q) (got q)) (sym (found q ∙ seat_other old p q after other))
-            (since_more (before q) (quiet q) (later q) (collected q) (got q) (seat_of old q) (others_more q other) inl (h q))
+            (since_more (before q) (quiet q) (later q) (collected q) (got q) (seat_of old q) (others_more q other) inl
+            (h q))
       ]
 
   -- only the seat of p is written
@@ -137,7 +139,8 @@ module _ (old new : State) (reply : Reply) (before : ℕ → Seat) (quiet collec
   module _ (c : Call) (drive : seat.progress ≡ Driven c) where
     on : (after : Seat) → after.progress ≡ seat.progress → SinceAt b (later p) (got p) after c after.machine.stage
         → SinceBy b (later p) (got p) after after.progress
-    on after same at = subst (λ (progress : Progress). SinceBy b (later p) (got p) after progress) (sym (same ∙ drive)) at
+    on after same at =
+        subst (λ (progress : Progress). SinceBy b (later p) (got p) after progress) (sym (same ∙ drive)) at
 
     -- a call that is never told so
     plain_goes : is_plain c ≡ true → (tell : Reply) (w : Word) (n : Machine Deferral) (last : State)
@@ -150,7 +153,8 @@ module _ (old new : State) (reply : Reply) (before : ℕ → Seat) (quiet collec
     plain_performs plain s LoadEpoch did =
         plain_goes plain Stepped seat.word (hears m s (EpochFound old.epoch)) _ tt did.0 did.1 (λ q. refl)
     plain_performs plain s (LoadWord k) did =
-        plain_goes plain Stepped seat.word (hears m s (WordFound (number_of (word_of old k)))) _ tt did.0 did.1 (λ q. refl)
+        plain_goes plain Stepped seat.word (hears m s (WordFound (number_of (word_of old k)))) _ tt did.0 did.1
+        (λ q. refl)
     plain_performs plain s (StorePinned e) did =
         plain_goes plain (PinnedReply p) (Pinned e) (hears m s Stored) _ tt did.0 did.1 (λ q. refl)
     plain_performs plain s (StoreRepinned e) did =
@@ -165,14 +169,18 @@ module _ (old new : State) (reply : Reply) (before : ℕ → Seat) (quiet collec
     plain_performs plain s (TakeBag x) (step, jobs, queued, told, took, e) =
         plain_goes plain Stepped seat.word (took_heard m s step jobs) _ tt told e (λ q. refl)
     plain_performs plain s KeepJob did = plain_goes plain (Deferred old.tickets) seat.word
-        (hears m s (Job (record { ticket = old.tickets; removes = removed_by seat.progress }))) _ tt did.0 did.1 (λ q. refl)
+        (hears m s (Job (record { ticket = old.tickets; removes = removed_by seat.progress }))) _ tt did.0 did.1
+        (λ q. refl)
     plain_performs plain s CallJob (job, jobs, hand, told, e) =
-        plain_goes plain (CalledReply job.ticket (outcome_of old.heap job.removes)) seat.word (gives m s jobs) _ tt told e (λ q. refl)
+        plain_goes plain (CalledReply job.ticket (outcome_of old.heap job.removes)) seat.word (gives m s jobs) _ tt told
+        e (λ q. refl)
 
     plain_ends : is_plain c ≡ true → (reply ≡ end_reply c seat) × (aside ≡ with_seat old p (ended_seat c seat)) → Goal
-    plain_ends plain did = tells (end_reply c seat) (ended_seat c seat) _ (by_call c plain) did.0 did.1 (λ q. refl) (rests c)
+    plain_ends plain did =
+        tells (end_reply c seat) (ended_seat c seat) _ (by_call c plain) did.0 did.1 (λ q. refl) (rests c)
       where
-        by_call : (d : Call) → is_plain d ≡ true → LeavesAtRefusal before quiet collected old (Go p) (end_reply d seat) new
+        by_call : (d : Call)
+            → is_plain d ≡ true → LeavesAtRefusal before quiet collected old (Go p) (end_reply d seat) new
         by_call (Defer g) plain = absurd (cc (plain))
         by_call (DeferDestroy g ptr) plain = absurd (cc (plain))
         by_call (Flush g) plain = absurd (cc (plain))
@@ -193,14 +201,18 @@ module _ (old new : State) (reply : Reply) (before : ℕ → Seat) (quiet collec
     -- the machine goes on
     steps : (n : Machine Deferral) (last : State) → reply ≡ Stepped → aside ≡ last → Writes last (with_machine seat n)
         → SinceAt b (later p) (got p) (with_machine seat n) c n.stage → Goal
-    steps n last told e writes at = tells Stepped (with_machine seat n) last tt told e writes (on (with_machine seat n) refl at)
+    steps n last told e writes at =
+        tells Stepped (with_machine seat n) last tt told e writes (on (with_machine seat n) refl at)
 
   -- a call that is refused at its end, or done
   full_or_not : (c : Call) (full : Bool) → seat.progress ≡ Driven c
-      → (full ≡ true → Leaves (quiet_after quiet old (Go p) (Refused BagsFull) new p) (collected p) (Driven c) b (seat_of new p))
+      → (full ≡ true
+      → Leaves (quiet_after quiet old (Go p) (Refused BagsFull) new p) (collected p) (Driven c) b (seat_of new p))
       → LeavesAtRefusal before quiet collected old (Go p) (full_or_done full) new
   full_or_not c true drive leaves =
-      subst (λ (progress : Progress). Leaves (quiet_after quiet old (Go p) (Refused BagsFull) new p) (collected p) progress b (seat_of new p))
+      subst
+      (λ (progress : Progress). Leaves (quiet_after quiet old (Go p) (Refused BagsFull) new p) (collected p)
+      progress b (seat_of new p))
       (sym drive) (leaves refl)
   full_or_not c false drive leaves = tt
 
@@ -213,7 +225,8 @@ module _ (old new : State) (reply : Reply) (before : ℕ → Seat) (quiet collec
   defers_end _ kind did = absurd kind
 
   module _ (c : Call) (kind : Defers c) (drive : seat.progress ≡ Driven c) (action : m.action ≡ DeferAction) where
-    defer_steps : (n : Machine Deferral) (last : State) → reply ≡ Stepped → aside ≡ last → Writes last (with_machine seat n)
+    defer_steps : (n : Machine Deferral) (last : State)
+        → reply ≡ Stepped → aside ≡ last → Writes last (with_machine seat n)
         → DeferAt (later p × Kept b (with_machine seat n)) n.full n.stage → Goal
     defer_steps n last told e writes at = steps c drive n last told e writes
         (defers_since b (later p) (got p) (with_machine seat n) c n.stage kind at)
@@ -224,11 +237,14 @@ module _ (old new : State) (reply : Reply) (before : ℕ → Seat) (quiet collec
     defer_puts seal Again queued at (q, kept) put told e =
         let same : aside ≡ with_seat old p (with_machine seat m) =
         subst (λ (bags : List Bag). aside ≡ record (with_seat old p (with_machine seat m)) { queued = bags }) put e in
-        let still : DeferAt (later p × Kept b seat) m.full (Put seal) = ((q, λ own. rest (with_machine seat m) same), kept) in
+        let still : DeferAt (later p × Kept b seat) m.full (Put seal) =
+        ((q, λ own. rest (with_machine seat m) same), kept) in
         defer_steps m _ told e (λ k. refl)
         (subst (λ (s : Stage). DeferAt (later p × Kept b seat) m.full s) (sym at) still)
     defer_puts seal PutDone queued at was put told e = defer_steps (put_heard m PutDone) _ told e (λ k. refl)
-        (subst (λ (a : Action). DeferAt (later p × Kept b (with_machine seat (put_heard m PutDone))) false (after_put a false))
+        (subst
+        (λ (a : Action). DeferAt (later p × Kept b (with_machine seat (put_heard m PutDone))) false
+        (after_put a false))
         (sym action) refl)
     defer_puts seal Full queued at (q, kept) put told e =
         let n : Machine Deferral = put_heard m Full in
@@ -240,7 +256,8 @@ module _ (old new : State) (reply : Reply) (before : ℕ → Seat) (quiet collec
 
     defer_ends : (m.full ≡ true → quiet p × Kept b seat)
         → (reply ≡ end_reply c seat) × (aside ≡ with_seat old p (ended_seat c seat)) → Goal
-    defer_ends at ends = tells (full_or_done m.full) after _ (full_or_not c m.full drive leaves) did.0 did.1 (λ q. refl) tt
+    defer_ends at ends =
+        tells (full_or_done m.full) after _ (full_or_not c m.full drive leaves) did.0 did.1 (λ q. refl) tt
       where
         after : Seat
         after = with_guards seat seat.guards seat.paused
@@ -254,7 +271,8 @@ module _ (old new : State) (reply : Reply) (before : ℕ → Seat) (quiet collec
         leaves : m.full ≡ true
             → Leaves (quiet_after quiet old (Go p) (Refused BagsFull) new p) (collected p) (Driven c) b (seat_of new p)
         leaves full = subst
-            (λ (after : Seat). Leaves (quiet_after quiet old (Go p) (Refused BagsFull) new p) (collected p) (Driven c) b after)
+            (λ (after : Seat). Leaves (quiet_after quiet old (Go p) (Refused BagsFull) new p) (collected p) (Driven c) b
+            after)
             (sym wrote)
             (defers_leave _ (collected p) b after c kind
             (((at full).0, λ own. rest after did.1), (at full).1.0, keeps_bag b after (at full).1.1))
@@ -265,7 +283,8 @@ module _ (old new : State) (reply : Reply) (before : ℕ → Seat) (quiet collec
         ((q, λ own. rest _ did.1), kept)
     defer_drives (Put seal) is at (step, queued, told, put, e) = defer_puts seal step queued is at put told e
     defer_drives Keep is none did =
-        let n : Machine Deferral = hears m Keep (Job (record { ticket = old.tickets; removes = removed_by seat.progress })) in
+        let n : Machine Deferral =
+        hears m Keep (Job (record { ticket = old.tickets; removes = removed_by seat.progress })) in
         tells (Deferred old.tickets) (with_machine seat n) _ tt did.0 did.1 (λ q. refl)
         (on c drive (with_machine seat n) refl
         (defers_since b (later p) (got p) (with_machine seat n) c End kind (λ full. absurd (cc (full, none)))))
@@ -278,7 +297,8 @@ module _ (old new : State) (reply : Reply) (before : ℕ → Seat) (quiet collec
     abbrev FlushOn : Machine Deferral → Stage → Type 0
     FlushOn n s = FlushAt (Kept b (with_machine seat n)) (got p) n.full s
 
-    flush_steps : (n : Machine Deferral) (last : State) → reply ≡ Stepped → aside ≡ last → Writes last (with_machine seat n)
+    flush_steps : (n : Machine Deferral) (last : State)
+        → reply ≡ Stepped → aside ≡ last → Writes last (with_machine seat n)
         → FlushOn n n.stage → Goal
     flush_steps n last told e writes at = steps (Flush g) drive n last told e writes at
 
@@ -293,12 +313,15 @@ module _ (old new : State) (reply : Reply) (before : ℕ → Seat) (quiet collec
     flush_collected : (held : List Deferral) → got p → (m.full ≡ true → Kept b seat)
         → FlushAt (Kept b seat) (got p) m.full (after_collect m.action held)
     flush_collected held collecting at =
-        subst (λ (a : Action). FlushAt (Kept b seat) (got p) m.full (after_collect a held)) (sym action) (collecting, at)
+        subst (λ (a : Action). FlushAt (Kept b seat) (got p) m.full (after_collect a held)) (sym action)
+        (collecting, at)
 
     flush_job : (x k : ℕ) (jobs : List Deferral) → got p → (m.full ≡ true → Kept b seat)
         → FlushAt (Kept b seat) (got p) m.full (after_job m x k jobs)
-    flush_job x k jobs collecting at = either_stage (FlushAt (Kept b seat) (got p) m.full) (is_empty jobs) _ (Calling x k)
-        (either_stage (FlushAt (Kept b seat) (got p) m.full) (k + 1 == m.sizes.collect_bags) (after_collect m.action m.held) (Take x (k + 1))
+    flush_job x k jobs collecting at =
+        either_stage (FlushAt (Kept b seat) (got p) m.full) (is_empty jobs) _ (Calling x k)
+        (either_stage (FlushAt (Kept b seat) (got p) m.full) (k + 1 == m.sizes.collect_bags)
+        (after_collect m.action m.held) (Take x (k + 1))
         (flush_collected m.held collecting at) at) at
 
     flush_word : (e k w : ℕ) → (m.full ≡ true → Kept b seat)
@@ -309,20 +332,25 @@ module _ (old new : State) (reply : Reply) (before : ℕ → Seat) (quiet collec
 
     flush_puts : (seal : ℕ) (step : PutStep) (last : State) → m.stage ≡ Put seal → Kept b seat → reply ≡ Stepped
         → aside ≡ last → Writes last (with_machine seat (put_heard m step)) → Goal
-    flush_puts seal Again last at kept told e writes = flush_steps m last told e writes (subst (FlushOn m) (sym at) kept)
+    flush_puts seal Again last at kept told e writes =
+        flush_steps m last told e writes (subst (FlushOn m) (sym at) kept)
     flush_puts seal PutDone last at kept told e writes = flush_steps (put_heard m PutDone) last told e writes
-        (subst (λ (a : Action). FlushOn (put_heard m PutDone) (after_put a false)) (sym action) (λ full. absurd (cc (full))))
+        (subst (λ (a : Action). FlushOn (put_heard m PutDone) (after_put a false)) (sym action)
+        (λ full. absurd (cc (full))))
     flush_puts seal Full last at kept told e writes = flush_steps (put_heard m Full) last told e writes
         (subst (λ (a : Action). FlushOn (put_heard m Full) (after_put a true)) (sym action) (λ full. kept))
 
     flush_takes : (x k : ℕ) (step : TakeStep) (jobs : List Deferral) (last : State) → m.stage ≡ Take x k
         → (m.full ≡ true → Kept b seat) → reply ≡ Stepped → aside ≡ last
         → Writes last (with_machine seat (took_heard m (Take x k) step jobs)) → Goal
-    flush_takes x k TakeAgain jobs last at kept told e writes = flush_steps m last told e writes (subst (FlushOn m) (sym at) kept)
+    flush_takes x k TakeAgain jobs last at kept told e writes =
+        flush_steps m last told e writes (subst (FlushOn m) (sym at) kept)
     flush_takes x k Empty jobs last at kept told e writes =
-        flush_steps (took_heard m (Take x k) Empty jobs) last told e writes (flush_collected m.held (collects (Take x k) at tt) kept)
+        flush_steps (took_heard m (Take x k) Empty jobs) last told e writes
+        (flush_collected m.held (collects (Take x k) at tt) kept)
     flush_takes x k Got jobs last at kept told e writes =
-        flush_steps (took_heard m (Take x k) Got jobs) last told e writes (flush_job x k jobs (collects (Take x k) at tt) kept)
+        flush_steps (took_heard m (Take x k) Got jobs) last told e writes
+        (flush_job x k jobs (collects (Take x k) at tt) kept)
 
     flush_ends : collected p → (m.full ≡ true → Kept b seat)
         → (reply ≡ end_reply (Flush g) seat) × (aside ≡ with_seat old p (ended_seat (Flush g) seat)) → Goal
@@ -333,9 +361,11 @@ module _ (old new : State) (reply : Reply) (before : ℕ → Seat) (quiet collec
         wrote = ap (λ (s : State). seat_of s p) did.1 ∙ seat_written old p _ (seat_there old p taken)
 
         leaves : m.full ≡ true
-            → Leaves (quiet_after quiet old (Go p) (Refused BagsFull) new p) (collected p) (Driven (Flush g)) b (seat_of new p)
+            → Leaves (quiet_after quiet old (Go p) (Refused BagsFull) new p) (collected p) (Driven (Flush g)) b
+            (seat_of new p)
         leaves full = subst
-            (λ (after : Seat). Leaves (quiet_after quiet old (Go p) (Refused BagsFull) new p) (collected p) (Driven (Flush g)) b after)
+            (λ (after : Seat). Leaves (quiet_after quiet old (Go p) (Refused BagsFull) new p) (collected p)
+            (Driven (Flush g)) b after)
             (sym wrote) (collecting, (at full).0, keeps_bag b (ended_seat (Flush g) seat) (at full).1)
 
     flush_drives : (s : Stage) → m.stage ≡ s → FlushAt (Kept b seat) (collected p) m.full s
@@ -347,7 +377,8 @@ module _ (old new : State) (reply : Reply) (before : ℕ → Seat) (quiet collec
         let w : ℕ = number_of (word_of old k) in
         flush_steps (with_stage m (past_word m.sizes.positions e k w)) _ did.0 did.1 (λ q. refl) (flush_word e k w at)
     flush_drives (Advance e) is at did = flush_steps (with_stage m (Take (e + 1) 0)) _ did.0 did.1 (λ q. refl) at
-    flush_drives (Take x k) is at (step, jobs, queued, told, took, e) = flush_takes x k step jobs _ is at told e (λ q. refl)
+    flush_drives (Take x k) is at (step, jobs, queued, told, took, e) =
+        flush_takes x k step jobs _ is at told e (λ q. refl)
     flush_drives (Calling x k) is at (job, jobs, hand, told, e) =
         let n : Machine Deferral = gives m (Calling x k) jobs in
         tells (CalledReply job.ticket (outcome_of old.heap job.removes)) (with_machine seat n) _ tt told e (λ q. refl)
@@ -364,7 +395,8 @@ module _ (old new : State) (reply : Reply) (before : ℕ → Seat) (quiet collec
     abbrev Own : Stage → Type 0
     Own s = ReleaseAt (KeptBag b seat) (seat.word ≡ Unpinned) m.full s
 
-    release_steps : (n : Machine Deferral) (last : State) → reply ≡ Stepped → aside ≡ last → Writes last (with_machine seat n)
+    release_steps : (n : Machine Deferral) (last : State)
+        → reply ≡ Stepped → aside ≡ last → Writes last (with_machine seat n)
         → ReleaseOn seat.word n n.stage → Goal
     release_steps n last told e writes at = steps Release drive n last told e writes at
 
@@ -374,7 +406,8 @@ module _ (old new : State) (reply : Reply) (before : ℕ → Seat) (quiet collec
 
     release_job : (x k : ℕ) (jobs : List Deferral) → KeptBag b seat → Own (after_job m x k jobs)
     release_job x k jobs kept = either_stage Own (is_empty jobs) _ (Calling x k)
-        (either_stage Own (k + 1 == m.sizes.collect_bags) (after_collect m.action m.held) (Take x (k + 1)) (release_to m.held kept) kept) kept
+        (either_stage Own (k + 1 == m.sizes.collect_bags) (after_collect m.action m.held) (Take x (k + 1))
+        (release_to m.held kept) kept) kept
 
     release_word : (e k w : ℕ) → KeptBag b seat → Own (past_word m.sizes.positions e k w)
     release_word e k w kept = either_stage Own (holds_up e w) (Take e 0) _ kept
@@ -385,14 +418,16 @@ module _ (old new : State) (reply : Reply) (before : ℕ → Seat) (quiet collec
         → aside ≡ last → Writes last (with_machine seat (put_heard m step)) → Goal
     release_puts seal Again last at kept told e writes = release_steps m last told e writes (subst Own (sym at) kept)
     release_puts seal PutDone last at kept told e writes = release_steps (put_heard m PutDone) last told e writes
-        (subst (λ (a : Action). ReleaseOn seat.word (put_heard m PutDone) (after_put a false)) (sym action) (λ full. absurd (cc (full))))
+        (subst (λ (a : Action). ReleaseOn seat.word (put_heard m PutDone) (after_put a false)) (sym action)
+        (λ full. absurd (cc (full))))
     release_puts seal Full last at kept told e writes = release_steps (put_heard m Full) last told e writes
         (subst (λ (a : Action). ReleaseOn seat.word (put_heard m Full) (after_put a true)) (sym action) (λ full. kept))
 
     release_takes : (x k : ℕ) (step : TakeStep) (jobs : List Deferral) (last : State) → m.stage ≡ Take x k
         → KeptBag b seat → reply ≡ Stepped → aside ≡ last
         → Writes last (with_machine seat (took_heard m (Take x k) step jobs)) → Goal
-    release_takes x k TakeAgain jobs last at kept told e writes = release_steps m last told e writes (subst Own (sym at) kept)
+    release_takes x k TakeAgain jobs last at kept told e writes =
+        release_steps m last told e writes (subst Own (sym at) kept)
     release_takes x k Empty jobs last at kept told e writes =
         release_steps (took_heard m (Take x k) Empty jobs) last told e writes (release_to m.held kept)
     release_takes x k Got jobs last at kept told e writes =
@@ -407,9 +442,11 @@ module _ (old new : State) (reply : Reply) (before : ℕ → Seat) (quiet collec
         wrote = ap (λ (s : State). seat_of s p) did.1 ∙ seat_written old p _ (seat_there old p taken)
 
         leaves : m.full ≡ true
-            → Leaves (quiet_after quiet old (Go p) (Refused BagsFull) new p) (collected p) (Driven Release) b (seat_of new p)
+            → Leaves (quiet_after quiet old (Go p) (Refused BagsFull) new p) (collected p) (Driven Release) b
+            (seat_of new p)
         leaves full = subst
-            (λ (after : Seat). Leaves (quiet_after quiet old (Go p) (Refused BagsFull) new p) (collected p) (Driven Release) b after)
+            (λ (after : Seat). Leaves (quiet_after quiet old (Go p) (Refused BagsFull) new p) (collected p)
+            (Driven Release) b after)
             (sym wrote) (off, keeps_bag b (ended_seat Release seat) (at full))
 
     release_drives : (s : Stage) → m.stage ≡ s → Own s → Drives old p seat Release s (ask_at s) reply aside → Goal
@@ -423,9 +460,11 @@ module _ (old new : State) (reply : Reply) (before : ℕ → Seat) (quiet collec
     release_drives LoadScan is at did = release_steps (with_stage m (Scan old.epoch 0)) _ did.0 did.1 (λ q. refl) at
     release_drives (Scan e k) is at did =
         let w : ℕ = number_of (word_of old k) in
-        release_steps (with_stage m (past_word m.sizes.positions e k w)) _ did.0 did.1 (λ q. refl) (release_word e k w at)
+        release_steps (with_stage m (past_word m.sizes.positions e k w)) _ did.0 did.1 (λ q. refl)
+        (release_word e k w at)
     release_drives (Advance e) is at did = release_steps (with_stage m (Take (e + 1) 0)) _ did.0 did.1 (λ q. refl) at
-    release_drives (Take x k) is at (step, jobs, queued, told, took, e) = release_takes x k step jobs _ is at told e (λ q. refl)
+    release_drives (Take x k) is at (step, jobs, queued, told, took, e) =
+        release_takes x k step jobs _ is at told e (λ q. refl)
     release_drives (Calling x k) is at (job, jobs, hand, told, e) =
         let n : Machine Deferral = gives m (Calling x k) jobs in
         tells (CalledReply job.ticket (outcome_of old.heap job.removes)) (with_machine seat n) _ tt told e (λ q. refl)
@@ -444,10 +483,12 @@ module _ (old new : State) (reply : Reply) (before : ℕ → Seat) (quiet collec
 
   -- EVERY GO
 
-  drives : (c : Call) → seat.progress ≡ Driven c → m.action ≡ action_of c → SinceAt b (quiet p) (collected p) seat c m.stage
+  drives : (c : Call)
+      → seat.progress ≡ Driven c → m.action ≡ action_of c → SinceAt b (quiet p) (collected p) seat c m.stage
       → Drives old p seat c m.stage (ask_at m.stage) reply aside → Goal
   drives (Defer g) drive action at did = defer_drives (Defer g) tt drive action m.stage refl at did
-  drives (DeferDestroy g ptr) drive action at did = defer_drives (DeferDestroy g ptr) tt drive action m.stage refl at did
+  drives (DeferDestroy g ptr) drive action at did =
+      defer_drives (DeferDestroy g ptr) tt drive action m.stage refl at did
   drives (Flush g) drive action at did = flush_drives g drive action m.stage refl at did
   drives Release drive action at did = release_drives drive action m.stage refl at did
   drives Pin drive action at did = plain_drives Pin drive refl m.stage (ask_at m.stage) did
@@ -459,7 +500,8 @@ module _ (old new : State) (reply : Reply) (before : ℕ → Seat) (quiet collec
 
   -- A CALL ON CELLS AND POINTERS
 
-  no_slot : (told : Accessed) → told ≢ NoSlot → LeavesAtRefusal before quiet collected old (Go p) (access_reply told) new
+  no_slot : (told : Accessed)
+      → told ≢ NoSlot → LeavesAtRefusal before quiet collected old (Go p) (access_reply told) new
   no_slot (Again found) some = tt
   no_slot (Answers answer) some = tt
   no_slot NoSlot some = absurd (some refl)
@@ -474,24 +516,32 @@ module _ (old new : State) (reply : Reply) (before : ℕ → Seat) (quiet collec
       → seat.progress ≡ Accesses (Place v) k found → Places v k found old.heap cell did → reply ≡ access_reply did.told
       → aside ≡ record (with_seat old p (accessed_seat (Place v) k did.told seat)) { heap = did.heap } → Goal
   places v k found None did (q, same) at is told e =
-      tells (Refused CellsFull) after _ unplaced (told ∙ ap (λ (d : Touched). access_reply d.told) is) wrote (λ q. refl) tt
+      tells (Refused CellsFull) after _ unplaced (told ∙ ap (λ (d : Touched). access_reply d.told) is) wrote (λ q. refl)
+      tt
     where
       after : Seat
       after = record seat { progress = Idle }
 
       wrote : aside ≡ with_seat old p after
-      wrote = subst (λ (d : Touched). aside ≡ record (with_seat old p (accessed_seat (Place v) k d.told seat)) { heap = d.heap }) is e
+      wrote =
+          subst
+          (λ (d : Touched). aside ≡ record (with_seat old p (accessed_seat (Place v) k d.told seat))
+          { heap = d.heap }) is e
 
       left : seat_of new p ≡ b
       left = ap (λ (s : State). seat_of s p) wrote ∙ seat_written old p after (seat_there old p taken) ∙ sym same
 
       unplaced : LeavesAtRefusal before quiet collected old (Go p) (Refused CellsFull) new
       unplaced = subst
-          (λ (progress : Progress). LeavesUnplaced (quiet_after quiet old (Go p) (Refused CellsFull) new p) progress b (seat_of new p))
+          (λ (progress : Progress). LeavesUnplaced (quiet_after quiet old (Go p) (Refused CellsFull) new p) progress b
+          (seat_of new p))
           (sym at) ((q, λ own. rest after wrote), left)
   places v k found (Some cell) did since at (inl (free, n, slot, turn, is)) told e =
-      tells Stepped (record seat { progress = Ends (Done (NameAnswer n)) }) _ tt (told ∙ ap (λ (d : Touched). access_reply d.told) is)
-      (subst (λ (d : Touched). aside ≡ record (with_seat old p (accessed_seat (Place v) k d.told seat)) { heap = d.heap }) is e)
+      tells Stepped (record seat { progress = Ends (Done (NameAnswer n)) }) _ tt
+      (told ∙ ap (λ (d : Touched). access_reply d.told) is)
+      (subst
+      (λ (d : Touched). aside ≡ record (with_seat old p (accessed_seat (Place v) k d.told seat)) { heap = d.heap })
+      is e)
       (λ q. refl) tt
   places v k found (Some cell) did (q, same) at (inr (used, is)) told e =
       tells Stepped after _ tt (told ∙ ap (λ (d : Touched). access_reply d.told) is) wrote (λ q. refl)
@@ -501,34 +551,53 @@ module _ (old new : State) (reply : Reply) (before : ℕ → Seat) (quiet collec
       after = record seat { progress = Accesses (Place v) (k + 1) found }
 
       wrote : aside ≡ with_seat old p after
-      wrote = subst (λ (d : Touched). aside ≡ record (with_seat old p (accessed_seat (Place v) k d.told seat)) { heap = d.heap }) is e
+      wrote =
+          subst
+          (λ (d : Touched). aside ≡ record (with_seat old p (accessed_seat (Place v) k d.told seat))
+          { heap = d.heap }) is e
 
-  pub goes : AllLinked old → (progress : Progress) → seat.progress ≡ progress → Goes old p seat progress reply aside → Goal
+  pub goes : AllLinked old
+      → (progress : Progress) → seat.progress ≡ progress → Goes old p seat progress reply aside → Goal
   goes linked Idle at did = tells (Refused IdleFault) seat old tt did.0 did.1 same_seat
       (since_more b (quiet p) (later p) (collected p) (got p) seat more inl (h p))
     where
       same_seat : (q : ℕ) → seat_of old q ≡ seat_of (with_seat old p seat) q
-      same_seat q = sym (ap (λ (seats : List Seat). slice_index_or seats q (free_seat old.sizes)) (set-get_or old.seats p (free_seat old.sizes)))
+      same_seat q =
+          sym
+          (ap (λ (seats : List Seat). slice_index_or seats q (free_seat old.sizes))
+          (set-get_or old.seats p (free_seat old.sizes)))
 
       more : quiet p → later p
-      more was = (was, λ own. rest seat (did.1 ∙ ap (λ (seats : List Seat). record old { seats = seats }) (sym (set-get_or old.seats p (free_seat old.sizes)))))
+      more was = (
+        was,
+        λ own. rest seat
+            (did.1
+            ∙ ap (λ (seats : List Seat). record old { seats = seats })
+            (sym (set-get_or old.seats p (free_seat old.sizes)))),
+      )
   goes linked (Driven c) at did =
       let driven : IsDriven c m seat.guards = follows_at old.sizes seat (linked.seats p) (Driven c) at in
-      drives c at driven.action (subst (λ (progress : Progress). SinceBy b (quiet p) (collected p) seat progress) at (h p)) did
+      drives c at driven.action
+      (subst (λ (progress : Progress). SinceBy b (quiet p) (collected p) seat progress) at (h p)) did
   goes linked (CallsNow removes) at did =
-      tells (CalledNow (outcome_of old.heap removes)) (record seat { progress = Ends (Done UnitAnswer) }) _ tt did.0 did.1 (λ q. refl) tt
-  goes linked (Accesses (Place v) k found) at (did, touches, told, e) = places v k found (slice_get old.heap.cells k) did
+      tells (CalledNow (outcome_of old.heap removes)) (record seat { progress = Ends (Done UnitAnswer) }) _ tt did.0
+      did.1 (λ q. refl) tt
+  goes linked (Accesses (Place v) k found) at (did, touches, told, e) =
+      places v k found (slice_get old.heap.cells k) did
       (subst (λ (progress : Progress). SinceBy b (quiet p) (collected p) seat progress) at (h p)) at touches told e
-  goes linked (Accesses a k found) at (did, touches, told, e) = tells (access_reply did.told) (accessed_seat a k did.told seat) _
+  goes linked (Accesses a k found) at (did, touches, told, e) =
+      tells (access_reply did.told) (accessed_seat a k did.told seat) _
       (no_slot did.told (λ none. subst (IsTold nothing a) none (told_by_touch nothing a k found old.heap did touches)))
       told e (λ q. refl) (since_told a k (λ after. tt) did.told)
   goes linked (Ends last) at did =
-      let done : (answer : Answer) × (last ≡ Done answer) = (follows_at old.sizes seat (linked.seats p) (Ends last) at).1 in
+      let done : (answer : Answer) × (last ≡ Done answer) =
+      (follows_at old.sizes seat (linked.seats p) (Ends last) at).1 in
       tells (Done done.0) (record seat { progress = Idle }) _ tt (did.0 ∙ done.1) did.1 (λ q. refl) tt
 
 -- EVERY STEP
 
-module _ (old new : State) (reply : Reply) (before : ℕ → Seat) (quiet collected : ℕ → Type 0) (h : AllSince before quiet collected old)
+module _ (old new : State) (reply : Reply) (before : ℕ → Seat) (quiet collected : ℕ → Type 0)
+    (h : AllSince before quiet collected old)
     (linked : AllLinked old) where
   abbrev aside_of : State
   aside_of = with_places new old.places old.seen old.ahead old.room
@@ -537,31 +606,45 @@ module _ (old new : State) (reply : Reply) (before : ℕ → Seat) (quiet collec
   Shown step told = ShowsLeft before quiet collected old step told new
 
   -- nothing has changed
-  unchanged : aside_of ≡ old → (new.places ≡ old.places) × (new.seen ≡ old.seen) × (new.ahead ≡ old.ahead) × (new.room ≡ old.room) → new ≡ old
+  unchanged : aside_of ≡ old
+      → (new.places ≡ old.places) × (new.seen ≡ old.seen) × (new.ahead ≡ old.ahead) × (new.room ≡ old.room) → new ≡ old
   unchanged e same =
       ap₂ (λ (ahead : List ℕ) (room : List Bool). with_places new new.places new.seen ahead room) same.2 same.3
       ∙ ap₂ (λ (places : List Bool) (seen : List ℕ). with_places new places seen old.ahead old.room) same.0 same.1 ∙ e
 
   -- no seat is written
-  stays : (last : State) → aside_of ≡ last → ((q : ℕ) → seat_of last q ≡ seat_of old q) → AllSince before quiet collected new
-  stays last e same q = subst (Since (before q) (quiet q) (collected q)) (sym (ap (λ (s : State). seat_of s q) e ∙ same q)) (h q)
+  stays : (last : State)
+      → aside_of ≡ last → ((q : ℕ) → seat_of last q ≡ seat_of old q) → AllSince before quiet collected new
+  stays last e same q =
+      subst (Since (before q) (quiet q) (collected q)) (sym (ap (λ (s : State). seat_of s q) e ∙ same q)) (h q)
 
-  registers : (p : ℕ) → p < length old.seats → aside_of ≡ with_seat old p (record (free_seat old.sizes) { word = Unpinned })
+  registers : (p : ℕ)
+      → p < length old.seats → aside_of ≡ with_seat old p (record (free_seat old.sizes) { word = Unpinned })
       → AllSince before quiet collected new
   registers p there e q = elim (same_or_other q p) [
     | inl same ↦ subst (λ (k : ℕ). Since (before k) (quiet k) (collected k) (seat_of new k)) (sym same)
-        (subst (Since (before p) (quiet p) (collected p)) (sym (ap (λ (s : State). seat_of s p) e ∙ seat_written old p _ there)) tt)
-    | inr other ↦ subst (Since (before q) (quiet q) (collected q)) (sym (ap (λ (s : State). seat_of s q) e ∙ seat_other old p q _ other)) (h q)
+        (subst (Since (before p) (quiet p) (collected p))
+        (sym (ap (λ (s : State). seat_of s p) e ∙ seat_written old p _ there)) tt)
+    | inr other ↦
+        subst (Since (before q) (quiet q) (collected q))
+        (sym (ap (λ (s : State). seat_of s q) e ∙ seat_other old p q _ other)) (h q)
   ]
 
-  begun : (p : ℕ) (c : Call) → word_of old p ≢ Free → (seat_of old p).progress ≡ Idle → aside_of ≡ with_seat old p (begun_seat c (seat_of old p))
+  begun : (p : ℕ) (c : Call) → word_of old p ≢ Free
+      → (seat_of old p).progress ≡ Idle → aside_of ≡ with_seat old p (begun_seat c (seat_of old p))
       → AllSince (before_after before old (Begin p c) Began) (quiet_after quiet old (Begin p c) Began new)
       (collected_after collected old (Begin p c) Began) new
   begun p c taken idle e q = elim (same_or_other q p) [
-    | inl same ↦ subst (λ (k : ℕ). Since (if p == k then seat_of old p else before k) (k ≢ p → quiet k) ((k ≢ p) × collected k) (seat_of new k)) (sym same) own
-    | inr other ↦ subst (λ (b : Seat). Since b (q ≢ p → quiet q) ((q ≢ p) × collected q) (seat_of new q)) (sym (at_other q other))
-        (subst (Since (before q) (q ≢ p → quiet q) ((q ≢ p) × collected q)) (sym (ap (λ (s : State). seat_of s q) e ∙ seat_other old p q _ other))
-        (since_more (before q) (quiet q) (q ≢ p → quiet q) (collected q) ((q ≢ p) × collected q) (seat_of old q) (λ was ne. was) (λ was. (other, was)) (h q)))
+    | inl same ↦
+        subst
+        (λ (k : ℕ). Since (if p == k then seat_of old p else before k) (k ≢ p → quiet k) ((k ≢ p) × collected k)
+        (seat_of new k)) (sym same) own
+    | inr other ↦
+        subst (λ (b : Seat). Since b (q ≢ p → quiet q) ((q ≢ p) × collected q) (seat_of new q)) (sym (at_other q other))
+        (subst (Since (before q) (q ≢ p → quiet q) ((q ≢ p) × collected q))
+        (sym (ap (λ (s : State). seat_of s q) e ∙ seat_other old p q _ other))
+        (since_more (before q) (quiet q) (q ≢ p → quiet q) (collected q) ((q ≢ p) × collected q) (seat_of old q)
+        (λ was ne. was) (λ was. (other, was)) (h q)))
   ]
     where
       at_same : (if p == p then seat_of old p else before p) ≡ seat_of old p
@@ -577,7 +660,8 @@ module _ (old new : State) (reply : Reply) (before : ℕ → Seat) (quiet collec
           (begun_since (p ≢ p → quiet p) ((p ≢ p) × collected p) (seat_of old p) c idle (λ ne. absurd (ne refl))))
 
   begins : (p : ℕ) (c : Call) (fault : Option Fault) → refusal c (seat_of old p) old.tickets old.heap ≡ fault
-      → (new.places ≡ old.places) × (new.seen ≡ old.seen) × (new.ahead ≡ old.ahead) × (new.room ≡ old.room) → Begins old p c fault reply aside_of → Shown (Begin p c) reply
+      → (new.places ≡ old.places) × (new.seen ≡ old.seen) × (new.ahead ≡ old.ahead) × (new.room ≡ old.room)
+      → Begins old p c fault reply aside_of → Shown (Begin p c) reply
   begins p c (Some fault) at same did = subst (Shown (Begin p c)) (sym did.0)
       (unchanged did.1 same, stays old did.1 (λ q. refl))
   begins p c None at same did = subst (Shown (Begin p c)) (sym did.0)
@@ -587,7 +671,9 @@ module _ (old new : State) (reply : Reply) (before : ℕ → Seat) (quiet collec
   goes_free : (p : ℕ) → reply ≡ Refused NotRegistered → aside_of ≡ old → Shown (Go p) reply
   goes_free p told e = (
     subst (λ (r : Reply). LeavesAtRefusal before quiet collected old (Go p) r new) (sym told) tt,
-    λ q. subst (Since (before q) (quiet_after quiet old (Go p) reply new q) (collected_after collected old (Go p) reply q)) (sym (ap (λ (s : State). seat_of s q) e))
+    λ q. subst
+        (Since (before q) (quiet_after quiet old (Go p) reply new q) (collected_after collected old (Go p) reply q))
+        (sym (ap (λ (s : State). seat_of s q) e))
         (since_more (before q) (quiet q) _ (collected q) _ (seat_of old q) (λ was. (was, λ own. apart)) inl (h q)),
   )
     where
@@ -609,28 +695,36 @@ module _ (old new : State) (reply : Reply) (before : ℕ → Seat) (quiet collec
 
   step_shown : (step : Step) → Takes old step reply new → Shown step reply
   step_shown Register (inl did, same) = subst (Shown Register) (sym did.5) (tt, registers did.0 did.2 did.6)
-  step_shown Register (inr (inl did), same) = subst (Shown Register) (sym did.2) (unchanged did.3 same, stays old did.3 (λ q. refl))
-  step_shown Register (inr (inr did), same) = subst (Shown Register) (sym did.1) (unchanged did.2 same, stays old did.2 (λ q. refl))
+  step_shown Register (inr (inl did), same) =
+      subst (Shown Register) (sym did.2) (unchanged did.3 same, stays old did.3 (λ q. refl))
+  step_shown Register (inr (inr did), same) =
+      subst (Shown Register) (sym did.1) (unchanged did.2 same, stays old did.2 (λ q. refl))
   step_shown (Begin p c) (did, same) = begins p c (refusal c (seat_of old p) old.tickets old.heap) refl same did
   step_shown (Go p) (inl did, sees) = goes_free p did.1 did.2
-  step_shown (Go p) (inr did, sees) = goes old new reply before quiet collected h p did.0 linked (seat_of old p).progress refl did.1
+  step_shown (Go p) (inr did, sees) =
+      goes old new reply before quiet collected h p did.0 linked (seat_of old p).progress refl did.1
   step_shown EndStep (inl did, same) = subst (Shown EndStep) (sym did.2) (tt, stays _ did.3 (λ q. refl))
-  step_shown EndStep (inr (inl did), same) = subst (Shown EndStep) (sym did.2) (unchanged did.3 same, stays old did.3 (λ q. refl))
-  step_shown EndStep (inr (inr did), same) = subst (Shown EndStep) (sym did.1) (unchanged did.2 same, stays old did.2 (λ q. refl))
+  step_shown EndStep (inr (inl did), same) =
+      subst (Shown EndStep) (sym did.2) (unchanged did.3 same, stays old did.3 (λ q. refl))
+  step_shown EndStep (inr (inr did), same) =
+      subst (Shown EndStep) (sym did.1) (unchanged did.2 same, stays old did.2 (λ q. refl))
   step_shown EndGo (did, sees) = (tt, ends_all old.ending did)
 
 -- WHOLE RUNS
 
-refused_from : (old new : State) (log : List Entry) (before : ℕ → Seat) (quiet collected : ℕ → Type 0) → AllSince before quiet collected old
+refused_from : (old new : State) (log : List Entry) (before : ℕ → Seat) (quiet collected : ℕ → Type 0)
+    → AllSince before quiet collected old
     → AllLinked old → (run : Runs old log new) → RefusedAlong before quiet collected old new log run
 refused_from old new [] before quiet collected h linked run = tt
 refused_from old new (x ∷ log) before quiet collected h linked (mid, did, run) =
-    let shown : ShowsLeft before quiet collected old x.step x.reply mid = step_shown old mid x.reply before quiet collected h linked x.step did in
+    let shown : ShowsLeft before quiet collected old x.step x.reply mid =
+    step_shown old mid x.reply before quiet collected h linked x.step did in
     (shown.0, refused_from mid new log _ _ _ shown.1 (step_linked old mid x.step x.reply linked did) run)
 
 pub refused_along : (s new : State) (log : List Entry) → IsFresh s → (run : Runs s log new)
     → RefusedAlong (seat_of s) all_quiet none_collected s new log run
-refused_along s new log fresh run = refused_from s new log (seat_of s) all_quiet none_collected none (fresh_linked s fresh) run
+refused_along s new log fresh run =
+    refused_from s new log (seat_of s) all_quiet none_collected none (fresh_linked s fresh) run
   where
     none : AllSince (seat_of s) all_quiet none_collected s
     none q = subst (λ (seat : Seat). Since (seat_of s q) (Unit {0}) ⊥ seat) (sym (fresh.free q)) tt

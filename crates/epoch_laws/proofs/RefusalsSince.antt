@@ -93,7 +93,8 @@ is_plain (Flush g) = false
 is_plain Release = false
 is_plain _ = true
 
-pub plain_since : (b : Seat) (quiet collected : Type 0) (a : Seat) (s : Stage) (c : Call) → is_plain c ≡ true → SinceAt b quiet collected a c s
+pub plain_since : (b : Seat) (quiet collected : Type 0) (a : Seat) (s : Stage) (c : Call)
+    → is_plain c ≡ true → SinceAt b quiet collected a c s
 plain_since b quiet collected a s (Defer g) plain = absurd (cc (plain))
 plain_since b quiet collected a s (DeferDestroy g ptr) plain = absurd (cc (plain))
 plain_since b quiet collected a s (Flush g) plain = absurd (cc (plain))
@@ -124,7 +125,8 @@ pub since_more : (b : Seat) (P Q C D : Type 0) (a : Seat) → (P → Q) → (C �
 since_more b P Q C D a more got at = by_progress a.progress at
   where
     by_call : (c : Call) (s : Stage) → SinceAt b P C a c s → SinceAt b Q D a c s
-    by_call (Defer g) s at = defer_more (P × Kept b a) (Q × Kept b a) a.machine.full s (λ both. (more both.0, both.1)) at
+    by_call (Defer g) s at =
+        defer_more (P × Kept b a) (Q × Kept b a) a.machine.full s (λ both. (more both.0, both.1)) at
     by_call (DeferDestroy g ptr) s at =
         defer_more (P × Kept b a) (Q × Kept b a) a.machine.full s (λ both. (more both.0, both.1)) at
     by_call (Flush g) s at = flush_more (Kept b a) C D a.machine.full s got at
@@ -139,14 +141,16 @@ since_more b P Q C D a more got at = by_progress a.progress at
 -- HOW A CALL BEGINS
 
 deferral_since : (quiet : Type 0) (seat : Seat) → quiet
-    → DeferAt (quiet × Kept seat seat) false (if length seat.machine.held == seat.machine.sizes.bag_jobs then LoadSeal else Keep)
+    → DeferAt (quiet × Kept seat seat) false
+    (if length seat.machine.held == seat.machine.sizes.bag_jobs then LoadSeal else Keep)
 deferral_since quiet seat q =
     either_stage (DeferAt (quiet × Kept seat seat) false) (length seat.machine.held == seat.machine.sizes.bag_jobs)
     LoadSeal Keep (q, (refl, (refl, refl, refl, refl))) refl
 
 place_since : (quiet collected : Type 0) (seat : Seat) (a : Access) (some : Bool) → seat.progress ≡ Idle → quiet
     → Since seat quiet collected (record seat { progress = if some then Accesses a 0 null else Ends (Done Absent) })
-place_since quiet collected seat (Place v) true idle q = (q, ap (λ (progress : Progress). record seat { progress = progress }) idle)
+place_since quiet collected seat (Place v) true idle q =
+    (q, ap (λ (progress : Progress). record seat { progress = progress }) idle)
 place_since quiet collected seat _ true idle q = tt
 place_since quiet collected seat a false idle q = tt
 
@@ -156,7 +160,8 @@ begun_since quiet collected seat (Defer (Some g)) idle q = deferral_since quiet 
 begun_since quiet collected seat (DeferDestroy (Some g) ptr) idle q = deferral_since quiet seat q
 begun_since quiet collected seat (DeferDestroy None ptr) idle q = tt
 begun_since quiet collected seat (AccessCall a) idle q = place_since quiet collected seat a (has_steps a) idle q
-begun_since quiet collected seat (Flush (Some g)) idle q = either_stage (FlushAt (Kept seat seat) collected false) (is_empty seat.machine.held)
+begun_since quiet collected seat (Flush (Some g)) idle q =
+    either_stage (FlushAt (Kept seat seat) collected false) (is_empty seat.machine.held)
     LoadScan LoadSeal (λ is. absurd (cc (is))) (refl, (refl, refl, refl, refl))
 begun_since quiet collected seat Release idle q = (refl, refl, refl, refl)
 begun_since quiet collected seat Pin idle q = tt

@@ -7,7 +7,8 @@ use Rattle.epoch_laws.specs.declared.step.Entry.{Entry}
 use Rattle.epoch_laws.specs.Run.{State, Takes, Runs, entries_of}
 
 -- a run goes on by one step
-pub runs_push : (s t u : State) (log : List Entry) (x : Entry) → Runs s log t → Takes t x.step x.reply u → Runs s (log ++ x ∷ []) u
+pub runs_push : (s t u : State) (log : List Entry) (x : Entry)
+    → Runs s log t → Takes t x.step x.reply u → Runs s (log ++ x ∷ []) u
 runs_push s t u [] x run did = (u, subst (λ (o : State). Takes o x.step x.reply u) run did, refl)
 runs_push s t u (y ∷ log) x run did = (run.0, run.1, runs_push run.0 t u log x run.2 did)
 
@@ -21,18 +22,25 @@ entries_push : (ss : List Step) (rs : List Reply) (s : Step) (r : Reply) → len
 entries_push [] [] s r e = refl
 entries_push [] (y ∷ rs) s r e = absurd (omega arith)
 entries_push (t ∷ ss) [] s r e = absurd (omega arith)
-entries_push (t ∷ ss) (y ∷ rs) s r e = ap (λ es. record { step = t; reply = y } ∷ es) (entries_push ss rs s r (omega arith))
+entries_push (t ∷ ss) (y ∷ rs) s r e =
+    ap (λ es. record { step = t; reply = y } ∷ es) (entries_push ss rs s r (omega arith))
 
 -- the run of the first i steps goes on by the next one
-pub runs_more : (s t u : State) (steps : List Step) (i : ℕ) (d : Step) (replies later : List Reply) (r : Reply) → i < length steps → length replies ≡ i
+pub runs_more : (s t u : State) (steps : List Step) (i : ℕ) (d : Step) (replies later : List Reply) (r : Reply)
+    → i < length steps → length replies ≡ i
     → later ≡ replies ++ r ∷ []
-    → Runs s (entries_of (take i steps) replies) t → Takes t (get_or steps i d) r u → Runs s (entries_of (take (i + 1) steps) later) u
+    → Runs s (entries_of (take i steps) replies) t
+    → Takes t (get_or steps i d) r u → Runs s (entries_of (take (i + 1) steps) later) u
 runs_more s t u steps i d replies later r lt count more run did =
-    let same : entries_of (take (i + 1) steps) later ≡ entries_of (take i steps) replies ++ record { step = get_or steps i d; reply = r } ∷ [] =
-    ap₂ entries_of (take_more steps i d lt) more ∙ entries_push (take i steps) replies (get_or steps i d) r (omega (arith, count, length-take i steps)) in
-    subst (λ (es : List Entry). Runs s es u) (sym same) (runs_push s t u _ (record { step = get_or steps i d; reply = r }) run did)
+    let same : entries_of (take (i + 1) steps) later ≡ entries_of (take i steps) replies ++ record
+    { step = get_or steps i d; reply = r } ∷ [] =
+    ap₂ entries_of (take_more steps i d lt) more
+    ∙ entries_push (take i steps) replies (get_or steps i d) r (omega (arith, count, length-take i steps)) in
+    subst (λ (es : List Entry). Runs s es u) (sym same)
+    (runs_push s t u _ (record { step = get_or steps i d; reply = r }) run did)
 
 -- the run of all steps
 pub runs_whole : (s t : State) (steps : List Step) (i : ℕ) (replies : List Reply) → length steps ≤ i
     → Runs s (entries_of (take i steps) replies) t → Runs s (entries_of steps replies) t
-runs_whole s t steps i replies le run = subst (λ (ss : List Step). Runs s (entries_of ss replies) t) (take_all i steps le) run
+runs_whole s t steps i replies le run =
+    subst (λ (ss : List Step). Runs s (entries_of ss replies) t) (take_all i steps le) run

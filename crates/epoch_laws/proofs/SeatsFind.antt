@@ -111,7 +111,8 @@ module _ (found : ℕ → Type 0) (count seen : ℕ) where
   }
 
   access_finds : (a : Access) (b : Bool) (seat : Seat) → seat.machine.stage ≡ Resting → FullByPut seat.machine
-      → NoneFound found → PutFinds found count seen (record seat { progress = if b then Accesses a 0 null else Ends (Done Absent) })
+      → NoneFound found
+      → PutFinds found count seen (record seat { progress = if b then Accesses a 0 null else Ends (Done Absent) })
   access_finds a true seat rests by_action none = rest_finds _ rests none by_action
   access_finds a false seat rests by_action none = rest_finds _ rests none by_action
 
@@ -126,7 +127,8 @@ module _ (found : ℕ → Type 0) (count seen : ℕ) where
   begun_finds (Flush (Some g)) seat rests by_action none = driven_finds FlushAction (Flush (Some g)) seat none
   begun_finds Release seat rests by_action none = driven_finds ReleaseAction Release seat none
   begun_finds (Defer None) seat rests by_action none = rest_finds _ rests none by_action
-  begun_finds (DeferDestroy (Some g) ptr) seat rests by_action none = driven_finds DeferAction (DeferDestroy (Some g) ptr) seat none
+  begun_finds (DeferDestroy (Some g) ptr) seat rests by_action none =
+      driven_finds DeferAction (DeferDestroy (Some g) ptr) seat none
   begun_finds (DeferDestroy None ptr) seat rests by_action none = rest_finds _ rests none by_action
   begun_finds (AccessCall a) seat rests by_action none = access_finds a (has_steps a) seat rests by_action none
   begun_finds _ seat rests by_action none = rest_finds _ rests none by_action

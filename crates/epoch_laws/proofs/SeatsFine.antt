@@ -78,13 +78,13 @@ KnowsAt v p held hand _ = Unit {0}
 
 -- the stage is a parameter of its own, so that a proof goes by its cases
 pub record IsFine (v : View) (p : ℕ) (w : Word) (m : Machine Deferral) (s : Stage) : Type 0 where
-  pub published : (n : ℕ) → w ≡ Pinned n → n ≤ v.since p
+  pub published : (n : ℕ) → w ≡ Pinned n → n ≤ v.since p  -- its word has at most the epoch when it published
   pub before : v.since p ≤ v.epoch
-  pub recent : is_pinned w ≡ true → v.epoch ≤ v.since p + 1
-  pub agrees : is_pinned w ≡ publishes_at m s
-  pub aims : AimsAt m s
-  pub held : DeferredBy v.when v.tickets v.epoch m.held
-  pub knows : KnowsAt v p m.held m.hand s
+  pub recent : is_pinned w ≡ true → v.epoch ≤ v.since p + 1  -- while it is pinned the epoch advances once at most
+  pub agrees : is_pinned w ≡ publishes_at m s  -- the word is pinned where the machine has it so
+  pub aims : AimsAt m s  -- whether a guard is counted at the action's end
+  pub held : DeferredBy v.when v.tickets v.epoch m.held  -- the jobs held were deferred by now
+  pub knows : KnowsAt v p m.held m.hand s  -- what the stage knows of its numbers, and of the jobs held and in hand
 
 abbrev pub SeatIsFine : View → ℕ → Seat → Type 0
 SeatIsFine v p seat = IsFine v p seat.word seat.machine seat.machine.stage

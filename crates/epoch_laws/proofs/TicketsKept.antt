@@ -36,11 +36,13 @@ module _ (old new : State) (log : List Entry) (x : Entry) (h : Tallies old log) 
     opened = ending_open old.ending (λ shut. taken (h.closed shut p))
 
     -- no job moves
-    leaves_jobs : (told : Reply) (after : Seat) (heap : Heap) → x.reply ≡ told → tells told ≡ false → LeavesJobs seat after
+    leaves_jobs : (told : Reply) (after : Seat) (heap : Heap)
+        → x.reply ≡ told → tells told ≡ false → LeavesJobs seat after
         → new ≡ record (with_seat old p after) { heap = heap }
         → Kept
     leaves_jobs told after heap is quiet leaves did =
-        heap_beside new _ old.heap (acts old (with_heap new old.heap) log x h told p after old.epoch old.queued old.tickets is (record {
+        heap_beside new _ old.heap
+        (acts old (with_heap new old.heap) log x h told p after old.epoch old.queued old.tickets is (record {
           there = seat_there old p taken;
           ending = opened;
           places = leaves.places;
@@ -98,7 +100,8 @@ module _ (old new : State) (log : List Entry) (x : Entry) (h : Tallies old log) 
       goes_at (Advance e) at did =
           keeps_jobs g _ seat.word (hears m (Advance e) Stored) (e + 1) refl taken tt at.hand (refl, refl) did
       goes_at (Take y k) at (step, jobs, queued, is, took, did) = takes g y k step jobs queued at.hand is took did
-      goes_at (Calling y k) at (job, jobs, hand, is, did) = heap_beside new _ old.heap (calls beside y k job jobs _ hand is
+      goes_at (Calling y k) at (job, jobs, hand, is, did) =
+          heap_beside new _ old.heap (calls beside y k job jobs _ hand is
           (ap (λ (s : State). with_heap s old.heap) did))
       goes_at LoadSeal at did = staged g _ at.hand tt did
       goes_at (Put seal) at (step, queued, is, put, did) = puts g seal step queued at.hand is put did
@@ -134,4 +137,5 @@ module _ (old new : State) (log : List Entry) (x : Entry) (h : Tallies old log) 
             (accessed_leaves seat taken a k did.told rests (h.seats p)) e
         by_progress (Ends reply) at rests did =
             let after : Seat = record seat { progress = IdleProgress } in
-            leaves_jobs _ after old.heap (did.0 ∙ rests.1.1) refl (resting seat taken IdleProgress rests.0 (h.seats p)) did.1
+            leaves_jobs _ after old.heap (did.0 ∙ rests.1.1) refl (resting seat taken IdleProgress rests.0 (h.seats p))
+            did.1

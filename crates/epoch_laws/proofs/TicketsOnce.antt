@@ -78,7 +78,8 @@ runs_tally old new log [] h run =
     subst (λ s. Tallies s (log ++ [])) (sym run) (subst (Tallies old) (sym (append-nil log)) h)
 runs_tally old new log (x ∷ entries) h (mid, did, run) =
     let aside = step_tallies old (with_places mid old.places old.seen old.ahead old.room) log x h x.step did.0 in
-    let step : Tallies mid (log ++ x ∷ []) = tallies_aside mid (log ++ x ∷ []) old.places old.seen old.ahead old.room aside in
+    let step : Tallies mid (log ++ x ∷ []) =
+    tallies_aside mid (log ++ x ∷ []) old.places old.seen old.ahead old.room aside in
     subst (Tallies new) (append_assoc log (x ∷ []) entries) (runs_tally mid new (log ++ x ∷ []) entries step run)
 
 fresh_tallies : (s : State) → IsFresh s → Tallies s []

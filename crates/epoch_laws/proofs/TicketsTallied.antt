@@ -167,19 +167,20 @@ module _ (old new : State) (log : List Entry) (x : Entry) (h : Tallies old log) 
       → ((t : ℕ) → deferrals_of t told ≡ 0)
       → new ≡ record old { queued = queued; ending = ending; heap = heap }
       → Kept
-  closes told queued ending heap is free over moved none did = subst (λ s. Tallies s (log ++ x ∷ [])) (sym did) (record {
-    seats = h.seats;
-    placed = λ t. omega (
-      arith,
-      h.placed t,
-      moved t,
-      none t,
-      called_push t log x,
-      deferred_push t log x,
-      ap (calls_of t) is,
-      ap (deferrals_of t) is,
-    );
-    accepted = λ t. omega (arith, h.accepted t, none t, deferred_push t log x, ap (deferrals_of t) is);
-    closed = λ shut. free;
-    over = over;
-  })
+  closes told queued ending heap is free over moved none did =
+      subst (λ s. Tallies s (log ++ x ∷ [])) (sym did) (record {
+        seats = h.seats;
+        placed = λ t. omega (
+          arith,
+          h.placed t,
+          moved t,
+          none t,
+          called_push t log x,
+          deferred_push t log x,
+          ap (calls_of t) is,
+          ap (deferrals_of t) is,
+        );
+        accepted = λ t. omega (arith, h.accepted t, none t, deferred_push t log x, ap (deferrals_of t) is);
+        closed = λ shut. free;
+        over = over;
+      })

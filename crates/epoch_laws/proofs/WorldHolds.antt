@@ -23,14 +23,16 @@ abbrev pub EndHolds : (ℕ → ℕ) → ℕ → Ending → Type 0
 EndHolds when tickets (Emptying hand n) = (bound : ℕ) × DeferredBy when tickets bound hand
 EndHolds when tickets _ = Unit {0}
 
+-- What holds between any two steps of a run from a fresh state: of each participant, of the jobs wherever they are,
+-- and of what was told so far.
 pub record Holds (s : State) (log : List Entry) : Type 0 where
-  pub since : ℕ → ℕ
-  pub when : ℕ → ℕ
+  pub since : ℕ → ℕ  -- for each participant, the epoch when it last published
+  pub when : ℕ → ℕ  -- for each ticket, the epoch when its job was deferred
   pub seats : (p : ℕ) → SeatIsFine (view_of s since when) p (seat_of s p)
-  pub queued : SealedBehind when s.tickets s.epoch s.queued
-  pub closed : s.ending ≢ Open → AllFree s
+  pub queued : SealedBehind when s.tickets s.epoch s.queued  -- bags are sealed at or after their deferrals
+  pub closed : s.ending ≢ Open → AllFree s  -- once an end has begun, nobody is registered
   pub ending : EndHolds when s.tickets s.ending
-  pub logged : LogHolds (view_of s since when) log
+  pub logged : LogHolds (view_of s since when) log  -- what was told agrees with the view, and keeps grace
 
 pub holds_along : (new last : State) (log : List Entry) → new ≡ last → Holds last log → Holds new log
 holds_along new last log e h = subst (λ (s : State). Holds s log) (sym e) h
@@ -60,23 +62,31 @@ changed_other f p e q ne = grind (arith, nat_tests)
 -- What a step of p must show: its seat after the step is fine in the new view, and what the reply tells of p.
 pub record Acts (old new : State) (since when since' when' : ℕ → ℕ) (p : ℕ) (after : Seat) (r : Reply) : Type 0 where
   pub there : p < length old.seats
-  pub still_open : ¬ (old.ending ≢ Open)
+  pub still_open : ¬ (old.ending ≢ Open)  -- no end has begun
   pub sizes : new.sizes ≡ old.sizes
-  pub seats : new.seats ≡ slice_set old.seats p after
+  pub seats : new.seats ≡ slice_set old.seats p after  -- no other seat changes
   pub ending : new.ending ≡ old.ending
   pub epoch : old.epoch ≤ new.epoch
   pub tickets : old.tickets ≤ new.tickets
+  -- what is known of tickets that were given, and of the publishes of others, stays
   pub when_old : (t : ℕ) → t < old.tickets → when' t ≡ when t
   pub since_other : (q : ℕ) → q ≢ p → since' q ≡ since q
+  -- the new epoch is at most one past the publish of each other participant that is pinned
   pub near : (q : ℕ) → q ≢ p → is_pinned (word_of old q) ≡ true → new.epoch ≤ since q + 1
+  -- if p is pinned after the step, it was so before it, or has published by it
   pub own : is_pinned after.word ≡ true
       → ((is_pinned (word_of old p) ≡ true) × (since' p ≡ since p)) ⊎ (old.epoch ≤ since' p)
+  -- the seat is fine, where the step passes from the old view to the new one as steps may
   pub fine : Passes (view_of old since when) (view_of new since' when') → SeatIsFine (view_of new since' when') p after
-  pub queued : SealedBehind when' new.tickets new.epoch new.queued
+  pub queued : SealedBehind when' new.tickets new.epoch new.queued  -- bags are sealed at or after their deferrals
+  -- only p is told to have published, and is pinned then
   pub published : (q : ℕ) → IsPublish r q → (q ≡ p) × (is_pinned after.word ≡ true)
+  -- a pin lasts, with its publish, until it is told to be withdrawn
   pub lasting : is_pinned (word_of old p) ≡ true → ¬ (IsWithdrawal r p)
       → (is_pinned after.word ≡ true) × (since' p ≡ since p)
+  -- a deferral gets the next ticket, and nobody has published at a later epoch
   pub deferred : (t : ℕ) → r ≡ Deferred t → (t ≡ old.tickets) × (t < new.tickets) × ((q : ℕ) → since' q ≤ when' t)
+  -- whoever is pinned when a job is called has published at a later epoch than that of its deferral
   pub called : (t : ℕ) (how : Called) → r ≡ CalledReply t how
       → (t < old.tickets) × ((q : ℕ) → is_pinned (word_of old q) ≡ true → when t < since q)
 

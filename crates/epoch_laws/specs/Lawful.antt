@@ -237,7 +237,8 @@ AnswerFits (Some (AccessCall a)) answer = AccessAnswers a answer
 AnswerFits (Some c) UnitAnswer = Unit {0}
 AnswerFits _ answer = ⊥
 
--- a call that is refused at its end has deferred nothing, or finds no free cell for a value; where no call is under way, the Go itself is refused
+-- a call that is refused at its end has deferred nothing, or finds no free cell for a value; where no call is under
+-- way, the Go itself is refused
 abbrev pub HasToldRefused : Option Call → Told → Type 0
 HasToldRefused (Some (Defer (Some g))) t = t.did_defer ≡ false
 HasToldRefused (Some (DeferDestroy (Some g) ptr)) t = t.did_defer ≡ false

@@ -62,7 +62,8 @@ pub record KeepsBag (before after : Seat) : Type 0 where
 -- says so. No other call is told that the bags are full.
 abbrev pub Leaves : (quiet collected : Type 0) → Progress → (before after : Seat) → Type 0
 Leaves quiet collected (Driven (Defer g)) before after = quiet × (after.word ≡ before.word) × KeepsBag before after
-Leaves quiet collected (Driven (DeferDestroy g ptr)) before after = quiet × (after.word ≡ before.word) × KeepsBag before after
+Leaves quiet collected (Driven (DeferDestroy g ptr)) before after =
+    quiet × (after.word ≡ before.word) × KeepsBag before after
 Leaves quiet collected (Driven (Flush g)) before after = collected × (after.word ≡ before.word) × KeepsBag before after
 Leaves quiet collected (Driven Release) before after = (after.word ≡ Unpinned) × KeepsBag before after
 Leaves quiet collected _ before after = ⊥
@@ -78,7 +79,8 @@ LeavesAtRefusal before quiet collected s (Go p) (Refused BagsFull) new =
     Leaves (quiet_after quiet s (Go p) (Refused BagsFull) new p) (collected p) (seat_of s p).progress
     (before p) (seat_of new p)
 LeavesAtRefusal before quiet collected s (Go p) (Refused CellsFull) new =
-    LeavesUnplaced (quiet_after quiet s (Go p) (Refused CellsFull) new p) (seat_of s p).progress (before p) (seat_of new p)
+    LeavesUnplaced (quiet_after quiet s (Go p) (Refused CellsFull) new p) (seat_of s p).progress (before p)
+    (seat_of new p)
 LeavesAtRefusal before quiet collected s (Go p) reply new = Unit {0}
 LeavesAtRefusal before quiet collected s EndGo reply new = Unit {0}
 LeavesAtRefusal before quiet collected s step (Refused fault) new = new ≡ s
@@ -86,7 +88,8 @@ LeavesAtRefusal before quiet collected s step reply new = Unit {0}
 
 -- WHOLE RUNS
 
-abbrev pub RefusedAlong : (ℕ → Seat) → (quiet collected : ℕ → Type 0) → (s new : State) (log : List Entry) → Runs s log new → Type 0
+abbrev pub RefusedAlong : (ℕ → Seat) → (quiet collected : ℕ → Type 0) → (s new : State) (log : List Entry)
+    → Runs s log new → Type 0
 RefusedAlong before quiet collected s new [] run = Unit {0}
 RefusedAlong before quiet collected s new (x ∷ log) (mid, did, run) =
     LeavesAtRefusal before quiet collected s x.step x.reply mid

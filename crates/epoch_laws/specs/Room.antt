@@ -19,14 +19,14 @@ is_at_places (Put seal) = true
 is_at_places (Take x k) = true
 is_at_places _ = false
 
--- A step of a put, its machine being n after it: while the put goes on, it has room as before, and where it ends, it had
--- room exactly if the bag is in the store.
+-- A step of a put, its machine being n after it: while the put goes on, it has room as before, and where it ends, it
+-- had room exactly if the bag is in the store.
 pub record PutTells (n : Machine Deferral) (old new : Bool) : Type 0 where
   pub kept : is_putting n.stage ≡ true → new ≡ old
   pub told : is_putting n.stage ≡ false → n.full ≡ not old
 
--- What a step tells of it, by what it asks for. A put begins with the load of its seal, as does every load of the epoch,
--- and has room then, where a place is free.
+-- What a step tells of it, by what it asks for. A put begins with the load of its seal, as does every load of the
+-- epoch, and has room then, where a place is free.
 abbrev pub TellsRoom : Type 0 → Option Ask → Machine Deferral → Bool → Bool → Type 0
 TellsRoom Free (Some LoadEpoch) n old new = Free → new ≡ true
 TellsRoom Free (Some (PutBag seal)) n old new = PutTells n old new
@@ -43,7 +43,10 @@ abbrev pub OwnPlaces : Stage → (ℕ → Type 0) → (ℕ → Type 0) → ℕ �
 OwnPlaces s Reserves Claims place = OwnReserves s Reserves place ⊎ OwnClaims s Claims place
 
 -- by what the step asks for: only a step of a put or of a collection claims a place
-abbrev pub MayReserve : Ask → Stage → (ℕ → Type 0) → (ℕ → Type 0) → (ℕ → Type 0) → (ℕ → Type 0) → (ℕ → Type 0) → (ℕ → Type 0) → Type 0
-MayReserve (PutBag seal) s Reserved Reserves Claims Reserved' Reserves' Claims' = LeavesClaims Reserved Reserves Reserved' (OwnReserves s Reserves')
-MayReserve (TakeBag x) s Reserved Reserves Claims Reserved' Reserves' Claims' = LeavesClaims Reserved Claims Reserved' (OwnClaims s Claims')
+abbrev pub MayReserve : Ask → Stage → (ℕ → Type 0) → (ℕ → Type 0) → (ℕ → Type 0) → (ℕ → Type 0) → (ℕ → Type 0)
+    → (ℕ → Type 0) → Type 0
+MayReserve (PutBag seal) s Reserved Reserves Claims Reserved' Reserves' Claims' =
+    LeavesClaims Reserved Reserves Reserved' (OwnReserves s Reserves')
+MayReserve (TakeBag x) s Reserved Reserves Claims Reserved' Reserves' Claims' =
+    LeavesClaims Reserved Claims Reserved' (OwnClaims s Claims')
 MayReserve _ s Reserved Reserves Claims Reserved' Reserves' Claims' = (place : ℕ) → Reserved' place → Reserved place

@@ -81,7 +81,8 @@ number_of Unpinned = 2
 number_of (Pinned e) = 2 * e + 1
 
 abbrev pub free_seat : Sizes → Seat
-free_seat sizes = record { word = Free; machine = fresh sizes; progress = Idle; guards = []; paused = None; readings = [] }
+free_seat sizes =
+    record { word = Free; machine = fresh sizes; progress = Idle; guards = []; paused = None; readings = [] }
 
 -- the participant at a position; a position past the table is free
 abbrev pub seat_of : State → ℕ → Seat
@@ -178,7 +179,10 @@ reading_refusal _ readings = None
 
 -- no such root or field, a name never given, and then the readings
 abbrev pub access_refusal : Access → List Name → Heap → Option Fault
-access_refusal a readings heap = if has_place heap a then (if knows_names heap a then reading_refusal a readings else Some StrangerPointer) else Some NoSuchPlace
+access_refusal a readings heap =
+    if has_place heap a
+    then (if knows_names heap a then reading_refusal a readings else Some StrangerPointer)
+    else Some NoSuchPlace
 
 -- the call's own fault, or none
 abbrev pub call_refusal : Call → Seat → ℕ → Heap → Option Fault
@@ -189,16 +193,31 @@ call_refusal (Repin g) seat tickets heap = guard_refusal g seat.guards
 call_refusal (Pause g) seat tickets heap = guard_refusal g seat.guards
 call_refusal (Resume g) seat tickets heap = resume_refusal g seat.paused
 call_refusal (Defer None) seat tickets heap = None
-call_refusal (Defer (Some g)) seat tickets heap = if is_out g seat.guards then (if nat_le (2 ^ 64 - 4097) tickets then Some TicketsOut else None) else Some StrangerGuard
+call_refusal (Defer (Some g)) seat tickets heap =
+    if is_out g seat.guards then (if nat_le (2 ^ 64 - 4097) tickets then Some TicketsOut else None)
+    else Some StrangerGuard
 call_refusal (Flush g) seat tickets heap = guard_refusal g seat.guards
-call_refusal Release seat tickets heap = if length seat.guards == 0 then (if is_empty seat.readings then None else Some GuardsOut) else Some GuardsOut
-call_refusal (DeferDestroy None ptr) seat tickets heap = if is_removable heap ptr.name then None else Some StrangerPointer
-call_refusal (DeferDestroy (Some g) ptr) seat tickets heap = if is_out g seat.guards then (if is_removable heap ptr.name then (if nat_le (2 ^ 64 - 4097) tickets then Some TicketsOut else None) else Some StrangerPointer) else Some StrangerGuard
-call_refusal (AccessCall a) seat tickets heap = under_guard (guard_of a) seat.guards (access_refusal a seat.readings heap)
+call_refusal Release seat tickets heap =
+    if length seat.guards == 0 then (if is_empty seat.readings then None else Some GuardsOut) else Some GuardsOut
+call_refusal (DeferDestroy None ptr) seat tickets heap =
+    if is_removable heap ptr.name then None else Some StrangerPointer
+call_refusal (DeferDestroy (Some g) ptr) seat tickets heap =
+    if is_out g seat.guards
+    then (if is_removable heap ptr.name
+    then (if nat_le (2 ^ 64 - 4097) tickets then Some TicketsOut else None)
+    else Some StrangerPointer)
+    else Some StrangerGuard
+call_refusal (AccessCall a) seat tickets heap =
+    under_guard (guard_of a) seat.guards (access_refusal a seat.readings heap)
 
 -- not registered, busy, and then the call's own fault
 abbrev pub refusal : Call → Seat → ℕ → Heap → Option Fault
-refusal c seat tickets heap = if is_free seat.word then Some NotRegistered else (if is_idle seat.progress then (if waits c seat.paused then Some Busy else call_refusal c seat tickets heap) else Some Busy)
+refusal c seat tickets heap =
+    if is_free seat.word
+    then Some NotRegistered
+    else (if is_idle seat.progress
+    then (if waits c seat.paused then Some Busy else call_refusal c seat tickets heap)
+    else Some Busy)
 
 abbrev pub drives : Action → Call → Seat → Seat
 drives a c seat = record seat { machine = begun a seat.machine; progress = Driven c }
@@ -216,7 +235,8 @@ begun_seat Release seat = drives ReleaseAction Release seat
 begun_seat (DeferDestroy (Some g) ptr) seat = drives DeferAction (DeferDestroy (Some g) ptr) seat
 begun_seat (Defer None) seat = record seat { progress = CallsNow None }
 begun_seat (DeferDestroy None ptr) seat = record seat { progress = CallsNow ptr.name }
-begun_seat (AccessCall a) seat = record seat { progress = if has_steps a then Accesses a 0 null else Ends (Done Absent) }
+begun_seat (AccessCall a) seat =
+    record seat { progress = if has_steps a then Accesses a 0 null else Ends (Done Absent) }
 begun_seat _ seat = record seat { progress = Ends (Done UnitAnswer) }
 
 abbrev pub Begins : State → ℕ → Call → Option Fault → Reply → State → Type 0
@@ -238,7 +258,8 @@ end_reply (DeferDestroy g ptr) seat = full_or_done seat.machine.full
 end_reply _ seat = Done UnitAnswer
 
 abbrev pub with_guards : Seat → List ℕ → Option ℕ → Seat
-with_guards seat guards paused = record seat { machine = ended seat.machine; progress = Idle; guards = guards; paused = paused }
+with_guards seat guards paused =
+    record seat { machine = ended seat.machine; progress = Idle; guards = guards; paused = paused }
 
 -- guards are counted, and no longer counted, from the end of their call
 abbrev pub ended_seat : Call → Seat → Seat
@@ -266,7 +287,8 @@ readings_after (Leave ptr) told readings = without_reading ptr.name readings
 readings_after _ told readings = readings
 
 abbrev pub accessed_seat : Access → ℕ → Accessed → Seat → Seat
-accessed_seat a k told seat = record seat { progress = progress_after a k told; readings = readings_after a told seat.readings }
+accessed_seat a k told seat =
+    record seat { progress = progress_after a k told; readings = readings_after a told seat.readings }
 
 -- ONE STEP
 
@@ -277,17 +299,37 @@ removed_by _ = None
 
 -- what may come of one ask of p, whose machine is at this stage: the reply, and the state after it
 abbrev pub Performs : State → ℕ → Seat → Stage → Ask → Reply → State → Type 0
-Performs old p seat s LoadEpoch reply new = (reply ≡ Stepped) × (new ≡ with_seat old p (with_machine seat (hears seat.machine s (Epoch old.epoch))))
-Performs old p seat s (LoadWord k) reply new = (reply ≡ Stepped) × (new ≡ with_seat old p (with_machine seat (hears seat.machine s (WordFound (number_of (word_of old k))))))
-Performs old p seat s (StorePinned e) reply new = (reply ≡ PinnedReply p) × (new ≡ with_seat old p (with_word seat (Pinned e) (hears seat.machine s Stored)))
-Performs old p seat s (StoreRepinned e) reply new = (reply ≡ Repinned p) × (new ≡ with_seat old p (with_word seat (Pinned e) (hears seat.machine s Stored)))
-Performs old p seat s StoreUnpinned reply new = (reply ≡ UnpinnedReply p) × (new ≡ with_seat old p (with_word seat Unpinned (hears seat.machine s Stored)))
+Performs old p seat s LoadEpoch reply new =
+    (reply ≡ Stepped) × (new ≡ with_seat old p (with_machine seat (hears seat.machine s (Epoch old.epoch))))
+Performs old p seat s (LoadWord k) reply new =
+    (reply ≡ Stepped)
+    × (new ≡ with_seat old p (with_machine seat (hears seat.machine s (WordFound (number_of (word_of old k))))))
+Performs old p seat s (StorePinned e) reply new =
+    (reply ≡ PinnedReply p) × (new ≡ with_seat old p (with_word seat (Pinned e) (hears seat.machine s Stored)))
+Performs old p seat s (StoreRepinned e) reply new =
+    (reply ≡ Repinned p) × (new ≡ with_seat old p (with_word seat (Pinned e) (hears seat.machine s Stored)))
+Performs old p seat s StoreUnpinned reply new =
+    (reply ≡ UnpinnedReply p) × (new ≡ with_seat old p (with_word seat Unpinned (hears seat.machine s Stored)))
 Performs old p seat s StoreFree reply new = (reply ≡ Done Released) × (new ≡ with_seat old p (free_seat old.sizes))
-Performs old p seat s (StoreEpoch e) reply new = (reply ≡ Stepped) × (new ≡ record (with_seat old p (with_machine seat (hears seat.machine s Stored))) { epoch = e })
-Performs old p seat s (PutBag seal) reply new = (step : PutStep) × (queued : List Bag) × (reply ≡ Stepped) × PutsHeld seal seat.machine old.queued step queued × (new ≡ record (with_seat old p (with_machine seat (put_heard seat.machine step))) { queued = queued })
-Performs old p seat s (TakeBag x) reply new = (step : TakeStep) × (jobs : List Deferral) × (queued : List Bag) × (reply ≡ Stepped) × TakesHand x old.queued step queued jobs × (new ≡ record (with_seat old p (with_machine seat (took_heard seat.machine s step jobs))) { queued = queued })
-Performs old p seat s KeepJob reply new = (reply ≡ Deferred old.tickets) × (new ≡ record (with_seat old p (with_machine seat (hears seat.machine s (Job (record { ticket = old.tickets; removes = removed_by seat.progress }))))) { tickets = old.tickets + 1 })
-Performs old p seat s CallJob reply new = (job : Deferral) × (jobs : List Deferral) × (seat.machine.hand ≡ job ∷ jobs) × (reply ≡ CalledReply job.ticket (outcome_of old.heap job.removes)) × (new ≡ record (with_seat old p (with_machine seat (gives seat.machine s jobs))) { heap = after_job old.heap job.removes })
+Performs old p seat s (StoreEpoch e) reply new =
+    (reply ≡ Stepped) × (new ≡ record (with_seat old p (with_machine seat (hears seat.machine s Stored))) { epoch = e })
+Performs old p seat s (PutBag seal) reply new =
+    (step : PutStep) × (queued : List Bag) × (reply ≡ Stepped) × PutsHeld seal seat.machine old.queued step queued
+    × (new ≡ record (with_seat old p (with_machine seat (put_heard seat.machine step))) { queued = queued })
+Performs old p seat s (TakeBag x) reply new =
+    (step : TakeStep) × (jobs : List Deferral) × (queued : List Bag) × (reply ≡ Stepped)
+    × TakesHand x old.queued step queued jobs
+    × (new ≡ record (with_seat old p (with_machine seat (took_heard seat.machine s step jobs))) { queued = queued })
+Performs old p seat s KeepJob reply new =
+    (reply ≡ Deferred old.tickets)
+    × (new ≡ record (with_seat old p (with_machine seat
+    (hears seat.machine s (Job (record { ticket = old.tickets; removes = removed_by seat.progress })))))
+    { tickets = old.tickets + 1 })
+Performs old p seat s CallJob reply new =
+    (job : Deferral) × (jobs : List Deferral) × (seat.machine.hand ≡ job ∷ jobs)
+    × (reply ≡ CalledReply job.ticket (outcome_of old.heap job.removes))
+    × (new ≡ record (with_seat old p (with_machine seat (gives seat.machine s jobs)))
+    { heap = after_job old.heap job.removes })
 
 -- what a call driven by its machine does next: the machine's ask, or its end
 abbrev pub Drives : State → ℕ → Seat → Call → Stage → Option Ask → Reply → State → Type 0
@@ -298,8 +340,13 @@ Drives old p seat c s None reply new = (reply ≡ end_reply c seat) × (new ≡ 
 abbrev pub Goes : State → ℕ → Seat → Progress → Reply → State → Type 0
 Goes old p seat Idle reply new = (reply ≡ Refused IdleFault) × (new ≡ old)
 Goes old p seat (Driven c) reply new = Drives old p seat c seat.machine.stage (ask_at seat.machine.stage) reply new
-Goes old p seat (CallsNow removes) reply new = (reply ≡ CalledNow (outcome_of old.heap removes)) × (new ≡ record (with_seat old p (record seat { progress = Ends (Done UnitAnswer) })) { heap = after_job old.heap removes })
-Goes old p seat (Accesses a k found) reply new = (did : Touched) × Touches a k found old.heap did × (reply ≡ access_reply did.told) × (new ≡ record (with_seat old p (accessed_seat a k did.told seat)) { heap = did.heap })
+Goes old p seat (CallsNow removes) reply new =
+    (reply ≡ CalledNow (outcome_of old.heap removes))
+    × (new ≡ record (with_seat old p (record seat { progress = Ends (Done UnitAnswer) }))
+    { heap = after_job old.heap removes })
+Goes old p seat (Accesses a k found) reply new =
+    (did : Touched) × Touches a k found old.heap did × (reply ≡ access_reply did.told)
+    × (new ≡ record (with_seat old p (accessed_seat a k did.told seat)) { heap = did.heap })
 Goes old p seat (Ends r) reply new = (reply ≡ r) × (new ≡ with_seat old p (record seat { progress = Idle }))
 
 abbrev pub AllFree : State → Type 0
@@ -309,16 +356,22 @@ AllFree s = (p : ℕ) → word_of s p ≡ Free
 abbrev pub EndGoes : State → Ending → Reply → State → Type 0
 EndGoes old Open reply new = (reply ≡ Refused IdleFault) × (new ≡ old)
 EndGoes old Over reply new = (reply ≡ Refused IdleFault) × (new ≡ old)
-EndGoes old (Emptying (job ∷ jobs) n) reply new = (reply ≡ CalledReply job.ticket (outcome_of old.heap job.removes)) × (new ≡ record old { ending = Emptying jobs (n + 1); heap = after_job old.heap job.removes })
+EndGoes old (Emptying (job ∷ jobs) n) reply new =
+    (reply ≡ CalledReply job.ticket (outcome_of old.heap job.removes))
+    × (new ≡ record old { ending = Emptying jobs (n + 1); heap = after_job old.heap job.removes })
 EndGoes old (Emptying [] n) reply new =
-    ((bag : Bag) × (queued : List Bag) × IsInserted bag queued old.queued × (reply ≡ Stepped) × (new ≡ record old { queued = queued; ending = Emptying bag.jobs n }))
+    ((bag : Bag) × (queued : List Bag) × IsInserted bag queued old.queued × (reply ≡ Stepped)
+    × (new ≡ record old { queued = queued; ending = Emptying bag.jobs n }))
     ⊎ ((old.queued ≡ []) × (reply ≡ Done (Count n)) × (new ≡ record old { ending = Over }))
 
 -- what this step does, with this reply, to all but the places
 abbrev pub Moves : State → Step → Reply → State → Type 0
 Moves old Register reply new =
-    ((p : ℕ) × (old.ending ≡ Open) × (p < length old.seats) × (word_of old p ≡ Free) × ((k : ℕ) → k < p → word_of old k ≢ Free) × (reply ≡ Registered p) × (new ≡ with_seat old p (record (free_seat old.sizes) { word = Unpinned })))
-    ⊎ ((old.ending ≡ Open) × ((k : ℕ) → k < length old.seats → word_of old k ≢ Free) × (reply ≡ Refused TableFull) × (new ≡ old))
+    ((p : ℕ) × (old.ending ≡ Open) × (p < length old.seats) × (word_of old p ≡ Free)
+    × ((k : ℕ) → k < p → word_of old k ≢ Free) × (reply ≡ Registered p)
+    × (new ≡ with_seat old p (record (free_seat old.sizes) { word = Unpinned })))
+    ⊎ ((old.ending ≡ Open) × ((k : ℕ) → k < length old.seats → word_of old k ≢ Free) × (reply ≡ Refused TableFull)
+    × (new ≡ old))
     ⊎ ((old.ending ≢ Open) × (reply ≡ Refused Ended) × (new ≡ old))
 Moves old (Begin p c) reply new = Begins old p c (refusal c (seat_of old p) old.tickets old.heap) reply new
 Moves old (Go p) reply new =
@@ -371,17 +424,22 @@ turn_at _ progress s = None
 abbrev pub turn_of : Seat → Option Ask
 turn_of seat = turn_at seat.word seat.progress seat.machine.stage
 
--- A Go of p counts for the put of p alone; an end takes bags out. Of the collection of p a Go of p alone tells: a step of
--- another, or of an end, may put a bag ahead of it, or take one from there. So it is with the room of its put. No other
--- step changes any of this.
+-- A Go of p counts for the put of p alone; an end takes bags out. Of the collection of p a Go of p alone tells: a step
+-- of another, or of an end, may put a bag ahead of it, or take one from there. So it is with the room of its put. No
+-- other step changes any of this.
 abbrev pub Sees : State → Step → State → Type 0
-Sees old (Go p) new = Looks (turn_of (seat_of old p)) (seat_of old p).machine (seat_of new p).machine (sight_of old p) (sight_of new p) × ((q : ℕ) → q ≢ p → seen_by new q ≡ seen_by old q) × Finds (NoneTakes old) (turn_of (seat_of old p)) (seat_of new p).machine (reach_of old p) (reach_of new p) × TellsRoom (HasFreePlace p old) (turn_of (seat_of old p)) (seat_of new p).machine (room_of old p) (room_of new p)
+Sees old (Go p) new =
+    Looks (turn_of (seat_of old p)) (seat_of old p).machine (seat_of new p).machine (sight_of old p) (sight_of new p)
+    × ((q : ℕ) → q ≢ p → seen_by new q ≡ seen_by old q)
+    × Finds (NoneTakes old) (turn_of (seat_of old p)) (seat_of new p).machine (reach_of old p) (reach_of new p)
+    × TellsRoom (HasFreePlace p old) (turn_of (seat_of old p)) (seat_of new p).machine (room_of old p) (room_of new p)
 Sees old EndGo new = (length new.places ≡ length old.places) × (new.seen ≡ old.seen)
 Sees old _ new = (new.places ≡ old.places) × (new.seen ≡ old.seen) × (new.ahead ≡ old.ahead) × (new.room ≡ old.room)
 
 -- the world takes this step, with this reply: the places aside it moves so, and it sees the places so
 abbrev pub Takes : State → Step → Reply → State → Type 0
-Takes old step reply new = Moves old step reply (with_places new old.places old.seen old.ahead old.room) × Sees old step new
+Takes old step reply new =
+    Moves old step reply (with_places new old.places old.seen old.ahead old.room) × Sees old step new
 
 -- WHOLE RUNS
 

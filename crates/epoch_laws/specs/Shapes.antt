@@ -5,7 +5,8 @@ use Rattle.epoch_laws.specs.declared.shape.Shape.{Shape}
 
 -- a power of two up to 256
 abbrev pub is_align : ℕ → Bool
-is_align a = (a == 1) || (a == 2) || (a == 4) || (a == 8) || (a == 16) || (a == 32) || (a == 64) || (a == 128) || (a == 256)
+is_align a =
+    (a == 1) || (a == 2) || (a == 4) || (a == 8) || (a == 16) || (a == 32) || (a == 64) || (a == 128) || (a == 256)
 
 pub record IsValid (shape : Shape) : Type 0 where
   pub participants : (0 < shape.participants) × (shape.participants ≤ 64)

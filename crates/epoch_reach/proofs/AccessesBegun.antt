@@ -132,7 +132,8 @@ module _ (old new : State) (step : Step) (reply : Reply) (a : Access) where
         (λ is. inl (subst (IsAccess a) (sym now) (accessed b k did.told is)))
     goes (Ends last) now did = none _ _ (λ is. is) did.1 refl refl
 
-  begins : (p : ℕ) (c : Call) → step ≡ Begin p c → (f : Option Fault) → refusal c (seat_of old p) old.tickets old.heap ≡ f
+  begins : (p : ℕ) (c : Call)
+      → step ≡ Begin p c → (f : Option Fault) → refusal c (seat_of old p) old.tickets old.heap ≡ f
       → Begins old p c f reply new → Goal
   begins p c on (Some f) e did = same did.1
   begins p c on None e did =
@@ -152,7 +153,8 @@ module _ (old new : State) (step : Step) (reply : Reply) (a : Access) where
   end_goes (Emptying [] n) (inr did) = along _ did.2 refl refl
 
   pub access_begun : (s : Step) → step ≡ s → Moves old s reply new → Goal
-  access_begun Register on (inl did) = none did.0 did.2 (record (free_seat old.sizes) { word = Unpinned }) _ (λ is. is) did.6 refl refl
+  access_begun Register on (inl did) =
+      none did.0 did.2 (record (free_seat old.sizes) { word = Unpinned }) _ (λ is. is) did.6 refl refl
   access_begun Register on (inr (inl did)) = same did.3
   access_begun Register on (inr (inr did)) = same did.2
   access_begun (Begin p c) on did = begins p c on (refusal c (seat_of old p) old.tickets old.heap) refl did

@@ -33,13 +33,15 @@ value_told : (told : Accessed) → TakesValue told → (v : ℕ) × (told ≡ An
 value_told (Answers (Value v)) takes = (v, refl)
 value_told _ takes = absurd takes
 
-takes_told : (a : Access) (k v : ℕ) (told : Accessed) → progress_after a k told ≡ Ends (Done (Value v)) → TakesValue told
+takes_told : (a : Access) (k v : ℕ) (told : Accessed)
+    → progress_after a k told ≡ Ends (Done (Value v)) → TakesValue told
 takes_told a k v (Again found) e = absurd (cc)
 takes_told a k v NoSlot e = absurd (cc)
 takes_told a k v (Answers answer) e =
     let same : answer ≡ Value v = cc in subst (λ (other : Answer). TakesValue (Answers other)) (sym same) tt
 
-module _ (old new : State) (past : Past) (entry : Entry) (h : JobsHold old past) (go : JobsGo old new entry.step entry.reply)
+module _ (old new : State) (past : Past) (entry : Entry) (h : JobsHold old past)
+    (go : JobsGo old new entry.step entry.reply)
     (took : Takes old entry.step entry.reply new) where
   abbrev aside : State
   aside = with_places new old.places old.seen old.ahead old.room
@@ -66,7 +68,8 @@ module _ (old new : State) (past : Past) (entry : Entry) (h : JobsHold old past)
   taken who _ k found told on now after x emptied = absurd emptied
 
   -- what stood stands still, or is destroyed
-  pub stood : HeapGoes old aside entry.step entry.reply → (x : Name) → Stands old.heap x → Stands new.heap x ⊎ DestroysNow x
+  pub stood : HeapGoes old aside entry.step entry.reply
+      → (x : Name) → Stands old.heap x → Stands new.heap x ⊎ DestroysNow x
   stood (inl same) x stands = inl (subst (λ (heap : Heap). Stands heap x) (sym same) stands)
   stood (inr (inl calls)) x stands =
       let one : CallsOne old new calls.ticket calls.how = go.called calls.ticket calls.how calls.told in
@@ -88,14 +91,18 @@ module _ (old new : State) (past : Past) (entry : Entry) (h : JobsHold old past)
     })))
   ]
   stood (inr (inr (inr access))) x stands =
-      elim ((touch_changes access.call access.steps access.found old.heap access.makes.did access.makes.touches).kept x stands) [
+      elim
+      ((touch_changes access.call access.steps access.found old.heap access.makes.did access.makes.touches).kept x
+      stands) [
         | inl still ↦ inl (subst (λ (heap : Heap). Stands heap x) (sym access.makes.heap) still)
-        | inr emptied ↦ inr (inr (inl (taken access.who access.call access.steps access.found access.makes.did.told access.goes
+        | inr emptied ↦
+            inr (inr (inl (taken access.who access.call access.steps access.found access.makes.did.told access.goes
             access.progress access.makes.after x emptied)))
       ]
 
   -- nothing that was given comes back
-  came_back : HeapGoes old aside entry.step entry.reply → (x : Name) → IsGiven old.heap x → Stands new.heap x → Stands old.heap x
+  came_back : HeapGoes old aside entry.step entry.reply
+      → (x : Name) → IsGiven old.heap x → Stands new.heap x → Stands old.heap x
   came_back (inl same) x given stands = subst (λ (heap : Heap). Stands heap x) same stands
   came_back (inr (inl calls)) x given stands = (job_changes old.heap calls.removes).back x given
       (subst (λ (heap : Heap). Stands heap x) calls.heap stands)
@@ -125,18 +132,24 @@ module _ (old new : State) (past : Past) (entry : Entry) (h : JobsHold old past)
       call : Access
       call = Take takes.guard takes.pointer
 
-      by_access : (aside ≡ old) ⊎ MakesAccess old aside takes.who (Take takes.guard takes.pointer) takes.steps takes.found → Goes x
+      by_access : (aside ≡ old)
+          ⊎ MakesAccess old aside takes.who (Take takes.guard takes.pointer) takes.steps takes.found → Goes x
       by_access (inl same) = absurd (cc (takes.progress, takes.answer, same))
       by_access (inr makes) = gone_along _ x makes.heap
-          ((touch_changes (Take takes.guard takes.pointer) takes.steps takes.found old.heap makes.did makes.touches).gone x
-          (takes_told (Take takes.guard takes.pointer) takes.steps takes.value makes.did.told (sym makes.after ∙ takes.answer), takes.name))
+          ((touch_changes (Take takes.guard takes.pointer) takes.steps takes.found old.heap makes.did
+          makes.touches).gone x (
+            takes_told (Take takes.guard takes.pointer) takes.steps takes.value makes.did.told
+                (sym makes.after ∙ takes.answer),
+            takes.name,
+          ))
 
   now_gone : (x : Name) → RemovesNow old entry x → Goes x
   now_gone x removes = by_call (now_goes old aside entry.step entry.reply removes.who (Some x) removes.progress
       (subst (λ (s : Step). Moves old s entry.reply aside) removes.step took.0))
     where
       by_call : (entry.reply ≡ Refused NotRegistered)
-          ⊎ ((entry.reply ≡ CalledNow (outcome_of old.heap (Some x))) × (new.heap ≡ after_job old.heap (Some x))) → Goes x
+          ⊎ ((entry.reply ≡ CalledNow (outcome_of old.heap (Some x))) × (new.heap ≡ after_job old.heap (Some x)))
+          → Goes x
       by_call (inl refused) = absurd (cc (refused, removes.reply))
       by_call (inr calls) =
           let same : outcome_of old.heap (Some x) ≡ Destroyed = cc (calls.0, removes.reply) in
@@ -149,13 +162,16 @@ module _ (old new : State) (past : Past) (entry : Entry) (h : JobsHold old past)
 
   -- what a Place gives stands
   gives_stands : (x : Name) → GivesName old entry new x → Stands new.heap x
-  gives_stands x gives = by_access (access_goes old aside entry.step entry.reply gives.who (Place gives.value) gives.steps gives.found
+  gives_stands x gives =
+      by_access (access_goes old aside entry.step entry.reply gives.who (Place gives.value) gives.steps gives.found
       gives.progress (subst (λ (s : Step). Moves old s entry.reply aside) gives.step took.0))
     where
-      by_access : (aside ≡ old) ⊎ MakesAccess old aside gives.who (Place gives.value) gives.steps gives.found → Stands new.heap x
+      by_access : (aside ≡ old) ⊎ MakesAccess old aside gives.who (Place gives.value) gives.steps gives.found
+          → Stands new.heap x
       by_access (inl same) = absurd (cc (gives.progress, gives.answer, same))
       by_access (inr makes) = subst (λ (heap : Heap). Stands heap x) (sym makes.heap)
-          (place_stands gives.value gives.steps gives.found old.heap (slice_get old.heap.cells gives.steps) refl makes.did
+          (place_stands gives.value gives.steps gives.found old.heap (slice_get old.heap.cells gives.steps) refl
+          makes.did
           makes.touches x (sym makes.after ∙ gives.answer))
 
 -- WHAT HOLDS BETWEEN ANY TWO STEPS
@@ -167,7 +183,8 @@ record CellsHold (s : State) (past : Past) (given : Name → Type 0) : Type 0 wh
   gone : (x : Name) → past.destroyed x → ¬ (Stands s.heap x)
 
 module _ (old new : State) (past : Past) (given : Name → Type 0) (entry : Entry) (c : CellsHold old past given)
-    (h : JobsHold old past) (go : JobsGo old new entry.step entry.reply) (took : Takes old entry.step entry.reply new) where
+    (h : JobsHold old past) (go : JobsGo old new entry.step entry.reply)
+    (took : Takes old entry.step entry.reply new) where
   abbrev next : Past
   next = past_after past old entry new
 
@@ -175,7 +192,9 @@ module _ (old new : State) (past : Past) (given : Name → Type 0) (entry : Entr
   Later = given_after given old entry new
 
   goes : HeapGoes old (with_places new old.places old.seen old.ahead old.room) entry.step entry.reply
-  goes = heap_goes old (with_places new old.places old.seen old.ahead old.room) entry.step entry.reply entry.step refl took.0
+  goes =
+      heap_goes old (with_places new old.places old.seen old.ahead old.room) entry.step entry.reply entry.step refl
+      took.0
 
   given_later : (x : Name) → Later x → IsGiven new.heap x
   given_later x (inl was) = stays_given old new entry took x (c.are_given x was)
@@ -192,7 +211,8 @@ module _ (old new : State) (past : Past) (given : Name → Type 0) (entry : Entr
   ]
 
   gone_later : (x : Name) → next.destroyed x → ¬ (Stands new.heap x)
-  gone_later x (inl was) stands = c.gone x was (came_back old new past entry h go took goes x (c.were_given x was) stands)
+  gone_later x (inl was) stands =
+      c.gone x was (came_back old new past entry h go took goes x (c.were_given x was) stands)
   gone_later x (inr destroys) stands = (destroyed_gone old new past entry h go took x destroys).1 stands
 
   were_later : (x : Name) → next.destroyed x → IsGiven new.heap x
@@ -205,7 +225,8 @@ module _ (old new : State) (past : Past) (given : Name → Type 0) (entry : Entr
 
 -- WHOLE RUNS
 
-runs_stand : (old new : State) (log : List Entry) (past : Past) (given : Name → Type 0) → AllLinked old → JobsHold old past
+runs_stand : (old new : State) (log : List Entry) (past : Past) (given : Name → Type 0)
+    → AllLinked old → JobsHold old past
     → CellsHold old past given → (run : Runs old log new)
     → StandsOrDestroyed (given_from given old log new run) (past_from past old log new run) new.heap
 runs_stand old new [] past given linked h c run = record {
@@ -223,9 +244,10 @@ runs_stand old new (entry ∷ log) past given linked h c (mid, took, run) =
 
 pub cells_stand : (s new : State) (log : List Entry) → IsFresh s → (run : Runs s log new)
     → StandsOrDestroyed (given_of s log new run) (past_of s log new run) new.heap
-cells_stand s new log fresh run = runs_stand s new log no_past (λ x. ⊥) (fresh_linked s fresh) (fresh_jobs s fresh) (record {
-  are_given = λ x none. absurd none;
-  stands = λ x none. absurd none;
-  were_given = λ x none. absurd none;
-  gone = λ x none. absurd none;
-}) run
+cells_stand s new log fresh run =
+    runs_stand s new log no_past (λ x. ⊥) (fresh_linked s fresh) (fresh_jobs s fresh) (record {
+      are_given = λ x none. absurd none;
+      stands = λ x none. absurd none;
+      were_given = λ x none. absurd none;
+      gone = λ x none. absurd none;
+    }) run

@@ -67,14 +67,16 @@ both true b h = (refl, h)
 both false b h = absurd (cc)
 
 has_turn : (cell : Cell) (turn : ℕ) → has cell turn ≡ true → (cell.turn ≡ turn) × (is_some cell.value ≡ true)
-has_turn cell turn h = let parts = both (cell.turn == turn) (is_some cell.value) h in (test_true cell.turn turn parts.0, parts.1)
+has_turn cell turn h =
+    let parts = both (cell.turn == turn) (is_some cell.value) h in (test_true cell.turn turn parts.0, parts.1)
   where
     test_true : (a b : ℕ) → (a == b) ≡ true → a ≡ b
     test_true a b h = grind (arith, nat_tests)
 
 -- by what the cell says of each turn before and after
 written : (h : Heap) (n : Name) (after : Cell) (empties : Name → Type 0)
-    → ((x : Name) → x.slot - 1 ≡ n.slot - 1 → GivenAt x.turn (slice_get h.cells (n.slot - 1)) → StandsAt x.turn (Some after)
+    → ((x : Name) → x.slot - 1 ≡ n.slot - 1 → GivenAt x.turn (slice_get h.cells (n.slot - 1))
+    → StandsAt x.turn (Some after)
     → StandsAt x.turn (slice_get h.cells (n.slot - 1)))
     → ((x : Name) → x.slot - 1 ≡ n.slot - 1 → StandsAt x.turn (slice_get h.cells (n.slot - 1))
     → StandsAt x.turn (Some after) ⊎ empties x)
@@ -86,7 +88,8 @@ written h n after empties back kept gone risen = record {
   back = λ x given stands. elim (set_or_kept h.cells (n.slot - 1) after (x.slot - 1)) [
     | inl same ↦ subst (StandsAt x.turn) same stands
     | inr new ↦ subst (λ (k : ℕ). StandsAt x.turn (slice_get h.cells k)) (sym new.0)
-        (back x new.0 (subst (λ (k : ℕ). GivenAt x.turn (slice_get h.cells k)) new.0 given) (subst (StandsAt x.turn) new.1 stands))
+        (back x new.0 (subst (λ (k : ℕ). GivenAt x.turn (slice_get h.cells k)) new.0 given)
+        (subst (StandsAt x.turn) new.1 stands))
   ];
   kept = λ x stands. elim (set_or_kept h.cells (n.slot - 1) after (x.slot - 1)) [
     | inl same ↦ inl (subst (StandsAt x.turn) (sym same) stands)
@@ -125,7 +128,8 @@ cells_kept h n cell after e turn full = written h n after none_emptied
     there = (found_cell n.turn (slice_get h.cells (n.slot - 1)) cell e).0
 
     earlier : (t : ℕ) → t < next_turn after → t < next_turn cell
-    earlier t lt = omega (arith, lt, same_next after.turn after.value cell.value full, ap (λ (u : ℕ). next_at u cell.value) turn)
+    earlier t lt =
+        omega (arith, lt, same_next after.turn after.value cell.value full, ap (λ (u : ℕ). next_at u cell.value) turn)
 
     same : (t : ℕ) → is_some (if_has t (Some after)) ≡ is_some (if_has t (Some cell))
     same t = stands_has t after ∙ ap (λ (u : ℕ). (u == t) && is_some after.value) turn
@@ -143,8 +147,10 @@ cells_emptied : (h : Heap) (n : Name) (cell : Cell) → cell_at h n ≡ Some cel
     → ChangesCells h (with_cell_at h n (empty (n.turn + 1))) (λ x. x ≡ n)
 cells_emptied h n cell e = written h n (empty (n.turn + 1)) (λ x. x ≡ n)
     (λ x at given stands. absurd (none_stands (n.turn + 1) x.turn stands))
-    (λ x at stands. inr (one x at (has_turn cell x.turn (sym (stands_has x.turn cell) ∙ subst (StandsAt x.turn) found.0 stands))))
-    (λ x same. (stood x same, λ stands. none_stands (n.turn + 1) x.turn (subst (StandsAt x.turn) (at_own x same) stands)))
+    (λ x at stands. inr
+    (one x at (has_turn cell x.turn (sym (stands_has x.turn cell) ∙ subst (StandsAt x.turn) found.0 stands))))
+    (λ x same.
+    (stood x same, λ stands. none_stands (n.turn + 1) x.turn (subst (StandsAt x.turn) (at_own x same) stands)))
     (λ x at given. inl (subst (GivenAt x.turn) (sym found.0) (earlier x.turn given)))
   where
     found : (slice_get h.cells (n.slot - 1) ≡ Some cell) × (cell.turn ≡ n.turn)
@@ -159,12 +165,14 @@ cells_emptied h n cell e = written h n (empty (n.turn + 1)) (λ x. x ≡ n)
     stood : (x : Name) → x ≡ n → Stands h x
     stood x same = subst (Stands h) (sym same) (ap (λ (there : Option Cell). is_some there) e)
 
-    at_own : (x : Name) → x ≡ n → slice_get (slice_set h.cells (n.slot - 1) (empty (n.turn + 1))) (x.slot - 1) ≡ Some (empty (n.turn + 1))
+    at_own : (x : Name) → x ≡ n
+        → slice_get (slice_set h.cells (n.slot - 1) (empty (n.turn + 1))) (x.slot - 1) ≡ Some (empty (n.turn + 1))
     at_own x same = ap (λ (m : Name). slice_get (slice_set h.cells (n.slot - 1) (empty (n.turn + 1))) (m.slot - 1)) same
         ∙ get_set_same h.cells (n.slot - 1) (empty (n.turn + 1)) (slice_get_within h.cells (n.slot - 1) cell found.0)
 
 -- a free cell takes a value
-cells_filled : (h : Heap) (n : Name) (cell after : Cell) → slice_get h.cells (n.slot - 1) ≡ Some cell → cell.value ≡ None
+cells_filled : (h : Heap) (n : Name) (cell after : Cell)
+    → slice_get h.cells (n.slot - 1) ≡ Some cell → cell.value ≡ None
     → next_turn cell ≡ n.turn → after.turn ≡ n.turn
     → is_some after.value ≡ true → ChangesCells h (with_cell_at h n after) none_emptied
 cells_filled h n cell after there none first turn full = written h n after none_emptied
@@ -198,7 +206,8 @@ cells_filled h n cell after there none first turn full = written h n after none_
         two a b lt = grind arith
 
     has_at : (t : ℕ) → t ≡ n.turn → has after t ≡ true
-    has_at t same = let at_turn : after.turn ≡ t = turn ∙ sym same in tested after.turn t (is_some after.value) at_turn full
+    has_at t same =
+        let at_turn : after.turn ≡ t = turn ∙ sym same in tested after.turn t (is_some after.value) at_turn full
       where
         tested : (a b : ℕ) (v : Bool) → a ≡ b → v ≡ true → ((a == b) && v) ≡ true
         tested a b true e f = grind (arith, nat_tests)
@@ -227,7 +236,8 @@ abbrev pub RemovesCell : Heap → Option Name → Name → Type 0
 RemovesCell h removes x = (removes ≡ Some x) × (outcome_of h removes ≡ Destroyed)
 
 removes_cell : (h : Heap) (n : Name) (cell : Option Cell) → cell_at h n ≡ cell
-    → ChangesCells h (without_cell h n (removal_of cell)) (λ x. (Some n ≡ Some x) × (called_by (removal_of cell) ≡ Destroyed))
+    → ChangesCells h (without_cell h n (removal_of cell))
+    (λ x. (Some n ≡ Some x) × (called_by (removal_of cell) ≡ Destroyed))
 removes_cell h n None e = empties_none h h _ (cells_same h h refl) (λ x emptied. cc (emptied.1))
 removes_cell h n (Some cell) e = at_test (cell.readers == 0)
   where
@@ -348,7 +358,8 @@ module _ (h : Heap) (spot : Spot) (did : Touched) where
   changed (FetchUpdate tries by) (suc k) found ptr (inl e) = replaces _ _ e.1
   changed (FetchUpdate tries by) (suc k) found ptr (inr e) = stays _ e.1
 
-  changed_at : (change : Change) (k : ℕ) (found : Ptr) (ptr : Option Ptr) → ChangesAt change k found spot h ptr did → Goal
+  changed_at : (change : Change) (k : ℕ) (found : Ptr) (ptr : Option Ptr)
+      → ChangesAt change k found spot h ptr did → Goal
   changed_at change k found None e = stays _ e
   changed_at change k found (Some ptr) e = changed change k found ptr e
 
@@ -369,7 +380,8 @@ touch_changes (Point g spot change) k found h did e = changed_at h spot did chan
 
 -- WHAT A PLACE GIVES
 
-stands_new : (h : Heap) (n : Name) (cell after : Cell) → slice_get h.cells (n.slot - 1) ≡ Some cell → has after n.turn ≡ true
+stands_new : (h : Heap) (n : Name) (cell after : Cell)
+    → slice_get h.cells (n.slot - 1) ≡ Some cell → has after n.turn ≡ true
     → Stands (with_cell_at h n after) n
 stands_new h n cell after there full = subst (StandsAt n.turn)
     (sym (get_set_same h.cells (n.slot - 1) after (slice_get_within h.cells (n.slot - 1) cell there)))
@@ -381,7 +393,8 @@ has_own n content = itself n.turn
     itself : (t : ℕ) → ((t == t) && true) ≡ true
     itself t = grind (arith, nat_tests)
 
-pub place_stands : (v k : ℕ) (found : Ptr) (h : Heap) (cell : Option Cell) → slice_get h.cells k ≡ cell → (did : Touched)
+pub place_stands : (v k : ℕ) (found : Ptr) (h : Heap) (cell : Option Cell)
+    → slice_get h.cells k ≡ cell → (did : Touched)
     → Places v k found h cell did → (n : Name) → progress_after (Place v) k did.told ≡ Ends (Done (NameAnswer n))
     → Stands did.heap n
 place_stands v k found h None e did is n answer = absurd (cc (is, answer))

@@ -18,7 +18,8 @@ frees_collected a Release (job ∷ jobs) = tt
 frees_collected a _ jobs = tt
 
 pub frees_pinned : (a : Action) (m : Machine Deferral) → FreesAt a (after_pin m)
-frees_pinned a m = frees_by a (m.pins == 1) LoadScan (after_collect m.action m.held) tt (frees_collected a m.action m.held)
+frees_pinned a m =
+    frees_by a (m.pins == 1) LoadScan (after_collect m.action m.held) tt (frees_collected a m.action m.held)
 
 pub frees_put : (a b : Action) (full : Bool) → FreesAt a (after_put b full)
 frees_put a Flush full = tt
@@ -32,14 +33,16 @@ frees_unpinned Release false = refl
 frees_unpinned Release true = tt
 frees_unpinned _ full = tt
 
-pub frees_called : (a : Action) (m : Machine Deferral) (x k : ℕ) (jobs : List Deferral) → FreesAt a (after_job m x k jobs)
+pub frees_called : (a : Action) (m : Machine Deferral) (x k : ℕ) (jobs : List Deferral)
+    → FreesAt a (after_job m x k jobs)
 frees_called a m x k (job ∷ jobs) = tt
 frees_called a m x k [] = frees_by a (k + 1 == m.sizes.collect_bags) (after_collect m.action m.held) (Take x (k + 1))
     (frees_collected a m.action m.held) tt
 
 pub frees_past : (a : Action) (positions e k w : ℕ) → FreesAt a (past_word positions e k w)
 frees_past a positions e k w = frees_by a (holds_up e w) (Take e 0) _ tt
-    (frees_by a (k + 1 == positions) (scanned e) (Scan e (k + 1)) (frees_by a (e == 2 ^ 63 - 1) (Take e 0) (Advance e) tt tt) tt)
+    (frees_by a (k + 1 == positions) (scanned e) (Scan e (k + 1))
+    (frees_by a (e == 2 ^ 63 - 1) (Take e 0) (Advance e) tt tt) tt)
 
 pub frees_first : (a : Action) (m : Machine Deferral) → FreesAt a (first_stage a m)
 frees_first Pin m = frees_by Pin (m.guards == 0) LoadPin End tt tt

@@ -92,7 +92,8 @@ module _ (seat : Seat) (g : ℕ) (out : is_out g seat.guards ≡ true) where
   pub ends_guarded : (sizes : Sizes) (c : Call) → IsLinked sizes seat → IsDriven c seat.machine seat.guards
       → ¬ (GivesUp g (Driven c)) → ends_unguarded seat.machine ≡ false
   ends_guarded sizes c linked driven kept = some_counted g (ended_seat c seat).guards _
-      (ap (λ (m : Machine Deferral). m.guards) (sym (machine_ended seat c)) ∙ (ended_linked sizes seat linked c driven).counted)
+      (ap (λ (m : Machine Deferral). m.guards) (sym (machine_ended seat c))
+      ∙ (ended_linked sizes seat linked c driven).counted)
       (out_ended c kept)
 
 pub word_ended : (seat : Seat) (c : Call) → (ended_seat c seat).word ≡ seat.word
@@ -191,7 +192,8 @@ module _ (seat : Seat) (tickets : ℕ) (heap : Heap) where
       → GuardsAccess (if b then Accesses a 0 null else Ends (Done Absent)) seat.guards
   access_guarded a false ok = tt
   access_guarded a true ok = λ g guard. guard_given (is_out g seat.guards) _ _
-      (subst (λ (under : Option ℕ). under_guard under seat.guards (access_refusal a seat.readings heap) ≡ None) guard ok)
+      (subst (λ (under : Option ℕ). under_guard under seat.guards (access_refusal a seat.readings heap) ≡ None) guard
+      ok)
 
   pub guarded_begun : (c : Call) → call_refusal c seat tickets heap ≡ None → Guarded (begun_seat c seat)
   guarded_begun Pin ok = tt

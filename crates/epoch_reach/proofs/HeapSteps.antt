@@ -68,7 +68,8 @@ module _ (old new : State) (step : Step) (reply : Reply) where
   along : (last : State) → new ≡ last → last.heap ≡ old.heap → Goal
   along last e is = inl (ap (λ (s : State). s.heap) e ∙ is)
 
-  calls : (ticket : ℕ) (how : Called) (removes : Option Name) (last : State) → reply ≡ CalledReply ticket how → new ≡ last
+  calls : (ticket : ℕ) (how : Called) (removes : Option Name) (last : State)
+      → reply ≡ CalledReply ticket how → new ≡ last
       → last.heap ≡ after_job old.heap removes → Goal
   calls ticket how removes last told e is = inr (inl (record {
     ticket = ticket;
@@ -164,7 +165,8 @@ module _ (old new : State) (step : Step) (reply : Reply) where
       (subst (λ (progress : Progress). Goes old p (seat_of old p) progress reply new) now did.1))
 
   -- where p has a job to call at once, its Go is refused, or calls it
-  pub now_goes : (p : ℕ) (removes : Option Name) → (seat_of old p).progress ≡ CallsNow removes → Moves old (Go p) reply new
+  pub now_goes : (p : ℕ) (removes : Option Name)
+      → (seat_of old p).progress ≡ CallsNow removes → Moves old (Go p) reply new
       → (reply ≡ Refused NotRegistered)
       ⊎ ((reply ≡ CalledNow (outcome_of old.heap removes)) × (new.heap ≡ after_job old.heap removes))
   now_goes p removes now (inl did) = inl did.1

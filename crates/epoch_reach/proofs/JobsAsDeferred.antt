@@ -45,7 +45,8 @@ in_append job (x ∷ xs) ys (inr at) = elim (in_append job xs ys at) [ inl one �
 bags_append : (job : Deferral) (xs ys : List Bag) → IsInBags job (xs ++ ys) → IsInBags job xs ⊎ IsInBags job ys
 bags_append job [] ys at = inr at
 bags_append job (x ∷ xs) ys (inl is) = inl (inl is)
-bags_append job (x ∷ xs) ys (inr at) = elim (bags_append job xs ys at) [ inl one ↦ inl (inr one) | inr other ↦ inr other ]
+bags_append job (x ∷ xs) ys (inr at) =
+    elim (bags_append job xs ys at) [ inl one ↦ inl (inr one) | inr other ↦ inr other ]
 
 bags_front : (job : Deferral) (xs ys : List Bag) → IsInBags job xs → IsInBags job (xs ++ ys)
 bags_front job [] ys at = absurd at
@@ -68,11 +69,13 @@ in_put job bag old new put at =
       ]
     ]
 
-in_bag : (job : Deferral) (bag : Bag) (old new : List Bag) → IsInserted bag old new → IsIn job bag.jobs → IsInBags job new
+in_bag : (job : Deferral) (bag : Bag) (old new : List Bag)
+    → IsInserted bag old new → IsIn job bag.jobs → IsInBags job new
 in_bag job bag old new put at =
     subst (IsInBags job) (sym put.with) (bags_back job put.front (bag ∷ put.back) (inl at))
 
-in_others : (job : Deferral) (bag : Bag) (old new : List Bag) → IsInserted bag old new → IsInBags job old → IsInBags job new
+in_others : (job : Deferral) (bag : Bag) (old new : List Bag)
+    → IsInserted bag old new → IsInBags job old → IsInBags job new
 in_others job bag old new put at =
     elim (bags_append job put.front put.back (subst (IsInBags job) put.without at)) [
       | inl front ↦ subst (IsInBags job) (sym put.with) (bags_front job put.front (bag ∷ put.back) front)
@@ -86,7 +89,8 @@ pub record TellsNoJob (r : Reply) : Type 0 where
   pub deferred : (t : ℕ) → r ≢ Deferred t
   pub called : (t : ℕ) (how : Called) → r ≢ CalledReply t how
 
-no_job : (r told : Reply) → r ≡ told → ((t : ℕ) → told ≢ Deferred t) → ((t : ℕ) (how : Called) → told ≢ CalledReply t how)
+no_job : (r told : Reply)
+    → r ≡ told → ((t : ℕ) → told ≢ Deferred t) → ((t : ℕ) (how : Called) → told ≢ CalledReply t how)
     → TellsNoJob r
 no_job r told e a b = record { deferred = λ t h. a t (sym e ∙ h); called = λ t how h. b t how (sym e ∙ h) }
 
@@ -149,7 +153,9 @@ module _ (old new : State) (step : Step) (reply : Reply) where
   jobs_after p after last there sizes seats ending own queued job (inr (inr at)) =
       inl (inr (inr (subst (IsAtEnd job) ending at)))
   jobs_after p after last there sizes seats ending own queued job (inl (q, at)) = elim (same_or_other q p) [
-    | inl is ↦ own job (subst InSeat (looked_up q ∙ ap (seat_of (with_seat old p after)) is ∙ seat_written old p after there) at)
+    | inl is ↦
+        own job
+        (subst InSeat (looked_up q ∙ ap (seat_of (with_seat old p after)) is ∙ seat_written old p after there) at)
     | inr ne ↦ inl (inl (q, subst InSeat (looked_up q ∙ seat_other old p q after ne) at))
   ]
     where
@@ -193,12 +199,13 @@ module _ (old new : State) (step : Step) (reply : Reply) (p : ℕ) (on : step �
   goes : (after : Seat) (last : State) → TellsNoJob reply → new ≡ last → last.sizes ≡ old.sizes
       → last.seats ≡ slice_set old.seats p after → last.ending ≡ old.ending → last.tickets ≡ old.tickets
       → OwnJobs after → Queued last.queued → Shown
-  goes after last none e sizes seats ending tickets own queued = subst (λ (s : State). JobsGo old s step reply) (sym e) (record {
-    jobs = jobs_after old old step reply p after last (seat_there old p taken) sizes seats ending own queued;
-    tickets = omega (arith, tickets);
-    deferred = λ t told. absurd (none.deferred t told);
-    called = λ t how told. absurd (none.called t how told);
-  })
+  goes after last none e sizes seats ending tickets own queued =
+      subst (λ (s : State). JobsGo old s step reply) (sym e) (record {
+        jobs = jobs_after old old step reply p after last (seat_there old p taken) sizes seats ending own queued;
+        tickets = omega (arith, tickets);
+        deferred = λ t told. absurd (none.deferred t told);
+        called = λ t how told. absurd (none.called t how told);
+      })
 
   -- p's jobs and the store stay
   keeps : (after : Seat) (last : State) → TellsNoJob reply → after.machine.held ≡ m.held → after.machine.hand ≡ m.hand
@@ -211,13 +218,17 @@ module _ (old new : State) (step : Step) (reply : Reply) (p : ℕ) (on : step �
       → new ≡ last → last.sizes ≡ old.sizes → last.seats ≡ slice_set old.seats p (with_machine seat n)
       → last.ending ≡ old.ending → last.tickets ≡ old.tickets → last.queued ≡ old.queued → Shown
   steps n last told held hand e sizes seats ending tickets queued =
-      keeps (with_machine seat n) last (quiet_job reply (quiet_stepped reply told)) held hand e sizes seats ending tickets queued
+      keeps (with_machine seat n) last (quiet_job reply (quiet_stepped reply told)) held hand e sizes seats ending
+      tickets queued
 
   took : (y k : ℕ) (step : TakeStep) (jobs : List Deferral) (bags : List Bag) → TakesHand y old.queued step bags jobs
       → OwnJobs (with_machine seat (took_heard m (Take y k) step jobs)) × Queued bags
-  took y k TakeAgain jobs bags same = (own_same (with_machine seat (took_heard m (Take y k) TakeAgain jobs)) refl refl, queued_same bags same)
-  took y k Empty jobs bags same = (own_same (with_machine seat (took_heard m (Take y k) Empty jobs)) refl refl, queued_same bags same)
-  took y k Got jobs bags (bag, all, expired, out) = (own, λ job at. inl (inr (inl (in_others job bag bags old.queued out at))))
+  took y k TakeAgain jobs bags same =
+      (own_same (with_machine seat (took_heard m (Take y k) TakeAgain jobs)) refl refl, queued_same bags same)
+  took y k Empty jobs bags same =
+      (own_same (with_machine seat (took_heard m (Take y k) Empty jobs)) refl refl, queued_same bags same)
+  took y k Got jobs bags (bag, all, expired, out) =
+      (own, λ job at. inl (inr (inl (in_others job bag bags old.queued out at))))
     where
       own : OwnJobs (with_machine seat (took_heard m (Take y k) Got jobs))
       own job (inl at) = inl (inl (p, inl at))
@@ -241,10 +252,16 @@ module _ (old new : State) (step : Step) (reply : Reply) (p : ℕ) (on : step �
 
   -- the job of the ticket that is given now is kept
   keeps_job : reply ≡ Deferred old.tickets
-      → new ≡ record (with_seat old p (with_machine seat (hears m Keep (Job (record { ticket = old.tickets; removes = removed_by seat.progress }))))) { tickets = old.tickets + 1 }
+      → new ≡ record
+      (with_seat old p
+      (with_machine seat
+      (hears m Keep (Job (record { ticket = old.tickets; removes = removed_by seat.progress })))))
+      { tickets = old.tickets + 1 }
       → Shown
   keeps_job told e = subst (λ (s : State). JobsGo old s step reply) (sym e) (record {
-    jobs = jobs_after old old step reply p after (record (with_seat old p after) { tickets = old.tickets + 1 }) (seat_there old p taken) refl refl refl own (queued_same old.queued refl);
+    jobs =
+        jobs_after old old step reply p after (record (with_seat old p after) { tickets = old.tickets + 1 })
+        (seat_there old p taken) refl refl refl own (queued_same old.queued refl);
     tickets = omega arith;
     deferred = λ t is. let same : t ≡ old.tickets = cc (told, is) in (same, omega (arith, same));
     called = λ t how is. absurd (cc (told, is));
@@ -279,7 +296,8 @@ module _ (old new : State) (step : Step) (reply : Reply) (p : ℕ) (on : step �
       → new ≡ record (with_seat old p (with_machine seat n)) { heap = after_job old.heap job.removes } → Shown
   calls n job jobs hand held left told e = subst (λ (s : State). JobsGo old s step reply) (sym e) (record {
     jobs = jobs_after old old step reply p (with_machine seat n)
-        (record (with_seat old p (with_machine seat n)) { heap = after_job old.heap job.removes }) (seat_there old p taken) refl refl refl own (queued_same old.queued refl);
+        (record (with_seat old p (with_machine seat n)) { heap = after_job old.heap job.removes })
+        (seat_there old p taken) refl refl refl own (queued_same old.queued refl);
     tickets = omega arith;
     deferred = λ t is. absurd (cc (told, is));
     called = λ t how is. record {
@@ -297,10 +315,12 @@ module _ (old new : State) (step : Step) (reply : Reply) (p : ℕ) (on : step �
 
   drives : (c : Call) (s : Stage) → Drives old p seat c s (ask_at s) reply new → Shown
   drives c Resting did = keeps (ended_seat c seat) _ (quiet_job reply (quiet_end reply c seat did.0))
-      (ap (λ (n : Machine Deferral). n.held) (machine_ended seat c)) (ap (λ (n : Machine Deferral). n.hand) (machine_ended seat c))
+      (ap (λ (n : Machine Deferral). n.held) (machine_ended seat c))
+      (ap (λ (n : Machine Deferral). n.hand) (machine_ended seat c))
       did.1 refl refl refl refl refl
   drives c LoadPin did = steps _ _ did.0 refl refl did.1 refl refl refl refl refl
-  drives c (StorePin e) did = keeps _ _ (no_job reply _ did.0 (λ t h. cc) (λ t how h. cc)) refl refl did.1 refl refl refl refl refl
+  drives c (StorePin e) did =
+      keeps _ _ (no_job reply _ did.0 (λ t h. cc) (λ t how h. cc)) refl refl did.1 refl refl refl refl refl
   drives c ReloadPin did = steps _ _ did.0 refl refl did.1 refl refl refl refl refl
   drives c LoadScan did = steps _ _ did.0 refl refl did.1 refl refl refl refl refl
   drives c (Scan e k) did = steps _ _ did.0 refl refl did.1 refl refl refl refl refl
@@ -313,17 +333,21 @@ module _ (old new : State) (step : Step) (reply : Reply) (p : ℕ) (on : step �
       goes _ _ (quiet_job reply (quiet_stepped reply told)) e refl refl refl refl jobs_there.0 jobs_there.1
   drives c Keep did = keeps_job did.0 did.1
   drives c LoadRepin did = steps _ _ did.0 refl refl did.1 refl refl refl refl refl
-  drives c (StoreRepin e) did = keeps _ _ (no_job reply _ did.0 (λ t h. cc) (λ t how h. cc)) refl refl did.1 refl refl refl refl refl
+  drives c (StoreRepin e) did =
+      keeps _ _ (no_job reply _ did.0 (λ t h. cc) (λ t how h. cc)) refl refl did.1 refl refl refl refl refl
   drives c ReloadRepin did = steps _ _ did.0 refl refl did.1 refl refl refl refl refl
-  drives c StoreUnpinned did = keeps _ _ (no_job reply _ did.0 (λ t h. cc) (λ t how h. cc)) refl refl did.1 refl refl refl refl refl
-  drives c StoreFree did = goes (free_seat old.sizes) _ (quiet_job reply (quiet_done reply _ did.0)) did.1 refl refl refl refl
+  drives c StoreUnpinned did =
+      keeps _ _ (no_job reply _ did.0 (λ t h. cc) (λ t how h. cc)) refl refl did.1 refl refl refl refl refl
+  drives c StoreFree did =
+      goes (free_seat old.sizes) _ (quiet_job reply (quiet_done reply _ did.0)) did.1 refl refl refl refl
       none_left (queued_same old.queued refl)
     where
       none_left : OwnJobs (free_seat old.sizes)
       none_left job (inl at) = absurd at
       none_left job (inr at) = absurd at
   drives c End did = keeps (ended_seat c seat) _ (quiet_job reply (quiet_end reply c seat did.0))
-      (ap (λ (n : Machine Deferral). n.held) (machine_ended seat c)) (ap (λ (n : Machine Deferral). n.hand) (machine_ended seat c))
+      (ap (λ (n : Machine Deferral). n.held) (machine_ended seat c))
+      (ap (λ (n : Machine Deferral). n.hand) (machine_ended seat c))
       did.1 refl refl refl refl refl
 
   pub goes_by : (progress : Progress) → seat.progress ≡ progress → Goes old p seat progress reply new → Shown
@@ -349,8 +373,11 @@ module _ (old new : State) (step : Step) (reply : Reply) (linked : AllLinked old
   begins p c None e did =
       let given = begin_given c (seat_of old p) old.tickets old.heap e in
       subst (λ (s : State). JobsGo old s step reply) (sym did.1)
-      (quietly old (with_seat old p (begun_seat c (seat_of old p))) step reply (quiet_job reply (quiet_began reply did.0)) (omega arith)
-      (λ job at. at_old job (jobs_after old old step reply p (begun_seat c (seat_of old p)) (with_seat old p (begun_seat c (seat_of old p)))
+      (quietly old (with_seat old p (begun_seat c (seat_of old p))) step reply
+      (quiet_job reply (quiet_began reply did.0)) (omega arith)
+      (λ job at. at_old job
+      (jobs_after old old step reply p (begun_seat c (seat_of old p))
+      (with_seat old p (begun_seat c (seat_of old p)))
       (seat_there old p given.taken) refl refl refl own (λ other at. inl (inr (inl at))) job at)))
     where
       not_now : (job : Deferral) → ¬ (IsNewJob old step reply job)
@@ -360,14 +387,16 @@ module _ (old new : State) (step : Step) (reply : Reply) (linked : AllLinked old
       at_old job (inl was) = was
       at_old job (inr h) = absurd (not_now job h)
 
-      own : (job : Deferral) → IsIn job (begun_seat c (seat_of old p)).machine.held ⊎ IsIn job (begun_seat c (seat_of old p)).machine.hand
+      own : (job : Deferral)
+          → IsIn job (begun_seat c (seat_of old p)).machine.held ⊎ IsIn job (begun_seat c (seat_of old p)).machine.hand
           → IsInBag old job ⊎ IsNewJob old step reply job
       own job (inl at) = inl (inl (p, inl (subst (IsIn job) (held_begun (seat_of old p) c) at)))
       own job (inr at) = inl (inl (p, inr (subst (IsIn job) (hand_begun (seat_of old p) c) at)))
 
   -- a step of the end, at which this is left in the store and in hand
   closes : (last : State) → TellsNoJob reply → new ≡ last → last.tickets ≡ old.tickets → last.sizes ≡ old.sizes
-      → last.seats ≡ old.seats → ((job : Deferral) → IsInBags job last.queued ⊎ IsAtEnd job last.ending → IsInBag old job) → Result
+      → last.seats ≡ old.seats
+      → ((job : Deferral) → IsInBags job last.queued ⊎ IsAtEnd job last.ending → IsInBag old job) → Result
   closes last none e tickets sizes seats rest = subst (λ (s : State). JobsGo old s step reply) (sym e)
       (quietly old last step reply none (omega (arith, tickets)) there)
     where
@@ -376,7 +405,8 @@ module _ (old new : State) (step : Step) (reply : Reply) (linked : AllLinked old
           ∙ ap (λ (z : Sizes). slice_index_or old.seats q (free_seat z)) sizes
 
       there : (job : Deferral) → IsInBag last job → IsInBag old job
-      there job (inl (q, is)) = inl (q, subst (λ (seat : Seat). IsIn job seat.machine.held ⊎ IsIn job seat.machine.hand) (at q) is)
+      there job (inl (q, is)) =
+          inl (q, subst (λ (seat : Seat). IsIn job seat.machine.held ⊎ IsIn job seat.machine.hand) (at q) is)
       there job (inr is) = rest job is
 
   end_goes : (e : Ending) → old.ending ≡ e → EndGoes old e reply new → Result
@@ -388,7 +418,8 @@ module _ (old new : State) (step : Step) (reply : Reply) (linked : AllLinked old
       rest : (job : Deferral) → IsInBags job queued ⊎ IsIn job bag.jobs → IsInBag old job
       rest job (inl is) = inr (inl (in_others job bag queued old.queued out is))
       rest job (inr is) = inr (inl (in_bag job bag queued old.queued out is))
-  end_goes (Emptying [] n) at (inr (none, told, did)) = closes _ (quiet_job reply (quiet_done reply _ told)) did refl refl refl rest
+  end_goes (Emptying [] n) at (inr (none, told, did)) =
+      closes _ (quiet_job reply (quiet_done reply _ told)) did refl refl refl rest
     where
       rest : (job : Deferral) → IsInBags job old.queued ⊎ ⊥ → IsInBag old job
       rest job (inl is) = inr (inl is)
@@ -406,16 +437,20 @@ module _ (old new : State) (step : Step) (reply : Reply) (linked : AllLinked old
     };
   })
     where
-      there : (other : Deferral) → IsInBag (record old { ending = Emptying jobs (n + 1); heap = after_job old.heap job.removes }) other
+      there : (other : Deferral)
+          → IsInBag (record old { ending = Emptying jobs (n + 1); heap = after_job old.heap job.removes }) other
           → IsInBag old other
       there other (inl is) = inl is
       there other (inr (inl is)) = inr (inl is)
       there other (inr (inr is)) = inr (inr (subst (IsAtEnd other) (sym at) (inr is)))
 
   pub jobs_go : (s : Step) → step ≡ s → Moves old s reply new → Result
-  jobs_go Register on (inl (p, opened, there, free, lowest, told, did)) = subst (λ (s : State). JobsGo old s step reply) (sym did)
-      (quietly old (with_seat old p registered) step reply (no_job reply _ told (λ t h. cc) (λ t how h. cc)) (omega arith)
-      (λ job is. at_old job (jobs_after old old step reply p registered (with_seat old p registered) there refl refl refl
+  jobs_go Register on (inl (p, opened, there, free, lowest, told, did)) =
+      subst (λ (s : State). JobsGo old s step reply) (sym did)
+      (quietly old (with_seat old p registered) step reply (no_job reply _ told (λ t h. cc) (λ t how h. cc))
+      (omega arith)
+      (λ job is. at_old job
+      (jobs_after old old step reply p registered (with_seat old p registered) there refl refl refl
       none_left (λ other at. inl (inr (inl at))) job is)))
     where
       registered : Seat
@@ -459,7 +494,8 @@ pub record JobsHold (s : State) (past : Past) : Type 1 where
   pub jobs : (job : Deferral) → IsInBag s job → (job.ticket < s.tickets) × IsAsDeferred past job
   pub given : (t : ℕ) (x : Name) → past.removes t x → t < s.tickets
 
-module _ (old new : State) (past : Past) (entry : Entry) (h : JobsHold old past) (go : JobsGo old new entry.step entry.reply) where
+module _ (old new : State) (past : Past) (entry : Entry) (h : JobsHold old past)
+    (go : JobsGo old new entry.step entry.reply) where
   abbrev next : Past
   next = past_after past old entry new
 
@@ -478,14 +514,16 @@ module _ (old new : State) (past : Past) (entry : Entry) (h : JobsHold old past)
     },
   )
 
-  new_job : (job : Deferral) → IsNewJob old entry.step entry.reply job → (job.ticket < new.tickets) × IsAsDeferred next job
+  new_job : (job : Deferral)
+      → IsNewJob old entry.step entry.reply job → (job.ticket < new.tickets) × IsAsDeferred next job
   new_job job fresh = (
     omega (arith, fresh.ticket, (go.deferred old.tickets fresh.deferred).1),
     record {
       named = λ x removes. elim removes [
         | inl was ↦ absurd (omega (arith, fresh.ticket, h.given job.ticket x was))
         | inr defers ↦ let same : fresh.who ≡ defers.who = cc (fresh.goes, defers.step) in
-            fresh.removes ∙ ap (λ (p : ℕ). removed_by (seat_of old p).progress) same ∙ ap removed_by defers.progress ∙ defers.name
+            fresh.removes ∙ ap (λ (p : ℕ). removed_by (seat_of old p).progress) same ∙ ap removed_by defers.progress
+            ∙ defers.name
       ];
       removed = λ x e. inr (by_call x (removal_in (seat_of old fresh.who).progress x (sym fresh.removes ∙ e)));
     },
@@ -521,7 +559,8 @@ module _ (old new : State) (past : Past) (entry : Entry) (h : JobsHold old past)
     work = λ t how told none.
         let call = go.called t how told in
         let nothing : call.job.removes ≡ None = unnamed call.job.removes
-        (λ x e. none x (subst (λ (u : ℕ). past.removes u x) call.ticket ((h.jobs call.job call.there).1.removed x e))) in
+        (λ x e. none x
+        (subst (λ (u : ℕ). past.removes u x) call.ticket ((h.jobs call.job call.there).1.removed x e))) in
         (call.outcome ∙ ap (outcome_of old.heap) nothing, call.heap ∙ ap (after_job old.heap) nothing);
   }
     where
@@ -532,7 +571,8 @@ module _ (old new : State) (past : Past) (entry : Entry) (h : JobsHold old past)
 -- WHOLE RUNS
 
 -- the places play no part
-jobs_aside : (old new : State) (places : List Bool) (seen ahead : List ℕ) (room : List Bool) (step : Step) (reply : Reply)
+jobs_aside : (old new : State) (places : List Bool) (seen ahead : List ℕ) (room : List Bool) (step : Step)
+    (reply : Reply)
     → JobsGo old (with_places new places seen ahead room) step reply → JobsGo old new step reply
 jobs_aside old new places seen ahead room step reply go = record {
   jobs = go.jobs;

@@ -47,7 +47,8 @@ module _ (old new : State) (past : Past) (entry : Entry) (c : NamesHold old past
 
   -- turns go up only by a value that comes in
   abbrev Rises : Heap → Type 0
-  Rises heap = ((x : Name) → IsGiven heap x → IsGiven old.heap x ⊎ Stands heap x) × (heap.start_turn ≡ old.heap.start_turn)
+  Rises heap =
+      ((x : Name) → IsGiven heap x → IsGiven old.heap x ⊎ Stands heap x) × (heap.start_turn ≡ old.heap.start_turn)
 
   rises : HeapGoes old aside entry.step entry.reply → Rises new.heap
   rises (inl same) = subst Rises (sym same) (λ x given. inl given, refl)
@@ -56,27 +57,33 @@ module _ (old new : State) (past : Past) (entry : Entry) (c : NamesHold old past
   rises (inr (inr (inl calls))) = let changes = job_changes old.heap calls.removes in
       subst Rises (sym calls.heap) (changes.risen, changes.start)
   rises (inr (inr (inr access))) =
-      let changes = touch_changes access.call access.steps access.found old.heap access.makes.did access.makes.touches in
+      let changes =
+      touch_changes access.call access.steps access.found old.heap access.makes.did access.makes.touches in
       subst Rises (sym access.makes.heap) (changes.risen, changes.start)
 
   still : (x : Name) → WasGiven old.heap x → WasGiven new.heap x
   still x was = (stays_given old new entry took x was.0, subst (λ (k : ℕ). k ≤ x.turn) (sym (rises goes).1) was.1)
 
   -- a pointer led somewhere before the step, or the step has written it
-  led : HeapGoes old aside entry.step entry.reply → (spot : Spot) (x : Name) → Leads new.heap spot x → WasGiven old.heap x
+  led : HeapGoes old aside entry.step entry.reply
+      → (spot : Spot) (x : Name) → Leads new.heap spot x → WasGiven old.heap x
   led (inl same) spot x leads = c.leads spot x (subst (λ (heap : Heap). Leads heap spot x) same leads)
   led (inr (inl calls)) spot x leads =
-      c.leads spot x (fewer_job old.heap calls.removes spot x (subst (λ (heap : Heap). Leads heap spot x) calls.heap leads))
+      c.leads spot x
+      (fewer_job old.heap calls.removes spot x (subst (λ (heap : Heap). Leads heap spot x) calls.heap leads))
   led (inr (inr (inl calls))) spot x leads =
-      c.leads spot x (fewer_job old.heap calls.removes spot x (subst (λ (heap : Heap). Leads heap spot x) calls.heap leads))
-  led (inr (inr (inr access))) spot x leads = elim (touch_names access.call access.steps access.found old.heap access.makes.did
+      c.leads spot x
+      (fewer_job old.heap calls.removes spot x (subst (λ (heap : Heap). Leads heap spot x) calls.heap leads))
+  led (inr (inr (inr access))) spot x leads =
+      elim (touch_names access.call access.steps access.found old.heap access.makes.did
       access.makes.touches spot x (subst (λ (heap : Heap). Leads heap spot x) access.makes.heap leads)) [
         | inl other ↦ c.leads other.0 x other.1
         | inr written ↦ c.writes access.who access.call
             (subst (λ (progress : Progress). IsAccess access.call progress) (sym access.progress) refl) x written
       ]
 
-  writes_later : (q : ℕ) (a : Access) → IsAccess a (seat_of new q).progress → (x : Name) → Written a x → WasGiven new.heap x
+  writes_later : (q : ℕ) (a : Access)
+      → IsAccess a (seat_of new q).progress → (x : Name) → Written a x → WasGiven new.heap x
   writes_later q a is x written = elim (access_begun old aside entry.step entry.reply a entry.step refl took.0 q is) [
     | inl was ↦ still x (c.writes q a was x written)
     | inr begun ↦ still x (written_known a (seat_of old q) old.tickets old.heap x begun.1 written)
@@ -114,7 +121,8 @@ module _ (old new : State) (past : Past) (entry : Entry) (c : NamesHold old past
 
 -- WHOLE RUNS
 
-names_along : (old new : State) (log : List Entry) (past : Past) → AllLinked old → JobsHold old past → NamesHold old past
+names_along : (old new : State) (log : List Entry) (past : Past)
+    → AllLinked old → JobsHold old past → NamesHold old past
     → (run : Runs old log new) → NamesHold new (past_from past old log new run)
 names_along old new [] past linked h c run = subst (λ (s : State). NamesHold s past) (sym run) c
 names_along old new (entry ∷ log) past linked h c (mid, took, run) =
@@ -145,11 +153,13 @@ fresh_names s fresh = record {
         absurd (cc (found.2, ap (λ (ptr : Ptr). ptr.name) none))
     leads (Field y f) x found = absurd (at_cell (slice_get s.heap.cells (y.slot - 1)) refl found)
       where
-        at_cell : (cell : Option Cell) → slice_get s.heap.cells (y.slot - 1) ≡ cell → FieldLeads (if_has y.turn cell) f x → ⊥
+        at_cell : (cell : Option Cell)
+            → slice_get s.heap.cells (y.slot - 1) ≡ cell → FieldLeads (if_has y.turn cell) f x → ⊥
         at_cell None there (ptr, entry, name) = cc (entry)
         at_cell (Some cell) there field =
             let one : cell ≡ empty s.heap.start_turn = fresh.empty_cells (y.slot - 1) cell there in
-            none_lead s.heap.start_turn y.turn f x (subst (λ (d : Cell). FieldLeads (if_has y.turn (Some d)) f x) one field)
+            none_lead s.heap.start_turn y.turn f x
+            (subst (λ (d : Cell). FieldLeads (if_has y.turn (Some d)) f x) one field)
 
 pub loaded_stand : (s new : State) (log : List Entry) → IsFresh s → (run : Runs s log new) → LeavesOnce s log new run
     → LoadedStand (past_of s log new run) new.heap

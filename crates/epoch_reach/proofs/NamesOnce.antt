@@ -26,7 +26,8 @@ module _ (old new : State) (entry : Entry) (took : Takes old entry.step entry.re
   stays_given = stays_along (heap_goes old aside entry.step entry.reply entry.step refl took.0)
 
   pub gives_new : (x : Name) → GivesName old entry new x → GivesNew old.heap new.heap x
-  gives_new x gives = by_access (access_goes old aside entry.step entry.reply gives.who (Place gives.value) gives.steps gives.found
+  gives_new x gives =
+      by_access (access_goes old aside entry.step entry.reply gives.who (Place gives.value) gives.steps gives.found
       gives.progress (subst (λ (s : Step). Moves old s entry.reply aside) gives.step took.0))
     where
       by_access : (aside ≡ old) ⊎ MakesAccess old aside gives.who (Place gives.value) gives.steps gives.found
@@ -34,7 +35,8 @@ module _ (old new : State) (entry : Entry) (took : Takes old entry.step entry.re
       by_access (inl same) =
           absurd (cc (gives.progress, gives.answer, same))
       by_access (inr makes) = subst (λ (h : Heap). GivesNew old.heap h x) (sym makes.heap)
-          (place_gives gives.value gives.steps gives.found old.heap (slice_get old.heap.cells gives.steps) refl makes.did makes.touches x
+          (place_gives gives.value gives.steps gives.found old.heap (slice_get old.heap.cells gives.steps) refl
+          makes.did makes.touches x
           (sym makes.after ∙ gives.answer))
 
 runs_give : (old new : State) (log : List Entry) (given : Name → Type 0) → ((x : Name) → given x → IsGiven old.heap x)

@@ -27,7 +27,8 @@ set_or_kept (x ∷ xs) (suc i) y (suc j) = elim (set_or_kept xs i y j) [
   | inr new ↦ inr (ap suc new.0, new.1)
 ]
 
-pub set_other : {A : Type 0} (xs : List A) (i : ℕ) (y : A) (j : ℕ) → j ≢ i → slice_get (slice_set xs i y) j ≡ slice_get xs j
+pub set_other : {A : Type 0} (xs : List A) (i : ℕ) (y : A) (j : ℕ)
+    → j ≢ i → slice_get (slice_set xs i y) j ≡ slice_get xs j
 set_other xs i y j ne = elim (set_or_kept xs i y j) [ inl kept ↦ kept | inr new ↦ absurd (ne new.0) ]
 
 -- THE FIELDS OF CELLS
@@ -45,7 +46,8 @@ fewer_same old new e spot x leads = subst (λ h. Leads h spot x) e leads
 
 -- the cell of a name is written, and its fields lead nowhere else
 pub fewer_written : (h : Heap) (n : Name) (cell : Cell)
-    → ((turn f : ℕ) (x : Name) → FieldLeads (if_has turn (Some cell)) f x → FieldLeads (if_has turn (slice_get h.cells (n.slot - 1))) f x)
+    → ((turn f : ℕ) (x : Name) → FieldLeads (if_has turn (Some cell)) f x
+    → FieldLeads (if_has turn (slice_get h.cells (n.slot - 1))) f x)
     → Fewer h (with_cell_at h n cell)
 fewer_written h n cell fewer (Root i) x leads = leads
 fewer_written h n cell fewer (Field m f) x leads = elim (set_or_kept h.cells (n.slot - 1) cell (m.slot - 1)) [
@@ -75,7 +77,9 @@ nulls_lead next v n turn f x (ptr, entry, name) = at_test (next == turn) entry
     content : Content
     content = record { value = v; fields = nulls n }
 
-    at_test : (b : Bool) → field_in (if b && true then Some (filled next 0 (record { value = v; fields = nulls n })) else None) f ≡ Some ptr → ⊥
+    at_test : (b : Bool)
+        → field_in (if b && true then Some (filled next 0 (record { value = v; fields = nulls n })) else None) f ≡ Some
+        ptr → ⊥
     at_test true e = cc (name, nulls_name_none n f ptr e)
     at_test false e = cc
 
@@ -90,7 +94,9 @@ same_fields_in : (one other : Cell) → SameFields one other → (turn f : ℕ)
 same_fields_in one other same turn f = at_test (has one turn) (has other turn) has_same
   where
     has_same : has one turn ≡ has other turn
-    has_same = ap (λ (t : ℕ). (t == turn) && is_some one.value) same.turn ∙ ap (λ (b : Bool). (other.turn == turn) && b) same.filled
+    has_same =
+        ap (λ (t : ℕ). (t == turn) && is_some one.value) same.turn
+        ∙ ap (λ (b : Bool). (other.turn == turn) && b) same.filled
 
     at_test : (b c : Bool) → b ≡ c
         → field_in (if b then Some one else None) f ≡ field_in (if c then Some other else None) f
@@ -112,7 +118,8 @@ fewer_kept h n cell after e same = fewer_written h n after (λ turn f x leads.
 -- Another field of the cell, of whatever name, stays.
 field_kept : (n m : Name) (cell : Cell) (f g : ℕ) (ptr : Ptr) → cell.turn ≡ n.turn → m.slot - 1 ≡ n.slot - 1
     → Field m g ≢ Field n f
-    → field_in (if_has m.turn (Some (record cell { value = option_map (λ content. with_field content f ptr) cell.value }))) g
+    → field_in
+    (if_has m.turn (Some (record cell { value = option_map (λ content. with_field content f ptr) cell.value }))) g
     ≡ field_in (if_has m.turn (Some cell)) g
 field_kept n m cell f g ptr turn slot ne = at_value (cell.turn == m.turn) refl cell.value
   where
@@ -123,7 +130,10 @@ field_kept n m cell f g ptr turn slot ne = at_value (cell.turn == m.turn) refl c
         ne (λ i. Field (one i) (same i))
 
     at_value : (b : Bool) → (cell.turn == m.turn) ≡ b → (v : Option Content)
-        → field_in (if b && is_some (option_map (λ (content : Content). with_field content f ptr) v) then Some (record cell { value = option_map (λ (content : Content). with_field content f ptr) v }) else None) g
+        → field_in
+        (if b && is_some (option_map (λ (content : Content). with_field content f ptr) v)
+        then Some (record cell { value = option_map (λ (content : Content). with_field content f ptr) v })
+        else None) g
         ≡ field_in (if b && is_some v then Some (record cell { value = v }) else None) g
     at_value true test None = refl
     at_value false test None = refl
@@ -145,7 +155,8 @@ pointer_other h (Field n f) ptr other ne = at_cell (cell_at h n) refl other ne
       | inl kept ↦ ap (λ (c : Option Cell). field_in (if_has m.turn c) g) kept
       | inr new ↦ ap (λ (c : Option Cell). field_in (if_has m.turn c) g) new.1
           ∙ field_kept n m cell f g ptr there.1 new.0 ne
-          ∙ ap (λ (c : Option Cell). field_in (if_has m.turn c) g) (sym (ap (λ (k : ℕ). slice_get h.cells k) new.0 ∙ there.0))
+          ∙ ap (λ (c : Option Cell). field_in (if_has m.turn c) g)
+          (sym (ap (λ (k : ℕ). slice_get h.cells k) new.0 ∙ there.0))
     ]
       where
         after : Cell
@@ -166,7 +177,8 @@ still_reached old new y f others x (from_field z k _ r leads) never =
     still_reached old new y f others z r (λ there. elim there [
       | inr holder ↦ never (inr holder)
       | inl kept ↦ apart (λ (e : Field z k ≡ Field y f). never (inr (subst (IsReachable new) (ap holder_of e) kept)))
-          (λ (ne : Field z k ≢ Field y f). never (inl (from_field z k x kept (leads.0, others (Field z k) ne ∙ leads.1, leads.2))))
+          (λ (ne : Field z k ≢ Field y f). never
+          (inl (from_field z k x kept (leads.0, others (Field z k) ne ∙ leads.1, leads.2))))
     ])
   where
     holder_of : Spot → Name

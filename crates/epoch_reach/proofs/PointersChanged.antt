@@ -27,7 +27,8 @@ pub record Pointed (a : Access) (old new : Heap) : Type 0 where
 -- CELLS
 
 fewer_without : (h : Heap) (n : Name) (removal : Removal) → Fewer h (without_cell h n removal)
-fewer_without h n Destroyed = fewer_written h n (empty (n.turn + 1)) (λ turn f x leads. absurd (none_lead (n.turn + 1) turn f x leads))
+fewer_without h n Destroyed =
+    fewer_written h n (empty (n.turn + 1)) (λ turn f x leads. absurd (none_lead (n.turn + 1) turn f x leads))
 fewer_without h n HeldElsewhere = fewer_same h h refl
 fewer_without h n Gone = fewer_same h h refl
 
@@ -44,7 +45,8 @@ fewer_read h n None content e = fewer_same h h refl
 
 fewer_left : (h : Heap) (n : Name) (cell : Option Cell) → cell_at h n ≡ cell → Fewer h (left_by h n cell).heap
 fewer_left h n (Some cell) e =
-    fewer_kept h n cell (record cell { readers = cell.readers - 1 }) e (record { turn = refl; filled = refl; fields = λ f. refl })
+    fewer_kept h n cell (record cell { readers = cell.readers - 1 }) e
+    (record { turn = refl; filled = refl; fields = λ f. refl })
 fewer_left h n None e = fewer_same h h refl
 
 -- what nobody reads stands in a cell
@@ -119,7 +121,8 @@ module _ (g : Option ℕ) (spot : Spot) (all : Change) (h : Heap) (did : Touched
   changed (FetchUpdate tries by) (suc k) found ptr (inl e) = replaces _ _ e.1
   changed (FetchUpdate tries by) (suc k) found ptr (inr e) = kept _ e.1
 
-  changed_at : (change : Change) (k : ℕ) (found : Ptr) (ptr : Option Ptr) → ChangesAt change k found spot h ptr did → Goal
+  changed_at : (change : Change) (k : ℕ) (found : Ptr) (ptr : Option Ptr)
+      → ChangesAt change k found spot h ptr did → Goal
   changed_at change k found None e = kept _ e
   changed_at change k found (Some ptr) e = changed change k found ptr e
 
@@ -136,4 +139,5 @@ touches_pointers (Write g ptr v) k found h did e = inl (subst (λ (d : Touched).
     (fewer_at _ h ptr.name (λ n. fewer_put h n v (unread (cell_at h n)) refl)))
 touches_pointers (Take g ptr) k found h did e = inl (subst (λ (d : Touched). Fewer h d.heap) (sym e)
     (fewer_at _ h ptr.name (λ n. fewer_taken h n (unread (cell_at h n)))))
-touches_pointers (Point g spot change) k found h did e = changed_at g spot change h did change k found (pointer_at h spot) e
+touches_pointers (Point g spot change) k found h did e =
+    changed_at g spot change h did change k found (pointer_at h spot) e

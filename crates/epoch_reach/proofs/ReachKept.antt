@@ -58,7 +58,8 @@ pub record ReachHolds (s : State) (log : List Entry) (past : Past) : Type 1 wher
   pub guarded : (p : ℕ) → Guarded (seat_of s p)
   pub recent_reach : (p : ℕ) (x : Name) → IsReachable s.heap x → recent p x
   pub recent_was : (p : ℕ) (x : Name) → recent p x → past.reached x
-  pub recent_field : (p : ℕ) (y : Name) (f : ℕ) (x : Name) → recent p y → Leads s.heap (Field y f) x → ¬ (¬ (recent p x))
+  pub recent_field : (p : ℕ) (y : Name) (f : ℕ) (x : Name)
+      → recent p y → Leads s.heap (Field y f) x → ¬ (¬ (recent p x))
   pub loaded : (p g : ℕ) (x : Name) → past.loaded p g x
       → (is_pinned (word_of s p) ≡ true) × IsOut g (seat_of s p) × (¬ (¬ (recent p x)))
   pub removed : (t : ℕ) (x : Name) → past.removes t x
@@ -126,7 +127,8 @@ module _ (old new : State) (log : List Entry) (x : Entry) (past : Past) (k : Rea
 
       pin : is_pinned (word_of old p) ≡ true
       pin = (holds.seats p).agrees ∙ ap (publishes_at (seat_of old p).machine) idle
-          ∙ ap not (some_counted g (seat_of old p).guards (seat_of old p).machine.guards (linked.seats p).counted counted)
+          ∙ ap not
+          (some_counted g (seat_of old p).guards (seat_of old p).machine.guards (linked.seats p).counted counted)
 
       hold : (is_pinned (word_of new p) ≡ true) × IsOut g (seat_of new p) × (¬ (IsPublish x.reply p))
       hold = step.holding p g pin out kept
@@ -160,7 +162,8 @@ module _ (old new : State) (log : List Entry) (x : Entry) (past : Past) (k : Rea
   )
   removed_after t y (inl was) = (inl r.0, (r.1.0, stands_keep log x r.1.0 _ r.1.1, bound))
     where
-      r : past.left y × ((i : ℕ) × Stands log i (Deferred t) × ((p at : ℕ) → PinnedSince log p at → k.recent p y → at ≤ i))
+      r : past.left y
+          × ((i : ℕ) × Stands log i (Deferred t) × ((p at : ℕ) → PinnedSince log p at → k.recent p y → at ≤ i))
       r = k.removed t y was
 
       bound : (p at : ℕ) → PinnedSince (log ++ x ∷ []) p at → Recent p y → at ≤ r.1.0
@@ -183,7 +186,8 @@ module _ (old new : State) (log : List Entry) (x : Entry) (past : Past) (k : Rea
           elim (step.pinned p pin) [ inl publish ↦ recent.0 publish | inr was ↦ g.1 p was.0 recent.1 ]
   gone_after y (inr (inl (t, removes, reply))) = (inl r.0, apart)
     where
-      r : past.left y × ((i : ℕ) × Stands log i (Deferred t) × ((p at : ℕ) → PinnedSince log p at → k.recent p y → at ≤ i))
+      r : past.left y
+          × ((i : ℕ) × Stands log i (Deferred t) × ((p at : ℕ) → PinnedSince log p at → k.recent p y → at ≤ i))
       r = k.removed t y removes
 
       apart : (p : ℕ) → is_pinned (word_of new p) ≡ true → ¬ (Recent p y)

@@ -153,16 +153,25 @@ run = (
     ((refl, refl), (refl, refl, refl, refl)),
     (
       world (pinning Unpinned (StorePin 0) 0) 0 none_placed,
-      (inr (taken_unpinned, (refl, refl)), ((refl, refl), λ q ne. refl, tt, λ place. absurd (omega (arith, place.fewer)))),
+      (
+        inr (taken_unpinned, (refl, refl)),
+        ((refl, refl), λ q ne. refl, tt, λ place. absurd (omega (arith, place.fewer))),
+      ),
       (
         world (pinning (Pinned 0) ReloadPin 1) 0 none_placed,
         (inr (taken_unpinned, (refl, refl)), ((refl, refl), λ q ne. refl, tt, tt)),
         (
           world (pinning (Pinned 0) LoadScan 1) 0 none_placed,
-          (inr (taken_pinned, (refl, refl)), ((refl, refl), λ q ne. refl, tt, λ place. absurd (omega (arith, place.fewer)))),
+          (
+            inr (taken_pinned, (refl, refl)),
+            ((refl, refl), λ q ne. refl, tt, λ place. absurd (omega (arith, place.fewer))),
+          ),
           (
             world (pinning (Pinned 0) (Scan 0 0) 1) 0 none_placed,
-            (inr (taken_pinned, (refl, refl)), ((refl, refl), λ q ne. refl, tt, λ place. absurd (omega (arith, place.fewer)))),
+            (
+              inr (taken_pinned, (refl, refl)),
+              ((refl, refl), λ q ne. refl, tt, λ place. absurd (omega (arith, place.fewer))),
+            ),
             (
               world (pinning (Pinned 0) (Advance 0) 1) 0 none_placed,
               (inr (taken_pinned, (refl, refl)), ((refl, refl), λ q ne. refl, λ alone expired. refl, tt)),
@@ -174,13 +183,30 @@ run = (
                   (inr (taken_pinned, (Empty, [], [], refl, refl, refl)), ((refl, refl), λ q ne. refl, none_ahead, tt)),
                   (
                     world (pinned Idle) 1 none_placed,
-                    (inr (taken_pinned, (ap (λ (g : ℕ). Done (Guard g)) (sym lowest_none), ap first_guard (sym lowest_none))), ((refl, refl), λ q ne. refl, tt, tt)),
+                    (
+                      inr (
+                        taken_pinned,
+                        (ap (λ (g : ℕ). Done (Guard g)) (sym lowest_none), ap first_guard (sym lowest_none)),
+                      ),
+                      ((refl, refl), λ q ne. refl, tt, tt),
+                    ),
                     (
                       world (pinned (Accesses (Place 7) 0 null)) 1 none_placed,
                       ((refl, refl), (refl, refl, refl, refl)),
                       (
                         world (pinned (Ends (Done (NameAnswer name)))) 1 (heap null placed),
-                        (inr (taken_pinned, (answers (NameAnswer name) (heap null placed), inl ((refl, omega arith), name, refl, refl, refl), refl, refl)), ((refl, refl), λ q ne. refl, tt, tt)),
+                        (
+                          inr (
+                            taken_pinned,
+                            (
+                              answers (NameAnswer name) (heap null placed),
+                              inl ((refl, omega arith), name, refl, refl, refl),
+                              refl,
+                              refl,
+                            ),
+                          ),
+                          ((refl, refl), λ q ne. refl, tt, tt),
+                        ),
                         (
                           world (pinned Idle) 1 (heap null placed),
                           (inr (taken_pinned, (refl, refl)), ((refl, refl), λ q ne. refl, tt, tt)),
@@ -189,7 +215,10 @@ run = (
                             ((refl, refl), (refl, refl, refl, refl)),
                             (
                               world (pinned (Ends (Done UnitAnswer))) 1 (heap ptr placed),
-                              (inr (taken_pinned, (answers UnitAnswer (heap ptr placed), refl, refl, refl)), ((refl, refl), λ q ne. refl, tt, tt)),
+                              (
+                                inr (taken_pinned, (answers UnitAnswer (heap ptr placed), refl, refl, refl)),
+                                ((refl, refl), λ q ne. refl, tt, tt),
+                              ),
                               (
                                 world (pinned Idle) 1 (heap ptr placed),
                                 (inr (taken_pinned, (refl, refl)), ((refl, refl), λ q ne. refl, tt, tt)),
@@ -198,7 +227,10 @@ run = (
                                   ((refl, refl), (refl, refl, refl, refl)),
                                   (
                                     world (pinned (Ends (Done (Pointer ptr)))) 1 (heap ptr placed),
-                                    (inr (taken_pinned, (answers (Pointer ptr) (heap ptr placed), refl, refl, refl)), ((refl, refl), λ q ne. refl, tt, tt)),
+                                    (
+                                      inr (taken_pinned, (answers (Pointer ptr) (heap ptr placed), refl, refl, refl)),
+                                      ((refl, refl), λ q ne. refl, tt, tt),
+                                    ),
                                     (
                                       world (pinned Idle) 1 (heap ptr placed),
                                       (inr (taken_pinned, (refl, refl)), ((refl, refl), λ q ne. refl, tt, tt)),
@@ -207,7 +239,13 @@ run = (
                                         ((refl, refl), (refl, refl, refl, refl)),
                                         (
                                           last,
-                                          (inr (taken_pinned, (answers (Value 7) (heap ptr (empty 1)), refl, refl, refl)), ((refl, refl), λ q ne. refl, tt, tt)),
+                                          (
+                                            inr (
+                                              taken_pinned,
+                                              (answers (Value 7) (heap ptr (empty 1)), refl, refl, refl),
+                                            ),
+                                            ((refl, refl), λ q ne. refl, tt, tt),
+                                          ),
                                           refl,
                                         ),
                                       ),
@@ -234,7 +272,9 @@ run = (
 fresh_first : IsFresh first
 fresh_first = record {
   sized = refl;
-  in_range = record { positions = omega arith; bag_jobs = (omega arith, omega arith); collect_bags = (omega arith, omega arith) };
+  in_range =
+      record
+      { positions = omega arith; bag_jobs = (omega arith, omega arith); collect_bags = (omega arith, omega arith) };
   free = free;
   none_queued = refl;
   no_tickets = refl;
@@ -260,7 +300,8 @@ kept : (step : Step) (reply : Reply) → reply ≢ Began → reply ≢ Repinned 
 kept step reply no_begin no_repin lets = elim lets [ inl begins ↦ no_begin begins.1 | inr repins ↦ no_repin repins ]
 
 kept_begin : ¬ (LetsGo (entry (Begin 0 (AccessCall (Take (Some 0) ptr))) Began) 0 0)
-kept_begin lets = elim lets [ inl begins ↦ elim begins.0 [ inl e ↦ cc (e) | inr e ↦ cc (e) ] | inr repins ↦ cc (repins) ]
+kept_begin lets =
+    elim lets [ inl begins ↦ elim begins.0 [ inl e ↦ cc (e) | inr e ↦ cc (e) ] | inr repins ↦ cc (repins) ]
 
 -- what was loaded is destroyed
 loses : LosesLoaded (past_of first log last run)
@@ -291,7 +332,8 @@ loses = (0, 0, name, loaded, inr (inr (inl takes)))
             kept (Go 0) Stepped (λ e. cc) (λ e. cc),
             inr (record {
               spot = Root 0;
-              points = record { step = refl; taken = taken_pinned; change = Load; steps = 0; found = null; progress = refl };
+              points =
+                  record { step = refl; taken = taken_pinned; change = Load; steps = 0; found = null; progress = refl };
               within = tt;
               named = inl (ptr, refl, refl);
             }),

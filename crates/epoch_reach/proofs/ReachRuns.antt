@@ -21,7 +21,8 @@ runs_apart old new log [] past linked holds reach run leaves = holds_apart old l
 runs_apart old new log (x ∷ entries) past linked holds reach (mid, did, run) leaves =
     let next : Holds mid (log ++ x ∷ []) = step_holds old mid log x linked holds did in
     let shown : KeepsReach past old mid x = step_shows past old mid log x holds linked leaves.0 x.step refl did.0 in
-    runs_apart mid new (log ++ x ∷ []) entries (past_after past old x mid) (step_linked old mid x.step x.reply linked did) next
+    runs_apart mid new (log ++ x ∷ []) entries (past_after past old x mid)
+    (step_linked old mid x.step x.reply linked did) next
     (reach_push old mid log x past reach leaves.0 next.logged.grace holds linked shown) run leaves.1
 
 none_reached : (s : State) → IsFresh s → (x : Name) → ¬ (IsReachable s.heap x)

@@ -47,7 +47,8 @@ FieldsStay past old new = (y : Name) (f : ℕ) (z : Name) → past.reached y →
 stay_fewer : (past : Past) (old new : Heap) → Fewer old new → FieldsStay past old new
 stay_fewer past old new fewer y f z was leads never = never (inl (fewer (Field y f) z leads))
 
-stay_pointed : (past : Past) (old new : State) (x : Entry) (p : ℕ) (g : Option ℕ) (spot : Spot) → LeavesRightly past old x new
+stay_pointed : (past : Past) (old new : State) (x : Entry) (p : ℕ) (g : Option ℕ) (spot : Spot)
+    → LeavesRightly past old x new
     → Points old x p g spot → ((other : Spot) → other ≢ spot → pointer_at new.heap other ≡ pointer_at old.heap other)
     → FieldsStay past old.heap new.heap
 stay_pointed past old new x p g spot leaves points others y f z was leads never = not_other (λ e. same e)
@@ -206,9 +207,11 @@ module _ (past : Past) (old new : State) (log : List Entry) (x : Entry) (holds :
   machine_goes : (n : Machine Deferral) (last : State) → aside past old new x ≡ last → last.sizes ≡ old.sizes
       → last.seats ≡ slice_set old.seats p (with_machine seat n) → IsSilent x.reply → Fields past old new x → Goal
   machine_goes n last e sizes seats quiet fields =
-      goes_on past old new x p (with_machine seat n) last taken e sizes seats refl quiet (λ g out kept. out) (λ was. was) fields
+      goes_on past old new x p (with_machine seat n) last taken e sizes seats refl quiet (λ g out kept. out)
+      (λ was. was) fields
 
-  steps : (n : Machine Deferral) (last : State) → x.reply ≡ Stepped → aside past old new x ≡ last → last.sizes ≡ old.sizes
+  steps : (n : Machine Deferral) (last : State)
+      → x.reply ≡ Stepped → aside past old new x ≡ last → last.sizes ≡ old.sizes
       → last.seats ≡ slice_set old.seats p (with_machine seat n) → last.heap ≡ old.heap → Goal
   steps n last told e sizes seats heap = machine_goes n last e sizes seats (silent x.reply (quiet_stepped x.reply told))
       (heap_stays past old new x last e heap)
@@ -229,7 +232,8 @@ module _ (past : Past) (old new : State) (log : List Entry) (x : Entry) (holds :
       let driven : IsDriven c m seat.guards = follows_at old.sizes seat (linked.seats p) (Driven c) drive in
       absurd (cc (driven.under_way, at))
   drives c drive LoadPin at fine did = steps _ _ did.0 did.1 refl refl refl
-  drives c drive (StorePin e) at fine did = own_word (Pinned e) (with_word seat (Pinned e) (hears m (StorePin e) Stored)) refl
+  drives c drive (StorePin e) at fine did =
+      own_word (Pinned e) (with_word seat (Pinned e) (hears m (StorePin e) Stored)) refl
       (λ q ne. (
         λ h. elim h [ inl a ↦ ne (cc (did.0, a)) | inr a ↦ cc (did.0, a) ],
         λ h. elim h [ inl a ↦ cc (did.0, a) | inr a ↦ cc (did.0, a) ],
@@ -248,14 +252,16 @@ module _ (past : Past) (old new : State) (log : List Entry) (x : Entry) (holds :
   drives c drive Keep at fine did = machine_goes _ _ did.1 refl refl (silent_deferred x.reply _ did.0)
       (heap_stays past old new x _ did.1 refl)
   drives c drive LoadRepin at fine did = steps _ _ did.0 did.1 refl refl refl
-  drives c drive (StoreRepin e) at fine did = own_word (Pinned e) (with_word seat (Pinned e) (hears m (StoreRepin e) Stored)) refl
+  drives c drive (StoreRepin e) at fine did =
+      own_word (Pinned e) (with_word seat (Pinned e) (hears m (StoreRepin e) Stored)) refl
       (λ q ne. (
         λ h. elim h [ inl a ↦ cc (did.0, a) | inr a ↦ ne (cc (did.0, a)) ],
         λ h. elim h [ inl a ↦ cc (did.0, a) | inr a ↦ ne (cc (did.0, a)) ],
       ))
       (λ pin. inr did.0) (λ g pin out kept. kept (inr did.0)) (λ was. was) did.1
   drives c drive ReloadRepin at fine did = steps _ _ did.0 did.1 refl refl refl
-  drives c drive StoreUnpinned at fine did = own_word Unpinned (with_word seat Unpinned (hears m StoreUnpinned Stored)) refl
+  drives c drive StoreUnpinned at fine did =
+      own_word Unpinned (with_word seat Unpinned (hears m StoreUnpinned Stored)) refl
       (λ q ne. (
         λ h. elim h [ inl a ↦ cc (did.0, a) | inr a ↦ cc (did.0, a) ],
         λ h. elim h [ inl a ↦ ne (cc (did.0, a)) | inr a ↦ cc (did.0, a) ],
@@ -265,7 +271,11 @@ module _ (past : Past) (old new : State) (log : List Entry) (x : Entry) (holds :
       some_left : (g : ℕ) → IsOut g seat → ⊥
       some_left g out =
           let driven : IsDriven c m seat.guards = follows_at old.sizes seat (linked.seats p) (Driven c) drive in
-          cc (fine.aims, ends_guarded seat g out.0 old.sizes c (linked.seats p) driven (λ gives. out.1 (subst (GivesUp g) (sym drive) gives)))
+          cc (
+            fine.aims,
+            ends_guarded seat g out.0 old.sizes c (linked.seats p) driven
+                (λ gives. out.1 (subst (GivesUp g) (sym drive) gives)),
+          )
   drives c drive StoreFree at fine did = own_word Free (free_seat old.sizes) refl
       (λ q ne. (
         λ h. elim h [ inl a ↦ cc (did.0, a) | inr a ↦ cc (did.0, a) ],
@@ -296,7 +306,8 @@ module _ (past : Past) (old new : State) (log : List Entry) (x : Entry) (holds :
         (λ other ne. ap (λ (s : State). pointer_at s.heap other) e ∙ pointed.others other ne)
   ]
 
-  goes : (progress : Progress) → seat.progress ≡ progress → Goes old p seat progress x.reply (aside past old new x) → Goal
+  goes : (progress : Progress)
+      → seat.progress ≡ progress → Goes old p seat progress x.reply (aside past old new x) → Goal
   goes Idle now did = stays past old new x (silent x.reply (quiet_refused x.reply _ did.0)) did.1
   goes (Driven c) now did = drives c now m.stage refl (holds.seats p) did
   goes (CallsNow removes) now did =
@@ -312,7 +323,8 @@ module _ (past : Past) (old new : State) (log : List Entry) (x : Entry) (holds :
       (accesses a k found now did touches e)
   goes (Ends reply) now did =
       goes_on past old new x p (record seat { progress = Idle }) _ taken did.1 refl refl refl
-      (silent x.reply (quiet_done x.reply _ (did.0 ∙ (follows_at old.sizes seat (linked.seats p) (Ends reply) now).1.1)))
+      (silent x.reply
+      (quiet_done x.reply _ (did.0 ∙ (follows_at old.sizes seat (linked.seats p) (Ends reply) now).1.1)))
       (λ g out kept. (out.0, λ gives. gives)) (λ was. tt) (heap_stays past old new x _ did.1 refl)
 
 -- EVERY STEP
@@ -361,7 +373,8 @@ module _ (past : Past) (old new : State) (log : List Entry) (x : Entry) (holds :
   step_shows Register on (inr (inr did)) = stays past old new x (silent x.reply (quiet_refused x.reply _ did.1)) did.2
   step_shows (Begin p c) on did = begins p c on (refusal c (seat_of old p) old.tickets old.heap) refl did
   step_shows (Go p) on (inl did) = stays past old new x (silent x.reply (quiet_refused x.reply _ did.1)) did.2
-  step_shows (Go p) on (inr did) = goes past old new log x holds linked leaves p on did.0 (seat_of old p).progress refl did.1
+  step_shows (Go p) on (inr did) =
+      goes past old new log x holds linked leaves p on did.0 (seat_of old p).progress refl did.1
   step_shows EndStep on (inl did) = unchanged past old new x _ did.3 refl refl
       (silent x.reply (quiet_began x.reply did.2)) (heap_stays past old new x _ did.3 refl)
   step_shows EndStep on (inr (inl did)) = stays past old new x (silent x.reply (quiet_refused x.reply _ did.2)) did.3

@@ -28,7 +28,8 @@ use Rattle.epoch_reach.proofs.Names.{name_same}
 -- NAMES
 
 pub name_is : (n m : Name) → is_name n m ≡ true → n ≡ m
-name_is n m same = name_same n m (slots n.slot m.slot (n.turn == m.turn) same) (turns (n.slot == m.slot) n.turn m.turn same)
+name_is n m same =
+    name_same n m (slots n.slot m.slot (n.turn == m.turn) same) (turns (n.slot == m.slot) n.turn m.turn same)
   where
     slots : (a b : ℕ) (v : Bool) → ((a == b) && v) ≡ true → a ≡ b
     slots a b true e = grind (arith, nat_tests)
@@ -61,7 +62,8 @@ one_of None m = 0
 pub times_cons : (m x : Name) (readings : List Name) → times_read m (x ∷ readings) ≡ one x m + times_read m readings
 times_cons m x readings = sum_by-cons (λ (y : Name). if is_name y m then 1 else 0) x readings
 
-pub times_push : (m x : Name) (readings : List Name) → times_read m (readings ++ x ∷ []) ≡ times_read m readings + one x m
+pub times_push : (m x : Name) (readings : List Name)
+    → times_read m (readings ++ x ∷ []) ≡ times_read m readings + one x m
 times_push m x readings = sum_by-append (λ (y : Name). if is_name y m then 1 else 0) readings (x ∷ []) ∙ omega arith
 
 -- a name is read where it is counted
@@ -71,8 +73,10 @@ reads_counted n (x ∷ readings) = at_first (is_name x n) refl (reads_counted n 
   where
     at_first : (first : Bool) → is_name x n ≡ first → reads (Some n) readings ≡ nat_lt 0 (times_read n readings)
         → (first || reads (Some n) readings) ≡ nat_lt 0 (times_read n (x ∷ readings))
-    at_first true same rest = grind (arith, nat_tests, times_cons n x readings, ap {B = ℕ} (λ (b : Bool). if b then 1 else 0) same)
-    at_first false other rest = grind (arith, nat_tests, times_cons n x readings, ap {B = ℕ} (λ (b : Bool). if b then 1 else 0) other)
+    at_first true same rest =
+        grind (arith, nat_tests, times_cons n x readings, ap {B = ℕ} (λ (b : Bool). if b then 1 else 0) same)
+    at_first false other rest =
+        grind (arith, nat_tests, times_cons n x readings, ap {B = ℕ} (λ (b : Bool). if b then 1 else 0) other)
 
 -- a reading that ends is counted no more
 pub times_without : (n m : Name) (readings : List Name) → reads (Some n) readings ≡ true
@@ -80,9 +84,11 @@ pub times_without : (n m : Name) (readings : List Name) → reads (Some n) readi
 times_without n m [] some = absurd (cc (some))
 times_without n m (x ∷ readings) some = at_first (times_without n m readings) (is_name x n) refl some
   where
-    at_first : (reads (Some n) readings ≡ true → times_read m (without_reading (Some n) readings) + one n m ≡ times_read m readings)
+    at_first : (reads (Some n) readings ≡ true
+        → times_read m (without_reading (Some n) readings) + one n m ≡ times_read m readings)
         → (first : Bool) → is_name x n ≡ first → (first || reads (Some n) readings) ≡ true
-        → times_read m (if first then readings else x ∷ without_reading (Some n) readings) + one n m ≡ times_read m (x ∷ readings)
+        → times_read m (if first then readings else x ∷ without_reading (Some n) readings) + one n m ≡ times_read m
+        (x ∷ readings)
     at_first without true same some =
         let counted : times_read m (x ∷ readings) ≡ one x m + times_read m readings = times_cons m x readings in
         let here : one x m ≡ one n m = ap (λ (k : Name). one k m) (name_is x n same) in
@@ -90,7 +96,8 @@ times_without n m (x ∷ readings) some = at_first (times_without n m readings) 
     at_first without false other some =
         let rest : times_read m (without_reading (Some n) readings) + one n m ≡ times_read m readings = without some in
         let before : times_read m (x ∷ readings) ≡ one x m + times_read m readings = times_cons m x readings in
-        let after : times_read m (x ∷ without_reading (Some n) readings) ≡ one x m + times_read m (without_reading (Some n) readings)
+        let after : times_read m (x ∷ without_reading (Some n) readings) ≡ one x m + times_read m
+        (without_reading (Some n) readings)
         = times_cons m x (without_reading (Some n) readings) in
         omega (arith, rest, before, after)
 
@@ -116,7 +123,8 @@ pub readings_told : (a : Access) (told : Accessed) (readings : List Name) (m : N
     → times_read m (readings_after a told readings) + ends a m ≡ times_read m readings + begins a told m
 readings_told (Read g ptr) (Answers (Value v)) readings m fits = pushed ptr.name
   where
-    pushed : (name : Option Name) → times_read m (with_reading name readings) + 0 ≡ times_read m readings + one_of name m
+    pushed : (name : Option Name)
+        → times_read m (with_reading name readings) + 0 ≡ times_read m readings + one_of name m
     pushed (Some n) = omega (arith, times_push m n readings)
     pushed None = refl
 readings_told (Leave ptr) told readings m fits = without ptr.name fits
@@ -143,7 +151,8 @@ none_there turn cell none = at_test (has cell turn)
 free_there : (turn : ℕ) (cell : Cell) → cell.value ≡ None → readers_in (if_has turn (Some cell)) ≡ 0
 free_there turn cell none = at_value cell.value none (cell.turn == turn)
   where
-    at_value : (v : Option Content) → v ≡ None → (b : Bool) → readers_in (if b && is_some v then Some cell else None) ≡ 0
+    at_value : (v : Option Content)
+        → v ≡ None → (b : Bool) → readers_in (if b && is_some v then Some cell else None) ≡ 0
     at_value None e true = refl
     at_value None e false = refl
     at_value (Some content) e b = absurd (cc (e))
@@ -181,7 +190,9 @@ writes_one h n before after at was is = record {
 -- as many readers more and less at that name alone
 recount : (h : Heap) (n : Name) (after : Cell) (less more : ℕ) → WritesOne h n after
     → readers_in (if_has n.turn (Some after)) + less ≡ readers_at h n + more
-    → (m : Name) → readers_at (with_cell_at h n after) m + (if is_name n m then less else 0) ≡ readers_at h m + (if is_name n m then more else 0)
+    → (m : Name)
+    → readers_at (with_cell_at h n after) m + (if is_name n m then less else 0) ≡ readers_at h
+    m + (if is_name n m then more else 0)
 recount h n after less more w counts m = at_test (is_name n m) refl
   where
     at_test : (b : Bool) → is_name n m ≡ b
@@ -195,7 +206,8 @@ same_count : (h : Heap) (n : Name) (after : Cell) → WritesOne h n after
     → readers_in (if_has n.turn (Some after)) ≡ readers_at h n → SameReaders h (with_cell_at h n after)
 same_count h n after w counts m = at_test (is_name n m) (recount h n after 0 0 w (ap (λ (k : ℕ). k + 0) counts) m)
   where
-    at_test : (b : Bool) → readers_at (with_cell_at h n after) m + (if b then 0 else 0) ≡ readers_at h m + (if b then 0 else 0)
+    at_test : (b : Bool)
+        → readers_at (with_cell_at h n after) m + (if b then 0 else 0) ≡ readers_at h m + (if b then 0 else 0)
         → readers_at (with_cell_at h n after) m ≡ readers_at h m
     at_test true e = omega (arith, e)
     at_test false e = omega (arith, e)
@@ -212,7 +224,8 @@ found_at h n cell e =
     record { at = there.0; turn = there.1; test = test_of n.turn (slice_get h.cells (n.slot - 1)) cell e }
 
 -- nobody reads the cell, before or after
-unread_count : (h : Heap) (n : Name) (cell after : Cell) → cell_at h n ≡ Some cell → cell.readers ≡ 0 → after.readers ≡ 0
+unread_count : (h : Heap) (n : Name) (cell after : Cell)
+    → cell_at h n ≡ Some cell → cell.readers ≡ 0 → after.readers ≡ 0
     → HasAtMost n.turn after → SameReaders h (with_cell_at h n after)
 unread_count h n cell after e none none_after is =
     let found = found_at h n cell e in
@@ -232,7 +245,8 @@ job_counts h (Some n) = at_cell (cell_at h n) refl
         none : (k : ℕ) → (k == 0) ≡ true → k ≡ 0
         none k test = grind (arith, nat_tests)
 
-        at_test : (b : Bool) → (cell.readers == 0) ≡ b → SameReaders h (without_cell h n (if b then Destroyed else HeldElsewhere))
+        at_test : (b : Bool)
+            → (cell.readers == 0) ≡ b → SameReaders h (without_cell h n (if b then Destroyed else HeldElsewhere))
         at_test true test = unread_count h n cell (empty (n.turn + 1)) e (none cell.readers test) refl (inl refl)
         at_test false test = same_heap h h refl
 
@@ -248,7 +262,8 @@ read_counts : (h : Heap) (n : Name) (m : Name)
 read_counts h n m = at_cell (cell_at h n) refl (readable (cell_at h n))
   where
     at_cell : (there : Option Cell) → cell_at h n ≡ there → (content : Option Content)
-        → readers_at (read_by h n there content).heap m + 0 ≡ readers_at h m + began (Some n) (read_by h n there content).told m
+        → readers_at (read_by h n there content).heap m + 0 ≡ readers_at h m + began (Some n)
+        (read_by h n there content).told m
     at_cell None e content = refl
     at_cell (Some cell) e None = refl
     at_cell (Some cell) e (Some content) =
@@ -257,7 +272,8 @@ read_counts h n m = at_cell (cell_at h n) refl (readable (cell_at h n))
         let raises : readers_in (if_has n.turn (Some after)) + 0 ≡ readers_at h n + 1 =
         ap (λ (c : Option Cell). readers_in c + 0) (there_of n.turn after found.test)
         ∙ omega (arith, ap readers_in e) in
-        let counts = recount h n after 0 1 (writes_one h n cell after found.at (inr found.turn) (inr found.turn)) raises m in
+        let counts =
+        recount h n after 0 1 (writes_one h n cell after found.at (inr found.turn) (inr found.turn)) raises m in
         no_less (is_name n m) _ _ counts
       where
         no_less : (b : Bool) (x y : ℕ) → x + (if b then 0 else 0) ≡ y → x + 0 ≡ y
@@ -278,7 +294,8 @@ left_counts h n some m = at_cell (cell_at h n) refl
         let lowers : readers_in (if_has n.turn (Some after)) + 1 ≡ readers_at h n + 0 =
         ap (λ (c : Option Cell). readers_in c + 1) (there_of n.turn after found.test)
         ∙ omega (arith, ap readers_in e, some) in
-        let counts = recount h n after 1 0 (writes_one h n cell after found.at (inr found.turn) (inr found.turn)) lowers m in
+        let counts =
+        recount h n after 1 0 (writes_one h n cell after found.at (inr found.turn) (inr found.turn)) lowers m in
         no_more (is_name n m) _ _ counts
       where
         no_more : (b : Bool) (x y : ℕ) → x ≡ y + (if b then 0 else 0) → x ≡ y + 0
@@ -320,7 +337,8 @@ placed_counts v k found h (Some cell) did at (inr e) = same_heap h did.heap (ap 
 placed_counts v k found h (Some cell) did at (inl (free, n, slot, turn, e)) =
     subst (λ (d : Touched). SameReaders h d.heap) (sym e)
     (same_count h n (filled n.turn 0 _) (writes_one h n cell (filled n.turn 0 _) here (inl free.0) (inr refl))
-    (none_there n.turn (filled n.turn 0 _) refl ∙ sym (ap (λ (c : Option Cell). readers_in (if_has n.turn c)) here ∙ free_there n.turn cell free.0)))
+    (none_there n.turn (filled n.turn 0 _) refl
+    ∙ sym (ap (λ (c : Option Cell). readers_in (if_has n.turn c)) here ∙ free_there n.turn cell free.0)))
   where
     index : n.slot - 1 ≡ k
     index = omega (arith, slot)
@@ -338,7 +356,8 @@ pointer_counts h (Field n f) ptr = at_cell (cell_at h n) refl
         let found = found_at h n cell e in
         let after : Cell = record cell { value = option_map (λ content. with_field content f ptr) cell.value } in
         same_count h n after (writes_one h n cell after found.at (inr found.turn) (inr found.turn))
-        (ap readers_in (there_of n.turn after (still cell.value (cell.turn == n.turn) found.test)) ∙ sym (ap readers_in e))
+        (ap readers_in (there_of n.turn after (still cell.value (cell.turn == n.turn) found.test))
+        ∙ sym (ap readers_in e))
       where
         still : (v : Option Content) (b : Bool) → (b && is_some v) ≡ true
             → (b && is_some (option_map (λ (content : Content). with_field content f ptr) v)) ≡ true
@@ -383,12 +402,14 @@ abbrev pub HasReader : Access → Heap → Type 0
 HasReader (Leave ptr) h = (n : Name) → ptr.name ≡ Some n → 1 ≤ readers_at h n
 HasReader _ h = Unit {0}
 
-pub touch_counts : (a : Access) (k : ℕ) (found : Ptr) (h : Heap) (did : Touched) → HasReader a h → Touches a k found h did
+pub touch_counts : (a : Access) (k : ℕ) (found : Ptr) (h : Heap) (did : Touched)
+    → HasReader a h → Touches a k found h did
     → Recounts a h did
 touch_counts (Place v) k found h did some e m =
     ap (λ (k : ℕ). k + 0) (placed_counts v k found h (slice_get h.cells k) did refl e m)
 touch_counts (Read g ptr) k found h did some e m =
-    subst (λ (d : Touched). readers_at d.heap m + 0 ≡ readers_at h m + began ptr.name d.told m) (sym e) (by_name ptr.name)
+    subst (λ (d : Touched). readers_at d.heap m + 0 ≡ readers_at h m + began ptr.name d.told m) (sym e)
+    (by_name ptr.name)
   where
     by_name : (name : Option Name)
         → readers_at (at_name (λ n. read_by h n (cell_at h n) (readable (cell_at h n))) h name).heap m + 0
@@ -396,7 +417,8 @@ touch_counts (Read g ptr) k found h did some e m =
     by_name (Some n) = read_counts h n m
     by_name None = refl
 touch_counts (Leave ptr) k found h did some e m =
-    subst (λ (d : Touched). readers_at d.heap m + one_of ptr.name m ≡ readers_at h m + 0) (sym e) (by_name ptr.name some)
+    subst (λ (d : Touched). readers_at d.heap m + one_of ptr.name m ≡ readers_at h m + 0) (sym e)
+    (by_name ptr.name some)
   where
     by_name : (name : Option Name) → ((n : Name) → name ≡ Some n → 1 ≤ readers_at h n)
         → readers_at (at_name (λ n. left_by h n (cell_at h n)) h name).heap m + one_of name m ≡ readers_at h m + 0

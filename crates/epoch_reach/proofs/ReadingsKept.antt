@@ -60,11 +60,14 @@ kept_by old last h same seats sums = record {
 kept_written : (old last : State) (p : ℕ) (after : Seat) → KeepsReadings old → p < length old.seats
     → ((q : ℕ) → seat_of last q ≡ seat_of (with_seat old p after) q)
     → ((n : Name) → readings_of n last.seats ≡ readings_of n (slice_set old.seats p after))
-    → ((n : Name) → readers_at last.heap n + times_read n (seat_of old p).readings ≡ readers_at old.heap n + times_read n after.readings)
+    → ((n : Name)
+    → readers_at last.heap n + times_read n (seat_of old p).readings ≡ readers_at old.heap n + times_read n
+    after.readings)
     → ReadsOnce after → KeepsReadings last
 kept_written old last p after h there seats sums counts own = record {
   counted = λ n.
-      let set : readings_of n (slice_set old.seats p after) + times_read n (seat_of old p).readings ≡ readings_of n old.seats + times_read n after.readings
+      let set : readings_of n (slice_set old.seats p after) + times_read n (seat_of old p).readings ≡ readings_of n
+      old.seats + times_read n after.readings
       = sum_by-set (λ (seat : Seat). times_read n seat.readings) old.seats p after (free_seat old.sizes) there in
       omega (arith, set, sums n, counts n, h.counted n);
   seats = λ q. elim (same_or_other q p) [
@@ -118,13 +121,15 @@ once_after (Read g ptr) (Answers (Value v)) k found readings fits once n = by_na
     by_name : (name : Option Name) → reads name readings ≡ false
         → times_read n (readings_after (Read g (record ptr { name = name })) (Answers (Value v)) readings) ≤ 1
     by_name None unread = once n
-    by_name (Some x) unread = subst (λ (k : ℕ). k ≤ 1) (sym (times_push n x readings)) (pushed x (is_name x n) refl (none x unread))
+    by_name (Some x) unread =
+        subst (λ (k : ℕ). k ≤ 1) (sym (times_push n x readings)) (pushed x (is_name x n) refl (none x unread))
 once_after (Leave ptr) told k found readings fits once n =
     omega (arith, readings_told (Leave ptr) told readings n fits, once n)
 once_after (Read g ptr) _ k found readings fits once n = once n
 once_after _ told k found readings fits once n = once n
 
-module _ (old new : State) (reply : Reply) (p : ℕ) (h : KeepsReadings old) (linked : AllLinked old) (taken : word_of old p ≢ Free) where
+module _ (old new : State) (reply : Reply) (p : ℕ) (h : KeepsReadings old) (linked : AllLinked old)
+    (taken : word_of old p ≢ Free) where
   abbrev seat : Seat
   seat = seat_of old p
 
@@ -140,7 +145,8 @@ module _ (old new : State) (reply : Reply) (p : ℕ) (h : KeepsReadings old) (li
   writes : (after : Seat) (last : State) → new ≡ last
       → ((q : ℕ) → seat_of last q ≡ seat_of (with_seat old p after) q)
       → ((n : Name) → readings_of n last.seats ≡ readings_of n (slice_set old.seats p after))
-      → ((n : Name) → readers_at last.heap n + times_read n seat.readings ≡ readers_at old.heap n + times_read n after.readings)
+      → ((n : Name)
+      → readers_at last.heap n + times_read n seat.readings ≡ readers_at old.heap n + times_read n after.readings)
       → ReadsOnce after → KeepsReadings new
   writes after last e seats sums counts own =
       subst KeepsReadings (sym e) (kept_written old last p after h there seats sums counts own)
@@ -155,14 +161,16 @@ module _ (old new : State) (reply : Reply) (p : ℕ) (h : KeepsReadings old) (li
       (λ x. ap (λ (k : ℕ). k + times_read x seat.readings) (same x))
       (record { once = was.once; begun = was.begun; free = λ is. absurd (kept is); frees = frees })
 
-  moves : (s : Stage) → FreesAt m.action s → new ≡ with_seat old p (with_machine seat (with_stage m s)) → KeepsReadings new
+  moves : (s : Stage)
+      → FreesAt m.action s → new ≡ with_seat old p (with_machine seat (with_stage m s)) → KeepsReadings new
   moves s frees e = goes_on seat.word (with_stage m s) taken frees _ e (λ x. refl) (λ q. refl) (λ x. refl)
 
   -- the call goes on by itself
   goes_to : (progress : Progress) → ReadingFits progress seat.readings → (last : State) → new ≡ last
       → SameReaders old.heap last.heap
       → ((q : ℕ) → seat_of last q ≡ seat_of (with_seat old p (record seat { progress = progress })) q)
-      → ((x : Name) → readings_of x last.seats ≡ readings_of x (slice_set old.seats p (record seat { progress = progress })))
+      → ((x : Name)
+      → readings_of x last.seats ≡ readings_of x (slice_set old.seats p (record seat { progress = progress })))
       → KeepsReadings new
   goes_to progress fits last e same seats sums = writes (record seat { progress = progress }) last e seats sums
       (λ x. ap (λ (k : ℕ). k + times_read x seat.readings) (same x))
@@ -199,7 +207,8 @@ module _ (old new : State) (reply : Reply) (p : ℕ) (h : KeepsReadings old) (li
       by_call (DeferDestroy g ptr) is fits = absurd (cc (is))
       by_call (AccessCall a) is fits = absurd (cc (is))
 
-  rests : (guards : List ℕ) (paused : Option ℕ) → new ≡ with_seat old p (with_guards seat guards paused) → KeepsReadings new
+  rests : (guards : List ℕ) (paused : Option ℕ)
+      → new ≡ with_seat old p (with_guards seat guards paused) → KeepsReadings new
   rests guards paused e = writes (with_guards seat guards paused) _ e (λ q. refl) (λ x. refl) (λ x. refl)
       (record { once = was.once; begun = tt; free = was.free; frees = tt })
 
@@ -215,7 +224,8 @@ module _ (old new : State) (reply : Reply) (p : ℕ) (h : KeepsReadings old) (li
       (λ x. ap (λ (readings : List Name). readers_at old.heap x + times_read x readings) none)
       (record { once = λ x. omega arith; begun = tt; free = λ is. refl; frees = tt })
 
-  go_at : (c : Call) → seat.progress ≡ Driven c → (s : Stage) → m.stage ≡ s → Drives old p seat c s (ask_at s) reply new → KeepsReadings new
+  go_at : (c : Call) → seat.progress ≡ Driven c
+      → (s : Stage) → m.stage ≡ s → Drives old p seat c s (ask_at s) reply new → KeepsReadings new
   go_at c drive Resting at did = ends_call c did.1
   go_at c drive LoadPin at did = moves (StorePin old.epoch) tt did.1
   go_at c drive (StorePin e) at did =
@@ -223,18 +233,21 @@ module _ (old new : State) (reply : Reply) (p : ℕ) (h : KeepsReadings old) (li
   go_at c drive ReloadPin at did = moves (after_pin m) (frees_pinned m.action m) did.1
   go_at c drive LoadScan at did = moves (Scan old.epoch 0) tt did.1
   go_at c drive (Scan e k) at did =
-      moves (past_word m.sizes.positions e k (number_of (word_of old k))) (frees_past m.action m.sizes.positions e k (number_of (word_of old k))) did.1
+      moves (past_word m.sizes.positions e k (number_of (word_of old k)))
+      (frees_past m.action m.sizes.positions e k (number_of (word_of old k))) did.1
   go_at c drive (Advance e) at did =
       goes_on seat.word (hears m (Advance e) Stored) taken tt _ did.1 (λ x. refl) (λ q. refl) (λ x. refl)
   go_at c drive (Take x k) at (step, jobs, queued, told, took, e) =
-      goes_on seat.word (took_heard m (Take x k) step jobs) taken (takes x k step jobs) _ e (λ x. refl) (λ q. refl) (λ x. refl)
+      goes_on seat.word (took_heard m (Take x k) step jobs) taken (takes x k step jobs) _ e (λ x. refl) (λ q. refl)
+      (λ x. refl)
   go_at c drive (Calling x k) at (job, jobs, hand, told, e) =
       goes_on seat.word (gives m (Calling x k) jobs) taken (frees_called m.action m x k jobs) _ e
       (job_counts old.heap job.removes) (λ q. refl) (λ x. refl)
   go_at c drive LoadSeal at did = moves (Put old.epoch) tt did.1
   go_at c drive (Put s) at (step, queued, told, put, e) =
       goes_on seat.word (put_heard m step) taken (puts s step at) _ e (λ x. refl) (λ q. refl) (λ x. refl)
-  go_at c drive Keep at did = goes_on seat.word (hears m Keep (Job _)) taken tt _ did.1 (λ x. refl) (λ q. refl) (λ x. refl)
+  go_at c drive Keep at did =
+      goes_on seat.word (hears m Keep (Job _)) taken tt _ did.1 (λ x. refl) (λ q. refl) (λ x. refl)
   go_at c drive LoadRepin at did =
       moves _ (frees_by m.action (m.published == old.epoch) End (StoreRepin old.epoch) tt tt) did.1
   go_at c drive (StoreRepin e) at did =
@@ -261,12 +274,14 @@ module _ (old new : State) (reply : Reply) (p : ℕ) (h : KeepsReadings old) (li
         omega (arith, some_of (times_read n seat.readings) counted, reader_counted old p n h there)
     reader _ at = tt
 
-    begun_after : (b : Access) → ReadingFits (Accesses b k found) seat.readings → (did : Touched) → Touches b k found old.heap did
+    begun_after : (b : Access)
+        → ReadingFits (Accesses b k found) seat.readings → (did : Touched) → Touches b k found old.heap did
         → ReadingFits (progress_after b k did.told) (readings_after b did.told seat.readings)
     begun_after b at did touches = by_told b at did.told refl touches
       where
         by_told : (b : Access) → ReadingFits (Accesses b k found) seat.readings → (told : Accessed) → did.told ≡ told
-            → Touches b k found old.heap did → ReadingFits (progress_after b k told) (readings_after b told seat.readings)
+            → Touches b k found old.heap did
+            → ReadingFits (progress_after b k told) (readings_after b told seat.readings)
         by_told b at (Answers answer) is touches = tt
         by_told b at NoSlot is touches = tt
         by_told (Read g ptr) at (Again other) is touches = at
@@ -276,7 +291,11 @@ module _ (old new : State) (reply : Reply) (p : ℕ) (h : KeepsReadings old) (li
     accesses : (did : Touched) → Touches a k found old.heap did
         → new ≡ record (with_seat old p (accessed_seat a k did.told seat)) { heap = did.heap } → KeepsReadings new
     accesses did touches e = writes (accessed_seat a k did.told seat) _ e (λ q. refl) (λ x. refl)
-        (λ x. omega (arith, touch_counts a k found old.heap did (reader a fits) touches x, readings_told a did.told seat.readings x (leaves a fits)))
+        (λ x. omega (
+          arith,
+          touch_counts a k found old.heap did (reader a fits) touches x,
+          readings_told a did.told seat.readings x (leaves a fits),
+        ))
         (record {
           once = once_after a did.told k found seat.readings fits was.once;
           begun = begun_after a fits did touches;
@@ -294,19 +313,24 @@ module _ (old new : State) (reply : Reply) (p : ℕ) (h : KeepsReadings old) (li
 
   -- HOW A CALL BEGINS
 
-  drives_keeps : (a : Action) (c : Call) → ReadingFits (Driven c) seat.readings → new ≡ with_seat old p (drives a c seat) → KeepsReadings new
+  drives_keeps : (a : Action) (c : Call)
+      → ReadingFits (Driven c) seat.readings → new ≡ with_seat old p (drives a c seat) → KeepsReadings new
   drives_keeps a c begun e = writes (drives a c seat) _ e (λ q. refl) (λ x. refl) (λ x. refl)
       (record { once = was.once; begun = begun; free = λ is. absurd (taken is); frees = frees_first a m })
 
   begins_access : (a : Access) (b : Bool) → ReadingFits (Accesses a 0 null) seat.readings
-      → new ≡ with_seat old p (record seat { progress = if b then Accesses a 0 null else Ends (Done Absent) }) → KeepsReadings new
+      → new ≡ with_seat old p (record seat { progress = if b then Accesses a 0 null else Ends (Done Absent) })
+      → KeepsReadings new
   begins_access a true begun e = goes_to (Accesses a 0 null) begun _ e (λ x. refl) (λ q. refl) (λ x. refl)
   begins_access a false begun e = goes_to (Ends (Done Absent)) tt _ e (λ x. refl) (λ q. refl) (λ x. refl)
 
   -- the readings allow a call on cells
   access_fits : (a : Access) → under_guard (guard_of a) seat.guards (access_refusal a seat.readings old.heap) ≡ None
       → ReadingFits (Accesses a 0 null) seat.readings
-  access_fits a own = by_call a (inner (knows_names old.heap a) _ _ (inner (has_place old.heap a) _ _ (under_given (guard_of a) seat.guards _ own)))
+  access_fits a own =
+      by_call a
+      (inner (knows_names old.heap a) _ _
+      (inner (has_place old.heap a) _ _ (under_given (guard_of a) seat.guards _ own)))
     where
       by_call : (b : Access) → reading_refusal b seat.readings ≡ None → ReadingFits (Accesses b 0 null) seat.readings
       by_call (Read g ptr) ok = unread (reads ptr.name seat.readings) _ ok
@@ -317,13 +341,15 @@ module _ (old new : State) (reply : Reply) (p : ℕ) (h : KeepsReadings old) (li
       by_call (Leave ptr) ok = guard_given (reads ptr.name seat.readings) _ _ ok
       by_call _ ok = tt
 
-  none_read : (b : Bool) (readings : List Name) → (if b then (if is_empty readings then None else Some GuardsOut) else Some GuardsOut) ≡ None
+  none_read : (b : Bool) (readings : List Name)
+      → (if b then (if is_empty readings then None else Some GuardsOut) else Some GuardsOut) ≡ None
       → readings ≡ []
   none_read true [] e = refl
   none_read true (x ∷ readings) e = absurd (cc (e))
   none_read false readings e = absurd (cc (e))
 
-  begins_keeps : (c : Call) → call_refusal c seat old.tickets old.heap ≡ None → new ≡ with_seat old p (begun_seat c seat) → KeepsReadings new
+  begins_keeps : (c : Call)
+      → call_refusal c seat old.tickets old.heap ≡ None → new ≡ with_seat old p (begun_seat c seat) → KeepsReadings new
   begins_keeps Pin own e = drives_keeps PinAction Pin tt e
   begins_keeps (Unpin g) own e = drives_keeps UnpinAction (Unpin g) tt e
   begins_keeps (Repin (Some g)) own e = drives_keeps RepinAction (Repin (Some g)) tt e
@@ -331,7 +357,8 @@ module _ (old new : State) (reply : Reply) (p : ℕ) (h : KeepsReadings old) (li
   begins_keeps (Resume (Some g)) own e = drives_keeps PinAction (Resume (Some g)) tt e
   begins_keeps (Defer (Some g)) own e = drives_keeps DeferAction (Defer (Some g)) tt e
   begins_keeps (Flush (Some g)) own e = drives_keeps FlushAction (Flush (Some g)) tt e
-  begins_keeps Release own e = drives_keeps ReleaseAction Release (none_read (length seat.guards == 0) seat.readings own) e
+  begins_keeps Release own e =
+      drives_keeps ReleaseAction Release (none_read (length seat.guards == 0) seat.readings own) e
   begins_keeps (DeferDestroy (Some g) ptr) own e = drives_keeps DeferAction (DeferDestroy (Some g) ptr) tt e
   begins_keeps (Defer None) own e = goes_to (CallsNow None) tt _ e (λ x. refl) (λ q. refl) (λ x. refl)
   begins_keeps (DeferDestroy None ptr) own e = goes_to (CallsNow ptr.name) tt _ e (λ x. refl) (λ q. refl) (λ x. refl)
@@ -351,16 +378,19 @@ module _ (old new : State) (reply : Reply) (h : KeepsReadings old) (linked : All
 
   registers : (p : ℕ) → p < length old.seats → word_of old p ≡ Free
       → new ≡ with_seat old p (record (free_seat old.sizes) { word = Unpinned }) → KeepsReadings new
-  registers p there free e = subst KeepsReadings (sym e) (kept_written old _ p (record (free_seat old.sizes) { word = Unpinned }) h there
+  registers p there free e =
+      subst KeepsReadings (sym e) (kept_written old _ p (record (free_seat old.sizes) { word = Unpinned }) h there
       (λ q. refl) (λ x. refl)
       (λ x. ap (λ (readings : List Name). readers_at old.heap x + times_read x readings) ((h.seats p).free free))
       (record { once = λ x. omega arith; begun = tt; free = λ is. refl; frees = tt }))
 
-  begins_step : (p : ℕ) (c : Call) (f : Option Fault) → refusal c (seat_of old p) old.tickets old.heap ≡ f → Begins old p c f reply new
+  begins_step : (p : ℕ) (c : Call) (f : Option Fault)
+      → refusal c (seat_of old p) old.tickets old.heap ≡ f → Begins old p c f reply new
       → KeepsReadings new
   begins_step p c (Some f) at did = stays did.1
   begins_step p c None at did =
-      let given : IsAccepted c (seat_of old p) old.tickets old.heap = begin_given c (seat_of old p) old.tickets old.heap at in
+      let given : IsAccepted c (seat_of old p) old.tickets old.heap =
+      begin_given c (seat_of old p) old.tickets old.heap at in
       begins_keeps old new reply p h linked given.taken c given.own did.1
 
   end_goes : (e : Ending) → EndGoes old e reply new → KeepsReadings new
@@ -384,15 +414,18 @@ module _ (old new : State) (reply : Reply) (h : KeepsReadings old) (linked : All
 
 -- WHOLE RUNS
 
-pub step_keeps : (old new : State) (step : Step) (reply : Reply) → KeepsReadings old → AllLinked old → Takes old step reply new → KeepsReadings new
+pub step_keeps : (old new : State) (step : Step) (reply : Reply)
+    → KeepsReadings old → AllLinked old → Takes old step reply new → KeepsReadings new
 step_keeps old new step reply h linked took =
     let aside : State = with_places new old.places old.seen old.ahead old.room in
     kept_by aside new (readings_move old aside reply h linked step took.0) (λ x. refl) (λ p. refl) (λ x. refl)
 
-runs_keep : (old new : State) (log : List Entry) → KeepsReadings old → AllLinked old → Runs old log new → KeepsReadings new
+runs_keep : (old new : State) (log : List Entry)
+    → KeepsReadings old → AllLinked old → Runs old log new → KeepsReadings new
 runs_keep old new [] h linked run = subst KeepsReadings (sym run) h
 runs_keep old new (x ∷ log) h linked (mid, did, run) =
-    runs_keep mid new log (step_keeps old mid x.step x.reply h linked did) (step_linked old mid x.step x.reply linked did) run
+    runs_keep mid new log (step_keeps old mid x.step x.reply h linked did)
+    (step_linked old mid x.step x.reply linked did) run
 
 pub fresh_readings : (s : State) → IsFresh s → KeepsReadings s
 fresh_readings s fresh = record {
@@ -403,7 +436,8 @@ fresh_readings s fresh = record {
       (record { once = λ n. omega arith; begun = tt; free = λ is. refl; frees = tt });
 }
   where
-    none_counted : (n : Name) (there : Option Cell) → slice_get s.heap.cells (n.slot - 1) ≡ there → readers_in (if_has n.turn there) ≡ 0
+    none_counted : (n : Name) (there : Option Cell)
+        → slice_get s.heap.cells (n.slot - 1) ≡ there → readers_in (if_has n.turn there) ≡ 0
     none_counted n None at = refl
     none_counted n (Some cell) at = subst (λ (c : Cell). readers_in (if_has n.turn (Some c)) ≡ 0)
         (sym (fresh.empty_cells (n.slot - 1) cell at)) (none_there n.turn (empty s.heap.start_turn) refl)

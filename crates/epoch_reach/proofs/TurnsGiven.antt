@@ -84,7 +84,8 @@ stands_filled h n cell e =
     is_full None e = absurd (cc)
     is_full (Some other) e = at_test (has other n.turn) refl e
       where
-        at_test : (b : Bool) → has other n.turn ≡ b → (if b then Some other else None) ≡ Some cell → is_some cell.value ≡ true
+        at_test : (b : Bool)
+            → has other n.turn ≡ b → (if b then Some other else None) ≡ Some cell → is_some cell.value ≡ true
         at_test true test h =
             let same : other ≡ cell = cc in
             ap (λ (c : Cell). is_some c.value) (sym same) ∙ both (other.turn == n.turn) (is_some other.value) test
@@ -155,7 +156,9 @@ given_placed v k found h (Some cell) e did (inl (free, n, slot, turn, is)) =
     none_yet = ap (next_at cell.turn) free.0 ∙ sym turn
 
     later : (t : ℕ) → GivenAt t (slice_get h.cells (n.slot - 1)) → t < n.turn + 1
-    later t given = let lt : t < next_turn cell = subst (λ (c : Option Cell). GivenAt t c) at_slot given in omega (arith, lt, none_yet)
+    later t given =
+        let lt : t < next_turn cell =
+        subst (λ (c : Option Cell). GivenAt t c) at_slot given in omega (arith, lt, none_yet)
 
 -- POINTER CALLS
 
@@ -169,7 +172,8 @@ given_pointer h (Field n f) ptr = at_cell (cell_at h n) refl
   where
     at_cell : (cell : Option Cell) → cell_at h n ≡ cell → StaysGiven h (with_field_in h n f ptr cell)
     at_cell None e = given_same h h refl
-    at_cell (Some cell) e = given_kept h n cell (record cell { value = option_map (λ content. with_field content f ptr) cell.value }) e
+    at_cell (Some cell) e =
+        given_kept h n cell (record cell { value = option_map (λ content. with_field content f ptr) cell.value }) e
         (omega (arith, mapped_next (λ content. with_field content f ptr) cell.turn cell.value))
 
 module _ (h : Heap) (spot : Spot) (did : Touched) where

@@ -126,9 +126,9 @@ past_of s log new run = past_from no_past s log new run
 
 -- HOW CELLS HAVE TO LEAVE
 
--- A name leaves at most once: by a removal that is deferred, which only a protecting guard does, or by a Take of what was
--- never in reach, and by no removal at once. From then on it is out of reach. No pointer step changes a field of a name
--- that was in reach once and is out of reach now.
+-- A name leaves at most once: by a removal that is deferred, which only a protecting guard does, or by a Take of what
+-- was never in reach, and by no removal at once. From then on it is out of reach. No pointer step changes a field of a
+-- name that was in reach once and is out of reach now.
 pub record LeavesRightly (past : Past) (s : State) (entry : Entry) (new : State) : Type 0 where
   pub deferred_once : (t : ℕ) (x : Name) → DefersRemoval s entry t x → ¬ (past.left x)
   pub taken_once : (x : Name) → TakesOut s entry new x → ¬ (past.left x)

@@ -53,7 +53,8 @@ pub record CallsAsDeferred (past : Past) (s : State) (entry : Entry) (new : Stat
 abbrev pub AsDeferredFrom : Past → (s : State) (log : List Entry) (new : State) → Runs s log new → Type 0
 AsDeferredFrom past s [] new run = AllAsDeferred past s
 AsDeferredFrom past s (entry ∷ log) new (mid, did, run) =
-    AllAsDeferred past s × CallsAsDeferred past s entry mid × AsDeferredFrom (past_after past s entry mid) mid log new run
+    AllAsDeferred past s × CallsAsDeferred past s entry mid
+    × AsDeferredFrom (past_after past s entry mid) mid log new run
 
 abbrev pub CallsWhatWasDeferred : (s : State) (log : List Entry) (new : State) → Runs s log new → Type 0
 CallsWhatWasDeferred s log new run = AsDeferredFrom no_past s log new run

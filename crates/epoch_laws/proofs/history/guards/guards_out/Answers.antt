@@ -29,11 +29,13 @@ loop-place-preserved c =
     let more = sym (told_more c.args.participant log place _ c.loop-place-test.true) in
     record {
       known = c.after-known.ensures before old.known
-          ∙ ap (λ (entry : Entry). known_of (told_after c.args.participant before entry.step entry.reply)) c.index-entries-place.is
+          ∙ ap (λ (entry : Entry). known_of (told_after c.args.participant before entry.step entry.reply))
+          c.index-entries-place.is
           ∙ ap known_of more;
       counted = counted
           ∙ ap length (sym (c.change.ensures before old.known))
-          ∙ ap (λ (entry : Entry). length (told_after c.args.participant before entry.step entry.reply).guards) c.index-entries-place.is
+          ∙ ap (λ (entry : Entry). length (told_after c.args.participant before entry.step entry.reply).guards)
+          c.index-entries-place.is
           ∙ ap (λ (t : Told). length t.guards) more;
       few = elim c.match-change.branch [
         | in-Adds w ↦ omega (arith, old.few)

@@ -15,11 +15,14 @@ loop-entry-preserved c =
     let more = sym (told_more c.args.participant log place _ c.loop-entry-test.true) in
     record {
       known = c.after-known.ensures before old.known
-          ∙ ap (λ (entry : Entry). known_of (told_after c.args.participant before entry.step entry.reply)) c.entry-item.is
+          ∙ ap (λ (entry : Entry). known_of (told_after c.args.participant before entry.step entry.reply))
+          c.entry-item.is
           ∙ ap known_of more;
       counted = c.times_after-times.ensures.counted before.guards old.counted
           ∙ ap (times_in c.args.guard) (sym (c.change.ensures before old.known))
-          ∙ ap (λ (entry : Entry). times_in c.args.guard (told_after c.args.participant before entry.step entry.reply).guards) c.entry-item.is
+          ∙ ap
+          (λ (entry : Entry). times_in c.args.guard
+          (told_after c.args.participant before entry.step entry.reply).guards) c.entry-item.is
           ∙ ap (λ (t : Told). times_in c.args.guard t.guards) more;
       few = omega (arith, c.times_after-times.ensures.few, old.few);
     }

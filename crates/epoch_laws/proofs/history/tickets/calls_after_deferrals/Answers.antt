@@ -27,7 +27,8 @@ loop-place-preserved c =
           (sym (ap (λ (entry : Entry). entry.reply) c.index-entries-place.is) ∙ w.in-Called.is)
           (w.is_deferred_before.ensures.0 w.if-not-is_deferred_before.false)
       | in_default w ↦ where_none_called c.args.entries.now c.loop-place.place _ before
-          (λ t how is. w.in_default.not-Called t how (ap (λ (entry : Entry). entry.reply) c.index-entries-place.is ∙ is))
+          (λ t how is. w.in_default.not-Called t how
+          (ap (λ (entry : Entry). entry.reply) c.index-entries-place.is ∙ is))
     ])
 
 pub returns : goal.returns

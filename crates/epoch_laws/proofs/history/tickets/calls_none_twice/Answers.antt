@@ -27,7 +27,8 @@ loop-place-preserved c =
           (not_from_Decides _ w.is_called_before.ensures w.if-is_called_before.false)
       | in_default w ↦
           where_none_called c.args.entries.now c.loop-place.place _ not_before
-          (λ t how is. w.in_default.not-Called t how (ap (λ (entry : Entry). entry.reply) c.index-entries-place.is ∙ is))
+          (λ t how is. w.in_default.not-Called t how
+          (ap (λ (entry : Entry). entry.reply) c.index-entries-place.is ∙ is))
     ])
 
 pub returns : goal.returns
