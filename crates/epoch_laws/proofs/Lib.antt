@@ -49,6 +49,7 @@ pub mod PutsFind
 pub mod FullOfGo
 pub mod FullFound
 pub mod RunsGoOn
+pub mod SizesStay
 pub mod TicketsNumbered
 pub mod EndsCounted
 pub mod RefusalsSince

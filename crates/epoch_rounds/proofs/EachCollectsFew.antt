@@ -20,7 +20,7 @@ use Rattle.epoch_laws.specs.Run.{Seat, State, Ending, Open, Emptying, Over, seat
 use Rattle.epoch_laws.proofs.SeatLemmas.{seat_written, seat_other, seat_there, same_or_other, IsAccepted, begin_given}
 use Rattle.epoch_laws.proofs.SeatLinks.{AllLinked, follows_at}
 use Rattle.epoch_laws.proofs.Linked.{moved_linked, fresh_linked}
-use Rattle.epoch_rounds.proofs.SizesStay.{moves_same}
+use Rattle.epoch_laws.proofs.SizesStay.{moves_same}
 use Rattle.epoch_rounds.proofs.FewCollected.{AllSmall, small_got, Counts, weak, bound, begun_counts, told, GoesTo, go_counts}
 
 pub record Holds (z : Sizes) (taken called : ℕ → ℕ) (s : State) : Type 0 where

@@ -1,5 +1,4 @@
 pub mod QuietSteps
-pub mod SizesStay
 pub mod QuietRounds
 pub mod FirstRound
 pub mod PutFound
