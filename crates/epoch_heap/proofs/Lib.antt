@@ -1,2 +1,3 @@
 pub mod FoundCells
 pub mod HeapCalls
+pub mod PointersWritten

@@ -1,5 +1,5 @@
 -- What a step on cells and pointers does to the names whose cells stand.
-use Rattle.std.proofs.Common.{◌≡◌, ℕ, zero, suc, ◌+◌, ◌-◌, ◌<◌, ◌==◌, ◌&&◌, Bool, true, false, Option, Some, None, is_some, ◌⊎◌, inl, inr, refl, ap, sym, subst, ◌∙◌, arith, if◌then◌else◌, slice_get, slice_set}
+use Rattle.std.proofs.Common.{◌≡◌, ℕ, ◌+◌, ◌-◌, ◌<◌, ◌==◌, ◌&&◌, Bool, true, false, Option, Some, None, is_some, ◌⊎◌, inl, inr, refl, ap, sym, subst, ◌∙◌, arith, if◌then◌else◌, slice_get, slice_set}
 use Rattle.std.specs.Prelude.{option_map}
 use Rattle.std.proofs.lemmas.Bool.Decides.{nat_tests}
 use Rattle.std.proofs.lemmas.Option.{slice_get_within}
@@ -17,12 +17,12 @@ use Rattle.epoch_laws.specs.declared.step.Progress.TheVariants.{Ends}
 use Rattle.epoch_laws.specs.declared.step.Reply.TheVariants.{Done}
 use Rattle.epoch_laws.specs.Run.{progress_after}
 use Rattle.epoch_heap.specs.declared.access.Change.{Change}
-use Rattle.epoch_heap.specs.declared.access.Change.TheVariants.{Load, Store, Swap, CompareExchange, FetchAnd, FetchOr, FetchXor, FetchUpdate}
 use Rattle.epoch_heap.specs.declared.access.Ptr.{Ptr}
 use Rattle.epoch_heap.specs.declared.access.Spot.{Spot}
 use Rattle.epoch_heap.specs.declared.access.Spot.TheVariants.{Root, Field}
 use Rattle.epoch_heap.specs.declared.heap.Content.{Content}
-use Rattle.epoch_heap.specs.Heap.{Cell, Heap, cell_at, with_cell_at, with_field, with_field_in, with_pointer, nulls, without_cell, outcome_of, called_by, after_job, Touched, touched, raised, read_by, left_by, written_by, taken_by, at_name, Places, Changes, ChangesAt, Touches}
+use Rattle.epoch_heap.proofs.PointersWritten.{kept_or_written}
+use Rattle.epoch_heap.specs.Heap.{Cell, Heap, cell_at, with_cell_at, with_field, with_field_in, with_pointer, nulls, without_cell, outcome_of, called_by, after_job, Touched, raised, read_by, left_by, written_by, taken_by, at_name, Places, ChangesAt, Touches}
 use Rattle.epoch_reach.specs.Standing.{Stands}
 use Rattle.epoch_reach.proofs.Names.{name_same}
 use Rattle.epoch_heap.proofs.FoundCells.{found_cell}
@@ -335,33 +335,13 @@ changes_pointer h (Field n f) ptr = at_cell (cell_at h n) refl
         cells_kept h n cell (record cell { value = option_map (λ content. with_field content f ptr) cell.value }) e refl
         (mapped_some (λ content. with_field content f ptr) cell.value)
 
-module _ (h : Heap) (spot : Spot) (did : Touched) where
-  abbrev Goal : Type 0
-  Goal = ChangesCells h did.heap none_emptied
-
-  stays : (told : Accessed) → did ≡ touched told h → Goal
-  stays told e = cells_same h did.heap (ap (λ (d : Touched). d.heap) e)
-
-  replaces : (told : Accessed) (ptr : Ptr) → did ≡ touched told (with_pointer h spot ptr) → Goal
-  replaces told ptr e = subst (λ (d : Touched). ChangesCells h d.heap none_emptied) (sym e) (changes_pointer h spot ptr)
-
-  changed : (change : Change) (k : ℕ) (found ptr : Ptr) → Changes change k found ptr spot h did → Goal
-  changed Load k found ptr e = stays _ e
-  changed (Store other) k found ptr e = replaces _ _ e
-  changed (Swap other) k found ptr e = replaces _ _ e
-  changed (CompareExchange current other) k found ptr (inl e) = replaces _ _ e.1
-  changed (CompareExchange current other) k found ptr (inr e) = stays _ e.1
-  changed (FetchAnd n) k found ptr e = replaces _ _ e
-  changed (FetchOr n) k found ptr e = replaces _ _ e
-  changed (FetchXor n) k found ptr e = replaces _ _ e
-  changed (FetchUpdate tries by) zero found ptr e = stays _ e
-  changed (FetchUpdate tries by) (suc k) found ptr (inl e) = replaces _ _ e.1
-  changed (FetchUpdate tries by) (suc k) found ptr (inr e) = stays _ e.1
-
-  changed_at : (change : Change) (k : ℕ) (found : Ptr) (ptr : Option Ptr)
-      → ChangesAt change k found spot h ptr did → Goal
-  changed_at change k found None e = stays _ e
-  changed_at change k found (Some ptr) e = changed change k found ptr e
+changes_written : (change : Change) (k : ℕ) (found : Ptr) (spot : Spot) (h : Heap) (ptr : Option Ptr) (did : Touched)
+    → ChangesAt change k found spot h ptr did → ChangesCells h did.heap none_emptied
+changes_written change k found spot h ptr did e = elim (kept_or_written change k found spot h ptr did e) [
+  | inl same ↦ cells_same h did.heap same
+  | inr wrote ↦ subst (λ (heap : Heap). ChangesCells h heap none_emptied) (sym wrote.1)
+      (changes_pointer h spot wrote.0)
+]
 
 -- EACH CALL
 
@@ -376,7 +356,7 @@ touch_changes (Write g ptr v) k found h did e = subst (λ (d : Touched). Changes
     (changes_at _ h ptr.name (λ n. changes_put h n v (unread (cell_at h n)) refl))
 touch_changes (Take g ptr) k found h did e =
     subst (λ (d : Touched). ChangesCells h d.heap (Empties (Take g ptr) d.told)) (sym e) (takes_at h ptr.name)
-touch_changes (Point g spot change) k found h did e = changed_at h spot did change k found _ e
+touch_changes (Point g spot change) k found h did e = changes_written change k found spot h _ did e
 
 -- WHAT A PLACE GIVES
 

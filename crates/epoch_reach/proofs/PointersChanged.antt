@@ -1,5 +1,5 @@
 -- A step on cells and pointers takes pointers away, or is a pointer step and changes one.
-use Rattle.std.proofs.Common.{◌≡◌, ◌≢◌, ℕ, zero, suc, ◌+◌, ◌-◌, ◌==◌, Bool, true, false, Option, Some, None, is_some, ◌⊎◌, inl, inr, refl, ap, sym, subst, ◌∙◌, if◌then◌else◌, slice_get}
+use Rattle.std.proofs.Common.{◌≡◌, ◌≢◌, ℕ, ◌+◌, ◌-◌, ◌==◌, Bool, true, false, Option, Some, None, is_some, ◌⊎◌, inl, inr, refl, ap, sym, subst, ◌∙◌, if◌then◌else◌, slice_get}
 use Rattle.epoch_cells.specs.PlainCells.{filled, empty, unread, readable, removal_of}
 use Rattle.epoch_cells.specs.declared.cells.name.Name.{Name}
 use Rattle.epoch_cells.specs.declared.cells.Removal.{Removal}
@@ -7,12 +7,11 @@ use Rattle.epoch_cells.specs.declared.cells.Removal.TheVariants.{Destroyed, Held
 use Rattle.epoch_heap.specs.declared.access.Ptr.{Ptr}
 use Rattle.epoch_heap.specs.declared.access.Spot.{Spot}
 use Rattle.epoch_heap.specs.declared.access.Change.{Change}
-use Rattle.epoch_heap.specs.declared.access.Change.TheVariants.{Load, Store, Swap, CompareExchange, FetchAnd, FetchOr, FetchXor, FetchUpdate}
 use Rattle.epoch_heap.specs.declared.access.Access.{Access}
 use Rattle.epoch_heap.specs.declared.access.Access.TheVariants.{Place, Read, Leave, Write, Take, Point}
-use Rattle.epoch_heap.specs.declared.access.Accessed.{Accessed}
 use Rattle.epoch_heap.specs.declared.heap.Content.{Content}
-use Rattle.epoch_heap.specs.Heap.{Cell, Heap, cell_at, field_of, pointer_at, with_pointer, without_cell, after_job, Touched, touched, raised, read_by, left_by, written_by, taken_by, at_name, Places, Changes, ChangesAt, Touches}
+use Rattle.epoch_heap.proofs.PointersWritten.{kept_or_written}
+use Rattle.epoch_heap.specs.Heap.{Cell, Heap, cell_at, field_of, pointer_at, without_cell, after_job, Touched, raised, read_by, left_by, written_by, taken_by, at_name, Places, ChangesAt, Touches}
 use Rattle.epoch_heap.proofs.FoundCells.{found_cell}
 use Rattle.epoch_reach.proofs.PointerSteps.{Fewer, fewer_same, fewer_written, fewer_kept, none_lead, nulls_lead, pointer_other}
 
@@ -92,39 +91,20 @@ fewer_placed v k found h (Some cell) did (inr e) = fewer_same h did.heap (ap (λ
 
 -- POINTERS
 
-module _ (g : Option ℕ) (spot : Spot) (all : Change) (h : Heap) (did : Touched) where
-  abbrev Goal : Type 0
-  Goal = Fewer h did.heap ⊎ Pointed (Point g spot all) h did.heap
-
-  kept : (told : Accessed) → did ≡ touched told h → Goal
-  kept told e = inl (fewer_same h did.heap (ap (λ (d : Touched). d.heap) e))
-
-  replaces : (told : Accessed) (ptr : Ptr) → did ≡ touched told (with_pointer h spot ptr) → Goal
-  replaces told ptr e = inr (record {
+pointed : (g : Option ℕ) (change : Change) (k : ℕ) (found : Ptr) (spot : Spot) (h : Heap) (ptr : Option Ptr)
+    (did : Touched) → ChangesAt change k found spot h ptr did
+    → Fewer h did.heap ⊎ Pointed (Point g spot change) h did.heap
+pointed g change k found spot h ptr did e = elim (kept_or_written change k found spot h ptr did e) [
+  | inl same ↦ inl (fewer_same h did.heap same)
+  | inr wrote ↦ inr (record {
     guard = g;
     spot = spot;
-    change = all;
+    change = change;
     call = refl;
-    others = λ other ne. ap (λ (d : Touched). pointer_at d.heap other) e ∙ pointer_other h spot ptr other ne;
+    others = λ other ne. ap (λ (heap : Heap). pointer_at heap other) wrote.1
+        ∙ pointer_other h spot wrote.0 other ne;
   })
-
-  changed : (change : Change) (k : ℕ) (found ptr : Ptr) → Changes change k found ptr spot h did → Goal
-  changed Load k found ptr e = kept _ e
-  changed (Store other) k found ptr e = replaces _ _ e
-  changed (Swap other) k found ptr e = replaces _ _ e
-  changed (CompareExchange current other) k found ptr (inl e) = replaces _ _ e.1
-  changed (CompareExchange current other) k found ptr (inr e) = kept _ e.1
-  changed (FetchAnd n) k found ptr e = replaces _ _ e
-  changed (FetchOr n) k found ptr e = replaces _ _ e
-  changed (FetchXor n) k found ptr e = replaces _ _ e
-  changed (FetchUpdate tries by) zero found ptr e = kept _ e
-  changed (FetchUpdate tries by) (suc k) found ptr (inl e) = replaces _ _ e.1
-  changed (FetchUpdate tries by) (suc k) found ptr (inr e) = kept _ e.1
-
-  changed_at : (change : Change) (k : ℕ) (found : Ptr) (ptr : Option Ptr)
-      → ChangesAt change k found spot h ptr did → Goal
-  changed_at change k found None e = kept _ e
-  changed_at change k found (Some ptr) e = changed change k found ptr e
+]
 
 -- EACH CALL
 
@@ -140,4 +120,4 @@ touches_pointers (Write g ptr v) k found h did e = inl (subst (λ (d : Touched).
 touches_pointers (Take g ptr) k found h did e = inl (subst (λ (d : Touched). Fewer h d.heap) (sym e)
     (fewer_at _ h ptr.name (λ n. fewer_taken h n (unread (cell_at h n)))))
 touches_pointers (Point g spot change) k found h did e =
-    changed_at g spot change h did change k found (pointer_at h spot) e
+    pointed g change k found spot h (pointer_at h spot) did e

@@ -1,5 +1,5 @@
 -- How many readers each cell counts after a step: one more for a reading, and one less for the end of one.
-use Rattle.std.proofs.Common.{◌≡◌, ℕ, zero, suc, ◌+◌, ◌-◌, ◌≤◌, ◌==◌, ◌&&◌, ◌||◌, Bool, true, false, List, [], ◌∷◌, ◌++◌, Option, Some, None, is_some, inl, inr, refl, ap, sym, subst, ◌∙◌, arith, if◌then◌else◌, slice_get}
+use Rattle.std.proofs.Common.{◌≡◌, ℕ, ◌+◌, ◌-◌, ◌≤◌, ◌==◌, ◌&&◌, ◌||◌, Bool, true, false, List, [], ◌∷◌, ◌++◌, Option, Some, None, is_some, inl, inr, refl, ap, sym, subst, ◌∙◌, arith, if◌then◌else◌, slice_get}
 use Rattle.std.specs.Prelude.{option_map, nat_lt}
 use Rattle.std.proofs.lemmas.Bool.Decides.{nat_tests}
 use Rattle.std.proofs.lemmas.List.Sums.{sum_by-append, sum_by-cons}
@@ -14,12 +14,12 @@ use Rattle.epoch_heap.specs.declared.access.Accessed.{Accessed}
 use Rattle.epoch_heap.specs.declared.access.Accessed.TheVariants.{Answers}
 use Rattle.epoch_heap.specs.declared.access.Answer.TheVariants.{Value}
 use Rattle.epoch_heap.specs.declared.access.Change.{Change}
-use Rattle.epoch_heap.specs.declared.access.Change.TheVariants.{Load, Store, Swap, CompareExchange, FetchAnd, FetchOr, FetchXor, FetchUpdate}
 use Rattle.epoch_heap.specs.declared.access.Ptr.{Ptr}
 use Rattle.epoch_heap.specs.declared.access.Spot.{Spot}
 use Rattle.epoch_heap.specs.declared.access.Spot.TheVariants.{Root, Field}
 use Rattle.epoch_heap.specs.declared.heap.Content.{Content}
-use Rattle.epoch_heap.specs.Heap.{Cell, Heap, cell_at, with_cell_at, with_field, with_field_in, with_pointer, is_name, without_cell, after_job, Touched, touched, raised, read_by, left_by, written_by, taken_by, at_name, pointer_at, Places, Changes, ChangesAt, Touches}
+use Rattle.epoch_heap.proofs.PointersWritten.{kept_or_written}
+use Rattle.epoch_heap.specs.Heap.{Cell, Heap, cell_at, with_cell_at, with_field, with_field_in, with_pointer, is_name, without_cell, after_job, Touched, raised, read_by, left_by, written_by, taken_by, at_name, pointer_at, Places, ChangesAt, Touches}
 use Rattle.epoch_heap.proofs.FoundCells.{found_cell}
 use Rattle.epoch_laws.specs.Run.{reads, with_reading, without_reading, readings_after}
 use Rattle.epoch_laws.specs.Readings.{times_read, readers_in}
@@ -364,30 +364,12 @@ pointer_counts h (Field n f) ptr = at_cell (cell_at h n) refl
         still (Some content) b test = test
         still None b test = test
 
-module _ (spot : Spot) (h : Heap) (did : Touched) where
-  kept : (told : Accessed) → did ≡ touched told h → SameReaders h did.heap
-  kept told e = same_heap h did.heap (ap (λ (d : Touched). d.heap) e)
-
-  replaces : (told : Accessed) (ptr : Ptr) → did ≡ touched told (with_pointer h spot ptr) → SameReaders h did.heap
-  replaces told ptr e = subst (λ (d : Touched). SameReaders h d.heap) (sym e) (pointer_counts h spot ptr)
-
-  changed : (change : Change) (k : ℕ) (found ptr : Ptr) → Changes change k found ptr spot h did → SameReaders h did.heap
-  changed Load k found ptr e = kept _ e
-  changed (Store other) k found ptr e = replaces _ _ e
-  changed (Swap other) k found ptr e = replaces _ _ e
-  changed (CompareExchange current other) k found ptr (inl e) = replaces _ _ e.1
-  changed (CompareExchange current other) k found ptr (inr e) = kept _ e.1
-  changed (FetchAnd n) k found ptr e = replaces _ _ e
-  changed (FetchOr n) k found ptr e = replaces _ _ e
-  changed (FetchXor n) k found ptr e = replaces _ _ e
-  changed (FetchUpdate tries by) zero found ptr e = kept _ e
-  changed (FetchUpdate tries by) (suc k) found ptr (inl e) = replaces _ _ e.1
-  changed (FetchUpdate tries by) (suc k) found ptr (inr e) = kept _ e.1
-
-  changed_at : (change : Change) (k : ℕ) (found : Ptr) (ptr : Option Ptr) → ChangesAt change k found spot h ptr did
-      → SameReaders h did.heap
-  changed_at change k found None e = kept _ e
-  changed_at change k found (Some ptr) e = changed change k found ptr e
+changed_counts : (change : Change) (k : ℕ) (found : Ptr) (spot : Spot) (h : Heap) (ptr : Option Ptr) (did : Touched)
+    → ChangesAt change k found spot h ptr did → SameReaders h did.heap
+changed_counts change k found spot h ptr did e = elim (kept_or_written change k found spot h ptr did e) [
+  | inl same ↦ same_heap h did.heap same
+  | inr wrote ↦ subst (SameReaders h) (sym wrote.1) (pointer_counts h spot wrote.0)
+]
 
 same_at : (step : Name → Touched) (h : Heap) (name : Option Name) → ((n : Name) → SameReaders h (step n).heap)
     → SameReaders h (at_name step h name).heap
@@ -429,4 +411,4 @@ touch_counts (Write g ptr v) k found h did some e m = ap (λ (k : ℕ). k + 0)
 touch_counts (Take g ptr) k found h did some e m = ap (λ (k : ℕ). k + 0)
     (same_along h did _ e (same_at _ h ptr.name (λ n. taken_counts h n (unread (cell_at h n)) refl)) m)
 touch_counts (Point g spot change) k found h did some e m =
-    ap (λ (k : ℕ). k + 0) (changed_at spot h did change k found (pointer_at h spot) e m)
+    ap (λ (k : ℕ). k + 0) (changed_counts change k found spot h (pointer_at h spot) did e m)

@@ -1,14 +1,12 @@
 -- Turns of slots only go up, so no name is given twice.
-use Rattle.std.proofs.Common.{◌≡◌, ℕ, zero, suc, ◌+◌, ◌-◌, ◌<◌, ◌≤◌, ◌==◌, ◌&&◌, Bool, true, false, Option, Some, None, is_some, inl, inr, refl, ap, sym, subst, ◌∙◌, arith, le_refl, if◌then◌else◌, slice_get}
+use Rattle.std.proofs.Common.{◌≡◌, ℕ, ◌+◌, ◌-◌, ◌<◌, ◌≤◌, ◌==◌, ◌&&◌, Bool, true, false, Option, Some, None, is_some, inl, inr, refl, ap, sym, subst, ◌∙◌, arith, le_refl, if◌then◌else◌, slice_get}
 use Rattle.std.specs.Prelude.{option_map}
 use Rattle.epoch_cells.specs.PlainCells.{filled, empty, has, if_has, unread, readable, removal_of}
 use Rattle.epoch_cells.specs.declared.cells.name.Name.{Name}
 use Rattle.epoch_cells.specs.declared.cells.Removal.TheVariants.{Destroyed, HeldElsewhere}
 use Rattle.epoch_heap.specs.declared.access.Access.{Access}
 use Rattle.epoch_heap.specs.declared.access.Access.TheVariants.{Place, Read, Leave, Write, Take, Point}
-use Rattle.epoch_heap.specs.declared.access.Accessed.{Accessed}
 use Rattle.epoch_heap.specs.declared.access.Change.{Change}
-use Rattle.epoch_heap.specs.declared.access.Change.TheVariants.{Load, Store, Swap, CompareExchange, FetchAnd, FetchOr, FetchXor, FetchUpdate}
 use Rattle.epoch_heap.specs.declared.access.Ptr.{Ptr}
 use Rattle.epoch_heap.specs.declared.access.Spot.{Spot}
 use Rattle.epoch_heap.specs.declared.access.Spot.TheVariants.{Root, Field}
@@ -19,7 +17,8 @@ use Rattle.epoch_laws.specs.declared.step.Progress.TheVariants.{Ends}
 use Rattle.epoch_laws.specs.declared.step.Reply.TheVariants.{Done}
 use Rattle.epoch_laws.specs.Run.{progress_after}
 use Rattle.epoch_heap.specs.declared.heap.Content.{Content}
-use Rattle.epoch_heap.specs.Heap.{Cell, Heap, cell_at, with_cell_at, with_field, with_field_in, with_pointer, without_cell, after_job, Touched, touched, raised, read_by, left_by, written_by, taken_by, at_name, Places, Changes, ChangesAt, Touches}
+use Rattle.epoch_heap.proofs.PointersWritten.{kept_or_written}
+use Rattle.epoch_heap.specs.Heap.{Cell, Heap, cell_at, with_cell_at, with_field, with_field_in, with_pointer, without_cell, after_job, Touched, raised, read_by, left_by, written_by, taken_by, at_name, Places, ChangesAt, Touches}
 use Rattle.epoch_heap.proofs.FoundCells.{found_cell}
 use Rattle.epoch_reach.proofs.PointerSteps.{set_or_kept}
 use Rattle.epoch_reach.proofs.PointersChanged.{unread_there}
@@ -176,30 +175,12 @@ given_pointer h (Field n f) ptr = at_cell (cell_at h n) refl
         given_kept h n cell (record cell { value = option_map (λ content. with_field content f ptr) cell.value }) e
         (omega (arith, mapped_next (λ content. with_field content f ptr) cell.turn cell.value))
 
-module _ (h : Heap) (spot : Spot) (did : Touched) where
-  kept : (told : Accessed) → did ≡ touched told h → StaysGiven h did.heap
-  kept told e = given_same h did.heap (ap (λ (d : Touched). d.heap) e)
-
-  replaces : (told : Accessed) (ptr : Ptr) → did ≡ touched told (with_pointer h spot ptr) → StaysGiven h did.heap
-  replaces told ptr e = subst (λ (d : Touched). StaysGiven h d.heap) (sym e) (given_pointer h spot ptr)
-
-  changed : (change : Change) (k : ℕ) (found ptr : Ptr) → Changes change k found ptr spot h did → StaysGiven h did.heap
-  changed Load k found ptr e = kept _ e
-  changed (Store other) k found ptr e = replaces _ _ e
-  changed (Swap other) k found ptr e = replaces _ _ e
-  changed (CompareExchange current other) k found ptr (inl e) = replaces _ _ e.1
-  changed (CompareExchange current other) k found ptr (inr e) = kept _ e.1
-  changed (FetchAnd n) k found ptr e = replaces _ _ e
-  changed (FetchOr n) k found ptr e = replaces _ _ e
-  changed (FetchXor n) k found ptr e = replaces _ _ e
-  changed (FetchUpdate tries by) zero found ptr e = kept _ e
-  changed (FetchUpdate tries by) (suc k) found ptr (inl e) = replaces _ _ e.1
-  changed (FetchUpdate tries by) (suc k) found ptr (inr e) = kept _ e.1
-
-  changed_at : (change : Change) (k : ℕ) (found : Ptr) (ptr : Option Ptr) → ChangesAt change k found spot h ptr did
-      → StaysGiven h did.heap
-  changed_at change k found None e = kept _ e
-  changed_at change k found (Some ptr) e = changed change k found ptr e
+given_changed : (change : Change) (k : ℕ) (found : Ptr) (spot : Spot) (h : Heap) (ptr : Option Ptr) (did : Touched)
+    → ChangesAt change k found spot h ptr did → StaysGiven h did.heap
+given_changed change k found spot h ptr did e = elim (kept_or_written change k found spot h ptr did e) [
+  | inl same ↦ given_same h did.heap same
+  | inr wrote ↦ subst (StaysGiven h) (sym wrote.1) (given_pointer h spot wrote.0)
+]
 
 -- EACH CALL
 
@@ -214,7 +195,7 @@ touches_given (Write g ptr v) k found h did e = subst (λ (d : Touched). StaysGi
     (given_at _ h ptr.name (λ n. given_put h n v (unread (cell_at h n)) refl))
 touches_given (Take g ptr) k found h did e = subst (λ (d : Touched). StaysGiven h d.heap) (sym e)
     (given_at _ h ptr.name (λ n. given_taken h n (unread (cell_at h n)) refl))
-touches_given (Point g spot change) k found h did e = changed_at h spot did change k found _ e
+touches_given (Point g spot change) k found h did e = given_changed change k found spot h _ did e
 
 -- what a place gives wasn't given, and is given then
 pub record GivesNew (old new : Heap) (n : Name) : Type 0 where

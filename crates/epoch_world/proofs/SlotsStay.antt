@@ -1,5 +1,5 @@
 -- No step changes how many slots there are.
-use Rattle.std.proofs.Common.{◌≡◌, ℕ, zero, suc, length, slice_get, Option, Some, None, inl, inr, refl, ap, ◌∙◌}
+use Rattle.std.proofs.Common.{◌≡◌, ℕ, length, slice_get, Option, Some, None, inl, inr, refl, ap, ◌∙◌}
 use Rattle.std.proofs.lemmas.List.{length-set}
 use Rattle.epoch_cells.specs.PlainCells.{readable, removal_of, unread}
 use Rattle.epoch_cells.specs.declared.cells.name.Name.{Name}
@@ -9,11 +9,11 @@ use Rattle.epoch_heap.specs.declared.heap.Content.{Content}
 use Rattle.epoch_heap.specs.declared.access.Access.{Access}
 use Rattle.epoch_heap.specs.declared.access.Access.TheVariants.{Place, Read, Leave, Write, Take, Point}
 use Rattle.epoch_heap.specs.declared.access.Change.{Change}
-use Rattle.epoch_heap.specs.declared.access.Change.TheVariants.{Load, Store, Swap, CompareExchange, FetchAnd, FetchOr, FetchXor, FetchUpdate}
 use Rattle.epoch_heap.specs.declared.access.Ptr.{Ptr}
 use Rattle.epoch_heap.specs.declared.access.Spot.{Spot}
 use Rattle.epoch_heap.specs.declared.access.Spot.TheVariants.{Root, Field}
-use Rattle.epoch_heap.specs.Heap.{Cell, Heap, Touched, cell_at, pointer_at, with_pointer, with_field_in, without_cell, after_job, at_name, read_by, left_by, written_by, taken_by, Places, Changes, ChangesAt, Touches}
+use Rattle.epoch_heap.proofs.PointersWritten.{kept_or_written}
+use Rattle.epoch_heap.specs.Heap.{Cell, Heap, Touched, cell_at, pointer_at, with_pointer, with_field_in, without_cell, after_job, at_name, read_by, left_by, written_by, taken_by, Places, ChangesAt, Touches}
 
 without_slots : (h : Heap) (n : Name) (r : Removal) → length (without_cell h n r).cells ≡ length h.cells
 without_slots h n Destroyed = length-set h.cells _ _
@@ -63,24 +63,12 @@ place_slots v k found h None did is = along h did _ is refl
 place_slots v k found h (Some cell) did (inl (free, n, slot, turn, is)) = along h did _ is (length-set h.cells _ _)
 place_slots v k found h (Some cell) did (inr is) = along h did _ is.1 refl
 
-change_slots : (change : Change) (k : ℕ) (found ptr : Ptr) (spot : Spot) (h : Heap) (did : Touched) → Changes change k found ptr spot h did
-    → length did.heap.cells ≡ length h.cells
-change_slots Load k found ptr spot h did e = along h did _ e refl
-change_slots (Store q) k found ptr spot h did e = along h did _ e (pointer_slots h spot _)
-change_slots (Swap q) k found ptr spot h did e = along h did _ e (pointer_slots h spot _)
-change_slots (CompareExchange c q) k found ptr spot h did (inl e) = along h did _ e.1 (pointer_slots h spot _)
-change_slots (CompareExchange c q) k found ptr spot h did (inr e) = along h did _ e.1 refl
-change_slots (FetchAnd x) k found ptr spot h did e = along h did _ e (pointer_slots h spot _)
-change_slots (FetchOr x) k found ptr spot h did e = along h did _ e (pointer_slots h spot _)
-change_slots (FetchXor x) k found ptr spot h did e = along h did _ e (pointer_slots h spot _)
-change_slots (FetchUpdate tries by) zero found ptr spot h did e = along h did _ e refl
-change_slots (FetchUpdate tries by) (suc k) found ptr spot h did (inl e) = along h did _ e.1 (pointer_slots h spot _)
-change_slots (FetchUpdate tries by) (suc k) found ptr spot h did (inr e) = along h did _ e.1 refl
-
-change_at_slots : (change : Change) (k : ℕ) (found : Ptr) (spot : Spot) (h : Heap) (there : Option Ptr) (did : Touched) → ChangesAt change k found spot h there did
-    → length did.heap.cells ≡ length h.cells
-change_at_slots change k found spot h (Some ptr) did e = change_slots change k found ptr spot h did e
-change_at_slots change k found spot h None did e = along h did _ e refl
+change_slots : (change : Change) (k : ℕ) (found : Ptr) (spot : Spot) (h : Heap) (ptr : Option Ptr) (did : Touched)
+    → ChangesAt change k found spot h ptr did → length did.heap.cells ≡ length h.cells
+change_slots change k found spot h ptr did e = elim (kept_or_written change k found spot h ptr did e) [
+  | inl same ↦ ap (λ (heap : Heap). length heap.cells) same
+  | inr wrote ↦ ap (λ (heap : Heap). length heap.cells) wrote.1 ∙ pointer_slots h spot wrote.0
+]
 
 -- one step of a call on cells and pointers
 pub access_slots : (a : Access) (k : ℕ) (found : Ptr) (h : Heap) (did : Touched) → Touches a k found h did → length did.heap.cells ≡ length h.cells
@@ -89,4 +77,4 @@ access_slots (Read g ptr) k found h did e = along h did _ e (named _ h ptr.name 
 access_slots (Leave ptr) k found h did e = along h did _ e (named _ h ptr.name (λ x. left_slots h x (cell_at h x)))
 access_slots (Write g ptr v) k found h did e = along h did _ e (named _ h ptr.name (λ x. written_slots h x v (unread (cell_at h x))))
 access_slots (Take g ptr) k found h did e = along h did _ e (named _ h ptr.name (λ x. taken_slots h x (unread (cell_at h x))))
-access_slots (Point g spot change) k found h did e = change_at_slots change k found spot h (pointer_at h spot) did e
+access_slots (Point g spot change) k found h did e = change_slots change k found spot h (pointer_at h spot) did e
