@@ -10,6 +10,7 @@ use Rattle.epoch_heap.specs.declared.access.Answer.TheVariants.{Absent}
 use Rattle.epoch_laws.specs.declared.step.Call.{Call}
 use Rattle.epoch_laws.specs.declared.step.Call.TheVariants.{Pin, Unpin, Repin, Pause, Resume, Defer, Flush, Release, DeferDestroy, Access as AccessCall}
 use Rattle.epoch_laws.specs.declared.step.Deferral.{Deferral}
+use Rattle.epoch_laws.specs.declared.step.Progress.{Progress}
 use Rattle.epoch_laws.specs.declared.step.Progress.TheVariants.{Idle, Driven, Accesses, Ends}
 use Rattle.epoch_heap.specs.declared.access.Ptr.{Ptr}
 use Rattle.epoch_laws.specs.declared.step.Reply.TheVariants.{Done}
@@ -49,25 +50,32 @@ out_pushed g h (k ∷ ks) e = at_own (k == g) refl (out_pushed g h ks)
 
 -- A CALL ENDS
 
+-- no call is under way then, the machine has ended its action, and the word stays
+abbrev Ended : Seat → Seat → Type 0
+Ended old new = (new.progress ≡ Idle) × (new.machine ≡ ended old.machine) × (new.word ≡ old.word)
+
+seat_ended : (seat : Seat) (c : Call) → Ended seat (ended_seat c seat)
+seat_ended seat Pin = (refl, refl, refl)
+seat_ended seat (Unpin None) = (refl, refl, refl)
+seat_ended seat (Unpin (Some h)) = (refl, refl, refl)
+seat_ended seat (Pause None) = (refl, refl, refl)
+seat_ended seat (Pause (Some h)) = (refl, refl, refl)
+seat_ended seat (Resume None) = (refl, refl, refl)
+seat_ended seat (Resume (Some h)) = (refl, refl, refl)
+seat_ended seat _ = (refl, refl, refl)
+
 pub idle_ended : (seat : Seat) (c : Call) → (ended_seat c seat).progress ≡ Idle
-idle_ended seat Pin = refl
-idle_ended seat (Unpin None) = refl
-idle_ended seat (Unpin (Some h)) = refl
-idle_ended seat (Pause None) = refl
-idle_ended seat (Pause (Some h)) = refl
-idle_ended seat (Resume None) = refl
-idle_ended seat (Resume (Some h)) = refl
-idle_ended seat _ = refl
+idle_ended seat c = (seat_ended seat c).0
 
 pub machine_ended : (seat : Seat) (c : Call) → (ended_seat c seat).machine ≡ ended seat.machine
-machine_ended seat Pin = refl
-machine_ended seat (Unpin None) = refl
-machine_ended seat (Unpin (Some h)) = refl
-machine_ended seat (Pause None) = refl
-machine_ended seat (Pause (Some h)) = refl
-machine_ended seat (Resume None) = refl
-machine_ended seat (Resume (Some h)) = refl
-machine_ended seat _ = refl
+machine_ended seat c = (seat_ended seat c).1
+
+pub word_ended : (seat : Seat) (c : Call) → (ended_seat c seat).word ≡ seat.word
+word_ended seat c = (seat_ended seat c).2
+
+pub guarded_ended : (seat : Seat) (c : Call) → Guarded (ended_seat c seat)
+guarded_ended seat c = subst (λ (progress : Progress). GuardsAccess progress (ended_seat c seat).guards)
+    (sym (idle_ended seat c)) tt
 
 module _ (seat : Seat) (g : ℕ) (out : is_out g seat.guards ≡ true) where
   out_ended : (c : Call) → ¬ (GivesUp g (Driven c)) → is_out g (ended_seat c seat).guards ≡ true
@@ -96,72 +104,36 @@ module _ (seat : Seat) (g : ℕ) (out : is_out g seat.guards ≡ true) where
       ∙ (ended_linked sizes seat linked c driven).counted)
       (out_ended c kept)
 
-pub word_ended : (seat : Seat) (c : Call) → (ended_seat c seat).word ≡ seat.word
-word_ended seat Pin = refl
-word_ended seat (Unpin None) = refl
-word_ended seat (Unpin (Some h)) = refl
-word_ended seat (Pause None) = refl
-word_ended seat (Pause (Some h)) = refl
-word_ended seat (Resume None) = refl
-word_ended seat (Resume (Some h)) = refl
-word_ended seat _ = refl
-
-pub guarded_ended : (seat : Seat) (c : Call) → Guarded (ended_seat c seat)
-guarded_ended seat Pin = tt
-guarded_ended seat (Unpin None) = tt
-guarded_ended seat (Unpin (Some h)) = tt
-guarded_ended seat (Pause None) = tt
-guarded_ended seat (Pause (Some h)) = tt
-guarded_ended seat (Resume None) = tt
-guarded_ended seat (Resume (Some h)) = tt
-guarded_ended seat _ = tt
-
 -- A CALL BEGINS
 
+-- the word and the jobs stay
+abbrev Begun : Seat → Seat → Type 0
+Begun old new =
+    (new.word ≡ old.word) × (new.machine.held ≡ old.machine.held) × (new.machine.hand ≡ old.machine.hand)
+
+seat_begun : (seat : Seat) (c : Call) → Begun seat (begun_seat c seat)
+seat_begun seat (Repin None) = (refl, refl, refl)
+seat_begun seat (Repin (Some h)) = (refl, refl, refl)
+seat_begun seat (Pause None) = (refl, refl, refl)
+seat_begun seat (Pause (Some h)) = (refl, refl, refl)
+seat_begun seat (Resume None) = (refl, refl, refl)
+seat_begun seat (Resume (Some h)) = (refl, refl, refl)
+seat_begun seat (Defer None) = (refl, refl, refl)
+seat_begun seat (Defer (Some h)) = (refl, refl, refl)
+seat_begun seat (Flush None) = (refl, refl, refl)
+seat_begun seat (Flush (Some h)) = (refl, refl, refl)
+seat_begun seat (DeferDestroy None ptr) = (refl, refl, refl)
+seat_begun seat (DeferDestroy (Some h) ptr) = (refl, refl, refl)
+seat_begun seat _ = (refl, refl, refl)
+
 pub word_begun : (seat : Seat) (c : Call) → (begun_seat c seat).word ≡ seat.word
-word_begun seat (Repin None) = refl
-word_begun seat (Repin (Some h)) = refl
-word_begun seat (Pause None) = refl
-word_begun seat (Pause (Some h)) = refl
-word_begun seat (Resume None) = refl
-word_begun seat (Resume (Some h)) = refl
-word_begun seat (Defer None) = refl
-word_begun seat (Defer (Some h)) = refl
-word_begun seat (Flush None) = refl
-word_begun seat (Flush (Some h)) = refl
-word_begun seat (DeferDestroy None ptr) = refl
-word_begun seat (DeferDestroy (Some h) ptr) = refl
-word_begun seat _ = refl
+word_begun seat c = (seat_begun seat c).0
 
 pub held_begun : (seat : Seat) (c : Call) → (begun_seat c seat).machine.held ≡ seat.machine.held
-held_begun seat (Repin None) = refl
-held_begun seat (Repin (Some h)) = refl
-held_begun seat (Pause None) = refl
-held_begun seat (Pause (Some h)) = refl
-held_begun seat (Resume None) = refl
-held_begun seat (Resume (Some h)) = refl
-held_begun seat (Defer None) = refl
-held_begun seat (Defer (Some h)) = refl
-held_begun seat (Flush None) = refl
-held_begun seat (Flush (Some h)) = refl
-held_begun seat (DeferDestroy None ptr) = refl
-held_begun seat (DeferDestroy (Some h) ptr) = refl
-held_begun seat _ = refl
+held_begun seat c = (seat_begun seat c).1
 
 pub hand_begun : (seat : Seat) (c : Call) → (begun_seat c seat).machine.hand ≡ seat.machine.hand
-hand_begun seat (Repin None) = refl
-hand_begun seat (Repin (Some h)) = refl
-hand_begun seat (Pause None) = refl
-hand_begun seat (Pause (Some h)) = refl
-hand_begun seat (Resume None) = refl
-hand_begun seat (Resume (Some h)) = refl
-hand_begun seat (Defer None) = refl
-hand_begun seat (Defer (Some h)) = refl
-hand_begun seat (Flush None) = refl
-hand_begun seat (Flush (Some h)) = refl
-hand_begun seat (DeferDestroy None ptr) = refl
-hand_begun seat (DeferDestroy (Some h) ptr) = refl
-hand_begun seat _ = refl
+hand_begun seat c = (seat_begun seat c).2
 
 access_gives : (g : ℕ) (a : Access) (b : Bool) → ¬ (GivesUp g (if b then Accesses a 0 null else Ends (Done Absent)))
 access_gives g a true gives = gives
