@@ -289,6 +289,26 @@ fn places_are_filled_and_emptied_from_the_first_one_on(rt: HostRuntime) -> Resul
     Ok(())
 }
 
+/// What a step shows, whether it is one of the first put or of the other, and its answer.
+type Turn = (&'static str, bool, PutStep);
+
+/// The steps of two puts of these bags, in this order, answer so.
+fn want_turns(
+    rt: &impl Abort,
+    places: &mut Places<u64>,
+    (one, other): (&mut PutCursor, &mut PutCursor),
+    (bag, another): ((u32, u64), (u32, u64)),
+    turns: &[Turn],
+) {
+    for (shows, is_first, wanted) in turns {
+        if *is_first {
+            want_put(rt, shows, places, one, bag, *wanted);
+        } else {
+            want_put(rt, shows, places, other, another, *wanted);
+        }
+    }
+}
+
 #[test]
 fn a_put_is_full_at_the_last_place_seen_occupied(rt: HostRuntime) -> Result<(), Fail> {
     let mut places = Places::new(rt.alloc(), 2)?;
@@ -318,73 +338,24 @@ fn a_put_is_full_at_the_last_place_seen_occupied(rt: HostRuntime) -> Result<(), 
 fn of_two_puts_one_loses_its_claim(rt: HostRuntime) -> Result<(), Fail> {
     let mut places = Places::new(rt.alloc(), 2)?;
     let (mut one, mut other) = (places.start_put(), places.start_put());
-    want_put(
-        &rt,
-        "one looks",
-        &mut places,
-        &mut one,
-        (0, 1),
-        PutStep::Again,
-    );
-    want_put(
-        &rt,
-        "the other looks",
-        &mut places,
-        &mut other,
-        (4, 2),
-        PutStep::Again,
-    );
-    want_put(
-        &rt,
-        "one claims",
-        &mut places,
-        &mut one,
-        (0, 1),
-        PutStep::Again,
-    );
-    want_put(
-        &rt,
-        "the other loses",
-        &mut places,
-        &mut other,
-        (4, 2),
-        PutStep::Again,
-    );
+    let bags = ((0, 1), (4, 2));
+    let claims = [
+        ("one looks", true, PutStep::Again),
+        ("the other looks", false, PutStep::Again),
+        ("one claims", true, PutStep::Again),
+        ("the other loses", false, PutStep::Again),
+    ];
+    want_turns(&rt, &mut places, (&mut one, &mut other), bags, &claims);
     want_word(&rt, &places, 0, Some(2));
     want_word(&rt, &places, 1, Some(0));
-    want_put(
-        &rt,
-        "one fills",
-        &mut places,
-        &mut one,
-        (0, 1),
-        PutStep::Done,
-    );
     // The other looks at the next place, claims it and fills it.
-    want_put(
-        &rt,
-        "the other's look",
-        &mut places,
-        &mut other,
-        (4, 2),
-        PutStep::Again,
-    );
-    want_put(
-        &rt,
-        "the other's claim",
-        &mut places,
-        &mut other,
-        (4, 2),
-        PutStep::Again,
-    );
-    want_put(
-        &rt,
-        "the other's fill",
-        &mut places,
-        &mut other,
-        (4, 2),
-        PutStep::Done,
-    );
+    let fills = [
+        ("one fills", true, PutStep::Done),
+        ("the other's look", false, PutStep::Again),
+        ("the other's claim", false, PutStep::Again),
+        ("the other's fill", false, PutStep::Done),
+    ];
+    want_turns(&rt, &mut places, (&mut one, &mut other), bags, &fills);
     want_word(&rt, &places, 0, Some(1));
     want_word(&rt, &places, 1, Some(9));
     Ok(())
@@ -394,47 +365,17 @@ fn of_two_puts_one_loses_its_claim(rt: HostRuntime) -> Result<(), Fail> {
 fn a_claim_lost_at_the_last_place_is_the_last_step(rt: HostRuntime) -> Result<(), Fail> {
     let mut places = Places::new(rt.alloc(), 1)?;
     let (mut one, mut other) = (places.start_put(), places.start_put());
-    want_put(
-        &rt,
-        "one looks",
-        &mut places,
-        &mut one,
-        (0, 1),
-        PutStep::Again,
-    );
+    let bags = ((0, 1), (0, 2));
+    let look = [("one looks", true, PutStep::Again)];
+    want_turns(&rt, &mut places, (&mut one, &mut other), bags, &look);
     want_word(&rt, &places, 0, Some(0));
-    want_put(
-        &rt,
-        "the other looks",
-        &mut places,
-        &mut other,
-        (0, 2),
-        PutStep::Again,
-    );
-    want_put(
-        &rt,
-        "one claims",
-        &mut places,
-        &mut one,
-        (0, 1),
-        PutStep::Again,
-    );
-    want_put(
-        &rt,
-        "the other loses",
-        &mut places,
-        &mut other,
-        (0, 2),
-        PutStep::Full,
-    );
-    want_put(
-        &rt,
-        "one fills",
-        &mut places,
-        &mut one,
-        (0, 1),
-        PutStep::Done,
-    );
+    let turns = [
+        ("the other looks", false, PutStep::Again),
+        ("one claims", true, PutStep::Again),
+        ("the other loses", false, PutStep::Full),
+        ("one fills", true, PutStep::Done),
+    ];
+    want_turns(&rt, &mut places, (&mut one, &mut other), bags, &turns);
     let (mut one, mut other) = (places.start_take(), places.start_take());
     want_take(&rt, "one looks", &mut places, &mut one, 2, AGAIN);
     want_take(&rt, "the other looks", &mut places, &mut other, 2, AGAIN);
