@@ -349,7 +349,7 @@ fn unpins_stand_only_where_guards_allow(rt: HostRuntime) {
 }
 
 #[test]
-fn jobs_are_called_only_where_they_may(rt: HostRuntime) {
+fn jobs_are_called_once_and_not_in_a_deferral(rt: HostRuntime) {
     let zero = registered(0);
     let [first, second, third] = [begin(0, Call::Pin), pinned(0), guard(0, 0)];
     want_lawful(&rt, "a pin", &[zero, first, second, third]);
@@ -381,6 +381,14 @@ fn jobs_are_called_only_where_they_may(rt: HostRuntime) {
             called(0),
         ],
     );
+}
+
+#[test]
+fn jobs_are_called_after_their_deferral_and_under_a_pin(rt: HostRuntime) {
+    let zero = registered(0);
+    let [first, second, third] = [begin(0, Call::Pin), pinned(0), guard(0, 0)];
+    let defers = begin(0, Call::Defer(Some(0)));
+    let flushes = begin(0, Call::Flush(Some(0)));
     want_unlawful(
         &rt,
         "deferred only after it",
@@ -415,6 +423,13 @@ fn jobs_are_called_only_where_they_may(rt: HostRuntime) {
             called(0),
         ],
     );
+}
+
+#[test]
+fn a_deferral_defers_where_it_is_done_and_not_where_it_is_refused(rt: HostRuntime) {
+    let zero = registered(0);
+    let [first, second, third] = [begin(0, Call::Pin), pinned(0), guard(0, 0)];
+    let defers = begin(0, Call::Defer(Some(0)));
     want_unlawful(
         &rt,
         "a deferral that is done has deferred",
