@@ -2,7 +2,7 @@
 //! tests passes whichever that is. In a plain run of the tests no allocation is refused.
 
 use crate::wants::want;
-use crate::worlds::new_world;
+use crate::worlds::{ONE, new_world};
 use epoch_bags::{BagQueue, BagStore, Called, Places};
 use epoch_cells::Fault;
 use epoch_world::{Answer, Call, Deferral, Reply, Shape, Step, World};
@@ -10,18 +10,8 @@ use pile_store::Pile;
 use std::alloc::Global;
 use std::process::Abort;
 
-const SHAPE: Shape = Shape {
-    participants: 1,
-    cells: 0,
-    roots: 0,
-    fields: 0,
-    bags: 2,
-    align: 1,
-    start_epoch: 0,
-    start_turn: 0,
-    bag_jobs: 64,
-    collect_bags: 8,
-};
+/// One participant and two places.
+const SHAPE: Shape = Shape { bags: 2, ..ONE };
 
 const UNIT: Reply = Reply::Done(Answer::Unit);
 

@@ -9,24 +9,10 @@ ghost use Rattle.epoch_rounds.specs.Rounds.{RoundsCallAll};
 ghost use Rattle.epoch_rounds.specs.Collected.{CollectsFew};
 
 use crate::wants::want;
-use crate::worlds::new_world;
+use crate::worlds::{ONE, new_world};
 use epoch_cells::Fault;
-use epoch_world::{Call, Reply, Shape, Step, World};
+use epoch_world::{Call, Reply, Step, World};
 use pile_store::Pile;
-
-/// One participant and one bag.
-const SHAPE: Shape = Shape {
-    participants: 1,
-    cells: 0,
-    roots: 0,
-    fields: 0,
-    bags: 1,
-    align: 1,
-    start_epoch: 0,
-    start_turn: 0,
-    bag_jobs: 64,
-    collect_bags: 8,
-};
 
 /// A list of steps.
 const LIST: [Step; 6] = [
@@ -62,7 +48,7 @@ fn run_over_pile(world: &mut World<Pile>, steps: &[Step]) -> Result<Vec<Reply>, 
 
 #[test]
 fn a_list_over_a_pile_tells_one_reply_a_step(rt: HostRuntime) -> Result<(), Fault> {
-    let mut world = new_world(&rt, rt.alloc(), SHAPE)?;
+    let mut world = new_world(&rt, rt.alloc(), ONE)?;
     let replies = run_over_pile(&mut world, &LIST)?;
     want(&rt, "the replies", replies.as_slice(), &TOLD[..]);
     Ok(())

@@ -1,7 +1,7 @@
 //! Bags that take other numbers of jobs than the usual, and collections of other numbers of bags.
 
 use crate::wants::want;
-use crate::worlds::new_world;
+use crate::worlds::{ONE, new_world};
 use epoch_bags::{BagQueue, BagStore, Places};
 use epoch_world::{Call, Deferral, Reply, Shape, Step, World};
 use pile_store::Pile;
@@ -10,18 +10,7 @@ use std::process::Abort;
 use std::test::Fail;
 
 /// One participant and four places.
-const SHAPE: Shape = Shape {
-    participants: 1,
-    cells: 0,
-    roots: 0,
-    fields: 0,
-    bags: 4,
-    align: 1,
-    start_epoch: 0,
-    start_turn: 0,
-    bag_jobs: 64,
-    collect_bags: 8,
-};
+const SHAPE: Shape = Shape { bags: 4, ..ONE };
 
 /// How many jobs a bag takes, and how many bags a collection.
 const SIZES: &[u64] = &[1, 2, 3, 8, 63, 64];

@@ -1,6 +1,7 @@
 //! Whole calls beside their steps, on two worlds that began alike.
 
 use crate::deeds::{call_by_steps, new_world};
+use crate::rows::ONE;
 use crate::wants::want;
 use epoch_bags::{BagQueue, BagStore, Places};
 use epoch_cells::Fault;
@@ -10,17 +11,11 @@ use std::alloc::Global;
 use std::process::Abort;
 use std::test::Fail;
 
+/// Two participants and four places.
 const SHAPE: Shape = Shape {
     participants: 2,
-    cells: 0,
-    roots: 0,
-    fields: 0,
     bags: 4,
-    align: 1,
-    start_epoch: 0,
-    start_turn: 0,
-    bag_jobs: 64,
-    collect_bags: 8,
+    ..ONE
 };
 
 const UNIT: Reply = Reply::Done(Answer::Unit);

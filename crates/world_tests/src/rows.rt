@@ -16,7 +16,7 @@ use std::process::Abort;
 use std::test::Fail;
 
 /// One participant, and a store for one bag.
-const ONE: Shape = Shape {
+pub const ONE: Shape = Shape {
     participants: 1,
     cells: 0,
     roots: 0,
