@@ -32,8 +32,8 @@ pub runs_more : (s t u : State) (steps : List Step) (i : ℕ) (d : Step) (replie
     → Runs s (entries_of (take i steps) replies) t
     → Takes t (get_or steps i d) r u → Runs s (entries_of (take (i + 1) steps) later) u
 runs_more s t u steps i d replies later r lt count more run did =
-    let same : entries_of (take (i + 1) steps) later ≡ entries_of (take i steps) replies ++ record
-    { step = get_or steps i d; reply = r } ∷ [] =
+    let same : entries_of (take (i + 1) steps) later
+    ≡ entries_of (take i steps) replies ++ record { step = get_or steps i d; reply = r } ∷ [] =
     ap₂ entries_of (take_more steps i d lt) more
     ∙ entries_push (take i steps) replies (get_or steps i d) r (omega (arith, count, length-take i steps)) in
     subst (λ (es : List Entry). Runs s es u) (sym same)

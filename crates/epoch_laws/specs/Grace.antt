@@ -1,5 +1,4 @@
--- What is said of steps and replies alone: who has stayed pinned, which job is blocked, and that no blocked job is
--- called.
+-- What steps and replies alone say: who has stayed pinned, which job is blocked, and that no blocked job is called.
 use Rattle.std.specs.Prelude.{◌≡◌, ℕ, ◌+◌, ◌<◌, ◌≤◌, List, ◌⊎◌, slice_get, Some, option_map}
 use Rattle.epoch_bags.specs.declared.job.Called.{Called}
 use Rattle.epoch_laws.specs.declared.step.Reply.{Reply}

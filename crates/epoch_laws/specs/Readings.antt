@@ -27,8 +27,7 @@ abbrev pub readers_in : Option Cell → ℕ
 readers_in (Some cell) = cell.readers
 readers_in None = 0
 
--- A read under way is of no name that its participant reads, a leave is of one that it reads, and who releases reads
--- none.
+-- A read under way is of no name that its participant reads, a leave of one that it reads; who releases reads none.
 abbrev pub ReadingFits : Progress → List Name → Type 0
 ReadingFits (Accesses (Read g ptr) k found) readings = reads ptr.name readings ≡ false
 ReadingFits (Accesses (Leave ptr) k found) readings = reads ptr.name readings ≡ true

@@ -78,8 +78,8 @@ nulls_lead next v n turn f x (ptr, entry, name) = at_test (next == turn) entry
     content = record { value = v; fields = nulls n }
 
     at_test : (b : Bool)
-        → field_in (if b && true then Some (filled next 0 (record { value = v; fields = nulls n })) else None) f ≡ Some
-        ptr → ⊥
+        → field_in (if b && true then Some (filled next 0 (record { value = v; fields = nulls n })) else None) f
+        ≡ Some ptr → ⊥
     at_test true e = cc (name, nulls_name_none n f ptr e)
     at_test false e = cc
 

@@ -87,8 +87,8 @@ times_without n m (x ∷ readings) some = at_first (times_without n m readings) 
     at_first : (reads (Some n) readings ≡ true
         → times_read m (without_reading (Some n) readings) + one n m ≡ times_read m readings)
         → (first : Bool) → is_name x n ≡ first → (first || reads (Some n) readings) ≡ true
-        → times_read m (if first then readings else x ∷ without_reading (Some n) readings) + one n m ≡ times_read m
-        (x ∷ readings)
+        → times_read m (if first then readings else x ∷ without_reading (Some n) readings) + one n m
+        ≡ times_read m (x ∷ readings)
     at_first without true same some =
         let counted : times_read m (x ∷ readings) ≡ one x m + times_read m readings = times_cons m x readings in
         let here : one x m ≡ one n m = ap (λ (k : Name). one k m) (name_is x n same) in
@@ -96,8 +96,8 @@ times_without n m (x ∷ readings) some = at_first (times_without n m readings) 
     at_first without false other some =
         let rest : times_read m (without_reading (Some n) readings) + one n m ≡ times_read m readings = without some in
         let before : times_read m (x ∷ readings) ≡ one x m + times_read m readings = times_cons m x readings in
-        let after : times_read m (x ∷ without_reading (Some n) readings) ≡ one x m + times_read m
-        (without_reading (Some n) readings)
+        let after : times_read m (x ∷ without_reading (Some n) readings)
+        ≡ one x m + times_read m (without_reading (Some n) readings)
         = times_cons m x (without_reading (Some n) readings) in
         omega (arith, rest, before, after)
 
@@ -191,8 +191,8 @@ writes_one h n before after at was is = record {
 recount : (h : Heap) (n : Name) (after : Cell) (less more : ℕ) → WritesOne h n after
     → readers_in (if_has n.turn (Some after)) + less ≡ readers_at h n + more
     → (m : Name)
-    → readers_at (with_cell_at h n after) m + (if is_name n m then less else 0) ≡ readers_at h
-    m + (if is_name n m then more else 0)
+    → readers_at (with_cell_at h n after) m + (if is_name n m then less else 0)
+    ≡ readers_at h m + (if is_name n m then more else 0)
 recount h n after less more w counts m = at_test (is_name n m) refl
   where
     at_test : (b : Bool) → is_name n m ≡ b
@@ -262,8 +262,8 @@ read_counts : (h : Heap) (n : Name) (m : Name)
 read_counts h n m = at_cell (cell_at h n) refl (readable (cell_at h n))
   where
     at_cell : (there : Option Cell) → cell_at h n ≡ there → (content : Option Content)
-        → readers_at (read_by h n there content).heap m + 0 ≡ readers_at h m + began (Some n)
-        (read_by h n there content).told m
+        → readers_at (read_by h n there content).heap m + 0
+        ≡ readers_at h m + began (Some n) (read_by h n there content).told m
     at_cell None e content = refl
     at_cell (Some cell) e None = refl
     at_cell (Some cell) e (Some content) =

@@ -61,13 +61,13 @@ kept_written : (old last : State) (p : ℕ) (after : Seat) → KeepsReadings old
     → ((q : ℕ) → seat_of last q ≡ seat_of (with_seat old p after) q)
     → ((n : Name) → readings_of n last.seats ≡ readings_of n (slice_set old.seats p after))
     → ((n : Name)
-    → readers_at last.heap n + times_read n (seat_of old p).readings ≡ readers_at old.heap n + times_read n
-    after.readings)
+    → readers_at last.heap n + times_read n (seat_of old p).readings
+    ≡ readers_at old.heap n + times_read n after.readings)
     → ReadsOnce after → KeepsReadings last
 kept_written old last p after h there seats sums counts own = record {
   counted = λ n.
-      let set : readings_of n (slice_set old.seats p after) + times_read n (seat_of old p).readings ≡ readings_of n
-      old.seats + times_read n after.readings
+      let set : readings_of n (slice_set old.seats p after) + times_read n (seat_of old p).readings
+      ≡ readings_of n old.seats + times_read n after.readings
       = sum_by-set (λ (seat : Seat). times_read n seat.readings) old.seats p after (free_seat old.sizes) there in
       omega (arith, set, sums n, counts n, h.counted n);
   seats = λ q. elim (same_or_other q p) [
