@@ -8,12 +8,14 @@ use Rattle.epoch_laws.specs.Grace.{Stands, KeepsGrace}
 use Rattle.epoch_laws.proofs.Log.{IsPublish, IsWithdrawal, PinnedSince, stands_push, stands_within, pinned_push, grace_push}
 use Rattle.epoch_laws.proofs.SeatsFine.{View, is_pinned, Passes}
 
+-- What was told agrees with the view.
 pub record LogHolds (v : View) (log : List Entry) : Type 0 where
-  pub on : (p at : ℕ) → PinnedSince log p at → is_pinned (v.word p) ≡ true
+  pub on : (p at : ℕ) → PinnedSince log p at → is_pinned (v.word p) ≡ true  -- who has stayed pinned is pinned now
+  -- who has stayed pinned since a deferral or before it has published no later than it
   pub blocked : (t i p at : ℕ) → Stands log i (Deferred t) → at ≤ i → PinnedSince log p at → v.since p ≤ v.when t
-  pub deferred : (t i : ℕ) → Stands log i (Deferred t) → t < v.tickets
+  pub deferred : (t i : ℕ) → Stands log i (Deferred t) → t < v.tickets  -- each ticket that was told was given
   pub called : (t i : ℕ) (how : Called) → Stands log i (CalledReply t how) → t < v.tickets
-  pub grace : KeepsGrace log
+  pub grace : KeepsGrace log  -- no blocked job was called
 
 -- who was pinned before a reply that doesn't withdraw it stays so
 abbrev pub Lasts : View → View → Reply → ℕ → Type 0
