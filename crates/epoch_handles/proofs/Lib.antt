@@ -3,6 +3,7 @@ pub mod Deferring
 pub mod Driving
 pub mod Ending
 pub mod Expiries
+pub mod FirstPins
 pub mod Flushing
 pub mod PlacesTold
 pub mod Putting

@@ -52,6 +52,12 @@ pub record IsPinned (v : ParticipantView) : Type 0 where
   pub published : (number : ℕ) × (v.published ≡ Some number)
   pub read : (epoch : ℕ) × (v.first_read ≡ Some epoch)
 
+-- two steps: it published this epoch, and loaded the epoch again
+pub record PublishSteps {T W : Type 0} (old : Local T W) (published : ℕ) (new : Local T W) : Type 0 where
+  pub again : ℕ
+  pub rises : published ≤ again
+  pub steps : Steps old new (after_epoch (after_own old.seat.me.0 (Some published)) again)
+
 -- the three steps of a pin: it loaded the epoch, published that very epoch, and loaded the epoch again
 pub record PinSteps {T W : Type 0} (old : Local T W) (published : ℕ) (new : Local T W) : Type 0 where
   pub again : ℕ

@@ -1,6 +1,6 @@
 //! Pins and unpins, written out as the steps that they are.
-ghost use Rattle.std.specs.Prelude.{◌≡◌, ℕ, ◌+◌, ◌<◌, ◌^◌, true, false, Some};
-ghost use Rattle.epoch_handles.specs.Handles.{IsSeated, IsReady, IsSame, IsPinned, PinSteps, Does, DoesStraight, sight_of};
+ghost use Rattle.std.specs.Prelude.{◌≡◌, ℕ, ◌+◌, ◌<◌, ◌≤◌, ◌^◌, true, false, Some};
+ghost use Rattle.epoch_handles.specs.Handles.{IsSeated, IsReady, IsSame, IsPinned, PublishSteps, PinSteps, Does, DoesStraight, sight_of};
 ghost use Rattle.epoch_tables.specs.SharedSteps.{RestsAt};
 ghost use Rattle.epoch_handles.specs.Drives.{DrivesStraight};
 ghost use Rattle.epoch_machine.specs.Machine.{begun};
@@ -10,6 +10,21 @@ ghost use Rattle.epoch_machine.specs.declared.machine.Stage.TheVariants.{LoadSca
 use crate::local::Local;
 
 impl<'c, T, W> Local<'c, T, W> {
+    /// The steps of a pin behind its first load: publishes the epoch found, and loads the epoch again.
+    #[inline]
+    fn publish_steps(&mut self, epoch: u64)
+        requires seated { IsSeated self.old }
+        requires read { epoch ≤ self.old.seat.me.0.seen }
+        requires within { epoch < 2 ^ 63 }
+        ensures { PublishSteps self.old epoch self.new }
+    {
+        // Read once: a field is read again behind each atomic step.
+        let (collector, position) = (self.collector, self.position);
+        let participants = &collector.participants;
+        participants.publish(&mut self.seat, position, epoch);
+        let _again = participants.load_epoch(&mut self.seat);
+    }
+
     /// The steps of a pin. Answers the epoch that was published.
     #[inline]
     pub(crate) fn pin_steps(&mut self) -> u64
@@ -17,12 +32,8 @@ impl<'c, T, W> Local<'c, T, W> {
         ensures within { result < 2 ^ 63 }
         ensures steps { PinSteps self.old result self.new }
     {
-        // Read once: a field is read again behind each atomic step.
-        let (collector, position) = (self.collector, self.position);
-        let participants = &collector.participants;
-        let epoch = participants.load_epoch(&mut self.seat) / 2;
-        participants.publish(&mut self.seat, position, epoch);
-        let _again = participants.load_epoch(&mut self.seat);
+        let epoch = self.load_epoch();
+        self.publish_steps(epoch);
         epoch
     }
 
@@ -47,8 +58,12 @@ impl<'c, T, W> Local<'c, T, W> {
             self.machine.pin_again();
             return false;
         }
-        let epoch = self.pin_steps();
-        self.machine.pin_first(epoch)
+        let epoch = self.load_epoch();
+        // Before the publish, since an exchange waits for the stores before it: behind the publish there is nothing
+        // left to store, and the exchange of the unpin comes soon.
+        let collects = self.machine.pin_first(epoch);
+        self.publish_steps(epoch);
+        collects
     }
 
     /// An unpin of one guard.
