@@ -89,29 +89,23 @@ impl<T: Drop> Cells<T> {
     {
         let count = self.slots.len();
         let first = self.first_free.load(SeqCst).min(count);
-        let value = match self.place_between(first, count, value) {
+        match self.place_between(first, count, value) {
             Ok(name) => {
                 self.advance(first, name.slot() as usize);
-                return Ok(name);
+                Ok(name)
             }
-            Err(value) => value,
-        };
-        match self.place_between(0, first, value) {
-            Ok(name) => Ok(name),
-            Err(value) => Err(Refused {
-                fault: Fault::CellsFull,
-                value,
-            }),
+            Err(Refused { fault: _, value }) => self.place_between(0, first, value),
         }
     }
 
-    // Places the value in the first free slot from place `from` up to `to`.
+    // Places the value in the first free slot from place `from` up to `to`. The box that is handed back
+    // stands clear of where the answer has a name: else the name would go through memory.
     #[inline(always)]
     #[tactic(auto, using(crate::proofs::SlotNumberLists::number_of))]
-    fn place_between(&self, from: usize, to: usize, value: Box<T>) -> Result<Name, Box<T>>
+    fn place_between(&self, from: usize, to: usize, value: Box<T>) -> Result<Name, Refused<Box<T>>>
         requires { to ≤ vec_len self.now.slots }
         ensures ok { IfOk result (λ name. name.slot ≤ to) }
-        ensures handed_back { IfErr result (λ back. back ≡ value) }
+        ensures full { IfErr result (λ refused. (refused.fault ≡ CellsFull) × (refused.value ≡ value)) }
     {
         let mut kept = value;
         for index in from..to {
@@ -120,10 +114,13 @@ impl<T: Drop> Cells<T> {
             }
             match place_in(&self.slots[index], index as u32 + 1, kept) {
                 Ok(name) => return Ok(name),
-                Err(back) => kept = back,
+                Err((_, back)) => kept = back,
             }
         }
-        Err(kept)
+        Err(Refused {
+            fault: Fault::CellsFull,
+            value: kept,
+        })
     }
 
     // Says that the slots from place `from` up to `to` were seen used. One that was given free since it
@@ -252,22 +249,22 @@ impl<T: Drop> Cells<T> {
 
 // Tries to place the value in this slot, until it is seen used or all tries are lost.
 #[inline(always)]
-fn place_in<T: Drop>(slot: &Slot<T>, number: u32, value: Box<T>) -> Result<Name, Box<T>>
+fn place_in<T: Drop>(slot: &Slot<T>, number: u32, value: Box<T>) -> Result<Name, (Miss, Box<T>)>
     requires some { 0 < number }
     requires within { number ≤ 16777215 }
     requires numbered { slot.now ≡ number }
     ensures ok { IfOk result (λ name. name.slot ≡ number) }
-    ensures handed_back { IfErr result (λ back. back ≡ value) }
+    ensures handed_back { IfErr result (λ back. back.1 ≡ value) }
 {
     let mut kept = value;
     for _ in 0..CELL_TRIES {
         match try_place(slot, number, kept) {
             Ok(name) => return Ok(name),
             Err((Miss::Lost, back)) => kept = back,
-            Err((_, back)) => return Err(back),
+            Err((miss, back)) => return Err((miss, back)),
         }
     }
-    Err(kept)
+    Err((Miss::Lost, kept))
 }
 
 // Puts one item behind the others.
