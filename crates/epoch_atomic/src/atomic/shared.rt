@@ -22,8 +22,10 @@ use std::fmt::Debug;
 /// equal to [`Shared::null`].
 #[derive_where(Clone, Copy)]
 pub struct Shared<'g, T> {
-    pub(crate) name: Option<Name>,
+    // The tag comes first, so that the eight bytes of a name begin where a box does in what else an answer may
+    // hold: else each pointer that a call answers would go through memory.
     pub(crate) tag: u8,
+    pub(crate) name: Option<Name>,
     pub(crate) home: Option<Home<'g, T>>,
 }
 
