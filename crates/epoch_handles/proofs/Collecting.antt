@@ -125,8 +125,8 @@ pub got_stage : {J : Type 0} (m n : Machine J) (x k : ℕ) → n ≡ with_hand m
 got_stage m n x k is = ap (λ (z : Machine _). z.stage) is ∙ sym (ap (λ (z : Machine _). after_job z x k n.hand) is)
 
 -- a seat that found a word rests as before
-still_rests : {J : Type 0} (before after : PlaceMe J) (word : ℕ) → Finds before word after → RestsAt before → RestsAt after
-still_rests before after word finds rests = (ap (λ (me : PlaceMe _). me.0.claimed) finds ∙ rests.0, ap (λ (me : PlaceMe _). me.1) finds ∙ rests.1)
+still_rests : {J : Type 0} (place : ℕ) (before after : PlaceMe J) (word : ℕ) → Finds place before word after → RestsAt before → RestsAt after
+still_rests place before after word finds rests = (ap (λ (me : PlaceMe _). me.0.claimed) finds ∙ rests.0, ap (λ (me : PlaceMe _). me.1) finds ∙ rests.1)
 
 module _ {T W : Type 0} where
   -- what one step of the collection performs
@@ -195,14 +195,14 @@ module _ {T W : Type 0} where
       → HasTaken done h x (TakeLook place) n
       → place + 1 < h.collector.now.places.places
       → IsAt h.collector.now.places claimer
-      → Finds n.claimer.me word claimer.me
+      → Finds place n.claimer.me word claimer.me
       → ¬ IsExpiredWord x word
       → HasTaken done h x (TakeLook (place + 1)) (record n { claimer = claimer })
   look_passes done h n x place word claimer taken within is_at finds late =
       let goes_on : TakeAgain ≡ (if place + 1 == h.collector.now.places.places then TakeEnds else TakeAgain) =
       sym (ap (λ (b : Bool). if b then TakeEnds else TakeAgain) (ne_eqb (place + 1) h.collector.now.places.places (λ is. absurd (omega (arith, is, within))))) in
       take_again done h n x (TakeLook place) (TakeLook (place + 1)) n.machine claimer (record { seal = 0; jobs = [] }) taken
-      (waits_on h n x taken.taken taken.machine) is_at (omega (arith, within), still_rests n.claimer.me claimer.me word finds taken.at.1)
+      (waits_on h n x taken.taken taken.machine) is_at (omega (arith, within), still_rests place n.claimer.me claimer.me word finds taken.at.1)
       ((λ last. absurd (omega (arith, last, within))), (λ not. (word, finds, (λ expired. absurd (late expired)), (λ is. (refl, goes_on)))))
 
   -- the word found at a place is that of an expired bag
@@ -210,12 +210,12 @@ module _ {T W : Type 0} where
       → HasTaken done h x (TakeLook place) n
       → place < h.collector.now.places.places
       → IsAt h.collector.now.places claimer
-      → Finds n.claimer.me word claimer.me
+      → Finds place n.claimer.me word claimer.me
       → IsExpiredWord x word
       → HasTaken done h x (TakeClaim place word) (record n { claimer = claimer })
   look_finds done h n x place word claimer taken within is_at finds expired =
       take_again done h n x (TakeLook place) (TakeClaim place word) n.machine claimer (record { seal = 0; jobs = [] }) taken
-      (waits_on h n x taken.taken taken.machine) is_at (within, expired, still_rests n.claimer.me claimer.me word finds taken.at.1)
+      (waits_on h n x taken.taken taken.machine) is_at (within, expired, still_rests place n.claimer.me claimer.me word finds taken.at.1)
       ((λ last. absurd (omega (arith, last, within))), (λ not. (word, finds, (λ is. (refl, refl)), (λ late. absurd (late expired)))))
 
   -- no further bag is found

@@ -15,7 +15,7 @@ impl<T: Drop> Collector<T> {
     /// Ends the collector: calls every job that is left in its places, drops the values that are left in its cells,
     /// and answers how many jobs it called. It tries once for each place to take a bag out.
     pub fn end(self) -> u64
-        ensures called { (after : _) × CallsEach ⟦<Work as Run>⟧.done self.places.places (with_claim None [] [] []) after self.places.places result }
+        ensures called { (after : _) × CallsEach ⟦<Work as Run>⟧.done self.places.places (with_claim None [] [] [] []) after self.places.places result }
     {
         let Collector {
             id: _,

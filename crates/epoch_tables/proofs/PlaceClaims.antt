@@ -17,10 +17,10 @@ module _ {J : Type 0} (places : ℕ) where
   abbrev Rule : State (Option (Sealed J)) (PlaceView J) → Type 0
   Rule = PlacesAgree places
 
-  won_keeps : (s : State (Option (Sealed J)) (PlaceView J)) (r : Rule s) (id k : ℕ) (v : PlaceView J) (found : List ℕ) (left won : List (Option (Sealed J))) → k < places
+  won_keeps : (s : State (Option (Sealed J)) (PlaceView J)) (r : Rule s) (id k : ℕ) (v : PlaceView J) (looked found : List ℕ) (left won : List (Option (Sealed J))) → k < places
       → Sees s id v → v.claimed ≡ None → get_or s.words (word_at k) 0 ≢ 2
-      → Rule record { words = set s.words (word_at k) 2; homes = set s.homes k none; views = set s.views id (with_claim (Some k) found left won) }
-  won_keeps s r id k v found left won below here no_claim unclaimed = let w : PlaceView J = with_claim (Some k) found left won in
+      → Rule record { words = set s.words (word_at k) 2; homes = set s.homes k none; views = set s.views id (with_claim (Some k) looked found left won) }
+  won_keeps s r id k v looked found left won below here no_claim unclaimed = let w : PlaceView J = with_claim (Some k) looked found left won in
       let long = r.as_many in
       let now : get_or (set s.words (word_at k) 2) (word_at k) 0 ≡ 2 = get_or-set_same s.words (word_at k) 2 0 (omega arith) in
       let now_at : (k' : ℕ) → k' ≡ k → get_or (set s.words (word_at k) 2) (word_at k') 0 ≡ 2 =
@@ -73,7 +73,7 @@ module _ {J : Type 0} (places : ℕ) where
         w,
         takes k held.0,
         held.1,
-        subst (λ b. Rule (stepped s (word_at k) (either b 2 x) id me.1 w (takes k held.0))) (sym (eq-eqb x old hit)) (won_keeps s r id k v (v.found ++ x ∷ []) v.left (v.won ++ held.0 ∷ []) below here no_claim not),
+        subst (λ b. Rule (stepped s (word_at k) (either b 2 x) id me.1 w (takes k held.0))) (sym (eq-eqb x old hit)) (won_keeps s r id k v (v.looked ++ k ∷ []) (v.found ++ x ∷ []) v.left (v.won ++ held.0 ∷ []) below here no_claim not),
         (
           r.is_word k below,
           (λ miss. absurd (miss hit)),
@@ -82,9 +82,13 @@ module _ {J : Type 0} (places : ℕ) where
         ),
       ))
       (λ miss. (
-        after_look v x,
+        after_look v k x,
         keeps,
         tt,
-        subst (λ b. Rule (stepped s (word_at k) (either b 2 x) id me.1 (after_look v x) keeps)) (sym (ne_eqb x old miss)) (look_keeps places s r (word_at k) id v (v.found ++ x ∷ []) v.left v.won here),
-        (r.is_word k below, (λ _. refl), λ hit. absurd (miss hit)),
+        subst (λ b. Rule (stepped s (word_at k) (either b 2 x) id me.1 (after_look v k x) keeps)) (sym (ne_eqb x old miss)) (look_keeps places s r (word_at k) id v (v.looked ++ k ∷ []) (v.found ++ x ∷ []) v.left v.won here),
+        (
+          r.is_word k below,
+          (λ _ k' at_k'. let same : k ≡ k' = omega arith in ap (λ (z : ℕ). (after_look v z x, me.1)) same),
+          λ hit. absurd (miss hit),
+        ),
       ))

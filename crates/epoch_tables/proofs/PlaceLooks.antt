@@ -32,9 +32,9 @@ module _ {J : Type 0} (places : ℕ) where
   Rule = PlacesAgree places
 
   -- a step that leaves the words, the slots and what is claimed
-  pub look_keeps : (s : State (Option (Sealed J)) (PlaceView J)) (r : Rule s) (i id : ℕ) (v : PlaceView J) (found : List ℕ) (left won : List (Option (Sealed J))) → Sees s id v
-      → Rule record { words = set s.words i (get_or s.words i 0); homes = s.homes; views = set s.views id (with_claim v.claimed found left won) }
-  look_keeps s r i id v found left won here = let w : PlaceView J = with_claim v.claimed found left won in
+  pub look_keeps : (s : State (Option (Sealed J)) (PlaceView J)) (r : Rule s) (i id : ℕ) (v : PlaceView J) (looked found : List ℕ) (left won : List (Option (Sealed J))) → Sees s id v
+      → Rule record { words = set s.words i (get_or s.words i 0); homes = s.homes; views = set s.views id (with_claim v.claimed looked found left won) }
+  look_keeps s r i id v looked found left won here = let w : PlaceView J = with_claim v.claimed looked found left won in
       subst (λ (ws : List ℕ). Rule record { words = ws; homes = s.homes; views = set s.views id w }) (sym (set-get_or s.words i 0)) record {
         as_many = r.as_many;
         as_many_slots = r.as_many_slots;
@@ -61,11 +61,19 @@ module _ {J : Type 0} (places : ℕ) where
 
   pub place_look_keeps : (slots id : ℕ) (me : Me (Option (Sealed J)) (PlaceView J)) (k : ℕ) → k < places
       → Allows Rule slots id me (word_at k) (λ x. x) (Looks (step slots (word_at k) 0 0 none) me)
-  place_look_keeps slots id me k below s r _ here _ = let word : ℕ = get_or s.words (word_at k) 0 in
-      (after_look me.0 word, keeps, tt, look_keeps s r (word_at k) id me.0 (me.0.found ++ word ∷ []) me.0.left me.0.won here, (r.is_word k below, refl))
+  place_look_keeps slots id me k below s r _ here _ = let word : ℕ = get_or s.words (word_at k) 0 in (
+    after_look me.0 k word,
+    keeps,
+    tt,
+    look_keeps s r (word_at k) id me.0 (me.0.looked ++ k ∷ []) (me.0.found ++ word ∷ []) me.0.left me.0.won here,
+    (
+      r.is_word k below,
+      λ k' at_k'. let same : k ≡ k' = omega arith in ap (λ (z : ℕ). (after_look me.0 z word, me.1)) same,
+    ),
+  )
 
   pub new_seat_enters : (slots : ℕ) (first : PlaceView J) → Enters Rule slots 0 (λ x w. Sits {J = J} (step slots 0 0 0 none) (first, []) x (w, []))
-  new_seat_enters slots first s r _ _ = let w : PlaceView J = with_claim None [] [] [] in
+  new_seat_enters slots first s r _ _ = let w : PlaceView J = with_claim None [] [] [] [] in
       let unclaimed : (u : PlaceView J) (k : ℕ) → w ≡ u → u.claimed ≡ Some k → ⊥ =
       (λ u k is has. none-some k (ap (λ (z : PlaceView J). z.claimed) is ∙ has)) in (
         w,
@@ -83,8 +91,8 @@ module _ {J : Type 0} (places : ℕ) where
         refl,
       )
 
-  pub new_places_keep : Rule (opening (replicate (words_for places) 0) (replicate places None) (with_claim None [] [] []))
-  new_places_keep = let v : PlaceView J = with_claim None [] [] [] in
+  pub new_places_keep : Rule (opening (replicate (words_for places) 0) (replicate places None) (with_claim None [] [] [] []))
+  new_places_keep = let v : PlaceView J = with_claim None [] [] [] [] in
       let free = blank (words_for places) in
       let unclaimed : (j : ℕ) (u : PlaceView J) (k : ℕ) → get_elem? (v ∷ []) j ≡ some u → u.claimed ≡ Some k → ⊥ =
       (λ j u k at has. none-some k (ap (λ (z : PlaceView J). z.claimed) (only_view v j u at) ∙ has)) in

@@ -31,9 +31,9 @@ module _ {J : Type 0} (places : ℕ) where
 
   -- the claimed place gets this word, over what is left in its slot
   store_keeps : (s : State (Option (Sealed J)) (PlaceView J)) (r : Rule s) (id k word : ℕ) (bag : Option (Sealed J)) (v : PlaceView J)
-      (found : List ℕ) (rests won : List (Option (Sealed J))) → Sees s id v → v.claimed ≡ Some k → IsAtHome word bag
-      → Rule record { words = set s.words (word_at k) word; homes = set s.homes k (some bag); views = set s.views id (with_claim None found rests won) }
-  store_keeps s r id k word bag v found rests won here is_mine left = let w : PlaceView J = with_claim None found rests won in
+      (looked found : List ℕ) (rests won : List (Option (Sealed J))) → Sees s id v → v.claimed ≡ Some k → IsAtHome word bag
+      → Rule record { words = set s.words (word_at k) word; homes = set s.homes k (some bag); views = set s.views id (with_claim None looked found rests won) }
+  store_keeps s r id k word bag v looked found rests won here is_mine left = let w : PlaceView J = with_claim None looked found rests won in
       let long = r.as_many in
       let long_slots = r.as_many_slots in
       let mine = r.claims_match id v k here is_mine in
@@ -86,7 +86,7 @@ module _ {J : Type 0} (places : ℕ) where
         gives,
         tt,
         subst (λ (c : List (ℕ × Option (Sealed J))). Rule (stepped s (word_at k) word id c w gives)) (sym carried)
-            (store_keeps s r id k word bag v w.found w.left w.won here is_mine left),
+            (store_keeps s r id k word bag v w.looked w.found w.left w.won here is_mine left),
         λ place content holds. let same : bag ≡ content = ap (content_or bag) (sym carried ∙ holds) in
             ap (λ (x : List (ℕ × Option (Sealed J)) × Option (Sealed J)). (after_store v x.1, rest x.0)) (λ i. (carried i, same i)),
       )

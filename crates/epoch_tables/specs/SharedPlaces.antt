@@ -61,20 +61,20 @@ IsKept before after = (after.table_id ≡ before.table_id) × (after.id ≡ befo
 
 -- VIEWS
 
-abbrev pub with_claim : {J : Type 0} → Option ℕ → List ℕ → List (Option (Sealed J)) → List (Option (Sealed J)) → PlaceView J
-with_claim claimed found left won = record { claimed = claimed; found = found; left = left; won = won }
+abbrev pub with_claim : {J : Type 0} → Option ℕ → List ℕ → List ℕ → List (Option (Sealed J)) → List (Option (Sealed J)) → PlaceView J
+with_claim claimed looked found left won = record { claimed = claimed; looked = looked; found = found; left = left; won = won }
 
--- it found this word
-abbrev pub after_look : {J : Type 0} → PlaceView J → ℕ → PlaceView J
-after_look v word = with_claim v.claimed (v.found ++ word ∷ []) v.left v.won
+-- it found this word at this place
+abbrev pub after_look : {J : Type 0} → PlaceView J → ℕ → ℕ → PlaceView J
+after_look v place word = with_claim v.claimed (v.looked ++ place ∷ []) (v.found ++ word ∷ []) v.left v.won
 
--- it found this word, and claimed the place, where this was at home
+-- it found this word at this place, and claimed it, where this was at home
 abbrev pub after_claim : {J : Type 0} → PlaceView J → ℕ → ℕ → Option (Sealed J) → PlaceView J
-after_claim v place word home = with_claim (Some place) (v.found ++ word ∷ []) v.left (v.won ++ home ∷ [])
+after_claim v place word home = with_claim (Some place) (v.looked ++ place ∷ []) (v.found ++ word ∷ []) v.left (v.won ++ home ∷ [])
 
 -- it filled or emptied the place that it had claimed, and left this there
 abbrev pub after_store : {J : Type 0} → PlaceView J → Option (Sealed J) → PlaceView J
-after_store v content = with_claim None v.found (v.left ++ content ∷ []) v.won
+after_store v content = with_claim None v.looked v.found (v.left ++ content ∷ []) v.won
 
 -- WHAT EACH STEP TELLS
 -- of the step, the seat before, the word found (at a store, the word stored), and the seat after
@@ -87,15 +87,16 @@ PlaceMe J = Me (Option (Sealed J)) (PlaceView J)
 
 module _ {J : Type 0} where
   abbrev pub Sits : PlaceStep J → PlaceMe J → ℕ → PlaceMe J → Type 0
-  Sits step before word after = after ≡ (with_claim None [] [] [], [])
+  Sits step before word after = after ≡ (with_claim None [] [] [] [], [])
 
   abbrev pub Looks : PlaceStep J → PlaceMe J → ℕ → PlaceMe J → Type 0
-  Looks step before word after = IsPlaceWord word × (after ≡ (after_look before.0 word, before.1))
+  Looks step before word after = IsPlaceWord word
+      × ((place : ℕ) → step.word ≡ word_at place → after ≡ (after_look before.0 place word, before.1))
 
   -- A claim that is won takes the slot, with what was at home there.
   abbrev pub Claims : PlaceStep J → PlaceMe J → ℕ → PlaceMe J → Type 0
   Claims step before word after = IsPlaceWord word
-      × (word ≢ step.first → after ≡ (after_look before.0 word, before.1))
+      × (word ≢ step.first → (place : ℕ) → step.word ≡ word_at place → after ≡ (after_look before.0 place word, before.1))
       × (word ≡ step.first → (place : ℕ) → step.word ≡ word_at place
       → (bag : Option (Sealed J)) × IsAtHome word bag
       × (after ≡ (after_claim before.0 place word bag, (place, bag) ∷ before.1)))

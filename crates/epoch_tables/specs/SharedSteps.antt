@@ -1,5 +1,5 @@
 -- The steps of a put and of a collection over shared places: where a cursor stands, and what each step does.
-use Rattle.std.specs.Prelude.{◌≡◌, ℕ, ◌+◌, ◌*◌, ◌<◌, ◌≤◌, List, [], ◌∷◌, ◌++◌, length, Option, Some, None}
+use Rattle.std.specs.Prelude.{◌≡◌, ℕ, ◌+◌, ◌*◌, ◌<◌, ◌≤◌, List, [], ◌∷◌, ◌++◌, length, Option, Some, None, Contains}
 use Rattle.epoch_bags.specs.Bags.{Sealed, IsExpired}
 use Rattle.epoch_bags.specs.CursorSteps.{IsExpiredWord, PutGoes, TakeGoes}
 use Rattle.epoch_tables.specs.SharedPlaces.{PlaceMe, IsAtHome, with_claim, after_look, after_claim, after_store}
@@ -38,9 +38,9 @@ module _ {J : Type 0} where
 -- WHAT A STEP DOES
 
 module _ {J : Type 0} where
-  -- a step that found this word, and left the hands as they are
-  abbrev pub Finds : PlaceMe J → ℕ → PlaceMe J → Type 0
-  Finds before word after = after ≡ (after_look before.0 word, before.1)
+  -- a step that found this word at this place, and left the hands as they are
+  abbrev pub Finds : ℕ → PlaceMe J → ℕ → PlaceMe J → Type 0
+  Finds place before word after = after ≡ (after_look before.0 place word, before.1)
 
   -- A claim that found this word and has won the place. Just what was at home there is in hand now.
   abbrev pub Wins : ℕ → PlaceMe J → ℕ → PlaceMe J → Type 0
@@ -54,22 +54,23 @@ module _ {J : Type 0} where
   -- one step of a put of this sealed bag
   abbrev pub PutMoves : ℕ → PutCursor → PlaceMe J → Sealed J → PutStep → PutCursor → PlaceMe J → Type 0
   PutMoves places cursor before bag step next after =
-      PutGoes places (λ place word. Finds before word after) (λ place word. Wins place before word after) (λ place. Leaves before (Some bag) after) cursor step next
+      PutGoes places (λ place word. Finds place before word after) (λ place word. Wins place before word after) (λ place. Leaves before (Some bag) after) cursor step next
 
   -- One step of a collection for the epoch x, and what is in the hand after it. The bag that is got is the very one that
   -- was in the slot, since the claim that won it.
   abbrev pub TakeMoves : ℕ → ℕ → TakeCursor → PlaceMe J → TakeStep → TakeCursor → PlaceMe J → Sealed J → Type 0
   TakeMoves places x cursor before step next after hand =
-      TakeGoes places (λ place word. Finds before word after) (λ place word. Wins place before word after)
+      TakeGoes places (λ place word. Finds place before word after) (λ place word. Wins place before word after)
       (λ place. Leaves before None after × (before.1 ≡ (place, Some hand) ∷ []) × IsExpired x hand) (after ≡ before) x cursor step next
 
 -- AN END
 
 module _ {J : Type 0} where
-  -- So many places were looked at, each once, and their claims where one was tried. They found these words: the last
-  -- is that of the bag that is taken out, where one is.
+  -- Places were looked at, and claimed where that was tried, and these words were found there. Where no bag is taken out,
+  -- each of so many places is among them; else the last word is that of the bag.
   abbrev pub TriesEach : ℕ → PlaceView J → Option (Sealed J) → PlaceView J → Type 0
-  TriesEach places before None after = (words : List ℕ) × (places ≤ length words)
-      × (after ≡ with_claim None (before.found ++ words) before.left before.won)
-  TriesEach places before (Some bag) after = (words : List ℕ)
-      × (after ≡ with_claim None (before.found ++ (words ++ (2 * bag.seal + 1) ∷ [])) (before.left ++ None ∷ []) (before.won ++ Some bag ∷ []))
+  TriesEach places before None after = (at words : List ℕ) × ((place : ℕ) → place < places → Contains at place) × (places ≤ length words)
+      × (after ≡ with_claim None (before.looked ++ at) (before.found ++ words) before.left before.won)
+  TriesEach places before (Some bag) after = (at words : List ℕ) × (place : ℕ) × (place < places)
+      × (after ≡ with_claim None (before.looked ++ (at ++ place ∷ [])) (before.found ++ (words ++ (2 * bag.seal + 1) ∷ []))
+      (before.left ++ None ∷ []) (before.won ++ Some bag ∷ []))

@@ -24,7 +24,7 @@ pub struct PlaceRule<J> {
 impl<J> TableRule<Option<SealedBag<J>>, PlaceView<J>, u64> for PlaceRule<J> {
     ghost holds = { PlacesAgree };
 
-    ghost first = { λ _. with_claim None [] [] [] };
+    ghost first = { λ _. with_claim None [] [] [] [] };
 }
 
 /// A seat at the shared places: what a thread takes its steps with. It has no bytes.
@@ -100,7 +100,7 @@ impl<J> SharedPlaces<J> {
     /// A new seat, which has claimed no place. Making it loads a word.
     pub fn seat(&self) -> PlaceSeat<J>
         ensures of { IsOf self.now result }
-        ensures view { result.me ≡ (with_claim None [] [] [], []) }
+        ensures view { result.me ≡ (with_claim None [] [] [] [], []) }
     {
         self.table.shared.load_new_seat::<Sit>(0).1
     }

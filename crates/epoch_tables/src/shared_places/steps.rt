@@ -29,7 +29,7 @@ impl<J> SharedPlaces<J> {
         requires within { place < self.now.places }
         ensures kept { IsKept seat.old seat.new }
         ensures answer { IsPlaceWord result }
-        ensures view { seat.new.me ≡ (after_look seat.old.me.0 result, seat.old.me.1) }
+        ensures view { seat.new.me ≡ (after_look seat.old.me.0 place result, seat.old.me.1) }
     {
         self.table.shared.load::<Look>(seat, word_index(place))
     }
@@ -46,7 +46,7 @@ impl<J> SharedPlaces<J> {
         ensures answer { IsPlaceWord result }
         ensures won { result ≡ word → (bag : Option (Sealed J)) × IsAtHome word bag
             × (seat.new.me ≡ (after_claim seat.old.me.0 place word bag, (place, bag) ∷ seat.old.me.1)) }
-        ensures lost { result ≢ word → seat.new.me ≡ (after_look seat.old.me.0 result, seat.old.me.1) }
+        ensures lost { result ≢ word → seat.new.me ≡ (after_look seat.old.me.0 place result, seat.old.me.1) }
     {
         self.table
             .shared

@@ -23,7 +23,9 @@ impl<J> Model for LeftBags<J> {
 pub struct PlaceView<J> {
     /// The place that the seat has claimed, and not yet filled or emptied.
     pub claimed: Option<u64>,
-    /// The words that its steps found, the oldest first. A clause reads an array as a list of any length.
+    /// The places whose words its steps found, the oldest first. A clause reads an array as a list of any length.
+    pub looked: [u64; 0],
+    /// The words found there, in the same order.
     pub found: [u64; 0],
     /// What each of its fills and empties left in the place, the oldest first.
     pub left: LeftBags<J>,

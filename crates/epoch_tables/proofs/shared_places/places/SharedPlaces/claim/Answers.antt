@@ -10,6 +10,9 @@ compare_exchange-requires g c = let same : c.self.inside.places ≡ c.args.self.
     let below = c.requires.within in
     rw c.word_index.ensures (search rules, omega arith, place_claim_keeps _ _ _ _ _ _ c.requires.free (omega arith) c.requires.word)
 
+pub returns-clause-lost : goal.returns-clause-lost
+returns-clause-lost g c = λ miss. c.compare_exchange.ensures.2.1 miss c.args.place c.word_index.ensures
+
 -- what was at home is told of the word found, which is the word given
 pub returns-clause-won : goal.returns-clause-won
 returns-clause-won g c = λ hit. let told = c.compare_exchange.ensures.2.2 hit c.args.place c.word_index.ensures in

@@ -9,3 +9,7 @@ load-requires g c = let same : c.self.inside.places ≡ c.args.self.now.places =
     let key = c.self.invariant.key in
     let below = c.requires.within in
     rw c.word_index.ensures (search rules, omega arith, place_look_keeps _ _ _ _ _ (omega arith))
+
+-- the word is that of this place
+pub returns-clause-view : goal.returns-clause-view
+returns-clause-view g c = c.load.ensures.2.1 c.args.place c.word_index.ensures
