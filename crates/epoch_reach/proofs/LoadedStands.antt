@@ -28,11 +28,11 @@ use Rattle.epoch_reach.proofs.ReachRuns.{every_run_keeps_reach}
 
 -- WHAT HOLDS BETWEEN ANY TWO STEPS
 
-record NamesHold (s : State) (past : Past) : Type 0 where
-  leads : (spot : Spot) (x : Name) → Leads s.heap spot x → WasGiven s.heap x
-  writes : (q : ℕ) (a : Access) → IsAccess a (seat_of s q).progress → (x : Name) → Written a x → WasGiven s.heap x
-  loaded : (p g : ℕ) (x : Name) → past.loaded p g x → WasGiven s.heap x
-  stands : (x : Name) → WasGiven s.heap x → Stands s.heap x ⊎ past.destroyed x
+pub record NamesHold (s : State) (past : Past) : Type 0 where
+  pub leads : (spot : Spot) (x : Name) → Leads s.heap spot x → WasGiven s.heap x
+  pub writes : (q : ℕ) (a : Access) → IsAccess a (seat_of s q).progress → (x : Name) → Written a x → WasGiven s.heap x
+  pub loaded : (p g : ℕ) (x : Name) → past.loaded p g x → WasGiven s.heap x
+  pub stands : (x : Name) → WasGiven s.heap x → Stands s.heap x ⊎ past.destroyed x
 
 module _ (old new : State) (past : Past) (entry : Entry) (c : NamesHold old past) (h : JobsHold old past)
     (go : JobsGo old new entry.step entry.reply) (took : Takes old entry.step entry.reply new) where
@@ -61,7 +61,7 @@ module _ (old new : State) (past : Past) (entry : Entry) (c : NamesHold old past
       touch_changes access.call access.steps access.found old.heap access.makes.did access.makes.touches in
       subst Rises (sym access.makes.heap) (changes.risen, changes.start)
 
-  still : (x : Name) → WasGiven old.heap x → WasGiven new.heap x
+  pub still : (x : Name) → WasGiven old.heap x → WasGiven new.heap x
   still x was = (stays_given old new entry took x was.0, subst (λ (k : ℕ). k ≤ x.turn) (sym (rises goes).1) was.1)
 
   -- a pointer led somewhere before the step, or the step has written it
@@ -111,7 +111,7 @@ module _ (old new : State) (past : Past) (entry : Entry) (c : NamesHold old past
     ]
   ]
 
-  names_push : NamesHold new next
+  pub names_push : NamesHold new next
   names_push = record {
     leads = λ spot x leads. still x (led goes spot x leads);
     writes = writes_later;
@@ -130,7 +130,7 @@ names_along old new (entry ∷ log) past linked h c (mid, took, run) =
     names_along mid new log (past_after past old entry mid) (step_linked old mid entry.step entry.reply linked took)
     (jobs_push old mid past entry h go) (names_push old mid past entry c h go took) run
 
-fresh_names : (s : State) → IsFresh s → NamesHold s no_past
+pub fresh_names : (s : State) → IsFresh s → NamesHold s no_past
 fresh_names s fresh = record {
   leads = leads;
   writes = λ q a is x written. absurd (subst (λ (seat : Seat). IsAccess a seat.progress) (fresh.free q) is);

@@ -30,7 +30,7 @@ none_reached s fresh x (from_root i _ leads) =
     let none : leads.0 ≡ null = fresh.null_roots i leads.0 leads.1 in cc (leads.2, ap (λ (ptr : Ptr). ptr.name) none)
 none_reached s fresh x (from_field y f _ r leads) = none_reached s fresh y r
 
-fresh_reach : (s : State) → IsFresh s → ReachHolds s [] no_past
+pub fresh_reach : (s : State) → IsFresh s → ReachHolds s [] no_past
 fresh_reach s fresh = record {
   recent = λ p x. ⊥;
   now = λ p pin. absurd (cc (pin, ap (λ (seat : Seat). is_pinned seat.word) (fresh.free p)));
