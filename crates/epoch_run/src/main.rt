@@ -1,6 +1,8 @@
-//! `epoch-run`: reads a script of steps from standard input and prints what each of them tells, or runs threads.
+//! `epoch-run`: reads a script of steps from standard input and prints what each of them tells, or runs threads, over a stack too.
 #![tactic(auto)]
 
+mod runs;
+mod stack;
 #[cfg(test)]
 mod tests;
 mod threads;
@@ -29,7 +31,7 @@ fn main(rt: HostRuntime) -> ExitCode {
         return ExitCode::from(NO_MEMORY);
     };
     let mut jobs = Vec::new(alloc);
-    for _ in 0..threads::jobs_asked(&words) {
+    for _ in 0..runs::jobs_asked(&words) {
         let Ok(count) = Arc::try_clone(&called) else {
             return ExitCode::from(NO_MEMORY);
         };
@@ -45,7 +47,7 @@ fn main(rt: HostRuntime) -> ExitCode {
     }
     let mut answers = rt.stdout().lock();
     let mut faults = rt.stderr().lock();
-    let ending = threads::perform(&rt, alloc, &words, jobs, &called, &mut answers, &mut faults);
+    let ending = runs::perform(&rt, alloc, &words, jobs, &called, &mut answers, &mut faults);
     ExitCode::from(ending.status())
 }
 

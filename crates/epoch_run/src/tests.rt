@@ -1,6 +1,6 @@
 //! Command lines with words.
 
-use crate::threads::{jobs_asked, perform};
+use crate::runs::{jobs_asked, perform};
 use epoch_bags::{Job, Work};
 use epoch_script::Ending;
 use std::alloc::{AllocError, Global};
@@ -111,6 +111,16 @@ fn threads_come_and_go_and_each_of_their_jobs_is_called(rt: HostRuntime) -> Resu
     expect_run(&rt, rt.alloc(), "threads 64 2", "called 128\n")
 }
 
+#[test]
+fn threads_pop_each_value_that_they_push(rt: HostRuntime) -> Result<(), Fail> {
+    expect_run(&rt, rt.alloc(), "stack 1 1", "popped 1 sum 0\n")?;
+    expect_run(&rt, rt.alloc(), "stack 1 3", "popped 3 sum 3\n")?;
+    expect_run(&rt, rt.alloc(), "stack 3 4", "popped 12 sum 66\n")?;
+    // The sum of the numbers below 512, and of those below 128.
+    expect_run(&rt, rt.alloc(), "stack 8 64", "popped 512 sum 130816\n")?;
+    expect_run(&rt, rt.alloc(), "stack 64 2", "popped 128 sum 8128\n")
+}
+
 /// Command lines that ask for no run.
 const OTHER_WORDS: &[&str] = &[
     "threads",
@@ -128,7 +138,13 @@ const OTHER_WORDS: &[&str] = &[
     "threads 3  4",
     "Threads 3 4",
     "thread 3 4",
-    "stack 3 4",
+    "stack",
+    "stack 3",
+    "stack 0 1",
+    "stack 1 65",
+    "stack 3 4 5",
+    "Stack 3 4",
+    "stacks 3 4",
     "",
 ];
 
@@ -142,7 +158,7 @@ fn expect_usage<R: Threads + Wait + Sync + Abort>(
     want(rt, line, jobs_asked(&words), 0);
     let called = AtomicU64::new(0);
     let outcome = outcome_of(rt, alloc, &words, Vec::new(alloc), &called);
-    let usage = "usage: epoch-run [threads N K]\n";
+    let usage = "usage: epoch-run [threads N K | stack N K]\n";
     want_told(rt, line, &outcome, (Ending::NotUnderstood, 2), "", usage)
 }
 
@@ -240,6 +256,8 @@ fn a_refused_write_ends_a_run_of_words(rt: HostRuntime) -> Result<(), Fail> {
     for refusal in refusals {
         let line = "threads 1 1";
         expect_each_refused(&rt, rt.alloc(), line, refusal, Ending::Finished)?;
+        let line = "stack 1 1";
+        expect_each_refused(&rt, rt.alloc(), line, refusal, Ending::Finished)?;
         let line = "threads 1";
         expect_each_refused(&rt, rt.alloc(), line, refusal, Ending::NotUnderstood)?;
     }
@@ -265,18 +283,35 @@ fn outcome_with_room<R: Threads + Wait + Sync>(
     })
 }
 
+/// A run of these words that finds memory refused prints nothing, and else prints this.
+fn expect_all_or_nothing<R: Threads + Wait + Sync + Abort>(
+    rt: &R,
+    alloc: Global,
+    line: &str,
+    printed: &str,
+) -> Result<(), Fail> {
+    if let Ok(outcome) = outcome_with_room(rt, alloc, line) {
+        if outcome.ending == Ending::Finished {
+            return want_told(rt, line, &outcome, (Ending::Finished, 0), printed, "");
+        }
+        want_told(rt, line, &outcome, (Ending::Refused, 4), "", "")?;
+    }
+    // One allocation is refused at most, so a further run is done to its end.
+    let outcome = outcome_with_room(rt, alloc, line)?;
+    want_told(rt, line, &outcome, (Ending::Finished, 0), printed, "")
+}
+
 /// `rt try --test --fail-alloc N` refuses the Nth allocation of a test, and this one passes whichever that is. In a plain
 /// run none is refused.
 #[test]
 fn a_run_of_threads_to_which_memory_is_refused_prints_nothing(rt: HostRuntime) -> Result<(), Fail> {
-    let line = "threads 2 2";
-    if let Ok(outcome) = outcome_with_room(&rt, rt.alloc(), line) {
-        if outcome.ending == Ending::Finished {
-            return want_told(&rt, line, &outcome, (Ending::Finished, 0), "called 4\n", "");
-        }
-        want_told(&rt, line, &outcome, (Ending::Refused, 4), "", "")?;
-    }
-    // One allocation is refused at most, so a further run is done to its end.
-    let outcome = outcome_with_room(&rt, rt.alloc(), line)?;
-    want_told(&rt, line, &outcome, (Ending::Finished, 0), "called 4\n", "")
+    expect_all_or_nothing(&rt, rt.alloc(), "threads 2 2", "called 4\n")
+}
+
+/// As the test above, over a stack.
+#[test]
+fn a_run_over_a_stack_to_which_memory_is_refused_prints_nothing(
+    rt: HostRuntime,
+) -> Result<(), Fail> {
+    expect_all_or_nothing(&rt, rt.alloc(), "stack 2 2", "popped 4 sum 6\n")
 }

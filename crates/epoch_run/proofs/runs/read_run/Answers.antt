@@ -1,0 +1,7 @@
+use Rattle.epoch_run.specs.declared.runs.Run.TheVariants.{Threads, Stack}
+use Rattle.epoch_run.proofs.runs.read_run.Goals as goal
+
+-- a run of either kind has a size
+pub returns-in_default-2 : goal.returns-in_default-2
+returns-in_default-2 c (Threads size) says = (rw c.in_default.is at c.read_size.ensures) size says.1
+returns-in_default-2 c (Stack size) says = (rw c.in_default.is at c.read_size.ensures) size says.1

@@ -1,0 +1,147 @@
+//! `epoch-run stack N K`: so many threads that push and pop over one stack.
+ghost use Rattle.std.specs.Prelude.{◌≡◌, ◌≤◌};
+
+use crate::threads::leave;
+use epoch_handles::{Capacities, Collector, LocalHandle};
+use epoch_script::Size;
+use epoch_stack::{Node, Stack};
+use std::alloc::Global;
+use std::sync::Wait;
+use std::sync::atomic::{AtomicBool, AtomicU64, Ordering};
+use std::thread;
+use std::thread::Threads;
+
+/// As often as a push or a pop tries.
+const TRIES: u32 = 100_000;
+
+/// How many values were popped, and their sum.
+#[derive(Clone, Copy)]
+pub struct Popped {
+    pub count: u64,
+    pub sum: u64,
+}
+
+/// What all threads have popped so far, and whether anything was refused to one of them.
+#[derive(Drop)]
+struct Tally {
+    count: AtomicU64,
+    sum: AtomicU64,
+    refused: AtomicBool,
+}
+
+impl Tally {
+    fn new() -> Tally {
+        Tally {
+            count: AtomicU64::new(0),
+            sum: AtomicU64::new(0),
+            refused: AtomicBool::new(false),
+        }
+    }
+
+    fn add(&self, value: u64) {
+        self.count.fetch_add(1, Ordering::SeqCst);
+        self.sum.fetch_add(value, Ordering::SeqCst);
+    }
+
+    fn refuse(&self) {
+        self.refused.store(true, Ordering::SeqCst);
+    }
+
+    /// What was popped, or `None` where anything was refused.
+    fn popped(&self) -> Option<Popped> {
+        if self.refused.load(Ordering::SeqCst) {
+            return None;
+        }
+        let count = self.count.load(Ordering::SeqCst);
+        let sum = self.sum.load(Ordering::SeqCst);
+        Some(Popped { count, sum })
+    }
+}
+
+/// A whole run: makes the collector and the stack, has all threads push and pop, and ends the collector. `None` where
+/// anything was refused.
+pub fn push_and_pop<R: Threads + Wait + Sync>(rt: &R, alloc: Global, size: Size) -> Option<Popped> {
+    // Each value has a cell, and each of its removals a place.
+    let values = size.jobs() as u32;
+    let capacities = Capacities::usual(size.threads as u32, values, values);
+    let collector: Collector<Node<u64>> = match Collector::new(alloc, capacities, 0) {
+        Ok(collector) => collector,
+        Err(_) => return None,
+    };
+    let tally = Tally::new();
+    let stack = Stack::new(&collector);
+    start_all(rt, alloc, &collector, &stack, size, &tally);
+    drop(stack);
+    let _ = collector.end();
+    tally.popped()
+}
+
+/// Starts all threads, and comes back when they are done.
+fn start_all<R: Threads + Wait + Sync>(
+    rt: &R,
+    alloc: Global,
+    collector: &Collector<Node<u64>>,
+    stack: &Stack<'_, u64>,
+    size: Size,
+    tally: &Tally,
+) {
+    thread::scope(thread::scope_env(), rt, move |scope| {
+        for thread in 0..size.threads {
+            // At most 63 times 64.
+            let first = thread.wrapping_mul(size.rounds);
+            let rounds = size.rounds;
+            let started = scope.spawn(move || participate(
+                rt,
+                alloc,
+                collector,
+                stack,
+                (first, rounds),
+                tally,
+            ));
+            if started.is_err() {
+                tally.refuse();
+            }
+        }
+    });
+}
+
+/// One thread: registers, does a round for each of its values, and releases.
+fn participate<R: Wait>(
+    rt: &R,
+    alloc: Global,
+    collector: &Collector<Node<u64>>,
+    stack: &Stack<'_, u64>,
+    (first, rounds): (u64, u64),
+    tally: &Tally,
+) {
+    let Ok(mut handle) = collector.register() else {
+        tally.refuse();
+        return;
+    };
+    for round in 0..rounds {
+        go_round(alloc, stack, &mut handle, first.wrapping_add(round), tally);
+    }
+    leave(rt, handle);
+}
+
+/// Pins, pushes the value, pops one, and unpins.
+fn go_round(
+    alloc: Global,
+    stack: &Stack<'_, u64>,
+    handle: &mut LocalHandle<'_, Node<u64>>,
+    value: u64,
+    tally: &Tally,
+)
+    requires { handle.old.local.machine.guards ≡ 0 }
+    ensures { handle.new.local.machine.guards ≡ 0 }
+{
+    let guard = handle.pin();
+    let pushed = stack.push(alloc, handle, &guard, value, TRIES).is_ok();
+    let popped = stack.pop(handle, &guard, TRIES);
+    handle.unpin(guard);
+    match popped {
+        Ok(Some(value)) if pushed => tally.add(value),
+        Ok(None) if pushed => {}
+        _ => tally.refuse(),
+    }
+}
