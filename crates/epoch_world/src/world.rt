@@ -277,7 +277,9 @@ impl<S: BagStore<Job = Deferral>> World<S> {
     /// Whether the held bag of the participant at a position takes a further job without being put first, or `None` where
     /// nobody is registered. It is no step.
     pub fn has_room(&self, position: u64) -> Option<bool>
-        ensures { MatchOption result (word_of self.now position ≡ Word.Free) (λ room. (word_of self.now position ≢ Word.Free) × (IsTrue room ↔ (length (seat_of self.now position).machine.held < self.now.sizes.bag_jobs))) }
+        ensures value { MatchOption result (word_of self.now position ≡ Word.Free) (λ room. (word_of self.now position ≢ Word.Free) × (IsTrue room ↔ (length (seat_of self.now position).machine.held < self.now.sizes.bag_jobs))) }
+        ensures full { IfSome result (λ room. room ≡ false → length (seat_of self.now position).machine.held ≡ (seat_of self.now position).machine.sizes.bag_jobs) }
+        ensures room { IfSome result (λ room. room ≡ true → length (seat_of self.now position).machine.held < (seat_of self.now position).machine.sizes.bag_jobs) }
     {
         self.seats.get(position as usize)?.has_room()
     }
@@ -295,8 +297,8 @@ impl<S: BagStore<Job = Deferral>> World<S> {
         Reply::Registered(index as u64)
     }
 
-    /// The fault that refuses this call now, or `None`.
-    fn refusal(&self, position: u64, call: Call) -> Option<Fault>
+    /// The fault that refuses this call of the participant at a position now, or `None`. It is no step.
+    pub fn refusal(&self, position: u64, call: Call) -> Option<Fault>
         ensures { result ≡ refusal call (seat_of self.now position) self.now.tickets self.now.heap }
     {
         match self.seats.get(position as usize) {

@@ -1,5 +1,5 @@
 //! One participant of the world: its word, its machine, and the guards and calls that the world keeps of it.
-ghost use Rattle.std.specs.Prelude.{◌≡◌, ◌≢◌, true, ℕ, ◌+◌, ◌*◌, ◌^◌, ◌<◌, ◌≤◌, Option, Some, None, IfSome, MatchOption, IsTrue, ◌↔◌, length, ◌⊎◌, IfOk, IfErr, vec_capacity, remove, if◌then◌else◌};
+ghost use Rattle.std.specs.Prelude.{◌≡◌, ◌≢◌, true, ℕ, ◌+◌, ◌*◌, ◌^◌, ◌<◌, ◌≤◌, Option, Some, None, IfSome, MatchOption, IsTrue, false, ◌↔◌, length, ◌⊎◌, IfOk, IfErr, vec_capacity, remove, if◌then◌else◌};
 ghost use Rattle.epoch_machine.specs.Machine.{asks, AskFits, heard, guards_after, IsSized};
 ghost use Rattle.epoch_laws.specs.Run.{free_seat, with_machine, with_word, refusal, waits, call_refusal, guard_refusal, resume_refusal, is_out, begun_seat, drives, ended_seat, end_reply, under_guard, access_refusal, reading_refusal, reads, removed_by, readings_after, without_reading, accessed_seat, access_reply};
 ghost use Rattle.epoch_machine.specs.declared.machine.Stage.TheVariants.{Idle, End};
@@ -102,7 +102,8 @@ impl Seat {
 
     /// Whether its held bag takes a further job without a put, or `None` at a free position.
     pub fn has_room(&self) -> Option<bool>
-        ensures { MatchOption result (self.now.word ≡ Word.Free) (λ room. (self.now.word ≢ Word.Free) × (IsTrue room ↔ (length self.now.machine.held < self.now.machine.sizes.bag_jobs))) }
+        ensures value { MatchOption result (self.now.word ≡ Word.Free) (λ room. (self.now.word ≢ Word.Free) × (IsTrue room ↔ (length self.now.machine.held < self.now.machine.sizes.bag_jobs))) }
+        ensures full { IfSome result (λ room. room ≡ false → length self.now.machine.held ≡ self.now.machine.sizes.bag_jobs) }
     {
         match self.word {
             Word::Free => None,
