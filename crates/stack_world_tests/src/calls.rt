@@ -1,0 +1,135 @@
+//! Steps of a stack's world as the tests take them, and what they have to tell.
+use epoch_bags::{BagStore, Places};
+use epoch_cells::Fault;
+use epoch_heap::Answer;
+use epoch_laws::{Deferral, Reply, Shape};
+use epoch_stack_world::{Plain, StackReply, StackStep, StackWorld};
+use std::alloc::Global;
+use std::fmt::Debug;
+use std::process::Abort;
+
+/// A stack's world over the places of a store.
+pub(crate) type Stack = StackWorld<Places<Deferral>>;
+
+/// More steps than any call here takes.
+const MANY: u64 = 10_000;
+
+/// Both are equal. `what` says what was seen.
+pub(crate) fn want<T: PartialEq + Debug + Drop>(rt: &impl Abort, what: &str, seen: T, wanted: T) {
+    assert_eq!(rt; seen, wanted, "{what}");
+}
+
+/// The numbers of a world with a stack, so many participants and cells, and so many bags of so many jobs.
+pub(crate) fn shape_of(participants: u64, cells: u64, bags: u64, bag_jobs: u64) -> Shape {
+    Shape {
+        participants,
+        cells,
+        roots: 1,
+        fields: 1,
+        bags,
+        align: 1,
+        start_epoch: 0,
+        start_turn: 0,
+        bag_jobs,
+        collect_bags: 8,
+    }
+}
+
+/// A new stack in a world of these numbers.
+pub(crate) fn stack_of<S: BagStore<Job = Deferral>>(
+    rt: &impl Abort,
+    alloc: Global,
+    shape: Shape,
+) -> Result<StackWorld<S>, Fault> {
+    assert!(rt; shape.is_valid(), "each number is in its range");
+    assert!(rt; shape.roots == 1, "there is one root");
+    assert!(rt; shape.fields == 1, "each cell has one field");
+    StackWorld::new(alloc, shape)
+}
+
+/// A new stack with so many participants, each of which is pinned by its guard 0, and so many cells.
+pub(crate) fn pinned<S: BagStore<Job = Deferral>>(
+    rt: &impl Abort,
+    alloc: Global,
+    participants: u64,
+    cells: u64,
+) -> Result<StackWorld<S>, Fault> {
+    let mut stack = stack_of(rt, alloc, shape_of(participants, cells, 4, 64))?;
+    for participant in 0..participants {
+        let registered = StackReply::World(Reply::Registered(participant));
+        let seen = stack.step(StackStep::Register);
+        want(rt, "a participant registers", seen, registered);
+        want_done(rt, &mut stack, participant, Plain::Pin);
+    }
+    Ok(stack)
+}
+
+/// Whether a call is over with this reply.
+pub(crate) fn is_over(reply: StackReply) -> bool {
+    match reply {
+        StackReply::World(Reply::Done(_) | Reply::Refused(_)) => true,
+        StackReply::World(_) => false,
+        _ => true,
+    }
+}
+
+/// Takes the step, and then steps of the participant to the end of its call. Answers the last reply.
+pub(crate) fn to_end<S: BagStore<Job = Deferral>>(
+    stack: &mut StackWorld<S>,
+    participant: u64,
+    step: StackStep,
+) -> StackReply {
+    let mut reply = stack.step(step);
+    for _ in 0..MANY {
+        if is_over(reply) {
+            return reply;
+        }
+        reply = stack.step(StackStep::Go(participant));
+    }
+    reply
+}
+
+/// The plain call is accepted, and done at its end.
+pub(crate) fn want_done<S: BagStore<Job = Deferral>>(
+    rt: &impl Abort,
+    stack: &mut StackWorld<S>,
+    participant: u64,
+    call: Plain,
+) {
+    let reply = to_end(stack, participant, StackStep::Begin(participant, call));
+    let done = matches!(reply, StackReply::World(Reply::Done(_)));
+    want(rt, "a plain call is done", done, true);
+}
+
+/// Pushes the value under guard 0, to the end.
+pub(crate) fn push<S: BagStore<Job = Deferral>>(
+    stack: &mut StackWorld<S>,
+    participant: u64,
+    value: u64,
+    tries: u64,
+) -> StackReply {
+    to_end(
+        stack,
+        participant,
+        StackStep::Push(participant, 0, value, tries),
+    )
+}
+
+/// Pops under guard 0, to the end.
+pub(crate) fn pop<S: BagStore<Job = Deferral>>(
+    stack: &mut StackWorld<S>,
+    participant: u64,
+    tries: u64,
+) -> StackReply {
+    to_end(stack, participant, StackStep::Pop(participant, 0, tries))
+}
+
+/// Goes on with the end of the world, to its end. Answers how many jobs it called.
+pub(crate) fn end(stack: &mut Stack) -> Option<u64> {
+    for _ in 0..MANY {
+        if let StackReply::World(Reply::Done(Answer::Count(count))) = stack.step(StackStep::EndGo) {
+            return Some(count);
+        }
+    }
+    None
+}
