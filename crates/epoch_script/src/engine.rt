@@ -77,6 +77,11 @@ pub fn run<R: BufRead, A: Write, F: Write>(
         Ok(()) => Ending::Finished,
         Err(ending) => ending,
     };
+    tell_ending(ending, faults)
+}
+
+/// Tells `faults` of a line that isn't what it should be, and answers how the run ends: as given, unless telling fails.
+pub fn tell_ending<F: Write>(ending: Ending, faults: &mut F) -> Ending {
     after_telling(ending, tell(ending, faults))
 }
 
@@ -105,17 +110,19 @@ fn tell<F: Write>(ending: Ending, faults: &mut F) -> io::Result<()> {
     faults.flush()
 }
 
-/// The lines of a reader, and the one that is read now.
+/// The lines of a reader, and the one that is read now. A new one has an empty line of the number 0.
 #[derive(Drop)]
-struct Script<'r, R> {
-    reader: &'r mut R,
-    line: Vec<u8>,
-    number: u64,
+pub struct Script<'r, R> {
+    pub reader: &'r mut R,
+    /// The bytes of the line, without its line feed.
+    pub line: Vec<u8>,
+    /// The number of the line, counted from 1.
+    pub number: u64,
 }
 
 impl<R: BufRead> Script<'_, R> {
     /// Reads on to the next line that isn't empty; `false` at the end of input.
-    fn advance(&mut self) -> Result<bool, Ending>
+    pub fn advance(&mut self) -> Result<bool, Ending>
         ensures { result ≡ Ok true → self.new.line.items ≢ [] }
     {
         for _ in 0..u64::MAX {
@@ -155,8 +162,8 @@ impl<R: BufRead> Script<'_, R> {
         str::from_utf8(&self.line).ok()
     }
 
-    /// The shape that the line says.
-    fn shape(&self) -> Result<Shape, Ending>
+    /// The shape that the line says. `NotAShape`: it says none.
+    pub fn shape(&self) -> Result<Shape, Ending>
         ensures ok { IfOk result (λ shape. SpellsShape shape self.now.line.items) }
         ensures says { (shape : Shape) → IsUtf8 self.now.line.items → SpellsShape shape self.now.line.items → IsOk result }
         ensures err { IfErr result (λ fault. fault ≡ Ending.NotAShape self.now.number) }
@@ -166,8 +173,8 @@ impl<R: BufRead> Script<'_, R> {
         read_shape(text).ok_or(fault)
     }
 
-    /// What the line asks for.
-    fn command(&self) -> Result<Command, Ending>
+    /// What the line asks for. `NotAStep`: it asks for nothing.
+    pub fn command(&self) -> Result<Command, Ending>
         ensures ok { IfOk result (λ command. SpellsCommand command self.now.line.items) }
         ensures says { (command : Command) → IsUtf8 self.now.line.items → SpellsCommand command self.now.line.items → IsOk result }
         ensures err { IfErr result (λ fault. fault ≡ Ending.NotAStep self.now.number) }

@@ -8,7 +8,7 @@ mod printing;
 mod size;
 mod words;
 
-pub use engine::{Ending, run};
+pub use engine::{Ending, Script, run, tell_ending};
 pub use lines::{Command, read_command, read_shape};
 pub use printing::Printed;
 pub use size::Size;

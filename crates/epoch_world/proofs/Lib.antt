@@ -11,6 +11,7 @@ pub mod SlotsStay
 pub mod StepsFall
 pub mod TurnsTaken
 pub mod PlacesSeen
+pub mod PlacesTold
 pub mod AheadsStay
 pub mod ReadingLists
 pub mod AcceptedCalls

@@ -1,0 +1,57 @@
+//! Scripts that have no picture, and streams that fail.
+
+use std::alloc::Global;
+use std::io;
+use std::io::{ErrorKind, Write};
+
+/// What a script shows, and its lines.
+const SCRIPTS: [(&str, &str); 6] = [
+    ("no line", ""),
+    ("a shape alone", "shape 1 0 0 0 1 1 0 0\n"),
+    ("no shape", "\nregister\n"),
+    ("no step", "shape 1 0 0 0 1 1 0 0\nregister\nregister 1\n"),
+    ("as many steps as may be", "shape 1 0 0 0 1 1 0 0\ngo 0 5000\nepoch\n"),
+    ("one step more", "shape 1 0 0 0 1 1 0 0\ngo 0 4999\nword 0\nendgo\nendgo\n"),
+];
+
+pub fn tell(rt: &impl Print, alloc: Global) -> io::Result<()> {
+    for (shows, script) in SCRIPTS {
+        tell_ending(rt, alloc, shows, script)?;
+    }
+    tell_refused(rt, alloc, "a stream that fails", ErrorKind::BrokenPipe)?;
+    tell_refused(rt, alloc, "a stream without memory", ErrorKind::OutOfMemory)
+}
+
+/// Says with which status a script ends, whether something is drawn, and what is told.
+fn tell_ending(rt: &impl Print, alloc: Global, shows: &str, script: &str) -> io::Result<()> {
+    let (mut drawn, mut faults) = (Vec::new(alloc), Vec::new(alloc));
+    let status = epoch_pictures::run(alloc, &mut script.as_bytes(), &mut drawn, &mut faults);
+    let outcome = if drawn.is_empty() {
+        "nothing is drawn"
+    } else {
+        "drawn"
+    };
+    let told = str::from_utf8(&faults).unwrap_or("").trim_end();
+    println!(rt; "{shows}: status {status}, {outcome}, told '{told}'")
+}
+
+/// A writer that refuses all.
+#[derive(Drop)]
+struct Refusing(ErrorKind);
+
+impl Write for Refusing {
+    fn write(&mut self, _buf: &[u8]) -> io::Result<usize> {
+        Err(io::Error::from(self.0))
+    }
+
+    fn flush(&mut self) -> io::Result<()> {
+        Err(io::Error::from(self.0))
+    }
+}
+
+fn tell_refused(rt: &impl Print, alloc: Global, shows: &str, kind: ErrorKind) -> io::Result<()> {
+    let script = "shape 1 0 0 0 1 1 0 0\nregister\n";
+    let (mut out, mut faults) = (Refusing(kind), Vec::new(alloc));
+    let status = epoch_pictures::run(alloc, &mut script.as_bytes(), &mut out, &mut faults);
+    println!(rt; "{shows}: status {status}")
+}

@@ -1,0 +1,2 @@
+pub mod EscapedText
+pub mod LanesTold

@@ -1,0 +1,243 @@
+//! Where everything of a picture stands on its sheet, and in which order it is drawn. Lengths are in pixels.
+ghost use Rattle.std.specs.Prelude.{◌≤◌, ◌*◌};
+
+mod bars;
+mod legend;
+mod marks;
+
+use crate::pen::{Area, Pen};
+use crate::{Bar, Picture};
+use std::alloc::Global;
+use std::io;
+use std::io::Write;
+
+/// How wide the names of the lanes are.
+const LEFT: u64 = 92;
+/// What is left free at the right edge, for bars that go on and for the name of a fault.
+const RIGHT: u64 = 64;
+
+const COLUMN: u64 = 18;
+/// The top of the first lane, below the numbers of the steps and the epochs.
+const LANES: u64 = 58;
+
+const LANE: u64 = 84;
+
+const PLACE: u64 = 26;
+/// No length is greater.
+const FAR: u64 = 1_099_511_627_776;
+
+/// Where the lanes and the columns of a picture stand.
+#[derive(Clone, Copy)]
+struct Sheet<'p> {
+    picture: &'p Picture,
+    columns: u32,
+    /// The lanes of participants, and the collector's, where something stands in it.
+    lanes: u32,
+    places: u32,
+}
+
+/// Writes the picture as SVG. An `Err` is that of the writer, or says that an allocation was refused.
+pub fn draw<W: Write>(alloc: Global, picture: &Picture, out: &mut W) -> io::Result<()> {
+    let sheet = Sheet::of(picture);
+    let mut pen = Pen::begin(alloc, out, sheet.width(), sheet.bottom() + legend::HEIGHT)?;
+    sheet.draw_ground(&mut pen)?;
+    sheet.draw_columns(&mut pen)?;
+    sheet.draw_bars(&mut pen)?;
+    sheet.draw_marks(alloc, &mut pen)?;
+    legend::draw(&mut pen, sheet.bottom())?;
+    pen.end()
+}
+
+impl<'p> Sheet<'p> {
+    fn of(picture: &'p Picture) -> Sheet<'p> {
+        let columns = match picture.columns.last() {
+            Some(column) => column.saturating_add(1),
+            None => 0,
+        };
+        let collects = has_collector(picture);
+        let lanes = picture.participants.saturating_add(u32::from(collects));
+        Sheet {
+            picture,
+            columns,
+            lanes,
+            places: places_of(&picture.places),
+        }
+    }
+
+    /// The left edge of the first column that isn't there.
+    fn right(&self) -> u64
+        ensures { result ≤ FAR }
+    {
+        LEFT + COLUMN * u64::from(self.columns)
+    }
+
+    fn width(&self) -> u64
+        ensures { result ≤ 2 * FAR }
+    {
+        (self.right() + RIGHT).max(legend::WIDTH)
+    }
+
+    fn column(&self, step: u32) -> u32 {
+        self.picture
+            .columns
+            .get(step as usize)
+            .copied()
+            .unwrap_or(0)
+    }
+
+    /// The middle of the column of a step.
+    fn x(&self, step: u32) -> u64
+        ensures { result ≤ FAR }
+    {
+        LEFT + COLUMN * u64::from(self.column(step)) + COLUMN / 2
+    }
+
+    /// The top of a lane. Participants without one of their own share the collector's.
+    fn top_of(&self, lane: Option<u64>) -> u64
+        ensures { result ≤ FAR }
+    {
+        let last = u64::from(self.picture.participants);
+        let number = lane.unwrap_or(last).min(last);
+        LANES + LANE * number
+    }
+
+    fn top_of_places(&self) -> u64
+        ensures { result ≤ FAR }
+    {
+        LANES + LANE * u64::from(self.lanes) + 6
+    }
+
+    fn top_of_place(&self, place: u64) -> u64
+        ensures { result ≤ 2 * FAR }
+    {
+        self.top_of_places() + PLACE * place.min(u64::from(self.places))
+    }
+
+    fn bottom(&self) -> u64
+        ensures { result ≤ 2 * FAR }
+    {
+        self.top_of_places() + PLACE * u64::from(self.places)
+    }
+
+    /// The paper, and the names of the lanes.
+    fn draw_ground<W: Write>(&self, pen: &mut Pen<'_, W>) -> io::Result<()> {
+        let (width, height) = (self.width(), self.bottom() + legend::HEIGHT);
+        pen.rect(
+            "page",
+            Area {
+                left: 0,
+                top: 0,
+                width,
+                height,
+            },
+        )?;
+        for lane in 0..self.lanes {
+            let (number, top) = (u64::from(lane), self.top_of(Some(u64::from(lane))));
+            pen.rect(
+                "shade",
+                Area {
+                    left: 0,
+                    top,
+                    width,
+                    height: LANE - 4,
+                },
+            )?;
+            if lane < self.picture.participants {
+                pen.number("lane", (8, top + 36), "participant ", number, LEFT)?;
+            } else {
+                pen.text("lane", (8, top + 36), "collector")?;
+            }
+        }
+        for place in 0..self.places {
+            let number = u64::from(place);
+            let top = self.top_of_place(number);
+            pen.rect(
+                "shade",
+                Area {
+                    left: 0,
+                    top,
+                    width,
+                    height: PLACE - 4,
+                },
+            )?;
+            pen.number("lane", (8, top + 15), "place ", number, LEFT)?;
+        }
+        Ok(())
+    }
+
+    /// The columns, and above them the numbers of the steps.
+    fn draw_columns<W: Write>(&self, pen: &mut Pen<'_, W>) -> io::Result<()> {
+        pen.text("grey", (8, 14), "step")?;
+        let mut first: u32 = 0;
+        let end = u32::try_from(self.picture.columns.len()).unwrap_or(u32::MAX);
+        for step in 0..end {
+            if self.column(first) != self.column(step) {
+                self.draw_column(pen, first, step)?;
+                first = step;
+            }
+        }
+        self.draw_column(pen, first, end)
+    }
+
+    /// The column of the steps from the first to before the end. A column of more than one has their number above it.
+    fn draw_column<W: Write>(&self, pen: &mut Pen<'_, W>, first: u32, end: u32) -> io::Result<()> {
+        let (middle, steps) = (self.x(first), end.saturating_sub(first));
+        if steps > 1 {
+            let left = middle.saturating_sub(COLUMN / 2);
+            let height = self.bottom().saturating_sub(LANES);
+            pen.rect(
+                "fold",
+                Area {
+                    left,
+                    top: LANES,
+                    width: COLUMN,
+                    height,
+                },
+            )?;
+            pen.number(
+                "grey middle",
+                (middle, 26),
+                "+",
+                u64::from(steps),
+                2 * COLUMN,
+            )?;
+        }
+        if self.column(first) % 5 == 0 {
+            pen.line(middle, 28, self.bottom())?;
+            pen.number(
+                "grey middle",
+                (middle, 14),
+                "",
+                u64::from(first) + 1,
+                5 * COLUMN,
+            )?;
+        }
+        Ok(())
+    }
+}
+
+/// Whether something stands in no lane of a participant.
+fn has_collector(picture: &Picture) -> bool {
+    let count = u64::from(picture.participants);
+    let outside = |lane: Option<u64>| match lane {
+        Some(position) => position >= count,
+        None => true,
+    };
+    picture.calls.iter().any(|bar| outside(bar.lane))
+        || picture.arrows.iter().any(|arrow| outside(arrow.to.lane))
+        || picture
+            .refusals
+            .iter()
+            .any(|refusal| outside(refusal.mark.lane))
+}
+
+/// How many places there are from 0 to the greatest one that was ever taken.
+fn places_of(bars: &[Bar<u64>]) -> u32 {
+    let mut places: u32 = 0;
+    for bar in bars {
+        if let Some(place) = bar.lane {
+            places = places.max(u32::try_from(place).unwrap_or(0).saturating_add(1));
+        }
+    }
+    places
+}

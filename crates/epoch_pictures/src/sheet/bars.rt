@@ -1,0 +1,170 @@
+//! What lasts for a while, as bars.
+
+use super::{LANE, Sheet};
+use crate::Bar;
+use crate::pen::{Area, Pen, takes};
+use epoch_world::{Access, Call, Change};
+use std::io;
+use std::io::Write;
+
+/// The height of a bar.
+const BAR: u64 = 16;
+/// How far a call reaches over the middle of a column.
+const OVER: u64 = 8;
+
+impl Sheet<'_> {
+    pub fn draw_bars<W: Write>(&self, pen: &mut Pen<'_, W>) -> io::Result<()> {
+        self.draw_epochs(pen)?;
+        for bar in &self.picture.registrations {
+            let area = self.area(bar, self.top_of(bar.lane), LANE - 4);
+            match bar.to {
+                Some(_) => pen.rect("member", area)?,
+                None => pen.unclosed("member", area)?,
+            }
+        }
+        for bar in &self.picture.calls {
+            self.draw_call(pen, bar)?;
+        }
+        for bar in &self.picture.pins {
+            let area = self.area(bar, self.top_of(bar.lane) + 24, BAR);
+            self.draw_bar(pen, "pin", bar, area)?;
+            self.draw_number(pen, "light", area, "pinned in ", bar.kind)?;
+        }
+        for bar in &self.picture.places {
+            self.draw_place(pen, bar)?;
+        }
+        Ok(())
+    }
+
+    fn draw_epochs<W: Write>(&self, pen: &mut Pen<'_, W>) -> io::Result<()> {
+        pen.text("grey", (8, 44), "epoch")?;
+        for bar in &self.picture.epochs {
+            let area = self.area(bar, 32, BAR);
+            let class = if bar.kind % 2 == 0 { "even" } else { "odd" };
+            self.draw_bar(pen, class, bar, area)?;
+            self.draw_number(pen, "", area, "epoch ", bar.kind)?;
+        }
+        Ok(())
+    }
+
+    /// A call. It takes the columns of its first and last steps whole, where they have no other steps.
+    fn draw_call<W: Write>(&self, pen: &mut Pen<'_, W>, bar: &Bar<Option<Call>>) -> io::Result<()> {
+        let mut area = self.area(bar, self.top_of(bar.lane) + 4, BAR);
+        if !self.shares_column(bar.from.checked_sub(1), bar.from) {
+            area.left = area.left.saturating_sub(OVER);
+            area.width = area.width.saturating_add(OVER);
+        }
+        if let Some(last) = bar.to
+            && !self.shares_column(last.checked_add(1), last)
+        {
+            area.width = area.width.saturating_add(OVER);
+        }
+        self.draw_bar(pen, "call", bar, area)?;
+        let name = match bar.kind {
+            Some(call) => name_of(call),
+            None => "end",
+        };
+        if takes(name) > area.width {
+            return Ok(());
+        }
+        pen.text("", area.inside(), name)
+    }
+
+    /// A claimed place, or a bag in its place.
+    fn draw_place<W: Write>(&self, pen: &mut Pen<'_, W>, bar: &Bar<u64>) -> io::Result<()> {
+        let top = self.top_of_place(bar.lane.unwrap_or(0));
+        let area = self.area(bar, top + 3, BAR);
+        if bar.kind % 2 == 0 {
+            return self.draw_bar(pen, "claim", bar, area);
+        }
+        self.draw_bar(pen, "bag", bar, area)?;
+        self.draw_number(pen, "", area, "sealed with ", bar.kind / 2)
+    }
+
+    /// Whether these are two steps of one column.
+    fn shares_column(&self, beside: Option<u32>, step: u32) -> bool {
+        match beside {
+            Some(beside) => self.columns_at(beside) == self.columns_at(step),
+            None => false,
+        }
+    }
+
+    fn columns_at(&self, step: u32) -> Option<u32> {
+        self.picture.columns.get(step as usize).copied()
+    }
+
+    /// From the middle of the column of the bar's first step to that of its last, or to the end of the columns.
+    fn area<K>(&self, bar: &Bar<K>, top: u64, height: u64) -> Area {
+        let left = self.x(bar.from);
+        let right = match bar.to {
+            Some(step) => self.x(step),
+            None => self.right(),
+        };
+        Area {
+            left,
+            top,
+            width: right.saturating_sub(left),
+            height,
+        }
+    }
+
+    fn draw_bar<W: Write, K>(
+        &self,
+        pen: &mut Pen<'_, W>,
+        class: &'static str,
+        bar: &Bar<K>,
+        area: Area,
+    ) -> io::Result<()> {
+        match bar.to {
+            Some(_) => pen.rect(class, area),
+            None => pen.pointed(class, area),
+        }
+    }
+
+    fn draw_number<W: Write>(
+        &self,
+        pen: &mut Pen<'_, W>,
+        class: &'static str,
+        area: Area,
+        words: &str,
+        number: u64,
+    ) -> io::Result<()> {
+        pen.number(class, area.inside(), words, number, area.width)
+    }
+}
+
+/// The first word of a call's line.
+fn name_of(call: Call) -> &'static str {
+    match call {
+        Call::Pin => "pin",
+        Call::Unpin(_) => "unpin",
+        Call::Repin(_) => "repin",
+        Call::Pause(_) => "pause",
+        Call::Resume(_) => "resume",
+        Call::Defer(_) => "defer",
+        Call::Flush(_) => "flush",
+        Call::Release => "release",
+        Call::DeferDestroy(_, _) => "defer-destroy",
+        Call::Access(access) => name_of_access(access),
+    }
+}
+
+fn name_of_access(access: Access) -> &'static str {
+    match access {
+        Access::Place(_) => "place",
+        Access::Read(_, _) => "read",
+        Access::Leave(_) => "leave",
+        Access::Write(_, _, _) => "write",
+        Access::Take(_, _) => "take",
+        Access::Point(_, _, change) => match change {
+            Change::Load => "load",
+            Change::Store(_) => "store",
+            Change::Swap(_) => "swap",
+            Change::CompareExchange(_, _) => "cas",
+            Change::FetchAnd(_) => "and",
+            Change::FetchOr(_) => "or",
+            Change::FetchXor(_) => "xor",
+            Change::FetchUpdate(_, _) => "update",
+        },
+    }
+}
