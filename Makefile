@@ -1,8 +1,11 @@
 # `make run` proves and builds what epoch_run needs, runs it on its stored script, or on INPUT=FILE, and prints what it
-# answers. `make try` runs the same without any proof. `make test` is the merge gate.
+# answers. `make try` runs the same without any proof. `make draw` draws the run to out/run.svg, unproved. `make pictures`
+# draws those of the documents anew. `make test` is the merge gate.
 INPUT ?= crates/epoch_run/stdin
 
-.PHONY: run try test
+PICTURES = grace stall full
+
+.PHONY: run try draw pictures test
 
 ifeq ($(shell command -v rt),)
 $(error rt, the command of the Rattle toolchain, is missing: put its folder on PATH)
@@ -16,5 +19,15 @@ try:
 	@echo 'This proves nothing: the program is only compiled and run, in about 20 seconds on 4 processors.' >&2
 	@script=$$(realpath "$(INPUT)") && cd crates/epoch_run && rt try < "$$script"
 
+draw:
+	@echo 'This proves nothing: the program is only compiled and run, in about 20 seconds on 4 processors.' >&2
+	@mkdir -p out && script=$$(realpath "$(INPUT)") && cd crates/epoch_draw && rt try < "$$script" > ../../out/run.svg.part && mv ../../out/run.svg.part ../../out/run.svg
+
+pictures:
+	@for name in $(PICTURES); do \
+	  $(MAKE) -s draw INPUT=crates/draw_tests/data/$$name.txt && cp out/run.svg crates/draw_tests/data/$$name.svg && cp out/run.svg docs/pictures/$$name.svg || exit 1; \
+	done
+
 test:
+	@for name in $(PICTURES); do cmp crates/draw_tests/data/$$name.svg docs/pictures/$$name.svg || exit 1; done
 	@start=$$(date +%s); rt ci; status=$$?; echo "make test took $$(($$(date +%s) - start)) s on $$(nproc) processors"; exit $$status

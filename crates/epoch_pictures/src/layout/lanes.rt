@@ -33,31 +33,41 @@ fn lanes_with(lanes: u32, reply: Reply) -> u32
     }
 }
 
-/// The column of each step: its own, or, in a long run, one for each stretch of steps that tell nothing.
+/// The column of each step: its own, or, in a long run, that of the step before, where it joins that one.
 pub fn columns_of(alloc: Global, moments: &[Moment]) -> Result<Vec<u32>, AllocError>
     ensures { IfOk result (λ columns. length columns.items ≡ length moments.now) }
 {
     let folds = moments.len() > UNFOLDED;
     let mut columns = Vec::new(alloc);
     let mut column: u32 = 0;
-    let mut epoch = None;
-    let mut was_quiet = true;
+    let mut before = None;
+    let mut was_quiet = false;
     for moment in moments {
-        let quiet = tells_nothing(moment, epoch);
-        if !(folds && quiet && was_quiet) && epoch.is_some() {
+        let is_same = before == Some(moment.epoch) && moment.place.is_none();
+        if before.is_some() && !(folds && joins(moment.reply, is_same, was_quiet)) {
             column = column.saturating_add(1);
         }
         columns.push(column)?;
-        epoch = Some(moment.epoch);
-        was_quiet = quiet;
+        before = Some(moment.epoch);
+        was_quiet = tells_nothing(moment.reply, is_same);
     }
     Ok(columns)
 }
 
-/// Whether a step only says that a call begins, goes on or is done, and changes neither the epoch nor a place.
-fn tells_nothing(moment: &Moment, before: Option<u64>) -> bool {
-    let (Reply::Began | Reply::Stepped | Reply::Done(Answer::Unit)) = moment.reply else {
-        return false;
-    };
-    moment.place.is_none() && before == Some(moment.epoch)
+/// Whether a step only says that a call begins or goes on, and leaves the epoch and the places the same.
+fn tells_nothing(reply: Reply, is_same: bool) -> bool {
+    match reply {
+        Reply::Began => true,
+        Reply::Stepped => is_same,
+        _ => false,
+    }
+}
+
+/// Whether a step joins the one before: neither tells anything, or it only ends a call that has just told something.
+fn joins(reply: Reply, is_same: bool, was_quiet: bool) -> bool {
+    match reply {
+        Reply::Stepped => is_same && was_quiet,
+        Reply::Done(Answer::Unit) => !was_quiet,
+        _ => false,
+    }
 }

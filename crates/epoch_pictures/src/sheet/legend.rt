@@ -20,7 +20,7 @@ const SAMPLES: [(&str, &str); 9] = [
     ("called", "the job is called; ! is one without ticket"),
     ("bag", "a bag in its place, with its seal"),
     ("claim", "a place is claimed, to fill or empty it"),
-    ("fold", "steps that tell nothing, in one column"),
+    ("fold", "so many steps, in one column"),
     ("cross", "a step is refused, with its fault"),
 ];
 
