@@ -1,5 +1,5 @@
 //! `epoch-run stack N K`: so many threads that push and pop over one stack.
-ghost use Rattle.std.specs.Prelude.{◌≡◌, ◌≤◌};
+ghost use Rattle.std.specs.Prelude.{◌≡◌};
 
 use crate::threads::leave;
 use epoch_handles::{Capacities, Collector, LocalHandle};
