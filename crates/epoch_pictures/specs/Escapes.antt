@@ -1,5 +1,5 @@
 -- Text as XML has it.
-use Rattle.std.specs.Prelude.{◌≡◌, ◌≢◌, ℕ, ◌==◌, ◌<◌, nat_lt, if◌then◌else◌, List, [], ◌∷◌, ◌++◌, codes}
+use Rattle.std.specs.Prelude.{◌≢◌, ℕ, ◌==◌, nat_lt, if◌then◌else◌, List, [], ◌∷◌, ◌++◌, codes}
 
 -- a byte that XML reads as markup is written as its entity; a question mark stands for any byte that no plain text has
 abbrev pub escaped_byte : ℕ → List ℕ

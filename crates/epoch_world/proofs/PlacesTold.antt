@@ -1,5 +1,5 @@
 -- What the word of a place says of whether the place is occupied.
-use Rattle.std.proofs.Common.{◌≡◌, ◌≤◌, ◌==◌, ℕ, zero, suc, List, [], ◌∷◌, Bool, not, length, Option, Some, None, MatchOption, slice_get, refl, subst, sym, arith}
+use Rattle.std.proofs.Common.{◌≡◌, ◌≤◌, ◌==◌, ℕ, zero, suc, List, [], ◌∷◌, Bool, not, length, Option, Some, None, MatchOption, slice_get, refl, arith}
 use Rattle.epoch_bags.specs.PlaceLists.{taken_places}
 
 -- the word of this place tells whether it is occupied, and there is none past the last place

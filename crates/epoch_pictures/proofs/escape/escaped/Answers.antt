@@ -1,6 +1,6 @@
-use Rattle.std.proofs.Common.{◌≡◌, ℕ, List, take, subst, sym}
+use Rattle.std.proofs.Common.{ℕ, List, take, subst, sym}
 use Rattle.std.specs.List.{All}
-use Rattle.epoch_pictures.specs.Escapes.{IsText, escape}
+use Rattle.epoch_pictures.specs.Escapes.{IsText}
 use Rattle.epoch_pictures.proofs.EscapedText.{escape_more, escape_is_text}
 use Rattle.epoch_pictures.proofs.escape.escaped.Goals as goal
 

@@ -1,4 +1,4 @@
-use Rattle.std.proofs.Common.{ℕ, Option, slice_get, subst, sym}
+use Rattle.std.proofs.Common.{ℕ, Option, subst, sym}
 use Rattle.epoch_bags.specs.PlaceLists.{taken_places}
 use Rattle.epoch_laws.specs.Run.{State}
 use Rattle.epoch_world.proofs.PlacesTold.{TellsPlace, words_tell}
