@@ -10,8 +10,14 @@ const SCRIPTS: [(&str, &str); 6] = [
     ("a shape alone", "shape 1 0 0 0 1 1 0 0\n"),
     ("no shape", "\nregister\n"),
     ("no step", "shape 1 0 0 0 1 1 0 0\nregister\nregister 1\n"),
-    ("as many steps as may be", "shape 1 0 0 0 1 1 0 0\ngo 0 5000\nepoch\n"),
-    ("one step more", "shape 1 0 0 0 1 1 0 0\ngo 0 4999\nword 0\nendgo\nendgo\n"),
+    (
+        "as many steps as may be",
+        "shape 1 0 0 0 1 1 0 0\ngo 0 5000\nepoch\n",
+    ),
+    (
+        "one step more",
+        "shape 1 0 0 0 1 1 0 0\ngo 0 4999\nword 0\nendgo\nendgo\n",
+    ),
 ];
 
 pub fn tell(rt: &impl Print, alloc: Global) -> io::Result<()> {

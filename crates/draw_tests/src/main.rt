@@ -4,9 +4,8 @@
 mod endings;
 
 use std::alloc::Global;
-use std::fs;
 use std::fs::Files;
-use std::io;
+use std::{fs, io};
 
 fn main(rt: HostRuntime) -> io::Result<()> {
     for name in ["grace", "stall", "full"] {
