@@ -5,6 +5,28 @@ ghost use Rattle.epoch_pictures.specs.Escapes.{IsText, escape, escaped_byte};
 
 use std::alloc::{AllocError, Global};
 
+/// A text of which no byte is read as markup.
+#[derive(Drop)]
+pub struct SvgText {
+    text: String,
+    ghost plain: { All IsText (string_bytes text) },
+}
+
+impl SvgText {
+    /// The text, escaped. `AllocError`: an allocation was refused.
+    pub fn of(alloc: Global, text: &str) -> Result<SvgText, AllocError> {
+        let text = escaped(alloc, text)?;
+        Ok(SvgText { text })
+    }
+
+    /// What is written of it.
+    pub fn as_str(&self) -> &str
+        ensures { All IsText result.now }
+    {
+        self.text.as_str()
+    }
+}
+
 /// The text with `&`, `<`, `>` and `"` as entities, and with `?` for every byte outside of plain ASCII text, of which
 /// pictures have none. `AllocError`: an allocation was refused.
 pub fn escaped(alloc: Global, text: &str) -> Result<String, AllocError>

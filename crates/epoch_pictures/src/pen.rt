@@ -1,6 +1,6 @@
 //! Writes the elements of an SVG. Lengths are in pixels.
 
-use crate::escaped;
+use crate::escape::SvgText;
 use std::alloc::Global;
 use std::io;
 use std::io::Write;
@@ -61,8 +61,19 @@ impl<'w, W: Write> Pen<'w, W> {
     }
 
     /// Writes a text, escaped.
-    pub fn text(&mut self, class: &'static str, (x, y): (u64, u64), text: &str) -> io::Result<()> {
-        let text = escaped(self.alloc, text)?;
+    pub fn text(&mut self, class: &'static str, at: (u64, u64), text: &str) -> io::Result<()> {
+        let text = SvgText::of(self.alloc, text)?;
+        self.element(class, at, &text)
+    }
+
+    /// Writes the element of a text. There is no other that has one.
+    fn element(
+        &mut self,
+        class: &'static str,
+        (x, y): (u64, u64),
+        text: &SvgText,
+    ) -> io::Result<()> {
+        let text = text.as_str();
         writeln!(
             self.out,
             "<text class=\"{class}\" x=\"{x}\" y=\"{y}\">{text}</text>"
