@@ -12,7 +12,7 @@ $(error rt, the command of the Rattle toolchain, is missing: put its folder on P
 endif
 
 run:
-	@echo 'The first run proves all that the program needs, some 1,400 s of processor time. Later ones take seconds.' >&2
+	@echo 'The first run proves all that the program needs, some 1,500 s of processor time. Later ones take seconds.' >&2
 	@script=$$(realpath "$(INPUT)") && cd crates/epoch_run && rt run < "$$script"
 
 try:
