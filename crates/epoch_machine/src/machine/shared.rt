@@ -4,33 +4,13 @@ ghost use Rattle.epoch_bags.specs.Bags.{Sealed};
 ghost use Rattle.epoch_tables.specs.SharedPlaces.{IsOf, IsKept};
 ghost use Rattle.epoch_bags.specs.Places.{put_left, take_left};
 ghost use Rattle.epoch_tables.specs.SharedSteps.{RestsAt, PutsAt, TakesAt, PutMoves, TakeMoves};
-ghost use Rattle.epoch_machine.specs.Machine.{asks, put_heard, took_heard, is_taking, is_empty};
+ghost use Rattle.epoch_machine.specs.Machine.{asks, put_heard, took_heard};
 ghost use Rattle.epoch_machine.specs.declared.machine.Ask.TheVariants.{PutBag, TakeBag};
 
-use crate::machine::{Machine, Stage, after_job};
+use super::stages::after_job;
+use super::{Machine, Stage};
 use epoch_bags::{Epoch, PutCursor, PutStep, TakeCursor, TakeStep};
 use epoch_tables::shared_places::{PlaceSeat, SharedPlaces};
-
-impl<J> Machine<J> {
-    /// Whether a step of a collection is asked for.
-    #[inline(always)]
-    pub fn is_taking(&self) -> bool
-        ensures { result ≡ is_taking self.now.stage }
-    {
-        match self.stage {
-            Stage::Take(_, _) => true,
-            _ => false,
-        }
-    }
-
-    /// Whether the held bag has no job.
-    #[inline(always)]
-    pub fn holds_none(&self) -> bool
-        ensures { result ≡ is_empty self.now.held }
-    {
-        self.held.is_empty()
-    }
-}
 
 impl<J: Default + Drop> Machine<J> {
     /// One step of the put that is asked for. The bag stays held unless the answer is `Done`.

@@ -5,7 +5,7 @@ ghost use Rattle.epoch_machine.specs.declared.machine.Answer.TheVariants.{Epoch,
 ghost use Rattle.epoch_machine.specs.declared.machine.Action.TheVariants.{Pin, Unpin, Repin, Defer, Release};
 ghost use Rattle.epoch_machine.specs.declared.machine.Stage.TheVariants.{Idle, LoadScan, LoadSeal, Put, Take, End};
 
-use crate::machine::{Action, Machine, PINS_BETWEEN_COLLECTIONS, Stage};
+use super::{Action, Machine, PINS_BETWEEN_COLLECTIONS, Stage};
 
 /// Stores that hardly ever change anything look first: the exchange of a pin or an unpin waits for each store before it.
 impl<J> Machine<J> {
