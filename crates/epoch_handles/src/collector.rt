@@ -15,6 +15,8 @@ use epoch_tables::table::{MOST_POSITIONS, Participants};
 use std::alloc::Global;
 use std::fmt;
 
+mod register;
+
 /// How much a collector has room for.
 #[derive(Clone, Copy, Debug, PartialEq, Eq)]
 pub struct Capacities {

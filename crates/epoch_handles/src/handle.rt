@@ -1,8 +1,8 @@
 //! Handles: what a thread is a participant by.
-ghost use Rattle.std.specs.Prelude.{◌≡◌, true, ℕ, ◌+◌, ◌<◌, ◌^◌, ◌↔◌, ◌≢◌, [], ◌∷◌, ◌++◌, ◌⊎◌, IsTrue, IsSome, IsOk, IsErr, Err, IfOk, IfErr, IsOkUnless, Some, None, length};
-ghost use Rattle.epoch_cells.specs.declared.fault.Fault.TheVariants.{TableFull, StrangerGuard, BagsFull};
+ghost use Rattle.std.specs.Prelude.{◌≡◌, true, ℕ, ◌+◌, ◌<◌, ◌^◌, ◌↔◌, ◌≢◌, [], ◌∷◌, ◌++◌, ◌⊎◌, IsTrue, IsSome, IsOk, IsErr, Err, IfOk, IfErr, Some, None, length};
+ghost use Rattle.epoch_cells.specs.declared.fault.Fault.TheVariants.{StrangerGuard, BagsFull};
 ghost use Rattle.epoch_bags.specs.Jobs.{IsCalled, IsTried};
-ghost use Rattle.epoch_handles.specs.Handles.{IsReady, IsNew, IsSame, IsBetween, Owns, Does, DoesAndCalls};
+ghost use Rattle.epoch_handles.specs.Handles.{IsReady, IsSame, IsBetween, Owns, Does, DoesAndCalls};
 ghost use Rattle.epoch_handles.specs.Releases.{IsReleased};
 ghost use Rattle.epoch_machine.specs.declared.machine.Action.TheVariants.{Pin, Unpin, Repin, Defer, Flush, Release};
 
@@ -12,7 +12,6 @@ use crate::local::Local;
 use crate::released::Released;
 use epoch_bags::{Job, Run, Work};
 use epoch_cells::{Fault, Refused};
-use epoch_machine::Machine;
 use std::fmt;
 
 /// A participant of one thread. It must be spent, by `release`, or by `leave` and then its answer.
@@ -24,31 +23,6 @@ pub struct LocalHandle<'c, T, W = Work> {
 impl<'c, T, W> fmt::Debug for LocalHandle<'c, T, W> {
     fn fmt<F: fmt::Write>(&self, f: &mut fmt::Formatter<F>) -> fmt::Result {
         f.pad("LocalHandle { .. }")
-    }
-}
-
-impl<T: Drop, W: Run> Collector<T, W> {
-    /// A new participant: registered, not pinned, with an empty bag. Each position is tried once, from 0 up.
-    ///
-    /// `TableFull`: each position was seen taken.
-    pub fn register(&self) -> Result<LocalHandle<'_, T, W>, Fault>
-        ensures full { IsOkUnless result TableFull }
-        ensures fresh { IfOk result (λ handle. IsNew self.now handle.local) }
-    {
-        let mut seat = self.participants.seat();
-        for position in 0..self.participants.positions() {
-            if self.participants.claim(&mut seat, position) == 0 {
-                let local = Local {
-                    collector: self,
-                    seat,
-                    claimer: self.places.seat(),
-                    position,
-                    machine: Machine::new(self.sizes),
-                };
-                return Ok(LocalHandle { local });
-            }
-        }
-        Err(Fault::TableFull)
     }
 }
 

@@ -5,14 +5,10 @@ use epoch_machine::Machine;
 use epoch_tables::shared_places::PlaceSeat;
 use epoch_tables::table::ParticipantSeat;
 
-mod actions;
 mod collect;
-mod defer;
-mod flush;
 mod pin;
 mod put;
 mod release;
-mod scan;
 mod steps;
 
 /// One participant: its seats at the shared tables, its position, and its machine.

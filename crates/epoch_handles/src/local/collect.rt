@@ -1,14 +1,44 @@
-//! Collections: bags are taken out of the shared places, and their jobs are called.
+//! Collections: all words are scanned, bags are taken out of the shared places, and their jobs are called.
 ghost use Rattle.std.specs.Prelude.{◌≡◌, ℕ, ◌<◌, ◌^◌};
 ghost use Rattle.epoch_tables.specs.SharedPlaces.{IsOf as IsAt};
 ghost use Rattle.epoch_tables.specs.SharedSteps.{RestsAt};
 ghost use Rattle.epoch_machine.specs.Machine.{after_job};
-ghost use Rattle.epoch_handles.specs.Handles.{IsSeated, IsPinned, CallsHand, HasTaken, TakesBags, Collects};
+ghost use Rattle.epoch_handles.specs.Handles.{IsSeated, IsPinned, Scans, CallsHand, HasTaken, TakesBags, Collects};
 ghost use Rattle.epoch_machine.specs.declared.machine.Stage.TheVariants.{LoadScan, Take};
 
 use crate::local::Local;
 use epoch_bags::queue::places::is_expired_word;
-use epoch_bags::{Epoch, Run, TakeCursor, TakeStep};
+use epoch_bags::{Epoch, GREATEST_EPOCH, Run, TakeCursor, TakeStep};
+use epoch_machine::holds_up;
+
+impl<'c, T, W> Local<'c, T, W> {
+    /// Scans the words in a plain loop, and advances the epoch where none holds it up. Answers the epoch for which bags are taken.
+    #[inline(always)]
+    pub(crate) fn scan(&mut self) -> u64
+        requires seated { IsSeated self.old }
+        requires pinned { IsPinned self.old.seat.me.0 }
+        requires begins { self.old.machine.stage ≡ LoadScan }
+        ensures within { result < 2 ^ 63 }
+        ensures scans { Scans self.old result self.new }
+    {
+        let positions = self.collector.participants.positions();
+        let epoch = self.load_epoch();
+        for position in 0..positions {
+            let word = self.load_word(position);
+            if holds_up(epoch, word) {
+                self.machine.scanned(epoch);
+                return epoch;
+            }
+        }
+        if epoch < GREATEST_EPOCH {
+            self.advance(epoch);
+            self.machine.scanned(epoch + 1);
+            return epoch + 1;
+        }
+        self.machine.scanned(epoch);
+        epoch
+    }
+}
 
 impl<'c, T: Drop, W: Run> Local<'c, T, W> {
     /// Calls what is left of the bag in hand, the oldest job first.

@@ -1,6 +1,6 @@
-//! Pins and unpins, written out as the steps that they are.
+//! Pins, unpins and repins, written out as the steps that they are.
 ghost use Rattle.std.specs.Prelude.{◌≡◌, ℕ, ◌+◌, ◌<◌, ◌≤◌, ◌^◌, true, false, Some};
-ghost use Rattle.epoch_handles.specs.Handles.{IsSeated, IsReady, IsSame, IsPinned, PublishSteps, PinSteps, Does, DoesStraight, sight_of};
+ghost use Rattle.epoch_handles.specs.Handles.{IsSeated, IsReady, IsSame, IsPinned, PublishSteps, PinSteps, Does, DoesStraight, DoesAndCalls, sight_of};
 ghost use Rattle.epoch_tables.specs.SharedSteps.{RestsAt};
 ghost use Rattle.epoch_handles.specs.Drives.{DrivesStraight};
 ghost use Rattle.epoch_machine.specs.Machine.{begun};
@@ -8,6 +8,7 @@ ghost use Rattle.epoch_machine.specs.declared.machine.Action.TheVariants.{Pin, U
 ghost use Rattle.epoch_machine.specs.declared.machine.Stage.TheVariants.{LoadScan};
 
 use crate::local::Local;
+use epoch_bags::Run;
 
 impl<'c, T, W> Local<'c, T, W> {
     /// The steps of a pin behind its first load: publishes the epoch found, and loads the epoch again.
@@ -106,5 +107,25 @@ impl<'c, T, W> Local<'c, T, W> {
         self.publish(epoch);
         let _ = self.load_epoch();
         self.machine.repin_only(epoch);
+    }
+}
+
+impl<'c, T: Drop, W: Run> Local<'c, T, W> {
+    /// A pin, with the collection that follows the first one and each 128th.
+    #[inline(always)]
+    pub(crate) fn pin_and_collect(&mut self)
+        requires ready { IsReady self.old }
+        requires fits { self.old.machine.guards + 1 < 2 ^ 32 }
+        ensures same { IsSame self.old self.new }
+        ensures does { Does self.old Pin self.new }
+        ensures called { DoesAndCalls W.done self.old Pin self.new }
+        ensures ready { IsReady self.new }
+        ensures counted { self.new.machine.guards ≡ self.old.machine.guards + 1 }
+    {
+        if !self.pin() {
+            return;
+        }
+        self.collect();
+        self.machine.end();
     }
 }

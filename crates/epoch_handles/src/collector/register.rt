@@ -1,0 +1,36 @@
+//! Registrations: a thread becomes a participant of a collector.
+ghost use Rattle.std.specs.Prelude.{◌≡◌, IfOk, IsOkUnless};
+ghost use Rattle.epoch_cells.specs.declared.fault.Fault.TheVariants.{TableFull};
+ghost use Rattle.epoch_handles.specs.Handles.{IsNew};
+
+use crate::collector::Collector;
+use crate::handle::LocalHandle;
+use crate::local::Local;
+use epoch_bags::Run;
+use epoch_cells::Fault;
+use epoch_machine::Machine;
+
+impl<T: Drop, W: Run> Collector<T, W> {
+    /// A new participant: registered, not pinned, with an empty bag. Each position is tried once, from 0 up.
+    ///
+    /// `TableFull`: each position was seen taken.
+    pub fn register(&self) -> Result<LocalHandle<'_, T, W>, Fault>
+        ensures full { IsOkUnless result TableFull }
+        ensures fresh { IfOk result (λ handle. IsNew self.now handle.local) }
+    {
+        let mut seat = self.participants.seat();
+        for position in 0..self.participants.positions() {
+            if self.participants.claim(&mut seat, position) == 0 {
+                let local = Local {
+                    collector: self,
+                    seat,
+                    claimer: self.places.seat(),
+                    position,
+                    machine: Machine::new(self.sizes),
+                };
+                return Ok(LocalHandle { local });
+            }
+        }
+        Err(Fault::TableFull)
+    }
+}
