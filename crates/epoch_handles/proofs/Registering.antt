@@ -1,11 +1,20 @@
 -- Positions that are tried one after the other, and lost.
-use Rattle.std.proofs.Common.{◌≢◌, ℕ, ◌+◌, List, [], ◌∷◌, ◌++◌, ap, arith}
+use Rattle.std.proofs.Common.{◌≡◌, ◌≢◌, ℕ, ◌+◌, List, [], ◌∷◌, ◌++◌, sym, ap, ◌∙◌, arith, Option, Some, None}
 use Rattle.std.proofs.lemmas.Grind.{elements}
 use Rattle.std.proofs.lemmas.List.Elements.{All-push}
-use Rattle.epoch_handles.specs.Handles.{LosesEach}
+use Rattle.std.proofs.lemmas.List.FromFn.{map-range_with_len_more}
+use Rattle.epoch_handles.specs.Handles.{LosesEach, each_before}
 
-pub loses_one_more : (position : ℕ) (found : List ℕ) (word : ℕ) → LosesEach position found → word ≢ 0 → LosesEach (position + 1) (found ++ word ∷ [])
-loses_one_more position found word lost other =
-    let as_many = lost.3 in
-    let more = ap (λ (words : List ℕ). words ++ word ∷ []) lost.2 in
-    (lost.0, lost.1 ++ word ∷ [], more, grind (arith, elements, as_many), All-push (λ (x : ℕ). x ≢ 0) lost.1 word lost.4 other)
+-- the next position comes behind those before it
+one_more : (position : ℕ) → each_before (position + 1) ≡ each_before position ++ Some position ∷ []
+one_more position = ap (λ (positions : List (Option ℕ)). None ∷ positions)
+    (map-range_with_len_more (λ (earlier : ℕ). Some earlier) 0 position position (omega arith))
+
+pub loses_one_more : (position : ℕ) (looked : List (Option ℕ)) (found : List ℕ) (word : ℕ)
+    → LosesEach position looked found
+    → word ≢ 0
+    → LosesEach (position + 1) (looked ++ Some position ∷ []) (found ++ word ∷ [])
+loses_one_more position looked found word (places, (epoch, taken, words, as_many, lost)) other =
+    let in_order = ap (λ (positions : List (Option ℕ)). positions ++ Some position ∷ []) places ∙ sym (one_more position) in
+    let more = ap (λ (all : List ℕ). all ++ word ∷ []) words in
+    (in_order, (epoch, taken ++ word ∷ [], more, grind (arith, elements, as_many), All-push (λ (x : ℕ). x ≢ 0) taken word lost other))

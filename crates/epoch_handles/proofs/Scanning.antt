@@ -43,7 +43,7 @@ module _ {J : Type 0} where
       → k < positions
       → IsWord w
       → v.words.scan ≡ Some (e, k)
-      → (LetsPass e w → u ≡ with_words v (after_pass v.words e k w)) × ((¬ LetsPass e w) → u ≡ with_words v (after_word v.words w))
+      → (LetsPass e w → u ≡ with_words v (after_pass v.words e k w)) × ((¬ LetsPass e w) → u ≡ with_words v (after_word v.words k w))
       → Performed places (with_stage m (at_scan positions e k)) v at_start
       (record { ask = LoadWord k; reply = Heard (Word w) } ∷ []) (with_stage m (past_word positions e k w)) u at_start
   scan_goes_on places positions m v u e k w sizes within is_word scan found =
@@ -112,7 +112,7 @@ module _ {T W : Type 0} where
       → HasPassed h e k n
       → k < h.machine.sizes.positions
       → IsWord w
-      → (LetsPass e w → Steps n o (after_pass n.seat.me.0 e k w)) × ((¬ LetsPass e w) → Steps n o (after_word n.seat.me.0 w))
+      → (LetsPass e w → Steps n o (after_pass n.seat.me.0 e k w)) × ((¬ LetsPass e w) → Steps n o (after_word n.seat.me.0 k w))
       → Reaches h.collector.now.places.places h.machine (sight_of h) (with_stage h.machine (past_word h.machine.sizes.positions e k w)) (sight_of o) at_start
   word_performed h n o e k w passed within is_word found =
       reaches_on h.collector.now.places.places h.machine (with_stage h.machine (at_scan h.machine.sizes.positions e k)) _ (sight_of h) (sight_of n) (sight_of o) at_start at_start
@@ -125,7 +125,7 @@ module _ {T W : Type 0} where
       → k < h.machine.sizes.positions
       → IsWord w
       → holds_up e w ≡ false
-      → (LetsPass e w → Steps n o (after_pass n.seat.me.0 e k w)) × ((¬ LetsPass e w) → Steps n o (after_word n.seat.me.0 w))
+      → (LetsPass e w → Steps n o (after_pass n.seat.me.0 e k w)) × ((¬ LetsPass e w) → Steps n o (after_word n.seat.me.0 k w))
       → HasPassed h e (k + 1) o
   scan_passes h n o e k w passed within is_word low found =
       let steps = found.0 (lets_pass e w is_word low) in
@@ -171,7 +171,7 @@ module _ {T W : Type 0} where
       → k < h.machine.sizes.positions
       → IsWord w
       → holds_up e w ≡ true
-      → (LetsPass e w → Steps n o (after_pass n.seat.me.0 e k w)) × ((¬ LetsPass e w) → Steps n o (after_word n.seat.me.0 w))
+      → (LetsPass e w → Steps n o (after_pass n.seat.me.0 e k w)) × ((¬ LetsPass e w) → Steps n o (after_word n.seat.me.0 k w))
       → m ≡ with_stage o.machine (Take e 0)
       → Scans h e (record o { machine = m })
   scan_stops h n o e k w m passed within is_word high found is =

@@ -44,7 +44,7 @@ Performs places m v c StoreFree (Heard Stored) u d = (u ≡ with_words v (after_
 Performs places m v c (LoadWord k) (Heard (Word w)) u d = IsWord w × (d ≡ c)
     × ((e : ℕ) × (v.words.scan ≡ Some (e, k))
     × (LetsPass e w → u ≡ with_words v (after_pass v.words e k w))
-    × (¬ LetsPass e w → u ≡ with_words v (after_word v.words w)))
+    × (¬ LetsPass e w → u ≡ with_words v (after_word v.words k w)))
 Performs places m v c (StoreEpoch e) (Heard Stored) u d = (v.words.seen ≤ e) × (u ≡ with_words v (after_advance v.words e)) × (d ≡ c)
 Performs places m v c KeepJob (Heard (Job job)) u d = (u ≡ v) × (d ≡ c)
 Performs places m v c CallJob (JobGiven job) u d = (u ≡ v) × (d ≡ c)

@@ -1,6 +1,6 @@
 -- What the calls of a handle keep and promise.
-use Rattle.std.specs.Prelude.{◌≡◌, ◌≢◌, ℕ, ◌+◌, ◌<◌, ◌≤◌, List, [], ◌∷◌, ◌++◌, length, Option, Some, None, true, false, ◌⊎◌}
-use Rattle.std.specs.List.{All}
+use Rattle.std.specs.Prelude.{◌≡◌, ◌≢◌, ℕ, ◌+◌, ◌<◌, ◌≤◌, List, [], ◌∷◌, ◌++◌, length, map, Option, Some, None, true, false, ◌⊎◌}
+use Rattle.std.specs.List.{All, range_with_len}
 use Rattle.epoch_bags.specs.Bags.{Sealed}
 use Rattle.epoch_tables.specs.Table.{IsOf}
 use Rattle.epoch_tables.specs.TableSteps.{after_epoch, after_own}
@@ -168,16 +168,22 @@ pub record Owns {T W : Type 0} (h : Local T W) (guard : Guard T W) : Type 0 wher
   pub collector : guard.collector.now.id ≡ h.collector.now.id
   pub out : 0 < h.machine.guards
 
--- Behind the epoch, the words found are those of all positions before this one, of which none was free.
-abbrev pub LosesEach : ℕ → List ℕ → Type 0
-LosesEach position found = (epoch : ℕ) × (taken : List ℕ) × (found ≡ epoch ∷ taken) × (length taken ≡ position) × All (λ word. word ≢ 0) taken
+-- the epoch, and behind it each position before this one, once and in order
+abbrev pub each_before : ℕ → List (Option ℕ)
+each_before position = None ∷ map (λ earlier. Some earlier) (range_with_len 0 position)
+
+-- Behind the epoch, the words found are those of all positions before this one, in their order, of which none was free.
+abbrev pub LosesEach : ℕ → List (Option ℕ) → List ℕ → Type 0
+LosesEach position looked found = (looked ≡ each_before position) × ((epoch : ℕ) × (taken : List ℕ) × (found ≡ epoch ∷ taken)
+    × (length taken ≡ position) × All (λ word. word ≢ 0) taken)
 
 -- It has tried each position from 0 to its own, once and in order, and only its own was free.
-abbrev pub TriesInOrder : ℕ → List ℕ → Type 0
-TriesInOrder position found = (before : List ℕ) × LosesEach position before × (found ≡ before ++ 0 ∷ [])
+abbrev pub TriesInOrder : ℕ → List (Option ℕ) → List ℕ → Type 0
+TriesInOrder position looked found = (tried : List (Option ℕ)) × (before : List ℕ) × LosesEach position tried before
+    × (looked ≡ tried ++ Some position ∷ []) × (found ≡ before ++ 0 ∷ [])
 
 -- a new participant of this collector: registered at the first position that was found free, not pinned, with an empty bag
 pub record IsNew {T W : Type 0} (collector : Collector T W) (h : Local T W) : Type 0 where
   pub of : h.collector.now ≡ collector
   pub machine : h.machine ≡ fresh collector.sizes
-  pub tries : TriesInOrder h.position h.seat.me.0.found
+  pub tries : TriesInOrder h.position h.seat.me.0.looked h.seat.me.0.found

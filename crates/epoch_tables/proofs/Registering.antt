@@ -75,21 +75,23 @@ module _ {S : Type 0} (positions : ℕ) where
         keeps,
         tt,
         subst (λ b. Rule (stepped s i (either b 2 x) id me.1 w keeps)) (sym (eq-eqb x 0 free)) (claim_won_keeps s r id v k x here no_position below free),
-        (refl, is_word positions s r k below, (λ k' at_k' zero. let same : k ≡ k' = omega arith in ap (λ (z : ℕ). after_claim v z x) same), λ not_free. absurd (not_free free)),
+        (refl, is_word positions s r k below, (k, refl, (λ _. refl), λ not_free. absurd (not_free free))),
       ))
       (λ not_free. (
-        after_word v x,
+        after_word v k x,
         keeps,
         tt,
-        subst (λ b. Rule (stepped s i (either b 2 x) id me.1 (after_word v x) keeps)) (sym (ne_eqb x 0 not_free))
-            (load_keeps positions s r i id v v.scan (v.found ++ x ∷ []) here (same_scan positions s r id v here)),
-        (refl, is_word positions s r k below, (λ k' at_k' zero. absurd (not_free zero)), λ _. refl),
+        subst (λ b. Rule (stepped s i (either b 2 x) id me.1 (after_word v k x) keeps)) (sym (ne_eqb x 0 not_free))
+            (load_keeps positions s r i id v v.scan (v.looked ++ Some k ∷ []) (v.found ++ x ∷ []) here
+            (same_scan positions s r id v here)),
+        (refl, is_word positions s r k below, (k, refl, (λ zero. absurd (not_free zero)), λ _. refl)),
       ))
 
   -- the views with that of a new seat, which has no position
-  module _ (s : State S ParticipantView) (r : Rule s) (seen : ℕ) (found : List ℕ) (low : seen ≤ r.epoch) where
+  module _ (s : State S ParticipantView) (r : Rule s) (seen : ℕ) (looked : List (Option ℕ)) (found : List ℕ)
+      (low : seen ≤ r.epoch) where
     abbrev new_view : ParticipantView
-    new_view = without_position seen found
+    new_view = without_position seen looked found
 
     abbrev more_views : List ParticipantView
     more_views = s.views ++ new_view ∷ []
@@ -127,7 +129,7 @@ module _ {S : Type 0} (positions : ℕ) where
 
   pub new_seat_enters : (slots : ℕ) (first : ParticipantView) → Enters Rule slots 0 (λ x w. Sits {S = S} (step slots 0 0 0 maybe.none) (first, []) x (w, []))
   new_seat_enters slots first s r _ _ = let e : ℕ = r.epoch in
-      (without_position e (2 * e ∷ []), new_seat_keeps s r e (2 * e ∷ []) (omega arith), (refl, (e, r.epoch_word, refl)))
+      (without_position e (None ∷ []) (2 * e ∷ []), new_seat_keeps s r e (None ∷ []) (2 * e ∷ []) (omega arith), (refl, (e, r.epoch_word, refl)))
 
   pub new_table_keeps : (words : List ℕ) (slots : List S) → length words ≡ words_for positions
       → ((i : ℕ) → i < length words → get_or words i 0 ≡ 0) → Rule (opening words slots spent)

@@ -51,10 +51,15 @@ module _ {S : Type 0} (positions : ℕ) where
         → k < m → u.first_read ≡ Some q → x ≤ q
 
   -- a load by a seat whose position, number and first reading stay
-  pub load_keeps : (s : State S ParticipantView) (r : Rule s) (i id : ℕ) (v : ParticipantView) (scan : Option (ℕ × ℕ)) (found : List ℕ)
-      → Sees s id v → Scans s v scan
-      → Rule record { words = set s.words i (get_or s.words i 0); homes = s.homes; views = set s.views id (record v { scan = scan; found = found }) }
-  load_keeps s r i id v scan found here scans = let w : ParticipantView = record v { scan = scan; found = found } in
+  pub load_keeps : (s : State S ParticipantView) (r : Rule s) (i id : ℕ) (v : ParticipantView) (scan : Option (ℕ × ℕ))
+      (looked : List (Option ℕ)) (found : List ℕ) → Sees s id v → Scans s v scan
+      → Rule record {
+        words = set s.words i (get_or s.words i 0);
+        homes = s.homes;
+        views = set s.views id (record v { scan = scan; looked = looked; found = found });
+      }
+  load_keeps s r i id v scan looked found here scans =
+      let w : ParticipantView = record v { scan = scan; looked = looked; found = found } in
       subst (λ (ws : List ℕ). Rule record { words = ws; homes = s.homes; views = set s.views id w }) (sym (set-get_or s.words i 0))
       (step_keeps positions s r id v w s.words r.epoch here record {
         long = refl;
@@ -104,24 +109,33 @@ module _ {S : Type 0} (positions : ℕ) where
         after_pass v x k found,
         keeps,
         tt,
-        load_keeps s r (word_at k) id v (Some (x, k + 1)) (v.found ++ found ∷ []) here (longer_scan s r id v x k here is pass),
+        load_keeps s r (word_at k) id v (Some (x, k + 1)) (v.looked ++ Some k ∷ []) (v.found ++ found ∷ []) here
+            (longer_scan s r id v x k here is pass),
         (
           refl,
           is_word s r k below,
           λ x' k' is'. let both = same_Some (x, k) (x', k') (sym is ∙ is') in
-              let same = ap (λ (z : ℕ × ℕ). z.0) both in
-              ((λ _. ap (λ (z : ℕ × ℕ). after_pass v z.0 z.1 found) both), λ held. absurd (held (subst (λ (z : ℕ). LetsPass z found) same pass))),
+              let same = ap (λ (z : ℕ × ℕ). z.0) both in (
+                ap (λ (z : ℕ × ℕ). word_at z.1) both,
+                (λ _. ap (λ (z : ℕ × ℕ). after_pass v z.0 z.1 found) both),
+                λ held. absurd (held (subst (λ (z : ℕ). LetsPass z found) same pass)),
+              ),
         ),
       ))
       (λ held. (
-        after_word v found,
+        after_word v k found,
         keeps,
         tt,
-        load_keeps s r (word_at k) id v v.scan (v.found ++ found ∷ []) here (same_scan s r id v here),
+        load_keeps s r (word_at k) id v v.scan (v.looked ++ Some k ∷ []) (v.found ++ found ∷ []) here
+            (same_scan s r id v here),
         (
           refl,
           is_word s r k below,
-          λ x' k' is'. let same = ap (λ (z : ℕ × ℕ). z.0) (same_Some (x, k) (x', k') (sym is ∙ is')) in
-              ((λ pass. absurd (held (subst (λ (z : ℕ). LetsPass z found) (sym same) pass))), λ _. refl),
+          λ x' k' is'. let both = same_Some (x, k) (x', k') (sym is ∙ is') in
+              let same = ap (λ (z : ℕ × ℕ). z.0) both in (
+                ap (λ (z : ℕ × ℕ). word_at z.1) both,
+                (λ pass. absurd (held (subst (λ (z : ℕ). LetsPass z found) (sym same) pass))),
+                λ _. ap (λ (z : ℕ × ℕ). after_word v z.1 found) both,
+              ),
         ),
       ))

@@ -6,19 +6,20 @@ use Rattle.epoch_tables.specs.Table.{word_at, IsWord, LetsPass}
 
 -- VIEWS
 
-abbrev pub without_position : ℕ → List ℕ → ParticipantView
-without_position seen found = record {
+abbrev pub without_position : ℕ → List (Option ℕ) → List ℕ → ParticipantView
+without_position seen looked found = record {
   position = None;
   published = None;
   first_read = None;
   seen = seen;
   scan = None;
+  looked = looked;
   found = found;
 }
 
 -- the view before any step
 abbrev pub spent : ParticipantView
-spent = without_position 0 []
+spent = without_position 0 [] []
 
 -- The first reading after a publish is kept.
 abbrev pub first_after : Option ℕ → Option ℕ → ℕ → Option ℕ
@@ -37,6 +38,7 @@ after_epoch v epoch = record v {
   first_read = first_after v.published v.first_read epoch;
   seen = epoch;
   scan = scan_after v.published epoch;
+  looked = v.looked ++ None ∷ [];
   found = v.found ++ 2 * epoch ∷ [];
 }
 
@@ -46,15 +48,19 @@ after_own v pinned = record v { published = pinned; first_read = None; scan = No
 
 -- it stored 0 as its own word, and gave its position up
 abbrev pub after_free : ParticipantView → ParticipantView
-after_free v = without_position v.seen v.found
+after_free v = without_position v.seen v.looked v.found
 
--- it loaded the word of a position, which holds the scan up
-abbrev pub after_word : ParticipantView → ℕ → ParticipantView
-after_word v word = record v { found = v.found ++ word ∷ [] }
+-- it found this word at a position, which holds its scan up, or which it doesn't get
+abbrev pub after_word : ParticipantView → ℕ → ℕ → ParticipantView
+after_word v position word = record v { looked = v.looked ++ Some position ∷ []; found = v.found ++ word ∷ [] }
 
 -- it loaded the word of the position that its scan passed
 abbrev pub after_pass : ParticipantView → ℕ → ℕ → ℕ → ParticipantView
-after_pass v epoch passed word = record v { scan = Some (epoch, passed + 1); found = v.found ++ word ∷ [] }
+after_pass v epoch passed word = record v {
+  scan = Some (epoch, passed + 1);
+  looked = v.looked ++ Some passed ∷ [];
+  found = v.found ++ word ∷ [];
+}
 
 -- it stored the epoch
 abbrev pub after_advance : ParticipantView → ℕ → ParticipantView
@@ -67,6 +73,7 @@ after_claim v claimed word = record v {
   published = None;
   first_read = None;
   scan = None;
+  looked = v.looked ++ Some claimed ∷ [];
   found = v.found ++ word ∷ [];
 }
 
@@ -76,7 +83,7 @@ after_claim v claimed word = record v {
 module _ {S : Type 0} where
   abbrev pub Sits : Step S → Me S ParticipantView → ℕ → Me S ParticipantView → Type 0
   Sits step before word after = (after.1 ≡ [])
-      × ((epoch : ℕ) × (word ≡ 2 * epoch) × (after.0 ≡ without_position epoch (2 * epoch ∷ [])))
+      × ((epoch : ℕ) × (word ≡ 2 * epoch) × (after.0 ≡ without_position epoch (None ∷ []) (2 * epoch ∷ [])))
 
   abbrev pub LoadsEpoch : Step S → Me S ParticipantView → ℕ → Me S ParticipantView → Type 0
   LoadsEpoch step before word after = (after.1 ≡ before.1)
@@ -94,9 +101,9 @@ module _ {S : Type 0} where
 
   abbrev pub LoadsWord : Step S → Me S ParticipantView → ℕ → Me S ParticipantView → Type 0
   LoadsWord step before word after = (after.1 ≡ before.1) × IsWord word
-      × ((epoch passed : ℕ) → before.0.scan ≡ Some (epoch, passed)
-      → (LetsPass epoch word → after.0 ≡ after_pass before.0 epoch passed word)
-      × (¬ LetsPass epoch word → after.0 ≡ after_word before.0 word))
+      × ((epoch passed : ℕ) → before.0.scan ≡ Some (epoch, passed) → (step.word ≡ word_at passed)
+      × (LetsPass epoch word → after.0 ≡ after_pass before.0 epoch passed word)
+      × (¬ LetsPass epoch word → after.0 ≡ after_word before.0 passed word))
 
   abbrev pub StoresEpoch : Step S → Me S ParticipantView → ℕ → Me S ParticipantView → Type 0
   StoresEpoch step before word after = (after.1 ≡ before.1)
@@ -104,5 +111,6 @@ module _ {S : Type 0} where
 
   abbrev pub Claims : Step S → Me S ParticipantView → ℕ → Me S ParticipantView → Type 0
   Claims step before word after = (after.1 ≡ before.1) × IsWord word
-      × ((position : ℕ) → step.word ≡ word_at position → word ≡ 0 → after.0 ≡ after_claim before.0 position word)
-      × (word ≢ 0 → after.0 ≡ after_word before.0 word)
+      × ((position : ℕ) × (step.word ≡ word_at position)
+      × (word ≡ 0 → after.0 ≡ after_claim before.0 position word)
+      × (word ≢ 0 → after.0 ≡ after_word before.0 position word))

@@ -52,7 +52,7 @@ impl<'c, T, W> Local<'c, T, W> {
         ensures answer { IsWord result }
         ensures steps { (epoch : ℕ) → self.old.seat.me.0.scan ≡ Some (epoch, position)
             → (LetsPass epoch result → Steps self.old self.new (after_pass self.old.seat.me.0 epoch position result))
-            × (¬ LetsPass epoch result → Steps self.old self.new (after_word self.old.seat.me.0 result)) }
+            × (¬ LetsPass epoch result → Steps self.old self.new (after_word self.old.seat.me.0 position result)) }
     {
         self.collector
             .participants

@@ -1,5 +1,5 @@
 //! The participants' table, and the seats at it.
-ghost use Rattle.std.specs.Prelude.{◌≡◌, ◌<◌, ◌≤◌, ℕ, ◌*◌, [], ◌∷◌, IfOk, IfErr, replicate};
+ghost use Rattle.std.specs.Prelude.{◌≡◌, ◌<◌, ◌≤◌, ℕ, ◌*◌, [], ◌∷◌, None, IfOk, IfErr, replicate};
 ghost use Rattle.epoch_tables.specs.Table.{EpochsAgree, words_for, IsOf};
 ghost use Rattle.epoch_tables.specs.TableSteps.{spent, without_position};
 ghost use Rattle.epoch_cells.specs.declared.fault.Fault.TheVariants.{NoMemory};
@@ -82,7 +82,7 @@ impl Participants {
     /// A new seat, which has no position. Making it loads the epoch.
     pub fn seat(&self) -> ParticipantSeat
         ensures of { IsOf self.now result }
-        ensures view { (epoch : ℕ) × (result.me.0 ≡ without_position epoch (2 * epoch ∷ [])) }
+        ensures view { (epoch : ℕ) × (result.me.0 ≡ without_position epoch (None ∷ []) (2 * epoch ∷ [])) }
     {
         self.table.shared.load_new_seat::<Sit>(0).1
     }

@@ -77,7 +77,7 @@ impl Participants {
         ensures answer { IsWord result }
         ensures view { (epoch : ℕ) → seat.old.me.0.scan ≡ Some (epoch, position)
             → (LetsPass epoch result → seat.new.me.0 ≡ after_pass seat.old.me.0 epoch position result)
-            × (¬ LetsPass epoch result → seat.new.me.0 ≡ after_word seat.old.me.0 result) }
+            × (¬ LetsPass epoch result → seat.new.me.0 ≡ after_word seat.old.me.0 position result) }
     {
         self.table
             .shared
@@ -107,7 +107,7 @@ impl Participants {
         ensures kept { IsKept seat.old seat.new }
         ensures answer { IsWord result }
         ensures won { result ≡ 0 → seat.new.me.0 ≡ after_claim seat.old.me.0 position 0 }
-        ensures lost { result ≢ 0 → seat.new.me.0 ≡ after_word seat.old.me.0 result }
+        ensures lost { result ≢ 0 → seat.new.me.0 ≡ after_word seat.old.me.0 position result }
     {
         self.table
             .shared

@@ -12,6 +12,9 @@ pub struct ParticipantView {
     pub seen: u64,
     /// The epoch that it scans for, and how many positions the scan has passed.
     pub scan: Option<(u64, u64)>,
-    /// The words that its steps found, the oldest first. A clause reads an array as a list of any length.
+    /// Whose words its steps found, the oldest first: each that of a position, or `None` for the epoch's.
+    /// A clause reads an array as a list of any length.
+    pub looked: [Option<u64>; 0],
+    /// The words found there, in the same order.
     pub found: [u64; 0],
 }

@@ -38,12 +38,22 @@ pub returns-then-claim-eq0-clause-fresh : goal.returns-then-claim-eq0-clause-fre
 returns-then-claim-eq0-clause-fresh g c = record {
   of = refl;
   machine = c.new.ensures;
-  tries = (c.loop-position.seat.me.0.found, c.loop-position.invariant.2, ap (λ (z : ParticipantView). z.found) (c.claim.ensures.won c.if-claim-eq0.true));
+  tries = let claimed = c.claim.ensures.won c.if-claim-eq0.true in (
+    c.loop-position.seat.me.0.looked,
+    c.loop-position.seat.me.0.found,
+    c.loop-position.invariant.2,
+    ap (λ (z : ParticipantView). z.looked) claimed,
+    ap (λ (z : ParticipantView). z.found) claimed,
+  );
 }
 
 -- this position is lost as those before it were
 pub loop-position-preserved : goal.loop-position-preserved
 loop-position-preserved g c =
     let lost = c.claim.ensures.lost c.if-claim-eq0.false in let kept = c.claim.ensures.kept in let seat = c.loop-position.invariant in
-    let more = loses_one_more c.loop-position.position c.loop-position.seat.me.0.found c.claim.result seat.2 c.if-claim-eq0.false in
-    ((kept.0 ∙ seat.0.0, kept.2 ∙ seat.0.1), ap (λ (z : ParticipantView). z.position) lost ∙ seat.1, subst (LosesEach (c.loop-position.position + 1)) (sym (ap (λ (z : ParticipantView). z.found) lost)) more)
+    let before = c.loop-position.seat.me.0 in
+    let more = loses_one_more c.loop-position.position before.looked before.found c.claim.result seat.2 c.if-claim-eq0.false in (
+      (kept.0 ∙ seat.0.0, kept.2 ∙ seat.0.1),
+      ap (λ (z : ParticipantView). z.position) lost ∙ seat.1,
+      subst (λ (z : ParticipantView). LosesEach (c.loop-position.position + 1) z.looked z.found) (sym lost) more,
+    )

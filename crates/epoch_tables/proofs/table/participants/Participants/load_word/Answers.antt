@@ -10,3 +10,6 @@ load-requires c = let same : c.self.inside.positions ≡ c.args.self.now.positio
     let key = c.self.invariant.key in
     let scan = c.requires.scanning in
     rw c.word_index.ensures (search rules, omega arith, word_load_keeps _ _ _ _ scan.0 _ scan.1 (omega arith))
+
+pub returns-clause-view : goal.returns-clause-view
+returns-clause-view c = λ epoch is. let told = c.load.ensures.2.2 epoch c.args.position is in (told.1, told.2)
