@@ -2,3 +2,4 @@ pub mod Seats
 pub mod Worlds
 pub mod Steps
 pub mod Listed
+pub mod Earlier

@@ -1,12 +1,12 @@
 //! The world: all participants of one collector over a store of bags, which takes steps one at a time.
-ghost use Rattle.std.specs.Prelude.{◌≡◌, ◌≢◌, ℕ, ◌+◌, ◌-◌, ◌^◌, ◌<◌, ◌≤◌, List, [], ◌∷◌, ◌++◌, length, IfOk, IfErr, OnErr, MatchOption, IfNone, IfSome, slice_index_or, slice_get, Some, None, true, false, IsTrue, ◌↔◌, vec_capacity};
+ghost use Rattle.std.specs.Prelude.{◌≡◌, ◌≢◌, ℕ, ◌+◌, ◌-◌, ◌^◌, ◌<◌, ◌≤◌, [], ◌∷◌, length, IfOk, IfErr, OnErr, MatchOption, IfNone, IfSome, slice_index_or, slice_get, Some, None, true, false, IsTrue, ◌↔◌, vec_capacity};
 ghost use Rattle.epoch_cells.specs.declared.fault.Fault.TheVariants.{NoMemory};
-ghost use Rattle.epoch_laws.specs.declared.step.Entry.{Entry};
 ghost use Rattle.epoch_laws.specs.declared.step.Step.TheVariants.{Register, Begin, Go, End as EndStep, EndGo};
 ghost use Rattle.epoch_machine.specs.Machine.{IsSized};
 ghost use Rattle.epoch_laws.specs.Shapes.{IsValid, sizes_of};
-ghost use Rattle.epoch_laws.specs.Run.{State, IsFresh, Runs, Takes, Over, entries_of, free_seat, number_of, refusal, seat_of, word_of, Seat as Participant};
+ghost use Rattle.epoch_laws.specs.Run.{IsFresh, Runs, Takes, Over, entries_of, free_seat, number_of, refusal, seat_of, word_of, Seat as Participant};
 ghost use Rattle.epoch_world.specs.Seats.{WordFits};
+ghost use Rattle.epoch_world.specs.Earlier.{AlongEarlierRuns, SinceEachState};
 ghost use Rattle.epoch_world.specs.Worlds.{IsEmptying};
 ghost use Rattle.epoch_laws.specs.Grace.{KeepsGrace};
 ghost use Rattle.epoch_laws.specs.Tickets.{HoldsEachTicketOnce, NumbersTickets, times_called, times_deferred};
@@ -146,33 +146,50 @@ impl<S: BagStore<Job = Deferral>> World<S> {
         ensures replies { IfOk result (λ replies. length replies.items ≡ length steps.now) }
 
         // No job is called while a participant pinned at its deferral has stayed pinned without repinning.
-        ensures grace { IfOk result (λ replies. (fresh : State) (earlier : List Entry) → IsFresh fresh → Runs fresh earlier self.old → KeepsGrace (earlier ++ entries_of steps.now replies.items)) }
+        ensures grace { IfOk result (λ replies. AlongEarlierRuns self.old (entries_of steps.now replies.items)
+            (λ fresh log. KeepsGrace log)) }
         // Each accepted job is in exactly one bag, or was called exactly once.
-        ensures once { IfOk result (λ replies. (fresh : State) (earlier : List Entry) → IsFresh fresh → Runs fresh earlier self.old → HoldsEachTicketOnce (earlier ++ entries_of steps.now replies.items) self.new) }
+        ensures once { IfOk result (λ replies. AlongEarlierRuns self.old (entries_of steps.now replies.items)
+            (λ fresh log. HoldsEachTicketOnce log self.new)) }
         // The ticket of an accepted job is the number of those accepted before it.
-        ensures tickets { IfOk result (λ replies. (fresh : State) (earlier : List Entry) → IsFresh fresh → Runs fresh earlier self.old → NumbersTickets (earlier ++ entries_of steps.now replies.items)) }
+        ensures tickets { IfOk result (λ replies. AlongEarlierRuns self.old (entries_of steps.now replies.items)
+            (λ fresh log. NumbersTickets log)) }
         // Each event stands only where it may.
-        ensures lawful { IfOk result (λ replies. (fresh : State) (earlier : List Entry) → IsFresh fresh → Runs fresh earlier self.old → IsLawful (earlier ++ entries_of steps.now replies.items)) }
+        ensures lawful { IfOk result (λ replies. AlongEarlierRuns self.old (entries_of steps.now replies.items)
+            (λ fresh log. IsLawful log)) }
         // The bags are told to be full exactly where the call's put found each place of the store occupied.
-        ensures full { IfOk result (λ replies. (fresh : State) (earlier : List Entry) → IsFresh fresh → Runs fresh earlier self.old → FullWhereFound fresh (earlier ++ entries_of steps.now replies.items) self.new) }
+        ensures full { IfOk result (λ replies. AlongEarlierRuns self.old (entries_of steps.now replies.items)
+            (λ fresh log. FullWhereFound fresh log self.new)) }
         // When an end is over, every accepted job was called.
-        ensures all_called { IfOk result (λ replies. (fresh : State) (earlier : List Entry) → IsFresh fresh → Runs fresh earlier self.old → self.new.ending ≡ Over → (t : ℕ) → times_called t (earlier ++ entries_of steps.now replies.items) ≡ times_deferred t (earlier ++ entries_of steps.now replies.items)) }
+        ensures all_called { IfOk result (λ replies. AlongEarlierRuns self.old (entries_of steps.now replies.items)
+            (λ fresh log. self.new.ending ≡ Over → (t : ℕ) → times_called t log ≡ times_deferred t log)) }
         // An end that answered how many jobs it called has called so many, and every accepted job was called.
-        ensures ended { IfOk result (λ replies. (fresh : State) (earlier : List Entry) → IsFresh fresh → Runs fresh earlier self.old → EndsAtCount (earlier ++ entries_of steps.now replies.items)) }
+        ensures ended { IfOk result (λ replies. AlongEarlierRuns self.old (entries_of steps.now replies.items)
+            (λ fresh log. EndsAtCount log)) }
         // Rounds of a participant whom nobody disturbs call every job of the bags in the store: one round that puts its own
         // bag, one more, and one for each collection that the bags take.
-        ensures rounds { IfOk result (λ replies. (fresh start : State) (earlier since : List Entry) → IsFresh fresh → Runs fresh earlier start → Runs start since self.old → RoundsCallAll start (since ++ entries_of steps.now replies.items) self.new) }
+        ensures rounds { IfOk result (λ replies. SinceEachState self.old (entries_of steps.now replies.items)
+            (λ start log. RoundsCallAll start log self.new)) }
         // Each call takes at most as many bags as one collection may take, and calls at most the jobs of so many full bags.
-        ensures few { IfOk result (λ replies. (fresh : State) (earlier : List Entry) → IsFresh fresh → Runs fresh earlier self.old → CollectsFew fresh (earlier ++ entries_of steps.now replies.items) self.new) }
+        ensures few { IfOk result (λ replies. AlongEarlierRuns self.old (entries_of steps.now replies.items)
+            (λ fresh log. CollectsFew fresh log self.new)) }
         // Where cells leave once and out of reach, no name that is loaded under a guard still held is destroyed, and each
         // such name has its cell.
-        ensures reach { IfOk result (λ replies. (fresh : State) (earlier : List Entry) → IsFresh fresh → Runs fresh earlier self.old → (run : Runs fresh (earlier ++ entries_of steps.now replies.items) self.new) → LeavesOnce fresh (earlier ++ entries_of steps.now replies.items) self.new run → KeepsLoaded (past_of fresh (earlier ++ entries_of steps.now replies.items) self.new run)) }
-        ensures loaded { IfOk result (λ replies. (fresh : State) (earlier : List Entry) → IsFresh fresh → Runs fresh earlier self.old → (run : Runs fresh (earlier ++ entries_of steps.now replies.items) self.new) → LeavesOnce fresh (earlier ++ entries_of steps.now replies.items) self.new run → LoadedStand (past_of fresh (earlier ++ entries_of steps.now replies.items) self.new run) self.new.heap) }
+        ensures reach { IfOk result (λ replies. AlongEarlierRuns self.old (entries_of steps.now replies.items)
+            (λ fresh log. (run : Runs fresh log self.new) → LeavesOnce fresh log self.new run
+            → KeepsLoaded (past_of fresh log self.new run))) }
+        ensures loaded { IfOk result (λ replies. AlongEarlierRuns self.old (entries_of steps.now replies.items)
+            (λ fresh log. (run : Runs fresh log self.new) → LeavesOnce fresh log self.new run
+            → LoadedStand (past_of fresh log self.new run) self.new.heap)) }
         // No name is given twice, and each that was given has its cell or is destroyed, and not both.
-        ensures given { IfOk result (λ replies. (fresh : State) (earlier : List Entry) → IsFresh fresh → Runs fresh earlier self.old → (run : Runs fresh (earlier ++ entries_of steps.now replies.items) self.new) → GivesNoNameTwice fresh (earlier ++ entries_of steps.now replies.items) self.new run) }
-        ensures stands { IfOk result (λ replies. (fresh : State) (earlier : List Entry) → IsFresh fresh → Runs fresh earlier self.old → (run : Runs fresh (earlier ++ entries_of steps.now replies.items) self.new) → StandsOrDestroyed (given_of fresh (earlier ++ entries_of steps.now replies.items) self.new run) (past_of fresh (earlier ++ entries_of steps.now replies.items) self.new run) self.new.heap) }
+        ensures given { IfOk result (λ replies. AlongEarlierRuns self.old (entries_of steps.now replies.items)
+            (λ fresh log. (run : Runs fresh log self.new) → GivesNoNameTwice fresh log self.new run)) }
+        ensures stands { IfOk result (λ replies. AlongEarlierRuns self.old (entries_of steps.now replies.items)
+            (λ fresh log. (run : Runs fresh log self.new)
+            → StandsOrDestroyed (given_of fresh log self.new run) (past_of fresh log self.new run) self.new.heap)) }
         // A job in a bag removes the name that its ticket's deferral named, or is work; and its call does just that.
-        ensures removals { IfOk result (λ replies. (fresh : State) (earlier : List Entry) → IsFresh fresh → Runs fresh earlier self.old → (run : Runs fresh (earlier ++ entries_of steps.now replies.items) self.new) → CallsWhatWasDeferred fresh (earlier ++ entries_of steps.now replies.items) self.new run) }
+        ensures removals { IfOk result (λ replies. AlongEarlierRuns self.old (entries_of steps.now replies.items)
+            (λ fresh log. (run : Runs fresh log self.new) → CallsWhatWasDeferred fresh log self.new run)) }
 
         ensures err { OnErr result (self.new ≡ self.old) }
         ensures no_memory { IfErr result (λ fault. fault ≡ NoMemory) }
@@ -196,28 +213,43 @@ impl<S: BagStore<Job = Deferral>> World<S> {
         ensures ends { IfOk result (λ replies. EndsAtLast replies.items) }
 
         // No job is called while a participant pinned at its deferral has stayed pinned without repinning.
-        ensures grace { IfOk result (λ replies. (fresh : State) (earlier : List Entry) → IsFresh fresh → Runs fresh earlier self.old → KeepsGrace (earlier ++ call_of participant call replies.items)) }
+        ensures grace { IfOk result (λ replies. AlongEarlierRuns self.old (call_of participant call replies.items)
+            (λ fresh log. KeepsGrace log)) }
         // Each accepted job is in exactly one bag, or was called exactly once.
-        ensures once { IfOk result (λ replies. (fresh : State) (earlier : List Entry) → IsFresh fresh → Runs fresh earlier self.old → HoldsEachTicketOnce (earlier ++ call_of participant call replies.items) self.new) }
+        ensures once { IfOk result (λ replies. AlongEarlierRuns self.old (call_of participant call replies.items)
+            (λ fresh log. HoldsEachTicketOnce log self.new)) }
         // The ticket of an accepted job is the number of those accepted before it.
-        ensures tickets { IfOk result (λ replies. (fresh : State) (earlier : List Entry) → IsFresh fresh → Runs fresh earlier self.old → NumbersTickets (earlier ++ call_of participant call replies.items)) }
+        ensures tickets { IfOk result (λ replies. AlongEarlierRuns self.old (call_of participant call replies.items)
+            (λ fresh log. NumbersTickets log)) }
         // Each event stands only where it may.
-        ensures lawful { IfOk result (λ replies. (fresh : State) (earlier : List Entry) → IsFresh fresh → Runs fresh earlier self.old → IsLawful (earlier ++ call_of participant call replies.items)) }
+        ensures lawful { IfOk result (λ replies. AlongEarlierRuns self.old (call_of participant call replies.items)
+            (λ fresh log. IsLawful log)) }
         // The bags are told to be full exactly where the call's put found each place of the store occupied.
-        ensures full { IfOk result (λ replies. (fresh : State) (earlier : List Entry) → IsFresh fresh → Runs fresh earlier self.old → FullWhereFound fresh (earlier ++ call_of participant call replies.items) self.new) }
+        ensures full { IfOk result (λ replies. AlongEarlierRuns self.old (call_of participant call replies.items)
+            (λ fresh log. FullWhereFound fresh log self.new)) }
         // Rounds of a participant whom nobody disturbs call every job of the bags in the store.
-        ensures rounds { IfOk result (λ replies. (fresh start : State) (earlier since : List Entry) → IsFresh fresh → Runs fresh earlier start → Runs start since self.old → RoundsCallAll start (since ++ call_of participant call replies.items) self.new) }
+        ensures rounds { IfOk result (λ replies. SinceEachState self.old (call_of participant call replies.items)
+            (λ start log. RoundsCallAll start log self.new)) }
         // Each call takes at most as many bags as one collection may take, and calls at most the jobs of so many full bags.
-        ensures few { IfOk result (λ replies. (fresh : State) (earlier : List Entry) → IsFresh fresh → Runs fresh earlier self.old → CollectsFew fresh (earlier ++ call_of participant call replies.items) self.new) }
+        ensures few { IfOk result (λ replies. AlongEarlierRuns self.old (call_of participant call replies.items)
+            (λ fresh log. CollectsFew fresh log self.new)) }
         // Where cells leave once and out of reach, no name that is loaded under a guard still held is destroyed, and each
         // such name has its cell.
-        ensures reach { IfOk result (λ replies. (fresh : State) (earlier : List Entry) → IsFresh fresh → Runs fresh earlier self.old → (run : Runs fresh (earlier ++ call_of participant call replies.items) self.new) → LeavesOnce fresh (earlier ++ call_of participant call replies.items) self.new run → KeepsLoaded (past_of fresh (earlier ++ call_of participant call replies.items) self.new run)) }
-        ensures loaded { IfOk result (λ replies. (fresh : State) (earlier : List Entry) → IsFresh fresh → Runs fresh earlier self.old → (run : Runs fresh (earlier ++ call_of participant call replies.items) self.new) → LeavesOnce fresh (earlier ++ call_of participant call replies.items) self.new run → LoadedStand (past_of fresh (earlier ++ call_of participant call replies.items) self.new run) self.new.heap) }
+        ensures reach { IfOk result (λ replies. AlongEarlierRuns self.old (call_of participant call replies.items)
+            (λ fresh log. (run : Runs fresh log self.new) → LeavesOnce fresh log self.new run
+            → KeepsLoaded (past_of fresh log self.new run))) }
+        ensures loaded { IfOk result (λ replies. AlongEarlierRuns self.old (call_of participant call replies.items)
+            (λ fresh log. (run : Runs fresh log self.new) → LeavesOnce fresh log self.new run
+            → LoadedStand (past_of fresh log self.new run) self.new.heap)) }
         // No name is given twice, and each that was given has its cell or is destroyed, and not both.
-        ensures given { IfOk result (λ replies. (fresh : State) (earlier : List Entry) → IsFresh fresh → Runs fresh earlier self.old → (run : Runs fresh (earlier ++ call_of participant call replies.items) self.new) → GivesNoNameTwice fresh (earlier ++ call_of participant call replies.items) self.new run) }
-        ensures stands { IfOk result (λ replies. (fresh : State) (earlier : List Entry) → IsFresh fresh → Runs fresh earlier self.old → (run : Runs fresh (earlier ++ call_of participant call replies.items) self.new) → StandsOrDestroyed (given_of fresh (earlier ++ call_of participant call replies.items) self.new run) (past_of fresh (earlier ++ call_of participant call replies.items) self.new run) self.new.heap) }
+        ensures given { IfOk result (λ replies. AlongEarlierRuns self.old (call_of participant call replies.items)
+            (λ fresh log. (run : Runs fresh log self.new) → GivesNoNameTwice fresh log self.new run)) }
+        ensures stands { IfOk result (λ replies. AlongEarlierRuns self.old (call_of participant call replies.items)
+            (λ fresh log. (run : Runs fresh log self.new)
+            → StandsOrDestroyed (given_of fresh log self.new run) (past_of fresh log self.new run) self.new.heap)) }
         // A job in a bag removes the name that its ticket's deferral named, or is work; and its call does just that.
-        ensures removals { IfOk result (λ replies. (fresh : State) (earlier : List Entry) → IsFresh fresh → Runs fresh earlier self.old → (run : Runs fresh (earlier ++ call_of participant call replies.items) self.new) → CallsWhatWasDeferred fresh (earlier ++ call_of participant call replies.items) self.new run) }
+        ensures removals { IfOk result (λ replies. AlongEarlierRuns self.old (call_of participant call replies.items)
+            (λ fresh log. (run : Runs fresh log self.new) → CallsWhatWasDeferred fresh log self.new run)) }
 
         ensures err { OnErr result (self.new ≡ self.old) }
         ensures no_memory { IfErr result (λ fault. fault ≡ NoMemory) }

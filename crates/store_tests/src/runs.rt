@@ -1,12 +1,12 @@
 //! What holds of runs over any store holds over a pile, which has no proof about worlds of its own.
-ghost use Rattle.std.specs.Prelude.{◌++◌, List, IfOk};
-ghost use Rattle.epoch_laws.specs.declared.step.Entry.{Entry};
-ghost use Rattle.epoch_laws.specs.Run.{State, IsFresh, Runs, entries_of};
+ghost use Rattle.std.specs.Prelude.{IfOk};
+ghost use Rattle.epoch_laws.specs.Run.{Runs, entries_of};
 ghost use Rattle.epoch_laws.specs.Grace.{KeepsGrace};
 ghost use Rattle.epoch_laws.specs.Tickets.{HoldsEachTicketOnce};
 ghost use Rattle.epoch_laws.specs.Lawful.{IsLawful};
 ghost use Rattle.epoch_rounds.specs.Rounds.{RoundsCallAll};
 ghost use Rattle.epoch_rounds.specs.Collected.{CollectsFew};
+ghost use Rattle.epoch_world.specs.Earlier.{AlongEarlierRuns, SinceEachState};
 
 use crate::wants::want;
 use crate::worlds::{ONE, new_world};
@@ -37,11 +37,16 @@ const TOLD: [Reply; 6] = [
 /// Takes these steps over a pile. What holds of runs over any store holds of these, with no proof about this one.
 fn run_over_pile(world: &mut World<Pile>, steps: &[Step]) -> Result<Vec<Reply>, Fault>
     ensures runs { IfOk result (λ replies. Runs world.old (entries_of steps.now replies.items) world.new) }
-    ensures grace { IfOk result (λ replies. (fresh : State) (earlier : List Entry) → IsFresh fresh → Runs fresh earlier world.old → KeepsGrace (earlier ++ entries_of steps.now replies.items)) }
-    ensures once { IfOk result (λ replies. (fresh : State) (earlier : List Entry) → IsFresh fresh → Runs fresh earlier world.old → HoldsEachTicketOnce (earlier ++ entries_of steps.now replies.items) world.new) }
-    ensures lawful { IfOk result (λ replies. (fresh : State) (earlier : List Entry) → IsFresh fresh → Runs fresh earlier world.old → IsLawful (earlier ++ entries_of steps.now replies.items)) }
-    ensures rounds { IfOk result (λ replies. (fresh start : State) (earlier since : List Entry) → IsFresh fresh → Runs fresh earlier start → Runs start since world.old → RoundsCallAll start (since ++ entries_of steps.now replies.items) world.new) }
-    ensures few { IfOk result (λ replies. (fresh : State) (earlier : List Entry) → IsFresh fresh → Runs fresh earlier world.old → CollectsFew fresh (earlier ++ entries_of steps.now replies.items) world.new) }
+    ensures grace { IfOk result (λ replies. AlongEarlierRuns world.old (entries_of steps.now replies.items)
+        (λ fresh log. KeepsGrace log)) }
+    ensures once { IfOk result (λ replies. AlongEarlierRuns world.old (entries_of steps.now replies.items)
+        (λ fresh log. HoldsEachTicketOnce log world.new)) }
+    ensures lawful { IfOk result (λ replies. AlongEarlierRuns world.old (entries_of steps.now replies.items)
+        (λ fresh log. IsLawful log)) }
+    ensures rounds { IfOk result (λ replies. SinceEachState world.old (entries_of steps.now replies.items)
+        (λ start log. RoundsCallAll start log world.new)) }
+    ensures few { IfOk result (λ replies. AlongEarlierRuns world.old (entries_of steps.now replies.items)
+        (λ fresh log. CollectsFew fresh log world.new)) }
 {
     world.run(steps)
 }
