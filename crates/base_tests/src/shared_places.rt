@@ -19,7 +19,7 @@ fn put(places: &SharedPlaces<u64>, seat: &mut PlaceSeat<u64>, seal: u64, job: u6
 {
     let mut held = bag_of(job);
     let mut cursor = places.start_put();
-    for _ in 0..3 * places.places() {
+    for _ in 0..3 * places.capacity() {
         let step = places.put_step(seat, &mut cursor, Epoch::new(seal), &mut held);
         let PutStep::Again = step else {
             return step;
@@ -36,12 +36,12 @@ fn take(
     expiry: Epoch,
 ) -> (TakeStep, Option<u64>)
     requires of { IsOf places.now seat.old }
-    requires at { TakesAt places.now.places expiry.number cursor.old seat.old.me }
+    requires at { TakesAt places.now.capacity expiry.number cursor.old seat.old.me }
     ensures kept { IsKept seat.old seat.new }
-    ensures at { TakesAt places.now.places expiry.number cursor.new seat.new.me }
+    ensures at { TakesAt places.now.capacity expiry.number cursor.new seat.new.me }
 {
     let mut hand = Bag::new().seal(Epoch::starting());
-    for _ in 0..3 * places.places() {
+    for _ in 0..3 * places.capacity() {
         let step = places.take_step(seat, cursor, expiry, &mut hand);
         let TakeStep::Again = step else {
             return (step, hand.take_next());
@@ -85,7 +85,7 @@ fn a_bag_is_put_into_a_place_and_comes_out_whole(rt: HostRuntime) -> Result<(), 
     places.empty(&mut other, 1, &mut bag);
     want(&rt, "it is empty again", places.look(&mut seat, 1), 0);
     want_pair(&rt, bag, 5, 6);
-    want(&rt, "how many there are", places.places(), 2);
+    want(&rt, "how many there are", places.capacity(), 2);
     Ok(())
 }
 

@@ -108,7 +108,7 @@ fn participants_at_once_leave_all_words_free(rt: HostRuntime) -> Result<(), Faul
 
 /// Puts the bag into the place where it is empty and its claim is won, and else hands it back.
 fn put_at(places: &SharedPlaces<u64>, place: usize, bag: SealedBag<u64>) -> Option<SealedBag<u64>>
-    requires { place < places.now.places }
+    requires { place < places.now.capacity }
 {
     let mut seat = places.seat();
     let mut put = Some(bag);
@@ -121,7 +121,7 @@ fn put_at(places: &SharedPlaces<u64>, place: usize, bag: SealedBag<u64>) -> Opti
 /// Puts the bag into the first place that takes it, and answers whether one did.
 fn put(places: &SharedPlaces<u64>, bag: SealedBag<u64>) -> bool {
     let mut held = bag;
-    for place in 0..places.places() {
+    for place in 0..places.capacity() {
         match put_at(places, place, held) {
             None => return true,
             Some(back) => held = back,
@@ -132,7 +132,7 @@ fn put(places: &SharedPlaces<u64>, bag: SealedBag<u64>) -> bool {
 
 /// Takes the bag out of the place where one is seen there and its claim is won.
 fn take_at(places: &SharedPlaces<u64>, place: usize) -> Option<SealedBag<u64>>
-    requires { place < places.now.places }
+    requires { place < places.now.capacity }
 {
     let mut seat = places.seat();
     let word = places.look(&mut seat, place);
@@ -193,7 +193,7 @@ impl Calls {
 /// Takes bags and calls their jobs, until so many jobs were called by all.
 fn call_jobs(places: &SharedPlaces<u64>, jobs: u64, calls: &Calls) {
     for _ in 0..10_000_000u64 {
-        for place in 0..places.places() {
+        for place in 0..places.capacity() {
             if let Some(bag) = take_at(places, place) {
                 calls.call_two(bag);
             }

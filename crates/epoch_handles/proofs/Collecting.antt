@@ -45,7 +45,7 @@ nothing_left m x k (job ∷ jobs) none = absurd (none refl)
 -- of the jobs in hand these are left, and the others were called
 pub record HasCalled {T W : Type 0} (done : W → Type 0) (h : Local T W) (x k : ℕ) (n : Local T W) : Type 0 where
   pub machine : n.machine ≡ with_hand h.machine x k n.machine.hand
-  pub performed : (c : Cursors) → (log : Log (Job W)) × Performed h.collector.now.places.places h.machine (sight_of h) c log n.machine (sight_of h) c × AreCalled (IsCalled done) log
+  pub performed : (c : Cursors) → (log : Log (Job W)) × Performed h.collector.now.places.capacity h.machine (sight_of h) c log n.machine (sight_of h) c × AreCalled (IsCalled done) log
 
 module _ {T W : Type 0} where
   pub one_more_called : (done : W → Type 0) (h n : Local T W) (x k : ℕ) (job : Job W) (m : Machine (Job W))
@@ -63,10 +63,10 @@ module _ {T W : Type 0} where
         machine = goes ∙ ap (λ (js : List (Job W)). with_hand h.machine x k js) (sym left);
         performed = λ c. (
           (called.performed c).0 ++ record { ask = CallJob; reply = JobGiven job } ∷ [],
-          performed_on h.collector.now.places.places h.machine n.machine m (sight_of h) (sight_of h) (sight_of h) c c c (called.performed c).0 _ (called.performed c).1
-              (subst (λ (z : Machine (Job W)). Performed h.collector.now.places.places n.machine (sight_of h) c (record { ask = CallJob; reply = JobGiven job } ∷ []) z (sight_of h) c) (sym goes)
-              (subst (λ (z : Machine (Job W)). Performed h.collector.now.places.places z (sight_of h) c (record { ask = CallJob; reply = JobGiven job } ∷ []) (with_hand h.machine x k jobs) (sight_of h) c) (sym was)
-              (call_performed h.collector.now.places.places h.machine (sight_of h) c x k job jobs))),
+          performed_on h.collector.now.places.capacity h.machine n.machine m (sight_of h) (sight_of h) (sight_of h) c c c (called.performed c).0 _ (called.performed c).1
+              (subst (λ (z : Machine (Job W)). Performed h.collector.now.places.capacity n.machine (sight_of h) c (record { ask = CallJob; reply = JobGiven job } ∷ []) z (sight_of h) c) (sym goes)
+              (subst (λ (z : Machine (Job W)). Performed h.collector.now.places.capacity z (sight_of h) c (record { ask = CallJob; reply = JobGiven job } ∷ []) (with_hand h.machine x k jobs) (sight_of h) c) (sym was)
+              (call_performed h.collector.now.places.capacity h.machine (sight_of h) c x k job jobs))),
           called_on (IsCalled done) (called.performed c).0 (record { ask = CallJob; reply = JobGiven job } ∷ []) (called.performed c).2 (ran, tt),
         );
       }
@@ -84,7 +84,7 @@ module _ {T W : Type 0} where
         machine = same ∙ was;
         performed = λ c. (
           (called.performed c).0,
-          subst (λ (z : Machine (Job W)). Performed h.collector.now.places.places h.machine (sight_of h) c (called.performed c).0 z (sight_of h) c) (sym same) (called.performed c).1,
+          subst (λ (z : Machine (Job W)). Performed h.collector.now.places.capacity h.machine (sight_of h) c (called.performed c).0 z (sight_of h) c) (sym same) (called.performed c).1,
           (called.performed c).2,
         );
       }
@@ -134,13 +134,13 @@ module _ {T W : Type 0} where
       → (taken : HasTaken done h x cursor n)
       → m ≡ took_heard n.machine n.machine.stage step m.hand
       → (step ≡ Got → m.hand ≡ bag.jobs)
-      → TakeMoves h.collector.now.places.places x cursor n.claimer.me step next me bag
-      → (log : Log (Job W)) × Performed h.collector.now.places.places h.machine (sight_of h) at_start log m (record { words = n.seat.me.0; places = me })
+      → TakeMoves h.collector.now.places.capacity x cursor n.claimer.me step next me bag
+      → (log : Log (Job W)) × Performed h.collector.now.places.capacity h.machine (sight_of h) at_start log m (record { words = n.seat.me.0; places = me })
       (record { put = PutLook 0; take = next }) × AreCalled (IsCalled done) log
   take_performed done h n x cursor next step m me bag taken after jobs moves =
       let exchange : Exchange (Job W) = record { ask = TakeBag x; reply = TakeStepped step m.hand } in (
         taken.performed.0 ++ exchange ∷ [],
-        performed_on h.collector.now.places.places h.machine n.machine m (sight_of h) (sight_of n) (record { words = n.seat.me.0; places = me }) at_start
+        performed_on h.collector.now.places.capacity h.machine n.machine m (sight_of h) (sight_of n) (record { words = n.seat.me.0; places = me }) at_start
             (record { put = PutLook 0; take = cursor }) (record { put = PutLook 0; take = next }) taken.performed.0 (exchange ∷ []) taken.performed.1 (
               ap (λ (z : Machine (Job W)). ask_at z.stage) taken.machine,
               tt,
@@ -153,7 +153,7 @@ module _ {T W : Type 0} where
       → h.machine.stage ≡ Take x 0
       → IsAt h.collector.now.places h.claimer
       → cursor ≡ TakeLook 0
-      → TakesAt h.collector.now.places.places x cursor h.claimer.me
+      → TakesAt h.collector.now.places.capacity x cursor h.claimer.me
       → HasTaken done h x cursor h
   take_begins done h x cursor begins is_at first at = record {
     taken = 0;
@@ -175,8 +175,8 @@ module _ {T W : Type 0} where
       → (taken : HasTaken done h x cursor n)
       → m ≡ took_heard n.machine n.machine.stage TakeAgain m.hand
       → IsAt h.collector.now.places claimer
-      → TakesAt h.collector.now.places.places x next claimer.me
-      → TakeMoves h.collector.now.places.places x cursor n.claimer.me TakeAgain next claimer.me bag
+      → TakesAt h.collector.now.places.capacity x next claimer.me
+      → TakeMoves h.collector.now.places.capacity x cursor n.claimer.me TakeAgain next claimer.me bag
       → HasTaken done h x next (record n { claimer = claimer; machine = m })
   take_again done h n x cursor next m claimer bag taken after is_at at moves =
       let same : m ≡ n.machine = after ∙ ap (λ (s : Stage). took_heard n.machine s TakeAgain m.hand) (ap (λ (z : Machine (Job W)). z.stage) taken.machine) in
@@ -193,14 +193,14 @@ module _ {T W : Type 0} where
   -- the word found at a place that isn't the last one tells of no expired bag
   pub look_passes : (done : W → Type 0) (h n : Local T W) (x place word : ℕ) (claimer : _)
       → HasTaken done h x (TakeLook place) n
-      → place + 1 < h.collector.now.places.places
+      → place + 1 < h.collector.now.places.capacity
       → IsAt h.collector.now.places claimer
       → Finds place n.claimer.me word claimer.me
       → ¬ IsExpiredWord x word
       → HasTaken done h x (TakeLook (place + 1)) (record n { claimer = claimer })
   look_passes done h n x place word claimer taken within is_at finds late =
-      let goes_on : TakeAgain ≡ (if place + 1 == h.collector.now.places.places then TakeEnds else TakeAgain) =
-      sym (ap (λ (b : Bool). if b then TakeEnds else TakeAgain) (ne_eqb (place + 1) h.collector.now.places.places (λ is. absurd (omega (arith, is, within))))) in
+      let goes_on : TakeAgain ≡ (if place + 1 == h.collector.now.places.capacity then TakeEnds else TakeAgain) =
+      sym (ap (λ (b : Bool). if b then TakeEnds else TakeAgain) (ne_eqb (place + 1) h.collector.now.places.capacity (λ is. absurd (omega (arith, is, within))))) in
       take_again done h n x (TakeLook place) (TakeLook (place + 1)) n.machine claimer (record { seal = 0; jobs = [] }) taken
       (waits_on h n x taken.taken taken.machine) is_at (omega (arith, within), still_rests place n.claimer.me claimer.me word finds taken.at.1)
       ((λ last. absurd (omega (arith, last, within))), (λ not. (word, finds, (λ expired. absurd (late expired)), (λ is. (refl, goes_on)))))
@@ -208,7 +208,7 @@ module _ {T W : Type 0} where
   -- the word found at a place is that of an expired bag
   pub look_finds : (done : W → Type 0) (h n : Local T W) (x place word : ℕ) (claimer : _)
       → HasTaken done h x (TakeLook place) n
-      → place < h.collector.now.places.places
+      → place < h.collector.now.places.capacity
       → IsAt h.collector.now.places claimer
       → Finds place n.claimer.me word claimer.me
       → IsExpiredWord x word
@@ -224,7 +224,7 @@ module _ {T W : Type 0} where
       → m ≡ took_heard n.machine n.machine.stage TakeEnds m.hand
       → IsAt h.collector.now.places claimer
       → RestsAt claimer.me
-      → TakeMoves h.collector.now.places.places x cursor n.claimer.me TakeEnds next claimer.me bag
+      → TakeMoves h.collector.now.places.capacity x cursor n.claimer.me TakeEnds next claimer.me bag
       → TakesBags done h (record n { claimer = claimer; machine = m })
   take_ends done h n x cursor next m claimer bag taken after is_at rests moves =
       let ends : m ≡ with_stage n.machine (after_collect n.machine.action n.machine.held) =
@@ -252,11 +252,11 @@ module _ {T W : Type 0} where
   pub record HasCalledBag (done : W → Type 0) (h : Local T W) (x k : ℕ) (next : TakeCursor) (w : Local T W) : Type 0 where
     pub machine : w.machine ≡ with_hand h.machine x k []
     pub claimer : IsAt h.collector.now.places w.claimer
-    pub at : TakesAt h.collector.now.places.places x next w.claimer.me
+    pub at : TakesAt h.collector.now.places.capacity x next w.claimer.me
     pub rests : RestsAt w.claimer.me
     pub seat : w.seat ≡ h.seat
     pub same : IsSame h w
-    pub performed : (log : Log (Job W)) × Performed h.collector.now.places.places h.machine (sight_of h) at_start log w.machine (sight_of w)
+    pub performed : (log : Log (Job W)) × Performed h.collector.now.places.capacity h.machine (sight_of h) at_start log w.machine (sight_of w)
         (record { put = PutLook 0; take = next }) × AreCalled (IsCalled done) log
 
   pub bag_called : (done : W → Type 0) (h n w : Local T W) (x : ℕ) (cursor next : TakeCursor) (m : Machine (Job W)) (claimer : _) (bag : Sealed (Job W))
@@ -264,28 +264,28 @@ module _ {T W : Type 0} where
       → m ≡ took_heard n.machine n.machine.stage Got m.hand
       → m.hand ≡ bag.jobs
       → IsAt h.collector.now.places claimer
-      → TakesAt h.collector.now.places.places x next claimer.me
+      → TakesAt h.collector.now.places.capacity x next claimer.me
       → RestsAt claimer.me
-      → TakeMoves h.collector.now.places.places x cursor n.claimer.me Got next claimer.me bag
+      → TakeMoves h.collector.now.places.capacity x cursor n.claimer.me Got next claimer.me bag
       → w ≡ record n { claimer = claimer; machine = w.machine }
       → CallsHand done (record n { claimer = claimer; machine = m }) x taken.taken w
       → HasCalledBag done h x taken.taken next w
   bag_called done h n w x cursor next m claimer bag taken after jobs is_at at rests moves only calls =
       let got = take_got h n x taken.taken m taken.machine after in
       let steps = take_performed done h n x cursor next Got m claimer.me bag taken after (λ _. jobs) moves in
-      let called = subst (λ z. (log : Log (Job W)) × Performed z.now.places.places m (record { words = n.seat.me.0; places = claimer.me }) (record { put = PutLook 0; take = next }) log
+      let called = subst (λ z. (log : Log (Job W)) × Performed z.now.places.capacity m (record { words = n.seat.me.0; places = claimer.me }) (record { put = PutLook 0; take = next }) log
       w.machine (record { words = n.seat.me.0; places = claimer.me }) (record { put = PutLook 0; take = next }) × AreCalled (IsCalled done) log) taken.same.collector (calls.performed (record { put = PutLook 0; take = next })) in
       record {
         machine = calls.machine ∙ ap (λ (z : Machine (Job W)). with_hand z x taken.taken []) got;
         claimer = subst (λ z. IsAt h.collector.now.places z.claimer) (sym only) is_at;
-        at = subst (λ z. TakesAt h.collector.now.places.places x next z.claimer.me) (sym only) at;
+        at = subst (λ z. TakesAt h.collector.now.places.capacity x next z.claimer.me) (sym only) at;
         rests = subst (λ z. RestsAt z.claimer.me) (sym only) rests;
         seat = ap (λ (z : Local T W). z.seat) only ∙ taken.seat;
         same = record { position = ap (λ (z : Local T W). z.position) only ∙ taken.same.position; collector = ap (λ (z : Local T W). z.collector) only ∙ taken.same.collector };
         performed = (
           steps.0 ++ called.0,
-          subst (λ (z : Local T W). Performed h.collector.now.places.places h.machine (sight_of h) at_start (steps.0 ++ called.0) w.machine (sight_of z) (record { put = PutLook 0; take = next })) (sym only)
-              (performed_on h.collector.now.places.places h.machine m w.machine (sight_of h) (record { words = n.seat.me.0; places = claimer.me }) (record { words = n.seat.me.0; places = claimer.me })
+          subst (λ (z : Local T W). Performed h.collector.now.places.capacity h.machine (sight_of h) at_start (steps.0 ++ called.0) w.machine (sight_of z) (record { put = PutLook 0; take = next })) (sym only)
+              (performed_on h.collector.now.places.capacity h.machine m w.machine (sight_of h) (record { words = n.seat.me.0; places = claimer.me }) (record { words = n.seat.me.0; places = claimer.me })
               at_start (record { put = PutLook 0; take = next }) (record { put = PutLook 0; take = next }) steps.0 called.0 steps.1 called.1),
           called_on (IsCalled done) steps.0 called.0 steps.2 called.2,
         );
@@ -297,10 +297,10 @@ module _ {T W : Type 0} where
       → step ≡ Got
       → m ≡ took_heard n.machine n.machine.stage step m.hand
       → IsKept n.claimer claimer
-      → ((y : ℕ) → asks n.machine ≡ Some (TakeBag y) → TakesAt n.collector.now.places.places y next claimer.me)
+      → ((y : ℕ) → asks n.machine ≡ Some (TakeBag y) → TakesAt n.collector.now.places.capacity y next claimer.me)
       → (step ≢ TakeAgain → RestsAt claimer.me)
       → ((y : ℕ) → asks n.machine ≡ Some (TakeBag y) → (bag : Sealed (Job W)) × (step ≡ Got → m.hand ≡ bag.jobs)
-      × TakeMoves n.collector.now.places.places y cursor n.claimer.me step next claimer.me bag)
+      × TakeMoves n.collector.now.places.capacity y cursor n.claimer.me step next claimer.me bag)
       → w ≡ record n { claimer = claimer; machine = w.machine }
       → ((y k : ℕ) → m.stage ≡ after_job m y k m.hand → CallsHand done (record n { claimer = claimer; machine = m }) y k w)
       → HasCalledBag done h x taken.taken next w
@@ -309,10 +309,10 @@ module _ {T W : Type 0} where
       let moved = moves x asked in
       let after = subst (λ (s : TakeStep). m ≡ took_heard n.machine n.machine.stage s m.hand) got told in
       bag_called done h n w x cursor next m claimer moved.0 taken after (moved.1 got) (kept.0 ∙ taken.claimer)
-      (subst (λ z. TakesAt z.now.places.places x next claimer.me) taken.same.collector (at x asked))
+      (subst (λ z. TakesAt z.now.places.capacity x next claimer.me) taken.same.collector (at x asked))
       (rests (λ again. absurd (cc (got, again))))
-      (subst (λ (s : TakeStep). TakeMoves h.collector.now.places.places x cursor n.claimer.me s next claimer.me moved.0) got
-      (subst (λ z. TakeMoves z.now.places.places x cursor n.claimer.me step next claimer.me moved.0) taken.same.collector moved.2))
+      (subst (λ (s : TakeStep). TakeMoves h.collector.now.places.capacity x cursor n.claimer.me s next claimer.me moved.0) got
+      (subst (λ z. TakeMoves z.now.places.capacity x cursor n.claimer.me step next claimer.me moved.0) taken.same.collector moved.2))
       only (calls x taken.taken (got_stage h.machine m x taken.taken (take_got h n x taken.taken m taken.machine after)))
 
   -- a further bag is looked for
@@ -369,6 +369,6 @@ module _ {T W : Type 0} where
         };
         machine = takes.machine ∙ ap (λ (z : Machine (Job W)). record z { stage = after_collect z.action z.held; hand = o.machine.hand }) scans.machine;
         calls = λ c. let first = scans.reaches c in
-            let second = subst (λ z. (d : Cursors) × (log : Log (Job W)) × Performed z.now.places.places n.machine (sight_of n) at_start log o.machine (sight_of o) d × AreCalled (IsCalled done) log) same_table takes.performed in
-            (second.0, first.0 ++ second.1, performed_on h.collector.now.places.places h.machine n.machine o.machine (sight_of h) (sight_of n) (sight_of o) c at_start second.0 first.0 second.1 first.1 second.2, called_on (IsCalled done) first.0 second.1 (none_is_called (IsCalled done) first.0 first.2) second.3);
+            let second = subst (λ z. (d : Cursors) × (log : Log (Job W)) × Performed z.now.places.capacity n.machine (sight_of n) at_start log o.machine (sight_of o) d × AreCalled (IsCalled done) log) same_table takes.performed in
+            (second.0, first.0 ++ second.1, performed_on h.collector.now.places.capacity h.machine n.machine o.machine (sight_of h) (sight_of n) (sight_of o) c at_start second.0 first.0 second.1 first.1 second.2, called_on (IsCalled done) first.0 second.1 (none_is_called (IsCalled done) first.0 first.2) second.3);
       }

@@ -97,7 +97,7 @@ module _ {T W : Type 0} where
     pub pin : KeepsPin h n
     pub flushes : Flushes h.machine n.machine
     pub scans : n.machine.stage ≡ LoadScan
-    pub drives : DrivesStraight h.collector.now.places.places (begun Flush h.machine) (sight_of h) n.machine (sight_of n)
+    pub drives : DrivesStraight h.collector.now.places.capacity (begun Flush h.machine) (sight_of h) n.machine (sight_of n)
 
   -- with no job held it begins there
   pub scan_begins : (h : Local T W) (m : Machine (Job W))
@@ -112,7 +112,7 @@ module _ {T W : Type 0} where
     pin = record { published = refl; read = refl };
     flushes = flush_begun h.machine m is;
     scans = ap (λ (z : Machine (Job W)). z.stage) is ∙ flush_scans h.machine none;
-    drives = subst (λ (z : Machine (Job W)). DrivesStraight h.collector.now.places.places z (sight_of h) m (sight_of h)) is (drives_none h.collector.now.places.places m (sight_of h));
+    drives = subst (λ (z : Machine (Job W)). DrivesStraight h.collector.now.places.capacity z (sight_of h) m (sight_of h)) is (drives_none h.collector.now.places.capacity m (sight_of h));
   }
 
   -- a held bag is put first
@@ -129,7 +129,7 @@ module _ {T W : Type 0} where
         pin = record { published = puts.pin.published; read = puts.pin.read };
         flushes = put_flushes h.machine m n.machine flushes puts.machine;
         scans = put_comes_to_scan m n.machine flushes.action puts.machine;
-        drives = subst (λ (z : Machine (Job W)). DrivesStraight h.collector.now.places.places z (sight_of h) n.machine (sight_of n)) is puts.drives;
+        drives = subst (λ (z : Machine (Job W)). DrivesStraight h.collector.now.places.capacity z (sight_of h) n.machine (sight_of n)) is puts.drives;
       }
 
   -- The flush of h has nothing left to ask at o.
@@ -140,7 +140,7 @@ module _ {T W : Type 0} where
     pub pin : KeepsPin h o
     pub flushes : Flushes h.machine o.machine
     pub ends : o.machine.stage ≡ End
-    pub calls : Calls (IsCalled done) h.collector.now.places.places (begun Flush h.machine) (sight_of h) o.machine (sight_of o)
+    pub calls : Calls (IsCalled done) h.collector.now.places.capacity (begun Flush h.machine) (sight_of h) o.machine (sight_of o)
 
   pub collection_ends : (done : W → Type 0) (h n o : Local T W) → ComesToScan h n → Collects done n o → HasFlushed done h o
   collection_ends done h n o comes collects = record {
@@ -150,9 +150,9 @@ module _ {T W : Type 0} where
     pin = record { published = collects.pin.published ∙ comes.pin.published; read = collects.pin.read ∙ comes.pin.read };
     flushes = flushes_still h.machine n.machine o.machine _ _ _ _ collects.machine comes.flushes;
     ends = ap (λ (z : Machine (Job W)). z.stage) collects.machine ∙ ap (λ (a : Action). after_collect a n.machine.held) comes.flushes.action;
-    calls = calls_on (IsCalled done) h.collector.now.places.places (begun Flush h.machine) n.machine o.machine (sight_of h) (sight_of n) (sight_of o)
-        (calls_of (IsCalled done) h.collector.now.places.places (begun Flush h.machine) n.machine (sight_of h) (sight_of n) comes.drives)
-        (subst (λ z. Calls (IsCalled done) z.now.places.places n.machine (sight_of n) o.machine (sight_of o)) comes.same.collector collects.calls);
+    calls = calls_on (IsCalled done) h.collector.now.places.capacity (begun Flush h.machine) n.machine o.machine (sight_of h) (sight_of n) (sight_of o)
+        (calls_of (IsCalled done) h.collector.now.places.capacity (begun Flush h.machine) n.machine (sight_of h) (sight_of n) comes.drives)
+        (subst (λ z. Calls (IsCalled done) z.now.places.capacity n.machine (sight_of n) o.machine (sight_of o)) comes.same.collector collects.calls);
   }
 
   -- THE WHOLE

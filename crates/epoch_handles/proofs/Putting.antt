@@ -34,9 +34,9 @@ pub record HasPut {T W : Type 0} (h : Local T W) (seal : ℕ) (cursor : PutCurso
   pub seated : IsSeated n
   pub same : IsSame h n
   pub pin : KeepsPin h n
-  pub at : PutsAt n.collector.now.places.places cursor n.claimer.me
+  pub at : PutsAt n.collector.now.places.capacity cursor n.claimer.me
   pub machine : n.machine ≡ with_stage h.machine (Put seal)
-  pub reaches : Reaches h.collector.now.places.places h.machine (sight_of h) n.machine (sight_of n) (putting cursor)
+  pub reaches : Reaches h.collector.now.places.capacity h.machine (sight_of h) n.machine (sight_of n) (putting cursor)
 
 -- a step of a put leaves the machine its sizes
 sizes_kept : {J : Type 0} (m : Machine J) (step : PutStep) → (put_heard m step).sizes ≡ m.sizes
@@ -87,10 +87,10 @@ module _ {T W : Type 0} where
       → h.machine.stage ≡ LoadSeal
       → h.seat.me.0.seen ≤ seal
       → Steps h n (after_epoch h.seat.me.0 seal)
-      → Reaches h.collector.now.places.places h.machine (sight_of h) (with_stage h.machine (Put seal)) (sight_of n) at_start
+      → Reaches h.collector.now.places.capacity h.machine (sight_of h) (with_stage h.machine (Put seal)) (sight_of n) at_start
   seal_performed h n seal begins rises steps = λ c. (
     record { ask = LoadEpoch; reply = Heard (Epoch seal) } ∷ [],
-    subst (λ (s : Stage). Performed h.collector.now.places.places (record h.machine { stage = s }) (sight_of h) c
+    subst (λ (s : Stage). Performed h.collector.now.places.capacity (record h.machine { stage = s }) (sight_of h) c
         (record { ask = LoadEpoch; reply = Heard (Epoch seal) } ∷ []) (with_stage h.machine (Put seal)) (sight_of n) at_start)
         (sym begins)
         (refl, tt, (sight_of n, at_start, (rises, sight_behind h n _ steps, refl), (refl, refl, refl))),
@@ -104,7 +104,7 @@ module _ {T W : Type 0} where
       → Steps h n (after_epoch h.seat.me.0 seal)
       → m ≡ with_stage n.machine (Put seal)
       → cursor ≡ PutLook 0
-      → PutsAt n.collector.now.places.places cursor n.claimer.me
+      → PutsAt n.collector.now.places.capacity cursor n.claimer.me
       → HasPut h seal cursor (record n { machine = m })
   put_begins h n seal cursor m pinned begins rises steps is first at =
       let published = pinned.published in
@@ -118,8 +118,8 @@ module _ {T W : Type 0} where
         };
         at = at;
         machine = goes;
-        reaches = subst (λ (z : Machine (Job W)). Reaches h.collector.now.places.places h.machine (sight_of h) z (sight_of n) (putting cursor)) (sym goes)
-            (subst (λ (z : PutCursor). Reaches h.collector.now.places.places h.machine (sight_of h) (with_stage h.machine (Put seal)) (sight_of n) (putting z)) (sym first)
+        reaches = subst (λ (z : Machine (Job W)). Reaches h.collector.now.places.capacity h.machine (sight_of h) z (sight_of n) (putting cursor)) (sym goes)
+            (subst (λ (z : PutCursor). Reaches h.collector.now.places.capacity h.machine (sight_of h) (with_stage h.machine (Put seal)) (sight_of n) (putting z)) (sym first)
             (seal_performed h n seal begins rises steps));
       }
 
@@ -129,17 +129,17 @@ module _ {T W : Type 0} where
   put_performed : (h n : Local T W) (seal : ℕ) (cursor next : PutCursor) (step : PutStep) (m : Machine (Job W)) (me : PlaceMe (Job W))
       → HasPut h seal cursor n
       → m ≡ put_heard n.machine step
-      → PutMoves n.collector.now.places.places cursor n.claimer.me (record { seal = seal; jobs = n.machine.held }) step next me
-      → Reaches h.collector.now.places.places h.machine (sight_of h) m (record { words = n.seat.me.0; places = me }) (putting next)
+      → PutMoves n.collector.now.places.capacity cursor n.claimer.me (record { seal = seal; jobs = n.machine.held }) step next me
+      → Reaches h.collector.now.places.capacity h.machine (sight_of h) m (record { words = n.seat.me.0; places = me }) (putting next)
   put_performed h n seal cursor next step m me put after moves =
-      reaches_on h.collector.now.places.places h.machine n.machine m (sight_of h) (sight_of n) (record { words = n.seat.me.0; places = me }) (putting cursor) (putting next)
+      reaches_on h.collector.now.places.capacity h.machine n.machine m (sight_of h) (sight_of n) (record { words = n.seat.me.0; places = me }) (putting cursor) (putting next)
       put.reaches (record { ask = PutBag seal; reply = PutStepped step } ∷ []) (
         ap (λ (z : Machine (Job W)). ask_at z.stage) put.machine,
         tt,
         (
           record { words = n.seat.me.0; places = me },
           putting next,
-          (refl, refl, subst (λ z. PutMoves z.now.places.places cursor n.claimer.me (record { seal = seal; jobs = n.machine.held }) step next me) put.same.collector moves),
+          (refl, refl, subst (λ z. PutMoves z.now.places.capacity cursor n.claimer.me (record { seal = seal; jobs = n.machine.held }) step next me) put.same.collector moves),
           (after, refl, refl),
         ),
       ) (tt, tt)
@@ -162,8 +162,8 @@ module _ {T W : Type 0} where
       → HasPut h seal cursor n
       → m ≡ put_heard n.machine Again
       → IsKept n.claimer claimer
-      → PutsAt n.collector.now.places.places next claimer.me
-      → PutMoves n.collector.now.places.places cursor n.claimer.me (record { seal = seal; jobs = n.machine.held }) Again next claimer.me
+      → PutsAt n.collector.now.places.capacity next claimer.me
+      → PutMoves n.collector.now.places.capacity cursor n.claimer.me (record { seal = seal; jobs = n.machine.held }) Again next claimer.me
       → HasPut h seal next (record n { claimer = claimer; machine = m })
   put_again h n seal cursor next m claimer put after kept at moves = record {
     seated = seated_at n m claimer (ap (λ (z : Machine (Job W)). z.sizes) after) kept put.seated;
@@ -192,7 +192,7 @@ module _ {T W : Type 0} where
       → m ≡ put_heard n.machine step
       → IsKept n.claimer claimer
       → RestsAt claimer.me
-      → PutMoves n.collector.now.places.places cursor n.claimer.me (record { seal = seal; jobs = n.machine.held }) step next claimer.me
+      → PutMoves n.collector.now.places.capacity cursor n.claimer.me (record { seal = seal; jobs = n.machine.held }) step next claimer.me
       → Puts h (record n { claimer = claimer; machine = m })
   put_ends h n seal cursor next step m claimer put over after kept rests moves = record {
     seated = seated_at n m claimer (ap (λ (z : Machine (Job W)). z.sizes) after ∙ sizes_kept n.machine step) kept put.seated;
@@ -200,8 +200,8 @@ module _ {T W : Type 0} where
     same = record { position = put.same.position; collector = put.same.collector };
     pin = record { published = put.pin.published; read = put.pin.read };
     whole = λ room. subst (λ (z : Machine (Job W)). IsLeftWhole z.held claimer.me.0) put.machine
-        (put_whole n.collector.now.places.places seal cursor next step n.machine m n.claimer.me claimer.me over after moves room);
+        (put_whole n.collector.now.places.capacity seal cursor next step n.machine m n.claimer.me claimer.me over after moves room);
     machine = put_over h seal step m over (after ∙ ap (λ (z : Machine (Job W)). put_heard z step) put.machine);
-    drives = reached h.collector.now.places.places h.machine m (sight_of h) (record { words = n.seat.me.0; places = claimer.me }) (putting next)
+    drives = reached h.collector.now.places.capacity h.machine m (sight_of h) (record { words = n.seat.me.0; places = claimer.me }) (putting next)
         (put_performed h n seal cursor next step m claimer.me put after moves);
   }

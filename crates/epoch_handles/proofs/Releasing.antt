@@ -89,11 +89,11 @@ module _ {T W : Type 0} where
         position = ap (λ (z : ParticipantView). z.position) knows;
         machine = freed;
         whole = λ some. absurd (some none);
-        calls = calls_of (IsCalled done) h.collector.now.places.places h.machine last (sight_of h) (sight_of o)
-            (subst (λ (z : Machine (Job W)). DrivesStraight h.collector.now.places.places h.machine (sight_of h) z (sight_of o)) (sym freed)
-            (subst (λ (z : Sight (Job W)). DrivesStraight h.collector.now.places.places h.machine (sight_of h) (fresh h.machine.sizes) z)
+        calls = calls_of (IsCalled done) h.collector.now.places.capacity h.machine last (sight_of h) (sight_of o)
+            (subst (λ (z : Machine (Job W)). DrivesStraight h.collector.now.places.capacity h.machine (sight_of h) z (sight_of o)) (sym freed)
+            (subst (λ (z : Sight (Job W)). DrivesStraight h.collector.now.places.capacity h.machine (sight_of h) (fresh h.machine.sizes) z)
             (sym (sight_gone h n o steps (ap (λ (z : Local T W). z.claimer) only) knows))
-            (leaving_performed h.collector.now.places.places h.machine (sight_of h) at action room)));
+            (leaving_performed h.collector.now.places.capacity h.machine (sight_of h) at action room)));
       }
 
   -- A RELEASE THAT IS REFUSED
@@ -131,10 +131,10 @@ module _ {T W : Type 0} where
           told,
           ap (λ (z : Machine (Job W)). z.stage) over,
           is_last,
-          calls_of (IsCalled done) h.collector.now.places.places h.machine told (sight_of h) (sight_of n)
-              (subst (λ (z : Machine (Job W)). DrivesStraight h.collector.now.places.places h.machine (sight_of h) z (sight_of n)) heard_told
-              (subst (λ (z : Sight (Job W)). DrivesStraight h.collector.now.places.places h.machine (sight_of h) (heard h.machine Stored) z) (sym (sight_behind h n _ steps))
-              (unpin_performed h.collector.now.places.places h.machine (sight_of h) at))),
+          calls_of (IsCalled done) h.collector.now.places.capacity h.machine told (sight_of h) (sight_of n)
+              (subst (λ (z : Machine (Job W)). DrivesStraight h.collector.now.places.capacity h.machine (sight_of h) z (sight_of n)) heard_told
+              (subst (λ (z : Sight (Job W)). DrivesStraight h.collector.now.places.capacity h.machine (sight_of h) (heard h.machine Stored) z) (sym (sight_behind h n _ steps))
+              (unpin_performed h.collector.now.places.capacity h.machine (sight_of h) at))),
         );
         ready = ready_with n last steps.seated (rests_still h n _ steps rests)
             (ap (λ (z : Machine (Job W)). z.sizes) leaves ∙ ap (λ (z : Machine (Job W)). z.sizes) (sym steps.machine))
@@ -183,7 +183,7 @@ module _ {T W : Type 0} where
   pub freed_behind : (done : W → Type 0) (h n o : Local T W)
       → IsSame h n
       → n.machine.sizes ≡ h.machine.sizes
-      → Calls (IsCalled done) h.collector.now.places.places h.machine (sight_of h) n.machine (sight_of n)
+      → Calls (IsCalled done) h.collector.now.places.capacity h.machine (sight_of h) n.machine (sight_of n)
       → (h.machine.held ≢ [] → IsLeftWhole h.machine.held o.claimer.me.0)
       → IsFreed done n o
       → IsFreed done h o
@@ -192,14 +192,14 @@ module _ {T W : Type 0} where
     position = freed.position;
     machine = freed.machine ∙ ap (λ (z : Sizes). fresh z) sizes;
     whole = whole;
-    calls = calls_on (IsCalled done) h.collector.now.places.places h.machine n.machine o.machine (sight_of h) (sight_of n) (sight_of o) before
-        (subst (λ z. Calls (IsCalled done) z.now.places.places n.machine (sight_of n) o.machine (sight_of o)) same.collector freed.calls);
+    calls = calls_on (IsCalled done) h.collector.now.places.capacity h.machine n.machine o.machine (sight_of h) (sight_of n) (sight_of o) before
+        (subst (λ z. Calls (IsCalled done) z.now.places.capacity n.machine (sight_of n) o.machine (sight_of o)) same.collector freed.calls);
   }
 
   pub refused_behind : (done : W → Type 0) (h n o : Local T W)
       → IsSame h n
       → n.machine.held ≡ h.machine.held
-      → Calls (IsCalled done) h.collector.now.places.places h.machine (sight_of h) n.machine (sight_of n)
+      → Calls (IsCalled done) h.collector.now.places.capacity h.machine (sight_of h) n.machine (sight_of n)
       → IsRefused done n o
       → IsRefused done h o
   refused_behind done h n o same held before refused =
@@ -210,8 +210,8 @@ module _ {T W : Type 0} where
           last,
           refused.ends.1,
           refused.ends.2,
-          calls_on (IsCalled done) h.collector.now.places.places h.machine n.machine last (sight_of h) (sight_of n) (sight_of o) before
-              (subst (λ z. Calls (IsCalled done) z.now.places.places n.machine (sight_of n) last (sight_of o)) same.collector refused.ends.3),
+          calls_on (IsCalled done) h.collector.now.places.capacity h.machine n.machine last (sight_of h) (sight_of n) (sight_of o) before
+              (subst (λ z. Calls (IsCalled done) z.now.places.capacity n.machine (sight_of n) last (sight_of o)) same.collector refused.ends.3),
         );
         ready = refused.ready;
         held = ((λ none. refused.held.0 (held ∙ none)), refused.held.1 ∙ held);
@@ -242,8 +242,8 @@ module _ {T W : Type 0} where
         none = ap (λ (z : Machine (Job W)). z.guards) is ∙ none;
         held = ap (λ (z : Machine (Job W)). z.held) is;
         sizes = ap (λ (z : Machine (Job W)). z.sizes) is;
-        calls = calls_of (IsCalled done) h.collector.now.places.places (begun Release h.machine) m (sight_of h) (sight_of n)
-            (subst (λ (z : Machine (Job W)). DrivesStraight h.collector.now.places.places (begun Release h.machine) (sight_of h) z (sight_of n)) (sym is)
+        calls = calls_of (IsCalled done) h.collector.now.places.capacity (begun Release h.machine) m (sight_of h) (sight_of n)
+            (subst (λ (z : Machine (Job W)). DrivesStraight h.collector.now.places.capacity (begun Release h.machine) (sight_of h) z (sight_of n)) (sym is)
             (pin_drives h n (begun Release h.machine) e refl steps));
       }
 
@@ -262,8 +262,8 @@ module _ {T W : Type 0} where
     none = ap (λ (z : Machine (Job W)). z.guards) collects.machine ∙ leaving.none;
     held = ap (λ (z : Machine (Job W)). z.held) collects.machine ∙ leaving.held;
     sizes = ap (λ (z : Machine (Job W)). z.sizes) collects.machine ∙ leaving.sizes;
-    calls = calls_on (IsCalled done) h.collector.now.places.places (begun Release h.machine) n.machine o.machine (sight_of h) (sight_of n) (sight_of o) leaving.calls
-        (subst (λ z. Calls (IsCalled done) z.now.places.places n.machine (sight_of n) o.machine (sight_of o)) leaving.same.collector collects.calls);
+    calls = calls_on (IsCalled done) h.collector.now.places.capacity (begun Release h.machine) n.machine o.machine (sight_of h) (sight_of n) (sight_of o) leaving.calls
+        (subst (λ z. Calls (IsCalled done) z.now.places.capacity n.machine (sight_of n) o.machine (sight_of o)) leaving.same.collector collects.calls);
   }
 
   pub collected_to_leave : (done : W → Type 0) (h n o : Local T W) → IsLeaving done h n → Collects done n o → o.machine.stage ≡ after_collect Release o.machine.held

@@ -66,7 +66,7 @@ pub record HasPassed {T W : Type 0} (h : Local T W) (e k : ℕ) (n : Local T W) 
   pub claimer : n.claimer ≡ h.claimer
   pub machine : n.machine ≡ h.machine
   pub scan : n.seat.me.0.scan ≡ Some (e, k)
-  pub reaches : Reaches h.collector.now.places.places h.machine (sight_of h)
+  pub reaches : Reaches h.collector.now.places.capacity h.machine (sight_of h)
       (with_stage h.machine (at_scan h.machine.sizes.positions e k)) (sight_of n) at_start
 
 module _ {T W : Type 0} where
@@ -91,7 +91,7 @@ module _ {T W : Type 0} where
         scan = ap (λ (z : ParticipantView). z.scan) steps.knows ∙ ap (λ z. scan_after z e) published.1;
         reaches = λ c. (
           record { ask = LoadEpoch; reply = Heard (Epoch e) } ∷ [],
-          subst (λ (s : Stage). Performed h.collector.now.places.places (record h.machine { stage = s }) (sight_of h) c
+          subst (λ (s : Stage). Performed h.collector.now.places.capacity (record h.machine { stage = s }) (sight_of h) c
               (record { ask = LoadEpoch; reply = Heard (Epoch e) } ∷ []) (with_stage h.machine (at_scan h.machine.sizes.positions e 0)) (sight_of n) at_start)
               (sym begins) (
                 refl,
@@ -113,11 +113,11 @@ module _ {T W : Type 0} where
       → k < h.machine.sizes.positions
       → IsWord w
       → (LetsPass e w → Steps n o (after_pass n.seat.me.0 e k w)) × ((¬ LetsPass e w) → Steps n o (after_word n.seat.me.0 k w))
-      → Reaches h.collector.now.places.places h.machine (sight_of h) (with_stage h.machine (past_word h.machine.sizes.positions e k w)) (sight_of o) at_start
+      → Reaches h.collector.now.places.capacity h.machine (sight_of h) (with_stage h.machine (past_word h.machine.sizes.positions e k w)) (sight_of o) at_start
   word_performed h n o e k w passed within is_word found =
-      reaches_on h.collector.now.places.places h.machine (with_stage h.machine (at_scan h.machine.sizes.positions e k)) _ (sight_of h) (sight_of n) (sight_of o) at_start at_start
+      reaches_on h.collector.now.places.capacity h.machine (with_stage h.machine (at_scan h.machine.sizes.positions e k)) _ (sight_of h) (sight_of n) (sight_of o) at_start at_start
       passed.reaches (record { ask = LoadWord k; reply = Heard (Word w) } ∷ [])
-      (scan_goes_on h.collector.now.places.places h.machine.sizes.positions h.machine (sight_of n) (sight_of o) e k w refl within is_word passed.scan
+      (scan_goes_on h.collector.now.places.capacity h.machine.sizes.positions h.machine (sight_of n) (sight_of o) e k w refl within is_word passed.scan
       (λ lets. sight_behind n o _ (found.0 lets), λ holds. sight_behind n o _ (found.1 holds))) (tt, tt)
 
   pub scan_passes : (h n o : Local T W) (e k w : ℕ)
@@ -139,7 +139,7 @@ module _ {T W : Type 0} where
         claimer = steps.claimer ∙ passed.claimer;
         machine = steps.machine ∙ passed.machine;
         scan = ap (λ (z : ParticipantView). z.scan) steps.knows;
-        reaches = subst (λ (b : Bool). Reaches h.collector.now.places.places h.machine (sight_of h)
+        reaches = subst (λ (b : Bool). Reaches h.collector.now.places.capacity h.machine (sight_of h)
             (with_stage h.machine (if b then Take e 0 else (if k + 1 == h.machine.sizes.positions then scanned e else Scan e (k + 1)))) (sight_of o) at_start)
             low (word_performed h n o e k w passed within is_word found);
       }
@@ -152,7 +152,7 @@ module _ {T W : Type 0} where
       → n.claimer ≡ h.claimer
       → n.machine ≡ h.machine
       → m ≡ with_stage n.machine (Take x 0)
-      → Reaches h.collector.now.places.places h.machine (sight_of h) (with_stage h.machine (Take x 0)) (sight_of n) at_start
+      → Reaches h.collector.now.places.capacity h.machine (sight_of h) (with_stage h.machine (Take x 0)) (sight_of n) at_start
       → Scans h x (record n { machine = m })
   goes_to_bags h n x m seated same pin claimer machine is reaches =
       let goes : m ≡ with_stage h.machine (Take x 0) = is ∙ ap (λ (z : Machine (Job W)). with_stage z (Take x 0)) machine in
@@ -162,7 +162,7 @@ module _ {T W : Type 0} where
         pin = record { published = pin.published; read = pin.read };
         claimer = claimer;
         machine = goes;
-        reaches = subst (λ (z : Machine (Job W)). Reaches h.collector.now.places.places h.machine (sight_of h) z (sight_of n) at_start) (sym goes) reaches;
+        reaches = subst (λ (z : Machine (Job W)). Reaches h.collector.now.places.capacity h.machine (sight_of h) z (sight_of n) at_start) (sym goes) reaches;
       }
 
   -- a word that is pinned elsewhere ends the scan
@@ -183,7 +183,7 @@ module _ {T W : Type 0} where
         read = ap (λ (z : ParticipantView). z.first_read) steps.knows ∙ passed.pin.read;
       })
       (steps.claimer ∙ passed.claimer) (steps.machine ∙ passed.machine) is
-      (subst (λ (b : Bool). Reaches h.collector.now.places.places h.machine (sight_of h)
+      (subst (λ (b : Bool). Reaches h.collector.now.places.capacity h.machine (sight_of h)
       (with_stage h.machine (if b then Take e 0 else (if k + 1 == h.machine.sizes.positions then scanned e else Scan e (k + 1)))) (sight_of o) at_start)
       high (word_performed h n o e k w passed within is_word found))
 
@@ -195,7 +195,7 @@ module _ {T W : Type 0} where
       → Scans h e (record n { machine = m })
   scan_greatest h n e m passed greatest is =
       goes_to_bags h n e m passed.seated passed.same passed.pin passed.claimer passed.machine is
-      (subst (λ (s : Stage). Reaches h.collector.now.places.places h.machine (sight_of h) (with_stage h.machine s) (sight_of n) at_start)
+      (subst (λ (s : Stage). Reaches h.collector.now.places.capacity h.machine (sight_of h) (with_stage h.machine s) (sight_of n) at_start)
       (behind_last h.machine.sizes.positions e ∙ ap (λ (b : Bool). if b then Take e 0 else Advance e) (eq-eqb e (2 ^ 63 - 1) greatest)) passed.reaches)
 
   -- behind the last word the epoch is stored
@@ -216,8 +216,8 @@ module _ {T W : Type 0} where
         read = ap (λ (z : ParticipantView). z.first_read) steps.knows ∙ passed.pin.read;
       })
       (steps.claimer ∙ passed.claimer) (steps.machine ∙ passed.machine) is
-      (reaches_on h.collector.now.places.places h.machine (with_stage h.machine (at_scan h.machine.sizes.positions e h.machine.sizes.positions)) _ (sight_of h) (sight_of n) (sight_of o) at_start at_start
+      (reaches_on h.collector.now.places.capacity h.machine (with_stage h.machine (at_scan h.machine.sizes.positions e h.machine.sizes.positions)) _ (sight_of h) (sight_of n) (sight_of o) at_start at_start
       passed.reaches (record { ask = StoreEpoch (e + 1); reply = Heard Stored } ∷ [])
-      (subst (λ (s : Stage). Performed h.collector.now.places.places (with_stage h.machine s) (sight_of n) at_start
+      (subst (λ (s : Stage). Performed h.collector.now.places.capacity (with_stage h.machine s) (sight_of n) at_start
       (record { ask = StoreEpoch (e + 1); reply = Heard Stored } ∷ []) (with_stage h.machine (Take (e + 1) 0)) (sight_of o) at_start) (sym advances)
       (refl, tt, (sight_of o, at_start, (ahead, sight_behind n o _ steps, refl), (refl, refl, refl)))) (tt, tt))

@@ -196,11 +196,11 @@ module _ {T W : Type 0} where
   pub pin_drives : (h n : Local T W) (m : Machine (Job W)) (e : ℕ)
       → m.stage ≡ LoadPin
       → (steps : PinSteps h e n)
-      → DrivesStraight h.collector.now.places.places m (sight_of h) (heard (heard (heard m (Epoch e)) Stored) (Epoch steps.again)) (sight_of n)
+      → DrivesStraight h.collector.now.places.capacity m (sight_of h) (heard (heard (heard m (Epoch e)) Stored) (Epoch steps.again)) (sight_of n)
   pin_drives h n m e at steps =
-      subst (λ (z : Sight (Job W)). DrivesStraight h.collector.now.places.places m (sight_of h) (heard (heard (heard m (Epoch e)) Stored) (Epoch steps.again)) z)
+      subst (λ (z : Sight (Job W)). DrivesStraight h.collector.now.places.capacity m (sight_of h) (heard (heard (heard m (Epoch e)) Stored) (Epoch steps.again)) z)
       (sym (sight_behind h n _ steps.steps))
-      (pin_performed h.collector.now.places.places m (sight_of h) e steps.again at steps.rises steps.rises_again)
+      (pin_performed h.collector.now.places.capacity m (sight_of h) e steps.again at steps.rises steps.rises_again)
 
   -- it is pinned behind the steps of a pin
   pub pinned_behind : (h n : Local T W) (e : ℕ) → PinSteps h e n → IsPinned n.seat.me.0

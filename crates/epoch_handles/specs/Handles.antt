@@ -77,22 +77,22 @@ pub record Scans {T W : Type 0} (old : Local T W) (expiry : ℕ) (new : Local T 
   pub pin : KeepsPin old new
   pub claimer : new.claimer ≡ old.claimer
   pub machine : new.machine ≡ with_stage old.machine (Take expiry 0)
-  pub reaches : Reaches old.collector.now.places.places old.machine (sight_of old) new.machine (sight_of new) at_start
+  pub reaches : Reaches old.collector.now.places.capacity old.machine (sight_of old) new.machine (sight_of new) at_start
 
 -- It called what was left of the bag in hand: the next bag is looked for, unless this was the last one.
 pub record CallsHand {T W : Type 0} (done : W → Type 0) (old : Local T W) (expiry taken : ℕ) (new : Local T W) : Type 0 where
   pub machine : new.machine ≡ record old.machine { stage = after_job old.machine expiry taken []; hand = [] }
-  pub performed : (c : Cursors) → (log : Log (Job W)) × Performed old.collector.now.places.places old.machine (sight_of old) c log new.machine (sight_of old) c × AreCalled (IsCalled done) log
+  pub performed : (c : Cursors) → (log : Log (Job W)) × Performed old.collector.now.places.capacity old.machine (sight_of old) c log new.machine (sight_of old) c × AreCalled (IsCalled done) log
 
 -- A collection for the epoch x has come to this cursor, and looks for a bag.
 pub record HasTaken {T W : Type 0} (done : W → Type 0) (h : Local T W) (x : ℕ) (cursor : TakeCursor) (n : Local T W) : Type 0 where
   pub taken : ℕ
   pub machine : n.machine ≡ record h.machine { stage = Take x taken; hand = n.machine.hand }
   pub claimer : IsAt h.collector.now.places n.claimer
-  pub at : TakesAt h.collector.now.places.places x cursor n.claimer.me
+  pub at : TakesAt h.collector.now.places.capacity x cursor n.claimer.me
   pub seat : n.seat ≡ h.seat
   pub same : IsSame h n
-  pub performed : (log : Log (Job W)) × Performed h.collector.now.places.places h.machine (sight_of h) at_start log n.machine (sight_of n)
+  pub performed : (log : Log (Job W)) × Performed h.collector.now.places.capacity h.machine (sight_of h) at_start log n.machine (sight_of n)
       (record { put = PutLook 0; take = cursor }) × AreCalled (IsCalled done) log
 
 -- It took bags that are expired for the epoch of its scan, and called their jobs.
@@ -102,7 +102,7 @@ pub record TakesBags {T W : Type 0} (done : W → Type 0) (old new : Local T W) 
   pub seat : new.seat ≡ old.seat
   pub same : IsSame old new
   pub machine : new.machine ≡ record old.machine { stage = after_collect old.machine.action old.machine.held; hand = new.machine.hand }
-  pub performed : (d : Cursors) × (log : Log (Job W)) × Performed old.collector.now.places.places old.machine (sight_of old) at_start log new.machine (sight_of new) d × AreCalled (IsCalled done) log
+  pub performed : (d : Cursors) × (log : Log (Job W)) × Performed old.collector.now.places.capacity old.machine (sight_of old) at_start log new.machine (sight_of new) d × AreCalled (IsCalled done) log
 
 -- It collected: it scanned, and took bags and called their jobs, as many as a collection takes or as it found.
 pub record Collects {T W : Type 0} (done : W → Type 0) (old new : Local T W) : Type 0 where
@@ -111,7 +111,7 @@ pub record Collects {T W : Type 0} (done : W → Type 0) (old new : Local T W) :
   pub same : IsSame old new
   pub pin : KeepsPin old new
   pub machine : new.machine ≡ record old.machine { stage = after_collect old.machine.action old.machine.held; hand = new.machine.hand }
-  pub calls : Calls (IsCalled done) old.collector.now.places.places old.machine (sight_of old) new.machine (sight_of new)
+  pub calls : Calls (IsCalled done) old.collector.now.places.capacity old.machine (sight_of old) new.machine (sight_of new)
 
 -- what the seat left in a place last is a bag of just these jobs, in this order
 abbrev pub IsLeftWhole : {J : Type 0} → List J → PlaceView J → Type 0
@@ -126,7 +126,7 @@ pub record Puts {T W : Type 0} (old new : Local T W) : Type 0 where
   pub machine : (new.machine ≡ record old.machine { stage = after_put old.machine.action false; full = false; held = [] })
       ⊎ (new.machine ≡ record old.machine { stage = after_put old.machine.action true; full = true })
   pub whole : new.machine.full ≡ false → IsLeftWhole old.machine.held new.claimer.me.0
-  pub drives : DrivesStraight old.collector.now.places.places old.machine (sight_of old) new.machine (sight_of new)
+  pub drives : DrivesStraight old.collector.now.places.capacity old.machine (sight_of old) new.machine (sight_of new)
 
 -- The word says what the machine says: pinned in the published epoch while guards are out, and not pinned while none is.
 pub record Agrees {J : Type 0} (m : Machine J) (v : ParticipantView) : Type 0 where
@@ -144,17 +144,17 @@ pub record IsReady {T W : Type 0} (h : Local T W) : Type 0 where
 -- The machine began this action, was driven to its end, and counts its guards from then on.
 abbrev pub Does : {T W : Type 0} → Local T W → Action → Local T W → Type 0
 Does {T} {W} old action new = (last : Machine (Job W)) × (last.stage ≡ End) × (new.machine ≡ ended last)
-    × Drives old.collector.now.places.places (begun action old.machine) (sight_of old) last (sight_of new)
+    × Drives old.collector.now.places.capacity (begun action old.machine) (sight_of old) last (sight_of new)
 
 -- the same of an action whose machine gave no job
 abbrev pub DoesStraight : {T W : Type 0} → Local T W → Action → Local T W → Type 0
 DoesStraight {T} {W} old action new = (last : Machine (Job W)) × (last.stage ≡ End) × (new.machine ≡ ended last)
-    × DrivesStraight old.collector.now.places.places (begun action old.machine) (sight_of old) last (sight_of new)
+    × DrivesStraight old.collector.now.places.capacity (begun action old.machine) (sight_of old) last (sight_of new)
 
 -- the same of an action that collects: each job that its machine gave was called
 abbrev pub DoesAndCalls : {T W : Type 0} → (W → Type 0) → Local T W → Action → Local T W → Type 0
 DoesAndCalls {T} {W} done old action new = (last : Machine (Job W)) × (last.stage ≡ End) × (new.machine ≡ ended last)
-    × Calls (IsCalled done) old.collector.now.places.places (begun action old.machine) (sight_of old) last (sight_of new)
+    × Calls (IsCalled done) old.collector.now.places.capacity (begun action old.machine) (sight_of old) last (sight_of new)
 
 -- the same participant of the same collector, between two calls, with one guard fewer
 pub record IsBetween {T W : Type 0} (old between : Local T W) : Type 0 where

@@ -115,7 +115,7 @@ impl<T: Drop, W: Drop> Collector<T, W> {
         ensures memory { IsOkUnless result NoMemory }
         ensures id { IfOk result (λ collector. collector.id ≡ id) }
         ensures participants { IfOk result (λ collector. collector.participants.positions ≡ capacities.participants) }
-        ensures bags { IfOk result (λ collector. collector.places.places ≡ capacities.bags) }
+        ensures bags { IfOk result (λ collector. collector.places.capacity ≡ capacities.bags) }
         ensures cells { IfOk result (λ collector. vec_len collector.cells.slots ≡ capacities.cells) }
         ensures sizes { IfOk result (λ collector. collector.sizes ≡ sizes_of capacities) }
     {

@@ -15,7 +15,7 @@ impl<T: Drop> Collector<T> {
     /// Ends the collector: calls every job that is left in its places, drops the values that are left in its cells,
     /// and answers how many jobs it called. It tries once for each place to take a bag out.
     pub fn end(self) -> u64
-        ensures called { (after : _) × CallsEach ⟦<Work as Run>⟧.done self.places.places (with_claim None [] [] [] []) after self.places.places result }
+        ensures called { (after : _) × CallsEach ⟦<Work as Run>⟧.done self.places.capacity (with_claim None [] [] [] []) after self.places.capacity result }
     {
         let Collector {
             id: _,
@@ -37,10 +37,10 @@ fn end_places<T: Drop, W: Run>(
 ) -> u64
     requires of { IsOf places.now seat.old }
     requires rests { RestsAt seat.old.me }
-    ensures { CallsEach W.done places.now.places seat.old.me.0 seat.new.me.0 places.now.places result }
+    ensures { CallsEach W.done places.now.capacity seat.old.me.0 seat.new.me.0 places.now.capacity result }
 {
     let mut count = 0;
-    for taken in 0..places.places() {
+    for taken in 0..places.capacity() {
         count += end_one(places, seat, cells);
         let _ = taken;
     }
@@ -58,7 +58,7 @@ fn end_one<T: Drop, W: Run>(
     ensures kept { IsKept seat.old seat.new }
     ensures rests { RestsAt seat.new.me }
     ensures few { result ≤ 64 }
-    ensures called { CallsEach W.done places.now.places seat.old.me.0 seat.new.me.0 1 result }
+    ensures called { CallsEach W.done places.now.capacity seat.old.me.0 seat.new.me.0 1 result }
 {
     let mut bag = places.take_any(seat);
     let count = end_bag(cells, &mut bag);

@@ -11,7 +11,7 @@ use Rattle.epoch_tables.specs.declared.shared_places.view.PlaceView.{PlaceView}
 
 -- what a caller sees of shared places: how many there are, and which table they are
 pub record PlaceBoard : Type 0 where
-  pub places : ℕ
+  pub capacity : ℕ
   pub table : TableId
 
 -- where the word of a place stands: 128 bytes behind the one before

@@ -64,7 +64,7 @@ impl<'c, T: Drop, W: Run> Local<'c, T, W> {
         requires within { expiry < 2 ^ 63 }
         ensures { HasTaken W.done self.old expiry result self.new }
     {
-        let last = self.collector.places.places() - 1;
+        let last = self.collector.places.capacity() - 1;
         for place in 0..last {
             let word = self.collector.places.look(&mut self.claimer, place);
             if is_expired_word(word, Epoch::new(expiry)) {

@@ -47,7 +47,7 @@ impl<'c, T, W> Local<'c, T, W> {
         ensures ends { result ≡ false → DoesStraight self.old Pin self.new }
         ensures ready { result ≡ false → IsReady self.new }
         ensures counted { result ≡ false → self.new.machine.guards ≡ self.old.machine.guards + 1 }
-        ensures drives { result ≡ true → DrivesStraight self.old.collector.now.places.places (begun Pin self.old.machine) (sight_of self.old) self.new.machine (sight_of self.new) }
+        ensures drives { result ≡ true → DrivesStraight self.old.collector.now.places.capacity (begun Pin self.old.machine) (sight_of self.old) self.new.machine (sight_of self.new) }
         ensures seated { result ≡ true → IsSeated self.new }
         ensures rests { result ≡ true → RestsAt self.new.claimer.me }
         ensures pinned { result ≡ true → IsPinned self.new.seat.me.0 }

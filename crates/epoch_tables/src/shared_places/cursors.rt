@@ -20,7 +20,7 @@ impl<J: Default + Drop> SharedPlaces<J> {
     #[inline(always)]
     pub fn start_put(&self) -> PutCursor
         ensures first { result ≡ PutCursor.Look 0 }
-        ensures at { (me : PlaceMe J) → RestsAt me → PutsAt self.now.places result me }
+        ensures at { (me : PlaceMe J) → RestsAt me → PutsAt self.now.capacity result me }
     {
         let _ = &self.table;
         PutCursor::Look(0)
@@ -39,17 +39,17 @@ impl<J: Default + Drop> SharedPlaces<J> {
         held: &mut Bag<J>,
     ) -> PutStep
         requires of { IsOf self.now seat.old }
-        requires at { PutsAt self.now.places cursor.old seat.old.me }
+        requires at { PutsAt self.now.capacity cursor.old seat.old.me }
         ensures kept { IsKept seat.old seat.new }
-        ensures at { result ≡ PutStep.Again → PutsAt self.now.places cursor.new seat.new.me }
+        ensures at { result ≡ PutStep.Again → PutsAt self.now.capacity cursor.new seat.new.me }
         ensures rests { result ≢ PutStep.Again → RestsAt seat.new.me }
-        ensures moves { PutMoves self.now.places cursor.old seat.old.me (record { seal = seal.number; jobs = held.old.jobs }) result cursor.new seat.new.me }
-        ensures fewer { result ≡ PutStep.Again → put_left self.now.places cursor.new < put_left self.now.places cursor.old }
+        ensures moves { PutMoves self.now.capacity cursor.old seat.old.me (record { seal = seal.number; jobs = held.old.jobs }) result cursor.new seat.new.me }
+        ensures fewer { result ≡ PutStep.Again → put_left self.now.capacity cursor.new < put_left self.now.capacity cursor.old }
         ensures done { result ≡ PutStep.Done → held.new.jobs ≡ [] }
         ensures not { result ≢ PutStep.Done → held.new ≡ held.old }
         ensures limit { held.new.limit ≡ held.old.limit }
     {
-        let places = self.places();
+        let places = self.capacity();
         match *cursor {
             PutCursor::Look(place) => {
                 if self.look(seat, place) == EMPTY {
@@ -77,7 +77,7 @@ impl<J: Default + Drop> SharedPlaces<J> {
     #[inline(never)]
     fn fill_with(&self, seat: &mut PlaceSeat<J>, place: usize, seal: Epoch, held: &mut Bag<J>)
         requires of { IsOf self.now seat.old }
-        requires within { place < self.now.places }
+        requires within { place < self.now.capacity }
         requires holds { HoldsAt place None seat.old.me }
         ensures kept { IsKept seat.old seat.new }
         ensures view { seat.new.me ≡ (after_store seat.old.me.0 (Some (record { seal = seal.number; jobs = held.old.jobs })), []) }
@@ -94,7 +94,7 @@ impl<J: Default + Drop> SharedPlaces<J> {
     #[inline(always)]
     pub fn start_take(&self) -> TakeCursor
         ensures first { result ≡ TakeCursor.Look 0 }
-        ensures at { (x : ℕ) (me : PlaceMe J) → RestsAt me → TakesAt self.now.places x result me }
+        ensures at { (x : ℕ) (me : PlaceMe J) → RestsAt me → TakesAt self.now.capacity x result me }
     {
         TakeCursor::Look(0)
     }
@@ -113,16 +113,16 @@ impl<J: Default + Drop> SharedPlaces<J> {
         hand: &mut SealedBag<J>,
     ) -> TakeStep
         requires of { IsOf self.now seat.old }
-        requires at { TakesAt self.now.places expiry.number cursor.old seat.old.me }
+        requires at { TakesAt self.now.capacity expiry.number cursor.old seat.old.me }
         requires empty { hand.old.jobs ≡ [] }
         ensures kept { IsKept seat.old seat.new }
-        ensures at { TakesAt self.now.places expiry.number cursor.new seat.new.me }
+        ensures at { TakesAt self.now.capacity expiry.number cursor.new seat.new.me }
         ensures rests { result ≢ TakeStep.Again → RestsAt seat.new.me }
-        ensures moves { TakeMoves self.now.places expiry.number cursor.old seat.old.me result cursor.new seat.new.me hand.new }
-        ensures fewer { result ≢ TakeStep.Empty → take_left self.now.places cursor.new < take_left self.now.places cursor.old }
+        ensures moves { TakeMoves self.now.capacity expiry.number cursor.old seat.old.me result cursor.new seat.new.me hand.new }
+        ensures fewer { result ≢ TakeStep.Empty → take_left self.now.capacity cursor.new < take_left self.now.capacity cursor.old }
         ensures not { result ≢ TakeStep.Got → hand.new ≡ hand.old }
     {
-        let places = self.places();
+        let places = self.capacity();
         match *cursor {
             TakeCursor::Look(place) => {
                 if place >= places {
@@ -154,7 +154,7 @@ impl<J: Default + Drop> SharedPlaces<J> {
     #[inline(never)]
     fn empty_into(&self, seat: &mut PlaceSeat<J>, place: usize, hand: &mut SealedBag<J>)
         requires of { IsOf self.now seat.old }
-        requires within { place < self.now.places }
+        requires within { place < self.now.capacity }
         requires holds { (bag : Sealed J) × HoldsAt place (Some bag) seat.old.me }
         ensures kept { IsKept seat.old seat.new }
         ensures hand { seat.old.me.1 ≡ (place, Some hand.new) ∷ [] }
@@ -176,9 +176,9 @@ impl<J: Default + Drop> SharedPlaces<J> {
         requires rests { RestsAt seat.old.me }
         ensures kept { IsKept seat.old seat.new }
         ensures rests { RestsAt seat.new.me }
-        ensures tries { TriesEach self.now.places seat.old.me.0 result seat.new.me.0 }
+        ensures tries { TriesEach self.now.capacity seat.old.me.0 result seat.new.me.0 }
     {
-        for place in 0..self.places() {
+        for place in 0..self.capacity() {
             let word = self.look(seat, place);
             if word % 2 == 1 && self.claim(seat, place, word) == word {
                 let mut bag = None;

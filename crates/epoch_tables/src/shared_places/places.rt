@@ -36,7 +36,7 @@ pub type PlaceSeat<J> = Seat<Option<SealedBag<J>>, PlaceView<J>>;
 #[derive(Drop)]
 pub struct SharedPlaces<J> {
     pub(crate) table: Table<Option<SealedBag<J>>, PlaceView<J>, u64, PlaceRule<J>, Global>,
-    places: usize,
+    capacity: usize,
 }
 
 impl<J> Model for SharedPlaces<J> {
@@ -45,14 +45,14 @@ impl<J> Model for SharedPlaces<J> {
 
     ghost Value = { PlaceBoard };
 
-    ghost view = { λ a. record { places = a.places; table = a.table.shared.table_id } };
+    ghost view = { λ a. record { capacity = a.capacity; table = a.table.shared.table_id } };
 
     ghost invariant = { λ a. record {
-      words : a.table.shared.table_id.words ≡ words_for a.places;
-      slots : a.table.shared.table_id.slots ≡ a.places;
-      key : a.table.shared.key ≡ a.places;
-      some : 0 < a.places;
-      most : a.places ≤ 4096;
+      words : a.table.shared.table_id.words ≡ words_for a.capacity;
+      slots : a.table.shared.table_id.slots ≡ a.capacity;
+      key : a.table.shared.key ≡ a.capacity;
+      some : 0 < a.capacity;
+      most : a.capacity ≤ 4096;
     } };
 }
 
@@ -70,7 +70,7 @@ impl<J> SharedPlaces<J> {
     pub fn new(alloc: Global, places: usize) -> Result<SharedPlaces<J>, Fault>
         requires some { 0 < places }
         requires most { places ≤ MOST_PLACES }
-        ensures ok { IfOk result (λ made. made.places ≡ places) }
+        ensures ok { IfOk result (λ made. made.capacity ≡ places) }
         ensures err { IfErr result (λ fault. fault ≡ NoMemory) }
     {
         let vacant: Option<SealedBag<J>> = None;
@@ -85,16 +85,19 @@ impl<J> SharedPlaces<J> {
         let Ok((table, _)) = Table::vacant(alloc, words.as_slice(), places, &(places as u64)) else {
             return Err(Fault::NoMemory);
         };
-        Ok(SharedPlaces { table, places })
+        Ok(SharedPlaces {
+            table,
+            capacity: places,
+        })
     }
 
     /// How many places there are, from 1 to [`MOST_PLACES`].
-    pub fn places(&self) -> usize
-        ensures value { result ≡ self.now.places }
+    pub fn capacity(&self) -> usize
+        ensures value { result ≡ self.now.capacity }
         ensures some { 0 < result }
         ensures most { result ≤ MOST_PLACES }
     {
-        self.places
+        self.capacity
     }
 
     /// A new seat, which has claimed no place. Making it loads a word.

@@ -26,7 +26,7 @@ impl<J> SharedPlaces<J> {
     #[inline(always)]
     pub fn look(&self, seat: &mut PlaceSeat<J>, place: usize) -> u64
         requires of { IsOf self.now seat.old }
-        requires within { place < self.now.places }
+        requires within { place < self.now.capacity }
         ensures kept { IsKept seat.old seat.new }
         ensures answer { IsPlaceWord result }
         ensures view { seat.new.me ≡ (after_look seat.old.me.0 place result, seat.old.me.1) }
@@ -39,7 +39,7 @@ impl<J> SharedPlaces<J> {
     #[inline(always)]
     pub fn claim(&self, seat: &mut PlaceSeat<J>, place: usize, word: u64) -> u64
         requires of { IsOf self.now seat.old }
-        requires within { place < self.now.places }
+        requires within { place < self.now.capacity }
         requires free { seat.old.me.0.claimed ≡ None }
         requires word { word ≢ 2 }
         ensures kept { IsKept seat.old seat.new }
@@ -57,7 +57,7 @@ impl<J> SharedPlaces<J> {
     #[inline(never)]
     pub fn fill(&self, seat: &mut PlaceSeat<J>, place: usize, bag: &mut Option<SealedBag<J>>)
         requires of { IsOf self.now seat.old }
-        requires claimed { (place < self.now.places) × (seat.old.me.0.claimed ≡ Some place) }
+        requires claimed { (place < self.now.capacity) × (seat.old.me.0.claimed ≡ Some place) }
         requires hand { seat.old.me.1 ≡ (place, None) ∷ [] }
         requires bag { (put : Sealed J) × (bag.old ≡ Some put) }
         ensures kept { IsKept seat.old seat.new }
@@ -76,7 +76,7 @@ impl<J> SharedPlaces<J> {
     #[inline(never)]
     pub fn empty(&self, seat: &mut PlaceSeat<J>, place: usize, bag: &mut Option<SealedBag<J>>)
         requires of { IsOf self.now seat.old }
-        requires claimed { (place < self.now.places) × (seat.old.me.0.claimed ≡ Some place) }
+        requires claimed { (place < self.now.capacity) × (seat.old.me.0.claimed ≡ Some place) }
         requires hand { (held : Option (Sealed J)) × (seat.old.me.1 ≡ (place, held) ∷ []) }
         requires none { bag.old ≡ None }
         ensures kept { IsKept seat.old seat.new }

@@ -5,5 +5,5 @@ use Rattle.base_tests.proofs.shared_places.put.Given as goal
 abbrev pub invariant-loop : goal.invariant-loop
 invariant-loop l = record {
   kept : IsKept l.initial.seat l.seat;
-  at : PutsAt l.places.places l.cursor l.seat.me;
+  at : PutsAt l.places.capacity l.cursor l.seat.me;
 }

@@ -6,6 +6,6 @@ use Rattle.base_tests.proofs.shared_places.take.Given as goal
 abbrev pub invariant-loop : goal.invariant-loop
 invariant-loop l = record {
   kept : IsKept l.initial.seat l.seat;
-  at : TakesAt l.places.places l.expiry.number l.cursor l.seat.me;
+  at : TakesAt l.places.capacity l.expiry.number l.cursor l.seat.me;
   empty : l.hand.jobs ≡ [];
 }

@@ -9,5 +9,5 @@ invariant-loop-taken g l = record {
   of : IsOf l.places l.seat;
   rests : RestsAt l.seat.me;
   few : l.count ≤ 64 * l.taken;
-  called : CallsEach g.W.Run.done l.places.places l.fn.seat.me.0 l.seat.me.0 l.taken l.count;
+  called : CallsEach g.W.Run.done l.places.capacity l.fn.seat.me.0 l.seat.me.0 l.taken l.count;
 }

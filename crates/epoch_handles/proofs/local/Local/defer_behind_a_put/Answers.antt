@@ -47,7 +47,7 @@ returns-then-found_full-clause-does g c =
       p.machine,
       ap (λ (z : Machine (Job g.row.W.Denot)). z.stage) is,
       c.end.ensures,
-      λ k. let x = (subst (λ (z : Machine (Job g.row.W.Denot)). DrivesStraight h.collector.now.places.places z (sight_of h) p.machine (sight_of p)) c.begin.ensures c.put.ensures.drives) k in (x.0, x.1, x.2),
+      λ k. let x = (subst (λ (z : Machine (Job g.row.W.Denot)). DrivesStraight h.collector.now.places.capacity z (sight_of h) p.machine (sight_of p)) c.begin.ensures c.put.ensures.drives) k in (x.0, x.1, x.2),
     )
 
 pub returns-then-found_full-clause-ready : goal.returns-then-found_full-clause-ready
@@ -77,7 +77,7 @@ end-requires-2 g c =
 
 pub returns-clause-does : goal.returns-clause-does
 returns-clause-does g c =
-    let h = c.args.self.now in let p = c.put.new.self in let o = c.take.new.self in let places : ℕ = h.collector.now.places.places in
+    let h = c.args.self.now in let p = c.put.new.self in let o = c.take.new.self in let places : ℕ = h.collector.now.places.capacity in
     let at = found_room h.machine c.begin.new.self p.machine c.begin.ensures c.put.ensures.machine (sym c.found_full.ensures ∙ c.if-found_full.false) in (
       o,
       ap (λ (z : Machine (Job g.row.W.Denot)). z.stage) (kept_alone h.machine p.machine o c.args.job at c.take.ensures),

@@ -14,7 +14,7 @@ returns-clause-does g c =
       n,
       ap (λ (z : Machine (Job g.row.W.Denot)). z.stage) (job_kept m b n c.args.job c.requires.room refl refl),
       c.keep_with_room.ensures,
-      λ k. let x = (keep_performed h.collector.now.places.places b (sight_of h) c.args.job (keep_begins m c.requires.room)) k in (x.0, x.1, x.2),
+      λ k. let x = (keep_performed h.collector.now.places.capacity b (sight_of h) c.args.job (keep_begins m c.requires.room)) k in (x.0, x.1, x.2),
     )
 
 pub returns-clause-counted : goal.returns-clause-counted

@@ -15,7 +15,7 @@ use Rattle.epoch_handles.proofs.local.Local.pin.Goals as goal
 pub returns-then-guards-ne0-clause-ends : goal.returns-then-guards-ne0-clause-ends
 returns-then-guards-ne0-clause-ends g c = λ _.
     let some = λ (none : c.args.self.now.machine.guards ≡ 0). c.if-guards-ne0.true (c.guards.ensures ∙ none) in
-    (begun Pin c.args.self.now.machine, pin_asks_nothing c.args.self.now.machine some, c.pin_again.ensures, drives_none c.args.self.now.collector.now.places.places (begun Pin c.args.self.now.machine) (sight_of c.args.self.now))
+    (begun Pin c.args.self.now.machine, pin_asks_nothing c.args.self.now.machine some, c.pin_again.ensures, drives_none c.args.self.now.collector.now.places.capacity (begun Pin c.args.self.now.machine) (sight_of c.args.self.now))
 
 pub returns-then-guards-ne0-clause-ready : goal.returns-then-guards-ne0-clause-ready
 returns-then-guards-ne0-clause-ready g c = λ _.
@@ -61,7 +61,7 @@ returns-clause-ends g c = λ stops.
 pub returns-clause-drives : goal.returns-clause-drives
 returns-clause-drives g c = λ collects.
     let h = c.args.self.now in let e : ℕ = c.load_epoch-epoch.result in let w = c.publish_steps.new.self in let first = first_of g c in
-    subst (λ z. DrivesStraight h.collector.now.places.places (begun Pin h.machine) (sight_of h) z (sight_of w)) (sym (first.machine.follows collects first.steps.again))
+    subst (λ z. DrivesStraight h.collector.now.places.capacity (begun Pin h.machine) (sight_of h) z (sight_of w)) (sym (first.machine.follows collects first.steps.again))
     (pin_drives h (record w { machine = h.machine }) (begun Pin h.machine) e (pin_begins h.machine first.none) first.steps)
 
 pub returns-clause-pinned : goal.returns-clause-pinned

@@ -18,7 +18,7 @@ stage_is_end m a held at is = at ∙ ap (λ (z : Action). after_collect z held) 
 pub returns-then-not-pin-clause-called : goal.returns-then-not-pin-clause-called
 returns-then-not-pin-clause-called g c =
     let h = c.args.self.now in let n = c.pin.new.self in let does = c.pin.ensures.ends c.if-not-pin.true in
-    (does.0, does.1, does.2, calls_of (IsCalled g.W.Run.done) h.collector.now.places.places (begun Pin h.machine) does.0 (sight_of h) (sight_of n) does.3)
+    (does.0, does.1, does.2, calls_of (IsCalled g.W.Run.done) h.collector.now.places.capacity (begun Pin h.machine) does.0 (sight_of h) (sight_of n) does.3)
 
 pub returns-then-not-pin-clause-counted : goal.returns-then-not-pin-clause-counted
 returns-then-not-pin-clause-counted g c = c.pin.ensures.counted c.if-not-pin.true
@@ -44,9 +44,9 @@ returns-clause-called g c =
       o.machine,
       stage_is_end o.machine n.machine.action n.machine.held (ap (λ (z : Machine (Job g.row.W.Denot)). z.stage) is) left.1,
       c.end.ensures,
-      calls_on (IsCalled g.W.Run.done) h.collector.now.places.places (begun Pin h.machine) n.machine o.machine (sight_of h) (sight_of n) (sight_of o)
-          (calls_of (IsCalled g.W.Run.done) h.collector.now.places.places (begun Pin h.machine) n.machine (sight_of h) (sight_of n) (told.drives collects))
-          (subst (λ z. Calls (IsCalled g.W.Run.done) z.now.places.places n.machine (sight_of n) o.machine (sight_of o)) told.same.collector c.collect.ensures.calls),
+      calls_on (IsCalled g.W.Run.done) h.collector.now.places.capacity (begun Pin h.machine) n.machine o.machine (sight_of h) (sight_of n) (sight_of o)
+          (calls_of (IsCalled g.W.Run.done) h.collector.now.places.capacity (begun Pin h.machine) n.machine (sight_of h) (sight_of n) (told.drives collects))
+          (subst (λ z. Calls (IsCalled g.W.Run.done) z.now.places.capacity n.machine (sight_of n) o.machine (sight_of o)) told.same.collector c.collect.ensures.calls),
     )
 
 pub returns-clause-counted : goal.returns-clause-counted

@@ -36,7 +36,7 @@ returns-then-ne g c =
 pub loop-cursor-smaller : goal.loop-cursor-smaller
 loop-cursor-smaller g c =
     let again : c.put_shared-step.result ≡ Again = differs_false the_type (search rules) _ _ (sym c.if-ne.ensures) in
-    subst (λ z. put_left z.now.places.places c.put_shared-step.new.cursor < put_left z.now.places.places c.loop-cursor.cursor) c.loop-cursor.invariant.same.collector
+    subst (λ z. put_left z.now.places.capacity c.put_shared-step.new.cursor < put_left z.now.places.capacity c.loop-cursor.cursor) c.loop-cursor.invariant.same.collector
     (c.put_shared-step.ensures.fewer again)
 
 pub loop-cursor-preserved : goal.loop-cursor-preserved
@@ -45,5 +45,5 @@ loop-cursor-preserved g c =
     let again : c.put_shared-step.result ≡ Again = differs_false the_type (search rules) _ _ (sym c.if-ne.ensures) in
     put_again c.args.self.now n c.load_epoch-seal.result c.loop-cursor.cursor c.put_shared-step.new.cursor c.put_shared-step.new.self c.put_shared-step.new.seat
     c.loop-cursor.invariant (told.after ∙ ap (λ z. put_heard n.machine z) again) told.kept (told.at again)
-    (subst (λ z. PutMoves n.collector.now.places.places c.loop-cursor.cursor n.claimer.me (record { seal = c.load_epoch-seal.result; jobs = n.machine.held }) z c.put_shared-step.new.cursor c.put_shared-step.new.seat.me) again
+    (subst (λ z. PutMoves n.collector.now.places.capacity c.loop-cursor.cursor n.claimer.me (record { seal = c.load_epoch-seal.result; jobs = n.machine.held }) z c.put_shared-step.new.cursor c.put_shared-step.new.seat.me) again
     (told.moves c.load_epoch-seal.result (ap (λ (z : Machine (Job g.row.W.Denot)). ask_at z.stage) c.loop-cursor.invariant.machine)))

@@ -15,7 +15,7 @@ pub returns-then-guards-ne1-clause-does : goal.returns-then-guards-ne1-clause-do
 returns-then-guards-ne1-clause-does g c =
     let m = c.args.self.now.machine in
     let other = λ (one : m.guards ≡ 1). c.if-guards-ne1.true (c.guards.ensures ∙ one) in
-    (begun Repin m, repin_asks_nothing m other, c.repin_none.ensures, λ k. let x = (drives_none c.args.self.now.collector.now.places.places (begun Repin m) (sight_of c.args.self.now)) k in (x.0, x.1, x.2))
+    (begun Repin m, repin_asks_nothing m other, c.repin_none.ensures, λ k. let x = (drives_none c.args.self.now.collector.now.places.capacity (begun Repin m) (sight_of c.args.self.now)) k in (x.0, x.1, x.2))
 
 pub returns-then-guards-ne1-clause-ready : goal.returns-then-guards-ne1-clause-ready
 returns-then-guards-ne1-clause-ready g c =
@@ -38,8 +38,8 @@ returns-then-published-epoch-clause-does g c =
       (repin_leaves h.machine e one same).1,
       subst (λ z. c.repin_only.new.self ≡ ended (heard (begun Repin z) (Epoch e))) steps.machine
           (c.repin_only.ensures.same (ap (λ (z : Machine (Job g.row.W.Denot)). z.published) steps.machine ∙ same)),
-      λ k. let x = (subst (λ z. DrivesStraight h.collector.now.places.places (begun Repin h.machine) (sight_of h) (heard (begun Repin h.machine) (Epoch e)) z) (sym (sight_behind h n _ steps))
-          (repin_same_performed h.collector.now.places.places (begun Repin h.machine) (sight_of h) e (repin_begins h.machine one) c.load_epoch-epoch.ensures.rises)) k in (x.0, x.1, x.2),
+      λ k. let x = (subst (λ z. DrivesStraight h.collector.now.places.capacity (begun Repin h.machine) (sight_of h) (heard (begun Repin h.machine) (Epoch e)) z) (sym (sight_behind h n _ steps))
+          (repin_same_performed h.collector.now.places.capacity (begun Repin h.machine) (sight_of h) e (repin_begins h.machine one) c.load_epoch-epoch.ensures.rises)) k in (x.0, x.1, x.2),
     )
 
 pub returns-then-published-epoch-clause-counted : goal.returns-then-published-epoch-clause-counted
@@ -82,9 +82,9 @@ returns-clause-does g c =
       (repin_moved_leaves h.machine e steps.again one moved).1,
       subst (λ z. c.repin_only-2.new.self ≡ ended (heard (heard (heard (begun Repin z) (Epoch e)) Stored) (Epoch steps.again))) same
           (c.repin_only-2.ensures.moved (λ (is : c.load_epoch.new.self.machine.published ≡ e). moved (sym (ap (λ (z : Machine (Job g.row.W.Denot)). z.published) same) ∙ is)) steps.again),
-      λ k. let x = (subst (λ z. DrivesStraight h.collector.now.places.places (begun Repin h.machine) (sight_of h) (heard (heard (heard (begun Repin h.machine) (Epoch e)) Stored) (Epoch steps.again)) z)
+      λ k. let x = (subst (λ z. DrivesStraight h.collector.now.places.capacity (begun Repin h.machine) (sight_of h) (heard (heard (heard (begun Repin h.machine) (Epoch e)) Stored) (Epoch steps.again)) z)
           (sym (sight_behind h c.load_epoch.new.self _ steps.steps))
-          (repin_moved_performed h.collector.now.places.places h.machine (sight_of h) e steps.again one moved steps.rises steps.rises_again)) k in (x.0, x.1, x.2),
+          (repin_moved_performed h.collector.now.places.capacity h.machine (sight_of h) e steps.again one moved steps.rises steps.rises_again)) k in (x.0, x.1, x.2),
     )
 
 pub returns-clause-counted : goal.returns-clause-counted

@@ -22,8 +22,8 @@ take_shared-step-requires g c =
           (x, asked),
           (
             subst (λ z. IsAt z.now.places n.claimer) (sym taken.same.collector) taken.claimer,
-            λ y is. subst (λ z. TakesAt z.now.places.places y c.bags.cursor n.claimer.me) (sym taken.same.collector)
-                (subst (λ (z : ℕ). TakesAt c.args.self.now.collector.now.places.places z c.bags.cursor n.claimer.me) (one_bag_asked x y (sym asked ∙ is)) taken.at),
+            λ y is. subst (λ z. TakesAt z.now.places.capacity y c.bags.cursor n.claimer.me) (sym taken.same.collector)
+                (subst (λ (z : ℕ). TakesAt c.args.self.now.collector.now.places.capacity z c.bags.cursor n.claimer.me) (one_bag_asked x y (sym asked ∙ is)) taken.at),
           ),
         ),
       ),
@@ -39,9 +39,9 @@ bags-preserved-in-Again g c =
       take_again g.W.Run.done h n x c.bags.cursor c.take_shared-step.new.cursor c.take_shared-step.new.self c.take_shared-step.new.seat moved.0 taken
           (subst (λ (step : TakeStep). c.take_shared-step.new.self ≡ took_heard n.machine n.machine.stage step c.take_shared-step.new.self.hand) c.in-Again.is told.after)
           (told.kept.0 ∙ taken.claimer)
-          (subst (λ z. TakesAt z.now.places.places x c.take_shared-step.new.cursor c.take_shared-step.new.seat.me) places (told.at x asked))
-          (subst (λ (step : TakeStep). TakeMoves h.collector.now.places.places x c.bags.cursor n.claimer.me step c.take_shared-step.new.cursor c.take_shared-step.new.seat.me moved.0) c.in-Again.is
-          (subst (λ z. TakeMoves z.now.places.places x c.bags.cursor n.claimer.me c.take_shared-step.result c.take_shared-step.new.cursor c.take_shared-step.new.seat.me moved.0) places moved.2)),
+          (subst (λ z. TakesAt z.now.places.capacity x c.take_shared-step.new.cursor c.take_shared-step.new.seat.me) places (told.at x asked))
+          (subst (λ (step : TakeStep). TakeMoves h.collector.now.places.capacity x c.bags.cursor n.claimer.me step c.take_shared-step.new.cursor c.take_shared-step.new.seat.me moved.0) c.in-Again.is
+          (subst (λ z. TakeMoves z.now.places.capacity x c.bags.cursor n.claimer.me c.take_shared-step.result c.take_shared-step.new.cursor c.take_shared-step.new.seat.me moved.0) places moved.2)),
     )
 
 pub returns-in-Empty : goal.returns-in-Empty
@@ -54,8 +54,8 @@ returns-in-Empty g c =
     (subst (λ (step : TakeStep). c.take_shared-step.new.self ≡ took_heard n.machine n.machine.stage step c.take_shared-step.new.self.hand) c.in-Empty.is told.after)
     (told.kept.0 ∙ taken.claimer)
     (told.rests (λ again. absurd (cc (c.in-Empty.is, again))))
-    (subst (λ (step : TakeStep). TakeMoves h.collector.now.places.places x c.bags.cursor n.claimer.me step c.take_shared-step.new.cursor c.take_shared-step.new.seat.me moved.0) c.in-Empty.is
-    (subst (λ z. TakeMoves z.now.places.places x c.bags.cursor n.claimer.me c.take_shared-step.result c.take_shared-step.new.cursor c.take_shared-step.new.seat.me moved.0) places moved.2))
+    (subst (λ (step : TakeStep). TakeMoves h.collector.now.places.capacity x c.bags.cursor n.claimer.me step c.take_shared-step.new.cursor c.take_shared-step.new.seat.me moved.0) c.in-Empty.is
+    (subst (λ z. TakeMoves z.now.places.capacity x c.bags.cursor n.claimer.me c.take_shared-step.result c.take_shared-step.new.cursor c.take_shared-step.new.seat.me moved.0) places moved.2))
 
 pub is_taking-requires : goal.is_taking-requires
 is_taking-requires g c = omega arith

@@ -7,4 +7,4 @@ abbrev pub invariant-bags : goal.invariant-bags
 invariant-bags g l = (x : ℕ) × HasTaken g.W.Run.done l.fn.self x l.cursor l.self
 
 abbrev pub decreases-bags : goal.decreases-bags
-decreases-bags g l = take_left l.fn.self.collector.now.places.places l.cursor
+decreases-bags g l = take_left l.fn.self.collector.now.places.capacity l.cursor

@@ -18,8 +18,8 @@ returns-then-guards-eq1-clause-does g c =
       heard (begun Unpin h.machine) Stored,
       (unpin_leaves h.machine one).1,
       subst (λ z. c.unpin_last.new.self ≡ ended (heard (begun Unpin z) Stored)) steps.machine c.unpin_last.ensures,
-      λ k. let x = (subst (λ z. DrivesStraight h.collector.now.places.places (begun Unpin h.machine) (sight_of h) (heard (begun Unpin h.machine) Stored) z) (sym (sight_behind h n _ steps))
-          (unpin_performed h.collector.now.places.places (begun Unpin h.machine) (sight_of h) (unpin_begins h.machine one))) k in (x.0, x.1, x.2),
+      λ k. let x = (subst (λ z. DrivesStraight h.collector.now.places.capacity (begun Unpin h.machine) (sight_of h) (heard (begun Unpin h.machine) Stored) z) (sym (sight_behind h n _ steps))
+          (unpin_performed h.collector.now.places.capacity (begun Unpin h.machine) (sight_of h) (unpin_begins h.machine one))) k in (x.0, x.1, x.2),
     )
 
 pub returns-then-guards-eq1-clause-ready : goal.returns-then-guards-eq1-clause-ready
@@ -40,7 +40,7 @@ pub returns-else-guards-eq1-clause-does : goal.returns-else-guards-eq1-clause-do
 returns-else-guards-eq1-clause-does g c =
     let m = c.args.self.now.machine in
     let more = λ (one : m.guards ≡ 1). c.if-guards-eq1.false (c.guards.ensures ∙ one) in
-    (begun Unpin m, unpin_asks_nothing m more, c.unpin_one.ensures, λ k. let x = (drives_none c.args.self.now.collector.now.places.places (begun Unpin m) (sight_of c.args.self.now)) k in (x.0, x.1, x.2))
+    (begun Unpin m, unpin_asks_nothing m more, c.unpin_one.ensures, λ k. let x = (drives_none c.args.self.now.collector.now.places.capacity (begun Unpin m) (sight_of c.args.self.now)) k in (x.0, x.1, x.2))
 
 pub returns-else-guards-eq1-clause-ready : goal.returns-else-guards-eq1-clause-ready
 returns-else-guards-eq1-clause-ready g c =

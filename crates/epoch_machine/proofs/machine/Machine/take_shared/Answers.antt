@@ -13,7 +13,7 @@ take_step-step-requires g c =
       (
         c.requires.of,
         (
-          subst (λ (x : ℕ). TakesAt c.args.places.now.places x c.args.cursor.now c.args.seat.now.me) (sym c.new.ensures.number) (c.requires.at c.in-Take.expiry asked),
+          subst (λ (x : ℕ). TakesAt c.args.places.now.capacity x c.args.cursor.now c.args.seat.now.me) (sym c.new.ensures.number) (c.requires.at c.in-Take.expiry asked),
           none_in_hand c.self.inside.hand.jobs c.self.inside.stage c.in-Take.expiry c.in-Take.taken c.in-Take.is c.self.invariant.hand,
         ),
       ),

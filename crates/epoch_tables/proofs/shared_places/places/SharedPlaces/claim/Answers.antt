@@ -4,7 +4,7 @@ use Rattle.epoch_tables.proofs.PlaceClaims.{place_claim_keeps}
 use Rattle.epoch_tables.proofs.shared_places.places.SharedPlaces.claim.Goals as goal
 
 pub compare_exchange-requires : goal.compare_exchange-requires
-compare_exchange-requires g c = let same : c.self.inside.places ≡ c.args.self.now.places = ap (λ (b : PlaceBoard). b.places) c.self.view_is in
+compare_exchange-requires g c = let same : c.self.inside.capacity ≡ c.args.self.now.capacity = ap (λ (b : PlaceBoard). b.capacity) c.self.view_is in
     let wide = c.self.invariant.words in
     let key = c.self.invariant.key in
     let below = c.requires.within in

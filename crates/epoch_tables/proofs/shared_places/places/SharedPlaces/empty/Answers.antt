@@ -6,7 +6,7 @@ use Rattle.epoch_tables.proofs.shared_places.places.SharedPlaces.empty.Goals as 
 
 -- the slot goes home with what `bag` was, which is nothing
 pub store-requires : goal.store-requires
-store-requires g c = let same : c.self.inside.places ≡ c.args.self.now.places = ap (λ (b : PlaceBoard). b.places) c.self.view_is in
+store-requires g c = let same : c.self.inside.capacity ≡ c.args.self.now.capacity = ap (λ (b : PlaceBoard). b.capacity) c.self.view_is in
     let wide = c.self.invariant.words in
     let below = c.requires.claimed.0 in
     let bag = c.swap.new.x in

@@ -10,7 +10,7 @@ slot_mut-requires g c = let in_hand = c.requires.holds.1.1 in let place : ℕ = 
 
 -- the slot goes home with nothing
 pub store-requires : goal.store-requires
-store-requires g c = let same : c.self.inside.places ≡ c.args.self.now.places = ap (λ (b : PlaceBoard). b.places) c.self.view_is in
+store-requires g c = let same : c.self.inside.capacity ≡ c.args.self.now.capacity = ap (λ (b : PlaceBoard). b.capacity) c.self.view_is in
     let wide = c.self.invariant.words in
     let below = c.requires.within in
     let left = c.take.new.self in

@@ -7,7 +7,7 @@ use Rattle.epoch_tables.proofs.shared_places.places.SharedPlaces.fill_with.Goals
 
 -- the slot goes home with the bag put, under this seal
 pub store-requires : goal.store-requires
-store-requires g c = let same : c.self.inside.places ≡ c.args.self.now.places = ap (λ (b : PlaceBoard). b.places) c.self.view_is in
+store-requires g c = let same : c.self.inside.capacity ≡ c.args.self.now.capacity = ap (λ (b : PlaceBoard). b.capacity) c.self.view_is in
     let wide = c.self.invariant.words in
     let below = c.requires.within in
     let bag : Sealed g.row.J.Denot = record { seal = c.args.seal.number; jobs = c.args.held.now.jobs } in
