@@ -1,5 +1,5 @@
 ghost use Rattle.std.specs.Prelude.{◌≡◌, ◌≢◌, ◌≤◌};
-ghost use Rattle.epoch_tables.specs.SharedPlaces.{IsOf, IsKept};
+ghost use Rattle.epoch_tables.specs.SharedPlaces.{IsPlaceSeatOf, IsSamePlaceSeat};
 ghost use Rattle.epoch_tables.specs.SharedSteps.{RestsAt, TakesAt};
 
 use crate::wants::{bag_of, want, want_put_on, want_take_on, want_word};
@@ -11,10 +11,10 @@ use std::process::Abort;
 
 /// A put of this one job until it has ended, which it does within three steps a place.
 fn put(places: &SharedPlaces<u64>, seat: &mut PlaceSeat<u64>, seal: u64, job: u64) -> PutStep
-    requires of { IsOf places.now seat.old }
+    requires of { IsPlaceSeatOf places.now seat.old }
     requires rests { RestsAt seat.old.me }
     requires seal { seal ≤ GREATEST_EPOCH }
-    ensures kept { IsKept seat.old seat.new }
+    ensures kept { IsSamePlaceSeat seat.old seat.new }
     ensures rests { result ≢ PutStep.Again → RestsAt seat.new.me }
 {
     let mut held = bag_of(job);
@@ -35,9 +35,9 @@ fn take(
     cursor: &mut TakeCursor,
     expiry: Epoch,
 ) -> (TakeStep, Option<u64>)
-    requires of { IsOf places.now seat.old }
+    requires of { IsPlaceSeatOf places.now seat.old }
     requires at { TakesAt places.now.capacity expiry.number cursor.old seat.old.me }
-    ensures kept { IsKept seat.old seat.new }
+    ensures kept { IsSamePlaceSeat seat.old seat.new }
     ensures at { TakesAt places.now.capacity expiry.number cursor.new seat.new.me }
 {
     let mut hand = Bag::new().seal(Epoch::starting());
@@ -230,9 +230,9 @@ fn a_collection_takes_the_expired_bags_one_after_the_other(rt: HostRuntime) -> R
 
 /// The job of some bag that an end takes.
 fn job_at_end(places: &SharedPlaces<u64>, seat: &mut PlaceSeat<u64>) -> Option<u64>
-    requires of { IsOf places.now seat.old }
+    requires of { IsPlaceSeatOf places.now seat.old }
     requires rests { RestsAt seat.old.me }
-    ensures kept { IsKept seat.old seat.new }
+    ensures kept { IsSamePlaceSeat seat.old seat.new }
     ensures rests { RestsAt seat.new.me }
 {
     let mut bag = places.take_any(seat)?;

@@ -1,6 +1,6 @@
 //! Threads that share the tables, each for a bounded number of rounds.
 ghost use Rattle.std.specs.Prelude.{◌≡◌, ◌<◌, ◌≤◌, Some};
-ghost use Rattle.epoch_tables.specs.Table.{IsOf, IsKept};
+ghost use Rattle.epoch_tables.specs.Table.{IsOf, IsSameSeat};
 
 use crate::wants::want;
 use epoch_base::queue::SharedPlaces;
@@ -15,7 +15,7 @@ use std::thread;
 fn pin_and_advance(table: &Participants, seat: &mut ParticipantSeat, position: usize) -> u64
     requires of { IsOf table.now seat.old }
     requires own { (seat.old.me.0.position ≡ Some position) × (position < table.now.positions) }
-    ensures kept { IsKept seat.old seat.new }
+    ensures kept { IsSameSeat seat.old seat.new }
     ensures own { seat.new.me.0.position ≡ Some position }
 {
     let published = table.load_epoch(seat) / 2;

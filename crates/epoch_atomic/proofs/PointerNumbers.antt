@@ -2,10 +2,10 @@
 use Rattle.std.specs.Prelude.{◌≡◌, ℕ, ◌<◌, Option, Some, None}
 use Rattle.std.proofs.Common.{arith}
 use Rattle.epoch_cells.specs.declared.cells.name.Name.{Name}
-use Rattle.epoch_atomic.specs.Pointers.{word_of, SameName}
+use Rattle.epoch_atomic.specs.Pointers.{tagged_word, SameName}
 
 pub of_one_pointer : (one other : Option Name) (s t : ℕ) → s < 256 → t < 256
-    → word_of one s ≡ word_of other t
+    → tagged_word one s ≡ tagged_word other t
     → SameName one other × (s ≡ t)
 of_one_pointer None None s t s_below t_below same = (tt, same)
 of_one_pointer None (Some name) s t s_below t_below same = absurd (omega (arith, name.some))

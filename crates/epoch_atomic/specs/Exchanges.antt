@@ -1,6 +1,6 @@
 -- How an exchange that isn't made may end.
 use Rattle.std.specs.Prelude.{◌≢◌, ℕ, ◌%◌}
-use Rattle.epoch_atomic.specs.Pointers.{word_of, Reads, IsUnder}
+use Rattle.epoch_atomic.specs.Pointers.{tagged_word, Reads, IsUnder}
 use Rattle.epoch_atomic.specs.declared.atomic.shared.Shared.{Shared}
 use Rattle.epoch_atomic.specs.declared.atomic.exchange.ExchangeFault.{ExchangeFault}
 use Rattle.epoch_atomic.specs.declared.atomic.exchange.ExchangeFault.TheVariants.{Changed, Full, Stuck}
@@ -23,7 +23,7 @@ OnStuck _ P = Unit {0}
 -- The pointer found is what a word reads as that isn't the word of the current one.
 abbrev pub FindsAnother : {T : Type 0} (align : ℕ) (current found : Shared T) → Type 0
 FindsAnother align current found =
-    (word : ℕ) × (word ≢ word_of current.name (current.tag % align)) × Reads align word found.name found.tag
+    (word : ℕ) × (word ≢ tagged_word current.name (current.tag % align)) × Reads align word found.name found.tag
 
 -- The pointer found, or the one to the value that is stuck, was got under a guard of the collector with this number.
 abbrev pub AnswersUnder : {T P : Type 0} → ℕ → ExchangeFault T P → Type 0

@@ -15,9 +15,9 @@ abbrev pub turn_in : ℕ → ℕ
 turn_in word = word / 4294967296
 
 -- the word of a name, or of null, and a tag
-abbrev pub word_of : Option Name → ℕ → ℕ
-word_of None tag = tag
-word_of (Some name) tag = name.turn * 4294967296 + name.slot * 256 + tag
+abbrev pub tagged_word : Option Name → ℕ → ℕ
+tagged_word None tag = tag
+tagged_word (Some name) tag = name.turn * 4294967296 + name.slot * 256 + tag
 
 -- what a pointer's word always is: null has turn 0
 abbrev pub IsPointerWord : ℕ → Type 0
@@ -42,7 +42,7 @@ BecomesBelow align becomes name tag = (exact : ℕ) × becomes name exact × (ta
 
 -- It is the word of a pointer that this becomes, whose tag is taken modulo the alignment.
 abbrev pub BecomesWord : (align : ℕ) → (Option Name → ℕ → Type 0) → ℕ → Type 0
-BecomesWord align becomes word = (name : Option Name) × (exact : ℕ) × becomes name exact × (word ≡ word_of name (exact % align))
+BecomesWord align becomes word = (name : Option Name) × (exact : ℕ) × becomes name exact × (word ≡ tagged_word name (exact % align))
 
 -- Both become a pointer with one name and one tag.
 abbrev pub BecomesBoth : (Option Name → ℕ → Type 0) → (Option Name → ℕ → Type 0) → Type 0

@@ -4,7 +4,7 @@ use Rattle.std.proofs.lemmas.List.{get_or_past}
 use Rattle.std.specs.Option.{option_to_list}
 use Rattle.epoch_bags.specs.Bags.{Sealed, IsExpired}
 use Rattle.epoch_bags.specs.Stores.{AllExpired, FindsBag}
-use Rattle.epoch_bags.specs.PlaceLists.{PlaceList, ArePlaces, is_place, bags_in, IsClaimedAt, Empties, Leaves}
+use Rattle.epoch_bags.specs.PlaceLists.{PlaceList, ArePlaces, is_place, bags_in, IsClaimedAt, Empties, LeavesPlace}
 use Rattle.epoch_bags.specs.Places.{take_place, tells_expired, one_if, words_expired, home_expired, bags_ahead}
 use Rattle.epoch_bags.specs.declared.queue.TakeStep.{TakeStep}
 use Rattle.epoch_bags.specs.declared.queue.TakeStep.TheVariants.{Again as TakeAgain, Empty}
@@ -120,7 +120,7 @@ ahead_got {J} x old new at bag emptied expired =
     omega (arith, one, behind_set x old.words new.words at 0 emptied.words)
 
 -- a collection goes on behind a place that it let go
-pub ahead_left : {J : Type 0} (x : ℕ) (old new : PlaceList J) (at : ℕ) → Leaves x old at new → bags_ahead x new (TakeLook (at + 1)) ≡ bags_ahead x old (TakeEmpty at)
+pub ahead_left : {J : Type 0} (x : ℕ) (old new : PlaceList J) (at : ℕ) → LeavesPlace x old at new → bags_ahead x new (TakeLook (at + 1)) ≡ bags_ahead x old (TakeEmpty at)
 ahead_left {J} x old new at left =
     omega (arith, none (slice_index_or old.bags at None) refl, words_same x old.words new.words (at + 1) left.as_many (λ k le. left.others k (λ same. absurd (omega arith))))
   where

@@ -3,7 +3,7 @@ use Rattle.std.proofs.Common.{◌≡◌, ◌≢◌, ℕ, zero, suc, ◌<◌, ◌
 use Rattle.epoch_bags.specs.Bags.{Sealed}
 use Rattle.epoch_bags.specs.Stores.{how_many}
 use Rattle.epoch_bags.specs.Queues.{first_occupied}
-use Rattle.epoch_bags.specs.PlaceLists.{PlaceList, is_place, bags_in, taken_places, homes_taken, IsReservedAt, Leaves}
+use Rattle.epoch_bags.specs.PlaceLists.{PlaceList, is_place, bags_in, taken_places, homes_taken, IsReservedAt, LeavesPlace}
 use Rattle.epoch_bags.specs.Places.{ReservesAt, ClaimsAt}
 use Rattle.epoch_bags.specs.declared.queue.places.PutCursor.{PutCursor}
 use Rattle.epoch_bags.specs.declared.queue.places.PutCursor.TheVariants.{Look as PutLook, Claim as PutClaim, Fill as PutFill}
@@ -95,7 +95,7 @@ reserves_less {J} old new at word place home within other words bags reserved = 
 ]
 
 -- a place that is let go is not claimed
-pub reserves_left : {J : Type 0} (x : ℕ) (old new : PlaceList J) (at place : ℕ) → Leaves x old at new → IsReservedAt new place → IsReservedAt old place × (place ≢ at)
+pub reserves_left : {J : Type 0} (x : ℕ) (old new : PlaceList J) (at place : ℕ) → LeavesPlace x old at new → IsReservedAt new place → IsReservedAt old place × (place ≢ at)
 reserves_left {J} x old new at place left reserved = elim (same_or_not place at) [
   | inl here ↦ absurd (left.unclaimed (ap (λ k. slice_index_or new.words k 0) (sym here) ∙ reserved.0))
   | inr differs ↦ (

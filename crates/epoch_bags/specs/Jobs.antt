@@ -7,9 +7,9 @@ use Rattle.epoch_bags.specs.declared.job.Called.{Called}
 use Rattle.epoch_bags.specs.declared.job.Called.TheVariants.{Ran}
 
 -- `Ran` is said of a caller's job, and of that alone
-abbrev pub Answers : {W : Type 0} → Job W → Called → Type 0
-Answers (Call work) called = called ≡ Ran
-Answers (Remove name) called = called ≢ Ran
+abbrev pub AnswersJob : {W : Type 0} → Job W → Called → Type 0
+AnswersJob (Call work) called = called ≡ Ran
+AnswersJob (Remove name) called = called ≢ Ran
 
 -- The work of a caller's job was called: `done` is what its call shows. What came of a removal is told by the answer.
 abbrev pub IsCalled : {W : Type 0} → (W → Type 0) → Job W → Type 0

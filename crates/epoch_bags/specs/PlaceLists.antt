@@ -62,7 +62,7 @@ pub record Empties {J : Type 0} (old : PlaceList J) (place : ℕ) (bag : Sealed 
   pub bags : new.bags ≡ slice_set old.bags place None
 
 -- No bag moves, the place is not left claimed, and a bag at home there is not expired for the epoch x.
-pub record Leaves {J : Type 0} (x : ℕ) (old : PlaceList J) (place : ℕ) (new : PlaceList J) : Type 0 where
+pub record LeavesPlace {J : Type 0} (x : ℕ) (old : PlaceList J) (place : ℕ) (new : PlaceList J) : Type 0 where
   pub bags : new.bags ≡ old.bags
   pub as_many : length new.words ≡ length old.words
   pub unclaimed : slice_index_or new.words place 0 ≢ 2

@@ -1,7 +1,7 @@
 //! Jobs: what is called once, when nobody who was pinned at its deferral is pinned any more.
 ghost use Rattle.std.specs.Prelude.{◌≡◌, [], ◌∷◌, None, MatchOption, IfSome};
 ghost use Rattle.epoch_cells.specs.declared.cells.name.Name.{Name};
-ghost use Rattle.epoch_bags.specs.Jobs.{Answers, IsCalled, IsTried};
+ghost use Rattle.epoch_bags.specs.Jobs.{AnswersJob, IsCalled, IsTried};
 
 use crate::bag::SealedBag;
 use epoch_cells::{Cells, Name, Removal};
@@ -97,7 +97,7 @@ impl<W: Run> Job<W> {
     /// Calls the job, and says what that did.
     #[inline(always)]
     pub fn call<T: Drop>(self, cells: &Cells<T>) -> Called
-        ensures answers { Answers self result }
+        ensures answers { AnswersJob self result }
         ensures called { IsCalled W.done self }
         ensures tried { IsTried W.Removing.tried self }
     {
@@ -118,7 +118,7 @@ impl<W: Run> Job<W> {
 impl<W: Run> SealedBag<Job<W>> {
     /// Takes the oldest job out and calls it. `None` exactly where none is left.
     pub fn call_next<T: Drop>(&mut self, cells: &Cells<T>) -> Option<Called>
-        ensures called { MatchOption result (self.old.jobs ≡ []) (λ called. (job : _) × (self.old.jobs ≡ job ∷ self.new.jobs) × Answers job called × IsCalled W.done job × IsTried W.Removing.tried job) }
+        ensures called { MatchOption result (self.old.jobs ≡ []) (λ called. (job : _) × (self.old.jobs ≡ job ∷ self.new.jobs) × AnswersJob job called × IsCalled W.done job × IsTried W.Removing.tried job) }
         ensures none { result ≡ None → self.new ≡ self.old }
         ensures seal { self.new.seal ≡ self.old.seal }
     {

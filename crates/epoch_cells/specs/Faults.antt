@@ -3,20 +3,20 @@ use Rattle.std.specs.Prelude.{ℕ}
 use Rattle.epoch_cells.specs.declared.fault.Fault.{Fault}
 use Rattle.epoch_cells.specs.declared.fault.Fault.TheVariants.{TableFull, CellsFull, BagsFull, NoMemory, Busy, Idle, NotRegistered, StrangerGuard, GuardsOut, TooManyGuards, ParticipantsLeft, Ended, NoSuchPlace, StrangerPointer, TicketsOut, TriesOut}
 
-abbrev pub number_of : Fault → ℕ
-number_of TableFull = 1
-number_of CellsFull = 2
-number_of BagsFull = 3
-number_of NoMemory = 4
-number_of Busy = 5
-number_of Idle = 6
-number_of NotRegistered = 7
-number_of StrangerGuard = 8
-number_of GuardsOut = 9
-number_of TooManyGuards = 10
-number_of ParticipantsLeft = 11
-number_of Ended = 12
-number_of NoSuchPlace = 13
-number_of StrangerPointer = 14
-number_of TicketsOut = 15
-number_of TriesOut = 16
+abbrev pub fault_number : Fault → ℕ
+fault_number TableFull = 1
+fault_number CellsFull = 2
+fault_number BagsFull = 3
+fault_number NoMemory = 4
+fault_number Busy = 5
+fault_number Idle = 6
+fault_number NotRegistered = 7
+fault_number StrangerGuard = 8
+fault_number GuardsOut = 9
+fault_number TooManyGuards = 10
+fault_number ParticipantsLeft = 11
+fault_number Ended = 12
+fault_number NoSuchPlace = 13
+fault_number StrangerPointer = 14
+fault_number TicketsOut = 15
+fault_number TriesOut = 16

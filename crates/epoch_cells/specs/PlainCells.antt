@@ -49,9 +49,9 @@ abbrev pub removal_of : {V : Type 0} → Option (Numbered V) → Removal
 removal_of (Some cell) = if cell.readers == 0 then Destroyed else HeldElsewhere
 removal_of None = Gone
 
-abbrev pub IsRead : {V : Type 0} → Option (Numbered V) → Type 0
-IsRead (Some cell) = 0 < cell.readers
-IsRead None = ⊥
+abbrev pub HasReader : {V : Type 0} → Option (Numbered V) → Type 0
+HasReader (Some cell) = 0 < cell.readers
+HasReader None = ⊥
 
 -- the cell has one reader less
 abbrev pub Lowers : {V : Type 0} → ℕ → Option (Numbered V) → List (Numbered V) → List (Numbered V) → Type 0

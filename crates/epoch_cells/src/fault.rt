@@ -1,6 +1,6 @@
 //! Why a call was refused.
 ghost use Rattle.std.specs.Prelude.{◌≡◌};
-ghost use Rattle.epoch_cells.specs.Faults.{number_of};
+ghost use Rattle.epoch_cells.specs.Faults.{fault_number};
 
 use std::error::Error;
 use std::fmt;
@@ -45,7 +45,7 @@ pub enum Fault {
 impl Fault {
     /// The number under which the fault is printed, from 1 to 16, in the order of the variants.
     pub fn number(self) -> u64
-        ensures { result ≡ number_of self }
+        ensures { result ≡ fault_number self }
     {
         match self {
             Fault::TableFull => 1,

@@ -3,7 +3,7 @@ use Rattle.std.proofs.Common.{◌≡◌, ◌≢◌, ◌∙◌, ℕ, ◌+◌, ◌
 use Rattle.epoch_bags.specs.Bags.{Sealed}
 use Rattle.epoch_bags.specs.CursorSteps.{IsExpiredWord}
 use Rattle.epoch_tables.specs.Table.{IsOf}
-use Rattle.epoch_tables.specs.SharedPlaces.{PlaceMe, IsKept, IsOf as IsAt}
+use Rattle.epoch_tables.specs.SharedPlaces.{PlaceMe, IsSamePlaceSeat, IsPlaceSeatOf as IsAt}
 use Rattle.epoch_tables.specs.SharedSteps.{RestsAt, TakesAt, TakeMoves, Finds}
 use Rattle.epoch_bags.specs.declared.queue.places.TakeCursor.{TakeCursor}
 use Rattle.epoch_bags.specs.declared.queue.places.TakeCursor.TheVariants.{Look as TakeLook, Claim as TakeClaim}
@@ -296,7 +296,7 @@ module _ {T W : Type 0} where
       → (taken : HasTaken done h x cursor n)
       → step ≡ Got
       → m ≡ took_heard n.machine n.machine.stage step m.hand
-      → IsKept n.claimer claimer
+      → IsSamePlaceSeat n.claimer claimer
       → ((y : ℕ) → asks n.machine ≡ Some (TakeBag y) → TakesAt n.collector.now.places.capacity y next claimer.me)
       → (step ≢ TakeAgain → RestsAt claimer.me)
       → ((y : ℕ) → asks n.machine ≡ Some (TakeBag y) → (bag : Sealed (Job W)) × (step ≡ Got → m.hand ≡ bag.jobs)

@@ -2,7 +2,7 @@
 use Rattle.std.proofs.Common.{ℕ, [], ◌∷◌, ◌++◌, refl, subst}
 use Rattle.epoch_machine.specs.Machine.{Machine}
 use Rattle.epoch_machine.specs.Asks.{Log, Reply, Heard, PutStepped, TakeStepped, JobGiven, told}
-use Rattle.epoch_handles.specs.Drives.{Sight, Cursors, Performed, HoldsOfGiven, AreCalled, IsNoneGiven, Reaches, DrivesStraight, Calls}
+use Rattle.epoch_handles.specs.Drives.{Sight, Cursors, Performed, HoldsOfGiven, AreCalled, IsNoneGiven, Reaches, DrivesStraight, DrivesAndCalls}
 
 module _ {J : Type 0} where
   -- one log behind another
@@ -61,13 +61,13 @@ module _ {J : Type 0} where
 
   pub calls_of : (IsCalled : J → Type 0) (places : ℕ) (m n : Machine J) (v u : Sight J)
       → DrivesStraight places m v n u
-      → Calls IsCalled places m v n u
+      → DrivesAndCalls IsCalled places m v n u
   calls_of IsCalled places m n v u drives = λ c. ((drives c).0, (drives c).1, (drives c).2, none_is_called IsCalled (drives c).1 (drives c).3)
 
   pub calls_on : (IsCalled : J → Type 0) (places : ℕ) (m n o : Machine J) (v u w : Sight J)
-      → Calls IsCalled places m v n u
-      → Calls IsCalled places n u o w
-      → Calls IsCalled places m v o w
+      → DrivesAndCalls IsCalled places m v n u
+      → DrivesAndCalls IsCalled places n u o w
+      → DrivesAndCalls IsCalled places m v o w
   calls_on IsCalled places m n o v u w first second = λ c.
       let d = (first c).0 in
       let b = (second d).0 in

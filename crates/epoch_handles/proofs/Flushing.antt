@@ -9,7 +9,7 @@ use Rattle.epoch_machine.specs.declared.machine.Stage.{Stage}
 use Rattle.epoch_machine.specs.declared.machine.Stage.TheVariants.{End, LoadScan, LoadSeal}
 use Rattle.epoch_handles.specs.declared.local.Local.{Local}
 use Rattle.epoch_machine.specs.Machine.{Machine, begun, ended, is_empty, after_collect, after_put, guards_after}
-use Rattle.epoch_handles.specs.Drives.{DrivesStraight, Calls}
+use Rattle.epoch_handles.specs.Drives.{DrivesStraight, DrivesAndCalls}
 use Rattle.epoch_handles.specs.Handles.{IsSeated, IsReady, IsSame, IsPinned, KeepsPin, Collects, Puts, DoesAndCalls, sight_of}
 use Rattle.epoch_handles.proofs.Driving.{drives_none, calls_of, calls_on}
 use Rattle.epoch_handles.proofs.StraightCalls.{reading, ready_with, seated_with}
@@ -140,7 +140,7 @@ module _ {T W : Type 0} where
     pub pin : KeepsPin h o
     pub flushes : Flushes h.machine o.machine
     pub ends : o.machine.stage ≡ End
-    pub calls : Calls (IsCalled done) h.collector.now.places.capacity (begun Flush h.machine) (sight_of h) o.machine (sight_of o)
+    pub calls : DrivesAndCalls (IsCalled done) h.collector.now.places.capacity (begun Flush h.machine) (sight_of h) o.machine (sight_of o)
 
   pub collection_ends : (done : W → Type 0) (h n o : Local T W) → ComesToScan h n → Collects done n o → HasFlushed done h o
   collection_ends done h n o comes collects = record {
@@ -152,7 +152,7 @@ module _ {T W : Type 0} where
     ends = ap (λ (z : Machine (Job W)). z.stage) collects.machine ∙ ap (λ (a : Action). after_collect a n.machine.held) comes.flushes.action;
     calls = calls_on (IsCalled done) h.collector.now.places.capacity (begun Flush h.machine) n.machine o.machine (sight_of h) (sight_of n) (sight_of o)
         (calls_of (IsCalled done) h.collector.now.places.capacity (begun Flush h.machine) n.machine (sight_of h) (sight_of n) comes.drives)
-        (subst (λ z. Calls (IsCalled done) z.now.places.capacity n.machine (sight_of n) o.machine (sight_of o)) comes.same.collector collects.calls);
+        (subst (λ z. DrivesAndCalls (IsCalled done) z.now.places.capacity n.machine (sight_of n) o.machine (sight_of o)) comes.same.collector collects.calls);
   }
 
   -- THE WHOLE

@@ -3,7 +3,7 @@ use Rattle.std.proofs.Common.{◌≡◌, ◌≢◌, ◌∙◌, ℕ, ◌+◌, ◌
 use Rattle.std.proofs.lemmas.Bool.{false≢true}
 use Rattle.std.proofs.lemmas.Bool.Decides.{eqb_tells}
 use Rattle.epoch_tables.specs.TableSteps.{after_epoch}
-use Rattle.epoch_tables.specs.SharedPlaces.{PlaceMe, IsKept}
+use Rattle.epoch_tables.specs.SharedPlaces.{PlaceMe, IsSamePlaceSeat}
 use Rattle.epoch_tables.specs.SharedSteps.{RestsAt, PutsAt, PutMoves}
 use Rattle.epoch_bags.specs.CursorSteps.{PutPasses}
 use Rattle.epoch_bags.specs.declared.queue.places.PutCursor.{PutCursor}
@@ -147,7 +147,7 @@ module _ {T W : Type 0} where
   -- the same participant behind a step of its seat at the places
   seated_at : (n : Local T W) (m : Machine (Job W)) (claimer : _)
       → m.sizes ≡ n.machine.sizes
-      → IsKept n.claimer claimer
+      → IsSamePlaceSeat n.claimer claimer
       → IsSeated n
       → IsSeated (record n { claimer = claimer; machine = m })
   seated_at n m claimer sizes kept seated = record {
@@ -161,7 +161,7 @@ module _ {T W : Type 0} where
   pub put_again : (h n : Local T W) (seal : ℕ) (cursor next : PutCursor) (m : Machine (Job W)) (claimer : _)
       → HasPut h seal cursor n
       → m ≡ put_heard n.machine Again
-      → IsKept n.claimer claimer
+      → IsSamePlaceSeat n.claimer claimer
       → PutsAt n.collector.now.places.capacity next claimer.me
       → PutMoves n.collector.now.places.capacity cursor n.claimer.me (record { seal = seal; jobs = n.machine.held }) Again next claimer.me
       → HasPut h seal next (record n { claimer = claimer; machine = m })
@@ -190,7 +190,7 @@ module _ {T W : Type 0} where
       → HasPut h seal cursor n
       → step ≢ Again
       → m ≡ put_heard n.machine step
-      → IsKept n.claimer claimer
+      → IsSamePlaceSeat n.claimer claimer
       → RestsAt claimer.me
       → PutMoves n.collector.now.places.capacity cursor n.claimer.me (record { seal = seal; jobs = n.machine.held }) step next claimer.me
       → Puts h (record n { claimer = claimer; machine = m })

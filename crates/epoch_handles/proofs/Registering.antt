@@ -3,7 +3,7 @@ use Rattle.std.proofs.Common.{◌≡◌, ◌≢◌, ℕ, ◌+◌, List, [], ◌�
 use Rattle.std.proofs.lemmas.Grind.{elements}
 use Rattle.std.proofs.lemmas.List.Elements.{All-push}
 use Rattle.std.proofs.lemmas.List.FromFn.{map-range_with_len_more}
-use Rattle.epoch_handles.specs.Handles.{LosesEach, each_before}
+use Rattle.epoch_handles.specs.Handles.{FindsEachTaken, each_before}
 
 -- the next position comes behind those before it
 one_more : (position : ℕ) → each_before (position + 1) ≡ each_before position ++ Some position ∷ []
@@ -11,9 +11,9 @@ one_more position = ap (λ (positions : List (Option ℕ)). None ∷ positions)
     (map-range_with_len_more (λ (earlier : ℕ). Some earlier) 0 position position (omega arith))
 
 pub loses_one_more : (position : ℕ) (looked : List (Option ℕ)) (found : List ℕ) (word : ℕ)
-    → LosesEach position looked found
+    → FindsEachTaken position looked found
     → word ≢ 0
-    → LosesEach (position + 1) (looked ++ Some position ∷ []) (found ++ word ∷ [])
+    → FindsEachTaken (position + 1) (looked ++ Some position ∷ []) (found ++ word ∷ [])
 loses_one_more position looked found word (places, (epoch, taken, words, as_many, lost)) other =
     let in_order = ap (λ (positions : List (Option ℕ)). positions ++ Some position ∷ []) places ∙ sym (one_more position) in
     let more = ap (λ (all : List ℕ). all ++ word ∷ []) words in

@@ -16,7 +16,7 @@ use Rattle.epoch_machine.specs.declared.machine.Stage.TheVariants.{End, LoadSeal
 use Rattle.epoch_handles.specs.declared.local.Local.{Local}
 use Rattle.epoch_machine.specs.Machine.{Machine, begun, heard, ended, fresh, guards_after, is_empty, after_unpin, after_put, after_collect, with_stage}
 use Rattle.epoch_machine.specs.Asks.{Heard}
-use Rattle.epoch_handles.specs.Drives.{Sight, DrivesStraight, Calls, with_words}
+use Rattle.epoch_handles.specs.Drives.{Sight, DrivesStraight, DrivesAndCalls, with_words}
 use Rattle.epoch_handles.specs.Handles.{IsReady, IsSame, IsLeftWhole, Steps, PinSteps, Collects, sight_of}
 use Rattle.epoch_handles.specs.Releases.{IsLeaving, IsRefused, IsFreed, IsReleased}
 use Rattle.epoch_handles.proofs.Driving.{drives_on, calls_of, calls_on}
@@ -183,7 +183,7 @@ module _ {T W : Type 0} where
   pub freed_behind : (done : W → Type 0) (h n o : Local T W)
       → IsSame h n
       → n.machine.sizes ≡ h.machine.sizes
-      → Calls (IsCalled done) h.collector.now.places.capacity h.machine (sight_of h) n.machine (sight_of n)
+      → DrivesAndCalls (IsCalled done) h.collector.now.places.capacity h.machine (sight_of h) n.machine (sight_of n)
       → (h.machine.held ≢ [] → IsLeftWhole h.machine.held o.claimer.me.0)
       → IsFreed done n o
       → IsFreed done h o
@@ -193,13 +193,13 @@ module _ {T W : Type 0} where
     machine = freed.machine ∙ ap (λ (z : Sizes). fresh z) sizes;
     whole = whole;
     calls = calls_on (IsCalled done) h.collector.now.places.capacity h.machine n.machine o.machine (sight_of h) (sight_of n) (sight_of o) before
-        (subst (λ z. Calls (IsCalled done) z.now.places.capacity n.machine (sight_of n) o.machine (sight_of o)) same.collector freed.calls);
+        (subst (λ z. DrivesAndCalls (IsCalled done) z.now.places.capacity n.machine (sight_of n) o.machine (sight_of o)) same.collector freed.calls);
   }
 
   pub refused_behind : (done : W → Type 0) (h n o : Local T W)
       → IsSame h n
       → n.machine.held ≡ h.machine.held
-      → Calls (IsCalled done) h.collector.now.places.capacity h.machine (sight_of h) n.machine (sight_of n)
+      → DrivesAndCalls (IsCalled done) h.collector.now.places.capacity h.machine (sight_of h) n.machine (sight_of n)
       → IsRefused done n o
       → IsRefused done h o
   refused_behind done h n o same held before refused =
@@ -211,7 +211,7 @@ module _ {T W : Type 0} where
           refused.ends.1,
           refused.ends.2,
           calls_on (IsCalled done) h.collector.now.places.capacity h.machine n.machine last (sight_of h) (sight_of n) (sight_of o) before
-              (subst (λ z. Calls (IsCalled done) z.now.places.capacity n.machine (sight_of n) last (sight_of o)) same.collector refused.ends.3),
+              (subst (λ z. DrivesAndCalls (IsCalled done) z.now.places.capacity n.machine (sight_of n) last (sight_of o)) same.collector refused.ends.3),
         );
         ready = refused.ready;
         held = ((λ none. refused.held.0 (held ∙ none)), refused.held.1 ∙ held);
@@ -263,7 +263,7 @@ module _ {T W : Type 0} where
     held = ap (λ (z : Machine (Job W)). z.held) collects.machine ∙ leaving.held;
     sizes = ap (λ (z : Machine (Job W)). z.sizes) collects.machine ∙ leaving.sizes;
     calls = calls_on (IsCalled done) h.collector.now.places.capacity (begun Release h.machine) n.machine o.machine (sight_of h) (sight_of n) (sight_of o) leaving.calls
-        (subst (λ z. Calls (IsCalled done) z.now.places.capacity n.machine (sight_of n) o.machine (sight_of o)) leaving.same.collector collects.calls);
+        (subst (λ z. DrivesAndCalls (IsCalled done) z.now.places.capacity n.machine (sight_of n) o.machine (sight_of o)) leaving.same.collector collects.calls);
   }
 
   pub collected_to_leave : (done : W → Type 0) (h n o : Local T W) → IsLeaving done h n → Collects done n o → o.machine.stage ≡ after_collect Release o.machine.held

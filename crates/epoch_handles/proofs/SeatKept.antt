@@ -1,14 +1,14 @@
 -- A step of the participants' seat that keeps its position leaves the participant seated.
 use Rattle.std.proofs.Common.{◌≡◌, ◌∙◌, refl, ap}
 use Rattle.atomic_table.specs.declared.shared.Seat.{Seat}
-use Rattle.epoch_tables.specs.Table.{IsKept}
+use Rattle.epoch_tables.specs.Table.{IsSameSeat}
 use Rattle.epoch_tables.specs.declared.table.view.ParticipantView.{ParticipantView}
 use Rattle.epoch_handles.specs.declared.local.Local.{Local}
 use Rattle.epoch_handles.specs.Handles.{IsSeated, Steps}
 
 pub seat_steps : {T W : Type 0} (h : Local T W) (seat : Seat _ ParticipantView) (view : ParticipantView)
     → IsSeated h
-    → IsKept h.seat seat
+    → IsSameSeat h.seat seat
     → seat.me.0 ≡ view
     → view.position ≡ h.seat.me.0.position
     → Steps h (record h { seat = seat }) view

@@ -11,5 +11,5 @@ pub record AreValid (c : Capacities) : Type 0 where
   pub bag_jobs : (0 < c.bag_jobs) × (c.bag_jobs ≤ 64)
   pub collect_bags : (0 < c.collect_bags) × (c.collect_bags ≤ 64)
 
-abbrev pub sizes_of : Capacities → Sizes
-sizes_of c = record { positions = c.participants; bag_jobs = c.bag_jobs; collect_bags = c.collect_bags }
+abbrev pub sizes_for : Capacities → Sizes
+sizes_for c = record { positions = c.participants; bag_jobs = c.bag_jobs; collect_bags = c.collect_bags }

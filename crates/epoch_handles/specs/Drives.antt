@@ -88,5 +88,5 @@ abbrev pub Drives : {J : Type 0} → ℕ → Machine J → Sight J → Machine J
 Drives {J} places m v n u = (c : Cursors) → (d : Cursors) × (log : Log J) × Performed places m v c log n u d
 
 -- the same, where each job that it gave was called
-abbrev pub Calls : {J : Type 0} → (J → Type 0) → ℕ → Machine J → Sight J → Machine J → Sight J → Type 0
-Calls {J} IsCalled places m v n u = (c : Cursors) → (d : Cursors) × (log : Log J) × Performed places m v c log n u d × AreCalled IsCalled log
+abbrev pub DrivesAndCalls : {J : Type 0} → (J → Type 0) → ℕ → Machine J → Sight J → Machine J → Sight J → Type 0
+DrivesAndCalls {J} IsCalled places m v n u = (c : Cursors) → (d : Cursors) × (log : Log J) × Performed places m v c log n u d × AreCalled IsCalled log

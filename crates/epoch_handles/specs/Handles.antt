@@ -4,7 +4,7 @@ use Rattle.std.specs.List.{All, range_with_len}
 use Rattle.epoch_bags.specs.Bags.{Sealed}
 use Rattle.epoch_tables.specs.Table.{IsOf}
 use Rattle.epoch_tables.specs.TableSteps.{after_epoch, after_own}
-use Rattle.epoch_tables.specs.SharedPlaces.{IsOf as IsAt}
+use Rattle.epoch_tables.specs.SharedPlaces.{IsPlaceSeatOf as IsAt}
 use Rattle.epoch_tables.specs.SharedSteps.{RestsAt, TakesAt}
 use Rattle.epoch_bags.specs.declared.queue.places.TakeCursor.{TakeCursor}
 use Rattle.epoch_bags.specs.declared.queue.places.PutCursor.TheVariants.{Look as PutLook}
@@ -18,7 +18,7 @@ use Rattle.epoch_handles.specs.declared.collector.Collector.{Collector}
 use Rattle.epoch_handles.specs.declared.guard.Guard.{Guard}
 use Rattle.epoch_handles.specs.declared.local.Local.{Local}
 use Rattle.epoch_machine.specs.Machine.{Machine, begun, ended, fresh, with_stage, after_collect, after_put, after_job}
-use Rattle.epoch_handles.specs.Drives.{Sight, Cursors, Performed, AreCalled, DrivesStraight, Drives, Calls, Reaches, at_start}
+use Rattle.epoch_handles.specs.Drives.{Sight, Cursors, Performed, AreCalled, DrivesStraight, Drives, DrivesAndCalls, Reaches, at_start}
 use Rattle.epoch_machine.specs.Asks.{Log}
 
 -- what the seats of a participant know
@@ -111,7 +111,7 @@ pub record Collects {T W : Type 0} (done : W → Type 0) (old new : Local T W) :
   pub same : IsSame old new
   pub pin : KeepsPin old new
   pub machine : new.machine ≡ record old.machine { stage = after_collect old.machine.action old.machine.held; hand = new.machine.hand }
-  pub calls : Calls (IsCalled done) old.collector.now.places.capacity old.machine (sight_of old) new.machine (sight_of new)
+  pub calls : DrivesAndCalls (IsCalled done) old.collector.now.places.capacity old.machine (sight_of old) new.machine (sight_of new)
 
 -- what the seat left in a place last is a bag of just these jobs, in this order
 abbrev pub IsLeftWhole : {J : Type 0} → List J → PlaceView J → Type 0
@@ -154,7 +154,7 @@ DoesStraight {T} {W} old action new = (last : Machine (Job W)) × (last.stage �
 -- the same of an action that collects: each job that its machine gave was called
 abbrev pub DoesAndCalls : {T W : Type 0} → (W → Type 0) → Local T W → Action → Local T W → Type 0
 DoesAndCalls {T} {W} done old action new = (last : Machine (Job W)) × (last.stage ≡ End) × (new.machine ≡ ended last)
-    × Calls (IsCalled done) old.collector.now.places.capacity (begun action old.machine) (sight_of old) last (sight_of new)
+    × DrivesAndCalls (IsCalled done) old.collector.now.places.capacity (begun action old.machine) (sight_of old) last (sight_of new)
 
 -- the same participant of the same collector, between two calls, with one guard fewer
 pub record IsBetween {T W : Type 0} (old between : Local T W) : Type 0 where
@@ -173,17 +173,17 @@ abbrev pub each_before : ℕ → List (Option ℕ)
 each_before position = None ∷ map (λ earlier. Some earlier) (range_with_len 0 position)
 
 -- Behind the epoch, the words found are those of all positions before this one, in their order, of which none was free.
-abbrev pub LosesEach : ℕ → List (Option ℕ) → List ℕ → Type 0
-LosesEach position looked found = (looked ≡ each_before position) × ((epoch : ℕ) × (taken : List ℕ) × (found ≡ epoch ∷ taken)
+abbrev pub FindsEachTaken : ℕ → List (Option ℕ) → List ℕ → Type 0
+FindsEachTaken position looked found = (looked ≡ each_before position) × ((epoch : ℕ) × (taken : List ℕ) × (found ≡ epoch ∷ taken)
     × (length taken ≡ position) × All (λ word. word ≢ 0) taken)
 
 -- It has tried each position from 0 to its own, once and in order, and only its own was free.
 abbrev pub TriesInOrder : ℕ → List (Option ℕ) → List ℕ → Type 0
-TriesInOrder position looked found = (tried : List (Option ℕ)) × (before : List ℕ) × LosesEach position tried before
+TriesInOrder position looked found = (tried : List (Option ℕ)) × (before : List ℕ) × FindsEachTaken position tried before
     × (looked ≡ tried ++ Some position ∷ []) × (found ≡ before ++ 0 ∷ [])
 
 -- a new participant of this collector: registered at the first position that was found free, not pinned, with an empty bag
-pub record IsNew {T W : Type 0} (collector : Collector T W) (h : Local T W) : Type 0 where
+pub record IsNewParticipant {T W : Type 0} (collector : Collector T W) (h : Local T W) : Type 0 where
   pub of : h.collector.now ≡ collector
   pub machine : h.machine ≡ fresh collector.sizes
   pub tries : TriesInOrder h.position h.seat.me.0.looked h.seat.me.0.found

@@ -5,7 +5,7 @@ ghost use Rattle.std.specs.Cmp.Rules.{comparing};
 ghost use Rattle.std.specs.Ordering.{on};
 ghost use Rattle.epoch_cells.specs.declared.fault.Fault.TheVariants.{NoMemory};
 ghost use Rattle.epoch_machine.specs.Machine.{IsSized};
-ghost use Rattle.epoch_handles.specs.Capacities.{AreValid, sizes_of};
+ghost use Rattle.epoch_handles.specs.Capacities.{AreValid, sizes_for};
 
 use epoch_bags::{BAG_JOBS, Job, Work};
 use epoch_cells::{Cells, Fault, MOST_SLOT};
@@ -117,7 +117,7 @@ impl<T: Drop, W: Drop> Collector<T, W> {
         ensures participants { IfOk result (λ collector. collector.participants.positions ≡ capacities.participants) }
         ensures bags { IfOk result (λ collector. collector.places.capacity ≡ capacities.bags) }
         ensures cells { IfOk result (λ collector. vec_len collector.cells.slots ≡ capacities.cells) }
-        ensures sizes { IfOk result (λ collector. collector.sizes ≡ sizes_of capacities) }
+        ensures sizes { IfOk result (λ collector. collector.sizes ≡ sizes_for capacities) }
     {
         let participants = Participants::new(alloc, capacities.participants as usize)?;
         let cells = Cells::new(alloc, capacities.cells, 0)?;

@@ -1,6 +1,6 @@
 //! The end of a collector: what is left is called.
 ghost use Rattle.std.specs.Prelude.{◌≡◌, ℕ, ◌*◌, ◌<◌, ◌≤◌, [], None, length, slice_index_or};
-ghost use Rattle.epoch_tables.specs.SharedPlaces.{IsOf, IsKept, with_claim};
+ghost use Rattle.epoch_tables.specs.SharedPlaces.{IsPlaceSeatOf, IsSamePlaceSeat, with_claim};
 ghost use Rattle.epoch_tables.specs.SharedSteps.{RestsAt};
 ghost use Rattle.epoch_bags.specs.Jobs.{IsCalled};
 ghost use Rattle.epoch_handles.specs.Ends.{jobs_in, jobs_of, IsBagCalled, CallsEach};
@@ -35,7 +35,7 @@ fn end_places<T: Drop, W: Run>(
     seat: &mut PlaceSeat<Job<W>>,
     cells: &Cells<T>,
 ) -> u64
-    requires of { IsOf places.now seat.old }
+    requires of { IsPlaceSeatOf places.now seat.old }
     requires rests { RestsAt seat.old.me }
     ensures { CallsEach W.done places.now.capacity seat.old.me.0 seat.new.me.0 places.now.capacity result }
 {
@@ -53,9 +53,9 @@ fn end_one<T: Drop, W: Run>(
     seat: &mut PlaceSeat<Job<W>>,
     cells: &Cells<T>,
 ) -> u64
-    requires of { IsOf places.now seat.old }
+    requires of { IsPlaceSeatOf places.now seat.old }
     requires rests { RestsAt seat.old.me }
-    ensures kept { IsKept seat.old seat.new }
+    ensures kept { IsSamePlaceSeat seat.old seat.new }
     ensures rests { RestsAt seat.new.me }
     ensures few { result ≤ 64 }
     ensures called { CallsEach W.done places.now.capacity seat.old.me.0 seat.new.me.0 1 result }

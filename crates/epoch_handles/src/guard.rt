@@ -1,6 +1,6 @@
 //! Guards: tokens of a pin, and guards that protect nothing.
 ghost use Rattle.std.specs.Prelude.{◌≡◌, ◌↔◌, IsTrue, IsSome, IsNone, None, IsOk, IfOk, IfErr, MatchOption};
-ghost use Rattle.epoch_bags.specs.Jobs.{Answers, IsCalled, IsTried};
+ghost use Rattle.epoch_bags.specs.Jobs.{AnswersJob, IsCalled, IsTried};
 
 use crate::collector::Collector;
 use epoch_bags::{Called, Job, Run, Work};
@@ -66,7 +66,7 @@ impl<'c, T: Drop, W: Run> Guard<'c, T, W> {
     /// guard the job is handed back.
     pub fn call_now(&self, job: Job<W>) -> Result<Called, Job<W>>
         ensures ok { IsOk result ↔ IsNone self.now.position }
-        ensures called { IfOk result (λ called. Answers job called × IsCalled W.done job) }
+        ensures called { IfOk result (λ called. AnswersJob job called × IsCalled W.done job) }
         ensures tried { IsOk result → IsTried W.Removing.tried job }
         ensures handed_back { IfErr result (λ back. back ≡ job) }
     {

@@ -1,6 +1,6 @@
 -- What the calls on a heap do, said by what the calls on its cells say.
 use Rattle.std.proofs.Common.{◌≡◌, ◌≢◌, ◌↔◌, ℕ, zero, suc, ◌+◌, ◌-◌, ◌<◌, Bool, true, false, List, [], ◌∷◌, length, Option, Some, None, IfSome, IsTrue, slice_get, slice_set, refl, ap, sym, subst, ◌∙◌, inl, inr, arith}
-use Rattle.epoch_cells.specs.PlainCells.{with_cell, filled, IsFree, IsRead, Lowers, Replaces}
+use Rattle.epoch_cells.specs.PlainCells.{with_cell, filled, IsFree, HasReader, Lowers, Replaces}
 use Rattle.epoch_cells.specs.declared.cells.name.Name.{Name}
 use Rattle.epoch_heap.specs.declared.heap.Content.{Content}
 use Rattle.epoch_heap.specs.declared.access.Accessed.TheVariants.{Again, Answers}
@@ -23,7 +23,7 @@ set_again (y ∷ xs) (suc i) x at = ap (λ l. y ∷ l) (set_again xs i x at)
 
 left_beside : (h : Heap) (n : Name) (left : Bool) (new : List Cell) (there : Option Cell)
     → cell_at h n ≡ there
-    → (IsTrue left ↔ IsRead there)
+    → (IsTrue left ↔ HasReader there)
     → (IsTrue left → Lowers n.slot there h.cells new)
     → (left ≡ false → new ≡ h.cells)
     → answers UnitAnswer (record h { cells = new }) ≡ left_by h n there
@@ -47,7 +47,7 @@ left_beside h n false new (Some cell) e read lowers stays =
     lowered it none = ap (λ k. record it { readers = k }) (fewer it.readers none)
 
 pub left_so : (h : Heap) (n : Name) (left : Bool) (new : List Cell)
-    → (IsTrue left ↔ IsRead (cell_at h n))
+    → (IsTrue left ↔ HasReader (cell_at h n))
     → (IsTrue left → Lowers n.slot (cell_at h n) h.cells new)
     → (left ≡ false → new ≡ h.cells)
     → answers UnitAnswer (record h { cells = new }) ≡ left_by h n (cell_at h n)

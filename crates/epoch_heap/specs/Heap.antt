@@ -120,9 +120,9 @@ abbrev pub outcome_of : Heap → Option Name → Called
 outcome_of h None = Ran
 outcome_of h (Some n) = called_by (removal_of (cell_at h n))
 
-abbrev pub after_job : Heap → Option Name → Heap
-after_job h None = h
-after_job h (Some n) = without_cell h n (removal_of (cell_at h n))
+abbrev pub heap_after_job : Heap → Option Name → Heap
+heap_after_job h None = h
+heap_after_job h (Some n) = without_cell h n (removal_of (cell_at h n))
 
 -- WHAT A STEP OF A CALL ON CELLS AND POINTERS DOES
 

@@ -3,7 +3,7 @@ ghost use Rattle.std.specs.Prelude.{◌≡◌, ◌≢◌, true, false, ◌==◌,
 ghost use Rattle.epoch_cells.specs.declared.fault.Fault.TheVariants.{NoMemory};
 ghost use Rattle.epoch_cells.specs.PlainCells.{empty, readable, unread};
 ghost use Rattle.epoch_heap.specs.declared.access.Accessed.TheVariants.{Answers};
-ghost use Rattle.epoch_heap.specs.Heap.{Cell, aligned, tagged, pointer_at, with_field, with_pointer, null, cell_at, at_name, read_by, left_by, written_by, taken_by, updated_by, is_stop, has_spot, knows_spot, knows_change, was_given, is_known, is_removable, has_place, knows_names, outcome_of, after_job, touched, replaced, Places, Changes, ChangesAt, Touches, is_name, AccessFits, GoesOnWithin};
+ghost use Rattle.epoch_heap.specs.Heap.{Cell, aligned, tagged, pointer_at, with_field, with_pointer, null, cell_at, at_name, read_by, left_by, written_by, taken_by, updated_by, is_stop, has_spot, knows_spot, knows_change, was_given, is_known, is_removable, has_place, knows_names, outcome_of, heap_after_job, touched, replaced, Places, Changes, ChangesAt, Touches, is_name, AccessFits, GoesOnWithin};
 
 use crate::access::{Access, Accessed, Answer, Change, Ptr, Spot, Update};
 use epoch_bags::Called;
@@ -97,7 +97,7 @@ impl Heap {
     /// changes nothing. So does work.
     pub fn call_job(&mut self, removes: Option<Name>) -> Called
         ensures outcome { result ≡ outcome_of self.old removes }
-        ensures after { self.new ≡ after_job self.old removes }
+        ensures after { self.new ≡ heap_after_job self.old removes }
     {
         match removes {
             None => Called::Ran,

@@ -12,7 +12,7 @@ use Rattle.epoch_laws.specs.declared.step.Deferral.{Deferral}
 use Rattle.epoch_laws.specs.declared.step.Reply.TheVariants.{Stepped, Called as CalledReply}
 use Rattle.epoch_laws.specs.declared.step.Entry.{Entry}
 use Rattle.epoch_laws.specs.declared.step.Word.TheVariants.{Free}
-use Rattle.epoch_laws.specs.Run.{Bag, Seat, State, seat_of, word_of, with_seat, with_machine}
+use Rattle.epoch_laws.specs.Run.{Bag, WorldSeat, State, seat_of, position_word, with_seat, with_machine}
 use Rattle.epoch_laws.proofs.DeferralEpochs.{DeferredBy, SealedBehind, sealed_put, sealed_got}
 use Rattle.epoch_laws.proofs.QuietReplies.{plain_called, quiet_stepped}
 use Rattle.epoch_laws.proofs.SeatsFine.{View, IsFine, HandExpired, fine_next}
@@ -21,8 +21,8 @@ use Rattle.epoch_laws.proofs.NextStages.{next_collected, next_put, next_job}
 use Rattle.epoch_laws.proofs.SeatSteps.{CallsEarlier, plain_step}
 
 module _ (old new : State) (log : List Entry) (x : Entry) (h : Holds old log) (p : ℕ)
-    (taken : word_of old p ≢ Free) where
-  abbrev seat : Seat
+    (taken : position_word old p ≢ Free) where
+  abbrev seat : WorldSeat
   seat = seat_of old p
 
   abbrev m : Machine Deferral

@@ -12,7 +12,7 @@ use Rattle.epoch_laws.specs.declared.step.Entry.{Entry}
 use Rattle.epoch_laws.specs.declared.step.Deferral.{Deferral}
 use Rattle.epoch_laws.specs.declared.step.Progress.{Progress}
 use Rattle.epoch_laws.specs.declared.step.Progress.TheVariants.{Idle}
-use Rattle.epoch_laws.specs.Run.{Seat, State, seat_of, with_seat, is_out, call_refusal, drives, begun_seat}
+use Rattle.epoch_laws.specs.Run.{WorldSeat, State, seat_of, with_seat, is_out, call_refusal, drives, begun_seat}
 use Rattle.epoch_laws.proofs.SeatLemmas.{IsAccepted, guard_given}
 use Rattle.epoch_laws.proofs.SeatLinks.{AllLinked, follows_at}
 use Rattle.epoch_laws.proofs.CallsLinked.{none_out}
@@ -29,7 +29,7 @@ out_counts g n (first ∷ guards) counted out = omega arith
 
 module _ (old new : State) (log : List Entry) (x : Entry) (h : Holds old log) (linked : AllLinked old) (p : ℕ)
     (c : Call) (given : IsAccepted c (seat_of old p) old.tickets old.heap) (told : x.reply ≡ Began) where
-  abbrev seat : Seat
+  abbrev seat : WorldSeat
   seat = seat_of old p
 
   -- the machine drives the call

@@ -7,7 +7,7 @@ use Rattle.epoch_laws.specs.declared.step.Reply.{Reply}
 use Rattle.epoch_laws.specs.declared.step.Reply.TheVariants.{Deferred, Called as CalledReply}
 use Rattle.epoch_laws.specs.declared.step.Entry.{Entry}
 use Rattle.epoch_laws.specs.Run.{State, Runs, IsFresh}
-use Rattle.epoch_laws.specs.Grace.{Stands}
+use Rattle.epoch_laws.specs.Grace.{IsReplyAt}
 use Rattle.epoch_laws.specs.Tickets.{calls_of, deferrals_of, times_called, times_deferred, HoldsEachTicketOnce}
 use Rattle.epoch_laws.proofs.RunsGoOn.{runs_push}
 use Rattle.epoch_laws.proofs.Log.{stands_push, stands_keep}
@@ -28,7 +28,7 @@ deferred_first : (t : ℕ) (x : Entry) (log : List Entry)
 deferred_first t x log = sum_by-cons (λ (e : Entry). deferrals_of t e.reply) x log
 
 -- what is called somewhere is counted
-called_counts : (log : List Entry) (t i : ℕ) (how : Called) → Stands log i (CalledReply t how) → 0 < times_called t log
+called_counts : (log : List Entry) (t i : ℕ) (how : Called) → IsReplyAt log i (CalledReply t how) → 0 < times_called t log
 called_counts [] t i how at = absurd (cc)
 called_counts (x ∷ log) t zero how at = omega (arith, called_first t x log, one_call t x.reply how cc)
 called_counts (x ∷ log) t (suc i) how at = omega (arith, called_first t x log, called_counts log t i how at)
@@ -42,7 +42,7 @@ some_part : (a b : ℕ) → 0 < a + b → (0 < a) ⊎ (0 < b)
 some_part a b some = grind arith
 
 deferred_somewhere : (log : List Entry) (t : ℕ) → 0 < times_deferred t log
-    → (i : ℕ) × (i < length log) × Stands log i (Deferred t)
+    → (i : ℕ) × (i < length log) × IsReplyAt log i (Deferred t)
 deferred_somewhere [] t some = absurd (omega arith)
 deferred_somewhere (x ∷ log) t some =
     elim (some_part (deferrals_of t x.reply) (times_deferred t log) (omega (arith, deferred_first t x log))) [
@@ -53,10 +53,10 @@ deferred_somewhere (x ∷ log) t some =
 -- ONE MORE ENTRY
 
 pub record CallsFollow (log : List Entry) : Type 0 where
-  pub once : (t i j : ℕ) (how again : Called) → Stands log i (CalledReply t how) → Stands log j (CalledReply t again)
+  pub once : (t i j : ℕ) (how again : Called) → IsReplyAt log i (CalledReply t how) → IsReplyAt log j (CalledReply t again)
       → i ≡ j
-  pub deferred : (t j : ℕ) (how : Called) → Stands log j (CalledReply t how)
-      → (i : ℕ) × (i < j) × Stands log i (Deferred t)
+  pub deferred : (t j : ℕ) (how : Called) → IsReplyAt log j (CalledReply t how)
+      → (i : ℕ) × (i < j) × IsReplyAt log i (Deferred t)
 
 at_most_once : (t tickets : ℕ) → (if nat_lt t tickets then 1 else 0) ≤ 1
 at_most_once t tickets = grind (arith, nat_tests)
@@ -64,7 +64,7 @@ at_most_once t tickets = grind (arith, nat_tests)
 module _ (log : List Entry) (x : Entry) (new : State) (h : CallsFollow log)
     (held : HoldsEachTicketOnce (log ++ x ∷ []) new) where
   -- the job that the last entry calls was not called before
-  not_again : (t i : ℕ) (how again : Called) → Stands log i (CalledReply t how) → x.reply ≡ CalledReply t again → ⊥
+  not_again : (t i : ℕ) (how again : Called) → IsReplyAt log i (CalledReply t how) → x.reply ≡ CalledReply t again → ⊥
   not_again t i how again before last = omega (
     arith,
     held.placed t,
@@ -76,7 +76,7 @@ module _ (log : List Entry) (x : Entry) (new : State) (h : CallsFollow log)
   )
 
   was_deferred : (t : ℕ) (how : Called) → x.reply ≡ CalledReply t how
-      → (i : ℕ) × (i < length log) × Stands log i (Deferred t)
+      → (i : ℕ) × (i < length log) × IsReplyAt log i (Deferred t)
   was_deferred t how last = deferred_somewhere log t (omega (
     arith,
     held.placed t,
@@ -88,7 +88,7 @@ module _ (log : List Entry) (x : Entry) (new : State) (h : CallsFollow log)
 
   -- t is called at i, before the last entry or by it
   abbrev CallsAt : ℕ → ℕ → Called → Type 0
-  CallsAt t i how = Stands log i (CalledReply t how) ⊎ ((i ≡ length log) × (x.reply ≡ CalledReply t how))
+  CallsAt t i how = IsReplyAt log i (CalledReply t how) ⊎ ((i ≡ length log) × (x.reply ≡ CalledReply t how))
 
   at_most : (t i j : ℕ) (how again : Called) → CallsAt t i how → CallsAt t j again → i ≡ j
   at_most t i j how again (inl first) (inl second) = h.once t i j how again first second
@@ -96,7 +96,7 @@ module _ (log : List Entry) (x : Entry) (new : State) (h : CallsFollow log)
   at_most t i j how again (inr first) (inl second) = absurd (not_again t j again how second first.1)
   at_most t i j how again (inr first) (inr second) = first.0 ∙ sym second.0
 
-  after : (t j : ℕ) (how : Called) → CallsAt t j how → (i : ℕ) × (i < j) × Stands (log ++ x ∷ []) i (Deferred t)
+  after : (t j : ℕ) (how : Called) → CallsAt t j how → (i : ℕ) × (i < j) × IsReplyAt (log ++ x ∷ []) i (Deferred t)
   after t j how (inl called) =
       let found = h.deferred t j how called in
       (found.0, found.1, stands_keep log x found.0 _ found.2)

@@ -11,7 +11,7 @@ use Rattle.epoch_laws.specs.declared.step.Call.{Call}
 use Rattle.epoch_laws.specs.declared.step.Call.TheVariants.{Pin, Unpin, Repin, Pause, Resume, Defer, Flush, Release, DeferDestroy, Access as AccessCall}
 use Rattle.epoch_laws.specs.declared.step.Deferral.{Deferral}
 use Rattle.epoch_laws.specs.declared.step.Progress.TheVariants.{Idle, Accesses, Ends}
-use Rattle.epoch_laws.specs.Run.{Seat, is_out, without, lowest, call_refusal, drives, begun_seat, with_guards, ended_seat}
+use Rattle.epoch_laws.specs.Run.{WorldSeat, is_out, without, lowest, call_refusal, drives, begun_seat, with_guards, ended_seat}
 use Rattle.epoch_laws.proofs.SeatLemmas.{guard_given}
 use Rattle.epoch_laws.proofs.SeatLinks.{action_of, BeganUnder, IsDriven, IsLinked, follows_at, progress_linked}
 use Rattle.epoch_laws.proofs.MachineGoesOn.{first_on}
@@ -45,7 +45,7 @@ pub has_room : (n : ℕ) (f : Fault) (b : Bool) → nat_le 64 n ≡ b → (if b 
 has_room n f true full h = absurd (cc)
 has_room n f false room h = grind (arith, nat_tests)
 
-module _ (sizes : Sizes) (seat : Seat) (h : IsLinked sizes seat) where
+module _ (sizes : Sizes) (seat : WorldSeat) (h : IsLinked sizes seat) where
   abbrev m : Machine Deferral
   m = seat.machine
 

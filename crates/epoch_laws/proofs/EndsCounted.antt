@@ -15,7 +15,7 @@ use Rattle.epoch_laws.specs.declared.step.Reply.{Reply}
 use Rattle.epoch_laws.specs.declared.step.Reply.TheVariants.{Done}
 use Rattle.epoch_laws.specs.declared.step.Step.{Step}
 use Rattle.epoch_laws.specs.declared.step.Step.TheVariants.{Register, Begin, Go, End as EndStep, EndGo}
-use Rattle.epoch_laws.specs.Run.{Seat, State, seat_of, with_places, Ending, Open, Emptying, Over, refusal, Begins, Performs, Drives, Goes, EndGoes, Moves, Runs, IsFresh}
+use Rattle.epoch_laws.specs.Run.{WorldSeat, State, seat_of, with_places, Ending, Open, Emptying, Over, refusal, BeginsCall, PerformsAsk, DrivesCall, DoesGo, EndGoes, Moves, Runs, IsFresh}
 use Rattle.epoch_laws.specs.Ends.{is_call_at_end, calls_at_end, TellsCount, EndsAtCount}
 use Rattle.epoch_laws.proofs.TicketsOnce.{end_calls_all}
 
@@ -24,8 +24,8 @@ use Rattle.epoch_laws.proofs.TicketsOnce.{end_calls_all}
 abbrev end_of : State → Ending
 end_of s = s.ending
 
-performs_apart : (old new : State) (p : ℕ) (seat : Seat) (s : Stage) (ask : Ask) (reply : Reply)
-    → Performs old p seat s ask reply new → new.ending ≡ old.ending
+performs_apart : (old new : State) (p : ℕ) (seat : WorldSeat) (s : Stage) (ask : Ask) (reply : Reply)
+    → PerformsAsk old p seat s ask reply new → new.ending ≡ old.ending
 performs_apart old new p seat s LoadEpoch reply did = ap end_of did.1
 performs_apart old new p seat s (LoadWord k) reply did = ap end_of did.1
 performs_apart old new p seat s (StorePinned e) reply did = ap end_of did.1
@@ -38,13 +38,13 @@ performs_apart old new p seat s (TakeBag x) reply (step, jobs, queued, told, tak
 performs_apart old new p seat s KeepJob reply did = ap end_of did.1
 performs_apart old new p seat s CallJob reply (job, jobs, hand, told, is) = ap end_of is
 
-drives_apart : (old new : State) (p : ℕ) (seat : Seat) (c : Call) (s : Stage) (ask : Option Ask) (reply : Reply)
-    → Drives old p seat c s ask reply new → new.ending ≡ old.ending
+drives_apart : (old new : State) (p : ℕ) (seat : WorldSeat) (c : Call) (s : Stage) (ask : Option Ask) (reply : Reply)
+    → DrivesCall old p seat c s ask reply new → new.ending ≡ old.ending
 drives_apart old new p seat c s (Some ask) reply did = performs_apart old new p seat s ask reply did
 drives_apart old new p seat c s None reply did = ap end_of did.1
 
-goes_apart : (old new : State) (p : ℕ) (seat : Seat) (progress : Progress) (reply : Reply)
-    → Goes old p seat progress reply new → new.ending ≡ old.ending
+goes_apart : (old new : State) (p : ℕ) (seat : WorldSeat) (progress : Progress) (reply : Reply)
+    → DoesGo old p seat progress reply new → new.ending ≡ old.ending
 goes_apart old new p seat Idle reply did = ap end_of did.1
 goes_apart old new p seat (Driven c) reply did =
     drives_apart old new p seat c seat.machine.stage (ask_at seat.machine.stage) reply did
@@ -53,7 +53,7 @@ goes_apart old new p seat (Accesses a k found) reply (did, touches, told, is) = 
 goes_apart old new p seat (Ends last) reply did = ap end_of did.1
 
 begins_apart : (old new : State) (p : ℕ) (c : Call) (fault : Option Fault) (reply : Reply)
-    → Begins old p c fault reply new → new.ending ≡ old.ending
+    → BeginsCall old p c fault reply new → new.ending ≡ old.ending
 begins_apart old new p c (Some fault) reply did = ap end_of did.1
 begins_apart old new p c None reply did = ap end_of did.1
 

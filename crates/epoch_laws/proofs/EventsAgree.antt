@@ -10,7 +10,7 @@ use Rattle.epoch_laws.specs.declared.step.Reply.TheVariants.{Done}
 use Rattle.epoch_laws.specs.declared.step.Word.TheVariants.{Free}
 use Rattle.epoch_laws.specs.declared.step.Progress.{Progress}
 use Rattle.epoch_laws.specs.declared.step.Progress.TheVariants.{Idle, Driven, CallsNow, Ends, Accesses}
-use Rattle.epoch_laws.specs.Run.{Seat, State, seat_of, with_seat}
+use Rattle.epoch_laws.specs.Run.{WorldSeat, State, seat_of, with_seat}
 use Rattle.epoch_laws.specs.Lawful.{Told, after_refused, after_done, HasTold, AnswerFits, MayCallNow}
 use Rattle.epoch_laws.proofs.SeatLemmas.{seat_written, seat_other, same_or_other}
 use Rattle.epoch_laws.proofs.GuardLists.{has_any}
@@ -46,7 +46,7 @@ pub record IsAway (t : Told) : Type 0 where
   pub paused : t.paused ≡ None
   pub pinned : t.pinned ≡ false
 
-pub record Agrees (t : Told) (seat : Seat) : Type 0 where
+pub record Agrees (t : Told) (seat : WorldSeat) : Type 0 where
   pub guards : t.guards ≡ seat.guards
   pub paused : t.paused ≡ seat.paused
   pub told : ToldOf t seat.machine seat.progress
@@ -57,7 +57,7 @@ abbrev pub AllAgree : State → (ℕ → Told) → Type 0
 AllAgree s told = (q : ℕ) → Agrees (told q) (seat_of s q)
 
 -- what is told of p is changed by f, and nothing that is told of others
-by_position : (told : ℕ → Told) (f : Told → Told) (p : ℕ) (seats : ℕ → Seat)
+by_position : (told : ℕ → Told) (f : Told → Told) (p : ℕ) (seats : ℕ → WorldSeat)
     → Agrees (f (told p)) (seats p)
     → ((q : ℕ) → q ≢ p → Agrees (told q) (seats q))
     → (q : ℕ) → Agrees (if p == q then f (told q) else told q) (seats q)
@@ -74,14 +74,14 @@ by_position told f p seats own others q = elim (same_or_other q p) [
     at_other one other ne = grind (arith, nat_tests)
 
 -- the seat of p is written
-pub seat_agrees : (s : State) (told : ℕ → Told) (f : Told → Told) (p : ℕ) (seat : Seat)
+pub seat_agrees : (s : State) (told : ℕ → Told) (f : Told → Told) (p : ℕ) (seat : WorldSeat)
     → AllAgree s told
     → p < length s.seats
     → Agrees (f (told p)) seat
     → (q : ℕ) → Agrees (if p == q then f (told q) else told q) (seat_of (with_seat s p seat) q)
 seat_agrees s told f p seat h there own = by_position told f p (seat_of (with_seat s p seat))
-    (subst (λ (at : Seat). Agrees (f (told p)) at) (sym (seat_written s p seat there)) own)
-    (λ q ne. subst (λ (at : Seat). Agrees (told q) at) (sym (seat_other s p q seat ne)) (h q))
+    (subst (λ (at : WorldSeat). Agrees (f (told p)) at) (sym (seat_written s p seat there)) own)
+    (λ q ne. subst (λ (at : WorldSeat). Agrees (told q) at) (sym (seat_other s p q seat ne)) (h q))
 
 -- no seat is written
 pub told_agrees : (s : State) (told : ℕ → Told) (f : Told → Told) (p : ℕ)

@@ -7,7 +7,7 @@ use Rattle.epoch_heap.specs.declared.access.Answer.TheVariants.{Unit as UnitAnsw
 use Rattle.epoch_laws.specs.declared.step.Reply.TheVariants.{Began, Done}
 use Rattle.epoch_laws.specs.declared.step.Progress.{Progress}
 use Rattle.epoch_laws.specs.declared.step.Progress.TheVariants.{Idle, CallsNow, Ends, Accesses}
-use Rattle.epoch_laws.specs.Run.{Seat, waits, drives, begun_seat, reads, under_guard, access_refusal}
+use Rattle.epoch_laws.specs.Run.{WorldSeat, waits, drives, begun_seat, reads, under_guard, access_refusal}
 use Rattle.epoch_laws.specs.Lawful.{Told, after_begin, MayCallNow, HasTold, AccessAnswers, AnswerFits, GuardsAllow, MayAccept}
 use Rattle.epoch_laws.proofs.SeatLemmas.{IsAccepted}
 use Rattle.epoch_laws.proofs.SeatLinks.{action_of, BeganUnder, IsLinked}
@@ -45,9 +45,9 @@ absent_fits (Place v) none = absurd (cc (none))
 absent_fits (Leave ptr) none = absurd (cc (none))
 absent_fits (Point g spot change) none = absurd (cc (none))
 
-module _ (t : Told) (seat : Seat) (sizes : Sizes) (tickets : ℕ) (heap : Heap)
+module _ (t : Told) (seat : WorldSeat) (sizes : Sizes) (tickets : ℕ) (heap : Heap)
     (h : Agrees t seat) (linked : IsLinked sizes seat) where
-  abbrev Begins : Call → Seat → Type 0
+  abbrev Begins : Call → WorldSeat → Type 0
   Begins c after = Agrees (after_begin t c Began) after
 
   rests : seat.progress ≡ Idle → PinnedByGuards t

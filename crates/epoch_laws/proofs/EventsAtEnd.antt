@@ -9,7 +9,7 @@ use Rattle.epoch_heap.specs.declared.access.Answer.TheVariants.{Guard, Unit as U
 use Rattle.epoch_laws.specs.declared.step.Reply.{Reply}
 use Rattle.epoch_laws.specs.declared.step.Reply.TheVariants.{Done, Refused}
 use Rattle.epoch_laws.specs.declared.step.Word.TheVariants.{Free}
-use Rattle.epoch_laws.specs.Run.{Seat, without, lowest, full_or_done, end_reply, with_guards, ended_seat}
+use Rattle.epoch_laws.specs.Run.{WorldSeat, without, lowest, full_or_done, end_reply, with_guards, ended_seat}
 use Rattle.epoch_laws.specs.Lawful.{Told, counted_after, paused_after, registered_after, after_done, after_go, HasTold, AnswerFits, HasToldRefused, MayTell}
 use Rattle.epoch_laws.proofs.SeatLinks.{BeganUnder}
 use Rattle.epoch_laws.proofs.GuardLists.{has_any, some_with}
@@ -17,7 +17,7 @@ use Rattle.epoch_laws.proofs.ToldAtStages.{AtEnd, ToldAt}
 use Rattle.epoch_laws.proofs.EventsAgree.{PinnedByGuards, Agrees}
 
 -- the reply may stand, and what it tells agrees with the seat after it
-abbrev pub Tells : ℕ → Told → Reply → Seat → Type 0
+abbrev pub Tells : ℕ → Told → Reply → WorldSeat → Type 0
 Tells p t reply after = MayTell p t reply × Agrees (after_go t reply) after
 
 -- the calls that a store without a place refuses, and that are done else
@@ -45,7 +45,7 @@ told_by t (DeferDestroy (Some g) ptr) false under may told = (told, tt)
 told_by t (DeferDestroy None ptr) full under may told = absurd under
 told_by t _ full under may told = absurd (cc)
 
-module _ (t : Told) (seat : Seat) (p : ℕ) (taken : seat.word ≢ Free) (h : Agrees t seat) where
+module _ (t : Told) (seat : WorldSeat) (p : ℕ) (taken : seat.word ≢ Free) (h : Agrees t seat) where
   -- the call is done, and leaves these guards
   done : (c : Call) (answer : Answer) (left : List ℕ) (paused : Option ℕ) → t.call ≡ Some c → HasTold (Some c) t
       → AnswerFits (Some c) answer → counted_after (Some c) answer t.guards ≡ left

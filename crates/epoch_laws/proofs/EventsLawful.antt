@@ -10,7 +10,7 @@ use Rattle.epoch_laws.specs.declared.step.Reply.{Reply}
 use Rattle.epoch_laws.specs.declared.step.Reply.TheVariants.{Registered, Began, Refused}
 use Rattle.epoch_laws.specs.declared.step.Entry.{Entry}
 use Rattle.epoch_laws.specs.declared.step.Word.TheVariants.{Free, Unpinned}
-use Rattle.epoch_laws.specs.Run.{with_places, Seat, State, Ending, Open, Emptying, Over, seat_of, word_of, with_seat, free_seat, refusal, begun_seat, Begins, EndGoes, Moves, Runs, IsFresh}
+use Rattle.epoch_laws.specs.Run.{with_places, WorldSeat, State, Ending, Open, Emptying, Over, seat_of, position_word, with_seat, free_seat, refusal, begun_seat, BeginsCall, EndGoes, Moves, Runs, IsFresh}
 use Rattle.epoch_laws.specs.Lawful.{Told, nothing, after_begin, after_go, told_after, HasToldRefused, MayEnd, MayEndGo, MayReply, MayReplyAll}
 use Rattle.epoch_laws.proofs.SeatLemmas.{seat_there, IsAccepted, begin_given}
 use Rattle.epoch_laws.proofs.SeatLinks.{AllLinked}
@@ -26,7 +26,7 @@ ShowsStep new told step reply = MayReply told step reply × AllAgree new (λ q. 
 
 module _ (old new : State) (told : ℕ → Told) (reply : Reply) (h : AllAgree old told) (linked : AllLinked old) where
   begin_shown : (p : ℕ) (c : Call) (fault : Option Fault) → refusal c (seat_of old p) old.tickets old.heap ≡ fault
-      → Begins old p c fault reply new → ShowsStep new told (Begin p c) reply
+      → BeginsCall old p c fault reply new → ShowsStep new told (Begin p c) reply
   begin_shown p c (Some fault) e did = subst (λ (r : Reply). ShowsStep new told (Begin p c) r) (sym did.0)
       (subst (λ (s : State). ShowsStep s told (Begin p c) (Refused fault)) (sym did.1)
       (tt, told_agrees old told (λ u. after_begin u c (Refused fault)) p h (h p)))
@@ -43,20 +43,20 @@ module _ (old new : State) (told : ℕ → Told) (reply : Reply) (h : AllAgree o
 
   -- no seat is written, and nothing is told of a participant
   untold : new.sizes ≡ old.sizes → new.seats ≡ old.seats → AllAgree new told
-  untold sizes seats q = subst (λ (at : Seat). Agrees (told q) at) (sym same) (h q)
+  untold sizes seats q = subst (λ (at : WorldSeat). Agrees (told q) at) (sym same) (h q)
     where
       same : seat_of new q ≡ seat_of old q
-      same = ap (λ (ss : List Seat). slice_index_or ss q (free_seat new.sizes)) seats
+      same = ap (λ (ss : List WorldSeat). slice_index_or ss q (free_seat new.sizes)) seats
           ∙ ap (λ (z : Sizes). slice_index_or old.seats q (free_seat z)) sizes
 
   untold_along : (last : State) → new ≡ last → last.sizes ≡ old.sizes → last.seats ≡ old.seats → AllAgree new told
   untold_along last e sizes seats =
       untold (ap (λ (s : State). s.sizes) e ∙ sizes) (ap (λ (s : State). s.seats) e ∙ seats)
 
-  abbrev taken : Seat
+  abbrev taken : WorldSeat
   taken = record (free_seat old.sizes) { word = Unpinned }
 
-  registered : (p : ℕ) → p < length old.seats → word_of old p ≡ Free → reply ≡ Registered p
+  registered : (p : ℕ) → p < length old.seats → position_word old p ≡ Free → reply ≡ Registered p
       → new ≡ with_seat old p taken → ShowsStep new told Register reply
   registered p there free told_so e = subst (λ (r : Reply). ShowsStep new told Register r) (sym told_so)
       (subst (λ (s : State). ShowsStep s told Register (Registered p)) (sym e) (
@@ -82,7 +82,7 @@ module _ (old new : State) (told : ℕ → Told) (reply : Reply) (h : AllAgree o
       (tt, untold_along old e refl refl)
 
   -- a Go of a position that is free
-  away_shown : (p : ℕ) → word_of old p ≡ Free → reply ≡ Refused NotRegistered → new ≡ old
+  away_shown : (p : ℕ) → position_word old p ≡ Free → reply ≡ Refused NotRegistered → new ≡ old
       → ShowsStep new told (Go p) reply
   away_shown p free told_so e =
       let away : IsAway (told p) = (h p).away free in
@@ -139,4 +139,4 @@ replies_stand s new log fresh run = replies_from s new log (λ p. nothing) all_f
     }
 
     all_free : AllAgree s (λ p. nothing)
-    all_free q = subst (λ (at : Seat). Agrees nothing at) (sym (fresh.free q)) none_told
+    all_free q = subst (λ (at : WorldSeat). Agrees nothing at) (sym (fresh.free q)) none_told

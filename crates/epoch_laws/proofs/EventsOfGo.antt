@@ -21,7 +21,7 @@ use Rattle.epoch_laws.specs.declared.step.Word.{Word}
 use Rattle.epoch_laws.specs.declared.step.Word.TheVariants.{Free, Unpinned, Pinned}
 use Rattle.epoch_laws.specs.declared.step.Progress.{Progress}
 use Rattle.epoch_laws.specs.declared.step.Progress.TheVariants.{Idle, Driven, CallsNow, Ends, Accesses}
-use Rattle.epoch_laws.specs.Run.{Seat, State, seat_of, word_of, number_of, with_seat, with_word, with_machine, free_seat, end_reply, ended_seat, Drives, Goes, access_reply, accessed_seat, removed_by}
+use Rattle.epoch_laws.specs.Run.{WorldSeat, State, seat_of, position_word, word_number, with_seat, with_word, with_machine, free_seat, end_reply, ended_seat, DrivesCall, DoesGo, access_reply, accessed_seat, removed_by}
 use Rattle.epoch_laws.specs.Lawful.{Told, after_done, after_refused, after_go, told_after, MayPin, MayUnpin, MayRepin, MayDefer, MayCall, MayCallNow, HasTold, AnswerFits, HasToldRefused, MayTell}
 use Rattle.epoch_laws.proofs.SeatLemmas.{seat_there}
 use Rattle.epoch_laws.proofs.SeatLinks.{action_of, BeganUnder, IsDriven, IsLinked, follows_at}
@@ -35,7 +35,7 @@ use Rattle.epoch_heap.specs.declared.access.Accessed.TheVariants.{Again, Answers
 use Rattle.epoch_heap.specs.declared.access.Ptr.{Ptr}
 use Rattle.epoch_cells.specs.declared.cells.name.Name.{Name}
 use Rattle.epoch_bags.specs.declared.job.Called.{Called}
-use Rattle.epoch_heap.specs.Heap.{outcome_of, after_job}
+use Rattle.epoch_heap.specs.Heap.{outcome_of, heap_after_job}
 use Rattle.epoch_laws.proofs.AccessesTold.{IsTold, told_by_touch}
 
 -- what a step of p has to show: its reply may stand, and what is told from then on agrees with the seats
@@ -54,8 +54,8 @@ abbrev KeepsCall : Told → Told → Type 0
 KeepsCall t u = (u.registered ≡ t.registered) × (u.call ≡ t.call) × (u.guards ≡ t.guards) × (u.paused ≡ t.paused)
 
 module _ (old new : State) (told : ℕ → Told) (reply : Reply) (h : AllAgree old told) (p : ℕ)
-    (taken : word_of old p ≢ Free) (linked : IsLinked old.sizes (seat_of old p)) where
-  abbrev seat : Seat
+    (taken : position_word old p ≢ Free) (linked : IsLinked old.sizes (seat_of old p)) where
+  abbrev seat : WorldSeat
   seat = seat_of old p
 
   abbrev m : Machine Deferral
@@ -68,17 +68,17 @@ module _ (old new : State) (told : ℕ → Told) (reply : Reply) (h : AllAgree o
   Goal = Shows new told p reply
 
   -- the seats of this state are those before the step, but for that of p
-  abbrev Writes : State → Seat → Type 0
+  abbrev Writes : State → WorldSeat → Type 0
   Writes last after = (q : ℕ) → seat_of last q ≡ seat_of (with_seat old p after) q
 
   -- the step tells this of p, and writes its seat alone
-  tells : (tell : Reply) (after : Seat) (last : State) → Tells p t tell after
+  tells : (tell : Reply) (after : WorldSeat) (last : State) → Tells p t tell after
       → reply ≡ tell → new ≡ last → Writes last after → Goal
   tells tell after last (may, own) told_so e writes = subst (λ (r : Reply). Shows new told p r) (sym told_so)
       (subst (λ (s : State). Shows s told p tell) (sym e) (may, agrees))
     where
       agrees : AllAgree last (λ q. told_after q (told q) (Go p) tell)
-      agrees q = subst (λ (at : Seat). Agrees (told_after q (told q) (Go p) tell) at) (sym (writes q))
+      agrees q = subst (λ (at : WorldSeat). Agrees (told_after q (told q) (Go p) tell) at) (sym (writes q))
           (seat_agrees old told (λ u. after_go u tell) p after h (seat_there old p taken) own q)
 
   module _ (c : Call) (drive : seat.progress ≡ Driven c) where
@@ -158,7 +158,7 @@ module _ (old new : State) (told : ℕ → Told) (reply : Reply) (h : AllAgree o
         none : t.guards ≡ []
         none = none_is t.guards (subst (λ (d : Call). BeganUnder d t.guards) told.0 under)
 
-    tell_drive : (s : Stage) → At s → Drives old p seat c s (ask_at s) reply new → Goal
+    tell_drive : (s : Stage) → At s → DrivesCall old p seat c s (ask_at s) reply new → Goal
     tell_drive Resting (told, on) did = absurd told
     tell_drive LoadPin at did = moves (StorePin old.epoch) at did
     tell_drive (StorePin e) (told, on) did =
@@ -170,7 +170,7 @@ module _ (old new : State) (told : ℕ → Told) (reply : Reply) (h : AllAgree o
     tell_drive ReloadPin at did = moves (after_pin m) (machine_pinned t c m drives under at) did
     tell_drive LoadScan at did = moves (Scan old.epoch 0) at did
     tell_drive (Scan e k) (told, on) did =
-        moves _ (machine_scanned t c m drives under e k (number_of (word_of old k)) told on) did
+        moves _ (machine_scanned t c m drives under e k (word_number (position_word old k)) told on) did
     tell_drive (Advance e) at did = steps (with_stage m (Take (e + 1) 0)) _ at did.0 did.1 (λ q. refl)
     tell_drive (Take x k) at (step, jobs, queued, told_so, took, e) =
         tell_take x k step jobs _ at told_so e (λ q. refl)
@@ -228,7 +228,7 @@ module _ (old new : State) (told : ℕ → Told) (reply : Reply) (h : AllAgree o
   -- a job is called at once
   tell_calls_now : (removes : Option Name) (how : Called) → seat.progress ≡ CallsNow removes → reply ≡ CalledNow how
       → new ≡ record (with_seat old p (record seat { progress = Ends (Done UnitAnswer) }))
-      { heap = after_job old.heap removes } → Goal
+      { heap = heap_after_job old.heap removes } → Goal
   tell_calls_now removes how now told_so e = by_told (told_of (CallsNow removes) now)
     where
       called : Told
@@ -310,7 +310,7 @@ module _ (old new : State) (told : ℕ → Told) (reply : Reply) (h : AllAgree o
             }),
           ) (told_so ∙ done.1) e (λ q. refl)
 
-  pub tell_go : (progress : Progress) → seat.progress ≡ progress → Goes old p seat progress reply new → Goal
+  pub tell_go : (progress : Progress) → seat.progress ≡ progress → DoesGo old p seat progress reply new → Goal
   tell_go Idle at did = tell_idle at did.0 did.1
   tell_go (Driven c) at did = tell_drive c at m.stage (told_call c at).1 did
   tell_go (CallsNow removes) at did = tell_calls_now removes _ at did.0 did.1

@@ -5,9 +5,9 @@ use Rattle.epoch_machine.specs.Machine.{Machine, PutsHeld}
 use Rattle.epoch_laws.specs.declared.step.Deferral.{Deferral}
 use Rattle.epoch_laws.specs.declared.step.Reply.{Reply}
 use Rattle.epoch_laws.specs.declared.step.Step.TheVariants.{Go}
-use Rattle.epoch_laws.specs.Full.{Puts, found_after}
+use Rattle.epoch_laws.specs.Full.{IsOfPut, found_after}
 use Rattle.epoch_laws.specs.Places.{PutSees}
-use Rattle.epoch_laws.specs.Run.{State, seat_of, turn_of, sight_of}
+use Rattle.epoch_laws.specs.Run.{State, seat_of, turn_of, occupancy_of}
 use Rattle.epoch_laws.proofs.SeatsFind.{SameFound}
 use Rattle.epoch_laws.proofs.PutSteps.{FindsMore, bags_stay, not_done}
 
@@ -21,15 +21,15 @@ module _ (found : ℕ → ℕ → Type 0) (old new : State) (reply : Reply) (p :
     back = λ k at. elim at [ inl earlier ↦ earlier | inr own ↦ absurd (other own.0) ];
   }
 
-  pub own_same : ¬ (Puts (turn_of (seat_of old p))) → SameFound (found p) (later p)
+  pub own_same : ¬ (IsOfPut (turn_of (seat_of old p))) → SameFound (found p) (later p)
   own_same off = record {
     more = λ k at. inl at;
     back = λ k at. elim at [ inl earlier ↦ earlier | inr own ↦ absurd (off own.1.puts) ];
   }
 
-  pub put_more : (seal : ℕ) (m : Machine Deferral) (step : PutStep) → Puts (turn_of (seat_of old p))
-      → PutsHeld seal m old.queued step new.queued → PutSees step (sight_of old p) (sight_of new p)
-      → FindsMore (found p) (later p) step (sight_of old p) (sight_of new p)
+  pub put_more : (seal : ℕ) (m : Machine Deferral) (step : PutStep) → IsOfPut (turn_of (seat_of old p))
+      → PutsHeld seal m old.queued step new.queued → PutSees step (occupancy_of old p) (occupancy_of new p)
+      → FindsMore (found p) (later p) step (occupancy_of old p) (occupancy_of new p)
   put_more seal m step puts put sees = record {
     more = λ k at. inl at;
     passed = λ on k from below. inr (

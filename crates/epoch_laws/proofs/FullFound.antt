@@ -12,9 +12,9 @@ use Rattle.epoch_laws.specs.declared.step.Step.{Step}
 use Rattle.epoch_laws.specs.declared.step.Step.TheVariants.{Register, Begin, Go, End as EndStep, EndGo}
 use Rattle.epoch_laws.specs.declared.step.Word.{Word}
 use Rattle.epoch_laws.specs.declared.step.Word.TheVariants.{Free, Unpinned}
-use Rattle.epoch_laws.specs.Full.{Puts, found_after, TellsFull, FullAlong, none_found, FullWhereFound}
-use Rattle.epoch_laws.specs.Places.{Looks}
-use Rattle.epoch_laws.specs.Run.{State, Ending, Open, Emptying, Over, seat_of, word_of, with_seat, with_places, free_seat, seen_by, sight_of, turn_at, turn_of, refusal, Begins, EndGoes, Sees, Takes, Runs, IsFresh}
+use Rattle.epoch_laws.specs.Full.{IsOfPut, found_after, TellsFull, FullAlong, none_found, FullWhereFound}
+use Rattle.epoch_laws.specs.Places.{SeesOccupied}
+use Rattle.epoch_laws.specs.Run.{State, Ending, Open, Emptying, Over, seat_of, position_word, with_seat, with_places, free_seat, seen_by, occupancy_of, turn_at, turn_of, refusal, BeginsCall, EndGoes, SeesPlaces, TakesStep, Runs, IsFresh}
 use Rattle.epoch_laws.proofs.SeatLemmas.{seat_there, begin_given, same_or_other}
 use Rattle.epoch_laws.proofs.SeatLinks.{AllLinked, follows_at}
 use Rattle.epoch_laws.proofs.Linked.{step_linked, fresh_linked}
@@ -31,7 +31,7 @@ module _ (old new : State) (reply : Reply) (found : ℕ → ℕ → Type 0) (h :
   aside_of = with_places new old.places old.seen old.ahead old.room
 
   -- nothing is found, and no seat is written
-  stays : (step : Step) → Sees old step new → ((q : ℕ) → seen_by new q ≡ seen_by old q)
+  stays : (step : Step) → SeesPlaces old step new → ((q : ℕ) → seen_by new q ≡ seen_by old q)
       → ((q : ℕ) → SameFound (found q) (found_after found old step reply new q))
       → (last : State) → aside_of ≡ last → ((q : ℕ) → seat_of last q ≡ seat_of old q)
       → AllFind (found_after found old step reply new) new
@@ -40,7 +40,7 @@ module _ (old new : State) (reply : Reply) (found : ℕ → ℕ → Type 0) (h :
       (λ q. ap (λ (s : State). seat_of s q) e ∙ seats q)
 
   registers : (p : ℕ) → p < length old.seats
-      → Sees old Register new → aside_of ≡ with_seat old p (record (free_seat old.sizes) { word = Unpinned })
+      → SeesPlaces old Register new → aside_of ≡ with_seat old p (record (free_seat old.sizes) { word = Unpinned })
       → AllFind found new
   registers p there sees e = find_written old new found found h (same_count old new Register sees) p _ there
       (λ q other. as_before (found q)) (λ q other. ap (λ (all : List ℕ). slice_index_or all q 0) sees.1)
@@ -48,8 +48,8 @@ module _ (old new : State) (reply : Reply) (found : ℕ → ℕ → Type 0) (h :
       (rest_finds _ _ _ (record (free_seat old.sizes) { word = Unpinned }) refl tt (λ plain. refl))
 
   begins : (p : ℕ) (c : Call) (fault : Option Fault)
-      → refusal c (seat_of old p) old.tickets old.heap ≡ fault → Sees old (Begin p c) new
-      → Begins old p c fault reply aside_of → ShowsFull found old new (Begin p c) reply
+      → refusal c (seat_of old p) old.tickets old.heap ≡ fault → SeesPlaces old (Begin p c) new
+      → BeginsCall old p c fault reply aside_of → ShowsFull found old new (Begin p c) reply
   begins p c (Some fault) at sees did = subst (ShowsFull found old new (Begin p c)) (sym did.0) (
     tt,
     find_along old new found _ h (same_count old new (Begin p c) sees) (λ q. as_before (found q))
@@ -71,15 +71,15 @@ module _ (old new : State) (reply : Reply) (found : ℕ → ℕ → Type 0) (h :
       begun_same : (q : ℕ) → q ≢ p → SameFound (found q) (found_after found old (Begin p c) Began new q)
       begun_same q other = record { more = λ k was. (other, was); back = λ k was. was.1 }
 
-  goes_free : (p : ℕ) → word_of old p ≡ Free
-      → Sees old (Go p) new → reply ≡ Refused NotRegistered → aside_of ≡ old → ShowsFull found old new (Go p) reply
+  goes_free : (p : ℕ) → position_word old p ≡ Free
+      → SeesPlaces old (Go p) new → reply ≡ Refused NotRegistered → aside_of ≡ old → ShowsFull found old new (Go p) reply
   goes_free p free sees told e = (
     subst (TellsFull found old (Go p)) (sym told) tt,
     stays (Go p) sees seen same_found old e (λ q. refl),
   )
     where
-      off : ¬ (Puts (turn_of (seat_of old p)))
-      off puts = subst (λ (w : Word). Puts (turn_at w (seat_of old p).progress (seat_of old p).machine.stage)) free puts
+      off : ¬ (IsOfPut (turn_of (seat_of old p)))
+      off puts = subst (λ (w : Word). IsOfPut (turn_at w (seat_of old p).progress (seat_of old p).machine.stage)) free puts
 
       same_found : (q : ℕ) → SameFound (found q) (found_after found old (Go p) reply new q)
       same_found q = elim (same_or_other q p) [
@@ -91,8 +91,8 @@ module _ (old new : State) (reply : Reply) (found : ℕ → ℕ → Type 0) (h :
       own : seen_by new p ≡ seen_by old p
       own =
           (subst
-          (λ (w : Word). Looks (turn_at w (seat_of old p).progress (seat_of old p).machine.stage)
-          (seat_of old p).machine (seat_of new p).machine (sight_of old p) (sight_of new p)) free sees.0).1
+          (λ (w : Word). SeesOccupied (turn_at w (seat_of old p).progress (seat_of old p).machine.stage)
+          (seat_of old p).machine (seat_of new p).machine (occupancy_of old p) (occupancy_of new p)) free sees.0).1
 
       seen : (q : ℕ) → seen_by new q ≡ seen_by old q
       seen q = elim (same_or_other q p) [
@@ -101,7 +101,7 @@ module _ (old new : State) (reply : Reply) (found : ℕ → ℕ → Type 0) (h :
       ]
 
   -- a step of the end
-  ends_all : (ending : Ending) → Sees old EndGo new → EndGoes old ending reply aside_of → AllFind found new
+  ends_all : (ending : Ending) → SeesPlaces old EndGo new → EndGoes old ending reply aside_of → AllFind found new
   ends_all ending sees did = by_ending ending did
     where
       along : (last : State) → aside_of ≡ last → ((q : ℕ) → seat_of last q ≡ seat_of old q) → AllFind found new
@@ -121,7 +121,7 @@ module _ (old new : State) (reply : Reply) (found : ℕ → ℕ → Type 0) (h :
   still same last e seats = find_along old new found found h (ap length same.0) (λ q. as_before (found q))
       (λ q. ap (λ (all : List ℕ). slice_index_or all q 0) same.1) (λ q. ap (λ (s : State). seat_of s q) e ∙ seats q)
 
-  step_shown : (step : Step) → Takes old step reply new → ShowsFull found old new step reply
+  step_shown : (step : Step) → TakesStep old step reply new → ShowsFull found old new step reply
   step_shown Register (inl did, sees) = (tt, registers did.0 did.2 sees did.6)
   step_shown Register (inr (inl did), sees) = (tt, still sees old did.3 (λ q. refl))
   step_shown Register (inr (inr did), sees) = (tt, still sees old did.2 (λ q. refl))

@@ -22,11 +22,11 @@ use Rattle.epoch_laws.specs.declared.step.Step.{Step}
 use Rattle.epoch_laws.specs.declared.step.Step.TheVariants.{Go}
 use Rattle.epoch_laws.specs.declared.step.Word.{Word}
 use Rattle.epoch_laws.specs.declared.step.Word.TheVariants.{Free, Unpinned, Pinned}
-use Rattle.epoch_laws.specs.Full.{Puts, found_after, TellsFull}
-use Rattle.epoch_laws.specs.Places.{Looks, PutSees}
-use Rattle.epoch_laws.specs.Run.{Bag, Seat, State, seat_of, word_of, number_of, with_seat, with_word, with_machine, with_places, free_seat, seen_by, sight_of, turn_at, turn_of, ended_seat, end_reply, full_or_done, Drives, Goes, Sees, access_reply, accessed_seat, progress_after, removed_by}
+use Rattle.epoch_laws.specs.Full.{IsOfPut, found_after, TellsFull}
+use Rattle.epoch_laws.specs.Places.{SeesOccupied, PutSees}
+use Rattle.epoch_laws.specs.Run.{Bag, WorldSeat, State, seat_of, position_word, word_number, with_seat, with_word, with_machine, with_places, free_seat, seen_by, occupancy_of, turn_at, turn_of, ended_seat, end_reply, full_or_done, DrivesCall, DoesGo, SeesPlaces, access_reply, accessed_seat, progress_after, removed_by}
 use Rattle.epoch_laws.proofs.SeatLemmas.{seat_there, seat_written}
-use Rattle.epoch_laws.proofs.SeatLinks.{action_of, Follows, AllLinked, follows_at}
+use Rattle.epoch_laws.proofs.SeatLinks.{action_of, IsInStep, AllLinked, follows_at}
 use Rattle.epoch_laws.proofs.ToldAtStages.{either_stage}
 use Rattle.epoch_laws.proofs.PutStages.{NoneFound, FoundSeen, FoundWhere, none_missed, puts_bag, NoneYet, FoundAt, found_unpinned, machine_collected, machine_pinned, machine_scanned, machine_called}
 use Rattle.epoch_laws.proofs.SeatsFind.{FoundIn, PutFinds, SameFound, none_still, finds_still, rest_finds, ended_finds, on_finds}
@@ -45,8 +45,8 @@ ShowsFull found old new step reply = TellsFull found old step reply × AllFind (
 -- A STEP GO OF A CALL THAT IS DRIVEN
 
 module _ (old new : State) (reply : Reply) (found : ℕ → ℕ → Type 0) (h : AllFind found old) (p : ℕ)
-    (taken : word_of old p ≢ Free) (sees : Sees old (Go p) new) where
-  abbrev seat : Seat
+    (taken : position_word old p ≢ Free) (sees : SeesPlaces old (Go p) new) where
+  abbrev seat : WorldSeat
   seat = seat_of old p
 
   abbrev m : Machine Deferral
@@ -61,15 +61,15 @@ module _ (old new : State) (reply : Reply) (found : ℕ → ℕ → Type 0) (h :
   abbrev Goal : Type 0
   Goal = ShowsFull found old new (Go p) reply
 
-  abbrev Finds : Seat → Type 0
+  abbrev Finds : WorldSeat → Type 0
   Finds after = PutFinds (later p) (length new.places) (seen_by new p) after
 
   -- the seats of this state are those before the step, but for that of p
-  abbrev Writes : State → Seat → Type 0
+  abbrev Writes : State → WorldSeat → Type 0
   Writes last after = (q : ℕ) → seat_of last q ≡ seat_of (with_seat old p after) q
 
   -- the step tells this, and writes the seat of p alone
-  tells : (tell : Reply) (after : Seat) (last : State) → TellsFull found old (Go p) tell → Finds after
+  tells : (tell : Reply) (after : WorldSeat) (last : State) → TellsFull found old (Go p) tell → Finds after
       → reply ≡ tell → aside ≡ last → Writes last after → Goal
   tells tell after last full finds told e writes = (
     subst (TellsFull found old (Go p)) (sym told) full,
@@ -95,13 +95,13 @@ module _ (old new : State) (reply : Reply) (found : ℕ → ℕ → Type 0) (h :
     Is s = IsOf (with_stage m s)
 
     -- a step that isn't one of a put
-    module _ (s : Stage) (at : m.stage ≡ s) (off : ¬ (Puts (ask_at s))) where
+    module _ (s : Stage) (at : m.stage ≡ s) (off : ¬ (IsOfPut (ask_at s))) where
       before : PutFinds (later p) (length new.places) (seen_by old p) seat
       before = subst (λ (n : ℕ). PutFinds (later p) n (seen_by old p) seat) (sym (same_count old new (Go p) sees))
           (finds_still (found p) (later p) same (length old.places) (seen_by old p) seat (h p))
         where
           same : SameFound (found p) (later p)
-          same = own_same found old new reply p (λ puts. off (subst Puts (asked (Driven c) s drive at) puts))
+          same = own_same found old new reply p (λ puts. off (subst IsOfPut (asked (Driven c) s drive at) puts))
 
       was : Was s
       was = subst Was at before.by_stage
@@ -165,7 +165,7 @@ module _ (old new : State) (reply : Reply) (found : ℕ → ℕ → Type 0) (h :
         (ended_finds _ _ _ c seat (h p).by_action) did.0 did.1 (λ q. refl)
 
     abbrev LooksFor : Option Ask → Type 0
-    LooksFor o = Looks o m (seat_of new p).machine (sight_of old p) (sight_of new p)
+    LooksFor o = SeesOccupied o m (seat_of new p).machine (occupancy_of old p) (occupancy_of new p)
 
     looks : (s : Stage) → m.stage ≡ s → LooksFor (ask_at s)
     looks s at = subst LooksFor (asked (Driven c) s drive at) sees.0
@@ -192,24 +192,24 @@ module _ (old new : State) (reply : Reply) (found : ℕ → ℕ → Type 0) (h :
         → aside ≡ record (with_seat old p (with_machine seat (put_heard m step))) { queued = queued }
         → Finds (with_machine seat (put_heard m step))
     puts s step queued at put e =
-        put_finds (found p) (later p) (sight_of old p) (sight_of new p) seat c s step (h p) drive at saw
-        (put_more found old new reply p s m step (subst Puts (sym (asked (Driven c) (Put s) drive at)) tt) stored saw)
+        put_finds (found p) (later p) (occupancy_of old p) (occupancy_of new p) seat c s step (h p) drive at saw
+        (put_more found old new reply p s m step (subst IsOfPut (sym (asked (Driven c) (Put s) drive at)) tt) stored saw)
       where
         looked : LooksFor (ask_at (Put s))
         looked = looks (Put s) at
 
         went : (seat_of new p).machine ≡ put_heard m step
-        went = ap (λ (s : State). (seat_of s p).machine) e ∙ ap (λ (seat : Seat). seat.machine)
+        went = ap (λ (s : State). (seat_of s p).machine) e ∙ ap (λ (seat : WorldSeat). seat.machine)
             (seat_written old p (with_machine seat (put_heard m step)) (seat_there old p taken))
 
-        saw : PutSees step (sight_of old p) (sight_of new p)
-        saw = subst (λ (now : PutStep). PutSees now (sight_of old p) (sight_of new p))
+        saw : PutSees step (occupancy_of old p) (occupancy_of new p)
+        saw = subst (λ (now : PutStep). PutSees now (occupancy_of old p) (occupancy_of new p))
             (same_step s m at looked.0 step (sym looked.1 ∙ went)) looked.2
 
         stored : PutsHeld s m old.queued step new.queued
         stored = subst (PutsHeld s m old.queued step) (sym (ap (λ (s : State). s.queued) e)) put
 
-    drives : (s : Stage) → m.stage ≡ s → Drives old p seat c s (ask_at s) reply aside → Goal
+    drives : (s : Stage) → m.stage ≡ s → DrivesCall old p seat c s (ask_at s) reply aside → Goal
     drives Resting at did = ends did
     drives LoadPin at did = moves LoadPin at (λ no. no) (StorePin old.epoch) (λ none. none) did
     drives (StorePin e) at did =
@@ -221,7 +221,7 @@ module _ (old new : State) (reply : Reply) (found : ℕ → ℕ → Type 0) (h :
         (λ none. machine_pinned (later p) (length new.places) (seen_by new p) m none) did
     drives LoadScan at did = moves LoadScan at (λ no. no) (Scan old.epoch 0) (λ none. none) did
     drives (Scan e k) at did =
-        let w : ℕ = number_of (word_of old k) in
+        let w : ℕ = word_number (position_word old k) in
         moves (Scan e k) at (λ no. no) (past_word m.sizes.positions e k w)
         (λ none. machine_scanned (later p) (length new.places) (seen_by new p) m none e k w) did
     drives (Advance e) at did =
@@ -265,10 +265,10 @@ module _ (old new : State) (reply : Reply) (found : ℕ → ℕ → Type 0) (h :
   -- A CALL THAT NO MACHINE DRIVES
 
   -- it finds nothing, with this step as before it
-  finds_none : (progress : Progress) → seat.progress ≡ progress → ¬ (Puts (turn_at Unpinned progress m.stage))
+  finds_none : (progress : Progress) → seat.progress ≡ progress → ¬ (IsOfPut (turn_at Unpinned progress m.stage))
       → NoneFound (found p) → NoneFound (later p)
   finds_none progress now off none = none_still (found p) (later p)
-      (own_same found old new reply p (λ puts. off (subst Puts (asked progress m.stage now refl) puts))) none
+      (own_same found old new reply p (λ puts. off (subst IsOfPut (asked progress m.stage now refl) puts))) none
 
   found_in : (progress : Progress) → seat.progress ≡ progress → FoundIn (found p) (length old.places) m.full progress
   found_in progress now = subst (FoundIn (found p) (length old.places) m.full) now (h p).by_progress
@@ -285,15 +285,15 @@ module _ (old new : State) (reply : Reply) (found : ℕ → ℕ → Type 0) (h :
   in_access a k NoSlot none = tt
 
   pub goes : AllLinked old → (progress : Progress) → seat.progress ≡ progress
-      → Goes old p seat progress reply aside → Goal
+      → DoesGo old p seat progress reply aside → Goal
   goes linked progress now did = by_progress progress now (follows_at old.sizes seat (linked.seats p) progress now) did
     where
       same_seat : (q : ℕ) → seat_of old q ≡ seat_of (with_seat old p seat) q
-      same_seat q = sym (ap (λ (seats : List Seat). slice_index_or seats q (free_seat old.sizes))
+      same_seat q = sym (ap (λ (seats : List WorldSeat). slice_index_or seats q (free_seat old.sizes))
           (set-get_or old.seats p (free_seat old.sizes)))
 
-      by_progress : (progress : Progress) → seat.progress ≡ progress → Follows progress m seat.guards
-          → Goes old p seat progress reply aside → Goal
+      by_progress : (progress : Progress) → seat.progress ≡ progress → IsInStep progress m seat.guards
+          → DoesGo old p seat progress reply aside → Goal
       by_progress Idle now rests did =
           let nothing : FoundIn (later p) (length new.places) m.full seat.progress =
           subst (FoundIn (later p) (length new.places) m.full) (sym now) tt in
@@ -303,16 +303,16 @@ module _ (old new : State) (reply : Reply) (found : ℕ → ℕ → Type 0) (h :
       by_progress (CallsNow removes) now rests did =
           let none : NoneFound (later p) =
           finds_none (CallsNow removes) now (λ no. no) (found_in (CallsNow removes) now) in
-          let after : Seat = record seat { progress = Ends (Done UnitAnswer) } in
+          let after : WorldSeat = record seat { progress = Ends (Done UnitAnswer) } in
           tells (CalledNow (outcome_of old.heap removes)) after _ tt (rest_finds _ _ _ after rests none (h p).by_action)
           did.0 did.1 (λ q. refl)
       by_progress (Accesses a k last) now rests (did, touches, told, e) =
           let none : NoneFound (later p) =
           finds_none (Accesses a k last) now (λ no. no) (found_in (Accesses a k last) now) in
-          let after : Seat = accessed_seat a k did.told seat in
+          let after : WorldSeat = accessed_seat a k did.told seat in
           tells (access_reply did.told) after _ (may_access did.told)
           (rest_finds _ _ _ after rests (in_access a k did.told none) (h p).by_action) told e (λ q. refl)
       by_progress (Ends r) now (rests, done) did =
-          let after : Seat = record seat { progress = Idle } in
+          let after : WorldSeat = record seat { progress = Idle } in
           tells (Done done.0) after _ (none_missed (found p) (length old.places) (found_in (Ends r) now))
           (rest_finds _ _ _ after rests tt (h p).by_action) (did.0 ∙ done.1) did.1 (λ q. refl)

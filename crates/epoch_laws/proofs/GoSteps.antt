@@ -9,7 +9,7 @@ use Rattle.epoch_laws.specs.declared.step.Deferral.{Deferral}
 use Rattle.epoch_laws.specs.declared.step.Reply.TheVariants.{Stepped, Deferred}
 use Rattle.epoch_laws.specs.declared.step.Entry.{Entry}
 use Rattle.epoch_laws.specs.declared.step.Word.TheVariants.{Free}
-use Rattle.epoch_laws.specs.Run.{Seat, State, seat_of, word_of, with_seat, with_machine, removed_by}
+use Rattle.epoch_laws.specs.Run.{WorldSeat, State, seat_of, position_word, with_seat, with_machine, removed_by}
 use Rattle.epoch_laws.proofs.SeatLemmas.{seat_there}
 use Rattle.epoch_laws.proofs.DeferralEpochs.{deferred_push, sealed_more}
 use Rattle.epoch_laws.proofs.QuietReplies.{IsQuiet, quiet_stepped}
@@ -18,8 +18,8 @@ use Rattle.epoch_laws.proofs.WorldHolds.{Holds, holds_along, view_of, acted, cha
 use Rattle.epoch_laws.proofs.SeatSteps.{quiet_step}
 
 module _ (old new : State) (log : List Entry) (x : Entry) (h : Holds old log) (p : ℕ)
-    (taken : word_of old p ≢ Free) where
-  abbrev seat : Seat
+    (taken : position_word old p ≢ Free) where
+  abbrev seat : WorldSeat
   seat = seat_of old p
 
   abbrev m : Machine Deferral

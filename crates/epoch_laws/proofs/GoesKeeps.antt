@@ -12,7 +12,7 @@ use Rattle.epoch_laws.specs.declared.step.Entry.{Entry}
 use Rattle.epoch_laws.specs.declared.step.Word.TheVariants.{Free, Unpinned, Pinned}
 use Rattle.epoch_laws.specs.declared.step.Progress.{Progress}
 use Rattle.epoch_laws.specs.declared.step.Progress.TheVariants.{Idle, Driven, CallsNow, Ends, Accesses}
-use Rattle.epoch_laws.specs.Run.{Seat, State, seat_of, word_of, with_seat, with_word, free_seat, with_guards, ended_seat, Drives, Goes, with_heap, accessed_seat}
+use Rattle.epoch_laws.specs.Run.{WorldSeat, State, seat_of, position_word, with_seat, with_word, free_seat, with_guards, ended_seat, DrivesCall, DoesGo, with_heap, accessed_seat}
 use Rattle.epoch_laws.proofs.SeatLinks.{rests, AllLinked, follows_at}
 use Rattle.epoch_laws.proofs.QuietReplies.{IsQuiet, quiet_stepped, quiet_now, quiet_done, quiet_refused, quiet_end, quiet_access}
 use Rattle.epoch_laws.proofs.SeatsFine.{View, is_pinned, IsFine, fine_next}
@@ -26,8 +26,8 @@ use Rattle.epoch_heap.specs.declared.access.Answer.TheVariants.{Unit as UnitAnsw
 use Rattle.epoch_laws.specs.declared.step.Reply.TheVariants.{Done}
 
 module _ (old new : State) (log : List Entry) (x : Entry) (h : Holds old log) (linked : AllLinked old) (p : ℕ)
-    (taken : word_of old p ≢ Free) where
-  abbrev seat : Seat
+    (taken : position_word old p ≢ Free) where
+  abbrev seat : WorldSeat
   seat = seat_of old p
 
   abbrev m : Machine Deferral
@@ -58,7 +58,7 @@ module _ (old new : State) (log : List Entry) (x : Entry) (h : Holds old log) (l
   ends _ fine quiet e = ends_with _ _ fine quiet e
 
   -- by the stage of a machine that is driven
-  go_at : (c : Call) (s : Stage) → rests s ≡ false → IsFineAt s → Drives old p seat c s (ask_at s) x.reply new
+  go_at : (c : Call) (s : Stage) → rests s ≡ false → IsFineAt s → DrivesCall old p seat c s (ask_at s) x.reply new
       → Holds new (log ++ x ∷ [])
   go_at c Resting on fine did = absurd (cc)
   go_at c LoadPin on fine did = moves old new log x h p taken LoadPin (StorePin old.epoch) fine
@@ -86,7 +86,7 @@ module _ (old new : State) (log : List Entry) (x : Entry) (h : Holds old log) (l
       as_many : m.sizes.positions ≡ length old.seats
       as_many = ap (λ (z : Sizes). z.positions) (linked.seats p).sized ∙ linked.positions
 
-      past : (j : ℕ) → m.sizes.positions ≤ j → is_pinned (word_of old j) ≡ false
+      past : (j : ℕ) → m.sizes.positions ≤ j → is_pinned (position_word old j) ≡ false
       past j le = past_seats old j (omega (arith, as_many))
   go_at c (Advance e) on fine did = advances old new log x h p taken e fine (quiet_stepped x.reply did.0) did.1
   go_at c (Take y k) on fine (step, jobs, queued, told, took, e) =
@@ -119,7 +119,7 @@ module _ (old new : State) (log : List Entry) (x : Entry) (h : Holds old log) (l
       (λ pinned. absurd (cc (pinned, fine.agrees))) (λ t a. cc (did.0, a)) (λ t how a. cc (did.0, a)) did.1
   go_at c End on fine did = ends c fine (quiet_end x.reply c seat did.0) did.1
 
-  pub go_keeps : (progress : Progress) → seat.progress ≡ progress → Goes old p seat progress x.reply new
+  pub go_keeps : (progress : Progress) → seat.progress ≡ progress → DoesGo old p seat progress x.reply new
       → Holds new (log ++ x ∷ [])
   go_keeps Idle now did = stay old new log x h (quiet_refused x.reply _ did.0) did.1
   go_keeps (Driven c) now did =

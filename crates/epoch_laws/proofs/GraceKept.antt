@@ -9,7 +9,7 @@ use Rattle.epoch_laws.specs.declared.step.Reply.TheVariants.{Registered, Called 
 use Rattle.epoch_laws.specs.declared.step.Entry.{Entry}
 use Rattle.epoch_laws.specs.declared.step.Word.TheVariants.{Free, Unpinned}
 use Rattle.epoch_laws.specs.Grace.{KeepsGrace}
-use Rattle.epoch_laws.specs.Run.{with_places, Bag, Seat, State, seat_of, word_of, with_seat, free_seat, Ending, Open, Emptying, Over, AllFree, refusal, Begins, EndGoes, Moves, Runs, IsFresh, Takes}
+use Rattle.epoch_laws.specs.Run.{with_places, Bag, WorldSeat, State, seat_of, position_word, with_seat, free_seat, Ending, Open, Emptying, Over, AllFree, refusal, BeginsCall, EndGoes, Moves, Runs, IsFresh, TakesStep}
 use Rattle.epoch_laws.proofs.SeatLemmas.{begin_given}
 use Rattle.epoch_laws.proofs.SeatLinks.{AllLinked}
 use Rattle.epoch_laws.proofs.Linked.{step_linked, fresh_linked}
@@ -27,12 +27,12 @@ use Rattle.epoch_heap.specs.Heap.{Heap}
 
 module _ (old new : State) (log : List Entry) (x : Entry) (h : Holds old log) (linked : AllLinked old) where
   begins : (p : ℕ) (c : Call) (r : Option Fault) → refusal c (seat_of old p) old.tickets old.heap ≡ r
-      → Begins old p c r x.reply new → Holds new (log ++ x ∷ [])
+      → BeginsCall old p c r x.reply new → Holds new (log ++ x ∷ [])
   begins p c (Some f) e did = stay old new log x h (quiet_refused x.reply f did.0) did.1
   begins p c None e did = let given = begin_given c (seat_of old p) old.tickets old.heap e in
       accepted_holds old new log x h linked p c given did.0 c given.own did.1
 
-  registers : (p : ℕ) → old.ending ≡ Open → p < length old.seats → word_of old p ≡ Free → x.reply ≡ Registered p
+  registers : (p : ℕ) → old.ending ≡ Open → p < length old.seats → position_word old p ≡ Free → x.reply ≡ Registered p
       → new ≡ with_seat old p (record (free_seat old.sizes) { word = Unpinned }) → Holds new (log ++ x ∷ [])
   registers p opened lt free told did = holds_along new _ _ did
       (acted old _ log x h h.since h.when p (record (free_seat old.sizes) { word = Unpinned }) (record {
@@ -139,7 +139,7 @@ holds_aside s log places seen ahead room h = record {
 }
 
 pub step_holds : (old new : State) (log : List Entry) (x : Entry) → AllLinked old → Holds old log
-    → Takes old x.step x.reply new → Holds new (log ++ x ∷ [])
+    → TakesStep old x.step x.reply new → Holds new (log ++ x ∷ [])
 step_holds old new log x linked h did = holds_aside new _ _ _ _ _ (moves_step old _ log x h linked x.step did.0)
 
 pub runs_hold : (old new : State) (log entries : List Entry) → AllLinked old → Holds old log → Runs old entries new
@@ -155,7 +155,7 @@ pub fresh_holds : (s : State) → IsFresh s → Holds s []
 fresh_holds s fresh = record {
   since = λ p. 0;
   when = λ t. 0;
-  seats = λ p. subst (λ (seat : Seat). SeatIsFine (view_of s (λ q. 0) (λ t. 0)) p seat) (sym (fresh.free p)) (record {
+  seats = λ p. subst (λ (seat : WorldSeat). SeatIsFine (view_of s (λ q. 0) (λ t. 0)) p seat) (sym (fresh.free p)) (record {
     published = λ n e. absurd (cc);
     before = omega arith;
     recent = λ pinned. absurd (cc);

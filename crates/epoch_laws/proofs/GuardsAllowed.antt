@@ -6,7 +6,7 @@ use Rattle.epoch_cells.specs.declared.fault.Fault.TheVariants.{StrangerGuard}
 use Rattle.epoch_heap.specs.Heap.{Heap, guard_of}
 use Rattle.epoch_laws.specs.declared.step.Call.{Call}
 use Rattle.epoch_laws.specs.declared.step.Call.TheVariants.{Pin, Unpin, Repin, Pause, Resume, Defer, Flush, Release, DeferDestroy, Access as AccessCall}
-use Rattle.epoch_laws.specs.Run.{Seat, under_guard, access_refusal, resume_refusal, call_refusal}
+use Rattle.epoch_laws.specs.Run.{WorldSeat, under_guard, access_refusal, resume_refusal, call_refusal}
 use Rattle.epoch_laws.specs.Lawful.{GuardAllows, GuardsAllow}
 use Rattle.epoch_laws.proofs.SeatLemmas.{guard_given}
 use Rattle.epoch_laws.proofs.GuardLists.{none_is}
@@ -25,7 +25,7 @@ under_given : (g : Option ℕ) (guards : List ℕ) (fault : Option Fault)
 under_given None guards fault e = tt
 under_given (Some g) guards fault e = guard_given _ _ _ e
 
-pub guards_allowed : (c : Call) (seat : Seat) (tickets : ℕ) (heap : Heap) → call_refusal c seat tickets heap ≡ None
+pub guards_allowed : (c : Call) (seat : WorldSeat) (tickets : ℕ) (heap : Heap) → call_refusal c seat tickets heap ≡ None
     → GuardsAllow c seat.guards seat.paused
 guards_allowed Pin seat n heap e = has_room _ _ _ refl e
 guards_allowed (Unpin None) seat n heap e = absurd (cc)

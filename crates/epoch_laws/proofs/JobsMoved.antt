@@ -18,7 +18,7 @@ use Rattle.epoch_laws.specs.declared.step.Word.{Word}
 use Rattle.epoch_laws.specs.declared.step.Word.TheVariants.{Free}
 use Rattle.epoch_laws.specs.declared.step.Progress.{Progress}
 use Rattle.epoch_laws.specs.declared.step.Progress.TheVariants.{Driven}
-use Rattle.epoch_laws.specs.Run.{Bag, Seat, State, seat_of, word_of, with_seat, with_machine, with_word, Ending, Open, Performs, removed_by}
+use Rattle.epoch_laws.specs.Run.{Bag, WorldSeat, State, seat_of, position_word, with_seat, with_machine, with_word, Ending, Open, PerformsAsk, removed_by}
 use Rattle.epoch_laws.specs.Tickets.{times, times_queued, calls_of, deferrals_of}
 use Rattle.epoch_laws.proofs.SeatLemmas.{seat_there}
 use Rattle.epoch_laws.proofs.TicketSums.{queued_put, times_cons, times_push, ticket_given}
@@ -38,11 +38,11 @@ ending_open _ opened = absurd (opened (λ is. cc))
 -- the call c of p is under way, at a step x from old to new
 pub record IsGoing (old new : State) (log : List Entry) (x : Entry) (p : ℕ) (c : Call) : Type 0 where
   pub tallies : Tallies old log
-  pub taken : word_of old p ≢ Free
+  pub taken : position_word old p ≢ Free
   pub driven : (seat_of old p).progress ≡ Driven c
 
 module _ {old new : State} {log : List Entry} {x : Entry} {p : ℕ} {c : Call} (g : IsGoing old new log x p c) where
-  abbrev seat : Seat
+  abbrev seat : WorldSeat
   seat = seat_of old p
 
   abbrev m : Machine Deferral
@@ -165,7 +165,7 @@ module _ {old new : State} {log : List Entry} {x : Entry} {p : ℕ} {c : Call} (
       (λ t. omega arith)
       did
 
-  pub keeps : m.hand ≡ [] → Performs old p seat Keep KeepJob x.reply new → Kept
+  pub keeps : m.hand ≡ [] → PerformsAsk old p seat Keep KeepJob x.reply new → Kept
   keeps none (is, did) =
       let job : Deferral = record { ticket = old.tickets; removes = removed_by seat.progress } in
       goes_on _ seat.word (hears m Keep (Job job)) old.epoch old.queued (old.tickets + 1) is g.taken none tt

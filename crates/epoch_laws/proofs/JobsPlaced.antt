@@ -13,7 +13,7 @@ use Rattle.epoch_laws.specs.declared.step.Deferral.{Deferral}
 use Rattle.epoch_laws.specs.declared.step.Word.TheVariants.{Free}
 use Rattle.epoch_laws.specs.declared.step.Progress.{Progress}
 use Rattle.epoch_laws.specs.declared.step.Progress.TheVariants.{Driven, CallsNow, Ends, Accesses}
-use Rattle.epoch_laws.specs.Run.{Seat, drives, begun_seat, with_guards, ended_seat, progress_after, accessed_seat}
+use Rattle.epoch_laws.specs.Run.{WorldSeat, drives, begun_seat, with_guards, ended_seat, progress_after, accessed_seat}
 use Rattle.epoch_heap.specs.declared.access.Answer.{Answer}
 use Rattle.epoch_heap.specs.declared.access.Access.{Access}
 use Rattle.epoch_heap.specs.declared.access.Accessed.{Accessed}
@@ -37,14 +37,14 @@ RestsAt (Driven c) s = Unit {0}
 RestsAt (Ends reply) s = (s ≡ Idle) × ((answer : Answer) × (reply ≡ Done answer))
 RestsAt _ s = s ≡ Idle
 
-pub record PlacesJobs (seat : Seat) (s : Stage) : Type 0 where
+pub record PlacesJobs (seat : WorldSeat) (s : Stage) : Type 0 where
   pub hand : HandAt seat.machine.hand s
   pub held : HeldAt seat.machine s
   pub rests : RestsAt seat.progress s
   pub free : seat.word ≡ Free → (seat.machine.held ≡ []) × (seat.machine.hand ≡ [])
 
 -- at its own stage
-abbrev pub PlacesHere : Seat → Type 0
+abbrev pub PlacesHere : WorldSeat → Type 0
 PlacesHere seat = PlacesJobs seat seat.machine.stage
 
 -- by a test
@@ -117,12 +117,12 @@ held_first m n Release is = tt
 -- HOW A CALL BEGINS AND ENDS
 
 -- a participant after a step that moves no job
-pub record LeavesJobs (old new : Seat) : Type 0 where
+pub record LeavesJobs (old new : WorldSeat) : Type 0 where
   pub places : PlacesHere new
   pub held : new.machine.held ≡ old.machine.held
   pub hand : new.machine.hand ≡ old.machine.hand
 
-module _ (seat : Seat) (taken : seat.word ≢ Free) where
+module _ (seat : WorldSeat) (taken : seat.word ≢ Free) where
   -- the machine stays
   pub resting : (progress : Progress) → RestsAt progress seat.machine.stage → PlacesHere seat
       → LeavesJobs seat (record seat { progress = progress })

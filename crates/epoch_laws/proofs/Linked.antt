@@ -13,28 +13,28 @@ use Rattle.epoch_laws.specs.declared.step.Step.{Step}
 use Rattle.epoch_laws.specs.declared.step.Step.TheVariants.{Register, Begin, Go, End as EndStep, EndGo}
 use Rattle.epoch_laws.specs.declared.step.Word.{Word}
 use Rattle.epoch_laws.specs.declared.step.Word.TheVariants.{Unpinned}
-use Rattle.epoch_laws.specs.Run.{Seat, State, Ending, Open, Emptying, Over, seat_of, with_seat, with_word, free_seat, refusal, begun_seat, Begins, ended_seat, Drives, Goes, EndGoes, Moves, Takes, with_places, IsFresh, accessed_seat}
+use Rattle.epoch_laws.specs.Run.{WorldSeat, State, Ending, Open, Emptying, Over, seat_of, with_seat, with_word, free_seat, refusal, begun_seat, BeginsCall, ended_seat, DrivesCall, DoesGo, EndGoes, Moves, TakesStep, with_places, IsFresh, accessed_seat}
 use Rattle.epoch_laws.proofs.SeatLemmas.{seat_there, begin_given}
 use Rattle.epoch_heap.specs.declared.access.Access.{Access}
 use Rattle.epoch_heap.specs.declared.access.Accessed.{Accessed}
 use Rattle.epoch_heap.specs.declared.access.Accessed.TheVariants.{Again, Answers, NoSlot}
-pub use Rattle.epoch_laws.proofs.SeatLinks.{action_of, rests, BeganUnder, IsDriven, Follows, IsLinked, AllLinked, free_linked, follows_at, progress_linked, linked_written, linked_along}
+pub use Rattle.epoch_laws.proofs.SeatLinks.{action_of, rests, BeganUnder, IsDriven, IsInStep, IsLinked, AllLinked, free_linked, follows_at, progress_linked, linked_written, linked_along}
 use Rattle.epoch_laws.proofs.MachineGoesOn.{GoesOn, going_on, either_on, pin_on, unpin_on, job_on, word_on, put_goes_on, take_goes_on}
 pub use Rattle.epoch_laws.proofs.CallsLinked.{length_without, none_out, begun_linked, ended_linked}
 
 -- A STEP GO
 
 module _ (old new : State) (p : ℕ) (reply : Reply) (h : AllLinked old) (there : p < length old.seats) where
-  abbrev seat : Seat
+  abbrev seat : WorldSeat
   seat = seat_of old p
 
   abbrev m : Machine Deferral
   m = seat.machine
 
-  follows : (progress : Progress) → seat.progress ≡ progress → Follows progress m seat.guards
+  follows : (progress : Progress) → seat.progress ≡ progress → IsInStep progress m seat.guards
   follows progress e = follows_at old.sizes seat (h.seats p) progress e
 
-  writes : (after : Seat) → IsLinked old.sizes after → (last : State) → new ≡ last → last.sizes ≡ old.sizes
+  writes : (after : WorldSeat) → IsLinked old.sizes after → (last : State) → new ≡ last → last.sizes ≡ old.sizes
       → last.seats ≡ slice_set old.seats p after → AllLinked new
   writes after linked last e sizes seats =
       subst AllLinked (sym e) (linked_written old last p after h there sizes seats linked)
@@ -55,7 +55,7 @@ module _ (old new : State) (p : ℕ) (reply : Reply) (h : AllLinked old) (there 
       linked = record {
         sized = on.sized ∙ (h.seats p).sized;
         counted = on.counted ∙ (h.seats p).counted;
-        follows = subst (λ (progress : Progress). Follows progress n seat.guards) (sym drive) then_driven;
+        follows = subst (λ (progress : Progress). IsInStep progress n seat.guards) (sym drive) then_driven;
       }
 
   -- only its stage changes
@@ -64,7 +64,7 @@ module _ (old new : State) (p : ℕ) (reply : Reply) (h : AllLinked old) (there 
   moves c drive t on e = goes_on c drive seat.word (with_stage m t) (going_on m t on) _ e refl refl
 
   go_at : (c : Call) → seat.progress ≡ Driven c → (s : Stage) → rests s ≡ false
-      → Drives old p seat c s (ask_at s) reply new → AllLinked new
+      → DrivesCall old p seat c s (ask_at s) reply new → AllLinked new
   go_at c drive Resting on did = absurd (cc)
   go_at c drive LoadPin on did = moves c drive _ refl did.1
   go_at c drive (StorePin e) on did =
@@ -104,7 +104,7 @@ module _ (old new : State) (p : ℕ) (reply : Reply) (h : AllLinked old) (there 
       record { sized = (h.seats p).sized; counted = (h.seats p).counted; follows = (idle, (_, refl)) }
   accessed a k NoSlot idle = record { sized = (h.seats p).sized; counted = (h.seats p).counted; follows = idle }
 
-  go_linked : (progress : Progress) → seat.progress ≡ progress → Goes old p seat progress reply new → AllLinked new
+  go_linked : (progress : Progress) → seat.progress ≡ progress → DoesGo old p seat progress reply new → AllLinked new
   go_linked Idle e did = subst AllLinked (sym did.1) h
   go_linked (Driven c) e did = go_at c e m.stage (follows (Driven c) e).under_way did
   go_linked (CallsNow removes) e did =
@@ -126,7 +126,7 @@ module _ (old new : State) (reply : Reply) (h : AllLinked old) where
   same_table last e sizes seats = subst AllLinked (sym e) (linked_along old last h sizes seats)
 
   begin_linked : (p : ℕ) (c : Call) (r : Option Fault) → refusal c (seat_of old p) old.tickets old.heap ≡ r
-      → Begins old p c r reply new → AllLinked new
+      → BeginsCall old p c r reply new → AllLinked new
   begin_linked p c (Some f) e did = stays_linked did.1
   begin_linked p c None e did =
       let given = begin_given c (seat_of old p) old.tickets old.heap e in
@@ -142,7 +142,7 @@ module _ (old new : State) (reply : Reply) (h : AllLinked old) where
 
   moves_linked : (s : Step) → Moves old s reply new → AllLinked new
   moves_linked Register (inl (p, opened, there, free, lowest, told, did)) =
-      let registered : Seat = record (free_seat old.sizes) { word = Unpinned } in
+      let registered : WorldSeat = record (free_seat old.sizes) { word = Unpinned } in
       let linked : IsLinked old.sizes registered = record { sized = refl; counted = refl; follows = refl } in
       writes old new p reply h there registered linked _ did refl refl
   moves_linked Register (inr (inl did)) = stays_linked did.3
@@ -161,7 +161,7 @@ pub moved_linked : (old new : State) (step : Step) (reply : Reply) → AllLinked
 moved_linked old new step reply h did = moves_linked old new reply h step did
 
 -- every step keeps all seats linked
-pub step_linked : (old new : State) (step : Step) (reply : Reply) → AllLinked old → Takes old step reply new
+pub step_linked : (old new : State) (step : Step) (reply : Reply) → AllLinked old → TakesStep old step reply new
     → AllLinked new
 step_linked old new step reply h did =
     let aside : AllLinked (with_places new old.places old.seen old.ahead old.room) =
@@ -172,5 +172,5 @@ step_linked old new step reply h did =
 pub fresh_linked : (s : State) → IsFresh s → AllLinked s
 fresh_linked s fresh = record {
   positions = fresh.sized;
-  seats = λ p. subst (λ (seat : Seat). IsLinked s.sizes seat) (sym (fresh.free p)) (free_linked s.sizes);
+  seats = λ p. subst (λ (seat : WorldSeat). IsLinked s.sizes seat) (sym (fresh.free p)) (free_linked s.sizes);
 }

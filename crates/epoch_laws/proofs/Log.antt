@@ -4,7 +4,7 @@ use Rattle.epoch_bags.specs.declared.job.Called.{Called}
 use Rattle.epoch_laws.specs.declared.step.Reply.{Reply}
 use Rattle.epoch_laws.specs.declared.step.Reply.TheVariants.{Pinned, Unpinned, Repinned, Deferred, Called as CalledReply}
 use Rattle.epoch_laws.specs.declared.step.Entry.{Entry}
-use Rattle.epoch_laws.specs.Grace.{Stands, Publishes, Withdraws, StaysPinned, KeepsGrace}
+use Rattle.epoch_laws.specs.Grace.{IsReplyAt, PublishesAt, WithdrawsAt, StaysPinned, KeepsGrace}
 
 -- what one reply tells of p
 abbrev pub IsPublish : Reply → ℕ → Type 0
@@ -13,55 +13,55 @@ IsPublish r p = (r ≡ Pinned p) ⊎ (r ≡ Repinned p)
 abbrev pub IsWithdrawal : Reply → ℕ → Type 0
 IsWithdrawal r p = (r ≡ Unpinned p) ⊎ (r ≡ Repinned p)
 
-pub stands_push : (log : List Entry) (x : Entry) (k : ℕ) (event : Reply) → Stands (log ++ x ∷ []) k event
-    → Stands log k event ⊎ ((k ≡ length log) × (x.reply ≡ event))
+pub stands_push : (log : List Entry) (x : Entry) (k : ℕ) (event : Reply) → IsReplyAt (log ++ x ∷ []) k event
+    → IsReplyAt log k event ⊎ ((k ≡ length log) × (x.reply ≡ event))
 stands_push [] x zero event h = inr (refl, cc)
 stands_push [] x (suc k) event h = absurd (cc)
 stands_push (first ∷ log) x zero event h = inl h
 stands_push (first ∷ log) x (suc k) event h =
     elim (stands_push log x k event h) [ inl old ↦ inl old | inr new ↦ inr (ap suc new.0, new.1) ]
 
-pub stands_keep : (log : List Entry) (x : Entry) (k : ℕ) (event : Reply) → Stands log k event
-    → Stands (log ++ x ∷ []) k event
+pub stands_keep : (log : List Entry) (x : Entry) (k : ℕ) (event : Reply) → IsReplyAt log k event
+    → IsReplyAt (log ++ x ∷ []) k event
 stands_keep [] x k event h = absurd (cc)
 stands_keep (first ∷ log) x zero event h = h
 stands_keep (first ∷ log) x (suc k) event h = stands_keep log x k event h
 
-pub stands_new : (log : List Entry) (x : Entry) → Stands (log ++ x ∷ []) (length log) x.reply
+pub stands_new : (log : List Entry) (x : Entry) → IsReplyAt (log ++ x ∷ []) (length log) x.reply
 stands_new [] x = refl
 stands_new (first ∷ log) x = stands_new log x
 
-pub stands_within : (log : List Entry) (k : ℕ) (event : Reply) → Stands log k event → k < length log
+pub stands_within : (log : List Entry) (k : ℕ) (event : Reply) → IsReplyAt log k event → k < length log
 stands_within [] k event h = absurd (cc)
 stands_within (first ∷ log) zero event h = omega arith
 stands_within (first ∷ log) (suc k) event h = omega (arith, stands_within log k event h)
 
 -- p published at that place, and has stayed pinned to the end of the log
 pub record PinnedSince (log : List Entry) (p at : ℕ) : Type 0 where
-  pub published : Publishes log at p
-  pub lasts : (k : ℕ) → at < k → ¬ (Withdraws log k p)
+  pub published : PublishesAt log at p
+  pub lasts : (k : ℕ) → at < k → ¬ (WithdrawsAt log k p)
 
-publishes_push : (log : List Entry) (x : Entry) (k p : ℕ) → Publishes (log ++ x ∷ []) k p
-    → Publishes log k p ⊎ ((k ≡ length log) × IsPublish x.reply p)
+publishes_push : (log : List Entry) (x : Entry) (k p : ℕ) → PublishesAt (log ++ x ∷ []) k p
+    → PublishesAt log k p ⊎ ((k ≡ length log) × IsPublish x.reply p)
 publishes_push log x k p (inl h) =
     elim (stands_push log x k _ h) [ inl old ↦ inl (inl old) | inr new ↦ inr (new.0, inl new.1) ]
 publishes_push log x k p (inr h) =
     elim (stands_push log x k _ h) [ inl old ↦ inl (inr old) | inr new ↦ inr (new.0, inr new.1) ]
 
-withdraws_keep : (log : List Entry) (x : Entry) (k p : ℕ) → Withdraws log k p → Withdraws (log ++ x ∷ []) k p
+withdraws_keep : (log : List Entry) (x : Entry) (k p : ℕ) → WithdrawsAt log k p → WithdrawsAt (log ++ x ∷ []) k p
 withdraws_keep log x k p (inl h) = inl (stands_keep log x k _ h)
 withdraws_keep log x k p (inr h) = inr (stands_keep log x k _ h)
 
 withdraws_new : (log : List Entry) (x : Entry) (p : ℕ) → IsWithdrawal x.reply p
-    → Withdraws (log ++ x ∷ []) (length log) p
+    → WithdrawsAt (log ++ x ∷ []) (length log) p
 withdraws_new log x p (inl h) = inl (stands_new log x ∙ ap Some h)
 withdraws_new log x p (inr h) = inr (stands_new log x ∙ ap Some h)
 
-publishes_within : (log : List Entry) (k p : ℕ) → Publishes log k p → k < length log
+publishes_within : (log : List Entry) (k p : ℕ) → PublishesAt log k p → k < length log
 publishes_within log k p (inl h) = stands_within log k _ h
 publishes_within log k p (inr h) = stands_within log k _ h
 
-withdraws_within : (log : List Entry) (k p : ℕ) → Withdraws log k p → k < length log
+withdraws_within : (log : List Entry) (k p : ℕ) → WithdrawsAt log k p → k < length log
 withdraws_within log k p (inl h) = stands_within log k _ h
 withdraws_within log k p (inr h) = stands_within log k _ h
 
@@ -84,8 +84,8 @@ stays_to_the_end log p i j last stays = record {
   lasts = λ k lt ends. stays.lasted k lt (omega (arith, withdraws_within log k p ends)) ends;
 }
 
-publishes_old : (log : List Entry) (x : Entry) (k p : ℕ) → k < length log → Publishes (log ++ x ∷ []) k p
-    → Publishes log k p
+publishes_old : (log : List Entry) (x : Entry) (k p : ℕ) → k < length log → PublishesAt (log ++ x ∷ []) k p
+    → PublishesAt log k p
 publishes_old log x k p lt h =
     elim (publishes_push log x k p h) [ inl old ↦ old | inr new ↦ absurd (omega arith) ]
 
@@ -101,18 +101,18 @@ stays_old log x p i j lt stays = record {
 
 -- Grace is kept where the last entry calls nothing that is blocked, and defers nothing that was called before.
 pub grace_push : (log : List Entry) (x : Entry) → KeepsGrace log
-    → ((t i p at : ℕ) (how : Called) → x.reply ≡ CalledReply t how → Stands log i (Deferred t) → at ≤ i
+    → ((t i p at : ℕ) (how : Called) → x.reply ≡ CalledReply t how → IsReplyAt log i (Deferred t) → at ≤ i
     → ¬ (PinnedSince log p at))
-    → ((t k : ℕ) (how : Called) → x.reply ≡ Deferred t → ¬ (Stands log k (CalledReply t how)))
+    → ((t k : ℕ) (how : Called) → x.reply ≡ Deferred t → ¬ (IsReplyAt log k (CalledReply t how)))
     → KeepsGrace (log ++ x ∷ [])
 grace_push log x grace calls defers t j how called blocked =
     at_call (stands_push log x (j + 1) _ called) (stands_push log x blocked.place _ blocked.deferred)
   where
-    stays : Stands log blocked.place (Deferred t) → StaysPinned log blocked.who blocked.place j
+    stays : IsReplyAt log blocked.place (Deferred t) → StaysPinned log blocked.who blocked.place j
     stays d = stays_old log x blocked.who blocked.place j (stands_within log blocked.place _ d) blocked.stays
 
-    at_call : Stands log (j + 1) (CalledReply t how) ⊎ ((j + 1 ≡ length log) × (x.reply ≡ CalledReply t how))
-        → Stands log blocked.place (Deferred t) ⊎ ((blocked.place ≡ length log) × (x.reply ≡ Deferred t)) → ⊥
+    at_call : IsReplyAt log (j + 1) (CalledReply t how) ⊎ ((j + 1 ≡ length log) × (x.reply ≡ CalledReply t how))
+        → IsReplyAt log blocked.place (Deferred t) ⊎ ((blocked.place ≡ length log) × (x.reply ≡ Deferred t)) → ⊥
     at_call (inl c) (inl d) =
         grace t j how c (record { who = blocked.who; place = blocked.place; deferred = d; stays = stays d })
     at_call (inl c) (inr d) = defers t (j + 1) how d.1 c
@@ -122,12 +122,12 @@ grace_push log x grace calls defers t j how called blocked =
 
 -- WHO STAYS PINNED
 
-publishes_keep : (log : List Entry) (x : Entry) (k p : ℕ) → Publishes log k p → Publishes (log ++ x ∷ []) k p
+publishes_keep : (log : List Entry) (x : Entry) (k p : ℕ) → PublishesAt log k p → PublishesAt (log ++ x ∷ []) k p
 publishes_keep log x k p (inl h) = inl (stands_keep log x k _ h)
 publishes_keep log x k p (inr h) = inr (stands_keep log x k _ h)
 
-withdraws_push : (log : List Entry) (x : Entry) (k p : ℕ) → Withdraws (log ++ x ∷ []) k p
-    → Withdraws log k p ⊎ ((k ≡ length log) × IsWithdrawal x.reply p)
+withdraws_push : (log : List Entry) (x : Entry) (k p : ℕ) → WithdrawsAt (log ++ x ∷ []) k p
+    → WithdrawsAt log k p ⊎ ((k ≡ length log) × IsWithdrawal x.reply p)
 withdraws_push log x k p (inl h) =
     elim (stands_push log x k _ h) [ inl old ↦ inl (inl old) | inr new ↦ inr (new.0, inl new.1) ]
 withdraws_push log x k p (inr h) =
@@ -158,10 +158,10 @@ pinned_within log p at now = publishes_within log at p now.published
 
 -- where grace is kept, what was deferred while p was pinned isn't called while p stays so
 pub grace_refuses : (log : List Entry) (x : Entry) → KeepsGrace (log ++ x ∷ []) → (t : ℕ) (how : Called)
-    → x.reply ≡ CalledReply t how → (i p at : ℕ) → Stands log i (Deferred t) → PinnedSince log p at → at ≤ i → ⊥
+    → x.reply ≡ CalledReply t how → (i p at : ℕ) → IsReplyAt log i (Deferred t) → PinnedSince log p at → at ≤ i → ⊥
 grace_refuses [] x grace t how called i p at deferred now le = cc (deferred)
 grace_refuses (first ∷ rest) x grace t how called i p at deferred now le = grace t (length rest) how
-    (subst (λ (k : ℕ). Stands (log ++ x ∷ []) k (CalledReply t how)) up (stands_new log x ∙ ap Some called))
+    (subst (λ (k : ℕ). IsReplyAt (log ++ x ∷ []) k (CalledReply t how)) up (stands_new log x ∙ ap Some called))
     (record {
       who = p;
       place = i;

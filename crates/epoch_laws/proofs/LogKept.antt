@@ -4,7 +4,7 @@ use Rattle.epoch_bags.specs.declared.job.Called.{Called}
 use Rattle.epoch_laws.specs.declared.step.Reply.{Reply}
 use Rattle.epoch_laws.specs.declared.step.Reply.TheVariants.{Deferred, Called as CalledReply}
 use Rattle.epoch_laws.specs.declared.step.Entry.{Entry}
-use Rattle.epoch_laws.specs.Grace.{Stands, KeepsGrace}
+use Rattle.epoch_laws.specs.Grace.{IsReplyAt, KeepsGrace}
 use Rattle.epoch_laws.proofs.Log.{IsPublish, IsWithdrawal, PinnedSince, stands_push, stands_within, pinned_push, grace_push}
 use Rattle.epoch_laws.proofs.SeatsFine.{View, is_pinned, Passes}
 
@@ -12,9 +12,9 @@ use Rattle.epoch_laws.proofs.SeatsFine.{View, is_pinned, Passes}
 pub record LogHolds (v : View) (log : List Entry) : Type 0 where
   pub on : (p at : ℕ) → PinnedSince log p at → is_pinned (v.word p) ≡ true  -- who has stayed pinned is pinned now
   -- who has stayed pinned since a deferral or before it has published no later than it
-  pub blocked : (t i p at : ℕ) → Stands log i (Deferred t) → at ≤ i → PinnedSince log p at → v.since p ≤ v.when t
-  pub deferred : (t i : ℕ) → Stands log i (Deferred t) → t < v.tickets  -- each ticket that was told was given
-  pub called : (t i : ℕ) (how : Called) → Stands log i (CalledReply t how) → t < v.tickets
+  pub blocked : (t i p at : ℕ) → IsReplyAt log i (Deferred t) → at ≤ i → PinnedSince log p at → v.since p ≤ v.when t
+  pub deferred : (t i : ℕ) → IsReplyAt log i (Deferred t) → t < v.tickets  -- each ticket that was told was given
+  pub called : (t i : ℕ) (how : Called) → IsReplyAt log i (CalledReply t how) → t < v.tickets
   pub grace : KeepsGrace log  -- no blocked job was called
 
 -- who was pinned before a reply that doesn't withdraw it stays so
@@ -58,7 +58,7 @@ log_push v w log x h pass tells = record {
       | inr old ↦ (tells.lasting p (h.on p at old.0) old.1).0
     ]
 
-    blocked_old : (t i p at : ℕ) → Stands log i (Deferred t) → at ≤ i
+    blocked_old : (t i p at : ℕ) → IsReplyAt log i (Deferred t) → at ≤ i
         → ((at ≡ length log) × IsPublish x.reply p) ⊎ (PinnedSince log p at × (¬ (IsWithdrawal x.reply p)))
         → w.since p ≤ w.when t
     blocked_old t i p at d le (inl new) = absurd (omega (arith, stands_within log i _ d))

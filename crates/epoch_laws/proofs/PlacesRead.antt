@@ -4,14 +4,14 @@ use Rattle.std.proofs.lemmas.Option.{slice_get-get_or, same_Some}
 use Rattle.epoch_laws.specs.declared.step.Reply.{Reply}
 use Rattle.epoch_laws.specs.declared.step.Reply.TheVariants.{Pinned, Unpinned, Repinned}
 use Rattle.epoch_laws.specs.declared.step.Entry.{Entry}
-use Rattle.epoch_laws.specs.Grace.{Stands, Publishes, Withdraws}
+use Rattle.epoch_laws.specs.Grace.{IsReplyAt, PublishesAt, WithdrawsAt}
 
 pub stands_read : (log : List Entry) (i : ℕ) (default : Entry) (event : Reply) → i < length log
-    → (get_or log i default).reply ≡ event → Stands log i event
+    → (get_or log i default).reply ≡ event → IsReplyAt log i event
 stands_read log i default event within is =
     ap (option_map (λ (x : Entry). x.reply)) (slice_get-get_or log i default within) ∙ ap Some is
 
-pub read_stands : (log : List Entry) (i : ℕ) (default : Entry) (event : Reply) → Stands log i event
+pub read_stands : (log : List Entry) (i : ℕ) (default : Entry) (event : Reply) → IsReplyAt log i event
     → (get_or log i default).reply ≡ event
 read_stands [] i default event at = absurd (cc)
 read_stands (x ∷ log) zero default event at = same_Some x.reply event at
@@ -22,11 +22,11 @@ ReadsWithdrawal log i default who =
     ((get_or log i default).reply ≡ Unpinned who) ⊎ ((get_or log i default).reply ≡ Repinned who)
 
 pub withdraws_read : (log : List Entry) (i : ℕ) (default : Entry) (who : ℕ) → i < length log
-    → ReadsWithdrawal log i default who → Withdraws log i who
+    → ReadsWithdrawal log i default who → WithdrawsAt log i who
 withdraws_read log i default who within (inl is) = inl (stands_read log i default _ within is)
 withdraws_read log i default who within (inr is) = inr (stands_read log i default _ within is)
 
-pub read_withdraws : (log : List Entry) (i : ℕ) (default : Entry) (who : ℕ) → Withdraws log i who
+pub read_withdraws : (log : List Entry) (i : ℕ) (default : Entry) (who : ℕ) → WithdrawsAt log i who
     → ReadsWithdrawal log i default who
 read_withdraws log i default who (inl at) = inl (read_stands log i default _ at)
 read_withdraws log i default who (inr at) = inr (read_stands log i default _ at)
@@ -43,7 +43,7 @@ abbrev pub ReadsPublication : List Entry → ℕ → Entry → ℕ → Type 0
 ReadsPublication log i default who =
     ((get_or log i default).reply ≡ Pinned who) ⊎ ((get_or log i default).reply ≡ Repinned who)
 
-pub read_publishes : (log : List Entry) (i : ℕ) (default : Entry) (who : ℕ) → Publishes log i who
+pub read_publishes : (log : List Entry) (i : ℕ) (default : Entry) (who : ℕ) → PublishesAt log i who
     → ReadsPublication log i default who
 read_publishes log i default who (inl at) = inl (read_stands log i default _ at)
 read_publishes log i default who (inr at) = inr (read_stands log i default _ at)

@@ -7,8 +7,8 @@ use Rattle.epoch_machine.specs.Machine.{Machine, put_heard, PutsHeld}
 use Rattle.epoch_laws.specs.declared.step.Call.{Call}
 use Rattle.epoch_laws.specs.declared.step.Deferral.{Deferral}
 use Rattle.epoch_laws.specs.declared.step.Progress.TheVariants.{Driven}
-use Rattle.epoch_laws.specs.Places.{Sight, PutSees}
-use Rattle.epoch_laws.specs.Run.{Bag, Seat, with_machine}
+use Rattle.epoch_laws.specs.Places.{Occupancy, PutSees}
+use Rattle.epoch_laws.specs.Run.{Bag, WorldSeat, with_machine}
 use Rattle.epoch_laws.proofs.PutStages.{FoundSeen, FoundWhere, seen_missed, FoundAt, found_put, put_ends}
 use Rattle.epoch_laws.proofs.SeatsFind.{FoundIn, PutFinds}
 use Rattle.epoch_laws.proofs.StoredBags.{one_less}
@@ -49,12 +49,12 @@ same_step seal m at step told same = by_step step told
 -- WHAT IS FOUND
 
 -- what a step finds beside the places found before it
-pub record FindsMore (was found : ℕ → Type 0) (step : PutStep) (old new : Sight) : Type 0 where
+pub record FindsMore (was found : ℕ → Type 0) (step : PutStep) (old new : Occupancy) : Type 0 where
   pub more : (k : ℕ) → was k → found k
   pub passed : step ≢ Done → (k : ℕ) → old.seen ≤ k → k < new.seen → found k
   pub only : (k : ℕ) → found k → was k ⊎ ((step ≢ Done) × (k < new.seen))
 
-module _ (was found : ℕ → Type 0) (old new : Sight) (step : PutStep) (sees : PutSees step old new)
+module _ (was found : ℕ → Type 0) (old new : Occupancy) (step : PutStep) (sees : PutSees step old new)
     (finds : FindsMore was found step old new) (before : FoundSeen was (length old.places) old.seen) where
   found_upto : step ≢ Done → (k : ℕ) → k < new.seen → found k
   found_upto on k lt = elim (split k old.seen) [
@@ -96,7 +96,7 @@ module _ (was found : ℕ → Type 0) (old new : Sight) (step : PutStep) (sees :
       ])
 
 -- the step of a put that is driven by a call
-pub put_finds : (was found : ℕ → Type 0) (old new : Sight) (seat : Seat) (c : Call) (seal : ℕ) (step : PutStep)
+pub put_finds : (was found : ℕ → Type 0) (old new : Occupancy) (seat : WorldSeat) (c : Call) (seal : ℕ) (step : PutStep)
     → PutFinds was (length old.places) old.seen seat → seat.progress ≡ Driven c → seat.machine.stage ≡ Put seal
     → PutSees step old new → FindsMore was found step old new
     → PutFinds found (length new.places) new.seen (with_machine seat (put_heard seat.machine step))

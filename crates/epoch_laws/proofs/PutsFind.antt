@@ -11,8 +11,8 @@ use Rattle.epoch_laws.specs.declared.step.Step.{Step}
 use Rattle.epoch_laws.specs.declared.step.Step.TheVariants.{Go, EndGo}
 use Rattle.epoch_laws.specs.declared.step.Word.{Word}
 use Rattle.epoch_laws.specs.declared.step.Word.TheVariants.{Free, Unpinned, Pinned}
-use Rattle.epoch_laws.specs.Places.{Sight, Looks}
-use Rattle.epoch_laws.specs.Run.{Seat, State, seat_of, with_seat, seen_by, sight_of, turn_at, Sees}
+use Rattle.epoch_laws.specs.Places.{Occupancy, SeesOccupied}
+use Rattle.epoch_laws.specs.Run.{WorldSeat, State, seat_of, with_seat, seen_by, occupancy_of, turn_at, SeesPlaces}
 use Rattle.epoch_laws.proofs.SeatLemmas.{seat_written, seat_other, same_or_other}
 use Rattle.epoch_laws.proofs.SeatsFind.{PutFinds, SameFound, finds_still}
 
@@ -21,7 +21,7 @@ AllFind found s = (p : ℕ) → PutFinds (found p) (length s.places) (seen_by s 
 
 -- WHAT A STEP LOOKS AT
 
-looks_count : (o : Option Ask) (m n : Machine Deferral) (old new : Sight) → Looks o m n old new
+looks_count : (o : Option Ask) (m n : Machine Deferral) (old new : Occupancy) → SeesOccupied o m n old new
     → length new.places ≡ length old.places
 looks_count (Some LoadEpoch) m n old new did = ap length did.0
 looks_count (Some (PutBag seal)) m n old new (step, heard, sees) = sees.places
@@ -29,9 +29,9 @@ looks_count (Some (TakeBag x)) m n old new did = did.0
 looks_count _ m n old new did = ap length did.0
 
 -- no step makes more places, or fewer
-pub same_count : (old new : State) (step : Step) → Sees old step new → length new.places ≡ length old.places
+pub same_count : (old new : State) (step : Step) → SeesPlaces old step new → length new.places ≡ length old.places
 same_count old new (Go p) did =
-    looks_count _ (seat_of old p).machine (seat_of new p).machine (sight_of old p) (sight_of new p) did.0
+    looks_count _ (seat_of old p).machine (seat_of new p).machine (occupancy_of old p) (occupancy_of new p) did.0
 same_count old new EndGo did = did.0
 same_count old new _ did = ap length did.0
 
@@ -62,7 +62,7 @@ module _ (old new : State) (found later : ℕ → ℕ → Type 0) (h : AllFind f
   find_along still seen same q = keeps_finding q (still q) (seen q) (same q)
 
   -- one seat is written
-  pub find_written : (p : ℕ) (after : Seat) → p < length old.seats → ((q : ℕ) → q ≢ p → SameFound (found q) (later q))
+  pub find_written : (p : ℕ) (after : WorldSeat) → p < length old.seats → ((q : ℕ) → q ≢ p → SameFound (found q) (later q))
       → ((q : ℕ) → q ≢ p → seen_by new q ≡ seen_by old q)
       → ((q : ℕ) → seat_of new q ≡ seat_of (with_seat old p after) q)
       → PutFinds (later p) (length new.places) (seen_by new p) after → AllFind later new

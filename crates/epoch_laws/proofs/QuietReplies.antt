@@ -7,7 +7,7 @@ use Rattle.epoch_laws.specs.declared.step.Call.{Call}
 use Rattle.epoch_laws.specs.declared.step.Call.TheVariants.{Pin, Unpin, Repin, Pause, Resume, Defer, Flush, Release, DeferDestroy, Access as AccessCall}
 use Rattle.epoch_laws.specs.declared.step.Reply.{Reply}
 use Rattle.epoch_laws.specs.declared.step.Reply.TheVariants.{Began, Stepped, Pinned, Unpinned, Repinned, Deferred, Called as CalledReply, CalledNow, Done, Refused}
-use Rattle.epoch_laws.specs.Run.{Seat, full_or_done, end_reply, access_reply}
+use Rattle.epoch_laws.specs.Run.{WorldSeat, full_or_done, end_reply, access_reply}
 use Rattle.epoch_laws.proofs.Log.{IsPublish, IsWithdrawal}
 use Rattle.epoch_heap.specs.declared.access.Accessed.{Accessed}
 use Rattle.epoch_heap.specs.declared.access.Accessed.TheVariants.{Again, Answers, NoSlot}
@@ -74,7 +74,7 @@ quiet_full r true e = quiet_refused r _ e
 quiet_full r false e = quiet_done r _ e
 
 -- the end of a call
-pub quiet_end : (r : Reply) (c : Call) (seat : Seat) → r ≡ end_reply c seat → IsQuiet r
+pub quiet_end : (r : Reply) (c : Call) (seat : WorldSeat) → r ≡ end_reply c seat → IsQuiet r
 quiet_end r Pin seat e = quiet_done r _ e
 quiet_end r (Unpin g) seat e = quiet_done r _ e
 quiet_end r (Repin g) seat e = quiet_done r _ e

@@ -36,8 +36,8 @@ use Rattle.epoch_laws.specs.declared.step.Step.{Step}
 use Rattle.epoch_laws.specs.declared.step.Step.TheVariants.{Register, Begin, Go, End as EndStep, EndGo}
 use Rattle.epoch_laws.specs.declared.step.Word.{Word}
 use Rattle.epoch_laws.specs.declared.step.Word.TheVariants.{Free, Unpinned, Pinned}
-use Rattle.epoch_laws.specs.Run.{Bag, Seat, State, seat_of, turn_at, turn_of, word_of, number_of, with_seat, with_word, with_machine, with_places, free_seat, refusal, begun_seat, Ending, Open, Emptying, Over, ended_seat, end_reply, full_or_done, with_guards, progress_after, access_reply, accessed_seat, removed_by, Begins, Performs, Drives, Goes, EndGoes, Takes, Runs, IsFresh}
-use Rattle.epoch_laws.specs.Refusals.{LeavesUnplaced, before_after, LeavesRest, quiet_after, Collects, collected_after, KeepsBag, Leaves, LeavesAtRefusal, RefusedAlong, all_quiet, none_collected}
+use Rattle.epoch_laws.specs.Run.{Bag, WorldSeat, State, seat_of, turn_at, turn_of, position_word, word_number, with_seat, with_word, with_machine, with_places, free_seat, refusal, begun_seat, Ending, Open, Emptying, Over, ended_seat, end_reply, full_or_done, with_guards, progress_after, access_reply, accessed_seat, removed_by, BeginsCall, PerformsAsk, DrivesCall, DoesGo, EndGoes, TakesStep, Runs, IsFresh}
+use Rattle.epoch_laws.specs.Refusals.{LeavesUnplaced, before_after, LeavesRest, quiet_after, IsOfCollection, collected_after, KeepsBag, LeavesUnput, LeavesAtRefusal, RefusedAlong, all_quiet, none_collected}
 use Rattle.epoch_laws.proofs.SeatLemmas.{seat_written, seat_other, seat_there, same_or_other, begin_given}
 use Rattle.epoch_laws.proofs.SeatLinks.{action_of, AllLinked, IsDriven, follows_at}
 use Rattle.epoch_laws.proofs.Linked.{step_linked, fresh_linked}
@@ -47,7 +47,7 @@ use Rattle.epoch_laws.proofs.AccessesTold.{IsTold, told_by_touch}
 use Rattle.epoch_laws.proofs.ToldAtStages.{either_stage}
 use Rattle.epoch_laws.proofs.RefusalsSince.{KeptBag, Kept, DeferAt, FlushAt, ReleaseAt, SinceAt, PlaceSince, SinceBy, Since, AllSince, is_plain, plain_since, since_more, begun_since, release_collected, release_unpinned}
 
-keeps_bag : (b a : Seat) → KeptBag b a → KeepsBag b a
+keeps_bag : (b a : WorldSeat) → KeptBag b a → KeepsBag b a
 keeps_bag b a kept = record { guards = kept.0; paused = kept.1; readings = kept.2; held = kept.3 }
 
 -- a call that keeps a job
@@ -56,36 +56,36 @@ Defers (Defer g) = Unit {0}
 Defers (DeferDestroy g ptr) = Unit {0}
 Defers _ = ⊥
 
-defers_since : (b : Seat) (quiet collected : Type 0) (a : Seat) (c : Call) (s : Stage) → Defers c
+defers_since : (b : WorldSeat) (quiet collected : Type 0) (a : WorldSeat) (c : Call) (s : Stage) → Defers c
     → DeferAt (quiet × Kept b a) a.machine.full s → SinceAt b quiet collected a c s
 defers_since b quiet collected a (Defer g) s kind at = at
 defers_since b quiet collected a (DeferDestroy g ptr) s kind at = at
 defers_since b quiet collected a _ s kind at = absurd kind
 
-defers_leave : (quiet collected : Type 0) (b a : Seat) (c : Call) → Defers c
-    → quiet × (a.word ≡ b.word) × KeepsBag b a → Leaves quiet collected (Driven c) b a
+defers_leave : (quiet collected : Type 0) (b a : WorldSeat) (c : Call) → Defers c
+    → quiet × (a.word ≡ b.word) × KeepsBag b a → LeavesUnput quiet collected (Driven c) b a
 defers_leave quiet collected b a (Defer g) kind left = left
 defers_leave quiet collected b a (DeferDestroy g ptr) kind left = left
 defers_leave quiet collected b a _ kind left = absurd kind
 
 -- what a step has to show
-abbrev ShowsLeft : (ℕ → Seat) → (quiet collected : ℕ → Type 0) → State → Step → Reply → State → Type 0
+abbrev ShowsLeft : (ℕ → WorldSeat) → (quiet collected : ℕ → Type 0) → State → Step → Reply → State → Type 0
 ShowsLeft before quiet collected old step reply new = LeavesAtRefusal before quiet collected old step reply new
     × AllSince (before_after before old step reply) (quiet_after quiet old step reply new)
     (collected_after collected old step reply) new
 
 -- A STEP GO
 
-module _ (old new : State) (reply : Reply) (before : ℕ → Seat) (quiet collected : ℕ → Type 0)
+module _ (old new : State) (reply : Reply) (before : ℕ → WorldSeat) (quiet collected : ℕ → Type 0)
     (h : AllSince before quiet collected old) (p : ℕ)
-    (taken : word_of old p ≢ Free) where
-  abbrev seat : Seat
+    (taken : position_word old p ≢ Free) where
+  abbrev seat : WorldSeat
   seat = seat_of old p
 
   abbrev m : Machine Deferral
   m = seat.machine
 
-  abbrev b : Seat
+  abbrev b : WorldSeat
   b = before p
 
   abbrev aside : State
@@ -101,13 +101,13 @@ module _ (old new : State) (reply : Reply) (before : ℕ → Seat) (quiet collec
   Goal = ShowsLeft before quiet collected old (Go p) reply new
 
   -- the seats of this state are those before the step, but for that of p
-  abbrev Writes : State → Seat → Type 0
+  abbrev Writes : State → WorldSeat → Type 0
   Writes last after = (q : ℕ) → seat_of last q ≡ seat_of (with_seat old p after) q
 
   others_more : (q : ℕ) → q ≢ p → quiet q → later q
   others_more q other was = (was, λ same. absurd (other same))
 
-  tells : (tell : Reply) (after : Seat) (last : State) → LeavesAtRefusal before quiet collected old (Go p) tell new
+  tells : (tell : Reply) (after : WorldSeat) (last : State) → LeavesAtRefusal before quiet collected old (Go p) tell new
       → reply ≡ tell → aside ≡ last → Writes last after → SinceBy b (later p) (got p) after after.progress → Goal
   tells tell after last leaves told e writes own = (
     subst (λ (r : Reply). LeavesAtRefusal before quiet collected old (Go p) r new) (sym told) leaves,
@@ -127,7 +127,7 @@ module _ (old new : State) (reply : Reply) (before : ℕ → Seat) (quiet collec
       ]
 
   -- only the seat of p is written
-  rest : (after : Seat) → aside ≡ with_seat old p after → LeavesRest old p new
+  rest : (after : WorldSeat) → aside ≡ with_seat old p after → LeavesRest old p new
   rest after e = record {
     epoch = ap (λ (s : State). s.epoch) e;
     bags = ap (λ (s : State). s.queued) e;
@@ -137,7 +137,7 @@ module _ (old new : State) (reply : Reply) (before : ℕ → Seat) (quiet collec
   }
 
   module _ (c : Call) (drive : seat.progress ≡ Driven c) where
-    on : (after : Seat) → after.progress ≡ seat.progress → SinceAt b (later p) (got p) after c after.machine.stage
+    on : (after : WorldSeat) → after.progress ≡ seat.progress → SinceAt b (later p) (got p) after c after.machine.stage
         → SinceBy b (later p) (got p) after after.progress
     on after same at =
         subst (λ (progress : Progress). SinceBy b (later p) (got p) after progress) (sym (same ∙ drive)) at
@@ -149,11 +149,11 @@ module _ (old new : State) (reply : Reply) (before : ℕ → Seat) (quiet collec
     plain_goes plain tell w n last leaves told e writes = tells tell (with_word seat w n) last leaves told e writes
         (on (with_word seat w n) refl (plain_since b (later p) (got p) (with_word seat w n) n.stage c plain))
 
-    plain_performs : is_plain c ≡ true → (s : Stage) (ask : Ask) → Performs old p seat s ask reply aside → Goal
+    plain_performs : is_plain c ≡ true → (s : Stage) (ask : Ask) → PerformsAsk old p seat s ask reply aside → Goal
     plain_performs plain s LoadEpoch did =
         plain_goes plain Stepped seat.word (hears m s (EpochFound old.epoch)) _ tt did.0 did.1 (λ q. refl)
     plain_performs plain s (LoadWord k) did =
-        plain_goes plain Stepped seat.word (hears m s (WordFound (number_of (word_of old k)))) _ tt did.0 did.1
+        plain_goes plain Stepped seat.word (hears m s (WordFound (word_number (position_word old k)))) _ tt did.0 did.1
         (λ q. refl)
     plain_performs plain s (StorePinned e) did =
         plain_goes plain (PinnedReply p) (Pinned e) (hears m s Stored) _ tt did.0 did.1 (λ q. refl)
@@ -194,7 +194,7 @@ module _ (old new : State) (reply : Reply) (before : ℕ → Seat) (quiet collec
         rests (Resume (Some g)) = tt
         rests _ = tt
 
-    plain_drives : is_plain c ≡ true → (s : Stage) (ask : Option Ask) → Drives old p seat c s ask reply aside → Goal
+    plain_drives : is_plain c ≡ true → (s : Stage) (ask : Option Ask) → DrivesCall old p seat c s ask reply aside → Goal
     plain_drives plain s (Some ask) did = plain_performs plain s ask did
     plain_drives plain s None did = plain_ends plain did
 
@@ -207,11 +207,11 @@ module _ (old new : State) (reply : Reply) (before : ℕ → Seat) (quiet collec
   -- a call that is refused at its end, or done
   full_or_not : (c : Call) (full : Bool) → seat.progress ≡ Driven c
       → (full ≡ true
-      → Leaves (quiet_after quiet old (Go p) (Refused BagsFull) new p) (collected p) (Driven c) b (seat_of new p))
+      → LeavesUnput (quiet_after quiet old (Go p) (Refused BagsFull) new p) (collected p) (Driven c) b (seat_of new p))
       → LeavesAtRefusal before quiet collected old (Go p) (full_or_done full) new
   full_or_not c true drive leaves =
       subst
-      (λ (progress : Progress). Leaves (quiet_after quiet old (Go p) (Refused BagsFull) new p) (collected p)
+      (λ (progress : Progress). LeavesUnput (quiet_after quiet old (Go p) (Refused BagsFull) new p) (collected p)
       progress b (seat_of new p))
       (sym drive) (leaves refl)
   full_or_not c false drive leaves = tt
@@ -259,7 +259,7 @@ module _ (old new : State) (reply : Reply) (before : ℕ → Seat) (quiet collec
     defer_ends at ends =
         tells (full_or_done m.full) after _ (full_or_not c m.full drive leaves) did.0 did.1 (λ q. refl) tt
       where
-        after : Seat
+        after : WorldSeat
         after = with_guards seat seat.guards seat.paused
 
         did : (reply ≡ full_or_done m.full) × (aside ≡ with_seat old p after)
@@ -269,16 +269,16 @@ module _ (old new : State) (reply : Reply) (before : ℕ → Seat) (quiet collec
         wrote = ap (λ (s : State). seat_of s p) did.1 ∙ seat_written old p _ (seat_there old p taken)
 
         leaves : m.full ≡ true
-            → Leaves (quiet_after quiet old (Go p) (Refused BagsFull) new p) (collected p) (Driven c) b (seat_of new p)
+            → LeavesUnput (quiet_after quiet old (Go p) (Refused BagsFull) new p) (collected p) (Driven c) b (seat_of new p)
         leaves full = subst
-            (λ (after : Seat). Leaves (quiet_after quiet old (Go p) (Refused BagsFull) new p) (collected p) (Driven c) b
+            (λ (after : WorldSeat). LeavesUnput (quiet_after quiet old (Go p) (Refused BagsFull) new p) (collected p) (Driven c) b
             after)
             (sym wrote)
             (defers_leave _ (collected p) b after c kind
             (((at full).0, λ own. rest after did.1), (at full).1.0, keeps_bag b after (at full).1.1))
 
     defer_drives : (s : Stage) → m.stage ≡ s → DeferAt (quiet p × Kept b seat) m.full s
-        → Drives old p seat c s (ask_at s) reply aside → Goal
+        → DrivesCall old p seat c s (ask_at s) reply aside → Goal
     defer_drives LoadSeal is (q, kept) did = defer_steps (with_stage m (Put old.epoch)) _ did.0 did.1 (λ k. refl)
         ((q, λ own. rest _ did.1), kept)
     defer_drives (Put seal) is at (step, queued, told, put, e) = defer_puts seal step queued is at put told e
@@ -303,8 +303,8 @@ module _ (old new : State) (reply : Reply) (before : ℕ → Seat) (quiet collec
     flush_steps n last told e writes at = steps (Flush g) drive n last told e writes at
 
     -- a step of a collection
-    collects : (s : Stage) → m.stage ≡ s → Collects (ask_at s) → got p
-    collects s at collecting = inr (refl, subst Collects (sym asked) collecting)
+    collects : (s : Stage) → m.stage ≡ s → IsOfCollection (ask_at s) → got p
+    collects s at collecting = inr (refl, subst IsOfCollection (sym asked) collecting)
       where
         asked : turn_of seat ≡ ask_at s
         asked = turn_taken seat.word seat.progress m.stage taken
@@ -361,20 +361,20 @@ module _ (old new : State) (reply : Reply) (before : ℕ → Seat) (quiet collec
         wrote = ap (λ (s : State). seat_of s p) did.1 ∙ seat_written old p _ (seat_there old p taken)
 
         leaves : m.full ≡ true
-            → Leaves (quiet_after quiet old (Go p) (Refused BagsFull) new p) (collected p) (Driven (Flush g)) b
+            → LeavesUnput (quiet_after quiet old (Go p) (Refused BagsFull) new p) (collected p) (Driven (Flush g)) b
             (seat_of new p)
         leaves full = subst
-            (λ (after : Seat). Leaves (quiet_after quiet old (Go p) (Refused BagsFull) new p) (collected p)
+            (λ (after : WorldSeat). LeavesUnput (quiet_after quiet old (Go p) (Refused BagsFull) new p) (collected p)
             (Driven (Flush g)) b after)
             (sym wrote) (collecting, (at full).0, keeps_bag b (ended_seat (Flush g) seat) (at full).1)
 
     flush_drives : (s : Stage) → m.stage ≡ s → FlushAt (Kept b seat) (collected p) m.full s
-        → Drives old p seat (Flush g) s (ask_at s) reply aside → Goal
+        → DrivesCall old p seat (Flush g) s (ask_at s) reply aside → Goal
     flush_drives LoadSeal is at did = flush_steps (with_stage m (Put old.epoch)) _ did.0 did.1 (λ q. refl) at
     flush_drives (Put seal) is at (step, queued, told, put, e) = flush_puts seal step _ is at told e (λ q. refl)
     flush_drives LoadScan is at did = flush_steps (with_stage m (Scan old.epoch 0)) _ did.0 did.1 (λ q. refl) at
     flush_drives (Scan e k) is at did =
-        let w : ℕ = number_of (word_of old k) in
+        let w : ℕ = word_number (position_word old k) in
         flush_steps (with_stage m (past_word m.sizes.positions e k w)) _ did.0 did.1 (λ q. refl) (flush_word e k w at)
     flush_drives (Advance e) is at did = flush_steps (with_stage m (Take (e + 1) 0)) _ did.0 did.1 (λ q. refl) at
     flush_drives (Take x k) is at (step, jobs, queued, told, took, e) =
@@ -442,14 +442,14 @@ module _ (old new : State) (reply : Reply) (before : ℕ → Seat) (quiet collec
         wrote = ap (λ (s : State). seat_of s p) did.1 ∙ seat_written old p _ (seat_there old p taken)
 
         leaves : m.full ≡ true
-            → Leaves (quiet_after quiet old (Go p) (Refused BagsFull) new p) (collected p) (Driven Release) b
+            → LeavesUnput (quiet_after quiet old (Go p) (Refused BagsFull) new p) (collected p) (Driven Release) b
             (seat_of new p)
         leaves full = subst
-            (λ (after : Seat). Leaves (quiet_after quiet old (Go p) (Refused BagsFull) new p) (collected p)
+            (λ (after : WorldSeat). LeavesUnput (quiet_after quiet old (Go p) (Refused BagsFull) new p) (collected p)
             (Driven Release) b after)
             (sym wrote) (off, keeps_bag b (ended_seat Release seat) (at full))
 
-    release_drives : (s : Stage) → m.stage ≡ s → Own s → Drives old p seat Release s (ask_at s) reply aside → Goal
+    release_drives : (s : Stage) → m.stage ≡ s → Own s → DrivesCall old p seat Release s (ask_at s) reply aside → Goal
     release_drives LoadPin is at did = release_steps (with_stage m (StorePin old.epoch)) _ did.0 did.1 (λ q. refl) at
     release_drives (StorePin e) is at did =
         let n : Machine Deferral = hears m (StorePin e) Stored in
@@ -459,7 +459,7 @@ module _ (old new : State) (reply : Reply) (before : ℕ → Seat) (quiet collec
         (either_stage Own (m.pins == 1) LoadScan (after_collect m.action m.held) at (release_to m.held at))
     release_drives LoadScan is at did = release_steps (with_stage m (Scan old.epoch 0)) _ did.0 did.1 (λ q. refl) at
     release_drives (Scan e k) is at did =
-        let w : ℕ = number_of (word_of old k) in
+        let w : ℕ = word_number (position_word old k) in
         release_steps (with_stage m (past_word m.sizes.positions e k w)) _ did.0 did.1 (λ q. refl)
         (release_word e k w at)
     release_drives (Advance e) is at did = release_steps (with_stage m (Take (e + 1) 0)) _ did.0 did.1 (λ q. refl) at
@@ -485,7 +485,7 @@ module _ (old new : State) (reply : Reply) (before : ℕ → Seat) (quiet collec
 
   drives : (c : Call)
       → seat.progress ≡ Driven c → m.action ≡ action_of c → SinceAt b (quiet p) (collected p) seat c m.stage
-      → Drives old p seat c m.stage (ask_at m.stage) reply aside → Goal
+      → DrivesCall old p seat c m.stage (ask_at m.stage) reply aside → Goal
   drives (Defer g) drive action at did = defer_drives (Defer g) tt drive action m.stage refl at did
   drives (DeferDestroy g ptr) drive action at did =
       defer_drives (DeferDestroy g ptr) tt drive action m.stage refl at did
@@ -506,7 +506,7 @@ module _ (old new : State) (reply : Reply) (before : ℕ → Seat) (quiet collec
   no_slot (Answers answer) some = tt
   no_slot NoSlot some = absurd (some refl)
 
-  since_told : (a : Access) (k : ℕ) → ((after : Seat) → PlaceSince b (later p) after a) → (told : Accessed)
+  since_told : (a : Access) (k : ℕ) → ((after : WorldSeat) → PlaceSince b (later p) after a) → (told : Accessed)
       → SinceBy b (later p) (got p) (accessed_seat a k told seat) (progress_after a k told)
   since_told a k since (Again found) = since (accessed_seat a k (Again found) seat)
   since_told a k since (Answers answer) = tt
@@ -519,7 +519,7 @@ module _ (old new : State) (reply : Reply) (before : ℕ → Seat) (quiet collec
       tells (Refused CellsFull) after _ unplaced (told ∙ ap (λ (d : Touched). access_reply d.told) is) wrote (λ q. refl)
       tt
     where
-      after : Seat
+      after : WorldSeat
       after = record seat { progress = Idle }
 
       wrote : aside ≡ with_seat old p after
@@ -547,7 +547,7 @@ module _ (old new : State) (reply : Reply) (before : ℕ → Seat) (quiet collec
       tells Stepped after _ tt (told ∙ ap (λ (d : Touched). access_reply d.told) is) wrote (λ q. refl)
       ((q, λ own. rest after wrote), same)
     where
-      after : Seat
+      after : WorldSeat
       after = record seat { progress = Accesses (Place v) (k + 1) found }
 
       wrote : aside ≡ with_seat old p after
@@ -557,14 +557,14 @@ module _ (old new : State) (reply : Reply) (before : ℕ → Seat) (quiet collec
           { heap = d.heap }) is e
 
   pub goes : AllLinked old
-      → (progress : Progress) → seat.progress ≡ progress → Goes old p seat progress reply aside → Goal
+      → (progress : Progress) → seat.progress ≡ progress → DoesGo old p seat progress reply aside → Goal
   goes linked Idle at did = tells (Refused IdleFault) seat old tt did.0 did.1 same_seat
       (since_more b (quiet p) (later p) (collected p) (got p) seat more inl (h p))
     where
       same_seat : (q : ℕ) → seat_of old q ≡ seat_of (with_seat old p seat) q
       same_seat q =
           sym
-          (ap (λ (seats : List Seat). slice_index_or seats q (free_seat old.sizes))
+          (ap (λ (seats : List WorldSeat). slice_index_or seats q (free_seat old.sizes))
           (set-get_or old.seats p (free_seat old.sizes)))
 
       more : quiet p → later p
@@ -572,7 +572,7 @@ module _ (old new : State) (reply : Reply) (before : ℕ → Seat) (quiet collec
         was,
         λ own. rest seat
             (did.1
-            ∙ ap (λ (seats : List Seat). record old { seats = seats })
+            ∙ ap (λ (seats : List WorldSeat). record old { seats = seats })
             (sym (set-get_or old.seats p (free_seat old.sizes)))),
       )
   goes linked (Driven c) at did =
@@ -596,7 +596,7 @@ module _ (old new : State) (reply : Reply) (before : ℕ → Seat) (quiet collec
 
 -- EVERY STEP
 
-module _ (old new : State) (reply : Reply) (before : ℕ → Seat) (quiet collected : ℕ → Type 0)
+module _ (old new : State) (reply : Reply) (before : ℕ → WorldSeat) (quiet collected : ℕ → Type 0)
     (h : AllSince before quiet collected old)
     (linked : AllLinked old) where
   abbrev aside_of : State
@@ -630,7 +630,7 @@ module _ (old new : State) (reply : Reply) (before : ℕ → Seat) (quiet collec
         (sym (ap (λ (s : State). seat_of s q) e ∙ seat_other old p q _ other)) (h q)
   ]
 
-  begun : (p : ℕ) (c : Call) → word_of old p ≢ Free
+  begun : (p : ℕ) (c : Call) → position_word old p ≢ Free
       → (seat_of old p).progress ≡ Idle → aside_of ≡ with_seat old p (begun_seat c (seat_of old p))
       → AllSince (before_after before old (Begin p c) Began) (quiet_after quiet old (Begin p c) Began new)
       (collected_after collected old (Begin p c) Began) new
@@ -640,7 +640,7 @@ module _ (old new : State) (reply : Reply) (before : ℕ → Seat) (quiet collec
         (λ (k : ℕ). Since (if p == k then seat_of old p else before k) (k ≢ p → quiet k) ((k ≢ p) × collected k)
         (seat_of new k)) (sym same) own
     | inr other ↦
-        subst (λ (b : Seat). Since b (q ≢ p → quiet q) ((q ≢ p) × collected q) (seat_of new q)) (sym (at_other q other))
+        subst (λ (b : WorldSeat). Since b (q ≢ p → quiet q) ((q ≢ p) × collected q) (seat_of new q)) (sym (at_other q other))
         (subst (Since (before q) (q ≢ p → quiet q) ((q ≢ p) × collected q))
         (sym (ap (λ (s : State). seat_of s q) e ∙ seat_other old p q _ other))
         (since_more (before q) (quiet q) (q ≢ p → quiet q) (collected q) ((q ≢ p) × collected q) (seat_of old q)
@@ -654,14 +654,14 @@ module _ (old new : State) (reply : Reply) (before : ℕ → Seat) (quiet collec
       at_other q other = grind (arith, nat_tests)
 
       own : Since (if p == p then seat_of old p else before p) (p ≢ p → quiet p) ((p ≢ p) × collected p) (seat_of new p)
-      own = subst (λ (b : Seat). Since b (p ≢ p → quiet p) ((p ≢ p) × collected p) (seat_of new p)) (sym at_same)
+      own = subst (λ (b : WorldSeat). Since b (p ≢ p → quiet p) ((p ≢ p) × collected p) (seat_of new p)) (sym at_same)
           (subst (Since (seat_of old p) (p ≢ p → quiet p) ((p ≢ p) × collected p))
           (sym (ap (λ (s : State). seat_of s p) e ∙ seat_written old p _ (seat_there old p taken)))
           (begun_since (p ≢ p → quiet p) ((p ≢ p) × collected p) (seat_of old p) c idle (λ ne. absurd (ne refl))))
 
   begins : (p : ℕ) (c : Call) (fault : Option Fault) → refusal c (seat_of old p) old.tickets old.heap ≡ fault
       → (new.places ≡ old.places) × (new.seen ≡ old.seen) × (new.ahead ≡ old.ahead) × (new.room ≡ old.room)
-      → Begins old p c fault reply aside_of → Shown (Begin p c) reply
+      → BeginsCall old p c fault reply aside_of → Shown (Begin p c) reply
   begins p c (Some fault) at same did = subst (Shown (Begin p c)) (sym did.0)
       (unchanged did.1 same, stays old did.1 (λ q. refl))
   begins p c None at same did = subst (Shown (Begin p c)) (sym did.0)
@@ -693,7 +693,7 @@ module _ (old new : State) (reply : Reply) (before : ℕ → Seat) (quiet collec
   ends_all (Emptying [] n) (inl did) = stays _ did.4 (λ q. refl)
   ends_all (Emptying [] n) (inr did) = stays _ did.2 (λ q. refl)
 
-  step_shown : (step : Step) → Takes old step reply new → Shown step reply
+  step_shown : (step : Step) → TakesStep old step reply new → Shown step reply
   step_shown Register (inl did, same) = subst (Shown Register) (sym did.5) (tt, registers did.0 did.2 did.6)
   step_shown Register (inr (inl did), same) =
       subst (Shown Register) (sym did.2) (unchanged did.3 same, stays old did.3 (λ q. refl))
@@ -712,7 +712,7 @@ module _ (old new : State) (reply : Reply) (before : ℕ → Seat) (quiet collec
 
 -- WHOLE RUNS
 
-refused_from : (old new : State) (log : List Entry) (before : ℕ → Seat) (quiet collected : ℕ → Type 0)
+refused_from : (old new : State) (log : List Entry) (before : ℕ → WorldSeat) (quiet collected : ℕ → Type 0)
     → AllSince before quiet collected old
     → AllLinked old → (run : Runs old log new) → RefusedAlong before quiet collected old new log run
 refused_from old new [] before quiet collected h linked run = tt
@@ -727,4 +727,4 @@ refused_along s new log fresh run =
     refused_from s new log (seat_of s) all_quiet none_collected none (fresh_linked s fresh) run
   where
     none : AllSince (seat_of s) all_quiet none_collected s
-    none q = subst (λ (seat : Seat). Since (seat_of s q) (Unit {0}) ⊥ seat) (sym (fresh.free q)) tt
+    none q = subst (λ (seat : WorldSeat). Since (seat_of s q) (Unit {0}) ⊥ seat) (sym (fresh.free q)) tt

@@ -15,15 +15,15 @@ use Rattle.epoch_laws.specs.declared.step.Progress.{Progress}
 use Rattle.epoch_laws.specs.declared.step.Progress.TheVariants.{Idle, Driven, Accesses, Ends}
 use Rattle.epoch_laws.specs.declared.step.Reply.TheVariants.{Done}
 use Rattle.epoch_laws.specs.declared.step.Word.TheVariants.{Unpinned}
-use Rattle.epoch_laws.specs.Run.{Seat, State, seat_of, begun_seat}
+use Rattle.epoch_laws.specs.Run.{WorldSeat, State, seat_of, begun_seat}
 use Rattle.epoch_laws.proofs.ToldAtStages.{either_stage}
 
 -- guards, the paused one, the readings and the held bag
-abbrev pub KeptBag : (before after : Seat) → Type 0
+abbrev pub KeptBag : (before after : WorldSeat) → Type 0
 KeptBag before after = (after.guards ≡ before.guards) × (after.paused ≡ before.paused)
     × (after.readings ≡ before.readings) × (after.machine.held ≡ before.machine.held)
 
-abbrev pub Kept : (before after : Seat) → Type 0
+abbrev pub Kept : (before after : WorldSeat) → Type 0
 Kept before after = (after.word ≡ before.word) × KeptBag before after
 
 -- BY THE STAGE OF EACH CALL
@@ -62,7 +62,7 @@ ReleaseAt kept off full StoreFree = Unit {0}
 ReleaseAt kept off full End = (full ≡ true → kept) × off
 ReleaseAt kept off full _ = ⊥
 
-abbrev pub SinceAt : Seat → (quiet collected : Type 0) → Seat → Call → Stage → Type 0
+abbrev pub SinceAt : WorldSeat → (quiet collected : Type 0) → WorldSeat → Call → Stage → Type 0
 SinceAt b quiet collected a (Defer g) s = DeferAt (quiet × Kept b a) a.machine.full s
 SinceAt b quiet collected a (Flush g) s = FlushAt (Kept b a) collected a.machine.full s
 SinceAt b quiet collected a (DeferDestroy g ptr) s = DeferAt (quiet × Kept b a) a.machine.full s
@@ -70,19 +70,19 @@ SinceAt b quiet collected a Release s = ReleaseAt (KeptBag b a) (a.word ≡ Unpi
 SinceAt b quiet collected a _ s = Unit {0}
 
 -- a place has changed nothing but its progress
-abbrev pub PlaceSince : Seat → Type 0 → Seat → Access → Type 0
+abbrev pub PlaceSince : WorldSeat → Type 0 → WorldSeat → Access → Type 0
 PlaceSince b quiet a (Place v) = quiet × (b ≡ record a { progress = Idle })
 PlaceSince b quiet a _ = Unit {0}
 
-abbrev pub SinceBy : Seat → (quiet collected : Type 0) → Seat → Progress → Type 0
+abbrev pub SinceBy : WorldSeat → (quiet collected : Type 0) → WorldSeat → Progress → Type 0
 SinceBy b quiet collected a (Driven c) = SinceAt b quiet collected a c a.machine.stage
 SinceBy b quiet collected a (Accesses access k found) = PlaceSince b quiet a access
 SinceBy b quiet collected a _ = Unit {0}
 
-abbrev pub Since : Seat → (quiet collected : Type 0) → Seat → Type 0
+abbrev pub Since : WorldSeat → (quiet collected : Type 0) → WorldSeat → Type 0
 Since b quiet collected a = SinceBy b quiet collected a a.progress
 
-abbrev pub AllSince : (ℕ → Seat) → (quiet collected : ℕ → Type 0) → State → Type 0
+abbrev pub AllSince : (ℕ → WorldSeat) → (quiet collected : ℕ → Type 0) → State → Type 0
 AllSince before quiet collected s = (q : ℕ) → Since (before q) (quiet q) (collected q) (seat_of s q)
 
 -- a call that is never told that the bags are full
@@ -93,7 +93,7 @@ is_plain (Flush g) = false
 is_plain Release = false
 is_plain _ = true
 
-pub plain_since : (b : Seat) (quiet collected : Type 0) (a : Seat) (s : Stage) (c : Call)
+pub plain_since : (b : WorldSeat) (quiet collected : Type 0) (a : WorldSeat) (s : Stage) (c : Call)
     → is_plain c ≡ true → SinceAt b quiet collected a c s
 plain_since b quiet collected a s (Defer g) plain = absurd (cc (plain))
 plain_since b quiet collected a s (DeferDestroy g ptr) plain = absurd (cc (plain))
@@ -121,7 +121,7 @@ flush_more kept C D full (Calling x k) more at = at
 flush_more kept C D full End more at = (more at.0, at.1)
 flush_more kept C D full _ more at = absurd at
 
-pub since_more : (b : Seat) (P Q C D : Type 0) (a : Seat) → (P → Q) → (C → D) → Since b P C a → Since b Q D a
+pub since_more : (b : WorldSeat) (P Q C D : Type 0) (a : WorldSeat) → (P → Q) → (C → D) → Since b P C a → Since b Q D a
 since_more b P Q C D a more got at = by_progress a.progress at
   where
     by_call : (c : Call) (s : Stage) → SinceAt b P C a c s → SinceAt b Q D a c s
@@ -140,21 +140,21 @@ since_more b P Q C D a more got at = by_progress a.progress at
 
 -- HOW A CALL BEGINS
 
-deferral_since : (quiet : Type 0) (seat : Seat) → quiet
+deferral_since : (quiet : Type 0) (seat : WorldSeat) → quiet
     → DeferAt (quiet × Kept seat seat) false
     (if length seat.machine.held == seat.machine.sizes.bag_jobs then LoadSeal else Keep)
 deferral_since quiet seat q =
     either_stage (DeferAt (quiet × Kept seat seat) false) (length seat.machine.held == seat.machine.sizes.bag_jobs)
     LoadSeal Keep (q, (refl, (refl, refl, refl, refl))) refl
 
-place_since : (quiet collected : Type 0) (seat : Seat) (a : Access) (some : Bool) → seat.progress ≡ Idle → quiet
+place_since : (quiet collected : Type 0) (seat : WorldSeat) (a : Access) (some : Bool) → seat.progress ≡ Idle → quiet
     → Since seat quiet collected (record seat { progress = if some then Accesses a 0 null else Ends (Done Absent) })
 place_since quiet collected seat (Place v) true idle q =
     (q, ap (λ (progress : Progress). record seat { progress = progress }) idle)
 place_since quiet collected seat _ true idle q = tt
 place_since quiet collected seat a false idle q = tt
 
-pub begun_since : (quiet collected : Type 0) (seat : Seat) (c : Call) → seat.progress ≡ Idle → quiet
+pub begun_since : (quiet collected : Type 0) (seat : WorldSeat) (c : Call) → seat.progress ≡ Idle → quiet
     → Since seat quiet collected (begun_seat c seat)
 begun_since quiet collected seat (Defer (Some g)) idle q = deferral_since quiet seat q
 begun_since quiet collected seat (DeferDestroy (Some g) ptr) idle q = deferral_since quiet seat q

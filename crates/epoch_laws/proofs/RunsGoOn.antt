@@ -4,12 +4,12 @@ use Rattle.std.proofs.lemmas.List.{take_more}
 use Rattle.epoch_laws.specs.declared.step.Step.{Step}
 use Rattle.epoch_laws.specs.declared.step.Reply.{Reply}
 use Rattle.epoch_laws.specs.declared.step.Entry.{Entry}
-use Rattle.epoch_laws.specs.Run.{State, Takes, Runs, entries_of}
+use Rattle.epoch_laws.specs.Run.{State, TakesStep, Runs, entries_of}
 
 -- a run goes on by one step
 pub runs_push : (s t u : State) (log : List Entry) (x : Entry)
-    → Runs s log t → Takes t x.step x.reply u → Runs s (log ++ x ∷ []) u
-runs_push s t u [] x run did = (u, subst (λ (o : State). Takes o x.step x.reply u) run did, refl)
+    → Runs s log t → TakesStep t x.step x.reply u → Runs s (log ++ x ∷ []) u
+runs_push s t u [] x run did = (u, subst (λ (o : State). TakesStep o x.step x.reply u) run did, refl)
 runs_push s t u (y ∷ log) x run did = (run.0, run.1, runs_push run.0 t u log x run.2 did)
 
 -- a run after a run is one run
@@ -30,7 +30,7 @@ pub runs_more : (s t u : State) (steps : List Step) (i : ℕ) (d : Step) (replie
     → i < length steps → length replies ≡ i
     → later ≡ replies ++ r ∷ []
     → Runs s (entries_of (take i steps) replies) t
-    → Takes t (get_or steps i d) r u → Runs s (entries_of (take (i + 1) steps) later) u
+    → TakesStep t (get_or steps i d) r u → Runs s (entries_of (take (i + 1) steps) later) u
 runs_more s t u steps i d replies later r lt count more run did =
     let same : entries_of (take (i + 1) steps) later
     ≡ entries_of (take i steps) replies ++ record { step = get_or steps i d; reply = r } ∷ [] =

@@ -7,7 +7,7 @@ use Rattle.epoch_machine.specs.Machine.{Machine, holds_up, scanned, past_word}
 use Rattle.epoch_laws.specs.declared.step.Deferral.{Deferral}
 use Rattle.epoch_laws.specs.declared.step.Word.{Word}
 use Rattle.epoch_laws.specs.declared.step.Word.TheVariants.{Free, Unpinned, Pinned}
-use Rattle.epoch_laws.specs.Run.{Seat, State, word_of, number_of}
+use Rattle.epoch_laws.specs.Run.{WorldSeat, State, position_word, word_number}
 use Rattle.epoch_laws.proofs.SeatLemmas.{seat_past}
 use Rattle.epoch_laws.proofs.SeatsFine.{View, is_pinned, is_release, ends_unguarded, IsNext, HasScanned}
 use Rattle.epoch_laws.proofs.NextStages.{next_either, next_by_test}
@@ -24,8 +24,8 @@ same_epoch e n h = same (unless_both _ _ h (ap (λ (r : ℕ). r == 1) (mul-add-m
     same : (2 * n + 1 == 2 * e + 1) ≡ true → n ≡ e
     same equal = grind (arith, nat_tests)
 
-pub past_seats : (s : State) (j : ℕ) → length s.seats ≤ j → is_pinned (word_of s j) ≡ false
-past_seats s j le = ap (λ (seat : Seat). is_pinned seat.word) (seat_past s j le)
+pub past_seats : (s : State) (j : ℕ) → length s.seats ≤ j → is_pinned (position_word s j) ≡ false
+past_seats s j le = ap (λ (seat : WorldSeat). is_pinned seat.word) (seat_past s j le)
 
 module _ (v : View) (p : ℕ) (m : Machine Deferral) (aim : ends_unguarded m ≡ is_release m.action) where
   stops : (e : ℕ) (P : ℕ → Type 0) → HasScanned v p e P → IsNext v p true m (Take e 0)
@@ -69,14 +69,14 @@ module _ (v : View) (p : ℕ) (m : Machine Deferral) (aim : ends_unguarded m ≡
   -- a scan goes on behind a word that isn't pinned in another epoch, and stops at one that is
   pub next_looked : (e k n : ℕ) → HasScanned v p e (λ j. j < k)
       → ((j : ℕ) → n ≤ j → is_pinned (v.word j) ≡ false) → ((i : ℕ) → v.word k ≡ Pinned i → i ≤ v.since k)
-      → IsNext v p true m (past_word n e k (number_of (v.word k)))
-  next_looked e k n h past bound = next_by_test v p true m (holds_up e (number_of (v.word k))) (Take e 0)
+      → IsNext v p true m (past_word n e k (word_number (v.word k)))
+  next_looked e k n h past bound = next_by_test v p true m (holds_up e (word_number (v.word k))) (Take e 0)
       (if k + 1 == n then scanned e else Scan e (k + 1)) (λ up. stops e _ h)
       (λ free. next_by_test v p true m (k + 1 == n) (scanned e) (Scan e (k + 1))
       (advances e k n h past (λ pinned. here (v.word k) refl pinned free))
       (λ more. goes_on e k h (λ pinned. here (v.word k) refl pinned free)))
     where
-      here : (w : Word) → v.word k ≡ w → is_pinned w ≡ true → holds_up e (number_of w) ≡ false → e ≤ v.since k
+      here : (w : Word) → v.word k ≡ w → is_pinned w ≡ true → holds_up e (word_number w) ≡ false → e ≤ v.since k
       here Free found pinned free = absurd (cc)
       here Unpinned found pinned free = absurd (cc)
       here (Pinned i) found pinned free = omega (arith, bound i found, same_epoch e i free)

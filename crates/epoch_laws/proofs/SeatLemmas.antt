@@ -7,13 +7,13 @@ use Rattle.epoch_laws.specs.declared.step.Call.{Call}
 use Rattle.epoch_laws.specs.declared.step.Word.TheVariants.{Free}
 use Rattle.epoch_laws.specs.declared.step.Progress.{Progress}
 use Rattle.epoch_laws.specs.declared.step.Progress.TheVariants.{Idle}
-use Rattle.epoch_laws.specs.Run.{Seat, State, seat_of, word_of, with_seat, free_seat, is_free, is_idle, waits, call_refusal, refusal}
+use Rattle.epoch_laws.specs.Run.{WorldSeat, State, seat_of, position_word, with_seat, free_seat, is_free, is_idle, waits, call_refusal, refusal}
 use Rattle.epoch_heap.specs.Heap.{Heap}
 
-pub seat_written : (s : State) (p : ℕ) (seat : Seat) → p < length s.seats → seat_of (with_seat s p seat) p ≡ seat
+pub seat_written : (s : State) (p : ℕ) (seat : WorldSeat) → p < length s.seats → seat_of (with_seat s p seat) p ≡ seat
 seat_written s p seat lt = get_or-set_same s.seats p seat (free_seat s.sizes) lt
 
-pub seat_other : (s : State) (p q : ℕ) (seat : Seat) → q ≢ p → seat_of (with_seat s p seat) q ≡ seat_of s q
+pub seat_other : (s : State) (p q : ℕ) (seat : WorldSeat) → q ≢ p → seat_of (with_seat s p seat) q ≡ seat_of s q
 seat_other s p q seat ne = get_or-set_other s.seats p q seat (free_seat s.sizes) ne
 
 -- past the table there is only the default
@@ -21,9 +21,9 @@ pub seat_past : (s : State) (p : ℕ) → length s.seats ≤ p → seat_of s p �
 seat_past s p le = get_or_past s.seats p (free_seat s.sizes) le
 
 -- a position whose word isn't free is within the table
-pub seat_there : (s : State) (p : ℕ) → word_of s p ≢ Free → p < length s.seats
+pub seat_there : (s : State) (p : ℕ) → position_word s p ≢ Free → p < length s.seats
 seat_there s p taken = elim (split (length s.seats) p) [
-  | inl le ↦ absurd (taken (ap (λ (seat : Seat). seat.word) (seat_past s p le)))
+  | inl le ↦ absurd (taken (ap (λ (seat : WorldSeat). seat.word) (seat_past s p le)))
   | inr lt ↦ lt
 ]
   where
@@ -35,7 +35,7 @@ pub same_or_other : (q p : ℕ) → (q ≡ p) ⊎ (q ≢ p)
 same_or_other q p = grind arith
 
 -- What holds where a call isn't refused.
-pub record IsAccepted (c : Call) (seat : Seat) (tickets : ℕ) (heap : Heap) : Type 0 where
+pub record IsAccepted (c : Call) (seat : WorldSeat) (tickets : ℕ) (heap : Heap) : Type 0 where
   pub taken : seat.word ≢ Free
   pub idle : seat.progress ≡ Idle
   pub awake : waits c seat.paused ≡ false  -- who is paused only resumes
@@ -46,13 +46,13 @@ idle_is Idle h = refl
 idle_is _ h = absurd (cc)
 
 -- what is tested of a seat that is taken and idle, and of one that is taken
-abbrev waits_or_own : Call → Seat → ℕ → Heap → Option Fault
+abbrev waits_or_own : Call → WorldSeat → ℕ → Heap → Option Fault
 waits_or_own c seat tickets heap = if waits c seat.paused then Some Busy else call_refusal c seat tickets heap
 
-abbrev idle_or_busy : Call → Seat → ℕ → Heap → Option Fault
+abbrev idle_or_busy : Call → WorldSeat → ℕ → Heap → Option Fault
 idle_or_busy c seat tickets heap = if is_idle seat.progress then waits_or_own c seat tickets heap else Some Busy
 
-pub begin_given : (c : Call) (seat : Seat) (tickets : ℕ) (heap : Heap) → refusal c seat tickets heap ≡ None
+pub begin_given : (c : Call) (seat : WorldSeat) (tickets : ℕ) (heap : Heap) → refusal c seat tickets heap ≡ None
     → IsAccepted c seat tickets heap
 begin_given c seat tickets heap e = at_word (is_free seat.word) refl e
   where

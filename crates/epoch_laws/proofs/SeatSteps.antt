@@ -4,7 +4,7 @@ use Rattle.epoch_bags.specs.declared.job.Called.{Called}
 use Rattle.epoch_laws.specs.declared.step.Reply.TheVariants.{Deferred, Called as CalledReply}
 use Rattle.epoch_laws.specs.declared.step.Entry.{Entry}
 use Rattle.epoch_laws.specs.declared.step.Word.TheVariants.{Free, Pinned}
-use Rattle.epoch_laws.specs.Run.{Bag, Seat, State, word_of, with_seat}
+use Rattle.epoch_laws.specs.Run.{Bag, WorldSeat, State, position_word, with_seat}
 use Rattle.epoch_laws.proofs.SeatLemmas.{seat_there}
 use Rattle.epoch_laws.proofs.DeferralEpochs.{DeferredBy, SealedBehind}
 use Rattle.epoch_laws.proofs.Log.{IsPublish, IsWithdrawal}
@@ -16,7 +16,7 @@ use Rattle.epoch_laws.proofs.WorldHolds.{Holds, holds_along, view_of, acted, cha
 -- the job of a ticket called was deferred before anybody who is pinned has published
 abbrev pub CallsEarlier : State → (ℕ → ℕ) → (ℕ → ℕ) → ℕ → Type 0
 CallsEarlier s since when t =
-    (t < s.tickets) × ((q : ℕ) → is_pinned (word_of s q) ≡ true → when t < since q)
+    (t < s.tickets) × ((q : ℕ) → is_pinned (position_word s q) ≡ true → when t < since q)
 
 module _ (old new : State) (log : List Entry) (x : Entry) (h : Holds old log) where
   abbrev v : View
@@ -42,7 +42,7 @@ module _ (old new : State) (log : List Entry) (x : Entry) (h : Holds old log) wh
   })
 
   -- p goes on under the same word, and tells nothing but perhaps a call
-  pub plain_step : (p : ℕ) (after : Seat) (queued : List Bag) → word_of old p ≢ Free → after.word ≡ word_of old p
+  pub plain_step : (p : ℕ) (after : WorldSeat) (queued : List Bag) → position_word old p ≢ Free → after.word ≡ position_word old p
       → IsPlain x.reply
       → ((t : ℕ) (how : Called) → x.reply ≡ CalledReply t how → CallsEarlier old h.since h.when t)
       → SeatIsFine v p after → SealedBehind h.when old.tickets old.epoch queued
@@ -68,17 +68,17 @@ module _ (old new : State) (log : List Entry) (x : Entry) (h : Holds old log) wh
         called = called;
       }))
 
-  pub quiet_step : (p : ℕ) (after : Seat) → word_of old p ≢ Free → after.word ≡ word_of old p → IsQuiet x.reply
+  pub quiet_step : (p : ℕ) (after : WorldSeat) → position_word old p ≢ Free → after.word ≡ position_word old p → IsQuiet x.reply
       → SeatIsFine v p after → new ≡ with_seat old p after → Holds new (log ++ x ∷ [])
   quiet_step p after taken same quiet fine e = plain_step p after old.queued taken same quiet.plain
       (λ t how told. absurd (quiet.called t how told)) fine h.queued e
 
   -- p publishes the number n
-  pub publishes : (p n : ℕ) (after : Seat) → word_of old p ≢ Free → n ≤ old.epoch → after.word ≡ Pinned n
+  pub publishes : (p n : ℕ) (after : WorldSeat) → position_word old p ≢ Free → n ≤ old.epoch → after.word ≡ Pinned n
       → publishes_at after.machine after.machine.stage ≡ true → AimsAt after.machine after.machine.stage
       → DeferredBy h.when old.tickets old.epoch after.machine.held
       → ((w : View) → KnowsAt w p after.machine.held after.machine.hand after.machine.stage)
-      → ((q : ℕ) → IsPublish x.reply q → q ≡ p) → (is_pinned (word_of old p) ≡ true → IsWithdrawal x.reply p)
+      → ((q : ℕ) → IsPublish x.reply q → q ≡ p) → (is_pinned (position_word old p) ≡ true → IsWithdrawal x.reply p)
       → ((t : ℕ) → x.reply ≢ Deferred t) → ((t : ℕ) (how : Called) → x.reply ≢ CalledReply t how)
       → new ≡ with_seat old p after → Holds new (log ++ x ∷ [])
   publishes p n after taken seen word says aims held knows told withdrawn deferred called e =
@@ -117,11 +117,11 @@ module _ (old new : State) (log : List Entry) (x : Entry) (h : Holds old log) wh
       now = changed_same h.since p old.epoch
 
   -- p stores a word that isn't pinned
-  pub withdraws : (p : ℕ) (after : Seat) → word_of old p ≢ Free → is_pinned after.word ≡ false
+  pub withdraws : (p : ℕ) (after : WorldSeat) → position_word old p ≢ Free → is_pinned after.word ≡ false
       → publishes_at after.machine after.machine.stage ≡ false → AimsAt after.machine after.machine.stage
       → DeferredBy h.when old.tickets old.epoch after.machine.held
       → ((w : View) → KnowsAt w p after.machine.held after.machine.hand after.machine.stage)
-      → ((q : ℕ) → ¬ (IsPublish x.reply q)) → (is_pinned (word_of old p) ≡ true → IsWithdrawal x.reply p)
+      → ((q : ℕ) → ¬ (IsPublish x.reply q)) → (is_pinned (position_word old p) ≡ true → IsWithdrawal x.reply p)
       → ((t : ℕ) → x.reply ≢ Deferred t) → ((t : ℕ) (how : Called) → x.reply ≢ CalledReply t how)
       → new ≡ with_seat old p after → Holds new (log ++ x ∷ [])
   withdraws p after taken word says aims held knows told withdrawn deferred called e =

@@ -15,7 +15,7 @@ use Rattle.epoch_laws.specs.declared.step.Progress.{Progress}
 use Rattle.epoch_laws.specs.declared.step.Progress.TheVariants.{Idle, Driven, CallsNow, Accesses, Ends}
 use Rattle.epoch_laws.specs.declared.step.Reply.TheVariants.{Done}
 use Rattle.epoch_laws.specs.declared.step.Word.{Word}
-use Rattle.epoch_laws.specs.Run.{Seat, with_word, drives, begun_seat, ended_seat}
+use Rattle.epoch_laws.specs.Run.{WorldSeat, with_word, drives, begun_seat, ended_seat}
 use Rattle.epoch_laws.proofs.PutStages.{NoneFound, FoundSeen, FoundWhere, none_missed, puts_bag, NoneYet, FoundAt, found_first}
 
 -- a call that its machine drives may have found places, and another one none
@@ -28,7 +28,7 @@ FoundIn found count full _ = NoneFound found
 abbrev pub FullByPut : Machine Deferral → Type 0
 FullByPut m = puts_bag m.action ≡ false → m.full ≡ false
 
-pub record PutFinds (found : ℕ → Type 0) (count seen : ℕ) (seat : Seat) : Type 0 where
+pub record PutFinds (found : ℕ → Type 0) (count seen : ℕ) (seat : WorldSeat) : Type 0 where
   pub by_stage : FoundAt found count seen seat.machine.action seat.machine.full seat.machine.stage
   pub by_progress : FoundIn found count seat.machine.full seat.progress
   pub by_action : FullByPut seat.machine
@@ -84,7 +84,7 @@ module _ (was found : ℕ → Type 0) (same : SameFound was found) where
   in_still count full (Accesses a k last) at = none_still at
   in_still count full (Ends r) at = none_still at
 
-  pub finds_still : (count seen : ℕ) (seat : Seat) → PutFinds was count seen seat → PutFinds found count seen seat
+  pub finds_still : (count seen : ℕ) (seat : WorldSeat) → PutFinds was count seen seat → PutFinds found count seen seat
   finds_still count seen seat h = record {
     by_stage = at_still count seen seat.machine.action seat.machine.full seat.machine.stage h.by_stage;
     by_progress = in_still count seat.machine.full seat.progress h.by_progress;
@@ -95,7 +95,7 @@ module _ (was found : ℕ → Type 0) (same : SameFound was found) where
 
 module _ (found : ℕ → Type 0) (count seen : ℕ) where
   -- at rest nothing has to be found
-  pub rest_finds : (seat : Seat) → seat.machine.stage ≡ Resting → FoundIn found count seat.machine.full seat.progress
+  pub rest_finds : (seat : WorldSeat) → seat.machine.stage ≡ Resting → FoundIn found count seat.machine.full seat.progress
       → FullByPut seat.machine → PutFinds found count seen seat
   rest_finds seat rests at by_action = record {
     by_stage = subst (FoundAt found count seen seat.machine.action seat.machine.full) (sym rests) tt;
@@ -103,20 +103,20 @@ module _ (found : ℕ → Type 0) (count seen : ℕ) where
     by_action = by_action;
   }
 
-  driven_finds : (a : Action) (c : Call) (seat : Seat) → NoneFound found → PutFinds found count seen (drives a c seat)
+  driven_finds : (a : Action) (c : Call) (seat : WorldSeat) → NoneFound found → PutFinds found count seen (drives a c seat)
   driven_finds a c seat none = record {
     by_stage = found_first found count seen a seat.machine none;
     by_progress = none_missed found count none;
     by_action = λ plain. refl;
   }
 
-  access_finds : (a : Access) (b : Bool) (seat : Seat) → seat.machine.stage ≡ Resting → FullByPut seat.machine
+  access_finds : (a : Access) (b : Bool) (seat : WorldSeat) → seat.machine.stage ≡ Resting → FullByPut seat.machine
       → NoneFound found
       → PutFinds found count seen (record seat { progress = if b then Accesses a 0 null else Ends (Done Absent) })
   access_finds a true seat rests by_action none = rest_finds _ rests none by_action
   access_finds a false seat rests by_action none = rest_finds _ rests none by_action
 
-  pub begun_finds : (c : Call) (seat : Seat) → seat.machine.stage ≡ Resting
+  pub begun_finds : (c : Call) (seat : WorldSeat) → seat.machine.stage ≡ Resting
       → FullByPut seat.machine → NoneFound found → PutFinds found count seen (begun_seat c seat)
   begun_finds Pin seat rests by_action none = driven_finds PinAction Pin seat none
   begun_finds (Unpin g) seat rests by_action none = driven_finds UnpinAction (Unpin g) seat none
@@ -133,7 +133,7 @@ module _ (found : ℕ → Type 0) (count seen : ℕ) where
   begun_finds (AccessCall a) seat rests by_action none = access_finds a (has_steps a) seat rests by_action none
   begun_finds _ seat rests by_action none = rest_finds _ rests none by_action
 
-  pub ended_finds : (c : Call) (seat : Seat) → FullByPut seat.machine
+  pub ended_finds : (c : Call) (seat : WorldSeat) → FullByPut seat.machine
       → PutFinds found count seen (ended_seat c seat)
   ended_finds Pin seat by_action = rest_finds _ refl tt by_action
   ended_finds (Unpin (Some g)) seat by_action = rest_finds _ refl tt by_action
@@ -142,7 +142,7 @@ module _ (found : ℕ → Type 0) (count seen : ℕ) where
   ended_finds _ seat by_action = rest_finds _ refl tt by_action
 
   -- its machine goes on to n, with no step of a put
-  pub on_finds : (before : ℕ) (seat : Seat) (w : Word) (n : Machine Deferral) → PutFinds found count before seat
+  pub on_finds : (before : ℕ) (seat : WorldSeat) (w : Word) (n : Machine Deferral) → PutFinds found count before seat
       → n.action ≡ seat.machine.action → n.full ≡ seat.machine.full → FoundAt found count seen n.action n.full n.stage
       → PutFinds found count seen (with_word seat w n)
   on_finds before seat w n h action full at = record {

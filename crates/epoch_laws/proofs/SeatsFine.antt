@@ -8,7 +8,7 @@ use Rattle.epoch_machine.specs.Machine.{Machine, guards_after}
 use Rattle.epoch_laws.specs.declared.step.Deferral.{Deferral}
 use Rattle.epoch_laws.specs.declared.step.Word.{Word}
 use Rattle.epoch_laws.specs.declared.step.Word.TheVariants.{Pinned}
-use Rattle.epoch_laws.specs.Run.{Seat}
+use Rattle.epoch_laws.specs.Run.{WorldSeat}
 use Rattle.epoch_laws.proofs.DeferralEpochs.{DeferredBy, deferred_more}
 
 -- what the seats are held against: the epoch, the tickets given, the words, and two values that no code keeps:
@@ -86,7 +86,7 @@ pub record IsFine (v : View) (p : ℕ) (w : Word) (m : Machine Deferral) (s : St
   pub held : DeferredBy v.when v.tickets v.epoch m.held  -- the jobs held were deferred by now
   pub knows : KnowsAt v p m.held m.hand s  -- what the stage knows of its numbers, and of the jobs held and in hand
 
-abbrev pub SeatIsFine : View → ℕ → Seat → Type 0
+abbrev pub SeatIsFine : View → ℕ → WorldSeat → Type 0
 SeatIsFine v p seat = IsFine v p seat.word seat.machine seat.machine.stage
 
 -- who is pinned after a step was so before it, or has published by it

@@ -5,7 +5,7 @@ use Rattle.std.proofs.lemmas.List.Sums.{sum_by-append, sum_by-cons, sum_by-set}
 use Rattle.epoch_bags.specs.Stores.{IsInserted}
 use Rattle.epoch_laws.specs.declared.step.Entry.{Entry}
 use Rattle.epoch_laws.specs.declared.step.Deferral.{Deferral}
-use Rattle.epoch_laws.specs.Run.{Bag, Seat, State, seat_of, free_seat}
+use Rattle.epoch_laws.specs.Run.{Bag, WorldSeat, State, seat_of, free_seat}
 use Rattle.epoch_laws.specs.Tickets.{times, times_at_seats, times_queued, calls_of, deferrals_of, times_called, times_deferred}
 
 pub called_push : (t : ℕ) (log : List Entry) (x : Entry)
@@ -17,10 +17,10 @@ pub deferred_push : (t : ℕ) (log : List Entry) (x : Entry)
 deferred_push t log x = sum_by-append _ log (x ∷ []) ∙ omega arith
 
 -- how often it is at one participant
-abbrev pub times_at : ℕ → Seat → ℕ
+abbrev pub times_at : ℕ → WorldSeat → ℕ
 times_at t seat = times t seat.machine.held + times t seat.machine.hand
 
-pub seats_set : (t : ℕ) (s : State) (p : ℕ) (seat : Seat)
+pub seats_set : (t : ℕ) (s : State) (p : ℕ) (seat : WorldSeat)
     → p < length s.seats
     → times_at_seats t (slice_set s.seats p seat) + times_at t (seat_of s p)
     ≡ times_at_seats t s.seats + times_at t seat
@@ -46,7 +46,7 @@ pub times_push : (t : ℕ) (jobs : List Deferral) (job : Deferral)
     → times t (jobs ++ job ∷ []) ≡ times t jobs + (if job.ticket == t then 1 else 0)
 times_push t jobs job = sum_by-append (λ (j : Deferral). if j.ticket == t then 1 else 0) jobs (job ∷ []) ∙ omega arith
 
-pub sum_zero : (f : Seat → ℕ) (seats : List Seat) (default : Seat)
+pub sum_zero : (f : WorldSeat → ℕ) (seats : List WorldSeat) (default : WorldSeat)
     → ((p : ℕ) → f (get_or seats p default) ≡ 0)
     → sum_by f seats ≡ 0
 sum_zero f [] default none = refl

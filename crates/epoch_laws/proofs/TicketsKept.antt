@@ -13,7 +13,7 @@ use Rattle.epoch_laws.specs.declared.step.Deferral.{Deferral}
 use Rattle.epoch_laws.specs.declared.step.Word.TheVariants.{Free, Unpinned, Pinned}
 use Rattle.epoch_laws.specs.declared.step.Progress.{Progress}
 use Rattle.epoch_laws.specs.declared.step.Progress.TheVariants.{Idle as IdleProgress, Driven, CallsNow, Ends, Accesses}
-use Rattle.epoch_laws.specs.Run.{Seat, State, seat_of, word_of, number_of, with_seat, free_seat, Open, begun_seat, end_reply, ended_seat, Drives, Goes, with_heap, accessed_seat}
+use Rattle.epoch_laws.specs.Run.{WorldSeat, State, seat_of, position_word, word_number, with_seat, free_seat, Open, begun_seat, end_reply, ended_seat, DrivesCall, DoesGo, with_heap, accessed_seat}
 use Rattle.epoch_laws.specs.Tickets.{times}
 use Rattle.epoch_laws.proofs.SeatLemmas.{seat_there}
 use Rattle.epoch_laws.proofs.JobsPlaced.{HeldAt, RestsAt, PlacesJobs, PlacesHere, LeavesJobs, held_pinned, held_unpinned, held_past, held_by, resting, begun_leaves, ended_leaves, accessed_leaves}
@@ -25,8 +25,8 @@ module _ (old new : State) (log : List Entry) (x : Entry) (h : Tallies old log) 
   abbrev Kept : Type 0
   Kept = Tallies new (log ++ x ∷ [])
 
-  module _ (p : ℕ) (taken : word_of old p ≢ Free) where
-    abbrev seat : Seat
+  module _ (p : ℕ) (taken : position_word old p ≢ Free) where
+    abbrev seat : WorldSeat
     seat = seat_of old p
 
     abbrev m : Machine Deferral
@@ -36,7 +36,7 @@ module _ (old new : State) (log : List Entry) (x : Entry) (h : Tallies old log) 
     opened = ending_open old.ending (λ shut. taken (h.closed shut p))
 
     -- no job moves
-    leaves_jobs : (told : Reply) (after : Seat) (heap : Heap)
+    leaves_jobs : (told : Reply) (after : WorldSeat) (heap : Heap)
         → x.reply ≡ told → tells told ≡ false → LeavesJobs seat after
         → new ≡ record (with_seat old p after) { heap = heap }
         → Kept
@@ -87,7 +87,7 @@ module _ (old new : State) (log : List Entry) (x : Entry) (h : Tallies old log) 
       ends none did =
           leaves_jobs _ (ended_seat c seat) old.heap did.0 (end_untold c seat) (ended_leaves seat taken c none) did.1
 
-      goes_at : (s : Stage) → PlacesJobs seat s → Drives old p seat c s (ask_at s) x.reply new → Kept
+      goes_at : (s : Stage) → PlacesJobs seat s → DrivesCall old p seat c s (ask_at s) x.reply new → Kept
       goes_at Idle at did = ends at.hand did
       goes_at LoadPin at did = staged g _ at.hand tt did
       goes_at (StorePin e) at did =
@@ -96,7 +96,7 @@ module _ (old new : State) (log : List Entry) (x : Entry) (h : Tallies old log) 
       goes_at ReloadPin at did = staged g _ at.hand (held_pinned m m refl) did
       goes_at LoadScan at did = staged g _ at.hand tt did
       goes_at (Scan e k) at did =
-          staged g _ at.hand (held_past m m.sizes.positions e k (number_of (word_of old k))) did
+          staged g _ at.hand (held_past m m.sizes.positions e k (word_number (position_word old k))) did
       goes_at (Advance e) at did =
           keeps_jobs g _ seat.word (hears m (Advance e) Stored) (e + 1) refl taken tt at.hand (refl, refl) did
       goes_at (Take y k) at (step, jobs, queued, is, took, did) = takes g y k step jobs queued at.hand is took did
@@ -119,23 +119,23 @@ module _ (old new : State) (log : List Entry) (x : Entry) (h : Tallies old log) 
       goes_at StoreFree at did = frees at did
       goes_at End at did = ends at.hand did
 
-    pub goes : (progress : Progress) → seat.progress ≡ progress → Goes old p seat progress x.reply new → Kept
+    pub goes : (progress : Progress) → seat.progress ≡ progress → DoesGo old p seat progress x.reply new → Kept
     goes progress at did =
         by_progress progress at (subst (λ (q : Progress). RestsAt q m.stage) at (h.seats p).rests) did
       where
         by_progress : (progress : Progress) → seat.progress ≡ progress → RestsAt progress m.stage
-            → Goes old p seat progress x.reply new
+            → DoesGo old p seat progress x.reply new
             → Kept
         by_progress IdleProgress at rests did = stayed old new log x h _ did.0 refl did.1
         by_progress (Driven c) at rests did = goes_at c at m.stage (h.seats p) did
         by_progress (CallsNow removes) at rests did =
             let ends : Progress = Ends (Done UnitAnswer) in
-            let after : Seat = record seat { progress = ends } in
+            let after : WorldSeat = record seat { progress = ends } in
             leaves_jobs _ after _ did.0 refl (resting seat taken ends (rests, (_, refl)) (h.seats p)) did.1
         by_progress (Accesses a k found) at rests (did, touches, is, e) =
             leaves_jobs _ (accessed_seat a k did.told seat) did.heap is (access_untold did.told)
             (accessed_leaves seat taken a k did.told rests (h.seats p)) e
         by_progress (Ends reply) at rests did =
-            let after : Seat = record seat { progress = IdleProgress } in
+            let after : WorldSeat = record seat { progress = IdleProgress } in
             leaves_jobs _ after old.heap (did.0 ∙ rests.1.1) refl (resting seat taken IdleProgress rests.0 (h.seats p))
             did.1

@@ -8,8 +8,8 @@ use Rattle.epoch_laws.specs.declared.step.Reply.{Reply}
 use Rattle.epoch_laws.specs.declared.step.Reply.TheVariants.{Deferred}
 use Rattle.epoch_laws.specs.declared.step.Entry.{Entry}
 use Rattle.epoch_laws.specs.Run.{State, Runs, IsFresh}
-use Rattle.epoch_laws.specs.Grace.{Stands}
-use Rattle.epoch_laws.specs.Tickets.{HoldsEachTicketOnce, is_deferral, deferrals, NumbersTickets}
+use Rattle.epoch_laws.specs.Grace.{IsReplyAt}
+use Rattle.epoch_laws.specs.Tickets.{HoldsEachTicketOnce, one_if_deferral, deferrals, NumbersTickets}
 use Rattle.epoch_laws.proofs.Log.{stands_push, stands_within}
 use Rattle.epoch_laws.proofs.RunsGoOn.{runs_push}
 use Rattle.epoch_laws.proofs.TicketSums.{deferred_push}
@@ -22,13 +22,13 @@ use Rattle.epoch_laws.proofs.TicketsOnce.{holds_each_once}
 own_ticket : (old new t : ℕ) → GivesTicket old (Deferred t) new → t ≡ old
 own_ticket old new t given = grind (arith, nat_tests, given old, given t)
 
-next_ticket : (old new : ℕ) (reply : Reply) → GivesTicket old reply new → new ≡ old + is_deferral reply
+next_ticket : (old new : ℕ) (reply : Reply) → GivesTicket old reply new → new ≡ old + one_if_deferral reply
 next_ticket old new (Deferred t) given =
     let own : t ≡ old = own_ticket old new t given in
     grind (arith, nat_tests, given old, given t, given (old + 1))
 next_ticket old new _ given = grind (arith, nat_tests, given old, given new)
 
-deferrals_push : (log : List Entry) (x : Entry) → deferrals (log ++ x ∷ []) ≡ deferrals log + is_deferral x.reply
+deferrals_push : (log : List Entry) (x : Entry) → deferrals (log ++ x ∷ []) ≡ deferrals log + one_if_deferral x.reply
 deferrals_push log x = sum_by-append _ log (x ∷ []) ∙ omega arith
 
 -- ONE MORE ENTRY
@@ -42,7 +42,7 @@ module _ (old new : State) (log : List Entry) (x : Entry) (h : Numbers old log)
   given : GivesTicket old.tickets x.reply new.tickets
   given t = omega (arith, before.accepted t, after.accepted t, deferred_push t log x)
 
-  numbers_at : (t i : ℕ) → Stands log i (Deferred t) ⊎ ((i ≡ length log) × (x.reply ≡ Deferred t))
+  numbers_at : (t i : ℕ) → IsReplyAt log i (Deferred t) ⊎ ((i ≡ length log) × (x.reply ≡ Deferred t))
       → t ≡ deferrals (take i (log ++ x ∷ []))
   numbers_at t i (inl earlier) =
       let within : i < length log = stands_within log i _ earlier in

@@ -6,7 +6,7 @@ use Rattle.epoch_laws.specs.declared.step.Step.{Step}
 use Rattle.epoch_laws.specs.declared.step.Step.TheVariants.{Register, Begin, Go, End as EndStep, EndGo}
 use Rattle.epoch_laws.specs.declared.step.Reply.TheVariants.{Began}
 use Rattle.epoch_laws.specs.declared.step.Entry.{Entry}
-use Rattle.epoch_laws.specs.Run.{with_places, Seat, State, seat_of, Ending, Open, Emptying, Over, AllFree, Begins, refusal, EndGoes, Moves, Runs, IsFresh}
+use Rattle.epoch_laws.specs.Run.{with_places, WorldSeat, State, seat_of, Ending, Open, Emptying, Over, AllFree, BeginsCall, refusal, EndGoes, Moves, Runs, IsFresh}
 use Rattle.epoch_laws.specs.Tickets.{times_queued, times_at_end, times_called, times_deferred, HoldsEachTicketOnce}
 use Rattle.epoch_laws.proofs.SeatLemmas.{begin_given}
 use Rattle.epoch_laws.proofs.TicketSums.{queued_put, times_cons, none_at_seats, none_deferred}
@@ -20,7 +20,7 @@ module _ (old new : State) (log : List Entry) (x : Entry) (h : Tallies old log) 
 
   call_begins : (p : ℕ) (c : Call) (refused : Option Fault)
       → refusal c (seat_of old p) old.tickets old.heap ≡ refused
-      → Begins old p c refused x.reply new
+      → BeginsCall old p c refused x.reply new
       → Kept
   call_begins p c (Some fault) at did = stayed old new log x h _ did.0 refl did.1
   call_begins p c None at did =
@@ -99,8 +99,8 @@ fresh_tallies s fresh = record {
   where
     no_job : (p : ℕ) → ((seat_of s p).machine.held ≡ []) × ((seat_of s p).machine.hand ≡ [])
     no_job p =
-        let held = ap (λ (seat : Seat). seat.machine.held) (fresh.free p) in
-        let hand = ap (λ (seat : Seat). seat.machine.hand) (fresh.free p) in
+        let held = ap (λ (seat : WorldSeat). seat.machine.held) (fresh.free p) in
+        let hand = ap (λ (seat : WorldSeat). seat.machine.hand) (fresh.free p) in
         (held, hand)
 
 pub run_tallies : (s new : State) (log : List Entry) → IsFresh s → Runs s log new → Tallies new log

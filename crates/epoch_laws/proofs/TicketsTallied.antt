@@ -6,7 +6,7 @@ use Rattle.epoch_laws.specs.declared.step.Reply.{Reply}
 use Rattle.epoch_laws.specs.declared.step.Reply.TheVariants.{Registered, Deferred, Called}
 use Rattle.epoch_laws.specs.declared.step.Entry.{Entry}
 use Rattle.epoch_laws.specs.declared.step.Word.TheVariants.{Free, Unpinned}
-use Rattle.epoch_laws.specs.Run.{Bag, Seat, State, seat_of, word_of, with_seat, free_seat, Ending, Open, Over, AllFree, end_reply, full_or_done, with_heap, access_reply}
+use Rattle.epoch_laws.specs.Run.{Bag, WorldSeat, State, seat_of, position_word, with_seat, free_seat, Ending, Open, Over, AllFree, end_reply, full_or_done, with_heap, access_reply}
 use Rattle.epoch_laws.specs.Tickets.{times, times_queued, times_in_bags, times_at_end, calls_of, deferrals_of, times_called, times_deferred}
 use Rattle.epoch_laws.proofs.SeatLemmas.{seat_written, seat_other, same_or_other}
 use Rattle.epoch_laws.proofs.TicketSums.{called_push, deferred_push, times_at, seats_set}
@@ -49,7 +49,7 @@ access_untold (Answers answer) = refl
 access_untold NoSlot = refl
 
 -- the end of a call tells of none
-pub end_untold : (c : Call) (seat : Seat) → tells (end_reply c seat) ≡ false
+pub end_untold : (c : Call) (seat : WorldSeat) → tells (end_reply c seat) ≡ false
 end_untold c seat = ends c
   where
     by_full : (full : Bool) → tells (full_or_done full) ≡ false
@@ -69,7 +69,7 @@ abbrev times_left : ℕ → List Bag → Ending → ℕ
 times_left t queued ending = times_queued t queued + times_at_end t ending
 
 -- the state after a step of one participant
-abbrev pub acted : State → ℕ → Seat → ℕ → List Bag → ℕ → State
+abbrev pub acted : State → ℕ → WorldSeat → ℕ → List Bag → ℕ → State
 acted old p seat epoch queued tickets =
     record (with_seat old p seat) { epoch = epoch; queued = queued; tickets = tickets }
 
@@ -82,7 +82,7 @@ pub none_given : (tickets : ℕ) (told : Reply) → tells told ≡ false → Giv
 none_given tickets told quiet t = omega (arith, untold_deferrals t told quiet)
 
 -- a step of one participant, at which jobs move as the reply tells
-pub record MovesJobs (old : State) (told : Reply) (p : ℕ) (seat : Seat) (queued : List Bag) (tickets : ℕ)
+pub record MovesJobs (old : State) (told : Reply) (p : ℕ) (seat : WorldSeat) (queued : List Bag) (tickets : ℕ)
     : Type 0 where
   pub there : p < length old.seats
   pub ending : old.ending ≡ Open
@@ -114,7 +114,7 @@ module _ (old new : State) (log : List Entry) (x : Entry) (h : Tallies old log) 
     over = h.over;
   })
 
-  pub acts : (told : Reply) (p : ℕ) (seat : Seat) (epoch : ℕ) (queued : List Bag) (tickets : ℕ)
+  pub acts : (told : Reply) (p : ℕ) (seat : WorldSeat) (epoch : ℕ) (queued : List Bag) (tickets : ℕ)
       → x.reply ≡ told
       → MovesJobs old told p seat queued tickets
       → new ≡ acted old p seat epoch queued tickets
@@ -144,7 +144,7 @@ module _ (old new : State) (log : List Entry) (x : Entry) (h : Tallies old log) 
   pub registers : (p : ℕ)
       → old.ending ≡ Open
       → p < length old.seats
-      → word_of old p ≡ Free
+      → position_word old p ≡ Free
       → x.reply ≡ Registered p
       → new ≡ with_seat old p (record (free_seat old.sizes) { word = Unpinned })
       → Kept

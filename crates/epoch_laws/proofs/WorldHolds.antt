@@ -6,7 +6,7 @@ use Rattle.epoch_machine.specs.declared.machine.Sizes.{Sizes}
 use Rattle.epoch_laws.specs.declared.step.Reply.{Reply}
 use Rattle.epoch_laws.specs.declared.step.Reply.TheVariants.{Deferred, Called as CalledReply}
 use Rattle.epoch_laws.specs.declared.step.Entry.{Entry}
-use Rattle.epoch_laws.specs.Run.{Seat, State, seat_of, word_of, with_seat, free_seat, Ending, Open, Emptying, AllFree, with_heap}
+use Rattle.epoch_laws.specs.Run.{WorldSeat, State, seat_of, position_word, with_seat, free_seat, Ending, Open, Emptying, AllFree, with_heap}
 use Rattle.epoch_laws.proofs.SeatLemmas.{seat_written, seat_other, same_or_other}
 use Rattle.epoch_laws.proofs.DeferralEpochs.{DeferredBy, SealedBehind, deferred_more}
 use Rattle.epoch_laws.proofs.Log.{IsPublish, IsWithdrawal}
@@ -16,7 +16,7 @@ use Rattle.epoch_heap.specs.Heap.{Heap}
 
 abbrev pub view_of : State → (ℕ → ℕ) → (ℕ → ℕ) → View
 view_of s since when =
-    record { epoch = s.epoch; tickets = s.tickets; word = word_of s; since = since; when = when }
+    record { epoch = s.epoch; tickets = s.tickets; word = position_word s; since = since; when = when }
 
 -- the jobs in the hands of the end
 abbrev pub EndHolds : (ℕ → ℕ) → ℕ → Ending → Type 0
@@ -60,7 +60,7 @@ pub changed_other : (f : ℕ → ℕ) (p e q : ℕ) → q ≢ p → changed f p 
 changed_other f p e q ne = grind (arith, nat_tests)
 
 -- What a step of p must show: its seat after the step is fine in the new view, and what the reply tells of p.
-pub record Acts (old new : State) (since when since' when' : ℕ → ℕ) (p : ℕ) (after : Seat) (r : Reply) : Type 0 where
+pub record Acts (old new : State) (since when since' when' : ℕ → ℕ) (p : ℕ) (after : WorldSeat) (r : Reply) : Type 0 where
   pub there : p < length old.seats
   pub still_open : ¬ (old.ending ≢ Open)  -- no end has begun
   pub sizes : new.sizes ≡ old.sizes
@@ -72,23 +72,23 @@ pub record Acts (old new : State) (since when since' when' : ℕ → ℕ) (p : �
   pub when_old : (t : ℕ) → t < old.tickets → when' t ≡ when t
   pub since_other : (q : ℕ) → q ≢ p → since' q ≡ since q
   -- the new epoch is at most one past the publish of each other participant that is pinned
-  pub near : (q : ℕ) → q ≢ p → is_pinned (word_of old q) ≡ true → new.epoch ≤ since q + 1
+  pub near : (q : ℕ) → q ≢ p → is_pinned (position_word old q) ≡ true → new.epoch ≤ since q + 1
   -- if p is pinned after the step, it was so before it, or has published by it
   pub own : is_pinned after.word ≡ true
-      → ((is_pinned (word_of old p) ≡ true) × (since' p ≡ since p)) ⊎ (old.epoch ≤ since' p)
+      → ((is_pinned (position_word old p) ≡ true) × (since' p ≡ since p)) ⊎ (old.epoch ≤ since' p)
   -- the seat is fine, where the step passes from the old view to the new one as steps may
   pub fine : Passes (view_of old since when) (view_of new since' when') → SeatIsFine (view_of new since' when') p after
   pub queued : SealedBehind when' new.tickets new.epoch new.queued  -- bags are sealed at or after their deferrals
   -- only p is told to have published, and is pinned then
   pub published : (q : ℕ) → IsPublish r q → (q ≡ p) × (is_pinned after.word ≡ true)
   -- a pin lasts, with its publish, until it is told to be withdrawn
-  pub lasting : is_pinned (word_of old p) ≡ true → ¬ (IsWithdrawal r p)
+  pub lasting : is_pinned (position_word old p) ≡ true → ¬ (IsWithdrawal r p)
       → (is_pinned after.word ≡ true) × (since' p ≡ since p)
   -- a deferral gets the next ticket, and nobody has published at a later epoch
   pub deferred : (t : ℕ) → r ≡ Deferred t → (t ≡ old.tickets) × (t < new.tickets) × ((q : ℕ) → since' q ≤ when' t)
   -- whoever is pinned when a job is called has published at a later epoch than that of its deferral
   pub called : (t : ℕ) (how : Called) → r ≡ CalledReply t how
-      → (t < old.tickets) × ((q : ℕ) → is_pinned (word_of old q) ≡ true → when t < since q)
+      → (t < old.tickets) × ((q : ℕ) → is_pinned (position_word old q) ≡ true → when t < since q)
 
 end_more : (when when' : ℕ → ℕ) (n n' : ℕ) (e : Ending) → n ≤ n' → ((t : ℕ) → t < n → when' t ≡ when t)
     → EndHolds when n e → EndHolds when' n' e
@@ -97,14 +97,14 @@ end_more when when' n n' (Emptying hand k) more same h =
 end_more when when' n n' _ more same h = tt
 
 pub acted : (old new : State) (log : List Entry) (x : Entry) (h : Holds old log) (since' when' : ℕ → ℕ) (p : ℕ)
-    (after : Seat) → Acts old new h.since h.when since' when' p after x.reply → Holds new (log ++ x ∷ [])
+    (after : WorldSeat) → Acts old new h.since h.when since' when' p after x.reply → Holds new (log ++ x ∷ [])
 acted old new log x h since' when' p after a = record {
   since = since';
   when = when';
   seats = λ q. elim (same_or_other q p) [
     | inl same ↦ subst (λ r. SeatIsFine v' r (seat_of new r)) (sym same)
-        (subst (λ (seat : Seat). SeatIsFine v' p seat) (sym written) (a.fine passes))
-    | inr ne ↦ subst (λ (seat : Seat). SeatIsFine v' q seat) (sym (other q ne)) (untouched q ne)
+        (subst (λ (seat : WorldSeat). SeatIsFine v' p seat) (sym written) (a.fine passes))
+    | inr ne ↦ subst (λ (seat : WorldSeat). SeatIsFine v' q seat) (sym (other q ne)) (untouched q ne)
   ];
   queued = a.queued;
   closed = λ shut. absurd (a.still_open (λ e. shut (a.ending ∙ e)));
@@ -120,7 +120,7 @@ acted old new log x h since' when' p after a = record {
     v' = view_of new since' when'
 
     looked_up : (q : ℕ) → seat_of new q ≡ seat_of (with_seat old p after) q
-    looked_up q = ap (λ (ss : List Seat). slice_index_or ss q (free_seat new.sizes)) a.seats
+    looked_up q = ap (λ (ss : List WorldSeat). slice_index_or ss q (free_seat new.sizes)) a.seats
         ∙ ap (λ (z : Sizes). slice_index_or (slice_set old.seats p after) q (free_seat z)) a.sizes
 
     written : seat_of new p ≡ after
@@ -129,11 +129,11 @@ acted old new log x h since' when' p after a = record {
     other : (q : ℕ) → q ≢ p → seat_of new q ≡ seat_of old q
     other q ne = looked_up q ∙ seat_other old p q after ne
 
-    word_at : word_of new p ≡ after.word
-    word_at = ap (λ (seat : Seat). seat.word) written
+    word_at : position_word new p ≡ after.word
+    word_at = ap (λ (seat : WorldSeat). seat.word) written
 
-    word_other : (q : ℕ) → q ≢ p → word_of new q ≡ word_of old q
-    word_other q ne = ap (λ (seat : Seat). seat.word) (other q ne)
+    word_other : (q : ℕ) → q ≢ p → position_word new q ≡ position_word old q
+    word_other q ne = ap (λ (seat : WorldSeat). seat.word) (other q ne)
 
     was_pinned : (j : ℕ) → WasPinned v v' j
     was_pinned j = elim (same_or_other j p) [
@@ -145,7 +145,7 @@ acted old new log x h since' when' p after a = record {
     passes = record { epoch = a.epoch; tickets = a.tickets; when = a.when_old; pinned = was_pinned }
 
     untouched : (q : ℕ) → q ≢ p → SeatIsFine v' q (seat_of old q)
-    untouched q ne = fine_more v v' q (word_of old q) (seat_of old q).machine (seat_of old q).machine.stage passes
+    untouched q ne = fine_more v v' q (position_word old q) (seat_of old q).machine (seat_of old q).machine.stage passes
         (a.since_other q ne) (a.near q ne) (h.seats q)
 
     lasts : (q : ℕ) → Lasts v v' x.reply q
@@ -158,7 +158,7 @@ acted old new log x h since' when' p after a = record {
     tells : Tells v v' x.reply
     tells = record {
       published = λ q told. let r = a.published q told in
-          subst (λ (k : ℕ). is_pinned (word_of new k) ≡ true) (sym r.0) (ap is_pinned word_at ∙ r.1);
+          subst (λ (k : ℕ). is_pinned (position_word new k) ≡ true) (sym r.0) (ap is_pinned word_at ∙ r.1);
       lasting = lasts;
       deferred = a.deferred;
       called = a.called;

@@ -12,9 +12,9 @@ goes_of p [] = []
 goes_of p (r ∷ rs) = record { step = Go p; reply = r } ∷ goes_of p rs
 
 -- it begins a call, and goes on once for each further reply
-abbrev pub call_of : ℕ → Call → List Reply → List Entry
-call_of p c [] = []
-call_of p c (r ∷ rs) = record { step = Begin p c; reply = r } ∷ goes_of p rs
+abbrev pub call_entries : ℕ → Call → List Reply → List Entry
+call_entries p c [] = []
+call_entries p c (r ∷ rs) = record { step = Begin p c; reply = r } ∷ goes_of p rs
 
 abbrev pub ends_call : Reply → Bool
 ends_call (Done answer) = true

@@ -10,10 +10,10 @@ use Rattle.epoch_machine.specs.Machine.{Machine, is_taking}
 use Rattle.epoch_laws.specs.declared.step.Deferral.{Deferral}
 
 -- bags are looked for, or the jobs of one are called
-abbrev pub collects : Stage → Bool
-collects (Take x k) = true
-collects (Calling x k) = true
-collects _ = false
+abbrev pub is_collecting : Stage → Bool
+is_collecting (Take x k) = true
+is_collecting (Calling x k) = true
+is_collecting _ = false
 
 -- the epoch for which a collection takes bags
 abbrev pub expiry_of : Stage → ℕ
@@ -22,31 +22,31 @@ expiry_of (Calling x k) = x
 expiry_of _ = 0
 
 -- the bags in the store, and how many of them a collection will take if nobody disturbs it
-pub record Reach : Type 0 where
+pub record Outlook : Type 0 where
   pub bags : List (Sealed Deferral)
   pub ahead : ℕ
 
-abbrev pub reach : List (Sealed Deferral) → ℕ → Reach
-reach bags ahead = record { bags = bags; ahead = ahead }
+abbrev pub outlook : List (Sealed Deferral) → ℕ → Outlook
+outlook bags ahead = record { bags = bags; ahead = ahead }
 
 -- where all bags are expired for the epoch x, a collection that begins has them ahead; it takes 64 at most
-abbrev pub AllAhead : ℕ → Reach → Type 0
+abbrev pub AllAhead : ℕ → Outlook → Type 0
 AllAhead x r = AllExpired x r.bags → min 64 r.ahead ≡ min 64 (length r.bags)
 
 -- A step of a collection, its machine being n after it. A bag that it takes was ahead, and where it ends the collection
 -- without a bag, none was.
-pub record TakesAhead (n : Machine Deferral) (old new : Reach) : Type 0 where
-  pub counted : collects n.stage ≡ true → old.ahead + length new.bags ≡ new.ahead + length old.bags
+pub record TakesAhead (n : Machine Deferral) (old new : Outlook) : Type 0 where
+  pub counted : is_collecting n.stage ≡ true → old.ahead + length new.bags ≡ new.ahead + length old.bags
   pub none : is_taking n.stage ≡ false → length new.bags ≡ length old.bags → old.ahead ≡ 0
 
 -- What a step changes of it, by what it asks for. A collection begins anew with each word that a scan loads, and with
 -- the store of the epoch. All bags are ahead of it then, unless somebody else is taking bags.
-abbrev pub Finds : Type 0 → Option Ask → Machine Deferral → Reach → Reach → Type 0
-Finds Alone (Some (LoadWord k)) n old new = Alone → AllAhead (expiry_of n.stage) new
-Finds Alone (Some (StoreEpoch e)) n old new = Alone → AllAhead (expiry_of n.stage) new
-Finds Alone (Some (TakeBag x)) n old new = TakesAhead n old new
-Finds Alone (Some CallJob) n old new = collects n.stage ≡ true → new.ahead ≡ old.ahead
-Finds Alone _ n old new = Unit {0}
+abbrev pub FindsAhead : Type 0 → Option Ask → Machine Deferral → Outlook → Outlook → Type 0
+FindsAhead Alone (Some (LoadWord k)) n old new = Alone → AllAhead (expiry_of n.stage) new
+FindsAhead Alone (Some (StoreEpoch e)) n old new = Alone → AllAhead (expiry_of n.stage) new
+FindsAhead Alone (Some (TakeBag x)) n old new = TakesAhead n old new
+FindsAhead Alone (Some CallJob) n old new = is_collecting n.stage ≡ true → new.ahead ≡ old.ahead
+FindsAhead Alone _ n old new = Unit {0}
 
 -- WHO CLAIMS BAGS
 

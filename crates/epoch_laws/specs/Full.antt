@@ -10,13 +10,13 @@ use Rattle.epoch_laws.specs.declared.step.Reply.TheVariants.{Began, Done, Refuse
 use Rattle.epoch_laws.specs.declared.step.Entry.{Entry}
 use Rattle.epoch_laws.specs.Run.{State, Runs, seat_of, turn_of, seen_by}
 
-abbrev pub Puts : Option Ask → Type 0
-Puts (Some (PutBag seal)) = Unit {0}
-Puts _ = ⊥
+abbrev pub IsOfPut : Option Ask → Type 0
+IsOfPut (Some (PutBag seal)) = Unit {0}
+IsOfPut _ = ⊥
 
 -- The step of q from s to new is one of its put. It looks at the place k, which is occupied, and doesn't put the bag.
 pub record FindsOccupied (s new : State) (q k : ℕ) : Type 0 where
-  pub puts : Puts (turn_of (seat_of s q))
+  pub puts : IsOfPut (turn_of (seat_of s q))
   pub looked : (seen_by s q ≤ k) × (k < seen_by new q)
   pub occupied : slice_get s.places k ≡ Some true
   pub not_put : new.queued ≡ s.queued

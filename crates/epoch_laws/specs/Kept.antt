@@ -13,7 +13,7 @@ use Rattle.epoch_laws.specs.declared.step.Progress.{Progress}
 use Rattle.epoch_laws.specs.declared.step.Progress.TheVariants.{Driven, Ends}
 use Rattle.epoch_laws.specs.declared.step.Reply.TheVariants.{Done}
 use Rattle.epoch_laws.specs.Readings.{KeepsReadings}
-use Rattle.epoch_laws.specs.Run.{Bag, Seat, State, Ending, Emptying, seat_of, word_of, is_out}
+use Rattle.epoch_laws.specs.Run.{Bag, WorldSeat, State, Ending, Emptying, seat_of, position_word, is_out}
 use Rattle.epoch_laws.specs.declared.step.Word.TheVariants.{Free}
 use Rattle.epoch_heap.specs.declared.access.Answer.{Answer}
 
@@ -56,15 +56,15 @@ pub record IsDriven (c : Call) (m : Machine Deferral) (guards : List ℕ) : Type
   pub under : BeganUnder c guards
 
 -- the machine rests but where it drives the call under way; a call that it doesn't drive is done at its end
-abbrev pub Follows : Progress → Machine Deferral → List ℕ → Type 0
-Follows (Driven c) m guards = IsDriven c m guards
-Follows (Ends reply) m guards = (m.stage ≡ Resting) × ((answer : Answer) × (reply ≡ Done answer))
-Follows _ m guards = m.stage ≡ Resting
+abbrev pub IsInStep : Progress → Machine Deferral → List ℕ → Type 0
+IsInStep (Driven c) m guards = IsDriven c m guards
+IsInStep (Ends reply) m guards = (m.stage ≡ Resting) × ((answer : Answer) × (reply ≡ Done answer))
+IsInStep _ m guards = m.stage ≡ Resting
 
-pub record IsLinked (sizes : Sizes) (seat : Seat) : Type 0 where
+pub record IsLinked (sizes : Sizes) (seat : WorldSeat) : Type 0 where
   pub sized : seat.machine.sizes ≡ sizes
   pub counted : seat.machine.guards ≡ length seat.guards
-  pub follows : Follows seat.progress seat.machine seat.guards
+  pub follows : IsInStep seat.progress seat.machine seat.guards
 
 pub record AllLinked (s : State) : Type 0 where
   pub positions : s.sizes.positions ≡ length s.seats
@@ -82,12 +82,12 @@ Awake (Driven (Resume (Some g))) paused = paused ≡ Some g
 Awake (Driven c) paused = paused ≡ None
 Awake _ paused = Unit {0}
 
-pub record HasRoom (seat : Seat) : Type 0 where
+pub record HasGuardRoom (seat : WorldSeat) : Type 0 where
   pub few : length seat.guards + paused_count seat.paused ≤ 64
   pub awake : Awake seat.progress seat.paused
 
 abbrev pub AllRoomy : State → Type 0
-AllRoomy s = (p : ℕ) → HasRoom (seat_of s p)
+AllRoomy s = (p : ℕ) → HasGuardRoom (seat_of s p)
 
 -- TICKETS ARE FEW
 
@@ -102,7 +102,7 @@ abbrev pub pending_at : Action → Stage → ℕ
 pending_at DeferAction s = if is_busy s then 1 else 0
 pending_at _ s = 0
 
-abbrev pub pending : Seat → ℕ
+abbrev pub pending : WorldSeat → ℕ
 pending seat = pending_at seat.machine.action seat.machine.stage
 
 -- only a deferral keeps a job
@@ -110,22 +110,22 @@ abbrev pub KeepsAt : Action → Stage → Type 0
 KeepsAt a Keep = a ≡ DeferAction
 KeepsAt a _ = Unit {0}
 
-abbrev pub Keeps : Seat → Type 0
-Keeps seat = KeepsAt seat.machine.action seat.machine.stage
+abbrev pub KeepsAsDeferral : WorldSeat → Type 0
+KeepsAsDeferral seat = KeepsAt seat.machine.action seat.machine.stage
 
 -- the tickets given, with those that may still be taken, are few enough
-pub record Bounded (s : State) : Type 0 where
+pub record TicketsBounded (s : State) : Type 0 where
   pub tickets : s.tickets + sum_by pending s.seats ≤ (2 ^ 64 - 4097) + length s.seats
-  pub keeps : (p : ℕ) → Keeps (seat_of s p)
+  pub keeps : (p : ℕ) → KeepsAsDeferral (seat_of s p)
 
 -- JOBS ARE NO MORE THAN TICKETS
 
 -- the jobs of a participant: held, and in hand
-abbrev pub jobs_in : Machine Deferral → ℕ
-jobs_in m = length m.held + length m.hand
+abbrev pub jobs_of_machine : Machine Deferral → ℕ
+jobs_of_machine m = length m.held + length m.hand
 
-abbrev pub jobs_at_seats : List Seat → ℕ
-jobs_at_seats seats = sum_by (λ seat. jobs_in seat.machine) seats
+abbrev pub jobs_at_seats : List WorldSeat → ℕ
+jobs_at_seats seats = sum_by (λ seat. jobs_of_machine seat.machine) seats
 
 abbrev pub jobs_queued : List Bag → ℕ
 jobs_queued bags = sum_by (λ bag. length bag.jobs) bags
@@ -145,7 +145,7 @@ JobsFew s = all_jobs s ≤ s.tickets
 
 -- a free position isn't
 abbrev pub FreeRests : State → Type 0
-FreeRests s = (p : ℕ) → word_of s p ≡ Free → rests (seat_of s p).machine.stage ≡ true
+FreeRests s = (p : ℕ) → position_word s p ≡ Free → rests (seat_of s p).machine.stage ≡ true
 
 -- CELLS ARE FEW
 
@@ -154,10 +154,10 @@ CellsFew s = length s.heap.cells ≤ 4096
 
 -- ALL OF IT
 
-pub record IsKept (s : State) : Type 0 where
+pub record IsSound (s : State) : Type 0 where
   pub linked : AllLinked s
   pub roomy : AllRoomy s
-  pub bounded : Bounded s
+  pub bounded : TicketsBounded s
   pub jobs : JobsFew s
   pub free : FreeRests s
   pub readings : KeepsReadings s

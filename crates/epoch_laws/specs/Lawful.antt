@@ -17,7 +17,7 @@ use Rattle.epoch_laws.specs.declared.step.Reply.TheVariants.{Registered, Began, 
 use Rattle.epoch_laws.specs.declared.step.Entry.{Entry}
 use Rattle.epoch_heap.specs.Heap.{guard_of}
 use Rattle.epoch_laws.specs.Run.{is_out, waits, without}
-use Rattle.epoch_laws.specs.Grace.{Stands}
+use Rattle.epoch_laws.specs.Grace.{IsReplyAt}
 
 -- WHAT A LOG TELLS OF ONE PARTICIPANT
 
@@ -330,20 +330,20 @@ MayReplyAll told (entry ∷ log) =
 
 -- no ticket is called twice
 abbrev pub CallsNoneTwice : List Entry → Type 0
-CallsNoneTwice log = (t i j : ℕ) (how again : Called) → Stands log i (CalledReply t how)
-    → Stands log j (CalledReply t again) → i ≡ j
+CallsNoneTwice log = (t i j : ℕ) (how again : Called) → IsReplyAt log i (CalledReply t how)
+    → IsReplyAt log j (CalledReply t again) → i ≡ j
 
 -- t was called before place j
 abbrev pub IsCalledBefore : List Entry → ℕ → ℕ → Type 0
-IsCalledBefore log t j = (i : ℕ) × (how : Called) × (i < j) × Stands log i (CalledReply t how)
+IsCalledBefore log t j = (i : ℕ) × (how : Called) × (i < j) × IsReplyAt log i (CalledReply t how)
 
 -- t was deferred before place j
 abbrev pub IsDeferredBefore : List Entry → ℕ → ℕ → Type 0
-IsDeferredBefore log t j = (i : ℕ) × (i < j) × Stands log i (Deferred t)
+IsDeferredBefore log t j = (i : ℕ) × (i < j) × IsReplyAt log i (Deferred t)
 
 -- no ticket is called that wasn't deferred before
 abbrev pub CallsAfterDeferrals : List Entry → Type 0
-CallsAfterDeferrals log = (t j : ℕ) (how : Called) → Stands log j (CalledReply t how) → IsDeferredBefore log t j
+CallsAfterDeferrals log = (t j : ℕ) (how : Called) → IsReplyAt log j (CalledReply t how) → IsDeferredBefore log t j
 
 -- Each event stands only in its calls, and as often as it should; a call begins only of a participant that is
 -- registered and has none under way, and whose guards allow it, and is done with its own kind of answer; a job is

@@ -8,16 +8,16 @@ use Rattle.epoch_machine.specs.Machine.{Machine, put_heard}
 use Rattle.epoch_laws.specs.declared.step.Deferral.{Deferral}
 
 -- the places, each with whether it is occupied, and how many of them a put has seen occupied since it began
-pub record Sight : Type 0 where
+pub record Occupancy : Type 0 where
   pub places : List Bool
   pub seen : ℕ
 
-abbrev pub sight : List Bool → ℕ → Sight
-sight places seen = record { places = places; seen = seen }
+abbrev pub occupancy : List Bool → ℕ → Occupancy
+occupancy places seen = record { places = places; seen = seen }
 
 -- Each place that a step of a put goes past was occupied when the step was taken, unless the bag is in the store. A put
 -- doesn't go back, and it is full behind the last place, and only there.
-pub record PutSees (step : PutStep) (old new : Sight) : Type 0 where
+pub record PutSees (step : PutStep) (old new : Occupancy) : Type 0 where
   pub occupied : step ≢ Done → (k : ℕ) → old.seen ≤ k → k < new.seen → slice_get old.places k ≡ Some true
   pub onward : step ≢ Done → old.seen ≤ new.seen
   pub again : step ≡ Again → new.seen < length old.places
@@ -26,8 +26,8 @@ pub record PutSees (step : PutStep) (old new : Sight) : Type 0 where
 
 -- What a step sees and changes, by what it asks for; the machine is m before it and n after it. A put begins with the
 -- load of its seal, which counts anew, as does every load of the epoch. Only puts and takes change places.
-abbrev pub Looks : Option Ask → Machine Deferral → Machine Deferral → Sight → Sight → Type 0
-Looks (Some LoadEpoch) m n old new = (new.places ≡ old.places) × (new.seen ≡ 0)
-Looks (Some (PutBag seal)) m n old new = (step : PutStep) × (n ≡ put_heard m step) × PutSees step old new
-Looks (Some (TakeBag x)) m n old new = (length new.places ≡ length old.places) × (new.seen ≡ old.seen)
-Looks _ m n old new = (new.places ≡ old.places) × (new.seen ≡ old.seen)
+abbrev pub SeesOccupied : Option Ask → Machine Deferral → Machine Deferral → Occupancy → Occupancy → Type 0
+SeesOccupied (Some LoadEpoch) m n old new = (new.places ≡ old.places) × (new.seen ≡ 0)
+SeesOccupied (Some (PutBag seal)) m n old new = (step : PutStep) × (n ≡ put_heard m step) × PutSees step old new
+SeesOccupied (Some (TakeBag x)) m n old new = (length new.places ≡ length old.places) × (new.seen ≡ old.seen)
+SeesOccupied _ m n old new = (new.places ≡ old.places) × (new.seen ≡ old.seen)

@@ -12,14 +12,14 @@ use Rattle.epoch_laws.specs.declared.step.Call.TheVariants.{Release}
 use Rattle.epoch_laws.specs.declared.step.Progress.{Progress}
 use Rattle.epoch_laws.specs.declared.step.Progress.TheVariants.{Driven, Accesses}
 use Rattle.epoch_laws.specs.declared.step.Word.TheVariants.{Free}
-use Rattle.epoch_laws.specs.Run.{Seat, State, seat_of, reads}
+use Rattle.epoch_laws.specs.Run.{WorldSeat, State, seat_of, reads}
 
 -- how often a name is among the readings of a participant
 abbrev pub times_read : Name → List Name → ℕ
 times_read n readings = count_by (λ m. is_name m n) readings
 
 -- how often it is among those of all
-abbrev pub readings_of : Name → List Seat → ℕ
+abbrev pub readings_of : Name → List WorldSeat → ℕ
 readings_of n seats = sum_by (λ seat. times_read n seat.readings) seats
 
 -- how many readers the cell of a name counts; one that is gone has none
@@ -40,7 +40,7 @@ FreesAt a StoreFree = a ≡ ReleaseAction
 FreesAt a _ = Unit {0}
 
 -- a participant reads no name twice, and none at a free position
-pub record ReadsOnce (seat : Seat) : Type 0 where
+pub record ReadsOnce (seat : WorldSeat) : Type 0 where
   pub once : (n : Name) → times_read n seat.readings ≤ 1
   pub begun : ReadingFits seat.progress seat.readings
   pub free : seat.word ≡ Free → seat.readings ≡ []

@@ -13,12 +13,12 @@ use Rattle.epoch_laws.specs.declared.step.Reply.TheVariants.{Began, Refused}
 use Rattle.epoch_laws.specs.declared.step.Step.{Step}
 use Rattle.epoch_laws.specs.declared.step.Step.TheVariants.{Begin, Go, EndGo}
 use Rattle.epoch_laws.specs.declared.step.Word.TheVariants.{Unpinned}
-use Rattle.epoch_laws.specs.Run.{Seat, State, Runs, seat_of, turn_of}
+use Rattle.epoch_laws.specs.Run.{WorldSeat, State, Runs, seat_of, turn_of}
 
 -- SINCE A CALL BEGAN
 
 -- each participant as it was before its call began
-abbrev pub before_after : (ℕ → Seat) → State → Step → Reply → ℕ → Seat
+abbrev pub before_after : (ℕ → WorldSeat) → State → Step → Reply → ℕ → WorldSeat
 before_after before s (Begin p c) Began q = if p == q then seat_of s p else before q
 before_after before s _ reply q = before q
 
@@ -38,21 +38,21 @@ quiet_after quiet s (Go p) reply new q = quiet q × (q ≡ p → LeavesRest s p 
 quiet_after quiet s _ reply new q = quiet q
 
 -- a step that looks for a bag to collect, or calls a job of one
-abbrev pub Collects : Option Ask → Type 0
-Collects (Some (TakeBag x)) = Unit {0}
-Collects (Some CallJob) = Unit {0}
-Collects _ = ⊥
+abbrev pub IsOfCollection : Option Ask → Type 0
+IsOfCollection (Some (TakeBag x)) = Unit {0}
+IsOfCollection (Some CallJob) = Unit {0}
+IsOfCollection _ = ⊥
 
 -- a step of the call of q, since it began, was one of a collection
 abbrev pub collected_after : (ℕ → Type 0) → State → Step → Reply → ℕ → Type 0
 collected_after collected s (Begin p c) Began q = (q ≢ p) × collected q
-collected_after collected s (Go p) reply q = collected q ⊎ ((q ≡ p) × Collects (turn_of (seat_of s p)))
+collected_after collected s (Go p) reply q = collected q ⊎ ((q ≡ p) × IsOfCollection (turn_of (seat_of s p)))
 collected_after collected s _ reply q = collected q
 
 -- WHAT A REFUSED CALL LEAVES
 
 -- The guards, the paused one, the readings and the held bag are those before.
-pub record KeepsBag (before after : Seat) : Type 0 where
+pub record KeepsBag (before after : WorldSeat) : Type 0 where
   pub guards : after.guards ≡ before.guards
   pub paused : after.paused ≡ before.paused
   pub readings : after.readings ≡ before.readings
@@ -60,23 +60,23 @@ pub record KeepsBag (before after : Seat) : Type 0 where
 
 -- A deferral changes nothing. A flush has collected. A release has pinned, may have collected, and unpinned; its word
 -- says so. No other call is told that the bags are full.
-abbrev pub Leaves : (quiet collected : Type 0) → Progress → (before after : Seat) → Type 0
-Leaves quiet collected (Driven (Defer g)) before after = quiet × (after.word ≡ before.word) × KeepsBag before after
-Leaves quiet collected (Driven (DeferDestroy g ptr)) before after =
+abbrev pub LeavesUnput : (quiet collected : Type 0) → Progress → (before after : WorldSeat) → Type 0
+LeavesUnput quiet collected (Driven (Defer g)) before after = quiet × (after.word ≡ before.word) × KeepsBag before after
+LeavesUnput quiet collected (Driven (DeferDestroy g ptr)) before after =
     quiet × (after.word ≡ before.word) × KeepsBag before after
-Leaves quiet collected (Driven (Flush g)) before after = collected × (after.word ≡ before.word) × KeepsBag before after
-Leaves quiet collected (Driven Release) before after = (after.word ≡ Unpinned) × KeepsBag before after
-Leaves quiet collected _ before after = ⊥
+LeavesUnput quiet collected (Driven (Flush g)) before after = collected × (after.word ≡ before.word) × KeepsBag before after
+LeavesUnput quiet collected (Driven Release) before after = (after.word ≡ Unpinned) × KeepsBag before after
+LeavesUnput quiet collected _ before after = ⊥
 
 -- A place changes nothing, and no other call is told that no cell is free.
-abbrev pub LeavesUnplaced : (quiet : Type 0) → Progress → (before after : Seat) → Type 0
+abbrev pub LeavesUnplaced : (quiet : Type 0) → Progress → (before after : WorldSeat) → Type 0
 LeavesUnplaced quiet (Accesses (Place v) k found) before after = quiet × (after ≡ before)
 LeavesUnplaced quiet _ before after = ⊥
 
 -- a Begin, a Register or an End that is refused changes nothing at all
-abbrev pub LeavesAtRefusal : (ℕ → Seat) → (quiet collected : ℕ → Type 0) → State → Step → Reply → State → Type 0
+abbrev pub LeavesAtRefusal : (ℕ → WorldSeat) → (quiet collected : ℕ → Type 0) → State → Step → Reply → State → Type 0
 LeavesAtRefusal before quiet collected s (Go p) (Refused BagsFull) new =
-    Leaves (quiet_after quiet s (Go p) (Refused BagsFull) new p) (collected p) (seat_of s p).progress
+    LeavesUnput (quiet_after quiet s (Go p) (Refused BagsFull) new p) (collected p) (seat_of s p).progress
     (before p) (seat_of new p)
 LeavesAtRefusal before quiet collected s (Go p) (Refused CellsFull) new =
     LeavesUnplaced (quiet_after quiet s (Go p) (Refused CellsFull) new p) (seat_of s p).progress (before p)
@@ -88,7 +88,7 @@ LeavesAtRefusal before quiet collected s step reply new = Unit {0}
 
 -- WHOLE RUNS
 
-abbrev pub RefusedAlong : (ℕ → Seat) → (quiet collected : ℕ → Type 0) → (s new : State) (log : List Entry)
+abbrev pub RefusedAlong : (ℕ → WorldSeat) → (quiet collected : ℕ → Type 0) → (s new : State) (log : List Entry)
     → Runs s log new → Type 0
 RefusedAlong before quiet collected s new [] run = Unit {0}
 RefusedAlong before quiet collected s new (x ∷ log) (mid, did, run) =

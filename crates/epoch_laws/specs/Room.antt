@@ -21,7 +21,7 @@ is_at_places _ = false
 
 -- A step of a put, its machine being n after it: while the put goes on, it has room as before, and where it ends, it
 -- had room exactly if the bag is in the store.
-pub record PutTells (n : Machine Deferral) (old new : Bool) : Type 0 where
+pub record PutTellsRoom (n : Machine Deferral) (old new : Bool) : Type 0 where
   pub kept : is_putting n.stage ≡ true → new ≡ old
   pub told : is_putting n.stage ≡ false → n.full ≡ not old
 
@@ -29,7 +29,7 @@ pub record PutTells (n : Machine Deferral) (old new : Bool) : Type 0 where
 -- epoch, and has room then, where a place is free.
 abbrev pub TellsRoom : Type 0 → Option Ask → Machine Deferral → Bool → Bool → Type 0
 TellsRoom Free (Some LoadEpoch) n old new = Free → new ≡ true
-TellsRoom Free (Some (PutBag seal)) n old new = PutTells n old new
+TellsRoom Free (Some (PutBag seal)) n old new = PutTellsRoom n old new
 TellsRoom Free _ n old new = Unit {0}
 
 -- WHO CLAIMS A PLACE WITHOUT A BAG

@@ -28,8 +28,8 @@ use Rattle.epoch_laws.specs.declared.step.Word.{Word}
 use Rattle.epoch_laws.specs.declared.step.Word.TheVariants.{Free, Unpinned, Pinned}
 use Rattle.epoch_laws.specs.declared.step.Progress.{Progress}
 use Rattle.epoch_laws.specs.declared.step.Progress.TheVariants.{Idle, Driven, CallsNow, Ends, Accesses}
-use Rattle.epoch_laws.specs.Places.{Sight, sight, Looks}
-use Rattle.epoch_laws.specs.Collections.{Reach, reach, Finds}
+use Rattle.epoch_laws.specs.Places.{Occupancy, occupancy, SeesOccupied}
+use Rattle.epoch_laws.specs.Collections.{Outlook, outlook, FindsAhead}
 use Rattle.epoch_laws.specs.Room.{is_at_places, TellsRoom}
 use Rattle.epoch_cells.specs.PlainCells.{empty}
 use Rattle.epoch_cells.specs.declared.cells.name.Name.{Name}
@@ -38,14 +38,14 @@ use Rattle.epoch_heap.specs.declared.access.Access.TheVariants.{Read, Leave}
 use Rattle.epoch_heap.specs.declared.access.Accessed.{Accessed}
 use Rattle.epoch_heap.specs.declared.access.Accessed.TheVariants.{Again, Answers, NoSlot}
 use Rattle.epoch_heap.specs.declared.access.Ptr.{Ptr}
-use Rattle.epoch_heap.specs.Heap.{Cell, Heap, null, is_name, outcome_of, after_job, Touched, Touches, guard_of, has_steps, has_place, is_removable, knows_names}
+use Rattle.epoch_heap.specs.Heap.{Cell, Heap, null, is_name, outcome_of, heap_after_job, Touched, Touches, guard_of, has_steps, has_place, is_removable, knows_names}
 
 -- a job of the world, and a bag of the store
 abbrev pub Bag : Type 0
 Bag = Sealed Deferral
 
 -- one participant: its word, its machine, and what the world keeps of its calls
-pub record Seat : Type 0 where
+pub record WorldSeat : Type 0 where
   pub word : Word
   pub machine : Machine Deferral
   pub progress : Progress
@@ -62,7 +62,7 @@ pub data Ending : Type 0 where
 pub record State : Type 0 where
   pub sizes : Sizes
   pub epoch : ℕ
-  pub seats : List Seat
+  pub seats : List WorldSeat
   pub queued : List Bag  -- the bags in the store
   pub tickets : ℕ  -- how many were given
   pub ending : Ending
@@ -75,33 +75,33 @@ pub record State : Type 0 where
 -- WORDS AND SEATS
 
 -- the word as a number
-abbrev pub number_of : Word → ℕ
-number_of Free = 0
-number_of Unpinned = 2
-number_of (Pinned e) = 2 * e + 1
+abbrev pub word_number : Word → ℕ
+word_number Free = 0
+word_number Unpinned = 2
+word_number (Pinned e) = 2 * e + 1
 
-abbrev pub free_seat : Sizes → Seat
+abbrev pub free_seat : Sizes → WorldSeat
 free_seat sizes =
     record { word = Free; machine = fresh sizes; progress = Idle; guards = []; paused = None; readings = [] }
 
 -- the participant at a position; a position past the table is free
-abbrev pub seat_of : State → ℕ → Seat
+abbrev pub seat_of : State → ℕ → WorldSeat
 seat_of s p = slice_index_or s.seats p (free_seat s.sizes)
 
-abbrev pub word_of : State → ℕ → Word
-word_of s p = (seat_of s p).word
+abbrev pub position_word : State → ℕ → Word
+position_word s p = (seat_of s p).word
 
-abbrev pub with_seat : State → ℕ → Seat → State
+abbrev pub with_seat : State → ℕ → WorldSeat → State
 with_seat s p seat = record s { seats = slice_set s.seats p seat }
 
 abbrev pub with_heap : State → Heap → State
 with_heap s heap = record s { heap = heap }
 
 -- the seat after its machine went on, its word staying or changed
-abbrev pub with_machine : Seat → Machine Deferral → Seat
+abbrev pub with_machine : WorldSeat → Machine Deferral → WorldSeat
 with_machine seat m = record seat { machine = m }
 
-abbrev pub with_word : Seat → Word → Machine Deferral → Seat
+abbrev pub with_word : WorldSeat → Word → Machine Deferral → WorldSeat
 with_word seat w m = record seat { word = w; machine = m }
 
 -- GUARDS
@@ -185,7 +185,7 @@ access_refusal a readings heap =
     else Some NoSuchPlace
 
 -- the call's own fault, or none
-abbrev pub call_refusal : Call → Seat → ℕ → Heap → Option Fault
+abbrev pub call_refusal : Call → WorldSeat → ℕ → Heap → Option Fault
 call_refusal Pin seat tickets heap = if nat_le 64 (length seat.guards) then Some TooManyGuards else None
 call_refusal (Unpin None) seat tickets heap = Some StrangerGuard
 call_refusal (Unpin (Some g)) seat tickets heap = guard_refusal (Some g) seat.guards
@@ -211,7 +211,7 @@ call_refusal (AccessCall a) seat tickets heap =
     under_guard (guard_of a) seat.guards (access_refusal a seat.readings heap)
 
 -- not registered, busy, and then the call's own fault
-abbrev pub refusal : Call → Seat → ℕ → Heap → Option Fault
+abbrev pub refusal : Call → WorldSeat → ℕ → Heap → Option Fault
 refusal c seat tickets heap =
     if is_free seat.word
     then Some NotRegistered
@@ -219,11 +219,11 @@ refusal c seat tickets heap =
     then (if waits c seat.paused then Some Busy else call_refusal c seat tickets heap)
     else Some Busy)
 
-abbrev pub drives : Action → Call → Seat → Seat
+abbrev pub drives : Action → Call → WorldSeat → WorldSeat
 drives a c seat = record seat { machine = begun a seat.machine; progress = Driven c }
 
 -- what a participant is after a call was begun: its machine is driven, or, under an unprotected guard, isn't
-abbrev pub begun_seat : Call → Seat → Seat
+abbrev pub begun_seat : Call → WorldSeat → WorldSeat
 begun_seat Pin seat = drives PinAction Pin seat
 begun_seat (Unpin g) seat = drives UnpinAction (Unpin g) seat
 begun_seat (Repin (Some g)) seat = drives RepinAction (Repin (Some g)) seat
@@ -239,9 +239,9 @@ begun_seat (AccessCall a) seat =
     record seat { progress = if has_steps a then Accesses a 0 null else Ends (Done Absent) }
 begun_seat _ seat = record seat { progress = Ends (Done UnitAnswer) }
 
-abbrev pub Begins : State → ℕ → Call → Option Fault → Reply → State → Type 0
-Begins old p c (Some f) reply new = (reply ≡ Refused f) × (new ≡ old)
-Begins old p c None reply new = (reply ≡ Began) × (new ≡ with_seat old p (begun_seat c (seat_of old p)))
+abbrev pub BeginsCall : State → ℕ → Call → Option Fault → Reply → State → Type 0
+BeginsCall old p c (Some f) reply new = (reply ≡ Refused f) × (new ≡ old)
+BeginsCall old p c None reply new = (reply ≡ Began) × (new ≡ with_seat old p (begun_seat c (seat_of old p)))
 
 -- HOW A CALL ENDS
 
@@ -249,7 +249,7 @@ abbrev pub full_or_done : Bool → Reply
 full_or_done true = Refused BagsFull
 full_or_done false = Done UnitAnswer
 
-abbrev pub end_reply : Call → Seat → Reply
+abbrev pub end_reply : Call → WorldSeat → Reply
 end_reply Pin seat = Done (Guard (lowest seat.guards))
 end_reply (Defer g) seat = full_or_done seat.machine.full
 end_reply (Flush g) seat = full_or_done seat.machine.full
@@ -257,12 +257,12 @@ end_reply Release seat = full_or_done seat.machine.full
 end_reply (DeferDestroy g ptr) seat = full_or_done seat.machine.full
 end_reply _ seat = Done UnitAnswer
 
-abbrev pub with_guards : Seat → List ℕ → Option ℕ → Seat
+abbrev pub with_guards : WorldSeat → List ℕ → Option ℕ → WorldSeat
 with_guards seat guards paused =
     record seat { machine = ended seat.machine; progress = Idle; guards = guards; paused = paused }
 
 -- guards are counted, and no longer counted, from the end of their call
-abbrev pub ended_seat : Call → Seat → Seat
+abbrev pub ended_seat : Call → WorldSeat → WorldSeat
 ended_seat Pin seat = with_guards seat (seat.guards ++ lowest seat.guards ∷ []) seat.paused
 ended_seat (Unpin (Some g)) seat = with_guards seat (without g seat.guards) seat.paused
 ended_seat (Pause (Some g)) seat = with_guards seat (without g seat.guards) (Some g)
@@ -286,7 +286,7 @@ readings_after (Read g ptr) (Answers (Value v)) readings = with_reading ptr.name
 readings_after (Leave ptr) told readings = without_reading ptr.name readings
 readings_after _ told readings = readings
 
-abbrev pub accessed_seat : Access → ℕ → Accessed → Seat → Seat
+abbrev pub accessed_seat : Access → ℕ → Accessed → WorldSeat → WorldSeat
 accessed_seat a k told seat =
     record seat { progress = progress_after a k told; readings = readings_after a told seat.readings }
 
@@ -298,59 +298,59 @@ removed_by (Driven (DeferDestroy g ptr)) = ptr.name
 removed_by _ = None
 
 -- what may come of one ask of p, whose machine is at this stage: the reply, and the state after it
-abbrev pub Performs : State → ℕ → Seat → Stage → Ask → Reply → State → Type 0
-Performs old p seat s LoadEpoch reply new =
+abbrev pub PerformsAsk : State → ℕ → WorldSeat → Stage → Ask → Reply → State → Type 0
+PerformsAsk old p seat s LoadEpoch reply new =
     (reply ≡ Stepped) × (new ≡ with_seat old p (with_machine seat (hears seat.machine s (Epoch old.epoch))))
-Performs old p seat s (LoadWord k) reply new =
+PerformsAsk old p seat s (LoadWord k) reply new =
     (reply ≡ Stepped)
-    × (new ≡ with_seat old p (with_machine seat (hears seat.machine s (WordFound (number_of (word_of old k))))))
-Performs old p seat s (StorePinned e) reply new =
+    × (new ≡ with_seat old p (with_machine seat (hears seat.machine s (WordFound (word_number (position_word old k))))))
+PerformsAsk old p seat s (StorePinned e) reply new =
     (reply ≡ PinnedReply p) × (new ≡ with_seat old p (with_word seat (Pinned e) (hears seat.machine s Stored)))
-Performs old p seat s (StoreRepinned e) reply new =
+PerformsAsk old p seat s (StoreRepinned e) reply new =
     (reply ≡ Repinned p) × (new ≡ with_seat old p (with_word seat (Pinned e) (hears seat.machine s Stored)))
-Performs old p seat s StoreUnpinned reply new =
+PerformsAsk old p seat s StoreUnpinned reply new =
     (reply ≡ UnpinnedReply p) × (new ≡ with_seat old p (with_word seat Unpinned (hears seat.machine s Stored)))
-Performs old p seat s StoreFree reply new = (reply ≡ Done Released) × (new ≡ with_seat old p (free_seat old.sizes))
-Performs old p seat s (StoreEpoch e) reply new =
+PerformsAsk old p seat s StoreFree reply new = (reply ≡ Done Released) × (new ≡ with_seat old p (free_seat old.sizes))
+PerformsAsk old p seat s (StoreEpoch e) reply new =
     (reply ≡ Stepped) × (new ≡ record (with_seat old p (with_machine seat (hears seat.machine s Stored))) { epoch = e })
-Performs old p seat s (PutBag seal) reply new =
+PerformsAsk old p seat s (PutBag seal) reply new =
     (step : PutStep) × (queued : List Bag) × (reply ≡ Stepped) × PutsHeld seal seat.machine old.queued step queued
     × (new ≡ record (with_seat old p (with_machine seat (put_heard seat.machine step))) { queued = queued })
-Performs old p seat s (TakeBag x) reply new =
+PerformsAsk old p seat s (TakeBag x) reply new =
     (step : TakeStep) × (jobs : List Deferral) × (queued : List Bag) × (reply ≡ Stepped)
     × TakesHand x old.queued step queued jobs
     × (new ≡ record (with_seat old p (with_machine seat (took_heard seat.machine s step jobs))) { queued = queued })
-Performs old p seat s KeepJob reply new =
+PerformsAsk old p seat s KeepJob reply new =
     (reply ≡ Deferred old.tickets)
     × (new ≡ record (with_seat old p (with_machine seat
     (hears seat.machine s (Job (record { ticket = old.tickets; removes = removed_by seat.progress })))))
     { tickets = old.tickets + 1 })
-Performs old p seat s CallJob reply new =
+PerformsAsk old p seat s CallJob reply new =
     (job : Deferral) × (jobs : List Deferral) × (seat.machine.hand ≡ job ∷ jobs)
     × (reply ≡ CalledReply job.ticket (outcome_of old.heap job.removes))
     × (new ≡ record (with_seat old p (with_machine seat (gives seat.machine s jobs)))
-    { heap = after_job old.heap job.removes })
+    { heap = heap_after_job old.heap job.removes })
 
 -- what a call driven by its machine does next: the machine's ask, or its end
-abbrev pub Drives : State → ℕ → Seat → Call → Stage → Option Ask → Reply → State → Type 0
-Drives old p seat c s (Some ask) reply new = Performs old p seat s ask reply new
-Drives old p seat c s None reply new = (reply ≡ end_reply c seat) × (new ≡ with_seat old p (ended_seat c seat))
+abbrev pub DrivesCall : State → ℕ → WorldSeat → Call → Stage → Option Ask → Reply → State → Type 0
+DrivesCall old p seat c s (Some ask) reply new = PerformsAsk old p seat s ask reply new
+DrivesCall old p seat c s None reply new = (reply ≡ end_reply c seat) × (new ≡ with_seat old p (ended_seat c seat))
 
 -- what a step Go of p does
-abbrev pub Goes : State → ℕ → Seat → Progress → Reply → State → Type 0
-Goes old p seat Idle reply new = (reply ≡ Refused IdleFault) × (new ≡ old)
-Goes old p seat (Driven c) reply new = Drives old p seat c seat.machine.stage (ask_at seat.machine.stage) reply new
-Goes old p seat (CallsNow removes) reply new =
+abbrev pub DoesGo : State → ℕ → WorldSeat → Progress → Reply → State → Type 0
+DoesGo old p seat Idle reply new = (reply ≡ Refused IdleFault) × (new ≡ old)
+DoesGo old p seat (Driven c) reply new = DrivesCall old p seat c seat.machine.stage (ask_at seat.machine.stage) reply new
+DoesGo old p seat (CallsNow removes) reply new =
     (reply ≡ CalledNow (outcome_of old.heap removes))
     × (new ≡ record (with_seat old p (record seat { progress = Ends (Done UnitAnswer) }))
-    { heap = after_job old.heap removes })
-Goes old p seat (Accesses a k found) reply new =
+    { heap = heap_after_job old.heap removes })
+DoesGo old p seat (Accesses a k found) reply new =
     (did : Touched) × Touches a k found old.heap did × (reply ≡ access_reply did.told)
     × (new ≡ record (with_seat old p (accessed_seat a k did.told seat)) { heap = did.heap })
-Goes old p seat (Ends r) reply new = (reply ≡ r) × (new ≡ with_seat old p (record seat { progress = Idle }))
+DoesGo old p seat (Ends r) reply new = (reply ≡ r) × (new ≡ with_seat old p (record seat { progress = Idle }))
 
 abbrev pub AllFree : State → Type 0
-AllFree s = (p : ℕ) → word_of s p ≡ Free
+AllFree s = (p : ℕ) → position_word s p ≡ Free
 
 -- an end takes any bag, calls its jobs one by one, and is over when no bag is left
 abbrev pub EndGoes : State → Ending → Reply → State → Type 0
@@ -358,7 +358,7 @@ EndGoes old Open reply new = (reply ≡ Refused IdleFault) × (new ≡ old)
 EndGoes old Over reply new = (reply ≡ Refused IdleFault) × (new ≡ old)
 EndGoes old (Emptying (job ∷ jobs) n) reply new =
     (reply ≡ CalledReply job.ticket (outcome_of old.heap job.removes))
-    × (new ≡ record old { ending = Emptying jobs (n + 1); heap = after_job old.heap job.removes })
+    × (new ≡ record old { ending = Emptying jobs (n + 1); heap = heap_after_job old.heap job.removes })
 EndGoes old (Emptying [] n) reply new =
     ((bag : Bag) × (queued : List Bag) × IsInserted bag queued old.queued × (reply ≡ Stepped)
     × (new ≡ record old { queued = queued; ending = Emptying bag.jobs n }))
@@ -367,16 +367,16 @@ EndGoes old (Emptying [] n) reply new =
 -- what this step does, with this reply, to all but the places
 abbrev pub Moves : State → Step → Reply → State → Type 0
 Moves old Register reply new =
-    ((p : ℕ) × (old.ending ≡ Open) × (p < length old.seats) × (word_of old p ≡ Free)
-    × ((k : ℕ) → k < p → word_of old k ≢ Free) × (reply ≡ Registered p)
+    ((p : ℕ) × (old.ending ≡ Open) × (p < length old.seats) × (position_word old p ≡ Free)
+    × ((k : ℕ) → k < p → position_word old k ≢ Free) × (reply ≡ Registered p)
     × (new ≡ with_seat old p (record (free_seat old.sizes) { word = Unpinned })))
-    ⊎ ((old.ending ≡ Open) × ((k : ℕ) → k < length old.seats → word_of old k ≢ Free) × (reply ≡ Refused TableFull)
+    ⊎ ((old.ending ≡ Open) × ((k : ℕ) → k < length old.seats → position_word old k ≢ Free) × (reply ≡ Refused TableFull)
     × (new ≡ old))
     ⊎ ((old.ending ≢ Open) × (reply ≡ Refused Ended) × (new ≡ old))
-Moves old (Begin p c) reply new = Begins old p c (refusal c (seat_of old p) old.tickets old.heap) reply new
+Moves old (Begin p c) reply new = BeginsCall old p c (refusal c (seat_of old p) old.tickets old.heap) reply new
 Moves old (Go p) reply new =
-    ((word_of old p ≡ Free) × (reply ≡ Refused NotRegistered) × (new ≡ old))
-    ⊎ ((word_of old p ≢ Free) × Goes old p (seat_of old p) (seat_of old p).progress reply new)
+    ((position_word old p ≡ Free) × (reply ≡ Refused NotRegistered) × (new ≡ old))
+    ⊎ ((position_word old p ≢ Free) × DoesGo old p (seat_of old p) (seat_of old p).progress reply new)
 Moves old EndStep reply new =
     ((old.ending ≡ Open) × AllFree old × (reply ≡ Began) × (new ≡ record old { ending = Emptying [] 0 }))
     ⊎ ((old.ending ≡ Open) × (¬ (AllFree old)) × (reply ≡ Refused ParticipantsLeft) × (new ≡ old))
@@ -392,15 +392,15 @@ with_places s places seen ahead room = record s { places = places; seen = seen; 
 abbrev pub seen_by : State → ℕ → ℕ
 seen_by s p = slice_index_or s.seen p 0
 
-abbrev pub sight_of : State → ℕ → Sight
-sight_of s p = sight s.places (seen_by s p)
+abbrev pub occupancy_of : State → ℕ → Occupancy
+occupancy_of s p = occupancy s.places (seen_by s p)
 
 -- what is ahead of the collection of p
 abbrev pub ahead_of : State → ℕ → ℕ
 ahead_of s p = slice_index_or s.ahead p 0
 
-abbrev pub reach_of : State → ℕ → Reach
-reach_of s p = reach s.queued (ahead_of s p)
+abbrev pub outlook_of : State → ℕ → Outlook
+outlook_of s p = outlook s.queued (ahead_of s p)
 
 -- no participant is taking bags
 abbrev pub NoneTakes : State → Type 0
@@ -421,32 +421,32 @@ turn_at Free progress s = None
 turn_at _ (Driven c) s = ask_at s
 turn_at _ progress s = None
 
-abbrev pub turn_of : Seat → Option Ask
+abbrev pub turn_of : WorldSeat → Option Ask
 turn_of seat = turn_at seat.word seat.progress seat.machine.stage
 
 -- A Go of p counts for the put of p alone; an end takes bags out. Of the collection of p a Go of p alone tells: a step
 -- of another, or of an end, may put a bag ahead of it, or take one from there. So it is with the room of its put. No
 -- other step changes any of this.
-abbrev pub Sees : State → Step → State → Type 0
-Sees old (Go p) new =
-    Looks (turn_of (seat_of old p)) (seat_of old p).machine (seat_of new p).machine (sight_of old p) (sight_of new p)
+abbrev pub SeesPlaces : State → Step → State → Type 0
+SeesPlaces old (Go p) new =
+    SeesOccupied (turn_of (seat_of old p)) (seat_of old p).machine (seat_of new p).machine (occupancy_of old p) (occupancy_of new p)
     × ((q : ℕ) → q ≢ p → seen_by new q ≡ seen_by old q)
-    × Finds (NoneTakes old) (turn_of (seat_of old p)) (seat_of new p).machine (reach_of old p) (reach_of new p)
+    × FindsAhead (NoneTakes old) (turn_of (seat_of old p)) (seat_of new p).machine (outlook_of old p) (outlook_of new p)
     × TellsRoom (HasFreePlace p old) (turn_of (seat_of old p)) (seat_of new p).machine (room_of old p) (room_of new p)
-Sees old EndGo new = (length new.places ≡ length old.places) × (new.seen ≡ old.seen)
-Sees old _ new = (new.places ≡ old.places) × (new.seen ≡ old.seen) × (new.ahead ≡ old.ahead) × (new.room ≡ old.room)
+SeesPlaces old EndGo new = (length new.places ≡ length old.places) × (new.seen ≡ old.seen)
+SeesPlaces old _ new = (new.places ≡ old.places) × (new.seen ≡ old.seen) × (new.ahead ≡ old.ahead) × (new.room ≡ old.room)
 
 -- the world takes this step, with this reply: the places aside it moves so, and it sees the places so
-abbrev pub Takes : State → Step → Reply → State → Type 0
-Takes old step reply new =
-    Moves old step reply (with_places new old.places old.seen old.ahead old.room) × Sees old step new
+abbrev pub TakesStep : State → Step → Reply → State → Type 0
+TakesStep old step reply new =
+    Moves old step reply (with_places new old.places old.seen old.ahead old.room) × SeesPlaces old step new
 
 -- WHOLE RUNS
 
 -- the world goes by these steps and replies from old to new, one atomic step each
 abbrev pub Runs : State → List Entry → State → Type 0
 Runs old [] new = new ≡ old
-Runs old (entry ∷ entries) new = (mid : State) × Takes old entry.step entry.reply mid × Runs mid entries new
+Runs old (entry ∷ entries) new = (mid : State) × TakesStep old entry.step entry.reply mid × Runs mid entries new
 
 -- a new world
 pub record IsFresh (s : State) : Type 0 where

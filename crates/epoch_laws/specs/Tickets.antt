@@ -4,8 +4,8 @@ use Rattle.epoch_laws.specs.declared.step.Reply.{Reply}
 use Rattle.epoch_laws.specs.declared.step.Reply.TheVariants.{Deferred, Called}
 use Rattle.epoch_laws.specs.declared.step.Entry.{Entry}
 use Rattle.epoch_laws.specs.declared.step.Deferral.{Deferral}
-use Rattle.epoch_laws.specs.Run.{Bag, Seat, State, Ending, Emptying}
-use Rattle.epoch_laws.specs.Grace.{Stands}
+use Rattle.epoch_laws.specs.Run.{Bag, WorldSeat, State, Ending, Emptying}
+use Rattle.epoch_laws.specs.Grace.{IsReplyAt}
 
 -- how often the job of a ticket is among these
 abbrev pub times : ℕ → List Deferral → ℕ
@@ -15,7 +15,7 @@ abbrev pub times_at_end : ℕ → Ending → ℕ
 times_at_end t (Emptying hand n) = times t hand
 times_at_end t _ = 0
 
-abbrev pub times_at_seats : ℕ → List Seat → ℕ
+abbrev pub times_at_seats : ℕ → List WorldSeat → ℕ
 times_at_seats t seats = sum_by (λ seat. times t seat.machine.held + times t seat.machine.hand) seats
 
 abbrev pub times_queued : ℕ → List Bag → ℕ
@@ -44,14 +44,14 @@ pub record HoldsEachTicketOnce (log : List Entry) (s : State) : Type 0 where
   pub placed : (t : ℕ) → times_in_bags t s + times_called t log ≡ times_deferred t log
   pub accepted : (t : ℕ) → times_deferred t log ≡ (if nat_lt t s.tickets then 1 else 0)
 
-abbrev pub is_deferral : Reply → ℕ
-is_deferral (Deferred t) = 1
-is_deferral _ = 0
+abbrev pub one_if_deferral : Reply → ℕ
+one_if_deferral (Deferred t) = 1
+one_if_deferral _ = 0
 
 -- how many jobs were accepted
 abbrev pub deferrals : List Entry → ℕ
-deferrals log = sum_by (λ entry. is_deferral entry.reply) log
+deferrals log = sum_by (λ entry. one_if_deferral entry.reply) log
 
 -- the ticket of an accepted job is the number of those accepted before it
 abbrev pub NumbersTickets : List Entry → Type 0
-NumbersTickets log = (t i : ℕ) → Stands log i (Deferred t) → t ≡ deferrals (take i log)
+NumbersTickets log = (t i : ℕ) → IsReplyAt log i (Deferred t) → t ≡ deferrals (take i log)

@@ -5,7 +5,7 @@ use Rattle.epoch_machine.specs.declared.machine.Ask.{Ask}
 use Rattle.epoch_machine.specs.declared.machine.Ask.TheVariants.{LoadEpoch, StorePinned, StoreRepinned, StoreUnpinned, StoreFree, StoreEpoch, PutBag, KeepJob}
 use Rattle.epoch_machine.specs.declared.machine.Answer.TheVariants.{Epoch, Stored, Job}
 use Rattle.epoch_machine.specs.Machine.{Machine, asks, heard, put_heard}
-use Rattle.epoch_machine.specs.Asks.{Log, Reply, Heard, PutStepped, Exchange, IsReply, told, Asked, asks_more, Part, Ends, Loads, Stores, Keeps, PutSteps}
+use Rattle.epoch_machine.specs.Asks.{Log, Reply, Heard, PutStepped, Exchange, IsReply, told, Asked, asks_more, Part, AsksNoMore, AsksLoad, AsksStore, AsksKeep, AsksPutSteps}
 
 -- THE FIRST EXCHANGE
 
@@ -27,7 +27,7 @@ begins {J} m n ask Holds x log asked next run =
     let P : Ask → Type 0 = λ a. Holds (record { ask = a; reply = x.reply }) in
     subst P same (next x.reply (subst (λ (a : Ask). IsReply a m.hand x.reply) (sym same) run.1) run.2)
 
-pub ends : {J : Type 0} (m : Machine J) → asks m ≡ None → LogsAre m Ends
+pub ends : {J : Type 0} (m : Machine J) → asks m ≡ None → LogsAre m AsksNoMore
 ends m none more [] n is at = (refl, sym at ∙ ap asks_more is ∙ ap is_some none)
 ends m none more (x ∷ log) n run at = absurd (cc (none, run.0))
 
@@ -37,17 +37,17 @@ epoch_told : {J : Type 0} (m n : Machine J) (behind : ℕ → Part J) (more : Bo
     → ((e : ℕ) → LogsAre (heard m (Epoch e)) (behind e))
     → asks_more n ≡ more
     → (reply : Reply J) → IsReply LoadEpoch m.hand reply → Asked (told m reply) log n
-    → Loads behind more (record { ask = LoadEpoch; reply = reply } ∷ log)
+    → AsksLoad behind more (record { ask = LoadEpoch; reply = reply } ∷ log)
 epoch_told m n behind more log next at (Heard (Epoch e)) fits run = (e, refl, next e more log n run at)
 epoch_told m n behind more log next at _ fits run = absurd fits
 
 pub loads : {J : Type 0} (m : Machine J) (behind : ℕ → Part J)
     → asks m ≡ Some LoadEpoch
     → ((e : ℕ) → LogsAre (heard m (Epoch e)) (behind e))
-    → LogsAre m (Loads behind)
+    → LogsAre m (AsksLoad behind)
 loads m behind asked next more [] n is at = more_asked m n LoadEpoch more asked is at
 loads m behind asked next more (x ∷ log) n run at =
-    begins m n LoadEpoch (λ y. Loads behind more (y ∷ log)) x log asked (epoch_told m n behind more log next at) run
+    begins m n LoadEpoch (λ y. AsksLoad behind more (y ∷ log)) x log asked (epoch_told m n behind more log next at) run
 
 -- STORES
 
@@ -77,7 +77,7 @@ stored : {J : Type 0} (m n : Machine J) (store : Ask) (behind : Part J) (more : 
     → LogsAre (heard m Stored) behind
     → asks_more n ≡ more
     → (reply : Reply J) → reply ≡ Heard Stored → Asked (told m reply) log n
-    → Stores store behind more (record { ask = store; reply = reply } ∷ log)
+    → AsksStore store behind more (record { ask = store; reply = reply } ∷ log)
 stored {J} m n store behind more log next at reply is run = (
   ap (λ (r : Reply J). let x : Exchange J = record { ask = store; reply = r } in x) is,
   next more log n (subst (λ (r : Reply J). Asked (told m r) log n) is run) at,
@@ -87,10 +87,10 @@ pub stores : {J : Type 0} (m : Machine J) (store : Ask) (behind : Part J)
     → IsStore store
     → asks m ≡ Some store
     → LogsAre (heard m Stored) behind
-    → LogsAre m (Stores store behind)
+    → LogsAre m (AsksStore store behind)
 stores m store behind is asked next more [] n same at = more_asked m n store more asked same at
 stores m store behind is asked next more (x ∷ log) n run at =
-    begins m n store (λ y. Stores store behind more (y ∷ log)) x log asked
+    begins m n store (λ y. AsksStore store behind more (y ∷ log)) x log asked
     (λ reply fits. stored m n store behind more log next at reply (store_told store m.hand reply is fits)) run
 
 -- THE JOB KEPT
@@ -99,27 +99,27 @@ job_told : {J : Type 0} (m n : Machine J) (behind : Part J) (more : Bool) (log :
     → ((job : J) → LogsAre (heard m (Job job)) behind)
     → asks_more n ≡ more
     → (reply : Reply J) → IsReply KeepJob m.hand reply → Asked (told m reply) log n
-    → Keeps behind more (record { ask = KeepJob; reply = reply } ∷ log)
+    → AsksKeep behind more (record { ask = KeepJob; reply = reply } ∷ log)
 job_told m n behind more log next at (Heard (Job job)) fits run = (job, refl, next job more log n run at)
 job_told m n behind more log next at _ fits run = absurd fits
 
 pub keeps : {J : Type 0} (m : Machine J) (behind : Part J)
     → asks m ≡ Some KeepJob
     → ((job : J) → LogsAre (heard m (Job job)) behind)
-    → LogsAre m (Keeps behind)
+    → LogsAre m (AsksKeep behind)
 keeps m behind asked next more [] n is at = more_asked m n KeepJob more asked is at
 keeps m behind asked next more (x ∷ log) n run at =
-    begins m n KeepJob (λ y. Keeps behind more (y ∷ log)) x log asked (job_told m n behind more log next at) run
+    begins m n KeepJob (λ y. AsksKeep behind more (y ∷ log)) x log asked (job_told m n behind more log next at) run
 
 -- THE STEPS OF A PUT
 
 put_told : {J : Type 0} (m n : Machine J) (seal : ℕ) (done full : Part J) (more : Bool) (log : Log J)
-    → (Asked m log n → PutSteps seal done full more log)
+    → (Asked m log n → AsksPutSteps seal done full more log)
     → LogsAre (put_heard m Done) done
     → LogsAre (put_heard m Full) full
     → asks_more n ≡ more
     → (reply : Reply J) → IsReply (PutBag seal) m.hand reply → Asked (told m reply) log n
-    → PutSteps seal done full more (record { ask = PutBag seal; reply = reply } ∷ log)
+    → AsksPutSteps seal done full more (record { ask = PutBag seal; reply = reply } ∷ log)
 put_told m n seal done full more log again made refused at (PutStepped Again) fits run = inl (refl, again run)
 put_told m n seal done full more log again made refused at (PutStepped Done) fits run = inr (inl (refl, made more log n run at))
 put_told m n seal done full more log again made refused at (PutStepped Full) fits run = inr (inr (refl, refused more log n run at))
@@ -129,8 +129,8 @@ pub put_steps : {J : Type 0} (m : Machine J) (seal : ℕ) (done full : Part J)
     → asks m ≡ Some (PutBag seal)
     → LogsAre (put_heard m Done) done
     → LogsAre (put_heard m Full) full
-    → LogsAre m (PutSteps seal done full)
+    → LogsAre m (AsksPutSteps seal done full)
 put_steps m seal done full asked made refused more [] n is at = more_asked m n (PutBag seal) more asked is at
 put_steps m seal done full asked made refused more (x ∷ log) n run at =
-    begins m n (PutBag seal) (λ y. PutSteps seal done full more (y ∷ log)) x log asked
+    begins m n (PutBag seal) (λ y. AsksPutSteps seal done full more (y ∷ log)) x log asked
     (put_told m n seal done full more log (λ again. put_steps m seal done full asked made refused more log n again at) made refused at) run

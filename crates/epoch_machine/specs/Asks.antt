@@ -68,8 +68,8 @@ asks_more m = is_some (asks m)
 abbrev pub Part : Type 0 → Type 1
 Part J = (more : Bool) → Log J → Type 0
 
-abbrev pub Ends : {J : Type 0} → Part J
-Ends more log = (log ≡ []) × (more ≡ false)
+abbrev pub AsksNoMore : {J : Type 0} → Part J
+AsksNoMore more log = (log ≡ []) × (more ≡ false)
 
 -- the first part where the test holds, and else the second
 abbrev pub Choose : {J : Type 0} → Bool → Part J → Part J → Part J
@@ -77,96 +77,96 @@ Choose true holds fails = holds
 Choose false holds fails = fails
 
 -- the epoch is loaded, and this comes behind the epoch found
-abbrev pub Loads : {J : Type 0} → (ℕ → Part J) → Part J
-Loads behind more [] = more ≡ true
-Loads behind more (x ∷ log) = (e : ℕ) × (x ≡ record { ask = LoadEpoch; reply = Heard (Epoch e) }) × behind e more log
+abbrev pub AsksLoad : {J : Type 0} → (ℕ → Part J) → Part J
+AsksLoad behind more [] = more ≡ true
+AsksLoad behind more (x ∷ log) = (e : ℕ) × (x ≡ record { ask = LoadEpoch; reply = Heard (Epoch e) }) × behind e more log
 
 -- a store is made
-abbrev pub Stores : {J : Type 0} → Ask → Part J → Part J
-Stores store behind more [] = more ≡ true
-Stores store behind more (x ∷ log) = (x ≡ record { ask = store; reply = Heard Stored }) × behind more log
+abbrev pub AsksStore : {J : Type 0} → Ask → Part J → Part J
+AsksStore store behind more [] = more ≡ true
+AsksStore store behind more (x ∷ log) = (x ≡ record { ask = store; reply = Heard Stored }) × behind more log
 
 -- a job is kept
-abbrev pub Keeps : {J : Type 0} → Part J → Part J
-Keeps behind more [] = more ≡ true
-Keeps {J} behind more (x ∷ log) = (job : J) × (x ≡ record { ask = KeepJob; reply = Heard (Job job) }) × behind more log
+abbrev pub AsksKeep : {J : Type 0} → Part J → Part J
+AsksKeep behind more [] = more ≡ true
+AsksKeep {J} behind more (x ∷ log) = (job : J) × (x ≡ record { ask = KeepJob; reply = Heard (Job job) }) × behind more log
 
 -- the word is that of a participant pinned in an epoch other than e
 abbrev pub IsPinnedElsewhere : (e w : ℕ) → Type 0
 IsPinnedElsewhere e w = (a : ℕ) × (w ≡ 2 * a + 1) × (a ≢ e)
 
 -- the word at a position is loaded
-abbrev pub Looks : {J : Type 0} (e position : ℕ) → (elsewhere behind : Part J) → Part J
-Looks e position elsewhere behind more [] = more ≡ true
-Looks e position elsewhere behind more (x ∷ log) =
+abbrev pub AsksWord : {J : Type 0} (e position : ℕ) → (elsewhere behind : Part J) → Part J
+AsksWord e position elsewhere behind more [] = more ≡ true
+AsksWord e position elsewhere behind more (x ∷ log) =
     (w : ℕ) × (x ≡ record { ask = LoadWord position; reply = Heard (Word w) })
     × ((IsPinnedElsewhere e w × elsewhere more log) ⊎ ((¬ IsPinnedElsewhere e w) × behind more log))
 
 -- the epoch behind e is stored, unless e is the greatest
-abbrev pub Advances : {J : Type 0} (e : ℕ) → (ℕ → Part J) → Part J
-Advances e behind = Choose (e == 2 ^ 63 - 1) (behind e) (Stores (StoreEpoch (e + 1)) (behind (e + 1)))
+abbrev pub AsksAdvance : {J : Type 0} (e : ℕ) → (ℕ → Part J) → Part J
+AsksAdvance e behind = Choose (e == 2 ^ 63 - 1) (behind e) (AsksStore (StoreEpoch (e + 1)) (behind (e + 1)))
 
 -- So many words are loaded, by position. The first one that is pinned in another epoch ends the scan, with e;
 -- where there is none the epoch advances.
-abbrev pub Scans : {J : Type 0} (e position words : ℕ) → (ℕ → Part J) → Part J
-Scans e position zero behind = Advances e behind
-Scans e position (suc words) behind = Looks e position (behind e) (Scans e (position + 1) words behind)
+abbrev pub AsksScan : {J : Type 0} (e position words : ℕ) → (ℕ → Part J) → Part J
+AsksScan e position zero behind = AsksAdvance e behind
+AsksScan e position (suc words) behind = AsksWord e position (behind e) (AsksScan e (position + 1) words behind)
 
 -- steps of a collection for x are made until a bag is got, or none is found
-abbrev pub TakeSteps : {J : Type 0} (x : ℕ) → (empty : Part J) → (got : List J → Part J) → Part J
-TakeSteps x empty got more [] = more ≡ true
-TakeSteps {J} x empty got more (y ∷ log) = (jobs : List J)
-    × (((y ≡ record { ask = TakeBag x; reply = TakeStepped TakeAgain jobs }) × TakeSteps x empty got more log)
+abbrev pub AsksTakeSteps : {J : Type 0} (x : ℕ) → (empty : Part J) → (got : List J → Part J) → Part J
+AsksTakeSteps x empty got more [] = more ≡ true
+AsksTakeSteps {J} x empty got more (y ∷ log) = (jobs : List J)
+    × (((y ≡ record { ask = TakeBag x; reply = TakeStepped TakeAgain jobs }) × AsksTakeSteps x empty got more log)
     ⊎ ((y ≡ record { ask = TakeBag x; reply = TakeStepped Empty jobs }) × empty more log)
     ⊎ ((y ≡ record { ask = TakeBag x; reply = TakeStepped Got jobs }) × got jobs more log))
 
 -- these jobs are called, in this order
-abbrev pub Calls : {J : Type 0} → List J → Part J → Part J
-Calls [] behind more log = behind more log
-Calls (job ∷ jobs) behind more [] = more ≡ true
-Calls (job ∷ jobs) behind more (x ∷ log) = (x ≡ record { ask = CallJob; reply = JobGiven job }) × Calls jobs behind more log
+abbrev pub AsksCalls : {J : Type 0} → List J → Part J → Part J
+AsksCalls [] behind more log = behind more log
+AsksCalls (job ∷ jobs) behind more [] = more ≡ true
+AsksCalls (job ∷ jobs) behind more (x ∷ log) = (x ≡ record { ask = CallJob; reply = JobGiven job }) × AsksCalls jobs behind more log
 
 -- So many bags at most are taken, and each one's jobs are called before the next is looked for.
-abbrev pub Takes : {J : Type 0} (x bags : ℕ) → Part J → Part J
-Takes x zero behind = behind
-Takes x (suc bags) behind = TakeSteps x behind (λ jobs. Calls jobs (Takes x bags behind))
+abbrev pub AsksBags : {J : Type 0} (x bags : ℕ) → Part J → Part J
+AsksBags x zero behind = behind
+AsksBags x (suc bags) behind = AsksTakeSteps x behind (λ jobs. AsksCalls jobs (AsksBags x bags behind))
 
 -- the epoch is loaded, all words are scanned, and bags are taken for the epoch that this gave
-abbrev pub Collects : {J : Type 0} → Sizes → Part J → Part J
-Collects sizes behind = Loads (λ e. Scans e 0 sizes.positions (λ x. Takes x sizes.collect_bags behind))
+abbrev pub AsksCollection : {J : Type 0} → Sizes → Part J → Part J
+AsksCollection sizes behind = AsksLoad (λ e. AsksScan e 0 sizes.positions (λ x. AsksBags x sizes.collect_bags behind))
 
 -- steps of a put are made until the bag is in the store, or each place was found occupied
-abbrev pub PutSteps : {J : Type 0} (seal : ℕ) → (done full : Part J) → Part J
-PutSteps seal done full more [] = more ≡ true
-PutSteps seal done full more (x ∷ log) =
-    ((x ≡ record { ask = PutBag seal; reply = PutStepped Again }) × PutSteps seal done full more log)
+abbrev pub AsksPutSteps : {J : Type 0} (seal : ℕ) → (done full : Part J) → Part J
+AsksPutSteps seal done full more [] = more ≡ true
+AsksPutSteps seal done full more (x ∷ log) =
+    ((x ≡ record { ask = PutBag seal; reply = PutStepped Again }) × AsksPutSteps seal done full more log)
     ⊎ ((x ≡ record { ask = PutBag seal; reply = PutStepped Done }) × done more log)
     ⊎ ((x ≡ record { ask = PutBag seal; reply = PutStepped Full }) × full more log)
 
 -- the epoch is loaded, and the held bag is put, sealed with it
-abbrev pub Puts : {J : Type 0} → (done full : Part J) → Part J
-Puts done full = Loads (λ seal. PutSteps seal done full)
+abbrev pub AsksPut : {J : Type 0} → (done full : Part J) → Part J
+AsksPut done full = AsksLoad (λ seal. AsksPutSteps seal done full)
 
 -- a pin with no guard counted, which collects where the count of pins before was a multiple of 128
-abbrev pub Pins : {J : Type 0} → Machine J → Part J → Part J
-Pins m behind =
-    Loads (λ e. Stores (StorePinned e)
-    (Loads (λ again. Choose (m.pins % 128 == 0) (Collects m.sizes behind) behind)))
+abbrev pub AsksPin : {J : Type 0} → Machine J → Part J → Part J
+AsksPin m behind =
+    AsksLoad (λ e. AsksStore (StorePinned e)
+    (AsksLoad (λ again. Choose (m.pins % 128 == 0) (AsksCollection m.sizes behind) behind)))
 
 -- the own word is stored as not pinned, and then as free
-abbrev pub Leaves : {J : Type 0} → Part J
-Leaves = Stores StoreUnpinned (Stores StoreFree Ends)
+abbrev pub AsksLeave : {J : Type 0} → Part J
+AsksLeave = AsksStore StoreUnpinned (AsksStore StoreFree AsksNoMore)
 
 -- THE TABLE
 
 -- what the machine m asks in an action that it begins
-abbrev pub Follows : {J : Type 0} → Action → Machine J → Part J
-Follows Pin m = Choose (m.guards == 0) (Pins m Ends) Ends
-Follows Unpin m = Choose (m.guards == 1) (Stores StoreUnpinned Ends) Ends
-Follows Repin m =
+abbrev pub AsksOf : {J : Type 0} → Action → Machine J → Part J
+AsksOf Pin m = Choose (m.guards == 0) (AsksPin m AsksNoMore) AsksNoMore
+AsksOf Unpin m = Choose (m.guards == 1) (AsksStore StoreUnpinned AsksNoMore) AsksNoMore
+AsksOf Repin m =
     Choose (m.guards == 1)
-    (Loads (λ e. Choose (m.published == e) Ends (Stores (StoreRepinned e) (Loads (λ again. Ends)))))
-    Ends
-Follows Defer m = Choose (length m.held == m.sizes.bag_jobs) (Puts (Keeps Ends) Ends) (Keeps Ends)
-Follows Flush m = Choose (is_empty m.held) (Collects m.sizes Ends) (Puts (Collects m.sizes Ends) (Collects m.sizes Ends))
-Follows Release m = Pins m (Choose (is_empty m.held) Leaves (Puts Leaves (Stores StoreUnpinned Ends)))
+    (AsksLoad (λ e. Choose (m.published == e) AsksNoMore (AsksStore (StoreRepinned e) (AsksLoad (λ again. AsksNoMore)))))
+    AsksNoMore
+AsksOf Defer m = Choose (length m.held == m.sizes.bag_jobs) (AsksPut (AsksKeep AsksNoMore) AsksNoMore) (AsksKeep AsksNoMore)
+AsksOf Flush m = Choose (is_empty m.held) (AsksCollection m.sizes AsksNoMore) (AsksPut (AsksCollection m.sizes AsksNoMore) (AsksCollection m.sizes AsksNoMore))
+AsksOf Release m = AsksPin m (Choose (is_empty m.held) AsksLeave (AsksPut AsksLeave (AsksStore StoreUnpinned AsksNoMore)))

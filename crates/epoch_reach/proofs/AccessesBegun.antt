@@ -20,7 +20,7 @@ use Rattle.epoch_laws.specs.declared.step.Step.{Step}
 use Rattle.epoch_laws.specs.declared.step.Step.TheVariants.{Register, Begin, Go, End as EndStep, EndGo}
 use Rattle.epoch_laws.specs.declared.step.Word.TheVariants.{Unpinned}
 use Rattle.epoch_heap.specs.Heap.{null, has_steps}
-use Rattle.epoch_laws.specs.Run.{Seat, State, Ending, Open, Emptying, Over, seat_of, with_seat, free_seat, call_refusal, refusal, begun_seat, Begins, progress_after, accessed_seat, ended_seat, Performs, Drives, Goes, EndGoes, Moves}
+use Rattle.epoch_laws.specs.Run.{WorldSeat, State, Ending, Open, Emptying, Over, seat_of, with_seat, free_seat, call_refusal, refusal, begun_seat, BeginsCall, progress_after, accessed_seat, ended_seat, PerformsAsk, DrivesCall, DoesGo, EndGoes, Moves}
 use Rattle.epoch_laws.proofs.SeatLemmas.{seat_written, seat_other, seat_there, same_or_other, begin_given}
 use Rattle.epoch_reach.proofs.GuardsStay.{idle_ended}
 
@@ -29,7 +29,7 @@ abbrev pub IsAccess : Access → Progress → Type 0
 IsAccess a (Accesses b k found) = b ≡ a
 IsAccess a _ = ⊥
 
-begun_access : (a : Access) (c : Call) (seat : Seat) → IsAccess a (begun_seat c seat).progress → c ≡ AccessCall a
+begun_access : (a : Access) (c : Call) (seat : WorldSeat) → IsAccess a (begun_seat c seat).progress → c ≡ AccessCall a
 begun_access a Pin seat is = absurd is
 begun_access a (Unpin g) seat is = absurd is
 begun_access a (Repin None) seat is = absurd is
@@ -62,46 +62,46 @@ module _ (old new : State) (step : Step) (reply : Reply) (a : Access) where
   Goal = (q : ℕ) → IsAccess a (seat_of new q).progress → WasAccess old step q a
 
   along : (last : State) → new ≡ last → last.sizes ≡ old.sizes → last.seats ≡ old.seats → Goal
-  along last e sizes seats q is = inl (subst (λ (seat : Seat). IsAccess a seat.progress) at is)
+  along last e sizes seats q is = inl (subst (λ (seat : WorldSeat). IsAccess a seat.progress) at is)
     where
       at : seat_of new q ≡ seat_of old q
       at = ap (λ (s : State). seat_of s q) e
-          ∙ ap (λ (all : List Seat). slice_index_or all q (free_seat last.sizes)) seats
+          ∙ ap (λ (all : List WorldSeat). slice_index_or all q (free_seat last.sizes)) seats
           ∙ ap (λ (z : Sizes). slice_index_or old.seats q (free_seat z)) sizes
 
   same : new ≡ old → Goal
   same e = along old e refl refl
 
-  writes : (p : ℕ) (after : Seat) (last : State) → p < length old.seats → new ≡ last → last.sizes ≡ old.sizes
+  writes : (p : ℕ) (after : WorldSeat) (last : State) → p < length old.seats → new ≡ last → last.sizes ≡ old.sizes
       → last.seats ≡ slice_set old.seats p after → (IsAccess a after.progress → WasAccess old step p a) → Goal
   writes p after last there e sizes seats own q is = elim (same_or_other q p) [
     | inl one ↦ subst (λ (k : ℕ). WasAccess old step k a) (sym one)
-        (own (subst (λ (seat : Seat). IsAccess a seat.progress)
+        (own (subst (λ (seat : WorldSeat). IsAccess a seat.progress)
         (looked_up ∙ ap (seat_of (with_seat old p after)) one ∙ seat_written old p after there) is))
-    | inr ne ↦ inl (subst (λ (seat : Seat). IsAccess a seat.progress) (looked_up ∙ seat_other old p q after ne) is)
+    | inr ne ↦ inl (subst (λ (seat : WorldSeat). IsAccess a seat.progress) (looked_up ∙ seat_other old p q after ne) is)
   ]
     where
       looked_up : seat_of new q ≡ seat_of (with_seat old p after) q
       looked_up = ap (λ (s : State). seat_of s q) e
-          ∙ ap (λ (all : List Seat). slice_index_or all q (free_seat last.sizes)) seats
+          ∙ ap (λ (all : List WorldSeat). slice_index_or all q (free_seat last.sizes)) seats
           ∙ ap (λ (z : Sizes). slice_index_or (slice_set old.seats p after) q (free_seat z)) sizes
 
   module _ (p : ℕ) (there : p < length old.seats) where
-    abbrev seat : Seat
+    abbrev seat : WorldSeat
     seat = seat_of old p
 
     -- the progress stays
-    stays : (after : Seat) (last : State) → after.progress ≡ seat.progress → new ≡ last → last.sizes ≡ old.sizes
+    stays : (after : WorldSeat) (last : State) → after.progress ≡ seat.progress → new ≡ last → last.sizes ≡ old.sizes
         → last.seats ≡ slice_set old.seats p after → Goal
     stays after last progress e sizes seats =
         writes p after last there e sizes seats (λ is. inl (subst (IsAccess a) progress is))
 
     -- no access is under way after the step
-    none : (after : Seat) (last : State) → ¬ (IsAccess a after.progress) → new ≡ last → last.sizes ≡ old.sizes
+    none : (after : WorldSeat) (last : State) → ¬ (IsAccess a after.progress) → new ≡ last → last.sizes ≡ old.sizes
         → last.seats ≡ slice_set old.seats p after → Goal
     none after last off e sizes seats = writes p after last there e sizes seats (λ is. absurd (off is))
 
-    performs : (s : Stage) (ask : Ask) → Performs old p seat s ask reply new → Goal
+    performs : (s : Stage) (ask : Ask) → PerformsAsk old p seat s ask reply new → Goal
     performs s LoadEpoch did = stays _ _ refl did.1 refl refl
     performs s (LoadWord k) did = stays _ _ refl did.1 refl refl
     performs s (StorePinned e) did = stays _ _ refl did.1 refl refl
@@ -114,7 +114,7 @@ module _ (old new : State) (step : Step) (reply : Reply) (a : Access) where
     performs s KeepJob did = stays _ _ refl did.1 refl refl
     performs s CallJob (job, jobs, hand, told, e) = stays _ _ refl e refl refl
 
-    drives : (c : Call) (s : Stage) (ask : Option Ask) → Drives old p seat c s ask reply new → Goal
+    drives : (c : Call) (s : Stage) (ask : Option Ask) → DrivesCall old p seat c s ask reply new → Goal
     drives c s (Some ask) did = performs s ask did
     drives c s None did = none (ended_seat c seat) _ (λ is. subst (IsAccess a) (idle_ended seat c) is) did.1 refl refl
 
@@ -123,7 +123,7 @@ module _ (old new : State) (step : Step) (reply : Reply) (a : Access) where
     accessed b k (Answers answer) is = absurd is
     accessed b k NoSlot is = absurd is
 
-    goes : (progress : Progress) → seat.progress ≡ progress → Goes old p seat progress reply new → Goal
+    goes : (progress : Progress) → seat.progress ≡ progress → DoesGo old p seat progress reply new → Goal
     goes Idle now did = same did.1
     goes (Driven c) now did = drives c seat.machine.stage (ask_at seat.machine.stage) did
     goes (CallsNow removes) now did = none _ _ (λ is. is) did.1 refl refl
@@ -134,7 +134,7 @@ module _ (old new : State) (step : Step) (reply : Reply) (a : Access) where
 
   begins : (p : ℕ) (c : Call)
       → step ≡ Begin p c → (f : Option Fault) → refusal c (seat_of old p) old.tickets old.heap ≡ f
-      → Begins old p c f reply new → Goal
+      → BeginsCall old p c f reply new → Goal
   begins p c on (Some f) e did = same did.1
   begins p c on None e did =
       let given = begin_given c (seat_of old p) old.tickets old.heap e in

@@ -16,10 +16,10 @@ use Rattle.epoch_cells.specs.declared.fault.Fault.TheVariants.{NotRegistered}
 use Rattle.epoch_laws.specs.declared.step.Step.{Step}
 use Rattle.epoch_laws.specs.declared.step.Step.TheVariants.{Go}
 use Rattle.epoch_reach.specs.Given.{GivesName, given_after}
-use Rattle.epoch_heap.specs.Heap.{Heap, outcome_of, after_job}
+use Rattle.epoch_heap.specs.Heap.{Heap, outcome_of, heap_after_job}
 use Rattle.epoch_reach.specs.Reach.{Past, CallsRemoval, TakesOut, RemovesNow, past_after, no_past, past_from, past_of}
-use Rattle.epoch_laws.specs.Run.{State, seat_of, with_places, progress_after, Moves, Takes, Runs, IsFresh}
-use Rattle.epoch_reach.specs.Standing.{Stands, given_from, given_of, StandsOrDestroyed}
+use Rattle.epoch_laws.specs.Run.{State, seat_of, with_places, progress_after, Moves, TakesStep, Runs, IsFresh}
+use Rattle.epoch_reach.specs.Standing.{IsInHeap, given_from, given_of, StandsOrDestroyed}
 use Rattle.epoch_laws.proofs.SeatLinks.{AllLinked}
 use Rattle.epoch_laws.proofs.Linked.{step_linked, fresh_linked}
 use Rattle.epoch_reach.proofs.HeapSteps.{MakesAccess, HeapGoes, heap_goes, access_goes, now_goes}
@@ -42,7 +42,7 @@ takes_told a k v (Answers answer) e =
 
 module _ (old new : State) (past : Past) (entry : Entry) (h : JobsHold old past)
     (go : JobsGo old new entry.step entry.reply)
-    (took : Takes old entry.step entry.reply new) where
+    (took : TakesStep old entry.step entry.reply new) where
   abbrev aside : State
   aside = with_places new old.places old.seen old.ahead old.room
 
@@ -69,12 +69,12 @@ module _ (old new : State) (past : Past) (entry : Entry) (h : JobsHold old past)
 
   -- what stood stands still, or is destroyed
   pub stood : HeapGoes old aside entry.step entry.reply
-      → (x : Name) → Stands old.heap x → Stands new.heap x ⊎ DestroysNow x
-  stood (inl same) x stands = inl (subst (λ (heap : Heap). Stands heap x) (sym same) stands)
+      → (x : Name) → IsInHeap old.heap x → IsInHeap new.heap x ⊎ DestroysNow x
+  stood (inl same) x stands = inl (subst (λ (heap : Heap). IsInHeap heap x) (sym same) stands)
   stood (inr (inl calls)) x stands =
       let one : CallsOne old new calls.ticket calls.how = go.called calls.ticket calls.how calls.told in
       elim ((job_changes old.heap one.job.removes).kept x stands) [
-        | inl still ↦ inl (subst (λ (heap : Heap). Stands heap x) (sym one.heap) still)
+        | inl still ↦ inl (subst (λ (heap : Heap). IsInHeap heap x) (sym one.heap) still)
         | inr emptied ↦ inr (inl (
           calls.ticket,
           subst (λ (t : ℕ). past.removes t x) one.ticket ((h.jobs one.job one.there).1.removed x emptied.0),
@@ -82,7 +82,7 @@ module _ (old new : State) (past : Past) (entry : Entry) (h : JobsHold old past)
         ))
       ]
   stood (inr (inr (inl calls))) x stands = elim ((job_changes old.heap calls.removes).kept x stands) [
-    | inl still ↦ inl (subst (λ (heap : Heap). Stands heap x) (sym calls.heap) still)
+    | inl still ↦ inl (subst (λ (heap : Heap). IsInHeap heap x) (sym calls.heap) still)
     | inr emptied ↦ inr (inr (inr (record {
       who = calls.who;
       step = calls.goes;
@@ -94,7 +94,7 @@ module _ (old new : State) (past : Past) (entry : Entry) (h : JobsHold old past)
       elim
       ((touch_changes access.call access.steps access.found old.heap access.makes.did access.makes.touches).kept x
       stands) [
-        | inl still ↦ inl (subst (λ (heap : Heap). Stands heap x) (sym access.makes.heap) still)
+        | inl still ↦ inl (subst (λ (heap : Heap). IsInHeap heap x) (sym access.makes.heap) still)
         | inr emptied ↦
             inr (inr (inl (taken access.who access.call access.steps access.found access.makes.did.told access.goes
             access.progress access.makes.after x emptied)))
@@ -102,22 +102,22 @@ module _ (old new : State) (past : Past) (entry : Entry) (h : JobsHold old past)
 
   -- nothing that was given comes back
   came_back : HeapGoes old aside entry.step entry.reply
-      → (x : Name) → IsGiven old.heap x → Stands new.heap x → Stands old.heap x
-  came_back (inl same) x given stands = subst (λ (heap : Heap). Stands heap x) same stands
+      → (x : Name) → IsGiven old.heap x → IsInHeap new.heap x → IsInHeap old.heap x
+  came_back (inl same) x given stands = subst (λ (heap : Heap). IsInHeap heap x) same stands
   came_back (inr (inl calls)) x given stands = (job_changes old.heap calls.removes).back x given
-      (subst (λ (heap : Heap). Stands heap x) calls.heap stands)
+      (subst (λ (heap : Heap). IsInHeap heap x) calls.heap stands)
   came_back (inr (inr (inl calls))) x given stands = (job_changes old.heap calls.removes).back x given
-      (subst (λ (heap : Heap). Stands heap x) calls.heap stands)
+      (subst (λ (heap : Heap). IsInHeap heap x) calls.heap stands)
   came_back (inr (inr (inr access))) x given stands =
       (touch_changes access.call access.steps access.found old.heap access.makes.did access.makes.touches).back x given
-      (subst (λ (heap : Heap). Stands heap x) access.makes.heap stands)
+      (subst (λ (heap : Heap). IsInHeap heap x) access.makes.heap stands)
 
   -- what is destroyed stood, and is gone
   abbrev Goes : Name → Type 0
-  Goes x = Stands old.heap x × (¬ (Stands new.heap x))
+  Goes x = IsInHeap old.heap x × (¬ (IsInHeap new.heap x))
 
-  gone_along : (heap : Heap) (x : Name) → new.heap ≡ heap → Stands old.heap x × (¬ (Stands heap x)) → Goes x
-  gone_along heap x e went = (went.0, λ stands. went.1 (subst (λ (h : Heap). Stands h x) e stands))
+  gone_along : (heap : Heap) (x : Name) → new.heap ≡ heap → IsInHeap old.heap x × (¬ (IsInHeap heap x)) → Goes x
+  gone_along heap x e went = (went.0, λ stands. went.1 (subst (λ (h : Heap). IsInHeap h x) e stands))
 
   removed_gone : (x : Name) → CallsRemoval past entry x → Goes x
   removed_gone x (t, removes, reply) =
@@ -148,7 +148,7 @@ module _ (old new : State) (past : Past) (entry : Entry) (h : JobsHold old past)
       (subst (λ (s : Step). Moves old s entry.reply aside) removes.step took.0))
     where
       by_call : (entry.reply ≡ Refused NotRegistered)
-          ⊎ ((entry.reply ≡ CalledNow (outcome_of old.heap (Some x))) × (new.heap ≡ after_job old.heap (Some x)))
+          ⊎ ((entry.reply ≡ CalledNow (outcome_of old.heap (Some x))) × (new.heap ≡ heap_after_job old.heap (Some x)))
           → Goes x
       by_call (inl refused) = absurd (cc (refused, removes.reply))
       by_call (inr calls) =
@@ -161,15 +161,15 @@ module _ (old new : State) (past : Past) (entry : Entry) (h : JobsHold old past)
   destroyed_gone x (inr (inr now)) = now_gone x now
 
   -- what a Place gives stands
-  gives_stands : (x : Name) → GivesName old entry new x → Stands new.heap x
+  gives_stands : (x : Name) → GivesName old entry new x → IsInHeap new.heap x
   gives_stands x gives =
       by_access (access_goes old aside entry.step entry.reply gives.who (Place gives.value) gives.steps gives.found
       gives.progress (subst (λ (s : Step). Moves old s entry.reply aside) gives.step took.0))
     where
       by_access : (aside ≡ old) ⊎ MakesAccess old aside gives.who (Place gives.value) gives.steps gives.found
-          → Stands new.heap x
+          → IsInHeap new.heap x
       by_access (inl same) = absurd (cc (gives.progress, gives.answer, same))
-      by_access (inr makes) = subst (λ (heap : Heap). Stands heap x) (sym makes.heap)
+      by_access (inr makes) = subst (λ (heap : Heap). IsInHeap heap x) (sym makes.heap)
           (place_stands gives.value gives.steps gives.found old.heap (slice_get old.heap.cells gives.steps) refl
           makes.did
           makes.touches x (sym makes.after ∙ gives.answer))
@@ -178,13 +178,13 @@ module _ (old new : State) (past : Past) (entry : Entry) (h : JobsHold old past)
 
 record CellsHold (s : State) (past : Past) (given : Name → Type 0) : Type 0 where
   are_given : (x : Name) → given x → IsGiven s.heap x
-  stands : (x : Name) → given x → Stands s.heap x ⊎ past.destroyed x
+  stands : (x : Name) → given x → IsInHeap s.heap x ⊎ past.destroyed x
   were_given : (x : Name) → past.destroyed x → IsGiven s.heap x
-  gone : (x : Name) → past.destroyed x → ¬ (Stands s.heap x)
+  gone : (x : Name) → past.destroyed x → ¬ (IsInHeap s.heap x)
 
 module _ (old new : State) (past : Past) (given : Name → Type 0) (entry : Entry) (c : CellsHold old past given)
     (h : JobsHold old past) (go : JobsGo old new entry.step entry.reply)
-    (took : Takes old entry.step entry.reply new) where
+    (took : TakesStep old entry.step entry.reply new) where
   abbrev next : Past
   next = past_after past old entry new
 
@@ -200,7 +200,7 @@ module _ (old new : State) (past : Past) (given : Name → Type 0) (entry : Entr
   given_later x (inl was) = stays_given old new entry took x (c.are_given x was)
   given_later x (inr gives) = (gives_new old new entry took x gives).given
 
-  stands_later : (x : Name) → Later x → Stands new.heap x ⊎ next.destroyed x
+  stands_later : (x : Name) → Later x → IsInHeap new.heap x ⊎ next.destroyed x
   stands_later x (inr gives) = inl (gives_stands old new past entry h go took x gives)
   stands_later x (inl was) = elim (c.stands x was) [
     | inr destroyed ↦ inr (inl destroyed)
@@ -210,7 +210,7 @@ module _ (old new : State) (past : Past) (given : Name → Type 0) (entry : Entr
     ]
   ]
 
-  gone_later : (x : Name) → next.destroyed x → ¬ (Stands new.heap x)
+  gone_later : (x : Name) → next.destroyed x → ¬ (IsInHeap new.heap x)
   gone_later x (inl was) stands =
       c.gone x was (came_back old new past entry h go took goes x (c.were_given x was) stands)
   gone_later x (inr destroys) stands = (destroyed_gone old new past entry h go took x destroys).1 stands
@@ -231,10 +231,10 @@ runs_stand : (old new : State) (log : List Entry) (past : Past) (given : Name �
     → StandsOrDestroyed (given_from given old log new run) (past_from past old log new run) new.heap
 runs_stand old new [] past given linked h c run = record {
   stands = λ x was. elim (c.stands x was) [
-    | inl stands ↦ inl (subst (λ (s : State). Stands s.heap x) (sym run) stands)
+    | inl stands ↦ inl (subst (λ (s : State). IsInHeap s.heap x) (sym run) stands)
     | inr destroyed ↦ inr destroyed
   ];
-  gone = λ x destroyed stands. c.gone x destroyed (subst (λ (s : State). Stands s.heap x) run stands);
+  gone = λ x destroyed stands. c.gone x destroyed (subst (λ (s : State). IsInHeap s.heap x) run stands);
 }
 runs_stand old new (entry ∷ log) past given linked h c (mid, took, run) =
     let go : JobsGo old mid entry.step entry.reply = step_jobs old mid entry linked took in

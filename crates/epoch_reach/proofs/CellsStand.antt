@@ -22,8 +22,8 @@ use Rattle.epoch_heap.specs.declared.access.Spot.{Spot}
 use Rattle.epoch_heap.specs.declared.access.Spot.TheVariants.{Root, Field}
 use Rattle.epoch_heap.specs.declared.heap.Content.{Content}
 use Rattle.epoch_heap.proofs.PointersWritten.{kept_or_written}
-use Rattle.epoch_heap.specs.Heap.{Cell, Heap, cell_at, with_cell_at, with_field, with_field_in, with_pointer, nulls, without_cell, outcome_of, called_by, after_job, Touched, raised, read_by, left_by, written_by, taken_by, at_name, Places, ChangesAt, Touches}
-use Rattle.epoch_reach.specs.Standing.{Stands}
+use Rattle.epoch_heap.specs.Heap.{Cell, Heap, cell_at, with_cell_at, with_field, with_field_in, with_pointer, nulls, without_cell, outcome_of, called_by, heap_after_job, Touched, raised, read_by, left_by, written_by, taken_by, at_name, Places, ChangesAt, Touches}
+use Rattle.epoch_reach.specs.Standing.{IsInHeap}
 use Rattle.epoch_reach.proofs.Names.{name_same}
 use Rattle.epoch_heap.proofs.FoundCells.{found_cell}
 use Rattle.epoch_reach.proofs.PointerSteps.{set_or_kept}
@@ -32,10 +32,10 @@ use Rattle.epoch_reach.proofs.TurnsGiven.{IsGiven, GivenAt, next_at, next_turn, 
 
 -- what a change of cells does: nothing that was given comes back, and what stood stands still or is emptied
 pub record ChangesCells (old new : Heap) (empties : Name → Type 0) : Type 0 where
-  pub back : (x : Name) → IsGiven old x → Stands new x → Stands old x
-  pub kept : (x : Name) → Stands old x → Stands new x ⊎ empties x
-  pub gone : (x : Name) → empties x → Stands old x × (¬ (Stands new x))
-  pub risen : (x : Name) → IsGiven new x → IsGiven old x ⊎ Stands new x
+  pub back : (x : Name) → IsGiven old x → IsInHeap new x → IsInHeap old x
+  pub kept : (x : Name) → IsInHeap old x → IsInHeap new x ⊎ empties x
+  pub gone : (x : Name) → empties x → IsInHeap old x × (¬ (IsInHeap new x))
+  pub risen : (x : Name) → IsGiven new x → IsGiven old x ⊎ IsInHeap new x
   pub start : new.start_turn ≡ old.start_turn
 
 abbrev pub none_emptied : Name → Type 0
@@ -43,8 +43,8 @@ none_emptied x = ⊥
 
 pub cells_same : (old new : Heap) → new ≡ old → ChangesCells old new none_emptied
 cells_same old new e = record {
-  back = λ x given stands. subst (λ h. Stands h x) e stands;
-  kept = λ x stands. inl (subst (λ h. Stands h x) (sym e) stands);
+  back = λ x given stands. subst (λ h. IsInHeap h x) e stands;
+  kept = λ x stands. inl (subst (λ h. IsInHeap h x) (sym e) stands);
   gone = λ x none. absurd none;
   risen = λ x given. inl (subst (λ h. IsGiven h x) e given);
   start = ap (λ (h : Heap). h.start_turn) e;
@@ -80,7 +80,7 @@ written : (h : Heap) (n : Name) (after : Cell) (empties : Name → Type 0)
     → StandsAt x.turn (slice_get h.cells (n.slot - 1)))
     → ((x : Name) → x.slot - 1 ≡ n.slot - 1 → StandsAt x.turn (slice_get h.cells (n.slot - 1))
     → StandsAt x.turn (Some after) ⊎ empties x)
-    → ((x : Name) → empties x → Stands h x × (¬ (Stands (with_cell_at h n after) x)))
+    → ((x : Name) → empties x → IsInHeap h x × (¬ (IsInHeap (with_cell_at h n after) x)))
     → ((x : Name) → x.slot - 1 ≡ n.slot - 1 → GivenAt x.turn (Some after)
     → GivenAt x.turn (slice_get h.cells (n.slot - 1)) ⊎ StandsAt x.turn (Some after))
     → ChangesCells h (with_cell_at h n after) empties
@@ -162,8 +162,8 @@ cells_emptied h n cell e = written h n (empty (n.turn + 1)) (λ x. x ≡ n)
     one : (x : Name) → x.slot - 1 ≡ n.slot - 1 → (cell.turn ≡ x.turn) × (is_some cell.value ≡ true) → x ≡ n
     one x at turn = name_same x n (omega (arith, at, x.some, n.some)) (sym turn.0 ∙ found.1)
 
-    stood : (x : Name) → x ≡ n → Stands h x
-    stood x same = subst (Stands h) (sym same) (ap (λ (there : Option Cell). is_some there) e)
+    stood : (x : Name) → x ≡ n → IsInHeap h x
+    stood x same = subst (IsInHeap h) (sym same) (ap (λ (there : Option Cell). is_some there) e)
 
     at_own : (x : Name) → x ≡ n
         → slice_get (slice_set h.cells (n.slot - 1) (empty (n.turn + 1))) (x.slot - 1) ≡ Some (empty (n.turn + 1))
@@ -248,7 +248,7 @@ removes_cell h n (Some cell) e = at_test (cell.readers == 0)
         (λ x emptied. let same : n ≡ x = cc (emptied.0) in sym same)
     at_test false = empties_none h h _ (cells_same h h refl) (λ x emptied. cc (emptied.1))
 
-pub job_changes : (h : Heap) (removes : Option Name) → ChangesCells h (after_job h removes) (RemovesCell h removes)
+pub job_changes : (h : Heap) (removes : Option Name) → ChangesCells h (heap_after_job h removes) (RemovesCell h removes)
 job_changes h None = empties_none h h _ (cells_same h h refl) (λ x emptied. cc (emptied.0))
 job_changes h (Some n) = removes_cell h n (cell_at h n) refl
 
@@ -362,7 +362,7 @@ touch_changes (Point g spot change) k found h did e = changes_written change k f
 
 stands_new : (h : Heap) (n : Name) (cell after : Cell)
     → slice_get h.cells (n.slot - 1) ≡ Some cell → has after n.turn ≡ true
-    → Stands (with_cell_at h n after) n
+    → IsInHeap (with_cell_at h n after) n
 stands_new h n cell after there full = subst (StandsAt n.turn)
     (sym (get_set_same h.cells (n.slot - 1) after (slice_get_within h.cells (n.slot - 1) cell there)))
     (stands_has n.turn after ∙ full)
@@ -376,12 +376,12 @@ has_own n content = itself n.turn
 pub place_stands : (v k : ℕ) (found : Ptr) (h : Heap) (cell : Option Cell)
     → slice_get h.cells k ≡ cell → (did : Touched)
     → Places v k found h cell did → (n : Name) → progress_after (Place v) k did.told ≡ Ends (Done (NameAnswer n))
-    → Stands did.heap n
+    → IsInHeap did.heap n
 place_stands v k found h None e did is n answer = absurd (cc (is, answer))
 place_stands v k found h (Some cell) e did (inr is) n answer = absurd (cc (is.1, answer))
 place_stands v k found h (Some cell) e did (inl (free, m, slot, turn, is)) n answer =
-    subst (λ (other : Name). Stands did.heap other) same
-    (subst (λ (d : Touched). Stands d.heap m) (sym is)
+    subst (λ (other : Name). IsInHeap did.heap other) same
+    (subst (λ (d : Touched). IsInHeap d.heap m) (sym is)
     (stands_new h m cell (filled m.turn 0 content) at_slot (has_own m content)))
   where
     content : Content
@@ -394,7 +394,7 @@ place_stands v k found h (Some cell) e did (inl (free, m, slot, turn, is)) n ans
     at_slot = let here : m.slot - 1 ≡ k = omega (arith, slot) in ap (λ (j : ℕ). slice_get h.cells j) here ∙ e
 
 -- what stands was given
-pub stands_given : (h : Heap) (x : Name) → Stands h x → IsGiven h x
+pub stands_given : (h : Heap) (x : Name) → IsInHeap h x → IsGiven h x
 stands_given h x stands = at_cell (cell_at h x) refl stands
   where
     at_cell : (cell : Option Cell) → cell_at h x ≡ cell → is_some cell ≡ true → IsGiven h x

@@ -15,7 +15,7 @@ use Rattle.epoch_laws.specs.declared.step.Progress.TheVariants.{Idle, Driven, Ac
 use Rattle.epoch_heap.specs.declared.access.Ptr.{Ptr}
 use Rattle.epoch_laws.specs.declared.step.Reply.TheVariants.{Done}
 use Rattle.epoch_heap.specs.Heap.{Heap, null, has_steps}
-use Rattle.epoch_laws.specs.Run.{Seat, is_out, without, lowest, under_guard, access_refusal, call_refusal, begun_seat, ended_seat, accessed_seat}
+use Rattle.epoch_laws.specs.Run.{WorldSeat, is_out, without, lowest, under_guard, access_refusal, call_refusal, begun_seat, ended_seat, accessed_seat}
 use Rattle.epoch_laws.proofs.SeatLemmas.{guard_given}
 use Rattle.epoch_laws.proofs.SeatLinks.{IsDriven, IsLinked}
 use Rattle.epoch_laws.proofs.CallsLinked.{ended_linked}
@@ -51,10 +51,10 @@ out_pushed g h (k ∷ ks) e = at_own (k == g) refl (out_pushed g h ks)
 -- A CALL ENDS
 
 -- no call is under way then, the machine has ended its action, and the word stays
-abbrev Ended : Seat → Seat → Type 0
+abbrev Ended : WorldSeat → WorldSeat → Type 0
 Ended old new = (new.progress ≡ Idle) × (new.machine ≡ ended old.machine) × (new.word ≡ old.word)
 
-seat_ended : (seat : Seat) (c : Call) → Ended seat (ended_seat c seat)
+seat_ended : (seat : WorldSeat) (c : Call) → Ended seat (ended_seat c seat)
 seat_ended seat Pin = (refl, refl, refl)
 seat_ended seat (Unpin None) = (refl, refl, refl)
 seat_ended seat (Unpin (Some h)) = (refl, refl, refl)
@@ -64,20 +64,20 @@ seat_ended seat (Resume None) = (refl, refl, refl)
 seat_ended seat (Resume (Some h)) = (refl, refl, refl)
 seat_ended seat _ = (refl, refl, refl)
 
-pub idle_ended : (seat : Seat) (c : Call) → (ended_seat c seat).progress ≡ Idle
+pub idle_ended : (seat : WorldSeat) (c : Call) → (ended_seat c seat).progress ≡ Idle
 idle_ended seat c = (seat_ended seat c).0
 
-pub machine_ended : (seat : Seat) (c : Call) → (ended_seat c seat).machine ≡ ended seat.machine
+pub machine_ended : (seat : WorldSeat) (c : Call) → (ended_seat c seat).machine ≡ ended seat.machine
 machine_ended seat c = (seat_ended seat c).1
 
-pub word_ended : (seat : Seat) (c : Call) → (ended_seat c seat).word ≡ seat.word
+pub word_ended : (seat : WorldSeat) (c : Call) → (ended_seat c seat).word ≡ seat.word
 word_ended seat c = (seat_ended seat c).2
 
-pub guarded_ended : (seat : Seat) (c : Call) → Guarded (ended_seat c seat)
+pub guarded_ended : (seat : WorldSeat) (c : Call) → Guarded (ended_seat c seat)
 guarded_ended seat c = subst (λ (progress : Progress). GuardsAccess progress (ended_seat c seat).guards)
     (sym (idle_ended seat c)) tt
 
-module _ (seat : Seat) (g : ℕ) (out : is_out g seat.guards ≡ true) where
+module _ (seat : WorldSeat) (g : ℕ) (out : is_out g seat.guards ≡ true) where
   out_ended : (c : Call) → ¬ (GivesUp g (Driven c)) → is_out g (ended_seat c seat).guards ≡ true
   out_ended Pin kept = out_pushed g (lowest seat.guards) seat.guards out
   out_ended (Unpin None) kept = out
@@ -107,11 +107,11 @@ module _ (seat : Seat) (g : ℕ) (out : is_out g seat.guards ≡ true) where
 -- A CALL BEGINS
 
 -- the word and the jobs stay
-abbrev Begun : Seat → Seat → Type 0
+abbrev Begun : WorldSeat → WorldSeat → Type 0
 Begun old new =
     (new.word ≡ old.word) × (new.machine.held ≡ old.machine.held) × (new.machine.hand ≡ old.machine.hand)
 
-seat_begun : (seat : Seat) (c : Call) → Begun seat (begun_seat c seat)
+seat_begun : (seat : WorldSeat) (c : Call) → Begun seat (begun_seat c seat)
 seat_begun seat (Repin None) = (refl, refl, refl)
 seat_begun seat (Repin (Some h)) = (refl, refl, refl)
 seat_begun seat (Pause None) = (refl, refl, refl)
@@ -126,20 +126,20 @@ seat_begun seat (DeferDestroy None ptr) = (refl, refl, refl)
 seat_begun seat (DeferDestroy (Some h) ptr) = (refl, refl, refl)
 seat_begun seat _ = (refl, refl, refl)
 
-pub word_begun : (seat : Seat) (c : Call) → (begun_seat c seat).word ≡ seat.word
+pub word_begun : (seat : WorldSeat) (c : Call) → (begun_seat c seat).word ≡ seat.word
 word_begun seat c = (seat_begun seat c).0
 
-pub held_begun : (seat : Seat) (c : Call) → (begun_seat c seat).machine.held ≡ seat.machine.held
+pub held_begun : (seat : WorldSeat) (c : Call) → (begun_seat c seat).machine.held ≡ seat.machine.held
 held_begun seat c = (seat_begun seat c).1
 
-pub hand_begun : (seat : Seat) (c : Call) → (begun_seat c seat).machine.hand ≡ seat.machine.hand
+pub hand_begun : (seat : WorldSeat) (c : Call) → (begun_seat c seat).machine.hand ≡ seat.machine.hand
 hand_begun seat c = (seat_begun seat c).2
 
 access_gives : (g : ℕ) (a : Access) (b : Bool) → ¬ (GivesUp g (if b then Accesses a 0 null else Ends (Done Absent)))
 access_gives g a true gives = gives
 access_gives g a false gives = gives
 
-pub is_out_begun : (seat : Seat) (g : ℕ) (c : Call) → ¬ ((c ≡ Unpin (Some g)) ⊎ (c ≡ Pause (Some g)))
+pub is_out_begun : (seat : WorldSeat) (g : ℕ) (c : Call) → ¬ ((c ≡ Unpin (Some g)) ⊎ (c ≡ Pause (Some g)))
     → is_out g seat.guards ≡ true → IsOut g (begun_seat c seat)
 is_out_begun seat g Pin ne out = (out, λ gives. gives)
 is_out_begun seat g (Unpin None) ne out = (out, λ gives. gives)
@@ -159,7 +159,7 @@ is_out_begun seat g (DeferDestroy None ptr) ne out = (out, λ gives. gives)
 is_out_begun seat g (DeferDestroy (Some h) ptr) ne out = (out, λ gives. gives)
 is_out_begun seat g (AccessCall a) ne out = (out, access_gives g a (has_steps a))
 
-module _ (seat : Seat) (tickets : ℕ) (heap : Heap) where
+module _ (seat : WorldSeat) (tickets : ℕ) (heap : Heap) where
   access_guarded : (a : Access) (b : Bool) → call_refusal (AccessCall a) seat tickets heap ≡ None
       → GuardsAccess (if b then Accesses a 0 null else Ends (Done Absent)) seat.guards
   access_guarded a false ok = tt
@@ -187,13 +187,13 @@ module _ (seat : Seat) (tickets : ℕ) (heap : Heap) where
 
 -- A CALL ON CELLS AND POINTERS GOES ON
 
-pub is_out_accessed : (seat : Seat) (g : ℕ) (a : Access) (k : ℕ) (told : Accessed) → is_out g seat.guards ≡ true
+pub is_out_accessed : (seat : WorldSeat) (g : ℕ) (a : Access) (k : ℕ) (told : Accessed) → is_out g seat.guards ≡ true
     → IsOut g (accessed_seat a k told seat)
 is_out_accessed seat g a k (Again found) out = (out, λ gives. gives)
 is_out_accessed seat g a k (Answers answer) out = (out, λ gives. gives)
 is_out_accessed seat g a k NoSlot out = (out, λ gives. gives)
 
-pub guarded_accessed : (seat : Seat) (a : Access) (k : ℕ) (found : Ptr) (told : Accessed)
+pub guarded_accessed : (seat : WorldSeat) (a : Access) (k : ℕ) (found : Ptr) (told : Accessed)
     → GuardsAccess (Accesses a k found) seat.guards → Guarded (accessed_seat a k told seat)
 guarded_accessed seat a k found (Again other) guarded = guarded
 guarded_accessed seat a k found (Answers answer) guarded = tt

@@ -16,9 +16,9 @@ use Rattle.epoch_laws.specs.declared.step.Reply.TheVariants.{Called as CalledRep
 use Rattle.epoch_cells.specs.declared.fault.Fault.TheVariants.{NotRegistered}
 use Rattle.epoch_laws.specs.declared.step.Step.{Step}
 use Rattle.epoch_laws.specs.declared.step.Step.TheVariants.{Register, Begin, Go, End as EndStep, EndGo}
-use Rattle.epoch_heap.specs.Heap.{outcome_of, after_job, Touched, Touches}
+use Rattle.epoch_heap.specs.Heap.{outcome_of, heap_after_job, Touched, Touches}
 use Rattle.epoch_laws.specs.declared.step.Word.TheVariants.{Free}
-use Rattle.epoch_laws.specs.Run.{Seat, State, Ending, Open, Emptying, Over, seat_of, word_of, progress_after, accessed_seat, refusal, Begins, Drives, Goes, EndGoes, Moves}
+use Rattle.epoch_laws.specs.Run.{WorldSeat, State, Ending, Open, Emptying, Over, seat_of, position_word, progress_after, accessed_seat, refusal, BeginsCall, DrivesCall, DoesGo, EndGoes, Moves}
 use Rattle.epoch_laws.proofs.SeatLemmas.{seat_written, seat_there}
 
 -- the job of a ticket is called
@@ -27,7 +27,7 @@ pub record CallsJob (old new : State) (reply : Reply) : Type 0 where
   pub how : Called
   pub removes : Option Name
   pub told : reply ≡ CalledReply ticket how
-  pub heap : new.heap ≡ after_job old.heap removes
+  pub heap : new.heap ≡ heap_after_job old.heap removes
 
 -- a job is called at once
 pub record CallsAtOnce (old new : State) (step : Step) (reply : Reply) : Type 0 where
@@ -36,7 +36,7 @@ pub record CallsAtOnce (old new : State) (step : Step) (reply : Reply) : Type 0 
   pub goes : step ≡ Go who
   pub progress : (seat_of old who).progress ≡ CallsNow removes
   pub told : reply ≡ CalledNow (outcome_of old.heap removes)
-  pub heap : new.heap ≡ after_job old.heap removes
+  pub heap : new.heap ≡ heap_after_job old.heap removes
 
 -- p makes this step of its call on cells and pointers
 pub record MakesAccess (old new : State) (p : ℕ) (a : Access) (k : ℕ) (found : Ptr) : Type 0 where
@@ -70,7 +70,7 @@ module _ (old new : State) (step : Step) (reply : Reply) where
 
   calls : (ticket : ℕ) (how : Called) (removes : Option Name) (last : State)
       → reply ≡ CalledReply ticket how → new ≡ last
-      → last.heap ≡ after_job old.heap removes → Goal
+      → last.heap ≡ heap_after_job old.heap removes → Goal
   calls ticket how removes last told e is = inr (inl (record {
     ticket = ticket;
     how = how;
@@ -79,7 +79,7 @@ module _ (old new : State) (step : Step) (reply : Reply) where
     heap = ap (λ (s : State). s.heap) e ∙ is;
   }))
 
-  drives : (p : ℕ) (seat : Seat) (c : Call) (s : Stage) → Drives old p seat c s (ask_at s) reply new → Goal
+  drives : (p : ℕ) (seat : WorldSeat) (c : Call) (s : Stage) → DrivesCall old p seat c s (ask_at s) reply new → Goal
   drives p seat c Resting did = along _ did.1 refl
   drives p seat c LoadPin did = along _ did.1 refl
   drives p seat c (StorePin e) did = along _ did.1 refl
@@ -100,19 +100,19 @@ module _ (old new : State) (step : Step) (reply : Reply) where
   drives p seat c End did = along _ did.1 refl
 
   -- p makes a step of its call on cells and pointers
-  accesses : (p : ℕ) (a : Access) (k : ℕ) (found : Ptr) → word_of old p ≢ Free
-      → Goes old p (seat_of old p) (Accesses a k found) reply new → MakesAccess old new p a k found
+  accesses : (p : ℕ) (a : Access) (k : ℕ) (found : Ptr) → position_word old p ≢ Free
+      → DoesGo old p (seat_of old p) (Accesses a k found) reply new → MakesAccess old new p a k found
   accesses p a k found taken (did, touches, told, e) = record {
     did = did;
     touches = touches;
     after = ap (λ (s : State). (seat_of s p).progress) e
-        ∙ ap (λ (seat : Seat). seat.progress)
+        ∙ ap (λ (seat : WorldSeat). seat.progress)
         (seat_written old p (accessed_seat a k did.told (seat_of old p)) (seat_there old p taken));
     heap = ap (λ (s : State). s.heap) e;
   }
 
-  goes : (p : ℕ) → step ≡ Go p → word_of old p ≢ Free → (progress : Progress) → (seat_of old p).progress ≡ progress
-      → Goes old p (seat_of old p) progress reply new → Goal
+  goes : (p : ℕ) → step ≡ Go p → position_word old p ≢ Free → (progress : Progress) → (seat_of old p).progress ≡ progress
+      → DoesGo old p (seat_of old p) progress reply new → Goal
   goes p on taken Idle now did = same did.1
   goes p on taken (Driven c) now did = drives p (seat_of old p) c (seat_of old p).machine.stage did
   goes p on taken (CallsNow removes) now did = inr (inr (inl (record {
@@ -134,7 +134,7 @@ module _ (old new : State) (step : Step) (reply : Reply) where
   })))
   goes p on taken (Ends last) now did = along _ did.1 refl
 
-  begins : (p : ℕ) (c : Call) (f : Option Fault) → Begins old p c f reply new → Goal
+  begins : (p : ℕ) (c : Call) (f : Option Fault) → BeginsCall old p c f reply new → Goal
   begins p c (Some f) did = same did.1
   begins p c None did = along _ did.1 refl
 
@@ -162,14 +162,14 @@ module _ (old new : State) (step : Step) (reply : Reply) where
       → Moves old (Go p) reply new → (new ≡ old) ⊎ MakesAccess old new p a k found
   access_goes p a k found now (inl did) = inl did.2
   access_goes p a k found now (inr did) = inr (accesses p a k found did.0
-      (subst (λ (progress : Progress). Goes old p (seat_of old p) progress reply new) now did.1))
+      (subst (λ (progress : Progress). DoesGo old p (seat_of old p) progress reply new) now did.1))
 
   -- where p has a job to call at once, its Go is refused, or calls it
   pub now_goes : (p : ℕ) (removes : Option Name)
       → (seat_of old p).progress ≡ CallsNow removes → Moves old (Go p) reply new
       → (reply ≡ Refused NotRegistered)
-      ⊎ ((reply ≡ CalledNow (outcome_of old.heap removes)) × (new.heap ≡ after_job old.heap removes))
+      ⊎ ((reply ≡ CalledNow (outcome_of old.heap removes)) × (new.heap ≡ heap_after_job old.heap removes))
   now_goes p removes now (inl did) = inl did.1
   now_goes p removes now (inr did) =
-      let calls = subst (λ (progress : Progress). Goes old p (seat_of old p) progress reply new) now did.1 in
+      let calls = subst (λ (progress : Progress). DoesGo old p (seat_of old p) progress reply new) now did.1 in
       inr (calls.0, ap (λ (s : State). s.heap) calls.1)

@@ -25,10 +25,10 @@ use Rattle.epoch_laws.specs.declared.step.Reply.TheVariants.{Stepped, Deferred, 
 use Rattle.epoch_laws.specs.declared.step.Step.{Step}
 use Rattle.epoch_laws.specs.declared.step.Step.TheVariants.{Register, Begin, Go, End as EndStep, EndGo}
 use Rattle.epoch_laws.specs.declared.step.Word.TheVariants.{Free, Unpinned}
-use Rattle.epoch_heap.specs.Heap.{outcome_of, after_job}
+use Rattle.epoch_heap.specs.Heap.{outcome_of, heap_after_job}
 use Rattle.epoch_reach.specs.Reach.{DefersRemoval, Past, past_after, no_past}
 use Rattle.epoch_reach.specs.Removals.{IsIn, IsInBags, IsAtEnd, IsInBag, IsAsDeferred, CallsAsDeferred, AsDeferredFrom, CallsWhatWasDeferred}
-use Rattle.epoch_laws.specs.Run.{Bag, Seat, State, Ending, Open, Emptying, Over, seat_of, word_of, with_seat, with_places, with_machine, free_seat, removed_by, refusal, begun_seat, Begins, ended_seat, Drives, Goes, EndGoes, Moves, Takes, Runs, IsFresh}
+use Rattle.epoch_laws.specs.Run.{Bag, WorldSeat, State, Ending, Open, Emptying, Over, seat_of, position_word, with_seat, with_places, with_machine, free_seat, removed_by, refusal, begun_seat, BeginsCall, ended_seat, DrivesCall, DoesGo, EndGoes, Moves, TakesStep, Runs, IsFresh}
 use Rattle.epoch_laws.proofs.SeatLemmas.{seat_written, seat_other, seat_there, same_or_other, begin_given}
 use Rattle.epoch_laws.proofs.QuietReplies.{IsQuiet, quiet_stepped, quiet_began, quiet_now, quiet_access, quiet_done, quiet_refused, quiet_end}
 use Rattle.epoch_laws.proofs.SeatLinks.{AllLinked, follows_at}
@@ -111,7 +111,7 @@ pub record CallsOne (old new : State) (t : ℕ) (how : Called) : Type 0 where
   pub there : IsInBag old job
   pub ticket : job.ticket ≡ t
   pub outcome : how ≡ outcome_of old.heap job.removes
-  pub heap : new.heap ≡ after_job old.heap job.removes
+  pub heap : new.heap ≡ heap_after_job old.heap job.removes
 
 pub record JobsGo (old new : State) (step : Step) (reply : Reply) : Type 0 where
   pub jobs : (job : Deferral) → IsInBag new job → IsInBag old job ⊎ IsNewJob old step reply job
@@ -144,7 +144,7 @@ module _ (old new : State) (step : Step) (reply : Reply) where
   })
 
   -- the seat of p is written, and perhaps the store
-  jobs_after : (p : ℕ) (after : Seat) (last : State) → p < length old.seats → last.sizes ≡ old.sizes
+  jobs_after : (p : ℕ) (after : WorldSeat) (last : State) → p < length old.seats → last.sizes ≡ old.sizes
       → last.seats ≡ slice_set old.seats p after → last.ending ≡ old.ending
       → ((job : Deferral) → IsIn job after.machine.held ⊎ IsIn job after.machine.hand → Was job)
       → ((job : Deferral) → IsInBags job last.queued → Was job)
@@ -159,18 +159,18 @@ module _ (old new : State) (step : Step) (reply : Reply) where
     | inr ne ↦ inl (inl (q, subst InSeat (looked_up q ∙ seat_other old p q after ne) at))
   ]
     where
-      InSeat : Seat → Type 0
+      InSeat : WorldSeat → Type 0
       InSeat seat = IsIn job seat.machine.held ⊎ IsIn job seat.machine.hand
 
       looked_up : (q : ℕ) → seat_of last q ≡ seat_of (with_seat old p after) q
-      looked_up q = ap (λ (all : List Seat). slice_index_or all q (free_seat last.sizes)) seats
+      looked_up q = ap (λ (all : List WorldSeat). slice_index_or all q (free_seat last.sizes)) seats
           ∙ ap (λ (z : Sizes). slice_index_or (slice_set old.seats p after) q (free_seat z)) sizes
 
 -- A STEP GO
 
 module _ (old new : State) (step : Step) (reply : Reply) (p : ℕ) (on : step ≡ Go p)
-    (taken : word_of old p ≢ Free) (linked : AllLinked old) where
-  abbrev seat : Seat
+    (taken : position_word old p ≢ Free) (linked : AllLinked old) where
+  abbrev seat : WorldSeat
   seat = seat_of old p
 
   abbrev m : Machine Deferral
@@ -183,20 +183,20 @@ module _ (old new : State) (step : Step) (reply : Reply) (p : ℕ) (on : step �
   AtOld job = IsInBag old job ⊎ IsNewJob old step reply job
 
   -- what p has in its bags after the step, and what is in the store
-  abbrev OwnJobs : Seat → Type 0
+  abbrev OwnJobs : WorldSeat → Type 0
   OwnJobs after = (job : Deferral) → IsIn job after.machine.held ⊎ IsIn job after.machine.hand → AtOld job
 
   abbrev Queued : List Bag → Type 0
   Queued bags = (job : Deferral) → IsInBags job bags → AtOld job
 
-  own_same : (after : Seat) → after.machine.held ≡ m.held → after.machine.hand ≡ m.hand → OwnJobs after
+  own_same : (after : WorldSeat) → after.machine.held ≡ m.held → after.machine.hand ≡ m.hand → OwnJobs after
   own_same after held hand job (inl at) = inl (inl (p, inl (subst (IsIn job) held at)))
   own_same after held hand job (inr at) = inl (inl (p, inr (subst (IsIn job) hand at)))
 
   queued_same : (bags : List Bag) → bags ≡ old.queued → Queued bags
   queued_same bags e job at = inl (inr (inl (subst (IsInBags job) e at)))
 
-  goes : (after : Seat) (last : State) → TellsNoJob reply → new ≡ last → last.sizes ≡ old.sizes
+  goes : (after : WorldSeat) (last : State) → TellsNoJob reply → new ≡ last → last.sizes ≡ old.sizes
       → last.seats ≡ slice_set old.seats p after → last.ending ≡ old.ending → last.tickets ≡ old.tickets
       → OwnJobs after → Queued last.queued → Shown
   goes after last none e sizes seats ending tickets own queued =
@@ -208,7 +208,7 @@ module _ (old new : State) (step : Step) (reply : Reply) (p : ℕ) (on : step �
       })
 
   -- p's jobs and the store stay
-  keeps : (after : Seat) (last : State) → TellsNoJob reply → after.machine.held ≡ m.held → after.machine.hand ≡ m.hand
+  keeps : (after : WorldSeat) (last : State) → TellsNoJob reply → after.machine.held ≡ m.held → after.machine.hand ≡ m.hand
       → new ≡ last → last.sizes ≡ old.sizes → last.seats ≡ slice_set old.seats p after → last.ending ≡ old.ending
       → last.tickets ≡ old.tickets → last.queued ≡ old.queued → Shown
   keeps after last none held hand e sizes seats ending tickets queued =
@@ -270,7 +270,7 @@ module _ (old new : State) (step : Step) (reply : Reply) (p : ℕ) (on : step �
       job_kept : Deferral
       job_kept = record { ticket = old.tickets; removes = removed_by seat.progress }
 
-      after : Seat
+      after : WorldSeat
       after = with_machine seat (hears m Keep (Job job_kept))
 
       at_last : (job : Deferral) → IsIn job (job_kept ∷ []) → AtOld job
@@ -293,10 +293,10 @@ module _ (old new : State) (step : Step) (reply : Reply) (p : ℕ) (on : step �
   -- the first job in hand is called
   calls : (n : Machine Deferral) (job : Deferral) (jobs : List Deferral) → m.hand ≡ job ∷ jobs
       → n.held ≡ m.held → n.hand ≡ jobs → reply ≡ CalledReply job.ticket (outcome_of old.heap job.removes)
-      → new ≡ record (with_seat old p (with_machine seat n)) { heap = after_job old.heap job.removes } → Shown
+      → new ≡ record (with_seat old p (with_machine seat n)) { heap = heap_after_job old.heap job.removes } → Shown
   calls n job jobs hand held left told e = subst (λ (s : State). JobsGo old s step reply) (sym e) (record {
     jobs = jobs_after old old step reply p (with_machine seat n)
-        (record (with_seat old p (with_machine seat n)) { heap = after_job old.heap job.removes })
+        (record (with_seat old p (with_machine seat n)) { heap = heap_after_job old.heap job.removes })
         (seat_there old p taken) refl refl refl own (queued_same old.queued refl);
     tickets = omega arith;
     deferred = λ t is. absurd (cc (told, is));
@@ -313,7 +313,7 @@ module _ (old new : State) (step : Step) (reply : Reply) (p : ℕ) (on : step �
       own other (inl at) = inl (inl (p, inl (subst (IsIn other) held at)))
       own other (inr at) = inl (inl (p, inr (subst (IsIn other) (sym hand) (inr (subst (IsIn other) left at)))))
 
-  drives : (c : Call) (s : Stage) → Drives old p seat c s (ask_at s) reply new → Shown
+  drives : (c : Call) (s : Stage) → DrivesCall old p seat c s (ask_at s) reply new → Shown
   drives c Resting did = keeps (ended_seat c seat) _ (quiet_job reply (quiet_end reply c seat did.0))
       (ap (λ (n : Machine Deferral). n.held) (machine_ended seat c))
       (ap (λ (n : Machine Deferral). n.hand) (machine_ended seat c))
@@ -350,7 +350,7 @@ module _ (old new : State) (step : Step) (reply : Reply) (p : ℕ) (on : step �
       (ap (λ (n : Machine Deferral). n.hand) (machine_ended seat c))
       did.1 refl refl refl refl refl
 
-  pub goes_by : (progress : Progress) → seat.progress ≡ progress → Goes old p seat progress reply new → Shown
+  pub goes_by : (progress : Progress) → seat.progress ≡ progress → DoesGo old p seat progress reply new → Shown
   goes_by Idle now did = same old new step reply (quiet_job reply (quiet_refused reply _ did.0)) did.1
   goes_by (Driven c) now did = drives c m.stage did
   goes_by (CallsNow removes) now did =
@@ -368,7 +368,7 @@ module _ (old new : State) (step : Step) (reply : Reply) (linked : AllLinked old
   Result = JobsGo old new step reply
 
   begins : (p : ℕ) (c : Call) (f : Option Fault) → refusal c (seat_of old p) old.tickets old.heap ≡ f
-      → Begins old p c f reply new → Result
+      → BeginsCall old p c f reply new → Result
   begins p c (Some f) e did = same old new step reply (quiet_job reply (quiet_refused reply f did.0)) did.1
   begins p c None e did =
       let given = begin_given c (seat_of old p) old.tickets old.heap e in
@@ -401,12 +401,12 @@ module _ (old new : State) (step : Step) (reply : Reply) (linked : AllLinked old
       (quietly old last step reply none (omega (arith, tickets)) there)
     where
       at : (q : ℕ) → seat_of last q ≡ seat_of old q
-      at q = ap (λ (all : List Seat). slice_index_or all q (free_seat last.sizes)) seats
+      at q = ap (λ (all : List WorldSeat). slice_index_or all q (free_seat last.sizes)) seats
           ∙ ap (λ (z : Sizes). slice_index_or old.seats q (free_seat z)) sizes
 
       there : (job : Deferral) → IsInBag last job → IsInBag old job
       there job (inl (q, is)) =
-          inl (q, subst (λ (seat : Seat). IsIn job seat.machine.held ⊎ IsIn job seat.machine.hand) (at q) is)
+          inl (q, subst (λ (seat : WorldSeat). IsIn job seat.machine.held ⊎ IsIn job seat.machine.hand) (at q) is)
       there job (inr is) = rest job is
 
   end_goes : (e : Ending) → old.ending ≡ e → EndGoes old e reply new → Result
@@ -438,7 +438,7 @@ module _ (old new : State) (step : Step) (reply : Reply) (linked : AllLinked old
   })
     where
       there : (other : Deferral)
-          → IsInBag (record old { ending = Emptying jobs (n + 1); heap = after_job old.heap job.removes }) other
+          → IsInBag (record old { ending = Emptying jobs (n + 1); heap = heap_after_job old.heap job.removes }) other
           → IsInBag old other
       there other (inl is) = inl is
       there other (inr (inl is)) = inr (inl is)
@@ -453,7 +453,7 @@ module _ (old new : State) (step : Step) (reply : Reply) (linked : AllLinked old
       (jobs_after old old step reply p registered (with_seat old p registered) there refl refl refl
       none_left (λ other at. inl (inr (inl at))) job is)))
     where
-      registered : Seat
+      registered : WorldSeat
       registered = record (free_seat old.sizes) { word = Unpinned }
 
       none_left : (job : Deferral) → ⊥ ⊎ ⊥ → IsInBag old job ⊎ IsNewJob old step reply job
@@ -555,13 +555,13 @@ module _ (old new : State) (past : Past) (entry : Entry) (h : JobsHold old past)
         let call = go.called t how told in
         let named : call.job.removes ≡ Some x =
         (h.jobs call.job call.there).1.named x (subst (λ (u : ℕ). past.removes u x) (sym call.ticket) removes) in
-        (call.outcome ∙ ap (outcome_of old.heap) named, call.heap ∙ ap (after_job old.heap) named);
+        (call.outcome ∙ ap (outcome_of old.heap) named, call.heap ∙ ap (heap_after_job old.heap) named);
     work = λ t how told none.
         let call = go.called t how told in
         let nothing : call.job.removes ≡ None = unnamed call.job.removes
         (λ x e. none x
         (subst (λ (u : ℕ). past.removes u x) call.ticket ((h.jobs call.job call.there).1.removed x e))) in
-        (call.outcome ∙ ap (outcome_of old.heap) nothing, call.heap ∙ ap (after_job old.heap) nothing);
+        (call.outcome ∙ ap (outcome_of old.heap) nothing, call.heap ∙ ap (heap_after_job old.heap) nothing);
   }
     where
       unnamed : (name : Option Name) → ((x : Name) → ¬ (name ≡ Some x)) → name ≡ None
@@ -582,7 +582,7 @@ jobs_aside old new places seen ahead room step reply go = record {
       record { job = call.job; there = call.there; ticket = call.ticket; outcome = call.outcome; heap = call.heap };
 }
 
-pub step_jobs : (old new : State) (entry : Entry) → AllLinked old → Takes old entry.step entry.reply new
+pub step_jobs : (old new : State) (entry : Entry) → AllLinked old → TakesStep old entry.step entry.reply new
     → JobsGo old new entry.step entry.reply
 step_jobs old new entry linked did = jobs_aside old new old.places old.seen old.ahead old.room entry.step entry.reply
     (jobs_go old _ entry.step entry.reply linked entry.step refl did.0)
@@ -602,8 +602,8 @@ pub fresh_jobs : (s : State) → IsFresh s → JobsHold s no_past
 fresh_jobs s fresh = record { jobs = λ job at. absurd (none job at); given = λ t x none. absurd none }
   where
     none : (job : Deferral) → ¬ (IsInBag s job)
-    none job (inl (p, inl at)) = subst (IsIn job) (ap (λ (seat : Seat). seat.machine.held) (fresh.free p)) at
-    none job (inl (p, inr at)) = subst (IsIn job) (ap (λ (seat : Seat). seat.machine.hand) (fresh.free p)) at
+    none job (inl (p, inl at)) = subst (IsIn job) (ap (λ (seat : WorldSeat). seat.machine.held) (fresh.free p)) at
+    none job (inl (p, inr at)) = subst (IsIn job) (ap (λ (seat : WorldSeat). seat.machine.hand) (fresh.free p)) at
     none job (inr (inl at)) = subst (IsInBags job) fresh.none_queued at
     none job (inr (inr at)) = subst (IsAtEnd job) fresh.open_end at
 

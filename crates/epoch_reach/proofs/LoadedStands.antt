@@ -10,8 +10,8 @@ use Rattle.epoch_heap.specs.declared.access.Spot.{Spot}
 use Rattle.epoch_heap.specs.declared.access.Spot.TheVariants.{Root, Field}
 use Rattle.epoch_heap.specs.Heap.{Cell, Heap, null}
 use Rattle.epoch_reach.specs.Reach.{Leads, Meets, Past, past_after, no_past, past_from, past_of, LeavesOnce}
-use Rattle.epoch_laws.specs.Run.{Seat, State, seat_of, with_places, Takes, Runs, IsFresh}
-use Rattle.epoch_reach.specs.Standing.{Stands, LoadedStand}
+use Rattle.epoch_laws.specs.Run.{WorldSeat, State, seat_of, with_places, TakesStep, Runs, IsFresh}
+use Rattle.epoch_reach.specs.Standing.{IsInHeap, LoadedStand}
 use Rattle.epoch_laws.proofs.SeatLinks.{AllLinked}
 use Rattle.epoch_laws.proofs.Linked.{step_linked, fresh_linked}
 use Rattle.epoch_reach.proofs.HeapSteps.{HeapGoes, heap_goes}
@@ -32,10 +32,10 @@ pub record NamesHold (s : State) (past : Past) : Type 0 where
   pub leads : (spot : Spot) (x : Name) → Leads s.heap spot x → WasGiven s.heap x
   pub writes : (q : ℕ) (a : Access) → IsAccess a (seat_of s q).progress → (x : Name) → Written a x → WasGiven s.heap x
   pub loaded : (p g : ℕ) (x : Name) → past.loaded p g x → WasGiven s.heap x
-  pub stands : (x : Name) → WasGiven s.heap x → Stands s.heap x ⊎ past.destroyed x
+  pub stands : (x : Name) → WasGiven s.heap x → IsInHeap s.heap x ⊎ past.destroyed x
 
 module _ (old new : State) (past : Past) (entry : Entry) (c : NamesHold old past) (h : JobsHold old past)
-    (go : JobsGo old new entry.step entry.reply) (took : Takes old entry.step entry.reply new) where
+    (go : JobsGo old new entry.step entry.reply) (took : TakesStep old entry.step entry.reply new) where
   abbrev aside : State
   aside = with_places new old.places old.seen old.ahead old.room
 
@@ -48,7 +48,7 @@ module _ (old new : State) (past : Past) (entry : Entry) (c : NamesHold old past
   -- turns go up only by a value that comes in
   abbrev Rises : Heap → Type 0
   Rises heap =
-      ((x : Name) → IsGiven heap x → IsGiven old.heap x ⊎ Stands heap x) × (heap.start_turn ≡ old.heap.start_turn)
+      ((x : Name) → IsGiven heap x → IsGiven old.heap x ⊎ IsInHeap heap x) × (heap.start_turn ≡ old.heap.start_turn)
 
   rises : HeapGoes old aside entry.step entry.reply → Rises new.heap
   rises (inl same) = subst Rises (sym same) (λ x given. inl given, refl)
@@ -99,7 +99,7 @@ module _ (old new : State) (past : Past) (entry : Entry) (c : NamesHold old past
   loaded_later p g x (kept, inl was) = still x (c.loaded p g x was)
   loaded_later p g x (kept, inr meets) = met p g x meets
 
-  stands_later : (x : Name) → WasGiven new.heap x → Stands new.heap x ⊎ next.destroyed x
+  stands_later : (x : Name) → WasGiven new.heap x → IsInHeap new.heap x ⊎ next.destroyed x
   stands_later x given = elim ((rises goes).0 x given.0) [
     | inr stands ↦ inl stands
     | inl was ↦ elim (c.stands x (was, subst (λ (k : ℕ). k ≤ x.turn) (rises goes).1 given.1)) [
@@ -133,7 +133,7 @@ names_along old new (entry ∷ log) past linked h c (mid, took, run) =
 pub fresh_names : (s : State) → IsFresh s → NamesHold s no_past
 fresh_names s fresh = record {
   leads = leads;
-  writes = λ q a is x written. absurd (subst (λ (seat : Seat). IsAccess a seat.progress) (fresh.free q) is);
+  writes = λ q a is x written. absurd (subst (λ (seat : WorldSeat). IsAccess a seat.progress) (fresh.free q) is);
   loaded = λ p g x none. absurd none;
   stands = λ x given. absurd (none_given x given);
 }

@@ -6,11 +6,11 @@ use Rattle.epoch_laws.specs.declared.step.Entry.{Entry}
 use Rattle.epoch_laws.specs.declared.step.Step.{Step}
 use Rattle.epoch_reach.specs.Given.{GivesName, given_after, GivesNewFrom, GivesNoNameTwice}
 use Rattle.epoch_heap.specs.Heap.{Heap}
-use Rattle.epoch_laws.specs.Run.{State, with_places, Moves, Takes, Runs}
+use Rattle.epoch_laws.specs.Run.{State, with_places, Moves, TakesStep, Runs}
 use Rattle.epoch_reach.proofs.HeapSteps.{MakesAccess, HeapGoes, heap_goes, access_goes}
 use Rattle.epoch_reach.proofs.TurnsGiven.{IsGiven, StaysGiven, given_same, given_job, touches_given, GivesNew, place_gives}
 
-module _ (old new : State) (entry : Entry) (took : Takes old entry.step entry.reply new) where
+module _ (old new : State) (entry : Entry) (took : TakesStep old entry.step entry.reply new) where
   -- the state after the step, but for the places
   abbrev aside : State
   aside = with_places new old.places old.seen old.ahead old.room

@@ -11,7 +11,7 @@ use Rattle.epoch_heap.specs.declared.access.Access.{Access}
 use Rattle.epoch_heap.specs.declared.access.Access.TheVariants.{Place, Read, Leave, Write, Take, Point}
 use Rattle.epoch_heap.specs.declared.heap.Content.{Content}
 use Rattle.epoch_heap.proofs.PointersWritten.{kept_or_written}
-use Rattle.epoch_heap.specs.Heap.{Cell, Heap, cell_at, field_of, pointer_at, without_cell, after_job, Touched, raised, read_by, left_by, written_by, taken_by, at_name, Places, ChangesAt, Touches}
+use Rattle.epoch_heap.specs.Heap.{Cell, Heap, cell_at, field_of, pointer_at, without_cell, heap_after_job, Touched, raised, read_by, left_by, written_by, taken_by, at_name, Places, ChangesAt, Touches}
 use Rattle.epoch_heap.proofs.FoundCells.{found_cell}
 use Rattle.epoch_reach.proofs.PointerSteps.{Fewer, fewer_same, fewer_written, fewer_kept, none_lead, nulls_lead, pointer_other}
 
@@ -31,7 +31,7 @@ fewer_without h n Destroyed =
 fewer_without h n HeldElsewhere = fewer_same h h refl
 fewer_without h n Gone = fewer_same h h refl
 
-pub fewer_job : (h : Heap) (removes : Option Name) → Fewer h (after_job h removes)
+pub fewer_job : (h : Heap) (removes : Option Name) → Fewer h (heap_after_job h removes)
 fewer_job h None = fewer_same h h refl
 fewer_job h (Some n) = fewer_without h n (removal_of (cell_at h n))
 

@@ -19,7 +19,7 @@ use Rattle.epoch_heap.specs.declared.access.Update.TheVariants.{Tag, To, Stop}
 use Rattle.epoch_heap.specs.declared.heap.Content.{Content}
 use Rattle.epoch_heap.specs.Heap.{Cell, Heap, cell_at, field_in, pointer_at, with_field, with_field_in, with_pointer, updated_by, Touched, touched, Changes, ChangesAt, Touches, guard_of, has_place, knows_names, knows_spot, is_known, was_given, turn_given}
 use Rattle.epoch_reach.specs.Reach.{Leads}
-use Rattle.epoch_laws.specs.Run.{Seat, is_out, under_guard, access_refusal, call_refusal}
+use Rattle.epoch_laws.specs.Run.{WorldSeat, is_out, under_guard, access_refusal, call_refusal}
 use Rattle.epoch_laws.proofs.SeatLemmas.{guard_given}
 use Rattle.epoch_heap.proofs.FoundCells.{found_cell}
 use Rattle.epoch_reach.proofs.PointerSteps.{set_or_kept}
@@ -172,7 +172,7 @@ inner true f o e = e
 inner false f o e = absurd (cc)
 
 -- what a call that isn't refused may write was given
-pub written_known : (a : Access) (seat : Seat) (tickets : ℕ) (h : Heap) (x : Name)
+pub written_known : (a : Access) (seat : WorldSeat) (tickets : ℕ) (h : Heap) (x : Name)
     → call_refusal (AccessCall a) seat tickets h ≡ None → Written a x → WasGiven h x
 written_known a seat tickets h x ok written =
     let own = under_given (guard_of a) seat.guards (access_refusal a seat.readings h) ok in

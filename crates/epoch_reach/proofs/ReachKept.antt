@@ -11,9 +11,9 @@ use Rattle.epoch_laws.specs.declared.step.Progress.{Progress}
 use Rattle.epoch_laws.specs.declared.step.Progress.TheVariants.{Driven, Accesses}
 use Rattle.epoch_heap.specs.declared.access.Spot.{Spot}
 use Rattle.epoch_heap.specs.declared.access.Spot.TheVariants.{Root, Field}
-use Rattle.epoch_laws.specs.Grace.{Stands, KeepsGrace}
+use Rattle.epoch_laws.specs.Grace.{IsReplyAt, KeepsGrace}
 use Rattle.epoch_heap.specs.Heap.{guard_of}
-use Rattle.epoch_laws.specs.Run.{Seat, State, seat_of, word_of, is_out}
+use Rattle.epoch_laws.specs.Run.{WorldSeat, State, seat_of, position_word, is_out}
 use Rattle.epoch_reach.specs.Reach.{Leads, IsReachable, from_root, from_field, Past, LetsGo, IsLoadedFrom, Meets, past_after, LeavesRightly, KeepsLoaded}
 use Rattle.epoch_laws.proofs.SeatLinks.{AllLinked, follows_at}
 use Rattle.epoch_laws.proofs.Log.{IsPublish, IsWithdrawal, PinnedSince, stands_keep, stands_new, pinned_push, pinned_keep, pinned_new, pinned_within, length_push, grace_refuses}
@@ -29,7 +29,7 @@ GivesUp g (Driven (Pause (Some other))) = other ≡ g
 GivesUp g _ = ⊥
 
 -- the guard is out, and is so still when the call under way ends
-abbrev pub IsOut : ℕ → Seat → Type 0
+abbrev pub IsOut : ℕ → WorldSeat → Type 0
 IsOut g seat = (is_out g seat.guards ≡ true) × (¬ (GivesUp g seat.progress))
 
 -- the guard of a call on cells and pointers that is under way is out
@@ -37,7 +37,7 @@ abbrev pub GuardsAccess : Progress → List ℕ → Type 0
 GuardsAccess (Accesses a k found) guards = (g : ℕ) → guard_of a ≡ Some g → is_out g guards ≡ true
 GuardsAccess _ guards = Unit {0}
 
-abbrev pub Guarded : Seat → Type 0
+abbrev pub Guarded : WorldSeat → Type 0
 Guarded seat = GuardsAccess seat.progress seat.guards
 
 pub some_counted : (g : ℕ) (guards : List ℕ) (n : ℕ) → n ≡ length guards → is_out g guards ≡ true → (n == 0) ≡ false
@@ -54,17 +54,17 @@ some_counted g (first ∷ guards) n counted out = more (length guards) n counted
 
 pub record ReachHolds (s : State) (log : List Entry) (past : Past) : Type 1 where
   pub recent : ℕ → Name → Type 0  -- the names that were in reach at some moment since a participant published last
-  pub now : (p : ℕ) → is_pinned (word_of s p) ≡ true → (at : ℕ) × PinnedSince log p at
+  pub now : (p : ℕ) → is_pinned (position_word s p) ≡ true → (at : ℕ) × PinnedSince log p at
   pub guarded : (p : ℕ) → Guarded (seat_of s p)
   pub recent_reach : (p : ℕ) (x : Name) → IsReachable s.heap x → recent p x
   pub recent_was : (p : ℕ) (x : Name) → recent p x → past.reached x
   pub recent_field : (p : ℕ) (y : Name) (f : ℕ) (x : Name)
       → recent p y → Leads s.heap (Field y f) x → ¬ (¬ (recent p x))
   pub loaded : (p g : ℕ) (x : Name) → past.loaded p g x
-      → (is_pinned (word_of s p) ≡ true) × IsOut g (seat_of s p) × (¬ (¬ (recent p x)))
+      → (is_pinned (position_word s p) ≡ true) × IsOut g (seat_of s p) × (¬ (¬ (recent p x)))
   pub removed : (t : ℕ) (x : Name) → past.removes t x
-      → past.left x × ((i : ℕ) × Stands log i (Deferred t) × ((p at : ℕ) → PinnedSince log p at → recent p x → at ≤ i))
-  pub gone : (x : Name) → past.destroyed x → past.left x × ((p : ℕ) → is_pinned (word_of s p) ≡ true → ¬ (recent p x))
+      → past.left x × ((i : ℕ) × IsReplyAt log i (Deferred t) × ((p at : ℕ) → PinnedSince log p at → recent p x → at ≤ i))
+  pub gone : (x : Name) → past.destroyed x → past.left x × ((p : ℕ) → is_pinned (position_word s p) ≡ true → ¬ (recent p x))
 
 -- what is loaded isn't destroyed
 pub holds_apart : (s : State) (log : List Entry) (past : Past) → ReachHolds s log past → KeepsLoaded past
@@ -73,10 +73,10 @@ holds_apart s log past k p g x loaded destroyed =
 
 -- What a step must show: of each participant's word and guards, and of the fields.
 pub record KeepsReach (past : Past) (old new : State) (x : Entry) : Type 0 where
-  pub pinned : (q : ℕ) → is_pinned (word_of new q) ≡ true
-      → IsPublish x.reply q ⊎ ((is_pinned (word_of old q) ≡ true) × (¬ (IsWithdrawal x.reply q)))
-  pub holding : (q g : ℕ) → is_pinned (word_of old q) ≡ true → IsOut g (seat_of old q) → ¬ (LetsGo x q g)
-      → (is_pinned (word_of new q) ≡ true) × IsOut g (seat_of new q) × (¬ (IsPublish x.reply q))
+  pub pinned : (q : ℕ) → is_pinned (position_word new q) ≡ true
+      → IsPublish x.reply q ⊎ ((is_pinned (position_word old q) ≡ true) × (¬ (IsWithdrawal x.reply q)))
+  pub holding : (q g : ℕ) → is_pinned (position_word old q) ≡ true → IsOut g (seat_of old q) → ¬ (LetsGo x q g)
+      → (is_pinned (position_word new q) ≡ true) × IsOut g (seat_of new q) × (¬ (IsPublish x.reply q))
   pub guarded : (q : ℕ) → Guarded (seat_of old q) → Guarded (seat_of new q)
   pub fields : (y : Name) (f : ℕ) (z : Name) → past.reached y → Leads new.heap (Field y f) z
       → ¬ (¬ (Leads old.heap (Field y f) z ⊎ IsReachable new.heap y))
@@ -103,14 +103,14 @@ module _ (old new : State) (log : List Entry) (x : Entry) (past : Past) (k : Rea
     | inr r ↦ never (inr (from_field y f z r leads))
   ])
 
-  now_after : (p : ℕ) → is_pinned (word_of new p) ≡ true → (at : ℕ) × PinnedSince (log ++ x ∷ []) p at
+  now_after : (p : ℕ) → is_pinned (position_word new p) ≡ true → (at : ℕ) × PinnedSince (log ++ x ∷ []) p at
   now_after p pin = elim (step.pinned p pin) [
     | inl publish ↦ (length log, pinned_new log x p publish)
     | inr was ↦ let n = k.now p was.0 in (n.0, pinned_keep log x p n.0 n.1 was.1)
   ]
 
   abbrev IsSafe : ℕ → ℕ → Name → Type 0
-  IsSafe p g y = (is_pinned (word_of new p) ≡ true) × IsOut g (seat_of new p) × (¬ (¬ (Recent p y)))
+  IsSafe p g y = (is_pinned (position_word new p) ≡ true) × IsOut g (seat_of new p) × (¬ (¬ (Recent p y)))
 
   met : (p g : ℕ) (y : Name) → ¬ (LetsGo x p g) → Meets (past.loaded p g) old x new p g y → IsSafe p g y
   met p g y kept meets = (hold.0, hold.1, at_spot meets.spot meets.within meets.named)
@@ -125,12 +125,12 @@ module _ (old new : State) (log : List Entry) (x : Entry) (past : Past) (k : Rea
       idle : (seat_of old p).machine.stage ≡ Resting
       idle = follows_at old.sizes (seat_of old p) (linked.seats p) _ meets.points.progress
 
-      pin : is_pinned (word_of old p) ≡ true
+      pin : is_pinned (position_word old p) ≡ true
       pin = (holds.seats p).agrees ∙ ap (publishes_at (seat_of old p).machine) idle
           ∙ ap not
           (some_counted g (seat_of old p).guards (seat_of old p).machine.guards (linked.seats p).counted counted)
 
-      hold : (is_pinned (word_of new p) ≡ true) × IsOut g (seat_of new p) × (¬ (IsPublish x.reply p))
+      hold : (is_pinned (position_word new p) ≡ true) × IsOut g (seat_of new p) × (¬ (IsPublish x.reply p))
       hold = step.holding p g pin out kept
 
       at_spot : (spot : Spot) → IsLoadedFrom (past.loaded p g) spot → Leads old.heap spot y ⊎ Leads new.heap spot y
@@ -150,7 +150,7 @@ module _ (old new : State) (log : List Entry) (x : Entry) (past : Past) (k : Rea
   loaded_after p g y (kept, inr meets) = met p g y kept meets
 
   removed_after : (t : ℕ) (y : Name) → next.removes t y
-      → next.left y × ((i : ℕ) × Stands (log ++ x ∷ []) i (Deferred t)
+      → next.left y × ((i : ℕ) × IsReplyAt (log ++ x ∷ []) i (Deferred t)
       × ((p at : ℕ) → PinnedSince (log ++ x ∷ []) p at → Recent p y → at ≤ i))
   removed_after t y (inr defers) = (
     inr (inl (t, defers)),
@@ -163,7 +163,7 @@ module _ (old new : State) (log : List Entry) (x : Entry) (past : Past) (k : Rea
   removed_after t y (inl was) = (inl r.0, (r.1.0, stands_keep log x r.1.0 _ r.1.1, bound))
     where
       r : past.left y
-          × ((i : ℕ) × Stands log i (Deferred t) × ((p at : ℕ) → PinnedSince log p at → k.recent p y → at ≤ i))
+          × ((i : ℕ) × IsReplyAt log i (Deferred t) × ((p at : ℕ) → PinnedSince log p at → k.recent p y → at ≤ i))
       r = k.removed t y was
 
       bound : (p at : ℕ) → PinnedSince (log ++ x ∷ []) p at → Recent p y → at ≤ r.1.0
@@ -174,23 +174,23 @@ module _ (old new : State) (log : List Entry) (x : Entry) (past : Past) (k : Rea
       ]
 
   gone_after : (y : Name) → next.destroyed y
-      → next.left y × ((p : ℕ) → is_pinned (word_of new p) ≡ true → ¬ (Recent p y))
+      → next.left y × ((p : ℕ) → is_pinned (position_word new p) ≡ true → ¬ (Recent p y))
   gone_after y (inl was) = (inl g.0, apart)
     where
-      g : past.left y × ((p : ℕ) → is_pinned (word_of old p) ≡ true → ¬ (k.recent p y))
+      g : past.left y × ((p : ℕ) → is_pinned (position_word old p) ≡ true → ¬ (k.recent p y))
       g = k.gone y was
 
-      apart : (p : ℕ) → is_pinned (word_of new p) ≡ true → ¬ (Recent p y)
+      apart : (p : ℕ) → is_pinned (position_word new p) ≡ true → ¬ (Recent p y)
       apart p pin (inr reach) = leaves.out y (inl g.0) reach
       apart p pin (inl recent) =
           elim (step.pinned p pin) [ inl publish ↦ recent.0 publish | inr was ↦ g.1 p was.0 recent.1 ]
   gone_after y (inr (inl (t, removes, reply))) = (inl r.0, apart)
     where
       r : past.left y
-          × ((i : ℕ) × Stands log i (Deferred t) × ((p at : ℕ) → PinnedSince log p at → k.recent p y → at ≤ i))
+          × ((i : ℕ) × IsReplyAt log i (Deferred t) × ((p at : ℕ) → PinnedSince log p at → k.recent p y → at ≤ i))
       r = k.removed t y removes
 
-      apart : (p : ℕ) → is_pinned (word_of new p) ≡ true → ¬ (Recent p y)
+      apart : (p : ℕ) → is_pinned (position_word new p) ≡ true → ¬ (Recent p y)
       apart p pin (inr reach) = leaves.out y (inl r.0) reach
       apart p pin (inl recent) = elim (step.pinned p pin) [
         | inl publish ↦ recent.0 publish

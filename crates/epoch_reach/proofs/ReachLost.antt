@@ -26,14 +26,14 @@ use Rattle.epoch_laws.specs.declared.step.Word.{Word}
 use Rattle.epoch_laws.specs.declared.step.Word.TheVariants.{Free, Unpinned, Pinned}
 use Rattle.epoch_heap.specs.Heap.{Cell, Heap, null, nulls, answers}
 use Rattle.epoch_reach.specs.Reach.{LetsGo, TakesOut, past_of, LosesLoaded}
-use Rattle.epoch_laws.specs.Collections.{reach, TakesAhead}
-use Rattle.epoch_laws.specs.Run.{Seat, State, Open, seat_of, free_seat, lowest, lowest_from, Runs, IsFresh}
+use Rattle.epoch_laws.specs.Collections.{outlook, TakesAhead}
+use Rattle.epoch_laws.specs.Run.{WorldSeat, State, Open, seat_of, free_seat, lowest, lowest_from, Runs, IsFresh}
 
 abbrev sizes : Sizes
 sizes = record { positions = 1; bag_jobs = 64; collect_bags = 8 }
 
 -- the world has one participant, one cell without fields, and one root
-abbrev world : Seat → ℕ → Heap → State
+abbrev world : WorldSeat → ℕ → Heap → State
 world seat epoch heap = record {
   sizes = sizes;
   epoch = epoch;
@@ -64,15 +64,15 @@ machine stage guards pins = record {
   hand = [];
 }
 
-abbrev seat : Word → Machine Deferral → Progress → List ℕ → Seat
+abbrev seat : Word → Machine Deferral → Progress → List ℕ → WorldSeat
 seat word m progress guards =
     record { word = word; machine = m; progress = progress; guards = guards; paused = None; readings = [] }
 
 -- the seat while it pins, and when it holds its guard
-abbrev pinning : Word → Stage → ℕ → Seat
+abbrev pinning : Word → Stage → ℕ → WorldSeat
 pinning word stage pins = seat word (machine stage 0 pins) (Driven Pin) []
 
-abbrev pinned : Progress → Seat
+abbrev pinned : Progress → WorldSeat
 pinned progress = seat (Pinned 0) (machine Resting 1 1) progress (0 ∷ [])
 
 abbrev name : Name
@@ -140,7 +140,7 @@ abbrev first_guard : ℕ → State
 first_guard g = world (seat (Pinned 0) (machine Resting 1 1) Idle (g ∷ [])) 1 none_placed
 
 -- the collection finds no bag, and none was ahead of it
-pub none_ahead : TakesAhead (machine End 0 1) (reach [] 0) (reach [] 0)
+pub none_ahead : TakesAhead (machine End 0 1) (outlook [] 0) (outlook [] 0)
 none_ahead = record { counted = λ on. refl; none = λ over same. refl }
 
 -- a run of it

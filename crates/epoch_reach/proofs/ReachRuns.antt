@@ -5,7 +5,7 @@ use Rattle.epoch_laws.specs.declared.step.Entry.{Entry}
 use Rattle.epoch_heap.specs.declared.access.Ptr.{Ptr}
 use Rattle.epoch_heap.specs.Heap.{null}
 use Rattle.epoch_reach.specs.Reach.{IsReachable, from_root, from_field, Past, past_after, no_past, past_from, past_of, LeavesFrom, LeavesOnce, KeepsLoaded}
-use Rattle.epoch_laws.specs.Run.{Seat, State, Runs, IsFresh}
+use Rattle.epoch_laws.specs.Run.{WorldSeat, State, Runs, IsFresh}
 use Rattle.epoch_laws.proofs.SeatLinks.{AllLinked}
 use Rattle.epoch_laws.proofs.Linked.{step_linked, fresh_linked}
 use Rattle.epoch_laws.proofs.SeatsFine.{is_pinned}
@@ -33,7 +33,7 @@ none_reached s fresh x (from_field y f _ r leads) = none_reached s fresh y r
 pub fresh_reach : (s : State) → IsFresh s → ReachHolds s [] no_past
 fresh_reach s fresh = record {
   recent = λ p x. ⊥;
-  now = λ p pin. absurd (cc (pin, ap (λ (seat : Seat). is_pinned seat.word) (fresh.free p)));
+  now = λ p pin. absurd (cc (pin, ap (λ (seat : WorldSeat). is_pinned seat.word) (fresh.free p)));
   guarded = λ p. subst Guarded (sym (fresh.free p)) tt;
   recent_reach = λ p x reach. none_reached s fresh x reach;
   recent_was = λ p x r. r;

@@ -25,7 +25,7 @@ use Rattle.epoch_laws.specs.declared.step.Word.{Word}
 use Rattle.epoch_laws.specs.declared.step.Word.TheVariants.{Free, Unpinned, Pinned}
 use Rattle.epoch_heap.specs.Heap.{Heap, pointer_at, Touched, Touches}
 use Rattle.epoch_reach.specs.Reach.{Leads, IsReachable, Points, Past, LetsGo, LeavesRightly}
-use Rattle.epoch_laws.specs.Run.{Seat, State, Ending, Open, Emptying, Over, seat_of, word_of, with_seat, with_places, with_machine, with_word, free_seat, refusal, begun_seat, Begins, accessed_seat, ended_seat, Drives, Goes, EndGoes, Moves}
+use Rattle.epoch_laws.specs.Run.{WorldSeat, State, Ending, Open, Emptying, Over, seat_of, position_word, with_seat, with_places, with_machine, with_word, free_seat, refusal, begun_seat, BeginsCall, accessed_seat, ended_seat, DrivesCall, DoesGo, EndGoes, Moves}
 use Rattle.epoch_laws.proofs.SeatLemmas.{seat_written, seat_other, seat_there, same_or_other, begin_given}
 use Rattle.epoch_laws.proofs.SeatLinks.{AllLinked, follows_at, IsDriven}
 use Rattle.epoch_laws.proofs.Log.{IsPublish, IsWithdrawal}
@@ -91,7 +91,7 @@ silent_registered r p e = silent_by r (Registered p) e (λ q h. cc) (λ q h. cc)
 -- ONE STEP, BY WHAT IT DOES TO THE SEATS
 
 -- what p has to show of a guard that is out
-abbrev StillOut : Entry → ℕ → ℕ → Seat → Type 0
+abbrev StillOut : Entry → ℕ → ℕ → WorldSeat → Type 0
 StillOut x p g seat = (is_pinned seat.word ≡ true) × IsOut g seat × (¬ (IsPublish x.reply p))
 
 module _ (past : Past) (old new : State) (x : Entry) where
@@ -117,40 +117,40 @@ module _ (past : Past) (old new : State) (x : Entry) where
   unchanged : (last : State) → aside ≡ last → last.sizes ≡ old.sizes → last.seats ≡ old.seats → IsSilent x.reply
       → Fields → Kept
   unchanged last e sizes seats quiet fields = record {
-    pinned = λ q pin. inr (ap (λ (seat : Seat). is_pinned seat.word) (sym (at q)) ∙ pin, quiet.withdrawn q);
+    pinned = λ q pin. inr (ap (λ (seat : WorldSeat). is_pinned seat.word) (sym (at q)) ∙ pin, quiet.withdrawn q);
     holding = λ q g pin out kept.
-        subst (λ (seat : Seat). StillOut x q g seat) (sym (at q)) (pin, out, quiet.published q);
+        subst (λ (seat : WorldSeat). StillOut x q g seat) (sym (at q)) (pin, out, quiet.published q);
     guarded = λ q guarded. subst Guarded (sym (at q)) guarded;
     fields = fields;
   }
     where
       at : (q : ℕ) → seat_of new q ≡ seat_of old q
       at q = ap (λ (s : State). seat_of s q) e
-          ∙ ap (λ (seats : List Seat). slice_index_or seats q (free_seat last.sizes)) seats
+          ∙ ap (λ (seats : List WorldSeat). slice_index_or seats q (free_seat last.sizes)) seats
           ∙ ap (λ (z : Sizes). slice_index_or old.seats q (free_seat z)) sizes
 
   -- the seat of p changes alone
-  writes : (p : ℕ) (after : Seat) (last : State) → p < length old.seats → aside ≡ last → last.sizes ≡ old.sizes
+  writes : (p : ℕ) (after : WorldSeat) (last : State) → p < length old.seats → aside ≡ last → last.sizes ≡ old.sizes
       → last.seats ≡ slice_set old.seats p after
       → ((q : ℕ) → q ≢ p → (¬ (IsPublish x.reply q)) × (¬ (IsWithdrawal x.reply q)))
       → (is_pinned after.word ≡ true
-      → IsPublish x.reply p ⊎ ((is_pinned (word_of old p) ≡ true) × (¬ (IsWithdrawal x.reply p))))
-      → ((g : ℕ) → is_pinned (word_of old p) ≡ true → IsOut g (seat_of old p) → ¬ (LetsGo x p g) → StillOut x p g after)
+      → IsPublish x.reply p ⊎ ((is_pinned (position_word old p) ≡ true) × (¬ (IsWithdrawal x.reply p))))
+      → ((g : ℕ) → is_pinned (position_word old p) ≡ true → IsOut g (seat_of old p) → ¬ (LetsGo x p g) → StillOut x p g after)
       → (Guarded (seat_of old p) → Guarded after)
       → Fields → Kept
   writes p after last there e sizes seats others own holding guarded fields = record {
     pinned = λ q. elim (same_or_other q p) [
-      | inl same ↦ subst (λ (k : ℕ). is_pinned (word_of new k) ≡ true
-          → IsPublish x.reply k ⊎ ((is_pinned (word_of old k) ≡ true) × (¬ (IsWithdrawal x.reply k)))) (sym same)
-          (λ pin. own (ap (λ (seat : Seat). is_pinned seat.word) (sym written) ∙ pin))
-      | inr ne ↦ λ pin. inr (ap (λ (seat : Seat). is_pinned seat.word) (sym (other q ne)) ∙ pin, (others q ne).1)
+      | inl same ↦ subst (λ (k : ℕ). is_pinned (position_word new k) ≡ true
+          → IsPublish x.reply k ⊎ ((is_pinned (position_word old k) ≡ true) × (¬ (IsWithdrawal x.reply k)))) (sym same)
+          (λ pin. own (ap (λ (seat : WorldSeat). is_pinned seat.word) (sym written) ∙ pin))
+      | inr ne ↦ λ pin. inr (ap (λ (seat : WorldSeat). is_pinned seat.word) (sym (other q ne)) ∙ pin, (others q ne).1)
     ];
     holding = λ q g. elim (same_or_other q p) [
-      | inl same ↦ subst (λ (k : ℕ). is_pinned (word_of old k) ≡ true → IsOut g (seat_of old k) → ¬ (LetsGo x k g)
+      | inl same ↦ subst (λ (k : ℕ). is_pinned (position_word old k) ≡ true → IsOut g (seat_of old k) → ¬ (LetsGo x k g)
           → StillOut x k g (seat_of new k)) (sym same)
-          (λ pin out kept. subst (λ (seat : Seat). StillOut x p g seat) (sym written) (holding g pin out kept))
+          (λ pin out kept. subst (λ (seat : WorldSeat). StillOut x p g seat) (sym written) (holding g pin out kept))
       | inr ne ↦ λ pin out kept.
-          subst (λ (seat : Seat). StillOut x q g seat) (sym (other q ne)) (pin, out, (others q ne).0)
+          subst (λ (seat : WorldSeat). StillOut x q g seat) (sym (other q ne)) (pin, out, (others q ne).0)
     ];
     guarded = λ q. elim (same_or_other q p) [
       | inl same ↦ subst (λ (k : ℕ). Guarded (seat_of old k) → Guarded (seat_of new k)) (sym same)
@@ -162,7 +162,7 @@ module _ (past : Past) (old new : State) (x : Entry) where
     where
       looked_up : (q : ℕ) → seat_of new q ≡ seat_of (with_seat old p after) q
       looked_up q = ap (λ (s : State). seat_of s q) e
-          ∙ ap (λ (all : List Seat). slice_index_or all q (free_seat last.sizes)) seats
+          ∙ ap (λ (all : List WorldSeat). slice_index_or all q (free_seat last.sizes)) seats
           ∙ ap (λ (z : Sizes). slice_index_or (slice_set old.seats p after) q (free_seat z)) sizes
 
       written : seat_of new p ≡ after
@@ -172,8 +172,8 @@ module _ (past : Past) (old new : State) (x : Entry) where
       other q ne = looked_up q ∙ seat_other old p q after ne
 
   -- p goes on under the same word
-  goes_on : (p : ℕ) (after : Seat) (last : State) → word_of old p ≢ Free → aside ≡ last → last.sizes ≡ old.sizes
-      → last.seats ≡ slice_set old.seats p after → after.word ≡ word_of old p → IsSilent x.reply
+  goes_on : (p : ℕ) (after : WorldSeat) (last : State) → position_word old p ≢ Free → aside ≡ last → last.sizes ≡ old.sizes
+      → last.seats ≡ slice_set old.seats p after → after.word ≡ position_word old p → IsSilent x.reply
       → ((g : ℕ) → IsOut g (seat_of old p) → ¬ (LetsGo x p g) → IsOut g after)
       → (Guarded (seat_of old p) → Guarded after)
       → Fields → Kept
@@ -190,8 +190,8 @@ module _ (past : Past) (old new : State) (x : Entry) where
 -- A STEP GO
 
 module _ (past : Past) (old new : State) (log : List Entry) (x : Entry) (holds : Holds old log) (linked : AllLinked old)
-    (leaves : LeavesRightly past old x new) (p : ℕ) (on : x.step ≡ Go p) (taken : word_of old p ≢ Free) where
-  abbrev seat : Seat
+    (leaves : LeavesRightly past old x new) (p : ℕ) (on : x.step ≡ Go p) (taken : position_word old p ≢ Free) where
+  abbrev seat : WorldSeat
   seat = seat_of old p
 
   abbrev m : Machine Deferral
@@ -217,17 +217,17 @@ module _ (past : Past) (old new : State) (log : List Entry) (x : Entry) (holds :
       (heap_stays past old new x last e heap)
 
   -- its word changes, and it has nothing loaded, or lets go of it
-  own_word : (w : Word) (n : Seat) → n.word ≡ w
+  own_word : (w : Word) (n : WorldSeat) → n.word ≡ w
       → ((q : ℕ) → q ≢ p → (¬ (IsPublish x.reply q)) × (¬ (IsWithdrawal x.reply q)))
       → (is_pinned w ≡ true → IsPublish x.reply p)
-      → ((g : ℕ) → is_pinned (word_of old p) ≡ true → IsOut g seat → ¬ (LetsGo x p g) → ⊥)
+      → ((g : ℕ) → is_pinned (position_word old p) ≡ true → IsOut g seat → ¬ (LetsGo x p g) → ⊥)
       → (Guarded seat → Guarded n) → aside past old new x ≡ with_seat old p n → Goal
   own_word w n word others own none guarded e = writes past old new x p n _ (seat_there old p taken) e refl refl others
       (λ pin. inl (own (ap is_pinned (sym word) ∙ pin))) (λ g pin out kept. absurd (none g pin out kept)) guarded
       (heap_stays past old new x _ e refl)
 
   drives : (c : Call) → seat.progress ≡ Driven c → (s : Stage) → m.stage ≡ s → IsFineAt s
-      → Drives old p seat c s (ask_at s) x.reply (aside past old new x) → Goal
+      → DrivesCall old p seat c s (ask_at s) x.reply (aside past old new x) → Goal
   drives c drive Resting at fine did =
       let driven : IsDriven c m seat.guards = follows_at old.sizes seat (linked.seats p) (Driven c) drive in
       absurd (cc (driven.under_way, at))
@@ -307,7 +307,7 @@ module _ (past : Past) (old new : State) (log : List Entry) (x : Entry) (holds :
   ]
 
   goes : (progress : Progress)
-      → seat.progress ≡ progress → Goes old p seat progress x.reply (aside past old new x) → Goal
+      → seat.progress ≡ progress → DoesGo old p seat progress x.reply (aside past old new x) → Goal
   goes Idle now did = stays past old new x (silent x.reply (quiet_refused x.reply _ did.0)) did.1
   goes (Driven c) now did = drives c now m.stage refl (holds.seats p) did
   goes (CallsNow removes) now did =
@@ -335,7 +335,7 @@ module _ (past : Past) (old new : State) (log : List Entry) (x : Entry) (holds :
   Shown = KeepsReach past old new x
 
   begins : (p : ℕ) (c : Call) → x.step ≡ Begin p c → (f : Option Fault)
-      → refusal c (seat_of old p) old.tickets old.heap ≡ f → Begins old p c f x.reply (aside past old new x) → Shown
+      → refusal c (seat_of old p) old.tickets old.heap ≡ f → BeginsCall old p c f x.reply (aside past old new x) → Shown
   begins p c on (Some f) e did = stays past old new x (silent x.reply (quiet_refused x.reply f did.0)) did.1
   begins p c on None e did =
       let given = begin_given c (seat_of old p) old.tickets old.heap e in

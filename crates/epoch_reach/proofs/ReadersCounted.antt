@@ -19,7 +19,7 @@ use Rattle.epoch_heap.specs.declared.access.Spot.{Spot}
 use Rattle.epoch_heap.specs.declared.access.Spot.TheVariants.{Root, Field}
 use Rattle.epoch_heap.specs.declared.heap.Content.{Content}
 use Rattle.epoch_heap.proofs.PointersWritten.{kept_or_written}
-use Rattle.epoch_heap.specs.Heap.{Cell, Heap, cell_at, with_cell_at, with_field, with_field_in, with_pointer, is_name, without_cell, after_job, Touched, raised, read_by, left_by, written_by, taken_by, at_name, pointer_at, Places, ChangesAt, Touches}
+use Rattle.epoch_heap.specs.Heap.{Cell, Heap, cell_at, with_cell_at, with_field, with_field_in, with_pointer, is_name, without_cell, heap_after_job, Touched, raised, read_by, left_by, written_by, taken_by, at_name, pointer_at, Places, ChangesAt, Touches}
 use Rattle.epoch_heap.proofs.FoundCells.{found_cell}
 use Rattle.epoch_laws.specs.Run.{reads, with_reading, without_reading, readings_after}
 use Rattle.epoch_laws.specs.Readings.{times_read, readers_in}
@@ -234,7 +234,7 @@ unread_count h n cell after e none none_after is =
 
 -- JOBS
 
-pub job_counts : (h : Heap) (removes : Option Name) → SameReaders h (after_job h removes)
+pub job_counts : (h : Heap) (removes : Option Name) → SameReaders h (heap_after_job h removes)
 job_counts h None = same_heap h h refl
 job_counts h (Some n) = at_cell (cell_at h n) refl
   where

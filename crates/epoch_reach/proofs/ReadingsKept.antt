@@ -37,7 +37,7 @@ use Rattle.epoch_laws.specs.declared.step.Step.{Step}
 use Rattle.epoch_laws.specs.declared.step.Step.TheVariants.{Register, Begin, Go, End as EndStep, EndGo}
 use Rattle.epoch_laws.specs.declared.step.Word.{Word}
 use Rattle.epoch_laws.specs.declared.step.Word.TheVariants.{Free, Unpinned, Pinned}
-use Rattle.epoch_laws.specs.Run.{Seat, State, reading_refusal, seat_of, word_of, number_of, with_seat, with_word, with_machine, with_places, free_seat, reads, refusal, call_refusal, access_refusal, under_guard, begun_seat, drives, ended_seat, with_guards, accessed_seat, progress_after, readings_after, Ending, Open, Emptying, Over, Begins, Drives, Goes, EndGoes, Moves, Takes, Runs, IsFresh}
+use Rattle.epoch_laws.specs.Run.{WorldSeat, State, reading_refusal, seat_of, position_word, word_number, with_seat, with_word, with_machine, with_places, free_seat, reads, refusal, call_refusal, access_refusal, under_guard, begun_seat, drives, ended_seat, with_guards, accessed_seat, progress_after, readings_after, Ending, Open, Emptying, Over, BeginsCall, DrivesCall, DoesGo, EndGoes, Moves, TakesStep, Runs, IsFresh}
 use Rattle.epoch_laws.proofs.SeatLemmas.{seat_written, seat_other, seat_there, same_or_other, begin_given, guard_given, IsAccepted}
 use Rattle.epoch_laws.proofs.SeatLinks.{action_of, AllLinked, IsDriven, follows_at}
 use Rattle.epoch_laws.proofs.Linked.{step_linked, fresh_linked}
@@ -57,7 +57,7 @@ kept_by old last h same seats sums = record {
   seats = λ p. subst ReadsOnce (sym (seats p)) (h.seats p);
 }
 
-kept_written : (old last : State) (p : ℕ) (after : Seat) → KeepsReadings old → p < length old.seats
+kept_written : (old last : State) (p : ℕ) (after : WorldSeat) → KeepsReadings old → p < length old.seats
     → ((q : ℕ) → seat_of last q ≡ seat_of (with_seat old p after) q)
     → ((n : Name) → readings_of n last.seats ≡ readings_of n (slice_set old.seats p after))
     → ((n : Name)
@@ -68,7 +68,7 @@ kept_written old last p after h there seats sums counts own = record {
   counted = λ n.
       let set : readings_of n (slice_set old.seats p after) + times_read n (seat_of old p).readings
       ≡ readings_of n old.seats + times_read n after.readings
-      = sum_by-set (λ (seat : Seat). times_read n seat.readings) old.seats p after (free_seat old.sizes) there in
+      = sum_by-set (λ (seat : WorldSeat). times_read n seat.readings) old.seats p after (free_seat old.sizes) there in
       omega (arith, set, sums n, counts n, h.counted n);
   seats = λ q. elim (same_or_other q p) [
     | inl same ↦ subst (λ (k : ℕ). ReadsOnce (seat_of last k)) (sym same)
@@ -81,9 +81,9 @@ kept_written old last p after h there seats sums counts own = record {
 pub reader_counted : (s : State) (p : ℕ) (n : Name) → KeepsReadings s → p < length s.seats
     → times_read n (seat_of s p).readings ≤ readers_at s.heap n
 reader_counted s p n h there =
-    let rest : Seat = record (seat_of s p) { readings = [] } in
+    let rest : WorldSeat = record (seat_of s p) { readings = [] } in
     let set : readings_of n (slice_set s.seats p rest) + times_read n (seat_of s p).readings ≡ readings_of n s.seats + 0
-    = sum_by-set (λ (seat : Seat). times_read n seat.readings) s.seats p rest (free_seat s.sizes) there in
+    = sum_by-set (λ (seat : WorldSeat). times_read n seat.readings) s.seats p rest (free_seat s.sizes) there in
     omega (arith, set, h.counted n)
 
 pub some_of : (k : ℕ) → nat_lt 0 k ≡ true → 1 ≤ k
@@ -129,8 +129,8 @@ once_after (Read g ptr) _ k found readings fits once n = once n
 once_after _ told k found readings fits once n = once n
 
 module _ (old new : State) (reply : Reply) (p : ℕ) (h : KeepsReadings old) (linked : AllLinked old)
-    (taken : word_of old p ≢ Free) where
-  abbrev seat : Seat
+    (taken : position_word old p ≢ Free) where
+  abbrev seat : WorldSeat
   seat = seat_of old p
 
   abbrev m : Machine Deferral
@@ -142,7 +142,7 @@ module _ (old new : State) (reply : Reply) (p : ℕ) (h : KeepsReadings old) (li
   there : p < length old.seats
   there = seat_there old p taken
 
-  writes : (after : Seat) (last : State) → new ≡ last
+  writes : (after : WorldSeat) (last : State) → new ≡ last
       → ((q : ℕ) → seat_of last q ≡ seat_of (with_seat old p after) q)
       → ((n : Name) → readings_of n last.seats ≡ readings_of n (slice_set old.seats p after))
       → ((n : Name)
@@ -225,7 +225,7 @@ module _ (old new : State) (reply : Reply) (p : ℕ) (h : KeepsReadings old) (li
       (record { once = λ x. omega arith; begun = tt; free = λ is. refl; frees = tt })
 
   go_at : (c : Call) → seat.progress ≡ Driven c
-      → (s : Stage) → m.stage ≡ s → Drives old p seat c s (ask_at s) reply new → KeepsReadings new
+      → (s : Stage) → m.stage ≡ s → DrivesCall old p seat c s (ask_at s) reply new → KeepsReadings new
   go_at c drive Resting at did = ends_call c did.1
   go_at c drive LoadPin at did = moves (StorePin old.epoch) tt did.1
   go_at c drive (StorePin e) at did =
@@ -233,8 +233,8 @@ module _ (old new : State) (reply : Reply) (p : ℕ) (h : KeepsReadings old) (li
   go_at c drive ReloadPin at did = moves (after_pin m) (frees_pinned m.action m) did.1
   go_at c drive LoadScan at did = moves (Scan old.epoch 0) tt did.1
   go_at c drive (Scan e k) at did =
-      moves (past_word m.sizes.positions e k (number_of (word_of old k)))
-      (frees_past m.action m.sizes.positions e k (number_of (word_of old k))) did.1
+      moves (past_word m.sizes.positions e k (word_number (position_word old k)))
+      (frees_past m.action m.sizes.positions e k (word_number (position_word old k))) did.1
   go_at c drive (Advance e) at did =
       goes_on seat.word (hears m (Advance e) Stored) taken tt _ did.1 (λ x. refl) (λ q. refl) (λ x. refl)
   go_at c drive (Take x k) at (step, jobs, queued, told, took, e) =
@@ -303,7 +303,7 @@ module _ (old new : State) (reply : Reply) (p : ℕ) (h : KeepsReadings old) (li
           frees = was.frees;
         })
 
-  go_keeps : (progress : Progress) → seat.progress ≡ progress → Goes old p seat progress reply new → KeepsReadings new
+  go_keeps : (progress : Progress) → seat.progress ≡ progress → DoesGo old p seat progress reply new → KeepsReadings new
   go_keeps Idle now did = subst KeepsReadings (sym did.1) h
   go_keeps (Driven c) now did = go_at c now m.stage refl did
   go_keeps (CallsNow removes) now did =
@@ -376,7 +376,7 @@ module _ (old new : State) (reply : Reply) (h : KeepsReadings old) (linked : All
       → ((n : Name) → readings_of n last.seats ≡ readings_of n old.seats) → KeepsReadings new
   along last e same seats sums = subst KeepsReadings (sym e) (kept_by old last h same seats sums)
 
-  registers : (p : ℕ) → p < length old.seats → word_of old p ≡ Free
+  registers : (p : ℕ) → p < length old.seats → position_word old p ≡ Free
       → new ≡ with_seat old p (record (free_seat old.sizes) { word = Unpinned }) → KeepsReadings new
   registers p there free e =
       subst KeepsReadings (sym e) (kept_written old _ p (record (free_seat old.sizes) { word = Unpinned }) h there
@@ -385,7 +385,7 @@ module _ (old new : State) (reply : Reply) (h : KeepsReadings old) (linked : All
       (record { once = λ x. omega arith; begun = tt; free = λ is. refl; frees = tt }))
 
   begins_step : (p : ℕ) (c : Call) (f : Option Fault)
-      → refusal c (seat_of old p) old.tickets old.heap ≡ f → Begins old p c f reply new
+      → refusal c (seat_of old p) old.tickets old.heap ≡ f → BeginsCall old p c f reply new
       → KeepsReadings new
   begins_step p c (Some f) at did = stays did.1
   begins_step p c None at did =
@@ -415,7 +415,7 @@ module _ (old new : State) (reply : Reply) (h : KeepsReadings old) (linked : All
 -- WHOLE RUNS
 
 pub step_keeps : (old new : State) (step : Step) (reply : Reply)
-    → KeepsReadings old → AllLinked old → Takes old step reply new → KeepsReadings new
+    → KeepsReadings old → AllLinked old → TakesStep old step reply new → KeepsReadings new
 step_keeps old new step reply h linked took =
     let aside : State = with_places new old.places old.seen old.ahead old.room in
     kept_by aside new (readings_move old aside reply h linked step took.0) (λ x. refl) (λ p. refl) (λ x. refl)
@@ -430,8 +430,8 @@ runs_keep old new (x ∷ log) h linked (mid, did, run) =
 pub fresh_readings : (s : State) → IsFresh s → KeepsReadings s
 fresh_readings s fresh = record {
   counted = λ n. none_counted n (slice_get s.heap.cells (n.slot - 1)) refl
-      ∙ sym (sum_zero (λ (seat : Seat). times_read n seat.readings) s.seats (free_seat s.sizes)
-      (λ p. ap (λ (seat : Seat). times_read n seat.readings) (fresh.free p)));
+      ∙ sym (sum_zero (λ (seat : WorldSeat). times_read n seat.readings) s.seats (free_seat s.sizes)
+      (λ p. ap (λ (seat : WorldSeat). times_read n seat.readings) (fresh.free p)));
   seats = λ p. subst ReadsOnce (sym (fresh.free p))
       (record { once = λ n. omega arith; begun = tt; free = λ is. refl; frees = tt });
 }

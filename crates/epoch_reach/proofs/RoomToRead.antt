@@ -9,7 +9,7 @@ use Rattle.std.proofs.lemmas.Map.Steps.{length-le_from_distinct_below}
 use Rattle.std.proofs.lemmas.Option.{slice_get_within}
 use Rattle.epoch_cells.specs.declared.cells.name.Name.{Name}
 use Rattle.epoch_heap.specs.Heap.{Cell, Heap, cell_at, is_name}
-use Rattle.epoch_laws.specs.Run.{Seat, State, seat_of, reads}
+use Rattle.epoch_laws.specs.Run.{WorldSeat, State, seat_of, reads}
 use Rattle.epoch_laws.specs.declared.step.Progress.{Progress}
 use Rattle.epoch_laws.proofs.SeatLemmas.{seat_past}
 use Rattle.epoch_laws.specs.Readings.{times_read, readers_in, ReadingFits, KeepsReadings, ReadsNext, HasCellsToRead}
@@ -138,7 +138,7 @@ room_to_read s p n h there next = no_more s.heap (n ∷ (seat_of s p).readings) 
 
 pub has_cells_to_read : (s : State) → KeepsReadings s → HasCellsToRead s
 has_cells_to_read s h p n next = elim (split (length s.seats) p) [
-  | inl past ↦ absurd (cc (next.progress, ap (λ (seat : Seat). seat.progress) (seat_past s p past)))
+  | inl past ↦ absurd (cc (next.progress, ap (λ (seat : WorldSeat). seat.progress) (seat_past s p past)))
   | inr there ↦ room_to_read s p n h there next
 ]
   where

@@ -18,7 +18,7 @@ use Rattle.epoch_laws.specs.declared.step.Reply.TheVariants.{Done}
 use Rattle.epoch_laws.specs.Run.{progress_after}
 use Rattle.epoch_heap.specs.declared.heap.Content.{Content}
 use Rattle.epoch_heap.proofs.PointersWritten.{kept_or_written}
-use Rattle.epoch_heap.specs.Heap.{Cell, Heap, cell_at, with_cell_at, with_field, with_field_in, with_pointer, without_cell, after_job, Touched, raised, read_by, left_by, written_by, taken_by, at_name, Places, ChangesAt, Touches}
+use Rattle.epoch_heap.specs.Heap.{Cell, Heap, cell_at, with_cell_at, with_field, with_field_in, with_pointer, without_cell, heap_after_job, Touched, raised, read_by, left_by, written_by, taken_by, at_name, Places, ChangesAt, Touches}
 use Rattle.epoch_heap.proofs.FoundCells.{found_cell}
 use Rattle.epoch_reach.proofs.PointerSteps.{set_or_kept}
 use Rattle.epoch_reach.proofs.PointersChanged.{unread_there}
@@ -106,7 +106,7 @@ given_without h n (Some cell) e = at_test (cell.readers == 0)
     at_test true = given_emptied h n cell e
     at_test false = given_same h h refl
 
-pub given_job : (h : Heap) (removes : Option Name) → StaysGiven h (after_job h removes)
+pub given_job : (h : Heap) (removes : Option Name) → StaysGiven h (heap_after_job h removes)
 given_job h None = given_same h h refl
 given_job h (Some n) = given_without h n (cell_at h n) refl
 

@@ -15,7 +15,7 @@ use Rattle.epoch_laws.specs.declared.step.Entry.{Entry}
 use Rattle.epoch_laws.specs.declared.step.Word.TheVariants.{Free}
 use Rattle.epoch_laws.specs.declared.step.Progress.TheVariants.{Driven, CallsNow, Accesses, Ends}
 use Rattle.epoch_heap.specs.Heap.{Heap, pointer_at}
-use Rattle.epoch_laws.specs.Run.{State, seat_of, word_of, Runs}
+use Rattle.epoch_laws.specs.Run.{State, seat_of, position_word, Runs}
 
 -- REACH
 
@@ -33,7 +33,7 @@ pub data IsReachable (h : Heap) : Name → Type 0 where
 -- a pointer step of p at this spot, under this guard
 pub record Points (s : State) (entry : Entry) (p : ℕ) (g : Option ℕ) (spot : Spot) : Type 0 where
   pub step : entry.step ≡ Go p
-  pub taken : word_of s p ≢ Free
+  pub taken : position_word s p ≢ Free
   pub change : Change
   pub steps : ℕ
   pub found : Ptr

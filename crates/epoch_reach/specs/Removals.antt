@@ -6,7 +6,7 @@ use Rattle.epoch_bags.specs.declared.job.Called.TheVariants.{Ran}
 use Rattle.epoch_laws.specs.declared.step.Deferral.{Deferral}
 use Rattle.epoch_laws.specs.declared.step.Entry.{Entry}
 use Rattle.epoch_laws.specs.declared.step.Reply.TheVariants.{Called as CalledReply}
-use Rattle.epoch_heap.specs.Heap.{outcome_of, after_job}
+use Rattle.epoch_heap.specs.Heap.{outcome_of, heap_after_job}
 use Rattle.epoch_reach.specs.Reach.{Past, past_after, no_past}
 use Rattle.epoch_laws.specs.Run.{Bag, State, Ending, Emptying, seat_of, Runs}
 
@@ -45,7 +45,7 @@ AllAsDeferred past s = (job : Deferral) → IsInBag s job → IsAsDeferred past 
 -- a job that is called removes the name that its deferral named, or is work
 pub record CallsAsDeferred (past : Past) (s : State) (entry : Entry) (new : State) : Type 0 where
   pub removal : (t : ℕ) (how : Called) (x : Name) → entry.reply ≡ CalledReply t how → past.removes t x
-      → (how ≡ outcome_of s.heap (Some x)) × (new.heap ≡ after_job s.heap (Some x))
+      → (how ≡ outcome_of s.heap (Some x)) × (new.heap ≡ heap_after_job s.heap (Some x))
   pub work : (t : ℕ) (how : Called) → entry.reply ≡ CalledReply t how → ((x : Name) → ¬ (past.removes t x))
       → (how ≡ Ran) × (new.heap ≡ s.heap)
 

@@ -8,8 +8,8 @@ use Rattle.epoch_reach.specs.Reach.{Past}
 use Rattle.epoch_laws.specs.Run.{State, Runs}
 
 -- the name's cell is there
-abbrev pub Stands : Heap → Name → Type 0
-Stands h x = is_some (cell_at h x) ≡ true
+abbrev pub IsInHeap : Heap → Name → Type 0
+IsInHeap h x = is_some (cell_at h x) ≡ true
 
 -- which names a run has given
 abbrev pub given_from : (Name → Type 0) → (s : State) (log : List Entry) (new : State) → Runs s log new → Name → Type 0
@@ -21,9 +21,9 @@ given_of s log new run = given_from (λ x. ⊥) s log new run
 
 -- each name given has its cell, or is destroyed, and not both
 pub record StandsOrDestroyed (given : Name → Type 0) (past : Past) (h : Heap) : Type 0 where
-  pub stands : (x : Name) → given x → Stands h x ⊎ past.destroyed x
-  pub gone : (x : Name) → past.destroyed x → ¬ (Stands h x)
+  pub stands : (x : Name) → given x → IsInHeap h x ⊎ past.destroyed x
+  pub gone : (x : Name) → past.destroyed x → ¬ (IsInHeap h x)
 
 -- each name that is loaded under a guard still held has its cell
 abbrev pub LoadedStand : Past → Heap → Type 0
-LoadedStand past h = (p g : ℕ) (x : Name) → past.loaded p g x → Stands h x
+LoadedStand past h = (p g : ℕ) (x : Name) → past.loaded p g x → IsInHeap h x

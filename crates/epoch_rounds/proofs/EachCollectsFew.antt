@@ -16,7 +16,7 @@ use Rattle.epoch_laws.specs.declared.step.Step.{Step}
 use Rattle.epoch_laws.specs.declared.step.Step.TheVariants.{Register, Begin, Go, End as EndStep, EndGo}
 use Rattle.epoch_laws.specs.declared.step.Word.TheVariants.{Free, Unpinned}
 use Rattle.epoch_rounds.specs.Collected.{called_after, taken_after, none_yet, IsFew, FewAlong, CollectsFew}
-use Rattle.epoch_laws.specs.Run.{Seat, State, Ending, Open, Emptying, Over, seat_of, word_of, with_seat, with_places, free_seat, begun_seat, refusal, Begins, EndGoes, Moves, Runs, IsFresh}
+use Rattle.epoch_laws.specs.Run.{WorldSeat, State, Ending, Open, Emptying, Over, seat_of, position_word, with_seat, with_places, free_seat, begun_seat, refusal, BeginsCall, EndGoes, Moves, Runs, IsFresh}
 use Rattle.epoch_laws.proofs.SeatLemmas.{seat_written, seat_other, seat_there, same_or_other, IsAccepted, begin_given}
 use Rattle.epoch_laws.proofs.SeatLinks.{AllLinked, follows_at}
 use Rattle.epoch_laws.proofs.Linked.{moved_linked, fresh_linked}
@@ -64,10 +64,10 @@ module _ (z : Sizes) (sized : IsSized z) (taken called : ℕ → ℕ) (old new :
     counts = counts;
   }
 
-  Same : (t c : ℕ) (a b : Seat) → b ≡ a → Counts z t c a.machine a.machine.stage → Counts z t c b.machine b.machine.stage
-  Same t c a b e counts = subst (λ (s : Seat). Counts z t c s.machine s.machine.stage) (sym e) counts
+  Same : (t c : ℕ) (a b : WorldSeat) → b ≡ a → Counts z t c a.machine a.machine.stage → Counts z t c b.machine b.machine.stage
+  Same t c a b e counts = subst (λ (s : WorldSeat). Counts z t c s.machine s.machine.stage) (sym e) counts
 
-  goes : (p : ℕ) → Moves old (Go p) r new → GoesTo z sized (taken p) (called p) old new p r h.small → word_of old p ≢ Free → After (Go p)
+  goes : (p : ℕ) → Moves old (Go p) r new → GoesTo z sized (taken p) (called p) old new p r h.small → position_word old p ≢ Free → After (Go p)
   goes p did to taken_now = built (Go p) did to.bags_small (λ q. by_position q (same_or_other q p))
     where
       by_position : (q : ℕ) → (q ≡ p) ⊎ (q ≢ p) → Counts z (taken_after q (taken q) old (Go p) r new) (called_after q (called q) (Go p) r) (seat_of new q).machine (seat_of new q).machine.stage
@@ -99,7 +99,7 @@ module _ (z : Sizes) (sized : IsSized z) (taken called : ℕ → ℕ) (old new :
           (record { held = omega arith; at = few })
       by_position q (inr other) = Same (taken q) (called q) (seat_of old q) (seat_of new q) (ap (λ (s : State). seat_of s q) e ∙ seat_other old p q _ other) (h.counts q)
 
-  begins : (p : ℕ) (c : Call) (o : Option Fault) → refusal c (seat_of old p) old.tickets old.heap ≡ o → Moves old (Begin p c) r new → Begins old p c o r new → After (Begin p c)
+  begins : (p : ℕ) (c : Call) (o : Option Fault) → refusal c (seat_of old p) old.tickets old.heap ≡ o → Moves old (Begin p c) r new → BeginsCall old p c o r new → After (Begin p c)
   begins p c (Some f) at did (is, e) = stays (Begin p c) did
       (λ q. ap (λ (x : Reply). taken_after q (taken q) old (Begin p c) x new) is) (λ q. ap (called_after q (called q) (Begin p c)) is) old e refl (λ q. refl)
   begins p c None at did (is, e) = built (Begin p c) did (subst (AllSmall z.bag_jobs) (sym (ap (λ (s : State). s.queued) e)) h.small)
@@ -219,7 +219,7 @@ few_from_start fresh new log is_fresh run = few_along fresh.sizes is_fresh.in_ra
   linked = fresh_linked fresh is_fresh;
   sizes = refl;
   small = subst (AllSmall fresh.sizes.bag_jobs) (sym is_fresh.none_queued) tt;
-  counts = λ q. subst (λ (seat : Seat). Counts fresh.sizes 0 0 seat.machine seat.machine.stage) (sym (is_fresh.free q)) (record { held = omega arith; at = (omega arith, omega arith) });
+  counts = λ q. subst (λ (seat : WorldSeat). Counts fresh.sizes 0 0 seat.machine seat.machine.stage) (sym (is_fresh.free q)) (record { held = omega arith; at = (omega arith, omega arith) });
 }) run
 
 pub collects_few : (fresh new : State) (log : List Entry) → IsFresh fresh → Runs fresh log new → CollectsFew fresh log new

@@ -14,7 +14,7 @@ use Rattle.epoch_machine.specs.declared.machine.Sizes.{Sizes}
 use Rattle.epoch_machine.specs.declared.machine.Stage.{Stage}
 use Rattle.epoch_machine.specs.declared.machine.Stage.TheVariants.{Idle as Resting, LoadPin, StorePin, ReloadPin, LoadScan, Scan, Advance, Take, Calling, LoadSeal, Put, Keep, LoadRepin, StoreRepin, ReloadRepin, StoreUnpinned, StoreFree, End}
 use Rattle.epoch_machine.specs.Machine.{Machine, IsSized, ask_at, hears, ended, PutsHeld, TakesHand, with_stage, is_empty, put_heard, took_heard, gives, after_collect, after_pin, after_put, after_unpin, after_job, holds_up, scanned, past_word, first_stage, begun}
-use Rattle.epoch_heap.specs.Heap.{outcome_of, after_job as heap_after}
+use Rattle.epoch_heap.specs.Heap.{outcome_of, heap_after_job as heap_after}
 use Rattle.epoch_heap.specs.declared.access.Accessed.{Accessed}
 use Rattle.epoch_heap.specs.declared.access.Accessed.TheVariants.{Again, Answers, NoSlot}
 use Rattle.epoch_heap.specs.declared.access.Answer.{Answer}
@@ -29,7 +29,7 @@ use Rattle.epoch_laws.specs.declared.step.Progress.{Progress}
 use Rattle.epoch_laws.specs.declared.step.Progress.TheVariants.{Idle, Driven, CallsNow, Accesses, Ends}
 use Rattle.epoch_laws.specs.declared.step.Word.{Word}
 use Rattle.epoch_laws.specs.declared.step.Word.TheVariants.{Free, Unpinned, Pinned}
-use Rattle.epoch_laws.specs.Run.{Bag, Seat, State, seat_of, word_of, number_of, with_seat, with_machine, with_word, free_seat, ended_seat, end_reply, full_or_done, removed_by, access_reply, Drives, Goes}
+use Rattle.epoch_laws.specs.Run.{Bag, WorldSeat, State, seat_of, position_word, word_number, with_seat, with_machine, with_word, free_seat, ended_seat, end_reply, full_or_done, removed_by, access_reply, DrivesCall, DoesGo}
 use Rattle.epoch_laws.proofs.SeatLinks.{rests, AllLinked, follows_at}
 use Rattle.epoch_laws.proofs.StoredBags.{one_less}
 
@@ -179,7 +179,7 @@ module _ (z : Sizes) (sized : IsSized z) where
   -- A STEP GO OF A CALL THAT IS DRIVEN
 
   module _ (taken called : ℕ) (old new : State) (q : ℕ) (r : Reply) (small : AllSmall z.bag_jobs old.queued) where
-    abbrev seat : Seat
+    abbrev seat : WorldSeat
     seat = seat_of old q
 
     abbrev m : Machine Deferral
@@ -190,12 +190,12 @@ module _ (z : Sizes) (sized : IsSized z) where
 
     -- what the step does to q's seat, to its counts and to the bags
     pub record GoesTo : Type 0 where
-      pub after : Seat
+      pub after : WorldSeat
       pub wrote : (k : ℕ) → seat_of new k ≡ seat_of (with_seat old q after) k
       pub counts : Counts z (taken + (left - length new.queued)) (called + told r) after.machine after.machine.stage
       pub bags_small : AllSmall z.bag_jobs new.queued
 
-    goes_to : (after : Seat) (bags : List Bag) (tell : Reply) → r ≡ tell → new.queued ≡ bags → ((k : ℕ) → seat_of new k ≡ seat_of (with_seat old q after) k)
+    goes_to : (after : WorldSeat) (bags : List Bag) (tell : Reply) → r ≡ tell → new.queued ≡ bags → ((k : ℕ) → seat_of new k ≡ seat_of (with_seat old q after) k)
         → Counts z (taken + (left - length bags)) (called + told tell) after.machine after.machine.stage → AllSmall z.bag_jobs bags → GoesTo
     goes_to after bags tell is now wrote counts its = record {
       after = after;
@@ -284,15 +284,15 @@ module _ (z : Sizes) (sized : IsSized z) where
         goes_to _ old.queued (Called job.ticket (outcome_of old.heap job.removes)) is (ap (λ (s : State). s.queued) did) (λ k. ap (λ (s : State). seat_of s k) did)
         (subst (λ (t : ℕ). Counts z t (called + 1) (gives m (Calling x k) jobs) (gives m (Calling x k) jobs).stage) (omega arith) (record { held = fine.0; at = fine.1 })) small
 
-    go : (c : Call) (s : Stage) → m.stage ≡ s → rests s ≡ false → m.sizes ≡ z → Here s → Drives old q seat c s (ask_at s) r new → GoesTo
+    go : (c : Call) (s : Stage) → m.stage ≡ s → rests s ≡ false → m.sizes ≡ z → Here s → DrivesCall old q seat c s (ask_at s) r new → GoesTo
     go c Resting at on same h did = absurd (cc)
     go c LoadPin at on same h did = staged (StorePin old.epoch) (h.held, h.at) did
     go c (StorePin e) at on same h did = moves (Pinned e) (hears m (StorePin e) Stored) (PinnedReply q) refl did.0 (record { held = h.held; at = h.at }) _ did.1 refl (λ k. refl)
     go c ReloadPin at on same h did = staged (after_pin m) (pinned taken called m h.held h.at.0 h.at.1) did
     go c LoadScan at on same h did = staged (Scan old.epoch 0) (h.held, h.at) did
-    go c (Scan e k) at on same h did = staged (past_word m.sizes.positions e k (number_of (word_of old k)))
-        (subst (λ (n : ℕ). HeldFits z.bag_jobs (length m.held) (past_word n e k (number_of (word_of old k))) × CountAt z taken called (length m.hand) m.action (past_word n e k (number_of (word_of old k))))
-        (sym (ap (λ (s : Sizes). s.positions) same)) (looked taken called m h.held e k (number_of (word_of old k)) h.at.0 h.at.1)) did
+    go c (Scan e k) at on same h did = staged (past_word m.sizes.positions e k (word_number (position_word old k)))
+        (subst (λ (n : ℕ). HeldFits z.bag_jobs (length m.held) (past_word n e k (word_number (position_word old k))) × CountAt z taken called (length m.hand) m.action (past_word n e k (word_number (position_word old k))))
+        (sym (ap (λ (s : Sizes). s.positions) same)) (looked taken called m h.held e k (word_number (position_word old k)) h.at.0 h.at.1)) did
     go c (Advance e) at on same h did = moves seat.word (hears m (Advance e) Stored) Stepped refl did.0 (record { held = h.held; at = (omega (arith, h.at.0), omega (arith, h.at.1), sized.collect_bags.0) }) _ did.1 refl (λ k. refl)
     go c (Take x k) at on same h did = takes x k at same h did.0 did.1 did.2 did.3 did.4 did.5
     go c (Calling x k) at on same h did = calls x k same h did.0 did.1 did.2 did.3 did.4
@@ -340,11 +340,11 @@ module _ (z : Sizes) (sized : IsSized z) where
         silent (DeferDestroy g ptr) = full m.full
         silent _ = refl
 
-    pub go_counts : AllLinked old → old.sizes ≡ z → word_of old q ≢ Free → (progress : Progress) → seat.progress ≡ progress → Here m.stage → Goes old q seat progress r new → GoesTo
+    pub go_counts : AllLinked old → old.sizes ≡ z → position_word old q ≢ Free → (progress : Progress) → seat.progress ≡ progress → Here m.stage → DoesGo old q seat progress r new → GoesTo
     go_counts linked at taken_now Idle is h did = goes_to seat old.queued _ did.0 (ap (λ (s : State). s.queued) did.1) (λ k. ap (λ (s : State). seat_of s k) did.1 ∙ same_seat k) (stays m h) small
       where
         same_seat : (k : ℕ) → seat_of old k ≡ seat_of (with_seat old q seat) k
-        same_seat k = sym (ap (λ (seats : List Seat). slice_index_or seats k (free_seat old.sizes)) (set-get_or old.seats q (free_seat old.sizes)))
+        same_seat k = sym (ap (λ (seats : List WorldSeat). slice_index_or seats k (free_seat old.sizes)) (set-get_or old.seats q (free_seat old.sizes)))
     go_counts linked at taken_now (Driven c) is h did =
         go c m.stage refl (follows_at old.sizes seat (linked.seats q) (Driven c) is).under_way ((linked.seats q).sized ∙ at) h did
     go_counts linked at taken_now (CallsNow removes) is h did = goes_to _ old.queued _ did.0 (ap (λ (s : State). s.queued) did.1) (λ k. ap (λ (s : State). seat_of s k) did.1) (stays m h) small

@@ -14,7 +14,7 @@ use Rattle.epoch_machine.specs.declared.machine.Stage.{Stage}
 use Rattle.epoch_machine.specs.declared.machine.Stage.TheVariants.{Idle as Resting, LoadPin, StorePin, ReloadPin, LoadScan, Scan, Advance, Take, Calling, LoadSeal, Put, Keep, LoadRepin, StoreRepin, ReloadRepin, StoreUnpinned, StoreFree, End}
 use Rattle.epoch_machine.specs.Machine.{Machine, IsSized, PutsHeld, is_empty, is_taking, ask_at, hears, put_heard, took_heard, with_stage, after_collect, after_put, after_job, holds_up, scanned, past_word, begun}
 use Rattle.epoch_heap.specs.declared.access.Answer.TheVariants.{Guard, Unit as UnitAnswer}
-use Rattle.epoch_heap.specs.Heap.{Heap, after_job as heap_after}
+use Rattle.epoch_heap.specs.Heap.{Heap, heap_after_job as heap_after}
 use Rattle.epoch_laws.specs.declared.step.Call.TheVariants.{Pin, Unpin, Flush}
 use Rattle.epoch_laws.specs.declared.step.Deferral.{Deferral}
 use Rattle.epoch_laws.specs.declared.step.Entry.{Entry}
@@ -25,9 +25,9 @@ use Rattle.epoch_laws.specs.declared.step.Reply.TheVariants.{Began, Stepped, Don
 use Rattle.epoch_laws.specs.declared.step.Step.TheVariants.{Begin, Go}
 use Rattle.epoch_laws.specs.declared.step.Word.{Word}
 use Rattle.epoch_laws.specs.declared.step.Word.TheVariants.{Free, Unpinned, Pinned}
-use Rattle.epoch_laws.specs.Calls.{call_of, goes_of, ends_call, AllGoOn}
+use Rattle.epoch_laws.specs.Calls.{call_entries, goes_of, ends_call, AllGoOn}
 use Rattle.epoch_rounds.specs.Rounds.{IsQuiet, call_to, IsFirstRound, AreRounds, CallsAll, collections}
-use Rattle.epoch_laws.specs.Run.{Bag, Seat, State, seat_of, word_of, number_of, with_seat, with_machine, with_places, ahead_of, drives, full_or_done, refusal, Drives, Goes, Takes, Runs, IsFresh}
+use Rattle.epoch_laws.specs.Run.{Bag, WorldSeat, State, seat_of, position_word, word_number, with_seat, with_machine, with_places, ahead_of, drives, full_or_done, refusal, DrivesCall, DoesGo, TakesStep, Runs, IsFresh}
 use Rattle.epoch_laws.specs.Tickets.{times, times_queued, times_called}
 use Rattle.epoch_laws.proofs.SeatLemmas.{seat_written, seat_other, seat_there}
 use Rattle.epoch_laws.proofs.SeatLinks.{AllLinked, follows_at}
@@ -67,7 +67,7 @@ module _ (p g epoch : ℕ) (sizes : Sizes) where
   -- p's Flush is under way
   pub record Flushes (s : State) : Type 0 where
     pub there : p < length s.seats
-    pub taken : word_of s p ≢ Free
+    pub taken : position_word s p ≢ Free
     pub progress : (seat_of s p).progress ≡ Driven (Flush (Some g))
     pub action : (seat_of s p).machine.action ≡ FlushAction
 
@@ -79,7 +79,7 @@ module _ (p g epoch : ℕ) (sizes : Sizes) where
     pub flushes : Flushes s
     pub positions : sizes.positions ≡ length s.seats
     pub others : (q : ℕ) → q ≢ p → IsStill (seat_of s q)
-    pub word : word_of s p ≡ Pinned epoch
+    pub word : position_word s p ≡ Pinned epoch
     pub near : (s.epoch ≡ epoch) ⊎ (s.epoch ≡ epoch + 1)
     pub seals : SealedBy (epoch + 1) s.queued
     pub guards : (seat_of s p).guards ≡ g ∷ []
@@ -89,7 +89,7 @@ module _ (p g epoch : ℕ) (sizes : Sizes) where
     pub stage : IsBefore epoch (seat_of s p).machine (seat_of s p).machine.stage
 
   module _ (old new : State) (r : Reply) where
-    abbrev seat : Seat
+    abbrev seat : WorldSeat
     seat = seat_of old p
 
     abbrev m : Machine Deferral
@@ -112,13 +112,13 @@ module _ (p g epoch : ℕ) (sizes : Sizes) where
       flushes_on : n.action ≡ FlushAction → Flushes new
       flushes_on action = record {
         there = subst (λ (k : ℕ). p < k) (sym as_many) h.there;
-        taken = λ f. h.taken (ap (λ (st : Seat). st.word) (sym here) ∙ f);
-        progress = ap (λ (st : Seat). st.progress) here ∙ h.progress;
-        action = ap (λ (st : Seat). st.machine.action) here ∙ action;
+        taken = λ f. h.taken (ap (λ (st : WorldSeat). st.word) (sym here) ∙ f);
+        progress = ap (λ (st : WorldSeat). st.progress) here ∙ h.progress;
+        action = ap (λ (st : WorldSeat). st.machine.action) here ∙ action;
       }
 
       beyond_on : n.action ≡ FlushAction → IsBeyond n.stage → Beyond new
-      beyond_on action stage = record { flushes = flushes_on action; stage = subst (λ (st : Seat). IsBeyond st.machine.stage) (sym here) stage }
+      beyond_on action stage = record { flushes = flushes_on action; stage = subst (λ (st : WorldSeat). IsBeyond st.machine.stage) (sym here) stage }
 
     -- BEYOND
 
@@ -139,8 +139,8 @@ module _ (p g epoch : ℕ) (sizes : Sizes) where
     beyond_take h x k Empty jobs q at did = beyond_on h _ old.epoch q old.heap did h.action (beyond_collect m.held h.action)
     beyond_take h x k Got jobs q at did = beyond_on h _ old.epoch q old.heap did h.action (beyond_job x k jobs h.action)
 
-    beyond_go : (h : Flushes old) (s : Stage) → m.stage ≡ s → IsBeyond s → ends_call r ≡ false → Drives old p seat (Flush (Some g)) s (ask_at s) r aside → Beyond new
-    beyond_go h (Scan e k) at b on did = beyond_on h _ old.epoch old.queued old.heap did.1 h.action (beyond_word m.sizes.positions e k (number_of (word_of old k)))
+    beyond_go : (h : Flushes old) (s : Stage) → m.stage ≡ s → IsBeyond s → ends_call r ≡ false → DrivesCall old p seat (Flush (Some g)) s (ask_at s) r aside → Beyond new
+    beyond_go h (Scan e k) at b on did = beyond_on h _ old.epoch old.queued old.heap did.1 h.action (beyond_word m.sizes.positions e k (word_number (position_word old k)))
     beyond_go h (Advance e) at b on did = beyond_on h (hears m (Advance e) Stored) (e + 1) old.queued old.heap did.1 h.action tt
     beyond_go h (Take x k) at b on did = beyond_take h x k did.0 did.1 did.2 at did.5
     beyond_go h (Calling x k) at b on did = beyond_on h _ old.epoch old.queued (heap_after old.heap did.0.removes) did.4 h.action (beyond_job x k did.1 h.action)
@@ -175,14 +175,14 @@ module _ (p g epoch : ℕ) (sizes : Sizes) where
           flushes = flushes_on h.flushes n old.epoch q old.heap did (action ∙ h.flushes.action);
           positions = h.positions ∙ sym many;
           others = λ k other. subst IsStill (sym (wrote h.flushes n old.epoch q old.heap did k ∙ seat_other old p k _ other)) (h.others k other);
-          word = ap (λ (st : Seat). st.word) is ∙ h.word;
+          word = ap (λ (st : WorldSeat). st.word) is ∙ h.word;
           near = subst (λ (e : ℕ). (e ≡ epoch) ⊎ (e ≡ epoch + 1)) (sym (ap (λ (s : State). s.epoch) did)) h.near;
           seals = subst (SealedBy (epoch + 1)) (sym (ap (λ (s : State). s.queued) did)) seals;
-          guards = ap (λ (st : Seat). st.guards) is ∙ h.guards;
-          counted = ap (λ (st : Seat). st.machine.guards) is ∙ guards ∙ h.counted;
-          sized = ap (λ (st : Seat). st.machine.sizes) is ∙ same_sizes ∙ h.sized;
-          hand = ap (λ (st : Seat). st.machine.hand) is ∙ hand ∙ h.hand;
-          stage = subst (λ (st : Seat). IsBefore epoch st.machine st.machine.stage) (sym is) stage;
+          guards = ap (λ (st : WorldSeat). st.guards) is ∙ h.guards;
+          counted = ap (λ (st : WorldSeat). st.machine.guards) is ∙ guards ∙ h.counted;
+          sized = ap (λ (st : WorldSeat). st.machine.sizes) is ∙ same_sizes ∙ h.sized;
+          hand = ap (λ (st : WorldSeat). st.machine.hand) is ∙ hand ∙ h.hand;
+          stage = subst (λ (st : WorldSeat). IsBefore epoch st.machine st.machine.stage) (sym is) stage;
         }
 
     before_put : (h : Before old) (seal : ℕ) (step : PutStep) (q : List Bag) → m.stage ≡ Put seal → seal ≤ epoch + 1 → PutsHeld seal m old.queued step q
@@ -197,7 +197,7 @@ module _ (p g epoch : ℕ) (sizes : Sizes) where
         (subst (λ (a : Action). IsBefore epoch (put_heard m Full) (after_put a true)) (sym h.flushes.action) (λ full. absurd (cc (full)))) did
 
     -- up to the load that begins the scan, no step ends the Flush
-    pub before_goes : (h : Before old) (s : Stage) → m.stage ≡ s → IsBefore epoch m s → Drives old p seat (Flush (Some g)) s (ask_at s) r aside
+    pub before_goes : (h : Before old) (s : Stage) → m.stage ≡ s → IsBefore epoch m s → DrivesCall old p seat (Flush (Some g)) s (ask_at s) r aside
         → (s ≡ LoadScan) ⊎ ((r ≡ Stepped) × Before new)
     before_goes h LoadScan at b did = inl refl
     before_goes h LoadSeal at b did =
@@ -209,7 +209,7 @@ module _ (p g epoch : ℕ) (sizes : Sizes) where
     before_goes h (Put seal) at b did = inr (did.2, before_put h seal did.0 did.1 at b did.3 did.4)
     before_goes h _ at b did = absurd b
 
-    before_go : (h : Before old) (s : Stage) → m.stage ≡ s → IsBefore epoch m s → Drives old p seat (Flush (Some g)) s (ask_at s) r aside → Before new ⊎ Beyond new
+    before_go : (h : Before old) (s : Stage) → m.stage ≡ s → IsBefore epoch m s → DrivesCall old p seat (Flush (Some g)) s (ask_at s) r aside → Before new ⊎ Beyond new
     before_go h LoadScan at b did = inr (beyond_on h.flushes (with_stage m (Scan old.epoch 0)) old.epoch old.queued old.heap did.1 h.flushes.action tt)
     before_go h LoadSeal at b did = went (before_goes h LoadSeal at b did)
       where
@@ -224,9 +224,9 @@ module _ (p g epoch : ℕ) (sizes : Sizes) where
     before_go h _ at b did = absurd b
 
     -- what a step Go of p does while its Flush is under way
-    pub driven : (h : Flushes old) → Takes old (Go p) r new → Drives old p seat (Flush (Some g)) m.stage (ask_at m.stage) r aside
+    pub driven : (h : Flushes old) → TakesStep old (Go p) r new → DrivesCall old p seat (Flush (Some g)) m.stage (ask_at m.stage) r aside
     driven h (inl did, sees) = absurd (h.taken did.0)
-    driven h (inr did, sees) = subst (λ (now : Progress). Goes old p seat now r aside) h.progress did.1
+    driven h (inr did, sees) = subst (λ (now : Progress). DoesGo old p seat now r aside) h.progress did.1
 
   goes_first : (old new : State) (rs : List Reply) → Before old ⊎ Beyond old → AllGoOn rs → Runs old (goes_of p rs) new → Before new ⊎ Beyond new
   goes_first old new [] h on run = subst (λ s. Before s ⊎ Beyond s) (sym run) h
@@ -263,7 +263,7 @@ module _ (fresh s : State) (earlier : List Entry) (is_fresh : IsFresh fresh) (ru
   quiet_rests = record {
     there = seat_there s p taken;
     positions = linked.positions;
-    others = λ q other. still q (not_pinned (word_of s q) (λ e. quiet.others q e other));
+    others = λ q other. still q (not_pinned (position_word s q) (λ e. quiet.others q e other));
     taken = taken;
     guards = no_guards (seat_of s p).guards (sym (linked.seats p).counted ∙ none);
     counted = none;
@@ -283,7 +283,7 @@ module _ (fresh s : State) (earlier : List Entry) (is_fresh : IsFresh fresh) (ru
       tallies : Tallies s earlier
       tallies = run_tallies fresh s earlier is_fresh run
 
-      taken : word_of s p ≢ Free
+      taken : position_word s p ≢ Free
       taken free = cc (free, quiet.unpinned)
 
       rests : (seat_of s p).machine.stage ≡ Resting
@@ -292,35 +292,35 @@ module _ (fresh s : State) (earlier : List Entry) (is_fresh : IsFresh fresh) (ru
       none : (seat_of s p).machine.guards ≡ 0
       none = no_count _ (sym (ap (publishes_at (seat_of s p).machine) rests) ∙ sym (holds.seats p).agrees ∙ ap is_pinned quiet.unpinned)
 
-      still : (q : ℕ) → is_pinned (word_of s q) ≡ false → IsStill (seat_of s q)
+      still : (q : ℕ) → is_pinned (position_word s q) ≡ false → IsStill (seat_of s q)
       still q off = (off, taking_pinned (seat_of s q).machine (seat_of s q).machine.stage (sym (holds.seats q).agrees ∙ off))
 
 -- the Flush of the first round has begun
 before_begun : (p g epoch next bound bags : ℕ) (sizes : Sizes) (sized : IsSized sizes) (jobs : List Deferral) (total called : ℕ → ℕ) (old new : State) → next ≡ epoch + 1 → bound ≡ epoch + 1
-    → Pinning p sizes sized epoch next bound bags g jobs total called old → Takes old (Begin p (Flush (Some g))) Began new → Before p g epoch sizes new
+    → Pinning p sizes sized epoch next bound bags g jobs total called old → TakesStep old (Begin p (Flush (Some g))) Began new → Before p g epoch sizes new
 before_begun p g epoch next bound bags sizes sized jobs total called old new is_next is_bound h (did, sees) = record {
   flushes = record {
     there = subst (λ (k : ℕ). p < k) (sym as_many) h.rests.there;
-    taken = λ f. h.rests.taken (ap (λ (st : Seat). st.word) (sym here) ∙ f);
-    progress = ap (λ (st : Seat). st.progress) here;
-    action = ap (λ (st : Seat). st.machine.action) here;
+    taken = λ f. h.rests.taken (ap (λ (st : WorldSeat). st.word) (sym here) ∙ f);
+    progress = ap (λ (st : WorldSeat). st.progress) here;
+    action = ap (λ (st : WorldSeat). st.machine.action) here;
   };
   positions = h.rests.positions ∙ sym as_many;
   others = λ q other. subst IsStill (sym (wrote q ∙ seat_other old p q to other)) (h.rests.others q other);
-  word = ap (λ (st : Seat). st.word) here ∙ h.word;
+  word = ap (λ (st : WorldSeat). st.word) here ∙ h.word;
   near = near h.near;
   seals = subst (λ (k : ℕ). SealedBy k new.queued) is_bound (subst (SealedBy bound) (sym (ap (λ (s : State). s.queued) made)) h.rests.seals);
-  guards = ap (λ (st : Seat). st.guards) here ∙ h.rests.guards;
-  counted = ap (λ (st : Seat). st.machine.guards) here ∙ h.rests.counted;
-  sized = ap (λ (st : Seat). st.machine.sizes) here ∙ h.rests.sized;
-  hand = ap (λ (st : Seat). st.machine.hand) here ∙ h.rests.hand;
-  stage = subst (λ (st : Seat). IsBefore epoch st.machine st.machine.stage) (sym here) (first m.held refl);
+  guards = ap (λ (st : WorldSeat). st.guards) here ∙ h.rests.guards;
+  counted = ap (λ (st : WorldSeat). st.machine.guards) here ∙ h.rests.counted;
+  sized = ap (λ (st : WorldSeat). st.machine.sizes) here ∙ h.rests.sized;
+  hand = ap (λ (st : WorldSeat). st.machine.hand) here ∙ h.rests.hand;
+  stage = subst (λ (st : WorldSeat). IsBefore epoch st.machine st.machine.stage) (sym here) (first m.held refl);
 }
   where
     m : Machine Deferral
     m = (seat_of old p).machine
 
-    to : Seat
+    to : WorldSeat
     to = drives FlushAction (Flush (Some g)) (seat_of old p)
 
     made : with_places new old.places old.seen old.ahead old.room ≡ with_seat old p to
@@ -345,7 +345,7 @@ before_begun p g epoch next bound bags sizes sized jobs total called old new is_
 
 -- as it does behind the Pin of the first round
 pub flush_begins : (fresh s pinned begun : State) (earlier : List Entry) → IsFresh fresh → Runs fresh earlier s → (p : ℕ) → IsQuiet p s → s.epoch + 4 ≤ 2 ^ 63
-    → (g : ℕ) (going : List Reply) → AllGoOn going → Runs s (call_to p Pin going (Done (Guard g))) pinned → Takes pinned (Begin p (Flush (Some g))) Began begun
+    → (g : ℕ) (going : List Reply) → AllGoOn going → Runs s (call_to p Pin going (Done (Guard g))) pinned → TakesStep pinned (Begin p (Flush (Some g))) Began begun
     → Before p g s.epoch s.sizes begun
 flush_begins fresh s pinned begun earlier is_fresh run p quiet small g going on pinning begins =
     let sized : IsSized s.sizes = subst IsSized (sym (sizes_stay fresh s earlier run)) is_fresh.in_range in
@@ -368,7 +368,7 @@ module _ (fresh s put new : State) (earlier before after others : List Entry) (p
   at_put : Before p round_one.guard s.epoch s.sizes put
   at_put =
       let pin : List Entry = call_to p Pin round_one.pins (Done (Guard round_one.guard)) in
-      let flush : List Entry = call_of p (Flush (Some round_one.guard)) (Began ∷ round_one.puts) in
+      let flush : List Entry = call_entries p (Flush (Some round_one.guard)) (Began ∷ round_one.puts) in
       let parts = runs_split s put pin flush (subst (λ (es : List Entry). Runs s es put) round_one.until reaches) in
       ends (goes_first p round_one.guard s.epoch s.sizes parts.2.0 put round_one.puts
       (inl (flush_begins fresh s parts.0 parts.2.0 earlier is_fresh run p quiet small round_one.guard round_one.pins round_one.pinning parts.1 parts.2.1))
@@ -401,7 +401,7 @@ module _ (fresh s put new : State) (earlier before after others : List Entry) (p
     taken = at_put.flushes.taken;
     progress = at_put.flushes.progress;
     guards = at_put.guards;
-    known = subst (λ (stage : Stage). Known rest (λ t. 0) put.epoch put.queued (ahead_of put p) (word_of put p) (seat_of put p).machine stage) (sym round_one.scans) (record {
+    known = subst (λ (stage : Stage). Known rest (λ t. 0) put.epoch put.queued (ahead_of put p) (position_word put p) (seat_of put p).machine stage) (sym round_one.scans) (record {
       held = refl;
       full = refl;
       action = at_put.flushes.action;

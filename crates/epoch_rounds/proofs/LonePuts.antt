@@ -31,15 +31,15 @@ use Rattle.epoch_laws.specs.declared.step.Reply.{Reply}
 use Rattle.epoch_laws.specs.declared.step.Reply.TheVariants.{Stepped, Pinned as PinnedReply, Unpinned as UnpinnedReply, Repinned, Deferred, Called as CalledReply, CalledNow, Began, Done, Refused}
 use Rattle.epoch_laws.specs.declared.step.Step.TheVariants.{Begin, Go}
 use Rattle.epoch_laws.specs.declared.step.Word.TheVariants.{Free, Unpinned, Pinned}
-use Rattle.epoch_laws.specs.Calls.{call_of, goes_of, ends_call, EndsAtLast}
+use Rattle.epoch_laws.specs.Calls.{call_entries, goes_of, ends_call, EndsAtLast}
 use Rattle.epoch_laws.specs.Kept.{AllLinked, IsDriven, rests}
-use Rattle.epoch_laws.specs.Room.{is_putting, is_at_places, PutTells, TellsRoom}
-use Rattle.epoch_laws.specs.Run.{Bag, Seat, State, HasFreePlace, seat_of, word_of, number_of, with_seat, with_machine, with_word, with_places, free_seat, room_of, turn_at, turn_of, full_or_done, end_reply, begun_seat, ended_seat, refusal, call_refusal, guard_refusal, resume_refusal, under_guard, reading_refusal, access_refusal, reads, removed_by, access_reply, accessed_seat, is_free, is_idle, is_out, waits, Begins, Drives, Goes, Takes, Runs, IsFresh}
+use Rattle.epoch_laws.specs.Room.{is_putting, is_at_places, PutTellsRoom, TellsRoom}
+use Rattle.epoch_laws.specs.Run.{Bag, WorldSeat, State, HasFreePlace, seat_of, position_word, word_number, with_seat, with_machine, with_word, with_places, free_seat, room_of, turn_at, turn_of, full_or_done, end_reply, begun_seat, ended_seat, refusal, call_refusal, guard_refusal, resume_refusal, under_guard, reading_refusal, access_refusal, reads, removed_by, access_reply, accessed_seat, is_free, is_idle, is_out, waits, BeginsCall, DrivesCall, DoesGo, TakesStep, Runs, IsFresh}
 use Rattle.epoch_laws.proofs.Linked.{follows_at, step_linked, fresh_linked}
 use Rattle.epoch_laws.proofs.PutsFind.{same_count, turn_taken}
 use Rattle.epoch_laws.proofs.SeatLemmas.{seat_there, seat_written, seat_other, begin_given}
 use Rattle.epoch_laws.proofs.StoredBags.{one_less}
-use Rattle.epoch_rounds.specs.Sharp.{EndsIn, Ends}
+use Rattle.epoch_rounds.specs.Sharp.{EndsIn, EndsCall}
 use Rattle.epoch_rounds.proofs.FirstRound.{runs_linked}
 
 -- WHAT A CALL RESTS ON, BY ITS STAGE
@@ -143,7 +143,7 @@ Open s = length s.queued < length s.places
 pub record IsLone (p : ℕ) (s : State) : Type 0 where
   pub linked : AllLinked s
   pub others : (q : ℕ) → q ≢ p → is_at_places (seat_of s q).machine.stage ≡ false
-  pub ready : word_of s p ≢ Free → Ready (Open s) (room_of s p) (seat_of s p).machine (seat_of s p).machine.stage
+  pub ready : position_word s p ≢ Free → Ready (Open s) (room_of s p) (seat_of s p).machine (seat_of s p).machine.stage
 
 -- whether a reply, or a fault that refuses a call, tells that the bags are full
 abbrev full_fault : Fault → Bool
@@ -169,8 +169,8 @@ not_told r told is calm full = let same : full_told told ≡ true = ap full_told
 
 -- ONE STEP GO OF p
 
-module _ (p : ℕ) (old new : State) (r : Reply) (h : IsLone p old) (did : Takes old (Go p) r new) where
-  abbrev seat : Seat
+module _ (p : ℕ) (old new : State) (r : Reply) (h : IsLone p old) (did : TakesStep old (Go p) r new) where
+  abbrev seat : WorldSeat
   seat = seat_of old p
 
   abbrev m : Machine Deferral
@@ -193,14 +193,14 @@ module _ (p : ℕ) (old new : State) (r : Reply) (h : IsLone p old) (did : Takes
   same_open same = still_open (omega (arith, ap length same))
 
   -- p's seat is written so
-  wrote : (told : Reply) (after : Seat) (last : State) → r ≡ told → full_told told ≡ false → p < length old.seats → aside ≡ last → ((q : ℕ) → seat_of last q ≡ seat_of (with_seat old p after) q)
+  wrote : (told : Reply) (after : WorldSeat) (last : State) → r ≡ told → full_told told ≡ false → p < length old.seats → aside ≡ last → ((q : ℕ) → seat_of last q ≡ seat_of (with_seat old p after) q)
       → (after.word ≢ Free → Ready (Open new) (room_of new p) after.machine after.machine.stage) → Comes
   wrote told after last is calm there e writes ready = (
     not_told r told is calm,
     record {
       linked = linked;
-      others = λ q other. ap (λ (s : Seat). is_at_places s.machine.stage) (at q ∙ seat_other old p q after other) ∙ h.others q other;
-      ready = subst (λ (s : Seat). s.word ≢ Free → Ready (Open new) (room_of new p) s.machine s.machine.stage) (sym (at p ∙ seat_written old p after there)) ready;
+      others = λ q other. ap (λ (s : WorldSeat). is_at_places s.machine.stage) (at q ∙ seat_other old p q after other) ∙ h.others q other;
+      ready = subst (λ (s : WorldSeat). s.word ≢ Free → Ready (Open new) (room_of new p) s.machine s.machine.stage) (sym (at p ∙ seat_written old p after there)) ready;
     },
   )
     where
@@ -208,18 +208,18 @@ module _ (p : ℕ) (old new : State) (r : Reply) (h : IsLone p old) (did : Takes
       at q = ap (λ (s : State). seat_of s q) e ∙ writes q
 
   -- no seat is written
-  stays : (told : Reply) → r ≡ told → full_told told ≡ false → aside ≡ old → (word_of old p ≢ Free → m.stage ≡ Resting) → Comes
+  stays : (told : Reply) → r ≡ told → full_told told ≡ false → aside ≡ old → (position_word old p ≢ Free → m.stage ≡ Resting) → Comes
   stays told is calm e resting = (
     not_told r told is calm,
     record {
       linked = linked;
       others = λ q other. ap (λ (s : State). is_at_places (seat_of s q).machine.stage) e ∙ h.others q other;
-      ready = subst (λ (s : Seat). s.word ≢ Free → Ready (Open new) (room_of new p) s.machine s.machine.stage) (sym (ap (λ (s : State). seat_of s p) e))
+      ready = subst (λ (s : WorldSeat). s.word ≢ Free → Ready (Open new) (room_of new p) s.machine s.machine.stage) (sym (ap (λ (s : State). seat_of s p) e))
           (λ taken. subst (Ready (Open new) (room_of new p) m) (sym (resting taken)) tt);
     },
   )
 
-  module _ (taken : word_of old p ≢ Free) where
+  module _ (taken : position_word old p ≢ Free) where
     there : p < length old.seats
     there = seat_there old p taken
 
@@ -256,18 +256,18 @@ module _ (p : ℕ) (old new : State) (r : Reply) (h : IsLone p old) (did : Takes
 
       -- the put keeps its room, and so it isn't full at its end
       puts : (seal : ℕ) → m.stage ≡ Put seal → m.full ≡ false → room_of old p ≡ true → (step : PutStep) (queued : List Bag) → r ≡ Stepped
-          → PutTells (seat_of new p).machine (room_of old p) (room_of new p) → aside ≡ record (with_seat old p (with_machine seat (put_heard m step))) { queued = queued } → Comes
+          → PutTellsRoom (seat_of new p).machine (room_of old p) (room_of new p) → aside ≡ record (with_seat old p (with_machine seat (put_heard m step))) { queued = queued } → Comes
       puts seal at none room PutAgain queued told tells e = wrote Stepped seat _ told refl there e (λ q. refl)
           (λ w. subst (Ready (Open new) (room_of new p) m) (sym at) (none, tells.kept still ∙ room))
         where
           still : is_putting (seat_of new p).machine.stage ≡ true
-          still = ap (λ (s : State). is_putting (seat_of s p).machine.stage) e ∙ ap (λ (q : Seat). is_putting q.machine.stage) (seat_written old p seat there) ∙ ap is_putting at
+          still = ap (λ (s : State). is_putting (seat_of s p).machine.stage) e ∙ ap (λ (q : WorldSeat). is_putting q.machine.stage) (seat_written old p seat there) ∙ ap is_putting at
       puts seal at none room PutDone queued told tells e = wrote Stepped (with_machine seat (put_heard m PutDone)) _ told refl there e (λ q. refl)
           (λ w. ready_of (Open new) (room_of new p) (put_heard m PutDone) (after_put m.action false) refl (put_over (Open new) (room_of new p) m.action))
       puts seal at none room Full queued told tells e = absurd (not_both (sym (ap (λ (q : Machine Deferral). q.full) here) ∙ tells.told over ∙ ap not room))
         where
           here : (seat_of new p).machine ≡ put_heard m Full
-          here = ap (λ (s : State). (seat_of s p).machine) e ∙ ap (λ (q : Seat). q.machine) (seat_written old p (with_machine seat (put_heard m Full)) there)
+          here = ap (λ (s : State). (seat_of s p).machine) e ∙ ap (λ (q : WorldSeat). q.machine) (seat_written old p (with_machine seat (put_heard m Full)) there)
 
           over : is_putting (seat_of new p).machine.stage ≡ false
           over = ap (λ (q : Machine Deferral). is_putting q.stage) here ∙ none_putting m.action true
@@ -293,15 +293,15 @@ module _ (p : ℕ) (old new : State) (r : Reply) (h : IsLone p old) (did : Takes
       ends : m.full ≡ false → (r ≡ end_reply c seat) × (aside ≡ with_seat old p (ended_seat c seat)) → Comes
       ends none did = wrote (end_reply c seat) (ended_seat c seat) _ did.0 (calm_end none c) there did.1 (λ q. refl) (λ w. rested c)
 
-      go : (s : Stage) → m.stage ≡ s → m.full ≡ false → Was s → Tells (ask_at s) → Drives old p seat c s (ask_at s) r aside → Comes
+      go : (s : Stage) → m.stage ≡ s → m.full ≡ false → Was s → Tells (ask_at s) → DrivesCall old p seat c s (ask_at s) r aside → Comes
       go Resting at none was tells did = ends none did
       go LoadPin at none was tells did = staged (StorePin old.epoch) none (λ on rel. on (was rel)) did
       go (StorePin e) at none was tells did = wrote (PinnedReply p) (with_word seat (Pinned e) (hears m (StorePin e) Stored)) _ did.0 refl there did.1 (λ q. refl)
           (λ w. (none, λ rel. same_open (ap (λ (s : State). s.queued) did.1) (was rel)))
       go ReloadPin at none was tells did = staged (after_pin m) none (λ on. pinned (Open new) (room_of new p) m (λ rel. on (was rel))) did
       go LoadScan at none was tells did = staged (Scan old.epoch 0) none (λ on rel. on (was rel)) did
-      go (Scan e k) at none was tells did = staged (past_word m.sizes.positions e k (number_of (word_of old k))) none
-          (λ on. looked (Open new) (room_of new p) m.action m.sizes.positions e k (number_of (word_of old k)) (λ rel. on (was rel))) did
+      go (Scan e k) at none was tells did = staged (past_word m.sizes.positions e k (word_number (position_word old k))) none
+          (λ on. looked (Open new) (room_of new p) m.action m.sizes.positions e k (word_number (position_word old k)) (λ rel. on (was rel))) did
       go (Advance e) at none was tells did = wrote Stepped (with_machine seat (hears m (Advance e) Stored)) _ did.0 refl there did.1 (λ q. refl)
           (λ w. (none, λ rel. same_open (ap (λ (s : State). s.queued) did.1) (was rel)))
       go (Take x k) at none was tells did = takes x k at none was did.0 did.1 did.2 did.3 did.4 did.5
@@ -320,7 +320,7 @@ module _ (p : ℕ) (old new : State) (r : Reply) (h : IsLone p old) (did : Takes
       go StoreFree at none was tells did = wrote (Done Released) (free_seat old.sizes) _ did.0 refl there did.1 (λ q. refl) (λ w. tt)
       go End at none was tells did = ends none did
 
-      drives : Drives old p seat c m.stage (ask_at m.stage) r aside → Comes
+      drives : DrivesCall old p seat c m.stage (ask_at m.stage) r aside → Comes
       drives goes =
           let ready = not_full (Open old) (room_of old p) m m.stage driven.under_way (h.ready taken) in
           go m.stage refl ready.0 ready.1 (subst Tells asked did.1.3) goes
@@ -328,7 +328,7 @@ module _ (p : ℕ) (old new : State) (r : Reply) (h : IsLone p old) (did : Takes
           asked : turn_of seat ≡ ask_at m.stage
           asked = turn_taken seat.word seat.progress m.stage taken ∙ ap (λ (now : Progress). turn_at Unpinned now m.stage) drive
 
-    by_progress : (progress : Progress) → seat.progress ≡ progress → Goes old p seat progress r aside → Comes
+    by_progress : (progress : Progress) → seat.progress ≡ progress → DoesGo old p seat progress r aside → Comes
     by_progress Idle now goes = stays (Refused IdleFault) goes.0 refl goes.1 (λ t. follows_at old.sizes seat (h.linked.seats p) Idle now)
     by_progress (Driven c) now goes = drives c now goes
     by_progress (CallsNow removes) now goes = wrote (CalledNow (outcome_of old.heap removes)) (record seat { progress = EndsNext (Done UnitAnswer) }) _ goes.0 refl there goes.1 (λ q. refl)
@@ -375,7 +375,7 @@ access_calm : (a : Access) (readings : List Name) (heap : Heap) → full_refusal
 access_calm a readings heap = either (has_place heap a) (if knows_names heap a then reading_refusal a readings else Some StrangerPointer) (Some NoSuchPlace)
     (either (knows_names heap a) (reading_refusal a readings) (Some StrangerPointer) (reading_calm a readings) refl) refl
 
-own_calm : (c : Call) (given : Seat) (tickets : ℕ) (heap : Heap) → full_refusal (call_refusal c given tickets heap) ≡ false
+own_calm : (c : Call) (given : WorldSeat) (tickets : ℕ) (heap : Heap) → full_refusal (call_refusal c given tickets heap) ≡ false
 own_calm Pin given tickets heap = either (nat_le 64 (length given.guards)) (Some TooManyGuards) None refl refl
 own_calm (Unpin None) given tickets heap = refl
 own_calm (Unpin (Some g)) given tickets heap = guard_calm (Some g) given.guards
@@ -396,20 +396,20 @@ own_calm (DeferDestroy (Some g) ptr) given tickets heap = either (is_out g given
 own_calm (AccessCall a) given tickets heap = under_calm (guard_of a) given.guards (access_refusal a given.readings heap) (access_calm a given.readings heap)
 
 -- no call is refused at its Begin because the bags are full
-begin_calm : (c : Call) (given : Seat) (tickets : ℕ) (heap : Heap) → full_refusal (refusal c given tickets heap) ≡ false
+begin_calm : (c : Call) (given : WorldSeat) (tickets : ℕ) (heap : Heap) → full_refusal (refusal c given tickets heap) ≡ false
 begin_calm c given tickets heap =
     let own = either (waits c given.paused) (Some Busy) (call_refusal c given tickets heap) refl (own_calm c given tickets heap) in
     let idle = either (is_idle given.progress) (if waits c given.paused then Some Busy else call_refusal c given tickets heap) (Some Busy) own refl in
     either (is_free given.word) (Some NotRegistered) (if is_idle given.progress then (if waits c given.paused then Some Busy else call_refusal c given tickets heap) else Some Busy) refl idle
 
-module _ (p : ℕ) (c : Call) (s mid : State) (r : Reply) (linked : AllLinked s) (free : HasFreePlace p s) (did : Takes s (Begin p c) r mid) where
-  abbrev first : Seat
+module _ (p : ℕ) (c : Call) (s mid : State) (r : Reply) (linked : AllLinked s) (free : HasFreePlace p s) (did : TakesStep s (Begin p c) r mid) where
+  abbrev first : WorldSeat
   first = seat_of s p
 
   abbrev at_side : State
   at_side = with_places mid s.places s.seen s.ahead s.room
 
-  refused_calm : (o : Option Fault) → refusal c first s.tickets s.heap ≡ o → Begins s p c o r at_side → r ≢ Refused BagsFull
+  refused_calm : (o : Option Fault) → refusal c first s.tickets s.heap ≡ o → BeginsCall s p c o r at_side → r ≢ Refused BagsFull
   refused_calm (Some f) is goes = not_told r (Refused f) goes.0 (ap full_refusal (sym is) ∙ begin_calm c first s.tickets s.heap)
   refused_calm None is goes = not_told r Began goes.0 refl
 
@@ -434,7 +434,7 @@ module _ (p : ℕ) (c : Call) (s mid : State) (r : Reply) (linked : AllLinked s)
   begun_ready (Defer None) rest open_now = subst (Ready (Open mid) (room_of mid p) first.machine) (sym rest) tt
   begun_ready (Flush None) rest open_now = subst (Ready (Open mid) (room_of mid p) first.machine) (sym rest) tt
 
-  begins : (o : Option Fault) → refusal c first s.tickets s.heap ≡ o → Begins s p c o r at_side → ends_call r ≡ false → IsLone p mid
+  begins : (o : Option Fault) → refusal c first s.tickets s.heap ≡ o → BeginsCall s p c o r at_side → ends_call r ≡ false → IsLone p mid
   begins (Some f) is goes on = absurd (cc (on, ap ends_call goes.0))
   begins None is goes on =
       let given = begin_given c first s.tickets s.heap is in
@@ -442,8 +442,8 @@ module _ (p : ℕ) (c : Call) (s mid : State) (r : Reply) (linked : AllLinked s)
       let open_now : Open mid = omega (arith, free.fewer, ap (λ (z : State). length z.queued) goes.1, same_count s mid (Begin p c) did.1) in
       record {
         linked = step_linked s mid (Begin p c) r linked did;
-        others = λ q other. ap (λ (seat : Seat). is_at_places seat.machine.stage) (at q ∙ seat_other s p q (begun_seat c first) other) ∙ free.others q other;
-        ready = λ taken. subst (λ (seat : Seat). Ready (Open mid) (room_of mid p) seat.machine seat.machine.stage)
+        others = λ q other. ap (λ (seat : WorldSeat). is_at_places seat.machine.stage) (at q ∙ seat_other s p q (begun_seat c first) other) ∙ free.others q other;
+        ready = λ taken. subst (λ (seat : WorldSeat). Ready (Open mid) (room_of mid p) seat.machine seat.machine.stage)
             (sym (at p ∙ seat_written s p (begun_seat c first) (seat_there s p given.taken))) (begun_ready c rest open_now);
       }
     where
@@ -460,13 +460,13 @@ goes_calm p s new [] h run last = last
 goes_calm p s new (r ∷ []) h (mid, did, run) last = (lone_goes p s mid r h did).0 last
 goes_calm p s new (r ∷ x ∷ rs) h (mid, did, run) last = goes_calm p mid new (x ∷ rs) (lone_goes p s mid r h did).1 run last
 
-call_calm : (p : ℕ) (c : Call) (s new : State) (replies : List Reply) → AllLinked s → HasFreePlace p s → Runs s (call_of p c replies) new → EndsAtLast replies → ¬ (EndsIn (Refused BagsFull) replies)
+call_calm : (p : ℕ) (c : Call) (s new : State) (replies : List Reply) → AllLinked s → HasFreePlace p s → Runs s (call_entries p c replies) new → EndsAtLast replies → ¬ (EndsIn (Refused BagsFull) replies)
 call_calm p c s new [] all_linked free run over last = last
 call_calm p c s new (r ∷ []) all_linked free (mid, did, run) over last = begin_not_full p c s mid r all_linked free did last
 call_calm p c s new (r ∷ x ∷ rs) all_linked free (mid, did, run) over last = goes_calm p mid new (x ∷ rs) (begin_lone p c s mid r all_linked free did over.0) run last
 
 pub lone_calls : (fresh s new : State) (earlier : List Entry) (p : ℕ) (c : Call) (replies : List Reply) → IsFresh fresh → Runs fresh earlier s → HasFreePlace p s
-    → Ends p c s replies new → ¬ (EndsIn (Refused BagsFull) replies)
+    → EndsCall p c s replies new → ¬ (EndsIn (Refused BagsFull) replies)
 lone_calls fresh s new earlier p c replies is_fresh run free ended = call_calm p c s new replies (runs_linked fresh s earlier (fresh_linked fresh is_fresh) run) free ended.run ended.ends
 
 -- no step changes how many places there are

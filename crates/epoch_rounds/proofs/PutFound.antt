@@ -8,7 +8,7 @@ use Rattle.epoch_laws.specs.declared.step.Entry.{Entry}
 use Rattle.epoch_laws.specs.declared.step.Reply.{Reply}
 use Rattle.epoch_laws.specs.declared.step.Reply.TheVariants.{Began, Done}
 use Rattle.epoch_laws.specs.declared.step.Step.TheVariants.{Begin, Go}
-use Rattle.epoch_laws.specs.Calls.{call_of, goes_of, AllGoOn}
+use Rattle.epoch_laws.specs.Calls.{call_entries, goes_of, AllGoOn}
 use Rattle.epoch_laws.specs.Run.{State, seat_of, Runs, IsFresh}
 use Rattle.epoch_laws.proofs.RunsGoOn.{runs_append}
 use Rattle.epoch_rounds.specs.Rounds.{call_to, IsFirstRound, RoundsCallAll}
@@ -87,7 +87,7 @@ rounds_call_all fresh s new earlier log is_fresh run goes p first others later w
     let flushed = runs_split pinned.0 firsts.0 flush unpin pinned.2 in
     let begins = flush_begins fresh s pinned.0 flushed.1.0 earlier is_fresh run p quiet small g round.pins round.pinning pinned.1 flushed.1.1 in
     let found = find p g s.epoch s.sizes flushed.1.0 flushed.0 round.flushes begins round.flushing flushed.1.2 in
-    let before : List Entry = pin ++ call_of p (Flush (Some g)) (Began ∷ found.puts) in
+    let before : List Entry = pin ++ call_entries p (Flush (Some g)) (Began ∷ found.puts) in
     let after : List Entry = goes_of p (found.flushes ++ last) ++ unpin in
     let puts : IsFirstRound p before found.put after = record {
       guard = g;
@@ -104,7 +104,7 @@ rounds_call_all fresh s new earlier log is_fresh run goes p first others later w
       behind = refl;
     } in
     let reaches : Runs s before found.put =
-    runs_append s pinned.0 found.put pin (call_of p (Flush (Some g)) (Began ∷ found.puts)) pinned.1 (flushed.1.0, flushed.1.1, found.reaches) in
+    runs_append s pinned.0 found.put pin (call_entries p (Flush (Some g)) (Began ∷ found.puts)) pinned.1 (flushed.1.0, flushed.1.1, found.reaches) in
     let goes_on : Runs found.put (after ++ others) seconds.0 =
     runs_append found.put firsts.0 seconds.0 after others (runs_append found.put flushed.0 firsts.0 (goes_of p (found.flushes ++ last)) unpin found.goes_on flushed.2) seconds.1 in
     record {

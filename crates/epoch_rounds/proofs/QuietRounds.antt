@@ -21,7 +21,7 @@ use Rattle.epoch_laws.specs.declared.step.Word.TheVariants.{Pinned}
 use Rattle.epoch_laws.specs.Calls.{goes_of, ends_call, AllGoOn}
 use Rattle.epoch_laws.specs.Kept.{action_of}
 use Rattle.epoch_rounds.specs.Rounds.{call_to, IsRound, AreRounds}
-use Rattle.epoch_laws.specs.Run.{Bag, Seat, State, seat_of, word_of, with_seat, with_places, ahead_of, lowest, begun_seat, drives, refusal, Begins, Takes, Runs}
+use Rattle.epoch_laws.specs.Run.{Bag, WorldSeat, State, seat_of, position_word, with_seat, with_places, ahead_of, lowest, begun_seat, drives, refusal, BeginsCall, TakesStep, Runs}
 use Rattle.epoch_laws.specs.Tickets.{times, calls_of, times_called}
 use Rattle.epoch_laws.proofs.JobsPlaced.{HandAt}
 use Rattle.epoch_laws.proofs.SeatLemmas.{seat_written, seat_other}
@@ -80,30 +80,30 @@ goes_to_end v called old new (r ∷ going) last next few some h on ends (mid, di
 
 -- HOW A CALL BEGINS
 
-pub begun_by : (old new : State) (p : ℕ) (c : Call) (o : Option Fault) → Begins old p c o Began new → new ≡ with_seat old p (begun_seat c (seat_of old p))
+pub begun_by : (old new : State) (p : ℕ) (c : Call) (o : Option Fault) → BeginsCall old p c o Began new → new ≡ with_seat old p (begun_seat c (seat_of old p))
 begun_by old new p c (Some f) did = absurd (cc (did.0))
 begun_by old new p c None did = did.1
 
 pub begins : (v : Plan) (a : Action) (t : Stage) (called : ℕ → ℕ) (old new : State) → Rests v.p v.sizes v.held (guards_in v.call) v.bound v.total called old
-    → Takes old (Begin v.p v.call) Began new → begun_seat v.call (seat_of old v.p) ≡ drives a v.call (seat_of old v.p) → a ≡ action_of v.call → v.full ≡ false
-    → first_stage a (seat_of old v.p).machine ≡ t → HandAt [] t → KnowsAt v old.epoch (length old.queued) (ahead_of new v.p) (word_of old v.p) t
+    → TakesStep old (Begin v.p v.call) Began new → begun_seat v.call (seat_of old v.p) ≡ drives a v.call (seat_of old v.p) → a ≡ action_of v.call → v.full ≡ false
+    → first_stage a (seat_of old v.p).machine ≡ t → HandAt [] t → KnowsAt v old.epoch (length old.queued) (ahead_of new v.p) (position_word old v.p) t
     → IsUnderWay v called new (ahead_of new v.p)
 begins v a t called old new h (did, sees) drive action full stage free at = record {
   there = subst (λ (k : ℕ). v.p < k) (sym as_many) h.there;
   positions = h.positions ∙ sym as_many;
   others = λ q other. subst IsStill (sym (wrote q ∙ seat_other old v.p q to other)) (h.others q other);
-  taken = λ f. h.taken (ap (λ (st : Seat). st.word) (sym here) ∙ f);
-  progress = ap (λ (st : Seat). st.progress) here;
-  guards = ap (λ (st : Seat). st.guards) here ∙ h.guards;
-  known = subst (λ (epoch : ℕ). Known v called epoch new.queued (ahead_of new v.p) (word_of new v.p) (seat_of new v.p).machine (seat_of new v.p).machine.stage) (sym (ap (λ (s : State). s.epoch) made))
-      (subst (λ (bags : List Bag). Known v called old.epoch bags (ahead_of new v.p) (word_of new v.p) (seat_of new v.p).machine (seat_of new v.p).machine.stage) (sym (ap (λ (s : State). s.queued) made))
-      (subst (λ (st : Seat). Known v called old.epoch old.queued (ahead_of new v.p) st.word st.machine st.machine.stage) (sym here) known));
+  taken = λ f. h.taken (ap (λ (st : WorldSeat). st.word) (sym here) ∙ f);
+  progress = ap (λ (st : WorldSeat). st.progress) here;
+  guards = ap (λ (st : WorldSeat). st.guards) here ∙ h.guards;
+  known = subst (λ (epoch : ℕ). Known v called epoch new.queued (ahead_of new v.p) (position_word new v.p) (seat_of new v.p).machine (seat_of new v.p).machine.stage) (sym (ap (λ (s : State). s.epoch) made))
+      (subst (λ (bags : List Bag). Known v called old.epoch bags (ahead_of new v.p) (position_word new v.p) (seat_of new v.p).machine (seat_of new v.p).machine.stage) (sym (ap (λ (s : State). s.queued) made))
+      (subst (λ (st : WorldSeat). Known v called old.epoch old.queued (ahead_of new v.p) st.word st.machine st.machine.stage) (sym here) known));
 }
   where
     m : Machine Deferral
     m = (seat_of old v.p).machine
 
-    to : Seat
+    to : WorldSeat
     to = drives a v.call (seat_of old v.p)
 
     made : with_places new old.places old.seen old.ahead old.room ≡ with_seat old v.p to
@@ -118,8 +118,8 @@ begins v a t called old new h (did, sees) drive action full stage free at = reco
     here : seat_of new v.p ≡ to
     here = wrote v.p ∙ seat_written old v.p to h.there
 
-    known : Known v called old.epoch old.queued (ahead_of new v.p) (word_of old v.p) (begun a m) (begun a m).stage
-    known = subst (λ s. Known v called old.epoch old.queued (ahead_of new v.p) (word_of old v.p) (begun a m) s) (sym stage) (record {
+    known : Known v called old.epoch old.queued (ahead_of new v.p) (position_word old v.p) (begun a m) (begun a m).stage
+    known = subst (λ s. Known v called old.epoch old.queued (ahead_of new v.p) (position_word old v.p) (begun a m) s) (sym stage) (record {
       held = h.held;
       full = sym full;
       action = action;
@@ -154,7 +154,7 @@ module _ (p : ℕ) (sizes : Sizes) (sized : IsSized sizes) where
 
   pub record Pinning (epoch next bound bags g : ℕ) (jobs : List Deferral) (total called : ℕ → ℕ) (s : State) : Type 0 where
     pub rests : Rests p sizes jobs (g ∷ []) bound total called s
-    pub word : word_of s p ≡ Pinned epoch
+    pub word : position_word s p ≡ Pinned epoch
     pub near : (s.epoch ≡ epoch) ⊎ ((s.epoch ≡ next) × (next ≡ epoch + 1))
     pub few : length s.queued ≤ bags
 

@@ -15,7 +15,7 @@ use Rattle.epoch_machine.specs.declared.machine.Stage.{Stage}
 use Rattle.epoch_machine.specs.declared.machine.Stage.TheVariants.{Idle as Resting, LoadPin, StorePin, ReloadPin, LoadScan, Scan, Advance, Take, Calling, LoadSeal, Put, Keep, LoadRepin, StoreRepin, ReloadRepin, StoreUnpinned, StoreFree, End}
 use Rattle.epoch_machine.specs.Machine.{Machine, is_taking, TakesHand, ask_at, hears, took_heard, gives, with_stage, after_collect, after_pin, after_unpin, after_job, holds_up, scanned, past_word, guards_after}
 use Rattle.epoch_heap.specs.declared.access.Answer.TheVariants.{Guard, Unit as UnitAnswer}
-use Rattle.epoch_heap.specs.Heap.{Heap, outcome_of, after_job as heap_after}
+use Rattle.epoch_heap.specs.Heap.{Heap, outcome_of, heap_after_job as heap_after}
 use Rattle.epoch_laws.specs.declared.step.Call.{Call}
 use Rattle.epoch_laws.specs.declared.step.Call.TheVariants.{Pin, Unpin, Repin, Pause, Resume, Defer, Flush, Release, DeferDestroy, Access as AccessCall}
 use Rattle.epoch_laws.specs.declared.step.Deferral.{Deferral}
@@ -27,9 +27,9 @@ use Rattle.epoch_laws.specs.declared.step.Step.TheVariants.{Go}
 use Rattle.epoch_laws.specs.declared.step.Word.{Word}
 use Rattle.epoch_laws.specs.declared.step.Word.TheVariants.{Free, Unpinned, Pinned}
 use Rattle.epoch_laws.specs.Calls.{ends_call}
-use Rattle.epoch_laws.specs.Collections.{collects, expiry_of, AllAhead, Finds}
+use Rattle.epoch_laws.specs.Collections.{is_collecting, expiry_of, AllAhead, FindsAhead}
 use Rattle.epoch_laws.specs.Kept.{action_of}
-use Rattle.epoch_laws.specs.Run.{Bag, Seat, State, seat_of, word_of, number_of, with_seat, with_machine, with_word, with_places, ahead_of, reach_of, NoneTakes, turn_of, turn_at, lowest, without, full_or_done, end_reply, with_guards, ended_seat, Drives, Goes, Takes}
+use Rattle.epoch_laws.specs.Run.{Bag, WorldSeat, State, seat_of, position_word, word_number, with_seat, with_machine, with_word, with_places, ahead_of, outlook_of, NoneTakes, turn_of, turn_at, lowest, without, full_or_done, end_reply, with_guards, ended_seat, DrivesCall, DoesGo, TakesStep}
 use Rattle.epoch_laws.specs.Tickets.{times, times_queued, calls_of}
 use Rattle.epoch_laws.proofs.SeatLemmas.{seat_written, seat_other, same_or_other}
 use Rattle.epoch_laws.proofs.SeatsFine.{is_pinned}
@@ -122,7 +122,7 @@ pub record Known (v : Plan) (called : ℕ → ℕ) (epoch : ℕ) (queued : List 
   pub at : KnowsAt v epoch (length queued) ahead w s
 
 -- who doesn't disturb p
-abbrev pub IsStill : Seat → Type 0
+abbrev pub IsStill : WorldSeat → Type 0
 IsStill seat = (is_pinned seat.word ≡ false) × (is_taking seat.machine.stage ≡ false)
 
 -- the call is under way
@@ -130,17 +130,17 @@ pub record IsUnderWay (v : Plan) (called : ℕ → ℕ) (s : State) (ahead : ℕ
   pub there : v.p < length s.seats
   pub positions : v.sizes.positions ≡ length s.seats
   pub others : (q : ℕ) → q ≢ v.p → IsStill (seat_of s q)
-  pub taken : word_of s v.p ≢ Free
+  pub taken : position_word s v.p ≢ Free
   pub progress : (seat_of s v.p).progress ≡ Driven v.call
   pub guards : (seat_of s v.p).guards ≡ guards_in v.call
-  pub known : Known v called s.epoch s.queued ahead (word_of s v.p) (seat_of s v.p).machine (seat_of s v.p).machine.stage
+  pub known : Known v called s.epoch s.queued ahead (position_word s v.p) (seat_of s v.p).machine (seat_of s v.p).machine.stage
 
 -- p is between two calls, with these guards and jobs
 pub record Rests (p : ℕ) (sizes : Sizes) (jobs : List Deferral) (out : List ℕ) (bound : ℕ) (total called : ℕ → ℕ) (s : State) : Type 0 where
   pub there : p < length s.seats
   pub positions : sizes.positions ≡ length s.seats
   pub others : (q : ℕ) → q ≢ p → IsStill (seat_of s q)
-  pub taken : word_of s p ≢ Free
+  pub taken : position_word s p ≢ Free
   pub guards : (seat_of s p).guards ≡ out
   pub counted : (seat_of s p).machine.guards ≡ length out
   pub held : (seat_of s p).machine.held ≡ jobs
@@ -152,7 +152,7 @@ pub record Rests (p : ℕ) (sizes : Sizes) (jobs : List Deferral) (out : List �
 -- the call has ended with this reply
 pub record HasEnded (v : Plan) (called : ℕ → ℕ) (r : Reply) (s : State) : Type 0 where
   pub rests : Rests v.p v.sizes v.held (guards_out v.call) v.bound v.total called s
-  pub after : After v s.epoch (length s.queued) (word_of s v.p) v.call
+  pub after : After v s.epoch (length s.queued) (position_word s v.p) v.call
   pub told : r ≡ told_of v.call v.full
 
 -- what comes of a step
@@ -300,7 +300,7 @@ alone g = simp same
 
 module _ (v : Plan) (called : ℕ → ℕ) (old new : State) (r : Reply) (next : IsNext v.epoch v.next) (few : v.sizes.collect_bags ≤ 64) (some : 0 < v.sizes.collect_bags)
     (h : IsUnderWay v called old (ahead_of old v.p)) where
-  abbrev seat : Seat
+  abbrev seat : WorldSeat
   seat = seat_of old v.p
 
   abbrev m : Machine Deferral
@@ -321,7 +321,7 @@ module _ (v : Plan) (called : ℕ → ℕ) (old new : State) (r : Reply) (next :
   abbrev aside : State
   aside = with_places new old.places old.seen old.ahead old.room
 
-  others_along : (s : State) (to : Seat) → ((q : ℕ) → seat_of s q ≡ seat_of (with_seat old v.p to) q) → (q : ℕ) → q ≢ v.p → IsStill (seat_of s q)
+  others_along : (s : State) (to : WorldSeat) → ((q : ℕ) → seat_of s q ≡ seat_of (with_seat old v.p to) q) → (q : ℕ) → q ≢ v.p → IsStill (seat_of s q)
   others_along s to wrote q other = subst IsStill (sym (wrote q ∙ seat_other old v.p q to other)) (h.others q other)
 
   -- p's seat, the epoch and the bags after a step that goes on
@@ -334,16 +334,16 @@ module _ (v : Plan) (called : ℕ → ℕ) (old new : State) (r : Reply) (next :
       there = subst (λ (k : ℕ). v.p < k) (sym as_many) h.there;
       positions = h.positions ∙ sym as_many;
       others = others_along new to wrote;
-      taken = λ f. free (ap (λ (st : Seat). st.word) (sym here) ∙ f);
-      progress = ap (λ (st : Seat). st.progress) here ∙ h.progress;
-      guards = ap (λ (st : Seat). st.guards) here ∙ h.guards;
-      known = subst (λ (epoch : ℕ). Known v after epoch new.queued ahead (word_of new v.p) (seat_of new v.p).machine (seat_of new v.p).machine.stage) (sym (ap (λ (s : State). s.epoch) did))
-          (subst (λ (bags : List Bag). Known v after e bags ahead (word_of new v.p) (seat_of new v.p).machine (seat_of new v.p).machine.stage) (sym (ap (λ (s : State). s.queued) did))
-          (subst (λ (st : Seat). Known v after e q ahead st.word st.machine st.machine.stage) (sym here) known));
+      taken = λ f. free (ap (λ (st : WorldSeat). st.word) (sym here) ∙ f);
+      progress = ap (λ (st : WorldSeat). st.progress) here ∙ h.progress;
+      guards = ap (λ (st : WorldSeat). st.guards) here ∙ h.guards;
+      known = subst (λ (epoch : ℕ). Known v after epoch new.queued ahead (position_word new v.p) (seat_of new v.p).machine (seat_of new v.p).machine.stage) (sym (ap (λ (s : State). s.epoch) did))
+          (subst (λ (bags : List Bag). Known v after e bags ahead (position_word new v.p) (seat_of new v.p).machine (seat_of new v.p).machine.stage) (sym (ap (λ (s : State). s.queued) did))
+          (subst (λ (st : WorldSeat). Known v after e q ahead st.word st.machine st.machine.stage) (sym here) known));
     },
   )
     where
-      to : Seat
+      to : WorldSeat
       to = with_word seat word n
 
       as_many : length new.seats ≡ length old.seats
@@ -377,9 +377,9 @@ module _ (v : Plan) (called : ℕ → ℕ) (old new : State) (r : Reply) (next :
 
   -- where all bags are ahead of a collection that begins at this stage
   abbrev FineAhead : Stage → Type 0
-  FineAhead t = AllAhead (expiry_of t) (reach_of new v.p) → Fine t
+  FineAhead t = AllAhead (expiry_of t) (outlook_of new v.p) → Fine t
 
-  enough : (x : ℕ) → x ≡ v.next → new.queued ≡ old.queued → AllAhead x (reach_of new v.p) → v.bound + 2 ≤ v.next → Enough 0 left ahead
+  enough : (x : ℕ) → x ≡ v.next → new.queued ≡ old.queued → AllAhead x (outlook_of new v.p) → v.bound + 2 ≤ v.next → Enough 0 left ahead
   enough x is same all bound =
       enough_at_first left ahead
       (all (subst (AllExpired x) (sym same) (all_expired v.bound x old.queued (omega (arith, bound, is)) h.known.seals)) ∙ ap (λ (bags : List Bag). min 64 (length bags)) same)
@@ -407,11 +407,11 @@ module _ (v : Plan) (called : ℕ → ℕ) (old new : State) (r : Reply) (next :
   passes : (e k x : ℕ) → holds_up e x ≡ false → FineAhead (if (k + 1 == m.sizes.positions) then scanned e else Scan e (k + 1)) → FineAhead (past_word m.sizes.positions e k x)
   passes e k x free fine = subst (λ (b : Bool). FineAhead (if b then Take e 0 else (if (k + 1 == m.sizes.positions) then scanned e else Scan e (k + 1)))) (sym free) fine
 
-  looked : (e k : ℕ) (x : Word) → word_of old k ≡ x → m.hand ≡ [] → Collects v.call → w ≡ Pinned v.epoch → e ≡ old.epoch → (e ≡ v.epoch) ⊎ ((e ≡ v.next) × (v.next ≡ v.epoch + 1) × (k ≤ v.p)) → left ≤ v.bags
+  looked : (e k : ℕ) (x : Word) → position_word old k ≡ x → m.hand ≡ [] → Collects v.call → w ≡ Pinned v.epoch → e ≡ old.epoch → (e ≡ v.epoch) ⊎ ((e ≡ v.next) × (v.next ≡ v.epoch + 1) × (k ≤ v.p)) → left ≤ v.bags
       → new.queued ≡ old.queued
-      → FineAhead (past_word m.sizes.positions e k (number_of x))
+      → FineAhead (past_word m.sizes.positions e k (word_number x))
   looked e k (Pinned i) eq hand coll word epoch side less same_bags = elim (same_or_other k v.p) [
-    | inl same ↦ let here : word_of old k ≡ word_of old v.p = ap (λ q. word_of old q) same in
+    | inl same ↦ let here : position_word old k ≡ position_word old v.p = ap (λ q. position_word old q) same in
         let number : i ≡ v.epoch = cc (eq, here, word) in
         own e i k hand number coll word epoch side less same_bags
     | inr ne ↦ absurd (cc ((h.others k ne).0))
@@ -432,11 +432,11 @@ module _ (v : Plan) (called : ℕ → ℕ) (old new : State) (r : Reply) (next :
           not_same : i ≡ e → ⊥
           not_same equal = omega (arith, side.0, side.1)
   looked e k Free eq hand coll word epoch side less same_bags = elim (same_or_other k v.p) [
-    | inl same ↦ let here : word_of old k ≡ word_of old v.p = ap (λ q. word_of old q) same in absurd (cc (eq, here, word))
+    | inl same ↦ let here : position_word old k ≡ position_word old v.p = ap (λ q. position_word old q) same in absurd (cc (eq, here, word))
     | inr ne ↦ passes e k 0 refl (behind e k hand coll word epoch (side_at e k ne side) less same_bags)
   ]
   looked e k Unpinned eq hand coll word epoch side less same_bags = elim (same_or_other k v.p) [
-    | inl same ↦ let here : word_of old k ≡ word_of old v.p = ap (λ q. word_of old q) same in absurd (cc (eq, here, word))
+    | inl same ↦ let here : position_word old k ≡ position_word old v.p = ap (λ q. position_word old q) same in absurd (cc (eq, here, word))
     | inr ne ↦ passes e k 2 refl (behind e k hand coll word epoch (side_at e k ne side) less same_bags)
   ]
 
@@ -445,12 +445,12 @@ module _ (v : Plan) (called : ℕ → ℕ) (old new : State) (r : Reply) (next :
 
   -- after the last job of a bag, or at its first
   after_jobs : (x k e len : ℕ) (jobs : List Deferral) → Collects v.call → w ≡ Pinned v.epoch → x ≡ v.next → e ≡ v.next → len + (k + 1) ≤ v.bags → k < v.sizes.collect_bags
-      → (collects (after_job m x k jobs) ≡ true → v.bound + 2 ≤ v.next → Enough (k + 1) len ahead)
+      → (is_collecting (after_job m x k jobs) ≡ true → v.bound + 2 ≤ v.next → Enough (k + 1) len ahead)
       → HandAt jobs (after_job m x k jobs) × KnowsAt v e len ahead w (after_job m x k jobs)
   after_jobs x k e len (job ∷ jobs) coll word expiry epoch less below enough = (tt, (coll, word, expiry, epoch, less, below, enough refl))
   after_jobs x k e len [] coll word expiry epoch less below enough =
       let same : m.sizes.collect_bags ≡ v.sizes.collect_bags = ap (λ (z : Sizes). z.collect_bags) h.known.sizes in
-      pick (λ s. (collects s ≡ true → v.bound + 2 ≤ v.next → Enough (k + 1) len ahead) → HandAt [] s × KnowsAt v e len ahead w s) (k + 1 == m.sizes.collect_bags) (after_collect m.action m.held) (Take x (k + 1))
+      pick (λ s. (is_collecting s ≡ true → v.bound + 2 ≤ v.next → Enough (k + 1) len ahead) → HandAt [] s × KnowsAt v e len ahead w s) (k + 1 == m.sizes.collect_bags) (after_collect m.action m.held) (Take x (k + 1))
       (λ t on. let all : k + 1 ≡ m.sizes.collect_bags = eq_true (k + 1) m.sizes.collect_bags t in
       subst (λ s. HandAt [] s × KnowsAt v e len ahead w s) (sym (ended_stage coll))
       (refl, collected v e len w v.call next coll word epoch (omega arith) (λ bound. omega arith)))
@@ -459,7 +459,7 @@ module _ (v : Plan) (called : ℕ → ℕ) (old new : State) (r : Reply) (next :
 
   -- what the step finds of the collection
   abbrev FindsFor : Option Ask → Type 0
-  FindsFor o = Finds (NoneTakes old) o (seat_of new v.p).machine (reach_of old v.p) (reach_of new v.p)
+  FindsFor o = FindsAhead (NoneTakes old) o (seat_of new v.p).machine (outlook_of old v.p) (outlook_of new v.p)
 
   -- at a stage that isn't a collection's, nobody is taking bags
   none_takes : is_taking m.stage ≡ false → NoneTakes old
@@ -470,12 +470,12 @@ module _ (v : Plan) (called : ℕ → ℕ) (old new : State) (r : Reply) (next :
 
   -- the stage that p's machine is at after the step
   stage_now : (n : Machine Deferral) (word : Word) → ((q : ℕ) → seat_of new q ≡ seat_of (with_seat old v.p (with_word seat word n)) q) → (seat_of new v.p).machine.stage ≡ n.stage
-  stage_now n word wrote = ap (λ (st : Seat). st.machine.stage) (wrote v.p ∙ seat_written old v.p (with_word seat word n) h.there)
+  stage_now n word wrote = ap (λ (st : WorldSeat). st.machine.stage) (wrote v.p ∙ seat_written old v.p (with_word seat word n) h.there)
 
-  counts : (n : Machine Deferral) → (seat_of new v.p).machine.stage ≡ n.stage → collects n.stage ≡ true → (x : ℕ) (queued : List Bag) → new.queued ≡ queued
+  counts : (n : Machine Deferral) → (seat_of new v.p).machine.stage ≡ n.stage → is_collecting n.stage ≡ true → (x : ℕ) (queued : List Bag) → new.queued ≡ queued
       → FindsFor (Some (TakeBag x)) → ahead_of old v.p + length queued ≡ ahead + left
   counts n at on x queued now finds =
-      subst (λ (bags : List Bag). ahead_of old v.p + length bags ≡ ahead + left) now (finds.counted (ap collects at ∙ on))
+      subst (λ (bags : List Bag). ahead_of old v.p + length bags ≡ ahead + left) now (finds.counted (ap is_collecting at ∙ on))
 
   -- a step of a collection
   takes : (x k : ℕ) → m.stage ≡ Take x k → KnowsAt v old.epoch left (ahead_of old v.p) w (Take x k) → m.hand ≡ []
@@ -500,7 +500,7 @@ module _ (v : Plan) (called : ℕ → ℕ) (old new : State) (r : Reply) (next :
           omega (arith, at.4, ap length same),
           at.5,
           λ bound. enough_same k left (length queued) _ _ (at.6 bound)
-              (counts m (stage_now m w (λ q. ap (λ (s : State). seat_of s q) did)) (ap collects stage) x queued (ap (λ (s : State). s.queued) did) finds) (ap length same),
+              (counts m (stage_now m w (λ q. ap (λ (s : State). seat_of s q) did)) (ap is_collecting stage) x queued (ap (λ (s : State). s.queued) did) finds) (ap length same),
         );
       }) did
   takes x k stage at hand Empty jobs queued told same finds did =
@@ -522,7 +522,7 @@ module _ (v : Plan) (called : ℕ → ℕ) (old new : State) (r : Reply) (next :
     where
       is_over : is_taking (seat_of new v.p).machine.stage ≡ false
       is_over = ap (λ (s : State). is_taking (seat_of s v.p).machine.stage) did
-          ∙ ap (λ (st : Seat). is_taking st.machine.stage) (seat_written old v.p _ h.there)
+          ∙ ap (λ (st : WorldSeat). is_taking st.machine.stage) (seat_written old v.p _ h.there)
           ∙ ap is_taking (ended_stage at.0)
   takes x k stage at hand Got jobs queued told (bag, its, expired, inserted) finds did =
       let fewer = one_less old.queued queued bag inserted in
@@ -548,7 +548,7 @@ module _ (v : Plan) (called : ℕ → ℕ) (old new : State) (r : Reply) (next :
       → Comes v after r new ahead
   calls x k at job jobs hand told finds did =
       let fine = after_jobs x k old.epoch left jobs at.0 at.1 at.2 at.3 at.4 at.5
-      (λ on bound. subst (Enough (k + 1) left) (sym (finds (ap collects (stage_now (gives m (Calling x k) jobs) w (λ q. ap (λ (s : State). seat_of s q) did)) ∙ on))) (at.6 bound)) in
+      (λ on bound. subst (Enough (k + 1) left) (sym (finds (ap is_collecting (stage_now (gives m (Calling x k) jobs) w (λ q. ap (λ (s : State). seat_of s q) did)) ∙ on))) (at.6 bound)) in
       goes_to w (gives m (Calling x k) jobs) old.epoch old.queued (heap_after old.heap job.removes) h.taken (ap ends_call told) (record {
         held = h.known.held;
         full = h.known.full;
@@ -563,25 +563,25 @@ module _ (v : Plan) (called : ℕ → ℕ) (old new : State) (r : Reply) (next :
 
   -- the end of the call
   rests_at : (guards : List ℕ) (paused : Option ℕ) → guards ≡ guards_out v.call → guards_after m.action m.guards ≡ length (guards_out v.call)
-      → ((u : ℕ) → calls_of u r ≡ 0) → m.hand ≡ [] → aside ≡ with_seat old v.p (with_guards seat guards paused) → Rests v.p v.sizes v.held (guards_out v.call) v.bound v.total after new × (word_of new v.p ≡ w)
+      → ((u : ℕ) → calls_of u r ≡ 0) → m.hand ≡ [] → aside ≡ with_seat old v.p (with_guards seat guards paused) → Rests v.p v.sizes v.held (guards_out v.call) v.bound v.total after new × (position_word new v.p ≡ w)
   rests_at guards paused out counted quiet hand did = (
     record {
       there = subst (λ (k : ℕ). v.p < k) (sym as_many) h.there;
       positions = h.positions ∙ sym as_many;
       others = others_along new to wrote;
-      taken = λ f. h.taken (ap (λ (st : Seat). st.word) (sym here) ∙ f);
-      guards = ap (λ (st : Seat). st.guards) here ∙ out;
-      counted = ap (λ (st : Seat). st.machine.guards) here ∙ counted;
-      held = ap (λ (st : Seat). st.machine.held) here ∙ h.known.held;
-      hand = ap (λ (st : Seat). st.machine.hand) here ∙ hand;
-      sized = ap (λ (st : Seat). st.machine.sizes) here ∙ h.known.sizes;
+      taken = λ f. h.taken (ap (λ (st : WorldSeat). st.word) (sym here) ∙ f);
+      guards = ap (λ (st : WorldSeat). st.guards) here ∙ out;
+      counted = ap (λ (st : WorldSeat). st.machine.guards) here ∙ counted;
+      held = ap (λ (st : WorldSeat). st.machine.held) here ∙ h.known.held;
+      hand = ap (λ (st : WorldSeat). st.machine.hand) here ∙ hand;
+      sized = ap (λ (st : WorldSeat). st.machine.sizes) here ∙ h.known.sizes;
       seals = subst (SealedBy v.bound) (sym bags) h.known.seals;
       placed = λ u. omega (arith, h.known.placed u, ap (times_queued u) bags, ap (times u) hand, quiet u);
     },
-    ap (λ (st : Seat). st.word) here,
+    ap (λ (st : WorldSeat). st.word) here,
   )
     where
-      to : Seat
+      to : WorldSeat
       to = with_guards seat guards paused
 
       as_many : length new.seats ≡ length old.seats
@@ -604,8 +604,8 @@ module _ (v : Plan) (called : ℕ → ℕ) (old new : State) (r : Reply) (next :
         ap ends_call told ∙ told_ends v.call v.full,
         record {
           rests = rested.0;
-          after = subst (λ (e : ℕ). After v e (length new.queued) (word_of new v.p) v.call) (sym (ap (λ (s : State). s.epoch) did))
-              (subst (λ (bags : List Bag). After v old.epoch (length bags) (word_of new v.p) v.call) (sym (ap (λ (s : State). s.queued) did))
+          after = subst (λ (e : ℕ). After v e (length new.queued) (position_word new v.p) v.call) (sym (ap (λ (s : State). s.epoch) did))
+              (subst (λ (bags : List Bag). After v old.epoch (length bags) (position_word new v.p) v.call) (sym (ap (λ (s : State). s.queued) did))
               (subst (λ (word : Word). After v old.epoch left word v.call) (sym rested.1) at));
           told = told;
         },
@@ -650,7 +650,7 @@ module _ (v : Plan) (called : ℕ → ℕ) (old new : State) (r : Reply) (next :
       by_call (AccessCall a) is told did = absurd (subst (After v old.epoch left w) is at)
 
   go : (s : Stage) → m.stage ≡ s → Known v called old.epoch old.queued (ahead_of old v.p) w m s → FindsFor (ask_at s)
-      → Drives old v.p seat v.call s (ask_at s) r aside → Comes v after r new ahead
+      → DrivesCall old v.p seat v.call s (ask_at s) r aside → Comes v after r new ahead
   go Resting stage k finds did = absurd k.at
   go LoadPin stage k finds did = staged (StorePin old.epoch) (k.hand, (k.at.0, k.at.1, k.at.1, k.at.2)) did
   go (StorePin e) stage k finds did =
@@ -676,9 +676,9 @@ module _ (v : Plan) (called : ℕ → ℕ) (old new : State) (r : Reply) (next :
       near : Near v old.epoch → (old.epoch ≡ v.epoch) ⊎ ((old.epoch ≡ v.next) × (v.next ≡ v.epoch + 1) × (0 ≤ v.p))
       near (inl x) = inl x
       near (inr x) = inr (x.0, x.1, omega arith)
-  go (Scan e j) stage k finds did = staged (past_word m.sizes.positions e j (number_of (word_of old j)))
-      (looked e j (word_of old j) refl k.hand k.at.0 k.at.1 k.at.2 k.at.3 k.at.4 (ap (λ (s : State). s.queued) did.1)
-      (subst (λ (t : Stage). AllAhead (expiry_of t) (reach_of new v.p)) (stage_now (with_stage m (past_word m.sizes.positions e j (number_of (word_of old j)))) w (λ q. ap (λ (s : State). seat_of s q) did.1))
+  go (Scan e j) stage k finds did = staged (past_word m.sizes.positions e j (word_number (position_word old j)))
+      (looked e j (position_word old j) refl k.hand k.at.0 k.at.1 k.at.2 k.at.3 k.at.4 (ap (λ (s : State). s.queued) did.1)
+      (subst (λ (t : Stage). AllAhead (expiry_of t) (outlook_of new v.p)) (stage_now (with_stage m (past_word m.sizes.positions e j (word_number (position_word old j)))) w (λ q. ap (λ (s : State). seat_of s q) did.1))
       (finds (none_takes (ap is_taking stage))))) did
   go (Advance e) stage k finds did =
       goes_to w (hears m (Advance e) Stored) (e + 1) old.queued old.heap h.taken (ap ends_call did.0) (record {
@@ -698,7 +698,7 @@ module _ (v : Plan) (called : ℕ → ℕ) (old new : State) (r : Reply) (next :
           omega (arith, k.at.3),
           some,
           enough (e + 1) (sym k.at.2) (ap (λ (s : State). s.queued) did.1)
-              (subst (λ (t : Stage). AllAhead (expiry_of t) (reach_of new v.p)) (stage_now (hears m (Advance e) Stored) w (λ q. ap (λ (s : State). seat_of s q) did.1))
+              (subst (λ (t : Stage). AllAhead (expiry_of t) (outlook_of new v.p)) (stage_now (hears m (Advance e) Stored) w (λ q. ap (λ (s : State). seat_of s q) did.1))
               (finds (none_takes (ap is_taking stage)))),
         );
       }) did.1
@@ -727,11 +727,11 @@ module _ (v : Plan) (called : ℕ → ℕ) (old new : State) (r : Reply) (next :
   go StoreFree stage k finds did = absurd k.at
 
   -- a step Go of p, whose call is under way
-  pub go_comes : Takes old (Go v.p) r new → Comes v after r new ahead
+  pub go_comes : TakesStep old (Go v.p) r new → Comes v after r new ahead
   go_comes (inl did, sees) = absurd (h.taken did.0)
   go_comes (inr did, sees) =
       go m.stage refl h.known (subst FindsFor asked sees.2)
-      (subst (λ (now : Progress). Goes old v.p seat now r aside) h.progress did.1)
+      (subst (λ (now : Progress). DoesGo old v.p seat now r aside) h.progress did.1)
     where
       asked : turn_of seat ≡ ask_at m.stage
       asked = turn_taken seat.word seat.progress m.stage h.taken ∙ ap (λ (now : Progress). turn_at Unpinned now m.stage) h.progress

@@ -24,7 +24,7 @@ use Rattle.epoch_laws.specs.declared.step.Word.{Word}
 use Rattle.epoch_laws.specs.declared.step.Word.TheVariants.{Unpinned, Pinned}
 use Rattle.epoch_heap.specs.Heap.{Heap}
 use Rattle.epoch_laws.specs.Calls.{goes_of, ends_call}
-use Rattle.epoch_laws.specs.Run.{Bag, Seat, State, Open, seat_of, with_seat, with_machine, with_places, with_heap, lowest, lowest_from, Performs, Moves, Takes, Runs}
+use Rattle.epoch_laws.specs.Run.{Bag, WorldSeat, State, Open, seat_of, with_seat, with_machine, with_places, with_heap, lowest, lowest_from, PerformsAsk, Moves, TakesStep, Runs}
 use Rattle.epoch_rounds.specs.Sharp.{pair_sizes, EndsIn}
 use Rattle.epoch_laws.proofs.Log.{IsWithdrawal}
 use Rattle.epoch_laws.proofs.StoredBags.{one_less}
@@ -33,7 +33,7 @@ use Rattle.epoch_rounds.proofs.SureSteps.{no_heap, core, back, Surely, Leads, go
 -- THE STATES
 
 -- a participant with no bag in hand, that isn't paused
-abbrev pub seat : Word → Stage → Action → ℕ → ℕ → ℕ → Bool → List Deferral → Progress → List ℕ → Seat
+abbrev pub seat : Word → Stage → Action → ℕ → ℕ → ℕ → Bool → List Deferral → Progress → List ℕ → WorldSeat
 seat w s a guards published pins full held now out = record {
   word = w;
   machine = record { stage = s; action = a; guards = guards; published = published; pins = pins; sizes = pair_sizes; full = full; held = held; hand = [] };
@@ -43,7 +43,7 @@ seat w s a guards published pins full held now out = record {
   readings = [];
 }
 
-abbrev pub world : ℕ → List Bag → ℕ → Seat → Seat → State
+abbrev pub world : ℕ → List Bag → ℕ → WorldSeat → WorldSeat → State
 world epoch bags tickets zeroth first = record { sizes = pair_sizes; epoch = epoch; seats = zeroth ∷ first ∷ []; queued = bags; tickets = tickets; ending = Open; heap = no_heap; places = []; seen = []; ahead = []; room = [] }
 
 -- the job that 1 defers
@@ -243,15 +243,15 @@ end_so p at after r is on = ends p at after r (Exactly (r ∷ []) (core after)) 
 
 -- a Go of p may leave the state as it is
 abbrev OneOf : State → ℕ → State → Type 0
-OneOf at p after = (old new : State) (told : Reply) → core old ≡ at → Takes old (Go p) told new → (told ≡ Stepped) × ((core new ≡ at) ⊎ (core new ≡ after))
+OneOf at p after = (old new : State) (told : Reply) → core old ≡ at → TakesStep old (Go p) told new → (told ≡ Stepped) × ((core new ≡ at) ⊎ (core new ≡ after))
 
 loops : (p : ℕ) (at after : State) (Result : State → List Reply → State → Type 0) → OneOf at p after → Leads p after Result
-    → ((old mid new : State) (rs : List Reply) → Takes old (Go p) Stepped mid → Result mid rs new → Result old (Stepped ∷ rs) new) → Leads p at Result
+    → ((old mid new : State) (rs : List Reply) → TakesStep old (Go p) Stepped mid → Result mid rs new → Result old (Stepped ∷ rs) new) → Leads p at Result
 loops p at after Result is then prepend old new [] e last run = absurd last
 loops p at after Result is then prepend old new (x ∷ []) e last (mid, did, run) = absurd (cc (last, ap ends_call (is old mid x e did).0))
 loops p at after Result is then prepend old new (x ∷ y ∷ rs) e last (mid, did, run) =
     let one = is old mid x e did in
-    subst (λ (z : Reply). Result old (z ∷ y ∷ rs) new) (sym one.0) (prepend old mid new (y ∷ rs) (subst (λ (z : Reply). Takes old (Go p) z mid) one.0 did) (elim one.1 [
+    subst (λ (z : Reply). Result old (z ∷ y ∷ rs) new) (sym one.0) (prepend old mid new (y ∷ rs) (subst (λ (z : Reply). TakesStep old (Go p) z mid) one.0 did) (elim one.1 [
       | inl same ↦ loops p at after Result is then prepend mid new (y ∷ rs) same last.1 run
       | inr on ↦ then mid new (y ∷ rs) on last.1 run
     ]))
@@ -260,7 +260,7 @@ loops p at after Result is then prepend old new (x ∷ y ∷ rs) e last (mid, di
 abbrev NoneExpired : ℕ → List Bag → Type 0
 NoneExpired x bags = (bag : Bag) (left : List Bag) → IsInserted bag left bags → IsExpired x bag → ⊥
 
-took : (old new : State) (p : ℕ) (seat : Seat) (x k : ℕ) (r : Reply) → NoneExpired x old.queued → Performs old p seat (Take x k) (TakeBag x) r new
+took : (old new : State) (p : ℕ) (seat : WorldSeat) (x k : ℕ) (r : Reply) → NoneExpired x old.queued → PerformsAsk old p seat (Take x k) (TakeBag x) r new
     → (r ≡ Stepped) × ((new ≡ with_seat old p seat) ⊎ (new ≡ with_seat old p (with_machine seat (with_stage seat.machine (after_collect seat.machine.action seat.machine.held)))))
 took old new p seat x k r none (TakeAgain, jobs, queued, told, takes, did) = (told, inl (did ∙ ap (λ (q : List Bag). record (with_seat old p seat) { queued = q }) takes))
 took old new p seat x k r none (Empty, jobs, queued, told, takes, did) =
@@ -357,7 +357,7 @@ only_bag bag [] [] e = refl
 only_bag bag [] (x ∷ after) e = absurd (cc (e))
 only_bag bag (x ∷ front) after e = absurd (cc (e))
 
-put : (old new : State) (p : ℕ) (at : Seat) (s : ℕ) (r : Reply) → old.queued ≡ [] → Performs old p at (Put s) (PutBag s) r new
+put : (old new : State) (p : ℕ) (at : WorldSeat) (s : ℕ) (r : Reply) → old.queued ≡ [] → PerformsAsk old p at (Put s) (PutBag s) r new
     → (r ≡ Stepped) × ((new ≡ with_seat old p at) ⊎ ((new ≡ record (with_seat old p (with_machine at (put_heard at.machine PutDone))) { queued = record { seal = s; jobs = at.machine.held } ∷ [] }) ⊎ (new ≡ with_seat old p (with_machine at (put_heard at.machine Full)))))
 put old new p at s r none (Again, queued, told, puts, did) = (told, inl (did ∙ ap (λ (q : List Bag). record (with_seat old p at) { queued = q }) puts))
 put old new p at s r none (PutDone, queued, told, puts, did) =
@@ -410,7 +410,7 @@ ends_more : (rs : List Reply) → EndsIn (Refused BagsFull) rs → EndsIn (Refus
 ends_more [] e = absurd e
 ends_more (r ∷ rs) e = e
 
-collected_more : (old mid new : State) (rs : List Reply) → Takes old (Go 1) Stepped mid → Collected mid rs new → Collected old (Stepped ∷ rs) new
+collected_more : (old mid new : State) (rs : List Reply) → TakesStep old (Go 1) Stepped mid → Collected mid rs new → Collected old (Stepped ∷ rs) new
 collected_more old mid new rs did c = record {
   begins = c.begins;
   front = Stepped ∷ c.front;
@@ -423,7 +423,7 @@ collected_more old mid new rs did c = record {
   is = c.is;
 }
 
-flushed_more : (old mid new : State) (rs : List Reply) → Takes old (Go 1) Stepped mid → Flushed mid rs new → Flushed old (Stepped ∷ rs) new
+flushed_more : (old mid new : State) (rs : List Reply) → TakesStep old (Go 1) Stepped mid → Flushed mid rs new → Flushed old (Stepped ∷ rs) new
 flushed_more old mid new rs did (inl e) = inl (ends_more rs e)
 flushed_more old mid new rs did (inr c) = inr (collected_more old mid new rs did c)
 
@@ -479,7 +479,7 @@ putted pl se ah ro hp new told (inr did) =
     let t = put (with_heap (with_places f1 pl se ah ro) hp) (with_places new pl se ah ro) 1 (seat_of f1 1) 2 told refl did.1 in
     (t.0, elim t.1 [ inl e ↦ inl (ap core e) | inr other ↦ inr (elim other [ inl e ↦ inl (ap core e) | inr e ↦ inr (ap core e) ]) ])
 
-put_one : (old new : State) (told : Reply) → core old ≡ f1 → Takes old (Go 1) told new → (told ≡ Stepped) × ((core new ≡ f1) ⊎ ((core new ≡ d0) ⊎ (core new ≡ g0)))
+put_one : (old new : State) (told : Reply) → core old ≡ f1 → TakesStep old (Go 1) told new → (told ≡ Stepped) × ((core new ≡ f1) ⊎ ((core new ≡ d0) ⊎ (core new ≡ g0)))
 put_one old new told e did = putted old.places old.seen old.ahead old.room old.heap new told (subst (λ (s : State). Moves s (Go 1) told (with_places new old.places old.seen old.ahead old.room)) (back f1 old e) did.0)
 
 puts : Leads 1 f1 Flushed
@@ -487,7 +487,7 @@ puts old new [] e last run = absurd last
 puts old new (x ∷ []) e last (mid, did, run) = absurd (cc (last, ap ends_call (put_one old mid x e did).0))
 puts old new (x ∷ y ∷ rs) e last (mid, did, run) =
     let one = put_one old mid x e did in
-    let so : Takes old (Go 1) Stepped mid = subst (λ (z : Reply). Takes old (Go 1) z mid) one.0 did in
+    let so : TakesStep old (Go 1) Stepped mid = subst (λ (z : Reply). TakesStep old (Go 1) z mid) one.0 did in
     subst (λ (z : Reply). Flushed old (z ∷ y ∷ rs) new) (sym one.0) (flushed_more old mid new (y ∷ rs) so (elim one.1 [
       | inl same ↦ puts mid new (y ∷ rs) same last.1 run
       | inr other ↦ elim other [

@@ -11,9 +11,9 @@ use Rattle.epoch_laws.specs.declared.step.Reply.{Reply}
 use Rattle.epoch_laws.specs.declared.step.Reply.TheVariants.{Began, Stepped, Pinned as PinnedReply, Unpinned as UnpinnedReply, Repinned, Deferred, Done, Refused}
 use Rattle.epoch_laws.specs.declared.step.Step.TheVariants.{Register, Begin, Go}
 use Rattle.epoch_laws.specs.declared.step.Word.TheVariants.{Unpinned}
-use Rattle.epoch_laws.specs.Calls.{call_of, goes_of, ends_call, EndsAtLast}
-use Rattle.epoch_laws.specs.Grace.{Stands}
-use Rattle.epoch_laws.specs.Run.{Bag, Seat, State, HasFreePlace, Ending, Open, seat_of, with_places, with_heap, free_seat, IsFresh, Moves, Takes, Runs}
+use Rattle.epoch_laws.specs.Calls.{call_entries, goes_of, ends_call, EndsAtLast}
+use Rattle.epoch_laws.specs.Grace.{IsReplyAt}
+use Rattle.epoch_laws.specs.Run.{Bag, WorldSeat, State, HasFreePlace, Ending, Open, seat_of, with_places, with_heap, free_seat, IsFresh, Moves, TakesStep, Runs}
 use Rattle.epoch_laws.specs.Room.{is_at_places}
 use Rattle.epoch_rounds.specs.Sharp.{pair_sizes, EndsIn, TakesSharpList, IsSharp}
 use Rattle.epoch_laws.proofs.Log.{IsWithdrawal, PinnedSince, stands_push, stands_keep, stands_new, stands_within}
@@ -26,7 +26,7 @@ use Rattle.epoch_rounds.proofs.SharpCalls.{To, Exactly, its_bag, c0, c1, c2, c3,
 abbrev BeginsTo : State → ℕ → Call → State → Type 0
 BeginsTo at p c after = (places : List Bool) (seen ahead : List ℕ) (room : List Bool) (heap : Heap) (new : State) (told : Reply) → Moves (with_heap (with_places at places seen ahead room) heap) (Begin p c) told new → (told ≡ Began) × (core new ≡ after)
 
-begins_to : (at after old mid : State) (p : ℕ) (c : Call) (told : Reply) → BeginsTo at p c after → core old ≡ at → Takes old (Begin p c) told mid → (told ≡ Began) × (core mid ≡ after)
+begins_to : (at after old mid : State) (p : ℕ) (c : Call) (told : Reply) → BeginsTo at p c after → core old ≡ at → TakesStep old (Begin p c) told mid → (told ≡ Began) × (core mid ≡ after)
 begins_to at after old mid p c told is e did =
     is old.places old.seen old.ahead old.room old.heap (with_places mid old.places old.seen old.ahead old.room) told (subst (λ (s : State). Moves s (Begin p c) told (with_places mid old.places old.seen old.ahead old.room)) (back at old e) did.0)
 
@@ -35,12 +35,12 @@ record Called (p : ℕ) (c : Call) (Result : State → List Reply → State → 
   pub mid : State
   pub rs : List Reply
   pub whole : replies ≡ Began ∷ rs
-  pub began : Takes old (Begin p c) Began mid
+  pub began : TakesStep old (Begin p c) Began mid
   pub run : Runs mid (goes_of p rs) new
   pub result : Result mid rs new
 
 called : (p : ℕ) (c : Call) (at after : State) (Result : State → List Reply → State → Type 0) → BeginsTo at p c after → Leads p after Result
-    → (old new : State) (replies : List Reply) → core old ≡ at → EndsAtLast replies → Runs old (call_of p c replies) new → Called p c Result old new replies
+    → (old new : State) (replies : List Reply) → core old ≡ at → EndsAtLast replies → Runs old (call_entries p c replies) new → Called p c Result old new replies
 called p c at after Result is leads old new [] e ends run = absurd ends
 called p c at after Result is leads old new (r ∷ []) e ends (mid, did, run) = absurd (cc (ends, ap ends_call (begins_to at after old mid p c r is e did).0))
 called p c at after Result is leads old new (r ∷ s ∷ rs) e ends (mid, did, run) =
@@ -49,20 +49,20 @@ called p c at after Result is leads old new (r ∷ s ∷ rs) e ends (mid, did, r
       mid = mid;
       rs = s ∷ rs;
       whole = ap (λ (z : Reply). z ∷ s ∷ rs) one.0;
-      began = subst (λ (z : Reply). Takes old (Begin p c) z mid) one.0 did;
+      began = subst (λ (z : Reply). TakesStep old (Begin p c) z mid) one.0 did;
       run = run;
       result = leads mid new (s ∷ rs) one.1 ends.1 run;
     }
 
 -- THE REGISTRATIONS
 
-two_seats : (seats : List Seat) (d : Seat) → length seats ≡ 2 → ((p : ℕ) → slice_index_or seats p d ≡ d) → seats ≡ d ∷ d ∷ []
+two_seats : (seats : List WorldSeat) (d : WorldSeat) → length seats ≡ 2 → ((p : ℕ) → slice_index_or seats p d ≡ d) → seats ≡ d ∷ d ∷ []
 two_seats [] d len at = absurd (omega (arith, len))
 two_seats (a ∷ []) d len at = absurd (omega (arith, len))
-two_seats (a ∷ b ∷ []) d len at = ap (λ (x : Seat). x ∷ b ∷ []) (at 0) ∙ ap (λ (x : Seat). d ∷ x ∷ []) (at 1)
+two_seats (a ∷ b ∷ []) d len at = ap (λ (x : WorldSeat). x ∷ b ∷ []) (at 0) ∙ ap (λ (x : WorldSeat). d ∷ x ∷ []) (at 1)
 two_seats (a ∷ b ∷ c ∷ seats) d len at = absurd (omega (arith, len))
 
-abbrev made : Sizes → ℕ → List Seat → List Bag → ℕ → Ending → State
+abbrev made : Sizes → ℕ → List WorldSeat → List Bag → ℕ → Ending → State
 made sizes epoch seats queued tickets ending = record { sizes = sizes; epoch = epoch; seats = seats; queued = queued; tickets = tickets; ending = ending; heap = no_heap; places = []; seen = []; ahead = []; room = [] }
 
 abbrev unregistered : State
@@ -75,7 +75,7 @@ fresh_core : (s : State) → IsFresh s → s.sizes ≡ pair_sizes → s.epoch �
 fresh_core s fresh sized first =
     ap (λ (z : Sizes). made z s.epoch s.seats s.queued s.tickets s.ending) sized
     ∙ ap (λ (e : ℕ). made pair_sizes e s.seats s.queued s.tickets s.ending) first
-    ∙ ap (λ (q : List Seat). made pair_sizes 0 q s.queued s.tickets s.ending) seats
+    ∙ ap (λ (q : List WorldSeat). made pair_sizes 0 q s.queued s.tickets s.ending) seats
     ∙ ap (λ (q : List Bag). made pair_sizes 0 (free_seat pair_sizes ∷ free_seat pair_sizes ∷ []) q s.tickets s.ending) fresh.none_queued
     ∙ ap (λ (t : ℕ). made pair_sizes 0 (free_seat pair_sizes ∷ free_seat pair_sizes ∷ []) [] t s.ending) fresh.no_tickets
     ∙ ap (λ (x : Ending). made pair_sizes 0 (free_seat pair_sizes ∷ free_seat pair_sizes ∷ []) [] 0 x) fresh.open_end
@@ -128,7 +128,7 @@ since_new log x p e = record {
   lasts = λ k after ends. elim ends [ inl w ↦ no k after (UnpinnedReply p) w | inr w ↦ no k after (Repinned p) w ];
 }
   where
-    no : (k : ℕ) → length log < k → (event : Reply) → ¬ (Stands (log ++ x ∷ []) k event)
+    no : (k : ℕ) → length log < k → (event : Reply) → ¬ (IsReplyAt (log ++ x ∷ []) k event)
     no k after event w = absurd (omega (arith, after, stands_within (log ++ x ∷ []) k event w, length-append log (x ∷ [])))
 
 since_push : (log : List Entry) (x : Entry) (p at : ℕ) → PinnedSince log p at → ¬ (IsWithdrawal x.reply p) → PinnedSince (log ++ x ∷ []) p at
@@ -178,23 +178,23 @@ pin_replies p = Began ∷ Stepped ∷ PinnedReply p ∷ Stepped ∷ Done (Guard 
 abbrev up_to : List Entry
 up_to = begin 0 Pin ∷ went 0 Stepped ∷ []
 
-pinned_in : (l : List Entry) (rs : List Reply) → rs ≡ pin_replies 0 → PinnedSince (l ++ call_of 0 Pin rs) 0 (length (l ++ up_to))
+pinned_in : (l : List Entry) (rs : List Reply) → rs ≡ pin_replies 0 → PinnedSince (l ++ call_entries 0 Pin rs) 0 (length (l ++ up_to))
 pinned_in l rs e =
     let x : Entry = went 0 (PinnedReply 0) in
     let more : List Entry = went 0 Stepped ∷ went 0 (Done (Guard 0)) ∷ [] in
-    subst (λ (r : List Reply). PinnedSince (l ++ call_of 0 Pin r) 0 (length (l ++ up_to))) (sym e)
+    subst (λ (r : List Reply). PinnedSince (l ++ call_entries 0 Pin r) 0 (length (l ++ up_to))) (sym e)
     (subst (λ (z : List Entry). PinnedSince z 0 (length (l ++ up_to))) (append_assoc (l ++ up_to) (x ∷ []) more ∙ append_assoc l up_to (x ∷ more))
     (since_all ((l ++ up_to) ++ x ∷ []) more 0 (length (l ++ up_to)) (since_new (l ++ up_to) x 0 refl) (calm_stays Stepped refl, (calm_stays (Done (Guard 0)) refl, tt))))
 
 abbrev defer_replies : List Reply
 defer_replies = Began ∷ Deferred 0 ∷ Done UnitAnswer ∷ []
 
-deferred_in : (l m : List Entry) (rs : List Reply) → rs ≡ defer_replies → slice_get ((l ++ call_of 1 (Defer (Some 0)) rs) ++ m) (length (l ++ begin 1 (Defer (Some 0)) ∷ [])) ≡ Some (went 1 (Deferred 0))
+deferred_in : (l m : List Entry) (rs : List Reply) → rs ≡ defer_replies → slice_get ((l ++ call_entries 1 (Defer (Some 0)) rs) ++ m) (length (l ++ begin 1 (Defer (Some 0)) ∷ [])) ≡ Some (went 1 (Deferred 0))
 deferred_in l m rs e =
     let b : Entry = begin 1 (Defer (Some 0)) in
     let x : Entry = went 1 (Deferred 0) in
     let y : Entry = went 1 (Done UnitAnswer) in
-    subst (λ (r : List Reply). slice_get ((l ++ call_of 1 (Defer (Some 0)) r) ++ m) (length (l ++ b ∷ [])) ≡ Some x) (sym e)
+    subst (λ (r : List Reply). slice_get ((l ++ call_entries 1 (Defer (Some 0)) r) ++ m) (length (l ++ b ∷ [])) ≡ Some x) (sym e)
     (ap (λ (z : List Entry). slice_get z (length (l ++ b ∷ []))) (append_assoc l (b ∷ x ∷ y ∷ []) m ∙ sym (append_assoc l (b ∷ []) (x ∷ y ∷ m))) ∙ get_at (l ++ b ∷ []) x (y ∷ m))
 
 -- THE LIST
@@ -229,35 +229,35 @@ module _ (fresh new : State) (log : List Entry) (is_fresh : IsFresh fresh) (size
   both = record { step = Register; reply = t.first } ∷ record { step = Register; reply = t.second } ∷ []
 
   abbrev l1 : List Entry
-  l1 = both ++ call_of 0 Pin t.r1
+  l1 = both ++ call_entries 0 Pin t.r1
 
   abbrev l2 : List Entry
-  l2 = l1 ++ call_of 0 (Unpin (Some 0)) t.r2
+  l2 = l1 ++ call_entries 0 (Unpin (Some 0)) t.r2
 
   abbrev l3 : List Entry
-  l3 = l2 ++ call_of 1 Pin t.r3
+  l3 = l2 ++ call_entries 1 Pin t.r3
 
   abbrev l4 : List Entry
-  l4 = l3 ++ call_of 1 (Unpin (Some 0)) t.r4
+  l4 = l3 ++ call_entries 1 (Unpin (Some 0)) t.r4
 
   abbrev l5 : List Entry
-  l5 = l4 ++ call_of 0 Pin t.r5
+  l5 = l4 ++ call_entries 0 Pin t.r5
 
   abbrev l6 : List Entry
-  l6 = l5 ++ call_of 1 Pin t.r6
+  l6 = l5 ++ call_entries 1 Pin t.r6
 
   abbrev l7 : List Entry
-  l7 = l6 ++ call_of 1 (Defer (Some 0)) t.r7
+  l7 = l6 ++ call_entries 1 (Defer (Some 0)) t.r7
 
   run7 : Runs fresh l7 t.s7
   run7 =
-      runs_append fresh t.s6 t.s7 l6 (call_of 1 (Defer (Some 0)) t.r7)
-      (runs_append fresh t.s5 t.s6 l5 (call_of 1 Pin t.r6)
-      (runs_append fresh t.s4 t.s5 l4 (call_of 0 Pin t.r5)
-      (runs_append fresh t.s3 t.s4 l3 (call_of 1 (Unpin (Some 0)) t.r4)
-      (runs_append fresh t.s2 t.s3 l2 (call_of 1 Pin t.r3)
-      (runs_append fresh t.s1 t.s2 l1 (call_of 0 (Unpin (Some 0)) t.r2)
-      (runs_append fresh t.s0 t.s1 both (call_of 0 Pin t.r1) t.registered t.one.run)
+      runs_append fresh t.s6 t.s7 l6 (call_entries 1 (Defer (Some 0)) t.r7)
+      (runs_append fresh t.s5 t.s6 l5 (call_entries 1 Pin t.r6)
+      (runs_append fresh t.s4 t.s5 l4 (call_entries 0 Pin t.r5)
+      (runs_append fresh t.s3 t.s4 l3 (call_entries 1 (Unpin (Some 0)) t.r4)
+      (runs_append fresh t.s2 t.s3 l2 (call_entries 1 Pin t.r3)
+      (runs_append fresh t.s1 t.s2 l1 (call_entries 0 (Unpin (Some 0)) t.r2)
+      (runs_append fresh t.s0 t.s1 both (call_entries 0 Pin t.r1) t.registered t.one.run)
       t.two.run) t.three.run) t.four.run) t.five.run) t.six.run) t.seven.run
 
   -- a place is free for the Flush, and nobody else is at the places
@@ -293,21 +293,21 @@ module _ (fresh new : State) (log : List Entry) (is_fresh : IsFresh fresh) (size
   since : PinnedSince log 0 (length (l4 ++ up_to))
   since =
       subst (λ (l : List Entry). PinnedSince l 0 (length (l4 ++ up_to))) (sym t.whole)
-      (since_all l7 (call_of 1 (Flush (Some 0)) t.r8) 0 _
-      (since_all l6 (call_of 1 (Defer (Some 0)) t.r7) 0 _
-      (since_all l5 (call_of 1 Pin t.r6) 0 _ (pinned_in l4 t.r5 whole5)
-      (subst (λ (rs : List Reply). Keep 0 (call_of 1 Pin rs)) (sym whole6) (calm_stays Began refl, (calm_stays Stepped refl, (calm_stays (PinnedReply 1) refl, (calm_stays Stepped refl, (calm_stays (Done (Guard 0)) refl, tt)))))))
-      (subst (λ (rs : List Reply). Keep 0 (call_of 1 (Defer (Some 0)) rs)) (sym whole7) (calm_stays Began refl, (calm_stays (Deferred 0) refl, (calm_stays (Done UnitAnswer) refl, tt)))))
-      (subst (λ (rs : List Reply). Keep 0 (call_of 1 (Flush (Some 0)) rs)) (sym k8.whole) (calm_stays Began refl, keep_goes 1 k8.rs collected.stays)))
+      (since_all l7 (call_entries 1 (Flush (Some 0)) t.r8) 0 _
+      (since_all l6 (call_entries 1 (Defer (Some 0)) t.r7) 0 _
+      (since_all l5 (call_entries 1 Pin t.r6) 0 _ (pinned_in l4 t.r5 whole5)
+      (subst (λ (rs : List Reply). Keep 0 (call_entries 1 Pin rs)) (sym whole6) (calm_stays Began refl, (calm_stays Stepped refl, (calm_stays (PinnedReply 1) refl, (calm_stays Stepped refl, (calm_stays (Done (Guard 0)) refl, tt)))))))
+      (subst (λ (rs : List Reply). Keep 0 (call_entries 1 (Defer (Some 0)) rs)) (sym whole7) (calm_stays Began refl, (calm_stays (Deferred 0) refl, (calm_stays (Done UnitAnswer) refl, tt)))))
+      (subst (λ (rs : List Reply). Keep 0 (call_entries 1 (Flush (Some 0)) rs)) (sym k8.whole) (calm_stays Began refl, keep_goes 1 k8.rs collected.stays)))
 
   abbrev flushing : List Entry
   flushing = goes_of 1 k8.rs
 
   log_is : log ≡ l7 ++ begin 1 (Flush (Some 0)) ∷ flushing
-  log_is = t.whole ∙ ap (λ (rs : List Reply). l7 ++ call_of 1 (Flush (Some 0)) rs) k8.whole
+  log_is = t.whole ∙ ap (λ (rs : List Reply). l7 ++ call_entries 1 (Flush (Some 0)) rs) k8.whole
 
   pub sharp_run : Runs fresh log new
-  sharp_run = subst (λ (l : List Entry). Runs fresh l new) (sym t.whole) (runs_append fresh t.s7 new l7 (call_of 1 (Flush (Some 0)) t.r8) run7 t.eight.run)
+  sharp_run = subst (λ (l : List Entry). Runs fresh l new) (sym t.whole) (runs_append fresh t.s7 new l7 (call_entries 1 (Flush (Some 0)) t.r8) run7 t.eight.run)
 
   pub sharp : IsSharp fresh log new
   sharp = record {
@@ -325,16 +325,16 @@ module _ (fresh new : State) (log : List Entry) (is_fresh : IsFresh fresh) (size
     place = length (l6 ++ begin 1 (Defer (Some 0)) ∷ []);
     last = length l7 + length flushing;
     at_end = omega (arith, ap length log_is, length-append l7 (begin 1 (Flush (Some 0)) ∷ flushing));
-    deferred = ap (λ (l : List Entry). slice_get l (length (l6 ++ begin 1 (Defer (Some 0)) ∷ []))) t.whole ∙ deferred_in l6 (call_of 1 (Flush (Some 0)) t.r8) t.r7 whole7;
+    deferred = ap (λ (l : List Entry). slice_get l (length (l6 ++ begin 1 (Defer (Some 0)) ∷ []))) t.whole ∙ deferred_in l6 (call_entries 1 (Flush (Some 0)) t.r8) t.r7 whole7;
     blocked = record {
       at = length (l4 ++ up_to);
       before = omega (
         arith,
         length-append l4 up_to,
-        length-append l4 (call_of 0 Pin t.r5),
-        length-append l5 (call_of 1 Pin t.r6),
+        length-append l4 (call_entries 0 Pin t.r5),
+        length-append l5 (call_entries 1 Pin t.r6),
         length-append l6 (begin 1 (Defer (Some 0)) ∷ []),
-        ap (λ (rs : List Reply). length (call_of 0 Pin rs)) whole5,
+        ap (λ (rs : List Reply). length (call_entries 0 Pin rs)) whole5,
       );
       published = since.published;
       lasted = λ k after upto ends. since.lasts k after ends;

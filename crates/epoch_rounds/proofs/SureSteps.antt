@@ -15,7 +15,7 @@ use Rattle.epoch_laws.specs.declared.step.Word.{Word}
 use Rattle.epoch_laws.specs.declared.step.Word.TheVariants.{Free, Unpinned, Pinned}
 use Rattle.epoch_heap.specs.Heap.{Heap}
 use Rattle.epoch_laws.specs.Calls.{goes_of, ends_call, EndsAtLast}
-use Rattle.epoch_laws.specs.Run.{Seat, State, seat_of, word_of, number_of, with_seat, with_machine, with_word, with_places, with_heap, removed_by, end_reply, ended_seat, Performs, Drives, Goes, Moves, Takes, Runs}
+use Rattle.epoch_laws.specs.Run.{WorldSeat, State, seat_of, position_word, word_number, with_seat, with_machine, with_word, with_places, with_heap, removed_by, end_reply, ended_seat, PerformsAsk, DrivesCall, DoesGo, Moves, TakesStep, Runs}
 
 pub record Outcome : Type 0 where
   pub reply : Reply
@@ -24,24 +24,24 @@ pub record Outcome : Type 0 where
 abbrev pub outcome : Reply → State → Option Outcome
 outcome r s = Some (record { reply = r; state = s })
 
-abbrev pub sure_ask : State → ℕ → Seat → Stage → Ask → Option Outcome
+abbrev pub sure_ask : State → ℕ → WorldSeat → Stage → Ask → Option Outcome
 sure_ask s p seat at LoadEpoch = outcome Stepped (with_seat s p (with_machine seat (hears seat.machine at (Epoch s.epoch))))
-sure_ask s p seat at (LoadWord k) = outcome Stepped (with_seat s p (with_machine seat (hears seat.machine at (WordFound (number_of (word_of s k))))))
+sure_ask s p seat at (LoadWord k) = outcome Stepped (with_seat s p (with_machine seat (hears seat.machine at (WordFound (word_number (position_word s k))))))
 sure_ask s p seat at (StorePinned e) = outcome (PinnedReply p) (with_seat s p (with_word seat (Pinned e) (hears seat.machine at Stored)))
 sure_ask s p seat at StoreUnpinned = outcome (UnpinnedReply p) (with_seat s p (with_word seat Unpinned (hears seat.machine at Stored)))
 sure_ask s p seat at (StoreEpoch e) = outcome Stepped (record (with_seat s p (with_machine seat (hears seat.machine at Stored))) { epoch = e })
 sure_ask s p seat at KeepJob = outcome (Deferred s.tickets) (record (with_seat s p (with_machine seat (hears seat.machine at (Job (record { ticket = s.tickets; removes = removed_by seat.progress }))))) { tickets = s.tickets + 1 })
 sure_ask s p seat at _ = None
 
-abbrev pub sure_drive : State → ℕ → Seat → Call → Stage → Option Ask → Option Outcome
+abbrev pub sure_drive : State → ℕ → WorldSeat → Call → Stage → Option Ask → Option Outcome
 sure_drive s p seat c at (Some ask) = sure_ask s p seat at ask
 sure_drive s p seat c at None = outcome (end_reply c seat) (with_seat s p (ended_seat c seat))
 
-abbrev pub sure_by : State → ℕ → Seat → Progress → Option Outcome
+abbrev pub sure_by : State → ℕ → WorldSeat → Progress → Option Outcome
 sure_by s p seat (Driven c) = sure_drive s p seat c seat.machine.stage (ask_at seat.machine.stage)
 sure_by s p seat _ = None
 
-abbrev pub sure_at : State → ℕ → Seat → Word → Option Outcome
+abbrev pub sure_at : State → ℕ → WorldSeat → Word → Option Outcome
 sure_at s p seat Free = None
 sure_at s p seat _ = sure_by s p seat seat.progress
 
@@ -58,7 +58,7 @@ is_so a b s t r new o e told did = subst (λ (z : Outcome). Is z r new) at (told
     at : record { reply = a; state = s } ≡ o
     at = cc (e)
 
-performed : (s : State) (p : ℕ) (seat : Seat) (at : Stage) (ask : Ask) (r : Reply) (new : State) (o : Outcome) → sure_ask s p seat at ask ≡ Some o → Performs s p seat at ask r new → Is o r new
+performed : (s : State) (p : ℕ) (seat : WorldSeat) (at : Stage) (ask : Ask) (r : Reply) (new : State) (o : Outcome) → sure_ask s p seat at ask ≡ Some o → PerformsAsk s p seat at ask r new → Is o r new
 performed s p seat at LoadEpoch r new o e did = is_so _ r _ s r new o e did.0 did.1
 performed s p seat at (LoadWord k) r new o e did = is_so _ r _ s r new o e did.0 did.1
 performed s p seat at (StorePinned k) r new o e did = is_so _ r _ s r new o e did.0 did.1
@@ -71,18 +71,18 @@ performed s p seat at (TakeBag k) r new o e did = absurd (cc (e))
 performed s p seat at KeepJob r new o e did = is_so _ r _ s r new o e did.0 did.1
 performed s p seat at CallJob r new o e did = absurd (cc (e))
 
-driven : (s : State) (p : ℕ) (seat : Seat) (c : Call) (at : Stage) (ask : Option Ask) (r : Reply) (new : State) (o : Outcome) → sure_drive s p seat c at ask ≡ Some o → Drives s p seat c at ask r new → Is o r new
+driven : (s : State) (p : ℕ) (seat : WorldSeat) (c : Call) (at : Stage) (ask : Option Ask) (r : Reply) (new : State) (o : Outcome) → sure_drive s p seat c at ask ≡ Some o → DrivesCall s p seat c at ask r new → Is o r new
 driven s p seat c at (Some ask) r new o e did = performed s p seat at ask r new o e did
 driven s p seat c at None r new o e did = is_so _ r _ s r new o e did.0 did.1
 
-went : (s : State) (p : ℕ) (seat : Seat) (now : Progress) (r : Reply) (new : State) (o : Outcome) → sure_by s p seat now ≡ Some o → Goes s p seat now r new → Is o r new
+went : (s : State) (p : ℕ) (seat : WorldSeat) (now : Progress) (r : Reply) (new : State) (o : Outcome) → sure_by s p seat now ≡ Some o → DoesGo s p seat now r new → Is o r new
 went s p seat (Driven c) r new o e did = driven s p seat c seat.machine.stage (ask_at seat.machine.stage) r new o e did
 went s p seat Idle r new o e did = absurd (cc (e))
 went s p seat (CallsNow removes) r new o e did = absurd (cc (e))
 went s p seat (Accesses a k found) r new o e did = absurd (cc (e))
 went s p seat (Ends x) r new o e did = absurd (cc (e))
 
-not_free : (s : State) (p : ℕ) (seat : Seat) (w : Word) (o : Outcome) → sure_at s p seat w ≡ Some o → (sure_by s p seat seat.progress ≡ Some o) × (w ≡ Free → ⊥)
+not_free : (s : State) (p : ℕ) (seat : WorldSeat) (w : Word) (o : Outcome) → sure_at s p seat w ≡ Some o → (sure_by s p seat seat.progress ≡ Some o) × (w ≡ Free → ⊥)
 not_free s p seat Free o e = absurd (cc (e))
 not_free s p seat Unpinned o e = (e, λ f. cc (f))
 not_free s p seat (Pinned k) o e = (e, λ f. cc (f))
@@ -106,7 +106,7 @@ Surely at p r after = (places : List Bool) (seen ahead : List ℕ) (room : List 
 pub back : (at old : State) → core old ≡ at → old ≡ with_heap (with_places at old.places old.seen old.ahead old.room) old.heap
 back at old e = ap (λ (s : State). with_heap (with_places s old.places old.seen old.ahead old.room) old.heap) e
 
-pub surely_goes : (at after old new : State) (p : ℕ) (r told : Reply) → Surely at p r after → core old ≡ at → Takes old (Go p) told new → (told ≡ r) × (core new ≡ core after)
+pub surely_goes : (at after old new : State) (p : ℕ) (r told : Reply) → Surely at p r after → core old ≡ at → TakesStep old (Go p) told new → (told ≡ r) × (core new ≡ core after)
 surely_goes at after old new p r told sure_so e did =
     let o : Outcome = record { reply = r; state = with_heap (with_places after old.places old.seen old.ahead old.room) old.heap } in
     let is = sure_goes (with_heap (with_places at old.places old.seen old.ahead old.room) old.heap) p told (with_places new old.places old.seen old.ahead old.room) o (sure_so old.places old.seen old.ahead old.room old.heap)
@@ -120,13 +120,13 @@ abbrev pub Leads : ℕ → State → (State → List Reply → State → Type 0)
 Leads p at Result = (old new : State) (rs : List Reply) → core old ≡ at → EndsAtLast rs → Runs old (goes_of p rs) new → Result old rs new
 
 pub goes : (p : ℕ) (at after : State) (r : Reply) (Result Later : State → List Reply → State → Type 0) → Surely at p r after → ends_call r ≡ false
-    → Leads p (core after) Later → ((old mid new : State) (rs : List Reply) → Takes old (Go p) r mid → Later mid rs new → Result old (r ∷ rs) new) → Leads p at Result
+    → Leads p (core after) Later → ((old mid new : State) (rs : List Reply) → TakesStep old (Go p) r mid → Later mid rs new → Result old (r ∷ rs) new) → Leads p at Result
 goes p at after r Result Later is on next back old new [] e ends run = absurd ends
 goes p at after r Result Later is on next back old new (x ∷ []) e ends (mid, did, run) = let one = surely_goes at after old mid p r x is e did in absurd (cc (ends, on, ap ends_call one.0))
 goes p at after r Result Later is on next back old new (x ∷ y ∷ rs) e ends (mid, did, run) =
     let one = surely_goes at after old mid p r x is e did in
     subst (λ (z : Reply). Result old (z ∷ y ∷ rs) new) (sym one.0)
-    (back old mid new (y ∷ rs) (subst (λ (z : Reply). Takes old (Go p) z mid) one.0 did) (next mid new (y ∷ rs) one.1 ends.1 run))
+    (back old mid new (y ∷ rs) (subst (λ (z : Reply). TakesStep old (Go p) z mid) one.0 did) (next mid new (y ∷ rs) one.1 ends.1 run))
 
 pub ends : (p : ℕ) (at after : State) (r : Reply) (Result : State → List Reply → State → Type 0) → Surely at p r after → ends_call r ≡ true
     → ((old new : State) → core new ≡ core after → Result old (r ∷ []) new) → Leads p at Result

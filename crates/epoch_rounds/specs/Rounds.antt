@@ -9,19 +9,19 @@ use Rattle.epoch_laws.specs.declared.step.Progress.TheVariants.{Idle}
 use Rattle.epoch_laws.specs.declared.step.Reply.{Reply}
 use Rattle.epoch_laws.specs.declared.step.Reply.TheVariants.{Began, Done}
 use Rattle.epoch_laws.specs.declared.step.Word.TheVariants.{Unpinned, Pinned}
-use Rattle.epoch_laws.specs.Calls.{call_of, goes_of, ends_call, AllGoOn}
-use Rattle.epoch_laws.specs.Run.{Bag, State, Runs, seat_of, word_of}
+use Rattle.epoch_laws.specs.Calls.{call_entries, goes_of, ends_call, AllGoOn}
+use Rattle.epoch_laws.specs.Run.{Bag, State, Runs, seat_of, position_word}
 use Rattle.epoch_laws.specs.Tickets.{times_queued, times_called}
 
 -- p is registered, not pinned and without a call under way, and nobody else is pinned
 pub record IsQuiet (p : ℕ) (s : State) : Type 0 where
-  pub unpinned : word_of s p ≡ Unpinned
+  pub unpinned : position_word s p ≡ Unpinned
   pub idle : (seat_of s p).progress ≡ Idle
-  pub others : (q e : ℕ) → q ≢ p → word_of s q ≢ Pinned e
+  pub others : (q e : ℕ) → q ≢ p → position_word s q ≢ Pinned e
 
 -- a call from its accepted Begin to its last reply
 abbrev pub call_to : ℕ → Call → List Reply → Reply → List Entry
-call_to p c going last = call_of p c (Began ∷ (going ++ last ∷ []))
+call_to p c going last = call_entries p c (Began ∷ (going ++ last ∷ []))
 
 -- a Pin, a Flush under its guard, and an Unpin of it, each from its Begin to its end
 pub record IsRound (p : ℕ) (log : List Entry) : Type 0 where
@@ -53,7 +53,7 @@ pub record IsFirstRound (p : ℕ) (before : List Entry) (put : State) (after : L
   pub putting : AllGoOn puts
   pub flushing : AllGoOn flushes
   pub unpinning : AllGoOn unpins
-  pub until : before ≡ call_to p Pin pins (Done (Guard guard)) ++ call_of p (Flush (Some guard)) (Began ∷ puts)
+  pub until : before ≡ call_to p Pin pins (Done (Guard guard)) ++ call_entries p (Flush (Some guard)) (Began ∷ puts)
   pub scans : (seat_of put p).machine.stage ≡ LoadScan
   pub behind : after ≡ goes_of p (flushes ++ Done UnitAnswer ∷ []) ++ call_to p (Unpin (Some guard)) unpins (Done UnitAnswer)
 

@@ -9,7 +9,7 @@ use Rattle.epoch_laws.specs.declared.step.Reply.{Reply}
 use Rattle.epoch_laws.specs.declared.step.Reply.TheVariants.{Deferred}
 use Rattle.epoch_laws.specs.declared.step.Step.{Step}
 use Rattle.epoch_laws.specs.declared.step.Step.TheVariants.{Register, Go}
-use Rattle.epoch_laws.specs.Calls.{goes_of, call_of, EndsAtLast}
+use Rattle.epoch_laws.specs.Calls.{goes_of, call_entries, EndsAtLast}
 use Rattle.epoch_laws.specs.Grace.{StaysPinned}
 use Rattle.epoch_laws.specs.Run.{Bag, State, seat_of, Runs, IsFresh}
 use Rattle.epoch_laws.specs.Tickets.{times}
@@ -44,8 +44,8 @@ EndsIn last (r ∷ []) = r ≡ last
 EndsIn last (r ∷ s ∷ rs) = EndsIn last (s ∷ rs)
 
 -- a call that p begins and ends
-pub record Ends (p : ℕ) (c : Call) (old : State) (replies : List Reply) (new : State) : Type 0 where
-  pub run : Runs old (call_of p c replies) new
+pub record EndsCall (p : ℕ) (c : Call) (old : State) (replies : List Reply) (new : State) : Type 0 where
+  pub run : Runs old (call_entries p c replies) new
   pub ends : EndsAtLast replies
 
 -- Two participants register; each pins and unpins, and so the epoch advances twice; both pin; 1 defers a job and flushes.
@@ -69,15 +69,15 @@ pub record TakesSharpList (fresh : State) (log : List Entry) (new : State) : Typ
   pub r7 : List Reply
   pub r8 : List Reply
   pub registered : Runs fresh (record { step = Register; reply = first } ∷ record { step = Register; reply = second } ∷ []) s0
-  pub one : Ends 0 Pin s0 r1 s1
-  pub two : Ends 0 (Unpin (Some 0)) s1 r2 s2
-  pub three : Ends 1 Pin s2 r3 s3
-  pub four : Ends 1 (Unpin (Some 0)) s3 r4 s4
-  pub five : Ends 0 Pin s4 r5 s5
-  pub six : Ends 1 Pin s5 r6 s6
-  pub seven : Ends 1 (Defer (Some 0)) s6 r7 s7
-  pub eight : Ends 1 (Flush (Some 0)) s7 r8 new
-  pub whole : log ≡ ((((((((record { step = Register; reply = first } ∷ record { step = Register; reply = second } ∷ []) ++ call_of 0 Pin r1) ++ call_of 0 (Unpin (Some 0)) r2) ++ call_of 1 Pin r3) ++ call_of 1 (Unpin (Some 0)) r4) ++ call_of 0 Pin r5) ++ call_of 1 Pin r6) ++ call_of 1 (Defer (Some 0)) r7) ++ call_of 1 (Flush (Some 0)) r8
+  pub one : EndsCall 0 Pin s0 r1 s1
+  pub two : EndsCall 0 (Unpin (Some 0)) s1 r2 s2
+  pub three : EndsCall 1 Pin s2 r3 s3
+  pub four : EndsCall 1 (Unpin (Some 0)) s3 r4 s4
+  pub five : EndsCall 0 Pin s4 r5 s5
+  pub six : EndsCall 1 Pin s5 r6 s6
+  pub seven : EndsCall 1 (Defer (Some 0)) s6 r7 s7
+  pub eight : EndsCall 1 (Flush (Some 0)) s7 r8 new
+  pub whole : log ≡ ((((((((record { step = Register; reply = first } ∷ record { step = Register; reply = second } ∷ []) ++ call_entries 0 Pin r1) ++ call_entries 0 (Unpin (Some 0)) r2) ++ call_entries 1 Pin r3) ++ call_entries 1 (Unpin (Some 0)) r4) ++ call_entries 0 Pin r5) ++ call_entries 1 Pin r6) ++ call_entries 1 (Defer (Some 0)) r7) ++ call_entries 1 (Flush (Some 0)) r8
 
 -- A new world of two positions and one place, in epoch 0, goes by these steps to such a state; the log is that of its run.
 pub record LeadsToSharp (steps : List Step) : Type 0 where

@@ -8,7 +8,7 @@ ghost use Rattle.epoch_laws.specs.declared.step.Reply.{Reply};
 ghost use Rattle.epoch_laws.specs.declared.step.Reply.TheVariants.{Refused};
 ghost use Rattle.epoch_laws.specs.Run.{State, HasFreePlace, IsFresh, Runs};
 ghost use Rattle.epoch_rounds.specs.Collected.{FewAlong, none_yet};
-ghost use Rattle.epoch_rounds.specs.Sharp.{pair_sizes, EndsIn, Ends, TakesSharpList, IsSharp};
+ghost use Rattle.epoch_rounds.specs.Sharp.{pair_sizes, EndsIn, EndsCall, TakesSharpList, IsSharp};
 ghost use Rattle.epoch_rounds.specs.Rounds.{IsQuiet, IsFirstRound, AreRounds, CallsAll, RoundsCallAll, collections};
 
 /// So many rounds of one participant, with nobody else pinned or at work, call every job that is in the store when the
@@ -29,7 +29,7 @@ pub fn every_call_collects_few()
 /// A call is not refused for want of a place where some place had no bag when it began and nobody else was putting or
 /// taking one, if nobody else takes a step before it ends.
 pub fn lone_calls_find_a_place()
-    ensures { (fresh s new : State) (earlier : List Entry) (p : ℕ) (c : Call) (replies : List Reply) → IsFresh fresh → Runs fresh earlier s → HasFreePlace p s → Ends p c s replies new → ¬ (EndsIn (Refused BagsFull) replies) }
+    ensures { (fresh s new : State) (earlier : List Entry) (p : ℕ) (c : Call) (replies : List Reply) → IsFresh fresh → Runs fresh earlier s → HasFreePlace p s → EndsCall p c s replies new → ¬ (EndsIn (Refused BagsFull) replies) }
 {}
 
 /// A bag waits no longer than it has to: the sharp list leads to a state in which a bag is one epoch old for a

@@ -1,7 +1,7 @@
 -- A name is read where its slot and its turn are.
 use Rattle.std.proofs.Common.{◌≡◌, ℕ, ◌<◌, List, Option, Some, None, IfSome, refl, sym, subst}
 use Rattle.epoch_cells.specs.declared.cells.name.Name.{Name}
-use Rattle.epoch_script.specs.Words.{Behind, Reads, SpellsName, SpellsNumber, SpellsTurn, behind}
+use Rattle.epoch_script.specs.Words.{Behind, ReadsText, SpellsName, SpellsNumber, SpellsTurn, behind}
 
 same_number : (a b : ℕ) (text : List ℕ) → SpellsNumber a text → SpellsNumber b text → a ≡ b
 same_number a b text one other = cc (one.2, other.2)
@@ -14,7 +14,7 @@ pub name_read : (text : List ℕ) (slot turn : ℕ) (read : Option Name)
     → SpellsTurn slot turn text
     → IfSome read (λ name. (name.slot ≡ slot) × (name.turn ≡ turn) × (turn < 4294967296))
     → (read ≡ None → (name : Name) → name.slot ≡ slot → name.turn ≡ turn → ¬ (turn < 4294967296))
-    → Reads SpellsName text read
+    → ReadsText SpellsName text read
 name_read text slot turn (Some name) says is none = (
   subst (λ (t : ℕ). SpellsTurn name.slot t text) (sym is.1) (subst (λ (s : ℕ). SpellsTurn s turn text) (sym is.0) says),
   subst (λ (t : ℕ). t < 4294967296) (sym is.1) is.2,

@@ -8,7 +8,7 @@ use Rattle.epoch_heap.specs.declared.access.Ptr.{Ptr}
 use Rattle.epoch_heap.specs.declared.access.Spot.{Spot}
 use Rattle.epoch_heap.specs.declared.access.Update.{Update}
 use Rattle.epoch_heap.specs.declared.access.Update.TheVariants.{Tag, To, Stop}
-use Rattle.epoch_script.specs.Words.{Behind, IsWord, Leads, SpellsGuard, SpellsNumber, SpellsPtr, SpellsSpot, first_word, others}
+use Rattle.epoch_script.specs.Words.{Behind, IsOneWord, LeadsWith, SpellsGuard, SpellsNumber, SpellsPtr, SpellsSpot, first_word, others}
 
 -- a guard, and then a pointer
 abbrev pub SpellsGuarded : Option ℕ → Ptr → List ℕ → Type 0
@@ -36,9 +36,9 @@ SpellsExchange current new text = SpellsPtr current (first_word text) × Behind 
 
 -- what the function of an update answers
 abbrev pub SpellsUpdate : Update → List ℕ → Type 0
-SpellsUpdate (Tag tag) text = Leads (codes "tag") text (SpellsNumber tag)
-SpellsUpdate (To ptr) text = Leads (codes "to") text (SpellsPtr ptr)
-SpellsUpdate Stop text = IsWord (codes "stop") text
+SpellsUpdate (Tag tag) text = LeadsWith (codes "tag") text (SpellsNumber tag)
+SpellsUpdate (To ptr) text = LeadsWith (codes "to") text (SpellsPtr ptr)
+SpellsUpdate Stop text = IsOneWord (codes "stop") text
 
 -- how often an update tries, and what its function answers
 abbrev pub SpellsTries : ℕ → Update → List ℕ → Type 0
@@ -84,9 +84,9 @@ abbrev pub SpellsPoint : Option ℕ → Spot → Change → List ℕ → Type 0
 SpellsPoint guard spot change text = Behind (others text) (SpellsPointed (first_word text) guard spot change)
 
 abbrev pub SpellsAccess : Access → List ℕ → Type 0
-SpellsAccess (Place value) text = Leads (codes "place") text (SpellsNumber value)
-SpellsAccess (Read guard ptr) text = Leads (codes "read") text (SpellsGuarded guard ptr)
-SpellsAccess (Leave ptr) text = Leads (codes "leave") text (SpellsPtr ptr)
-SpellsAccess (Write guard ptr value) text = Leads (codes "write") text (SpellsWrite guard ptr value)
-SpellsAccess (Take guard ptr) text = Leads (codes "take") text (SpellsGuarded guard ptr)
+SpellsAccess (Place value) text = LeadsWith (codes "place") text (SpellsNumber value)
+SpellsAccess (Read guard ptr) text = LeadsWith (codes "read") text (SpellsGuarded guard ptr)
+SpellsAccess (Leave ptr) text = LeadsWith (codes "leave") text (SpellsPtr ptr)
+SpellsAccess (Write guard ptr value) text = LeadsWith (codes "write") text (SpellsWrite guard ptr value)
+SpellsAccess (Take guard ptr) text = LeadsWith (codes "take") text (SpellsGuarded guard ptr)
 SpellsAccess (Point guard spot change) text = SpellsPoint guard spot change text

@@ -6,21 +6,21 @@ use Rattle.epoch_laws.specs.declared.step.Call.{Call}
 use Rattle.epoch_laws.specs.declared.step.Call.TheVariants.{Pin, Unpin, Repin, Pause, Resume, Defer, DeferDestroy, Flush, Release, Access as AccessCall}
 use Rattle.epoch_laws.specs.declared.step.Step.{Step}
 use Rattle.epoch_laws.specs.declared.step.Step.TheVariants.{Register, Begin, Go as OneGo, End, EndGo}
-use Rattle.epoch_script.specs.Words.{Behind, IsWord, Leads, SpellsGuard, SpellsNumber, first_word, others}
+use Rattle.epoch_script.specs.Words.{Behind, IsOneWord, LeadsWith, SpellsGuard, SpellsNumber, first_word, others}
 use Rattle.epoch_script.specs.Accesses.{SpellsAccess, SpellsGuarded}
 use Rattle.epoch_script.specs.declared.lines.Command.{Command}
 use Rattle.epoch_script.specs.declared.lines.Command.TheVariants.{Once, Go, Call as WholeCall, EndAll, Epoch, Word}
 
 abbrev pub SpellsCall : Call → List ℕ → Type 0
-SpellsCall Pin text = IsWord (codes "pin") text
-SpellsCall (Unpin guard) text = Leads (codes "unpin") text (SpellsGuard guard)
-SpellsCall (Repin guard) text = Leads (codes "repin") text (SpellsGuard guard)
-SpellsCall (Pause guard) text = Leads (codes "pause") text (SpellsGuard guard)
-SpellsCall (Resume guard) text = Leads (codes "resume") text (SpellsGuard guard)
-SpellsCall (Defer guard) text = Leads (codes "defer") text (SpellsGuard guard)
-SpellsCall (DeferDestroy guard ptr) text = Leads (codes "defer-destroy") text (SpellsGuarded guard ptr)
-SpellsCall (Flush guard) text = Leads (codes "flush") text (SpellsGuard guard)
-SpellsCall Release text = IsWord (codes "release") text
+SpellsCall Pin text = IsOneWord (codes "pin") text
+SpellsCall (Unpin guard) text = LeadsWith (codes "unpin") text (SpellsGuard guard)
+SpellsCall (Repin guard) text = LeadsWith (codes "repin") text (SpellsGuard guard)
+SpellsCall (Pause guard) text = LeadsWith (codes "pause") text (SpellsGuard guard)
+SpellsCall (Resume guard) text = LeadsWith (codes "resume") text (SpellsGuard guard)
+SpellsCall (Defer guard) text = LeadsWith (codes "defer") text (SpellsGuard guard)
+SpellsCall (DeferDestroy guard ptr) text = LeadsWith (codes "defer-destroy") text (SpellsGuarded guard ptr)
+SpellsCall (Flush guard) text = LeadsWith (codes "flush") text (SpellsGuard guard)
+SpellsCall Release text = IsOneWord (codes "release") text
 SpellsCall (AccessCall access) text = SpellsAccess access text
 
 -- a participant's position and its call
@@ -34,19 +34,19 @@ SpellsSteps position steps text = SpellsNumber position (first_word text)
     × (1 ≤ steps) × (steps ≤ 100000)
 
 abbrev pub SpellsStep : Step → List ℕ → Type 0
-SpellsStep Register text = IsWord (codes "register") text
-SpellsStep (Begin position call) text = Leads (codes "begin") text (SpellsBoth position call)
+SpellsStep Register text = IsOneWord (codes "register") text
+SpellsStep (Begin position call) text = LeadsWith (codes "begin") text (SpellsBoth position call)
 SpellsStep (OneGo position) text = ⊥
-SpellsStep End text = IsWord (codes "end") text
-SpellsStep EndGo text = IsWord (codes "endgo") text
+SpellsStep End text = IsOneWord (codes "end") text
+SpellsStep EndGo text = IsOneWord (codes "endgo") text
 
 abbrev pub SpellsCommand : Command → List ℕ → Type 0
 SpellsCommand (Once step) text = SpellsStep step text
-SpellsCommand (Go position steps) text = Leads (codes "go") text (SpellsSteps position steps)
-SpellsCommand (WholeCall position call) text = Leads (codes "call") text (SpellsBoth position call)
-SpellsCommand EndAll text = IsWord (codes "endall") text
-SpellsCommand Epoch text = IsWord (codes "epoch") text
-SpellsCommand (Word position) text = Leads (codes "word") text (SpellsNumber position)
+SpellsCommand (Go position steps) text = LeadsWith (codes "go") text (SpellsSteps position steps)
+SpellsCommand (WholeCall position call) text = LeadsWith (codes "call") text (SpellsBoth position call)
+SpellsCommand EndAll text = IsOneWord (codes "endall") text
+SpellsCommand Epoch text = IsOneWord (codes "epoch") text
+SpellsCommand (Word position) text = LeadsWith (codes "word") text (SpellsNumber position)
 
 -- the first word writes this number, and so it is with what stands behind it
 abbrev pub Leading : ℕ → List ℕ → (List ℕ → Type 0) → Type 0
@@ -65,5 +65,5 @@ SpellsSizes shape text = Leading shape.participants text (λ t. Leading shape.ce
 
 -- a valid shape
 abbrev pub SpellsShape : Shape → List ℕ → Type 0
-SpellsShape shape text = Leads (codes "shape") text (SpellsSizes shape)
+SpellsShape shape text = LeadsWith (codes "shape") text (SpellsSizes shape)
     × IsValid shape

@@ -24,16 +24,16 @@ abbrev pub others : List ℕ → Option (List ℕ)
 others text = behind 32 text
 
 -- the text is one word, and this one
-abbrev pub IsWord : List ℕ → List ℕ → Type 0
-IsWord name text = (first_word text ≡ name) × (others text ≡ None)
+abbrev pub IsOneWord : List ℕ → List ℕ → Type 0
+IsOneWord name text = (first_word text ≡ name) × (others text ≡ None)
 
 -- there is such a byte, and so it is with what stands behind it
 abbrev pub Behind : Option (List ℕ) → (List ℕ → Type 0) → Type 0
 Behind rest P = MatchOption rest ⊥ P
 
 -- the first word is this one, and so it is with what stands behind its space
-abbrev pub Leads : List ℕ → List ℕ → (List ℕ → Type 0) → Type 0
-Leads name text P = (first_word text ≡ name) × Behind (others text) P
+abbrev pub LeadsWith : List ℕ → List ℕ → (List ℕ → Type 0) → Type 0
+LeadsWith name text P = (first_word text ≡ name) × Behind (others text) P
 
 -- decimal digits that write the number
 abbrev pub SpellsNumber : ℕ → List ℕ → Type 0
@@ -74,8 +74,8 @@ SpellsSpot (Root root) text = (digits : List ℕ) × (text ≡ 114 ∷ digits) �
 SpellsSpot (Field name field) text = SpellsField name field text
 
 -- what was read is what the text says, and nothing is read only where the text says nothing
-abbrev pub Reads : {X : Type 0} → (X → List ℕ → Type 0) → List ℕ → Option X → Type 0
-Reads Says text read = MatchOption read ((x : _) → ¬ Says x text) (λ x. Says x text)
+abbrev pub ReadsText : {X : Type 0} → (X → List ℕ → Type 0) → List ℕ → Option X → Type 0
+ReadsText Says text read = MatchOption read ((x : _) → ¬ Says x text) (λ x. Says x text)
 
 -- the same of two values, and of three
 abbrev pub ReadsPair : {X Y : Type 0} → (X → Y → List ℕ → Type 0) → List ℕ → Option (X × Y) → Type 0

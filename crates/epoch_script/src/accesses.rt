@@ -2,7 +2,7 @@
 ghost use Rattle.std.specs.Prelude.{◌≡◌, ℕ, Option, MatchOption};
 ghost use Rattle.epoch_heap.specs.declared.access.Change.{Change};
 ghost use Rattle.epoch_heap.specs.declared.access.Spot.{Spot};
-ghost use Rattle.epoch_script.specs.Words.{Reads, ReadsPair, ReadsTriple};
+ghost use Rattle.epoch_script.specs.Words.{ReadsText, ReadsPair, ReadsTriple};
 ghost use Rattle.epoch_script.specs.Accesses.{IsWordOf, SpellsAccess, SpellsChange, SpellsExchange, SpellsGuarded, SpellsLoad, SpellsPoint, SpellsPointed, SpellsSpotted, SpellsStore, SpellsTries, SpellsUnder, SpellsUpdate, SpellsValued, SpellsWrite};
 
 use crate::words::{cut, read_guard, read_number, read_ptr, read_spot};
@@ -10,7 +10,7 @@ use epoch_heap::{Access, Change, Ptr, Spot, Update};
 
 /// What a call on cells and pointers says, or `None` where it is none of the grammar.
 pub fn read_access(text: &str) -> Option<Access>
-    ensures { Reads SpellsAccess text.now result }
+    ensures { ReadsText SpellsAccess text.now result }
 {
     match cut(text) {
         ("place", Some(rest)) => Some(Access::Place(read_number(rest)?)),
@@ -183,7 +183,7 @@ fn read_tries(text: &str) -> Option<(u64, Update)>
 
 /// What the function of an update answers.
 fn read_update(text: &str) -> Option<Update>
-    ensures { Reads SpellsUpdate text.now result }
+    ensures { ReadsText SpellsUpdate text.now result }
 {
     match cut(text) {
         ("tag", Some(rest)) => Some(Update::Tag(read_number(rest)?)),

@@ -1,5 +1,5 @@
 //! From the text of a line to what it says.
-ghost use Rattle.epoch_script.specs.Words.{Reads, ReadsPair, ReadsTriple};
+ghost use Rattle.epoch_script.specs.Words.{ReadsText, ReadsPair, ReadsTriple};
 ghost use Rattle.epoch_script.specs.Lines.{SpellsBoth, SpellsCall, SpellsCommand, SpellsShape, SpellsSizes, SpellsLastSizes, SpellsSteps};
 
 use crate::accesses::{read_access, read_guarded};
@@ -34,7 +34,7 @@ pub enum Command {
 
 /// What a line says, or `None` where it is no line of the grammar.
 pub fn read_command(line: &str) -> Option<Command>
-    ensures { Reads SpellsCommand line.now result }
+    ensures { ReadsText SpellsCommand line.now result }
 {
     match cut(line) {
         ("register", None) => Some(Command::Once(Step::Register)),
@@ -88,7 +88,7 @@ fn read_position_and_call(text: &str) -> Option<(u64, Call)>
 
 /// What a call says, or `None` where it is no call of the grammar.
 fn read_call(text: &str) -> Option<Call>
-    ensures { Reads SpellsCall text.now result }
+    ensures { ReadsText SpellsCall text.now result }
 {
     match cut(text) {
         ("pin", None) => Some(Call::Pin),
@@ -110,7 +110,7 @@ fn read_call(text: &str) -> Option<Call>
 /// The shape that a line says, or `None` where it is none.
 #[tactic(auto, using(crate::proofs::SameSizes::said_shape_is_valid))]
 pub fn read_shape(line: &str) -> Option<Shape>
-    ensures { Reads SpellsShape line.now result }
+    ensures { ReadsText SpellsShape line.now result }
 {
     let ("shape", Some(rest)) = cut(line) else {
         return None;
@@ -124,7 +124,7 @@ pub fn read_shape(line: &str) -> Option<Shape>
 
 /// Eight numbers, or ten.
 fn read_sizes(text: &str) -> Option<Shape>
-    ensures { Reads SpellsSizes text.now result }
+    ensures { ReadsText SpellsSizes text.now result }
 {
     let (participants, rest) = read_number_before(text)?;
     let (cells, rest) = read_number_before(rest)?;

@@ -1,14 +1,14 @@
 //! From the words of a line to numbers, guards, names, pointers and where they stand.
 ghost use Rattle.std.specs.Prelude.{◌≡◌, ◌≢◌, ◌∷◌, ◌<◌, ℕ, List, None, Some, IfSome, IsSome, ◌↔◌, ◌≤◌, MatchOption};
 ghost use Rattle.epoch_cells.specs.declared.cells.name.Name.{Name};
-ghost use Rattle.epoch_script.specs.Words.{Reads, ReadsPair, SpellsCell, SpellsField, SpellsGuard, SpellsName, SpellsNumber, SpellsNumberBefore, SpellsPtr, SpellsSpot, SpellsTurn, before, behind, first_word, others};
+ghost use Rattle.epoch_script.specs.Words.{ReadsText, ReadsPair, SpellsCell, SpellsField, SpellsGuard, SpellsName, SpellsNumber, SpellsNumberBefore, SpellsPtr, SpellsSpot, SpellsTurn, before, behind, first_word, others};
 
 use epoch_cells::{MOST_SLOT, Name};
 use epoch_heap::{Ptr, Spot};
 
 /// The number that decimal digits write, and no other text; `None` also above `2^64 - 1`.
 pub fn read_number(text: &str) -> Option<u64>
-    ensures { Reads SpellsNumber text.now result }
+    ensures { ReadsText SpellsNumber text.now result }
 {
     if text.starts_with('+') {
         return None;
@@ -26,7 +26,7 @@ pub fn read_number_before(text: &str) -> Option<(u64, &str)>
 
 /// A guard: its number, or `-` for an unprotected one.
 pub fn read_guard(text: &str) -> Option<Option<u64>>
-    ensures { Reads SpellsGuard text.now result }
+    ensures { ReadsText SpellsGuard text.now result }
 {
     if text == "-" {
         return Some(None);
@@ -36,7 +36,7 @@ pub fn read_guard(text: &str) -> Option<Option<u64>>
 
 /// A name: the slot, a dot, and the turn.
 pub fn read_name(text: &str) -> Option<Name>
-    ensures { Reads SpellsName text.now result }
+    ensures { ReadsText SpellsName text.now result }
 {
     match read_turn(text) {
         Some((slot, turn)) => name_at(slot, turn),
@@ -67,7 +67,7 @@ fn name_at(slot: u64, turn: u64) -> Option<Name>
 
 /// A pointer: null or a name, and a tag where the text has one.
 pub fn read_ptr(text: &str) -> Option<Ptr>
-    ensures { Reads SpellsPtr text.now result }
+    ensures { ReadsText SpellsPtr text.now result }
 {
     let (cell, tag) = cut_at_plus(text);
     let name = read_cell(cell)?;
@@ -80,7 +80,7 @@ pub fn read_ptr(text: &str) -> Option<Ptr>
 
 /// Null, or the name of a cell.
 fn read_cell(text: &str) -> Option<Option<Name>>
-    ensures { Reads SpellsCell text.now result }
+    ensures { ReadsText SpellsCell text.now result }
 {
     if text == "null" {
         return Some(None);
@@ -90,7 +90,7 @@ fn read_cell(text: &str) -> Option<Option<Name>>
 
 /// Where a pointer stands: a root, or a field of a cell.
 pub fn read_spot(text: &str) -> Option<Spot>
-    ensures { Reads SpellsSpot text.now result }
+    ensures { ReadsText SpellsSpot text.now result }
 {
     match past_r(text) {
         Some(root) => match read_number(root) {

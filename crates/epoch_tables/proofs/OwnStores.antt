@@ -6,14 +6,14 @@ use mathlib.Core.Option as maybe
 use native.Mathlib.Decide.{ℕ_discrete}
 use Rattle.atomic_table.specs.Table.{State, Me, step, keeps, Allows}
 use Rattle.epoch_tables.specs.declared.table.view.ParticipantView.{ParticipantView}
-use Rattle.epoch_tables.specs.Table.{word_at, word_of, Sees, EpochsAgree}
+use Rattle.epoch_tables.specs.Table.{word_at, seat_word, Sees, EpochsAgree}
 use Rattle.epoch_tables.specs.TableSteps.{after_own, after_free, Publishes, Unpins, Frees}
 use Rattle.epoch_tables.proofs.SeatSteps.{step_keeps}
 use Rattle.epoch_tables.proofs.Views.{one_view}
 
 -- what a view w owes after its seat, which had the view v and the position k, stored this word there
 record Stored (v w : ParticipantView) (k word : ℕ) : Type 0 where
-  pub only : (k' : ℕ) → w.position ≡ Some k' → (k' ≡ k) × (word ≡ word_of w.published)
+  pub only : (k' : ℕ) → w.position ≡ Some k' → (k' ≡ k) × (word ≡ seat_word w.published)
   pub kept : word ≢ 0 → w.position ≡ Some k
   pub same_seen : w.seen ≡ v.seen
   pub pinned : (p : ℕ) → w.published ≡ Some p → (w.position ≡ Some k) × (p ≤ v.seen)

@@ -11,7 +11,7 @@ use Rattle.atomic_table.specs.Table.{State, Me, step, keeps, Allows, Enters, ope
 use Rattle.atomic_table.proofs.Lists.{at_snoc, at_longer, set_here, set_else}
 use Rattle.epoch_bags.specs.Bags.{Sealed}
 use Rattle.epoch_tables.specs.declared.shared_places.view.PlaceView.{PlaceView}
-use Rattle.epoch_tables.specs.SharedPlaces.{word_at, words_for, Sees, PlacesAgree, with_claim, after_look, Sits, Looks}
+use Rattle.epoch_tables.specs.SharedPlaces.{place_word_at, place_words_for, PlaceSeatSees, PlacesAgree, with_claim, after_look, SitsAtPlaces, LooksAtPlace}
 use Rattle.epoch_tables.proofs.Views.{each_view, is_seat, one_view, only_view}
 
 blank : (n i : ℕ) → get_or (replicate {A = ℕ} n 0) i 0 ≡ 0
@@ -32,7 +32,7 @@ module _ {J : Type 0} (places : ℕ) where
   Rule = PlacesAgree places
 
   -- a step that leaves the words, the slots and what is claimed
-  pub look_keeps : (s : State (Option (Sealed J)) (PlaceView J)) (r : Rule s) (i id : ℕ) (v : PlaceView J) (looked found : List ℕ) (left won : List (Option (Sealed J))) → Sees s id v
+  pub look_keeps : (s : State (Option (Sealed J)) (PlaceView J)) (r : Rule s) (i id : ℕ) (v : PlaceView J) (looked found : List ℕ) (left won : List (Option (Sealed J))) → PlaceSeatSees s id v
       → Rule record { words = set s.words i (get_or s.words i 0); homes = s.homes; views = set s.views id (with_claim v.claimed looked found left won) }
   look_keeps s r i id v looked found left won here = let w : PlaceView J = with_claim v.claimed looked found left won in
       subst (λ (ws : List ℕ). Rule record { words = ws; homes = s.homes; views = set s.views id w }) (sym (set-get_or s.words i 0)) record {
@@ -45,7 +45,7 @@ module _ {J : Type 0} (places : ℕ) where
               id,
               w,
               set_here s.views id w (is_seat s.views id v here),
-              ap (λ (z : PlaceView J). z.claimed) (one_view s.views id v by.1 here (subst (λ (z : ℕ). Sees s z by.1) same by.2)) ∙ by.3,
+              ap (λ (z : PlaceView J). z.claimed) (one_view s.views id v by.1 here (subst (λ (z : ℕ). PlaceSeatSees s z by.1) same by.2)) ∙ by.3,
             ))
             (λ other. (by.0, by.1, set_else s.views id by.0 w other ∙ by.2, by.3));
         one_claimer_each = λ i j u its k at_i at_j. each_view (λ i u. u.claimed ≡ Some k → its.claimed ≡ Some k → i ≡ j) s.views id w
@@ -55,24 +55,24 @@ module _ {J : Type 0} (places : ℕ) where
             (λ has. r.one_claimer_each i id u v k at_i here mine has)
             (λ j its _ at has. r.one_claimer_each i j u its k at_i at mine has) j its at_j theirs)
             i u at_i;
-        claims_match = λ j u k at. each_view (λ j u. u.claimed ≡ Some k → (k < places) × (get_or s.words (word_at k) 0 ≡ 2)) s.views id w
+        claims_match = λ j u k at. each_view (λ j u. u.claimed ≡ Some k → (k < places) × (get_or s.words (place_word_at k) 0 ≡ 2)) s.views id w
             (r.claims_match id v k here) (λ j u other at_j has. r.claims_match j u k at_j has) j u at;
       }
 
   pub place_look_keeps : (slots id : ℕ) (me : Me (Option (Sealed J)) (PlaceView J)) (k : ℕ) → k < places
-      → Allows Rule slots id me (word_at k) (λ x. x) (Looks (step slots (word_at k) 0 0 none) me)
-  place_look_keeps slots id me k below s r _ here _ = let word : ℕ = get_or s.words (word_at k) 0 in (
+      → Allows Rule slots id me (place_word_at k) (λ x. x) (LooksAtPlace (step slots (place_word_at k) 0 0 none) me)
+  place_look_keeps slots id me k below s r _ here _ = let word : ℕ = get_or s.words (place_word_at k) 0 in (
     after_look me.0 k word,
     keeps,
     tt,
-    look_keeps s r (word_at k) id me.0 (me.0.looked ++ k ∷ []) (me.0.found ++ word ∷ []) me.0.left me.0.won here,
+    look_keeps s r (place_word_at k) id me.0 (me.0.looked ++ k ∷ []) (me.0.found ++ word ∷ []) me.0.left me.0.won here,
     (
       r.is_word k below,
       λ k' at_k'. let same : k ≡ k' = omega arith in ap (λ (z : ℕ). (after_look me.0 z word, me.1)) same,
     ),
   )
 
-  pub new_seat_enters : (slots : ℕ) (first : PlaceView J) → Enters Rule slots 0 (λ x w. Sits {J = J} (step slots 0 0 0 none) (first, []) x (w, []))
+  pub new_seat_enters : (slots : ℕ) (first : PlaceView J) → Enters Rule slots 0 (λ x w. SitsAtPlaces {J = J} (step slots 0 0 0 none) (first, []) x (w, []))
   new_seat_enters slots first s r _ _ = let w : PlaceView J = with_claim None [] [] [] [] in
       let unclaimed : (u : PlaceView J) (k : ℕ) → w ≡ u → u.claimed ≡ Some k → ⊥ =
       (λ u k is has. none-some k (ap (λ (z : PlaceView J). z.claimed) is ∙ has)) in (
@@ -91,17 +91,17 @@ module _ {J : Type 0} (places : ℕ) where
         refl,
       )
 
-  pub new_places_keep : Rule (opening (replicate (words_for places) 0) (replicate places None) (with_claim None [] [] [] []))
+  pub new_places_keep : Rule (opening (replicate (place_words_for places) 0) (replicate places None) (with_claim None [] [] [] []))
   new_places_keep = let v : PlaceView J = with_claim None [] [] [] [] in
-      let free = blank (words_for places) in
+      let free = blank (place_words_for places) in
       let unclaimed : (j : ℕ) (u : PlaceView J) (k : ℕ) → get_elem? (v ∷ []) j ≡ some u → u.claimed ≡ Some k → ⊥ =
       (λ j u k at has. none-some k (ap (λ (z : PlaceView J). z.claimed) (only_view v j u at) ∙ has)) in
       record {
-        as_many = length-replicate (words_for places) 0;
+        as_many = length-replicate (place_words_for places) 0;
         as_many_slots = length-map (replicate places None) some ∙ length-replicate places None;
-        is_word = λ k below. inl (free (word_at k));
-        at_home = λ k below not. (None, all_at_home places k None below, free (word_at k));
-        has_claimer = λ k below is. absurd (zero_is_not_two _ (free (word_at k)) is);
+        is_word = λ k below. inl (free (place_word_at k));
+        at_home = λ k below not. (None, all_at_home places k None below, free (place_word_at k));
+        has_claimer = λ k below is. absurd (zero_is_not_two _ (free (place_word_at k)) is);
         one_claimer_each = λ i j u its k at_i at_j mine theirs. absurd (unclaimed i u k at_i mine);
         claims_match = λ j u k at has. absurd (unclaimed j u k at has);
       }

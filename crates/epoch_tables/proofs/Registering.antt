@@ -10,13 +10,13 @@ use prog.Atomic.{either}
 use Rattle.atomic_table.specs.Table.{State, Me, step, keeps, stepped, Allows, Enters, opening}
 use Rattle.atomic_table.proofs.Lists.{at_snoc, at_longer}
 use Rattle.epoch_tables.specs.declared.table.view.ParticipantView.{ParticipantView}
-use Rattle.epoch_tables.specs.Table.{word_at, words_for, word_of, Sees, EpochsAgree}
-use Rattle.epoch_tables.specs.TableSteps.{without_position, spent, after_word, after_claim, Sits, Claims}
+use Rattle.epoch_tables.specs.Table.{word_at, words_for, seat_word, Sees, EpochsAgree}
+use Rattle.epoch_tables.specs.TableSteps.{without_position, spent, after_word, after_claim, Sits, ClaimsPosition}
 use Rattle.epoch_tables.proofs.SeatSteps.{step_keeps}
 use Rattle.epoch_tables.proofs.Views.{one_view, only_view}
 use Rattle.epoch_tables.proofs.WordLoads.{load_keeps, same_scan, is_word}
 
-word_of_some : (published : Option ℕ) → 0 < word_of published
+word_of_some : (published : Option ℕ) → 0 < seat_word published
 word_of_some None = omega arith
 word_of_some (Some p) = omega arith
 
@@ -36,7 +36,7 @@ module _ {S : Type 0} (positions : ℕ) where
       let nobodys : (j : ℕ) (u : ParticipantView) → Sees s j u → u.position ≢ Some k = (λ j u at has.
       let word = (r.words_match j u k at has).1 in
       let not_free = word_of_some u.published in
-      let x : ℕ = word_of u.published in
+      let x : ℕ = seat_word u.published in
       let is : get_or s.words (word_at k) 0 ≡ x = word in
       omega arith) in
       step_keeps positions s r id v w (set s.words (word_at k) 2) r.epoch here record {
@@ -65,7 +65,7 @@ module _ {S : Type 0} (positions : ℕ) where
       } s.homes
 
   pub claim_keeps : (slots id : ℕ) (me : Me S ParticipantView) (k : ℕ) → me.0.position ≡ None → k < positions
-      → Allows Rule slots id me (word_at k) (λ x. either (eqb x 0) 2 x) (Claims (step slots (word_at k) 0 2 maybe.none) me)
+      → Allows Rule slots id me (word_at k) (λ x. either (eqb x 0) 2 x) (ClaimsPosition (step slots (word_at k) 0 2 maybe.none) me)
   claim_keeps slots id me k no_position below s r _ here _ = let v : ParticipantView = me.0 in
       let i : ℕ = word_at k in
       let x : ℕ = get_or s.words i 0 in
@@ -106,7 +106,7 @@ module _ {S : Type 0} (positions : ℕ) where
       epoch = r.epoch;
       as_many = r.as_many;
       epoch_word = r.epoch_word;
-      words_match = λ j u k at. each_old (λ u. u.position ≡ Some k → (k < positions) × (get_or s.words (word_at k) 0 ≡ word_of u.published))
+      words_match = λ j u k at. each_old (λ u. u.position ≡ Some k → (k < positions) × (get_or s.words (word_at k) 0 ≡ seat_word u.published))
           j u at (λ old has. r.words_match j u k old has) (λ has. absurd (none-some k has));
       taken_by_seat = λ k below held. let t = r.taken_by_seat k below held in (t.0, t.1, at_longer s.views (new_view ∷ []) t.0 t.1 t.2, t.3);
       one_seat_each = λ i j u its k at_i at_j. each_old (λ u. u.position ≡ Some k → its.position ≡ Some k → i ≡ j) i u at_i

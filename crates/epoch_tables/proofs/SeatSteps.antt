@@ -8,7 +8,7 @@ use lib.ListN.{get_elem?}
 use Rattle.atomic_table.specs.Table.{State}
 use Rattle.atomic_table.proofs.Lists.{set_here, set_else}
 use Rattle.epoch_tables.specs.declared.table.view.ParticipantView.{ParticipantView}
-use Rattle.epoch_tables.specs.Table.{word_at, word_of, Sees, EpochsAgree}
+use Rattle.epoch_tables.specs.Table.{word_at, seat_word, Sees, EpochsAgree}
 use Rattle.epoch_tables.proofs.Views.{each_view, is_seat}
 
 module _ {S : Type 0} where
@@ -19,7 +19,7 @@ module _ {S : Type 0} where
     pub word : get_or words 0 0 ≡ 2 * after
     pub up : before ≤ after
     -- its own word
-    pub own : (k : ℕ) → w.position ≡ Some k → (k < positions) × (get_or words (word_at k) 0 ≡ word_of w.published)
+    pub own : (k : ℕ) → w.position ≡ Some k → (k < positions) × (get_or words (word_at k) 0 ≡ seat_word w.published)
     pub others : (j : ℕ) (u : ParticipantView) (k : ℕ) → j ≢ me → Sees s j u → u.position ≡ Some k
         → (get_or words (word_at k) 0 ≡ get_or s.words (word_at k) 0) × (w.position ≢ Some k)
     pub taken : (k : ℕ) → k < positions → get_or words (word_at k) 0 ≢ 0
@@ -45,9 +45,9 @@ module _ {S : Type 0} where
     after_views = set s.views me w
 
     words_still_match : (j : ℕ) (u : ParticipantView) (k : ℕ) → get_elem? after_views j ≡ some u → u.position ≡ Some k
-        → (k < positions) × (get_or words (word_at k) 0 ≡ word_of u.published)
+        → (k < positions) × (get_or words (word_at k) 0 ≡ seat_word u.published)
     words_still_match j u k at = each_view
-        (λ j u. u.position ≡ Some k → (k < positions) × (get_or words (word_at k) 0 ≡ word_of u.published))
+        (λ j u. u.position ≡ Some k → (k < positions) × (get_or words (word_at k) 0 ≡ seat_word u.published))
         s.views me w (o.own k)
         (λ j u other at_j has. let before = r.words_match j u k at_j has in (before.0, (o.others j u k other at_j has).0 ∙ before.1))
         j u at

@@ -7,12 +7,12 @@ use native.Mathlib.Decide.{ℕ_discrete}
 use lib.Seq.{set-get_or}
 use Rattle.atomic_table.specs.Table.{State, Me, step, keeps, Allows}
 use Rattle.epoch_tables.specs.declared.table.view.ParticipantView.{ParticipantView}
-use Rattle.epoch_tables.specs.Table.{word_at, word_of, IsWord, LetsPass, Sees, EpochsAgree}
+use Rattle.epoch_tables.specs.Table.{word_at, seat_word, IsWord, LetsPass, Sees, EpochsAgree}
 use Rattle.epoch_tables.specs.TableSteps.{after_word, after_pass, LoadsWord}
 use Rattle.epoch_tables.proofs.SeatSteps.{step_keeps}
 use Rattle.epoch_tables.proofs.Views.{one_view}
 
-word_of_is_word : (published : Option ℕ) (word : ℕ) → word ≡ word_of published → IsWord word
+word_of_is_word : (published : Option ℕ) (word : ℕ) → word ≡ seat_word published → IsWord word
 word_of_is_word None word is = inr (inl is)
 word_of_is_word (Some p) word is = inr (inr (p, is))
 
@@ -41,7 +41,7 @@ module _ {S : Type 0} (positions : ℕ) where
       → LetsPass x (get_or s.words (word_at k) 0) → Sees s j u → u.position ≡ Some k → u.first_read ≡ Some q → x ≤ q
   not_behind s r x k j u q pass at has first = let near = r.pinned_near j u q at first in
       let low = near.2 in
-      let word : get_or s.words (word_at k) 0 ≡ 2 * near.0 + 1 = (r.words_match j u k at has).1 ∙ ap word_of near.1 in
+      let word : get_or s.words (word_at k) 0 ≡ 2 * near.0 + 1 = (r.words_match j u k at has).1 ∙ ap seat_word near.1 in
       ⊎_elim (λ zero. absurd (omega arith)) (λ rest. ⊎_elim (λ two. absurd (omega arith)) (λ odd. omega arith) rest) pass
 
   -- what the scan of a view says: it began after a reading of its own, and holds for the positions passed

@@ -15,11 +15,11 @@ pub record PlaceBoard : Type 0 where
   pub table : TableId
 
 -- where the word of a place stands: 128 bytes behind the one before
-abbrev pub word_at : ℕ → ℕ
-word_at place = 16 * place
+abbrev pub place_word_at : ℕ → ℕ
+place_word_at place = 16 * place
 
-abbrev pub words_for : ℕ → ℕ
-words_for places = 16 * places
+abbrev pub place_words_for : ℕ → ℕ
+place_words_for places = 16 * places
 
 -- what the word of a place can be
 abbrev pub IsPlaceWord : ℕ → Type 0
@@ -30,34 +30,34 @@ abbrev pub IsAtHome : {J : Type 0} → ℕ → Option (Sealed J) → Type 0
 IsAtHome word None = word ≡ 0
 IsAtHome word (Some bag) = word ≡ 2 * bag.seal + 1
 
-abbrev pub Sees : {S J : Type 0} → State S (PlaceView J) → ℕ → PlaceView J → Type 0
-Sees s seat view = get_elem? s.views seat ≡ some view
+abbrev pub PlaceSeatSees : {S J : Type 0} → State S (PlaceView J) → ℕ → PlaceView J → Type 0
+PlaceSeatSees s seat view = get_elem? s.views seat ≡ some view
 
 pub record PlacesAgree {J : Type 0} (places : ℕ) (s : State (Option (Sealed J)) (PlaceView J)) : Type 0 where
-  pub as_many : length s.words ≡ words_for places
+  pub as_many : length s.words ≡ place_words_for places
   pub as_many_slots : length s.homes ≡ places
-  pub is_word : (place : ℕ) → place < places → IsPlaceWord (slice_index s.words (word_at place))
+  pub is_word : (place : ℕ) → place < places → IsPlaceWord (slice_index s.words (place_word_at place))
   -- A place that isn't claimed has its slot at home: with no bag at 0, and with a bag sealed with s at 2s + 1.
-  pub at_home : (place : ℕ) → place < places → slice_index s.words (word_at place) ≢ 2
+  pub at_home : (place : ℕ) → place < places → slice_index s.words (place_word_at place) ≢ 2
       → (bag : Option (Sealed J)) × (get_elem? s.homes place ≡ some (some bag))
-      × IsAtHome (slice_index s.words (word_at place)) bag
+      × IsAtHome (slice_index s.words (place_word_at place)) bag
   -- A place at 2 is claimed by one seat. A view names at most one place that its seat has claimed.
-  pub has_claimer : (place : ℕ) → place < places → slice_index s.words (word_at place) ≡ 2
-      → (seat : ℕ) × (view : PlaceView J) × Sees s seat view × (view.claimed ≡ Some place)
-  pub one_claimer_each : (seat other : ℕ) (view its : PlaceView J) (place : ℕ) → Sees s seat view → Sees s other its
+  pub has_claimer : (place : ℕ) → place < places → slice_index s.words (place_word_at place) ≡ 2
+      → (seat : ℕ) × (view : PlaceView J) × PlaceSeatSees s seat view × (view.claimed ≡ Some place)
+  pub one_claimer_each : (seat other : ℕ) (view its : PlaceView J) (place : ℕ) → PlaceSeatSees s seat view → PlaceSeatSees s other its
       → view.claimed ≡ Some place → its.claimed ≡ Some place → seat ≡ other
-  pub claims_match : (seat : ℕ) (view : PlaceView J) (place : ℕ) → Sees s seat view → view.claimed ≡ Some place
-      → (place < places) × (slice_index s.words (word_at place) ≡ 2)
+  pub claims_match : (seat : ℕ) (view : PlaceView J) (place : ℕ) → PlaceSeatSees s seat view → view.claimed ≡ Some place
+      → (place < places) × (slice_index s.words (place_word_at place) ≡ 2)
 
 -- SEATS
 
 -- it is a seat at these places
-abbrev pub IsOf : {J : Type 0} → PlaceBoard → Seat (Option (Sealed J)) (PlaceView J) → Type 0
-IsOf board seat = seat.table_id ≡ board.table
+abbrev pub IsPlaceSeatOf : {J : Type 0} → PlaceBoard → Seat (Option (Sealed J)) (PlaceView J) → Type 0
+IsPlaceSeatOf board seat = seat.table_id ≡ board.table
 
 -- it is the same seat of the same places
-abbrev pub IsKept : {J : Type 0} → Seat (Option (Sealed J)) (PlaceView J) → Seat (Option (Sealed J)) (PlaceView J) → Type 0
-IsKept before after = (after.table_id ≡ before.table_id) × (after.id ≡ before.id)
+abbrev pub IsSamePlaceSeat : {J : Type 0} → Seat (Option (Sealed J)) (PlaceView J) → Seat (Option (Sealed J)) (PlaceView J) → Type 0
+IsSamePlaceSeat before after = (after.table_id ≡ before.table_id) × (after.id ≡ before.id)
 
 -- VIEWS
 
@@ -69,8 +69,8 @@ abbrev pub after_look : {J : Type 0} → PlaceView J → ℕ → ℕ → PlaceVi
 after_look v place word = with_claim v.claimed (v.looked ++ place ∷ []) (v.found ++ word ∷ []) v.left v.won
 
 -- it found this word at this place, and claimed it, where this was at home
-abbrev pub after_claim : {J : Type 0} → PlaceView J → ℕ → ℕ → Option (Sealed J) → PlaceView J
-after_claim v place word home = with_claim (Some place) (v.looked ++ place ∷ []) (v.found ++ word ∷ []) v.left (v.won ++ home ∷ [])
+abbrev pub after_place_claim : {J : Type 0} → PlaceView J → ℕ → ℕ → Option (Sealed J) → PlaceView J
+after_place_claim v place word home = with_claim (Some place) (v.looked ++ place ∷ []) (v.found ++ word ∷ []) v.left (v.won ++ home ∷ [])
 
 -- it filled or emptied the place that it had claimed, and left this there
 abbrev pub after_store : {J : Type 0} → PlaceView J → Option (Sealed J) → PlaceView J
@@ -86,22 +86,22 @@ abbrev pub PlaceMe : Type 0 → Type 0
 PlaceMe J = Me (Option (Sealed J)) (PlaceView J)
 
 module _ {J : Type 0} where
-  abbrev pub Sits : PlaceStep J → PlaceMe J → ℕ → PlaceMe J → Type 0
-  Sits step before word after = after ≡ (with_claim None [] [] [] [], [])
+  abbrev pub SitsAtPlaces : PlaceStep J → PlaceMe J → ℕ → PlaceMe J → Type 0
+  SitsAtPlaces step before word after = after ≡ (with_claim None [] [] [] [], [])
 
-  abbrev pub Looks : PlaceStep J → PlaceMe J → ℕ → PlaceMe J → Type 0
-  Looks step before word after = IsPlaceWord word
-      × ((place : ℕ) → step.word ≡ word_at place → after ≡ (after_look before.0 place word, before.1))
+  abbrev pub LooksAtPlace : PlaceStep J → PlaceMe J → ℕ → PlaceMe J → Type 0
+  LooksAtPlace step before word after = IsPlaceWord word
+      × ((place : ℕ) → step.word ≡ place_word_at place → after ≡ (after_look before.0 place word, before.1))
 
   -- A claim that is won takes the slot, with what was at home there.
-  abbrev pub Claims : PlaceStep J → PlaceMe J → ℕ → PlaceMe J → Type 0
-  Claims step before word after = IsPlaceWord word
-      × (word ≢ step.first → (place : ℕ) → step.word ≡ word_at place → after ≡ (after_look before.0 place word, before.1))
-      × (word ≡ step.first → (place : ℕ) → step.word ≡ word_at place
+  abbrev pub ClaimsPlace : PlaceStep J → PlaceMe J → ℕ → PlaceMe J → Type 0
+  ClaimsPlace step before word after = IsPlaceWord word
+      × (word ≢ step.first → (place : ℕ) → step.word ≡ place_word_at place → after ≡ (after_look before.0 place word, before.1))
+      × (word ≡ step.first → (place : ℕ) → step.word ≡ place_word_at place
       → (bag : Option (Sealed J)) × IsAtHome word bag
-      × (after ≡ (after_claim before.0 place word bag, (place, bag) ∷ before.1)))
+      × (after ≡ (after_place_claim before.0 place word bag, (place, bag) ∷ before.1)))
 
   -- The slot goes home with what is left in it, and the view keeps that.
-  abbrev pub Stores : PlaceStep J → PlaceMe J → ℕ → PlaceMe J → Type 0
-  Stores step before word after = (place : ℕ) → (content : Option (Sealed J)) → before.1 ≡ (place, content) ∷ []
+  abbrev pub StoresPlace : PlaceStep J → PlaceMe J → ℕ → PlaceMe J → Type 0
+  StoresPlace step before word after = (place : ℕ) → (content : Option (Sealed J)) → before.1 ≡ (place, content) ∷ []
       → after ≡ (after_store before.0 content, [])

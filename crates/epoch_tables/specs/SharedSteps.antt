@@ -2,7 +2,7 @@
 use Rattle.std.specs.Prelude.{◌≡◌, ℕ, ◌+◌, ◌*◌, ◌<◌, ◌≤◌, List, [], ◌∷◌, ◌++◌, length, Option, Some, None, Contains}
 use Rattle.epoch_bags.specs.Bags.{Sealed, IsExpired}
 use Rattle.epoch_bags.specs.CursorSteps.{IsExpiredWord, PutGoes, TakeGoes}
-use Rattle.epoch_tables.specs.SharedPlaces.{PlaceMe, IsAtHome, with_claim, after_look, after_claim, after_store}
+use Rattle.epoch_tables.specs.SharedPlaces.{PlaceMe, IsAtHome, with_claim, after_look, after_place_claim, after_store}
 use Rattle.epoch_tables.specs.declared.shared_places.view.PlaceView.{PlaceView}
 use Rattle.epoch_bags.specs.declared.queue.PutStep.{PutStep}
 use Rattle.epoch_bags.specs.declared.queue.TakeStep.{TakeStep}
@@ -45,23 +45,23 @@ module _ {J : Type 0} where
   -- A claim that found this word and has won the place. Just what was at home there is in hand now.
   abbrev pub Wins : ℕ → PlaceMe J → ℕ → PlaceMe J → Type 0
   Wins place before word after = (home : Option (Sealed J)) × IsAtHome word home
-      × (after ≡ (after_claim before.0 place word home, (place, home) ∷ before.1))
+      × (after ≡ (after_place_claim before.0 place word home, (place, home) ∷ before.1))
 
   -- the place has this content from now on, and nothing is in hand
-  abbrev pub Leaves : PlaceMe J → Option (Sealed J) → PlaceMe J → Type 0
-  Leaves before content after = after ≡ (after_store before.0 content, [])
+  abbrev pub LeavesContent : PlaceMe J → Option (Sealed J) → PlaceMe J → Type 0
+  LeavesContent before content after = after ≡ (after_store before.0 content, [])
 
   -- one step of a put of this sealed bag
   abbrev pub PutMoves : ℕ → PutCursor → PlaceMe J → Sealed J → PutStep → PutCursor → PlaceMe J → Type 0
   PutMoves places cursor before bag step next after =
-      PutGoes places (λ place word. Finds place before word after) (λ place word. Wins place before word after) (λ place. Leaves before (Some bag) after) cursor step next
+      PutGoes places (λ place word. Finds place before word after) (λ place word. Wins place before word after) (λ place. LeavesContent before (Some bag) after) cursor step next
 
   -- One step of a collection for the epoch x, and what is in the hand after it. The bag that is got is the very one that
   -- was in the slot, since the claim that won it.
   abbrev pub TakeMoves : ℕ → ℕ → TakeCursor → PlaceMe J → TakeStep → TakeCursor → PlaceMe J → Sealed J → Type 0
   TakeMoves places x cursor before step next after hand =
       TakeGoes places (λ place word. Finds place before word after) (λ place word. Wins place before word after)
-      (λ place. Leaves before None after × (before.1 ≡ (place, Some hand) ∷ []) × IsExpired x hand) (after ≡ before) x cursor step next
+      (λ place. LeavesContent before None after × (before.1 ≡ (place, Some hand) ∷ []) × IsExpired x hand) (after ≡ before) x cursor step next
 
 -- AN END
 

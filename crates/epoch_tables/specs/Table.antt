@@ -22,9 +22,9 @@ abbrev pub words_for : ℕ → ℕ
 words_for positions = 16 * positions + 16
 
 -- the word of a seat's position
-abbrev pub word_of : Option ℕ → ℕ
-word_of None = 2
-word_of (Some published) = 2 * published + 1
+abbrev pub seat_word : Option ℕ → ℕ
+seat_word None = 2
+seat_word (Some published) = 2 * published + 1
 
 -- what the word of a position can be
 abbrev pub IsWord : ℕ → Type 0
@@ -45,7 +45,7 @@ pub record EpochsAgree {S : Type 0} (positions : ℕ) (s : State S ParticipantVi
   -- Each word is what its seat's view says, and 0 where no seat has the position.
   pub words_match : (seat : ℕ) (view : ParticipantView) (position : ℕ) → Sees s seat view
       → view.position ≡ Some position
-      → (position < positions) × (slice_index s.words (word_at position) ≡ word_of view.published)
+      → (position < positions) × (slice_index s.words (word_at position) ≡ seat_word view.published)
   pub taken_by_seat : (position : ℕ) → position < positions → slice_index s.words (word_at position) ≢ 0
       → (seat : ℕ) × (view : ParticipantView) × Sees s seat view × (view.position ≡ Some position)
   pub one_seat_each : (seat other : ℕ) (view its : ParticipantView) (position : ℕ) → Sees s seat view → Sees s other its
@@ -76,8 +76,8 @@ abbrev pub IsOf : {S : Type 0} → Board → Seat S ParticipantView → Type 0
 IsOf board seat = (seat.table_id ≡ board.table) × (seat.me.1 ≡ [])
 
 -- it is the same seat of the same table, with the same slots
-abbrev pub IsKept : {S : Type 0} → Seat S ParticipantView → Seat S ParticipantView → Type 0
-IsKept before after = (after.table_id ≡ before.table_id) × (after.id ≡ before.id) × (after.me.1 ≡ before.me.1)
+abbrev pub IsSameSeat : {S : Type 0} → Seat S ParticipantView → Seat S ParticipantView → Type 0
+IsSameSeat before after = (after.table_id ≡ before.table_id) × (after.id ≡ before.id) × (after.me.1 ≡ before.me.1)
 
 -- LAWS
 

@@ -109,8 +109,8 @@ module _ {S : Type 0} where
   StoresEpoch step before word after = (after.1 ≡ before.1)
       × ((epoch : ℕ) → word ≡ 2 * epoch → (before.0.seen ≤ epoch) × (after.0 ≡ after_advance before.0 epoch))
 
-  abbrev pub Claims : Step S → Me S ParticipantView → ℕ → Me S ParticipantView → Type 0
-  Claims step before word after = (after.1 ≡ before.1) × IsWord word
+  abbrev pub ClaimsPosition : Step S → Me S ParticipantView → ℕ → Me S ParticipantView → Type 0
+  ClaimsPosition step before word after = (after.1 ≡ before.1) × IsWord word
       × ((position : ℕ) × (step.word ≡ word_at position)
       × (word ≡ 0 → after.0 ≡ after_claim before.0 position word)
       × (word ≢ 0 → after.0 ≡ after_word before.0 position word))

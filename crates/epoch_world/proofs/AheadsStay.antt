@@ -8,11 +8,11 @@ use Rattle.epoch_laws.specs.declared.step.Call.TheVariants.{Pin, Unpin, Repin, P
 use Rattle.epoch_laws.specs.Collections.{expiry_of}
 use Rattle.epoch_laws.specs.Kept.{rests}
 use Rattle.epoch_laws.specs.Room.{is_putting}
-use Rattle.epoch_laws.specs.Run.{Seat, begun_seat}
+use Rattle.epoch_laws.specs.Run.{WorldSeat, begun_seat}
 use Rattle.epoch_world.specs.Worlds.{aheads}
 
 -- a participant counts for it by the epoch of its stage alone
-pub same_aheads : {C : Type 0} (ahead : ℕ → C → ℕ) (seats : List Seat) (cursors : List C) (p : ℕ) (after other : Seat)
+pub same_aheads : {C : Type 0} (ahead : ℕ → C → ℕ) (seats : List WorldSeat) (cursors : List C) (p : ℕ) (after other : WorldSeat)
     → expiry_of after.machine.stage ≡ expiry_of (slice_index_or seats p other).machine.stage
     → aheads ahead (slice_set seats p after) cursors ≡ aheads ahead seats cursors
 same_aheads ahead [] cursors p after other same = refl
@@ -42,7 +42,7 @@ either true a b one other = one
 either false a b one other = other
 
 -- no call begins by collecting
-pub begun_for : (c : Call) (seat : Seat) → expiry_of seat.machine.stage ≡ 0 → expiry_of (begun_seat c seat).machine.stage ≡ 0
+pub begun_for : (c : Call) (seat : WorldSeat) → expiry_of seat.machine.stage ≡ 0 → expiry_of (begun_seat c seat).machine.stage ≡ 0
 begun_for Pin seat rests = either (seat.machine.guards == 0) LoadPin End refl refl
 begun_for (Unpin g) seat rests = either (seat.machine.guards == 1) StoreUnpinned End refl refl
 begun_for (Repin (Some g)) seat rests = either (seat.machine.guards == 1) LoadRepin End refl refl

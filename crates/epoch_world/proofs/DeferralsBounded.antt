@@ -20,28 +20,28 @@ use Rattle.epoch_laws.specs.declared.step.Word.{Word}
 use Rattle.epoch_laws.specs.declared.step.Word.TheVariants.{Free, Unpinned, Pinned}
 use Rattle.epoch_laws.specs.declared.step.Progress.{Progress}
 use Rattle.epoch_laws.specs.declared.step.Progress.TheVariants.{Idle as IdleProgress, Driven, CallsNow, Ends, Accesses}
-use Rattle.epoch_laws.specs.Run.{Bag, Seat, State, seat_of, word_of, number_of, with_seat, with_machine, with_word, free_seat, drives, begun_seat, ended_seat, call_refusal, Drives, Goes}
+use Rattle.epoch_laws.specs.Run.{Bag, WorldSeat, State, seat_of, position_word, word_number, with_seat, with_machine, with_word, free_seat, drives, begun_seat, ended_seat, call_refusal, DrivesCall, DoesGo}
 use Rattle.epoch_laws.proofs.SeatLemmas.{seat_written, seat_other, seat_there, same_or_other}
 use Rattle.epoch_laws.proofs.TicketsTallied.{acted}
-use Rattle.epoch_world.proofs.PendingDeferrals.{Bounded, is_busy, pending_at, pending, KeepsAt, Keeps, pending_one, none_pending, sum_most, keeps_collected, keeps_pinned, keeps_put, keeps_unpinned, keeps_called, keeps_past, keeps_first, keeps_by, room_given, busy_takes, removal_room_given}
+use Rattle.epoch_world.proofs.PendingDeferrals.{TicketsBounded, is_busy, pending_at, pending, KeepsAt, KeepsAsDeferral, pending_one, none_pending, sum_most, keeps_collected, keeps_pinned, keeps_put, keeps_unpinned, keeps_called, keeps_past, keeps_first, keeps_by, room_given, busy_takes, removal_room_given}
 use Rattle.epoch_heap.specs.Heap.{Heap}
 
-module _ (old new : State) (h : Bounded old) where
-  pub same : new ≡ old → Bounded new
-  same did = subst Bounded (sym did) h
+module _ (old new : State) (h : TicketsBounded old) where
+  pub same : new ≡ old → TicketsBounded new
+  same did = subst TicketsBounded (sym did) h
 
   -- one participant goes on, and no more tickets may be taken than before, or the limit is far
-  acts_beside : (p : ℕ) (seat : Seat) (epoch : ℕ) (queued : List Bag) (tickets : ℕ) (heap : Heap)
+  acts_beside : (p : ℕ) (seat : WorldSeat) (epoch : ℕ) (queued : List Bag) (tickets : ℕ) (heap : Heap)
       → p < length old.seats
-      → Keeps seat
+      → KeepsAsDeferral seat
       → (tickets + pending seat ≤ old.tickets + pending (seat_of old p)) ⊎ (tickets < 2 ^ 64 - 4097)
       → new ≡ record (acted old p seat epoch queued tickets) { heap = heap }
-      → Bounded new
-  acts_beside p seat epoch queued tickets heap there keeps fits did = subst Bounded (sym did) (record {
+      → TicketsBounded new
+  acts_beside p seat epoch queued tickets heap there keeps fits did = subst TicketsBounded (sym did) (record {
     tickets = bound fits;
     keeps = λ q. elim (same_or_other q p) [
-      | inl same ↦ subst Keeps (sym (ap (seat_of after) same ∙ seat_written old p seat there)) keeps
-      | inr other ↦ subst Keeps (sym (seat_other old p q seat other)) (h.keeps q)
+      | inl same ↦ subst KeepsAsDeferral (sym (ap (seat_of after) same ∙ seat_written old p seat there)) keeps
+      | inr other ↦ subst KeepsAsDeferral (sym (seat_other old p q seat other)) (h.keeps q)
     ];
   })
     where
@@ -58,48 +58,48 @@ module _ (old new : State) (h : Bounded old) where
       )
       bound (inr below) = omega (
         arith,
-        sum_most pending after.seats (λ (s : Seat). pending_one s.machine.action s.machine.stage),
+        sum_most pending after.seats (λ (s : WorldSeat). pending_one s.machine.action s.machine.stage),
       )
 
   -- cells and pointers stay
-  acts : (p : ℕ) (seat : Seat) (epoch : ℕ) (queued : List Bag) (tickets : ℕ)
+  acts : (p : ℕ) (seat : WorldSeat) (epoch : ℕ) (queued : List Bag) (tickets : ℕ)
       → p < length old.seats
-      → Keeps seat
+      → KeepsAsDeferral seat
       → (tickets + pending seat ≤ old.tickets + pending (seat_of old p)) ⊎ (tickets < 2 ^ 64 - 4097)
       → new ≡ acted old p seat epoch queued tickets
-      → Bounded new
+      → TicketsBounded new
   acts p seat epoch queued tickets = acts_beside p seat epoch queued tickets old.heap
 
   pub registers : (p : ℕ)
       → p < length old.seats
       → new ≡ with_seat old p (record (free_seat old.sizes) { word = Unpinned })
-      → Bounded new
+      → TicketsBounded new
   registers p there did =
-      let after : Seat = record (free_seat old.sizes) { word = Unpinned } in
+      let after : WorldSeat = record (free_seat old.sizes) { word = Unpinned } in
       acts p after old.epoch old.queued old.tickets there tt (inl (omega arith)) did
 
-  module _ (p : ℕ) (taken : word_of old p ≢ Free) where
-    abbrev seat : Seat
+  module _ (p : ℕ) (taken : position_word old p ≢ Free) where
+    abbrev seat : WorldSeat
     seat = seat_of old p
 
     abbrev m : Machine Deferral
     m = seat.machine
 
     -- no ticket is given
-    waits : (after : Seat) (epoch : ℕ) (queued : List Bag)
-        → Keeps after
+    waits : (after : WorldSeat) (epoch : ℕ) (queued : List Bag)
+        → KeepsAsDeferral after
         → pending after ≤ pending seat
         → new ≡ acted old p after epoch queued old.tickets
-        → Bounded new
+        → TicketsBounded new
     waits after epoch queued keeps fewer did =
         acts p after epoch queued old.tickets (seat_there old p taken) keeps (inl (omega (arith, fewer))) did
 
     -- nor is one where cells and pointers change
-    waits_beside : (after : Seat) (heap : Heap)
-        → Keeps after
+    waits_beside : (after : WorldSeat) (heap : Heap)
+        → KeepsAsDeferral after
         → pending after ≤ pending seat
         → new ≡ record (with_seat old p after) { heap = heap }
-        → Bounded new
+        → TicketsBounded new
     waits_beside after heap keeps fewer did =
         acts_beside p after old.epoch old.queued old.tickets heap (seat_there old p taken) keeps
         (inl (omega (arith, fewer))) did
@@ -107,37 +107,37 @@ module _ (old new : State) (h : Bounded old) where
     pub begins : (c : Call)
         → call_refusal c seat old.tickets old.heap ≡ None
         → new ≡ with_seat old p (begun_seat c seat)
-        → Bounded new
+        → TicketsBounded new
     begins c given did = by_call c given did
       where
         driven : (a : Action) (c : Call)
             → pending_at a (first_stage a m) ≡ 0
             → new ≡ with_seat old p (drives a c seat)
-            → Bounded new
+            → TicketsBounded new
         driven a c none did =
             waits (drives a c seat) old.epoch old.queued (keeps_first a m) (omega (arith, none)) did
 
-        stays : (progress : Progress) → new ≡ with_seat old p (record seat { progress = progress }) → Bounded new
+        stays : (progress : Progress) → new ≡ with_seat old p (record seat { progress = progress }) → TicketsBounded new
         stays progress did =
             waits (record seat { progress = progress }) old.epoch old.queued (h.keeps p) (omega arith) did
 
         by_call : (c : Call)
             → call_refusal c seat old.tickets old.heap ≡ None
             → new ≡ with_seat old p (begun_seat c seat)
-            → Bounded new
+            → TicketsBounded new
         by_call PinCall given did = driven Pin PinCall refl did
         by_call (UnpinCall g) given did = driven Unpin (UnpinCall g) refl did
         by_call (RepinCall (Some g)) given did = driven Repin (RepinCall (Some g)) refl did
         by_call (Pause (Some g)) given did = driven Unpin (Pause (Some g)) refl did
         by_call (Resume (Some g)) given did = driven Pin (Resume (Some g)) refl did
         by_call (DeferCall (Some g)) given did =
-            let after : Seat = drives Defer (DeferCall (Some g)) seat in
+            let after : WorldSeat = drives Defer (DeferCall (Some g)) seat in
             acts p after old.epoch old.queued old.tickets (seat_there old p taken)
             (keeps_first Defer m) (inr (room_given g seat old.tickets old.heap given)) did
         by_call (FlushCall (Some g)) given did = driven Flush (FlushCall (Some g)) refl did
         by_call ReleaseCall given did = driven Release ReleaseCall refl did
         by_call (DeferDestroy (Some g) ptr) given did =
-            let after : Seat = drives Defer (DeferDestroy (Some g) ptr) seat in
+            let after : WorldSeat = drives Defer (DeferDestroy (Some g) ptr) seat in
             acts p after old.epoch old.queued old.tickets (seat_there old p taken)
             (keeps_first Defer m) (inr (removal_room_given g ptr seat old.tickets old.heap given)) did
         by_call (DeferCall None) given did = stays _ did
@@ -145,7 +145,7 @@ module _ (old new : State) (h : Bounded old) where
         by_call (AccessCall a) given did = stays _ did
         by_call _ given did = stays _ did
 
-    ends : (c : Call) → new ≡ with_seat old p (ended_seat c seat) → Bounded new
+    ends : (c : Call) → new ≡ with_seat old p (ended_seat c seat) → TicketsBounded new
     ends c did =
         let is : (ended_seat c seat).machine ≡ ended m = machine_ended c in
         let pending_of = λ (n : Machine Deferral). pending_at n.action n.stage in
@@ -166,7 +166,7 @@ module _ (old new : State) (h : Bounded old) where
           → n.action ≡ m.action
           → KeepsAt n.action n.stage
           → new ≡ acted old p (with_word seat word n) epoch queued old.tickets
-          → Bounded new
+          → TicketsBounded new
       goes_on word n epoch queued same_action keeps did =
           waits (with_word seat word n) epoch queued keeps
           (busy_takes m.action n.action m.stage n.stage s same_action at busy) did
@@ -174,13 +174,13 @@ module _ (old new : State) (h : Bounded old) where
       staged : (t : Stage)
           → KeepsAt m.action t
           → new ≡ with_seat old p (with_machine seat (with_stage m t))
-          → Bounded new
+          → TicketsBounded new
       staged t keeps did =
           goes_on seat.word (with_stage m t) old.epoch old.queued refl keeps did
 
       puts : (step : PutStep) (queued : List Bag)
           → new ≡ acted old p (with_machine seat (put_heard m step)) old.epoch queued old.tickets
-          → Bounded new
+          → TicketsBounded new
       puts Again queued did = goes_on seat.word m old.epoch queued refl (h.keeps p) did
       puts PutDone queued did =
           goes_on seat.word (put_heard m PutDone) old.epoch queued refl (keeps_put m.action false) did
@@ -189,7 +189,7 @@ module _ (old new : State) (h : Bounded old) where
 
       takes : (y k : ℕ) (step : TakeStep) (jobs : List Deferral) (queued : List Bag)
           → new ≡ acted old p (with_machine seat (took_heard m (Take y k) step jobs)) old.epoch queued old.tickets
-          → Bounded new
+          → TicketsBounded new
       takes y k TakeAgain jobs queued did = goes_on seat.word m old.epoch queued refl (h.keeps p) did
       takes y k Empty jobs queued did =
           goes_on seat.word (took_heard m (Take y k) Empty jobs) old.epoch queued refl
@@ -203,7 +203,7 @@ module _ (old new : State) (h : Bounded old) where
         → KeepsAt m.action Keep
         → pending seat ≡ pending_at m.action Keep
         → new ≡ acted old p (with_machine seat (hears m Keep (Job job))) old.epoch old.queued (old.tickets + 1)
-        → Bounded new
+        → TicketsBounded new
     gives_ticket job defers at did =
         let one : pending_at m.action Keep ≡ 1 = ap (λ (a : Action). pending_at a Keep) defers in
         acts p (with_machine seat (hears m Keep (Job job))) old.epoch old.queued (old.tickets + 1)
@@ -212,8 +212,8 @@ module _ (old new : State) (h : Bounded old) where
     goes_at : (c : Call) (s : Stage) (reply : Reply)
         → KeepsAt m.action s
         → pending seat ≡ pending_at m.action s
-        → Drives old p seat c s (ask_at s) reply new
-        → Bounded new
+        → DrivesCall old p seat c s (ask_at s) reply new
+        → TicketsBounded new
     goes_at c Idle reply keeps at did = ends c did.1
     goes_at c LoadPin reply keeps at did = staged LoadPin at refl _ tt did.1
     goes_at c (StorePin e) reply keeps at did =
@@ -221,7 +221,7 @@ module _ (old new : State) (h : Bounded old) where
     goes_at c ReloadPin reply keeps at did = staged ReloadPin at refl _ (keeps_pinned m.action m) did.1
     goes_at c LoadScan reply keeps at did = staged LoadScan at refl _ tt did.1
     goes_at c (Scan e k) reply keeps at did =
-        staged (Scan e k) at refl _ (keeps_past m.action m.sizes.positions e k (number_of (word_of old k))) did.1
+        staged (Scan e k) at refl _ (keeps_past m.action m.sizes.positions e k (word_number (position_word old k))) did.1
     goes_at c (Advance e) reply keeps at did =
         goes_on (Advance e) at refl seat.word (hears m (Advance e) Stored) (e + 1) old.queued refl tt did.1
     goes_at c (Take y k) reply keeps at (step, jobs, queued, is, took, did) =
@@ -244,7 +244,7 @@ module _ (old new : State) (h : Bounded old) where
     goes_at c StoreFree reply keeps at did = waits (free_seat old.sizes) old.epoch old.queued tt (omega arith) did.1
     goes_at c End reply keeps at did = ends c did.1
 
-    pub goes : (progress : Progress) (reply : Reply) → Goes old p seat progress reply new → Bounded new
+    pub goes : (progress : Progress) (reply : Reply) → DoesGo old p seat progress reply new → TicketsBounded new
     goes IdleProgress reply did = same did.1
     goes (Driven c) reply did = goes_at c m.stage reply (h.keeps p) refl did
     goes (CallsNow removes) reply did = waits_beside _ _ (h.keeps p) (omega arith) did.1

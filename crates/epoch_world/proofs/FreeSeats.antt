@@ -13,34 +13,34 @@ use Rattle.epoch_laws.specs.declared.step.Step.{Step}
 use Rattle.epoch_laws.specs.declared.step.Step.TheVariants.{Register, Begin, Go, End as EndStep, EndGo}
 use Rattle.epoch_laws.specs.declared.step.Word.TheVariants.{Free, Unpinned}
 use Rattle.epoch_laws.specs.Kept.{FreeRests, rests}
-use Rattle.epoch_laws.specs.Run.{Seat, State, Ending, Open, Emptying, Over, seat_of, word_of, with_seat, free_seat, begun_seat, ended_seat, refusal, Begins, Performs, Drives, Goes, EndGoes, Moves, IsFresh}
+use Rattle.epoch_laws.specs.Run.{WorldSeat, State, Ending, Open, Emptying, Over, seat_of, position_word, with_seat, free_seat, begun_seat, ended_seat, refusal, BeginsCall, PerformsAsk, DrivesCall, DoesGo, EndGoes, Moves, IsFresh}
 use Rattle.epoch_laws.proofs.SeatLemmas.{seat_written, seat_other, seat_there, same_or_other, begin_given}
 
 module _ (old new : State) (h : FreeRests old) where
   -- no seat is written
   along : (last : State) → new ≡ last → ((q : ℕ) → seat_of last q ≡ seat_of old q) → FreeRests new
-  along last e same = subst FreeRests (sym e) (λ q free. ap (λ (seat : Seat). rests seat.machine.stage) (same q) ∙ h q (ap (λ (seat : Seat). seat.word) (sym (same q)) ∙ free))
+  along last e same = subst FreeRests (sym e) (λ q free. ap (λ (seat : WorldSeat). rests seat.machine.stage) (same q) ∙ h q (ap (λ (seat : WorldSeat). seat.word) (sym (same q)) ∙ free))
 
-  module _ (p : ℕ) (reply : Reply) (taken : word_of old p ≢ Free) where
-    abbrev seat : Seat
+  module _ (p : ℕ) (reply : Reply) (taken : position_word old p ≢ Free) where
+    abbrev seat : WorldSeat
     seat = seat_of old p
 
-    written : (after : Seat) → (after.word ≡ Free → rests after.machine.stage ≡ true) → (last : State) → new ≡ last → ((q : ℕ) → seat_of last q ≡ seat_of (with_seat old p after) q) → FreeRests new
+    written : (after : WorldSeat) → (after.word ≡ Free → rests after.machine.stage ≡ true) → (last : State) → new ≡ last → ((q : ℕ) → seat_of last q ≡ seat_of (with_seat old p after) q) → FreeRests new
     written after own last e wrote = subst FreeRests (sym e) (λ q free. by_position q free (same_or_other q p))
       where
-        by_position : (q : ℕ) → word_of last q ≡ Free → (q ≡ p) ⊎ (q ≢ p) → rests (seat_of last q).machine.stage ≡ true
+        by_position : (q : ℕ) → position_word last q ≡ Free → (q ≡ p) ⊎ (q ≢ p) → rests (seat_of last q).machine.stage ≡ true
         by_position q free (inl same) =
             let here : seat_of last q ≡ after = wrote q ∙ ap (λ (k : ℕ). seat_of (with_seat old p after) k) same ∙ seat_written old p after (seat_there old p taken) in
-            ap (λ (s : Seat). rests s.machine.stage) here ∙ own (ap (λ (s : Seat). s.word) (sym here) ∙ free)
+            ap (λ (s : WorldSeat). rests s.machine.stage) here ∙ own (ap (λ (s : WorldSeat). s.word) (sym here) ∙ free)
         by_position q free (inr other) =
             let there : seat_of last q ≡ seat_of old q = wrote q ∙ seat_other old p q after other in
-            ap (λ (s : Seat). rests s.machine.stage) there ∙ h q (ap (λ (s : Seat). s.word) (sym there) ∙ free)
+            ap (λ (s : WorldSeat). rests s.machine.stage) there ∙ h q (ap (λ (s : WorldSeat). s.word) (sym there) ∙ free)
 
     -- its word stays
-    stays : (after : Seat) → after.word ≡ seat.word → (last : State) → new ≡ last → ((q : ℕ) → seat_of last q ≡ seat_of (with_seat old p after) q) → FreeRests new
+    stays : (after : WorldSeat) → after.word ≡ seat.word → (last : State) → new ≡ last → ((q : ℕ) → seat_of last q ≡ seat_of (with_seat old p after) q) → FreeRests new
     stays after same last e wrote = written after (λ free. absurd (taken (sym same ∙ free))) last e wrote
 
-    performs : (ask : Ask) → Performs old p seat seat.machine.stage ask reply new → FreeRests new
+    performs : (ask : Ask) → PerformsAsk old p seat seat.machine.stage ask reply new → FreeRests new
     performs (StorePinned n) did = written _ (λ free. absurd (cc (free))) _ did.1 (λ q. refl)
     performs (StoreRepinned n) did = written _ (λ free. absurd (cc (free))) _ did.1 (λ q. refl)
     performs StoreUnpinned did = written _ (λ free. absurd (cc (free))) _ did.1 (λ q. refl)
@@ -57,11 +57,11 @@ module _ (old new : State) (h : FreeRests old) where
     ended_word (Resume (Some g)) = refl
     ended_word _ = refl
 
-    drives : (c : Call) (o : Option Ask) → Drives old p seat c seat.machine.stage o reply new → FreeRests new
+    drives : (c : Call) (o : Option Ask) → DrivesCall old p seat c seat.machine.stage o reply new → FreeRests new
     drives c (Some ask) did = performs ask did
     drives c None did = stays _ (ended_word c) _ did.1 (λ q. refl)
 
-    goes : (progress : Progress) → Goes old p seat progress reply new → FreeRests new
+    goes : (progress : Progress) → DoesGo old p seat progress reply new → FreeRests new
     goes Idle did = along old did.1 (λ q. refl)
     goes (Driven c) did = drives c (ask_at seat.machine.stage) did
     goes (CallsNow removes) did = stays _ refl _ did.1 (λ q. refl)
@@ -86,15 +86,15 @@ module _ (old new : State) (h : FreeRests old) where
   registers : (p : ℕ) → p < length old.seats → new ≡ with_seat old p (record (free_seat old.sizes) { word = Unpinned }) → FreeRests new
   registers p there e = subst FreeRests (sym e) (λ q free. by_position q free (same_or_other q p))
     where
-      by_position : (q : ℕ) → word_of (with_seat old p (record (free_seat old.sizes) { word = Unpinned })) q ≡ Free → (q ≡ p) ⊎ (q ≢ p)
+      by_position : (q : ℕ) → position_word (with_seat old p (record (free_seat old.sizes) { word = Unpinned })) q ≡ Free → (q ≡ p) ⊎ (q ≢ p)
           → rests (seat_of (with_seat old p (record (free_seat old.sizes) { word = Unpinned })) q).machine.stage ≡ true
       by_position q free (inl same) = ap (λ (k : ℕ). rests (seat_of (with_seat old p (record (free_seat old.sizes) { word = Unpinned })) k).machine.stage) same
-          ∙ ap (λ (s : Seat). rests s.machine.stage) (seat_written old p (record (free_seat old.sizes) { word = Unpinned }) there)
+          ∙ ap (λ (s : WorldSeat). rests s.machine.stage) (seat_written old p (record (free_seat old.sizes) { word = Unpinned }) there)
       by_position q free (inr other) =
           let at = seat_other old p q (record (free_seat old.sizes) { word = Unpinned }) other in
-          ap (λ (s : Seat). rests s.machine.stage) at ∙ h q (ap (λ (s : Seat). s.word) (sym at) ∙ free)
+          ap (λ (s : WorldSeat). rests s.machine.stage) at ∙ h q (ap (λ (s : WorldSeat). s.word) (sym at) ∙ free)
 
-  begins : (p : ℕ) (c : Call) (o : Option Fault) (reply : Reply) → refusal c (seat_of old p) old.tickets old.heap ≡ o → Begins old p c o reply new → FreeRests new
+  begins : (p : ℕ) (c : Call) (o : Option Fault) (reply : Reply) → refusal c (seat_of old p) old.tickets old.heap ≡ o → BeginsCall old p c o reply new → FreeRests new
   begins p c (Some f) reply at did = along old did.1 (λ q. refl)
   begins p c None reply at did =
       let given = begin_given c (seat_of old p) old.tickets old.heap at in
@@ -120,4 +120,4 @@ module _ (old new : State) (h : FreeRests old) where
   moves_free EndGo reply did = ends old.ending reply did
 
 pub fresh_free : (s : State) → IsFresh s → FreeRests s
-fresh_free s fresh p free = ap (λ (seat : Seat). rests seat.machine.stage) (fresh.free p)
+fresh_free s fresh p free = ap (λ (seat : WorldSeat). rests seat.machine.stage) (fresh.free p)

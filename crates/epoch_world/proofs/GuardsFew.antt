@@ -19,8 +19,8 @@ use Rattle.epoch_laws.specs.declared.step.Word.{Word}
 use Rattle.epoch_laws.specs.declared.step.Word.TheVariants.{Unpinned}
 use Rattle.epoch_laws.specs.declared.step.Progress.{Progress}
 use Rattle.epoch_laws.specs.declared.step.Progress.TheVariants.{Idle, Driven, CallsNow, Ends, Accesses}
-use Rattle.epoch_laws.specs.Run.{Seat, State, Ending, Open, Emptying, Over, seat_of, with_seat, with_word, free_seat, lowest, waits, resume_refusal, call_refusal, refusal, begun_seat, Begins, ended_seat, Performs, Drives, Goes, EndGoes, Moves, IsFresh, accessed_seat}
-use Rattle.epoch_laws.specs.Kept.{IsDriven, AllLinked, paused_count, Awake, HasRoom, AllRoomy}
+use Rattle.epoch_laws.specs.Run.{WorldSeat, State, Ending, Open, Emptying, Over, seat_of, with_seat, with_word, free_seat, lowest, waits, resume_refusal, call_refusal, refusal, begun_seat, BeginsCall, ended_seat, PerformsAsk, DrivesCall, DoesGo, EndGoes, Moves, IsFresh, accessed_seat}
+use Rattle.epoch_laws.specs.Kept.{IsDriven, AllLinked, paused_count, Awake, HasGuardRoom, AllRoomy}
 use Rattle.epoch_laws.proofs.SeatLemmas.{seat_written, seat_other, seat_there, same_or_other, IsAccepted, begin_given}
 use Rattle.epoch_laws.proofs.Linked.{length_without, follows_at}
 use Rattle.epoch_heap.specs.declared.access.Access.{Access}
@@ -43,15 +43,15 @@ resumed g None given = absurd (cc)
 resumed g (Some h) given = sym (ap (λ (k : ℕ). Some k) (same_guard g h (g == h) refl given))
 
 -- how a call begins and ends
-module _ (seat : Seat) (h : HasRoom seat) where
-  at_progress : (progress : Progress) → Awake progress seat.paused → HasRoom (record seat { progress = progress })
+module _ (seat : WorldSeat) (h : HasGuardRoom seat) where
+  at_progress : (progress : Progress) → Awake progress seat.paused → HasGuardRoom (record seat { progress = progress })
   at_progress progress awake = record { few = h.few; awake = awake }
 
-  accesses : (a : Access) (b : Bool) → HasRoom (record seat { progress = if b then Accesses a 0 null else Ends (Done Absent) })
+  accesses : (a : Access) (b : Bool) → HasGuardRoom (record seat { progress = if b then Accesses a 0 null else Ends (Done Absent) })
   accesses a true = at_progress _ tt
   accesses a false = at_progress _ tt
 
-  pub begun_room : (c : Call) (tickets : ℕ) (heap : Heap) → waits c seat.paused ≡ false → call_refusal c seat tickets heap ≡ None → HasRoom (begun_seat c seat)
+  pub begun_room : (c : Call) (tickets : ℕ) (heap : Heap) → waits c seat.paused ≡ false → call_refusal c seat tickets heap ≡ None → HasGuardRoom (begun_seat c seat)
   begun_room Pin n heap awake given = record { few = h.few; awake = none_waits seat.paused true awake }
   begun_room (Unpin None) n heap awake given = absurd (cc)
   begun_room (Unpin (Some g)) n heap awake given = record { few = h.few; awake = none_waits seat.paused true awake }
@@ -70,10 +70,10 @@ module _ (seat : Seat) (h : HasRoom seat) where
   begun_room (DeferDestroy (Some g) ptr) n heap awake given = record { few = h.few; awake = none_waits seat.paused true awake }
   begun_room (AccessCall a) n heap awake given = accesses a (has_steps a)
 
-  counted : (guards : List ℕ) (paused : Option ℕ) (m : Machine Deferral) → length guards + paused_count paused ≤ 64 → HasRoom (record seat { machine = m; progress = Idle; guards = guards; paused = paused })
+  counted : (guards : List ℕ) (paused : Option ℕ) (m : Machine Deferral) → length guards + paused_count paused ≤ 64 → HasGuardRoom (record seat { machine = m; progress = Idle; guards = guards; paused = paused })
   counted guards paused m few = record { few = few; awake = tt }
 
-  pub ended_room : (c : Call) → Awake (Driven c) seat.paused → IsDriven c seat.machine seat.guards → HasRoom (ended_seat c seat)
+  pub ended_room : (c : Call) → Awake (Driven c) seat.paused → IsDriven c seat.machine seat.guards → HasGuardRoom (ended_seat c seat)
   ended_room Pin awake d = counted _ _ _ (omega (arith, d.under, ap paused_count awake, length-append seat.guards (lowest seat.guards ∷ [])))
   ended_room (Unpin None) awake d = absurd d.under
   ended_room (Unpin (Some g)) awake d = counted _ _ _ (omega (arith, h.few, length_without g seat.guards d.under))
@@ -88,37 +88,37 @@ module _ (seat : Seat) (h : HasRoom seat) where
   ended_room (DeferDestroy g ptr) awake d = counted _ _ _ h.few
   ended_room (AccessCall a) awake d = absurd d.under
 
-free_room : (sizes : Sizes) → HasRoom (free_seat sizes)
+free_room : (sizes : Sizes) → HasGuardRoom (free_seat sizes)
 free_room sizes = record { few = omega arith; awake = tt }
 
 -- one seat is written
-room_written : (old new : State) (p : ℕ) (seat : Seat) → AllRoomy old → p < length old.seats
-    → new.sizes ≡ old.sizes → new.seats ≡ slice_set old.seats p seat → HasRoom seat → AllRoomy new
-room_written old new p seat h there sizes seats room q = subst HasRoom (sym at_write) (by_position (same_or_other q p))
+room_written : (old new : State) (p : ℕ) (seat : WorldSeat) → AllRoomy old → p < length old.seats
+    → new.sizes ≡ old.sizes → new.seats ≡ slice_set old.seats p seat → HasGuardRoom seat → AllRoomy new
+room_written old new p seat h there sizes seats room q = subst HasGuardRoom (sym at_write) (by_position (same_or_other q p))
   where
     at_write : seat_of new q ≡ seat_of (with_seat old p seat) q
-    at_write = ap (λ (ss : List Seat). slice_index_or ss q (free_seat new.sizes)) seats ∙ ap (λ (z : Sizes). slice_index_or (slice_set old.seats p seat) q (free_seat z)) sizes
+    at_write = ap (λ (ss : List WorldSeat). slice_index_or ss q (free_seat new.sizes)) seats ∙ ap (λ (z : Sizes). slice_index_or (slice_set old.seats p seat) q (free_seat z)) sizes
 
-    by_position : (q ≡ p) ⊎ (q ≢ p) → HasRoom (seat_of (with_seat old p seat) q)
-    by_position (inl same) = subst HasRoom (sym (ap (seat_of (with_seat old p seat)) same ∙ seat_written old p seat there)) room
-    by_position (inr ne) = subst HasRoom (sym (seat_other old p q seat ne)) (h q)
+    by_position : (q ≡ p) ⊎ (q ≢ p) → HasGuardRoom (seat_of (with_seat old p seat) q)
+    by_position (inl same) = subst HasGuardRoom (sym (ap (seat_of (with_seat old p seat)) same ∙ seat_written old p seat there)) room
+    by_position (inr ne) = subst HasGuardRoom (sym (seat_other old p q seat ne)) (h q)
 
 -- no seat is written
 room_along : (old new : State) → AllRoomy old → new.sizes ≡ old.sizes → new.seats ≡ old.seats → AllRoomy new
-room_along old new h sizes seats q = subst HasRoom (sym (ap (λ (ss : List Seat). slice_index_or ss q (free_seat new.sizes)) seats ∙ ap (λ (z : Sizes). slice_index_or old.seats q (free_seat z)) sizes)) (h q)
+room_along old new h sizes seats q = subst HasGuardRoom (sym (ap (λ (ss : List WorldSeat). slice_index_or ss q (free_seat new.sizes)) seats ∙ ap (λ (z : Sizes). slice_index_or old.seats q (free_seat z)) sizes)) (h q)
 
 module _ (old new : State) (p : ℕ) (reply : Reply) (linked : AllLinked old) (h : AllRoomy old) (there : p < length old.seats) where
-  abbrev seat : Seat
+  abbrev seat : WorldSeat
   seat = seat_of old p
 
-  writes : (after : Seat) (last : State) → new ≡ last → last.sizes ≡ old.sizes → last.seats ≡ slice_set old.seats p after → HasRoom after → AllRoomy new
+  writes : (after : WorldSeat) (last : State) → new ≡ last → last.sizes ≡ old.sizes → last.seats ≡ slice_set old.seats p after → HasGuardRoom after → AllRoomy new
   writes after last e sizes seats room = subst AllRoomy (sym e) (room_written old last p after h there sizes seats room)
 
   -- the machine and the word alone change
   goes : (w : Word) (m : Machine Deferral) (last : State) → new ≡ last → last.sizes ≡ old.sizes → last.seats ≡ slice_set old.seats p (with_word seat w m) → AllRoomy new
   goes w m last e sizes seats = writes (with_word seat w m) last e sizes seats (record { few = (h p).few; awake = (h p).awake })
 
-  performs : (s : Stage) (ask : Ask) → Performs old p seat s ask reply new → AllRoomy new
+  performs : (s : Stage) (ask : Ask) → PerformsAsk old p seat s ask reply new → AllRoomy new
   performs s LoadEpoch did = goes _ _ _ did.1 refl refl
   performs s (LoadWord k) did = goes _ _ _ did.1 refl refl
   performs s (StorePinned e) did = goes _ _ _ did.1 refl refl
@@ -131,17 +131,17 @@ module _ (old new : State) (p : ℕ) (reply : Reply) (linked : AllLinked old) (h
   performs s KeepJob did = goes _ _ _ did.1 refl refl
   performs s CallJob (job, jobs, hand, told, e) = goes _ _ _ e refl refl
 
-  drives_room : (c : Call) (s : Stage) (ask : Option Ask) → seat.progress ≡ Driven c → Drives old p seat c s ask reply new → AllRoomy new
+  drives_room : (c : Call) (s : Stage) (ask : Option Ask) → seat.progress ≡ Driven c → DrivesCall old p seat c s ask reply new → AllRoomy new
   drives_room c s (Some ask) drive did = performs s ask did
   drives_room c s None drive did = writes _ _ did.1 refl refl (ended_room seat (h p) c
       (subst (λ (now : Progress). Awake now seat.paused) drive (h p).awake) (follows_at old.sizes seat (linked.seats p) (Driven c) drive))
 
-  accessed : (a : Access) (k : ℕ) (told : Accessed) → HasRoom (accessed_seat a k told seat)
+  accessed : (a : Access) (k : ℕ) (told : Accessed) → HasGuardRoom (accessed_seat a k told seat)
   accessed a k (Again found) = record { few = (h p).few; awake = tt }
   accessed a k (Answers answer) = record { few = (h p).few; awake = tt }
   accessed a k NoSlot = record { few = (h p).few; awake = tt }
 
-  go_room : (progress : Progress) → seat.progress ≡ progress → Goes old p seat progress reply new → AllRoomy new
+  go_room : (progress : Progress) → seat.progress ≡ progress → DoesGo old p seat progress reply new → AllRoomy new
   go_room Idle e did = subst AllRoomy (sym did.1) h
   go_room (Driven c) e did = drives_room c seat.machine.stage (ask_at seat.machine.stage) e did
   go_room (CallsNow removes) e did = writes _ _ did.1 refl refl (at_progress seat (h p) _ tt)
@@ -152,7 +152,7 @@ module _ (old new : State) (reply : Reply) (linked : AllLinked old) (h : AllRoom
   stays : new ≡ old → AllRoomy new
   stays e = subst AllRoomy (sym e) h
 
-  begins : (p : ℕ) (c : Call) (r : Option Fault) → refusal c (seat_of old p) old.tickets old.heap ≡ r → Begins old p c r reply new → AllRoomy new
+  begins : (p : ℕ) (c : Call) (r : Option Fault) → refusal c (seat_of old p) old.tickets old.heap ≡ r → BeginsCall old p c r reply new → AllRoomy new
   begins p c (Some f) e did = stays did.1
   begins p c None e did =
       let given : IsAccepted c (seat_of old p) old.tickets old.heap = begin_given c (seat_of old p) old.tickets old.heap e in
@@ -180,4 +180,4 @@ module _ (old new : State) (reply : Reply) (linked : AllLinked old) (h : AllRoom
   moves_room EndGo did = ends old.ending did
 
 pub fresh_room : (s : State) → IsFresh s → AllRoomy s
-fresh_room s fresh p = subst HasRoom (sym (fresh.free p)) (free_room s.sizes)
+fresh_room s fresh p = subst HasGuardRoom (sym (fresh.free p)) (free_room s.sizes)

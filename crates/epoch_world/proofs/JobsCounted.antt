@@ -24,8 +24,8 @@ use Rattle.epoch_laws.specs.declared.step.Deferral.{Deferral}
 use Rattle.epoch_laws.specs.declared.step.Word.{Word}
 use Rattle.epoch_laws.specs.declared.step.Progress.{Progress}
 use Rattle.epoch_laws.specs.declared.step.Progress.TheVariants.{Idle, Driven, CallsNow, Ends, Accesses}
-use Rattle.epoch_laws.specs.Run.{Bag, Seat, State, seat_of, with_word, free_seat, Ending, Open, Emptying, Over, refusal, begun_seat, Begins, ended_seat, Performs, Drives, Goes, EndGoes, Moves, IsFresh, with_seat, removed_by}
-use Rattle.epoch_laws.specs.Kept.{jobs_in, jobs_queued, jobs_at_seats, jobs_at_end, JobsFew}
+use Rattle.epoch_laws.specs.Run.{Bag, WorldSeat, State, seat_of, with_word, free_seat, Ending, Open, Emptying, Over, refusal, begun_seat, BeginsCall, ended_seat, PerformsAsk, DrivesCall, DoesGo, EndGoes, Moves, IsFresh, with_seat, removed_by}
+use Rattle.epoch_laws.specs.Kept.{jobs_of_machine, jobs_queued, jobs_at_seats, jobs_at_end, JobsFew}
 use Rattle.epoch_laws.proofs.SeatLemmas.{seat_there, begin_given}
 use Rattle.epoch_laws.proofs.TicketSums.{sum_zero}
 use Rattle.epoch_laws.proofs.TicketsTallied.{acted}
@@ -54,7 +54,7 @@ jobs_got Got jobs = length jobs
 jobs_got _ jobs = 0
 
 module _ (m : Machine Deferral) where
-  hears_few : (a : Answer Deferral) (s : Stage) → jobs_in (hears m s a) ≤ jobs_in m + jobs_heard a
+  hears_few : (a : Answer Deferral) (s : Stage) → jobs_of_machine (hears m s a) ≤ jobs_of_machine m + jobs_heard a
   hears_few (Job job) Keep = omega (arith, length-append m.held (job ∷ []))
   hears_few (Epoch e) LoadPin = omega arith
   hears_few (WordFound w) (Scan e k) = omega arith
@@ -62,7 +62,7 @@ module _ (m : Machine Deferral) where
   hears_few _ _ = omega arith
 
   took_few : (s : Stage) (step : TakeStep) (jobs : List Deferral)
-      → jobs_in (took_heard m s step jobs) ≤ jobs_in m + jobs_got step jobs
+      → jobs_of_machine (took_heard m s step jobs) ≤ jobs_of_machine m + jobs_got step jobs
   took_few (Take x k) TakeAgain jobs = omega arith
   took_few (Take x k) Empty jobs = omega arith
   took_few (Take x k) Got jobs = omega arith
@@ -70,13 +70,13 @@ module _ (m : Machine Deferral) where
 
   gives_few : (s : Stage) (job : Deferral) (jobs : List Deferral)
       → m.hand ≡ job ∷ jobs
-      → jobs_in (gives m s jobs) ≤ jobs_in m
+      → jobs_of_machine (gives m s jobs) ≤ jobs_of_machine m
   gives_few (Calling x k) job jobs hand = omega (arith, ap length hand)
   gives_few _ job jobs hand = omega arith
 
   put_few : (seal : ℕ) (old new : List Bag) (step : PutStep)
       → PutsHeld seal m old step new
-      → jobs_in (put_heard m step) + jobs_queued new ≤ jobs_in m + jobs_queued old
+      → jobs_of_machine (put_heard m step) + jobs_queued new ≤ jobs_of_machine m + jobs_queued old
   put_few seal old new Again same = omega (arith, ap jobs_queued same)
   put_few seal old new PutDone put = omega (arith, queued_more _ old new put)
   put_few seal old new Full same = omega (arith, ap jobs_queued same)
@@ -89,7 +89,7 @@ taken_few x old new Empty jobs same = omega (arith, ap jobs_queued same)
 taken_few x old new Got jobs (bag, in_hand, expired, inserted) =
     omega (arith, ap length in_hand, queued_more bag new old inserted)
 
-begun_same : (c : Call) (seat : Seat) → jobs_in (begun_seat c seat).machine ≡ jobs_in seat.machine
+begun_same : (c : Call) (seat : WorldSeat) → jobs_of_machine (begun_seat c seat).machine ≡ jobs_of_machine seat.machine
 begun_same Pin seat = refl
 begun_same (Unpin g) seat = refl
 begun_same (Repin (Some g)) seat = refl
@@ -104,7 +104,7 @@ begun_same (DeferDestroy None ptr) seat = refl
 begun_same (AccessCall a) seat = refl
 begun_same _ seat = refl
 
-ended_same : (c : Call) (seat : Seat) → jobs_in (ended_seat c seat).machine ≡ jobs_in seat.machine
+ended_same : (c : Call) (seat : WorldSeat) → jobs_of_machine (ended_seat c seat).machine ≡ jobs_of_machine seat.machine
 ended_same Pin seat = refl
 ended_same (Unpin (Some g)) seat = refl
 ended_same (Pause (Some g)) seat = refl
@@ -118,23 +118,23 @@ module _ (old new : State) (h : JobsFew old) where
   same did = subst JobsFew (sym did) h
 
   -- a step of one participant
-  acts_beside : (p : ℕ) (after : Seat) (epoch : ℕ) (queued : List Bag) (tickets : ℕ) (heap : Heap)
+  acts_beside : (p : ℕ) (after : WorldSeat) (epoch : ℕ) (queued : List Bag) (tickets : ℕ) (heap : Heap)
       → p < length old.seats
-      → jobs_in after.machine + jobs_queued queued + old.tickets
-      ≤ jobs_in (seat_of old p).machine + jobs_queued old.queued + tickets
+      → jobs_of_machine after.machine + jobs_queued queued + old.tickets
+      ≤ jobs_of_machine (seat_of old p).machine + jobs_queued old.queued + tickets
       → new ≡ record (acted old p after epoch queued tickets) { heap = heap }
       → JobsFew new
   acts_beside p after epoch queued tickets heap there fits did =
-      let seats : jobs_at_seats (slice_set old.seats p after) + jobs_in (seat_of old p).machine
-      ≡ jobs_at_seats old.seats + jobs_in after.machine =
+      let seats : jobs_at_seats (slice_set old.seats p after) + jobs_of_machine (seat_of old p).machine
+      ≡ jobs_at_seats old.seats + jobs_of_machine after.machine =
       sum_by-set _ old.seats p after (free_seat old.sizes) there in
       subst JobsFew (sym did) (omega (arith, h, fits, seats))
 
   -- cells and pointers stay
-  acts : (p : ℕ) (after : Seat) (epoch : ℕ) (queued : List Bag) (tickets : ℕ)
+  acts : (p : ℕ) (after : WorldSeat) (epoch : ℕ) (queued : List Bag) (tickets : ℕ)
       → p < length old.seats
-      → jobs_in after.machine + jobs_queued queued + old.tickets
-      ≤ jobs_in (seat_of old p).machine + jobs_queued old.queued + tickets
+      → jobs_of_machine after.machine + jobs_queued queued + old.tickets
+      ≤ jobs_of_machine (seat_of old p).machine + jobs_queued old.queued + tickets
       → new ≡ acted old p after epoch queued tickets
       → JobsFew new
   acts p after epoch queued tickets = acts_beside p after epoch queued tickets old.heap
@@ -147,22 +147,22 @@ module _ (old new : State) (h : JobsFew old) where
   closes queued ending heap fits did = subst JobsFew (sym did) (omega (arith, h, fits))
 
   module _ (p : ℕ) (there : p < length old.seats) where
-    abbrev seat : Seat
+    abbrev seat : WorldSeat
     seat = seat_of old p
 
     abbrev m : Machine Deferral
     m = seat.machine
 
     -- the store and the tickets stay, and the jobs become no more
-    keeps : (after : Seat) (epoch : ℕ)
-        → jobs_in after.machine ≤ jobs_in m
+    keeps : (after : WorldSeat) (epoch : ℕ)
+        → jobs_of_machine after.machine ≤ jobs_of_machine m
         → new ≡ acted old p after epoch old.queued old.tickets
         → JobsFew new
     keeps after epoch fits did = acts p after epoch old.queued old.tickets there (omega (arith, fits)) did
 
     -- nor where cells and pointers change
-    keeps_beside : (after : Seat) (heap : Heap)
-        → jobs_in after.machine ≤ jobs_in m
+    keeps_beside : (after : WorldSeat) (heap : Heap)
+        → jobs_of_machine after.machine ≤ jobs_of_machine m
         → new ≡ record (with_seat old p after) { heap = heap }
         → JobsFew new
     keeps_beside after heap fits did =
@@ -176,7 +176,7 @@ module _ (old new : State) (h : JobsFew old) where
     hears_none word s a epoch none did =
         keeps (with_word seat word (hears m s a)) epoch (omega (arith, none, hears_few m a s)) did
 
-    performs : (s : Stage) (ask : Ask) (reply : Reply) → Performs old p seat s ask reply new → JobsFew new
+    performs : (s : Stage) (ask : Ask) (reply : Reply) → PerformsAsk old p seat s ask reply new → JobsFew new
     performs s LoadEpoch reply did = hears_none seat.word s (Epoch old.epoch) old.epoch refl did.1
     performs s (LoadWord k) reply did = hears_none seat.word s (WordFound _) old.epoch refl did.1
     performs s (StorePinned e) reply did = hears_none _ s Stored old.epoch refl did.1
@@ -198,11 +198,11 @@ module _ (old new : State) (h : JobsFew old) where
         keeps_beside (with_word seat seat.word (gives m s jobs)) _ (gives_few m s job jobs hand) did
 
     drives : (c : Call) (s : Stage) (ask : Option Ask) (reply : Reply)
-        → Drives old p seat c s ask reply new → JobsFew new
+        → DrivesCall old p seat c s ask reply new → JobsFew new
     drives c s (Some ask) reply did = performs s ask reply did
     drives c s None reply did = keeps (ended_seat c seat) old.epoch (omega (arith, ended_same c seat)) did.1
 
-    goes : (progress : Progress) (reply : Reply) → Goes old p seat progress reply new → JobsFew new
+    goes : (progress : Progress) (reply : Reply) → DoesGo old p seat progress reply new → JobsFew new
     goes Idle reply did = same did.1
     goes (Driven c) reply did = drives c m.stage (ask_at m.stage) reply did
     goes (CallsNow removes) reply did = keeps_beside _ _ (omega arith) did.1
@@ -211,7 +211,7 @@ module _ (old new : State) (h : JobsFew old) where
 
   begins : (p : ℕ) (c : Call) (refused : Option Fault) (reply : Reply)
       → refusal c (seat_of old p) old.tickets old.heap ≡ refused
-      → Begins old p c refused reply new
+      → BeginsCall old p c refused reply new
       → JobsFew new
   begins p c (Some fault) reply at did = same did.1
   begins p c None reply at did =
@@ -253,6 +253,6 @@ moves_jobs old new step reply h did = moves old new h step reply did
 -- a new world has no jobs
 pub fresh_jobs : (s : State) → IsFresh s → JobsFew s
 fresh_jobs s fresh =
-    let jobs_of = λ (seat : Seat). jobs_in seat.machine in
+    let jobs_of = λ (seat : WorldSeat). jobs_of_machine seat.machine in
     let none_at_seats : jobs_at_seats s.seats ≡ 0 = sum_zero jobs_of s.seats (free_seat s.sizes) (λ p. ap jobs_of (fresh.free p)) in
     omega (arith, none_at_seats, ap jobs_queued fresh.none_queued, ap jobs_at_end fresh.open_end)

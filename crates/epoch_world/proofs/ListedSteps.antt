@@ -7,7 +7,7 @@ use Rattle.epoch_laws.specs.declared.step.Entry.{Entry}
 use Rattle.epoch_laws.specs.declared.step.Reply.{Reply}
 use Rattle.epoch_laws.specs.declared.step.Step.{Step}
 use Rattle.epoch_laws.specs.declared.step.Step.TheVariants.{Register, Begin, Go}
-use Rattle.epoch_laws.specs.Calls.{call_of, goes_of, EndsAtLast}
+use Rattle.epoch_laws.specs.Calls.{call_entries, goes_of, EndsAtLast}
 use Rattle.epoch_laws.specs.Run.{State, IsFresh}
 use Rattle.epoch_rounds.specs.Sharp.{pair_sizes, TakesSharpList, LeadsToSharp}
 use Rattle.epoch_rounds.proofs.SharpList.{sharp, sharp_run}
@@ -38,7 +38,7 @@ some_reply [] over = absurd over
 some_reply (r ∷ rs) over = omega arith
 
 pub call_listed : (p : ℕ) (c : Call) (before begun after : List Step) (replies : List Reply) (n : ℕ) → EndsAtLast replies → n ≡ length replies → begun ≡ before ++ Begin p c ∷ [] → after ≡ begun ++ gos p (n - 1)
-    → after ≡ before ++ map (λ (entry : Entry). entry.step) (call_of p c replies)
+    → after ≡ before ++ map (λ (entry : Entry). entry.step) (call_entries p c replies)
 call_listed p c before begun after [] n over count first are = absurd over
 call_listed p c before begun after (r ∷ rs) n over count first are =
     let left : n - 1 ≡ length rs = omega (arith, count) in
@@ -62,28 +62,28 @@ module _ (fresh half s0 s1 s2 s3 s4 s5 s6 s7 new : State) (none l0 l1 l2 l3 l4 l
   both = record { step = Register; reply = first.reply } ∷ record { step = Register; reply = second.reply } ∷ []
 
   abbrev log1 : List Entry
-  log1 = both ++ call_of 0 Pin one.replies
+  log1 = both ++ call_entries 0 Pin one.replies
 
   abbrev log2 : List Entry
-  log2 = log1 ++ call_of 0 (Unpin (Some 0)) two.replies
+  log2 = log1 ++ call_entries 0 (Unpin (Some 0)) two.replies
 
   abbrev log3 : List Entry
-  log3 = log2 ++ call_of 1 Pin three.replies
+  log3 = log2 ++ call_entries 1 Pin three.replies
 
   abbrev log4 : List Entry
-  log4 = log3 ++ call_of 1 (Unpin (Some 0)) four.replies
+  log4 = log3 ++ call_entries 1 (Unpin (Some 0)) four.replies
 
   abbrev log5 : List Entry
-  log5 = log4 ++ call_of 0 Pin five.replies
+  log5 = log4 ++ call_entries 0 Pin five.replies
 
   abbrev log6 : List Entry
-  log6 = log5 ++ call_of 1 Pin six.replies
+  log6 = log5 ++ call_entries 1 Pin six.replies
 
   abbrev log7 : List Entry
-  log7 = log6 ++ call_of 1 (Defer (Some 0)) seven.replies
+  log7 = log6 ++ call_entries 1 (Defer (Some 0)) seven.replies
 
   abbrev log : List Entry
-  log = log7 ++ call_of 1 (Flush (Some 0)) eight.replies
+  log = log7 ++ call_entries 1 (Flush (Some 0)) eight.replies
 
   takes : TakesSharpList fresh log new
   takes = record {
@@ -119,14 +119,14 @@ module _ (fresh half s0 s1 s2 s3 s4 s5 s6 s7 new : State) (none l0 l1 l2 l3 l4 l
 
   listed : none ≡ [] → l9 ≡ map (λ (entry : Entry). entry.step) log
   listed empty =
-      listed_on l8 l9 log7 (call_of 1 (Flush (Some 0)) eight.replies)
-      (listed_on l7 l8 log6 (call_of 1 (Defer (Some 0)) seven.replies)
-      (listed_on l6 l7 log5 (call_of 1 Pin six.replies)
-      (listed_on l5 l6 log4 (call_of 0 Pin five.replies)
-      (listed_on l4 l5 log3 (call_of 1 (Unpin (Some 0)) four.replies)
-      (listed_on l3 l4 log2 (call_of 1 Pin three.replies)
-      (listed_on l2 l3 log1 (call_of 0 (Unpin (Some 0)) two.replies)
-      (listed_on l1 l2 both (call_of 0 Pin one.replies) begins one.listed)
+      listed_on l8 l9 log7 (call_entries 1 (Flush (Some 0)) eight.replies)
+      (listed_on l7 l8 log6 (call_entries 1 (Defer (Some 0)) seven.replies)
+      (listed_on l6 l7 log5 (call_entries 1 Pin six.replies)
+      (listed_on l5 l6 log4 (call_entries 0 Pin five.replies)
+      (listed_on l4 l5 log3 (call_entries 1 (Unpin (Some 0)) four.replies)
+      (listed_on l3 l4 log2 (call_entries 1 Pin three.replies)
+      (listed_on l2 l3 log1 (call_entries 0 (Unpin (Some 0)) two.replies)
+      (listed_on l1 l2 both (call_entries 0 Pin one.replies) begins one.listed)
       two.listed) three.listed) four.listed) five.listed) six.listed) seven.listed) eight.listed
     where
       begins : l1 ≡ map (λ (entry : Entry). entry.step) both

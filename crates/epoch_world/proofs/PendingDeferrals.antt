@@ -12,8 +12,8 @@ use Rattle.epoch_laws.specs.declared.step.Call.TheVariants.{Defer as DeferCall, 
 use Rattle.epoch_heap.specs.declared.access.Ptr.{Ptr}
 use Rattle.epoch_heap.specs.Heap.{Heap}
 use Rattle.epoch_laws.specs.declared.step.Deferral.{Deferral}
-pub use Rattle.epoch_laws.specs.Kept.{is_busy, pending_at, pending, KeepsAt, Keeps, Bounded}
-use Rattle.epoch_laws.specs.Run.{Seat, call_refusal}
+pub use Rattle.epoch_laws.specs.Kept.{is_busy, pending_at, pending, KeepsAt, KeepsAsDeferral, TicketsBounded}
+use Rattle.epoch_laws.specs.Run.{WorldSeat, call_refusal}
 
 pending_most : (a : Action) (s t : Stage) → is_busy s ≡ true → pending_at a t ≤ pending_at a s
 pending_most Defer s t busy = most (is_busy t) (is_busy s) busy
@@ -38,8 +38,8 @@ none_pending Defer s rests =
     ap one_or_none rests
 none_pending _ s rests = refl
 
-pub sum_most : (f : Seat → ℕ) (seats : List Seat)
-    → ((seat : Seat) → f seat ≤ 1)
+pub sum_most : (f : WorldSeat → ℕ) (seats : List WorldSeat)
+    → ((seat : WorldSeat) → f seat ≤ 1)
     → sum_by f seats ≤ length seats
 sum_most f [] one = omega arith
 sum_most f (seat ∷ seats) one = omega (arith, sum_by-cons f seat seats, one seat, sum_most f seats one)
@@ -94,7 +94,7 @@ keeps_first Flush m = pick (KeepsAt Flush) (is_empty m.held) LoadScan LoadSeal t
 keeps_first Release m = tt
 
 -- a deferral is begun only below the limit
-pub room_given : (g : ℕ) (seat : Seat) (tickets : ℕ) (heap : Heap)
+pub room_given : (g : ℕ) (seat : WorldSeat) (tickets : ℕ) (heap : Heap)
     → call_refusal (DeferCall (Some g)) seat tickets heap ≡ None
     → tickets < 2 ^ 64 - 4097
 room_given g seat tickets heap given = leb-false (2 ^ 64 - 4097) tickets (not_refused _ _ given)
@@ -107,7 +107,7 @@ room_given g seat tickets heap given = leb-false (2 ^ 64 - 4097) tickets (not_re
     not_refused false late given = absurd (cc)
 
 -- as is that of a removal
-pub removal_room_given : (g : ℕ) (ptr : Ptr) (seat : Seat) (tickets : ℕ) (heap : Heap)
+pub removal_room_given : (g : ℕ) (ptr : Ptr) (seat : WorldSeat) (tickets : ℕ) (heap : Heap)
     → call_refusal (DeferDestroy (Some g) ptr) seat tickets heap ≡ None
     → tickets < 2 ^ 64 - 4097
 removal_room_given g ptr seat tickets heap given = leb-false (2 ^ 64 - 4097) tickets (not_refused _ _ _ given)

@@ -8,13 +8,13 @@ use Rattle.epoch_heap.specs.declared.access.Ptr.{Ptr}
 use Rattle.epoch_heap.specs.declared.heap.Content.{Content}
 use Rattle.epoch_heap.specs.Heap.{Cell, Heap, cell_at, at_name, read_by, Touched, Touches}
 use Rattle.epoch_laws.specs.declared.step.Progress.TheVariants.{Accesses}
-use Rattle.epoch_laws.specs.Kept.{IsKept}
+use Rattle.epoch_laws.specs.Kept.{IsSound}
 use Rattle.epoch_laws.specs.Readings.{ReadsNext}
-use Rattle.epoch_laws.specs.Run.{Seat, State, seat_of}
+use Rattle.epoch_laws.specs.Run.{WorldSeat, State, seat_of}
 use Rattle.epoch_reach.proofs.RoomToRead.{room_to_read}
 use Rattle.epoch_world.specs.Seats.{CanRead, HasRead}
 
-pub can_read : (s : State) (p : ℕ) (seat : Seat) (a : Access) (k : ℕ) (found : Ptr) → IsKept s → p < length s.seats → seat ≡ seat_of s p
+pub can_read : (s : State) (p : ℕ) (seat : WorldSeat) (a : Access) (k : ℕ) (found : Ptr) → IsSound s → p < length s.seats → seat ≡ seat_of s p
     → seat.progress ≡ Accesses a k found → CanRead a seat.readings s.heap
 can_read s p seat (Read g ptr) k found h there is now = λ n name stands.
     let next : ReadsNext s p n = record {
@@ -23,10 +23,10 @@ can_read s p seat (Read g ptr) k found h there is now = λ n name stands.
       name = name;
       steps = k;
       found = found;
-      progress = ap (λ (q : Seat). q.progress) (sym is) ∙ now;
+      progress = ap (λ (q : WorldSeat). q.progress) (sym is) ∙ now;
       stands = stands;
     } in
-    omega (arith, room_to_read s p n h.readings there next, h.cells, ap (λ (q : Seat). length q.readings) is)
+    omega (arith, room_to_read s p n h.readings there next, h.cells, ap (λ (q : WorldSeat). length q.readings) is)
 can_read s p seat _ k found h there is now = tt
 
 pub has_read : (a : Access) (k : ℕ) (found : Ptr) (h : Heap) (did : Touched) (readings : List Name) → Touches a k found h did

@@ -15,8 +15,8 @@ use Rattle.epoch_laws.specs.declared.step.Progress.TheVariants.{Driven}
 use Rattle.epoch_laws.specs.declared.step.Word.{Word}
 use Rattle.epoch_laws.specs.declared.step.Word.TheVariants.{Free, Unpinned, Pinned}
 use Rattle.epoch_laws.specs.Collections.{OwnClaims, LeavesClaims}
-use Rattle.epoch_laws.specs.Room.{is_putting, is_at_places, PutTells, TellsRoom, OwnReserves, OwnPlaces, MayReserve}
-use Rattle.epoch_laws.specs.Run.{Seat, State, HasFreePlace, seat_of, is_driven, turn_at, turn_of, free_seat, with_places}
+use Rattle.epoch_laws.specs.Room.{is_putting, is_at_places, PutTellsRoom, TellsRoom, OwnReserves, OwnPlaces, MayReserve}
+use Rattle.epoch_laws.specs.Run.{WorldSeat, State, HasFreePlace, seat_of, is_driven, turn_at, turn_of, free_seat, with_places}
 use Rattle.epoch_world.specs.Worlds.{ReservesKnown}
 use Rattle.epoch_laws.proofs.SeatLemmas.{same_or_other}
 use Rattle.epoch_rounds.proofs.LonePuts.{none_putting}
@@ -61,7 +61,7 @@ module _ (seal : ℕ) (m n : Machine Deferral) (asked : asks m ≡ Some (PutBag 
   still_puts : n ≡ put_heard m Again → is_putting n.stage ≡ true
   still_puts heard = ap (λ (q : Machine Deferral). is_putting q.stage) heard ∙ asks_putting m.stage seal asked
 
-  pub put_told : (step : PutStep) (room room' : Bool) → n ≡ put_heard m step → FindsRoom room step room' → PutTells n room room'
+  pub put_told : (step : PutStep) (room room' : Bool) → n ≡ put_heard m step → FindsRoom room step room' → PutTellsRoom n room room'
   put_told Again room room' heard finds = record { kept = λ on. finds; told = λ off. absurd (not_both _ (still_puts heard) off) }
   put_told Done room room' heard finds = record {
     kept = λ on. absurd (not_both _ on (ap (λ (q : Machine Deferral). is_putting q.stage) heard ∙ none_putting m.action false));
@@ -85,7 +85,7 @@ module _ (seal : ℕ) (m n : Machine Deferral) (asked : asks m ≡ Some (PutBag 
       by_step Done heard goes own = goes (λ e. cc (e)) place own
       by_step Full heard goes own = goes (λ e. cc (e)) place own
 
-pub tells_put : (Open : Type 0) (ask : Ask) (seal : ℕ) (n : Machine Deferral) (room room' : Bool) → ask ≡ PutBag seal → PutTells n room room' → TellsRoom Open (Some ask) n room room'
+pub tells_put : (Open : Type 0) (ask : Ask) (seal : ℕ) (n : Machine Deferral) (room room' : Bool) → ask ≡ PutBag seal → PutTellsRoom n room room' → TellsRoom Open (Some ask) n room room'
 tells_put Open ask seal n room room' is tells = subst (λ (a : Ask). TellsRoom Open (Some a) n room room') (sym is) tells
 
 module _ (s : Stage) (Reserved Reserves Claims Reserved' Reserves' Claims' : ℕ → Type 0) where
@@ -128,15 +128,15 @@ no_turn Unpinned _ s none = refl
 no_turn (Pinned e) (Driven c) s none = none
 no_turn (Pinned e) _ s none = refl
 
-pub ended_room : (Open : Type 0) (seat was : Seat) (n : Machine Deferral) (room : Bool) → seat ≡ was → asks seat.machine ≡ None → TellsRoom Open (turn_of was) n room room
+pub ended_room : (Open : Type 0) (seat was : WorldSeat) (n : Machine Deferral) (room : Bool) → seat ≡ was → asks seat.machine ≡ None → TellsRoom Open (turn_of was) n room room
 ended_room Open seat was n room is none =
-    subst (λ (q : Seat). TellsRoom Open (turn_of q) n room room) is
+    subst (λ (q : WorldSeat). TellsRoom Open (turn_of q) n room room) is
     (subst (λ (o : Option Ask). TellsRoom Open o n room room) (sym (no_turn seat.word seat.progress seat.machine.stage none)) tt)
 
-pub ended_reserves : (seat was : Seat) (s : Stage) (Reserved Reserves Claims : ℕ → Type 0) → seat ≡ was → asks seat.machine ≡ None
+pub ended_reserves : (seat was : WorldSeat) (s : Stage) (Reserved Reserves Claims : ℕ → Type 0) → seat ≡ was → asks seat.machine ≡ None
     → LeavesClaims Reserved (OwnPlaces was.machine.stage Reserves Claims) Reserved (OwnPlaces s Reserves Claims)
 ended_reserves seat was s Reserved Reserves Claims is none =
-    subst (λ (q : Seat). LeavesClaims Reserved (OwnPlaces q.machine.stage Reserves Claims) Reserved (OwnPlaces s Reserves Claims)) is
+    subst (λ (q : WorldSeat). LeavesClaims Reserved (OwnPlaces q.machine.stage Reserves Claims) Reserved (OwnPlaces s Reserves Claims)) is
     (λ place not_own reserved. (reserved, λ own. elim own [ inl puts ↦ not_putting puts.0 | inr takes ↦ not_taking takes.0 ]))
   where
     not_putting : ¬ (is_putting seat.machine.stage ≡ true)
@@ -147,11 +147,11 @@ ended_reserves seat was s Reserved Reserves Claims is none =
 
 -- AT A PARTICIPANT'S POSITION
 
-module _ (seats : List Seat) (sizes : Sizes) (p : ℕ) (seat after : Seat) (ask : Ask) (there : p < length seats) (is : seat ≡ slice_index_or seats p (free_seat sizes)) where
-  abbrev now : Seat
+module _ (seats : List WorldSeat) (sizes : Sizes) (p : ℕ) (seat after : WorldSeat) (ask : Ask) (there : p < length seats) (is : seat ≡ slice_index_or seats p (free_seat sizes)) where
+  abbrev now : WorldSeat
   now = slice_index_or (slice_set seats p after) p (free_seat sizes)
 
-  abbrev was : Seat
+  abbrev was : WorldSeat
   was = slice_index_or seats p (free_seat sizes)
 
   written : after ≡ now
@@ -161,14 +161,14 @@ module _ (seats : List Seat) (sizes : Sizes) (p : ℕ) (seat after : Seat) (ask 
       → TellsRoom Open (Some ask) after.machine room room' → TellsRoom Open (turn_of was) now.machine room room'
   performed_room Open room room' taken driven asked tells =
       subst (λ (o : Option Ask). TellsRoom Open o now.machine room room') (sym (turn_driven was.word was.progress was.machine.stage ask taken driven asked))
-      (subst (λ (q : Seat). TellsRoom Open (Some ask) q.machine room room') written tells)
+      (subst (λ (q : WorldSeat). TellsRoom Open (Some ask) q.machine room room') written tells)
 
   pub performed_reserves : (Reserved Reserves Claims Reserved' Reserves' Claims' : ℕ → Type 0) → asks seat.machine ≡ Some ask
       → MayReserve ask after.machine.stage Reserved Reserves Claims Reserved' Reserves' Claims'
       → LeavesClaims Reserved (OwnPlaces was.machine.stage Reserves Claims) Reserved' (OwnPlaces now.machine.stage Reserves' Claims')
   performed_reserves Reserved Reserves Claims Reserved' Reserves' Claims' asked may =
-      subst (λ (q : Seat). LeavesClaims Reserved (OwnPlaces q.machine.stage Reserves Claims) Reserved' (OwnPlaces now.machine.stage Reserves' Claims')) is
-      (subst (λ (q : Seat). LeavesClaims Reserved (OwnPlaces seat.machine.stage Reserves Claims) Reserved' (OwnPlaces q.machine.stage Reserves' Claims')) written
+      subst (λ (q : WorldSeat). LeavesClaims Reserved (OwnPlaces q.machine.stage Reserves Claims) Reserved' (OwnPlaces now.machine.stage Reserves' Claims')) is
+      (subst (λ (q : WorldSeat). LeavesClaims Reserved (OwnPlaces seat.machine.stage Reserves Claims) Reserved' (OwnPlaces q.machine.stage Reserves' Claims')) written
       (reserves_by ask seat.machine after.machine Reserved Reserves Claims Reserved' Reserves' Claims' asked may))
 
 -- FROM ONE PARTICIPANT TO ALL
@@ -216,7 +216,7 @@ module _ {P T : Type 0} (Reserves : P → ℕ → Type 0) (Claims : T → ℕ �
       away q = not_there _ (ap (λ (z : Sizes). is_at_places (slice_index_or s.seats q (free_seat z)).machine.stage) (sym same) ∙ off q)
 
   -- one participant's step
-  pub reserves_known : (Reserved Reserved' : ℕ → Type 0) (old new : List Seat) (puts : List P) (takes : List T) (p : ℕ) (was is : P) (from to : T) → p < length puts → p < length takes
+  pub reserves_known : (Reserved Reserved' : ℕ → Type 0) (old new : List WorldSeat) (puts : List P) (takes : List T) (p : ℕ) (was is : P) (from to : T) → p < length puts → p < length takes
       → ((q : ℕ) → q ≢ p → slice_index_or new q (free_seat sizes) ≡ slice_index_or old q (free_seat sizes))
       → LeavesClaims Reserved (OwnPlaces (slice_index_or old p (free_seat sizes)).machine.stage (Reserves was) (Claims from)) Reserved' (OwnPlaces (slice_index_or new p (free_seat sizes)).machine.stage (Reserves is) (Claims to))
       → ReservesKnown Reserved Reserves Claims sizes old (slice_set puts p was) (slice_set takes p from) → ReservesKnown Reserved' Reserves Claims sizes new (slice_set puts p is) (slice_set takes p to)
@@ -226,13 +226,13 @@ module _ {P T : Type 0} (Reserves : P → ℕ → Type 0) (Claims : T → ℕ �
       (nobody_before is_taking Claims sizes place old new takes p from to here others (λ own. before.1 (inr own)) none_takes) before.0
 
   -- the seat of p is written, which is neither putting nor taking a bag
-  pub reserves_quiet : (Reserved : ℕ → Type 0) (old new : List Seat) (puts : List P) (takes : List T) (p : ℕ) → is_putting (slice_index_or old p (free_seat sizes)).machine.stage ≡ false
+  pub reserves_quiet : (Reserved : ℕ → Type 0) (old new : List WorldSeat) (puts : List P) (takes : List T) (p : ℕ) → is_putting (slice_index_or old p (free_seat sizes)).machine.stage ≡ false
       → is_taking (slice_index_or old p (free_seat sizes)).machine.stage ≡ false → ((q : ℕ) → q ≢ p → slice_index_or new q (free_seat sizes) ≡ slice_index_or old q (free_seat sizes))
       → ReservesKnown Reserved Reserves Claims sizes old puts takes → ReservesKnown Reserved Reserves Claims sizes new puts takes
   reserves_quiet Reserved old new puts takes p off away others known place none_puts none_takes =
       known place (nobody_quiet is_putting Reserves sizes place old new puts p off others none_puts) (nobody_quiet is_taking Claims sizes place old new takes p away others none_takes)
 
   -- no further place is claimed
-  pub reserves_less : (Reserved Reserved' : ℕ → Type 0) (seats : List Seat) (puts : List P) (takes : List T) → ((place : ℕ) → Reserved' place → Reserved place)
+  pub reserves_less : (Reserved Reserved' : ℕ → Type 0) (seats : List WorldSeat) (puts : List P) (takes : List T) → ((place : ℕ) → Reserved' place → Reserved place)
       → ReservesKnown Reserved Reserves Claims sizes seats puts takes → ReservesKnown Reserved' Reserves Claims sizes seats puts takes
   reserves_less Reserved Reserved' seats puts takes less known place none_puts none_takes reserved = known place none_puts none_takes (less place reserved)

@@ -13,7 +13,7 @@ use Rattle.epoch_heap.specs.declared.access.Ptr.{Ptr}
 use Rattle.epoch_heap.specs.declared.access.Spot.{Spot}
 use Rattle.epoch_heap.specs.declared.access.Spot.TheVariants.{Root, Field}
 use Rattle.epoch_heap.proofs.PointersWritten.{kept_or_written}
-use Rattle.epoch_heap.specs.Heap.{Cell, Heap, Touched, cell_at, pointer_at, with_pointer, with_field_in, without_cell, after_job, at_name, read_by, left_by, written_by, taken_by, Places, ChangesAt, Touches}
+use Rattle.epoch_heap.specs.Heap.{Cell, Heap, Touched, cell_at, pointer_at, with_pointer, with_field_in, without_cell, heap_after_job, at_name, read_by, left_by, written_by, taken_by, Places, ChangesAt, Touches}
 
 without_slots : (h : Heap) (n : Name) (r : Removal) → length (without_cell h n r).cells ≡ length h.cells
 without_slots h n Destroyed = length-set h.cells _ _
@@ -21,7 +21,7 @@ without_slots h n HeldElsewhere = refl
 without_slots h n Gone = refl
 
 -- the call of a job
-pub job_slots : (h : Heap) (removes : Option Name) → length (after_job h removes).cells ≡ length h.cells
+pub job_slots : (h : Heap) (removes : Option Name) → length (heap_after_job h removes).cells ≡ length h.cells
 job_slots h None = refl
 job_slots h (Some n) = without_slots h n (removal_of (cell_at h n))
 

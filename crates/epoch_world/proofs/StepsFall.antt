@@ -13,8 +13,8 @@ use Rattle.epoch_machine.specs.Machine.{Machine, StageFits, rest, is_empty, ask_
 use Rattle.epoch_laws.specs.declared.step.Call.{Call}
 use Rattle.epoch_laws.specs.declared.step.Call.TheVariants.{Pin as PinCall, Unpin as UnpinCall, Repin as RepinCall, Pause, Resume, Defer as DeferCall, Flush as FlushCall, Release as ReleaseCall, DeferDestroy, Access as AccessCall}
 use Rattle.epoch_laws.specs.declared.step.Deferral.{Deferral}
-use Rattle.epoch_laws.specs.Run.{Seat, begun_seat}
-use Rattle.epoch_world.specs.Steps.{InStore, in_store, past_collect, collects, steps_at, machine_steps, steps_left, call_bound, steps_of, IsSteady}
+use Rattle.epoch_laws.specs.Run.{WorldSeat, begun_seat}
+use Rattle.epoch_world.specs.Steps.{InStore, in_store, past_collect, collection_steps, steps_at, machine_steps, steps_left, call_bound, steps_of, IsSteady}
 use Rattle.epoch_heap.specs.declared.access.Access.{Access}
 use Rattle.epoch_heap.specs.declared.access.Access.TheVariants.{Place, Point}
 use Rattle.epoch_heap.specs.declared.access.Answer.TheVariants.{Absent}
@@ -33,7 +33,7 @@ collect_fits Release sizes hand n (job ∷ jobs) = omega arith
 collect_fits _ sizes hand n held = omega arith
 
 -- the next bag, or what follows the collection
-next_bag : (m : Machine Deferral) (x k hand bound : ℕ) (n : InStore) → collects m.action m.sizes n.most (k + 1) n.takes < bound
+next_bag : (m : Machine Deferral) (x k hand bound : ℕ) (n : InStore) → collection_steps m.action m.sizes n.most (k + 1) n.takes < bound
     → steps_at m.action m.sizes hand n (if k + 1 == m.sizes.collect_bags then after_collect m.action m.held else Take x (k + 1)) < bound
 next_bag m x k hand bound n less =
     either_below (steps_at m.action m.sizes hand n) (k + 1 == m.sizes.collect_bags) (after_collect m.action m.held) (Take x (k + 1)) bound
@@ -166,7 +166,7 @@ access_fits (Point g spot (FetchUpdate tries by)) true m n slots = omega arith
 access_fits _ true m n slots = omega arith
 
 -- behind the Begin of any call
-pub begun_fits : (c : Call) (seat : Seat) (n : InStore) (slots : ℕ)
+pub begun_fits : (c : Call) (seat : WorldSeat) (n : InStore) (slots : ℕ)
     → steps_left slots (begun_seat c seat) n < call_bound slots seat.machine.sizes n.most + 1
 begun_fits PinCall seat n slots = first_fits Pin seat.machine n slots
 begun_fits (UnpinCall g) seat n slots = first_fits Unpin seat.machine n slots
@@ -181,7 +181,7 @@ begun_fits (AccessCall a) seat n slots = access_fits a (has_steps a) seat.machin
 begun_fits _ seat n slots = omega arith
 
 -- what begins has made no step of an update
-pub begun_steady : (h : Heap) (c : Call) (seat : Seat) → IsSteady h (begun_seat c seat).progress
+pub begun_steady : (h : Heap) (c : Call) (seat : WorldSeat) → IsSteady h (begun_seat c seat).progress
 begun_steady h PinCall seat = tt
 begun_steady h (UnpinCall g) seat = tt
 begun_steady h (RepinCall (Some g)) seat = tt

@@ -11,19 +11,19 @@ use Rattle.epoch_laws.specs.declared.step.Step.{Step}
 use Rattle.epoch_laws.specs.declared.step.Step.TheVariants.{Register, Begin, Go, End as EndStep, EndGo}
 use Rattle.epoch_laws.specs.declared.step.Reply.{Reply}
 use Rattle.epoch_laws.specs.declared.step.Deferral.{Deferral}
-use Rattle.epoch_laws.specs.Run.{Bag, State, seat_of, free_seat, Ending, Open, Emptying, Over, refusal, Begins, EndGoes, Moves, IsFresh}
+use Rattle.epoch_laws.specs.Run.{Bag, State, seat_of, free_seat, Ending, Open, Emptying, Over, refusal, BeginsCall, EndGoes, Moves, IsFresh}
 use Rattle.epoch_laws.proofs.SeatLemmas.{begin_given}
 use Rattle.epoch_laws.proofs.TicketSums.{sum_zero}
 use Rattle.epoch_heap.specs.Heap.{Heap}
-use Rattle.epoch_world.proofs.PendingDeferrals.{pending_at, pending, KeepsAt, Keeps}
-pub use Rattle.epoch_world.proofs.PendingDeferrals.{Bounded}
+use Rattle.epoch_world.proofs.PendingDeferrals.{pending_at, pending, KeepsAt, KeepsAsDeferral}
+pub use Rattle.epoch_world.proofs.PendingDeferrals.{TicketsBounded}
 use Rattle.epoch_world.proofs.DeferralsBounded.{same, registers, begins, goes}
 
-module _ (old new : State) (h : Bounded old) where
+module _ (old new : State) (h : TicketsBounded old) where
   call_begins : (p : ℕ) (c : Call) (refused : Option Fault) (reply : Reply)
       → refusal c (seat_of old p) old.tickets old.heap ≡ refused
-      → Begins old p c refused reply new
-      → Bounded new
+      → BeginsCall old p c refused reply new
+      → TicketsBounded new
   call_begins p c (Some fault) reply at did = same old new h did.1
   call_begins p c None reply at did =
       let given = begin_given c (seat_of old p) old.tickets old.heap at in
@@ -31,17 +31,17 @@ module _ (old new : State) (h : Bounded old) where
 
   -- a step of the end leaves participants and tickets alone
   closes : (queued : List Bag) (ending : Ending) (heap : Heap)
-      → new ≡ record old { queued = queued; ending = ending; heap = heap } → Bounded new
-  closes queued ending heap did = subst Bounded (sym did) (record { tickets = h.tickets; keeps = h.keeps })
+      → new ≡ record old { queued = queued; ending = ending; heap = heap } → TicketsBounded new
+  closes queued ending heap did = subst TicketsBounded (sym did) (record { tickets = h.tickets; keeps = h.keeps })
 
-  end_goes : (ending : Ending) (reply : Reply) → EndGoes old ending reply new → Bounded new
+  end_goes : (ending : Ending) (reply : Reply) → EndGoes old ending reply new → TicketsBounded new
   end_goes Open reply did = same old new h did.1
   end_goes Over reply did = same old new h did.1
   end_goes (Emptying (job ∷ jobs) n) reply did = closes old.queued _ _ did.1
   end_goes (Emptying [] n) reply (inl (bag, queued, inserted, is, did)) = closes queued _ old.heap did
   end_goes (Emptying [] n) reply (inr (none, is, did)) = closes old.queued Over old.heap did
 
-  step_bounded : (step : Step) (reply : Reply) → Moves old step reply new → Bounded new
+  step_bounded : (step : Step) (reply : Reply) → Moves old step reply new → TicketsBounded new
   step_bounded Register reply (inl did) = registers old new h did.0 did.2 did.6
   step_bounded Register reply (inr (inl did)) = same old new h did.3
   step_bounded Register reply (inr (inr did)) = same old new h did.2
@@ -55,21 +55,21 @@ module _ (old new : State) (h : Bounded old) where
 
 pub tickets_bounded : (old new : State) (step : Step) (reply : Reply)
     → Moves old step reply new
-    → Bounded old
-    → Bounded new
+    → TicketsBounded old
+    → TicketsBounded new
 tickets_bounded old new step reply did h = step_bounded old new h step reply did
 
-pub fresh_bounded : (s : State) → IsFresh s → Bounded s
+pub fresh_bounded : (s : State) → IsFresh s → TicketsBounded s
 fresh_bounded s fresh = record {
   tickets =
       let none_pending = sum_zero pending s.seats (free_seat s.sizes) (λ p. ap pending (fresh.free p)) in
       omega (arith, fresh.no_tickets, none_pending);
-  keeps = λ p. subst Keeps (sym (fresh.free p)) tt;
+  keeps = λ p. subst KeepsAsDeferral (sym (fresh.free p)) tt;
 }
 
 -- where a job is kept, its ticket is in range
 pub keep_fits : (s : State) (p : ℕ)
-    → Bounded s
+    → TicketsBounded s
     → p < length s.seats
     → (seat_of s p).machine.stage ≡ Keep
     → length s.seats ≤ 64

@@ -18,13 +18,13 @@ use Rattle.epoch_laws.specs.declared.step.Reply.TheVariants.{Called}
 use Rattle.epoch_machine.specs.declared.machine.Sizes.{Sizes}
 use Rattle.epoch_laws.specs.declared.step.Progress.{Progress}
 use Rattle.epoch_laws.specs.declared.step.Progress.TheVariants.{Idle, Driven}
-use Rattle.epoch_laws.specs.Run.{Bag, Seat, State, Emptying, seat_of, refusal, Moves, IsFresh}
+use Rattle.epoch_laws.specs.Run.{Bag, WorldSeat, State, Emptying, seat_of, refusal, Moves, IsFresh}
 use Rattle.epoch_world.specs.Seats.{adds_guard}
 use Rattle.epoch_world.specs.Worlds.{state_of, ending_of, IsEmptying}
-use Rattle.epoch_laws.specs.Kept.{IsDriven, rests, BeganUnder, Awake, HasRoom, IsKept, paused_count, jobs_at_end}
+use Rattle.epoch_laws.specs.Kept.{IsDriven, rests, BeganUnder, Awake, HasGuardRoom, IsSound, paused_count, jobs_at_end}
 use Rattle.epoch_laws.proofs.SeatLemmas.{begin_given}
 use Rattle.epoch_laws.proofs.Linked.{moved_linked, fresh_linked, follows_at}
-use Rattle.epoch_heap.specs.Heap.{Heap, outcome_of, after_job}
+use Rattle.epoch_heap.specs.Heap.{Heap, outcome_of, heap_after_job}
 use Rattle.epoch_reach.proofs.HeapSteps.{heap_goes}
 use Rattle.epoch_reach.proofs.ReadingsKept.{readings_move, fresh_readings}
 use Rattle.epoch_world.proofs.SlotsStay.{job_slots, access_slots}
@@ -43,7 +43,7 @@ moves_slots old new step reply did = elim (heap_goes old new step reply step ref
       ∙ access_slots access.call access.steps access.found old.heap access.makes.did access.makes.touches
 ]
 
-pub kept_moves : (old new : State) (step : Step) (reply : Reply) → IsKept old → length new.seats ≡ length old.seats → Moves old step reply new → IsKept new
+pub kept_moves : (old new : State) (step : Step) (reply : Reply) → IsSound old → length new.seats ≡ length old.seats → Moves old step reply new → IsSound new
 kept_moves old new step reply h same did = record {
   linked = moved_linked old new step reply h.linked did;
   roomy = moves_room old new reply h.linked h.roomy step did;
@@ -55,7 +55,7 @@ kept_moves old new step reply h same did = record {
   cells = omega (arith, h.cells, moves_slots old new step reply did);
 }
 
-pub fresh_kept : (s : State) → IsFresh s → length s.seats ≤ 64 → length s.heap.cells ≤ 4096 → IsKept s
+pub fresh_kept : (s : State) → IsFresh s → length s.seats ≤ 64 → length s.heap.cells ≤ 4096 → IsSound s
 fresh_kept s fresh few cells = record {
   linked = fresh_linked s fresh;
   roomy = fresh_room s fresh;
@@ -68,23 +68,23 @@ fresh_kept s fresh few cells = record {
 }
 
 -- an end calls the next job of the bag that it has taken
-pub called_kept : (sizes : Sizes) (epoch : ℕ) (seats : List Seat) (queued : List Bag) (tickets : ℕ) (stage : EndStage) (hand left : List Deferral)
+pub called_kept : (sizes : Sizes) (epoch : ℕ) (seats : List WorldSeat) (queued : List Bag) (tickets : ℕ) (stage : EndStage) (hand left : List Deferral)
     (n : ℕ) (before after : Heap) (job : Deferral)
-    → IsKept (state_of sizes epoch seats queued tickets (ending_of stage hand n) before) → IsEmptying (ending_of stage hand n) → hand ≡ job ∷ left
-    → after ≡ after_job before job.removes → IsKept (state_of sizes epoch seats queued tickets (ending_of stage left (n + 1)) after)
+    → IsSound (state_of sizes epoch seats queued tickets (ending_of stage hand n) before) → IsEmptying (ending_of stage hand n) → hand ≡ job ∷ left
+    → after ≡ heap_after_job before job.removes → IsSound (state_of sizes epoch seats queued tickets (ending_of stage left (n + 1)) after)
 called_kept sizes epoch seats queued tickets EmptyingStage hand left n before after job h emptying is called =
     let old : State = state_of sizes epoch seats queued tickets (Emptying (job ∷ left) n) before in
-    let kept : IsKept old = subst (λ (jobs : List Deferral). IsKept (state_of sizes epoch seats queued tickets (Emptying jobs n) before)) is h in
-    subst (λ (heap : Heap). IsKept (state_of sizes epoch seats queued tickets (Emptying left (n + 1)) heap)) (sym called)
+    let kept : IsSound old = subst (λ (jobs : List Deferral). IsSound (state_of sizes epoch seats queued tickets (Emptying jobs n) before)) is h in
+    subst (λ (heap : Heap). IsSound (state_of sizes epoch seats queued tickets (Emptying left (n + 1)) heap)) (sym called)
     (kept_moves old _ EndGo (Called job.ticket (outcome_of before job.removes)) kept refl (refl, refl))
 called_kept sizes epoch seats queued tickets OpenStage hand left n before after job h emptying is called = absurd emptying
 called_kept sizes epoch seats queued tickets OverStage hand left n before after job h emptying is called = absurd emptying
 
 -- where a call isn't refused, the machine rests
-pub rests_where_accepted : (s : State) (p : ℕ) (c : Call) (seat : Seat) → IsKept s → seat ≡ seat_of s p → refusal c seat s.tickets s.heap ≡ None → seat.machine.stage ≡ Resting
+pub rests_where_accepted : (s : State) (p : ℕ) (c : Call) (seat : WorldSeat) → IsSound s → seat ≡ seat_of s p → refusal c seat s.tickets s.heap ≡ None → seat.machine.stage ≡ Resting
 rests_where_accepted s p c seat h is given =
-    let accepted = begin_given c (seat_of s p) s.tickets s.heap (ap (λ (q : Seat). refusal c q s.tickets s.heap) (sym is) ∙ given) in
-    ap (λ (q : Seat). q.machine.stage) is ∙ follows_at s.sizes (seat_of s p) (h.linked.seats p) Idle accepted.idle
+    let accepted = begin_given c (seat_of s p) s.tickets s.heap (ap (λ (q : WorldSeat). refusal c q s.tickets s.heap) (sym is) ∙ given) in
+    ap (λ (q : WorldSeat). q.machine.stage) is ∙ follows_at s.sizes (seat_of s p) (h.linked.seats p) Idle accepted.idle
 
 -- a machine under way that asks nothing more is at its end
 at_end : (s : Stage) → rests s ≡ false → ask_at s ≡ None → s ≡ End
@@ -96,10 +96,10 @@ keeps_at : (s : Stage) → ask_at s ≡ Some KeepJob → s ≡ Keep
 keeps_at Keep asked = refl
 keeps_at _ asked = absurd (cc)
 
-pub ends_where_driven : (s : State) (p : ℕ) (c : Call) (seat : Seat) → IsKept s → seat ≡ seat_of s p → seat.progress ≡ Driven c → asks seat.machine ≡ None → seat.machine.stage ≡ End
+pub ends_where_driven : (s : State) (p : ℕ) (c : Call) (seat : WorldSeat) → IsSound s → seat ≡ seat_of s p → seat.progress ≡ Driven c → asks seat.machine ≡ None → seat.machine.stage ≡ End
 ends_where_driven s p c seat h is drive none =
-    let driven : IsDriven c (seat_of s p).machine (seat_of s p).guards = follows_at s.sizes (seat_of s p) (h.linked.seats p) (Driven c) (ap (λ (q : Seat). q.progress) (sym is) ∙ drive) in
-    at_end seat.machine.stage (ap (λ (q : Seat). rests q.machine.stage) is ∙ driven.under_way) none
+    let driven : IsDriven c (seat_of s p).machine (seat_of s p).guards = follows_at s.sizes (seat_of s p) (h.linked.seats p) (Driven c) (ap (λ (q : WorldSeat). q.progress) (sym is) ∙ drive) in
+    at_end seat.machine.stage (ap (λ (q : WorldSeat). rests q.machine.stage) is ∙ driven.under_way) none
 
 -- a guard that an ending call counts has room
 room_left : (c : Call) (guards : List ℕ) (paused : Option ℕ) → BeganUnder c guards → Awake (Driven c) paused → length guards + paused_count paused ≤ 64 → adds_guard c ≡ true → length guards < 64
@@ -115,20 +115,20 @@ room_left Release guards paused under awake few adds = absurd (cc)
 room_left (DeferDestroy g ptr) guards paused under awake few adds = absurd (cc)
 room_left (AccessCall a) guards paused under awake few adds = absurd (cc)
 
-pub room_where_driven : (s : State) (p : ℕ) (c : Call) (seat : Seat) → IsKept s → seat ≡ seat_of s p → seat.progress ≡ Driven c → adds_guard c ≡ true → length seat.guards < 64
+pub room_where_driven : (s : State) (p : ℕ) (c : Call) (seat : WorldSeat) → IsSound s → seat ≡ seat_of s p → seat.progress ≡ Driven c → adds_guard c ≡ true → length seat.guards < 64
 room_where_driven s p c seat h is drive adds =
-    let progress : (seat_of s p).progress ≡ Driven c = ap (λ (q : Seat). q.progress) (sym is) ∙ drive in
+    let progress : (seat_of s p).progress ≡ Driven c = ap (λ (q : WorldSeat). q.progress) (sym is) ∙ drive in
     let driven : IsDriven c (seat_of s p).machine (seat_of s p).guards = follows_at s.sizes (seat_of s p) (h.linked.seats p) (Driven c) progress in
-    let room : HasRoom (seat_of s p) = h.roomy p in
+    let room : HasGuardRoom (seat_of s p) = h.roomy p in
     let awake : Awake (Driven c) (seat_of s p).paused = subst (λ (now : Progress). Awake now (seat_of s p).paused) progress room.awake in
-    subst (λ (q : Seat). length q.guards < 64) (sym is) (room_left c (seat_of s p).guards (seat_of s p).paused driven.under awake room.few adds)
+    subst (λ (q : WorldSeat). length q.guards < 64) (sym is) (room_left c (seat_of s p).guards (seat_of s p).paused driven.under awake room.few adds)
 
 -- the number of guards stays in its range
-pub guards_fit : (s : State) (p : ℕ) (seat : Seat) → IsKept s → seat ≡ seat_of s p → guards_after seat.machine.action seat.machine.guards < 2 ^ 32
+pub guards_fit : (s : State) (p : ℕ) (seat : WorldSeat) → IsSound s → seat ≡ seat_of s p → guards_after seat.machine.action seat.machine.guards < 2 ^ 32
 guards_fit s p seat h is = by_action seat.machine.action seat.machine.guards few
   where
     few : seat.machine.guards ≤ 64
-    few = subst (λ (q : Seat). q.machine.guards ≤ 64) (sym is) (omega (arith, (h.linked.seats p).counted, (h.roomy p).few))
+    few = subst (λ (q : WorldSeat). q.machine.guards ≤ 64) (sym is) (omega (arith, (h.linked.seats p).counted, (h.roomy p).few))
 
     by_action : (a : Action) (n : ℕ) → n ≤ 64 → guards_after a n < 2 ^ 32
     by_action PinAction n le = omega arith
@@ -139,11 +139,11 @@ guards_fit s p seat h is = by_action seat.machine.action seat.machine.guards few
     by_action ReleaseAction n le = omega arith
 
 -- where a job is kept, there is a ticket for it
-pub ticket_left : (s : State) (p : ℕ) (seat : Seat) → IsKept s → p < length s.seats → seat ≡ seat_of s p → asks seat.machine ≡ Some KeepJob → s.tickets + 1 < 2 ^ 64
-ticket_left s p seat h there is asked = keep_fits s p h.bounded there (keeps_at (seat_of s p).machine.stage (ap (λ (q : Seat). asks q.machine) (sym is) ∙ asked)) h.few
+pub ticket_left : (s : State) (p : ℕ) (seat : WorldSeat) → IsSound s → p < length s.seats → seat ≡ seat_of s p → asks seat.machine ≡ Some KeepJob → s.tickets + 1 < 2 ^ 64
+ticket_left s p seat h there is asked = keep_fits s p h.bounded there (keeps_at (seat_of s p).machine.stage (ap (λ (q : WorldSeat). asks q.machine) (sym is) ∙ asked)) h.few
 
 -- an end that has a job in hand has called fewer jobs than 2^64 - 1
-pub one_more_counts : (s : State) (stage : EndStage) (job : Deferral) (hand left : List Deferral) (n : ℕ) → IsKept s → s.ending ≡ ending_of stage hand n → IsEmptying s.ending → hand ≡ job ∷ left → n + 1 < 2 ^ 64
+pub one_more_counts : (s : State) (stage : EndStage) (job : Deferral) (hand left : List Deferral) (n : ℕ) → IsSound s → s.ending ≡ ending_of stage hand n → IsEmptying s.ending → hand ≡ job ∷ left → n + 1 < 2 ^ 64
 one_more_counts s EmptyingStage job hand left n h at emptying is =
     let counted : jobs_at_end s.ending ≡ length hand + n = ap jobs_at_end at in
     omega (arith, h.jobs, h.bounded.tickets, h.few, counted, ap length is)

@@ -15,7 +15,7 @@ use Rattle.epoch_laws.specs.declared.step.Reply.TheVariants.{Stepped, Pinned as 
 use Rattle.epoch_laws.specs.declared.step.Deferral.{Deferral}
 use Rattle.epoch_laws.specs.declared.step.Word.{Word}
 use Rattle.epoch_laws.specs.declared.step.Word.TheVariants.{Unpinned, Pinned}
-use Rattle.epoch_laws.specs.Run.{Bag, Seat, free_seat, with_machine, with_word, removed_by}
+use Rattle.epoch_laws.specs.Run.{Bag, WorldSeat, free_seat, with_machine, with_word, removed_by}
 use Rattle.epoch_cells.specs.declared.cells.name.Name.{Name}
 use Rattle.epoch_heap.specs.declared.access.Access.{Access}
 use Rattle.epoch_heap.specs.declared.access.Access.TheVariants.{Read}
@@ -24,7 +24,7 @@ use Rattle.epoch_heap.specs.declared.access.Accessed.TheVariants.{Answers}
 use Rattle.epoch_heap.specs.declared.access.Answer.TheVariants.{Released, Value}
 use Rattle.epoch_laws.specs.declared.step.Progress.{Progress}
 use Rattle.epoch_laws.specs.declared.step.Progress.TheVariants.{Accesses}
-use Rattle.epoch_heap.specs.Heap.{Heap, cell_at, outcome_of, after_job, AccessFits}
+use Rattle.epoch_heap.specs.Heap.{Heap, cell_at, outcome_of, heap_after_job, AccessFits}
 
 -- what participants share, but for their words
 pub record Shared : Type 0 where
@@ -38,7 +38,7 @@ shared epoch queued tickets heap = record { epoch = epoch; queued = queued; tick
 
 -- What comes of one ask of the participant p: the reply, its seat and what is shared after it. The word is the one
 -- that a scan looks at.
-abbrev pub SeatPerforms : Sizes → ℕ → ℕ → Shared → Seat → Stage → Ask → Reply → Seat → Shared → Type 0
+abbrev pub SeatPerforms : Sizes → ℕ → ℕ → Shared → WorldSeat → Stage → Ask → Reply → WorldSeat → Shared → Type 0
 SeatPerforms sizes p word old seat s LoadEpoch reply after new = (reply ≡ Stepped) × (after ≡ with_machine seat (hears seat.machine s (Epoch old.epoch))) × (new ≡ old)
 SeatPerforms sizes p word old seat s (LoadWord k) reply after new = (reply ≡ Stepped) × (after ≡ with_machine seat (hears seat.machine s (WordFound word))) × (new ≡ old)
 SeatPerforms sizes p word old seat s (StorePinned e) reply after new = (reply ≡ PinnedReply p) × (after ≡ with_word seat (Pinned e) (hears seat.machine s Stored)) × (new ≡ old)
@@ -49,7 +49,7 @@ SeatPerforms sizes p word old seat s (StoreEpoch e) reply after new = (reply ≡
 SeatPerforms sizes p word old seat s (PutBag seal) reply after new = (step : PutStep) × (reply ≡ Stepped) × PutsHeld seal seat.machine old.queued step new.queued × (after ≡ with_machine seat (put_heard seat.machine step)) × (new ≡ record old { queued = new.queued })
 SeatPerforms sizes p word old seat s (TakeBag x) reply after new = (step : TakeStep) × (reply ≡ Stepped) × TakesHand x old.queued step new.queued after.machine.hand × (after ≡ with_machine seat (took_heard seat.machine s step after.machine.hand)) × (new ≡ record old { queued = new.queued })
 SeatPerforms sizes p word old seat s KeepJob reply after new = (reply ≡ Deferred old.tickets) × (after ≡ with_machine seat (hears seat.machine s (Job (record { ticket = old.tickets; removes = removed_by seat.progress })))) × (new ≡ record old { tickets = old.tickets + 1 })
-SeatPerforms sizes p word old seat s CallJob reply after new = (job : Deferral) × (jobs : List Deferral) × (seat.machine.hand ≡ job ∷ jobs) × (reply ≡ CalledReply job.ticket (outcome_of old.heap job.removes)) × (after ≡ with_machine seat (gives seat.machine s jobs)) × (new ≡ record old { heap = after_job old.heap job.removes })
+SeatPerforms sizes p word old seat s CallJob reply after new = (job : Deferral) × (jobs : List Deferral) × (seat.machine.hand ≡ job ∷ jobs) × (reply ≡ CalledReply job.ticket (outcome_of old.heap job.removes)) × (after ≡ with_machine seat (gives seat.machine s jobs)) × (new ≡ record old { heap = heap_after_job old.heap job.removes })
 
 -- the number that a word stands for fits
 abbrev pub WordFits : Word → Type 0

@@ -9,7 +9,7 @@ use Rattle.epoch_machine.specs.Machine.{Machine}
 use Rattle.epoch_laws.specs.declared.step.Deferral.{Deferral}
 use Rattle.epoch_laws.specs.declared.step.Progress.{Progress}
 use Rattle.epoch_laws.specs.declared.step.Progress.TheVariants.{Idle, Driven, CallsNow, Ends, Accesses}
-use Rattle.epoch_laws.specs.Run.{Seat}
+use Rattle.epoch_laws.specs.Run.{WorldSeat}
 use Rattle.epoch_heap.specs.declared.access.Access.{Access}
 use Rattle.epoch_heap.specs.declared.access.Access.TheVariants.{Place, Point}
 use Rattle.epoch_heap.specs.declared.access.Change.TheVariants.{FetchUpdate}
@@ -31,29 +31,29 @@ past_collect Release most = most + 4
 past_collect _ most = 1
 
 -- a collection that has taken so many bags, each of at most 64 jobs, and what follows it
-abbrev pub collects : Action → Sizes → ℕ → ℕ → ℕ → ℕ
-collects a sizes most taken takes = takes + (sizes.collect_bags - taken) * 64 + 1 + past_collect a most
+abbrev pub collection_steps : Action → Sizes → ℕ → ℕ → ℕ → ℕ
+collection_steps a sizes most taken takes = takes + (sizes.collect_bags - taken) * 64 + 1 + past_collect a most
 
 -- the words that a scan still looks at, the store of the epoch, and the collection
-abbrev pub scans : Action → Sizes → ℕ → ℕ → ℕ
-scans a sizes most next = sizes.positions - next + 1 + collects a sizes most 0 most
+abbrev pub scan_steps : Action → Sizes → ℕ → ℕ → ℕ
+scan_steps a sizes most next = sizes.positions - next + 1 + collection_steps a sizes most 0 most
 
 -- a flush collects after its put
 abbrev pub past_put : Action → Sizes → ℕ → ℕ
-past_put Flush sizes most = 1 + scans Flush sizes most 0
+past_put Flush sizes most = 1 + scan_steps Flush sizes most 0
 past_put _ sizes most = 2
 
 -- by the action, the stage, and how many jobs are in hand
 abbrev pub steps_at : Action → Sizes → ℕ → InStore → Stage → ℕ
 steps_at a sizes hand n Resting = 0
-steps_at a sizes hand n LoadPin = 4 + scans a sizes n.most 0
-steps_at a sizes hand n (StorePin e) = 3 + scans a sizes n.most 0
-steps_at a sizes hand n ReloadPin = 2 + scans a sizes n.most 0
-steps_at a sizes hand n LoadScan = 1 + scans a sizes n.most 0
-steps_at a sizes hand n (Scan e k) = scans a sizes n.most k
-steps_at a sizes hand n (Advance e) = 1 + collects a sizes n.most 0 n.most
-steps_at a sizes hand n (Take x k) = collects a sizes n.most k n.takes
-steps_at a sizes hand n (Calling x k) = hand + collects a sizes n.most (k + 1) n.takes
+steps_at a sizes hand n LoadPin = 4 + scan_steps a sizes n.most 0
+steps_at a sizes hand n (StorePin e) = 3 + scan_steps a sizes n.most 0
+steps_at a sizes hand n ReloadPin = 2 + scan_steps a sizes n.most 0
+steps_at a sizes hand n LoadScan = 1 + scan_steps a sizes n.most 0
+steps_at a sizes hand n (Scan e k) = scan_steps a sizes n.most k
+steps_at a sizes hand n (Advance e) = 1 + collection_steps a sizes n.most 0 n.most
+steps_at a sizes hand n (Take x k) = collection_steps a sizes n.most k n.takes
+steps_at a sizes hand n (Calling x k) = hand + collection_steps a sizes n.most (k + 1) n.takes
 steps_at a sizes hand n LoadSeal = n.most + 2 + past_put a sizes n.most
 steps_at a sizes hand n (Put s) = n.puts + 1 + past_put a sizes n.most
 steps_at a sizes hand n Keep = 2
@@ -82,7 +82,7 @@ steps_of slots (Ends r) m n = 1
 steps_of slots Idle m n = 0
 
 -- a participant's call under way
-abbrev pub steps_left : ℕ → Seat → InStore → ℕ
+abbrev pub steps_left : ℕ → WorldSeat → InStore → ℕ
 steps_left slots seat n = steps_of slots seat.progress seat.machine n
 
 -- any call, from its Begin on

@@ -8,7 +8,7 @@ use Rattle.epoch_laws.specs.declared.step.Deferral.{Deferral}
 use Rattle.epoch_laws.specs.declared.step.Word.TheVariants.{Free}
 use Rattle.epoch_world.specs.declared.world.EndStage.{EndStage}
 use Rattle.epoch_world.specs.declared.world.EndStage.TheVariants.{Open as OpenStage, Emptying as EmptyingStage, Over as OverStage}
-use Rattle.epoch_laws.specs.Run.{Bag, Seat, State, Ending, Open, Emptying, Over, seat_of, word_of, free_seat, is_driven}
+use Rattle.epoch_laws.specs.Run.{Bag, WorldSeat, State, Ending, Open, Emptying, Over, seat_of, position_word, free_seat, is_driven}
 use Rattle.epoch_laws.specs.Collections.{expiry_of}
 use Rattle.epoch_laws.specs.Room.{is_putting}
 use Rattle.epoch_heap.specs.Heap.{Heap}
@@ -20,32 +20,32 @@ ending_of EmptyingStage hand count = Emptying hand count
 ending_of OverStage hand count = Over
 
 -- the state of a world of these parts, but for the places of the store
-abbrev pub state_of : Sizes → ℕ → List Seat → List Bag → ℕ → Ending → Heap → State
+abbrev pub state_of : Sizes → ℕ → List WorldSeat → List Bag → ℕ → Ending → Heap → State
 state_of sizes epoch seats queued tickets ending heap = record { sizes = sizes; epoch = epoch; seats = seats; queued = queued; tickets = tickets; ending = ending; places = []; seen = []; ahead = []; room = []; heap = heap }
 
 -- the participant at a position has a call under way, and its machine asks for this
 pub record IsDrivenAt (s : State) (p : ℕ) (ask : Ask) : Type 0 where
-  pub taken : word_of s p ≢ Free
+  pub taken : position_word s p ≢ Free
   pub under_way : is_driven (seat_of s p).progress ≡ true
   pub asked : asks (seat_of s p).machine ≡ Some ask
   pub within : AskFits (seat_of s p).machine.sizes ask
 
 -- what is ahead of each participant's collection, where ahead says it by the epoch and the cursor
-abbrev pub aheads : {C : Type 0} → (ℕ → C → ℕ) → List Seat → List C → List ℕ
+abbrev pub aheads : {C : Type 0} → (ℕ → C → ℕ) → List WorldSeat → List C → List ℕ
 aheads ahead (seat ∷ seats) (cursor ∷ cursors) = ahead (expiry_of seat.machine.stage) cursor ∷ aheads ahead seats cursors
 aheads ahead _ _ = []
 
 -- no participant at such a stage claims the place, by its cursor
-abbrev pub NobodyClaims : {C : Type 0} → (Stage → Bool) → (C → ℕ → Type 0) → Sizes → List Seat → List C → ℕ → Type 0
+abbrev pub NobodyClaims : {C : Type 0} → (Stage → Bool) → (C → ℕ → Type 0) → Sizes → List WorldSeat → List C → ℕ → Type 0
 NobodyClaims {C} at Claims sizes seats cursors place =
     (q : ℕ) (cursor : C) → slice_get cursors q ≡ Some cursor → ¬ ((at (slice_index_or seats q (free_seat sizes)).machine.stage ≡ true) × Claims cursor place)
 
 -- a bag is claimed by nobody but a participant that is taking bags
-abbrev pub ClaimsKnown : {C : Type 0} → (ℕ → Type 0) → (C → ℕ → Type 0) → Sizes → List Seat → List C → Type 0
+abbrev pub ClaimsKnown : {C : Type 0} → (ℕ → Type 0) → (C → ℕ → Type 0) → Sizes → List WorldSeat → List C → Type 0
 ClaimsKnown Claimed Claims sizes seats cursors = (place : ℕ) → NobodyClaims is_taking Claims sizes seats cursors place → ¬ (Claimed place)
 
 -- and a place without a bag by nobody but a participant that is putting or taking one
-abbrev pub ReservesKnown : {P T : Type 0} → (ℕ → Type 0) → (P → ℕ → Type 0) → (T → ℕ → Type 0) → Sizes → List Seat → List P → List T → Type 0
+abbrev pub ReservesKnown : {P T : Type 0} → (ℕ → Type 0) → (P → ℕ → Type 0) → (T → ℕ → Type 0) → Sizes → List WorldSeat → List P → List T → Type 0
 ReservesKnown Reserved Reserves Claims sizes seats puts takes =
     (place : ℕ) → NobodyClaims is_putting Reserves sizes seats puts place → NobodyClaims is_taking Claims sizes seats takes place → ¬ (Reserved place)
 

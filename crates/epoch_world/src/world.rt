@@ -4,7 +4,7 @@ ghost use Rattle.epoch_cells.specs.declared.fault.Fault.TheVariants.{NoMemory};
 ghost use Rattle.epoch_laws.specs.declared.step.Step.TheVariants.{Register, Begin, Go, End as EndStep, EndGo};
 ghost use Rattle.epoch_machine.specs.Machine.{IsSized};
 ghost use Rattle.epoch_laws.specs.Shapes.{IsValid, sizes_of};
-ghost use Rattle.epoch_laws.specs.Run.{IsFresh, Runs, Takes, Over, entries_of, free_seat, number_of, refusal, seat_of, word_of, Seat as Participant};
+ghost use Rattle.epoch_laws.specs.Run.{IsFresh, Runs, TakesStep, Over, entries_of, free_seat, word_number, refusal, seat_of, position_word, WorldSeat as Participant};
 ghost use Rattle.epoch_world.specs.Seats.{WordFits};
 ghost use Rattle.epoch_world.specs.Earlier.{AlongEarlierRuns, SinceEachState};
 ghost use Rattle.epoch_world.specs.Worlds.{IsEmptying};
@@ -13,7 +13,7 @@ ghost use Rattle.epoch_laws.specs.Tickets.{HoldsEachTicketOnce, NumbersTickets, 
 ghost use Rattle.epoch_laws.specs.Ends.{EndsAtCount};
 ghost use Rattle.epoch_laws.specs.Lawful.{IsLawful};
 ghost use Rattle.epoch_laws.specs.Full.{FullWhereFound};
-ghost use Rattle.epoch_laws.specs.Calls.{call_of, EndsAtLast};
+ghost use Rattle.epoch_laws.specs.Calls.{call_entries, EndsAtLast};
 ghost use Rattle.epoch_rounds.specs.Rounds.{RoundsCallAll};
 ghost use Rattle.epoch_rounds.specs.Collected.{CollectsFew};
 ghost use Rattle.epoch_reach.specs.Reach.{LeavesOnce, KeepsLoaded, past_of};
@@ -66,7 +66,7 @@ impl<S: BagStore<Job = Deferral>> Model for World<S> {
     ghost use Rattle.epoch_machine.specs.Machine.{IsSized};
     ghost use Rattle.epoch_laws.specs.Run.{State, with_places};
     ghost use Rattle.epoch_world.specs.Worlds.{state_of, ending_of, aheads, ClaimsKnown, ReservesKnown};
-    ghost use Rattle.epoch_laws.specs.Kept.{IsKept};
+    ghost use Rattle.epoch_laws.specs.Kept.{IsSound};
 
     ghost Value = { State };
 
@@ -77,7 +77,7 @@ impl<S: BagStore<Job = Deferral>> Model for World<S> {
       epoch : a.epoch < 2 ^ 63;
       putting : length a.putting.items ≡ length a.seats.items;
       taking : length a.taking.items ≡ length a.seats.items;
-      kept : IsKept (state_of a.sizes a.epoch a.seats.items (S.queued a.store) a.tickets (ending_of a.end a.hand.jobs a.count) a.heap);
+      kept : IsSound (state_of a.sizes a.epoch a.seats.items (S.queued a.store) a.tickets (ending_of a.end a.hand.jobs a.count) a.heap);
       claimed : ClaimsKnown (S.Claimed a.store) S.Claims a.sizes a.seats.items a.taking.items;
       reserved : ReservesKnown (S.Reserved a.store) S.Reserves S.Claims a.sizes a.seats.items a.putting.items a.taking.items;
     } };
@@ -208,47 +208,47 @@ impl<S: BagStore<Job = Deferral>> World<S> {
     /// of the steps holds together with every earlier run, as for [`World::run`].
     pub fn call(&mut self, participant: u64, call: Call) -> Result<Vec<Reply>, Fault>
         // It is a run of Begin, and then of Go.
-        ensures runs { IfOk result (λ replies. Runs self.old (call_of participant call replies.items) self.new) }
+        ensures runs { IfOk result (λ replies. Runs self.old (call_entries participant call replies.items) self.new) }
         // The last reply ends the call, and none before it does.
         ensures ends { IfOk result (λ replies. EndsAtLast replies.items) }
 
         // No job is called while a participant pinned at its deferral has stayed pinned without repinning.
-        ensures grace { IfOk result (λ replies. AlongEarlierRuns self.old (call_of participant call replies.items)
+        ensures grace { IfOk result (λ replies. AlongEarlierRuns self.old (call_entries participant call replies.items)
             (λ fresh log. KeepsGrace log)) }
         // Each accepted job is in exactly one bag, or was called exactly once.
-        ensures once { IfOk result (λ replies. AlongEarlierRuns self.old (call_of participant call replies.items)
+        ensures once { IfOk result (λ replies. AlongEarlierRuns self.old (call_entries participant call replies.items)
             (λ fresh log. HoldsEachTicketOnce log self.new)) }
         // The ticket of an accepted job is the number of those accepted before it.
-        ensures tickets { IfOk result (λ replies. AlongEarlierRuns self.old (call_of participant call replies.items)
+        ensures tickets { IfOk result (λ replies. AlongEarlierRuns self.old (call_entries participant call replies.items)
             (λ fresh log. NumbersTickets log)) }
         // Each event stands only where it may.
-        ensures lawful { IfOk result (λ replies. AlongEarlierRuns self.old (call_of participant call replies.items)
+        ensures lawful { IfOk result (λ replies. AlongEarlierRuns self.old (call_entries participant call replies.items)
             (λ fresh log. IsLawful log)) }
         // The bags are told to be full exactly where the call's put found each place of the store occupied.
-        ensures full { IfOk result (λ replies. AlongEarlierRuns self.old (call_of participant call replies.items)
+        ensures full { IfOk result (λ replies. AlongEarlierRuns self.old (call_entries participant call replies.items)
             (λ fresh log. FullWhereFound fresh log self.new)) }
         // Rounds of a participant whom nobody disturbs call every job of the bags in the store.
-        ensures rounds { IfOk result (λ replies. SinceEachState self.old (call_of participant call replies.items)
+        ensures rounds { IfOk result (λ replies. SinceEachState self.old (call_entries participant call replies.items)
             (λ start log. RoundsCallAll start log self.new)) }
         // Each call takes at most as many bags as one collection may take, and calls at most the jobs of so many full bags.
-        ensures few { IfOk result (λ replies. AlongEarlierRuns self.old (call_of participant call replies.items)
+        ensures few { IfOk result (λ replies. AlongEarlierRuns self.old (call_entries participant call replies.items)
             (λ fresh log. CollectsFew fresh log self.new)) }
         // Where cells leave once and out of reach, no name that is loaded under a guard still held is destroyed, and each
         // such name has its cell.
-        ensures reach { IfOk result (λ replies. AlongEarlierRuns self.old (call_of participant call replies.items)
+        ensures reach { IfOk result (λ replies. AlongEarlierRuns self.old (call_entries participant call replies.items)
             (λ fresh log. (run : Runs fresh log self.new) → LeavesOnce fresh log self.new run
             → KeepsLoaded (past_of fresh log self.new run))) }
-        ensures loaded { IfOk result (λ replies. AlongEarlierRuns self.old (call_of participant call replies.items)
+        ensures loaded { IfOk result (λ replies. AlongEarlierRuns self.old (call_entries participant call replies.items)
             (λ fresh log. (run : Runs fresh log self.new) → LeavesOnce fresh log self.new run
             → LoadedStand (past_of fresh log self.new run) self.new.heap)) }
         // No name is given twice, and each that was given has its cell or is destroyed, and not both.
-        ensures given { IfOk result (λ replies. AlongEarlierRuns self.old (call_of participant call replies.items)
+        ensures given { IfOk result (λ replies. AlongEarlierRuns self.old (call_entries participant call replies.items)
             (λ fresh log. (run : Runs fresh log self.new) → GivesNoNameTwice fresh log self.new run)) }
-        ensures stands { IfOk result (λ replies. AlongEarlierRuns self.old (call_of participant call replies.items)
+        ensures stands { IfOk result (λ replies. AlongEarlierRuns self.old (call_entries participant call replies.items)
             (λ fresh log. (run : Runs fresh log self.new)
             → StandsOrDestroyed (given_of fresh log self.new run) (past_of fresh log self.new run) self.new.heap)) }
         // A job in a bag removes the name that its ticket's deferral named, or is work; and its call does just that.
-        ensures removals { IfOk result (λ replies. AlongEarlierRuns self.old (call_of participant call replies.items)
+        ensures removals { IfOk result (λ replies. AlongEarlierRuns self.old (call_entries participant call replies.items)
             (λ fresh log. (run : Runs fresh log self.new) → CallsWhatWasDeferred fresh log self.new run)) }
 
         ensures err { OnErr result (self.new ≡ self.old) }
@@ -281,7 +281,7 @@ impl<S: BagStore<Job = Deferral>> World<S> {
 
     /// Takes one step. It takes no memory.
     pub fn step(&mut self, step: Step) -> Reply
-        ensures { Takes self.old step result self.new }
+        ensures { TakesStep self.old step result self.new }
     {
         match step {
             Step::Register => self.register(),
@@ -301,7 +301,7 @@ impl<S: BagStore<Job = Deferral>> World<S> {
 
     /// The word of the participant at a position, or `None` past the table. It is no step.
     pub fn word(&self, position: u64) -> Option<u64>
-        ensures { MatchOption result (length self.now.seats ≤ position) (λ word. (position < length self.now.seats) × (word ≡ number_of (word_of self.now position))) }
+        ensures { MatchOption result (length self.now.seats ≤ position) (λ word. (position < length self.now.seats) × (word ≡ word_number (position_word self.now position))) }
     {
         let seat = self.seats.get(position as usize)?;
         Some(number_of(seat.word()))
@@ -310,7 +310,7 @@ impl<S: BagStore<Job = Deferral>> World<S> {
     /// Whether the held bag of the participant at a position takes a further job without being put first, or `None` where
     /// nobody is registered. It is no step.
     pub fn has_room(&self, position: u64) -> Option<bool>
-        ensures value { MatchOption result (word_of self.now position ≡ Word.Free) (λ room. (word_of self.now position ≢ Word.Free) × (IsTrue room ↔ (length (seat_of self.now position).machine.held < self.now.sizes.bag_jobs))) }
+        ensures value { MatchOption result (position_word self.now position ≡ Word.Free) (λ room. (position_word self.now position ≢ Word.Free) × (IsTrue room ↔ (length (seat_of self.now position).machine.held < self.now.sizes.bag_jobs))) }
         ensures full { IfSome result (λ room. room ≡ false → length (seat_of self.now position).machine.held ≡ (seat_of self.now position).machine.sizes.bag_jobs) }
         ensures room { IfSome result (λ room. room ≡ true → length (seat_of self.now position).machine.held < (seat_of self.now position).machine.sizes.bag_jobs) }
     {
@@ -318,7 +318,7 @@ impl<S: BagStore<Job = Deferral>> World<S> {
     }
 
     fn register(&mut self) -> Reply
-        ensures { Takes self.old Register result self.new }
+        ensures { TakesStep self.old Register result self.new }
     {
         let EndStage::Open = self.end else {
             return Reply::Refused(Fault::Ended);
@@ -341,7 +341,7 @@ impl<S: BagStore<Job = Deferral>> World<S> {
     }
 
     fn begin(&mut self, position: u64, call: Call) -> Reply
-        ensures { Takes self.old (Begin position call) result self.new }
+        ensures { TakesStep self.old (Begin position call) result self.new }
     {
         if let Some(fault) = self.refusal(position, call) {
             return Reply::Refused(fault);
@@ -351,7 +351,7 @@ impl<S: BagStore<Job = Deferral>> World<S> {
     }
 
     fn go(&mut self, position: u64) -> Reply
-        ensures { Takes self.old (Go position) result self.new }
+        ensures { TakesStep self.old (Go position) result self.new }
     {
         let index = position as usize;
         if index >= self.seats.len() {
@@ -371,7 +371,7 @@ impl<S: BagStore<Job = Deferral>> World<S> {
     }
 
     fn begin_end(&mut self) -> Reply
-        ensures { Takes self.old EndStep result self.new }
+        ensures { TakesStep self.old EndStep result self.new }
     {
         let EndStage::Open = self.end else {
             return Reply::Refused(Fault::Ended);
@@ -386,7 +386,7 @@ impl<S: BagStore<Job = Deferral>> World<S> {
     }
 
     fn go_on_end(&mut self) -> Reply
-        ensures { Takes self.old EndGo result self.new }
+        ensures { TakesStep self.old EndGo result self.new }
     {
         match self.end {
             EndStage::Open | EndStage::Over => Reply::Refused(Fault::Idle),
@@ -397,7 +397,7 @@ impl<S: BagStore<Job = Deferral>> World<S> {
     /// Calls the next job of the bag taken, or takes another bag, or is over.
     fn empty(&mut self) -> Reply
         requires { IsEmptying self.old.ending }
-        ensures { Takes self.old EndGo result self.new }
+        ensures { TakesStep self.old EndGo result self.new }
     {
         if let Some(job) = self.hand.take_next() {
             self.count += 1;
@@ -487,7 +487,7 @@ fn first_free(seats: &Vec<Seat>) -> Option<usize>
 /// A word as a number: 0 is free, 2 not pinned, and `2e + 1` pinned in the epoch e.
 fn number_of(word: Word) -> u64
     requires { WordFits word }
-    ensures { result ≡ number_of word }
+    ensures { result ≡ word_number word }
 {
     match word {
         Word::Free => 0,

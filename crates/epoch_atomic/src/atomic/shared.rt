@@ -4,7 +4,7 @@ ghost use Rattle.std.proofs.Common.{rules};
 ghost use Rattle.std.specs.Cmp.{partial_order_from_own_ties};
 ghost use Rattle.std.specs.Cmp.Rules.{comparing};
 ghost use Rattle.std.specs.Ordering.{nat_cmp, on, as_partial_cmp};
-ghost use Rattle.epoch_atomic.specs.Pointers.{word_of, IsUnder};
+ghost use Rattle.epoch_atomic.specs.Pointers.{tagged_word, IsUnder};
 
 use crate::atomic::owned::Owned;
 use crate::atomic::word::number;
@@ -148,7 +148,7 @@ impl<'g, T: Pointable + Drop> Shared<'g, T> {
 }
 
 impl<'g, T> PartialEq for Shared<'g, T> {
-    ghost eq = { on (λ pointer. word_of pointer.name pointer.tag) ◌==◌ };
+    ghost eq = { on (λ pointer. tagged_word pointer.name pointer.tag) ◌==◌ };
 
     ghost laws = { Prim.search (comparing, rules) };
 
@@ -163,7 +163,7 @@ impl<'g, T> Eq for Shared<'g, T> {
 }
 
 impl<'g, T> Ord for Shared<'g, T> {
-    ghost cmp = { on (λ pointer. word_of pointer.name pointer.tag) nat_cmp };
+    ghost cmp = { on (λ pointer. tagged_word pointer.name pointer.tag) nat_cmp };
 
     ghost total = { Prim.search (comparing, rules) };
 
@@ -178,7 +178,7 @@ impl<'g, T> Ord for Shared<'g, T> {
 }
 
 impl<'g, T> PartialOrd for Shared<'g, T> {
-    ghost partial_cmp = { as_partial_cmp (on (λ pointer. word_of pointer.name pointer.tag) nat_cmp) };
+    ghost partial_cmp = { as_partial_cmp (on (λ pointer. tagged_word pointer.name pointer.tag) nat_cmp) };
 
     ghost laws = { partial_order_from_own_ties (Prim.search (comparing, rules)) (Prim.search (comparing, rules)) };
 

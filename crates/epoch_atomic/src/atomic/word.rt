@@ -1,6 +1,6 @@
 //! The word of a pointer: `turn * 2^32 + slot * 2^8 + tag`, where null has slot 0 and turn 0.
 ghost use Rattle.std.specs.Prelude.{◌≡◌, ◌%◌};
-ghost use Rattle.epoch_atomic.specs.Pointers.{word_of, tag_in, HasName, IsPointerWord};
+ghost use Rattle.epoch_atomic.specs.Pointers.{tagged_word, tag_in, HasName, IsPointerWord};
 
 use epoch_cells::Name;
 use epoch_values::{Pointable, tag_of};
@@ -16,7 +16,7 @@ impl Rule for PointerWord {
 // The number that a pointer is compared by, and its word.
 #[inline(always)]
 pub fn number(name: Option<Name>, tag: u8) -> u64
-    ensures value { result ≡ word_of name tag }
+    ensures value { result ≡ tagged_word name tag }
     ensures rule { IsPointerWord result }
     ensures name { HasName result name }
     ensures tag { tag_in result ≡ tag }
@@ -32,7 +32,7 @@ pub fn number(name: Option<Name>, tag: u8) -> u64
 // The word that is stored for a pointer, whose tag is taken modulo the alignment.
 #[inline(always)]
 pub fn pointer_word<T: Pointable>(name: Option<Name>, tag: u8) -> u64
-    ensures value { result ≡ word_of name (tag % T.ALIGN) }
+    ensures value { result ≡ tagged_word name (tag % T.ALIGN) }
     ensures rule { IsPointerWord result }
     ensures name { HasName result name }
     ensures tag { tag_in result ≡ tag % T.ALIGN }

@@ -7,7 +7,7 @@ ghost use Rattle.std.specs.Prelude.{◌≡◌, ◌≢◌, ℕ, ◌+◌, ◌-◌,
 ghost use Rattle.epoch_bags.specs.Bags.{Sealed, IsExpired};
 ghost use Rattle.epoch_bags.specs.Stores.{AllExpired, PutsBag, FindsRoom, PutsJobs, TakesBag, TakesExpired, FindsBag, TakesAny};
 ghost use Rattle.epoch_bags.specs.Places.{has_empty};
-ghost use Rattle.epoch_bags.specs.PlaceLists.{ArePlaces, bags_in, taken_places, homes_taken, IsClaimedAt, IsReservedAt, Fills, Empties, Leaves};
+ghost use Rattle.epoch_bags.specs.PlaceLists.{ArePlaces, bags_in, taken_places, homes_taken, IsClaimedAt, IsReservedAt, Fills, Empties, LeavesPlace};
 
 use super::size::tell_size;
 use crate::{Bag, BagStore, Epoch, MOST_BAGS, PutStep, SealedBag, TakeStep};
@@ -180,7 +180,7 @@ fn empty<J: Drop>(
     requires { place < length places.old.words }
     ensures done { IsTrue result → Empties places.old place hand.new places.new }
     ensures expired { IsTrue result → IsExpired expiry.number hand.new }
-    ensures not { result ≡ false → Leaves expiry.number places.old place places.new }
+    ensures not { result ≡ false → LeavesPlace expiry.number places.old place places.new }
     ensures hand { result ≡ false → hand.new ≡ hand.old }
 {
     let Some(bag) = &places.bags[place] else {

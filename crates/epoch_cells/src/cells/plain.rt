@@ -1,6 +1,6 @@
 //! Numbered cells that nobody shares: a plain map from names to values.
 ghost use Rattle.std.specs.Prelude.{◌≡◌, ◌≢◌, ℕ, ◌+◌, ◌-◌, ◌<◌, ◌≤◌, ◌↔◌, false, None, Some, length, slice_get, IsTrue, IsNone, IsSome, IfSome, IfOk, IfErr, OnOk, OnErr, IsOkUnless, MatchOption, MatchResult, All, ◌⊎◌};
-ghost use Rattle.epoch_cells.specs.PlainCells.{Numbered, filled, empty, has, cell_of, with_cell, IsFree, unread, readable, removal_of, IsRead, Lowers, Replaces, Stands, KeepsOthers};
+ghost use Rattle.epoch_cells.specs.PlainCells.{Numbered, filled, empty, has, cell_of, with_cell, IsFree, unread, readable, removal_of, HasReader, Lowers, Replaces, Stands, KeepsOthers};
 ghost use Rattle.epoch_cells.specs.declared.fault.Fault.TheVariants.{NoMemory, CellsFull};
 ghost use Rattle.epoch_cells.specs.declared.cells.Removal.TheVariants.{Destroyed, HeldElsewhere, Gone};
 
@@ -304,7 +304,7 @@ impl<V: Drop> PlainCells<V> {
 
     /// Ends one reading of this name, and says whether there was one.
     pub fn leave(&mut self, name: Name) -> bool
-        ensures left { IsTrue result ↔ IsRead (cell_of self.old name.slot name.turn) }
+        ensures left { IsTrue result ↔ HasReader (cell_of self.old name.slot name.turn) }
         ensures lowered { IsTrue result → Lowers name.slot (cell_of self.old name.slot name.turn) self.old self.new }
         ensures stays { result ≡ false → self.new ≡ self.old }
         ensures others { KeepsOthers name.slot name.turn self.old self.new }

@@ -1,7 +1,7 @@
 //! Registrations: a thread becomes a participant of a collector.
 ghost use Rattle.std.specs.Prelude.{◌≡◌, IfOk, IsOkUnless};
 ghost use Rattle.epoch_cells.specs.declared.fault.Fault.TheVariants.{TableFull};
-ghost use Rattle.epoch_handles.specs.Handles.{IsNew};
+ghost use Rattle.epoch_handles.specs.Handles.{IsNewParticipant};
 
 use crate::collector::Collector;
 use crate::handle::LocalHandle;
@@ -16,7 +16,7 @@ impl<T: Drop, W: Run> Collector<T, W> {
     /// `TableFull`: each position was seen taken.
     pub fn register(&self) -> Result<LocalHandle<'_, T, W>, Fault>
         ensures full { IsOkUnless result TableFull }
-        ensures fresh { IfOk result (λ handle. IsNew self.now handle.local) }
+        ensures fresh { IfOk result (λ handle. IsNewParticipant self.now handle.local) }
     {
         let mut seat = self.participants.seat();
         for position in 0..self.participants.positions() {

@@ -1,6 +1,6 @@
 //! Collections: all words are scanned, bags are taken out of the shared places, and their jobs are called.
 ghost use Rattle.std.specs.Prelude.{◌≡◌, ℕ, ◌<◌, ◌^◌};
-ghost use Rattle.epoch_tables.specs.SharedPlaces.{IsOf as IsAt};
+ghost use Rattle.epoch_tables.specs.SharedPlaces.{IsPlaceSeatOf as IsAt};
 ghost use Rattle.epoch_tables.specs.SharedSteps.{RestsAt};
 ghost use Rattle.epoch_machine.specs.Machine.{after_job};
 ghost use Rattle.epoch_handles.specs.Handles.{IsSeated, IsPinned, Scans, CallsHand, HasTaken, TakesBags, Collects};

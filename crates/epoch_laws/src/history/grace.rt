@@ -1,6 +1,6 @@
 //! Whether a job is called while a participant that was pinned at its deferral has stayed pinned.
 ghost use Rattle.std.specs.Prelude.{◌↔◌, ℕ, ◌<◌, ◌≤◌, IsTrue, length};
-ghost use Rattle.epoch_laws.specs.Grace.{Withdraws, StaysPinned, IsBlocked, KeepsGrace};
+ghost use Rattle.epoch_laws.specs.Grace.{WithdrawsAt, StaysPinned, IsBlocked, KeepsGrace};
 
 use crate::step::{Entry, Reply};
 
@@ -56,7 +56,7 @@ fn somebody_stays_pinned(entries: &[Entry], from: usize, until: usize) -> bool
 fn withdraws_between(entries: &[Entry], who: u64, after: usize, until: usize) -> bool
     requires after { after < length entries.now }
     requires until { until < length entries.now }
-    ensures { IsTrue result ↔ ((k : ℕ) × (after < k) × (k ≤ until) × Withdraws entries.now k who) }
+    ensures { IsTrue result ↔ ((k : ℕ) × (after < k) × (k ≤ until) × WithdrawsAt entries.now k who) }
 {
     for place in after + 1..until + 1 {
         if let Reply::Unpinned(other) | Reply::Repinned(other) = entries[place].reply {

@@ -1,7 +1,7 @@
 //! A put and a collection over the places that participants share.
 ghost use Rattle.std.specs.Prelude.{◌≡◌, ◌≢◌, ℕ, [], Some, length, ◌<◌, ◌≤◌};
 ghost use Rattle.epoch_bags.specs.Bags.{Sealed};
-ghost use Rattle.epoch_tables.specs.SharedPlaces.{IsOf, IsKept};
+ghost use Rattle.epoch_tables.specs.SharedPlaces.{IsPlaceSeatOf, IsSamePlaceSeat};
 ghost use Rattle.epoch_bags.specs.Places.{put_left, take_left};
 ghost use Rattle.epoch_tables.specs.SharedSteps.{RestsAt, PutsAt, TakesAt, PutMoves, TakeMoves};
 ghost use Rattle.epoch_machine.specs.Machine.{asks, put_heard, took_heard};
@@ -22,10 +22,10 @@ impl<J: Default + Drop> Machine<J> {
         cursor: &mut PutCursor,
     ) -> PutStep
         requires asked { (seal : ℕ) × (asks self.old ≡ Some (PutBag seal)) }
-        requires of { IsOf places.now seat.old }
+        requires of { IsPlaceSeatOf places.now seat.old }
         requires at { PutsAt places.now.capacity cursor.old seat.old.me }
         ensures after { self.new ≡ put_heard self.old result }
-        ensures kept { IsKept seat.old seat.new }
+        ensures kept { IsSamePlaceSeat seat.old seat.new }
         ensures at { result ≡ PutStep.Again → PutsAt places.now.capacity cursor.new seat.new.me }
         ensures rests { result ≢ PutStep.Again → RestsAt seat.new.me }
         ensures fewer { result ≡ PutStep.Again → put_left places.now.capacity cursor.new < put_left places.now.capacity cursor.old }
@@ -58,11 +58,11 @@ impl<J: Default + Drop> Machine<J> {
         cursor: &mut TakeCursor,
     ) -> TakeStep
         requires asked { (expiry : ℕ) × (asks self.old ≡ Some (TakeBag expiry)) }
-        requires of { IsOf places.now seat.old }
+        requires of { IsPlaceSeatOf places.now seat.old }
         requires at { (expiry : ℕ) → asks self.old ≡ Some (TakeBag expiry) → TakesAt places.now.capacity expiry cursor.old seat.old.me }
         ensures after { self.new ≡ took_heard self.old self.old.stage result self.new.hand }
         ensures few { result ≡ TakeStep.Got → length self.new.hand ≤ 64 }
-        ensures kept { IsKept seat.old seat.new }
+        ensures kept { IsSamePlaceSeat seat.old seat.new }
         ensures at { (expiry : ℕ) → asks self.old ≡ Some (TakeBag expiry) → TakesAt places.now.capacity expiry cursor.new seat.new.me }
         ensures rests { result ≢ TakeStep.Again → RestsAt seat.new.me }
         ensures fewer { result ≢ TakeStep.Empty → take_left places.now.capacity cursor.new < take_left places.now.capacity cursor.old }

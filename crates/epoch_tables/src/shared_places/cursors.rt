@@ -5,7 +5,7 @@
 //! places once: it looks, claims the very word that tells of an expired bag, and empties the place.
 ghost use Rattle.std.specs.Prelude.{◌≡◌, ◌≢◌, ℕ, ◌<◌, [], ◌∷◌, Some, None};
 ghost use Rattle.epoch_bags.specs.Bags.{Sealed, IsExpired};
-ghost use Rattle.epoch_tables.specs.SharedPlaces.{PlaceMe, IsOf, IsKept, after_store};
+ghost use Rattle.epoch_tables.specs.SharedPlaces.{PlaceMe, IsPlaceSeatOf, IsSamePlaceSeat, after_store};
 ghost use Rattle.epoch_bags.specs.Places.{put_left, take_left};
 ghost use Rattle.epoch_tables.specs.SharedSteps.{RestsAt, HoldsAt, PutsAt, TakesAt, PutMoves, TakeMoves, TriesEach};
 
@@ -38,9 +38,9 @@ impl<J: Default + Drop> SharedPlaces<J> {
         seal: Epoch,
         held: &mut Bag<J>,
     ) -> PutStep
-        requires of { IsOf self.now seat.old }
+        requires of { IsPlaceSeatOf self.now seat.old }
         requires at { PutsAt self.now.capacity cursor.old seat.old.me }
-        ensures kept { IsKept seat.old seat.new }
+        ensures kept { IsSamePlaceSeat seat.old seat.new }
         ensures at { result ≡ PutStep.Again → PutsAt self.now.capacity cursor.new seat.new.me }
         ensures rests { result ≢ PutStep.Again → RestsAt seat.new.me }
         ensures moves { PutMoves self.now.capacity cursor.old seat.old.me (record { seal = seal.number; jobs = held.old.jobs }) result cursor.new seat.new.me }
@@ -76,10 +76,10 @@ impl<J: Default + Drop> SharedPlaces<J> {
     /// Seals what is held, and moves it into the claimed place.
     #[inline(never)]
     fn fill_with(&self, seat: &mut PlaceSeat<J>, place: usize, seal: Epoch, held: &mut Bag<J>)
-        requires of { IsOf self.now seat.old }
+        requires of { IsPlaceSeatOf self.now seat.old }
         requires within { place < self.now.capacity }
         requires holds { HoldsAt place None seat.old.me }
-        ensures kept { IsKept seat.old seat.new }
+        ensures kept { IsSamePlaceSeat seat.old seat.new }
         ensures view { seat.new.me ≡ (after_store seat.old.me.0 (Some (record { seal = seal.number; jobs = held.old.jobs })), []) }
         ensures empty { held.new.jobs ≡ [] }
         ensures limit { held.new.limit ≡ held.old.limit }
@@ -112,10 +112,10 @@ impl<J: Default + Drop> SharedPlaces<J> {
         expiry: Epoch,
         hand: &mut SealedBag<J>,
     ) -> TakeStep
-        requires of { IsOf self.now seat.old }
+        requires of { IsPlaceSeatOf self.now seat.old }
         requires at { TakesAt self.now.capacity expiry.number cursor.old seat.old.me }
         requires empty { hand.old.jobs ≡ [] }
-        ensures kept { IsKept seat.old seat.new }
+        ensures kept { IsSamePlaceSeat seat.old seat.new }
         ensures at { TakesAt self.now.capacity expiry.number cursor.new seat.new.me }
         ensures rests { result ≢ TakeStep.Again → RestsAt seat.new.me }
         ensures moves { TakeMoves self.now.capacity expiry.number cursor.old seat.old.me result cursor.new seat.new.me hand.new }
@@ -153,10 +153,10 @@ impl<J: Default + Drop> SharedPlaces<J> {
     /// Moves the bag of the claimed place into the hand.
     #[inline(never)]
     fn empty_into(&self, seat: &mut PlaceSeat<J>, place: usize, hand: &mut SealedBag<J>)
-        requires of { IsOf self.now seat.old }
+        requires of { IsPlaceSeatOf self.now seat.old }
         requires within { place < self.now.capacity }
         requires holds { (bag : Sealed J) × HoldsAt place (Some bag) seat.old.me }
-        ensures kept { IsKept seat.old seat.new }
+        ensures kept { IsSamePlaceSeat seat.old seat.new }
         ensures hand { seat.old.me.1 ≡ (place, Some hand.new) ∷ [] }
         ensures view { seat.new.me ≡ (after_store seat.old.me.0 None, []) }
     {
@@ -172,9 +172,9 @@ impl<J: Default + Drop> SharedPlaces<J> {
     ///
     /// For an end, with nobody else at work; it is no atomic step.
     pub fn take_any(&self, seat: &mut PlaceSeat<J>) -> Option<SealedBag<J>>
-        requires of { IsOf self.now seat.old }
+        requires of { IsPlaceSeatOf self.now seat.old }
         requires rests { RestsAt seat.old.me }
-        ensures kept { IsKept seat.old seat.new }
+        ensures kept { IsSamePlaceSeat seat.old seat.new }
         ensures rests { RestsAt seat.new.me }
         ensures tries { TriesEach self.now.capacity seat.old.me.0 result seat.new.me.0 }
     {

@@ -1,7 +1,7 @@
 //! The shared places, and the seats at them.
 ghost use Rattle.std.specs.Prelude.{◌≡◌, ◌<◌, ◌≤◌, ◌*◌, [], None, IfOk, IfErr, IsTrue, replicate};
 ghost use Rattle.std.specs.Mem.{type_size};
-ghost use Rattle.epoch_tables.specs.SharedPlaces.{PlacesAgree, words_for, IsOf, with_claim};
+ghost use Rattle.epoch_tables.specs.SharedPlaces.{PlacesAgree, place_words_for, IsPlaceSeatOf, with_claim};
 ghost use Rattle.epoch_cells.specs.declared.fault.Fault.TheVariants.{NoMemory};
 
 use crate::shared_places::plays::Sit;
@@ -41,14 +41,14 @@ pub struct SharedPlaces<J> {
 
 impl<J> Model for SharedPlaces<J> {
     ghost use Rattle.std.specs.Prelude.{◌≡◌, ◌<◌, ◌≤◌};
-    ghost use Rattle.epoch_tables.specs.SharedPlaces.{PlaceBoard, words_for};
+    ghost use Rattle.epoch_tables.specs.SharedPlaces.{PlaceBoard, place_words_for};
 
     ghost Value = { PlaceBoard };
 
     ghost view = { λ a. record { capacity = a.capacity; table = a.table.shared.table_id } };
 
     ghost invariant = { λ a. record {
-      words : a.table.shared.table_id.words ≡ words_for a.capacity;
+      words : a.table.shared.table_id.words ≡ place_words_for a.capacity;
       slots : a.table.shared.table_id.slots ≡ a.capacity;
       key : a.table.shared.key ≡ a.capacity;
       some : 0 < a.capacity;
@@ -102,7 +102,7 @@ impl<J> SharedPlaces<J> {
 
     /// A new seat, which has claimed no place. Making it loads a word.
     pub fn seat(&self) -> PlaceSeat<J>
-        ensures of { IsOf self.now result }
+        ensures of { IsPlaceSeatOf self.now result }
         ensures view { result.me ≡ (with_claim None [] [] [] [], []) }
     {
         self.table.shared.load_new_seat::<Sit>(0).1

@@ -1,7 +1,7 @@
 //! The steps on the shared places, each one atomic instruction.
 ghost use Rattle.std.specs.Prelude.{◌≡◌, ◌≢◌, ℕ, ◌*◌, ◌<◌, ◌∷◌, [], Option, Some, None};
 ghost use Rattle.epoch_bags.specs.Bags.{Sealed};
-ghost use Rattle.epoch_tables.specs.SharedPlaces.{IsPlaceWord, IsAtHome, IsOf, IsKept, after_look, after_claim, after_store};
+ghost use Rattle.epoch_tables.specs.SharedPlaces.{IsPlaceWord, IsAtHome, IsPlaceSeatOf, IsSamePlaceSeat, after_look, after_place_claim, after_store};
 
 use crate::shared_places::places::{PlaceSeat, SharedPlaces};
 use crate::shared_places::plays::{Claim, Look, Store};
@@ -25,9 +25,9 @@ impl<J> SharedPlaces<J> {
     /// bag sealed with s. No bag is moved.
     #[inline(always)]
     pub fn look(&self, seat: &mut PlaceSeat<J>, place: usize) -> u64
-        requires of { IsOf self.now seat.old }
+        requires of { IsPlaceSeatOf self.now seat.old }
         requires within { place < self.now.capacity }
-        ensures kept { IsKept seat.old seat.new }
+        ensures kept { IsSamePlaceSeat seat.old seat.new }
         ensures answer { IsPlaceWord result }
         ensures view { seat.new.me ≡ (after_look seat.old.me.0 place result, seat.old.me.1) }
     {
@@ -38,14 +38,14 @@ impl<J> SharedPlaces<J> {
     /// where the seat has the place now, and in hand what was at home there.
     #[inline(always)]
     pub fn claim(&self, seat: &mut PlaceSeat<J>, place: usize, word: u64) -> u64
-        requires of { IsOf self.now seat.old }
+        requires of { IsPlaceSeatOf self.now seat.old }
         requires within { place < self.now.capacity }
         requires free { seat.old.me.0.claimed ≡ None }
         requires word { word ≢ 2 }
-        ensures kept { IsKept seat.old seat.new }
+        ensures kept { IsSamePlaceSeat seat.old seat.new }
         ensures answer { IsPlaceWord result }
         ensures won { result ≡ word → (bag : Option (Sealed J)) × IsAtHome word bag
-            × (seat.new.me ≡ (after_claim seat.old.me.0 place word bag, (place, bag) ∷ seat.old.me.1)) }
+            × (seat.new.me ≡ (after_place_claim seat.old.me.0 place word bag, (place, bag) ∷ seat.old.me.1)) }
         ensures lost { result ≢ word → seat.new.me ≡ (after_look seat.old.me.0 place result, seat.old.me.1) }
     {
         self.table
@@ -56,11 +56,11 @@ impl<J> SharedPlaces<J> {
     /// Moves `bag` into the claimed place, which has none, and stores its seal. `bag` is `None` then.
     #[inline(never)]
     pub fn fill(&self, seat: &mut PlaceSeat<J>, place: usize, bag: &mut Option<SealedBag<J>>)
-        requires of { IsOf self.now seat.old }
+        requires of { IsPlaceSeatOf self.now seat.old }
         requires claimed { (place < self.now.capacity) × (seat.old.me.0.claimed ≡ Some place) }
         requires hand { seat.old.me.1 ≡ (place, None) ∷ [] }
         requires bag { (put : Sealed J) × (bag.old ≡ Some put) }
-        ensures kept { IsKept seat.old seat.new }
+        ensures kept { IsSamePlaceSeat seat.old seat.new }
         ensures bag { bag.new ≡ None }
         ensures view { seat.new.me ≡ (after_store seat.old.me.0 bag.old, []) }
     {
@@ -75,11 +75,11 @@ impl<J> SharedPlaces<J> {
     /// Moves what the claimed place holds into `bag`, which is `None` before, and stores 0.
     #[inline(never)]
     pub fn empty(&self, seat: &mut PlaceSeat<J>, place: usize, bag: &mut Option<SealedBag<J>>)
-        requires of { IsOf self.now seat.old }
+        requires of { IsPlaceSeatOf self.now seat.old }
         requires claimed { (place < self.now.capacity) × (seat.old.me.0.claimed ≡ Some place) }
         requires hand { (held : Option (Sealed J)) × (seat.old.me.1 ≡ (place, held) ∷ []) }
         requires none { bag.old ≡ None }
-        ensures kept { IsKept seat.old seat.new }
+        ensures kept { IsSamePlaceSeat seat.old seat.new }
         ensures bag { seat.old.me.1 ≡ (place, bag.new) ∷ [] }
         ensures view { seat.new.me ≡ (after_store seat.old.me.0 None, []) }
     {

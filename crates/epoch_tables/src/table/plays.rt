@@ -1,5 +1,5 @@
 //! What each kind of step on the participants' table tells.
-ghost use Rattle.epoch_tables.specs.TableSteps.{Sits, LoadsEpoch, Publishes, Unpins, Frees, LoadsWord, StoresEpoch, Claims};
+ghost use Rattle.epoch_tables.specs.TableSteps.{Sits, LoadsEpoch, Publishes, Unpins, Frees, LoadsWord, StoresEpoch, ClaimsPosition};
 
 use crate::table::view::ParticipantView;
 use atomic_table::Play;
@@ -49,5 +49,5 @@ impl<S> Play<S, ParticipantView> for StoreEpoch {
 pub struct Claim;
 
 impl<S> Play<S, ParticipantView> for Claim {
-    ghost then = { Claims };
+    ghost then = { ClaimsPosition };
 }

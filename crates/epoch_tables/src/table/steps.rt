@@ -1,6 +1,6 @@
 //! The steps on the participants' table, each one atomic instruction.
 ghost use Rattle.std.specs.Prelude.{◌≡◌, ◌≢◌, ℕ, ◌+◌, ◌*◌, ◌/◌, ◌<◌, ◌≤◌, Some, None};
-ghost use Rattle.epoch_tables.specs.Table.{IsWord, LetsPass, IsOf, IsKept};
+ghost use Rattle.epoch_tables.specs.Table.{IsWord, LetsPass, IsOf, IsSameSeat};
 ghost use Rattle.epoch_tables.specs.TableSteps.{after_epoch, after_own, after_free, after_word, after_pass, after_advance, after_claim};
 
 use crate::table::participants::{ParticipantSeat, Participants};
@@ -22,7 +22,7 @@ impl Participants {
     /// Loads the epoch word, which is twice the epoch, and no lower than any that this seat has seen.
     pub fn load_epoch(&self, seat: &mut ParticipantSeat) -> u64
         requires of { IsOf self.now seat.old }
-        ensures kept { IsKept seat.old seat.new }
+        ensures kept { IsSameSeat seat.old seat.new }
         ensures answer { result ≡ 2 * (result / 2) }
         ensures rises { seat.old.me.0.seen ≤ result / 2 }
         ensures view { seat.new.me.0 ≡ after_epoch seat.old.me.0 (result / 2) }
@@ -36,7 +36,7 @@ impl Participants {
         requires own { (seat.old.me.0.position ≡ Some position) × (position < self.now.positions) }
         requires read { epoch ≤ seat.old.me.0.seen }
         requires within { epoch ≤ GREATEST_EPOCH }
-        ensures kept { IsKept seat.old seat.new }
+        ensures kept { IsSameSeat seat.old seat.new }
         ensures view { seat.new.me.0 ≡ after_own seat.old.me.0 (Some epoch) }
     {
         self.table
@@ -48,7 +48,7 @@ impl Participants {
     pub fn unpin(&self, seat: &mut ParticipantSeat, position: usize)
         requires of { IsOf self.now seat.old }
         requires own { (seat.old.me.0.position ≡ Some position) × (position < self.now.positions) }
-        ensures kept { IsKept seat.old seat.new }
+        ensures kept { IsSameSeat seat.old seat.new }
         ensures view { seat.new.me.0 ≡ after_own seat.old.me.0 None }
     {
         self.table
@@ -60,7 +60,7 @@ impl Participants {
     pub fn free(&self, seat: &mut ParticipantSeat, position: usize)
         requires of { IsOf self.now seat.old }
         requires own { (seat.old.me.0.position ≡ Some position) × (position < self.now.positions) }
-        ensures kept { IsKept seat.old seat.new }
+        ensures kept { IsSameSeat seat.old seat.new }
         ensures view { seat.new.me.0 ≡ after_free seat.old.me.0 }
     {
         self.table
@@ -73,7 +73,7 @@ impl Participants {
         requires of { IsOf self.now seat.old }
         requires within { position < self.now.positions }
         requires scanning { (epoch : ℕ) × (seat.old.me.0.scan ≡ Some (epoch, position)) }
-        ensures kept { IsKept seat.old seat.new }
+        ensures kept { IsSameSeat seat.old seat.new }
         ensures answer { IsWord result }
         ensures view { (epoch : ℕ) → seat.old.me.0.scan ≡ Some (epoch, position)
             → (LetsPass epoch result → seat.new.me.0 ≡ after_pass seat.old.me.0 epoch position result)
@@ -91,7 +91,7 @@ impl Participants {
         requires of { IsOf self.now seat.old }
         requires scanned { seat.old.me.0.scan ≡ Some (epoch, self.now.positions) }
         requires within { epoch < GREATEST_EPOCH }
-        ensures kept { IsKept seat.old seat.new }
+        ensures kept { IsSameSeat seat.old seat.new }
         ensures ahead { seat.old.me.0.seen ≤ epoch + 1 }
         ensures view { seat.new.me.0 ≡ after_advance seat.old.me.0 (epoch + 1) }
     {
@@ -104,7 +104,7 @@ impl Participants {
     pub fn claim(&self, seat: &mut ParticipantSeat, position: usize) -> u64
         requires of { IsOf self.now seat.old }
         requires free { (seat.old.me.0.position ≡ None) × (position < self.now.positions) }
-        ensures kept { IsKept seat.old seat.new }
+        ensures kept { IsSameSeat seat.old seat.new }
         ensures answer { IsWord result }
         ensures won { result ≡ 0 → seat.new.me.0 ≡ after_claim seat.old.me.0 position 0 }
         ensures lost { result ≢ 0 → seat.new.me.0 ≡ after_word seat.old.me.0 position result }

@@ -5,10 +5,10 @@ ghost use Rattle.epoch_laws.specs.Run.{free_seat, with_machine, with_word, refus
 ghost use Rattle.epoch_machine.specs.declared.machine.Stage.TheVariants.{Idle, End};
 ghost use Rattle.epoch_world.specs.Seats.{shared, SeatPerforms, WordFits, adds_guard, CanRead, HasRead};
 ghost use Rattle.epoch_cells.specs.declared.fault.Fault.TheVariants.{NoMemory};
-ghost use Rattle.epoch_heap.specs.Heap.{has_steps, Touched, Touches, outcome_of, after_job};
+ghost use Rattle.epoch_heap.specs.Heap.{has_steps, Touched, Touches, outcome_of, heap_after_job};
 ghost use Rattle.epoch_world.specs.Steps.{in_store, machine_steps};
-ghost use Rattle.epoch_laws.specs.Places.{sight, Looks};
-ghost use Rattle.epoch_laws.specs.Collections.{reach, expiry_of, Finds, MayClaim};
+ghost use Rattle.epoch_laws.specs.Places.{occupancy, SeesOccupied};
+ghost use Rattle.epoch_laws.specs.Collections.{outlook, expiry_of, FindsAhead, MayClaim};
 ghost use Rattle.epoch_laws.specs.Room.{TellsRoom, MayReserve};
 
 use crate::world::guards::{is_out, lowest, without};
@@ -45,11 +45,11 @@ pub struct Seat {
 }
 
 impl Model for Seat {
-    ghost use Rattle.epoch_laws.specs.Run.{Seat};
+    ghost use Rattle.epoch_laws.specs.Run.{WorldSeat};
     ghost use Rattle.epoch_world.specs.Seats.{WordFits, ProgressFits};
     ghost use Rattle.std.specs.Prelude.{◌≤◌, vec_capacity};
 
-    ghost Value = { Seat };
+    ghost Value = { WorldSeat };
 
     ghost view = { λ a. record {
       word = a.word;
@@ -139,8 +139,8 @@ impl Seat {
         requires tickets { ask ≡ Ask.KeepJob → tickets.old + 1 < 2 ^ 64 }
         ensures within { epoch.new < 2 ^ 63 }
         ensures step { SeatPerforms self.old.machine.sizes position word (shared epoch.old (S.queued store.old) tickets.old heap.old) self.old self.old.machine.stage ask result self.new (shared epoch.new (S.queued store.new) tickets.new heap.new) }
-        ensures looks { Looks (Some ask) self.old.machine self.new.machine (sight (S.occupied store.old) (S.passed putting.old)) (sight (S.occupied store.new) (S.passed putting.new)) }
-        ensures finds { Finds ((place : ℕ) → ¬ (S.Claimed store.old place)) (Some ask) self.new.machine (reach (S.queued store.old) (S.ahead (expiry_of self.old.machine.stage) store.old taking.old)) (reach (S.queued store.new) (S.ahead (expiry_of self.new.machine.stage) store.new taking.new)) }
+        ensures looks { SeesOccupied (Some ask) self.old.machine self.new.machine (occupancy (S.occupied store.old) (S.passed putting.old)) (occupancy (S.occupied store.new) (S.passed putting.new)) }
+        ensures finds { FindsAhead ((place : ℕ) → ¬ (S.Claimed store.old place)) (Some ask) self.new.machine (outlook (S.queued store.old) (S.ahead (expiry_of self.old.machine.stage) store.old taking.old)) (outlook (S.queued store.new) (S.ahead (expiry_of self.new.machine.stage) store.new taking.new)) }
         ensures room { TellsRoom (((place : ℕ) → ¬ (S.Reserved store.old place)) × (length (S.queued store.old) < length (S.occupied store.old))) (Some ask) self.new.machine (S.has_room store.old putting.old) (S.has_room store.new putting.new) }
         ensures claims { MayClaim ask self.new.machine.stage (S.Claimed store.old) (S.Claims taking.old) (S.Claimed store.new) (S.Claims taking.new) }
         ensures reserves { MayReserve ask self.new.machine.stage (S.Reserved store.old) (S.Reserves putting.old) (S.Claims taking.old) (S.Reserved store.new) (S.Reserves putting.new) (S.Claims taking.new) }
@@ -488,7 +488,7 @@ impl Seat {
     /// Calls a job at once, the removal of this name or work: no participant may still need what it is about.
     pub fn call_now(&mut self, removes: Option<Name>, heap: &mut Heap) -> Reply
         ensures reply { result ≡ Reply.CalledNow (outcome_of heap.old removes) }
-        ensures heap { heap.new ≡ after_job heap.old removes }
+        ensures heap { heap.new ≡ heap_after_job heap.old removes }
         ensures seat { self.new ≡ record self.old { progress = Progress.Ends (Reply.Done Answer.Unit) } }
     {
         self.progress = Progress::Ends(Reply::Done(Answer::Unit));

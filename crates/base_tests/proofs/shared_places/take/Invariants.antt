@@ -1,11 +1,11 @@
 use Rattle.std.proofs.Common.{◌≡◌, []}
-use Rattle.epoch_tables.specs.SharedPlaces.{IsKept}
+use Rattle.epoch_tables.specs.SharedPlaces.{IsSamePlaceSeat}
 use Rattle.epoch_tables.specs.SharedSteps.{TakesAt}
 use Rattle.base_tests.proofs.shared_places.take.Given as goal
 
 abbrev pub invariant-loop : goal.invariant-loop
 invariant-loop l = record {
-  kept : IsKept l.initial.seat l.seat;
+  kept : IsSamePlaceSeat l.initial.seat l.seat;
   at : TakesAt l.places.capacity l.expiry.number l.cursor l.seat.me;
   empty : l.hand.jobs ≡ [];
 }

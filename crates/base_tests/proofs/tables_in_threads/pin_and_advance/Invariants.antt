@@ -1,10 +1,10 @@
 use Rattle.std.proofs.Common.{◌≡◌, Some}
-use Rattle.epoch_tables.specs.Table.{IsKept}
+use Rattle.epoch_tables.specs.Table.{IsSameSeat}
 use Rattle.base_tests.proofs.tables_in_threads.pin_and_advance.Given as goal
 
 abbrev pub invariant-loop-other : goal.invariant-loop-other
 invariant-loop-other l = record {
-  kept : IsKept l.initial.seat l.seat;
+  kept : IsSameSeat l.initial.seat l.seat;
   own : l.seat.me.0.position ≡ Some l.position;
   scan : l.seat.me.0.scan ≡ Some (l.epoch, l.other);
 }

@@ -1,5 +1,5 @@
 use Rattle.std.proofs.Common.{◌∙◌, ◌+◌, refl, sym, ap, subst, arith}
-use Rattle.epoch_handles.specs.Handles.{LosesEach}
+use Rattle.epoch_handles.specs.Handles.{FindsEachTaken}
 use Rattle.epoch_bags.specs.declared.job.Job.{Job}
 use Rattle.epoch_tables.specs.declared.table.view.ParticipantView.{ParticipantView}
 use Rattle.epoch_machine.specs.Machine.{Machine}
@@ -55,5 +55,5 @@ loop-position-preserved g c =
     let more = loses_one_more c.loop-position.position before.looked before.found c.claim.result seat.2 c.if-claim-eq0.false in (
       (kept.0 ∙ seat.0.0, kept.2 ∙ seat.0.1),
       ap (λ (z : ParticipantView). z.position) lost ∙ seat.1,
-      subst (λ (z : ParticipantView). LosesEach (c.loop-position.position + 1) z.looked z.found) (sym lost) more,
+      subst (λ (z : ParticipantView). FindsEachTaken (c.loop-position.position + 1) z.looked z.found) (sym lost) more,
     )

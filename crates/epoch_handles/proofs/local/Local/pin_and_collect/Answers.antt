@@ -5,7 +5,7 @@ use Rattle.epoch_machine.specs.declared.machine.Action.{Action}
 use Rattle.epoch_machine.specs.declared.machine.Action.TheVariants.{Pin}
 use Rattle.epoch_machine.specs.declared.machine.Stage.TheVariants.{End}
 use Rattle.epoch_machine.specs.Machine.{Machine, begun, after_collect, guards_after}
-use Rattle.epoch_handles.specs.Drives.{Calls}
+use Rattle.epoch_handles.specs.Drives.{DrivesAndCalls}
 use Rattle.epoch_handles.specs.Handles.{sight_of}
 use Rattle.epoch_handles.proofs.Driving.{calls_of, calls_on}
 use Rattle.epoch_handles.proofs.StraightCalls.{ready_with}
@@ -46,7 +46,7 @@ returns-clause-called g c =
       c.end.ensures,
       calls_on (IsCalled g.W.Run.done) h.collector.now.places.capacity (begun Pin h.machine) n.machine o.machine (sight_of h) (sight_of n) (sight_of o)
           (calls_of (IsCalled g.W.Run.done) h.collector.now.places.capacity (begun Pin h.machine) n.machine (sight_of h) (sight_of n) (told.drives collects))
-          (subst (λ z. Calls (IsCalled g.W.Run.done) z.now.places.capacity n.machine (sight_of n) o.machine (sight_of o)) told.same.collector c.collect.ensures.calls),
+          (subst (λ z. DrivesAndCalls (IsCalled g.W.Run.done) z.now.places.capacity n.machine (sight_of n) o.machine (sight_of o)) told.same.collector c.collect.ensures.calls),
     )
 
 pub returns-clause-counted : goal.returns-clause-counted

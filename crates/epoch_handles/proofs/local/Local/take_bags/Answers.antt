@@ -1,7 +1,7 @@
 use Rattle.std.proofs.Common.{◌≡◌, ◌∙◌, ℕ, sym, ap, subst, arith}
 use Rattle.epoch_bags.specs.declared.job.Job.{Job}
 use Rattle.epoch_bags.specs.declared.queue.TakeStep.{TakeStep}
-use Rattle.epoch_tables.specs.SharedPlaces.{IsOf as IsAt}
+use Rattle.epoch_tables.specs.SharedPlaces.{IsPlaceSeatOf as IsAt}
 use Rattle.epoch_tables.specs.SharedSteps.{TakesAt, TakeMoves}
 use Rattle.epoch_machine.specs.Machine.{Machine, ask_at, took_heard}
 use Rattle.epoch_handles.proofs.Collecting.{take_again, take_ends, hand_called, next_bag, last_bag, one_bag_asked}

@@ -1,5 +1,5 @@
 use Rattle.std.proofs.Common.{ℕ, ◌<◌, ◌≤◌, inl, inr, subst, below_more, arith}
-use Rattle.epoch_laws.specs.Grace.{Withdraws, StaysPinned}
+use Rattle.epoch_laws.specs.Grace.{WithdrawsAt, StaysPinned}
 use Rattle.epoch_laws.proofs.PlacesRead.{read_publishes, one_publishes}
 use Rattle.epoch_laws.proofs.history.grace.somebody_stays_pinned.Goals as goal
 use Rattle.epoch_laws.proofs.history.grace.somebody_stays_pinned.Goals.{in_default, in-Pinned+else-not-withdraws_between}
@@ -13,7 +13,7 @@ loop-place-preserved c =
         | inr is ↦ absurd (w.in_default.not-Repinned who is)
       ]
       | in-Pinned+else-not-withdraws_between w ↦ λ who at. subst
-          (λ (p : ℕ). (k : ℕ) × (place < k) × (k ≤ c.args.until) × Withdraws c.args.entries.now k p)
+          (λ (p : ℕ). (k : ℕ) × (place < k) × (k ≤ c.args.until) × WithdrawsAt c.args.entries.now k p)
           (one_publishes c.args.entries.now place _ w.in-Pinned.who who w.in-Pinned.is
           (read_publishes c.args.entries.now place _ who at))
           (w.withdraws_between.ensures.0 w.if-not-withdraws_between.false)

@@ -1,5 +1,5 @@
 use Rattle.std.proofs.Common.{ℕ, inl, inr, refl, subst, below_more, arith}
-use Rattle.epoch_laws.specs.Grace.{Withdraws}
+use Rattle.epoch_laws.specs.Grace.{WithdrawsAt}
 use Rattle.epoch_laws.proofs.PlacesRead.{withdraws_read, read_withdraws, one_withdraws}
 use Rattle.epoch_laws.proofs.history.grace.withdraws_between.Goals as goal
 use Rattle.epoch_laws.proofs.history.grace.withdraws_between.Goals.{in_default, in-Unpinned+else-other-who}
@@ -7,13 +7,13 @@ use Rattle.epoch_laws.proofs.history.grace.withdraws_between.Goals.{in_default, 
 pub returns-then-other-who : goal.returns-then-other-who
 returns-then-other-who c =
     let place = c.loop-place.place in
-    let found : Withdraws c.args.entries.now place c.in-Unpinned.other =
+    let found : WithdrawsAt c.args.entries.now place c.in-Unpinned.other =
     withdraws_read c.args.entries.now place _ c.in-Unpinned.other (omega arith) c.in-Unpinned.is in (
       λ yes. (
         place,
         omega arith,
         omega arith,
-        subst (λ (p : ℕ). Withdraws c.args.entries.now place p) c.if-other-who.true found,
+        subst (λ (p : ℕ). WithdrawsAt c.args.entries.now place p) c.if-other-who.true found,
       ),
       λ some. refl,
     )

@@ -2,7 +2,7 @@ use Rattle.std.proofs.Common.{ℕ, Bool, List, [], ◌∙◌, sym, refl, subst, 
 use Rattle.std.proofs.lemmas.List.{length-set}
 use Rattle.epoch_laws.specs.declared.step.Step.TheVariants.{Begin}
 use Rattle.epoch_laws.specs.declared.step.Reply.TheVariants.{Began}
-use Rattle.epoch_laws.specs.Run.{State, Takes, with_places}
+use Rattle.epoch_laws.specs.Run.{State, TakesStep, with_places}
 use Rattle.epoch_world.specs.Worlds.{state_of, ending_of, aheads}
 use Rattle.epoch_world.proofs.AcceptedCalls.{IsGiven, given_rests, given_quiet, given_away, given_aheads, given_moves, refused_takes}
 use Rattle.epoch_world.proofs.CollectionSteps.{claims_quiet}
@@ -57,7 +57,7 @@ returns g c =
     let all = slice_set c.self.inside.seats.items c.args.position c.begin.new.self in
     let was : List ℕ = aheads (λ x cursor. g.S.BagStore.ahead x c.self.inside.store cursor) c.self.inside.seats.items c.self.inside.taking.items in
     let is : List ℕ = aheads (λ x cursor. g.S.BagStore.ahead x c.self.inside.store cursor) all c.self.inside.taking.items in
-    subst (λ (s : State). Takes s (Begin c.args.position c.args.call) Began (with_places (record old { seats = all }) (g.S.BagStore.occupied c.self.inside.store) seen is room)) c.self.view_is (
+    subst (λ (s : State). TakesStep s (Begin c.args.position c.args.call) Began (with_places (record old { seats = all }) (g.S.BagStore.occupied c.self.inside.store) seen is room)) c.self.view_is (
       given_moves _ _ _ _ _ _ given c.begin.new.self (g.S.BagStore.occupied c.self.inside.store) seen was room c.begin.ensures,
       (
         refl,

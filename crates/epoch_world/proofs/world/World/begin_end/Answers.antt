@@ -4,7 +4,7 @@ use Rattle.epoch_world.specs.declared.world.EndStage.{EndStage}
 use Rattle.epoch_laws.specs.declared.step.Deferral.{Deferral}
 use Rattle.epoch_laws.specs.declared.step.Reply.TheVariants.{Began, Refused}
 use Rattle.epoch_laws.specs.declared.step.Step.TheVariants.{End as EndStep}
-use Rattle.epoch_laws.specs.Run.{State, Open, Emptying, Takes, with_places}
+use Rattle.epoch_laws.specs.Run.{State, Open, Emptying, TakesStep, with_places}
 use Rattle.epoch_world.specs.Worlds.{state_of, ending_of, aheads}
 use Rattle.epoch_world.proofs.WorldKept.{kept_moves}
 use Rattle.epoch_world.proofs.WorldSteps.{end_moves, end_refused}
@@ -18,7 +18,7 @@ returns-then-not-all_free g c =
     (aheads (λ x cursor. g.S.BagStore.ahead x c.self.inside.store cursor) c.self.inside.seats.items c.self.inside.taking.items)
     (map (λ cursor. g.S.BagStore.has_room c.self.inside.store cursor) c.self.inside.putting.items) in
     let opened : old.ending ≡ Open = ap (λ (e : EndStage). ending_of e c.self.inside.hand.jobs c.self.inside.count) c.in-Open.is in
-    subst (λ (s : State). Takes s EndStep (Refused ParticipantsLeft) s) c.self.view_is (end_refused old opened (c.all_free.ensures.no c.if-not-all_free.true))
+    subst (λ (s : State). TakesStep s EndStep (Refused ParticipantsLeft) s) c.self.view_is (end_refused old opened (c.all_free.ensures.no c.if-not-all_free.true))
 
 pub invariant_of-self : goal.invariant_of-self
 invariant_of-self g c =
@@ -48,4 +48,4 @@ returns g c =
     let opened : old.ending ≡ Open = ap (λ (e : EndStage). ending_of e c.self.inside.hand.jobs c.self.inside.count) c.in-Open.is in
     let new : State = record old { ending = Emptying c.seal-self-inside.result.jobs 0 } in
     let emptying : new ≡ record old { ending = Emptying [] 0 } = ap (λ (hand : List Deferral). record old { ending = Emptying hand 0 }) (c.seal-self-inside.ensures.jobs ∙ c.new.ensures.empty) in
-    subst (λ (s : State). Takes s EndStep Began new) c.self.view_is (end_moves old new opened (c.all_free.ensures.yes c.if-not-all_free.false) emptying, (refl, refl, refl, refl))
+    subst (λ (s : State). TakesStep s EndStep Began new) c.self.view_is (end_moves old new opened (c.all_free.ensures.yes c.if-not-all_free.false) emptying, (refl, refl, refl, refl))

@@ -1,7 +1,7 @@
 use Rattle.std.proofs.Common.{ℕ, ◌∙◌, refl, sym, subst, subst₂, List, [], map, arith, slice_set}
 use Rattle.std.proofs.lemmas.List.{length-set}
 use Rattle.epoch_laws.specs.declared.step.Step.TheVariants.{Go}
-use Rattle.epoch_laws.specs.Run.{State, Ending, Takes, with_places}
+use Rattle.epoch_laws.specs.Run.{State, Ending, TakesStep, with_places}
 use Rattle.epoch_world.specs.Worlds.{state_of, ending_of, aheads, ClaimsKnown, ReservesKnown}
 use Rattle.epoch_world.proofs.CollectionSteps.{claims_known, none_claimed, set_back}
 use Rattle.epoch_world.proofs.RoomSteps.{free_where, reserves_known}
@@ -47,7 +47,7 @@ returns g c =
     state_of c.self.inside.sizes c.go_on.new.epoch c.go_on.new.seats.items (g.S.BagStore.queued c.go_on.new.store) c.go_on.new.tickets ending c.go_on.new.heap in
     let puts = slice_set c.self.inside.putting.items c.args.position c.go_on.new.putting in
     let ahead : List ℕ = aheads (λ x cursor. g.S.BagStore.ahead x c.go_on.new.store cursor) c.go_on.new.seats.items (slice_set c.self.inside.taking.items c.args.position c.go_on.new.taking) in
-    subst (λ (s : State). Takes s (Go c.args.position) c.go_on.result
+    subst (λ (s : State). TakesStep s (Go c.args.position) c.go_on.result
     (with_places new (g.S.BagStore.occupied c.go_on.new.store) (map g.S.BagStore.passed puts) ahead (map (λ cursor. g.S.BagStore.has_room c.go_on.new.store cursor) puts))) c.self.view_is
     (go_takes_all g.S.BagStore.passed (λ cursor. g.S.BagStore.has_room c.self.inside.store cursor) (λ cursor. g.S.BagStore.has_room c.go_on.new.store cursor)
     c.self.inside.putting.items c.index_mut.result.now c.go_on.new.putting

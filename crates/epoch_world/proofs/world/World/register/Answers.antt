@@ -5,7 +5,7 @@ use Rattle.epoch_world.specs.declared.world.EndStage.{EndStage}
 use Rattle.epoch_laws.specs.declared.step.Reply.TheVariants.{Registered}
 use Rattle.epoch_laws.specs.declared.step.Step.TheVariants.{Register}
 use Rattle.epoch_laws.specs.Collections.{expiry_of}
-use Rattle.epoch_laws.specs.Run.{Seat, State, Takes, free_seat, with_places}
+use Rattle.epoch_laws.specs.Run.{WorldSeat, State, TakesStep, free_seat, with_places}
 use Rattle.epoch_world.specs.Worlds.{state_of, ending_of, aheads}
 use Rattle.epoch_world.proofs.AheadsStay.{same_aheads, none_for, not_taking, not_putting}
 use Rattle.epoch_world.proofs.RoomSteps.{reserves_quiet}
@@ -45,8 +45,8 @@ returns g c =
     let new : State = record old { seats = all; ahead = aheads (λ x cursor. g.S.BagStore.ahead x c.self.inside.store cursor) all c.self.inside.taking.items } in
     let before_rests : expiry_of (slice_index_or c.self.inside.seats.items c.in-Some.index (free_seat c.self.inside.sizes)).machine.stage ≡ 0 =
     none_for _ (c.self.invariant.kept.free c.in-Some.index (c.in-Some.ensures.some.1 _)) in
-    let after_rests : expiry_of c.register.new.self.machine.stage ≡ 0 = ap (λ (seat : Seat). expiry_of seat.machine.stage) c.register.ensures in
-    subst (λ (s : State). Takes s Register (Registered c.in-Some.index) new) c.self.view_is (
+    let after_rests : expiry_of c.register.new.self.machine.stage ≡ 0 = ap (λ (seat : WorldSeat). expiry_of seat.machine.stage) c.register.ensures in
+    subst (λ (s : State). TakesStep s Register (Registered c.in-Some.index) new) c.self.view_is (
       register_moves old _ c.in-Some.index c.register.new.self
           (ap (λ (e : EndStage). ending_of e c.self.inside.hand.jobs c.self.inside.count) c.in-Open.is)
           c.in-Some.ensures.some.0 c.in-Some.ensures.some.1 c.in-Some.ensures.least c.register.ensures refl,

@@ -10,7 +10,7 @@ use Rattle.epoch_laws.proofs.CallsAfterDeferrals.{calls_follow}
 use Rattle.epoch_rounds.proofs.PutFound.{rounds_call_all}
 use Rattle.epoch_rounds.proofs.EachCollectsFew.{collects_few}
 use Rattle.epoch_laws.specs.declared.step.Step.{Step}
-use Rattle.epoch_laws.specs.Run.{Takes}
+use Rattle.epoch_laws.specs.Run.{TakesStep}
 use Rattle.epoch_reach.proofs.ReachRuns.{every_run_keeps_reach}
 use Rattle.epoch_reach.proofs.LoadedStands.{loaded_stand}
 use Rattle.epoch_reach.proofs.NamesOnce.{no_name_twice}
@@ -22,7 +22,7 @@ pub loop-step-preserved : goal.loop-step-preserved
 loop-step-preserved g c = record {
   run = runs_more _ _ _ c.args.steps.now c.loop-step.step-index _ c.loop-step.replies.items _ c.step-reply.result (omega arith)
       c.loop-step.invariant.count c.push_reserved.ensures.items c.loop-step.invariant.run
-      (subst (λ (step : Step). Takes c.loop-step.self step c.step-reply.result c.step-reply.new.self) c.step-item.is c.step-reply.ensures);
+      (subst (λ (step : Step). TakesStep c.loop-step.self step c.step-reply.result c.step-reply.new.self) c.step-item.is c.step-reply.ensures);
   count = ap length c.push_reserved.ensures.items ∙ simp length-append (omega arith);
   room = omega arith;
 }

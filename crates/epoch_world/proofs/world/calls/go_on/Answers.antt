@@ -3,7 +3,7 @@ use Rattle.epoch_world.proofs.CollectionSteps.{set_back}
 use Rattle.epoch_laws.specs.declared.step.Progress.TheVariants.{Driven}
 use Rattle.epoch_laws.specs.declared.step.Step.TheVariants.{Go}
 use Rattle.epoch_laws.specs.Calls.{ends_call}
-use Rattle.epoch_laws.specs.Run.{Seat, State, Open, Moves, with_places, free_seat}
+use Rattle.epoch_laws.specs.Run.{WorldSeat, State, Open, Moves, with_places, free_seat}
 use Rattle.epoch_world.specs.Steps.{InStore, in_store}
 use Rattle.epoch_world.specs.Worlds.{state_of}
 use Rattle.epoch_world.proofs.RoomSteps.{ended_room, ended_reserves}
@@ -39,7 +39,7 @@ returns-in-Some g c =
     let same : slice_set c.args.seats.now.items c.args.index c.index_mut-seat.result.now ≡ c.args.seats.now.items =
     set_back c.args.seats.now.items c.args.index c.index_mut-seat.result.now c.index_mut-seat.ensures.value in
     record {
-      step = λ ending places seen ahead room. subst (λ (items : List Seat). Moves (with_places (state_of c.args.sizes c.args.epoch.now items (g.S.BagStore.queued c.args.store.now) c.args.tickets.now ending c.args.heap.now) places seen ahead room) (Go c.args.index)
+      step = λ ending places seen ahead room. subst (λ (items : List WorldSeat). Moves (with_places (state_of c.args.sizes c.args.epoch.now items (g.S.BagStore.queued c.args.store.now) c.args.tickets.now ending c.args.heap.now) places seen ahead room) (Go c.args.index)
           c.perform.result (with_places (state_of c.args.sizes c.perform.new.epoch c.perform.new.seats.items (g.S.BagStore.queued c.perform.new.store) c.perform.new.tickets ending c.perform.new.heap) places seen ahead room)) same
           (c.perform.ensures.step ending places seen ahead room);
       looks = rw same at c.perform.ensures.looks;
@@ -69,7 +69,7 @@ returns-in-None-clause-reserves g c =
 
 pub returns-in-Accesses-clause-fewer : goal.returns-in-Accesses-clause-fewer
 returns-in-Accesses-clause-fewer g c steady goes_on =
-    let seat : Seat = c.index_mut-seat.result.now in
+    let seat : WorldSeat = c.index_mut-seat.result.now in
     let is : seat ≡ slice_index_or c.args.seats.now.items c.args.index (free_seat c.args.sizes) =
     found_there c.args.seats.now.items c.args.sizes c.args.index seat c.requires.there c.index_mut-seat.ensures.value in
     let bags = g.S.BagStore.capacity c.args.store.now in
@@ -80,7 +80,7 @@ returns-in-Accesses-clause-fewer g c steady goes_on =
 
 pub returns-in-Accesses-clause-steady : goal.returns-in-Accesses-clause-steady
 returns-in-Accesses-clause-steady g c steady goes_on =
-    let seat : Seat = c.index_mut-seat.result.now in
+    let seat : WorldSeat = c.index_mut-seat.result.now in
     let is : seat ≡ slice_index_or c.args.seats.now.items c.args.index (free_seat c.args.sizes) =
     found_there c.args.seats.now.items c.args.sizes c.args.index seat c.requires.there c.index_mut-seat.ensures.value in
     let bags = g.S.BagStore.capacity c.args.store.now in

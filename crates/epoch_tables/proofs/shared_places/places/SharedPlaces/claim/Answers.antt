@@ -1,5 +1,5 @@
 use Rattle.std.proofs.Common.{rules, ◌≡◌, ℕ, ◌∷◌, ap, ◌∙◌, subst, arith}
-use Rattle.epoch_tables.specs.SharedPlaces.{PlaceBoard, IsAtHome, after_claim}
+use Rattle.epoch_tables.specs.SharedPlaces.{PlaceBoard, IsAtHome, after_place_claim}
 use Rattle.epoch_tables.proofs.PlaceClaims.{place_claim_keeps}
 use Rattle.epoch_tables.proofs.shared_places.places.SharedPlaces.claim.Goals as goal
 
@@ -17,4 +17,4 @@ returns-clause-lost g c = λ miss. c.compare_exchange.ensures.2.1 miss c.args.pl
 pub returns-clause-won : goal.returns-clause-won
 returns-clause-won g c = λ hit. let told = c.compare_exchange.ensures.2.2 hit c.args.place c.word_index.ensures in
     let place : ℕ = c.args.place in
-    (told.0, subst (λ (z : ℕ). IsAtHome z told.0) hit told.1, told.2 ∙ ap (λ (z : ℕ). (after_claim c.args.seat.now.me.0 place z told.0, (place, told.0) ∷ c.args.seat.now.me.1)) hit)
+    (told.0, subst (λ (z : ℕ). IsAtHome z told.0) hit told.1, told.2 ∙ ap (λ (z : ℕ). (after_place_claim c.args.seat.now.me.0 place z told.0, (place, told.0) ∷ c.args.seat.now.me.1)) hit)
