@@ -241,7 +241,7 @@ fn a_whole_history_passes(rt: HostRuntime) {
 }
 
 #[test]
-fn pins_stand_only_where_guards_allow(rt: HostRuntime) {
+fn only_the_last_guard_unpins(rt: HostRuntime) {
     want_lawful(
         &rt,
         "only the last guard unpins",
@@ -259,93 +259,48 @@ fn pins_stand_only_where_guards_allow(rt: HostRuntime) {
             done(0),
         ],
     );
-    want_unlawful(&rt, "in no call", &[registered(0), pinned(0)]);
-    want_unlawful(
-        &rt,
-        "in an unpin",
-        &[
-            registered(0),
-            begin(0, Call::Pin),
-            pinned(0),
-            guard(0, 0),
-            begin(0, Call::Unpin(Some(0))),
-            pinned(0),
-        ],
-    );
-    want_unlawful(
-        &rt,
-        "twice in one call",
-        &[registered(0), begin(0, Call::Pin), pinned(0), pinned(0)],
-    );
-    want_unlawful(
-        &rt,
-        "of another participant",
-        &[registered(0), begin(0, Call::Pin), go(0, Reply::Pinned(1))],
-    );
-    want_unlawful(
-        &rt,
-        "with a guard counted",
-        &[
-            registered(0),
-            begin(0, Call::Pin),
-            pinned(0),
-            guard(0, 0),
-            begin(0, Call::Pin),
-            pinned(0),
-        ],
-    );
-    want_unlawful(
-        &rt,
-        "not before the end of the first pin",
-        &[registered(0), begin(0, Call::Pin), guard(0, 0)],
-    );
+}
+
+#[test]
+fn pins_stand_only_where_guards_allow(rt: HostRuntime) {
+    let zero = registered(0);
+    let [pins, publishes, counts] = [begin(0, Call::Pin), pinned(0), guard(0, 0)];
+    let unpins = begin(0, Call::Unpin(Some(0)));
+    want_unlawful(&rt, "in no call", &[zero, publishes]);
+    let unpinning = [zero, pins, publishes, counts, unpins, publishes];
+    want_unlawful(&rt, "in an unpin", &unpinning);
+    let twice = [zero, pins, publishes, publishes];
+    want_unlawful(&rt, "twice in one call", &twice);
+    let anothers = [zero, pins, go(0, Reply::Pinned(1))];
+    want_unlawful(&rt, "of another participant", &anothers);
+    let further = [zero, pins, publishes, counts, pins, publishes];
+    want_unlawful(&rt, "with a guard counted", &further);
+    let unpublished = [zero, pins, counts];
+    want_unlawful(&rt, "not before the end of the first pin", &unpublished);
 }
 
 #[test]
 fn unpins_stand_only_where_guards_allow(rt: HostRuntime) {
-    want_unlawful(
-        &rt,
-        "in a flush",
-        &[
-            registered(0),
-            begin(0, Call::Pin),
-            pinned(0),
-            guard(0, 0),
-            begin(0, Call::Flush(Some(0))),
-            unpinned(0),
-        ],
-    );
+    let zero = registered(0);
+    let [pins, publishes, counts] = [begin(0, Call::Pin), pinned(0), guard(0, 0)];
+    let [flushes, unpins] = [
+        begin(0, Call::Flush(Some(0))),
+        begin(0, Call::Unpin(Some(0))),
+    ];
+    let [further, withdraws] = [guard(0, 1), unpinned(0)];
+    let flushing = [zero, pins, publishes, counts, flushes, withdraws];
+    want_unlawful(&rt, "in a flush", &flushing);
     want_unlawful(
         &rt,
         "with another guard counted",
         &[
-            registered(0),
-            begin(0, Call::Pin),
-            pinned(0),
-            guard(0, 0),
-            begin(0, Call::Pin),
-            guard(0, 1),
-            begin(0, Call::Unpin(Some(0))),
-            unpinned(0),
+            zero, pins, publishes, counts, pins, further, unpins, withdraws,
         ],
     );
-    want_unlawful(
-        &rt,
-        "not before the end of the unpin",
-        &[
-            registered(0),
-            begin(0, Call::Pin),
-            pinned(0),
-            guard(0, 0),
-            begin(0, Call::Unpin(Some(0))),
-            done(0),
-        ],
-    );
-    want_unlawful(
-        &rt,
-        "before the pin of a release",
-        &[registered(0), begin(0, Call::Release), unpinned(0)],
-    );
+    let pinned_still = [zero, pins, publishes, counts, unpins, done(0)];
+    want_unlawful(&rt, "not before the end of the unpin", &pinned_still);
+    let unpublished = [zero, begin(0, Call::Release), withdraws];
+    want_unlawful(&rt, "before the pin of a release", &unpublished);
 }
 
 #[test]
@@ -495,76 +450,40 @@ fn a_call_begins_only_where_its_world_accepts_it(rt: HostRuntime) {
     let zero = registered(0);
     let [pins, publishes, counts] = [begin(0, Call::Pin), pinned(0), guard(0, 0)];
     want_unlawful(&rt, "of nobody", &[pins]);
-    want_unlawful(
-        &rt,
-        "an unpin of no guard",
-        &[zero, begin(0, Call::Unpin(None))],
-    );
-    want_lawful(
-        &rt,
-        "a repin of no guard",
-        &[zero, begin(0, Call::Repin(None)), done(0)],
-    );
-    want_unlawful(
-        &rt,
-        "an unpin of a guard that isn't counted",
-        &[
-            zero,
-            pins,
-            publishes,
-            counts,
-            begin(0, Call::Unpin(Some(5))),
-        ],
-    );
-    want_unlawful(
-        &rt,
-        "a release with a guard counted",
-        &[zero, pins, publishes, counts, begin(0, Call::Release)],
-    );
-    let [pauses, withdraws] = [begin(0, Call::Pause(Some(0))), unpinned(0)];
-    want_unlawful(
-        &rt,
-        "a pin of a paused participant",
-        &[
-            zero,
-            pins,
-            publishes,
-            counts,
-            pauses,
-            withdraws,
-            done(0),
-            pins,
-        ],
-    );
-    let resumes = begin(0, Call::Resume(Some(0)));
-    want_lawful(
-        &rt,
-        "a resume of the paused guard",
-        &[
-            zero,
-            pins,
-            publishes,
-            counts,
-            pauses,
-            withdraws,
-            done(0),
-            resumes,
-        ],
-    );
-    want_unlawful(
-        &rt,
-        "a resume of another",
-        &[
-            zero,
-            pins,
-            publishes,
-            counts,
-            pauses,
-            withdraws,
-            done(0),
-            begin(0, Call::Resume(Some(1))),
-        ],
-    );
+    let unguarded = [zero, begin(0, Call::Unpin(None))];
+    want_unlawful(&rt, "an unpin of no guard", &unguarded);
+    let repinned = [zero, begin(0, Call::Repin(None)), done(0)];
+    want_lawful(&rt, "a repin of no guard", &repinned);
+    let stranger = begin(0, Call::Unpin(Some(5)));
+    let strange = [zero, pins, publishes, counts, stranger];
+    want_unlawful(&rt, "an unpin of a guard that isn't counted", &strange);
+    let releases = begin(0, Call::Release);
+    let released = [zero, pins, publishes, counts, releases];
+    want_unlawful(&rt, "a release with a guard counted", &released);
+}
+
+/// A participant pins and pauses, and then comes this entry.
+fn after_a_pause(next: Entry) -> [Entry; 8] {
+    [
+        registered(0),
+        begin(0, Call::Pin),
+        pinned(0),
+        guard(0, 0),
+        begin(0, Call::Pause(Some(0))),
+        unpinned(0),
+        done(0),
+        next,
+    ]
+}
+
+#[test]
+fn a_paused_participant_only_resumes(rt: HostRuntime) {
+    let pinned = after_a_pause(begin(0, Call::Pin));
+    want_unlawful(&rt, "a pin of a paused participant", &pinned);
+    let resumed = after_a_pause(begin(0, Call::Resume(Some(0))));
+    want_lawful(&rt, "a resume of the paused guard", &resumed);
+    let stranger = after_a_pause(begin(0, Call::Resume(Some(1))));
+    want_unlawful(&rt, "a resume of another", &stranger);
 }
 
 #[test]
