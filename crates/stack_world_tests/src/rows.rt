@@ -110,43 +110,20 @@ fn a_push_that_others_met_is_tried_again(rt: HostRuntime) -> Result<(), Fail> {
         StackReply::World(Reply::Began),
     );
     for _ in 0..10u64 {
-        want(
-            &rt,
-            "the push goes on",
-            stack.step(StackStep::Go(0)),
-            StackReply::World(Reply::Stepped),
-        );
+        let stepped = stack.step(StackStep::Go(0));
+        let goes_on = StackReply::World(Reply::Stepped);
+        want(&rt, "the push goes on", stepped, goes_on);
     }
-    want(
-        &rt,
-        "another's push",
-        push(&mut stack, 1, 2, 1),
-        StackReply::Pushed,
-    );
-    want(
-        &rt,
-        "the second try",
-        to_end(&mut stack, 0, StackStep::Go(0)),
-        StackReply::Pushed,
-    );
-    want(
-        &rt,
-        "the first pop",
-        pop(&mut stack, 1, 1),
-        StackReply::Popped(1),
-    );
-    want(
-        &rt,
-        "the second pop",
-        pop(&mut stack, 0, 1),
-        StackReply::Popped(2),
-    );
-    want(
-        &rt,
-        "the third pop",
-        pop(&mut stack, 0, 1),
-        StackReply::Empty,
-    );
+    let pushed = push(&mut stack, 1, 2, 1);
+    want(&rt, "another's push", pushed, StackReply::Pushed);
+    let pushed = to_end(&mut stack, 0, StackStep::Go(0));
+    want(&rt, "the second try", pushed, StackReply::Pushed);
+    let first = pop(&mut stack, 1, 1);
+    want(&rt, "the first pop", first, StackReply::Popped(1));
+    let second = pop(&mut stack, 0, 1);
+    want(&rt, "the second pop", second, StackReply::Popped(2));
+    let third = pop(&mut stack, 0, 1);
+    want(&rt, "the third pop", third, StackReply::Empty);
     Ok(())
 }
 
@@ -176,71 +153,34 @@ fn refused(fault: Fault) -> StackReply {
 #[test]
 fn refusals_come_in_their_order(rt: HostRuntime) -> Result<(), Fail> {
     let mut stack: Stack = stack_of(&rt, rt.alloc(), shape_of(1, 1, 1, 64))?;
-    want(
-        &rt,
-        "nobody is registered",
-        pop(&mut stack, 0, 1),
-        refused(Fault::NotRegistered),
-    );
-    want(
-        &rt,
-        "past the table",
-        push(&mut stack, 1, 7, 1),
-        refused(Fault::NotRegistered),
-    );
+    let [unregistered, busy] = [refused(Fault::NotRegistered), refused(Fault::Busy)];
+    let stranger = refused(Fault::StrangerGuard);
+    let popped = pop(&mut stack, 0, 1);
+    want(&rt, "nobody is registered", popped, unregistered);
+    let pushed = push(&mut stack, 1, 7, 1);
+    want(&rt, "past the table", pushed, unregistered);
     let _ = stack.step(StackStep::Register);
-    want(
-        &rt,
-        "no guard is out",
-        pop(&mut stack, 0, 1),
-        refused(Fault::StrangerGuard),
-    );
+    want(&rt, "no guard is out", pop(&mut stack, 0, 1), stranger);
     want_done(&rt, &mut stack, 0, Plain::Pin);
     let _ = stack.step(StackStep::Begin(0, Plain::Flush(Some(0))));
-    want(
-        &rt,
-        "a plain call is under way",
-        push(&mut stack, 0, 7, 1),
-        refused(Fault::Busy),
-    );
+    let pushed = push(&mut stack, 0, 7, 1);
+    want(&rt, "a plain call is under way", pushed, busy);
     let _ = to_end(&mut stack, 0, StackStep::Go(0));
     let _ = stack.step(StackStep::Push(0, 0, 7, 1));
-    let again = stack.step(StackStep::Pop(0, 0, 1));
-    want(&rt, "a push is under way", again, refused(Fault::Busy));
+    let popped = stack.step(StackStep::Pop(0, 0, 1));
+    want(&rt, "a push is under way", popped, busy);
     let plain = stack.step(StackStep::Begin(0, Plain::Flush(Some(0))));
-    want(
-        &rt,
-        "a push is under way of a plain call",
-        plain,
-        refused(Fault::Busy),
-    );
+    want(&rt, "a push is under way of a plain call", plain, busy);
     let _ = to_end(&mut stack, 0, StackStep::Go(0));
-    want(
-        &rt,
-        "nothing is under way",
-        stack.step(StackStep::Go(0)),
-        refused(Fault::Idle),
-    );
+    let idle = stack.step(StackStep::Go(0));
+    want(&rt, "nothing is under way", idle, refused(Fault::Idle));
     want_done(&rt, &mut stack, 0, Plain::Pause(Some(0)));
-    want(
-        &rt,
-        "a paused guard",
-        pop(&mut stack, 0, 1),
-        refused(Fault::Busy),
-    );
+    want(&rt, "a paused guard", pop(&mut stack, 0, 1), busy);
     want_done(&rt, &mut stack, 0, Plain::Resume(Some(0)));
-    want(
-        &rt,
-        "another guard",
-        stack.step(StackStep::Pop(0, 1, 1)),
-        refused(Fault::StrangerGuard),
-    );
-    want(
-        &rt,
-        "its own guard",
-        pop(&mut stack, 0, 1),
-        StackReply::Popped(7),
-    );
+    let other = stack.step(StackStep::Pop(0, 1, 1));
+    want(&rt, "another guard", other, stranger);
+    let own = pop(&mut stack, 0, 1);
+    want(&rt, "its own guard", own, StackReply::Popped(7));
     Ok(())
 }
 
@@ -327,8 +267,8 @@ fn a_list_of_steps_is_taken_one_by_one(rt: HostRuntime) -> Result<(), Fail> {
     Ok(())
 }
 
-/// `rt try --test --fail-alloc N` refuses the Nth allocation of a test, and this one passes whichever that is. In a plain
-/// run none is refused.
+/// `rt try --test --fail-alloc N` refuses the Nth allocation of a test, and this one passes whichever that is. In a
+/// plain run none is refused.
 #[test]
 fn steps_to_which_memory_is_refused_are_not_taken(rt: HostRuntime) -> Result<(), Fail> {
     let alloc = rt.alloc();
