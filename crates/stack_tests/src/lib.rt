@@ -9,6 +9,8 @@ mod meetings;
 #[cfg(test)]
 mod memory;
 #[cfg(test)]
+mod plays;
+#[cfg(test)]
 mod program;
 #[cfg(test)]
 mod refusals;

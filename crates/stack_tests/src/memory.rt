@@ -1,5 +1,5 @@
-//! Memory that is refused to a push: `rt try --test --fail-alloc N` refuses the Nth allocation of each test, and each of
-//! these tests passes whichever that is. In a plain run no allocation is refused.
+//! Memory that is refused to a push: `rt try --test --fail-alloc N` refuses the Nth allocation of each test, and each
+//! of these tests passes whichever that is. In a plain run no allocation is refused.
 use crate::calls::{
     Handle, Nodes, Pin, end, pin, register, release, told, unpin, want, want_empty, want_pop,
 };

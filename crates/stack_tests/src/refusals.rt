@@ -1,8 +1,9 @@
 //! Refused pushes and pops, in the order of their faults, and what each leaves.
 use crate::calls::{
     Handle, Nodes, Pin, collector, end, let_go, numbered, one_job_a_bag, pin, pop, push, register,
-    release, unpin, want, want_empty, want_pop, want_push, want_round,
+    release, unpin, want, want_pop, want_push, want_round,
 };
+use crate::plays::{Deed, Pinned, play};
 use epoch_base::Fault;
 use epoch_pin::{Capacities, unprotected};
 use epoch_stack::Stack;
@@ -99,102 +100,81 @@ fn beside(rt: &impl Abort, alloc: Global, other: Nodes) -> Result<(Nodes, Nodes)
     }
 }
 
+// The first removal is put, and the second one held, as in `filled`; the cells are full too, and no try is to be made. The
+// flushes of the refused calls found their own pin at 0, which held the epoch at 1. The bag in the place was sealed with 1:
+// the second round calls it in epoch 3.
+const WITHOUT_A_PLACE: &[Pinned] = &[
+    (
+        &[
+            Deed::Push(1),
+            Deed::Push(2),
+            Deed::Push(3),
+            Deed::Pop(3),
+            Deed::Pop(2),
+            Deed::Room(false),
+            Deed::Refused(4, 0, Fault::BagsFull),
+            Deed::Kept(0, Fault::BagsFull),
+            Deed::Room(false),
+            Deed::Empty(false),
+        ],
+        &[Err(Fault::BagsFull), Err(Fault::BagsFull)],
+    ),
+    (&[Deed::Pop(1), Deed::Empty(true)], &[Err(Fault::BagsFull)]),
+];
+
 #[test]
 fn without_a_place_nothing_is_pushed_or_popped(rt: HostRuntime) -> Result<(), Fail> {
-    let alloc = rt.alloc();
-    let collector = collector(&rt, alloc, one_job_a_bag(1, 3))?;
-    let stack = Stack::new(&collector);
-    let mut handle = register(&rt, &collector);
-    let guard = pin(&rt, &mut handle);
-    filled(&rt, alloc, &stack, &mut handle, &guard);
-    // The cells are full too, and no try is to be made.
-    let no_place = Some(Fault::BagsFull);
-    want_push(&rt, alloc, &stack, &mut handle, &guard, (4, 0), no_place);
-    want_pop(&rt, &stack, &mut handle, &guard, 0, Err(Fault::BagsFull));
-    want(
-        &rt,
-        "room beside the removal of 2",
-        handle.has_room(),
-        false,
-    );
-    want(&rt, "whether it is empty", stack.is_empty(&guard), false);
-    unpin(&rt, &mut handle, guard);
-    // The flushes of the refused calls found their own pin at 0, which held the epoch at 1. The bag in the place was
-    // sealed with 1: the second round calls it in epoch 3.
-    want_round(&rt, &mut handle, Err(Fault::BagsFull));
-    want_round(&rt, &mut handle, Err(Fault::BagsFull));
-    let guard = pin(&rt, &mut handle);
-    pop(&rt, &stack, &mut handle, &guard, 1);
-    want(&rt, "whether it is empty", stack.is_empty(&guard), true);
-    unpin(&rt, &mut handle, guard);
-    want_round(&rt, &mut handle, Err(Fault::BagsFull));
-    release(&rt, handle);
-    drop(stack);
-    end(&rt, collector, 1);
-    Ok(())
+    play(&rt, rt.alloc(), one_job_a_bag(1, 3), WITHOUT_A_PLACE, 1)
 }
+
+// Full cells are told before tries that are out.
+const FULL_CELLS: &[Pinned] = &[(
+    &[
+        Deed::Push(1),
+        Deed::Refused(2, 1, Fault::CellsFull),
+        Deed::Refused(3, 0, Fault::CellsFull),
+        Deed::Pop(1),
+        Deed::Nothing,
+    ],
+    &[],
+)];
 
 #[test]
 fn a_push_into_full_cells_pushes_nothing(rt: HostRuntime) -> Result<(), Fail> {
-    let alloc = rt.alloc();
-    let collector = collector(&rt, alloc, Capacities::usual(1, 1, 1))?;
-    let stack = Stack::new(&collector);
-    let mut handle = register(&rt, &collector);
-    let guard = pin(&rt, &mut handle);
-    push(&rt, alloc, &stack, &mut handle, &guard, 1);
-    let full = Some(Fault::CellsFull);
-    want_push(&rt, alloc, &stack, &mut handle, &guard, (2, 1), full);
-    // Full cells are told before tries that are out.
-    want_push(&rt, alloc, &stack, &mut handle, &guard, (3, 0), full);
-    pop(&rt, &stack, &mut handle, &guard, 1);
-    want_empty(&rt, &stack, &mut handle, &guard);
-    unpin(&rt, &mut handle, guard);
-    release(&rt, handle);
-    drop(stack);
-    end(&rt, collector, 1);
-    Ok(())
+    play(&rt, rt.alloc(), Capacities::usual(1, 1, 1), FULL_CELLS, 1)
 }
 
 // The node of a push in no try takes a cell until its removal is called.
+const A_PUSH_IN_NO_TRY: &[Pinned] = &[
+    (
+        &[
+            Deed::Refused(1, 0, Fault::TriesOut),
+            Deed::Nothing,
+            Deed::Refused(2, 1, Fault::CellsFull),
+        ],
+        &[Ok(()), Ok(())],
+    ),
+    (&[Deed::Push(3)], &[]),
+];
+
 #[test]
 fn a_push_in_no_try_pushes_nothing_and_defers_its_removal(rt: HostRuntime) -> Result<(), Fail> {
-    let alloc = rt.alloc();
-    let collector = collector(&rt, alloc, Capacities::usual(1, 1, 1))?;
-    let stack = Stack::new(&collector);
-    let mut handle = register(&rt, &collector);
-    let guard = pin(&rt, &mut handle);
-    let out = Some(Fault::TriesOut);
-    want_push(&rt, alloc, &stack, &mut handle, &guard, (1, 0), out);
-    want_empty(&rt, &stack, &mut handle, &guard);
-    let full = Some(Fault::CellsFull);
-    want_push(&rt, alloc, &stack, &mut handle, &guard, (2, 1), full);
-    unpin(&rt, &mut handle, guard);
-    want_round(&rt, &mut handle, Ok(()));
-    want_round(&rt, &mut handle, Ok(()));
-    let guard = pin(&rt, &mut handle);
-    push(&rt, alloc, &stack, &mut handle, &guard, 3);
-    unpin(&rt, &mut handle, guard);
-    release(&rt, handle);
-    drop(stack);
-    end(&rt, collector, 0);
-    Ok(())
+    let capacities = Capacities::usual(1, 1, 1);
+    play(&rt, rt.alloc(), capacities, A_PUSH_IN_NO_TRY, 0)
 }
+
+const A_POP_IN_NO_TRY: &[Pinned] = &[(
+    &[
+        Deed::Kept(0, Fault::TriesOut),
+        Deed::Push(1),
+        Deed::Kept(0, Fault::TriesOut),
+        Deed::Pop(1),
+    ],
+    &[],
+)];
 
 #[test]
 fn a_pop_in_no_try_leaves_the_value(rt: HostRuntime) -> Result<(), Fail> {
-    let alloc = rt.alloc();
-    let collector = collector(&rt, alloc, Capacities::usual(1, 1, 1))?;
-    let stack = Stack::new(&collector);
-    let mut handle = register(&rt, &collector);
-    let guard = pin(&rt, &mut handle);
-    let out = Err(Fault::TriesOut);
-    want_pop(&rt, &stack, &mut handle, &guard, 0, out);
-    push(&rt, alloc, &stack, &mut handle, &guard, 1);
-    want_pop(&rt, &stack, &mut handle, &guard, 0, out);
-    pop(&rt, &stack, &mut handle, &guard, 1);
-    unpin(&rt, &mut handle, guard);
-    release(&rt, handle);
-    drop(stack);
-    end(&rt, collector, 1);
-    Ok(())
+    let capacities = Capacities::usual(1, 1, 1);
+    play(&rt, rt.alloc(), capacities, A_POP_IN_NO_TRY, 1)
 }

@@ -84,7 +84,7 @@ fn count(rt: &impl Abort, counts: &[AtomicU64], popped: Option<u64>) {
     }
 }
 
-/// Pushes each of `values` values from `first` on, and pops one behind each.
+/// Pushes each of `values` values from `first` on, and pops one after each.
 fn push_and_pop<R: Abort + Wait>(
     rt: &R,
     alloc: Global,
@@ -155,7 +155,7 @@ fn each_value_of_8_threads_comes_off_once(rt: HostRuntime) -> Result<(), Fail> {
     Ok(())
 }
 
-/// Pushes the numbers below 5, and pops a value behind each.
+/// Pushes the numbers below 5, and pops a value after each.
 fn push_and_pop_some<R: Abort + Wait>(
     rt: &R,
     alloc: Global,
