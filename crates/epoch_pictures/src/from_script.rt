@@ -9,9 +9,9 @@ use std::io::{BufRead, Write};
 
 /// Does the lines of `reader` as `epoch_script::run` does, and writes a picture of all steps to `out`.
 ///
-/// Answers the exit status, that of `epoch-run`: 0, or 2 at a line that is no shape or no step or asks for a step past the
-/// 5,000th, of which `faults` is told, or 3 where a stream fails, or 4 where an allocation is refused. Where the lines end
-/// so, nothing is written to `out`.
+/// Answers the exit status, that of `epoch-run`: 0, or 2 at a line that is no shape or no step or asks for a step past
+/// the 5,000th, of which `faults` is told, or 3 where a stream fails, or 4 where an allocation is refused. Where the
+/// lines end so, nothing is written to `out`.
 pub fn run<R: BufRead, W: Write, F: Write>(
     alloc: Global,
     reader: &mut R,

@@ -78,9 +78,11 @@ pub struct Picture {
 
 /// Lays the steps of a run out. `AllocError`: an allocation was refused.
 pub fn lay_out(alloc: Global, moments: &[Moment]) -> Result<Picture, AllocError>
-    // A lane for each participant that ever registered, and a pin, a call, a mark or an arrow for each reply that tells of one.
+    // A lane for each participant that ever registered, and a pin, a call, a mark or an arrow for each reply that tells of
+    // one.
     ensures lanes { IfOk result (λ picture. picture.participants ≡ lanes_told moments.now) }
-    ensures registrations { IfOk result (λ picture. length picture.registrations.items ≡ count_by registers moments.now) }
+    ensures registrations { IfOk result (λ picture.
+        length picture.registrations.items ≡ count_by registers moments.now) }
     ensures calls { IfOk result (λ picture. length picture.calls.items ≡ count_by begins moments.now) }
     ensures pins { IfOk result (λ picture. length picture.pins.items ≡ count_by pins moments.now) }
     ensures deferrals { IfOk result (λ picture. length picture.deferrals.items ≡ count_by defers moments.now) }

@@ -26,8 +26,8 @@ impl From<Ending> for Stop {
     }
 }
 
-/// Does the lines of a script in a new world, as `epoch_script::run` does, and answers all steps. Nothing is printed, and
-/// `epoch` and `word` do nothing.
+/// Does the lines of a script in a new world, as `epoch_script::run` does, and answers all steps. Nothing is printed,
+/// and `epoch` and `word` do nothing.
 pub fn record<R: BufRead>(alloc: Global, script: &mut Script<'_, R>) -> Result<Vec<Moment>, Stop> {
     if !script.advance()? {
         return Ok(Vec::new(alloc));
@@ -121,7 +121,8 @@ fn pinned_in(world: &World, lane: Option<u64>) -> Option<u64> {
     if word % 2 == 1 { Some(word / 2) } else { None }
 }
 
-/// The first place whose word is another than it was, and that word. It is then known. A step changes one place at most.
+/// The first place whose word is another than it was, and that word. It is then known. A step changes one place at
+/// most.
 fn changed_place(world: &World, words: &mut [u64]) -> Option<(u64, u64)> {
     for place in 0..words.len() {
         let word = world.place(place as u64)?;

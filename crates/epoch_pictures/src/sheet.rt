@@ -119,50 +119,55 @@ impl<'p> Sheet<'p> {
         self.top_of_places() + PLACE * u64::from(self.places)
     }
 
-    /// The paper, and the names of the lanes.
+    /// The paper, and the ground and the name of each lane.
     fn draw_ground<W: Write>(&self, pen: &mut Pen<'_, W>) -> io::Result<()> {
-        let (width, height) = (self.width(), self.bottom() + legend::HEIGHT);
+        self.draw_strip(pen, "page", 0, self.bottom() + legend::HEIGHT)?;
+        for lane in 0..self.lanes {
+            self.draw_lane_ground(pen, lane)?;
+        }
+        for place in 0..self.places {
+            self.draw_place_ground(pen, u64::from(place))?;
+        }
+        Ok(())
+    }
+
+    /// An area as wide as the paper.
+    fn draw_strip<W: Write>(
+        &self,
+        pen: &mut Pen<'_, W>,
+        class: &'static str,
+        top: u64,
+        height: u64,
+    ) -> io::Result<()> {
+        let width = self.width();
         pen.rect(
-            "page",
+            class,
             Area {
                 left: 0,
-                top: 0,
+                top,
                 width,
                 height,
             },
-        )?;
-        for lane in 0..self.lanes {
-            let (number, top) = (u64::from(lane), self.top_of(Some(u64::from(lane))));
-            pen.rect(
-                "shade",
-                Area {
-                    left: 0,
-                    top,
-                    width,
-                    height: LANE - 4,
-                },
-            )?;
-            if lane < self.picture.participants {
-                pen.number("lane", (8, top + 36), "participant ", number, LEFT)?;
-            } else {
-                pen.text("lane", (8, top + 36), "collector")?;
-            }
+        )
+    }
+
+    /// The ground and the name of a participant's lane, or of the collector's.
+    fn draw_lane_ground<W: Write>(&self, pen: &mut Pen<'_, W>, lane: u32) -> io::Result<()> {
+        let number = u64::from(lane);
+        let top = self.top_of(Some(number));
+        self.draw_strip(pen, "shade", top, LANE - 4)?;
+        if lane < self.picture.participants {
+            pen.number("lane", (8, top + 36), "participant ", number, LEFT)
+        } else {
+            pen.text("lane", (8, top + 36), "collector")
         }
-        for place in 0..self.places {
-            let number = u64::from(place);
-            let top = self.top_of_place(number);
-            pen.rect(
-                "shade",
-                Area {
-                    left: 0,
-                    top,
-                    width,
-                    height: PLACE - 4,
-                },
-            )?;
-            pen.number("lane", (8, top + 15), "place ", number, LEFT)?;
-        }
-        Ok(())
+    }
+
+    /// The ground and the name of a place's lane.
+    fn draw_place_ground<W: Write>(&self, pen: &mut Pen<'_, W>, place: u64) -> io::Result<()> {
+        let top = self.top_of_place(place);
+        self.draw_strip(pen, "shade", top, PLACE - 4)?;
+        pen.number("lane", (8, top + 15), "place ", place, LEFT)
     }
 
     /// The columns, and above them the numbers of the steps.
