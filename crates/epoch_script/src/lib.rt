@@ -2,14 +2,14 @@
 #![tactic(auto)]
 
 mod accesses;
-mod engine;
 mod lines;
 mod printing;
+mod script;
 mod size;
 mod words;
 
-pub use engine::{Ending, Script, run, tell_ending};
 pub use lines::{Command, read_command, read_shape};
 pub use printing::Printed;
+pub use script::{Ending, Script, run, tell_ending};
 pub use size::Size;
 pub use words::read_number;

@@ -37,7 +37,7 @@ fn add_char(lines: &mut String, c: char, number: u64) -> Result<(), AllocError> 
     }
 }
 
-/// What a run of the engine gave.
+/// What a run of a script gave.
 #[derive(Drop)]
 pub struct Outcome {
     pub ending: Ending,
@@ -45,13 +45,13 @@ pub struct Outcome {
     pub faults: Vec<u8>,
 }
 
-/// Runs the engine on these bytes.
+/// Runs the script of these bytes.
 pub fn outcome_of(alloc: Global, script: &[u8]) -> Outcome {
     let mut reader = script;
     outcome_of_reader(alloc, &mut reader)
 }
 
-/// Runs the engine on what this reader gives.
+/// Runs the script that this reader gives.
 pub fn outcome_of_reader<R: BufRead>(alloc: Global, reader: &mut R) -> Outcome {
     let mut answers = Vec::new(alloc);
     let mut faults = Vec::new(alloc);

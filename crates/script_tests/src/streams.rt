@@ -339,7 +339,7 @@ impl Write for FailingWriter {
     }
 }
 
-/// Runs the engine where its answers have this room. Its outcome has those that were taken.
+/// Runs a script where its answers have this room. Its outcome has those that were taken.
 fn outcome_with_room(alloc: Global, room: usize) -> Outcome {
     let mut reader = &b"shape 1 0 0 0 1 1 0 0\nregister\ncall 0 pin\nepoch\nnothing\n"[..];
     let mut answers = FailingWriter::new(alloc, room);
