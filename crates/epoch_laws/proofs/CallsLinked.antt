@@ -14,7 +14,7 @@ use Rattle.epoch_laws.specs.declared.step.Progress.TheVariants.{Idle, Accesses, 
 use Rattle.epoch_laws.specs.Run.{WorldSeat, is_out, without, lowest, call_refusal, drives, begun_seat, with_guards, ended_seat}
 use Rattle.epoch_laws.proofs.SeatLemmas.{guard_given}
 use Rattle.epoch_laws.proofs.SeatLinks.{action_of, BeganUnder, IsDriven, IsLinked, follows_at, progress_linked}
-use Rattle.epoch_laws.proofs.MachineGoesOn.{first_on}
+use Rattle.epoch_machine.proofs.UnderWay.{first_on}
 use Rattle.epoch_heap.specs.declared.access.Access.{Access}
 use Rattle.epoch_heap.specs.declared.access.Answer.TheVariants.{Absent}
 use Rattle.epoch_laws.specs.declared.step.Reply.TheVariants.{Done}

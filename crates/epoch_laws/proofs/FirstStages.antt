@@ -5,9 +5,9 @@ use Rattle.epoch_machine.specs.declared.machine.Action.{Action}
 use Rattle.epoch_machine.specs.declared.machine.Action.TheVariants.{Pin, Unpin, Repin, Defer, Flush, Release}
 use Rattle.epoch_machine.specs.declared.machine.Stage.TheVariants.{LoadPin, LoadScan, LoadSeal, Keep, LoadRepin, StoreUnpinned, End}
 use Rattle.epoch_machine.specs.Machine.{Machine, is_empty, first_stage, begun}
+use Rattle.epoch_machine.proofs.StagesAfter.{by_test, either_way}
 use Rattle.epoch_laws.specs.declared.step.Deferral.{Deferral}
 use Rattle.epoch_laws.proofs.SeatsFine.{View, IsNext}
-use Rattle.epoch_laws.proofs.NextStages.{next_either, next_by_test}
 
 -- what an action that begins knows of the guards counted
 abbrev pub Allows : Action → ℕ → Type 0
@@ -32,23 +32,23 @@ some_of_rest n some more = grind (arith, nat_tests)
 
 pub next_begun : (v : View) (p : ℕ) (m : Machine Deferral) (a : Action) → Allows a m.guards
     → IsNext v p (not (m.guards == 0)) (begun a m) (first_stage a m)
-next_begun v p m Pin given = next_by_test v p _ (begun Pin m) (m.guards == 0) LoadPin End
+next_begun v p m Pin given = by_test (IsNext v p _ (begun Pin m)) (m.guards == 0) LoadPin End
     (λ none. record { publishes = ap not (sym none); aims = some_of_more m.guards; knows = tt })
     (λ more. record { publishes = ap not (some_of_more m.guards ∙ sym more); aims = tt; knows = tt })
 next_begun v p m Unpin given = let some = some_of_some m.guards given in
-    next_by_test v p _ (begun Unpin m) (m.guards == 1) StoreUnpinned End
+    by_test (IsNext v p _ (begun Unpin m)) (m.guards == 1) StoreUnpinned End
     (λ last. record { publishes = ap not (sym some); aims = none_of_last m.guards last; knows = tt })
     (λ more. record { publishes = ap not (some_of_rest m.guards given more ∙ sym some); aims = tt; knows = tt })
 next_begun v p m Repin given = let some = some_of_some m.guards given in
-    next_either v p _ (begun Repin m) (m.guards == 1) LoadRepin End
+    either_way (IsNext v p _ (begun Repin m)) (m.guards == 1) LoadRepin End
     (record { publishes = ap not (sym some); aims = some; knows = tt })
     (record { publishes = refl; aims = tt; knows = tt })
 next_begun v p m Defer given = let some = some_of_some m.guards given in
-    next_either v p _ (begun Defer m) (length m.held == m.sizes.bag_jobs) LoadSeal Keep
+    either_way (IsNext v p _ (begun Defer m)) (length m.held == m.sizes.bag_jobs) LoadSeal Keep
     (record { publishes = ap not (sym some); aims = some; knows = tt })
     (record { publishes = ap not (sym some); aims = some; knows = tt })
 next_begun v p m Flush given = let some = some_of_some m.guards given in
-    next_either v p _ (begun Flush m) (is_empty m.held) LoadScan LoadSeal
+    either_way (IsNext v p _ (begun Flush m)) (is_empty m.held) LoadScan LoadSeal
     (record { publishes = ap not (sym some); aims = some; knows = tt })
     (record { publishes = ap not (sym some); aims = some; knows = tt })
 next_begun v p m Release given = let none = none_of_none m.guards given in

@@ -10,6 +10,7 @@ use Rattle.epoch_machine.specs.declared.machine.Ask.{Ask}
 use Rattle.epoch_machine.specs.declared.machine.Stage.{Stage}
 use Rattle.epoch_machine.specs.declared.machine.Stage.TheVariants.{Idle as Resting, LoadPin, StorePin, ReloadPin, LoadScan, Scan, Advance, Take, Calling, LoadSeal, Put, Keep, LoadRepin, StoreRepin, ReloadRepin, StoreUnpinned, StoreFree, End}
 use Rattle.epoch_machine.specs.Machine.{Machine, after_collect, after_pin, after_job, past_word, ask_at, with_stage, hears, put_heard, took_heard, gives, PutsHeld}
+use Rattle.epoch_machine.proofs.StagesAfter.{either_way}
 use Rattle.epoch_heap.specs.declared.access.Answer.TheVariants.{Unit as UnitAnswer, Released}
 use Rattle.epoch_laws.specs.declared.step.Call.{Call}
 use Rattle.epoch_laws.specs.declared.step.Call.TheVariants.{Defer, Flush, Release, DeferDestroy}
@@ -27,7 +28,6 @@ use Rattle.epoch_laws.specs.Places.{SeesOccupied, PutSees}
 use Rattle.epoch_laws.specs.Run.{Bag, WorldSeat, State, seat_of, position_word, word_number, with_seat, with_word, with_machine, with_places, free_seat, seen_by, occupancy_of, turn_at, turn_of, ended_seat, end_reply, full_or_done, DrivesCall, DoesGo, SeesPlaces, access_reply, accessed_seat, progress_after, removed_by}
 use Rattle.epoch_laws.proofs.SeatLemmas.{seat_there, seat_written}
 use Rattle.epoch_laws.proofs.SeatLinks.{action_of, IsInStep, AllLinked, follows_at}
-use Rattle.epoch_laws.proofs.ToldAtStages.{either_stage}
 use Rattle.epoch_laws.proofs.PutStages.{NoneFound, FoundSeen, FoundWhere, none_missed, puts_bag, NoneYet, FoundAt, found_unpinned, machine_collected, machine_pinned, machine_scanned, machine_called}
 use Rattle.epoch_laws.proofs.SeatsFind.{FoundIn, PutFinds, SameFound, none_still, finds_still, rest_finds, ended_finds, on_finds}
 use Rattle.epoch_laws.proofs.PutSteps.{put_finds, same_step}
@@ -245,7 +245,7 @@ module _ (old new : State) (reply : Reply) (found : ℕ → ℕ → Type 0) (h :
         tells (Deferred old.tickets) _ _ tt finds did.0 did.1 (λ q. refl)
     drives LoadRepin at did =
         moves LoadRepin at (λ no. no) (if m.published == old.epoch then End else StoreRepin old.epoch)
-        (λ any. either_stage Is (m.published == old.epoch) End (StoreRepin old.epoch) tt tt) did
+        (λ any. either_way Is (m.published == old.epoch) End (StoreRepin old.epoch) tt tt) did
     drives (StoreRepin e) at did =
         let n : Machine Deferral = hears m (StoreRepin e) Stored in
         let finds : Finds (with_word seat (Pinned e) n) =

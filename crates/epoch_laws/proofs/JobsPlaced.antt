@@ -1,10 +1,11 @@
 -- Where a participant may have jobs, by the stage of its machine.
-use Rattle.std.proofs.Common.{◌≡◌, ◌≢◌, ℕ, ◌+◌, ◌-◌, ◌^◌, ◌==◌, Bool, true, false, List, [], ◌∷◌, length, Option, Some, None, refl, subst, if◌then◌else◌}
+use Rattle.std.proofs.Common.{◌≡◌, ◌≢◌, ℕ, ◌==◌, Bool, true, false, List, [], ◌∷◌, length, Option, Some, None, refl, subst, if◌then◌else◌}
 use Rattle.epoch_machine.specs.declared.machine.Action.{Action}
 use Rattle.epoch_machine.specs.declared.machine.Action.TheVariants.{Pin, Unpin, Repin, Defer, Flush, Release}
 use Rattle.epoch_machine.specs.declared.machine.Stage.{Stage}
-use Rattle.epoch_machine.specs.declared.machine.Stage.TheVariants.{Idle, LoadPin, Scan, Advance, Take, Calling, LoadScan, LoadSeal, Keep, LoadRepin, StoreUnpinned, StoreFree, End}
-use Rattle.epoch_machine.specs.Machine.{Machine, is_empty, after_collect, after_pin, after_put, after_unpin, after_job, holds_up, scanned, past_word, first_stage, begun}
+use Rattle.epoch_machine.specs.declared.machine.Stage.TheVariants.{Idle, LoadPin, Calling, LoadScan, LoadSeal, Keep, LoadRepin, StoreUnpinned, StoreFree, End}
+use Rattle.epoch_machine.specs.Machine.{Machine, is_empty, after_collect, after_pin, after_put, after_unpin, after_job, past_word, first_stage, begun}
+use Rattle.epoch_machine.proofs.StagesAfter.{either_way, after_pin_at, past_word_at, after_job_at}
 use Rattle.epoch_laws.specs.declared.step.Call.{Call}
 use Rattle.epoch_laws.specs.declared.step.Call.TheVariants.{Pin as PinCall, Unpin as UnpinCall, Repin as RepinCall, Pause, Resume, Defer as DeferCall, Flush as FlushCall, Release as ReleaseCall, DeferDestroy, Access as AccessCall}
 use Rattle.epoch_heap.specs.declared.access.Answer.TheVariants.{Unit as UnitAnswer, Absent}
@@ -47,11 +48,6 @@ pub record PlacesJobs (seat : WorldSeat) (s : Stage) : Type 0 where
 abbrev pub PlacesHere : WorldSeat → Type 0
 PlacesHere seat = PlacesJobs seat seat.machine.stage
 
--- by a test
-pick : (P : Stage → Type 0) (b : Bool) (s t : Stage) → P s → P t → P (if b then s else t)
-pick P true s t one other = one
-pick P false s t one other = other
-
 pub hand_none : (hand : List Deferral) (s : Stage) → hand ≡ [] → HandAt hand s
 hand_none hand (Calling x k) none = tt
 hand_none hand _ none = none
@@ -67,7 +63,7 @@ held_collected m _ jobs is = tt
 
 pub held_pinned : (m n : Machine Deferral) → n.held ≡ m.held → HeldAt n (after_pin m)
 held_pinned m n same =
-    pick (HeldAt n) (m.pins == 1) LoadScan (after_collect m.action m.held) tt (held_collected n m.action m.held same)
+    after_pin_at (HeldAt n) m tt (held_collected n m.action m.held same)
 
 pub held_put : (m : Machine Deferral) (a : Action) (full : Bool)
     → (m.full ≡ false → m.held ≡ [])
@@ -86,32 +82,22 @@ held_unpinned m _ full none = tt
 pub held_called : (m n : Machine Deferral) (x k : ℕ) (jobs : List Deferral)
     → n.held ≡ m.held
     → HeldAt n (after_job m x k jobs)
-held_called m n x k (job ∷ jobs) same = tt
-held_called m n x k [] same =
-    let last : Bool = k + 1 == m.sizes.collect_bags in
-    pick (HeldAt n) last (after_collect m.action m.held) (Take x (k + 1)) (held_collected n m.action m.held same) tt
+held_called m n x k jobs same =
+    after_job_at (HeldAt n) m x k jobs tt tt (held_collected n m.action m.held same)
 
 pub hand_called : (m : Machine Deferral) (x k : ℕ) (jobs : List Deferral) → HandAt jobs (after_job m x k jobs)
 hand_called m x k (job ∷ jobs) = tt
 hand_called m x k [] = hand_none [] _ refl
 
-held_scanned : (m : Machine Deferral) (e : ℕ) → HeldAt m (scanned e)
-held_scanned m e = pick (HeldAt m) (e == 2 ^ 63 - 1) (Take e 0) (Advance e) tt tt
-
 pub held_past : (m : Machine Deferral) (positions e k w : ℕ) → HeldAt m (past_word positions e k w)
-held_past m positions e k w =
-    pick (HeldAt m) (holds_up e w) (Take e 0) _ tt
-    (pick (HeldAt m) (k + 1 == positions) (scanned e) (Scan e (k + 1)) (held_scanned m e) tt)
-
-pub held_by : (m : Machine Deferral) (b : Bool) (s t : Stage) → HeldAt m s → HeldAt m t → HeldAt m (if b then s else t)
-held_by m = pick (HeldAt m)
+held_past m positions e k w = past_word_at (HeldAt m) positions e k w tt tt tt
 
 held_first : (m n : Machine Deferral) (a : Action) → n.action ≡ a → HeldAt n (first_stage a m)
-held_first m n Pin is = pick (HeldAt n) (m.guards == 0) LoadPin End tt tt
-held_first m n Unpin is = pick (HeldAt n) (m.guards == 1) StoreUnpinned End (λ release. absurd (cc)) tt
-held_first m n Repin is = pick (HeldAt n) (m.guards == 1) LoadRepin End tt tt
-held_first m n Defer is = pick (HeldAt n) (length m.held == m.sizes.bag_jobs) LoadSeal Keep tt tt
-held_first m n Flush is = pick (HeldAt n) (is_empty m.held) LoadScan LoadSeal tt tt
+held_first m n Pin is = either_way (HeldAt n) (m.guards == 0) LoadPin End tt tt
+held_first m n Unpin is = either_way (HeldAt n) (m.guards == 1) StoreUnpinned End (λ release. absurd (cc)) tt
+held_first m n Repin is = either_way (HeldAt n) (m.guards == 1) LoadRepin End tt tt
+held_first m n Defer is = either_way (HeldAt n) (length m.held == m.sizes.bag_jobs) LoadSeal Keep tt tt
+held_first m n Flush is = either_way (HeldAt n) (is_empty m.held) LoadScan LoadSeal tt tt
 held_first m n Release is = tt
 
 -- HOW A CALL BEGINS AND ENDS

@@ -19,7 +19,9 @@ use Rattle.epoch_heap.specs.declared.access.Access.{Access}
 use Rattle.epoch_heap.specs.declared.access.Accessed.{Accessed}
 use Rattle.epoch_heap.specs.declared.access.Accessed.TheVariants.{Again, Answers, NoSlot}
 pub use Rattle.epoch_laws.proofs.SeatLinks.{action_of, rests, BeganUnder, IsDriven, IsInStep, IsLinked, AllLinked, free_linked, follows_at, progress_linked, linked_written, linked_along}
-use Rattle.epoch_laws.proofs.MachineGoesOn.{GoesOn, going_on, either_on, pin_on, unpin_on, job_on, word_on, put_goes_on, take_goes_on}
+use Rattle.epoch_machine.proofs.StagesAfter.{either_way}
+use Rattle.epoch_machine.proofs.UnderWay.{IsOn, pin_on, unpin_on, job_on, word_on}
+use Rattle.epoch_laws.proofs.MachineGoesOn.{GoesOn, going_on, put_goes_on, take_goes_on}
 pub use Rattle.epoch_laws.proofs.CallsLinked.{length_without, none_out, begun_linked, ended_linked}
 
 -- A STEP GO
@@ -85,7 +87,7 @@ module _ (old new : State) (p : ℕ) (reply : Reply) (h : AllLinked old) (there 
   go_at c drive Keep on did =
       goes_on c drive _ _ (record { sized = refl; counted = refl; action = refl; under_way = refl }) _ did.1 refl refl
   go_at c drive LoadRepin on did =
-      moves c drive _ (either_on (m.published == old.epoch) End (StoreRepin old.epoch) refl refl) did.1
+      moves c drive _ (either_way IsOn (m.published == old.epoch) End (StoreRepin old.epoch) refl refl) did.1
   go_at c drive (StoreRepin e) on did =
       goes_on c drive _ _ (record { sized = refl; counted = refl; action = refl; under_way = refl }) _ did.1 refl refl
   go_at c drive ReloadRepin on did = moves c drive _ refl did.1

@@ -1,25 +1,12 @@
 -- The stages after a collection, a pin, a put, an unpin and a job are fine.
-use Rattle.std.proofs.Common.{◌≡◌, ℕ, ◌+◌, ◌≤◌, ◌==◌, Bool, true, false, not, List, [], ◌∷◌, refl, ap, subst, if◌then◌else◌}
+use Rattle.std.proofs.Common.{◌≡◌, ℕ, ◌≤◌, Bool, true, false, not, List, [], ◌∷◌, refl, ap, subst}
 use Rattle.epoch_machine.specs.declared.machine.Action.{Action}
 use Rattle.epoch_machine.specs.declared.machine.Action.TheVariants.{Pin, Unpin, Repin, Defer, Flush, Release}
-use Rattle.epoch_machine.specs.declared.machine.Stage.{Stage}
-use Rattle.epoch_machine.specs.declared.machine.Stage.TheVariants.{LoadScan, Take, End}
+use Rattle.epoch_machine.specs.declared.machine.Stage.TheVariants.{End}
 use Rattle.epoch_machine.specs.Machine.{Machine, after_collect, after_pin, after_put, after_unpin, after_job}
+use Rattle.epoch_machine.proofs.StagesAfter.{after_pin_at, after_job_at}
 use Rattle.epoch_laws.specs.declared.step.Deferral.{Deferral}
 use Rattle.epoch_laws.proofs.SeatsFine.{View, is_release, ends_unguarded, IsNext, HandExpired}
-
--- by a test, where both ways are fine
-pub next_either : (v : View) (p : ℕ) (pinned : Bool) (m : Machine Deferral) (b : Bool) (s t : Stage)
-    → IsNext v p pinned m s → IsNext v p pinned m t → IsNext v p pinned m (if b then s else t)
-next_either v p pinned m true s t one other = one
-next_either v p pinned m false s t one other = other
-
--- by a test, where each way may use it
-pub next_by_test : (v : View) (p : ℕ) (pinned : Bool) (m : Machine Deferral) (b : Bool) (s t : Stage)
-    → (b ≡ true → IsNext v p pinned m s) → (b ≡ false → IsNext v p pinned m t)
-    → IsNext v p pinned m (if b then s else t)
-next_by_test v p pinned m true s t one other = one refl
-next_by_test v p pinned m false s t one other = other refl
 
 pub next_end : (v : View) (p : ℕ) (m : Machine Deferral) (b : Bool) → ends_unguarded m ≡ b → IsNext v p (not b) m End
 next_end v p m b h = record { publishes = ap not h; aims = tt; knows = tt }
@@ -43,7 +30,7 @@ next_collected v p m jobs aim = collected v p m m.action jobs aim aim
 
 pub next_pinned : (v : View) (p : ℕ) (m : Machine Deferral) → ends_unguarded m ≡ is_release m.action
     → IsNext v p true m (after_pin m)
-next_pinned v p m aim = next_either v p true m (m.pins == 1) LoadScan (after_collect m.action m.held)
+next_pinned v p m aim = after_pin_at (IsNext v p true m) m
     (record { publishes = refl; aims = aim; knows = tt })
     (next_collected v p m m.held aim)
 
@@ -75,9 +62,7 @@ next_unpinned v p m Flush full aim = next_end v p m true aim
 pub next_job : (v : View) (p : ℕ) (m n : Machine Deferral) (x k : ℕ) (jobs : List Deferral) → n.action ≡ m.action
     → ends_unguarded n ≡ is_release n.action → x ≤ v.epoch → HandExpired v n.hand
     → IsNext v p true n (after_job m x k jobs)
-next_job v p m n x k (job ∷ jobs) same aim seen expired =
-    record { publishes = refl; aims = aim; knows = (seen, expired) }
-next_job v p m n x k [] same aim seen expired =
-    next_either v p true n (k + 1 == m.sizes.collect_bags) (after_collect m.action m.held) (Take x (k + 1))
-    (subst (λ (a : Action). IsNext v p true n (after_collect a m.held)) same (next_collected v p n m.held aim))
+next_job v p m n x k jobs same aim seen expired = after_job_at (IsNext v p true n) m x k jobs
+    (record { publishes = refl; aims = aim; knows = (seen, expired) })
     (record { publishes = refl; aims = aim; knows = seen })
+    (subst (λ (a : Action). IsNext v p true n (after_collect a m.held)) same (next_collected v p n m.held aim))

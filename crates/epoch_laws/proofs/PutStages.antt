@@ -1,13 +1,13 @@
 -- What the put of a call has found of the places, by the stage of its machine, and at the stage behind it.
-use Rattle.std.proofs.Common.{◌≡◌, ◌≢◌, ℕ, ◌+◌, ◌-◌, ◌^◌, ◌<◌, ◌==◌, Bool, true, false, List, [], ◌∷◌, length, refl, arith}
+use Rattle.std.proofs.Common.{◌≡◌, ◌≢◌, ℕ, ◌<◌, ◌==◌, Bool, true, false, List, [], ◌∷◌, length, refl, arith}
 use Rattle.epoch_machine.specs.declared.machine.Action.{Action}
 use Rattle.epoch_machine.specs.declared.machine.Action.TheVariants.{Pin, Unpin, Repin, Defer, Flush, Release}
 use Rattle.epoch_machine.specs.declared.machine.Stage.{Stage}
 use Rattle.epoch_machine.specs.declared.machine.Stage.TheVariants.{LoadPin, StorePin, ReloadPin, LoadScan, Scan, Advance, Take, Calling, LoadSeal, Put, Keep, LoadRepin, StoreUnpinned, StoreFree, End}
-use Rattle.epoch_machine.specs.Machine.{Machine, is_empty, after_collect, after_pin, after_put, after_unpin, after_job, holds_up, scanned, past_word, first_stage}
+use Rattle.epoch_machine.specs.Machine.{Machine, is_empty, after_collect, after_pin, after_put, after_unpin, after_job, past_word, first_stage}
+use Rattle.epoch_machine.proofs.StagesAfter.{either_way, after_pin_at, past_word_at, after_job_at}
 use Rattle.epoch_laws.specs.declared.step.Deferral.{Deferral}
 use Rattle.epoch_laws.specs.Full.{FoundEach}
-use Rattle.epoch_laws.proofs.ToldAtStages.{either_stage}
 
 -- WHAT IS FOUND
 
@@ -81,12 +81,12 @@ module _ (found : ℕ → Type 0) (count seen : ℕ) where
   Began a s = FoundAt found count seen a false s
 
   pub found_first : (a : Action) (m : Machine Deferral) → NoneFound found → Began a (first_stage a m)
-  found_first Pin m none = either_stage (Began Pin) (m.guards == 0) LoadPin End tt tt
-  found_first Unpin m none = either_stage (Began Unpin) (m.guards == 1) StoreUnpinned End tt tt
-  found_first Repin m none = either_stage (Began Repin) (m.guards == 1) LoadRepin End tt tt
+  found_first Pin m none = either_way (Began Pin) (m.guards == 0) LoadPin End tt tt
+  found_first Unpin m none = either_way (Began Unpin) (m.guards == 1) StoreUnpinned End tt tt
+  found_first Repin m none = either_way (Began Repin) (m.guards == 1) LoadRepin End tt tt
   found_first Defer m none =
-      either_stage (Began Defer) (length m.held == m.sizes.bag_jobs) LoadSeal Keep (refl, none) tt
-  found_first Flush m none = either_stage (Began Flush) (is_empty m.held) LoadScan LoadSeal tt (refl, none)
+      either_way (Began Defer) (length m.held == m.sizes.bag_jobs) LoadSeal Keep (refl, none) tt
+  found_first Flush m none = either_way (Began Flush) (is_empty m.held) LoadScan LoadSeal tt (refl, none)
   found_first Release m none = none
 
 -- the same of a machine
@@ -98,17 +98,13 @@ module _ (found : ℕ → Type 0) (count seen : ℕ) (m : Machine Deferral) (non
   machine_collected = found_collected found count seen m.action m.full m.held none
 
   pub machine_pinned : At (after_pin m)
-  machine_pinned = either_stage At (m.pins == 1) LoadScan (after_collect m.action m.held) none machine_collected
+  machine_pinned = after_pin_at At m none machine_collected
 
   pub machine_scanned : (e k w : ℕ) → At (past_word m.sizes.positions e k w)
-  machine_scanned e k w = either_stage At (holds_up e w) (Take e 0) _ none
-      (either_stage At (k + 1 == m.sizes.positions) (scanned e) (Scan e (k + 1))
-      (either_stage At (e == 2 ^ 63 - 1) (Take e 0) (Advance e) none none) none)
+  machine_scanned e k w = past_word_at At m.sizes.positions e k w none none none
 
   pub machine_called : (x k : ℕ) (jobs : List Deferral) → At (after_job m x k jobs)
-  machine_called x k jobs = either_stage At (is_empty jobs) _ (Calling x k)
-      (either_stage At (k + 1 == m.sizes.collect_bags) (after_collect m.action m.held) (Take x (k + 1))
-      machine_collected none) none
+  machine_called x k jobs = after_job_at At m x k jobs none none machine_collected
 
 -- behind a put there is none
 pub put_ends : (a : Action) (full : Bool) (s : ℕ) → after_put a full ≢ Put s

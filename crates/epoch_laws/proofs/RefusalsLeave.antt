@@ -1,5 +1,5 @@
 -- In every run a call that is refused leaves what it has to.
-use Rattle.std.proofs.Common.{◌≡◌, ◌≢◌, ℕ, ◌+◌, ◌-◌, ◌^◌, ◌<◌, ◌==◌, slice_index_or, slice_get, Bool, true, false, List, [], ◌∷◌, length, Option, Some, None, inl, inr, refl, ap, ap₂, sym, subst, ◌∙◌, arith, if◌then◌else◌}
+use Rattle.std.proofs.Common.{◌≡◌, ◌≢◌, ℕ, ◌+◌, ◌<◌, ◌==◌, slice_index_or, slice_get, Bool, true, false, List, [], ◌∷◌, length, Option, Some, None, inl, inr, refl, ap, ap₂, sym, subst, ◌∙◌, arith, if◌then◌else◌}
 use Rattle.std.proofs.lemmas.Bool.Decides.{nat_tests}
 use Rattle.std.proofs.lemmas.List.{set-get_or}
 use Rattle.epoch_bags.specs.declared.queue.PutStep.{PutStep}
@@ -15,7 +15,8 @@ use Rattle.epoch_machine.specs.declared.machine.Ask.TheVariants.{LoadEpoch, Load
 use Rattle.epoch_machine.specs.declared.machine.Stage.{Stage}
 use Rattle.epoch_machine.specs.declared.machine.Stage.TheVariants.{LoadPin, StorePin, ReloadPin, LoadScan, Scan, Advance, Take, Calling, LoadSeal, Put, Keep, StoreUnpinned, StoreFree, End}
 use Rattle.epoch_machine.specs.declared.machine.Answer.TheVariants.{Epoch as EpochFound, Word as WordFound, Stored, Job}
-use Rattle.epoch_machine.specs.Machine.{Machine, with_stage, is_empty, after_collect, after_pin, after_put, after_unpin, after_job, holds_up, scanned, past_word, ask_at, hears, put_heard, took_heard, gives, PutsHeld}
+use Rattle.epoch_machine.specs.Machine.{Machine, with_stage, after_collect, after_pin, after_put, after_unpin, after_job, past_word, ask_at, hears, put_heard, took_heard, gives, PutsHeld}
+use Rattle.epoch_machine.proofs.StagesAfter.{after_pin_at, past_word_at, after_job_at}
 use Rattle.epoch_heap.specs.declared.access.Access.{Access}
 use Rattle.epoch_heap.specs.declared.access.Access.TheVariants.{Place}
 use Rattle.epoch_heap.specs.declared.access.Accessed.{Accessed}
@@ -44,7 +45,6 @@ use Rattle.epoch_laws.proofs.Linked.{step_linked, fresh_linked}
 use Rattle.epoch_laws.proofs.PutsFind.{turn_taken}
 use Rattle.epoch_laws.specs.Lawful.{nothing}
 use Rattle.epoch_laws.proofs.AccessesTold.{IsTold, told_by_touch}
-use Rattle.epoch_laws.proofs.ToldAtStages.{either_stage}
 use Rattle.epoch_laws.proofs.RefusalsSince.{KeptBag, Kept, DeferAt, FlushAt, ReleaseAt, SinceAt, PlaceSince, SinceBy, Since, AllSince, is_plain, plain_since, since_more, begun_since, release_collected, release_unpinned}
 
 keeps_bag : (b a : WorldSeat) → KeptBag b a → KeepsBag b a
@@ -319,16 +319,11 @@ module _ (old new : State) (reply : Reply) (before : ℕ → WorldSeat) (quiet c
     flush_job : (x k : ℕ) (jobs : List Deferral) → got p → (m.full ≡ true → Kept b seat)
         → FlushAt (Kept b seat) (got p) m.full (after_job m x k jobs)
     flush_job x k jobs collecting at =
-        either_stage (FlushAt (Kept b seat) (got p) m.full) (is_empty jobs) _ (Calling x k)
-        (either_stage (FlushAt (Kept b seat) (got p) m.full) (k + 1 == m.sizes.collect_bags)
-        (after_collect m.action m.held) (Take x (k + 1))
-        (flush_collected m.held collecting at) at) at
+        after_job_at (FlushAt (Kept b seat) (got p) m.full) m x k jobs at at (flush_collected m.held collecting at)
 
     flush_word : (e k w : ℕ) → (m.full ≡ true → Kept b seat)
         → FlushAt (Kept b seat) (got p) m.full (past_word m.sizes.positions e k w)
-    flush_word e k w at = either_stage (FlushAt (Kept b seat) (got p) m.full) (holds_up e w) (Take e 0) _ at
-        (either_stage (FlushAt (Kept b seat) (got p) m.full) (k + 1 == m.sizes.positions) (scanned e) (Scan e (k + 1))
-        (either_stage (FlushAt (Kept b seat) (got p) m.full) (e == 2 ^ 63 - 1) (Take e 0) (Advance e) at at) at)
+    flush_word e k w at = past_word_at (FlushAt (Kept b seat) (got p) m.full) m.sizes.positions e k w at at at
 
     flush_puts : (seal : ℕ) (step : PutStep) (last : State) → m.stage ≡ Put seal → Kept b seat → reply ≡ Stepped
         → aside ≡ last → Writes last (with_machine seat (put_heard m step)) → Goal
@@ -405,14 +400,10 @@ module _ (old new : State) (reply : Reply) (before : ℕ → WorldSeat) (quiet c
         (release_collected (KeptBag b seat) (seat.word ≡ Unpinned) m.full held kept)
 
     release_job : (x k : ℕ) (jobs : List Deferral) → KeptBag b seat → Own (after_job m x k jobs)
-    release_job x k jobs kept = either_stage Own (is_empty jobs) _ (Calling x k)
-        (either_stage Own (k + 1 == m.sizes.collect_bags) (after_collect m.action m.held) (Take x (k + 1))
-        (release_to m.held kept) kept) kept
+    release_job x k jobs kept = after_job_at Own m x k jobs kept kept (release_to m.held kept)
 
     release_word : (e k w : ℕ) → KeptBag b seat → Own (past_word m.sizes.positions e k w)
-    release_word e k w kept = either_stage Own (holds_up e w) (Take e 0) _ kept
-        (either_stage Own (k + 1 == m.sizes.positions) (scanned e) (Scan e (k + 1))
-        (either_stage Own (e == 2 ^ 63 - 1) (Take e 0) (Advance e) kept kept) kept)
+    release_word e k w kept = past_word_at Own m.sizes.positions e k w kept kept kept
 
     release_puts : (seal : ℕ) (step : PutStep) (last : State) → m.stage ≡ Put seal → KeptBag b seat → reply ≡ Stepped
         → aside ≡ last → Writes last (with_machine seat (put_heard m step)) → Goal
@@ -456,7 +447,7 @@ module _ (old new : State) (reply : Reply) (before : ℕ → WorldSeat) (quiet c
         tells (PinnedReply p) (with_word seat (Pinned e) n) _ tt did.0 did.1 (λ q. refl)
         (on Release drive (with_word seat (Pinned e) n) refl at)
     release_drives ReloadPin is at did = release_steps (with_stage m (after_pin m)) _ did.0 did.1 (λ q. refl)
-        (either_stage Own (m.pins == 1) LoadScan (after_collect m.action m.held) at (release_to m.held at))
+        (after_pin_at Own m at (release_to m.held at))
     release_drives LoadScan is at did = release_steps (with_stage m (Scan old.epoch 0)) _ did.0 did.1 (λ q. refl) at
     release_drives (Scan e k) is at did =
         let w : ℕ = word_number (position_word old k) in

@@ -4,6 +4,7 @@ use Rattle.epoch_machine.specs.declared.machine.Action.TheVariants.{Release as R
 use Rattle.epoch_machine.specs.declared.machine.Stage.{Stage}
 use Rattle.epoch_machine.specs.declared.machine.Stage.TheVariants.{LoadPin, StorePin, ReloadPin, LoadScan, Scan, Advance, Take, Calling, LoadSeal, Put, Keep, StoreUnpinned, StoreFree, End}
 use Rattle.epoch_machine.specs.Machine.{is_empty, after_collect, after_unpin}
+use Rattle.epoch_machine.proofs.StagesAfter.{either_way}
 use Rattle.epoch_heap.specs.declared.access.Access.{Access}
 use Rattle.epoch_heap.specs.declared.access.Access.TheVariants.{Place}
 use Rattle.epoch_heap.specs.declared.access.Answer.TheVariants.{Absent}
@@ -16,7 +17,6 @@ use Rattle.epoch_laws.specs.declared.step.Progress.TheVariants.{Idle, Driven, Ac
 use Rattle.epoch_laws.specs.declared.step.Reply.TheVariants.{Done}
 use Rattle.epoch_laws.specs.declared.step.Word.TheVariants.{Unpinned}
 use Rattle.epoch_laws.specs.Run.{WorldSeat, State, seat_of, begun_seat}
-use Rattle.epoch_laws.proofs.ToldAtStages.{either_stage}
 
 -- guards, the paused one, the readings and the held bag
 abbrev pub KeptBag : (before after : WorldSeat) → Type 0
@@ -144,7 +144,7 @@ deferral_since : (quiet : Type 0) (seat : WorldSeat) → quiet
     → DeferAt (quiet × Kept seat seat) false
     (if length seat.machine.held == seat.machine.sizes.bag_jobs then LoadSeal else Keep)
 deferral_since quiet seat q =
-    either_stage (DeferAt (quiet × Kept seat seat) false) (length seat.machine.held == seat.machine.sizes.bag_jobs)
+    either_way (DeferAt (quiet × Kept seat seat) false) (length seat.machine.held == seat.machine.sizes.bag_jobs)
     LoadSeal Keep (q, (refl, (refl, refl, refl, refl))) refl
 
 place_since : (quiet collected : Type 0) (seat : WorldSeat) (a : Access) (some : Bool) → seat.progress ≡ Idle → quiet
@@ -161,7 +161,7 @@ begun_since quiet collected seat (DeferDestroy (Some g) ptr) idle q = deferral_s
 begun_since quiet collected seat (DeferDestroy None ptr) idle q = tt
 begun_since quiet collected seat (AccessCall a) idle q = place_since quiet collected seat a (has_steps a) idle q
 begun_since quiet collected seat (Flush (Some g)) idle q =
-    either_stage (FlushAt (Kept seat seat) collected false) (is_empty seat.machine.held)
+    either_way (FlushAt (Kept seat seat) collected false) (is_empty seat.machine.held)
     LoadScan LoadSeal (λ is. absurd (cc (is))) (refl, (refl, refl, refl, refl))
 begun_since quiet collected seat Release idle q = (refl, refl, refl, refl)
 begun_since quiet collected seat Pin idle q = tt

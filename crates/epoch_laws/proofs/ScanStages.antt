@@ -4,13 +4,13 @@ use Rattle.std.proofs.lemmas.Bool.Decides.{nat_tests}
 use Rattle.std.proofs.Math.Nat.{mul-add-mod_self_left}
 use Rattle.epoch_machine.specs.declared.machine.Stage.TheVariants.{Scan, Advance, Take}
 use Rattle.epoch_machine.specs.Machine.{Machine, holds_up, scanned, past_word}
+use Rattle.epoch_machine.proofs.StagesAfter.{by_test, either_way}
 use Rattle.epoch_laws.specs.declared.step.Deferral.{Deferral}
 use Rattle.epoch_laws.specs.declared.step.Word.{Word}
 use Rattle.epoch_laws.specs.declared.step.Word.TheVariants.{Free, Unpinned, Pinned}
 use Rattle.epoch_laws.specs.Run.{WorldSeat, State, position_word, word_number}
 use Rattle.epoch_laws.proofs.SeatLemmas.{seat_past}
 use Rattle.epoch_laws.proofs.SeatsFine.{View, is_pinned, is_release, ends_unguarded, IsNext, HasScanned}
-use Rattle.epoch_laws.proofs.NextStages.{next_either, next_by_test}
 
 -- a word that is pinned and doesn't hold the scan up is pinned in its epoch
 pub same_epoch : (e n : ℕ) → holds_up e (2 * n + 1) ≡ false → n ≡ e
@@ -34,7 +34,7 @@ module _ (v : View) (p : ℕ) (m : Machine Deferral) (aim : ends_unguarded m ≡
   -- behind the last word: every pinned one has been looked at
   advances : (e k n : ℕ) → HasScanned v p e (λ j. j < k) → ((j : ℕ) → n ≤ j → is_pinned (v.word j) ≡ false)
       → (is_pinned (v.word k) ≡ true → e ≤ v.since k) → (k + 1 == n) ≡ true → IsNext v p true m (scanned e)
-  advances e k n h past here last = next_either v p true m (e == 2 ^ 63 - 1) (Take e 0) (Advance e) (stops e _ h)
+  advances e k n h past here last = either_way (IsNext v p true m) (e == 2 ^ 63 - 1) (Take e 0) (Advance e) (stops e _ h)
       (record {
         publishes = refl;
         aims = aim;
@@ -70,9 +70,9 @@ module _ (v : View) (p : ℕ) (m : Machine Deferral) (aim : ends_unguarded m ≡
   pub next_looked : (e k n : ℕ) → HasScanned v p e (λ j. j < k)
       → ((j : ℕ) → n ≤ j → is_pinned (v.word j) ≡ false) → ((i : ℕ) → v.word k ≡ Pinned i → i ≤ v.since k)
       → IsNext v p true m (past_word n e k (word_number (v.word k)))
-  next_looked e k n h past bound = next_by_test v p true m (holds_up e (word_number (v.word k))) (Take e 0)
+  next_looked e k n h past bound = by_test (IsNext v p true m) (holds_up e (word_number (v.word k))) (Take e 0)
       (if k + 1 == n then scanned e else Scan e (k + 1)) (λ up. stops e _ h)
-      (λ free. next_by_test v p true m (k + 1 == n) (scanned e) (Scan e (k + 1))
+      (λ free. by_test (IsNext v p true m) (k + 1 == n) (scanned e) (Scan e (k + 1))
       (advances e k n h past (λ pinned. here (v.word k) refl pinned free))
       (λ more. goes_on e k h (λ pinned. here (v.word k) refl pinned free)))
     where

@@ -4,6 +4,7 @@ use Rattle.epoch_machine.specs.declared.machine.Stage.{Stage}
 use Rattle.epoch_machine.specs.declared.machine.Stage.TheVariants.{Idle, LoadPin, StorePin, ReloadPin, LoadScan, Scan, Advance, Take, Calling, LoadSeal, Put, Keep, LoadRepin, StoreRepin, ReloadRepin, StoreUnpinned, StoreFree, End}
 use Rattle.epoch_machine.specs.declared.machine.Answer.TheVariants.{Stored}
 use Rattle.epoch_machine.specs.Machine.{Machine, ask_at, hears}
+use Rattle.epoch_machine.proofs.StagesAfter.{either_way}
 use Rattle.epoch_laws.specs.declared.step.Call.{Call}
 use Rattle.epoch_laws.specs.declared.step.Reply.{Reply}
 use Rattle.epoch_laws.specs.declared.step.Reply.TheVariants.{Began, Done}
@@ -16,7 +17,7 @@ use Rattle.epoch_laws.specs.declared.step.Progress.TheVariants.{Idle as IdleProg
 use Rattle.epoch_laws.specs.Run.{WorldSeat, State, seat_of, position_word, word_number, with_seat, free_seat, Open, begun_seat, end_reply, ended_seat, DrivesCall, DoesGo, with_heap, accessed_seat}
 use Rattle.epoch_laws.specs.Tickets.{times}
 use Rattle.epoch_laws.proofs.SeatLemmas.{seat_there}
-use Rattle.epoch_laws.proofs.JobsPlaced.{HeldAt, RestsAt, PlacesJobs, PlacesHere, LeavesJobs, held_pinned, held_unpinned, held_past, held_by, resting, begun_leaves, ended_leaves, accessed_leaves}
+use Rattle.epoch_laws.proofs.JobsPlaced.{HeldAt, RestsAt, PlacesJobs, PlacesHere, LeavesJobs, held_pinned, held_unpinned, held_past, resting, begun_leaves, ended_leaves, accessed_leaves}
 use Rattle.epoch_laws.proofs.TicketsTallied.{Tallies, tells, untold_calls, untold_deferrals, end_untold, none_given, stayed, acts, heap_beside, access_untold}
 use Rattle.epoch_laws.proofs.JobsMoved.{IsGoing, ending_open, keeps_jobs, staged, puts, takes, calls, keeps}
 use Rattle.epoch_heap.specs.Heap.{Heap}
@@ -107,7 +108,7 @@ module _ (old new : State) (log : List Entry) (x : Entry) (h : Tallies old log) 
       goes_at (Put seal) at (step, queued, is, put, did) = puts g seal step queued at.hand is put did
       goes_at Keep at did = keeps g at.hand did
       goes_at LoadRepin at did =
-          staged g _ at.hand (held_by m (m.published == old.epoch) End (StoreRepin old.epoch) tt tt) did
+          staged g _ at.hand (either_way (HeldAt m) (m.published == old.epoch) End (StoreRepin old.epoch) tt tt) did
       goes_at (StoreRepin e) at did =
           let n : Machine Deferral = hears m (StoreRepin e) Stored in
           keeps_jobs g _ (Pinned e) n old.epoch refl (λ free. cc) tt at.hand (refl, refl) did

@@ -4,6 +4,7 @@ use Rattle.std.proofs.lemmas.Bool.Decides.{nat_tests}
 use Rattle.epoch_machine.specs.declared.machine.Stage.{Stage}
 use Rattle.epoch_machine.specs.declared.machine.Stage.TheVariants.{LoadPin, LoadScan, LoadSeal, Keep, LoadRepin, StoreUnpinned, End}
 use Rattle.epoch_machine.specs.Machine.{Machine, is_empty, first_stage}
+use Rattle.epoch_machine.proofs.StagesAfter.{either_way}
 use Rattle.epoch_laws.specs.declared.step.Call.{Call}
 use Rattle.epoch_laws.specs.declared.step.Call.TheVariants.{Pin, Unpin, Repin, Pause, Resume, Defer, Flush, Release, DeferDestroy, Access as AccessCall}
 use Rattle.epoch_laws.specs.declared.step.Reply.TheVariants.{Began}
@@ -12,7 +13,7 @@ use Rattle.epoch_laws.specs.Run.{is_out, without}
 use Rattle.epoch_laws.specs.Lawful.{Told, after_begin}
 use Rattle.epoch_laws.proofs.SeatLinks.{action_of, BeganUnder}
 use Rattle.epoch_laws.proofs.GuardLists.{has_any, none_left, none_is, some_left, some_out, only_out, some_without}
-use Rattle.epoch_laws.proofs.ToldAtStages.{ToldAt, either_stage}
+use Rattle.epoch_laws.proofs.ToldAtStages.{ToldAt}
 
 by_test : (P : Stage → Type 0) (b : Bool) (s t : Stage) → (b ≡ true → P s) → (b ≡ false → P t)
     → P (if b then s else t)
@@ -80,15 +81,15 @@ module _ (t : Told) (m : Machine Deferral)
   told_first (Repin (Some g)) out = by_only (At (Repin (Some g))) LoadRepin g out
       (λ only. ((ap length only, refl), out_pinned g out)) (λ more on. (tt, rests))
   told_first (Repin None) under = absurd under
-  told_first (Defer (Some g)) out = either_stage (At (Defer (Some g))) (length m.held == m.sizes.bag_jobs)
+  told_first (Defer (Some g)) out = either_way (At (Defer (Some g))) (length m.held == m.sizes.bag_jobs)
       LoadSeal Keep (refl, out_pinned g out) ((tt, refl, refl), out_pinned g out)
   told_first (Defer None) under = absurd under
-  told_first (Flush (Some g)) out = either_stage (At (Flush (Some g))) (is_empty m.held)
+  told_first (Flush (Some g)) out = either_way (At (Flush (Some g))) (is_empty m.held)
       LoadScan LoadSeal (tt, out_pinned g out) (tt, out_pinned g out)
   told_first (Flush None) under = absurd under
   told_first Release none = ((tt, refl, refl), pinned_by true (none_left t.guards none))
   told_first (DeferDestroy (Some g) ptr) out =
-      either_stage (At (DeferDestroy (Some g) ptr)) (length m.held == m.sizes.bag_jobs)
+      either_way (At (DeferDestroy (Some g) ptr)) (length m.held == m.sizes.bag_jobs)
       LoadSeal Keep (refl, out_pinned g out) ((tt, refl, refl), out_pinned g out)
   told_first (DeferDestroy None ptr) under = absurd under
   told_first (AccessCall a) under = absurd under

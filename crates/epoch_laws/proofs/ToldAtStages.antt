@@ -1,9 +1,10 @@
 -- What a call has told at each stage of its machine, and at the stage behind it.
-use Rattle.std.proofs.Common.{◌≡◌, ℕ, ◌+◌, ◌-◌, ◌^◌, ◌==◌, Bool, true, false, not, List, [], ◌∷◌, Some, None, refl, ap, sym, subst, ◌∙◌, if◌then◌else◌}
+use Rattle.std.proofs.Common.{◌≡◌, ℕ, ◌==◌, Bool, true, false, not, List, [], ◌∷◌, Some, None, refl, ap, sym, subst, ◌∙◌, if◌then◌else◌}
 use Rattle.epoch_machine.specs.declared.machine.Action.{Action}
 use Rattle.epoch_machine.specs.declared.machine.Stage.{Stage}
 use Rattle.epoch_machine.specs.declared.machine.Stage.TheVariants.{Idle, LoadPin, StorePin, ReloadPin, LoadScan, Scan, Advance, Take, Calling, LoadSeal, Put, Keep, LoadRepin, StoreRepin, ReloadRepin, StoreUnpinned, StoreFree, End}
-use Rattle.epoch_machine.specs.Machine.{Machine, is_empty, after_collect, after_pin, after_put, after_unpin, after_job, holds_up, scanned, past_word}
+use Rattle.epoch_machine.specs.Machine.{Machine, after_collect, after_pin, after_put, after_unpin, after_job, past_word}
+use Rattle.epoch_machine.proofs.StagesAfter.{either_way, after_pin_at, past_word_at, after_job_at}
 use Rattle.epoch_laws.specs.declared.step.Call.{Call}
 use Rattle.epoch_laws.specs.declared.step.Call.TheVariants.{Pin, Unpin, Repin, Pause, Resume, Defer, Flush, Release, DeferDestroy}
 use Rattle.epoch_laws.specs.declared.step.Reply.TheVariants.{Unpinned, Deferred}
@@ -79,10 +80,6 @@ abbrev pub ToldAt : Told → Call → Bool → Stage → Type 0
 ToldAt t c full s = HasToldAt t c full s × (t.pinned ≡ pinned_at c t.guards s)
 
 -- THE STAGES BEHIND A PART OF A CALL
-
-pub either_stage : (P : Stage → Type 0) (b : Bool) (s t : Stage) → P s → P t → P (if b then s else t)
-either_stage P true s t one other = one
-either_stage P false s t one other = other
 
 -- a call under a guard that is out leaves some guard, where it takes none away
 still_some : (b : Bool) (g : ℕ) (guards : List ℕ) → b ≡ true → is_out g guards ≡ true → b ≡ has_any guards
@@ -161,24 +158,15 @@ module _ (t : Told) (c : Call) (m : Machine Deferral)
   pub machine_pinned : ToldAt t c m.full ReloadPin → ToldAt t c m.full (after_pin m)
   machine_pinned (told, on) =
       let collects : Collecting t c = pinned_collects t c under told in
-      either_stage (ToldAt t c m.full) (m.pins == 1) LoadScan (after_collect m.action m.held)
-      (collects, on) (machine_collected collects on)
+      after_pin_at (ToldAt t c m.full) m (collects, on) (machine_collected collects on)
 
   pub machine_scanned : (e k w : ℕ) → Collecting t c → t.pinned ≡ true
       → ToldAt t c m.full (past_word m.sizes.positions e k w)
-  machine_scanned e k w h on =
-      let at : Stage → Type 0 = ToldAt t c m.full in
-      either_stage at (holds_up e w) (Take e 0) _ (h, on)
-      (either_stage at (k + 1 == m.sizes.positions) (scanned e) (Scan e (k + 1))
-      (either_stage at (e == 2 ^ 63 - 1) (Take e 0) (Advance e) (h, on) (h, on)) (h, on))
+  machine_scanned e k w h on = past_word_at (ToldAt t c m.full) m.sizes.positions e k w (h, on) (h, on) (h, on)
 
   pub machine_called : (x k : ℕ) (jobs : List Deferral) → Collecting t c → t.pinned ≡ true
       → ToldAt t c m.full (after_job m x k jobs)
-  machine_called x k jobs h on =
-      let at : Stage → Type 0 = ToldAt t c m.full in
-      either_stage at (is_empty jobs) _ (Calling x k)
-      (either_stage at (k + 1 == m.sizes.collect_bags) (after_collect m.action m.held) (Take x (k + 1))
-      (machine_collected h on) (h, on)) (h, on)
+  machine_called x k jobs h on = after_job_at (ToldAt t c m.full) m x k jobs (h, on) (h, on) (machine_collected h on)
 
   pub machine_put : (full : Bool) → Putting t c → t.pinned ≡ true → ToldAt t c full (after_put m.action full)
   machine_put full h on = subst (λ (a : Action). ToldAt t c full (after_put a full)) (sym drives)
@@ -191,5 +179,5 @@ module _ (t : Told) (c : Call) (m : Machine Deferral)
 
   pub machine_reloaded : (e : ℕ) → ToldAt t c m.full LoadRepin
       → ToldAt t c m.full (if m.published == e then End else StoreRepin e)
-  machine_reloaded e (told, on) = either_stage (ToldAt t c m.full) (m.published == e) End (StoreRepin e)
+  machine_reloaded e (told, on) = either_way (ToldAt t c m.full) (m.published == e) End (StoreRepin e)
       (told_repinned t c m.full under told.0 on) (told, on)

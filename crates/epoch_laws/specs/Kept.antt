@@ -6,6 +6,7 @@ use Rattle.epoch_machine.specs.declared.machine.Sizes.{Sizes}
 use Rattle.epoch_machine.specs.declared.machine.Stage.{Stage}
 use Rattle.epoch_machine.specs.declared.machine.Stage.TheVariants.{Idle as Resting, Keep, End}
 use Rattle.epoch_machine.specs.Machine.{Machine}
+pub use Rattle.epoch_machine.specs.Machine.{rests}
 use Rattle.epoch_laws.specs.declared.step.Call.{Call}
 use Rattle.epoch_laws.specs.declared.step.Call.TheVariants.{Pin, Unpin, Repin, Pause, Resume, Defer, Flush, Release, DeferDestroy, Access as AccessCall}
 use Rattle.epoch_laws.specs.declared.step.Deferral.{Deferral}
@@ -31,11 +32,6 @@ action_of (Flush g) = FlushAction
 action_of Release = ReleaseAction
 action_of (DeferDestroy g ptr) = DeferAction
 action_of (AccessCall a) = PinAction  -- it drives none
-
--- no action is under way
-abbrev pub rests : Stage → Bool
-rests Resting = true
-rests _ = false
 
 -- what the Begin of a driven call found of the guards, which stay as they are until the call ends
 abbrev pub BeganUnder : Call → List ℕ → Type 0

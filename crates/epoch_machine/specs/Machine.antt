@@ -28,6 +28,11 @@ pub record Machine (J : Type 0) : Type 0 where
   pub held : List J  -- the jobs in the held bag, the oldest first
   pub hand : List J  -- what is left of the bag taken
 
+-- no action is under way
+abbrev pub rests : Stage → Bool
+rests Idle = true
+rests _ = false
+
 abbrev pub with_stage : {J : Type 0} → Machine J → Stage → Machine J
 with_stage m s = record m { stage = s }
 

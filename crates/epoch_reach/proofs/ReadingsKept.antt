@@ -17,6 +17,7 @@ use Rattle.epoch_machine.specs.declared.machine.Answer.TheVariants.{Stored, Job}
 use Rattle.epoch_machine.specs.declared.machine.Stage.{Stage}
 use Rattle.epoch_machine.specs.declared.machine.Stage.TheVariants.{Idle as Resting, LoadPin, StorePin, ReloadPin, LoadScan, Scan, Advance, Take, Calling, LoadSeal, Put, Keep, LoadRepin, StoreRepin, ReloadRepin, StoreUnpinned, StoreFree, End}
 use Rattle.epoch_machine.specs.Machine.{Machine, ask_at, with_stage, hears, put_heard, took_heard, gives, after_pin, past_word}
+use Rattle.epoch_machine.proofs.StagesAfter.{either_way}
 use Rattle.epoch_bags.specs.Bags.{is_empty}
 use Rattle.epoch_heap.specs.declared.access.Access.{Access}
 use Rattle.epoch_heap.specs.declared.access.Access.TheVariants.{Read, Leave}
@@ -43,7 +44,7 @@ use Rattle.epoch_laws.proofs.SeatLinks.{action_of, AllLinked, IsDriven, follows_
 use Rattle.epoch_laws.proofs.Linked.{step_linked, fresh_linked}
 use Rattle.epoch_laws.proofs.TicketSums.{sum_zero}
 use Rattle.epoch_laws.specs.Readings.{times_read, readings_of, readers_in, ReadingFits, FreesAt, ReadsOnce, KeepsReadings}
-use Rattle.epoch_reach.proofs.FreedStages.{frees_by, frees_collected, frees_pinned, frees_put, frees_unpinned, frees_called, frees_past, frees_first}
+use Rattle.epoch_reach.proofs.FreedStages.{frees_collected, frees_pinned, frees_put, frees_unpinned, frees_called, frees_past, frees_first}
 use Rattle.epoch_reach.proofs.PointersGiven.{under_given, inner}
 use Rattle.epoch_reach.proofs.ReadersCounted.{none_there, name_is, times_push, reads_counted, Leaves, readings_told, readers_at, SameReaders, HasReader, job_counts, touch_counts}
 
@@ -249,7 +250,7 @@ module _ (old new : State) (reply : Reply) (p : ℕ) (h : KeepsReadings old) (li
   go_at c drive Keep at did =
       goes_on seat.word (hears m Keep (Job _)) taken tt _ did.1 (λ x. refl) (λ q. refl) (λ x. refl)
   go_at c drive LoadRepin at did =
-      moves _ (frees_by m.action (m.published == old.epoch) End (StoreRepin old.epoch) tt tt) did.1
+      moves _ (either_way (FreesAt m.action) (m.published == old.epoch) End (StoreRepin old.epoch) tt tt) did.1
   go_at c drive (StoreRepin e) at did =
       goes_on (Pinned e) (hears m (StoreRepin e) Stored) (λ is. cc (is)) tt _ did.1 (λ x. refl) (λ q. refl) (λ x. refl)
   go_at c drive ReloadRepin at did = moves End tt did.1

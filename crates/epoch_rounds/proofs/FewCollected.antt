@@ -1,5 +1,5 @@
 -- One call takes at most as many bags as a collection may, each of at most as many jobs as a bag has room for.
-use Rattle.std.proofs.Common.{◌≡◌, ◌≢◌, ℕ, suc, ◌+◌, ◌-◌, ◌*◌, ◌^◌, ◌<◌, ◌≤◌, ◌==◌, Bool, true, false, List, [], ◌∷◌, ◌++◌, length, Some, refl, ap, sym, subst, subst₂, ◌∙◌, arith, if◌then◌else◌, slice_index_or, length-append, add-one}
+use Rattle.std.proofs.Common.{◌≡◌, ◌≢◌, ℕ, suc, ◌+◌, ◌-◌, ◌*◌, ◌<◌, ◌≤◌, ◌==◌, Bool, true, false, List, [], ◌∷◌, ◌++◌, length, Some, refl, ap, sym, subst, subst₂, ◌∙◌, arith, if◌then◌else◌, slice_index_or, length-append, add-one}
 use Rattle.std.proofs.Math.Nat.{mul-le-mul_right, suc-mul}
 use Rattle.std.proofs.lemmas.Bool.Decides.{nat_tests}
 use Rattle.std.proofs.lemmas.List.{set-get_or}
@@ -13,7 +13,8 @@ use Rattle.epoch_machine.specs.declared.machine.Action.TheVariants.{Pin, Unpin, 
 use Rattle.epoch_machine.specs.declared.machine.Sizes.{Sizes}
 use Rattle.epoch_machine.specs.declared.machine.Stage.{Stage}
 use Rattle.epoch_machine.specs.declared.machine.Stage.TheVariants.{Idle as Resting, LoadPin, StorePin, ReloadPin, LoadScan, Scan, Advance, Take, Calling, LoadSeal, Put, Keep, LoadRepin, StoreRepin, ReloadRepin, StoreUnpinned, StoreFree, End}
-use Rattle.epoch_machine.specs.Machine.{Machine, IsSized, ask_at, hears, ended, PutsHeld, TakesHand, with_stage, is_empty, put_heard, took_heard, gives, after_collect, after_pin, after_put, after_unpin, after_job, holds_up, scanned, past_word, first_stage, begun}
+use Rattle.epoch_machine.specs.Machine.{Machine, IsSized, ask_at, hears, ended, PutsHeld, TakesHand, with_stage, is_empty, put_heard, took_heard, gives, after_collect, after_pin, after_put, after_unpin, after_job, past_word, first_stage, begun}
+use Rattle.epoch_machine.proofs.StagesAfter.{by_test, after_pin_at, past_word_at}
 use Rattle.epoch_heap.specs.Heap.{outcome_of, heap_after_job as heap_after}
 use Rattle.epoch_heap.specs.declared.access.Accessed.{Accessed}
 use Rattle.epoch_heap.specs.declared.access.Accessed.TheVariants.{Again, Answers, NoSlot}
@@ -81,9 +82,6 @@ pub record Counts (z : Sizes) (taken called : ℕ) (m : Machine Deferral) (s : S
   pub held : HeldFits z.bag_jobs (length m.held) s
   pub at : CountAt z taken called (length m.hand) m.action s
 
-pick : (P : Stage → Type 0) (t : Bool) (x y : Stage) → (t ≡ true → P x) → (t ≡ false → P y) → P (if t then x else y)
-pick P t x y one other = elim t as (λ c. t ≡ c → P (if c then x else y)) [ true ↦ one | false ↦ other ] refl
-
 eq_true : (x y : ℕ) → (x == y) ≡ true → x ≡ y
 eq_true x y e = grind (arith, nat_tests)
 
@@ -121,14 +119,11 @@ module _ (z : Sizes) (sized : IsSized z) where
         by_action Flush jobs e = (held, (few, calls))
 
     pinned : taken ≡ 0 → called ≡ 0 → Fine (after_pin m)
-    pinned none silent = pick Fine (m.pins == 1) LoadScan (after_collect m.action m.held) (λ t. (held, (none, silent))) (λ f. collected (omega arith) (omega arith))
+    pinned none silent = after_pin_at Fine m (held, (none, silent)) (collected (omega arith) (omega arith))
 
     looked : (e k w : ℕ) → taken ≡ 0 → called ≡ 0 → Fine (past_word z.positions e k w)
-    looked e k w none silent = pick Fine (holds_up e w) (Take e 0) (if k + 1 == z.positions then scanned e else Scan e (k + 1))
-        (λ up. (held, (omega arith, omega arith, sized.collect_bags.0)))
-        (λ free. pick Fine (k + 1 == z.positions) (scanned e) (Scan e (k + 1))
-        (λ last. pick Fine (e == 2 ^ 63 - 1) (Take e 0) (Advance e) (λ top. (held, (omega arith, omega arith, sized.collect_bags.0))) (λ low. (held, (none, silent))))
-        (λ more. (held, (none, silent))))
+    looked e k w none silent = past_word_at Fine z.positions e k w
+        (held, (omega arith, omega arith, sized.collect_bags.0)) (held, (none, silent)) (held, (none, silent))
 
     -- behind a bag's last job, or at its first
     after_jobs : (x k : ℕ) (jobs : List Deferral) → m.hand ≡ jobs → m.sizes ≡ z → taken ≤ k + 1 → called + length m.hand ≤ suc k * z.bag_jobs → k < z.collect_bags → Fine (after_job m x k jobs)
@@ -136,7 +131,7 @@ module _ (z : Sizes) (sized : IsSized z) where
     after_jobs x k [] hand same few calls below =
         let c : m.sizes.collect_bags ≡ z.collect_bags = ap (λ (s : Sizes). s.collect_bags) same in
         let upto : suc k * z.bag_jobs ≤ z.collect_bags * z.bag_jobs = times_le (suc k) z.collect_bags z.bag_jobs (omega arith) in
-        pick Fine (k + 1 == m.sizes.collect_bags) (after_collect m.action m.held) (Take x (k + 1))
+        by_test Fine (k + 1 == m.sizes.collect_bags) (after_collect m.action m.held) (Take x (k + 1))
         (λ t. collected (omega arith) (omega arith))
         (λ f. let other : k + 1 ≢ m.sizes.collect_bags = eq_false (k + 1) m.sizes.collect_bags f in
         let calls_so : called ≤ (k + 1) * z.bag_jobs = rw add-one (omega arith) in
@@ -166,14 +161,14 @@ module _ (z : Sizes) (sized : IsSized z) where
       counts a both = record { held = both.0; at = both.1 }
 
       by_action : (a : Action) → Counts z 0 0 (begun a m) (begun a m).stage
-      by_action Pin = counts Pin (pick (P Pin) (m.guards == 0) LoadPin End (λ t. (held, (refl, refl))) (λ f. (held, (omega arith, omega arith))))
-      by_action Unpin = counts Unpin (pick (P Unpin) (m.guards == 1) StoreUnpinned End (λ t. (held, (omega arith, omega arith))) (λ f. (held, (omega arith, omega arith))))
-      by_action Repin = counts Repin (pick (P Repin) (m.guards == 1) LoadRepin End (λ t. (held, (omega arith, omega arith))) (λ f. (held, (omega arith, omega arith))))
-      by_action Defer = counts Defer (pick (P Defer) (length m.held == m.sizes.bag_jobs) LoadSeal Keep (λ t. (held, (omega arith, omega arith, λ flush. (refl, refl))))
+      by_action Pin = counts Pin (by_test (P Pin) (m.guards == 0) LoadPin End (λ t. (held, (refl, refl))) (λ f. (held, (omega arith, omega arith))))
+      by_action Unpin = counts Unpin (by_test (P Unpin) (m.guards == 1) StoreUnpinned End (λ t. (held, (omega arith, omega arith))) (λ f. (held, (omega arith, omega arith))))
+      by_action Repin = counts Repin (by_test (P Repin) (m.guards == 1) LoadRepin End (λ t. (held, (omega arith, omega arith))) (λ f. (held, (omega arith, omega arith))))
+      by_action Defer = counts Defer (by_test (P Defer) (length m.held == m.sizes.bag_jobs) LoadSeal Keep (λ t. (held, (omega arith, omega arith, λ flush. (refl, refl))))
           (λ f. let most : m.sizes.bag_jobs ≡ z.bag_jobs = ap (λ (s : Sizes). s.bag_jobs) same in
           let other : length m.held ≢ m.sizes.bag_jobs = eq_false (length m.held) m.sizes.bag_jobs f in
           (omega arith, (omega arith, omega arith))))
-      by_action Flush = counts Flush (pick (P Flush) (is_empty m.held) LoadScan LoadSeal (λ t. (held, (refl, refl))) (λ f. (held, (omega arith, omega arith, λ flush. (refl, refl)))))
+      by_action Flush = counts Flush (by_test (P Flush) (is_empty m.held) LoadScan LoadSeal (λ t. (held, (refl, refl))) (λ f. (held, (omega arith, omega arith, λ flush. (refl, refl)))))
       by_action Release = counts Release (held, (refl, refl))
 
   -- A STEP GO OF A CALL THAT IS DRIVEN
@@ -301,7 +296,7 @@ module _ (z : Sizes) (sized : IsSized z) where
     go c Keep at on same h did = moves seat.word (hears m Keep (Job (record { ticket = old.tickets; removes = removed_by seat.progress }))) (Deferred old.tickets) refl did.0
         (record { held = omega (arith, h.held, length-append m.held (record { ticket = old.tickets; removes = removed_by seat.progress } ∷ [])); at = h.at }) _ did.1 refl (λ k. refl)
     go c LoadRepin at on same h did = staged (if m.published == old.epoch then End else StoreRepin old.epoch)
-        (pick (λ s. HeldFits z.bag_jobs (length m.held) s × CountAt z taken called (length m.hand) m.action s) (m.published == old.epoch) End (StoreRepin old.epoch) (λ t. (h.held, h.at)) (λ f. (h.held, h.at))) did
+        (by_test (λ s. HeldFits z.bag_jobs (length m.held) s × CountAt z taken called (length m.hand) m.action s) (m.published == old.epoch) End (StoreRepin old.epoch) (λ t. (h.held, h.at)) (λ f. (h.held, h.at))) did
     go c (StoreRepin e) at on same h did = moves (Pinned e) (hears m (StoreRepin e) Stored) (Repinned q) refl did.0 (record { held = h.held; at = h.at }) _ did.1 refl (λ k. refl)
     go c ReloadRepin at on same h did = staged End (h.held, h.at) did
     go c StoreUnpinned at on same h did = moves Unpinned (hears m StoreUnpinned Stored) (UnpinnedReply q) refl did.0 (record { held = (unpinned m.action m.full).0; at = (unpinned m.action m.full).1 }) _ did.1 refl (λ k. refl)

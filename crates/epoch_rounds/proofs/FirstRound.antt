@@ -1,5 +1,5 @@
 -- The first round, up to its Flush's own put, and that the rounds from there on call all that is in the store.
-use Rattle.std.proofs.Common.{◌≡◌, ◌≢◌, ℕ, suc, ◌+◌, ◌-◌, ◌*◌, ◌^◌, ◌<◌, ◌≤◌, ◌==◌, Bool, true, false, not, List, [], ◌∷◌, ◌++◌, length, Some, ◌⊎◌, inl, inr, refl, ap, sym, subst, ◌∙◌, arith, if◌then◌else◌, length-set}
+use Rattle.std.proofs.Common.{◌≡◌, ◌≢◌, ℕ, suc, ◌+◌, ◌*◌, ◌^◌, ◌<◌, ◌≤◌, ◌==◌, Bool, true, false, not, List, [], ◌∷◌, ◌++◌, length, Some, ◌⊎◌, inl, inr, refl, ap, sym, subst, ◌∙◌, arith, if◌then◌else◌, length-set}
 use Rattle.std.proofs.lemmas.Bool.Decides.{nat_tests}
 use Rattle.std.proofs.lemmas.Grind.{div_ceil_times}
 use Rattle.epoch_bags.specs.declared.queue.PutStep.{PutStep}
@@ -12,7 +12,8 @@ use Rattle.epoch_machine.specs.declared.machine.Answer.TheVariants.{Stored}
 use Rattle.epoch_machine.specs.declared.machine.Sizes.{Sizes}
 use Rattle.epoch_machine.specs.declared.machine.Stage.{Stage}
 use Rattle.epoch_machine.specs.declared.machine.Stage.TheVariants.{Idle as Resting, LoadPin, StorePin, ReloadPin, LoadScan, Scan, Advance, Take, Calling, LoadSeal, Put, Keep, LoadRepin, StoreRepin, ReloadRepin, StoreUnpinned, StoreFree, End}
-use Rattle.epoch_machine.specs.Machine.{Machine, IsSized, PutsHeld, is_empty, is_taking, ask_at, hears, put_heard, took_heard, with_stage, after_collect, after_put, after_job, holds_up, scanned, past_word, begun}
+use Rattle.epoch_machine.specs.Machine.{Machine, IsSized, PutsHeld, is_empty, is_taking, ask_at, hears, put_heard, took_heard, with_stage, after_collect, after_put, after_job, past_word, begun}
+use Rattle.epoch_machine.proofs.StagesAfter.{past_word_at, after_job_at}
 use Rattle.epoch_heap.specs.declared.access.Answer.TheVariants.{Guard, Unit as UnitAnswer}
 use Rattle.epoch_heap.specs.Heap.{Heap, heap_after_job as heap_after}
 use Rattle.epoch_laws.specs.declared.step.Call.TheVariants.{Pin, Unpin, Flush}
@@ -43,9 +44,6 @@ use Rattle.epoch_laws.proofs.StoredBags.{SealedBy, sealed_by, sealed_more, none_
 use Rattle.epoch_rounds.proofs.QuietSteps.{Plan, IsNext, Known, IsStill, IsUnderWay, Rests}
 use Rattle.epoch_rounds.proofs.QuietRounds.{runs_split, called_append, begun_by, goes_to_end, pins, Pinning, unpins, round, rounds}
 
-pick : (P : Stage → Type 0) (t : Bool) (x y : Stage) → P x → P y → P (if t then x else y)
-pick P true x y one other = one
-pick P false x y one other = other
 
 -- behind the load that begins the scan
 abbrev IsBeyond : Stage → Type 0
@@ -123,15 +121,13 @@ module _ (p g epoch : ℕ) (sizes : Sizes) where
     -- BEYOND
 
     beyond_word : (positions e k x : ℕ) → IsBeyond (past_word positions e k x)
-    beyond_word positions e k x = pick IsBeyond (holds_up e x) (Take e 0) (if k + 1 == positions then scanned e else Scan e (k + 1)) tt
-        (pick IsBeyond (k + 1 == positions) (scanned e) (Scan e (k + 1)) (pick IsBeyond (e == 2 ^ 63 - 1) (Take e 0) (Advance e) tt tt) tt)
+    beyond_word positions e k x = past_word_at IsBeyond positions e k x tt tt tt
 
     beyond_collect : (held : List Deferral) → m.action ≡ FlushAction → IsBeyond (after_collect m.action held)
     beyond_collect held is = subst (λ (a : Action). IsBeyond (after_collect a held)) (sym is) tt
 
     beyond_job : (x k : ℕ) (jobs : List Deferral) → m.action ≡ FlushAction → IsBeyond (after_job m x k jobs)
-    beyond_job x k (job ∷ jobs) is = tt
-    beyond_job x k [] is = pick IsBeyond (k + 1 == m.sizes.collect_bags) (after_collect m.action m.held) (Take x (k + 1)) (beyond_collect m.held is) tt
+    beyond_job x k jobs is = after_job_at IsBeyond m x k jobs tt tt (beyond_collect m.held is)
 
     beyond_take : (h : Flushes old) (x k : ℕ) (step : TakeStep) (jobs : List Deferral) (q : List Bag) → m.stage ≡ Take x k
         → aside ≡ record (with_seat old p (with_machine seat (took_heard m (Take x k) step jobs))) { queued = q } → Beyond new

@@ -1,5 +1,5 @@
 -- A call that nobody disturbs finds a place for its bag, where some place is free.
-use Rattle.std.proofs.Common.{◌≡◌, ◌≢◌, ℕ, ◌+◌, ◌-◌, ◌^◌, ◌<◌, ◌≤◌, ◌==◌, nat_le, Bool, true, false, not, List, [], ◌∷◌, length, Option, Some, None, inl, inr, refl, ap, sym, subst, ◌∙◌, arith, if◌then◌else◌}
+use Rattle.std.proofs.Common.{◌≡◌, ◌≢◌, ℕ, ◌-◌, ◌^◌, ◌<◌, ◌≤◌, ◌==◌, nat_le, Bool, true, false, not, List, [], ◌∷◌, length, Option, Some, None, inl, inr, refl, ap, sym, subst, ◌∙◌, arith, if◌then◌else◌}
 use Rattle.epoch_cells.specs.declared.fault.Fault.{Fault}
 use Rattle.epoch_cells.specs.declared.fault.Fault.TheVariants.{BagsFull, Busy, NotRegistered, Idle as IdleFault, StrangerGuard, TooManyGuards, TicketsOut, GuardsOut, NoSuchPlace, StrangerPointer}
 use Rattle.epoch_cells.specs.declared.cells.name.Name.{Name}
@@ -14,7 +14,8 @@ use Rattle.epoch_machine.specs.declared.machine.Answer.TheVariants.{Stored, Job}
 use Rattle.epoch_machine.specs.declared.machine.Ask.{Ask}
 use Rattle.epoch_machine.specs.declared.machine.Stage.{Stage}
 use Rattle.epoch_machine.specs.declared.machine.Stage.TheVariants.{Idle as Resting, LoadPin, StorePin, ReloadPin, LoadScan, Scan, Advance, Take, Calling, LoadSeal, Put, Keep, LoadRepin, StoreRepin, ReloadRepin, StoreUnpinned, StoreFree, End}
-use Rattle.epoch_machine.specs.Machine.{Machine, ask_at, begun, first_stage, is_empty, hears, put_heard, took_heard, gives, with_stage, after_collect, after_pin, after_put, after_unpin, after_job, holds_up, scanned, past_word, TakesHand}
+use Rattle.epoch_machine.specs.Machine.{Machine, ask_at, begun, first_stage, is_empty, hears, put_heard, took_heard, gives, with_stage, after_collect, after_pin, after_put, after_unpin, after_job, past_word, TakesHand}
+use Rattle.epoch_machine.proofs.StagesAfter.{either_way, after_pin_at, past_word_at, after_job_at}
 use Rattle.epoch_heap.specs.declared.access.Answer.TheVariants.{Unit as UnitAnswer, Released}
 use Rattle.epoch_heap.specs.declared.access.Access.{Access}
 use Rattle.epoch_heap.specs.declared.access.Access.TheVariants.{Read, Leave}
@@ -58,10 +59,6 @@ HasPlaceAt Open room a (Take x k) = a ≡ ReleaseAction → Open
 HasPlaceAt Open room a (Calling x k) = a ≡ ReleaseAction → Open
 HasPlaceAt Open room a _ = Unit {0}
 
-pick : (P : Stage → Type 0) (t : Bool) (x y : Stage) → P x → P y → P (if t then x else y)
-pick P true x y one other = one
-pick P false x y one other = other
-
 module _ (Open : Type 0) (room : Bool) where
   collected : (a : Action) (held : List Deferral) → (a ≡ ReleaseAction → Open) → HasPlaceAt Open room a (after_collect a held)
   collected ReleaseAction [] h = tt
@@ -73,15 +70,13 @@ module _ (Open : Type 0) (room : Bool) where
   collected FlushAction held h = tt
 
   pinned : (m : Machine Deferral) → (m.action ≡ ReleaseAction → Open) → HasPlaceAt Open room m.action (after_pin m)
-  pinned m h = pick (HasPlaceAt Open room m.action) (m.pins == 1) LoadScan (after_collect m.action m.held) h (collected m.action m.held h)
+  pinned m h = after_pin_at (HasPlaceAt Open room m.action) m h (collected m.action m.held h)
 
   looked : (a : Action) (positions e k w : ℕ) → (a ≡ ReleaseAction → Open) → HasPlaceAt Open room a (past_word positions e k w)
-  looked a positions e k w h = pick (HasPlaceAt Open room a) (holds_up e w) (Take e 0) (if k + 1 == positions then scanned e else Scan e (k + 1)) h
-      (pick (HasPlaceAt Open room a) (k + 1 == positions) (scanned e) (Scan e (k + 1)) (pick (HasPlaceAt Open room a) (e == 2 ^ 63 - 1) (Take e 0) (Advance e) h h) h)
+  looked a positions e k w h = past_word_at (HasPlaceAt Open room a) positions e k w h h h
 
   called : (m : Machine Deferral) (x k : ℕ) (jobs : List Deferral) → (m.action ≡ ReleaseAction → Open) → HasPlaceAt Open room m.action (after_job m x k jobs)
-  called m x k [] h = pick (HasPlaceAt Open room m.action) (k + 1 == m.sizes.collect_bags) (after_collect m.action m.held) (Take x (k + 1)) (collected m.action m.held h) h
-  called m x k (job ∷ jobs) h = h
+  called m x k jobs h = after_job_at (HasPlaceAt Open room m.action) m x k jobs h h (collected m.action m.held h)
 
   put_over : (a : Action) → HasPlaceAt Open room a (after_put a false)
   put_over FlushAction = λ e. absurd (cc (e))
@@ -128,11 +123,11 @@ abbrev Begun : Type 0 → Bool → Action → Machine Deferral → Type 0
 Begun Open room a m = Ready Open room (begun a m) (first_stage a m)
 
 begins_ready : (Open : Type 0) (room : Bool) (a : Action) (m : Machine Deferral) → Open → Begun Open room a m
-begins_ready Open room PinAction m free = pick (Ready Open room (begun PinAction m)) (m.guards == 0) LoadPin End (refl, λ e. free) (refl, tt)
-begins_ready Open room UnpinAction m free = pick (Ready Open room (begun UnpinAction m)) (m.guards == 1) StoreUnpinned End (refl, tt) (refl, tt)
-begins_ready Open room RepinAction m free = pick (Ready Open room (begun RepinAction m)) (m.guards == 1) LoadRepin End (refl, tt) (refl, tt)
-begins_ready Open room DeferAction m free = pick (Ready Open room (begun DeferAction m)) (length m.held == m.sizes.bag_jobs) LoadSeal Keep (refl, free) (refl, tt)
-begins_ready Open room FlushAction m free = pick (Ready Open room (begun FlushAction m)) (is_empty m.held) LoadScan LoadSeal (refl, λ e. free) (refl, free)
+begins_ready Open room PinAction m free = either_way (Ready Open room (begun PinAction m)) (m.guards == 0) LoadPin End (refl, λ e. free) (refl, tt)
+begins_ready Open room UnpinAction m free = either_way (Ready Open room (begun UnpinAction m)) (m.guards == 1) StoreUnpinned End (refl, tt) (refl, tt)
+begins_ready Open room RepinAction m free = either_way (Ready Open room (begun RepinAction m)) (m.guards == 1) LoadRepin End (refl, tt) (refl, tt)
+begins_ready Open room DeferAction m free = either_way (Ready Open room (begun DeferAction m)) (length m.held == m.sizes.bag_jobs) LoadSeal Keep (refl, free) (refl, tt)
+begins_ready Open room FlushAction m free = either_way (Ready Open room (begun FlushAction m)) (is_empty m.held) LoadScan LoadSeal (refl, λ e. free) (refl, free)
 begins_ready Open room ReleaseAction m free = (refl, λ e. free)
 
 -- A PARTICIPANT WHOM NOBODY DISTURBS
@@ -312,7 +307,7 @@ module _ (p : ℕ) (old new : State) (r : Reply) (h : IsLone p old) (did : Takes
       go (Put e) at none was tells did = puts e at none was did.0 did.1 did.2 tells did.4
       go Keep at none was tells did = wrote (Deferred old.tickets) (with_machine seat (hears m Keep (Job (record { ticket = old.tickets; removes = removed_by seat.progress })))) _ did.0 refl there did.1 (λ q. refl)
           (λ w. (none, tt))
-      go LoadRepin at none was tells did = staged (if m.published == old.epoch then End else StoreRepin old.epoch) none (λ on. pick Is (m.published == old.epoch) End (StoreRepin old.epoch) tt tt) did
+      go LoadRepin at none was tells did = staged (if m.published == old.epoch then End else StoreRepin old.epoch) none (λ on. either_way Is (m.published == old.epoch) End (StoreRepin old.epoch) tt tt) did
       go (StoreRepin e) at none was tells did = wrote (Repinned p) (with_word seat (Pinned e) (hears m (StoreRepin e) Stored)) _ did.0 refl there did.1 (λ q. refl) (λ w. (none, tt))
       go ReloadRepin at none was tells did = staged End none (λ on. tt) did
       go StoreUnpinned at none was tells did = wrote (UnpinnedReply p) (with_word seat Unpinned (hears m StoreUnpinned Stored)) _ did.0 refl there did.1 (λ q. refl)

@@ -14,6 +14,7 @@ use Rattle.epoch_machine.specs.declared.machine.Sizes.{Sizes}
 use Rattle.epoch_machine.specs.declared.machine.Stage.{Stage}
 use Rattle.epoch_machine.specs.declared.machine.Stage.TheVariants.{Idle as Resting, LoadPin, StorePin, ReloadPin, LoadScan, Scan, Advance, Take, Calling, LoadSeal, Put, Keep, LoadRepin, StoreRepin, ReloadRepin, StoreUnpinned, StoreFree, End}
 use Rattle.epoch_machine.specs.Machine.{Machine, is_taking, TakesHand, ask_at, hears, took_heard, gives, with_stage, after_collect, after_pin, after_unpin, after_job, holds_up, scanned, past_word, guards_after}
+use Rattle.epoch_machine.proofs.StagesAfter.{by_test}
 use Rattle.epoch_heap.specs.declared.access.Answer.TheVariants.{Guard, Unit as UnitAnswer}
 use Rattle.epoch_heap.specs.Heap.{Heap, outcome_of, heap_after_job as heap_after}
 use Rattle.epoch_laws.specs.declared.step.Call.{Call}
@@ -161,8 +162,6 @@ Comes v called r s ahead = ((ends_call r ≡ false) × IsUnderWay v called s ahe
 
 -- LEMMAS ON STAGES
 
-pick : (P : Stage → Type 0) (t : Bool) (x y : Stage) → (t ≡ true → P x) → (t ≡ false → P y) → P (if t then x else y)
-pick P t x y one other = elim t as (λ c. t ≡ c → P (if c then x else y)) [ true ↦ one | false ↦ other ] refl
 
 eq_true : (x y : ℕ) → (x == y) ≡ true → x ≡ y
 eq_true x y e = grind (arith, nat_tests)
@@ -387,14 +386,14 @@ module _ (v : Plan) (called : ℕ → ℕ) (old new : State) (r : Reply) (next :
   behind : (e k : ℕ) → m.hand ≡ [] → Collects v.call → w ≡ Pinned v.epoch → e ≡ old.epoch → (e ≡ v.epoch) ⊎ ((e ≡ v.next) × (v.next ≡ v.epoch + 1) × (k < v.p)) → left ≤ v.bags
       → new.queued ≡ old.queued
       → FineAhead (if (k + 1 == m.sizes.positions) then scanned e else Scan e (k + 1))
-  behind e k hand coll word epoch (inl side) less same_bags = pick FineAhead (k + 1 == m.sizes.positions) (scanned e) (Scan e (k + 1))
-      (λ t. pick FineAhead (e == 2 ^ 63 - 1) (Take e 0) (Advance e)
+  behind e k hand coll word epoch (inl side) less same_bags = by_test FineAhead (k + 1 == m.sizes.positions) (scanned e) (Scan e (k + 1))
+      (λ t. by_test FineAhead (e == 2 ^ 63 - 1) (Take e 0) (Advance e)
       (λ top. let same : v.next ≡ v.epoch = at_top v.epoch v.next next (sym side ∙ eq_true e (2 ^ 63 - 1) top) in
       λ all. (hand, (coll, word, omega arith, omega arith, omega arith, some, enough e (omega arith) same_bags all)))
       (λ low. let more : v.next ≡ v.epoch + 1 = below_top v.epoch v.next next (λ x. eq_false e (2 ^ 63 - 1) low (side ∙ x)) in
       λ all. (hand, (coll, word, omega arith, less))))
       (λ f all. (hand, (coll, word, epoch, inl side, less)))
-  behind e k hand coll word epoch (inr side) less same_bags = pick FineAhead (k + 1 == m.sizes.positions) (scanned e) (Scan e (k + 1))
+  behind e k hand coll word epoch (inr side) less same_bags = by_test FineAhead (k + 1 == m.sizes.positions) (scanned e) (Scan e (k + 1))
       (λ t. let last : k + 1 ≡ m.sizes.positions = eq_true (k + 1) m.sizes.positions t in
       absurd (omega (arith, h.there, side.2, h.positions, ap (λ (z : Sizes). z.positions) h.known.sizes)))
       (λ f all. (hand, (coll, word, epoch, inr (side.0, side.1, omega (arith, side.2)), less)))
@@ -422,7 +421,7 @@ module _ (v : Plan) (called : ℕ → ℕ) (old new : State) (r : Reply) (next :
           → FineAhead (past_word m.sizes.positions e k (2 * i + 1))
       own e i k hand same coll word epoch (inl side) less same_bags =
           passes e k (2 * i + 1) (holds_pinned e i (same ∙ sym side)) (behind e k hand coll word epoch (inl side) less same_bags)
-      own e i k hand same coll word epoch (inr side) less same_bags = pick FineAhead (holds_up e (2 * i + 1)) (Take e 0) _
+      own e i k hand same coll word epoch (inr side) less same_bags = by_test FineAhead (holds_up e (2 * i + 1)) (Take e 0) _
           (λ up all. (hand, (coll, word, side.0, sym epoch ∙ side.0, omega arith, some, enough e side.0 same_bags all)))
           (λ free. absurd (not_same (unless free)))
         where
@@ -450,7 +449,7 @@ module _ (v : Plan) (called : ℕ → ℕ) (old new : State) (r : Reply) (next :
   after_jobs x k e len (job ∷ jobs) coll word expiry epoch less below enough = (tt, (coll, word, expiry, epoch, less, below, enough refl))
   after_jobs x k e len [] coll word expiry epoch less below enough =
       let same : m.sizes.collect_bags ≡ v.sizes.collect_bags = ap (λ (z : Sizes). z.collect_bags) h.known.sizes in
-      pick (λ s. (is_collecting s ≡ true → v.bound + 2 ≤ v.next → Enough (k + 1) len ahead) → HandAt [] s × KnowsAt v e len ahead w s) (k + 1 == m.sizes.collect_bags) (after_collect m.action m.held) (Take x (k + 1))
+      by_test (λ s. (is_collecting s ≡ true → v.bound + 2 ≤ v.next → Enough (k + 1) len ahead) → HandAt [] s × KnowsAt v e len ahead w s) (k + 1 == m.sizes.collect_bags) (after_collect m.action m.held) (Take x (k + 1))
       (λ t on. let all : k + 1 ≡ m.sizes.collect_bags = eq_true (k + 1) m.sizes.collect_bags t in
       subst (λ s. HandAt [] s × KnowsAt v e len ahead w s) (sym (ended_stage coll))
       (refl, collected v e len w v.call next coll word epoch (omega arith) (λ bound. omega arith)))
@@ -665,7 +664,7 @@ module _ (v : Plan) (called : ℕ → ℕ) (old new : State) (r : Reply) (next :
         placed = λ u. omega (arith, k.placed u, ap (calls_of u) did.0);
         at = (k.at.0, ap Pinned k.at.1, k.at.2, k.at.3);
       }) did.1
-  go ReloadPin stage k finds did = staged (after_pin m) (pick Fine (m.pins == 1) LoadScan (after_collect m.action m.held)
+  go ReloadPin stage k finds did = staged (after_pin m) (by_test Fine (m.pins == 1) LoadScan (after_collect m.action m.held)
       (λ t. (k.hand, (pins, k.at.1, inl k.at.2, k.at.3)))
       (λ f. subst Fine (sym (ended_stage pins)) (k.hand, subst (After v old.epoch left w) (sym k.at.0) (k.at.1, inl k.at.2, k.at.3)))) did
     where

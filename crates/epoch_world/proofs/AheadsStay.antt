@@ -1,8 +1,9 @@
 -- What is ahead of the collections stays where a participant registers or begins a call.
-use Rattle.std.proofs.Common.{◌≡◌, ℕ, zero, suc, ◌==◌, if◌then◌else◌, Bool, true, false, List, [], ◌∷◌, length, Some, refl, ap, slice_index_or, slice_set}
+use Rattle.std.proofs.Common.{◌≡◌, ℕ, zero, suc, ◌==◌, true, false, List, [], ◌∷◌, length, Some, refl, ap, slice_index_or, slice_set}
 use Rattle.epoch_machine.specs.declared.machine.Stage.{Stage}
 use Rattle.epoch_machine.specs.declared.machine.Stage.TheVariants.{LoadPin, LoadRepin, LoadSeal, LoadScan, StoreUnpinned, Keep, End, Take, Calling, Put}
 use Rattle.epoch_machine.specs.Machine.{is_empty, is_taking}
+use Rattle.epoch_machine.proofs.StagesAfter.{either_way}
 use Rattle.epoch_laws.specs.declared.step.Call.{Call}
 use Rattle.epoch_laws.specs.declared.step.Call.TheVariants.{Pin, Unpin, Repin, Pause, Resume, Defer, Flush, Release, DeferDestroy}
 use Rattle.epoch_laws.specs.Collections.{expiry_of}
@@ -37,19 +38,18 @@ pub not_putting : (s : Stage) → rests s ≡ true → is_putting s ≡ false
 not_putting (Put seal) on = absurd (cc (on))
 not_putting _ on = refl
 
-either : (t : Bool) (a b : Stage) → expiry_of a ≡ 0 → expiry_of b ≡ 0 → expiry_of (if t then a else b) ≡ 0
-either true a b one other = one
-either false a b one other = other
+abbrev TakesNone : Stage → Type 0
+TakesNone s = expiry_of s ≡ 0
 
 -- no call begins by collecting
 pub begun_for : (c : Call) (seat : WorldSeat) → expiry_of seat.machine.stage ≡ 0 → expiry_of (begun_seat c seat).machine.stage ≡ 0
-begun_for Pin seat rests = either (seat.machine.guards == 0) LoadPin End refl refl
-begun_for (Unpin g) seat rests = either (seat.machine.guards == 1) StoreUnpinned End refl refl
-begun_for (Repin (Some g)) seat rests = either (seat.machine.guards == 1) LoadRepin End refl refl
-begun_for (Pause (Some g)) seat rests = either (seat.machine.guards == 1) StoreUnpinned End refl refl
-begun_for (Resume (Some g)) seat rests = either (seat.machine.guards == 0) LoadPin End refl refl
-begun_for (Defer (Some g)) seat rests = either (length seat.machine.held == seat.machine.sizes.bag_jobs) LoadSeal Keep refl refl
-begun_for (Flush (Some g)) seat rests = either (is_empty seat.machine.held) LoadScan LoadSeal refl refl
+begun_for Pin seat rests = either_way TakesNone (seat.machine.guards == 0) LoadPin End refl refl
+begun_for (Unpin g) seat rests = either_way TakesNone (seat.machine.guards == 1) StoreUnpinned End refl refl
+begun_for (Repin (Some g)) seat rests = either_way TakesNone (seat.machine.guards == 1) LoadRepin End refl refl
+begun_for (Pause (Some g)) seat rests = either_way TakesNone (seat.machine.guards == 1) StoreUnpinned End refl refl
+begun_for (Resume (Some g)) seat rests = either_way TakesNone (seat.machine.guards == 0) LoadPin End refl refl
+begun_for (Defer (Some g)) seat rests = either_way TakesNone (length seat.machine.held == seat.machine.sizes.bag_jobs) LoadSeal Keep refl refl
+begun_for (Flush (Some g)) seat rests = either_way TakesNone (is_empty seat.machine.held) LoadScan LoadSeal refl refl
 begun_for Release seat rests = refl
-begun_for (DeferDestroy (Some g) ptr) seat rests = either (length seat.machine.held == seat.machine.sizes.bag_jobs) LoadSeal Keep refl refl
+begun_for (DeferDestroy (Some g) ptr) seat rests = either_way TakesNone (length seat.machine.held == seat.machine.sizes.bag_jobs) LoadSeal Keep refl refl
 begun_for _ seat rests = rests

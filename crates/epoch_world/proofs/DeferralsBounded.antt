@@ -12,6 +12,7 @@ use Rattle.epoch_machine.specs.declared.machine.Stage.{Stage}
 use Rattle.epoch_machine.specs.declared.machine.Stage.TheVariants.{Idle, LoadPin, StorePin, ReloadPin, LoadScan, Scan, Advance, Take, Calling, LoadSeal, Put, Keep, LoadRepin, StoreRepin, ReloadRepin, StoreUnpinned, StoreFree, End}
 use Rattle.epoch_machine.specs.declared.machine.Answer.TheVariants.{Job, Stored}
 use Rattle.epoch_machine.specs.Machine.{Machine, ask_at, hears, put_heard, took_heard, gives, with_stage, first_stage, ended}
+use Rattle.epoch_machine.proofs.StagesAfter.{either_way}
 use Rattle.epoch_laws.specs.declared.step.Call.{Call}
 use Rattle.epoch_laws.specs.declared.step.Call.TheVariants.{Pin as PinCall, Unpin as UnpinCall, Repin as RepinCall, Pause, Resume, Defer as DeferCall, Flush as FlushCall, Release as ReleaseCall, DeferDestroy, Access as AccessCall}
 use Rattle.epoch_laws.specs.declared.step.Reply.{Reply}
@@ -23,7 +24,7 @@ use Rattle.epoch_laws.specs.declared.step.Progress.TheVariants.{Idle as IdleProg
 use Rattle.epoch_laws.specs.Run.{Bag, WorldSeat, State, seat_of, position_word, word_number, with_seat, with_machine, with_word, free_seat, drives, begun_seat, ended_seat, call_refusal, DrivesCall, DoesGo}
 use Rattle.epoch_laws.proofs.SeatLemmas.{seat_written, seat_other, seat_there, same_or_other}
 use Rattle.epoch_laws.proofs.TicketsTallied.{acted}
-use Rattle.epoch_world.proofs.PendingDeferrals.{TicketsBounded, is_busy, pending_at, pending, KeepsAt, KeepsAsDeferral, pending_one, none_pending, sum_most, keeps_collected, keeps_pinned, keeps_put, keeps_unpinned, keeps_called, keeps_past, keeps_first, keeps_by, room_given, busy_takes, removal_room_given}
+use Rattle.epoch_world.proofs.PendingDeferrals.{TicketsBounded, is_busy, pending_at, pending, KeepsAt, KeepsAsDeferral, pending_one, none_pending, sum_most, keeps_collected, keeps_pinned, keeps_put, keeps_unpinned, keeps_called, keeps_past, keeps_first, room_given, busy_takes, removal_room_given}
 use Rattle.epoch_heap.specs.Heap.{Heap}
 
 module _ (old new : State) (h : TicketsBounded old) where
@@ -234,7 +235,7 @@ module _ (old new : State) (h : TicketsBounded old) where
     goes_at c (Put seal) reply keeps at (step, queued, is, put, did) = puts (Put seal) at refl step queued did
     goes_at c Keep reply keeps at did = gives_ticket _ keeps at did.1
     goes_at c LoadRepin reply keeps at did =
-        staged LoadRepin at refl _ (keeps_by m.action (m.published == old.epoch) End _ tt tt) did.1
+        staged LoadRepin at refl _ (either_way (KeepsAt m.action) (m.published == old.epoch) End _ tt tt) did.1
     goes_at c (StoreRepin e) reply keeps at did =
         goes_on (StoreRepin e) at refl (Pinned e) (hears m (StoreRepin e) Stored) old.epoch old.queued refl tt did.1
     goes_at c ReloadRepin reply keeps at did = staged ReloadRepin at refl _ tt did.1

@@ -1,13 +1,14 @@
 -- How many tickets the deferrals under way may still take, and which machines keep a job.
-use Rattle.std.proofs.Common.{◌≡◌, ℕ, ◌+◌, ◌-◌, ◌^◌, ◌<◌, ◌≤◌, ◌==◌, Bool, true, false, List, [], ◌∷◌, length, Some, None, refl, ap, arith, if◌then◌else◌, sum_by}
+use Rattle.std.proofs.Common.{◌≡◌, ℕ, ◌-◌, ◌^◌, ◌<◌, ◌≤◌, ◌==◌, Bool, true, false, List, [], ◌∷◌, length, Some, None, refl, ap, arith, if◌then◌else◌, sum_by}
 use Rattle.std.proofs.lemmas.Bool.{leb-false}
 use Rattle.std.proofs.lemmas.List.Sums.{sum_by-cons}
 use Rattle.epoch_cells.specs.declared.fault.Fault.TheVariants.{StrangerGuard, StrangerPointer, TicketsOut}
 use Rattle.epoch_machine.specs.declared.machine.Action.{Action}
 use Rattle.epoch_machine.specs.declared.machine.Action.TheVariants.{Pin, Unpin, Repin, Defer, Flush, Release}
 use Rattle.epoch_machine.specs.declared.machine.Stage.{Stage}
-use Rattle.epoch_machine.specs.declared.machine.Stage.TheVariants.{LoadPin, LoadScan, Scan, Advance, Take, LoadSeal, Keep, LoadRepin, StoreUnpinned, End}
-use Rattle.epoch_machine.specs.Machine.{Machine, is_empty, after_collect, after_pin, after_put, after_unpin, after_job, holds_up, scanned, past_word, first_stage}
+use Rattle.epoch_machine.specs.declared.machine.Stage.TheVariants.{LoadPin, LoadScan, LoadSeal, Keep, LoadRepin, StoreUnpinned, End}
+use Rattle.epoch_machine.specs.Machine.{Machine, is_empty, after_collect, after_pin, after_put, after_unpin, after_job, past_word, first_stage}
+use Rattle.epoch_machine.proofs.StagesAfter.{either_way, after_pin_at, past_word_at, after_job_at}
 use Rattle.epoch_laws.specs.declared.step.Call.TheVariants.{Defer as DeferCall, DeferDestroy}
 use Rattle.epoch_heap.specs.declared.access.Ptr.{Ptr}
 use Rattle.epoch_heap.specs.Heap.{Heap}
@@ -44,19 +45,13 @@ pub sum_most : (f : WorldSeat → ℕ) (seats : List WorldSeat)
 sum_most f [] one = omega arith
 sum_most f (seat ∷ seats) one = omega (arith, sum_by-cons f seat seats, one seat, sum_most f seats one)
 
--- by a test
-pick : (P : Stage → Type 0) (b : Bool) (s t : Stage) → P s → P t → P (if b then s else t)
-pick P true s t one other = one
-pick P false s t one other = other
-
 pub keeps_collected : (a b : Action) (jobs : List Deferral) → KeepsAt a (after_collect b jobs)
 keeps_collected a Release [] = tt
 keeps_collected a Release (job ∷ jobs) = tt
 keeps_collected a _ jobs = tt
 
 pub keeps_pinned : (a : Action) (m : Machine Deferral) → KeepsAt a (after_pin m)
-keeps_pinned a m =
-    pick (KeepsAt a) (m.pins == 1) LoadScan (after_collect m.action m.held) tt (keeps_collected a m.action m.held)
+keeps_pinned a m = after_pin_at (KeepsAt a) m tt (keeps_collected a m.action m.held)
 
 pub keeps_put : (a : Action) (full : Bool) → KeepsAt a (after_put a full)
 keeps_put Flush full = tt
@@ -71,26 +66,17 @@ keeps_unpinned a _ full = tt
 
 pub keeps_called : (a : Action) (m : Machine Deferral) (x k : ℕ) (jobs : List Deferral)
     → KeepsAt a (after_job m x k jobs)
-keeps_called a m x k (job ∷ jobs) = tt
-keeps_called a m x k [] =
-    let last : Bool = k + 1 == m.sizes.collect_bags in
-    pick (KeepsAt a) last (after_collect m.action m.held) (Take x (k + 1)) (keeps_collected a m.action m.held) tt
+keeps_called a m x k jobs = after_job_at (KeepsAt a) m x k jobs tt tt (keeps_collected a m.action m.held)
 
 pub keeps_past : (a : Action) (positions e k w : ℕ) → KeepsAt a (past_word positions e k w)
-keeps_past a positions e k w =
-    let next = pick (KeepsAt a) (e == 2 ^ 63 - 1) (Take e 0) (Advance e) tt tt in
-    pick (KeepsAt a) (holds_up e w) (Take e 0) _ tt
-    (pick (KeepsAt a) (k + 1 == positions) (scanned e) (Scan e (k + 1)) next tt)
-
-pub keeps_by : (a : Action) (b : Bool) (s t : Stage) → KeepsAt a s → KeepsAt a t → KeepsAt a (if b then s else t)
-keeps_by a = pick (KeepsAt a)
+keeps_past a positions e k w = past_word_at (KeepsAt a) positions e k w tt tt tt
 
 pub keeps_first : (a : Action) (m : Machine Deferral) → KeepsAt a (first_stage a m)
-keeps_first Pin m = pick (KeepsAt Pin) (m.guards == 0) LoadPin End tt tt
-keeps_first Unpin m = pick (KeepsAt Unpin) (m.guards == 1) StoreUnpinned End tt tt
-keeps_first Repin m = pick (KeepsAt Repin) (m.guards == 1) LoadRepin End tt tt
-keeps_first Defer m = pick (KeepsAt Defer) (length m.held == m.sizes.bag_jobs) LoadSeal Keep tt refl
-keeps_first Flush m = pick (KeepsAt Flush) (is_empty m.held) LoadScan LoadSeal tt tt
+keeps_first Pin m = either_way (KeepsAt Pin) (m.guards == 0) LoadPin End tt tt
+keeps_first Unpin m = either_way (KeepsAt Unpin) (m.guards == 1) StoreUnpinned End tt tt
+keeps_first Repin m = either_way (KeepsAt Repin) (m.guards == 1) LoadRepin End tt tt
+keeps_first Defer m = either_way (KeepsAt Defer) (length m.held == m.sizes.bag_jobs) LoadSeal Keep tt refl
+keeps_first Flush m = either_way (KeepsAt Flush) (is_empty m.held) LoadScan LoadSeal tt tt
 keeps_first Release m = tt
 
 -- a deferral is begun only below the limit
