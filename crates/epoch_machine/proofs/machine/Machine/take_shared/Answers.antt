@@ -1,9 +1,8 @@
 use Rattle.std.proofs.Common.{◌∙◌, ℕ, sym, ap, not, length, refl, subst, arith}
 use Rattle.epoch_tables.specs.SharedSteps.{TakesAt}
 use Rattle.epoch_bags.specs.Bags.{Sealed}
-use Rattle.epoch_machine.specs.Machine.{Machine, StageFits, is_calling, is_empty, ask_at}
-use Rattle.epoch_machine.specs.declared.machine.Stage.{Stage}
-use Rattle.epoch_machine.proofs.Stages.{hand_after, none_in_hand}
+use Rattle.epoch_machine.specs.Machine.{Machine, StageFits, is_empty, ask_at}
+use Rattle.epoch_machine.proofs.Stages.{fits_within, still_none, hand_after, none_in_hand}
 use Rattle.epoch_machine.proofs.machine.Machine.take_shared.Goals as goal
 
 pub take_step-step-requires : goal.take_step-step-requires
@@ -25,21 +24,19 @@ invariant_of-self-in-Empty g c = record {
   limit = c.self.invariant.limit;
   within = c.self.invariant.within;
   pins = c.self.invariant.pins;
-  stage = subst (λ (z : Machine _). StageFits z.sizes (length z.held) c.after_collect-after.result) (sym c.self.view_is) c.after_collect-after.ensures.fits;
-  hand = ap (λ (bag : Sealed _). is_empty bag.jobs) (c.take_step-step.ensures.not (λ got. absurd (cc (c.in-Empty.is, got)))) ∙ c.self.invariant.hand
-      ∙ ap (λ (s : Stage). not (is_calling s)) c.in-Take.is ∙ sym (ap not c.after_collect-after.ensures.calls_nothing);
+  stage = fits_within _ _ _ c.self.view_is c.after_collect-after.ensures.fits;
+  hand = ap (λ (bag : Sealed _). is_empty bag.jobs) (c.take_step-step.ensures.not (λ got. absurd (cc (c.in-Empty.is, got))))
+      ∙ still_none _ _ _ _ _ c.self.invariant.hand c.in-Take.is c.after_collect-after.ensures.calls_nothing;
 }
 
 pub invariant_of-self-in-Got : goal.invariant_of-self-in-Got
 invariant_of-self-in-Got g c =
     let fits = subst (StageFits c.self.inside.sizes (length c.self.inside.held.jobs)) c.in-Take.is c.self.invariant.stage in
-    let behind : StageFits c.self.inside.sizes (length c.self.inside.held.jobs) c.after_collect-after.result =
-    subst (λ (z : Machine _). StageFits z.sizes (length z.held) c.after_collect-after.result) (sym c.self.view_is) c.after_collect-after.ensures.fits in
     record {
       sized = c.self.invariant.sized;
       limit = c.self.invariant.limit;
       within = c.self.invariant.within;
       pins = c.self.invariant.pins;
-      stage = c.after_job-self-inside.ensures.fits c.self.inside.sizes _ refl fits.0 behind;
+      stage = c.after_job-self-inside.ensures.fits c.self.inside.sizes _ refl fits.0 (fits_within _ _ _ c.self.view_is c.after_collect-after.ensures.fits);
       hand = hand_after _ _ _ c.is_empty-none_left.ensures.test (c.after_job-self-inside.ensures.calls c.after_collect-after.ensures.calls_nothing);
     }
