@@ -28,6 +28,7 @@ use Rattle.epoch_reach.proofs.Names.{name_same}
 use Rattle.epoch_heap.proofs.FoundCells.{found_cell}
 use Rattle.epoch_reach.proofs.PointerSteps.{set_or_kept}
 use Rattle.epoch_reach.proofs.PointersChanged.{unread_there}
+use Rattle.epoch_reach.proofs.HeldByTouches.{holds_named, holds_placed}
 use Rattle.epoch_reach.proofs.TurnsGiven.{IsGiven, GivenAt, next_at, next_turn, some_value, stands_filled}
 
 -- what a change of cells does: nothing that was given comes back, and what stood stands still or is emptied
@@ -291,27 +292,18 @@ changes_taken h n (Some content) e =
     remapped h _ _ _ (cells_emptied h n there.0 there.1) (λ x same. (tt, ap (λ (m : Name). Some m) (sym same)))
     (λ x emptied. let same : n ≡ x = cc (emptied.1) in sym same)
 
-changes_at : (step : Name → Touched) (h : Heap) (name : Option Name)
-    → ((n : Name) → ChangesCells h (step n).heap none_emptied) → ChangesCells h (at_name step h name).heap none_emptied
-changes_at step h (Some n) changes = changes n
-changes_at step h None changes = cells_same h h refl
-
 takes_at : (h : Heap) (name : Option Name)
     → ChangesCells h (at_name (λ n. taken_by h n (unread (cell_at h n))) h name).heap
     (λ x. TakesValue (at_name (λ n. taken_by h n (unread (cell_at h n))) h name).told × (name ≡ Some x))
 takes_at h (Some n) = changes_taken h n (unread (cell_at h n)) refl
 takes_at h None = empties_none h h _ (cells_same h h refl) (λ x emptied. absurd emptied.0)
 
-changes_placed : (v k : ℕ) (found : Ptr) (h : Heap) (cell : Option Cell) → slice_get h.cells k ≡ cell → (did : Touched)
-    → Places v k found h cell did → ChangesCells h did.heap none_emptied
-changes_placed v k found h None e did is = cells_same h did.heap (ap (λ (d : Touched). d.heap) is)
-changes_placed v k found h (Some cell) e did (inr is) = cells_same h did.heap (ap (λ (d : Touched). d.heap) is.1)
-changes_placed v k found h (Some cell) e did (inl (free, n, slot, turn, is)) =
-    subst (λ (d : Touched). ChangesCells h d.heap none_emptied) (sym is)
-    (cells_filled h n cell (filled n.turn 0 _) at_slot free.0 (ap (next_at cell.turn) free.0 ∙ sym turn) refl refl)
-  where
-    at_slot : slice_get h.cells (n.slot - 1) ≡ Some cell
-    at_slot = let same : n.slot - 1 ≡ k = omega (arith, slot) in ap (λ (j : ℕ). slice_get h.cells j) same ∙ e
+changes_placed : (v k : ℕ) (found : Ptr) (h : Heap) (did : Touched)
+    → Places v k found h (slice_get h.cells k) did → ChangesCells h did.heap none_emptied
+changes_placed v k found h did is =
+    holds_placed (λ after. ChangesCells h after none_emptied) v k found h did
+    (cells_same h h refl) (λ n cell at none turn.
+    cells_filled h n cell (filled n.turn 0 _) at none (ap (next_at cell.turn) none ∙ sym turn) refl refl) is
 
 -- POINTER CALLS
 
@@ -347,13 +339,16 @@ changes_written change k found spot h ptr did e = elim (kept_or_written change k
 
 pub touch_changes : (a : Access) (k : ℕ) (found : Ptr) (h : Heap) (did : Touched) → Touches a k found h did
     → ChangesCells h did.heap (Empties a did.told)
-touch_changes (Place v) k found h did e = changes_placed v k found h (slice_get h.cells k) refl did e
+touch_changes (Place v) k found h did e = changes_placed v k found h did e
 touch_changes (Read g ptr) k found h did e = subst (λ (d : Touched). ChangesCells h d.heap none_emptied) (sym e)
-    (changes_at _ h ptr.name (λ n. changes_read h n (cell_at h n) (readable (cell_at h n)) refl))
+    (holds_named (λ after. ChangesCells h after none_emptied) _ h ptr.name (cells_same h h refl)
+    (λ n. changes_read h n (cell_at h n) (readable (cell_at h n)) refl))
 touch_changes (Leave ptr) k found h did e = subst (λ (d : Touched). ChangesCells h d.heap none_emptied) (sym e)
-    (changes_at _ h ptr.name (λ n. changes_left h n (cell_at h n) refl))
+    (holds_named (λ after. ChangesCells h after none_emptied) _ h ptr.name (cells_same h h refl)
+    (λ n. changes_left h n (cell_at h n) refl))
 touch_changes (Write g ptr v) k found h did e = subst (λ (d : Touched). ChangesCells h d.heap none_emptied) (sym e)
-    (changes_at _ h ptr.name (λ n. changes_put h n v (unread (cell_at h n)) refl))
+    (holds_named (λ after. ChangesCells h after none_emptied) _ h ptr.name (cells_same h h refl)
+    (λ n. changes_put h n v (unread (cell_at h n)) refl))
 touch_changes (Take g ptr) k found h did e =
     subst (λ (d : Touched). ChangesCells h d.heap (Empties (Take g ptr) d.told)) (sym e) (takes_at h ptr.name)
 touch_changes (Point g spot change) k found h did e = changes_written change k found spot h _ did e

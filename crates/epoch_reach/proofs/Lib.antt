@@ -1,5 +1,6 @@
 pub mod Names
 pub mod PointerSteps
+pub mod HeldByTouches
 pub mod PointersChanged
 pub mod ReachKept
 pub mod GuardsStay

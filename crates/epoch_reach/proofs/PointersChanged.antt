@@ -11,8 +11,9 @@ use Rattle.epoch_heap.specs.declared.access.Access.{Access}
 use Rattle.epoch_heap.specs.declared.access.Access.TheVariants.{Place, Read, Leave, Write, Take, Point}
 use Rattle.epoch_heap.specs.declared.heap.Content.{Content}
 use Rattle.epoch_heap.proofs.PointersWritten.{kept_or_written}
-use Rattle.epoch_heap.specs.Heap.{Cell, Heap, cell_at, field_of, pointer_at, without_cell, heap_after_job, Touched, raised, read_by, left_by, written_by, taken_by, at_name, Places, ChangesAt, Touches}
+use Rattle.epoch_heap.specs.Heap.{Cell, Heap, cell_at, field_of, pointer_at, without_cell, heap_after_job, Touched, raised, read_by, left_by, written_by, taken_by, Places, ChangesAt, Touches}
 use Rattle.epoch_heap.proofs.FoundCells.{found_cell}
+use Rattle.epoch_reach.proofs.HeldByTouches.{holds_named, holds_placed}
 use Rattle.epoch_reach.proofs.PointerSteps.{Fewer, fewer_same, fewer_written, fewer_kept, none_lead, nulls_lead, pointer_other}
 
 -- one pointer differs, and the call is on it
@@ -76,18 +77,11 @@ fewer_taken h n None = fewer_same h h refl
 fewer_taken h n (Some content) =
     fewer_written h n (empty (n.turn + 1)) (λ turn f x leads. absurd (none_lead (n.turn + 1) turn f x leads))
 
-fewer_at : (step : Name → Touched) (h : Heap) (name : Option Name) → ((n : Name) → Fewer h (step n).heap)
-    → Fewer h (at_name step h name).heap
-fewer_at step h (Some n) fewer = fewer n
-fewer_at step h None fewer = fewer_same h h refl
-
-fewer_placed : (v k : ℕ) (found : Ptr) (h : Heap) (cell : Option Cell) (did : Touched) → Places v k found h cell did
+fewer_placed : (v k : ℕ) (found : Ptr) (h : Heap) (did : Touched) → Places v k found h (slice_get h.cells k) did
     → Fewer h did.heap
-fewer_placed v k found h None did e = fewer_same h did.heap (ap (λ (d : Touched). d.heap) e)
-fewer_placed v k found h (Some cell) did (inl (free, n, slot, turn, e)) =
-    subst (λ (d : Touched). Fewer h d.heap) (sym e)
-    (fewer_written h n (filled n.turn 0 _) (λ t f x leads. absurd (nulls_lead n.turn v 16 t f x leads)))
-fewer_placed v k found h (Some cell) did (inr e) = fewer_same h did.heap (ap (λ (d : Touched). d.heap) e.1)
+fewer_placed v k found h did e =
+    holds_placed (Fewer h) v k found h did (fewer_same h h refl) (λ n cell at none turn.
+    fewer_written h n (filled n.turn 0 _) (λ t f x leads. absurd (nulls_lead n.turn v 16 t f x leads))) e
 
 -- POINTERS
 
@@ -110,14 +104,18 @@ pointed g change k found spot h ptr did e = elim (kept_or_written change k found
 
 pub touches_pointers : (a : Access) (k : ℕ) (found : Ptr) (h : Heap) (did : Touched) → Touches a k found h did
     → Fewer h did.heap ⊎ Pointed a h did.heap
-touches_pointers (Place v) k found h did e = inl (fewer_placed v k found h (slice_get h.cells k) did e)
+touches_pointers (Place v) k found h did e = inl (fewer_placed v k found h did e)
 touches_pointers (Read g ptr) k found h did e = inl (subst (λ (d : Touched). Fewer h d.heap) (sym e)
-    (fewer_at _ h ptr.name (λ n. fewer_read h n (cell_at h n) (readable (cell_at h n)) refl)))
+    (holds_named (Fewer h) _ h ptr.name (fewer_same h h refl)
+    (λ n. fewer_read h n (cell_at h n) (readable (cell_at h n)) refl)))
 touches_pointers (Leave ptr) k found h did e = inl (subst (λ (d : Touched). Fewer h d.heap) (sym e)
-    (fewer_at _ h ptr.name (λ n. fewer_left h n (cell_at h n) refl)))
+    (holds_named (Fewer h) _ h ptr.name (fewer_same h h refl)
+    (λ n. fewer_left h n (cell_at h n) refl)))
 touches_pointers (Write g ptr v) k found h did e = inl (subst (λ (d : Touched). Fewer h d.heap) (sym e)
-    (fewer_at _ h ptr.name (λ n. fewer_put h n v (unread (cell_at h n)) refl)))
+    (holds_named (Fewer h) _ h ptr.name (fewer_same h h refl)
+    (λ n. fewer_put h n v (unread (cell_at h n)) refl)))
 touches_pointers (Take g ptr) k found h did e = inl (subst (λ (d : Touched). Fewer h d.heap) (sym e)
-    (fewer_at _ h ptr.name (λ n. fewer_taken h n (unread (cell_at h n)))))
+    (holds_named (Fewer h) _ h ptr.name (fewer_same h h refl)
+    (λ n. fewer_taken h n (unread (cell_at h n)))))
 touches_pointers (Point g spot change) k found h did e =
     pointed g change k found spot h (pointer_at h spot) did e

@@ -5,8 +5,7 @@ use Rattle.epoch_cells.specs.PlainCells.{filled, empty, has, if_has, unread, rea
 use Rattle.epoch_cells.specs.declared.cells.name.Name.{Name}
 use Rattle.epoch_cells.specs.declared.cells.Removal.TheVariants.{Destroyed, HeldElsewhere}
 use Rattle.epoch_heap.specs.declared.access.Access.{Access}
-use Rattle.epoch_heap.specs.declared.access.Access.TheVariants.{Place, Read, Leave, Write, Take, Point}
-use Rattle.epoch_heap.specs.declared.access.Change.{Change}
+use Rattle.epoch_heap.specs.declared.access.Access.TheVariants.{Place}
 use Rattle.epoch_heap.specs.declared.access.Ptr.{Ptr}
 use Rattle.epoch_heap.specs.declared.access.Spot.{Spot}
 use Rattle.epoch_heap.specs.declared.access.Spot.TheVariants.{Root, Field}
@@ -17,11 +16,11 @@ use Rattle.epoch_laws.specs.declared.step.Progress.TheVariants.{Ends}
 use Rattle.epoch_laws.specs.declared.step.Reply.TheVariants.{Done}
 use Rattle.epoch_laws.specs.Run.{progress_after}
 use Rattle.epoch_heap.specs.declared.heap.Content.{Content}
-use Rattle.epoch_heap.proofs.PointersWritten.{kept_or_written}
-use Rattle.epoch_heap.specs.Heap.{Cell, Heap, cell_at, with_cell_at, with_field, with_field_in, with_pointer, without_cell, heap_after_job, Touched, raised, read_by, left_by, written_by, taken_by, at_name, Places, ChangesAt, Touches}
+use Rattle.epoch_heap.specs.Heap.{Cell, Heap, cell_at, with_cell_at, nulls, with_field, with_field_in, with_pointer, without_cell, heap_after_job, Touched, raised, read_by, left_by, written_by, taken_by, Places, Touches}
 use Rattle.epoch_heap.proofs.FoundCells.{found_cell}
 use Rattle.epoch_reach.proofs.PointerSteps.{set_or_kept}
 use Rattle.epoch_reach.proofs.PointersChanged.{unread_there}
+use Rattle.epoch_reach.proofs.HeldByTouches.{holds_touched}
 
 -- the first turn of a slot that wasn't given
 abbrev pub next_at : ℕ → Option Content → ℕ
@@ -136,28 +135,12 @@ given_taken h n None e = given_same h h refl
 given_taken h n (Some content) e =
     let there = unread_there (cell_at h n) content e in given_emptied h n there.0 there.1
 
-given_at : (step : Name → Touched) (h : Heap) (name : Option Name) → ((n : Name) → StaysGiven h (step n).heap)
-    → StaysGiven h (at_name step h name).heap
-given_at step h (Some n) stays = stays n
-given_at step h None stays = given_same h h refl
-
-given_placed : (v k : ℕ) (found : Ptr) (h : Heap) (cell : Option Cell) → slice_get h.cells k ≡ cell → (did : Touched)
-    → Places v k found h cell did → StaysGiven h did.heap
-given_placed v k found h None e did is = given_same h did.heap (ap (λ (d : Touched). d.heap) is)
-given_placed v k found h (Some cell) e did (inr is) = given_same h did.heap (ap (λ (d : Touched). d.heap) is.1)
-given_placed v k found h (Some cell) e did (inl (free, n, slot, turn, is)) =
-    subst (λ (d : Touched). StaysGiven h d.heap) (sym is) (given_written h n (filled n.turn 0 _) later)
-  where
-    at_slot : slice_get h.cells (n.slot - 1) ≡ Some cell
-    at_slot = let same : n.slot - 1 ≡ k = omega (arith, slot) in ap (λ (j : ℕ). slice_get h.cells j) same ∙ e
-
-    none_yet : next_turn cell ≡ n.turn
-    none_yet = ap (next_at cell.turn) free.0 ∙ sym turn
-
-    later : (t : ℕ) → GivenAt t (slice_get h.cells (n.slot - 1)) → t < n.turn + 1
-    later t given =
-        let lt : t < next_turn cell =
-        subst (λ (c : Option Cell). GivenAt t c) at_slot given in omega (arith, lt, none_yet)
+given_placed : (h : Heap) (v : ℕ) (n : Name) (cell : Cell) → slice_get h.cells (n.slot - 1) ≡ Some cell
+    → cell.value ≡ None → n.turn ≡ cell.turn
+    → StaysGiven h (with_cell_at h n (filled n.turn 0 (record { value = v; fields = nulls 16 })))
+given_placed h v n cell at none turn = given_written h n (filled n.turn 0 _) (λ t given.
+    let lt : t < next_turn cell = subst (λ (c : Option Cell). GivenAt t c) at given in
+    omega (arith, lt, ap (next_at cell.turn) none ∙ sym turn))
 
 -- POINTER CALLS
 
@@ -175,27 +158,19 @@ given_pointer h (Field n f) ptr = at_cell (cell_at h n) refl
         given_kept h n cell (record cell { value = option_map (λ content. with_field content f ptr) cell.value }) e
         (omega (arith, mapped_next (λ content. with_field content f ptr) cell.turn cell.value))
 
-given_changed : (change : Change) (k : ℕ) (found : Ptr) (spot : Spot) (h : Heap) (ptr : Option Ptr) (did : Touched)
-    → ChangesAt change k found spot h ptr did → StaysGiven h did.heap
-given_changed change k found spot h ptr did e = elim (kept_or_written change k found spot h ptr did e) [
-  | inl same ↦ given_same h did.heap same
-  | inr wrote ↦ subst (StaysGiven h) (sym wrote.1) (given_pointer h spot wrote.0)
-]
-
 -- EACH CALL
 
 pub touches_given : (a : Access) (k : ℕ) (found : Ptr) (h : Heap) (did : Touched) → Touches a k found h did
     → StaysGiven h did.heap
-touches_given (Place v) k found h did e = given_placed v k found h (slice_get h.cells k) refl did e
-touches_given (Read g ptr) k found h did e = subst (λ (d : Touched). StaysGiven h d.heap) (sym e)
-    (given_at _ h ptr.name (λ n. given_read h n (cell_at h n) (readable (cell_at h n)) refl))
-touches_given (Leave ptr) k found h did e = subst (λ (d : Touched). StaysGiven h d.heap) (sym e)
-    (given_at _ h ptr.name (λ n. given_left h n (cell_at h n) refl))
-touches_given (Write g ptr v) k found h did e = subst (λ (d : Touched). StaysGiven h d.heap) (sym e)
-    (given_at _ h ptr.name (λ n. given_put h n v (unread (cell_at h n)) refl))
-touches_given (Take g ptr) k found h did e = subst (λ (d : Touched). StaysGiven h d.heap) (sym e)
-    (given_at _ h ptr.name (λ n. given_taken h n (unread (cell_at h n)) refl))
-touches_given (Point g spot change) k found h did e = given_changed change k found spot h _ did e
+touches_given a k found h did e = holds_touched (StaysGiven h) h (record {
+  before = given_same h h refl;
+  placed = given_placed h;
+  read = λ n. given_read h n (cell_at h n) (readable (cell_at h n)) refl;
+  left = λ n. given_left h n (cell_at h n) refl;
+  put = λ v n. given_put h n v (unread (cell_at h n)) refl;
+  taken = λ n. given_taken h n (unread (cell_at h n)) refl;
+  pointed = given_pointer h;
+}) a k found did e
 
 -- what a place gives wasn't given, and is given then
 pub record GivesNew (old new : Heap) (n : Name) : Type 0 where
