@@ -260,25 +260,36 @@ loops p at after Result is then prepend old new (x ∷ y ∷ rs) e last (mid, di
 abbrev NoneExpired : ℕ → List Bag → Type 0
 NoneExpired x bags = (bag : Bag) (left : List Bag) → IsInserted bag left bags → IsExpired x bag → ⊥
 
+-- the seat after its collection has seen every bag
+abbrev seen_all : WorldSeat → WorldSeat
+seen_all seat = with_machine seat (with_stage seat.machine (after_collect seat.machine.action seat.machine.held))
+
 took : (old new : State) (p : ℕ) (seat : WorldSeat) (x k : ℕ) (r : Reply) → NoneExpired x old.queued → PerformsAsk old p seat (Take x k) (TakeBag x) r new
-    → (r ≡ Stepped) × ((new ≡ with_seat old p seat) ⊎ (new ≡ with_seat old p (with_machine seat (with_stage seat.machine (after_collect seat.machine.action seat.machine.held)))))
+    → (r ≡ Stepped) × ((new ≡ with_seat old p seat) ⊎ (new ≡ with_seat old p (seen_all seat)))
 took old new p seat x k r none (TakeAgain, jobs, queued, told, takes, did) = (told, inl (did ∙ ap (λ (q : List Bag). record (with_seat old p seat) { queued = q }) takes))
 took old new p seat x k r none (Empty, jobs, queued, told, takes, did) =
-    (told, inr (did ∙ ap (λ (q : List Bag). record (with_seat old p (with_machine seat (with_stage seat.machine (after_collect seat.machine.action seat.machine.held)))) { queued = q }) takes))
+    (told, inr (did ∙ ap (λ (q : List Bag). record (with_seat old p (seen_all seat)) { queued = q }) takes))
 took old new p seat x k r none (Got, jobs, queued, told, (bag, its, expired, inserted), did) = absurd (none bag queued inserted expired)
 
 none_in_none : (x : ℕ) → NoneExpired x []
 none_in_none x bag left inserted expired = absurd (omega (arith, one_less [] left bag inserted))
 
-moved1 : (pl : List Bool) (se ah : List ℕ) (ro : List Bool) (hp : Heap) (new : State) (told : Reply) → Moves (with_heap (with_places b1_7 pl se ah ro) hp) (Go 0) told (with_places new pl se ah ro)
-    → (told ≡ Stepped) × ((core new ≡ b1_7) ⊎ (core new ≡ b1_8))
-moved1 pl se ah ro hp new told (inl did) = absurd (cc (did.0))
-moved1 pl se ah ro hp new told (inr did) =
-    let t = took (with_heap (with_places b1_7 pl se ah ro) hp) (with_places new pl se ah ro) 0 (seat_of b1_7 0) 1 0 told (none_in_none 1) did.1 in
-    (t.0, elim t.1 [ inl e ↦ inl (ap core e) | inr e ↦ inr (ap core e) ])
+-- a Go of p in a collection leaves the state as it is, or ends the collection
+looks : (p x : ℕ) (at after : State) → NoneExpired x at.queued
+    → core (with_seat at p (seat_of at p)) ≡ at → core (with_seat at p (seen_all (seat_of at p))) ≡ after
+    → ((places : List Bool) (seen ahead : List ℕ) (room : List Bool) (heap : Heap) (new : State) (told : Reply)
+    → Moves (with_heap (with_places at places seen ahead room) heap) (Go p) told (with_places new places seen ahead room)
+    → PerformsAsk (with_heap (with_places at places seen ahead room) heap) p (seat_of at p) (Take x 0) (TakeBag x) told (with_places new places seen ahead room))
+    → OneOf at p after
+looks p x at after none same ends performs old new told e did =
+    let before : State = with_heap (with_places at old.places old.seen old.ahead old.room) old.heap in
+    let later : State = with_places new old.places old.seen old.ahead old.room in
+    let moves = subst (λ (s : State). Moves s (Go p) told later) (back at old e) did.0 in
+    let t = took before later p (seat_of at p) x 0 told none (performs old.places old.seen old.ahead old.room old.heap new told moves) in
+    (t.0, elim t.1 [ inl e ↦ inl (ap core e ∙ same) | inr e ↦ inr (ap core e ∙ ends) ])
 
 one1 : OneOf b1_7 0 b1_8
-one1 old new told e did = moved1 old.places old.seen old.ahead old.room old.heap new told (subst (λ (s : State). Moves s (Go 0) told (with_places new old.places old.seen old.ahead old.room)) (back b1_7 old e) did.0)
+one1 = looks 0 1 b1_7 b1_8 (none_in_none 1) refl refl (λ pl se ah ro hp new told did. elim did [ inl e ↦ absurd (cc (e.0)) | inr performs ↦ performs.1 ])
 
 pub call1 : Leads 0 b1_0 (To c1)
 unfolding lowest lowest_from
@@ -299,15 +310,8 @@ call2 =
     (go_so 0 b2_0 b2_1 c2 (UnpinnedReply 0) ((Done UnitAnswer) ∷ []) (λ pl se ah ro hp. refl) refl
     (end_so 0 b2_1 c2 (Done UnitAnswer) (λ pl se ah ro hp. refl) refl))
 
-moved3 : (pl : List Bool) (se ah : List ℕ) (ro : List Bool) (hp : Heap) (new : State) (told : Reply) → Moves (with_heap (with_places b3_7 pl se ah ro) hp) (Go 1) told (with_places new pl se ah ro)
-    → (told ≡ Stepped) × ((core new ≡ b3_7) ⊎ (core new ≡ b3_8))
-moved3 pl se ah ro hp new told (inl did) = absurd (cc (did.0))
-moved3 pl se ah ro hp new told (inr did) =
-    let t = took (with_heap (with_places b3_7 pl se ah ro) hp) (with_places new pl se ah ro) 1 (seat_of b3_7 1) 2 0 told (none_in_none 2) did.1 in
-    (t.0, elim t.1 [ inl e ↦ inl (ap core e) | inr e ↦ inr (ap core e) ])
-
 one3 : OneOf b3_7 1 b3_8
-one3 old new told e did = moved3 old.places old.seen old.ahead old.room old.heap new told (subst (λ (s : State). Moves s (Go 1) told (with_places new old.places old.seen old.ahead old.room)) (back b3_7 old e) did.0)
+one3 = looks 1 2 b3_7 b3_8 (none_in_none 2) refl refl (λ pl se ah ro hp new told did. elim did [ inl e ↦ absurd (cc (e.0)) | inr performs ↦ performs.1 ])
 
 pub call3 : Leads 1 b3_0 (To c3)
 unfolding lowest lowest_from
@@ -427,25 +431,11 @@ flushed_more : (old mid new : State) (rs : List Reply) → TakesStep old (Go 1) 
 flushed_more old mid new rs did (inl e) = inl (ends_more rs e)
 flushed_more old mid new rs did (inr c) = inr (collected_more old mid new rs did c)
 
-movedd : (pl : List Bool) (se ah : List ℕ) (ro : List Bool) (hp : Heap) (new : State) (told : Reply) → Moves (with_heap (with_places d4 pl se ah ro) hp) (Go 1) told (with_places new pl se ah ro)
-    → (told ≡ Stepped) × ((core new ≡ d4) ⊎ (core new ≡ d5))
-movedd pl se ah ro hp new told (inl did) = absurd (cc (did.0))
-movedd pl se ah ro hp new told (inr did) =
-    let t = took (with_heap (with_places d4 pl se ah ro) hp) (with_places new pl se ah ro) 1 (seat_of d4 1) 3 0 told (none_old) did.1 in
-    (t.0, elim t.1 [ inl e ↦ inl (ap core e) | inr e ↦ inr (ap core e) ])
-
 oned : OneOf d4 1 d5
-oned old new told e did = movedd old.places old.seen old.ahead old.room old.heap new told (subst (λ (s : State). Moves s (Go 1) told (with_places new old.places old.seen old.ahead old.room)) (back d4 old e) did.0)
-
-movedg : (pl : List Bool) (se ah : List ℕ) (ro : List Bool) (hp : Heap) (new : State) (told : Reply) → Moves (with_heap (with_places g4 pl se ah ro) hp) (Go 1) told (with_places new pl se ah ro)
-    → (told ≡ Stepped) × ((core new ≡ g4) ⊎ (core new ≡ g5))
-movedg pl se ah ro hp new told (inl did) = absurd (cc (did.0))
-movedg pl se ah ro hp new told (inr did) =
-    let t = took (with_heap (with_places g4 pl se ah ro) hp) (with_places new pl se ah ro) 1 (seat_of g4 1) 3 0 told (none_in_none 3) did.1 in
-    (t.0, elim t.1 [ inl e ↦ inl (ap core e) | inr e ↦ inr (ap core e) ])
+oned = looks 1 3 d4 d5 none_old refl refl (λ pl se ah ro hp new told did. elim did [ inl e ↦ absurd (cc (e.0)) | inr performs ↦ performs.1 ])
 
 oneg : OneOf g4 1 g5
-oneg old new told e did = movedg old.places old.seen old.ahead old.room old.heap new told (subst (λ (s : State). Moves s (Go 1) told (with_places new old.places old.seen old.ahead old.room)) (back g4 old e) did.0)
+oneg = looks 1 3 g4 g5 (none_in_none 3) refl refl (λ pl se ah ro hp new told did. elim did [ inl e ↦ absurd (cc (e.0)) | inr performs ↦ performs.1 ])
 
 collecting : Leads 1 d4 Collecting
 collecting = loops 1 d4 d5 Collecting oned (ends 1 d5 d6 (Done UnitAnswer) Collecting (λ pl se ah ro hp. refl) refl (λ old new e. (e, (done_stays UnitAnswer, tt)))) (λ old mid new rs did e. (e.0, (stepped_stays, e.1)))

@@ -19,6 +19,7 @@ use Rattle.epoch_rounds.specs.Sharp.{pair_sizes, EndsIn, TakesSharpList, IsSharp
 use Rattle.epoch_laws.proofs.Log.{IsWithdrawal, PinnedSince, stands_push, stands_keep, stands_new, stands_within}
 use Rattle.epoch_rounds.proofs.LonePuts.{lone_calls, places_stay}
 use Rattle.epoch_rounds.proofs.SureSteps.{no_heap, core, back, Leads}
+use Rattle.epoch_rounds.proofs.SharpLog.{SharpReplies, both, log1, log2, log3, log4, log5, log6, log7}
 use Rattle.epoch_rounds.proofs.SharpCalls.{To, Exactly, its_bag, c0, c1, c2, c3, c4, c5, c6, c7, b1_0, b2_0, b3_0, b4_0, b5_0, b6_0, b7_0, f0, AllStay, Flushed, Collected, call1, call2, call3, call4, call5, call6, call7, call8}
 
 -- HOW A CALL BEGINS
@@ -225,46 +226,36 @@ module _ (fresh new : State) (log : List Entry) (is_fresh : IsFresh fresh) (size
   k8 : Called 1 (Flush (Some 0)) Flushed t.s7 new t.r8
   k8 = called 1 (Flush (Some 0)) c7 f0 Flushed (λ pl se ah ro hp mid told did. (did.0, ap core did.1)) call8 t.s7 new t.r8 k7.result.1 t.eight.ends t.eight.run
 
-  abbrev both : List Entry
-  both = record { step = Register; reply = t.first } ∷ record { step = Register; reply = t.second } ∷ []
+  abbrev replies : SharpReplies
+  replies = record {
+    first = t.first;
+    second = t.second;
+    r1 = t.r1;
+    r2 = t.r2;
+    r3 = t.r3;
+    r4 = t.r4;
+    r5 = t.r5;
+    r6 = t.r6;
+    r7 = t.r7;
+    r8 = t.r8;
+  }
 
-  abbrev l1 : List Entry
-  l1 = both ++ call_entries 0 Pin t.r1
-
-  abbrev l2 : List Entry
-  l2 = l1 ++ call_entries 0 (Unpin (Some 0)) t.r2
-
-  abbrev l3 : List Entry
-  l3 = l2 ++ call_entries 1 Pin t.r3
-
-  abbrev l4 : List Entry
-  l4 = l3 ++ call_entries 1 (Unpin (Some 0)) t.r4
-
-  abbrev l5 : List Entry
-  l5 = l4 ++ call_entries 0 Pin t.r5
-
-  abbrev l6 : List Entry
-  l6 = l5 ++ call_entries 1 Pin t.r6
-
-  abbrev l7 : List Entry
-  l7 = l6 ++ call_entries 1 (Defer (Some 0)) t.r7
-
-  run7 : Runs fresh l7 t.s7
+  run7 : Runs fresh (log7 replies) t.s7
   run7 =
-      runs_append fresh t.s6 t.s7 l6 (call_entries 1 (Defer (Some 0)) t.r7)
-      (runs_append fresh t.s5 t.s6 l5 (call_entries 1 Pin t.r6)
-      (runs_append fresh t.s4 t.s5 l4 (call_entries 0 Pin t.r5)
-      (runs_append fresh t.s3 t.s4 l3 (call_entries 1 (Unpin (Some 0)) t.r4)
-      (runs_append fresh t.s2 t.s3 l2 (call_entries 1 Pin t.r3)
-      (runs_append fresh t.s1 t.s2 l1 (call_entries 0 (Unpin (Some 0)) t.r2)
-      (runs_append fresh t.s0 t.s1 both (call_entries 0 Pin t.r1) t.registered t.one.run)
+      runs_append fresh t.s6 t.s7 (log6 replies) (call_entries 1 (Defer (Some 0)) t.r7)
+      (runs_append fresh t.s5 t.s6 (log5 replies) (call_entries 1 Pin t.r6)
+      (runs_append fresh t.s4 t.s5 (log4 replies) (call_entries 0 Pin t.r5)
+      (runs_append fresh t.s3 t.s4 (log3 replies) (call_entries 1 (Unpin (Some 0)) t.r4)
+      (runs_append fresh t.s2 t.s3 (log2 replies) (call_entries 1 Pin t.r3)
+      (runs_append fresh t.s1 t.s2 (log1 replies) (call_entries 0 (Unpin (Some 0)) t.r2)
+      (runs_append fresh t.s0 t.s1 (both replies) (call_entries 0 Pin t.r1) t.registered t.one.run)
       t.two.run) t.three.run) t.four.run) t.five.run) t.six.run) t.seven.run
 
   -- a place is free for the Flush, and nobody else is at the places
   free : HasFreePlace 1 t.s7
   free = record {
     others = λ q other. ap (λ (s : State). is_at_places (seat_of s q).machine.stage) k7.result.1 ∙ away q;
-    fewer = omega (arith, some, ap (λ (s : State). length s.queued) k7.result.1, places_stay fresh t.s7 l7 run7);
+    fewer = omega (arith, some, ap (λ (s : State). length s.queued) k7.result.1, places_stay fresh t.s7 (log7 replies) run7);
   }
     where
       away : (q : ℕ) → is_at_places (seat_of c7 q).machine.stage ≡ false
@@ -276,7 +267,7 @@ module _ (fresh new : State) (log : List Entry) (is_fresh : IsFresh fresh) (size
   collected = by_end k8.result
     where
       by_end : Flushed k8.mid k8.rs new → Collected k8.mid k8.rs new
-      by_end (inl e) = absurd (lone_calls fresh t.s7 new l7 1 (Flush (Some 0)) t.r8 is_fresh run7 free t.eight
+      by_end (inl e) = absurd (lone_calls fresh t.s7 new (log7 replies) 1 (Flush (Some 0)) t.r8 is_fresh run7 free t.eight
           (subst (EndsIn (Refused BagsFull)) (sym k8.whole) (ends_cons Began (Refused BagsFull) k8.rs e)))
       by_end (inr c) = c
 
@@ -290,12 +281,12 @@ module _ (fresh new : State) (log : List Entry) (is_fresh : IsFresh fresh) (size
   whole7 = k7.whole ∙ ap (λ (rs : List Reply). Began ∷ rs) k7.result.0
 
   -- 0 has stayed pinned
-  since : PinnedSince log 0 (length (l4 ++ up_to))
+  since : PinnedSince log 0 (length (log4 replies ++ up_to))
   since =
-      subst (λ (l : List Entry). PinnedSince l 0 (length (l4 ++ up_to))) (sym t.whole)
-      (since_all l7 (call_entries 1 (Flush (Some 0)) t.r8) 0 _
-      (since_all l6 (call_entries 1 (Defer (Some 0)) t.r7) 0 _
-      (since_all l5 (call_entries 1 Pin t.r6) 0 _ (pinned_in l4 t.r5 whole5)
+      subst (λ (l : List Entry). PinnedSince l 0 (length (log4 replies ++ up_to))) (sym t.whole)
+      (since_all (log7 replies) (call_entries 1 (Flush (Some 0)) t.r8) 0 _
+      (since_all (log6 replies) (call_entries 1 (Defer (Some 0)) t.r7) 0 _
+      (since_all (log5 replies) (call_entries 1 Pin t.r6) 0 _ (pinned_in (log4 replies) t.r5 whole5)
       (subst (λ (rs : List Reply). Keep 0 (call_entries 1 Pin rs)) (sym whole6) (calm_stays Began refl, (calm_stays Stepped refl, (calm_stays (PinnedReply 1) refl, (calm_stays Stepped refl, (calm_stays (Done (Guard 0)) refl, tt)))))))
       (subst (λ (rs : List Reply). Keep 0 (call_entries 1 (Defer (Some 0)) rs)) (sym whole7) (calm_stays Began refl, (calm_stays (Deferred 0) refl, (calm_stays (Done UnitAnswer) refl, tt)))))
       (subst (λ (rs : List Reply). Keep 0 (call_entries 1 (Flush (Some 0)) rs)) (sym k8.whole) (calm_stays Began refl, keep_goes 1 k8.rs collected.stays)))
@@ -303,37 +294,37 @@ module _ (fresh new : State) (log : List Entry) (is_fresh : IsFresh fresh) (size
   abbrev flushing : List Entry
   flushing = goes_of 1 k8.rs
 
-  log_is : log ≡ l7 ++ begin 1 (Flush (Some 0)) ∷ flushing
-  log_is = t.whole ∙ ap (λ (rs : List Reply). l7 ++ call_entries 1 (Flush (Some 0)) rs) k8.whole
+  log_is : log ≡ log7 replies ++ begin 1 (Flush (Some 0)) ∷ flushing
+  log_is = t.whole ∙ ap (λ (rs : List Reply). log7 replies ++ call_entries 1 (Flush (Some 0)) rs) k8.whole
 
   pub sharp_run : Runs fresh log new
-  sharp_run = subst (λ (l : List Entry). Runs fresh l new) (sym t.whole) (runs_append fresh t.s7 new l7 (call_entries 1 (Flush (Some 0)) t.r8) run7 t.eight.run)
+  sharp_run = subst (λ (l : List Entry). Runs fresh l new) (sym t.whole) (runs_append fresh t.s7 new (log7 replies) (call_entries 1 (Flush (Some 0)) t.r8) run7 t.eight.run)
 
   pub sharp : IsSharp fresh log new
   sharp = record {
     bag = its_bag;
     stored = ap (λ (s : State). s.queued) collected.is;
     holds = refl;
-    before = l7 ++ begin 1 (Flush (Some 0)) ∷ goes_of 1 collected.front;
+    before = log7 replies ++ begin 1 (Flush (Some 0)) ∷ goes_of 1 collected.front;
     collection = collected.behind;
     begins = collected.begins;
-    ends_so = log_is ∙ ap (λ (es : List Entry). l7 ++ begin 1 (Flush (Some 0)) ∷ es) (ap (goes_of 1) collected.split ∙ goes_append 1 collected.front collected.behind)
-        ∙ sym (append_assoc l7 (begin 1 (Flush (Some 0)) ∷ goes_of 1 collected.front) (goes_of 1 collected.behind));
-    earlier = runs_append fresh t.s7 collected.begins l7 (begin 1 (Flush (Some 0)) ∷ goes_of 1 collected.front) run7 (k8.mid, k8.began, collected.to);
+    ends_so = log_is ∙ ap (λ (es : List Entry). log7 replies ++ begin 1 (Flush (Some 0)) ∷ es) (ap (goes_of 1) collected.split ∙ goes_append 1 collected.front collected.behind)
+        ∙ sym (append_assoc (log7 replies) (begin 1 (Flush (Some 0)) ∷ goes_of 1 collected.front) (goes_of 1 collected.behind));
+    earlier = runs_append fresh t.s7 collected.begins (log7 replies) (begin 1 (Flush (Some 0)) ∷ goes_of 1 collected.front) run7 (k8.mid, k8.began, collected.to);
     collects = collected.from;
     expiry = collected.expiry;
-    place = length (l6 ++ begin 1 (Defer (Some 0)) ∷ []);
-    last = length l7 + length flushing;
-    at_end = omega (arith, ap length log_is, length-append l7 (begin 1 (Flush (Some 0)) ∷ flushing));
-    deferred = ap (λ (l : List Entry). slice_get l (length (l6 ++ begin 1 (Defer (Some 0)) ∷ []))) t.whole ∙ deferred_in l6 (call_entries 1 (Flush (Some 0)) t.r8) t.r7 whole7;
+    place = length (log6 replies ++ begin 1 (Defer (Some 0)) ∷ []);
+    last = length (log7 replies) + length flushing;
+    at_end = omega (arith, ap length log_is, length-append (log7 replies) (begin 1 (Flush (Some 0)) ∷ flushing));
+    deferred = ap (λ (l : List Entry). slice_get l (length (log6 replies ++ begin 1 (Defer (Some 0)) ∷ []))) t.whole ∙ deferred_in (log6 replies) (call_entries 1 (Flush (Some 0)) t.r8) t.r7 whole7;
     blocked = record {
-      at = length (l4 ++ up_to);
+      at = length (log4 replies ++ up_to);
       before = omega (
         arith,
-        length-append l4 up_to,
-        length-append l4 (call_entries 0 Pin t.r5),
-        length-append l5 (call_entries 1 Pin t.r6),
-        length-append l6 (begin 1 (Defer (Some 0)) ∷ []),
+        length-append (log4 replies) up_to,
+        length-append (log4 replies) (call_entries 0 Pin t.r5),
+        length-append (log5 replies) (call_entries 1 Pin t.r6),
+        length-append (log6 replies) (begin 1 (Defer (Some 0)) ∷ []),
         ap (λ (rs : List Reply). length (call_entries 0 Pin rs)) whole5,
       );
       published = since.published;
