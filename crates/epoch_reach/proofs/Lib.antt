@@ -10,6 +10,7 @@ pub mod TurnsGiven
 pub mod HeapSteps
 pub mod NamesOnce
 pub mod JobsAsDeferred
+pub mod LoneWorld
 pub mod ReachLost
 pub mod CellsStand
 pub mod CellsKept

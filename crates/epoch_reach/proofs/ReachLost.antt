@@ -1,10 +1,8 @@
 -- A short run whose cells don't leave rightly: a participant takes out what it has loaded from a root.
-use Rattle.std.proofs.Common.{◌≡◌, ◌≢◌, ℕ, zero, suc, false, List, [], ◌∷◌, Some, None, inl, inr, refl, ap, sym, arith, slice_get}
+use Rattle.std.proofs.Common.{◌≡◌, ◌≢◌, ℕ, List, [], ◌∷◌, Some, None, inl, inr, refl, ap, sym, arith}
 use Rattle.epoch_cells.specs.PlainCells.{empty, filled}
-use Rattle.epoch_cells.specs.declared.cells.name.Name.{Name}
 use Rattle.epoch_bags.specs.declared.queue.TakeStep.TheVariants.{Empty}
 use Rattle.epoch_machine.specs.declared.machine.Action.TheVariants.{Pin as PinAction}
-use Rattle.epoch_machine.specs.declared.machine.Sizes.{Sizes}
 use Rattle.epoch_machine.specs.declared.machine.Stage.{Stage}
 use Rattle.epoch_machine.specs.declared.machine.Stage.TheVariants.{Idle as Resting, LoadPin, StorePin, ReloadPin, LoadScan, Scan, Advance, Take as TakeStage, End}
 use Rattle.epoch_machine.specs.Machine.{Machine}
@@ -26,47 +24,18 @@ use Rattle.epoch_laws.specs.declared.step.Word.{Word}
 use Rattle.epoch_laws.specs.declared.step.Word.TheVariants.{Free, Unpinned, Pinned}
 use Rattle.epoch_heap.specs.Heap.{Cell, Heap, null, nulls, answers}
 use Rattle.epoch_reach.specs.Reach.{LetsGo, TakesOut, past_of, LosesLoaded}
+use Rattle.epoch_reach.proofs.LoneWorld.{sizes, lone_world, lone_heap, lone_machine, seat, name, lone_fresh}
 use Rattle.epoch_laws.specs.Collections.{outlook, TakesAhead}
-use Rattle.epoch_laws.specs.Run.{WorldSeat, State, Open, seat_of, free_seat, lowest, lowest_from, Runs, IsFresh}
+use Rattle.epoch_laws.specs.Run.{WorldSeat, State, free_seat, lowest, lowest_from, Runs, IsFresh}
 
-abbrev sizes : Sizes
-sizes = record { positions = 1; bag_jobs = 64; collect_bags = 8 }
-
--- the world has one participant, one cell without fields, and one root
 abbrev world : WorldSeat → ℕ → Heap → State
-world seat epoch heap = record {
-  sizes = sizes;
-  epoch = epoch;
-  seats = seat ∷ [];
-  queued = [];
-  tickets = 0;
-  ending = Open;
-  places = [];
-  seen = [];
-  ahead = [];
-  room = [];
-  heap = heap;
-}
+world seat epoch heap = lone_world 0 seat epoch heap
 
 abbrev heap : Ptr → Cell → Heap
-heap root cell = record { roots = root ∷ []; cells = cell ∷ []; fields = 0; align = 1; start_turn = 0 }
+heap root cell = lone_heap 0 root cell
 
 abbrev machine : Stage → ℕ → ℕ → Machine Deferral
-machine stage guards pins = record {
-  stage = stage;
-  action = PinAction;
-  guards = guards;
-  published = 0;
-  pins = pins;
-  sizes = sizes;
-  full = false;
-  held = [];
-  hand = [];
-}
-
-abbrev seat : Word → Machine Deferral → Progress → List ℕ → WorldSeat
-seat word m progress guards =
-    record { word = word; machine = m; progress = progress; guards = guards; paused = None; readings = [] }
+machine stage guards pins = lone_machine PinAction stage guards pins []
 
 -- the seat while it pins, and when it holds its guard
 abbrev pinning : Word → Stage → ℕ → WorldSeat
@@ -74,9 +43,6 @@ pinning word stage pins = seat word (machine stage 0 pins) (Driven Pin) []
 
 abbrev pinned : Progress → WorldSeat
 pinned progress = seat (Pinned 0) (machine Resting 1 1) progress (0 ∷ [])
-
-abbrev name : Name
-name = record { turn = 0; slot = 1; some = omega arith; within = omega arith }
 
 abbrev ptr : Ptr
 ptr = record { name = Some name; tag = 0 }
@@ -269,32 +235,6 @@ run = (
   ),
 )
 
-fresh_first : IsFresh first
-fresh_first = record {
-  sized = refl;
-  in_range =
-      record
-      { positions = omega arith; bag_jobs = (omega arith, omega arith); collect_bags = (omega arith, omega arith) };
-  free = free;
-  none_queued = refl;
-  no_tickets = refl;
-  open_end = refl;
-  null_roots = null_roots;
-  empty_cells = empty_cells;
-}
-  where
-    free : (p : ℕ) → seat_of first p ≡ free_seat sizes
-    free zero = refl
-    free (suc p) = refl
-
-    null_roots : (i : ℕ) (other : Ptr) → slice_get (null ∷ []) i ≡ Some other → other ≡ null
-    null_roots zero other e = cc
-    null_roots (suc i) other e = absurd (cc)
-
-    empty_cells : (k : ℕ) (cell : Cell) → slice_get (empty 0 ∷ []) k ≡ Some cell → cell ≡ empty 0
-    empty_cells zero cell e = cc
-    empty_cells (suc k) cell e = absurd (cc)
-
 -- no entry after the load lets go of what was loaded
 kept : (step : Step) (reply : Reply) → reply ≢ Began → reply ≢ Repinned 0 → ¬ (LetsGo (entry step reply) 0 0)
 kept step reply no_begin no_repin lets = elim lets [ inl begins ↦ no_begin begins.1 | inr repins ↦ no_repin repins ]
@@ -344,4 +284,4 @@ loses = (0, 0, name, loaded, inr (inr (inl takes)))
 
 pub some_run_loses : (s : State) × (log : List Entry) × (new : State) × IsFresh s × (run : Runs s log new)
     × LosesLoaded (past_of s log new run)
-some_run_loses = (first, log, last, fresh_first, run, loses)
+some_run_loses = (first, log, last, lone_fresh 0, run, loses)
