@@ -10,6 +10,7 @@ use Rattle.epoch_laws.specs.declared.step.Step.TheVariants.{Register, Begin, Go}
 use Rattle.epoch_laws.specs.Calls.{call_entries, goes_of, EndsAtLast}
 use Rattle.epoch_laws.specs.Run.{State, IsFresh}
 use Rattle.epoch_rounds.specs.Sharp.{pair_sizes, TakesSharpList, LeadsToSharp}
+use Rattle.epoch_rounds.proofs.SharpLog.{SharpReplies, both, log1, log2, log3, log4, log5, log6, log7, log8}
 use Rattle.epoch_rounds.proofs.SharpList.{sharp, sharp_run}
 use Rattle.epoch_world.specs.Listed.{ListsStep, ListsCall}
 
@@ -58,43 +59,8 @@ module _ (fresh half s0 s1 s2 s3 s4 s5 s6 s7 new : State) (none l0 l1 l2 l3 l4 l
     (three : ListsCall 1 Pin s2 l3 s3 l4) (four : ListsCall 1 (Unpin (Some 0)) s3 l4 s4 l5)
     (five : ListsCall 0 Pin s4 l5 s5 l6) (six : ListsCall 1 Pin s5 l6 s6 l7)
     (seven : ListsCall 1 (Defer (Some 0)) s6 l7 s7 l8) (eight : ListsCall 1 (Flush (Some 0)) s7 l8 new l9) where
-  abbrev both : List Entry
-  both = record { step = Register; reply = first.reply } ∷ record { step = Register; reply = second.reply } ∷ []
-
-  abbrev log1 : List Entry
-  log1 = both ++ call_entries 0 Pin one.replies
-
-  abbrev log2 : List Entry
-  log2 = log1 ++ call_entries 0 (Unpin (Some 0)) two.replies
-
-  abbrev log3 : List Entry
-  log3 = log2 ++ call_entries 1 Pin three.replies
-
-  abbrev log4 : List Entry
-  log4 = log3 ++ call_entries 1 (Unpin (Some 0)) four.replies
-
-  abbrev log5 : List Entry
-  log5 = log4 ++ call_entries 0 Pin five.replies
-
-  abbrev log6 : List Entry
-  log6 = log5 ++ call_entries 1 Pin six.replies
-
-  abbrev log7 : List Entry
-  log7 = log6 ++ call_entries 1 (Defer (Some 0)) seven.replies
-
-  abbrev log : List Entry
-  log = log7 ++ call_entries 1 (Flush (Some 0)) eight.replies
-
-  takes : TakesSharpList fresh log new
-  takes = record {
-    s0 = s0;
-    s1 = s1;
-    s2 = s2;
-    s3 = s3;
-    s4 = s4;
-    s5 = s5;
-    s6 = s6;
-    s7 = s7;
+  abbrev replies : SharpReplies
+  replies = record {
     first = first.reply;
     second = second.reply;
     r1 = one.replies;
@@ -105,6 +71,28 @@ module _ (fresh half s0 s1 s2 s3 s4 s5 s6 s7 new : State) (none l0 l1 l2 l3 l4 l
     r6 = six.replies;
     r7 = seven.replies;
     r8 = eight.replies;
+  }
+
+  takes : TakesSharpList fresh (log8 replies) new
+  takes = record {
+    s0 = s0;
+    s1 = s1;
+    s2 = s2;
+    s3 = s3;
+    s4 = s4;
+    s5 = s5;
+    s6 = s6;
+    s7 = s7;
+    first = replies.first;
+    second = replies.second;
+    r1 = replies.r1;
+    r2 = replies.r2;
+    r3 = replies.r3;
+    r4 = replies.r4;
+    r5 = replies.r5;
+    r6 = replies.r6;
+    r7 = replies.r7;
+    r8 = replies.r8;
     registered = (half, first.took, (s0, second.took, refl));
     one = one.ends;
     two = two.ends;
@@ -117,19 +105,19 @@ module _ (fresh half s0 s1 s2 s3 s4 s5 s6 s7 new : State) (none l0 l1 l2 l3 l4 l
     whole = refl;
   }
 
-  listed : none ≡ [] → l9 ≡ map (λ (entry : Entry). entry.step) log
+  listed : none ≡ [] → l9 ≡ map (λ (entry : Entry). entry.step) (log8 replies)
   listed empty =
-      listed_on l8 l9 log7 (call_entries 1 (Flush (Some 0)) eight.replies)
-      (listed_on l7 l8 log6 (call_entries 1 (Defer (Some 0)) seven.replies)
-      (listed_on l6 l7 log5 (call_entries 1 Pin six.replies)
-      (listed_on l5 l6 log4 (call_entries 0 Pin five.replies)
-      (listed_on l4 l5 log3 (call_entries 1 (Unpin (Some 0)) four.replies)
-      (listed_on l3 l4 log2 (call_entries 1 Pin three.replies)
-      (listed_on l2 l3 log1 (call_entries 0 (Unpin (Some 0)) two.replies)
-      (listed_on l1 l2 both (call_entries 0 Pin one.replies) begins one.listed)
+      listed_on l8 l9 (log7 replies) (call_entries 1 (Flush (Some 0)) eight.replies)
+      (listed_on l7 l8 (log6 replies) (call_entries 1 (Defer (Some 0)) seven.replies)
+      (listed_on l6 l7 (log5 replies) (call_entries 1 Pin six.replies)
+      (listed_on l5 l6 (log4 replies) (call_entries 0 Pin five.replies)
+      (listed_on l4 l5 (log3 replies) (call_entries 1 (Unpin (Some 0)) four.replies)
+      (listed_on l3 l4 (log2 replies) (call_entries 1 Pin three.replies)
+      (listed_on l2 l3 (log1 replies) (call_entries 0 (Unpin (Some 0)) two.replies)
+      (listed_on l1 l2 (both replies) (call_entries 0 Pin one.replies) begins one.listed)
       two.listed) three.listed) four.listed) five.listed) six.listed) seven.listed) eight.listed
     where
-      begins : l1 ≡ map (λ (entry : Entry). entry.step) both
+      begins : l1 ≡ map (λ (entry : Entry). entry.step) (both replies)
       begins = second.listed ∙ ap (λ (steps : List Step). steps ++ Register ∷ []) (first.listed ∙ ap (λ (steps : List Step). steps ++ Register ∷ []) empty)
 
   pub leads_to_sharp : IsFresh fresh → fresh.sizes ≡ pair_sizes → fresh.epoch ≡ 0 → length fresh.places ≡ 1 → none ≡ [] → LeadsToSharp l9
@@ -138,12 +126,12 @@ module _ (fresh half s0 s1 s2 s3 s4 s5 s6 s7 new : State) (none l0 l1 l2 l3 l4 l
       record {
         fresh = fresh;
         new = new;
-        log = log;
+        log = log8 replies;
         is_fresh = is_fresh;
         sized = sized;
         at_first = at_first;
         one_place = one_place;
         listed = listed empty;
-        run = sharp_run fresh new log is_fresh sized at_first some takes;
-        sharp = sharp fresh new log is_fresh sized at_first some takes;
+        run = sharp_run fresh new (log8 replies) is_fresh sized at_first some takes;
+        sharp = sharp fresh new (log8 replies) is_fresh sized at_first some takes;
       }
