@@ -23,7 +23,8 @@ pub nothing_given : {J : Type 0} (m n : Machine J) → m ≡ n → ((x k : ℕ) 
 nothing_given m n is other = subst (λ (o : Machine _). o ≡ gives o o.stage (rest o.hand)) is (ungiven m m.stage (rest m.hand) other)
 
 -- what fits the one fits the other
-pub fits_within : {J : Type 0} (m n : Machine J) (s : Stage) → m ≡ n → StageFits n.sizes (length n.held) s → StageFits m.sizes (length m.held) s
+pub fits_within : {J : Type 0} (m n : Machine J) (s : Stage) → m ≡ n → StageFits n.sizes (length n.held) s
+    → StageFits m.sizes (length m.held) s
 fits_within m n s is fits = subst (λ (o : Machine _). StageFits o.sizes (length o.held) s) (sym is) fits
 
 -- a bag is in hand exactly while its jobs are called
@@ -37,5 +38,6 @@ none_in_hand [] s x k at empty = refl
 none_in_hand (job ∷ jobs) s x k at empty = absurd (cc (empty, ap (λ (t : Stage). not (is_calling t)) at))
 
 -- a hand that had none has none after a stage that calls nothing
-pub still_none : (none : Bool) (s after : Stage) (x k : ℕ) → none ≡ not (is_calling s) → s ≡ Take x k → is_calling after ≡ false → none ≡ not (is_calling after)
+pub still_none : (none : Bool) (s after : Stage) (x k : ℕ) → none ≡ not (is_calling s) → s ≡ Take x k
+    → is_calling after ≡ false → none ≡ not (is_calling after)
 still_none none s after x k held at calls = held ∙ ap (λ (t : Stage). not (is_calling t)) at ∙ sym (ap not calls)

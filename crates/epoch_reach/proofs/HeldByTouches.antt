@@ -17,8 +17,8 @@ holds_named Holds step h None before after = before
 
 -- a placement fills a cell that stood empty, with the cell's turn, or changes nothing
 pub holds_placed : (Holds : Heap → Type 0) (v k : ℕ) (found : Ptr) (h : Heap) (did : Touched) → Holds h
-    → ((n : Name) (cell : Cell) → slice_get h.cells (n.slot - 1) ≡ Some cell → cell.value ≡ None → n.turn ≡ cell.turn
-    → Holds (with_cell_at h n (filled n.turn 0 (record { value = v; fields = nulls 16 }))))
+    → ((n : Name) (cell : Cell) → slice_get h.cells (n.slot - 1) ≡ Some cell → cell.value ≡ None
+    → n.turn ≡ cell.turn → Holds (with_cell_at h n (filled n.turn 0 (record { value = v; fields = nulls 16 }))))
     → Places v k found h (slice_get h.cells k) did → Holds did.heap
 holds_placed Holds v k found h did before after is = at_cell (slice_get h.cells k) refl is
   where
@@ -33,8 +33,8 @@ holds_placed Holds v k found h did before after is = at_cell (slice_get h.cells 
 -- what holds of the heap, and of what each change of it leaves
 pub record HoldsEach (Holds : Heap → Type 0) (h : Heap) : Type 0 where
   pub before : Holds h
-  pub placed : (v : ℕ) (n : Name) (cell : Cell) → slice_get h.cells (n.slot - 1) ≡ Some cell → cell.value ≡ None → n.turn ≡ cell.turn
-      → Holds (with_cell_at h n (filled n.turn 0 (record { value = v; fields = nulls 16 })))
+  pub placed : (v : ℕ) (n : Name) (cell : Cell) → slice_get h.cells (n.slot - 1) ≡ Some cell → cell.value ≡ None
+      → n.turn ≡ cell.turn → Holds (with_cell_at h n (filled n.turn 0 (record { value = v; fields = nulls 16 })))
   pub read : (n : Name) → Holds (read_by h n (cell_at h n) (readable (cell_at h n))).heap
   pub left : (n : Name) → Holds (left_by h n (cell_at h n)).heap
   pub put : (v : ℕ) (n : Name) → Holds (written_by h n v (unread (cell_at h n))).heap

@@ -274,22 +274,30 @@ took old new p seat x k r none (Got, jobs, queued, told, (bag, its, expired, ins
 none_in_none : (x : ℕ) → NoneExpired x []
 none_in_none x bag left inserted expired = absurd (omega (arith, one_less [] left bag inserted))
 
+abbrev among : State → List Bool → List ℕ → List ℕ → List Bool → Heap → State
+among at places seen ahead room heap = with_heap (with_places at places seen ahead room) heap
+
+-- this step of the collection for x is all that a Go of p can be, whatever the places and the cells are
+abbrev OnlyTakes : ℕ → ℕ → State → Type 0
+OnlyTakes p x at = (places : List Bool) (seen ahead : List ℕ) (room : List Bool) (heap : Heap) (new : State) (told : Reply)
+    → Moves (among at places seen ahead room heap) (Go p) told (with_places new places seen ahead room)
+    → PerformsAsk (among at places seen ahead room heap) p (seat_of at p) (Take x 0) (TakeBag x) told
+    (with_places new places seen ahead room)
+
 -- a Go of p in a collection leaves the state as it is, or ends the collection
-looks : (p x : ℕ) (at after : State) → NoneExpired x at.queued
-    → core (with_seat at p (seat_of at p)) ≡ at → core (with_seat at p (seen_all (seat_of at p))) ≡ after
-    → ((places : List Bool) (seen ahead : List ℕ) (room : List Bool) (heap : Heap) (new : State) (told : Reply)
-    → Moves (with_heap (with_places at places seen ahead room) heap) (Go p) told (with_places new places seen ahead room)
-    → PerformsAsk (with_heap (with_places at places seen ahead room) heap) p (seat_of at p) (Take x 0) (TakeBag x) told (with_places new places seen ahead room))
-    → OneOf at p after
-looks p x at after none same ends performs old new told e did =
-    let before : State = with_heap (with_places at old.places old.seen old.ahead old.room) old.heap in
+looks : (p x : ℕ) (at after : State) → NoneExpired x at.queued → core (with_seat at p (seat_of at p)) ≡ at
+    → core (with_seat at p (seen_all (seat_of at p))) ≡ after → OnlyTakes p x at → OneOf at p after
+looks p x at after none same ends takes old new told e did =
+    let before : State = among at old.places old.seen old.ahead old.room old.heap in
     let later : State = with_places new old.places old.seen old.ahead old.room in
     let moves = subst (λ (s : State). Moves s (Go p) told later) (back at old e) did.0 in
-    let t = took before later p (seat_of at p) x 0 told none (performs old.places old.seen old.ahead old.room old.heap new told moves) in
+    let asks = takes old.places old.seen old.ahead old.room old.heap new told moves in
+    let t = took before later p (seat_of at p) x 0 told none asks in
     (t.0, elim t.1 [ inl e ↦ inl (ap core e ∙ same) | inr e ↦ inr (ap core e ∙ ends) ])
 
 one1 : OneOf b1_7 0 b1_8
-one1 = looks 0 1 b1_7 b1_8 (none_in_none 1) refl refl (λ pl se ah ro hp new told did. elim did [ inl e ↦ absurd (cc (e.0)) | inr performs ↦ performs.1 ])
+one1 = looks 0 1 b1_7 b1_8 (none_in_none 1) refl refl (λ pl se ah ro hp new told did.
+    elim did [ inl e ↦ absurd (cc (e.0)) | inr takes ↦ takes.1 ])
 
 pub call1 : Leads 0 b1_0 (To c1)
 unfolding lowest lowest_from
@@ -311,7 +319,8 @@ call2 =
     (end_so 0 b2_1 c2 (Done UnitAnswer) (λ pl se ah ro hp. refl) refl))
 
 one3 : OneOf b3_7 1 b3_8
-one3 = looks 1 2 b3_7 b3_8 (none_in_none 2) refl refl (λ pl se ah ro hp new told did. elim did [ inl e ↦ absurd (cc (e.0)) | inr performs ↦ performs.1 ])
+one3 = looks 1 2 b3_7 b3_8 (none_in_none 2) refl refl (λ pl se ah ro hp new told did.
+    elim did [ inl e ↦ absurd (cc (e.0)) | inr takes ↦ takes.1 ])
 
 pub call3 : Leads 1 b3_0 (To c3)
 unfolding lowest lowest_from
@@ -432,10 +441,12 @@ flushed_more old mid new rs did (inl e) = inl (ends_more rs e)
 flushed_more old mid new rs did (inr c) = inr (collected_more old mid new rs did c)
 
 oned : OneOf d4 1 d5
-oned = looks 1 3 d4 d5 none_old refl refl (λ pl se ah ro hp new told did. elim did [ inl e ↦ absurd (cc (e.0)) | inr performs ↦ performs.1 ])
+oned = looks 1 3 d4 d5 none_old refl refl (λ pl se ah ro hp new told did.
+    elim did [ inl e ↦ absurd (cc (e.0)) | inr takes ↦ takes.1 ])
 
 oneg : OneOf g4 1 g5
-oneg = looks 1 3 g4 g5 (none_in_none 3) refl refl (λ pl se ah ro hp new told did. elim did [ inl e ↦ absurd (cc (e.0)) | inr performs ↦ performs.1 ])
+oneg = looks 1 3 g4 g5 (none_in_none 3) refl refl (λ pl se ah ro hp new told did.
+    elim did [ inl e ↦ absurd (cc (e.0)) | inr takes ↦ takes.1 ])
 
 collecting : Leads 1 d4 Collecting
 collecting = loops 1 d4 d5 Collecting oned (ends 1 d5 d6 (Done UnitAnswer) Collecting (λ pl se ah ro hp. refl) refl (λ old new e. (e, (done_stays UnitAnswer, tt)))) (λ old mid new rs did e. (e.0, (stepped_stays, e.1)))

@@ -37,6 +37,7 @@ invariant_of-self-in-Got g c =
       limit = c.self.invariant.limit;
       within = c.self.invariant.within;
       pins = c.self.invariant.pins;
-      stage = c.after_job-self-inside.ensures.fits c.self.inside.sizes _ refl fits.0 (fits_within _ _ _ c.self.view_is c.after_collect-after.ensures.fits);
+      stage = c.after_job-self-inside.ensures.fits c.self.inside.sizes _ refl fits.0
+          (fits_within _ _ _ c.self.view_is c.after_collect-after.ensures.fits);
       hand = hand_after _ _ _ c.is_empty-none_left.ensures.test (c.after_job-self-inside.ensures.calls c.after_collect-after.ensures.calls_nothing);
     }
