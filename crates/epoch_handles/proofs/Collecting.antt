@@ -21,9 +21,9 @@ use Rattle.epoch_machine.specs.declared.machine.Stage.TheVariants.{Take}
 use Rattle.epoch_handles.specs.declared.local.Local.{Local}
 use Rattle.epoch_machine.specs.Machine.{Machine, asks, ask_at, gives, rest, after_job, after_collect, took_heard, is_taking, with_stage}
 use Rattle.epoch_machine.specs.Asks.{Log, Exchange, JobGiven, TakeStepped}
-use Rattle.epoch_handles.specs.Drives.{Sight, Cursors, Performed, AreCalled, at_start}
-use Rattle.epoch_handles.specs.Handles.{sight_of, IsSame, Scans, CallsHand, HasTaken, TakesBags, Collects}
-use Rattle.epoch_handles.proofs.Driving.{performed_on, called_on, none_is_called}
+use Rattle.epoch_handles.specs.Drives.{Sight, Cursors, Situation, Performed, GivesOnly, NoJob, situated, at_start}
+use Rattle.epoch_handles.specs.Handles.{sight_of, situation_of, IsSame, Scans, CallsHand, HasTaken, TakesBags, Collects}
+use Rattle.epoch_handles.proofs.Driving.{one_performed, performed_on, gives_on, gives_also}
 use Rattle.epoch_machine.proofs.Stages.{nothing_given}
 
 -- JOBS
@@ -34,8 +34,8 @@ module _ {J : Type 0} where
   with_hand m x k jobs = record m { stage = after_job m x k jobs; hand = jobs }
 
   call_performed : (places : ℕ) (m : Machine J) (v : Sight J) (c : Cursors) (x k : ℕ) (job : J) (jobs : List J)
-      → Performed places (with_hand m x k (job ∷ jobs)) v c (record { ask = CallJob; reply = JobGiven job } ∷ []) (with_hand m x k jobs) v c
-  call_performed places m v c x k job jobs = (refl, refl, (v, c, (refl, refl), (refl, refl, refl)))
+      → Performed places (situated (with_hand m x k (job ∷ jobs)) v c) (record { ask = CallJob; reply = JobGiven job } ∷ []) (situated (with_hand m x k jobs) v c)
+  call_performed places m v c x k job jobs = one_performed places _ _ _ (record { asked = refl; is_reply = refl; performs = (refl, refl); machine = refl })
 
 -- where no call is asked for, none is left
 nothing_left : {J : Type 0} (m : Machine J) (x k : ℕ) (jobs : List J) → ask_at (after_job m x k jobs) ≢ Some CallJob → jobs ≡ []
@@ -45,7 +45,9 @@ nothing_left m x k (job ∷ jobs) none = absurd (none refl)
 -- of the jobs in hand these are left, and the others were called
 pub record HasCalled {T W : Type 0} (done : W → Type 0) (h : Local T W) (x k : ℕ) (n : Local T W) : Type 0 where
   pub machine : n.machine ≡ with_hand h.machine x k n.machine.hand
-  pub performed : (c : Cursors) → (log : Log (Job W)) × Performed h.collector.now.places.capacity h.machine (sight_of h) c log n.machine (sight_of h) c × AreCalled (IsCalled done) log
+  pub performed : (c : Cursors) → (log : Log (Job W))
+      × Performed h.collector.now.places.capacity (situation_of h c) log (situated n.machine (sight_of h) c)
+      × GivesOnly (IsCalled done) log
 
 module _ {T W : Type 0} where
   pub one_more_called : (done : W → Type 0) (h n : Local T W) (x k : ℕ) (job : Job W) (m : Machine (Job W))
@@ -63,11 +65,11 @@ module _ {T W : Type 0} where
         machine = goes ∙ ap (λ (js : List (Job W)). with_hand h.machine x k js) (sym left);
         performed = λ c. (
           (called.performed c).0 ++ record { ask = CallJob; reply = JobGiven job } ∷ [],
-          performed_on h.collector.now.places.capacity h.machine n.machine m (sight_of h) (sight_of h) (sight_of h) c c c (called.performed c).0 _ (called.performed c).1
-              (subst (λ (z : Machine (Job W)). Performed h.collector.now.places.capacity n.machine (sight_of h) c (record { ask = CallJob; reply = JobGiven job } ∷ []) z (sight_of h) c) (sym goes)
-              (subst (λ (z : Machine (Job W)). Performed h.collector.now.places.capacity z (sight_of h) c (record { ask = CallJob; reply = JobGiven job } ∷ []) (with_hand h.machine x k jobs) (sight_of h) c) (sym was)
+          performed_on h.collector.now.places.capacity (situation_of h c) (situated n.machine (sight_of h) c) (situated m (sight_of h) c) (called.performed c).0 _ (called.performed c).1
+              (subst (λ (z : Machine (Job W)). Performed h.collector.now.places.capacity (situated n.machine (sight_of h) c) (record { ask = CallJob; reply = JobGiven job } ∷ []) (situated z (sight_of h) c)) (sym goes)
+              (subst (λ (z : Machine (Job W)). Performed h.collector.now.places.capacity (situated z (sight_of h) c) (record { ask = CallJob; reply = JobGiven job } ∷ []) (situated (with_hand h.machine x k jobs) (sight_of h) c)) (sym was)
               (call_performed h.collector.now.places.capacity h.machine (sight_of h) c x k job jobs))),
-          called_on (IsCalled done) (called.performed c).0 (record { ask = CallJob; reply = JobGiven job } ∷ []) (called.performed c).2 (ran, tt),
+          gives_on (IsCalled done) (called.performed c).0 (record { ask = CallJob; reply = JobGiven job } ∷ []) (called.performed c).2 (ran, tt),
         );
       }
 
@@ -84,7 +86,7 @@ module _ {T W : Type 0} where
         machine = same ∙ was;
         performed = λ c. (
           (called.performed c).0,
-          subst (λ (z : Machine (Job W)). Performed h.collector.now.places.capacity h.machine (sight_of h) c (called.performed c).0 z (sight_of h) c) (sym same) (called.performed c).1,
+          subst (λ (z : Machine (Job W)). Performed h.collector.now.places.capacity (situation_of h c) (called.performed c).0 (situated z (sight_of h) c)) (sym same) (called.performed c).1,
           (called.performed c).2,
         );
       }
@@ -135,18 +137,22 @@ module _ {T W : Type 0} where
       → m ≡ took_heard n.machine n.machine.stage step m.hand
       → (step ≡ Got → m.hand ≡ bag.jobs)
       → TakeMoves h.collector.now.places.capacity x cursor n.claimer.me step next me bag
-      → (log : Log (Job W)) × Performed h.collector.now.places.capacity h.machine (sight_of h) at_start log m (record { words = n.seat.me.0; places = me })
-      (record { put = PutLook 0; take = next }) × AreCalled (IsCalled done) log
+      → (log : Log (Job W))
+      × Performed h.collector.now.places.capacity (situation_of h at_start) log (situated m (record { words = n.seat.me.0; places = me }) (record { put = PutLook 0; take = next }))
+      × GivesOnly (IsCalled done) log
   take_performed done h n x cursor next step m me bag taken after jobs moves =
-      let exchange : Exchange (Job W) = record { ask = TakeBag x; reply = TakeStepped step m.hand } in (
+      let exchange : Exchange (Job W) = record { ask = TakeBag x; reply = TakeStepped step m.hand } in
+      let between : Situation (Job W) = situation_of n (record { put = PutLook 0; take = cursor }) in
+      let last : Situation (Job W) = situated m (record { words = n.seat.me.0; places = me }) (record { put = PutLook 0; take = next }) in (
         taken.performed.0 ++ exchange ∷ [],
-        performed_on h.collector.now.places.capacity h.machine n.machine m (sight_of h) (sight_of n) (record { words = n.seat.me.0; places = me }) at_start
-            (record { put = PutLook 0; take = cursor }) (record { put = PutLook 0; take = next }) taken.performed.0 (exchange ∷ []) taken.performed.1 (
-              ap (λ (z : Machine (Job W)). ask_at z.stage) taken.machine,
-              tt,
-              (record { words = n.seat.me.0; places = me }, record { put = PutLook 0; take = next }, (refl, refl, (bag, jobs, moves)), (after, refl, refl)),
-            ),
-        called_on (IsCalled done) taken.performed.0 (exchange ∷ []) taken.performed.2 (tt, tt),
+        performed_on h.collector.now.places.capacity (situation_of h at_start) between last taken.performed.0 (exchange ∷ []) taken.performed.1
+            (one_performed h.collector.now.places.capacity between last exchange (record {
+              asked = ap (λ (z : Machine (Job W)). ask_at z.stage) taken.machine;
+              is_reply = tt;
+              performs = (refl, refl, (bag, jobs, moves));
+              machine = after;
+            })),
+        gives_on (IsCalled done) taken.performed.0 (exchange ∷ []) taken.performed.2 (tt, tt),
       )
 
   pub take_begins : (done : W → Type 0) (h : Local T W) (x : ℕ) (cursor : TakeCursor)
@@ -162,7 +168,7 @@ module _ {T W : Type 0} where
     at = at;
     seat = refl;
     same = record { position = refl; collector = refl };
-    performed = ([], (refl, refl, ap (λ (z : TakeCursor). record { put = PutLook 0; take = z }) first), tt);
+    performed = ([], ap (λ (z : TakeCursor). situation_of h (record { put = PutLook 0; take = z })) first, tt);
   }
 
   -- a machine that looks for a bag is as it was behind a step that got none
@@ -256,8 +262,9 @@ module _ {T W : Type 0} where
     pub rests : RestsAt w.claimer.me
     pub seat : w.seat ≡ h.seat
     pub same : IsSame h w
-    pub performed : (log : Log (Job W)) × Performed h.collector.now.places.capacity h.machine (sight_of h) at_start log w.machine (sight_of w)
-        (record { put = PutLook 0; take = next }) × AreCalled (IsCalled done) log
+    pub performed : (log : Log (Job W))
+        × Performed h.collector.now.places.capacity (situation_of h at_start) log (situation_of w (record { put = PutLook 0; take = next }))
+        × GivesOnly (IsCalled done) log
 
   pub bag_called : (done : W → Type 0) (h n w : Local T W) (x : ℕ) (cursor next : TakeCursor) (m : Machine (Job W)) (claimer : _) (bag : Sealed (Job W))
       → (taken : HasTaken done h x cursor n)
@@ -273,8 +280,10 @@ module _ {T W : Type 0} where
   bag_called done h n w x cursor next m claimer bag taken after jobs is_at at rests moves only calls =
       let got = take_got h n x taken.taken m taken.machine after in
       let steps = take_performed done h n x cursor next Got m claimer.me bag taken after (λ _. jobs) moves in
-      let called = subst (λ z. (log : Log (Job W)) × Performed z.now.places.capacity m (record { words = n.seat.me.0; places = claimer.me }) (record { put = PutLook 0; take = next }) log
-      w.machine (record { words = n.seat.me.0; places = claimer.me }) (record { put = PutLook 0; take = next }) × AreCalled (IsCalled done) log) taken.same.collector (calls.performed (record { put = PutLook 0; take = next })) in
+      let cursors : Cursors = record { put = PutLook 0; take = next } in
+      let sight : Sight (Job W) = record { words = n.seat.me.0; places = claimer.me } in
+      let called = subst (λ z. (log : Log (Job W)) × Performed z.now.places.capacity (situated m sight cursors) log (situated w.machine sight cursors) × GivesOnly (IsCalled done) log)
+      taken.same.collector (calls.performed cursors) in
       record {
         machine = calls.machine ∙ ap (λ (z : Machine (Job W)). with_hand z x taken.taken []) got;
         claimer = subst (λ z. IsAt h.collector.now.places z.claimer) (sym only) is_at;
@@ -284,10 +293,9 @@ module _ {T W : Type 0} where
         same = record { position = ap (λ (z : Local T W). z.position) only ∙ taken.same.position; collector = ap (λ (z : Local T W). z.collector) only ∙ taken.same.collector };
         performed = (
           steps.0 ++ called.0,
-          subst (λ (z : Local T W). Performed h.collector.now.places.capacity h.machine (sight_of h) at_start (steps.0 ++ called.0) w.machine (sight_of z) (record { put = PutLook 0; take = next })) (sym only)
-              (performed_on h.collector.now.places.capacity h.machine m w.machine (sight_of h) (record { words = n.seat.me.0; places = claimer.me }) (record { words = n.seat.me.0; places = claimer.me })
-              at_start (record { put = PutLook 0; take = next }) (record { put = PutLook 0; take = next }) steps.0 called.0 steps.1 called.1),
-          called_on (IsCalled done) steps.0 called.0 steps.2 called.2,
+          subst (λ (z : Local T W). Performed h.collector.now.places.capacity (situation_of h at_start) (steps.0 ++ called.0) (situated w.machine (sight_of z) cursors)) (sym only)
+              (performed_on h.collector.now.places.capacity (situation_of h at_start) (situated m sight cursors) (situated w.machine sight cursors) steps.0 called.0 steps.1 called.1),
+          gives_on (IsCalled done) steps.0 called.0 steps.2 called.2,
         );
       }
 
@@ -369,6 +377,11 @@ module _ {T W : Type 0} where
         };
         machine = takes.machine ∙ ap (λ (z : Machine (Job W)). record z { stage = after_collect z.action z.held; hand = o.machine.hand }) scans.machine;
         calls = λ c. let first = scans.reaches c in
-            let second = subst (λ z. (d : Cursors) × (log : Log (Job W)) × Performed z.now.places.capacity n.machine (sight_of n) at_start log o.machine (sight_of o) d × AreCalled (IsCalled done) log) same_table takes.performed in
-            (second.0, first.0 ++ second.1, performed_on h.collector.now.places.capacity h.machine n.machine o.machine (sight_of h) (sight_of n) (sight_of o) c at_start second.0 first.0 second.1 first.1 second.2, called_on (IsCalled done) first.0 second.1 (none_is_called (IsCalled done) first.0 first.2) second.3);
+            let second = subst (λ z. (d : Cursors) × (log : Log (Job W)) × Performed z.now.places.capacity (situation_of n at_start) log (situation_of o d) × GivesOnly (IsCalled done) log)
+            same_table takes.performed in (
+              second.0,
+              first.0 ++ second.1,
+              performed_on h.collector.now.places.capacity (situation_of h c) (situation_of n at_start) (situation_of o second.0) first.0 second.1 first.1 second.2,
+              gives_on (IsCalled done) first.0 second.1 (gives_also NoJob (IsCalled done) (λ job none. absurd none) first.0 first.2) second.3,
+            );
       }

@@ -11,8 +11,9 @@ use Rattle.epoch_machine.specs.declared.machine.Stage.TheVariants.{Idle, LoadSea
 use Rattle.epoch_handles.specs.declared.local.Local.{Local}
 use Rattle.epoch_machine.specs.Machine.{Machine, begun, heard, ended, after_put}
 use Rattle.epoch_machine.specs.Asks.{Heard}
-use Rattle.epoch_handles.specs.Drives.{Sight, DrivesStraight}
+use Rattle.epoch_handles.specs.Drives.{Sight, NoJob, Drives}
 use Rattle.epoch_handles.specs.Handles.{IsSeated, IsReady}
+use Rattle.epoch_handles.proofs.Driving.{one_performed}
 use Rattle.epoch_handles.proofs.StraightCalls.{reading, ready_with}
 
 -- HOW IT BEGINS
@@ -39,10 +40,10 @@ module _ {J : Type 0} where
   pub kept_at_once : (m n : Machine J) (job : J) → length m.held < m.sizes.bag_jobs → n ≡ ended (heard (begun Defer m) (Deferred job)) → n ≡ ended (with_kept m m.held job)
   kept_at_once m n job room is = is ∙ ap ended (job_kept m (begun Defer m) (heard (begun Defer m) (Deferred job)) job room refl refl)
 
-  pub keep_performed : (places : ℕ) (m : Machine J) (v : Sight J) (job : J) → m.stage ≡ Keep → DrivesStraight places m v (heard m (Deferred job)) v
+  pub keep_performed : (places : ℕ) (m : Machine J) (v : Sight J) (job : J) → m.stage ≡ Keep → Drives NoJob places m v (heard m (Deferred job)) v
   keep_performed places m v job at =
-      subst (λ (s : Stage). let n : Machine J = record m { stage = s } in DrivesStraight places n v (heard n (Deferred job)) v) (sym at)
-      (λ c. (c, record { ask = KeepJob; reply = Heard (Deferred job) } ∷ [], (refl, tt, (v, c, (refl, refl), (refl, refl, refl))), (tt, tt)))
+      subst (λ (s : Stage). let n : Machine J = record m { stage = s } in Drives NoJob places n v (heard n (Deferred job)) v) (sym at)
+      (λ c. (c, record { ask = KeepJob; reply = Heard (Deferred job) } ∷ [], one_performed places _ _ _ (record { asked = refl; is_reply = tt; performs = (refl, refl); machine = refl }), (tt, tt)))
 
   -- WHAT A PUT LEAVES
 

@@ -1,74 +1,82 @@
 -- Pieces of what a thread performs, put together.
 use Rattle.std.proofs.Common.{ℕ, [], ◌∷◌, ◌++◌, refl, subst}
 use Rattle.epoch_machine.specs.Machine.{Machine}
-use Rattle.epoch_machine.specs.Asks.{Log, Reply, Heard, PutStepped, TakeStepped, JobGiven, told}
-use Rattle.epoch_handles.specs.Drives.{Sight, Cursors, Performed, HoldsOfGiven, AreCalled, IsNoneGiven, Reaches, DrivesStraight, DrivesAndCalls}
+use Rattle.epoch_machine.specs.Asks.{Log, Exchange, Reply, Heard, PutStepped, TakeStepped, JobGiven}
+use Rattle.epoch_handles.specs.Drives.{Sight, Situation, Exchanges, Performed, HoldsOfGiven, GivesOnly, NoJob, Reaches, Drives}
 
 module _ {J : Type 0} where
+  -- one exchange, and no more
+  pub one_performed : (places : ℕ) (before after : Situation J) (x : Exchange J)
+      → Exchanges places before x after
+      → Performed places before (x ∷ []) after
+  one_performed places before after x exchanges = (after, exchanges, refl)
+
   -- one log behind another
-  pub performed_on : (places : ℕ) (m n o : Machine J) (v u w : Sight J) (c d b : Cursors) (log more : Log J)
-      → Performed places m v c log n u d
-      → Performed places n u d more o w b
-      → Performed places m v c (log ++ more) o w b
-  performed_on places m n o v u w c d b [] more (same_machine, same_sight, same_cursors) further =
-      subst (λ z. Performed places z v c more o w b) same_machine
-      (subst (λ z. Performed places n z c more o w b) same_sight
-      (subst (λ z. Performed places n u z more o w b) same_cursors further))
-  performed_on places m n o v u w c d b (x ∷ log) more (asked, is_reply, (at, cursors, performs, behind)) further =
-      (asked, is_reply, (at, cursors, performs, performed_on places (told m x.reply) n o at u w cursors d b log more behind further))
+  pub performed_on : (places : ℕ) (before between after : Situation J) (log more : Log J)
+      → Performed places before log between
+      → Performed places between more after
+      → Performed places before (log ++ more) after
+  performed_on places before between after [] more same further = subst (λ z. Performed places z more after) same further
+  performed_on places before between after (x ∷ log) more (next, exchanges, behind) further =
+      (next, exchanges, performed_on places next between after log more behind further)
 
-  pub called_on : (IsCalled : J → Type 0) (log more : Log J) → AreCalled IsCalled log → AreCalled IsCalled more → AreCalled IsCalled (log ++ more)
-  called_on IsCalled [] more first further = further
-  called_on IsCalled (x ∷ log) more first further = (first.0, called_on IsCalled log more first.1 further)
+  -- WHICH JOBS WERE GIVEN
 
-  -- a reply that gives no job
-  none_called : (IsCalled : J → Type 0) (reply : Reply J) → HoldsOfGiven (λ _. ⊥) reply → HoldsOfGiven IsCalled reply
-  none_called IsCalled (Heard answer) none = tt
-  none_called IsCalled (PutStepped step) none = tt
-  none_called IsCalled (TakeStepped step jobs) none = tt
-  none_called IsCalled (JobGiven job) none = absurd none
+  pub gives_on : (IsSuch : J → Type 0) (log more : Log J) → GivesOnly IsSuch log → GivesOnly IsSuch more → GivesOnly IsSuch (log ++ more)
+  gives_on IsSuch [] more first further = further
+  gives_on IsSuch (x ∷ log) more first further = (first.0, gives_on IsSuch log more first.1 further)
 
-  -- where no job was given, each was called
-  pub none_is_called : (IsCalled : J → Type 0) (log : Log J) → IsNoneGiven log → AreCalled IsCalled log
-  none_is_called IsCalled [] none = tt
-  none_is_called IsCalled (x ∷ log) none = (none_called IsCalled x.reply none.0, none_is_called IsCalled log none.1)
+  -- a job given that is such is also as here
+  also_given : (IsSuch IsSo : J → Type 0) → ((job : J) → IsSuch job → IsSo job)
+      → (reply : Reply J) → HoldsOfGiven IsSuch reply → HoldsOfGiven IsSo reply
+  also_given IsSuch IsSo also (Heard answer) such = tt
+  also_given IsSuch IsSo also (PutStepped step) such = tt
+  also_given IsSuch IsSo also (TakeStepped step jobs) such = tt
+  also_given IsSuch IsSo also (JobGiven job) such = also job such
 
-  pub drives_none : (places : ℕ) (m : Machine J) (v : Sight J) → DrivesStraight places m v m v
-  drives_none places m v = λ c. (c, [], (refl, refl, refl), tt)
+  pub gives_also : (IsSuch IsSo : J → Type 0) → ((job : J) → IsSuch job → IsSo job)
+      → (log : Log J) → GivesOnly IsSuch log → GivesOnly IsSo log
+  gives_also IsSuch IsSo also [] such = tt
+  gives_also IsSuch IsSo also (x ∷ log) such = (also_given IsSuch IsSo also x.reply such.0, gives_also IsSuch IsSo also log such.1)
 
-  pub drives_on : (places : ℕ) (m n o : Machine J) (v u w : Sight J)
-      → DrivesStraight places m v n u
-      → DrivesStraight places n u o w
-      → DrivesStraight places m v o w
-  drives_on places m n o v u w first second = λ c.
-      let d = (first c).0 in
-      let b = (second d).0 in
-      (b, (first c).1 ++ (second d).1, performed_on places m n o v u w c d b (first c).1 (second d).1 (first c).2 (second d).2, called_on (λ _. ⊥) (first c).1 (second d).1 (first c).3 (second d).3)
+  -- WHAT IS DRIVEN
 
-  pub reaches_on : (places : ℕ) (m n o : Machine J) (v u w : Sight J) (d b : Cursors)
-      → Reaches places m v n u d
-      → (more : Log J) → Performed places n u d more o w b → IsNoneGiven more
-      → Reaches places m v o w b
-  reaches_on places m n o v u w d b first more further none = λ c.
-      ((first c).0 ++ more, performed_on places m n o v u w c d b (first c).0 more (first c).1 further, called_on (λ _. ⊥) (first c).0 more (first c).2 none)
+  pub drives_none : (IsSuch : J → Type 0) (places : ℕ) (m : Machine J) (v : Sight J) → Drives IsSuch places m v m v
+  drives_none IsSuch places m v = λ c. (c, [], refl, tt)
 
-  pub reached : (places : ℕ) (m n : Machine J) (v u : Sight J) (d : Cursors)
-      → Reaches places m v n u d
-      → DrivesStraight places m v n u
-  reached places m n v u d there = λ c. (d, (there c).0, (there c).1, (there c).2)
+  pub drives_on : (IsSuch : J → Type 0) (places : ℕ) (m n o : Machine J) (v u w : Sight J)
+      → Drives IsSuch places m v n u
+      → Drives IsSuch places n u o w
+      → Drives IsSuch places m v o w
+  drives_on IsSuch places m n o v u w first second = λ c.
+      let one = first c in
+      let two = second one.0 in
+      (two.0, one.1 ++ two.1, performed_on places _ _ _ one.1 two.1 one.2 two.2, gives_on IsSuch one.1 two.1 one.3 two.3)
 
-  -- JOBS THAT ARE CALLED
+  -- what is such is also as here
+  pub drives_also : (IsSuch IsSo : J → Type 0) → ((job : J) → IsSuch job → IsSo job)
+      → (places : ℕ) (m n : Machine J) (v u : Sight J)
+      → Drives IsSuch places m v n u
+      → Drives IsSo places m v n u
+  drives_also IsSuch IsSo also places m n v u drives = λ c.
+      let one = drives c in
+      (one.0, one.1, one.2, gives_also IsSuch IsSo also one.1 one.3)
 
-  pub calls_of : (IsCalled : J → Type 0) (places : ℕ) (m n : Machine J) (v u : Sight J)
-      → DrivesStraight places m v n u
-      → DrivesAndCalls IsCalled places m v n u
-  calls_of IsCalled places m n v u drives = λ c. ((drives c).0, (drives c).1, (drives c).2, none_is_called IsCalled (drives c).1 (drives c).3)
+  -- where no job was given, each was such
+  pub drives_of : (IsSuch : J → Type 0) (places : ℕ) (m n : Machine J) (v u : Sight J)
+      → Drives NoJob places m v n u
+      → Drives IsSuch places m v n u
+  drives_of IsSuch places m n v u drives = drives_also NoJob IsSuch (λ job none. absurd none) places m n v u drives
 
-  pub calls_on : (IsCalled : J → Type 0) (places : ℕ) (m n o : Machine J) (v u w : Sight J)
-      → DrivesAndCalls IsCalled places m v n u
-      → DrivesAndCalls IsCalled places n u o w
-      → DrivesAndCalls IsCalled places m v o w
-  calls_on IsCalled places m n o v u w first second = λ c.
-      let d = (first c).0 in
-      let b = (second d).0 in
-      (b, (first c).1 ++ (second d).1, performed_on places m n o v u w c d b (first c).1 (second d).1 (first c).2 (second d).2, called_on IsCalled (first c).1 (second d).1 (first c).3 (second d).3)
+  pub reaches_on : (IsSuch : J → Type 0) (places : ℕ) (m : Machine J) (v : Sight J) (between after : Situation J)
+      → Reaches IsSuch places m v between
+      → (more : Log J) → Performed places between more after → GivesOnly IsSuch more
+      → Reaches IsSuch places m v after
+  reaches_on IsSuch places m v between after first more further such = λ c.
+      let one = first c in
+      (one.0 ++ more, performed_on places _ between after one.0 more one.1 further, gives_on IsSuch one.0 more one.2 such)
+
+  pub reached : (IsSuch : J → Type 0) (places : ℕ) (m : Machine J) (v : Sight J) (after : Situation J)
+      → Reaches IsSuch places m v after
+      → Drives IsSuch places m v after.machine after.sight
+  reached IsSuch places m v after there = λ c. let one = there c in (after.cursors, one.0, one.1, one.2)

@@ -14,7 +14,7 @@ use Rattle.epoch_machine.specs.declared.machine.Stage.{Stage}
 use Rattle.epoch_machine.specs.declared.machine.Stage.TheVariants.{LoadPin, StorePin, ReloadPin, LoadScan, Scan, Advance, Take, Calling, LoadSeal, Keep, LoadRepin, StoreRepin, ReloadRepin, StoreUnpinned, StoreFree, End}
 use Rattle.epoch_machine.specs.Machine.{Machine, ask_at, begun, hears, put_heard, took_heard, gives, after_collect, after_put, after_unpin, after_job, scanned, past_word, holds_up, first_stage, rest, is_empty}
 use Rattle.epoch_machine.specs.Asks.{Reply, Heard, PutStepped, TakeStepped, JobGiven, Log, told}
-use Rattle.epoch_handles.specs.Drives.{Sight, Cursors, Performs, Performed}
+use Rattle.epoch_handles.specs.Drives.{Sight, Situation, Performs, Performed}
 use Rattle.epoch_handles.specs.Told.{IsExpiryWithin, AreExpiriesWithin}
 use Rattle.epoch_handles.proofs.Telling.{one_found, replies_found}
 
@@ -149,47 +149,55 @@ module _ {J : Type 0} where
   put_step_seen seen m Full at = put_seen seen m.action true
 
   -- what the answer of a step tells of the epoch seen behind it
-  answer_seen : (places : ℕ) (m : Machine J) (v w : Sight J) (c b : Cursors) (ask : Ask) (a : Answer J)
-      → ask_at m.stage ≡ Some ask
-      → Performs places m v c ask (Heard a) w b
-      → IsSeenBy w.words.seen m.stage a
+  answer_seen : (places : ℕ) (before after : Situation J) (ask : Ask) (a : Answer J)
+      → ask_at before.machine.stage ≡ Some ask
+      → Performs places before ask (Heard a) after
+      → IsSeenBy after.sight.words.seen before.machine.stage a
   unfolding stored_epoch
-  answer_seen places m v w c b LoadEpoch (Epoch e) asked (rises, is, start) = let seen = ap (λ (z : Sight J). z.words.seen) is in omega arith
-  answer_seen places m v w c b (LoadWord k) (Word x) asked performs = tt
-  answer_seen places m v w c b (StorePinned e) Stored asked performs = stored_by J w.words.seen m.stage (StorePinned e) asked (λ x is. absurd (cc is))
-  answer_seen places m v w c b (StoreRepinned e) Stored asked performs = stored_by J w.words.seen m.stage (StoreRepinned e) asked (λ x is. absurd (cc is))
-  answer_seen places m v w c b AskUnpinned Stored asked performs = stored_by J w.words.seen m.stage AskUnpinned asked (λ x is. absurd (cc is))
-  answer_seen places m v w c b AskFree Stored asked performs = stored_by J w.words.seen m.stage AskFree asked (λ x is. absurd (cc is))
-  answer_seen places m v w c b (StoreEpoch e) Stored asked (ahead, is, same) =
-      stored_by J w.words.seen m.stage (StoreEpoch e) asked (λ x at. let seen = ap (λ (z : Sight J). z.words.seen) is in let stored = ap stored_epoch at in omega arith)
-  answer_seen places m v w c b KeepJob (Job job) asked performs = tt
-  answer_seen places m v w c b ask a asked performs = absurd performs
+  answer_seen places before after LoadEpoch (Epoch e) asked (rises, is, start) = let seen = ap (λ (z : Sight J). z.words.seen) is in omega arith
+  answer_seen places before after (LoadWord k) (Word x) asked performs = tt
+  answer_seen places before after (StorePinned e) Stored asked performs =
+      stored_by J after.sight.words.seen before.machine.stage (StorePinned e) asked (λ x is. absurd (cc is))
+  answer_seen places before after (StoreRepinned e) Stored asked performs =
+      stored_by J after.sight.words.seen before.machine.stage (StoreRepinned e) asked (λ x is. absurd (cc is))
+  answer_seen places before after AskUnpinned Stored asked performs =
+      stored_by J after.sight.words.seen before.machine.stage AskUnpinned asked (λ x is. absurd (cc is))
+  answer_seen places before after AskFree Stored asked performs =
+      stored_by J after.sight.words.seen before.machine.stage AskFree asked (λ x is. absurd (cc is))
+  answer_seen places before after (StoreEpoch e) Stored asked (ahead, is, same) =
+      stored_by J after.sight.words.seen before.machine.stage (StoreEpoch e) asked
+      (λ x at. let seen = ap (λ (z : Sight J). z.words.seen) is in let stored = ap stored_epoch at in omega arith)
+  answer_seen places before after KeepJob (Job job) asked performs = tt
+  answer_seen places before after ask a asked performs = absurd performs
 
   -- behind any step, the stage's epoch is one that was seen
-  told_seen : (places : ℕ) (m : Machine J) (v w : Sight J) (c b : Cursors) (ask : Ask) (reply : Reply J)
-      → ask_at m.stage ≡ Some ask
-      → Performs places m v c ask reply w b
-      → v.words.seen ≤ w.words.seen
-      → StageSeen v.words.seen m.stage
-      → StageSeen w.words.seen (told m reply).stage
-  told_seen places m v w c b ask (Heard a) asked performs grows at =
-      heard_seen w.words.seen m m.stage a refl (still_seen v.words.seen w.words.seen m.stage grows at) (answer_seen places m v w c b ask a asked performs)
-  told_seen places m v w c b ask (PutStepped step) asked performs grows at = put_step_seen w.words.seen m step (still_seen v.words.seen w.words.seen m.stage grows at)
-  told_seen places m v w c b ask (TakeStepped step jobs) asked performs grows at =
-      took_seen w.words.seen m m.stage step jobs refl (still_seen v.words.seen w.words.seen m.stage grows at)
-  told_seen places m v w c b ask (JobGiven job) asked performs grows at =
-      given_seen w.words.seen m m.stage (rest m.hand) refl (still_seen v.words.seen w.words.seen m.stage grows at)
+  told_seen : (places : ℕ) (before after : Situation J) (ask : Ask) (reply : Reply J)
+      → ask_at before.machine.stage ≡ Some ask
+      → Performs places before ask reply after
+      → StageSeen after.sight.words.seen before.machine.stage
+      → StageSeen after.sight.words.seen (told before.machine reply).stage
+  told_seen places before after ask (Heard a) asked performs at =
+      heard_seen after.sight.words.seen before.machine before.machine.stage a refl at (answer_seen places before after ask a asked performs)
+  told_seen places before after ask (PutStepped step) asked performs at = put_step_seen after.sight.words.seen before.machine step at
+  told_seen places before after ask (TakeStepped step jobs) asked performs at =
+      took_seen after.sight.words.seen before.machine before.machine.stage step jobs refl at
+  told_seen places before after ask (JobGiven job) asked performs at =
+      given_seen after.sight.words.seen before.machine before.machine.stage (rest before.machine.hand) refl at
 
-  expiries_seen_from : (places : ℕ) (m n : Machine J) (v u : Sight J) (c d : Cursors) (log : Log J)
-      → StageSeen v.words.seen m.stage
-      → Performed places m v c log n u d
-      → AreExpiriesWithin u.words.seen log
-  expiries_seen_from places m n v u c d [] at performed = tt
-  expiries_seen_from places m n v u c d (x ∷ log) at (asked, is_reply, (w, b, performs, behind)) =
-      let grows = (one_found places m v w c b x.ask x.reply performs).1 in
-      let later = (replies_found places (told m x.reply) n w u b d log behind).1 in (
-        within_later v.words.seen u.words.seen x.ask (omega arith) (ask_within v.words.seen m.stage x.ask asked at),
-        expiries_seen_from places (told m x.reply) n w u b d log (told_seen places m v w c b x.ask x.reply asked performs grows at) behind,
+  expiries_seen_from : (places : ℕ) (before after : Situation J) (log : Log J)
+      → StageSeen before.sight.words.seen before.machine.stage
+      → Performed places before log after
+      → AreExpiriesWithin after.sight.words.seen log
+  expiries_seen_from places before after [] at performed = tt
+  expiries_seen_from places before after (x ∷ log) at (next, exchange, behind) =
+      let grows = (one_found places before next x.ask x.reply exchange.performs).1 in
+      let later = (replies_found places next after log behind).1 in
+      let still = still_seen before.sight.words.seen next.sight.words.seen before.machine.stage grows at in
+      let goes_on = told_seen places before next x.ask x.reply exchange.asked exchange.performs still in (
+        within_later before.sight.words.seen after.sight.words.seen x.ask (omega arith)
+            (ask_within before.sight.words.seen before.machine.stage x.ask exchange.asked at),
+        expiries_seen_from places next after log
+            (subst (λ (m : Machine J). StageSeen next.sight.words.seen m.stage) (sym exchange.machine) goes_on) behind,
       )
 
   -- an action begins at no scan and no collection
@@ -201,8 +209,9 @@ module _ {J : Type 0} where
   begun_seen seen Flush m = either_seen seen (is_empty m.held) LoadScan LoadSeal tt tt
   begun_seen seen Release m = tt
 
-  pub expiries_seen : (places : ℕ) (action : Action) (m n : Machine J) (v u : Sight J) (c d : Cursors) (log : Log J)
-      → Performed places (begun action m) v c log n u d
-      → AreExpiriesWithin u.words.seen log
-  expiries_seen places action m n v u c d log performed =
-      expiries_seen_from places (begun action m) n v u c d log (begun_seen v.words.seen action m) performed
+  pub expiries_seen : (places : ℕ) (action : Action) (before after : Situation J) (log : Log J)
+      → Performed places (record before { machine = begun action before.machine }) log after
+      → AreExpiriesWithin after.sight.words.seen log
+  expiries_seen places action before after log performed =
+      expiries_seen_from places (record before { machine = begun action before.machine }) after log
+      (begun_seen before.sight.words.seen action before.machine) performed

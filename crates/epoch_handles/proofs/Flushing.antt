@@ -9,9 +9,9 @@ use Rattle.epoch_machine.specs.declared.machine.Stage.{Stage}
 use Rattle.epoch_machine.specs.declared.machine.Stage.TheVariants.{End, LoadScan, LoadSeal}
 use Rattle.epoch_handles.specs.declared.local.Local.{Local}
 use Rattle.epoch_machine.specs.Machine.{Machine, begun, ended, is_empty, after_collect, after_put, guards_after}
-use Rattle.epoch_handles.specs.Drives.{DrivesStraight, DrivesAndCalls}
-use Rattle.epoch_handles.specs.Handles.{IsSeated, IsReady, IsSame, IsPinned, KeepsPin, Collects, Puts, DoesAndCalls, sight_of}
-use Rattle.epoch_handles.proofs.Driving.{drives_none, calls_of, calls_on}
+use Rattle.epoch_handles.specs.Drives.{NoJob, Drives}
+use Rattle.epoch_handles.specs.Handles.{IsSeated, IsReady, IsSame, IsPinned, KeepsPin, Collects, Puts, IsDriven, DoesAndCalls, sight_of}
+use Rattle.epoch_handles.proofs.Driving.{drives_none, drives_of, drives_on}
 use Rattle.epoch_handles.proofs.StraightCalls.{reading, ready_with, seated_with}
 
 module _ {J : Type 0} where
@@ -97,7 +97,7 @@ module _ {T W : Type 0} where
     pub pin : KeepsPin h n
     pub flushes : Flushes h.machine n.machine
     pub scans : n.machine.stage ≡ LoadScan
-    pub drives : DrivesStraight h.collector.now.places.capacity (begun Flush h.machine) (sight_of h) n.machine (sight_of n)
+    pub drives : IsDriven NoJob (record h { machine = begun Flush h.machine }) n
 
   -- with no job held it begins there
   pub scan_begins : (h : Local T W) (m : Machine (Job W))
@@ -112,7 +112,7 @@ module _ {T W : Type 0} where
     pin = record { published = refl; read = refl };
     flushes = flush_begun h.machine m is;
     scans = ap (λ (z : Machine (Job W)). z.stage) is ∙ flush_scans h.machine none;
-    drives = subst (λ (z : Machine (Job W)). DrivesStraight h.collector.now.places.capacity z (sight_of h) m (sight_of h)) is (drives_none h.collector.now.places.capacity m (sight_of h));
+    drives = subst (λ (z : Machine (Job W)). Drives NoJob h.collector.now.places.capacity z (sight_of h) m (sight_of h)) is (drives_none NoJob h.collector.now.places.capacity m (sight_of h));
   }
 
   -- a held bag is put first
@@ -129,7 +129,7 @@ module _ {T W : Type 0} where
         pin = record { published = puts.pin.published; read = puts.pin.read };
         flushes = put_flushes h.machine m n.machine flushes puts.machine;
         scans = put_comes_to_scan m n.machine flushes.action puts.machine;
-        drives = subst (λ (z : Machine (Job W)). DrivesStraight h.collector.now.places.capacity z (sight_of h) n.machine (sight_of n)) is puts.drives;
+        drives = subst (λ (z : Machine (Job W)). Drives NoJob h.collector.now.places.capacity z (sight_of h) n.machine (sight_of n)) is puts.drives;
       }
 
   -- The flush of h has nothing left to ask at o.
@@ -140,7 +140,7 @@ module _ {T W : Type 0} where
     pub pin : KeepsPin h o
     pub flushes : Flushes h.machine o.machine
     pub ends : o.machine.stage ≡ End
-    pub calls : DrivesAndCalls (IsCalled done) h.collector.now.places.capacity (begun Flush h.machine) (sight_of h) o.machine (sight_of o)
+    pub calls : IsDriven (IsCalled done) (record h { machine = begun Flush h.machine }) o
 
   pub collection_ends : (done : W → Type 0) (h n o : Local T W) → ComesToScan h n → Collects done n o → HasFlushed done h o
   collection_ends done h n o comes collects = record {
@@ -150,9 +150,9 @@ module _ {T W : Type 0} where
     pin = record { published = collects.pin.published ∙ comes.pin.published; read = collects.pin.read ∙ comes.pin.read };
     flushes = flushes_still h.machine n.machine o.machine _ _ _ _ collects.machine comes.flushes;
     ends = ap (λ (z : Machine (Job W)). z.stage) collects.machine ∙ ap (λ (a : Action). after_collect a n.machine.held) comes.flushes.action;
-    calls = calls_on (IsCalled done) h.collector.now.places.capacity (begun Flush h.machine) n.machine o.machine (sight_of h) (sight_of n) (sight_of o)
-        (calls_of (IsCalled done) h.collector.now.places.capacity (begun Flush h.machine) n.machine (sight_of h) (sight_of n) comes.drives)
-        (subst (λ z. DrivesAndCalls (IsCalled done) z.now.places.capacity n.machine (sight_of n) o.machine (sight_of o)) comes.same.collector collects.calls);
+    calls = drives_on (IsCalled done) h.collector.now.places.capacity (begun Flush h.machine) n.machine o.machine (sight_of h) (sight_of n) (sight_of o)
+        (drives_of (IsCalled done) h.collector.now.places.capacity (begun Flush h.machine) n.machine (sight_of h) (sight_of n) comes.drives)
+        (subst (λ z. Drives (IsCalled done) z.now.places.capacity n.machine (sight_of n) o.machine (sight_of o)) comes.same.collector collects.calls);
   }
 
   -- THE WHOLE
@@ -161,7 +161,7 @@ module _ {T W : Type 0} where
       → HasFlushed done h o
       → m ≡ ended o.machine
       → DoesAndCalls done h Flush (record o { machine = m })
-  flush_does done h o m flushed is = (o.machine, flushed.ends, is, flushed.calls)
+  flush_does done h o m flushed is = record { last = o.machine; over = flushed.ends; machine = is; drives = flushed.calls }
 
   -- it stays pinned as it was, with its guards
   pub flush_ready : (done : W → Type 0) (h o : Local T W) (m : Machine (Job W))

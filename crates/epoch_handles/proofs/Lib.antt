@@ -1,6 +1,7 @@
 pub mod Collecting
 pub mod Deferring
 pub mod Driving
+pub mod Ended
 pub mod Ending
 pub mod Expiries
 pub mod FirstPins

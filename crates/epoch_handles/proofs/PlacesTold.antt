@@ -15,9 +15,8 @@ use Rattle.epoch_bags.specs.declared.queue.places.TakeCursor.TheVariants.{Look a
 use Rattle.epoch_machine.specs.declared.machine.Ask.{Ask}
 use Rattle.epoch_machine.specs.declared.machine.Ask.TheVariants.{LoadEpoch, LoadWord, StorePinned, StoreRepinned, StoreUnpinned, StoreFree, StoreEpoch, PutBag, TakeBag, KeepJob, CallJob}
 use Rattle.epoch_machine.specs.declared.machine.Answer.TheVariants.{Epoch, Word, Stored, Job}
-use Rattle.epoch_machine.specs.Machine.{Machine}
-use Rattle.epoch_machine.specs.Asks.{Reply, Heard, PutStepped, TakeStepped, JobGiven, Log, told}
-use Rattle.epoch_handles.specs.Drives.{Sight, Cursors, Performs, Performed}
+use Rattle.epoch_machine.specs.Asks.{Reply, Heard, PutStepped, TakeStepped, JobGiven, Log}
+use Rattle.epoch_handles.specs.Drives.{Sight, Situation, Performs, Performed}
 use Rattle.epoch_handles.specs.Told.{PutTells, TakeTells, Tells, TellsAll}
 use Rattle.epoch_handles.proofs.Telling.{passes_or_not}
 
@@ -59,37 +58,39 @@ module _ {J : Type 0} where
   silent : (v u : Sight J) → u.places ≡ v.places → Adds v.places.0 [] u.places.0
   silent v u same = adds_none v.places.0 u.places.0 (ap (λ (z : PlaceMe J). z.0.found) same)
 
-  one_told : (places : ℕ) (m : Machine J) (v u : Sight J) (c d : Cursors) (ask : Ask) (reply : Reply J)
-      → Performs places m v c ask reply u d
-      → (found : List ℕ) × Adds v.places.0 found u.places.0 × Tells places c ask reply found d
-  one_told places m v u c d LoadEpoch (Heard (Epoch e)) (rises, is, start) = ([], silent v u (ap (λ (z : Sight J). z.places) is), (refl, start))
-  one_told places m v u c d (StorePinned e) (Heard Stored) (read, is, same) = ([], silent v u (ap (λ (z : Sight J). z.places) is), (refl, same))
-  one_told places m v u c d (StoreRepinned e) (Heard Stored) (read, is, same) = ([], silent v u (ap (λ (z : Sight J). z.places) is), (refl, same))
-  one_told places m v u c d StoreUnpinned (Heard Stored) (is, same) = ([], silent v u (ap (λ (z : Sight J). z.places) is), (refl, same))
-  one_told places m v u c d StoreFree (Heard Stored) (is, same) = ([], silent v u (ap (λ (z : Sight J). z.places) is), (refl, same))
-  one_told places m v u c d (LoadWord k) (Heard (Word w)) (is_word, same, (e, scan, passed, held)) = elim (passes_or_not e w is_word) [
-    | inl lets ↦ ([], silent v u (ap (λ (z : Sight J). z.places) (passed lets)), (refl, same))
-    | inr holds ↦ ([], silent v u (ap (λ (z : Sight J). z.places) (held holds)), (refl, same))
+  one_told : (places : ℕ) (before after : Situation J) (ask : Ask) (reply : Reply J)
+      → Performs places before ask reply after
+      → (found : List ℕ) × Adds before.sight.places.0 found after.sight.places.0 × Tells places before.cursors ask reply found after.cursors
+  one_told places before after LoadEpoch (Heard (Epoch e)) (rises, is, start) = ([], silent before.sight after.sight (ap (λ (z : Sight J). z.places) is), (refl, start))
+  one_told places before after (StorePinned e) (Heard Stored) (read, is, same) = ([], silent before.sight after.sight (ap (λ (z : Sight J). z.places) is), (refl, same))
+  one_told places before after (StoreRepinned e) (Heard Stored) (read, is, same) = ([], silent before.sight after.sight (ap (λ (z : Sight J). z.places) is), (refl, same))
+  one_told places before after StoreUnpinned (Heard Stored) (is, same) = ([], silent before.sight after.sight (ap (λ (z : Sight J). z.places) is), (refl, same))
+  one_told places before after StoreFree (Heard Stored) (is, same) = ([], silent before.sight after.sight (ap (λ (z : Sight J). z.places) is), (refl, same))
+  one_told places before after (LoadWord k) (Heard (Word w)) (is_word, same, (e, scan, passed, held)) = elim (passes_or_not e w is_word) [
+    | inl lets ↦ ([], silent before.sight after.sight (ap (λ (z : Sight J). z.places) (passed lets)), (refl, same))
+    | inr holds ↦ ([], silent before.sight after.sight (ap (λ (z : Sight J). z.places) (held holds)), (refl, same))
   ]
-  one_told places m v u c d (StoreEpoch e) (Heard Stored) (ahead, is, same) = ([], silent v u (ap (λ (z : Sight J). z.places) is), (refl, same))
-  one_told places m v u c d KeepJob (Heard (Job job)) (is, same) = ([], silent v u (ap (λ (z : Sight J). z.places) is), (refl, same))
-  one_told places m v u c d CallJob (JobGiven job) (is, same) = ([], silent v u (ap (λ (z : Sight J). z.places) is), (refl, same))
-  one_told places m v u c d (PutBag seal) (PutStepped step) (is, same, moves) =
-      let put = put_told places c.put d.put step (record { seal = seal; jobs = m.held }) v.places u.places moves in
+  one_told places before after (StoreEpoch e) (Heard Stored) (ahead, is, same) = ([], silent before.sight after.sight (ap (λ (z : Sight J). z.places) is), (refl, same))
+  one_told places before after KeepJob (Heard (Job job)) (is, same) = ([], silent before.sight after.sight (ap (λ (z : Sight J). z.places) is), (refl, same))
+  one_told places before after CallJob (JobGiven job) (is, same) = ([], silent before.sight after.sight (ap (λ (z : Sight J). z.places) is), (refl, same))
+  one_told places before after (PutBag seal) (PutStepped step) (is, same, moves) =
+      let put = put_told places before.cursors.put after.cursors.put step (record { seal = seal; jobs = before.machine.held }) before.sight.places after.sight.places moves in
       (put.0, put.1, (same, put.2))
-  one_told places m v u c d (TakeBag x) (TakeStepped step jobs) (is, same, (bag, got, moves)) =
-      let take = take_told places x c.take d.take step bag v.places u.places moves in
+  one_told places before after (TakeBag x) (TakeStepped step jobs) (is, same, (bag, got, moves)) =
+      let take = take_told places x before.cursors.take after.cursors.take step bag before.sight.places after.sight.places moves in
       (take.0, take.1, (same, take.2))
-  one_told places m v u c d ask reply performs = absurd performs
+  one_told places before after ask reply performs = absurd performs
 
-  pub answers_found : (places : ℕ) (m n : Machine J) (v u : Sight J) (c d : Cursors) (log : Log J)
-      → Performed places m v c log n u d
-      → (words : List ℕ) × (u.places.0.found ≡ v.places.0.found ++ words) × TellsAll places c log words d
-  answers_found places m n v u c d [] (machine, is, cursors) = ([], silent v u (ap (λ (z : Sight J). z.places) is), (refl, cursors))
-  answers_found places m n v u c d (x ∷ log) (asked, is_reply, (w, b, performs, behind)) =
-      let one = one_told places m v w c b x.ask x.reply performs in
-      let more = answers_found places (told m x.reply) n w u b d log behind in (
+  pub answers_found : (places : ℕ) (before after : Situation J) (log : Log J)
+      → Performed places before log after
+      → (words : List ℕ) × (after.sight.places.0.found ≡ before.sight.places.0.found ++ words)
+      × TellsAll places before.cursors log words after.cursors
+  answers_found places before after [] same =
+      ([], silent before.sight after.sight (ap (λ (z : Situation J). z.sight.places) same), (refl, ap (λ (z : Situation J). z.cursors) same))
+  answers_found places before after (x ∷ log) (next, exchange, behind) =
+      let one = one_told places before next x.ask x.reply exchange.performs in
+      let more = answers_found places next after log behind in (
         one.0 ++ more.0,
-        more.1 ∙ ap (λ (found : List ℕ). found ++ more.0) one.1 ∙ append_assoc v.places.0.found one.0 more.0,
-        (one.0, more.0, b, refl, one.2, more.2),
+        more.1 ∙ ap (λ (found : List ℕ). found ++ more.0) one.1 ∙ append_assoc before.sight.places.0.found one.0 more.0,
+        (one.0, more.0, next.cursors, refl, one.2, more.2),
       )

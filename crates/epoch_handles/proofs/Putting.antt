@@ -20,9 +20,9 @@ use Rattle.epoch_machine.specs.declared.machine.Stage.TheVariants.{LoadSeal, Put
 use Rattle.epoch_handles.specs.declared.local.Local.{Local}
 use Rattle.epoch_machine.specs.Machine.{Machine, ask_at, with_stage, after_put, put_heard}
 use Rattle.epoch_machine.specs.Asks.{Heard, PutStepped}
-use Rattle.epoch_handles.specs.Drives.{Cursors, Performed, Reaches, at_start}
-use Rattle.epoch_handles.specs.Handles.{IsSeated, IsSame, IsPinned, KeepsPin, Steps, Puts, IsLeftWhole, sight_of}
-use Rattle.epoch_handles.proofs.Driving.{reaches_on, reached}
+use Rattle.epoch_handles.specs.Drives.{Cursors, NoJob, Performed, Reaches, situated, at_start}
+use Rattle.epoch_handles.specs.Handles.{IsSeated, IsSame, IsPinned, KeepsPin, Steps, Puts, IsLeftWhole, sight_of, situation_of}
+use Rattle.epoch_handles.proofs.Driving.{one_performed, reaches_on, reached}
 use Rattle.epoch_handles.proofs.StraightCalls.{sight_behind, seated_with, still_read}
 
 -- where a put stands; no collection has begun
@@ -36,7 +36,7 @@ pub record HasPut {T W : Type 0} (h : Local T W) (seal : ℕ) (cursor : PutCurso
   pub pin : KeepsPin h n
   pub at : PutsAt n.collector.now.places.capacity cursor n.claimer.me
   pub machine : n.machine ≡ with_stage h.machine (Put seal)
-  pub reaches : Reaches h.collector.now.places.capacity h.machine (sight_of h) n.machine (sight_of n) (putting cursor)
+  pub reaches : Reaches NoJob h.collector.now.places.capacity h.machine (sight_of h) (situation_of n (putting cursor))
 
 -- a step of a put leaves the machine its sizes
 sizes_kept : {J : Type 0} (m : Machine J) (step : PutStep) → (put_heard m step).sizes ≡ m.sizes
@@ -87,13 +87,14 @@ module _ {T W : Type 0} where
       → h.machine.stage ≡ LoadSeal
       → h.seat.me.0.seen ≤ seal
       → Steps h n (after_epoch h.seat.me.0 seal)
-      → Reaches h.collector.now.places.capacity h.machine (sight_of h) (with_stage h.machine (Put seal)) (sight_of n) at_start
+      → Reaches NoJob h.collector.now.places.capacity h.machine (sight_of h) (situated (with_stage h.machine (Put seal)) (sight_of n) at_start)
   seal_performed h n seal begins rises steps = λ c. (
     record { ask = LoadEpoch; reply = Heard (Epoch seal) } ∷ [],
-    subst (λ (s : Stage). Performed h.collector.now.places.capacity (record h.machine { stage = s }) (sight_of h) c
-        (record { ask = LoadEpoch; reply = Heard (Epoch seal) } ∷ []) (with_stage h.machine (Put seal)) (sight_of n) at_start)
+    subst (λ (s : Stage). Performed h.collector.now.places.capacity (situated (record h.machine { stage = s }) (sight_of h) c)
+        (record { ask = LoadEpoch; reply = Heard (Epoch seal) } ∷ []) (situated (with_stage h.machine (Put seal)) (sight_of n) at_start))
         (sym begins)
-        (refl, tt, (sight_of n, at_start, (rises, sight_behind h n _ steps, refl), (refl, refl, refl))),
+        (one_performed h.collector.now.places.capacity _ _ _
+        (record { asked = refl; is_reply = tt; performs = (rises, sight_behind h n _ steps, refl); machine = refl })),
     (tt, tt),
   )
 
@@ -118,8 +119,8 @@ module _ {T W : Type 0} where
         };
         at = at;
         machine = goes;
-        reaches = subst (λ (z : Machine (Job W)). Reaches h.collector.now.places.capacity h.machine (sight_of h) z (sight_of n) (putting cursor)) (sym goes)
-            (subst (λ (z : PutCursor). Reaches h.collector.now.places.capacity h.machine (sight_of h) (with_stage h.machine (Put seal)) (sight_of n) (putting z)) (sym first)
+        reaches = subst (λ (z : Machine (Job W)). Reaches NoJob h.collector.now.places.capacity h.machine (sight_of h) (situated z (sight_of n) (putting cursor))) (sym goes)
+            (subst (λ (z : PutCursor). Reaches NoJob h.collector.now.places.capacity h.machine (sight_of h) (situated (with_stage h.machine (Put seal)) (sight_of n) (putting z))) (sym first)
             (seal_performed h n seal begins rises steps));
       }
 
@@ -130,19 +131,20 @@ module _ {T W : Type 0} where
       → HasPut h seal cursor n
       → m ≡ put_heard n.machine step
       → PutMoves n.collector.now.places.capacity cursor n.claimer.me (record { seal = seal; jobs = n.machine.held }) step next me
-      → Reaches h.collector.now.places.capacity h.machine (sight_of h) m (record { words = n.seat.me.0; places = me }) (putting next)
+      → Reaches NoJob h.collector.now.places.capacity h.machine (sight_of h) (situated m (record { words = n.seat.me.0; places = me }) (putting next))
   put_performed h n seal cursor next step m me put after moves =
-      reaches_on h.collector.now.places.capacity h.machine n.machine m (sight_of h) (sight_of n) (record { words = n.seat.me.0; places = me }) (putting cursor) (putting next)
-      put.reaches (record { ask = PutBag seal; reply = PutStepped step } ∷ []) (
-        ap (λ (z : Machine (Job W)). ask_at z.stage) put.machine,
-        tt,
-        (
-          record { words = n.seat.me.0; places = me },
-          putting next,
-          (refl, refl, subst (λ z. PutMoves z.now.places.capacity cursor n.claimer.me (record { seal = seal; jobs = n.machine.held }) step next me) put.same.collector moves),
-          (after, refl, refl),
-        ),
-      ) (tt, tt)
+      reaches_on NoJob h.collector.now.places.capacity h.machine (sight_of h) _ _
+      put.reaches (record { ask = PutBag seal; reply = PutStepped step } ∷ [])
+      (one_performed h.collector.now.places.capacity (situation_of n (putting cursor)) (situated m (record { words = n.seat.me.0; places = me }) (putting next)) _ (record {
+        asked = ap (λ (z : Machine (Job W)). ask_at z.stage) put.machine;
+        is_reply = tt;
+        performs = (
+          refl,
+          refl,
+          subst (λ z. PutMoves z.now.places.capacity cursor n.claimer.me (record { seal = seal; jobs = n.machine.held }) step next me) put.same.collector moves,
+        );
+        machine = after;
+      })) (tt, tt)
 
   -- the same participant behind a step of its seat at the places
   seated_at : (n : Local T W) (m : Machine (Job W)) (claimer : _)
@@ -202,6 +204,6 @@ module _ {T W : Type 0} where
     whole = λ room. subst (λ (z : Machine (Job W)). IsLeftWhole z.held claimer.me.0) put.machine
         (put_whole n.collector.now.places.capacity seal cursor next step n.machine m n.claimer.me claimer.me over after moves room);
     machine = put_over h seal step m over (after ∙ ap (λ (z : Machine (Job W)). put_heard z step) put.machine);
-    drives = reached h.collector.now.places.capacity h.machine m (sight_of h) (record { words = n.seat.me.0; places = claimer.me }) (putting next)
+    drives = reached NoJob h.collector.now.places.capacity h.machine (sight_of h) (situated m (record { words = n.seat.me.0; places = claimer.me }) (putting next))
         (put_performed h n seal cursor next step m claimer.me put after moves);
   }

@@ -16,10 +16,10 @@ use Rattle.epoch_machine.specs.declared.machine.Stage.TheVariants.{End, LoadSeal
 use Rattle.epoch_handles.specs.declared.local.Local.{Local}
 use Rattle.epoch_machine.specs.Machine.{Machine, begun, heard, ended, fresh, guards_after, is_empty, after_unpin, after_put, after_collect, with_stage}
 use Rattle.epoch_machine.specs.Asks.{Heard}
-use Rattle.epoch_handles.specs.Drives.{Sight, DrivesStraight, DrivesAndCalls, with_words}
-use Rattle.epoch_handles.specs.Handles.{IsReady, IsSame, IsLeftWhole, Steps, PinSteps, Collects, sight_of}
+use Rattle.epoch_handles.specs.Drives.{Sight, NoJob, Drives, with_words}
+use Rattle.epoch_handles.specs.Handles.{IsReady, IsSame, IsLeftWhole, IsDriven, Steps, PinSteps, Collects, sight_of}
 use Rattle.epoch_handles.specs.Releases.{IsLeaving, IsRefused, IsFreed, IsReleased}
-use Rattle.epoch_handles.proofs.Driving.{drives_on, calls_of, calls_on}
+use Rattle.epoch_handles.proofs.Driving.{one_performed, drives_on, drives_of}
 use Rattle.epoch_handles.proofs.StraightCalls.{unpin_performed, sight_behind, pin_drives, pinned_behind, seated_with, ready_with, rests_still}
 
 -- THE STORES THAT END A RELEASE
@@ -40,18 +40,18 @@ module _ {J : Type 0} where
       (ap (λ (a : Action). with_stage m (after_unpin a m.full)) action ∙ ap (λ (b : Bool). with_stage m (after_unpin Release b)) full)
 
   free_performed : (places : ℕ) (m : Machine J) (v : Sight J)
-      → DrivesStraight places (with_stage m StageFree) v (fresh m.sizes) (with_words v (after_free v.words))
-  free_performed places m v = λ c. (c, record { ask = StoreFree; reply = Heard Stored } ∷ [], (refl, tt, (_, c, (refl, refl), (refl, refl, refl))), (tt, tt))
+      → Drives NoJob places (with_stage m StageFree) v (fresh m.sizes) (with_words v (after_free v.words))
+  free_performed places m v = λ c. (c, record { ask = StoreFree; reply = Heard Stored } ∷ [], one_performed places _ _ _ (record { asked = refl; is_reply = tt; performs = (refl, refl); machine = refl }), (tt, tt))
 
   -- the two stores of a participant that leaves
   pub leaving_performed : (places : ℕ) (m : Machine J) (v : Sight J)
       → m.stage ≡ StageUnpinned
       → m.action ≡ Release
       → m.full ≡ false
-      → DrivesStraight places m v (fresh m.sizes) (with_words v (after_free (after_own v.words None)))
+      → Drives NoJob places m v (fresh m.sizes) (with_words v (after_free (after_own v.words None)))
   leaving_performed places m v at action room =
-      drives_on places m (with_stage m StageFree) (fresh m.sizes) v (with_words v (after_own v.words None)) _
-      (subst (λ (z : Machine J). DrivesStraight places m v z (with_words v (after_own v.words None))) (store_leads_on m at action room)
+      drives_on NoJob places m (with_stage m StageFree) (fresh m.sizes) v (with_words v (after_own v.words None)) _
+      (subst (λ (z : Machine J). Drives NoJob places m v z (with_words v (after_own v.words None))) (store_leads_on m at action room)
       (unpin_performed places m v at))
       (free_performed places m (with_words v (after_own v.words None)))
 
@@ -89,9 +89,9 @@ module _ {T W : Type 0} where
         position = ap (λ (z : ParticipantView). z.position) knows;
         machine = freed;
         whole = λ some. absurd (some none);
-        calls = calls_of (IsCalled done) h.collector.now.places.capacity h.machine last (sight_of h) (sight_of o)
-            (subst (λ (z : Machine (Job W)). DrivesStraight h.collector.now.places.capacity h.machine (sight_of h) z (sight_of o)) (sym freed)
-            (subst (λ (z : Sight (Job W)). DrivesStraight h.collector.now.places.capacity h.machine (sight_of h) (fresh h.machine.sizes) z)
+        calls = drives_of (IsCalled done) h.collector.now.places.capacity h.machine last (sight_of h) (sight_of o)
+            (subst (λ (z : Machine (Job W)). Drives NoJob h.collector.now.places.capacity h.machine (sight_of h) z (sight_of o)) (sym freed)
+            (subst (λ (z : Sight (Job W)). Drives NoJob h.collector.now.places.capacity h.machine (sight_of h) (fresh h.machine.sizes) z)
             (sym (sight_gone h n o steps (ap (λ (z : Local T W). z.claimer) only) knows))
             (leaving_performed h.collector.now.places.capacity h.machine (sight_of h) at action room)));
       }
@@ -127,15 +127,15 @@ module _ {T W : Type 0} where
       let heard_told : heard h.machine Stored ≡ told = ap (λ (z : Machine (Job W)). heard z Stored) (sym steps.machine) ∙ sym is in
       record {
         same = record { position = steps.position; collector = steps.collector };
-        ends = (
-          told,
-          ap (λ (z : Machine (Job W)). z.stage) over,
-          is_last,
-          calls_of (IsCalled done) h.collector.now.places.capacity h.machine told (sight_of h) (sight_of n)
-              (subst (λ (z : Machine (Job W)). DrivesStraight h.collector.now.places.capacity h.machine (sight_of h) z (sight_of n)) heard_told
-              (subst (λ (z : Sight (Job W)). DrivesStraight h.collector.now.places.capacity h.machine (sight_of h) (heard h.machine Stored) z) (sym (sight_behind h n _ steps))
-              (unpin_performed h.collector.now.places.capacity h.machine (sight_of h) at))),
-        );
+        ends = record {
+          last = told;
+          over = ap (λ (z : Machine (Job W)). z.stage) over;
+          machine = is_last;
+          drives = drives_of (IsCalled done) h.collector.now.places.capacity h.machine told (sight_of h) (sight_of n)
+              (subst (λ (z : Machine (Job W)). Drives NoJob h.collector.now.places.capacity h.machine (sight_of h) z (sight_of n)) heard_told
+              (subst (λ (z : Sight (Job W)). Drives NoJob h.collector.now.places.capacity h.machine (sight_of h) (heard h.machine Stored) z) (sym (sight_behind h n _ steps))
+              (unpin_performed h.collector.now.places.capacity h.machine (sight_of h) at)));
+        };
         ready = ready_with n last steps.seated (rests_still h n _ steps rests)
             (ap (λ (z : Machine (Job W)). z.sizes) leaves ∙ ap (λ (z : Machine (Job W)). z.sizes) (sym steps.machine))
             (ap (λ (z : Machine (Job W)). z.stage) leaves) (record {
@@ -183,7 +183,7 @@ module _ {T W : Type 0} where
   pub freed_behind : (done : W → Type 0) (h n o : Local T W)
       → IsSame h n
       → n.machine.sizes ≡ h.machine.sizes
-      → DrivesAndCalls (IsCalled done) h.collector.now.places.capacity h.machine (sight_of h) n.machine (sight_of n)
+      → IsDriven (IsCalled done) h n
       → (h.machine.held ≢ [] → IsLeftWhole h.machine.held o.claimer.me.0)
       → IsFreed done n o
       → IsFreed done h o
@@ -192,27 +192,27 @@ module _ {T W : Type 0} where
     position = freed.position;
     machine = freed.machine ∙ ap (λ (z : Sizes). fresh z) sizes;
     whole = whole;
-    calls = calls_on (IsCalled done) h.collector.now.places.capacity h.machine n.machine o.machine (sight_of h) (sight_of n) (sight_of o) before
-        (subst (λ z. DrivesAndCalls (IsCalled done) z.now.places.capacity n.machine (sight_of n) o.machine (sight_of o)) same.collector freed.calls);
+    calls = drives_on (IsCalled done) h.collector.now.places.capacity h.machine n.machine o.machine (sight_of h) (sight_of n) (sight_of o) before
+        (subst (λ z. Drives (IsCalled done) z.now.places.capacity n.machine (sight_of n) o.machine (sight_of o)) same.collector freed.calls);
   }
 
   pub refused_behind : (done : W → Type 0) (h n o : Local T W)
       → IsSame h n
       → n.machine.held ≡ h.machine.held
-      → DrivesAndCalls (IsCalled done) h.collector.now.places.capacity h.machine (sight_of h) n.machine (sight_of n)
+      → IsDriven (IsCalled done) h n
       → IsRefused done n o
       → IsRefused done h o
   refused_behind done h n o same held before refused =
-      let last = refused.ends.0 in
+      let ends = refused.ends in
       record {
         same = record { position = refused.same.position ∙ same.position; collector = refused.same.collector ∙ same.collector };
-        ends = (
-          last,
-          refused.ends.1,
-          refused.ends.2,
-          calls_on (IsCalled done) h.collector.now.places.capacity h.machine n.machine last (sight_of h) (sight_of n) (sight_of o) before
-              (subst (λ z. DrivesAndCalls (IsCalled done) z.now.places.capacity n.machine (sight_of n) last (sight_of o)) same.collector refused.ends.3),
-        );
+        ends = record {
+          last = ends.last;
+          over = ends.over;
+          machine = ends.machine;
+          drives = drives_on (IsCalled done) h.collector.now.places.capacity h.machine n.machine ends.last (sight_of h) (sight_of n) (sight_of o) before
+              (subst (λ z. Drives (IsCalled done) z.now.places.capacity n.machine (sight_of n) ends.last (sight_of o)) same.collector ends.drives);
+        };
         ready = refused.ready;
         held = ((λ none. refused.held.0 (held ∙ none)), refused.held.1 ∙ held);
         counted = refused.counted;
@@ -242,8 +242,8 @@ module _ {T W : Type 0} where
         none = ap (λ (z : Machine (Job W)). z.guards) is ∙ none;
         held = ap (λ (z : Machine (Job W)). z.held) is;
         sizes = ap (λ (z : Machine (Job W)). z.sizes) is;
-        calls = calls_of (IsCalled done) h.collector.now.places.capacity (begun Release h.machine) m (sight_of h) (sight_of n)
-            (subst (λ (z : Machine (Job W)). DrivesStraight h.collector.now.places.capacity (begun Release h.machine) (sight_of h) z (sight_of n)) (sym is)
+        calls = drives_of (IsCalled done) h.collector.now.places.capacity (begun Release h.machine) m (sight_of h) (sight_of n)
+            (subst (λ (z : Machine (Job W)). Drives NoJob h.collector.now.places.capacity (begun Release h.machine) (sight_of h) z (sight_of n)) (sym is)
             (pin_drives h n (begun Release h.machine) e refl steps));
       }
 
@@ -262,8 +262,8 @@ module _ {T W : Type 0} where
     none = ap (λ (z : Machine (Job W)). z.guards) collects.machine ∙ leaving.none;
     held = ap (λ (z : Machine (Job W)). z.held) collects.machine ∙ leaving.held;
     sizes = ap (λ (z : Machine (Job W)). z.sizes) collects.machine ∙ leaving.sizes;
-    calls = calls_on (IsCalled done) h.collector.now.places.capacity (begun Release h.machine) n.machine o.machine (sight_of h) (sight_of n) (sight_of o) leaving.calls
-        (subst (λ z. DrivesAndCalls (IsCalled done) z.now.places.capacity n.machine (sight_of n) o.machine (sight_of o)) leaving.same.collector collects.calls);
+    calls = drives_on (IsCalled done) h.collector.now.places.capacity (begun Release h.machine) n.machine o.machine (sight_of h) (sight_of n) (sight_of o) leaving.calls
+        (subst (λ z. Drives (IsCalled done) z.now.places.capacity n.machine (sight_of n) o.machine (sight_of o)) leaving.same.collector collects.calls);
   }
 
   pub collected_to_leave : (done : W → Type 0) (h n o : Local T W) → IsLeaving done h n → Collects done n o → o.machine.stage ≡ after_collect Release o.machine.held

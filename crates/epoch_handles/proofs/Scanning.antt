@@ -13,9 +13,9 @@ use Rattle.epoch_machine.specs.declared.machine.Stage.TheVariants.{LoadScan, Sca
 use Rattle.epoch_handles.specs.declared.local.Local.{Local}
 use Rattle.epoch_machine.specs.Machine.{Machine, with_stage, holds_up, scanned, past_word}
 use Rattle.epoch_machine.specs.Asks.{Heard}
-use Rattle.epoch_handles.specs.Drives.{Sight, Performed, Reaches, at_start, with_words}
+use Rattle.epoch_handles.specs.Drives.{Sight, NoJob, Performed, Reaches, situated, at_start, with_words}
 use Rattle.epoch_handles.specs.Handles.{IsSeated, IsSame, IsPinned, KeepsPin, Steps, Scans, sight_of}
-use Rattle.epoch_handles.proofs.Driving.{reaches_on}
+use Rattle.epoch_handles.proofs.Driving.{one_performed, reaches_on}
 use Rattle.epoch_handles.proofs.StraightCalls.{sight_behind, seated_with, still_read}
 
 -- where a scan of e stands that has passed the positions below k
@@ -44,13 +44,18 @@ module _ {J : Type 0} where
       → IsWord w
       → v.words.scan ≡ Some (e, k)
       → (LetsPass e w → u ≡ with_words v (after_pass v.words e k w)) × ((¬ LetsPass e w) → u ≡ with_words v (after_word v.words k w))
-      → Performed places (with_stage m (at_scan positions e k)) v at_start
-      (record { ask = LoadWord k; reply = Heard (Word w) } ∷ []) (with_stage m (past_word positions e k w)) u at_start
+      → Performed places (situated (with_stage m (at_scan positions e k)) v at_start)
+      (record { ask = LoadWord k; reply = Heard (Word w) } ∷ []) (situated (with_stage m (past_word positions e k w)) u at_start)
   scan_goes_on places positions m v u e k w sizes within is_word scan found =
-      subst (λ (s : Stage). Performed places (with_stage m s) v at_start
-      (record { ask = LoadWord k; reply = Heard (Word w) } ∷ []) (with_stage m (past_word positions e k w)) u at_start)
+      subst (λ (s : Stage). Performed places (situated (with_stage m s) v at_start)
+      (record { ask = LoadWord k; reply = Heard (Word w) } ∷ []) (situated (with_stage m (past_word positions e k w)) u at_start))
       (sym (ap (λ (b : Bool). if b then scanned e else Scan e k) (ne_eqb k positions (λ is. absurd (omega arith)))))
-      (refl, tt, (u, at_start, (is_word, refl, (e, scan, found.0, found.1)), (ap (λ (n : ℕ). with_stage m (past_word n e k w)) (sym sizes), refl, refl)))
+      (one_performed places _ _ _ (record {
+        asked = refl;
+        is_reply = tt;
+        performs = (is_word, refl, (e, scan, found.0, found.1));
+        machine = ap (λ (n : ℕ). with_stage m (past_word n e k w)) (sym sizes);
+      }))
 
 -- behind the last position the scan is over
 behind_last : (positions e : ℕ) → at_scan positions e positions ≡ scanned e
@@ -66,8 +71,8 @@ pub record HasPassed {T W : Type 0} (h : Local T W) (e k : ℕ) (n : Local T W) 
   pub claimer : n.claimer ≡ h.claimer
   pub machine : n.machine ≡ h.machine
   pub scan : n.seat.me.0.scan ≡ Some (e, k)
-  pub reaches : Reaches h.collector.now.places.capacity h.machine (sight_of h)
-      (with_stage h.machine (at_scan h.machine.sizes.positions e k)) (sight_of n) at_start
+  pub reaches : Reaches NoJob h.collector.now.places.capacity h.machine (sight_of h)
+      (situated (with_stage h.machine (at_scan h.machine.sizes.positions e k)) (sight_of n) at_start)
 
 module _ {T W : Type 0} where
   pub scan_begins : (h n : Local T W) (e : ℕ)
@@ -91,18 +96,16 @@ module _ {T W : Type 0} where
         scan = ap (λ (z : ParticipantView). z.scan) steps.knows ∙ ap (λ z. scan_after z e) published.1;
         reaches = λ c. (
           record { ask = LoadEpoch; reply = Heard (Epoch e) } ∷ [],
-          subst (λ (s : Stage). Performed h.collector.now.places.capacity (record h.machine { stage = s }) (sight_of h) c
-              (record { ask = LoadEpoch; reply = Heard (Epoch e) } ∷ []) (with_stage h.machine (at_scan h.machine.sizes.positions e 0)) (sight_of n) at_start)
-              (sym begins) (
-                refl,
-                tt,
-                (
-                  sight_of n,
-                  at_start,
-                  (rises, sight_behind h n _ steps, refl),
-                  (ap (λ (b : Bool). with_stage h.machine (if b then scanned e else Scan e 0)) (ne_eqb 0 h.machine.sizes.positions (λ is. absurd (omega arith))), refl, refl),
-                ),
-              ),
+          subst (λ (s : Stage). Performed h.collector.now.places.capacity (situated (record h.machine { stage = s }) (sight_of h) c)
+              (record { ask = LoadEpoch; reply = Heard (Epoch e) } ∷ [])
+              (situated (with_stage h.machine (at_scan h.machine.sizes.positions e 0)) (sight_of n) at_start))
+              (sym begins) (one_performed h.collector.now.places.capacity _ _ _ (record {
+                asked = refl;
+                is_reply = tt;
+                performs = (rises, sight_behind h n _ steps, refl);
+                machine = ap (λ (b : Bool). with_stage h.machine (if b then scanned e else Scan e 0))
+                    (ne_eqb 0 h.machine.sizes.positions (λ is. absurd (omega arith)));
+              })),
           (tt, tt),
         );
       }
@@ -113,9 +116,10 @@ module _ {T W : Type 0} where
       → k < h.machine.sizes.positions
       → IsWord w
       → (LetsPass e w → Steps n o (after_pass n.seat.me.0 e k w)) × ((¬ LetsPass e w) → Steps n o (after_word n.seat.me.0 k w))
-      → Reaches h.collector.now.places.capacity h.machine (sight_of h) (with_stage h.machine (past_word h.machine.sizes.positions e k w)) (sight_of o) at_start
+      → Reaches NoJob h.collector.now.places.capacity h.machine (sight_of h)
+      (situated (with_stage h.machine (past_word h.machine.sizes.positions e k w)) (sight_of o) at_start)
   word_performed h n o e k w passed within is_word found =
-      reaches_on h.collector.now.places.capacity h.machine (with_stage h.machine (at_scan h.machine.sizes.positions e k)) _ (sight_of h) (sight_of n) (sight_of o) at_start at_start
+      reaches_on NoJob h.collector.now.places.capacity h.machine (sight_of h) _ _
       passed.reaches (record { ask = LoadWord k; reply = Heard (Word w) } ∷ [])
       (scan_goes_on h.collector.now.places.capacity h.machine.sizes.positions h.machine (sight_of n) (sight_of o) e k w refl within is_word passed.scan
       (λ lets. sight_behind n o _ (found.0 lets), λ holds. sight_behind n o _ (found.1 holds))) (tt, tt)
@@ -139,8 +143,8 @@ module _ {T W : Type 0} where
         claimer = steps.claimer ∙ passed.claimer;
         machine = steps.machine ∙ passed.machine;
         scan = ap (λ (z : ParticipantView). z.scan) steps.knows;
-        reaches = subst (λ (b : Bool). Reaches h.collector.now.places.capacity h.machine (sight_of h)
-            (with_stage h.machine (if b then Take e 0 else (if k + 1 == h.machine.sizes.positions then scanned e else Scan e (k + 1)))) (sight_of o) at_start)
+        reaches = subst (λ (b : Bool). Reaches NoJob h.collector.now.places.capacity h.machine (sight_of h)
+            (situated (with_stage h.machine (if b then Take e 0 else (if k + 1 == h.machine.sizes.positions then scanned e else Scan e (k + 1)))) (sight_of o) at_start))
             low (word_performed h n o e k w passed within is_word found);
       }
 
@@ -152,7 +156,7 @@ module _ {T W : Type 0} where
       → n.claimer ≡ h.claimer
       → n.machine ≡ h.machine
       → m ≡ with_stage n.machine (Take x 0)
-      → Reaches h.collector.now.places.capacity h.machine (sight_of h) (with_stage h.machine (Take x 0)) (sight_of n) at_start
+      → Reaches NoJob h.collector.now.places.capacity h.machine (sight_of h) (situated (with_stage h.machine (Take x 0)) (sight_of n) at_start)
       → Scans h x (record n { machine = m })
   goes_to_bags h n x m seated same pin claimer machine is reaches =
       let goes : m ≡ with_stage h.machine (Take x 0) = is ∙ ap (λ (z : Machine (Job W)). with_stage z (Take x 0)) machine in
@@ -162,7 +166,7 @@ module _ {T W : Type 0} where
         pin = record { published = pin.published; read = pin.read };
         claimer = claimer;
         machine = goes;
-        reaches = subst (λ (z : Machine (Job W)). Reaches h.collector.now.places.capacity h.machine (sight_of h) z (sight_of n) at_start) (sym goes) reaches;
+        reaches = subst (λ (z : Machine (Job W)). Reaches NoJob h.collector.now.places.capacity h.machine (sight_of h) (situated z (sight_of n) at_start)) (sym goes) reaches;
       }
 
   -- a word that is pinned elsewhere ends the scan
@@ -183,8 +187,8 @@ module _ {T W : Type 0} where
         read = ap (λ (z : ParticipantView). z.first_read) steps.knows ∙ passed.pin.read;
       })
       (steps.claimer ∙ passed.claimer) (steps.machine ∙ passed.machine) is
-      (subst (λ (b : Bool). Reaches h.collector.now.places.capacity h.machine (sight_of h)
-      (with_stage h.machine (if b then Take e 0 else (if k + 1 == h.machine.sizes.positions then scanned e else Scan e (k + 1)))) (sight_of o) at_start)
+      (subst (λ (b : Bool). Reaches NoJob h.collector.now.places.capacity h.machine (sight_of h)
+      (situated (with_stage h.machine (if b then Take e 0 else (if k + 1 == h.machine.sizes.positions then scanned e else Scan e (k + 1)))) (sight_of o) at_start))
       high (word_performed h n o e k w passed within is_word found))
 
   -- behind the last word of the greatest epoch nothing is stored
@@ -195,7 +199,7 @@ module _ {T W : Type 0} where
       → Scans h e (record n { machine = m })
   scan_greatest h n e m passed greatest is =
       goes_to_bags h n e m passed.seated passed.same passed.pin passed.claimer passed.machine is
-      (subst (λ (s : Stage). Reaches h.collector.now.places.capacity h.machine (sight_of h) (with_stage h.machine s) (sight_of n) at_start)
+      (subst (λ (s : Stage). Reaches NoJob h.collector.now.places.capacity h.machine (sight_of h) (situated (with_stage h.machine s) (sight_of n) at_start))
       (behind_last h.machine.sizes.positions e ∙ ap (λ (b : Bool). if b then Take e 0 else Advance e) (eq-eqb e (2 ^ 63 - 1) greatest)) passed.reaches)
 
   -- behind the last word the epoch is stored
@@ -216,8 +220,9 @@ module _ {T W : Type 0} where
         read = ap (λ (z : ParticipantView). z.first_read) steps.knows ∙ passed.pin.read;
       })
       (steps.claimer ∙ passed.claimer) (steps.machine ∙ passed.machine) is
-      (reaches_on h.collector.now.places.capacity h.machine (with_stage h.machine (at_scan h.machine.sizes.positions e h.machine.sizes.positions)) _ (sight_of h) (sight_of n) (sight_of o) at_start at_start
+      (reaches_on NoJob h.collector.now.places.capacity h.machine (sight_of h) _ _
       passed.reaches (record { ask = StoreEpoch (e + 1); reply = Heard Stored } ∷ [])
-      (subst (λ (s : Stage). Performed h.collector.now.places.capacity (with_stage h.machine s) (sight_of n) at_start
-      (record { ask = StoreEpoch (e + 1); reply = Heard Stored } ∷ []) (with_stage h.machine (Take (e + 1) 0)) (sight_of o) at_start) (sym advances)
-      (refl, tt, (sight_of o, at_start, (ahead, sight_behind n o _ steps, refl), (refl, refl, refl)))) (tt, tt))
+      (subst (λ (s : Stage). Performed h.collector.now.places.capacity (situated (with_stage h.machine s) (sight_of n) at_start)
+      (record { ask = StoreEpoch (e + 1); reply = Heard Stored } ∷ []) (situated (with_stage h.machine (Take (e + 1) 0)) (sight_of o) at_start)) (sym advances)
+      (one_performed h.collector.now.places.capacity _ _ _
+      (record { asked = refl; is_reply = tt; performs = (ahead, sight_behind n o _ steps, refl); machine = refl }))) (tt, tt))

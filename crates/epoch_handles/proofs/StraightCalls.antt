@@ -13,8 +13,8 @@ use Rattle.epoch_machine.specs.declared.machine.Stage.TheVariants.{Idle, LoadPin
 use Rattle.epoch_handles.specs.declared.local.Local.{Local}
 use Rattle.epoch_machine.specs.Machine.{Machine, begun, heard}
 use Rattle.epoch_machine.specs.Asks.{Heard}
-use Rattle.epoch_handles.specs.Drives.{Sight, DrivesStraight, at_start, with_words}
-use Rattle.epoch_handles.proofs.Driving.{drives_on}
+use Rattle.epoch_handles.specs.Drives.{Sight, NoJob, Drives, situated, at_start, with_words}
+use Rattle.epoch_handles.proofs.Driving.{one_performed, drives_on}
 use Rattle.epoch_handles.specs.Handles.{IsSeated, IsReady, IsPinned, Steps, PinSteps, sight_of}
 
 -- HOW THE ACTIONS BEGIN
@@ -83,34 +83,24 @@ module _ {J : Type 0} where
       → m.stage ≡ LoadPin
       → v.words.seen ≤ e
       → e ≤ again
-      → DrivesStraight places m v (heard (heard (heard m (Epoch e)) Stored) (Epoch again))
+      → Drives NoJob places m v (heard (heard (heard m (Epoch e)) Stored) (Epoch again))
       (with_words v (after_epoch (after_own (after_epoch v.words e) (Some e)) again))
   pin_performed places m v e again at rises rises_again =
       subst (λ (s : Stage). let n : Machine J = record m { stage = s } in
-      DrivesStraight places n v (heard (heard (heard n (Epoch e)) Stored) (Epoch again))
+      Drives NoJob places n v (heard (heard (heard n (Epoch e)) Stored) (Epoch again))
       (with_words v (after_epoch (after_own (after_epoch v.words e) (Some e)) again))) (sym at)
-      (λ c. (
+      (λ c. let n : Machine J = record m { stage = LoadPin } in (
         at_start,
         record { ask = LoadEpoch; reply = Heard (Epoch e) }
             ∷ record { ask = StorePinned e; reply = Heard Stored }
             ∷ record { ask = LoadEpoch; reply = Heard (Epoch again) } ∷ [],
         (
-          refl,
-          tt,
+          situated (heard n (Epoch e)) (with_words v (after_epoch v.words e)) at_start,
+          record { asked = refl; is_reply = tt; performs = (rises, refl, refl); machine = refl },
           (
-            _,
-            at_start,
-            (rises, refl, refl),
-            (
-              refl,
-              tt,
-              (
-                _,
-                at_start,
-                (omega arith, refl, refl),
-                (refl, tt, (_, at_start, (rises_again, refl, refl), (refl, refl, refl))),
-              ),
-            ),
+            situated (heard (heard n (Epoch e)) Stored) (with_words v (after_own (after_epoch v.words e) (Some e))) at_start,
+            record { asked = refl; is_reply = tt; performs = (omega arith, refl, refl); machine = refl },
+            one_performed places _ _ _ (record { asked = refl; is_reply = tt; performs = (rises_again, refl, refl); machine = refl }),
           ),
         ),
         (tt, (tt, (tt, tt))),
@@ -119,14 +109,14 @@ module _ {J : Type 0} where
   pub repin_same_performed : (places : ℕ) (m : Machine J) (v : Sight J) (e : ℕ)
       → m.stage ≡ LoadRepin
       → v.words.seen ≤ e
-      → DrivesStraight places m v (heard m (Epoch e)) (with_words v (after_epoch v.words e))
+      → Drives NoJob places m v (heard m (Epoch e)) (with_words v (after_epoch v.words e))
   repin_same_performed places m v e at rises =
       subst (λ (s : Stage). let n : Machine J = record m { stage = s } in
-      DrivesStraight places n v (heard n (Epoch e)) (with_words v (after_epoch v.words e))) (sym at)
+      Drives NoJob places n v (heard n (Epoch e)) (with_words v (after_epoch v.words e))) (sym at)
       (λ c. (
         at_start,
         record { ask = LoadEpoch; reply = Heard (Epoch e) } ∷ [],
-        (refl, tt, (_, at_start, (rises, refl, refl), (refl, refl, refl))),
+        one_performed places _ _ _ (record { asked = refl; is_reply = tt; performs = (rises, refl, refl); machine = refl }),
         (tt, tt),
       ))
 
@@ -134,20 +124,15 @@ module _ {J : Type 0} where
   repin_stores : (places : ℕ) (m : Machine J) (v : Sight J) (e again : ℕ)
       → e ≤ v.words.seen
       → v.words.seen ≤ again
-      → DrivesStraight places (record m { stage = StoreRepin e }) v (heard (heard (record m { stage = StoreRepin e }) Stored) (Epoch again))
+      → Drives NoJob places (record m { stage = StoreRepin e }) v (heard (heard (record m { stage = StoreRepin e }) Stored) (Epoch again))
       (with_words v (after_epoch (after_own v.words (Some e)) again))
   repin_stores places m v e again read rises = λ c. (
     at_start,
     record { ask = StoreRepinned e; reply = Heard Stored } ∷ record { ask = LoadEpoch; reply = Heard (Epoch again) } ∷ [],
     (
-      refl,
-      tt,
-      (
-        _,
-        c,
-        (read, refl, refl),
-        (refl, tt, (_, at_start, (rises, refl, refl), (refl, refl, refl))),
-      ),
+      situated (heard (record m { stage = StoreRepin e }) Stored) (with_words v (after_own v.words (Some e))) c,
+      record { asked = refl; is_reply = tt; performs = (read, refl, refl); machine = refl },
+      one_performed places _ _ _ (record { asked = refl; is_reply = tt; performs = (rises, refl, refl); machine = refl }),
     ),
     (tt, (tt, tt)),
   )
@@ -157,22 +142,22 @@ module _ {J : Type 0} where
       → m.published ≢ e
       → v.words.seen ≤ e
       → e ≤ again
-      → DrivesStraight places (begun Repin m) v (heard (heard (heard (begun Repin m) (Epoch e)) Stored) (Epoch again))
+      → Drives NoJob places (begun Repin m) v (heard (heard (heard (begun Repin m) (Epoch e)) Stored) (Epoch again))
       (with_words v (after_epoch (after_own (after_epoch v.words e) (Some e)) again))
   repin_moved_performed places m v e again one moved rises rises_again =
-      drives_on places (begun Repin m) (heard (begun Repin m) (Epoch e)) _ v (with_words v (after_epoch v.words e)) _
+      drives_on NoJob places (begun Repin m) (heard (begun Repin m) (Epoch e)) _ v (with_words v (after_epoch v.words e)) _
       (repin_same_performed places (begun Repin m) v e (repin_begins m one) rises)
-      (subst (λ (z : Machine J). DrivesStraight places z (with_words v (after_epoch v.words e)) (heard (heard z Stored) (Epoch again))
+      (subst (λ (z : Machine J). Drives NoJob places z (with_words v (after_epoch v.words e)) (heard (heard z Stored) (Epoch again))
       (with_words v (after_epoch (after_own (after_epoch v.words e) (Some e)) again))) (sym (repin_moves m e one moved))
       (repin_stores places (begun Repin m) (with_words v (after_epoch v.words e)) e again (omega arith) rises_again))
 
   pub unpin_performed : (places : ℕ) (m : Machine J) (v : Sight J)
       → m.stage ≡ StageUnpinned
-      → DrivesStraight places m v (heard m Stored) (with_words v (after_own v.words None))
+      → Drives NoJob places m v (heard m Stored) (with_words v (after_own v.words None))
   unpin_performed places m v at =
       subst (λ (s : Stage). let n : Machine J = record m { stage = s } in
-      DrivesStraight places n v (heard n Stored) (with_words v (after_own v.words None))) (sym at)
-      (λ c. (c, record { ask = StoreUnpinned; reply = Heard Stored } ∷ [], (refl, tt, (_, c, (refl, refl), (refl, refl, refl))), (tt, tt)))
+      Drives NoJob places n v (heard n Stored) (with_words v (after_own v.words None))) (sym at)
+      (λ c. (c, record { ask = StoreUnpinned; reply = Heard Stored } ∷ [], one_performed places _ _ _ (record { asked = refl; is_reply = tt; performs = (refl, refl); machine = refl }), (tt, tt)))
 
 -- WHAT A HANDLE KNOWS
 
@@ -196,9 +181,9 @@ module _ {T W : Type 0} where
   pub pin_drives : (h n : Local T W) (m : Machine (Job W)) (e : ℕ)
       → m.stage ≡ LoadPin
       → (steps : PinSteps h e n)
-      → DrivesStraight h.collector.now.places.capacity m (sight_of h) (heard (heard (heard m (Epoch e)) Stored) (Epoch steps.again)) (sight_of n)
+      → Drives NoJob h.collector.now.places.capacity m (sight_of h) (heard (heard (heard m (Epoch e)) Stored) (Epoch steps.again)) (sight_of n)
   pin_drives h n m e at steps =
-      subst (λ (z : Sight (Job W)). DrivesStraight h.collector.now.places.capacity m (sight_of h) (heard (heard (heard m (Epoch e)) Stored) (Epoch steps.again)) z)
+      subst (λ (z : Sight (Job W)). Drives NoJob h.collector.now.places.capacity m (sight_of h) (heard (heard (heard m (Epoch e)) Stored) (Epoch steps.again)) z)
       (sym (sight_behind h n _ steps.steps))
       (pin_performed h.collector.now.places.capacity m (sight_of h) e steps.again at steps.rises steps.rises_again)
 

@@ -7,9 +7,8 @@ use Rattle.epoch_tables.specs.declared.table.view.ParticipantView.{ParticipantVi
 use Rattle.epoch_machine.specs.declared.machine.Ask.{Ask}
 use Rattle.epoch_machine.specs.declared.machine.Ask.TheVariants.{LoadEpoch, LoadWord, StorePinned, StoreRepinned, StoreUnpinned, StoreFree, StoreEpoch, PutBag, TakeBag, KeepJob, CallJob}
 use Rattle.epoch_machine.specs.declared.machine.Answer.TheVariants.{Epoch, Word, Stored, Job}
-use Rattle.epoch_machine.specs.Machine.{Machine}
-use Rattle.epoch_machine.specs.Asks.{Reply, Heard, PutStepped, TakeStepped, JobGiven, Log, told}
-use Rattle.epoch_handles.specs.Drives.{Sight, Cursors, Performs, Performed}
+use Rattle.epoch_machine.specs.Asks.{Reply, Heard, PutStepped, TakeStepped, JobGiven, Log}
+use Rattle.epoch_handles.specs.Drives.{Sight, Situation, Performs, Performed}
 use Rattle.epoch_handles.specs.Told.{word_told, words_told}
 
 -- a scan passes the word, or is held up by it
@@ -36,33 +35,34 @@ module _ {J : Type 0} where
   silent : (v u : Sight J) → u.words.found ≡ v.words.found → u.words.seen ≡ v.words.seen → (u.words.found ≡ v.words.found ++ []) × (v.words.seen ≤ u.words.seen)
   silent v u found seen = (found ∙ sym (append-nil v.words.found), omega arith)
 
-  pub one_found : (places : ℕ) (m : Machine J) (v u : Sight J) (c d : Cursors) (ask : Ask) (reply : Reply J)
-      → Performs places m v c ask reply u d → Finds v reply u
-  one_found places m v u c d LoadEpoch (Heard (Epoch e)) (rises, is, start) =
+  pub one_found : (places : ℕ) (before after : Situation J) (ask : Ask) (reply : Reply J)
+      → Performs places before ask reply after → Finds before.sight reply after.sight
+  one_found places before after LoadEpoch (Heard (Epoch e)) (rises, is, start) =
       (ap (λ (z : Sight J). z.words.found) is, let seen = ap (λ (z : Sight J). z.words.seen) is in omega arith)
-  one_found places m v u c d (StorePinned e) (Heard Stored) (read, is, same) = silent v u (ap (λ (z : Sight J). z.words.found) is) (ap (λ (z : Sight J). z.words.seen) is)
-  one_found places m v u c d (StoreRepinned e) (Heard Stored) (read, is, same) = silent v u (ap (λ (z : Sight J). z.words.found) is) (ap (λ (z : Sight J). z.words.seen) is)
-  one_found places m v u c d StoreUnpinned (Heard Stored) (is, same) = silent v u (ap (λ (z : Sight J). z.words.found) is) (ap (λ (z : Sight J). z.words.seen) is)
-  one_found places m v u c d StoreFree (Heard Stored) (is, same) = silent v u (ap (λ (z : Sight J). z.words.found) is) (ap (λ (z : Sight J). z.words.seen) is)
-  one_found places m v u c d (LoadWord k) (Heard (Word w)) (is_word, same, (e, scan, passed, held)) = elim (passes_or_not e w is_word) [
+  one_found places before after (StorePinned e) (Heard Stored) (read, is, same) = silent before.sight after.sight (ap (λ (z : Sight J). z.words.found) is) (ap (λ (z : Sight J). z.words.seen) is)
+  one_found places before after (StoreRepinned e) (Heard Stored) (read, is, same) = silent before.sight after.sight (ap (λ (z : Sight J). z.words.found) is) (ap (λ (z : Sight J). z.words.seen) is)
+  one_found places before after StoreUnpinned (Heard Stored) (is, same) = silent before.sight after.sight (ap (λ (z : Sight J). z.words.found) is) (ap (λ (z : Sight J). z.words.seen) is)
+  one_found places before after StoreFree (Heard Stored) (is, same) = silent before.sight after.sight (ap (λ (z : Sight J). z.words.found) is) (ap (λ (z : Sight J). z.words.seen) is)
+  one_found places before after (LoadWord k) (Heard (Word w)) (is_word, same, (e, scan, passed, held)) = elim (passes_or_not e w is_word) [
     | inl lets ↦ (ap (λ (z : Sight J). z.words.found) (passed lets), let seen = ap (λ (z : Sight J). z.words.seen) (passed lets) in omega arith)
     | inr holds ↦ (ap (λ (z : Sight J). z.words.found) (held holds), let seen = ap (λ (z : Sight J). z.words.seen) (held holds) in omega arith)
   ]
-  one_found places m v u c d (StoreEpoch e) (Heard Stored) (ahead, is, same) =
-      (ap (λ (z : Sight J). z.words.found) is ∙ sym (append-nil v.words.found), let seen = ap (λ (z : Sight J). z.words.seen) is in omega arith)
-  one_found places m v u c d KeepJob (Heard (Job job)) (is, same) = silent v u (ap (λ (z : Sight J). z.words.found) is) (ap (λ (z : Sight J). z.words.seen) is)
-  one_found places m v u c d CallJob (JobGiven job) (is, same) = silent v u (ap (λ (z : Sight J). z.words.found) is) (ap (λ (z : Sight J). z.words.seen) is)
-  one_found places m v u c d (PutBag seal) (PutStepped step) (is, same, moves) = silent v u (ap (λ (z : ParticipantView). z.found) is) (ap (λ (z : ParticipantView). z.seen) is)
-  one_found places m v u c d (TakeBag x) (TakeStepped step jobs) (is, same, moves) = silent v u (ap (λ (z : ParticipantView). z.found) is) (ap (λ (z : ParticipantView). z.seen) is)
-  one_found places m v u c d ask reply performs = absurd performs
+  one_found places before after (StoreEpoch e) (Heard Stored) (ahead, is, same) =
+      (ap (λ (z : Sight J). z.words.found) is ∙ sym (append-nil before.sight.words.found), let seen = ap (λ (z : Sight J). z.words.seen) is in omega arith)
+  one_found places before after KeepJob (Heard (Job job)) (is, same) = silent before.sight after.sight (ap (λ (z : Sight J). z.words.found) is) (ap (λ (z : Sight J). z.words.seen) is)
+  one_found places before after CallJob (JobGiven job) (is, same) = silent before.sight after.sight (ap (λ (z : Sight J). z.words.found) is) (ap (λ (z : Sight J). z.words.seen) is)
+  one_found places before after (PutBag seal) (PutStepped step) (is, same, moves) = silent before.sight after.sight (ap (λ (z : ParticipantView). z.found) is) (ap (λ (z : ParticipantView). z.seen) is)
+  one_found places before after (TakeBag x) (TakeStepped step jobs) (is, same, moves) = silent before.sight after.sight (ap (λ (z : ParticipantView). z.found) is) (ap (λ (z : ParticipantView). z.seen) is)
+  one_found places before after ask reply performs = absurd performs
 
-  pub replies_found : (places : ℕ) (m n : Machine J) (v u : Sight J) (c d : Cursors) (log : Log J)
-      → Performed places m v c log n u d
-      → (u.words.found ≡ v.words.found ++ words_told log) × (v.words.seen ≤ u.words.seen)
-  replies_found places m n v u c d [] (machine, is, cursors) = silent v u (ap (λ (z : Sight J). z.words.found) is) (ap (λ (z : Sight J). z.words.seen) is)
-  replies_found places m n v u c d (x ∷ log) (asked, is_reply, (w, b, performs, behind)) =
-      let one = one_found places m v w c b x.ask x.reply performs in
-      let more = replies_found places (told m x.reply) n w u b d log behind in (
-        more.0 ∙ ap (λ (found : List ℕ). found ++ words_told log) one.0 ∙ append_assoc v.words.found (word_told x.reply) (words_told log),
+  pub replies_found : (places : ℕ) (before after : Situation J) (log : Log J)
+      → Performed places before log after
+      → (after.sight.words.found ≡ before.sight.words.found ++ words_told log) × (before.sight.words.seen ≤ after.sight.words.seen)
+  replies_found places before after [] same =
+      silent before.sight after.sight (ap (λ (z : Situation J). z.sight.words.found) same) (ap (λ (z : Situation J). z.sight.words.seen) same)
+  replies_found places before after (x ∷ log) (next, exchange, behind) =
+      let one = one_found places before next x.ask x.reply exchange.performs in
+      let more = replies_found places next after log behind in (
+        more.0 ∙ ap (λ (found : List ℕ). found ++ words_told log) one.0 ∙ append_assoc before.sight.words.found (word_told x.reply) (words_told log),
         let first = one.1 in let rest = more.1 in omega arith,
       )

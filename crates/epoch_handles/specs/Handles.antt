@@ -18,12 +18,20 @@ use Rattle.epoch_handles.specs.declared.collector.Collector.{Collector}
 use Rattle.epoch_handles.specs.declared.guard.Guard.{Guard}
 use Rattle.epoch_handles.specs.declared.local.Local.{Local}
 use Rattle.epoch_machine.specs.Machine.{Machine, begun, ended, fresh, with_stage, after_collect, after_put, after_job}
-use Rattle.epoch_handles.specs.Drives.{Sight, Cursors, Performed, AreCalled, DrivesStraight, Drives, DrivesAndCalls, Reaches, at_start}
+use Rattle.epoch_handles.specs.Drives.{Sight, Cursors, Situation, Performed, NoJob, AnyJob, GivesOnly, Drives, Reaches, situated, at_start}
 use Rattle.epoch_machine.specs.Asks.{Log}
 
 -- what the seats of a participant know
 abbrev pub sight_of : {T W : Type 0} → Local T W → Sight (Job W)
 sight_of h = record { words = h.seat.me.0; places = h.claimer.me }
+
+-- where the participant is, with its cursors there
+abbrev pub situation_of : {T W : Type 0} → Local T W → Cursors → Situation (Job W)
+situation_of h c = situated h.machine (sight_of h) c
+
+-- The asks of the participant's machine were performed as far as where it is new, and each job that it gave is such.
+abbrev pub IsDriven : {T W : Type 0} → (Job W → Type 0) → Local T W → Local T W → Type 0
+IsDriven IsSuch old new = Drives IsSuch old.collector.now.places.capacity old.machine (sight_of old) new.machine (sight_of new)
 
 -- it is the same participant of the same collector
 pub record IsSame {T W : Type 0} (old new : Local T W) : Type 0 where
@@ -77,12 +85,14 @@ pub record Scans {T W : Type 0} (old : Local T W) (expiry : ℕ) (new : Local T 
   pub pin : KeepsPin old new
   pub claimer : new.claimer ≡ old.claimer
   pub machine : new.machine ≡ with_stage old.machine (Take expiry 0)
-  pub reaches : Reaches old.collector.now.places.capacity old.machine (sight_of old) new.machine (sight_of new) at_start
+  pub reaches : Reaches NoJob old.collector.now.places.capacity old.machine (sight_of old) (situation_of new at_start)
 
 -- It called what was left of the bag in hand: the next bag is looked for, unless this was the last one.
 pub record CallsHand {T W : Type 0} (done : W → Type 0) (old : Local T W) (expiry taken : ℕ) (new : Local T W) : Type 0 where
   pub machine : new.machine ≡ record old.machine { stage = after_job old.machine expiry taken []; hand = [] }
-  pub performed : (c : Cursors) → (log : Log (Job W)) × Performed old.collector.now.places.capacity old.machine (sight_of old) c log new.machine (sight_of old) c × AreCalled (IsCalled done) log
+  pub performed : (c : Cursors) → (log : Log (Job W))
+      × Performed old.collector.now.places.capacity (situation_of old c) log (situated new.machine (sight_of old) c)
+      × GivesOnly (IsCalled done) log
 
 -- A collection for the epoch x has come to this cursor, and looks for a bag.
 pub record HasTaken {T W : Type 0} (done : W → Type 0) (h : Local T W) (x : ℕ) (cursor : TakeCursor) (n : Local T W) : Type 0 where
@@ -92,8 +102,9 @@ pub record HasTaken {T W : Type 0} (done : W → Type 0) (h : Local T W) (x : �
   pub at : TakesAt h.collector.now.places.capacity x cursor n.claimer.me
   pub seat : n.seat ≡ h.seat
   pub same : IsSame h n
-  pub performed : (log : Log (Job W)) × Performed h.collector.now.places.capacity h.machine (sight_of h) at_start log n.machine (sight_of n)
-      (record { put = PutLook 0; take = cursor }) × AreCalled (IsCalled done) log
+  pub performed : (log : Log (Job W))
+      × Performed h.collector.now.places.capacity (situation_of h at_start) log (situation_of n (record { put = PutLook 0; take = cursor }))
+      × GivesOnly (IsCalled done) log
 
 -- It took bags that are expired for the epoch of its scan, and called their jobs.
 pub record TakesBags {T W : Type 0} (done : W → Type 0) (old new : Local T W) : Type 0 where
@@ -102,7 +113,9 @@ pub record TakesBags {T W : Type 0} (done : W → Type 0) (old new : Local T W) 
   pub seat : new.seat ≡ old.seat
   pub same : IsSame old new
   pub machine : new.machine ≡ record old.machine { stage = after_collect old.machine.action old.machine.held; hand = new.machine.hand }
-  pub performed : (d : Cursors) × (log : Log (Job W)) × Performed old.collector.now.places.capacity old.machine (sight_of old) at_start log new.machine (sight_of new) d × AreCalled (IsCalled done) log
+  pub performed : (d : Cursors) × (log : Log (Job W))
+      × Performed old.collector.now.places.capacity (situation_of old at_start) log (situation_of new d)
+      × GivesOnly (IsCalled done) log
 
 -- It collected: it scanned, and took bags and called their jobs, as many as a collection takes or as it found.
 pub record Collects {T W : Type 0} (done : W → Type 0) (old new : Local T W) : Type 0 where
@@ -111,7 +124,7 @@ pub record Collects {T W : Type 0} (done : W → Type 0) (old new : Local T W) :
   pub same : IsSame old new
   pub pin : KeepsPin old new
   pub machine : new.machine ≡ record old.machine { stage = after_collect old.machine.action old.machine.held; hand = new.machine.hand }
-  pub calls : DrivesAndCalls (IsCalled done) old.collector.now.places.capacity old.machine (sight_of old) new.machine (sight_of new)
+  pub calls : IsDriven (IsCalled done) old new
 
 -- what the seat left in a place last is a bag of just these jobs, in this order
 abbrev pub IsLeftWhole : {J : Type 0} → List J → PlaceView J → Type 0
@@ -126,7 +139,7 @@ pub record Puts {T W : Type 0} (old new : Local T W) : Type 0 where
   pub machine : (new.machine ≡ record old.machine { stage = after_put old.machine.action false; full = false; held = [] })
       ⊎ (new.machine ≡ record old.machine { stage = after_put old.machine.action true; full = true })
   pub whole : new.machine.full ≡ false → IsLeftWhole old.machine.held new.claimer.me.0
-  pub drives : DrivesStraight old.collector.now.places.capacity old.machine (sight_of old) new.machine (sight_of new)
+  pub drives : IsDriven NoJob old new
 
 -- The word says what the machine says: pinned in the published epoch while guards are out, and not pinned while none is.
 pub record Agrees {J : Type 0} (m : Machine J) (v : ParticipantView) : Type 0 where
@@ -141,20 +154,28 @@ pub record IsReady {T W : Type 0} (h : Local T W) : Type 0 where
   pub idle : h.machine.stage ≡ Idle
   pub agrees : Agrees h.machine h.seat.me.0
 
--- The machine began this action, was driven to its end, and counts its guards from then on.
+-- The action under way was driven to its end, and its guards are counted from then on. Each job that its machine gave is such.
+pub record EndsGiving {T W : Type 0} (IsSuch : Job W → Type 0) (old new : Local T W) : Type 0 where
+  pub last : Machine (Job W)
+  pub over : last.stage ≡ End
+  pub machine : new.machine ≡ ended last
+  pub drives : Drives IsSuch old.collector.now.places.capacity old.machine (sight_of old) last (sight_of new)
+
+-- The machine began this action, and ended it so.
+abbrev pub DoesGiving : {T W : Type 0} → (Job W → Type 0) → Local T W → Action → Local T W → Type 0
+DoesGiving IsSuch old action new = EndsGiving IsSuch (record old { machine = begun action old.machine }) new
+
+-- whichever jobs it gave
 abbrev pub Does : {T W : Type 0} → Local T W → Action → Local T W → Type 0
-Does {T} {W} old action new = (last : Machine (Job W)) × (last.stage ≡ End) × (new.machine ≡ ended last)
-    × Drives old.collector.now.places.capacity (begun action old.machine) (sight_of old) last (sight_of new)
+Does old action new = DoesGiving AnyJob old action new
 
--- the same of an action whose machine gave no job
+-- it gave no job
 abbrev pub DoesStraight : {T W : Type 0} → Local T W → Action → Local T W → Type 0
-DoesStraight {T} {W} old action new = (last : Machine (Job W)) × (last.stage ≡ End) × (new.machine ≡ ended last)
-    × DrivesStraight old.collector.now.places.capacity (begun action old.machine) (sight_of old) last (sight_of new)
+DoesStraight old action new = DoesGiving NoJob old action new
 
--- the same of an action that collects: each job that its machine gave was called
+-- each job that it gave was called
 abbrev pub DoesAndCalls : {T W : Type 0} → (W → Type 0) → Local T W → Action → Local T W → Type 0
-DoesAndCalls {T} {W} done old action new = (last : Machine (Job W)) × (last.stage ≡ End) × (new.machine ≡ ended last)
-    × DrivesAndCalls (IsCalled done) old.collector.now.places.capacity (begun action old.machine) (sight_of old) last (sight_of new)
+DoesAndCalls done old action new = DoesGiving (IsCalled done) old action new
 
 -- the same participant of the same collector, between two calls, with one guard fewer
 pub record IsBetween {T W : Type 0} (old between : Local T W) : Type 0 where

@@ -4,11 +4,9 @@ use Rattle.epoch_bags.specs.Jobs.{IsCalled}
 use Rattle.epoch_bags.specs.declared.job.Job.{Job}
 use Rattle.epoch_tables.specs.SharedSteps.{RestsAt}
 use Rattle.epoch_machine.specs.declared.machine.Action.TheVariants.{Release}
-use Rattle.epoch_machine.specs.declared.machine.Stage.TheVariants.{End}
 use Rattle.epoch_handles.specs.declared.local.Local.{Local}
-use Rattle.epoch_machine.specs.Machine.{Machine, begun, ended, fresh}
-use Rattle.epoch_handles.specs.Drives.{DrivesAndCalls}
-use Rattle.epoch_handles.specs.Handles.{IsSeated, IsReady, IsSame, IsPinned, IsLeftWhole, sight_of}
+use Rattle.epoch_machine.specs.Machine.{begun, fresh}
+use Rattle.epoch_handles.specs.Handles.{IsSeated, IsReady, IsSame, IsPinned, IsLeftWhole, IsDriven, EndsGiving}
 
 -- The release has come to where it puts the held bag, if it has a job, and leaves: it is pinned, and holds what it held.
 pub record IsLeaving {T W : Type 0} (done : W → Type 0) (old new : Local T W) : Type 0 where
@@ -21,17 +19,12 @@ pub record IsLeaving {T W : Type 0} (done : W → Type 0) (old new : Local T W) 
   pub none : new.machine.guards ≡ 0
   pub held : new.machine.held ≡ old.machine.held
   pub sizes : new.machine.sizes ≡ old.machine.sizes
-  pub calls : DrivesAndCalls (IsCalled done) old.collector.now.places.capacity (begun Release old.machine) (sight_of old) new.machine (sight_of new)
-
--- The action under way was driven to its end, and its guards are counted from then on.
-abbrev pub EndsAction : {T W : Type 0} → (W → Type 0) → Local T W → Local T W → Type 0
-EndsAction {T} {W} done old new = (last : Machine (Job W)) × (last.stage ≡ End) × (new.machine ≡ ended last)
-    × DrivesAndCalls (IsCalled done) old.collector.now.places.capacity old.machine (sight_of old) last (sight_of new)
+  pub calls : IsDriven (IsCalled done) (record old { machine = begun Release old.machine }) new
 
 -- The held bag found no place, and the machine says so: the participant is not pinned, keeps its position, and holds the bag as before.
 pub record IsRefused {T W : Type 0} (done : W → Type 0) (old new : Local T W) : Type 0 where
   pub same : IsSame old new
-  pub ends : EndsAction done old new
+  pub ends : EndsGiving (IsCalled done) old new
   pub ready : IsReady new
   pub held : (old.machine.held ≢ []) × (new.machine.held ≡ old.machine.held)
   pub counted : new.machine.guards ≡ 0
@@ -43,7 +36,7 @@ pub record IsFreed {T W : Type 0} (done : W → Type 0) (old new : Local T W) : 
   pub position : new.seat.me.0.position ≡ None
   pub machine : new.machine ≡ fresh old.machine.sizes
   pub whole : old.machine.held ≢ [] → IsLeftWhole old.machine.held new.claimer.me.0
-  pub calls : DrivesAndCalls (IsCalled done) old.collector.now.places.capacity old.machine (sight_of old) new.machine (sight_of new)
+  pub calls : IsDriven (IsCalled done) old new
 
 -- A release was begun and driven until the position was free: the own word is 0, and the held bag, if it had a job,
 -- was put whole.

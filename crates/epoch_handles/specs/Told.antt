@@ -13,9 +13,9 @@ use Rattle.epoch_machine.specs.declared.machine.Answer.TheVariants.{Epoch, Word}
 use Rattle.epoch_machine.specs.declared.machine.Action.{Action}
 use Rattle.epoch_machine.specs.declared.machine.Ask.{Ask}
 use Rattle.epoch_machine.specs.declared.machine.Ask.TheVariants.{LoadEpoch, PutBag, TakeBag}
-use Rattle.epoch_machine.specs.Machine.{Machine, begun}
+use Rattle.epoch_machine.specs.Machine.{begun}
 use Rattle.epoch_machine.specs.Asks.{Reply, Heard, PutStepped, TakeStepped, Log}
-use Rattle.epoch_handles.specs.Drives.{Sight, Cursors, Performed, at_start}
+use Rattle.epoch_handles.specs.Drives.{Cursors, Situation, Performed, at_start}
 
 -- THE PARTICIPANTS' TABLE
 
@@ -32,9 +32,9 @@ words_told (x ∷ log) = word_told x.reply ++ words_told log
 -- What the seat's steps have appended to the words that it found are the replies, in their order; and the greatest
 -- epoch that it has read or stored never falls.
 abbrev pub RepliesAreFound : Type 0 → Type 0
-RepliesAreFound J = (places : ℕ) (m n : Machine J) (v u : Sight J) (c d : Cursors) (log : Log J)
-    → Performed places m v c log n u d
-    → (u.words.found ≡ v.words.found ++ words_told log) × (v.words.seen ≤ u.words.seen)
+RepliesAreFound J = (places : ℕ) (before after : Situation J) (log : Log J)
+    → Performed places before log after
+    → (after.sight.words.found ≡ before.sight.words.found ++ words_told log) × (before.sight.words.seen ≤ after.sight.words.seen)
 
 -- a collection that is asked for is for an epoch at most this one
 abbrev pub IsExpiryWithin : ℕ → Ask → Type 0
@@ -47,9 +47,9 @@ AreExpiriesWithin seen (x ∷ log) = IsExpiryWithin seen x.ask × AreExpiriesWit
 
 -- From the beginning of an action on, bags are taken only for an epoch that the seat has read or stored.
 abbrev pub ExpiriesAreSeen : Type 0 → Type 0
-ExpiriesAreSeen J = (places : ℕ) (action : Action) (m n : Machine J) (v u : Sight J) (c d : Cursors) (log : Log J)
-    → Performed places (begun action m) v c log n u d
-    → AreExpiriesWithin u.words.seen log
+ExpiriesAreSeen J = (places : ℕ) (action : Action) (before after : Situation J) (log : Log J)
+    → Performed places (record before { machine = begun action before.machine }) log after
+    → AreExpiriesWithin after.sight.words.seen log
 
 -- THE PLACES
 
@@ -92,6 +92,7 @@ TellsAll places c (x ∷ log) words d = (found more : List ℕ) × (b : Cursors)
 
 -- What the seat at the places has appended to the words that it found are just those that its answers stand for.
 abbrev pub AnswersAreFound : Type 0 → Type 0
-AnswersAreFound J = (places : ℕ) (m n : Machine J) (v u : Sight J) (c d : Cursors) (log : Log J)
-    → Performed places m v c log n u d
-    → (words : List ℕ) × (u.places.0.found ≡ v.places.0.found ++ words) × TellsAll places c log words d
+AnswersAreFound J = (places : ℕ) (before after : Situation J) (log : Log J)
+    → Performed places before log after
+    → (words : List ℕ) × (after.sight.places.0.found ≡ before.sight.places.0.found ++ words)
+    × TellsAll places before.cursors log words after.cursors

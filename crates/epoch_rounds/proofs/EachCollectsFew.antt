@@ -23,10 +23,12 @@ use Rattle.epoch_laws.proofs.Linked.{moved_linked, fresh_linked}
 use Rattle.epoch_laws.proofs.SizesStay.{moves_same}
 use Rattle.epoch_rounds.proofs.FewCollected.{AllSmall, small_got, Counts, weak, bound, begun_counts, told, GoesTo, go_counts}
 
+-- What holds between any two steps. For each participant, taken counts the bags that its call has taken, and called the jobs
+-- that it has called.
 pub record Holds (z : Sizes) (taken called : ℕ → ℕ) (s : State) : Type 0 where
-  pub linked : AllLinked s
-  pub sizes : s.sizes ≡ z
-  pub small : AllSmall z.bag_jobs s.queued
+  pub linked : AllLinked s  -- each seat's machine is the one of the call under way
+  pub sizes : s.sizes ≡ z  -- the sizes stay
+  pub small : AllSmall z.bag_jobs s.queued  -- no bag has more jobs than a bag takes
   pub counts : (q : ℕ) → Counts z (taken q) (called q) (seat_of s q).machine (seat_of s q).machine.stage
 
 same_is : (q : ℕ) → (q == q) ≡ true

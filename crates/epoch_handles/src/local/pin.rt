@@ -1,8 +1,8 @@
 //! Pins, unpins and repins, written out as the steps that they are.
 ghost use Rattle.std.specs.Prelude.{◌≡◌, ℕ, ◌+◌, ◌<◌, ◌≤◌, ◌^◌, true, false, Some};
-ghost use Rattle.epoch_handles.specs.Handles.{IsSeated, IsReady, IsSame, IsPinned, PublishSteps, PinSteps, Does, DoesStraight, DoesAndCalls, sight_of};
+ghost use Rattle.epoch_handles.specs.Handles.{IsSeated, IsReady, IsSame, IsPinned, PublishSteps, PinSteps, IsDriven, Does, DoesStraight, DoesAndCalls};
 ghost use Rattle.epoch_tables.specs.SharedSteps.{RestsAt};
-ghost use Rattle.epoch_handles.specs.Drives.{DrivesStraight};
+ghost use Rattle.epoch_handles.specs.Drives.{NoJob};
 ghost use Rattle.epoch_machine.specs.Machine.{begun};
 ghost use Rattle.epoch_machine.specs.declared.machine.Action.TheVariants.{Pin, Unpin, Repin};
 ghost use Rattle.epoch_machine.specs.declared.machine.Stage.TheVariants.{LoadScan};
@@ -47,7 +47,7 @@ impl<'c, T, W> Local<'c, T, W> {
         ensures ends { result ≡ false → DoesStraight self.old Pin self.new }
         ensures ready { result ≡ false → IsReady self.new }
         ensures counted { result ≡ false → self.new.machine.guards ≡ self.old.machine.guards + 1 }
-        ensures drives { result ≡ true → DrivesStraight self.old.collector.now.places.capacity (begun Pin self.old.machine) (sight_of self.old) self.new.machine (sight_of self.new) }
+        ensures drives { result ≡ true → IsDriven NoJob (record self.old { machine = begun Pin self.old.machine }) self.new }
         ensures seated { result ≡ true → IsSeated self.new }
         ensures rests { result ≡ true → RestsAt self.new.claimer.me }
         ensures pinned { result ≡ true → IsPinned self.new.seat.me.0 }

@@ -3,9 +3,9 @@ use Rattle.std.proofs.lemmas.Bool.{false≢true}
 use Rattle.epoch_bags.specs.declared.job.Job.{Job}
 use Rattle.epoch_machine.specs.declared.machine.Action.TheVariants.{Defer}
 use Rattle.epoch_machine.specs.Machine.{Machine, begun, guards_after}
-use Rattle.epoch_handles.specs.Drives.{DrivesStraight}
+use Rattle.epoch_handles.specs.Drives.{NoJob, AnyJob, Drives}
 use Rattle.epoch_handles.specs.Handles.{sight_of}
-use Rattle.epoch_handles.proofs.Driving.{drives_on}
+use Rattle.epoch_handles.proofs.Driving.{drives_on, drives_of}
 use Rattle.epoch_handles.proofs.StraightCalls.{seated_with}
 use Rattle.epoch_handles.proofs.Flushing.{pinned_with_guards}
 use Rattle.epoch_handles.proofs.Deferring.{put_comes_first, found_full, found_room, kept_alone, keep_performed, ready_still, with_kept}
@@ -43,12 +43,13 @@ end-requires g c =
 pub returns-then-found_full-clause-does : goal.returns-then-found_full-clause-does
 returns-then-found_full-clause-does g c =
     let h = c.args.self.now in let p = c.put.new.self in
-    let is = found_full h.machine c.begin.new.self p.machine c.begin.ensures c.put.ensures.machine (sym c.found_full.ensures ∙ c.if-found_full.true) in (
-      p.machine,
-      ap (λ (z : Machine (Job g.row.W.Denot)). z.stage) is,
-      c.end.ensures,
-      λ k. let x = (subst (λ (z : Machine (Job g.row.W.Denot)). DrivesStraight h.collector.now.places.capacity z (sight_of h) p.machine (sight_of p)) c.begin.ensures c.put.ensures.drives) k in (x.0, x.1, x.2),
-    )
+    let is = found_full h.machine c.begin.new.self p.machine c.begin.ensures c.put.ensures.machine (sym c.found_full.ensures ∙ c.if-found_full.true) in record {
+      last = p.machine;
+      over = ap (λ (z : Machine (Job g.row.W.Denot)). z.stage) is;
+      machine = c.end.ensures;
+      drives = drives_of AnyJob h.collector.now.places.capacity _ _ _ _
+          (subst (λ (z : Machine (Job g.row.W.Denot)). Drives NoJob h.collector.now.places.capacity z (sight_of h) p.machine (sight_of p)) c.begin.ensures c.put.ensures.drives);
+    }
 
 pub returns-then-found_full-clause-ready : goal.returns-then-found_full-clause-ready
 returns-then-found_full-clause-ready g c =
@@ -78,15 +79,15 @@ end-requires-2 g c =
 pub returns-clause-does : goal.returns-clause-does
 returns-clause-does g c =
     let h = c.args.self.now in let p = c.put.new.self in let o = c.take.new.self in let places : ℕ = h.collector.now.places.capacity in
-    let at = found_room h.machine c.begin.new.self p.machine c.begin.ensures c.put.ensures.machine (sym c.found_full.ensures ∙ c.if-found_full.false) in (
-      o,
-      ap (λ (z : Machine (Job g.row.W.Denot)). z.stage) (kept_alone h.machine p.machine o c.args.job at c.take.ensures),
-      c.end-2.ensures,
-      λ k. let x = (drives_on places (begun Defer h.machine) p.machine o (sight_of h) (sight_of p) (sight_of p)
-          (subst (λ (z : Machine (Job g.row.W.Denot)). DrivesStraight places z (sight_of h) p.machine (sight_of p)) c.begin.ensures c.put.ensures.drives)
-          (subst (λ (z : Machine (Job g.row.W.Denot)). DrivesStraight places p.machine (sight_of p) z (sight_of p)) (sym c.take.ensures)
-          (keep_performed places p.machine (sight_of p) c.args.job (ap (λ (z : Machine (Job g.row.W.Denot)). z.stage) at)))) k in (x.0, x.1, x.2),
-    )
+    let at = found_room h.machine c.begin.new.self p.machine c.begin.ensures c.put.ensures.machine (sym c.found_full.ensures ∙ c.if-found_full.false) in record {
+      last = o;
+      over = ap (λ (z : Machine (Job g.row.W.Denot)). z.stage) (kept_alone h.machine p.machine o c.args.job at c.take.ensures);
+      machine = c.end-2.ensures;
+      drives = drives_of AnyJob places _ _ _ _ (drives_on NoJob places (begun Defer h.machine) p.machine o (sight_of h) (sight_of p) (sight_of p)
+          (subst (λ (z : Machine (Job g.row.W.Denot)). Drives NoJob places z (sight_of h) p.machine (sight_of p)) c.begin.ensures c.put.ensures.drives)
+          (subst (λ (z : Machine (Job g.row.W.Denot)). Drives NoJob places p.machine (sight_of p) z (sight_of p)) (sym c.take.ensures)
+          (keep_performed places p.machine (sight_of p) c.args.job (ap (λ (z : Machine (Job g.row.W.Denot)). z.stage) at))));
+    }
 
 pub returns-clause-ready : goal.returns-clause-ready
 returns-clause-ready g c =

@@ -1,8 +1,10 @@
 use Rattle.std.proofs.Common.{◌∙◌, ap, sym, arith}
+use Rattle.epoch_bags.specs.Jobs.{IsCalled}
 use Rattle.epoch_bags.specs.declared.job.Job.{Job}
 use Rattle.epoch_machine.specs.Machine.{Machine}
 use Rattle.epoch_handles.proofs.Flushing.{flush_seals, none_counted, pinned_with_guards, still_pinned, scan_begins, put_before_scan, collection_ends, flush_does, flush_ready}
 use Rattle.epoch_handles.proofs.StraightCalls.{seated_with}
+use Rattle.epoch_handles.proofs.Ended.{ends_with_any}
 use Rattle.epoch_handles.proofs.local.Local.flush.Goals as goal
 
 -- WITH NO JOB HELD
@@ -74,9 +76,9 @@ returns-clause-ready g c =
     flush_ready g.W.Run.done h o c.end_uncounted-2.new.self c.requires.ready c.requires.out
     (collection_ends g.W.Run.done h n o (put_before_scan h n c.begin.new.self c.begin.ensures c.put.ensures) c.collect-2.ensures) c.end_uncounted-2.ensures
 
--- what is told of the jobs left out
+-- whichever jobs were called
 pub returns-then-none-clause-does : goal.returns-then-none-clause-does
-returns-then-none-clause-does g c = let x = returns-then-none-clause-called g c in (x.0, x.1, x.2, λ k. let y = x.3 k in (y.0, y.1, y.2))
+returns-then-none-clause-does g c = ends_with_any (IsCalled g.W.Run.done) _ _ (returns-then-none-clause-called g c)
 
 pub returns-clause-does : goal.returns-clause-does
-returns-clause-does g c = let x = returns-clause-called g c in (x.0, x.1, x.2, λ k. let y = x.3 k in (y.0, y.1, y.2))
+returns-clause-does g c = ends_with_any (IsCalled g.W.Run.done) _ _ (returns-clause-called g c)

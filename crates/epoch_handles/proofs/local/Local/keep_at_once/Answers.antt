@@ -3,19 +3,22 @@ use Rattle.epoch_bags.specs.declared.job.Job.{Job}
 use Rattle.epoch_machine.specs.declared.machine.Action.TheVariants.{Defer}
 use Rattle.epoch_machine.specs.declared.machine.Answer.TheVariants.{Job as Deferred}
 use Rattle.epoch_machine.specs.Machine.{Machine, begun, heard, ended}
+use Rattle.epoch_handles.specs.Drives.{AnyJob}
 use Rattle.epoch_handles.specs.Handles.{sight_of}
+use Rattle.epoch_handles.proofs.Driving.{drives_of}
 use Rattle.epoch_handles.proofs.Deferring.{keep_begins, job_kept, kept_at_once, keep_performed, ready_still, with_kept}
 use Rattle.epoch_handles.proofs.local.Local.keep_at_once.Goals as goal
 
 -- the action ends behind the one answer
 pub returns-clause-does : goal.returns-clause-does
 returns-clause-does g c =
-    let h = c.args.self.now in let m = h.machine in let b = begun Defer m in let n = heard b (Deferred c.args.job) in (
-      n,
-      ap (λ (z : Machine (Job g.row.W.Denot)). z.stage) (job_kept m b n c.args.job c.requires.room refl refl),
-      c.keep_with_room.ensures,
-      λ k. let x = (keep_performed h.collector.now.places.capacity b (sight_of h) c.args.job (keep_begins m c.requires.room)) k in (x.0, x.1, x.2),
-    )
+    let h = c.args.self.now in let m = h.machine in let b = begun Defer m in let n = heard b (Deferred c.args.job) in record {
+      last = n;
+      over = ap (λ (z : Machine (Job g.row.W.Denot)). z.stage) (job_kept m b n c.args.job c.requires.room refl refl);
+      machine = c.keep_with_room.ensures;
+      drives = drives_of AnyJob h.collector.now.places.capacity _ _ _ _
+          (keep_performed h.collector.now.places.capacity b (sight_of h) c.args.job (keep_begins m c.requires.room));
+    }
 
 pub returns-clause-counted : goal.returns-clause-counted
 returns-clause-counted g c =

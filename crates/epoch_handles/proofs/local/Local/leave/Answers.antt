@@ -5,7 +5,7 @@ use Rattle.epoch_bags.specs.declared.job.Job.{Job}
 use Rattle.epoch_machine.specs.declared.machine.Action.{Action}
 use Rattle.epoch_machine.specs.Machine.{Machine, after_put, is_empty}
 use Rattle.epoch_handles.specs.Handles.{sight_of}
-use Rattle.epoch_handles.proofs.Driving.{calls_of}
+use Rattle.epoch_handles.proofs.Driving.{drives_of}
 use Rattle.epoch_handles.proofs.Releasing.{was_put, was_full, left_still, freed_behind, refused_behind}
 use Rattle.epoch_handles.proofs.local.Local.leave.Goals as goal
 
@@ -40,7 +40,7 @@ pub returns-then-found_full-clause-refused : goal.returns-then-found_full-clause
 returns-then-found_full-clause-refused g c = λ _.
     let h = c.args.self.now in let n = c.put.new.self in let puts = c.put.ensures in
     let is = was_full h.machine n.machine puts.machine (sym c.found_full.ensures ∙ c.if-found_full.true) in
-    refused_behind g.W.Run.done h n c.stay.new.self puts.same (ap (λ (z : Machine (Job g.row.W.Denot)). z.held) is) (calls_of (IsCalled g.W.Run.done) h.collector.now.places.capacity h.machine n.machine (sight_of h) (sight_of n) puts.drives) c.stay.ensures
+    refused_behind g.W.Run.done h n c.stay.new.self puts.same (ap (λ (z : Machine (Job g.row.W.Denot)). z.held) is) (drives_of (IsCalled g.W.Run.done) h.collector.now.places.capacity h.machine n.machine (sight_of h) (sight_of n) puts.drives) c.stay.ensures
 
 -- the bag is in a place
 pub leave_for_good-requires-2 : goal.leave_for_good-requires-2
@@ -64,6 +64,6 @@ pub returns-clause-freed : goal.returns-clause-freed
 returns-clause-freed g c = λ _.
     let h = c.args.self.now in let n = c.put.new.self in let puts = c.put.ensures in
     let is = was_put h.machine n.machine puts.machine (sym c.found_full.ensures ∙ c.if-found_full.false) in
-    freed_behind g.W.Run.done h n c.leave_for_good-2.new.self puts.same (ap (λ (z : Machine (Job g.row.W.Denot)). z.sizes) is) (calls_of (IsCalled g.W.Run.done) h.collector.now.places.capacity h.machine n.machine (sight_of h) (sight_of n) puts.drives)
+    freed_behind g.W.Run.done h n c.leave_for_good-2.new.self puts.same (ap (λ (z : Machine (Job g.row.W.Denot)). z.sizes) is) (drives_of (IsCalled g.W.Run.done) h.collector.now.places.capacity h.machine n.machine (sight_of h) (sight_of n) puts.drives)
     (λ _. left_still h.machine.held n c.leave_for_good-2.new.self c.leave_for_good-2.ensures.kept (puts.whole (sym c.found_full.ensures ∙ c.if-found_full.false)))
     c.leave_for_good-2.ensures.freed

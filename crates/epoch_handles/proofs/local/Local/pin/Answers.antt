@@ -3,7 +3,7 @@ use Rattle.epoch_tables.specs.declared.table.view.ParticipantView.{ParticipantVi
 use Rattle.epoch_bags.specs.declared.job.Job.{Job}
 use Rattle.epoch_machine.specs.declared.machine.Action.TheVariants.{Pin}
 use Rattle.epoch_machine.specs.Machine.{Machine, begun, guards_after}
-use Rattle.epoch_handles.specs.Drives.{DrivesStraight}
+use Rattle.epoch_handles.specs.Drives.{NoJob, Drives}
 use Rattle.epoch_handles.specs.Handles.{sight_of}
 use Rattle.epoch_handles.proofs.Driving.{drives_none}
 use Rattle.epoch_handles.proofs.FirstPins.{PinsFirst, told_of_pin, still_seated, pins_first}
@@ -14,8 +14,14 @@ use Rattle.epoch_handles.proofs.local.Local.pin.Goals as goal
 -- a pin with guards out asks nothing
 pub returns-then-guards-ne0-clause-ends : goal.returns-then-guards-ne0-clause-ends
 returns-then-guards-ne0-clause-ends g c = λ _.
-    let some = λ (none : c.args.self.now.machine.guards ≡ 0). c.if-guards-ne0.true (c.guards.ensures ∙ none) in
-    (begun Pin c.args.self.now.machine, pin_asks_nothing c.args.self.now.machine some, c.pin_again.ensures, drives_none c.args.self.now.collector.now.places.capacity (begun Pin c.args.self.now.machine) (sight_of c.args.self.now))
+    let h = c.args.self.now in
+    let some = λ (none : h.machine.guards ≡ 0). c.if-guards-ne0.true (c.guards.ensures ∙ none) in
+    record {
+      last = begun Pin h.machine;
+      over = pin_asks_nothing h.machine some;
+      machine = c.pin_again.ensures;
+      drives = drives_none NoJob h.collector.now.places.capacity (begun Pin h.machine) (sight_of h);
+    }
 
 pub returns-then-guards-ne0-clause-ready : goal.returns-then-guards-ne0-clause-ready
 returns-then-guards-ne0-clause-ready g c = λ _.
@@ -51,17 +57,17 @@ publish_steps-requires g c =
 
 pub returns-clause-ends : goal.returns-clause-ends
 returns-clause-ends g c = λ stops.
-    let h = c.args.self.now in let e : ℕ = c.load_epoch-epoch.result in let first = first_of g c in let again = first.steps.again in (
-      told_of_pin h.machine e again,
-      first.machine.stops stops again,
-      first.machine.ends stops again,
-      pin_drives h (record c.publish_steps.new.self { machine = h.machine }) (begun Pin h.machine) e (pin_begins h.machine first.none) first.steps,
-    )
+    let h = c.args.self.now in let e : ℕ = c.load_epoch-epoch.result in let first = first_of g c in let again = first.steps.again in record {
+      last = told_of_pin h.machine e again;
+      over = first.machine.stops stops again;
+      machine = first.machine.ends stops again;
+      drives = pin_drives h (record c.publish_steps.new.self { machine = h.machine }) (begun Pin h.machine) e (pin_begins h.machine first.none) first.steps;
+    }
 
 pub returns-clause-drives : goal.returns-clause-drives
 returns-clause-drives g c = λ collects.
     let h = c.args.self.now in let e : ℕ = c.load_epoch-epoch.result in let w = c.publish_steps.new.self in let first = first_of g c in
-    subst (λ z. DrivesStraight h.collector.now.places.capacity (begun Pin h.machine) (sight_of h) z (sight_of w)) (sym (first.machine.follows collects first.steps.again))
+    subst (λ z. Drives NoJob h.collector.now.places.capacity (begun Pin h.machine) (sight_of h) z (sight_of w)) (sym (first.machine.follows collects first.steps.again))
     (pin_drives h (record w { machine = h.machine }) (begun Pin h.machine) e (pin_begins h.machine first.none) first.steps)
 
 pub returns-clause-pinned : goal.returns-clause-pinned

@@ -5,9 +5,10 @@ use Rattle.epoch_machine.specs.declared.machine.Action.{Action}
 use Rattle.epoch_machine.specs.declared.machine.Action.TheVariants.{Pin}
 use Rattle.epoch_machine.specs.declared.machine.Stage.TheVariants.{End}
 use Rattle.epoch_machine.specs.Machine.{Machine, begun, after_collect, guards_after}
-use Rattle.epoch_handles.specs.Drives.{DrivesAndCalls}
+use Rattle.epoch_handles.specs.Drives.{Drives}
 use Rattle.epoch_handles.specs.Handles.{sight_of}
-use Rattle.epoch_handles.proofs.Driving.{calls_of, calls_on}
+use Rattle.epoch_handles.proofs.Driving.{drives_of, drives_on}
+use Rattle.epoch_handles.proofs.Ended.{ends_with_any, ends_with_none}
 use Rattle.epoch_handles.proofs.StraightCalls.{ready_with}
 use Rattle.epoch_handles.proofs.local.Local.pin_and_collect.Goals as goal
 
@@ -17,8 +18,7 @@ stage_is_end m a held at is = at ∙ ap (λ (z : Action). after_collect z held) 
 
 pub returns-then-not-pin-clause-called : goal.returns-then-not-pin-clause-called
 returns-then-not-pin-clause-called g c =
-    let h = c.args.self.now in let n = c.pin.new.self in let does = c.pin.ensures.ends c.if-not-pin.true in
-    (does.0, does.1, does.2, calls_of (IsCalled g.W.Run.done) h.collector.now.places.capacity (begun Pin h.machine) does.0 (sight_of h) (sight_of n) does.3)
+    ends_with_none (IsCalled g.W.Run.done) _ c.pin.new.self (c.pin.ensures.ends c.if-not-pin.true)
 
 pub returns-then-not-pin-clause-counted : goal.returns-then-not-pin-clause-counted
 returns-then-not-pin-clause-counted g c = c.pin.ensures.counted c.if-not-pin.true
@@ -40,14 +40,14 @@ end-requires g c =
 pub returns-clause-called : goal.returns-clause-called
 returns-clause-called g c =
     let told = c.pin.ensures in let collects = c.if-not-pin.false in let h = c.args.self.now in let n = c.pin.new.self in let o = c.collect.new.self in
-    let left = told.leaves collects in let is = c.collect.ensures.machine in (
-      o.machine,
-      stage_is_end o.machine n.machine.action n.machine.held (ap (λ (z : Machine (Job g.row.W.Denot)). z.stage) is) left.1,
-      c.end.ensures,
-      calls_on (IsCalled g.W.Run.done) h.collector.now.places.capacity (begun Pin h.machine) n.machine o.machine (sight_of h) (sight_of n) (sight_of o)
-          (calls_of (IsCalled g.W.Run.done) h.collector.now.places.capacity (begun Pin h.machine) n.machine (sight_of h) (sight_of n) (told.drives collects))
-          (subst (λ z. DrivesAndCalls (IsCalled g.W.Run.done) z.now.places.capacity n.machine (sight_of n) o.machine (sight_of o)) told.same.collector c.collect.ensures.calls),
-    )
+    let left = told.leaves collects in let is = c.collect.ensures.machine in record {
+      last = o.machine;
+      over = stage_is_end o.machine n.machine.action n.machine.held (ap (λ (z : Machine (Job g.row.W.Denot)). z.stage) is) left.1;
+      machine = c.end.ensures;
+      drives = drives_on (IsCalled g.W.Run.done) h.collector.now.places.capacity (begun Pin h.machine) n.machine o.machine (sight_of h) (sight_of n) (sight_of o)
+          (drives_of (IsCalled g.W.Run.done) h.collector.now.places.capacity (begun Pin h.machine) n.machine (sight_of h) (sight_of n) (told.drives collects))
+          (subst (λ z. Drives (IsCalled g.W.Run.done) z.now.places.capacity n.machine (sight_of n) o.machine (sight_of o)) told.same.collector c.collect.ensures.calls);
+    }
 
 pub returns-clause-counted : goal.returns-clause-counted
 returns-clause-counted g c =
@@ -68,7 +68,7 @@ returns-clause-ready g c =
     })
 
 pub returns-then-not-pin-clause-does : goal.returns-then-not-pin-clause-does
-returns-then-not-pin-clause-does g c = let x = returns-then-not-pin-clause-called g c in (x.0, x.1, x.2, λ k. let y = x.3 k in (y.0, y.1, y.2))
+returns-then-not-pin-clause-does g c = ends_with_any (IsCalled g.W.Run.done) _ _ (returns-then-not-pin-clause-called g c)
 
 pub returns-clause-does : goal.returns-clause-does
-returns-clause-does g c = let x = returns-clause-called g c in (x.0, x.1, x.2, λ k. let y = x.3 k in (y.0, y.1, y.2))
+returns-clause-does g c = ends_with_any (IsCalled g.W.Run.done) _ _ (returns-clause-called g c)

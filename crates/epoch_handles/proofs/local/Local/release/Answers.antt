@@ -1,3 +1,5 @@
+use Rattle.epoch_bags.specs.Jobs.{IsCalled}
+use Rattle.epoch_handles.proofs.Ended.{ends_with_any}
 use Rattle.epoch_handles.proofs.Releasing.{refused_at_last, freed_at_last, same_at_last}
 use Rattle.epoch_handles.proofs.local.Local.release.Goals as goal
 
@@ -11,7 +13,7 @@ returns-clause-called g c = λ refused.
     (refused_at_last g.W.Run.done c.args.self.now c.pin_to_leave.new.self c.leave.new.self c.pin_to_leave.ensures.leaving (c.leave.ensures.refused refused)).ends
 
 pub returns-clause-does : goal.returns-clause-does
-returns-clause-does g c = λ refused. let x = returns-clause-called g c refused in (x.0, x.1, x.2, λ k. let y = x.3 k in (y.0, y.1, y.2))
+returns-clause-does g c = λ refused. ends_with_any (IsCalled g.W.Run.done) _ _ (returns-clause-called g c refused)
 
 pub returns-clause-ready : goal.returns-clause-ready
 returns-clause-ready g c = λ refused.

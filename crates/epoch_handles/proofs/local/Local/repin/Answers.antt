@@ -4,18 +4,23 @@ use Rattle.epoch_bags.specs.declared.job.Job.{Job}
 use Rattle.epoch_machine.specs.declared.machine.Action.TheVariants.{Repin}
 use Rattle.epoch_machine.specs.declared.machine.Answer.TheVariants.{Epoch, Stored}
 use Rattle.epoch_machine.specs.Machine.{Machine, begun, heard, ended, guards_after}
-use Rattle.epoch_handles.specs.Drives.{DrivesStraight}
+use Rattle.epoch_handles.specs.Drives.{AnyJob, Drives}
 use Rattle.epoch_handles.specs.Handles.{sight_of}
-use Rattle.epoch_handles.proofs.Driving.{drives_none}
+use Rattle.epoch_handles.proofs.Driving.{drives_none, drives_of}
 use Rattle.epoch_handles.proofs.StraightCalls.{reading, repin_begins, repin_asks_nothing, repin_leaves, repin_moved_leaves, repin_same_performed, repin_moved_performed, sight_behind, ready_with, rests_still, still_read, republished, pinned_behind}
 use Rattle.epoch_handles.proofs.local.Local.repin.Goals as goal
 
 -- with another number of guards than one nothing is asked
 pub returns-then-guards-ne1-clause-does : goal.returns-then-guards-ne1-clause-does
 returns-then-guards-ne1-clause-does g c =
-    let m = c.args.self.now.machine in
-    let other = λ (one : m.guards ≡ 1). c.if-guards-ne1.true (c.guards.ensures ∙ one) in
-    (begun Repin m, repin_asks_nothing m other, c.repin_none.ensures, λ k. let x = (drives_none c.args.self.now.collector.now.places.capacity (begun Repin m) (sight_of c.args.self.now)) k in (x.0, x.1, x.2))
+    let h = c.args.self.now in
+    let other = λ (one : h.machine.guards ≡ 1). c.if-guards-ne1.true (c.guards.ensures ∙ one) in
+    record {
+      last = begun Repin h.machine;
+      over = repin_asks_nothing h.machine other;
+      machine = c.repin_none.ensures;
+      drives = drives_none AnyJob h.collector.now.places.capacity (begun Repin h.machine) (sight_of h);
+    }
 
 pub returns-then-guards-ne1-clause-ready : goal.returns-then-guards-ne1-clause-ready
 returns-then-guards-ne1-clause-ready g c =
@@ -33,14 +38,15 @@ returns-then-published-epoch-clause-does g c =
     let h = c.args.self.now in let n = c.load_epoch-epoch.new.self in let steps = c.load_epoch-epoch.ensures.steps in
     let e : ℕ = c.load_epoch-epoch.result in
     let one : h.machine.guards ≡ 1 = sym c.guards.ensures ∙ c.if-guards-ne1.false in
-    let same : h.machine.published ≡ e = sym c.published-published.ensures ∙ c.if-published-epoch.true in (
-      heard (begun Repin h.machine) (Epoch e),
-      (repin_leaves h.machine e one same).1,
-      subst (λ z. c.repin_only.new.self ≡ ended (heard (begun Repin z) (Epoch e))) steps.machine
-          (c.repin_only.ensures.same (ap (λ (z : Machine (Job g.row.W.Denot)). z.published) steps.machine ∙ same)),
-      λ k. let x = (subst (λ z. DrivesStraight h.collector.now.places.capacity (begun Repin h.machine) (sight_of h) (heard (begun Repin h.machine) (Epoch e)) z) (sym (sight_behind h n _ steps))
-          (repin_same_performed h.collector.now.places.capacity (begun Repin h.machine) (sight_of h) e (repin_begins h.machine one) c.load_epoch-epoch.ensures.rises)) k in (x.0, x.1, x.2),
-    )
+    let same : h.machine.published ≡ e = sym c.published-published.ensures ∙ c.if-published-epoch.true in record {
+      last = heard (begun Repin h.machine) (Epoch e);
+      over = (repin_leaves h.machine e one same).1;
+      machine = subst (λ z. c.repin_only.new.self ≡ ended (heard (begun Repin z) (Epoch e))) steps.machine
+          (c.repin_only.ensures.same (ap (λ (z : Machine (Job g.row.W.Denot)). z.published) steps.machine ∙ same));
+      drives = subst (λ z. Drives AnyJob h.collector.now.places.capacity (begun Repin h.machine) (sight_of h) (heard (begun Repin h.machine) (Epoch e)) z) (sym (sight_behind h n _ steps))
+          (drives_of AnyJob h.collector.now.places.capacity _ _ _ _
+          (repin_same_performed h.collector.now.places.capacity (begun Repin h.machine) (sight_of h) e (repin_begins h.machine one) c.load_epoch-epoch.ensures.rises));
+    }
 
 pub returns-then-published-epoch-clause-counted : goal.returns-then-published-epoch-clause-counted
 returns-then-published-epoch-clause-counted g c =
@@ -77,15 +83,16 @@ returns-clause-does g c =
     let moved = λ (same : h.machine.published ≡ e). c.if-published-epoch.false (c.published-published.ensures ∙ same) in
     let steps = republished h c.load_epoch-epoch.new.self c.publish.new.self c.load_epoch.new.self e c.load_epoch.result
     c.load_epoch-epoch.ensures.rises c.load_epoch.ensures.rises c.load_epoch-epoch.ensures.steps c.publish.ensures c.load_epoch.ensures.steps in
-    let same = steps.steps.machine in (
-      heard (heard (heard (begun Repin h.machine) (Epoch e)) Stored) (Epoch steps.again),
-      (repin_moved_leaves h.machine e steps.again one moved).1,
-      subst (λ z. c.repin_only-2.new.self ≡ ended (heard (heard (heard (begun Repin z) (Epoch e)) Stored) (Epoch steps.again))) same
-          (c.repin_only-2.ensures.moved (λ (is : c.load_epoch.new.self.machine.published ≡ e). moved (sym (ap (λ (z : Machine (Job g.row.W.Denot)). z.published) same) ∙ is)) steps.again),
-      λ k. let x = (subst (λ z. DrivesStraight h.collector.now.places.capacity (begun Repin h.machine) (sight_of h) (heard (heard (heard (begun Repin h.machine) (Epoch e)) Stored) (Epoch steps.again)) z)
+    let same = steps.steps.machine in record {
+      last = heard (heard (heard (begun Repin h.machine) (Epoch e)) Stored) (Epoch steps.again);
+      over = (repin_moved_leaves h.machine e steps.again one moved).1;
+      machine = subst (λ z. c.repin_only-2.new.self ≡ ended (heard (heard (heard (begun Repin z) (Epoch e)) Stored) (Epoch steps.again))) same
+          (c.repin_only-2.ensures.moved (λ (is : c.load_epoch.new.self.machine.published ≡ e). moved (sym (ap (λ (z : Machine (Job g.row.W.Denot)). z.published) same) ∙ is)) steps.again);
+      drives = subst (λ z. Drives AnyJob h.collector.now.places.capacity (begun Repin h.machine) (sight_of h) (heard (heard (heard (begun Repin h.machine) (Epoch e)) Stored) (Epoch steps.again)) z)
           (sym (sight_behind h c.load_epoch.new.self _ steps.steps))
-          (repin_moved_performed h.collector.now.places.capacity h.machine (sight_of h) e steps.again one moved steps.rises steps.rises_again)) k in (x.0, x.1, x.2),
-    )
+          (drives_of AnyJob h.collector.now.places.capacity _ _ _ _
+          (repin_moved_performed h.collector.now.places.capacity h.machine (sight_of h) e steps.again one moved steps.rises steps.rises_again));
+    }
 
 pub returns-clause-counted : goal.returns-clause-counted
 returns-clause-counted g c =

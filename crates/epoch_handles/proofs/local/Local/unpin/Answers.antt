@@ -4,9 +4,9 @@ use Rattle.epoch_bags.specs.declared.job.Job.{Job}
 use Rattle.epoch_machine.specs.declared.machine.Action.TheVariants.{Unpin}
 use Rattle.epoch_machine.specs.declared.machine.Answer.TheVariants.{Stored}
 use Rattle.epoch_machine.specs.Machine.{Machine, begun, heard, ended, guards_after}
-use Rattle.epoch_handles.specs.Drives.{DrivesStraight}
+use Rattle.epoch_handles.specs.Drives.{AnyJob, Drives}
 use Rattle.epoch_handles.specs.Handles.{sight_of}
-use Rattle.epoch_handles.proofs.Driving.{drives_none}
+use Rattle.epoch_handles.proofs.Driving.{drives_none, drives_of}
 use Rattle.epoch_handles.proofs.StraightCalls.{reading, unpin_begins, unpin_asks_nothing, unpin_leaves, unpin_performed, sight_behind, ready_with, rests_still}
 use Rattle.epoch_handles.proofs.local.Local.unpin.Goals as goal
 
@@ -14,13 +14,14 @@ use Rattle.epoch_handles.proofs.local.Local.unpin.Goals as goal
 pub returns-then-guards-eq1-clause-does : goal.returns-then-guards-eq1-clause-does
 returns-then-guards-eq1-clause-does g c =
     let h = c.args.self.now in let n = c.store_unpinned.new.self in let steps = c.store_unpinned.ensures in
-    let one : h.machine.guards ≡ 1 = sym c.guards.ensures ∙ c.if-guards-eq1.true in (
-      heard (begun Unpin h.machine) Stored,
-      (unpin_leaves h.machine one).1,
-      subst (λ z. c.unpin_last.new.self ≡ ended (heard (begun Unpin z) Stored)) steps.machine c.unpin_last.ensures,
-      λ k. let x = (subst (λ z. DrivesStraight h.collector.now.places.capacity (begun Unpin h.machine) (sight_of h) (heard (begun Unpin h.machine) Stored) z) (sym (sight_behind h n _ steps))
-          (unpin_performed h.collector.now.places.capacity (begun Unpin h.machine) (sight_of h) (unpin_begins h.machine one))) k in (x.0, x.1, x.2),
-    )
+    let one : h.machine.guards ≡ 1 = sym c.guards.ensures ∙ c.if-guards-eq1.true in record {
+      last = heard (begun Unpin h.machine) Stored;
+      over = (unpin_leaves h.machine one).1;
+      machine = subst (λ z. c.unpin_last.new.self ≡ ended (heard (begun Unpin z) Stored)) steps.machine c.unpin_last.ensures;
+      drives = subst (λ z. Drives AnyJob h.collector.now.places.capacity (begun Unpin h.machine) (sight_of h) (heard (begun Unpin h.machine) Stored) z) (sym (sight_behind h n _ steps))
+          (drives_of AnyJob h.collector.now.places.capacity _ _ _ _
+          (unpin_performed h.collector.now.places.capacity (begun Unpin h.machine) (sight_of h) (unpin_begins h.machine one)));
+    }
 
 pub returns-then-guards-eq1-clause-ready : goal.returns-then-guards-eq1-clause-ready
 returns-then-guards-eq1-clause-ready g c =
@@ -38,9 +39,14 @@ returns-then-guards-eq1-clause-ready g c =
 -- the unpin of one guard of more asks nothing
 pub returns-else-guards-eq1-clause-does : goal.returns-else-guards-eq1-clause-does
 returns-else-guards-eq1-clause-does g c =
-    let m = c.args.self.now.machine in
-    let more = λ (one : m.guards ≡ 1). c.if-guards-eq1.false (c.guards.ensures ∙ one) in
-    (begun Unpin m, unpin_asks_nothing m more, c.unpin_one.ensures, λ k. let x = (drives_none c.args.self.now.collector.now.places.capacity (begun Unpin m) (sight_of c.args.self.now)) k in (x.0, x.1, x.2))
+    let h = c.args.self.now in
+    let more = λ (one : h.machine.guards ≡ 1). c.if-guards-eq1.false (c.guards.ensures ∙ one) in
+    record {
+      last = begun Unpin h.machine;
+      over = unpin_asks_nothing h.machine more;
+      machine = c.unpin_one.ensures;
+      drives = drives_none AnyJob h.collector.now.places.capacity (begun Unpin h.machine) (sight_of h);
+    }
 
 pub returns-else-guards-eq1-clause-ready : goal.returns-else-guards-eq1-clause-ready
 returns-else-guards-eq1-clause-ready g c =
