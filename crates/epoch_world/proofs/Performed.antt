@@ -4,7 +4,7 @@ use Rattle.epoch_machine.specs.declared.machine.Ask.{Ask}
 use Rattle.epoch_machine.specs.declared.machine.Ask.TheVariants.{LoadEpoch, LoadWord, StorePinned, StoreRepinned, StoreUnpinned, StoreFree, StoreEpoch, PutBag, TakeBag, KeepJob, CallJob}
 use Rattle.epoch_machine.specs.declared.machine.Sizes.{Sizes}
 use Rattle.epoch_machine.specs.declared.machine.Answer.TheVariants.{Word as WordFound}
-use Rattle.epoch_machine.specs.Machine.{asks, hears}
+use Rattle.epoch_machine.specs.Machine.{asks, hears, AskFits}
 use Rattle.epoch_laws.specs.declared.step.Call.{Call}
 use Rattle.epoch_laws.specs.declared.step.Reply.{Reply}
 use Rattle.epoch_laws.specs.declared.step.Reply.TheVariants.{Began}
@@ -14,8 +14,24 @@ use Rattle.epoch_laws.specs.declared.step.Progress.{Progress}
 use Rattle.epoch_laws.specs.declared.step.Progress.TheVariants.{Idle, Driven, CallsNow, Ends, Accesses}
 use Rattle.epoch_laws.specs.Run.{WorldSeat, State, seat_of, position_word, with_seat, word_number, free_seat, begun_seat, refusal, BeginsCall, PerformsAsk, DrivesCall, DoesGo, Moves, is_driven}
 use Rattle.epoch_world.specs.Seats.{Shared, shared, SeatPerforms}
-use Rattle.epoch_world.specs.Worlds.{IsDrivenAt}
 use Rattle.epoch_laws.specs.Kept.{AllLinked}
+
+-- the participant at a position has a call under way, and its machine asks for this
+pub record IsDrivenAt (s : State) (p : ℕ) (ask : Ask) : Type 0 where
+  pub taken : position_word s p ≢ Free
+  pub under_way : is_driven (seat_of s p).progress ≡ true
+  pub asked : asks (seat_of s p).machine ≡ Some ask
+  pub within : AskFits (seat_of s p).machine.sizes ask
+
+pub driven_here : (s : State) (p : ℕ) (seat : WorldSeat) (call : Call) (ask : Ask) → seat ≡ seat_of s p
+    → seat.word ≢ Free → seat.progress ≡ Driven call → asks seat.machine ≡ Some ask → AskFits seat.machine.sizes ask
+    → IsDrivenAt s p ask
+driven_here s p seat call ask is taken drive asked within = record {
+  taken = λ free. taken (ap (λ (q : WorldSeat). q.word) is ∙ free);
+  under_way = ap (λ (q : WorldSeat). is_driven q.progress) (sym is) ∙ ap is_driven drive;
+  asked = ap (λ (q : WorldSeat). asks q.machine) (sym is) ∙ asked;
+  within = subst (λ (q : WorldSeat). AskFits q.machine.sizes ask) is within;
+}
 
 -- an element within a list is the same for every default
 pub same_within : {A : Type 0} (xs : List A) (p : ℕ) (d e : A) → p < length xs → slice_index_or xs p d ≡ slice_index_or xs p e

@@ -22,7 +22,7 @@ use Rattle.epoch_world.proofs.SlotsStay.{job_slots}
 use Rattle.epoch_world.proofs.AccessesFall.{Falls, access_falls}
 use Rattle.epoch_world.specs.Seats.{Shared, SeatPerforms}
 use Rattle.epoch_laws.specs.Calls.{ends_call}
-use Rattle.epoch_world.specs.Worlds.{state_of, IsDrivenAt}
+use Rattle.epoch_world.specs.Worlds.{state_of}
 
 -- HOW FAR THE END IS PLAYS NO PART, NOR DO THE PLACES
 
@@ -43,11 +43,6 @@ kept_open sizes epoch tickets seats queued ending heap h = record {
   readings = record { counted = h.readings.counted; seats = h.readings.seats };
   cells = h.cells;
 }
-
-pub driven_at : (sizes : Sizes) (epoch tickets p : ℕ) (seats : List WorldSeat) (queued : List Bag) (ending later : Ending) (heap : Heap) (places : List Bool) (seen : List ℕ) (ahead : List ℕ) (room : List Bool) (ask : Ask)
-    → IsDrivenAt (state_of sizes epoch seats queued tickets ending heap) p ask
-    → IsDrivenAt (with_places (state_of sizes epoch seats queued tickets later heap) places seen ahead room) p ask
-driven_at sizes epoch tickets p seats queued ending later heap places seen ahead room ask h = record { taken = h.taken; under_way = h.under_way; asked = h.asked; within = h.within }
 
 -- FEWER STEPS ARE LEFT
 

@@ -1,14 +1,12 @@
 -- What a world keeps between any two steps, beside what its participants keep of themselves.
-use Rattle.std.specs.Prelude.{◌≡◌, ◌≢◌, ℕ, Bool, true, List, [], ◌∷◌, Some, slice_get, slice_index_or}
-use Rattle.epoch_machine.specs.Machine.{asks, is_taking, AskFits}
-use Rattle.epoch_machine.specs.declared.machine.Ask.{Ask}
+use Rattle.std.specs.Prelude.{◌≡◌, ℕ, Bool, true, List, [], ◌∷◌, Some, slice_get, slice_index_or}
+use Rattle.epoch_machine.specs.Machine.{is_taking}
 use Rattle.epoch_machine.specs.declared.machine.Sizes.{Sizes}
 use Rattle.epoch_machine.specs.declared.machine.Stage.{Stage}
 use Rattle.epoch_laws.specs.declared.step.Deferral.{Deferral}
-use Rattle.epoch_laws.specs.declared.step.Word.TheVariants.{Free}
 use Rattle.epoch_world.specs.declared.world.EndStage.{EndStage}
 use Rattle.epoch_world.specs.declared.world.EndStage.TheVariants.{Open as OpenStage, Emptying as EmptyingStage, Over as OverStage}
-use Rattle.epoch_laws.specs.Run.{Bag, WorldSeat, State, Ending, Open, Emptying, Over, seat_of, position_word, free_seat, is_driven}
+use Rattle.epoch_laws.specs.Run.{Bag, WorldSeat, State, Ending, Open, Emptying, Over, free_seat}
 use Rattle.epoch_laws.specs.Collections.{expiry_of}
 use Rattle.epoch_laws.specs.Room.{is_putting}
 use Rattle.epoch_heap.specs.Heap.{Heap}
@@ -22,13 +20,6 @@ ending_of OverStage hand count = Over
 -- the state of a world of these parts, but for the places of the store
 abbrev pub state_of : Sizes → ℕ → List WorldSeat → List Bag → ℕ → Ending → Heap → State
 state_of sizes epoch seats queued tickets ending heap = record { sizes = sizes; epoch = epoch; seats = seats; queued = queued; tickets = tickets; ending = ending; places = []; seen = []; ahead = []; room = []; heap = heap }
-
--- the participant at a position has a call under way, and its machine asks for this
-pub record IsDrivenAt (s : State) (p : ℕ) (ask : Ask) : Type 0 where
-  pub taken : position_word s p ≢ Free
-  pub under_way : is_driven (seat_of s p).progress ≡ true
-  pub asked : asks (seat_of s p).machine ≡ Some ask
-  pub within : AskFits (seat_of s p).machine.sizes ask
 
 -- what is ahead of each participant's collection, where ahead says it by the epoch and the cursor
 abbrev pub aheads : {C : Type 0} → (ℕ → C → ℕ) → List WorldSeat → List C → List ℕ

@@ -1,18 +1,20 @@
-use Rattle.std.proofs.Common.{◌≡◌, ap, length, sym, subst, ◌∙◌, List, slice_set, ◌+◌, ◌*◌, slice_index_or}
-use Rattle.epoch_world.proofs.CollectionSteps.{set_back}
+use Rattle.std.proofs.Common.{◌≡◌, ap, length, sym, ◌∙◌, ◌+◌, ◌*◌, slice_index_or, refl, Some, rules}
+use Rattle.epoch_machine.specs.declared.machine.Ask.{Ask}
+use Rattle.epoch_world.proofs.CollectionSteps.{performed_finds, performed_claims}
 use Rattle.epoch_laws.specs.declared.step.Progress.TheVariants.{Driven}
-use Rattle.epoch_laws.specs.declared.step.Step.TheVariants.{Go}
 use Rattle.epoch_laws.specs.Calls.{ends_call}
-use Rattle.epoch_laws.specs.Run.{WorldSeat, State, Open, Moves, with_places, free_seat}
+use Rattle.epoch_laws.specs.Run.{WorldSeat, State, Open, with_places, free_seat, seat_of, is_driven}
 use Rattle.epoch_world.specs.Steps.{InStore, in_store}
 use Rattle.epoch_world.specs.Worlds.{state_of}
-use Rattle.epoch_world.proofs.RoomSteps.{ended_room, ended_reserves}
+use Rattle.epoch_world.proofs.RoomSteps.{ended_room, ended_reserves, performed_room, performed_reserves}
 use Rattle.epoch_heap.specs.Heap.{Heap}
 use Rattle.epoch_world.proofs.SlotsStay.{access_slots, job_slots}
-use Rattle.epoch_world.proofs.Performed.{found_there}
+use Rattle.epoch_world.proofs.Performed.{IsDrivenAt, driven_here, found_there, performed}
 use Rattle.epoch_world.proofs.RoomForReadings.{can_read}
-use Rattle.epoch_world.proofs.TurnsTaken.{access_less, end_ends}
+use Rattle.epoch_world.proofs.TurnsTaken.{access_less, end_ends, linked_at, performs_less, performs_slots, performs_steady, seat_less}
 use Rattle.epoch_world.proofs.WorldKept.{ends_where_driven, guards_fit, room_where_driven}
+use Rattle.epoch_world.specs.Seats.{Shared, shared}
+use Rattle.epoch_machine.specs.Machine.{asks}
 use Rattle.epoch_world.proofs.world.calls.go_on.Goals as goal
 
 pub end-requires : goal.end-requires
@@ -33,26 +35,57 @@ access-requires-clause-room g c =
     can_read old c.args.index c.index_mut-seat.result.now c.in-Accesses.access c.in-Accesses.made c.in-Accesses.found c.requires.kept c.requires.there at
     (sym c.progress.ensures ∙ c.in-Accesses.is)
 
--- the seats that the step was taken on are those that were there
+-- what the participant's machine asked for was performed
 pub returns-in-Some : goal.returns-in-Some
 returns-in-Some g c =
-    let same : slice_set c.args.seats.now.items c.args.index c.index_mut-seat.result.now ≡ c.args.seats.now.items =
-    set_back c.args.seats.now.items c.args.index c.index_mut-seat.result.now c.index_mut-seat.ensures.value in
+    let seat : WorldSeat = c.index_mut-seat.result.now in
+    let now : State = state_of c.args.sizes c.args.epoch.now c.args.seats.now.items (g.S.BagStore.queued c.args.store.now) c.args.tickets.now Open c.args.heap.now in
+    let is : seat ≡ seat_of now c.args.index =
+    found_there c.args.seats.now.items c.args.sizes c.args.index seat c.requires.there c.index_mut-seat.ensures.value in
+    let asked : asks seat.machine ≡ Some c.in-Some.ask = sym c.ask.ensures.value ∙ c.in-Some.is in
+    let driven : IsDrivenAt now c.args.index c.in-Some.ask =
+    driven_here now c.args.index seat c.in-Driven.call c.in-Some.ask is (search rules) (sym c.progress.ensures ∙ c.in-Driven.is) asked (search rules) in
+    let slots = length c.args.heap.now.cells in
+    let bags = g.S.BagStore.capacity c.args.store.now in
+    let before : InStore =
+    in_store (g.S.BagStore.puts_left bags c.args.putting.now) (g.S.BagStore.takes_left bags c.args.taking.now) (3 * bags + 65) in
+    let after : InStore =
+    in_store (g.S.BagStore.puts_left bags c.perform.new.putting) (g.S.BagStore.takes_left bags c.perform.new.taking) (3 * bags + 65) in
+    let parts : Shared = shared c.args.epoch.now (g.S.BagStore.queued c.args.store.now) c.args.tickets.now c.args.heap.now in
+    let left : Shared = shared c.perform.new.epoch (g.S.BagStore.queued c.perform.new.store) c.perform.new.tickets c.perform.new.heap in
+    let under_way = ap (λ (q : WorldSeat). is_driven q.progress) is ∙ driven.under_way in
     record {
-      step = λ ending places seen ahead room. subst (λ (items : List WorldSeat). Moves (with_places (state_of c.args.sizes c.args.epoch.now items (g.S.BagStore.queued c.args.store.now) c.args.tickets.now ending c.args.heap.now) places seen ahead room) (Go c.args.index)
-          c.perform.result (with_places (state_of c.args.sizes c.perform.new.epoch c.perform.new.seats.items (g.S.BagStore.queued c.perform.new.store) c.perform.new.tickets ending c.perform.new.heap) places seen ahead room)) same
-          (c.perform.ensures.step ending places seen ahead room);
-      looks = rw same at c.perform.ensures.looks;
-      finds = rw same at c.perform.ensures.finds;
-      room = rw same at c.perform.ensures.room;
-      claims = rw same at c.perform.ensures.claims;
-      reserves = rw same at c.perform.ensures.reserves;
-      others = rw same at c.perform.ensures.others;
-      epoch = c.perform.ensures.epoch;
-      positions = rw same at c.perform.ensures.positions;
-      fewer = λ steady. rw same at c.perform.ensures.fewer;
-      steady = λ steady. c.perform.ensures.steady;
-      slots = c.perform.ensures.slots;
+      step = λ ending places seen ahead room.
+          let old : State = with_places (record now { ending = ending }) places seen ahead room in
+          performed old old _ c.args.index c.word_asked-word.result seat c.perform.new.self c.perform.result c.in-Some.ask left refl
+          (linked_at c.args.sizes c.args.epoch.now c.args.tickets.now c.args.seats.now.items (g.S.BagStore.queued c.args.store.now) Open ending c.args.heap.now places seen ahead room c.requires.kept.linked)
+          is (record { taken = driven.taken; under_way = driven.under_way; asked = driven.asked; within = driven.within })
+          (λ k loads. c.word_asked-word.ensures c.args.sizes k (driven.asked ∙ ap (λ (ask : Ask). Some ask) loads))
+          c.perform.ensures.step refl;
+      looks = search rules;
+      finds = performed_finds c.args.seats.now.items c.args.sizes c.args.index seat c.perform.new.self c.in-Some.ask c.requires.there is _
+          (λ x. g.S.BagStore.ahead x c.args.store.now c.args.taking.now) (λ x. g.S.BagStore.ahead x c.perform.new.store c.perform.new.taking) _ _
+          driven.taken driven.under_way driven.asked c.perform.ensures.finds;
+      room = performed_room c.args.seats.now.items c.args.sizes c.args.index seat c.perform.new.self c.in-Some.ask c.requires.there is _
+          (g.S.BagStore.has_room c.args.store.now c.args.putting.now) (g.S.BagStore.has_room c.perform.new.store c.perform.new.putting)
+          driven.taken driven.under_way driven.asked c.perform.ensures.room;
+      claims = performed_claims c.args.seats.now.items c.args.sizes c.args.index seat c.perform.new.self c.in-Some.ask c.requires.there is _ _ _ _
+          asked c.perform.ensures.claims;
+      reserves = performed_reserves c.args.seats.now.items c.args.sizes c.args.index seat c.perform.new.self c.in-Some.ask c.requires.there is _ _ _ _ _ _
+          asked c.perform.ensures.reserves;
+      others = search rules;
+      epoch = c.perform.ensures.within;
+      positions = search rules;
+      fewer = λ steady goes_on.
+          seat_less slots c.args.seats.now.items c.args.index (free_seat c.args.sizes) seat c.perform.new.self before after c.requires.there is
+          (performs_less slots seat.machine.sizes c.args.index c.word_asked-word.result parts left
+          seat c.perform.new.self c.in-Some.ask c.perform.result before after c.perform.ensures.step under_way goes_on c.perform.ensures.fewer);
+      steady = λ steady goes_on.
+          performs_steady seat.machine.sizes c.args.index c.word_asked-word.result parts left
+          seat c.perform.new.self c.args.seats.now.items (free_seat c.args.sizes) c.in-Some.ask c.perform.result c.perform.new.heap c.perform.ensures.step
+          under_way goes_on c.requires.there;
+      slots = performs_slots seat.machine.sizes c.args.index c.word_asked-word.result parts left
+          seat c.perform.new.self seat.machine.stage c.in-Some.ask c.perform.result c.perform.ensures.step;
       capacity = c.perform.ensures.capacity;
     }
 
