@@ -16,7 +16,7 @@ pub const JOBS: u64 = 64;
 /// A participant with no guard out.
 pub struct Idle<'c> {
     handle: LocalHandle<'c, u64>,
-    ghost none: { handle.local.machine.guards ≡ 0 },
+    ghost none: { handle.machine.guards ≡ 0 },
 }
 
 impl<'c> Idle<'c> {
@@ -85,9 +85,9 @@ impl<'c> Idle<'c> {
 }
 
 fn pin_under(handle: &mut LocalHandle<'_, u64>, turns: u64)
-    requires { handle.old.local.machine.guards ≡ 1 }
-    ensures same { IsSame handle.old.local handle.new.local }
-    ensures counted { handle.new.local.machine.guards ≡ 1 }
+    requires { handle.old.machine.guards ≡ 1 }
+    ensures same { IsSame handle.old handle.new }
+    ensures counted { handle.new.machine.guards ≡ 1 }
 {
     for _ in 0..turns {
         let guard = handle.pin();
@@ -97,9 +97,9 @@ fn pin_under(handle: &mut LocalHandle<'_, u64>, turns: u64)
 
 /// Defers removals of one value, as many as a bag takes.
 fn defer_removals(handle: &mut LocalHandle<'_, u64>, guard: &Guard<'_, u64>, name: Name)
-    requires { Owns handle.old.local guard.now }
-    ensures same { IsSame handle.old.local handle.new.local }
-    ensures counted { handle.new.local.machine.guards ≡ handle.old.local.machine.guards }
+    requires { Owns handle.old guard.now }
+    ensures same { IsSame handle.old handle.new }
+    ensures counted { handle.new.machine.guards ≡ handle.old.machine.guards }
 {
     for _ in 0..JOBS {
         let _ = handle.defer(guard, Job::Remove(name));
@@ -108,9 +108,9 @@ fn defer_removals(handle: &mut LocalHandle<'_, u64>, guard: &Guard<'_, u64>, nam
 
 /// Defers the last of the functions, as many as a bag takes.
 fn defer_calls(handle: &mut LocalHandle<'_, u64>, guard: &Guard<'_, u64>, functions: &mut Vec<Work>)
-    requires { Owns handle.old.local guard.now }
-    ensures same { IsSame handle.old.local handle.new.local }
-    ensures counted { handle.new.local.machine.guards ≡ handle.old.local.machine.guards }
+    requires { Owns handle.old guard.now }
+    ensures same { IsSame handle.old handle.new }
+    ensures counted { handle.new.machine.guards ≡ handle.old.machine.guards }
 {
     for _ in 0..JOBS {
         if let Some(function) = functions.pop() {
@@ -127,9 +127,9 @@ fn replace_objects(
     alloc: Global,
     pointer: &Atomic<u64>,
 ) -> u64
-    requires { Owns handle.old.local guard.now }
-    ensures same { IsSame handle.old.local handle.new.local }
-    ensures counted { handle.new.local.machine.guards ≡ handle.old.local.machine.guards }
+    requires { Owns handle.old guard.now }
+    ensures same { IsSame handle.old handle.new }
+    ensures counted { handle.new.machine.guards ≡ handle.old.machine.guards }
 {
     let mut count: u64 = 0;
     for value in 0..JOBS {

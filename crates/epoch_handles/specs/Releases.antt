@@ -1,7 +1,6 @@
 -- What the parts of a release come to.
 use Rattle.std.specs.Prelude.{◌≡◌, ◌≢◌, [], None, true, false}
 use Rattle.epoch_bags.specs.Jobs.{IsCalled}
-use Rattle.epoch_bags.specs.declared.job.Job.{Job}
 use Rattle.epoch_tables.specs.SharedSteps.{RestsAt}
 use Rattle.epoch_machine.specs.declared.machine.Action.TheVariants.{Release}
 use Rattle.epoch_handles.specs.declared.local.Local.{Local}

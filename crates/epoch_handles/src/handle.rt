@@ -13,11 +13,22 @@ use crate::released::Released;
 use epoch_bags::{Job, Run, Work};
 use epoch_cells::{Fault, Refused};
 use std::fmt;
+use std::marker::Model;
 
 /// A participant of one thread. It must be spent, by `release`, or by `leave` and then its answer.
 pub struct LocalHandle<'c, T, W = Work> {
     pub(crate) local: Local<'c, T, W>,
-    pub(crate) ghost ready: { IsReady local },
+}
+
+impl<'c, T, W> Model for LocalHandle<'c, T, W> {
+    ghost use Rattle.epoch_handles.specs.declared.local.Local.{Local};
+    ghost use Rattle.epoch_handles.specs.Handles.{IsReady};
+
+    ghost Value = { Local T W };
+
+    ghost view = { λ h. h.local };
+
+    ghost invariant = { λ h. IsReady h.local };
 }
 
 impl<'c, T, W> fmt::Debug for LocalHandle<'c, T, W> {
@@ -29,35 +40,37 @@ impl<'c, T, W> fmt::Debug for LocalHandle<'c, T, W> {
 impl<'c, T, W> LocalHandle<'c, T, W> {
     /// The collector that it is a participant of.
     pub fn collector(&self) -> &'c Collector<T, W>
-        ensures { result.now ≡ self.now.local.collector.now }
+        ensures value { result.now ≡ self.now.collector.now }
+        ensures ready { IsReady self.now }
     {
         self.local.collector
     }
 
     /// How many of its guards are out.
     pub fn guards_out(&self) -> u32
-        ensures { result ≡ self.now.local.machine.guards }
+        ensures { result ≡ self.now.machine.guards }
     {
         self.local.machine.guards()
     }
 
     /// Whether it is pinned: whether a guard of it is out.
     pub fn is_pinned(&self) -> bool
-        ensures { IsTrue result ↔ (0 < self.now.local.machine.guards) }
+        ensures { IsTrue result ↔ (0 < self.now.machine.guards) }
     {
         self.local.machine.guards() > 0
     }
 
     /// Whether a further guard can be counted: at most `2^32 - 1` are.
     pub fn can_pin(&self) -> bool
-        ensures { IsTrue result ↔ (self.now.local.machine.guards + 1 < 2 ^ 32) }
+        ensures { IsTrue result ↔ (self.now.machine.guards + 1 < 2 ^ 32) }
     {
         self.local.machine.guards() < u32::MAX
     }
 
     /// Whether the held bag takes a further job without being put first.
     pub fn has_room(&self) -> bool
-        ensures { IsTrue result ↔ (length self.now.local.machine.held < self.now.local.machine.sizes.bag_jobs) }
+        ensures value { IsTrue result ↔ (length self.now.machine.held < self.now.machine.sizes.bag_jobs) }
+        ensures ready { IsReady self.now }
     {
         self.local.machine.has_room()
     }
@@ -67,7 +80,8 @@ impl<'c, T, W> LocalHandle<'c, T, W> {
     /// Two collectors with the same number aren't told apart.
     #[inline(always)]
     pub fn owns(&self, guard: &Guard<'_, T, W>) -> bool
-        ensures { IsTrue result ↔ Owns self.now.local guard.now }
+        ensures value { IsTrue result ↔ Owns self.now guard.now }
+        ensures ready { IsReady self.now }
     {
         if self.local.machine.guards() == 0 {
             return false;
@@ -86,13 +100,13 @@ impl<'c, T, W> LocalHandle<'c, T, W> {
     /// nothing happens. As `Guard::repin` of crossbeam-epoch.
     #[inline]
     pub fn repin(&mut self, guard: &mut Guard<'c, T, W>)
-        requires { guard.old.position ≡ None ⊎ Owns self.old.local guard.old }
+        requires { guard.old.position ≡ None ⊎ Owns self.old guard.old }
         ensures guard { guard.new ≡ guard.old }
-        ensures same { IsSame self.old.local self.new.local }
-        ensures ready { IsReady self.new.local }
-        ensures counted { self.new.local.machine.guards ≡ self.old.local.machine.guards }
+        ensures same { IsSame self.old self.new }
+        ensures ready { IsReady self.new }
+        ensures counted { self.new.machine.guards ≡ self.old.machine.guards }
         ensures unprotected { guard.old.position ≡ None → self.new ≡ self.old }
-        ensures does { IsSome guard.old.position → Does self.old.local Repin self.new.local }
+        ensures does { IsSome guard.old.position → Does self.old Repin self.new }
     {
         if guard.is_protecting() {
             self.local.repin();
@@ -102,11 +116,11 @@ impl<'c, T, W> LocalHandle<'c, T, W> {
     /// Spends a guard of this handle. With the last one the participant isn't pinned any more.
     #[inline]
     pub fn unpin(&mut self, guard: Guard<'c, T, W>)
-        requires { Owns self.old.local guard }
-        ensures same { IsSame self.old.local self.new.local }
-        ensures does { Does self.old.local Unpin self.new.local }
-        ensures ready { IsReady self.new.local }
-        ensures counted { self.new.local.machine.guards + 1 ≡ self.old.local.machine.guards }
+        requires { Owns self.old guard }
+        ensures same { IsSame self.old self.new }
+        ensures does { Does self.old Unpin self.new }
+        ensures ready { IsReady self.new }
+        ensures counted { self.new.machine.guards + 1 ≡ self.old.machine.guards }
     {
         let Guard {
             collector: _,
@@ -125,18 +139,18 @@ impl<'c, T: Drop, W: Run> LocalHandle<'c, T, W> {
     /// A refused call hands the job back, and leaves the handle as it was, with its bag.
     #[inline(always)]
     pub fn defer(&mut self, guard: &Guard<'_, T, W>, job: Job<W>) -> Result<(), Refused<Job<W>>>
-        ensures same { IsSame self.old.local self.new.local }
-        ensures ready { IsReady self.new.local }
-        ensures counted { self.new.local.machine.guards ≡ self.old.local.machine.guards }
+        ensures same { IsSame self.old self.new }
+        ensures ready { IsReady self.new }
+        ensures counted { self.new.machine.guards ≡ self.old.machine.guards }
         ensures unprotected { guard.now.position ≡ None → IsOk result × (self.new ≡ self.old) }
         ensures at_once { guard.now.position ≡ None → IsCalled W.done job }
         ensures tried { guard.now.position ≡ None → IsTried W.Removing.tried job }
-        ensures stranger { IsSome guard.now.position → ¬ Owns self.old.local guard.now → IfErr result (λ refused. refused.fault ≡ StrangerGuard) × IsErr result × (self.new ≡ self.old) }
-        ensures does { IsSome guard.now.position → Owns self.old.local guard.now → Does self.old.local Defer self.new.local × IfErr result (λ refused. refused.fault ≡ BagsFull) }
-        ensures room { Owns self.old.local guard.now → length self.old.local.machine.held < self.old.local.machine.sizes.bag_jobs → IsOk result × (self.new.local.machine.held ≡ self.old.local.machine.held ++ job ∷ []) }
-        ensures kept { Owns self.old.local guard.now → IsOk result → (self.new.local.machine.held ≡ self.old.local.machine.held ++ job ∷ []) ⊎ (self.new.local.machine.held ≡ job ∷ []) }
-        ensures err { IsErr result → self.new.local.machine.held ≡ self.old.local.machine.held }
-        ensures found { Owns self.old.local guard.now → IsErr result ↔ (self.new.local.machine.full ≡ true) }
+        ensures stranger { IsSome guard.now.position → ¬ Owns self.old guard.now → IfErr result (λ refused. refused.fault ≡ StrangerGuard) × IsErr result × (self.new ≡ self.old) }
+        ensures does { IsSome guard.now.position → Owns self.old guard.now → Does self.old Defer self.new × IfErr result (λ refused. refused.fault ≡ BagsFull) }
+        ensures room { Owns self.old guard.now → length self.old.machine.held < self.old.machine.sizes.bag_jobs → IsOk result × (self.new.machine.held ≡ self.old.machine.held ++ job ∷ []) }
+        ensures kept { Owns self.old guard.now → IsOk result → (self.new.machine.held ≡ self.old.machine.held ++ job ∷ []) ⊎ (self.new.machine.held ≡ job ∷ []) }
+        ensures err { IsErr result → self.new.machine.held ≡ self.old.machine.held }
+        ensures found { Owns self.old guard.now → IsErr result ↔ (self.new.machine.full ≡ true) }
         ensures handed_back { IfErr result (λ refused. refused.value ≡ job) }
     {
         if !self.owns(guard) {
@@ -171,16 +185,16 @@ impl<'c, T: Drop, W: Run> LocalHandle<'c, T, W> {
     /// A deferral whose held bag is full.
     #[inline(never)]
     fn defer_with_full_bag(&mut self, job: Job<W>) -> Result<(), Refused<Job<W>>>
-        requires out { 0 < self.old.local.machine.guards }
-        requires full { length self.old.local.machine.held ≡ self.old.local.machine.sizes.bag_jobs }
-        ensures same { IsSame self.old.local self.new.local }
-        ensures ready { IsReady self.new.local }
-        ensures counted { self.new.local.machine.guards ≡ self.old.local.machine.guards }
-        ensures does { Does self.old.local Defer self.new.local }
+        requires out { 0 < self.old.machine.guards }
+        requires full { length self.old.machine.held ≡ self.old.machine.sizes.bag_jobs }
+        ensures same { IsSame self.old self.new }
+        ensures ready { IsReady self.new }
+        ensures counted { self.new.machine.guards ≡ self.old.machine.guards }
+        ensures does { Does self.old Defer self.new }
         ensures full { IfErr result (λ refused. refused.fault ≡ BagsFull) }
-        ensures kept { IsOk result → self.new.local.machine.held ≡ job ∷ [] }
-        ensures err { IsErr result → self.new.local.machine.held ≡ self.old.local.machine.held }
-        ensures found { IsErr result ↔ (self.new.local.machine.full ≡ true) }
+        ensures kept { IsOk result → self.new.machine.held ≡ job ∷ [] }
+        ensures err { IsErr result → self.new.machine.held ≡ self.old.machine.held }
+        ensures found { IsErr result ↔ (self.new.machine.full ≡ true) }
         ensures handed_back { IfErr result (λ refused. refused.value ≡ job) }
     {
         match self.local.defer_behind_a_put(job) {
@@ -201,18 +215,19 @@ impl<'c, T: Drop, W: Run> LocalHandle<'c, T, W> {
     /// never full.
     #[inline(always)]
     pub fn flush(&mut self, guard: &Guard<'_, T, W>) -> Result<(), Fault>
-        ensures same { IsSame self.old.local self.new.local }
-        ensures ready { IsReady self.new.local }
-        ensures counted { self.new.local.machine.guards ≡ self.old.local.machine.guards }
+        ensures same { IsSame self.old self.new }
+        ensures ready { IsReady self.new }
+        ensures counted { self.new.machine.guards ≡ self.old.machine.guards }
         ensures unprotected { guard.now.position ≡ None → IsOk result × (self.new ≡ self.old) }
-        ensures stranger { IsSome guard.now.position → ¬ Owns self.old.local guard.now → (result ≡ Err StrangerGuard) × (self.new ≡ self.old) }
-        ensures does { Owns self.old.local guard.now → Does self.old.local Flush self.new.local }
-        ensures called { Owns self.old.local guard.now → DoesAndCalls W.done self.old.local Flush self.new.local }
-        ensures full { Owns self.old.local guard.now → IsErr result → (result ≡ Err BagsFull) × (self.old.local.machine.held ≢ []) × (self.new.local.machine.held ≡ self.old.local.machine.held) }
-        ensures empty { Owns self.old.local guard.now → IsOk result → self.new.local.machine.held ≡ [] }
-        ensures found { Owns self.old.local guard.now → IsErr result ↔ (self.new.local.machine.full ≡ true) }
+        ensures stranger { IsSome guard.now.position → ¬ Owns self.old guard.now → (result ≡ Err StrangerGuard) × (self.new ≡ self.old) }
+        ensures does { Owns self.old guard.now → Does self.old Flush self.new }
+        ensures called { Owns self.old guard.now → DoesAndCalls W.done self.old Flush self.new }
+        ensures full { Owns self.old guard.now → IsErr result → (result ≡ Err BagsFull) × (self.old.machine.held ≢ []) × (self.new.machine.held ≡ self.old.machine.held) }
+        ensures empty { Owns self.old guard.now → IsOk result → self.new.machine.held ≡ [] }
+        ensures found { Owns self.old guard.now → IsErr result ↔ (self.new.machine.full ≡ true) }
     {
         if !guard.is_protecting() {
+            let _ = &self.local;
             return Ok(());
         }
         if !self.owns(guard) {
@@ -228,17 +243,18 @@ impl<'c, T: Drop, W: Run> LocalHandle<'c, T, W> {
     /// and may collect. With more guards the participant stays pinned, and under an unprotected guard `f` alone is
     /// called. As `Guard::repin_after` of crossbeam-epoch.
     pub fn repin_after<F: FnOnce() -> X, X>(&mut self, guard: &mut Guard<'c, T, W>, f: F) -> X
-        requires guard { guard.old.position ≡ None ⊎ Owns self.old.local guard.old }
+        requires guard { guard.old.position ≡ None ⊎ Owns self.old guard.old }
         requires f { F.pre f }
         ensures f { F.post f result }
         ensures guard { guard.new ≡ guard.old }
-        ensures same { IsSame self.old.local self.new.local }
-        ensures ready { IsReady self.new.local }
-        ensures counted { self.new.local.machine.guards ≡ self.old.local.machine.guards }
+        ensures same { IsSame self.old self.new }
+        ensures ready { IsReady self.new }
+        ensures counted { self.new.machine.guards ≡ self.old.machine.guards }
         ensures unprotected { guard.old.position ≡ None → self.new ≡ self.old }
-        ensures does { IsSome guard.old.position → (between : _) × IsBetween self.old.local between × Does self.old.local Unpin between × Does between Pin self.new.local × DoesAndCalls W.done between Pin self.new.local }
+        ensures does { IsSome guard.old.position → (between : _) × IsBetween self.old between × Does self.old Unpin between × Does between Pin self.new × DoesAndCalls W.done between Pin self.new }
     {
         if !guard.is_protecting() {
+            let _ = &self.local;
             return f();
         }
         let _guards = self.local.machine.guards();
@@ -255,16 +271,16 @@ impl<'c, T: Drop, W: Run> LocalHandle<'c, T, W> {
     /// `BagsFull`: each place was seen occupied. The handle comes back unpinned, with its bag as it was.
     #[inline(always)]
     pub fn leave(self) -> Result<Released<'c, T, W>, (LocalHandle<'c, T, W>, Fault)>
-        requires { self.local.machine.guards ≡ 0 }
+        requires { self.machine.guards ≡ 0 }
         ensures full { IfErr result (λ back. back.1 ≡ BagsFull) }
-        ensures same { IfErr result (λ back. IsSame self.entry.local back.0.local) }
-        ensures does { IfErr result (λ back. Does self.entry.local Release back.0.local) }
-        ensures called { IfErr result (λ back. DoesAndCalls W.done self.entry.local Release back.0.local) }
-        ensures ready { IfErr result (λ back. IsReady back.0.local) }
-        ensures held { IfErr result (λ back. (self.entry.local.machine.held ≢ []) × (back.0.local.machine.held ≡ self.entry.local.machine.held)) }
-        ensures counted { IfErr result (λ back. back.0.local.machine.guards ≡ 0) }
-        ensures found { IfErr result (λ back. back.0.local.machine.full ≡ true) }
-        ensures frees { IfOk result (λ released. IsReleased W.done self.entry.local released.local) }
+        ensures same { IfErr result (λ back. IsSame self.entry back.0) }
+        ensures does { IfErr result (λ back. Does self.entry Release back.0) }
+        ensures called { IfErr result (λ back. DoesAndCalls W.done self.entry Release back.0) }
+        ensures ready { IfErr result (λ back. IsReady back.0) }
+        ensures held { IfErr result (λ back. (self.entry.machine.held ≢ []) × (back.0.machine.held ≡ self.entry.machine.held)) }
+        ensures counted { IfErr result (λ back. back.0.machine.guards ≡ 0) }
+        ensures found { IfErr result (λ back. back.0.machine.full ≡ true) }
+        ensures frees { IfOk result (λ released. IsReleased W.done self.entry released.local) }
     {
         let LocalHandle { mut local } = self;
         let freed = local.release();
@@ -279,16 +295,16 @@ impl<'c, T: Drop, W: Run> LocalHandle<'c, T, W> {
     ///
     /// `BagsFull`: each place was seen occupied. The handle comes back unpinned, with its bag as it was.
     pub fn release(self) -> Result<(), (LocalHandle<'c, T, W>, Fault)>
-        requires { self.local.machine.guards ≡ 0 }
+        requires { self.machine.guards ≡ 0 }
         ensures full { IfErr result (λ back. back.1 ≡ BagsFull) }
-        ensures same { IfErr result (λ back. IsSame self.entry.local back.0.local) }
-        ensures does { IfErr result (λ back. Does self.entry.local Release back.0.local) }
-        ensures called { IfErr result (λ back. DoesAndCalls W.done self.entry.local Release back.0.local) }
-        ensures ready { IfErr result (λ back. IsReady back.0.local) }
-        ensures held { IfErr result (λ back. (self.entry.local.machine.held ≢ []) × (back.0.local.machine.held ≡ self.entry.local.machine.held)) }
-        ensures counted { IfErr result (λ back. back.0.local.machine.guards ≡ 0) }
-        ensures found { IfErr result (λ back. back.0.local.machine.full ≡ true) }
-        ensures frees { IsOk result → (last : _) × IsReleased W.done self.entry.local last }
+        ensures same { IfErr result (λ back. IsSame self.entry back.0) }
+        ensures does { IfErr result (λ back. Does self.entry Release back.0) }
+        ensures called { IfErr result (λ back. DoesAndCalls W.done self.entry Release back.0) }
+        ensures ready { IfErr result (λ back. IsReady back.0) }
+        ensures held { IfErr result (λ back. (self.entry.machine.held ≢ []) × (back.0.machine.held ≡ self.entry.machine.held)) }
+        ensures counted { IfErr result (λ back. back.0.machine.guards ≡ 0) }
+        ensures found { IfErr result (λ back. back.0.machine.full ≡ true) }
+        ensures frees { IsOk result → (last : _) × IsReleased W.done self.entry last }
     {
         let LocalHandle { mut local } = self;
         if local.release() {
@@ -304,18 +320,18 @@ impl<'c, T: Drop, W: Run> LocalHandle<'c, T, W> {
         guard: &Guard<'_, T, W>,
         job: Job<W>,
     ) -> Result<(), Refused<Job<W>>>
-        ensures same { IsSame self.old.local self.new.local }
-        ensures ready { IsReady self.new.local }
-        ensures counted { self.new.local.machine.guards ≡ self.old.local.machine.guards }
+        ensures same { IsSame self.old self.new }
+        ensures ready { IsReady self.new }
+        ensures counted { self.new.machine.guards ≡ self.old.machine.guards }
         ensures unprotected { guard.now.position ≡ None → IsOk result × (self.new ≡ self.old) }
         ensures at_once { guard.now.position ≡ None → IsCalled W.done job }
         ensures tried { guard.now.position ≡ None → IsTried W.Removing.tried job }
-        ensures stranger { IsSome guard.now.position → ¬ Owns self.old.local guard.now → IfErr result (λ refused. refused.fault ≡ StrangerGuard) × IsErr result × (self.new ≡ self.old) }
-        ensures does { IsSome guard.now.position → Owns self.old.local guard.now → Does self.old.local Defer self.new.local × IfErr result (λ refused. refused.fault ≡ BagsFull) }
-        ensures room { Owns self.old.local guard.now → length self.old.local.machine.held < self.old.local.machine.sizes.bag_jobs → IsOk result × (self.new.local.machine.held ≡ self.old.local.machine.held ++ job ∷ []) }
-        ensures kept { Owns self.old.local guard.now → IsOk result → (self.new.local.machine.held ≡ self.old.local.machine.held ++ job ∷ []) ⊎ (self.new.local.machine.held ≡ job ∷ []) }
-        ensures err { IsErr result → self.new.local.machine.held ≡ self.old.local.machine.held }
-        ensures found { Owns self.old.local guard.now → IsErr result ↔ (self.new.local.machine.full ≡ true) }
+        ensures stranger { IsSome guard.now.position → ¬ Owns self.old guard.now → IfErr result (λ refused. refused.fault ≡ StrangerGuard) × IsErr result × (self.new ≡ self.old) }
+        ensures does { IsSome guard.now.position → Owns self.old guard.now → Does self.old Defer self.new × IfErr result (λ refused. refused.fault ≡ BagsFull) }
+        ensures room { Owns self.old guard.now → length self.old.machine.held < self.old.machine.sizes.bag_jobs → IsOk result × (self.new.machine.held ≡ self.old.machine.held ++ job ∷ []) }
+        ensures kept { Owns self.old guard.now → IsOk result → (self.new.machine.held ≡ self.old.machine.held ++ job ∷ []) ⊎ (self.new.machine.held ≡ job ∷ []) }
+        ensures err { IsErr result → self.new.machine.held ≡ self.old.machine.held }
+        ensures found { Owns self.old guard.now → IsErr result ↔ (self.new.machine.full ≡ true) }
         ensures handed_back { IfErr result (λ refused. refused.value ≡ job) }
     {
         self.defer(guard, job)
@@ -325,14 +341,14 @@ impl<'c, T: Drop, W: Run> LocalHandle<'c, T, W> {
     /// was out before.
     #[inline]
     pub fn pin(&mut self) -> Guard<'c, T, W>
-        requires { self.old.local.machine.guards + 1 < 2 ^ 32 }
-        ensures own { Owns self.new.local result }
-        ensures of { result.collector.now ≡ self.old.local.collector.now }
-        ensures same { IsSame self.old.local self.new.local }
-        ensures does { Does self.old.local Pin self.new.local }
-        ensures called { DoesAndCalls W.done self.old.local Pin self.new.local }
-        ensures ready { IsReady self.new.local }
-        ensures counted { self.new.local.machine.guards ≡ self.old.local.machine.guards + 1 }
+        requires { self.old.machine.guards + 1 < 2 ^ 32 }
+        ensures own { Owns self.new result }
+        ensures of { result.collector.now ≡ self.old.collector.now }
+        ensures same { IsSame self.old self.new }
+        ensures does { Does self.old Pin self.new }
+        ensures called { DoesAndCalls W.done self.old Pin self.new }
+        ensures ready { IsReady self.new }
+        ensures counted { self.new.machine.guards ≡ self.old.machine.guards + 1 }
     {
         self.local.pin_and_collect();
         Guard {

@@ -132,8 +132,8 @@ fn go_round(
     value: u64,
     tally: &Tally,
 )
-    requires { handle.old.local.machine.guards ≡ 0 }
-    ensures { handle.new.local.machine.guards ≡ 0 }
+    requires { handle.old.machine.guards ≡ 0 }
+    ensures { handle.new.machine.guards ≡ 0 }
 {
     let guard = handle.pin();
     let pushed = stack.push(alloc, handle, &guard, value, TRIES).is_ok();

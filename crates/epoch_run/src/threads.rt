@@ -75,7 +75,7 @@ fn participate<R: Wait>(rt: &R, collector: &Collector<u64>, jobs: Vec<Job>, refu
 
 /// Releases the participant, and tries again for as long as its held bag finds no place.
 pub fn leave<T: Drop, R: Wait>(rt: &R, handle: LocalHandle<'_, T>)
-    requires { handle.local.machine.guards ≡ 0 }
+    requires { handle.machine.guards ≡ 0 }
 {
     let mut staying = handle;
     for _ in rt.forever() {
@@ -89,8 +89,8 @@ pub fn leave<T: Drop, R: Wait>(rt: &R, handle: LocalHandle<'_, T>)
 
 /// Pins, defers the job, flushes and unpins. `false` where the job or the held bag found no place.
 fn go_round(handle: &mut LocalHandle<'_, u64>, job: Job) -> bool
-    requires { handle.old.local.machine.guards ≡ 0 }
-    ensures { handle.new.local.machine.guards ≡ 0 }
+    requires { handle.old.machine.guards ≡ 0 }
+    ensures { handle.new.machine.guards ≡ 0 }
 {
     let guard = handle.pin();
     let deferred = handle.defer(&guard, job).is_ok();

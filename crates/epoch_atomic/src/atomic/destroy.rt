@@ -77,19 +77,19 @@ impl<'c, T: Drop, W: Run> DeferDestroy<T, W> for LocalHandle<'c, T, W> {
         guard: &Guard<'_, T, W>,
         shared: Shared<'g, T>,
     ) -> Result<(), Refused<Shared<'g, T>>>
-        ensures same { IsSame self.old.local self.new.local }
-        ensures ready { IsReady self.new.local }
-        ensures counted { self.new.local.machine.guards ≡ self.old.local.machine.guards }
+        ensures same { IsSame self.old self.new }
+        ensures ready { IsReady self.new }
+        ensures counted { self.new.machine.guards ≡ self.old.machine.guards }
         ensures unprotected { guard.now.position ≡ None → self.new ≡ self.old }
-        ensures at_once { (name : Name) → guard.now.position ≡ None → Names self.old.local shared.entry name → IsOk result }
-        ensures tried { (name : Name) → guard.now.position ≡ None → Names self.old.local shared.entry name → W.Removing.tried name }
-        ensures stranger { IsSome guard.now.position → ¬ Owns self.old.local guard.now → IfErr result (λ refused. refused.fault ≡ StrangerGuard) × IsErr result × (self.new ≡ self.old) }
-        ensures pointer { (guard.now.position ≡ None) ⊎ Owns self.old.local guard.now → ((name : Name) → ¬ Names self.old.local shared.entry name) → IfErr result (λ refused. refused.fault ≡ StrangerPointer) × IsErr result × (self.new ≡ self.old) }
-        ensures does { (name : Name) → Owns self.old.local guard.now → Names self.old.local shared.entry name → Does self.old.local Defer self.new.local × IfErr result (λ refused. refused.fault ≡ BagsFull) }
-        ensures room { (name : Name) → Owns self.old.local guard.now → Names self.old.local shared.entry name → length self.old.local.machine.held < self.old.local.machine.sizes.bag_jobs → IsOk result × (self.new.local.machine.held ≡ self.old.local.machine.held ++ Remove name ∷ []) }
-        ensures kept { (name : Name) → Owns self.old.local guard.now → Names self.old.local shared.entry name → IsOk result → (self.new.local.machine.held ≡ self.old.local.machine.held ++ Remove name ∷ []) ⊎ (self.new.local.machine.held ≡ Remove name ∷ []) }
-        ensures err { IsErr result → self.new.local.machine.held ≡ self.old.local.machine.held }
-        ensures found { (name : Name) → Owns self.old.local guard.now → Names self.old.local shared.entry name → IsErr result ↔ (self.new.local.machine.full ≡ true) }
+        ensures at_once { (name : Name) → guard.now.position ≡ None → Names self.old shared.entry name → IsOk result }
+        ensures tried { (name : Name) → guard.now.position ≡ None → Names self.old shared.entry name → W.Removing.tried name }
+        ensures stranger { IsSome guard.now.position → ¬ Owns self.old guard.now → IfErr result (λ refused. refused.fault ≡ StrangerGuard) × IsErr result × (self.new ≡ self.old) }
+        ensures pointer { (guard.now.position ≡ None) ⊎ Owns self.old guard.now → ((name : Name) → ¬ Names self.old shared.entry name) → IfErr result (λ refused. refused.fault ≡ StrangerPointer) × IsErr result × (self.new ≡ self.old) }
+        ensures does { (name : Name) → Owns self.old guard.now → Names self.old shared.entry name → Does self.old Defer self.new × IfErr result (λ refused. refused.fault ≡ BagsFull) }
+        ensures room { (name : Name) → Owns self.old guard.now → Names self.old shared.entry name → length self.old.machine.held < self.old.machine.sizes.bag_jobs → IsOk result × (self.new.machine.held ≡ self.old.machine.held ++ Remove name ∷ []) }
+        ensures kept { (name : Name) → Owns self.old guard.now → Names self.old shared.entry name → IsOk result → (self.new.machine.held ≡ self.old.machine.held ++ Remove name ∷ []) ⊎ (self.new.machine.held ≡ Remove name ∷ []) }
+        ensures err { IsErr result → self.new.machine.held ≡ self.old.machine.held }
+        ensures found { (name : Name) → Owns self.old guard.now → Names self.old shared.entry name → IsErr result ↔ (self.new.machine.full ≡ true) }
         ensures handed_back { IfErr result (λ refused. refused.value ≡ shared.entry) }
     {
         if guard.is_protecting() && !self.owns(guard) {

@@ -16,7 +16,7 @@ impl<T: Drop, W: Run> Collector<T, W> {
     /// `TableFull`: each position was seen taken.
     pub fn register(&self) -> Result<LocalHandle<'_, T, W>, Fault>
         ensures full { IsOkUnless result TableFull }
-        ensures fresh { IfOk result (λ handle. IsNewParticipant self.now handle.local) }
+        ensures fresh { IfOk result (λ handle. IsNewParticipant self.now handle) }
     {
         let mut seat = self.participants.seat();
         for position in 0..self.participants.positions() {

@@ -3,4 +3,4 @@ use Rattle.epoch_handles.specs.Handles.{IsSame}
 use Rattle.epoch_bench.proofs.idle.pin_under.Given as goal
 
 abbrev pub invariant-loop : goal.invariant-loop
-invariant-loop g l = IsSame l.fn.handle.local l.handle.local × (l.handle.local.machine.guards ≡ l.fn.handle.local.machine.guards)
+invariant-loop g l = IsSame l.fn.handle l.handle × (l.handle.machine.guards ≡ l.fn.handle.machine.guards)

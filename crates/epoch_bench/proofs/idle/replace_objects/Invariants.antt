@@ -3,4 +3,4 @@ use Rattle.epoch_handles.specs.Handles.{IsSame}
 use Rattle.epoch_bench.proofs.idle.replace_objects.Given as goal
 
 abbrev pub invariant-loop-value : goal.invariant-loop-value
-invariant-loop-value g l = IsSame l.fn.handle.local l.handle.local × (l.handle.local.machine.guards ≡ l.fn.handle.local.machine.guards)
+invariant-loop-value g l = IsSame l.fn.handle l.handle × (l.handle.machine.guards ≡ l.fn.handle.machine.guards)

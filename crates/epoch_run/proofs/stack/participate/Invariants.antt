@@ -2,4 +2,4 @@ use Rattle.std.proofs.Common.{◌≡◌}
 use Rattle.epoch_run.proofs.stack.participate.Given as goal
 
 abbrev pub invariant-loop-round : goal.invariant-loop-round
-invariant-loop-round g l = l.handle.local.machine.guards ≡ 0
+invariant-loop-round g l = l.handle.machine.guards ≡ 0

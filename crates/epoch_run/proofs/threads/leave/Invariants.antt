@@ -2,4 +2,4 @@ use Rattle.std.proofs.Common.{◌≡◌}
 use Rattle.epoch_run.proofs.threads.leave.Given as goal
 
 abbrev pub invariant-loop : goal.invariant-loop
-invariant-loop g l = l.staying.local.machine.guards ≡ 0
+invariant-loop g l = l.staying.machine.guards ≡ 0

@@ -15,21 +15,19 @@ invariant_of-result g c =
     let claimed = c.claim.ensures.won c.if-claim-eq0.true in let kept = c.claim.ensures.kept in let seat = c.loop-position.invariant in
     let machine = c.new.ensures in
     record {
-      ready = record {
-        seated = record {
-          words_of = (kept.0 ∙ seat.0.0, kept.2 ∙ seat.0.1);
-          places_of = c.seat.ensures.of;
-          own = (ap (λ (z : ParticipantView). z.position) claimed, let end = c.positions-position-end.ensures in let test = c.loop-position-test.true in omega arith);
-          sizes = ap (λ (z : Machine (Job g.row.W.Denot)). z.sizes) machine;
-          positions = c.args.self.now.positions;
-        };
-        rests = (ap (λ z. z.0.claimed) c.seat.ensures.view, ap (λ z. z.1) c.seat.ensures.view);
-        idle = ap (λ (z : Machine (Job g.row.W.Denot)). z.stage) machine;
-        agrees = record {
-          published = λ out. let none = ap (λ (z : Machine (Job g.row.W.Denot)). z.guards) machine in absurd (omega arith);
-          read = λ out. let none = ap (λ (z : Machine (Job g.row.W.Denot)). z.guards) machine in absurd (omega arith);
-          unpinned = λ _. ap (λ (z : ParticipantView). z.published) claimed;
-        };
+      seated = record {
+        words_of = (kept.0 ∙ seat.0.0, kept.2 ∙ seat.0.1);
+        places_of = c.seat.ensures.of;
+        own = (ap (λ (z : ParticipantView). z.position) claimed, let end = c.positions-position-end.ensures in let test = c.loop-position-test.true in omega arith);
+        sizes = ap (λ (z : Machine (Job g.row.W.Denot)). z.sizes) machine;
+        positions = c.args.self.now.positions;
+      };
+      rests = (ap (λ z. z.0.claimed) c.seat.ensures.view, ap (λ z. z.1) c.seat.ensures.view);
+      idle = ap (λ (z : Machine (Job g.row.W.Denot)). z.stage) machine;
+      agrees = record {
+        published = λ out. let none = ap (λ (z : Machine (Job g.row.W.Denot)). z.guards) machine in absurd (omega arith);
+        read = λ out. let none = ap (λ (z : Machine (Job g.row.W.Denot)). z.guards) machine in absurd (omega arith);
+        unpinned = λ _. ap (λ (z : ParticipantView). z.published) claimed;
       };
     }
 
