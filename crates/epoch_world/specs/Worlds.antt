@@ -21,6 +21,10 @@ ending_of OverStage hand count = Over
 abbrev pub state_of : Sizes → ℕ → List WorldSeat → List Bag → ℕ → Ending → Heap → State
 state_of sizes epoch seats queued tickets ending heap = record { sizes = sizes; epoch = epoch; seats = seats; queued = queued; tickets = tickets; ending = ending; places = []; seen = []; ahead = []; room = []; heap = heap }
 
+-- the participant at a position
+abbrev pub seat_in : Sizes → List WorldSeat → ℕ → WorldSeat
+seat_in sizes seats p = slice_index_or seats p (free_seat sizes)
+
 -- what is ahead of each participant's collection, where ahead says it by the epoch and the cursor
 abbrev pub aheads : {C : Type 0} → (ℕ → C → ℕ) → List WorldSeat → List C → List ℕ
 aheads ahead (seat ∷ seats) (cursor ∷ cursors) = ahead (expiry_of seat.machine.stage) cursor ∷ aheads ahead seats cursors

@@ -24,6 +24,7 @@ ghost use Rattle.epoch_reach.specs.Standing.{StandsOrDestroyed, given_of, Loaded
 mod calls;
 mod guards;
 mod places;
+mod readings;
 mod seat;
 
 use calls::{go_on, go_to_end, most_steps};

@@ -1,21 +1,24 @@
 //! One participant of the world: its word, its machine, and the guards and calls that the world keeps of it.
-ghost use Rattle.std.specs.Prelude.{◌≡◌, ◌≢◌, true, ℕ, ◌+◌, ◌*◌, ◌^◌, ◌<◌, ◌≤◌, Option, Some, None, IfSome, MatchOption, IsTrue, false, ◌↔◌, length, ◌⊎◌, IfOk, IfErr, vec_capacity, remove, if◌then◌else◌};
+ghost use Rattle.std.specs.Prelude.{◌≡◌, ◌≢◌, true, ℕ, ◌+◌, ◌*◌, ◌^◌, ◌<◌, ◌≤◌, Option, Some, None, IfSome, MatchOption, IsTrue, false, ◌↔◌, length, ◌⊎◌, IfOk, IfErr, vec_capacity};
 ghost use Rattle.epoch_machine.specs.Machine.{asks, AskFits, heard, guards_after, IsSized};
-ghost use Rattle.epoch_laws.specs.Run.{free_seat, with_machine, with_word, refusal, waits, call_refusal, guard_refusal, resume_refusal, is_out, begun_seat, drives, ended_seat, end_reply, under_guard, access_refusal, reading_refusal, reads, removed_by, readings_after, without_reading, accessed_seat, access_reply};
+ghost use Rattle.epoch_laws.specs.Run.{free_seat, with_machine, with_word, begun_seat, drives, ended_seat, end_reply, removed_by, accessed_seat, access_reply};
 ghost use Rattle.epoch_machine.specs.declared.machine.Stage.TheVariants.{Idle, End};
-ghost use Rattle.epoch_world.specs.Seats.{shared, SeatPerforms, WordFits, adds_guard, CanRead, HasRead};
+ghost use Rattle.epoch_world.specs.Seats.{shared, SeatPerforms, WordFits, adds_guard, CanRead};
 ghost use Rattle.epoch_cells.specs.declared.fault.Fault.TheVariants.{NoMemory};
 ghost use Rattle.epoch_heap.specs.Heap.{has_steps, Touched, Touches, outcome_of, heap_after_job};
-ghost use Rattle.epoch_world.specs.Steps.{in_store, machine_steps};
+ghost use Rattle.epoch_world.specs.Steps.{steps_in_store, machine_steps};
 ghost use Rattle.epoch_laws.specs.Places.{occupancy, SeesOccupied};
 ghost use Rattle.epoch_laws.specs.Collections.{outlook, expiry_of, FindsAhead, MayClaim};
 ghost use Rattle.epoch_laws.specs.Room.{TellsRoom, MayReserve};
 
-use crate::world::guards::{is_out, lowest, without};
+mod refusals;
+
+use crate::world::guards::{lowest, without};
+use crate::world::readings::keep_readings;
 use arrayvec::ArrayVec;
 use epoch_bags::BagStore;
 use epoch_cells::{Fault, Name};
-use epoch_heap::{Access, Accessed, Answer, Heap, Ptr, is_name};
+use epoch_heap::{Access, Accessed, Answer, Heap, Ptr};
 use epoch_laws::{Call, Deferral, Progress, Reply, Word};
 use epoch_machine::{Action, Answer as Found, Ask, Machine, Sizes};
 use std::alloc::Global;
@@ -23,9 +26,6 @@ use std::marker::Model;
 
 /// How many guards a participant of the world may have out.
 const GUARDS: usize = 64;
-
-/// How many of the greatest tickets are never given: one may be asked for by each participant under way.
-const TICKETS_ASIDE: u64 = 4096;
 
 /// How many readings a participant may have at once: as many as there may be cells.
 const READINGS: usize = 4096;
@@ -146,7 +146,7 @@ impl Seat {
         ensures reserves { MayReserve ask self.new.machine.stage (S.Reserved store.old) (S.Reserves putting.old) (S.Claims taking.old) (S.Reserved store.new) (S.Reserves putting.new) (S.Claims taking.new) }
 
         // The call has fewer steps left.
-        ensures fewer { machine_steps self.new.machine (in_store (S.puts_left (S.capacity store.old) putting.new) (S.takes_left (S.capacity store.old) taking.new) (3 * S.capacity store.old + 65)) < machine_steps self.old.machine (in_store (S.puts_left (S.capacity store.old) putting.old) (S.takes_left (S.capacity store.old) taking.old) (3 * S.capacity store.old + 65)) }
+        ensures fewer { machine_steps self.new.machine (steps_in_store S.puts_left S.takes_left (S.capacity store.old) putting.new taking.new) < machine_steps self.old.machine (steps_in_store S.puts_left S.takes_left (S.capacity store.old) putting.old taking.old) }
         ensures capacity { S.capacity store.new ≡ S.capacity store.old }
     {
         match ask {
@@ -260,148 +260,6 @@ impl Seat {
         self.guards.clear();
         self.paused = None;
         self.readings.clear();
-    }
-
-    /// The fault that refuses a call now, where `tickets` were given so far, or `None`.
-    pub fn refusal(&self, call: Call, tickets: u64, heap: &Heap) -> Option<Fault>
-        ensures { result ≡ refusal call self.now tickets heap.now }
-    {
-        if let Word::Free = self.word {
-            return Some(Fault::NotRegistered);
-        }
-        let Progress::Idle = self.progress else {
-            return Some(Fault::Busy);
-        };
-        if self.waits(call) {
-            return Some(Fault::Busy);
-        }
-        self.own_refusal(call, tickets, heap)
-    }
-
-    /// Who is paused may only resume.
-    fn waits(&self, call: Call) -> bool
-        ensures { result ≡ waits call self.now.paused }
-    {
-        match call {
-            Call::Resume(_) => false,
-            _ => self.paused.is_some(),
-        }
-    }
-
-    fn own_refusal(&self, call: Call, tickets: u64, heap: &Heap) -> Option<Fault>
-        ensures { result ≡ call_refusal call self.now tickets heap.now }
-    {
-        match call {
-            Call::Pin => {
-                if self.guards.len() >= GUARDS {
-                    Some(Fault::TooManyGuards)
-                } else {
-                    None
-                }
-            }
-            Call::Unpin(None) => Some(Fault::StrangerGuard),
-            Call::Unpin(Some(guard)) => self.guard_refusal(Some(guard)),
-            Call::Repin(guard) | Call::Pause(guard) | Call::Flush(guard) => self.guard_refusal(
-                guard,
-            ),
-            Call::Resume(guard) => self.resume_refusal(guard),
-            Call::Defer(None) => None,
-            Call::Defer(Some(guard)) => {
-                if !is_out(self.guards.as_slice(), guard) {
-                    Some(Fault::StrangerGuard)
-                } else if tickets >= u64::MAX - TICKETS_ASIDE {
-                    Some(Fault::TicketsOut)
-                } else {
-                    None
-                }
-            }
-            Call::Release => {
-                if self.guards.len() == 0 && self.readings.is_empty() {
-                    None
-                } else {
-                    Some(Fault::GuardsOut)
-                }
-            }
-            Call::DeferDestroy(None, ptr) => {
-                if heap.is_removable(ptr.name) {
-                    None
-                } else {
-                    Some(Fault::StrangerPointer)
-                }
-            }
-            Call::DeferDestroy(Some(guard), ptr) => {
-                if !is_out(self.guards.as_slice(), guard) {
-                    Some(Fault::StrangerGuard)
-                } else if !heap.is_removable(ptr.name) {
-                    Some(Fault::StrangerPointer)
-                } else if tickets >= u64::MAX - TICKETS_ASIDE {
-                    Some(Fault::TicketsOut)
-                } else {
-                    None
-                }
-            }
-            Call::Access(access) => {
-                if !self.has_guard(access.guard()) {
-                    return Some(Fault::StrangerGuard);
-                }
-                self.access_refusal(access, heap)
-            }
-        }
-    }
-
-    /// Whether the guard is out, or an unprotected one.
-    fn has_guard(&self, guard: Option<u64>) -> bool
-        ensures { (fault : Option Fault) → under_guard guard self.now.guards fault ≡ (if result then fault else Some Fault.StrangerGuard) }
-    {
-        match guard {
-            None => true,
-            Some(number) => is_out(self.guards.as_slice(), number),
-        }
-    }
-
-    fn access_refusal(&self, access: Access, heap: &Heap) -> Option<Fault>
-        ensures { result ≡ access_refusal access self.now.readings heap.now }
-    {
-        if !heap.has_place(access) {
-            return Some(Fault::NoSuchPlace);
-        }
-        if !heap.knows_names(access) {
-            return Some(Fault::StrangerPointer);
-        }
-        reading_refusal(access, self.readings.as_slice())
-    }
-
-    fn guard_refusal(&self, guard: Option<u64>) -> Option<Fault>
-        ensures { result ≡ guard_refusal guard self.now.guards }
-    {
-        match guard {
-            None => None,
-            Some(number) => {
-                if is_out(self.guards.as_slice(), number) {
-                    None
-                } else {
-                    Some(Fault::StrangerGuard)
-                }
-            }
-        }
-    }
-
-    fn resume_refusal(&self, guard: Option<u64>) -> Option<Fault>
-        ensures { result ≡ resume_refusal guard self.now.paused }
-    {
-        match guard {
-            None => None,
-            Some(number) => match self.paused {
-                None => Some(Fault::Idle),
-                Some(paused) => {
-                    if number == paused {
-                        None
-                    } else {
-                        Some(Fault::StrangerGuard)
-                    }
-                }
-            },
-        }
     }
 
     /// Takes the position: a new registration has no guard, an empty bag and no pin so far.
@@ -561,86 +419,4 @@ fn has_steps(access: Access) -> bool
             .is_some(),
         _ => true,
     }
-}
-
-/// What is wrong with the readings: a second one, or none.
-fn reading_refusal(access: Access, readings: &[Name]) -> Option<Fault>
-    ensures { result ≡ reading_refusal access readings.now }
-{
-    match access {
-        Access::Read(_, ptr) => {
-            if reads(ptr.name, readings) {
-                Some(Fault::Busy)
-            } else {
-                None
-            }
-        }
-        Access::Leave(ptr) => {
-            if reads(ptr.name, readings) {
-                None
-            } else {
-                Some(Fault::StrangerPointer)
-            }
-        }
-        _ => None,
-    }
-}
-
-/// Whether the name is among those read.
-fn reads(name: Option<Name>, readings: &[Name]) -> bool
-    ensures { result ≡ reads name readings.now }
-{
-    let Some(wanted) = name else {
-        return false;
-    };
-    for other in readings {
-        if is_name(*other, wanted) {
-            return true;
-        }
-    }
-    false
-}
-
-/// A reading lasts from the step that finds the value up to that of its Leave.
-fn keep_readings(readings: &mut Vec<Name>, access: Access, told: Accessed)
-    requires within { HasRead access told readings.old.items }
-    requires room { 4096 ≤ vec_capacity readings.old }
-    ensures value { readings.new.items ≡ readings_after access told readings.old.items }
-    ensures room { 4096 ≤ vec_capacity readings.new }
-{
-    match (access, told) {
-        (Access::Read(_, ptr), Accessed::Answers(Answer::Value(_))) => {
-            if let Some(name) = ptr.name {
-                readings.push_reserved(name);
-            }
-        }
-        (Access::Leave(ptr), _) => {
-            if let Some(name) = ptr.name {
-                end_reading(readings, name);
-            }
-        }
-        _ => {}
-    }
-}
-
-/// Takes out the first reading of this name.
-fn end_reading(readings: &mut Vec<Name>, name: Name)
-    ensures value { readings.new.items ≡ without_reading (Some name) readings.old.items }
-    ensures room { vec_capacity readings.new ≡ vec_capacity readings.old }
-{
-    if let Some(index) = reading_at(readings.as_slice(), name) {
-        readings.remove(index);
-    }
-}
-
-/// The place of the first reading of this name.
-fn reading_at(readings: &[Name], name: Name) -> Option<usize>
-    ensures { MatchOption result (without_reading (Some name) readings.now ≡ readings.now) (λ index. (index < length readings.now) × (without_reading (Some name) readings.now ≡ remove readings.now index)) }
-{
-    for (index, other) in readings.iter().enumerate() {
-        if is_name(*other, name) {
-            return Some(index);
-        }
-    }
-    None
 }

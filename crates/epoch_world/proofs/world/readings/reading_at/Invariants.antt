@@ -1,6 +1,6 @@
 use Rattle.std.proofs.Common.{◌≡◌, ◌++◌, Some, take, drop}
 use Rattle.epoch_laws.specs.Run.{without_reading}
-use Rattle.epoch_world.proofs.world.seat.reading_at.Given as goal
+use Rattle.epoch_world.proofs.world.readings.reading_at.Given as goal
 
 -- none so far is the name
 abbrev pub invariant-loop-index : goal.invariant-loop-index

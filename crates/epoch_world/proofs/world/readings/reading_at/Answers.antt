@@ -1,6 +1,6 @@
 use Rattle.std.proofs.Common.{sym, ◌∙◌}
 use Rattle.epoch_world.proofs.ReadingLists.{without_at}
-use Rattle.epoch_world.proofs.world.seat.reading_at.Goals as goal
+use Rattle.epoch_world.proofs.world.readings.reading_at.Goals as goal
 
 pub returns-then-is_name : goal.returns-then-is_name
 returns-then-is_name c = (
