@@ -8,7 +8,7 @@ use Rattle.epoch_bags.specs.Stores.{IsInserted, AllExpired, PutsJobs, TakesAny}
 use Rattle.epoch_bags.specs.Queues.{first_occupied, first_expired}
 use Rattle.epoch_bags.proofs.NumberTests.{at_most, not_most}
 
--- behind all others
+-- after all others
 pub inserted_last : {J : Type 0} (bag : Sealed J) (old : List (Sealed J)) → IsInserted bag old (old ++ bag ∷ [])
 inserted_last bag old = record { front = old; back = []; without = sym (append-nil old); with = refl }
 
@@ -40,7 +40,7 @@ passes_all capacity before after all some =
 pub has_step : (capacity before : ℕ) → before < capacity → min 1 (capacity - before) ≢ 0
 has_step capacity before within none = absurd (omega (arith, within, none))
 
--- what was held is sealed and stands behind all others
+-- what was held is sealed and stands after all others
 pub puts_last : {J : Type 0} (seal number : ℕ) (old items new : List (Sealed J)) (held taken left : Unsealed J) (jobs : List J)
     → items ≡ old
     → number ≡ seal

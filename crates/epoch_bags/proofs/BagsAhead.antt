@@ -39,19 +39,19 @@ told_home x word (Some bag) matches free =
     by_test true e = absurd (free (eq_true word 2 e))
     by_test false e = eq_true word (2 * bag.seal + 1) (subst (λ t. (t || (word == 2 * bag.seal + 1)) ≡ true) e matches)
 
--- what the word at a place, and those behind it, tell of
+-- what the word at a place, and those after it, tell of
 words_at : (x : ℕ) (words : List ℕ) (at : ℕ) → at < length words
     → words_expired x (drop at words) ≡ one_if (tells_expired x (slice_index_or words at 0)) + words_expired x (drop (at + 1) words)
 words_at x words at within = rw add-one (ap (words_expired x) (drop-cons words at 0 within))
 
--- behind the last place none is told of
+-- after the last place none is told of
 words_past : (x : ℕ) (words : List ℕ) (at : ℕ) → length words ≤ at → words_expired x (drop at words) ≡ 0
 words_past x [] zero past = refl
 words_past x [] (suc at) past = refl
 words_past x (word ∷ words) zero past = absurd (omega arith)
 words_past x (word ∷ words) (suc at) past = words_past x words at (omega arith)
 
--- words that are the same behind a place tell of as many
+-- words that are the same after a place tell of as many
 words_same : (x : ℕ) (old new : List ℕ) (at : ℕ) → length new ≡ length old → ((k : ℕ) → at ≤ k → slice_index_or new k 0 ≡ slice_index_or old k 0)
     → words_expired x (drop at new) ≡ words_expired x (drop at old)
 words_same x [] [] zero count same = refl
@@ -104,7 +104,7 @@ look_passes x store at within test =
     let none : one_if (tells_expired x (slice_index_or store.words at 0)) ≡ 0 = ap one_if (test_false x (slice_index_or store.words at 0) test) in
     omega (arith, words_at x store.words at within, none)
 
--- a write at a place changes no word behind it
+-- a write at a place changes no word after it
 behind_set : (x : ℕ) (old new : List ℕ) (at word : ℕ) → new ≡ slice_set old at word → words_expired x (drop (at + 1) new) ≡ words_expired x (drop (at + 1) old)
 behind_set x old new at word is = rw add-one (ap (λ (l : List ℕ). words_expired x (drop (suc at) l)) is ∙ ap (words_expired x) (drop_set old at word))
 
@@ -119,7 +119,7 @@ ahead_got {J} x old new at bag emptied expired =
     let one : home_expired x (slice_index_or old.bags at None) ≡ 1 = ap (home_expired x) emptied.was_there ∙ counts_one x bag expired in
     omega (arith, one, behind_set x old.words new.words at 0 emptied.words)
 
--- a collection goes on behind a place that it let go
+-- a collection goes on after a place that it let go
 pub ahead_left : {J : Type 0} (x : ℕ) (old new : PlaceList J) (at : ℕ) → LeavesPlace x old at new → bags_ahead x new (TakeLook (at + 1)) ≡ bags_ahead x old (TakeEmpty at)
 ahead_left {J} x old new at left =
     omega (arith, none (slice_index_or old.bags at None) refl, words_same x old.words new.words (at + 1) left.as_many (λ k le. left.others k (λ same. absurd (omega arith))))
@@ -128,7 +128,7 @@ ahead_left {J} x old new at left =
     none None e = ap (home_expired x) e
     none (Some bag) e = ap (home_expired x) e ∙ ap one_if (not_most (bag.seal + 2) x (left.not_expired bag e))
 
--- the answer of a step that goes on behind its place
+-- the answer of a step that goes on after its place
 pub goes_on : {J : Type 0} (x : ℕ) (store : PlaceList J) (cursor : TakeCursor) (result : TakeStep) (at places before : ℕ) → places ≡ length store.words → cursor ≡ TakeLook (at + 1)
     → result ≡ (if at + 1 == places then Empty else TakeAgain) → bags_ahead x store (TakeLook (at + 1)) ≡ before → FindsBag before result (bags_ahead x store cursor)
 goes_on x store cursor result at places before count is answers same =

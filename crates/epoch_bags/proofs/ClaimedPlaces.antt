@@ -109,7 +109,7 @@ pub reserves_not : {J : Type 0} (store : PlaceList J) (at place : ℕ) → IsSom
 reserves_not store at place some reserved here =
     absurd (cc (subst (λ k. IsSome (slice_index_or store.bags k None)) (sym here) some, reserved.1))
 
--- behind the last place is none
+-- after the last place is none
 pub reserves_past : {J : Type 0} (store : PlaceList J) (at place : ℕ) → length store.words ≤ at → IsReservedAt store place → place ≢ at
 reserves_past {J} store at place past reserved here = absurd (omega (arith, reserved.0, none store.words place (omega (arith, past, here))))
   where

@@ -5,11 +5,11 @@ use Rattle.epoch_bags.specs.Bags.{Sealed, IsExpired}
 use Rattle.epoch_bags.specs.Stores.{IsInserted, AllExpired}
 use Rattle.epoch_bags.specs.PlaceLists.{bags_in}
 
--- the bag at a place, and then those behind it
+-- the bag at a place, and then those after it
 pub bags_at : {J : Type 0} (homes : List (Option (Sealed J))) (i : ℕ) → i < length homes → bags_in (drop i homes) ≡ option_to_list (slice_index_or homes i None) ++ bags_in (drop (i + 1) homes)
 bags_at homes i within = rw add-one (ap bags_in (drop-cons homes i None within))
 
--- a bag behind others
+-- a bag after others
 behind : {J : Type 0} (front : List (Sealed J)) (bag : Sealed J) (old new : List (Sealed J)) → IsInserted bag old new → IsInserted bag (front ++ old) (front ++ new)
 behind front bag old new at = record {
   front = front ++ at.front;
@@ -32,7 +32,7 @@ take_out [] i bag there = absurd (cc (there))
 take_out (home ∷ homes) zero bag there = record { front = []; back = bags_in homes; without = refl; with = ap (λ o. option_to_list o ++ bags_in homes) there }
 take_out (home ∷ homes) (suc i) bag there = behind (option_to_list home) bag _ _ (take_out homes i bag there)
 
--- a write changes nothing behind its place
+-- a write changes nothing after its place
 pub drop_set : {A : Type 0} (xs : List A) (i : ℕ) (v : A) → drop (suc i) (slice_set xs i v) ≡ drop (suc i) xs
 drop_set [] i v = refl
 drop_set (x ∷ xs) zero v = refl
@@ -54,7 +54,7 @@ without_one x (first ∷ front) back bag all = (all.0, without_one x front back 
 pub expired_less : {J : Type 0} (x : ℕ) (bag : Sealed J) (old new : List (Sealed J)) → IsInserted bag new old → AllExpired x old → AllExpired x new
 expired_less x bag old new at all = subst (AllExpired x) (sym at.without) (without_one x at.front at.back bag (subst (AllExpired x) at.with all))
 
--- behind the last place is no bag
+-- after the last place is no bag
 pub past_end : {J : Type 0} (homes : List (Option (Sealed J))) (i : ℕ) → length homes ≤ i → bags_in (drop i homes) ≡ []
 past_end [] zero past = refl
 past_end [] (suc i) past = refl

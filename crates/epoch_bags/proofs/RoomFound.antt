@@ -11,7 +11,7 @@ use Rattle.epoch_bags.specs.Places.{put_passed, has_empty, is_home_free, has_roo
 use Rattle.epoch_bags.proofs.PlaceWords.{eq_true, bag_seen}
 use Rattle.epoch_bags.proofs.NumberTests.{is_other}
 
--- what the word at a place, and those behind it, say
+-- what the word at a place, and those after it, say
 empty_at : (words : List ℕ) (at : ℕ) → at < length words → has_empty (drop at words) ≡ ((slice_index_or words at 0 == 0) || has_empty (drop (at + 1) words))
 empty_at words at within = rw add-one (ap has_empty (drop-cons words at 0 within))
 
@@ -66,7 +66,7 @@ room_taken {J} store at within some = by_home (slice_index_or store.bags at None
     by_home None e some = absurd (cc (some))
     by_home (Some bag) e some = sym (ap (λ (o : Option (Option (Sealed J))). is_home_free o || has_empty (drop (at + 1) store.words)) (home_there store.bags at (Some bag) within e))
 
--- the answer of a put that goes on behind its place
+-- the answer of a put that goes on after its place
 pub puts_on : {J : Type 0} (store : PlaceList J) (cursor : PutCursor) (result : PutStep) (at places : ℕ) (before : Bool) → places ≡ length store.words → cursor ≡ PutLook (at + 1)
     → result ≡ (if at + 1 == places then PutFull else PutAgain) → has_room store (PutLook (at + 1)) ≡ before → FindsRoom before result (has_room store cursor)
 puts_on store cursor result at places before count is answers same =

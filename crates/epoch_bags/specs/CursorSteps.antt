@@ -68,7 +68,7 @@ module _ {J : Type 0} where
   PutStands store (PutClaim place) = place < length store.words
   PutStands store (Fill place) = (place < length store.words) × (slice_index_or store.bags place None ≡ None)
 
-  -- The collection stands at a place, or behind the last one. Where it has claimed the place, an expired bag is at home there.
+  -- The collection stands at a place, or after the last one. Where it has claimed the place, an expired bag is at home there.
   abbrev pub TakeStands : ℕ → PlaceList J → TakeCursor → Type 0
   TakeStands x store (TakeLook place) = place ≤ length store.words
   TakeStands x store (TakeClaim place word) = (place < length store.words) × IsExpiredWord x word

@@ -79,7 +79,7 @@ home_expired x None = 0
 home_expired x (Some bag) = one_if (nat_le (bag.seal + 2) x)
 
 -- how many bags a collection for the epoch x, at this cursor, will take if nobody else changes a place: that of the
--- place it is at, if its claim will be won, and those that the words behind it tell of
+-- place it is at, if its claim will be won, and those that the words after it tell of
 abbrev pub bags_ahead : {J : Type 0} → ℕ → PlaceList J → TakeCursor → ℕ
 bags_ahead x store (TakeLook at) = words_expired x (drop at store.words)
 bags_ahead x store (TakeClaim at word) = (if slice_index_or store.words at 0 == word then home_expired x (slice_index_or store.bags at None) else 0) + words_expired x (drop (at + 1) store.words)

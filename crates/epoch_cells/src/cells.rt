@@ -33,7 +33,7 @@ const STRIDE: usize = 8;
 #[derive(Drop)]
 pub struct Cells<T> {
     slots: Vec<Slot<T>>,
-    // No slot before this place is free, but for those whose call is still under way. Behind the times
+    // No slot before this place is free, but for those whose call is still under way. After the times
     // it costs looks, and no more.
     first_free: AtomicUsize,
     pub ghost few: { vec_len slots ≤ 16777215 },

@@ -29,7 +29,7 @@ use Rattle.epoch_machine.proofs.Stages.{nothing_given}
 -- JOBS
 
 module _ {J : Type 0} where
-  -- the machine m with a bag taken for x behind so many others, of which these jobs are left
+  -- the machine m with a bag taken for x after so many others, of which these jobs are left
   abbrev pub with_hand : Machine J → ℕ → ℕ → List J → Machine J
   with_hand m x k jobs = record m { stage = after_job m x k jobs; hand = jobs }
 
@@ -122,7 +122,7 @@ stops_at : {J : Type 0} (a : Action) (held : List J) (last : Bool) (x k : ℕ) �
 stops_at a held true x k stopped = refl
 stops_at a held false x k stopped = absurd (cc (stopped))
 
--- the stage behind a bag got is that of its jobs
+-- the stage after a bag got is that of its jobs
 pub got_stage : {J : Type 0} (m n : Machine J) (x k : ℕ) → n ≡ with_hand m x k n.hand → n.stage ≡ after_job n x k n.hand
 got_stage m n x k is = ap (λ (z : Machine _). z.stage) is ∙ sym (ap (λ (z : Machine _). after_job z x k n.hand) is)
 
@@ -171,7 +171,7 @@ module _ {T W : Type 0} where
     performed = ([], ap (λ (z : TakeCursor). situation_of h (record { put = PutLook 0; take = z })) first, tt);
   }
 
-  -- a machine that looks for a bag is as it was behind a step that got none
+  -- a machine that looks for a bag is as it was after a step that got none
   waits_on : (h n : Local T W) (x taken : ℕ) → n.machine ≡ record h.machine { stage = Take x taken; hand = n.machine.hand }
       → n.machine ≡ took_heard n.machine n.machine.stage TakeAgain n.machine.hand
   waits_on h n x taken looks = sym (ap (λ (s : Stage). took_heard n.machine s TakeAgain n.machine.hand) (ap (λ (z : Machine (Job W)). z.stage) looks))
@@ -254,7 +254,7 @@ module _ {T W : Type 0} where
   take_got h n x k m was after =
       after ∙ ap (λ (z : Machine (Job W)). took_heard z z.stage Got m.hand) was
 
-  -- behind a bag got, whose jobs were called
+  -- after a bag got, whose jobs were called
   pub record HasCalledBag (done : W → Type 0) (h : Local T W) (x k : ℕ) (next : TakeCursor) (w : Local T W) : Type 0 where
     pub machine : w.machine ≡ with_hand h.machine x k []
     pub claimer : IsAt h.collector.now.places w.claimer
@@ -354,7 +354,7 @@ module _ {T W : Type 0} where
 
   -- THE WHOLE
 
-  -- a scan, and the bags taken behind it
+  -- a scan, and the bags taken after it
   pub collected : (done : W → Type 0) (h n o : Local T W) (x : ℕ) → Scans h x n → TakesBags done n o → Collects done h o
   collected done h n o x scans takes =
       let same_table = scans.same.collector in

@@ -1,4 +1,4 @@
--- A deferral: a job is kept in the held bag, behind a put of the bag where it is full.
+-- A deferral: a job is kept in the held bag, after a put of the bag where it is full.
 use Rattle.std.proofs.Common.{◌≡◌, ◌∙◌, ℕ, ◌<◌, ◌⊎◌, if◌then◌else◌, Bool, true, false, List, [], ◌∷◌, ◌++◌, length, refl, sym, ap, subst, arith, inl, inr, ne_eqb, Some}
 use Rattle.std.proofs.lemmas.Bool.{eq-eqb, true≢false}
 use Rattle.epoch_tables.specs.SharedSteps.{RestsAt}
@@ -29,7 +29,7 @@ module _ {J : Type 0} where
 
   -- HOW THE JOB IS KEPT
 
-  -- the machine m behind a deferral that kept this job behind these others
+  -- the machine m after a deferral that kept this job after these others
   abbrev pub with_kept : Machine J → List J → J → Machine J
   with_kept m held job = record m { stage = End; action = Defer; full = false; held = held ++ job ∷ [] }
 
@@ -59,14 +59,14 @@ module _ {J : Type 0} where
   found_room m b n begins (inl done) room = done ∙ ap (λ (z : Machine J). record z { stage = after_put z.action false; full = false; held = [] }) begins
   found_room m b n begins (inr occupied) room = absurd (true≢false (sym (ap (λ (z : Machine J). z.full) occupied) ∙ room))
 
-  -- the job is kept alone in the bag behind the one that was put
+  -- the job is kept alone in the bag after the one that was put
   pub kept_alone : (m n o : Machine J) (job : J) → n ≡ record m { stage = Keep; action = Defer; full = false; held = [] } → o ≡ heard n (Deferred job) → o ≡ with_kept m [] job
   kept_alone m n o job at is = is ∙ ap (λ (z : Machine J). heard z (Deferred job)) at
 
 -- WHAT A HANDLE KNOWS
 
 module _ {T W : Type 0} where
-  -- behind an action that left the pin and the guards as they were
+  -- after an action that left the pin and the guards as they were
   pub ready_still : (h n : Local T W) (m : Machine (Job W))
       → IsReady h
       → 0 < h.machine.guards

@@ -11,7 +11,7 @@ module _ {J : Type 0} where
       → Performed places before (x ∷ []) after
   one_performed places before after x exchanges = (after, exchanges, refl)
 
-  -- one log behind another
+  -- one log after another
   pub performed_on : (places : ℕ) (before between after : Situation J) (log more : Log J)
       → Performed places before log between
       → Performed places between more after

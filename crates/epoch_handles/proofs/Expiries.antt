@@ -26,7 +26,7 @@ StageSeen seen (Take x k) = x ≤ seen
 StageSeen seen (Calling x k) = x ≤ seen
 StageSeen seen stage = Unit {0}
 
--- the machine behind its stage in an answer: what the answer tells of the epoch now seen
+-- the machine after its stage in an answer: what the answer tells of the epoch now seen
 abbrev IsSeenBy : {J : Type 0} → ℕ → Stage → Answer J → Type 0
 IsSeenBy seen stage (Epoch e) = e ≤ seen
 IsSeenBy seen (Advance e) Stored = e + 1 ≤ seen
@@ -148,7 +148,7 @@ module _ {J : Type 0} where
   put_step_seen seen m Done at = put_seen seen m.action false
   put_step_seen seen m Full at = put_seen seen m.action true
 
-  -- what the answer of a step tells of the epoch seen behind it
+  -- what the answer of a step tells of the epoch seen after it
   answer_seen : (places : ℕ) (before after : Situation J) (ask : Ask) (a : Answer J)
       → ask_at before.machine.stage ≡ Some ask
       → Performs places before ask (Heard a) after
@@ -170,7 +170,7 @@ module _ {J : Type 0} where
   answer_seen places before after KeepJob (Job job) asked performs = tt
   answer_seen places before after ask a asked performs = absurd performs
 
-  -- behind any step, the stage's epoch is one that was seen
+  -- after any step, the stage's epoch is one that was seen
   told_seen : (places : ℕ) (before after : Situation J) (ask : Ask) (reply : Reply J)
       → ask_at before.machine.stage ≡ Some ask
       → Performs places before ask reply after

@@ -10,7 +10,7 @@ use Rattle.epoch_machine.specs.Machine.{Machine, begun, heard, ended}
 use Rattle.epoch_handles.specs.Handles.{IsSeated, Steps, PublishSteps, PinSteps}
 use Rattle.epoch_handles.proofs.StraightCalls.{pin_leaves, seated_with, steps_on}
 
--- the machine behind the three answers of a pin
+-- the machine after the three answers of a pin
 abbrev pub told_of_pin : {J : Type 0} → Machine J → (e again : ℕ) → Machine J
 told_of_pin m e again = heard (heard (heard (begun Pin m) (Epoch e)) Stored) (Epoch again)
 
@@ -25,7 +25,7 @@ keeps_sizes m n e true none goes = ap (λ (z : Machine _). z.sizes) (goes.follow
 keeps_sizes m n e false none goes = ap (λ (z : Machine _). z.sizes) (goes.ends refl 0) ∙ (pin_leaves m e 0 none).0
 
 module _ {T W : Type 0} where
-  -- a load, and the publish of the epoch found with the load behind it
+  -- a load, and the publish of the epoch found with the load after it
   pub load_and_publish : (h n w : Local T W) (e : ℕ)
       → h.seat.me.0.seen ≤ e
       → Steps h n (after_epoch h.seat.me.0 e)

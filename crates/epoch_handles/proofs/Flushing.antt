@@ -58,7 +58,7 @@ module _ {J : Type 0} where
 
   -- THE PUT
 
-  -- the machine n behind the put of a flush at m: the bag is in a place, or is still held
+  -- the machine n after the put of a flush at m: the bag is in a place, or is still held
   abbrev IsPut : Machine J → Machine J → Type 0
   IsPut m n = (n ≡ record m { stage = after_put m.action false; full = false; held = [] })
       ⊎ (n ≡ record m { stage = after_put m.action true; full = true })

@@ -23,7 +23,7 @@ use Rattle.epoch_machine.specs.Asks.{Heard, PutStepped}
 use Rattle.epoch_handles.specs.Drives.{Cursors, NoJob, Performed, Reaches, situated, at_start}
 use Rattle.epoch_handles.specs.Handles.{IsSeated, IsSame, IsPinned, KeepsPin, Steps, Puts, IsLeftWhole, sight_of, situation_of}
 use Rattle.epoch_handles.proofs.Driving.{one_performed, reaches_on, reached}
-use Rattle.epoch_handles.proofs.StraightCalls.{sight_behind, seated_with, still_read}
+use Rattle.epoch_handles.proofs.StraightCalls.{sight_after, seated_with, still_read}
 
 -- where a put stands; no collection has begun
 abbrev pub putting : PutCursor → Cursors
@@ -94,7 +94,7 @@ module _ {T W : Type 0} where
         (record { ask = LoadEpoch; reply = Heard (Epoch seal) } ∷ []) (situated (with_stage h.machine (Put seal)) (sight_of n) at_start))
         (sym begins)
         (one_performed h.collector.now.places.capacity _ _ _
-        (record { asked = refl; is_reply = tt; performs = (rises, sight_behind h n _ steps, refl); machine = refl })),
+        (record { asked = refl; is_reply = tt; performs = (rises, sight_after h n _ steps, refl); machine = refl })),
     (tt, tt),
   )
 
@@ -146,7 +146,7 @@ module _ {T W : Type 0} where
         machine = after;
       })) (tt, tt)
 
-  -- the same participant behind a step of its seat at the places
+  -- the same participant after a step of its seat at the places
   seated_at : (n : Local T W) (m : Machine (Job W)) (claimer : _)
       → m.sizes ≡ n.machine.sizes
       → IsSamePlaceSeat n.claimer claimer

@@ -5,7 +5,7 @@ use Rattle.std.proofs.lemmas.List.Elements.{All-push}
 use Rattle.std.proofs.lemmas.List.FromFn.{map-range_with_len_more}
 use Rattle.epoch_handles.specs.Handles.{FindsEachTaken, each_before}
 
--- the next position comes behind those before it
+-- the next position comes after those before it
 one_more : (position : ℕ) → each_before (position + 1) ≡ each_before position ++ Some position ∷ []
 one_more position = ap (λ (positions : List (Option ℕ)). None ∷ positions)
     (map-range_with_len_more (λ (earlier : ℕ). Some earlier) 0 position position (omega arith))

@@ -20,12 +20,12 @@ use Rattle.epoch_handles.specs.Drives.{Sight, NoJob, Drives, with_words}
 use Rattle.epoch_handles.specs.Handles.{IsReady, IsSame, IsLeftWhole, IsDriven, Steps, PinSteps, Collects, sight_of}
 use Rattle.epoch_handles.specs.Releases.{IsLeaving, IsRefused, IsFreed, IsReleased}
 use Rattle.epoch_handles.proofs.Driving.{one_performed, drives_on, drives_of}
-use Rattle.epoch_handles.proofs.StraightCalls.{unpin_performed, sight_behind, pin_drives, pinned_behind, seated_with, ready_with, rests_still}
+use Rattle.epoch_handles.proofs.StraightCalls.{unpin_performed, sight_after, pin_drives, pinned_behind, seated_with, ready_with, rests_still}
 
 -- THE STORES THAT END A RELEASE
 
 module _ {J : Type 0} where
-  -- behind the store of an unpinned word the machine asks for the store of 0
+  -- after the store of an unpinned word the machine asks for the store of 0
   pub store_leads_on : (m : Machine J) → m.stage ≡ StageUnpinned → m.action ≡ Release → m.full ≡ false
       → heard m Stored ≡ with_stage m StageFree
   store_leads_on m at action room =
@@ -56,7 +56,7 @@ module _ {J : Type 0} where
       (free_performed places m (with_words v (after_own v.words None)))
 
 module _ {T W : Type 0} where
-  -- what the seats know behind the two stores
+  -- what the seats know after the two stores
   sight_gone : (h n o : Local T W)
       → Steps h n (after_own h.seat.me.0 None)
       → o.claimer ≡ n.claimer
@@ -66,7 +66,7 @@ module _ {T W : Type 0} where
       ap (λ (z : ParticipantView). record { words = z; places = o.claimer.me }) (knows ∙ ap (λ (z : ParticipantView). after_free z) steps.knows)
       ∙ ap (λ z. record { words = after_free (after_own h.seat.me.0 None); places = z.me }) (claimer ∙ steps.claimer)
 
-  -- the participant behind the two stores: n behind the first one, o behind the second
+  -- the participant after the two stores: n after the first one, o after the second
   pub left_for_good : (done : W → Type 0) (h n o : Local T W) (told last : Machine (Job W))
       → h.machine.stage ≡ StageUnpinned
       → h.machine.action ≡ Release
@@ -98,7 +98,7 @@ module _ {T W : Type 0} where
 
   -- A RELEASE THAT IS REFUSED
 
-  -- the machine behind its last store
+  -- the machine after its last store
   pub told_last : (h n : Local T W) (told : Machine (Job W))
       → h.machine.stage ≡ StageUnpinned
       → h.machine.action ≡ Release
@@ -133,7 +133,7 @@ module _ {T W : Type 0} where
           machine = is_last;
           drives = drives_of (IsCalled done) h.collector.now.places.capacity h.machine told (sight_of h) (sight_of n)
               (subst (λ (z : Machine (Job W)). Drives NoJob h.collector.now.places.capacity h.machine (sight_of h) z (sight_of n)) heard_told
-              (subst (λ (z : Sight (Job W)). Drives NoJob h.collector.now.places.capacity h.machine (sight_of h) (heard h.machine Stored) z) (sym (sight_behind h n _ steps))
+              (subst (λ (z : Sight (Job W)). Drives NoJob h.collector.now.places.capacity h.machine (sight_of h) (heard h.machine Stored) z) (sym (sight_after h n _ steps))
               (unpin_performed h.collector.now.places.capacity h.machine (sight_of h) at)));
         };
         ready = ready_with n last steps.seated (rests_still h n _ steps rests)
@@ -222,7 +222,7 @@ module _ {T W : Type 0} where
 -- HOW A RELEASE COMES THERE
 
 module _ {T W : Type 0} where
-  -- behind its pin
+  -- after its pin
   pub release_pins : (done : W → Type 0) (h n : Local T W) (e : ℕ) (m : Machine (Job W))
       → IsReady h
       → h.machine.guards ≡ 0
@@ -247,7 +247,7 @@ module _ {T W : Type 0} where
             (pin_drives h n (begun Release h.machine) e refl steps));
       }
 
-  -- behind its collection
+  -- after its collection
   pub release_collects : (done : W → Type 0) (h n o : Local T W) → IsLeaving done h n → Collects done n o → IsLeaving done h o
   release_collects done h n o leaving collects = record {
     seated = collects.seated;

@@ -16,7 +16,7 @@ use Rattle.epoch_machine.specs.Asks.{Heard}
 use Rattle.epoch_handles.specs.Drives.{Sight, NoJob, Performed, Reaches, situated, at_start, with_words}
 use Rattle.epoch_handles.specs.Handles.{IsSeated, IsSame, IsPinned, KeepsPin, Steps, Scans, sight_of}
 use Rattle.epoch_handles.proofs.Driving.{one_performed, reaches_on}
-use Rattle.epoch_handles.proofs.StraightCalls.{sight_behind, seated_with, still_read}
+use Rattle.epoch_handles.proofs.StraightCalls.{sight_after, seated_with, still_read}
 
 -- where a scan of e stands that has passed the positions below k
 abbrev pub at_scan : ℕ → ℕ → ℕ → Stage
@@ -57,13 +57,13 @@ module _ {J : Type 0} where
         machine = ap (λ (n : ℕ). with_stage m (past_word n e k w)) (sym sizes);
       }))
 
--- behind the last position the scan is over
+-- after the last position the scan is over
 behind_last : (positions e : ℕ) → at_scan positions e positions ≡ scanned e
 behind_last positions e = ap (λ (b : Bool). if b then scanned e else Scan e positions) (eq-eqb positions positions refl)
 
 -- THE LOOP
 
--- the scan of a handle for e stands behind the positions below k
+-- the scan of a handle for e stands after the positions below k
 pub record HasPassed {T W : Type 0} (h : Local T W) (e k : ℕ) (n : Local T W) : Type 0 where
   pub seated : IsSeated n
   pub same : IsSame h n
@@ -102,7 +102,7 @@ module _ {T W : Type 0} where
               (sym begins) (one_performed h.collector.now.places.capacity _ _ _ (record {
                 asked = refl;
                 is_reply = tt;
-                performs = (rises, sight_behind h n _ steps, refl);
+                performs = (rises, sight_after h n _ steps, refl);
                 machine = ap (λ (b : Bool). with_stage h.machine (if b then scanned e else Scan e 0))
                     (ne_eqb 0 h.machine.sizes.positions (λ is. absurd (omega arith)));
               })),
@@ -122,7 +122,7 @@ module _ {T W : Type 0} where
       reaches_on NoJob h.collector.now.places.capacity h.machine (sight_of h) _ _
       passed.reaches (record { ask = LoadWord k; reply = Heard (Word w) } ∷ [])
       (scan_goes_on h.collector.now.places.capacity h.machine.sizes.positions h.machine (sight_of n) (sight_of o) e k w refl within is_word passed.scan
-      (λ lets. sight_behind n o _ (found.0 lets), λ holds. sight_behind n o _ (found.1 holds))) (tt, tt)
+      (λ lets. sight_after n o _ (found.0 lets), λ holds. sight_after n o _ (found.1 holds))) (tt, tt)
 
   pub scan_passes : (h n o : Local T W) (e k w : ℕ)
       → HasPassed h e k n
@@ -191,7 +191,7 @@ module _ {T W : Type 0} where
       (situated (with_stage h.machine (if b then Take e 0 else (if k + 1 == h.machine.sizes.positions then scanned e else Scan e (k + 1)))) (sight_of o) at_start))
       high (word_performed h n o e k w passed within is_word found))
 
-  -- behind the last word of the greatest epoch nothing is stored
+  -- after the last word of the greatest epoch nothing is stored
   pub scan_greatest : (h n : Local T W) (e : ℕ) (m : Machine (Job W))
       → HasPassed h e h.machine.sizes.positions n
       → e ≡ 2 ^ 63 - 1
@@ -202,7 +202,7 @@ module _ {T W : Type 0} where
       (subst (λ (s : Stage). Reaches NoJob h.collector.now.places.capacity h.machine (sight_of h) (situated (with_stage h.machine s) (sight_of n) at_start))
       (behind_last h.machine.sizes.positions e ∙ ap (λ (b : Bool). if b then Take e 0 else Advance e) (eq-eqb e (2 ^ 63 - 1) greatest)) passed.reaches)
 
-  -- behind the last word the epoch is stored
+  -- after the last word the epoch is stored
   pub scan_advances : (h n o : Local T W) (e : ℕ) (m : Machine (Job W))
       → HasPassed h e h.machine.sizes.positions n
       → e < 2 ^ 63 - 1
@@ -225,4 +225,4 @@ module _ {T W : Type 0} where
       (subst (λ (s : Stage). Performed h.collector.now.places.capacity (situated (with_stage h.machine s) (sight_of n) at_start)
       (record { ask = StoreEpoch (e + 1); reply = Heard Stored } ∷ []) (situated (with_stage h.machine (Take (e + 1) 0)) (sight_of o) at_start)) (sym advances)
       (one_performed h.collector.now.places.capacity _ _ _
-      (record { asked = refl; is_reply = tt; performs = (ahead, sight_behind n o _ steps, refl); machine = refl }))) (tt, tt))
+      (record { asked = refl; is_reply = tt; performs = (ahead, sight_after n o _ steps, refl); machine = refl }))) (tt, tt))

@@ -120,7 +120,7 @@ module _ {J : Type 0} where
         (tt, tt),
       ))
 
-  -- a machine at the store of a repin, which reads the epoch again behind it
+  -- a machine at the store of a repin, which reads the epoch again after it
   repin_stores : (places : ℕ) (m : Machine J) (v : Sight J) (e again : ℕ)
       → e ≤ v.words.seen
       → v.words.seen ≤ again
@@ -173,9 +173,9 @@ reading None there = absurd (there refl)
 reading (Some epoch) there = (epoch, refl)
 
 module _ {T W : Type 0} where
-  -- what the seats know behind a step
-  pub sight_behind : (h n : Local T W) (view : ParticipantView) → Steps h n view → sight_of n ≡ with_words (sight_of h) view
-  sight_behind h n view steps = ap (λ (z : ParticipantView). record { words = z; places = n.claimer.me }) steps.knows
+  -- what the seats know after a step
+  pub sight_after : (h n : Local T W) (view : ParticipantView) → Steps h n view → sight_of n ≡ with_words (sight_of h) view
+  sight_after h n view steps = ap (λ (z : ParticipantView). record { words = z; places = n.claimer.me }) steps.knows
       ∙ ap (λ z. record { words = view; places = z.me }) steps.claimer
 
   pub pin_drives : (h n : Local T W) (m : Machine (Job W)) (e : ℕ)
@@ -184,10 +184,10 @@ module _ {T W : Type 0} where
       → Drives NoJob h.collector.now.places.capacity m (sight_of h) (heard (heard (heard m (Epoch e)) Stored) (Epoch steps.again)) (sight_of n)
   pin_drives h n m e at steps =
       subst (λ (z : Sight (Job W)). Drives NoJob h.collector.now.places.capacity m (sight_of h) (heard (heard (heard m (Epoch e)) Stored) (Epoch steps.again)) z)
-      (sym (sight_behind h n _ steps.steps))
+      (sym (sight_after h n _ steps.steps))
       (pin_performed h.collector.now.places.capacity m (sight_of h) e steps.again at steps.rises steps.rises_again)
 
-  -- it is pinned behind the steps of a pin
+  -- it is pinned after the steps of a pin
   pub pinned_behind : (h n : Local T W) (e : ℕ) → PinSteps h e n → IsPinned n.seat.me.0
   pinned_behind h n e steps = record {
     published = (e, ap (λ (z : ParticipantView). z.published) steps.steps.knows);
@@ -204,7 +204,7 @@ module _ {T W : Type 0} where
     positions = seated.positions;
   }
 
-  -- behind an action that ends with its guard counted
+  -- after an action that ends with its guard counted
   pub ready_with : (h : Local T W) (m : Machine (Job W))
       → IsSeated h
       → RestsAt h.claimer.me
@@ -237,7 +237,7 @@ module _ {T W : Type 0} where
       ap (λ (z : ParticipantView). z.first_read) steps.knows
       ∙ ap (λ z. first_after z h.seat.me.0.first_read e) is_published ∙ ap (λ z. first_after (Some published) z e) is_read
 
-  -- one step behind another
+  -- one step after another
   pub steps_on : (h n o : Local T W) (view other : ParticipantView) → Steps h n view → Steps n o other → Steps h o other
   steps_on h n o view other first second = record {
     seated = second.seated;

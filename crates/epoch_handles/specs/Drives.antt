@@ -43,8 +43,8 @@ pub record Situation (J : Type 0) : Type 0 where
 abbrev pub situated : {J : Type 0} → Machine J → Sight J → Cursors → Situation J
 situated m v c = record { machine = m; sight = v; cursors = c }
 
--- The ask has this reply, and this is what the seats and the cursors are behind it: one step, on one of the tables. What
--- the machine is behind it is said apart.
+-- The ask has this reply, and this is what the seats and the cursors are after it: one step, on one of the tables. What
+-- the machine is after it is said apart.
 abbrev pub Performs : {J : Type 0} → ℕ → Situation J → Ask → Reply J → Situation J → Type 0
 Performs places before LoadEpoch (Heard (Epoch e)) after = (before.sight.words.seen ≤ e)
     × (after.sight ≡ with_words before.sight (after_epoch before.sight.words e)) × (after.cursors ≡ at_start)

@@ -46,7 +46,7 @@ pub record IsSeated {T W : Type 0} (h : Local T W) : Type 0 where
   pub sizes : h.machine.sizes ≡ h.collector.now.sizes
   pub positions : h.collector.now.sizes.positions ≡ h.collector.now.participants.positions
 
--- a step of the participants' seat, behind which it knows this, and all else is as it was
+-- a step of the participants' seat, after which it knows this, and all else is as it was
 pub record Steps {T W : Type 0} (old new : Local T W) (view : ParticipantView) : Type 0 where
   pub seated : IsSeated new
   pub knows : new.seat.me.0 ≡ view
@@ -189,11 +189,11 @@ pub record Owns {T W : Type 0} (h : Local T W) (guard : Guard T W) : Type 0 wher
   pub collector : guard.collector.now.id ≡ h.collector.now.id
   pub out : 0 < h.machine.guards
 
--- the epoch, and behind it each position before this one, once and in order
+-- the epoch, and after it each position before this one, once and in order
 abbrev pub each_before : ℕ → List (Option ℕ)
 each_before position = None ∷ map (λ earlier. Some earlier) (range_with_len 0 position)
 
--- Behind the epoch, the words found are those of all positions before this one, in their order, of which none was free.
+-- After the epoch, the words found are those of all positions before this one, in their order, of which none was free.
 abbrev pub FindsEachTaken : ℕ → List (Option ℕ) → List ℕ → Type 0
 FindsEachTaken position looked found = (looked ≡ each_before position) × ((epoch : ℕ) × (taken : List ℕ) × (found ≡ epoch ∷ taken)
     × (length taken ≡ position) × All (λ word. word ≢ 0) taken)

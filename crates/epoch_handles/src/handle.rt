@@ -197,7 +197,7 @@ impl<'c, T: Drop, W: Run> LocalHandle<'c, T, W> {
         ensures found { IsErr result ↔ (self.new.machine.full ≡ true) }
         ensures handed_back { IfErr result (λ refused. refused.value ≡ job) }
     {
-        match self.local.defer_behind_a_put(job) {
+        match self.local.defer_after_a_put(job) {
             Ok(()) => Ok(()),
             Err(value) => Err(Refused {
                 fault: Fault::BagsFull,
@@ -265,7 +265,7 @@ impl<'c, T: Drop, W: Run> LocalHandle<'c, T, W> {
     }
 
     /// Gives the position up: the participant pins, puts its held bag, if it has a job, unpins, and frees its
-    /// position. What is answered is the state behind that, and is only to be spent: the word is 0, the machine is
+    /// position. What is answered is the state after that, and is only to be spent: the word is 0, the machine is
     /// that of a free position, and the held bag, if it had a job, was put whole.
     ///
     /// `BagsFull`: each place was seen occupied. The handle comes back unpinned, with its bag as it was.

@@ -5,7 +5,7 @@ use crate::local::Local;
 use epoch_bags::{Run, Work};
 use std::fmt;
 
-/// A participant that has given its position up: the state behind a release. It is only to be spent, by
+/// A participant that has given its position up: the state after a release. It is only to be spent, by
 /// [`Released::spend`].
 pub struct Released<'c, T, W = Work> {
     pub(crate) local: Local<'c, T, W>,

@@ -1,4 +1,4 @@
--- What the put of a call has found of the places, by the stage of its machine, and at the stage behind it.
+-- What the put of a call has found of the places, by the stage of its machine, and at the stage after it.
 use Rattle.std.proofs.Common.{◌≡◌, ◌≢◌, ℕ, ◌<◌, ◌==◌, Bool, true, false, List, [], ◌∷◌, length, refl, arith}
 use Rattle.epoch_machine.specs.declared.machine.Action.{Action}
 use Rattle.epoch_machine.specs.declared.machine.Action.TheVariants.{Pin, Unpin, Repin, Defer, Flush, Release}
@@ -60,7 +60,7 @@ FoundAt found count seen a full (Put s) = (puts_bag a ≡ true) × FoundSeen fou
 FoundAt found count seen a full StoreFree = full ≡ false
 FoundAt found count seen a full _ = Unit {0}
 
--- THE STAGES BEHIND A PART OF A CALL
+-- THE STAGES AFTER A PART OF A CALL
 
 module _ (found : ℕ → Type 0) (count seen : ℕ) where
   found_collected : (a : Action) (full : Bool) (held : List Deferral) → NoneYet found a
@@ -106,7 +106,7 @@ module _ (found : ℕ → Type 0) (count seen : ℕ) (m : Machine Deferral) (non
   pub machine_called : (x k : ℕ) (jobs : List Deferral) → At (after_job m x k jobs)
   machine_called x k jobs = after_job_at At m x k jobs none none machine_collected
 
--- behind a put there is none
+-- after a put there is none
 pub put_ends : (a : Action) (full : Bool) (s : ℕ) → after_put a full ≢ Put s
 put_ends Defer false s = λ is. cc
 put_ends _ full s = λ is. cc

@@ -83,7 +83,7 @@ module _ (was found : ℕ → Type 0) (old new : Occupancy) (step : PutStep) (se
   again_where again true each = λ k lt. finds.more k (each k (omega (arith, lt, sees.places)))
   again_where again false missed = seen_missed found (length new.places) new.seen (again_seen again)
 
-  -- it isn't put behind the last place
+  -- it isn't put after the last place
   full_each : step ≡ Full → FoundWhere found (length new.places) true
   full_each full k lt = found_upto (λ done. absurd (cc (full, done))) k (omega (arith, lt, sees.places, sees.full full))
 

@@ -1,4 +1,4 @@
--- A scan goes on behind a word that isn't pinned in another epoch, and stops at one that is.
+-- A scan goes on after a word that isn't pinned in another epoch, and stops at one that is.
 use Rattle.std.proofs.Common.{◌≡◌, ℕ, ◌+◌, ◌-◌, ◌*◌, ◌^◌, ◌<◌, ◌≤◌, ◌==◌, ◌&&◌, Bool, true, false, not, length, ◌⊎◌, inl, inr, refl, ap, sym, subst, arith, if◌then◌else◌}
 use Rattle.std.proofs.lemmas.Bool.Decides.{nat_tests}
 use Rattle.std.proofs.Math.Nat.{mul-add-mod_self_left}
@@ -31,7 +31,7 @@ module _ (v : View) (p : ℕ) (m : Machine Deferral) (aim : ends_unguarded m ≡
   stops : (e : ℕ) (P : ℕ → Type 0) → HasScanned v p e P → IsNext v p true m (Take e 0)
   stops e P h = record { publishes = refl; aims = aim; knows = h.seen }
 
-  -- behind the last word: every pinned one has been looked at
+  -- after the last word: every pinned one has been looked at
   advances : (e k n : ℕ) → HasScanned v p e (λ j. j < k) → ((j : ℕ) → n ≤ j → is_pinned (v.word j) ≡ false)
       → (is_pinned (v.word k) ≡ true → e ≤ v.since k) → (k + 1 == n) ≡ true → IsNext v p true m (scanned e)
   advances e k n h past here last = either_way (IsNext v p true m) (e == 2 ^ 63 - 1) (Take e 0) (Advance e) (stops e _ h)
@@ -66,7 +66,7 @@ module _ (v : View) (p : ℕ) (m : Machine Deferral) (aim : ends_unguarded m ≡
       at_below j (inr same) pinned =
           subst (λ (i : ℕ). is_pinned (v.word i) ≡ true → e ≤ v.since i) (sym same) here pinned
 
-  -- a scan goes on behind a word that isn't pinned in another epoch, and stops at one that is
+  -- a scan goes on after a word that isn't pinned in another epoch, and stops at one that is
   pub next_looked : (e k n : ℕ) → HasScanned v p e (λ j. j < k)
       → ((j : ℕ) → n ≤ j → is_pinned (v.word j) ≡ false) → ((i : ℕ) → v.word k ≡ Pinned i → i ≤ v.since k)
       → IsNext v p true m (past_word n e k (word_number (v.word k)))

@@ -1,4 +1,4 @@
--- What a call has told at each stage of its machine, and at the stage behind it.
+-- What a call has told at each stage of its machine, and at the stage after it.
 use Rattle.std.proofs.Common.{◌≡◌, ℕ, ◌==◌, Bool, true, false, not, List, [], ◌∷◌, Some, None, refl, ap, sym, subst, ◌∙◌, if◌then◌else◌}
 use Rattle.epoch_machine.specs.declared.machine.Action.{Action}
 use Rattle.epoch_machine.specs.declared.machine.Stage.{Stage}
@@ -79,7 +79,7 @@ pinned_at c guards _ = true
 abbrev pub ToldAt : Told → Call → Bool → Stage → Type 0
 ToldAt t c full s = HasToldAt t c full s × (t.pinned ≡ pinned_at c t.guards s)
 
--- THE STAGES BEHIND A PART OF A CALL
+-- THE STAGES AFTER A PART OF A CALL
 
 -- a call under a guard that is out leaves some guard, where it takes none away
 still_some : (b : Bool) (g : ℕ) (guards : List ℕ) → b ≡ true → is_out g guards ≡ true → b ≡ has_any guards

@@ -16,7 +16,7 @@ abbrev pub occupancy : List Bool → ℕ → Occupancy
 occupancy places seen = record { places = places; seen = seen }
 
 -- Each place that a step of a put goes past was occupied when the step was taken, unless the bag is in the store. A put
--- doesn't go back, and it is full behind the last place, and only there.
+-- doesn't go back, and it is full after the last place, and only there.
 pub record PutSees (step : PutStep) (old new : Occupancy) : Type 0 where
   pub occupied : step ≢ Done → (k : ℕ) → old.seen ≤ k → k < new.seen → slice_get old.places k ≡ Some true
   pub onward : step ≢ Done → old.seen ≤ new.seen

@@ -16,7 +16,7 @@ stops m = ends (with_stage m End) refl
 
 -- PIN
 
--- the count behind a pin is 1 where that before it was a multiple of 128
+-- the count after a pin is 1 where that before it was a multiple of 128
 first_or_128th : (pins : ℕ) → ((pins + 1) % 128 == 1) ≡ (pins % 128 == 0)
 first_or_128th pins = grind (arith, nat_tests)
 
@@ -108,7 +108,7 @@ leaves m =
     stores (releasing m []) AskUnpinned _ tt refl
     (stores (with_stage (releasing m []) StoreFree) AskFree _ tt refl (ends (fresh m.sizes) refl))
 
--- what is left of a release behind its pin
+-- what is left of a release after its pin
 behind_pin : {J : Type 0} (m : Machine J) (held : List J)
     → LogsAre (releasing m held) (Choose (is_empty held) AsksLeave (AsksPut AsksLeave (AsksStore AskUnpinned AsksNoMore)))
 behind_pin m [] = leaves m

@@ -1,4 +1,4 @@
--- What a machine asks from the beginning of a collection on follows the table, if it does so from behind the collection on.
+-- What a machine asks from the beginning of a collection on follows the table, if it does so from after the collection on.
 use Rattle.std.proofs.Common.{◌≡◌, ◌≢◌, ℕ, zero, suc, ◌+◌, ◌-◌, ◌*◌, ◌/◌, ◌%◌, ◌^◌, ◌<◌, ◌==◌, Bool, true, false, List, [], ◌∷◌, ◌⊎◌, inl, inr, refl, ap, sym, sym, subst, if◌then◌else◌, arith}
 use Rattle.std.proofs.lemmas.Bool.Decides.{nat_tests}
 use Rattle.epoch_bags.specs.declared.queue.TakeStep.TheVariants.{Again as TakeAgain, Empty, Got}
@@ -59,7 +59,7 @@ word_decides : {J : Type 0} (m n : Machine J) (e w : ℕ) (test : Bool) (s : Sta
 word_decides m n e w true s elsewhere behind more log stops goes at is run = inl (held_up e w is, stops more log n run at)
 word_decides m n e w false s elsewhere behind more log stops goes at is run = inr (not_held_up e w is, goes more log n run at)
 
--- the stage behind a word that doesn't end the scan
+-- the stage after a word that doesn't end the scan
 abbrev behind_word : ℕ → ℕ → ℕ → Stage
 behind_word positions e k = if k + 1 == positions then scanned e else Scan e (k + 1)
 
@@ -82,7 +82,7 @@ looks m e k elsewhere behind stops goes more (x ∷ log) n run at =
     begins (with_stage m (Scan e k)) n (LoadWord k) (λ y. AsksWord e k elsewhere behind more (y ∷ log)) x log refl
     (word_told m n e k elsewhere behind more log stops goes at) run
 
--- whatever the epoch is for which bags are taken behind the scan
+-- whatever the epoch is for which bags are taken after the scan
 abbrev TakesFollow : {J : Type 0} → Machine J → (ℕ → Part J) → Type 0
 TakesFollow m behind = (x : ℕ) → LogsAre (with_stage m (Take x 0)) (behind x)
 
@@ -153,7 +153,7 @@ call_told {J} m n x k job jobs behind more log next (JobGiven given) fits run =
     (ap (λ (j : J). let y : Exchange J = record { ask = CallJob; reply = JobGiven j } in y) same, next run)
 call_told m n x k job jobs behind more log next _ fits run = absurd fits
 
--- the stage behind a bag's last job
+-- the stage after a bag's last job
 abbrev behind_bag : {J : Type 0} → Machine J → ℕ → ℕ → Stage
 behind_bag m x k = if k + 1 == m.sizes.collect_bags then after_collect m.action m.held else Take x (k + 1)
 

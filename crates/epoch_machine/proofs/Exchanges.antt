@@ -1,4 +1,4 @@
--- A log of a machine that asks for one thing begins with that ask, and goes on as the machine does behind the reply.
+-- A log of a machine that asks for one thing begins with that ask, and goes on as the machine does after the reply.
 use Rattle.std.proofs.Common.{◌≡◌, ℕ, Bool, true, List, [], ◌∷◌, Some, None, is_some, inl, inr, refl, ap, sym, subst, ◌∙◌}
 use Rattle.epoch_bags.specs.declared.queue.PutStep.TheVariants.{Again, Done, Full}
 use Rattle.epoch_machine.specs.declared.machine.Ask.{Ask}

@@ -53,7 +53,7 @@ told m (JobGiven job) = gives m m.stage (rest m.hand)
 abbrev pub Log : Type 0 → Type 0
 Log J = List (Exchange J)
 
--- The machine m asks each ask of the log in turn, goes on by its reply, and is n behind the last one.
+-- The machine m asks each ask of the log in turn, goes on by its reply, and is n after the last one.
 abbrev pub Asked : {J : Type 0} → Machine J → Log J → Machine J → Type 0
 Asked m [] n = n ≡ m
 Asked m (x ∷ log) n = (asks m ≡ Some x.ask) × IsReply x.ask m.hand x.reply × Asked (told m x.reply) log n
@@ -63,8 +63,8 @@ asks_more m = is_some (asks m)
 
 -- PARTS OF A LOG
 
--- What a log may be from some place on, said in terms of what may come behind. The log may break off before
--- any ask, and then more is asked; behind the last ask no more is asked.
+-- What a log may be from some place on, said in terms of what may come after. The log may break off before
+-- any ask, and then more is asked; after the last ask no more is asked.
 abbrev pub Part : Type 0 → Type 1
 Part J = (more : Bool) → Log J → Type 0
 
@@ -76,7 +76,7 @@ abbrev pub Choose : {J : Type 0} → Bool → Part J → Part J → Part J
 Choose true holds fails = holds
 Choose false holds fails = fails
 
--- the epoch is loaded, and this comes behind the epoch found
+-- the epoch is loaded, and this comes after the epoch found
 abbrev pub AsksLoad : {J : Type 0} → (ℕ → Part J) → Part J
 AsksLoad behind more [] = more ≡ true
 AsksLoad behind more (x ∷ log) = (e : ℕ) × (x ≡ record { ask = LoadEpoch; reply = Heard (Epoch e) }) × behind e more log
@@ -102,7 +102,7 @@ AsksWord e position elsewhere behind more (x ∷ log) =
     (w : ℕ) × (x ≡ record { ask = LoadWord position; reply = Heard (Word w) })
     × ((IsPinnedElsewhere e w × elsewhere more log) ⊎ ((¬ IsPinnedElsewhere e w) × behind more log))
 
--- the epoch behind e is stored, unless e is the greatest
+-- the epoch after e is stored, unless e is the greatest
 abbrev pub AsksAdvance : {J : Type 0} (e : ℕ) → (ℕ → Part J) → Part J
 AsksAdvance e behind = Choose (e == 2 ^ 63 - 1) (behind e) (AsksStore (StoreEpoch (e + 1)) (behind (e + 1)))
 

@@ -96,7 +96,7 @@ asks m = ask_at m.stage
 abbrev pub holds_up : ℕ → ℕ → Bool
 holds_up e w = (w % 2 == 1) && not (w == 2 * e + 1)
 
--- behind the last word the epoch advances, unless it is the greatest
+-- after the last word the epoch advances, unless it is the greatest
 abbrev pub scanned : ℕ → Stage
 scanned e = if e == 2 ^ 63 - 1 then Take e 0 else Advance e
 

@@ -1,4 +1,4 @@
--- No stage but that behind the unpin of a release gives a position up.
+-- No stage but that after the unpin of a release gives a position up.
 use Rattle.std.proofs.Common.{ℕ, ◌==◌, Bool, true, false, List, [], ◌∷◌, length, refl}
 use Rattle.epoch_machine.specs.declared.machine.Action.{Action}
 use Rattle.epoch_machine.specs.declared.machine.Action.TheVariants.{Pin, Unpin, Repin, Defer, Flush, Release}

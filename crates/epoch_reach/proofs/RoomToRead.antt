@@ -26,7 +26,7 @@ abbrev AllStand : Heap → List Name → Type 0
 AllStand h [] = Unit {0}
 AllStand h (n ∷ names) = ((cell : Cell) × (cell_at h n ≡ Some cell)) × AllStand h names
 
--- none is among those behind it
+-- none is among those after it
 abbrev AllOnce : List Name → Type 0
 AllOnce [] = Unit {0}
 AllOnce (n ∷ names) = (times_read n names ≡ 0) × AllOnce names

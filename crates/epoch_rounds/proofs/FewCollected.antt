@@ -125,7 +125,7 @@ module _ (z : Sizes) (sized : IsSized z) where
     looked e k w none silent = past_word_at Fine z.positions e k w
         (held, (omega arith, omega arith, sized.collect_bags.0)) (held, (none, silent)) (held, (none, silent))
 
-    -- behind a bag's last job, or at its first
+    -- after a bag's last job, or at its first
     after_jobs : (x k : ℕ) (jobs : List Deferral) → m.hand ≡ jobs → m.sizes ≡ z → taken ≤ k + 1 → called + length m.hand ≤ suc k * z.bag_jobs → k < z.collect_bags → Fine (after_job m x k jobs)
     after_jobs x k (job ∷ jobs) hand same few calls below = (held, (few, calls, below))
     after_jobs x k [] hand same few calls below =

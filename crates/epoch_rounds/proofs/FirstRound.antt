@@ -45,7 +45,7 @@ use Rattle.epoch_rounds.proofs.QuietSteps.{Plan, IsNext, Known, IsStill, IsUnder
 use Rattle.epoch_rounds.proofs.QuietRounds.{runs_split, called_append, begun_by, goes_to_end, pins, Pinning, unpins, round, rounds}
 
 
--- behind the load that begins the scan
+-- after the load that begins the scan
 abbrev IsBeyond : Stage → Type 0
 IsBeyond (Scan e k) = Unit {0}
 IsBeyond (Advance e) = Unit {0}
@@ -54,7 +54,7 @@ IsBeyond (Calling x k) = Unit {0}
 IsBeyond End = Unit {0}
 IsBeyond _ = ⊥
 
--- up to that load; where the put isn't refused, nothing is held behind it
+-- up to that load; where the put isn't refused, nothing is held after it
 abbrev pub IsBefore : ℕ → Machine Deferral → Stage → Type 0
 IsBefore epoch m LoadSeal = Unit {0}
 IsBefore epoch m (Put seal) = seal ≤ epoch + 1
@@ -339,7 +339,7 @@ before_begun p g epoch next bound bags sizes sized jobs total called old new is_
     first [] e = λ full. e
     first (job ∷ jobs) e = tt
 
--- as it does behind the Pin of the first round
+-- as it does after the Pin of the first round
 pub flush_begins : (fresh s pinned begun : State) (earlier : List Entry) → IsFresh fresh → Runs fresh earlier s → (p : ℕ) → IsQuiet p s → s.epoch + 4 ≤ 2 ^ 63
     → (g : ℕ) (going : List Reply) → AllGoOn going → Runs s (call_to p Pin going (Done (Guard g))) pinned → TakesStep pinned (Begin p (Flush (Some g))) Began begun
     → Before p g s.epoch s.sizes begun
@@ -360,7 +360,7 @@ module _ (fresh s put new : State) (earlier before after others : List Entry) (p
   sized : IsSized s.sizes
   sized = subst IsSized (sym (sizes_stay fresh s earlier run)) is_fresh.in_range
 
-  -- right behind the put
+  -- right after the put
   at_put : Before p round_one.guard s.epoch s.sizes put
   at_put =
       let pin : List Entry = call_to p Pin round_one.pins (Done (Guard round_one.guard)) in

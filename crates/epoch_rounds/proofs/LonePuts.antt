@@ -45,7 +45,7 @@ use Rattle.epoch_rounds.proofs.FirstRound.{runs_linked}
 
 -- WHAT A CALL RESTS ON, BY ITS STAGE
 
--- Before the load of a seal a place is free; a release may come to it behind its collection. The put has room.
+-- Before the load of a seal a place is free; a release may come to it after its collection. The put has room.
 abbrev HasPlaceAt : Type 0 → Bool → Action → Stage → Type 0
 HasPlaceAt Open room a (Put seal) = room ≡ true
 HasPlaceAt Open room a LoadSeal = Open
@@ -95,7 +95,7 @@ module _ (Open : Type 0) (room : Bool) where
   unpinned DeferAction full = tt
   unpinned FlushAction full = tt
 
--- no put begins behind a put at once
+-- no put begins after a put at once
 pub none_putting : (a : Action) (full : Bool) → is_putting (after_put a full) ≡ false
 none_putting FlushAction full = refl
 none_putting DeferAction true = refl

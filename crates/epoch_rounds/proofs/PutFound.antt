@@ -62,7 +62,7 @@ module _ (p g epoch : ℕ) (sizes : Sizes) where
             }
       ]
 
--- the entries of the round are those before that state and those behind it
+-- the entries of the round are those before that state and those after it
 cut : (p : ℕ) (first : Entry) (pin unpin : List Entry) (going puts flushes last : List Reply) → going ≡ puts ++ flushes
     → pin ++ ((first ∷ goes_of p (going ++ last)) ++ unpin) ≡ (pin ++ (first ∷ goes_of p puts)) ++ (goes_of p (flushes ++ last) ++ unpin)
 cut p first pin unpin going puts flushes last whole =

@@ -170,7 +170,7 @@ fn other_words_are_told_how_the_program_is_called(rt: HostRuntime) -> Result<(),
     Ok(())
 }
 
-/// Keeps what is written to it. One write or flush is refused, behind so many others.
+/// Keeps what is written to it. One write or flush is refused, after so many others.
 #[derive(Drop)]
 struct Sink {
     taken: Vec<u8>,

@@ -23,7 +23,7 @@ load_apart change is = by_change change is
     by_change (FetchUpdate tries update) is = let apart : 108 ≡ 117 = first _ _ is in absurd (omega (arith, apart))
     by_change _ is = is
 
--- behind the word load nothing but a load is said
+-- after the word load nothing but a load is said
 pub load_only : (word text : List ℕ) → word ≡ codes "load" → ((g : Option ℕ) (s : Spot) → ¬ (SpellsLoad g s text))
     → (g : Option ℕ) (s : Spot) (change : Change) → ¬ (SpellsPointed word g s change text)
 load_only word text is none g s change says = by_change g change says
@@ -45,7 +45,7 @@ load_only word text is none g s change says = by_change g change says
     by_change g (FetchXor bits) says = other (FetchXor bits) says.0
     by_change g (FetchUpdate tries update) says = other (FetchUpdate tries update) says.0
 
--- behind any other word but store a change under a guard is
+-- after any other word but store a change under a guard is
 pub change_only : (word text : List ℕ) → word ≢ codes "load" → word ≢ codes "store" → (read : Option (Option ℕ × Spot × Change))
     → MatchOption read ((g : Option ℕ) (s : Spot) (change : Change) → IsWordOf change word → ¬ (SpellsUnder g s change text)) (λ all. IsWordOf all.2 word × SpellsUnder all.0 all.1 all.2 text)
     → MatchOption read ((g : Option ℕ) (s : Spot) (change : Change) → ¬ (SpellsPointed word g s change text)) (λ all. SpellsPointed word all.0 all.1 all.2 text)
@@ -72,7 +72,7 @@ change_only word text not_load not_store None none = λ g s change. by_change g 
     by_change g s (FetchXor bits) says = none g s (FetchXor bits) says.0 says.1
     by_change g s (FetchUpdate tries update) says = none g s (FetchUpdate tries update) says.0 says.1
 
--- nothing is said under a guard where nothing is said behind it
+-- nothing is said under a guard where nothing is said after it
 pub under_none : (word text rest : List ℕ) → others text ≡ Some rest
     → ((s : Spot) (change : Change) → IsWordOf change word → ¬ (SpellsSpotted s change rest))
     → (g : Option ℕ) (s : Spot) (change : Change) → IsWordOf change word → ¬ (SpellsUnder g s change text)

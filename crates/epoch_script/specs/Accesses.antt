@@ -72,7 +72,7 @@ SpellsSpotted spot change text = SpellsSpot spot (first_word text) × Behind (ot
 abbrev pub SpellsUnder : Option ℕ → Spot → Change → List ℕ → Type 0
 SpellsUnder guard spot change text = SpellsGuard guard (first_word text) × Behind (others text) (SpellsSpotted spot change)
 
--- behind its first word: a load, a store, which has no guard, or a change under a guard
+-- after its first word: a load, a store, which has no guard, or a change under a guard
 abbrev pub SpellsPointed : List ℕ → Option ℕ → Spot → Change → List ℕ → Type 0
 SpellsPointed word guard spot Load text = (word ≡ codes "load") × SpellsLoad guard spot text
 SpellsPointed word None spot (Store ptr) text = (word ≡ codes "store") × SpellsStore spot ptr text

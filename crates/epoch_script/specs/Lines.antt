@@ -48,7 +48,7 @@ SpellsCommand EndAll text = IsOneWord (codes "endall") text
 SpellsCommand Epoch text = IsOneWord (codes "epoch") text
 SpellsCommand (Word position) text = LeadsWith (codes "word") text (SpellsNumber position)
 
--- the first word writes this number, and so it is with what stands behind it
+-- the first word writes this number, and so it is with what stands after it
 abbrev pub Leading : ℕ → List ℕ → (List ℕ → Type 0) → Type 0
 Leading number text P = SpellsNumber number (first_word text) × Behind (others text) P
 

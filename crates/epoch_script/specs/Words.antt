@@ -11,12 +11,12 @@ abbrev pub before : ℕ → List ℕ → List ℕ
 before mark [] = []
 before mark (b ∷ bs) = if b == mark then [] else b ∷ before mark bs
 
--- what stands behind the first such byte, if there is one
+-- what stands after the first such byte, if there is one
 abbrev pub behind : ℕ → List ℕ → Option (List ℕ)
 behind mark [] = None
 behind mark (b ∷ bs) = if b == mark then Some bs else behind mark bs
 
--- what stands before the first space, the byte 32, and what stands behind it
+-- what stands before the first space, the byte 32, and what stands after it
 abbrev pub first_word : List ℕ → List ℕ
 first_word text = before 32 text
 
@@ -27,7 +27,7 @@ others text = behind 32 text
 abbrev pub IsOneWord : List ℕ → List ℕ → Type 0
 IsOneWord name text = (first_word text ≡ name) × (others text ≡ None)
 
--- there is such a byte, and so it is with what stands behind it
+-- there is such a byte, and so it is with what stands after it
 abbrev pub Behind : Option (List ℕ) → (List ℕ → Type 0) → Type 0
 Behind rest P = MatchOption rest ⊥ P
 
@@ -60,7 +60,7 @@ abbrev pub SpellsCell : Option Name → List ℕ → Type 0
 SpellsCell None text = text ≡ codes "null"
 SpellsCell (Some name) text = SpellsName name text
 
--- null or a name, and a tag behind a plus; no tag is the tag 0
+-- null or a name, and a tag after a plus; no tag is the tag 0
 abbrev pub SpellsPtr : Ptr → List ℕ → Type 0
 SpellsPtr ptr text = SpellsCell ptr.name (before 43 text) × MatchOption (behind 43 text) (ptr.tag ≡ 0) (SpellsNumber ptr.tag)
 

@@ -76,7 +76,7 @@ fn read_point(text: &str) -> Option<(Option<u64>, Spot, Change)>
     read_pointed(word, rest)
 }
 
-/// What a pointer call with this first word says behind it.
+/// What a pointer call with this first word says after it.
 fn read_pointed(word: &str, text: &str) -> Option<(Option<u64>, Spot, Change)>
     ensures { MatchOption result ((guard : Option ℕ) (spot : Spot) (change : Change) → ¬ SpellsPointed word.now guard spot change text.now) (λ all. SpellsPointed word.now all.0 all.1 all.2 text.now) }
 {
@@ -113,7 +113,7 @@ fn read_store(text: &str) -> Option<(Spot, Ptr)>
     Some((read_spot(spot)?, read_ptr(rest)?))
 }
 
-/// A change with this first word, and behind it its guard, where it is made, and its last words.
+/// A change with this first word, and after it its guard, where it is made, and its last words.
 fn read_under(word: &str, text: &str) -> Option<(Option<u64>, Spot, Change)>
     ensures { MatchOption result ((guard : Option ℕ) (spot : Spot) (change : Change) → IsWordOf change word.now → ¬ SpellsUnder guard spot change text.now) (λ all. IsWordOf all.2 word.now × SpellsUnder all.0 all.1 all.2 text.now) }
 {

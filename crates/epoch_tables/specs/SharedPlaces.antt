@@ -14,7 +14,7 @@ pub record PlaceBoard : Type 0 where
   pub capacity : ℕ
   pub table : TableId
 
--- where the word of a place stands: 128 bytes behind the one before
+-- where the word of a place stands: 128 bytes after the one before
 abbrev pub place_word_at : ℕ → ℕ
 place_word_at place = 16 * place
 

@@ -14,7 +14,7 @@ pub record Board : Type 0 where
   pub positions : ℕ
   pub table : TableId
 
--- where the word of a position stands: 128 bytes behind the one before
+-- where the word of a position stands: 128 bytes after the one before
 abbrev pub word_at : ℕ → ℕ
 word_at position = 16 * position + 16
 

@@ -63,7 +63,7 @@ module _ (m : Machine Deferral) (puts takes most : ℕ) where
   epoch_falls ReloadRepin e puts' asked few = omega arith
   epoch_falls _ e puts' asked few = absurd (cc)
 
-  -- behind the last word
+  -- after the last word
   scanned_falls : (e k takes' : ℕ) → k < m.sizes.positions → takes' ≤ most → left takes' (scanned e) < left takes (Scan e k)
   scanned_falls e k takes' there few = either_below (left takes') (e == 2 ^ 63 - 1) (Take e 0) (Advance e) _ (omega arith) (omega arith)
 
@@ -165,7 +165,7 @@ access_fits (Place v) true m n slots = omega arith
 access_fits (Point g spot (FetchUpdate tries by)) true m n slots = omega arith
 access_fits _ true m n slots = omega arith
 
--- behind the Begin of any call
+-- after the Begin of any call
 pub begun_fits : (c : Call) (seat : WorldSeat) (n : InStore) (slots : ℕ)
     → steps_left slots (begun_seat c seat) n < call_bound slots seat.machine.sizes n.most + 1
 begun_fits PinCall seat n slots = first_fits Pin seat.machine n slots

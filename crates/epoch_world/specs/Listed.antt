@@ -1,4 +1,4 @@
--- Steps that a world takes, and that are written down behind a list.
+-- Steps that a world takes, and that are written down after a list.
 use Rattle.std.specs.Prelude.{◌≡◌, ℕ, List, [], ◌∷◌, ◌++◌, map}
 use Rattle.epoch_laws.specs.declared.step.Call.{Call}
 use Rattle.epoch_laws.specs.declared.step.Entry.{Entry}

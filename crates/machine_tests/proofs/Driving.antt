@@ -51,7 +51,7 @@ stored_free : {J : Type 0} (m : Machine J) (s : Stage) → ask_at s ≡ Some Ask
 stored_free m StoreFree asked = refl
 stored_free m _ asked = absurd (cc asked)
 
--- behind that store the machine is at rest
+-- after that store the machine is at rest
 pub frees : {J : Type 0} (m : Machine J) → ask_at m.stage ≡ Some AskFree → (hears m m.stage Stored).stage ≡ Idle
 frees m asked = stored_free m m.stage asked
 

@@ -85,7 +85,7 @@ fn store(rt: &impl Abort, driven: &mut Driven, ask: Ask) {
     answer(rt, driven, Answer::Stored);
 }
 
-/// The last store of a release is asked for: behind it no action is under way.
+/// The last store of a release is asked for: after it no action is under way.
 #[tactic(auto, using(crate::proofs::Driving::frees))]
 fn free(rt: &impl Abort, driven: &mut Driven) {
     let Some(Ask::StoreFree) = driven.machine.ask() else {
@@ -239,7 +239,7 @@ fn a_first_pin_publishes_the_epoch_it_read_and_collects(rt: HostRuntime) -> Resu
     Ok(())
 }
 
-/// Cycles of which the first and each 128th behind it collects.
+/// Cycles of which the first and each 128th after it collects.
 fn cycles(rt: &impl Abort, driven: &mut Driven, bags: &mut BagQueue<u64>) {
     for pins in 0..300u64 {
         cycle(rt, driven, bags, pins == 0 || pins == 128 || pins == 256);

@@ -65,7 +65,7 @@ fn an_unchecked_deferral_under_an_unprotected_guard_is_called_at_once(
     Ok(())
 }
 
-/// Sees that the removal of the first name is kept where a bag or a place has room, and refused behind that.
+/// Sees that the removal of the first name is kept where a bag or a place has room, and refused after that.
 fn fill_and_be_refused(rt: &impl Abort, own: &mut LocalHandle<'_, u64>, mine: &Guard<'_, u64>) {
     // One job is held, and one in the only place.
     for job in 0..2u64 {

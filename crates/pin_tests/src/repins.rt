@@ -58,7 +58,7 @@ fn want_one_guard(rt: &impl Abort, handle: &LocalHandle<'_, u64>) {
     want(rt, "pinned, and the guards out", guards, (true, 1));
 }
 
-/// Repins `own`, whose guard this is, after three rounds of `other`. Answers how many calls there were behind these.
+/// Repins `own`, whose guard this is, after three rounds of `other`. Answers how many calls there were after these.
 fn repin_after_rounds<'c>(
     rt: &impl Abort,
     own: &mut LocalHandle<'c, u64>,

@@ -511,7 +511,7 @@ fn thrown_line(dice: &mut Dice) -> (u64, &'static str)
     (dice.throw(3), line)
 }
 
-/// A script of up to 60 lines of the grammar behind its shape and two registrations.
+/// A script of up to 60 lines of the grammar after its shape and two registrations.
 fn thrown_script(alloc: Global, dice: &mut Dice) -> Result<String, AllocError> {
     let start = dice.throw(3);
     let shape = (start, start + 1, "shape 2 2 1 1 2 4 # 0 3 2");

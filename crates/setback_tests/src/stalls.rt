@@ -128,7 +128,7 @@ fn want_room(rt: &impl Abort, what: &str, play: &Play, position: u64, wanted: Op
 }
 
 /// The first participant makes these calls and `deferrals`, and stalls after so many steps of a further call. It goes
-/// to its end behind all that the second one does. Answers whether it had ended before.
+/// to its end after all that the second one does. Answers whether it had ended before.
 fn stalls_once(
     rt: &impl Abort,
     alloc: Global,
@@ -234,7 +234,7 @@ fn before_its_store_a_pin_holds_nobody_back(rt: HostRuntime) -> Result<(), Fail>
 
 /// It has published epoch 0: the second one's pin advances the epoch once, and nothing does so again.
 #[test]
-fn behind_its_store_a_pin_keeps_the_epoch(rt: HostRuntime) -> Result<(), Fail> {
+fn after_its_store_a_pin_keeps_the_epoch(rt: HostRuntime) -> Result<(), Fail> {
     let mut play = Play::new(rt.alloc())?;
     play.stall(Call::Pin, 2)?;
     play.defer()?;

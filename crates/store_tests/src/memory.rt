@@ -31,7 +31,7 @@ const FIRST_TOLD: [Reply; 4] = [
     Reply::Refused(Fault::NotRegistered),
 ];
 
-/// Calls behind it, with the last reply of each, and how many jobs it calls.
+/// Calls after it, with the last reply of each, and how many jobs it calls.
 const CALLS: [(Call, Reply, usize); 10] = [
     (Call::Pin, Reply::Done(Answer::Guard(0)), 0),
     (Call::Defer(Some(0)), UNIT, 0),

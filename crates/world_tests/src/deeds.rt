@@ -124,7 +124,7 @@ fn done<S: BagStore<Job = Deferral>>(
     Ok(replies)
 }
 
-/// Does this, which has an end, and puts all replies behind those that are there.
+/// Does this, which has an end, and puts all replies after those that are there.
 fn add_done<S: BagStore<Job = Deferral>>(
     world: &mut World<S>,
     deed: Deed,
@@ -174,7 +174,7 @@ fn calls_of(deed: Deed) -> (u64, &'static [plain::Call], u64) {
     }
 }
 
-/// Begins a participant's call, goes on with it up to its end, and puts all replies behind those that are there.
+/// Begins a participant's call, goes on with it up to its end, and puts all replies after those that are there.
 pub fn call_by_steps<S: BagStore<Job = Deferral>>(
     world: &mut World<S>,
     participant: u64,
@@ -216,7 +216,7 @@ fn expected(alloc: Global, deed: Deed) -> Result<Vec<Reply>, Fail> {
     Ok(replies)
 }
 
-/// Puts what has to be told of this behind the replies that are there.
+/// Puts what has to be told of this after the replies that are there.
 fn add_expected(replies: &mut Vec<Reply>, deed: Deed) -> Result<(), Fail> {
     match deed {
         Deed::Takes(_, reply) => replies.push(reply.in_world())?,

@@ -111,7 +111,7 @@ impl<J: Drop> BagQueue<J> {
     }
 }
 
-/// Seals what is held and puts it behind the other bags.
+/// Seals what is held and puts it after the other bags.
 #[inline(never)]
 fn push_held<J: Default + Drop>(queue: &mut BagQueue<J>, seal: Epoch, held: &mut Bag<J>)
     requires { length queue.old.bags < queue.old.capacity }

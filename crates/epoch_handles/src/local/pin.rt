@@ -11,7 +11,7 @@ use crate::local::Local;
 use epoch_bags::Run;
 
 impl<'c, T, W> Local<'c, T, W> {
-    /// The steps of a pin behind its first load: publishes the epoch found, and loads the epoch again.
+    /// The steps of a pin after its first load: publishes the epoch found, and loads the epoch again.
     #[inline]
     fn publish_steps(&mut self, epoch: u64)
         requires seated { IsSeated self.old }
@@ -19,7 +19,7 @@ impl<'c, T, W> Local<'c, T, W> {
         requires within { epoch < 2 ^ 63 }
         ensures { PublishSteps self.old epoch self.new }
     {
-        // Read once: a field is read again behind each atomic step.
+        // Read once: a field is read again after each atomic step.
         let (collector, position) = (self.collector, self.position);
         let participants = &collector.participants;
         participants.publish(&mut self.seat, position, epoch);
@@ -60,7 +60,7 @@ impl<'c, T, W> Local<'c, T, W> {
             return false;
         }
         let epoch = self.load_epoch();
-        // Before the publish, since an exchange waits for the stores before it: behind the publish there is nothing
+        // Before the publish, since an exchange waits for the stores before it: after the publish there is nothing
         // left to store, and the exchange of the unpin comes soon.
         let collects = self.machine.pin_first(epoch);
         self.publish_steps(epoch);

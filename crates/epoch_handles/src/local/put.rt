@@ -51,7 +51,7 @@ impl<'c, T: Drop, W: Run> Local<'c, T, W> {
 
     /// A deferral into a full bag: the bag is put first. Hands the job back where each place was seen occupied.
     #[inline(never)]
-    pub(crate) fn defer_behind_a_put(&mut self, job: Job<W>) -> Result<(), Job<W>>
+    pub(crate) fn defer_after_a_put(&mut self, job: Job<W>) -> Result<(), Job<W>>
         requires ready { IsReady self.old }
         requires out { 0 < self.old.machine.guards }
         requires full { length self.old.machine.held ≡ self.old.machine.sizes.bag_jobs }

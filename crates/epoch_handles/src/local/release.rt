@@ -62,7 +62,7 @@ impl<'c, T: Drop, W: Run> Local<'c, T, W> {
         self.collect();
     }
 
-    /// What a release does behind its pin and the collection. Answers whether the position is free.
+    /// What a release does after its pin and the collection. Answers whether the position is free.
     fn leave(&mut self) -> bool
         requires seated { IsSeated self.old }
         requires rests { RestsAt self.old.claimer.me }

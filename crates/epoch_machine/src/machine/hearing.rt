@@ -110,7 +110,7 @@ impl<J: Default + Drop> Machine<J> {
         }
     }
 
-    /// Takes the last job out of the bag in hand, and goes on behind the bag.
+    /// Takes the last job out of the bag in hand, and goes on after the bag.
     #[inline(never)]
     fn give_last(&mut self) -> Option<J>
         requires last { length self.old.hand ≡ 1 }

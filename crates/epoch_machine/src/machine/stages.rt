@@ -130,7 +130,7 @@ impl<J: Default + Drop> Machine<J> {
     }
 }
 
-/// The stage behind a bag taken or a job called: `after` follows the collection, which takes `most` bags.
+/// The stage after a bag taken or a job called: `after` follows the collection, which takes `most` bags.
 pub(super) fn after_job(most: u64, after: Stage, expiry: u64, taken: u64, none_left: bool) -> Stage
     requires { taken < most }
     ensures value { result ≡ (if none_left then (if taken + 1 == most then after else Stage.Take expiry (taken + 1)) else Stage.Calling expiry taken) }
@@ -155,7 +155,7 @@ pub fn holds_up(epoch: u64, word: u64) -> bool
     word % 2 == 1 && word != 2 * epoch + 1
 }
 
-/// The stage behind a word that the scan of `epoch` has looked at.
+/// The stage after a word that the scan of `epoch` has looked at.
 pub(super) fn past_word(positions: u64, epoch: u64, next: u64, word: u64) -> Stage
     requires epoch { epoch < 2 ^ 63 }
     requires next { next < positions }

@@ -1,4 +1,4 @@
-//! What a machine is behind all asks of an action at once, for the actions that are written out step by step.
+//! What a machine is after all asks of an action at once, for the actions that are written out step by step.
 ghost use Rattle.std.specs.Prelude.{◌≡◌, ◌≢◌, ℕ, true, false, ◌+◌, ◌^◌, ◌<◌, length};
 ghost use Rattle.epoch_machine.specs.Machine.{begun, heard, ended, with_stage, after_collect, guards_after, StageFits};
 ghost use Rattle.epoch_machine.specs.declared.machine.Answer.TheVariants.{Epoch, Stored, Job};
@@ -32,7 +32,7 @@ impl<J> Machine<J> {
 }
 
 impl<J> Machine<J> {
-    /// Behind a pin with no guard counted, which published this epoch. Answers whether a collection follows;
+    /// After a pin with no guard counted, which published this epoch. Answers whether a collection follows;
     /// else the pin has ended.
     #[inline]
     pub fn pin_first(&mut self, epoch: u64) -> bool
@@ -58,7 +58,7 @@ impl<J> Machine<J> {
         }
     }
 
-    /// Behind a pin with guards counted, which asks nothing.
+    /// After a pin with guards counted, which asks nothing.
     #[inline]
     pub fn pin_again(&mut self)
         requires idle { self.old.stage ≡ Idle }
@@ -71,7 +71,7 @@ impl<J> Machine<J> {
         self.guards += 1;
     }
 
-    /// Behind the unpin of the only guard.
+    /// After the unpin of the only guard.
     #[inline]
     pub fn unpin_last(&mut self)
         requires idle { self.old.stage ≡ Idle }
@@ -83,7 +83,7 @@ impl<J> Machine<J> {
         self.guards = 0;
     }
 
-    /// Behind the unpin of one guard of more, which asks nothing.
+    /// After the unpin of one guard of more, which asks nothing.
     #[inline]
     pub fn unpin_one(&mut self)
         requires idle { self.old.stage ≡ Idle }
@@ -95,7 +95,7 @@ impl<J> Machine<J> {
         self.guards -= 1;
     }
 
-    /// Behind a repin with another number of guards than one, which asks nothing.
+    /// After a repin with another number of guards than one, which asks nothing.
     #[inline]
     pub fn repin_none(&mut self)
         requires idle { self.old.stage ≡ Idle }
@@ -106,7 +106,7 @@ impl<J> Machine<J> {
         self.full = false;
     }
 
-    /// Behind a repin that found this epoch. Where that was published already, nothing follows its first load.
+    /// After a repin that found this epoch. Where that was published already, nothing follows its first load.
     #[inline]
     pub fn repin_only(&mut self, epoch: u64)
         requires idle { self.old.stage ≡ Idle }
@@ -120,7 +120,7 @@ impl<J> Machine<J> {
         self.published = epoch;
     }
 
-    /// Behind a scan that gave this epoch.
+    /// After a scan that gave this epoch.
     #[inline]
     pub fn scanned(&mut self, epoch: u64)
         requires scans { self.old.stage ≡ LoadScan }
@@ -130,7 +130,7 @@ impl<J> Machine<J> {
         self.stage = Stage::Take(epoch, 0);
     }
 
-    /// Behind the load of the epoch that the held bag is sealed with.
+    /// After the load of the epoch that the held bag is sealed with.
     #[inline]
     pub fn sealed(&mut self, seal: u64)
         requires loads { self.old.stage ≡ LoadSeal }
@@ -152,7 +152,7 @@ impl<J> Machine<J> {
 }
 
 impl<J: Drop> Machine<J> {
-    /// Behind a deferral into a bag with room, which kept this job.
+    /// After a deferral into a bag with room, which kept this job.
     #[inline]
     pub fn keep_with_room(&mut self, job: J)
         requires idle { self.old.stage ≡ Idle }
@@ -164,7 +164,7 @@ impl<J: Drop> Machine<J> {
         self.held.push(job);
     }
 
-    /// Behind the pin of a release, which published this epoch. Answers whether a collection follows.
+    /// After the pin of a release, which published this epoch. Answers whether a collection follows.
     #[inline]
     pub fn release_pinned(&mut self, epoch: u64) -> bool
         requires idle { self.old.stage ≡ Idle }

@@ -122,7 +122,7 @@ fn defer_three(
     }
 }
 
-/// Makes a round for each number: its flush answers this, and so many jobs were called behind it.
+/// Makes a round for each number: its flush answers this, and so many jobs were called after it.
 fn rounds(
     rt: &impl Abort,
     handle: &mut LocalHandle<'_, u64>,

@@ -74,7 +74,7 @@ fn want_done(rt: &impl Abort, alloc: Global, outcome: &Outcome) -> Result<(), Fa
 }
 
 #[test]
-fn a_refused_allocation_ends_the_script_behind_the_lines_before_it(
+fn a_refused_allocation_ends_the_script_after_the_lines_before_it(
     rt: HostRuntime,
 ) -> Result<(), Fail> {
     let script = script_at_last(rt.alloc())?;

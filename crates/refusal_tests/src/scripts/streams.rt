@@ -21,7 +21,7 @@ const REFUSALS: [(ErrorKind, Ending, u8); 2] = [
 /// More writes than any telling of a bad line has.
 const MANY: u64 = 100;
 
-/// Refuses one call, and lets those before it and behind it pass.
+/// Refuses one call, and lets those before it and after it pass.
 #[derive(Drop)]
 struct Gate {
     before: u64,
@@ -86,7 +86,7 @@ fn run_from(alloc: Global, source: Source<'_>, at_once: usize) -> Result<Outcome
     })
 }
 
-/// The script is read so many bytes at once, and the read behind so many is refused.
+/// The script is read so many bytes at once, and the read after so many is refused.
 fn expect_read_refused(
     rt: &impl Abort,
     alloc: Global,
@@ -121,7 +121,7 @@ fn expect_each_read_refused(rt: &impl Abort, alloc: Global, at_once: usize) -> R
 }
 
 #[test]
-fn a_refused_read_ends_the_script_behind_the_lines_before_it(rt: HostRuntime) -> Result<(), Fail> {
+fn a_refused_read_ends_the_script_after_the_lines_before_it(rt: HostRuntime) -> Result<(), Fail> {
     expect_each_read_refused(&rt, rt.alloc(), 1)?;
     expect_each_read_refused(&rt, rt.alloc(), 7)?;
     expect_each_read_refused(&rt, rt.alloc(), 64)?;
@@ -142,7 +142,7 @@ fn run_into(alloc: Global, script: &str, sink: Sink) -> Result<Outcome, Fail> {
     })
 }
 
-/// The answers of a line are one write and one flush. Of these, the one behind so many is refused.
+/// The answers of a line are one write and one flush. Of these, the one after so many is refused.
 fn expect_write_refused(
     rt: &impl Abort,
     alloc: Global,
@@ -163,7 +163,7 @@ fn expect_write_refused(
 }
 
 #[test]
-fn a_refused_write_ends_the_script_behind_the_lines_before_it(rt: HostRuntime) -> Result<(), Fail> {
+fn a_refused_write_ends_the_script_after_the_lines_before_it(rt: HostRuntime) -> Result<(), Fail> {
     let script = script(rt.alloc())?;
     for writes in 0..2 * PRINTING {
         expect_write_refused(&rt, rt.alloc(), &script, writes)?;
@@ -184,7 +184,7 @@ fn a_script_of_which_nothing_is_refused_is_done_to_its_end(rt: HostRuntime) -> R
     want_ended(&rt, (0, 0), &outcome, (Ending::Finished, 0), &printed)
 }
 
-/// How the script ends, with a bad line behind it, where of what is told of that line the write or flush behind so many
+/// How the script ends, with a bad line after it, where of what is told of that line the write or flush after so many
 /// is refused.
 fn ending_of_telling(
     alloc: Global,

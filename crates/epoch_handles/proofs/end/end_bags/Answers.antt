@@ -6,7 +6,7 @@ use Rattle.epoch_bags.specs.Jobs.{IsCalled}
 use Rattle.epoch_handles.specs.Ends.{IsBagCalled}
 use Rattle.epoch_handles.proofs.end.end_bags.Goals as goal
 
--- the bag at this place is ended, and those behind it are as they were
+-- the bag at this place is ended, and those after it are as they were
 pub loop-place-preserved : goal.loop-place-preserved
 loop-place-preserved g c =
     let inv = c.loop-place.invariant in let at = c.loop-place.place in let bags = c.loop-place.bags in

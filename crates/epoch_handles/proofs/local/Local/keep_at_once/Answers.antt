@@ -9,7 +9,7 @@ use Rattle.epoch_handles.proofs.Driving.{drives_of}
 use Rattle.epoch_handles.proofs.Deferring.{keep_begins, job_kept, kept_at_once, keep_performed, ready_still, with_kept}
 use Rattle.epoch_handles.proofs.local.Local.keep_at_once.Goals as goal
 
--- the action ends behind the one answer
+-- the action ends after the one answer
 pub returns-clause-does : goal.returns-clause-does
 returns-clause-does g c =
     let h = c.args.self.now in let m = h.machine in let b = begun Defer m in let n = heard b (Deferred c.args.job) in record {

@@ -35,7 +35,7 @@ returns-then-guards-ne0-clause-ready g c = λ _.
       unpinned = λ none. absurd (omega arith);
     })
 
--- A first pin: three steps, behind which its guard is counted or a collection follows. The machine goes on between the
+-- A first pin: three steps, after which its guard is counted or a collection follows. The machine goes on between the
 -- first two.
 first_of : (g : Over) (c : goal.After-publish_steps g) → PinsFirst c.args.self.now c.load_epoch-epoch.result c.pin_first-collects.result c.publish_steps.new.self
 first_of g c = let told = c.pin_first-collects.ensures in

@@ -7,7 +7,7 @@ use Rattle.epoch_machine.specs.Machine.{Machine, begun, heard, ended, guards_aft
 use Rattle.epoch_handles.specs.Drives.{AnyJob, Drives}
 use Rattle.epoch_handles.specs.Handles.{sight_of}
 use Rattle.epoch_handles.proofs.Driving.{drives_none, drives_of}
-use Rattle.epoch_handles.proofs.StraightCalls.{reading, repin_begins, repin_asks_nothing, repin_leaves, repin_moved_leaves, repin_same_performed, repin_moved_performed, sight_behind, ready_with, rests_still, still_read, republished, pinned_behind}
+use Rattle.epoch_handles.proofs.StraightCalls.{reading, repin_begins, repin_asks_nothing, repin_leaves, repin_moved_leaves, repin_same_performed, repin_moved_performed, sight_after, ready_with, rests_still, still_read, republished, pinned_behind}
 use Rattle.epoch_handles.proofs.local.Local.repin.Goals as goal
 
 -- with another number of guards than one nothing is asked
@@ -43,7 +43,7 @@ returns-then-published-epoch-clause-does g c =
       over = (repin_leaves h.machine e one same).1;
       machine = subst (λ z. c.repin_only.new.self ≡ ended (heard (begun Repin z) (Epoch e))) steps.machine
           (c.repin_only.ensures.same (ap (λ (z : Machine (Job g.row.W.Denot)). z.published) steps.machine ∙ same));
-      drives = subst (λ z. Drives AnyJob h.collector.now.places.capacity (begun Repin h.machine) (sight_of h) (heard (begun Repin h.machine) (Epoch e)) z) (sym (sight_behind h n _ steps))
+      drives = subst (λ z. Drives AnyJob h.collector.now.places.capacity (begun Repin h.machine) (sight_of h) (heard (begun Repin h.machine) (Epoch e)) z) (sym (sight_after h n _ steps))
           (drives_of AnyJob h.collector.now.places.capacity _ _ _ _
           (repin_same_performed h.collector.now.places.capacity (begun Repin h.machine) (sight_of h) e (repin_begins h.machine one) c.load_epoch-epoch.ensures.rises));
     }
@@ -89,7 +89,7 @@ returns-clause-does g c =
       machine = subst (λ z. c.repin_only-2.new.self ≡ ended (heard (heard (heard (begun Repin z) (Epoch e)) Stored) (Epoch steps.again))) same
           (c.repin_only-2.ensures.moved (λ (is : c.load_epoch.new.self.machine.published ≡ e). moved (sym (ap (λ (z : Machine (Job g.row.W.Denot)). z.published) same) ∙ is)) steps.again);
       drives = subst (λ z. Drives AnyJob h.collector.now.places.capacity (begun Repin h.machine) (sight_of h) (heard (heard (heard (begun Repin h.machine) (Epoch e)) Stored) (Epoch steps.again)) z)
-          (sym (sight_behind h c.load_epoch.new.self _ steps.steps))
+          (sym (sight_after h c.load_epoch.new.self _ steps.steps))
           (drives_of AnyJob h.collector.now.places.capacity _ _ _ _
           (repin_moved_performed h.collector.now.places.capacity h.machine (sight_of h) e steps.again one moved steps.rises steps.rises_again));
     }

@@ -38,7 +38,7 @@ loop-position-preserved g c =
           passed within c.load_word-word.ensures.answer (sym c.holds_up.ensures ∙ c.if-holds_up.false) (c.load_word-word.ensures.steps c.load_epoch-epoch.result passed.scan);
     }
 
--- behind the last position
+-- after the last position
 pub returns-then-epoch-lt-GREATEST_EPOCH-clause-scans : goal.returns-then-epoch-lt-GREATEST_EPOCH-clause-scans
 returns-then-epoch-lt-GREATEST_EPOCH-clause-scans g c =
     let h = c.args.self.now in let seated = c.requires.seated in

@@ -7,7 +7,7 @@ use Rattle.epoch_machine.specs.Machine.{Machine, begun, heard, ended, guards_aft
 use Rattle.epoch_handles.specs.Drives.{AnyJob, Drives}
 use Rattle.epoch_handles.specs.Handles.{sight_of}
 use Rattle.epoch_handles.proofs.Driving.{drives_none, drives_of}
-use Rattle.epoch_handles.proofs.StraightCalls.{reading, unpin_begins, unpin_asks_nothing, unpin_leaves, unpin_performed, sight_behind, ready_with, rests_still}
+use Rattle.epoch_handles.proofs.StraightCalls.{reading, unpin_begins, unpin_asks_nothing, unpin_leaves, unpin_performed, sight_after, ready_with, rests_still}
 use Rattle.epoch_handles.proofs.local.Local.unpin.Goals as goal
 
 -- the last guard's unpin is one store
@@ -18,7 +18,7 @@ returns-then-guards-eq1-clause-does g c =
       last = heard (begun Unpin h.machine) Stored;
       over = (unpin_leaves h.machine one).1;
       machine = subst (λ z. c.unpin_last.new.self ≡ ended (heard (begun Unpin z) Stored)) steps.machine c.unpin_last.ensures;
-      drives = subst (λ z. Drives AnyJob h.collector.now.places.capacity (begun Unpin h.machine) (sight_of h) (heard (begun Unpin h.machine) Stored) z) (sym (sight_behind h n _ steps))
+      drives = subst (λ z. Drives AnyJob h.collector.now.places.capacity (begun Unpin h.machine) (sight_of h) (heard (begun Unpin h.machine) Stored) z) (sym (sight_after h n _ steps))
           (drives_of AnyJob h.collector.now.places.capacity _ _ _ _
           (unpin_performed h.collector.now.places.capacity (begun Unpin h.machine) (sight_of h) (unpin_begins h.machine one)));
     }

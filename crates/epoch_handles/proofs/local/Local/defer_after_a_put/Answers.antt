@@ -9,7 +9,7 @@ use Rattle.epoch_handles.proofs.Driving.{drives_on, drives_of}
 use Rattle.epoch_handles.proofs.StraightCalls.{seated_with}
 use Rattle.epoch_handles.proofs.Flushing.{pinned_with_guards}
 use Rattle.epoch_handles.proofs.Deferring.{put_comes_first, found_full, found_room, kept_alone, keep_performed, ready_still, with_kept}
-use Rattle.epoch_handles.proofs.local.Local.defer_behind_a_put.Goals as goal
+use Rattle.epoch_handles.proofs.local.Local.defer_after_a_put.Goals as goal
 
 -- the bag is put
 pub put-requires : goal.put-requires
