@@ -1,5 +1,5 @@
-//! Draws the scripts beside it, and says whether each picture is the one that is kept; and how scripts without a picture
-//! end.
+//! Draws the scripts beside it, and says whether each picture is the one that is kept; and how scripts without a
+//! picture end.
 #![tactic(auto)]
 
 mod endings;

@@ -42,7 +42,8 @@ BecomesBelow align becomes name tag = (exact : ℕ) × becomes name exact × (ta
 
 -- It is the word of a pointer that this becomes, whose tag is taken modulo the alignment.
 abbrev pub BecomesWord : (align : ℕ) → (Option Name → ℕ → Type 0) → ℕ → Type 0
-BecomesWord align becomes word = (name : Option Name) × (exact : ℕ) × becomes name exact × (word ≡ tagged_word name (exact % align))
+BecomesWord align becomes word =
+    (name : Option Name) × (exact : ℕ) × becomes name exact × (word ≡ tagged_word name (exact % align))
 
 -- Both become a pointer with one name and one tag.
 abbrev pub BecomesBoth : (Option Name → ℕ → Type 0) → (Option Name → ℕ → Type 0) → Type 0

@@ -17,7 +17,8 @@ IsReadUnder align id shared = IsRead align shared.name shared.tag × IsUnder id 
 -- so many calls, each on such a pointer and answered by some pointer, took the function from f to g
 abbrev pub AnswersCalls : {F A : Type 0} → (A → Type 0) → (F → A → Option A → F → Type 0) → F → ℕ → F → Type 0
 AnswersCalls on step f zero g = g ≡ f
-AnswersCalls {F} {A} on step f (suc calls) g = (h : F) × (x : A) × (next : A) × AnswersCalls on step f calls h × on x × step h x (Some next) g
+AnswersCalls {F} {A} on step f (suc calls) g =
+    (h : F) × (x : A) × (next : A) × AnswersCalls on step f calls h × on x × step h x (Some next) g
 
 -- The last call, one of at most so many, was on this pointer, was answered by some pointer, and left the function as h.
 abbrev pub WinsLast : {F A : Type 0} → (A → Type 0) → (F → A → Option A → F → Type 0) → F → ℕ → A → F → Type 0
@@ -30,6 +31,7 @@ Stops {F} on step f tries before h =
     (calls : ℕ) × (g : F) × (calls < tries) × AnswersCalls on step f calls g × step g before None h
 
 -- An update that isn't made was stopped by its function, or made each of its calls, and left the function as h.
-abbrev pub EndsUnmade : {F T : Type 0} → (Shared T → Type 0) → (F → Shared T → Option (Shared T) → F → Type 0) → F → ℕ → UpdateFault T → F → Type 0
+abbrev pub EndsUnmade : {F T : Type 0}
+    → (Shared T → Type 0) → (F → Shared T → Option (Shared T) → F → Type 0) → F → ℕ → UpdateFault T → F → Type 0
 EndsUnmade on step f tries (Stopped before) h = Stops on step f tries before h
 EndsUnmade on step f tries (RanOut seen) h = AnswersCalls on step f tries h

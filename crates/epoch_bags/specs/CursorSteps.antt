@@ -1,5 +1,6 @@
 -- How a put and a collection go over numbered places, one word a step, whatever the places are made of.
-use Rattle.std.specs.Prelude.{◌≡◌, ◌≢◌, ℕ, ◌+◌, ◌*◌, ◌<◌, ◌≤◌, ◌==◌, if◌then◌else◌, Some, None, length, slice_index_or, slice_set}
+use Rattle.std.specs.Prelude.{◌≡◌, ◌≢◌, ℕ, ◌+◌, ◌*◌, ◌<◌, ◌≤◌, ◌==◌, if◌then◌else◌, Some, None, length, slice_index_or}
+use Rattle.std.specs.Prelude.{slice_set}
 use Rattle.epoch_bags.specs.Bags.{Sealed, IsExpired}
 use Rattle.epoch_bags.specs.PlaceLists.{PlaceList, Fills, Empties}
 use Rattle.epoch_bags.specs.declared.queue.PutStep.{PutStep}
@@ -17,11 +18,13 @@ IsExpiredWord x word = (seal : ℕ) × (word ≡ 2 * seal + 1) × (seal + 2 ≤ 
 
 -- the put goes on behind this place, or has seen each place occupied
 abbrev pub PutPasses : ℕ → ℕ → PutStep → PutCursor → Type 0
-PutPasses places place step next = (next ≡ PutLook (place + 1)) × (step ≡ (if place + 1 == places then Full else PutAgain))
+PutPasses places place step next =
+    (next ≡ PutLook (place + 1)) × (step ≡ (if place + 1 == places then Full else PutAgain))
 
 -- the collection goes on behind this place, or was at the last one
 abbrev pub TakePasses : ℕ → ℕ → TakeStep → TakeCursor → Type 0
-TakePasses places place step next = (next ≡ TakeLook (place + 1)) × (step ≡ (if place + 1 == places then TakeEnds else TakeAgain))
+TakePasses places place step next =
+    (next ≡ TakeLook (place + 1)) × (step ≡ (if place + 1 == places then TakeEnds else TakeAgain))
 
 -- Of so many places: what a step does that finds a word at a place and leaves it, what a claim does that wins a place
 -- where it found a word, and what the step does that fills or empties a place.
@@ -60,7 +63,8 @@ module _ {J : Type 0} where
 
   -- the word there was this one, and the place is claimed now
   abbrev pub WinsPlace : PlaceList J → PlaceList J → ℕ → ℕ → Type 0
-  WinsPlace old new place word = (slice_index_or old.words place 0 ≡ word) × (new.words ≡ slice_set old.words place 2) × (new.bags ≡ old.bags)
+  WinsPlace old new place word =
+      (slice_index_or old.words place 0 ≡ word) × (new.words ≡ slice_set old.words place 2) × (new.bags ≡ old.bags)
 
   -- the put stands at a place, and where it has claimed it, the place has no bag
   abbrev pub PutStands : PlaceList J → PutCursor → Type 0
@@ -68,14 +72,18 @@ module _ {J : Type 0} where
   PutStands store (PutClaim place) = place < length store.words
   PutStands store (Fill place) = (place < length store.words) × (slice_index_or store.bags place None ≡ None)
 
-  -- The collection stands at a place, or after the last one. Where it has claimed the place, an expired bag is at home there.
+  -- The collection stands at a place, or after the last one. Where it has claimed the place, an expired bag is at home
+  -- there.
   abbrev pub TakeStands : ℕ → PlaceList J → TakeCursor → Type 0
   TakeStands x store (TakeLook place) = place ≤ length store.words
   TakeStands x store (TakeClaim place word) = (place < length store.words) × IsExpiredWord x word
-  TakeStands x store (Empty place) = (place < length store.words) × ((bag : Sealed J) × (slice_index_or store.bags place None ≡ Some bag) × IsExpired x bag)
+  TakeStands x store (Empty place) = (place < length store.words)
+      × ((bag : Sealed J) × (slice_index_or store.bags place None ≡ Some bag) × IsExpired x bag)
 
   abbrev pub PutsInList : PlaceList J → PlaceList J → Sealed J → PutCursor → PutStep → PutCursor → Type 0
-  PutsInList old new bag = PutGoes (length old.words) (FindsWord old new) (WinsPlace old new) (λ place. Fills old place bag new)
+  PutsInList old new bag =
+      PutGoes (length old.words) (FindsWord old new) (WinsPlace old new) (λ place. Fills old place bag new)
 
   abbrev pub TakesFromList : PlaceList J → PlaceList J → Sealed J → ℕ → TakeCursor → TakeStep → TakeCursor → Type 0
-  TakesFromList old new hand x = TakeGoes (length old.words) (FindsWord old new) (WinsPlace old new) (λ place. Empties old place hand new × IsExpired x hand) (new ≡ old) x
+  TakesFromList old new hand x = TakeGoes (length old.words) (FindsWord old new) (WinsPlace old new)
+      (λ place. Empties old place hand new × IsExpired x hand) (new ≡ old) x

@@ -1,5 +1,6 @@
 -- A list of places, each a word and a home for a bag.
-use Rattle.std.specs.Prelude.{◌≡◌, ◌≢◌, ℕ, ◌+◌, ◌*◌, ◌<◌, ◌≤◌, List, [], ◌∷◌, ◌++◌, Option, Some, None, IsSome, length, slice_index_or, slice_set, Bool, true, not, is_some, ◌==◌, ◌||◌, suc, refl}
+use Rattle.std.specs.Prelude.{◌≡◌, ◌≢◌, ℕ, ◌+◌, ◌*◌, ◌<◌, ◌≤◌, List, [], ◌∷◌, ◌++◌, Option, Some, None, IsSome, length}
+use Rattle.std.specs.Prelude.{slice_index_or, slice_set, Bool, true, not, is_some, ◌==◌, ◌||◌, suc, refl}
 use Rattle.std.proofs.Common.{ap}
 use Rattle.std.specs.Option.{option_to_list}
 use Rattle.epoch_bags.specs.Bags.{Sealed, IsExpired}

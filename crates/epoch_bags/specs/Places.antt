@@ -1,5 +1,6 @@
 -- Numbered places: their words, and the bags at home beside them.
-use Rattle.std.specs.Prelude.{◌≡◌, ℕ, ◌+◌, ◌-◌, ◌*◌, ◌/◌, ◌%◌, ◌==◌, nat_le, Bool, true, false, ◌&&◌, ◌||◌, if◌then◌else◌, List, [], ◌∷◌, Option, None, Some, drop, slice_get, slice_index_or}
+use Rattle.std.specs.Prelude.{◌≡◌, ℕ, ◌+◌, ◌-◌, ◌*◌, ◌/◌, ◌%◌, ◌==◌, nat_le, Bool, true, false, ◌&&◌, ◌||◌}
+use Rattle.std.specs.Prelude.{if◌then◌else◌, List, [], ◌∷◌, Option, None, Some, drop, slice_get, slice_index_or}
 use Rattle.epoch_bags.specs.Bags.{Sealed}
 use Rattle.epoch_bags.specs.PlaceLists.{PlaceList}
 use Rattle.epoch_bags.specs.declared.queue.places.PutCursor.{PutCursor}
@@ -82,5 +83,7 @@ home_expired x (Some bag) = one_if (nat_le (bag.seal + 2) x)
 -- place it is at, if its claim will be won, and those that the words after it tell of
 abbrev pub bags_ahead : {J : Type 0} → ℕ → PlaceList J → TakeCursor → ℕ
 bags_ahead x store (TakeLook at) = words_expired x (drop at store.words)
-bags_ahead x store (TakeClaim at word) = (if slice_index_or store.words at 0 == word then home_expired x (slice_index_or store.bags at None) else 0) + words_expired x (drop (at + 1) store.words)
-bags_ahead x store (Empty at) = home_expired x (slice_index_or store.bags at None) + words_expired x (drop (at + 1) store.words)
+bags_ahead x store (TakeClaim at word) = (if slice_index_or store.words at 0 == word
+    then home_expired x (slice_index_or store.bags at None) else 0) + words_expired x (drop (at + 1) store.words)
+bags_ahead x store (Empty at) =
+    home_expired x (slice_index_or store.bags at None) + words_expired x (drop (at + 1) store.words)

@@ -1,5 +1,6 @@
 -- A queue of bags with a bound.
-use Rattle.std.specs.Prelude.{◌≡◌, ℕ, suc, zero, ◌+◌, nat_le, if◌then◌else◌, List, [], ◌∷◌, Option, Some, None, Bool, true, false, length, refl}
+use Rattle.std.specs.Prelude.{◌≡◌, ℕ, suc, zero, ◌+◌, nat_le, if◌then◌else◌, List, [], ◌∷◌, Option, Some, None, Bool}
+use Rattle.std.specs.Prelude.{true, false, length, refl}
 use Rattle.std.proofs.Common.{ap}
 use Rattle.epoch_bags.specs.Bags.{Sealed}
 
@@ -15,7 +16,8 @@ first_occupied (suc places) zero = false ∷ first_occupied places zero
 first_occupied (suc places) (suc taken) = true ∷ first_occupied places taken
 
 -- the front leaves exactly where there is one and the condition holds of it
-abbrev pub PopsFrontWhere : {J : Type 0} → (Sealed J → Bool → Type 0) → List (Sealed J) → Option (Sealed J) → List (Sealed J) → Type 0
+abbrev pub PopsFrontWhere : {J : Type 0}
+    → (Sealed J → Bool → Type 0) → List (Sealed J) → Option (Sealed J) → List (Sealed J) → Type 0
 PopsFrontWhere says [] popped new = (popped ≡ None) × (new ≡ [])
 PopsFrontWhere says (bag ∷ bags) None new = says bag false × (new ≡ bag ∷ bags)
 PopsFrontWhere says (bag ∷ bags) (Some popped) new = says bag true × (popped ≡ bag) × (new ≡ bags)

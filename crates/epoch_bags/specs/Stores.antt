@@ -25,7 +25,8 @@ how_many (true ∷ all) = how_many all + 1
 how_many (false ∷ all) = how_many all
 
 -- the jobs held go into the store, in a bag sealed with this epoch; what was held is left empty, of the same limit
-pub record PutsJobs {J : Type 0} (seal : ℕ) (old : List (Sealed J)) (held : Unsealed J) (new : List (Sealed J)) (left : Unsealed J) : Type 0 where
+pub record PutsJobs {J : Type 0} (seal : ℕ) (old : List (Sealed J)) (held : Unsealed J) (new : List (Sealed J))
+    (left : Unsealed J) : Type 0 where
   pub inserted : IsInserted (record { seal = seal; jobs = held.jobs }) old new
   pub empty : left.jobs ≡ []
   pub limit : left.limit ≡ held.limit

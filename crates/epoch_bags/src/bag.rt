@@ -1,5 +1,6 @@
 //! Bags: jobs gathered by one participant, and then sealed with an epoch.
-ghost use Rattle.std.specs.Prelude.{◌≡◌, ◌<◌, ◌≤◌, ◌↔◌, [], ◌∷◌, ◌++◌, None, Some, length, IsTrue, IsErr, IfErr, OnOk, OnErr, MatchOption};
+ghost use Rattle.std.specs.Prelude.{◌≡◌, ◌<◌, ◌≤◌, ◌↔◌, [], ◌∷◌, ◌++◌, None, Some, length, IsTrue, IsErr, IfErr, OnOk};
+ghost use Rattle.std.specs.Prelude.{OnErr, MatchOption};
 ghost use Rattle.epoch_bags.specs.Bags.{IsExpired, is_empty};
 
 use crate::{Epoch, GREATEST_EPOCH};
@@ -27,7 +28,8 @@ impl<J> Model for Bag<J> {
 
     ghost view = { λ a. record { limit = a.limit; jobs = a.jobs.items } };
 
-    ghost invariant = { λ a. record { some : 0 < a.limit; most : a.limit ≤ 64; within : length a.jobs.items ≤ a.limit } };
+    ghost invariant = { λ a.
+        record { some : 0 < a.limit; most : a.limit ≤ 64; within : length a.jobs.items ≤ a.limit } };
 }
 
 impl<J: Default + Drop> Bag<J> {
@@ -182,7 +184,11 @@ impl<J> Model for SealedBag<J> {
 
     ghost view = { λ a. record { seal = a.seal; jobs = drop a.next a.jobs.items } };
 
-    ghost invariant = { λ a. record { within : a.seal ≤ 9223372036854775807; inside : a.next ≤ length a.jobs.items; most : length a.jobs.items ≤ 64 } };
+    ghost invariant = { λ a. record {
+      within : a.seal ≤ 9223372036854775807;
+      inside : a.next ≤ length a.jobs.items;
+      most : length a.jobs.items ≤ 64;
+    } };
 }
 
 impl<J> SealedBag<J> {

@@ -118,7 +118,8 @@ impl<W: Run> Job<W> {
 impl<W: Run> SealedBag<Job<W>> {
     /// Takes the oldest job out and calls it. `None` exactly where none is left.
     pub fn call_next<T: Drop>(&mut self, cells: &Cells<T>) -> Option<Called>
-        ensures called { MatchOption result (self.old.jobs ≡ []) (λ called. (job : _) × (self.old.jobs ≡ job ∷ self.new.jobs) × AnswersJob job called × IsCalled W.done job × IsTried W.Removing.tried job) }
+        ensures called { MatchOption result (self.old.jobs ≡ []) (λ called. (job : _) × (self.old.jobs ≡ job
+            ∷ self.new.jobs) × AnswersJob job called × IsCalled W.done job × IsTried W.Removing.tried job) }
         ensures none { result ≡ None → self.new ≡ self.old }
         ensures seal { self.new.seal ≡ self.old.seal }
     {

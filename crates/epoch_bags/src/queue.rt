@@ -3,7 +3,8 @@
 //! A put and a collection each keep a cursor, which says how far they have come. A store holds its bags at
 //! *places*; a collection *claims* a place before it takes the bag that is at home there. A claimed bag counts
 //! as in the store until it is taken.
-ghost use Rattle.std.specs.Prelude.{◌≡◌, ◌≢◌, ℕ, ◌+◌, ◌*◌, ◌<◌, ◌≤◌, List, Bool, true, false, Some, [], IfOk, IfErr, length, min, slice_get, ◌⊎◌};
+ghost use Rattle.std.specs.Prelude.{◌≡◌, ◌≢◌, ℕ, ◌+◌, ◌*◌, ◌<◌, ◌≤◌, List, Bool, true, false, Some, [], IfOk, IfErr};
+ghost use Rattle.std.specs.Prelude.{length, min, slice_get, ◌⊎◌};
 ghost use Rattle.epoch_bags.specs.Bags.{Sealed};
 ghost use Rattle.epoch_bags.specs.declared.queue.PutStep.{PutStep};
 ghost use Rattle.epoch_bags.specs.declared.queue.TakeStep.{TakeStep};
@@ -98,7 +99,8 @@ pub trait BagStore: Drop {
     /// What one step of a put of this bag does to the store and to the cursor, beyond what is said of every store.
     ghost PutMoves: { Self → Self → Sealed Self.Job → Self.Putting → PutStep → Self.Putting → Type 0 };
 
-    /// What one step of a collection for this epoch does, which leaves this bag in the hand, beyond what is said of every store.
+    /// What one step of a collection for this epoch does, which leaves this bag in the hand, beyond what is said of
+    /// every store.
     ghost TakeMoves: { ℕ → Self → Self → Sealed Self.Job → Self.Taking → TakeStep → Self.Taking → Type 0 };
 
     /// An empty store with room for so many bags, from 1 to [`MOST_BAGS`]. `NoMemory`: an allocation was refused.
@@ -118,7 +120,8 @@ pub trait BagStore: Drop {
 
         // As many bags stand as are queued, and an occupied place without one is claimed.
         ensures standing { how_many (standing self.now) ≡ length (queued self.now) }
-        ensures occupied { (place : ℕ) → slice_get (occupied self.now) place ≡ Some true → (slice_get (standing self.now) place ≡ Some true) ⊎ Reserved self.now place }
+        ensures occupied { (place : ℕ) → slice_get (occupied self.now) place ≡ Some true
+            → (slice_get (standing self.now) place ≡ Some true) ⊎ Reserved self.now place }
         ensures some { 0 < result }
         ensures most { result ≤ MOST_BAGS };
 
@@ -127,7 +130,8 @@ pub trait BagStore: Drop {
         ensures passed { passed result ≡ 0 }
         ensures few { puts_left (capacity self.now) result ≤ 3 * capacity self.now + 65 }
         ensures reserves { (place : ℕ) → ¬ (Reserves result place) }
-        ensures room { (place : ℕ) → slice_get (occupied self.now) place ≡ Some false → has_room self.now result ≡ true };
+        ensures room { (place : ℕ) → slice_get (occupied self.now) place ≡ Some false
+            → has_room self.now result ≡ true };
 
     /// One step of a put of the bag `held`, to be sealed with `seal`.
     ///
@@ -142,10 +146,12 @@ pub trait BagStore: Drop {
         ensures capacity { capacity self.new ≡ capacity self.old }
 
         // It is one atomic step, as the store says of its own.
-        ensures moves { PutMoves self.old self.new (record { seal = seal.number; jobs = held.old.jobs }) cursor.old result cursor.new }
+        ensures moves { PutMoves self.old self.new
+            (record { seal = seal.number; jobs = held.old.jobs }) cursor.old result cursor.new }
 
         // Full comes exactly where each place was seen occupied by some step of this put, which isn't done.
-        ensures occupied { result ≢ PutStep.Done → (place : ℕ) → passed cursor.old ≤ place → place < passed cursor.new → slice_get (occupied self.old) place ≡ Some true }
+        ensures occupied { result ≢ PutStep.Done → (place : ℕ) → passed cursor.old ≤ place → place < passed cursor.new
+            → slice_get (occupied self.old) place ≡ Some true }
         ensures full { result ≡ PutStep.Full → capacity self.old ≤ passed cursor.new }
         ensures again { result ≡ PutStep.Again → passed cursor.new < capacity self.old }
         ensures onward { result ≢ PutStep.Done → passed cursor.old ≤ passed cursor.new }
@@ -154,12 +160,14 @@ pub trait BagStore: Drop {
         ensures room { FindsRoom (has_room self.old cursor.old) result (has_room self.new cursor.new) }
 
         // Its number falls with each step.
-        ensures fewer { 0 < puts_left (capacity self.old) cursor.old → puts_left (capacity self.old) cursor.new < puts_left (capacity self.old) cursor.old }
+        ensures fewer { 0 < puts_left (capacity self.old) cursor.old
+            → puts_left (capacity self.old) cursor.new < puts_left (capacity self.old) cursor.old }
         ensures last { puts_left (capacity self.old) cursor.old ≡ 0 → result ≡ PutStep.Full }
         ensures claims { (place : ℕ) → Claimed self.new place → Claimed self.old place }
 
         // It claims for itself alone, and only between its steps that answer Again.
-        ensures reserves { (place : ℕ) → Reserved self.new place → Reserves cursor.new place ⊎ (Reserved self.old place × (¬ (Reserves cursor.old place))) }
+        ensures reserves { (place : ℕ) → Reserved self.new place
+            → Reserves cursor.new place ⊎ (Reserved self.old place × (¬ (Reserves cursor.old place))) }
         ensures lets_go { result ≢ PutStep.Again → (place : ℕ) → ¬ (Reserves cursor.new place) };
 
     /// The cursor of a collection that has taken no step.
@@ -168,7 +176,8 @@ pub trait BagStore: Drop {
         ensures claims { (place : ℕ) → ¬ (Claims result place) }
 
         // Where no bag is claimed and all are expired, all are ahead, or as many as a collection ever takes.
-        ensures ahead { (epoch : ℕ) → ((place : ℕ) → ¬ (Claimed self.now place)) → AllExpired epoch (queued self.now) → min 64 (ahead epoch self.now result) ≡ min 64 (length (queued self.now)) };
+        ensures ahead { (epoch : ℕ) → ((place : ℕ) → ¬ (Claimed self.now place)) → AllExpired epoch (queued self.now)
+            → min 64 (ahead epoch self.now result) ≡ min 64 (length (queued self.now)) };
 
     /// One step of a collection of bags that are expired for `expiry`. The bag `hand` has no jobs left.
     ///
@@ -187,14 +196,18 @@ pub trait BagStore: Drop {
         ensures moves { TakeMoves expiry.number self.old self.new hand.new cursor.old result cursor.new }
 
         // Its number falls with each step.
-        ensures fewer { 0 < takes_left (capacity self.old) cursor.old → takes_left (capacity self.old) cursor.new < takes_left (capacity self.old) cursor.old }
+        ensures fewer { 0 < takes_left (capacity self.old) cursor.old
+            → takes_left (capacity self.old) cursor.new < takes_left (capacity self.old) cursor.old }
         ensures last { takes_left (capacity self.old) cursor.old ≡ 0 → result ≡ TakeStep.Empty }
 
         // It claims for itself alone, and only between its steps that answer Again.
-        ensures claims { (place : ℕ) → Claimed self.new place → Claims cursor.new place ⊎ (Claimed self.old place × (¬ (Claims cursor.old place))) }
-        ensures reserves { (place : ℕ) → Reserved self.new place → Claims cursor.new place ⊎ (Reserved self.old place × (¬ (Claims cursor.old place))) }
+        ensures claims { (place : ℕ) → Claimed self.new place
+            → Claims cursor.new place ⊎ (Claimed self.old place × (¬ (Claims cursor.old place))) }
+        ensures reserves { (place : ℕ) → Reserved self.new place
+            → Claims cursor.new place ⊎ (Reserved self.old place × (¬ (Claims cursor.old place))) }
         ensures lets_go { result ≢ TakeStep.Again → (place : ℕ) → ¬ (Claims cursor.new place) }
-        ensures ahead { FindsBag (ahead expiry.number self.old cursor.old) result (ahead expiry.number self.new cursor.new) };
+        ensures ahead { FindsBag (ahead expiry.number self.old cursor.old) result
+            (ahead expiry.number self.new cursor.new) };
 
     /// Takes out one bag whatever its seal. `None` exactly where the store has none.
     ///

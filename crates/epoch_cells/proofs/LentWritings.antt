@@ -10,8 +10,36 @@ pub same_written : {T : Type 0} (writing : Writing T) (value : T)
     → (writes : writing.claim.right ≡ 2)
     → (same : (with_held writing.held value).name ≡ writing.name)
     → (fit : writing.name.slot ≡ writing.claim.tag)
-    → record { claim = writing.claim; held = with_held writing.held value; name = writing.name; writes = writes; named = same; fits = fit } ≡ with_written writing value
+    → record {
+      claim = writing.claim;
+      held = with_held writing.held value;
+      name = writing.name;
+      writes = writes;
+      named = same;
+      fits = fit;
+    } ≡ with_written writing value
 same_written writing value writes same fit =
-    ap (λ w. record { claim = writing.claim; held = with_held writing.held value; name = writing.name; writes = w; named = same; fits = fit }) (Coded-set coded_ℕ writing.claim.right 2 writes writing.writes)
-    ∙ ap (λ n. record { claim = writing.claim; held = with_held writing.held value; name = writing.name; writes = writing.writes; named = n; fits = fit }) (Coded-set the_row.coded writing.held.name writing.name same writing.named)
-    ∙ ap (λ f. record { claim = writing.claim; held = with_held writing.held value; name = writing.name; writes = writing.writes; named = writing.named; fits = f }) (Coded-set coded_ℕ writing.name.slot writing.claim.tag fit writing.fits)
+    ap (λ w. record {
+      claim = writing.claim;
+      held = with_held writing.held value;
+      name = writing.name;
+      writes = w;
+      named = same;
+      fits = fit;
+    }) (Coded-set coded_ℕ writing.claim.right 2 writes writing.writes)
+    ∙ ap (λ n. record {
+      claim = writing.claim;
+      held = with_held writing.held value;
+      name = writing.name;
+      writes = writing.writes;
+      named = n;
+      fits = fit;
+    }) (Coded-set the_row.coded writing.held.name writing.name same writing.named)
+    ∙ ap (λ f. record {
+      claim = writing.claim;
+      held = with_held writing.held value;
+      name = writing.name;
+      writes = writing.writes;
+      named = writing.named;
+      fits = f;
+    }) (Coded-set coded_ℕ writing.name.slot writing.claim.tag fit writing.fits)

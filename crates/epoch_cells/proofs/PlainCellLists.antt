@@ -1,5 +1,7 @@
 -- Writing one slot of a list of cells.
-use Rattle.std.proofs.Common.{◌≡◌, ◌≢◌, ℕ, zero, suc, ◌+◌, ◌-◌, ◌<◌, ◌==◌, ◌&&◌, ◌⊎◌, true, false, List, [], ◌∷◌, length, get_or, Option, Some, None, IfSome, Result, Ok, Err, IfOk, OnErr, is_some, slice_get, slice_set, if◌then◌else◌, refl, ap, sym, ◌∙◌, inl, inr, arith}
+use Rattle.std.proofs.Common.{◌≡◌, ◌≢◌, ℕ, zero, suc, ◌+◌, ◌-◌, ◌<◌, ◌==◌, ◌&&◌, ◌⊎◌, true, false, List, [], ◌∷◌}
+use Rattle.std.proofs.Common.{length, get_or, Option, Some, None, IfSome, Result, Ok, Err, IfOk, OnErr, is_some}
+use Rattle.std.proofs.Common.{slice_get, slice_set, if◌then◌else◌, refl, ap, sym, ◌∙◌, inl, inr, arith}
 use Rattle.std.proofs.lemmas.Grind.{common_steps}
 use Rattle.std.proofs.lemmas.Bool.{false≢true}
 use Rattle.std.proofs.lemmas.Bool.Decides.{eqb_tells}
@@ -11,7 +13,8 @@ get_set_same [] i x within = absurd (omega (arith, within))
 get_set_same (y ∷ xs) zero x within = refl
 get_set_same (y ∷ xs) (suc i) x within = get_set_same xs i x (omega (arith, within))
 
-pub get_set_other : {X : Type 0} (xs : List X) (i j : ℕ) (x : X) → j ≢ i → slice_get (slice_set xs i x) j ≡ slice_get xs j
+pub get_set_other : {X : Type 0} (xs : List X) (i j : ℕ) (x : X)
+    → j ≢ i → slice_get (slice_set xs i x) j ≡ slice_get xs j
 get_set_other [] i j x other = refl
 get_set_other (y ∷ xs) zero zero x other = absurd (other refl)
 get_set_other (y ∷ xs) zero (suc j) x other = refl
@@ -26,17 +29,20 @@ set_same (y ∷ xs) (suc i) x at = ap (λ l. y ∷ l) (set_same xs i x at)
 
 -- a slot without a value has none of any turn
 pub has_none : {V : Type 0} (cell : Numbered V) (turn : ℕ) → cell.value ≡ None → has cell turn ≡ false
-has_none cell turn none = rw none (elim (cell.turn == turn) as (λ same. same && false ≡ false) [ true ↦ refl | false ↦ refl ])
+has_none cell turn none =
+    rw none (elim (cell.turn == turn) as (λ same. same && false ≡ false) [ true ↦ refl | false ↦ refl ])
 
 -- a slot of one turn has no value of another
-pub has_other : {V : Type 0} (cell : Numbered V) (turn other : ℕ) → cell.turn ≡ turn → other ≢ turn → has cell other ≡ false
+pub has_other : {V : Type 0} (cell : Numbered V) (turn other : ℕ)
+    → cell.turn ≡ turn → other ≢ turn → has cell other ≡ false
 has_other cell turn other same differs = grind (arith, common_steps)
 
 -- the slot has no value, or one of this turn
 abbrev pub HasAtMost : {V : Type 0} → ℕ → Numbered V → Type 0
 HasAtMost turn cell = (cell.value ≡ None) ⊎ (cell.turn ≡ turn)
 
-pub if_has_other : {V : Type 0} (cell : Numbered V) (turn other : ℕ) → HasAtMost turn cell → other ≢ turn → if_has other (Some cell) ≡ None
+pub if_has_other : {V : Type 0} (cell : Numbered V) (turn other : ℕ)
+    → HasAtMost turn cell → other ≢ turn → if_has other (Some cell) ≡ None
 if_has_other cell turn other (inl none) differs = rw (has_none cell other none) refl
 if_has_other cell turn other (inr same) differs = rw (has_other cell turn other same differs) refl
 
@@ -51,7 +57,8 @@ set_keeps_others cells slot turn before after some at was is other_slot other_tu
     elim (eqb_tells other_slot slot) [
       | inl same ↦
           let within : slot - 1 < length cells = slice_get_within cells (slot - 1) before at in
-          let now : slice_get (slice_set cells (slot - 1) after) (slot - 1) ≡ Some after = get_set_same cells (slot - 1) after within in
+          let now : slice_get (slice_set cells (slot - 1) after) (slot - 1) ≡ Some after = get_set_same cells
+          (slot - 1) after within in
           let differs : other_turn ≢ turn = λ e. other (same.1, e) in
           rw same.1 (ap (if_has other_turn) now ∙ (if_has_other after turn other_turn is differs
           ∙ sym (ap (if_has other_turn) at ∙ if_has_other before turn other_turn was differs)))
@@ -84,7 +91,8 @@ found_at cells slot turn cell at there = record {
   is_cell = ap (if_has turn) at ∙ ap (λ found. if found then Some cell else None) there;
 }
 
-pub found_value : {V : Type 0} {cells : List (Numbered V)} {slot turn : ℕ} {cell : Numbered V} → Found cells slot turn cell → cell.value ≢ None
+pub found_value : {V : Type 0} {cells : List (Numbered V)} {slot turn : ℕ} {cell : Numbered V}
+    → Found cells slot turn cell → cell.value ≢ None
 found_value {turn = turn} {cell = cell} it none = false≢true (sym (has_none cell turn none) ∙ it.there)
 
 -- the cell read at a place of the list
@@ -157,7 +165,8 @@ pub entered : {V : Type 0} (value : Option V) (turn : ℕ) (before after : Numbe
 entered (Some v) turn before after at counted stays = inr (ap (λ cell. cell.turn) counted ∙ at)
 entered None turn before after at counted stays = inr (ap (λ cell. cell.turn) (stays refl) ∙ at)
 
-pub at_most : {V : Type 0} (turn : ℕ) (before after : Numbered V) → before.turn ≡ turn → (after.value ≡ None) ⊎ (after.turn ≡ before.turn) → HasAtMost turn after
+pub at_most : {V : Type 0} (turn : ℕ) (before after : Numbered V)
+    → before.turn ≡ turn → (after.value ≡ None) ⊎ (after.turn ≡ before.turn) → HasAtMost turn after
 at_most turn before after at (inl none) = inl none
 at_most turn before after at (inr same) = inr (same ∙ at)
 

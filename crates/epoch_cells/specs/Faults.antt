@@ -1,7 +1,10 @@
 -- The numbers of the faults.
 use Rattle.std.specs.Prelude.{ℕ}
 use Rattle.epoch_cells.specs.declared.fault.Fault.{Fault}
-use Rattle.epoch_cells.specs.declared.fault.Fault.TheVariants.{TableFull, CellsFull, BagsFull, NoMemory, Busy, Idle, NotRegistered, StrangerGuard, GuardsOut, TooManyGuards, ParticipantsLeft, Ended, NoSuchPlace, StrangerPointer, TicketsOut, TriesOut}
+use Rattle.epoch_cells.specs.declared.fault.Fault.TheVariants.{TableFull, CellsFull, BagsFull, NoMemory, Busy, Idle}
+use Rattle.epoch_cells.specs.declared.fault.Fault.TheVariants.{NotRegistered, StrangerGuard, GuardsOut, TooManyGuards}
+use Rattle.epoch_cells.specs.declared.fault.Fault.TheVariants.{ParticipantsLeft, Ended, NoSuchPlace, StrangerPointer}
+use Rattle.epoch_cells.specs.declared.fault.Fault.TheVariants.{TicketsOut, TriesOut}
 
 abbrev pub fault_number : Fault → ℕ
 fault_number TableFull = 1

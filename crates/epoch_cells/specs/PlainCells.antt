@@ -1,5 +1,6 @@
 -- Numbered cells as a plain list: what stands under a name, and what each call leaves.
-use Rattle.std.specs.Prelude.{◌≡◌, ℕ, ◌-◌, ◌<◌, ◌==◌, Bool, true, ◌&&◌, if◌then◌else◌, List, Option, Some, None, is_some, slice_get, slice_set}
+use Rattle.std.specs.Prelude.{◌≡◌, ℕ, ◌-◌, ◌<◌, ◌==◌, Bool, true, ◌&&◌, if◌then◌else◌, List, Option, Some, None}
+use Rattle.std.specs.Prelude.{is_some, slice_get, slice_set}
 use Rattle.epoch_cells.specs.declared.cells.Removal.{Removal}
 use Rattle.epoch_cells.specs.declared.cells.Removal.TheVariants.{Destroyed, HeldElsewhere, Gone}
 

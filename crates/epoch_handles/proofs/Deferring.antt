@@ -1,5 +1,6 @@
 -- A deferral: a job is kept in the held bag, after a put of the bag where it is full.
-use Rattle.std.proofs.Common.{◌≡◌, ◌∙◌, ℕ, ◌<◌, ◌⊎◌, if◌then◌else◌, Bool, true, false, List, [], ◌∷◌, ◌++◌, length, refl, sym, ap, subst, arith, inl, inr, ne_eqb, Some}
+use Rattle.std.proofs.Common.{◌≡◌, ◌∙◌, ℕ, ◌<◌, ◌⊎◌, if◌then◌else◌, Bool, true, false, List, [], ◌∷◌, ◌++◌, length}
+use Rattle.std.proofs.Common.{refl, sym, ap, subst, arith, inl, inr, ne_eqb, Some}
 use Rattle.std.proofs.lemmas.Bool.{eq-eqb, true≢false}
 use Rattle.epoch_tables.specs.SharedSteps.{RestsAt}
 use Rattle.epoch_bags.specs.declared.job.Job.{Job}
@@ -21,11 +22,13 @@ use Rattle.epoch_handles.proofs.StraightCalls.{reading, ready_with}
 module _ {J : Type 0} where
   -- with room left the job is kept at once
   pub keep_begins : (m : Machine J) → length m.held < m.sizes.bag_jobs → (begun Defer m).stage ≡ Keep
-  keep_begins m room = ap (λ (b : Bool). if b then LoadSeal else Keep) (ne_eqb (length m.held) m.sizes.bag_jobs (λ full. absurd (omega arith)))
+  keep_begins m room = ap (λ (b : Bool). if b then LoadSeal else Keep)
+      (ne_eqb (length m.held) m.sizes.bag_jobs (λ full. absurd (omega arith)))
 
   -- a full bag is put
   pub put_comes_first : (m : Machine J) → length m.held ≡ m.sizes.bag_jobs → (begun Defer m).stage ≡ LoadSeal
-  put_comes_first m full = ap (λ (b : Bool). if b then LoadSeal else Keep) (eq-eqb (length m.held) m.sizes.bag_jobs full)
+  put_comes_first m full =
+      ap (λ (b : Bool). if b then LoadSeal else Keep) (eq-eqb (length m.held) m.sizes.bag_jobs full)
 
   -- HOW THE JOB IS KEPT
 
@@ -33,34 +36,53 @@ module _ {J : Type 0} where
   abbrev pub with_kept : Machine J → List J → J → Machine J
   with_kept m held job = record m { stage = End; action = Defer; full = false; held = held ++ job ∷ [] }
 
-  pub job_kept : (m b n : Machine J) (job : J) → length m.held < m.sizes.bag_jobs → b ≡ begun Defer m → n ≡ heard b (Deferred job) → n ≡ with_kept m m.held job
+  pub job_kept : (m b n : Machine J) (job : J)
+      → length m.held < m.sizes.bag_jobs → b ≡ begun Defer m → n ≡ heard b (Deferred job) → n ≡ with_kept m m.held job
   job_kept m b n job room begins is = is ∙ ap (λ (z : Machine J). heard z (Deferred job)) begins
       ∙ ap (λ (s : Stage). heard (record (begun Defer m) { stage = s }) (Deferred job)) (keep_begins m room)
 
-  pub kept_at_once : (m n : Machine J) (job : J) → length m.held < m.sizes.bag_jobs → n ≡ ended (heard (begun Defer m) (Deferred job)) → n ≡ ended (with_kept m m.held job)
-  kept_at_once m n job room is = is ∙ ap ended (job_kept m (begun Defer m) (heard (begun Defer m) (Deferred job)) job room refl refl)
+  pub kept_at_once : (m n : Machine J) (job : J) → length m.held < m.sizes.bag_jobs
+      → n ≡ ended (heard (begun Defer m) (Deferred job)) → n ≡ ended (with_kept m m.held job)
+  kept_at_once m n job room is =
+      is ∙ ap ended (job_kept m (begun Defer m) (heard (begun Defer m) (Deferred job)) job room refl refl)
 
-  pub keep_performed : (places : ℕ) (m : Machine J) (v : Sight J) (job : J) → m.stage ≡ Keep → Drives NoJob places m v (heard m (Deferred job)) v
+  pub keep_performed : (places : ℕ) (m : Machine J) (v : Sight J) (job : J)
+      → m.stage ≡ Keep → Drives NoJob places m v (heard m (Deferred job)) v
   keep_performed places m v job at =
-      subst (λ (s : Stage). let n : Machine J = record m { stage = s } in Drives NoJob places n v (heard n (Deferred job)) v) (sym at)
-      (λ c. (c, record { ask = KeepJob; reply = Heard (Deferred job) } ∷ [], one_performed places _ _ _ (record { asked = refl; is_reply = tt; performs = (refl, refl); machine = refl }), (tt, tt)))
+      subst (λ (s : Stage).
+      let n : Machine J = record m { stage = s } in
+      Drives NoJob places n v (heard n (Deferred job)) v) (sym at)
+      (λ c. (
+        c,
+        record { ask = KeepJob; reply = Heard (Deferred job) } ∷ [],
+        one_performed places _ _ _ (record { asked = refl; is_reply = tt; performs = (refl, refl); machine = refl }),
+        (tt, tt),
+      ))
 
   -- WHAT A PUT LEAVES
 
   -- The put of the machine b has ended: the bag is in a place, or is still held.
   abbrev pub PutEnded : (b n : Machine J) → Type 0
-  PutEnded b n = (n ≡ record b { stage = after_put b.action false; full = false; held = [] }) ⊎ (n ≡ record b { stage = after_put b.action true; full = true })
+  PutEnded b n = (n ≡ record b { stage = after_put b.action false; full = false; held = [] })
+      ⊎ (n ≡ record b { stage = after_put b.action true; full = true })
 
-  pub found_full : (m b n : Machine J) → b ≡ begun Defer m → PutEnded b n → n.full ≡ true → n ≡ record m { stage = End; action = Defer; full = true }
+  pub found_full : (m b n : Machine J)
+      → b ≡ begun Defer m → PutEnded b n → n.full ≡ true → n ≡ record m { stage = End; action = Defer; full = true }
   found_full m b n begins (inl done) full = absurd (true≢false (sym full ∙ ap (λ (z : Machine J). z.full) done))
-  found_full m b n begins (inr occupied) full = occupied ∙ ap (λ (z : Machine J). record z { stage = after_put z.action true; full = true }) begins
+  found_full m b n begins (inr occupied) full =
+      occupied ∙ ap (λ (z : Machine J). record z { stage = after_put z.action true; full = true }) begins
 
-  pub found_room : (m b n : Machine J) → b ≡ begun Defer m → PutEnded b n → n.full ≡ false → n ≡ record m { stage = Keep; action = Defer; full = false; held = [] }
-  found_room m b n begins (inl done) room = done ∙ ap (λ (z : Machine J). record z { stage = after_put z.action false; full = false; held = [] }) begins
-  found_room m b n begins (inr occupied) room = absurd (true≢false (sym (ap (λ (z : Machine J). z.full) occupied) ∙ room))
+  pub found_room : (m b n : Machine J) → b ≡ begun Defer m → PutEnded b n → n.full ≡ false
+      → n ≡ record m { stage = Keep; action = Defer; full = false; held = [] }
+  found_room m b n begins (inl done) room =
+      done ∙ ap (λ (z : Machine J). record z { stage = after_put z.action false; full = false; held = [] }) begins
+  found_room m b n begins (inr occupied) room =
+      absurd (true≢false (sym (ap (λ (z : Machine J). z.full) occupied) ∙ room))
 
   -- the job is kept alone in the bag after the one that was put
-  pub kept_alone : (m n o : Machine J) (job : J) → n ≡ record m { stage = Keep; action = Defer; full = false; held = [] } → o ≡ heard n (Deferred job) → o ≡ with_kept m [] job
+  pub kept_alone : (m n o : Machine J) (job : J)
+      → n ≡ record m { stage = Keep; action = Defer; full = false; held = [] } → o ≡ heard n (Deferred job)
+      → o ≡ with_kept m [] job
   kept_alone m n o job at is = is ∙ ap (λ (z : Machine J). heard z (Deferred job)) at
 
 -- WHAT A HANDLE KNOWS

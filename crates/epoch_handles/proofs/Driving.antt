@@ -2,7 +2,8 @@
 use Rattle.std.proofs.Common.{ℕ, [], ◌∷◌, ◌++◌, refl, subst}
 use Rattle.epoch_machine.specs.Machine.{Machine}
 use Rattle.epoch_machine.specs.Asks.{Log, Exchange, Reply, Heard, PutStepped, TakeStepped, JobGiven}
-use Rattle.epoch_handles.specs.Drives.{Sight, Situation, Exchanges, Performed, HoldsOfGiven, GivesOnly, NoJob, Reaches, Drives}
+use Rattle.epoch_handles.specs.Drives.{Sight, Situation, Exchanges, Performed, HoldsOfGiven, GivesOnly, NoJob, Reaches}
+use Rattle.epoch_handles.specs.Drives.{Drives}
 
 module _ {J : Type 0} where
   -- one exchange, and no more
@@ -16,13 +17,15 @@ module _ {J : Type 0} where
       → Performed places before log between
       → Performed places between more after
       → Performed places before (log ++ more) after
-  performed_on places before between after [] more same further = subst (λ z. Performed places z more after) same further
+  performed_on places before between after [] more same further =
+      subst (λ z. Performed places z more after) same further
   performed_on places before between after (x ∷ log) more (next, exchanges, behind) further =
       (next, exchanges, performed_on places next between after log more behind further)
 
   -- WHICH JOBS WERE GIVEN
 
-  pub gives_on : (IsSuch : J → Type 0) (log more : Log J) → GivesOnly IsSuch log → GivesOnly IsSuch more → GivesOnly IsSuch (log ++ more)
+  pub gives_on : (IsSuch : J → Type 0) (log more : Log J)
+      → GivesOnly IsSuch log → GivesOnly IsSuch more → GivesOnly IsSuch (log ++ more)
   gives_on IsSuch [] more first further = further
   gives_on IsSuch (x ∷ log) more first further = (first.0, gives_on IsSuch log more first.1 further)
 
@@ -37,7 +40,8 @@ module _ {J : Type 0} where
   pub gives_also : (IsSuch IsSo : J → Type 0) → ((job : J) → IsSuch job → IsSo job)
       → (log : Log J) → GivesOnly IsSuch log → GivesOnly IsSo log
   gives_also IsSuch IsSo also [] such = tt
-  gives_also IsSuch IsSo also (x ∷ log) such = (also_given IsSuch IsSo also x.reply such.0, gives_also IsSuch IsSo also log such.1)
+  gives_also IsSuch IsSo also (x ∷ log) such =
+      (also_given IsSuch IsSo also x.reply such.0, gives_also IsSuch IsSo also log such.1)
 
   -- WHAT IS DRIVEN
 
@@ -50,8 +54,12 @@ module _ {J : Type 0} where
       → Drives IsSuch places m v o w
   drives_on IsSuch places m n o v u w first second = λ c.
       let one = first c in
-      let two = second one.0 in
-      (two.0, one.1 ++ two.1, performed_on places _ _ _ one.1 two.1 one.2 two.2, gives_on IsSuch one.1 two.1 one.3 two.3)
+      let two = second one.0 in (
+        two.0,
+        one.1 ++ two.1,
+        performed_on places _ _ _ one.1 two.1 one.2 two.2,
+        gives_on IsSuch one.1 two.1 one.3 two.3,
+      )
 
   -- what is such is also as here
   pub drives_also : (IsSuch IsSo : J → Type 0) → ((job : J) → IsSuch job → IsSo job)
@@ -73,8 +81,11 @@ module _ {J : Type 0} where
       → (more : Log J) → Performed places between more after → GivesOnly IsSuch more
       → Reaches IsSuch places m v after
   reaches_on IsSuch places m v between after first more further such = λ c.
-      let one = first c in
-      (one.0 ++ more, performed_on places _ between after one.0 more one.1 further, gives_on IsSuch one.0 more one.2 such)
+      let one = first c in (
+        one.0 ++ more,
+        performed_on places _ between after one.0 more one.1 further,
+        gives_on IsSuch one.0 more one.2 such,
+      )
 
   pub reached : (IsSuch : J → Type 0) (places : ℕ) (m : Machine J) (v : Sight J) (after : Situation J)
       → Reaches IsSuch places m v after

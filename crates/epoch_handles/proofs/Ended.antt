@@ -12,7 +12,8 @@ module _ {T W : Type 0} where
     last = ends.last;
     over = ends.over;
     machine = ends.machine;
-    drives = drives_also IsSuch IsSo also h.collector.now.places.capacity h.machine ends.last (sight_of h) (sight_of n) ends.drives;
+    drives = drives_also IsSuch IsSo also h.collector.now.places.capacity h.machine ends.last (sight_of h)
+        (sight_of n) ends.drives;
   }
 
   -- whichever jobs it gave

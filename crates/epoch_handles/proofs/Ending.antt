@@ -16,7 +16,8 @@ module _ {J : Type 0} where
       → CallsBags IsCalled places v bags w
       → CallsBags IsCalled places w more u
       → CallsBags IsCalled places v (bags ++ more) u
-  calls_behind IsCalled places v w u [] more same then = subst (λ (z : PlaceView J). CallsBags IsCalled places z more u) same then
+  calls_behind IsCalled places v w u [] more same then =
+      subst (λ (z : PlaceView J). CallsBags IsCalled places z more u) same then
   calls_behind IsCalled places v w u (bag ∷ bags) more (between, tried, called, behind) then =
       (between, tried, called, calls_behind IsCalled places between w u bags more behind then)
 
@@ -40,4 +41,5 @@ pub from_there : {W : Type 0} {done : W → Type 0} {places : ℕ} {v w u : Plac
     → v ≡ w
     → CallsEach done places v u tries jobs
     → CallsEach done places w u tries jobs
-from_there {done = done} {places = places} {u = u} {tries = tries} {jobs = jobs} same ends = subst (λ z. CallsEach done places z u tries jobs) same ends
+from_there {done = done} {places = places} {u = u} {tries = tries} {jobs = jobs} same ends =
+    subst (λ z. CallsEach done places z u tries jobs) same ends

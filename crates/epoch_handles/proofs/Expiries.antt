@@ -1,5 +1,6 @@
 -- A collection is for an epoch that its seat has read or stored.
-use Rattle.std.proofs.Common.{◌≡◌, ℕ, ◌+◌, ◌-◌, ◌^◌, ◌≤◌, ◌==◌, if◌then◌else◌, Bool, true, false, List, [], ◌∷◌, length, Option, Some, None, refl, sym, ap, subst, arith}
+use Rattle.std.proofs.Common.{◌≡◌, ℕ, ◌+◌, ◌-◌, ◌^◌, ◌≤◌, ◌==◌, if◌then◌else◌, Bool, true, false, List, [], ◌∷◌, length}
+use Rattle.std.proofs.Common.{Option, Some, None, refl, sym, ap, subst, arith}
 use Rattle.epoch_bags.specs.declared.queue.PutStep.{PutStep}
 use Rattle.epoch_bags.specs.declared.queue.PutStep.TheVariants.{Again as PutAgain, Done, Full}
 use Rattle.epoch_bags.specs.declared.queue.TakeStep.{TakeStep}
@@ -9,10 +10,17 @@ use Rattle.epoch_machine.specs.declared.machine.Action.TheVariants.{Pin, Unpin, 
 use Rattle.epoch_machine.specs.declared.machine.Answer.{Answer}
 use Rattle.epoch_machine.specs.declared.machine.Answer.TheVariants.{Epoch, Word, Stored, Job}
 use Rattle.epoch_machine.specs.declared.machine.Ask.{Ask}
-use Rattle.epoch_machine.specs.declared.machine.Ask.TheVariants.{LoadEpoch, LoadWord, StorePinned, StoreRepinned, StoreUnpinned as AskUnpinned, StoreFree as AskFree, StoreEpoch, TakeBag, KeepJob, CallJob}
+use Rattle.epoch_machine.specs.declared.machine.Ask.TheVariants.{LoadEpoch, LoadWord, StorePinned, StoreRepinned}
+use Rattle.epoch_machine.specs.declared.machine.Ask.TheVariants.{StoreUnpinned as AskUnpinned, StoreFree as AskFree}
+use Rattle.epoch_machine.specs.declared.machine.Ask.TheVariants.{StoreEpoch, TakeBag, KeepJob, CallJob}
 use Rattle.epoch_machine.specs.declared.machine.Stage.{Stage}
-use Rattle.epoch_machine.specs.declared.machine.Stage.TheVariants.{LoadPin, StorePin, ReloadPin, LoadScan, Scan, Advance, Take, Calling, LoadSeal, Keep, LoadRepin, StoreRepin, ReloadRepin, StoreUnpinned, StoreFree, End}
-use Rattle.epoch_machine.specs.Machine.{Machine, ask_at, begun, hears, put_heard, took_heard, gives, after_collect, after_put, after_unpin, after_job, scanned, past_word, holds_up, first_stage, rest, is_empty}
+use Rattle.epoch_machine.specs.declared.machine.Stage.TheVariants.{LoadPin, StorePin, ReloadPin, LoadScan, Scan}
+use Rattle.epoch_machine.specs.declared.machine.Stage.TheVariants.{Advance, Take, Calling, LoadSeal, Keep, LoadRepin}
+use Rattle.epoch_machine.specs.declared.machine.Stage.TheVariants.{StoreRepin, ReloadRepin, StoreUnpinned, StoreFree}
+use Rattle.epoch_machine.specs.declared.machine.Stage.TheVariants.{End}
+use Rattle.epoch_machine.specs.Machine.{Machine, ask_at, begun, hears, put_heard, took_heard, gives, after_collect}
+use Rattle.epoch_machine.specs.Machine.{after_put, after_unpin, after_job, scanned, past_word, holds_up, first_stage}
+use Rattle.epoch_machine.specs.Machine.{rest, is_empty}
 use Rattle.epoch_machine.specs.Asks.{Reply, Heard, PutStepped, TakeStepped, JobGiven, Log, told}
 use Rattle.epoch_handles.specs.Drives.{Sight, Situation, Performs, Performed}
 use Rattle.epoch_handles.specs.Told.{IsExpiryWithin, AreExpiriesWithin}
@@ -41,7 +49,8 @@ collected_seen seen Repin held = tt
 collected_seen seen Defer held = tt
 collected_seen seen Flush held = tt
 
-either_seen : (seen : ℕ) (b : Bool) (s t : Stage) → StageSeen seen s → StageSeen seen t → StageSeen seen (if b then s else t)
+either_seen : (seen : ℕ) (b : Bool) (s t : Stage)
+    → StageSeen seen s → StageSeen seen t → StageSeen seen (if b then s else t)
 either_seen seen true s t first second = first
 either_seen seen false s t first second = second
 
@@ -80,7 +89,8 @@ unfolding ask_in
 same_ask ask other same = ap ask_in same
 
 -- a stage that asks for a store of the epoch is the one that advances to it
-stored_by : (J : Type 0) (seen : ℕ) (s : Stage) (ask : Ask) → ask_at s ≡ Some ask → ((e : ℕ) → ask ≡ StoreEpoch e → e ≤ seen) → IsSeenBy {J = J} seen s Stored
+stored_by : (J : Type 0) (seen : ℕ) (s : Stage) (ask : Ask)
+    → ask_at s ≡ Some ask → ((e : ℕ) → ask ≡ StoreEpoch e → e ≤ seen) → IsSeenBy {J = J} seen s Stored
 stored_by J seen (Advance e) ask is within = within (e + 1) (sym (same_ask (StoreEpoch (e + 1)) ask is))
 stored_by J seen _ ask is within = tt
 
@@ -109,17 +119,21 @@ ask_within seen s ask is at = subst (IsWithinAsk seen) is (stage_within seen s a
 word_seen : (seen positions e k w : ℕ) → e ≤ seen → StageSeen seen (past_word positions e k w)
 word_seen seen positions e k w at =
     either_seen seen (holds_up e w) (Take e 0) _ at
-    (either_seen seen (k + 1 == positions) (scanned e) (Scan e (k + 1)) (either_seen seen (e == 2 ^ 63 - 1) (Take e 0) (Advance e) at at) at)
+    (either_seen seen (k + 1 == positions) (scanned e) (Scan e (k + 1))
+    (either_seen seen (e == 2 ^ 63 - 1) (Take e 0) (Advance e) at at) at)
 
 module _ {J : Type 0} where
   job_seen : (seen : ℕ) (m : Machine J) (x k : ℕ) (jobs : List J) → x ≤ seen → StageSeen seen (after_job m x k jobs)
   job_seen seen m x k jobs at =
       either_seen seen (is_empty jobs) _ (Calling x k)
-      (either_seen seen (k + 1 == m.sizes.collect_bags) (after_collect m.action m.held) (Take x (k + 1)) (collected_seen seen m.action m.held) at) at
+      (either_seen seen (k + 1 == m.sizes.collect_bags) (after_collect m.action m.held) (Take x (k + 1))
+      (collected_seen seen m.action m.held) at) at
 
-  heard_seen : (seen : ℕ) (m : Machine J) (s : Stage) (a : Answer J) → m.stage ≡ s → StageSeen seen s → IsSeenBy seen s a → StageSeen seen (hears m s a).stage
+  heard_seen : (seen : ℕ) (m : Machine J) (s : Stage) (a : Answer J)
+      → m.stage ≡ s → StageSeen seen s → IsSeenBy seen s a → StageSeen seen (hears m s a).stage
   heard_seen seen m LoadPin (Epoch e) is at by = tt
-  heard_seen seen m ReloadPin (Epoch e) is at by = either_seen seen (m.pins == 1) LoadScan (after_collect m.action m.held) tt (collected_seen seen m.action m.held)
+  heard_seen seen m ReloadPin (Epoch e) is at by =
+      either_seen seen (m.pins == 1) LoadScan (after_collect m.action m.held) tt (collected_seen seen m.action m.held)
   heard_seen seen m LoadScan (Epoch e) is at by = by
   heard_seen seen m LoadSeal (Epoch e) is at by = tt
   heard_seen seen m LoadRepin (Epoch e) is at by = either_seen seen (m.published == e) End (StoreRepin e) tt tt
@@ -133,17 +147,20 @@ module _ {J : Type 0} where
   heard_seen seen m Keep (Job job) is at by = tt
   heard_seen seen m s a is at by = subst (StageSeen seen) (sym is) at
 
-  took_seen : (seen : ℕ) (m : Machine J) (s : Stage) (step : TakeStep) (jobs : List J) → m.stage ≡ s → StageSeen seen s → StageSeen seen (took_heard m s step jobs).stage
+  took_seen : (seen : ℕ) (m : Machine J) (s : Stage) (step : TakeStep) (jobs : List J)
+      → m.stage ≡ s → StageSeen seen s → StageSeen seen (took_heard m s step jobs).stage
   took_seen seen m (Take x k) TakeAgain jobs is at = subst (StageSeen seen) (sym is) at
   took_seen seen m (Take x k) TakeEnds jobs is at = collected_seen seen m.action m.held
   took_seen seen m (Take x k) Got jobs is at = job_seen seen m x k jobs at
   took_seen seen m s step jobs is at = subst (StageSeen seen) (sym is) at
 
-  given_seen : (seen : ℕ) (m : Machine J) (s : Stage) (jobs : List J) → m.stage ≡ s → StageSeen seen s → StageSeen seen (gives m s jobs).stage
+  given_seen : (seen : ℕ) (m : Machine J) (s : Stage) (jobs : List J)
+      → m.stage ≡ s → StageSeen seen s → StageSeen seen (gives m s jobs).stage
   given_seen seen m (Calling x k) jobs is at = job_seen seen m x k jobs at
   given_seen seen m s jobs is at = subst (StageSeen seen) (sym is) at
 
-  put_step_seen : (seen : ℕ) (m : Machine J) (step : PutStep) → StageSeen seen m.stage → StageSeen seen (put_heard m step).stage
+  put_step_seen : (seen : ℕ) (m : Machine J) (step : PutStep)
+      → StageSeen seen m.stage → StageSeen seen (put_heard m step).stage
   put_step_seen seen m PutAgain at = at
   put_step_seen seen m Done at = put_seen seen m.action false
   put_step_seen seen m Full at = put_seen seen m.action true
@@ -154,7 +171,8 @@ module _ {J : Type 0} where
       → Performs places before ask (Heard a) after
       → IsSeenBy after.sight.words.seen before.machine.stage a
   unfolding stored_epoch
-  answer_seen places before after LoadEpoch (Epoch e) asked (rises, is, start) = let seen = ap (λ (z : Sight J). z.words.seen) is in omega arith
+  answer_seen places before after LoadEpoch (Epoch e) asked (rises, is, start) =
+      let seen = ap (λ (z : Sight J). z.words.seen) is in omega arith
   answer_seen places before after (LoadWord k) (Word x) asked performs = tt
   answer_seen places before after (StorePinned e) Stored asked performs =
       stored_by J after.sight.words.seen before.machine.stage (StorePinned e) asked (λ x is. absurd (cc is))
@@ -177,8 +195,10 @@ module _ {J : Type 0} where
       → StageSeen after.sight.words.seen before.machine.stage
       → StageSeen after.sight.words.seen (told before.machine reply).stage
   told_seen places before after ask (Heard a) asked performs at =
-      heard_seen after.sight.words.seen before.machine before.machine.stage a refl at (answer_seen places before after ask a asked performs)
-  told_seen places before after ask (PutStepped step) asked performs at = put_step_seen after.sight.words.seen before.machine step at
+      heard_seen after.sight.words.seen before.machine before.machine.stage a refl at
+      (answer_seen places before after ask a asked performs)
+  told_seen places before after ask (PutStepped step) asked performs at =
+      put_step_seen after.sight.words.seen before.machine step at
   told_seen places before after ask (TakeStepped step jobs) asked performs at =
       took_seen after.sight.words.seen before.machine before.machine.stage step jobs refl at
   told_seen places before after ask (JobGiven job) asked performs at =

@@ -20,7 +20,8 @@ pub record GoesOn {J : Type 0} (m : Machine J) (e : ℕ) (collects : Bool) (n : 
   pub stops : collects ≡ false → (again : ℕ) → (told_of_pin m e again).stage ≡ End
   pub ends : collects ≡ false → (again : ℕ) → n ≡ ended (told_of_pin m e again)
 
-keeps_sizes : {J : Type 0} (m n : Machine J) (e : ℕ) (collects : Bool) → m.guards ≡ 0 → GoesOn m e collects n → n.sizes ≡ m.sizes
+keeps_sizes : {J : Type 0} (m n : Machine J) (e : ℕ) (collects : Bool)
+    → m.guards ≡ 0 → GoesOn m e collects n → n.sizes ≡ m.sizes
 keeps_sizes m n e true none goes = ap (λ (z : Machine _). z.sizes) (goes.follows refl 0) ∙ (pin_leaves m e 0 none).0
 keeps_sizes m n e false none goes = ap (λ (z : Machine _). z.sizes) (goes.ends refl 0) ∙ (pin_leaves m e 0 none).0
 
@@ -35,7 +36,8 @@ module _ {T W : Type 0} where
     again = publish.again;
     rises = rises;
     rises_again = publish.rises;
-    steps = subst (λ z. Steps h w (after_epoch (after_own z (Some e)) publish.again)) load.knows (steps_on h n w _ _ load publish.steps);
+    steps = subst (λ z. Steps h w (after_epoch (after_own z (Some e)) publish.again)) load.knows
+        (steps_on h n w _ _ load publish.steps);
   }
 
   -- the participant is seated at the publish, with the machine that has gone on
@@ -45,7 +47,8 @@ module _ {T W : Type 0} where
       → GoesOn n.machine e collects m
       → IsSeated (record n { machine = m })
   still_seated h n m e collects none load goes =
-      seated_with n m (keeps_sizes n.machine m e collects (ap (λ (z : Machine (Job W)). z.guards) load.machine ∙ none) goes) load.seated
+      seated_with n m
+      (keeps_sizes n.machine m e collects (ap (λ (z : Machine (Job W)). z.guards) load.machine ∙ none) goes) load.seated
 
   -- The pin as its steps and its machine tell of it, each for itself: the steps are those of a pin that leaves the
   -- machine as it was.
@@ -62,8 +65,10 @@ module _ {T W : Type 0} where
       → PublishSteps (record n { machine = m }) e w
       → PinsFirst h e collects w
   pins_first h n w m e collects none rises load goes publish =
-      let at_load : GoesOn h.machine e collects m = subst (λ (z : Machine (Job W)). GoesOn z e collects m) load.machine goes in
-      let moved : GoesOn h.machine e collects w.machine = subst (λ (z : Machine (Job W)). GoesOn h.machine e collects z) (sym publish.steps.machine) at_load in
+      let at_load : GoesOn h.machine e collects m =
+      subst (λ (z : Machine (Job W)). GoesOn z e collects m) load.machine goes in
+      let moved : GoesOn h.machine e collects w.machine = subst (λ (z : Machine (Job W)). GoesOn h.machine e collects z)
+      (sym publish.steps.machine) at_load in
       record {
         none = none;
         steps = record {
@@ -71,7 +76,8 @@ module _ {T W : Type 0} where
           rises = rises;
           rises_again = publish.rises;
           steps = record {
-            seated = seated_with w h.machine (sym (keeps_sizes h.machine w.machine e collects none moved)) publish.steps.seated;
+            seated = seated_with w h.machine
+                (sym (keeps_sizes h.machine w.machine e collects none moved)) publish.steps.seated;
             knows = publish.steps.knows ∙ ap (λ z. after_epoch (after_own z (Some e)) publish.again) load.knows;
             claimer = publish.steps.claimer ∙ load.claimer;
             machine = refl;

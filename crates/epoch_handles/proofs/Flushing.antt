@@ -1,5 +1,6 @@
 -- A flush from its parts: how it begins, what its put and its collection leave, and that the two are its asks.
-use Rattle.std.proofs.Common.{◌≡◌, ◌∙◌, ℕ, ◌<◌, ◌⊎◌, if◌then◌else◌, Bool, true, false, List, [], refl, sym, ap, subst, arith, inl, inr, Some}
+use Rattle.std.proofs.Common.{◌≡◌, ◌∙◌, ℕ, ◌<◌, ◌⊎◌, if◌then◌else◌, Bool, true, false, List, [], refl, sym, ap, subst}
+use Rattle.std.proofs.Common.{arith, inl, inr, Some}
 use Rattle.epoch_tables.specs.SharedSteps.{RestsAt}
 use Rattle.epoch_bags.specs.Jobs.{IsCalled}
 use Rattle.epoch_bags.specs.declared.job.Job.{Job}
@@ -10,7 +11,8 @@ use Rattle.epoch_machine.specs.declared.machine.Stage.TheVariants.{End, LoadScan
 use Rattle.epoch_handles.specs.declared.local.Local.{Local}
 use Rattle.epoch_machine.specs.Machine.{Machine, begun, ended, is_empty, after_collect, after_put, guards_after}
 use Rattle.epoch_handles.specs.Drives.{NoJob, Drives}
-use Rattle.epoch_handles.specs.Handles.{IsSeated, IsReady, IsSame, IsPinned, KeepsPin, Collects, Puts, IsDriven, DoesAndCalls, sight_of}
+use Rattle.epoch_handles.specs.Handles.{IsSeated, IsReady, IsSame, IsPinned, KeepsPin, Collects, Puts, IsDriven}
+use Rattle.epoch_handles.specs.Handles.{DoesAndCalls, sight_of}
 use Rattle.epoch_handles.proofs.Driving.{drives_none, drives_of, drives_on}
 use Rattle.epoch_handles.proofs.StraightCalls.{reading, ready_with, seated_with}
 
@@ -70,8 +72,10 @@ module _ {J : Type 0} where
 
   -- bags are collected next, whatever came of the put
   put_comes_to_scan : (n o : Machine J) → n.action ≡ Flush → IsPut n o → o.stage ≡ LoadScan
-  put_comes_to_scan n o flush (inl is) = ap (λ (z : Machine J). z.stage) is ∙ ap (λ (a : Action). after_put a false) flush
-  put_comes_to_scan n o flush (inr is) = ap (λ (z : Machine J). z.stage) is ∙ ap (λ (a : Action). after_put a true) flush
+  put_comes_to_scan n o flush (inl is) =
+      ap (λ (z : Machine J). z.stage) is ∙ ap (λ (a : Action). after_put a false) flush
+  put_comes_to_scan n o flush (inr is) =
+      ap (λ (z : Machine J). z.stage) is ∙ ap (λ (a : Action). after_put a true) flush
 
 module _ {T W : Type 0} where
   -- WHAT A HANDLE KEEPS
@@ -112,7 +116,8 @@ module _ {T W : Type 0} where
     pin = record { published = refl; read = refl };
     flushes = flush_begun h.machine m is;
     scans = ap (λ (z : Machine (Job W)). z.stage) is ∙ flush_scans h.machine none;
-    drives = subst (λ (z : Machine (Job W)). Drives NoJob h.collector.now.places.capacity z (sight_of h) m (sight_of h)) is (drives_none NoJob h.collector.now.places.capacity m (sight_of h));
+    drives = subst (λ (z : Machine (Job W)). Drives NoJob h.collector.now.places.capacity z (sight_of h) m (sight_of h))
+        is (drives_none NoJob h.collector.now.places.capacity m (sight_of h));
   }
 
   -- a held bag is put first
@@ -129,7 +134,8 @@ module _ {T W : Type 0} where
         pin = record { published = puts.pin.published; read = puts.pin.read };
         flushes = put_flushes h.machine m n.machine flushes puts.machine;
         scans = put_comes_to_scan m n.machine flushes.action puts.machine;
-        drives = subst (λ (z : Machine (Job W)). Drives NoJob h.collector.now.places.capacity z (sight_of h) n.machine (sight_of n)) is puts.drives;
+        drives = subst (λ (z : Machine (Job W)). Drives NoJob h.collector.now.places.capacity z (sight_of h) n.machine
+            (sight_of n)) is puts.drives;
       }
 
   -- The flush of h has nothing left to ask at o.
@@ -142,17 +148,26 @@ module _ {T W : Type 0} where
     pub ends : o.machine.stage ≡ End
     pub calls : IsDriven (IsCalled done) (record h { machine = begun Flush h.machine }) o
 
-  pub collection_ends : (done : W → Type 0) (h n o : Local T W) → ComesToScan h n → Collects done n o → HasFlushed done h o
+  pub collection_ends : (done : W → Type 0) (h n o : Local T W)
+      → ComesToScan h n → Collects done n o → HasFlushed done h o
   collection_ends done h n o comes collects = record {
     seated = collects.seated;
     rests = collects.rests;
-    same = record { position = collects.same.position ∙ comes.same.position; collector = collects.same.collector ∙ comes.same.collector };
-    pin = record { published = collects.pin.published ∙ comes.pin.published; read = collects.pin.read ∙ comes.pin.read };
+    same = record {
+      position = collects.same.position ∙ comes.same.position;
+      collector = collects.same.collector ∙ comes.same.collector;
+    };
+    pin =
+        record { published = collects.pin.published ∙ comes.pin.published; read = collects.pin.read ∙ comes.pin.read };
     flushes = flushes_still h.machine n.machine o.machine _ _ _ _ collects.machine comes.flushes;
-    ends = ap (λ (z : Machine (Job W)). z.stage) collects.machine ∙ ap (λ (a : Action). after_collect a n.machine.held) comes.flushes.action;
-    calls = drives_on (IsCalled done) h.collector.now.places.capacity (begun Flush h.machine) n.machine o.machine (sight_of h) (sight_of n) (sight_of o)
-        (drives_of (IsCalled done) h.collector.now.places.capacity (begun Flush h.machine) n.machine (sight_of h) (sight_of n) comes.drives)
-        (subst (λ z. Drives (IsCalled done) z.now.places.capacity n.machine (sight_of n) o.machine (sight_of o)) comes.same.collector collects.calls);
+    ends = ap (λ (z : Machine (Job W)). z.stage) collects.machine
+        ∙ ap (λ (a : Action). after_collect a n.machine.held) comes.flushes.action;
+    calls = drives_on (IsCalled done) h.collector.now.places.capacity (begun Flush h.machine) n.machine o.machine
+        (sight_of h) (sight_of n) (sight_of o)
+        (drives_of (IsCalled done) h.collector.now.places.capacity (begun Flush h.machine) n.machine (sight_of h)
+        (sight_of n) comes.drives)
+        (subst (λ z. Drives (IsCalled done) z.now.places.capacity n.machine (sight_of n) o.machine (sight_of o))
+        comes.same.collector collects.calls);
   }
 
   -- THE WHOLE
@@ -161,7 +176,8 @@ module _ {T W : Type 0} where
       → HasFlushed done h o
       → m ≡ ended o.machine
       → DoesAndCalls done h Flush (record o { machine = m })
-  flush_does done h o m flushed is = record { last = o.machine; over = flushed.ends; machine = is; drives = flushed.calls }
+  flush_does done h o m flushed is =
+      record { last = o.machine; over = flushed.ends; machine = is; drives = flushed.calls }
 
   -- it stays pinned as it was, with its guards
   pub flush_ready : (done : W → Type 0) (h o : Local T W) (m : Machine (Job W))
@@ -171,10 +187,13 @@ module _ {T W : Type 0} where
       → m ≡ ended o.machine
       → IsReady (record o { machine = m })
   flush_ready done h o m ready out flushed is =
-      let counted : m.guards ≡ h.machine.guards = ap (λ (z : Machine (Job W)). z.guards) is ∙ none_counted o.machine flushed.flushes.action ∙ flushed.flushes.guards in
-      let still : m.published ≡ h.machine.published = ap (λ (z : Machine (Job W)). z.published) is ∙ flushed.flushes.published in
+      let counted : m.guards ≡ h.machine.guards = ap (λ (z : Machine (Job W)). z.guards) is
+      ∙ none_counted o.machine flushed.flushes.action ∙ flushed.flushes.guards in
+      let still : m.published ≡ h.machine.published = ap (λ (z : Machine (Job W)). z.published) is
+      ∙ flushed.flushes.published in
       let first = reading h.seat.me.0.first_read (ready.agrees.read out) in
-      ready_with o m flushed.seated flushed.rests (ap (λ (z : Machine (Job W)). z.sizes) is) (ap (λ (z : Machine (Job W)). z.stage) is) (record {
+      ready_with o m flushed.seated flushed.rests (ap (λ (z : Machine (Job W)). z.sizes) is)
+      (ap (λ (z : Machine (Job W)). z.stage) is) (record {
         published = λ _. flushed.pin.published ∙ ready.agrees.published out ∙ ap (λ (k : ℕ). Some k) (sym still);
         read = λ _. (first.0, flushed.pin.read ∙ first.1);
         unpinned = λ none. absurd (omega arith);

@@ -15,6 +15,15 @@ pub loses_one_more : (position : ℕ) (looked : List (Option ℕ)) (found : List
     → word ≢ 0
     → FindsEachTaken (position + 1) (looked ++ Some position ∷ []) (found ++ word ∷ [])
 loses_one_more position looked found word (places, (epoch, taken, words, as_many, lost)) other =
-    let in_order = ap (λ (positions : List (Option ℕ)). positions ++ Some position ∷ []) places ∙ sym (one_more position) in
-    let more = ap (λ (all : List ℕ). all ++ word ∷ []) words in
-    (in_order, (epoch, taken ++ word ∷ [], more, grind (arith, elements, as_many), All-push (λ (x : ℕ). x ≢ 0) taken word lost other))
+    let in_order = ap (λ (positions : List (Option ℕ)). positions ++ Some position ∷ []) places
+    ∙ sym (one_more position) in
+    let more = ap (λ (all : List ℕ). all ++ word ∷ []) words in (
+      in_order,
+      (
+        epoch,
+        taken ++ word ∷ [],
+        more,
+        grind (arith, elements, as_many),
+        All-push (λ (x : ℕ). x ≢ 0) taken word lost other,
+      ),
+    )

@@ -1,5 +1,6 @@
 -- What the parts of a release do, and what a release is of them.
-use Rattle.std.proofs.Common.{◌≡◌, ◌≢◌, ◌∙◌, ℕ, ◌⊎◌, Bool, true, false, List, [], ◌∷◌, refl, sym, ap, subst, arith, None, inl, inr}
+use Rattle.std.proofs.Common.{◌≡◌, ◌≢◌, ◌∙◌, ℕ, ◌⊎◌, Bool, true, false, List, [], ◌∷◌, refl, sym, ap, subst, arith}
+use Rattle.std.proofs.Common.{None, inl, inr}
 use Rattle.std.proofs.lemmas.Bool.{true≢false, false≢true}
 use Rattle.epoch_tables.specs.TableSteps.{after_own, after_free}
 use Rattle.epoch_tables.specs.SharedSteps.{RestsAt}
@@ -12,15 +13,18 @@ use Rattle.epoch_machine.specs.declared.machine.Answer.TheVariants.{Epoch, Store
 use Rattle.epoch_machine.specs.declared.machine.Ask.TheVariants.{StoreFree}
 use Rattle.epoch_machine.specs.declared.machine.Sizes.{Sizes}
 use Rattle.epoch_machine.specs.declared.machine.Stage.{Stage}
-use Rattle.epoch_machine.specs.declared.machine.Stage.TheVariants.{End, LoadSeal, StoreUnpinned as StageUnpinned, StoreFree as StageFree}
+use Rattle.epoch_machine.specs.declared.machine.Stage.TheVariants.{End, LoadSeal, StoreUnpinned as StageUnpinned}
+use Rattle.epoch_machine.specs.declared.machine.Stage.TheVariants.{StoreFree as StageFree}
 use Rattle.epoch_handles.specs.declared.local.Local.{Local}
-use Rattle.epoch_machine.specs.Machine.{Machine, begun, heard, ended, fresh, guards_after, is_empty, after_unpin, after_put, after_collect, with_stage}
+use Rattle.epoch_machine.specs.Machine.{Machine, begun, heard, ended, fresh, guards_after, is_empty, after_unpin}
+use Rattle.epoch_machine.specs.Machine.{after_put, after_collect, with_stage}
 use Rattle.epoch_machine.specs.Asks.{Heard}
 use Rattle.epoch_handles.specs.Drives.{Sight, NoJob, Drives, with_words}
 use Rattle.epoch_handles.specs.Handles.{IsReady, IsSame, IsLeftWhole, IsDriven, Steps, PinSteps, Collects, sight_of}
 use Rattle.epoch_handles.specs.Releases.{IsLeaving, IsRefused, IsFreed, IsReleased}
 use Rattle.epoch_handles.proofs.Driving.{one_performed, drives_on, drives_of}
-use Rattle.epoch_handles.proofs.StraightCalls.{unpin_performed, sight_after, pin_drives, pinned_behind, seated_with, ready_with, rests_still}
+use Rattle.epoch_handles.proofs.StraightCalls.{unpin_performed, sight_after, pin_drives, pinned_behind, seated_with}
+use Rattle.epoch_handles.proofs.StraightCalls.{ready_with, rests_still}
 
 -- THE STORES THAT END A RELEASE
 
@@ -29,19 +33,28 @@ module _ {J : Type 0} where
   pub store_leads_on : (m : Machine J) → m.stage ≡ StageUnpinned → m.action ≡ Release → m.full ≡ false
       → heard m Stored ≡ with_stage m StageFree
   store_leads_on m at action room =
-      subst (λ (s : Stage). let n : Machine J = record m { stage = s } in heard n Stored ≡ with_stage m StageFree) (sym at)
-      (ap (λ (a : Action). with_stage m (after_unpin a m.full)) action ∙ ap (λ (b : Bool). with_stage m (after_unpin Release b)) room)
+      subst (λ (s : Stage).
+      let n : Machine J = record m { stage = s } in
+      heard n Stored ≡ with_stage m StageFree) (sym at)
+      (ap (λ (a : Action). with_stage m (after_unpin a m.full)) action
+      ∙ ap (λ (b : Bool). with_stage m (after_unpin Release b)) room)
 
   -- and where its put found no place, the release is over
   pub store_is_last : (m : Machine J) → m.stage ≡ StageUnpinned → m.action ≡ Release → m.full ≡ true
       → heard m Stored ≡ with_stage m End
   store_is_last m at action full =
       subst (λ (s : Stage). let n : Machine J = record m { stage = s } in heard n Stored ≡ with_stage m End) (sym at)
-      (ap (λ (a : Action). with_stage m (after_unpin a m.full)) action ∙ ap (λ (b : Bool). with_stage m (after_unpin Release b)) full)
+      (ap (λ (a : Action). with_stage m (after_unpin a m.full)) action
+      ∙ ap (λ (b : Bool). with_stage m (after_unpin Release b)) full)
 
   free_performed : (places : ℕ) (m : Machine J) (v : Sight J)
       → Drives NoJob places (with_stage m StageFree) v (fresh m.sizes) (with_words v (after_free v.words))
-  free_performed places m v = λ c. (c, record { ask = StoreFree; reply = Heard Stored } ∷ [], one_performed places _ _ _ (record { asked = refl; is_reply = tt; performs = (refl, refl); machine = refl }), (tt, tt))
+  free_performed places m v = λ c. (
+    c,
+    record { ask = StoreFree; reply = Heard Stored } ∷ [],
+    one_performed places _ _ _ (record { asked = refl; is_reply = tt; performs = (refl, refl); machine = refl }),
+    (tt, tt),
+  )
 
   -- the two stores of a participant that leaves
   pub leaving_performed : (places : ℕ) (m : Machine J) (v : Sight J)
@@ -51,7 +64,8 @@ module _ {J : Type 0} where
       → Drives NoJob places m v (fresh m.sizes) (with_words v (after_free (after_own v.words None)))
   leaving_performed places m v at action room =
       drives_on NoJob places m (with_stage m StageFree) (fresh m.sizes) v (with_words v (after_own v.words None)) _
-      (subst (λ (z : Machine J). Drives NoJob places m v z (with_words v (after_own v.words None))) (store_leads_on m at action room)
+      (subst (λ (z : Machine J). Drives NoJob places m v z (with_words v (after_own v.words None)))
+      (store_leads_on m at action room)
       (unpin_performed places m v at))
       (free_performed places m (with_words v (after_own v.words None)))
 
@@ -63,7 +77,8 @@ module _ {T W : Type 0} where
       → o.seat.me.0 ≡ after_free n.seat.me.0
       → sight_of o ≡ with_words (sight_of h) (after_free (after_own h.seat.me.0 None))
   sight_gone h n o steps claimer knows =
-      ap (λ (z : ParticipantView). record { words = z; places = o.claimer.me }) (knows ∙ ap (λ (z : ParticipantView). after_free z) steps.knows)
+      ap (λ (z : ParticipantView). record { words = z; places = o.claimer.me })
+      (knows ∙ ap (λ (z : ParticipantView). after_free z) steps.knows)
       ∙ ap (λ z. record { words = after_free (after_own h.seat.me.0 None); places = z.me }) (claimer ∙ steps.claimer)
 
   -- the participant after the two stores: n after the first one, o after the second
@@ -80,7 +95,8 @@ module _ {T W : Type 0} where
       → IsFreed done h (record o { machine = last })
   left_for_good done h n o told last at action room none steps is only knows is_last =
       let freed : last ≡ fresh h.machine.sizes = is_last ∙ ap (λ (z : Machine (Job W)). heard z Stored)
-      (ap (λ (z : Local T W). z.machine) only ∙ is ∙ ap (λ (z : Machine (Job W)). heard z Stored) steps.machine ∙ store_leads_on h.machine at action room) in
+      (ap (λ (z : Local T W). z.machine) only ∙ is ∙ ap (λ (z : Machine (Job W)). heard z Stored) steps.machine
+      ∙ store_leads_on h.machine at action room) in
       record {
         same = record {
           position = ap (λ (z : Local T W). z.position) only ∙ steps.position;
@@ -90,8 +106,10 @@ module _ {T W : Type 0} where
         machine = freed;
         whole = λ some. absurd (some none);
         calls = drives_of (IsCalled done) h.collector.now.places.capacity h.machine last (sight_of h) (sight_of o)
-            (subst (λ (z : Machine (Job W)). Drives NoJob h.collector.now.places.capacity h.machine (sight_of h) z (sight_of o)) (sym freed)
-            (subst (λ (z : Sight (Job W)). Drives NoJob h.collector.now.places.capacity h.machine (sight_of h) (fresh h.machine.sizes) z)
+            (subst (λ (z : Machine (Job W)). Drives NoJob h.collector.now.places.capacity h.machine (sight_of h) z
+            (sight_of o)) (sym freed)
+            (subst (λ (z : Sight (Job W)). Drives NoJob h.collector.now.places.capacity h.machine (sight_of h)
+            (fresh h.machine.sizes) z)
             (sym (sight_gone h n o steps (ap (λ (z : Local T W). z.claimer) only) knows))
             (leaving_performed h.collector.now.places.capacity h.machine (sight_of h) at action room)));
       }
@@ -123,8 +141,10 @@ module _ {T W : Type 0} where
   stayed done h n told last rests at action full held none steps is is_last =
       let over : told ≡ with_stage h.machine End = told_last h n told at action full steps.machine is in
       let leaves : last ≡ ended (with_stage h.machine End) = is_last ∙ ap (λ (z : Machine (Job W)). ended z) over in
-      let counted : last.guards ≡ 0 = ap (λ (z : Machine (Job W)). z.guards) leaves ∙ ap (λ (a : Action). guards_after a h.machine.guards) action ∙ none in
-      let heard_told : heard h.machine Stored ≡ told = ap (λ (z : Machine (Job W)). heard z Stored) (sym steps.machine) ∙ sym is in
+      let counted : last.guards ≡ 0 = ap (λ (z : Machine (Job W)). z.guards) leaves
+      ∙ ap (λ (a : Action). guards_after a h.machine.guards) action ∙ none in
+      let heard_told : heard h.machine Stored ≡ told = ap (λ (z : Machine (Job W)). heard z Stored) (sym steps.machine)
+      ∙ sym is in
       record {
         same = record { position = steps.position; collector = steps.collector };
         ends = record {
@@ -132,8 +152,10 @@ module _ {T W : Type 0} where
           over = ap (λ (z : Machine (Job W)). z.stage) over;
           machine = is_last;
           drives = drives_of (IsCalled done) h.collector.now.places.capacity h.machine told (sight_of h) (sight_of n)
-              (subst (λ (z : Machine (Job W)). Drives NoJob h.collector.now.places.capacity h.machine (sight_of h) z (sight_of n)) heard_told
-              (subst (λ (z : Sight (Job W)). Drives NoJob h.collector.now.places.capacity h.machine (sight_of h) (heard h.machine Stored) z) (sym (sight_after h n _ steps))
+              (subst (λ (z : Machine (Job W)). Drives NoJob h.collector.now.places.capacity h.machine (sight_of h) z
+              (sight_of n)) heard_told
+              (subst (λ (z : Sight (Job W)). Drives NoJob h.collector.now.places.capacity h.machine (sight_of h)
+              (heard h.machine Stored) z) (sym (sight_after h n _ steps))
               (unpin_performed h.collector.now.places.capacity h.machine (sight_of h) at)));
         };
         ready = ready_with n last steps.seated (rests_still h n _ steps rests)
@@ -151,24 +173,28 @@ module _ {T W : Type 0} where
 -- WHAT FOLLOWS THE PIN AND THE COLLECTION
 
 module _ {J : Type 0} where
-  pub no_put : (m : Machine J) (held : List J) → m.stage ≡ after_collect Release held → is_empty held ≡ true → m.stage ≡ StageUnpinned
+  pub no_put : (m : Machine J) (held : List J)
+      → m.stage ≡ after_collect Release held → is_empty held ≡ true → m.stage ≡ StageUnpinned
   no_put m [] at none = at
   no_put m (job ∷ jobs) at none = absurd (false≢true none)
 
-  pub put_first : (m : Machine J) (held : List J) → m.stage ≡ after_collect Release held → is_empty held ≡ false → m.stage ≡ LoadSeal
+  pub put_first : (m : Machine J) (held : List J)
+      → m.stage ≡ after_collect Release held → is_empty held ≡ false → m.stage ≡ LoadSeal
   put_first m [] at some = absurd (true≢false some)
   put_first m (job ∷ jobs) at some = at
 
   -- what a put left of the machine m, as the machine says: the bag is gone, or no place was free
   pub was_put : (m n : Machine J)
-      → ((n ≡ record m { stage = after_put m.action false; full = false; held = [] }) ⊎ (n ≡ record m { stage = after_put m.action true; full = true }))
+      → ((n ≡ record m { stage = after_put m.action false; full = false; held = [] })
+      ⊎ (n ≡ record m { stage = after_put m.action true; full = true }))
       → n.full ≡ false
       → n ≡ record m { stage = after_put m.action false; full = false; held = [] }
   was_put m n (inl is) room = is
   was_put m n (inr is) room = absurd (true≢false (sym (ap (λ (z : Machine J). z.full) is) ∙ room))
 
   pub was_full : (m n : Machine J)
-      → ((n ≡ record m { stage = after_put m.action false; full = false; held = [] }) ⊎ (n ≡ record m { stage = after_put m.action true; full = true }))
+      → ((n ≡ record m { stage = after_put m.action false; full = false; held = [] })
+      ⊎ (n ≡ record m { stage = after_put m.action true; full = true }))
       → n.full ≡ true
       → n ≡ record m { stage = after_put m.action true; full = true }
   was_full m n (inl is) full = absurd (false≢true (sym (ap (λ (z : Machine J). z.full) is) ∙ full))
@@ -176,7 +202,8 @@ module _ {J : Type 0} where
 
 module _ {T W : Type 0} where
   -- the bag stays in its place while the seat takes no step there
-  pub left_still : (jobs : List (Job W)) (n o : Local T W) → o.claimer ≡ n.claimer → IsLeftWhole jobs n.claimer.me.0 → IsLeftWhole jobs o.claimer.me.0
+  pub left_still : (jobs : List (Job W)) (n o : Local T W)
+      → o.claimer ≡ n.claimer → IsLeftWhole jobs n.claimer.me.0 → IsLeftWhole jobs o.claimer.me.0
   left_still jobs n o kept whole = subst (λ z. IsLeftWhole jobs z.me.0) (sym kept) whole
 
   -- what a release did before this way out belongs to it
@@ -192,8 +219,10 @@ module _ {T W : Type 0} where
     position = freed.position;
     machine = freed.machine ∙ ap (λ (z : Sizes). fresh z) sizes;
     whole = whole;
-    calls = drives_on (IsCalled done) h.collector.now.places.capacity h.machine n.machine o.machine (sight_of h) (sight_of n) (sight_of o) before
-        (subst (λ z. Drives (IsCalled done) z.now.places.capacity n.machine (sight_of n) o.machine (sight_of o)) same.collector freed.calls);
+    calls = drives_on (IsCalled done) h.collector.now.places.capacity h.machine n.machine o.machine (sight_of h)
+        (sight_of n) (sight_of o) before
+        (subst (λ z. Drives (IsCalled done) z.now.places.capacity n.machine (sight_of n) o.machine (sight_of o))
+        same.collector freed.calls);
   }
 
   pub refused_behind : (done : W → Type 0) (h n o : Local T W)
@@ -205,13 +234,18 @@ module _ {T W : Type 0} where
   refused_behind done h n o same held before refused =
       let ends = refused.ends in
       record {
-        same = record { position = refused.same.position ∙ same.position; collector = refused.same.collector ∙ same.collector };
+        same = record {
+          position = refused.same.position ∙ same.position;
+          collector = refused.same.collector ∙ same.collector;
+        };
         ends = record {
           last = ends.last;
           over = ends.over;
           machine = ends.machine;
-          drives = drives_on (IsCalled done) h.collector.now.places.capacity h.machine n.machine ends.last (sight_of h) (sight_of n) (sight_of o) before
-              (subst (λ z. Drives (IsCalled done) z.now.places.capacity n.machine (sight_of n) ends.last (sight_of o)) same.collector ends.drives);
+          drives = drives_on (IsCalled done) h.collector.now.places.capacity h.machine n.machine ends.last (sight_of h)
+              (sight_of n) (sight_of o) before
+              (subst (λ z. Drives (IsCalled done) z.now.places.capacity n.machine (sight_of n) ends.last (sight_of o))
+              same.collector ends.drives);
         };
         ready = refused.ready;
         held = ((λ none. refused.held.0 (held ∙ none)), refused.held.1 ∙ held);
@@ -230,8 +264,10 @@ module _ {T W : Type 0} where
       → ((again : ℕ) → m ≡ heard (heard (heard (begun Release n.machine) (Epoch e)) Stored) (Epoch again))
       → IsLeaving done h (record n { machine = m })
   release_pins done h n e m ready none steps after =
-      let is : m ≡ heard (heard (heard (begun Release h.machine) (Epoch e)) Stored) (Epoch steps.again) = after steps.again
-      ∙ ap (λ (z : Machine (Job W)). heard (heard (heard (begun Release z) (Epoch e)) Stored) (Epoch steps.again)) steps.steps.machine in
+      let is : m ≡ heard (heard (heard (begun Release h.machine) (Epoch e)) Stored) (Epoch steps.again) =
+      after steps.again
+      ∙ ap (λ (z : Machine (Job W)). heard (heard (heard (begun Release z) (Epoch e)) Stored) (Epoch steps.again))
+      steps.steps.machine in
       record {
         seated = seated_with n m (ap (λ (z : Machine (Job W)). z.sizes) (after 0)) steps.steps.seated;
         rests = rests_still h n _ steps.steps ready.rests;
@@ -242,13 +278,16 @@ module _ {T W : Type 0} where
         none = ap (λ (z : Machine (Job W)). z.guards) is ∙ none;
         held = ap (λ (z : Machine (Job W)). z.held) is;
         sizes = ap (λ (z : Machine (Job W)). z.sizes) is;
-        calls = drives_of (IsCalled done) h.collector.now.places.capacity (begun Release h.machine) m (sight_of h) (sight_of n)
-            (subst (λ (z : Machine (Job W)). Drives NoJob h.collector.now.places.capacity (begun Release h.machine) (sight_of h) z (sight_of n)) (sym is)
+        calls = drives_of (IsCalled done) h.collector.now.places.capacity (begun Release h.machine) m
+            (sight_of h) (sight_of n)
+            (subst (λ (z : Machine (Job W)). Drives NoJob h.collector.now.places.capacity (begun Release h.machine)
+            (sight_of h) z (sight_of n)) (sym is)
             (pin_drives h n (begun Release h.machine) e refl steps));
       }
 
   -- after its collection
-  pub release_collects : (done : W → Type 0) (h n o : Local T W) → IsLeaving done h n → Collects done n o → IsLeaving done h o
+  pub release_collects : (done : W → Type 0) (h n o : Local T W)
+      → IsLeaving done h n → Collects done n o → IsLeaving done h o
   release_collects done h n o leaving collects = record {
     seated = collects.seated;
     rests = collects.rests;
@@ -256,17 +295,23 @@ module _ {T W : Type 0} where
       published = (leaving.pinned.published.0, collects.pin.published ∙ leaving.pinned.published.1);
       read = (leaving.pinned.read.0, collects.pin.read ∙ leaving.pinned.read.1);
     };
-    same = record { position = collects.same.position ∙ leaving.same.position; collector = collects.same.collector ∙ leaving.same.collector };
+    same = record {
+      position = collects.same.position ∙ leaving.same.position;
+      collector = collects.same.collector ∙ leaving.same.collector;
+    };
     action = ap (λ (z : Machine (Job W)). z.action) collects.machine ∙ leaving.action;
     room = ap (λ (z : Machine (Job W)). z.full) collects.machine ∙ leaving.room;
     none = ap (λ (z : Machine (Job W)). z.guards) collects.machine ∙ leaving.none;
     held = ap (λ (z : Machine (Job W)). z.held) collects.machine ∙ leaving.held;
     sizes = ap (λ (z : Machine (Job W)). z.sizes) collects.machine ∙ leaving.sizes;
-    calls = drives_on (IsCalled done) h.collector.now.places.capacity (begun Release h.machine) n.machine o.machine (sight_of h) (sight_of n) (sight_of o) leaving.calls
-        (subst (λ z. Drives (IsCalled done) z.now.places.capacity n.machine (sight_of n) o.machine (sight_of o)) leaving.same.collector collects.calls);
+    calls = drives_on (IsCalled done) h.collector.now.places.capacity (begun Release h.machine) n.machine o.machine
+        (sight_of h) (sight_of n) (sight_of o) leaving.calls
+        (subst (λ z. Drives (IsCalled done) z.now.places.capacity n.machine (sight_of n) o.machine (sight_of o))
+        leaving.same.collector collects.calls);
   }
 
-  pub collected_to_leave : (done : W → Type 0) (h n o : Local T W) → IsLeaving done h n → Collects done n o → o.machine.stage ≡ after_collect Release o.machine.held
+  pub collected_to_leave : (done : W → Type 0) (h n o : Local T W)
+      → IsLeaving done h n → Collects done n o → o.machine.stage ≡ after_collect Release o.machine.held
   collected_to_leave done h n o leaving collects =
       ap (λ (z : Machine (Job W)). z.stage) collects.machine
       ∙ ap (λ (a : Action). after_collect a n.machine.held) leaving.action
@@ -274,12 +319,15 @@ module _ {T W : Type 0} where
 
   -- HOW IT COMES OUT
 
-  pub refused_at_last : (done : W → Type 0) (h n o : Local T W) → IsLeaving done h n → IsRefused done n o → IsRefused done (record h { machine = begun Release h.machine }) o
+  pub refused_at_last : (done : W → Type 0) (h n o : Local T W)
+      → IsLeaving done h n → IsRefused done n o → IsRefused done (record h { machine = begun Release h.machine }) o
   refused_at_last done h n o leaving refused =
       refused_behind done (record h { machine = begun Release h.machine }) n o
-      (record { position = leaving.same.position; collector = leaving.same.collector }) leaving.held leaving.calls refused
+      (record { position = leaving.same.position; collector = leaving.same.collector }) leaving.held
+      leaving.calls refused
 
-  pub freed_at_last : (done : W → Type 0) (h n o : Local T W) → IsLeaving done h n → IsFreed done n o → IsReleased done h o
+  pub freed_at_last : (done : W → Type 0) (h n o : Local T W)
+      → IsLeaving done h n → IsFreed done n o → IsReleased done h o
   freed_at_last done h n o leaving freed =
       freed_behind done (record h { machine = begun Release h.machine }) n o
       (record { position = leaving.same.position; collector = leaving.same.collector }) leaving.sizes leaving.calls

@@ -1,5 +1,6 @@
 -- A scan, word by word: what the loop over the positions performs is what the machine asks.
-use Rattle.std.proofs.Common.{◌≡◌, ◌∙◌, ℕ, ◌+◌, ◌-◌, ◌<◌, ◌≤◌, ◌^◌, ◌==◌, if◌then◌else◌, Bool, true, false, [], ◌∷◌, refl, sym, ap, subst, arith, inl, inr, ne_eqb, Some}
+use Rattle.std.proofs.Common.{◌≡◌, ◌∙◌, ℕ, ◌+◌, ◌-◌, ◌<◌, ◌≤◌, ◌^◌, ◌==◌, if◌then◌else◌, Bool, true, false, [], ◌∷◌}
+use Rattle.std.proofs.Common.{refl, sym, ap, subst, arith, inl, inr, ne_eqb, Some}
 use Rattle.std.proofs.lemmas.Bool.{eq-eqb}
 use Rattle.std.proofs.lemmas.Bool.Decides.{nat_tests}
 use Rattle.epoch_tables.specs.Table.{IsWord, LetsPass}
@@ -43,12 +44,15 @@ module _ {J : Type 0} where
       → k < positions
       → IsWord w
       → v.words.scan ≡ Some (e, k)
-      → (LetsPass e w → u ≡ with_words v (after_pass v.words e k w)) × ((¬ LetsPass e w) → u ≡ with_words v (after_word v.words k w))
+      → (LetsPass e w → u ≡ with_words v (after_pass v.words e k w))
+      × ((¬ LetsPass e w) → u ≡ with_words v (after_word v.words k w))
       → Performed places (situated (with_stage m (at_scan positions e k)) v at_start)
-      (record { ask = LoadWord k; reply = Heard (Word w) } ∷ []) (situated (with_stage m (past_word positions e k w)) u at_start)
+      (record { ask = LoadWord k; reply = Heard (Word w) }
+      ∷ []) (situated (with_stage m (past_word positions e k w)) u at_start)
   scan_goes_on places positions m v u e k w sizes within is_word scan found =
       subst (λ (s : Stage). Performed places (situated (with_stage m s) v at_start)
-      (record { ask = LoadWord k; reply = Heard (Word w) } ∷ []) (situated (with_stage m (past_word positions e k w)) u at_start))
+      (record { ask = LoadWord k; reply = Heard (Word w) }
+      ∷ []) (situated (with_stage m (past_word positions e k w)) u at_start))
       (sym (ap (λ (b : Bool). if b then scanned e else Scan e k) (ne_eqb k positions (λ is. absurd (omega arith)))))
       (one_performed places _ _ _ (record {
         asked = refl;
@@ -96,7 +100,8 @@ module _ {T W : Type 0} where
         scan = ap (λ (z : ParticipantView). z.scan) steps.knows ∙ ap (λ z. scan_after z e) published.1;
         reaches = λ c. (
           record { ask = LoadEpoch; reply = Heard (Epoch e) } ∷ [],
-          subst (λ (s : Stage). Performed h.collector.now.places.capacity (situated (record h.machine { stage = s }) (sight_of h) c)
+          subst (λ (s : Stage). Performed h.collector.now.places.capacity
+              (situated (record h.machine { stage = s }) (sight_of h) c)
               (record { ask = LoadEpoch; reply = Heard (Epoch e) } ∷ [])
               (situated (with_stage h.machine (at_scan h.machine.sizes.positions e 0)) (sight_of n) at_start))
               (sym begins) (one_performed h.collector.now.places.capacity _ _ _ (record {
@@ -115,13 +120,15 @@ module _ {T W : Type 0} where
       → HasPassed h e k n
       → k < h.machine.sizes.positions
       → IsWord w
-      → (LetsPass e w → Steps n o (after_pass n.seat.me.0 e k w)) × ((¬ LetsPass e w) → Steps n o (after_word n.seat.me.0 k w))
+      → (LetsPass e w → Steps n o (after_pass n.seat.me.0 e k w))
+      × ((¬ LetsPass e w) → Steps n o (after_word n.seat.me.0 k w))
       → Reaches NoJob h.collector.now.places.capacity h.machine (sight_of h)
       (situated (with_stage h.machine (past_word h.machine.sizes.positions e k w)) (sight_of o) at_start)
   word_performed h n o e k w passed within is_word found =
       reaches_on NoJob h.collector.now.places.capacity h.machine (sight_of h) _ _
       passed.reaches (record { ask = LoadWord k; reply = Heard (Word w) } ∷ [])
-      (scan_goes_on h.collector.now.places.capacity h.machine.sizes.positions h.machine (sight_of n) (sight_of o) e k w refl within is_word passed.scan
+      (scan_goes_on h.collector.now.places.capacity h.machine.sizes.positions h.machine (sight_of n)
+      (sight_of o) e k w refl within is_word passed.scan
       (λ lets. sight_after n o _ (found.0 lets), λ holds. sight_after n o _ (found.1 holds))) (tt, tt)
 
   pub scan_passes : (h n o : Local T W) (e k w : ℕ)
@@ -129,13 +136,17 @@ module _ {T W : Type 0} where
       → k < h.machine.sizes.positions
       → IsWord w
       → holds_up e w ≡ false
-      → (LetsPass e w → Steps n o (after_pass n.seat.me.0 e k w)) × ((¬ LetsPass e w) → Steps n o (after_word n.seat.me.0 k w))
+      → (LetsPass e w → Steps n o (after_pass n.seat.me.0 e k w))
+      × ((¬ LetsPass e w) → Steps n o (after_word n.seat.me.0 k w))
       → HasPassed h e (k + 1) o
   scan_passes h n o e k w passed within is_word low found =
       let steps = found.0 (lets_pass e w is_word low) in
       record {
         seated = steps.seated;
-        same = record { position = steps.position ∙ passed.same.position; collector = steps.collector ∙ passed.same.collector };
+        same = record {
+          position = steps.position ∙ passed.same.position;
+          collector = steps.collector ∙ passed.same.collector;
+        };
         pin = record {
           published = ap (λ (z : ParticipantView). z.published) steps.knows ∙ passed.pin.published;
           read = ap (λ (z : ParticipantView). z.first_read) steps.knows ∙ passed.pin.read;
@@ -144,7 +155,8 @@ module _ {T W : Type 0} where
         machine = steps.machine ∙ passed.machine;
         scan = ap (λ (z : ParticipantView). z.scan) steps.knows;
         reaches = subst (λ (b : Bool). Reaches NoJob h.collector.now.places.capacity h.machine (sight_of h)
-            (situated (with_stage h.machine (if b then Take e 0 else (if k + 1 == h.machine.sizes.positions then scanned e else Scan e (k + 1)))) (sight_of o) at_start))
+            (situated (with_stage h.machine (if b then Take e 0
+            else (if k + 1 == h.machine.sizes.positions then scanned e else Scan e (k + 1)))) (sight_of o) at_start))
             low (word_performed h n o e k w passed within is_word found);
       }
 
@@ -156,17 +168,20 @@ module _ {T W : Type 0} where
       → n.claimer ≡ h.claimer
       → n.machine ≡ h.machine
       → m ≡ with_stage n.machine (Take x 0)
-      → Reaches NoJob h.collector.now.places.capacity h.machine (sight_of h) (situated (with_stage h.machine (Take x 0)) (sight_of n) at_start)
+      → Reaches NoJob h.collector.now.places.capacity h.machine (sight_of h)
+      (situated (with_stage h.machine (Take x 0)) (sight_of n) at_start)
       → Scans h x (record n { machine = m })
   goes_to_bags h n x m seated same pin claimer machine is reaches =
-      let goes : m ≡ with_stage h.machine (Take x 0) = is ∙ ap (λ (z : Machine (Job W)). with_stage z (Take x 0)) machine in
+      let goes : m ≡ with_stage h.machine (Take x 0) = is
+      ∙ ap (λ (z : Machine (Job W)). with_stage z (Take x 0)) machine in
       record {
         seated = seated_with n m (ap (λ (z : Machine (Job W)). z.sizes) is) seated;
         same = record { position = same.position; collector = same.collector };
         pin = record { published = pin.published; read = pin.read };
         claimer = claimer;
         machine = goes;
-        reaches = subst (λ (z : Machine (Job W)). Reaches NoJob h.collector.now.places.capacity h.machine (sight_of h) (situated z (sight_of n) at_start)) (sym goes) reaches;
+        reaches = subst (λ (z : Machine (Job W)). Reaches NoJob h.collector.now.places.capacity h.machine (sight_of h)
+            (situated z (sight_of n) at_start)) (sym goes) reaches;
       }
 
   -- a word that is pinned elsewhere ends the scan
@@ -175,7 +190,8 @@ module _ {T W : Type 0} where
       → k < h.machine.sizes.positions
       → IsWord w
       → holds_up e w ≡ true
-      → (LetsPass e w → Steps n o (after_pass n.seat.me.0 e k w)) × ((¬ LetsPass e w) → Steps n o (after_word n.seat.me.0 k w))
+      → (LetsPass e w → Steps n o (after_pass n.seat.me.0 e k w))
+      × ((¬ LetsPass e w) → Steps n o (after_word n.seat.me.0 k w))
       → m ≡ with_stage o.machine (Take e 0)
       → Scans h e (record o { machine = m })
   scan_stops h n o e k w m passed within is_word high found is =
@@ -188,7 +204,8 @@ module _ {T W : Type 0} where
       })
       (steps.claimer ∙ passed.claimer) (steps.machine ∙ passed.machine) is
       (subst (λ (b : Bool). Reaches NoJob h.collector.now.places.capacity h.machine (sight_of h)
-      (situated (with_stage h.machine (if b then Take e 0 else (if k + 1 == h.machine.sizes.positions then scanned e else Scan e (k + 1)))) (sight_of o) at_start))
+      (situated (with_stage h.machine (if b then Take e 0
+      else (if k + 1 == h.machine.sizes.positions then scanned e else Scan e (k + 1)))) (sight_of o) at_start))
       high (word_performed h n o e k w passed within is_word found))
 
   -- after the last word of the greatest epoch nothing is stored
@@ -199,8 +216,10 @@ module _ {T W : Type 0} where
       → Scans h e (record n { machine = m })
   scan_greatest h n e m passed greatest is =
       goes_to_bags h n e m passed.seated passed.same passed.pin passed.claimer passed.machine is
-      (subst (λ (s : Stage). Reaches NoJob h.collector.now.places.capacity h.machine (sight_of h) (situated (with_stage h.machine s) (sight_of n) at_start))
-      (behind_last h.machine.sizes.positions e ∙ ap (λ (b : Bool). if b then Take e 0 else Advance e) (eq-eqb e (2 ^ 63 - 1) greatest)) passed.reaches)
+      (subst (λ (s : Stage). Reaches NoJob h.collector.now.places.capacity h.machine (sight_of h)
+      (situated (with_stage h.machine s) (sight_of n) at_start))
+      (behind_last h.machine.sizes.positions e
+      ∙ ap (λ (b : Bool). if b then Take e 0 else Advance e) (eq-eqb e (2 ^ 63 - 1) greatest)) passed.reaches)
 
   -- after the last word the epoch is stored
   pub scan_advances : (h n o : Local T W) (e : ℕ) (m : Machine (Job W))
@@ -212,7 +231,8 @@ module _ {T W : Type 0} where
       → Scans h (e + 1) (record o { machine = m })
   scan_advances h n o e m passed less ahead steps is =
       let advances : at_scan h.machine.sizes.positions e h.machine.sizes.positions ≡ Advance e =
-      behind_last h.machine.sizes.positions e ∙ ap (λ (b : Bool). if b then Take e 0 else Advance e) (ne_eqb e (2 ^ 63 - 1) (λ same. absurd (omega arith))) in
+      behind_last h.machine.sizes.positions e
+      ∙ ap (λ (b : Bool). if b then Take e 0 else Advance e) (ne_eqb e (2 ^ 63 - 1) (λ same. absurd (omega arith))) in
       goes_to_bags h o (e + 1) m steps.seated
       (record { position = steps.position ∙ passed.same.position; collector = steps.collector ∙ passed.same.collector })
       (record {
@@ -222,7 +242,10 @@ module _ {T W : Type 0} where
       (steps.claimer ∙ passed.claimer) (steps.machine ∙ passed.machine) is
       (reaches_on NoJob h.collector.now.places.capacity h.machine (sight_of h) _ _
       passed.reaches (record { ask = StoreEpoch (e + 1); reply = Heard Stored } ∷ [])
-      (subst (λ (s : Stage). Performed h.collector.now.places.capacity (situated (with_stage h.machine s) (sight_of n) at_start)
-      (record { ask = StoreEpoch (e + 1); reply = Heard Stored } ∷ []) (situated (with_stage h.machine (Take (e + 1) 0)) (sight_of o) at_start)) (sym advances)
+      (subst (λ (s : Stage). Performed h.collector.now.places.capacity
+      (situated (with_stage h.machine s) (sight_of n) at_start)
+      (record { ask = StoreEpoch (e + 1); reply = Heard Stored }
+      ∷ []) (situated (with_stage h.machine (Take (e + 1) 0)) (sight_of o) at_start)) (sym advances)
       (one_performed h.collector.now.places.capacity _ _ _
-      (record { asked = refl; is_reply = tt; performs = (ahead, sight_after n o _ steps, refl); machine = refl }))) (tt, tt))
+      (record { asked = refl; is_reply = tt; performs = (ahead, sight_after n o _ steps, refl); machine = refl })))
+      (tt, tt))

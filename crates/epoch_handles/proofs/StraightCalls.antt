@@ -1,5 +1,6 @@
 -- What the steps of a pin, an unpin and a repin are: the machine's asks, one after another.
-use Rattle.std.proofs.Common.{◌≡◌, ◌≢◌, ◌∙◌, ℕ, ◌<◌, ◌≤◌, ◌==◌, if◌then◌else◌, Bool, [], ◌∷◌, refl, sym, ap, subst, arith, ne_eqb, Option, Some, None}
+use Rattle.std.proofs.Common.{◌≡◌, ◌≢◌, ◌∙◌, ℕ, ◌<◌, ◌≤◌, ◌==◌, if◌then◌else◌, Bool, [], ◌∷◌, refl, sym, ap, subst}
+use Rattle.std.proofs.Common.{arith, ne_eqb, Option, Some, None}
 use Rattle.std.proofs.lemmas.Bool.{eq-eqb}
 use Rattle.epoch_tables.specs.TableSteps.{after_epoch, after_own, first_after}
 use Rattle.epoch_tables.specs.SharedSteps.{RestsAt}
@@ -9,7 +10,8 @@ use Rattle.epoch_machine.specs.declared.machine.Action.TheVariants.{Pin, Unpin, 
 use Rattle.epoch_machine.specs.declared.machine.Answer.TheVariants.{Epoch, Stored}
 use Rattle.epoch_machine.specs.declared.machine.Ask.TheVariants.{LoadEpoch, StorePinned, StoreRepinned, StoreUnpinned}
 use Rattle.epoch_machine.specs.declared.machine.Stage.{Stage}
-use Rattle.epoch_machine.specs.declared.machine.Stage.TheVariants.{Idle, LoadPin, LoadRepin, StoreRepin, End, StoreUnpinned as StageUnpinned}
+use Rattle.epoch_machine.specs.declared.machine.Stage.TheVariants.{Idle, LoadPin, LoadRepin, StoreRepin, End}
+use Rattle.epoch_machine.specs.declared.machine.Stage.TheVariants.{StoreUnpinned as StageUnpinned}
 use Rattle.epoch_handles.specs.declared.local.Local.{Local}
 use Rattle.epoch_machine.specs.Machine.{Machine, begun, heard}
 use Rattle.epoch_machine.specs.Asks.{Heard}
@@ -43,12 +45,14 @@ module _ {J : Type 0} where
       → let n : Machine J = heard (heard (heard (begun Pin m) (Epoch e)) Stored) (Epoch again) in
       (n.sizes ≡ m.sizes) × (n.guards ≡ m.guards) × (n.published ≡ e) × (n.action ≡ Pin)
   pin_leaves m e again none =
-      subst (λ (s : Stage). let n : Machine J = heard (heard (heard (record (begun Pin m) { stage = s }) (Epoch e)) Stored) (Epoch again) in
+      subst (λ (s : Stage).
+      let n : Machine J = heard (heard (heard (record (begun Pin m) { stage = s }) (Epoch e)) Stored) (Epoch again) in
       (n.sizes ≡ m.sizes) × (n.guards ≡ m.guards) × (n.published ≡ e) × (n.action ≡ Pin)) (sym (pin_begins m none))
       (refl, refl, refl, refl)
 
   pub unpin_leaves : (m : Machine J) → m.guards ≡ 1
-      → let n : Machine J = heard (begun Unpin m) Stored in (n.sizes ≡ m.sizes) × (n.stage ≡ End) × (n.guards ≡ m.guards) × (n.action ≡ Unpin)
+      → let n : Machine J = heard (begun Unpin m) Stored in
+      (n.sizes ≡ m.sizes) × (n.stage ≡ End) × (n.guards ≡ m.guards) × (n.action ≡ Unpin)
   unpin_leaves m one =
       subst (λ (s : Stage). let n : Machine J = heard (record (begun Unpin m) { stage = s }) Stored in
       (n.sizes ≡ m.sizes) × (n.stage ≡ End) × (n.guards ≡ m.guards) × (n.action ≡ Unpin)) (sym (unpin_begins m one))
@@ -59,22 +63,26 @@ module _ {J : Type 0} where
       (n.sizes ≡ m.sizes) × (n.stage ≡ End) × (n.guards ≡ m.guards) × (n.published ≡ e) × (n.action ≡ Repin)
   repin_leaves m e one same =
       subst (λ (s : Stage). let n : Machine J = heard (record (begun Repin m) { stage = s }) (Epoch e) in
-      (n.sizes ≡ m.sizes) × (n.stage ≡ End) × (n.guards ≡ m.guards) × (n.published ≡ e) × (n.action ≡ Repin)) (sym (repin_begins m one))
+      (n.sizes ≡ m.sizes) × (n.stage ≡ End) × (n.guards ≡ m.guards) × (n.published ≡ e) × (n.action ≡ Repin))
+      (sym (repin_begins m one))
       (refl, ap (λ (b : Bool). if b then End else StoreRepin e) (eq-eqb m.published e same), refl, same, refl)
 
   -- a repin of another epoch than the one published comes to its store
   repin_moves : (m : Machine J) (e : ℕ) → m.guards ≡ 1 → m.published ≢ e
       → heard (begun Repin m) (Epoch e) ≡ record (begun Repin m) { stage = StoreRepin e }
   repin_moves m e one moved =
-      subst (λ (s : Stage). heard (record (begun Repin m) { stage = s }) (Epoch e) ≡ record (begun Repin m) { stage = StoreRepin e }) (sym (repin_begins m one))
-      (ap (λ (b : Bool). record (begun Repin m) { stage = if b then End else StoreRepin e }) (ne_eqb m.published e moved))
+      subst (λ (s : Stage). heard (record (begun Repin m) { stage = s })
+      (Epoch e) ≡ record (begun Repin m) { stage = StoreRepin e }) (sym (repin_begins m one))
+      (ap (λ (b : Bool). record (begun Repin m) { stage = if b then End else StoreRepin e })
+      (ne_eqb m.published e moved))
 
   pub repin_moved_leaves : (m : Machine J) (e again : ℕ) → m.guards ≡ 1 → m.published ≢ e
       → let n : Machine J = heard (heard (heard (begun Repin m) (Epoch e)) Stored) (Epoch again) in
       (n.sizes ≡ m.sizes) × (n.stage ≡ End) × (n.guards ≡ m.guards) × (n.published ≡ e) × (n.action ≡ Repin)
   repin_moved_leaves m e again one moved =
       subst (λ (z : Machine J). let n : Machine J = heard (heard z Stored) (Epoch again) in
-      (n.sizes ≡ m.sizes) × (n.stage ≡ End) × (n.guards ≡ m.guards) × (n.published ≡ e) × (n.action ≡ Repin)) (sym (repin_moves m e one moved))
+      (n.sizes ≡ m.sizes) × (n.stage ≡ End) × (n.guards ≡ m.guards) × (n.published ≡ e) × (n.action ≡ Repin))
+      (sym (repin_moves m e one moved))
       (refl, refl, refl, refl, refl)
 
   -- WHAT IS PERFORMED
@@ -98,9 +106,11 @@ module _ {J : Type 0} where
           situated (heard n (Epoch e)) (with_words v (after_epoch v.words e)) at_start,
           record { asked = refl; is_reply = tt; performs = (rises, refl, refl); machine = refl },
           (
-            situated (heard (heard n (Epoch e)) Stored) (with_words v (after_own (after_epoch v.words e) (Some e))) at_start,
+            situated (heard (heard n (Epoch e)) Stored)
+                (with_words v (after_own (after_epoch v.words e) (Some e))) at_start,
             record { asked = refl; is_reply = tt; performs = (omega arith, refl, refl); machine = refl },
-            one_performed places _ _ _ (record { asked = refl; is_reply = tt; performs = (rises_again, refl, refl); machine = refl }),
+            one_performed places _ _ _
+                (record { asked = refl; is_reply = tt; performs = (rises_again, refl, refl); machine = refl }),
           ),
         ),
         (tt, (tt, (tt, tt))),
@@ -116,7 +126,8 @@ module _ {J : Type 0} where
       (λ c. (
         at_start,
         record { ask = LoadEpoch; reply = Heard (Epoch e) } ∷ [],
-        one_performed places _ _ _ (record { asked = refl; is_reply = tt; performs = (rises, refl, refl); machine = refl }),
+        one_performed places _ _ _
+            (record { asked = refl; is_reply = tt; performs = (rises, refl, refl); machine = refl }),
         (tt, tt),
       ))
 
@@ -124,15 +135,18 @@ module _ {J : Type 0} where
   repin_stores : (places : ℕ) (m : Machine J) (v : Sight J) (e again : ℕ)
       → e ≤ v.words.seen
       → v.words.seen ≤ again
-      → Drives NoJob places (record m { stage = StoreRepin e }) v (heard (heard (record m { stage = StoreRepin e }) Stored) (Epoch again))
+      → Drives NoJob places (record m { stage = StoreRepin e }) v
+      (heard (heard (record m { stage = StoreRepin e }) Stored) (Epoch again))
       (with_words v (after_epoch (after_own v.words (Some e)) again))
   repin_stores places m v e again read rises = λ c. (
     at_start,
-    record { ask = StoreRepinned e; reply = Heard Stored } ∷ record { ask = LoadEpoch; reply = Heard (Epoch again) } ∷ [],
+    record { ask = StoreRepinned e; reply = Heard Stored }
+        ∷ record { ask = LoadEpoch; reply = Heard (Epoch again) } ∷ [],
     (
       situated (heard (record m { stage = StoreRepin e }) Stored) (with_words v (after_own v.words (Some e))) c,
       record { asked = refl; is_reply = tt; performs = (read, refl, refl); machine = refl },
-      one_performed places _ _ _ (record { asked = refl; is_reply = tt; performs = (rises, refl, refl); machine = refl }),
+      one_performed places _ _ _
+          (record { asked = refl; is_reply = tt; performs = (rises, refl, refl); machine = refl }),
     ),
     (tt, (tt, tt)),
   )
@@ -145,9 +159,11 @@ module _ {J : Type 0} where
       → Drives NoJob places (begun Repin m) v (heard (heard (heard (begun Repin m) (Epoch e)) Stored) (Epoch again))
       (with_words v (after_epoch (after_own (after_epoch v.words e) (Some e)) again))
   repin_moved_performed places m v e again one moved rises rises_again =
-      drives_on NoJob places (begun Repin m) (heard (begun Repin m) (Epoch e)) _ v (with_words v (after_epoch v.words e)) _
+      drives_on NoJob places (begun Repin m) (heard (begun Repin m) (Epoch e)) _ v
+      (with_words v (after_epoch v.words e)) _
       (repin_same_performed places (begun Repin m) v e (repin_begins m one) rises)
-      (subst (λ (z : Machine J). Drives NoJob places z (with_words v (after_epoch v.words e)) (heard (heard z Stored) (Epoch again))
+      (subst (λ (z : Machine J). Drives NoJob places z (with_words v (after_epoch v.words e))
+      (heard (heard z Stored) (Epoch again))
       (with_words v (after_epoch (after_own (after_epoch v.words e) (Some e)) again))) (sym (repin_moves m e one moved))
       (repin_stores places (begun Repin m) (with_words v (after_epoch v.words e)) e again (omega arith) rises_again))
 
@@ -157,7 +173,12 @@ module _ {J : Type 0} where
   unpin_performed places m v at =
       subst (λ (s : Stage). let n : Machine J = record m { stage = s } in
       Drives NoJob places n v (heard n Stored) (with_words v (after_own v.words None))) (sym at)
-      (λ c. (c, record { ask = StoreUnpinned; reply = Heard Stored } ∷ [], one_performed places _ _ _ (record { asked = refl; is_reply = tt; performs = (refl, refl); machine = refl }), (tt, tt)))
+      (λ c. (
+        c,
+        record { ask = StoreUnpinned; reply = Heard Stored } ∷ [],
+        one_performed places _ _ _ (record { asked = refl; is_reply = tt; performs = (refl, refl); machine = refl }),
+        (tt, tt),
+      ))
 
 -- WHAT A HANDLE KNOWS
 
@@ -174,16 +195,19 @@ reading (Some epoch) there = (epoch, refl)
 
 module _ {T W : Type 0} where
   -- what the seats know after a step
-  pub sight_after : (h n : Local T W) (view : ParticipantView) → Steps h n view → sight_of n ≡ with_words (sight_of h) view
+  pub sight_after : (h n : Local T W) (view : ParticipantView)
+      → Steps h n view → sight_of n ≡ with_words (sight_of h) view
   sight_after h n view steps = ap (λ (z : ParticipantView). record { words = z; places = n.claimer.me }) steps.knows
       ∙ ap (λ z. record { words = view; places = z.me }) steps.claimer
 
   pub pin_drives : (h n : Local T W) (m : Machine (Job W)) (e : ℕ)
       → m.stage ≡ LoadPin
       → (steps : PinSteps h e n)
-      → Drives NoJob h.collector.now.places.capacity m (sight_of h) (heard (heard (heard m (Epoch e)) Stored) (Epoch steps.again)) (sight_of n)
+      → Drives NoJob h.collector.now.places.capacity m (sight_of h)
+      (heard (heard (heard m (Epoch e)) Stored) (Epoch steps.again)) (sight_of n)
   pin_drives h n m e at steps =
-      subst (λ (z : Sight (Job W)). Drives NoJob h.collector.now.places.capacity m (sight_of h) (heard (heard (heard m (Epoch e)) Stored) (Epoch steps.again)) z)
+      subst (λ (z : Sight (Job W)). Drives NoJob h.collector.now.places.capacity m (sight_of h)
+      (heard (heard (heard m (Epoch e)) Stored) (Epoch steps.again)) z)
       (sym (sight_after h n _ steps.steps))
       (pin_performed h.collector.now.places.capacity m (sight_of h) e steps.again at steps.rises steps.rises_again)
 
@@ -195,7 +219,8 @@ module _ {T W : Type 0} where
   }
 
   -- another machine of the same sizes leaves the participant seated
-  pub seated_with : (h : Local T W) (m : Machine (Job W)) → m.sizes ≡ h.machine.sizes → IsSeated h → IsSeated (record h { machine = m })
+  pub seated_with : (h : Local T W) (m : Machine (Job W))
+      → m.sizes ≡ h.machine.sizes → IsSeated h → IsSeated (record h { machine = m })
   seated_with h m sizes seated = record {
     words_of = seated.words_of;
     places_of = seated.places_of;
@@ -224,7 +249,8 @@ module _ {T W : Type 0} where
   }
 
   -- a step of the other seat leaves this one at rest
-  pub rests_still : (h n : Local T W) (view : ParticipantView) → Steps h n view → RestsAt h.claimer.me → RestsAt n.claimer.me
+  pub rests_still : (h n : Local T W) (view : ParticipantView)
+      → Steps h n view → RestsAt h.claimer.me → RestsAt n.claimer.me
   rests_still h n view steps rests = subst (λ z. RestsAt z.me) (sym steps.claimer) rests
 
   -- a pinned participant that loads the epoch keeps its first reading
@@ -235,7 +261,8 @@ module _ {T W : Type 0} where
       → n.seat.me.0.first_read ≡ Some first
   still_read h n e first published is_published is_read steps =
       ap (λ (z : ParticipantView). z.first_read) steps.knows
-      ∙ ap (λ z. first_after z h.seat.me.0.first_read e) is_published ∙ ap (λ z. first_after (Some published) z e) is_read
+      ∙ ap (λ z. first_after z h.seat.me.0.first_read e) is_published
+      ∙ ap (λ z. first_after (Some published) z e) is_read
 
   -- one step after another
   pub steps_on : (h n o : Local T W) (view other : ParticipantView) → Steps h n view → Steps n o other → Steps h o other
@@ -259,7 +286,8 @@ module _ {T W : Type 0} where
   republished h n o w e again rises rises_again first second third = record {
     again = again;
     rises = rises;
-    rises_again = subst (λ (z : ℕ). z ≤ again) (ap (λ (z : ParticipantView). z.seen) (second.knows ∙ ap (λ z. after_own z (Some e)) first.knows)) rises_again;
+    rises_again = subst (λ (z : ℕ). z ≤ again)
+        (ap (λ (z : ParticipantView). z.seen) (second.knows ∙ ap (λ z. after_own z (Some e)) first.knows)) rises_again;
     steps = subst (λ z. Steps h w (after_epoch z again)) (second.knows ∙ ap (λ z. after_own z (Some e)) first.knows)
         (steps_on h o w _ _ (steps_on h n o _ _ first second) third);
   }

@@ -12,7 +12,9 @@ use Rattle.epoch_bags.specs.declared.queue.places.PutCursor.TheVariants.{Look as
 use Rattle.epoch_bags.specs.declared.queue.places.TakeCursor.{TakeCursor}
 use Rattle.epoch_bags.specs.declared.queue.places.TakeCursor.TheVariants.{Look as TakeLook}
 use Rattle.epoch_machine.specs.declared.machine.Ask.{Ask}
-use Rattle.epoch_machine.specs.declared.machine.Ask.TheVariants.{LoadEpoch, LoadWord, StorePinned, StoreRepinned, StoreUnpinned, StoreFree, StoreEpoch, PutBag, TakeBag, KeepJob, CallJob}
+use Rattle.epoch_machine.specs.declared.machine.Ask.TheVariants.{LoadEpoch, LoadWord, StorePinned, StoreRepinned}
+use Rattle.epoch_machine.specs.declared.machine.Ask.TheVariants.{StoreUnpinned, StoreFree, StoreEpoch, PutBag, TakeBag}
+use Rattle.epoch_machine.specs.declared.machine.Ask.TheVariants.{KeepJob, CallJob}
 use Rattle.epoch_machine.specs.declared.machine.Answer.TheVariants.{Epoch, Word, Stored, Job}
 use Rattle.epoch_machine.specs.Machine.{Machine, asks}
 use Rattle.epoch_machine.specs.Asks.{Reply, Heard, PutStepped, TakeStepped, JobGiven, Exchange, Log, IsReply, told}
@@ -67,7 +69,7 @@ Performs places before CallJob (JobGiven job) after = (after.sight ≡ before.si
 Performs places before (PutBag seal) (PutStepped step) after =
     (after.sight.words ≡ before.sight.words) × (after.cursors.take ≡ before.cursors.take)
     × PutMoves places before.cursors.put before.sight.places (record { seal = seal; jobs = before.machine.held }) step
-        after.cursors.put after.sight.places
+    after.cursors.put after.sight.places
 Performs {J} places before (TakeBag x) (TakeStepped step jobs) after =
     (after.sight.words ≡ before.sight.words) × (after.cursors.put ≡ before.cursors.put)
     × ((bag : Sealed J) × (step ≡ Got → jobs ≡ bag.jobs)
@@ -75,7 +77,8 @@ Performs {J} places before (TakeBag x) (TakeStepped step jobs) after =
 Performs places before ask reply after = ⊥
 
 -- one ask of the machine and its reply, from the situation before to the one after
-pub record Exchanges {J : Type 0} (places : ℕ) (before : Situation J) (x : Exchange J) (after : Situation J) : Type 0 where
+pub record Exchanges {J : Type 0} (places : ℕ) (before : Situation J) (x : Exchange J)
+    (after : Situation J) : Type 0 where
   pub asked : asks before.machine ≡ Some x.ask
   pub is_reply : IsReply x.ask before.machine.hand x.reply
   pub performs : Performs places before x.ask x.reply after
@@ -107,8 +110,8 @@ abbrev pub GivesOnly : {J : Type 0} → (J → Type 0) → Log J → Type 0
 GivesOnly IsSuch [] = Unit {0}
 GivesOnly IsSuch (x ∷ log) = HoldsOfGiven IsSuch x.reply × GivesOnly IsSuch log
 
--- From the machine m and what its seats know, wherever its cursors are, its asks are performed as far as this situation,
--- and each job that it gives is such.
+-- From the machine m and what its seats know, wherever its cursors are, its asks are performed as far as this
+-- situation, and each job that it gives is such.
 abbrev pub Reaches : {J : Type 0} → (J → Type 0) → ℕ → Machine J → Sight J → Situation J → Type 0
 Reaches {J} IsSuch places m v after = (c : Cursors)
     → (log : Log J) × Performed places (situated m v c) log after × GivesOnly IsSuch log

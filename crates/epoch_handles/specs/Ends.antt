@@ -28,7 +28,8 @@ module _ {J : Type 0} where
       × TriesEach places before bag between × IsBagCalled IsCalled bag × CallsBags IsCalled places between bags after
 
 -- In so many tries a seat took out bags, and each of their jobs was called: so many jobs.
-pub record CallsEach {W : Type 0} (done : W → Type 0) (places : ℕ) (before after : PlaceView (Job W)) (tries jobs : ℕ) : Type 0 where
+pub record CallsEach {W : Type 0} (done : W → Type 0) (places : ℕ) (before after : PlaceView (Job W))
+    (tries jobs : ℕ) : Type 0 where
   pub bags : List (Option (Sealed (Job W)))
   pub as_many : length bags ≡ tries
   pub calls : CallsBags (IsCalled done) places before bags after

@@ -1,5 +1,6 @@
 -- What the calls of a handle keep and promise.
-use Rattle.std.specs.Prelude.{◌≡◌, ◌≢◌, ℕ, ◌+◌, ◌<◌, ◌≤◌, List, [], ◌∷◌, ◌++◌, length, map, Option, Some, None, true, false, ◌⊎◌}
+use Rattle.std.specs.Prelude.{◌≡◌, ◌≢◌, ℕ, ◌+◌, ◌<◌, ◌≤◌, List, [], ◌∷◌, ◌++◌, length, map, Option, Some, None, true}
+use Rattle.std.specs.Prelude.{false, ◌⊎◌}
 use Rattle.std.specs.List.{All, range_with_len}
 use Rattle.epoch_bags.specs.Bags.{Sealed}
 use Rattle.epoch_tables.specs.Table.{IsOf}
@@ -18,7 +19,8 @@ use Rattle.epoch_handles.specs.declared.collector.Collector.{Collector}
 use Rattle.epoch_handles.specs.declared.guard.Guard.{Guard}
 use Rattle.epoch_handles.specs.declared.local.Local.{Local}
 use Rattle.epoch_machine.specs.Machine.{Machine, begun, ended, fresh, with_stage, after_collect, after_put, after_job}
-use Rattle.epoch_handles.specs.Drives.{Sight, Cursors, Situation, Performed, NoJob, AnyJob, GivesOnly, Drives, Reaches, situated, at_start}
+use Rattle.epoch_handles.specs.Drives.{Sight, Cursors, Situation, Performed, NoJob, AnyJob, GivesOnly, Drives, Reaches}
+use Rattle.epoch_handles.specs.Drives.{situated, at_start}
 use Rattle.epoch_machine.specs.Asks.{Log}
 
 -- what the seats of a participant know
@@ -31,7 +33,8 @@ situation_of h c = situated h.machine (sight_of h) c
 
 -- The asks of the participant's machine were performed as far as where it is new, and each job that it gave is such.
 abbrev pub IsDriven : {T W : Type 0} → (Job W → Type 0) → Local T W → Local T W → Type 0
-IsDriven IsSuch old new = Drives IsSuch old.collector.now.places.capacity old.machine (sight_of old) new.machine (sight_of new)
+IsDriven IsSuch old new =
+    Drives IsSuch old.collector.now.places.capacity old.machine (sight_of old) new.machine (sight_of new)
 
 -- it is the same participant of the same collector
 pub record IsSame {T W : Type 0} (old new : Local T W) : Type 0 where
@@ -88,14 +91,16 @@ pub record Scans {T W : Type 0} (old : Local T W) (expiry : ℕ) (new : Local T 
   pub reaches : Reaches NoJob old.collector.now.places.capacity old.machine (sight_of old) (situation_of new at_start)
 
 -- It called what was left of the bag in hand: the next bag is looked for, unless this was the last one.
-pub record CallsHand {T W : Type 0} (done : W → Type 0) (old : Local T W) (expiry taken : ℕ) (new : Local T W) : Type 0 where
+pub record CallsHand {T W : Type 0} (done : W → Type 0) (old : Local T W) (expiry taken : ℕ)
+    (new : Local T W) : Type 0 where
   pub machine : new.machine ≡ record old.machine { stage = after_job old.machine expiry taken []; hand = [] }
   pub performed : (c : Cursors) → (log : Log (Job W))
       × Performed old.collector.now.places.capacity (situation_of old c) log (situated new.machine (sight_of old) c)
       × GivesOnly (IsCalled done) log
 
 -- A collection for the epoch x has come to this cursor, and looks for a bag.
-pub record HasTaken {T W : Type 0} (done : W → Type 0) (h : Local T W) (x : ℕ) (cursor : TakeCursor) (n : Local T W) : Type 0 where
+pub record HasTaken {T W : Type 0} (done : W → Type 0) (h : Local T W) (x : ℕ) (cursor : TakeCursor)
+    (n : Local T W) : Type 0 where
   pub taken : ℕ
   pub machine : n.machine ≡ record h.machine { stage = Take x taken; hand = n.machine.hand }
   pub claimer : IsAt h.collector.now.places n.claimer
@@ -103,7 +108,8 @@ pub record HasTaken {T W : Type 0} (done : W → Type 0) (h : Local T W) (x : �
   pub seat : n.seat ≡ h.seat
   pub same : IsSame h n
   pub performed : (log : Log (Job W))
-      × Performed h.collector.now.places.capacity (situation_of h at_start) log (situation_of n (record { put = PutLook 0; take = cursor }))
+      × Performed h.collector.now.places.capacity (situation_of h at_start) log
+      (situation_of n (record { put = PutLook 0; take = cursor }))
       × GivesOnly (IsCalled done) log
 
 -- It took bags that are expired for the epoch of its scan, and called their jobs.
@@ -112,7 +118,8 @@ pub record TakesBags {T W : Type 0} (done : W → Type 0) (old new : Local T W) 
   pub rests : RestsAt new.claimer.me
   pub seat : new.seat ≡ old.seat
   pub same : IsSame old new
-  pub machine : new.machine ≡ record old.machine { stage = after_collect old.machine.action old.machine.held; hand = new.machine.hand }
+  pub machine : new.machine
+      ≡ record old.machine { stage = after_collect old.machine.action old.machine.held; hand = new.machine.hand }
   pub performed : (d : Cursors) × (log : Log (Job W))
       × Performed old.collector.now.places.capacity (situation_of old at_start) log (situation_of new d)
       × GivesOnly (IsCalled done) log
@@ -123,12 +130,14 @@ pub record Collects {T W : Type 0} (done : W → Type 0) (old new : Local T W) :
   pub rests : RestsAt new.claimer.me
   pub same : IsSame old new
   pub pin : KeepsPin old new
-  pub machine : new.machine ≡ record old.machine { stage = after_collect old.machine.action old.machine.held; hand = new.machine.hand }
+  pub machine : new.machine
+      ≡ record old.machine { stage = after_collect old.machine.action old.machine.held; hand = new.machine.hand }
   pub calls : IsDriven (IsCalled done) old new
 
 -- what the seat left in a place last is a bag of just these jobs, in this order
 abbrev pub IsLeftWhole : {J : Type 0} → List J → PlaceView J → Type 0
-IsLeftWhole {J} jobs v = (seal : ℕ) × (before : List (Option (Sealed J))) × (v.left ≡ before ++ Some (record { seal = seal; jobs = jobs }) ∷ [])
+IsLeftWhole {J} jobs v = (seal : ℕ) × (before : List (Option (Sealed J)))
+    × (v.left ≡ before ++ Some (record { seal = seal; jobs = jobs }) ∷ [])
 
 -- It sealed the held bag with the epoch that it loaded, and put it into a place, or it has seen every place occupied.
 pub record Puts {T W : Type 0} (old new : Local T W) : Type 0 where
@@ -136,12 +145,14 @@ pub record Puts {T W : Type 0} (old new : Local T W) : Type 0 where
   pub rests : RestsAt new.claimer.me
   pub same : IsSame old new
   pub pin : KeepsPin old new
-  pub machine : (new.machine ≡ record old.machine { stage = after_put old.machine.action false; full = false; held = [] })
+  pub machine : (new.machine
+      ≡ record old.machine { stage = after_put old.machine.action false; full = false; held = [] })
       ⊎ (new.machine ≡ record old.machine { stage = after_put old.machine.action true; full = true })
   pub whole : new.machine.full ≡ false → IsLeftWhole old.machine.held new.claimer.me.0
   pub drives : IsDriven NoJob old new
 
--- The word says what the machine says: pinned in the published epoch while guards are out, and not pinned while none is.
+-- The word says what the machine says: pinned in the published epoch while guards are out, and not pinned while none
+-- is.
 pub record Agrees {J : Type 0} (m : Machine J) (v : ParticipantView) : Type 0 where
   pub published : 0 < m.guards → v.published ≡ Some m.published
   pub read : 0 < m.guards → v.first_read ≢ None
@@ -154,7 +165,8 @@ pub record IsReady {T W : Type 0} (h : Local T W) : Type 0 where
   pub idle : h.machine.stage ≡ Idle
   pub agrees : Agrees h.machine h.seat.me.0
 
--- The action under way was driven to its end, and its guards are counted from then on. Each job that its machine gave is such.
+-- The action under way was driven to its end, and its guards are counted from then on. Each job that its machine gave
+-- is such.
 pub record EndsGiving {T W : Type 0} (IsSuch : Job W → Type 0) (old new : Local T W) : Type 0 where
   pub last : Machine (Job W)
   pub over : last.stage ≡ End
@@ -183,7 +195,8 @@ pub record IsBetween {T W : Type 0} (old between : Local T W) : Type 0 where
   pub ready : IsReady between
   pub counted : between.machine.guards + 1 ≡ old.machine.guards
 
--- the guard is one that this participant has out, as far as can be told: it is of its position and of its collector's number
+-- the guard is one that this participant has out, as far as can be told: it is of its position and of its collector's
+-- number
 pub record Owns {T W : Type 0} (h : Local T W) (guard : Guard T W) : Type 0 where
   pub position : guard.position ≡ Some h.position
   pub collector : guard.collector.now.id ≡ h.collector.now.id
@@ -195,15 +208,18 @@ each_before position = None ∷ map (λ earlier. Some earlier) (range_with_len 0
 
 -- After the epoch, the words found are those of all positions before this one, in their order, of which none was free.
 abbrev pub FindsEachTaken : ℕ → List (Option ℕ) → List ℕ → Type 0
-FindsEachTaken position looked found = (looked ≡ each_before position) × ((epoch : ℕ) × (taken : List ℕ) × (found ≡ epoch ∷ taken)
+FindsEachTaken position looked found =
+    (looked ≡ each_before position) × ((epoch : ℕ) × (taken : List ℕ) × (found ≡ epoch ∷ taken)
     × (length taken ≡ position) × All (λ word. word ≢ 0) taken)
 
 -- It has tried each position from 0 to its own, once and in order, and only its own was free.
 abbrev pub TriesInOrder : ℕ → List (Option ℕ) → List ℕ → Type 0
-TriesInOrder position looked found = (tried : List (Option ℕ)) × (before : List ℕ) × FindsEachTaken position tried before
+TriesInOrder position looked found =
+    (tried : List (Option ℕ)) × (before : List ℕ) × FindsEachTaken position tried before
     × (looked ≡ tried ++ Some position ∷ []) × (found ≡ before ++ 0 ∷ [])
 
--- a new participant of this collector: registered at the first position that was found free, not pinned, with an empty bag
+-- a new participant of this collector: registered at the first position that was found free, not pinned, with an empty
+-- bag
 pub record IsNewParticipant {T W : Type 0} (collector : Collector T W) (h : Local T W) : Type 0 where
   pub of : h.collector.now ≡ collector
   pub machine : h.machine ≡ fresh collector.sizes

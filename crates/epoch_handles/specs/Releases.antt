@@ -7,7 +7,8 @@ use Rattle.epoch_handles.specs.declared.local.Local.{Local}
 use Rattle.epoch_machine.specs.Machine.{begun, fresh}
 use Rattle.epoch_handles.specs.Handles.{IsSeated, IsReady, IsSame, IsPinned, IsLeftWhole, IsDriven, EndsGiving}
 
--- The release has come to where it puts the held bag, if it has a job, and leaves: it is pinned, and holds what it held.
+-- The release has come to where it puts the held bag, if it has a job, and leaves: it is pinned, and holds what it
+-- held.
 pub record IsLeaving {T W : Type 0} (done : W → Type 0) (old new : Local T W) : Type 0 where
   pub seated : IsSeated new
   pub rests : RestsAt new.claimer.me
@@ -20,7 +21,8 @@ pub record IsLeaving {T W : Type 0} (done : W → Type 0) (old new : Local T W) 
   pub sizes : new.machine.sizes ≡ old.machine.sizes
   pub calls : IsDriven (IsCalled done) (record old { machine = begun Release old.machine }) new
 
--- The held bag found no place, and the machine says so: the participant is not pinned, keeps its position, and holds the bag as before.
+-- The held bag found no place, and the machine says so: the participant is not pinned, keeps its position, and holds
+-- the bag as before.
 pub record IsRefused {T W : Type 0} (done : W → Type 0) (old new : Local T W) : Type 0 where
   pub same : IsSame old new
   pub ends : EndsGiving (IsCalled done) old new
@@ -29,7 +31,8 @@ pub record IsRefused {T W : Type 0} (done : W → Type 0) (old new : Local T W) 
   pub counted : new.machine.guards ≡ 0
   pub full : new.machine.full ≡ true
 
--- The position is free, the machine is that of a free position, and the held bag, if it had a job, was left whole in a place.
+-- The position is free, the machine is that of a free position, and the held bag, if it had a job, was left whole in a
+-- place.
 pub record IsFreed {T W : Type 0} (done : W → Type 0) (old new : Local T W) : Type 0 where
   pub same : IsSame old new
   pub position : new.seat.me.0.position ≡ None

@@ -34,7 +34,8 @@ words_told (x ∷ log) = word_told x.reply ++ words_told log
 abbrev pub RepliesAreFound : Type 0 → Type 0
 RepliesAreFound J = (places : ℕ) (before after : Situation J) (log : Log J)
     → Performed places before log after
-    → (after.sight.words.found ≡ before.sight.words.found ++ words_told log) × (before.sight.words.seen ≤ after.sight.words.seen)
+    → (after.sight.words.found ≡ before.sight.words.found ++ words_told log)
+    × (before.sight.words.seen ≤ after.sight.words.seen)
 
 -- a collection that is asked for is for an epoch at most this one
 abbrev pub IsExpiryWithin : ℕ → Ask → Type 0
@@ -53,8 +54,8 @@ ExpiriesAreSeen J = (places : ℕ) (action : Action) (before after : Situation J
 
 -- THE PLACES
 
--- What a put answers at this cursor by the words found there, and where it goes on. A look and a claim find one word: at
--- 0 the put goes on at the place, and else it passes it. A fill finds none, and is the last step.
+-- What a put answers at this cursor by the words found there, and where it goes on. A look and a claim find one word:
+-- at 0 the put goes on at the place, and else it passes it. A fill finds none, and is the last step.
 abbrev pub PutTells : ℕ → PutCursor → List ℕ → PutStep → PutCursor → Type 0
 PutTells places (PutLook place) found step next = (word : ℕ) × (found ≡ word ∷ [])
     × (word ≡ 0 → (step ≡ PutAgain) × (next ≡ PutClaim place))
@@ -65,7 +66,8 @@ PutTells places (PutClaim place) found step next = (word : ℕ) × (found ≡ wo
 PutTells places (Fill place) found step next = (found ≡ []) × (step ≡ Done)
 
 -- The same of a collection for the epoch x. A look finds one word, and so does a claim: the place of an expired bag is
--- claimed by the very word looked at, and else it is passed. Past the last place no word is found, nor where a bag is got.
+-- claimed by the very word looked at, and else it is passed. Past the last place no word is found, nor where a bag is
+-- got.
 abbrev pub TakeTells : ℕ → ℕ → TakeCursor → List ℕ → TakeStep → TakeCursor → Type 0
 TakeTells places x (TakeLook place) found step next = (place ≡ places → (found ≡ []) × (step ≡ TakeEnds))
     × (place ≢ places → (word : ℕ) × (found ≡ word ∷ [])
@@ -80,7 +82,8 @@ TakeTells places x (Empty place) found step next = (found ≡ []) × (step ≡ G
 -- is no step at a place finds no word there.
 abbrev pub Tells : {J : Type 0} → ℕ → Cursors → Ask → Reply J → List ℕ → Cursors → Type 0
 Tells places c (PutBag seal) (PutStepped step) found d = (d.take ≡ c.take) × PutTells places c.put found step d.put
-Tells places c (TakeBag x) (TakeStepped step jobs) found d = (d.put ≡ c.put) × TakeTells places x c.take found step d.take
+Tells places c (TakeBag x) (TakeStepped step jobs) found d =
+    (d.put ≡ c.put) × TakeTells places x c.take found step d.take
 Tells places c LoadEpoch reply found d = (found ≡ []) × (d ≡ at_start)
 Tells places c ask reply found d = (found ≡ []) × (d ≡ c)
 

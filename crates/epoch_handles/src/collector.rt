@@ -38,7 +38,8 @@ const USUAL_COLLECT_BAGS: u32 = 8;
 impl Capacities {
     /// Bags of 64 jobs, of which a collection takes 8, as in crossbeam-epoch.
     pub fn usual(participants: u32, cells: u32, bags: u32) -> Capacities
-        ensures { result ≡ (record { participants = participants; cells = cells; bags = bags; bag_jobs = 64; collect_bags = 8 }) }
+        ensures { result
+            ≡ (record { participants = participants; cells = cells; bags = bags; bag_jobs = 64; collect_bags = 8 }) }
     {
         Capacities {
             participants,

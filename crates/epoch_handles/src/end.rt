@@ -15,7 +15,8 @@ impl<T: Drop> Collector<T> {
     /// Ends the collector: calls every job that is left in its places, drops the values that are left in its cells,
     /// and answers how many jobs it called. It tries once for each place to take a bag out.
     pub fn end(self) -> u64
-        ensures called { (after : _) × CallsEach ⟦<Work as Run>⟧.done self.places.capacity (with_claim None [] [] [] []) after self.places.capacity result }
+        ensures called { (after : _) × CallsEach ⟦<Work as Run>⟧.done self.places.capacity
+            (with_claim None [] [] [] []) after self.places.capacity result }
     {
         let Collector {
             id: _,
@@ -76,7 +77,8 @@ fn tell_few<W>(bags: &[Option<SealedBag<Job<W>>>])
 /// Calls every job of each bag, the oldest of a bag first, and leaves each place `None`. Answers how many jobs.
 pub fn end_bags<T: Drop, W: Run>(cells: &Cells<T>, bags: &mut [Option<SealedBag<Job<W>>>]) -> u64
     ensures count { result ≡ jobs_in bags.old }
-    ensures called { (place : ℕ) → place < length bags.old → IsBagCalled (IsCalled W.done) (slice_index_or bags.old place None) }
+    ensures called { (place : ℕ) → place < length bags.old
+        → IsBagCalled (IsCalled W.done) (slice_index_or bags.old place None) }
     ensures few { result ≤ 64 * length bags.old }
     ensures none { (place : ℕ) → place < length bags.old → slice_index_or bags.new place None ≡ None }
 {

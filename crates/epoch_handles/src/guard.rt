@@ -37,7 +37,8 @@ impl<'c, T, W> Guard<'c, T, W> {
 
     /// The collector of a protecting guard, and `None` of an unprotected one, as in crossbeam-epoch.
     pub fn collector(&self) -> Option<&'c Collector<T, W>>
-        ensures { MatchOption result (self.now.position ≡ None) (λ collector. IsSome self.now.position × (collector.now ≡ self.now.collector.now)) }
+        ensures { MatchOption result (self.now.position ≡ None)
+            (λ collector. IsSome self.now.position × (collector.now ≡ self.now.collector.now)) }
     {
         match self.position {
             Some(_) => Some(self.collector),

@@ -1,5 +1,6 @@
 //! Handles: what a thread is a participant by.
-ghost use Rattle.std.specs.Prelude.{◌≡◌, true, ℕ, ◌+◌, ◌<◌, ◌^◌, ◌↔◌, ◌≢◌, [], ◌∷◌, ◌++◌, ◌⊎◌, IsTrue, IsSome, IsOk, IsErr, Err, IfOk, IfErr, Some, None, length};
+ghost use Rattle.std.specs.Prelude.{◌≡◌, true, ℕ, ◌+◌, ◌<◌, ◌^◌, ◌↔◌, ◌≢◌, [], ◌∷◌, ◌++◌, ◌⊎◌, IsTrue, IsSome, IsOk};
+ghost use Rattle.std.specs.Prelude.{IsErr, Err, IfOk, IfErr, Some, None, length};
 ghost use Rattle.epoch_cells.specs.declared.fault.Fault.TheVariants.{StrangerGuard, BagsFull};
 ghost use Rattle.epoch_bags.specs.Jobs.{IsCalled, IsTried};
 ghost use Rattle.epoch_handles.specs.Handles.{IsReady, IsSame, IsBetween, Owns, Does, DoesAndCalls};
@@ -145,10 +146,14 @@ impl<'c, T: Drop, W: Run> LocalHandle<'c, T, W> {
         ensures unprotected { guard.now.position ≡ None → IsOk result × (self.new ≡ self.old) }
         ensures at_once { guard.now.position ≡ None → IsCalled W.done job }
         ensures tried { guard.now.position ≡ None → IsTried W.Removing.tried job }
-        ensures stranger { IsSome guard.now.position → ¬ Owns self.old guard.now → IfErr result (λ refused. refused.fault ≡ StrangerGuard) × IsErr result × (self.new ≡ self.old) }
-        ensures does { IsSome guard.now.position → Owns self.old guard.now → Does self.old Defer self.new × IfErr result (λ refused. refused.fault ≡ BagsFull) }
-        ensures room { Owns self.old guard.now → length self.old.machine.held < self.old.machine.sizes.bag_jobs → IsOk result × (self.new.machine.held ≡ self.old.machine.held ++ job ∷ []) }
-        ensures kept { Owns self.old guard.now → IsOk result → (self.new.machine.held ≡ self.old.machine.held ++ job ∷ []) ⊎ (self.new.machine.held ≡ job ∷ []) }
+        ensures stranger { IsSome guard.now.position → ¬ Owns self.old guard.now
+            → IfErr result (λ refused. refused.fault ≡ StrangerGuard) × IsErr result × (self.new ≡ self.old) }
+        ensures does { IsSome guard.now.position → Owns self.old guard.now
+            → Does self.old Defer self.new × IfErr result (λ refused. refused.fault ≡ BagsFull) }
+        ensures room { Owns self.old guard.now → length self.old.machine.held < self.old.machine.sizes.bag_jobs
+            → IsOk result × (self.new.machine.held ≡ self.old.machine.held ++ job ∷ []) }
+        ensures kept { Owns self.old guard.now → IsOk result
+            → (self.new.machine.held ≡ self.old.machine.held ++ job ∷ []) ⊎ (self.new.machine.held ≡ job ∷ []) }
         ensures err { IsErr result → self.new.machine.held ≡ self.old.machine.held }
         ensures found { Owns self.old guard.now → IsErr result ↔ (self.new.machine.full ≡ true) }
         ensures handed_back { IfErr result (λ refused. refused.value ≡ job) }
@@ -169,7 +174,8 @@ impl<'c, T: Drop, W: Run> LocalHandle<'c, T, W> {
         ensures unprotected { guard.now.position ≡ None → IsOk result }
         ensures at_once { guard.now.position ≡ None → IsCalled W.done job }
         ensures tried { guard.now.position ≡ None → IsTried W.Removing.tried job }
-        ensures stranger { IsSome guard.now.position → IfErr result (λ refused. refused.fault ≡ StrangerGuard) × IsErr result }
+        ensures stranger { IsSome guard.now.position
+            → IfErr result (λ refused. refused.fault ≡ StrangerGuard) × IsErr result }
         ensures handed_back { IfErr result (λ refused. refused.value ≡ job) }
     {
         if guard.is_protecting() {
@@ -219,10 +225,12 @@ impl<'c, T: Drop, W: Run> LocalHandle<'c, T, W> {
         ensures ready { IsReady self.new }
         ensures counted { self.new.machine.guards ≡ self.old.machine.guards }
         ensures unprotected { guard.now.position ≡ None → IsOk result × (self.new ≡ self.old) }
-        ensures stranger { IsSome guard.now.position → ¬ Owns self.old guard.now → (result ≡ Err StrangerGuard) × (self.new ≡ self.old) }
+        ensures stranger { IsSome guard.now.position → ¬ Owns self.old guard.now
+            → (result ≡ Err StrangerGuard) × (self.new ≡ self.old) }
         ensures does { Owns self.old guard.now → Does self.old Flush self.new }
         ensures called { Owns self.old guard.now → DoesAndCalls W.done self.old Flush self.new }
-        ensures full { Owns self.old guard.now → IsErr result → (result ≡ Err BagsFull) × (self.old.machine.held ≢ []) × (self.new.machine.held ≡ self.old.machine.held) }
+        ensures full { Owns self.old guard.now → IsErr result
+            → (result ≡ Err BagsFull) × (self.old.machine.held ≢ []) × (self.new.machine.held ≡ self.old.machine.held) }
         ensures empty { Owns self.old guard.now → IsOk result → self.new.machine.held ≡ [] }
         ensures found { Owns self.old guard.now → IsErr result ↔ (self.new.machine.full ≡ true) }
     {
@@ -251,7 +259,8 @@ impl<'c, T: Drop, W: Run> LocalHandle<'c, T, W> {
         ensures ready { IsReady self.new }
         ensures counted { self.new.machine.guards ≡ self.old.machine.guards }
         ensures unprotected { guard.old.position ≡ None → self.new ≡ self.old }
-        ensures does { IsSome guard.old.position → (between : _) × IsBetween self.old between × Does self.old Unpin between × Does between Pin self.new × DoesAndCalls W.done between Pin self.new }
+        ensures does { IsSome guard.old.position → (between : _) × IsBetween self.old between
+            × Does self.old Unpin between × Does between Pin self.new × DoesAndCalls W.done between Pin self.new }
     {
         if !guard.is_protecting() {
             let _ = &self.local;
@@ -277,7 +286,8 @@ impl<'c, T: Drop, W: Run> LocalHandle<'c, T, W> {
         ensures does { IfErr result (λ back. Does self.entry Release back.0) }
         ensures called { IfErr result (λ back. DoesAndCalls W.done self.entry Release back.0) }
         ensures ready { IfErr result (λ back. IsReady back.0) }
-        ensures held { IfErr result (λ back. (self.entry.machine.held ≢ []) × (back.0.machine.held ≡ self.entry.machine.held)) }
+        ensures held { IfErr result
+            (λ back. (self.entry.machine.held ≢ []) × (back.0.machine.held ≡ self.entry.machine.held)) }
         ensures counted { IfErr result (λ back. back.0.machine.guards ≡ 0) }
         ensures found { IfErr result (λ back. back.0.machine.full ≡ true) }
         ensures frees { IfOk result (λ released. IsReleased W.done self.entry released.local) }
@@ -301,7 +311,8 @@ impl<'c, T: Drop, W: Run> LocalHandle<'c, T, W> {
         ensures does { IfErr result (λ back. Does self.entry Release back.0) }
         ensures called { IfErr result (λ back. DoesAndCalls W.done self.entry Release back.0) }
         ensures ready { IfErr result (λ back. IsReady back.0) }
-        ensures held { IfErr result (λ back. (self.entry.machine.held ≢ []) × (back.0.machine.held ≡ self.entry.machine.held)) }
+        ensures held { IfErr result
+            (λ back. (self.entry.machine.held ≢ []) × (back.0.machine.held ≡ self.entry.machine.held)) }
         ensures counted { IfErr result (λ back. back.0.machine.guards ≡ 0) }
         ensures found { IfErr result (λ back. back.0.machine.full ≡ true) }
         ensures frees { IsOk result → (last : _) × IsReleased W.done self.entry last }
@@ -326,10 +337,14 @@ impl<'c, T: Drop, W: Run> LocalHandle<'c, T, W> {
         ensures unprotected { guard.now.position ≡ None → IsOk result × (self.new ≡ self.old) }
         ensures at_once { guard.now.position ≡ None → IsCalled W.done job }
         ensures tried { guard.now.position ≡ None → IsTried W.Removing.tried job }
-        ensures stranger { IsSome guard.now.position → ¬ Owns self.old guard.now → IfErr result (λ refused. refused.fault ≡ StrangerGuard) × IsErr result × (self.new ≡ self.old) }
-        ensures does { IsSome guard.now.position → Owns self.old guard.now → Does self.old Defer self.new × IfErr result (λ refused. refused.fault ≡ BagsFull) }
-        ensures room { Owns self.old guard.now → length self.old.machine.held < self.old.machine.sizes.bag_jobs → IsOk result × (self.new.machine.held ≡ self.old.machine.held ++ job ∷ []) }
-        ensures kept { Owns self.old guard.now → IsOk result → (self.new.machine.held ≡ self.old.machine.held ++ job ∷ []) ⊎ (self.new.machine.held ≡ job ∷ []) }
+        ensures stranger { IsSome guard.now.position → ¬ Owns self.old guard.now
+            → IfErr result (λ refused. refused.fault ≡ StrangerGuard) × IsErr result × (self.new ≡ self.old) }
+        ensures does { IsSome guard.now.position → Owns self.old guard.now
+            → Does self.old Defer self.new × IfErr result (λ refused. refused.fault ≡ BagsFull) }
+        ensures room { Owns self.old guard.now → length self.old.machine.held < self.old.machine.sizes.bag_jobs
+            → IsOk result × (self.new.machine.held ≡ self.old.machine.held ++ job ∷ []) }
+        ensures kept { Owns self.old guard.now → IsOk result
+            → (self.new.machine.held ≡ self.old.machine.held ++ job ∷ []) ⊎ (self.new.machine.held ≡ job ∷ []) }
         ensures err { IsErr result → self.new.machine.held ≡ self.old.machine.held }
         ensures found { Owns self.old guard.now → IsErr result ↔ (self.new.machine.full ≡ true) }
         ensures handed_back { IfErr result (λ refused. refused.value ≡ job) }

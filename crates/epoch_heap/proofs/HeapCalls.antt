@@ -1,16 +1,20 @@
 -- What the calls on a heap do, said by what the calls on its cells say.
-use Rattle.std.proofs.Common.{◌≡◌, ◌≢◌, ◌↔◌, ℕ, zero, suc, ◌+◌, ◌-◌, ◌<◌, Bool, true, false, List, [], ◌∷◌, length, Option, Some, None, IfSome, IsTrue, slice_get, slice_set, refl, ap, sym, subst, ◌∙◌, inl, inr, arith}
+use Rattle.std.proofs.Common.{◌≡◌, ◌≢◌, ◌↔◌, ℕ, zero, suc, ◌+◌, ◌-◌, ◌<◌, Bool, true, false, List, [], ◌∷◌, length}
+use Rattle.std.proofs.Common.{Option, Some, None, IfSome, IsTrue, slice_get, slice_set, refl, ap, sym, subst, ◌∙◌, inl}
+use Rattle.std.proofs.Common.{inr, arith}
 use Rattle.epoch_cells.specs.PlainCells.{with_cell, filled, IsFree, HasReader, Lowers, Replaces}
 use Rattle.epoch_cells.specs.declared.cells.name.Name.{Name}
 use Rattle.epoch_heap.specs.declared.heap.Content.{Content}
 use Rattle.epoch_heap.specs.declared.access.Accessed.TheVariants.{Again, Answers}
-use Rattle.epoch_heap.specs.declared.access.Answer.TheVariants.{Unit as UnitAnswer, Name as NameAnswer, Updated, Exchanged}
+use Rattle.epoch_heap.specs.declared.access.Answer.TheVariants.{Unit as UnitAnswer, Name as NameAnswer, Updated}
+use Rattle.epoch_heap.specs.declared.access.Answer.TheVariants.{Exchanged}
 use Rattle.epoch_heap.specs.declared.access.Change.{Change}
 use Rattle.epoch_heap.specs.declared.access.Change.TheVariants.{CompareExchange, FetchUpdate}
 use Rattle.epoch_heap.specs.declared.access.Ptr.{Ptr}
 use Rattle.epoch_heap.specs.declared.access.Spot.{Spot}
 use Rattle.epoch_heap.specs.declared.access.Update.{Update}
-use Rattle.epoch_heap.specs.Heap.{Cell, Heap, aligned, cell_at, with_field, with_field_in, updated_by, nulls, touched, Touched, replaced, left_by, answers, Places, Changes, ChangesAt}
+use Rattle.epoch_heap.specs.Heap.{Cell, Heap, aligned, cell_at, with_field, with_field_in, updated_by, nulls, touched}
+use Rattle.epoch_heap.specs.Heap.{Touched, replaced, left_by, answers, Places, Changes, ChangesAt}
 use Rattle.epoch_heap.proofs.FoundCells.{found_cell}
 
 -- what stands there is written again
@@ -27,14 +31,17 @@ left_beside : (h : Heap) (n : Name) (left : Bool) (new : List Cell) (there : Opt
     → (IsTrue left → Lowers n.slot there h.cells new)
     → (left ≡ false → new ≡ h.cells)
     → answers UnitAnswer (record h { cells = new }) ≡ left_by h n there
-left_beside h n true new (Some cell) e read lowers stays = ap (λ cells. answers UnitAnswer (record h { cells = cells })) (lowers refl)
+left_beside h n true new (Some cell) e read lowers stays =
+    ap (λ cells. answers UnitAnswer (record h { cells = cells })) (lowers refl)
 left_beside h n true new None e read lowers stays = absurd (lowers refl)
-left_beside h n false new None e read lowers stays = ap (λ cells. answers UnitAnswer (record h { cells = cells })) (stays refl)
+left_beside h n false new None e read lowers stays =
+    ap (λ cells. answers UnitAnswer (record h { cells = cells })) (stays refl)
 left_beside h n false new (Some cell) e read lowers stays =
     let none : cell.readers ≡ 0 = none_read cell.readers (λ some. cc (read.1 some)) in
     let same : record cell { readers = cell.readers - 1 } ≡ cell = lowered cell none in
     let kept : with_cell h.cells n.slot (record cell { readers = cell.readers - 1 }) ≡ h.cells =
-    ap (λ other. with_cell h.cells n.slot other) same ∙ set_again h.cells (n.slot - 1) cell (found_cell n.turn (slice_get h.cells (n.slot - 1)) cell e).0 in
+    ap (λ other. with_cell h.cells n.slot other) same
+    ∙ set_again h.cells (n.slot - 1) cell (found_cell n.turn (slice_get h.cells (n.slot - 1)) cell e).0 in
     ap (λ cells. answers UnitAnswer (record h { cells = cells })) (stays refl ∙ sym kept)
   where
     none_read : (k : ℕ) → ¬ (0 < k) → k ≡ 0
@@ -55,17 +62,20 @@ left_so h n left new read lowers stays = left_beside h n left new (cell_at h n) 
 
 -- A POINTER WRITTEN
 
-stored_beside : (h : Heap) (n : Name) (f readers : ℕ) (ptr : Ptr) (content : Content) (amended : Bool) (new : List Cell) (there : Option Cell)
+stored_beside : (h : Heap) (n : Name) (f readers : ℕ) (ptr : Ptr) (content : Content) (amended : Bool)
+    (new : List Cell) (there : Option Cell)
     → there ≡ Some (filled n.turn readers content)
     → (IsTrue amended → Replaces n.slot (with_field content f ptr) there h.cells new)
     → (amended ≡ false → (there ≡ None) × (new ≡ h.cells))
     → record h { cells = new } ≡ with_field_in h n f ptr there
 stored_beside h n f readers ptr content true new there e replaces stays =
     let new_is = subst (λ it. Replaces n.slot (with_field content f ptr) it h.cells new) e (replaces refl) in
-    subst (λ it. record h { cells = new } ≡ with_field_in h n f ptr it) (sym e) (ap (λ cells. record h { cells = cells }) new_is)
+    subst (λ it. record h { cells = new } ≡ with_field_in h n f ptr it) (sym e)
+    (ap (λ cells. record h { cells = cells }) new_is)
 stored_beside h n f readers ptr content false new there e replaces stays = absurd (cc (e, (stays refl).0))
 
-pub stored : (h : Heap) (n : Name) (f readers : ℕ) (ptr : Ptr) (content after : Content) (amended : Bool) (new : List Cell)
+pub stored : (h : Heap) (n : Name) (f readers : ℕ) (ptr : Ptr) (content after : Content)
+    (amended : Bool) (new : List Cell)
     → cell_at h n ≡ Some (filled n.turn readers content)
     → after ≡ with_field content f ptr
     → (IsTrue amended → Replaces n.slot after (cell_at h n) h.cells new)
@@ -96,7 +106,8 @@ pub placed : (v k : ℕ) (found : Ptr) (h : Heap) (there : Option Cell) (n : Nam
 placed v k found h None n content new some slot free turn content_is new_is = absurd (some refl)
 placed v k found h (Some cell) n content new some slot free turn content_is new_is =
     let cells_are : new ≡ with_cell h.cells n.slot (filled n.turn 0 (record { value = v; fields = nulls 16 })) =
-    new_is ∙ ap (λ c. with_cell h.cells (k + 1) (filled n.turn 0 c)) content_is ∙ ap (λ s. with_cell h.cells s (filled n.turn 0 (record { value = v; fields = nulls 16 }))) (sym slot) in
+    new_is ∙ ap (λ c. with_cell h.cells (k + 1) (filled n.turn 0 c)) content_is
+    ∙ ap (λ s. with_cell h.cells s (filled n.turn 0 (record { value = v; fields = nulls 16 }))) (sym slot) in
     inl (free, n, slot, sym turn, ap (λ cells. answers (NameAnswer n) (record h { cells = cells })) cells_are)
 
 pub not_placed : (v k : ℕ) (found : Ptr) (h : Heap) (there : Option Cell) (new : List Cell)
@@ -105,14 +116,16 @@ pub not_placed : (v k : ℕ) (found : Ptr) (h : Heap) (there : Option Cell) (new
     → new ≡ h.cells
     → Places v k found h there (touched (Again found) (record h { cells = new }))
 not_placed v k found h None new some taken same = absurd (some refl)
-not_placed v k found h (Some cell) new some taken same = inr (taken, ap (λ cells. touched (Again found) (record h { cells = cells })) same)
+not_placed v k found h (Some cell) new some taken same =
+    inr (taken, ap (λ cells. touched (Again found) (record h { cells = cells })) same)
 
 pub some_there : {X : Type 0} (xs : List X) (i : ℕ) → i < length xs → slice_get xs i ≢ None
 some_there [] i within = absurd (omega (arith, within))
 some_there (x ∷ xs) zero within = λ e. cc e
 some_there (x ∷ xs) (suc i) within = some_there xs i (omega (arith, within))
 
-pub exchanged : (change : Change) (current other : Ptr) (k : ℕ) (found ptr : Ptr) (spot : Spot) (h : Heap) (there : Option Ptr) (did : Touched)
+pub exchanged : (change : Change) (current other : Ptr) (k : ℕ) (found ptr : Ptr) (spot : Spot) (h : Heap)
+    (there : Option Ptr) (did : Touched)
     → change ≡ CompareExchange current other
     → there ≡ Some ptr
     → ptr ≡ aligned h current

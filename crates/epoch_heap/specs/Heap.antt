@@ -1,9 +1,13 @@
 -- Cells, their fields and the roots, and what one step does to them.
-use Rattle.std.specs.Prelude.{◌≡◌, ◌≢◌, ℕ, zero, suc, ◌+◌, ◌-◌, ◌%◌, ◌^◌, ◌<◌, ◌≤◌, ◌==◌, ◌&&◌, ◌||◌, nat_lt, nat_le, Bool, true, false, List, [], ◌∷◌, length, Option, Some, None, is_some, option_map, ◌⊎◌, if◌then◌else◌, slice_get, slice_set, bit_and, bit_or, bit_xor}
-use Rattle.epoch_cells.specs.PlainCells.{Numbered, filled, empty, cell_of, with_cell, unread, readable, removal_of, IsFree}
+use Rattle.std.specs.Prelude.{◌≡◌, ◌≢◌, ℕ, zero, suc, ◌+◌, ◌-◌, ◌%◌, ◌^◌, ◌<◌, ◌≤◌, ◌==◌, ◌&&◌, ◌||◌, nat_lt, nat_le}
+use Rattle.std.specs.Prelude.{Bool, true, false, List, [], ◌∷◌, length, Option, Some, None, is_some, option_map, ◌⊎◌}
+use Rattle.std.specs.Prelude.{if◌then◌else◌, slice_get, slice_set, bit_and, bit_or, bit_xor}
+use Rattle.epoch_cells.specs.PlainCells.{Numbered, filled, empty, cell_of, with_cell, unread, readable, removal_of}
+use Rattle.epoch_cells.specs.PlainCells.{IsFree}
 use Rattle.epoch_cells.specs.declared.cells.name.Name.{Name}
 use Rattle.epoch_cells.specs.declared.cells.Removal.{Removal}
-use Rattle.epoch_cells.specs.declared.cells.Removal.TheVariants.{Destroyed as RemovalDestroyed, HeldElsewhere as RemovalHeld, Gone as RemovalGone}
+use Rattle.epoch_cells.specs.declared.cells.Removal.TheVariants.{Destroyed as RemovalDestroyed}
+use Rattle.epoch_cells.specs.declared.cells.Removal.TheVariants.{HeldElsewhere as RemovalHeld, Gone as RemovalGone}
 use Rattle.epoch_bags.specs.declared.job.Called.{Called}
 use Rattle.epoch_bags.specs.declared.job.Called.TheVariants.{Ran, Destroyed, HeldElsewhere, Gone}
 use Rattle.epoch_heap.specs.declared.heap.Content.{Content}
@@ -13,13 +17,15 @@ use Rattle.epoch_heap.specs.declared.access.Spot.TheVariants.{Root, Field}
 use Rattle.epoch_heap.specs.declared.access.Update.{Update}
 use Rattle.epoch_heap.specs.declared.access.Update.TheVariants.{Tag, To, Stop}
 use Rattle.epoch_heap.specs.declared.access.Change.{Change}
-use Rattle.epoch_heap.specs.declared.access.Change.TheVariants.{Load, Store, Swap, CompareExchange, FetchAnd, FetchOr, FetchXor, FetchUpdate}
+use Rattle.epoch_heap.specs.declared.access.Change.TheVariants.{Load, Store, Swap, CompareExchange, FetchAnd, FetchOr}
+use Rattle.epoch_heap.specs.declared.access.Change.TheVariants.{FetchXor, FetchUpdate}
 use Rattle.epoch_heap.specs.declared.access.Access.{Access}
 use Rattle.epoch_heap.specs.declared.access.Access.TheVariants.{Place, Read, Leave, Write, Take, Point}
 use Rattle.epoch_heap.specs.declared.access.Accessed.{Accessed}
 use Rattle.epoch_heap.specs.declared.access.Accessed.TheVariants.{Again, Answers, NoSlot}
 use Rattle.epoch_heap.specs.declared.access.Answer.{Answer}
-use Rattle.epoch_heap.specs.declared.access.Answer.TheVariants.{Unit as UnitAnswer, Name as NameAnswer, Value, Absent, Pointer, Exchanged, Unchanged, Updated, Stopped, RanOut}
+use Rattle.epoch_heap.specs.declared.access.Answer.TheVariants.{Unit as UnitAnswer, Name as NameAnswer, Value, Absent}
+use Rattle.epoch_heap.specs.declared.access.Answer.TheVariants.{Pointer, Exchanged, Unchanged, Updated, Stopped, RanOut}
 
 abbrev pub Cell : Type 0
 Cell = Numbered Content
@@ -70,7 +76,8 @@ abbrev pub with_field : Content → ℕ → Ptr → Content
 with_field content f ptr = record content { fields = slice_set content.fields f ptr }
 
 abbrev pub with_field_in : Heap → Name → ℕ → Ptr → Option Cell → Heap
-with_field_in h n f ptr (Some cell) = with_cell_at h n (record cell { value = option_map (λ content. with_field content f ptr) cell.value })
+with_field_in h n f ptr (Some cell) =
+    with_cell_at h n (record cell { value = option_map (λ content. with_field content f ptr) cell.value })
 with_field_in h n f ptr None = h
 
 abbrev pub with_pointer : Heap → Spot → Ptr → Heap
@@ -88,7 +95,8 @@ has_spot h (Root i) = nat_lt i (length h.roots)
 has_spot h (Field n f) = nat_lt f h.fields
 
 abbrev pub turn_given : ℕ → ℕ → Option Cell → Bool
-turn_given start turn (Some cell) = nat_le start turn && (nat_lt turn cell.turn || ((turn == cell.turn) && is_some cell.value))
+turn_given start turn (Some cell) =
+    nat_le start turn && (nat_lt turn cell.turn || ((turn == cell.turn) && is_some cell.value))
 turn_given start turn None = false
 
 abbrev pub was_given : Heap → Name → Bool
@@ -141,7 +149,8 @@ answers answer heap = touched (Answers answer) heap
 abbrev pub Places : ℕ → ℕ → Ptr → Heap → Option Cell → Touched → Type 0
 Places v k found h None did = did ≡ touched NoSlot h
 Places v k found h (Some cell) did =
-    (IsFree cell × (n : Name) × (n.slot ≡ k + 1) × (n.turn ≡ cell.turn) × (did ≡ answers (NameAnswer n) (with_cell_at h n (filled n.turn 0 (record { value = v; fields = nulls 16 })))))
+    (IsFree cell × (n : Name) × (n.slot ≡ k + 1) × (n.turn ≡ cell.turn)
+    × (did ≡ answers (NameAnswer n) (with_cell_at h n (filled n.turn 0 (record { value = v; fields = nulls 16 })))))
     ⊎ ((¬ (IsFree cell)) × (did ≡ touched (Again found) h))
 
 abbrev pub raised : Cell → Cell
@@ -190,7 +199,8 @@ Changes (FetchAnd n) k found ptr spot h did = did ≡ replaced h spot (tagged h 
 Changes (FetchOr n) k found ptr spot h did = did ≡ replaced h spot (tagged h ptr (bit_or ptr.tag n)) (Pointer ptr)
 Changes (FetchXor n) k found ptr spot h did = did ≡ replaced h spot (tagged h ptr (bit_xor ptr.tag n)) (Pointer ptr)
 Changes (FetchUpdate tries by) zero found ptr spot h did =
-    did ≡ touched (if tries == 0 then Answers (RanOut ptr) else (if is_stop by then Answers (Stopped ptr) else Again ptr)) h
+    did ≡ touched (if tries == 0 then Answers (RanOut ptr)
+    else (if is_stop by then Answers (Stopped ptr) else Again ptr)) h
 Changes (FetchUpdate tries by) (suc k) found ptr spot h did =
     ((ptr ≡ found) × (did ≡ replaced h spot (aligned h (updated_by by ptr)) (Updated ptr)))
     ⊎ ((ptr ≢ found) × (did ≡ touched (if suc k == tries then Answers (RanOut ptr) else Again ptr) h))

@@ -1,5 +1,5 @@
-//! Pointers, the calls on them and on cells, and what calls answer. The calls on pointers are those of crossbeam-epoch's
-//! `Atomic`; the calls on cells stand for what `Owned` and `Shared` do there.
+//! Pointers, the calls on them and on cells, and what calls answer. The calls on pointers are those of
+//! crossbeam-epoch's `Atomic`; the calls on cells stand for what `Owned` and `Shared` do there.
 ghost use Rattle.std.specs.Prelude.{◌≡◌};
 ghost use Rattle.epoch_heap.specs.Heap.{guard_of};
 

@@ -1,9 +1,14 @@
 //! Cells, their fields and the roots, and what one step of a call does to them.
-ghost use Rattle.std.specs.Prelude.{◌≡◌, ◌≢◌, true, false, ◌==◌, ◌<◌, ◌≤◌, ℕ, Option, Some, length, slice_get, if◌then◌else◌, IfOk, IfErr};
+ghost use Rattle.std.specs.Prelude.{◌≡◌, ◌≢◌, true, false, ◌==◌, ◌<◌, ◌≤◌, ℕ, Option, Some, length, slice_get};
+ghost use Rattle.std.specs.Prelude.{if◌then◌else◌, IfOk, IfErr};
 ghost use Rattle.epoch_cells.specs.declared.fault.Fault.TheVariants.{NoMemory};
 ghost use Rattle.epoch_cells.specs.PlainCells.{empty, readable, unread};
 ghost use Rattle.epoch_heap.specs.declared.access.Accessed.TheVariants.{Answers};
-ghost use Rattle.epoch_heap.specs.Heap.{Cell, aligned, tagged, pointer_at, with_field, with_pointer, null, cell_at, at_name, read_by, left_by, written_by, taken_by, updated_by, is_stop, has_spot, knows_spot, knows_change, was_given, is_known, is_removable, has_place, knows_names, outcome_of, heap_after_job, touched, replaced, Places, Changes, ChangesAt, Touches, is_name, AccessFits, GoesOnWithin};
+ghost use Rattle.epoch_heap.specs.Heap.{Cell, aligned, tagged, pointer_at, with_field, with_pointer, null, cell_at};
+ghost use Rattle.epoch_heap.specs.Heap.{at_name, read_by, left_by, written_by, taken_by, updated_by, is_stop, has_spot};
+ghost use Rattle.epoch_heap.specs.Heap.{knows_spot, knows_change, was_given, is_known, is_removable, has_place};
+ghost use Rattle.epoch_heap.specs.Heap.{knows_names, outcome_of, heap_after_job, touched, replaced, Places, Changes};
+ghost use Rattle.epoch_heap.specs.Heap.{ChangesAt, Touches, is_name, AccessFits, GoesOnWithin};
 
 use crate::access::{Access, Accessed, Answer, Change, Ptr, Spot, Update};
 use epoch_bags::Called;
@@ -70,8 +75,10 @@ impl Heap {
         ensures fields { IfOk result (λ heap. heap.fields ≡ fields) }
         ensures align { IfOk result (λ heap. heap.align ≡ align) }
         ensures start_turn { IfOk result (λ heap. heap.start_turn ≡ start_turn) }
-        ensures null_roots { IfOk result (λ heap. (i : ℕ) (ptr : Ptr) → slice_get heap.roots i ≡ Some ptr → ptr ≡ null) }
-        ensures empty_cells { IfOk result (λ heap. (k : ℕ) (cell : Cell) → slice_get heap.cells k ≡ Some cell → cell ≡ empty start_turn) }
+        ensures null_roots { IfOk result
+            (λ heap. (i : ℕ) (ptr : Ptr) → slice_get heap.roots i ≡ Some ptr → ptr ≡ null) }
+        ensures empty_cells { IfOk result
+            (λ heap. (k : ℕ) (cell : Cell) → slice_get heap.cells k ≡ Some cell → cell ≡ empty start_turn) }
         ensures no_memory { IfErr result (λ fault. fault ≡ NoMemory) }
     {
         Ok(Heap {
@@ -93,8 +100,8 @@ impl Heap {
 
     /// Calls a job: the removal of this name, or work.
     ///
-    /// A removal of a cell that nobody reads empties it, for its next turn. One of a cell that is read, or that is gone,
-    /// changes nothing. So does work.
+    /// A removal of a cell that nobody reads empties it, for its next turn. One of a cell that is read, or that is
+    /// gone, changes nothing. So does work.
     pub fn call_job(&mut self, removes: Option<Name>) -> Called
         ensures outcome { result ≡ outcome_of self.old removes }
         ensures after { self.new ≡ heap_after_job self.old removes }
@@ -147,7 +154,8 @@ impl Heap {
     }
 
     fn read(&mut self, name: Option<Name>) -> Answer
-        ensures { touched (Answers result) self.new ≡ at_name (λ n. read_by self.old n (cell_at self.old n) (readable (cell_at self.old n))) self.old name }
+        ensures { touched (Answers result) self.new
+            ≡ at_name (λ n. read_by self.old n (cell_at self.old n) (readable (cell_at self.old n))) self.old name }
     {
         let Some(name) = name else {
             return Answer::Absent;
@@ -159,7 +167,8 @@ impl Heap {
     }
 
     fn leave(&mut self, name: Option<Name>) -> Answer
-        ensures { touched (Answers result) self.new ≡ at_name (λ n. left_by self.old n (cell_at self.old n)) self.old name }
+        ensures { touched (Answers result) self.new
+            ≡ at_name (λ n. left_by self.old n (cell_at self.old n)) self.old name }
     {
         let Some(name) = name else {
             return Answer::Absent;
@@ -169,7 +178,8 @@ impl Heap {
     }
 
     fn write(&mut self, name: Option<Name>, value: u64) -> Answer
-        ensures { touched (Answers result) self.new ≡ at_name (λ n. written_by self.old n value (unread (cell_at self.old n))) self.old name }
+        ensures { touched (Answers result) self.new
+            ≡ at_name (λ n. written_by self.old n value (unread (cell_at self.old n))) self.old name }
     {
         let Some(name) = name else {
             return Answer::Absent;
@@ -188,7 +198,8 @@ impl Heap {
     }
 
     fn take(&mut self, name: Option<Name>) -> Answer
-        ensures { touched (Answers result) self.new ≡ at_name (λ n. taken_by self.old n (unread (cell_at self.old n))) self.old name }
+        ensures { touched (Answers result) self.new
+            ≡ at_name (λ n. taken_by self.old n (unread (cell_at self.old n))) self.old name }
     {
         let Some(name) = name else {
             return Answer::Absent;
@@ -254,7 +265,8 @@ impl Heap {
         found: Ptr,
     ) -> Accessed
         requires { made ≤ tries }
-        ensures step { Changes (Change.FetchUpdate tries update) made found ptr spot self.old (touched result self.new) }
+        ensures step { Changes (Change.FetchUpdate tries update) made found ptr spot self.old
+            (touched result self.new) }
         ensures within { (again : Ptr) → result ≡ Accessed.Again again → made < tries }
     {
         if made == 0 {
@@ -442,7 +454,8 @@ fn with_field(content: Content, field: usize, ptr: Ptr) -> Content
 
 /// The first step of an update.
 fn begun_update(ptr: Ptr, tries: u64, update: Update) -> Accessed
-    ensures { result ≡ (if tries == 0 then Answers (Answer.RanOut ptr) else (if is_stop update then Answers (Answer.Stopped ptr) else Accessed.Again ptr)) }
+    ensures { result ≡ (if tries == 0 then Answers (Answer.RanOut ptr)
+        else (if is_stop update then Answers (Answer.Stopped ptr) else Accessed.Again ptr)) }
 {
     if tries == 0 {
         return Accessed::Answers(Answer::RanOut(ptr));

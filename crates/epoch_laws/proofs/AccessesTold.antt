@@ -1,5 +1,6 @@
 -- What a step of a call on cells and pointers tells its call: an answer of its own kind, or that no slot is left.
-use Rattle.std.proofs.Common.{◌≡◌, ℕ, zero, suc, Option, Some, None, is_some, inl, inr, refl, ap, sym, subst, Bool, true, false, if◌then◌else◌, ◌==◌, slice_get}
+use Rattle.std.proofs.Common.{◌≡◌, ℕ, zero, suc, Option, Some, None, is_some, inl, inr, refl, ap, sym, subst, Bool}
+use Rattle.std.proofs.Common.{true, false, if◌then◌else◌, ◌==◌, slice_get}
 use Rattle.epoch_cells.specs.PlainCells.{readable, unread}
 use Rattle.epoch_cells.specs.declared.cells.name.Name.{Name}
 use Rattle.epoch_heap.specs.declared.access.Access.{Access}
@@ -9,11 +10,13 @@ use Rattle.epoch_heap.specs.declared.access.Accessed.TheVariants.{Again, Answers
 use Rattle.epoch_laws.specs.declared.step.Call.TheVariants.{Access as AccessCall}
 use Rattle.epoch_heap.specs.declared.access.Answer.TheVariants.{Absent}
 use Rattle.epoch_heap.specs.declared.access.Change.{Change}
-use Rattle.epoch_heap.specs.declared.access.Change.TheVariants.{Load, Store, Swap, CompareExchange, FetchAnd, FetchOr, FetchXor, FetchUpdate}
+use Rattle.epoch_heap.specs.declared.access.Change.TheVariants.{Load, Store, Swap, CompareExchange, FetchAnd, FetchOr}
+use Rattle.epoch_heap.specs.declared.access.Change.TheVariants.{FetchXor, FetchUpdate}
 use Rattle.epoch_heap.specs.declared.access.Ptr.{Ptr}
 use Rattle.epoch_heap.specs.declared.access.Spot.{Spot}
 use Rattle.epoch_heap.specs.declared.heap.Content.{Content}
-use Rattle.epoch_heap.specs.Heap.{Cell, Heap, cell_at, pointer_at, Touched, read_by, left_by, written_by, taken_by, at_name, is_stop, Changes, ChangesAt, Places, Touches}
+use Rattle.epoch_heap.specs.Heap.{Cell, Heap, cell_at, pointer_at, Touched, read_by, left_by, written_by, taken_by}
+use Rattle.epoch_heap.specs.Heap.{at_name, is_stop, Changes, ChangesAt, Places, Touches}
 use Rattle.epoch_laws.specs.Lawful.{Told, AccessAnswers, HasToldRefused}
 
 -- a leave names a cell

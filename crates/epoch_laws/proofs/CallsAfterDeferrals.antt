@@ -1,5 +1,6 @@
 -- In every run a job is called at most once, and only after it was deferred.
-use Rattle.std.proofs.Common.{◌≡◌, ℕ, zero, suc, ◌+◌, ◌<◌, ◌≤◌, List, [], ◌∷◌, ◌++◌, append_assoc, append-nil, length, Some, ◌⊎◌, inl, inr, refl, ap, sym, subst, ◌∙◌, arith, nat_lt, if◌then◌else◌}
+use Rattle.std.proofs.Common.{◌≡◌, ℕ, zero, suc, ◌+◌, ◌<◌, ◌≤◌, List, [], ◌∷◌, ◌++◌, append_assoc, append-nil, length}
+use Rattle.std.proofs.Common.{Some, ◌⊎◌, inl, inr, refl, ap, sym, subst, ◌∙◌, arith, nat_lt, if◌then◌else◌}
 use Rattle.std.proofs.lemmas.Bool.Decides.{nat_tests}
 use Rattle.std.proofs.lemmas.List.Sums.{sum_by-cons}
 use Rattle.epoch_bags.specs.declared.job.Called.{Called}
@@ -28,7 +29,8 @@ deferred_first : (t : ℕ) (x : Entry) (log : List Entry)
 deferred_first t x log = sum_by-cons (λ (e : Entry). deferrals_of t e.reply) x log
 
 -- what is called somewhere is counted
-called_counts : (log : List Entry) (t i : ℕ) (how : Called) → IsReplyAt log i (CalledReply t how) → 0 < times_called t log
+called_counts : (log : List Entry) (t i : ℕ) (how : Called)
+    → IsReplyAt log i (CalledReply t how) → 0 < times_called t log
 called_counts [] t i how at = absurd (cc)
 called_counts (x ∷ log) t zero how at = omega (arith, called_first t x log, one_call t x.reply how cc)
 called_counts (x ∷ log) t (suc i) how at = omega (arith, called_first t x log, called_counts log t i how at)
@@ -53,7 +55,8 @@ deferred_somewhere (x ∷ log) t some =
 -- ONE MORE ENTRY
 
 pub record CallsFollow (log : List Entry) : Type 0 where
-  pub once : (t i j : ℕ) (how again : Called) → IsReplyAt log i (CalledReply t how) → IsReplyAt log j (CalledReply t again)
+  pub once : (t i j : ℕ) (how again : Called)
+      → IsReplyAt log i (CalledReply t how) → IsReplyAt log j (CalledReply t again)
       → i ≡ j
   pub deferred : (t j : ℕ) (how : Called) → IsReplyAt log j (CalledReply t how)
       → (i : ℕ) × (i < j) × IsReplyAt log i (Deferred t)

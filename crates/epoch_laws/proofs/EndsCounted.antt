@@ -1,9 +1,12 @@
 -- In every run an end that is told a number has called so many jobs, and none is left.
-use Rattle.std.proofs.Common.{◌≡◌, ◌≢◌, ℕ, zero, suc, ◌+◌, List, [], ◌∷◌, ◌++◌, append_assoc, append-nil, Option, Some, None, slice_get, ◌⊎◌, inl, inr, refl, ap, sym, subst, ◌∙◌, arith}
+use Rattle.std.proofs.Common.{◌≡◌, ◌≢◌, ℕ, zero, suc, ◌+◌, List, [], ◌∷◌, ◌++◌, append_assoc, append-nil, Option, Some}
+use Rattle.std.proofs.Common.{None, slice_get, ◌⊎◌, inl, inr, refl, ap, sym, subst, ◌∙◌, arith}
 use Rattle.std.proofs.lemmas.List.Sums.{sum_by-append}
 use Rattle.epoch_cells.specs.declared.fault.Fault.{Fault}
 use Rattle.epoch_machine.specs.declared.machine.Ask.{Ask}
-use Rattle.epoch_machine.specs.declared.machine.Ask.TheVariants.{LoadEpoch, LoadWord, StorePinned, StoreRepinned, StoreUnpinned, StoreFree, StoreEpoch, PutBag, TakeBag, KeepJob, CallJob}
+use Rattle.epoch_machine.specs.declared.machine.Ask.TheVariants.{LoadEpoch, LoadWord, StorePinned, StoreRepinned}
+use Rattle.epoch_machine.specs.declared.machine.Ask.TheVariants.{StoreUnpinned, StoreFree, StoreEpoch, PutBag, TakeBag}
+use Rattle.epoch_machine.specs.declared.machine.Ask.TheVariants.{KeepJob, CallJob}
 use Rattle.epoch_machine.specs.declared.machine.Stage.{Stage}
 use Rattle.epoch_machine.specs.Machine.{ask_at}
 use Rattle.epoch_heap.specs.declared.access.Answer.TheVariants.{Count}
@@ -15,7 +18,8 @@ use Rattle.epoch_laws.specs.declared.step.Reply.{Reply}
 use Rattle.epoch_laws.specs.declared.step.Reply.TheVariants.{Done}
 use Rattle.epoch_laws.specs.declared.step.Step.{Step}
 use Rattle.epoch_laws.specs.declared.step.Step.TheVariants.{Register, Begin, Go, End as EndStep, EndGo}
-use Rattle.epoch_laws.specs.Run.{WorldSeat, State, seat_of, with_places, Ending, Open, Emptying, Over, refusal, BeginsCall, PerformsAsk, DrivesCall, DoesGo, EndGoes, Moves, Runs, IsFresh}
+use Rattle.epoch_laws.specs.Run.{WorldSeat, State, seat_of, with_places, Ending, Open, Emptying, Over, refusal}
+use Rattle.epoch_laws.specs.Run.{BeginsCall, PerformsAsk, DrivesCall, DoesGo, EndGoes, Moves, Runs, IsFresh}
 use Rattle.epoch_laws.specs.Ends.{is_call_at_end, calls_at_end, TellsCount, EndsAtCount}
 use Rattle.epoch_laws.proofs.TicketsOnce.{end_calls_all}
 

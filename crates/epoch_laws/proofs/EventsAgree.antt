@@ -1,5 +1,6 @@
 -- What a log tells of a participant, and how it agrees with the seat.
-use Rattle.std.proofs.Common.{◌≡◌, ◌≢◌, ℕ, ◌<◌, ◌==◌, true, false, [], length, Option, Some, None, inl, inr, sym, subst, arith, if◌then◌else◌}
+use Rattle.std.proofs.Common.{◌≡◌, ◌≢◌, ℕ, ◌<◌, ◌==◌, true, false, [], length, Option, Some, None, inl, inr, sym, subst}
+use Rattle.std.proofs.Common.{arith, if◌then◌else◌}
 use Rattle.std.proofs.lemmas.Bool.Decides.{nat_tests}
 use Rattle.epoch_machine.specs.Machine.{Machine}
 use Rattle.epoch_laws.specs.declared.step.Call.{Call}

@@ -1,14 +1,17 @@
 -- What is told of a participant agrees with its seat when a call has begun.
-use Rattle.std.proofs.Common.{◌≡◌, ℕ, false, List, length, Option, Some, None, is_some, refl, ap, sym, subst, ◌∙◌, Bool, true, if◌then◌else◌}
+use Rattle.std.proofs.Common.{◌≡◌, ℕ, false, List, length, Option, Some, None, is_some, refl, ap, sym, subst, ◌∙◌, Bool}
+use Rattle.std.proofs.Common.{true, if◌then◌else◌}
 use Rattle.epoch_machine.specs.declared.machine.Sizes.{Sizes}
 use Rattle.epoch_laws.specs.declared.step.Call.{Call}
-use Rattle.epoch_laws.specs.declared.step.Call.TheVariants.{Pin, Unpin, Repin, Pause, Resume, Defer, Flush, Release, DeferDestroy, Access as AccessCall}
+use Rattle.epoch_laws.specs.declared.step.Call.TheVariants.{Pin, Unpin, Repin, Pause, Resume, Defer, Flush, Release}
+use Rattle.epoch_laws.specs.declared.step.Call.TheVariants.{DeferDestroy, Access as AccessCall}
 use Rattle.epoch_heap.specs.declared.access.Answer.TheVariants.{Unit as UnitAnswer, Absent}
 use Rattle.epoch_laws.specs.declared.step.Reply.TheVariants.{Began, Done}
 use Rattle.epoch_laws.specs.declared.step.Progress.{Progress}
 use Rattle.epoch_laws.specs.declared.step.Progress.TheVariants.{Idle, CallsNow, Ends, Accesses}
 use Rattle.epoch_laws.specs.Run.{WorldSeat, waits, drives, begun_seat, reads, under_guard, access_refusal}
-use Rattle.epoch_laws.specs.Lawful.{Told, after_begin, MayCallNow, HasTold, AccessAnswers, AnswerFits, GuardsAllow, MayAccept}
+use Rattle.epoch_laws.specs.Lawful.{Told, after_begin, MayCallNow, HasTold, AccessAnswers, AnswerFits, GuardsAllow}
+use Rattle.epoch_laws.specs.Lawful.{MayAccept}
 use Rattle.epoch_laws.proofs.SeatLemmas.{IsAccepted}
 use Rattle.epoch_laws.proofs.SeatLinks.{action_of, BeganUnder, IsLinked}
 use Rattle.epoch_laws.proofs.CallsLinked.{begun_linked}

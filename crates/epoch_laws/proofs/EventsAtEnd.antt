@@ -1,16 +1,19 @@
 -- What a call's last reply tells, and that it agrees with the seat after it.
-use Rattle.std.proofs.Common.{◌≡◌, ◌≢◌, ℕ, Bool, true, false, not, List, [], ◌∷◌, ◌++◌, Option, Some, None, refl, ap, sym, subst, ◌∙◌}
+use Rattle.std.proofs.Common.{◌≡◌, ◌≢◌, ℕ, Bool, true, false, not, List, [], ◌∷◌, ◌++◌, Option, Some, None, refl, ap}
+use Rattle.std.proofs.Common.{sym, subst, ◌∙◌}
 use Rattle.epoch_cells.specs.declared.fault.Fault.TheVariants.{BagsFull}
 use Rattle.epoch_machine.specs.declared.machine.Stage.TheVariants.{End}
 use Rattle.epoch_laws.specs.declared.step.Call.{Call}
-use Rattle.epoch_laws.specs.declared.step.Call.TheVariants.{Pin, Unpin, Repin, Pause, Resume, Defer, Flush, Release, DeferDestroy, Access as AccessCall}
+use Rattle.epoch_laws.specs.declared.step.Call.TheVariants.{Pin, Unpin, Repin, Pause, Resume, Defer, Flush, Release}
+use Rattle.epoch_laws.specs.declared.step.Call.TheVariants.{DeferDestroy, Access as AccessCall}
 use Rattle.epoch_heap.specs.declared.access.Answer.{Answer}
 use Rattle.epoch_heap.specs.declared.access.Answer.TheVariants.{Guard, Unit as UnitAnswer}
 use Rattle.epoch_laws.specs.declared.step.Reply.{Reply}
 use Rattle.epoch_laws.specs.declared.step.Reply.TheVariants.{Done, Refused}
 use Rattle.epoch_laws.specs.declared.step.Word.TheVariants.{Free}
 use Rattle.epoch_laws.specs.Run.{WorldSeat, without, lowest, full_or_done, end_reply, with_guards, ended_seat}
-use Rattle.epoch_laws.specs.Lawful.{Told, counted_after, paused_after, registered_after, after_done, after_go, HasTold, AnswerFits, HasToldRefused, MayTell}
+use Rattle.epoch_laws.specs.Lawful.{Told, counted_after, paused_after, registered_after, after_done, after_go, HasTold}
+use Rattle.epoch_laws.specs.Lawful.{AnswerFits, HasToldRefused, MayTell}
 use Rattle.epoch_laws.proofs.SeatLinks.{BeganUnder}
 use Rattle.epoch_laws.proofs.GuardLists.{has_any, some_with}
 use Rattle.epoch_laws.proofs.ToldAtStages.{AtEnd, ToldAt}

@@ -1,5 +1,6 @@
 -- Each event stands in a call where it may, in every run.
-use Rattle.std.proofs.Common.{◌≡◌, ℕ, ◌<◌, true, List, [], ◌∷◌, length, Option, Some, None, inl, inr, refl, ap, sym, subst, ◌∙◌, slice_index_or}
+use Rattle.std.proofs.Common.{◌≡◌, ℕ, ◌<◌, true, List, [], ◌∷◌, length, Option, Some, None, inl, inr, refl, ap, sym}
+use Rattle.std.proofs.Common.{subst, ◌∙◌, slice_index_or}
 use Rattle.epoch_cells.specs.declared.fault.Fault.{Fault}
 use Rattle.epoch_cells.specs.declared.fault.Fault.TheVariants.{TableFull, NotRegistered, Ended}
 use Rattle.epoch_machine.specs.declared.machine.Sizes.{Sizes}
@@ -10,8 +11,10 @@ use Rattle.epoch_laws.specs.declared.step.Reply.{Reply}
 use Rattle.epoch_laws.specs.declared.step.Reply.TheVariants.{Registered, Began, Refused}
 use Rattle.epoch_laws.specs.declared.step.Entry.{Entry}
 use Rattle.epoch_laws.specs.declared.step.Word.TheVariants.{Free, Unpinned}
-use Rattle.epoch_laws.specs.Run.{with_places, WorldSeat, State, Ending, Open, Emptying, Over, seat_of, position_word, with_seat, free_seat, refusal, begun_seat, BeginsCall, EndGoes, Moves, Runs, IsFresh}
-use Rattle.epoch_laws.specs.Lawful.{Told, nothing, after_begin, after_go, told_after, HasToldRefused, MayEnd, MayEndGo, MayReply, MayReplyAll}
+use Rattle.epoch_laws.specs.Run.{with_places, WorldSeat, State, Ending, Open, Emptying, Over, seat_of, position_word}
+use Rattle.epoch_laws.specs.Run.{with_seat, free_seat, refusal, begun_seat, BeginsCall, EndGoes, Moves, Runs, IsFresh}
+use Rattle.epoch_laws.specs.Lawful.{Told, nothing, after_begin, after_go, told_after, HasToldRefused, MayEnd, MayEndGo}
+use Rattle.epoch_laws.specs.Lawful.{MayReply, MayReplyAll}
 use Rattle.epoch_laws.proofs.SeatLemmas.{seat_there, IsAccepted, begin_given}
 use Rattle.epoch_laws.proofs.SeatLinks.{AllLinked}
 use Rattle.epoch_laws.proofs.Linked.{step_linked, fresh_linked}

@@ -6,7 +6,10 @@ use Rattle.epoch_bags.specs.declared.queue.PutStep.TheVariants.{Again, Done as P
 use Rattle.epoch_bags.specs.declared.queue.TakeStep.{TakeStep}
 use Rattle.epoch_bags.specs.declared.queue.TakeStep.TheVariants.{Again as TakeAgain, Empty, Got}
 use Rattle.epoch_machine.specs.declared.machine.Stage.{Stage}
-use Rattle.epoch_machine.specs.declared.machine.Stage.TheVariants.{Idle as Resting, LoadPin, StorePin, ReloadPin, LoadScan, Scan, Advance, Take, Calling, LoadSeal, Put, Keep, LoadRepin, StoreRepin, ReloadRepin, StoreUnpinned, StoreFree, End}
+use Rattle.epoch_machine.specs.declared.machine.Stage.TheVariants.{Idle as Resting, LoadPin, StorePin, ReloadPin}
+use Rattle.epoch_machine.specs.declared.machine.Stage.TheVariants.{LoadScan, Scan, Advance, Take, Calling, LoadSeal}
+use Rattle.epoch_machine.specs.declared.machine.Stage.TheVariants.{Put, Keep, LoadRepin, StoreRepin, ReloadRepin}
+use Rattle.epoch_machine.specs.declared.machine.Stage.TheVariants.{StoreUnpinned, StoreFree, End}
 use Rattle.epoch_machine.specs.declared.machine.Answer.TheVariants.{Stored, Job}
 use Rattle.epoch_machine.specs.Machine.{Machine, with_stage, after_pin, ask_at, hears, put_heard, took_heard, gives}
 use Rattle.epoch_laws.specs.declared.step.Call.{Call}
@@ -15,18 +18,25 @@ use Rattle.epoch_heap.specs.declared.access.Answer.{Answer}
 use Rattle.epoch_heap.specs.declared.access.Answer.TheVariants.{Unit as UnitAnswer, Released}
 use Rattle.epoch_laws.specs.declared.step.Step.TheVariants.{Go}
 use Rattle.epoch_laws.specs.declared.step.Reply.{Reply}
-use Rattle.epoch_laws.specs.declared.step.Reply.TheVariants.{Stepped, Pinned as PinnedReply, Unpinned as UnpinnedReply, Repinned, Deferred, Called as CalledReply, CalledNow, Done, Refused}
+use Rattle.epoch_laws.specs.declared.step.Reply.TheVariants.{Stepped, Pinned as PinnedReply, Unpinned as UnpinnedReply}
+use Rattle.epoch_laws.specs.declared.step.Reply.TheVariants.{Repinned, Deferred, Called as CalledReply, CalledNow, Done}
+use Rattle.epoch_laws.specs.declared.step.Reply.TheVariants.{Refused}
 use Rattle.epoch_laws.specs.declared.step.Deferral.{Deferral}
 use Rattle.epoch_laws.specs.declared.step.Word.{Word}
 use Rattle.epoch_laws.specs.declared.step.Word.TheVariants.{Free, Unpinned, Pinned}
 use Rattle.epoch_laws.specs.declared.step.Progress.{Progress}
 use Rattle.epoch_laws.specs.declared.step.Progress.TheVariants.{Idle, Driven, CallsNow, Ends, Accesses}
-use Rattle.epoch_laws.specs.Run.{WorldSeat, State, seat_of, position_word, word_number, with_seat, with_word, with_machine, free_seat, end_reply, ended_seat, DrivesCall, DoesGo, access_reply, accessed_seat, removed_by}
-use Rattle.epoch_laws.specs.Lawful.{Told, after_done, after_refused, after_go, told_after, MayPin, MayUnpin, MayRepin, MayDefer, MayCall, MayCallNow, HasTold, AnswerFits, HasToldRefused, MayTell}
+use Rattle.epoch_laws.specs.Run.{WorldSeat, State, seat_of, position_word, word_number, with_seat, with_word}
+use Rattle.epoch_laws.specs.Run.{with_machine, free_seat, end_reply, ended_seat, DrivesCall, DoesGo, access_reply}
+use Rattle.epoch_laws.specs.Run.{accessed_seat, removed_by}
+use Rattle.epoch_laws.specs.Lawful.{Told, after_done, after_refused, after_go, told_after, MayPin, MayUnpin, MayRepin}
+use Rattle.epoch_laws.specs.Lawful.{MayDefer, MayCall, MayCallNow, HasTold, AnswerFits, HasToldRefused, MayTell}
 use Rattle.epoch_laws.proofs.SeatLemmas.{seat_there}
 use Rattle.epoch_laws.proofs.SeatLinks.{action_of, BeganUnder, IsDriven, IsLinked, follows_at}
 use Rattle.epoch_laws.proofs.GuardLists.{has_any, none_is}
-use Rattle.epoch_laws.proofs.ToldAtStages.{ToldAt, told_repinned, told_kept, may_call, machine_collected, machine_pinned, machine_scanned, machine_called, machine_put, machine_unpinned, machine_reloaded}
+use Rattle.epoch_laws.proofs.ToldAtStages.{ToldAt, told_repinned, told_kept, may_call, machine_collected}
+use Rattle.epoch_laws.proofs.ToldAtStages.{machine_pinned, machine_scanned, machine_called, machine_put}
+use Rattle.epoch_laws.proofs.ToldAtStages.{machine_unpinned, machine_reloaded}
 use Rattle.epoch_laws.proofs.EventsAgree.{PinnedByGuards, ReplyFits, ToldOf, Agrees, AllAgree, seat_agrees, told_agrees}
 use Rattle.epoch_laws.proofs.EventsAtEnd.{Tells, end_agrees}
 use Rattle.epoch_heap.specs.declared.access.Access.{Access}

@@ -1,5 +1,6 @@
 -- In every run a call is told that the bags are full exactly where its put has found each place occupied.
-use Rattle.std.proofs.Common.{◌≡◌, ◌≢◌, ℕ, slice_index_or, ◌<◌, List, [], ◌∷◌, length, Option, Some, None, inl, inr, refl, ap, sym, subst, ◌∙◌}
+use Rattle.std.proofs.Common.{◌≡◌, ◌≢◌, ℕ, slice_index_or, ◌<◌, List, [], ◌∷◌, length, Option, Some, None, inl, inr}
+use Rattle.std.proofs.Common.{refl, ap, sym, subst, ◌∙◌}
 use Rattle.epoch_cells.specs.declared.fault.Fault.{Fault}
 use Rattle.epoch_cells.specs.declared.fault.Fault.TheVariants.{NotRegistered}
 use Rattle.epoch_machine.specs.declared.machine.Stage.TheVariants.{Idle as Resting}
@@ -14,7 +15,9 @@ use Rattle.epoch_laws.specs.declared.step.Word.{Word}
 use Rattle.epoch_laws.specs.declared.step.Word.TheVariants.{Free, Unpinned}
 use Rattle.epoch_laws.specs.Full.{IsOfPut, found_after, TellsFull, FullAlong, none_found, FullWhereFound}
 use Rattle.epoch_laws.specs.Places.{SeesOccupied}
-use Rattle.epoch_laws.specs.Run.{State, Ending, Open, Emptying, Over, seat_of, position_word, with_seat, with_places, free_seat, seen_by, occupancy_of, turn_at, turn_of, refusal, BeginsCall, EndGoes, SeesPlaces, TakesStep, Runs, IsFresh}
+use Rattle.epoch_laws.specs.Run.{State, Ending, Open, Emptying, Over, seat_of, position_word, with_seat, with_places}
+use Rattle.epoch_laws.specs.Run.{free_seat, seen_by, occupancy_of, turn_at, turn_of, refusal, BeginsCall, EndGoes}
+use Rattle.epoch_laws.specs.Run.{SeesPlaces, TakesStep, Runs, IsFresh}
 use Rattle.epoch_laws.proofs.SeatLemmas.{seat_there, begin_given, same_or_other}
 use Rattle.epoch_laws.proofs.SeatLinks.{AllLinked, follows_at}
 use Rattle.epoch_laws.proofs.Linked.{step_linked, fresh_linked}
@@ -72,14 +75,16 @@ module _ (old new : State) (reply : Reply) (found : ℕ → ℕ → Type 0) (h :
       begun_same q other = record { more = λ k was. (other, was); back = λ k was. was.1 }
 
   goes_free : (p : ℕ) → position_word old p ≡ Free
-      → SeesPlaces old (Go p) new → reply ≡ Refused NotRegistered → aside_of ≡ old → ShowsFull found old new (Go p) reply
+      → SeesPlaces old (Go p) new → reply ≡ Refused NotRegistered → aside_of ≡ old
+      → ShowsFull found old new (Go p) reply
   goes_free p free sees told e = (
     subst (TellsFull found old (Go p)) (sym told) tt,
     stays (Go p) sees seen same_found old e (λ q. refl),
   )
     where
       off : ¬ (IsOfPut (turn_of (seat_of old p)))
-      off puts = subst (λ (w : Word). IsOfPut (turn_at w (seat_of old p).progress (seat_of old p).machine.stage)) free puts
+      off puts =
+          subst (λ (w : Word). IsOfPut (turn_at w (seat_of old p).progress (seat_of old p).machine.stage)) free puts
 
       same_found : (q : ℕ) → SameFound (found q) (found_after found old (Go p) reply new q)
       same_found q = elim (same_or_other q p) [

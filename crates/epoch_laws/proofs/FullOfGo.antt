@@ -1,5 +1,6 @@
 -- A Go that ends a call tells that the bags are full exactly where its put found each place occupied.
-use Rattle.std.proofs.Common.{◌≡◌, ◌≢◌, ℕ, slice_index_or, ◌==◌, Bool, true, false, List, length, Option, refl, ap, ap₂, sym, subst, ◌∙◌, if◌then◌else◌, arith}
+use Rattle.std.proofs.Common.{◌≡◌, ◌≢◌, ℕ, slice_index_or, ◌==◌, Bool, true, false, List, length, Option, refl, ap, ap₂}
+use Rattle.std.proofs.Common.{sym, subst, ◌∙◌, if◌then◌else◌, arith}
 use Rattle.std.proofs.lemmas.List.{set-get_or}
 use Rattle.epoch_bags.specs.declared.queue.PutStep.{PutStep}
 use Rattle.epoch_bags.specs.declared.queue.TakeStep.{TakeStep}
@@ -8,8 +9,12 @@ use Rattle.epoch_cells.specs.declared.fault.Fault.TheVariants.{Idle as IdleFault
 use Rattle.epoch_machine.specs.declared.machine.Answer.TheVariants.{Stored, Job}
 use Rattle.epoch_machine.specs.declared.machine.Ask.{Ask}
 use Rattle.epoch_machine.specs.declared.machine.Stage.{Stage}
-use Rattle.epoch_machine.specs.declared.machine.Stage.TheVariants.{Idle as Resting, LoadPin, StorePin, ReloadPin, LoadScan, Scan, Advance, Take, Calling, LoadSeal, Put, Keep, LoadRepin, StoreRepin, ReloadRepin, StoreUnpinned, StoreFree, End}
-use Rattle.epoch_machine.specs.Machine.{Machine, after_collect, after_pin, after_job, past_word, ask_at, with_stage, hears, put_heard, took_heard, gives, PutsHeld}
+use Rattle.epoch_machine.specs.declared.machine.Stage.TheVariants.{Idle as Resting, LoadPin, StorePin, ReloadPin}
+use Rattle.epoch_machine.specs.declared.machine.Stage.TheVariants.{LoadScan, Scan, Advance, Take, Calling, LoadSeal}
+use Rattle.epoch_machine.specs.declared.machine.Stage.TheVariants.{Put, Keep, LoadRepin, StoreRepin, ReloadRepin}
+use Rattle.epoch_machine.specs.declared.machine.Stage.TheVariants.{StoreUnpinned, StoreFree, End}
+use Rattle.epoch_machine.specs.Machine.{Machine, after_collect, after_pin, after_job, past_word, ask_at, with_stage}
+use Rattle.epoch_machine.specs.Machine.{hears, put_heard, took_heard, gives, PutsHeld}
 use Rattle.epoch_machine.proofs.StagesAfter.{either_way}
 use Rattle.epoch_heap.specs.declared.access.Answer.TheVariants.{Unit as UnitAnswer, Released}
 use Rattle.epoch_laws.specs.declared.step.Call.{Call}
@@ -18,18 +23,26 @@ use Rattle.epoch_laws.specs.declared.step.Deferral.{Deferral}
 use Rattle.epoch_laws.specs.declared.step.Progress.{Progress}
 use Rattle.epoch_laws.specs.declared.step.Progress.TheVariants.{Idle, Driven, CallsNow, Ends, Accesses}
 use Rattle.epoch_laws.specs.declared.step.Reply.{Reply}
-use Rattle.epoch_laws.specs.declared.step.Reply.TheVariants.{Stepped, Pinned as PinnedReply, Unpinned as UnpinnedReply, Repinned, Deferred, Called as CalledReply, CalledNow, Done, Refused}
+use Rattle.epoch_laws.specs.declared.step.Reply.TheVariants.{Stepped, Pinned as PinnedReply, Unpinned as UnpinnedReply}
+use Rattle.epoch_laws.specs.declared.step.Reply.TheVariants.{Repinned, Deferred, Called as CalledReply, CalledNow, Done}
+use Rattle.epoch_laws.specs.declared.step.Reply.TheVariants.{Refused}
 use Rattle.epoch_laws.specs.declared.step.Step.{Step}
 use Rattle.epoch_laws.specs.declared.step.Step.TheVariants.{Go}
 use Rattle.epoch_laws.specs.declared.step.Word.{Word}
 use Rattle.epoch_laws.specs.declared.step.Word.TheVariants.{Free, Unpinned, Pinned}
 use Rattle.epoch_laws.specs.Full.{IsOfPut, found_after, TellsFull}
 use Rattle.epoch_laws.specs.Places.{SeesOccupied, PutSees}
-use Rattle.epoch_laws.specs.Run.{Bag, WorldSeat, State, seat_of, position_word, word_number, with_seat, with_word, with_machine, with_places, free_seat, seen_by, occupancy_of, turn_at, turn_of, ended_seat, end_reply, full_or_done, DrivesCall, DoesGo, SeesPlaces, access_reply, accessed_seat, progress_after, removed_by}
+use Rattle.epoch_laws.specs.Run.{Bag, WorldSeat, State, seat_of, position_word, word_number, with_seat, with_word}
+use Rattle.epoch_laws.specs.Run.{with_machine, with_places, free_seat, seen_by, occupancy_of, turn_at, turn_of}
+use Rattle.epoch_laws.specs.Run.{ended_seat, end_reply, full_or_done, DrivesCall, DoesGo, SeesPlaces, access_reply}
+use Rattle.epoch_laws.specs.Run.{accessed_seat, progress_after, removed_by}
 use Rattle.epoch_laws.proofs.SeatLemmas.{seat_there, seat_written}
 use Rattle.epoch_laws.proofs.SeatLinks.{action_of, IsInStep, AllLinked, follows_at}
-use Rattle.epoch_laws.proofs.PutStages.{NoneFound, FoundSeen, FoundWhere, none_missed, puts_bag, NoneYet, FoundAt, found_unpinned, machine_collected, machine_pinned, machine_scanned, machine_called}
-use Rattle.epoch_laws.proofs.SeatsFind.{FoundIn, PutFinds, SameFound, none_still, finds_still, rest_finds, ended_finds, on_finds}
+use Rattle.epoch_laws.proofs.PutStages.{NoneFound, FoundSeen, FoundWhere, none_missed, puts_bag, NoneYet, FoundAt}
+use Rattle.epoch_laws.proofs.PutStages.{found_unpinned, machine_collected, machine_pinned, machine_scanned}
+use Rattle.epoch_laws.proofs.PutStages.{machine_called}
+use Rattle.epoch_laws.proofs.SeatsFind.{FoundIn, PutFinds, SameFound, none_still, finds_still, rest_finds, ended_finds}
+use Rattle.epoch_laws.proofs.SeatsFind.{on_finds}
 use Rattle.epoch_laws.proofs.PutSteps.{put_finds, same_step}
 use Rattle.epoch_laws.proofs.FoundAfter.{others_same, own_same, put_more}
 use Rattle.epoch_laws.proofs.PutsFind.{AllFind, same_count, turn_taken, find_written}
@@ -193,7 +206,8 @@ module _ (old new : State) (reply : Reply) (found : ℕ → ℕ → Type 0) (h :
         → Finds (with_machine seat (put_heard m step))
     puts s step queued at put e =
         put_finds (found p) (later p) (occupancy_of old p) (occupancy_of new p) seat c s step (h p) drive at saw
-        (put_more found old new reply p s m step (subst IsOfPut (sym (asked (Driven c) (Put s) drive at)) tt) stored saw)
+        (put_more found old new reply p s m step
+        (subst IsOfPut (sym (asked (Driven c) (Put s) drive at)) tt) stored saw)
       where
         looked : LooksFor (ask_at (Put s))
         looked = looks (Put s) at

@@ -1,6 +1,7 @@
 -- The steps of a driven machine that move no bag keep what holds: its stage changes, it advances the epoch, or it
 -- keeps a job.
-use Rattle.std.proofs.Common.{◌≡◌, ◌≢◌, ℕ, ◌+◌, ◌<◌, ◌≤◌, not, List, [], ◌∷◌, ◌++◌, inl, inr, refl, ap, sym, subst, arith, le_of_eq, le_refl}
+use Rattle.std.proofs.Common.{◌≡◌, ◌≢◌, ℕ, ◌+◌, ◌<◌, ◌≤◌, not, List, [], ◌∷◌, ◌++◌, inl, inr, refl, ap, sym, subst}
+use Rattle.std.proofs.Common.{arith, le_of_eq, le_refl}
 use Rattle.epoch_machine.specs.declared.machine.Stage.{Stage}
 use Rattle.epoch_machine.specs.declared.machine.Stage.TheVariants.{Advance, Take, Keep, End}
 use Rattle.epoch_machine.specs.declared.machine.Answer.TheVariants.{Job}

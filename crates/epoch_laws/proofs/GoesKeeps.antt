@@ -1,8 +1,12 @@
 -- A step Go keeps what holds, whatever stage the machine is at.
-use Rattle.std.proofs.Common.{◌≡◌, ◌≢◌, ℕ, ◌≤◌, ◌==◌, true, false, List, [], ◌∷◌, ◌++◌, length, Option, Some, None, inl, inr, refl, ap, ◌∙◌, arith}
+use Rattle.std.proofs.Common.{◌≡◌, ◌≢◌, ℕ, ◌≤◌, ◌==◌, true, false, List, [], ◌∷◌, ◌++◌, length, Option, Some, None, inl}
+use Rattle.std.proofs.Common.{inr, refl, ap, ◌∙◌, arith}
 use Rattle.epoch_machine.specs.declared.machine.Sizes.{Sizes}
 use Rattle.epoch_machine.specs.declared.machine.Stage.{Stage}
-use Rattle.epoch_machine.specs.declared.machine.Stage.TheVariants.{Idle as Resting, LoadPin, StorePin, ReloadPin, LoadScan, Scan, Advance, Take, Calling, LoadSeal, Put, Keep, LoadRepin, StoreRepin, ReloadRepin, StoreUnpinned, StoreFree, End}
+use Rattle.epoch_machine.specs.declared.machine.Stage.TheVariants.{Idle as Resting, LoadPin, StorePin, ReloadPin}
+use Rattle.epoch_machine.specs.declared.machine.Stage.TheVariants.{LoadScan, Scan, Advance, Take, Calling, LoadSeal}
+use Rattle.epoch_machine.specs.declared.machine.Stage.TheVariants.{Put, Keep, LoadRepin, StoreRepin, ReloadRepin}
+use Rattle.epoch_machine.specs.declared.machine.Stage.TheVariants.{StoreUnpinned, StoreFree, End}
 use Rattle.epoch_machine.specs.declared.machine.Answer.TheVariants.{Stored}
 use Rattle.epoch_machine.specs.Machine.{Machine, ask_at, hears, ended}
 use Rattle.epoch_machine.proofs.StagesAfter.{either_way}
@@ -13,9 +17,11 @@ use Rattle.epoch_laws.specs.declared.step.Entry.{Entry}
 use Rattle.epoch_laws.specs.declared.step.Word.TheVariants.{Free, Unpinned, Pinned}
 use Rattle.epoch_laws.specs.declared.step.Progress.{Progress}
 use Rattle.epoch_laws.specs.declared.step.Progress.TheVariants.{Idle, Driven, CallsNow, Ends, Accesses}
-use Rattle.epoch_laws.specs.Run.{WorldSeat, State, seat_of, position_word, with_seat, with_word, free_seat, with_guards, ended_seat, DrivesCall, DoesGo, with_heap, accessed_seat}
+use Rattle.epoch_laws.specs.Run.{WorldSeat, State, seat_of, position_word, with_seat, with_word, free_seat, with_guards}
+use Rattle.epoch_laws.specs.Run.{ended_seat, DrivesCall, DoesGo, with_heap, accessed_seat}
 use Rattle.epoch_laws.proofs.SeatLinks.{rests, AllLinked, follows_at}
-use Rattle.epoch_laws.proofs.QuietReplies.{IsQuiet, quiet_stepped, quiet_now, quiet_done, quiet_refused, quiet_end, quiet_access}
+use Rattle.epoch_laws.proofs.QuietReplies.{IsQuiet, quiet_stepped, quiet_now, quiet_done, quiet_refused, quiet_end}
+use Rattle.epoch_laws.proofs.QuietReplies.{quiet_access}
 use Rattle.epoch_laws.proofs.SeatsFine.{View, is_pinned, IsFine, IsNext, fine_next}
 use Rattle.epoch_laws.proofs.WorldHolds.{Holds, view_of, heap_aside}
 use Rattle.epoch_laws.proofs.NextStages.{next_end, next_pinned, next_unpinned}
@@ -100,7 +106,8 @@ module _ (old new : State) (log : List Entry) (x : Entry) (h : Holds old log) (l
   go_at c (Put s) on fine (step, queued, told, put, e) = puts old new log x h p taken s fine step queued put told e
   go_at c Keep on fine did = keeps old new log x h p taken fine did.0 did.1
   go_at c LoadRepin on fine did = moves old new log x h p taken LoadRepin _ fine
-      (either_way (IsNext v p true m) (m.published == old.epoch) End (StoreRepin old.epoch) (next_end v p m false fine.aims)
+      (either_way (IsNext v p true m) (m.published == old.epoch) End (StoreRepin old.epoch)
+      (next_end v p m false fine.aims)
       (record { publishes = refl; aims = fine.aims; knows = omega arith })) did.0 did.1
   go_at c (StoreRepin e) on fine did =
       publishes old new log x h p e (with_word seat (Pinned e) (hears m (StoreRepin e) Stored)) taken

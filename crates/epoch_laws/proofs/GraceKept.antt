@@ -1,5 +1,6 @@
 -- Every step keeps what holds, so no run calls a job while somebody who was pinned at its deferral has stayed pinned.
-use Rattle.std.proofs.Common.{◌≡◌, ℕ, ◌+◌, ◌<◌, Bool, List, [], ◌∷◌, ◌++◌, append_assoc, append-nil, length, inl, inr, refl, ap, sym, subst, arith, Option, Some, None}
+use Rattle.std.proofs.Common.{◌≡◌, ℕ, ◌+◌, ◌<◌, Bool, List, [], ◌∷◌, ◌++◌, append_assoc, append-nil, length, inl, inr}
+use Rattle.std.proofs.Common.{refl, ap, sym, subst, arith, Option, Some, None}
 use Rattle.epoch_bags.specs.declared.job.Called.{Called}
 use Rattle.epoch_cells.specs.declared.fault.Fault.{Fault}
 use Rattle.epoch_laws.specs.declared.step.Call.{Call}
@@ -9,7 +10,9 @@ use Rattle.epoch_laws.specs.declared.step.Reply.TheVariants.{Registered, Called 
 use Rattle.epoch_laws.specs.declared.step.Entry.{Entry}
 use Rattle.epoch_laws.specs.declared.step.Word.TheVariants.{Free, Unpinned}
 use Rattle.epoch_laws.specs.Grace.{KeepsGrace}
-use Rattle.epoch_laws.specs.Run.{with_places, Bag, WorldSeat, State, seat_of, position_word, with_seat, free_seat, Ending, Open, Emptying, Over, AllFree, refusal, BeginsCall, EndGoes, Moves, Runs, IsFresh, TakesStep}
+use Rattle.epoch_laws.specs.Run.{with_places, Bag, WorldSeat, State, seat_of, position_word, with_seat, free_seat}
+use Rattle.epoch_laws.specs.Run.{Ending, Open, Emptying, Over, AllFree, refusal, BeginsCall, EndGoes, Moves, Runs}
+use Rattle.epoch_laws.specs.Run.{IsFresh, TakesStep}
 use Rattle.epoch_laws.proofs.SeatLemmas.{begin_given}
 use Rattle.epoch_laws.proofs.SeatLinks.{AllLinked}
 use Rattle.epoch_laws.proofs.Linked.{step_linked, fresh_linked}
@@ -155,15 +158,16 @@ pub fresh_holds : (s : State) → IsFresh s → Holds s []
 fresh_holds s fresh = record {
   since = λ p. 0;
   when = λ t. 0;
-  seats = λ p. subst (λ (seat : WorldSeat). SeatIsFine (view_of s (λ q. 0) (λ t. 0)) p seat) (sym (fresh.free p)) (record {
-    published = λ n e. absurd (cc);
-    before = omega arith;
-    recent = λ pinned. absurd (cc);
-    agrees = refl;
-    aims = tt;
-    held = tt;
-    knows = tt;
-  });
+  seats =
+      λ p. subst (λ (seat : WorldSeat). SeatIsFine (view_of s (λ q. 0) (λ t. 0)) p seat) (sym (fresh.free p)) (record {
+        published = λ n e. absurd (cc);
+        before = omega arith;
+        recent = λ pinned. absurd (cc);
+        agrees = refl;
+        aims = tt;
+        held = tt;
+        knows = tt;
+      });
   queued = subst (SealedBehind (λ t. 0) s.tickets s.epoch) (sym fresh.none_queued) tt;
   closed = λ shut. absurd (shut fresh.open_end);
   ending = subst (EndHolds (λ t. 0) s.tickets) (sym fresh.open_end) tt;

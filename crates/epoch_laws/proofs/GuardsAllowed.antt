@@ -5,7 +5,8 @@ use Rattle.epoch_cells.specs.declared.fault.Fault.{Fault}
 use Rattle.epoch_cells.specs.declared.fault.Fault.TheVariants.{StrangerGuard}
 use Rattle.epoch_heap.specs.Heap.{Heap, guard_of}
 use Rattle.epoch_laws.specs.declared.step.Call.{Call}
-use Rattle.epoch_laws.specs.declared.step.Call.TheVariants.{Pin, Unpin, Repin, Pause, Resume, Defer, Flush, Release, DeferDestroy, Access as AccessCall}
+use Rattle.epoch_laws.specs.declared.step.Call.TheVariants.{Pin, Unpin, Repin, Pause, Resume, Defer, Flush, Release}
+use Rattle.epoch_laws.specs.declared.step.Call.TheVariants.{DeferDestroy, Access as AccessCall}
 use Rattle.epoch_laws.specs.Run.{WorldSeat, under_guard, access_refusal, resume_refusal, call_refusal}
 use Rattle.epoch_laws.specs.Lawful.{GuardAllows, GuardsAllow}
 use Rattle.epoch_laws.proofs.SeatLemmas.{guard_given}

@@ -18,12 +18,15 @@ use Rattle.epoch_laws.specs.declared.step.Word.{Word}
 use Rattle.epoch_laws.specs.declared.step.Word.TheVariants.{Free}
 use Rattle.epoch_laws.specs.declared.step.Progress.{Progress}
 use Rattle.epoch_laws.specs.declared.step.Progress.TheVariants.{Driven}
-use Rattle.epoch_laws.specs.Run.{Bag, WorldSeat, State, seat_of, position_word, with_seat, with_machine, with_word, Ending, Open, PerformsAsk, removed_by}
+use Rattle.epoch_laws.specs.Run.{Bag, WorldSeat, State, seat_of, position_word, with_seat, with_machine, with_word}
+use Rattle.epoch_laws.specs.Run.{Ending, Open, PerformsAsk, removed_by}
 use Rattle.epoch_laws.specs.Tickets.{times, times_queued, calls_of, deferrals_of}
 use Rattle.epoch_laws.proofs.SeatLemmas.{seat_there}
 use Rattle.epoch_laws.proofs.TicketSums.{queued_put, times_cons, times_push, ticket_given}
-use Rattle.epoch_laws.proofs.JobsPlaced.{HandAt, HeldAt, RestsAt, PlacesHere, hand_none, held_collected, held_put, held_called, hand_called}
-use Rattle.epoch_laws.proofs.TicketsTallied.{Tallies, tells, untold_calls, untold_deferrals, acted, GivesTicket, none_given, acts}
+use Rattle.epoch_laws.proofs.JobsPlaced.{HandAt, HeldAt, RestsAt, PlacesHere, hand_none, held_collected, held_put}
+use Rattle.epoch_laws.proofs.JobsPlaced.{held_called, hand_called}
+use Rattle.epoch_laws.proofs.TicketsTallied.{Tallies, tells, untold_calls, untold_deferrals, acted, GivesTicket}
+use Rattle.epoch_laws.proofs.TicketsTallied.{none_given, acts}
 use Rattle.epoch_bags.specs.declared.job.Called.{Called}
 
 -- at the seat, at the machine that it goes on to, jobs move as the reply tells

@@ -1,8 +1,12 @@
 -- Every step leaves all participants linked, and in a new world they are.
-use Rattle.std.proofs.Common.{◌≡◌, ℕ, ◌+◌, ◌<◌, ◌==◌, false, [], ◌∷◌, length, Option, Some, None, inl, inr, refl, sym, subst, ◌∙◌, slice_set}
+use Rattle.std.proofs.Common.{◌≡◌, ℕ, ◌+◌, ◌<◌, ◌==◌, false, [], ◌∷◌, length, Option, Some, None, inl, inr, refl, sym}
+use Rattle.std.proofs.Common.{subst, ◌∙◌, slice_set}
 use Rattle.epoch_cells.specs.declared.fault.Fault.{Fault}
 use Rattle.epoch_machine.specs.declared.machine.Stage.{Stage}
-use Rattle.epoch_machine.specs.declared.machine.Stage.TheVariants.{Idle as Resting, LoadPin, StorePin, ReloadPin, LoadScan, Scan, Advance, Take, Calling, LoadSeal, Put, Keep, LoadRepin, StoreRepin, ReloadRepin, StoreUnpinned, StoreFree, End}
+use Rattle.epoch_machine.specs.declared.machine.Stage.TheVariants.{Idle as Resting, LoadPin, StorePin, ReloadPin}
+use Rattle.epoch_machine.specs.declared.machine.Stage.TheVariants.{LoadScan, Scan, Advance, Take, Calling, LoadSeal}
+use Rattle.epoch_machine.specs.declared.machine.Stage.TheVariants.{Put, Keep, LoadRepin, StoreRepin, ReloadRepin}
+use Rattle.epoch_machine.specs.declared.machine.Stage.TheVariants.{StoreUnpinned, StoreFree, End}
 use Rattle.epoch_machine.specs.Machine.{Machine, with_stage, ask_at}
 use Rattle.epoch_laws.specs.declared.step.Call.{Call}
 use Rattle.epoch_laws.specs.declared.step.Deferral.{Deferral}
@@ -13,12 +17,15 @@ use Rattle.epoch_laws.specs.declared.step.Step.{Step}
 use Rattle.epoch_laws.specs.declared.step.Step.TheVariants.{Register, Begin, Go, End as EndStep, EndGo}
 use Rattle.epoch_laws.specs.declared.step.Word.{Word}
 use Rattle.epoch_laws.specs.declared.step.Word.TheVariants.{Unpinned}
-use Rattle.epoch_laws.specs.Run.{WorldSeat, State, Ending, Open, Emptying, Over, seat_of, with_seat, with_word, free_seat, refusal, begun_seat, BeginsCall, ended_seat, DrivesCall, DoesGo, EndGoes, Moves, TakesStep, with_places, IsFresh, accessed_seat}
+use Rattle.epoch_laws.specs.Run.{WorldSeat, State, Ending, Open, Emptying, Over, seat_of, with_seat, with_word}
+use Rattle.epoch_laws.specs.Run.{free_seat, refusal, begun_seat, BeginsCall, ended_seat, DrivesCall, DoesGo, EndGoes}
+use Rattle.epoch_laws.specs.Run.{Moves, TakesStep, with_places, IsFresh, accessed_seat}
 use Rattle.epoch_laws.proofs.SeatLemmas.{seat_there, begin_given}
 use Rattle.epoch_heap.specs.declared.access.Access.{Access}
 use Rattle.epoch_heap.specs.declared.access.Accessed.{Accessed}
 use Rattle.epoch_heap.specs.declared.access.Accessed.TheVariants.{Again, Answers, NoSlot}
-pub use Rattle.epoch_laws.proofs.SeatLinks.{action_of, rests, BeganUnder, IsDriven, IsInStep, IsLinked, AllLinked, free_linked, follows_at, progress_linked, linked_written, linked_along}
+pub use Rattle.epoch_laws.proofs.SeatLinks.{action_of, rests, BeganUnder, IsDriven, IsInStep, IsLinked, AllLinked}
+pub use Rattle.epoch_laws.proofs.SeatLinks.{free_linked, follows_at, progress_linked, linked_written, linked_along}
 use Rattle.epoch_machine.proofs.StagesAfter.{either_way}
 use Rattle.epoch_machine.proofs.UnderWay.{IsOn, pin_on, unpin_on, job_on, word_on}
 use Rattle.epoch_laws.proofs.MachineGoesOn.{GoesOn, going_on, put_goes_on, take_goes_on}

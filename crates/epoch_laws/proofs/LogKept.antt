@@ -5,7 +5,8 @@ use Rattle.epoch_laws.specs.declared.step.Reply.{Reply}
 use Rattle.epoch_laws.specs.declared.step.Reply.TheVariants.{Deferred, Called as CalledReply}
 use Rattle.epoch_laws.specs.declared.step.Entry.{Entry}
 use Rattle.epoch_laws.specs.Grace.{IsReplyAt, KeepsGrace}
-use Rattle.epoch_laws.proofs.Log.{IsPublish, IsWithdrawal, PinnedSince, stands_push, stands_within, pinned_push, grace_push}
+use Rattle.epoch_laws.proofs.Log.{IsPublish, IsWithdrawal, PinnedSince, stands_push, stands_within, pinned_push}
+use Rattle.epoch_laws.proofs.Log.{grace_push}
 use Rattle.epoch_laws.proofs.SeatsFine.{View, is_pinned, Passes}
 
 -- What was told agrees with the view.

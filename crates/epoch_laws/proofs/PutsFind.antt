@@ -62,7 +62,8 @@ module _ (old new : State) (found later : ℕ → ℕ → Type 0) (h : AllFind f
   find_along still seen same q = keeps_finding q (still q) (seen q) (same q)
 
   -- one seat is written
-  pub find_written : (p : ℕ) (after : WorldSeat) → p < length old.seats → ((q : ℕ) → q ≢ p → SameFound (found q) (later q))
+  pub find_written : (p : ℕ) (after : WorldSeat)
+      → p < length old.seats → ((q : ℕ) → q ≢ p → SameFound (found q) (later q))
       → ((q : ℕ) → q ≢ p → seen_by new q ≡ seen_by old q)
       → ((q : ℕ) → seat_of new q ≡ seat_of (with_seat old p after) q)
       → PutFinds (later p) (length new.places) (seen_by new p) after → AllFind later new

@@ -1,5 +1,7 @@
 -- In every run a call that is refused leaves what it has to.
-use Rattle.std.proofs.Common.{◌≡◌, ◌≢◌, ℕ, ◌+◌, ◌<◌, ◌==◌, slice_index_or, slice_get, Bool, true, false, List, [], ◌∷◌, length, Option, Some, None, inl, inr, refl, ap, ap₂, sym, subst, ◌∙◌, arith, if◌then◌else◌}
+use Rattle.std.proofs.Common.{◌≡◌, ◌≢◌, ℕ, ◌+◌, ◌<◌, ◌==◌, slice_index_or, slice_get, Bool, true, false, List, [], ◌∷◌}
+use Rattle.std.proofs.Common.{length, Option, Some, None, inl, inr, refl, ap, ap₂, sym, subst, ◌∙◌, arith}
+use Rattle.std.proofs.Common.{if◌then◌else◌}
 use Rattle.std.proofs.lemmas.Bool.Decides.{nat_tests}
 use Rattle.std.proofs.lemmas.List.{set-get_or}
 use Rattle.epoch_bags.specs.declared.queue.PutStep.{PutStep}
@@ -9,13 +11,19 @@ use Rattle.epoch_bags.specs.declared.queue.TakeStep.TheVariants.{Again as TakeAg
 use Rattle.epoch_cells.specs.declared.fault.Fault.{Fault}
 use Rattle.epoch_cells.specs.declared.fault.Fault.TheVariants.{CellsFull, BagsFull, Idle as IdleFault, NotRegistered}
 use Rattle.epoch_machine.specs.declared.machine.Action.{Action}
-use Rattle.epoch_machine.specs.declared.machine.Action.TheVariants.{Defer as DeferAction, Flush as FlushAction, Release as ReleaseAction}
+use Rattle.epoch_machine.specs.declared.machine.Action.TheVariants.{Defer as DeferAction, Flush as FlushAction}
+use Rattle.epoch_machine.specs.declared.machine.Action.TheVariants.{Release as ReleaseAction}
 use Rattle.epoch_machine.specs.declared.machine.Ask.{Ask}
-use Rattle.epoch_machine.specs.declared.machine.Ask.TheVariants.{LoadEpoch, LoadWord, StorePinned, StoreRepinned, StoreUnpinned as AskUnpinned, StoreFree as AskFree, StoreEpoch, PutBag, TakeBag, KeepJob, CallJob}
+use Rattle.epoch_machine.specs.declared.machine.Ask.TheVariants.{LoadEpoch, LoadWord, StorePinned, StoreRepinned}
+use Rattle.epoch_machine.specs.declared.machine.Ask.TheVariants.{StoreUnpinned as AskUnpinned, StoreFree as AskFree}
+use Rattle.epoch_machine.specs.declared.machine.Ask.TheVariants.{StoreEpoch, PutBag, TakeBag, KeepJob, CallJob}
 use Rattle.epoch_machine.specs.declared.machine.Stage.{Stage}
-use Rattle.epoch_machine.specs.declared.machine.Stage.TheVariants.{LoadPin, StorePin, ReloadPin, LoadScan, Scan, Advance, Take, Calling, LoadSeal, Put, Keep, StoreUnpinned, StoreFree, End}
+use Rattle.epoch_machine.specs.declared.machine.Stage.TheVariants.{LoadPin, StorePin, ReloadPin, LoadScan, Scan}
+use Rattle.epoch_machine.specs.declared.machine.Stage.TheVariants.{Advance, Take, Calling, LoadSeal, Put, Keep}
+use Rattle.epoch_machine.specs.declared.machine.Stage.TheVariants.{StoreUnpinned, StoreFree, End}
 use Rattle.epoch_machine.specs.declared.machine.Answer.TheVariants.{Epoch as EpochFound, Word as WordFound, Stored, Job}
-use Rattle.epoch_machine.specs.Machine.{Machine, with_stage, after_collect, after_pin, after_put, after_unpin, after_job, past_word, ask_at, hears, put_heard, took_heard, gives, PutsHeld}
+use Rattle.epoch_machine.specs.Machine.{Machine, with_stage, after_collect, after_pin, after_put, after_unpin}
+use Rattle.epoch_machine.specs.Machine.{after_job, past_word, ask_at, hears, put_heard, took_heard, gives, PutsHeld}
 use Rattle.epoch_machine.proofs.StagesAfter.{after_pin_at, past_word_at, after_job_at}
 use Rattle.epoch_heap.specs.declared.access.Access.{Access}
 use Rattle.epoch_heap.specs.declared.access.Access.TheVariants.{Place}
@@ -26,26 +34,37 @@ use Rattle.epoch_heap.specs.declared.access.Answer.TheVariants.{Unit as UnitAnsw
 use Rattle.epoch_heap.specs.declared.access.Ptr.{Ptr}
 use Rattle.epoch_heap.specs.Heap.{Cell, Touched, Places, outcome_of}
 use Rattle.epoch_laws.specs.declared.step.Call.{Call}
-use Rattle.epoch_laws.specs.declared.step.Call.TheVariants.{Pin, Unpin, Repin, Pause, Resume, Defer, Flush, Release, DeferDestroy, Access as AccessCall}
+use Rattle.epoch_laws.specs.declared.step.Call.TheVariants.{Pin, Unpin, Repin, Pause, Resume, Defer, Flush, Release}
+use Rattle.epoch_laws.specs.declared.step.Call.TheVariants.{DeferDestroy, Access as AccessCall}
 use Rattle.epoch_laws.specs.declared.step.Deferral.{Deferral}
 use Rattle.epoch_laws.specs.declared.step.Entry.{Entry}
 use Rattle.epoch_laws.specs.declared.step.Progress.{Progress}
 use Rattle.epoch_laws.specs.declared.step.Progress.TheVariants.{Idle, Driven, CallsNow, Accesses, Ends}
 use Rattle.epoch_laws.specs.declared.step.Reply.{Reply}
-use Rattle.epoch_laws.specs.declared.step.Reply.TheVariants.{Stepped, Pinned as PinnedReply, Unpinned as UnpinnedReply, Repinned, Deferred, Called as CalledReply, CalledNow, Done, Refused, Began}
+use Rattle.epoch_laws.specs.declared.step.Reply.TheVariants.{Stepped, Pinned as PinnedReply, Unpinned as UnpinnedReply}
+use Rattle.epoch_laws.specs.declared.step.Reply.TheVariants.{Repinned, Deferred, Called as CalledReply, CalledNow, Done}
+use Rattle.epoch_laws.specs.declared.step.Reply.TheVariants.{Refused, Began}
 use Rattle.epoch_laws.specs.declared.step.Step.{Step}
 use Rattle.epoch_laws.specs.declared.step.Step.TheVariants.{Register, Begin, Go, End as EndStep, EndGo}
 use Rattle.epoch_laws.specs.declared.step.Word.{Word}
 use Rattle.epoch_laws.specs.declared.step.Word.TheVariants.{Free, Unpinned, Pinned}
-use Rattle.epoch_laws.specs.Run.{Bag, WorldSeat, State, seat_of, turn_at, turn_of, position_word, word_number, with_seat, with_word, with_machine, with_places, free_seat, refusal, begun_seat, Ending, Open, Emptying, Over, ended_seat, end_reply, full_or_done, with_guards, progress_after, access_reply, accessed_seat, removed_by, BeginsCall, PerformsAsk, DrivesCall, DoesGo, EndGoes, TakesStep, Runs, IsFresh}
-use Rattle.epoch_laws.specs.Refusals.{LeavesUnplaced, before_after, LeavesRest, quiet_after, IsOfCollection, collected_after, KeepsBag, LeavesUnput, LeavesAtRefusal, RefusedAlong, all_quiet, none_collected}
+use Rattle.epoch_laws.specs.Run.{Bag, WorldSeat, State, seat_of, turn_at, turn_of, position_word, word_number}
+use Rattle.epoch_laws.specs.Run.{with_seat, with_word, with_machine, with_places, free_seat, refusal, begun_seat}
+use Rattle.epoch_laws.specs.Run.{Ending, Open, Emptying, Over, ended_seat, end_reply, full_or_done, with_guards}
+use Rattle.epoch_laws.specs.Run.{progress_after, access_reply, accessed_seat, removed_by, BeginsCall, PerformsAsk}
+use Rattle.epoch_laws.specs.Run.{DrivesCall, DoesGo, EndGoes, TakesStep, Runs, IsFresh}
+use Rattle.epoch_laws.specs.Refusals.{LeavesUnplaced, before_after, LeavesRest, quiet_after, IsOfCollection}
+use Rattle.epoch_laws.specs.Refusals.{collected_after, KeepsBag, LeavesUnput, LeavesAtRefusal, RefusedAlong, all_quiet}
+use Rattle.epoch_laws.specs.Refusals.{none_collected}
 use Rattle.epoch_laws.proofs.SeatLemmas.{seat_written, seat_other, seat_there, same_or_other, begin_given}
 use Rattle.epoch_laws.proofs.SeatLinks.{action_of, AllLinked, IsDriven, follows_at}
 use Rattle.epoch_laws.proofs.Linked.{step_linked, fresh_linked}
 use Rattle.epoch_laws.proofs.PutsFind.{turn_taken}
 use Rattle.epoch_laws.specs.Lawful.{nothing}
 use Rattle.epoch_laws.proofs.AccessesTold.{IsTold, told_by_touch}
-use Rattle.epoch_laws.proofs.RefusalsSince.{KeptBag, Kept, DeferAt, FlushAt, ReleaseAt, SinceAt, PlaceSince, SinceBy, Since, AllSince, is_plain, plain_since, since_more, begun_since, release_collected, release_unpinned}
+use Rattle.epoch_laws.proofs.RefusalsSince.{KeptBag, Kept, DeferAt, FlushAt, ReleaseAt, SinceAt, PlaceSince, SinceBy}
+use Rattle.epoch_laws.proofs.RefusalsSince.{Since, AllSince, is_plain, plain_since, since_more, begun_since}
+use Rattle.epoch_laws.proofs.RefusalsSince.{release_collected, release_unpinned}
 
 keeps_bag : (b a : WorldSeat) → KeptBag b a → KeepsBag b a
 keeps_bag b a kept = record { guards = kept.0; paused = kept.1; readings = kept.2; held = kept.3 }
@@ -269,9 +288,11 @@ module _ (old new : State) (reply : Reply) (before : ℕ → WorldSeat) (quiet c
         wrote = ap (λ (s : State). seat_of s p) did.1 ∙ seat_written old p _ (seat_there old p taken)
 
         leaves : m.full ≡ true
-            → LeavesUnput (quiet_after quiet old (Go p) (Refused BagsFull) new p) (collected p) (Driven c) b (seat_of new p)
+            → LeavesUnput (quiet_after quiet old (Go p) (Refused BagsFull) new p) (collected p)
+            (Driven c) b (seat_of new p)
         leaves full = subst
-            (λ (after : WorldSeat). LeavesUnput (quiet_after quiet old (Go p) (Refused BagsFull) new p) (collected p) (Driven c) b
+            (λ (after : WorldSeat). LeavesUnput (quiet_after quiet old (Go p) (Refused BagsFull) new p)
+            (collected p) (Driven c) b
             after)
             (sym wrote)
             (defers_leave _ (collected p) b after c kind
@@ -631,7 +652,8 @@ module _ (old new : State) (reply : Reply) (before : ℕ → WorldSeat) (quiet c
         (λ (k : ℕ). Since (if p == k then seat_of old p else before k) (k ≢ p → quiet k) ((k ≢ p) × collected k)
         (seat_of new k)) (sym same) own
     | inr other ↦
-        subst (λ (b : WorldSeat). Since b (q ≢ p → quiet q) ((q ≢ p) × collected q) (seat_of new q)) (sym (at_other q other))
+        subst (λ (b : WorldSeat). Since b (q ≢ p → quiet q) ((q ≢ p) × collected q) (seat_of new q))
+        (sym (at_other q other))
         (subst (Since (before q) (q ≢ p → quiet q) ((q ≢ p) × collected q))
         (sym (ap (λ (s : State). seat_of s q) e ∙ seat_other old p q _ other))
         (since_more (before q) (quiet q) (q ≢ p → quiet q) (collected q) ((q ≢ p) × collected q) (seat_of old q)

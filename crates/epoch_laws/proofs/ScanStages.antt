@@ -1,5 +1,6 @@
 -- A scan goes on after a word that isn't pinned in another epoch, and stops at one that is.
-use Rattle.std.proofs.Common.{◌≡◌, ℕ, ◌+◌, ◌-◌, ◌*◌, ◌^◌, ◌<◌, ◌≤◌, ◌==◌, ◌&&◌, Bool, true, false, not, length, ◌⊎◌, inl, inr, refl, ap, sym, subst, arith, if◌then◌else◌}
+use Rattle.std.proofs.Common.{◌≡◌, ℕ, ◌+◌, ◌-◌, ◌*◌, ◌^◌, ◌<◌, ◌≤◌, ◌==◌, ◌&&◌, Bool, true, false, not, length, ◌⊎◌}
+use Rattle.std.proofs.Common.{inl, inr, refl, ap, sym, subst, arith, if◌then◌else◌}
 use Rattle.std.proofs.lemmas.Bool.Decides.{nat_tests}
 use Rattle.std.proofs.Math.Nat.{mul-add-mod_self_left}
 use Rattle.epoch_machine.specs.declared.machine.Stage.TheVariants.{Scan, Advance, Take}
@@ -34,7 +35,8 @@ module _ (v : View) (p : ℕ) (m : Machine Deferral) (aim : ends_unguarded m ≡
   -- after the last word: every pinned one has been looked at
   advances : (e k n : ℕ) → HasScanned v p e (λ j. j < k) → ((j : ℕ) → n ≤ j → is_pinned (v.word j) ≡ false)
       → (is_pinned (v.word k) ≡ true → e ≤ v.since k) → (k + 1 == n) ≡ true → IsNext v p true m (scanned e)
-  advances e k n h past here last = either_way (IsNext v p true m) (e == 2 ^ 63 - 1) (Take e 0) (Advance e) (stops e _ h)
+  advances e k n h past here last =
+      either_way (IsNext v p true m) (e == 2 ^ 63 - 1) (Take e 0) (Advance e) (stops e _ h)
       (record {
         publishes = refl;
         aims = aim;

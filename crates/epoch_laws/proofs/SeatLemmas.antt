@@ -1,5 +1,6 @@
 -- A seat after a write, the seats beside it, and what an accepted call knows of its seat.
-use Rattle.std.proofs.Common.{◌≡◌, ◌≢◌, ℕ, ◌<◌, ◌≤◌, Bool, true, false, length, Option, Some, None, ◌⊎◌, inl, inr, refl, ap, arith, if◌then◌else◌, get_or-set_same, get_or-set_other}
+use Rattle.std.proofs.Common.{◌≡◌, ◌≢◌, ℕ, ◌<◌, ◌≤◌, Bool, true, false, length, Option, Some, None, ◌⊎◌, inl, inr, refl}
+use Rattle.std.proofs.Common.{ap, arith, if◌then◌else◌, get_or-set_same, get_or-set_other}
 use Rattle.std.proofs.lemmas.List.{get_or_past}
 use Rattle.epoch_cells.specs.declared.fault.Fault.{Fault}
 use Rattle.epoch_cells.specs.declared.fault.Fault.TheVariants.{NotRegistered, Busy}
@@ -7,7 +8,8 @@ use Rattle.epoch_laws.specs.declared.step.Call.{Call}
 use Rattle.epoch_laws.specs.declared.step.Word.TheVariants.{Free}
 use Rattle.epoch_laws.specs.declared.step.Progress.{Progress}
 use Rattle.epoch_laws.specs.declared.step.Progress.TheVariants.{Idle}
-use Rattle.epoch_laws.specs.Run.{WorldSeat, State, seat_of, position_word, with_seat, free_seat, is_free, is_idle, waits, call_refusal, refusal}
+use Rattle.epoch_laws.specs.Run.{WorldSeat, State, seat_of, position_word, with_seat, free_seat, is_free, is_idle}
+use Rattle.epoch_laws.specs.Run.{waits, call_refusal, refusal}
 use Rattle.epoch_heap.specs.Heap.{Heap}
 
 pub seat_written : (s : State) (p : ℕ) (seat : WorldSeat) → p < length s.seats → seat_of (with_seat s p seat) p ≡ seat

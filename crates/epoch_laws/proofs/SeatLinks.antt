@@ -1,6 +1,7 @@
 -- Between any two steps a participant's call, its machine and its guards say the same: what is linked, and how a
 -- write of one seat keeps it.
-use Rattle.std.proofs.Common.{◌≡◌, ◌≢◌, ℕ, ◌<◌, List, length, ◌⊎◌, inl, inr, refl, ap, sym, subst, ◌∙◌, slice_index_or, slice_set}
+use Rattle.std.proofs.Common.{◌≡◌, ◌≢◌, ℕ, ◌<◌, List, length, ◌⊎◌, inl, inr, refl, ap, sym, subst, ◌∙◌, slice_index_or}
+use Rattle.std.proofs.Common.{slice_set}
 use Rattle.std.proofs.Math.ListN.{length-set}
 use Rattle.epoch_machine.specs.declared.machine.Sizes.{Sizes}
 use Rattle.epoch_laws.specs.declared.step.Progress.{Progress}
@@ -14,7 +15,8 @@ pub free_linked : (sizes : Sizes) → IsLinked sizes (free_seat sizes)
 free_linked sizes = record { sized = refl; counted = refl; follows = refl }
 
 -- what a progress that is known says
-pub follows_at : (sizes : Sizes) (seat : WorldSeat) → IsLinked sizes seat → (progress : Progress) → seat.progress ≡ progress
+pub follows_at : (sizes : Sizes) (seat : WorldSeat)
+    → IsLinked sizes seat → (progress : Progress) → seat.progress ≡ progress
     → IsInStep progress seat.machine seat.guards
 follows_at sizes seat h progress e =
     subst (λ (now : Progress). IsInStep now seat.machine seat.guards) e h.follows

@@ -1,5 +1,6 @@
 -- Steps that keep what holds: nothing is changed, or one seat goes on, publishes or withdraws.
-use Rattle.std.proofs.Common.{◌≡◌, ◌≢◌, ℕ, ◌<◌, ◌≤◌, true, false, List, [], ◌∷◌, ◌++◌, inl, inr, refl, ap, sym, ◌∙◌, arith, le_of_eq}
+use Rattle.std.proofs.Common.{◌≡◌, ◌≢◌, ℕ, ◌<◌, ◌≤◌, true, false, List, [], ◌∷◌, ◌++◌, inl, inr, refl, ap, sym, ◌∙◌}
+use Rattle.std.proofs.Common.{arith, le_of_eq}
 use Rattle.epoch_bags.specs.declared.job.Called.{Called}
 use Rattle.epoch_laws.specs.declared.step.Reply.TheVariants.{Deferred, Called as CalledReply}
 use Rattle.epoch_laws.specs.declared.step.Entry.{Entry}
@@ -9,7 +10,8 @@ use Rattle.epoch_laws.proofs.SeatLemmas.{seat_there}
 use Rattle.epoch_laws.proofs.DeferralEpochs.{DeferredBy, SealedBehind}
 use Rattle.epoch_laws.proofs.Log.{IsPublish, IsWithdrawal}
 use Rattle.epoch_laws.proofs.QuietReplies.{IsPlain, IsQuiet}
-use Rattle.epoch_laws.proofs.SeatsFine.{View, is_pinned, publishes_at, AimsAt, KnowsAt, SeatIsFine, passes_same, fine_more}
+use Rattle.epoch_laws.proofs.SeatsFine.{View, is_pinned, publishes_at, AimsAt, KnowsAt, SeatIsFine, passes_same}
+use Rattle.epoch_laws.proofs.SeatsFine.{fine_more}
 use Rattle.epoch_laws.proofs.LogKept.{log_push}
 use Rattle.epoch_laws.proofs.WorldHolds.{Holds, holds_along, view_of, acted, changed, changed_same, changed_other}
 
@@ -42,7 +44,8 @@ module _ (old new : State) (log : List Entry) (x : Entry) (h : Holds old log) wh
   })
 
   -- p goes on under the same word, and tells nothing but perhaps a call
-  pub plain_step : (p : ℕ) (after : WorldSeat) (queued : List Bag) → position_word old p ≢ Free → after.word ≡ position_word old p
+  pub plain_step : (p : ℕ) (after : WorldSeat) (queued : List Bag)
+      → position_word old p ≢ Free → after.word ≡ position_word old p
       → IsPlain x.reply
       → ((t : ℕ) (how : Called) → x.reply ≡ CalledReply t how → CallsEarlier old h.since h.when t)
       → SeatIsFine v p after → SealedBehind h.when old.tickets old.epoch queued
@@ -68,7 +71,8 @@ module _ (old new : State) (log : List Entry) (x : Entry) (h : Holds old log) wh
         called = called;
       }))
 
-  pub quiet_step : (p : ℕ) (after : WorldSeat) → position_word old p ≢ Free → after.word ≡ position_word old p → IsQuiet x.reply
+  pub quiet_step : (p : ℕ) (after : WorldSeat)
+      → position_word old p ≢ Free → after.word ≡ position_word old p → IsQuiet x.reply
       → SeatIsFine v p after → new ≡ with_seat old p after → Holds new (log ++ x ∷ [])
   quiet_step p after taken same quiet fine e = plain_step p after old.queued taken same quiet.plain
       (λ t how told. absurd (quiet.called t how told)) fine h.queued e

@@ -1,22 +1,28 @@
 -- What the put of a participant has found of the places, by its seat, between any two steps.
 use Rattle.std.proofs.Common.{◌≡◌, ℕ, Bool, true, false, Some, None, refl, ap, sym, subst, ◌∙◌, if◌then◌else◌}
 use Rattle.epoch_machine.specs.declared.machine.Action.{Action}
-use Rattle.epoch_machine.specs.declared.machine.Action.TheVariants.{Pin as PinAction, Unpin as UnpinAction, Repin as RepinAction, Defer as DeferAction, Flush as FlushAction, Release as ReleaseAction}
+use Rattle.epoch_machine.specs.declared.machine.Action.TheVariants.{Pin as PinAction, Unpin as UnpinAction}
+use Rattle.epoch_machine.specs.declared.machine.Action.TheVariants.{Repin as RepinAction, Defer as DeferAction}
+use Rattle.epoch_machine.specs.declared.machine.Action.TheVariants.{Flush as FlushAction, Release as ReleaseAction}
 use Rattle.epoch_machine.specs.declared.machine.Stage.{Stage}
-use Rattle.epoch_machine.specs.declared.machine.Stage.TheVariants.{Idle as Resting, LoadPin, StorePin, ReloadPin, LoadScan, Scan, Advance, Take, Calling, LoadSeal, Put, StoreFree}
+use Rattle.epoch_machine.specs.declared.machine.Stage.TheVariants.{Idle as Resting, LoadPin, StorePin, ReloadPin}
+use Rattle.epoch_machine.specs.declared.machine.Stage.TheVariants.{LoadScan, Scan, Advance, Take, Calling, LoadSeal}
+use Rattle.epoch_machine.specs.declared.machine.Stage.TheVariants.{Put, StoreFree}
 use Rattle.epoch_machine.specs.Machine.{Machine}
 use Rattle.epoch_heap.specs.declared.access.Access.{Access}
 use Rattle.epoch_heap.specs.declared.access.Answer.TheVariants.{Absent}
 use Rattle.epoch_heap.specs.Heap.{null, has_steps}
 use Rattle.epoch_laws.specs.declared.step.Call.{Call}
-use Rattle.epoch_laws.specs.declared.step.Call.TheVariants.{Pin, Unpin, Repin, Pause, Resume, Defer, Flush, Release, DeferDestroy, Access as AccessCall}
+use Rattle.epoch_laws.specs.declared.step.Call.TheVariants.{Pin, Unpin, Repin, Pause, Resume, Defer, Flush, Release}
+use Rattle.epoch_laws.specs.declared.step.Call.TheVariants.{DeferDestroy, Access as AccessCall}
 use Rattle.epoch_laws.specs.declared.step.Deferral.{Deferral}
 use Rattle.epoch_laws.specs.declared.step.Progress.{Progress}
 use Rattle.epoch_laws.specs.declared.step.Progress.TheVariants.{Idle, Driven, CallsNow, Accesses, Ends}
 use Rattle.epoch_laws.specs.declared.step.Reply.TheVariants.{Done}
 use Rattle.epoch_laws.specs.declared.step.Word.{Word}
 use Rattle.epoch_laws.specs.Run.{WorldSeat, with_word, drives, begun_seat, ended_seat}
-use Rattle.epoch_laws.proofs.PutStages.{NoneFound, FoundSeen, FoundWhere, none_missed, puts_bag, NoneYet, FoundAt, found_first}
+use Rattle.epoch_laws.proofs.PutStages.{NoneFound, FoundSeen, FoundWhere, none_missed, puts_bag, NoneYet, FoundAt}
+use Rattle.epoch_laws.proofs.PutStages.{found_first}
 
 -- a call that its machine drives may have found places, and another one none
 abbrev pub FoundIn : (found : ℕ → Type 0) (count : ℕ) → Bool → Progress → Type 0
@@ -95,7 +101,8 @@ module _ (was found : ℕ → Type 0) (same : SameFound was found) where
 
 module _ (found : ℕ → Type 0) (count seen : ℕ) where
   -- at rest nothing has to be found
-  pub rest_finds : (seat : WorldSeat) → seat.machine.stage ≡ Resting → FoundIn found count seat.machine.full seat.progress
+  pub rest_finds : (seat : WorldSeat)
+      → seat.machine.stage ≡ Resting → FoundIn found count seat.machine.full seat.progress
       → FullByPut seat.machine → PutFinds found count seen seat
   rest_finds seat rests at by_action = record {
     by_stage = subst (FoundAt found count seen seat.machine.action seat.machine.full) (sym rests) tt;
@@ -103,7 +110,8 @@ module _ (found : ℕ → Type 0) (count seen : ℕ) where
     by_action = by_action;
   }
 
-  driven_finds : (a : Action) (c : Call) (seat : WorldSeat) → NoneFound found → PutFinds found count seen (drives a c seat)
+  driven_finds : (a : Action) (c : Call) (seat : WorldSeat)
+      → NoneFound found → PutFinds found count seen (drives a c seat)
   driven_finds a c seat none = record {
     by_stage = found_first found count seen a seat.machine none;
     by_progress = none_missed found count none;

@@ -12,7 +12,8 @@ use Rattle.epoch_laws.specs.declared.step.Reply.{Reply}
 use Rattle.epoch_laws.specs.declared.step.Step.{Step}
 use Rattle.epoch_laws.specs.declared.step.Step.TheVariants.{Register, Begin, Go, End as EndStep, EndGo}
 use Rattle.epoch_machine.specs.Machine.{ask_at}
-use Rattle.epoch_laws.specs.Run.{State, WorldSeat, Ending, Open, Emptying, Over, seat_of, refusal, BeginsCall, PerformsAsk, DrivesCall, DoesGo, EndGoes, Moves, Runs}
+use Rattle.epoch_laws.specs.Run.{State, WorldSeat, Ending, Open, Emptying, Over, seat_of, refusal, BeginsCall}
+use Rattle.epoch_laws.specs.Run.{PerformsAsk, DrivesCall, DoesGo, EndGoes, Moves, Runs}
 
 abbrev of : State → Sizes
 of s = s.sizes
@@ -27,7 +28,8 @@ module _ (old new : State) (p : ℕ) (reply : Reply) where
   performs_same CallJob did = ap of did.4
   performs_same _ did = ap of did.1
 
-  drives_same : (c : Call) (o : Option Ask) → DrivesCall old p seat c seat.machine.stage o reply new → new.sizes ≡ old.sizes
+  drives_same : (c : Call) (o : Option Ask)
+      → DrivesCall old p seat c seat.machine.stage o reply new → new.sizes ≡ old.sizes
   drives_same c (Some ask) did = performs_same ask did
   drives_same c None did = ap of did.1
 
@@ -53,7 +55,8 @@ pub moves_same : (old new : State) (reply : Reply) (step : Step) → Moves old s
 moves_same old new reply Register (inl did) = ap of did.6
 moves_same old new reply Register (inr (inl did)) = ap of did.3
 moves_same old new reply Register (inr (inr did)) = ap of did.2
-moves_same old new reply (Begin p c) did = begins_same old new p reply c (refusal c (seat_of old p) old.tickets old.heap) did
+moves_same old new reply (Begin p c) did =
+    begins_same old new p reply c (refusal c (seat_of old p) old.tickets old.heap) did
 moves_same old new reply (Go p) (inl did) = ap of did.2
 moves_same old new reply (Go p) (inr did) = goes_same old new p reply (seat_of old p).progress did.1
 moves_same old new reply EndStep (inl did) = ap of did.3

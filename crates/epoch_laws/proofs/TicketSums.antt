@@ -1,12 +1,14 @@
 -- How often a ticket's job is in lists of bags and seats, and in a log, after one of them has changed.
-use Rattle.std.proofs.Common.{◌≡◌, ℕ, suc, ◌+◌, ◌<◌, ◌==◌, List, [], ◌∷◌, ◌++◌, length, refl, ap, ◌∙◌, arith, get_or, if◌then◌else◌, slice_set, sum_by, nat_lt}
+use Rattle.std.proofs.Common.{◌≡◌, ℕ, suc, ◌+◌, ◌<◌, ◌==◌, List, [], ◌∷◌, ◌++◌, length, refl, ap, ◌∙◌, arith, get_or}
+use Rattle.std.proofs.Common.{if◌then◌else◌, slice_set, sum_by, nat_lt}
 use Rattle.std.proofs.lemmas.Bool.Decides.{nat_tests}
 use Rattle.std.proofs.lemmas.List.Sums.{sum_by-append, sum_by-cons, sum_by-set}
 use Rattle.epoch_bags.specs.Stores.{IsInserted}
 use Rattle.epoch_laws.specs.declared.step.Entry.{Entry}
 use Rattle.epoch_laws.specs.declared.step.Deferral.{Deferral}
 use Rattle.epoch_laws.specs.Run.{Bag, WorldSeat, State, seat_of, free_seat}
-use Rattle.epoch_laws.specs.Tickets.{times, times_at_seats, times_queued, calls_of, deferrals_of, times_called, times_deferred}
+use Rattle.epoch_laws.specs.Tickets.{times, times_at_seats, times_queued, calls_of, deferrals_of, times_called}
+use Rattle.epoch_laws.specs.Tickets.{times_deferred}
 
 pub called_push : (t : ℕ) (log : List Entry) (x : Entry)
     → times_called t (log ++ x ∷ []) ≡ times_called t log + calls_of t x.reply

@@ -1,7 +1,10 @@
 -- Every step of a participant keeps the tally.
 use Rattle.std.proofs.Common.{◌≡◌, ◌≢◌, ℕ, ◌+◌, ◌==◌, false, List, [], ◌∷◌, ◌++◌, refl, ap, sym, subst, ◌∙◌, arith}
 use Rattle.epoch_machine.specs.declared.machine.Stage.{Stage}
-use Rattle.epoch_machine.specs.declared.machine.Stage.TheVariants.{Idle, LoadPin, StorePin, ReloadPin, LoadScan, Scan, Advance, Take, Calling, LoadSeal, Put, Keep, LoadRepin, StoreRepin, ReloadRepin, StoreUnpinned, StoreFree, End}
+use Rattle.epoch_machine.specs.declared.machine.Stage.TheVariants.{Idle, LoadPin, StorePin, ReloadPin, LoadScan, Scan}
+use Rattle.epoch_machine.specs.declared.machine.Stage.TheVariants.{Advance, Take, Calling, LoadSeal, Put, Keep}
+use Rattle.epoch_machine.specs.declared.machine.Stage.TheVariants.{LoadRepin, StoreRepin, ReloadRepin, StoreUnpinned}
+use Rattle.epoch_machine.specs.declared.machine.Stage.TheVariants.{StoreFree, End}
 use Rattle.epoch_machine.specs.declared.machine.Answer.TheVariants.{Stored}
 use Rattle.epoch_machine.specs.Machine.{Machine, ask_at, hears}
 use Rattle.epoch_machine.proofs.StagesAfter.{either_way}
@@ -14,11 +17,14 @@ use Rattle.epoch_laws.specs.declared.step.Deferral.{Deferral}
 use Rattle.epoch_laws.specs.declared.step.Word.TheVariants.{Free, Unpinned, Pinned}
 use Rattle.epoch_laws.specs.declared.step.Progress.{Progress}
 use Rattle.epoch_laws.specs.declared.step.Progress.TheVariants.{Idle as IdleProgress, Driven, CallsNow, Ends, Accesses}
-use Rattle.epoch_laws.specs.Run.{WorldSeat, State, seat_of, position_word, word_number, with_seat, free_seat, Open, begun_seat, end_reply, ended_seat, DrivesCall, DoesGo, with_heap, accessed_seat}
+use Rattle.epoch_laws.specs.Run.{WorldSeat, State, seat_of, position_word, word_number, with_seat, free_seat, Open}
+use Rattle.epoch_laws.specs.Run.{begun_seat, end_reply, ended_seat, DrivesCall, DoesGo, with_heap, accessed_seat}
 use Rattle.epoch_laws.specs.Tickets.{times}
 use Rattle.epoch_laws.proofs.SeatLemmas.{seat_there}
-use Rattle.epoch_laws.proofs.JobsPlaced.{HeldAt, RestsAt, PlacesJobs, PlacesHere, LeavesJobs, held_pinned, held_unpinned, held_past, resting, begun_leaves, ended_leaves, accessed_leaves}
-use Rattle.epoch_laws.proofs.TicketsTallied.{Tallies, tells, untold_calls, untold_deferrals, end_untold, none_given, stayed, acts, heap_beside, access_untold}
+use Rattle.epoch_laws.proofs.JobsPlaced.{HeldAt, RestsAt, PlacesJobs, PlacesHere, LeavesJobs, held_pinned}
+use Rattle.epoch_laws.proofs.JobsPlaced.{held_unpinned, held_past, resting, begun_leaves, ended_leaves, accessed_leaves}
+use Rattle.epoch_laws.proofs.TicketsTallied.{Tallies, tells, untold_calls, untold_deferrals, end_untold, none_given}
+use Rattle.epoch_laws.proofs.TicketsTallied.{stayed, acts, heap_beside, access_untold}
 use Rattle.epoch_laws.proofs.JobsMoved.{IsGoing, ending_open, keeps_jobs, staged, puts, takes, calls, keeps}
 use Rattle.epoch_heap.specs.Heap.{Heap}
 

@@ -1,12 +1,14 @@
 -- Every step keeps the tally, so in every run each ticket's job is in one bag or was called once.
-use Rattle.std.proofs.Common.{◌≡◌, ◌≢◌, ℕ, ◌+◌, Bool, List, [], ◌∷◌, ◌++◌, append_assoc, append-nil, Option, Some, None, inl, inr, refl, ap, sym, subst, arith}
+use Rattle.std.proofs.Common.{◌≡◌, ◌≢◌, ℕ, ◌+◌, Bool, List, [], ◌∷◌, ◌++◌, append_assoc, append-nil, Option, Some, None}
+use Rattle.std.proofs.Common.{inl, inr, refl, ap, sym, subst, arith}
 use Rattle.epoch_cells.specs.declared.fault.Fault.{Fault}
 use Rattle.epoch_laws.specs.declared.step.Call.{Call}
 use Rattle.epoch_laws.specs.declared.step.Step.{Step}
 use Rattle.epoch_laws.specs.declared.step.Step.TheVariants.{Register, Begin, Go, End as EndStep, EndGo}
 use Rattle.epoch_laws.specs.declared.step.Reply.TheVariants.{Began}
 use Rattle.epoch_laws.specs.declared.step.Entry.{Entry}
-use Rattle.epoch_laws.specs.Run.{with_places, WorldSeat, State, seat_of, Ending, Open, Emptying, Over, AllFree, BeginsCall, refusal, EndGoes, Moves, Runs, IsFresh}
+use Rattle.epoch_laws.specs.Run.{with_places, WorldSeat, State, seat_of, Ending, Open, Emptying, Over, AllFree}
+use Rattle.epoch_laws.specs.Run.{BeginsCall, refusal, EndGoes, Moves, Runs, IsFresh}
 use Rattle.epoch_laws.specs.Tickets.{times_queued, times_at_end, times_called, times_deferred, HoldsEachTicketOnce}
 use Rattle.epoch_laws.proofs.SeatLemmas.{begin_given}
 use Rattle.epoch_laws.proofs.TicketSums.{queued_put, times_cons, none_at_seats, none_deferred}

@@ -1,13 +1,16 @@
 -- The tally of the tickets, and what keeps it: jobs move as the reply tells.
-use Rattle.std.proofs.Common.{◌≡◌, ◌≢◌, ℕ, ◌+◌, ◌<◌, Bool, true, false, List, [], ◌∷◌, ◌++◌, length, inl, inr, refl, ap, sym, subst, ◌∙◌, arith, if◌then◌else◌, nat_lt}
+use Rattle.std.proofs.Common.{◌≡◌, ◌≢◌, ℕ, ◌+◌, ◌<◌, Bool, true, false, List, [], ◌∷◌, ◌++◌, length, inl, inr, refl, ap}
+use Rattle.std.proofs.Common.{sym, subst, ◌∙◌, arith, if◌then◌else◌, nat_lt}
 use Rattle.epoch_laws.specs.declared.step.Call.{Call}
 use Rattle.epoch_laws.specs.declared.step.Call.TheVariants.{Pin, Defer, Flush, Release, DeferDestroy}
 use Rattle.epoch_laws.specs.declared.step.Reply.{Reply}
 use Rattle.epoch_laws.specs.declared.step.Reply.TheVariants.{Registered, Deferred, Called}
 use Rattle.epoch_laws.specs.declared.step.Entry.{Entry}
 use Rattle.epoch_laws.specs.declared.step.Word.TheVariants.{Free, Unpinned}
-use Rattle.epoch_laws.specs.Run.{Bag, WorldSeat, State, seat_of, position_word, with_seat, free_seat, Ending, Open, Over, AllFree, end_reply, full_or_done, with_heap, access_reply}
-use Rattle.epoch_laws.specs.Tickets.{times, times_queued, times_in_bags, times_at_end, calls_of, deferrals_of, times_called, times_deferred}
+use Rattle.epoch_laws.specs.Run.{Bag, WorldSeat, State, seat_of, position_word, with_seat, free_seat, Ending, Open}
+use Rattle.epoch_laws.specs.Run.{Over, AllFree, end_reply, full_or_done, with_heap, access_reply}
+use Rattle.epoch_laws.specs.Tickets.{times, times_queued, times_in_bags, times_at_end, calls_of, deferrals_of}
+use Rattle.epoch_laws.specs.Tickets.{times_called, times_deferred}
 use Rattle.epoch_laws.proofs.SeatLemmas.{seat_written, seat_other, same_or_other}
 use Rattle.epoch_laws.proofs.TicketSums.{called_push, deferred_push, times_at, seats_set}
 use Rattle.epoch_laws.proofs.JobsPlaced.{PlacesHere}

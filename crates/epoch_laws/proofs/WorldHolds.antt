@@ -1,12 +1,14 @@
 -- What holds of the world and its log between any two steps, and what a step on one seat must keep of it.
-use Rattle.std.proofs.Common.{◌≡◌, ◌≢◌, ℕ, ◌+◌, ◌<◌, ◌≤◌, true, List, [], ◌∷◌, ◌++◌, length, ◌⊎◌, inl, inr, ap, sym, subst, ◌∙◌, arith, eqb, cond, slice_index_or, slice_set}
+use Rattle.std.proofs.Common.{◌≡◌, ◌≢◌, ℕ, ◌+◌, ◌<◌, ◌≤◌, true, List, [], ◌∷◌, ◌++◌, length, ◌⊎◌, inl, inr, ap, sym}
+use Rattle.std.proofs.Common.{subst, ◌∙◌, arith, eqb, cond, slice_index_or, slice_set}
 use Rattle.std.proofs.lemmas.Bool.Decides.{nat_tests}
 use Rattle.epoch_bags.specs.declared.job.Called.{Called}
 use Rattle.epoch_machine.specs.declared.machine.Sizes.{Sizes}
 use Rattle.epoch_laws.specs.declared.step.Reply.{Reply}
 use Rattle.epoch_laws.specs.declared.step.Reply.TheVariants.{Deferred, Called as CalledReply}
 use Rattle.epoch_laws.specs.declared.step.Entry.{Entry}
-use Rattle.epoch_laws.specs.Run.{WorldSeat, State, seat_of, position_word, with_seat, free_seat, Ending, Open, Emptying, AllFree, with_heap}
+use Rattle.epoch_laws.specs.Run.{WorldSeat, State, seat_of, position_word, with_seat, free_seat, Ending, Open, Emptying}
+use Rattle.epoch_laws.specs.Run.{AllFree, with_heap}
 use Rattle.epoch_laws.proofs.SeatLemmas.{seat_written, seat_other, same_or_other}
 use Rattle.epoch_laws.proofs.DeferralEpochs.{DeferredBy, SealedBehind, deferred_more}
 use Rattle.epoch_laws.proofs.Log.{IsPublish, IsWithdrawal}
@@ -60,7 +62,8 @@ pub changed_other : (f : ℕ → ℕ) (p e q : ℕ) → q ≢ p → changed f p 
 changed_other f p e q ne = grind (arith, nat_tests)
 
 -- What a step of p must show: its seat after the step is fine in the new view, and what the reply tells of p.
-pub record Acts (old new : State) (since when since' when' : ℕ → ℕ) (p : ℕ) (after : WorldSeat) (r : Reply) : Type 0 where
+pub record Acts (old new : State) (since when since' when' : ℕ → ℕ) (p : ℕ) (after : WorldSeat)
+    (r : Reply) : Type 0 where
   pub there : p < length old.seats
   pub still_open : ¬ (old.ending ≢ Open)  -- no end has begun
   pub sizes : new.sizes ≡ old.sizes

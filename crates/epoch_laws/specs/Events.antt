@@ -1,8 +1,11 @@
 -- Which reply tells an event.
 use Rattle.epoch_laws.specs.declared.history.events.Event.{Event}
-use Rattle.epoch_laws.specs.declared.history.events.Event.TheVariants.{Registered, Pinned, Unpinned, Repinned, Deferred, Called}
+use Rattle.epoch_laws.specs.declared.history.events.Event.TheVariants.{Registered, Pinned, Unpinned, Repinned, Deferred}
+use Rattle.epoch_laws.specs.declared.history.events.Event.TheVariants.{Called}
 use Rattle.epoch_laws.specs.declared.step.Reply.{Reply}
-use Rattle.epoch_laws.specs.declared.step.Reply.TheVariants.{Registered as RegisteredReply, Pinned as PinnedReply, Unpinned as UnpinnedReply, Repinned as RepinnedReply, Deferred as DeferredReply, Called as CalledReply}
+use Rattle.epoch_laws.specs.declared.step.Reply.TheVariants.{Registered as RegisteredReply, Pinned as PinnedReply}
+use Rattle.epoch_laws.specs.declared.step.Reply.TheVariants.{Unpinned as UnpinnedReply, Repinned as RepinnedReply}
+use Rattle.epoch_laws.specs.declared.step.Reply.TheVariants.{Deferred as DeferredReply, Called as CalledReply}
 
 abbrev pub reply_of : Event → Reply
 reply_of (Registered p) = RegisteredReply p

@@ -2,7 +2,8 @@
 use Rattle.std.specs.Prelude.{◌≡◌, ℕ, ◌+◌, ◌<◌, ◌≤◌, List, ◌⊎◌, slice_get, Some, option_map}
 use Rattle.epoch_bags.specs.declared.job.Called.{Called}
 use Rattle.epoch_laws.specs.declared.step.Reply.{Reply}
-use Rattle.epoch_laws.specs.declared.step.Reply.TheVariants.{Pinned, Unpinned, Repinned, Deferred, Called as CalledReply}
+use Rattle.epoch_laws.specs.declared.step.Reply.TheVariants.{Pinned, Unpinned, Repinned, Deferred}
+use Rattle.epoch_laws.specs.declared.step.Reply.TheVariants.{Called as CalledReply}
 use Rattle.epoch_laws.specs.declared.step.Entry.{Entry}
 
 -- what the reply at place i of the log tells

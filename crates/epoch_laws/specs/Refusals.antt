@@ -64,7 +64,8 @@ abbrev pub LeavesUnput : (quiet collected : Type 0) → Progress → (before aft
 LeavesUnput quiet collected (Driven (Defer g)) before after = quiet × (after.word ≡ before.word) × KeepsBag before after
 LeavesUnput quiet collected (Driven (DeferDestroy g ptr)) before after =
     quiet × (after.word ≡ before.word) × KeepsBag before after
-LeavesUnput quiet collected (Driven (Flush g)) before after = collected × (after.word ≡ before.word) × KeepsBag before after
+LeavesUnput quiet collected (Driven (Flush g)) before after =
+    collected × (after.word ≡ before.word) × KeepsBag before after
 LeavesUnput quiet collected (Driven Release) before after = (after.word ≡ Unpinned) × KeepsBag before after
 LeavesUnput quiet collected _ before after = ⊥
 

@@ -1,27 +1,41 @@
 -- The world of all participants: what one step may do, and whole runs.
-use Rattle.std.specs.Prelude.{◌≡◌, ◌≢◌, ℕ, ◌+◌, ◌-◌, ◌*◌, ◌^◌, ◌<◌, ◌==◌, Bool, true, false, List, [], ◌∷◌, ◌++◌, length, Option, Some, None, ◌⊎◌, nat_le, zero, suc, if◌then◌else◌, slice_index_or, slice_set, slice_get}
+use Rattle.std.specs.Prelude.{◌≡◌, ◌≢◌, ℕ, ◌+◌, ◌-◌, ◌*◌, ◌^◌, ◌<◌, ◌==◌, Bool, true, false, List, [], ◌∷◌, ◌++◌}
+use Rattle.std.specs.Prelude.{length, Option, Some, None, ◌⊎◌, nat_le, zero, suc, if◌then◌else◌, slice_index_or}
+use Rattle.std.specs.Prelude.{slice_set, slice_get}
 use Rattle.std.specs.List.{list_any}
 use Rattle.epoch_bags.specs.Bags.{Sealed, is_empty}
 use Rattle.epoch_bags.specs.Stores.{IsInserted}
 use Rattle.epoch_cells.specs.declared.fault.Fault.{Fault}
-use Rattle.epoch_cells.specs.declared.fault.Fault.TheVariants.{TableFull, BagsFull, Busy, Idle as IdleFault, NotRegistered, StrangerGuard, GuardsOut, TooManyGuards, ParticipantsLeft, Ended, TicketsOut, CellsFull, NoSuchPlace, StrangerPointer}
+use Rattle.epoch_cells.specs.declared.fault.Fault.TheVariants.{TableFull, BagsFull, Busy, Idle as IdleFault}
+use Rattle.epoch_cells.specs.declared.fault.Fault.TheVariants.{NotRegistered, StrangerGuard, GuardsOut, TooManyGuards}
+use Rattle.epoch_cells.specs.declared.fault.Fault.TheVariants.{ParticipantsLeft, Ended, TicketsOut, CellsFull}
+use Rattle.epoch_cells.specs.declared.fault.Fault.TheVariants.{NoSuchPlace, StrangerPointer}
 use Rattle.epoch_bags.specs.declared.queue.PutStep.{PutStep}
 use Rattle.epoch_bags.specs.declared.queue.TakeStep.{TakeStep}
 use Rattle.epoch_machine.specs.declared.machine.Action.{Action}
-use Rattle.epoch_machine.specs.declared.machine.Action.TheVariants.{Pin as PinAction, Unpin as UnpinAction, Repin as RepinAction, Defer as DeferAction, Flush as FlushAction, Release as ReleaseAction}
+use Rattle.epoch_machine.specs.declared.machine.Action.TheVariants.{Pin as PinAction, Unpin as UnpinAction}
+use Rattle.epoch_machine.specs.declared.machine.Action.TheVariants.{Repin as RepinAction, Defer as DeferAction}
+use Rattle.epoch_machine.specs.declared.machine.Action.TheVariants.{Flush as FlushAction, Release as ReleaseAction}
 use Rattle.epoch_machine.specs.declared.machine.Sizes.{Sizes}
 use Rattle.epoch_machine.specs.declared.machine.Stage.{Stage}
 use Rattle.epoch_machine.specs.declared.machine.Ask.{Ask}
-use Rattle.epoch_machine.specs.declared.machine.Ask.TheVariants.{LoadEpoch, LoadWord, StorePinned, StoreRepinned, StoreUnpinned, StoreFree, StoreEpoch, PutBag, TakeBag, KeepJob, CallJob}
+use Rattle.epoch_machine.specs.declared.machine.Ask.TheVariants.{LoadEpoch, LoadWord, StorePinned, StoreRepinned}
+use Rattle.epoch_machine.specs.declared.machine.Ask.TheVariants.{StoreUnpinned, StoreFree, StoreEpoch, PutBag, TakeBag}
+use Rattle.epoch_machine.specs.declared.machine.Ask.TheVariants.{KeepJob, CallJob}
 use Rattle.epoch_machine.specs.declared.machine.Answer.TheVariants.{Epoch, Word as WordFound, Stored, Job}
-use Rattle.epoch_machine.specs.Machine.{Machine, ask_at, hears, put_heard, took_heard, gives, begun, ended, fresh, is_taking, IsSized, PutsHeld, TakesHand}
+use Rattle.epoch_machine.specs.Machine.{Machine, ask_at, hears, put_heard, took_heard, gives, begun, ended, fresh}
+use Rattle.epoch_machine.specs.Machine.{is_taking, IsSized, PutsHeld, TakesHand}
 use Rattle.epoch_laws.specs.declared.step.Call.{Call}
-use Rattle.epoch_laws.specs.declared.step.Call.TheVariants.{Pin, Unpin, Repin, Pause, Resume, Defer, Flush, Release, DeferDestroy, Access as AccessCall}
+use Rattle.epoch_laws.specs.declared.step.Call.TheVariants.{Pin, Unpin, Repin, Pause, Resume, Defer, Flush, Release}
+use Rattle.epoch_laws.specs.declared.step.Call.TheVariants.{DeferDestroy, Access as AccessCall}
 use Rattle.epoch_laws.specs.declared.step.Step.{Step}
 use Rattle.epoch_laws.specs.declared.step.Step.TheVariants.{Register, Begin, Go, End as EndStep, EndGo}
-use Rattle.epoch_heap.specs.declared.access.Answer.TheVariants.{Guard, Unit as UnitAnswer, Released, Count, Value, Absent}
+use Rattle.epoch_heap.specs.declared.access.Answer.TheVariants.{Guard, Unit as UnitAnswer, Released, Count, Value}
+use Rattle.epoch_heap.specs.declared.access.Answer.TheVariants.{Absent}
 use Rattle.epoch_laws.specs.declared.step.Reply.{Reply}
-use Rattle.epoch_laws.specs.declared.step.Reply.TheVariants.{Registered, Began, Stepped, Pinned as PinnedReply, Unpinned as UnpinnedReply, Repinned, Deferred, Called as CalledReply, CalledNow, Done, Refused}
+use Rattle.epoch_laws.specs.declared.step.Reply.TheVariants.{Registered, Began, Stepped, Pinned as PinnedReply}
+use Rattle.epoch_laws.specs.declared.step.Reply.TheVariants.{Unpinned as UnpinnedReply, Repinned, Deferred}
+use Rattle.epoch_laws.specs.declared.step.Reply.TheVariants.{Called as CalledReply, CalledNow, Done, Refused}
 use Rattle.epoch_laws.specs.declared.step.Entry.{Entry}
 use Rattle.epoch_laws.specs.declared.step.Deferral.{Deferral}
 use Rattle.epoch_laws.specs.declared.step.Word.{Word}
@@ -38,7 +52,8 @@ use Rattle.epoch_heap.specs.declared.access.Access.TheVariants.{Read, Leave}
 use Rattle.epoch_heap.specs.declared.access.Accessed.{Accessed}
 use Rattle.epoch_heap.specs.declared.access.Accessed.TheVariants.{Again, Answers, NoSlot}
 use Rattle.epoch_heap.specs.declared.access.Ptr.{Ptr}
-use Rattle.epoch_heap.specs.Heap.{Cell, Heap, null, is_name, outcome_of, heap_after_job, Touched, Touches, guard_of, has_steps, has_place, is_removable, knows_names}
+use Rattle.epoch_heap.specs.Heap.{Cell, Heap, null, is_name, outcome_of, heap_after_job, Touched, Touches, guard_of}
+use Rattle.epoch_heap.specs.Heap.{has_steps, has_place, is_removable, knows_names}
 
 -- a job of the world, and a bag of the store
 abbrev pub Bag : Type 0
@@ -339,7 +354,8 @@ DrivesCall old p seat c s None reply new = (reply ≡ end_reply c seat) × (new 
 -- what a step Go of p does
 abbrev pub DoesGo : State → ℕ → WorldSeat → Progress → Reply → State → Type 0
 DoesGo old p seat Idle reply new = (reply ≡ Refused IdleFault) × (new ≡ old)
-DoesGo old p seat (Driven c) reply new = DrivesCall old p seat c seat.machine.stage (ask_at seat.machine.stage) reply new
+DoesGo old p seat (Driven c) reply new =
+    DrivesCall old p seat c seat.machine.stage (ask_at seat.machine.stage) reply new
 DoesGo old p seat (CallsNow removes) reply new =
     (reply ≡ CalledNow (outcome_of old.heap removes))
     × (new ≡ record (with_seat old p (record seat { progress = Ends (Done UnitAnswer) }))
@@ -429,12 +445,14 @@ turn_of seat = turn_at seat.word seat.progress seat.machine.stage
 -- other step changes any of this.
 abbrev pub SeesPlaces : State → Step → State → Type 0
 SeesPlaces old (Go p) new =
-    SeesOccupied (turn_of (seat_of old p)) (seat_of old p).machine (seat_of new p).machine (occupancy_of old p) (occupancy_of new p)
+    SeesOccupied (turn_of (seat_of old p)) (seat_of old p).machine (seat_of new p).machine
+    (occupancy_of old p) (occupancy_of new p)
     × ((q : ℕ) → q ≢ p → seen_by new q ≡ seen_by old q)
     × FindsAhead (NoneTakes old) (turn_of (seat_of old p)) (seat_of new p).machine (outlook_of old p) (outlook_of new p)
     × TellsRoom (HasFreePlace p old) (turn_of (seat_of old p)) (seat_of new p).machine (room_of old p) (room_of new p)
 SeesPlaces old EndGo new = (length new.places ≡ length old.places) × (new.seen ≡ old.seen)
-SeesPlaces old _ new = (new.places ≡ old.places) × (new.seen ≡ old.seen) × (new.ahead ≡ old.ahead) × (new.room ≡ old.room)
+SeesPlaces old _ new =
+    (new.places ≡ old.places) × (new.seen ≡ old.seen) × (new.ahead ≡ old.ahead) × (new.room ≡ old.room)
 
 -- the world takes this step, with this reply: the places aside it moves so, and it sees the places so
 abbrev pub TakesStep : State → Step → Reply → State → Type 0

@@ -26,7 +26,8 @@ pub fn every_run_numbers_tickets()
 
 /// When an end is over, every accepted job was called.
 pub fn every_end_calls_all()
-    ensures { (s new : State) (log : List Entry) → IsFresh s → Runs s log new → new.ending ≡ Over → (t : ℕ) → times_called t log ≡ times_deferred t log }
+    ensures { (s new : State) (log : List Entry) → IsFresh s → Runs s log new → new.ending ≡ Over → (t : ℕ)
+        → times_called t log ≡ times_deferred t log }
 {}
 
 /// An end that answers how many jobs it called has called so many, and every accepted job was called.
@@ -50,5 +51,6 @@ pub fn every_full_reply_found_each_place()
 /// a flush has collected, and a release leaves its position taken and unpinned. No other call is refused so. A place
 /// that is refused because no cell is free has changed nothing, and no other call is refused so.
 pub fn every_refusal_leaves_what_it_must()
-    ensures { (s new : State) (log : List Entry) → IsFresh s → (run : Runs s log new) → RefusedAlong (seat_of s) all_quiet none_collected s new log run }
+    ensures { (s new : State) (log : List Entry) → IsFresh s → (run : Runs s log new)
+        → RefusedAlong (seat_of s) all_quiet none_collected s new log run }
 {}

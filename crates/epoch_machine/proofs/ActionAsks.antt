@@ -3,10 +3,14 @@ use Rattle.std.proofs.Common.{◌≡◌, ℕ, ◌+◌, ◌%◌, ◌==◌, true, 
 use Rattle.std.proofs.lemmas.Bool.Decides.{nat_tests}
 use Rattle.epoch_machine.specs.declared.machine.Action.{Action}
 use Rattle.epoch_machine.specs.declared.machine.Action.TheVariants.{Pin, Unpin, Repin, Defer, Flush, Release}
-use Rattle.epoch_machine.specs.declared.machine.Stage.TheVariants.{LoadPin, StorePin, ReloadPin, LoadScan, LoadSeal, Put, Keep, LoadRepin, StoreRepin, ReloadRepin, StoreUnpinned, StoreFree, End}
-use Rattle.epoch_machine.specs.declared.machine.Ask.TheVariants.{StorePinned, StoreRepinned, StoreUnpinned as AskUnpinned, StoreFree as AskFree}
+use Rattle.epoch_machine.specs.declared.machine.Stage.TheVariants.{LoadPin, StorePin, ReloadPin, LoadScan, LoadSeal}
+use Rattle.epoch_machine.specs.declared.machine.Stage.TheVariants.{Put, Keep, LoadRepin, StoreRepin, ReloadRepin}
+use Rattle.epoch_machine.specs.declared.machine.Stage.TheVariants.{StoreUnpinned, StoreFree, End}
+use Rattle.epoch_machine.specs.declared.machine.Ask.TheVariants.{StorePinned, StoreRepinned}
+use Rattle.epoch_machine.specs.declared.machine.Ask.TheVariants.{StoreUnpinned as AskUnpinned, StoreFree as AskFree}
 use Rattle.epoch_machine.specs.Machine.{Machine, IsSized, with_stage, begun, after_collect, after_put, is_empty, fresh}
-use Rattle.epoch_machine.specs.Asks.{Log, Asked, asks_more, Part, AsksNoMore, Choose, AsksStore, AsksKeep, AsksLoad, AsksPut, AsksPin, AsksLeave, AsksOf}
+use Rattle.epoch_machine.specs.Asks.{Log, Asked, asks_more, Part, AsksNoMore, Choose, AsksStore, AsksKeep, AsksLoad}
+use Rattle.epoch_machine.specs.Asks.{AsksPut, AsksPin, AsksLeave, AsksOf}
 use Rattle.epoch_machine.proofs.Exchanges.{LogsAre, ends, loads, stores, keeps, put_steps}
 use Rattle.epoch_machine.proofs.CollectionAsks.{choice, known, collected, CollectedFollow, collects}
 
@@ -61,7 +65,8 @@ repin : {J : Type 0} (m : Machine J) → LogsAre (begun Repin m) (AsksOf Repin m
 repin m =
     choice (begun Repin m) (m.guards == 1) LoadRepin End _ _
     (loads (with_stage (begun Repin m) LoadRepin) _ refl (λ e.
-    choice (begun Repin m) (m.published == e) End (StoreRepin e) _ _ (stops (begun Repin m)) (repins (begun Repin m) e)))
+    choice (begun Repin m) (m.published == e) End (StoreRepin e) _ _ (stops (begun Repin m))
+    (repins (begun Repin m) e)))
     (stops (begun Repin m))
 
 -- DEFER AND FLUSH
@@ -110,11 +115,13 @@ leaves m =
 
 -- what is left of a release after its pin
 behind_pin : {J : Type 0} (m : Machine J) (held : List J)
-    → LogsAre (releasing m held) (Choose (is_empty held) AsksLeave (AsksPut AsksLeave (AsksStore AskUnpinned AsksNoMore)))
+    → LogsAre (releasing m held)
+    (Choose (is_empty held) AsksLeave (AsksPut AsksLeave (AsksStore AskUnpinned AsksNoMore)))
 behind_pin m [] = leaves m
 behind_pin m (job ∷ jobs) =
     puts (releasing m (job ∷ jobs)) _ _ (leaves m)
-    (stores (put_refused (releasing m (job ∷ jobs))) AskUnpinned _ tt refl (stops (put_refused (releasing m (job ∷ jobs)))))
+    (stores (put_refused (releasing m (job ∷ jobs))) AskUnpinned _ tt refl
+    (stops (put_refused (releasing m (job ∷ jobs)))))
 
 release : {J : Type 0} (m : Machine J) → IsSized m.sizes → LogsAre (begun Release m) (AsksOf Release m)
 release m sized =

@@ -1,5 +1,7 @@
--- What a machine asks from the beginning of a collection on follows the table, if it does so from after the collection on.
-use Rattle.std.proofs.Common.{◌≡◌, ◌≢◌, ℕ, zero, suc, ◌+◌, ◌-◌, ◌*◌, ◌/◌, ◌%◌, ◌^◌, ◌<◌, ◌==◌, Bool, true, false, List, [], ◌∷◌, ◌⊎◌, inl, inr, refl, ap, sym, sym, subst, if◌then◌else◌, arith}
+-- What a machine asks from the beginning of a collection on follows the table, if it does so from after the collection
+-- on.
+use Rattle.std.proofs.Common.{◌≡◌, ◌≢◌, ℕ, zero, suc, ◌+◌, ◌-◌, ◌*◌, ◌/◌, ◌%◌, ◌^◌, ◌<◌, ◌==◌, Bool, true, false, List}
+use Rattle.std.proofs.Common.{[], ◌∷◌, ◌⊎◌, inl, inr, refl, ap, sym, sym, subst, if◌then◌else◌, arith}
 use Rattle.std.proofs.lemmas.Bool.Decides.{nat_tests}
 use Rattle.epoch_bags.specs.declared.queue.TakeStep.TheVariants.{Again as TakeAgain, Empty, Got}
 use Rattle.epoch_machine.specs.declared.machine.Stage.{Stage}
@@ -7,7 +9,9 @@ use Rattle.epoch_machine.specs.declared.machine.Stage.TheVariants.{LoadScan, Sca
 use Rattle.epoch_machine.specs.declared.machine.Ask.TheVariants.{LoadWord, StoreEpoch, TakeBag, CallJob}
 use Rattle.epoch_machine.specs.declared.machine.Answer.TheVariants.{Word}
 use Rattle.epoch_machine.specs.Machine.{Machine, IsSized, with_stage, after_collect, after_job, scanned, holds_up}
-use Rattle.epoch_machine.specs.Asks.{Log, Reply, Heard, TakeStepped, JobGiven, Exchange, IsReply, told, Asked, asks_more, Part, Choose, AsksWord, IsPinnedElsewhere, AsksAdvance, AsksScan, AsksTakeSteps, AsksCalls, AsksBags, AsksCollection}
+use Rattle.epoch_machine.specs.Asks.{Log, Reply, Heard, TakeStepped, JobGiven, Exchange, IsReply, told, Asked}
+use Rattle.epoch_machine.specs.Asks.{asks_more, Part, Choose, AsksWord, IsPinnedElsewhere, AsksAdvance, AsksScan}
+use Rattle.epoch_machine.specs.Asks.{AsksTakeSteps, AsksCalls, AsksBags, AsksCollection}
 use Rattle.epoch_machine.proofs.Exchanges.{LogsAre, more_asked, begins, loads, stores}
 
 -- CHOICES
@@ -25,7 +29,8 @@ pub known : {J : Type 0} (m : Machine J) (test answer : Bool) (s t : Stage) (par
     → test ≡ answer
     → LogsAre (with_stage m (if answer then s else t)) part
     → LogsAre (with_stage m (if test then s else t)) part
-known m test answer s t part is logs = subst (λ (b : Bool). LogsAre (with_stage m (if b then s else t)) part) (sym is) logs
+known m test answer s t part is logs =
+    subst (λ (b : Bool). LogsAre (with_stage m (if b then s else t)) part) (sym is) logs
 
 pub same_number : (a b : ℕ) → a ≡ b → (a == b) ≡ true
 same_number a b is = grind (arith, nat_tests)
@@ -49,15 +54,18 @@ not_held_up e w is = λ (a, at, other).
     let held : holds_up e w ≡ true = grind (arith, nat_tests) in
     cc
 
-word_decides : {J : Type 0} (m n : Machine J) (e w : ℕ) (test : Bool) (s : Stage) (elsewhere behind : Part J) (more : Bool) (log : Log J)
+word_decides : {J : Type 0} (m n : Machine J) (e w : ℕ) (test : Bool) (s : Stage) (elsewhere behind : Part J)
+    (more : Bool) (log : Log J)
     → LogsAre (with_stage m (Take e 0)) elsewhere
     → LogsAre (with_stage m s) behind
     → asks_more n ≡ more
     → holds_up e w ≡ test
     → Asked (with_stage m (if test then Take e 0 else s)) log n
     → (IsPinnedElsewhere e w × elsewhere more log) ⊎ ((¬ IsPinnedElsewhere e w) × behind more log)
-word_decides m n e w true s elsewhere behind more log stops goes at is run = inl (held_up e w is, stops more log n run at)
-word_decides m n e w false s elsewhere behind more log stops goes at is run = inr (not_held_up e w is, goes more log n run at)
+word_decides m n e w true s elsewhere behind more log stops goes at is run =
+    inl (held_up e w is, stops more log n run at)
+word_decides m n e w false s elsewhere behind more log stops goes at is run =
+    inr (not_held_up e w is, goes more log n run at)
 
 -- the stage after a word that doesn't end the scan
 abbrev behind_word : ℕ → ℕ → ℕ → Stage
@@ -69,15 +77,20 @@ word_told : {J : Type 0} (m n : Machine J) (e k : ℕ) (elsewhere behind : Part 
     → asks_more n ≡ more
     → (reply : Reply J) → IsReply (LoadWord k) m.hand reply → Asked (told (with_stage m (Scan e k)) reply) log n
     → AsksWord e k elsewhere behind more (record { ask = LoadWord k; reply = reply } ∷ log)
-word_told m n e k elsewhere behind more log stops goes at (Heard (Word w)) fits run =
-    (w, refl, word_decides m n e w (holds_up e w) (behind_word m.sizes.positions e k) elsewhere behind more log stops goes at refl run)
+word_told m n e k elsewhere behind more log stops goes at (Heard (Word w)) fits run = (
+  w,
+  refl,
+  word_decides m n e w (holds_up e w)
+      (behind_word m.sizes.positions e k) elsewhere behind more log stops goes at refl run,
+)
 word_told m n e k elsewhere behind more log stops goes at _ fits run = absurd fits
 
 looks : {J : Type 0} (m : Machine J) (e k : ℕ) (elsewhere behind : Part J)
     → LogsAre (with_stage m (Take e 0)) elsewhere
     → LogsAre (with_stage m (behind_word m.sizes.positions e k)) behind
     → LogsAre (with_stage m (Scan e k)) (AsksWord e k elsewhere behind)
-looks m e k elsewhere behind stops goes more [] n is at = more_asked (with_stage m (Scan e k)) n (LoadWord k) more refl is at
+looks m e k elsewhere behind stops goes more [] n is at =
+    more_asked (with_stage m (Scan e k)) n (LoadWord k) more refl is at
 looks m e k elsewhere behind stops goes more (x ∷ log) n run at =
     begins (with_stage m (Scan e k)) n (LoadWord k) (λ y. AsksWord e k elsewhere behind more (y ∷ log)) x log refl
     (word_told m n e k elsewhere behind more log stops goes at) run
@@ -100,7 +113,8 @@ scans_on : {J : Type 0} (m : Machine J) (e : ℕ) (behind : ℕ → Part J)
     → LogsAre (with_stage m (Scan e k)) (AsksScan e k (suc left) behind)
 scans_on m e behind next zero k last =
     looks m e k _ _ (next e)
-    (known m (k + 1 == m.sizes.positions) true (scanned e) (Scan e (k + 1)) _ (same_number _ _ (omega arith)) (advances m e behind next))
+    (known m (k + 1 == m.sizes.positions) true (scanned e) (Scan e (k + 1)) _ (same_number _ _ (omega arith))
+    (advances m e behind next))
 scans_on m e behind next (suc left) k rest =
     looks m e k _ _ (next e)
     (known m (k + 1 == m.sizes.positions) false (scanned e) (Scan e (k + 1)) _ (other_number _ _ (omega arith))
@@ -123,30 +137,38 @@ with_hand m s jobs = record m { stage = s; hand = jobs }
 abbrev pub collected : {J : Type 0} → Machine J → List J → Machine J
 collected m hand = record m { stage = after_collect m.action m.held; hand = hand }
 
-take_told : {J : Type 0} (m n : Machine J) (x k : ℕ) (hand : List J) (empty : Part J) (got : List J → Part J) (more : Bool) (log : Log J)
+take_told : {J : Type 0} (m n : Machine J) (x k : ℕ) (hand : List J) (empty : Part J) (got : List J → Part J)
+    (more : Bool) (log : Log J)
     → (Asked (with_hand m (Take x k) hand) log n → AsksTakeSteps x empty got more log)
     → LogsAre (collected m hand) empty
     → ((jobs : List J) → LogsAre (with_hand m (after_job m x k jobs) jobs) (got jobs))
     → asks_more n ≡ more
     → (reply : Reply J) → IsReply (TakeBag x) hand reply → Asked (told (with_hand m (Take x k) hand) reply) log n
     → AsksTakeSteps x empty got more (record { ask = TakeBag x; reply = reply } ∷ log)
-take_told m n x k hand empty got more log again none bag at (TakeStepped TakeAgain jobs) fits run = (jobs, inl (refl, again run))
-take_told m n x k hand empty got more log again none bag at (TakeStepped Empty jobs) fits run = (jobs, inr (inl (refl, none more log n run at)))
-take_told m n x k hand empty got more log again none bag at (TakeStepped Got jobs) fits run = (jobs, inr (inr (refl, bag jobs more log n run at)))
+take_told m n x k hand empty got more log again none bag at (TakeStepped TakeAgain jobs) fits run =
+    (jobs, inl (refl, again run))
+take_told m n x k hand empty got more log again none bag at (TakeStepped Empty jobs) fits run =
+    (jobs, inr (inl (refl, none more log n run at)))
+take_told m n x k hand empty got more log again none bag at (TakeStepped Got jobs) fits run =
+    (jobs, inr (inr (refl, bag jobs more log n run at)))
 take_told m n x k hand empty got more log again none bag at _ fits run = absurd fits
 
 take_steps : {J : Type 0} (m : Machine J) (x k : ℕ) (hand : List J) (empty : Part J) (got : List J → Part J)
     → LogsAre (collected m hand) empty
     → ((jobs : List J) → LogsAre (with_hand m (after_job m x k jobs) jobs) (got jobs))
     → LogsAre (with_hand m (Take x k) hand) (AsksTakeSteps x empty got)
-take_steps m x k hand empty got none bag more [] n is at = more_asked (with_hand m (Take x k) hand) n (TakeBag x) more refl is at
+take_steps m x k hand empty got none bag more [] n is at =
+    more_asked (with_hand m (Take x k) hand) n (TakeBag x) more refl is at
 take_steps m x k hand empty got none bag more (y ∷ log) n run at =
     begins (with_hand m (Take x k) hand) n (TakeBag x) (λ z. AsksTakeSteps x empty got more (z ∷ log)) y log refl
-    (take_told m n x k hand empty got more log (λ again. take_steps m x k hand empty got none bag more log n again at) none bag at) run
+    (take_told m n x k hand empty got more log
+    (λ again. take_steps m x k hand empty got none bag more log n again at) none bag at) run
 
-call_told : {J : Type 0} (m n : Machine J) (x k : ℕ) (job : J) (jobs : List J) (behind : Part J) (more : Bool) (log : Log J)
+call_told : {J : Type 0} (m n : Machine J) (x k : ℕ) (job : J) (jobs : List J) (behind : Part J)
+    (more : Bool) (log : Log J)
     → (Asked (with_hand m (after_job m x k jobs) jobs) log n → AsksCalls jobs behind more log)
-    → (reply : Reply J) → IsReply CallJob (job ∷ jobs) reply → Asked (told (with_hand m (Calling x k) (job ∷ jobs)) reply) log n
+    → (reply : Reply J) → IsReply CallJob (job ∷ jobs) reply
+    → Asked (told (with_hand m (Calling x k) (job ∷ jobs)) reply) log n
     → AsksCalls (job ∷ jobs) behind more (record { ask = CallJob; reply = reply } ∷ log)
 call_told {J} m n x k job jobs behind more log next (JobGiven given) fits run =
     let same : given ≡ job = cc fits in
@@ -161,9 +183,11 @@ calls : {J : Type 0} (m : Machine J) (x k : ℕ) (behind : Part J)
     → LogsAre (with_hand m (behind_bag m x k) []) behind
     → (jobs : List J) → LogsAre (with_hand m (after_job m x k jobs) jobs) (AsksCalls jobs behind)
 calls m x k behind next [] more log n run at = next more log n run at
-calls m x k behind next (job ∷ jobs) more [] n is at = more_asked (with_hand m (Calling x k) (job ∷ jobs)) n CallJob more refl is at
+calls m x k behind next (job ∷ jobs) more [] n is at =
+    more_asked (with_hand m (Calling x k) (job ∷ jobs)) n CallJob more refl is at
 calls m x k behind next (job ∷ jobs) more (y ∷ log) n run at =
-    begins (with_hand m (Calling x k) (job ∷ jobs)) n CallJob (λ z. AsksCalls (job ∷ jobs) behind more (z ∷ log)) y log refl
+    begins (with_hand m (Calling x k) (job ∷ jobs)) n CallJob
+    (λ z. AsksCalls (job ∷ jobs) behind more (z ∷ log)) y log refl
     (call_told m n x k job jobs behind more log (λ left. calls m x k behind next jobs more log n left at)) run
 
 -- whatever is in hand when the collection is over
@@ -177,11 +201,13 @@ takes_on : {J : Type 0} (m : Machine J) (x : ℕ) (behind : Part J)
     → (hand : List J) → LogsAre (with_hand m (Take x k) hand) (AsksBags x (suc left) behind)
 takes_on m x behind next zero k last hand =
     take_steps m x k hand _ _ (next hand) (calls m x k _
-    (known (with_hand m (Take x k) []) (k + 1 == m.sizes.collect_bags) true (after_collect m.action m.held) (Take x (k + 1)) _
+    (known (with_hand m (Take x k) []) (k + 1 == m.sizes.collect_bags) true
+    (after_collect m.action m.held) (Take x (k + 1)) _
     (same_number _ _ (omega arith)) (next [])))
 takes_on m x behind next (suc left) k rest hand =
     take_steps m x k hand _ _ (next hand) (calls m x k _
-    (known (with_hand m (Take x k) []) (k + 1 == m.sizes.collect_bags) false (after_collect m.action m.held) (Take x (k + 1)) _
+    (known (with_hand m (Take x k) []) (k + 1 == m.sizes.collect_bags) false
+    (after_collect m.action m.held) (Take x (k + 1)) _
     (other_number _ _ (omega arith)) (takes_on m x behind next left (k + 1) (omega arith) [])))
 
 takes : {J : Type 0} (m : Machine J) (x : ℕ) (behind : Part J)
@@ -199,4 +225,5 @@ pub collects : {J : Type 0} (m : Machine J) (behind : Part J)
     → LogsAre (with_stage m LoadScan) (AsksCollection m.sizes behind)
 collects m behind sized next =
     loads (with_stage m LoadScan) _ refl (λ e.
-    scans m e _ (λ x. takes m x behind next m.sizes.collect_bags sized.collect_bags.0 refl) m.sizes.positions sized.positions refl)
+    scans m e _
+    (λ x. takes m x behind next m.sizes.collect_bags sized.collect_bags.0 refl) m.sizes.positions sized.positions refl)

@@ -1,11 +1,14 @@
 -- A log of a machine that asks for one thing begins with that ask, and goes on as the machine does after the reply.
-use Rattle.std.proofs.Common.{◌≡◌, ℕ, Bool, true, List, [], ◌∷◌, Some, None, is_some, inl, inr, refl, ap, sym, subst, ◌∙◌}
+use Rattle.std.proofs.Common.{◌≡◌, ℕ, Bool, true, List, [], ◌∷◌, Some, None, is_some, inl, inr, refl, ap, sym, subst}
+use Rattle.std.proofs.Common.{◌∙◌}
 use Rattle.epoch_bags.specs.declared.queue.PutStep.TheVariants.{Again, Done, Full}
 use Rattle.epoch_machine.specs.declared.machine.Ask.{Ask}
-use Rattle.epoch_machine.specs.declared.machine.Ask.TheVariants.{LoadEpoch, StorePinned, StoreRepinned, StoreUnpinned, StoreFree, StoreEpoch, PutBag, KeepJob}
+use Rattle.epoch_machine.specs.declared.machine.Ask.TheVariants.{LoadEpoch, StorePinned, StoreRepinned, StoreUnpinned}
+use Rattle.epoch_machine.specs.declared.machine.Ask.TheVariants.{StoreFree, StoreEpoch, PutBag, KeepJob}
 use Rattle.epoch_machine.specs.declared.machine.Answer.TheVariants.{Epoch, Stored, Job}
 use Rattle.epoch_machine.specs.Machine.{Machine, asks, heard, put_heard}
-use Rattle.epoch_machine.specs.Asks.{Log, Reply, Heard, PutStepped, Exchange, IsReply, told, Asked, asks_more, Part, AsksNoMore, AsksLoad, AsksStore, AsksKeep, AsksPutSteps}
+use Rattle.epoch_machine.specs.Asks.{Log, Reply, Heard, PutStepped, Exchange, IsReply, told, Asked, asks_more, Part}
+use Rattle.epoch_machine.specs.Asks.{AsksNoMore, AsksLoad, AsksStore, AsksKeep, AsksPutSteps}
 
 -- THE FIRST EXCHANGE
 
@@ -14,13 +17,15 @@ abbrev pub LogsAre : {J : Type 0} → Machine J → Part J → Type 0
 LogsAre {J} m part = (more : Bool) (log : Log J) (n : Machine J) → Asked m log n → asks_more n ≡ more → part more log
 
 -- a machine whose log is over still asks what it asked
-pub more_asked : {J : Type 0} (m n : Machine J) (ask : Ask) (more : Bool) → asks m ≡ Some ask → n ≡ m → asks_more n ≡ more → more ≡ true
+pub more_asked : {J : Type 0} (m n : Machine J) (ask : Ask) (more : Bool)
+    → asks m ≡ Some ask → n ≡ m → asks_more n ≡ more → more ≡ true
 more_asked m n ask more asked is at = sym at ∙ ap asks_more is ∙ ap is_some asked
 
 -- what holds of this ask with each of its replies holds of the first exchange
 pub begins : {J : Type 0} (m n : Machine J) (ask : Ask) (Holds : Exchange J → Type 0) (x : Exchange J) (log : Log J)
     → asks m ≡ Some ask
-    → ((reply : Reply J) → IsReply ask m.hand reply → Asked (told m reply) log n → Holds (record { ask = ask; reply = reply }))
+    → ((reply : Reply J) → IsReply ask m.hand reply → Asked (told m reply) log n
+    → Holds (record { ask = ask; reply = reply }))
     → Asked m (x ∷ log) n → Holds x
 begins {J} m n ask Holds x log asked next run =
     let same : ask ≡ x.ask = cc (asked, run.0) in
@@ -60,7 +65,8 @@ IsStore StoreFree = Unit {0}
 IsStore (StoreEpoch e) = Unit {0}
 IsStore _ = ⊥
 
-store_told : {J : Type 0} (store : Ask) (hand : List J) (reply : Reply J) → IsStore store → IsReply store hand reply → reply ≡ Heard Stored
+store_told : {J : Type 0} (store : Ask) (hand : List J) (reply : Reply J)
+    → IsStore store → IsReply store hand reply → reply ≡ Heard Stored
 store_told (StorePinned e) hand (Heard Stored) is fits = refl
 store_told (StoreRepinned e) hand (Heard Stored) is fits = refl
 store_told StoreUnpinned hand (Heard Stored) is fits = refl
@@ -121,8 +127,10 @@ put_told : {J : Type 0} (m n : Machine J) (seal : ℕ) (done full : Part J) (mor
     → (reply : Reply J) → IsReply (PutBag seal) m.hand reply → Asked (told m reply) log n
     → AsksPutSteps seal done full more (record { ask = PutBag seal; reply = reply } ∷ log)
 put_told m n seal done full more log again made refused at (PutStepped Again) fits run = inl (refl, again run)
-put_told m n seal done full more log again made refused at (PutStepped Done) fits run = inr (inl (refl, made more log n run at))
-put_told m n seal done full more log again made refused at (PutStepped Full) fits run = inr (inr (refl, refused more log n run at))
+put_told m n seal done full more log again made refused at (PutStepped Done) fits run =
+    inr (inl (refl, made more log n run at))
+put_told m n seal done full more log again made refused at (PutStepped Full) fits run =
+    inr (inr (refl, refused more log n run at))
 put_told m n seal done full more log again made refused at _ fits run = absurd fits
 
 pub put_steps : {J : Type 0} (m : Machine J) (seal : ℕ) (done full : Part J)
@@ -133,4 +141,5 @@ pub put_steps : {J : Type 0} (m : Machine J) (seal : ℕ) (done full : Part J)
 put_steps m seal done full asked made refused more [] n is at = more_asked m n (PutBag seal) more asked is at
 put_steps m seal done full asked made refused more (x ∷ log) n run at =
     begins m n (PutBag seal) (λ y. AsksPutSteps seal done full more (y ∷ log)) x log asked
-    (put_told m n seal done full more log (λ again. put_steps m seal done full asked made refused more log n again at) made refused at) run
+    (put_told m n seal done full more log
+    (λ again. put_steps m seal done full asked made refused more log n again at) made refused at) run

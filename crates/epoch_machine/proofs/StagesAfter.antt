@@ -2,7 +2,8 @@
 use Rattle.std.proofs.Common.{◌≡◌, ℕ, ◌+◌, ◌-◌, ◌^◌, ◌==◌, Bool, true, false, List, refl, if◌then◌else◌}
 use Rattle.epoch_machine.specs.declared.machine.Stage.{Stage}
 use Rattle.epoch_machine.specs.declared.machine.Stage.TheVariants.{LoadScan, Scan, Advance, Take, Calling}
-use Rattle.epoch_machine.specs.Machine.{Machine, is_empty, after_collect, after_pin, after_job, holds_up, scanned, past_word}
+use Rattle.epoch_machine.specs.Machine.{Machine, is_empty, after_collect, after_pin, after_job, holds_up, scanned}
+use Rattle.epoch_machine.specs.Machine.{past_word}
 
 -- where each way may use what the test found
 pub by_test : (At : Stage → Type 0) (b : Bool) (s t : Stage) → (b ≡ true → At s) → (b ≡ false → At t)
@@ -28,4 +29,5 @@ module _ (At : Stage → Type 0) where
   pub after_job_at : {J : Type 0} (m : Machine J) (x k : ℕ) (jobs : List J)
       → At (Calling x k) → At (Take x (k + 1)) → At (after_collect m.action m.held) → At (after_job m x k jobs)
   after_job_at m x k jobs calls takes collected = either_way (is_empty jobs) _ (Calling x k)
-      (either_way (k + 1 == m.sizes.collect_bags) (after_collect m.action m.held) (Take x (k + 1)) collected takes) calls
+      (either_way (k + 1 == m.sizes.collect_bags) (after_collect m.action m.held)
+      (Take x (k + 1)) collected takes) calls

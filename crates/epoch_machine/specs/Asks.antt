@@ -1,5 +1,6 @@
 -- The asks of each action in their order: the table that every log of a machine follows.
-use Rattle.std.specs.Prelude.{◌≡◌, ◌≢◌, ℕ, zero, suc, ◌+◌, ◌-◌, ◌*◌, ◌%◌, ◌^◌, ◌==◌, Bool, true, false, List, [], ◌∷◌, length, Some, is_some, ◌⊎◌}
+use Rattle.std.specs.Prelude.{◌≡◌, ◌≢◌, ℕ, zero, suc, ◌+◌, ◌-◌, ◌*◌, ◌%◌, ◌^◌, ◌==◌, Bool, true, false, List, [], ◌∷◌}
+use Rattle.std.specs.Prelude.{length, Some, is_some, ◌⊎◌}
 use Rattle.epoch_bags.specs.declared.queue.PutStep.{PutStep}
 use Rattle.epoch_bags.specs.declared.queue.PutStep.TheVariants.{Again, Done, Full}
 use Rattle.epoch_bags.specs.declared.queue.TakeStep.{TakeStep}
@@ -8,7 +9,9 @@ use Rattle.epoch_machine.specs.declared.machine.Action.{Action}
 use Rattle.epoch_machine.specs.declared.machine.Action.TheVariants.{Pin, Unpin, Repin, Defer, Flush, Release}
 use Rattle.epoch_machine.specs.declared.machine.Sizes.{Sizes}
 use Rattle.epoch_machine.specs.declared.machine.Ask.{Ask}
-use Rattle.epoch_machine.specs.declared.machine.Ask.TheVariants.{LoadEpoch, LoadWord, StorePinned, StoreRepinned, StoreUnpinned, StoreFree, StoreEpoch, PutBag, TakeBag, KeepJob, CallJob}
+use Rattle.epoch_machine.specs.declared.machine.Ask.TheVariants.{LoadEpoch, LoadWord, StorePinned, StoreRepinned}
+use Rattle.epoch_machine.specs.declared.machine.Ask.TheVariants.{StoreUnpinned, StoreFree, StoreEpoch, PutBag, TakeBag}
+use Rattle.epoch_machine.specs.declared.machine.Ask.TheVariants.{KeepJob, CallJob}
 use Rattle.epoch_machine.specs.declared.machine.Answer.{Answer}
 use Rattle.epoch_machine.specs.declared.machine.Answer.TheVariants.{Epoch, Word, Stored, Job}
 use Rattle.epoch_machine.specs.Machine.{Machine, asks, heard, put_heard, took_heard, gives, is_empty, rest}
@@ -89,7 +92,8 @@ AsksStore store behind more (x ∷ log) = (x ≡ record { ask = store; reply = H
 -- a job is kept
 abbrev pub AsksKeep : {J : Type 0} → Part J → Part J
 AsksKeep behind more [] = more ≡ true
-AsksKeep {J} behind more (x ∷ log) = (job : J) × (x ≡ record { ask = KeepJob; reply = Heard (Job job) }) × behind more log
+AsksKeep {J} behind more (x ∷ log) =
+    (job : J) × (x ≡ record { ask = KeepJob; reply = Heard (Job job) }) × behind more log
 
 -- the word is that of a participant pinned in an epoch other than e
 abbrev pub IsPinnedElsewhere : (e w : ℕ) → Type 0
@@ -124,7 +128,8 @@ AsksTakeSteps {J} x empty got more (y ∷ log) = (jobs : List J)
 abbrev pub AsksCalls : {J : Type 0} → List J → Part J → Part J
 AsksCalls [] behind more log = behind more log
 AsksCalls (job ∷ jobs) behind more [] = more ≡ true
-AsksCalls (job ∷ jobs) behind more (x ∷ log) = (x ≡ record { ask = CallJob; reply = JobGiven job }) × AsksCalls jobs behind more log
+AsksCalls (job ∷ jobs) behind more (x ∷ log) =
+    (x ≡ record { ask = CallJob; reply = JobGiven job }) × AsksCalls jobs behind more log
 
 -- So many bags at most are taken, and each one's jobs are called before the next is looked for.
 abbrev pub AsksBags : {J : Type 0} (x bags : ℕ) → Part J → Part J
@@ -165,8 +170,12 @@ AsksOf Pin m = Choose (m.guards == 0) (AsksPin m AsksNoMore) AsksNoMore
 AsksOf Unpin m = Choose (m.guards == 1) (AsksStore StoreUnpinned AsksNoMore) AsksNoMore
 AsksOf Repin m =
     Choose (m.guards == 1)
-    (AsksLoad (λ e. Choose (m.published == e) AsksNoMore (AsksStore (StoreRepinned e) (AsksLoad (λ again. AsksNoMore)))))
+    (AsksLoad (λ e. Choose (m.published == e) AsksNoMore
+    (AsksStore (StoreRepinned e) (AsksLoad (λ again. AsksNoMore)))))
     AsksNoMore
-AsksOf Defer m = Choose (length m.held == m.sizes.bag_jobs) (AsksPut (AsksKeep AsksNoMore) AsksNoMore) (AsksKeep AsksNoMore)
-AsksOf Flush m = Choose (is_empty m.held) (AsksCollection m.sizes AsksNoMore) (AsksPut (AsksCollection m.sizes AsksNoMore) (AsksCollection m.sizes AsksNoMore))
-AsksOf Release m = AsksPin m (Choose (is_empty m.held) AsksLeave (AsksPut AsksLeave (AsksStore StoreUnpinned AsksNoMore)))
+AsksOf Defer m =
+    Choose (length m.held == m.sizes.bag_jobs) (AsksPut (AsksKeep AsksNoMore) AsksNoMore) (AsksKeep AsksNoMore)
+AsksOf Flush m = Choose (is_empty m.held) (AsksCollection m.sizes AsksNoMore)
+    (AsksPut (AsksCollection m.sizes AsksNoMore) (AsksCollection m.sizes AsksNoMore))
+AsksOf Release m =
+    AsksPin m (Choose (is_empty m.held) AsksLeave (AsksPut AsksLeave (AsksStore StoreUnpinned AsksNoMore)))

@@ -1,5 +1,6 @@
 -- One participant's machine: what it asks next, and what it is after the answer.
-use Rattle.std.specs.Prelude.{◌≡◌, ℕ, ◌+◌, ◌-◌, ◌*◌, ◌%◌, ◌^◌, ◌<◌, ◌≤◌, Bool, true, false, not, ◌&&◌, List, [], ◌∷◌, ◌++◌, length, Option, Some, None, ◌==◌, if◌then◌else◌}
+use Rattle.std.specs.Prelude.{◌≡◌, ℕ, ◌+◌, ◌-◌, ◌*◌, ◌%◌, ◌^◌, ◌<◌, ◌≤◌, Bool, true, false, not, ◌&&◌, List, [], ◌∷◌}
+use Rattle.std.specs.Prelude.{◌++◌, length, Option, Some, None, ◌==◌, if◌then◌else◌}
 use Rattle.epoch_bags.specs.Bags.{Sealed, IsExpired}
 pub use Rattle.epoch_bags.specs.Bags.{is_empty}
 use Rattle.epoch_bags.specs.Stores.{IsInserted}
@@ -11,9 +12,14 @@ use Rattle.epoch_machine.specs.declared.machine.Action.{Action}
 use Rattle.epoch_machine.specs.declared.machine.Action.TheVariants.{Pin, Unpin, Repin, Defer, Flush, Release}
 use Rattle.epoch_machine.specs.declared.machine.Sizes.{Sizes}
 use Rattle.epoch_machine.specs.declared.machine.Stage.{Stage}
-use Rattle.epoch_machine.specs.declared.machine.Stage.TheVariants.{Idle, LoadPin, StorePin, ReloadPin, LoadScan, Scan, Advance, Take, Calling, LoadSeal, Put, Keep, LoadRepin, StoreRepin, ReloadRepin, StoreUnpinned, StoreFree, End}
+use Rattle.epoch_machine.specs.declared.machine.Stage.TheVariants.{Idle, LoadPin, StorePin, ReloadPin, LoadScan, Scan}
+use Rattle.epoch_machine.specs.declared.machine.Stage.TheVariants.{Advance, Take, Calling, LoadSeal, Put, Keep}
+use Rattle.epoch_machine.specs.declared.machine.Stage.TheVariants.{LoadRepin, StoreRepin, ReloadRepin, StoreUnpinned}
+use Rattle.epoch_machine.specs.declared.machine.Stage.TheVariants.{StoreFree, End}
 use Rattle.epoch_machine.specs.declared.machine.Ask.{Ask}
-use Rattle.epoch_machine.specs.declared.machine.Ask.TheVariants.{LoadEpoch, LoadWord, StorePinned, StoreRepinned, StoreUnpinned as AskUnpinned, StoreFree as AskFree, StoreEpoch, PutBag, TakeBag, KeepJob, CallJob}
+use Rattle.epoch_machine.specs.declared.machine.Ask.TheVariants.{LoadEpoch, LoadWord, StorePinned, StoreRepinned}
+use Rattle.epoch_machine.specs.declared.machine.Ask.TheVariants.{StoreUnpinned as AskUnpinned, StoreFree as AskFree}
+use Rattle.epoch_machine.specs.declared.machine.Ask.TheVariants.{StoreEpoch, PutBag, TakeBag, KeepJob, CallJob}
 use Rattle.epoch_machine.specs.declared.machine.Answer.{Answer}
 use Rattle.epoch_machine.specs.declared.machine.Answer.TheVariants.{Epoch, Word, Stored, Job}
 
@@ -63,7 +69,8 @@ after_unpin _ _ = End
 
 -- where a bag is called to its end, the next one is looked for, so many at most
 abbrev pub after_job : {J : Type 0} → Machine J → ℕ → ℕ → List J → Stage
-after_job m x k jobs = if is_empty jobs then (if k + 1 == m.sizes.collect_bags then after_collect m.action m.held else Take x (k + 1)) else Calling x k
+after_job m x k jobs = if is_empty jobs
+    then (if k + 1 == m.sizes.collect_bags then after_collect m.action m.held else Take x (k + 1)) else Calling x k
 
 -- WHAT IT ASKS
 
@@ -101,11 +108,22 @@ abbrev pub scanned : ℕ → Stage
 scanned e = if e == 2 ^ 63 - 1 then Take e 0 else Advance e
 
 abbrev pub past_word : ℕ → ℕ → ℕ → ℕ → Stage
-past_word positions e k w = if holds_up e w then Take e 0 else (if k + 1 == positions then scanned e else Scan e (k + 1))
+past_word positions e k w =
+    if holds_up e w then Take e 0 else (if k + 1 == positions then scanned e else Scan e (k + 1))
 
 -- a new registration, and what a freed position is
 abbrev pub fresh : {J : Type 0} → Sizes → Machine J
-fresh sizes = record { stage = Idle; action = Pin; guards = 0; published = 0; pins = 0; sizes = sizes; full = false; held = []; hand = [] }
+fresh sizes = record {
+  stage = Idle;
+  action = Pin;
+  guards = 0;
+  published = 0;
+  pins = 0;
+  sizes = sizes;
+  full = false;
+  held = [];
+  hand = [];
+}
 
 -- the stage is an argument of its own, so that a proof goes by its cases
 abbrev pub hears : {J : Type 0} → Machine J → Stage → Answer J → Machine J

@@ -1,7 +1,8 @@
 //! A participant's machine. It makes all decisions of one participant, and touches nothing shared itself:
 //! it says what it asks next, and goes on by the answer.
 ghost use Rattle.std.specs.Prelude.{◌≡◌, false, ◌^◌, ◌<◌, ◌↔◌, IsTrue, IfSome, length};
-ghost use Rattle.epoch_machine.specs.Machine.{AskFits, asks, begun, ended, fresh, guards_after, is_empty, is_taking, IsSized};
+ghost use Rattle.epoch_machine.specs.Machine.{AskFits, asks, begun, ended, fresh, guards_after, is_empty, is_taking};
+ghost use Rattle.epoch_machine.specs.Machine.{IsSized};
 ghost use Rattle.epoch_machine.specs.declared.machine.Stage.TheVariants.{Idle, End};
 
 mod hearing;

@@ -4,7 +4,8 @@ use Rattle.std.specs.Prelude.{◌≢◌, ℕ, ◌==◌, nat_lt, if◌then◌else
 -- a byte that XML reads as markup is written as its entity; a question mark stands for any byte that no plain text has
 abbrev pub escaped_byte : ℕ → List ℕ
 escaped_byte byte =
-    if byte == 38 then codes "&amp;" else (if byte == 60 then codes "&lt;" else (if byte == 62 then codes "&gt;" else (if byte == 34 then codes "&quot;" else
+    if byte == 38 then codes "&amp;" else (if byte == 60 then codes "&lt;"
+    else (if byte == 62 then codes "&gt;" else (if byte == 34 then codes "&quot;" else
     (if nat_lt byte 32 then codes "?" else (if nat_lt byte 127 then byte ∷ [] else codes "?")))))
 
 abbrev pub escape : List ℕ → List ℕ

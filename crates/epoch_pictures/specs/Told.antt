@@ -1,7 +1,8 @@
 -- What the replies of a run tell: the lanes, bars, marks and arrows that its picture has to show.
 use Rattle.std.specs.Prelude.{ℕ, ◌+◌, max, nat_lt, if◌then◌else◌, Bool, true, false, List, [], ◌∷◌}
 use Rattle.epoch_laws.specs.declared.step.Reply.{Reply}
-use Rattle.epoch_laws.specs.declared.step.Reply.TheVariants.{Registered, Began, Pinned, Repinned, Deferred, Called, Refused}
+use Rattle.epoch_laws.specs.declared.step.Reply.TheVariants.{Registered, Began, Pinned, Repinned, Deferred, Called}
+use Rattle.epoch_laws.specs.declared.step.Reply.TheVariants.{Refused}
 use Rattle.epoch_pictures.specs.declared.moment.Moment.{Moment}
 
 abbrev pub is_registration : Reply → Bool

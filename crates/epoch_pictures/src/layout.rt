@@ -78,8 +78,8 @@ pub struct Picture {
 
 /// Lays the steps of a run out. `AllocError`: an allocation was refused.
 pub fn lay_out(alloc: Global, moments: &[Moment]) -> Result<Picture, AllocError>
-    // A lane for each participant that ever registered, and a pin, a call, a mark or an arrow for each reply that tells of
-    // one.
+    // A lane for each participant that ever registered, and a pin, a call, a mark or an arrow for each reply that tells
+    // of one.
     ensures lanes { IfOk result (λ picture. picture.participants ≡ lanes_told moments.now) }
     ensures registrations { IfOk result (λ picture.
         length picture.registrations.items ≡ count_by registers moments.now) }

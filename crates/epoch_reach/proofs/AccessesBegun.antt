@@ -1,9 +1,12 @@
 -- Where a call on cells and pointers that is under way comes from: it was under way before, or has just begun.
-use Rattle.std.proofs.Common.{◌≡◌, ℕ, ◌<◌, Bool, true, false, List, [], ◌∷◌, length, Option, Some, None, ◌⊎◌, inl, inr, refl, ap, sym, subst, ◌∙◌, if◌then◌else◌, slice_index_or, slice_set}
+use Rattle.std.proofs.Common.{◌≡◌, ℕ, ◌<◌, Bool, true, false, List, [], ◌∷◌, length, Option, Some, None, ◌⊎◌, inl, inr}
+use Rattle.std.proofs.Common.{refl, ap, sym, subst, ◌∙◌, if◌then◌else◌, slice_index_or, slice_set}
 use Rattle.epoch_cells.specs.declared.fault.Fault.{Fault}
 use Rattle.epoch_machine.specs.Machine.{ask_at}
 use Rattle.epoch_machine.specs.declared.machine.Ask.{Ask}
-use Rattle.epoch_machine.specs.declared.machine.Ask.TheVariants.{LoadEpoch, LoadWord, StorePinned, StoreRepinned, StoreUnpinned, StoreFree, StoreEpoch, PutBag, TakeBag, KeepJob, CallJob}
+use Rattle.epoch_machine.specs.declared.machine.Ask.TheVariants.{LoadEpoch, LoadWord, StorePinned, StoreRepinned}
+use Rattle.epoch_machine.specs.declared.machine.Ask.TheVariants.{StoreUnpinned, StoreFree, StoreEpoch, PutBag, TakeBag}
+use Rattle.epoch_machine.specs.declared.machine.Ask.TheVariants.{KeepJob, CallJob}
 use Rattle.epoch_machine.specs.declared.machine.Sizes.{Sizes}
 use Rattle.epoch_machine.specs.declared.machine.Stage.{Stage}
 use Rattle.epoch_heap.specs.declared.access.Access.{Access}
@@ -11,7 +14,8 @@ use Rattle.epoch_heap.specs.declared.access.Accessed.{Accessed}
 use Rattle.epoch_heap.specs.declared.access.Accessed.TheVariants.{Again, Answers, NoSlot}
 use Rattle.epoch_heap.specs.declared.access.Answer.TheVariants.{Absent}
 use Rattle.epoch_laws.specs.declared.step.Call.{Call}
-use Rattle.epoch_laws.specs.declared.step.Call.TheVariants.{Pin, Unpin, Repin, Pause, Resume, Defer, Flush, Release, DeferDestroy, Access as AccessCall}
+use Rattle.epoch_laws.specs.declared.step.Call.TheVariants.{Pin, Unpin, Repin, Pause, Resume, Defer, Flush, Release}
+use Rattle.epoch_laws.specs.declared.step.Call.TheVariants.{DeferDestroy, Access as AccessCall}
 use Rattle.epoch_laws.specs.declared.step.Progress.{Progress}
 use Rattle.epoch_laws.specs.declared.step.Progress.TheVariants.{Idle, Driven, CallsNow, Accesses, Ends}
 use Rattle.epoch_laws.specs.declared.step.Reply.{Reply}
@@ -20,7 +24,9 @@ use Rattle.epoch_laws.specs.declared.step.Step.{Step}
 use Rattle.epoch_laws.specs.declared.step.Step.TheVariants.{Register, Begin, Go, End as EndStep, EndGo}
 use Rattle.epoch_laws.specs.declared.step.Word.TheVariants.{Unpinned}
 use Rattle.epoch_heap.specs.Heap.{null, has_steps}
-use Rattle.epoch_laws.specs.Run.{WorldSeat, State, Ending, Open, Emptying, Over, seat_of, with_seat, free_seat, call_refusal, refusal, begun_seat, BeginsCall, progress_after, accessed_seat, ended_seat, PerformsAsk, DrivesCall, DoesGo, EndGoes, Moves}
+use Rattle.epoch_laws.specs.Run.{WorldSeat, State, Ending, Open, Emptying, Over, seat_of, with_seat, free_seat}
+use Rattle.epoch_laws.specs.Run.{call_refusal, refusal, begun_seat, BeginsCall, progress_after, accessed_seat}
+use Rattle.epoch_laws.specs.Run.{ended_seat, PerformsAsk, DrivesCall, DoesGo, EndGoes, Moves}
 use Rattle.epoch_laws.proofs.SeatLemmas.{seat_written, seat_other, seat_there, same_or_other, begin_given}
 use Rattle.epoch_reach.proofs.GuardsStay.{idle_ended}
 

@@ -1,12 +1,14 @@
 -- What a step on cells and pointers does to the names whose cells stand.
-use Rattle.std.proofs.Common.{◌≡◌, ℕ, ◌+◌, ◌-◌, ◌<◌, ◌==◌, ◌&&◌, Bool, true, false, Option, Some, None, is_some, ◌⊎◌, inl, inr, refl, ap, sym, subst, ◌∙◌, arith, if◌then◌else◌, slice_get, slice_set}
+use Rattle.std.proofs.Common.{◌≡◌, ℕ, ◌+◌, ◌-◌, ◌<◌, ◌==◌, ◌&&◌, Bool, true, false, Option, Some, None, is_some, ◌⊎◌}
+use Rattle.std.proofs.Common.{inl, inr, refl, ap, sym, subst, ◌∙◌, arith, if◌then◌else◌, slice_get, slice_set}
 use Rattle.std.specs.Prelude.{option_map}
 use Rattle.std.proofs.lemmas.Bool.Decides.{nat_tests}
 use Rattle.std.proofs.lemmas.Option.{slice_get_within}
 use Rattle.epoch_cells.proofs.PlainCellLists.{get_set_same}
 use Rattle.epoch_cells.specs.PlainCells.{filled, empty, has, if_has, unread, readable, removal_of}
 use Rattle.epoch_cells.specs.declared.cells.name.Name.{Name}
-use Rattle.epoch_cells.specs.declared.cells.Removal.TheVariants.{Destroyed as RemovalDestroyed, HeldElsewhere as RemovalHeld}
+use Rattle.epoch_cells.specs.declared.cells.Removal.TheVariants.{Destroyed as RemovalDestroyed}
+use Rattle.epoch_cells.specs.declared.cells.Removal.TheVariants.{HeldElsewhere as RemovalHeld}
 use Rattle.epoch_bags.specs.declared.job.Called.TheVariants.{Destroyed}
 use Rattle.epoch_heap.specs.declared.access.Access.{Access}
 use Rattle.epoch_heap.specs.declared.access.Access.TheVariants.{Place, Read, Leave, Write, Take, Point}
@@ -22,7 +24,9 @@ use Rattle.epoch_heap.specs.declared.access.Spot.{Spot}
 use Rattle.epoch_heap.specs.declared.access.Spot.TheVariants.{Root, Field}
 use Rattle.epoch_heap.specs.declared.heap.Content.{Content}
 use Rattle.epoch_heap.proofs.PointersWritten.{kept_or_written}
-use Rattle.epoch_heap.specs.Heap.{Cell, Heap, cell_at, with_cell_at, with_field, with_field_in, with_pointer, nulls, without_cell, outcome_of, called_by, heap_after_job, Touched, raised, read_by, left_by, written_by, taken_by, at_name, Places, ChangesAt, Touches}
+use Rattle.epoch_heap.specs.Heap.{Cell, Heap, cell_at, with_cell_at, with_field, with_field_in, with_pointer, nulls}
+use Rattle.epoch_heap.specs.Heap.{without_cell, outcome_of, called_by, heap_after_job, Touched, raised, read_by}
+use Rattle.epoch_heap.specs.Heap.{left_by, written_by, taken_by, at_name, Places, ChangesAt, Touches}
 use Rattle.epoch_reach.specs.Standing.{IsInHeap}
 use Rattle.epoch_reach.proofs.Names.{name_same}
 use Rattle.epoch_heap.proofs.FoundCells.{found_cell}

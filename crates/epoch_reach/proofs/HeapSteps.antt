@@ -4,7 +4,10 @@ use Rattle.epoch_cells.specs.declared.cells.name.Name.{Name}
 use Rattle.epoch_bags.specs.declared.job.Called.{Called}
 use Rattle.epoch_cells.specs.declared.fault.Fault.{Fault}
 use Rattle.epoch_machine.specs.declared.machine.Stage.{Stage}
-use Rattle.epoch_machine.specs.declared.machine.Stage.TheVariants.{Idle as Resting, LoadPin, StorePin, ReloadPin, LoadScan, Scan, Advance, Take, Calling, LoadSeal, Put, Keep, LoadRepin, StoreRepin, ReloadRepin, StoreUnpinned, StoreFree, End}
+use Rattle.epoch_machine.specs.declared.machine.Stage.TheVariants.{Idle as Resting, LoadPin, StorePin, ReloadPin}
+use Rattle.epoch_machine.specs.declared.machine.Stage.TheVariants.{LoadScan, Scan, Advance, Take, Calling, LoadSeal}
+use Rattle.epoch_machine.specs.declared.machine.Stage.TheVariants.{Put, Keep, LoadRepin, StoreRepin, ReloadRepin}
+use Rattle.epoch_machine.specs.declared.machine.Stage.TheVariants.{StoreUnpinned, StoreFree, End}
 use Rattle.epoch_machine.specs.Machine.{ask_at}
 use Rattle.epoch_heap.specs.declared.access.Access.{Access}
 use Rattle.epoch_laws.specs.declared.step.Call.{Call}
@@ -18,7 +21,8 @@ use Rattle.epoch_laws.specs.declared.step.Step.{Step}
 use Rattle.epoch_laws.specs.declared.step.Step.TheVariants.{Register, Begin, Go, End as EndStep, EndGo}
 use Rattle.epoch_heap.specs.Heap.{outcome_of, heap_after_job, Touched, Touches}
 use Rattle.epoch_laws.specs.declared.step.Word.TheVariants.{Free}
-use Rattle.epoch_laws.specs.Run.{WorldSeat, State, Ending, Open, Emptying, Over, seat_of, position_word, progress_after, accessed_seat, refusal, BeginsCall, DrivesCall, DoesGo, EndGoes, Moves}
+use Rattle.epoch_laws.specs.Run.{WorldSeat, State, Ending, Open, Emptying, Over, seat_of, position_word, progress_after}
+use Rattle.epoch_laws.specs.Run.{accessed_seat, refusal, BeginsCall, DrivesCall, DoesGo, EndGoes, Moves}
 use Rattle.epoch_laws.proofs.SeatLemmas.{seat_written, seat_there}
 
 -- the job of a ticket is called
@@ -111,7 +115,8 @@ module _ (old new : State) (step : Step) (reply : Reply) where
     heap = ap (λ (s : State). s.heap) e;
   }
 
-  goes : (p : ℕ) → step ≡ Go p → position_word old p ≢ Free → (progress : Progress) → (seat_of old p).progress ≡ progress
+  goes : (p : ℕ) → step ≡ Go p → position_word old p ≢ Free → (progress : Progress)
+      → (seat_of old p).progress ≡ progress
       → DoesGo old p (seat_of old p) progress reply new → Goal
   goes p on taken Idle now did = same did.1
   goes p on taken (Driven c) now did = drives p (seat_of old p) c (seat_of old p).machine.stage did

@@ -7,7 +7,8 @@ use Rattle.epoch_heap.specs.declared.access.Access.TheVariants.{Place, Read, Lea
 use Rattle.epoch_heap.specs.declared.access.Ptr.{Ptr}
 use Rattle.epoch_heap.specs.declared.access.Spot.{Spot}
 use Rattle.epoch_heap.proofs.PointersWritten.{kept_or_written}
-use Rattle.epoch_heap.specs.Heap.{Cell, Heap, cell_at, with_cell_at, with_pointer, nulls, Touched, read_by, left_by, written_by, taken_by, at_name, Places, Touches}
+use Rattle.epoch_heap.specs.Heap.{Cell, Heap, cell_at, with_cell_at, with_pointer, nulls, Touched, read_by, left_by}
+use Rattle.epoch_heap.specs.Heap.{written_by, taken_by, at_name, Places, Touches}
 
 -- a step that null leaves alone
 pub holds_named : (Holds : Heap → Type 0) (step : Name → Touched) (h : Heap) (name : Option Name) → Holds h

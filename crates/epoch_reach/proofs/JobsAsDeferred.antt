@@ -1,5 +1,6 @@
 -- In every run a job removes the name that its deferral named.
-use Rattle.std.proofs.Common.{◌≡◌, ◌≢◌, ℕ, ◌+◌, ◌<◌, ◌≤◌, Bool, List, [], ◌∷◌, ◌++◌, length, Option, Some, None, ◌⊎◌, inl, inr, refl, ap, sym, subst, ◌∙◌, arith, slice_set, slice_index_or}
+use Rattle.std.proofs.Common.{◌≡◌, ◌≢◌, ℕ, ◌+◌, ◌<◌, ◌≤◌, Bool, List, [], ◌∷◌, ◌++◌, length, Option, Some, None, ◌⊎◌}
+use Rattle.std.proofs.Common.{inl, inr, refl, ap, sym, subst, ◌∙◌, arith, slice_set, slice_index_or}
 use Rattle.epoch_bags.specs.Stores.{IsInserted}
 use Rattle.epoch_cells.specs.declared.cells.name.Name.{Name}
 use Rattle.epoch_bags.specs.declared.job.Called.{Called}
@@ -11,7 +12,10 @@ use Rattle.epoch_bags.specs.declared.queue.TakeStep.TheVariants.{Again as TakeAg
 use Rattle.epoch_machine.specs.declared.machine.Answer.TheVariants.{Job}
 use Rattle.epoch_machine.specs.declared.machine.Sizes.{Sizes}
 use Rattle.epoch_machine.specs.declared.machine.Stage.{Stage}
-use Rattle.epoch_machine.specs.declared.machine.Stage.TheVariants.{Idle as Resting, LoadPin, StorePin, ReloadPin, LoadScan, Scan, Advance, Take, Calling, LoadSeal, Put, Keep, LoadRepin, StoreRepin, ReloadRepin, StoreUnpinned, StoreFree, End}
+use Rattle.epoch_machine.specs.declared.machine.Stage.TheVariants.{Idle as Resting, LoadPin, StorePin, ReloadPin}
+use Rattle.epoch_machine.specs.declared.machine.Stage.TheVariants.{LoadScan, Scan, Advance, Take, Calling, LoadSeal}
+use Rattle.epoch_machine.specs.declared.machine.Stage.TheVariants.{Put, Keep, LoadRepin, StoreRepin, ReloadRepin}
+use Rattle.epoch_machine.specs.declared.machine.Stage.TheVariants.{StoreUnpinned, StoreFree, End}
 use Rattle.epoch_machine.specs.Machine.{Machine, ask_at, hears, put_heard, took_heard, PutsHeld, TakesHand}
 use Rattle.epoch_laws.specs.declared.step.Call.{Call}
 use Rattle.epoch_laws.specs.declared.step.Call.TheVariants.{DeferDestroy}
@@ -27,10 +31,14 @@ use Rattle.epoch_laws.specs.declared.step.Step.TheVariants.{Register, Begin, Go,
 use Rattle.epoch_laws.specs.declared.step.Word.TheVariants.{Free, Unpinned}
 use Rattle.epoch_heap.specs.Heap.{outcome_of, heap_after_job}
 use Rattle.epoch_reach.specs.Reach.{DefersRemoval, Past, past_after, no_past}
-use Rattle.epoch_reach.specs.Removals.{IsIn, IsInBags, IsAtEnd, IsInBag, IsAsDeferred, CallsAsDeferred, AsDeferredFrom, CallsWhatWasDeferred}
-use Rattle.epoch_laws.specs.Run.{Bag, WorldSeat, State, Ending, Open, Emptying, Over, seat_of, position_word, with_seat, with_places, with_machine, free_seat, removed_by, refusal, begun_seat, BeginsCall, ended_seat, DrivesCall, DoesGo, EndGoes, Moves, TakesStep, Runs, IsFresh}
+use Rattle.epoch_reach.specs.Removals.{IsIn, IsInBags, IsAtEnd, IsInBag, IsAsDeferred, CallsAsDeferred, AsDeferredFrom}
+use Rattle.epoch_reach.specs.Removals.{CallsWhatWasDeferred}
+use Rattle.epoch_laws.specs.Run.{Bag, WorldSeat, State, Ending, Open, Emptying, Over, seat_of, position_word, with_seat}
+use Rattle.epoch_laws.specs.Run.{with_places, with_machine, free_seat, removed_by, refusal, begun_seat, BeginsCall}
+use Rattle.epoch_laws.specs.Run.{ended_seat, DrivesCall, DoesGo, EndGoes, Moves, TakesStep, Runs, IsFresh}
 use Rattle.epoch_laws.proofs.SeatLemmas.{seat_written, seat_other, seat_there, same_or_other, begin_given}
-use Rattle.epoch_laws.proofs.QuietReplies.{IsQuiet, quiet_stepped, quiet_began, quiet_now, quiet_access, quiet_done, quiet_refused, quiet_end}
+use Rattle.epoch_laws.proofs.QuietReplies.{IsQuiet, quiet_stepped, quiet_began, quiet_now, quiet_access, quiet_done}
+use Rattle.epoch_laws.proofs.QuietReplies.{quiet_refused, quiet_end}
 use Rattle.epoch_laws.proofs.SeatLinks.{AllLinked, follows_at}
 use Rattle.epoch_laws.proofs.Linked.{step_linked, fresh_linked}
 use Rattle.epoch_reach.proofs.GuardsStay.{machine_ended, held_begun, hand_begun}
@@ -208,7 +216,8 @@ module _ (old new : State) (step : Step) (reply : Reply) (p : ℕ) (on : step �
       })
 
   -- p's jobs and the store stay
-  keeps : (after : WorldSeat) (last : State) → TellsNoJob reply → after.machine.held ≡ m.held → after.machine.hand ≡ m.hand
+  keeps : (after : WorldSeat) (last : State)
+      → TellsNoJob reply → after.machine.held ≡ m.held → after.machine.hand ≡ m.hand
       → new ≡ last → last.sizes ≡ old.sizes → last.seats ≡ slice_set old.seats p after → last.ending ≡ old.ending
       → last.tickets ≡ old.tickets → last.queued ≡ old.queued → Shown
   keeps after last none held hand e sizes seats ending tickets queued =

@@ -8,7 +8,8 @@ use Rattle.epoch_reach.specs.Given.{GivesName, given_after, GivesNewFrom, GivesN
 use Rattle.epoch_heap.specs.Heap.{Heap}
 use Rattle.epoch_laws.specs.Run.{State, with_places, Moves, TakesStep, Runs}
 use Rattle.epoch_reach.proofs.HeapSteps.{MakesAccess, HeapGoes, heap_goes, access_goes}
-use Rattle.epoch_reach.proofs.TurnsGiven.{IsGiven, StaysGiven, given_same, given_job, touches_given, GivesNew, place_gives}
+use Rattle.epoch_reach.proofs.TurnsGiven.{IsGiven, StaysGiven, given_same, given_job, touches_given, GivesNew}
+use Rattle.epoch_reach.proofs.TurnsGiven.{place_gives}
 
 module _ (old new : State) (entry : Entry) (took : TakesStep old entry.step entry.reply new) where
   -- the state after the step, but for the places

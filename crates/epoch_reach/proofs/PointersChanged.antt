@@ -1,5 +1,6 @@
 -- A step on cells and pointers takes pointers away, or is a pointer step and changes one.
-use Rattle.std.proofs.Common.{◌≡◌, ◌≢◌, ℕ, ◌+◌, ◌-◌, ◌==◌, Bool, true, false, Option, Some, None, is_some, ◌⊎◌, inl, inr, refl, ap, sym, subst, ◌∙◌, if◌then◌else◌, slice_get}
+use Rattle.std.proofs.Common.{◌≡◌, ◌≢◌, ℕ, ◌+◌, ◌-◌, ◌==◌, Bool, true, false, Option, Some, None, is_some, ◌⊎◌, inl}
+use Rattle.std.proofs.Common.{inr, refl, ap, sym, subst, ◌∙◌, if◌then◌else◌, slice_get}
 use Rattle.epoch_cells.specs.PlainCells.{filled, empty, unread, readable, removal_of}
 use Rattle.epoch_cells.specs.declared.cells.name.Name.{Name}
 use Rattle.epoch_cells.specs.declared.cells.Removal.{Removal}
@@ -11,10 +12,12 @@ use Rattle.epoch_heap.specs.declared.access.Access.{Access}
 use Rattle.epoch_heap.specs.declared.access.Access.TheVariants.{Place, Read, Leave, Write, Take, Point}
 use Rattle.epoch_heap.specs.declared.heap.Content.{Content}
 use Rattle.epoch_heap.proofs.PointersWritten.{kept_or_written}
-use Rattle.epoch_heap.specs.Heap.{Cell, Heap, cell_at, field_of, pointer_at, without_cell, heap_after_job, Touched, raised, read_by, left_by, written_by, taken_by, Places, ChangesAt, Touches}
+use Rattle.epoch_heap.specs.Heap.{Cell, Heap, cell_at, field_of, pointer_at, without_cell, heap_after_job, Touched}
+use Rattle.epoch_heap.specs.Heap.{raised, read_by, left_by, written_by, taken_by, Places, ChangesAt, Touches}
 use Rattle.epoch_heap.proofs.FoundCells.{found_cell}
 use Rattle.epoch_reach.proofs.HeldByTouches.{holds_named, holds_placed}
-use Rattle.epoch_reach.proofs.PointerSteps.{Fewer, fewer_same, fewer_written, fewer_kept, none_lead, nulls_lead, pointer_other}
+use Rattle.epoch_reach.proofs.PointerSteps.{Fewer, fewer_same, fewer_written, fewer_kept, none_lead, nulls_lead}
+use Rattle.epoch_reach.proofs.PointerSteps.{pointer_other}
 
 -- one pointer differs, and the call is on it
 pub record Pointed (a : Access) (old new : Heap) : Type 0 where

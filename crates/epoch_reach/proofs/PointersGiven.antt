@@ -1,5 +1,7 @@
 -- In every run the names in pointers were given, so that a name that is loaded has its cell.
-use Rattle.std.proofs.Common.{◌≡◌, ℕ, zero, suc, ◌-◌, ◌<◌, ◌≤◌, ◌==◌, ◌&&◌, ◌||◌, nat_lt, nat_le, Bool, true, false, List, Option, Some, None, is_some, ◌⊎◌, inl, inr, refl, ap, sym, subst, ◌∙◌, arith, if◌then◌else◌, slice_get}
+use Rattle.std.proofs.Common.{◌≡◌, ℕ, zero, suc, ◌-◌, ◌<◌, ◌≤◌, ◌==◌, ◌&&◌, ◌||◌, nat_lt, nat_le, Bool, true, false}
+use Rattle.std.proofs.Common.{List, Option, Some, None, is_some, ◌⊎◌, inl, inr, refl, ap, sym, subst, ◌∙◌, arith}
+use Rattle.std.proofs.Common.{if◌then◌else◌, slice_get}
 use Rattle.std.specs.Prelude.{option_map}
 use Rattle.std.proofs.lemmas.Bool.Decides.{nat_tests}
 use Rattle.epoch_cells.specs.PlainCells.{if_has}
@@ -9,7 +11,8 @@ use Rattle.epoch_heap.specs.declared.access.Access.{Access}
 use Rattle.epoch_heap.specs.declared.access.Access.TheVariants.{Point}
 use Rattle.epoch_heap.specs.declared.access.Accessed.{Accessed}
 use Rattle.epoch_heap.specs.declared.access.Change.{Change}
-use Rattle.epoch_heap.specs.declared.access.Change.TheVariants.{Load, Store, Swap, CompareExchange, FetchAnd, FetchOr, FetchXor, FetchUpdate}
+use Rattle.epoch_heap.specs.declared.access.Change.TheVariants.{Load, Store, Swap, CompareExchange, FetchAnd, FetchOr}
+use Rattle.epoch_heap.specs.declared.access.Change.TheVariants.{FetchXor, FetchUpdate}
 use Rattle.epoch_laws.specs.declared.step.Call.TheVariants.{Access as AccessCall}
 use Rattle.epoch_heap.specs.declared.access.Ptr.{Ptr}
 use Rattle.epoch_heap.specs.declared.access.Spot.{Spot}
@@ -17,7 +20,9 @@ use Rattle.epoch_heap.specs.declared.access.Spot.TheVariants.{Root, Field}
 use Rattle.epoch_heap.specs.declared.access.Update.{Update}
 use Rattle.epoch_heap.specs.declared.access.Update.TheVariants.{Tag, To, Stop}
 use Rattle.epoch_heap.specs.declared.heap.Content.{Content}
-use Rattle.epoch_heap.specs.Heap.{Cell, Heap, cell_at, field_in, pointer_at, with_field, with_field_in, with_pointer, updated_by, Touched, touched, Changes, ChangesAt, Touches, guard_of, has_place, knows_names, knows_spot, is_known, was_given, turn_given}
+use Rattle.epoch_heap.specs.Heap.{Cell, Heap, cell_at, field_in, pointer_at, with_field, with_field_in, with_pointer}
+use Rattle.epoch_heap.specs.Heap.{updated_by, Touched, touched, Changes, ChangesAt, Touches, guard_of, has_place}
+use Rattle.epoch_heap.specs.Heap.{knows_names, knows_spot, is_known, was_given, turn_given}
 use Rattle.epoch_reach.specs.Reach.{Leads}
 use Rattle.epoch_laws.specs.Run.{WorldSeat, is_out, under_guard, access_refusal, call_refusal}
 use Rattle.epoch_laws.proofs.SeatLemmas.{guard_given}
@@ -30,9 +35,11 @@ use Rattle.epoch_reach.proofs.TurnsGiven.{IsGiven, GivenAt, next_at, next_turn}
 -- THE POINTERS AFTER A WRITE
 
 either_field : (cell : Cell) (f g t : ℕ) (ptr : Ptr) (b : Bool) (v : Option Content)
-    → (field_in (if b && is_some (option_map (λ (c : Content). with_field c f ptr) v) then Some (record cell { value = option_map (λ (c : Content). with_field c f ptr) v }) else None) g
+    → (field_in (if b && is_some (option_map (λ (c : Content). with_field c f ptr) v)
+    then Some (record cell { value = option_map (λ (c : Content). with_field c f ptr) v }) else None) g
     ≡ field_in (if b && is_some v then Some (record cell { value = v }) else None) g)
-    ⊎ (field_in (if b && is_some (option_map (λ (c : Content). with_field c f ptr) v) then Some (record cell { value = option_map (λ (c : Content). with_field c f ptr) v }) else None) g ≡ Some ptr)
+    ⊎ (field_in (if b && is_some (option_map (λ (c : Content). with_field c f ptr) v)
+    then Some (record cell { value = option_map (λ (c : Content). with_field c f ptr) v }) else None) g ≡ Some ptr)
 either_field cell f g t ptr true None = inl refl
 either_field cell f g t ptr false None = inl refl
 either_field cell f g t ptr false (Some content) = inl refl
@@ -41,20 +48,24 @@ either_field cell f g t ptr true (Some content) =
 
 -- each is what it was, or the pointer written
 pointer_either : (h : Heap) (spot : Spot) (ptr : Ptr) (other : Spot)
-    → (pointer_at (with_pointer h spot ptr) other ≡ pointer_at h other) ⊎ (pointer_at (with_pointer h spot ptr) other ≡ Some ptr)
-pointer_either h (Root i) ptr (Root j) = elim (set_or_kept h.roots i ptr j) [ inl kept ↦ inl kept | inr new ↦ inr new.1 ]
+    → (pointer_at (with_pointer h spot ptr) other ≡ pointer_at h other)
+    ⊎ (pointer_at (with_pointer h spot ptr) other ≡ Some ptr)
+pointer_either h (Root i) ptr (Root j) =
+    elim (set_or_kept h.roots i ptr j) [ inl kept ↦ inl kept | inr new ↦ inr new.1 ]
 pointer_either h (Root i) ptr (Field n f) = inl refl
 pointer_either h (Field n f) ptr other = at_cell (cell_at h n) refl other
   where
     at_cell : (cell : Option Cell) → cell_at h n ≡ cell → (other : Spot)
-        → (pointer_at (with_field_in h n f ptr cell) other ≡ pointer_at h other) ⊎ (pointer_at (with_field_in h n f ptr cell) other ≡ Some ptr)
+        → (pointer_at (with_field_in h n f ptr cell) other ≡ pointer_at h other)
+        ⊎ (pointer_at (with_field_in h n f ptr cell) other ≡ Some ptr)
     at_cell None e other = inl refl
     at_cell (Some cell) e (Root j) = inl refl
     at_cell (Some cell) e (Field m g) = elim (set_or_kept h.cells (n.slot - 1) after (m.slot - 1)) [
       | inl kept ↦ inl (ap (λ (c : Option Cell). field_in (if_has m.turn c) g) kept)
       | inr new ↦ elim (either_field cell f g m.turn ptr (cell.turn == m.turn) cell.value) [
         | inl same ↦ inl (ap (λ (c : Option Cell). field_in (if_has m.turn c) g) new.1 ∙ same
-            ∙ ap (λ (c : Option Cell). field_in (if_has m.turn c) g) (sym (ap (λ (k : ℕ). slice_get h.cells k) new.0 ∙ there)))
+            ∙ ap (λ (c : Option Cell). field_in (if_has m.turn c) g)
+            (sym (ap (λ (k : ℕ). slice_get h.cells k) new.0 ∙ there)))
         | inr written ↦ inr (ap (λ (c : Option Cell). field_in (if_has m.turn c) g) new.1 ∙ written)
       ]
     ]
@@ -78,7 +89,8 @@ Written _ x = ⊥
 abbrev pub Led : Heap → Name → Type 0
 Led h x = (spot : Spot) × Leads h spot x
 
-module _ (g : Option ℕ) (at : Spot) (h : Heap) (did : Touched) (spot : Spot) (x : Name) (leads : Leads did.heap spot x) where
+module _ (g : Option ℕ) (at : Spot) (h : Heap) (did : Touched) (spot : Spot) (x : Name)
+    (leads : Leads did.heap spot x) where
   abbrev Goal : Change → Type 0
   Goal change = Led h x ⊎ Written (Point g at change) x
 
@@ -114,7 +126,8 @@ module _ (g : Option ℕ) (at : Spot) (h : Heap) (did : Touched) (spot : Spot) (
     changed (FetchOr n) k found e = replaces (FetchOr n) _ _ e (standing (FetchOr n))
     changed (FetchXor n) k found e = replaces (FetchXor n) _ _ e (standing (FetchXor n))
     changed (FetchUpdate tries by) zero found e = kept (FetchUpdate tries by) _ e
-    changed (FetchUpdate tries by) (suc k) found (inl e) = replaces (FetchUpdate tries by) _ _ e.1 (update_names tries by)
+    changed (FetchUpdate tries by) (suc k) found (inl e) =
+        replaces (FetchUpdate tries by) _ _ e.1 (update_names tries by)
     changed (FetchUpdate tries by) (suc k) found (inr e) = kept (FetchUpdate tries by) _ e.1
 
   changed_at : (change : Change) (k : ℕ) (found : Ptr) (ptr : Option Ptr) → pointer_at h at ≡ ptr
@@ -148,18 +161,22 @@ known_given h x e = at_cell (slice_get h.cells (x.slot - 1)) refl e
     later : (start turn : ℕ) → nat_le start turn ≡ true → start ≤ turn
     later start turn e = grind (arith, nat_tests)
 
-    below : (turn at : ℕ) (v : Option Content) → (nat_lt turn at || ((turn == at) && is_some v)) ≡ true → turn < next_at at v
+    below : (turn at : ℕ) (v : Option Content)
+        → (nat_lt turn at || ((turn == at) && is_some v)) ≡ true → turn < next_at at v
     below turn at (Some content) e = grind (arith, nat_tests)
     below turn at None e = grind (arith, nat_tests)
 
-    at_cell : (cell : Option Cell) → slice_get h.cells (x.slot - 1) ≡ cell → turn_given h.start_turn x.turn cell ≡ true → WasGiven h x
+    at_cell : (cell : Option Cell)
+        → slice_get h.cells (x.slot - 1) ≡ cell → turn_given h.start_turn x.turn cell ≡ true → WasGiven h x
     at_cell None there e = absurd (cc)
     at_cell (Some cell) there e =
-        let parts = both (nat_le h.start_turn x.turn) (nat_lt x.turn cell.turn || ((x.turn == cell.turn) && is_some cell.value)) e in
+        let parts = both (nat_le h.start_turn x.turn)
+        (nat_lt x.turn cell.turn || ((x.turn == cell.turn) && is_some cell.value)) e in
         let lt : x.turn < next_turn cell = below x.turn cell.turn cell.value parts.1 in
         (subst (λ (c : Option Cell). GivenAt x.turn c) (sym there) lt, later h.start_turn x.turn parts.0)
 
-pub under_given : (g : Option ℕ) (guards : List ℕ) (fault : Option Fault) → under_guard g guards fault ≡ None → fault ≡ None
+pub under_given : (g : Option ℕ) (guards : List ℕ) (fault : Option Fault)
+    → under_guard g guards fault ≡ None → fault ≡ None
 under_given None guards fault e = e
 under_given (Some g) guards fault e = at_test (is_out g guards) e
   where
@@ -187,5 +204,6 @@ written_known a seat tickets h x ok written =
     by_call (Point g spot (Swap q)) known written = named q (both (knows_spot h spot) _ known).1 written
     by_call (Point g spot (CompareExchange c q)) known written =
         named q (both (is_known h c.name) _ (both (knows_spot h spot) _ known).1).1 written
-    by_call (Point g spot (FetchUpdate tries (To q))) known written = named q (both (knows_spot h spot) _ known).1 written
+    by_call (Point g spot (FetchUpdate tries (To q))) known written =
+        named q (both (knows_spot h spot) _ known).1 written
     by_call _ known written = absurd written

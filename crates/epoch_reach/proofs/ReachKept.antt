@@ -1,5 +1,6 @@
 -- What was in reach since a participant published holds what it has loaded, and nothing that is destroyed.
-use Rattle.std.proofs.Common.{◌≡◌, ℕ, ◌<◌, ◌≤◌, ◌==◌, true, false, not, List, [], ◌∷◌, ◌++◌, length, Some, ◌⊎◌, inl, inr, refl, ap, subst, ◌∙◌, arith}
+use Rattle.std.proofs.Common.{◌≡◌, ℕ, ◌<◌, ◌≤◌, ◌==◌, true, false, not, List, [], ◌∷◌, ◌++◌, length, Some, ◌⊎◌, inl}
+use Rattle.std.proofs.Common.{inr, refl, ap, subst, ◌∙◌, arith}
 use Rattle.std.proofs.lemmas.Bool.Decides.{nat_tests}
 use Rattle.epoch_cells.specs.declared.cells.name.Name.{Name}
 use Rattle.epoch_bags.specs.declared.job.Called.TheVariants.{Destroyed}
@@ -14,9 +15,11 @@ use Rattle.epoch_heap.specs.declared.access.Spot.TheVariants.{Root, Field}
 use Rattle.epoch_laws.specs.Grace.{IsReplyAt, KeepsGrace}
 use Rattle.epoch_heap.specs.Heap.{guard_of}
 use Rattle.epoch_laws.specs.Run.{WorldSeat, State, seat_of, position_word, is_out}
-use Rattle.epoch_reach.specs.Reach.{Leads, IsReachable, from_root, from_field, Past, LetsGo, IsLoadedFrom, Meets, past_after, LeavesRightly, KeepsLoaded}
+use Rattle.epoch_reach.specs.Reach.{Leads, IsReachable, from_root, from_field, Past, LetsGo, IsLoadedFrom, Meets}
+use Rattle.epoch_reach.specs.Reach.{past_after, LeavesRightly, KeepsLoaded}
 use Rattle.epoch_laws.proofs.SeatLinks.{AllLinked, follows_at}
-use Rattle.epoch_laws.proofs.Log.{IsPublish, IsWithdrawal, PinnedSince, stands_keep, stands_new, pinned_push, pinned_keep, pinned_new, pinned_within, length_push, grace_refuses}
+use Rattle.epoch_laws.proofs.Log.{IsPublish, IsWithdrawal, PinnedSince, stands_keep, stands_new, pinned_push}
+use Rattle.epoch_laws.proofs.Log.{pinned_keep, pinned_new, pinned_within, length_push, grace_refuses}
 use Rattle.epoch_laws.proofs.SeatsFine.{is_pinned, publishes_at}
 use Rattle.epoch_laws.proofs.WorldHolds.{Holds}
 
@@ -63,8 +66,10 @@ pub record ReachHolds (s : State) (log : List Entry) (past : Past) : Type 1 wher
   pub loaded : (p g : ℕ) (x : Name) → past.loaded p g x
       → (is_pinned (position_word s p) ≡ true) × IsOut g (seat_of s p) × (¬ (¬ (recent p x)))
   pub removed : (t : ℕ) (x : Name) → past.removes t x
-      → past.left x × ((i : ℕ) × IsReplyAt log i (Deferred t) × ((p at : ℕ) → PinnedSince log p at → recent p x → at ≤ i))
-  pub gone : (x : Name) → past.destroyed x → past.left x × ((p : ℕ) → is_pinned (position_word s p) ≡ true → ¬ (recent p x))
+      → past.left x
+      × ((i : ℕ) × IsReplyAt log i (Deferred t) × ((p at : ℕ) → PinnedSince log p at → recent p x → at ≤ i))
+  pub gone : (x : Name) → past.destroyed x
+      → past.left x × ((p : ℕ) → is_pinned (position_word s p) ≡ true → ¬ (recent p x))
 
 -- what is loaded isn't destroyed
 pub holds_apart : (s : State) (log : List Entry) (past : Past) → ReachHolds s log past → KeepsLoaded past

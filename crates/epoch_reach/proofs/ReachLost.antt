@@ -4,10 +4,12 @@ use Rattle.epoch_cells.specs.PlainCells.{empty, filled}
 use Rattle.epoch_bags.specs.declared.queue.TakeStep.TheVariants.{Empty}
 use Rattle.epoch_machine.specs.declared.machine.Action.TheVariants.{Pin as PinAction}
 use Rattle.epoch_machine.specs.declared.machine.Stage.{Stage}
-use Rattle.epoch_machine.specs.declared.machine.Stage.TheVariants.{Idle as Resting, LoadPin, StorePin, ReloadPin, LoadScan, Scan, Advance, Take as TakeStage, End}
+use Rattle.epoch_machine.specs.declared.machine.Stage.TheVariants.{Idle as Resting, LoadPin, StorePin, ReloadPin}
+use Rattle.epoch_machine.specs.declared.machine.Stage.TheVariants.{LoadScan, Scan, Advance, Take as TakeStage, End}
 use Rattle.epoch_machine.specs.Machine.{Machine}
 use Rattle.epoch_heap.specs.declared.access.Access.TheVariants.{Place, Take, Point}
-use Rattle.epoch_heap.specs.declared.access.Answer.TheVariants.{Guard, Unit as UnitAnswer, Name as NameAnswer, Value, Pointer}
+use Rattle.epoch_heap.specs.declared.access.Answer.TheVariants.{Guard, Unit as UnitAnswer, Name as NameAnswer, Value}
+use Rattle.epoch_heap.specs.declared.access.Answer.TheVariants.{Pointer}
 use Rattle.epoch_laws.specs.declared.step.Call.TheVariants.{Pin, Access as AccessCall}
 use Rattle.epoch_heap.specs.declared.access.Change.TheVariants.{Load, Store}
 use Rattle.epoch_laws.specs.declared.step.Deferral.{Deferral}
@@ -16,7 +18,8 @@ use Rattle.epoch_laws.specs.declared.step.Progress.{Progress}
 use Rattle.epoch_laws.specs.declared.step.Progress.TheVariants.{Idle, Driven, Accesses, Ends}
 use Rattle.epoch_heap.specs.declared.access.Ptr.{Ptr}
 use Rattle.epoch_laws.specs.declared.step.Reply.{Reply}
-use Rattle.epoch_laws.specs.declared.step.Reply.TheVariants.{Registered, Began, Stepped, Pinned as PinnedReply, Repinned, Done}
+use Rattle.epoch_laws.specs.declared.step.Reply.TheVariants.{Registered, Began, Stepped, Pinned as PinnedReply}
+use Rattle.epoch_laws.specs.declared.step.Reply.TheVariants.{Repinned, Done}
 use Rattle.epoch_heap.specs.declared.access.Spot.TheVariants.{Root}
 use Rattle.epoch_laws.specs.declared.step.Step.{Step}
 use Rattle.epoch_laws.specs.declared.step.Step.TheVariants.{Register, Begin, Go}

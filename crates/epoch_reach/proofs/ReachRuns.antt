@@ -4,7 +4,8 @@ use Rattle.epoch_cells.specs.declared.cells.name.Name.{Name}
 use Rattle.epoch_laws.specs.declared.step.Entry.{Entry}
 use Rattle.epoch_heap.specs.declared.access.Ptr.{Ptr}
 use Rattle.epoch_heap.specs.Heap.{null}
-use Rattle.epoch_reach.specs.Reach.{IsReachable, from_root, from_field, Past, past_after, no_past, past_from, past_of, LeavesFrom, LeavesOnce, KeepsLoaded}
+use Rattle.epoch_reach.specs.Reach.{IsReachable, from_root, from_field, Past, past_after, no_past, past_from, past_of}
+use Rattle.epoch_reach.specs.Reach.{LeavesFrom, LeavesOnce, KeepsLoaded}
 use Rattle.epoch_laws.specs.Run.{WorldSeat, State, Runs, IsFresh}
 use Rattle.epoch_laws.proofs.SeatLinks.{AllLinked}
 use Rattle.epoch_laws.proofs.Linked.{step_linked, fresh_linked}

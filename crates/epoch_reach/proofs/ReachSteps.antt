@@ -1,10 +1,14 @@
 -- Every step shows what reach needs: of each participant's word and guards, and of the fields.
-use Rattle.std.proofs.Common.{◌≡◌, ◌≢◌, ℕ, ◌<◌, true, List, [], ◌∷◌, length, Option, Some, None, ◌⊎◌, inl, inr, refl, ap, sym, subst, ◌∙◌, slice_set, slice_index_or}
+use Rattle.std.proofs.Common.{◌≡◌, ◌≢◌, ℕ, ◌<◌, true, List, [], ◌∷◌, length, Option, Some, None, ◌⊎◌, inl, inr, refl}
+use Rattle.std.proofs.Common.{ap, sym, subst, ◌∙◌, slice_set, slice_index_or}
 use Rattle.epoch_cells.specs.declared.cells.name.Name.{Name}
 use Rattle.epoch_cells.specs.declared.fault.Fault.{Fault}
 use Rattle.epoch_machine.specs.declared.machine.Sizes.{Sizes}
 use Rattle.epoch_machine.specs.declared.machine.Stage.{Stage}
-use Rattle.epoch_machine.specs.declared.machine.Stage.TheVariants.{Idle as Resting, LoadPin, StorePin, ReloadPin, LoadScan, Scan, Advance, Take, Calling, LoadSeal, Put, Keep, LoadRepin, StoreRepin, ReloadRepin, StoreUnpinned, StoreFree, End}
+use Rattle.epoch_machine.specs.declared.machine.Stage.TheVariants.{Idle as Resting, LoadPin, StorePin, ReloadPin}
+use Rattle.epoch_machine.specs.declared.machine.Stage.TheVariants.{LoadScan, Scan, Advance, Take, Calling, LoadSeal}
+use Rattle.epoch_machine.specs.declared.machine.Stage.TheVariants.{Put, Keep, LoadRepin, StoreRepin, ReloadRepin}
+use Rattle.epoch_machine.specs.declared.machine.Stage.TheVariants.{StoreUnpinned, StoreFree, End}
 use Rattle.epoch_machine.specs.declared.machine.Answer.TheVariants.{Stored}
 use Rattle.epoch_machine.specs.Machine.{Machine, ask_at, hears}
 use Rattle.epoch_heap.specs.declared.access.Access.{Access}
@@ -16,7 +20,8 @@ use Rattle.epoch_laws.specs.declared.step.Progress.{Progress}
 use Rattle.epoch_laws.specs.declared.step.Progress.TheVariants.{Idle, Driven, CallsNow, Accesses, Ends}
 use Rattle.epoch_heap.specs.declared.access.Ptr.{Ptr}
 use Rattle.epoch_laws.specs.declared.step.Reply.{Reply}
-use Rattle.epoch_laws.specs.declared.step.Reply.TheVariants.{Registered, Stepped, Pinned as PinnedReply, Unpinned as UnpinnedReply, Repinned, Deferred, Done}
+use Rattle.epoch_laws.specs.declared.step.Reply.TheVariants.{Registered, Stepped, Pinned as PinnedReply}
+use Rattle.epoch_laws.specs.declared.step.Reply.TheVariants.{Unpinned as UnpinnedReply, Repinned, Deferred, Done}
 use Rattle.epoch_heap.specs.declared.access.Spot.{Spot}
 use Rattle.epoch_heap.specs.declared.access.Spot.TheVariants.{Field}
 use Rattle.epoch_laws.specs.declared.step.Step.{Step}
@@ -25,17 +30,21 @@ use Rattle.epoch_laws.specs.declared.step.Word.{Word}
 use Rattle.epoch_laws.specs.declared.step.Word.TheVariants.{Free, Unpinned, Pinned}
 use Rattle.epoch_heap.specs.Heap.{Heap, pointer_at, Touched, Touches}
 use Rattle.epoch_reach.specs.Reach.{Leads, IsReachable, Points, Past, LetsGo, LeavesRightly}
-use Rattle.epoch_laws.specs.Run.{WorldSeat, State, Ending, Open, Emptying, Over, seat_of, position_word, with_seat, with_places, with_machine, with_word, free_seat, refusal, begun_seat, BeginsCall, accessed_seat, ended_seat, DrivesCall, DoesGo, EndGoes, Moves}
+use Rattle.epoch_laws.specs.Run.{WorldSeat, State, Ending, Open, Emptying, Over, seat_of, position_word, with_seat}
+use Rattle.epoch_laws.specs.Run.{with_places, with_machine, with_word, free_seat, refusal, begun_seat, BeginsCall}
+use Rattle.epoch_laws.specs.Run.{accessed_seat, ended_seat, DrivesCall, DoesGo, EndGoes, Moves}
 use Rattle.epoch_laws.proofs.SeatLemmas.{seat_written, seat_other, seat_there, same_or_other, begin_given}
 use Rattle.epoch_laws.proofs.SeatLinks.{AllLinked, follows_at, IsDriven}
 use Rattle.epoch_laws.proofs.Log.{IsPublish, IsWithdrawal}
-use Rattle.epoch_laws.proofs.QuietReplies.{IsPlain, IsQuiet, plain_called, quiet_stepped, quiet_began, quiet_now, quiet_access, quiet_done, quiet_refused, quiet_end}
+use Rattle.epoch_laws.proofs.QuietReplies.{IsPlain, IsQuiet, plain_called, quiet_stepped, quiet_began, quiet_now}
+use Rattle.epoch_laws.proofs.QuietReplies.{quiet_access, quiet_done, quiet_refused, quiet_end}
 use Rattle.epoch_laws.proofs.SeatsFine.{is_pinned, IsFine}
 use Rattle.epoch_laws.proofs.WorldHolds.{Holds, view_of}
 use Rattle.epoch_reach.proofs.PointerSteps.{Fewer, fewer_same, still_reached}
 use Rattle.epoch_reach.proofs.PointersChanged.{fewer_job, touches_pointers}
 use Rattle.epoch_reach.proofs.ReachKept.{GivesUp, IsOut, GuardsAccess, Guarded, KeepsReach}
-use Rattle.epoch_reach.proofs.GuardsStay.{is_out_ended, ends_guarded, word_ended, guarded_ended, word_begun, is_out_begun, guarded_begun, is_out_accessed, guarded_accessed}
+use Rattle.epoch_reach.proofs.GuardsStay.{is_out_ended, ends_guarded, word_ended, guarded_ended, word_begun}
+use Rattle.epoch_reach.proofs.GuardsStay.{is_out_begun, guarded_begun, is_out_accessed, guarded_accessed}
 
 -- FIELDS
 
@@ -135,7 +144,8 @@ module _ (past : Past) (old new : State) (x : Entry) where
       → ((q : ℕ) → q ≢ p → (¬ (IsPublish x.reply q)) × (¬ (IsWithdrawal x.reply q)))
       → (is_pinned after.word ≡ true
       → IsPublish x.reply p ⊎ ((is_pinned (position_word old p) ≡ true) × (¬ (IsWithdrawal x.reply p))))
-      → ((g : ℕ) → is_pinned (position_word old p) ≡ true → IsOut g (seat_of old p) → ¬ (LetsGo x p g) → StillOut x p g after)
+      → ((g : ℕ) → is_pinned (position_word old p) ≡ true → IsOut g (seat_of old p)
+      → ¬ (LetsGo x p g) → StillOut x p g after)
       → (Guarded (seat_of old p) → Guarded after)
       → Fields → Kept
   writes p after last there e sizes seats others own holding guarded fields = record {
@@ -172,7 +182,8 @@ module _ (past : Past) (old new : State) (x : Entry) where
       other q ne = looked_up q ∙ seat_other old p q after ne
 
   -- p goes on under the same word
-  goes_on : (p : ℕ) (after : WorldSeat) (last : State) → position_word old p ≢ Free → aside ≡ last → last.sizes ≡ old.sizes
+  goes_on : (p : ℕ) (after : WorldSeat) (last : State)
+      → position_word old p ≢ Free → aside ≡ last → last.sizes ≡ old.sizes
       → last.seats ≡ slice_set old.seats p after → after.word ≡ position_word old p → IsSilent x.reply
       → ((g : ℕ) → IsOut g (seat_of old p) → ¬ (LetsGo x p g) → IsOut g after)
       → (Guarded (seat_of old p) → Guarded after)

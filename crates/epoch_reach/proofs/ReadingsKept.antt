@@ -1,5 +1,7 @@
 -- In every run each cell counts the participants that read it, each of them once.
-use Rattle.std.proofs.Common.{◌≡◌, ◌≢◌, ℕ, ◌+◌, ◌-◌, ◌<◌, ◌≤◌, ◌==◌, Bool, true, false, List, [], ◌∷◌, length, Option, Some, None, inl, inr, refl, ap, sym, subst, ◌∙◌, arith, if◌then◌else◌, slice_get, slice_set}
+use Rattle.std.proofs.Common.{◌≡◌, ◌≢◌, ℕ, ◌+◌, ◌-◌, ◌<◌, ◌≤◌, ◌==◌, Bool, true, false, List, [], ◌∷◌, length, Option}
+use Rattle.std.proofs.Common.{Some, None, inl, inr, refl, ap, sym, subst, ◌∙◌, arith, if◌then◌else◌, slice_get}
+use Rattle.std.proofs.Common.{slice_set}
 use Rattle.std.specs.Prelude.{nat_lt}
 use Rattle.std.proofs.lemmas.Bool.Decides.{nat_tests}
 use Rattle.std.proofs.lemmas.List.Sums.{sum_by-set}
@@ -12,11 +14,17 @@ use Rattle.epoch_cells.specs.declared.fault.Fault.{Fault}
 use Rattle.epoch_cells.specs.declared.fault.Fault.TheVariants.{Busy, GuardsOut}
 use Rattle.epoch_cells.specs.PlainCells.{empty, if_has}
 use Rattle.epoch_machine.specs.declared.machine.Action.{Action}
-use Rattle.epoch_machine.specs.declared.machine.Action.TheVariants.{Pin as PinAction, Unpin as UnpinAction, Repin as RepinAction, Defer as DeferAction, Flush as FlushAction, Release as ReleaseAction}
+use Rattle.epoch_machine.specs.declared.machine.Action.TheVariants.{Pin as PinAction, Unpin as UnpinAction}
+use Rattle.epoch_machine.specs.declared.machine.Action.TheVariants.{Repin as RepinAction, Defer as DeferAction}
+use Rattle.epoch_machine.specs.declared.machine.Action.TheVariants.{Flush as FlushAction, Release as ReleaseAction}
 use Rattle.epoch_machine.specs.declared.machine.Answer.TheVariants.{Stored, Job}
 use Rattle.epoch_machine.specs.declared.machine.Stage.{Stage}
-use Rattle.epoch_machine.specs.declared.machine.Stage.TheVariants.{Idle as Resting, LoadPin, StorePin, ReloadPin, LoadScan, Scan, Advance, Take, Calling, LoadSeal, Put, Keep, LoadRepin, StoreRepin, ReloadRepin, StoreUnpinned, StoreFree, End}
-use Rattle.epoch_machine.specs.Machine.{Machine, ask_at, with_stage, hears, put_heard, took_heard, gives, after_pin, past_word}
+use Rattle.epoch_machine.specs.declared.machine.Stage.TheVariants.{Idle as Resting, LoadPin, StorePin, ReloadPin}
+use Rattle.epoch_machine.specs.declared.machine.Stage.TheVariants.{LoadScan, Scan, Advance, Take, Calling, LoadSeal}
+use Rattle.epoch_machine.specs.declared.machine.Stage.TheVariants.{Put, Keep, LoadRepin, StoreRepin, ReloadRepin}
+use Rattle.epoch_machine.specs.declared.machine.Stage.TheVariants.{StoreUnpinned, StoreFree, End}
+use Rattle.epoch_machine.specs.Machine.{Machine, ask_at, with_stage, hears, put_heard, took_heard, gives, after_pin}
+use Rattle.epoch_machine.specs.Machine.{past_word}
 use Rattle.epoch_machine.proofs.StagesAfter.{either_way}
 use Rattle.epoch_bags.specs.Bags.{is_empty}
 use Rattle.epoch_heap.specs.declared.access.Access.{Access}
@@ -25,9 +33,11 @@ use Rattle.epoch_heap.specs.declared.access.Accessed.{Accessed}
 use Rattle.epoch_heap.specs.declared.access.Accessed.TheVariants.{Again, Answers, NoSlot}
 use Rattle.epoch_heap.specs.declared.access.Answer.TheVariants.{Unit as UnitAnswer, Value, Absent}
 use Rattle.epoch_heap.specs.declared.access.Ptr.{Ptr}
-use Rattle.epoch_heap.specs.Heap.{Cell, Heap, cell_at, is_name, null, has_steps, has_place, knows_names, guard_of, Touched, Touches, at_name, left_by}
+use Rattle.epoch_heap.specs.Heap.{Cell, Heap, cell_at, is_name, null, has_steps, has_place, knows_names, guard_of}
+use Rattle.epoch_heap.specs.Heap.{Touched, Touches, at_name, left_by}
 use Rattle.epoch_laws.specs.declared.step.Call.{Call}
-use Rattle.epoch_laws.specs.declared.step.Call.TheVariants.{Pin, Unpin, Repin, Pause, Resume, Defer, Flush, Release, DeferDestroy, Access as AccessCall}
+use Rattle.epoch_laws.specs.declared.step.Call.TheVariants.{Pin, Unpin, Repin, Pause, Resume, Defer, Flush, Release}
+use Rattle.epoch_laws.specs.declared.step.Call.TheVariants.{DeferDestroy, Access as AccessCall}
 use Rattle.epoch_laws.specs.declared.step.Deferral.{Deferral}
 use Rattle.epoch_laws.specs.declared.step.Entry.{Entry}
 use Rattle.epoch_laws.specs.declared.step.Progress.{Progress}
@@ -38,15 +48,23 @@ use Rattle.epoch_laws.specs.declared.step.Step.{Step}
 use Rattle.epoch_laws.specs.declared.step.Step.TheVariants.{Register, Begin, Go, End as EndStep, EndGo}
 use Rattle.epoch_laws.specs.declared.step.Word.{Word}
 use Rattle.epoch_laws.specs.declared.step.Word.TheVariants.{Free, Unpinned, Pinned}
-use Rattle.epoch_laws.specs.Run.{WorldSeat, State, reading_refusal, seat_of, position_word, word_number, with_seat, with_word, with_machine, with_places, free_seat, reads, refusal, call_refusal, access_refusal, under_guard, begun_seat, drives, ended_seat, with_guards, accessed_seat, progress_after, readings_after, Ending, Open, Emptying, Over, BeginsCall, DrivesCall, DoesGo, EndGoes, Moves, TakesStep, Runs, IsFresh}
-use Rattle.epoch_laws.proofs.SeatLemmas.{seat_written, seat_other, seat_there, same_or_other, begin_given, guard_given, IsAccepted}
+use Rattle.epoch_laws.specs.Run.{WorldSeat, State, reading_refusal, seat_of, position_word, word_number, with_seat}
+use Rattle.epoch_laws.specs.Run.{with_word, with_machine, with_places, free_seat, reads, refusal, call_refusal}
+use Rattle.epoch_laws.specs.Run.{access_refusal, under_guard, begun_seat, drives, ended_seat, with_guards}
+use Rattle.epoch_laws.specs.Run.{accessed_seat, progress_after, readings_after, Ending, Open, Emptying, Over}
+use Rattle.epoch_laws.specs.Run.{BeginsCall, DrivesCall, DoesGo, EndGoes, Moves, TakesStep, Runs, IsFresh}
+use Rattle.epoch_laws.proofs.SeatLemmas.{seat_written, seat_other, seat_there, same_or_other, begin_given, guard_given}
+use Rattle.epoch_laws.proofs.SeatLemmas.{IsAccepted}
 use Rattle.epoch_laws.proofs.SeatLinks.{action_of, AllLinked, IsDriven, follows_at}
 use Rattle.epoch_laws.proofs.Linked.{step_linked, fresh_linked}
 use Rattle.epoch_laws.proofs.TicketSums.{sum_zero}
-use Rattle.epoch_laws.specs.Readings.{times_read, readings_of, readers_in, ReadingFits, FreesAt, ReadsOnce, KeepsReadings}
-use Rattle.epoch_reach.proofs.FreedStages.{frees_collected, frees_pinned, frees_put, frees_unpinned, frees_called, frees_past, frees_first}
+use Rattle.epoch_laws.specs.Readings.{times_read, readings_of, readers_in, ReadingFits, FreesAt, ReadsOnce}
+use Rattle.epoch_laws.specs.Readings.{KeepsReadings}
+use Rattle.epoch_reach.proofs.FreedStages.{frees_collected, frees_pinned, frees_put, frees_unpinned, frees_called}
+use Rattle.epoch_reach.proofs.FreedStages.{frees_past, frees_first}
 use Rattle.epoch_reach.proofs.PointersGiven.{under_given, inner}
-use Rattle.epoch_reach.proofs.ReadersCounted.{none_there, name_is, times_push, reads_counted, Leaves, readings_told, readers_at, SameReaders, HasReader, job_counts, touch_counts}
+use Rattle.epoch_reach.proofs.ReadersCounted.{none_there, name_is, times_push, reads_counted, Leaves, readings_told}
+use Rattle.epoch_reach.proofs.ReadersCounted.{readers_at, SameReaders, HasReader, job_counts, touch_counts}
 
 -- NO SEAT IS WRITTEN, OR ONE
 

@@ -1,5 +1,7 @@
 -- Names that stand have slots of their own, so nobody reads more names than there are cells.
-use Rattle.std.proofs.Common.{◌≡◌, ◌≢◌, ℕ, suc, ◌-◌, ◌<◌, ◌≤◌, ◌||◌, Bool, true, false, List, [], ◌∷◌, length, map, Option, Some, None, is_some, ◌⊎◌, inl, inr, refl, ap, sym, subst, ◌∙◌, arith, if◌then◌else◌, slice_get}
+use Rattle.std.proofs.Common.{◌≡◌, ◌≢◌, ℕ, suc, ◌-◌, ◌<◌, ◌≤◌, ◌||◌, Bool, true, false, List, [], ◌∷◌, length, map}
+use Rattle.std.proofs.Common.{Option, Some, None, is_some, ◌⊎◌, inl, inr, refl, ap, sym, subst, ◌∙◌, arith}
+use Rattle.std.proofs.Common.{if◌then◌else◌, slice_get}
 use Rattle.std.specs.Prelude.{nat_lt}
 use Rattle.std.specs.List.{IsDistinct, list_any}
 use Rattle.std.specs.List.{AllByRecursion}
@@ -32,7 +34,8 @@ AllOnce [] = Unit {0}
 AllOnce (n ∷ names) = (times_read n names ≡ 0) × AllOnce names
 
 -- two names in one slot that both stand are one
-same_slot : (h : Heap) (n m : Name) (cell other : Cell) → cell_at h n ≡ Some cell → cell_at h m ≡ Some other → index m ≡ index n → n ≡ m
+same_slot : (h : Heap) (n m : Name) (cell other : Cell)
+    → cell_at h n ≡ Some cell → cell_at h m ≡ Some other → index m ≡ index n → n ≡ m
 same_slot h n m cell other e is same =
     let found : FoundAt h n cell = found_at h n cell e in
     let there : FoundAt h m other = found_at h m other is in
@@ -41,7 +44,8 @@ same_slot h n m cell other e is same =
     name_same n m (omega (arith, same, n.some, m.some)) (sym found.turn ∙ ap (λ (c : Cell). c.turn) cells ∙ there.turn)
 
 -- a slot is no other's
-apart : (h : Heap) (n : Name) (names : List Name) → (cell : Cell) → cell_at h n ≡ Some cell → AllStand h names → times_read n names ≡ 0
+apart : (h : Heap) (n : Name) (names : List Name)
+    → (cell : Cell) → cell_at h n ≡ Some cell → AllStand h names → times_read n names ≡ 0
     → AllByRecursion (λ (y : ℕ). eqb (index n) y ≡ false) (map index names)
 apart h n [] cell e stand none = tt
 apart h n (m ∷ names) cell e stand none = (
@@ -50,7 +54,8 @@ apart h n (m ∷ names) cell e stand none = (
 )
   where
     differs : (b : Bool) → is_name m n ≡ b
-        → ((eqb (index n) (index m) ≡ true) × (index n ≡ index m)) ⊎ ((eqb (index n) (index m) ≡ false) × (index n ≢ index m))
+        → ((eqb (index n) (index m) ≡ true) × (index n ≡ index m))
+        ⊎ ((eqb (index n) (index m) ≡ false) × (index n ≢ index m))
         → eqb (index n) (index m) ≡ false
     differs b same (inr other) = other.0
     differs true same (inl one_slot) =
@@ -66,7 +71,8 @@ distinct h [] stand once = tt
 distinct h (n ∷ names) stand once =
     (apart h n names stand.0.0 stand.0.1 stand.1 once.0, distinct h names stand.1 once.1)
 
-below : (h : Heap) (names : List Name) → AllStand h names → (q : ℕ) → list_any (eqb q) (map index names) ≡ true → q < length h.cells
+below : (h : Heap) (names : List Name)
+    → AllStand h names → (q : ℕ) → list_any (eqb q) (map index names) ≡ true → q < length h.cells
 below h [] stand q any = absurd (cc (any))
 below h (n ∷ names) stand q any = at_first (below h names stand.1 q) (eqb_tells q (index n)) any
   where
@@ -77,7 +83,8 @@ below h (n ∷ names) stand q any = at_first (below h names stand.1 q) (eqb_tell
         → ((eqb q (index n) ≡ true) × (q ≡ index n)) ⊎ ((eqb q (index n) ≡ false) × (q ≢ index n))
         → (eqb q (index n) || list_any (eqb q) (map index names)) ≡ true → q < length h.cells
     at_first rest (inl same) any = subst (λ (k : ℕ). k < length h.cells) (sym same.1) within
-    at_first rest (inr other) any = rest (subst (λ (b : Bool). (b || list_any (eqb q) (map index names)) ≡ true) other.0 any)
+    at_first rest (inr other) any =
+        rest (subst (λ (b : Bool). (b || list_any (eqb q) (map index names)) ≡ true) other.0 any)
 
 many : (names : List Name) → length (map index names) ≡ length names
 many [] = refl
@@ -85,11 +92,13 @@ many (n ∷ names) = ap suc (many names)
 
 no_more : (h : Heap) (names : List Name) → AllStand h names → AllOnce names → length names ≤ length h.cells
 no_more h names stand once = subst (λ (k : ℕ). k ≤ length h.cells) (many names)
-    (length-le_from_distinct_below (map index names) (length h.cells) (distinct h names stand once) (below h names stand))
+    (length-le_from_distinct_below (map index names) (length h.cells)
+    (distinct h names stand once) (below h names stand))
 
 -- ONE PARTICIPANT
 
-all_stand : (h : Heap) (readings : List Name) → ((n : Name) → 1 ≤ times_read n readings → 1 ≤ readers_at h n) → AllStand h readings
+all_stand : (h : Heap) (readings : List Name)
+    → ((n : Name) → 1 ≤ times_read n readings → 1 ≤ readers_at h n) → AllStand h readings
 all_stand h [] counted = tt
 all_stand h (n ∷ readings) counted = (
   there (cell_at h n) refl (counted n (omega (arith, times_cons n n readings, itself))),
@@ -121,7 +130,8 @@ room_to_read s p n h there next = no_more s.heap (n ∷ (seat_of s p).readings) 
 )
     (unread, all_once (seat_of s p).readings (h.seats p).once)
   where
-    stands : (found : Option Cell) → cell_at s.heap n ≡ found → is_some (cell_at s.heap n) ≡ true → (cell : Cell) × (cell_at s.heap n ≡ Some cell)
+    stands : (found : Option Cell)
+        → cell_at s.heap n ≡ found → is_some (cell_at s.heap n) ≡ true → (cell : Cell) × (cell_at s.heap n ≡ Some cell)
     stands None e some = absurd (cc (some, ap is_some e))
     stands (Some cell) e some = (cell, e)
 

@@ -1,5 +1,6 @@
 -- Turns of slots only go up, so no name is given twice.
-use Rattle.std.proofs.Common.{◌≡◌, ℕ, ◌+◌, ◌-◌, ◌<◌, ◌≤◌, ◌==◌, ◌&&◌, Bool, true, false, Option, Some, None, is_some, inl, inr, refl, ap, sym, subst, ◌∙◌, arith, le_refl, if◌then◌else◌, slice_get}
+use Rattle.std.proofs.Common.{◌≡◌, ℕ, ◌+◌, ◌-◌, ◌<◌, ◌≤◌, ◌==◌, ◌&&◌, Bool, true, false, Option, Some, None, is_some}
+use Rattle.std.proofs.Common.{inl, inr, refl, ap, sym, subst, ◌∙◌, arith, le_refl, if◌then◌else◌, slice_get}
 use Rattle.std.specs.Prelude.{option_map}
 use Rattle.epoch_cells.specs.PlainCells.{filled, empty, has, if_has, unread, readable, removal_of}
 use Rattle.epoch_cells.specs.declared.cells.name.Name.{Name}
@@ -16,7 +17,9 @@ use Rattle.epoch_laws.specs.declared.step.Progress.TheVariants.{Ends}
 use Rattle.epoch_laws.specs.declared.step.Reply.TheVariants.{Done}
 use Rattle.epoch_laws.specs.Run.{progress_after}
 use Rattle.epoch_heap.specs.declared.heap.Content.{Content}
-use Rattle.epoch_heap.specs.Heap.{Cell, Heap, cell_at, with_cell_at, nulls, with_field, with_field_in, with_pointer, without_cell, heap_after_job, Touched, raised, read_by, left_by, written_by, taken_by, Places, Touches}
+use Rattle.epoch_heap.specs.Heap.{Cell, Heap, cell_at, with_cell_at, nulls, with_field, with_field_in, with_pointer}
+use Rattle.epoch_heap.specs.Heap.{without_cell, heap_after_job, Touched, raised, read_by, left_by, written_by, taken_by}
+use Rattle.epoch_heap.specs.Heap.{Places, Touches}
 use Rattle.epoch_heap.proofs.FoundCells.{found_cell}
 use Rattle.epoch_reach.proofs.PointerSteps.{set_or_kept}
 use Rattle.epoch_reach.proofs.PointersChanged.{unread_there}

@@ -35,17 +35,29 @@ module _ (p g epoch : ℕ) (sizes : Sizes) where
   here : (begun ended : State) (going : List Reply) → (seat_of begun p).machine.stage ≡ LoadScan → AllGoOn going
       → Runs begun (goes_of p (going ++ Done UnitAnswer ∷ [])) ended → Found begun ended going
   here begun ended going scans on run =
-      record { put = begun; puts = []; flushes = going; whole = refl; putting = tt; flushing = on; reaches = refl; goes_on = run; scans = scans }
+      record {
+        put = begun;
+        puts = [];
+        flushes = going;
+        whole = refl;
+        putting = tt;
+        flushing = on;
+        reaches = refl;
+        goes_on = run;
+        scans = scans;
+      }
 
   find : (begun ended : State) (going : List Reply) → Before p g epoch sizes begun → AllGoOn going
       → Runs begun (goes_of p (going ++ Done UnitAnswer ∷ [])) ended → Found begun ended going
   find begun ended [] h on (mid, did, run) =
-      elim (before_goes p g epoch sizes begun mid (Done UnitAnswer) h (seat_of begun p).machine.stage refl h.stage (driven p g epoch sizes begun mid (Done UnitAnswer) h.flushes did)) [
+      elim (before_goes p g epoch sizes begun mid (Done UnitAnswer) h (seat_of begun p).machine.stage refl h.stage
+      (driven p g epoch sizes begun mid (Done UnitAnswer) h.flushes did)) [
         | inl scans ↦ here begun ended [] scans tt (mid, did, run)
         | inr went ↦ absurd (cc (went.0))
       ]
   find begun ended (r ∷ going) h on (mid, did, run) =
-      elim (before_goes p g epoch sizes begun mid r h (seat_of begun p).machine.stage refl h.stage (driven p g epoch sizes begun mid r h.flushes did)) [
+      elim (before_goes p g epoch sizes begun mid r h (seat_of begun p).machine.stage refl h.stage
+      (driven p g epoch sizes begun mid r h.flushes did)) [
         | inl scans ↦ here begun ended (r ∷ going) scans on (mid, did, run)
         | inr went ↦
             let rest = find mid ended going went.1 on.1 run in
@@ -64,15 +76,18 @@ module _ (p g epoch : ℕ) (sizes : Sizes) where
 
 -- the entries of the round are those before that state and those after it
 cut : (p : ℕ) (first : Entry) (pin unpin : List Entry) (going puts flushes last : List Reply) → going ≡ puts ++ flushes
-    → pin ++ ((first ∷ goes_of p (going ++ last)) ++ unpin) ≡ (pin ++ (first ∷ goes_of p puts)) ++ (goes_of p (flushes ++ last) ++ unpin)
+    → pin ++ ((first ∷ goes_of p (going ++ last)) ++ unpin) ≡ (pin ++ (first ∷ goes_of p puts))
+    ++ (goes_of p (flushes ++ last) ++ unpin)
 cut p first pin unpin going puts flushes last whole =
     let parts : goes_of p (going ++ last) ≡ goes_of p puts ++ goes_of p (flushes ++ last) =
-    ap (λ (rs : List Reply). goes_of p (rs ++ last)) whole ∙ ap (goes_of p) (append_assoc puts flushes last) ∙ goes_append p puts (flushes ++ last) in
+    ap (λ (rs : List Reply). goes_of p (rs ++ last)) whole ∙ ap (goes_of p) (append_assoc puts flushes last)
+    ∙ goes_append p puts (flushes ++ last) in
     ap (λ (es : List Entry). pin ++ ((first ∷ es) ++ unpin)) parts
     ∙ ap (λ (es : List Entry). pin ++ es) (append_assoc (first ∷ goes_of p puts) (goes_of p (flushes ++ last)) unpin)
     ∙ sym (append_assoc pin (first ∷ goes_of p puts) (goes_of p (flushes ++ last) ++ unpin))
 
-pub rounds_call_all : (fresh s new : State) (earlier log : List Entry) → IsFresh fresh → Runs fresh earlier s → Runs s log new → RoundsCallAll s log new
+pub rounds_call_all : (fresh s new : State) (earlier log : List Entry)
+    → IsFresh fresh → Runs fresh earlier s → Runs s log new → RoundsCallAll s log new
 rounds_call_all fresh s new earlier log is_fresh run goes p first others later whole quiet small round told =
     let g : ℕ = round.guard in
     let last : List Reply = Done UnitAnswer ∷ [] in
@@ -83,9 +98,11 @@ rounds_call_all fresh s new earlier log is_fresh run goes p first others later w
     round.whole ∙ ap (λ (r : Reply). pin ++ (call_to p (Flush (Some g)) round.flushes r ++ unpin)) told in
     let firsts = runs_split s new first (others ++ later) (subst (λ (es : List Entry). Runs s es new) whole goes) in
     let seconds = runs_split firsts.0 new others later firsts.2 in
-    let pinned = runs_split s firsts.0 pin (flush ++ unpin) (subst (λ (es : List Entry). Runs s es firsts.0) is firsts.1) in
+    let pinned = runs_split s firsts.0 pin (flush ++ unpin)
+    (subst (λ (es : List Entry). Runs s es firsts.0) is firsts.1) in
     let flushed = runs_split pinned.0 firsts.0 flush unpin pinned.2 in
-    let begins = flush_begins fresh s pinned.0 flushed.1.0 earlier is_fresh run p quiet small g round.pins round.pinning pinned.1 flushed.1.1 in
+    let begins = flush_begins fresh s pinned.0 flushed.1.0 earlier is_fresh run p quiet small g round.pins
+    round.pinning pinned.1 flushed.1.1 in
     let found = find p g s.epoch s.sizes flushed.1.0 flushed.0 round.flushes begins round.flushing flushed.1.2 in
     let before : List Entry = pin ++ call_entries p (Flush (Some g)) (Began ∷ found.puts) in
     let after : List Entry = goes_of p (found.flushes ++ last) ++ unpin in
@@ -104,18 +121,22 @@ rounds_call_all fresh s new earlier log is_fresh run goes p first others later w
       behind = refl;
     } in
     let reaches : Runs s before found.put =
-    runs_append s pinned.0 found.put pin (call_entries p (Flush (Some g)) (Began ∷ found.puts)) pinned.1 (flushed.1.0, flushed.1.1, found.reaches) in
+    runs_append s pinned.0 found.put pin (call_entries p (Flush (Some g)) (Began ∷ found.puts)) pinned.1
+    (flushed.1.0, flushed.1.1, found.reaches) in
     let goes_on : Runs found.put (after ++ others) seconds.0 =
-    runs_append found.put firsts.0 seconds.0 after others (runs_append found.put flushed.0 firsts.0 (goes_of p (found.flushes ++ last)) unpin found.goes_on flushed.2) seconds.1 in
+    runs_append found.put firsts.0 seconds.0 after others (runs_append found.put flushed.0 firsts.0
+    (goes_of p (found.flushes ++ last)) unpin found.goes_on flushed.2) seconds.1 in
     record {
       put = found.put;
       done = seconds.0;
       before = before;
       after = after;
-      whole = is ∙ cut p (record { step = Begin p (Flush (Some g)); reply = Began }) pin unpin round.flushes found.puts found.flushes last found.whole;
+      whole = is ∙ cut p (record { step = Begin p (Flush (Some g)); reply = Began }) pin unpin round.flushes found.puts
+          found.flushes last found.whole;
       puts = puts;
       reaches = reaches;
       goes_on = goes_on;
       ends = seconds.2;
-      calls_all = λ rounds. quiet_rounds fresh s found.put seconds.0 earlier before after others p is_fresh run quiet small reaches puts rounds goes_on;
+      calls_all = λ rounds. quiet_rounds fresh s found.put seconds.0 earlier before after others p is_fresh run quiet
+          small reaches puts rounds goes_on;
     }

@@ -1,24 +1,33 @@
 -- What p's machine is at between the steps of a round that nobody disturbs.
-use Rattle.std.proofs.Common.{◌≡◌, ◌≢◌, ℕ, ◌+◌, ◌-◌, ◌*◌, ◌%◌, ◌^◌, ◌<◌, ◌≤◌, ◌==◌, ◌&&◌, min, Bool, true, false, not, List, [], ◌∷◌, ◌++◌, length, Option, Some, None, ◌⊎◌, inl, inr, refl, ap, ap₂, sym, subst, ◌∙◌, arith, if◌then◌else◌, length-set}
+use Rattle.std.proofs.Common.{◌≡◌, ◌≢◌, ℕ, ◌+◌, ◌-◌, ◌*◌, ◌%◌, ◌^◌, ◌<◌, ◌≤◌, ◌==◌, ◌&&◌, min, Bool, true, false, not}
+use Rattle.std.proofs.Common.{List, [], ◌∷◌, ◌++◌, length, Option, Some, None, ◌⊎◌, inl, inr, refl, ap, ap₂, sym, subst}
+use Rattle.std.proofs.Common.{◌∙◌, arith, if◌then◌else◌, length-set}
 use Rattle.std.proofs.lemmas.Bool.Decides.{nat_tests}
 use Rattle.std.proofs.Math.Nat.{min-eq_left, min-eq_right}
 use Rattle.epoch_bags.specs.Stores.{AllExpired}
 use Rattle.epoch_bags.specs.declared.queue.TakeStep.{TakeStep}
 use Rattle.epoch_bags.specs.declared.queue.TakeStep.TheVariants.{Again as TakeAgain, Empty, Got}
 use Rattle.epoch_machine.specs.declared.machine.Action.{Action}
-use Rattle.epoch_machine.specs.declared.machine.Action.TheVariants.{Pin as PinAction, Unpin as UnpinAction, Flush as FlushAction}
+use Rattle.epoch_machine.specs.declared.machine.Action.TheVariants.{Pin as PinAction, Unpin as UnpinAction}
+use Rattle.epoch_machine.specs.declared.machine.Action.TheVariants.{Flush as FlushAction}
 use Rattle.epoch_machine.specs.declared.machine.Answer.TheVariants.{Stored}
 use Rattle.epoch_machine.specs.declared.machine.Ask.{Ask}
 use Rattle.epoch_machine.specs.declared.machine.Ask.TheVariants.{TakeBag, CallJob}
 use Rattle.epoch_machine.specs.declared.machine.Sizes.{Sizes}
 use Rattle.epoch_machine.specs.declared.machine.Stage.{Stage}
-use Rattle.epoch_machine.specs.declared.machine.Stage.TheVariants.{Idle as Resting, LoadPin, StorePin, ReloadPin, LoadScan, Scan, Advance, Take, Calling, LoadSeal, Put, Keep, LoadRepin, StoreRepin, ReloadRepin, StoreUnpinned, StoreFree, End}
-use Rattle.epoch_machine.specs.Machine.{Machine, is_taking, TakesHand, ask_at, hears, took_heard, gives, with_stage, after_collect, after_pin, after_unpin, after_job, holds_up, scanned, past_word, guards_after}
+use Rattle.epoch_machine.specs.declared.machine.Stage.TheVariants.{Idle as Resting, LoadPin, StorePin, ReloadPin}
+use Rattle.epoch_machine.specs.declared.machine.Stage.TheVariants.{LoadScan, Scan, Advance, Take, Calling, LoadSeal}
+use Rattle.epoch_machine.specs.declared.machine.Stage.TheVariants.{Put, Keep, LoadRepin, StoreRepin, ReloadRepin}
+use Rattle.epoch_machine.specs.declared.machine.Stage.TheVariants.{StoreUnpinned, StoreFree, End}
+use Rattle.epoch_machine.specs.Machine.{Machine, is_taking, TakesHand, ask_at, hears, took_heard, gives, with_stage}
+use Rattle.epoch_machine.specs.Machine.{after_collect, after_pin, after_unpin, after_job, holds_up, scanned, past_word}
+use Rattle.epoch_machine.specs.Machine.{guards_after}
 use Rattle.epoch_machine.proofs.StagesAfter.{by_test}
 use Rattle.epoch_heap.specs.declared.access.Answer.TheVariants.{Guard, Unit as UnitAnswer}
 use Rattle.epoch_heap.specs.Heap.{Heap, outcome_of, heap_after_job as heap_after}
 use Rattle.epoch_laws.specs.declared.step.Call.{Call}
-use Rattle.epoch_laws.specs.declared.step.Call.TheVariants.{Pin, Unpin, Repin, Pause, Resume, Defer, Flush, Release, DeferDestroy, Access as AccessCall}
+use Rattle.epoch_laws.specs.declared.step.Call.TheVariants.{Pin, Unpin, Repin, Pause, Resume, Defer, Flush, Release}
+use Rattle.epoch_laws.specs.declared.step.Call.TheVariants.{DeferDestroy, Access as AccessCall}
 use Rattle.epoch_laws.specs.declared.step.Deferral.{Deferral}
 use Rattle.epoch_laws.specs.declared.step.Progress.{Progress}
 use Rattle.epoch_laws.specs.declared.step.Progress.TheVariants.{Driven}
@@ -30,7 +39,10 @@ use Rattle.epoch_laws.specs.declared.step.Word.TheVariants.{Free, Unpinned, Pinn
 use Rattle.epoch_laws.specs.Calls.{ends_call}
 use Rattle.epoch_laws.specs.Collections.{is_collecting, expiry_of, AllAhead, FindsAhead}
 use Rattle.epoch_laws.specs.Kept.{action_of}
-use Rattle.epoch_laws.specs.Run.{Bag, WorldSeat, State, seat_of, position_word, word_number, with_seat, with_machine, with_word, with_places, ahead_of, outlook_of, NoneTakes, turn_of, turn_at, lowest, without, full_or_done, end_reply, with_guards, ended_seat, DrivesCall, DoesGo, TakesStep}
+use Rattle.epoch_laws.specs.Run.{Bag, WorldSeat, State, seat_of, position_word, word_number, with_seat, with_machine}
+use Rattle.epoch_laws.specs.Run.{with_word, with_places, ahead_of, outlook_of, NoneTakes, turn_of, turn_at, lowest}
+use Rattle.epoch_laws.specs.Run.{without, full_or_done, end_reply, with_guards, ended_seat, DrivesCall, DoesGo}
+use Rattle.epoch_laws.specs.Run.{TakesStep}
 use Rattle.epoch_laws.specs.Tickets.{times, times_queued, calls_of}
 use Rattle.epoch_laws.proofs.SeatLemmas.{seat_written, seat_other, same_or_other}
 use Rattle.epoch_laws.proofs.SeatsFine.{is_pinned}
@@ -64,7 +76,8 @@ Near v epoch = (epoch ≡ v.epoch) ⊎ ((epoch ≡ v.next) × (v.next ≡ v.epoc
 -- what holds at the end of each call of a round, where so many bags are left
 abbrev pub After : Plan → ℕ → ℕ → Word → Call → Type 0
 After v epoch left w Pin = (w ≡ Pinned v.epoch) × Near v epoch × (left ≤ v.bags)
-After v epoch left w (Flush g) = (w ≡ Pinned v.epoch) × (epoch ≡ v.next) × (left ≤ v.bags) × (v.bound + 2 ≤ v.next → left ≤ v.bags - v.sizes.collect_bags)
+After v epoch left w (Flush g) = (w ≡ Pinned v.epoch) × (epoch ≡ v.next) × (left ≤ v.bags)
+    × (v.bound + 2 ≤ v.next → left ≤ v.bags - v.sizes.collect_bags)
 After v epoch left w (Unpin g) = (w ≡ Unpinned) × (epoch ≡ v.epoch) × (left ≤ v.bags)
 After v epoch left w _ = ⊥
 
@@ -103,15 +116,19 @@ KnowsAt v epoch left ahead w LoadPin = (v.call ≡ Pin) × (epoch ≡ v.epoch) �
 KnowsAt v epoch left ahead w (StorePin e) = (v.call ≡ Pin) × (e ≡ v.epoch) × (epoch ≡ v.epoch) × (left ≤ v.bags)
 KnowsAt v epoch left ahead w ReloadPin = (v.call ≡ Pin) × (w ≡ Pinned v.epoch) × (epoch ≡ v.epoch) × (left ≤ v.bags)
 KnowsAt v epoch left ahead w LoadScan = Collects v.call × (w ≡ Pinned v.epoch) × Near v epoch × (left ≤ v.bags)
-KnowsAt v epoch left ahead w (Scan e k) = Collects v.call × (w ≡ Pinned v.epoch) × (e ≡ epoch) × ((e ≡ v.epoch) ⊎ ((e ≡ v.next) × (v.next ≡ v.epoch + 1) × (k ≤ v.p))) × (left ≤ v.bags)
+KnowsAt v epoch left ahead w (Scan e k) = Collects v.call × (w ≡ Pinned v.epoch) × (e ≡ epoch)
+    × ((e ≡ v.epoch) ⊎ ((e ≡ v.next) × (v.next ≡ v.epoch + 1) × (k ≤ v.p))) × (left ≤ v.bags)
 KnowsAt v epoch left ahead w (Advance e) = Collects v.call × (w ≡ Pinned v.epoch) × (v.next ≡ e + 1) × (left ≤ v.bags)
-KnowsAt v epoch left ahead w (Take x k) = Collects v.call × (w ≡ Pinned v.epoch) × (x ≡ v.next) × (epoch ≡ v.next) × (left + k ≤ v.bags) × (k < v.sizes.collect_bags) × (v.bound + 2 ≤ v.next → Enough k left ahead)
-KnowsAt v epoch left ahead w (Calling x k) = Collects v.call × (w ≡ Pinned v.epoch) × (x ≡ v.next) × (epoch ≡ v.next) × (left + (k + 1) ≤ v.bags) × (k < v.sizes.collect_bags) × (v.bound + 2 ≤ v.next → Enough (k + 1) left ahead)
+KnowsAt v epoch left ahead w (Take x k) = Collects v.call × (w ≡ Pinned v.epoch) × (x ≡ v.next) × (epoch ≡ v.next)
+    × (left + k ≤ v.bags) × (k < v.sizes.collect_bags) × (v.bound + 2 ≤ v.next → Enough k left ahead)
+KnowsAt v epoch left ahead w (Calling x k) = Collects v.call × (w ≡ Pinned v.epoch) × (x ≡ v.next) × (epoch ≡ v.next)
+    × (left + (k + 1) ≤ v.bags) × (k < v.sizes.collect_bags) × (v.bound + 2 ≤ v.next → Enough (k + 1) left ahead)
 KnowsAt v epoch left ahead w StoreUnpinned = IsUnpin v.call × (epoch ≡ v.epoch) × (left ≤ v.bags)
 KnowsAt v epoch left ahead w End = After v epoch left w v.call
 KnowsAt v epoch left ahead w _ = ⊥
 
-pub record Known (v : Plan) (called : ℕ → ℕ) (epoch : ℕ) (queued : List Bag) (ahead : ℕ) (w : Word) (m : Machine Deferral) (s : Stage) : Type 0 where
+pub record Known (v : Plan) (called : ℕ → ℕ) (epoch : ℕ) (queued : List Bag) (ahead : ℕ) (w : Word)
+    (m : Machine Deferral) (s : Stage) : Type 0 where
   pub held : m.held ≡ v.held
   pub full : m.full ≡ v.full
   pub action : m.action ≡ action_of v.call
@@ -134,10 +151,12 @@ pub record IsUnderWay (v : Plan) (called : ℕ → ℕ) (s : State) (ahead : ℕ
   pub taken : position_word s v.p ≢ Free
   pub progress : (seat_of s v.p).progress ≡ Driven v.call
   pub guards : (seat_of s v.p).guards ≡ guards_in v.call
-  pub known : Known v called s.epoch s.queued ahead (position_word s v.p) (seat_of s v.p).machine (seat_of s v.p).machine.stage
+  pub known : Known v called s.epoch s.queued ahead (position_word s v.p) (seat_of s v.p).machine
+      (seat_of s v.p).machine.stage
 
 -- p is between two calls, with these guards and jobs
-pub record Rests (p : ℕ) (sizes : Sizes) (jobs : List Deferral) (out : List ℕ) (bound : ℕ) (total called : ℕ → ℕ) (s : State) : Type 0 where
+pub record Rests (p : ℕ) (sizes : Sizes) (jobs : List Deferral) (out : List ℕ) (bound : ℕ) (total called : ℕ → ℕ)
+    (s : State) : Type 0 where
   pub there : p < length s.seats
   pub positions : sizes.positions ≡ length s.seats
   pub others : (q : ℕ) → q ≢ p → IsStill (seat_of s q)
@@ -158,10 +177,10 @@ pub record HasEnded (v : Plan) (called : ℕ → ℕ) (r : Reply) (s : State) : 
 
 -- what comes of a step
 abbrev pub Comes : Plan → (ℕ → ℕ) → Reply → State → ℕ → Type 0
-Comes v called r s ahead = ((ends_call r ≡ false) × IsUnderWay v called s ahead) ⊎ ((ends_call r ≡ true) × HasEnded v called r s)
+Comes v called r s ahead =
+    ((ends_call r ≡ false) × IsUnderWay v called s ahead) ⊎ ((ends_call r ≡ true) × HasEnded v called r s)
 
 -- LEMMAS ON STAGES
-
 
 eq_true : (x y : ℕ) → (x == y) ≡ true → x ≡ y
 eq_true x y e = grind (arith, nat_tests)
@@ -195,7 +214,8 @@ near_next : (v : Plan) (epoch : ℕ) → IsNext v.epoch v.next → epoch ≡ v.n
 near_next v epoch (inl n) e = inr (e, n.1)
 near_next v epoch (inr n) e = inl (e ∙ n.1)
 
-collected : (v : Plan) (epoch left : ℕ) (w : Word) (c : Call) → IsNext v.epoch v.next → Collects c → w ≡ Pinned v.epoch → epoch ≡ v.next → left ≤ v.bags
+collected : (v : Plan) (epoch left : ℕ) (w : Word) (c : Call)
+    → IsNext v.epoch v.next → Collects c → w ≡ Pinned v.epoch → epoch ≡ v.next → left ≤ v.bags
     → (v.bound + 2 ≤ v.next → left ≤ v.bags - v.sizes.collect_bags) → After v epoch left w c
 collected v epoch left w Pin next h word e few all = (word, near_next v epoch next e, few)
 collected v epoch left w (Flush g) next h word e few all = (word, e, few, all)
@@ -221,7 +241,8 @@ unpinned_end Release full h = absurd h
 unpinned_end (DeferDestroy g ptr) full h = absurd h
 unpinned_end (AccessCall a) full h = absurd h
 
-unpinned_after : (v : Plan) (epoch left : ℕ) (c : Call) → IsUnpin c → epoch ≡ v.epoch → left ≤ v.bags → After v epoch left Unpinned c
+unpinned_after : (v : Plan) (epoch left : ℕ) (c : Call)
+    → IsUnpin c → epoch ≡ v.epoch → left ≤ v.bags → After v epoch left Unpinned c
 unpinned_after v epoch left (Unpin (Some g)) h e few = (refl, e, few)
 unpinned_after v epoch left (Unpin None) h e few = absurd h
 unpinned_after v epoch left Pin h e few = absurd h
@@ -236,7 +257,8 @@ unpinned_after v epoch left (AccessCall a) h e few = absurd h
 
 -- a pinned word holds up a scan for another epoch, and no other scan
 holds_pinned : (e n : ℕ) → n ≡ e → holds_up e (2 * n + 1) ≡ false
-holds_pinned e n same = subst (λ (b : Bool). (((2 * n + 1) % 2 == 1) && not b) ≡ false) (sym equal) (and_false ((2 * n + 1) % 2 == 1))
+holds_pinned e n same =
+    subst (λ (b : Bool). (((2 * n + 1) % 2 == 1) && not b) ≡ false) (sym equal) (and_false ((2 * n + 1) % 2 == 1))
   where
     and_false : (b : Bool) → (b && false) ≡ false
     and_false true = refl
@@ -249,19 +271,25 @@ enough_at_first : (left ahead : ℕ) → min 64 ahead ≡ min 64 left → Enough
 enough_at_first left ahead same = elim (split 64 ahead) [
   | inl le ↦ inl (omega arith)
   | inr le ↦ elim (split 64 left) [
-    | inl more ↦ let all : min 64 left ≡ 64 = min-eq_left more in let few : min 64 ahead ≡ ahead = min-eq_right le in inl (omega arith)
-    | inr less ↦ let all : min 64 left ≡ left = min-eq_right less in let few : min 64 ahead ≡ ahead = min-eq_right le in inr (omega arith)
+    | inl more ↦ let all : min 64 left ≡ 64 = min-eq_left more in
+        let few : min 64 ahead ≡ ahead = min-eq_right le in
+        inl (omega arith)
+    | inr less ↦ let all : min 64 left ≡ left = min-eq_right less in
+        let few : min 64 ahead ≡ ahead = min-eq_right le in
+        inr (omega arith)
   ]
 ]
   where
     split : (a b : ℕ) → (a ≤ b) ⊎ (b ≤ a)
     split a b = grind arith
 
-enough_same : (k left left' ahead ahead' : ℕ) → Enough k left ahead → ahead + left' ≡ ahead' + left → left' ≡ left → Enough k left' ahead'
+enough_same : (k left left' ahead ahead' : ℕ)
+    → Enough k left ahead → ahead + left' ≡ ahead' + left → left' ≡ left → Enough k left' ahead'
 enough_same k left left' ahead ahead' (inl e) count same = inl (omega arith)
 enough_same k left left' ahead ahead' (inr e) count same = inr (omega arith)
 
-enough_less : (k left left' ahead ahead' : ℕ) → Enough k left ahead → ahead + left' ≡ ahead' + left → left ≡ left' + 1 → Enough (k + 1) left' ahead'
+enough_less : (k left left' ahead ahead' : ℕ)
+    → Enough k left ahead → ahead + left' ≡ ahead' + left → left ≡ left' + 1 → Enough (k + 1) left' ahead'
 enough_less k left left' ahead ahead' (inl e) count same = inl (omega arith)
 enough_less k left left' ahead ahead' (inr e) count same = inr (omega arith)
 
@@ -297,7 +325,8 @@ alone g = simp same
 
 -- ONE STEP GO OF p
 
-module _ (v : Plan) (called : ℕ → ℕ) (old new : State) (r : Reply) (next : IsNext v.epoch v.next) (few : v.sizes.collect_bags ≤ 64) (some : 0 < v.sizes.collect_bags)
+module _ (v : Plan) (called : ℕ → ℕ) (old new : State) (r : Reply) (next : IsNext v.epoch v.next)
+    (few : v.sizes.collect_bags ≤ 64) (some : 0 < v.sizes.collect_bags)
     (h : IsUnderWay v called old (ahead_of old v.p)) where
   abbrev seat : WorldSeat
   seat = seat_of old v.p
@@ -320,13 +349,16 @@ module _ (v : Plan) (called : ℕ → ℕ) (old new : State) (r : Reply) (next :
   abbrev aside : State
   aside = with_places new old.places old.seen old.ahead old.room
 
-  others_along : (s : State) (to : WorldSeat) → ((q : ℕ) → seat_of s q ≡ seat_of (with_seat old v.p to) q) → (q : ℕ) → q ≢ v.p → IsStill (seat_of s q)
+  others_along : (s : State) (to : WorldSeat)
+      → ((q : ℕ) → seat_of s q ≡ seat_of (with_seat old v.p to) q) → (q : ℕ) → q ≢ v.p → IsStill (seat_of s q)
   others_along s to wrote q other = subst IsStill (sym (wrote q ∙ seat_other old v.p q to other)) (h.others q other)
 
   -- p's seat, the epoch and the bags after a step that goes on
-  goes_to : (word : Word) (n : Machine Deferral) (e : ℕ) (q : List Bag) (heap : Heap) → word ≢ Free → ends_call r ≡ false
+  goes_to : (word : Word) (n : Machine Deferral) (e : ℕ) (q : List Bag) (heap : Heap)
+      → word ≢ Free → ends_call r ≡ false
       → Known v after e q ahead word n n.stage
-      → aside ≡ record (with_seat old v.p (with_word seat word n)) { epoch = e; queued = q; heap = heap } → Comes v after r new ahead
+      → aside ≡ record (with_seat old v.p (with_word seat word n)) { epoch = e; queued = q; heap = heap }
+      → Comes v after r new ahead
   goes_to word n e q heap free on known did = inl (
     on,
     record {
@@ -336,8 +368,10 @@ module _ (v : Plan) (called : ℕ → ℕ) (old new : State) (r : Reply) (next :
       taken = λ f. free (ap (λ (st : WorldSeat). st.word) (sym here) ∙ f);
       progress = ap (λ (st : WorldSeat). st.progress) here ∙ h.progress;
       guards = ap (λ (st : WorldSeat). st.guards) here ∙ h.guards;
-      known = subst (λ (epoch : ℕ). Known v after epoch new.queued ahead (position_word new v.p) (seat_of new v.p).machine (seat_of new v.p).machine.stage) (sym (ap (λ (s : State). s.epoch) did))
-          (subst (λ (bags : List Bag). Known v after e bags ahead (position_word new v.p) (seat_of new v.p).machine (seat_of new v.p).machine.stage) (sym (ap (λ (s : State). s.queued) did))
+      known = subst (λ (epoch : ℕ). Known v after epoch new.queued ahead (position_word new v.p)
+          (seat_of new v.p).machine (seat_of new v.p).machine.stage) (sym (ap (λ (s : State). s.epoch) did))
+          (subst (λ (bags : List Bag). Known v after e bags ahead (position_word new v.p) (seat_of new v.p).machine
+          (seat_of new v.p).machine.stage) (sym (ap (λ (s : State). s.queued) did))
           (subst (λ (st : WorldSeat). Known v after e q ahead st.word st.machine st.machine.stage) (sym here) known));
     },
   )
@@ -357,7 +391,8 @@ module _ (v : Plan) (called : ℕ → ℕ) (old new : State) (r : Reply) (next :
   abbrev Fine : Stage → Type 0
   Fine t = HandAt m.hand t × KnowsAt v old.epoch left ahead w t
 
-  known_at : (t : Stage) → ((u : ℕ) → calls_of u r ≡ 0) → Fine t → Known v after old.epoch old.queued ahead w (with_stage m t) t
+  known_at : (t : Stage) → ((u : ℕ) → calls_of u r ≡ 0) → Fine t
+      → Known v after old.epoch old.queued ahead w (with_stage m t) t
   known_at t quiet fine = record {
     held = h.known.held;
     full = h.known.full;
@@ -371,42 +406,55 @@ module _ (v : Plan) (called : ℕ → ℕ) (old new : State) (r : Reply) (next :
   }
 
   -- only the stage changes
-  staged : (t : Stage) → Fine t → (r ≡ Stepped) × (aside ≡ with_seat old v.p (with_machine seat (with_stage m t))) → Comes v after r new ahead
-  staged t fine did = goes_to w (with_stage m t) old.epoch old.queued old.heap h.taken (ap ends_call did.0) (known_at t (λ u. ap (calls_of u) did.0) fine) did.1
+  staged : (t : Stage) → Fine t → (r ≡ Stepped) × (aside ≡ with_seat old v.p (with_machine seat (with_stage m t)))
+      → Comes v after r new ahead
+  staged t fine did = goes_to w (with_stage m t) old.epoch old.queued old.heap h.taken (ap ends_call did.0)
+      (known_at t (λ u. ap (calls_of u) did.0) fine) did.1
 
   -- where all bags are ahead of a collection that begins at this stage
   abbrev FineAhead : Stage → Type 0
   FineAhead t = AllAhead (expiry_of t) (outlook_of new v.p) → Fine t
 
-  enough : (x : ℕ) → x ≡ v.next → new.queued ≡ old.queued → AllAhead x (outlook_of new v.p) → v.bound + 2 ≤ v.next → Enough 0 left ahead
+  enough : (x : ℕ) → x ≡ v.next → new.queued ≡ old.queued → AllAhead x (outlook_of new v.p) → v.bound + 2 ≤ v.next
+      → Enough 0 left ahead
   enough x is same all bound =
       enough_at_first left ahead
-      (all (subst (AllExpired x) (sym same) (all_expired v.bound x old.queued (omega (arith, bound, is)) h.known.seals)) ∙ ap (λ (bags : List Bag). min 64 (length bags)) same)
+      (all (subst (AllExpired x) (sym same) (all_expired v.bound x old.queued (omega (arith, bound, is)) h.known.seals))
+      ∙ ap (λ (bags : List Bag). min 64 (length bags)) same)
 
-  behind : (e k : ℕ) → m.hand ≡ [] → Collects v.call → w ≡ Pinned v.epoch → e ≡ old.epoch → (e ≡ v.epoch) ⊎ ((e ≡ v.next) × (v.next ≡ v.epoch + 1) × (k < v.p)) → left ≤ v.bags
+  behind : (e k : ℕ) → m.hand ≡ [] → Collects v.call → w ≡ Pinned v.epoch → e ≡ old.epoch
+      → (e ≡ v.epoch) ⊎ ((e ≡ v.next) × (v.next ≡ v.epoch + 1) × (k < v.p)) → left ≤ v.bags
       → new.queued ≡ old.queued
       → FineAhead (if (k + 1 == m.sizes.positions) then scanned e else Scan e (k + 1))
-  behind e k hand coll word epoch (inl side) less same_bags = by_test FineAhead (k + 1 == m.sizes.positions) (scanned e) (Scan e (k + 1))
+  behind e k hand coll word epoch (inl side) less same_bags =
+      by_test FineAhead (k + 1 == m.sizes.positions) (scanned e) (Scan e (k + 1))
       (λ t. by_test FineAhead (e == 2 ^ 63 - 1) (Take e 0) (Advance e)
       (λ top. let same : v.next ≡ v.epoch = at_top v.epoch v.next next (sym side ∙ eq_true e (2 ^ 63 - 1) top) in
       λ all. (hand, (coll, word, omega arith, omega arith, omega arith, some, enough e (omega arith) same_bags all)))
-      (λ low. let more : v.next ≡ v.epoch + 1 = below_top v.epoch v.next next (λ x. eq_false e (2 ^ 63 - 1) low (side ∙ x)) in
+      (λ low.
+      let more : v.next ≡ v.epoch + 1 = below_top v.epoch v.next next (λ x. eq_false e (2 ^ 63 - 1) low (side ∙ x)) in
       λ all. (hand, (coll, word, omega arith, less))))
       (λ f all. (hand, (coll, word, epoch, inl side, less)))
-  behind e k hand coll word epoch (inr side) less same_bags = by_test FineAhead (k + 1 == m.sizes.positions) (scanned e) (Scan e (k + 1))
+  behind e k hand coll word epoch (inr side) less same_bags =
+      by_test FineAhead (k + 1 == m.sizes.positions) (scanned e) (Scan e (k + 1))
       (λ t. let last : k + 1 ≡ m.sizes.positions = eq_true (k + 1) m.sizes.positions t in
       absurd (omega (arith, h.there, side.2, h.positions, ap (λ (z : Sizes). z.positions) h.known.sizes)))
       (λ f all. (hand, (coll, word, epoch, inr (side.0, side.1, omega (arith, side.2)), less)))
 
-  side_at : (e k : ℕ) → k ≢ v.p → (e ≡ v.epoch) ⊎ ((e ≡ v.next) × (v.next ≡ v.epoch + 1) × (k ≤ v.p)) → (e ≡ v.epoch) ⊎ ((e ≡ v.next) × (v.next ≡ v.epoch + 1) × (k < v.p))
+  side_at : (e k : ℕ) → k ≢ v.p → (e ≡ v.epoch) ⊎ ((e ≡ v.next) × (v.next ≡ v.epoch + 1) × (k ≤ v.p))
+      → (e ≡ v.epoch) ⊎ ((e ≡ v.next) × (v.next ≡ v.epoch + 1) × (k < v.p))
   side_at e k ne (inl s) = inl s
   side_at e k ne (inr s) = inr (s.0, s.1, omega (arith, s.2))
 
   -- a word that doesn't hold the scan up
-  passes : (e k x : ℕ) → holds_up e x ≡ false → FineAhead (if (k + 1 == m.sizes.positions) then scanned e else Scan e (k + 1)) → FineAhead (past_word m.sizes.positions e k x)
-  passes e k x free fine = subst (λ (b : Bool). FineAhead (if b then Take e 0 else (if (k + 1 == m.sizes.positions) then scanned e else Scan e (k + 1)))) (sym free) fine
+  passes : (e k x : ℕ)
+      → holds_up e x ≡ false → FineAhead (if (k + 1 == m.sizes.positions) then scanned e else Scan e (k + 1))
+      → FineAhead (past_word m.sizes.positions e k x)
+  passes e k x free fine = subst (λ (b : Bool). FineAhead (if b then Take e 0
+      else (if (k + 1 == m.sizes.positions) then scanned e else Scan e (k + 1)))) (sym free) fine
 
-  looked : (e k : ℕ) (x : Word) → position_word old k ≡ x → m.hand ≡ [] → Collects v.call → w ≡ Pinned v.epoch → e ≡ old.epoch → (e ≡ v.epoch) ⊎ ((e ≡ v.next) × (v.next ≡ v.epoch + 1) × (k ≤ v.p)) → left ≤ v.bags
+  looked : (e k : ℕ) (x : Word) → position_word old k ≡ x → m.hand ≡ [] → Collects v.call → w ≡ Pinned v.epoch
+      → e ≡ old.epoch → (e ≡ v.epoch) ⊎ ((e ≡ v.next) × (v.next ≡ v.epoch + 1) × (k ≤ v.p)) → left ≤ v.bags
       → new.queued ≡ old.queued
       → FineAhead (past_word m.sizes.positions e k (word_number x))
   looked e k (Pinned i) eq hand coll word epoch side less same_bags = elim (same_or_other k v.p) [
@@ -416,12 +464,15 @@ module _ (v : Plan) (called : ℕ → ℕ) (old new : State) (r : Reply) (next :
     | inr ne ↦ absurd (cc ((h.others k ne).0))
   ]
     where
-      own : (e i k : ℕ) → m.hand ≡ [] → i ≡ v.epoch → Collects v.call → w ≡ Pinned v.epoch → e ≡ old.epoch → (e ≡ v.epoch) ⊎ ((e ≡ v.next) × (v.next ≡ v.epoch + 1) × (k ≤ v.p)) → left ≤ v.bags
+      own : (e i k : ℕ) → m.hand ≡ [] → i ≡ v.epoch → Collects v.call → w ≡ Pinned v.epoch → e ≡ old.epoch
+          → (e ≡ v.epoch) ⊎ ((e ≡ v.next) × (v.next ≡ v.epoch + 1) × (k ≤ v.p)) → left ≤ v.bags
           → new.queued ≡ old.queued
           → FineAhead (past_word m.sizes.positions e k (2 * i + 1))
       own e i k hand same coll word epoch (inl side) less same_bags =
-          passes e k (2 * i + 1) (holds_pinned e i (same ∙ sym side)) (behind e k hand coll word epoch (inl side) less same_bags)
-      own e i k hand same coll word epoch (inr side) less same_bags = by_test FineAhead (holds_up e (2 * i + 1)) (Take e 0) _
+          passes e k (2 * i + 1) (holds_pinned e i (same ∙ sym side))
+          (behind e k hand coll word epoch (inl side) less same_bags)
+      own e i k hand same coll word epoch (inr side) less same_bags =
+          by_test FineAhead (holds_up e (2 * i + 1)) (Take e 0) _
           (λ up all. (hand, (coll, word, side.0, sym epoch ∙ side.0, omega arith, some, enough e side.0 same_bags all)))
           (λ free. absurd (not_same (unless free)))
         where
@@ -431,11 +482,13 @@ module _ (v : Plan) (called : ℕ → ℕ) (old new : State) (r : Reply) (next :
           not_same : i ≡ e → ⊥
           not_same equal = omega (arith, side.0, side.1)
   looked e k Free eq hand coll word epoch side less same_bags = elim (same_or_other k v.p) [
-    | inl same ↦ let here : position_word old k ≡ position_word old v.p = ap (λ q. position_word old q) same in absurd (cc (eq, here, word))
+    | inl same ↦ let here : position_word old k ≡ position_word old v.p = ap (λ q. position_word old q) same in
+        absurd (cc (eq, here, word))
     | inr ne ↦ passes e k 0 refl (behind e k hand coll word epoch (side_at e k ne side) less same_bags)
   ]
   looked e k Unpinned eq hand coll word epoch side less same_bags = elim (same_or_other k v.p) [
-    | inl same ↦ let here : position_word old k ≡ position_word old v.p = ap (λ q. position_word old q) same in absurd (cc (eq, here, word))
+    | inl same ↦ let here : position_word old k ≡ position_word old v.p = ap (λ q. position_word old q) same in
+        absurd (cc (eq, here, word))
     | inr ne ↦ passes e k 2 refl (behind e k hand coll word epoch (side_at e k ne side) less same_bags)
   ]
 
@@ -443,13 +496,16 @@ module _ (v : Plan) (called : ℕ → ℕ) (old new : State) (r : Reply) (next :
   ended_stage coll = ap (λ (a : Action). after_collect a m.held) h.known.action ∙ to_end v.call m.held coll
 
   -- after the last job of a bag, or at its first
-  after_jobs : (x k e len : ℕ) (jobs : List Deferral) → Collects v.call → w ≡ Pinned v.epoch → x ≡ v.next → e ≡ v.next → len + (k + 1) ≤ v.bags → k < v.sizes.collect_bags
+  after_jobs : (x k e len : ℕ) (jobs : List Deferral) → Collects v.call → w ≡ Pinned v.epoch → x ≡ v.next → e ≡ v.next
+      → len + (k + 1) ≤ v.bags → k < v.sizes.collect_bags
       → (is_collecting (after_job m x k jobs) ≡ true → v.bound + 2 ≤ v.next → Enough (k + 1) len ahead)
       → HandAt jobs (after_job m x k jobs) × KnowsAt v e len ahead w (after_job m x k jobs)
-  after_jobs x k e len (job ∷ jobs) coll word expiry epoch less below enough = (tt, (coll, word, expiry, epoch, less, below, enough refl))
+  after_jobs x k e len (job ∷ jobs) coll word expiry epoch less below enough =
+      (tt, (coll, word, expiry, epoch, less, below, enough refl))
   after_jobs x k e len [] coll word expiry epoch less below enough =
       let same : m.sizes.collect_bags ≡ v.sizes.collect_bags = ap (λ (z : Sizes). z.collect_bags) h.known.sizes in
-      by_test (λ s. (is_collecting s ≡ true → v.bound + 2 ≤ v.next → Enough (k + 1) len ahead) → HandAt [] s × KnowsAt v e len ahead w s) (k + 1 == m.sizes.collect_bags) (after_collect m.action m.held) (Take x (k + 1))
+      by_test (λ s. (is_collecting s ≡ true → v.bound + 2 ≤ v.next → Enough (k + 1) len ahead) → HandAt [] s
+      × KnowsAt v e len ahead w s) (k + 1 == m.sizes.collect_bags) (after_collect m.action m.held) (Take x (k + 1))
       (λ t on. let all : k + 1 ≡ m.sizes.collect_bags = eq_true (k + 1) m.sizes.collect_bags t in
       subst (λ s. HandAt [] s × KnowsAt v e len ahead w s) (sym (ended_stage coll))
       (refl, collected v e len w v.call next coll word epoch (omega arith) (λ bound. omega arith)))
@@ -468,19 +524,26 @@ module _ (v : Plan) (called : ℕ → ℕ) (old new : State) (r : Reply) (next :
   ]
 
   -- the stage that p's machine is at after the step
-  stage_now : (n : Machine Deferral) (word : Word) → ((q : ℕ) → seat_of new q ≡ seat_of (with_seat old v.p (with_word seat word n)) q) → (seat_of new v.p).machine.stage ≡ n.stage
-  stage_now n word wrote = ap (λ (st : WorldSeat). st.machine.stage) (wrote v.p ∙ seat_written old v.p (with_word seat word n) h.there)
+  stage_now : (n : Machine Deferral) (word : Word)
+      → ((q : ℕ) → seat_of new q ≡ seat_of (with_seat old v.p (with_word seat word n)) q)
+      → (seat_of new v.p).machine.stage ≡ n.stage
+  stage_now n word wrote =
+      ap (λ (st : WorldSeat). st.machine.stage) (wrote v.p ∙ seat_written old v.p (with_word seat word n) h.there)
 
-  counts : (n : Machine Deferral) → (seat_of new v.p).machine.stage ≡ n.stage → is_collecting n.stage ≡ true → (x : ℕ) (queued : List Bag) → new.queued ≡ queued
+  counts : (n : Machine Deferral) → (seat_of new v.p).machine.stage ≡ n.stage → is_collecting n.stage ≡ true
+      → (x : ℕ) (queued : List Bag) → new.queued ≡ queued
       → FindsFor (Some (TakeBag x)) → ahead_of old v.p + length queued ≡ ahead + left
   counts n at on x queued now finds =
-      subst (λ (bags : List Bag). ahead_of old v.p + length bags ≡ ahead + left) now (finds.counted (ap is_collecting at ∙ on))
+      subst (λ (bags : List Bag). ahead_of old v.p + length bags ≡ ahead + left) now
+      (finds.counted (ap is_collecting at ∙ on))
 
   -- a step of a collection
   takes : (x k : ℕ) → m.stage ≡ Take x k → KnowsAt v old.epoch left (ahead_of old v.p) w (Take x k) → m.hand ≡ []
-      → (step : TakeStep) (jobs : List Deferral) (queued : List Bag) → r ≡ Stepped → TakesHand x old.queued step queued jobs
+      → (step : TakeStep) (jobs : List Deferral) (queued : List Bag) → r ≡ Stepped
+      → TakesHand x old.queued step queued jobs
       → FindsFor (Some (TakeBag x))
-      → aside ≡ record (with_seat old v.p (with_machine seat (took_heard m (Take x k) step jobs))) { queued = queued } → Comes v after r new ahead
+      → aside ≡ record (with_seat old v.p (with_machine seat (took_heard m (Take x k) step jobs))) { queued = queued }
+      → Comes v after r new ahead
   takes x k stage at hand TakeAgain jobs queued told same finds did =
       goes_to w m old.epoch queued old.heap h.taken (ap ends_call told) (record {
         held = h.known.held;
@@ -499,12 +562,14 @@ module _ (v : Plan) (called : ℕ → ℕ) (old new : State) (r : Reply) (next :
           omega (arith, at.4, ap length same),
           at.5,
           λ bound. enough_same k left (length queued) _ _ (at.6 bound)
-              (counts m (stage_now m w (λ q. ap (λ (s : State). seat_of s q) did)) (ap is_collecting stage) x queued (ap (λ (s : State). s.queued) did) finds) (ap length same),
+              (counts m (stage_now m w (λ q. ap (λ (s : State). seat_of s q) did)) (ap is_collecting stage) x queued
+              (ap (λ (s : State). s.queued) did) finds) (ap length same),
         );
       }) did
   takes x k stage at hand Empty jobs queued told same finds did =
       let now : new.queued ≡ queued = ap (λ (s : State). s.queued) did in
-      goes_to w (with_stage m (after_collect m.action m.held)) old.epoch queued old.heap h.taken (ap ends_call told) (record {
+      goes_to w (with_stage m (after_collect m.action m.held)) old.epoch queued old.heap h.taken
+      (ap ends_call told) (record {
         held = h.known.held;
         full = h.known.full;
         action = h.known.action;
@@ -515,7 +580,8 @@ module _ (v : Plan) (called : ℕ → ℕ) (old new : State) (r : Reply) (next :
         placed = λ u. omega (arith, h.known.placed u, ap (times_queued u) same, ap (calls_of u) told);
         at = subst (λ s. KnowsAt v old.epoch (length queued) ahead w s) (sym (ended_stage at.0))
             (collected v old.epoch (length queued) w v.call next at.0 at.1 at.3 (omega (arith, at.4, ap length same))
-            (λ bound. let none : left ≡ 0 = enough_none k left (ahead_of old v.p) (at.6 bound) (finds.none is_over (ap length (now ∙ same))) (omega (arith, at.5)) in
+            (λ bound. let none : left ≡ 0 = enough_none k left (ahead_of old v.p) (at.6 bound) (finds.none is_over
+            (ap length (now ∙ same))) (omega (arith, at.5)) in
             omega (arith, ap length same)));
       }) did
     where
@@ -527,7 +593,8 @@ module _ (v : Plan) (called : ℕ → ℕ) (old new : State) (r : Reply) (next :
       let fewer = one_less old.queued queued bag inserted in
       let fine = after_jobs x k old.epoch (length queued) jobs at.0 at.1 at.2 at.3 (omega (arith, fewer, at.4)) at.5
       (λ on bound. enough_less k left (length queued) _ _ (at.6 bound)
-      (counts (took_heard m (Take x k) Got jobs) (stage_now (took_heard m (Take x k) Got jobs) w (λ q. ap (λ (s : State). seat_of s q) did)) on x queued (ap (λ (s : State). s.queued) did) finds) fewer) in
+      (counts (took_heard m (Take x k) Got jobs) (stage_now (took_heard m (Take x k) Got jobs) w
+      (λ q. ap (λ (s : State). seat_of s q) did)) on x queued (ap (λ (s : State). s.queued) did) finds) fewer) in
       goes_to w (took_heard m (Take x k) Got jobs) old.epoch queued old.heap h.taken (ap ends_call told) (record {
         held = h.known.held;
         full = h.known.full;
@@ -536,19 +603,30 @@ module _ (v : Plan) (called : ℕ → ℕ) (old new : State) (r : Reply) (next :
         counted = h.known.counted;
         hand = fine.0;
         seals = sealed_less v.bound old.queued queued bag inserted h.known.seals;
-        placed = λ u. omega (arith, h.known.placed u, queued_put u queued old.queued bag inserted, ap (times u) its, ap (times u) hand, ap (calls_of u) told);
+        placed = λ u. omega (
+          arith,
+          h.known.placed u,
+          queued_put u queued old.queued bag inserted,
+          ap (times u) its,
+          ap (times u) hand,
+          ap (calls_of u) told,
+        );
         at = fine.1;
       }) did
 
   calls : (x k : ℕ) → KnowsAt v old.epoch left (ahead_of old v.p) w (Calling x k)
-      → (job : Deferral) (jobs : List Deferral) → m.hand ≡ job ∷ jobs → r ≡ CalledReply job.ticket (outcome_of old.heap job.removes)
+      → (job : Deferral) (jobs : List Deferral) → m.hand ≡ job ∷ jobs
+      → r ≡ CalledReply job.ticket (outcome_of old.heap job.removes)
       → FindsFor (Some CallJob)
-      → aside ≡ record (with_seat old v.p (with_machine seat (gives m (Calling x k) jobs))) { heap = heap_after old.heap job.removes }
+      → aside ≡ record (with_seat old v.p
+      (with_machine seat (gives m (Calling x k) jobs))) { heap = heap_after old.heap job.removes }
       → Comes v after r new ahead
   calls x k at job jobs hand told finds did =
       let fine = after_jobs x k old.epoch left jobs at.0 at.1 at.2 at.3 at.4 at.5
-      (λ on bound. subst (Enough (k + 1) left) (sym (finds (ap is_collecting (stage_now (gives m (Calling x k) jobs) w (λ q. ap (λ (s : State). seat_of s q) did)) ∙ on))) (at.6 bound)) in
-      goes_to w (gives m (Calling x k) jobs) old.epoch old.queued (heap_after old.heap job.removes) h.taken (ap ends_call told) (record {
+      (λ on bound. subst (Enough (k + 1) left) (sym (finds (ap is_collecting
+      (stage_now (gives m (Calling x k) jobs) w (λ q. ap (λ (s : State). seat_of s q) did)) ∙ on))) (at.6 bound)) in
+      goes_to w (gives m (Calling x k) jobs) old.epoch old.queued (heap_after old.heap job.removes) h.taken
+      (ap ends_call told) (record {
         held = h.known.held;
         full = h.known.full;
         action = h.known.action;
@@ -561,8 +639,10 @@ module _ (v : Plan) (called : ℕ → ℕ) (old new : State) (r : Reply) (next :
       }) did
 
   -- the end of the call
-  rests_at : (guards : List ℕ) (paused : Option ℕ) → guards ≡ guards_out v.call → guards_after m.action m.guards ≡ length (guards_out v.call)
-      → ((u : ℕ) → calls_of u r ≡ 0) → m.hand ≡ [] → aside ≡ with_seat old v.p (with_guards seat guards paused) → Rests v.p v.sizes v.held (guards_out v.call) v.bound v.total after new × (position_word new v.p ≡ w)
+  rests_at : (guards : List ℕ) (paused : Option ℕ)
+      → guards ≡ guards_out v.call → guards_after m.action m.guards ≡ length (guards_out v.call)
+      → ((u : ℕ) → calls_of u r ≡ 0) → m.hand ≡ [] → aside ≡ with_seat old v.p (with_guards seat guards paused)
+      → Rests v.p v.sizes v.held (guards_out v.call) v.bound v.total after new × (position_word new v.p ≡ w)
   rests_at guards paused out counted quiet hand did = (
     record {
       there = subst (λ (k : ℕ). v.p < k) (sym as_many) h.there;
@@ -595,50 +675,64 @@ module _ (v : Plan) (called : ℕ → ℕ) (old new : State) (r : Reply) (next :
       bags : new.queued ≡ old.queued
       bags = ap (λ (s : State). s.queued) did
 
-  ends_with : (guards : List ℕ) (paused : Option ℕ) → guards ≡ guards_out v.call → guards_after m.action m.guards ≡ length (guards_out v.call)
-      → After v old.epoch left w v.call → m.hand ≡ [] → r ≡ told_of v.call v.full → aside ≡ with_seat old v.p (with_guards seat guards paused) → Comes v after r new ahead
+  ends_with : (guards : List ℕ) (paused : Option ℕ)
+      → guards ≡ guards_out v.call → guards_after m.action m.guards ≡ length (guards_out v.call)
+      → After v old.epoch left w v.call → m.hand ≡ [] → r ≡ told_of v.call v.full
+      → aside ≡ with_seat old v.p (with_guards seat guards paused) → Comes v after r new ahead
   ends_with guards paused out counted at hand told did =
-      let rested = rests_at guards paused out counted (λ u. ap (calls_of u) told ∙ told_calls u v.call v.full) hand did in
+      let rested = rests_at guards paused out counted
+      (λ u. ap (calls_of u) told ∙ told_calls u v.call v.full) hand did in
       inr (
         ap ends_call told ∙ told_ends v.call v.full,
         record {
           rests = rested.0;
-          after = subst (λ (e : ℕ). After v e (length new.queued) (position_word new v.p) v.call) (sym (ap (λ (s : State). s.epoch) did))
-              (subst (λ (bags : List Bag). After v old.epoch (length bags) (position_word new v.p) v.call) (sym (ap (λ (s : State). s.queued) did))
+          after = subst (λ (e : ℕ). After v e (length new.queued) (position_word new v.p) v.call)
+              (sym (ap (λ (s : State). s.epoch) did))
+              (subst (λ (bags : List Bag). After v old.epoch (length bags) (position_word new v.p) v.call)
+              (sym (ap (λ (s : State). s.queued) did))
               (subst (λ (word : Word). After v old.epoch left word v.call) (sym rested.1) at));
           told = told;
         },
       )
 
-  ends : After v old.epoch left w v.call → m.hand ≡ [] → r ≡ end_reply v.call seat → aside ≡ with_seat old v.p (ended_seat v.call seat) → Comes v after r new ahead
+  ends : After v old.epoch left w v.call → m.hand ≡ [] → r ≡ end_reply v.call seat
+      → aside ≡ with_seat old v.p (ended_seat v.call seat) → Comes v after r new ahead
   ends at hand told did = by_call v.call refl told did
     where
-      counted_by : (a : Action) → m.action ≡ a → (n : ℕ) → m.guards ≡ n → guards_after m.action m.guards ≡ guards_after a n
+      counted_by : (a : Action)
+          → m.action ≡ a → (n : ℕ) → m.guards ≡ n → guards_after m.action m.guards ≡ guards_after a n
       counted_by a at n is = ap₂ guards_after at is
 
-      by_call : (c : Call) → v.call ≡ c → r ≡ end_reply c seat → aside ≡ with_seat old v.p (ended_seat c seat) → Comes v after r new ahead
+      by_call : (c : Call) → v.call ≡ c → r ≡ end_reply c seat → aside ≡ with_seat old v.p (ended_seat c seat)
+          → Comes v after r new ahead
       by_call Pin is told did = ends_with _ _
           (ap (λ (gs : List ℕ). gs ++ lowest gs ∷ []) none ∙ ap guards_out (sym is))
-          (counted_by PinAction (h.known.action ∙ ap action_of is) 0 (h.known.counted ∙ ap (λ (c : Call). length (guards_in c)) is) ∙ ap (λ (c : Call). length (guards_out c)) (sym is))
-          at hand (told ∙ ap (λ (gs : List ℕ). Done (Guard (lowest gs))) none ∙ ap (λ (c : Call). told_of c v.full) (sym is)) did
+          (counted_by PinAction (h.known.action ∙ ap action_of is) 0 (h.known.counted
+          ∙ ap (λ (c : Call). length (guards_in c)) is) ∙ ap (λ (c : Call). length (guards_out c)) (sym is))
+          at hand (told ∙ ap (λ (gs : List ℕ). Done (Guard (lowest gs))) none
+          ∙ ap (λ (c : Call). told_of c v.full) (sym is)) did
         where
           none : seat.guards ≡ []
           none = h.guards ∙ ap guards_in is
       by_call (Flush (Some g)) is told did = ends_with _ _
           (h.guards ∙ ap guards_in is ∙ ap guards_out (sym is))
-          (counted_by FlushAction (h.known.action ∙ ap action_of is) 1 (h.known.counted ∙ ap (λ (c : Call). length (guards_in c)) is) ∙ ap (λ (c : Call). length (guards_out c)) (sym is))
+          (counted_by FlushAction (h.known.action ∙ ap action_of is) 1 (h.known.counted
+          ∙ ap (λ (c : Call). length (guards_in c)) is) ∙ ap (λ (c : Call). length (guards_out c)) (sym is))
           at hand (told ∙ ap full_or_done h.known.full ∙ ap (λ (c : Call). told_of c v.full) (sym is)) did
       by_call (Flush None) is told did = ends_with _ _
           (h.guards ∙ ap guards_in is ∙ ap guards_out (sym is))
-          (counted_by FlushAction (h.known.action ∙ ap action_of is) 0 (h.known.counted ∙ ap (λ (c : Call). length (guards_in c)) is) ∙ ap (λ (c : Call). length (guards_out c)) (sym is))
+          (counted_by FlushAction (h.known.action ∙ ap action_of is) 0 (h.known.counted
+          ∙ ap (λ (c : Call). length (guards_in c)) is) ∙ ap (λ (c : Call). length (guards_out c)) (sym is))
           at hand (told ∙ ap full_or_done h.known.full ∙ ap (λ (c : Call). told_of c v.full) (sym is)) did
       by_call (Unpin (Some g)) is told did = ends_with _ _
           (ap (without g) (h.guards ∙ ap guards_in is) ∙ alone g ∙ ap guards_out (sym is))
-          (counted_by UnpinAction (h.known.action ∙ ap action_of is) 1 (h.known.counted ∙ ap (λ (c : Call). length (guards_in c)) is) ∙ ap (λ (c : Call). length (guards_out c)) (sym is))
+          (counted_by UnpinAction (h.known.action ∙ ap action_of is) 1 (h.known.counted
+          ∙ ap (λ (c : Call). length (guards_in c)) is) ∙ ap (λ (c : Call). length (guards_out c)) (sym is))
           at hand (told ∙ ap (λ (c : Call). told_of c v.full) (sym is)) did
       by_call (Unpin None) is told did = ends_with _ _
           (h.guards ∙ ap guards_in is ∙ ap guards_out (sym is))
-          (counted_by UnpinAction (h.known.action ∙ ap action_of is) 0 (h.known.counted ∙ ap (λ (c : Call). length (guards_in c)) is) ∙ ap (λ (c : Call). length (guards_out c)) (sym is))
+          (counted_by UnpinAction (h.known.action ∙ ap action_of is) 0 (h.known.counted
+          ∙ ap (λ (c : Call). length (guards_in c)) is) ∙ ap (λ (c : Call). length (guards_out c)) (sym is))
           at hand (told ∙ ap (λ (c : Call). told_of c v.full) (sym is)) did
       by_call (Repin g) is told did = absurd (subst (After v old.epoch left w) is at)
       by_call (Pause g) is told did = absurd (subst (After v old.epoch left w) is at)
@@ -653,7 +747,8 @@ module _ (v : Plan) (called : ℕ → ℕ) (old new : State) (r : Reply) (next :
   go Resting stage k finds did = absurd k.at
   go LoadPin stage k finds did = staged (StorePin old.epoch) (k.hand, (k.at.0, k.at.1, k.at.1, k.at.2)) did
   go (StorePin e) stage k finds did =
-      goes_to (Pinned e) (hears m (StorePin e) Stored) old.epoch old.queued old.heap (λ x. absurd (cc)) (ap ends_call did.0) (record {
+      goes_to (Pinned e) (hears m (StorePin e) Stored) old.epoch old.queued old.heap (λ x. absurd (cc))
+      (ap ends_call did.0) (record {
         held = k.held;
         full = k.full;
         action = k.action;
@@ -664,9 +759,11 @@ module _ (v : Plan) (called : ℕ → ℕ) (old new : State) (r : Reply) (next :
         placed = λ u. omega (arith, k.placed u, ap (calls_of u) did.0);
         at = (k.at.0, ap Pinned k.at.1, k.at.2, k.at.3);
       }) did.1
-  go ReloadPin stage k finds did = staged (after_pin m) (by_test Fine (m.pins == 1) LoadScan (after_collect m.action m.held)
+  go ReloadPin stage k finds did =
+      staged (after_pin m) (by_test Fine (m.pins == 1) LoadScan (after_collect m.action m.held)
       (λ t. (k.hand, (pins, k.at.1, inl k.at.2, k.at.3)))
-      (λ f. subst Fine (sym (ended_stage pins)) (k.hand, subst (After v old.epoch left w) (sym k.at.0) (k.at.1, inl k.at.2, k.at.3)))) did
+      (λ f. subst Fine (sym (ended_stage pins))
+      (k.hand, subst (After v old.epoch left w) (sym k.at.0) (k.at.1, inl k.at.2, k.at.3)))) did
     where
       pins : Collects v.call
       pins = subst Collects (sym k.at.0) tt
@@ -676,8 +773,11 @@ module _ (v : Plan) (called : ℕ → ℕ) (old new : State) (r : Reply) (next :
       near (inl x) = inl x
       near (inr x) = inr (x.0, x.1, omega arith)
   go (Scan e j) stage k finds did = staged (past_word m.sizes.positions e j (word_number (position_word old j)))
-      (looked e j (position_word old j) refl k.hand k.at.0 k.at.1 k.at.2 k.at.3 k.at.4 (ap (λ (s : State). s.queued) did.1)
-      (subst (λ (t : Stage). AllAhead (expiry_of t) (outlook_of new v.p)) (stage_now (with_stage m (past_word m.sizes.positions e j (word_number (position_word old j)))) w (λ q. ap (λ (s : State). seat_of s q) did.1))
+      (looked e j (position_word old j) refl k.hand k.at.0 k.at.1 k.at.2 k.at.3 k.at.4
+      (ap (λ (s : State). s.queued) did.1)
+      (subst (λ (t : Stage). AllAhead (expiry_of t) (outlook_of new v.p))
+      (stage_now (with_stage m (past_word m.sizes.positions e j (word_number (position_word old j)))) w
+      (λ q. ap (λ (s : State). seat_of s q) did.1))
       (finds (none_takes (ap is_taking stage))))) did
   go (Advance e) stage k finds did =
       goes_to w (hears m (Advance e) Stored) (e + 1) old.queued old.heap h.taken (ap ends_call did.0) (record {
@@ -697,15 +797,18 @@ module _ (v : Plan) (called : ℕ → ℕ) (old new : State) (r : Reply) (next :
           omega (arith, k.at.3),
           some,
           enough (e + 1) (sym k.at.2) (ap (λ (s : State). s.queued) did.1)
-              (subst (λ (t : Stage). AllAhead (expiry_of t) (outlook_of new v.p)) (stage_now (hears m (Advance e) Stored) w (λ q. ap (λ (s : State). seat_of s q) did.1))
+              (subst (λ (t : Stage). AllAhead (expiry_of t) (outlook_of new v.p))
+              (stage_now (hears m (Advance e) Stored) w (λ q. ap (λ (s : State). seat_of s q) did.1))
               (finds (none_takes (ap is_taking stage)))),
         );
       }) did.1
   go (Take x j) stage k finds did = takes x j stage k.at k.hand did.0 did.1 did.2 did.3 did.4 finds did.5
   go (Calling x j) stage k finds did = calls x j k.at did.0 did.1 did.2 did.3 finds did.4
   go StoreUnpinned stage k finds did =
-      let over : after_unpin m.action m.full ≡ End = ap (λ (a : Action). after_unpin a m.full) k.action ∙ unpinned_end v.call m.full k.at.0 in
-      goes_to Unpinned (hears m StoreUnpinned Stored) old.epoch old.queued old.heap (λ x. absurd (cc)) (ap ends_call did.0) (record {
+      let over : after_unpin m.action m.full ≡ End = ap (λ (a : Action). after_unpin a m.full) k.action
+      ∙ unpinned_end v.call m.full k.at.0 in
+      goes_to Unpinned (hears m StoreUnpinned Stored) old.epoch old.queued old.heap (λ x. absurd (cc))
+      (ap ends_call did.0) (record {
         held = k.held;
         full = k.full;
         action = k.action;
@@ -714,7 +817,8 @@ module _ (v : Plan) (called : ℕ → ℕ) (old new : State) (r : Reply) (next :
         hand = subst (HandAt m.hand) (sym over) k.hand;
         seals = k.seals;
         placed = λ u. omega (arith, k.placed u, ap (calls_of u) did.0);
-        at = subst (λ s. KnowsAt v old.epoch left ahead Unpinned s) (sym over) (unpinned_after v old.epoch left v.call k.at.0 k.at.1 k.at.2);
+        at = subst (λ s. KnowsAt v old.epoch left ahead Unpinned s) (sym over)
+            (unpinned_after v old.epoch left v.call k.at.0 k.at.1 k.at.2);
       }) did.1
   go End stage k finds did = ends k.at k.hand did.0 did.1
   go LoadSeal stage k finds did = absurd k.at
@@ -733,4 +837,5 @@ module _ (v : Plan) (called : ℕ → ℕ) (old new : State) (r : Reply) (next :
       (subst (λ (now : Progress). DoesGo old v.p seat now r aside) h.progress did.1)
     where
       asked : turn_of seat ≡ ask_at m.stage
-      asked = turn_taken seat.word seat.progress m.stage h.taken ∙ ap (λ (now : Progress). turn_at Unpinned now m.stage) h.progress
+      asked = turn_taken seat.word seat.progress m.stage h.taken
+          ∙ ap (λ (now : Progress). turn_at Unpinned now m.stage) h.progress

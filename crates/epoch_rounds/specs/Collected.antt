@@ -30,7 +30,8 @@ abbrev pub FewAlong : Sizes → (taken called : ℕ → ℕ) → (s new : State)
 FewAlong z taken called s new [] run = Unit {0}
 FewAlong z taken called s new (x ∷ log) (mid, did, run) =
     ((p : ℕ) → IsFew z (taken_after p (taken p) s x.step x.reply mid) (called_after p (called p) x.step x.reply))
-    × FewAlong z (λ p. taken_after p (taken p) s x.step x.reply mid) (λ p. called_after p (called p) x.step x.reply) mid new log run
+    × FewAlong z (λ p. taken_after p (taken p) s x.step x.reply mid)
+    (λ p. called_after p (called p) x.step x.reply) mid new log run
 
 -- at the start of a run
 abbrev pub none_yet : ℕ → ℕ

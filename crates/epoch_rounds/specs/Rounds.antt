@@ -1,5 +1,6 @@
 -- Rounds of one participant whom nobody disturbs, and that they call every job of the bags in the store.
-use Rattle.std.specs.Prelude.{◌≡◌, ◌≢◌, ℕ, zero, suc, ◌+◌, ◌/◌, ◌%◌, ◌^◌, ◌≤◌, min, true, List, [], ◌∷◌, ◌++◌, length, Some}
+use Rattle.std.specs.Prelude.{◌≡◌, ◌≢◌, ℕ, zero, suc, ◌+◌, ◌/◌, ◌%◌, ◌^◌, ◌≤◌, min, true, List, [], ◌∷◌, ◌++◌, length}
+use Rattle.std.specs.Prelude.{Some}
 use Rattle.epoch_machine.specs.declared.machine.Stage.TheVariants.{LoadScan}
 use Rattle.epoch_heap.specs.declared.access.Answer.TheVariants.{Guard, Unit as UnitAnswer}
 use Rattle.epoch_laws.specs.declared.step.Call.{Call}
@@ -34,15 +35,17 @@ pub record IsRound (p : ℕ) (log : List Entry) : Type 0 where
   pub flushing : AllGoOn flushes
   pub unpinning : AllGoOn unpins
   pub ended : ends_call flushed ≡ true
-  pub whole : log ≡ call_to p Pin pins (Done (Guard guard)) ++ (call_to p (Flush (Some guard)) flushes flushed ++ call_to p (Unpin (Some guard)) unpins (Done UnitAnswer))
+  pub whole : log ≡ call_to p Pin pins (Done (Guard guard))
+      ++ (call_to p (Flush (Some guard)) flushes flushed ++ call_to p (Unpin (Some guard)) unpins (Done UnitAnswer))
 
 -- so many rounds, one after the other
 abbrev pub AreRounds : ℕ → ℕ → List Entry → Type 0
 AreRounds p zero log = log ≡ []
-AreRounds p (suc n) log = (first : List Entry) × (others : List Entry) × IsRound p first × AreRounds p n others × (log ≡ first ++ others)
+AreRounds p (suc n) log =
+    (first : List Entry) × (others : List Entry) × IsRound p first × AreRounds p n others × (log ≡ first ++ others)
 
--- A first round whose Flush isn't refused: before it reaches this state, in which its own bag is in the store, if it had
--- one, and the scan begins; and after.
+-- A first round whose Flush isn't refused: before it reaches this state, in which its own bag is in the store, if it
+-- had one, and the scan begins; and after.
 pub record IsFirstRound (p : ℕ) (before : List Entry) (put : State) (after : List Entry) : Type 0 where
   pub guard : ℕ
   pub pins : List Reply
@@ -55,7 +58,8 @@ pub record IsFirstRound (p : ℕ) (before : List Entry) (put : State) (after : L
   pub unpinning : AllGoOn unpins
   pub until : before ≡ call_to p Pin pins (Done (Guard guard)) ++ call_entries p (Flush (Some guard)) (Began ∷ puts)
   pub scans : (seat_of put p).machine.stage ≡ LoadScan
-  pub behind : after ≡ goes_of p (flushes ++ Done UnitAnswer ∷ []) ++ call_to p (Unpin (Some guard)) unpins (Done UnitAnswer)
+  pub behind : after ≡ goes_of p (flushes ++ Done UnitAnswer ∷ [])
+      ++ call_to p (Unpin (Some guard)) unpins (Done UnitAnswer)
 
 -- how many collections take so many bags, each of them so many: their quotient, rounded up
 abbrev pub collections : ℕ → ℕ → ℕ
@@ -66,9 +70,9 @@ pub record CallsAll (bags : List Bag) (log : List Entry) (new : State) : Type 0 
   pub called : (t : ℕ) → times_called t log ≡ times_queued t bags
   pub none_left : new.queued ≡ []
 
--- What a first round comes to whose Flush isn't refused. The run reaches a state in which the round's own bag is in the store,
--- if it had one, and the scan begins. Where as many further rounds follow as the bags take that are in the store then, these
--- rounds call every job of those bags.
+-- What a first round comes to whose Flush isn't refused. The run reaches a state in which the round's own bag is in the
+-- store, if it had one, and the scan begins. Where as many further rounds follow as the bags take that are in the store
+-- then, these rounds call every job of those bags.
 pub record PutsAndCalls (p : ℕ) (s : State) (first others later : List Entry) (new : State) : Type 0 where
   pub put : State
   pub done : State
@@ -79,7 +83,8 @@ pub record PutsAndCalls (p : ℕ) (s : State) (first others later : List Entry) 
   pub reaches : Runs s before put
   pub goes_on : Runs put (after ++ others) done
   pub ends : Runs done later new
-  pub calls_all : AreRounds p (suc (collections (length put.queued) put.sizes.collect_bags)) others → CallsAll put.queued (after ++ others) done
+  pub calls_all : AreRounds p (suc (collections (length put.queued) put.sizes.collect_bags)) others
+      → CallsAll put.queued (after ++ others) done
 
 -- Said of a run from s to new, wherever it begins with such a round of a participant whom nobody disturbs.
 abbrev pub RoundsCallAll : State → List Entry → State → Type 0

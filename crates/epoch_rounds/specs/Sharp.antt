@@ -19,7 +19,8 @@ abbrev pub pair_sizes : Sizes
 pair_sizes = record { positions = 2; bag_jobs = 64; collect_bags = 8 }
 
 -- The last steps of the log are those of a collection of participant 1, for an epoch one past the seal of a bag that
--- stays in the store. In it is the job of ticket 0, which participant 1 deferred, and participant 0 has stayed pinned since.
+-- stays in the store. In it is the job of ticket 0, which participant 1 deferred, and participant 0 has stayed pinned
+-- since.
 pub record IsSharp (fresh : State) (log : List Entry) (new : State) : Type 0 where
   pub bag : Bag
   pub stored : new.queued ≡ bag ∷ []
@@ -48,7 +49,8 @@ pub record EndsCall (p : ℕ) (c : Call) (old : State) (replies : List Reply) (n
   pub run : Runs old (call_entries p c replies) new
   pub ends : EndsAtLast replies
 
--- Two participants register; each pins and unpins, and so the epoch advances twice; both pin; 1 defers a job and flushes.
+-- Two participants register; each pins and unpins, and so the epoch advances twice; both pin; 1 defers a job and
+-- flushes.
 pub record TakesSharpList (fresh : State) (log : List Entry) (new : State) : Type 0 where
   pub s0 : State
   pub s1 : State
@@ -68,7 +70,8 @@ pub record TakesSharpList (fresh : State) (log : List Entry) (new : State) : Typ
   pub r6 : List Reply
   pub r7 : List Reply
   pub r8 : List Reply
-  pub registered : Runs fresh (record { step = Register; reply = first } ∷ record { step = Register; reply = second } ∷ []) s0
+  pub registered : Runs fresh
+      (record { step = Register; reply = first } ∷ record { step = Register; reply = second } ∷ []) s0
   pub one : EndsCall 0 Pin s0 r1 s1
   pub two : EndsCall 0 (Unpin (Some 0)) s1 r2 s2
   pub three : EndsCall 1 Pin s2 r3 s3
@@ -77,9 +80,13 @@ pub record TakesSharpList (fresh : State) (log : List Entry) (new : State) : Typ
   pub six : EndsCall 1 Pin s5 r6 s6
   pub seven : EndsCall 1 (Defer (Some 0)) s6 r7 s7
   pub eight : EndsCall 1 (Flush (Some 0)) s7 r8 new
-  pub whole : log ≡ ((((((((record { step = Register; reply = first } ∷ record { step = Register; reply = second } ∷ []) ++ call_entries 0 Pin r1) ++ call_entries 0 (Unpin (Some 0)) r2) ++ call_entries 1 Pin r3) ++ call_entries 1 (Unpin (Some 0)) r4) ++ call_entries 0 Pin r5) ++ call_entries 1 Pin r6) ++ call_entries 1 (Defer (Some 0)) r7) ++ call_entries 1 (Flush (Some 0)) r8
+  pub whole : log ≡ ((((((((record { step = Register; reply = first } ∷ record { step = Register; reply = second } ∷ [])
+      ++ call_entries 0 Pin r1) ++ call_entries 0 (Unpin (Some 0)) r2) ++ call_entries 1 Pin r3) ++ call_entries 1
+      (Unpin (Some 0)) r4) ++ call_entries 0 Pin r5) ++ call_entries 1 Pin r6) ++ call_entries 1 (Defer (Some 0)) r7)
+      ++ call_entries 1 (Flush (Some 0)) r8
 
--- A new world of two positions and one place, in epoch 0, goes by these steps to such a state; the log is that of its run.
+-- A new world of two positions and one place, in epoch 0, goes by these steps to such a state; the log is that of its
+-- run.
 pub record LeadsToSharp (steps : List Step) : Type 0 where
   pub fresh : State
   pub new : State

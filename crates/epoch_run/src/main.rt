@@ -1,4 +1,5 @@
-//! `epoch-run`: reads a script of steps from standard input and prints what each of them tells, or runs threads, over a stack too.
+//! `epoch-run`: reads a script of steps from standard input and prints what each of them tells, or runs threads, over a
+//! stack too.
 #![tactic(auto)]
 
 mod runs;

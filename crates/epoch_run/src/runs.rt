@@ -46,7 +46,8 @@ pub fn jobs_asked(words: &[String]) -> u64 {
 
 /// The run that three words say.
 fn read_run(form: &str, threads: &str, rounds: &str) -> Option<Run>
-    ensures { MatchOption result ((run : Run) → ¬ SpellsRun run form.now threads.now rounds.now) (λ run. SpellsRun run form.now threads.now rounds.now) }
+    ensures { MatchOption result ((run : Run) → ¬ SpellsRun run form.now threads.now rounds.now)
+        (λ run. SpellsRun run form.now threads.now rounds.now) }
 {
     match read_size(threads, rounds) {
         Some(size) if form == "threads" => Some(Run::Threads(size)),
@@ -57,7 +58,8 @@ fn read_run(form: &str, threads: &str, rounds: &str) -> Option<Run>
 
 /// The size that two words say.
 fn read_size(threads: &str, rounds: &str) -> Option<Size>
-    ensures { MatchOption result ((size : Size) → ¬ SpellsSize size threads.now rounds.now) (λ size. SpellsSize size threads.now rounds.now) }
+    ensures { MatchOption result ((size : Size) → ¬ SpellsSize size threads.now rounds.now)
+        (λ size. SpellsSize size threads.now rounds.now) }
 {
     let threads = read_number(threads)?;
     let rounds = read_number(rounds)?;

@@ -301,8 +301,8 @@ fn expect_all_or_nothing<R: Threads + Wait + Sync + Abort>(
     want_told(rt, line, &outcome, (Ending::Finished, 0), printed, "")
 }
 
-/// `rt try --test --fail-alloc N` refuses the Nth allocation of a test, and this one passes whichever that is. In a plain
-/// run none is refused.
+/// `rt try --test --fail-alloc N` refuses the Nth allocation of a test, and this one passes whichever that is. In a
+/// plain run none is refused.
 #[test]
 fn a_run_of_threads_to_which_memory_is_refused_prints_nothing(rt: HostRuntime) -> Result<(), Fail> {
     expect_all_or_nothing(&rt, rt.alloc(), "threads 2 2", "called 4\n")

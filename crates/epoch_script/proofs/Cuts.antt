@@ -1,5 +1,6 @@
 -- What a cut at the first byte of a kind gives.
-use Rattle.std.proofs.Common.{◌≡◌, ◌≢◌, ℕ, ◌<◌, List, [], ◌∷◌, ◌++◌, length, get_or, Option, Some, None, Bor, suc, arith, refl}
+use Rattle.std.proofs.Common.{◌≡◌, ◌≢◌, ℕ, ◌<◌, List, [], ◌∷◌, ◌++◌, length, get_or, Option, Some, None, Bor, suc}
+use Rattle.std.proofs.Common.{arith, refl}
 use Rattle.std.proofs.lemmas.Bool.Decides.{nat_tests}
 use Rattle.std.proofs.lemmas.Str.Pattern.{IsSplitOnceResult, split_parts}
 use Rattle.epoch_script.specs.Words.{before, behind}
@@ -34,7 +35,8 @@ behind_none m [] lacks = refl
 behind_none m (b ∷ bs) lacks =
     grind (arith, nat_tests, lacks_first m b bs lacks, behind_none m bs (lacks_behind m b bs lacks))
 
-module _ (m : ℕ) (one_byte : m < 128) (bs : List ℕ) (r : Option (Bor (List ℕ) × Bor (List ℕ))) (split : IsSplitOnceResult m bs r) where
+module _ (m : ℕ) (one_byte : m < 128) (bs : List ℕ) (r : Option (Bor (List ℕ) × Bor (List ℕ)))
+    (split : IsSplitOnceResult m bs r) where
   pub first_of_cut : (x : Bor (List ℕ) × Bor (List ℕ)) → r ≡ Some x → before m bs ≡ x.0.now
   first_of_cut x is =
       let (parts, lacks) = rw is at (split_parts m bs r split one_byte) in

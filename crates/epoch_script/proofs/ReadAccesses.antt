@@ -1,7 +1,9 @@
 -- A pointer call is told by its first word.
-use Rattle.std.proofs.Common.{◌≡◌, ◌≢◌, ℕ, List, Option, Some, None, MatchOption, inl, inr, ◌⊎◌, ap, sym, subst, ◌∙◌, arith, codes, get_or}
+use Rattle.std.proofs.Common.{◌≡◌, ◌≢◌, ℕ, List, Option, Some, None, MatchOption, inl, inr, ◌⊎◌, ap, sym, subst, ◌∙◌}
+use Rattle.std.proofs.Common.{arith, codes, get_or}
 use Rattle.epoch_heap.specs.declared.access.Change.{Change}
-use Rattle.epoch_heap.specs.declared.access.Change.TheVariants.{Load, Store, Swap, CompareExchange, FetchAnd, FetchOr, FetchXor, FetchUpdate}
+use Rattle.epoch_heap.specs.declared.access.Change.TheVariants.{Load, Store, Swap, CompareExchange, FetchAnd, FetchOr}
+use Rattle.epoch_heap.specs.declared.access.Change.TheVariants.{FetchXor, FetchUpdate}
 use Rattle.epoch_heap.specs.declared.access.Spot.{Spot}
 use Rattle.epoch_script.specs.Words.{Behind, others}
 use Rattle.epoch_script.specs.Accesses.{IsWordOf, SpellsLoad, SpellsPointed, SpellsSpotted, SpellsStore, SpellsUnder}
@@ -15,8 +17,12 @@ load_apart change is = by_change change is
 
     by_change : (change : Change) → IsWordOf change (codes "load") → ⊥
     by_change (Swap ptr) is = let apart : 108 ≡ 115 = first _ _ is in absurd (omega (arith, apart))
-    by_change (CompareExchange current new) (inl is) = let apart : 108 ≡ 99 = first _ _ is in absurd (omega (arith, apart))
-    by_change (CompareExchange current new) (inr is) = let apart : 108 ≡ 99 = first _ _ is in absurd (omega (arith, apart))
+    by_change (CompareExchange current new) (inl is) =
+        let apart : 108 ≡ 99 = first _ _ is in
+        absurd (omega (arith, apart))
+    by_change (CompareExchange current new) (inr is) =
+        let apart : 108 ≡ 99 = first _ _ is in
+        absurd (omega (arith, apart))
     by_change (FetchAnd bits) is = let apart : 108 ≡ 97 = first _ _ is in absurd (omega (arith, apart))
     by_change (FetchOr bits) is = let apart : 108 ≡ 111 = first _ _ is in absurd (omega (arith, apart))
     by_change (FetchXor bits) is = let apart : 108 ≡ 120 = first _ _ is in absurd (omega (arith, apart))
@@ -46,12 +52,16 @@ load_only word text is none g s change says = by_change g change says
     by_change g (FetchUpdate tries update) says = other (FetchUpdate tries update) says.0
 
 -- after any other word but store a change under a guard is
-pub change_only : (word text : List ℕ) → word ≢ codes "load" → word ≢ codes "store" → (read : Option (Option ℕ × Spot × Change))
-    → MatchOption read ((g : Option ℕ) (s : Spot) (change : Change) → IsWordOf change word → ¬ (SpellsUnder g s change text)) (λ all. IsWordOf all.2 word × SpellsUnder all.0 all.1 all.2 text)
-    → MatchOption read ((g : Option ℕ) (s : Spot) (change : Change) → ¬ (SpellsPointed word g s change text)) (λ all. SpellsPointed word all.0 all.1 all.2 text)
+pub change_only : (word text : List ℕ)
+    → word ≢ codes "load" → word ≢ codes "store" → (read : Option (Option ℕ × Spot × Change))
+    → MatchOption read ((g : Option ℕ) (s : Spot) (change : Change) → IsWordOf change word
+    → ¬ (SpellsUnder g s change text)) (λ all. IsWordOf all.2 word × SpellsUnder all.0 all.1 all.2 text)
+    → MatchOption read ((g : Option ℕ) (s : Spot) (change : Change) → ¬ (SpellsPointed word g s change text))
+    (λ all. SpellsPointed word all.0 all.1 all.2 text)
 change_only word text not_load not_store (Some (g, s, change)) says = by_change change says.0 says.1
   where
-    by_change : (change : Change) → IsWordOf change word → SpellsUnder g s change text → SpellsPointed word g s change text
+    by_change : (change : Change)
+        → IsWordOf change word → SpellsUnder g s change text → SpellsPointed word g s change text
     by_change (Swap ptr) is says = (is, says)
     by_change (CompareExchange current new) is says = (is, says)
     by_change (FetchAnd bits) is says = (is, says)

@@ -5,7 +5,8 @@ use Rattle.epoch_script.specs.Lines.{Leading, SpellsShape, SpellsSizes, SpellsLa
 use Rattle.epoch_laws.specs.Shapes.{IsValid}
 use Rattle.epoch_laws.specs.declared.shape.Shape.{Shape}
 
-behind_both : (rest : Option (List ℕ)) (P Q : List ℕ → Type 0) → Behind rest P → Behind rest Q → (back : List ℕ) × P back × Q back
+behind_both : (rest : Option (List ℕ)) (P Q : List ℕ → Type 0)
+    → Behind rest P → Behind rest Q → (back : List ℕ) × P back × Q back
 behind_both None P Q p q = absurd p
 behind_both (Some back) P Q p q = (back, p, q)
 
@@ -13,7 +14,8 @@ leading_both : (a b : ℕ) (text : List ℕ) (P Q : List ℕ → Type 0) → Lea
     → (a ≡ b) × ((back : List ℕ) × P back × Q back)
 leading_both a b text P Q p q = (cc, behind_both (others text) P Q p.1 q.1)
 
-last_same : (a b c d e f : ℕ) (text : List ℕ) → SpellsLastSizes a b c text → SpellsLastSizes d e f text → (a ≡ d) × (b ≡ e) × (c ≡ f)
+last_same : (a b c d e f : ℕ) (text : List ℕ)
+    → SpellsLastSizes a b c text → SpellsLastSizes d e f text → (a ≡ d) × (b ≡ e) × (c ≡ f)
 last_same a b c d e f text p q =
     let (jobs, bags) = tail (others text) p.1 q.1 in
     (cc, jobs, bags)
@@ -26,7 +28,8 @@ last_same a b c d e f text p q =
         (same, cc)
 
 -- the shape of these numbers
-unfoldable shape_of : (participants cells roots fields bags align start_epoch start_turn bag_jobs collect_bags : ℕ) → Shape
+unfoldable shape_of : (participants cells roots fields bags align start_epoch start_turn bag_jobs collect_bags : ℕ)
+    → Shape
 shape_of participants cells roots fields bags align start_epoch start_turn bag_jobs collect_bags = record {
   participants = participants;
   cells = cells;
@@ -40,7 +43,8 @@ shape_of participants cells roots fields bags align start_epoch start_turn bag_j
   collect_bags = collect_bags;
 }
 
-same_shape : (a b c d e f g h i j k l m n o p q r s t : ℕ) → a ≡ k → b ≡ l → c ≡ m → d ≡ n → e ≡ o → f ≡ p → g ≡ q → h ≡ r → i ≡ s → j ≡ t
+same_shape : (a b c d e f g h i j k l m n o p q r s t : ℕ)
+    → a ≡ k → b ≡ l → c ≡ m → d ≡ n → e ≡ o → f ≡ p → g ≡ q → h ≡ r → i ≡ s → j ≡ t
     → shape_of a b c d e f g h i j ≡ shape_of k l m n o p q r s t
 same_shape a b c d e f g h i j k l m n o p q r s t e0 e1 e2 e3 e4 e5 e6 e7 e8 e9 = cc
 
@@ -50,7 +54,8 @@ alike : (a b : Shape) → a.participants ≡ b.participants → a.cells ≡ b.ce
     → a.bag_jobs ≡ b.bag_jobs → a.collect_bags ≡ b.collect_bags → a ≡ b
 unfolding shape_of
 alike a b participants cells roots fields bags align start_epoch start_turn bag_jobs collect_bags =
-    same_shape _ _ _ _ _ _ _ _ _ _ _ _ _ _ _ _ _ _ _ _ participants cells roots fields bags align start_epoch start_turn bag_jobs collect_bags
+    same_shape _ _ _ _ _ _ _ _ _ _ _ _ _ _ _ _ _ _ _ _ participants cells roots fields bags align start_epoch
+    start_turn bag_jobs collect_bags
 
 same_sizes : (a b : Shape) (text : List ℕ) → SpellsSizes a text → SpellsSizes b text → a ≡ b
 same_sizes a b text p q =

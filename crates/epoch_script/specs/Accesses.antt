@@ -3,12 +3,14 @@ use Rattle.std.specs.Prelude.{◌≡◌, ℕ, List, Option, Some, None, ◌⊎�
 use Rattle.epoch_heap.specs.declared.access.Access.{Access}
 use Rattle.epoch_heap.specs.declared.access.Access.TheVariants.{Place, Read, Leave, Write, Take, Point}
 use Rattle.epoch_heap.specs.declared.access.Change.{Change}
-use Rattle.epoch_heap.specs.declared.access.Change.TheVariants.{Load, Store, Swap, CompareExchange, FetchAnd, FetchOr, FetchXor, FetchUpdate}
+use Rattle.epoch_heap.specs.declared.access.Change.TheVariants.{Load, Store, Swap, CompareExchange, FetchAnd, FetchOr}
+use Rattle.epoch_heap.specs.declared.access.Change.TheVariants.{FetchXor, FetchUpdate}
 use Rattle.epoch_heap.specs.declared.access.Ptr.{Ptr}
 use Rattle.epoch_heap.specs.declared.access.Spot.{Spot}
 use Rattle.epoch_heap.specs.declared.access.Update.{Update}
 use Rattle.epoch_heap.specs.declared.access.Update.TheVariants.{Tag, To, Stop}
-use Rattle.epoch_script.specs.Words.{Behind, IsOneWord, LeadsWith, SpellsGuard, SpellsNumber, SpellsPtr, SpellsSpot, first_word, others}
+use Rattle.epoch_script.specs.Words.{Behind, IsOneWord, LeadsWith, SpellsGuard, SpellsNumber, SpellsPtr, SpellsSpot}
+use Rattle.epoch_script.specs.Words.{first_word, others}
 
 -- a guard, and then a pointer
 abbrev pub SpellsGuarded : Option ℕ → Ptr → List ℕ → Type 0
@@ -70,7 +72,8 @@ SpellsSpotted spot change text = SpellsSpot spot (first_word text) × Behind (ot
 
 -- its guard, where it is made, and its last words
 abbrev pub SpellsUnder : Option ℕ → Spot → Change → List ℕ → Type 0
-SpellsUnder guard spot change text = SpellsGuard guard (first_word text) × Behind (others text) (SpellsSpotted spot change)
+SpellsUnder guard spot change text =
+    SpellsGuard guard (first_word text) × Behind (others text) (SpellsSpotted spot change)
 
 -- after its first word: a load, a store, which has no guard, or a change under a guard
 abbrev pub SpellsPointed : List ℕ → Option ℕ → Spot → Change → List ℕ → Type 0

@@ -3,7 +3,8 @@ use Rattle.std.specs.Prelude.{◌≡◌, ◌≢◌, ℕ}
 use Rattle.std.specs.declared.io.ErrorKind.{ErrorKind}
 use Rattle.std.specs.declared.io.ErrorKind.TheVariants.{OutOfMemory}
 use Rattle.epoch_script.specs.declared.script.Ending.{Ending}
-use Rattle.epoch_script.specs.declared.script.Ending.TheVariants.{Finished, NotUnderstood, NotAShape, NotAStep, StreamFailed, NoMemory, Refused}
+use Rattle.epoch_script.specs.declared.script.Ending.TheVariants.{Finished, NotUnderstood, NotAShape, NotAStep}
+use Rattle.epoch_script.specs.declared.script.Ending.TheVariants.{StreamFailed, NoMemory, Refused}
 
 -- the exit status
 abbrev pub status_of : Ending → ℕ

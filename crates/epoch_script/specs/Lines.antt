@@ -3,7 +3,8 @@ use Rattle.std.specs.Prelude.{◌≡◌, ℕ, ◌≤◌, List, MatchOption, code
 use Rattle.epoch_laws.specs.Shapes.{IsValid}
 use Rattle.epoch_laws.specs.declared.shape.Shape.{Shape}
 use Rattle.epoch_laws.specs.declared.step.Call.{Call}
-use Rattle.epoch_laws.specs.declared.step.Call.TheVariants.{Pin, Unpin, Repin, Pause, Resume, Defer, DeferDestroy, Flush, Release, Access as AccessCall}
+use Rattle.epoch_laws.specs.declared.step.Call.TheVariants.{Pin, Unpin, Repin, Pause, Resume, Defer, DeferDestroy}
+use Rattle.epoch_laws.specs.declared.step.Call.TheVariants.{Flush, Release, Access as AccessCall}
 use Rattle.epoch_laws.specs.declared.step.Step.{Step}
 use Rattle.epoch_laws.specs.declared.step.Step.TheVariants.{Register, Begin, Go as OneGo, End, EndGo}
 use Rattle.epoch_script.specs.Words.{Behind, IsOneWord, LeadsWith, SpellsGuard, SpellsNumber, first_word, others}
@@ -55,11 +56,13 @@ Leading number text P = SpellsNumber number (first_word text) × Behind (others 
 -- the turn, and how many jobs a bag takes and how many bags a collection: 64 and 8 where the text ends before
 abbrev pub SpellsLastSizes : ℕ → ℕ → ℕ → List ℕ → Type 0
 SpellsLastSizes start_turn bag_jobs collect_bags text = SpellsNumber start_turn (first_word text)
-    × MatchOption (others text) ((bag_jobs ≡ 64) × (collect_bags ≡ 8)) (λ rest. Leading bag_jobs rest (SpellsNumber collect_bags))
+    × MatchOption (others text) ((bag_jobs ≡ 64) × (collect_bags ≡ 8))
+    (λ rest. Leading bag_jobs rest (SpellsNumber collect_bags))
 
 -- the numbers of a shape, in their order
 abbrev pub SpellsSizes : Shape → List ℕ → Type 0
-SpellsSizes shape text = Leading shape.participants text (λ t. Leading shape.cells t (λ t. Leading shape.roots t (λ t. Leading shape.fields t (λ t.
+SpellsSizes shape text = Leading shape.participants text
+    (λ t. Leading shape.cells t (λ t. Leading shape.roots t (λ t. Leading shape.fields t (λ t.
     Leading shape.bags t (λ t. Leading shape.align t (λ t. Leading shape.start_epoch t
     (SpellsLastSizes shape.start_turn shape.bag_jobs shape.collect_bags)))))))
 

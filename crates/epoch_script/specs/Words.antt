@@ -1,5 +1,6 @@
 -- The words of a line: what each text says.
-use Rattle.std.specs.Prelude.{◌≡◌, ℕ, ◌^◌, ◌<◌, ◌==◌, List, [], ◌∷◌, Option, Some, None, MatchOption, codes, if◌then◌else◌}
+use Rattle.std.specs.Prelude.{◌≡◌, ℕ, ◌^◌, ◌<◌, ◌==◌, List, [], ◌∷◌, Option, Some, None, MatchOption, codes}
+use Rattle.std.specs.Prelude.{if◌then◌else◌}
 use Rattle.std.specs.Str.Parse.{IsNumeral, digits_value}
 use Rattle.epoch_cells.specs.declared.cells.name.Name.{Name}
 use Rattle.epoch_heap.specs.declared.access.Ptr.{Ptr}
@@ -62,7 +63,8 @@ SpellsCell (Some name) text = SpellsName name text
 
 -- null or a name, and a tag after a plus; no tag is the tag 0
 abbrev pub SpellsPtr : Ptr → List ℕ → Type 0
-SpellsPtr ptr text = SpellsCell ptr.name (before 43 text) × MatchOption (behind 43 text) (ptr.tag ≡ 0) (SpellsNumber ptr.tag)
+SpellsPtr ptr text =
+    SpellsCell ptr.name (before 43 text) × MatchOption (behind 43 text) (ptr.tag ≡ 0) (SpellsNumber ptr.tag)
 
 -- a name, a slash, and the number of a field
 abbrev pub SpellsField : Name → ℕ → List ℕ → Type 0
@@ -82,4 +84,5 @@ abbrev pub ReadsPair : {X Y : Type 0} → (X → Y → List ℕ → Type 0) → 
 ReadsPair Says text read = MatchOption read ((x : _) (y : _) → ¬ Says x y text) (λ both. Says both.0 both.1 text)
 
 abbrev pub ReadsTriple : {X Y Z : Type 0} → (X → Y → Z → List ℕ → Type 0) → List ℕ → Option (X × Y × Z) → Type 0
-ReadsTriple Says text read = MatchOption read ((x : _) (y : _) (z : _) → ¬ Says x y z text) (λ all. Says all.0 all.1 all.2 text)
+ReadsTriple Says text read =
+    MatchOption read ((x : _) (y : _) (z : _) → ¬ Says x y z text) (λ all. Says all.0 all.1 all.2 text)

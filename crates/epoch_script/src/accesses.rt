@@ -3,7 +3,9 @@ ghost use Rattle.std.specs.Prelude.{◌≡◌, ℕ, Option, MatchOption};
 ghost use Rattle.epoch_heap.specs.declared.access.Change.{Change};
 ghost use Rattle.epoch_heap.specs.declared.access.Spot.{Spot};
 ghost use Rattle.epoch_script.specs.Words.{ReadsText, ReadsPair, ReadsTriple};
-ghost use Rattle.epoch_script.specs.Accesses.{IsWordOf, SpellsAccess, SpellsChange, SpellsExchange, SpellsGuarded, SpellsLoad, SpellsPoint, SpellsPointed, SpellsSpotted, SpellsStore, SpellsTries, SpellsUnder, SpellsUpdate, SpellsValued, SpellsWrite};
+ghost use Rattle.epoch_script.specs.Accesses.{IsWordOf, SpellsAccess, SpellsChange, SpellsExchange, SpellsGuarded};
+ghost use Rattle.epoch_script.specs.Accesses.{SpellsLoad, SpellsPoint, SpellsPointed, SpellsSpotted, SpellsStore};
+ghost use Rattle.epoch_script.specs.Accesses.{SpellsTries, SpellsUnder, SpellsUpdate, SpellsValued, SpellsWrite};
 
 use crate::words::{cut, read_guard, read_number, read_ptr, read_spot};
 use epoch_heap::{Access, Change, Ptr, Spot, Update};
@@ -78,7 +80,9 @@ fn read_point(text: &str) -> Option<(Option<u64>, Spot, Change)>
 
 /// What a pointer call with this first word says after it.
 fn read_pointed(word: &str, text: &str) -> Option<(Option<u64>, Spot, Change)>
-    ensures { MatchOption result ((guard : Option ℕ) (spot : Spot) (change : Change) → ¬ SpellsPointed word.now guard spot change text.now) (λ all. SpellsPointed word.now all.0 all.1 all.2 text.now) }
+    ensures { MatchOption result
+        ((guard : Option ℕ) (spot : Spot) (change : Change) → ¬ SpellsPointed word.now guard spot change text.now)
+        (λ all. SpellsPointed word.now all.0 all.1 all.2 text.now) }
 {
     match word {
         "load" => match read_load(text) {
@@ -115,7 +119,9 @@ fn read_store(text: &str) -> Option<(Spot, Ptr)>
 
 /// A change with this first word, and after it its guard, where it is made, and its last words.
 fn read_under(word: &str, text: &str) -> Option<(Option<u64>, Spot, Change)>
-    ensures { MatchOption result ((guard : Option ℕ) (spot : Spot) (change : Change) → IsWordOf change word.now → ¬ SpellsUnder guard spot change text.now) (λ all. IsWordOf all.2 word.now × SpellsUnder all.0 all.1 all.2 text.now) }
+    ensures { MatchOption result ((guard : Option ℕ) (spot : Spot) (change : Change)
+        → IsWordOf change word.now → ¬ SpellsUnder guard spot change text.now)
+        (λ all. IsWordOf all.2 word.now × SpellsUnder all.0 all.1 all.2 text.now) }
 {
     let (guard, Some(rest)) = cut(text) else {
         return None;
@@ -130,7 +136,9 @@ fn read_under(word: &str, text: &str) -> Option<(Option<u64>, Spot, Change)>
 }
 
 fn read_spotted(word: &str, text: &str) -> Option<(Spot, Change)>
-    ensures { MatchOption result ((spot : Spot) (change : Change) → IsWordOf change word.now → ¬ SpellsSpotted spot change text.now) (λ both. IsWordOf both.1 word.now × SpellsSpotted both.0 both.1 text.now) }
+    ensures { MatchOption result
+        ((spot : Spot) (change : Change) → IsWordOf change word.now → ¬ SpellsSpotted spot change text.now)
+        (λ both. IsWordOf both.1 word.now × SpellsSpotted both.0 both.1 text.now) }
 {
     let (spot, Some(rest)) = cut(text) else {
         return None;
@@ -142,7 +150,8 @@ fn read_spotted(word: &str, text: &str) -> Option<(Spot, Change)>
 
 /// A change with this first word and these last ones.
 fn read_change(word: &str, text: &str) -> Option<Change>
-    ensures { MatchOption result ((change : Change) → IsWordOf change word.now → ¬ SpellsChange change text.now) (λ change. IsWordOf change word.now × SpellsChange change text.now) }
+    ensures { MatchOption result ((change : Change) → IsWordOf change word.now → ¬ SpellsChange change text.now)
+        (λ change. IsWordOf change word.now × SpellsChange change text.now) }
 {
     match word {
         "swap" => Some(Change::Swap(read_ptr(text)?)),

@@ -1,6 +1,7 @@
 //! From the text of a line to what it says.
 ghost use Rattle.epoch_script.specs.Words.{ReadsText, ReadsPair, ReadsTriple};
-ghost use Rattle.epoch_script.specs.Lines.{SpellsBoth, SpellsCall, SpellsCommand, SpellsShape, SpellsSizes, SpellsLastSizes, SpellsSteps};
+ghost use Rattle.epoch_script.specs.Lines.{SpellsBoth, SpellsCall, SpellsCommand, SpellsShape, SpellsSizes};
+ghost use Rattle.epoch_script.specs.Lines.{SpellsLastSizes, SpellsSteps};
 
 use crate::accesses::{read_access, read_guarded};
 use crate::words::{cut, read_guard, read_number, read_number_before};

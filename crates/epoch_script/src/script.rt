@@ -1,5 +1,6 @@
 //! From the lines of a reader to what two writers are given.
-ghost use Rattle.std.specs.Prelude.{◌≡◌, ◌≢◌, ◌+◌, ◌<◌, true, false, [], IsOk, IfOk, IfErr, IsUtf8, IfSome, MatchOption};
+ghost use Rattle.std.specs.Prelude.{◌≡◌, ◌≢◌, ◌+◌, ◌<◌, true, false, [], IsOk, IfOk, IfErr, IsUtf8, IfSome};
+ghost use Rattle.std.specs.Prelude.{MatchOption};
 ghost use Rattle.std.specs.IoError.{error_kind};
 ghost use Rattle.std.specs.Io.BufRead.{DropsThrough, first_piece};
 ghost use Rattle.std.specs.Io.KnownBytes.{IsAtEnd};
@@ -138,8 +139,10 @@ impl<R: BufRead> Script<'_, R> {
 
     /// Reads the next line, without its line feed; `false` at the end of input.
     fn read_line(&mut self) -> Result<bool, Ending>
-        ensures line { result ≡ Ok true → IfSome (R.remaining self.old.reader.now) (λ bytes. self.new.line.items ≡ first_piece 10 bytes) }
-        ensures rest { result ≡ Ok true → DropsThrough (R.remaining self.old.reader.now) (R.remaining self.new.reader.now) 10 }
+        ensures line { result ≡ Ok true
+            → IfSome (R.remaining self.old.reader.now) (λ bytes. self.new.line.items ≡ first_piece 10 bytes) }
+        ensures rest { result ≡ Ok true
+            → DropsThrough (R.remaining self.old.reader.now) (R.remaining self.new.reader.now) 10 }
         ensures counted { result ≡ Ok true → self.old.number < u64.MAX → self.new.number ≡ self.old.number + 1 }
         ensures end { result ≡ Ok false → IsAtEnd (R.remaining self.old.reader.now) }
         ensures same { result ≡ Ok false → self.new.number ≡ self.old.number }
@@ -165,7 +168,8 @@ impl<R: BufRead> Script<'_, R> {
     /// The shape that the line says. `NotAShape`: it says none.
     pub fn shape(&self) -> Result<Shape, Ending>
         ensures ok { IfOk result (λ shape. SpellsShape shape self.now.line.items) }
-        ensures says { (shape : Shape) → IsUtf8 self.now.line.items → SpellsShape shape self.now.line.items → IsOk result }
+        ensures says { (shape : Shape) → IsUtf8 self.now.line.items
+            → SpellsShape shape self.now.line.items → IsOk result }
         ensures err { IfErr result (λ fault. fault ≡ Ending.NotAShape self.now.number) }
     {
         let fault = Ending::NotAShape(self.number);
@@ -176,7 +180,8 @@ impl<R: BufRead> Script<'_, R> {
     /// What the line asks for. `NotAStep`: it asks for nothing.
     pub fn command(&self) -> Result<Command, Ending>
         ensures ok { IfOk result (λ command. SpellsCommand command self.now.line.items) }
-        ensures says { (command : Command) → IsUtf8 self.now.line.items → SpellsCommand command self.now.line.items → IsOk result }
+        ensures says { (command : Command) → IsUtf8 self.now.line.items
+            → SpellsCommand command self.now.line.items → IsOk result }
         ensures err { IfErr result (λ fault. fault ≡ Ending.NotAStep self.now.number) }
     {
         let fault = Ending::NotAStep(self.number);

@@ -1,7 +1,9 @@
 //! From the words of a line to numbers, guards, names, pointers and where they stand.
 ghost use Rattle.std.specs.Prelude.{◌≡◌, ◌≢◌, ◌∷◌, ◌<◌, ℕ, List, None, Some, IfSome, IsSome, ◌↔◌, ◌≤◌, MatchOption};
 ghost use Rattle.epoch_cells.specs.declared.cells.name.Name.{Name};
-ghost use Rattle.epoch_script.specs.Words.{ReadsText, ReadsPair, SpellsCell, SpellsField, SpellsGuard, SpellsName, SpellsNumber, SpellsNumberBefore, SpellsPtr, SpellsSpot, SpellsTurn, before, behind, first_word, others};
+ghost use Rattle.epoch_script.specs.Words.{ReadsText, ReadsPair, SpellsCell, SpellsField, SpellsGuard, SpellsName};
+ghost use Rattle.epoch_script.specs.Words.{SpellsNumber, SpellsNumberBefore, SpellsPtr, SpellsSpot, SpellsTurn, before};
+ghost use Rattle.epoch_script.specs.Words.{behind, first_word, others};
 
 use epoch_cells::{MOST_SLOT, Name};
 use epoch_heap::{Ptr, Spot};
@@ -18,7 +20,8 @@ pub fn read_number(text: &str) -> Option<u64>
 
 /// The number that the first word writes, and what stands behind its space.
 pub fn read_number_before(text: &str) -> Option<(u64, &str)>
-    ensures { MatchOption result ((number : ℕ) (rest : List ℕ) → ¬ SpellsNumberBefore number rest text.now) (λ read. SpellsNumberBefore read.0 read.1.now text.now) }
+    ensures { MatchOption result ((number : ℕ) (rest : List ℕ) → ¬ SpellsNumberBefore number rest text.now)
+        (λ read. SpellsNumberBefore read.0 read.1.now text.now) }
 {
     let (first, others) = cut(text);
     Some((read_number(first)?, others?))

@@ -1,5 +1,6 @@
 -- A load of the epoch keeps the rule.
-use Rattle.std.proofs.Common.{◌≡◌, ℕ, ◌+◌, ◌≤◌, ◌⊎◌, List, set, sym, refl, ap, subst, ⊎_elim, inl, inr, arith, Option, Some, None}
+use Rattle.std.proofs.Common.{◌≡◌, ℕ, ◌+◌, ◌≤◌, ◌⊎◌, List, set, sym, refl, ap, subst, ⊎_elim, inl, inr, arith, Option}
+use Rattle.std.proofs.Common.{Some, None}
 use Rattle.std.proofs.lemmas.Option.{same_Some, none-some}
 use mathlib.Core.Option as maybe
 use lib.Seq.{set-get_or}
@@ -15,22 +16,26 @@ abbrev Near : Option ℕ → ℕ → ℕ → Type 0
 Near published first epoch = (p : ℕ) × (published ≡ Some p) × (p ≤ first) × (first ≤ epoch) × (epoch ≤ first + 1)
 
 first_is_near : (published first : Option ℕ) (epoch q : ℕ) → ((p : ℕ) → published ≡ Some p → p ≤ epoch)
-    → ((r : ℕ) → first ≡ Some r → Near published r epoch) → first_after published first epoch ≡ Some q → Near published q epoch
+    → ((r : ℕ) → first ≡ Some r → Near published r epoch) → first_after published first epoch ≡ Some q
+    → Near published q epoch
 first_is_near None first epoch q below old is = old q is
 first_is_near (Some p) None epoch q below old is = let now = same_Some epoch q is in
     let low = below p refl in
     (p, refl, omega arith, omega arith, omega arith)
-first_is_near (Some p) (Some r) epoch q below old is = subst (λ (z : ℕ). Near (Some p) z epoch) (same_Some r q is) (old r refl)
+first_is_near (Some p) (Some r) epoch q below old is =
+    subst (λ (z : ℕ). Near (Some p) z epoch) (same_Some r q is) (old r refl)
 
 -- the first reading is this one, or an earlier one
-first_is_now_or_old : (published first : Option ℕ) (epoch q : ℕ) → first_after published first epoch ≡ Some q → (epoch ≡ q) ⊎ (first ≡ Some q)
+first_is_now_or_old : (published first : Option ℕ) (epoch q : ℕ)
+    → first_after published first epoch ≡ Some q → (epoch ≡ q) ⊎ (first ≡ Some q)
 first_is_now_or_old None first epoch q is = inr is
 first_is_now_or_old (Some p) None epoch q is = inl (same_Some epoch q is)
 first_is_now_or_old (Some p) (Some r) epoch q is = inr is
 
 -- the scan that begins is for the epoch read, has passed no position, and is by a seat that has read the epoch again
 abbrev Begins : Option ℕ → Option ℕ → ℕ → ℕ → ℕ → Type 0
-Begins published first epoch scanned passed = ((q : ℕ) × (first_after published first epoch ≡ Some q) × (q ≤ scanned)) × (scanned ≡ epoch) × (passed ≡ 0)
+Begins published first epoch scanned passed =
+    ((q : ℕ) × (first_after published first epoch ≡ Some q) × (q ≤ scanned)) × (scanned ≡ epoch) × (passed ≡ 0)
 
 scan_begins : (published first : Option ℕ) (epoch scanned passed : ℕ) → ((r : ℕ) → first ≡ Some r → r ≤ epoch)
     → scan_after published epoch ≡ Some (scanned, passed) → Begins published first epoch scanned passed
@@ -49,7 +54,8 @@ module _ {S : Type 0} (positions : ℕ) where
   abbrev Rule : State S ParticipantView → Type 0
   Rule = EpochsAgree positions
 
-  pub epoch_load_keeps : (slots id : ℕ) (me : Me S ParticipantView) → Allows Rule slots id me 0 (λ x. x) (LoadsEpoch (step slots 0 0 0 maybe.none) me)
+  pub epoch_load_keeps : (slots id : ℕ) (me : Me S ParticipantView)
+      → Allows Rule slots id me 0 (λ x. x) (LoadsEpoch (step slots 0 0 0 maybe.none) me)
   epoch_load_keeps slots id me s r _ here _ = let e : ℕ = r.epoch in
       let v : ParticipantView = me.0 in
       let w : ParticipantView = after_epoch v e in
@@ -59,14 +65,18 @@ module _ {S : Type 0} (positions : ℕ) where
         w,
         keeps,
         tt,
-        subst (λ (ws : List ℕ). Rule record { words = ws; homes = s.homes; views = set s.views id w }) (sym (set-get_or s.words 0 0))
+        subst (λ (ws : List ℕ). Rule record { words = ws; homes = s.homes; views = set s.views id w })
+            (sym (set-get_or s.words 0 0))
             (step_keeps positions s r id v w s.words e here record {
               long = refl;
               word = r.epoch_word;
               up = omega arith;
               own = λ k has. r.words_match id v k here has;
               others = λ j u k other at has. (refl, λ mine. other (r.one_seat_each j id u v k at here has mine));
-              taken = λ k below held. inr (held, λ u at has. subst (λ (z : ParticipantView). z.position ≡ Some k) (one_view s.views id u v at here) has);
+              taken = λ k below held. inr (
+                held,
+                λ u at has. subst (λ (z : ParticipantView). z.position ≡ Some k) (one_view s.views id u v at here) has,
+              );
               seen_now = omega arith;
               pinned = λ p is. let old = r.pins_known id v p here is in let low = old.1 in (old.0, omega arith);
               within = λ q is. first_is_near v.published v.first_read e q
@@ -76,7 +86,10 @@ module _ {S : Type 0} (positions : ℕ) where
               scanning = λ x m is. let t = begins x m is in let same = t.1 in (t.0, omega arith);
               by_me = λ x m j u k q is other at has lt first. let none = (begins x m is).2 in absurd (omega arith);
               of_me = λ j u x m k q other at scans has lt first. ⊎_elim
-                  (λ (now : e ≡ q). let known = (r.scans_known j u x m at scans).1 in let below = r.none_ahead j u at in omega arith)
+                  (λ (now : e ≡ q).
+                  let known = (r.scans_known j u x m at scans).1 in
+                  let below = r.none_ahead j u at in
+                  omega arith)
                   (λ old. r.scans_hold j u x m id v k q at scans here has lt old)
                   (first_is_now_or_old v.published v.first_read e q first);
               myself = λ x m k q is has lt first. let none = (begins x m is).2 in absurd (omega arith);

@@ -1,5 +1,6 @@
 -- A store of the epoch after a whole scan keeps the rule: it raises the epoch, or leaves it as another scan raised it.
-use Rattle.std.proofs.Common.{◌≡◌, ℕ, ◌+◌, ◌*◌, ◌≤◌, get_or, set, refl, ap, ◌∙◌, subst, inr, arith, Some, length-set, get_or-set_other, get_or-set_same}
+use Rattle.std.proofs.Common.{◌≡◌, ℕ, ◌+◌, ◌*◌, ◌≤◌, get_or, set, refl, ap, ◌∙◌, subst, inr, arith, Some, length-set}
+use Rattle.std.proofs.Common.{get_or-set_other, get_or-set_same}
 use Rattle.std.proofs.lemmas.Option.{none-some}
 use mathlib.Core.Option as maybe
 use Rattle.atomic_table.specs.Table.{State, Me, step, keeps, Allows}
@@ -14,14 +15,16 @@ module _ {S : Type 0} (positions : ℕ) where
   Rule = EpochsAgree positions
 
   -- after a whole scan, whoever is pinned and has read the epoch again read the scanned epoch or a later one
-  none_behind : (s : State S ParticipantView) (r : Rule s) (id : ℕ) (v : ParticipantView) (x : ℕ) → Sees s id v → v.scan ≡ Some (x, positions)
+  none_behind : (s : State S ParticipantView) (r : Rule s) (id : ℕ) (v : ParticipantView) (x : ℕ)
+      → Sees s id v → v.scan ≡ Some (x, positions)
       → (j : ℕ) (u : ParticipantView) (q : ℕ) → Sees s j u → u.first_read ≡ Some q → x ≤ q
   none_behind s r id v x here is j u q at first = let near = r.pinned_near j u q at first in
       let place = (r.pins_known j u near.0 at near.1).0 in
       r.scans_hold id v x positions j u place.0 q here is at place.1 (r.words_match j u place.0 at place.1).0 first
 
   pub epoch_store_keeps : (slots id : ℕ) (me : Me S ParticipantView) (x : ℕ) → me.0.scan ≡ Some (x, positions)
-      → Allows Rule slots id me 0 (λ _. 2 * (x + 1)) (λ _. StoresEpoch (step slots 0 (2 * (x + 1)) 0 maybe.none) me (2 * (x + 1)))
+      → Allows Rule slots id me 0 (λ _. 2 * (x + 1))
+      (λ _. StoresEpoch (step slots 0 (2 * (x + 1)) 0 maybe.none) me (2 * (x + 1)))
   epoch_store_keeps slots id me x is s r _ here _ = let v : ParticipantView = me.0 in
       let w : ParticipantView = after_advance v (x + 1) in
       let begun = r.scans_known id v x positions here is in

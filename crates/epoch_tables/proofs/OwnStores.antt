@@ -1,5 +1,6 @@
 -- A store of the own word keeps the rule: pinned, not pinned, or free.
-use Rattle.std.proofs.Common.{◌≡◌, ◌≢◌, ℕ, ◌+◌, ◌*◌, ◌<◌, ◌≤◌, get_or, set, sym, refl, ap, ◌∙◌, inl, inr, arith, Option, Some, None, length-set, get_or-set_other, get_or-set_same}
+use Rattle.std.proofs.Common.{◌≡◌, ◌≢◌, ℕ, ◌+◌, ◌*◌, ◌<◌, ◌≤◌, get_or, set, sym, refl, ap, ◌∙◌, inl, inr, arith, Option}
+use Rattle.std.proofs.Common.{Some, None, length-set, get_or-set_other, get_or-set_same}
 use Rattle.std.proofs.lemmas.Option.{same_Some, none-some}
 use mathlib.Core.Logic.{dite}
 use mathlib.Core.Option as maybe
@@ -24,7 +25,8 @@ module _ {S : Type 0} (positions : ℕ) where
   abbrev Rule : State S ParticipantView → Type 0
   Rule = EpochsAgree positions
 
-  own_store_keeps : (s : State S ParticipantView) (r : Rule s) (id : ℕ) (v w : ParticipantView) (k word : ℕ) → Sees s id v
+  own_store_keeps : (s : State S ParticipantView) (r : Rule s) (id : ℕ) (v w : ParticipantView) (k word : ℕ)
+      → Sees s id v
       → v.position ≡ Some k → Stored v w k word
       → Rule record { words = set s.words (word_at k) word; homes = s.homes; views = set s.views id w }
   own_store_keeps s r id v w k word here is_at o = let mine = r.words_match id v k here is_at in
@@ -33,7 +35,8 @@ module _ {S : Type 0} (positions : ℕ) where
       let low = r.none_ahead id v here in
       let same_seen = o.same_seen in
       let now = get_or-set_same s.words (word_at k) word 0 (omega arith) in
-      let else : (k' : ℕ) → k' ≢ k → get_or (set s.words (word_at k) word) (word_at k') 0 ≡ get_or s.words (word_at k') 0 =
+      let else : (k' : ℕ) → k' ≢ k
+      → get_or (set s.words (word_at k) word) (word_at k') 0 ≡ get_or s.words (word_at k') 0 =
       (λ k' apart. get_or-set_other s.words (word_at k) (word_at k') word 0 (λ e. apart (omega arith))) in
       let no_first : (q : ℕ) → w.first_read ≡ Some q → ⊥ = (λ q is. none-some q (sym o.no_first ∙ is)) in
       let no_scan : (x m : ℕ) → w.scan ≡ Some (x, m) → ⊥ = (λ x m is. none-some (x, m) (sym o.no_scan ∙ is)) in
@@ -49,11 +52,13 @@ module _ {S : Type 0} (positions : ℕ) where
             (is_at ∙ ap (λ (z : ℕ). let o : Option ℕ = Some z in o) (sym same)))) in
             (else k' apart, λ mine. apart (o.only k' mine).0);
         taken = λ k' inside held. dite (ℕ_discrete k' k)
-            (λ same. let not_free : word ≢ 0 = (λ zero. held (ap (λ (z : ℕ). get_or (set s.words (word_at k) word) (word_at z) 0) same ∙ (now ∙ zero))) in
+            (λ same. let not_free : word ≢ 0 =
+            (λ zero. held (ap (λ (z : ℕ). get_or (set s.words (word_at k) word) (word_at z) 0) same ∙ (now ∙ zero))) in
             inl (o.kept not_free ∙ ap (λ (z : ℕ). let o : Option ℕ = Some z in o) (sym same)))
             (λ apart. inr (
               (λ zero. held (else k' apart ∙ zero)),
-              λ u at has. absurd (apart (same_Some k' k (sym has ∙ (ap (λ (z : ParticipantView). z.position) (one_view s.views id u v at here) ∙ is_at)))),
+              λ u at has. absurd (apart (same_Some k' k
+                  (sym has ∙ (ap (λ (z : ParticipantView). z.position) (one_view s.views id u v at here) ∙ is_at)))),
             ));
         seen_now = omega arith;
         pinned = λ p is. let t = o.pinned p is in let le = t.1 in ((k, t.0), omega arith);
@@ -66,7 +71,8 @@ module _ {S : Type 0} (positions : ℕ) where
       } s.homes
 
   pub publish_keeps : (slots id : ℕ) (me : Me S ParticipantView) (k p : ℕ) → me.0.position ≡ Some k → p ≤ me.0.seen
-      → Allows Rule slots id me (word_at k) (λ _. 2 * p + 1) (λ _. Publishes (step slots (word_at k) (2 * p + 1) 0 maybe.none) me (2 * p + 1))
+      → Allows Rule slots id me (word_at k) (λ _. 2 * p + 1)
+      (λ _. Publishes (step slots (word_at k) (2 * p + 1) 0 maybe.none) me (2 * p + 1))
   publish_keeps slots id me k p is_at low s r _ here _ = (
     after_own me.0 (Some p),
     keeps,

@@ -1,6 +1,7 @@
 -- A look at a place keeps the rule of the places, and so does each step that changes no word and no slot. A new seat
 -- keeps it, and new places do.
-use Rattle.std.proofs.Common.{◌≡◌, ◌≢◌, ℕ, ◌+◌, ◌*◌, ◌<◌, ◌⊎◌, List, [], ◌∷◌, ◌++◌, map, length, replicate, get_or, set, sym, refl, ap, ◌∙◌, subst, ⊎_elim, inl, arith, Option, Some, None}
+use Rattle.std.proofs.Common.{◌≡◌, ◌≢◌, ℕ, ◌+◌, ◌*◌, ◌<◌, ◌⊎◌, List, [], ◌∷◌, ◌++◌, map, length, replicate, get_or, set}
+use Rattle.std.proofs.Common.{sym, refl, ap, ◌∙◌, subst, ⊎_elim, inl, arith, Option, Some, None}
 use Rattle.std.proofs.lemmas.Option.{none-some}
 use mathlib.Core.Logic.{dite}
 use mathlib.Core.Option.{none, some}
@@ -11,7 +12,8 @@ use Rattle.atomic_table.specs.Table.{State, Me, step, keeps, Allows, Enters, ope
 use Rattle.atomic_table.proofs.Lists.{at_snoc, at_longer, set_here, set_else}
 use Rattle.epoch_bags.specs.Bags.{Sealed}
 use Rattle.epoch_tables.specs.declared.shared_places.view.PlaceView.{PlaceView}
-use Rattle.epoch_tables.specs.SharedPlaces.{place_word_at, place_words_for, PlaceSeatSees, PlacesAgree, with_claim, after_look, SitsAtPlaces, LooksAtPlace}
+use Rattle.epoch_tables.specs.SharedPlaces.{place_word_at, place_words_for, PlaceSeatSees, PlacesAgree, with_claim}
+use Rattle.epoch_tables.specs.SharedPlaces.{after_look, SitsAtPlaces, LooksAtPlace}
 use Rattle.epoch_tables.proofs.Views.{each_view, is_seat, one_view, only_view}
 
 blank : (n i : ℕ) → get_or (replicate {A = ℕ} n 0) i 0 ≡ 0
@@ -32,10 +34,16 @@ module _ {J : Type 0} (places : ℕ) where
   Rule = PlacesAgree places
 
   -- a step that leaves the words, the slots and what is claimed
-  pub look_keeps : (s : State (Option (Sealed J)) (PlaceView J)) (r : Rule s) (i id : ℕ) (v : PlaceView J) (looked found : List ℕ) (left won : List (Option (Sealed J))) → PlaceSeatSees s id v
-      → Rule record { words = set s.words i (get_or s.words i 0); homes = s.homes; views = set s.views id (with_claim v.claimed looked found left won) }
+  pub look_keeps : (s : State (Option (Sealed J)) (PlaceView J)) (r : Rule s) (i id : ℕ) (v : PlaceView J)
+      (looked found : List ℕ) (left won : List (Option (Sealed J))) → PlaceSeatSees s id v
+      → Rule record {
+        words = set s.words i (get_or s.words i 0);
+        homes = s.homes;
+        views = set s.views id (with_claim v.claimed looked found left won);
+      }
   look_keeps s r i id v looked found left won here = let w : PlaceView J = with_claim v.claimed looked found left won in
-      subst (λ (ws : List ℕ). Rule record { words = ws; homes = s.homes; views = set s.views id w }) (sym (set-get_or s.words i 0)) record {
+      subst (λ (ws : List ℕ). Rule record { words = ws; homes = s.homes; views = set s.views id w })
+      (sym (set-get_or s.words i 0)) record {
         as_many = r.as_many;
         as_many_slots = r.as_many_slots;
         is_word = r.is_word;
@@ -45,17 +53,20 @@ module _ {J : Type 0} (places : ℕ) where
               id,
               w,
               set_here s.views id w (is_seat s.views id v here),
-              ap (λ (z : PlaceView J). z.claimed) (one_view s.views id v by.1 here (subst (λ (z : ℕ). PlaceSeatSees s z by.1) same by.2)) ∙ by.3,
+              ap (λ (z : PlaceView J). z.claimed)
+                  (one_view s.views id v by.1 here (subst (λ (z : ℕ). PlaceSeatSees s z by.1) same by.2)) ∙ by.3,
             ))
             (λ other. (by.0, by.1, set_else s.views id by.0 w other ∙ by.2, by.3));
-        one_claimer_each = λ i j u its k at_i at_j. each_view (λ i u. u.claimed ≡ Some k → its.claimed ≡ Some k → i ≡ j) s.views id w
+        one_claimer_each =
+            λ i j u its k at_i at_j. each_view (λ i u. u.claimed ≡ Some k → its.claimed ≡ Some k → i ≡ j) s.views id w
             (λ mine theirs. each_view (λ j its. its.claimed ≡ Some k → id ≡ j) s.views id w (λ _. refl)
             (λ j its other at has. r.one_claimer_each id j v its k here at mine has) j its at_j theirs)
             (λ i u other at_i mine theirs. each_view (λ j its. its.claimed ≡ Some k → i ≡ j) s.views id w
             (λ has. r.one_claimer_each i id u v k at_i here mine has)
             (λ j its _ at has. r.one_claimer_each i j u its k at_i at mine has) j its at_j theirs)
             i u at_i;
-        claims_match = λ j u k at. each_view (λ j u. u.claimed ≡ Some k → (k < places) × (get_or s.words (place_word_at k) 0 ≡ 2)) s.views id w
+        claims_match = λ j u k at.
+            each_view (λ j u. u.claimed ≡ Some k → (k < places) × (get_or s.words (place_word_at k) 0 ≡ 2)) s.views id w
             (r.claims_match id v k here) (λ j u other at_j has. r.claims_match j u k at_j has) j u at;
       }
 
@@ -72,7 +83,8 @@ module _ {J : Type 0} (places : ℕ) where
     ),
   )
 
-  pub new_seat_enters : (slots : ℕ) (first : PlaceView J) → Enters Rule slots 0 (λ x w. SitsAtPlaces {J = J} (step slots 0 0 0 none) (first, []) x (w, []))
+  pub new_seat_enters : (slots : ℕ) (first : PlaceView J)
+      → Enters Rule slots 0 (λ x w. SitsAtPlaces {J = J} (step slots 0 0 0 none) (first, []) x (w, []))
   new_seat_enters slots first s r _ _ = let w : PlaceView J = with_claim None [] [] [] [] in
       let unclaimed : (u : PlaceView J) (k : ℕ) → w ≡ u → u.claimed ≡ Some k → ⊥ =
       (λ u k is has. none-some k (ap (λ (z : PlaceView J). z.claimed) is ∙ has)) in (
@@ -82,16 +94,21 @@ module _ {J : Type 0} (places : ℕ) where
           as_many_slots = r.as_many_slots;
           is_word = r.is_word;
           at_home = r.at_home;
-          has_claimer = λ k below is. let by = r.has_claimer k below is in (by.0, by.1, at_longer s.views (w ∷ []) by.0 by.1 by.2, by.3);
+          has_claimer = λ k below is.
+              let by = r.has_claimer k below is in
+              (by.0, by.1, at_longer s.views (w ∷ []) by.0 by.1 by.2, by.3);
           one_claimer_each = λ i j u its k at_i at_j mine theirs. ⊎_elim
-              (λ old. ⊎_elim (λ old'. r.one_claimer_each i j u its k old old' mine theirs) (λ is. absurd (unclaimed its k is theirs)) (at_snoc s.views w its j at_j))
+              (λ old. ⊎_elim (λ old'. r.one_claimer_each i j u its k old old' mine theirs)
+              (λ is. absurd (unclaimed its k is theirs)) (at_snoc s.views w its j at_j))
               (λ is. absurd (unclaimed u k is mine)) (at_snoc s.views w u i at_i);
-          claims_match = λ j u k at has. ⊎_elim (λ old. r.claims_match j u k old has) (λ is. absurd (unclaimed u k is has)) (at_snoc s.views w u j at);
+          claims_match = λ j u k at has. ⊎_elim (λ old. r.claims_match j u k old has)
+              (λ is. absurd (unclaimed u k is has)) (at_snoc s.views w u j at);
         },
         refl,
       )
 
-  pub new_places_keep : Rule (opening (replicate (place_words_for places) 0) (replicate places None) (with_claim None [] [] [] []))
+  pub new_places_keep : Rule (opening (replicate (place_words_for places) 0) (replicate places None)
+      (with_claim None [] [] [] []))
   new_places_keep = let v : PlaceView J = with_claim None [] [] [] [] in
       let free = blank (place_words_for places) in
       let unclaimed : (j : ℕ) (u : PlaceView J) (k : ℕ) → get_elem? (v ∷ []) j ≡ some u → u.claimed ≡ Some k → ⊥ =

@@ -1,5 +1,6 @@
 -- What an end finds that tries each place once.
-use Rattle.std.proofs.Common.{◌≡◌, ℕ, ◌+◌, ◌<◌, ◌≤◌, List, [], ◌∷◌, ◌++◌, ◌⊎◌, inl, inr, Option, None, refl, ap, sym, subst, ◌∙◌, ⊎_elim, arith, append_assoc, length-append}
+use Rattle.std.proofs.Common.{◌≡◌, ℕ, ◌+◌, ◌<◌, ◌≤◌, List, [], ◌∷◌, ◌++◌, ◌⊎◌, inl, inr, Option, None, refl, ap, sym}
+use Rattle.std.proofs.Common.{subst, ◌∙◌, ⊎_elim, arith, append_assoc, length-append}
 use Rattle.std.proofs.lemmas.List.{append-nil}
 use mathlib.Core.Logic.{dite}
 use native.Mathlib.Decide.{ℕ_discrete}
@@ -22,7 +23,8 @@ module _ {J : Type 0} (before : PlaceView J) where
     omega arith,
     ap (λ (claimed : Option ℕ). with_claim claimed before.looked before.found before.left before.won) rests
         ∙ ap (λ (l : List ℕ). with_claim None l before.found before.left before.won) (sym (append-nil before.looked))
-        ∙ ap (λ (l : List ℕ). with_claim None (before.looked ++ []) l before.left before.won) (sym (append-nil before.found)),
+        ∙ ap (λ (l : List ℕ). with_claim None (before.looked ++ []) l before.left before.won)
+        (sym (append-nil before.found)),
   )
 
   -- a look at the next place, and a claim there that is lost
@@ -33,11 +35,14 @@ module _ {J : Type 0} (before : PlaceView J) where
         at ++ place ∷ [],
         words ++ word ∷ [],
         λ k below. ⊎_elim
-            (λ same. subst (Contains (at ++ place ∷ [])) (sym same) (Contains-append_right at (place ∷ []) place (0, omega arith, refl)))
+            (λ same. subst (Contains (at ++ place ∷ [])) (sym same)
+            (Contains-append_right at (place ∷ []) place (0, omega arith, refl)))
             (λ earlier. Contains-append_left at (place ∷ []) k (tried.2 k earlier))
             (last_or_before n m place k near most below),
         omega (arith, length-append words (word ∷ []), tried.3, near, most),
         is ∙ ap (λ (z : PlaceView J). after_look z place word) tried.4
-            ∙ ap (λ (l : List ℕ). with_claim None l (before.found ++ words ++ word ∷ []) before.left before.won) (append_assoc before.looked at (place ∷ []))
-            ∙ ap (λ (l : List ℕ). with_claim None (before.looked ++ (at ++ place ∷ [])) l before.left before.won) (append_assoc before.found words (word ∷ [])),
+            ∙ ap (λ (l : List ℕ). with_claim None l (before.found ++ words ++ word ∷ []) before.left before.won)
+            (append_assoc before.looked at (place ∷ []))
+            ∙ ap (λ (l : List ℕ). with_claim None (before.looked ++ (at ++ place ∷ [])) l before.left before.won)
+            (append_assoc before.found words (word ∷ [])),
       )

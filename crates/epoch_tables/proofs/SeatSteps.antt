@@ -1,5 +1,6 @@
 -- A step of one seat keeps the rule, where the words after it and the new view owe little.
-use Rattle.std.proofs.Common.{◌≡◌, ◌≢◌, ℕ, ◌+◌, ◌*◌, ◌<◌, ◌≤◌, ◌⊎◌, List, length, get_or, set, refl, ◌∙◌, subst, ⊎_elim, arith, Some}
+use Rattle.std.proofs.Common.{◌≡◌, ◌≢◌, ℕ, ◌+◌, ◌*◌, ◌<◌, ◌≤◌, ◌⊎◌, List, length, get_or, set, refl, ◌∙◌, subst, ⊎_elim}
+use Rattle.std.proofs.Common.{arith, Some}
 use mathlib.Core.Logic.{dite}
 use mathlib.Core.Option.{some, some-injective, some-ne-none}
 use mathlib.Core.Option as maybe
@@ -12,7 +13,8 @@ use Rattle.epoch_tables.specs.Table.{word_at, seat_word, Sees, EpochsAgree}
 use Rattle.epoch_tables.proofs.Views.{each_view, is_seat}
 
 module _ {S : Type 0} where
-  -- What the new view w of the seat `me` owes, where the words become these and the epoch goes from `before` to `after`.
+  -- What the new view w of the seat `me` owes, where the words become these and the epoch goes from `before` to
+  -- `after`.
   pub record Owes (positions : ℕ) (s : State S ParticipantView) (before : ℕ) (words : List ℕ) (after : ℕ) (me : ℕ)
       (w : ParticipantView) : Type 0 where
     pub long : length words ≡ length s.words
@@ -49,7 +51,9 @@ module _ {S : Type 0} where
     words_still_match j u k at = each_view
         (λ j u. u.position ≡ Some k → (k < positions) × (get_or words (word_at k) 0 ≡ seat_word u.published))
         s.views me w (o.own k)
-        (λ j u other at_j has. let before = r.words_match j u k at_j has in (before.0, (o.others j u k other at_j has).0 ∙ before.1))
+        (λ j u other at_j has.
+        let before = r.words_match j u k at_j has in
+        (before.0, (o.others j u k other at_j has).0 ∙ before.1))
         j u at
 
     still_taken : (k : ℕ) → k < positions → get_or words (word_at k) 0 ≢ 0
@@ -65,7 +69,8 @@ module _ {S : Type 0} where
 
     still_one_seat_each : (i j : ℕ) (u its : ParticipantView) (k : ℕ) → get_elem? after_views i ≡ some u
         → get_elem? after_views j ≡ some its → u.position ≡ Some k → its.position ≡ Some k → i ≡ j
-    still_one_seat_each i j u its k at_i at_j = each_view (λ i u. u.position ≡ Some k → its.position ≡ Some k → i ≡ j) s.views me w
+    still_one_seat_each i j u its k at_i at_j =
+        each_view (λ i u. u.position ≡ Some k → its.position ≡ Some k → i ≡ j) s.views me w
         (λ mine theirs. each_view (λ j its. its.position ≡ Some k → me ≡ j) s.views me w (λ _. refl)
         (λ j its other at_j has. absurd ((o.others j its k other at_j has).1 mine)) j its at_j theirs)
         (λ i u other at_i mine theirs. each_view (λ j its. its.position ≡ Some k → i ≡ j) s.views me w
@@ -92,12 +97,14 @@ module _ {S : Type 0} where
         (λ mine. each_view (λ i its. its.position ≡ Some k → k < m → its.first_read ≡ Some q → x ≤ q) s.views me w
         (λ has lt first. o.myself x m k q mine has lt first)
         (λ i its other at_i has lt first. o.by_me x m i its k q mine other at_i has lt first) i its at_i)
-        (λ j u other at_j theirs. each_view (λ i its. its.position ≡ Some k → k < m → its.first_read ≡ Some q → x ≤ q) s.views me w
+        (λ j u other at_j theirs.
+        each_view (λ i its. its.position ≡ Some k → k < m → its.first_read ≡ Some q → x ≤ q) s.views me w
         (λ has lt first. o.of_me j u x m k q other at_j theirs has lt first)
         (λ i its _ at_i has lt first. r.scans_hold j u x m i its k q at_j theirs at_i has lt first) i its at_i)
         j u at_j scans
 
-    pub step_keeps : (homes : List (maybe.Option S)) → EpochsAgree positions record { words = words; homes = homes; views = after_views }
+    pub step_keeps : (homes : List (maybe.Option S))
+        → EpochsAgree positions record { words = words; homes = homes; views = after_views }
     step_keeps homes = record {
       epoch = after;
       as_many = o.long ∙ r.as_many;
@@ -107,7 +114,8 @@ module _ {S : Type 0} where
       one_seat_each = still_one_seat_each;
       none_ahead = each_view (λ j u. u.seen ≤ after) s.views me w o.seen_now
           (λ j u other at_j. let before = r.none_ahead j u at_j in let up = o.up in omega arith);
-      pins_known = λ j u p at. each_view (λ j u. u.published ≡ Some p → ((k : ℕ) × (u.position ≡ Some k)) × (p ≤ u.seen))
+      pins_known =
+          λ j u p at. each_view (λ j u. u.published ≡ Some p → ((k : ℕ) × (u.position ≡ Some k)) × (p ≤ u.seen))
           s.views me w (o.pinned p) (λ j u other at_j. r.pins_known j u p at_j) j u at;
       pinned_near = still_near;
       scans_known = λ j u x m at. each_view

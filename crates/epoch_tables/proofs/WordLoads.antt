@@ -1,5 +1,7 @@
--- A load of a position's word keeps the rule, and so does each load that leaves all of a view but its scan and its list.
-use Rattle.std.proofs.Common.{◌≡◌, ℕ, ◌+◌, ◌*◌, ◌<◌, ◌≤◌, List, [], ◌∷◌, ◌++◌, get_or, set, sym, refl, ap, ◌∙◌, subst, ⊎_elim, inl, inr, arith, Option, Some, None}
+-- A load of a position's word keeps the rule, and so does each load that leaves all of a view but its scan and its
+-- list.
+use Rattle.std.proofs.Common.{◌≡◌, ℕ, ◌+◌, ◌*◌, ◌<◌, ◌≤◌, List, [], ◌∷◌, ◌++◌, get_or, set, sym, refl, ap, ◌∙◌, subst}
+use Rattle.std.proofs.Common.{⊎_elim, inl, inr, arith, Option, Some, None}
 use Rattle.std.proofs.lemmas.Option.{same_Some}
 use mathlib.Core.Logic.{dite}
 use mathlib.Core.Option as maybe
@@ -42,7 +44,8 @@ module _ {S : Type 0} (positions : ℕ) where
   not_behind s r x k j u q pass at has first = let near = r.pinned_near j u q at first in
       let low = near.2 in
       let word : get_or s.words (word_at k) 0 ≡ 2 * near.0 + 1 = (r.words_match j u k at has).1 ∙ ap seat_word near.1 in
-      ⊎_elim (λ zero. absurd (omega arith)) (λ rest. ⊎_elim (λ two. absurd (omega arith)) (λ odd. omega arith) rest) pass
+      ⊎_elim (λ zero. absurd (omega arith))
+      (λ rest. ⊎_elim (λ two. absurd (omega arith)) (λ odd. omega arith) rest) pass
 
   -- what the scan of a view says: it began after a reading of its own, and holds for the positions passed
   pub record Scans (s : State S ParticipantView) (v : ParticipantView) (scan : Option (ℕ × ℕ)) : Type 0 where
@@ -60,14 +63,18 @@ module _ {S : Type 0} (positions : ℕ) where
       }
   load_keeps s r i id v scan looked found here scans =
       let w : ParticipantView = record v { scan = scan; looked = looked; found = found } in
-      subst (λ (ws : List ℕ). Rule record { words = ws; homes = s.homes; views = set s.views id w }) (sym (set-get_or s.words i 0))
+      subst (λ (ws : List ℕ). Rule record { words = ws; homes = s.homes; views = set s.views id w })
+      (sym (set-get_or s.words i 0))
       (step_keeps positions s r id v w s.words r.epoch here record {
         long = refl;
         word = r.epoch_word;
         up = omega arith;
         own = λ k has. r.words_match id v k here has;
         others = λ j u k other at has. (refl, λ mine. other (r.one_seat_each j id u v k at here has mine));
-        taken = λ k below held. inr (held, λ u at has. subst (λ (z : ParticipantView). z.position ≡ Some k) (one_view s.views id u v at here) has);
+        taken = λ k below held. inr (
+          held,
+          λ u at has. subst (λ (z : ParticipantView). z.position ≡ Some k) (one_view s.views id u v at here) has,
+        );
         seen_now = r.none_ahead id v here;
         pinned = λ p is. r.pins_known id v p here is;
         within = λ q is. r.pinned_near id v q here is;
@@ -79,7 +86,8 @@ module _ {S : Type 0} (positions : ℕ) where
       } s.homes)
 
   -- the scan as it was
-  pub same_scan : (s : State S ParticipantView) (r : Rule s) (id : ℕ) (v : ParticipantView) → Sees s id v → Scans s v v.scan
+  pub same_scan : (s : State S ParticipantView) (r : Rule s) (id : ℕ) (v : ParticipantView)
+      → Sees s id v → Scans s v v.scan
   same_scan s r id v here = record {
     known = λ x m is. r.scans_known id v x m here is;
     hold = λ x m j u k q is at has lt first. r.scans_hold id v x m j u k q here is at has lt first;
@@ -90,7 +98,8 @@ module _ {S : Type 0} (positions : ℕ) where
       → v.scan ≡ Some (x, k) → LetsPass x (get_or s.words (word_at k) 0) → Scans s v (Some (x, k + 1))
   longer_scan s r id v x k here is pass = record {
     known = λ x' m is'. let same = ap (λ (z : ℕ × ℕ). z.0) (same_Some (x, k + 1) (x', m) is') in
-        subst (λ (z : ℕ). ((q : ℕ) × (v.first_read ≡ Some q) × (q ≤ z)) × (z ≤ v.seen)) same (r.scans_known id v x k here is);
+        subst (λ (z : ℕ). ((q : ℕ) × (v.first_read ≡ Some q) × (q ≤ z)) × (z ≤ v.seen)) same
+        (r.scans_known id v x k here is);
     hold = λ x' m j u k' q is' at has lt first. let both = same_Some (x, k + 1) (x', m) is' in
         let same = ap (λ (z : ℕ × ℕ). z.0) both in
         let more = ap (λ (z : ℕ × ℕ). z.1) both in

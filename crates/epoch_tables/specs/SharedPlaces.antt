@@ -1,6 +1,7 @@
 -- The rule of the shared places for bags: what holds between any two steps, whatever threads take them.
 -- A place's word is 0 where it is empty, 2 while a seat has claimed it, and 2s + 1 where it holds a bag sealed with s.
-use Rattle.std.specs.Prelude.{◌≡◌, ◌≢◌, ℕ, ◌+◌, ◌*◌, ◌<◌, List, [], ◌∷◌, ◌++◌, length, slice_index, Option, Some, None, ◌⊎◌}
+use Rattle.std.specs.Prelude.{◌≡◌, ◌≢◌, ℕ, ◌+◌, ◌*◌, ◌<◌, List, [], ◌∷◌, ◌++◌, length, slice_index, Option, Some, None}
+use Rattle.std.specs.Prelude.{◌⊎◌}
 use mathlib.Core.Option.{some}
 use lib.ListN.{get_elem?}
 use Rattle.atomic_table.specs.Table.{State, Me, Step}
@@ -44,7 +45,8 @@ pub record PlacesAgree {J : Type 0} (places : ℕ) (s : State (Option (Sealed J)
   -- A place at 2 is claimed by one seat. A view names at most one place that its seat has claimed.
   pub has_claimer : (place : ℕ) → place < places → slice_index s.words (place_word_at place) ≡ 2
       → (seat : ℕ) × (view : PlaceView J) × PlaceSeatSees s seat view × (view.claimed ≡ Some place)
-  pub one_claimer_each : (seat other : ℕ) (view its : PlaceView J) (place : ℕ) → PlaceSeatSees s seat view → PlaceSeatSees s other its
+  pub one_claimer_each : (seat other : ℕ) (view its : PlaceView J) (place : ℕ)
+      → PlaceSeatSees s seat view → PlaceSeatSees s other its
       → view.claimed ≡ Some place → its.claimed ≡ Some place → seat ≡ other
   pub claims_match : (seat : ℕ) (view : PlaceView J) (place : ℕ) → PlaceSeatSees s seat view → view.claimed ≡ Some place
       → (place < places) × (slice_index s.words (place_word_at place) ≡ 2)
@@ -56,13 +58,16 @@ abbrev pub IsPlaceSeatOf : {J : Type 0} → PlaceBoard → Seat (Option (Sealed 
 IsPlaceSeatOf board seat = seat.table_id ≡ board.table
 
 -- it is the same seat of the same places
-abbrev pub IsSamePlaceSeat : {J : Type 0} → Seat (Option (Sealed J)) (PlaceView J) → Seat (Option (Sealed J)) (PlaceView J) → Type 0
+abbrev pub IsSamePlaceSeat : {J : Type 0}
+    → Seat (Option (Sealed J)) (PlaceView J) → Seat (Option (Sealed J)) (PlaceView J) → Type 0
 IsSamePlaceSeat before after = (after.table_id ≡ before.table_id) × (after.id ≡ before.id)
 
 -- VIEWS
 
-abbrev pub with_claim : {J : Type 0} → Option ℕ → List ℕ → List ℕ → List (Option (Sealed J)) → List (Option (Sealed J)) → PlaceView J
-with_claim claimed looked found left won = record { claimed = claimed; looked = looked; found = found; left = left; won = won }
+abbrev pub with_claim : {J : Type 0}
+    → Option ℕ → List ℕ → List ℕ → List (Option (Sealed J)) → List (Option (Sealed J)) → PlaceView J
+with_claim claimed looked found left won =
+    record { claimed = claimed; looked = looked; found = found; left = left; won = won }
 
 -- it found this word at this place
 abbrev pub after_look : {J : Type 0} → PlaceView J → ℕ → ℕ → PlaceView J
@@ -70,7 +75,8 @@ after_look v place word = with_claim v.claimed (v.looked ++ place ∷ []) (v.fou
 
 -- it found this word at this place, and claimed it, where this was at home
 abbrev pub after_place_claim : {J : Type 0} → PlaceView J → ℕ → ℕ → Option (Sealed J) → PlaceView J
-after_place_claim v place word home = with_claim (Some place) (v.looked ++ place ∷ []) (v.found ++ word ∷ []) v.left (v.won ++ home ∷ [])
+after_place_claim v place word home =
+    with_claim (Some place) (v.looked ++ place ∷ []) (v.found ++ word ∷ []) v.left (v.won ++ home ∷ [])
 
 -- it filled or emptied the place that it had claimed, and left this there
 abbrev pub after_store : {J : Type 0} → PlaceView J → Option (Sealed J) → PlaceView J
@@ -96,7 +102,8 @@ module _ {J : Type 0} where
   -- A claim that is won takes the slot, with what was at home there.
   abbrev pub ClaimsPlace : PlaceStep J → PlaceMe J → ℕ → PlaceMe J → Type 0
   ClaimsPlace step before word after = IsPlaceWord word
-      × (word ≢ step.first → (place : ℕ) → step.word ≡ place_word_at place → after ≡ (after_look before.0 place word, before.1))
+      × (word ≢ step.first → (place : ℕ) → step.word ≡ place_word_at place
+      → after ≡ (after_look before.0 place word, before.1))
       × (word ≡ step.first → (place : ℕ) → step.word ≡ place_word_at place
       → (bag : Option (Sealed J)) × IsAtHome word bag
       × (after ≡ (after_place_claim before.0 place word bag, (place, bag) ∷ before.1)))

@@ -33,7 +33,8 @@ module _ {J : Type 0} where
   abbrev pub TakesAt : ℕ → ℕ → TakeCursor → PlaceMe J → Type 0
   TakesAt places x (TakeLook place) me = (place ≤ places) × RestsAt me
   TakesAt places x (TakeClaim place word) me = (place < places) × IsExpiredWord x word × RestsAt me
-  TakesAt places x (Empty place) me = (place < places) × ((bag : Sealed J) × IsExpired x bag × HoldsAt place (Some bag) me)
+  TakesAt places x (Empty place) me =
+      (place < places) × ((bag : Sealed J) × IsExpired x bag × HoldsAt place (Some bag) me)
 
 -- WHAT A STEP DOES
 
@@ -54,23 +55,27 @@ module _ {J : Type 0} where
   -- one step of a put of this sealed bag
   abbrev pub PutMoves : ℕ → PutCursor → PlaceMe J → Sealed J → PutStep → PutCursor → PlaceMe J → Type 0
   PutMoves places cursor before bag step next after =
-      PutGoes places (λ place word. Finds place before word after) (λ place word. Wins place before word after) (λ place. LeavesContent before (Some bag) after) cursor step next
+      PutGoes places (λ place word. Finds place before word after) (λ place word. Wins place before word after)
+      (λ place. LeavesContent before (Some bag) after) cursor step next
 
-  -- One step of a collection for the epoch x, and what is in the hand after it. The bag that is got is the very one that
-  -- was in the slot, since the claim that won it.
+  -- One step of a collection for the epoch x, and what is in the hand after it. The bag that is got is the very one
+  -- that was in the slot, since the claim that won it.
   abbrev pub TakeMoves : ℕ → ℕ → TakeCursor → PlaceMe J → TakeStep → TakeCursor → PlaceMe J → Sealed J → Type 0
   TakeMoves places x cursor before step next after hand =
       TakeGoes places (λ place word. Finds place before word after) (λ place word. Wins place before word after)
-      (λ place. LeavesContent before None after × (before.1 ≡ (place, Some hand) ∷ []) × IsExpired x hand) (after ≡ before) x cursor step next
+      (λ place. LeavesContent before None after × (before.1 ≡ (place, Some hand) ∷ [])
+      × IsExpired x hand) (after ≡ before) x cursor step next
 
 -- AN END
 
 module _ {J : Type 0} where
-  -- Places were looked at, and claimed where that was tried, and these words were found there. Where no bag is taken out,
-  -- each of so many places is among them; else the last word is that of the bag.
+  -- Places were looked at, and claimed where that was tried, and these words were found there. Where no bag is taken
+  -- out, each of so many places is among them; else the last word is that of the bag.
   abbrev pub TriesEach : ℕ → PlaceView J → Option (Sealed J) → PlaceView J → Type 0
-  TriesEach places before None after = (at words : List ℕ) × ((place : ℕ) → place < places → Contains at place) × (places ≤ length words)
+  TriesEach places before None after =
+      (at words : List ℕ) × ((place : ℕ) → place < places → Contains at place) × (places ≤ length words)
       × (after ≡ with_claim None (before.looked ++ at) (before.found ++ words) before.left before.won)
   TriesEach places before (Some bag) after = (at words : List ℕ) × (place : ℕ) × (place < places)
-      × (after ≡ with_claim None (before.looked ++ (at ++ place ∷ [])) (before.found ++ (words ++ (2 * bag.seal + 1) ∷ []))
+      × (after ≡ with_claim None (before.looked ++ (at ++ place ∷ []))
+      (before.found ++ (words ++ (2 * bag.seal + 1) ∷ []))
       (before.left ++ None ∷ []) (before.won ++ Some bag ∷ []))

@@ -1,5 +1,6 @@
 //! Arrays whose length is chosen when they are made.
-ghost use Rattle.std.specs.Prelude.{◌≡◌, ◌≤◌, ◌<◌, ℕ, ◌↔◌, IsErr, IfOk, IfErr, IsOkUnless, IsSomeAnd, vec_len, refl, slice_get, slice_set, Some, None, ◌⊎◌};
+ghost use Rattle.std.specs.Prelude.{◌≡◌, ◌≤◌, ◌<◌, ℕ, ◌↔◌, IsErr, IfOk, IfErr, IsOkUnless, IsSomeAnd, vec_len, refl};
+ghost use Rattle.std.specs.Prelude.{slice_get, slice_set, Some, None, ◌⊎◌};
 ghost use Rattle.std.proofs.Common.{lit≤};
 ghost use Rattle.epoch_cells.specs.declared.fault.Fault.TheVariants.{NoMemory};
 
@@ -40,8 +41,10 @@ impl<E: Drop> Array<E> {
 
     /// The element of this index. `None`: it isn't there, or the index is at or past [`Array::len`].
     pub fn get(&self, index: usize) -> Option<&E>
-        ensures value { (element : _) → slice_get self.now.elements.items index ≡ Some (Some element) → IsSomeAnd result (λ found. found.now ≡ element) }
-        ensures none { (slice_get self.now.elements.items index ≡ None) ⊎ (slice_get self.now.elements.items index ≡ Some None) → result ≡ None }
+        ensures value { (element : _) → slice_get self.now.elements.items index ≡ Some (Some element)
+            → IsSomeAnd result (λ found. found.now ≡ element) }
+        ensures none { (slice_get self.now.elements.items index ≡ None)
+            ⊎ (slice_get self.now.elements.items index ≡ Some None) → result ≡ None }
     {
         self.elements.get(index)?.as_ref()
     }
@@ -53,7 +56,8 @@ impl<E: Drop> Array<E> {
         ensures past { IsErr result ↔ (vec_len self.old.elements ≤ index) }
         ensures handed_back { IfErr result (λ back. back ≡ element) }
         ensures before { IfOk result (λ before. slice_get self.old.elements.items index ≡ Some before) }
-        ensures set { IfOk result (λ before. self.new.elements.items ≡ slice_set self.old.elements.items index (Some element)) }
+        ensures set { IfOk result
+            (λ before. self.new.elements.items ≡ slice_set self.old.elements.items index (Some element)) }
         ensures kept { IfErr result (λ back. self.new.elements.items ≡ self.old.elements.items) }
     {
         match self.elements.get_mut(index) {
@@ -76,7 +80,8 @@ impl<E: Drop> Pointable for Array<E> {
 
     type Init = usize;
 
-    ghost init_gives = { λ len array. (vec_len array.elements ≡ len) × ((i : ℕ) → i < len → slice_get array.elements.items i ≡ Some None) };
+    ghost init_gives = { λ len array. (vec_len array.elements ≡ len)
+        × ((i : ℕ) → i < len → slice_get array.elements.items i ≡ Some None) };
 
     fn init(alloc: Global, len: usize) -> Result<Array<E>, Fault> {
         Array::new(alloc, len)

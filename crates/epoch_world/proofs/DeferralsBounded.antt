@@ -1,5 +1,6 @@
 -- Every step of a participant keeps the tickets below their limit.
-use Rattle.std.proofs.Common.{◌≡◌, ◌≢◌, ℕ, ◌+◌, ◌-◌, ◌^◌, ◌<◌, ◌≤◌, ◌==◌, true, false, List, length, Some, None, inl, inr, refl, ap, sym, subst, ◌∙◌, arith, ◌⊎◌, sum_by}
+use Rattle.std.proofs.Common.{◌≡◌, ◌≢◌, ℕ, ◌+◌, ◌-◌, ◌^◌, ◌<◌, ◌≤◌, ◌==◌, true, false, List, length, Some, None, inl}
+use Rattle.std.proofs.Common.{inr, refl, ap, sym, subst, ◌∙◌, arith, ◌⊎◌, sum_by}
 use Rattle.std.proofs.lemmas.List.{length-set}
 use Rattle.std.proofs.lemmas.List.Sums.{sum_by-set}
 use Rattle.epoch_bags.specs.declared.queue.PutStep.{PutStep}
@@ -9,22 +10,32 @@ use Rattle.epoch_bags.specs.declared.queue.TakeStep.TheVariants.{Again as TakeAg
 use Rattle.epoch_machine.specs.declared.machine.Action.{Action}
 use Rattle.epoch_machine.specs.declared.machine.Action.TheVariants.{Pin, Unpin, Repin, Defer, Flush, Release}
 use Rattle.epoch_machine.specs.declared.machine.Stage.{Stage}
-use Rattle.epoch_machine.specs.declared.machine.Stage.TheVariants.{Idle, LoadPin, StorePin, ReloadPin, LoadScan, Scan, Advance, Take, Calling, LoadSeal, Put, Keep, LoadRepin, StoreRepin, ReloadRepin, StoreUnpinned, StoreFree, End}
+use Rattle.epoch_machine.specs.declared.machine.Stage.TheVariants.{Idle, LoadPin, StorePin, ReloadPin, LoadScan, Scan}
+use Rattle.epoch_machine.specs.declared.machine.Stage.TheVariants.{Advance, Take, Calling, LoadSeal, Put, Keep}
+use Rattle.epoch_machine.specs.declared.machine.Stage.TheVariants.{LoadRepin, StoreRepin, ReloadRepin, StoreUnpinned}
+use Rattle.epoch_machine.specs.declared.machine.Stage.TheVariants.{StoreFree, End}
 use Rattle.epoch_machine.specs.declared.machine.Answer.TheVariants.{Job, Stored}
-use Rattle.epoch_machine.specs.Machine.{Machine, ask_at, hears, put_heard, took_heard, gives, with_stage, first_stage, ended}
+use Rattle.epoch_machine.specs.Machine.{Machine, ask_at, hears, put_heard, took_heard, gives, with_stage, first_stage}
+use Rattle.epoch_machine.specs.Machine.{ended}
 use Rattle.epoch_machine.proofs.StagesAfter.{either_way}
 use Rattle.epoch_laws.specs.declared.step.Call.{Call}
-use Rattle.epoch_laws.specs.declared.step.Call.TheVariants.{Pin as PinCall, Unpin as UnpinCall, Repin as RepinCall, Pause, Resume, Defer as DeferCall, Flush as FlushCall, Release as ReleaseCall, DeferDestroy, Access as AccessCall}
+use Rattle.epoch_laws.specs.declared.step.Call.TheVariants.{Pin as PinCall, Unpin as UnpinCall, Repin as RepinCall}
+use Rattle.epoch_laws.specs.declared.step.Call.TheVariants.{Pause, Resume, Defer as DeferCall, Flush as FlushCall}
+use Rattle.epoch_laws.specs.declared.step.Call.TheVariants.{Release as ReleaseCall, DeferDestroy, Access as AccessCall}
 use Rattle.epoch_laws.specs.declared.step.Reply.{Reply}
 use Rattle.epoch_laws.specs.declared.step.Deferral.{Deferral}
 use Rattle.epoch_laws.specs.declared.step.Word.{Word}
 use Rattle.epoch_laws.specs.declared.step.Word.TheVariants.{Free, Unpinned, Pinned}
 use Rattle.epoch_laws.specs.declared.step.Progress.{Progress}
 use Rattle.epoch_laws.specs.declared.step.Progress.TheVariants.{Idle as IdleProgress, Driven, CallsNow, Ends, Accesses}
-use Rattle.epoch_laws.specs.Run.{Bag, WorldSeat, State, seat_of, position_word, word_number, with_seat, with_machine, with_word, free_seat, drives, begun_seat, ended_seat, call_refusal, DrivesCall, DoesGo}
+use Rattle.epoch_laws.specs.Run.{Bag, WorldSeat, State, seat_of, position_word, word_number, with_seat, with_machine}
+use Rattle.epoch_laws.specs.Run.{with_word, free_seat, drives, begun_seat, ended_seat, call_refusal, DrivesCall, DoesGo}
 use Rattle.epoch_laws.proofs.SeatLemmas.{seat_written, seat_other, seat_there, same_or_other}
 use Rattle.epoch_laws.proofs.TicketsTallied.{acted}
-use Rattle.epoch_world.proofs.PendingDeferrals.{TicketsBounded, is_busy, pending_at, pending, KeepsAt, KeepsAsDeferral, pending_one, none_pending, sum_most, keeps_collected, keeps_pinned, keeps_put, keeps_unpinned, keeps_called, keeps_past, keeps_first, room_given, busy_takes, removal_room_given}
+use Rattle.epoch_world.proofs.PendingDeferrals.{TicketsBounded, is_busy, pending_at, pending, KeepsAt, KeepsAsDeferral}
+use Rattle.epoch_world.proofs.PendingDeferrals.{pending_one, none_pending, sum_most, keeps_collected, keeps_pinned}
+use Rattle.epoch_world.proofs.PendingDeferrals.{keeps_put, keeps_unpinned, keeps_called, keeps_past, keeps_first}
+use Rattle.epoch_world.proofs.PendingDeferrals.{room_given, busy_takes, removal_room_given}
 use Rattle.epoch_heap.specs.Heap.{Heap}
 
 module _ (old new : State) (h : TicketsBounded old) where
@@ -222,7 +233,8 @@ module _ (old new : State) (h : TicketsBounded old) where
     goes_at c ReloadPin reply keeps at did = staged ReloadPin at refl _ (keeps_pinned m.action m) did.1
     goes_at c LoadScan reply keeps at did = staged LoadScan at refl _ tt did.1
     goes_at c (Scan e k) reply keeps at did =
-        staged (Scan e k) at refl _ (keeps_past m.action m.sizes.positions e k (word_number (position_word old k))) did.1
+        staged (Scan e k) at refl _
+        (keeps_past m.action m.sizes.positions e k (word_number (position_word old k))) did.1
     goes_at c (Advance e) reply keeps at did =
         goes_on (Advance e) at refl seat.word (hears m (Advance e) Stored) (e + 1) old.queued refl tt did.1
     goes_at c (Take y k) reply keeps at (step, jobs, queued, is, took, did) =

@@ -1,11 +1,14 @@
 -- Nobody is at work at a free position.
-use Rattle.std.proofs.Common.{◌≡◌, ◌≢◌, ℕ, ◌<◌, true, [], ◌∷◌, length, Option, Some, None, ◌⊎◌, inl, inr, refl, ap, sym, subst, ◌∙◌}
+use Rattle.std.proofs.Common.{◌≡◌, ◌≢◌, ℕ, ◌<◌, true, [], ◌∷◌, length, Option, Some, None, ◌⊎◌, inl, inr, refl, ap, sym}
+use Rattle.std.proofs.Common.{subst, ◌∙◌}
 use Rattle.epoch_cells.specs.declared.fault.Fault.{Fault}
 use Rattle.epoch_machine.specs.declared.machine.Ask.{Ask}
-use Rattle.epoch_machine.specs.declared.machine.Ask.TheVariants.{StorePinned, StoreRepinned, StoreUnpinned, StoreFree, PutBag, TakeBag, CallJob}
+use Rattle.epoch_machine.specs.declared.machine.Ask.TheVariants.{StorePinned, StoreRepinned, StoreUnpinned, StoreFree}
+use Rattle.epoch_machine.specs.declared.machine.Ask.TheVariants.{PutBag, TakeBag, CallJob}
 use Rattle.epoch_machine.specs.Machine.{ask_at}
 use Rattle.epoch_laws.specs.declared.step.Call.{Call}
-use Rattle.epoch_laws.specs.declared.step.Call.TheVariants.{Pin, Unpin, Repin, Pause, Resume, Defer, Flush, Release, DeferDestroy, Access as AccessCall}
+use Rattle.epoch_laws.specs.declared.step.Call.TheVariants.{Pin, Unpin, Repin, Pause, Resume, Defer, Flush, Release}
+use Rattle.epoch_laws.specs.declared.step.Call.TheVariants.{DeferDestroy, Access as AccessCall}
 use Rattle.epoch_laws.specs.declared.step.Progress.{Progress}
 use Rattle.epoch_laws.specs.declared.step.Progress.TheVariants.{Idle, Driven, CallsNow, Accesses, Ends}
 use Rattle.epoch_laws.specs.declared.step.Reply.{Reply}
@@ -13,31 +16,39 @@ use Rattle.epoch_laws.specs.declared.step.Step.{Step}
 use Rattle.epoch_laws.specs.declared.step.Step.TheVariants.{Register, Begin, Go, End as EndStep, EndGo}
 use Rattle.epoch_laws.specs.declared.step.Word.TheVariants.{Free, Unpinned}
 use Rattle.epoch_laws.specs.Kept.{FreeRests, rests}
-use Rattle.epoch_laws.specs.Run.{WorldSeat, State, Ending, Open, Emptying, Over, seat_of, position_word, with_seat, free_seat, begun_seat, ended_seat, refusal, BeginsCall, PerformsAsk, DrivesCall, DoesGo, EndGoes, Moves, IsFresh}
+use Rattle.epoch_laws.specs.Run.{WorldSeat, State, Ending, Open, Emptying, Over, seat_of, position_word, with_seat}
+use Rattle.epoch_laws.specs.Run.{free_seat, begun_seat, ended_seat, refusal, BeginsCall, PerformsAsk, DrivesCall}
+use Rattle.epoch_laws.specs.Run.{DoesGo, EndGoes, Moves, IsFresh}
 use Rattle.epoch_laws.proofs.SeatLemmas.{seat_written, seat_other, seat_there, same_or_other, begin_given}
 
 module _ (old new : State) (h : FreeRests old) where
   -- no seat is written
   along : (last : State) → new ≡ last → ((q : ℕ) → seat_of last q ≡ seat_of old q) → FreeRests new
-  along last e same = subst FreeRests (sym e) (λ q free. ap (λ (seat : WorldSeat). rests seat.machine.stage) (same q) ∙ h q (ap (λ (seat : WorldSeat). seat.word) (sym (same q)) ∙ free))
+  along last e same = subst FreeRests (sym e) (λ q free. ap (λ (seat : WorldSeat). rests seat.machine.stage) (same q)
+      ∙ h q (ap (λ (seat : WorldSeat). seat.word) (sym (same q)) ∙ free))
 
   module _ (p : ℕ) (reply : Reply) (taken : position_word old p ≢ Free) where
     abbrev seat : WorldSeat
     seat = seat_of old p
 
-    written : (after : WorldSeat) → (after.word ≡ Free → rests after.machine.stage ≡ true) → (last : State) → new ≡ last → ((q : ℕ) → seat_of last q ≡ seat_of (with_seat old p after) q) → FreeRests new
+    written : (after : WorldSeat) → (after.word ≡ Free → rests after.machine.stage ≡ true) → (last : State) → new ≡ last
+        → ((q : ℕ) → seat_of last q ≡ seat_of (with_seat old p after) q) → FreeRests new
     written after own last e wrote = subst FreeRests (sym e) (λ q free. by_position q free (same_or_other q p))
       where
-        by_position : (q : ℕ) → position_word last q ≡ Free → (q ≡ p) ⊎ (q ≢ p) → rests (seat_of last q).machine.stage ≡ true
+        by_position : (q : ℕ) → position_word last q ≡ Free → (q ≡ p) ⊎ (q ≢ p)
+            → rests (seat_of last q).machine.stage ≡ true
         by_position q free (inl same) =
-            let here : seat_of last q ≡ after = wrote q ∙ ap (λ (k : ℕ). seat_of (with_seat old p after) k) same ∙ seat_written old p after (seat_there old p taken) in
+            let here : seat_of last q ≡ after = wrote q ∙ ap (λ (k : ℕ). seat_of (with_seat old p after) k) same
+            ∙ seat_written old p after (seat_there old p taken) in
             ap (λ (s : WorldSeat). rests s.machine.stage) here ∙ own (ap (λ (s : WorldSeat). s.word) (sym here) ∙ free)
         by_position q free (inr other) =
             let there : seat_of last q ≡ seat_of old q = wrote q ∙ seat_other old p q after other in
-            ap (λ (s : WorldSeat). rests s.machine.stage) there ∙ h q (ap (λ (s : WorldSeat). s.word) (sym there) ∙ free)
+            ap (λ (s : WorldSeat). rests s.machine.stage) there
+            ∙ h q (ap (λ (s : WorldSeat). s.word) (sym there) ∙ free)
 
     -- its word stays
-    stays : (after : WorldSeat) → after.word ≡ seat.word → (last : State) → new ≡ last → ((q : ℕ) → seat_of last q ≡ seat_of (with_seat old p after) q) → FreeRests new
+    stays : (after : WorldSeat) → after.word ≡ seat.word → (last : State) → new ≡ last
+        → ((q : ℕ) → seat_of last q ≡ seat_of (with_seat old p after) q) → FreeRests new
     stays after same last e wrote = written after (λ free. absurd (taken (sym same ∙ free))) last e wrote
 
     performs : (ask : Ask) → PerformsAsk old p seat seat.machine.stage ask reply new → FreeRests new
@@ -83,18 +94,24 @@ module _ (old new : State) (h : FreeRests old) where
     begun_word (AccessCall a) = refl
     begun_word _ = refl
 
-  registers : (p : ℕ) → p < length old.seats → new ≡ with_seat old p (record (free_seat old.sizes) { word = Unpinned }) → FreeRests new
+  registers : (p : ℕ)
+      → p < length old.seats → new ≡ with_seat old p (record (free_seat old.sizes) { word = Unpinned }) → FreeRests new
   registers p there e = subst FreeRests (sym e) (λ q free. by_position q free (same_or_other q p))
     where
-      by_position : (q : ℕ) → position_word (with_seat old p (record (free_seat old.sizes) { word = Unpinned })) q ≡ Free → (q ≡ p) ⊎ (q ≢ p)
+      by_position : (q : ℕ)
+          → position_word (with_seat old p (record (free_seat old.sizes) { word = Unpinned })) q ≡ Free
+          → (q ≡ p) ⊎ (q ≢ p)
           → rests (seat_of (with_seat old p (record (free_seat old.sizes) { word = Unpinned })) q).machine.stage ≡ true
-      by_position q free (inl same) = ap (λ (k : ℕ). rests (seat_of (with_seat old p (record (free_seat old.sizes) { word = Unpinned })) k).machine.stage) same
-          ∙ ap (λ (s : WorldSeat). rests s.machine.stage) (seat_written old p (record (free_seat old.sizes) { word = Unpinned }) there)
+      by_position q free (inl same) = ap (λ (k : ℕ).
+          rests (seat_of (with_seat old p (record (free_seat old.sizes) { word = Unpinned })) k).machine.stage) same
+          ∙ ap (λ (s : WorldSeat). rests s.machine.stage)
+          (seat_written old p (record (free_seat old.sizes) { word = Unpinned }) there)
       by_position q free (inr other) =
           let at = seat_other old p q (record (free_seat old.sizes) { word = Unpinned }) other in
           ap (λ (s : WorldSeat). rests s.machine.stage) at ∙ h q (ap (λ (s : WorldSeat). s.word) (sym at) ∙ free)
 
-  begins : (p : ℕ) (c : Call) (o : Option Fault) (reply : Reply) → refusal c (seat_of old p) old.tickets old.heap ≡ o → BeginsCall old p c o reply new → FreeRests new
+  begins : (p : ℕ) (c : Call) (o : Option Fault) (reply : Reply)
+      → refusal c (seat_of old p) old.tickets old.heap ≡ o → BeginsCall old p c o reply new → FreeRests new
   begins p c (Some f) reply at did = along old did.1 (λ q. refl)
   begins p c None reply at did =
       let given = begin_given c (seat_of old p) old.tickets old.heap at in

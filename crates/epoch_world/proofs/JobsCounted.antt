@@ -1,5 +1,6 @@
 -- No step makes the jobs more than the tickets.
-use Rattle.std.proofs.Common.{◌≡◌, ℕ, ◌+◌, ◌<◌, ◌≤◌, List, [], ◌∷◌, ◌++◌, length, Option, Some, None, inl, inr, refl, ap, sym, subst, arith, slice_set}
+use Rattle.std.proofs.Common.{◌≡◌, ℕ, ◌+◌, ◌<◌, ◌≤◌, List, [], ◌∷◌, ◌++◌, length, Option, Some, None, inl, inr, refl}
+use Rattle.std.proofs.Common.{ap, sym, subst, arith, slice_set}
 use Rattle.std.proofs.lemmas.List.{length-append}
 use Rattle.std.proofs.lemmas.List.Sums.{sum_by-append, sum_by-cons, sum_by-set}
 use Rattle.epoch_bags.specs.Stores.{IsInserted}
@@ -9,14 +10,18 @@ use Rattle.epoch_bags.specs.declared.queue.PutStep.TheVariants.{Again, Done as P
 use Rattle.epoch_bags.specs.declared.queue.TakeStep.{TakeStep}
 use Rattle.epoch_bags.specs.declared.queue.TakeStep.TheVariants.{Again as TakeAgain, Empty, Got}
 use Rattle.epoch_machine.specs.declared.machine.Stage.{Stage}
-use Rattle.epoch_machine.specs.declared.machine.Stage.TheVariants.{LoadPin, Scan, Take, Calling, Keep, StoreFree as FreeStage}
+use Rattle.epoch_machine.specs.declared.machine.Stage.TheVariants.{LoadPin, Scan, Take, Calling, Keep}
+use Rattle.epoch_machine.specs.declared.machine.Stage.TheVariants.{StoreFree as FreeStage}
 use Rattle.epoch_machine.specs.declared.machine.Ask.{Ask}
-use Rattle.epoch_machine.specs.declared.machine.Ask.TheVariants.{LoadEpoch, LoadWord, StorePinned, StoreRepinned, StoreUnpinned, StoreFree, StoreEpoch, PutBag, TakeBag, KeepJob, CallJob}
+use Rattle.epoch_machine.specs.declared.machine.Ask.TheVariants.{LoadEpoch, LoadWord, StorePinned, StoreRepinned}
+use Rattle.epoch_machine.specs.declared.machine.Ask.TheVariants.{StoreUnpinned, StoreFree, StoreEpoch, PutBag, TakeBag}
+use Rattle.epoch_machine.specs.declared.machine.Ask.TheVariants.{KeepJob, CallJob}
 use Rattle.epoch_machine.specs.declared.machine.Answer.{Answer}
 use Rattle.epoch_machine.specs.declared.machine.Answer.TheVariants.{Epoch, Word as WordFound, Stored, Job}
 use Rattle.epoch_machine.specs.Machine.{Machine, ask_at, hears, put_heard, took_heard, gives, PutsHeld, TakesHand}
 use Rattle.epoch_laws.specs.declared.step.Call.{Call}
-use Rattle.epoch_laws.specs.declared.step.Call.TheVariants.{Pin, Unpin, Repin, Pause, Resume, Defer, Flush, Release, DeferDestroy, Access as AccessCall}
+use Rattle.epoch_laws.specs.declared.step.Call.TheVariants.{Pin, Unpin, Repin, Pause, Resume, Defer, Flush, Release}
+use Rattle.epoch_laws.specs.declared.step.Call.TheVariants.{DeferDestroy, Access as AccessCall}
 use Rattle.epoch_laws.specs.declared.step.Step.{Step}
 use Rattle.epoch_laws.specs.declared.step.Step.TheVariants.{Register, Begin, Go, End as EndStep, EndGo}
 use Rattle.epoch_laws.specs.declared.step.Reply.{Reply}
@@ -24,7 +29,9 @@ use Rattle.epoch_laws.specs.declared.step.Deferral.{Deferral}
 use Rattle.epoch_laws.specs.declared.step.Word.{Word}
 use Rattle.epoch_laws.specs.declared.step.Progress.{Progress}
 use Rattle.epoch_laws.specs.declared.step.Progress.TheVariants.{Idle, Driven, CallsNow, Ends, Accesses}
-use Rattle.epoch_laws.specs.Run.{Bag, WorldSeat, State, seat_of, with_word, free_seat, Ending, Open, Emptying, Over, refusal, begun_seat, BeginsCall, ended_seat, PerformsAsk, DrivesCall, DoesGo, EndGoes, Moves, IsFresh, with_seat, removed_by}
+use Rattle.epoch_laws.specs.Run.{Bag, WorldSeat, State, seat_of, with_word, free_seat, Ending, Open, Emptying, Over}
+use Rattle.epoch_laws.specs.Run.{refusal, begun_seat, BeginsCall, ended_seat, PerformsAsk, DrivesCall, DoesGo, EndGoes}
+use Rattle.epoch_laws.specs.Run.{Moves, IsFresh, with_seat, removed_by}
 use Rattle.epoch_laws.specs.Kept.{jobs_of_machine, jobs_queued, jobs_at_seats, jobs_at_end, JobsFew}
 use Rattle.epoch_laws.proofs.SeatLemmas.{seat_there, begin_given}
 use Rattle.epoch_laws.proofs.TicketSums.{sum_zero}
@@ -40,7 +47,8 @@ queued_more bag old new at =
     let before : jobs_queued old ≡ jobs_queued (at.front ++ at.back) = ap jobs_queued at.without in
     let after : jobs_queued new ≡ jobs_queued (at.front ++ bag ∷ at.back) = ap jobs_queued at.with in
     let more = sum_by-cons of_bag bag at.back in
-    omega (arith, before, after, more, sum_by-append of_bag at.front (bag ∷ at.back), sum_by-append of_bag at.front at.back)
+    omega
+    (arith, before, after, more, sum_by-append of_bag at.front (bag ∷ at.back), sum_by-append of_bag at.front at.back)
 
 -- WHAT AN ANSWER DOES TO THE JOBS OF A MACHINE
 
@@ -254,5 +262,6 @@ moves_jobs old new step reply h did = moves old new h step reply did
 pub fresh_jobs : (s : State) → IsFresh s → JobsFew s
 fresh_jobs s fresh =
     let jobs_of = λ (seat : WorldSeat). jobs_of_machine seat.machine in
-    let none_at_seats : jobs_at_seats s.seats ≡ 0 = sum_zero jobs_of s.seats (free_seat s.sizes) (λ p. ap jobs_of (fresh.free p)) in
+    let none_at_seats : jobs_at_seats s.seats ≡ 0 = sum_zero jobs_of s.seats (free_seat s.sizes)
+    (λ p. ap jobs_of (fresh.free p)) in
     omega (arith, none_at_seats, ap jobs_queued fresh.none_queued, ap jobs_at_end fresh.open_end)

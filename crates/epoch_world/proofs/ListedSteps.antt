@@ -1,5 +1,6 @@
 -- The steps that a world takes and writes down, and what the sharp list among them leads to.
-use Rattle.std.proofs.Common.{◌≡◌, ℕ, zero, suc, ◌+◌, ◌-◌, ◌<◌, ◌≤◌, List, [], ◌∷◌, ◌++◌, length, map, Some, refl, ap, sym, ◌∙◌, arith, append_assoc}
+use Rattle.std.proofs.Common.{◌≡◌, ℕ, zero, suc, ◌+◌, ◌-◌, ◌<◌, ◌≤◌, List, [], ◌∷◌, ◌++◌, length, map, Some, refl, ap}
+use Rattle.std.proofs.Common.{sym, ◌∙◌, arith, append_assoc}
 use Rattle.std.proofs.lemmas.List.{map-append}
 use Rattle.epoch_laws.specs.declared.step.Call.{Call}
 use Rattle.epoch_laws.specs.declared.step.Call.TheVariants.{Pin, Unpin, Defer, Flush}
@@ -25,10 +26,12 @@ one_more p zero = refl
 one_more p (suc n) = ap (λ (steps : List Step). Go p ∷ steps) (one_more p n)
 
 -- counted from 1 on
-pub gos_on : (p counter : ℕ) (start before after : List Step) → 1 ≤ counter → before ≡ start ++ gos p (counter - 1) → after ≡ before ++ Go p ∷ [] → after ≡ start ++ gos p (counter + 1 - 1)
+pub gos_on : (p counter : ℕ) (start before after : List Step) → 1 ≤ counter → before ≡ start ++ gos p (counter - 1)
+    → after ≡ before ++ Go p ∷ [] → after ≡ start ++ gos p (counter + 1 - 1)
 gos_on p counter start before after some were are =
     let next : suc (counter - 1) ≡ counter + 1 - 1 = omega (arith, some) in
-    are ∙ ap (λ (steps : List Step). steps ++ Go p ∷ []) were ∙ append_assoc start (gos p (counter - 1)) (Go p ∷ []) ∙ ap (λ (steps : List Step). start ++ steps) (one_more p (counter - 1) ∙ ap (gos p) next)
+    are ∙ ap (λ (steps : List Step). steps ++ Go p ∷ []) were ∙ append_assoc start (gos p (counter - 1)) (Go p ∷ [])
+    ∙ ap (λ (steps : List Step). start ++ steps) (one_more p (counter - 1) ∙ ap (gos p) next)
 
 goes_listed : (p : ℕ) (rs : List Reply) → map (λ (entry : Entry). entry.step) (goes_of p rs) ≡ gos p (length rs)
 goes_listed p [] = refl
@@ -38,20 +41,24 @@ pub some_reply : (rs : List Reply) → EndsAtLast rs → 1 ≤ length rs
 some_reply [] over = absurd over
 some_reply (r ∷ rs) over = omega arith
 
-pub call_listed : (p : ℕ) (c : Call) (before begun after : List Step) (replies : List Reply) (n : ℕ) → EndsAtLast replies → n ≡ length replies → begun ≡ before ++ Begin p c ∷ [] → after ≡ begun ++ gos p (n - 1)
+pub call_listed : (p : ℕ) (c : Call) (before begun after : List Step) (replies : List Reply) (n : ℕ)
+    → EndsAtLast replies → n ≡ length replies → begun ≡ before ++ Begin p c ∷ [] → after ≡ begun ++ gos p (n - 1)
     → after ≡ before ++ map (λ (entry : Entry). entry.step) (call_entries p c replies)
 call_listed p c before begun after [] n over count first are = absurd over
 call_listed p c before begun after (r ∷ rs) n over count first are =
     let left : n - 1 ≡ length rs = omega (arith, count) in
-    are ∙ ap (λ (steps : List Step). steps ++ gos p (n - 1)) first ∙ append_assoc before (Begin p c ∷ []) (gos p (n - 1))
+    are ∙ ap (λ (steps : List Step). steps ++ gos p (n - 1)) first
+    ∙ append_assoc before (Begin p c ∷ []) (gos p (n - 1))
     ∙ ap (λ (steps : List Step). before ++ Begin p c ∷ steps) (ap (gos p) left ∙ sym (goes_listed p rs))
 
 -- THE SHARP LIST
 
-listed_on : (before after : List Step) (log more : List Entry) → before ≡ map (λ (entry : Entry). entry.step) log → after ≡ before ++ map (λ (entry : Entry). entry.step) more
+listed_on : (before after : List Step) (log more : List Entry)
+    → before ≡ map (λ (entry : Entry). entry.step) log → after ≡ before ++ map (λ (entry : Entry). entry.step) more
     → after ≡ map (λ (entry : Entry). entry.step) (log ++ more)
 listed_on before after log more were are =
-    are ∙ ap (λ (steps : List Step). steps ++ map (λ (entry : Entry). entry.step) more) were ∙ sym (map-append (λ (entry : Entry). entry.step) log more)
+    are ∙ ap (λ (steps : List Step). steps ++ map (λ (entry : Entry). entry.step) more) were
+    ∙ sym (map-append (λ (entry : Entry). entry.step) log more)
 
 module _ (fresh half s0 s1 s2 s3 s4 s5 s6 s7 new : State) (none l0 l1 l2 l3 l4 l5 l6 l7 l8 l9 : List Step)
     (first : ListsStep Register fresh none half l0) (second : ListsStep Register half l0 s0 l1)
@@ -118,9 +125,11 @@ module _ (fresh half s0 s1 s2 s3 s4 s5 s6 s7 new : State) (none l0 l1 l2 l3 l4 l
       two.listed) three.listed) four.listed) five.listed) six.listed) seven.listed) eight.listed
     where
       begins : l1 ≡ map (λ (entry : Entry). entry.step) (both replies)
-      begins = second.listed ∙ ap (λ (steps : List Step). steps ++ Register ∷ []) (first.listed ∙ ap (λ (steps : List Step). steps ++ Register ∷ []) empty)
+      begins = second.listed ∙ ap (λ (steps : List Step). steps ++ Register ∷ [])
+          (first.listed ∙ ap (λ (steps : List Step). steps ++ Register ∷ []) empty)
 
-  pub leads_to_sharp : IsFresh fresh → fresh.sizes ≡ pair_sizes → fresh.epoch ≡ 0 → length fresh.places ≡ 1 → none ≡ [] → LeadsToSharp l9
+  pub leads_to_sharp : IsFresh fresh → fresh.sizes ≡ pair_sizes → fresh.epoch ≡ 0 → length fresh.places ≡ 1
+      → none ≡ [] → LeadsToSharp l9
   leads_to_sharp is_fresh sized at_first one_place empty =
       let some : 0 < length fresh.places = omega (arith, one_place) in
       record {

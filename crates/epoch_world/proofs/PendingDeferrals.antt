@@ -1,13 +1,16 @@
 -- How many tickets the deferrals under way may still take, and which machines keep a job.
-use Rattle.std.proofs.Common.{◌≡◌, ℕ, ◌-◌, ◌^◌, ◌<◌, ◌≤◌, ◌==◌, Bool, true, false, List, [], ◌∷◌, length, Some, None, refl, ap, arith, if◌then◌else◌, sum_by}
+use Rattle.std.proofs.Common.{◌≡◌, ℕ, ◌-◌, ◌^◌, ◌<◌, ◌≤◌, ◌==◌, Bool, true, false, List, [], ◌∷◌, length, Some, None}
+use Rattle.std.proofs.Common.{refl, ap, arith, if◌then◌else◌, sum_by}
 use Rattle.std.proofs.lemmas.Bool.{leb-false}
 use Rattle.std.proofs.lemmas.List.Sums.{sum_by-cons}
 use Rattle.epoch_cells.specs.declared.fault.Fault.TheVariants.{StrangerGuard, StrangerPointer, TicketsOut}
 use Rattle.epoch_machine.specs.declared.machine.Action.{Action}
 use Rattle.epoch_machine.specs.declared.machine.Action.TheVariants.{Pin, Unpin, Repin, Defer, Flush, Release}
 use Rattle.epoch_machine.specs.declared.machine.Stage.{Stage}
-use Rattle.epoch_machine.specs.declared.machine.Stage.TheVariants.{LoadPin, LoadScan, LoadSeal, Keep, LoadRepin, StoreUnpinned, End}
-use Rattle.epoch_machine.specs.Machine.{Machine, is_empty, after_collect, after_pin, after_put, after_unpin, after_job, past_word, first_stage}
+use Rattle.epoch_machine.specs.declared.machine.Stage.TheVariants.{LoadPin, LoadScan, LoadSeal, Keep, LoadRepin}
+use Rattle.epoch_machine.specs.declared.machine.Stage.TheVariants.{StoreUnpinned, End}
+use Rattle.epoch_machine.specs.Machine.{Machine, is_empty, after_collect, after_pin, after_put, after_unpin, after_job}
+use Rattle.epoch_machine.specs.Machine.{past_word, first_stage}
 use Rattle.epoch_machine.proofs.StagesAfter.{either_way, after_pin_at, past_word_at, after_job_at}
 use Rattle.epoch_laws.specs.declared.step.Call.TheVariants.{Defer as DeferCall, DeferDestroy}
 use Rattle.epoch_heap.specs.declared.access.Ptr.{Ptr}
@@ -99,7 +102,8 @@ pub removal_room_given : (g : ℕ) (ptr : Ptr) (seat : WorldSeat) (tickets : ℕ
 removal_room_given g ptr seat tickets heap given = leb-false (2 ^ 64 - 4097) tickets (not_refused _ _ _ given)
   where
     not_refused : (out known late : Bool)
-        → (if out then (if known then (if late then Some TicketsOut else None) else Some StrangerPointer) else Some StrangerGuard) ≡ None
+        → (if out then (if known then (if late then Some TicketsOut else None) else Some StrangerPointer)
+        else Some StrangerGuard) ≡ None
         → late ≡ false
     not_refused true true true given = absurd (cc)
     not_refused true true false given = refl

@@ -1,7 +1,10 @@
 -- A participant's part of a step, put into the world, is the world's step but for the places.
-use Rattle.std.proofs.Common.{◌≡◌, ◌≢◌, ℕ, ◌<◌, true, List, [], ◌∷◌, length, zero, suc, Some, None, inr, refl, ap, ap₂, sym, subst, ◌∙◌, arith, slice_index_or}
+use Rattle.std.proofs.Common.{◌≡◌, ◌≢◌, ℕ, ◌<◌, true, List, [], ◌∷◌, length, zero, suc, Some, None, inr, refl, ap, ap₂}
+use Rattle.std.proofs.Common.{sym, subst, ◌∙◌, arith, slice_index_or}
 use Rattle.epoch_machine.specs.declared.machine.Ask.{Ask}
-use Rattle.epoch_machine.specs.declared.machine.Ask.TheVariants.{LoadEpoch, LoadWord, StorePinned, StoreRepinned, StoreUnpinned, StoreFree, StoreEpoch, PutBag, TakeBag, KeepJob, CallJob}
+use Rattle.epoch_machine.specs.declared.machine.Ask.TheVariants.{LoadEpoch, LoadWord, StorePinned, StoreRepinned}
+use Rattle.epoch_machine.specs.declared.machine.Ask.TheVariants.{StoreUnpinned, StoreFree, StoreEpoch, PutBag, TakeBag}
+use Rattle.epoch_machine.specs.declared.machine.Ask.TheVariants.{KeepJob, CallJob}
 use Rattle.epoch_machine.specs.declared.machine.Sizes.{Sizes}
 use Rattle.epoch_machine.specs.declared.machine.Answer.TheVariants.{Word as WordFound}
 use Rattle.epoch_machine.specs.Machine.{asks, hears, AskFits}
@@ -12,7 +15,8 @@ use Rattle.epoch_laws.specs.declared.step.Step.TheVariants.{Begin, Go}
 use Rattle.epoch_laws.specs.declared.step.Word.TheVariants.{Free}
 use Rattle.epoch_laws.specs.declared.step.Progress.{Progress}
 use Rattle.epoch_laws.specs.declared.step.Progress.TheVariants.{Idle, Driven, CallsNow, Ends, Accesses}
-use Rattle.epoch_laws.specs.Run.{WorldSeat, State, seat_of, position_word, with_seat, word_number, free_seat, begun_seat, refusal, BeginsCall, PerformsAsk, DrivesCall, DoesGo, Moves, is_driven}
+use Rattle.epoch_laws.specs.Run.{WorldSeat, State, seat_of, position_word, with_seat, word_number, free_seat}
+use Rattle.epoch_laws.specs.Run.{begun_seat, refusal, BeginsCall, PerformsAsk, DrivesCall, DoesGo, Moves, is_driven}
 use Rattle.epoch_world.specs.Seats.{Shared, shared, SeatPerforms}
 use Rattle.epoch_laws.specs.Kept.{AllLinked}
 
@@ -34,24 +38,35 @@ driven_here s p seat call ask is taken drive asked within = record {
 }
 
 -- an element within a list is the same for every default
-pub same_within : {A : Type 0} (xs : List A) (p : ℕ) (d e : A) → p < length xs → slice_index_or xs p d ≡ slice_index_or xs p e
+pub same_within : {A : Type 0} (xs : List A) (p : ℕ) (d e : A)
+    → p < length xs → slice_index_or xs p d ≡ slice_index_or xs p e
 same_within [] p d e lt = absurd (omega arith)
 same_within (x ∷ xs) zero d e lt = refl
 same_within (x ∷ xs) (suc p) d e lt = same_within xs p d e (omega arith)
 
 -- what an index finds is the participant there
-pub found_there : (seats : List WorldSeat) (sizes : Sizes) (p : ℕ) (seat : WorldSeat) → p < length seats → seat ≡ slice_index_or seats p seat → seat ≡ slice_index_or seats p (free_seat sizes)
+pub found_there : (seats : List WorldSeat) (sizes : Sizes) (p : ℕ) (seat : WorldSeat)
+    → p < length seats → seat ≡ slice_index_or seats p seat → seat ≡ slice_index_or seats p (free_seat sizes)
 found_there seats sizes p seat lt is = is ∙ same_within seats p seat (free_seat sizes) lt
 
-module _ (old new : State) (p word : ℕ) (seat after : WorldSeat) (reply : Reply) (h : Shared) (e : new ≡ record (with_seat old p after) { epoch = h.epoch; queued = h.queued; tickets = h.tickets; heap = h.heap }) where
-  made : (seat' : WorldSeat) (h' : Shared) → after ≡ seat' → h ≡ h' → new ≡ record (with_seat old p seat') { epoch = h'.epoch; queued = h'.queued; tickets = h'.tickets; heap = h'.heap }
-  made seat' h' a b = e ∙ ap₂ (λ (q : WorldSeat) (k : Shared). record (with_seat old p q) { epoch = k.epoch; queued = k.queued; tickets = k.tickets; heap = k.heap }) a b
+module _ (old new : State) (p word : ℕ) (seat after : WorldSeat) (reply : Reply) (h : Shared) (e : new
+    ≡ record (with_seat old p after) { epoch = h.epoch; queued = h.queued; tickets = h.tickets; heap = h.heap }) where
+  made : (seat' : WorldSeat) (h' : Shared) → after ≡ seat' → h ≡ h' → new
+      ≡ record (with_seat old p seat') { epoch = h'.epoch; queued = h'.queued; tickets = h'.tickets; heap = h'.heap }
+  made seat' h' a b = e ∙ ap₂ (λ (q : WorldSeat) (k : Shared).
+      record (with_seat old p q) { epoch = k.epoch; queued = k.queued; tickets = k.tickets; heap = k.heap }) a b
 
-  pub performs_by : (ask : Ask) → seat.machine.sizes ≡ old.sizes → ((k : ℕ) → ask ≡ LoadWord k → word ≡ word_number (position_word old k))
-      → SeatPerforms seat.machine.sizes p word (shared old.epoch old.queued old.tickets old.heap) seat seat.machine.stage ask reply after h
+  pub performs_by : (ask : Ask)
+      → seat.machine.sizes ≡ old.sizes → ((k : ℕ) → ask ≡ LoadWord k → word ≡ word_number (position_word old k))
+      → SeatPerforms seat.machine.sizes p word
+      (shared old.epoch old.queued old.tickets old.heap) seat seat.machine.stage ask reply after h
       → PerformsAsk old p seat seat.machine.stage ask reply new
   performs_by LoadEpoch sizes found did = (did.0, made _ _ did.1 did.2)
-  performs_by (LoadWord k) sizes found did = (did.0, made _ _ (did.1 ∙ ap (λ (w : ℕ). record seat { machine = hears seat.machine seat.machine.stage (WordFound w) }) (found k refl)) did.2)
+  performs_by (LoadWord k) sizes found did = (
+    did.0,
+    made _ _ (did.1 ∙ ap (λ (w : ℕ). record seat { machine = hears seat.machine seat.machine.stage (WordFound w) })
+        (found k refl)) did.2,
+  )
   performs_by (StorePinned n) sizes found did = (did.0, made _ _ did.1 did.2)
   performs_by (StoreRepinned n) sizes found did = (did.0, made _ _ did.1 did.2)
   performs_by StoreUnpinned sizes found did = (did.0, made _ _ did.1 did.2)
@@ -64,45 +79,62 @@ module _ (old new : State) (p word : ℕ) (seat after : WorldSeat) (reply : Repl
 
 -- A STEP BEGIN AND A STEP GO
 
-pub begin_moves : (old new : State) (p : ℕ) (c : Call) (seat after : WorldSeat) → seat ≡ seat_of old p → refusal c seat old.tickets old.heap ≡ None → after ≡ begun_seat c seat → new ≡ with_seat old p after
+pub begin_moves : (old new : State) (p : ℕ) (c : Call) (seat after : WorldSeat) → seat ≡ seat_of old p
+    → refusal c seat old.tickets old.heap ≡ None → after ≡ begun_seat c seat → new ≡ with_seat old p after
     → Moves old (Begin p c) Began new
 begin_moves old new p c seat after is given begun e =
-    subst (λ r. BeginsCall old p c r Began new) (sym (ap (λ (q : WorldSeat). refusal c q old.tickets old.heap) (sym is) ∙ given))
+    subst (λ r. BeginsCall old p c r Began new)
+    (sym (ap (λ (q : WorldSeat). refusal c q old.tickets old.heap) (sym is) ∙ given))
     (refl, e ∙ ap (with_seat old p) (begun ∙ ap (begun_seat c) is))
 
-pub go_moves : (old new : State) (p : ℕ) (seat : WorldSeat) (reply : Reply) → seat ≡ seat_of old p → seat.word ≢ Free → DoesGo old p seat seat.progress reply new → Moves old (Go p) reply new
+pub go_moves : (old new : State) (p : ℕ) (seat : WorldSeat) (reply : Reply)
+    → seat ≡ seat_of old p → seat.word ≢ Free → DoesGo old p seat seat.progress reply new → Moves old (Go p) reply new
 go_moves old new p seat reply is taken goes =
-    inr (λ free. taken (ap (λ (q : WorldSeat). q.word) is ∙ free), subst (λ (q : WorldSeat). DoesGo old p q q.progress reply new) is goes)
+    inr (
+      λ free. taken (ap (λ (q : WorldSeat). q.word) is ∙ free),
+      subst (λ (q : WorldSeat). DoesGo old p q q.progress reply new) is goes,
+    )
 
 -- by how far the call is
-pub goes_at : (old new : State) (p : ℕ) (seat : WorldSeat) (reply : Reply) (now : Progress) → seat.progress ≡ now → DoesGo old p seat now reply new → DoesGo old p seat seat.progress reply new
+pub goes_at : (old new : State) (p : ℕ) (seat : WorldSeat) (reply : Reply) (now : Progress)
+    → seat.progress ≡ now → DoesGo old p seat now reply new → DoesGo old p seat seat.progress reply new
 goes_at old new p seat reply now is goes = subst (λ (q : Progress). DoesGo old p seat q reply new) (sym is) goes
 
-drives_by : (old new : State) (p : ℕ) (seat : WorldSeat) (reply : Reply) (ask : Ask) (now : Progress) → is_driven now ≡ true → asks seat.machine ≡ Some ask
+drives_by : (old new : State) (p : ℕ) (seat : WorldSeat) (reply : Reply) (ask : Ask) (now : Progress)
+    → is_driven now ≡ true → asks seat.machine ≡ Some ask
     → PerformsAsk old p seat seat.machine.stage ask reply new → DoesGo old p seat now reply new
-drives_by old new p seat reply ask (Driven c) driven asked did = subst (λ o. DrivesCall old p seat c seat.machine.stage o reply new) (sym asked) did
+drives_by old new p seat reply ask (Driven c) driven asked did =
+    subst (λ o. DrivesCall old p seat c seat.machine.stage o reply new) (sym asked) did
 drives_by old new p seat reply ask Idle driven asked did = absurd (cc)
 drives_by old new p seat reply ask (CallsNow removes) driven asked did = absurd (cc)
 drives_by old new p seat reply ask (Accesses a k found) driven asked did = absurd (cc)
 drives_by old new p seat reply ask (Ends r) driven asked did = absurd (cc)
 
-pub end_goes : (old new : State) (p : ℕ) (seat : WorldSeat) (c : Call) (reply : Reply) → asks seat.machine ≡ None → DrivesCall old p seat c seat.machine.stage None reply new
+pub end_goes : (old new : State) (p : ℕ) (seat : WorldSeat) (c : Call) (reply : Reply)
+    → asks seat.machine ≡ None → DrivesCall old p seat c seat.machine.stage None reply new
     → DoesGo old p seat (Driven c) reply new
-end_goes old new p seat c reply none did = subst (λ o. DrivesCall old p seat c seat.machine.stage o reply new) (sym none) did
+end_goes old new p seat c reply none did =
+    subst (λ o. DrivesCall old p seat c seat.machine.stage o reply new) (sym none) did
 
-pub perform_moves : (old new : State) (p : ℕ) (seat : WorldSeat) (reply : Reply) (ask : Ask) → seat ≡ seat_of old p → IsDrivenAt old p ask
+pub perform_moves : (old new : State) (p : ℕ) (seat : WorldSeat) (reply : Reply) (ask : Ask)
+    → seat ≡ seat_of old p → IsDrivenAt old p ask
     → PerformsAsk old p seat seat.machine.stage ask reply new → Moves old (Go p) reply new
 perform_moves old new p seat reply ask is driven did =
     go_moves old new p seat reply is (λ free. driven.taken (ap (λ (q : WorldSeat). q.word) (sym is) ∙ free))
-    (drives_by old new p seat reply ask seat.progress (ap (λ (q : WorldSeat). is_driven q.progress) is ∙ driven.under_way) (ap (λ (q : WorldSeat). asks q.machine) is ∙ driven.asked) did)
+    (drives_by old new p seat reply ask seat.progress (ap (λ (q : WorldSeat). is_driven q.progress) is
+    ∙ driven.under_way) (ap (λ (q : WorldSeat). asks q.machine) is ∙ driven.asked) did)
 
 -- a step Go that performs an ask, but for the places, from the participant's part of it
-pub performed : (old now new : State) (p word : ℕ) (seat after : WorldSeat) (reply : Reply) (ask : Ask) (h : Shared) → old ≡ now → AllLinked old
-    → seat ≡ seat_of old p → IsDrivenAt now p ask → ((k : ℕ) → ask ≡ LoadWord k → word ≡ word_number (position_word now k))
-    → SeatPerforms seat.machine.sizes p word (shared old.epoch old.queued old.tickets old.heap) seat seat.machine.stage ask reply after h
+pub performed : (old now new : State) (p word : ℕ) (seat after : WorldSeat) (reply : Reply) (ask : Ask) (h : Shared)
+    → old ≡ now → AllLinked old
+    → seat ≡ seat_of old p → IsDrivenAt now p ask
+    → ((k : ℕ) → ask ≡ LoadWord k → word ≡ word_number (position_word now k))
+    → SeatPerforms seat.machine.sizes p word
+    (shared old.epoch old.queued old.tickets old.heap) seat seat.machine.stage ask reply after h
     → new ≡ record (with_seat old p after) { epoch = h.epoch; queued = h.queued; tickets = h.tickets; heap = h.heap }
     → Moves old (Go p) reply new
 performed old now new p word seat after reply ask h is linked there driven found did e =
     perform_moves old new p seat reply ask there (subst (λ (s : State). IsDrivenAt s p ask) (sym is) driven)
-    (performs_by old new p word seat after reply h e ask (ap (λ (q : WorldSeat). q.machine.sizes) there ∙ (linked.seats p).sized)
+    (performs_by old new p word seat after reply h e ask
+    (ap (λ (q : WorldSeat). q.machine.sizes) there ∙ (linked.seats p).sized)
     (λ k asked. found k asked ∙ ap (λ (s : State). word_number (position_word s k)) (sym is)) did)

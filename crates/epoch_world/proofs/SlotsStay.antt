@@ -13,7 +13,9 @@ use Rattle.epoch_heap.specs.declared.access.Ptr.{Ptr}
 use Rattle.epoch_heap.specs.declared.access.Spot.{Spot}
 use Rattle.epoch_heap.specs.declared.access.Spot.TheVariants.{Root, Field}
 use Rattle.epoch_heap.proofs.PointersWritten.{kept_or_written}
-use Rattle.epoch_heap.specs.Heap.{Cell, Heap, Touched, cell_at, pointer_at, with_pointer, with_field_in, without_cell, heap_after_job, at_name, read_by, left_by, written_by, taken_by, Places, ChangesAt, Touches}
+use Rattle.epoch_heap.specs.Heap.{Cell, Heap, Touched, cell_at, pointer_at, with_pointer, with_field_in, without_cell}
+use Rattle.epoch_heap.specs.Heap.{heap_after_job, at_name, read_by, left_by, written_by, taken_by, Places, ChangesAt}
+use Rattle.epoch_heap.specs.Heap.{Touches}
 
 without_slots : (h : Heap) (n : Name) (r : Removal) → length (without_cell h n r).cells ≡ length h.cells
 without_slots h n Destroyed = length-set h.cells _ _
@@ -33,15 +35,18 @@ pointer_slots h (Field n f) ptr = at (cell_at h n)
     at (Some cell) = length-set h.cells _ _
     at None = refl
 
-along : (h : Heap) (did last : Touched) → did ≡ last → length last.heap.cells ≡ length h.cells → length did.heap.cells ≡ length h.cells
+along : (h : Heap) (did last : Touched)
+    → did ≡ last → length last.heap.cells ≡ length h.cells → length did.heap.cells ≡ length h.cells
 along h did last is same = ap (λ (d : Touched). length d.heap.cells) is ∙ same
 
-named : (step : Name → Touched) (h : Heap) (o : Option Name) → ((x : Name) → length (step x).heap.cells ≡ length h.cells)
+named : (step : Name → Touched) (h : Heap) (o : Option Name)
+    → ((x : Name) → length (step x).heap.cells ≡ length h.cells)
     → length (at_name step h o).heap.cells ≡ length h.cells
 named step h (Some x) same = same x
 named step h None same = refl
 
-read_slots : (h : Heap) (n : Name) (cell : Option Cell) (content : Option Content) → length (read_by h n cell content).heap.cells ≡ length h.cells
+read_slots : (h : Heap) (n : Name) (cell : Option Cell) (content : Option Content)
+    → length (read_by h n cell content).heap.cells ≡ length h.cells
 read_slots h n (Some cell) (Some content) = length-set h.cells _ _
 read_slots h n (Some cell) None = refl
 read_slots h n None content = refl
@@ -50,15 +55,18 @@ left_slots : (h : Heap) (n : Name) (cell : Option Cell) → length (left_by h n 
 left_slots h n (Some cell) = length-set h.cells _ _
 left_slots h n None = refl
 
-written_slots : (h : Heap) (n : Name) (v : ℕ) (content : Option Content) → length (written_by h n v content).heap.cells ≡ length h.cells
+written_slots : (h : Heap) (n : Name) (v : ℕ) (content : Option Content)
+    → length (written_by h n v content).heap.cells ≡ length h.cells
 written_slots h n v (Some content) = length-set h.cells _ _
 written_slots h n v None = refl
 
-taken_slots : (h : Heap) (n : Name) (content : Option Content) → length (taken_by h n content).heap.cells ≡ length h.cells
+taken_slots : (h : Heap) (n : Name) (content : Option Content)
+    → length (taken_by h n content).heap.cells ≡ length h.cells
 taken_slots h n (Some content) = length-set h.cells _ _
 taken_slots h n None = refl
 
-place_slots : (v k : ℕ) (found : Ptr) (h : Heap) (there : Option Cell) (did : Touched) → Places v k found h there did → length did.heap.cells ≡ length h.cells
+place_slots : (v k : ℕ) (found : Ptr) (h : Heap) (there : Option Cell) (did : Touched)
+    → Places v k found h there did → length did.heap.cells ≡ length h.cells
 place_slots v k found h None did is = along h did _ is refl
 place_slots v k found h (Some cell) did (inl (free, n, slot, turn, is)) = along h did _ is (length-set h.cells _ _)
 place_slots v k found h (Some cell) did (inr is) = along h did _ is.1 refl
@@ -71,10 +79,14 @@ change_slots change k found spot h ptr did e = elim (kept_or_written change k fo
 ]
 
 -- one step of a call on cells and pointers
-pub access_slots : (a : Access) (k : ℕ) (found : Ptr) (h : Heap) (did : Touched) → Touches a k found h did → length did.heap.cells ≡ length h.cells
+pub access_slots : (a : Access) (k : ℕ) (found : Ptr) (h : Heap) (did : Touched)
+    → Touches a k found h did → length did.heap.cells ≡ length h.cells
 access_slots (Place v) k found h did e = place_slots v k found h (slice_get h.cells k) did e
-access_slots (Read g ptr) k found h did e = along h did _ e (named _ h ptr.name (λ x. read_slots h x (cell_at h x) (readable (cell_at h x))))
+access_slots (Read g ptr) k found h did e =
+    along h did _ e (named _ h ptr.name (λ x. read_slots h x (cell_at h x) (readable (cell_at h x))))
 access_slots (Leave ptr) k found h did e = along h did _ e (named _ h ptr.name (λ x. left_slots h x (cell_at h x)))
-access_slots (Write g ptr v) k found h did e = along h did _ e (named _ h ptr.name (λ x. written_slots h x v (unread (cell_at h x))))
-access_slots (Take g ptr) k found h did e = along h did _ e (named _ h ptr.name (λ x. taken_slots h x (unread (cell_at h x))))
+access_slots (Write g ptr v) k found h did e =
+    along h did _ e (named _ h ptr.name (λ x. written_slots h x v (unread (cell_at h x))))
+access_slots (Take g ptr) k found h did e =
+    along h did _ e (named _ h ptr.name (λ x. taken_slots h x (unread (cell_at h x))))
 access_slots (Point g spot change) k found h did e = change_slots change k found spot h (pointer_at h spot) did e

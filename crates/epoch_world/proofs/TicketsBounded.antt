@@ -1,5 +1,6 @@
 -- Every step keeps the tickets below their limit, with those that the deferrals under way may still take.
-use Rattle.std.proofs.Common.{◌≡◌, ℕ, ◌+◌, ◌^◌, ◌<◌, ◌≤◌, List, [], ◌∷◌, length, Option, Some, None, inl, inr, refl, ap, sym, subst, ◌∙◌, arith}
+use Rattle.std.proofs.Common.{◌≡◌, ℕ, ◌+◌, ◌^◌, ◌<◌, ◌≤◌, List, [], ◌∷◌, length, Option, Some, None, inl, inr, refl, ap}
+use Rattle.std.proofs.Common.{sym, subst, ◌∙◌, arith}
 use Rattle.std.proofs.lemmas.List.Sums.{get_or-le-sum_by}
 use Rattle.epoch_cells.specs.declared.fault.Fault.{Fault}
 use Rattle.epoch_machine.specs.declared.machine.Action.{Action}
@@ -11,7 +12,8 @@ use Rattle.epoch_laws.specs.declared.step.Step.{Step}
 use Rattle.epoch_laws.specs.declared.step.Step.TheVariants.{Register, Begin, Go, End as EndStep, EndGo}
 use Rattle.epoch_laws.specs.declared.step.Reply.{Reply}
 use Rattle.epoch_laws.specs.declared.step.Deferral.{Deferral}
-use Rattle.epoch_laws.specs.Run.{Bag, State, seat_of, free_seat, Ending, Open, Emptying, Over, refusal, BeginsCall, EndGoes, Moves, IsFresh}
+use Rattle.epoch_laws.specs.Run.{Bag, State, seat_of, free_seat, Ending, Open, Emptying, Over, refusal, BeginsCall}
+use Rattle.epoch_laws.specs.Run.{EndGoes, Moves, IsFresh}
 use Rattle.epoch_laws.proofs.SeatLemmas.{begin_given}
 use Rattle.epoch_laws.proofs.TicketSums.{sum_zero}
 use Rattle.epoch_heap.specs.Heap.{Heap}

@@ -15,7 +15,8 @@ pub record ListsStep (step : Step) (old : State) (before : List Step) (new : Sta
   pub listed : after ≡ before ++ step ∷ []
 
 -- the steps of a call that p begins and ends
-pub record ListsCall (p : ℕ) (c : Call) (old : State) (before : List Step) (new : State) (after : List Step) : Type 0 where
+pub record ListsCall (p : ℕ) (c : Call) (old : State) (before : List Step) (new : State)
+    (after : List Step) : Type 0 where
   pub replies : List Reply
   pub ends : EndsCall p c old replies new
   pub listed : after ≡ before ++ map (λ (entry : Entry). entry.step) (call_entries p c replies)

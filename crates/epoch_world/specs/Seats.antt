@@ -5,13 +5,16 @@ use Rattle.epoch_bags.specs.declared.queue.TakeStep.{TakeStep}
 use Rattle.epoch_machine.specs.declared.machine.Sizes.{Sizes}
 use Rattle.epoch_machine.specs.declared.machine.Stage.{Stage}
 use Rattle.epoch_machine.specs.declared.machine.Ask.{Ask}
-use Rattle.epoch_machine.specs.declared.machine.Ask.TheVariants.{LoadEpoch, LoadWord, StorePinned, StoreRepinned, StoreUnpinned, StoreFree, StoreEpoch, PutBag, TakeBag, KeepJob, CallJob}
+use Rattle.epoch_machine.specs.declared.machine.Ask.TheVariants.{LoadEpoch, LoadWord, StorePinned, StoreRepinned}
+use Rattle.epoch_machine.specs.declared.machine.Ask.TheVariants.{StoreUnpinned, StoreFree, StoreEpoch, PutBag, TakeBag}
+use Rattle.epoch_machine.specs.declared.machine.Ask.TheVariants.{KeepJob, CallJob}
 use Rattle.epoch_machine.specs.declared.machine.Answer.TheVariants.{Epoch, Word as WordFound, Stored, Job}
 use Rattle.epoch_machine.specs.Machine.{hears, put_heard, took_heard, gives, PutsHeld, TakesHand}
 use Rattle.epoch_laws.specs.declared.step.Call.{Call}
 use Rattle.epoch_laws.specs.declared.step.Call.TheVariants.{Pin, Resume}
 use Rattle.epoch_laws.specs.declared.step.Reply.{Reply}
-use Rattle.epoch_laws.specs.declared.step.Reply.TheVariants.{Stepped, Pinned as PinnedReply, Unpinned as UnpinnedReply, Repinned, Deferred, Called as CalledReply, Done}
+use Rattle.epoch_laws.specs.declared.step.Reply.TheVariants.{Stepped, Pinned as PinnedReply, Unpinned as UnpinnedReply}
+use Rattle.epoch_laws.specs.declared.step.Reply.TheVariants.{Repinned, Deferred, Called as CalledReply, Done}
 use Rattle.epoch_laws.specs.declared.step.Deferral.{Deferral}
 use Rattle.epoch_laws.specs.declared.step.Word.{Word}
 use Rattle.epoch_laws.specs.declared.step.Word.TheVariants.{Unpinned, Pinned}
@@ -39,17 +42,35 @@ shared epoch queued tickets heap = record { epoch = epoch; queued = queued; tick
 -- What comes of one ask of the participant p: the reply, its seat and what is shared after it. The word is the one
 -- that a scan looks at.
 abbrev pub SeatPerforms : Sizes → ℕ → ℕ → Shared → WorldSeat → Stage → Ask → Reply → WorldSeat → Shared → Type 0
-SeatPerforms sizes p word old seat s LoadEpoch reply after new = (reply ≡ Stepped) × (after ≡ with_machine seat (hears seat.machine s (Epoch old.epoch))) × (new ≡ old)
-SeatPerforms sizes p word old seat s (LoadWord k) reply after new = (reply ≡ Stepped) × (after ≡ with_machine seat (hears seat.machine s (WordFound word))) × (new ≡ old)
-SeatPerforms sizes p word old seat s (StorePinned e) reply after new = (reply ≡ PinnedReply p) × (after ≡ with_word seat (Pinned e) (hears seat.machine s Stored)) × (new ≡ old)
-SeatPerforms sizes p word old seat s (StoreRepinned e) reply after new = (reply ≡ Repinned p) × (after ≡ with_word seat (Pinned e) (hears seat.machine s Stored)) × (new ≡ old)
-SeatPerforms sizes p word old seat s StoreUnpinned reply after new = (reply ≡ UnpinnedReply p) × (after ≡ with_word seat Unpinned (hears seat.machine s Stored)) × (new ≡ old)
-SeatPerforms sizes p word old seat s StoreFree reply after new = (reply ≡ Done Released) × (after ≡ free_seat sizes) × (new ≡ old)
-SeatPerforms sizes p word old seat s (StoreEpoch e) reply after new = (reply ≡ Stepped) × (after ≡ with_machine seat (hears seat.machine s Stored)) × (new ≡ record old { epoch = e })
-SeatPerforms sizes p word old seat s (PutBag seal) reply after new = (step : PutStep) × (reply ≡ Stepped) × PutsHeld seal seat.machine old.queued step new.queued × (after ≡ with_machine seat (put_heard seat.machine step)) × (new ≡ record old { queued = new.queued })
-SeatPerforms sizes p word old seat s (TakeBag x) reply after new = (step : TakeStep) × (reply ≡ Stepped) × TakesHand x old.queued step new.queued after.machine.hand × (after ≡ with_machine seat (took_heard seat.machine s step after.machine.hand)) × (new ≡ record old { queued = new.queued })
-SeatPerforms sizes p word old seat s KeepJob reply after new = (reply ≡ Deferred old.tickets) × (after ≡ with_machine seat (hears seat.machine s (Job (record { ticket = old.tickets; removes = removed_by seat.progress })))) × (new ≡ record old { tickets = old.tickets + 1 })
-SeatPerforms sizes p word old seat s CallJob reply after new = (job : Deferral) × (jobs : List Deferral) × (seat.machine.hand ≡ job ∷ jobs) × (reply ≡ CalledReply job.ticket (outcome_of old.heap job.removes)) × (after ≡ with_machine seat (gives seat.machine s jobs)) × (new ≡ record old { heap = heap_after_job old.heap job.removes })
+SeatPerforms sizes p word old seat s LoadEpoch reply after new =
+    (reply ≡ Stepped) × (after ≡ with_machine seat (hears seat.machine s (Epoch old.epoch))) × (new ≡ old)
+SeatPerforms sizes p word old seat s (LoadWord k) reply after new =
+    (reply ≡ Stepped) × (after ≡ with_machine seat (hears seat.machine s (WordFound word))) × (new ≡ old)
+SeatPerforms sizes p word old seat s (StorePinned e) reply after new =
+    (reply ≡ PinnedReply p) × (after ≡ with_word seat (Pinned e) (hears seat.machine s Stored)) × (new ≡ old)
+SeatPerforms sizes p word old seat s (StoreRepinned e) reply after new =
+    (reply ≡ Repinned p) × (after ≡ with_word seat (Pinned e) (hears seat.machine s Stored)) × (new ≡ old)
+SeatPerforms sizes p word old seat s StoreUnpinned reply after new =
+    (reply ≡ UnpinnedReply p) × (after ≡ with_word seat Unpinned (hears seat.machine s Stored)) × (new ≡ old)
+SeatPerforms sizes p word old seat s StoreFree reply after new =
+    (reply ≡ Done Released) × (after ≡ free_seat sizes) × (new ≡ old)
+SeatPerforms sizes p word old seat s (StoreEpoch e) reply after new =
+    (reply ≡ Stepped) × (after ≡ with_machine seat (hears seat.machine s Stored)) × (new ≡ record old { epoch = e })
+SeatPerforms sizes p word old seat s (PutBag seal) reply after new =
+    (step : PutStep) × (reply ≡ Stepped) × PutsHeld seal seat.machine old.queued step new.queued
+    × (after ≡ with_machine seat (put_heard seat.machine step)) × (new ≡ record old { queued = new.queued })
+SeatPerforms sizes p word old seat s (TakeBag x) reply after new =
+    (step : TakeStep) × (reply ≡ Stepped) × TakesHand x old.queued step new.queued after.machine.hand
+    × (after ≡ with_machine seat (took_heard seat.machine s step after.machine.hand))
+    × (new ≡ record old { queued = new.queued })
+SeatPerforms sizes p word old seat s KeepJob reply after new =
+    (reply ≡ Deferred old.tickets) × (after ≡ with_machine seat
+    (hears seat.machine s (Job (record { ticket = old.tickets; removes = removed_by seat.progress }))))
+    × (new ≡ record old { tickets = old.tickets + 1 })
+SeatPerforms sizes p word old seat s CallJob reply after new = (job : Deferral) × (jobs : List Deferral)
+    × (seat.machine.hand ≡ job ∷ jobs) × (reply ≡ CalledReply job.ticket (outcome_of old.heap job.removes))
+    × (after ≡ with_machine seat (gives seat.machine s jobs))
+    × (new ≡ record old { heap = heap_after_job old.heap job.removes })
 
 -- the number that a word stands for fits
 abbrev pub WordFits : Word → Type 0

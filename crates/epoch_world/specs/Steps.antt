@@ -4,7 +4,10 @@ use Rattle.epoch_machine.specs.declared.machine.Action.{Action}
 use Rattle.epoch_machine.specs.declared.machine.Action.TheVariants.{Flush, Release}
 use Rattle.epoch_machine.specs.declared.machine.Sizes.{Sizes}
 use Rattle.epoch_machine.specs.declared.machine.Stage.{Stage}
-use Rattle.epoch_machine.specs.declared.machine.Stage.TheVariants.{Idle as Resting, LoadPin, StorePin, ReloadPin, LoadScan, Scan, Advance, Take, Calling, LoadSeal, Put, Keep, LoadRepin, StoreRepin, ReloadRepin, StoreUnpinned, StoreFree, End}
+use Rattle.epoch_machine.specs.declared.machine.Stage.TheVariants.{Idle as Resting, LoadPin, StorePin, ReloadPin}
+use Rattle.epoch_machine.specs.declared.machine.Stage.TheVariants.{LoadScan, Scan, Advance, Take, Calling, LoadSeal}
+use Rattle.epoch_machine.specs.declared.machine.Stage.TheVariants.{Put, Keep, LoadRepin, StoreRepin, ReloadRepin}
+use Rattle.epoch_machine.specs.declared.machine.Stage.TheVariants.{StoreUnpinned, StoreFree, End}
 use Rattle.epoch_machine.specs.Machine.{Machine}
 use Rattle.epoch_laws.specs.declared.step.Deferral.{Deferral}
 use Rattle.epoch_laws.specs.declared.step.Progress.{Progress}
@@ -95,5 +98,6 @@ call_bound slots sizes most = slots + sizes.positions + sizes.collect_bags * 64 
 
 -- where p's update is about to exchange, what it found last stands, if a pointer stands there at all
 abbrev pub IsSteady : Heap → Progress → Type 0
-IsSteady h (Accesses (Point g spot (FetchUpdate tries by)) (suc k) found) = (ptr : Ptr) → pointer_at h spot ≡ Some ptr → ptr ≡ found
+IsSteady h (Accesses (Point g spot (FetchUpdate tries by)) (suc k) found) =
+    (ptr : Ptr) → pointer_at h spot ≡ Some ptr → ptr ≡ found
 IsSteady h _ = Unit {0}

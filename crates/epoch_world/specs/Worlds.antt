@@ -5,7 +5,8 @@ use Rattle.epoch_machine.specs.declared.machine.Sizes.{Sizes}
 use Rattle.epoch_machine.specs.declared.machine.Stage.{Stage}
 use Rattle.epoch_laws.specs.declared.step.Deferral.{Deferral}
 use Rattle.epoch_world.specs.declared.world.EndStage.{EndStage}
-use Rattle.epoch_world.specs.declared.world.EndStage.TheVariants.{Open as OpenStage, Emptying as EmptyingStage, Over as OverStage}
+use Rattle.epoch_world.specs.declared.world.EndStage.TheVariants.{Open as OpenStage, Emptying as EmptyingStage}
+use Rattle.epoch_world.specs.declared.world.EndStage.TheVariants.{Over as OverStage}
 use Rattle.epoch_laws.specs.Run.{Bag, WorldSeat, State, Ending, Open, Emptying, Over, free_seat}
 use Rattle.epoch_laws.specs.Collections.{expiry_of}
 use Rattle.epoch_laws.specs.Room.{is_putting}
@@ -19,7 +20,19 @@ ending_of OverStage hand count = Over
 
 -- the state of a world of these parts, but for the places of the store
 abbrev pub state_of : Sizes → ℕ → List WorldSeat → List Bag → ℕ → Ending → Heap → State
-state_of sizes epoch seats queued tickets ending heap = record { sizes = sizes; epoch = epoch; seats = seats; queued = queued; tickets = tickets; ending = ending; places = []; seen = []; ahead = []; room = []; heap = heap }
+state_of sizes epoch seats queued tickets ending heap = record {
+  sizes = sizes;
+  epoch = epoch;
+  seats = seats;
+  queued = queued;
+  tickets = tickets;
+  ending = ending;
+  places = [];
+  seen = [];
+  ahead = [];
+  room = [];
+  heap = heap;
+}
 
 -- the participant at a position
 abbrev pub seat_in : Sizes → List WorldSeat → ℕ → WorldSeat
@@ -27,22 +40,28 @@ seat_in sizes seats p = slice_index_or seats p (free_seat sizes)
 
 -- what is ahead of each participant's collection, where ahead says it by the epoch and the cursor
 abbrev pub aheads : {C : Type 0} → (ℕ → C → ℕ) → List WorldSeat → List C → List ℕ
-aheads ahead (seat ∷ seats) (cursor ∷ cursors) = ahead (expiry_of seat.machine.stage) cursor ∷ aheads ahead seats cursors
+aheads ahead (seat ∷ seats) (cursor ∷ cursors) =
+    ahead (expiry_of seat.machine.stage) cursor ∷ aheads ahead seats cursors
 aheads ahead _ _ = []
 
 -- no participant at such a stage claims the place, by its cursor
-abbrev pub NobodyClaims : {C : Type 0} → (Stage → Bool) → (C → ℕ → Type 0) → Sizes → List WorldSeat → List C → ℕ → Type 0
+abbrev pub NobodyClaims : {C : Type 0}
+    → (Stage → Bool) → (C → ℕ → Type 0) → Sizes → List WorldSeat → List C → ℕ → Type 0
 NobodyClaims {C} at Claims sizes seats cursors place =
-    (q : ℕ) (cursor : C) → slice_get cursors q ≡ Some cursor → ¬ ((at (slice_index_or seats q (free_seat sizes)).machine.stage ≡ true) × Claims cursor place)
+    (q : ℕ) (cursor : C) → slice_get cursors q ≡ Some cursor
+    → ¬ ((at (slice_index_or seats q (free_seat sizes)).machine.stage ≡ true) × Claims cursor place)
 
 -- a bag is claimed by nobody but a participant that is taking bags
 abbrev pub ClaimsKnown : {C : Type 0} → (ℕ → Type 0) → (C → ℕ → Type 0) → Sizes → List WorldSeat → List C → Type 0
-ClaimsKnown Claimed Claims sizes seats cursors = (place : ℕ) → NobodyClaims is_taking Claims sizes seats cursors place → ¬ (Claimed place)
+ClaimsKnown Claimed Claims sizes seats cursors =
+    (place : ℕ) → NobodyClaims is_taking Claims sizes seats cursors place → ¬ (Claimed place)
 
 -- and a place without a bag by nobody but a participant that is putting or taking one
-abbrev pub ReservesKnown : {P T : Type 0} → (ℕ → Type 0) → (P → ℕ → Type 0) → (T → ℕ → Type 0) → Sizes → List WorldSeat → List P → List T → Type 0
+abbrev pub ReservesKnown : {P T : Type 0}
+    → (ℕ → Type 0) → (P → ℕ → Type 0) → (T → ℕ → Type 0) → Sizes → List WorldSeat → List P → List T → Type 0
 ReservesKnown Reserved Reserves Claims sizes seats puts takes =
-    (place : ℕ) → NobodyClaims is_putting Reserves sizes seats puts place → NobodyClaims is_taking Claims sizes seats takes place → ¬ (Reserved place)
+    (place : ℕ) → NobodyClaims is_putting Reserves sizes seats puts place
+    → NobodyClaims is_taking Claims sizes seats takes place → ¬ (Reserved place)
 
 -- an end is under way
 abbrev pub IsEmptying : Ending → Type 0

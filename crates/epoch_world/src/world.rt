@@ -1,10 +1,13 @@
 //! The world: all participants of one collector over a store of bags, which takes steps one at a time.
-ghost use Rattle.std.specs.Prelude.{◌≡◌, ◌≢◌, ℕ, ◌+◌, ◌-◌, ◌^◌, ◌<◌, ◌≤◌, [], ◌∷◌, length, IfOk, IfErr, OnErr, MatchOption, IfNone, IfSome, slice_index_or, slice_get, Some, None, true, false, IsTrue, ◌↔◌, vec_capacity};
+ghost use Rattle.std.specs.Prelude.{◌≡◌, ◌≢◌, ℕ, ◌+◌, ◌-◌, ◌^◌, ◌<◌, ◌≤◌, [], ◌∷◌, length, IfOk, IfErr, OnErr};
+ghost use Rattle.std.specs.Prelude.{MatchOption, IfNone, IfSome, slice_index_or, slice_get, Some, None, true, false};
+ghost use Rattle.std.specs.Prelude.{IsTrue, ◌↔◌, vec_capacity};
 ghost use Rattle.epoch_cells.specs.declared.fault.Fault.TheVariants.{NoMemory};
 ghost use Rattle.epoch_laws.specs.declared.step.Step.TheVariants.{Register, Begin, Go, End as EndStep, EndGo};
 ghost use Rattle.epoch_machine.specs.Machine.{IsSized};
 ghost use Rattle.epoch_laws.specs.Shapes.{IsValid, sizes_of};
-ghost use Rattle.epoch_laws.specs.Run.{IsFresh, Runs, TakesStep, Over, entries_of, free_seat, word_number, refusal, seat_of, position_word, WorldSeat as Participant};
+ghost use Rattle.epoch_laws.specs.Run.{IsFresh, Runs, TakesStep, Over, entries_of, free_seat, word_number, refusal};
+ghost use Rattle.epoch_laws.specs.Run.{seat_of, position_word, WorldSeat as Participant};
 ghost use Rattle.epoch_world.specs.Seats.{WordFits};
 ghost use Rattle.epoch_world.specs.Earlier.{AlongEarlierRuns, SinceEachState};
 ghost use Rattle.epoch_world.specs.Worlds.{IsEmptying};
@@ -71,16 +74,21 @@ impl<S: BagStore<Job = Deferral>> Model for World<S> {
 
     ghost Value = { State };
 
-    ghost view = { λ a. with_places (state_of a.sizes a.epoch a.seats.items (S.queued a.store) a.tickets (ending_of a.end a.hand.jobs a.count) a.heap) (S.occupied a.store) (map S.passed a.putting.items) (aheads (λ x cursor. S.ahead x a.store cursor) a.seats.items a.taking.items) (map (λ cursor. S.has_room a.store cursor) a.putting.items) };
+    ghost view = { λ a. with_places (state_of a.sizes a.epoch a.seats.items (S.queued a.store) a.tickets
+        (ending_of a.end a.hand.jobs a.count) a.heap) (S.occupied a.store) (map S.passed a.putting.items)
+        (aheads (λ x cursor. S.ahead x a.store cursor) a.seats.items a.taking.items)
+        (map (λ cursor. S.has_room a.store cursor) a.putting.items) };
 
     ghost invariant = { λ a. record {
       sized : IsSized a.sizes;
       epoch : a.epoch < 2 ^ 63;
       putting : length a.putting.items ≡ length a.seats.items;
       taking : length a.taking.items ≡ length a.seats.items;
-      kept : IsSound (state_of a.sizes a.epoch a.seats.items (S.queued a.store) a.tickets (ending_of a.end a.hand.jobs a.count) a.heap);
+      kept : IsSound (state_of a.sizes a.epoch a.seats.items (S.queued a.store) a.tickets
+          (ending_of a.end a.hand.jobs a.count) a.heap);
       claimed : ClaimsKnown (S.Claimed a.store) S.Claims a.sizes a.seats.items a.taking.items;
-      reserved : ReservesKnown (S.Reserved a.store) S.Reserves S.Claims a.sizes a.seats.items a.putting.items a.taking.items;
+      reserved : ReservesKnown (S.Reserved a.store) S.Reserves S.Claims a.sizes a.seats.items
+          a.putting.items a.taking.items;
     } };
 }
 
@@ -167,15 +175,16 @@ impl<S: BagStore<Job = Deferral>> World<S> {
         // An end that answered how many jobs it called has called so many, and every accepted job was called.
         ensures ended { IfOk result (λ replies. AlongEarlierRuns self.old (entries_of steps.now replies.items)
             (λ fresh log. EndsAtCount log)) }
-        // Rounds of a participant whom nobody disturbs call every job of the bags in the store: one round that puts its own
-        // bag, one more, and one for each collection that the bags take.
+        // Rounds of a participant whom nobody disturbs call every job of the bags in the store: one round that puts its
+        // own bag, one more, and one for each collection that the bags take.
         ensures rounds { IfOk result (λ replies. SinceEachState self.old (entries_of steps.now replies.items)
             (λ start log. RoundsCallAll start log self.new)) }
-        // Each call takes at most as many bags as one collection may take, and calls at most the jobs of so many full bags.
+        // Each call takes at most as many bags as one collection may take, and calls at most the jobs of so many full
+        // bags.
         ensures few { IfOk result (λ replies. AlongEarlierRuns self.old (entries_of steps.now replies.items)
             (λ fresh log. CollectsFew fresh log self.new)) }
-        // Where cells leave once and out of reach, no name that is loaded under a guard still held is destroyed, and each
-        // such name has its cell.
+        // Where cells leave once and out of reach, no name that is loaded under a guard still held is destroyed, and
+        // each such name has its cell.
         ensures reach { IfOk result (λ replies. AlongEarlierRuns self.old (entries_of steps.now replies.items)
             (λ fresh log. (run : Runs fresh log self.new) → LeavesOnce fresh log self.new run
             → KeepsLoaded (past_of fresh log self.new run))) }
@@ -220,7 +229,8 @@ impl<S: BagStore<Job = Deferral>> World<S> {
         ensures once { IfOk result (λ replies. AlongEarlierRuns self.old (call_entries participant call replies.items)
             (λ fresh log. HoldsEachTicketOnce log self.new)) }
         // The ticket of an accepted job is the number of those accepted before it.
-        ensures tickets { IfOk result (λ replies. AlongEarlierRuns self.old (call_entries participant call replies.items)
+        ensures tickets { IfOk result
+            (λ replies. AlongEarlierRuns self.old (call_entries participant call replies.items)
             (λ fresh log. NumbersTickets log)) }
         // Each event stands only where it may.
         ensures lawful { IfOk result (λ replies. AlongEarlierRuns self.old (call_entries participant call replies.items)
@@ -231,11 +241,12 @@ impl<S: BagStore<Job = Deferral>> World<S> {
         // Rounds of a participant whom nobody disturbs call every job of the bags in the store.
         ensures rounds { IfOk result (λ replies. SinceEachState self.old (call_entries participant call replies.items)
             (λ start log. RoundsCallAll start log self.new)) }
-        // Each call takes at most as many bags as one collection may take, and calls at most the jobs of so many full bags.
+        // Each call takes at most as many bags as one collection may take, and calls at most the jobs of so many full
+        // bags.
         ensures few { IfOk result (λ replies. AlongEarlierRuns self.old (call_entries participant call replies.items)
             (λ fresh log. CollectsFew fresh log self.new)) }
-        // Where cells leave once and out of reach, no name that is loaded under a guard still held is destroyed, and each
-        // such name has its cell.
+        // Where cells leave once and out of reach, no name that is loaded under a guard still held is destroyed, and
+        // each such name has its cell.
         ensures reach { IfOk result (λ replies. AlongEarlierRuns self.old (call_entries participant call replies.items)
             (λ fresh log. (run : Runs fresh log self.new) → LeavesOnce fresh log self.new run
             → KeepsLoaded (past_of fresh log self.new run))) }
@@ -249,7 +260,8 @@ impl<S: BagStore<Job = Deferral>> World<S> {
             (λ fresh log. (run : Runs fresh log self.new)
             → StandsOrDestroyed (given_of fresh log self.new run) (past_of fresh log self.new run) self.new.heap)) }
         // A job in a bag removes the name that its ticket's deferral named, or is work; and its call does just that.
-        ensures removals { IfOk result (λ replies. AlongEarlierRuns self.old (call_entries participant call replies.items)
+        ensures removals { IfOk result
+            (λ replies. AlongEarlierRuns self.old (call_entries participant call replies.items)
             (λ fresh log. (run : Runs fresh log self.new) → CallsWhatWasDeferred fresh log self.new run)) }
 
         ensures err { OnErr result (self.new ≡ self.old) }
@@ -302,18 +314,23 @@ impl<S: BagStore<Job = Deferral>> World<S> {
 
     /// The word of the participant at a position, or `None` past the table. It is no step.
     pub fn word(&self, position: u64) -> Option<u64>
-        ensures { MatchOption result (length self.now.seats ≤ position) (λ word. (position < length self.now.seats) × (word ≡ word_number (position_word self.now position))) }
+        ensures { MatchOption result (length self.now.seats ≤ position)
+            (λ word. (position < length self.now.seats) × (word ≡ word_number (position_word self.now position))) }
     {
         let seat = self.seats.get(position as usize)?;
         Some(number_of(seat.word()))
     }
 
-    /// Whether the held bag of the participant at a position takes a further job without being put first, or `None` where
-    /// nobody is registered. It is no step.
+    /// Whether the held bag of the participant at a position takes a further job without being put first, or `None`
+    /// where nobody is registered. It is no step.
     pub fn has_room(&self, position: u64) -> Option<bool>
-        ensures value { MatchOption result (position_word self.now position ≡ Word.Free) (λ room. (position_word self.now position ≢ Word.Free) × (IsTrue room ↔ (length (seat_of self.now position).machine.held < self.now.sizes.bag_jobs))) }
-        ensures full { IfSome result (λ room. room ≡ false → length (seat_of self.now position).machine.held ≡ (seat_of self.now position).machine.sizes.bag_jobs) }
-        ensures room { IfSome result (λ room. room ≡ true → length (seat_of self.now position).machine.held < (seat_of self.now position).machine.sizes.bag_jobs) }
+        ensures value { MatchOption result (position_word self.now position ≡ Word.Free)
+            (λ room. (position_word self.now position ≢ Word.Free)
+            × (IsTrue room ↔ (length (seat_of self.now position).machine.held < self.now.sizes.bag_jobs))) }
+        ensures full { IfSome result (λ room. room ≡ false
+            → length (seat_of self.now position).machine.held ≡ (seat_of self.now position).machine.sizes.bag_jobs) }
+        ensures room { IfSome result (λ room. room ≡ true
+            → length (seat_of self.now position).machine.held < (seat_of self.now position).machine.sizes.bag_jobs) }
     {
         self.seats.get(position as usize)?.has_room()
     }
@@ -431,7 +448,8 @@ fn with_room(alloc: Global, count: usize) -> Result<Vec<Reply>, Fault>
 fn free_seats(alloc: Global, count: usize, sizes: Sizes) -> Result<Vec<Seat>, Fault>
     requires { IsSized sizes }
     ensures count { IfOk result (λ seats. length seats.items ≡ count) }
-    ensures free { IfOk result (λ seats. (position : ℕ) → slice_index_or seats.items position (free_seat sizes) ≡ free_seat sizes) }
+    ensures free { IfOk result
+        (λ seats. (position : ℕ) → slice_index_or seats.items position (free_seat sizes) ≡ free_seat sizes) }
     ensures no_memory { IfErr result (λ fault. fault ≡ NoMemory) }
 {
     let Ok(mut seats) = Vec::with_capacity(alloc, count) else {
@@ -460,8 +478,10 @@ fn repeated<C: Copy + Drop>(alloc: Global, count: usize, cursor: C) -> Result<Ve
 
 /// Whether no participant is registered.
 fn all_free(seats: &Vec<Seat>) -> bool
-    ensures yes { result ≡ true → (position : ℕ) (other : Participant) → position < length seats.now.items → (slice_index_or seats.now.items position other).word ≡ Word.Free }
-    ensures no { result ≡ false → ((position : ℕ) (other : Participant) → position < length seats.now.items → (slice_index_or seats.now.items position other).word ≡ Word.Free) → ⊥ }
+    ensures yes { result ≡ true → (position : ℕ) (other : Participant) → position < length seats.now.items
+        → (slice_index_or seats.now.items position other).word ≡ Word.Free }
+    ensures no { result ≡ false → ((position : ℕ) (other : Participant) → position < length seats.now.items
+        → (slice_index_or seats.now.items position other).word ≡ Word.Free) → ⊥ }
 {
     for seat in seats {
         let Word::Free = seat.word() else {
@@ -473,9 +493,12 @@ fn all_free(seats: &Vec<Seat>) -> bool
 
 /// The least position that is free.
 fn first_free(seats: &Vec<Seat>) -> Option<usize>
-    ensures none { IfNone result ((position : ℕ) (other : Participant) → position < length seats.now.items → (slice_index_or seats.now.items position other).word ≢ Word.Free) }
-    ensures some { IfSome result (λ found. (found < length seats.now.items) × ((other : Participant) → (slice_index_or seats.now.items found other).word ≡ Word.Free)) }
-    ensures least { IfSome result (λ found. (position : ℕ) (other : Participant) → position < found → (slice_index_or seats.now.items position other).word ≢ Word.Free) }
+    ensures none { IfNone result ((position : ℕ) (other : Participant) → position < length seats.now.items
+        → (slice_index_or seats.now.items position other).word ≢ Word.Free) }
+    ensures some { IfSome result (λ found. (found < length seats.now.items)
+        × ((other : Participant) → (slice_index_or seats.now.items found other).word ≡ Word.Free)) }
+    ensures least { IfSome result (λ found. (position : ℕ) (other : Participant) → position < found
+        → (slice_index_or seats.now.items position other).word ≢ Word.Free) }
 {
     for (index, seat) in seats.iter().enumerate() {
         if let Word::Free = seat.word() {

@@ -110,8 +110,8 @@ pub fn moves() -> [Told; 10] {
     ]
 }
 
-/// The removal of the first value is deferred twice and called two epochs later. Its slot takes a further value, which is
-/// removed at once.
+/// The removal of the first value is deferred twice and called two epochs later. Its slot takes a further value, which
+/// is removed at once.
 pub fn removals(rt: &impl Abort) -> [Told; 13] {
     let (first, next) = (cell(1, 0), cell(1, 1));
     let stranger = Reply::Refused(Fault::StrangerPointer);

@@ -9,7 +9,10 @@ use Rattle.epoch_machine.specs.declared.machine.Answer.{Answer}
 use Rattle.epoch_machine.specs.declared.machine.Answer.TheVariants.{Epoch, Word, Stored, Job}
 use Rattle.epoch_machine.specs.declared.machine.Ask.TheVariants.{StoreFree as AskFree}
 use Rattle.epoch_machine.specs.declared.machine.Stage.{Stage}
-use Rattle.epoch_machine.specs.declared.machine.Stage.TheVariants.{Idle, LoadPin, StorePin, ReloadPin, LoadScan, Scan, Advance, Take, Calling, LoadSeal, Keep, LoadRepin, StoreRepin, ReloadRepin, StoreUnpinned, StoreFree, End}
+use Rattle.epoch_machine.specs.declared.machine.Stage.TheVariants.{Idle, LoadPin, StorePin, ReloadPin, LoadScan, Scan}
+use Rattle.epoch_machine.specs.declared.machine.Stage.TheVariants.{Advance, Take, Calling, LoadSeal, Keep, LoadRepin}
+use Rattle.epoch_machine.specs.declared.machine.Stage.TheVariants.{StoreRepin, ReloadRepin, StoreUnpinned, StoreFree}
+use Rattle.epoch_machine.specs.declared.machine.Stage.TheVariants.{End}
 use Rattle.epoch_machine.specs.Machine.{Machine, rests, ask_at, first_stage, hears, put_heard, took_heard, gives}
 use Rattle.epoch_machine.proofs.StagesAfter.{either_way}
 use Rattle.epoch_machine.proofs.UnderWay.{IsOn, collect_on, pin_on, put_on, unpin_on, job_on, word_on, first_on}
@@ -27,7 +30,8 @@ never_rests _ other = refl
 pub begins : {J : Type 0} (a : Action) (m : Machine J) → first_stage a m ≢ Idle
 begins a m = acts (first_stage a m) (first_on a m)
 
-answered : {J : Type 0} (m : Machine J) (s : Stage) (a : Answer J) → m.stage ≢ Idle → ask_at s ≢ Some AskFree → rests (hears m s a).stage ≡ false
+answered : {J : Type 0} (m : Machine J) (s : Stage) (a : Answer J)
+    → m.stage ≢ Idle → ask_at s ≢ Some AskFree → rests (hears m s a).stage ≡ false
 answered m LoadPin (Epoch e) busy other = refl
 answered m ReloadPin (Epoch e) busy other = pin_on m
 answered m LoadScan (Epoch e) busy other = refl
@@ -44,7 +48,8 @@ answered m Keep (Job job) busy other = refl
 answered m _ _ busy other = never_rests m.stage busy
 
 -- an answer to any ask but the last store of a release leaves the action under way
-pub goes_on : {J : Type 0} (m : Machine J) (a : Answer J) → m.stage ≢ Idle → ask_at m.stage ≢ Some AskFree → (hears m m.stage a).stage ≢ Idle
+pub goes_on : {J : Type 0} (m : Machine J) (a : Answer J)
+    → m.stage ≢ Idle → ask_at m.stage ≢ Some AskFree → (hears m m.stage a).stage ≢ Idle
 goes_on m a busy other = acts (hears m m.stage a).stage (answered m m.stage a busy other)
 
 stored_free : {J : Type 0} (m : Machine J) (s : Stage) → ask_at s ≡ Some AskFree → (hears m s Stored).stage ≡ Idle
@@ -63,12 +68,14 @@ put_stepped m Full busy = put_on m.action true
 pub puts : {J : Type 0} (m : Machine J) (step : PutStep) → m.stage ≢ Idle → (put_heard m step).stage ≢ Idle
 puts m step busy = acts (put_heard m step).stage (put_stepped m step busy)
 
-took : {J : Type 0} (m : Machine J) (s : Stage) (step : TakeStep) (jobs : List J) → m.stage ≢ Idle → rests (took_heard m s step jobs).stage ≡ false
+took : {J : Type 0} (m : Machine J) (s : Stage) (step : TakeStep) (jobs : List J)
+    → m.stage ≢ Idle → rests (took_heard m s step jobs).stage ≡ false
 took m (Take x k) Empty jobs busy = collect_on m.action m.held
 took m (Take x k) Got jobs busy = job_on m x k jobs
 took m _ _ jobs busy = never_rests m.stage busy
 
-pub takes : {J : Type 0} (m : Machine J) (step : TakeStep) (jobs : List J) → m.stage ≢ Idle → (took_heard m m.stage step jobs).stage ≢ Idle
+pub takes : {J : Type 0} (m : Machine J) (step : TakeStep) (jobs : List J)
+    → m.stage ≢ Idle → (took_heard m m.stage step jobs).stage ≢ Idle
 takes m step jobs busy = acts (took_heard m m.stage step jobs).stage (took m m.stage step jobs busy)
 
 gave : {J : Type 0} (m : Machine J) (s : Stage) (jobs : List J) → m.stage ≢ Idle → rests (gives m s jobs).stage ≡ false

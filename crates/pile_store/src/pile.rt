@@ -1,5 +1,6 @@
 //! The pile: it looks first at the bag that was put last.
-ghost use Rattle.std.specs.Prelude.{◌≡◌, ◌≢◌, ℕ, ◌+◌, ◌-◌, ◌*◌, ◌<◌, ◌≤◌, List, [], ◌++◌, IfOk, IfErr, OnErr, Some, true, false, nat_lt, ◌&&◌, length, min, take, slice_get, vec_capacity};
+ghost use Rattle.std.specs.Prelude.{◌≡◌, ◌≢◌, ℕ, ◌+◌, ◌-◌, ◌*◌, ◌<◌, ◌≤◌, List, [], ◌++◌, IfOk, IfErr, OnErr, Some};
+ghost use Rattle.std.specs.Prelude.{true, false, nat_lt, ◌&&◌, length, min, take, slice_get, vec_capacity};
 ghost use Rattle.epoch_bags.specs.Stores.{AllExpired, PutsBag, FindsRoom, TakesBag, FindsBag, TakesAny};
 ghost use Rattle.epoch_bags.specs.Queues.{first_occupied};
 ghost use Rattle.pile_store.specs.Piles.{expired_count};

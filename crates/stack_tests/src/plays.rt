@@ -54,7 +54,8 @@ fn act(
     }
 }
 
-/// The one participant of a collector with these capacities does all this to an empty stack. The end calls so many jobs.
+/// The one participant of a collector with these capacities does all this to an empty stack. The end calls so many
+/// jobs.
 pub(crate) fn play(
     rt: &impl Abort,
     alloc: Global,

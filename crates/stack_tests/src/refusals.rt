@@ -100,9 +100,9 @@ fn beside(rt: &impl Abort, alloc: Global, other: Nodes) -> Result<(Nodes, Nodes)
     }
 }
 
-// The first removal is put, and the second one held, as in `filled`; the cells are full too, and no try is to be made. The
-// flushes of the refused calls found their own pin at 0, which held the epoch at 1. The bag in the place was sealed with 1:
-// the second round calls it in epoch 3.
+// The first removal is put, and the second one held, as in `filled`; the cells are full too, and no try is to be made.
+// The flushes of the refused calls found their own pin at 0, which held the epoch at 1. The bag in the place was sealed
+// with 1: the second round calls it in epoch 3.
 const WITHOUT_A_PLACE: &[Pinned] = &[
     (
         &[

@@ -17,7 +17,8 @@ const SIZES: &[u64] = &[1, 2, 3, 8, 63, 64];
 
 const DEFER: Call = Call::Defer(Some(0));
 
-/// Makes this call of the one participant so many times. Answers how many jobs were called, and how often it was refused.
+/// Makes this call of the one participant so many times. Answers how many jobs were called, and how often it was
+/// refused.
 fn call_times<S: BagStore<Job = Deferral>>(
     world: &mut World<S>,
     call: Call,
@@ -65,8 +66,8 @@ fn jobs_in(bags: &[u64]) -> u64 {
     jobs
 }
 
-/// Three full bags are sealed with 1, and one job more is held. The first round puts it in a bag of its own, and advances
-/// to 2. Each further one calls the jobs of so many bags, which are taken in the order of `bags`.
+/// Three full bags are sealed with 1, and one job more is held. The first round puts it in a bag of its own, and
+/// advances to 2. Each further one calls the jobs of so many bags, which are taken in the order of `bags`.
 fn expect_emptied<S: BagStore<Job = Deferral>>(
     rt: &impl Abort,
     alloc: Global,

@@ -1,5 +1,6 @@
 //! The removal of the value that a pointer names.
-ghost use Rattle.std.specs.Prelude.{◌≡◌, ◌≢◌, ◌↔◌, ◌<◌, [], ◌∷◌, ◌++◌, ◌⊎◌, true, IsOk, IsErr, IsNone, IsSome, IfOk, IfErr, IfSome, Some, None, length};
+ghost use Rattle.std.specs.Prelude.{◌≡◌, ◌≢◌, ◌↔◌, ◌<◌, [], ◌∷◌, ◌++◌, ◌⊎◌, true, IsOk, IsErr, IsNone, IsSome, IfOk};
+ghost use Rattle.std.specs.Prelude.{IfErr, IfSome, Some, None, length};
 ghost use Rattle.epoch_cells.specs.declared.cells.name.Name.{Name};
 ghost use Rattle.epoch_cells.specs.declared.fault.Fault.TheVariants.{StrangerGuard, StrangerPointer, BagsFull};
 ghost use Rattle.epoch_bags.specs.declared.job.Job.TheVariants.{Remove};
@@ -55,7 +56,8 @@ pub trait DeferDestroy<T, W> {
 
 impl<'c, T: Drop, W: Run> DestroyNow<T> for Guard<'c, T, W> {
     fn destroy_now<'g>(&self, shared: Shared<'g, T>) -> Result<Called, Shared<'g, T>>
-        ensures ok { IsOk result ↔ (IsNone self.now.position × IsSome shared.entry.name × IsUnder self.now.collector.now.id shared.entry.home) }
+        ensures ok { IsOk result ↔ (IsNone self.now.position × IsSome shared.entry.name
+            × IsUnder self.now.collector.now.id shared.entry.home) }
         ensures called { IfOk result (λ called. called ≢ Ran) }
         ensures tried { IsOk result → IfSome shared.entry.name (λ name. W.Removing.tried name) }
         ensures handed_back { IfErr result (λ back. back ≡ shared.entry) }
@@ -82,14 +84,24 @@ impl<'c, T: Drop, W: Run> DeferDestroy<T, W> for LocalHandle<'c, T, W> {
         ensures counted { self.new.machine.guards ≡ self.old.machine.guards }
         ensures unprotected { guard.now.position ≡ None → self.new ≡ self.old }
         ensures at_once { (name : Name) → guard.now.position ≡ None → Names self.old shared.entry name → IsOk result }
-        ensures tried { (name : Name) → guard.now.position ≡ None → Names self.old shared.entry name → W.Removing.tried name }
-        ensures stranger { IsSome guard.now.position → ¬ Owns self.old guard.now → IfErr result (λ refused. refused.fault ≡ StrangerGuard) × IsErr result × (self.new ≡ self.old) }
-        ensures pointer { (guard.now.position ≡ None) ⊎ Owns self.old guard.now → ((name : Name) → ¬ Names self.old shared.entry name) → IfErr result (λ refused. refused.fault ≡ StrangerPointer) × IsErr result × (self.new ≡ self.old) }
-        ensures does { (name : Name) → Owns self.old guard.now → Names self.old shared.entry name → Does self.old Defer self.new × IfErr result (λ refused. refused.fault ≡ BagsFull) }
-        ensures room { (name : Name) → Owns self.old guard.now → Names self.old shared.entry name → length self.old.machine.held < self.old.machine.sizes.bag_jobs → IsOk result × (self.new.machine.held ≡ self.old.machine.held ++ Remove name ∷ []) }
-        ensures kept { (name : Name) → Owns self.old guard.now → Names self.old shared.entry name → IsOk result → (self.new.machine.held ≡ self.old.machine.held ++ Remove name ∷ []) ⊎ (self.new.machine.held ≡ Remove name ∷ []) }
+        ensures tried { (name : Name) → guard.now.position ≡ None → Names self.old shared.entry name
+            → W.Removing.tried name }
+        ensures stranger { IsSome guard.now.position → ¬ Owns self.old guard.now
+            → IfErr result (λ refused. refused.fault ≡ StrangerGuard) × IsErr result × (self.new ≡ self.old) }
+        ensures pointer { (guard.now.position ≡ None) ⊎ Owns self.old guard.now
+            → ((name : Name) → ¬ Names self.old shared.entry name)
+            → IfErr result (λ refused. refused.fault ≡ StrangerPointer) × IsErr result × (self.new ≡ self.old) }
+        ensures does { (name : Name) → Owns self.old guard.now → Names self.old shared.entry name
+            → Does self.old Defer self.new × IfErr result (λ refused. refused.fault ≡ BagsFull) }
+        ensures room { (name : Name) → Owns self.old guard.now → Names self.old shared.entry name
+            → length self.old.machine.held < self.old.machine.sizes.bag_jobs
+            → IsOk result × (self.new.machine.held ≡ self.old.machine.held ++ Remove name ∷ []) }
+        ensures kept { (name : Name) → Owns self.old guard.now → Names self.old shared.entry name
+            → IsOk result → (self.new.machine.held ≡ self.old.machine.held ++ Remove name ∷ [])
+            ⊎ (self.new.machine.held ≡ Remove name ∷ []) }
         ensures err { IsErr result → self.new.machine.held ≡ self.old.machine.held }
-        ensures found { (name : Name) → Owns self.old guard.now → Names self.old shared.entry name → IsErr result ↔ (self.new.machine.full ≡ true) }
+        ensures found { (name : Name) → Owns self.old guard.now → Names self.old shared.entry name
+            → IsErr result ↔ (self.new.machine.full ≡ true) }
         ensures handed_back { IfErr result (λ refused. refused.value ≡ shared.entry) }
     {
         if guard.is_protecting() && !self.owns(guard) {

@@ -53,10 +53,13 @@ impl<T: Pointable> Atomic<T> {
         guard: &'g Guard<'_, T, W>,
     ) -> Result<Shared<'g, T>, ExchangeFault<'g, T, P>>
         ensures ok { IfOk result (λ written. BecomesBelow T.ALIGN (P.becomes new) written.name written.tag) }
-        ensures changed { IfErr result (λ fault. OnChanged fault (λ found back. FindsAnother T.ALIGN current.entry found)) }
-        ensures handed_back { IfErr result (λ fault. OnChanged fault (λ found back. BecomesBoth (P.becomes new) (P.becomes back))) }
+        ensures changed { IfErr result
+            (λ fault. OnChanged fault (λ found back. FindsAnother T.ALIGN current.entry found)) }
+        ensures handed_back { IfErr result
+            (λ fault. OnChanged fault (λ found back. BecomesBoth (P.becomes new) (P.becomes back))) }
         ensures full { IfErr result (λ fault. OnFull fault (λ back. P.takes_cell × (back ≡ new))) }
-        ensures stuck { IfErr result (λ fault. OnStuck fault (λ stuck. P.takes_cell × P.becomes new stuck.name stuck.tag)) }
+        ensures stuck { IfErr result
+            (λ fault. OnStuck fault (λ stuck. P.takes_cell × P.becomes new stuck.name stuck.tag)) }
         ensures home { IfOk result (λ written. IsUnder guard.now.collector.now.id written.home) }
         ensures fault_home { IfErr result (λ fault. AnswersUnder guard.now.collector.now.id fault) }
     {
@@ -106,10 +109,13 @@ impl<T: Pointable> Atomic<T> {
         guard: &'g Guard<'_, T, W>,
     ) -> Result<Shared<'g, T>, ExchangeFault<'g, T, P>>
         ensures ok { IfOk result (λ written. BecomesBelow T.ALIGN (P.becomes new) written.name written.tag) }
-        ensures changed { IfErr result (λ fault. OnChanged fault (λ found back. FindsAnother T.ALIGN current.entry found)) }
-        ensures handed_back { IfErr result (λ fault. OnChanged fault (λ found back. BecomesBoth (P.becomes new) (P.becomes back))) }
+        ensures changed { IfErr result
+            (λ fault. OnChanged fault (λ found back. FindsAnother T.ALIGN current.entry found)) }
+        ensures handed_back { IfErr result
+            (λ fault. OnChanged fault (λ found back. BecomesBoth (P.becomes new) (P.becomes back))) }
         ensures full { IfErr result (λ fault. OnFull fault (λ back. P.takes_cell × (back ≡ new))) }
-        ensures stuck { IfErr result (λ fault. OnStuck fault (λ stuck. P.takes_cell × P.becomes new stuck.name stuck.tag)) }
+        ensures stuck { IfErr result
+            (λ fault. OnStuck fault (λ stuck. P.takes_cell × P.becomes new stuck.name stuck.tag)) }
         ensures home { IfOk result (λ written. IsUnder guard.now.collector.now.id written.home) }
         ensures fault_home { IfErr result (λ fault. AnswersUnder guard.now.collector.now.id fault) }
     {
@@ -125,10 +131,13 @@ impl<T: Pointable> Atomic<T> {
         guard: &'g Guard<'_, T, W>,
     ) -> Result<Shared<'g, T>, ExchangeFault<'g, T, P>>
         ensures ok { IfOk result (λ written. BecomesBelow T.ALIGN (P.becomes new) written.name written.tag) }
-        ensures changed { IfErr result (λ fault. OnChanged fault (λ found back. FindsAnother T.ALIGN current.entry found)) }
-        ensures handed_back { IfErr result (λ fault. OnChanged fault (λ found back. BecomesBoth (P.becomes new) (P.becomes back))) }
+        ensures changed { IfErr result
+            (λ fault. OnChanged fault (λ found back. FindsAnother T.ALIGN current.entry found)) }
+        ensures handed_back { IfErr result
+            (λ fault. OnChanged fault (λ found back. BecomesBoth (P.becomes new) (P.becomes back))) }
         ensures full { IfErr result (λ fault. OnFull fault (λ back. P.takes_cell × (back ≡ new))) }
-        ensures stuck { IfErr result (λ fault. OnStuck fault (λ stuck. P.takes_cell × P.becomes new stuck.name stuck.tag)) }
+        ensures stuck { IfErr result
+            (λ fault. OnStuck fault (λ stuck. P.takes_cell × P.becomes new stuck.name stuck.tag)) }
         ensures home { IfOk result (λ written. IsUnder guard.now.collector.now.id written.home) }
         ensures fault_home { IfErr result (λ fault. AnswersUnder guard.now.collector.now.id fault) }
     {
@@ -144,10 +153,13 @@ impl<T: Pointable> Atomic<T> {
         guard: &'g Guard<'_, T, W>,
     ) -> Result<Shared<'g, T>, ExchangeFault<'g, T, P>>
         ensures ok { IfOk result (λ written. BecomesBelow T.ALIGN (P.becomes new) written.name written.tag) }
-        ensures changed { IfErr result (λ fault. OnChanged fault (λ found back. FindsAnother T.ALIGN current.entry found)) }
-        ensures handed_back { IfErr result (λ fault. OnChanged fault (λ found back. BecomesBoth (P.becomes new) (P.becomes back))) }
+        ensures changed { IfErr result
+            (λ fault. OnChanged fault (λ found back. FindsAnother T.ALIGN current.entry found)) }
+        ensures handed_back { IfErr result
+            (λ fault. OnChanged fault (λ found back. BecomesBoth (P.becomes new) (P.becomes back))) }
         ensures full { IfErr result (λ fault. OnFull fault (λ back. P.takes_cell × (back ≡ new))) }
-        ensures stuck { IfErr result (λ fault. OnStuck fault (λ stuck. P.takes_cell × P.becomes new stuck.name stuck.tag)) }
+        ensures stuck { IfErr result
+            (λ fault. OnStuck fault (λ stuck. P.takes_cell × P.becomes new stuck.name stuck.tag)) }
         ensures home { IfOk result (λ written. IsUnder guard.now.collector.now.id written.home) }
         ensures fault_home { IfErr result (λ fault. AnswersUnder guard.now.collector.now.id fault) }
     {

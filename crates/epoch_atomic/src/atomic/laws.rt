@@ -5,5 +5,6 @@ ghost use Rattle.epoch_atomic.specs.Pointers.{tagged_word, SameName};
 
 /// Pointers with equal numbers are both null or name one slot and one turn, and have one tag: so `==` compares both.
 pub fn equal_numbers_are_of_one_pointer()
-    ensures { (one other : Option Name) (s t : ℕ) → s < 256 → t < 256 → tagged_word one s ≡ tagged_word other t → SameName one other × (s ≡ t) }
+    ensures { (one other : Option Name) (s t : ℕ) → s < 256 → t < 256 → tagged_word one s ≡ tagged_word other t
+        → SameName one other × (s ≡ t) }
 {}

@@ -58,7 +58,8 @@ impl<'g, T: Pointable> Pointer<'g, T> for Shared<'g, T> {
     #[inline(always)]
     fn enter_word<W>(self, _guard: &'g Guard<'_, T, W>) -> Result<u64, Self>
         ensures rule { IfOk result (λ word. IsPointerWord word) }
-        ensures word { IfOk result (λ word. BecomesWord T.ALIGN (λ name tag. (name ≡ self.entry.name) × (tag ≡ self.entry.tag)) word) }
+        ensures word { IfOk result
+            (λ word. BecomesWord T.ALIGN (λ name tag. (name ≡ self.entry.name) × (tag ≡ self.entry.tag)) word) }
         ensures full { IfErr result (λ back. ⊥ × (back ≡ self.entry)) }
     {
         Ok(pointer_word::<T>(self.name, self.tag))

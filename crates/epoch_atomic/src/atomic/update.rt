@@ -36,8 +36,10 @@ impl<T: Pointable> Atomic<T> {
         f: F,
     ) -> Result<Shared<'g, T>, UpdateFault<'g, T>>
         requires { F.IsAlwaysCallable f }
-        ensures ok { IfOk result (λ before. (last : F) × WinsLast (IsReadUnder T.ALIGN guard.now.collector.now.id) F.step f max_tries before last) }
-        ensures ended { (last : F) × IfErr result (λ fault. EndsUnmade (IsReadUnder T.ALIGN guard.now.collector.now.id) F.step f max_tries fault last) }
+        ensures ok { IfOk result (λ before. (last : F)
+            × WinsLast (IsReadUnder T.ALIGN guard.now.collector.now.id) F.step f max_tries before last) }
+        ensures ended { (last : F) × IfErr result
+            (λ fault. EndsUnmade (IsReadUnder T.ALIGN guard.now.collector.now.id) F.step f max_tries fault last) }
         ensures read { IfOk result (λ before. IsRead T.ALIGN before.name before.tag) }
         ensures seen { IfErr result (λ fault. IsRead T.ALIGN (pointer_of fault).name (pointer_of fault).tag) }
         ensures home { IfOk result (λ before. IsUnder guard.now.collector.now.id before.home) }
@@ -57,8 +59,10 @@ impl<T: Pointable> Atomic<T> {
         f: &mut F,
     ) -> Result<Shared<'g, T>, UpdateFault<'g, T>>
         requires { F.IsAlwaysCallable f.old }
-        ensures ok { IfOk result (λ before. WinsLast (IsReadUnder T.ALIGN guard.now.collector.now.id) F.step f.old max_tries before f.new) }
-        ensures ended { IfErr result (λ fault. EndsUnmade (IsReadUnder T.ALIGN guard.now.collector.now.id) F.step f.old max_tries fault f.new) }
+        ensures ok { IfOk result
+            (λ before. WinsLast (IsReadUnder T.ALIGN guard.now.collector.now.id) F.step f.old max_tries before f.new) }
+        ensures ended { IfErr result
+            (λ fault. EndsUnmade (IsReadUnder T.ALIGN guard.now.collector.now.id) F.step f.old max_tries fault f.new) }
         ensures read { IfOk result (λ before. IsRead T.ALIGN before.name before.tag) }
         ensures seen { IfErr result (λ fault. IsRead T.ALIGN (pointer_of fault).name (pointer_of fault).tag) }
         ensures home { IfOk result (λ before. IsUnder guard.now.collector.now.id before.home) }

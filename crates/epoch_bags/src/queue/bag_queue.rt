@@ -1,8 +1,11 @@
 //! The plain store: a queue of bags with a bound, which puts and takes in one step each.
-ghost use Rattle.std.specs.Prelude.{◌≡◌, ◌≢◌, ℕ, ◌+◌, ◌-◌, ◌*◌, ◌<◌, ◌≤◌, ◌↔◌, List, [], ◌∷◌, ◌++◌, Option, None, Some, length, IfOk, IfErr, IsErr, OnOk, OnErr, IsTrue, nat_lt, ◌&&◌, true, false, min, slice_get, vec_len, vec_capacity};
+ghost use Rattle.std.specs.Prelude.{◌≡◌, ◌≢◌, ℕ, ◌+◌, ◌-◌, ◌*◌, ◌<◌, ◌≤◌, ◌↔◌, List, [], ◌∷◌, ◌++◌, Option, None, Some};
+ghost use Rattle.std.specs.Prelude.{length, IfOk, IfErr, IsErr, OnOk, OnErr, IsTrue, nat_lt, ◌&&◌, true, false, min};
+ghost use Rattle.std.specs.Prelude.{slice_get, vec_len, vec_capacity};
 ghost use Rattle.std.specs.Fn.{FnReturnsAt};
 ghost use Rattle.epoch_bags.specs.Bags.{Sealed, IsExpired};
-ghost use Rattle.epoch_bags.specs.Stores.{AllExpired, PutsBag, FindsRoom, PutsJobs, TakesBag, TakesExpired, FindsBag, TakesAny};
+ghost use Rattle.epoch_bags.specs.Stores.{AllExpired, PutsBag, FindsRoom, PutsJobs, TakesBag, TakesExpired, FindsBag};
+ghost use Rattle.epoch_bags.specs.Stores.{TakesAny};
 ghost use Rattle.epoch_bags.specs.Queues.{first_occupied, first_expired, PopsFrontWhere};
 
 use super::size::tell_size;
@@ -30,7 +33,12 @@ impl<J> Model for BagQueue<J> {
 
     ghost view = { λ a. record { capacity = a.capacity; bags = a.bags.items } };
 
-    ghost invariant = { λ a. record { some : 0 < a.capacity; most : a.capacity ≤ 4096; room : a.capacity ≤ deque_capacity a.bags; within : length a.bags.items ≤ a.capacity } };
+    ghost invariant = { λ a. record {
+      some : 0 < a.capacity;
+      most : a.capacity ≤ 4096;
+      room : a.capacity ≤ deque_capacity a.bags;
+      within : length a.bags.items ≤ a.capacity;
+    } };
 }
 
 impl<J: Drop> Drop for BagQueue<J> {

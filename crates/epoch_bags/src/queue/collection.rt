@@ -14,7 +14,8 @@ pub fn take_some<S: BagStore>(
 ) -> u64
     requires few { most ≤ 64 }
     requires hand { hand.old.jobs ≡ [] }
-    ensures least { ((place : ℕ) → ¬ (S.Claimed store.old place)) → AllExpired expiry.number (S.queued store.old) → result ≡ min most (length (S.queued store.old)) }
+    ensures least { ((place : ℕ) → ¬ (S.Claimed store.old place)) → AllExpired expiry.number (S.queued store.old)
+        → result ≡ min most (length (S.queued store.old)) }
     ensures most { result ≤ most }
     ensures left { length (S.queued store.new) + result ≡ length (S.queued store.old) }
     ensures hand { hand.new.jobs ≡ [] }

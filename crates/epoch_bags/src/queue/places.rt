@@ -3,11 +3,15 @@
 //! A word is 0 for an empty place, 2 for a claimed one, and `2s + 1` for one that holds a bag sealed with `s`.
 //! A put goes from place 0 to the last: it looks at the word, claims an empty place and fills it. A collection
 //! goes over the places once: it looks, claims the very word that tells of an expired bag, and empties the place.
-ghost use Rattle.std.specs.Prelude.{◌≡◌, ◌≢◌, ℕ, ◌+◌, ◌-◌, ◌*◌, ◌<◌, ◌≤◌, ◌↔◌, ◌%◌, ◌/◌, List, [], ◌∷◌, ◌++◌, Option, None, Some, IsSome, length, IfOk, IfErr, IsTrue, true, false, ◌==◌, if◌then◌else◌, slice_index_or, slice_get, slice_set, min, vec_capacity};
+ghost use Rattle.std.specs.Prelude.{◌≡◌, ◌≢◌, ℕ, ◌+◌, ◌-◌, ◌*◌, ◌<◌, ◌≤◌, ◌↔◌, ◌%◌, ◌/◌, List, [], ◌∷◌, ◌++◌, Option};
+ghost use Rattle.std.specs.Prelude.{None, Some, IsSome, length, IfOk, IfErr, IsTrue, true, false, ◌==◌, if◌then◌else◌};
+ghost use Rattle.std.specs.Prelude.{slice_index_or, slice_get, slice_set, min, vec_capacity};
 ghost use Rattle.epoch_bags.specs.Bags.{Sealed, IsExpired};
-ghost use Rattle.epoch_bags.specs.Stores.{AllExpired, PutsBag, FindsRoom, PutsJobs, TakesBag, TakesExpired, FindsBag, TakesAny};
+ghost use Rattle.epoch_bags.specs.Stores.{AllExpired, PutsBag, FindsRoom, PutsJobs, TakesBag, TakesExpired, FindsBag};
+ghost use Rattle.epoch_bags.specs.Stores.{TakesAny};
 ghost use Rattle.epoch_bags.specs.Places.{has_empty};
-ghost use Rattle.epoch_bags.specs.PlaceLists.{ArePlaces, bags_in, taken_places, homes_taken, IsClaimedAt, IsReservedAt, Fills, Empties, LeavesPlace};
+ghost use Rattle.epoch_bags.specs.PlaceLists.{ArePlaces, bags_in, taken_places, homes_taken, IsClaimedAt, IsReservedAt};
+ghost use Rattle.epoch_bags.specs.PlaceLists.{Fills, Empties, LeavesPlace};
 
 use super::size::tell_size;
 use crate::{Bag, BagStore, Epoch, MOST_BAGS, PutStep, SealedBag, TakeStep};
@@ -117,8 +121,10 @@ fn look<J>(places: &Places<J>, place: usize) -> u64
 #[inline(never)]
 fn claim<J>(places: &mut Places<J>, place: usize, expected: u64) -> bool
     requires { place < length places.old.words }
-    ensures won { IsTrue result → (slice_index_or places.old.words place 0 ≡ expected) × (places.new.words ≡ slice_set places.old.words place 2) }
-    ensures lost { result ≡ false → (slice_index_or places.old.words place 0 ≢ expected) × (places.new.words ≡ places.old.words) }
+    ensures won { IsTrue result → (slice_index_or places.old.words place 0 ≡ expected)
+        × (places.new.words ≡ slice_set places.old.words place 2) }
+    ensures lost { result ≡ false
+        → (slice_index_or places.old.words place 0 ≢ expected) × (places.new.words ≡ places.old.words) }
     ensures bags { places.new.bags ≡ places.old.bags }
 {
     if places.words[place] != expected {
@@ -137,7 +143,8 @@ fn fill<J: Default + Drop>(
     held: &mut Bag<J>,
 ) -> bool
     requires { place < length places.old.words }
-    ensures done { IsTrue result → Fills places.old place (record { seal = seal.number; jobs = held.old.jobs }) places.new }
+    ensures done { IsTrue result
+        → Fills places.old place (record { seal = seal.number; jobs = held.old.jobs }) places.new }
     ensures empty { IsTrue result → held.new.jobs ≡ [] }
     ensures limit { held.new.limit ≡ held.old.limit }
     ensures not { result ≡ false → (places.new ≡ places.old) × (held.new ≡ held.old) }
@@ -244,7 +251,8 @@ fn has_bag<J>(places: &Places<J>, place: usize) -> bool
 }
 
 impl<J: Default + Drop> BagStore for Places<J> {
-    ghost use Rattle.epoch_bags.specs.Places.{put_passed, put_left, take_left, ReservesAt, ClaimsAt, has_room, bags_ahead};
+    ghost use Rattle.epoch_bags.specs.Places.{put_passed, put_left, take_left, ReservesAt, ClaimsAt, has_room};
+    ghost use Rattle.epoch_bags.specs.Places.{bags_ahead};
     ghost use Rattle.epoch_bags.specs.CursorSteps.{PutStands, TakeStands, PutsInList, TakesFromList};
 
     type Job = J;
@@ -281,7 +289,8 @@ impl<J: Default + Drop> BagStore for Places<J> {
 
     ghost PutMoves = { λ old new bag cursor step next. PutStands old cursor → PutsInList old new bag cursor step next };
 
-    ghost TakeMoves = { λ epoch old new hand cursor step next. TakeStands epoch old cursor → TakesFromList old new hand epoch cursor step next };
+    ghost TakeMoves = { λ epoch old new hand cursor step next. TakeStands epoch old cursor
+        → TakesFromList old new hand epoch cursor step next };
 
     fn with_room(alloc: Global, bags: usize) -> Result<Places<J>, Fault> {
         Places::new(alloc, bags)
@@ -293,7 +302,8 @@ impl<J: Default + Drop> BagStore for Places<J> {
 
     fn start_put(&self) -> PutCursor
         ensures start { result ≡ PutCursor.Look 0 }
-        ensures room { (place : ℕ) → slice_get (taken_places self.now.words) place ≡ Some false → has_empty self.now.words ≡ true }
+        ensures room { (place : ℕ) → slice_get (taken_places self.now.words) place ≡ Some false
+            → has_empty self.now.words ≡ true }
     {
         PutCursor::Look(0)
     }

@@ -85,7 +85,8 @@ impl<'a, T: Drop> Reading<'a, T> {
 
     /// The value.
     pub fn get(&self) -> &T
-        ensures named { ∥ IsSomeAnd self.now.claim.value (λ cell. IsSomeAnd cell (λ held. held.name ≡ self.now.name)) ∥₁ }
+        ensures named { ∥ IsSomeAnd self.now.claim.value
+            (λ cell. IsSomeAnd cell (λ held. held.name ≡ self.now.name)) ∥₁ }
         ensures value { IfSome self.now.claim.value (λ cell. IfSome cell (λ held. result.now ≡ held.value.value)) }
     {
         match self.claim.get() {
@@ -135,7 +136,8 @@ impl<'a, T: Drop> Writing<'a, T> {
 
     /// The value, to be changed. The name that it stands beside stays.
     pub fn get_mut(&mut self) -> &mut T
-        ensures* writes_back { sem 𝓛 (Lends (the_row (record { mir = named 1; lft = [] }) T.row) T.row self.entry result (with_written self.old)) }
+        ensures* writes_back { sem 𝓛 (Lends (the_row (record { mir = named 1; lft = [] }) T.row) T.row self.entry result
+            (with_written self.old)) }
         ensures named { self.old.held.name ≡ self.old.name }
         ensures value { result.now ≡ self.old.held.value.value }
     {

@@ -1,6 +1,9 @@
 //! Numbered cells that nobody shares: a plain map from names to values.
-ghost use Rattle.std.specs.Prelude.{◌≡◌, ◌≢◌, ℕ, ◌+◌, ◌-◌, ◌<◌, ◌≤◌, ◌↔◌, false, None, Some, length, slice_get, IsTrue, IsNone, IsSome, IfSome, IfOk, IfErr, OnOk, OnErr, IsOkUnless, MatchOption, MatchResult, All, ◌⊎◌};
-ghost use Rattle.epoch_cells.specs.PlainCells.{Numbered, filled, empty, has, cell_of, with_cell, IsFree, unread, readable, removal_of, HasReader, Lowers, Replaces, Stands, KeepsOthers};
+ghost use Rattle.std.specs.Prelude.{◌≡◌, ◌≢◌, ℕ, ◌+◌, ◌-◌, ◌<◌, ◌≤◌, ◌↔◌, false, None, Some, length, slice_get, IsTrue};
+ghost use Rattle.std.specs.Prelude.{IsNone, IsSome, IfSome, IfOk, IfErr, OnOk, OnErr, IsOkUnless, MatchOption};
+ghost use Rattle.std.specs.Prelude.{MatchResult, All, ◌⊎◌};
+ghost use Rattle.epoch_cells.specs.PlainCells.{Numbered, filled, empty, has, cell_of, with_cell, IsFree, unread};
+ghost use Rattle.epoch_cells.specs.PlainCells.{readable, removal_of, HasReader, Lowers, Replaces, Stands, KeepsOthers};
 ghost use Rattle.epoch_cells.specs.declared.fault.Fault.TheVariants.{NoMemory, CellsFull};
 ghost use Rattle.epoch_cells.specs.declared.cells.Removal.TheVariants.{Destroyed, HeldElsewhere, Gone};
 
@@ -30,7 +33,11 @@ impl<V> Model for Cell<V> {
 
     ghost view = { λ a. record { turn = a.turn; readers = a.readers; value = a.value } };
 
-    ghost invariant = { λ a. record { within : a.turn ≤ 4294967296; used : a.value ≢ None → a.turn < 4294967296; few : a.readers ≤ 1073741823 } };
+    ghost invariant = { λ a. record {
+      within : a.turn ≤ 4294967296;
+      used : a.value ≢ None → a.turn < 4294967296;
+      few : a.readers ≤ 1073741823;
+    } };
 }
 
 impl<V: Drop> Cell<V> {
@@ -198,7 +205,8 @@ impl<V: Drop> PlainCells<V> {
     // The place of the name's cell, if its value is there.
     fn find(&self, name: Name) -> Option<usize>
         ensures none { IsNone result → cell_of self.now name.slot name.turn ≡ None }
-        ensures some { IfSome result (λ index. (index ≡ name.slot - 1) × (index < length self.now) × Stands self.now name.slot name.turn) }
+        ensures some { IfSome result
+            (λ index. (index ≡ name.slot - 1) × (index < length self.now) × Stands self.now name.slot name.turn) }
     {
         let index = name.slot() as usize - 1;
         if self.cells.get(index)?.has(name.turn()) {
@@ -212,7 +220,8 @@ impl<V: Drop> PlainCells<V> {
     /// more. `None`: there is no such slot.
     pub fn turn_at(&self, slot: u32) -> Option<u64>
         requires { 0 < slot }
-        ensures { MatchOption result (slice_get self.now (slot - 1) ≡ None) (λ turn. (cell : Numbered V) × (slice_get self.now (slot - 1) ≡ Some cell) × (cell.turn ≡ turn)) }
+        ensures { MatchOption result (slice_get self.now (slot - 1) ≡ None)
+            (λ turn. (cell : Numbered V) × (slice_get self.now (slot - 1) ≡ Some cell) × (cell.turn ≡ turn)) }
     {
         match self.cells.get(slot as usize - 1) {
             Some(cell) => Some(cell.turn),
@@ -222,7 +231,8 @@ impl<V: Drop> PlainCells<V> {
 
     /// The value of this name, without a reading.
     pub fn get(&self, name: Name) -> Option<&V>
-        ensures { MatchOption result (cell_of self.now name.slot name.turn ≡ None) (λ value. (readers : ℕ) × (cell_of self.now name.slot name.turn ≡ Some (filled name.turn readers value.now))) }
+        ensures { MatchOption result (cell_of self.now name.slot name.turn ≡ None) (λ value. (readers : ℕ)
+            × (cell_of self.now name.slot name.turn ≡ Some (filled name.turn readers value.now))) }
     {
         let index = self.find(name)?;
         self.cells[index].value.as_ref()
@@ -233,9 +243,11 @@ impl<V: Drop> PlainCells<V> {
         requires some { 0 < slot }
         requires within { slot ≤ length self.old }
         ensures ok { OnOk result (IfSome (slice_get self.old (slot - 1)) (λ cell. IsFree cell)) }
-        ensures turn { IfOk result (λ name. (name.slot ≡ slot) × IfSome (slice_get self.old (slot - 1)) (λ cell. cell.turn ≡ name.turn)) }
+        ensures turn { IfOk result
+            (λ name. (name.slot ≡ slot) × IfSome (slice_get self.old (slot - 1)) (λ cell. cell.turn ≡ name.turn)) }
         ensures placed { IfOk result (λ name. self.new ≡ with_cell self.old slot (filled name.turn 0 value)) }
-        ensures err { OnErr result (IfSome (slice_get self.old (slot - 1)) (λ cell. ¬ IsFree cell) × (self.new ≡ self.old)) }
+        ensures err { OnErr result
+            (IfSome (slice_get self.old (slot - 1)) (λ cell. ¬ IsFree cell) × (self.new ≡ self.old)) }
         ensures handed_back { IfErr result (λ back. back ≡ value) }
         ensures others { IfOk result (λ name. KeepsOthers name.slot name.turn self.old self.new) }
     {
@@ -263,7 +275,8 @@ impl<V: Drop> PlainCells<V> {
 
     /// Replaces the value of this name, also while it is read, and says whether its cell is there.
     pub fn amend(&mut self, name: Name, value: V) -> bool
-        ensures amended { IsTrue result → Replaces name.slot value (cell_of self.old name.slot name.turn) self.old self.new }
+        ensures amended { IsTrue result
+            → Replaces name.slot value (cell_of self.old name.slot name.turn) self.old self.new }
         ensures stays { result ≡ false → (cell_of self.old name.slot name.turn ≡ None) × (self.new ≡ self.old) }
         ensures others { KeepsOthers name.slot name.turn self.old self.new }
     {
@@ -322,7 +335,8 @@ impl<V: Copy + Drop> PlainCells<V> {
     /// `None`: the name's cell is gone, or has `2^30 - 1` readers.
     pub fn read(&mut self, name: Name) -> Option<V>
         ensures value { result ≡ readable (cell_of self.old name.slot name.turn) }
-        ensures some { IfSome result (λ value. IfSome (cell_of self.old name.slot name.turn) (λ cell. self.new ≡ with_cell self.old name.slot (filled name.turn (cell.readers + 1) value))) }
+        ensures some { IfSome result (λ value. IfSome (cell_of self.old name.slot name.turn)
+            (λ cell. self.new ≡ with_cell self.old name.slot (filled name.turn (cell.readers + 1) value))) }
         ensures none { result ≡ None → self.new ≡ self.old }
         ensures others { KeepsOthers name.slot name.turn self.old self.new }
     {

@@ -12,7 +12,8 @@ use epoch_bags::{Epoch, GREATEST_EPOCH, Run, TakeCursor, TakeStep};
 use epoch_machine::holds_up;
 
 impl<'c, T, W> Local<'c, T, W> {
-    /// Scans the words in a plain loop, and advances the epoch where none holds it up. Answers the epoch for which bags are taken.
+    /// Scans the words in a plain loop, and advances the epoch where none holds it up. Answers the epoch for which bags
+    /// are taken.
     #[inline(always)]
     pub(crate) fn scan(&mut self) -> u64
         requires seated { IsSeated self.old }
@@ -45,7 +46,9 @@ impl<'c, T: Drop, W: Run> Local<'c, T, W> {
     #[inline(always)]
     fn call_hand(&mut self)
         ensures only { self.new ≡ record self.old { machine = self.new.machine } }
-        ensures calls { (expiry taken : ℕ) → self.old.machine.stage ≡ after_job self.old.machine expiry taken self.old.machine.hand → CallsHand W.done self.old expiry taken self.new }
+        ensures calls { (expiry taken : ℕ)
+            → self.old.machine.stage ≡ after_job self.old.machine expiry taken self.old.machine.hand
+            → CallsHand W.done self.old expiry taken self.new }
     {
         while let Some(job) = self.machine.give() {
             let _ = job.call(&self.collector.cells);

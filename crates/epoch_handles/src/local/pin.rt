@@ -1,6 +1,7 @@
 //! Pins, unpins and repins, written out as the steps that they are.
 ghost use Rattle.std.specs.Prelude.{◌≡◌, ℕ, ◌+◌, ◌<◌, ◌≤◌, ◌^◌, true, false, Some};
-ghost use Rattle.epoch_handles.specs.Handles.{IsSeated, IsReady, IsSame, IsPinned, PublishSteps, PinSteps, IsDriven, Does, DoesStraight, DoesAndCalls};
+ghost use Rattle.epoch_handles.specs.Handles.{IsSeated, IsReady, IsSame, IsPinned, PublishSteps, PinSteps, IsDriven};
+ghost use Rattle.epoch_handles.specs.Handles.{Does, DoesStraight, DoesAndCalls};
 ghost use Rattle.epoch_tables.specs.SharedSteps.{RestsAt};
 ghost use Rattle.epoch_handles.specs.Drives.{NoJob};
 ghost use Rattle.epoch_machine.specs.Machine.{begun};
@@ -47,12 +48,14 @@ impl<'c, T, W> Local<'c, T, W> {
         ensures ends { result ≡ false → DoesStraight self.old Pin self.new }
         ensures ready { result ≡ false → IsReady self.new }
         ensures counted { result ≡ false → self.new.machine.guards ≡ self.old.machine.guards + 1 }
-        ensures drives { result ≡ true → IsDriven NoJob (record self.old { machine = begun Pin self.old.machine }) self.new }
+        ensures drives { result ≡ true
+            → IsDriven NoJob (record self.old { machine = begun Pin self.old.machine }) self.new }
         ensures seated { result ≡ true → IsSeated self.new }
         ensures rests { result ≡ true → RestsAt self.new.claimer.me }
         ensures pinned { result ≡ true → IsPinned self.new.seat.me.0 }
         ensures scans { result ≡ true → self.new.machine.stage ≡ LoadScan }
-        ensures leaves { result ≡ true → (self.new.machine.guards ≡ self.old.machine.guards) × (self.new.machine.action ≡ Pin) × (self.new.seat.me.0.published ≡ Some self.new.machine.published) }
+        ensures leaves { result ≡ true → (self.new.machine.guards ≡ self.old.machine.guards)
+            × (self.new.machine.action ≡ Pin) × (self.new.seat.me.0.published ≡ Some self.new.machine.published) }
         ensures first { result ≡ true → self.old.machine.guards ≡ 0 }
     {
         if self.machine.guards() != 0 {

@@ -1,7 +1,8 @@
 //! Which guards a list of entries counts as out.
 //!
 //! A list of entries may count any number of guards, so they are counted anew from the list, and kept nowhere.
-ghost use Rattle.std.specs.Prelude.{◌≡◌, ◌↔◌, ◌==◌, ℕ, ◌+◌, ◌^◌, ◌<◌, ◌≤◌, List, [], ◌∷◌, true, IsTrue, length, count_by};
+ghost use Rattle.std.specs.Prelude.{◌≡◌, ◌↔◌, ◌==◌, ℕ, ◌+◌, ◌^◌, ◌<◌, ◌≤◌, List, [], ◌∷◌, true, IsTrue, length};
+ghost use Rattle.std.specs.Prelude.{count_by};
 ghost use Rattle.epoch_laws.specs.Lawful.{told_of};
 ghost use Rattle.epoch_laws.specs.Known.{changed};
 ghost use Rattle.epoch_laws.specs.Run.{is_out};
@@ -84,7 +85,8 @@ fn times_out(entries: &[Entry], participant: u64, guard: u64) -> usize
 /// How often a guard is counted after a change, where it was counted so often before.
 fn times_after(change: Change, guard: u64, times: usize) -> usize
     requires { times + 1 < 2 ^ 64 }
-    ensures counted { (guards : List ℕ) → times ≡ count_by (λ other. other == guard) guards → result ≡ count_by (λ other. other == guard) (changed change guards) }
+    ensures counted { (guards : List ℕ) → times ≡ count_by (λ other. other == guard) guards
+        → result ≡ count_by (λ other. other == guard) (changed change guards) }
     ensures few { result ≤ times + 1 }
 {
     match change {

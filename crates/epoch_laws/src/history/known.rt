@@ -1,6 +1,7 @@
 //! What a list of entries tells of one participant, its guards aside.
 ghost use Rattle.std.specs.Prelude.{◌≡◌, ℕ, Bool, List, Option};
-ghost use Rattle.epoch_laws.specs.Lawful.{Told, nothing, told_after, told_of, after_register, after_begin, after_go, counted_after, paused_after, registered_after};
+ghost use Rattle.epoch_laws.specs.Lawful.{Told, nothing, told_after, told_of, after_register, after_begin, after_go};
+ghost use Rattle.epoch_laws.specs.Lawful.{counted_after, paused_after, registered_after};
 ghost use Rattle.epoch_laws.specs.Known.{known_of, changed};
 
 use crate::step::{Call, Entry, Reply, Step};
@@ -141,7 +142,8 @@ impl Known {
 
     /// What one more entry does to the guards counted of this participant.
     pub fn change(self, participant: u64, entry: Entry) -> Change
-        ensures { (t : Told) → self ≡ known_of t → (told_after participant t entry.step entry.reply).guards ≡ changed result t.guards }
+        ensures { (t : Told) → self ≡ known_of t
+            → (told_after participant t entry.step entry.reply).guards ≡ changed result t.guards }
     {
         match (entry.step, entry.reply) {
             (Step::Go(other), Reply::Done(answer)) if other == participant => at_end(

@@ -1,6 +1,10 @@
 //! Whether each event of a history stands only where it may.
 ghost use Rattle.std.specs.Prelude.{◌≡◌, ◌↔◌, IsTrue, Some};
-ghost use Rattle.epoch_laws.specs.Lawful.{IsLawful, nothing, told_of, MayPin, MayUnpin, MayRepin, MayDefer, MayCall, MayCallNow, Told, HasTold, HasToldRefused, IsValue, IsPointer, IsWritten, IsExchange, IsUpdate, ChangeAnswers, AccessAnswers, AnswerFits, MayTell, MayRegister, GuardAllows, GuardsAllow, MayAccept, MayBegin, MayEnd, MayEndGo, MayReply, MayReplyAll};
+ghost use Rattle.epoch_laws.specs.Lawful.{IsLawful, nothing, told_of, MayPin, MayUnpin, MayRepin, MayDefer, MayCall};
+ghost use Rattle.epoch_laws.specs.Lawful.{MayCallNow, Told, HasTold, HasToldRefused, IsValue, IsPointer, IsWritten};
+ghost use Rattle.epoch_laws.specs.Lawful.{IsExchange, IsUpdate, ChangeAnswers, AccessAnswers, AnswerFits, MayTell};
+ghost use Rattle.epoch_laws.specs.Lawful.{MayRegister, GuardAllows, GuardsAllow, MayAccept, MayBegin, MayEnd, MayEndGo};
+ghost use Rattle.epoch_laws.specs.Lawful.{MayReply, MayReplyAll};
 ghost use Rattle.epoch_laws.specs.Known.{known_of};
 ghost use Rattle.epoch_laws.specs.Run.{waits as call_waits};
 

@@ -96,7 +96,8 @@ impl<J: Default + Drop> Machine<J> {
     /// `None` where no call is asked for.
     #[inline]
     pub fn give(&mut self) -> Option<J>
-        ensures job { MatchOption result (asks self.old ≢ Some CallJob) (λ job. (asks self.old ≡ Some CallJob) × (self.old.hand ≡ job ∷ rest self.old.hand)) }
+        ensures job { MatchOption result (asks self.old ≢ Some CallJob)
+            (λ job. (asks self.old ≡ Some CallJob) × (self.old.hand ≡ job ∷ rest self.old.hand)) }
         ensures after { self.new ≡ gives self.old self.old.stage (rest self.old.hand) }
     {
         match self.stage {
@@ -115,7 +116,8 @@ impl<J: Default + Drop> Machine<J> {
     fn give_last(&mut self) -> Option<J>
         requires last { length self.old.hand ≡ 1 }
         requires calls { is_calling self.old.stage ≡ true }
-        ensures job { MatchOption result (asks self.old ≢ Some CallJob) (λ job. (asks self.old ≡ Some CallJob) × (self.old.hand ≡ job ∷ rest self.old.hand)) }
+        ensures job { MatchOption result (asks self.old ≢ Some CallJob)
+            (λ job. (asks self.old ≡ Some CallJob) × (self.old.hand ≡ job ∷ rest self.old.hand)) }
         ensures after { self.new ≡ gives self.old self.old.stage (rest self.old.hand) }
     {
         let Stage::Calling(expiry, taken) = self.stage else {

@@ -28,8 +28,10 @@ impl<J: Default + Drop> Machine<J> {
         ensures kept { IsSamePlaceSeat seat.old seat.new }
         ensures at { result ≡ PutStep.Again → PutsAt places.now.capacity cursor.new seat.new.me }
         ensures rests { result ≢ PutStep.Again → RestsAt seat.new.me }
-        ensures fewer { result ≡ PutStep.Again → put_left places.now.capacity cursor.new < put_left places.now.capacity cursor.old }
-        ensures moves { (seal : ℕ) → asks self.old ≡ Some (PutBag seal) → PutMoves places.now.capacity cursor.old seat.old.me (record { seal = seal; jobs = self.old.held }) result cursor.new seat.new.me }
+        ensures fewer { result ≡ PutStep.Again
+            → put_left places.now.capacity cursor.new < put_left places.now.capacity cursor.old }
+        ensures moves { (seal : ℕ) → asks self.old ≡ Some (PutBag seal) → PutMoves places.now.capacity cursor.old
+            seat.old.me (record { seal = seal; jobs = self.old.held }) result cursor.new seat.new.me }
     {
         let Stage::Put(seal) = self.stage else {
             unreachable!()
@@ -59,14 +61,18 @@ impl<J: Default + Drop> Machine<J> {
     ) -> TakeStep
         requires asked { (expiry : ℕ) × (asks self.old ≡ Some (TakeBag expiry)) }
         requires of { IsPlaceSeatOf places.now seat.old }
-        requires at { (expiry : ℕ) → asks self.old ≡ Some (TakeBag expiry) → TakesAt places.now.capacity expiry cursor.old seat.old.me }
+        requires at { (expiry : ℕ) → asks self.old ≡ Some (TakeBag expiry)
+            → TakesAt places.now.capacity expiry cursor.old seat.old.me }
         ensures after { self.new ≡ took_heard self.old self.old.stage result self.new.hand }
         ensures few { result ≡ TakeStep.Got → length self.new.hand ≤ 64 }
         ensures kept { IsSamePlaceSeat seat.old seat.new }
-        ensures at { (expiry : ℕ) → asks self.old ≡ Some (TakeBag expiry) → TakesAt places.now.capacity expiry cursor.new seat.new.me }
+        ensures at { (expiry : ℕ) → asks self.old ≡ Some (TakeBag expiry)
+            → TakesAt places.now.capacity expiry cursor.new seat.new.me }
         ensures rests { result ≢ TakeStep.Again → RestsAt seat.new.me }
-        ensures fewer { result ≢ TakeStep.Empty → take_left places.now.capacity cursor.new < take_left places.now.capacity cursor.old }
-        ensures moves { (expiry : ℕ) → asks self.old ≡ Some (TakeBag expiry) → (bag : Sealed J) × (result ≡ TakeStep.Got → self.new.hand ≡ bag.jobs)
+        ensures fewer { result ≢ TakeStep.Empty
+            → take_left places.now.capacity cursor.new < take_left places.now.capacity cursor.old }
+        ensures moves { (expiry : ℕ) → asks self.old ≡ Some (TakeBag expiry)
+            → (bag : Sealed J) × (result ≡ TakeStep.Got → self.new.hand ≡ bag.jobs)
             × TakeMoves places.now.capacity expiry cursor.old seat.old.me result cursor.new seat.new.me bag }
     {
         let Stage::Take(expiry, taken) = self.stage else {

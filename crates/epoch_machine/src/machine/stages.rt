@@ -1,6 +1,7 @@
 //! The stages: where an action begins, and where it goes on after each of its parts.
 ghost use Rattle.std.specs.Prelude.{◌≡◌, ℕ, false, ◌+◌, ◌^◌, ◌<◌, not, ◌==◌, if◌then◌else◌, length};
-ghost use Rattle.epoch_machine.specs.Machine.{after_collect, after_pin, after_put, after_unpin, holds_up, past_word, first_stage, StageFits, is_calling};
+ghost use Rattle.epoch_machine.specs.Machine.{after_collect, after_pin, after_put, after_unpin, holds_up, past_word};
+ghost use Rattle.epoch_machine.specs.Machine.{first_stage, StageFits, is_calling};
 ghost use Rattle.epoch_machine.specs.declared.machine.Stage.TheVariants.{End};
 ghost use Rattle.epoch_machine.specs.declared.machine.Sizes.{Sizes};
 
@@ -85,7 +86,8 @@ impl<J: Drop> Machine<J> {
 
     pub(super) fn after_put(&self, full: bool) -> Stage
         ensures value { result ≡ after_put self.now.action full }
-        ensures fits { (full ≡ false → length self.now.held < self.now.sizes.bag_jobs) → StageFits self.now.sizes (length self.now.held) result }
+        ensures fits { (full ≡ false → length self.now.held < self.now.sizes.bag_jobs)
+            → StageFits self.now.sizes (length self.now.held) result }
         ensures calls_nothing { is_calling result ≡ false }
     {
         match self.action {
@@ -133,8 +135,10 @@ impl<J: Default + Drop> Machine<J> {
 /// The stage after a bag taken or a job called: `after` follows the collection, which takes `most` bags.
 pub(super) fn after_job(most: u64, after: Stage, expiry: u64, taken: u64, none_left: bool) -> Stage
     requires { taken < most }
-    ensures value { result ≡ (if none_left then (if taken + 1 == most then after else Stage.Take expiry (taken + 1)) else Stage.Calling expiry taken) }
-    ensures fits { (sizes : Sizes) (held : ℕ) → sizes.collect_bags ≡ most → expiry < 2 ^ 63 → StageFits sizes held after → StageFits sizes held result }
+    ensures value { result ≡ (if none_left then (if taken + 1 == most then after else Stage.Take expiry (taken + 1))
+        else Stage.Calling expiry taken) }
+    ensures fits { (sizes : Sizes) (held : ℕ) → sizes.collect_bags ≡ most → expiry < 2 ^ 63 → StageFits sizes held after
+        → StageFits sizes held result }
     ensures calls { is_calling after ≡ false → is_calling result ≡ not none_left }
 {
     if !none_left {
@@ -160,7 +164,8 @@ pub(super) fn past_word(positions: u64, epoch: u64, next: u64, word: u64) -> Sta
     requires epoch { epoch < 2 ^ 63 }
     requires next { next < positions }
     ensures value { result ≡ past_word positions epoch next word }
-    ensures fits { (sizes : Sizes) (held : ℕ) → sizes.positions ≡ positions → 0 < sizes.collect_bags → StageFits sizes held result }
+    ensures fits { (sizes : Sizes) (held : ℕ) → sizes.positions ≡ positions → 0 < sizes.collect_bags
+        → StageFits sizes held result }
     ensures calls_nothing { is_calling result ≡ false }
 {
     if holds_up(epoch, word) {

@@ -16,18 +16,22 @@ impl<J: Default + Drop> Machine<J> {
         cursor: &mut S::Putting,
     ) -> PutStep
         requires { (seal : ℕ) × (asks self.old ≡ Some (PutBag seal)) }
-        ensures put { (seal : ℕ) → asks self.old ≡ Some (PutBag seal) → PutsHeld seal self.old (S.queued store.old) result (S.queued store.new) }
+        ensures put { (seal : ℕ) → asks self.old ≡ Some (PutBag seal)
+            → PutsHeld seal self.old (S.queued store.old) result (S.queued store.new) }
         ensures after { self.new ≡ put_heard self.old result }
         ensures capacity { S.capacity store.new ≡ S.capacity store.old }
-        ensures occupied { result ≢ PutStep.Done → (place : ℕ) → S.passed cursor.old ≤ place → place < S.passed cursor.new → slice_get (S.occupied store.old) place ≡ Some true }
+        ensures occupied { result ≢ PutStep.Done → (place : ℕ) → S.passed cursor.old ≤ place
+            → place < S.passed cursor.new → slice_get (S.occupied store.old) place ≡ Some true }
         ensures full { result ≡ PutStep.Full → S.capacity store.old ≤ S.passed cursor.new }
         ensures again { result ≡ PutStep.Again → S.passed cursor.new < S.capacity store.old }
         ensures onward { result ≢ PutStep.Done → S.passed cursor.old ≤ S.passed cursor.new }
         ensures room { FindsRoom (S.has_room store.old cursor.old) result (S.has_room store.new cursor.new) }
-        ensures fewer { 0 < S.puts_left (S.capacity store.old) cursor.old → S.puts_left (S.capacity store.old) cursor.new < S.puts_left (S.capacity store.old) cursor.old }
+        ensures fewer { 0 < S.puts_left (S.capacity store.old) cursor.old
+            → S.puts_left (S.capacity store.old) cursor.new < S.puts_left (S.capacity store.old) cursor.old }
         ensures last { S.puts_left (S.capacity store.old) cursor.old ≡ 0 → result ≡ PutStep.Full }
         ensures claims { (place : ℕ) → S.Claimed store.new place → S.Claimed store.old place }
-        ensures reserves { (place : ℕ) → S.Reserved store.new place → S.Reserves cursor.new place ⊎ (S.Reserved store.old place × (¬ (S.Reserves cursor.old place))) }
+        ensures reserves { (place : ℕ) → S.Reserved store.new place
+            → S.Reserves cursor.new place ⊎ (S.Reserved store.old place × (¬ (S.Reserves cursor.old place))) }
         ensures lets_go { result ≢ PutStep.Again → (place : ℕ) → ¬ (S.Reserves cursor.new place) }
     {
         let Stage::Put(seal) = self.stage else {
@@ -55,17 +59,22 @@ impl<J: Default + Drop> Machine<J> {
         cursor: &mut S::Taking,
     ) -> TakeStep
         requires { (expiry : ℕ) × (asks self.old ≡ Some (TakeBag expiry)) }
-        ensures taken { (expiry : ℕ) → asks self.old ≡ Some (TakeBag expiry) → TakesHand expiry (S.queued store.old) result (S.queued store.new) self.new.hand }
+        ensures taken { (expiry : ℕ) → asks self.old ≡ Some (TakeBag expiry)
+            → TakesHand expiry (S.queued store.old) result (S.queued store.new) self.new.hand }
         ensures within { StageFits self.old.sizes (length self.old.held) self.old.stage }
         ensures few { result ≡ TakeStep.Got → length self.new.hand ≤ 64 }
         ensures after { self.new ≡ took_heard self.old self.old.stage result self.new.hand }
         ensures capacity { S.capacity store.new ≡ S.capacity store.old }
-        ensures fewer { 0 < S.takes_left (S.capacity store.old) cursor.old → S.takes_left (S.capacity store.old) cursor.new < S.takes_left (S.capacity store.old) cursor.old }
+        ensures fewer { 0 < S.takes_left (S.capacity store.old) cursor.old
+            → S.takes_left (S.capacity store.old) cursor.new < S.takes_left (S.capacity store.old) cursor.old }
         ensures last { S.takes_left (S.capacity store.old) cursor.old ≡ 0 → result ≡ TakeStep.Empty }
-        ensures claims { (place : ℕ) → S.Claimed store.new place → S.Claims cursor.new place ⊎ (S.Claimed store.old place × (¬ (S.Claims cursor.old place))) }
-        ensures reserves { (place : ℕ) → S.Reserved store.new place → S.Claims cursor.new place ⊎ (S.Reserved store.old place × (¬ (S.Claims cursor.old place))) }
+        ensures claims { (place : ℕ) → S.Claimed store.new place
+            → S.Claims cursor.new place ⊎ (S.Claimed store.old place × (¬ (S.Claims cursor.old place))) }
+        ensures reserves { (place : ℕ) → S.Reserved store.new place
+            → S.Claims cursor.new place ⊎ (S.Reserved store.old place × (¬ (S.Claims cursor.old place))) }
         ensures lets_go { result ≢ TakeStep.Again → (place : ℕ) → ¬ (S.Claims cursor.new place) }
-        ensures ahead { (expiry : ℕ) → asks self.old ≡ Some (TakeBag expiry) → FindsBag (S.ahead expiry store.old cursor.old) result (S.ahead expiry store.new cursor.new) }
+        ensures ahead { (expiry : ℕ) → asks self.old ≡ Some (TakeBag expiry)
+            → FindsBag (S.ahead expiry store.old cursor.old) result (S.ahead expiry store.new cursor.new) }
     {
         let Stage::Take(expiry, taken) = self.stage else {
             unreachable!()

@@ -7,7 +7,8 @@ ghost use Rattle.epoch_machine.specs.declared.machine.Stage.TheVariants.{Idle, L
 
 use super::{Action, Machine, PINS_BETWEEN_COLLECTIONS, Stage};
 
-/// Stores that hardly ever change anything look first: the exchange of a pin or an unpin waits for each store before it.
+/// Stores that hardly ever change anything look first: the exchange of a pin or an unpin waits for each store before
+/// it.
 impl<J> Machine<J> {
     /// No put of this action was refused so far.
     #[inline]
@@ -39,10 +40,13 @@ impl<J> Machine<J> {
         requires idle { self.old.stage ≡ Idle }
         requires first { self.old.guards ≡ 0 }
         requires within { epoch < 2 ^ 63 }
-        ensures collects { result ≡ true → (again : ℕ) → self.new ≡ heard (heard (heard (begun Pin self.old) (Epoch epoch)) Stored) (Epoch again) }
+        ensures collects { result ≡ true → (again : ℕ)
+            → self.new ≡ heard (heard (heard (begun Pin self.old) (Epoch epoch)) Stored) (Epoch again) }
         ensures scans { result ≡ true → self.new.stage ≡ LoadScan }
-        ensures stops { result ≡ false → (again : ℕ) → (heard (heard (heard (begun Pin self.old) (Epoch epoch)) Stored) (Epoch again)).stage ≡ End }
-        ensures ends { result ≡ false → (again : ℕ) → self.new ≡ ended (heard (heard (heard (begun Pin self.old) (Epoch epoch)) Stored) (Epoch again)) }
+        ensures stops { result ≡ false → (again : ℕ)
+            → (heard (heard (heard (begun Pin self.old) (Epoch epoch)) Stored) (Epoch again)).stage ≡ End }
+        ensures ends { result ≡ false → (again : ℕ)
+            → self.new ≡ ended (heard (heard (heard (begun Pin self.old) (Epoch epoch)) Stored) (Epoch again)) }
     {
         let pins = (self.pins + 1) % PINS_BETWEEN_COLLECTIONS;
         self.action = Action::Pin;
@@ -113,7 +117,8 @@ impl<J> Machine<J> {
         requires only { self.old.guards ≡ 1 }
         requires within { epoch < 2 ^ 63 }
         ensures same { self.old.published ≡ epoch → self.new ≡ ended (heard (begun Repin self.old) (Epoch epoch)) }
-        ensures moved { self.old.published ≢ epoch → (again : ℕ) → self.new ≡ ended (heard (heard (heard (begun Repin self.old) (Epoch epoch)) Stored) (Epoch again)) }
+        ensures moved { self.old.published ≢ epoch → (again : ℕ)
+            → self.new ≡ ended (heard (heard (heard (begun Repin self.old) (Epoch epoch)) Stored) (Epoch again)) }
     {
         self.action = Action::Repin;
         self.full = false;
@@ -169,7 +174,8 @@ impl<J: Drop> Machine<J> {
     pub fn release_pinned(&mut self, epoch: u64) -> bool
         requires idle { self.old.stage ≡ Idle }
         requires within { epoch < 2 ^ 63 }
-        ensures after { (again : ℕ) → self.new ≡ heard (heard (heard (begun Release self.old) (Epoch epoch)) Stored) (Epoch again) }
+        ensures after { (again : ℕ)
+            → self.new ≡ heard (heard (heard (begun Release self.old) (Epoch epoch)) Stored) (Epoch again) }
         ensures scans { result ≡ true → self.new.stage ≡ LoadScan }
         ensures leaves { result ≡ false → self.new.stage ≡ after_collect Release self.old.held }
     {

@@ -43,8 +43,10 @@ impl<J: Default + Drop> SharedPlaces<J> {
         ensures kept { IsSamePlaceSeat seat.old seat.new }
         ensures at { result ≡ PutStep.Again → PutsAt self.now.capacity cursor.new seat.new.me }
         ensures rests { result ≢ PutStep.Again → RestsAt seat.new.me }
-        ensures moves { PutMoves self.now.capacity cursor.old seat.old.me (record { seal = seal.number; jobs = held.old.jobs }) result cursor.new seat.new.me }
-        ensures fewer { result ≡ PutStep.Again → put_left self.now.capacity cursor.new < put_left self.now.capacity cursor.old }
+        ensures moves { PutMoves self.now.capacity cursor.old seat.old.me
+            (record { seal = seal.number; jobs = held.old.jobs }) result cursor.new seat.new.me }
+        ensures fewer { result ≡ PutStep.Again
+            → put_left self.now.capacity cursor.new < put_left self.now.capacity cursor.old }
         ensures done { result ≡ PutStep.Done → held.new.jobs ≡ [] }
         ensures not { result ≢ PutStep.Done → held.new ≡ held.old }
         ensures limit { held.new.limit ≡ held.old.limit }
@@ -80,7 +82,8 @@ impl<J: Default + Drop> SharedPlaces<J> {
         requires within { place < self.now.capacity }
         requires holds { HoldsAt place None seat.old.me }
         ensures kept { IsSamePlaceSeat seat.old seat.new }
-        ensures view { seat.new.me ≡ (after_store seat.old.me.0 (Some (record { seal = seal.number; jobs = held.old.jobs })), []) }
+        ensures view { seat.new.me
+            ≡ (after_store seat.old.me.0 (Some (record { seal = seal.number; jobs = held.old.jobs })), []) }
         ensures empty { held.new.jobs ≡ [] }
         ensures limit { held.new.limit ≡ held.old.limit }
     {
@@ -118,8 +121,10 @@ impl<J: Default + Drop> SharedPlaces<J> {
         ensures kept { IsSamePlaceSeat seat.old seat.new }
         ensures at { TakesAt self.now.capacity expiry.number cursor.new seat.new.me }
         ensures rests { result ≢ TakeStep.Again → RestsAt seat.new.me }
-        ensures moves { TakeMoves self.now.capacity expiry.number cursor.old seat.old.me result cursor.new seat.new.me hand.new }
-        ensures fewer { result ≢ TakeStep.Empty → take_left self.now.capacity cursor.new < take_left self.now.capacity cursor.old }
+        ensures moves { TakeMoves self.now.capacity expiry.number cursor.old seat.old.me result
+            cursor.new seat.new.me hand.new }
+        ensures fewer { result ≢ TakeStep.Empty
+            → take_left self.now.capacity cursor.new < take_left self.now.capacity cursor.old }
         ensures not { result ≢ TakeStep.Got → hand.new ≡ hand.old }
     {
         let places = self.capacity();

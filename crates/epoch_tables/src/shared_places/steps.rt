@@ -1,7 +1,8 @@
 //! The steps on the shared places, each one atomic instruction.
 ghost use Rattle.std.specs.Prelude.{◌≡◌, ◌≢◌, ℕ, ◌*◌, ◌<◌, ◌∷◌, [], Option, Some, None};
 ghost use Rattle.epoch_bags.specs.Bags.{Sealed};
-ghost use Rattle.epoch_tables.specs.SharedPlaces.{IsPlaceWord, IsAtHome, IsPlaceSeatOf, IsSamePlaceSeat, after_look, after_place_claim, after_store};
+ghost use Rattle.epoch_tables.specs.SharedPlaces.{IsPlaceWord, IsAtHome, IsPlaceSeatOf, IsSamePlaceSeat, after_look};
+ghost use Rattle.epoch_tables.specs.SharedPlaces.{after_place_claim, after_store};
 
 use crate::shared_places::places::{PlaceSeat, SharedPlaces};
 use crate::shared_places::plays::{Claim, Look, Store};

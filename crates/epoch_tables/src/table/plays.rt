@@ -1,5 +1,6 @@
 //! What each kind of step on the participants' table tells.
-ghost use Rattle.epoch_tables.specs.TableSteps.{Sits, LoadsEpoch, Publishes, Unpins, Frees, LoadsWord, StoresEpoch, ClaimsPosition};
+ghost use Rattle.epoch_tables.specs.TableSteps.{Sits, LoadsEpoch, Publishes, Unpins, Frees, LoadsWord, StoresEpoch};
+ghost use Rattle.epoch_tables.specs.TableSteps.{ClaimsPosition};
 
 use crate::table::view::ParticipantView;
 use atomic_table::Play;

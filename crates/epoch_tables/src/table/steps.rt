@@ -1,7 +1,8 @@
 //! The steps on the participants' table, each one atomic instruction.
 ghost use Rattle.std.specs.Prelude.{◌≡◌, ◌≢◌, ℕ, ◌+◌, ◌*◌, ◌/◌, ◌<◌, ◌≤◌, Some, None};
 ghost use Rattle.epoch_tables.specs.Table.{IsWord, LetsPass, IsOf, IsSameSeat};
-ghost use Rattle.epoch_tables.specs.TableSteps.{after_epoch, after_own, after_free, after_word, after_pass, after_advance, after_claim};
+ghost use Rattle.epoch_tables.specs.TableSteps.{after_epoch, after_own, after_free, after_word, after_pass};
+ghost use Rattle.epoch_tables.specs.TableSteps.{after_advance, after_claim};
 
 use crate::table::participants::{ParticipantSeat, Participants};
 use crate::table::plays::{Claim, Free, LoadEpoch, LoadWord, Publish, StoreEpoch, Unpin};

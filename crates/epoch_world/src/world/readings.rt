@@ -55,7 +55,8 @@ fn end_reading(readings: &mut Vec<Name>, name: Name)
 
 /// The place of the first reading of this name.
 fn reading_at(readings: &[Name], name: Name) -> Option<usize>
-    ensures { MatchOption result (without_reading (Some name) readings.now ≡ readings.now) (λ index. (index < length readings.now) × (without_reading (Some name) readings.now ≡ remove readings.now index)) }
+    ensures { MatchOption result (without_reading (Some name) readings.now ≡ readings.now) (λ index.
+        (index < length readings.now) × (without_reading (Some name) readings.now ≡ remove readings.now index)) }
 {
     for (index, other) in readings.iter().enumerate() {
         if is_name(*other, name) {

@@ -1,7 +1,9 @@
 //! One participant of the world: its word, its machine, and the guards and calls that the world keeps of it.
-ghost use Rattle.std.specs.Prelude.{◌≡◌, ◌≢◌, true, ℕ, ◌+◌, ◌*◌, ◌^◌, ◌<◌, ◌≤◌, Option, Some, None, IfSome, MatchOption, IsTrue, false, ◌↔◌, length, ◌⊎◌, IfOk, IfErr, vec_capacity};
+ghost use Rattle.std.specs.Prelude.{◌≡◌, ◌≢◌, true, ℕ, ◌+◌, ◌*◌, ◌^◌, ◌<◌, ◌≤◌, Option, Some, None, IfSome};
+ghost use Rattle.std.specs.Prelude.{MatchOption, IsTrue, false, ◌↔◌, length, ◌⊎◌, IfOk, IfErr, vec_capacity};
 ghost use Rattle.epoch_machine.specs.Machine.{asks, AskFits, heard, guards_after, IsSized};
-ghost use Rattle.epoch_laws.specs.Run.{free_seat, with_machine, with_word, begun_seat, drives, ended_seat, end_reply, removed_by, accessed_seat, access_reply};
+ghost use Rattle.epoch_laws.specs.Run.{free_seat, with_machine, with_word, begun_seat, drives, ended_seat, end_reply};
+ghost use Rattle.epoch_laws.specs.Run.{removed_by, accessed_seat, access_reply};
 ghost use Rattle.epoch_machine.specs.declared.machine.Stage.TheVariants.{Idle, End};
 ghost use Rattle.epoch_world.specs.Seats.{shared, SeatPerforms, WordFits, adds_guard, CanRead};
 ghost use Rattle.epoch_cells.specs.declared.fault.Fault.TheVariants.{NoMemory};
@@ -60,7 +62,8 @@ impl Model for Seat {
       readings = a.readings.items;
     } };
 
-    ghost invariant = { λ a. record { word : WordFits a.word; progress : ProgressFits a.progress; room : 4096 ≤ vec_capacity a.readings } };
+    ghost invariant = { λ a.
+        record { word : WordFits a.word; progress : ProgressFits a.progress; room : 4096 ≤ vec_capacity a.readings } };
 }
 
 impl Seat {
@@ -102,8 +105,10 @@ impl Seat {
 
     /// Whether its held bag takes a further job without a put, or `None` at a free position.
     pub fn has_room(&self) -> Option<bool>
-        ensures value { MatchOption result (self.now.word ≡ Word.Free) (λ room. (self.now.word ≢ Word.Free) × (IsTrue room ↔ (length self.now.machine.held < self.now.machine.sizes.bag_jobs))) }
-        ensures full { IfSome result (λ room. room ≡ false → length self.now.machine.held ≡ self.now.machine.sizes.bag_jobs) }
+        ensures value { MatchOption result (self.now.word ≡ Word.Free) (λ room. (self.now.word ≢ Word.Free)
+            × (IsTrue room ↔ (length self.now.machine.held < self.now.machine.sizes.bag_jobs))) }
+        ensures full { IfSome result
+            (λ room. room ≡ false → length self.now.machine.held ≡ self.now.machine.sizes.bag_jobs) }
     {
         match self.word {
             Word::Free => None,
@@ -138,15 +143,26 @@ impl Seat {
         requires epoch { epoch.old < 2 ^ 63 }
         requires tickets { ask ≡ Ask.KeepJob → tickets.old + 1 < 2 ^ 64 }
         ensures within { epoch.new < 2 ^ 63 }
-        ensures step { SeatPerforms self.old.machine.sizes position word (shared epoch.old (S.queued store.old) tickets.old heap.old) self.old self.old.machine.stage ask result self.new (shared epoch.new (S.queued store.new) tickets.new heap.new) }
-        ensures looks { SeesOccupied (Some ask) self.old.machine self.new.machine (occupancy (S.occupied store.old) (S.passed putting.old)) (occupancy (S.occupied store.new) (S.passed putting.new)) }
-        ensures finds { FindsAhead ((place : ℕ) → ¬ (S.Claimed store.old place)) (Some ask) self.new.machine (outlook (S.queued store.old) (S.ahead (expiry_of self.old.machine.stage) store.old taking.old)) (outlook (S.queued store.new) (S.ahead (expiry_of self.new.machine.stage) store.new taking.new)) }
-        ensures room { TellsRoom (((place : ℕ) → ¬ (S.Reserved store.old place)) × (length (S.queued store.old) < length (S.occupied store.old))) (Some ask) self.new.machine (S.has_room store.old putting.old) (S.has_room store.new putting.new) }
-        ensures claims { MayClaim ask self.new.machine.stage (S.Claimed store.old) (S.Claims taking.old) (S.Claimed store.new) (S.Claims taking.new) }
-        ensures reserves { MayReserve ask self.new.machine.stage (S.Reserved store.old) (S.Reserves putting.old) (S.Claims taking.old) (S.Reserved store.new) (S.Reserves putting.new) (S.Claims taking.new) }
+        ensures step { SeatPerforms self.old.machine.sizes position word
+            (shared epoch.old (S.queued store.old) tickets.old heap.old) self.old self.old.machine.stage ask result
+            self.new (shared epoch.new (S.queued store.new) tickets.new heap.new) }
+        ensures looks { SeesOccupied (Some ask) self.old.machine self.new.machine (occupancy (S.occupied store.old)
+            (S.passed putting.old)) (occupancy (S.occupied store.new) (S.passed putting.new)) }
+        ensures finds { FindsAhead ((place : ℕ) → ¬ (S.Claimed store.old place)) (Some ask) self.new.machine
+            (outlook (S.queued store.old) (S.ahead (expiry_of self.old.machine.stage) store.old taking.old))
+            (outlook (S.queued store.new) (S.ahead (expiry_of self.new.machine.stage) store.new taking.new)) }
+        ensures room { TellsRoom (((place : ℕ) → ¬ (S.Reserved store.old place))
+            × (length (S.queued store.old) < length (S.occupied store.old))) (Some ask) self.new.machine
+            (S.has_room store.old putting.old) (S.has_room store.new putting.new) }
+        ensures claims { MayClaim ask self.new.machine.stage (S.Claimed store.old) (S.Claims taking.old)
+            (S.Claimed store.new) (S.Claims taking.new) }
+        ensures reserves { MayReserve ask self.new.machine.stage (S.Reserved store.old) (S.Reserves putting.old)
+            (S.Claims taking.old) (S.Reserved store.new) (S.Reserves putting.new) (S.Claims taking.new) }
 
         // The call has fewer steps left.
-        ensures fewer { machine_steps self.new.machine (steps_in_store S.puts_left S.takes_left (S.capacity store.old) putting.new taking.new) < machine_steps self.old.machine (steps_in_store S.puts_left S.takes_left (S.capacity store.old) putting.old taking.old) }
+        ensures fewer { machine_steps self.new.machine (steps_in_store S.puts_left S.takes_left
+            (S.capacity store.old) putting.new taking.new) < machine_steps self.old.machine
+            (steps_in_store S.puts_left S.takes_left (S.capacity store.old) putting.old taking.old) }
         ensures capacity { S.capacity store.new ≡ S.capacity store.old }
     {
         match ask {
@@ -198,7 +214,8 @@ impl Seat {
     }
 
     fn publish(&mut self, number: u64)
-        requires asked { (asks self.old.machine ≡ Some (Ask.StorePinned number)) ⊎ (asks self.old.machine ≡ Some (Ask.StoreRepinned number)) }
+        requires asked { (asks self.old.machine ≡ Some (Ask.StorePinned number))
+            ⊎ (asks self.old.machine ≡ Some (Ask.StoreRepinned number)) }
         requires within { number < 2 ^ 63 }
         ensures { self.new ≡ with_word self.old (Word.Pinned number) (heard self.old.machine Found.Stored) }
     {
@@ -230,7 +247,8 @@ impl Seat {
         requires tickets { tickets.old + 1 < 2 ^ 64 }
         ensures ticket { result ≡ tickets.old }
         ensures tickets { tickets.new ≡ tickets.old + 1 }
-        ensures seat { self.new ≡ with_machine self.old (heard self.old.machine (Found.Job (record { ticket = tickets.old; removes = removed_by self.old.progress }))) }
+        ensures seat { self.new ≡ with_machine self.old (heard self.old.machine
+            (Found.Job (record { ticket = tickets.old; removes = removed_by self.old.progress }))) }
     {
         let removes = self.removed();
         let ticket = *tickets;
@@ -322,7 +340,8 @@ impl Seat {
     pub fn access(&mut self, access: Access, made: u64, found: Ptr, heap: &mut Heap) -> Reply
         requires under_way { self.old.progress ≡ Progress.Accesses access made found }
         requires room { CanRead access self.old.readings heap.old }
-        ensures { (did : Touched) × Touches access made found heap.old did × (result ≡ access_reply did.told) × (self.new ≡ accessed_seat access made did.told self.old) × (heap.new ≡ did.heap) }
+        ensures { (did : Touched) × Touches access made found heap.old did × (result ≡ access_reply did.told)
+            × (self.new ≡ accessed_seat access made did.told self.old) × (heap.new ≡ did.heap) }
     {
         let _ = &self.readings;
         let told = heap.touch(access, made, found);
@@ -403,7 +422,8 @@ impl Seat {
 fn begin_put<S: BagStore<Job = Deferral>>(store: &S) -> S::Putting
     ensures passed { S.passed result ≡ 0 }
     ensures few { S.puts_left (S.capacity store.now) result ≤ 3 * S.capacity store.now + 65 }
-    ensures room { ((place : ℕ) → ¬ (S.Reserved store.now place)) × (length (S.queued store.now) < length (S.occupied store.now)) → S.has_room store.now result ≡ true }
+    ensures room { ((place : ℕ) → ¬ (S.Reserved store.now place))
+        × (length (S.queued store.now) < length (S.occupied store.now)) → S.has_room store.now result ≡ true }
 {
     let _places = store.capacity();
     store.start_put()

@@ -39,8 +39,8 @@ const DEFER: Call = Call::Defer(Some(0));
 
 const FLUSH: Call = Call::Flush(Some(0));
 
-/// Calls, each with its last reply, and how many jobs were called after it. The first pin advances to 1, and is repinned
-/// there: the first bag is sealed with 1 and called in 3, the second one sealed with 3 and called in 5.
+/// Calls, each with its last reply, and how many jobs were called after it. The first pin advances to 1, and is
+/// repinned there: the first bag is sealed with 1 and called in 3, the second one sealed with 3 and called in 5.
 const CALLS: [(Call, Reply, u64); 26] = [
     (Call::Pin, GUARD, 0),
     (Call::Pin, Reply::Done(Answer::Guard(1)), 0),

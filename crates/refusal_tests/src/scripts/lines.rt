@@ -6,8 +6,8 @@ use std::alloc::{AllocError, Global};
 use std::process::Abort;
 use std::test::Fail;
 
-/// The lines of the script, each with what it prints. The first pin publishes epoch 0 and advances to 1; with two places
-/// a flush is eight steps and its end; the bag is sealed with 1 and stays for the end.
+/// The lines of the script, each with what it prints. The first pin publishes epoch 0 and advances to 1; with two
+/// places a flush is eight steps and its end; the bag is sealed with 1 and stays for the end.
 pub const LINES: &[(&str, &str)] = &[
     ("shape 1 0 0 0 2 1 0 0\n", ""),
     ("register\n", "registered 0\n"),

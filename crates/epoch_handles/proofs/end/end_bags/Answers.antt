@@ -10,18 +10,23 @@ use Rattle.epoch_handles.proofs.end.end_bags.Goals as goal
 pub loop-place-preserved : goal.loop-place-preserved
 loop-place-preserved g c =
     let inv = c.loop-place.invariant in let at = c.loop-place.place in let bags = c.loop-place.bags in
-    let within : at < length bags = let same = c.loop-place.auto.bags in let test = c.loop-place-test.true in omega arith in
+    let within : at < length bags =
+    let same = c.loop-place.auto.bags in
+    let test = c.loop-place-test.true in
+    omega arith in
     record {
       count = grind (arith, common_steps);
       few = omega arith;
       called = λ k less. elim (eqb_tells k at) [
         | inl same ↦ subst (λ z. IsBagCalled (IsCalled g.W.Run.done) z)
-            (get_or_default bags at _ None within ∙ inv.left at (omega arith) ∙ ap (λ (z : ℕ). slice_index_or c.args.bags.now z None) (sym same.1)) c.end_bag-count.ensures.called
+            (get_or_default bags at _ None within ∙ inv.left at (omega arith)
+            ∙ ap (λ (z : ℕ). slice_index_or c.args.bags.now z None) (sym same.1)) c.end_bag-count.ensures.called
         | inr other ↦ let differs : k ≢ at = other.1 in inv.called k (omega arith)
       ];
       left = λ k past. get_or-set_other bags at k _ None (λ is. absurd (omega arith)) ∙ inv.left k (omega arith);
       none = λ k less. elim (eqb_tells k at) [
         | inl same ↦ get_or-set_at bags at k _ None same.1 within ∙ c.end_bag-count.ensures.none
-        | inr other ↦ let differs : k ≢ at = other.1 in get_or-set_other bags at k _ None differs ∙ inv.none k (omega arith)
+        | inr other ↦ let differs : k ≢ at = other.1 in
+            get_or-set_other bags at k _ None differs ∙ inv.none k (omega arith)
       ];
     }

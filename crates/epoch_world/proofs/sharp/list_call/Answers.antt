@@ -13,7 +13,8 @@ pub loop-preserved : goal.loop-preserved
 loop-preserved c = record {
   some = omega arith;
   within = omega arith;
-  listed = gos_on c.args.participant c.loop.counter c.add.new.steps.items c.loop.steps.items c.add-in-loop.new.steps.items c.loop.invariant.some c.loop.invariant.listed c.in_ok-add-2.ensures.ok;
+  listed = gos_on c.args.participant c.loop.counter c.add.new.steps.items c.loop.steps.items
+      c.add-in-loop.new.steps.items c.loop.invariant.some c.loop.invariant.listed c.in_ok-add-2.ensures.ok;
 }
 
 pub returns-clause-ok : goal.returns-clause-ok
@@ -22,6 +23,7 @@ returns-clause-ok c =
     record {
       replies = c.in_ok-replies.replies.items;
       ends = record { run = c.in_ok-replies.ensures.runs; ends = c.in_ok-replies.ensures.ends };
-      listed = call_listed c.args.participant c.args.call c.args.steps.now.items c.add.new.steps.items c.loop.steps.items c.in_ok-replies.replies.items c.loop.counter
+      listed = call_listed c.args.participant c.args.call c.args.steps.now.items c.add.new.steps.items
+          c.loop.steps.items c.in_ok-replies.replies.items c.loop.counter
           c.in_ok-replies.ensures.ends last c.in_ok-add.ensures.ok c.loop.invariant.listed;
     }

@@ -1,6 +1,7 @@
 //! Which fault refuses a call of a participant.
 ghost use Rattle.std.specs.Prelude.{◌≡◌, Option, Some, if◌then◌else◌};
-ghost use Rattle.epoch_laws.specs.Run.{refusal, waits, call_refusal, guard_refusal, resume_refusal, under_guard, access_refusal, reading_refusal};
+ghost use Rattle.epoch_laws.specs.Run.{refusal, waits, call_refusal, guard_refusal, resume_refusal, under_guard};
+ghost use Rattle.epoch_laws.specs.Run.{access_refusal, reading_refusal};
 
 use crate::world::guards::is_out;
 use crate::world::readings::reads;
@@ -102,7 +103,8 @@ impl Seat {
 
     /// Whether the guard is out, or an unprotected one.
     fn has_guard(&self, guard: Option<u64>) -> bool
-        ensures { (fault : Option Fault) → under_guard guard self.now.guards fault ≡ (if result then fault else Some Fault.StrangerGuard) }
+        ensures { (fault : Option Fault)
+            → under_guard guard self.now.guards fault ≡ (if result then fault else Some Fault.StrangerGuard) }
     {
         match guard {
             None => true,

@@ -5,5 +5,7 @@ use Rattle.epoch_bags.proofs.queue.places.clear.Goals as goal
 
 pub invariant_of-places : goal.invariant_of-places
 invariant_of-places g c =
-    let within : c.args.place < length c.places.inside.words.items = omega (arith, ap (λ (p : PlaceList g.row.J.Denot). length p.words) c.places.view_is) in
-    sets_place c.places.inside.words.items c.places.inside.bags.items c.args.place 0 c.take.new.self within (empty_matches c.take.new.self c.take.ensures.after) c.places.invariant
+    let within : c.args.place < length c.places.inside.words.items =
+    omega (arith, ap (λ (p : PlaceList g.row.J.Denot). length p.words) c.places.view_is) in
+    sets_place c.places.inside.words.items c.places.inside.bags.items c.args.place 0 c.take.new.self within
+    (empty_matches c.take.new.self c.take.ensures.after) c.places.invariant

@@ -12,20 +12,27 @@ new-requires g c = (omega arith, c.args.self.now.sized)
 -- the claimed position is that of a participant who isn't pinned
 pub invariant_of-result : goal.invariant_of-result
 invariant_of-result g c =
-    let claimed = c.claim.ensures.won c.if-claim-eq0.true in let kept = c.claim.ensures.kept in let seat = c.loop-position.invariant in
+    let claimed = c.claim.ensures.won c.if-claim-eq0.true in
+    let kept = c.claim.ensures.kept in
+    let seat = c.loop-position.invariant in
     let machine = c.new.ensures in
     record {
       seated = record {
         words_of = (kept.0 ∙ seat.0.0, kept.2 ∙ seat.0.1);
         places_of = c.seat.ensures.of;
-        own = (ap (λ (z : ParticipantView). z.position) claimed, let end = c.positions-position-end.ensures in let test = c.loop-position-test.true in omega arith);
+        own = (
+          ap (λ (z : ParticipantView). z.position) claimed,
+          let end = c.positions-position-end.ensures in let test = c.loop-position-test.true in omega arith,
+        );
         sizes = ap (λ (z : Machine (Job g.row.W.Denot)). z.sizes) machine;
         positions = c.args.self.now.positions;
       };
       rests = (ap (λ z. z.0.claimed) c.seat.ensures.view, ap (λ z. z.1) c.seat.ensures.view);
       idle = ap (λ (z : Machine (Job g.row.W.Denot)). z.stage) machine;
       agrees = record {
-        published = λ out. let none = ap (λ (z : Machine (Job g.row.W.Denot)). z.guards) machine in absurd (omega arith);
+        published = λ out.
+            let none = ap (λ (z : Machine (Job g.row.W.Denot)). z.guards) machine in
+            absurd (omega arith);
         read = λ out. let none = ap (λ (z : Machine (Job g.row.W.Denot)). z.guards) machine in absurd (omega arith);
         unpinned = λ _. ap (λ (z : ParticipantView). z.published) claimed;
       };
@@ -48,9 +55,12 @@ returns-then-claim-eq0-clause-fresh g c = record {
 -- this position is lost as those before it were
 pub loop-position-preserved : goal.loop-position-preserved
 loop-position-preserved g c =
-    let lost = c.claim.ensures.lost c.if-claim-eq0.false in let kept = c.claim.ensures.kept in let seat = c.loop-position.invariant in
+    let lost = c.claim.ensures.lost c.if-claim-eq0.false in
+    let kept = c.claim.ensures.kept in
+    let seat = c.loop-position.invariant in
     let before = c.loop-position.seat.me.0 in
-    let more = loses_one_more c.loop-position.position before.looked before.found c.claim.result seat.2 c.if-claim-eq0.false in (
+    let more =
+    loses_one_more c.loop-position.position before.looked before.found c.claim.result seat.2 c.if-claim-eq0.false in (
       (kept.0 ∙ seat.0.0, kept.2 ∙ seat.0.1),
       ap (λ (z : ParticipantView). z.position) lost ∙ seat.1,
       subst (λ (z : ParticipantView). FindsEachTaken (c.loop-position.position + 1) z.looked z.found) (sym lost) more,

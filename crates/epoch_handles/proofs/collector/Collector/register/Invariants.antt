@@ -4,4 +4,5 @@ use Rattle.epoch_handles.specs.Handles.{FindsEachTaken}
 use Rattle.epoch_handles.proofs.collector.Collector.register.Given as goal
 
 abbrev pub invariant-loop-position : goal.invariant-loop-position
-invariant-loop-position g l = IsOf l.fn.self.participants l.seat × (l.seat.me.0.position ≡ None) × FindsEachTaken l.position l.seat.me.0.looked l.seat.me.0.found
+invariant-loop-position g l = IsOf l.fn.self.participants l.seat × (l.seat.me.0.position ≡ None)
+    × FindsEachTaken l.position l.seat.me.0.looked l.seat.me.0.found

@@ -5,4 +5,9 @@ use Rattle.epoch_handles.proofs.end.Collector+T.end.Goals as goal
 
 -- the seat is a new one
 pub returns : goal.returns
-returns g c = record { called = (c.end_places.new.seat.me.0, from_there (ap (λ (z : PlaceMe _). z.0) c.seat-seat.ensures.view) c.end_places.ensures) }
+returns g c = record {
+  called = (
+    c.end_places.new.seat.me.0,
+    from_there (ap (λ (z : PlaceMe _). z.0) c.seat-seat.ensures.view) c.end_places.ensures,
+  );
+}

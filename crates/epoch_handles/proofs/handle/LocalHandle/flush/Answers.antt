@@ -6,7 +6,8 @@ pub returns-then-flush-clause-stranger : goal.returns-then-flush-clause-stranger
 returns-then-flush-clause-stranger g c = λ _ stranger. absurd (stranger (c.owns.ensures.value.0 c.if-not-owns.false))
 
 pub returns-then-flush-clause-full : goal.returns-then-flush-clause-full
-returns-then-flush-clause-full g c = λ _ _. rw (← c.self.view_is) (let told = c.flush.ensures.full c.if-flush.true in (refl, told.0, told.1))
+returns-then-flush-clause-full g c =
+    λ _ _. rw (← c.self.view_is) (let told = c.flush.ensures.full c.if-flush.true in (refl, told.0, told.1))
 
 pub returns-clause-stranger : goal.returns-clause-stranger
 returns-clause-stranger g c = λ _ stranger. absurd (stranger (c.owns.ensures.value.0 c.if-not-owns.false))
@@ -22,7 +23,8 @@ pub returns-then-not-owns-clause-found : goal.returns-then-not-owns-clause-found
 returns-then-not-owns-clause-found g c = λ owns. absurd (not_both c.if-not-owns.true (c.owns.ensures.value.1 owns))
 
 pub flush-requires : goal.flush-requires
-flush-requires g c = (omega arith, (c.self.invariant, rw c.self.view_is (c.owns.ensures.value.0 c.if-not-owns.false).out))
+flush-requires g c =
+    (omega arith, (c.self.invariant, rw c.self.view_is (c.owns.ensures.value.0 c.if-not-owns.false).out))
 
 pub returns-then-flush-clause-called : goal.returns-then-flush-clause-called
 returns-then-flush-clause-called g c = λ _. rw (← c.self.view_is) c.flush.ensures.called

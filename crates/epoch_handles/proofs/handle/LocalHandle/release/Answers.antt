@@ -4,10 +4,13 @@ use Rattle.epoch_handles.proofs.handle.LocalHandle.release.Goals as goal
 
 -- a freed participant has no position, and holds no job
 pub spend-requires : goal.spend-requires
-spend-requires g c = let freed = c.release.ensures.frees c.if-release.true in (omega arith, (freed.position, ap (λ (z : Machine _). z.held) freed.machine))
+spend-requires g c =
+    let freed = c.release.ensures.frees c.if-release.true in
+    (omega arith, (freed.position, ap (λ (z : Machine _). z.held) freed.machine))
 
 pub returns-then-release-clause-frees : goal.returns-then-release-clause-frees
-returns-then-release-clause-frees g c = λ _. (c.release.new.self, rw (← c.self.view_is) (c.release.ensures.frees c.if-release.true))
+returns-then-release-clause-frees g c =
+    λ _. (c.release.new.self, rw (← c.self.view_is) (c.release.ensures.frees c.if-release.true))
 
 -- a refused one is between two calls
 pub invariant_of-result : goal.invariant_of-result

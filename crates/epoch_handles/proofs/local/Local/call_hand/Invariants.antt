@@ -6,7 +6,8 @@ use Rattle.epoch_handles.proofs.local.Local.call_hand.Given as goal
 abbrev pub invariant-loop-job : goal.invariant-loop-job
 invariant-loop-job g l = record {
   only : l.self ≡ record l.fn.self { machine = l.self.machine };
-  called : (x k : ℕ) → l.fn.self.machine.stage ≡ after_job l.fn.self.machine x k l.fn.self.machine.hand → HasCalled g.W.Run.done l.fn.self x k l.self;
+  called : (x k : ℕ) → l.fn.self.machine.stage ≡ after_job l.fn.self.machine x k l.fn.self.machine.hand
+      → HasCalled g.W.Run.done l.fn.self x k l.self;
 }
 
 abbrev pub decreases-loop-job : goal.decreases-loop-job

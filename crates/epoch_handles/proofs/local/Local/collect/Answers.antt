@@ -7,8 +7,17 @@ use Rattle.epoch_handles.proofs.local.Local.collect.Goals as goal
 
 pub take_bags-requires : goal.take_bags-requires
 take_bags-requires g c =
-    let scans = c.scan-expiry.ensures.scans in
-    (omega arith, (scans.seated, (subst (λ z. RestsAt z.me) (sym scans.claimer) c.requires.rests, (ap (λ (z : Machine (Job g.row.W.Denot)). z.stage) scans.machine, c.scan-expiry.ensures.within))))
+    let scans = c.scan-expiry.ensures.scans in (
+      omega arith,
+      (
+        scans.seated,
+        (
+          subst (λ z. RestsAt z.me) (sym scans.claimer) c.requires.rests,
+          (ap (λ (z : Machine (Job g.row.W.Denot)). z.stage) scans.machine, c.scan-expiry.ensures.within),
+        ),
+      ),
+    )
 
 pub returns : goal.returns
-returns g c = collected g.W.Run.done c.args.self.now c.scan-expiry.new.self c.take_bags.new.self c.scan-expiry.result c.scan-expiry.ensures.scans c.take_bags.ensures
+returns g c = collected g.W.Run.done c.args.self.now c.scan-expiry.new.self c.take_bags.new.self c.scan-expiry.result
+    c.scan-expiry.ensures.scans c.take_bags.ensures

@@ -20,13 +20,15 @@ stay-requires g c =
         (
           puts.rests,
           (
-            ap (λ (z : Machine (Job g.row.W.Denot)). z.stage) is ∙ ap (λ (a : Action). after_put a true) c.requires.action,
+            ap (λ (z : Machine (Job g.row.W.Denot)). z.stage) is
+                ∙ ap (λ (a : Action). after_put a true) c.requires.action,
             (
               ap (λ (z : Machine (Job g.row.W.Denot)). z.action) is ∙ c.requires.action,
               (
                 ap (λ (z : Machine (Job g.row.W.Denot)). z.full) is,
                 (
-                  (λ none. absurd (false≢true (sym c.if-holds_none.false ∙ c.holds_none.ensures ∙ ap is_empty (sym (ap (λ (z : Machine (Job g.row.W.Denot)). z.held) is) ∙ none)))),
+                  (λ none. absurd (false≢true (sym c.if-holds_none.false ∙ c.holds_none.ensures
+                      ∙ ap is_empty (sym (ap (λ (z : Machine (Job g.row.W.Denot)). z.held) is) ∙ none)))),
                   ap (λ (z : Machine (Job g.row.W.Denot)). z.guards) is ∙ c.requires.none,
                 ),
               ),
@@ -40,7 +42,9 @@ pub returns-then-found_full-clause-refused : goal.returns-then-found_full-clause
 returns-then-found_full-clause-refused g c = λ _.
     let h = c.args.self.now in let n = c.put.new.self in let puts = c.put.ensures in
     let is = was_full h.machine n.machine puts.machine (sym c.found_full.ensures ∙ c.if-found_full.true) in
-    refused_behind g.W.Run.done h n c.stay.new.self puts.same (ap (λ (z : Machine (Job g.row.W.Denot)). z.held) is) (drives_of (IsCalled g.W.Run.done) h.collector.now.places.capacity h.machine n.machine (sight_of h) (sight_of n) puts.drives) c.stay.ensures
+    refused_behind g.W.Run.done h n c.stay.new.self puts.same (ap (λ (z : Machine (Job g.row.W.Denot)). z.held) is)
+    (drives_of (IsCalled g.W.Run.done) h.collector.now.places.capacity h.machine n.machine (sight_of h)
+    (sight_of n) puts.drives) c.stay.ensures
 
 -- the bag is in a place
 pub leave_for_good-requires-2 : goal.leave_for_good-requires-2
@@ -51,7 +55,8 @@ leave_for_good-requires-2 g c =
       (
         puts.seated,
         (
-          ap (λ (z : Machine (Job g.row.W.Denot)). z.stage) is ∙ ap (λ (a : Action). after_put a false) c.requires.action,
+          ap (λ (z : Machine (Job g.row.W.Denot)). z.stage) is
+              ∙ ap (λ (a : Action). after_put a false) c.requires.action,
           (
             ap (λ (z : Machine (Job g.row.W.Denot)). z.action) is ∙ c.requires.action,
             (ap (λ (z : Machine (Job g.row.W.Denot)). z.full) is, ap (λ (z : Machine (Job g.row.W.Denot)). z.held) is),
@@ -64,6 +69,9 @@ pub returns-clause-freed : goal.returns-clause-freed
 returns-clause-freed g c = λ _.
     let h = c.args.self.now in let n = c.put.new.self in let puts = c.put.ensures in
     let is = was_put h.machine n.machine puts.machine (sym c.found_full.ensures ∙ c.if-found_full.false) in
-    freed_behind g.W.Run.done h n c.leave_for_good-2.new.self puts.same (ap (λ (z : Machine (Job g.row.W.Denot)). z.sizes) is) (drives_of (IsCalled g.W.Run.done) h.collector.now.places.capacity h.machine n.machine (sight_of h) (sight_of n) puts.drives)
-    (λ _. left_still h.machine.held n c.leave_for_good-2.new.self c.leave_for_good-2.ensures.kept (puts.whole (sym c.found_full.ensures ∙ c.if-found_full.false)))
+    freed_behind g.W.Run.done h n c.leave_for_good-2.new.self puts.same
+    (ap (λ (z : Machine (Job g.row.W.Denot)). z.sizes) is) (drives_of (IsCalled g.W.Run.done)
+    h.collector.now.places.capacity h.machine n.machine (sight_of h) (sight_of n) puts.drives)
+    (λ _. left_still h.machine.held n c.leave_for_good-2.new.self c.leave_for_good-2.ensures.kept
+    (puts.whole (sym c.found_full.ensures ∙ c.if-found_full.false)))
     c.leave_for_good-2.ensures.freed

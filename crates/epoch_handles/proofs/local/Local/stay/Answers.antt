@@ -9,8 +9,10 @@ use Rattle.epoch_handles.proofs.local.Local.stay.Goals as goal
 pub end-requires : goal.end-requires
 end-requires g c =
     let h = c.args.self.now in let m = c.take.new.self in
-    let over = told_last h c.store_unpinned.new.self m c.requires.begins c.requires.action c.requires.full c.store_unpinned.ensures.machine c.take.ensures in
-    let counts : guards_after m.action m.guards ≡ 0 = ap (λ (z : Machine (Job g.row.W.Denot)). guards_after z.action z.guards) over
+    let over = told_last h c.store_unpinned.new.self m c.requires.begins c.requires.action c.requires.full
+    c.store_unpinned.ensures.machine c.take.ensures in
+    let counts : guards_after m.action m.guards ≡ 0 =
+    ap (λ (z : Machine (Job g.row.W.Denot)). guards_after z.action z.guards) over
     ∙ ap (λ (a : Action). guards_after a h.machine.guards) c.requires.action ∙ c.requires.none in
     (omega arith, (ap (λ (z : Machine (Job g.row.W.Denot)). z.stage) over, omega arith))
 

@@ -8,11 +8,13 @@ use Rattle.epoch_heap.proofs.HeapCalls.{exchanged}
 use Rattle.epoch_heap.proofs.heap.Heap.point.Goals as goal
 
 pub update-requires : goal.update-requires
-update-requires c = subst (λ (change : Change). AccessFits (Point None c.args.spot change) c.args.made) c.in-FetchUpdate.is (c.requires None)
+update-requires c = subst (λ (change : Change). AccessFits (Point None c.args.spot change) c.args.made)
+    c.in-FetchUpdate.is (c.requires None)
 
 pub returns-else-not-is_same-clause-step : goal.returns-else-not-is_same-clause-step
 returns-else-not-is_same-clause-step c =
-    exchanged c.args.change c.in-CompareExchange.current c.in-CompareExchange.other c.args.made c.args.found c.in-Some.ptr c.args.spot c.args.self.now
+    exchanged c.args.change c.in-CompareExchange.current c.in-CompareExchange.other c.args.made c.args.found
+    c.in-Some.ptr c.args.spot c.args.self.now
     (pointer_at c.args.self.now c.args.spot) _ c.in-CompareExchange.is (sym c.load.ensures ∙ c.in-Some.is)
     (c.is_same.ensures.same c.if-not-is_same.false ∙ c.aligned-in-CompareExchange.ensures)
     (ap (λ (h : Heap). answers (Exchanged c.aligned-written.result) h) c.store-in-CompareExchange.ensures

@@ -2,7 +2,8 @@ use Rattle.std.proofs.Common.{ℕ, ◌<◌, ◌≤◌, inl, inr, subst, below_mo
 use Rattle.epoch_laws.specs.Grace.{WithdrawsAt, StaysPinned}
 use Rattle.epoch_laws.proofs.PlacesRead.{read_publishes, one_publishes}
 use Rattle.epoch_laws.proofs.history.grace.somebody_stays_pinned.Goals as goal
-use Rattle.epoch_laws.proofs.history.grace.somebody_stays_pinned.Goals.{in_default, in-Pinned+else-not-withdraws_between}
+use Rattle.epoch_laws.proofs.history.grace.somebody_stays_pinned.Goals.{in_default}
+use Rattle.epoch_laws.proofs.history.grace.somebody_stays_pinned.Goals.{in-Pinned+else-not-withdraws_between}
 
 pub loop-place-preserved : goal.loop-place-preserved
 loop-place-preserved c =

@@ -8,7 +8,8 @@ use Rattle.epoch_laws.specs.Known.{known_of, changed}
 use Rattle.epoch_laws.proofs.GuardsCounted.{length_without}
 use Rattle.epoch_laws.proofs.ToldGrows.{told_more}
 use Rattle.epoch_laws.proofs.history.guards.guards_out.Goals as goal
-use Rattle.epoch_laws.proofs.history.guards.guards_out.Goals.{in-Adds, in-Takes+then-times_out-gt0, in-Takes+else-times_out-gt0, in-Keeps}
+use Rattle.epoch_laws.proofs.history.guards.guards_out.Goals.{in-Adds, in-Takes+then-times_out-gt0}
+use Rattle.epoch_laws.proofs.history.guards.guards_out.Goals.{in-Takes+else-times_out-gt0, in-Keeps}
 
 pub loop-place-preserved : goal.loop-place-preserved
 loop-place-preserved c =

@@ -6,7 +6,8 @@ use Rattle.epoch_laws.proofs.Log.{stands_within}
 use Rattle.epoch_laws.proofs.PlacesRead.{stands_read}
 use Rattle.epoch_laws.proofs.CallsChecked.{of_each_called, where_none_called}
 use Rattle.epoch_laws.proofs.history.tickets.calls_after_deferrals.Goals as goal
-use Rattle.epoch_laws.proofs.history.tickets.calls_after_deferrals.Goals.{in-Called+else-not-is_deferred_before, in_default}
+use Rattle.epoch_laws.proofs.history.tickets.calls_after_deferrals.Goals.{in-Called+else-not-is_deferred_before}
+use Rattle.epoch_laws.proofs.history.tickets.calls_after_deferrals.Goals.{in_default}
 
 -- the ticket called here was not deferred before
 pub returns-then-not-is_deferred_before : goal.returns-then-not-is_deferred_before

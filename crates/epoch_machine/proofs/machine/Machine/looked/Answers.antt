@@ -11,7 +11,8 @@ invariant_of-self g c = record {
   within = c.self.invariant.within;
   pins = c.self.invariant.pins;
   stage = c.past_word-self-inside.ensures.fits c.self.inside.sizes _ refl c.self.invariant.sized.collect_bags.0;
-  hand = c.self.invariant.hand ∙ ap (λ (s : Stage). not (is_calling s)) c.in-Scan.is ∙ sym (ap not c.past_word-self-inside.ensures.calls_nothing);
+  hand = c.self.invariant.hand ∙ ap (λ (s : Stage). not (is_calling s)) c.in-Scan.is
+      ∙ sym (ap not c.past_word-self-inside.ensures.calls_nothing);
 }
 
 pub returns-in_default : goal.returns-in_default

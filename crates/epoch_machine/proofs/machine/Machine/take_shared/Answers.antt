@@ -12,8 +12,10 @@ take_step-step-requires g c =
       (
         c.requires.of,
         (
-          subst (λ (x : ℕ). TakesAt c.args.places.now.capacity x c.args.cursor.now c.args.seat.now.me) (sym c.new.ensures.number) (c.requires.at c.in-Take.expiry asked),
-          none_in_hand c.self.inside.hand.jobs c.self.inside.stage c.in-Take.expiry c.in-Take.taken c.in-Take.is c.self.invariant.hand,
+          subst (λ (x : ℕ). TakesAt c.args.places.now.capacity x c.args.cursor.now c.args.seat.now.me)
+              (sym c.new.ensures.number) (c.requires.at c.in-Take.expiry asked),
+          none_in_hand c.self.inside.hand.jobs c.self.inside.stage c.in-Take.expiry c.in-Take.taken
+              c.in-Take.is c.self.invariant.hand,
         ),
       ),
     )
@@ -25,13 +27,15 @@ invariant_of-self-in-Empty g c = record {
   within = c.self.invariant.within;
   pins = c.self.invariant.pins;
   stage = fits_within _ _ _ c.self.view_is c.after_collect-after.ensures.fits;
-  hand = ap (λ (bag : Sealed _). is_empty bag.jobs) (c.take_step-step.ensures.not (λ got. absurd (cc (c.in-Empty.is, got))))
+  hand = ap (λ (bag : Sealed _). is_empty bag.jobs)
+      (c.take_step-step.ensures.not (λ got. absurd (cc (c.in-Empty.is, got))))
       ∙ still_none _ _ _ _ _ c.self.invariant.hand c.in-Take.is c.after_collect-after.ensures.calls_nothing;
 }
 
 pub invariant_of-self-in-Got : goal.invariant_of-self-in-Got
 invariant_of-self-in-Got g c =
-    let fits = subst (StageFits c.self.inside.sizes (length c.self.inside.held.jobs)) c.in-Take.is c.self.invariant.stage in
+    let fits =
+    subst (StageFits c.self.inside.sizes (length c.self.inside.held.jobs)) c.in-Take.is c.self.invariant.stage in
     record {
       sized = c.self.invariant.sized;
       limit = c.self.invariant.limit;
@@ -39,5 +43,6 @@ invariant_of-self-in-Got g c =
       pins = c.self.invariant.pins;
       stage = c.after_job-self-inside.ensures.fits c.self.inside.sizes _ refl fits.0
           (fits_within _ _ _ c.self.view_is c.after_collect-after.ensures.fits);
-      hand = hand_after _ _ _ c.is_empty-none_left.ensures.test (c.after_job-self-inside.ensures.calls c.after_collect-after.ensures.calls_nothing);
+      hand = hand_after _ _ _ c.is_empty-none_left.ensures.test
+          (c.after_job-self-inside.ensures.calls c.after_collect-after.ensures.calls_nothing);
     }

@@ -17,7 +17,8 @@ invariant_of-self-in-Empty g c = record {
 
 pub invariant_of-self-in-Got : goal.invariant_of-self-in-Got
 invariant_of-self-in-Got g c =
-    let fits = subst (StageFits c.self.inside.sizes (length c.self.inside.held.jobs)) c.in-Take.is c.self.invariant.stage in
+    let fits =
+    subst (StageFits c.self.inside.sizes (length c.self.inside.held.jobs)) c.in-Take.is c.self.invariant.stage in
     record {
       sized = c.self.invariant.sized;
       limit = c.self.invariant.limit;
@@ -25,5 +26,6 @@ invariant_of-self-in-Got g c =
       pins = c.self.invariant.pins;
       stage = c.after_job-self-inside.ensures.fits c.self.inside.sizes _ refl fits.0
           (fits_within _ _ _ c.self.view_is c.after_collect-after.ensures.fits);
-      hand = hand_after _ _ _ c.is_empty-none_left.ensures.test (c.after_job-self-inside.ensures.calls c.after_collect-after.ensures.calls_nothing);
+      hand = hand_after _ _ _ c.is_empty-none_left.ensures.test
+          (c.after_job-self-inside.ensures.calls c.after_collect-after.ensures.calls_nothing);
     }

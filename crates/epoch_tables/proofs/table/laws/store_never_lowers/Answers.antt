@@ -3,7 +3,8 @@ use mathlib.Core.Logic.{dite}
 use native.Mathlib.Decide.{ℕ_discrete}
 use Rattle.epoch_tables.proofs.table.laws.store_never_lowers.Goals as goal
 
--- the scanner itself is pinned with a reading of at most the scanned epoch, and the present epoch is at most one past it
+-- the scanner itself is pinned with a reading of at most the scanned epoch, and the present epoch is at most one past
+-- it
 pub returns : goal.returns
 returns c = λ positions s r seat view scanned sees is. let begun = r.scans_known seat view scanned positions sees is in
     let low = begun.1 in

@@ -3,4 +3,5 @@ use Rattle.std.specs.Prelude.{Some, None, slice_get}
 use Rattle.epoch_values.proofs.array.Array.new.Given as goal
 
 abbrev pub invariant-loop : goal.invariant-loop
-invariant-loop g l = (vec_len l.elements ≡ l.counter) × ((i : ℕ) → i < l.counter → slice_get l.elements.items i ≡ Some None)
+invariant-loop g l =
+    (vec_len l.elements ≡ l.counter) × ((i : ℕ) → i < l.counter → slice_get l.elements.items i ≡ Some None)

@@ -13,27 +13,36 @@ use Rattle.epoch_world.proofs.world.World.begin_end.Goals as goal
 pub returns-then-not-all_free : goal.returns-then-not-all_free
 returns-then-not-all_free g c =
     let old : State =
-    with_places (state_of c.self.inside.sizes c.self.inside.epoch c.self.inside.seats.items (g.S.BagStore.queued c.self.inside.store) c.self.inside.tickets
-    (ending_of c.self.inside.end c.self.inside.hand.jobs c.self.inside.count) c.self.inside.heap) (g.S.BagStore.occupied c.self.inside.store) (map g.S.BagStore.passed c.self.inside.putting.items)
-    (aheads (λ x cursor. g.S.BagStore.ahead x c.self.inside.store cursor) c.self.inside.seats.items c.self.inside.taking.items)
+    with_places (state_of c.self.inside.sizes c.self.inside.epoch c.self.inside.seats.items
+    (g.S.BagStore.queued c.self.inside.store) c.self.inside.tickets
+    (ending_of c.self.inside.end c.self.inside.hand.jobs c.self.inside.count) c.self.inside.heap)
+    (g.S.BagStore.occupied c.self.inside.store) (map g.S.BagStore.passed c.self.inside.putting.items)
+    (aheads (λ x cursor. g.S.BagStore.ahead x c.self.inside.store cursor) c.self.inside.seats.items
+    c.self.inside.taking.items)
     (map (λ cursor. g.S.BagStore.has_room c.self.inside.store cursor) c.self.inside.putting.items) in
-    let opened : old.ending ≡ Open = ap (λ (e : EndStage). ending_of e c.self.inside.hand.jobs c.self.inside.count) c.in-Open.is in
-    subst (λ (s : State). TakesStep s EndStep (Refused ParticipantsLeft) s) c.self.view_is (end_refused old opened (c.all_free.ensures.no c.if-not-all_free.true))
+    let opened : old.ending ≡ Open =
+    ap (λ (e : EndStage). ending_of e c.self.inside.hand.jobs c.self.inside.count) c.in-Open.is in
+    subst (λ (s : State). TakesStep s EndStep (Refused ParticipantsLeft) s) c.self.view_is
+    (end_refused old opened (c.all_free.ensures.no c.if-not-all_free.true))
 
 pub invariant_of-self : goal.invariant_of-self
 invariant_of-self g c =
     let old : State =
-    state_of c.self.inside.sizes c.self.inside.epoch c.self.inside.seats.items (g.S.BagStore.queued c.self.inside.store) c.self.inside.tickets
+    state_of c.self.inside.sizes c.self.inside.epoch c.self.inside.seats.items
+    (g.S.BagStore.queued c.self.inside.store) c.self.inside.tickets
     (ending_of c.self.inside.end c.self.inside.hand.jobs c.self.inside.count) c.self.inside.heap in
-    let opened : old.ending ≡ Open = ap (λ (e : EndStage). ending_of e c.self.inside.hand.jobs c.self.inside.count) c.in-Open.is in
+    let opened : old.ending ≡ Open =
+    ap (λ (e : EndStage). ending_of e c.self.inside.hand.jobs c.self.inside.count) c.in-Open.is in
     let new : State = record old { ending = Emptying c.seal-self-inside.result.jobs 0 } in
-    let emptying : new ≡ record old { ending = Emptying [] 0 } = ap (λ (hand : List Deferral). record old { ending = Emptying hand 0 }) (c.seal-self-inside.ensures.jobs ∙ c.new.ensures.empty) in
+    let emptying : new ≡ record old { ending = Emptying [] 0 } = ap (λ (hand : List Deferral).
+    record old { ending = Emptying hand 0 }) (c.seal-self-inside.ensures.jobs ∙ c.new.ensures.empty) in
     record {
       sized = c.self.invariant.sized;
       epoch = c.self.invariant.epoch;
       putting = c.self.invariant.putting;
       taking = c.self.invariant.taking;
-      kept = kept_moves old new EndStep Began c.self.invariant.kept refl (end_moves old new opened (c.all_free.ensures.yes c.if-not-all_free.false) emptying);
+      kept = kept_moves old new EndStep Began c.self.invariant.kept refl
+          (end_moves old new opened (c.all_free.ensures.yes c.if-not-all_free.false) emptying);
       claimed = c.self.invariant.claimed;
       reserved = c.self.invariant.reserved;
     }
@@ -41,11 +50,17 @@ invariant_of-self g c =
 pub returns : goal.returns
 returns g c =
     let old : State =
-    with_places (state_of c.self.inside.sizes c.self.inside.epoch c.self.inside.seats.items (g.S.BagStore.queued c.self.inside.store) c.self.inside.tickets
-    (ending_of c.self.inside.end c.self.inside.hand.jobs c.self.inside.count) c.self.inside.heap) (g.S.BagStore.occupied c.self.inside.store) (map g.S.BagStore.passed c.self.inside.putting.items)
-    (aheads (λ x cursor. g.S.BagStore.ahead x c.self.inside.store cursor) c.self.inside.seats.items c.self.inside.taking.items)
+    with_places (state_of c.self.inside.sizes c.self.inside.epoch c.self.inside.seats.items
+    (g.S.BagStore.queued c.self.inside.store) c.self.inside.tickets
+    (ending_of c.self.inside.end c.self.inside.hand.jobs c.self.inside.count) c.self.inside.heap)
+    (g.S.BagStore.occupied c.self.inside.store) (map g.S.BagStore.passed c.self.inside.putting.items)
+    (aheads (λ x cursor. g.S.BagStore.ahead x c.self.inside.store cursor) c.self.inside.seats.items
+    c.self.inside.taking.items)
     (map (λ cursor. g.S.BagStore.has_room c.self.inside.store cursor) c.self.inside.putting.items) in
-    let opened : old.ending ≡ Open = ap (λ (e : EndStage). ending_of e c.self.inside.hand.jobs c.self.inside.count) c.in-Open.is in
+    let opened : old.ending ≡ Open =
+    ap (λ (e : EndStage). ending_of e c.self.inside.hand.jobs c.self.inside.count) c.in-Open.is in
     let new : State = record old { ending = Emptying c.seal-self-inside.result.jobs 0 } in
-    let emptying : new ≡ record old { ending = Emptying [] 0 } = ap (λ (hand : List Deferral). record old { ending = Emptying hand 0 }) (c.seal-self-inside.ensures.jobs ∙ c.new.ensures.empty) in
-    subst (λ (s : State). TakesStep s EndStep Began new) c.self.view_is (end_moves old new opened (c.all_free.ensures.yes c.if-not-all_free.false) emptying, (refl, refl, refl, refl))
+    let emptying : new ≡ record old { ending = Emptying [] 0 } = ap (λ (hand : List Deferral).
+    record old { ending = Emptying hand 0 }) (c.seal-self-inside.ensures.jobs ∙ c.new.ensures.empty) in
+    subst (λ (s : State). TakesStep s EndStep Began new) c.self.view_is
+    (end_moves old new opened (c.all_free.ensures.yes c.if-not-all_free.false) emptying, (refl, refl, refl, refl))

@@ -7,15 +7,21 @@ use Rattle.epoch_world.proofs.world.World.empty.Goals as goal
 pub overflow_add-self : goal.overflow_add-self
 overflow_add-self g c =
     let old : State =
-    state_of c.self.inside.sizes c.self.inside.epoch c.self.inside.seats.items (g.S.BagStore.queued c.self.inside.store) c.self.inside.tickets
+    state_of c.self.inside.sizes c.self.inside.epoch c.self.inside.seats.items
+    (g.S.BagStore.queued c.self.inside.store) c.self.inside.tickets
     (ending_of c.self.inside.end c.self.inside.hand.jobs c.self.inside.count) c.self.inside.heap in
     let emptying : IsEmptying old.ending = subst (λ (s : State). IsEmptying s.ending) (sym c.self.view_is) c.requires in
-    omega (arith, one_more_counts old c.self.inside.end c.in-Some.job c.self.inside.hand.jobs c.take_next.new.self.jobs c.self.inside.count c.self.invariant.kept refl emptying c.in-Some.ensures.job)
+    omega (
+      arith,
+      one_more_counts old c.self.inside.end c.in-Some.job c.self.inside.hand.jobs c.take_next.new.self.jobs
+          c.self.inside.count c.self.invariant.kept refl emptying c.in-Some.ensures.job,
+    )
 
 pub invariant_of-self : goal.invariant_of-self
 invariant_of-self g c =
     let old : State =
-    state_of c.self.inside.sizes c.self.inside.epoch c.self.inside.seats.items (g.S.BagStore.queued c.self.inside.store) c.self.inside.tickets
+    state_of c.self.inside.sizes c.self.inside.epoch c.self.inside.seats.items
+    (g.S.BagStore.queued c.self.inside.store) c.self.inside.tickets
     (ending_of c.self.inside.end c.self.inside.hand.jobs c.self.inside.count) c.self.inside.heap in
     let emptying : IsEmptying old.ending = subst (λ (s : State). IsEmptying s.ending) (sym c.self.view_is) c.requires in
     record {
@@ -23,8 +29,10 @@ invariant_of-self g c =
       epoch = c.self.invariant.epoch;
       putting = c.self.invariant.putting;
       taking = c.self.invariant.taking;
-      kept = called_kept c.self.inside.sizes c.self.inside.epoch c.self.inside.seats.items (g.S.BagStore.queued c.self.inside.store) c.self.inside.tickets
-          c.self.inside.end c.self.inside.hand.jobs c.take_next.new.self.jobs c.self.inside.count c.self.inside.heap c.call_job.new.self c.in-Some.job
+      kept = called_kept c.self.inside.sizes c.self.inside.epoch c.self.inside.seats.items
+          (g.S.BagStore.queued c.self.inside.store) c.self.inside.tickets
+          c.self.inside.end c.self.inside.hand.jobs c.take_next.new.self.jobs c.self.inside.count c.self.inside.heap
+          c.call_job.new.self c.in-Some.job
           c.self.invariant.kept emptying c.in-Some.ensures.job c.call_job.ensures.after;
       claimed = c.self.invariant.claimed;
       reserved = c.self.invariant.reserved;

@@ -12,48 +12,71 @@ use Rattle.epoch_world.proofs.world.World.go.Goals as goal
 
 pub go_on-requires-clause-kept : goal.go_on-requires-clause-kept
 go_on-requires-clause-kept g c =
-    kept_open c.self.inside.sizes c.self.inside.epoch c.self.inside.tickets c.self.inside.seats.items (g.S.BagStore.queued c.self.inside.store)
+    kept_open c.self.inside.sizes c.self.inside.epoch c.self.inside.tickets c.self.inside.seats.items
+    (g.S.BagStore.queued c.self.inside.store)
     (ending_of c.self.inside.end c.self.inside.hand.jobs c.self.inside.count) c.self.inside.heap c.self.invariant.kept
 
 pub invariant_of-self : goal.invariant_of-self
 invariant_of-self g c =
     let old : State =
-    state_of c.self.inside.sizes c.self.inside.epoch c.self.inside.seats.items (g.S.BagStore.queued c.self.inside.store) c.self.inside.tickets
+    state_of c.self.inside.sizes c.self.inside.epoch c.self.inside.seats.items
+    (g.S.BagStore.queued c.self.inside.store) c.self.inside.tickets
     (ending_of c.self.inside.end c.self.inside.hand.jobs c.self.inside.count) c.self.inside.heap in
     record {
       sized = c.self.invariant.sized;
       epoch = c.go_on.ensures.epoch;
-      putting = length-set c.self.inside.putting.items c.args.position _ ∙ c.self.invariant.putting ∙ sym c.go_on.ensures.positions;
-      taking = length-set c.self.inside.taking.items c.args.position _ ∙ c.self.invariant.taking ∙ sym c.go_on.ensures.positions;
-      kept = kept_moves old _ (Go c.args.position) c.go_on.result c.self.invariant.kept c.go_on.ensures.positions (c.go_on.ensures.step old.ending [] [] [] []);
-      claimed = claims_known g.S.BagStore.Claims c.self.inside.sizes _ _ c.self.inside.seats.items c.go_on.new.seats.items c.self.inside.taking.items c.args.position c.index_mut-2.result.now c.go_on.new.taking
+      putting = length-set c.self.inside.putting.items c.args.position _ ∙ c.self.invariant.putting
+          ∙ sym c.go_on.ensures.positions;
+      taking = length-set c.self.inside.taking.items c.args.position _ ∙ c.self.invariant.taking
+          ∙ sym c.go_on.ensures.positions;
+      kept = kept_moves old _ (Go c.args.position) c.go_on.result c.self.invariant.kept c.go_on.ensures.positions
+          (c.go_on.ensures.step old.ending [] [] [] []);
+      claimed = claims_known g.S.BagStore.Claims c.self.inside.sizes _ _ c.self.inside.seats.items
+          c.go_on.new.seats.items c.self.inside.taking.items c.args.position c.index_mut-2.result.now c.go_on.new.taking
           (omega (arith, c.self.invariant.taking)) c.go_on.ensures.others c.go_on.ensures.claims
-          (subst (λ (all : List _). ClaimsKnown (g.S.BagStore.Claimed c.self.inside.store) g.S.BagStore.Claims c.self.inside.sizes c.self.inside.seats.items all)
-          (sym (set_back c.self.inside.taking.items c.args.position c.index_mut-2.result.now c.index_mut-2.ensures.value)) c.self.invariant.claimed);
-      reserved = reserves_known g.S.BagStore.Reserves g.S.BagStore.Claims c.self.inside.sizes _ _ c.self.inside.seats.items c.go_on.new.seats.items c.self.inside.putting.items c.self.inside.taking.items c.args.position
-          c.index_mut.result.now c.go_on.new.putting c.index_mut-2.result.now c.go_on.new.taking (omega (arith, c.self.invariant.putting)) (omega (arith, c.self.invariant.taking))
+          (subst (λ (all : List _). ClaimsKnown (g.S.BagStore.Claimed c.self.inside.store) g.S.BagStore.Claims
+          c.self.inside.sizes c.self.inside.seats.items all)
+          (sym (set_back c.self.inside.taking.items c.args.position c.index_mut-2.result.now
+          c.index_mut-2.ensures.value)) c.self.invariant.claimed);
+      reserved =
+          reserves_known g.S.BagStore.Reserves g.S.BagStore.Claims c.self.inside.sizes _ _ c.self.inside.seats.items
+          c.go_on.new.seats.items c.self.inside.putting.items c.self.inside.taking.items c.args.position
+          c.index_mut.result.now c.go_on.new.putting c.index_mut-2.result.now c.go_on.new.taking
+          (omega (arith, c.self.invariant.putting)) (omega (arith, c.self.invariant.taking))
           c.go_on.ensures.others c.go_on.ensures.reserves
-          (subst₂ (λ (puts : List _) (takes : List _). ReservesKnown (g.S.BagStore.Reserved c.self.inside.store) g.S.BagStore.Reserves g.S.BagStore.Claims c.self.inside.sizes c.self.inside.seats.items puts takes)
+          (subst₂ (λ (puts : List _) (takes : List _). ReservesKnown (g.S.BagStore.Reserved c.self.inside.store)
+          g.S.BagStore.Reserves g.S.BagStore.Claims c.self.inside.sizes c.self.inside.seats.items puts takes)
           (sym (set_back c.self.inside.putting.items c.args.position c.index_mut.result.now c.index_mut.ensures.value))
-          (sym (set_back c.self.inside.taking.items c.args.position c.index_mut-2.result.now c.index_mut-2.ensures.value)) c.self.invariant.reserved);
+          (sym (set_back c.self.inside.taking.items c.args.position c.index_mut-2.result.now
+          c.index_mut-2.ensures.value)) c.self.invariant.reserved);
     }
 
 pub returns : goal.returns
 returns g c =
     let ending : Ending = ending_of c.self.inside.end c.self.inside.hand.jobs c.self.inside.count in
     let old : State =
-    state_of c.self.inside.sizes c.self.inside.epoch c.self.inside.seats.items (g.S.BagStore.queued c.self.inside.store) c.self.inside.tickets ending c.self.inside.heap in
+    state_of c.self.inside.sizes c.self.inside.epoch c.self.inside.seats.items
+    (g.S.BagStore.queued c.self.inside.store) c.self.inside.tickets ending c.self.inside.heap in
     let new : State =
-    state_of c.self.inside.sizes c.go_on.new.epoch c.go_on.new.seats.items (g.S.BagStore.queued c.go_on.new.store) c.go_on.new.tickets ending c.go_on.new.heap in
+    state_of c.self.inside.sizes c.go_on.new.epoch c.go_on.new.seats.items
+    (g.S.BagStore.queued c.go_on.new.store) c.go_on.new.tickets ending c.go_on.new.heap in
     let puts = slice_set c.self.inside.putting.items c.args.position c.go_on.new.putting in
-    let ahead : List ℕ = aheads (λ x cursor. g.S.BagStore.ahead x c.go_on.new.store cursor) c.go_on.new.seats.items (slice_set c.self.inside.taking.items c.args.position c.go_on.new.taking) in
+    let ahead : List ℕ = aheads (λ x cursor. g.S.BagStore.ahead x c.go_on.new.store cursor) c.go_on.new.seats.items
+    (slice_set c.self.inside.taking.items c.args.position c.go_on.new.taking) in
     subst (λ (s : State). TakesStep s (Go c.args.position) c.go_on.result
-    (with_places new (g.S.BagStore.occupied c.go_on.new.store) (map g.S.BagStore.passed puts) ahead (map (λ cursor. g.S.BagStore.has_room c.go_on.new.store cursor) puts))) c.self.view_is
-    (go_takes_all g.S.BagStore.passed (λ cursor. g.S.BagStore.has_room c.self.inside.store cursor) (λ cursor. g.S.BagStore.has_room c.go_on.new.store cursor)
+    (with_places new (g.S.BagStore.occupied c.go_on.new.store) (map g.S.BagStore.passed puts) ahead
+    (map (λ cursor. g.S.BagStore.has_room c.go_on.new.store cursor) puts))) c.self.view_is
+    (go_takes_all g.S.BagStore.passed (λ cursor. g.S.BagStore.has_room c.self.inside.store cursor)
+    (λ cursor. g.S.BagStore.has_room c.go_on.new.store cursor)
     c.self.inside.putting.items c.index_mut.result.now c.go_on.new.putting
-    (λ x cursor. g.S.BagStore.ahead x c.self.inside.store cursor) (λ x cursor. g.S.BagStore.ahead x c.go_on.new.store cursor) c.self.inside.taking.items c.index_mut-2.result.now c.go_on.new.taking
+    (λ x cursor. g.S.BagStore.ahead x c.self.inside.store cursor) (λ x cursor. g.S.BagStore.ahead x c.go_on.new.store
+    cursor) c.self.inside.taking.items c.index_mut-2.result.now c.go_on.new.taking
     old new c.args.position c.go_on.result _ _ _ _
-    c.index_mut.ensures.value c.index_mut-2.ensures.value (omega (arith, c.self.invariant.putting)) (omega (arith, c.self.invariant.taking)) (omega arith) c.go_on.ensures.positions
-    (none_claimed g.S.BagStore.Claims c.self.inside.sizes (g.S.BagStore.Claimed c.self.inside.store) old c.self.inside.taking.items refl c.self.invariant.claimed)
-    (free_where g.S.BagStore.Reserves g.S.BagStore.Claims c.self.inside.sizes (g.S.BagStore.Reserved c.self.inside.store) old _ c.self.inside.putting.items c.self.inside.taking.items c.args.position refl c.self.invariant.reserved)
+    c.index_mut.ensures.value c.index_mut-2.ensures.value (omega (arith, c.self.invariant.putting))
+    (omega (arith, c.self.invariant.taking)) (omega arith) c.go_on.ensures.positions
+    (none_claimed g.S.BagStore.Claims c.self.inside.sizes
+    (g.S.BagStore.Claimed c.self.inside.store) old c.self.inside.taking.items refl c.self.invariant.claimed)
+    (free_where g.S.BagStore.Reserves g.S.BagStore.Claims c.self.inside.sizes
+    (g.S.BagStore.Reserved c.self.inside.store) old _ c.self.inside.putting.items c.self.inside.taking.items
+    c.args.position refl c.self.invariant.reserved)
     (c.go_on.ensures.step ending) c.go_on.ensures.looks c.go_on.ensures.finds c.go_on.ensures.room)

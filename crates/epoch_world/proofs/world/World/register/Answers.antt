@@ -16,36 +16,52 @@ use Rattle.epoch_world.proofs.world.World.register.Goals as goal
 pub invariant_of-self : goal.invariant_of-self
 invariant_of-self g c =
     let old : State =
-    state_of c.self.inside.sizes c.self.inside.epoch c.self.inside.seats.items (g.S.BagStore.queued c.self.inside.store) c.self.inside.tickets
+    state_of c.self.inside.sizes c.self.inside.epoch c.self.inside.seats.items
+    (g.S.BagStore.queued c.self.inside.store) c.self.inside.tickets
     (ending_of c.self.inside.end c.self.inside.hand.jobs c.self.inside.count) c.self.inside.heap in
     record {
       sized = c.self.invariant.sized;
       epoch = c.self.invariant.epoch;
       putting = c.self.invariant.putting ∙ sym (length-set c.self.inside.seats.items c.in-Some.index _);
       taking = c.self.invariant.taking ∙ sym (length-set c.self.inside.seats.items c.in-Some.index _);
-      kept = kept_moves old _ Register (Registered c.in-Some.index) c.self.invariant.kept (length-set c.self.inside.seats.items c.in-Some.index _)
+      kept = kept_moves old _ Register (Registered c.in-Some.index) c.self.invariant.kept
+          (length-set c.self.inside.seats.items c.in-Some.index _)
           (register_moves old _ c.in-Some.index c.register.new.self
           (ap (λ (e : EndStage). ending_of e c.self.inside.hand.jobs c.self.inside.count) c.in-Open.is)
           c.in-Some.ensures.some.0 c.in-Some.ensures.some.1 c.in-Some.ensures.least c.register.ensures refl);
-      claimed = claims_quiet g.S.BagStore.Claims c.self.inside.sizes _ c.self.inside.seats.items _ c.self.inside.taking.items c.in-Some.index
-          (not_taking _ (c.self.invariant.kept.free c.in-Some.index (c.in-Some.ensures.some.1 _))) (λ q other. get_or-set_other c.self.inside.seats.items c.in-Some.index q c.register.new.self _ other) c.self.invariant.claimed;
-      reserved = reserves_quiet g.S.BagStore.Reserves g.S.BagStore.Claims c.self.inside.sizes _ c.self.inside.seats.items _ c.self.inside.putting.items c.self.inside.taking.items c.in-Some.index
-          (not_putting _ (c.self.invariant.kept.free c.in-Some.index (c.in-Some.ensures.some.1 _))) (not_taking _ (c.self.invariant.kept.free c.in-Some.index (c.in-Some.ensures.some.1 _)))
-          (λ q other. get_or-set_other c.self.inside.seats.items c.in-Some.index q c.register.new.self _ other) c.self.invariant.reserved;
+      claimed = claims_quiet g.S.BagStore.Claims c.self.inside.sizes _ c.self.inside.seats.items _
+          c.self.inside.taking.items c.in-Some.index
+          (not_taking _ (c.self.invariant.kept.free c.in-Some.index (c.in-Some.ensures.some.1 _))) (λ q other.
+          get_or-set_other c.self.inside.seats.items c.in-Some.index q c.register.new.self _ other)
+          c.self.invariant.claimed;
+      reserved = reserves_quiet g.S.BagStore.Reserves g.S.BagStore.Claims c.self.inside.sizes _
+          c.self.inside.seats.items _ c.self.inside.putting.items c.self.inside.taking.items c.in-Some.index
+          (not_putting _ (c.self.invariant.kept.free c.in-Some.index (c.in-Some.ensures.some.1 _))) (not_taking _
+          (c.self.invariant.kept.free c.in-Some.index (c.in-Some.ensures.some.1 _)))
+          (λ q other. get_or-set_other c.self.inside.seats.items c.in-Some.index q c.register.new.self _
+          other) c.self.invariant.reserved;
     }
 
 pub returns : goal.returns
 returns g c =
     let old : State =
-    with_places (state_of c.self.inside.sizes c.self.inside.epoch c.self.inside.seats.items (g.S.BagStore.queued c.self.inside.store) c.self.inside.tickets
-    (ending_of c.self.inside.end c.self.inside.hand.jobs c.self.inside.count) c.self.inside.heap) (g.S.BagStore.occupied c.self.inside.store) (map g.S.BagStore.passed c.self.inside.putting.items)
-    (aheads (λ x cursor. g.S.BagStore.ahead x c.self.inside.store cursor) c.self.inside.seats.items c.self.inside.taking.items)
+    with_places (state_of c.self.inside.sizes c.self.inside.epoch c.self.inside.seats.items
+    (g.S.BagStore.queued c.self.inside.store) c.self.inside.tickets
+    (ending_of c.self.inside.end c.self.inside.hand.jobs c.self.inside.count) c.self.inside.heap)
+    (g.S.BagStore.occupied c.self.inside.store) (map g.S.BagStore.passed c.self.inside.putting.items)
+    (aheads (λ x cursor. g.S.BagStore.ahead x c.self.inside.store cursor) c.self.inside.seats.items
+    c.self.inside.taking.items)
     (map (λ cursor. g.S.BagStore.has_room c.self.inside.store cursor) c.self.inside.putting.items) in
     let all = slice_set c.self.inside.seats.items c.in-Some.index c.register.new.self in
-    let new : State = record old { seats = all; ahead = aheads (λ x cursor. g.S.BagStore.ahead x c.self.inside.store cursor) all c.self.inside.taking.items } in
-    let before_rests : expiry_of (slice_index_or c.self.inside.seats.items c.in-Some.index (free_seat c.self.inside.sizes)).machine.stage ≡ 0 =
+    let new : State = record old {
+      seats = all;
+      ahead = aheads (λ x cursor. g.S.BagStore.ahead x c.self.inside.store cursor) all c.self.inside.taking.items;
+    } in
+    let before_rests : expiry_of (slice_index_or c.self.inside.seats.items c.in-Some.index
+    (free_seat c.self.inside.sizes)).machine.stage ≡ 0 =
     none_for _ (c.self.invariant.kept.free c.in-Some.index (c.in-Some.ensures.some.1 _)) in
-    let after_rests : expiry_of c.register.new.self.machine.stage ≡ 0 = ap (λ (seat : WorldSeat). expiry_of seat.machine.stage) c.register.ensures in
+    let after_rests : expiry_of c.register.new.self.machine.stage ≡ 0 =
+    ap (λ (seat : WorldSeat). expiry_of seat.machine.stage) c.register.ensures in
     subst (λ (s : State). TakesStep s Register (Registered c.in-Some.index) new) c.self.view_is (
       register_moves old _ c.in-Some.index c.register.new.self
           (ap (λ (e : EndStage). ending_of e c.self.inside.hand.jobs c.self.inside.count) c.in-Open.is)
@@ -53,7 +69,8 @@ returns g c =
       (
         refl,
         refl,
-        same_aheads (λ x cursor. g.S.BagStore.ahead x c.self.inside.store cursor) c.self.inside.seats.items c.self.inside.taking.items c.in-Some.index
+        same_aheads (λ x cursor. g.S.BagStore.ahead x c.self.inside.store cursor) c.self.inside.seats.items
+            c.self.inside.taking.items c.in-Some.index
             c.register.new.self (free_seat c.self.inside.sizes) (after_rests ∙ sym before_rests),
         refl,
       ),

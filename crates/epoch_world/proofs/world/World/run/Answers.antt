@@ -20,28 +20,34 @@ use Rattle.epoch_world.proofs.world.World.run.Goals as goal
 
 pub loop-step-preserved : goal.loop-step-preserved
 loop-step-preserved g c = record {
-  run = runs_more _ _ _ c.args.steps.now c.loop-step.step-index _ c.loop-step.replies.items _ c.step-reply.result (omega arith)
+  run = runs_more _ _ _ c.args.steps.now c.loop-step.step-index _ c.loop-step.replies.items _ c.step-reply.result
+      (omega arith)
       c.loop-step.invariant.count c.push_reserved.ensures.items c.loop-step.invariant.run
-      (subst (λ (step : Step). TakesStep c.loop-step.self step c.step-reply.result c.step-reply.new.self) c.step-item.is c.step-reply.ensures);
+      (subst (λ (step : Step). TakesStep c.loop-step.self step c.step-reply.result c.step-reply.new.self)
+      c.step-item.is c.step-reply.ensures);
   count = ap length c.push_reserved.ensures.items ∙ simp length-append (omega arith);
   room = omega arith;
 }
 
 pub returns-clause-grace : goal.returns-clause-grace
 returns-clause-grace g c fresh earlier new run =
-    every_run_keeps_grace fresh _ _ new (runs_append _ _ _ earlier _ run (runs_whole _ _ c.args.steps.now c.loop-step.step-index _ (omega arith) c.loop-step.invariant.run))
+    every_run_keeps_grace fresh _ _ new (runs_append _ _ _ earlier _ run
+    (runs_whole _ _ c.args.steps.now c.loop-step.step-index _ (omega arith) c.loop-step.invariant.run))
 
 pub returns-clause-once : goal.returns-clause-once
 returns-clause-once g c fresh earlier new run =
-    holds_each_once fresh _ _ new (runs_append _ _ _ earlier _ run (runs_whole _ _ c.args.steps.now c.loop-step.step-index _ (omega arith) c.loop-step.invariant.run))
+    holds_each_once fresh _ _ new (runs_append _ _ _ earlier _ run
+    (runs_whole _ _ c.args.steps.now c.loop-step.step-index _ (omega arith) c.loop-step.invariant.run))
 
 pub returns-clause-tickets : goal.returns-clause-tickets
 returns-clause-tickets g c fresh earlier new run =
-    numbers_tickets fresh _ _ new (runs_append _ _ _ earlier _ run (runs_whole _ _ c.args.steps.now c.loop-step.step-index _ (omega arith) c.loop-step.invariant.run))
+    numbers_tickets fresh _ _ new (runs_append _ _ _ earlier _ run
+    (runs_whole _ _ c.args.steps.now c.loop-step.step-index _ (omega arith) c.loop-step.invariant.run))
 
 pub returns-clause-lawful : goal.returns-clause-lawful
 returns-clause-lawful g c fresh earlier new run =
-    let whole = runs_append _ _ _ earlier _ run (runs_whole _ _ c.args.steps.now c.loop-step.step-index _ (omega arith) c.loop-step.invariant.run) in
+    let whole = runs_append _ _ _ earlier _ run
+    (runs_whole _ _ c.args.steps.now c.loop-step.step-index _ (omega arith) c.loop-step.invariant.run) in
     let calls = calls_follow fresh _ _ new whole in
     record { in_calls = replies_stand fresh _ _ new whole; once = calls.once; deferred = calls.deferred }
 
@@ -50,19 +56,23 @@ returns-clause-full g c fresh earlier new run = found_full fresh _ _ new
 
 pub returns-clause-all_called : goal.returns-clause-all_called
 returns-clause-all_called g c fresh earlier new run over =
-    end_calls_all fresh _ _ new (runs_append _ _ _ earlier _ run (runs_whole _ _ c.args.steps.now c.loop-step.step-index _ (omega arith) c.loop-step.invariant.run)) over
+    end_calls_all fresh _ _ new (runs_append _ _ _ earlier _ run
+    (runs_whole _ _ c.args.steps.now c.loop-step.step-index _ (omega arith) c.loop-step.invariant.run)) over
 
 pub returns-clause-ended : goal.returns-clause-ended
 returns-clause-ended g c fresh earlier new run =
-    ends_at_count fresh _ _ new (runs_append _ _ _ earlier _ run (runs_whole _ _ c.args.steps.now c.loop-step.step-index _ (omega arith) c.loop-step.invariant.run))
+    ends_at_count fresh _ _ new (runs_append _ _ _ earlier _ run
+    (runs_whole _ _ c.args.steps.now c.loop-step.step-index _ (omega arith) c.loop-step.invariant.run))
 
 pub returns-clause-rounds : goal.returns-clause-rounds
 returns-clause-rounds g c fresh start earlier since new run more =
-    rounds_call_all fresh start _ earlier _ new run (runs_append _ _ _ since _ more (runs_whole _ _ c.args.steps.now c.loop-step.step-index _ (omega arith) c.loop-step.invariant.run))
+    rounds_call_all fresh start _ earlier _ new run (runs_append _ _ _ since _ more
+    (runs_whole _ _ c.args.steps.now c.loop-step.step-index _ (omega arith) c.loop-step.invariant.run))
 
 pub returns-clause-few : goal.returns-clause-few
 returns-clause-few g c fresh earlier new run =
-    collects_few fresh _ _ new (runs_append _ _ _ earlier _ run (runs_whole _ _ c.args.steps.now c.loop-step.step-index _ (omega arith) c.loop-step.invariant.run))
+    collects_few fresh _ _ new (runs_append _ _ _ earlier _ run
+    (runs_whole _ _ c.args.steps.now c.loop-step.step-index _ (omega arith) c.loop-step.invariant.run))
 
 pub returns-clause-reach : goal.returns-clause-reach
 returns-clause-reach g c fresh earlier new run whole = every_run_keeps_reach fresh _ _ new whole

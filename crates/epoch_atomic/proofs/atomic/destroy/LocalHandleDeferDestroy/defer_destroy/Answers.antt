@@ -7,7 +7,8 @@ use Rattle.epoch_handles.specs.declared.home.Home.{Home}
 use Rattle.epoch_handles.proofs.Tests.{not_both}
 use Rattle.epoch_atomic.specs.Pointers.{IsUnder}
 use Rattle.epoch_atomic.proofs.atomic.destroy.LocalHandleDeferDestroy.defer_destroy.Goals as goal
-use Rattle.epoch_atomic.proofs.atomic.destroy.LocalHandleDeferDestroy.defer_destroy.Goals.{else-is_protecting-via-then-is_protecting+else-not-owns, else-is_protecting-via-else-is_protecting}
+use Rattle.epoch_atomic.proofs.atomic.destroy.LocalHandleDeferDestroy.defer_destroy.Goals.{else-is_protecting-via-then-is_protecting+else-not-owns}
+use Rattle.epoch_atomic.proofs.atomic.destroy.LocalHandleDeferDestroy.defer_destroy.Goals.{else-is_protecting-via-else-is_protecting}
 
 is_some_of : {A : Type 0} {o : Option A} {x : A} → o ≡ Some x → IsSome o
 is_some_of at = subst IsSome (sym at) refl
@@ -38,22 +39,40 @@ returns-then-not-owns-clause-room g c = λ _ owns _ _. absurd (not_both c.if-not
 -- the pointer is a stranger's
 
 pub returns-in_default-clause-at_once : goal.returns-in_default-clause-at_once
-returns-in_default-clause-at_once g c = λ _ _ names. c.in_default.ensures.some.1 (is_some_of names.name_of, under_same c.args.shared.home (sym (c.id.ensures ∙ ap (λ collector. collector.id) c.collector.ensures.value)) names.under)
+returns-in_default-clause-at_once g c = λ _ _ names. c.in_default.ensures.some.1 (
+  is_some_of names.name_of,
+  under_same c.args.shared.home
+      (sym (c.id.ensures ∙ ap (λ collector. collector.id) c.collector.ensures.value)) names.under,
+)
 
 pub returns-in_default-clause-stranger : goal.returns-in_default-clause-stranger
 returns-in_default-clause-stranger g c = λ some stranger. elim c.else-is_protecting.branch [
-  | else-is_protecting-via-then-is_protecting+else-not-owns w ↦ absurd (stranger (w.owns.ensures.value.0 w.if-not-owns.false))
-  | else-is_protecting-via-else-is_protecting w ↦ absurd (not_both w.if-is_protecting.false (c.is_protecting.ensures.1 some))
+  | else-is_protecting-via-then-is_protecting+else-not-owns w ↦
+      absurd (stranger (w.owns.ensures.value.0 w.if-not-owns.false))
+  | else-is_protecting-via-else-is_protecting w ↦
+      absurd (not_both w.if-is_protecting.false (c.is_protecting.ensures.1 some))
 ]
 
 pub returns-in_default-clause-does : goal.returns-in_default-clause-does
-returns-in_default-clause-does g c = λ _ _ names. absurd (false≢true (c.in_default.ensures.some.1 (is_some_of names.name_of, under_same c.args.shared.home (sym (c.id.ensures ∙ ap (λ collector. collector.id) c.collector.ensures.value)) names.under)))
+returns-in_default-clause-does g c = λ _ _ names. absurd (false≢true (c.in_default.ensures.some.1 (
+  is_some_of names.name_of,
+  under_same c.args.shared.home
+      (sym (c.id.ensures ∙ ap (λ collector. collector.id) c.collector.ensures.value)) names.under,
+)))
 
 pub returns-in_default-clause-found : goal.returns-in_default-clause-found
-returns-in_default-clause-found g c = λ _ _ names. absurd (false≢true (c.in_default.ensures.some.1 (is_some_of names.name_of, under_same c.args.shared.home (sym (c.id.ensures ∙ ap (λ collector. collector.id) c.collector.ensures.value)) names.under)))
+returns-in_default-clause-found g c = λ _ _ names. absurd (false≢true (c.in_default.ensures.some.1 (
+  is_some_of names.name_of,
+  under_same c.args.shared.home
+      (sym (c.id.ensures ∙ ap (λ collector. collector.id) c.collector.ensures.value)) names.under,
+)))
 
 pub returns-in_default-clause-room : goal.returns-in_default-clause-room
-returns-in_default-clause-room g c = λ _ _ names _. absurd (false≢true (c.in_default.ensures.some.1 (is_some_of names.name_of, under_same c.args.shared.home (sym (c.id.ensures ∙ ap (λ collector. collector.id) c.collector.ensures.value)) names.under)))
+returns-in_default-clause-room g c = λ _ _ names _. absurd (false≢true (c.in_default.ensures.some.1 (
+  is_some_of names.name_of,
+  under_same c.args.shared.home
+      (sym (c.id.ensures ∙ ap (λ collector. collector.id) c.collector.ensures.value)) names.under,
+)))
 
 -- the job is handed back
 
@@ -64,7 +83,11 @@ pub returns-in-Err-clause-at_once : goal.returns-in-Err-clause-at_once
 returns-in-Err-clause-at_once g c = λ _ none _. (c.in-Err.ensures.unprotected none).0
 
 pub returns-in-Err-clause-pointer : goal.returns-in-Err-clause-pointer
-returns-in-Err-clause-pointer g c = λ _ stranger. absurd (stranger c.in-Some.name (record { name_of = c.in-Some.ensures.name; under = under_same c.args.shared.home (c.id.ensures ∙ ap (λ collector. collector.id) c.collector.ensures.value) (c.in-Some.ensures.some.0 refl).1 }))
+returns-in-Err-clause-pointer g c = λ _ stranger. absurd (stranger c.in-Some.name (record {
+  name_of = c.in-Some.ensures.name;
+  under = under_same c.args.shared.home (c.id.ensures ∙ ap (λ collector. collector.id) c.collector.ensures.value)
+      (c.in-Some.ensures.some.0 refl).1;
+}))
 
 pub returns-in-Err-clause-does : goal.returns-in-Err-clause-does
 returns-in-Err-clause-does g c = λ _ owns _. c.in-Err.ensures.does (is_some_of owns.position) owns
@@ -81,10 +104,16 @@ pub returns-clause-unprotected : goal.returns-clause-unprotected
 returns-clause-unprotected g c = λ none. (c.in_default-defer.ensures.unprotected none).1
 
 pub returns-clause-stranger : goal.returns-clause-stranger
-returns-clause-stranger g c = λ some stranger. let told = c.in_default-defer.ensures.stranger some stranger in absurd (false≢true told.1)
+returns-clause-stranger g c = λ some stranger.
+    let told = c.in_default-defer.ensures.stranger some stranger in
+    absurd (false≢true told.1)
 
 pub returns-clause-pointer : goal.returns-clause-pointer
-returns-clause-pointer g c = λ _ stranger. absurd (stranger c.in-Some.name (record { name_of = c.in-Some.ensures.name; under = under_same c.args.shared.home (c.id.ensures ∙ ap (λ collector. collector.id) c.collector.ensures.value) (c.in-Some.ensures.some.0 refl).1 }))
+returns-clause-pointer g c = λ _ stranger. absurd (stranger c.in-Some.name (record {
+  name_of = c.in-Some.ensures.name;
+  under = under_same c.args.shared.home (c.id.ensures ∙ ap (λ collector. collector.id) c.collector.ensures.value)
+      (c.in-Some.ensures.some.0 refl).1;
+}))
 
 pub returns-clause-does : goal.returns-clause-does
 returns-clause-does g c = λ _ owns _. c.in_default-defer.ensures.does (is_some_of owns.position) owns
@@ -92,8 +121,10 @@ returns-clause-does g c = λ _ owns _. c.in_default-defer.ensures.does (is_some_
 pub returns-clause-room : goal.returns-clause-room
 returns-clause-room g c = λ name owns names fits.
     let same = same_Some c.in-Some.name name (sym c.in-Some.ensures.name ∙ names.name_of) in
-    let told = c.in_default-defer.ensures.room owns fits in
-    (refl, subst (λ (n : Name). c.defer.new.self.machine.held ≡ c.args.self.now.machine.held ++ Remove n ∷ []) same told.1)
+    let told = c.in_default-defer.ensures.room owns fits in (
+      refl,
+      subst (λ (n : Name). c.defer.new.self.machine.held ≡ c.args.self.now.machine.held ++ Remove n ∷ []) same told.1,
+    )
 
 pub returns-clause-found : goal.returns-clause-found
 returns-clause-found g c = λ _ owns _. c.in_default-defer.ensures.found owns
@@ -101,19 +132,27 @@ returns-clause-found g c = λ _ owns _. c.in_default-defer.ensures.found owns
 pub returns-clause-kept : goal.returns-clause-kept
 returns-clause-kept g c = λ name owns names ok.
     let same = same_Some c.in-Some.name name (sym c.in-Some.ensures.name ∙ names.name_of) in
-    subst (λ (n : Name). (c.defer.new.self.machine.held ≡ c.args.self.now.machine.held ++ Remove n ∷ []) ⊎ (c.defer.new.self.machine.held ≡ Remove n ∷ [])) same (c.in_default-defer.ensures.kept owns ok)
+    subst (λ (n : Name). (c.defer.new.self.machine.held ≡ c.args.self.now.machine.held ++ Remove n ∷ [])
+    ⊎ (c.defer.new.self.machine.held ≡ Remove n ∷ [])) same (c.in_default-defer.ensures.kept owns ok)
 
 -- without protection the removal was tried
 pub returns-clause-tried : goal.returns-clause-tried
 returns-clause-tried g c = λ name none names.
-    subst (λ (n : Name). g.W.Removing.Remove.tried n) (same_Some c.in-Some.name name (sym c.in-Some.ensures.name ∙ names.name_of)) (c.in_default-defer.ensures.tried none)
+    subst (λ (n : Name). g.W.Removing.Remove.tried n)
+    (same_Some c.in-Some.name name (sym c.in-Some.ensures.name ∙ names.name_of)) (c.in_default-defer.ensures.tried none)
 
 pub returns-in-Err-clause-tried : goal.returns-in-Err-clause-tried
 returns-in-Err-clause-tried g c = λ name none names.
-    subst (λ (n : Name). g.W.Removing.Remove.tried n) (same_Some c.in-Some.name name (sym c.in-Some.ensures.name ∙ names.name_of)) (c.in-Err.ensures.tried none)
+    subst (λ (n : Name). g.W.Removing.Remove.tried n)
+    (same_Some c.in-Some.name name (sym c.in-Some.ensures.name ∙ names.name_of)) (c.in-Err.ensures.tried none)
 
 pub returns-in_default-clause-tried : goal.returns-in_default-clause-tried
-returns-in_default-clause-tried g c = λ _ _ names. absurd (false≢true (c.in_default.ensures.some.1 (is_some_of names.name_of, under_same c.args.shared.home (sym (c.id.ensures ∙ ap (λ collector. collector.id) c.collector.ensures.value)) names.under)))
+returns-in_default-clause-tried g c = λ _ _ names. absurd (false≢true (c.in_default.ensures.some.1 (
+  is_some_of names.name_of,
+  under_same c.args.shared.home
+      (sym (c.id.ensures ∙ ap (λ collector. collector.id) c.collector.ensures.value)) names.under,
+)))
 
 pub returns-then-not-owns-clause-tried : goal.returns-then-not-owns-clause-tried
-returns-then-not-owns-clause-tried g c = λ _ none _. absurd (none_is_not_some none (c.is_protecting.ensures.0 c.if-is_protecting.true))
+returns-then-not-owns-clause-tried g c =
+    λ _ none _. absurd (none_is_not_some none (c.is_protecting.ensures.0 c.if-is_protecting.true))

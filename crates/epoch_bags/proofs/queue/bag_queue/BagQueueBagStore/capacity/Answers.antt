@@ -6,4 +6,9 @@ use Rattle.epoch_bags.proofs.queue.bag_queue.BagQueueBagStore.capacity.Goals as 
 -- there are no more bags than places
 pub returns-clause-standing : goal.returns-clause-standing
 returns-clause-standing g c = count_first c.args.self.now.capacity (length c.args.self.now.bags)
-    (omega (arith, c.self.invariant.within, ap (λ (q : Bounded g.row.J.Denot). length q.bags) c.self.view_is, ap (λ (q : Bounded g.row.J.Denot). q.capacity) c.self.view_is))
+    (omega (
+      arith,
+      c.self.invariant.within,
+      ap (λ (q : Bounded g.row.J.Denot). length q.bags) c.self.view_is,
+      ap (λ (q : Bounded g.row.J.Denot). q.capacity) c.self.view_is,
+    ))

@@ -9,8 +9,10 @@ loop-preserved g c = record {
   room_bags = omega arith;
   words = ap length c.push_reserved.ensures.items ∙ simp length-append (omega arith);
   bags = ap length c.push_reserved-in-loop.ensures.items ∙ simp length-append (omega arith);
-  empty = λ k. ap (λ xs. slice_index_or xs k 0) c.push_reserved.ensures.items ∙ get_push c.loop.words.items 0 k ∙ c.loop.invariant.empty k;
-  none = λ k. ap (λ xs. slice_index_or xs k None) c.push_reserved-in-loop.ensures.items ∙ get_push c.loop.bags.items None k ∙ c.loop.invariant.none k;
+  empty = λ k. ap (λ xs. slice_index_or xs k 0) c.push_reserved.ensures.items ∙ get_push c.loop.words.items 0 k
+      ∙ c.loop.invariant.empty k;
+  none = λ k. ap (λ xs. slice_index_or xs k None) c.push_reserved-in-loop.ensures.items
+      ∙ get_push c.loop.bags.items None k ∙ c.loop.invariant.none k;
 }
 
 pub returns-clause-empty : goal.returns-clause-empty

@@ -10,4 +10,5 @@ pub returns-clause-standing : goal.returns-clause-standing
 returns-clause-standing g c = count_homes c.args.self.now.bags
 
 pub returns-clause-occupied : goal.returns-clause-occupied
-returns-clause-occupied g c place taken = taken_why c.args.self.now.words c.args.self.now.bags place c.count.ensures.agrees.beside c.count.ensures.agrees.words_match taken
+returns-clause-occupied g c place taken = taken_why c.args.self.now.words c.args.self.now.bags place
+    c.count.ensures.agrees.beside c.count.ensures.agrees.words_match taken

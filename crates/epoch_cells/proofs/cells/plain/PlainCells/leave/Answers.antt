@@ -13,4 +13,5 @@ returns-in-Some-clause-others g c =
     let it : Found c.args.self.now c.args.name.slot c.args.name.turn c.index_mut.result.now
     = found _ _ _ _ _ _ c.self.view_is c.in-Some.ensures.some c.index_mut.ensures.value in
     let same_turn = ap (λ cell. cell.turn) c.leave.ensures.lowered ∙ it.turn_is in
-    writes_one _ _ _ _ _ _ _ c.self.view_is c.in-Some.ensures.some.0 c.args.name.some it.at (inr it.turn_is) (inr same_turn)
+    writes_one _ _ _ _ _ _ _ c.self.view_is c.in-Some.ensures.some.0 c.args.name.some it.at
+    (inr it.turn_is) (inr same_turn)

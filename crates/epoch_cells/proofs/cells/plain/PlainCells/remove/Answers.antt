@@ -1,6 +1,7 @@
 use Rattle.std.proofs.Common.{◌+◌, inr, ap, sym, ◌∙◌}
 use Rattle.epoch_cells.specs.PlainCells.{empty, removal_of}
-use Rattle.epoch_cells.proofs.PlainCellLists.{Found, found, found_value, at_most, writes_cell, writes_nothing, writes_one}
+use Rattle.epoch_cells.proofs.PlainCellLists.{Found, found, found_value, at_most, writes_cell, writes_nothing}
+use Rattle.epoch_cells.proofs.PlainCellLists.{writes_one}
 use Rattle.epoch_cells.proofs.cells.plain.PlainCells.remove.Goals as goal
 
 pub returns-in-Some-clause-removal : goal.returns-in-Some-clause-removal
@@ -13,7 +14,8 @@ pub returns-in-Some-clause-destroyed : goal.returns-in-Some-clause-destroyed
 returns-in-Some-clause-destroyed g c = λ destroyed.
     let it : Found c.args.self.now c.args.name.slot c.args.name.turn c.index_mut.result.now
     = found _ _ _ _ _ _ c.self.view_is c.in-Some.ensures.some c.index_mut.ensures.value in
-    writes_cell _ _ _ _ _ _ c.self.view_is c.in-Some.ensures.some.0 (c.remove.ensures.destroyed destroyed ∙ ap (λ turn. empty (turn + 1)) it.turn_is)
+    writes_cell _ _ _ _ _ _ c.self.view_is c.in-Some.ensures.some.0
+    (c.remove.ensures.destroyed destroyed ∙ ap (λ turn. empty (turn + 1)) it.turn_is)
 
 pub returns-in-Some-clause-stays : goal.returns-in-Some-clause-stays
 returns-in-Some-clause-stays g c = λ held.

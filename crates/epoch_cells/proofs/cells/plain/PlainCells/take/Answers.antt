@@ -14,7 +14,8 @@ returns-clause-some g c =
     let it : Found c.args.self.now c.args.name.slot c.args.name.turn c.index_mut.result.now
     = found _ _ _ _ _ _ c.self.view_is c.in_ok-index.ensures.some c.index_mut.ensures.value in
     on_some c.vacate.result
-    (λ value emptied. writes_cell _ _ _ _ _ _ c.self.view_is c.in_ok-index.ensures.some.0 (emptied ∙ ap (λ turn. empty (turn + 1)) it.turn_is))
+    (λ value emptied. writes_cell _ _ _ _ _ _ c.self.view_is c.in_ok-index.ensures.some.0
+    (emptied ∙ ap (λ turn. empty (turn + 1)) it.turn_is))
     c.vacate.ensures.some
 
 pub returns-clause-none : goal.returns-clause-none

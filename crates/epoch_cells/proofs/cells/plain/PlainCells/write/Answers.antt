@@ -8,7 +8,8 @@ returns-clause-err g c =
     let it : Found c.args.self.now c.args.name.slot c.args.name.turn c.index_mut.result.now
     = found _ _ _ _ _ _ c.self.view_is c.in-Some.ensures.some c.index_mut.ensures.value in
     on_err c.replace.result
-    (λ (read, same). (rw it.is_cell read, writes_nothing _ _ _ _ _ _ c.self.view_is c.in-Some.ensures.some.0 it.at same))
+    (λ (read, same).
+    (rw it.is_cell read, writes_nothing _ _ _ _ _ _ c.self.view_is c.in-Some.ensures.some.0 it.at same))
     c.replace.ensures.err
 
 pub returns-clause-others : goal.returns-clause-others
@@ -16,7 +17,8 @@ returns-clause-others g c =
     let it : Found c.args.self.now c.args.name.slot c.args.name.turn c.index_mut.result.now
     = found _ _ _ _ _ _ c.self.view_is c.in-Some.ensures.some c.index_mut.ensures.value in
     let same_turn : c.replace.new.self.turn ≡ c.args.name.turn = c.replace.ensures.turn ∙ it.turn_is in
-    writes_one _ _ _ _ _ _ _ c.self.view_is c.in-Some.ensures.some.0 c.args.name.some it.at (inr it.turn_is) (inr same_turn)
+    writes_one _ _ _ _ _ _ _ c.self.view_is c.in-Some.ensures.some.0 c.args.name.some it.at
+    (inr it.turn_is) (inr same_turn)
 
 pub returns-clause-ok : goal.returns-clause-ok
 returns-clause-ok g c =
@@ -29,5 +31,6 @@ returns-clause-written g c =
     let it : Found c.args.self.now c.args.name.slot c.args.name.turn c.index_mut.result.now
     = found _ _ _ _ _ _ c.self.view_is c.in-Some.ensures.some c.index_mut.ensures.value in
     on_ok c.replace.result
-    (λ before written. writes_cell _ _ _ _ _ _ c.self.view_is c.in-Some.ensures.some.0 (written ∙ ap (λ turn. filled turn 0 c.args.value) it.turn_is))
+    (λ before written. writes_cell _ _ _ _ _ _ c.self.view_is c.in-Some.ensures.some.0
+    (written ∙ ap (λ turn. filled turn 0 c.args.value) it.turn_is))
     c.replace.ensures.written

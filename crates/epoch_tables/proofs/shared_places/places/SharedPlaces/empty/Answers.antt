@@ -6,14 +6,16 @@ use Rattle.epoch_tables.proofs.shared_places.places.SharedPlaces.empty.Goals as 
 
 -- the slot goes home with what `bag` was, which is nothing
 pub store-requires : goal.store-requires
-store-requires g c = let same : c.self.inside.capacity ≡ c.args.self.now.capacity = ap (λ (b : PlaceBoard). b.capacity) c.self.view_is in
+store-requires g c =
+    let same : c.self.inside.capacity ≡ c.args.self.now.capacity = ap (λ (b : PlaceBoard). b.capacity) c.self.view_is in
     let wide = c.self.invariant.words in
     let below = c.requires.claimed.0 in
     let bag = c.swap.new.x in
     let place : ℕ = c.args.place in
     let carried = ap (λ l. (place, bag) ∷ rest l) c.requires.hand.1 in
     let left = subst (λ held. IsAtHome 0 held) (sym (c.swap.ensures.x_after ∙ c.requires.none)) refl in
-    rw c.word_index.ensures (search rules, omega arith, place_store_keeps _ _ _ _ _ _ bag c.requires.claimed.1 carried left)
+    rw c.word_index.ensures
+    (search rules, omega arith, place_store_keeps _ _ _ _ _ _ bag c.requires.claimed.1 carried left)
 
 -- the view keeps what is in the slot, which is nothing
 pub returns-clause-view : goal.returns-clause-view

@@ -4,7 +4,8 @@ use Rattle.epoch_tables.proofs.PlaceLooks.{place_look_keeps}
 use Rattle.epoch_tables.proofs.shared_places.places.SharedPlaces.look.Goals as goal
 
 pub load-requires : goal.load-requires
-load-requires g c = let same : c.self.inside.capacity ≡ c.args.self.now.capacity = ap (λ (b : PlaceBoard). b.capacity) c.self.view_is in
+load-requires g c =
+    let same : c.self.inside.capacity ≡ c.args.self.now.capacity = ap (λ (b : PlaceBoard). b.capacity) c.self.view_is in
     let wide = c.self.invariant.words in
     let key = c.self.invariant.key in
     let below = c.requires.within in

@@ -12,5 +12,6 @@ pub drop-requires-room-S-Destruct : goal.drop-requires-room-S-Destruct
 drop-requires-room-S-Destruct g c κs within = c.if-not-fits.ensures refl
 
 pub vacant-requires : goal.vacant-requires
-vacant-requires g c = subst (λ (words : List ℕ). PlacesAgree {J = g.row.J.Denot} c.args.places (opening words (replicate c.args.places None) (with_claim None [] [] [] [])))
+vacant-requires g c = subst (λ (words : List ℕ). PlacesAgree {J = g.row.J.Denot} c.args.places
+    (opening words (replicate c.args.places None) (with_claim None [] [] [] [])))
     (sym (search rules)) (new_places_keep c.args.places)

@@ -16,5 +16,6 @@ returns-then-claim-word-clause-at g c = let at = rw c.in-Claim.is at c.requires.
     let won = c.claim.ensures.won c.if-claim-word.true in
     let bag = expired_at_home c.args.expiry.number c.in-Claim.word won.0 at.1 won.1 in
     let place : ℕ = c.in-Claim.place in
-    let hand = ap (λ me. me.1) won.2 ∙ ap (λ content. (place, content) ∷ c.args.seat.now.me.1) bag.1 ∙ ap (λ slots. (place, Some bag.0) ∷ slots) at.2.1 in
+    let hand = ap (λ me. me.1) won.2 ∙ ap (λ content. (place, content) ∷ c.args.seat.now.me.1) bag.1
+    ∙ ap (λ slots. (place, Some bag.0) ∷ slots) at.2.1 in
     (at.0, (bag.0, bag.2, (ap (λ me. me.0.claimed) won.2, hand)))

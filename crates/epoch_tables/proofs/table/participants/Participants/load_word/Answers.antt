@@ -4,7 +4,8 @@ use Rattle.epoch_tables.proofs.WordLoads.{word_load_keeps}
 use Rattle.epoch_tables.proofs.table.participants.Participants.load_word.Goals as goal
 
 pub load-requires : goal.load-requires
-load-requires c = let same : c.self.inside.positions ≡ c.args.self.now.positions = ap (λ (b : Board). b.positions) c.self.view_is in
+load-requires c =
+    let same : c.self.inside.positions ≡ c.args.self.now.positions = ap (λ (b : Board). b.positions) c.self.view_is in
     let wide = c.self.invariant.words in
     let below = c.requires.within in
     let key = c.self.invariant.key in

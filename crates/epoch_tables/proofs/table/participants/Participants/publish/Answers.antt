@@ -4,7 +4,8 @@ use Rattle.epoch_tables.proofs.OwnStores.{publish_keeps}
 use Rattle.epoch_tables.proofs.table.participants.Participants.publish.Goals as goal
 
 pub store-requires : goal.store-requires
-store-requires c = let same : c.self.inside.positions ≡ c.args.self.now.positions = ap (λ (b : Board). b.positions) c.self.view_is in
+store-requires c =
+    let same : c.self.inside.positions ≡ c.args.self.now.positions = ap (λ (b : Board). b.positions) c.self.view_is in
     let wide = c.self.invariant.words in
     let below = c.requires.own.1 in
     rw c.word_index.ensures (search rules, omega arith, publish_keeps _ _ _ _ _ _ c.requires.own.0 c.requires.read)
