@@ -37,6 +37,21 @@ pub record IsGiven (s now : State) (p : ℕ) (c : Call) (o : Option Fault) (seat
   pub none : o ≡ None
   pub found : seat ≡ slice_index_or s.seats p seat
 
+pub given_by : {s now : State} {p : ℕ} {c : Call} {o : Option Fault} {seat : WorldSeat} (places : List Bool)
+    (seen ahead : List ℕ) (room : List Bool) → with_places s places seen ahead room ≡ now
+    → o ≡ refusal c (seat_of now p) now.tickets now.heap → o ≡ None → seat ≡ slice_index_or s.seats p seat
+    → IsGiven s now p c o seat
+given_by places seen ahead room is asked none found = record {
+  places = places;
+  seen = seen;
+  ahead = ahead;
+  room = room;
+  is = is;
+  asked = asked;
+  none = none;
+  found = found;
+}
+
 module _ (s now : State) (p : ℕ) (c : Call) (o : Option Fault) (seat : WorldSeat) (h : IsGiven s now p c o seat) where
   not_refused : refusal c (seat_of s p) s.tickets s.heap ≡ None
   not_refused = ap (λ (z : State). refusal c (seat_of z p) z.tickets z.heap) h.is ∙ sym h.asked ∙ h.none

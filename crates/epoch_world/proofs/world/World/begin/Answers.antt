@@ -4,7 +4,8 @@ use Rattle.epoch_laws.specs.declared.step.Step.TheVariants.{Begin}
 use Rattle.epoch_laws.specs.declared.step.Reply.TheVariants.{Began}
 use Rattle.epoch_laws.specs.Run.{State, TakesStep, with_places}
 use Rattle.epoch_world.specs.Worlds.{state_of, ending_of, aheads}
-use Rattle.epoch_world.proofs.AcceptedCalls.{IsGiven, given_rests, given_quiet, given_away, given_aheads, given_moves}
+use Rattle.epoch_world.proofs.AcceptedCalls.{IsGiven, given_by, given_rests, given_quiet, given_away, given_aheads}
+use Rattle.epoch_world.proofs.AcceptedCalls.{given_moves}
 use Rattle.epoch_world.proofs.AcceptedCalls.{refused_takes}
 use Rattle.epoch_world.proofs.CollectionSteps.{claims_quiet}
 use Rattle.epoch_world.proofs.RoomSteps.{reserves_quiet}
@@ -23,16 +24,7 @@ begin-requires g c =
     (g.S.BagStore.queued c.self.inside.store) c.self.inside.tickets
     (ending_of c.self.inside.end c.self.inside.hand.jobs c.self.inside.count) c.self.inside.heap in
     let given : IsGiven old c.args.self.now c.args.position c.args.call c.refusal.result c.index_mut.result.now =
-    record {
-      places = _;
-      seen = _;
-      ahead = _;
-      room = _;
-      is = c.self.view_is;
-      asked = c.refusal.ensures;
-      none = c.in_default.is;
-      found = c.index_mut.ensures.value;
-    } in
+    given_by _ _ _ _ c.self.view_is c.refusal.ensures c.in_default.is c.index_mut.ensures.value in
     given_rests _ _ _ _ _ _ given c.self.invariant.kept
 
 pub invariant_of-self : goal.invariant_of-self
@@ -42,16 +34,7 @@ invariant_of-self g c =
     (g.S.BagStore.queued c.self.inside.store) c.self.inside.tickets
     (ending_of c.self.inside.end c.self.inside.hand.jobs c.self.inside.count) c.self.inside.heap in
     let given : IsGiven old c.args.self.now c.args.position c.args.call c.refusal.result c.index_mut.result.now =
-    record {
-      places = _;
-      seen = _;
-      ahead = _;
-      room = _;
-      is = c.self.view_is;
-      asked = c.refusal.ensures;
-      none = c.in_default.is;
-      found = c.index_mut.ensures.value;
-    } in
+    given_by _ _ _ _ c.self.view_is c.refusal.ensures c.in_default.is c.index_mut.ensures.value in
     let same = sym (length-set c.self.inside.seats.items c.args.position c.begin.new.self) in
     record {
       sized = c.self.invariant.sized;
@@ -79,16 +62,7 @@ returns g c =
     (g.S.BagStore.queued c.self.inside.store) c.self.inside.tickets
     (ending_of c.self.inside.end c.self.inside.hand.jobs c.self.inside.count) c.self.inside.heap in
     let given : IsGiven old c.args.self.now c.args.position c.args.call c.refusal.result c.index_mut.result.now =
-    record {
-      places = _;
-      seen = _;
-      ahead = _;
-      room = _;
-      is = c.self.view_is;
-      asked = c.refusal.ensures;
-      none = c.in_default.is;
-      found = c.index_mut.ensures.value;
-    } in
+    given_by _ _ _ _ c.self.view_is c.refusal.ensures c.in_default.is c.index_mut.ensures.value in
     let seen : List ℕ = map g.S.BagStore.passed c.self.inside.putting.items in
     let room : List Bool =
     map (λ cursor. g.S.BagStore.has_room c.self.inside.store cursor) c.self.inside.putting.items in
