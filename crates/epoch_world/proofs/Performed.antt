@@ -15,9 +15,10 @@ use Rattle.epoch_laws.specs.declared.step.Step.TheVariants.{Begin, Go}
 use Rattle.epoch_laws.specs.declared.step.Word.TheVariants.{Free}
 use Rattle.epoch_laws.specs.declared.step.Progress.{Progress}
 use Rattle.epoch_laws.specs.declared.step.Progress.TheVariants.{Idle, Driven, CallsNow, Ends, Accesses}
-use Rattle.epoch_laws.specs.Run.{WorldSeat, State, seat_of, position_word, with_seat, word_number, free_seat}
+use Rattle.epoch_laws.specs.Run.{Bag, WorldSeat, State, seat_of, position_word, with_seat, word_number, free_seat}
 use Rattle.epoch_laws.specs.Run.{begun_seat, refusal, BeginsCall, PerformsAsk, DrivesCall, DoesGo, Moves, is_driven}
-use Rattle.epoch_world.specs.Seats.{Shared, shared, SeatPerforms}
+use Rattle.epoch_world.specs.declared.world.common.Common.{Common}
+use Rattle.epoch_world.specs.Seats.{SeatPerforms}
 use Rattle.epoch_laws.specs.Kept.{AllLinked}
 
 -- the participant at a position has a call under way, and its machine asks for this
@@ -49,17 +50,21 @@ pub found_there : (seats : List WorldSeat) (sizes : Sizes) (p : ℕ) (seat : Wor
     → p < length seats → seat ≡ slice_index_or seats p seat → seat ≡ slice_index_or seats p (free_seat sizes)
 found_there seats sizes p seat lt is = is ∙ same_within seats p seat (free_seat sizes) lt
 
-module _ (old new : State) (p word : ℕ) (seat after : WorldSeat) (reply : Reply) (h : Shared) (e : new
-    ≡ record (with_seat old p after) { epoch = h.epoch; queued = h.queued; tickets = h.tickets; heap = h.heap }) where
-  made : (seat' : WorldSeat) (h' : Shared) → after ≡ seat' → h ≡ h' → new
-      ≡ record (with_seat old p seat') { epoch = h'.epoch; queued = h'.queued; tickets = h'.tickets; heap = h'.heap }
-  made seat' h' a b = e ∙ ap₂ (λ (q : WorldSeat) (k : Shared).
-      record (with_seat old p q) { epoch = k.epoch; queued = k.queued; tickets = k.tickets; heap = k.heap }) a b
+-- what participants have in common in a state
+abbrev common_of : State → Common (List Bag)
+common_of s = record { epoch = s.epoch; store = s.queued; tickets = s.tickets; heap = s.heap }
+
+module _ (old new : State) (p word : ℕ) (seat after : WorldSeat) (reply : Reply) (h : Common (List Bag)) (e : new
+    ≡ record (with_seat old p after) { epoch = h.epoch; queued = h.store; tickets = h.tickets; heap = h.heap }) where
+  made : (seat' : WorldSeat) (h' : Common (List Bag)) → after ≡ seat' → h ≡ h' → new
+      ≡ record (with_seat old p seat') { epoch = h'.epoch; queued = h'.store; tickets = h'.tickets; heap = h'.heap }
+  made seat' h' a b = e ∙ ap₂ (λ (q : WorldSeat) (k : Common (List Bag)).
+      record (with_seat old p q) { epoch = k.epoch; queued = k.store; tickets = k.tickets; heap = k.heap }) a b
 
   pub performs_by : (ask : Ask)
       → seat.machine.sizes ≡ old.sizes → ((k : ℕ) → ask ≡ LoadWord k → word ≡ word_number (position_word old k))
       → SeatPerforms seat.machine.sizes p word
-      (shared old.epoch old.queued old.tickets old.heap) seat seat.machine.stage ask reply after h
+      (common_of old) seat seat.machine.stage ask reply after h
       → PerformsAsk old p seat seat.machine.stage ask reply new
   performs_by LoadEpoch sizes found did = (did.0, made _ _ did.1 did.2)
   performs_by (LoadWord k) sizes found did = (
@@ -72,8 +77,8 @@ module _ (old new : State) (p word : ℕ) (seat after : WorldSeat) (reply : Repl
   performs_by StoreUnpinned sizes found did = (did.0, made _ _ did.1 did.2)
   performs_by StoreFree sizes found did = (did.0, made _ _ (did.1 ∙ ap free_seat sizes) did.2)
   performs_by (StoreEpoch n) sizes found did = (did.0, made _ _ did.1 did.2)
-  performs_by (PutBag seal) sizes found did = (did.0, h.queued, did.1, did.2, made _ _ did.3 did.4)
-  performs_by (TakeBag x) sizes found did = (did.0, after.machine.hand, h.queued, did.1, did.2, made _ _ did.3 did.4)
+  performs_by (PutBag seal) sizes found did = (did.0, h.store, did.1, did.2, made _ _ did.3 did.4)
+  performs_by (TakeBag x) sizes found did = (did.0, after.machine.hand, h.store, did.1, did.2, made _ _ did.3 did.4)
   performs_by KeepJob sizes found did = (did.0, made _ _ did.1 did.2)
   performs_by CallJob sizes found did = (did.0, did.1, did.2, did.3, made _ _ did.4 did.5)
 
@@ -125,13 +130,14 @@ perform_moves old new p seat reply ask is driven did =
     ∙ driven.under_way) (ap (λ (q : WorldSeat). asks q.machine) is ∙ driven.asked) did)
 
 -- a step Go that performs an ask, but for the places, from the participant's part of it
-pub performed : (old now new : State) (p word : ℕ) (seat after : WorldSeat) (reply : Reply) (ask : Ask) (h : Shared)
+pub performed : (old now new : State) (p word : ℕ) (seat after : WorldSeat) (reply : Reply) (ask : Ask)
+    (h : Common (List Bag))
     → old ≡ now → AllLinked old
     → seat ≡ seat_of old p → IsDrivenAt now p ask
     → ((k : ℕ) → ask ≡ LoadWord k → word ≡ word_number (position_word now k))
     → SeatPerforms seat.machine.sizes p word
-    (shared old.epoch old.queued old.tickets old.heap) seat seat.machine.stage ask reply after h
-    → new ≡ record (with_seat old p after) { epoch = h.epoch; queued = h.queued; tickets = h.tickets; heap = h.heap }
+    (common_of old) seat seat.machine.stage ask reply after h
+    → new ≡ record (with_seat old p after) { epoch = h.epoch; queued = h.store; tickets = h.tickets; heap = h.heap }
     → Moves old (Go p) reply new
 performed old now new p word seat after reply ask h is linked there driven found did e =
     perform_moves old new p seat reply ask there (subst (λ (s : State). IsDrivenAt s p ask) (sym is) driven)

@@ -25,6 +25,7 @@ use Rattle.epoch_laws.specs.declared.step.Progress.{Progress}
 use Rattle.epoch_laws.specs.declared.step.Progress.TheVariants.{Idle, Driven}
 use Rattle.epoch_laws.specs.Run.{Bag, WorldSeat, State, Emptying, seat_of, refusal, Moves, IsFresh}
 use Rattle.epoch_world.specs.Seats.{adds_guard}
+use Rattle.epoch_world.specs.declared.world.common.Common.{Common}
 use Rattle.epoch_world.specs.Worlds.{state_of, ending_of, IsEmptying}
 use Rattle.epoch_laws.specs.Kept.{IsDriven, rests, BeganUnder, Awake, HasGuardRoom, IsSound, paused_count, jobs_at_end}
 use Rattle.epoch_laws.proofs.SeatLemmas.{begin_given}
@@ -75,24 +76,21 @@ fresh_kept s fresh few cells = record {
 }
 
 -- an end calls the next job of the bag that it has taken
-pub called_kept : (sizes : Sizes) (epoch : ℕ) (seats : List WorldSeat) (queued : List Bag) (tickets : ℕ)
-    (stage : EndStage) (hand left : List Deferral)
-    (n : ℕ) (before after : Heap) (job : Deferral)
-    → IsSound (state_of sizes epoch seats queued tickets (ending_of stage hand n) before)
+pub called_kept : (sizes : Sizes) (common : Common (List Bag)) (seats : List WorldSeat)
+    (stage : EndStage) (hand left : List Deferral) (n : ℕ) (after : Heap) (job : Deferral)
+    → IsSound (state_of sizes common seats (ending_of stage hand n))
     → IsEmptying (ending_of stage hand n) → hand ≡ job ∷ left
-    → after ≡ heap_after_job before job.removes
-    → IsSound (state_of sizes epoch seats queued tickets (ending_of stage left (n + 1)) after)
-called_kept sizes epoch seats queued tickets EmptyingStage hand left n before after job h emptying is called =
-    let old : State = state_of sizes epoch seats queued tickets (Emptying (job ∷ left) n) before in
-    let kept : IsSound old = subst (λ (jobs : List Deferral).
-    IsSound (state_of sizes epoch seats queued tickets (Emptying jobs n) before)) is h in
-    subst (λ (heap : Heap). IsSound (state_of sizes epoch seats queued tickets (Emptying left (n + 1)) heap))
+    → after ≡ heap_after_job common.heap job.removes
+    → IsSound (state_of sizes (record common { heap = after }) seats (ending_of stage left (n + 1)))
+called_kept sizes common seats EmptyingStage hand left n after job h emptying is called =
+    let old : State = state_of sizes common seats (Emptying (job ∷ left) n) in
+    let kept : IsSound old =
+    subst (λ (jobs : List Deferral). IsSound (state_of sizes common seats (Emptying jobs n))) is h in
+    subst (λ (heap : Heap). IsSound (state_of sizes (record common { heap = heap }) seats (Emptying left (n + 1))))
     (sym called)
-    (kept_moves old _ EndGo (Called job.ticket (outcome_of before job.removes)) kept refl (refl, refl))
-called_kept sizes epoch seats queued tickets OpenStage hand left n before after job h emptying is called =
-    absurd emptying
-called_kept sizes epoch seats queued tickets OverStage hand left n before after job h emptying is called =
-    absurd emptying
+    (kept_moves old _ EndGo (Called job.ticket (outcome_of common.heap job.removes)) kept refl (refl, refl))
+called_kept sizes common seats OpenStage hand left n after job h emptying is called = absurd emptying
+called_kept sizes common seats OverStage hand left n after job h emptying is called = absurd emptying
 
 -- where a call isn't refused, the machine rests
 pub rests_where_accepted : (s : State) (p : ℕ) (c : Call) (seat : WorldSeat)

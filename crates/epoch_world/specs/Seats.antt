@@ -1,4 +1,4 @@
--- One participant's part of a step: what its seat is after it, and what participants share.
+-- One participant's part of a step: what its seat is after it, and what participants have in common.
 use Rattle.std.specs.Prelude.{◌≡◌, ℕ, ◌+◌, ◌^◌, ◌<◌, List, ◌∷◌, Some, Bool, true, false, is_some, length}
 use Rattle.epoch_bags.specs.declared.queue.PutStep.{PutStep}
 use Rattle.epoch_bags.specs.declared.queue.TakeStep.{TakeStep}
@@ -18,6 +18,7 @@ use Rattle.epoch_laws.specs.declared.step.Reply.TheVariants.{Repinned, Deferred,
 use Rattle.epoch_laws.specs.declared.step.Deferral.{Deferral}
 use Rattle.epoch_laws.specs.declared.step.Word.{Word}
 use Rattle.epoch_laws.specs.declared.step.Word.TheVariants.{Unpinned, Pinned}
+use Rattle.epoch_world.specs.declared.world.common.Common.{Common}
 use Rattle.epoch_laws.specs.Run.{Bag, WorldSeat, free_seat, with_machine, with_word, removed_by}
 use Rattle.epoch_cells.specs.declared.cells.name.Name.{Name}
 use Rattle.epoch_heap.specs.declared.access.Access.{Access}
@@ -29,19 +30,10 @@ use Rattle.epoch_laws.specs.declared.step.Progress.{Progress}
 use Rattle.epoch_laws.specs.declared.step.Progress.TheVariants.{Accesses}
 use Rattle.epoch_heap.specs.Heap.{Heap, cell_at, outcome_of, heap_after_job, AccessFits}
 
--- what participants share, but for their words
-pub record Shared : Type 0 where
-  pub epoch : ℕ
-  pub queued : List Bag
-  pub tickets : ℕ
-  pub heap : Heap
-
-abbrev pub shared : ℕ → List Bag → ℕ → Heap → Shared
-shared epoch queued tickets heap = record { epoch = epoch; queued = queued; tickets = tickets; heap = heap }
-
--- What comes of one ask of the participant p: the reply, its seat and what is shared after it. The word is the one
--- that a scan looks at.
-abbrev pub SeatPerforms : Sizes → ℕ → ℕ → Shared → WorldSeat → Stage → Ask → Reply → WorldSeat → Shared → Type 0
+-- What comes of one ask of the participant p: the reply, its seat and what participants have in common after it. The
+-- word is the one that a scan looks at.
+abbrev pub SeatPerforms : Sizes → ℕ → ℕ → Common (List Bag) → WorldSeat → Stage → Ask → Reply → WorldSeat
+    → Common (List Bag) → Type 0
 SeatPerforms sizes p word old seat s LoadEpoch reply after new =
     (reply ≡ Stepped) × (after ≡ with_machine seat (hears seat.machine s (Epoch old.epoch))) × (new ≡ old)
 SeatPerforms sizes p word old seat s (LoadWord k) reply after new =
@@ -57,12 +49,12 @@ SeatPerforms sizes p word old seat s StoreFree reply after new =
 SeatPerforms sizes p word old seat s (StoreEpoch e) reply after new =
     (reply ≡ Stepped) × (after ≡ with_machine seat (hears seat.machine s Stored)) × (new ≡ record old { epoch = e })
 SeatPerforms sizes p word old seat s (PutBag seal) reply after new =
-    (step : PutStep) × (reply ≡ Stepped) × PutsHeld seal seat.machine old.queued step new.queued
-    × (after ≡ with_machine seat (put_heard seat.machine step)) × (new ≡ record old { queued = new.queued })
+    (step : PutStep) × (reply ≡ Stepped) × PutsHeld seal seat.machine old.store step new.store
+    × (after ≡ with_machine seat (put_heard seat.machine step)) × (new ≡ record old { store = new.store })
 SeatPerforms sizes p word old seat s (TakeBag x) reply after new =
-    (step : TakeStep) × (reply ≡ Stepped) × TakesHand x old.queued step new.queued after.machine.hand
+    (step : TakeStep) × (reply ≡ Stepped) × TakesHand x old.store step new.store after.machine.hand
     × (after ≡ with_machine seat (took_heard seat.machine s step after.machine.hand))
-    × (new ≡ record old { queued = new.queued })
+    × (new ≡ record old { store = new.store })
 SeatPerforms sizes p word old seat s KeepJob reply after new =
     (reply ≡ Deferred old.tickets) × (after ≡ with_machine seat
     (hears seat.machine s (Job (record { ticket = old.tickets; removes = removed_by seat.progress }))))

@@ -4,13 +4,13 @@ use Rattle.epoch_machine.specs.Machine.{is_taking}
 use Rattle.epoch_machine.specs.declared.machine.Sizes.{Sizes}
 use Rattle.epoch_machine.specs.declared.machine.Stage.{Stage}
 use Rattle.epoch_laws.specs.declared.step.Deferral.{Deferral}
+use Rattle.epoch_world.specs.declared.world.common.Common.{Common}
 use Rattle.epoch_world.specs.declared.world.EndStage.{EndStage}
 use Rattle.epoch_world.specs.declared.world.EndStage.TheVariants.{Open as OpenStage, Emptying as EmptyingStage}
 use Rattle.epoch_world.specs.declared.world.EndStage.TheVariants.{Over as OverStage}
 use Rattle.epoch_laws.specs.Run.{Bag, WorldSeat, State, Ending, Open, Emptying, Over, free_seat}
 use Rattle.epoch_laws.specs.Collections.{expiry_of}
 use Rattle.epoch_laws.specs.Room.{is_putting}
-use Rattle.epoch_heap.specs.Heap.{Heap}
 
 -- how far the end is; the jobs are those left of the bag taken, and so many were called
 abbrev pub ending_of : EndStage → List Deferral → ℕ → Ending
@@ -18,20 +18,29 @@ ending_of OpenStage hand count = Open
 ending_of EmptyingStage hand count = Emptying hand count
 ending_of OverStage hand count = Over
 
+-- what participants have in common, where the store is seen as its bags
+abbrev pub with_bags : {S : Type 0} → (S → List Bag) → Common S → Common (List Bag)
+with_bags queued common = record {
+  epoch = common.epoch;
+  store = queued common.store;
+  tickets = common.tickets;
+  heap = common.heap;
+}
+
 -- the state of a world of these parts, but for the places of the store
-abbrev pub state_of : Sizes → ℕ → List WorldSeat → List Bag → ℕ → Ending → Heap → State
-state_of sizes epoch seats queued tickets ending heap = record {
+abbrev pub state_of : Sizes → Common (List Bag) → List WorldSeat → Ending → State
+state_of sizes common seats ending = record {
   sizes = sizes;
-  epoch = epoch;
+  epoch = common.epoch;
   seats = seats;
-  queued = queued;
-  tickets = tickets;
+  queued = common.store;
+  tickets = common.tickets;
   ending = ending;
   places = [];
   seen = [];
   ahead = [];
   room = [];
-  heap = heap;
+  heap = common.heap;
 }
 
 -- the participant at a position

@@ -25,12 +25,14 @@ ghost use Rattle.epoch_reach.specs.Removals.{CallsWhatWasDeferred};
 ghost use Rattle.epoch_reach.specs.Standing.{StandsOrDestroyed, given_of, LoadedStand};
 
 mod calls;
+mod common;
 mod guards;
 mod places;
 mod readings;
 mod seat;
 
 use calls::{go_on, go_to_end, most_steps};
+use common::Common;
 use epoch_bags::{Bag, BagStore, Epoch, Places, SealedBag};
 use epoch_cells::Fault;
 use epoch_heap::{Answer, Heap};
@@ -53,41 +55,39 @@ enum EndStage {
 pub struct World<S: BagStore<Job = Deferral> = Places<Deferral>> {
     alloc: Global,
     sizes: Sizes,
-    epoch: u64,
     seats: Vec<Seat>,
+    common: Common<S>,
     putting: Vec<S::Putting>,
     taking: Vec<S::Taking>,
-    store: S,
-    tickets: u64,
     end: EndStage,
     hand: SealedBag<Deferral>,
     count: u64,
-    heap: Heap,
 }
 
 impl<S: BagStore<Job = Deferral>> Model for World<S> {
     ghost use Rattle.std.specs.Prelude.{◌≡◌, ◌^◌, ◌<◌, ◌≤◌, length, map};
     ghost use Rattle.epoch_machine.specs.Machine.{IsSized};
     ghost use Rattle.epoch_laws.specs.Run.{State, with_places};
-    ghost use Rattle.epoch_world.specs.Worlds.{state_of, ending_of, aheads, ClaimsKnown, ReservesKnown};
+    ghost use Rattle.epoch_world.specs.Worlds.{state_of, with_bags, ending_of, aheads, ClaimsKnown};
+    ghost use Rattle.epoch_world.specs.Worlds.{ReservesKnown};
     ghost use Rattle.epoch_laws.specs.Kept.{IsSound};
 
     ghost Value = { State };
 
-    ghost view = { λ a. with_places (state_of a.sizes a.epoch a.seats.items (S.queued a.store) a.tickets
-        (ending_of a.end a.hand.jobs a.count) a.heap) (S.occupied a.store) (map S.passed a.putting.items)
-        (aheads (λ x cursor. S.ahead x a.store cursor) a.seats.items a.taking.items)
-        (map (λ cursor. S.has_room a.store cursor) a.putting.items) };
+    ghost view = { λ a. with_places (state_of a.sizes (with_bags S.queued a.common) a.seats.items
+        (ending_of a.end a.hand.jobs a.count)) (S.occupied a.common.store) (map S.passed a.putting.items)
+        (aheads (λ x cursor. S.ahead x a.common.store cursor) a.seats.items a.taking.items)
+        (map (λ cursor. S.has_room a.common.store cursor) a.putting.items) };
 
     ghost invariant = { λ a. record {
       sized : IsSized a.sizes;
-      epoch : a.epoch < 2 ^ 63;
+      epoch : a.common.epoch < 2 ^ 63;
       putting : length a.putting.items ≡ length a.seats.items;
       taking : length a.taking.items ≡ length a.seats.items;
-      kept : IsSound (state_of a.sizes a.epoch a.seats.items (S.queued a.store) a.tickets
-          (ending_of a.end a.hand.jobs a.count) a.heap);
-      claimed : ClaimsKnown (S.Claimed a.store) S.Claims a.sizes a.seats.items a.taking.items;
-      reserved : ReservesKnown (S.Reserved a.store) S.Reserves S.Claims a.sizes a.seats.items
+      kept : IsSound (state_of a.sizes (with_bags S.queued a.common) a.seats.items
+          (ending_of a.end a.hand.jobs a.count));
+      claimed : ClaimsKnown (S.Claimed a.common.store) S.Claims a.sizes a.seats.items a.taking.items;
+      reserved : ReservesKnown (S.Reserved a.common.store) S.Reserves S.Claims a.sizes a.seats.items
           a.putting.items a.taking.items;
     } };
 }
@@ -131,16 +131,18 @@ impl<S: BagStore<Job = Deferral>> World<S> {
         Ok(World {
             alloc,
             sizes,
-            epoch: shape.start_epoch,
             seats,
+            common: Common {
+                epoch: shape.start_epoch,
+                store,
+                tickets: 0,
+                heap,
+            },
             putting,
             taking,
-            store,
-            tickets: 0,
             end: EndStage::Open,
             hand: Bag::new().seal(Epoch::starting()),
             count: 0,
-            heap,
         })
     }
 
@@ -267,7 +269,11 @@ impl<S: BagStore<Job = Deferral>> World<S> {
         ensures err { OnErr result (self.new ≡ self.old) }
         ensures no_memory { IfErr result (λ fault. fault ≡ NoMemory) }
     {
-        let steps = most_steps(self.sizes, self.store.capacity(), self.heap.slots());
+        let steps = most_steps(
+            self.sizes,
+            self.common.store.capacity(),
+            self.common.heap.slots(),
+        );
         let mut replies = with_room(self.alloc, steps + 1)?;
         if let Some(fault) = self.refusal(participant, call) {
             replies.push_reserved(Reply::Refused(fault));
@@ -280,11 +286,8 @@ impl<S: BagStore<Job = Deferral>> World<S> {
             index,
             self.sizes,
             steps,
-            &mut self.epoch,
             &mut self.seats,
-            &mut self.store,
-            &mut self.tickets,
-            &mut self.heap,
+            &mut self.common,
             &mut self.putting[index],
             &mut self.taking[index],
             &mut replies,
@@ -309,7 +312,7 @@ impl<S: BagStore<Job = Deferral>> World<S> {
     pub fn epoch(&self) -> u64
         ensures { result ≡ self.now.epoch }
     {
-        self.epoch
+        self.common.epoch
     }
 
     /// The word of the participant at a position, or `None` past the table. It is no step.
@@ -353,7 +356,7 @@ impl<S: BagStore<Job = Deferral>> World<S> {
         ensures { result ≡ refusal call (seat_of self.now position) self.now.tickets self.now.heap }
     {
         match self.seats.get(position as usize) {
-            Some(seat) => seat.refusal(call, self.tickets, &self.heap),
+            Some(seat) => seat.refusal(call, self.common.tickets, &self.common.heap),
             None => Some(Fault::NotRegistered),
         }
     }
@@ -378,11 +381,8 @@ impl<S: BagStore<Job = Deferral>> World<S> {
         go_on(
             index,
             self.sizes,
-            &mut self.epoch,
             &mut self.seats,
-            &mut self.store,
-            &mut self.tickets,
-            &mut self.heap,
+            &mut self.common,
             &mut self.putting[index],
             &mut self.taking[index],
         )
@@ -419,9 +419,9 @@ impl<S: BagStore<Job = Deferral>> World<S> {
     {
         if let Some(job) = self.hand.take_next() {
             self.count += 1;
-            return Reply::Called(job.ticket, self.heap.call_job(job.removes));
+            return Reply::Called(job.ticket, self.common.heap.call_job(job.removes));
         }
-        match self.store.take_any() {
+        match self.common.store.take_any() {
             Some(bag) => {
                 self.hand = bag;
                 Reply::Stepped

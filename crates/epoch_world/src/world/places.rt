@@ -12,6 +12,6 @@ impl World<Places<Deferral>> {
         ensures { MatchOption result (length self.now.places ≤ place)
             (λ word. slice_get self.now.places place ≡ Some (not (word == 0))) }
     {
-        self.store.word(place as usize)
+        self.common.store.word(place as usize)
     }
 }

@@ -5,9 +5,10 @@ ghost use Rattle.epoch_machine.specs.Machine.{asks, AskFits, heard, guards_after
 ghost use Rattle.epoch_laws.specs.Run.{free_seat, with_machine, with_word, begun_seat, drives, ended_seat, end_reply};
 ghost use Rattle.epoch_laws.specs.Run.{removed_by, accessed_seat, access_reply};
 ghost use Rattle.epoch_machine.specs.declared.machine.Stage.TheVariants.{Idle, End};
-ghost use Rattle.epoch_world.specs.Seats.{shared, SeatPerforms, WordFits, adds_guard, CanRead};
+ghost use Rattle.epoch_world.specs.Seats.{SeatPerforms, WordFits, adds_guard, CanRead};
 ghost use Rattle.epoch_cells.specs.declared.fault.Fault.TheVariants.{NoMemory};
 ghost use Rattle.epoch_heap.specs.Heap.{has_steps, Touched, Touches, outcome_of, heap_after_job};
+ghost use Rattle.epoch_world.specs.Worlds.{with_bags};
 ghost use Rattle.epoch_world.specs.Steps.{steps_in_store, machine_steps};
 ghost use Rattle.epoch_laws.specs.Places.{occupancy, SeesOccupied};
 ghost use Rattle.epoch_laws.specs.Collections.{outlook, expiry_of, FindsAhead, MayClaim};
@@ -15,6 +16,7 @@ ghost use Rattle.epoch_laws.specs.Room.{TellsRoom, MayReserve};
 
 mod refusals;
 
+use crate::world::common::Common;
 use crate::world::guards::{lowest, without};
 use crate::world::readings::keep_readings;
 use arrayvec::ArrayVec;
@@ -131,48 +133,48 @@ impl Seat {
         ask: Ask,
         position: u64,
         word: u64,
-        epoch: &mut u64,
-        store: &mut S,
-        tickets: &mut u64,
-        heap: &mut Heap,
+        common: &mut Common<S>,
         putting: &mut S::Putting,
         taking: &mut S::Taking,
     ) -> Reply
         requires asked { asks self.old.machine ≡ Some ask }
         requires within { AskFits self.old.machine.sizes ask }
-        requires epoch { epoch.old < 2 ^ 63 }
-        requires tickets { ask ≡ Ask.KeepJob → tickets.old + 1 < 2 ^ 64 }
-        ensures within { epoch.new < 2 ^ 63 }
+        requires epoch { common.old.epoch < 2 ^ 63 }
+        requires tickets { ask ≡ Ask.KeepJob → common.old.tickets + 1 < 2 ^ 64 }
+        ensures within { common.new.epoch < 2 ^ 63 }
         ensures step { SeatPerforms self.old.machine.sizes position word
-            (shared epoch.old (S.queued store.old) tickets.old heap.old) self.old self.old.machine.stage ask result
-            self.new (shared epoch.new (S.queued store.new) tickets.new heap.new) }
-        ensures looks { SeesOccupied (Some ask) self.old.machine self.new.machine (occupancy (S.occupied store.old)
-            (S.passed putting.old)) (occupancy (S.occupied store.new) (S.passed putting.new)) }
-        ensures finds { FindsAhead ((place : ℕ) → ¬ (S.Claimed store.old place)) (Some ask) self.new.machine
-            (outlook (S.queued store.old) (S.ahead (expiry_of self.old.machine.stage) store.old taking.old))
-            (outlook (S.queued store.new) (S.ahead (expiry_of self.new.machine.stage) store.new taking.new)) }
-        ensures room { TellsRoom (((place : ℕ) → ¬ (S.Reserved store.old place))
-            × (length (S.queued store.old) < length (S.occupied store.old))) (Some ask) self.new.machine
-            (S.has_room store.old putting.old) (S.has_room store.new putting.new) }
-        ensures claims { MayClaim ask self.new.machine.stage (S.Claimed store.old) (S.Claims taking.old)
-            (S.Claimed store.new) (S.Claims taking.new) }
-        ensures reserves { MayReserve ask self.new.machine.stage (S.Reserved store.old) (S.Reserves putting.old)
-            (S.Claims taking.old) (S.Reserved store.new) (S.Reserves putting.new) (S.Claims taking.new) }
+            (with_bags S.queued common.old) self.old self.old.machine.stage ask result
+            self.new (with_bags S.queued common.new) }
+        ensures looks { SeesOccupied (Some ask) self.old.machine self.new.machine
+            (occupancy (S.occupied common.old.store)
+            (S.passed putting.old)) (occupancy (S.occupied common.new.store) (S.passed putting.new)) }
+        ensures finds { FindsAhead ((place : ℕ) → ¬ (S.Claimed common.old.store place)) (Some ask) self.new.machine
+            (outlook (S.queued common.old.store)
+            (S.ahead (expiry_of self.old.machine.stage) common.old.store taking.old))
+            (outlook (S.queued common.new.store)
+            (S.ahead (expiry_of self.new.machine.stage) common.new.store taking.new)) }
+        ensures room { TellsRoom (((place : ℕ) → ¬ (S.Reserved common.old.store place))
+            × (length (S.queued common.old.store) < length (S.occupied common.old.store))) (Some ask) self.new.machine
+            (S.has_room common.old.store putting.old) (S.has_room common.new.store putting.new) }
+        ensures claims { MayClaim ask self.new.machine.stage (S.Claimed common.old.store) (S.Claims taking.old)
+            (S.Claimed common.new.store) (S.Claims taking.new) }
+        ensures reserves { MayReserve ask self.new.machine.stage (S.Reserved common.old.store) (S.Reserves putting.old)
+            (S.Claims taking.old) (S.Reserved common.new.store) (S.Reserves putting.new) (S.Claims taking.new) }
 
         // The call has fewer steps left.
         ensures fewer { machine_steps self.new.machine (steps_in_store S.puts_left S.takes_left
-            (S.capacity store.old) putting.new taking.new) < machine_steps self.old.machine
-            (steps_in_store S.puts_left S.takes_left (S.capacity store.old) putting.old taking.old) }
-        ensures capacity { S.capacity store.new ≡ S.capacity store.old }
+            (S.capacity common.old.store) putting.new taking.new) < machine_steps self.old.machine
+            (steps_in_store S.puts_left S.takes_left (S.capacity common.old.store) putting.old taking.old) }
+        ensures capacity { S.capacity common.new.store ≡ S.capacity common.old.store }
     {
         match ask {
             Ask::LoadEpoch => {
-                *putting = begin_put(store);
-                self.machine.take(Found::Epoch(*epoch));
+                *putting = begin_put(&common.store);
+                self.machine.take(Found::Epoch(common.epoch));
                 Reply::Stepped
             }
             Ask::LoadWord(_) => {
-                *taking = store.start_take();
+                *taking = common.store.start_take();
                 self.machine.take(Found::Word(word));
                 Reply::Stepped
             }
@@ -193,21 +195,21 @@ impl Seat {
                 Reply::Done(Answer::Released)
             }
             Ask::StoreEpoch(number) => {
-                *taking = store.start_take();
-                self.advance(number, epoch);
+                *taking = common.store.start_take();
+                self.advance(number, &mut common.epoch);
                 Reply::Stepped
             }
             Ask::PutBag(_) => {
-                self.machine.put_step(store, putting);
+                self.machine.put_step(&mut common.store, putting);
                 Reply::Stepped
             }
             Ask::TakeBag(_) => {
-                self.machine.take_step(store, taking);
+                self.machine.take_step(&mut common.store, taking);
                 Reply::Stepped
             }
-            Ask::KeepJob => Reply::Deferred(self.keep_job(tickets)),
+            Ask::KeepJob => Reply::Deferred(self.keep_job(&mut common.tickets)),
             Ask::CallJob => match self.machine.give() {
-                Some(job) => Reply::Called(job.ticket, heap.call_job(job.removes)),
+                Some(job) => Reply::Called(job.ticket, common.heap.call_job(job.removes)),
                 None => unreachable!(),
             },
         }

@@ -3,7 +3,7 @@ use Rattle.std.proofs.lemmas.List.{length-set}
 use Rattle.epoch_laws.specs.declared.step.Step.TheVariants.{Begin}
 use Rattle.epoch_laws.specs.declared.step.Reply.TheVariants.{Began}
 use Rattle.epoch_laws.specs.Run.{State, TakesStep, with_places}
-use Rattle.epoch_world.specs.Worlds.{state_of, ending_of, aheads}
+use Rattle.epoch_world.specs.Worlds.{state_of, with_bags, ending_of, aheads}
 use Rattle.epoch_world.proofs.AcceptedCalls.{IsGiven, given_by, given_rests, given_quiet, given_away, given_aheads}
 use Rattle.epoch_world.proofs.AcceptedCalls.{given_moves}
 use Rattle.epoch_world.proofs.AcceptedCalls.{refused_takes}
@@ -20,9 +20,8 @@ returns-in-Some g c =
 pub begin-requires : goal.begin-requires
 begin-requires g c =
     let old : State =
-    state_of c.self.inside.sizes c.self.inside.epoch c.self.inside.seats.items
-    (g.S.BagStore.queued c.self.inside.store) c.self.inside.tickets
-    (ending_of c.self.inside.end c.self.inside.hand.jobs c.self.inside.count) c.self.inside.heap in
+    state_of c.self.inside.sizes (with_bags g.S.BagStore.queued c.self.inside.common) c.self.inside.seats.items
+    (ending_of c.self.inside.end c.self.inside.hand.jobs c.self.inside.count) in
     let given : IsGiven old c.args.self.now c.args.position c.args.call c.refusal.result c.index_mut.result.now =
     given_by _ _ _ _ c.self.view_is c.refusal.ensures c.in_default.is c.index_mut.ensures.value in
     given_rests _ _ _ _ _ _ given c.self.invariant.kept
@@ -30,9 +29,8 @@ begin-requires g c =
 pub invariant_of-self : goal.invariant_of-self
 invariant_of-self g c =
     let old : State =
-    state_of c.self.inside.sizes c.self.inside.epoch c.self.inside.seats.items
-    (g.S.BagStore.queued c.self.inside.store) c.self.inside.tickets
-    (ending_of c.self.inside.end c.self.inside.hand.jobs c.self.inside.count) c.self.inside.heap in
+    state_of c.self.inside.sizes (with_bags g.S.BagStore.queued c.self.inside.common) c.self.inside.seats.items
+    (ending_of c.self.inside.end c.self.inside.hand.jobs c.self.inside.count) in
     let given : IsGiven old c.args.self.now c.args.position c.args.call c.refusal.result c.index_mut.result.now =
     given_by _ _ _ _ c.self.view_is c.refusal.ensures c.in_default.is c.index_mut.ensures.value in
     let same = sym (length-set c.self.inside.seats.items c.args.position c.begin.new.self) in
@@ -58,27 +56,27 @@ invariant_of-self g c =
 pub returns : goal.returns
 returns g c =
     let old : State =
-    state_of c.self.inside.sizes c.self.inside.epoch c.self.inside.seats.items
-    (g.S.BagStore.queued c.self.inside.store) c.self.inside.tickets
-    (ending_of c.self.inside.end c.self.inside.hand.jobs c.self.inside.count) c.self.inside.heap in
+    state_of c.self.inside.sizes (with_bags g.S.BagStore.queued c.self.inside.common) c.self.inside.seats.items
+    (ending_of c.self.inside.end c.self.inside.hand.jobs c.self.inside.count) in
     let given : IsGiven old c.args.self.now c.args.position c.args.call c.refusal.result c.index_mut.result.now =
     given_by _ _ _ _ c.self.view_is c.refusal.ensures c.in_default.is c.index_mut.ensures.value in
     let seen : List ℕ = map g.S.BagStore.passed c.self.inside.putting.items in
     let room : List Bool =
-    map (λ cursor. g.S.BagStore.has_room c.self.inside.store cursor) c.self.inside.putting.items in
+    map (λ cursor. g.S.BagStore.has_room c.self.inside.common.store cursor) c.self.inside.putting.items in
     let all = slice_set c.self.inside.seats.items c.args.position c.begin.new.self in
-    let was : List ℕ = aheads (λ x cursor. g.S.BagStore.ahead x c.self.inside.store cursor) c.self.inside.seats.items
+    let was : List ℕ = aheads (λ x cursor. g.S.BagStore.ahead x c.self.inside.common.store cursor)
+    c.self.inside.seats.items
     c.self.inside.taking.items in
     let is : List ℕ =
-    aheads (λ x cursor. g.S.BagStore.ahead x c.self.inside.store cursor) all c.self.inside.taking.items in
+    aheads (λ x cursor. g.S.BagStore.ahead x c.self.inside.common.store cursor) all c.self.inside.taking.items in
     subst (λ (s : State). TakesStep s (Begin c.args.position c.args.call) Began (with_places
-    (record old { seats = all }) (g.S.BagStore.occupied c.self.inside.store) seen is room)) c.self.view_is (
+    (record old { seats = all }) (g.S.BagStore.occupied c.self.inside.common.store) seen is room)) c.self.view_is (
       given_moves _ _ _ _ _ _ given c.begin.new.self
-          (g.S.BagStore.occupied c.self.inside.store) seen was room c.begin.ensures,
+          (g.S.BagStore.occupied c.self.inside.common.store) seen was room c.begin.ensures,
       (
         refl,
         refl,
-        given_aheads _ _ _ _ _ _ given (λ x cursor. g.S.BagStore.ahead x c.self.inside.store cursor)
+        given_aheads _ _ _ _ _ _ given (λ x cursor. g.S.BagStore.ahead x c.self.inside.common.store cursor)
             c.self.inside.taking.items c.begin.new.self c.self.invariant.kept c.begin.ensures,
         refl,
       ),

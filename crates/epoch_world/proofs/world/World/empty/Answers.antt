@@ -1,15 +1,14 @@
 use Rattle.std.proofs.Common.{sym, subst, refl, arith}
 use Rattle.epoch_laws.specs.Run.{State}
-use Rattle.epoch_world.specs.Worlds.{state_of, ending_of, IsEmptying}
+use Rattle.epoch_world.specs.Worlds.{state_of, with_bags, ending_of, IsEmptying}
 use Rattle.epoch_world.proofs.WorldKept.{one_more_counts, called_kept}
 use Rattle.epoch_world.proofs.world.World.empty.Goals as goal
 
 pub overflow_add-self : goal.overflow_add-self
 overflow_add-self g c =
     let old : State =
-    state_of c.self.inside.sizes c.self.inside.epoch c.self.inside.seats.items
-    (g.S.BagStore.queued c.self.inside.store) c.self.inside.tickets
-    (ending_of c.self.inside.end c.self.inside.hand.jobs c.self.inside.count) c.self.inside.heap in
+    state_of c.self.inside.sizes (with_bags g.S.BagStore.queued c.self.inside.common) c.self.inside.seats.items
+    (ending_of c.self.inside.end c.self.inside.hand.jobs c.self.inside.count) in
     let emptying : IsEmptying old.ending = subst (λ (s : State). IsEmptying s.ending) (sym c.self.view_is) c.requires in
     omega (
       arith,
@@ -20,20 +19,19 @@ overflow_add-self g c =
 pub invariant_of-self : goal.invariant_of-self
 invariant_of-self g c =
     let old : State =
-    state_of c.self.inside.sizes c.self.inside.epoch c.self.inside.seats.items
-    (g.S.BagStore.queued c.self.inside.store) c.self.inside.tickets
-    (ending_of c.self.inside.end c.self.inside.hand.jobs c.self.inside.count) c.self.inside.heap in
+    state_of c.self.inside.sizes (with_bags g.S.BagStore.queued c.self.inside.common) c.self.inside.seats.items
+    (ending_of c.self.inside.end c.self.inside.hand.jobs c.self.inside.count) in
     let emptying : IsEmptying old.ending = subst (λ (s : State). IsEmptying s.ending) (sym c.self.view_is) c.requires in
     record {
       sized = c.self.invariant.sized;
       epoch = c.self.invariant.epoch;
       putting = c.self.invariant.putting;
       taking = c.self.invariant.taking;
-      kept = called_kept c.self.inside.sizes c.self.inside.epoch c.self.inside.seats.items
-          (g.S.BagStore.queued c.self.inside.store) c.self.inside.tickets
-          c.self.inside.end c.self.inside.hand.jobs c.take_next.new.self.jobs c.self.inside.count c.self.inside.heap
-          c.call_job.new.self c.in-Some.job
-          c.self.invariant.kept emptying c.in-Some.ensures.job c.call_job.ensures.after;
+      kept = called_kept c.self.inside.sizes (with_bags g.S.BagStore.queued c.self.inside.common)
+          c.self.inside.seats.items
+          c.self.inside.end c.self.inside.hand.jobs c.take_next.new.self.jobs c.self.inside.count
+          c.call_job.new.self c.in-Some.job c.self.invariant.kept emptying c.in-Some.ensures.job
+          c.call_job.ensures.after;
       claimed = c.self.invariant.claimed;
       reserved = c.self.invariant.reserved;
     }

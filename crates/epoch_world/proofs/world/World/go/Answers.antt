@@ -2,7 +2,7 @@ use Rattle.std.proofs.Common.{ℕ, ◌∙◌, refl, sym, subst, subst₂, List, 
 use Rattle.std.proofs.lemmas.List.{length-set}
 use Rattle.epoch_laws.specs.declared.step.Step.TheVariants.{Go}
 use Rattle.epoch_laws.specs.Run.{State, Ending, TakesStep, with_places}
-use Rattle.epoch_world.specs.Worlds.{state_of, ending_of, aheads, ClaimsKnown, ReservesKnown}
+use Rattle.epoch_world.specs.Worlds.{state_of, with_bags, ending_of, aheads, ClaimsKnown, ReservesKnown}
 use Rattle.epoch_world.proofs.CollectionSteps.{claims_known, none_claimed, set_back}
 use Rattle.epoch_world.proofs.RoomSteps.{free_where, reserves_known}
 use Rattle.epoch_world.proofs.PlacesSeen.{go_takes_all}
@@ -12,16 +12,14 @@ use Rattle.epoch_world.proofs.world.World.go.Goals as goal
 
 pub go_on-requires-clause-kept : goal.go_on-requires-clause-kept
 go_on-requires-clause-kept g c =
-    kept_open c.self.inside.sizes c.self.inside.epoch c.self.inside.tickets c.self.inside.seats.items
-    (g.S.BagStore.queued c.self.inside.store)
-    (ending_of c.self.inside.end c.self.inside.hand.jobs c.self.inside.count) c.self.inside.heap c.self.invariant.kept
+    kept_open c.self.inside.sizes (with_bags g.S.BagStore.queued c.self.inside.common) c.self.inside.seats.items
+    (ending_of c.self.inside.end c.self.inside.hand.jobs c.self.inside.count) c.self.invariant.kept
 
 pub invariant_of-self : goal.invariant_of-self
 invariant_of-self g c =
     let old : State =
-    state_of c.self.inside.sizes c.self.inside.epoch c.self.inside.seats.items
-    (g.S.BagStore.queued c.self.inside.store) c.self.inside.tickets
-    (ending_of c.self.inside.end c.self.inside.hand.jobs c.self.inside.count) c.self.inside.heap in
+    state_of c.self.inside.sizes (with_bags g.S.BagStore.queued c.self.inside.common) c.self.inside.seats.items
+    (ending_of c.self.inside.end c.self.inside.hand.jobs c.self.inside.count) in
     record {
       sized = c.self.invariant.sized;
       epoch = c.go_on.ensures.epoch;
@@ -34,7 +32,7 @@ invariant_of-self g c =
       claimed = claims_known g.S.BagStore.Claims c.self.inside.sizes _ _ c.self.inside.seats.items
           c.go_on.new.seats.items c.self.inside.taking.items c.args.position c.index_mut-2.result.now c.go_on.new.taking
           (omega (arith, c.self.invariant.taking)) c.go_on.ensures.others c.go_on.ensures.claims
-          (subst (λ (all : List _). ClaimsKnown (g.S.BagStore.Claimed c.self.inside.store) g.S.BagStore.Claims
+          (subst (λ (all : List _). ClaimsKnown (g.S.BagStore.Claimed c.self.inside.common.store) g.S.BagStore.Claims
           c.self.inside.sizes c.self.inside.seats.items all)
           (sym (set_back c.self.inside.taking.items c.args.position c.index_mut-2.result.now
           c.index_mut-2.ensures.value)) c.self.invariant.claimed);
@@ -44,7 +42,7 @@ invariant_of-self g c =
           c.index_mut.result.now c.go_on.new.putting c.index_mut-2.result.now c.go_on.new.taking
           (omega (arith, c.self.invariant.putting)) (omega (arith, c.self.invariant.taking))
           c.go_on.ensures.others c.go_on.ensures.reserves
-          (subst₂ (λ (puts : List _) (takes : List _). ReservesKnown (g.S.BagStore.Reserved c.self.inside.store)
+          (subst₂ (λ (puts : List _) (takes : List _). ReservesKnown (g.S.BagStore.Reserved c.self.inside.common.store)
           g.S.BagStore.Reserves g.S.BagStore.Claims c.self.inside.sizes c.self.inside.seats.items puts takes)
           (sym (set_back c.self.inside.putting.items c.args.position c.index_mut.result.now c.index_mut.ensures.value))
           (sym (set_back c.self.inside.taking.items c.args.position c.index_mut-2.result.now
@@ -55,28 +53,29 @@ pub returns : goal.returns
 returns g c =
     let ending : Ending = ending_of c.self.inside.end c.self.inside.hand.jobs c.self.inside.count in
     let old : State =
-    state_of c.self.inside.sizes c.self.inside.epoch c.self.inside.seats.items
-    (g.S.BagStore.queued c.self.inside.store) c.self.inside.tickets ending c.self.inside.heap in
+    state_of c.self.inside.sizes (with_bags g.S.BagStore.queued c.self.inside.common) c.self.inside.seats.items ending
+    in
     let new : State =
-    state_of c.self.inside.sizes c.go_on.new.epoch c.go_on.new.seats.items
-    (g.S.BagStore.queued c.go_on.new.store) c.go_on.new.tickets ending c.go_on.new.heap in
+    state_of c.self.inside.sizes (with_bags g.S.BagStore.queued c.go_on.new.common) c.go_on.new.seats.items ending in
     let puts = slice_set c.self.inside.putting.items c.args.position c.go_on.new.putting in
-    let ahead : List ℕ = aheads (λ x cursor. g.S.BagStore.ahead x c.go_on.new.store cursor) c.go_on.new.seats.items
+    let ahead : List ℕ = aheads (λ x cursor. g.S.BagStore.ahead x c.go_on.new.common.store cursor)
+    c.go_on.new.seats.items
     (slice_set c.self.inside.taking.items c.args.position c.go_on.new.taking) in
     subst (λ (s : State). TakesStep s (Go c.args.position) c.go_on.result
-    (with_places new (g.S.BagStore.occupied c.go_on.new.store) (map g.S.BagStore.passed puts) ahead
-    (map (λ cursor. g.S.BagStore.has_room c.go_on.new.store cursor) puts))) c.self.view_is
-    (go_takes_all g.S.BagStore.passed (λ cursor. g.S.BagStore.has_room c.self.inside.store cursor)
-    (λ cursor. g.S.BagStore.has_room c.go_on.new.store cursor)
+    (with_places new (g.S.BagStore.occupied c.go_on.new.common.store) (map g.S.BagStore.passed puts) ahead
+    (map (λ cursor. g.S.BagStore.has_room c.go_on.new.common.store cursor) puts))) c.self.view_is
+    (go_takes_all g.S.BagStore.passed (λ cursor. g.S.BagStore.has_room c.self.inside.common.store cursor)
+    (λ cursor. g.S.BagStore.has_room c.go_on.new.common.store cursor)
     c.self.inside.putting.items c.index_mut.result.now c.go_on.new.putting
-    (λ x cursor. g.S.BagStore.ahead x c.self.inside.store cursor) (λ x cursor. g.S.BagStore.ahead x c.go_on.new.store
+    (λ x cursor. g.S.BagStore.ahead x c.self.inside.common.store cursor)
+    (λ x cursor. g.S.BagStore.ahead x c.go_on.new.common.store
     cursor) c.self.inside.taking.items c.index_mut-2.result.now c.go_on.new.taking
     old new c.args.position c.go_on.result _ _ _ _
     c.index_mut.ensures.value c.index_mut-2.ensures.value (omega (arith, c.self.invariant.putting))
     (omega (arith, c.self.invariant.taking)) (omega arith) c.go_on.ensures.positions
     (none_claimed g.S.BagStore.Claims c.self.inside.sizes
-    (g.S.BagStore.Claimed c.self.inside.store) old c.self.inside.taking.items refl c.self.invariant.claimed)
+    (g.S.BagStore.Claimed c.self.inside.common.store) old c.self.inside.taking.items refl c.self.invariant.claimed)
     (free_where g.S.BagStore.Reserves g.S.BagStore.Claims c.self.inside.sizes
-    (g.S.BagStore.Reserved c.self.inside.store) old _ c.self.inside.putting.items c.self.inside.taking.items
+    (g.S.BagStore.Reserved c.self.inside.common.store) old _ c.self.inside.putting.items c.self.inside.taking.items
     c.args.position refl c.self.invariant.reserved)
     (c.go_on.ensures.step ending) c.go_on.ensures.looks c.go_on.ensures.finds c.go_on.ensures.room)

@@ -6,7 +6,7 @@ use Rattle.epoch_laws.specs.declared.step.Reply.TheVariants.{Registered}
 use Rattle.epoch_laws.specs.declared.step.Step.TheVariants.{Register}
 use Rattle.epoch_laws.specs.Collections.{expiry_of}
 use Rattle.epoch_laws.specs.Run.{WorldSeat, State, TakesStep, free_seat, with_places}
-use Rattle.epoch_world.specs.Worlds.{state_of, ending_of, aheads}
+use Rattle.epoch_world.specs.Worlds.{state_of, with_bags, ending_of, aheads}
 use Rattle.epoch_world.proofs.AheadsStay.{same_aheads, none_for, not_taking, not_putting}
 use Rattle.epoch_world.proofs.RoomSteps.{reserves_quiet}
 use Rattle.epoch_world.proofs.WorldKept.{kept_moves}
@@ -16,9 +16,8 @@ use Rattle.epoch_world.proofs.world.World.register.Goals as goal
 pub invariant_of-self : goal.invariant_of-self
 invariant_of-self g c =
     let old : State =
-    state_of c.self.inside.sizes c.self.inside.epoch c.self.inside.seats.items
-    (g.S.BagStore.queued c.self.inside.store) c.self.inside.tickets
-    (ending_of c.self.inside.end c.self.inside.hand.jobs c.self.inside.count) c.self.inside.heap in
+    state_of c.self.inside.sizes (with_bags g.S.BagStore.queued c.self.inside.common) c.self.inside.seats.items
+    (ending_of c.self.inside.end c.self.inside.hand.jobs c.self.inside.count) in
     record {
       sized = c.self.invariant.sized;
       epoch = c.self.invariant.epoch;
@@ -45,17 +44,18 @@ invariant_of-self g c =
 pub returns : goal.returns
 returns g c =
     let old : State =
-    with_places (state_of c.self.inside.sizes c.self.inside.epoch c.self.inside.seats.items
-    (g.S.BagStore.queued c.self.inside.store) c.self.inside.tickets
-    (ending_of c.self.inside.end c.self.inside.hand.jobs c.self.inside.count) c.self.inside.heap)
-    (g.S.BagStore.occupied c.self.inside.store) (map g.S.BagStore.passed c.self.inside.putting.items)
-    (aheads (λ x cursor. g.S.BagStore.ahead x c.self.inside.store cursor) c.self.inside.seats.items
+    with_places (state_of c.self.inside.sizes (with_bags g.S.BagStore.queued c.self.inside.common)
+    c.self.inside.seats.items
+    (ending_of c.self.inside.end c.self.inside.hand.jobs c.self.inside.count))
+    (g.S.BagStore.occupied c.self.inside.common.store) (map g.S.BagStore.passed c.self.inside.putting.items)
+    (aheads (λ x cursor. g.S.BagStore.ahead x c.self.inside.common.store cursor) c.self.inside.seats.items
     c.self.inside.taking.items)
-    (map (λ cursor. g.S.BagStore.has_room c.self.inside.store cursor) c.self.inside.putting.items) in
+    (map (λ cursor. g.S.BagStore.has_room c.self.inside.common.store cursor) c.self.inside.putting.items) in
     let all = slice_set c.self.inside.seats.items c.in-Some.index c.register.new.self in
     let new : State = record old {
       seats = all;
-      ahead = aheads (λ x cursor. g.S.BagStore.ahead x c.self.inside.store cursor) all c.self.inside.taking.items;
+      ahead = aheads (λ x cursor. g.S.BagStore.ahead x c.self.inside.common.store cursor) all
+          c.self.inside.taking.items;
     } in
     let before_rests : expiry_of (slice_index_or c.self.inside.seats.items c.in-Some.index
     (free_seat c.self.inside.sizes)).machine.stage ≡ 0 =
@@ -69,7 +69,7 @@ returns g c =
       (
         refl,
         refl,
-        same_aheads (λ x cursor. g.S.BagStore.ahead x c.self.inside.store cursor) c.self.inside.seats.items
+        same_aheads (λ x cursor. g.S.BagStore.ahead x c.self.inside.common.store cursor) c.self.inside.seats.items
             c.self.inside.taking.items c.in-Some.index
             c.register.new.self (free_seat c.self.inside.sizes) (after_rests ∙ sym before_rests),
         refl,
