@@ -25,12 +25,17 @@ pub record InStore : Type 0 where
   pub takes : ℕ
   pub most : ℕ
 
+-- how many steps a put, or a collection, takes in the store at most, by the number of its places
+abbrev pub most_in_store : ℕ → ℕ
+most_in_store places = 3 * places + 65
+
 abbrev pub in_store : ℕ → ℕ → ℕ → InStore
 in_store puts takes most = record { puts = puts; takes = takes; most = most }
 
 -- the same where the cursors of the put and of the collection, and the number of places, say it
 abbrev pub steps_in_store : {P T : Type 0} → (ℕ → P → ℕ) → (ℕ → T → ℕ) → ℕ → P → T → InStore
-steps_in_store puts takes places putting taking = in_store (puts places putting) (takes places taking) (3 * places + 65)
+steps_in_store puts takes places putting taking = in_store (puts places putting) (takes places taking)
+    (most_in_store places)
 
 -- a release puts its bag after the collection, and gives up its position
 abbrev pub past_collect : Action → ℕ → ℕ

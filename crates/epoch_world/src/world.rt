@@ -7,7 +7,7 @@ ghost use Rattle.epoch_laws.specs.declared.step.Step.TheVariants.{Register, Begi
 ghost use Rattle.epoch_machine.specs.Machine.{IsSized};
 ghost use Rattle.epoch_laws.specs.Shapes.{IsValid, sizes_of};
 ghost use Rattle.epoch_laws.specs.Run.{IsFresh, Runs, TakesStep, Over, entries_of, free_seat, word_number, refusal};
-ghost use Rattle.epoch_laws.specs.Run.{seat_of, position_word, WorldSeat as Participant};
+ghost use Rattle.epoch_laws.specs.Run.{seat_of, position_word, WorldSeat};
 ghost use Rattle.epoch_world.specs.Seats.{WordFits};
 ghost use Rattle.epoch_world.specs.Earlier.{AlongEarlierRuns, SinceEachState};
 ghost use Rattle.epoch_world.specs.Worlds.{IsEmptying};
@@ -478,9 +478,9 @@ fn repeated<C: Copy + Drop>(alloc: Global, count: usize, cursor: C) -> Result<Ve
 
 /// Whether no participant is registered.
 fn all_free(seats: &Vec<Seat>) -> bool
-    ensures yes { result ≡ true → (position : ℕ) (other : Participant) → position < length seats.now.items
+    ensures yes { result ≡ true → (position : ℕ) (other : WorldSeat) → position < length seats.now.items
         → (slice_index_or seats.now.items position other).word ≡ Word.Free }
-    ensures no { result ≡ false → ((position : ℕ) (other : Participant) → position < length seats.now.items
+    ensures no { result ≡ false → ((position : ℕ) (other : WorldSeat) → position < length seats.now.items
         → (slice_index_or seats.now.items position other).word ≡ Word.Free) → ⊥ }
 {
     for seat in seats {
@@ -493,11 +493,11 @@ fn all_free(seats: &Vec<Seat>) -> bool
 
 /// The least position that is free.
 fn first_free(seats: &Vec<Seat>) -> Option<usize>
-    ensures none { IfNone result ((position : ℕ) (other : Participant) → position < length seats.now.items
+    ensures none { IfNone result ((position : ℕ) (other : WorldSeat) → position < length seats.now.items
         → (slice_index_or seats.now.items position other).word ≢ Word.Free) }
     ensures some { IfSome result (λ found. (found < length seats.now.items)
-        × ((other : Participant) → (slice_index_or seats.now.items found other).word ≡ Word.Free)) }
-    ensures least { IfSome result (λ found. (position : ℕ) (other : Participant) → position < found
+        × ((other : WorldSeat) → (slice_index_or seats.now.items found other).word ≡ Word.Free)) }
+    ensures least { IfSome result (λ found. (position : ℕ) (other : WorldSeat) → position < found
         → (slice_index_or seats.now.items position other).word ≢ Word.Free) }
 {
     for (index, seat) in seats.iter().enumerate() {

@@ -9,7 +9,7 @@ ghost use Rattle.epoch_world.specs.Seats.{SeatPerforms, WordFits, adds_guard, Ca
 ghost use Rattle.epoch_cells.specs.declared.fault.Fault.TheVariants.{NoMemory};
 ghost use Rattle.epoch_heap.specs.Heap.{has_steps, Touched, Touches, outcome_of, heap_after_job};
 ghost use Rattle.epoch_world.specs.Worlds.{with_bags};
-ghost use Rattle.epoch_world.specs.Steps.{steps_in_store, machine_steps};
+ghost use Rattle.epoch_world.specs.Steps.{steps_in_store, most_in_store, machine_steps};
 ghost use Rattle.epoch_laws.specs.Places.{occupancy, SeesOccupied};
 ghost use Rattle.epoch_laws.specs.Collections.{outlook, expiry_of, FindsAhead, MayClaim};
 ghost use Rattle.epoch_laws.specs.Room.{TellsRoom, MayReserve};
@@ -423,7 +423,7 @@ impl Seat {
 /// place without a bag is claimed.
 fn begin_put<S: BagStore<Job = Deferral>>(store: &S) -> S::Putting
     ensures passed { S.passed result ≡ 0 }
-    ensures few { S.puts_left (S.capacity store.now) result ≤ 3 * S.capacity store.now + 65 }
+    ensures few { S.puts_left (S.capacity store.now) result ≤ most_in_store (S.capacity store.now) }
     ensures room { ((place : ℕ) → ¬ (S.Reserved store.now place))
         × (length (S.queued store.now) < length (S.occupied store.now)) → S.has_room store.now result ≡ true }
 {

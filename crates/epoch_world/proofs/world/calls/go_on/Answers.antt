@@ -4,7 +4,7 @@ use Rattle.epoch_world.proofs.CollectionSteps.{performed_finds, performed_claims
 use Rattle.epoch_laws.specs.declared.step.Progress.TheVariants.{Driven}
 use Rattle.epoch_laws.specs.Calls.{ends_call}
 use Rattle.epoch_laws.specs.Run.{Bag, WorldSeat, State, Open, with_places, free_seat, seat_of, is_driven}
-use Rattle.epoch_world.specs.Steps.{InStore, in_store}
+use Rattle.epoch_world.specs.Steps.{steps_in_store, InStore}
 use Rattle.epoch_world.specs.Worlds.{state_of, with_bags}
 use Rattle.epoch_world.proofs.RoomSteps.{ended_room, ended_reserves, performed_room, performed_reserves}
 use Rattle.epoch_heap.specs.Heap.{Heap}
@@ -58,11 +58,9 @@ returns-in-Some g c =
     let slots = length c.args.common.now.heap.cells in
     let bags = g.S.BagStore.capacity c.args.common.now.store in
     let before : InStore =
-    in_store (g.S.BagStore.puts_left bags c.args.putting.now)
-    (g.S.BagStore.takes_left bags c.args.taking.now) (3 * bags + 65) in
+    steps_in_store g.S.BagStore.puts_left g.S.BagStore.takes_left bags c.args.putting.now c.args.taking.now in
     let after : InStore =
-    in_store (g.S.BagStore.puts_left bags c.perform.new.putting)
-    (g.S.BagStore.takes_left bags c.perform.new.taking) (3 * bags + 65) in
+    steps_in_store g.S.BagStore.puts_left g.S.BagStore.takes_left bags c.perform.new.putting c.perform.new.taking in
     let parts : Common (List Bag) = with_bags g.S.BagStore.queued c.args.common.now in
     let left : Common (List Bag) = with_bags g.S.BagStore.queued c.perform.new.common in
     let under_way = ap (λ (q : WorldSeat). is_driven q.progress) is ∙ driven.under_way in
@@ -132,8 +130,8 @@ returns-in-Accesses-clause-fewer g c steady goes_on =
     let is : seat ≡ slice_index_or c.args.seats.now.items c.args.index (free_seat c.args.sizes) =
     found_there c.args.seats.now.items c.args.sizes c.args.index seat c.requires.there c.index_mut-seat.ensures.value in
     let bags = g.S.BagStore.capacity c.args.common.now.store in
-    let n : InStore = in_store (g.S.BagStore.puts_left bags c.args.putting.now)
-    (g.S.BagStore.takes_left bags c.args.taking.now) (3 * bags + 65) in
+    let n : InStore = steps_in_store g.S.BagStore.puts_left g.S.BagStore.takes_left bags c.args.putting.now
+    c.args.taking.now in
     (access_less c.in-Accesses.access c.in-Accesses.made c.in-Accesses.found c.access.ensures.0.told
     c.args.seats.now.items c.args.index (free_seat c.args.sizes) seat c.access.new.self c.access.result
     c.args.common.now.heap c.access.new.heap n n c.requires.there is (sym c.progress.ensures ∙ c.in-Accesses.is)
@@ -145,8 +143,8 @@ returns-in-Accesses-clause-steady g c steady goes_on =
     let is : seat ≡ slice_index_or c.args.seats.now.items c.args.index (free_seat c.args.sizes) =
     found_there c.args.seats.now.items c.args.sizes c.args.index seat c.requires.there c.index_mut-seat.ensures.value in
     let bags = g.S.BagStore.capacity c.args.common.now.store in
-    let n : InStore = in_store (g.S.BagStore.puts_left bags c.args.putting.now)
-    (g.S.BagStore.takes_left bags c.args.taking.now) (3 * bags + 65) in
+    let n : InStore = steps_in_store g.S.BagStore.puts_left g.S.BagStore.takes_left bags c.args.putting.now
+    c.args.taking.now in
     (access_less c.in-Accesses.access c.in-Accesses.made c.in-Accesses.found c.access.ensures.0.told
     c.args.seats.now.items c.args.index (free_seat c.args.sizes) seat c.access.new.self c.access.result
     c.args.common.now.heap c.access.new.heap n n c.requires.there is (sym c.progress.ensures ∙ c.in-Accesses.is)
