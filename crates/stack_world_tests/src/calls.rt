@@ -54,8 +54,17 @@ pub(crate) fn pinned<S: BagStore<Job = Deferral>>(
     participants: u64,
     cells: u64,
 ) -> Result<StackWorld<S>, Fault> {
-    let mut stack = stack_of(rt, alloc, shape_of(participants, cells, 4, 64))?;
-    for participant in 0..participants {
+    pinned_in(rt, alloc, shape_of(participants, cells, 4, 64))
+}
+
+/// A new stack in a world of these numbers, with each participant pinned by its guard 0.
+pub(crate) fn pinned_in<S: BagStore<Job = Deferral>>(
+    rt: &impl Abort,
+    alloc: Global,
+    shape: Shape,
+) -> Result<StackWorld<S>, Fault> {
+    let mut stack = stack_of(rt, alloc, shape)?;
+    for participant in 0..shape.participants {
         let registered = StackReply::World(Reply::Registered(participant));
         let seen = stack.step(StackStep::Register);
         want(rt, "a participant registers", seen, registered);

@@ -1,5 +1,5 @@
 //! Random runs of participants who push and pop over one stack, step by step, beside a list.
-use crate::calls::{Stack, end, is_over, pinned, want, want_done};
+use crate::calls::{Stack, end, is_over, pinned_in, shape_of, want, want_done};
 use crate::orders::{Did, Past, fit_a_list};
 use epoch_cells::Fault;
 use epoch_laws::Reply;
@@ -13,6 +13,9 @@ const PARTICIPANTS: u64 = 3;
 
 /// How many calls each run begins.
 const CALLS: u64 = 9;
+
+/// Room for each bag that a run puts.
+const BAGS: u64 = 16;
 
 /// More steps than any run takes.
 const MANY: u64 = 10_000;
@@ -66,13 +69,46 @@ fn draw_call(draws: &mut Draws, participant: u64, value: u64) -> (StackStep, Opt
     }
 }
 
-/// What is known of a run: the calls that are over, those under way, and how many steps were taken and calls begun.
+/// What is known of a run: whether pins are renewed before each step, the calls that are over, those under way, how many
+/// steps were taken and calls begun, and how many removals were called before the end.
 #[derive(Drop)]
 struct Run {
+    renews: bool,
     past: Vec<Past>,
     under_way: [Option<UnderWay>; 3],
     steps: u64,
     begun: u64,
+    removed: u64,
+}
+
+/// Makes the plain call, to its end. Answers how many removals it called.
+fn removals_of(rt: &impl Abort, stack: &mut Stack, participant: u64, call: Plain) -> u64 {
+    let mut removals: u64 = 0;
+    let mut reply = stack.step(StackStep::Begin(participant, call));
+    for _ in 0..MANY {
+        match reply {
+            StackReply::World(Reply::Done(_)) => return removals,
+            StackReply::World(Reply::Called(_, _)) => removals = removals.wrapping_add(1),
+            StackReply::World(Reply::Refused(fault)) => panic!(rt; "{fault}"),
+            _ => {}
+        }
+        reply = stack.step(StackStep::Go(participant));
+    }
+    panic!(rt; "a plain call comes to no end")
+}
+
+/// Each participant with no call under way flushes, and leaves its pin for a new one: what was taken off the stack is
+/// destroyed, and its cells are taken again, while calls on the stack are under way. Answers how many removals were called.
+fn renew_pins(rt: &impl Abort, stack: &mut Stack, under_way: [Option<UnderWay>; 3]) -> u64 {
+    let mut removals: u64 = 0;
+    for (index, call) in under_way.iter().enumerate() {
+        if call.is_none() {
+            for plain in [Plain::Flush(Some(0)), Plain::Unpin(Some(0)), Plain::Pin] {
+                removals = removals.wrapping_add(removals_of(rt, stack, index as u64, plain));
+            }
+        }
+    }
+    removals
 }
 
 /// One step of a participant: of its call under way, or the begin of another.
@@ -83,6 +119,10 @@ fn take_step(
     draws: &mut Draws,
     participant: u64,
 ) -> Result<(), AllocError> {
+    if run.renews {
+        let removals = renew_pins(rt, stack, run.under_way);
+        run.removed = run.removed.wrapping_add(removals);
+    }
     let Some(place) = run.under_way.get_mut(participant as usize) else {
         return Ok(());
     };
@@ -155,15 +195,18 @@ fn end_all(rt: &impl Abort, stack: &mut Stack) -> Option<u64> {
     end(stack)
 }
 
-/// One run: its calls fit a list, whose values are those that are left.
-fn run_once(rt: &impl Abort, alloc: Global, draws: &mut Draws) -> Result<(), Fail> {
+/// One run: its calls fit a list, whose values are those that are left. Answers how many removals were called before its
+/// end.
+fn run_once(rt: &impl Abort, alloc: Global, draws: &mut Draws, renews: bool) -> Result<u64, Fail> {
     let cells = draws.below(9).wrapping_add(1);
-    let mut stack: Stack = pinned(rt, alloc, PARTICIPANTS, cells)?;
+    let mut stack: Stack = pinned_in(rt, alloc, shape_of(PARTICIPANTS, cells, BAGS, 64))?;
     let mut run = Run {
+        renews,
         past: Vec::new(alloc),
         under_way: [None; 3],
         steps: 0,
         begun: 0,
+        removed: 0,
     };
     for _ in 0..MANY {
         if is_done(&run) {
@@ -177,14 +220,30 @@ fn run_once(rt: &impl Abort, alloc: Global, draws: &mut Draws) -> Result<(), Fai
     want(rt, "the calls fit a list", fit_a_list(&run.past), true);
     let called = end_all(rt, &mut stack);
     want(rt, "the end comes to its end", called.is_some(), true);
-    Ok(())
+    Ok(run.removed)
 }
 
 #[test]
 fn replies_to_three_participants_fit_a_list(rt: HostRuntime) -> Result<(), Fail> {
     let mut draws = Draws { state: 2026 };
     for _ in 0..10_000u64 {
-        run_once(&rt, rt.alloc(), &mut draws)?;
+        run_once(&rt, rt.alloc(), &mut draws, false)?;
     }
+    Ok(())
+}
+
+#[test]
+fn replies_fit_a_list_where_cells_are_taken_again(rt: HostRuntime) -> Result<(), Fail> {
+    let mut draws = Draws { state: 2027 };
+    let mut removed: u64 = 0;
+    for _ in 0..50u64 {
+        removed = removed.wrapping_add(run_once(&rt, rt.alloc(), &mut draws, true)?);
+    }
+    want(
+        &rt,
+        "cells are destroyed in the midst of runs",
+        removed > 0,
+        true,
+    );
     Ok(())
 }
