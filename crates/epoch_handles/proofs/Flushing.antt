@@ -11,7 +11,7 @@ use Rattle.epoch_machine.specs.declared.machine.Stage.TheVariants.{End, LoadScan
 use Rattle.epoch_handles.specs.declared.local.Local.{Local}
 use Rattle.epoch_machine.specs.Machine.{Machine, begun, ended, is_empty, after_collect, after_put, guards_after}
 use Rattle.epoch_handles.specs.Drives.{NoJob, Drives}
-use Rattle.epoch_handles.specs.Handles.{IsSeated, IsReady, IsSame, IsPinned, KeepsPin, Collects, Puts, IsDriven}
+use Rattle.epoch_handles.specs.Handles.{IsSeated, IsReady, IsSame, IsPinned, KeepsPin, Collects, Puts, IsDrivenTo}
 use Rattle.epoch_handles.specs.Handles.{DoesAndCalls, sight_of}
 use Rattle.epoch_handles.proofs.Driving.{drives_none, drives_of, drives_on}
 use Rattle.epoch_handles.proofs.StraightCalls.{reading, ready_with, seated_with}
@@ -101,7 +101,7 @@ module _ {T W : Type 0} where
     pub pin : KeepsPin h n
     pub flushes : Flushes h.machine n.machine
     pub scans : n.machine.stage ≡ LoadScan
-    pub drives : IsDriven NoJob (record h { machine = begun Flush h.machine }) n
+    pub drives : IsDrivenTo NoJob (record h { machine = begun Flush h.machine }) n
 
   -- with no job held it begins there
   pub scan_begins : (h : Local T W) (m : Machine (Job W))
@@ -146,7 +146,7 @@ module _ {T W : Type 0} where
     pub pin : KeepsPin h o
     pub flushes : Flushes h.machine o.machine
     pub ends : o.machine.stage ≡ End
-    pub calls : IsDriven (IsCalled done) (record h { machine = begun Flush h.machine }) o
+    pub calls : IsDrivenTo (IsCalled done) (record h { machine = begun Flush h.machine }) o
 
   pub collection_ends : (done : W → Type 0) (h n o : Local T W)
       → ComesToScan h n → Collects done n o → HasFlushed done h o

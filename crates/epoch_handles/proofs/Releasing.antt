@@ -20,7 +20,7 @@ use Rattle.epoch_machine.specs.Machine.{Machine, begun, heard, ended, fresh, gua
 use Rattle.epoch_machine.specs.Machine.{after_put, after_collect, with_stage}
 use Rattle.epoch_machine.specs.Asks.{Heard}
 use Rattle.epoch_handles.specs.Drives.{Sight, NoJob, Drives, with_words}
-use Rattle.epoch_handles.specs.Handles.{IsReady, IsSame, IsLeftWhole, IsDriven, Steps, PinSteps, Collects, sight_of}
+use Rattle.epoch_handles.specs.Handles.{IsReady, IsSame, IsLeftWhole, IsDrivenTo, Steps, PinSteps, Collects, sight_of}
 use Rattle.epoch_handles.specs.Releases.{IsLeaving, IsRefused, IsFreed, IsReleased}
 use Rattle.epoch_handles.proofs.Driving.{one_performed, drives_on, drives_of}
 use Rattle.epoch_handles.proofs.StraightCalls.{unpin_performed, sight_after, pin_drives, pinned_behind, seated_with}
@@ -210,7 +210,7 @@ module _ {T W : Type 0} where
   pub freed_behind : (done : W → Type 0) (h n o : Local T W)
       → IsSame h n
       → n.machine.sizes ≡ h.machine.sizes
-      → IsDriven (IsCalled done) h n
+      → IsDrivenTo (IsCalled done) h n
       → (h.machine.held ≢ [] → IsLeftWhole h.machine.held o.claimer.me.0)
       → IsFreed done n o
       → IsFreed done h o
@@ -228,7 +228,7 @@ module _ {T W : Type 0} where
   pub refused_behind : (done : W → Type 0) (h n o : Local T W)
       → IsSame h n
       → n.machine.held ≡ h.machine.held
-      → IsDriven (IsCalled done) h n
+      → IsDrivenTo (IsCalled done) h n
       → IsRefused done n o
       → IsRefused done h o
   refused_behind done h n o same held before refused =

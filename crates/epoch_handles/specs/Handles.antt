@@ -32,8 +32,8 @@ abbrev pub situation_of : {T W : Type 0} → Local T W → Cursors → Situation
 situation_of h c = situated h.machine (sight_of h) c
 
 -- The asks of the participant's machine were performed as far as where it is new, and each job that it gave is such.
-abbrev pub IsDriven : {T W : Type 0} → (Job W → Type 0) → Local T W → Local T W → Type 0
-IsDriven IsSuch old new =
+abbrev pub IsDrivenTo : {T W : Type 0} → (Job W → Type 0) → Local T W → Local T W → Type 0
+IsDrivenTo IsSuch old new =
     Drives IsSuch old.collector.now.places.capacity old.machine (sight_of old) new.machine (sight_of new)
 
 -- it is the same participant of the same collector
@@ -132,7 +132,7 @@ pub record Collects {T W : Type 0} (done : W → Type 0) (old new : Local T W) :
   pub pin : KeepsPin old new
   pub machine : new.machine
       ≡ record old.machine { stage = after_collect old.machine.action old.machine.held; hand = new.machine.hand }
-  pub calls : IsDriven (IsCalled done) old new
+  pub calls : IsDrivenTo (IsCalled done) old new
 
 -- what the seat left in a place last is a bag of just these jobs, in this order
 abbrev pub IsLeftWhole : {J : Type 0} → List J → PlaceView J → Type 0
@@ -149,7 +149,7 @@ pub record Puts {T W : Type 0} (old new : Local T W) : Type 0 where
       ≡ record old.machine { stage = after_put old.machine.action false; full = false; held = [] })
       ⊎ (new.machine ≡ record old.machine { stage = after_put old.machine.action true; full = true })
   pub whole : new.machine.full ≡ false → IsLeftWhole old.machine.held new.claimer.me.0
-  pub drives : IsDriven NoJob old new
+  pub drives : IsDrivenTo NoJob old new
 
 -- The word says what the machine says: pinned in the published epoch while guards are out, and not pinned while none
 -- is.

@@ -5,7 +5,7 @@ use Rattle.epoch_tables.specs.SharedSteps.{RestsAt}
 use Rattle.epoch_machine.specs.declared.machine.Action.TheVariants.{Release}
 use Rattle.epoch_handles.specs.declared.local.Local.{Local}
 use Rattle.epoch_machine.specs.Machine.{begun, fresh}
-use Rattle.epoch_handles.specs.Handles.{IsSeated, IsReady, IsSame, IsPinned, IsLeftWhole, IsDriven, EndsGiving}
+use Rattle.epoch_handles.specs.Handles.{IsSeated, IsReady, IsSame, IsPinned, IsLeftWhole, IsDrivenTo, EndsGiving}
 
 -- The release has come to where it puts the held bag, if it has a job, and leaves: it is pinned, and holds what it
 -- held.
@@ -19,7 +19,7 @@ pub record IsLeaving {T W : Type 0} (done : W → Type 0) (old new : Local T W) 
   pub none : new.machine.guards ≡ 0
   pub held : new.machine.held ≡ old.machine.held
   pub sizes : new.machine.sizes ≡ old.machine.sizes
-  pub calls : IsDriven (IsCalled done) (record old { machine = begun Release old.machine }) new
+  pub calls : IsDrivenTo (IsCalled done) (record old { machine = begun Release old.machine }) new
 
 -- The held bag found no place, and the machine says so: the participant is not pinned, keeps its position, and holds
 -- the bag as before.
@@ -38,7 +38,7 @@ pub record IsFreed {T W : Type 0} (done : W → Type 0) (old new : Local T W) : 
   pub position : new.seat.me.0.position ≡ None
   pub machine : new.machine ≡ fresh old.machine.sizes
   pub whole : old.machine.held ≢ [] → IsLeftWhole old.machine.held new.claimer.me.0
-  pub calls : IsDriven (IsCalled done) old new
+  pub calls : IsDrivenTo (IsCalled done) old new
 
 -- A release was begun and driven until the position was free: the own word is 0, and the held bag, if it had a job,
 -- was put whole.

@@ -1,6 +1,6 @@
 //! Pins, unpins and repins, written out as the steps that they are.
 ghost use Rattle.std.specs.Prelude.{◌≡◌, ℕ, ◌+◌, ◌<◌, ◌≤◌, ◌^◌, true, false, Some};
-ghost use Rattle.epoch_handles.specs.Handles.{IsSeated, IsReady, IsSame, IsPinned, PublishSteps, PinSteps, IsDriven};
+ghost use Rattle.epoch_handles.specs.Handles.{IsSeated, IsReady, IsSame, IsPinned, PublishSteps, PinSteps, IsDrivenTo};
 ghost use Rattle.epoch_handles.specs.Handles.{Does, DoesStraight, DoesAndCalls};
 ghost use Rattle.epoch_tables.specs.SharedSteps.{RestsAt};
 ghost use Rattle.epoch_handles.specs.Drives.{NoJob};
@@ -49,7 +49,7 @@ impl<'c, T, W> Local<'c, T, W> {
         ensures ready { result ≡ false → IsReady self.new }
         ensures counted { result ≡ false → self.new.machine.guards ≡ self.old.machine.guards + 1 }
         ensures drives { result ≡ true
-            → IsDriven NoJob (record self.old { machine = begun Pin self.old.machine }) self.new }
+            → IsDrivenTo NoJob (record self.old { machine = begun Pin self.old.machine }) self.new }
         ensures seated { result ≡ true → IsSeated self.new }
         ensures rests { result ≡ true → RestsAt self.new.claimer.me }
         ensures pinned { result ≡ true → IsPinned self.new.seat.me.0 }
