@@ -9,7 +9,7 @@ ghost use Rattle.epoch_laws.specs.Shapes.{IsValid, sizes_of};
 ghost use Rattle.epoch_laws.specs.Run.{IsFresh, Runs, TakesStep, Over, entries_of, free_seat, word_number, refusal};
 ghost use Rattle.epoch_laws.specs.Run.{seat_of, position_word, WorldSeat};
 ghost use Rattle.epoch_world.specs.Seats.{WordFits};
-ghost use Rattle.epoch_world.specs.Earlier.{AlongEarlierRuns, SinceEachState};
+ghost use Rattle.epoch_world.specs.Earlier.{AlongSteps, AlongCall, SinceEachState};
 ghost use Rattle.epoch_world.specs.Worlds.{IsEmptying};
 ghost use Rattle.epoch_laws.specs.Grace.{KeepsGrace};
 ghost use Rattle.epoch_laws.specs.Tickets.{HoldsEachTicketOnce, NumbersTickets, times_called, times_deferred};
@@ -157,50 +157,43 @@ impl<S: BagStore<Job = Deferral>> World<S> {
         ensures replies { IfOk result (λ replies. length replies.items ≡ length steps.now) }
 
         // No job is called while a participant pinned at its deferral has stayed pinned without repinning.
-        ensures grace { IfOk result (λ replies. AlongEarlierRuns self.old (entries_of steps.now replies.items)
-            (λ fresh log. KeepsGrace log)) }
+        ensures grace { IfOk result (AlongSteps self.old steps.now (λ fresh log. KeepsGrace log)) }
         // Each accepted job is in exactly one bag, or was called exactly once.
-        ensures once { IfOk result (λ replies. AlongEarlierRuns self.old (entries_of steps.now replies.items)
-            (λ fresh log. HoldsEachTicketOnce log self.new)) }
+        ensures once { IfOk result (AlongSteps self.old steps.now (λ fresh log. HoldsEachTicketOnce log self.new)) }
         // The ticket of an accepted job is the number of those accepted before it.
-        ensures tickets { IfOk result (λ replies. AlongEarlierRuns self.old (entries_of steps.now replies.items)
-            (λ fresh log. NumbersTickets log)) }
+        ensures tickets { IfOk result (AlongSteps self.old steps.now (λ fresh log. NumbersTickets log)) }
         // Each event stands only where it may.
-        ensures lawful { IfOk result (λ replies. AlongEarlierRuns self.old (entries_of steps.now replies.items)
-            (λ fresh log. IsLawful log)) }
+        ensures lawful { IfOk result (AlongSteps self.old steps.now (λ fresh log. IsLawful log)) }
         // The bags are told to be full exactly where the call's put found each place of the store occupied.
-        ensures full { IfOk result (λ replies. AlongEarlierRuns self.old (entries_of steps.now replies.items)
-            (λ fresh log. FullWhereFound fresh log self.new)) }
+        ensures full { IfOk result (AlongSteps self.old steps.now (λ fresh log. FullWhereFound fresh log self.new)) }
         // When an end is over, every accepted job was called.
-        ensures all_called { IfOk result (λ replies. AlongEarlierRuns self.old (entries_of steps.now replies.items)
+        ensures all_called { IfOk result (AlongSteps self.old steps.now
             (λ fresh log. self.new.ending ≡ Over → (t : ℕ) → times_called t log ≡ times_deferred t log)) }
         // An end that answered how many jobs it called has called so many, and every accepted job was called.
-        ensures ended { IfOk result (λ replies. AlongEarlierRuns self.old (entries_of steps.now replies.items)
-            (λ fresh log. EndsAtCount log)) }
+        ensures ended { IfOk result (AlongSteps self.old steps.now (λ fresh log. EndsAtCount log)) }
         // Rounds of a participant whom nobody disturbs call every job of the bags in the store: one round that puts its
         // own bag, one more, and one for each collection that the bags take.
         ensures rounds { IfOk result (λ replies. SinceEachState self.old (entries_of steps.now replies.items)
             (λ start log. RoundsCallAll start log self.new)) }
         // Each call takes at most as many bags as one collection may take, and calls at most the jobs of so many full
         // bags.
-        ensures few { IfOk result (λ replies. AlongEarlierRuns self.old (entries_of steps.now replies.items)
-            (λ fresh log. CollectsFew fresh log self.new)) }
+        ensures few { IfOk result (AlongSteps self.old steps.now (λ fresh log. CollectsFew fresh log self.new)) }
         // Where cells leave once and out of reach, no name that is loaded under a guard still held is destroyed, and
         // each such name has its cell.
-        ensures reach { IfOk result (λ replies. AlongEarlierRuns self.old (entries_of steps.now replies.items)
+        ensures reach { IfOk result (AlongSteps self.old steps.now
             (λ fresh log. (run : Runs fresh log self.new) → LeavesOnce fresh log self.new run
             → KeepsLoaded (past_of fresh log self.new run))) }
-        ensures loaded { IfOk result (λ replies. AlongEarlierRuns self.old (entries_of steps.now replies.items)
+        ensures loaded { IfOk result (AlongSteps self.old steps.now
             (λ fresh log. (run : Runs fresh log self.new) → LeavesOnce fresh log self.new run
             → LoadedStand (past_of fresh log self.new run) self.new.heap)) }
         // No name is given twice, and each that was given has its cell or is destroyed, and not both.
-        ensures given { IfOk result (λ replies. AlongEarlierRuns self.old (entries_of steps.now replies.items)
+        ensures given { IfOk result (AlongSteps self.old steps.now
             (λ fresh log. (run : Runs fresh log self.new) → GivesNoNameTwice fresh log self.new run)) }
-        ensures stands { IfOk result (λ replies. AlongEarlierRuns self.old (entries_of steps.now replies.items)
+        ensures stands { IfOk result (AlongSteps self.old steps.now
             (λ fresh log. (run : Runs fresh log self.new)
             → StandsOrDestroyed (given_of fresh log self.new run) (past_of fresh log self.new run) self.new.heap)) }
         // A job in a bag removes the name that its ticket's deferral named, or is work; and its call does just that.
-        ensures removals { IfOk result (λ replies. AlongEarlierRuns self.old (entries_of steps.now replies.items)
+        ensures removals { IfOk result (AlongSteps self.old steps.now
             (λ fresh log. (run : Runs fresh log self.new) → CallsWhatWasDeferred fresh log self.new run)) }
 
         ensures err { OnErr result (self.new ≡ self.old) }
@@ -225,45 +218,39 @@ impl<S: BagStore<Job = Deferral>> World<S> {
         ensures ends { IfOk result (λ replies. EndsAtLast replies.items) }
 
         // No job is called while a participant pinned at its deferral has stayed pinned without repinning.
-        ensures grace { IfOk result (λ replies. AlongEarlierRuns self.old (call_entries participant call replies.items)
-            (λ fresh log. KeepsGrace log)) }
+        ensures grace { IfOk result (AlongCall self.old participant call (λ fresh log. KeepsGrace log)) }
         // Each accepted job is in exactly one bag, or was called exactly once.
-        ensures once { IfOk result (λ replies. AlongEarlierRuns self.old (call_entries participant call replies.items)
+        ensures once { IfOk result (AlongCall self.old participant call
             (λ fresh log. HoldsEachTicketOnce log self.new)) }
         // The ticket of an accepted job is the number of those accepted before it.
-        ensures tickets { IfOk result
-            (λ replies. AlongEarlierRuns self.old (call_entries participant call replies.items)
-            (λ fresh log. NumbersTickets log)) }
+        ensures tickets { IfOk result (AlongCall self.old participant call (λ fresh log. NumbersTickets log)) }
         // Each event stands only where it may.
-        ensures lawful { IfOk result (λ replies. AlongEarlierRuns self.old (call_entries participant call replies.items)
-            (λ fresh log. IsLawful log)) }
+        ensures lawful { IfOk result (AlongCall self.old participant call (λ fresh log. IsLawful log)) }
         // The bags are told to be full exactly where the call's put found each place of the store occupied.
-        ensures full { IfOk result (λ replies. AlongEarlierRuns self.old (call_entries participant call replies.items)
+        ensures full { IfOk result (AlongCall self.old participant call
             (λ fresh log. FullWhereFound fresh log self.new)) }
         // Rounds of a participant whom nobody disturbs call every job of the bags in the store.
         ensures rounds { IfOk result (λ replies. SinceEachState self.old (call_entries participant call replies.items)
             (λ start log. RoundsCallAll start log self.new)) }
         // Each call takes at most as many bags as one collection may take, and calls at most the jobs of so many full
         // bags.
-        ensures few { IfOk result (λ replies. AlongEarlierRuns self.old (call_entries participant call replies.items)
-            (λ fresh log. CollectsFew fresh log self.new)) }
+        ensures few { IfOk result (AlongCall self.old participant call (λ fresh log. CollectsFew fresh log self.new)) }
         // Where cells leave once and out of reach, no name that is loaded under a guard still held is destroyed, and
         // each such name has its cell.
-        ensures reach { IfOk result (λ replies. AlongEarlierRuns self.old (call_entries participant call replies.items)
+        ensures reach { IfOk result (AlongCall self.old participant call
             (λ fresh log. (run : Runs fresh log self.new) → LeavesOnce fresh log self.new run
             → KeepsLoaded (past_of fresh log self.new run))) }
-        ensures loaded { IfOk result (λ replies. AlongEarlierRuns self.old (call_entries participant call replies.items)
+        ensures loaded { IfOk result (AlongCall self.old participant call
             (λ fresh log. (run : Runs fresh log self.new) → LeavesOnce fresh log self.new run
             → LoadedStand (past_of fresh log self.new run) self.new.heap)) }
         // No name is given twice, and each that was given has its cell or is destroyed, and not both.
-        ensures given { IfOk result (λ replies. AlongEarlierRuns self.old (call_entries participant call replies.items)
+        ensures given { IfOk result (AlongCall self.old participant call
             (λ fresh log. (run : Runs fresh log self.new) → GivesNoNameTwice fresh log self.new run)) }
-        ensures stands { IfOk result (λ replies. AlongEarlierRuns self.old (call_entries participant call replies.items)
+        ensures stands { IfOk result (AlongCall self.old participant call
             (λ fresh log. (run : Runs fresh log self.new)
             → StandsOrDestroyed (given_of fresh log self.new run) (past_of fresh log self.new run) self.new.heap)) }
         // A job in a bag removes the name that its ticket's deferral named, or is work; and its call does just that.
-        ensures removals { IfOk result
-            (λ replies. AlongEarlierRuns self.old (call_entries participant call replies.items)
+        ensures removals { IfOk result (AlongCall self.old participant call
             (λ fresh log. (run : Runs fresh log self.new) → CallsWhatWasDeferred fresh log self.new run)) }
 
         ensures err { OnErr result (self.new ≡ self.old) }
