@@ -6,7 +6,7 @@ ghost use Rattle.epoch_laws.specs.Tickets.{HoldsEachTicketOnce};
 ghost use Rattle.epoch_laws.specs.Lawful.{IsLawful};
 ghost use Rattle.epoch_rounds.specs.Rounds.{RoundsCallAll};
 ghost use Rattle.epoch_rounds.specs.Collected.{CollectsFew};
-ghost use Rattle.epoch_world.specs.Earlier.{AlongEarlierRuns, SinceEachState};
+ghost use Rattle.epoch_world.specs.Earlier.{AlongSteps, SinceEachState};
 
 use crate::wants::want;
 use crate::worlds::{ONE, new_world};
@@ -37,16 +37,12 @@ const TOLD: [Reply; 6] = [
 /// Takes these steps over a pile. What holds of runs over any store holds of these, with no proof about this one.
 fn run_over_pile(world: &mut World<Pile>, steps: &[Step]) -> Result<Vec<Reply>, Fault>
     ensures runs { IfOk result (λ replies. Runs world.old (entries_of steps.now replies.items) world.new) }
-    ensures grace { IfOk result (λ replies. AlongEarlierRuns world.old (entries_of steps.now replies.items)
-        (λ fresh log. KeepsGrace log)) }
-    ensures once { IfOk result (λ replies. AlongEarlierRuns world.old (entries_of steps.now replies.items)
-        (λ fresh log. HoldsEachTicketOnce log world.new)) }
-    ensures lawful { IfOk result (λ replies. AlongEarlierRuns world.old (entries_of steps.now replies.items)
-        (λ fresh log. IsLawful log)) }
+    ensures grace { IfOk result (AlongSteps world.old steps.now (λ fresh log. KeepsGrace log)) }
+    ensures once { IfOk result (AlongSteps world.old steps.now (λ fresh log. HoldsEachTicketOnce log world.new)) }
+    ensures lawful { IfOk result (AlongSteps world.old steps.now (λ fresh log. IsLawful log)) }
     ensures rounds { IfOk result (λ replies. SinceEachState world.old (entries_of steps.now replies.items)
         (λ start log. RoundsCallAll start log world.new)) }
-    ensures few { IfOk result (λ replies. AlongEarlierRuns world.old (entries_of steps.now replies.items)
-        (λ fresh log. CollectsFew fresh log world.new)) }
+    ensures few { IfOk result (AlongSteps world.old steps.now (λ fresh log. CollectsFew fresh log world.new)) }
 {
     world.run(steps)
 }
