@@ -1,5 +1,5 @@
 -- What a world keeps between any two steps, beside what its participants keep of themselves.
-use Rattle.std.specs.Prelude.{◌≡◌, ℕ, Bool, true, List, [], ◌∷◌, Some, slice_get, slice_index_or}
+use Rattle.std.specs.Prelude.{◌≡◌, ℕ, Bool, true, List, [], ◌∷◌, Some, map, slice_get, slice_index_or}
 use Rattle.epoch_machine.specs.Machine.{is_taking}
 use Rattle.epoch_machine.specs.declared.machine.Sizes.{Sizes}
 use Rattle.epoch_machine.specs.declared.machine.Stage.{Stage}
@@ -8,7 +8,7 @@ use Rattle.epoch_world.specs.declared.world.common.Common.{Common}
 use Rattle.epoch_world.specs.declared.world.EndStage.{EndStage}
 use Rattle.epoch_world.specs.declared.world.EndStage.TheVariants.{Open as OpenStage, Emptying as EmptyingStage}
 use Rattle.epoch_world.specs.declared.world.EndStage.TheVariants.{Over as OverStage}
-use Rattle.epoch_laws.specs.Run.{Bag, WorldSeat, State, Ending, Open, Emptying, Over, free_seat}
+use Rattle.epoch_laws.specs.Run.{Bag, WorldSeat, State, Ending, Open, Emptying, Over, free_seat, with_places}
 use Rattle.epoch_laws.specs.Collections.{expiry_of}
 use Rattle.epoch_laws.specs.Room.{is_putting}
 
@@ -52,6 +52,13 @@ abbrev pub aheads : {C : Type 0} → (ℕ → C → ℕ) → List WorldSeat → 
 aheads ahead (seat ∷ seats) (cursor ∷ cursors) =
     ahead (expiry_of seat.machine.stage) cursor ∷ aheads ahead seats cursors
 aheads ahead _ _ = []
+
+-- the whole state, by what a store says of its bags and places, and of the cursors of puts and of collections
+abbrev pub state_over : {S P T : Type 0} → (S → List Bag) → (S → List Bool) → (P → ℕ) → (ℕ → S → T → ℕ) → (S → P → Bool)
+    → Sizes → Common S → List WorldSeat → Ending → List P → List T → State
+state_over queued occupied passed ahead has_room sizes common seats ending puts takes =
+    with_places (state_of sizes (with_bags queued common) seats ending) (occupied common.store) (map passed puts)
+    (aheads (λ x cursor. ahead x common.store cursor) seats takes) (map (λ cursor. has_room common.store cursor) puts)
 
 -- no participant at such a stage claims the place, by its cursor
 abbrev pub NobodyClaims : {C : Type 0}

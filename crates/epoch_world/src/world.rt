@@ -65,19 +65,17 @@ pub struct World<S: BagStore<Job = Deferral> = Places<Deferral>> {
 }
 
 impl<S: BagStore<Job = Deferral>> Model for World<S> {
-    ghost use Rattle.std.specs.Prelude.{◌≡◌, ◌^◌, ◌<◌, ◌≤◌, length, map};
+    ghost use Rattle.std.specs.Prelude.{◌≡◌, ◌^◌, ◌<◌, ◌≤◌, length};
     ghost use Rattle.epoch_machine.specs.Machine.{IsSized};
-    ghost use Rattle.epoch_laws.specs.Run.{State, with_places};
-    ghost use Rattle.epoch_world.specs.Worlds.{state_of, with_bags, ending_of, aheads, ClaimsKnown};
+    ghost use Rattle.epoch_laws.specs.Run.{State};
+    ghost use Rattle.epoch_world.specs.Worlds.{state_of, state_over, with_bags, ending_of, ClaimsKnown};
     ghost use Rattle.epoch_world.specs.Worlds.{ReservesKnown};
     ghost use Rattle.epoch_laws.specs.Kept.{IsSound};
 
     ghost Value = { State };
 
-    ghost view = { λ a. with_places (state_of a.sizes (with_bags S.queued a.common) a.seats.items
-        (ending_of a.end a.hand.jobs a.count)) (S.occupied a.common.store) (map S.passed a.putting.items)
-        (aheads (λ x cursor. S.ahead x a.common.store cursor) a.seats.items a.taking.items)
-        (map (λ cursor. S.has_room a.common.store cursor) a.putting.items) };
+    ghost view = { λ a. state_over S.queued S.occupied S.passed S.ahead S.has_room a.sizes a.common a.seats.items
+        (ending_of a.end a.hand.jobs a.count) a.putting.items a.taking.items };
 
     ghost invariant = { λ a. record {
       sized : IsSized a.sizes;

@@ -146,8 +146,8 @@ impl Seat {
             (with_bags S.queued common.old) self.old self.old.machine.stage ask result
             self.new (with_bags S.queued common.new) }
         ensures looks { SeesOccupied (Some ask) self.old.machine self.new.machine
-            (occupancy (S.occupied common.old.store)
-            (S.passed putting.old)) (occupancy (S.occupied common.new.store) (S.passed putting.new)) }
+            (occupancy (S.occupied common.old.store) (S.passed putting.old))
+            (occupancy (S.occupied common.new.store) (S.passed putting.new)) }
         ensures finds { FindsAhead ((place : ℕ) → ¬ (S.Claimed common.old.store place)) (Some ask) self.new.machine
             (outlook (S.queued common.old.store)
             (S.ahead (expiry_of self.old.machine.stage) common.old.store taking.old))

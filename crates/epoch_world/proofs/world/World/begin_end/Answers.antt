@@ -1,11 +1,11 @@
-use Rattle.std.proofs.Common.{◌≡◌, ◌∙◌, List, [], map, ap, refl, subst}
+use Rattle.std.proofs.Common.{◌≡◌, ◌∙◌, List, [], ap, refl, subst}
 use Rattle.epoch_cells.specs.declared.fault.Fault.TheVariants.{ParticipantsLeft}
 use Rattle.epoch_world.specs.declared.world.EndStage.{EndStage}
 use Rattle.epoch_laws.specs.declared.step.Deferral.{Deferral}
 use Rattle.epoch_laws.specs.declared.step.Reply.TheVariants.{Began, Refused}
 use Rattle.epoch_laws.specs.declared.step.Step.TheVariants.{End as EndStep}
-use Rattle.epoch_laws.specs.Run.{State, Open, Emptying, TakesStep, with_places}
-use Rattle.epoch_world.specs.Worlds.{state_of, with_bags, ending_of, aheads}
+use Rattle.epoch_laws.specs.Run.{State, Open, Emptying, TakesStep}
+use Rattle.epoch_world.specs.Worlds.{state_of, state_over, with_bags, ending_of}
 use Rattle.epoch_world.proofs.WorldKept.{kept_moves}
 use Rattle.epoch_world.proofs.WorldSteps.{end_moves, end_refused}
 use Rattle.epoch_world.proofs.world.World.begin_end.Goals as goal
@@ -13,13 +13,10 @@ use Rattle.epoch_world.proofs.world.World.begin_end.Goals as goal
 pub returns-then-not-all_free : goal.returns-then-not-all_free
 returns-then-not-all_free g c =
     let old : State =
-    with_places (state_of c.self.inside.sizes (with_bags g.S.BagStore.queued c.self.inside.common)
-    c.self.inside.seats.items
-    (ending_of c.self.inside.end c.self.inside.hand.jobs c.self.inside.count))
-    (g.S.BagStore.occupied c.self.inside.common.store) (map g.S.BagStore.passed c.self.inside.putting.items)
-    (aheads (λ x cursor. g.S.BagStore.ahead x c.self.inside.common.store cursor) c.self.inside.seats.items
-    c.self.inside.taking.items)
-    (map (λ cursor. g.S.BagStore.has_room c.self.inside.common.store cursor) c.self.inside.putting.items) in
+    state_over g.S.BagStore.queued g.S.BagStore.occupied g.S.BagStore.passed g.S.BagStore.ahead g.S.BagStore.has_room
+    c.self.inside.sizes c.self.inside.common c.self.inside.seats.items
+    (ending_of c.self.inside.end c.self.inside.hand.jobs c.self.inside.count) c.self.inside.putting.items
+    c.self.inside.taking.items in
     let opened : old.ending ≡ Open =
     ap (λ (e : EndStage). ending_of e c.self.inside.hand.jobs c.self.inside.count) c.in-Open.is in
     subst (λ (s : State). TakesStep s EndStep (Refused ParticipantsLeft) s) c.self.view_is
@@ -49,13 +46,10 @@ invariant_of-self g c =
 pub returns : goal.returns
 returns g c =
     let old : State =
-    with_places (state_of c.self.inside.sizes (with_bags g.S.BagStore.queued c.self.inside.common)
-    c.self.inside.seats.items
-    (ending_of c.self.inside.end c.self.inside.hand.jobs c.self.inside.count))
-    (g.S.BagStore.occupied c.self.inside.common.store) (map g.S.BagStore.passed c.self.inside.putting.items)
-    (aheads (λ x cursor. g.S.BagStore.ahead x c.self.inside.common.store cursor) c.self.inside.seats.items
-    c.self.inside.taking.items)
-    (map (λ cursor. g.S.BagStore.has_room c.self.inside.common.store cursor) c.self.inside.putting.items) in
+    state_over g.S.BagStore.queued g.S.BagStore.occupied g.S.BagStore.passed g.S.BagStore.ahead g.S.BagStore.has_room
+    c.self.inside.sizes c.self.inside.common c.self.inside.seats.items
+    (ending_of c.self.inside.end c.self.inside.hand.jobs c.self.inside.count) c.self.inside.putting.items
+    c.self.inside.taking.items in
     let opened : old.ending ≡ Open =
     ap (λ (e : EndStage). ending_of e c.self.inside.hand.jobs c.self.inside.count) c.in-Open.is in
     let new : State = record old { ending = Emptying c.seal-self-inside.result.jobs 0 } in

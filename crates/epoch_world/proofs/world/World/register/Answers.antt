@@ -1,12 +1,12 @@
-use Rattle.std.proofs.Common.{◌≡◌, ◌∙◌, sym, ap, refl, subst, map, slice_set, slice_index_or, get_or-set_other}
+use Rattle.std.proofs.Common.{◌≡◌, ◌∙◌, sym, ap, refl, subst, slice_set, slice_index_or, get_or-set_other}
 use Rattle.epoch_world.proofs.CollectionSteps.{claims_quiet}
 use Rattle.std.proofs.lemmas.List.{length-set}
 use Rattle.epoch_world.specs.declared.world.EndStage.{EndStage}
 use Rattle.epoch_laws.specs.declared.step.Reply.TheVariants.{Registered}
 use Rattle.epoch_laws.specs.declared.step.Step.TheVariants.{Register}
 use Rattle.epoch_laws.specs.Collections.{expiry_of}
-use Rattle.epoch_laws.specs.Run.{WorldSeat, State, TakesStep, free_seat, with_places}
-use Rattle.epoch_world.specs.Worlds.{state_of, with_bags, ending_of, aheads}
+use Rattle.epoch_laws.specs.Run.{WorldSeat, State, TakesStep, free_seat}
+use Rattle.epoch_world.specs.Worlds.{state_of, state_over, with_bags, ending_of, aheads}
 use Rattle.epoch_world.proofs.AheadsStay.{same_aheads, none_for, not_taking, not_putting}
 use Rattle.epoch_world.proofs.RoomSteps.{reserves_quiet}
 use Rattle.epoch_world.proofs.WorldKept.{kept_moves}
@@ -44,13 +44,10 @@ invariant_of-self g c =
 pub returns : goal.returns
 returns g c =
     let old : State =
-    with_places (state_of c.self.inside.sizes (with_bags g.S.BagStore.queued c.self.inside.common)
-    c.self.inside.seats.items
-    (ending_of c.self.inside.end c.self.inside.hand.jobs c.self.inside.count))
-    (g.S.BagStore.occupied c.self.inside.common.store) (map g.S.BagStore.passed c.self.inside.putting.items)
-    (aheads (λ x cursor. g.S.BagStore.ahead x c.self.inside.common.store cursor) c.self.inside.seats.items
-    c.self.inside.taking.items)
-    (map (λ cursor. g.S.BagStore.has_room c.self.inside.common.store cursor) c.self.inside.putting.items) in
+    state_over g.S.BagStore.queued g.S.BagStore.occupied g.S.BagStore.passed g.S.BagStore.ahead g.S.BagStore.has_room
+    c.self.inside.sizes c.self.inside.common c.self.inside.seats.items
+    (ending_of c.self.inside.end c.self.inside.hand.jobs c.self.inside.count) c.self.inside.putting.items
+    c.self.inside.taking.items in
     let all = slice_set c.self.inside.seats.items c.in-Some.index c.register.new.self in
     let new : State = record old {
       seats = all;

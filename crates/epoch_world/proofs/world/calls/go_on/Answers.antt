@@ -1,4 +1,4 @@
-use Rattle.std.proofs.Common.{◌≡◌, ap, length, sym, ◌∙◌, ◌+◌, ◌*◌, slice_index_or, refl, Some, List, rules}
+use Rattle.std.proofs.Common.{◌≡◌, ap, length, sym, ◌∙◌, slice_index_or, refl, Some, List, rules}
 use Rattle.epoch_machine.specs.declared.machine.Ask.{Ask}
 use Rattle.epoch_world.proofs.CollectionSteps.{performed_finds, performed_claims}
 use Rattle.epoch_laws.specs.declared.step.Progress.TheVariants.{Driven}
