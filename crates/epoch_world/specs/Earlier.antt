@@ -19,10 +19,10 @@ abbrev pub SinceEachState : (old : State) (log : List Entry) → (State → List
 SinceEachState old log Holds = (fresh start : State) (earlier since : List Entry) → IsFresh fresh
     → Runs fresh earlier start → Runs start since old → Holds start (since ++ log)
 
--- the first of these, of steps with the replies to them
+-- AlongEarlierRuns, where the log is of steps with the replies to them
 abbrev pub AlongSteps : State → List Step → (State → List Entry → Type 0) → Vec Reply → Type 0
 AlongSteps old steps Holds replies = AlongEarlierRuns old (entries_of steps replies.items) Holds
 
--- and of a participant's call
+-- and where it is of a participant's call, its Begin and the steps after it
 abbrev pub AlongCall : State → ℕ → Call → (State → List Entry → Type 0) → Vec Reply → Type 0
 AlongCall old p call Holds replies = AlongEarlierRuns old (call_entries p call replies.items) Holds

@@ -69,8 +69,8 @@ fn draw_call(draws: &mut Draws, participant: u64, value: u64) -> (StackStep, Opt
     }
 }
 
-/// What is known of a run: whether pins are renewed before each step, the calls that are over, those under way, how many
-/// steps were taken and calls begun, and how many removals were called before the end.
+/// What is known of a run: whether pins are renewed before each step, the calls that are over, those under way, how
+/// many steps were taken and calls begun, and how many removals were called before the end.
 #[derive(Drop)]
 struct Run {
     renews: bool,
@@ -97,8 +97,9 @@ fn removals_of(rt: &impl Abort, stack: &mut Stack, participant: u64, call: Plain
     panic!(rt; "a plain call comes to no end")
 }
 
-/// Each participant with no call under way flushes, and leaves its pin for a new one: what was taken off the stack is
-/// destroyed, and its cells are taken again, while calls on the stack are under way. Answers how many removals were called.
+/// Each participant with no call under way flushes, and leaves its pin for a new one: what was taken off the stack may
+/// be destroyed, and its cells taken again, while calls on the stack are under way. Answers how many removals were
+/// called.
 fn renew_pins(rt: &impl Abort, stack: &mut Stack, under_way: [Option<UnderWay>; 3]) -> u64 {
     let mut removals: u64 = 0;
     for (index, call) in under_way.iter().enumerate() {
@@ -195,8 +196,8 @@ fn end_all(rt: &impl Abort, stack: &mut Stack) -> Option<u64> {
     end(stack)
 }
 
-/// One run: its calls fit a list, whose values are those that are left. Answers how many removals were called before its
-/// end.
+/// One run: its calls fit a list, whose values are those that are left. Answers how many removals were called before
+/// its end.
 fn run_once(rt: &impl Abort, alloc: Global, draws: &mut Draws, renews: bool) -> Result<u64, Fail> {
     let cells = draws.below(9).wrapping_add(1);
     let mut stack: Stack = pinned_in(rt, alloc, shape_of(PARTICIPANTS, cells, BAGS, 64))?;
