@@ -25,9 +25,9 @@ draw:
 
 pictures:
 	@for name in $(PICTURES); do \
-	  $(MAKE) -s draw INPUT=crates/draw_tests/data/$$name.txt && cp out/run.svg crates/draw_tests/data/$$name.svg && cp out/run.svg docs/pictures/$$name.svg || exit 1; \
+	  $(MAKE) -s draw INPUT=crates/tests_draw/data/$$name.txt && cp out/run.svg crates/tests_draw/data/$$name.svg && cp out/run.svg docs/pictures/$$name.svg || exit 1; \
 	done
 
 test:
-	@for name in $(PICTURES); do cmp crates/draw_tests/data/$$name.svg docs/pictures/$$name.svg || exit 1; done
+	@for name in $(PICTURES); do cmp crates/tests_draw/data/$$name.svg docs/pictures/$$name.svg || exit 1; done
 	@start=$$(date +%s); rt ci; status=$$?; echo "make test took $$(($$(date +%s) - start)) s on $$(nproc) processors"; exit $$status

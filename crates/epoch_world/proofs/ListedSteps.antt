@@ -10,9 +10,9 @@ use Rattle.epoch_laws.specs.declared.step.Step.{Step}
 use Rattle.epoch_laws.specs.declared.step.Step.TheVariants.{Register, Begin, Go}
 use Rattle.epoch_laws.specs.Calls.{call_entries, goes_of, EndsAtLast}
 use Rattle.epoch_laws.specs.Run.{State, IsFresh}
-use Rattle.epoch_rounds.specs.Sharp.{pair_sizes, TakesSharpList, LeadsToSharp}
-use Rattle.epoch_rounds.proofs.SharpLog.{SharpReplies, both, log1, log2, log3, log4, log5, log6, log7, log8}
-use Rattle.epoch_rounds.proofs.SharpList.{sharp, sharp_run}
+use Rattle.epoch_rounds_laws.specs.Sharp.{pair_sizes, TakesSharpList, LeadsToSharp}
+use Rattle.epoch_rounds_laws.proofs.SharpLog.{SharpReplies, both, log1, log2, log3, log4, log5, log6, log7, log8}
+use Rattle.epoch_rounds_laws.proofs.SharpList.{sharp, sharp_run}
 use Rattle.epoch_world.specs.Listed.{ListsStep, ListsCall}
 
 -- ONE CALL

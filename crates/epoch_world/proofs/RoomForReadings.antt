@@ -12,7 +12,7 @@ use Rattle.epoch_laws.specs.declared.step.Progress.TheVariants.{Accesses}
 use Rattle.epoch_laws.specs.Kept.{IsSound}
 use Rattle.epoch_laws.specs.Readings.{ReadsNext}
 use Rattle.epoch_laws.specs.Run.{WorldSeat, State, seat_of}
-use Rattle.epoch_reach.proofs.RoomToRead.{room_to_read}
+use Rattle.epoch_reach_laws.proofs.RoomToRead.{room_to_read}
 use Rattle.epoch_world.specs.Seats.{CanRead, HasRead}
 
 pub can_read : (s : State) (p : ℕ) (seat : WorldSeat) (a : Access) (k : ℕ) (found : Ptr)

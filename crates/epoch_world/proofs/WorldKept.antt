@@ -31,8 +31,8 @@ use Rattle.epoch_laws.specs.Kept.{IsDriven, rests, BeganUnder, Awake, HasGuardRo
 use Rattle.epoch_laws.proofs.SeatLemmas.{begin_given}
 use Rattle.epoch_laws.proofs.Linked.{moved_linked, fresh_linked, follows_at}
 use Rattle.epoch_heap.specs.Heap.{Heap, outcome_of, heap_after_job}
-use Rattle.epoch_reach.proofs.HeapSteps.{heap_goes}
-use Rattle.epoch_reach.proofs.ReadingsKept.{readings_move, fresh_readings}
+use Rattle.epoch_reach_laws.proofs.HeapSteps.{heap_goes}
+use Rattle.epoch_reach_laws.proofs.ReadingsKept.{readings_move, fresh_readings}
 use Rattle.epoch_world.proofs.SlotsStay.{job_slots, access_slots}
 use Rattle.epoch_world.proofs.GuardsFew.{moves_room, fresh_room}
 use Rattle.epoch_world.proofs.FreeSeats.{moves_free, fresh_free}

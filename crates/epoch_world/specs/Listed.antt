@@ -6,7 +6,7 @@ use Rattle.epoch_laws.specs.declared.step.Reply.{Reply}
 use Rattle.epoch_laws.specs.declared.step.Step.{Step}
 use Rattle.epoch_laws.specs.Calls.{call_entries}
 use Rattle.epoch_laws.specs.Run.{State, TakesStep}
-use Rattle.epoch_rounds.specs.Sharp.{EndsCall}
+use Rattle.epoch_rounds_laws.specs.Sharp.{EndsCall}
 
 -- a step
 pub record ListsStep (step : Step) (old : State) (before : List Step) (new : State) (after : List Step) : Type 0 where

@@ -11,7 +11,7 @@ pub use epoch_laws::{
     every_refusal_leaves_what_it_must, every_run_holds_each_ticket_once, every_run_is_lawful,
     every_run_keeps_grace, every_run_numbers_tickets, is_lawful, keeps_grace,
 };
-pub use epoch_reach::{
+pub use epoch_reach_laws::{
     every_cell_counts_its_readers, every_loaded_name_stands, every_name_stands_or_is_destroyed,
     every_run_calls_what_was_deferred, every_run_gives_no_name_twice, every_run_keeps_reach,
     some_run_loses_reach,

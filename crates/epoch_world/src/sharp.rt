@@ -1,7 +1,7 @@
 //! A list of steps that shows how long a bag has to wait.
 ghost use Rattle.std.specs.Prelude.{◌≡◌, [], ◌∷◌, ◌++◌, IfOk, IfErr};
 ghost use Rattle.epoch_cells.specs.declared.fault.Fault.TheVariants.{NoMemory};
-ghost use Rattle.epoch_rounds.specs.Sharp.{LeadsToSharp};
+ghost use Rattle.epoch_rounds_laws.specs.Sharp.{LeadsToSharp};
 ghost use Rattle.epoch_world.specs.Listed.{ListsStep, ListsCall};
 
 use crate::world::World;

@@ -17,12 +17,12 @@ ghost use Rattle.epoch_laws.specs.Ends.{EndsAtCount};
 ghost use Rattle.epoch_laws.specs.Lawful.{IsLawful};
 ghost use Rattle.epoch_laws.specs.Full.{FullWhereFound};
 ghost use Rattle.epoch_laws.specs.Calls.{call_entries, EndsAtLast};
-ghost use Rattle.epoch_rounds.specs.Rounds.{RoundsCallAll};
-ghost use Rattle.epoch_rounds.specs.Collected.{CollectsFew};
-ghost use Rattle.epoch_reach.specs.Reach.{LeavesOnce, KeepsLoaded, past_of};
-ghost use Rattle.epoch_reach.specs.Given.{GivesNoNameTwice};
-ghost use Rattle.epoch_reach.specs.Removals.{CallsWhatWasDeferred};
-ghost use Rattle.epoch_reach.specs.Standing.{StandsOrDestroyed, given_of, LoadedStand};
+ghost use Rattle.epoch_rounds_laws.specs.Rounds.{RoundsCallAll};
+ghost use Rattle.epoch_rounds_laws.specs.Collected.{CollectsFew};
+ghost use Rattle.epoch_reach_laws.specs.Reach.{LeavesOnce, KeepsLoaded, past_of};
+ghost use Rattle.epoch_reach_laws.specs.Given.{GivesNoNameTwice};
+ghost use Rattle.epoch_reach_laws.specs.Removals.{CallsWhatWasDeferred};
+ghost use Rattle.epoch_reach_laws.specs.Standing.{StandsOrDestroyed, given_of, LoadedStand};
 
 mod calls;
 mod common;

@@ -1,9 +1,0 @@
-use Rattle.epoch_tables.specs.SharedPlaces.{IsSamePlaceSeat}
-use Rattle.epoch_tables.specs.SharedSteps.{PutsAt}
-use Rattle.base_tests.proofs.shared_places.put.Given as goal
-
-abbrev pub invariant-loop : goal.invariant-loop
-invariant-loop l = record {
-  kept : IsSamePlaceSeat l.initial.seat l.seat;
-  at : PutsAt l.places.capacity l.cursor l.seat.me;
-}

@@ -1,0 +1,698 @@
+//! What is done to worlds over each of the three stores, and what it tells, worked out by hand.
+
+use crate::deeds::Deed::{
+    Calls, Collects, Cycles, Defers, Ends, Epoch, Flushes, Goes, Guards, Pauses, Pins, Rounds,
+    Takes, Unpins, Word,
+};
+use crate::deeds::{Row, expect_rows, new_world};
+use crate::plain::{Answer, Call, Reply, Step};
+use crate::wants::want;
+use epoch_bags::{BagQueue, BagStore, Called, GREATEST_EPOCH, Places};
+use epoch_cells::Fault;
+use epoch_world::{Deferral, Shape, World};
+use std::alloc::Global;
+use std::process::Abort;
+use std::test::Fail;
+use tests_pile::Pile;
+
+/// One participant, and a store for one bag.
+pub const ONE: Shape = Shape {
+    participants: 1,
+    cells: 0,
+    roots: 0,
+    fields: 0,
+    bags: 1,
+    align: 1,
+    start_epoch: 0,
+    start_turn: 0,
+    bag_jobs: 64,
+    collect_bags: 8,
+};
+
+/// Two participants, and a store for one bag.
+const TWO: Shape = Shape {
+    participants: 2,
+    ..ONE
+};
+
+/// One participant, four places, bags of two jobs, and collections of one bag.
+const SMALL: Shape = Shape {
+    bags: 4,
+    bag_jobs: 2,
+    collect_bags: 1,
+    ..ONE
+};
+
+const DONE: Reply = Reply::Done(Answer::Unit);
+
+const FULL: Reply = Reply::Refused(Fault::BagsFull);
+
+const RELEASED: &[Reply] = &[
+    Reply::Pinned(0),
+    Reply::Unpinned(0),
+    Reply::Done(Answer::Released),
+];
+
+/// What pins, repins, guards and the epoch do, alone and against one another.
+const PINS: &[Row] = &[
+    (
+        "a job is called by the second round after its own",
+        Shape { bags: 4, ..ONE },
+        &[
+            Takes(Step::Register, Reply::Registered(0)),
+            Pins(0),
+            Defers(0, 0, 1),
+            Flushes(0, &[], DONE),
+            Unpins(0),
+            Rounds(0, 1),
+            Pins(0),
+            Flushes(0, &[(0, 1)], DONE),
+            Epoch(3),
+        ],
+    ),
+    (
+        "a pin is eight steps, one at a time",
+        ONE,
+        &[
+            Takes(Step::Register, Reply::Registered(0)),
+            Takes(Step::Begin(0, Call::Pin), Reply::Began),
+            Takes(Step::Go(0), Reply::Stepped),
+            Takes(Step::Go(0), Reply::Pinned(0)),
+            Takes(Step::Go(0), Reply::Stepped),
+            Takes(Step::Go(0), Reply::Stepped),
+            Takes(Step::Go(0), Reply::Stepped),
+            Takes(Step::Go(0), Reply::Stepped),
+            Takes(Step::Go(0), Reply::Stepped),
+            Takes(Step::Go(0), Reply::Done(Answer::Guard(0))),
+            Takes(Step::Go(0), Reply::Refused(Fault::Idle)),
+        ],
+    ),
+    (
+        "the words of a participant pinned in epoch 5, and of none",
+        Shape {
+            start_epoch: 5,
+            ..ONE
+        },
+        &[
+            Takes(Step::Register, Reply::Registered(0)),
+            Pins(0),
+            Epoch(6),
+            Word(0, Some(11)),
+            Word(1, None),
+        ],
+    ),
+    (
+        "a participant pinned before the deferral holds the job back",
+        Shape { bags: 4, ..TWO },
+        &[
+            Takes(Step::Register, Reply::Registered(0)),
+            Takes(Step::Register, Reply::Registered(1)),
+            Pins(0),
+            Epoch(1),
+            Word(0, Some(1)),
+            Pins(1),
+            Word(1, Some(3)),
+            Defers(1, 0, 1),
+            Flushes(1, &[], DONE),
+            Unpins(1),
+            Pins(1),
+            Flushes(1, &[], DONE),
+            Epoch(1),
+            Unpins(0),
+            Flushes(1, &[], DONE),
+            Epoch(2),
+            Unpins(1),
+            Pins(1),
+            Flushes(1, &[(0, 1)], DONE),
+            Epoch(3),
+        ],
+    ),
+    (
+        "a participant that publishes an old epoch holds the next one back",
+        Shape { bags: 4, ..TWO },
+        &[
+            Takes(Step::Register, Reply::Registered(0)),
+            Takes(Step::Register, Reply::Registered(1)),
+            Takes(Step::Begin(0, Call::Pin), Reply::Began),
+            Takes(Step::Go(0), Reply::Stepped),
+            Cycles(1, 1),
+            Epoch(1),
+            Pins(1),
+            Word(1, Some(3)),
+            Flushes(1, &[], DONE),
+            Epoch(2),
+            Unpins(1),
+            Takes(Step::Go(0), Reply::Pinned(0)),
+            Word(0, Some(1)),
+            Epoch(2),
+            Pins(1),
+            Word(1, Some(5)),
+            Defers(1, 0, 1),
+            Flushes(1, &[], DONE),
+            Epoch(2),
+            Goes(0, &[Reply::Done(Answer::Guard(0))]),
+            Defers(0, 1, 2),
+            Flushes(0, &[], DONE),
+            Epoch(2),
+        ],
+    ),
+    (
+        "a job deferred beside another pin of the same epoch stays uncalled",
+        TWO,
+        &[
+            Takes(Step::Register, Reply::Registered(0)),
+            Takes(Step::Register, Reply::Registered(1)),
+            Cycles(0, 1),
+            Epoch(1),
+            Cycles(1, 1),
+            Epoch(2),
+            Pins(0),
+            Word(0, Some(5)),
+            Pins(1),
+            Word(1, Some(5)),
+            Defers(1, 0, 1),
+            Flushes(1, &[], DONE),
+            Epoch(3),
+        ],
+    ),
+    (
+        "two scans of the same epoch advance it once",
+        TWO,
+        &[
+            Takes(Step::Register, Reply::Registered(0)),
+            Takes(Step::Register, Reply::Registered(1)),
+            Cycles(0, 1),
+            Cycles(1, 1),
+            Pins(0),
+            Word(0, Some(5)),
+            Pins(1),
+            Word(1, Some(5)),
+            Takes(Step::Begin(0, Call::Flush(Some(0))), Reply::Began),
+            Takes(Step::Begin(1, Call::Flush(Some(0))), Reply::Began),
+            Takes(Step::Go(0), Reply::Stepped),
+            Takes(Step::Go(1), Reply::Stepped),
+            Takes(Step::Go(0), Reply::Stepped),
+            Takes(Step::Go(1), Reply::Stepped),
+            Takes(Step::Go(0), Reply::Stepped),
+            Takes(Step::Go(1), Reply::Stepped),
+            Epoch(2),
+            Takes(Step::Go(0), Reply::Stepped),
+            Epoch(3),
+            Takes(Step::Go(1), Reply::Stepped),
+            Epoch(3),
+        ],
+    ),
+    (
+        "a scan that has passed a participant advances before it pins",
+        TWO,
+        &[
+            Takes(Step::Register, Reply::Registered(0)),
+            Takes(Step::Register, Reply::Registered(1)),
+            Cycles(0, 1),
+            Cycles(1, 1),
+            Pins(1),
+            Word(1, Some(5)),
+            Takes(Step::Begin(1, Call::Flush(Some(0))), Reply::Began),
+            Takes(Step::Go(1), Reply::Stepped),
+            Takes(Step::Go(1), Reply::Stepped),
+            Pins(0),
+            Word(0, Some(5)),
+            Takes(Step::Go(1), Reply::Stepped),
+            Takes(Step::Go(1), Reply::Stepped),
+            Epoch(3),
+            Goes(1, &[DONE]),
+            Flushes(1, &[], DONE),
+            Epoch(3),
+        ],
+    ),
+    (
+        "a repin with a second guard out does nothing",
+        ONE,
+        &[
+            Takes(Step::Register, Reply::Registered(0)),
+            Pins(0),
+            Word(0, Some(1)),
+            Epoch(1),
+            Guards(0, 1, 2),
+            Calls(0, Call::Repin(Some(0)), &[DONE]),
+            Word(0, Some(1)),
+            Calls(0, Call::Unpin(Some(1)), &[DONE]),
+            Calls(0, Call::Repin(Some(0)), &[Reply::Repinned(0), DONE]),
+            Word(0, Some(3)),
+        ],
+    ),
+    (
+        "the lowest free position is registered, and none in a full table",
+        TWO,
+        &[
+            Takes(Step::Register, Reply::Registered(0)),
+            Takes(Step::Register, Reply::Registered(1)),
+            Takes(Step::Register, Reply::Refused(Fault::TableFull)),
+            Calls(0, Call::Release, RELEASED),
+            Takes(Step::Register, Reply::Registered(0)),
+        ],
+    ),
+    (
+        "the word of a participant pinned in the greatest epoch is the greatest number",
+        Shape {
+            start_epoch: GREATEST_EPOCH,
+            ..ONE
+        },
+        &[
+            Takes(Step::Register, Reply::Registered(0)),
+            Pins(0),
+            Word(0, Some(u64::MAX)),
+        ],
+    ),
+    (
+        "a pin of nobody is refused",
+        ONE,
+        &[Calls(0, Call::Pin, &[Reply::Refused(Fault::NotRegistered)])],
+    ),
+    (
+        "an end with a participant left is refused and changes nothing",
+        ONE,
+        &[
+            Takes(Step::Register, Reply::Registered(0)),
+            Takes(Step::End, Reply::Refused(Fault::ParticipantsLeft)),
+            Word(0, Some(2)),
+            Epoch(0),
+        ],
+    ),
+    (
+        "the 65th guard is refused",
+        ONE,
+        &[
+            Takes(Step::Register, Reply::Registered(0)),
+            Pins(0),
+            Guards(0, 1, 64),
+            Calls(0, Call::Pin, &[Reply::Refused(Fault::TooManyGuards)]),
+        ],
+    ),
+];
+
+/// What paused and unprotected guards do.
+const PAUSES: &[Row] = &[
+    (
+        "a paused participant is refused all but the resume",
+        ONE,
+        &[
+            Takes(Step::Register, Reply::Registered(0)),
+            Pins(0),
+            Calls(0, Call::Pause(Some(0)), &[Reply::Unpinned(0), DONE]),
+            Calls(0, Call::Flush(Some(0)), &[Reply::Refused(Fault::Busy)]),
+            Calls(0, Call::Resume(Some(0)), &[Reply::Pinned(0), DONE]),
+            Word(0, Some(3)),
+        ],
+    ),
+    (
+        "a pause with a second guard out keeps the pin",
+        ONE,
+        &[
+            Takes(Step::Register, Reply::Registered(0)),
+            Pins(0),
+            Guards(0, 1, 2),
+            Calls(0, Call::Pause(Some(1)), &[DONE]),
+            Calls(0, Call::Unpin(Some(0)), &[Reply::Refused(Fault::Busy)]),
+            Calls(
+                0,
+                Call::Resume(Some(0)),
+                &[Reply::Refused(Fault::StrangerGuard)],
+            ),
+            Calls(0, Call::Resume(Some(1)), &[DONE]),
+            Word(0, Some(1)),
+        ],
+    ),
+    (
+        "the 129th pin collects",
+        ONE,
+        &[
+            Takes(Step::Register, Reply::Registered(0)),
+            Cycles(0, 128),
+            Epoch(1),
+            Pins(0),
+            Epoch(2),
+            Word(0, Some(3)),
+        ],
+    ),
+    (
+        "a resume counts as a pin",
+        ONE,
+        &[
+            Takes(Step::Register, Reply::Registered(0)),
+            Pins(0),
+            Pauses(0, 127),
+            Epoch(1),
+            Pauses(0, 1),
+            Epoch(2),
+            Word(0, Some(3)),
+        ],
+    ),
+    (
+        "an unprotected guard calls at once and does nothing else",
+        ONE,
+        &[
+            Takes(Step::Register, Reply::Registered(0)),
+            Pins(0),
+            Calls(0, Call::Defer(None), &[Reply::CalledNow(Called::Ran), DONE]),
+            Calls(0, Call::Flush(None), &[DONE]),
+            Calls(0, Call::Pause(None), &[DONE]),
+            Calls(0, Call::Resume(None), &[DONE]),
+        ],
+    ),
+    (
+        "a resume of a guard that is not paused is refused",
+        ONE,
+        &[
+            Takes(Step::Register, Reply::Registered(0)),
+            Pins(0),
+            Calls(0, Call::Resume(Some(0)), &[Reply::Refused(Fault::Idle)]),
+        ],
+    ),
+    (
+        "an unprotected resume leaves the pause as it is",
+        ONE,
+        &[
+            Takes(Step::Register, Reply::Registered(0)),
+            Pins(0),
+            Calls(0, Call::Pause(Some(0)), &[Reply::Unpinned(0), DONE]),
+            Calls(0, Call::Resume(None), &[DONE]),
+            Calls(0, Call::Flush(Some(0)), &[Reply::Refused(Fault::Busy)]),
+            Word(0, Some(2)),
+            Calls(0, Call::Resume(Some(0)), &[Reply::Pinned(0), DONE]),
+        ],
+    ),
+];
+
+/// What full stores, releases and ends do.
+const BAGS: &[Row] = &[
+    (
+        "a full store refuses a deferral and a flush until a bag is taken",
+        ONE,
+        &[
+            Takes(Step::Register, Reply::Registered(0)),
+            Pins(0),
+            Defers(0, 0, 128),
+            Calls(0, Call::Defer(Some(0)), &[FULL]),
+            Flushes(0, &[], FULL),
+            Unpins(0),
+            Collects(0, &[], FULL),
+            Pins(0),
+            Flushes(0, &[(0, 64)], FULL),
+            Epoch(3),
+            Unpins(0),
+            Pins(0),
+            Flushes(0, &[], DONE),
+            Epoch(4),
+            Unpins(0),
+            Pins(0),
+            Flushes(0, &[(64, 128)], DONE),
+            Epoch(5),
+        ],
+    ),
+    (
+        "a bag of one job and one place hold two jobs",
+        Shape {
+            bag_jobs: 1,
+            collect_bags: 1,
+            ..ONE
+        },
+        &[
+            Takes(Step::Register, Reply::Registered(0)),
+            Pins(0),
+            Defers(0, 0, 2),
+            Calls(0, Call::Defer(Some(0)), &[FULL]),
+        ],
+    ),
+    (
+        "a release with a full store is refused, and its job is called by the end",
+        ONE,
+        &[
+            Takes(Step::Register, Reply::Registered(0)),
+            Pins(0),
+            Defers(0, 0, 65),
+            Unpins(0),
+            Calls(
+                0,
+                Call::Release,
+                &[Reply::Pinned(0), Reply::Unpinned(0), FULL],
+            ),
+            Word(0, Some(2)),
+            Epoch(1),
+            Collects(0, &[], FULL),
+            Epoch(2),
+            Collects(0, &[(0, 64)], FULL),
+            Epoch(3),
+            Calls(0, Call::Release, RELEASED),
+            Word(0, Some(0)),
+            Ends(64, 65),
+        ],
+    ),
+    (
+        "a thousand pins collect one time in 128",
+        Shape { bags: 4, ..ONE },
+        &[
+            Takes(Step::Register, Reply::Registered(0)),
+            Pins(0),
+            Defers(0, 0, 10),
+            Unpins(0),
+            Cycles(0, 1000),
+            Epoch(8),
+            Rounds(0, 1),
+            Epoch(9),
+            Collects(0, &[(0, 10)], DONE),
+            Epoch(10),
+        ],
+    ),
+    (
+        "in the greatest epoch nothing is called before the end",
+        Shape {
+            bags: 4,
+            start_epoch: GREATEST_EPOCH,
+            ..ONE
+        },
+        &[
+            Takes(Step::Register, Reply::Registered(0)),
+            Pins(0),
+            Defers(0, 0, 1),
+            Flushes(0, &[], DONE),
+            Unpins(0),
+            Rounds(0, 20),
+            Epoch(GREATEST_EPOCH),
+            Calls(0, Call::Release, RELEASED),
+            Ends(0, 1),
+        ],
+    ),
+    (
+        "after an end all is refused",
+        Shape { bags: 4, ..ONE },
+        &[
+            Takes(Step::Register, Reply::Registered(0)),
+            Pins(0),
+            Defers(0, 0, 2),
+            Unpins(0),
+            Calls(0, Call::Release, RELEASED),
+            Ends(0, 2),
+            Takes(Step::Register, Reply::Refused(Fault::Ended)),
+            Takes(Step::End, Reply::Refused(Fault::Ended)),
+            Takes(Step::EndGo, Reply::Refused(Fault::Idle)),
+        ],
+    ),
+];
+
+/// What stores tell that look first at the bag that was put first.
+const FIRST_OUT: &[Row] = &[
+    (
+        "a collection takes eight bags, the first ones that were put",
+        Shape { bags: 16, ..ONE },
+        &[
+            Takes(Step::Register, Reply::Registered(0)),
+            Pins(0),
+            Defers(0, 0, 640),
+            Unpins(0),
+            Rounds(0, 1),
+            Epoch(2),
+            Collects(0, &[(0, 512)], DONE),
+            Epoch(3),
+            Collects(0, &[(512, 640)], DONE),
+            Epoch(4),
+        ],
+    ),
+    (
+        "a bag of two jobs is taken by each collection, the first one that was put",
+        SMALL,
+        &[
+            Takes(Step::Register, Reply::Registered(0)),
+            Pins(0),
+            Defers(0, 0, 5),
+            Unpins(0),
+            Rounds(0, 1),
+            Epoch(2),
+            Collects(0, &[(0, 2)], DONE),
+            Epoch(3),
+            Collects(0, &[(2, 4)], DONE),
+            Epoch(4),
+            Collects(0, &[(4, 5)], DONE),
+            Epoch(5),
+        ],
+    ),
+];
+
+/// What the store tells that looks first at the bag that was put last.
+const LAST_OUT: &[Row] = &[
+    (
+        "a collection takes eight bags, the last ones that were put",
+        Shape { bags: 16, ..ONE },
+        &[
+            Takes(Step::Register, Reply::Registered(0)),
+            Pins(0),
+            Defers(0, 0, 640),
+            Unpins(0),
+            Rounds(0, 1),
+            Epoch(2),
+            Collects(
+                0,
+                &[
+                    (576, 640),
+                    (512, 576),
+                    (448, 512),
+                    (384, 448),
+                    (320, 384),
+                    (256, 320),
+                    (192, 256),
+                    (128, 192),
+                ],
+                DONE,
+            ),
+            Epoch(3),
+            Collects(0, &[(64, 128), (0, 64)], DONE),
+            Epoch(4),
+        ],
+    ),
+    (
+        "a bag of two jobs is taken by each collection, the last one that was put",
+        SMALL,
+        &[
+            Takes(Step::Register, Reply::Registered(0)),
+            Pins(0),
+            Defers(0, 0, 5),
+            Unpins(0),
+            Rounds(0, 1),
+            Epoch(2),
+            Collects(0, &[(4, 5)], DONE),
+            Epoch(3),
+            Collects(0, &[(2, 4)], DONE),
+            Epoch(4),
+            Collects(0, &[(0, 2)], DONE),
+            Epoch(5),
+        ],
+    ),
+];
+
+/// What stores tell that put, and look at one bag, in one step.
+const WHOLE_PUTS: &[Row] = &[
+    (
+        "the 65th deferral puts a bag in one step",
+        Shape { bags: 2, ..ONE },
+        &[
+            Takes(Step::Register, Reply::Registered(0)),
+            Pins(0),
+            Defers(0, 0, 64),
+            Takes(Step::Begin(0, Call::Defer(Some(0))), Reply::Began),
+            Takes(Step::Go(0), Reply::Stepped),
+            Takes(Step::Go(0), Reply::Stepped),
+            Takes(Step::Go(0), Reply::Deferred(64)),
+            Takes(Step::Go(0), DONE),
+        ],
+    ),
+    (
+        "a flush is six steps where a put and a collection are one each",
+        Shape { bags: 2, ..ONE },
+        &[
+            Takes(Step::Register, Reply::Registered(0)),
+            Pins(0),
+            Defers(0, 0, 1),
+            Takes(Step::Begin(0, Call::Flush(Some(0))), Reply::Began),
+            Takes(Step::Go(0), Reply::Stepped),
+            Takes(Step::Go(0), Reply::Stepped),
+            Takes(Step::Go(0), Reply::Stepped),
+            Takes(Step::Go(0), Reply::Stepped),
+            Takes(Step::Go(0), Reply::Stepped),
+            Takes(Step::Go(0), DONE),
+        ],
+    ),
+];
+
+/// What a collection of many steps tells.
+const PILES: &[Row] = &[(
+    "a collection looks at each bag in a step of its own",
+    Shape {
+        bags: 4,
+        bag_jobs: 1,
+        ..ONE
+    },
+    &[
+        Takes(Step::Register, Reply::Registered(0)),
+        Pins(0),
+        Defers(0, 0, 3),
+        Takes(Step::Begin(0, Call::Flush(Some(0))), Reply::Began),
+        Takes(Step::Go(0), Reply::Stepped),
+        Takes(Step::Go(0), Reply::Stepped),
+        Takes(Step::Go(0), Reply::Stepped),
+        Takes(Step::Go(0), Reply::Stepped),
+        Takes(Step::Go(0), Reply::Stepped),
+        Takes(Step::Go(0), Reply::Stepped),
+        Takes(Step::Go(0), Reply::Stepped),
+        Takes(Step::Go(0), DONE),
+    ],
+)];
+
+/// Rows that tell the same over any store.
+fn expect_everywhere(rt: &impl Abort, alloc: Global, rows: &[Row]) -> Result<(), Fail> {
+    expect_rows::<Places<Deferral>>(rt, alloc, rows)?;
+    expect_rows::<BagQueue<Deferral>>(rt, alloc, rows)?;
+    expect_rows::<Pile>(rt, alloc, rows)
+}
+
+#[test]
+fn pins_and_epochs_tell_the_same_over_any_store(rt: HostRuntime) -> Result<(), Fail> {
+    expect_everywhere(&rt, rt.alloc(), PINS)
+}
+
+#[test]
+fn pauses_and_unprotected_guards_tell_the_same_over_any_store(rt: HostRuntime) -> Result<(), Fail> {
+    expect_everywhere(&rt, rt.alloc(), PAUSES)
+}
+
+#[test]
+fn full_stores_and_ends_tell_the_same_over_any_store(rt: HostRuntime) -> Result<(), Fail> {
+    expect_everywhere(&rt, rt.alloc(), BAGS)
+}
+
+#[test]
+fn bags_are_taken_in_the_order_of_the_store(rt: HostRuntime) -> Result<(), Fail> {
+    expect_rows::<Places<Deferral>>(&rt, rt.alloc(), FIRST_OUT)?;
+    expect_rows::<BagQueue<Deferral>>(&rt, rt.alloc(), FIRST_OUT)?;
+    expect_rows::<Pile>(&rt, rt.alloc(), LAST_OUT)
+}
+
+#[test]
+fn a_put_and_a_look_are_one_step_each_where_the_store_says_so(rt: HostRuntime) -> Result<(), Fail> {
+    expect_rows::<BagQueue<Deferral>>(&rt, rt.alloc(), WHOLE_PUTS)?;
+    expect_rows::<Pile>(&rt, rt.alloc(), WHOLE_PUTS)?;
+    expect_rows::<Pile>(&rt, rt.alloc(), PILES)
+}
+
+fn expect_empty<S: BagStore<Job = Deferral>>(rt: &impl Abort, alloc: Global) -> Result<(), Fail> {
+    let mut world: World<S> = new_world(rt, alloc, ONE)?;
+    let replies = world.run(&[])?;
+    want(rt, "replies to an empty list", replies.is_empty(), true);
+    Ok(())
+}
+
+#[test]
+fn an_empty_list_gives_an_empty_list(rt: HostRuntime) -> Result<(), Fail> {
+    expect_empty::<Places<Deferral>>(&rt, rt.alloc())?;
+    expect_empty::<BagQueue<Deferral>>(&rt, rt.alloc())?;
+    expect_empty::<Pile>(&rt, rt.alloc())
+}
