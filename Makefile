@@ -1,19 +1,29 @@
-# `make run` proves and builds what epoch_run needs, runs it on its stored script, or on INPUT=FILE, and prints what it
-# answers. `make try` runs the same without any proof. `make draw` draws the run to out/run.svg, unproved. `make pictures`
-# draws those of the documents anew. `make test` is the merge gate.
 INPUT ?= crates/epoch_run/stdin
 
 PICTURES = grace stall full
 
-.PHONY: run try draw pictures test
+.PHONY: help run try draw pictures test refute
+
+help:
+	@echo 'make try      compiles the program epoch-run and runs it on a script; proves nothing   20 s'
+	@echo 'make run      proves and builds what the program needs, and runs it     minutes at first, then seconds'
+	@echo 'make draw     draws the run of a script to out/run.svg; proves nothing                 20 s'
+	@echo 'make test     the merge gate: every proof from nothing, every test, and the wrong'
+	@echo '              bodies of crates/*/must-fail, each of which must be refused    half an hour and more'
+	@echo 'make refute   tries the other wrong bodies, those of crates/*/refuted        half an hour and more'
+	@echo 'make pictures draws the pictures of the documents anew                                  1 min'
+	@echo
+	@echo 'INPUT=FILE    the script of try, run and draw, in place of crates/epoch_run/stdin'
+	@echo 'CRATE=NAME    the crate of refute, in place of all'
+	@echo 'Times are of 4 processors; docs/PERFORMANCE.md says what they depend on.'
 
 ifeq ($(shell command -v rt),)
 $(error rt, the command of the Rattle toolchain, is missing: put its folder on PATH)
 endif
 
 run:
-	@echo 'The first run proves all that the program needs, some 1,500 s of processor time. Later ones take seconds.' >&2
-	@script=$$(realpath "$(INPUT)") && cd crates/epoch_run && rt run < "$$script"
+	@echo 'The first run proves all that the program needs, which takes minutes. Later ones take seconds.' >&2
+	@script=$$(realpath "$(INPUT)") && tools/prove.py epoch_run && cd crates/epoch_run && rt run < "$$script"
 
 try:
 	@echo 'This proves nothing: the program is only compiled and run, in about 20 seconds on 4 processors.' >&2
@@ -22,6 +32,7 @@ try:
 draw:
 	@echo 'This proves nothing: the program is only compiled and run, in about 20 seconds on 4 processors.' >&2
 	@mkdir -p out && script=$$(realpath "$(INPUT)") && cd crates/epoch_draw && rt try < "$$script" > ../../out/run.svg.part && mv ../../out/run.svg.part ../../out/run.svg
+	@echo 'The picture is out/run.svg.' >&2
 
 pictures:
 	@for name in $(PICTURES); do \
@@ -30,4 +41,8 @@ pictures:
 
 test:
 	@for name in $(PICTURES); do cmp crates/tests_draw/data/$$name.svg docs/pictures/$$name.svg || exit 1; done
-	@start=$$(date +%s); rt ci; status=$$?; echo "make test took $$(($$(date +%s) - start)) s on $$(nproc) processors"; exit $$status
+	@tools/refute.py --stand
+	@tools/gate.py
+
+refute:
+	@tools/refute.py $(CRATE)

@@ -1,0 +1,108 @@
+#!/usr/bin/env python3
+"""Runs the merge gate, `rt ci`, says which crate it is at, and prints a table of what each crate took.
+
+usage: tools/gate.py    at the top of the repository
+
+Figures are sampled each second: processor seconds (user and system) and the most memory of a crate's proof, of the proof of
+its tests, and of its wrong bodies. The total is the system's own count.
+"""
+import os
+import re
+import resource
+import subprocess
+import sys
+import threading
+import time
+
+TICKS = os.sysconf("SC_CLK_TCK")
+PAGE = os.sysconf("SC_PAGE_SIZE")
+KINDS = ("proof", "tests", "wrong bodies")
+
+
+def text_of(path):
+    with open(path, encoding="utf-8", errors="replace") as file:
+        return file.read()
+
+
+def work_of(pid):
+    """Returns what a process of the checker works on, as crate and kind, or None for any other process."""
+    words = text_of(f"/proc/{pid}/cmdline").split("\0")
+    if os.path.basename(words[0]) != "rattle" or "--crate-name" not in words:
+        return None
+    crate = words[words.index("--crate-name") + 1]
+    is_edit = os.path.basename(os.readlink(f"/proc/{pid}/cwd")).startswith("rt-edit-")
+    return crate, KINDS[2] if is_edit else KINDS[1] if "--test" in words else KINDS[0]
+
+
+def usage_of(pid):
+    """Returns when a process started, its processor seconds and its memory in bytes."""
+    fields = text_of(f"/proc/{pid}/stat").rpartition(")")[2].split()
+    return fields[19], (int(fields[11]) + int(fields[12])) / TICKS, int(fields[21]) * PAGE
+
+
+class Samples:
+    """What each process of the checker has taken so far, and the most memory that a crate's work took at once."""
+
+    def __init__(self, said):
+        self.said, self.started = said, time.monotonic()
+        self.seconds, self.memory, self.is_over = {}, {}, False
+
+    def take(self):
+        held = {}
+        for pid in filter(str.isdigit, os.listdir("/proc")):
+            try:
+                work = work_of(pid)
+                if work:
+                    since, seconds, memory = usage_of(pid)
+                    self.seconds[pid, since] = work, seconds
+                    held[work] = held.get(work, 0) + memory
+            except (OSError, IndexError, ValueError):
+                pass
+        for work, memory in held.items():
+            if work not in self.memory:
+                self.said(f"at {time.monotonic() - self.started:.0f} s: {work[0]}, {work[1]}")
+            self.memory[work] = max(memory, self.memory.get(work, 0))
+
+    def go_on(self):
+        while not self.is_over:
+            self.take()
+            time.sleep(1)
+
+    def rows(self):
+        """Returns a row a crate, in the order of crates.txt: seconds and most memory of each kind of work."""
+        sums = {}
+        for work, seconds in self.seconds.values():
+            sums[work] = sums.get(work, 0) + seconds
+        for crate in re.findall(r"^(\w+)[ :]", text_of("crates.txt"), re.M):
+            cells = [f"{sums[crate, kind]:.0f}" if (crate, kind) in sums else "" for kind in KINDS]
+            most = max((self.memory.get((crate, kind), 0) for kind in KINDS), default=0)
+            yield f"| `{crate}` | {' | '.join(cells)} | {most / 1e9:.1f} |"
+        cells = [f"{sum(it for work, it in sums.items() if work[1] == kind):.0f}" for kind in KINDS]
+        yield f"| in all | {' | '.join(cells)} | {max(self.memory.values(), default=0) / 1e9:.1f} |"
+
+
+def main():
+    said = lambda line: print(line, flush=True)
+    samples = Samples(said)
+    sampling = threading.Thread(target=samples.go_on, daemon=True)
+    sampling.start()
+    ran = subprocess.Popen(["rt", "ci"], stdin=subprocess.DEVNULL, stdout=subprocess.PIPE, stderr=subprocess.STDOUT, text=True, errors="replace")
+    last = ""
+    for line in ran.stdout:
+        if last:
+            said(last)
+        last = line.rstrip("\n")
+    status = ran.wait()
+    samples.is_over = True
+    sampling.join()
+    used = resource.getrusage(resource.RUSAGE_CHILDREN)
+    said(f"| Crate | {', s | '.join(KINDS)}, s | GB |\n|---|---|---|---|---|")
+    for row in samples.rows():
+        said(row)
+    said(f"{used.ru_utime + used.ru_stime:.0f} processor seconds, {time.monotonic() - samples.started:.0f} s on {len(os.sched_getaffinity(0))} processors")
+    said(last)
+    return status
+
+
+if __name__ == "__main__":
+    sys.exit(main())
