@@ -2,38 +2,63 @@
 """Proves a crate's libraries, side by side where none stands on the other, and prints a line a crate with its time.
 
 usage: tools/prove.py NAME..    at the top of the repository; the crates themselves are left to `rt run` or `rt check`
+
+One `rt` at a time works in a crate and in all that it stands on. So each library is proved in a folder of its own, below
+.git, to which the files are linked; what the proof keeps is moved back to the library's out/.
 """
 import os
+import shutil
 import subprocess
 import sys
 import time
 from concurrent.futures import FIRST_COMPLETED, ThreadPoolExecutor, wait
 
-# A proof takes up to 3.5 GB, and each further job of it about 0.6 times as much.
+# A proof takes up to 3.5 GB.
 BYTES_A_PROOF = 3_500_000_000
+ROOM = ".git/proving"
 
 
 def libraries():
-    """Returns, for each crate of crates.txt, the crates of this repository that it uses."""
+    """Returns, for each crate of crates.txt, the libraries that it uses."""
     with open("crates.txt", encoding="utf-8") as file:
         lines = [line.partition("#")[0].partition(":") for line in file]
-    named = {name.split()[0]: used.split() for name, colon, used in lines if colon}
-    return {name: [it for it in used if it in named] for name, used in named.items()}
+    return {name.split()[0]: used.split() for name, colon, used in lines if colon}
 
 
 def below(uses, names):
     """Returns the crates that these stand on, each after those that it stands on itself."""
     found = []
     for name in names:
-        for it in uses[name]:
+        for it in filter(uses.__contains__, uses[name]):
             found += [low for low in [*below(uses, [it]), it] if low not in found]
     return found
 
 
-def prove(name, jobs):
+def linked(folder, to):
+    """Copies a folder by links to its files, or whole where the file system has no links."""
+    if subprocess.run(["cp", "-al", folder, to], stderr=subprocess.DEVNULL, check=False).returncode:
+        subprocess.run(["cp", "-a", folder, to], check=True)
+
+
+def prove(uses, name, jobs):
     """Proves one library, and returns its name, the check's status, its output and the seconds that it took."""
-    start = time.monotonic()
-    ran = subprocess.run(["rt", "lib", "--jobs", str(jobs)], cwd=f"crates/{name}", stdout=subprocess.PIPE, stderr=subprocess.STDOUT, errors="replace")
+    start, room = time.monotonic(), f"{ROOM}/{name}"
+    shutil.rmtree(room, ignore_errors=True)
+    os.makedirs(f"{room}/crates/{name}")
+    with open(f"{room}/crates.txt", "w", encoding="utf-8") as file:
+        file.writelines(f"{it}: {' '.join(uses[it])}\n" for it in [*below(uses, [name]), name])
+    for it in below(uses, [name]):
+        linked(f"crates/{it}", f"{room}/crates/{it}")
+    for part in os.listdir(f"crates/{name}"):
+        # (a proof writes into what an earlier one kept)
+        copies = ["cp", "-a", f"crates/{name}/{part}", f"{room}/crates/{name}/{part}"]
+        subprocess.run(copies, check=True)
+    words = ["rt", "lib", "--jobs", str(jobs)]
+    ran = subprocess.run(words, cwd=f"{room}/crates/{name}", stdout=subprocess.PIPE, stderr=subprocess.STDOUT, errors="replace")
+    if os.path.isdir(f"{room}/crates/{name}/out"):
+        shutil.rmtree(f"crates/{name}/out", ignore_errors=True)
+        os.rename(f"{room}/crates/{name}/out", f"crates/{name}/out")
+    shutil.rmtree(room, ignore_errors=True)
     return name, ran.returncode, ran.stdout, time.monotonic() - start
 
 
@@ -45,15 +70,15 @@ def main(names):
     total = len(left)
     with ThreadPoolExecutor(lanes) as pool:
         while left or running:
-            ready = [it for it in left if done.issuperset(uses[it])][: lanes - len(running)]
+            ready = [it for it in left if done.issuperset(filter(uses.__contains__, uses[it]))][: lanes - len(running)]
             for name in ready:
                 left.remove(name)
                 jobs = max(1, lanes // (len(running) + len(ready)))
-                running[pool.submit(prove, name, jobs)] = name
+                running[pool.submit(prove, uses, name, jobs)] = name
             ended, _ = wait(running, return_when=FIRST_COMPLETED)
             for it in ended:
-                del running[it]
                 name, status, output, seconds = it.result()
+                del running[it]
                 if status:
                     pool.shutdown(cancel_futures=True)
                     print(f"{output}\n{name} is not proved", file=sys.stderr)

@@ -12,8 +12,8 @@ import tempfile
 import time
 from concurrent.futures import ThreadPoolExecutor
 
-# A crate's wrong bodies are tried by one check after the other, each in up to 3.5 GB.
-BYTES_A_CRATE = 3_500_000_000
+sys.dont_write_bytecode = True
+from prove import BYTES_A_PROOF, linked
 
 
 def crates_with_any():
@@ -59,7 +59,7 @@ def copied(room):
         shutil.copyfile(path, f"{room}/{path}")
     for crate in os.listdir("crates"):
         if os.path.isdir(f"crates/{crate}/out"):
-            shutil.copytree(f"crates/{crate}/out", f"{room}/crates/{crate}/out", symlinks=True)
+            linked(f"crates/{crate}/out", f"{room}/crates/{crate}/out")
     subprocess.run(["git", "init", "-q", room], check=True)
 
 
@@ -83,12 +83,13 @@ def main(words):
     if stand():
         return 1
     memory = os.sysconf("SC_PHYS_PAGES") * os.sysconf("SC_PAGE_SIZE")
-    with tempfile.TemporaryDirectory(prefix="refute-") as room:
+    with tempfile.TemporaryDirectory(prefix="refute-", dir=".git") as room:
+        room = os.path.abspath(room)
         copied(room)
         # (the libraries below are built once, before several runs want them)
         if subprocess.run([os.path.abspath("tools/prove.py"), *crates], cwd=room, check=False).returncode:
             return 1
-        with ThreadPoolExecutor(max(1, min(len(os.sched_getaffinity(0)), memory // BYTES_A_CRATE))) as pool:
+        with ThreadPoolExecutor(max(1, min(len(os.sched_getaffinity(0)), memory // BYTES_A_PROOF))) as pool:
             is_well = all([*pool.map(lambda crate: refused(room, crate), crates)])
     return 0 if is_well else 1
 
