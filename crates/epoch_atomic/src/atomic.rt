@@ -22,7 +22,7 @@ pub use destroy::{DeferDestroy, DestroyNow};
 use epoch_cells::{Fault, Refused};
 use epoch_handles::{Guard, home_of};
 use epoch_values::tag_of;
-pub use epoch_values::{Array, Pointable};
+pub use epoch_values::{Array, Plain, Pointable};
 pub use exchange::{CompareAndSetError, CompareExchangeError, ExchangeFault};
 pub use laws::equal_numbers_are_of_one_pointer;
 pub use orders::CompareAndSetOrdering;

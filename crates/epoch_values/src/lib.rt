@@ -2,7 +2,9 @@
 #![tactic(auto)]
 
 mod array;
+mod plain;
 mod pointable;
 
 pub use array::Array;
+pub use plain::Plain;
 pub use pointable::{Pointable, tag_of};

@@ -2,6 +2,7 @@
 ghost use Rattle.std.specs.Prelude.{◌≡◌, ℕ, ◌<◌, ◌≤◌, ◌%◌, ◌^◌, IfOk, IsOkUnless};
 ghost use Rattle.epoch_cells.specs.declared.fault.Fault.TheVariants.{NoMemory};
 
+mod others;
 mod values;
 
 use epoch_cells::Fault;
