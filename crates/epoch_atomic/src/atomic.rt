@@ -14,6 +14,7 @@ mod orders;
 mod owned;
 mod pointer;
 mod shared;
+mod shown;
 mod update;
 mod word;
 

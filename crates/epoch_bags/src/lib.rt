@@ -5,6 +5,7 @@ mod bag;
 mod epoch;
 mod job;
 pub mod queue;
+mod shown;
 
 pub use bag::{BAG_JOBS, Bag, SealedBag};
 pub use epoch::{Epoch, GREATEST_EPOCH};

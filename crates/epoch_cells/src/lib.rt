@@ -3,6 +3,7 @@
 
 mod cells;
 mod fault;
+mod shown;
 
 pub use cells::{CELL_TRIES, Cells, Held, MOST_SLOT, Name, PlainCells, Reading, Removal, Writing};
 pub use fault::{Fault, Refused};

@@ -11,7 +11,7 @@ use std::alloc::Global;
 /// A fixed number of elements, each of which may be there or not.
 ///
 /// It stands where crossbeam-epoch has slices of elements that may not be written yet.
-#[derive(Drop)]
+#[derive(Debug, Drop)]
 pub struct Array<E> {
     pub(crate) elements: Vec<Option<E>>,
 }

@@ -10,8 +10,6 @@ use crate::atomic::word::pointer_word;
 use crate::atomic::{Atomic, read};
 use epoch_handles::Guard;
 use epoch_values::Pointable;
-use std::fmt;
-use std::fmt::Debug;
 use std::sync::atomic::Ordering;
 
 /// What a lost exchange found, and the new pointer, which is handed back.
@@ -164,14 +162,5 @@ impl<T: Pointable> Atomic<T> {
         ensures fault_home { IfErr result (λ fault. AnswersUnder guard.now.collector.now.id fault) }
     {
         self.compare_exchange_weak(current, new, order.success(), order.failure(), guard)
-    }
-}
-
-impl<'g, T: Pointable, P: Debug> Debug for CompareExchangeError<'g, T, P> {
-    fn fmt<F: fmt::Write>(&self, f: &mut fmt::Formatter<F>) -> fmt::Result {
-        f.debug_struct("CompareExchangeError")
-            .field("current", &self.current)
-            .field("new", &self.new)
-            .finish()
     }
 }
