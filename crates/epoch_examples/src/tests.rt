@@ -1,0 +1,59 @@
+//! Runs the examples, on threads where they are for threads.
+use crate::shared_value::{read, replace};
+use epoch_pin::atomic::Atomic;
+use epoch_pin::{Capacities, Collector, LocalHandle};
+use std::alloc::Global;
+use std::process::Abort;
+use std::test::Fail;
+use std::thread;
+
+/// Replaces the value by 1, 2, .. up to 500, each under a guard of its own.
+fn write_500(rt: &impl Abort, alloc: Global, handle: LocalHandle<'_, u64>, pointer: &Atomic<u64>) {
+    let mut handle = handle;
+    for value in 1..501u64 {
+        assert!(rt; handle.can_pin());
+        let guard = handle.pin();
+        replace(alloc, pointer, value, &mut handle, &guard).expect(rt, "room for the value");
+        handle.unpin(guard);
+    }
+    leave(rt, handle);
+}
+
+/// Reads the value 500 times: what a thread reads never falls.
+fn read_500(rt: &impl Abort, handle: LocalHandle<'_, u64>, pointer: &Atomic<u64>) {
+    let mut handle = handle;
+    let mut last = 0;
+    for _ in 0..500u64 {
+        assert!(rt; handle.can_pin());
+        let guard = handle.pin();
+        let value = read(pointer, &guard).unwrap_or(last);
+        handle.unpin(guard);
+        assert!(rt; last <= value, "{last}, and then {value}");
+        last = value;
+    }
+    leave(rt, handle);
+}
+
+/// Releases the handle, whose bag finds a place.
+fn leave(rt: &impl Abort, handle: LocalHandle<'_, u64>) {
+    assert!(rt; handle.guards_out() == 0);
+    handle.release().expect(rt, "a place for the bag");
+}
+
+#[test]
+fn readers_read_while_one_thread_replaces(rt: HostRuntime) -> Result<(), Fail> {
+    let capacities = Capacities::usual(8, 512, 64);
+    let collector = Collector::<u64>::new(rt.alloc(), capacities, 1)?;
+    let pointer = Atomic::<u64>::null();
+    let (host, alloc, shared, place) = (&rt, rt.alloc(), &collector, &pointer);
+    thread::scope(thread::scope_env(), &rt, |scope| {
+        let writer = shared.register().expect(host, "a free position");
+        let _ = scope.spawn(move || write_500(host, alloc, writer, place));
+        for _ in 0..7u64 {
+            let reader = shared.register().expect(host, "a free position");
+            let _ = scope.spawn(move || read_500(host, reader, place));
+        }
+    });
+    let _ = collector.end();
+    Ok(())
+}
