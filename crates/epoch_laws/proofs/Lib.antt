@@ -1,4 +1,6 @@
 pub mod SeatLemmas
+pub mod StepKinds
+pub mod SeatChanges
 pub mod SeatLinks
 pub mod MachineGoesOn
 pub mod CallsLinked
