@@ -7,6 +7,7 @@ use Rattle.epoch_bags.specs.declared.queue.PutStep.{PutStep}
 use Rattle.epoch_bags.specs.declared.queue.PutStep.TheVariants.{Again, Done as PutDone, Full}
 use Rattle.epoch_bags.specs.declared.queue.TakeStep.{TakeStep}
 use Rattle.epoch_bags.specs.declared.queue.TakeStep.TheVariants.{Again as TakeAgain, Empty, Got}
+use Rattle.epoch_cells.specs.declared.cells.name.Name.{Name}
 use Rattle.epoch_machine.specs.declared.machine.Action.{Action}
 use Rattle.epoch_machine.specs.declared.machine.Action.TheVariants.{Pin, Unpin, Repin, Defer, Flush, Release}
 use Rattle.epoch_machine.specs.declared.machine.Stage.{Stage}
@@ -27,9 +28,8 @@ use Rattle.epoch_laws.specs.declared.step.Deferral.{Deferral}
 use Rattle.epoch_laws.specs.declared.step.Word.{Word}
 use Rattle.epoch_laws.specs.declared.step.Word.TheVariants.{Free, Unpinned, Pinned}
 use Rattle.epoch_laws.specs.declared.step.Progress.{Progress}
-use Rattle.epoch_laws.specs.declared.step.Progress.TheVariants.{Idle as IdleProgress, Driven, CallsNow, Ends, Accesses}
 use Rattle.epoch_laws.specs.Run.{Bag, WorldSeat, State, seat_of, position_word, word_number, with_seat, with_machine}
-use Rattle.epoch_laws.specs.Run.{with_word, free_seat, drives, begun_seat, ended_seat, call_refusal, DrivesCall, DoesGo}
+use Rattle.epoch_laws.specs.Run.{with_word, free_seat, drives, begun_seat, ended_seat, call_refusal, DrivesCall}
 use Rattle.epoch_laws.proofs.SeatLemmas.{seat_written, seat_other, seat_there, same_or_other}
 use Rattle.epoch_laws.proofs.TicketsTallied.{acted}
 use Rattle.epoch_world.proofs.PendingDeferrals.{TicketsBounded, is_busy, pending_at, pending, KeepsAt, KeepsAsDeferral}
@@ -39,9 +39,6 @@ use Rattle.epoch_world.proofs.PendingDeferrals.{room_given, busy_takes, removal_
 use Rattle.epoch_heap.specs.Heap.{Heap}
 
 module _ (old new : State) (h : TicketsBounded old) where
-  pub same : new ≡ old → TicketsBounded new
-  same did = subst TicketsBounded (sym did) h
-
   -- one participant goes on, and no more tickets may be taken than before, or the limit is far
   acts_beside : (p : ℕ) (seat : WorldSeat) (epoch : ℕ) (queued : List Bag) (tickets : ℕ) (heap : Heap)
       → p < length old.seats
@@ -257,9 +254,12 @@ module _ (old new : State) (h : TicketsBounded old) where
     goes_at c StoreFree reply keeps at did = waits (free_seat old.sizes) old.epoch old.queued tt (omega arith) did.1
     goes_at c End reply keeps at did = ends c did.1
 
-    pub goes : (progress : Progress) (reply : Reply) → DoesGo old p seat progress reply new → TicketsBounded new
-    goes IdleProgress reply did = same did.1
-    goes (Driven c) reply did = goes_at c m.stage reply (h.keeps p) refl did
-    goes (CallsNow removes) reply did = waits_beside _ _ (h.keeps p) (omega arith) did.1
-    goes (Accesses a k found) reply (did, touches, told, e) = waits_beside _ _ (h.keeps p) (omega arith) e
-    goes (Ends r) reply did = waits _ old.epoch old.queued (h.keeps p) (omega arith) did.1
+    pub drives_on : (c : Call) (reply : Reply) → DrivesCall old p seat c m.stage (ask_at m.stage) reply new
+        → TicketsBounded new
+    drives_on c reply did = goes_at c m.stage reply (h.keeps p) refl did
+
+    -- a call that no machine drives goes on
+    pub goes_by_itself : (progress : Progress) (readings : List Name) (heap : Heap)
+        → new ≡ record (with_seat old p (record seat { progress = progress; readings = readings })) { heap = heap }
+        → TicketsBounded new
+    goes_by_itself progress readings heap did = waits_beside _ heap (h.keeps p) (omega arith) did
