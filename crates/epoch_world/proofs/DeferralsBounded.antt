@@ -32,6 +32,7 @@ use Rattle.epoch_laws.specs.Run.{Bag, WorldSeat, State, seat_of, position_word, 
 use Rattle.epoch_laws.specs.Run.{with_word, free_seat, drives, begun_seat, ended_seat, call_refusal, DrivesCall}
 use Rattle.epoch_laws.proofs.SeatLemmas.{seat_written, seat_other, seat_there, same_or_other}
 use Rattle.epoch_laws.proofs.TicketsTallied.{acted}
+use Rattle.epoch_reach_laws.proofs.GuardsStay.{machine_ended}
 use Rattle.epoch_world.proofs.PendingDeferrals.{TicketsBounded, is_busy, pending_at, pending, KeepsAt, KeepsAsDeferral}
 use Rattle.epoch_world.proofs.PendingDeferrals.{pending_one, none_pending, sum_most, keeps_collected, keeps_pinned}
 use Rattle.epoch_world.proofs.PendingDeferrals.{keeps_put, keeps_unpinned, keeps_called, keeps_past, keeps_first}
@@ -156,18 +157,11 @@ module _ (old new : State) (h : TicketsBounded old) where
 
     ends : (c : Call) → new ≡ with_seat old p (ended_seat c seat) → TicketsBounded new
     ends c did =
-        let is : (ended_seat c seat).machine ≡ ended m = machine_ended c in
+        let is : (ended_seat c seat).machine ≡ ended m = machine_ended seat c in
         let pending_of = λ (n : Machine Deferral). pending_at n.action n.stage in
         let rests : pending (ended_seat c seat) ≡ 0 = ap pending_of is ∙ none_pending m.action Idle refl in
         let keeps = subst (λ (n : Machine Deferral). KeepsAt n.action n.stage) (sym is) tt in
         waits (ended_seat c seat) old.epoch old.queued keeps (omega (arith, rests)) did
-      where
-        machine_ended : (c : Call) → (ended_seat c seat).machine ≡ ended m
-        machine_ended PinCall = refl
-        machine_ended (UnpinCall (Some g)) = refl
-        machine_ended (Pause (Some g)) = refl
-        machine_ended (Resume (Some g)) = refl
-        machine_ended _ = refl
 
     -- its machine goes on to n from the stage s
     module _ (s : Stage) (at : pending seat ≡ pending_at m.action s) (busy : is_busy s ≡ true) where

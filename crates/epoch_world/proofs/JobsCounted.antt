@@ -19,8 +19,6 @@ use Rattle.epoch_machine.specs.declared.machine.Answer.{Answer}
 use Rattle.epoch_machine.specs.declared.machine.Answer.TheVariants.{Epoch, Word as WordFound, Stored, Job}
 use Rattle.epoch_machine.specs.Machine.{Machine, hears, put_heard, took_heard, gives, PutsHeld, TakesHand}
 use Rattle.epoch_laws.specs.declared.step.Call.{Call}
-use Rattle.epoch_laws.specs.declared.step.Call.TheVariants.{Pin, Unpin, Repin, Pause, Resume, Defer, Flush}
-use Rattle.epoch_laws.specs.declared.step.Call.TheVariants.{DeferDestroy}
 use Rattle.epoch_laws.specs.declared.step.Step.{Step}
 use Rattle.epoch_laws.specs.declared.step.Reply.{Reply}
 use Rattle.epoch_laws.specs.declared.step.Deferral.{Deferral}
@@ -34,6 +32,7 @@ use Rattle.epoch_laws.proofs.StepKinds.{LastReply, EndBegins, EndCalls, EndTakes
 use Rattle.epoch_laws.proofs.SeatLemmas.{seat_there}
 use Rattle.epoch_laws.proofs.TicketSums.{sum_zero}
 use Rattle.epoch_laws.proofs.TicketsTallied.{acted}
+use Rattle.epoch_reach_laws.proofs.GuardsStay.{machine_ended, held_begun, hand_begun}
 use Rattle.epoch_heap.specs.Heap.{Heap, heap_after_job}
 
 -- a bag more in the store
@@ -96,20 +95,10 @@ taken_few x old new Got jobs (bag, in_hand, expired, inserted) =
     omega (arith, ap length in_hand, queued_more bag new old inserted)
 
 begun_same : (c : Call) (seat : WorldSeat) → jobs_of_machine (begun_seat c seat).machine ≡ jobs_of_machine seat.machine
-begun_same (Repin (Some g)) seat = refl
-begun_same (Pause (Some g)) seat = refl
-begun_same (Resume (Some g)) seat = refl
-begun_same (Defer (Some g)) seat = refl
-begun_same (Flush (Some g)) seat = refl
-begun_same (DeferDestroy (Some g) ptr) seat = refl
-begun_same _ seat = refl
+begun_same c seat = omega (arith, ap length (held_begun seat c), ap length (hand_begun seat c))
 
 ended_same : (c : Call) (seat : WorldSeat) → jobs_of_machine (ended_seat c seat).machine ≡ jobs_of_machine seat.machine
-ended_same Pin seat = refl
-ended_same (Unpin (Some g)) seat = refl
-ended_same (Pause (Some g)) seat = refl
-ended_same (Resume (Some g)) seat = refl
-ended_same _ seat = refl
+ended_same c seat = ap jobs_of_machine (machine_ended seat c)
 
 -- EACH STEP
 
