@@ -2,64 +2,36 @@
 use Rattle.std.proofs.Common.{◌≡◌, ◌≢◌, ℕ, zero, suc, ◌+◌, List, [], ◌∷◌, ◌++◌, append_assoc, append-nil, Option, Some}
 use Rattle.std.proofs.Common.{None, slice_get, ◌⊎◌, inl, inr, refl, ap, sym, subst, ◌∙◌, arith}
 use Rattle.std.proofs.lemmas.List.Sums.{sum_by-append}
-use Rattle.epoch_cells.specs.declared.fault.Fault.{Fault}
 use Rattle.epoch_machine.specs.declared.machine.Ask.{Ask}
-use Rattle.epoch_machine.specs.declared.machine.Ask.TheVariants.{LoadEpoch, LoadWord, StorePinned, StoreRepinned}
-use Rattle.epoch_machine.specs.declared.machine.Ask.TheVariants.{StoreUnpinned, StoreFree, StoreEpoch, PutBag, TakeBag}
-use Rattle.epoch_machine.specs.declared.machine.Ask.TheVariants.{KeepJob, CallJob}
+use Rattle.epoch_machine.specs.declared.machine.Ask.TheVariants.{PutBag, TakeBag}
+use Rattle.epoch_machine.specs.declared.machine.Ask.TheVariants.{CallJob}
 use Rattle.epoch_machine.specs.declared.machine.Stage.{Stage}
-use Rattle.epoch_machine.specs.Machine.{ask_at}
 use Rattle.epoch_heap.specs.declared.access.Answer.TheVariants.{Count}
 use Rattle.epoch_laws.specs.declared.step.Call.{Call}
 use Rattle.epoch_laws.specs.declared.step.Entry.{Entry}
-use Rattle.epoch_laws.specs.declared.step.Progress.{Progress}
-use Rattle.epoch_laws.specs.declared.step.Progress.TheVariants.{Idle, Driven, CallsNow, Accesses, Ends}
 use Rattle.epoch_laws.specs.declared.step.Reply.{Reply}
-use Rattle.epoch_laws.specs.declared.step.Reply.TheVariants.{Done}
+use Rattle.epoch_laws.specs.declared.step.Reply.TheVariants.{Done, Refused}
 use Rattle.epoch_laws.specs.declared.step.Step.{Step}
-use Rattle.epoch_laws.specs.declared.step.Step.TheVariants.{Register, Begin, Go, End as EndStep, EndGo}
-use Rattle.epoch_laws.specs.Run.{WorldSeat, State, seat_of, with_places, Ending, Open, Emptying, Over, refusal}
-use Rattle.epoch_laws.specs.Run.{BeginsCall, PerformsAsk, DrivesCall, DoesGo, EndGoes, Moves, Runs, IsFresh}
+use Rattle.epoch_laws.specs.declared.step.Step.TheVariants.{Go, EndGo}
+use Rattle.epoch_laws.specs.Run.{WorldSeat, State, with_places, Ending, Open, Emptying, Over}
+use Rattle.epoch_laws.specs.Run.{DrivesCall, Runs, IsFresh}
 use Rattle.epoch_laws.specs.Ends.{is_call_at_end, calls_at_end, TellsCount, EndsAtCount}
+use Rattle.epoch_laws.proofs.StepKinds.{StepKind, Refusal, MachineStep, EndBegins, EndCalls, EndTakes, EndIsOver}
+use Rattle.epoch_laws.proofs.StepKinds.{step_kind}
 use Rattle.epoch_laws.proofs.TicketsOnce.{end_calls_all}
 
--- A PARTICIPANT'S STEP IS NONE OF AN END
+-- A MACHINE'S STEP IS NONE OF AN END
 
 abbrev end_of : State → Ending
 end_of s = s.ending
 
-performs_apart : (old new : State) (p : ℕ) (seat : WorldSeat) (s : Stage) (ask : Ask) (reply : Reply)
-    → PerformsAsk old p seat s ask reply new → new.ending ≡ old.ending
-performs_apart old new p seat s LoadEpoch reply did = ap end_of did.1
-performs_apart old new p seat s (LoadWord k) reply did = ap end_of did.1
-performs_apart old new p seat s (StorePinned e) reply did = ap end_of did.1
-performs_apart old new p seat s (StoreRepinned e) reply did = ap end_of did.1
-performs_apart old new p seat s StoreUnpinned reply did = ap end_of did.1
-performs_apart old new p seat s StoreFree reply did = ap end_of did.1
-performs_apart old new p seat s (StoreEpoch e) reply did = ap end_of did.1
-performs_apart old new p seat s (PutBag seal) reply (step, queued, told, puts, is) = ap end_of is
-performs_apart old new p seat s (TakeBag x) reply (step, jobs, queued, told, takes, is) = ap end_of is
-performs_apart old new p seat s KeepJob reply did = ap end_of did.1
-performs_apart old new p seat s CallJob reply (job, jobs, hand, told, is) = ap end_of is
-
-drives_apart : (old new : State) (p : ℕ) (seat : WorldSeat) (c : Call) (s : Stage) (ask : Option Ask) (reply : Reply)
+machine_apart : (old new : State) (p : ℕ) (seat : WorldSeat) (c : Call) (s : Stage) (ask : Option Ask) (reply : Reply)
     → DrivesCall old p seat c s ask reply new → new.ending ≡ old.ending
-drives_apart old new p seat c s (Some ask) reply did = performs_apart old new p seat s ask reply did
-drives_apart old new p seat c s None reply did = ap end_of did.1
-
-goes_apart : (old new : State) (p : ℕ) (seat : WorldSeat) (progress : Progress) (reply : Reply)
-    → DoesGo old p seat progress reply new → new.ending ≡ old.ending
-goes_apart old new p seat Idle reply did = ap end_of did.1
-goes_apart old new p seat (Driven c) reply did =
-    drives_apart old new p seat c seat.machine.stage (ask_at seat.machine.stage) reply did
-goes_apart old new p seat (CallsNow removes) reply did = ap end_of did.1
-goes_apart old new p seat (Accesses a k found) reply (did, touches, told, is) = ap end_of is
-goes_apart old new p seat (Ends last) reply did = ap end_of did.1
-
-begins_apart : (old new : State) (p : ℕ) (c : Call) (fault : Option Fault) (reply : Reply)
-    → BeginsCall old p c fault reply new → new.ending ≡ old.ending
-begins_apart old new p c (Some fault) reply did = ap end_of did.1
-begins_apart old new p c None reply did = ap end_of did.1
+machine_apart old new p seat c s (Some (PutBag seal)) reply did = ap end_of did.4
+machine_apart old new p seat c s (Some (TakeBag x)) reply did = ap end_of did.5
+machine_apart old new p seat c s (Some CallJob) reply did = ap end_of did.4
+machine_apart old new p seat c s (Some _) reply did = ap end_of did.1
+machine_apart old new p seat c s None reply did = ap end_of did.1
 
 -- ONE STEP
 
@@ -76,69 +48,53 @@ record StepsEnd (before : Ending) (step : Step) (reply : Reply) (after : Ending)
   tells : (n k : ℕ) → HasCalled before n → step ≡ EndGo → reply ≡ Done (Count k)
       → (after ≡ Over) × (k ≡ n) × (is_call_at_end step reply ≡ 0)
 
--- the step is none of an end's
-apart : (before after : Ending) (step : Step) (reply : Reply) → is_call_at_end step reply ≡ 0 → step ≢ EndGo
-    → after ≡ before → StepsEnd before step reply after
-apart before after step reply none other same = record {
-  calls = λ n has. subst (λ (e : Ending). HasCalled e (n + is_call_at_end step reply)) (sym same)
-      (subst (HasCalled before) (omega (arith, none)) has);
-  over = λ over. (same ∙ over, none);
-  tells = λ n k has is. absurd (other is);
+-- the step is none of an end's, or is refused
+apart : (before : Ending) (step : Step) (reply : Reply) → is_call_at_end step reply ≡ 0
+    → ((k : ℕ) → step ≡ EndGo → reply ≢ Done (Count k)) → StepsEnd before step reply before
+apart before step reply none untold = record {
+  calls = λ n has. subst (HasCalled before) (omega (arith, none)) has;
+  over = λ over. (over, none);
+  tells = λ n k has is told. absurd (untold k is told);
 }
 
-end_steps : (old new : State) (e : Ending) (reply : Reply) → EndGoes old e reply new → (before : old.ending ≡ e)
-    → StepsEnd e EndGo reply new.ending
-end_steps old new Open reply did before = subst (λ (r : Reply). StepsEnd Open EndGo r new.ending) (sym did.0) (record {
-  calls = λ n has. subst (λ (at : Ending). HasCalled at (n + 0)) (sym (ap end_of did.1 ∙ before)) (omega (arith, has));
-  over = λ over. absurd (cc (over));
+-- what is said of an end that is known
+called_at : (s : State) (e : Ending) (n : ℕ) → s.ending ≡ e → HasCalled s.ending n → HasCalled e n
+called_at s e n at has = subst (λ (ending : Ending). HasCalled ending n) at has
+
+kind_ends : (old new : State) (step : Step) (reply : Reply) → StepKind old step reply new
+    → StepsEnd old.ending step reply new.ending
+kind_ends old _ _ _ (Refusal step fault) = apart _ step _ (none step) (λ k is said. cc (said))
+  where
+    none : (s : Step) → is_call_at_end s (Refused fault) ≡ 0
+    none EndGo = refl
+    none _ = refl
+kind_ends old _ _ _ (MachineStep p c reply new taken drive did) =
+    subst (StepsEnd old.ending (Go p) reply) (sym (machine_apart old new p _ c _ _ reply did))
+    (apart _ _ _ refl (λ k is. absurd (cc (is))))
+kind_ends old _ _ _ (EndBegins opened free) = record {
+  calls = λ n has. omega (arith, called_at old Open n opened has);
+  over = λ over. absurd (cc (over, opened));
+  tells = λ n k has is. absurd (cc (is));
+}
+kind_ends old _ _ _ (EndCalls job jobs m at) = record {
+  calls = λ n has. omega (arith, called_at old (Emptying (job ∷ jobs) m) n at has);
+  over = λ over. absurd (cc (over, at));
   tells = λ n k has is told. absurd (cc (told));
-})
-end_steps old new Over reply did before = subst (λ (r : Reply). StepsEnd Over EndGo r new.ending) (sym did.0) (record {
-  calls = λ n has. subst (λ (at : Ending). HasCalled at (n + 0)) (sym (ap end_of did.1 ∙ before)) tt;
-  over = λ over. (ap end_of did.1 ∙ before, refl);
+}
+kind_ends old _ _ _ (EndTakes bag queued m at out) = record {
+  calls = λ n has. omega (arith, called_at old (Emptying [] m) n at has);
+  over = λ over. absurd (cc (over, at));
   tells = λ n k has is told. absurd (cc (told));
-})
-end_steps old new (Emptying (job ∷ jobs) m) reply did before =
-    subst (λ (r : Reply). StepsEnd (Emptying (job ∷ jobs) m) EndGo r new.ending) (sym did.0) (record {
-      calls = λ n has. subst (λ (at : Ending). HasCalled at (n + 1)) (sym (ap end_of did.1)) (omega (arith, has));
-      over = λ over. absurd (cc (over));
-      tells = λ n k has is told. absurd (cc (told));
-    })
-end_steps old new (Emptying [] m) reply (inl (bag, queued, inserted, told_so, did)) before =
-    subst (λ (r : Reply). StepsEnd (Emptying [] m) EndGo r new.ending) (sym told_so) (record {
-      calls = λ n has. subst (λ (at : Ending). HasCalled at (n + 0)) (sym (ap end_of did)) (omega (arith, has));
-      over = λ over. absurd (cc (over));
-      tells = λ n k has is told. absurd (cc (told));
-    })
-end_steps old new (Emptying [] m) reply (inr (none, told_so, did)) before =
-    subst (λ (r : Reply). StepsEnd (Emptying [] m) EndGo r new.ending) (sym told_so) (record {
-      calls = λ n has. subst (λ (at : Ending). HasCalled at (n + 0)) (sym (ap end_of did)) tt;
-      over = λ over. absurd (cc (over));
-      tells = λ n k has is told. (ap end_of did, same_count k told ∙ has, refl);
-    })
+}
+kind_ends old _ _ _ (EndIsOver m at none) = record {
+  calls = λ n has. tt;
+  over = λ over. (refl, refl);
+  tells = λ n k has is told. (refl, same_count k told ∙ called_at old (Emptying [] m) n at has, refl);
+}
   where
     same_count : (k : ℕ) → Done (Count m) ≡ Done (Count k) → k ≡ m
     same_count k told = cc (told)
-
-step_ends : (old new : State) (step : Step) (reply : Reply) → Moves old step reply new
-    → StepsEnd old.ending step reply new.ending
-step_ends old new Register reply (inl did) = apart _ _ _ _ refl (λ is. absurd (cc (is))) (ap end_of did.6)
-step_ends old new Register reply (inr (inl did)) = apart _ _ _ _ refl (λ is. absurd (cc (is))) (ap end_of did.3)
-step_ends old new Register reply (inr (inr did)) = apart _ _ _ _ refl (λ is. absurd (cc (is))) (ap end_of did.2)
-step_ends old new (Begin p c) reply did = apart _ _ _ _ refl (λ is. absurd (cc (is)))
-    (begins_apart old new p c (refusal c (seat_of old p) old.tickets old.heap) reply did)
-step_ends old new (Go p) reply (inl did) = apart _ _ _ _ refl (λ is. absurd (cc (is))) (ap end_of did.2)
-step_ends old new (Go p) reply (inr did) = apart _ _ _ _ refl (λ is. absurd (cc (is)))
-    (goes_apart old new p (seat_of old p) (seat_of old p).progress reply did.1)
-step_ends old new EndStep reply (inl did) = record {
-  calls = λ n has. subst (λ (at : Ending). HasCalled at (n + 0)) (sym (ap end_of did.3))
-      (omega (arith, subst (λ (at : Ending). HasCalled at n) did.0 has));
-  over = λ over. absurd (cc (over, did.0));
-  tells = λ n k has is. absurd (cc (is));
-}
-step_ends old new EndStep reply (inr (inl did)) = apart _ _ _ _ refl (λ is. absurd (cc (is))) (ap end_of did.3)
-step_ends old new EndStep reply (inr (inr did)) = apart _ _ _ _ refl (λ is. absurd (cc (is))) (ap end_of did.2)
-step_ends old new EndGo reply did = end_steps old new old.ending reply did refl
+kind_ends old _ _ _ _ = apart _ _ _ refl (λ k is. absurd (cc (is)))
 
 -- ONE MORE ENTRY
 
@@ -194,7 +150,7 @@ counts_along old new log [] h run =
 counts_along old new log (x ∷ entries) h (mid, took, run) =
     let aside : State = with_places mid old.places old.seen old.ahead old.room in
     let next : CountsEnd mid (log ++ x ∷ []) =
-    counts_push old mid log x h (step_ends old aside x.step x.reply took.0) in
+    counts_push old mid log x h (kind_ends old aside x.step x.reply (step_kind old aside x.step x.reply took.0)) in
     subst (CountsEnd new) (append_assoc log (x ∷ []) entries) (counts_along mid new (log ++ x ∷ []) entries next run)
 
 pub ends_at_count : (s new : State) (log : List Entry) → IsFresh s → Runs s log new → EndsAtCount log

@@ -1,19 +1,21 @@
 -- Every step keeps what holds, so no run calls a job while somebody who was pinned at its deferral has stayed pinned.
 use Rattle.std.proofs.Common.{◌≡◌, ℕ, ◌+◌, ◌<◌, Bool, List, [], ◌∷◌, ◌++◌, append_assoc, append-nil, length, inl, inr}
-use Rattle.std.proofs.Common.{refl, ap, sym, subst, arith, Option, Some, None}
+use Rattle.std.proofs.Common.{refl, ap, sym, subst, arith}
 use Rattle.epoch_bags.specs.declared.job.Called.{Called}
-use Rattle.epoch_cells.specs.declared.fault.Fault.{Fault}
-use Rattle.epoch_laws.specs.declared.step.Call.{Call}
 use Rattle.epoch_laws.specs.declared.step.Step.{Step}
-use Rattle.epoch_laws.specs.declared.step.Step.TheVariants.{Register, Begin, Go, End as EndStep, EndGo}
-use Rattle.epoch_laws.specs.declared.step.Reply.TheVariants.{Registered, Called as CalledReply}
+use Rattle.epoch_laws.specs.declared.step.Reply.TheVariants.{Registered, Began, Stepped, Done}
+use Rattle.epoch_laws.specs.declared.step.Reply.TheVariants.{Called as CalledReply}
+use Rattle.epoch_laws.specs.declared.step.Reply.{Reply}
+use Rattle.epoch_laws.specs.declared.step.Progress.TheVariants.{Driven, CallsNow, Accesses, Ends}
+use Rattle.epoch_heap.specs.declared.access.Answer.TheVariants.{Count}
 use Rattle.epoch_laws.specs.declared.step.Entry.{Entry}
 use Rattle.epoch_laws.specs.declared.step.Word.TheVariants.{Free, Unpinned}
 use Rattle.epoch_laws.specs.Grace.{KeepsGrace}
-use Rattle.epoch_laws.specs.Run.{with_places, Bag, WorldSeat, State, seat_of, position_word, with_seat, free_seat}
-use Rattle.epoch_laws.specs.Run.{Ending, Open, Emptying, Over, AllFree, refusal, BeginsCall, EndGoes, Moves, Runs}
+use Rattle.epoch_laws.specs.Run.{with_places, Bag, WorldSeat, State, position_word, with_seat, free_seat}
+use Rattle.epoch_laws.specs.Run.{Ending, Open, Emptying, Over, AllFree, Runs}
 use Rattle.epoch_laws.specs.Run.{IsFresh, TakesStep}
-use Rattle.epoch_laws.proofs.SeatLemmas.{begin_given}
+use Rattle.epoch_laws.proofs.StepKinds.{StepKind, Refusal, Registration, CallBegins, MachineStep, JobStep, CellsStep}
+use Rattle.epoch_laws.proofs.StepKinds.{LastReply, EndBegins, EndCalls, EndTakes, EndIsOver, step_kind}
 use Rattle.epoch_laws.proofs.SeatLinks.{AllLinked}
 use Rattle.epoch_laws.proofs.Linked.{step_linked, fresh_linked}
 use Rattle.epoch_laws.proofs.DeferralEpochs.{SealedBehind, sealed_got}
@@ -24,17 +26,11 @@ use Rattle.epoch_laws.proofs.WorldHolds.{Holds, holds_along, view_of, acted, End
 use Rattle.epoch_laws.proofs.SeatSteps.{stay}
 use Rattle.epoch_laws.proofs.GoesKeeps.{go_keeps}
 use Rattle.epoch_laws.proofs.BeginsKeep.{accepted_holds}
-use Rattle.epoch_heap.specs.Heap.{Heap}
+use Rattle.epoch_heap.specs.Heap.{Heap, heap_after_job}
 
 -- EVERY STEP
 
 module _ (old new : State) (log : List Entry) (x : Entry) (h : Holds old log) (linked : AllLinked old) where
-  begins : (p : ℕ) (c : Call) (r : Option Fault) → refusal c (seat_of old p) old.tickets old.heap ≡ r
-      → BeginsCall old p c r x.reply new → Holds new (log ++ x ∷ [])
-  begins p c (Some f) e did = stay old new log x h (quiet_refused x.reply f did.0) did.1
-  begins p c None e did = let given = begin_given c (seat_of old p) old.tickets old.heap e in
-      accepted_holds old new log x h linked p c given did.0 c given.own did.1
-
   registers : (p : ℕ) → old.ending ≡ Open → p < length old.seats → position_word old p ≡ Free → x.reply ≡ Registered p
       → new ≡ with_seat old p (record (free_seat old.sizes) { word = Unpinned }) → Holds new (log ++ x ∷ [])
   registers p opened lt free told did = holds_along new _ _ did
@@ -91,39 +87,39 @@ module _ (old new : State) (log : List Entry) (x : Entry) (h : Holds old log) (l
       v : View
       v = view_of old h.since h.when
 
-  end_goes : (e : Ending) → old.ending ≡ e → EndGoes old e x.reply new → Holds new (log ++ x ∷ [])
-  end_goes Open e did = stay old new log x h (quiet_refused x.reply _ did.0) did.1
-  end_goes Over e did = stay old new log x h (quiet_refused x.reply _ did.0) did.1
-  end_goes (Emptying (job ∷ jobs) n) e did =
-      let hand : EndHolds h.when old.tickets (Emptying (job ∷ jobs) n) =
-      subst (EndHolds h.when old.tickets) e h.ending in
-      closes old.queued (Emptying jobs (n + 1)) _ (h.closed (λ opened. absurd (cc (opened, e))))
-      (plain_called x.reply job.ticket _ did.0)
-      (λ t how a. let same : job.ticket ≡ t = cc (did.0, a) in omega (arith, same, hand.1.0))
-      h.queued (hand.0, hand.1.2) did.1
-  end_goes (Emptying [] n) e (inl (bag, queued, out, told, did)) =
-      let parts = sealed_got h.when old.tickets old.epoch old.queued queued bag out h.queued in
-      let quiet = quiet_stepped x.reply told in
-      closes queued (Emptying bag.jobs n) old.heap (h.closed (λ opened. absurd (cc (opened, e)))) quiet.plain
-      (λ t how a. absurd (quiet.called t how a)) parts.sealed (bag.seal, parts.jobs) did
-  end_goes (Emptying [] n) e (inr (none, told, did)) =
-      let quiet = quiet_done x.reply _ told in
-      closes old.queued Over old.heap (h.closed (λ opened. absurd (cc (opened, e)))) quiet.plain
-      (λ t how a. absurd (quiet.called t how a)) h.queued tt did
-
-  moves_step : (s : Step) → Moves old s x.reply new → Holds new (log ++ x ∷ [])
-  moves_step Register (inl (p, opened, there, free, lowest, told, did)) = registers p opened there free told did
-  moves_step Register (inr (inl did)) = stay old new log x h (quiet_refused x.reply _ did.2) did.3
-  moves_step Register (inr (inr did)) = stay old new log x h (quiet_refused x.reply _ did.1) did.2
-  moves_step (Begin p c) did = begins p c (refusal c (seat_of old p) old.tickets old.heap) refl did
-  moves_step (Go p) (inl did) = stay old new log x h (quiet_refused x.reply _ did.1) did.2
-  moves_step (Go p) (inr did) = go_keeps old new log x h linked p did.0 (seat_of old p).progress refl did.1
-  moves_step EndStep (inl (opened, free, told, did)) = let quiet = quiet_began x.reply told in
-      closes old.queued (Emptying [] 0) old.heap free quiet.plain (λ t how a. absurd (quiet.called t how a)) h.queued
-      (0, tt) did
-  moves_step EndStep (inr (inl did)) = stay old new log x h (quiet_refused x.reply _ did.2) did.3
-  moves_step EndStep (inr (inr did)) = stay old new log x h (quiet_refused x.reply _ did.1) did.2
-  moves_step EndGo did = end_goes old.ending refl did
+-- each kind of step keeps what holds
+kind_holds : (old : State) (log : List Entry) → Holds old log → AllLinked old → (step : Step) (reply : Reply)
+    (new : State) → StepKind old step reply new → Holds new (log ++ record { step = step; reply = reply } ∷ [])
+kind_holds old log h linked _ _ _ (Refusal step fault) = stay old _ log _ h (quiet_refused _ fault refl) refl
+kind_holds old log h linked _ _ _ (Registration p opened there free) =
+    registers old _ log _ h linked p opened there free refl refl
+kind_holds old log h linked _ _ _ (CallBegins p c given) =
+    accepted_holds old _ log _ h linked p c given refl c given.own refl
+kind_holds old log h linked _ _ _ (MachineStep p c reply new taken drive did) =
+    go_keeps old new log _ h linked p taken (Driven c) drive did
+kind_holds old log h linked _ _ _ (JobStep p removes taken now) =
+    go_keeps old _ log _ h linked p taken (CallsNow removes) now (refl, refl)
+kind_holds old log h linked _ _ _ (CellsStep p a k found did taken now touches) =
+    go_keeps old _ log _ h linked p taken (Accesses a k found) now (did, touches, refl, refl)
+kind_holds old log h linked _ _ _ (LastReply p reply taken now) =
+    go_keeps old _ log _ h linked p taken (Ends reply) now (refl, refl)
+kind_holds old log h linked _ _ _ (EndBegins opened free) = let quiet = quiet_began Began refl in
+    closes old _ log _ h linked old.queued (Emptying [] 0) old.heap free quiet.plain
+    (λ t how a. absurd (quiet.called t how a)) h.queued (0, tt) refl
+kind_holds old log h linked _ _ _ (EndCalls job jobs n at) =
+    let hand : EndHolds h.when old.tickets (Emptying (job ∷ jobs) n) =
+    subst (EndHolds h.when old.tickets) at h.ending in
+    closes old _ log _ h linked old.queued (Emptying jobs (n + 1)) (heap_after_job old.heap job.removes)
+    (h.closed (λ opened. absurd (cc (opened, at)))) (plain_called _ job.ticket _ refl)
+    (λ t how a. let same : job.ticket ≡ t = cc (a) in omega (arith, same, hand.1.0)) h.queued (hand.0, hand.1.2) refl
+kind_holds old log h linked _ _ _ (EndTakes bag queued n at out) =
+    let parts = sealed_got h.when old.tickets old.epoch old.queued queued bag out h.queued in
+    let quiet = quiet_stepped Stepped refl in
+    closes old _ log _ h linked queued (Emptying bag.jobs n) old.heap (h.closed (λ opened. absurd (cc (opened, at))))
+    quiet.plain (λ t how a. absurd (quiet.called t how a)) parts.sealed (bag.seal, parts.jobs) refl
+kind_holds old log h linked _ _ _ (EndIsOver n at none) = let quiet = quiet_done (Done (Count n)) _ refl in
+    closes old _ log _ h linked old.queued Over old.heap (h.closed (λ opened. absurd (cc (opened, at)))) quiet.plain
+    (λ t how a. absurd (quiet.called t how a)) h.queued tt refl
 
 -- WHOLE RUNS
 
@@ -143,7 +139,8 @@ holds_aside s log places seen ahead room h = record {
 
 pub step_holds : (old new : State) (log : List Entry) (x : Entry) → AllLinked old → Holds old log
     → TakesStep old x.step x.reply new → Holds new (log ++ x ∷ [])
-step_holds old new log x linked h did = holds_aside new _ _ _ _ _ (moves_step old _ log x h linked x.step did.0)
+step_holds old new log x linked h did = holds_aside new _ _ _ _ _
+    (kind_holds old log h linked x.step x.reply _ (step_kind old _ x.step x.reply did.0))
 
 pub runs_hold : (old new : State) (log entries : List Entry) → AllLinked old → Holds old log → Runs old entries new
     → Holds new (log ++ entries)

@@ -1,17 +1,19 @@
+-- STEPS: what one does to the world and to its seats, and runs of them
 pub mod SeatLemmas
+pub mod StepKinds
+pub mod SeatChanges
+pub mod SizesStay
+pub mod RunsGoOn
+pub mod CallsGoOn
+-- SEATS: a participant's call, its machine and its guards say the same
 pub mod SeatLinks
 pub mod MachineGoesOn
 pub mod CallsLinked
-pub mod GuardsAllowed
 pub mod Linked
+-- GRACE: no job is called while somebody who was pinned at its deferral has stayed pinned
 pub mod DeferralEpochs
 pub mod StoredBags
 pub mod Log
-pub mod PlacesRead
-pub mod ToldGrows
-pub mod RepliesRead
-pub mod GuardsCounted
-pub mod CallsChecked
 pub mod QuietReplies
 pub mod SeatsFine
 pub mod LogKept
@@ -25,13 +27,19 @@ pub mod BagSteps
 pub mod GoesKeeps
 pub mod BeginsKeep
 pub mod GraceKept
+-- TICKETS: each accepted job is in one bag, or was called once
 pub mod TicketSums
 pub mod JobsPlaced
 pub mod TicketsTallied
 pub mod JobsMoved
 pub mod TicketsKept
 pub mod TicketsOnce
+pub mod CallsAfterDeferrals
+pub mod TicketsNumbered
+pub mod EndsCounted
+-- LAWFUL REPLIES: each one stands in a call where it may
 pub mod GuardLists
+pub mod GuardsAllowed
 pub mod ToldAtStages
 pub mod ToldAtBegin
 pub mod AccessesTold
@@ -40,7 +48,7 @@ pub mod EventsAtBegin
 pub mod EventsAtEnd
 pub mod EventsOfGo
 pub mod EventsLawful
-pub mod CallsAfterDeferrals
+-- FULL STORES: a call is told of one where its put found each place occupied
 pub mod PutStages
 pub mod SeatsFind
 pub mod PutSteps
@@ -48,10 +56,12 @@ pub mod FoundAfter
 pub mod PutsFind
 pub mod FullOfGo
 pub mod FullFound
-pub mod RunsGoOn
-pub mod SizesStay
-pub mod TicketsNumbered
-pub mod EndsCounted
+-- REFUSALS: what a refused call leaves as it was
 pub mod RefusalsSince
 pub mod RefusalsLeave
-pub mod CallsGoOn
+-- HISTORIES: what the checkers of recorded ones read
+pub mod PlacesRead
+pub mod ToldGrows
+pub mod RepliesRead
+pub mod GuardsCounted
+pub mod CallsChecked

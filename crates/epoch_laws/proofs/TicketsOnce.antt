@@ -1,69 +1,57 @@
 -- Every step keeps the tally, so in every run each ticket's job is in one bag or was called once.
-use Rattle.std.proofs.Common.{◌≡◌, ◌≢◌, ℕ, ◌+◌, Bool, List, [], ◌∷◌, ◌++◌, append_assoc, append-nil, Option, Some, None}
-use Rattle.std.proofs.Common.{inl, inr, refl, ap, sym, subst, arith}
-use Rattle.epoch_cells.specs.declared.fault.Fault.{Fault}
-use Rattle.epoch_laws.specs.declared.step.Call.{Call}
+use Rattle.std.proofs.Common.{◌≡◌, ◌≢◌, ℕ, ◌+◌, Bool, List, [], ◌∷◌, ◌++◌, append_assoc, append-nil}
+use Rattle.std.proofs.Common.{refl, ap, sym, subst, arith}
 use Rattle.epoch_laws.specs.declared.step.Step.{Step}
-use Rattle.epoch_laws.specs.declared.step.Step.TheVariants.{Register, Begin, Go, End as EndStep, EndGo}
-use Rattle.epoch_laws.specs.declared.step.Reply.TheVariants.{Began}
+use Rattle.epoch_laws.specs.declared.step.Reply.TheVariants.{Began, Stepped, Called as CalledReply, Done, Refused}
+use Rattle.epoch_laws.specs.declared.step.Reply.{Reply}
 use Rattle.epoch_laws.specs.declared.step.Entry.{Entry}
+use Rattle.epoch_laws.specs.declared.step.Progress.TheVariants.{Driven, CallsNow, Accesses, Ends}
+use Rattle.epoch_heap.specs.declared.access.Answer.TheVariants.{Count}
+use Rattle.epoch_heap.specs.Heap.{outcome_of, heap_after_job}
 use Rattle.epoch_laws.specs.Run.{with_places, WorldSeat, State, seat_of, Ending, Open, Emptying, Over, AllFree}
-use Rattle.epoch_laws.specs.Run.{BeginsCall, refusal, EndGoes, Moves, Runs, IsFresh}
+use Rattle.epoch_laws.specs.Run.{Runs, IsFresh}
 use Rattle.epoch_laws.specs.Tickets.{times_queued, times_at_end, times_called, times_deferred, HoldsEachTicketOnce}
-use Rattle.epoch_laws.proofs.SeatLemmas.{begin_given}
+use Rattle.epoch_laws.proofs.StepKinds.{StepKind, Refusal, Registration, CallBegins, MachineStep, JobStep, CellsStep}
+use Rattle.epoch_laws.proofs.StepKinds.{LastReply, EndBegins, EndCalls, EndTakes, EndIsOver, step_kind}
 use Rattle.epoch_laws.proofs.TicketSums.{queued_put, times_cons, none_at_seats, none_deferred}
 use Rattle.epoch_laws.proofs.JobsPlaced.{PlacesHere}
 use Rattle.epoch_laws.proofs.TicketsTallied.{Tallies, stayed, registers, closes}
 use Rattle.epoch_laws.proofs.TicketsKept.{begins, goes}
 
-module _ (old new : State) (log : List Entry) (x : Entry) (h : Tallies old log) where
-  abbrev Kept : Type 0
-  Kept = Tallies new (log ++ x ∷ [])
+-- once an end has begun, no participant is left
+none_left : (old : State) (log : List Entry) → Tallies old log → (ending : Ending) → old.ending ≡ ending → ending ≢ Open
+    → AllFree old
+none_left old log h ending at shut = h.closed (λ opened. shut (cc (opened, at)))
 
-  call_begins : (p : ℕ) (c : Call) (refused : Option Fault)
-      → refusal c (seat_of old p) old.tickets old.heap ≡ refused
-      → BeginsCall old p c refused x.reply new
-      → Kept
-  call_begins p c (Some fault) at did = stayed old new log x h _ did.0 refl did.1
-  call_begins p c None at did =
-      let given = begin_given c (seat_of old p) old.tickets old.heap at in
-      begins old new log x h p given.taken c given.idle did.0 did.1
-
-  end_begins : old.ending ≡ Open → AllFree old → x.reply ≡ Began → new ≡ record old { ending = Emptying [] 0 } → Kept
-  end_begins opened free is did =
-      closes old new log x h _ old.queued (Emptying [] 0) old.heap is free (λ over. absurd (cc))
-      (λ t. omega (arith, ap (times_at_end t) opened)) (λ t. refl) did
-
-  -- once an end has begun, no participant is left
-  none_left : (ending : Ending) → old.ending ≡ ending → ending ≢ Open → AllFree old
-  none_left ending at shut = h.closed (λ opened. shut (cc (opened, at)))
-
-  end_goes : (ending : Ending) → old.ending ≡ ending → EndGoes old ending x.reply new → Kept
-  end_goes Open at did = stayed old new log x h _ did.0 refl did.1
-  end_goes Over at did = stayed old new log x h _ did.0 refl did.1
-  end_goes (Emptying (job ∷ jobs) n) at (is, did) =
-      closes old new log x h _ old.queued (Emptying jobs (n + 1)) _ is
-      (none_left _ at (λ opened. cc)) (λ over. absurd (cc))
-      (λ t. omega (arith, ap (times_at_end t) at, times_cons t job jobs)) (λ t. refl) did
-  end_goes (Emptying [] n) at (inl (bag, queued, inserted, is, did)) =
-      closes old new log x h _ queued (Emptying bag.jobs n) old.heap is
-      (none_left _ at (λ opened. cc)) (λ over. absurd (cc))
-      (λ t. omega (arith, ap (times_at_end t) at, queued_put t queued old.queued bag inserted)) (λ t. refl) did
-  end_goes (Emptying [] n) at (inr (none, is, did)) =
-      closes old new log x h _ old.queued Over old.heap is (none_left _ at (λ opened. cc)) (λ over. none)
-      (λ t. omega (arith, ap (times_at_end t) at)) (λ t. refl) did
-
-  step_tallies : (s : Step) → Moves old s x.reply new → Kept
-  step_tallies Register (inl did) = registers old new log x h did.0 did.1 did.2 did.3 did.5 did.6
-  step_tallies Register (inr (inl did)) = stayed old new log x h _ did.2 refl did.3
-  step_tallies Register (inr (inr did)) = stayed old new log x h _ did.1 refl did.2
-  step_tallies (Begin p c) did = call_begins p c (refusal c (seat_of old p) old.tickets old.heap) refl did
-  step_tallies (Go p) (inl did) = stayed old new log x h _ did.1 refl did.2
-  step_tallies (Go p) (inr did) = goes old new log x h p did.0 (seat_of old p).progress refl did.1
-  step_tallies EndStep (inl did) = end_begins did.0 did.1 did.2 did.3
-  step_tallies EndStep (inr (inl did)) = stayed old new log x h _ did.2 refl did.3
-  step_tallies EndStep (inr (inr did)) = stayed old new log x h _ did.1 refl did.2
-  step_tallies EndGo did = end_goes old.ending refl did
+kind_tallies : (old : State) (log : List Entry) → Tallies old log → (step : Step) (reply : Reply) (new : State)
+    → StepKind old step reply new → Tallies new (log ++ record { step = step; reply = reply } ∷ [])
+kind_tallies old log h _ _ _ (Refusal step fault) = stayed old _ log _ h (Refused fault) refl refl refl
+kind_tallies old log h _ _ _ (Registration p opened there free) =
+    registers old _ log _ h p opened there free refl refl
+kind_tallies old log h _ _ _ (CallBegins p c given) =
+    begins old _ log _ h p given.taken c given.idle refl refl
+kind_tallies old log h _ _ _ (MachineStep p c reply new taken drive did) =
+    goes old new log _ h p taken (Driven c) drive did
+kind_tallies old log h _ _ _ (JobStep p removes taken now) =
+    goes old _ log _ h p taken (CallsNow removes) now (refl, refl)
+kind_tallies old log h _ _ _ (CellsStep p a k found did taken now touches) =
+    goes old _ log _ h p taken (Accesses a k found) now (did, touches, refl, refl)
+kind_tallies old log h _ _ _ (LastReply p reply taken now) = goes old _ log _ h p taken (Ends reply) now (refl, refl)
+kind_tallies old log h _ _ _ (EndBegins opened free) =
+    closes old _ log _ h Began old.queued (Emptying [] 0) old.heap refl free (λ over. absurd (cc (over)))
+    (λ t. omega (arith, ap (times_at_end t) opened)) (λ t. refl) refl
+kind_tallies old log h _ _ _ (EndCalls job jobs n at) =
+    closes old _ log _ h (CalledReply job.ticket (outcome_of old.heap job.removes)) old.queued (Emptying jobs (n + 1))
+    (heap_after_job old.heap job.removes) refl (none_left old log h _ at (λ opened. cc (opened)))
+    (λ over. absurd (cc (over))) (λ t. omega (arith, ap (times_at_end t) at, times_cons t job jobs)) (λ t. refl) refl
+kind_tallies old log h _ _ _ (EndTakes bag queued n at out) =
+    closes old _ log _ h Stepped queued (Emptying bag.jobs n) old.heap refl
+    (none_left old log h _ at (λ opened. cc (opened))) (λ over. absurd (cc (over)))
+    (λ t. omega (arith, ap (times_at_end t) at, queued_put t queued old.queued bag out)) (λ t. refl) refl
+kind_tallies old log h _ _ _ (EndIsOver n at none) =
+    closes old _ log _ h (Done (Count n)) old.queued Over old.heap refl
+    (none_left old log h _ at (λ opened. cc (opened))) (λ over. none)
+    (λ t. omega (arith, ap (times_at_end t) at)) (λ t. refl) refl
 
 -- the places play no part
 tallies_aside : (s : State) (log : List Entry) (places : List Bool) (seen : List ℕ) (ahead : List ℕ) (room : List Bool)
@@ -79,7 +67,8 @@ runs_tally : (old new : State) (log entries : List Entry)
 runs_tally old new log [] h run =
     subst (λ s. Tallies s (log ++ [])) (sym run) (subst (Tallies old) (sym (append-nil log)) h)
 runs_tally old new log (x ∷ entries) h (mid, did, run) =
-    let aside = step_tallies old (with_places mid old.places old.seen old.ahead old.room) log x h x.step did.0 in
+    let aside = kind_tallies old log h x.step x.reply (with_places mid old.places old.seen old.ahead old.room)
+    (step_kind old _ x.step x.reply did.0) in
     let step : Tallies mid (log ++ x ∷ []) =
     tallies_aside mid (log ++ x ∷ []) old.places old.seen old.ahead old.room aside in
     subst (Tallies new) (append_assoc log (x ∷ []) entries) (runs_tally mid new (log ++ x ∷ []) entries step run)

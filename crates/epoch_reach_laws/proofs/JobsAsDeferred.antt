@@ -4,7 +4,6 @@ use Rattle.std.proofs.Common.{inl, inr, refl, ap, sym, subst, ◌∙◌, arith, 
 use Rattle.epoch_bags.specs.Stores.{IsInserted}
 use Rattle.epoch_cells.specs.declared.cells.name.Name.{Name}
 use Rattle.epoch_bags.specs.declared.job.Called.{Called}
-use Rattle.epoch_cells.specs.declared.fault.Fault.{Fault}
 use Rattle.epoch_bags.specs.declared.queue.PutStep.{PutStep}
 use Rattle.epoch_bags.specs.declared.queue.PutStep.TheVariants.{Again, Done as PutDone, Full}
 use Rattle.epoch_bags.specs.declared.queue.TakeStep.{TakeStep}
@@ -23,20 +22,24 @@ use Rattle.epoch_heap.specs.declared.access.Ptr.{Ptr}
 use Rattle.epoch_laws.specs.declared.step.Deferral.{Deferral}
 use Rattle.epoch_laws.specs.declared.step.Entry.{Entry}
 use Rattle.epoch_laws.specs.declared.step.Progress.{Progress}
-use Rattle.epoch_laws.specs.declared.step.Progress.TheVariants.{Idle, Driven, CallsNow, Accesses, Ends}
+use Rattle.epoch_laws.specs.declared.step.Progress.TheVariants.{Driven, Ends}
 use Rattle.epoch_laws.specs.declared.step.Reply.{Reply}
-use Rattle.epoch_laws.specs.declared.step.Reply.TheVariants.{Stepped, Deferred, Called as CalledReply}
+use Rattle.epoch_laws.specs.declared.step.Reply.TheVariants.{Registered, Began, Stepped, Deferred, Done}
+use Rattle.epoch_laws.specs.declared.step.Reply.TheVariants.{Called as CalledReply}
+use Rattle.epoch_heap.specs.declared.access.Answer.TheVariants.{Count}
 use Rattle.epoch_laws.specs.declared.step.Step.{Step}
 use Rattle.epoch_laws.specs.declared.step.Step.TheVariants.{Register, Begin, Go, End as EndStep, EndGo}
-use Rattle.epoch_laws.specs.declared.step.Word.TheVariants.{Free, Unpinned}
+use Rattle.epoch_laws.specs.declared.step.Word.TheVariants.{Free}
 use Rattle.epoch_heap.specs.Heap.{outcome_of, heap_after_job}
 use Rattle.epoch_reach_laws.specs.Reach.{DefersRemoval, Past, past_after, no_past}
-use Rattle.epoch_reach_laws.specs.Removals.{IsIn, IsInBags, IsAtEnd, IsInBag, IsAsDeferred, CallsAsDeferred, AsDeferredFrom}
-use Rattle.epoch_reach_laws.specs.Removals.{CallsWhatWasDeferred}
-use Rattle.epoch_laws.specs.Run.{Bag, WorldSeat, State, Ending, Open, Emptying, Over, seat_of, position_word, with_seat}
-use Rattle.epoch_laws.specs.Run.{with_places, with_machine, free_seat, removed_by, refusal, begun_seat, BeginsCall}
-use Rattle.epoch_laws.specs.Run.{ended_seat, DrivesCall, DoesGo, EndGoes, Moves, TakesStep, Runs, IsFresh}
-use Rattle.epoch_laws.proofs.SeatLemmas.{seat_written, seat_other, seat_there, same_or_other, begin_given}
+use Rattle.epoch_reach_laws.specs.Removals.{IsIn, IsInBags, IsAtEnd, IsInBag, IsAsDeferred, CallsAsDeferred}
+use Rattle.epoch_reach_laws.specs.Removals.{AsDeferredFrom, CallsWhatWasDeferred}
+use Rattle.epoch_laws.specs.Run.{Bag, WorldSeat, State, Ending, Emptying, Over, seat_of, position_word, with_seat}
+use Rattle.epoch_laws.specs.Run.{with_places, with_machine, free_seat, removed_by, begun_seat}
+use Rattle.epoch_laws.specs.Run.{ended_seat, DrivesCall, Moves, TakesStep, Runs, IsFresh}
+use Rattle.epoch_laws.proofs.StepKinds.{StepKind, Refusal, Registration, CallBegins, MachineStep, JobStep, CellsStep}
+use Rattle.epoch_laws.proofs.StepKinds.{LastReply, EndBegins, EndCalls, EndTakes, EndIsOver, step_kind}
+use Rattle.epoch_laws.proofs.SeatLemmas.{seat_written, seat_other, seat_there, same_or_other}
 use Rattle.epoch_laws.proofs.QuietReplies.{IsQuiet, quiet_stepped, quiet_began, quiet_now, quiet_access, quiet_done}
 use Rattle.epoch_laws.proofs.QuietReplies.{quiet_refused, quiet_end}
 use Rattle.epoch_laws.proofs.SeatLinks.{AllLinked, follows_at}
@@ -143,14 +146,6 @@ module _ (old new : State) (step : Step) (reply : Reply) where
     called = λ t how e. absurd (quiet.called t how e);
   }
 
-  same : TellsNoJob reply → new ≡ old → Goal
-  same quiet e = subst (λ (s : State). JobsGo old s step reply) (sym e) (record {
-    jobs = λ job at. inl at;
-    tickets = omega arith;
-    deferred = λ t told. absurd (quiet.deferred t told);
-    called = λ t how told. absurd (quiet.called t how told);
-  })
-
   -- the seat of p is written, and perhaps the store
   jobs_after : (p : ℕ) (after : WorldSeat) (last : State) → p < length old.seats → last.sizes ≡ old.sizes
       → last.seats ≡ slice_set old.seats p after → last.ending ≡ old.ending
@@ -174,10 +169,24 @@ module _ (old new : State) (step : Step) (reply : Reply) where
       looked_up q = ap (λ (all : List WorldSeat). slice_index_or all q (free_seat last.sizes)) seats
           ∙ ap (λ (z : Sizes). slice_index_or (slice_set old.seats p after) q (free_seat z)) sizes
 
+  -- the seat of p is written, and perhaps the store, and the reply tells of no job
+  writes : (p : ℕ) (after : WorldSeat) (last : State) → p < length old.seats → TellsNoJob reply → new ≡ last
+      → last.sizes ≡ old.sizes → last.seats ≡ slice_set old.seats p after → last.ending ≡ old.ending
+      → last.tickets ≡ old.tickets
+      → ((job : Deferral) → IsIn job after.machine.held ⊎ IsIn job after.machine.hand → Was job)
+      → ((job : Deferral) → IsInBags job last.queued → Was job) → Goal
+  writes p after last there none e sizes seats ending tickets own queued =
+      subst (λ (s : State). JobsGo old s step reply) (sym e) (record {
+        jobs = jobs_after p after last there sizes seats ending own queued;
+        tickets = omega (arith, tickets);
+        deferred = λ t told. absurd (none.deferred t told);
+        called = λ t how told. absurd (none.called t how told);
+      })
+
 -- A STEP GO
 
 module _ (old new : State) (step : Step) (reply : Reply) (p : ℕ) (on : step ≡ Go p)
-    (taken : position_word old p ≢ Free) (linked : AllLinked old) where
+    (taken : position_word old p ≢ Free) where
   abbrev seat : WorldSeat
   seat = seat_of old p
 
@@ -207,13 +216,7 @@ module _ (old new : State) (step : Step) (reply : Reply) (p : ℕ) (on : step �
   goes : (after : WorldSeat) (last : State) → TellsNoJob reply → new ≡ last → last.sizes ≡ old.sizes
       → last.seats ≡ slice_set old.seats p after → last.ending ≡ old.ending → last.tickets ≡ old.tickets
       → OwnJobs after → Queued last.queued → Shown
-  goes after last none e sizes seats ending tickets own queued =
-      subst (λ (s : State). JobsGo old s step reply) (sym e) (record {
-        jobs = jobs_after old old step reply p after last (seat_there old p taken) sizes seats ending own queued;
-        tickets = omega (arith, tickets);
-        deferred = λ t told. absurd (none.deferred t told);
-        called = λ t how told. absurd (none.called t how told);
-      })
+  goes after last = writes old new step reply p after last (seat_there old p taken)
 
   -- p's jobs and the store stay
   keeps : (after : WorldSeat) (last : State)
@@ -359,132 +362,89 @@ module _ (old new : State) (step : Step) (reply : Reply) (p : ℕ) (on : step �
       (ap (λ (n : Machine Deferral). n.hand) (machine_ended seat c))
       did.1 refl refl refl refl refl
 
-  pub goes_by : (progress : Progress) → seat.progress ≡ progress → DoesGo old p seat progress reply new → Shown
-  goes_by Idle now did = same old new step reply (quiet_job reply (quiet_refused reply _ did.0)) did.1
-  goes_by (Driven c) now did = drives c m.stage did
-  goes_by (CallsNow removes) now did =
-      keeps _ _ (quiet_job reply (quiet_now reply _ did.0)) refl refl did.1 refl refl refl refl refl
-  goes_by (Accesses a k found) now (did, touches, told, e) =
-      keeps _ _ (quiet_job reply (quiet_access reply did.told told)) refl refl e refl refl refl refl refl
-  goes_by (Ends last) now did =
-      let done = (follows_at old.sizes seat (linked.seats p) (Ends last) now).1 in
-      keeps _ _ (quiet_job reply (quiet_done reply _ (did.0 ∙ done.1))) refl refl did.1 refl refl refl refl refl
-
 -- EVERY STEP
 
-module _ (old new : State) (step : Step) (reply : Reply) (linked : AllLinked old) where
-  abbrev Result : Type 0
-  Result = JobsGo old new step reply
+-- a step of the end, at which this is left in the store and in hand
+closes : (old : State) (step : Step) (reply : Reply) (queued : List Bag) (ending : Ending) → TellsNoJob reply
+    → ((job : Deferral) → IsInBags job queued ⊎ IsAtEnd job ending → IsInBag old job)
+    → JobsGo old (record old { queued = queued; ending = ending }) step reply
+closes old step reply queued ending none rest =
+    quietly old (record old { queued = queued; ending = ending }) step reply none (omega arith) there
+  where
+    there : (job : Deferral) → IsInBag (record old { queued = queued; ending = ending }) job → IsInBag old job
+    there job (inl is) = inl is
+    there job (inr is) = rest job is
 
-  begins : (p : ℕ) (c : Call) (f : Option Fault) → refusal c (seat_of old p) old.tickets old.heap ≡ f
-      → BeginsCall old p c f reply new → Result
-  begins p c (Some f) e did = same old new step reply (quiet_job reply (quiet_refused reply f did.0)) did.1
-  begins p c None e did =
-      let given = begin_given c (seat_of old p) old.tickets old.heap e in
-      subst (λ (s : State). JobsGo old s step reply) (sym did.1)
-      (quietly old (with_seat old p (begun_seat c (seat_of old p))) step reply
-      (quiet_job reply (quiet_began reply did.0)) (omega arith)
-      (λ job at. at_old job
-      (jobs_after old old step reply p (begun_seat c (seat_of old p))
-      (with_seat old p (begun_seat c (seat_of old p)))
-      (seat_there old p given.taken) refl refl refl own (λ other at. inl (inr (inl at))) job at)))
-    where
-      not_now : (job : Deferral) → ¬ (IsNewJob old step reply job)
-      not_now job h = cc (did.0, h.deferred)
+kind_jobs : (old : State) → AllLinked old → (step : Step) (reply : Reply) (new : State) → StepKind old step reply new
+    → JobsGo old new step reply
+kind_jobs old linked _ _ _ (Refusal step fault) =
+    quietly old old step _ (quiet_job _ (quiet_refused _ fault refl)) (omega arith) (λ job at. at)
+kind_jobs old linked _ _ _ (Registration p opened there free) = writes old _ Register (Registered p) p _ _ there
+    (no_job _ _ refl (λ t h. cc) (λ t how h. cc)) refl refl refl refl refl none_left (λ job at. inl (inr (inl at)))
+  where
+    none_left : (job : Deferral) → ⊥ ⊎ ⊥ → IsInBag old job ⊎ IsNewJob old Register (Registered p) job
+    none_left job (inl none) = absurd none
+    none_left job (inr none) = absurd none
+kind_jobs old linked _ _ _ (CallBegins p c given) = writes old _ (Begin p c) Began p _ _ (seat_there old p given.taken)
+    (quiet_job _ (quiet_began _ refl)) refl refl refl refl refl own (λ job at. inl (inr (inl at)))
+  where
+    own : (job : Deferral)
+        → IsIn job (begun_seat c (seat_of old p)).machine.held ⊎ IsIn job (begun_seat c (seat_of old p)).machine.hand
+        → IsInBag old job ⊎ IsNewJob old (Begin p c) Began job
+    own job (inl at) = inl (inl (p, inl (subst (IsIn job) (held_begun (seat_of old p) c) at)))
+    own job (inr at) = inl (inl (p, inr (subst (IsIn job) (hand_begun (seat_of old p) c) at)))
+kind_jobs old linked _ _ _ (MachineStep p c reply new taken drive did) =
+    drives old new (Go p) reply p refl taken c _ did
+kind_jobs old linked _ _ _ (JobStep p removes taken now) = keeps old _ (Go p) _ p refl taken _ _
+    (quiet_job _ (quiet_now _ _ refl)) refl refl refl refl refl refl refl refl
+kind_jobs old linked _ _ _ (CellsStep p a k found did taken now touches) = keeps old _ (Go p) _ p refl taken _ _
+    (quiet_job _ (quiet_access _ did.told refl)) refl refl refl refl refl refl refl refl
+kind_jobs old linked _ _ _ (LastReply p reply taken now) =
+    let done = (follows_at old.sizes (seat_of old p) (linked.seats p) (Ends reply) now).1 in
+    keeps old _ (Go p) reply p refl taken _ _ (quiet_job reply (quiet_done reply _ done.1)) refl refl refl refl refl
+    refl refl refl
+kind_jobs old linked _ _ _ (EndBegins opened free) =
+    closes old EndStep Began old.queued (Emptying [] 0) (quiet_job _ (quiet_began _ refl)) rest
+  where
+    rest : (job : Deferral) → IsInBags job old.queued ⊎ ⊥ → IsInBag old job
+    rest job (inl is) = inr (inl is)
+    rest job (inr is) = absurd is
+kind_jobs old linked _ _ _ (EndCalls job jobs n at) = record {
+  jobs = λ other is. inl (there other is);
+  tickets = omega arith;
+  deferred = λ t is. absurd (cc (is));
+  called = λ t how is. record {
+    job = job;
+    there = inr (inr (subst (IsAtEnd job) (sym at) (inl refl)));
+    ticket = cc (is);
+    outcome = cc (is);
+    heap = refl;
+  };
+}
+  where
+    there : (other : Deferral)
+        → IsInBag (record old { ending = Emptying jobs (n + 1); heap = heap_after_job old.heap job.removes }) other
+        → IsInBag old other
+    there other (inl is) = inl is
+    there other (inr (inl is)) = inr (inl is)
+    there other (inr (inr is)) = inr (inr (subst (IsAtEnd other) (sym at) (inr is)))
+kind_jobs old linked _ _ _ (EndTakes bag queued n at out) =
+    closes old EndGo Stepped queued (Emptying bag.jobs n) (quiet_job _ (quiet_stepped _ refl)) rest
+  where
+    rest : (job : Deferral) → IsInBags job queued ⊎ IsIn job bag.jobs → IsInBag old job
+    rest job (inl is) = inr (inl (in_others job bag queued old.queued out is))
+    rest job (inr is) = inr (inl (in_bag job bag queued old.queued out is))
+kind_jobs old linked _ _ _ (EndIsOver n at none) =
+    closes old EndGo (Done (Count n)) old.queued Over (quiet_job _ (quiet_done _ (Count n) refl)) rest
+  where
+    rest : (job : Deferral) → IsInBags job old.queued ⊎ ⊥ → IsInBag old job
+    rest job (inl is) = inr (inl is)
+    rest job (inr is) = absurd is
 
-      at_old : (job : Deferral) → IsInBag old job ⊎ IsNewJob old step reply job → IsInBag old job
-      at_old job (inl was) = was
-      at_old job (inr h) = absurd (not_now job h)
-
-      own : (job : Deferral)
-          → IsIn job (begun_seat c (seat_of old p)).machine.held ⊎ IsIn job (begun_seat c (seat_of old p)).machine.hand
-          → IsInBag old job ⊎ IsNewJob old step reply job
-      own job (inl at) = inl (inl (p, inl (subst (IsIn job) (held_begun (seat_of old p) c) at)))
-      own job (inr at) = inl (inl (p, inr (subst (IsIn job) (hand_begun (seat_of old p) c) at)))
-
-  -- a step of the end, at which this is left in the store and in hand
-  closes : (last : State) → TellsNoJob reply → new ≡ last → last.tickets ≡ old.tickets → last.sizes ≡ old.sizes
-      → last.seats ≡ old.seats
-      → ((job : Deferral) → IsInBags job last.queued ⊎ IsAtEnd job last.ending → IsInBag old job) → Result
-  closes last none e tickets sizes seats rest = subst (λ (s : State). JobsGo old s step reply) (sym e)
-      (quietly old last step reply none (omega (arith, tickets)) there)
-    where
-      at : (q : ℕ) → seat_of last q ≡ seat_of old q
-      at q = ap (λ (all : List WorldSeat). slice_index_or all q (free_seat last.sizes)) seats
-          ∙ ap (λ (z : Sizes). slice_index_or old.seats q (free_seat z)) sizes
-
-      there : (job : Deferral) → IsInBag last job → IsInBag old job
-      there job (inl (q, is)) =
-          inl (q, subst (λ (seat : WorldSeat). IsIn job seat.machine.held ⊎ IsIn job seat.machine.hand) (at q) is)
-      there job (inr is) = rest job is
-
-  end_goes : (e : Ending) → old.ending ≡ e → EndGoes old e reply new → Result
-  end_goes Open at did = same old new step reply (quiet_job reply (quiet_refused reply _ did.0)) did.1
-  end_goes Over at did = same old new step reply (quiet_job reply (quiet_refused reply _ did.0)) did.1
-  end_goes (Emptying [] n) at (inl (bag, queued, out, told, did)) =
-      closes _ (quiet_job reply (quiet_stepped reply told)) did refl refl refl rest
-    where
-      rest : (job : Deferral) → IsInBags job queued ⊎ IsIn job bag.jobs → IsInBag old job
-      rest job (inl is) = inr (inl (in_others job bag queued old.queued out is))
-      rest job (inr is) = inr (inl (in_bag job bag queued old.queued out is))
-  end_goes (Emptying [] n) at (inr (none, told, did)) =
-      closes _ (quiet_job reply (quiet_done reply _ told)) did refl refl refl rest
-    where
-      rest : (job : Deferral) → IsInBags job old.queued ⊎ ⊥ → IsInBag old job
-      rest job (inl is) = inr (inl is)
-      rest job (inr is) = absurd is
-  end_goes (Emptying (job ∷ jobs) n) at (told, did) = subst (λ (s : State). JobsGo old s step reply) (sym did) (record {
-    jobs = λ other is. inl (there other is);
-    tickets = omega arith;
-    deferred = λ t is. absurd (cc (told, is));
-    called = λ t how is. record {
-      job = job;
-      there = inr (inr (subst (IsAtEnd job) (sym at) (inl refl)));
-      ticket = cc (told, is);
-      outcome = cc (told, is);
-      heap = refl;
-    };
-  })
-    where
-      there : (other : Deferral)
-          → IsInBag (record old { ending = Emptying jobs (n + 1); heap = heap_after_job old.heap job.removes }) other
-          → IsInBag old other
-      there other (inl is) = inl is
-      there other (inr (inl is)) = inr (inl is)
-      there other (inr (inr is)) = inr (inr (subst (IsAtEnd other) (sym at) (inr is)))
-
-  pub jobs_go : (s : Step) → step ≡ s → Moves old s reply new → Result
-  jobs_go Register on (inl (p, opened, there, free, lowest, told, did)) =
-      subst (λ (s : State). JobsGo old s step reply) (sym did)
-      (quietly old (with_seat old p registered) step reply (no_job reply _ told (λ t h. cc) (λ t how h. cc))
-      (omega arith)
-      (λ job is. at_old job
-      (jobs_after old old step reply p registered (with_seat old p registered) there refl refl refl
-      none_left (λ other at. inl (inr (inl at))) job is)))
-    where
-      registered : WorldSeat
-      registered = record (free_seat old.sizes) { word = Unpinned }
-
-      none_left : (job : Deferral) → ⊥ ⊎ ⊥ → IsInBag old job ⊎ IsNewJob old step reply job
-      none_left job (inl none) = absurd none
-      none_left job (inr none) = absurd none
-
-      at_old : (job : Deferral) → IsInBag old job ⊎ IsNewJob old step reply job → IsInBag old job
-      at_old job (inl was) = was
-      at_old job (inr h) = absurd (cc (told, h.deferred))
-  jobs_go Register on (inr (inl did)) = same old new step reply (quiet_job reply (quiet_refused reply _ did.2)) did.3
-  jobs_go Register on (inr (inr did)) = same old new step reply (quiet_job reply (quiet_refused reply _ did.1)) did.2
-  jobs_go (Begin p c) on did = begins p c (refusal c (seat_of old p) old.tickets old.heap) refl did
-  jobs_go (Go p) on (inl did) = same old new step reply (quiet_job reply (quiet_refused reply _ did.1)) did.2
-  jobs_go (Go p) on (inr did) = goes_by old new step reply p on did.0 linked (seat_of old p).progress refl did.1
-  jobs_go EndStep on (inl did) = closes _ (quiet_job reply (quiet_began reply did.2)) did.3 refl refl refl rest
-    where
-      rest : (job : Deferral) → IsInBags job old.queued ⊎ ⊥ → IsInBag old job
-      rest job (inl is) = inr (inl is)
-      rest job (inr is) = absurd is
-  jobs_go EndStep on (inr (inl did)) = same old new step reply (quiet_job reply (quiet_refused reply _ did.2)) did.3
-  jobs_go EndStep on (inr (inr did)) = same old new step reply (quiet_job reply (quiet_refused reply _ did.1)) did.2
-  jobs_go EndGo on did = end_goes old.ending refl did
+pub jobs_go : (old new : State) (step : Step) (reply : Reply) → AllLinked old → (s : Step) → step ≡ s
+    → Moves old s reply new → JobsGo old new step reply
+jobs_go old new step reply linked s on did = subst (λ (t : Step). JobsGo old new t reply) (sym on)
+    (kind_jobs old linked s reply new (step_kind old new s reply did))
 
 -- a deferral of the name's removal is under way
 record IsRemoval (progress : Progress) (x : Name) : Type 0 where

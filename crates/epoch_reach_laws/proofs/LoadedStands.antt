@@ -85,7 +85,7 @@ module _ (old new : State) (past : Past) (entry : Entry) (c : NamesHold old past
 
   writes_later : (q : ℕ) (a : Access)
       → IsAccess a (seat_of new q).progress → (x : Name) → Written a x → WasGiven new.heap x
-  writes_later q a is x written = elim (access_begun old aside entry.step entry.reply a entry.step refl took.0 q is) [
+  writes_later q a is x written = elim (access_begun old aside entry.step entry.reply a took.0 q is) [
     | inl was ↦ still x (c.writes q a was x written)
     | inr begun ↦ still x (written_known a (seat_of old q) old.tickets old.heap x begun.1 written)
   ]

@@ -1,8 +1,7 @@
 -- Every step shows what reach needs: of each participant's word and guards, and of the fields.
-use Rattle.std.proofs.Common.{◌≡◌, ◌≢◌, ℕ, ◌<◌, true, List, [], ◌∷◌, length, Option, Some, None, ◌⊎◌, inl, inr, refl}
-use Rattle.std.proofs.Common.{ap, sym, subst, ◌∙◌, slice_set, slice_index_or}
+use Rattle.std.proofs.Common.{◌≡◌, ◌≢◌, ℕ, ◌<◌, true, List, length, Option, ◌⊎◌, inl, inr, refl}
+use Rattle.std.proofs.Common.{ap, sym, subst, subst₂, ◌∙◌, slice_set, slice_index_or}
 use Rattle.epoch_cells.specs.declared.cells.name.Name.{Name}
-use Rattle.epoch_cells.specs.declared.fault.Fault.{Fault}
 use Rattle.epoch_machine.specs.declared.machine.Sizes.{Sizes}
 use Rattle.epoch_machine.specs.declared.machine.Stage.{Stage}
 use Rattle.epoch_machine.specs.declared.machine.Stage.TheVariants.{Idle as Resting, LoadPin, StorePin, ReloadPin}
@@ -12,28 +11,29 @@ use Rattle.epoch_machine.specs.declared.machine.Stage.TheVariants.{StoreUnpinned
 use Rattle.epoch_machine.specs.declared.machine.Answer.TheVariants.{Stored}
 use Rattle.epoch_machine.specs.Machine.{Machine, ask_at, hears}
 use Rattle.epoch_heap.specs.declared.access.Access.{Access}
-use Rattle.epoch_heap.specs.declared.access.Answer.TheVariants.{Unit as UnitAnswer}
 use Rattle.epoch_laws.specs.declared.step.Call.{Call}
 use Rattle.epoch_laws.specs.declared.step.Deferral.{Deferral}
 use Rattle.epoch_laws.specs.declared.step.Entry.{Entry}
 use Rattle.epoch_laws.specs.declared.step.Progress.{Progress}
-use Rattle.epoch_laws.specs.declared.step.Progress.TheVariants.{Idle, Driven, CallsNow, Accesses, Ends}
+use Rattle.epoch_laws.specs.declared.step.Progress.TheVariants.{Driven, Accesses, Ends}
 use Rattle.epoch_heap.specs.declared.access.Ptr.{Ptr}
 use Rattle.epoch_laws.specs.declared.step.Reply.{Reply}
 use Rattle.epoch_laws.specs.declared.step.Reply.TheVariants.{Registered, Stepped, Pinned as PinnedReply}
-use Rattle.epoch_laws.specs.declared.step.Reply.TheVariants.{Unpinned as UnpinnedReply, Repinned, Deferred, Done}
+use Rattle.epoch_laws.specs.declared.step.Reply.TheVariants.{Unpinned as UnpinnedReply, Repinned, Deferred}
 use Rattle.epoch_heap.specs.declared.access.Spot.{Spot}
 use Rattle.epoch_heap.specs.declared.access.Spot.TheVariants.{Field}
 use Rattle.epoch_laws.specs.declared.step.Step.{Step}
-use Rattle.epoch_laws.specs.declared.step.Step.TheVariants.{Register, Begin, Go, End as EndStep, EndGo}
+use Rattle.epoch_laws.specs.declared.step.Step.TheVariants.{Begin, Go}
 use Rattle.epoch_laws.specs.declared.step.Word.{Word}
 use Rattle.epoch_laws.specs.declared.step.Word.TheVariants.{Free, Unpinned, Pinned}
 use Rattle.epoch_heap.specs.Heap.{Heap, pointer_at, Touched, Touches}
 use Rattle.epoch_reach_laws.specs.Reach.{Leads, IsReachable, Points, Past, LetsGo, LeavesRightly}
-use Rattle.epoch_laws.specs.Run.{WorldSeat, State, Ending, Open, Emptying, Over, seat_of, position_word, with_seat}
-use Rattle.epoch_laws.specs.Run.{with_places, with_machine, with_word, free_seat, refusal, begun_seat, BeginsCall}
-use Rattle.epoch_laws.specs.Run.{accessed_seat, ended_seat, DrivesCall, DoesGo, EndGoes, Moves}
-use Rattle.epoch_laws.proofs.SeatLemmas.{seat_written, seat_other, seat_there, same_or_other, begin_given}
+use Rattle.epoch_laws.specs.Run.{WorldSeat, State, seat_of, position_word, with_seat}
+use Rattle.epoch_laws.specs.Run.{with_places, with_machine, with_word, free_seat, begun_seat}
+use Rattle.epoch_laws.specs.Run.{accessed_seat, ended_seat, DrivesCall, Moves}
+use Rattle.epoch_laws.proofs.StepKinds.{StepKind, Refusal, Registration, CallBegins, MachineStep, JobStep, CellsStep}
+use Rattle.epoch_laws.proofs.StepKinds.{LastReply, EndBegins, EndCalls, EndTakes, EndIsOver, step_kind}
+use Rattle.epoch_laws.proofs.SeatLemmas.{seat_written, seat_other, seat_there, same_or_other}
 use Rattle.epoch_laws.proofs.SeatLinks.{AllLinked, follows_at, IsDriven}
 use Rattle.epoch_laws.proofs.Log.{IsPublish, IsWithdrawal}
 use Rattle.epoch_laws.proofs.QuietReplies.{IsPlain, IsQuiet, plain_called, quiet_stepped, quiet_began, quiet_now}
@@ -317,77 +317,61 @@ module _ (past : Past) (old new : State) (log : List Entry) (x : Entry) (holds :
         (λ other ne. ap (λ (s : State). pointer_at s.heap other) e ∙ pointed.others other ne)
   ]
 
-  goes : (progress : Progress)
-      → seat.progress ≡ progress → DoesGo old p seat progress x.reply (aside past old new x) → Goal
-  goes Idle now did = stays past old new x (silent x.reply (quiet_refused x.reply _ did.0)) did.1
-  goes (Driven c) now did = drives c now m.stage refl (holds.seats p) did
-  goes (CallsNow removes) now did =
-      goes_on past old new x p (record seat { progress = Ends (Done UnitAnswer) }) _ taken did.1 refl refl refl
-      (silent x.reply (quiet_now x.reply _ did.0)) (λ g out kept. (out.0, λ gives. gives)) (λ was. tt)
-      (fewer_fields past old new x _ did.1 (fewer_job old.heap removes))
-  goes (Accesses a k found) now (did, touches, told, e) =
-      goes_on past old new x p (accessed_seat a k did.told seat) _ taken e refl refl refl
-      (silent x.reply (quiet_access x.reply did.told told))
-      (λ g out kept. is_out_accessed seat g a k did.told out.0)
-      (λ was. guarded_accessed seat a k found did.told
-      (subst (λ (progress : Progress). GuardsAccess progress seat.guards) now was))
-      (accesses a k found now did touches e)
-  goes (Ends reply) now did =
-      goes_on past old new x p (record seat { progress = Idle }) _ taken did.1 refl refl refl
-      (silent x.reply
-      (quiet_done x.reply _ (did.0 ∙ (follows_at old.sizes seat (linked.seats p) (Ends reply) now).1.1)))
-      (λ g out kept. (out.0, λ gives. gives)) (λ was. tt) (heap_stays past old new x _ did.1 refl)
-
 -- EVERY STEP
 
 module _ (past : Past) (old new : State) (log : List Entry) (x : Entry) (holds : Holds old log) (linked : AllLinked old)
     (leaves : LeavesRightly past old x new) where
-  abbrev Shown : Type 0
-  Shown = KeepsReach past old new x
+  abbrev after : State
+  after = aside past old new x
 
-  begins : (p : ℕ) (c : Call) → x.step ≡ Begin p c → (f : Option Fault)
-      → refusal c (seat_of old p) old.tickets old.heap ≡ f → BeginsCall old p c f x.reply (aside past old new x) → Shown
-  begins p c on (Some f) e did = stays past old new x (silent x.reply (quiet_refused x.reply f did.0)) did.1
-  begins p c on None e did =
-      let given = begin_given c (seat_of old p) old.tickets old.heap e in
-      goes_on past old new x p (begun_seat c (seat_of old p)) _ given.taken did.1 refl refl
-      (word_begun (seat_of old p) c)
-      (silent x.reply (quiet_began x.reply did.0))
+  -- by the kind of the step: x has its reply, and the state after it is this one, the places aside
+  kind_shows : (step : Step) (reply : Reply) (last : State) → StepKind old step reply last → x.step ≡ step
+      → x.reply ≡ reply → after ≡ last → KeepsReach past old new x
+  kind_shows _ _ _ (Refusal step fault) on told e =
+      stays past old new x (silent x.reply (quiet_refused x.reply fault told)) e
+  kind_shows _ _ _ (Registration p opened there free) on told e = let quiet = silent_registered x.reply p told in
+      writes past old new x p (record (free_seat old.sizes) { word = Unpinned }) _ there e refl refl
+      (λ q ne. (quiet.published q, quiet.withdrawn q)) (λ pin. absurd (cc (pin)))
+      (λ g pin out kept. absurd (cc (pin, ap is_pinned free))) (λ was. tt) (heap_stays past old new x _ e refl)
+  kind_shows _ _ _ (CallBegins p c given) on told e =
+      goes_on past old new x p (begun_seat c (seat_of old p)) _ given.taken e refl refl (word_begun (seat_of old p) c)
+      (silent x.reply (quiet_began x.reply told))
       (λ g out kept. is_out_begun (seat_of old p) g c (λ gives. kept (inl (
         elim gives [
           | inl same ↦ inl (on ∙ ap (Begin p) same)
           | inr same ↦ inr (on ∙ ap (Begin p) same)
         ],
-        did.0,
+        told,
       ))) out.0)
-      (λ was. guarded_begun (seat_of old p) old.tickets old.heap c given.own)
-      (heap_stays past old new x _ did.1 refl)
+      (λ was. guarded_begun (seat_of old p) old.tickets old.heap c given.own) (heap_stays past old new x _ e refl)
+  kind_shows _ _ _ (MachineStep p c reply last taken drive did) on told e =
+      drives past old new log x holds linked leaves p on taken c drive _ refl (holds.seats p)
+      (subst₂ (λ (r : Reply) (s : State). DrivesCall old p (seat_of old p) c (seat_of old p).machine.stage
+      (ask_at (seat_of old p).machine.stage) r s) (sym told) (sym e) did)
+  kind_shows _ _ _ (JobStep p removes taken now) on told e =
+      goes_on past old new x p _ _ taken e refl refl refl (silent x.reply (quiet_now x.reply _ told))
+      (λ g out kept. (out.0, λ gives. gives)) (λ was. tt)
+      (fewer_fields past old new x _ e (fewer_job old.heap removes))
+  kind_shows _ _ _ (CellsStep p a k found did taken now touches) on told e =
+      goes_on past old new x p _ _ taken e refl refl refl (silent x.reply (quiet_access x.reply did.told told))
+      (λ g out kept. is_out_accessed (seat_of old p) g a k did.told out.0)
+      (λ was. guarded_accessed (seat_of old p) a k found did.told
+      (subst (λ (progress : Progress). GuardsAccess progress (seat_of old p).guards) now was))
+      (accesses past old new log x holds linked leaves p on taken a k found now did touches e)
+  kind_shows _ _ _ (LastReply p reply taken now) on told e =
+      let done = (follows_at old.sizes (seat_of old p) (linked.seats p) (Ends reply) now).1 in
+      goes_on past old new x p _ _ taken e refl refl refl
+      (silent x.reply (quiet_done x.reply _ (told ∙ done.1)))
+      (λ g out kept. (out.0, λ gives. gives)) (λ was. tt) (heap_stays past old new x _ e refl)
+  kind_shows _ _ _ (EndBegins opened free) on told e = unchanged past old new x _ e refl refl
+      (silent x.reply (quiet_began x.reply told)) (heap_stays past old new x _ e refl)
+  kind_shows _ _ _ (EndCalls job jobs n at) on told e = unchanged past old new x _ e refl refl
+      (plain_silent x.reply (plain_called x.reply job.ticket _ told))
+      (fewer_fields past old new x _ e (fewer_job old.heap job.removes))
+  kind_shows _ _ _ (EndTakes bag queued n at out) on told e = unchanged past old new x _ e refl refl
+      (silent x.reply (quiet_stepped x.reply told)) (heap_stays past old new x _ e refl)
+  kind_shows _ _ _ (EndIsOver n at none) on told e = unchanged past old new x _ e refl refl
+      (silent x.reply (quiet_done x.reply _ told)) (heap_stays past old new x _ e refl)
 
-  end_goes : (e : Ending) → EndGoes old e x.reply (aside past old new x) → Shown
-  end_goes Open did = stays past old new x (silent x.reply (quiet_refused x.reply _ did.0)) did.1
-  end_goes Over did = stays past old new x (silent x.reply (quiet_refused x.reply _ did.0)) did.1
-  end_goes (Emptying (job ∷ jobs) n) did = unchanged past old new x _ did.1 refl refl
-      (plain_silent x.reply (plain_called x.reply job.ticket _ did.0))
-      (fewer_fields past old new x _ did.1 (fewer_job old.heap job.removes))
-  end_goes (Emptying [] n) (inl did) = unchanged past old new x _ did.4 refl refl
-      (silent x.reply (quiet_stepped x.reply did.3)) (heap_stays past old new x _ did.4 refl)
-  end_goes (Emptying [] n) (inr did) = unchanged past old new x _ did.2 refl refl
-      (silent x.reply (quiet_done x.reply _ did.1)) (heap_stays past old new x _ did.2 refl)
-
-  pub step_shows : (s : Step) → x.step ≡ s → Moves old s x.reply (aside past old new x) → Shown
-  step_shows Register on (inl (p, opened, there, free, lowest, told, did)) =
-      let quiet = silent_registered x.reply p told in
-      writes past old new x p (record (free_seat old.sizes) { word = Unpinned }) _ there did refl refl
-      (λ q ne. (quiet.published q, quiet.withdrawn q)) (λ pin. absurd (cc (pin)))
-      (λ g pin out kept. absurd (cc (pin, ap is_pinned free))) (λ was. tt) (heap_stays past old new x _ did refl)
-  step_shows Register on (inr (inl did)) = stays past old new x (silent x.reply (quiet_refused x.reply _ did.2)) did.3
-  step_shows Register on (inr (inr did)) = stays past old new x (silent x.reply (quiet_refused x.reply _ did.1)) did.2
-  step_shows (Begin p c) on did = begins p c on (refusal c (seat_of old p) old.tickets old.heap) refl did
-  step_shows (Go p) on (inl did) = stays past old new x (silent x.reply (quiet_refused x.reply _ did.1)) did.2
-  step_shows (Go p) on (inr did) =
-      goes past old new log x holds linked leaves p on did.0 (seat_of old p).progress refl did.1
-  step_shows EndStep on (inl did) = unchanged past old new x _ did.3 refl refl
-      (silent x.reply (quiet_began x.reply did.2)) (heap_stays past old new x _ did.3 refl)
-  step_shows EndStep on (inr (inl did)) = stays past old new x (silent x.reply (quiet_refused x.reply _ did.2)) did.3
-  step_shows EndStep on (inr (inr did)) = stays past old new x (silent x.reply (quiet_refused x.reply _ did.1)) did.2
-  step_shows EndGo on did = end_goes old.ending did
+  pub step_shows : (s : Step) → x.step ≡ s → Moves old s x.reply after → KeepsReach past old new x
+  step_shows s on did = kind_shows s x.reply after (step_kind old after s x.reply did) on refl refl

@@ -45,16 +45,16 @@ use Rattle.epoch_laws.specs.declared.step.Progress.TheVariants.{Idle, Driven, Ca
 use Rattle.epoch_laws.specs.declared.step.Reply.{Reply}
 use Rattle.epoch_laws.specs.declared.step.Reply.TheVariants.{Done}
 use Rattle.epoch_laws.specs.declared.step.Step.{Step}
-use Rattle.epoch_laws.specs.declared.step.Step.TheVariants.{Register, Begin, Go, End as EndStep, EndGo}
 use Rattle.epoch_laws.specs.declared.step.Word.{Word}
 use Rattle.epoch_laws.specs.declared.step.Word.TheVariants.{Free, Unpinned, Pinned}
 use Rattle.epoch_laws.specs.Run.{WorldSeat, State, reading_refusal, seat_of, position_word, word_number, with_seat}
-use Rattle.epoch_laws.specs.Run.{with_word, with_machine, with_places, free_seat, reads, refusal, call_refusal}
+use Rattle.epoch_laws.specs.Run.{with_word, with_machine, with_places, free_seat, reads, call_refusal}
 use Rattle.epoch_laws.specs.Run.{access_refusal, under_guard, begun_seat, drives, ended_seat, with_guards}
-use Rattle.epoch_laws.specs.Run.{accessed_seat, progress_after, readings_after, Ending, Open, Emptying, Over}
-use Rattle.epoch_laws.specs.Run.{BeginsCall, DrivesCall, DoesGo, EndGoes, Moves, TakesStep, Runs, IsFresh}
-use Rattle.epoch_laws.proofs.SeatLemmas.{seat_written, seat_other, seat_there, same_or_other, begin_given, guard_given}
-use Rattle.epoch_laws.proofs.SeatLemmas.{IsAccepted}
+use Rattle.epoch_laws.specs.Run.{accessed_seat, progress_after, readings_after}
+use Rattle.epoch_laws.specs.Run.{DrivesCall, Moves, TakesStep, Runs, IsFresh}
+use Rattle.epoch_laws.proofs.StepKinds.{StepKind, Refusal, Registration, CallBegins, MachineStep, JobStep, CellsStep}
+use Rattle.epoch_laws.proofs.StepKinds.{LastReply, EndCalls, step_kind}
+use Rattle.epoch_laws.proofs.SeatLemmas.{seat_written, seat_other, seat_there, same_or_other, guard_given}
 use Rattle.epoch_laws.proofs.SeatLinks.{action_of, AllLinked, IsDriven, follows_at}
 use Rattle.epoch_laws.proofs.Linked.{step_linked, fresh_linked}
 use Rattle.epoch_laws.proofs.TicketSums.{sum_zero}
@@ -63,8 +63,9 @@ use Rattle.epoch_laws.specs.Readings.{KeepsReadings}
 use Rattle.epoch_reach_laws.proofs.FreedStages.{frees_collected, frees_pinned, frees_put, frees_unpinned, frees_called}
 use Rattle.epoch_reach_laws.proofs.FreedStages.{frees_past, frees_first}
 use Rattle.epoch_reach_laws.proofs.PointersGiven.{under_given, inner}
-use Rattle.epoch_reach_laws.proofs.ReadersCounted.{none_there, name_is, times_push, reads_counted, Leaves, readings_told}
-use Rattle.epoch_reach_laws.proofs.ReadersCounted.{readers_at, SameReaders, HasReader, job_counts, touch_counts}
+use Rattle.epoch_reach_laws.proofs.ReadersCounted.{none_there, name_is, times_push, reads_counted}
+use Rattle.epoch_reach_laws.proofs.ReadersCounted.{Leaves, readings_told, readers_at, SameReaders, HasReader}
+use Rattle.epoch_reach_laws.proofs.ReadersCounted.{job_counts, touch_counts}
 
 -- NO SEAT IS WRITTEN, OR ONE
 
@@ -147,7 +148,7 @@ once_after (Leave ptr) told k found readings fits once n =
 once_after (Read g ptr) _ k found readings fits once n = once n
 once_after _ told k found readings fits once n = once n
 
-module _ (old new : State) (reply : Reply) (p : ℕ) (h : KeepsReadings old) (linked : AllLinked old)
+module _ (old new : State) (p : ℕ) (h : KeepsReadings old) (linked : AllLinked old)
     (taken : position_word old p ≢ Free) where
   abbrev seat : WorldSeat
   seat = seat_of old p
@@ -243,39 +244,39 @@ module _ (old new : State) (reply : Reply) (p : ℕ) (h : KeepsReadings old) (li
       (λ x. ap (λ (readings : List Name). readers_at old.heap x + times_read x readings) none)
       (record { once = λ x. omega arith; begun = tt; free = λ is. refl; frees = tt })
 
-  go_at : (c : Call) → seat.progress ≡ Driven c
+  go_at : (c : Call) (reply : Reply) → seat.progress ≡ Driven c
       → (s : Stage) → m.stage ≡ s → DrivesCall old p seat c s (ask_at s) reply new → KeepsReadings new
-  go_at c drive Resting at did = ends_call c did.1
-  go_at c drive LoadPin at did = moves (StorePin old.epoch) tt did.1
-  go_at c drive (StorePin e) at did =
+  go_at c reply drive Resting at did = ends_call c did.1
+  go_at c reply drive LoadPin at did = moves (StorePin old.epoch) tt did.1
+  go_at c reply drive (StorePin e) at did =
       goes_on (Pinned e) (hears m (StorePin e) Stored) (λ is. cc (is)) tt _ did.1 (λ x. refl) (λ q. refl) (λ x. refl)
-  go_at c drive ReloadPin at did = moves (after_pin m) (frees_pinned m.action m) did.1
-  go_at c drive LoadScan at did = moves (Scan old.epoch 0) tt did.1
-  go_at c drive (Scan e k) at did =
+  go_at c reply drive ReloadPin at did = moves (after_pin m) (frees_pinned m.action m) did.1
+  go_at c reply drive LoadScan at did = moves (Scan old.epoch 0) tt did.1
+  go_at c reply drive (Scan e k) at did =
       moves (past_word m.sizes.positions e k (word_number (position_word old k)))
       (frees_past m.action m.sizes.positions e k (word_number (position_word old k))) did.1
-  go_at c drive (Advance e) at did =
+  go_at c reply drive (Advance e) at did =
       goes_on seat.word (hears m (Advance e) Stored) taken tt _ did.1 (λ x. refl) (λ q. refl) (λ x. refl)
-  go_at c drive (Take x k) at (step, jobs, queued, told, took, e) =
+  go_at c reply drive (Take x k) at (step, jobs, queued, told, took, e) =
       goes_on seat.word (took_heard m (Take x k) step jobs) taken (takes x k step jobs) _ e (λ x. refl) (λ q. refl)
       (λ x. refl)
-  go_at c drive (Calling x k) at (job, jobs, hand, told, e) =
+  go_at c reply drive (Calling x k) at (job, jobs, hand, told, e) =
       goes_on seat.word (gives m (Calling x k) jobs) taken (frees_called m.action m x k jobs) _ e
       (job_counts old.heap job.removes) (λ q. refl) (λ x. refl)
-  go_at c drive LoadSeal at did = moves (Put old.epoch) tt did.1
-  go_at c drive (Put s) at (step, queued, told, put, e) =
+  go_at c reply drive LoadSeal at did = moves (Put old.epoch) tt did.1
+  go_at c reply drive (Put s) at (step, queued, told, put, e) =
       goes_on seat.word (put_heard m step) taken (puts s step at) _ e (λ x. refl) (λ q. refl) (λ x. refl)
-  go_at c drive Keep at did =
+  go_at c reply drive Keep at did =
       goes_on seat.word (hears m Keep (Job _)) taken tt _ did.1 (λ x. refl) (λ q. refl) (λ x. refl)
-  go_at c drive LoadRepin at did =
+  go_at c reply drive LoadRepin at did =
       moves _ (either_way (FreesAt m.action) (m.published == old.epoch) End (StoreRepin old.epoch) tt tt) did.1
-  go_at c drive (StoreRepin e) at did =
+  go_at c reply drive (StoreRepin e) at did =
       goes_on (Pinned e) (hears m (StoreRepin e) Stored) (λ is. cc (is)) tt _ did.1 (λ x. refl) (λ q. refl) (λ x. refl)
-  go_at c drive ReloadRepin at did = moves End tt did.1
-  go_at c drive StoreUnpinned at did = goes_on Unpinned (hears m StoreUnpinned Stored) (λ is. cc (is))
+  go_at c reply drive ReloadRepin at did = moves End tt did.1
+  go_at c reply drive StoreUnpinned at did = goes_on Unpinned (hears m StoreUnpinned Stored) (λ is. cc (is))
       (frees_unpinned m.action m.full) _ did.1 (λ x. refl) (λ q. refl) (λ x. refl)
-  go_at c drive StoreFree at did = frees_position (released c drive at) did.1
-  go_at c drive End at did = ends_call c did.1
+  go_at c reply drive StoreFree at did = frees_position (released c drive at) did.1
+  go_at c reply drive End at did = ends_call c did.1
 
   -- a call on cells and pointers goes on
   module _ (a : Access) (k : ℕ) (found : Ptr) (now : seat.progress ≡ Accesses a k found) where
@@ -321,14 +322,6 @@ module _ (old new : State) (reply : Reply) (p : ℕ) (h : KeepsReadings old) (li
           free = λ is. absurd (taken is);
           frees = was.frees;
         })
-
-  go_keeps : (progress : Progress) → seat.progress ≡ progress → DoesGo old p seat progress reply new → KeepsReadings new
-  go_keeps Idle now did = subst KeepsReadings (sym did.1) h
-  go_keeps (Driven c) now did = go_at c now m.stage refl did
-  go_keeps (CallsNow removes) now did =
-      goes_to (Ends (Done UnitAnswer)) tt _ did.1 (job_counts old.heap removes) (λ q. refl) (λ x. refl)
-  go_keeps (Accesses a k found) now (did, touches, told, e) = accesses a k found now did touches e
-  go_keeps (Ends r) now did = goes_to Idle tt _ did.1 (λ x. refl) (λ q. refl) (λ x. refl)
 
   -- HOW A CALL BEGINS
 
@@ -386,50 +379,30 @@ module _ (old new : State) (reply : Reply) (p : ℕ) (h : KeepsReadings old) (li
 
 -- EVERY STEP
 
-module _ (old new : State) (reply : Reply) (h : KeepsReadings old) (linked : AllLinked old) where
-  stays : new ≡ old → KeepsReadings new
-  stays e = subst KeepsReadings (sym e) h
+kind_keeps : (old : State) → KeepsReadings old → AllLinked old → (step : Step) (reply : Reply) (new : State)
+    → StepKind old step reply new → KeepsReadings new
+kind_keeps old h linked _ _ _ (Refusal step fault) = h
+kind_keeps old h linked _ _ _ (Registration p opened there free) =
+    kept_written old _ p (record (free_seat old.sizes) { word = Unpinned }) h there (λ q. refl) (λ x. refl)
+    (λ x. ap (λ (readings : List Name). readers_at old.heap x + times_read x readings) ((h.seats p).free free))
+    (record { once = λ x. omega arith; begun = tt; free = λ is. refl; frees = tt })
+kind_keeps old h linked _ _ _ (CallBegins p c given) = begins_keeps old _ p h linked given.taken c given.own refl
+kind_keeps old h linked _ _ _ (MachineStep p c reply new taken drive did) =
+    go_at old new p h linked taken c reply drive _ refl did
+kind_keeps old h linked _ _ _ (JobStep p removes taken now) = goes_to old _ p h linked taken (Ends (Done UnitAnswer)) tt
+    _ refl (job_counts old.heap removes) (λ q. refl) (λ x. refl)
+kind_keeps old h linked _ _ _ (CellsStep p a k found did taken now touches) =
+    accesses old _ p h linked taken a k found now did touches refl
+kind_keeps old h linked _ _ _ (LastReply p reply taken now) =
+    goes_to old _ p h linked taken Idle tt _ refl (λ x. refl) (λ q. refl) (λ x. refl)
+kind_keeps old h linked _ _ _ (EndCalls job jobs n at) =
+    kept_by old _ h (job_counts old.heap job.removes) (λ p. refl) (λ x. refl)
+kind_keeps old h linked _ _ _ _ = kept_by old _ h (λ x. refl) (λ p. refl) (λ x. refl)
 
-  -- no seat is written
-  along : (last : State) → new ≡ last → SameReaders old.heap last.heap → ((p : ℕ) → seat_of last p ≡ seat_of old p)
-      → ((n : Name) → readings_of n last.seats ≡ readings_of n old.seats) → KeepsReadings new
-  along last e same seats sums = subst KeepsReadings (sym e) (kept_by old last h same seats sums)
-
-  registers : (p : ℕ) → p < length old.seats → position_word old p ≡ Free
-      → new ≡ with_seat old p (record (free_seat old.sizes) { word = Unpinned }) → KeepsReadings new
-  registers p there free e =
-      subst KeepsReadings (sym e) (kept_written old _ p (record (free_seat old.sizes) { word = Unpinned }) h there
-      (λ q. refl) (λ x. refl)
-      (λ x. ap (λ (readings : List Name). readers_at old.heap x + times_read x readings) ((h.seats p).free free))
-      (record { once = λ x. omega arith; begun = tt; free = λ is. refl; frees = tt }))
-
-  begins_step : (p : ℕ) (c : Call) (f : Option Fault)
-      → refusal c (seat_of old p) old.tickets old.heap ≡ f → BeginsCall old p c f reply new
-      → KeepsReadings new
-  begins_step p c (Some f) at did = stays did.1
-  begins_step p c None at did =
-      let given : IsAccepted c (seat_of old p) old.tickets old.heap =
-      begin_given c (seat_of old p) old.tickets old.heap at in
-      begins_keeps old new reply p h linked given.taken c given.own did.1
-
-  end_goes : (e : Ending) → EndGoes old e reply new → KeepsReadings new
-  end_goes Open did = stays did.1
-  end_goes Over did = stays did.1
-  end_goes (Emptying (job ∷ jobs) n) did = along _ did.1 (job_counts old.heap job.removes) (λ p. refl) (λ x. refl)
-  end_goes (Emptying [] n) (inl did) = along _ did.4 (λ x. refl) (λ p. refl) (λ x. refl)
-  end_goes (Emptying [] n) (inr did) = along _ did.2 (λ x. refl) (λ p. refl) (λ x. refl)
-
-  pub readings_move : (s : Step) → Moves old s reply new → KeepsReadings new
-  readings_move Register (inl (p, opened, there, free, lowest, told, did)) = registers p there free did
-  readings_move Register (inr (inl did)) = stays did.3
-  readings_move Register (inr (inr did)) = stays did.2
-  readings_move (Begin p c) did = begins_step p c (refusal c (seat_of old p) old.tickets old.heap) refl did
-  readings_move (Go p) (inl did) = stays did.2
-  readings_move (Go p) (inr did) = go_keeps old new reply p h linked did.0 (seat_of old p).progress refl did.1
-  readings_move EndStep (inl did) = along _ did.3 (λ x. refl) (λ p. refl) (λ x. refl)
-  readings_move EndStep (inr (inl did)) = stays did.3
-  readings_move EndStep (inr (inr did)) = stays did.2
-  readings_move EndGo did = end_goes old.ending did
+pub readings_move : (old new : State) (reply : Reply) → KeepsReadings old → AllLinked old → (step : Step)
+    → Moves old step reply new → KeepsReadings new
+readings_move old new reply h linked step did =
+    kind_keeps old h linked step reply new (step_kind old new step reply did)
 
 -- WHOLE RUNS
 

@@ -7,6 +7,7 @@ use Rattle.epoch_bags.specs.declared.queue.PutStep.{PutStep}
 use Rattle.epoch_bags.specs.declared.queue.PutStep.TheVariants.{Again, Done as PutDone, Full}
 use Rattle.epoch_bags.specs.declared.queue.TakeStep.{TakeStep}
 use Rattle.epoch_bags.specs.declared.queue.TakeStep.TheVariants.{Again as TakeAgain, Empty, Got}
+use Rattle.epoch_cells.specs.declared.cells.name.Name.{Name}
 use Rattle.epoch_machine.specs.declared.machine.Action.{Action}
 use Rattle.epoch_machine.specs.declared.machine.Action.TheVariants.{Pin, Unpin, Repin, Defer, Flush, Release}
 use Rattle.epoch_machine.specs.declared.machine.Stage.{Stage}
@@ -27,11 +28,11 @@ use Rattle.epoch_laws.specs.declared.step.Deferral.{Deferral}
 use Rattle.epoch_laws.specs.declared.step.Word.{Word}
 use Rattle.epoch_laws.specs.declared.step.Word.TheVariants.{Free, Unpinned, Pinned}
 use Rattle.epoch_laws.specs.declared.step.Progress.{Progress}
-use Rattle.epoch_laws.specs.declared.step.Progress.TheVariants.{Idle as IdleProgress, Driven, CallsNow, Ends, Accesses}
 use Rattle.epoch_laws.specs.Run.{Bag, WorldSeat, State, seat_of, position_word, word_number, with_seat, with_machine}
-use Rattle.epoch_laws.specs.Run.{with_word, free_seat, drives, begun_seat, ended_seat, call_refusal, DrivesCall, DoesGo}
+use Rattle.epoch_laws.specs.Run.{with_word, free_seat, drives, begun_seat, ended_seat, call_refusal, DrivesCall}
 use Rattle.epoch_laws.proofs.SeatLemmas.{seat_written, seat_other, seat_there, same_or_other}
 use Rattle.epoch_laws.proofs.TicketsTallied.{acted}
+use Rattle.epoch_reach_laws.proofs.GuardsStay.{machine_ended}
 use Rattle.epoch_world.proofs.PendingDeferrals.{TicketsBounded, is_busy, pending_at, pending, KeepsAt, KeepsAsDeferral}
 use Rattle.epoch_world.proofs.PendingDeferrals.{pending_one, none_pending, sum_most, keeps_collected, keeps_pinned}
 use Rattle.epoch_world.proofs.PendingDeferrals.{keeps_put, keeps_unpinned, keeps_called, keeps_past, keeps_first}
@@ -39,9 +40,6 @@ use Rattle.epoch_world.proofs.PendingDeferrals.{room_given, busy_takes, removal_
 use Rattle.epoch_heap.specs.Heap.{Heap}
 
 module _ (old new : State) (h : TicketsBounded old) where
-  pub same : new ≡ old → TicketsBounded new
-  same did = subst TicketsBounded (sym did) h
-
   -- one participant goes on, and no more tickets may be taken than before, or the limit is far
   acts_beside : (p : ℕ) (seat : WorldSeat) (epoch : ℕ) (queued : List Bag) (tickets : ℕ) (heap : Heap)
       → p < length old.seats
@@ -159,18 +157,11 @@ module _ (old new : State) (h : TicketsBounded old) where
 
     ends : (c : Call) → new ≡ with_seat old p (ended_seat c seat) → TicketsBounded new
     ends c did =
-        let is : (ended_seat c seat).machine ≡ ended m = machine_ended c in
+        let is : (ended_seat c seat).machine ≡ ended m = machine_ended seat c in
         let pending_of = λ (n : Machine Deferral). pending_at n.action n.stage in
         let rests : pending (ended_seat c seat) ≡ 0 = ap pending_of is ∙ none_pending m.action Idle refl in
         let keeps = subst (λ (n : Machine Deferral). KeepsAt n.action n.stage) (sym is) tt in
         waits (ended_seat c seat) old.epoch old.queued keeps (omega (arith, rests)) did
-      where
-        machine_ended : (c : Call) → (ended_seat c seat).machine ≡ ended m
-        machine_ended PinCall = refl
-        machine_ended (UnpinCall (Some g)) = refl
-        machine_ended (Pause (Some g)) = refl
-        machine_ended (Resume (Some g)) = refl
-        machine_ended _ = refl
 
     -- its machine goes on to n from the stage s
     module _ (s : Stage) (at : pending seat ≡ pending_at m.action s) (busy : is_busy s ≡ true) where
@@ -257,9 +248,12 @@ module _ (old new : State) (h : TicketsBounded old) where
     goes_at c StoreFree reply keeps at did = waits (free_seat old.sizes) old.epoch old.queued tt (omega arith) did.1
     goes_at c End reply keeps at did = ends c did.1
 
-    pub goes : (progress : Progress) (reply : Reply) → DoesGo old p seat progress reply new → TicketsBounded new
-    goes IdleProgress reply did = same did.1
-    goes (Driven c) reply did = goes_at c m.stage reply (h.keeps p) refl did
-    goes (CallsNow removes) reply did = waits_beside _ _ (h.keeps p) (omega arith) did.1
-    goes (Accesses a k found) reply (did, touches, told, e) = waits_beside _ _ (h.keeps p) (omega arith) e
-    goes (Ends r) reply did = waits _ old.epoch old.queued (h.keeps p) (omega arith) did.1
+    pub drives_on : (c : Call) (reply : Reply) → DrivesCall old p seat c m.stage (ask_at m.stage) reply new
+        → TicketsBounded new
+    drives_on c reply did = goes_at c m.stage reply (h.keeps p) refl did
+
+    -- a call that no machine drives goes on
+    pub goes_by_itself : (progress : Progress) (readings : List Name) (heap : Heap)
+        → new ≡ record (with_seat old p (record seat { progress = progress; readings = readings })) { heap = heap }
+        → TicketsBounded new
+    goes_by_itself progress readings heap did = waits_beside _ heap (h.keeps p) (omega arith) did

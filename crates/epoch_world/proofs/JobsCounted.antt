@@ -1,10 +1,9 @@
 -- No step makes the jobs more than the tickets.
-use Rattle.std.proofs.Common.{◌≡◌, ℕ, ◌+◌, ◌<◌, ◌≤◌, List, [], ◌∷◌, ◌++◌, length, Option, Some, None, inl, inr, refl}
+use Rattle.std.proofs.Common.{◌≡◌, ℕ, ◌+◌, ◌<◌, ◌≤◌, List, [], ◌∷◌, ◌++◌, length, Option, Some, None, refl}
 use Rattle.std.proofs.Common.{ap, sym, subst, arith, slice_set}
 use Rattle.std.proofs.lemmas.List.{length-append}
 use Rattle.std.proofs.lemmas.List.Sums.{sum_by-append, sum_by-cons, sum_by-set}
 use Rattle.epoch_bags.specs.Stores.{IsInserted}
-use Rattle.epoch_cells.specs.declared.fault.Fault.{Fault}
 use Rattle.epoch_bags.specs.declared.queue.PutStep.{PutStep}
 use Rattle.epoch_bags.specs.declared.queue.PutStep.TheVariants.{Again, Done as PutDone, Full}
 use Rattle.epoch_bags.specs.declared.queue.TakeStep.{TakeStep}
@@ -18,25 +17,23 @@ use Rattle.epoch_machine.specs.declared.machine.Ask.TheVariants.{StoreUnpinned, 
 use Rattle.epoch_machine.specs.declared.machine.Ask.TheVariants.{KeepJob, CallJob}
 use Rattle.epoch_machine.specs.declared.machine.Answer.{Answer}
 use Rattle.epoch_machine.specs.declared.machine.Answer.TheVariants.{Epoch, Word as WordFound, Stored, Job}
-use Rattle.epoch_machine.specs.Machine.{Machine, ask_at, hears, put_heard, took_heard, gives, PutsHeld, TakesHand}
+use Rattle.epoch_machine.specs.Machine.{Machine, hears, put_heard, took_heard, gives, PutsHeld, TakesHand}
 use Rattle.epoch_laws.specs.declared.step.Call.{Call}
-use Rattle.epoch_laws.specs.declared.step.Call.TheVariants.{Pin, Unpin, Repin, Pause, Resume, Defer, Flush, Release}
-use Rattle.epoch_laws.specs.declared.step.Call.TheVariants.{DeferDestroy, Access as AccessCall}
 use Rattle.epoch_laws.specs.declared.step.Step.{Step}
-use Rattle.epoch_laws.specs.declared.step.Step.TheVariants.{Register, Begin, Go, End as EndStep, EndGo}
 use Rattle.epoch_laws.specs.declared.step.Reply.{Reply}
 use Rattle.epoch_laws.specs.declared.step.Deferral.{Deferral}
 use Rattle.epoch_laws.specs.declared.step.Word.{Word}
-use Rattle.epoch_laws.specs.declared.step.Progress.{Progress}
-use Rattle.epoch_laws.specs.declared.step.Progress.TheVariants.{Idle, Driven, CallsNow, Ends, Accesses}
-use Rattle.epoch_laws.specs.Run.{Bag, WorldSeat, State, seat_of, with_word, free_seat, Ending, Open, Emptying, Over}
-use Rattle.epoch_laws.specs.Run.{refusal, begun_seat, BeginsCall, ended_seat, PerformsAsk, DrivesCall, DoesGo, EndGoes}
+use Rattle.epoch_laws.specs.Run.{Bag, WorldSeat, State, seat_of, with_word, free_seat, Ending, Emptying, Over}
+use Rattle.epoch_laws.specs.Run.{begun_seat, ended_seat, PerformsAsk, DrivesCall}
 use Rattle.epoch_laws.specs.Run.{Moves, IsFresh, with_seat, removed_by}
 use Rattle.epoch_laws.specs.Kept.{jobs_of_machine, jobs_queued, jobs_at_seats, jobs_at_end, JobsFew}
-use Rattle.epoch_laws.proofs.SeatLemmas.{seat_there, begin_given}
+use Rattle.epoch_laws.proofs.StepKinds.{StepKind, Refusal, Registration, CallBegins, MachineStep, JobStep, CellsStep}
+use Rattle.epoch_laws.proofs.StepKinds.{LastReply, EndBegins, EndCalls, EndTakes, EndIsOver, step_kind}
+use Rattle.epoch_laws.proofs.SeatLemmas.{seat_there}
 use Rattle.epoch_laws.proofs.TicketSums.{sum_zero}
 use Rattle.epoch_laws.proofs.TicketsTallied.{acted}
-use Rattle.epoch_heap.specs.Heap.{Heap}
+use Rattle.epoch_reach_laws.proofs.GuardsStay.{machine_ended, held_begun, hand_begun}
+use Rattle.epoch_heap.specs.Heap.{Heap, heap_after_job}
 
 -- a bag more in the store
 queued_more : (bag : Bag) (old new : List Bag)
@@ -98,33 +95,14 @@ taken_few x old new Got jobs (bag, in_hand, expired, inserted) =
     omega (arith, ap length in_hand, queued_more bag new old inserted)
 
 begun_same : (c : Call) (seat : WorldSeat) → jobs_of_machine (begun_seat c seat).machine ≡ jobs_of_machine seat.machine
-begun_same Pin seat = refl
-begun_same (Unpin g) seat = refl
-begun_same (Repin (Some g)) seat = refl
-begun_same (Pause (Some g)) seat = refl
-begun_same (Resume (Some g)) seat = refl
-begun_same (Defer (Some g)) seat = refl
-begun_same (Flush (Some g)) seat = refl
-begun_same Release seat = refl
-begun_same (Defer None) seat = refl
-begun_same (DeferDestroy (Some g) ptr) seat = refl
-begun_same (DeferDestroy None ptr) seat = refl
-begun_same (AccessCall a) seat = refl
-begun_same _ seat = refl
+begun_same c seat = omega (arith, ap length (held_begun seat c), ap length (hand_begun seat c))
 
 ended_same : (c : Call) (seat : WorldSeat) → jobs_of_machine (ended_seat c seat).machine ≡ jobs_of_machine seat.machine
-ended_same Pin seat = refl
-ended_same (Unpin (Some g)) seat = refl
-ended_same (Pause (Some g)) seat = refl
-ended_same (Resume (Some g)) seat = refl
-ended_same _ seat = refl
+ended_same c seat = ap jobs_of_machine (machine_ended seat c)
 
 -- EACH STEP
 
 module _ (old new : State) (h : JobsFew old) where
-  same : new ≡ old → JobsFew new
-  same did = subst JobsFew (sym did) h
-
   -- a step of one participant
   acts_beside : (p : ℕ) (after : WorldSeat) (epoch : ℕ) (queued : List Bag) (tickets : ℕ) (heap : Heap)
       → p < length old.seats
@@ -210,53 +188,34 @@ module _ (old new : State) (h : JobsFew old) where
     drives c s (Some ask) reply did = performs s ask reply did
     drives c s None reply did = keeps (ended_seat c seat) old.epoch (omega (arith, ended_same c seat)) did.1
 
-    goes : (progress : Progress) (reply : Reply) → DoesGo old p seat progress reply new → JobsFew new
-    goes Idle reply did = same did.1
-    goes (Driven c) reply did = drives c m.stage (ask_at m.stage) reply did
-    goes (CallsNow removes) reply did = keeps_beside _ _ (omega arith) did.1
-    goes (Accesses a k found) reply (did, touches, told, e) = keeps_beside _ _ (omega arith) e
-    goes (Ends r) reply did = keeps _ old.epoch (omega arith) did.1
-
-  begins : (p : ℕ) (c : Call) (refused : Option Fault) (reply : Reply)
-      → refusal c (seat_of old p) old.tickets old.heap ≡ refused
-      → BeginsCall old p c refused reply new
-      → JobsFew new
-  begins p c (Some fault) reply at did = same did.1
-  begins p c None reply at did =
-      let given = begin_given c (seat_of old p) old.tickets old.heap at in
-      keeps p (seat_there old p given.taken) (begun_seat c (seat_of old p)) old.epoch
-      (omega (arith, begun_same c (seat_of old p))) did.1
-
-  ends : (ending : Ending) (reply : Reply)
-      → old.ending ≡ ending
-      → EndGoes old ending reply new
-      → JobsFew new
-  ends Open reply at did = same did.1
-  ends Over reply at did = same did.1
-  ends (Emptying (job ∷ jobs) n) reply at did =
-      closes old.queued (Emptying jobs (n + 1)) _ (omega (arith, ap jobs_at_end at)) did.1
-  ends (Emptying [] n) reply at (inl (bag, queued, inserted, told, did)) =
-      closes queued (Emptying bag.jobs n) old.heap
-      (omega (arith, ap jobs_at_end at, queued_more bag queued old.queued inserted)) did
-  ends (Emptying [] n) reply at (inr (none, told, did)) = closes old.queued Over old.heap (omega arith) did
-
-  moves : (step : Step) (reply : Reply) → Moves old step reply new → JobsFew new
-  moves Register reply (inl did) = keeps did.0 did.2 _ old.epoch (omega arith) did.6
-  moves Register reply (inr (inl did)) = same did.3
-  moves Register reply (inr (inr did)) = same did.2
-  moves (Begin p c) reply did = begins p c (refusal c (seat_of old p) old.tickets old.heap) reply refl did
-  moves (Go p) reply (inl did) = same did.2
-  moves (Go p) reply (inr did) = goes p (seat_there old p did.0) (seat_of old p).progress reply did.1
-  moves EndStep reply (inl did) = closes old.queued (Emptying [] 0) old.heap (omega arith) did.3
-  moves EndStep reply (inr (inl did)) = same did.3
-  moves EndStep reply (inr (inr did)) = same did.2
-  moves EndGo reply did = ends old.ending reply refl did
+kind_counts : (old : State) → JobsFew old → (step : Step) (reply : Reply) (new : State) → StepKind old step reply new
+    → JobsFew new
+kind_counts old h _ _ _ (Refusal step fault) = h
+kind_counts old h _ _ _ (Registration p opened there free) = keeps old _ h p there _ old.epoch (omega arith) refl
+kind_counts old h _ _ _ (CallBegins p c given) = keeps old _ h p (seat_there old p given.taken) _ old.epoch
+    (omega (arith, begun_same c (seat_of old p))) refl
+kind_counts old h _ _ _ (MachineStep p c reply new taken drive did) =
+    drives old new h p (seat_there old p taken) c _ _ reply did
+kind_counts old h _ _ _ (JobStep p removes taken now) =
+    keeps_beside old _ h p (seat_there old p taken) _ (heap_after_job old.heap removes) (omega arith) refl
+kind_counts old h _ _ _ (CellsStep p a k found did taken now touches) =
+    keeps_beside old _ h p (seat_there old p taken) _ did.heap (omega arith) refl
+kind_counts old h _ _ _ (LastReply p reply taken now) =
+    keeps old _ h p (seat_there old p taken) _ old.epoch (omega arith) refl
+kind_counts old h _ _ _ (EndBegins opened free) =
+    closes old _ h old.queued (Emptying [] 0) old.heap (omega arith) refl
+kind_counts old h _ _ _ (EndCalls job jobs n at) =
+    closes old _ h old.queued (Emptying jobs (n + 1)) (heap_after_job old.heap job.removes)
+    (omega (arith, ap jobs_at_end at)) refl
+kind_counts old h _ _ _ (EndTakes bag queued n at out) = closes old _ h queued (Emptying bag.jobs n) old.heap
+    (omega (arith, ap jobs_at_end at, queued_more bag queued old.queued out)) refl
+kind_counts old h _ _ _ (EndIsOver n at none) = closes old _ h old.queued Over old.heap (omega arith) refl
 
 pub moves_jobs : (old new : State) (step : Step) (reply : Reply)
     → JobsFew old
     → Moves old step reply new
     → JobsFew new
-moves_jobs old new step reply h did = moves old new h step reply did
+moves_jobs old new step reply h did = kind_counts old h step reply new (step_kind old new step reply did)
 
 -- a new world has no jobs
 pub fresh_jobs : (s : State) → IsFresh s → JobsFew s
