@@ -2,7 +2,7 @@
 //! then what it has to answer.
 use crate::wants::{want, want_count};
 use epoch_base::{Called, Fault, Job, Name, Refused};
-use epoch_pin::{Capacities, Collector, Guard, LocalHandle};
+use epoch_pin::{Capacities, Collector, Guard, LocalHandle, Paused};
 use std::alloc::Global;
 use std::process::Abort;
 use std::sync::Arc;
@@ -56,6 +56,27 @@ pub(crate) fn repin<'c, T: Drop>(
 ) {
     assert!(rt; handle.owns(guard), "the guard is one of the handle");
     handle.repin(guard);
+}
+
+/// Pauses a guard of the handle.
+pub(crate) fn pause<'c, T: Drop>(
+    rt: &impl Abort,
+    handle: &mut LocalHandle<'c, T>,
+    guard: Guard<'c, T>,
+) -> Paused<'c, T> {
+    assert!(rt; handle.owns(&guard), "the guard is one of the handle");
+    handle.pause(guard)
+}
+
+/// Resumes a guard that the handle paused.
+pub(crate) fn resume<'c, T: Drop>(
+    rt: &impl Abort,
+    handle: &mut LocalHandle<'c, T>,
+    paused: Paused<'c, T>,
+) -> Guard<'c, T> {
+    assert!(rt; handle.has_paused(&paused), "the handle paused it");
+    assert!(rt; handle.can_pin(), "a further guard can be counted");
+    handle.resume(paused)
 }
 
 /// Pins and unpins.
