@@ -131,6 +131,15 @@ pub(crate) fn release<T: Drop>(rt: &impl Abort, handle: LocalHandle<'_, T>) {
     }
 }
 
+/// Leaves by the handle, whose bag finds a place, and spends what is left of it.
+pub(crate) fn leave<T: Drop>(rt: &impl Abort, handle: LocalHandle<'_, T>) {
+    assert!(rt; handle.guards_out() == 0, "each guard is spent");
+    match handle.leave() {
+        Ok(released) => released.spend(),
+        Err((_back, fault)) => panic!(rt; "{fault}"),
+    }
+}
+
 /// Releases the handle, whose bag finds no place: it comes back.
 pub(crate) fn keep_back<'c>(rt: &impl Abort, handle: LocalHandle<'c, u64>) -> LocalHandle<'c, u64> {
     assert!(rt; handle.guards_out() == 0, "each guard is spent");

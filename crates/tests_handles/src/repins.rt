@@ -1,6 +1,6 @@
 use crate::calls::{
-    collector, count, cycle, defer_all, defer_under_a_pin, end, flush, let_go, pause, pin, register,
-    release, repin, resume, round, rounds, unpin,
+    collector, count, cycle, defer_all, defer_under_a_pin, end, flush, let_go, pause, pin,
+    register, release, repin, resume, round, rounds, unpin,
 };
 use crate::jobs::counting_jobs;
 use crate::wants::{want, want_count};
