@@ -11,12 +11,8 @@ abbrev pub AnswersJob : {W : Type 0} → Job W → Called → Type 0
 AnswersJob (Call work) called = called ≡ Ran
 AnswersJob (Remove name) called = called ≢ Ran
 
--- The work of a caller's job was called: `done` is what its call shows. What came of a removal is told by the answer.
-abbrev pub IsCalled : {W : Type 0} → (W → Type 0) → Job W → Type 0
-IsCalled done (Call work) = done work
-IsCalled done (Remove name) = Unit {0}
-
--- where the job is a removal, it was tried
-abbrev pub IsTried : {W : Type 0} → (Name → Type 0) → Job W → Type 0
-IsTried tried (Call work) = Unit {0}
-IsTried tried (Remove name) = tried name
+-- The job was called: its work was called, for which `done` stands, or its removal was tried, for which `tried` stands.
+-- What came of a removal is told by the answer.
+abbrev pub IsCalled : {W : Type 0} → (W → Type 0) → (Name → Type 0) → Job W → Type 0
+IsCalled done tried (Call work) = done work
+IsCalled done tried (Remove name) = tried name

@@ -1,7 +1,7 @@
-//! Jobs: what is called once, when nobody who was pinned at its deferral is pinned any more.
+//! Jobs: what is called once, at the earliest when nobody who was pinned at its deferral has stayed pinned.
 ghost use Rattle.std.specs.Prelude.{◌≡◌, [], ◌∷◌, None, MatchOption, IfSome};
 ghost use Rattle.epoch_cells.specs.declared.cells.name.Name.{Name};
-ghost use Rattle.epoch_bags.specs.Jobs.{AnswersJob, IsCalled, IsTried};
+ghost use Rattle.epoch_bags.specs.Jobs.{AnswersJob, IsCalled};
 
 use crate::bag::SealedBag;
 use epoch_cells::{Cells, Name, Removal};
@@ -98,8 +98,7 @@ impl<W: Run> Job<W> {
     #[inline(always)]
     pub fn call<T: Drop>(self, cells: &Cells<T>) -> Called
         ensures answers { AnswersJob self result }
-        ensures called { IsCalled W.done self }
-        ensures tried { IsTried W.Removing.tried self }
+        ensures called { IsCalled W.done W.Removing.tried self }
     {
         match self {
             Job::Call(work) => {
@@ -119,7 +118,7 @@ impl<W: Run> SealedBag<Job<W>> {
     /// Takes the oldest job out and calls it. `None` exactly where none is left.
     pub fn call_next<T: Drop>(&mut self, cells: &Cells<T>) -> Option<Called>
         ensures called { MatchOption result (self.old.jobs ≡ []) (λ called. (job : _) × (self.old.jobs ≡ job
-            ∷ self.new.jobs) × AnswersJob job called × IsCalled W.done job × IsTried W.Removing.tried job) }
+            ∷ self.new.jobs) × AnswersJob job called × IsCalled W.done W.Removing.tried job) }
         ensures none { result ≡ None → self.new ≡ self.old }
         ensures seal { self.new.seal ≡ self.old.seal }
     {

@@ -16,10 +16,11 @@ mod word;
 
 use crate::cells::held::{Miss, Slot, is_free, started, try_place, try_read, try_take, try_write};
 use crate::fault::{Fault, Refused};
-pub use held::{Held, Reading, Writing};
+pub use held::{Held, IntoSlots, Puts, Reading, Writing};
 pub use name::{MOST_SLOT, Name};
 pub use plain::PlainCells;
 use std::alloc::Global;
+use std::marker::PhantomData;
 use std::sync::atomic::AtomicUsize;
 use std::sync::atomic::Ordering::SeqCst;
 
@@ -30,12 +31,16 @@ pub const CELL_TRIES: u32 = 16;
 const STRIDE: usize = 8;
 
 /// A collector's store of numbered cells. Its calls take no memory and never wait.
+///
+/// `P` is how values are put into slots: [`IntoSlots`].
 #[derive(Drop)]
-pub struct Cells<T> {
+pub struct Cells<T, P = IntoSlots> {
     slots: Vec<Slot<T>>,
     // No slot before this place is free, but for those whose call is still under way. After the times
     // it costs looks, and no more.
     first_free: AtomicUsize,
+    // No value: only how values are put into slots.
+    puts: PhantomData<P>,
     pub ghost few: { vec_len slots ≤ 16777215 },
     // The first slot has number 1, and each one the next number.
     pub ghost numbered: { ∥ AreNumbered slots.items ∥₁ },
@@ -68,9 +73,12 @@ impl<T: Drop> Cells<T> {
         Ok(Cells {
             slots,
             first_free: AtomicUsize::new(0),
+            puts: PhantomData,
         })
     }
+}
 
+impl<T: Drop, P: Puts<T>> Cells<T, P> {
     /// How many slots there are.
     pub fn capacity(&self) -> usize
         ensures value { result ≡ vec_len self.now.slots }
@@ -79,13 +87,15 @@ impl<T: Drop> Cells<T> {
         self.slots.len()
     }
 
-    /// Places the value in the first free slot, and answers its name: that slot and its next turn.
+    /// Places the value in the first free slot, and answers its name: that slot and its next turn. It is put beside
+    /// that name.
     ///
     /// `CellsFull`: every slot was seen used or retired during the call. The value is handed back.
     #[inline(always)]
     pub fn place(&self, value: Box<T>) -> Result<Name, Refused<Box<T>>>
         ensures full { IfErr result (λ refused. (refused.fault ≡ CellsFull) × (refused.value ≡ value)) }
         ensures slot { IfOk result (λ name. name.slot ≤ vec_len self.now.slots) }
+        ensures placed { IfOk result (λ name. P.placed value.value name) }
     {
         let count = self.slots.len();
         let first = self.first_free.load(SeqCst).min(count);
@@ -105,6 +115,7 @@ impl<T: Drop> Cells<T> {
     fn place_between(&self, from: usize, to: usize, value: Box<T>) -> Result<Name, Refused<Box<T>>>
         requires { to ≤ vec_len self.now.slots }
         ensures ok { IfOk result (λ name. name.slot ≤ to) }
+        ensures placed { IfOk result (λ name. P.placed value.value name) }
         ensures full { IfErr result (λ refused. (refused.fault ≡ CellsFull) × (refused.value ≡ value)) }
     {
         let mut kept = value;
@@ -112,7 +123,7 @@ impl<T: Drop> Cells<T> {
             if !is_free(&self.slots[index]) {
                 continue;
             }
-            match place_in(&self.slots[index], index as u32 + 1, kept) {
+            match place_in::<T, P>(&self.slots[index], index as u32 + 1, kept) {
                 Ok(name) => return Ok(name),
                 Err((_, back)) => kept = back,
             }
@@ -249,16 +260,21 @@ impl<T: Drop> Cells<T> {
 
 // Tries to place the value in this slot, until it is seen used or all tries are lost.
 #[inline(always)]
-fn place_in<T: Drop>(slot: &Slot<T>, number: u32, value: Box<T>) -> Result<Name, (Miss, Box<T>)>
+fn place_in<T: Drop, P: Puts<T>>(
+    slot: &Slot<T>,
+    number: u32,
+    value: Box<T>,
+) -> Result<Name, (Miss, Box<T>)>
     requires some { 0 < number }
     requires within { number ≤ 16777215 }
     requires numbered { slot.now ≡ number }
     ensures ok { IfOk result (λ name. name.slot ≡ number) }
+    ensures placed { IfOk result (λ name. P.placed value.value name) }
     ensures handed_back { IfErr result (λ back. back.1 ≡ value) }
 {
     let mut kept = value;
     for _ in 0..CELL_TRIES {
-        match try_place(slot, number, kept) {
+        match try_place::<T, P>(slot, number, kept) {
             Ok(name) => return Ok(name),
             Err((Miss::Lost, back)) => kept = back,
             Err((miss, back)) => return Err((miss, back)),

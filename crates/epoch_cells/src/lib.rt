@@ -5,5 +5,8 @@ mod cells;
 mod fault;
 mod shown;
 
-pub use cells::{CELL_TRIES, Cells, Held, MOST_SLOT, Name, PlainCells, Reading, Removal, Writing};
+pub use cells::{
+    CELL_TRIES, Cells, Held, IntoSlots, MOST_SLOT, Name, PlainCells, Puts, Reading, Removal,
+    Writing,
+};
 pub use fault::{Fault, Refused};

@@ -11,6 +11,7 @@ use Rattle.epoch_bags.specs.declared.queue.places.TakeCursor.TheVariants.{Look a
 use Rattle.epoch_bags.specs.declared.queue.places.PutCursor.TheVariants.{Look as PutLook}
 use Rattle.epoch_bags.specs.declared.queue.TakeStep.{TakeStep}
 use Rattle.epoch_bags.specs.declared.queue.TakeStep.TheVariants.{Again as TakeAgain, Empty as TakeEnds, Got}
+use Rattle.epoch_cells.specs.declared.cells.name.Name.{Name}
 use Rattle.epoch_bags.specs.Jobs.{IsCalled}
 use Rattle.epoch_bags.specs.declared.job.Job.{Job}
 use Rattle.epoch_machine.specs.declared.machine.Action.{Action}
@@ -48,20 +49,22 @@ nothing_left m x k [] none = refl
 nothing_left m x k (job ∷ jobs) none = absurd (none refl)
 
 -- of the jobs in hand these are left, and the others were called
-pub record HasCalled {T W : Type 0} (done : W → Type 0) (h : Local T W) (x k : ℕ) (n : Local T W) : Type 0 where
+pub record HasCalled {T W : Type 0} (done : W → Type 0) (tried : Name → Type 0) (h : Local T W) (x k : ℕ)
+    (n : Local T W) : Type 0 where
   pub machine : n.machine ≡ with_hand h.machine x k n.machine.hand
   pub performed : (c : Cursors) → (log : Log (Job W))
       × Performed h.collector.now.places.capacity (situation_of h c) log (situated n.machine (sight_of h) c)
-      × GivesOnly (IsCalled done) log
+      × GivesOnly (IsCalled done tried) log
 
 module _ {T W : Type 0} where
-  pub one_more_called : (done : W → Type 0) (h n : Local T W) (x k : ℕ) (job : Job W) (m : Machine (Job W))
-      → HasCalled done h x k n
+  pub one_more_called : (done : W → Type 0) (tried : Name → Type 0) (h n : Local T W) (x k : ℕ) (job : Job W)
+      (m : Machine (Job W))
+      → HasCalled done tried h x k n
       → n.machine.hand ≡ job ∷ rest n.machine.hand
       → m ≡ gives n.machine n.machine.stage (rest n.machine.hand)
-      → IsCalled done job
-      → HasCalled done h x k (record h { machine = m })
-  one_more_called done h n x k job m called first is ran =
+      → IsCalled done tried job
+      → HasCalled done tried h x k (record h { machine = m })
+  one_more_called done tried h n x k job m called first is ran =
       let jobs = rest n.machine.hand in
       let was : n.machine ≡ with_hand h.machine x k (job ∷ jobs) = called.machine
       ∙ ap (λ (js : List (Job W)). with_hand h.machine x k js) first in
@@ -80,17 +83,17 @@ module _ {T W : Type 0} where
               (situated z (sight_of h) c) (record { ask = CallJob; reply = JobGiven job } ∷ [])
               (situated (with_hand h.machine x k jobs) (sight_of h) c)) (sym was)
               (call_performed h.collector.now.places.capacity h.machine (sight_of h) c x k job jobs))),
-          gives_on (IsCalled done) (called.performed c).0 (record { ask = CallJob; reply = JobGiven job } ∷ [])
+          gives_on (IsCalled done tried) (called.performed c).0 (record { ask = CallJob; reply = JobGiven job } ∷ [])
               (called.performed c).2 (ran, tt),
         );
       }
 
-  pub all_called : (done : W → Type 0) (h n : Local T W) (x k : ℕ) (m : Machine (Job W))
-      → HasCalled done h x k n
+  pub all_called : (done : W → Type 0) (tried : Name → Type 0) (h n : Local T W) (x k : ℕ) (m : Machine (Job W))
+      → HasCalled done tried h x k n
       → asks n.machine ≢ Some CallJob
       → m ≡ gives n.machine n.machine.stage (rest n.machine.hand)
-      → CallsHand done h x k (record h { machine = m })
-  all_called done h n x k m called none is =
+      → CallsHand done tried h x k (record h { machine = m })
+  all_called done tried h n x k m called none is =
       let empty : n.machine.hand ≡ [] = nothing_left h.machine x k n.machine.hand
       (λ asked. none (ap (λ (z : Machine (Job W)). ask_at z.stage) called.machine ∙ asked)) in
       let was : n.machine ≡ with_hand h.machine x k [] = called.machine
@@ -151,17 +154,18 @@ still_rests place before after word finds rests =
 
 module _ {T W : Type 0} where
   -- what one step of the collection performs
-  take_performed : (done : W → Type 0) (h n : Local T W) (x : ℕ) (cursor next : TakeCursor) (step : TakeStep)
+  take_performed : (done : W → Type 0) (tried : Name → Type 0) (h n : Local T W) (x : ℕ) (cursor next : TakeCursor)
+      (step : TakeStep)
       (m : Machine (Job W)) (me : PlaceMe (Job W)) (bag : Sealed (Job W))
-      → (taken : HasTaken done h x cursor n)
+      → (taken : HasTaken done tried h x cursor n)
       → m ≡ took_heard n.machine n.machine.stage step m.hand
       → (step ≡ Got → m.hand ≡ bag.jobs)
       → TakeMoves h.collector.now.places.capacity x cursor n.claimer.me step next me bag
       → (log : Log (Job W))
       × Performed h.collector.now.places.capacity (situation_of h at_start) log
       (situated m (record { words = n.seat.me.0; places = me }) (record { put = PutLook 0; take = next }))
-      × GivesOnly (IsCalled done) log
-  take_performed done h n x cursor next step m me bag taken after jobs moves =
+      × GivesOnly (IsCalled done tried) log
+  take_performed done tried h n x cursor next step m me bag taken after jobs moves =
       let exchange : Exchange (Job W) = record { ask = TakeBag x; reply = TakeStepped step m.hand } in
       let between : Situation (Job W) = situation_of n (record { put = PutLook 0; take = cursor }) in
       let last : Situation (Job W) = situated m (record { words = n.seat.me.0; places = me })
@@ -175,16 +179,16 @@ module _ {T W : Type 0} where
               performs = (refl, refl, (bag, jobs, moves));
               machine = after;
             })),
-        gives_on (IsCalled done) taken.performed.0 (exchange ∷ []) taken.performed.2 (tt, tt),
+        gives_on (IsCalled done tried) taken.performed.0 (exchange ∷ []) taken.performed.2 (tt, tt),
       )
 
-  pub take_begins : (done : W → Type 0) (h : Local T W) (x : ℕ) (cursor : TakeCursor)
+  pub take_begins : (done : W → Type 0) (tried : Name → Type 0) (h : Local T W) (x : ℕ) (cursor : TakeCursor)
       → h.machine.stage ≡ Take x 0
       → IsAt h.collector.now.places h.claimer
       → cursor ≡ TakeLook 0
       → TakesAt h.collector.now.places.capacity x cursor h.claimer.me
-      → HasTaken done h x cursor h
-  take_begins done h x cursor begins is_at first at = record {
+      → HasTaken done tried h x cursor h
+  take_begins done tried h x cursor begins is_at first at = record {
     taken = 0;
     machine = ap (λ (s : Stage). record h.machine { stage = s }) begins;
     claimer = is_at;
@@ -202,15 +206,16 @@ module _ {T W : Type 0} where
       (ap (λ (z : Machine (Job W)). z.stage) looks))
 
   -- it goes on
-  pub take_again : (done : W → Type 0) (h n : Local T W) (x : ℕ) (cursor next : TakeCursor) (m : Machine (Job W))
+  pub take_again : (done : W → Type 0) (tried : Name → Type 0) (h n : Local T W) (x : ℕ) (cursor next : TakeCursor)
+      (m : Machine (Job W))
       (claimer : _) (bag : Sealed (Job W))
-      → (taken : HasTaken done h x cursor n)
+      → (taken : HasTaken done tried h x cursor n)
       → m ≡ took_heard n.machine n.machine.stage TakeAgain m.hand
       → IsAt h.collector.now.places claimer
       → TakesAt h.collector.now.places.capacity x next claimer.me
       → TakeMoves h.collector.now.places.capacity x cursor n.claimer.me TakeAgain next claimer.me bag
-      → HasTaken done h x next (record n { claimer = claimer; machine = m })
-  take_again done h n x cursor next m claimer bag taken after is_at at moves =
+      → HasTaken done tried h x next (record n { claimer = claimer; machine = m })
+  take_again done tried h n x cursor next m claimer bag taken after is_at at moves =
       let same : m ≡ n.machine = after ∙ ap (λ (s : Stage). took_heard n.machine s TakeAgain m.hand)
       (ap (λ (z : Machine (Job W)). z.stage) taken.machine) in
       record {
@@ -222,22 +227,23 @@ module _ {T W : Type 0} where
         seat = taken.seat;
         same = record { position = taken.same.position; collector = taken.same.collector };
         performed =
-            take_performed done h n x cursor next TakeAgain m claimer.me bag taken after (λ got. absurd (cc got)) moves;
+            take_performed done tried h n x cursor next TakeAgain m claimer.me bag taken after (λ got. absurd (cc got))
+            moves;
       }
 
   -- the word found at a place that isn't the last one tells of no expired bag
-  pub look_passes : (done : W → Type 0) (h n : Local T W) (x place word : ℕ) (claimer : _)
-      → HasTaken done h x (TakeLook place) n
+  pub look_passes : (done : W → Type 0) (tried : Name → Type 0) (h n : Local T W) (x place word : ℕ) (claimer : _)
+      → HasTaken done tried h x (TakeLook place) n
       → place + 1 < h.collector.now.places.capacity
       → IsAt h.collector.now.places claimer
       → Finds place n.claimer.me word claimer.me
       → ¬ IsExpiredWord x word
-      → HasTaken done h x (TakeLook (place + 1)) (record n { claimer = claimer })
-  look_passes done h n x place word claimer taken within is_at finds late =
+      → HasTaken done tried h x (TakeLook (place + 1)) (record n { claimer = claimer })
+  look_passes done tried h n x place word claimer taken within is_at finds late =
       let goes_on : TakeAgain ≡ (if place + 1 == h.collector.now.places.capacity then TakeEnds else TakeAgain) =
       sym (ap (λ (b : Bool). if b then TakeEnds else TakeAgain)
       (ne_eqb (place + 1) h.collector.now.places.capacity (λ is. absurd (omega (arith, is, within))))) in
-      take_again done h n x (TakeLook place) (TakeLook (place + 1)) n.machine claimer
+      take_again done tried h n x (TakeLook place) (TakeLook (place + 1)) n.machine claimer
       (record { seal = 0; jobs = [] }) taken
       (waits_on h n x taken.taken taken.machine) is_at
       (omega (arith, within), still_rests place n.claimer.me claimer.me word finds taken.at.1) (
@@ -246,15 +252,15 @@ module _ {T W : Type 0} where
       )
 
   -- the word found at a place is that of an expired bag
-  pub look_finds : (done : W → Type 0) (h n : Local T W) (x place word : ℕ) (claimer : _)
-      → HasTaken done h x (TakeLook place) n
+  pub look_finds : (done : W → Type 0) (tried : Name → Type 0) (h n : Local T W) (x place word : ℕ) (claimer : _)
+      → HasTaken done tried h x (TakeLook place) n
       → place < h.collector.now.places.capacity
       → IsAt h.collector.now.places claimer
       → Finds place n.claimer.me word claimer.me
       → IsExpiredWord x word
-      → HasTaken done h x (TakeClaim place word) (record n { claimer = claimer })
-  look_finds done h n x place word claimer taken within is_at finds expired =
-      take_again done h n x (TakeLook place) (TakeClaim place word) n.machine claimer
+      → HasTaken done tried h x (TakeClaim place word) (record n { claimer = claimer })
+  look_finds done tried h n x place word claimer taken within is_at finds expired =
+      take_again done tried h n x (TakeLook place) (TakeClaim place word) n.machine claimer
       (record { seal = 0; jobs = [] }) taken
       (waits_on h n x taken.taken taken.machine) is_at
       (within, expired, still_rests place n.claimer.me claimer.me word finds taken.at.1) (
@@ -263,19 +269,20 @@ module _ {T W : Type 0} where
       )
 
   -- no further bag is found
-  pub take_ends : (done : W → Type 0) (h n : Local T W) (x : ℕ) (cursor next : TakeCursor) (m : Machine (Job W))
+  pub take_ends : (done : W → Type 0) (tried : Name → Type 0) (h n : Local T W) (x : ℕ) (cursor next : TakeCursor)
+      (m : Machine (Job W))
       (claimer : _) (bag : Sealed (Job W))
-      → (taken : HasTaken done h x cursor n)
+      → (taken : HasTaken done tried h x cursor n)
       → m ≡ took_heard n.machine n.machine.stage TakeEnds m.hand
       → IsAt h.collector.now.places claimer
       → RestsAt claimer.me
       → TakeMoves h.collector.now.places.capacity x cursor n.claimer.me TakeEnds next claimer.me bag
-      → TakesBags done h (record n { claimer = claimer; machine = m })
-  take_ends done h n x cursor next m claimer bag taken after is_at rests moves =
+      → TakesBags done tried h (record n { claimer = claimer; machine = m })
+  take_ends done tried h n x cursor next m claimer bag taken after is_at rests moves =
       let ends : m ≡ with_stage n.machine (after_collect n.machine.action n.machine.held) =
       after ∙ ap (λ (s : Stage). took_heard n.machine s TakeEnds m.hand)
       (ap (λ (z : Machine (Job W)). z.stage) taken.machine) in
-      let steps = take_performed done h n x cursor next TakeEnds m claimer.me bag taken after
+      let steps = take_performed done tried h n x cursor next TakeEnds m claimer.me bag taken after
       (λ got. absurd (cc got)) moves in
       record {
         claimer = is_at;
@@ -298,7 +305,7 @@ module _ {T W : Type 0} where
       after ∙ ap (λ (z : Machine (Job W)). took_heard z z.stage Got m.hand) was
 
   -- after a bag got, whose jobs were called
-  pub record HasCalledBag (done : W → Type 0) (h : Local T W) (x k : ℕ) (next : TakeCursor)
+  pub record HasCalledBag (done : W → Type 0) (tried : Name → Type 0) (h : Local T W) (x k : ℕ) (next : TakeCursor)
       (w : Local T W) : Type 0 where
     pub machine : w.machine ≡ with_hand h.machine x k []
     pub claimer : IsAt h.collector.now.places w.claimer
@@ -309,11 +316,12 @@ module _ {T W : Type 0} where
     pub performed : (log : Log (Job W))
         × Performed h.collector.now.places.capacity (situation_of h at_start) log
         (situation_of w (record { put = PutLook 0; take = next }))
-        × GivesOnly (IsCalled done) log
+        × GivesOnly (IsCalled done tried) log
 
-  pub bag_called : (done : W → Type 0) (h n w : Local T W) (x : ℕ) (cursor next : TakeCursor) (m : Machine (Job W))
+  pub bag_called : (done : W → Type 0) (tried : Name → Type 0) (h n w : Local T W) (x : ℕ) (cursor next : TakeCursor)
+      (m : Machine (Job W))
       (claimer : _) (bag : Sealed (Job W))
-      → (taken : HasTaken done h x cursor n)
+      → (taken : HasTaken done tried h x cursor n)
       → m ≡ took_heard n.machine n.machine.stage Got m.hand
       → m.hand ≡ bag.jobs
       → IsAt h.collector.now.places claimer
@@ -321,15 +329,15 @@ module _ {T W : Type 0} where
       → RestsAt claimer.me
       → TakeMoves h.collector.now.places.capacity x cursor n.claimer.me Got next claimer.me bag
       → w ≡ record n { claimer = claimer; machine = w.machine }
-      → CallsHand done (record n { claimer = claimer; machine = m }) x taken.taken w
-      → HasCalledBag done h x taken.taken next w
-  bag_called done h n w x cursor next m claimer bag taken after jobs is_at at rests moves only calls =
+      → CallsHand done tried (record n { claimer = claimer; machine = m }) x taken.taken w
+      → HasCalledBag done tried h x taken.taken next w
+  bag_called done tried h n w x cursor next m claimer bag taken after jobs is_at at rests moves only calls =
       let got = take_got h n x taken.taken m taken.machine after in
-      let steps = take_performed done h n x cursor next Got m claimer.me bag taken after (λ _. jobs) moves in
+      let steps = take_performed done tried h n x cursor next Got m claimer.me bag taken after (λ _. jobs) moves in
       let cursors : Cursors = record { put = PutLook 0; take = next } in
       let sight : Sight (Job W) = record { words = n.seat.me.0; places = claimer.me } in
       let called = subst (λ z. (log : Log (Job W)) × Performed z.now.places.capacity (situated m sight cursors) log
-      (situated w.machine sight cursors) × GivesOnly (IsCalled done) log)
+      (situated w.machine sight cursors) × GivesOnly (IsCalled done tried) log)
       taken.same.collector (calls.performed cursors) in
       record {
         machine = calls.machine ∙ ap (λ (z : Machine (Job W)). with_hand z x taken.taken []) got;
@@ -347,14 +355,15 @@ module _ {T W : Type 0} where
               (steps.0 ++ called.0) (situated w.machine (sight_of z) cursors)) (sym only)
               (performed_on h.collector.now.places.capacity (situation_of h at_start) (situated m sight cursors)
               (situated w.machine sight cursors) steps.0 called.0 steps.1 called.1),
-          gives_on (IsCalled done) steps.0 called.0 steps.2 called.2,
+          gives_on (IsCalled done tried) steps.0 called.0 steps.2 called.2,
         );
       }
 
   -- the same of the step as its call tells of it
-  pub hand_called : (done : W → Type 0) (h n w : Local T W) (x : ℕ) (cursor next : TakeCursor) (step : TakeStep)
+  pub hand_called : (done : W → Type 0) (tried : Name → Type 0) (h n w : Local T W) (x : ℕ) (cursor next : TakeCursor)
+      (step : TakeStep)
       (m : Machine (Job W)) (claimer : _)
-      → (taken : HasTaken done h x cursor n)
+      → (taken : HasTaken done tried h x cursor n)
       → step ≡ Got
       → m ≡ took_heard n.machine n.machine.stage step m.hand
       → IsSamePlaceSeat n.claimer claimer
@@ -364,13 +373,13 @@ module _ {T W : Type 0} where
       × TakeMoves n.collector.now.places.capacity y cursor n.claimer.me step next claimer.me bag)
       → w ≡ record n { claimer = claimer; machine = w.machine }
       → ((y k : ℕ) → m.stage ≡ after_job m y k m.hand
-      → CallsHand done (record n { claimer = claimer; machine = m }) y k w)
-      → HasCalledBag done h x taken.taken next w
-  hand_called done h n w x cursor next step m claimer taken got told kept at rests moves only calls =
+      → CallsHand done tried (record n { claimer = claimer; machine = m }) y k w)
+      → HasCalledBag done tried h x taken.taken next w
+  hand_called done tried h n w x cursor next step m claimer taken got told kept at rests moves only calls =
       let asked = ap (λ (z : Machine (Job W)). ask_at z.stage) taken.machine in
       let moved = moves x asked in
       let after = subst (λ (s : TakeStep). m ≡ took_heard n.machine n.machine.stage s m.hand) got told in
-      bag_called done h n w x cursor next m claimer moved.0 taken after (moved.1 got) (kept.0 ∙ taken.claimer)
+      bag_called done tried h n w x cursor next m claimer moved.0 taken after (moved.1 got) (kept.0 ∙ taken.claimer)
       (subst (λ z. TakesAt z.now.places.capacity x next claimer.me) taken.same.collector (at x asked))
       (rests (λ again. absurd (cc (got, again))))
       (subst (λ (s : TakeStep).
@@ -381,9 +390,9 @@ module _ {T W : Type 0} where
       (got_stage h.machine m x taken.taken (take_got h n x taken.taken m taken.machine after)))
 
   -- a further bag is looked for
-  pub next_bag : (done : W → Type 0) (h w : Local T W) (x k : ℕ) (next : TakeCursor)
-      → HasCalledBag done h x k next w → is_taking w.machine.stage ≡ true → HasTaken done h x next w
-  next_bag done h w x k next called takes =
+  pub next_bag : (done : W → Type 0) (tried : Name → Type 0) (h w : Local T W) (x k : ℕ) (next : TakeCursor)
+      → HasCalledBag done tried h x k next w → is_taking w.machine.stage ≡ true → HasTaken done tried h x next w
+  next_bag done tried h w x k next called takes =
       let stage = goes_on_at h.machine.action h.machine.held (k + 1 == h.machine.sizes.collect_bags) x (k + 1)
       (sym (ap (λ (z : Machine (Job W)). is_taking z.stage) called.machine) ∙ takes) in
       let goes = called.machine ∙ ap (λ (s : Stage). record h.machine { stage = s; hand = [] }) stage in
@@ -399,9 +408,9 @@ module _ {T W : Type 0} where
       }
 
   -- as many bags were taken as a collection takes
-  pub last_bag : (done : W → Type 0) (h w : Local T W) (x k : ℕ) (next : TakeCursor)
-      → HasCalledBag done h x k next w → is_taking w.machine.stage ≡ false → TakesBags done h w
-  last_bag done h w x k next called stopped =
+  pub last_bag : (done : W → Type 0) (tried : Name → Type 0) (h w : Local T W) (x k : ℕ) (next : TakeCursor)
+      → HasCalledBag done tried h x k next w → is_taking w.machine.stage ≡ false → TakesBags done tried h w
+  last_bag done tried h w x k next called stopped =
       let stage = stops_at h.machine.action h.machine.held (k + 1 == h.machine.sizes.collect_bags) x (k + 1)
       (sym (ap (λ (z : Machine (Job W)). is_taking z.stage) called.machine) ∙ stopped) in
       let goes = called.machine ∙ ap (λ (s : Stage). record h.machine { stage = s; hand = [] }) stage in
@@ -420,8 +429,9 @@ module _ {T W : Type 0} where
   -- THE WHOLE
 
   -- a scan, and the bags taken after it
-  pub collected : (done : W → Type 0) (h n o : Local T W) (x : ℕ) → Scans h x n → TakesBags done n o → Collects done h o
-  collected done h n o x scans takes =
+  pub collected : (done : W → Type 0) (tried : Name → Type 0) (h n o : Local T W) (x : ℕ) → Scans h x n → TakesBags
+      done tried n o → Collects done tried h o
+  collected done tried h n o x scans takes =
       let same_table = scans.same.collector in
       record {
         seated = record {
@@ -452,13 +462,13 @@ module _ {T W : Type 0} where
             record z { stage = after_collect z.action z.held; hand = o.machine.hand }) scans.machine;
         calls = λ c. let first = scans.reaches c in
             let second = subst (λ z. (d : Cursors) × (log : Log (Job W)) × Performed z.now.places.capacity
-            (situation_of n at_start) log (situation_of o d) × GivesOnly (IsCalled done) log)
+            (situation_of n at_start) log (situation_of o d) × GivesOnly (IsCalled done tried) log)
             same_table takes.performed in (
               second.0,
               first.0 ++ second.1,
               performed_on h.collector.now.places.capacity (situation_of h c) (situation_of n at_start)
                   (situation_of o second.0) first.0 second.1 first.1 second.2,
-              gives_on (IsCalled done) first.0 second.1
-                  (gives_also NoJob (IsCalled done) (λ job none. absurd none) first.0 first.2) second.3,
+              gives_on (IsCalled done tried) first.0 second.1
+                  (gives_also NoJob (IsCalled done tried) (λ job none. absurd none) first.0 first.2) second.3,
             );
       }

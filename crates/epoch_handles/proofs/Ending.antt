@@ -2,6 +2,7 @@
 use Rattle.std.proofs.Common.{◌≡◌, ℕ, ◌+◌, List, [], ◌∷◌, ◌++◌, Option, subst, arith}
 use Rattle.std.proofs.lemmas.List.{length-append}
 use Rattle.epoch_bags.specs.Bags.{Sealed}
+use Rattle.epoch_cells.specs.declared.cells.name.Name.{Name}
 use Rattle.epoch_bags.specs.Jobs.{IsCalled}
 use Rattle.epoch_bags.specs.declared.job.Job.{Job}
 use Rattle.epoch_tables.specs.declared.shared_places.view.PlaceView.{PlaceView}
@@ -22,24 +23,26 @@ module _ {J : Type 0} where
       (between, tried, called, calls_behind IsCalled places between w u bags more behind then)
 
 -- the tries of two parts of an end, and the jobs that they called
-pub ends_on : {W : Type 0} (done : W → Type 0) (places : ℕ) (v w u : PlaceView (Job W)) (tries more jobs further : ℕ)
-    → CallsEach done places v w tries jobs
-    → CallsEach done places w u more further
-    → CallsEach done places v u (tries + more) (jobs + further)
-ends_on done places v w u tries more jobs further before then =
+pub ends_on : {W : Type 0} (done : W → Type 0) (tried : Name → Type 0) (places : ℕ) (v w u : PlaceView (Job W))
+    (tries more jobs further : ℕ)
+    → CallsEach done tried places v w tries jobs
+    → CallsEach done tried places w u more further
+    → CallsEach done tried places v u (tries + more) (jobs + further)
+ends_on done tried places v w u tries more jobs further before then =
     let many = length-append before.bags then.bags in
     let counted = jobs_behind before.bags then.bags in
     record {
       bags = before.bags ++ then.bags;
       as_many = omega (arith, many, before.as_many, then.as_many);
-      calls = calls_behind (IsCalled done) places v w u before.bags then.bags before.calls then.calls;
+      calls = calls_behind (IsCalled done tried) places v w u before.bags then.bags before.calls then.calls;
       counts = omega (arith, counted, before.counts, then.counts);
     }
 
 -- the same seat, by another name
-pub from_there : {W : Type 0} {done : W → Type 0} {places : ℕ} {v w u : PlaceView (Job W)} {tries jobs : ℕ}
+pub from_there : {W : Type 0} {done : W → Type 0} {tried : Name → Type 0} {places : ℕ} {v w u : PlaceView (Job W)}
+    {tries jobs : ℕ}
     → v ≡ w
-    → CallsEach done places v u tries jobs
-    → CallsEach done places w u tries jobs
-from_there {done = done} {places = places} {u = u} {tries = tries} {jobs = jobs} same ends =
-    subst (λ z. CallsEach done places z u tries jobs) same ends
+    → CallsEach done tried places v u tries jobs
+    → CallsEach done tried places w u tries jobs
+from_there {done = done} {tried = tried} {places = places} {u = u} {tries = tries} {jobs = jobs} same ends =
+    subst (λ z. CallsEach done tried places z u tries jobs) same ends

@@ -2,6 +2,7 @@
 use Rattle.std.proofs.Common.{◌≡◌, ◌∙◌, ℕ, ◌<◌, ◌⊎◌, if◌then◌else◌, Bool, true, false, List, [], refl, sym, ap, subst}
 use Rattle.std.proofs.Common.{arith, inl, inr, Some}
 use Rattle.epoch_tables.specs.SharedSteps.{RestsAt}
+use Rattle.epoch_cells.specs.declared.cells.name.Name.{Name}
 use Rattle.epoch_bags.specs.Jobs.{IsCalled}
 use Rattle.epoch_bags.specs.declared.job.Job.{Job}
 use Rattle.epoch_machine.specs.declared.machine.Action.{Action}
@@ -139,18 +140,18 @@ module _ {T W : Type 0} where
       }
 
   -- The flush of h has nothing left to ask at o.
-  pub record HasFlushed (done : W → Type 0) (h o : Local T W) : Type 0 where
+  pub record HasFlushed (done : W → Type 0) (tried : Name → Type 0) (h o : Local T W) : Type 0 where
     pub seated : IsSeated o
     pub rests : RestsAt o.claimer.me
     pub same : IsSame h o
     pub pin : KeepsPin h o
     pub flushes : Flushes h.machine o.machine
     pub ends : o.machine.stage ≡ End
-    pub calls : IsDrivenTo (IsCalled done) (record h { machine = begun Flush h.machine }) o
+    pub calls : IsDrivenTo (IsCalled done tried) (record h { machine = begun Flush h.machine }) o
 
-  pub collection_ends : (done : W → Type 0) (h n o : Local T W)
-      → ComesToScan h n → Collects done n o → HasFlushed done h o
-  collection_ends done h n o comes collects = record {
+  pub collection_ends : (done : W → Type 0) (tried : Name → Type 0) (h n o : Local T W)
+      → ComesToScan h n → Collects done tried n o → HasFlushed done tried h o
+  collection_ends done tried h n o comes collects = record {
     seated = collects.seated;
     rests = collects.rests;
     same = record {
@@ -162,31 +163,31 @@ module _ {T W : Type 0} where
     flushes = flushes_still h.machine n.machine o.machine _ _ _ _ collects.machine comes.flushes;
     ends = ap (λ (z : Machine (Job W)). z.stage) collects.machine
         ∙ ap (λ (a : Action). after_collect a n.machine.held) comes.flushes.action;
-    calls = drives_on (IsCalled done) h.collector.now.places.capacity (begun Flush h.machine) n.machine o.machine
+    calls = drives_on (IsCalled done tried) h.collector.now.places.capacity (begun Flush h.machine) n.machine o.machine
         (sight_of h) (sight_of n) (sight_of o)
-        (drives_of (IsCalled done) h.collector.now.places.capacity (begun Flush h.machine) n.machine (sight_of h)
+        (drives_of (IsCalled done tried) h.collector.now.places.capacity (begun Flush h.machine) n.machine (sight_of h)
         (sight_of n) comes.drives)
-        (subst (λ z. Drives (IsCalled done) z.now.places.capacity n.machine (sight_of n) o.machine (sight_of o))
+        (subst (λ z. Drives (IsCalled done tried) z.now.places.capacity n.machine (sight_of n) o.machine (sight_of o))
         comes.same.collector collects.calls);
   }
 
   -- THE WHOLE
 
-  pub flush_does : (done : W → Type 0) (h o : Local T W) (m : Machine (Job W))
-      → HasFlushed done h o
+  pub flush_does : (done : W → Type 0) (tried : Name → Type 0) (h o : Local T W) (m : Machine (Job W))
+      → HasFlushed done tried h o
       → m ≡ ended o.machine
-      → DoesAndCalls done h Flush (record o { machine = m })
-  flush_does done h o m flushed is =
+      → DoesAndCalls done tried h Flush (record o { machine = m })
+  flush_does done tried h o m flushed is =
       record { last = o.machine; over = flushed.ends; machine = is; drives = flushed.calls }
 
   -- it stays pinned as it was, with its guards
-  pub flush_ready : (done : W → Type 0) (h o : Local T W) (m : Machine (Job W))
+  pub flush_ready : (done : W → Type 0) (tried : Name → Type 0) (h o : Local T W) (m : Machine (Job W))
       → IsReady h
       → 0 < h.machine.guards
-      → HasFlushed done h o
+      → HasFlushed done tried h o
       → m ≡ ended o.machine
       → IsReady (record o { machine = m })
-  flush_ready done h o m ready out flushed is =
+  flush_ready done tried h o m ready out flushed is =
       let counted : m.guards ≡ h.machine.guards = ap (λ (z : Machine (Job W)). z.guards) is
       ∙ none_counted o.machine flushed.flushes.action ∙ flushed.flushes.guards in
       let still : m.published ≡ h.machine.published = ap (λ (z : Machine (Job W)). z.published) is

@@ -4,6 +4,7 @@ use Rattle.std.proofs.Common.{None, inl, inr}
 use Rattle.std.proofs.lemmas.Bool.{true≢false, false≢true}
 use Rattle.epoch_tables.specs.TableSteps.{after_own, after_free}
 use Rattle.epoch_tables.specs.SharedSteps.{RestsAt}
+use Rattle.epoch_cells.specs.declared.cells.name.Name.{Name}
 use Rattle.epoch_bags.specs.Jobs.{IsCalled}
 use Rattle.epoch_bags.specs.declared.job.Job.{Job}
 use Rattle.epoch_tables.specs.declared.table.view.ParticipantView.{ParticipantView}
@@ -82,7 +83,7 @@ module _ {T W : Type 0} where
       ∙ ap (λ z. record { words = after_free (after_own h.seat.me.0 None); places = z.me }) (claimer ∙ steps.claimer)
 
   -- the participant after the two stores: n after the first one, o after the second
-  pub left_for_good : (done : W → Type 0) (h n o : Local T W) (told last : Machine (Job W))
+  pub left_for_good : (done : W → Type 0) (tried : Name → Type 0) (h n o : Local T W) (told last : Machine (Job W))
       → h.machine.stage ≡ StageUnpinned
       → h.machine.action ≡ Release
       → h.machine.full ≡ false
@@ -92,8 +93,8 @@ module _ {T W : Type 0} where
       → o ≡ record n { machine = told; seat = o.seat }
       → o.seat.me.0 ≡ after_free n.seat.me.0
       → last ≡ heard o.machine Stored
-      → IsFreed done h (record o { machine = last })
-  left_for_good done h n o told last at action room none steps is only knows is_last =
+      → IsFreed done tried h (record o { machine = last })
+  left_for_good done tried h n o told last at action room none steps is only knows is_last =
       let freed : last ≡ fresh h.machine.sizes = is_last ∙ ap (λ (z : Machine (Job W)). heard z Stored)
       (ap (λ (z : Local T W). z.machine) only ∙ is ∙ ap (λ (z : Machine (Job W)). heard z Stored) steps.machine
       ∙ store_leads_on h.machine at action room) in
@@ -105,7 +106,7 @@ module _ {T W : Type 0} where
         position = ap (λ (z : ParticipantView). z.position) knows;
         machine = freed;
         whole = λ some. absurd (some none);
-        calls = drives_of (IsCalled done) h.collector.now.places.capacity h.machine last (sight_of h) (sight_of o)
+        calls = drives_of (IsCalled done tried) h.collector.now.places.capacity h.machine last (sight_of h) (sight_of o)
             (subst (λ (z : Machine (Job W)). Drives NoJob h.collector.now.places.capacity h.machine (sight_of h) z
             (sight_of o)) (sym freed)
             (subst (λ (z : Sight (Job W)). Drives NoJob h.collector.now.places.capacity h.machine (sight_of h)
@@ -127,7 +128,7 @@ module _ {T W : Type 0} where
   told_last h n told at action full same is =
       is ∙ ap (λ (z : Machine (Job W)). heard z Stored) same ∙ store_is_last h.machine at action full
 
-  pub stayed : (done : W → Type 0) (h n : Local T W) (told last : Machine (Job W))
+  pub stayed : (done : W → Type 0) (tried : Name → Type 0) (h n : Local T W) (told last : Machine (Job W))
       → RestsAt h.claimer.me
       → h.machine.stage ≡ StageUnpinned
       → h.machine.action ≡ Release
@@ -137,8 +138,8 @@ module _ {T W : Type 0} where
       → Steps h n (after_own h.seat.me.0 None)
       → told ≡ heard n.machine Stored
       → last ≡ ended told
-      → IsRefused done h (record n { machine = last })
-  stayed done h n told last rests at action full held none steps is is_last =
+      → IsRefused done tried h (record n { machine = last })
+  stayed done tried h n told last rests at action full held none steps is is_last =
       let over : told ≡ with_stage h.machine End = told_last h n told at action full steps.machine is in
       let leaves : last ≡ ended (with_stage h.machine End) = is_last ∙ ap (λ (z : Machine (Job W)). ended z) over in
       let counted : last.guards ≡ 0 = ap (λ (z : Machine (Job W)). z.guards) leaves
@@ -151,7 +152,8 @@ module _ {T W : Type 0} where
           last = told;
           over = ap (λ (z : Machine (Job W)). z.stage) over;
           machine = is_last;
-          drives = drives_of (IsCalled done) h.collector.now.places.capacity h.machine told (sight_of h) (sight_of n)
+          drives = drives_of (IsCalled done tried) h.collector.now.places.capacity h.machine told (sight_of h)
+              (sight_of n)
               (subst (λ (z : Machine (Job W)). Drives NoJob h.collector.now.places.capacity h.machine (sight_of h) z
               (sight_of n)) heard_told
               (subst (λ (z : Sight (Job W)). Drives NoJob h.collector.now.places.capacity h.machine (sight_of h)
@@ -207,31 +209,31 @@ module _ {T W : Type 0} where
   left_still jobs n o kept whole = subst (λ z. IsLeftWhole jobs z.me.0) (sym kept) whole
 
   -- what a release did before this way out belongs to it
-  pub freed_behind : (done : W → Type 0) (h n o : Local T W)
+  pub freed_behind : (done : W → Type 0) (tried : Name → Type 0) (h n o : Local T W)
       → IsSame h n
       → n.machine.sizes ≡ h.machine.sizes
-      → IsDrivenTo (IsCalled done) h n
+      → IsDrivenTo (IsCalled done tried) h n
       → (h.machine.held ≢ [] → IsLeftWhole h.machine.held o.claimer.me.0)
-      → IsFreed done n o
-      → IsFreed done h o
-  freed_behind done h n o same sizes before whole freed = record {
+      → IsFreed done tried n o
+      → IsFreed done tried h o
+  freed_behind done tried h n o same sizes before whole freed = record {
     same = record { position = freed.same.position ∙ same.position; collector = freed.same.collector ∙ same.collector };
     position = freed.position;
     machine = freed.machine ∙ ap (λ (z : Sizes). fresh z) sizes;
     whole = whole;
-    calls = drives_on (IsCalled done) h.collector.now.places.capacity h.machine n.machine o.machine (sight_of h)
+    calls = drives_on (IsCalled done tried) h.collector.now.places.capacity h.machine n.machine o.machine (sight_of h)
         (sight_of n) (sight_of o) before
-        (subst (λ z. Drives (IsCalled done) z.now.places.capacity n.machine (sight_of n) o.machine (sight_of o))
+        (subst (λ z. Drives (IsCalled done tried) z.now.places.capacity n.machine (sight_of n) o.machine (sight_of o))
         same.collector freed.calls);
   }
 
-  pub refused_behind : (done : W → Type 0) (h n o : Local T W)
+  pub refused_behind : (done : W → Type 0) (tried : Name → Type 0) (h n o : Local T W)
       → IsSame h n
       → n.machine.held ≡ h.machine.held
-      → IsDrivenTo (IsCalled done) h n
-      → IsRefused done n o
-      → IsRefused done h o
-  refused_behind done h n o same held before refused =
+      → IsDrivenTo (IsCalled done tried) h n
+      → IsRefused done tried n o
+      → IsRefused done tried h o
+  refused_behind done tried h n o same held before refused =
       let ends = refused.ends in
       record {
         same = record {
@@ -242,9 +244,11 @@ module _ {T W : Type 0} where
           last = ends.last;
           over = ends.over;
           machine = ends.machine;
-          drives = drives_on (IsCalled done) h.collector.now.places.capacity h.machine n.machine ends.last (sight_of h)
+          drives = drives_on (IsCalled done tried) h.collector.now.places.capacity h.machine n.machine ends.last
+              (sight_of h)
               (sight_of n) (sight_of o) before
-              (subst (λ z. Drives (IsCalled done) z.now.places.capacity n.machine (sight_of n) ends.last (sight_of o))
+              (subst (λ z. Drives (IsCalled done tried) z.now.places.capacity n.machine (sight_of n) ends.last
+              (sight_of o))
               same.collector ends.drives);
         };
         ready = refused.ready;
@@ -257,13 +261,13 @@ module _ {T W : Type 0} where
 
 module _ {T W : Type 0} where
   -- after its pin
-  pub release_pins : (done : W → Type 0) (h n : Local T W) (e : ℕ) (m : Machine (Job W))
+  pub release_pins : (done : W → Type 0) (tried : Name → Type 0) (h n : Local T W) (e : ℕ) (m : Machine (Job W))
       → IsReady h
       → h.machine.guards ≡ 0
       → PinSteps h e n
       → ((again : ℕ) → m ≡ heard (heard (heard (begun Release n.machine) (Epoch e)) Stored) (Epoch again))
-      → IsLeaving done h (record n { machine = m })
-  release_pins done h n e m ready none steps after =
+      → IsLeaving done tried h (record n { machine = m })
+  release_pins done tried h n e m ready none steps after =
       let is : m ≡ heard (heard (heard (begun Release h.machine) (Epoch e)) Stored) (Epoch steps.again) =
       after steps.again
       ∙ ap (λ (z : Machine (Job W)). heard (heard (heard (begun Release z) (Epoch e)) Stored) (Epoch steps.again))
@@ -278,7 +282,7 @@ module _ {T W : Type 0} where
         none = ap (λ (z : Machine (Job W)). z.guards) is ∙ none;
         held = ap (λ (z : Machine (Job W)). z.held) is;
         sizes = ap (λ (z : Machine (Job W)). z.sizes) is;
-        calls = drives_of (IsCalled done) h.collector.now.places.capacity (begun Release h.machine) m
+        calls = drives_of (IsCalled done tried) h.collector.now.places.capacity (begun Release h.machine) m
             (sight_of h) (sight_of n)
             (subst (λ (z : Machine (Job W)). Drives NoJob h.collector.now.places.capacity (begun Release h.machine)
             (sight_of h) z (sight_of n)) (sym is)
@@ -286,9 +290,9 @@ module _ {T W : Type 0} where
       }
 
   -- after its collection
-  pub release_collects : (done : W → Type 0) (h n o : Local T W)
-      → IsLeaving done h n → Collects done n o → IsLeaving done h o
-  release_collects done h n o leaving collects = record {
+  pub release_collects : (done : W → Type 0) (tried : Name → Type 0) (h n o : Local T W)
+      → IsLeaving done tried h n → Collects done tried n o → IsLeaving done tried h o
+  release_collects done tried h n o leaving collects = record {
     seated = collects.seated;
     rests = collects.rests;
     pinned = record {
@@ -304,43 +308,45 @@ module _ {T W : Type 0} where
     none = ap (λ (z : Machine (Job W)). z.guards) collects.machine ∙ leaving.none;
     held = ap (λ (z : Machine (Job W)). z.held) collects.machine ∙ leaving.held;
     sizes = ap (λ (z : Machine (Job W)). z.sizes) collects.machine ∙ leaving.sizes;
-    calls = drives_on (IsCalled done) h.collector.now.places.capacity (begun Release h.machine) n.machine o.machine
+    calls = drives_on (IsCalled done tried) h.collector.now.places.capacity (begun Release h.machine) n.machine
+        o.machine
         (sight_of h) (sight_of n) (sight_of o) leaving.calls
-        (subst (λ z. Drives (IsCalled done) z.now.places.capacity n.machine (sight_of n) o.machine (sight_of o))
+        (subst (λ z. Drives (IsCalled done tried) z.now.places.capacity n.machine (sight_of n) o.machine (sight_of o))
         leaving.same.collector collects.calls);
   }
 
-  pub collected_to_leave : (done : W → Type 0) (h n o : Local T W)
-      → IsLeaving done h n → Collects done n o → o.machine.stage ≡ after_collect Release o.machine.held
-  collected_to_leave done h n o leaving collects =
+  pub collected_to_leave : (done : W → Type 0) (tried : Name → Type 0) (h n o : Local T W)
+      → IsLeaving done tried h n → Collects done tried n o → o.machine.stage ≡ after_collect Release o.machine.held
+  collected_to_leave done tried h n o leaving collects =
       ap (λ (z : Machine (Job W)). z.stage) collects.machine
       ∙ ap (λ (a : Action). after_collect a n.machine.held) leaving.action
       ∙ ap (λ (z : List (Job W)). after_collect Release z) (sym (ap (λ (z : Machine (Job W)). z.held) collects.machine))
 
   -- HOW IT COMES OUT
 
-  pub refused_at_last : (done : W → Type 0) (h n o : Local T W)
-      → IsLeaving done h n → IsRefused done n o → IsRefused done (record h { machine = begun Release h.machine }) o
-  refused_at_last done h n o leaving refused =
-      refused_behind done (record h { machine = begun Release h.machine }) n o
+  pub refused_at_last : (done : W → Type 0) (tried : Name → Type 0) (h n o : Local T W)
+      → IsLeaving done tried h n → IsRefused done tried n o → IsRefused done tried
+      (record h { machine = begun Release h.machine }) o
+  refused_at_last done tried h n o leaving refused =
+      refused_behind done tried (record h { machine = begun Release h.machine }) n o
       (record { position = leaving.same.position; collector = leaving.same.collector }) leaving.held
       leaving.calls refused
 
-  pub freed_at_last : (done : W → Type 0) (h n o : Local T W)
-      → IsLeaving done h n → IsFreed done n o → IsReleased done h o
-  freed_at_last done h n o leaving freed =
-      freed_behind done (record h { machine = begun Release h.machine }) n o
+  pub freed_at_last : (done : W → Type 0) (tried : Name → Type 0) (h n o : Local T W)
+      → IsLeaving done tried h n → IsFreed done tried n o → IsReleased done tried h o
+  freed_at_last done tried h n o leaving freed =
+      freed_behind done tried (record h { machine = begun Release h.machine }) n o
       (record { position = leaving.same.position; collector = leaving.same.collector }) leaving.sizes leaving.calls
       (subst (λ (z : List (Job W)). z ≢ [] → IsLeftWhole z o.claimer.me.0) leaving.held freed.whole) freed
 
-  pub same_at_last : (done : W → Type 0) (h n o : Local T W) (free : Bool)
-      → IsLeaving done h n
-      → (free ≡ false → IsRefused done n o)
-      → (free ≡ true → IsFreed done n o)
+  pub same_at_last : (done : W → Type 0) (tried : Name → Type 0) (h n o : Local T W) (free : Bool)
+      → IsLeaving done tried h n
+      → (free ≡ false → IsRefused done tried n o)
+      → (free ≡ true → IsFreed done tried n o)
       → IsSame h o
-  same_at_last done h n o false leaving refused freed =
+  same_at_last done tried h n o false leaving refused freed =
       let same = (refused refl).same in
       record { position = same.position ∙ leaving.same.position; collector = same.collector ∙ leaving.same.collector }
-  same_at_last done h n o true leaving refused freed =
+  same_at_last done tried h n o true leaving refused freed =
       let same = (freed refl).same in
       record { position = same.position ∙ leaving.same.position; collector = same.collector ∙ leaving.same.collector }

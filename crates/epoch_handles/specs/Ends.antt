@@ -1,6 +1,7 @@
 -- How many jobs are left in bags, and that each was called.
 use Rattle.std.specs.Prelude.{◌≡◌, ℕ, ◌+◌, List, [], ◌∷◌, length, Option, Some, None, All}
 use Rattle.epoch_bags.specs.Bags.{Sealed}
+use Rattle.epoch_cells.specs.declared.cells.name.Name.{Name}
 use Rattle.epoch_bags.specs.Jobs.{IsCalled}
 use Rattle.epoch_bags.specs.declared.job.Job.{Job}
 use Rattle.epoch_tables.specs.SharedSteps.{TriesEach}
@@ -28,9 +29,10 @@ module _ {J : Type 0} where
       × TriesEach places before bag between × IsBagCalled IsCalled bag × CallsBags IsCalled places between bags after
 
 -- In so many tries a seat took out bags, and each of their jobs was called: so many jobs.
-pub record CallsEach {W : Type 0} (done : W → Type 0) (places : ℕ) (before after : PlaceView (Job W))
+pub record CallsEach {W : Type 0} (done : W → Type 0) (tried : Name → Type 0) (places : ℕ)
+    (before after : PlaceView (Job W))
     (tries jobs : ℕ) : Type 0 where
   pub bags : List (Option (Sealed (Job W)))
   pub as_many : length bags ≡ tries
-  pub calls : CallsBags (IsCalled done) places before bags after
+  pub calls : CallsBags (IsCalled done tried) places before bags after
   pub counts : jobs ≡ jobs_in bags

@@ -9,6 +9,7 @@ use Rattle.epoch_tables.specs.SharedPlaces.{IsPlaceSeatOf as IsAt}
 use Rattle.epoch_tables.specs.SharedSteps.{RestsAt, TakesAt}
 use Rattle.epoch_bags.specs.declared.queue.places.TakeCursor.{TakeCursor}
 use Rattle.epoch_bags.specs.declared.queue.places.PutCursor.TheVariants.{Look as PutLook}
+use Rattle.epoch_cells.specs.declared.cells.name.Name.{Name}
 use Rattle.epoch_bags.specs.Jobs.{IsCalled}
 use Rattle.epoch_bags.specs.declared.job.Job.{Job}
 use Rattle.epoch_tables.specs.declared.shared_places.view.PlaceView.{PlaceView}
@@ -18,6 +19,7 @@ use Rattle.epoch_machine.specs.declared.machine.Stage.TheVariants.{Idle, End, Ta
 use Rattle.epoch_handles.specs.declared.collector.Collector.{Collector}
 use Rattle.epoch_handles.specs.declared.guard.Guard.{Guard}
 use Rattle.epoch_handles.specs.declared.local.Local.{Local}
+use Rattle.epoch_handles.specs.declared.paused.Paused.{Paused}
 use Rattle.epoch_machine.specs.Machine.{Machine, begun, ended, fresh, with_stage, after_collect, after_put, after_job}
 use Rattle.epoch_handles.specs.Drives.{Sight, Cursors, Situation, Performed, NoJob, AnyJob, GivesOnly, Drives, Reaches}
 use Rattle.epoch_handles.specs.Drives.{situated, at_start}
@@ -91,15 +93,16 @@ pub record Scans {T W : Type 0} (old : Local T W) (expiry : ℕ) (new : Local T 
   pub reaches : Reaches NoJob old.collector.now.places.capacity old.machine (sight_of old) (situation_of new at_start)
 
 -- It called what was left of the bag in hand: the next bag is looked for, unless this was the last one.
-pub record CallsHand {T W : Type 0} (done : W → Type 0) (old : Local T W) (expiry taken : ℕ)
+pub record CallsHand {T W : Type 0} (done : W → Type 0) (tried : Name → Type 0) (old : Local T W) (expiry taken : ℕ)
     (new : Local T W) : Type 0 where
   pub machine : new.machine ≡ record old.machine { stage = after_job old.machine expiry taken []; hand = [] }
   pub performed : (c : Cursors) → (log : Log (Job W))
       × Performed old.collector.now.places.capacity (situation_of old c) log (situated new.machine (sight_of old) c)
-      × GivesOnly (IsCalled done) log
+      × GivesOnly (IsCalled done tried) log
 
 -- A collection for the epoch x has come to this cursor, and looks for a bag.
-pub record HasTaken {T W : Type 0} (done : W → Type 0) (h : Local T W) (x : ℕ) (cursor : TakeCursor)
+pub record HasTaken {T W : Type 0} (done : W → Type 0) (tried : Name → Type 0) (h : Local T W) (x : ℕ)
+    (cursor : TakeCursor)
     (n : Local T W) : Type 0 where
   pub taken : ℕ
   pub machine : n.machine ≡ record h.machine { stage = Take x taken; hand = n.machine.hand }
@@ -110,10 +113,10 @@ pub record HasTaken {T W : Type 0} (done : W → Type 0) (h : Local T W) (x : �
   pub performed : (log : Log (Job W))
       × Performed h.collector.now.places.capacity (situation_of h at_start) log
       (situation_of n (record { put = PutLook 0; take = cursor }))
-      × GivesOnly (IsCalled done) log
+      × GivesOnly (IsCalled done tried) log
 
 -- It took bags that are expired for the epoch of its scan, and called their jobs.
-pub record TakesBags {T W : Type 0} (done : W → Type 0) (old new : Local T W) : Type 0 where
+pub record TakesBags {T W : Type 0} (done : W → Type 0) (tried : Name → Type 0) (old new : Local T W) : Type 0 where
   pub claimer : IsAt old.collector.now.places new.claimer
   pub rests : RestsAt new.claimer.me
   pub seat : new.seat ≡ old.seat
@@ -122,17 +125,17 @@ pub record TakesBags {T W : Type 0} (done : W → Type 0) (old new : Local T W) 
       ≡ record old.machine { stage = after_collect old.machine.action old.machine.held; hand = new.machine.hand }
   pub performed : (d : Cursors) × (log : Log (Job W))
       × Performed old.collector.now.places.capacity (situation_of old at_start) log (situation_of new d)
-      × GivesOnly (IsCalled done) log
+      × GivesOnly (IsCalled done tried) log
 
 -- It collected: it scanned, and took bags and called their jobs, as many as a collection takes or as it found.
-pub record Collects {T W : Type 0} (done : W → Type 0) (old new : Local T W) : Type 0 where
+pub record Collects {T W : Type 0} (done : W → Type 0) (tried : Name → Type 0) (old new : Local T W) : Type 0 where
   pub seated : IsSeated new
   pub rests : RestsAt new.claimer.me
   pub same : IsSame old new
   pub pin : KeepsPin old new
   pub machine : new.machine
       ≡ record old.machine { stage = after_collect old.machine.action old.machine.held; hand = new.machine.hand }
-  pub calls : IsDrivenTo (IsCalled done) old new
+  pub calls : IsDrivenTo (IsCalled done tried) old new
 
 -- what the seat left in a place last is a bag of just these jobs, in this order
 abbrev pub IsLeftWhole : {J : Type 0} → List J → PlaceView J → Type 0
@@ -186,8 +189,8 @@ abbrev pub DoesStraight : {T W : Type 0} → Local T W → Action → Local T W 
 DoesStraight old action new = DoesGiving NoJob old action new
 
 -- each job that it gave was called
-abbrev pub DoesAndCalls : {T W : Type 0} → (W → Type 0) → Local T W → Action → Local T W → Type 0
-DoesAndCalls done old action new = DoesGiving (IsCalled done) old action new
+abbrev pub DoesAndCalls : {T W : Type 0} → (W → Type 0) → (Name → Type 0) → Local T W → Action → Local T W → Type 0
+DoesAndCalls done tried old action new = DoesGiving (IsCalled done tried) old action new
 
 -- the same participant of the same collector, between two calls, with one guard fewer
 pub record IsBetween {T W : Type 0} (old between : Local T W) : Type 0 where
@@ -201,6 +204,11 @@ pub record Owns {T W : Type 0} (h : Local T W) (guard : Guard T W) : Type 0 wher
   pub position : guard.position ≡ Some h.position
   pub collector : guard.collector.now.id ≡ h.collector.now.id
   pub out : 0 < h.machine.guards
+
+-- the guard that is paused is one of this participant, as far as can be told
+pub record IsPausedBy {T W : Type 0} (h : Local T W) (paused : Paused T W) : Type 0 where
+  pub position : paused.guard.position ≡ Some h.position
+  pub collector : paused.guard.collector.now.id ≡ h.collector.now.id
 
 -- the epoch, and after it each position before this one, once and in order
 abbrev pub each_before : ℕ → List (Option ℕ)

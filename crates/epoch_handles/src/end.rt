@@ -6,7 +6,7 @@ ghost use Rattle.epoch_bags.specs.Jobs.{IsCalled};
 ghost use Rattle.epoch_handles.specs.Ends.{jobs_in, jobs_of, IsBagCalled, CallsEach};
 
 use crate::collector::Collector;
-use epoch_bags::{Job, Run, SealedBag, Work};
+use epoch_bags::{FromCells, Job, Remove, Run, SealedBag, Work};
 use epoch_cells::Cells;
 use epoch_tables::shared_places::{PlaceSeat, SharedPlaces};
 use std::mem;
@@ -15,7 +15,7 @@ impl<T: Drop> Collector<T> {
     /// Ends the collector: calls every job that is left in its places, drops the values that are left in its cells,
     /// and answers how many jobs it called. It tries once for each place to take a bag out.
     pub fn end(self) -> u64
-        ensures called { (after : _) × CallsEach ⟦<Work as Run>⟧.done self.places.capacity
+        ensures called { (after : _) × CallsEach ⟦<Work as Run>⟧.done ⟦<FromCells as Remove>⟧.tried self.places.capacity
             (with_claim None [] [] [] []) after self.places.capacity result }
     {
         let Collector {
@@ -38,7 +38,8 @@ fn end_places<T: Drop, W: Run>(
 ) -> u64
     requires of { IsPlaceSeatOf places.now seat.old }
     requires rests { RestsAt seat.old.me }
-    ensures { CallsEach W.done places.now.capacity seat.old.me.0 seat.new.me.0 places.now.capacity result }
+    ensures { CallsEach W.done W.Removing.tried places.now.capacity seat.old.me.0 seat.new.me.0 places.now.capacity
+        result }
 {
     let mut count = 0;
     for taken in 0..places.capacity() {
@@ -59,7 +60,7 @@ fn end_one<T: Drop, W: Run>(
     ensures kept { IsSamePlaceSeat seat.old seat.new }
     ensures rests { RestsAt seat.new.me }
     ensures few { result ≤ 64 }
-    ensures called { CallsEach W.done places.now.capacity seat.old.me.0 seat.new.me.0 1 result }
+    ensures called { CallsEach W.done W.Removing.tried places.now.capacity seat.old.me.0 seat.new.me.0 1 result }
 {
     let mut bag = places.take_any(seat);
     let count = end_bag(cells, &mut bag);
@@ -78,7 +79,7 @@ fn tell_few<W>(bags: &[Option<SealedBag<Job<W>>>])
 pub fn end_bags<T: Drop, W: Run>(cells: &Cells<T>, bags: &mut [Option<SealedBag<Job<W>>>]) -> u64
     ensures count { result ≡ jobs_in bags.old }
     ensures called { (place : ℕ) → place < length bags.old
-        → IsBagCalled (IsCalled W.done) (slice_index_or bags.old place None) }
+        → IsBagCalled (IsCalled W.done W.Removing.tried) (slice_index_or bags.old place None) }
     ensures few { result ≤ 64 * length bags.old }
     ensures none { (place : ℕ) → place < length bags.old → slice_index_or bags.new place None ≡ None }
 {
@@ -93,7 +94,7 @@ pub fn end_bags<T: Drop, W: Run>(cells: &Cells<T>, bags: &mut [Option<SealedBag<
 /// Calls every job of the bag, if there is one, and leaves none. Answers how many jobs.
 fn end_bag<T: Drop, W: Run>(cells: &Cells<T>, place: &mut Option<SealedBag<Job<W>>>) -> u64
     ensures count { result ≡ jobs_of place.old }
-    ensures called { IsBagCalled (IsCalled W.done) place.old }
+    ensures called { IsBagCalled (IsCalled W.done W.Removing.tried) place.old }
     ensures few { result ≤ 64 }
     ensures none { place.new ≡ None }
 {

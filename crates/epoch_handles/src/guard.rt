@@ -1,10 +1,10 @@
 //! Guards: tokens of a pin, and guards that protect nothing.
 ghost use Rattle.std.specs.Prelude.{◌≡◌, ◌↔◌, IsTrue, IsSome, IsNone, None, IsOk, IfOk, IfErr, MatchOption};
-ghost use Rattle.epoch_bags.specs.Jobs.{AnswersJob, IsCalled, IsTried};
+ghost use Rattle.epoch_bags.specs.Jobs.{AnswersJob, IsCalled};
 
 use crate::collector::Collector;
 use epoch_bags::{Called, Job, Run, Work};
-use std::fmt;
+use std::{fmt, mem};
 
 /// A guard, which must be spent.
 ///
@@ -67,14 +67,33 @@ impl<'c, T: Drop, W: Run> Guard<'c, T, W> {
     /// guard the job is handed back.
     pub fn call_now(&self, job: Job<W>) -> Result<Called, Job<W>>
         ensures ok { IsOk result ↔ IsNone self.now.position }
-        ensures called { IfOk result (λ called. AnswersJob job called × IsCalled W.done job) }
-        ensures tried { IsOk result → IsTried W.Removing.tried job }
+        ensures called { IfOk result (λ called. AnswersJob job called × IsCalled W.done W.Removing.tried job) }
         ensures handed_back { IfErr result (λ back. back ≡ job) }
     {
         if self.position.is_some() {
             return Err(job);
         }
         Ok(job.call(&self.collector.cells))
+    }
+}
+
+impl<'c, T, W> Guard<'c, T, W> {
+    /// Takes the guard out, and leaves one that protects nothing until it is given back.
+    pub(crate) fn taken(&mut self) -> Guard<'c, T, W>
+        ensures taken { result ≡ self.old }
+        ensures left { self.new.position ≡ None }
+    {
+        mem::replace(self, unprotected(self.collector))
+    }
+
+    /// Puts the guard back that was taken out.
+    pub(crate) fn give_back(&mut self, guard: Guard<'c, T, W>)
+        ensures { self.new ≡ guard.entry }
+    {
+        let Guard {
+            collector: _,
+            position: _,
+        } = mem::replace(self, guard);
     }
 }
 

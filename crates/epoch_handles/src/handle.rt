@@ -2,14 +2,15 @@
 ghost use Rattle.std.specs.Prelude.{◌≡◌, true, ℕ, ◌+◌, ◌<◌, ◌^◌, ◌↔◌, ◌≢◌, [], ◌∷◌, ◌++◌, ◌⊎◌, IsTrue, IsSome, IsOk};
 ghost use Rattle.std.specs.Prelude.{IsErr, Err, IfOk, IfErr, Some, None, length};
 ghost use Rattle.epoch_cells.specs.declared.fault.Fault.TheVariants.{StrangerGuard, BagsFull};
-ghost use Rattle.epoch_bags.specs.Jobs.{IsCalled, IsTried};
-ghost use Rattle.epoch_handles.specs.Handles.{IsReady, IsSame, IsBetween, Owns, Does, DoesAndCalls};
+ghost use Rattle.epoch_bags.specs.Jobs.{IsCalled};
+ghost use Rattle.epoch_handles.specs.Handles.{IsReady, IsSame, IsBetween, Owns, IsPausedBy, Does, DoesAndCalls};
 ghost use Rattle.epoch_handles.specs.Releases.{IsReleased};
 ghost use Rattle.epoch_machine.specs.declared.machine.Action.TheVariants.{Pin, Unpin, Repin, Defer, Flush, Release};
 
 use crate::collector::Collector;
 use crate::guard::Guard;
 use crate::local::Local;
+use crate::paused::Paused;
 use crate::released::Released;
 use epoch_bags::{Job, Run, Work};
 use epoch_cells::{Fault, Refused};
@@ -114,6 +115,39 @@ impl<'c, T, W> LocalHandle<'c, T, W> {
         }
     }
 
+    /// Unpins the participant until [`LocalHandle::resume`] pins it again under the same guard. No object that was
+    /// loaded under the guard before is protected any more. With more guards out the participant stays pinned.
+    ///
+    /// The handle can make every other call meanwhile: none is made under the guard, which the answer keeps.
+    #[inline]
+    pub fn pause(&mut self, guard: Guard<'c, T, W>) -> Paused<'c, T, W>
+        requires { Owns self.old guard }
+        ensures guard { result.guard ≡ guard.entry }
+        ensures own { IsPausedBy self.new result }
+        ensures same { IsSame self.old self.new }
+        ensures does { Does self.old Unpin self.new }
+        ensures ready { IsReady self.new }
+        ensures counted { self.new.machine.guards + 1 ≡ self.old.machine.guards }
+    {
+        Local::unpin(&mut self.local);
+        Paused { guard }
+    }
+
+    /// Whether this is a guard that this participant paused, as [`LocalHandle::owns`] tells of guards.
+    #[inline]
+    pub fn has_paused(&self, paused: &Paused<'_, T, W>) -> bool
+        ensures value { IsTrue result ↔ IsPausedBy self.now paused.now }
+        ensures ready { IsReady self.now }
+    {
+        if paused.guard.collector.id != self.local.collector.id {
+            return false;
+        }
+        let Some(position) = paused.guard.position else {
+            return false;
+        };
+        position == self.local.position
+    }
+
     /// Spends a guard of this handle. With the last one the participant isn't pinned any more.
     #[inline]
     pub fn unpin(&mut self, guard: Guard<'c, T, W>)
@@ -132,8 +166,8 @@ impl<'c, T, W> LocalHandle<'c, T, W> {
 }
 
 impl<'c, T: Drop, W: Run> LocalHandle<'c, T, W> {
-    /// Defers the job: it is called when nobody who is pinned now is pinned any more, by some participant's
-    /// collection. Under an unprotected guard it is called at once.
+    /// Defers the job: it is called, at the earliest, when nobody who is pinned now has stayed pinned, by some
+    /// participant's collection. Under an unprotected guard it is called at once.
     ///
     /// The job is kept in the held bag, which is sealed and put into a place first where it is full.
     /// `StrangerGuard`: the guard isn't one that this handle has out. `BagsFull`: each place was seen occupied.
@@ -144,8 +178,7 @@ impl<'c, T: Drop, W: Run> LocalHandle<'c, T, W> {
         ensures ready { IsReady self.new }
         ensures counted { self.new.machine.guards ≡ self.old.machine.guards }
         ensures unprotected { guard.now.position ≡ None → IsOk result × (self.new ≡ self.old) }
-        ensures at_once { guard.now.position ≡ None → IsCalled W.done job }
-        ensures tried { guard.now.position ≡ None → IsTried W.Removing.tried job }
+        ensures at_once { guard.now.position ≡ None → IsCalled W.done W.Removing.tried job }
         ensures stranger { IsSome guard.now.position → ¬ Owns self.old guard.now
             → IfErr result (λ refused. refused.fault ≡ StrangerGuard) × IsErr result × (self.new ≡ self.old) }
         ensures does { IsSome guard.now.position → Owns self.old guard.now
@@ -172,8 +205,7 @@ impl<'c, T: Drop, W: Run> LocalHandle<'c, T, W> {
     #[inline(never)]
     fn defer_unowned(&self, guard: &Guard<'_, T, W>, job: Job<W>) -> Result<(), Refused<Job<W>>>
         ensures unprotected { guard.now.position ≡ None → IsOk result }
-        ensures at_once { guard.now.position ≡ None → IsCalled W.done job }
-        ensures tried { guard.now.position ≡ None → IsTried W.Removing.tried job }
+        ensures at_once { guard.now.position ≡ None → IsCalled W.done W.Removing.tried job }
         ensures stranger { IsSome guard.now.position
             → IfErr result (λ refused. refused.fault ≡ StrangerGuard) × IsErr result }
         ensures handed_back { IfErr result (λ refused. refused.value ≡ job) }
@@ -228,7 +260,7 @@ impl<'c, T: Drop, W: Run> LocalHandle<'c, T, W> {
         ensures stranger { IsSome guard.now.position → ¬ Owns self.old guard.now
             → (result ≡ Err StrangerGuard) × (self.new ≡ self.old) }
         ensures does { Owns self.old guard.now → Does self.old Flush self.new }
-        ensures called { Owns self.old guard.now → DoesAndCalls W.done self.old Flush self.new }
+        ensures called { Owns self.old guard.now → DoesAndCalls W.done W.Removing.tried self.old Flush self.new }
         ensures full { Owns self.old guard.now → IsErr result
             → (result ≡ Err BagsFull) × (self.old.machine.held ≢ []) × (self.new.machine.held ≡ self.old.machine.held) }
         ensures empty { Owns self.old guard.now → IsOk result → self.new.machine.held ≡ [] }
@@ -250,6 +282,9 @@ impl<'c, T: Drop, W: Run> LocalHandle<'c, T, W> {
     /// Unpins the participant, calls `f`, and pins again, where this is its only guard: that counts as a pinning,
     /// and may collect. With more guards the participant stays pinned, and under an unprotected guard `f` alone is
     /// called. As `Guard::repin_after` of crossbeam-epoch.
+    ///
+    /// It is a [`LocalHandle::pause`], the call of `f`, and a [`LocalHandle::resume`]. A caller that has to know that
+    /// the participant is unpinned while its code runs makes these calls itself.
     pub fn repin_after<F: FnOnce() -> X, X>(&mut self, guard: &mut Guard<'c, T, W>, f: F) -> X
         requires guard { guard.old.position ≡ None ⊎ Owns self.old guard.old }
         requires f { F.pre f }
@@ -260,17 +295,37 @@ impl<'c, T: Drop, W: Run> LocalHandle<'c, T, W> {
         ensures counted { self.new.machine.guards ≡ self.old.machine.guards }
         ensures unprotected { guard.old.position ≡ None → self.new ≡ self.old }
         ensures does { IsSome guard.old.position → (between : _) × IsBetween self.old between
-            × Does self.old Unpin between × Does between Pin self.new × DoesAndCalls W.done between Pin self.new }
+            × Does self.old Unpin between × Does between Pin self.new
+            × DoesAndCalls W.done W.Removing.tried between Pin self.new }
     {
         if !guard.is_protecting() {
             let _ = &self.local;
             return f();
         }
         let _guards = self.local.machine.guards();
-        self.local.unpin();
+        let paused = self.pause(guard.taken());
         let answer = f();
-        self.local.pin_and_collect();
+        guard.give_back(self.resume(paused));
         answer
+    }
+
+    /// Pins the participant again under the guard that was paused, where it is the only one: that counts as a
+    /// pinning, and may collect. Answers the guard. With more guards the participant is pinned already.
+    #[inline]
+    pub fn resume(&mut self, paused: Paused<'c, T, W>) -> Guard<'c, T, W>
+        requires own { IsPausedBy self.old paused }
+        requires fits { self.old.machine.guards + 1 < 2 ^ 32 }
+        ensures guard { result ≡ paused.entry.guard }
+        ensures own { Owns self.new result }
+        ensures same { IsSame self.old self.new }
+        ensures does { Does self.old Pin self.new }
+        ensures called { DoesAndCalls W.done W.Removing.tried self.old Pin self.new }
+        ensures ready { IsReady self.new }
+        ensures counted { self.new.machine.guards ≡ self.old.machine.guards + 1 }
+    {
+        self.local.pin_and_collect();
+        let Paused { guard } = paused;
+        guard
     }
 
     /// Gives the position up: the participant pins, puts its held bag, if it has a job, unpins, and frees its
@@ -284,13 +339,13 @@ impl<'c, T: Drop, W: Run> LocalHandle<'c, T, W> {
         ensures full { IfErr result (λ back. back.1 ≡ BagsFull) }
         ensures same { IfErr result (λ back. IsSame self.entry back.0) }
         ensures does { IfErr result (λ back. Does self.entry Release back.0) }
-        ensures called { IfErr result (λ back. DoesAndCalls W.done self.entry Release back.0) }
+        ensures called { IfErr result (λ back. DoesAndCalls W.done W.Removing.tried self.entry Release back.0) }
         ensures ready { IfErr result (λ back. IsReady back.0) }
         ensures held { IfErr result
             (λ back. (self.entry.machine.held ≢ []) × (back.0.machine.held ≡ self.entry.machine.held)) }
         ensures counted { IfErr result (λ back. back.0.machine.guards ≡ 0) }
         ensures found { IfErr result (λ back. back.0.machine.full ≡ true) }
-        ensures frees { IfOk result (λ released. IsReleased W.done self.entry released.local) }
+        ensures frees { IfOk result (λ released. IsReleased W.done W.Removing.tried self.entry released.local) }
     {
         let LocalHandle { mut local } = self;
         let freed = local.release();
@@ -309,13 +364,13 @@ impl<'c, T: Drop, W: Run> LocalHandle<'c, T, W> {
         ensures full { IfErr result (λ back. back.1 ≡ BagsFull) }
         ensures same { IfErr result (λ back. IsSame self.entry back.0) }
         ensures does { IfErr result (λ back. Does self.entry Release back.0) }
-        ensures called { IfErr result (λ back. DoesAndCalls W.done self.entry Release back.0) }
+        ensures called { IfErr result (λ back. DoesAndCalls W.done W.Removing.tried self.entry Release back.0) }
         ensures ready { IfErr result (λ back. IsReady back.0) }
         ensures held { IfErr result
             (λ back. (self.entry.machine.held ≢ []) × (back.0.machine.held ≡ self.entry.machine.held)) }
         ensures counted { IfErr result (λ back. back.0.machine.guards ≡ 0) }
         ensures found { IfErr result (λ back. back.0.machine.full ≡ true) }
-        ensures frees { IsOk result → (last : _) × IsReleased W.done self.entry last }
+        ensures frees { IsOk result → (last : _) × IsReleased W.done W.Removing.tried self.entry last }
     {
         let LocalHandle { mut local } = self;
         if local.release() {
@@ -335,8 +390,7 @@ impl<'c, T: Drop, W: Run> LocalHandle<'c, T, W> {
         ensures ready { IsReady self.new }
         ensures counted { self.new.machine.guards ≡ self.old.machine.guards }
         ensures unprotected { guard.now.position ≡ None → IsOk result × (self.new ≡ self.old) }
-        ensures at_once { guard.now.position ≡ None → IsCalled W.done job }
-        ensures tried { guard.now.position ≡ None → IsTried W.Removing.tried job }
+        ensures at_once { guard.now.position ≡ None → IsCalled W.done W.Removing.tried job }
         ensures stranger { IsSome guard.now.position → ¬ Owns self.old guard.now
             → IfErr result (λ refused. refused.fault ≡ StrangerGuard) × IsErr result × (self.new ≡ self.old) }
         ensures does { IsSome guard.now.position → Owns self.old guard.now
@@ -361,7 +415,7 @@ impl<'c, T: Drop, W: Run> LocalHandle<'c, T, W> {
         ensures of { result.collector.now ≡ self.old.collector.now }
         ensures same { IsSame self.old self.new }
         ensures does { Does self.old Pin self.new }
-        ensures called { DoesAndCalls W.done self.old Pin self.new }
+        ensures called { DoesAndCalls W.done W.Removing.tried self.old Pin self.new }
         ensures ready { IsReady self.new }
         ensures counted { self.new.machine.guards ≡ self.old.machine.guards + 1 }
     {

@@ -8,6 +8,7 @@ mod handle;
 mod home;
 mod laws;
 mod local;
+mod paused;
 mod released;
 
 pub use collector::{Capacities, Collector};
@@ -16,4 +17,5 @@ pub use guard::{Guard, unprotected};
 pub use handle::LocalHandle;
 pub use home::{Home, home_of};
 pub use laws::{answers_are_found, expiries_are_seen, replies_are_found};
+pub use paused::Paused;
 pub use released::Released;

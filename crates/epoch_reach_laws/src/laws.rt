@@ -8,8 +8,8 @@ ghost use Rattle.epoch_reach_laws.specs.Removals.{CallsWhatWasDeferred};
 ghost use Rattle.epoch_laws.specs.Readings.{KeepsReadings, HasCellsToRead};
 ghost use Rattle.epoch_reach_laws.specs.Standing.{StandsOrDestroyed, given_of, LoadedStand};
 
-/// Where cells leave once and out of reach, no name that is loaded from a root, or from a field so loaded, under a
-/// guard still held and not repinned, names a destroyed cell.
+/// Where cells leave once and out of reach, and no field changes of a cell that has fallen out of reach, no name that
+/// is loaded from a root, or from a field so loaded, under a guard still held and not repinned, names a destroyed cell.
 pub fn every_run_keeps_reach()
     ensures { (s new : State) (log : List Entry) → IsFresh s → (run : Runs s log new) → LeavesOnce s log new run
         → KeepsLoaded (past_of s log new run) }
@@ -38,7 +38,8 @@ pub fn every_name_stands_or_is_destroyed()
         → StandsOrDestroyed (given_of s log new run) (past_of s log new run) new.heap }
 {}
 
-/// Where cells leave once and out of reach, each name that is loaded under a guard still held has its cell.
+/// Where cells leave once and out of reach, and no field changes of a cell that has fallen out of reach, each name that
+/// is loaded under a guard still held has its cell.
 pub fn every_loaded_name_stands()
     ensures { (s new : State) (log : List Entry) → IsFresh s → (run : Runs s log new) → LeavesOnce s log new run
         → LoadedStand (past_of s log new run) new.heap }

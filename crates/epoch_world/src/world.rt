@@ -176,8 +176,8 @@ impl<S: BagStore<Job = Deferral>> World<S> {
         // Each call takes at most as many bags as one collection may take, and calls at most the jobs of so many full
         // bags.
         ensures few { IfOk result (AlongSteps self.old steps.now (λ fresh log. CollectsFew fresh log self.new)) }
-        // Where cells leave once and out of reach, no name that is loaded under a guard still held is destroyed, and
-        // each such name has its cell.
+        // Where cells leave once and out of reach, and no field changes of a cell that has fallen out of reach, no name
+        // that is loaded under a guard still held is destroyed, and each such name has its cell.
         ensures reach { IfOk result (AlongSteps self.old steps.now
             (λ fresh log. (run : Runs fresh log self.new) → LeavesOnce fresh log self.new run
             → KeepsLoaded (past_of fresh log self.new run))) }
@@ -233,8 +233,8 @@ impl<S: BagStore<Job = Deferral>> World<S> {
         // Each call takes at most as many bags as one collection may take, and calls at most the jobs of so many full
         // bags.
         ensures few { IfOk result (AlongCall self.old participant call (λ fresh log. CollectsFew fresh log self.new)) }
-        // Where cells leave once and out of reach, no name that is loaded under a guard still held is destroyed, and
-        // each such name has its cell.
+        // Where cells leave once and out of reach, and no field changes of a cell that has fallen out of reach, no name
+        // that is loaded under a guard still held is destroyed, and each such name has its cell.
         ensures reach { IfOk result (AlongCall self.old participant call
             (λ fresh log. (run : Runs fresh log self.new) → LeavesOnce fresh log self.new run
             → KeepsLoaded (past_of fresh log self.new run))) }

@@ -2,7 +2,7 @@
 //! then what it has to answer.
 use crate::wants::{want, want_count};
 use epoch_base::{Called, Fault, Job, Name, Refused};
-use epoch_pin::{Capacities, Collector, Guard, LocalHandle};
+use epoch_pin::{Capacities, Collector, Guard, LocalHandle, Paused};
 use std::alloc::Global;
 use std::process::Abort;
 use std::sync::Arc;
@@ -58,6 +58,27 @@ pub(crate) fn repin<'c, T: Drop>(
     handle.repin(guard);
 }
 
+/// Pauses a guard of the handle.
+pub(crate) fn pause<'c, T: Drop>(
+    rt: &impl Abort,
+    handle: &mut LocalHandle<'c, T>,
+    guard: Guard<'c, T>,
+) -> Paused<'c, T> {
+    assert!(rt; handle.owns(&guard), "the guard is one of the handle");
+    handle.pause(guard)
+}
+
+/// Resumes a guard that the handle paused.
+pub(crate) fn resume<'c, T: Drop>(
+    rt: &impl Abort,
+    handle: &mut LocalHandle<'c, T>,
+    paused: Paused<'c, T>,
+) -> Guard<'c, T> {
+    assert!(rt; handle.has_paused(&paused), "the handle paused it");
+    assert!(rt; handle.can_pin(), "a further guard can be counted");
+    handle.resume(paused)
+}
+
 /// Pins and unpins.
 pub(crate) fn cycle<T: Drop>(rt: &impl Abort, handle: &mut LocalHandle<'_, T>) {
     let guard = pin(rt, handle);
@@ -107,6 +128,15 @@ pub(crate) fn release<T: Drop>(rt: &impl Abort, handle: LocalHandle<'_, T>) {
     assert!(rt; handle.guards_out() == 0, "each guard is spent");
     if let Err((_back, fault)) = handle.release() {
         panic!(rt; "{fault}");
+    }
+}
+
+/// Leaves by the handle, whose bag finds a place, and spends what is left of it.
+pub(crate) fn leave<T: Drop>(rt: &impl Abort, handle: LocalHandle<'_, T>) {
+    assert!(rt; handle.guards_out() == 0, "each guard is spent");
+    match handle.leave() {
+        Ok(released) => released.spend(),
+        Err((_back, fault)) => panic!(rt; "{fault}"),
     }
 }
 

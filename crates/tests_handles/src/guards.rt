@@ -1,4 +1,4 @@
-use crate::calls::{collector, end, let_go, pin, refuse, register, release, unpin};
+use crate::calls::{collector, end, leave, let_go, pin, refuse, register, release, unpin};
 use crate::wants::{want, want_true};
 use epoch_base::Fault;
 use epoch_pin::{Capacities, Collector, Guard, LocalHandle, unprotected};
@@ -171,6 +171,17 @@ fn a_protecting_guard_is_of_its_collector_and_is_not_let_go(rt: HostRuntime) -> 
     want(&rt, "protecting with no pin", guard.is_protecting(), false);
     want_true(&rt, "of no collector", guard.collector().is_none());
     let_go(&rt, guard);
+    end(&rt, collector, 0);
+    Ok(())
+}
+
+#[test]
+fn a_position_that_was_left_is_free_again(rt: HostRuntime) -> Result<(), Fail> {
+    let collector = collector::<u64>(&rt, rt.alloc(), Capacities::usual(1, 0, 1))?;
+    let first = register(&rt, &collector);
+    leave(&rt, first);
+    let second = register(&rt, &collector);
+    release(&rt, second);
     end(&rt, collector, 0);
     Ok(())
 }

@@ -1,6 +1,6 @@
 use crate::calls::{
-    collector, count, cycle, defer_all, defer_under_a_pin, end, flush, let_go, pin, register,
-    release, repin, round, rounds, unpin,
+    collector, count, cycle, defer_all, defer_under_a_pin, end, flush, let_go, pause, pin,
+    register, release, repin, resume, round, rounds, unpin,
 };
 use crate::jobs::counting_jobs;
 use crate::wants::{want, want_count};
@@ -226,6 +226,46 @@ fn a_repin_after_under_an_unprotected_guard_calls_alone(rt: HostRuntime) -> Resu
     want(&rt, "calls by the rounds between", called, (0, true));
     want(&rt, "the guards out", own.guards_out(), 1);
     let_go(&rt, none);
+    unpin(&rt, &mut own, guard);
+    three_rounds(&rt, "calls with no guard", &mut other, &calls, 1);
+    release(&rt, own);
+    release(&rt, other);
+    end(&rt, collector, 0);
+    Ok(())
+}
+
+#[test]
+fn a_paused_participant_holds_nobody_back(rt: HostRuntime) -> Result<(), Fail> {
+    let calls = count(rt.alloc())?;
+    let jobs = counting_jobs(rt.alloc(), 1, &calls, 1)?;
+    let collector = collector::<u64>(&rt, rt.alloc(), Capacities::usual(2, 0, 1))?;
+    let mut own = register(&rt, &collector);
+    let mut other = register(&rt, &collector);
+    let guard = hold_back(&rt, &mut own, &mut other, jobs);
+    three_rounds(&rt, "calls held back", &mut other, &calls, 0);
+    let paused = pause(&rt, &mut own, guard);
+    three_rounds(&rt, "calls behind the pause", &mut other, &calls, 1);
+    let guard = resume(&rt, &mut own, paused);
+    unpin(&rt, &mut own, guard);
+    release(&rt, own);
+    release(&rt, other);
+    end(&rt, collector, 0);
+    Ok(())
+}
+
+#[test]
+fn a_resumed_guard_holds_back_what_is_deferred_behind_it(rt: HostRuntime) -> Result<(), Fail> {
+    let calls = count(rt.alloc())?;
+    let jobs = counting_jobs(rt.alloc(), 1, &calls, 1)?;
+    let collector = collector::<u64>(&rt, rt.alloc(), Capacities::usual(2, 0, 1))?;
+    let mut own = register(&rt, &collector);
+    let mut other = register(&rt, &collector);
+    let guard = pin(&rt, &mut own);
+    let paused = pause(&rt, &mut own, guard);
+    let guard = resume(&rt, &mut own, paused);
+    want_one_guard(&rt, &own);
+    defer_under_a_pin(&rt, &mut other, jobs);
+    three_rounds(&rt, "calls held back", &mut other, &calls, 0);
     unpin(&rt, &mut own, guard);
     three_rounds(&rt, "calls with no guard", &mut other, &calls, 1);
     release(&rt, own);

@@ -38,9 +38,9 @@ pub trait DestroyNow<T> {
 
 /// What a [`LocalHandle`] does with a pointer's value.
 pub trait DeferDestroy<T, W> {
-    /// Defers the removal of the value that the pointer names: it is destroyed when nobody who is pinned now is
-    /// pinned any more, by some participant's collection, unless it is read or written then. Under an unprotected
-    /// guard that is done at once.
+    /// Defers the removal of the value that the pointer names: it is destroyed, at the earliest, when nobody who is
+    /// pinned now has stayed pinned, by some participant's collection, unless it is read or written then. Under an
+    /// unprotected guard that is done at once.
     ///
     /// The removal is kept as the job of [`LocalHandle::defer`] is. `StrangerGuard`: the guard isn't one that this
     /// handle has out. `StrangerPointer`: the pointer is null, whatever its tag is, or was got under a guard of

@@ -2,6 +2,7 @@
 ghost use Rattle.std.specs.Prelude.{◌≡◌, ◌≢◌, ◌+◌, ◌*◌, ◌/◌, ◌%◌, ◌<◌, ◌≤◌, IsSomeAnd, IfSome, IfOk, IfErr, []};
 ghost use Rattle.std.specs.Borrow.{Lends, sem};
 ghost use mir.Syntax.{named};
+ghost use Rattle.epoch_cells.specs.declared.cells.name.Name.{Name};
 ghost use Rattle.counted_slot.specs.Counting.{readers, IsTurn, Gains};
 
 use crate::cells::name::Name;
@@ -53,6 +54,36 @@ impl<T> Fits for Held<T> {
 
 /// A slot: `None` stands where it has no value. In a clause it is its number.
 pub type Slot<T> = Counted<Option<Held<T>>>;
+
+/// How a value is put into the slot that was claimed for it.
+pub trait Puts<T> {
+    /// That the value was put into a slot beside this name. Where the type is a parameter, nothing but `put` shows it.
+    ghost placed: { T → Name → Type 0 };
+
+    /// Puts the value and its name into the claimed slot, whose word is this one from then on.
+    fn put(claim: Claim<'_, Option<Held<T>>>, held: Held<T>, word: u64)
+        requires claimed { claim.right ≡ 2 }
+        requires word { (word % 4 < 3) × (readers word ≡ 0) }
+        requires fits { held.name.slot ≡ claim.tag }
+        ensures placed { placed held.value.value held.name };
+}
+
+/// Values are put into the slots themselves: the one way that there is. No value of it is made.
+pub struct IntoSlots;
+
+impl<T: Drop> Puts<T> for IntoSlots {
+    ghost placed = { λ _ _. Unit {0} };
+
+    #[inline(always)]
+    fn put(claim: Claim<'_, Option<Held<T>>>, held: Held<T>, word: u64)
+        requires claimed { claim.right ≡ 2 }
+        requires word { (word % 4 < 3) × (readers word ≡ 0) }
+        requires fits { held.name.slot ≡ claim.tag }
+        ensures placed { Unit {0} }
+    {
+        let _ = claim.put(Some(held), word);
+    }
+}
 
 /// Why a try to claim a cell gave nothing.
 #[derive(Clone, Copy, PartialEq, Eq)]
@@ -177,7 +208,7 @@ pub fn is_free<T>(slot: &Slot<T>) -> bool {
 
 /// One try to place the value in the slot of this number, at the slot's turn.
 #[inline(always)]
-pub fn try_place<T: Drop>(
+pub fn try_place<T: Drop, P: Puts<T>>(
     slot: &Slot<T>,
     number: u32,
     value: Box<T>,
@@ -186,6 +217,7 @@ pub fn try_place<T: Drop>(
     requires within { number ≤ 16777215 }
     requires numbered { slot.now ≡ number }
     ensures ok { IfOk result (λ name. name.slot ≡ number) }
+    ensures placed { IfOk result (λ name. P.placed value.value name) }
     ensures handed_back { IfErr result (λ back. back.1 ≡ value) }
 {
     let seen = slot.load();
@@ -199,7 +231,7 @@ pub fn try_place<T: Drop>(
         return Err((Miss::Lost, value));
     }
     let name = Name::at(number, turn);
-    let _ = claim.put(Some(Held { name, value }), word_of(turn, PRESENT));
+    P::put(claim, Held { name, value }, word_of(turn, PRESENT));
     Ok(name)
 }
 

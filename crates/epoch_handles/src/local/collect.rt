@@ -48,7 +48,7 @@ impl<'c, T: Drop, W: Run> Local<'c, T, W> {
         ensures only { self.new ≡ record self.old { machine = self.new.machine } }
         ensures calls { (expiry taken : ℕ)
             → self.old.machine.stage ≡ after_job self.old.machine expiry taken self.old.machine.hand
-            → CallsHand W.done self.old expiry taken self.new }
+            → CallsHand W.done W.Removing.tried self.old expiry taken self.new }
     {
         while let Some(job) = self.machine.give() {
             let _ = job.call(&self.collector.cells);
@@ -65,7 +65,7 @@ impl<'c, T: Drop, W: Run> Local<'c, T, W> {
         requires rests { RestsAt self.old.claimer.me }
         requires takes { self.old.machine.stage ≡ Take expiry 0 }
         requires within { expiry < 2 ^ 63 }
-        ensures { HasTaken W.done self.old expiry result self.new }
+        ensures { HasTaken W.done W.Removing.tried self.old expiry result self.new }
     {
         let last = self.collector.places.capacity() - 1;
         for place in 0..last {
@@ -85,7 +85,7 @@ impl<'c, T: Drop, W: Run> Local<'c, T, W> {
         requires rests { RestsAt self.old.claimer.me }
         requires takes { self.old.machine.stage ≡ Take expiry 0 }
         requires within { expiry < 2 ^ 63 }
-        ensures { TakesBags W.done self.old self.new }
+        ensures { TakesBags W.done W.Removing.tried self.old self.new }
     {
         let mut cursor = self.pass_places(expiry);
         'bags: loop {
@@ -111,7 +111,7 @@ impl<'c, T: Drop, W: Run> Local<'c, T, W> {
         requires rests { RestsAt self.old.claimer.me }
         requires pinned { IsPinned self.old.seat.me.0 }
         requires begins { self.old.machine.stage ≡ LoadScan }
-        ensures { Collects W.done self.old self.new }
+        ensures { Collects W.done W.Removing.tried self.old self.new }
     {
         let expiry = self.scan();
         self.take_bags(expiry);

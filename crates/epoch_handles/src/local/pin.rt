@@ -121,7 +121,7 @@ impl<'c, T: Drop, W: Run> Local<'c, T, W> {
         requires fits { self.old.machine.guards + 1 < 2 ^ 32 }
         ensures same { IsSame self.old self.new }
         ensures does { Does self.old Pin self.new }
-        ensures called { DoesAndCalls W.done self.old Pin self.new }
+        ensures called { DoesAndCalls W.done W.Removing.tried self.old Pin self.new }
         ensures ready { IsReady self.new }
         ensures counted { self.new.machine.guards ≡ self.old.machine.guards + 1 }
     {

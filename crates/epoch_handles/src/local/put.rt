@@ -85,7 +85,7 @@ impl<'c, T: Drop, W: Run> Local<'c, T, W> {
         requires out { 0 < self.old.machine.guards }
         ensures same { IsSame self.old self.new }
         ensures does { Does self.old Flush self.new }
-        ensures called { DoesAndCalls W.done self.old Flush self.new }
+        ensures called { DoesAndCalls W.done W.Removing.tried self.old Flush self.new }
         ensures ready { IsReady self.new }
         ensures counted { self.new.machine.guards ≡ self.old.machine.guards }
         ensures full { result ≡ true → (self.old.machine.held ≢ []) × (self.new.machine.held ≡ self.old.machine.held) }

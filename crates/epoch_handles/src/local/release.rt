@@ -36,13 +36,13 @@ impl<'c, T: Drop, W: Run> Local<'c, T, W> {
         ensures same { IsSame self.old self.new }
         // where it is refused: the action is over, the participant not pinned, and the bag held as before
         ensures does { result ≡ false → Does self.old Release self.new }
-        ensures called { result ≡ false → DoesAndCalls W.done self.old Release self.new }
+        ensures called { result ≡ false → DoesAndCalls W.done W.Removing.tried self.old Release self.new }
         ensures ready { result ≡ false → IsReady self.new }
         ensures held { result ≡ false → (self.old.machine.held ≢ []) × (self.new.machine.held ≡ self.old.machine.held) }
         ensures counted { result ≡ false → self.new.machine.guards ≡ 0 }
         ensures found { result ≡ false → self.new.machine.full ≡ true }
         // where it is accepted: the held bag is whole in a place, and the machine was driven to the store of 0
-        ensures frees { result ≡ true → IsReleased W.done self.old self.new }
+        ensures frees { result ≡ true → IsReleased W.done W.Removing.tried self.old self.new }
     {
         self.pin_to_leave();
         self.leave()
@@ -52,7 +52,7 @@ impl<'c, T: Drop, W: Run> Local<'c, T, W> {
     fn pin_to_leave(&mut self)
         requires ready { IsReady self.old }
         requires none { self.old.machine.guards ≡ 0 }
-        ensures leaving { IsLeaving W.done self.old self.new }
+        ensures leaving { IsLeaving W.done W.Removing.tried self.old self.new }
         ensures begins { self.new.machine.stage ≡ after_collect Release self.new.machine.held }
     {
         let epoch = self.pin_steps();
@@ -71,8 +71,8 @@ impl<'c, T: Drop, W: Run> Local<'c, T, W> {
         requires action { self.old.machine.action ≡ Release }
         requires room { self.old.machine.full ≡ false }
         requires none { self.old.machine.guards ≡ 0 }
-        ensures refused { result ≡ false → IsRefused W.done self.old self.new }
-        ensures freed { result ≡ true → IsFreed W.done self.old self.new }
+        ensures refused { result ≡ false → IsRefused W.done W.Removing.tried self.old self.new }
+        ensures freed { result ≡ true → IsFreed W.done W.Removing.tried self.old self.new }
     {
         if self.machine.holds_none() {
             self.leave_for_good();
@@ -95,7 +95,7 @@ impl<'c, T: Drop, W: Run> Local<'c, T, W> {
         requires action { self.old.machine.action ≡ Release }
         requires room { self.old.machine.full ≡ false }
         requires none { self.old.machine.held ≡ [] }
-        ensures freed { IsFreed W.done self.old self.new }
+        ensures freed { IsFreed W.done W.Removing.tried self.old self.new }
         ensures kept { self.new.claimer ≡ self.old.claimer }
     {
         self.store_unpinned();
@@ -113,7 +113,7 @@ impl<'c, T: Drop, W: Run> Local<'c, T, W> {
         requires full { self.old.machine.full ≡ true }
         requires held { self.old.machine.held ≢ [] }
         requires none { self.old.machine.guards ≡ 0 }
-        ensures { IsRefused W.done self.old self.new }
+        ensures { IsRefused W.done W.Removing.tried self.old self.new }
     {
         self.store_unpinned();
         self.machine.take(Answer::Stored);

@@ -4,7 +4,8 @@ use Rattle.epoch_handles.specs.Ends.{IsBagCalled}
 use Rattle.epoch_handles.proofs.end.end_bag.Given as goal
 
 abbrev pub invariant-loop : goal.invariant-loop
-invariant-loop g l = All (IsCalled g.W.Run.done) l.bag.jobs → IsBagCalled (IsCalled g.W.Run.done) l.fn.place
+invariant-loop g l = All (IsCalled g.W.Run.done g.W.Removing.Remove.tried) l.bag.jobs → IsBagCalled
+    (IsCalled g.W.Run.done g.W.Removing.Remove.tried) l.fn.place
 
 abbrev pub decreases-loop : goal.decreases-loop
 decreases-loop g l = length l.bag.jobs

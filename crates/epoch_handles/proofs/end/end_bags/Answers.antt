@@ -18,7 +18,7 @@ loop-place-preserved g c =
       count = grind (arith, common_steps);
       few = omega arith;
       called = λ k less. elim (eqb_tells k at) [
-        | inl same ↦ subst (λ z. IsBagCalled (IsCalled g.W.Run.done) z)
+        | inl same ↦ subst (λ z. IsBagCalled (IsCalled g.W.Run.done g.W.Removing.Remove.tried) z)
             (get_or_default bags at _ None within ∙ inv.left at (omega arith)
             ∙ ap (λ (z : ℕ). slice_index_or c.args.bags.now z None) (sym same.1)) c.end_bag-count.ensures.called
         | inr other ↦ let differs : k ≢ at = other.1 in inv.called k (omega arith)

@@ -20,7 +20,7 @@ loop-taken-preserved g c =
       of = one.kept.0 ∙ inv.of;
       rests = one.rests;
       few = omega arith;
-      called = ends_on g.W.Run.done c.args.places.now.capacity c.args.seat.now.me.0 c.loop-taken.seat.me.0
+      called = ends_on _ _ c.args.places.now.capacity c.args.seat.now.me.0 c.loop-taken.seat.me.0
           c.end_one-count.new.seat.me.0
           c.loop-taken.taken 1 c.loop-taken.count c.end_one-count.result inv.called one.called;
     }
@@ -29,5 +29,6 @@ loop-taken-preserved g c =
 pub returns : goal.returns
 returns g c =
     let all : c.loop-taken.taken ≡ c.args.places.now.capacity = omega arith in
-    subst (λ (tries : ℕ). CallsEach g.W.Run.done c.args.places.now.capacity c.args.seat.now.me.0 c.loop-taken.seat.me.0
+    subst (λ (tries : ℕ). CallsEach g.W.Run.done g.W.Removing.Remove.tried c.args.places.now.capacity
+    c.args.seat.now.me.0 c.loop-taken.seat.me.0
     tries c.loop-taken.count) all c.loop-taken.invariant.called

@@ -9,5 +9,6 @@ invariant-loop-taken g l = record {
   of : IsPlaceSeatOf l.places l.seat;
   rests : RestsAt l.seat.me;
   few : l.count ≤ 64 * l.taken;
-  called : CallsEach g.W.Run.done l.places.capacity l.fn.seat.me.0 l.seat.me.0 l.taken l.count;
+  called : CallsEach g.W.Run.done g.W.Removing.Remove.tried l.places.capacity l.fn.seat.me.0 l.seat.me.0 l.taken
+      l.count;
 }

@@ -36,10 +36,6 @@ pub returns-then-has_room-clause-at_once : goal.returns-then-has_room-clause-at_
 returns-then-has_room-clause-at_once g c = λ none.
     absurd (none_is_not_some none (c.owns.ensures.value.0 c.if-not-owns.false).position)
 
-pub returns-then-has_room-clause-tried : goal.returns-then-has_room-clause-tried
-returns-then-has_room-clause-tried g c = λ none.
-    absurd (none_is_not_some none (c.owns.ensures.value.0 c.if-not-owns.false).position)
-
 pub keep_at_once-requires : goal.keep_at_once-requires
 keep_at_once-requires g c = (
   omega arith,
@@ -84,6 +80,3 @@ returns-clause-kept g c = λ _ ok. inr (c.defer_with_full_bag.ensures.kept ok)
 pub returns-clause-at_once : goal.returns-clause-at_once
 returns-clause-at_once g c =
     λ none. absurd (none_is_not_some none (c.owns.ensures.value.0 c.if-not-owns.false).position)
-
-pub returns-clause-tried : goal.returns-clause-tried
-returns-clause-tried g c = λ none. absurd (none_is_not_some none (c.owns.ensures.value.0 c.if-not-owns.false).position)

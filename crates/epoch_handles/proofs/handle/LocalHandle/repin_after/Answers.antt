@@ -1,4 +1,4 @@
-use Rattle.std.proofs.Common.{arith, ◌≡◌, Option, None, IsSome, subst, ⊎_elim}
+use Rattle.std.proofs.Common.{arith, ◌≡◌, Option, None, IsSome, sym, subst, ⊎_elim}
 use Rattle.std.proofs.lemmas.Bool.{false≢true}
 use Rattle.epoch_handles.specs.Handles.{Owns}
 use Rattle.epoch_handles.proofs.Tests.{not_both}
@@ -12,19 +12,9 @@ pub returns-then-not-is_protecting-clause-does : goal.returns-then-not-is_protec
 returns-then-not-is_protecting-clause-does g c =
     λ some. absurd (not_both c.if-not-is_protecting.true (c.is_protecting.ensures.1 some))
 
--- a guard that protects is this handle's, so one is out
-pub unpin-requires : goal.unpin-requires
-unpin-requires g c =
+-- a guard that protects is this handle's
+pub pause-paused-requires : goal.pause-paused-requires
+pause-paused-requires g c =
     let own : Owns c.args.self.now c.args.guard.now = ⊎_elim (λ none. absurd (none_is_not_some none
     (c.is_protecting.ensures.0 c.if-not-is_protecting.false))) (λ owns. owns) c.requires.guard in
-    (omega arith, (c.self.invariant, rw c.self.view_is own.out))
-
-pub returns-clause-does : goal.returns-clause-does
-returns-clause-does g c = λ _. (
-  c.unpin.new.self,
-  rw (← c.self.view_is)
-      record { same = c.unpin.ensures.same; ready = c.unpin.ensures.ready; counted = c.unpin.ensures.counted },
-  rw (← c.self.view_is) c.unpin.ensures.does,
-  c.pin_and_collect.ensures.does,
-  c.pin_and_collect.ensures.called,
-)
+    (omega arith, subst (λ z. Owns c.args.self.now z) (sym c.taken.ensures.taken) own)

@@ -7,7 +7,7 @@ abbrev pub invariant-loop-job : goal.invariant-loop-job
 invariant-loop-job g l = record {
   only : l.self ≡ record l.fn.self { machine = l.self.machine };
   called : (x k : ℕ) → l.fn.self.machine.stage ≡ after_job l.fn.self.machine x k l.fn.self.machine.hand
-      → HasCalled g.W.Run.done l.fn.self x k l.self;
+      → HasCalled g.W.Run.done g.W.Removing.Remove.tried l.fn.self x k l.self;
 }
 
 abbrev pub decreases-loop-job : goal.decreases-loop-job

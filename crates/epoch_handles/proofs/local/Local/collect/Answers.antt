@@ -19,5 +19,5 @@ take_bags-requires g c =
     )
 
 pub returns : goal.returns
-returns g c = collected g.W.Run.done c.args.self.now c.scan-expiry.new.self c.take_bags.new.self c.scan-expiry.result
+returns g c = collected _ _ c.args.self.now c.scan-expiry.new.self c.take_bags.new.self c.scan-expiry.result
     c.scan-expiry.ensures.scans c.take_bags.ensures

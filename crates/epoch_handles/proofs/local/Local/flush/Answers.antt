@@ -23,7 +23,7 @@ end_uncounted-requires g c =
     let h = c.args.self.now in let o = c.collect.new.self in
     let comes = scan_begins h c.begin.new.self c.requires.ready c.begin.ensures
     (sym c.holds_none-none.ensures ∙ c.if-none.true) in
-    let flushed = collection_ends g.W.Run.done h (record h { machine = c.begin.new.self }) o comes c.collect.ensures in
+    let flushed = collection_ends _ _ h (record h { machine = c.begin.new.self }) o comes c.collect.ensures in
     (omega arith, (flushed.ends, none_counted o.machine flushed.flushes.action))
 
 pub returns-then-none-clause-called : goal.returns-then-none-clause-called
@@ -31,7 +31,7 @@ returns-then-none-clause-called g c =
     let h = c.args.self.now in let o = c.collect.new.self in
     let comes = scan_begins h c.begin.new.self c.requires.ready c.begin.ensures
     (sym c.holds_none-none.ensures ∙ c.if-none.true) in
-    flush_does g.W.Run.done h o c.end_uncounted.new.self (collection_ends g.W.Run.done h
+    flush_does _ _ h o c.end_uncounted.new.self (collection_ends _ _ h
     (record h { machine = c.begin.new.self }) o comes c.collect.ensures) c.end_uncounted.ensures
 
 pub returns-then-none-clause-ready : goal.returns-then-none-clause-ready
@@ -39,7 +39,7 @@ returns-then-none-clause-ready g c =
     let h = c.args.self.now in let o = c.collect.new.self in
     let comes = scan_begins h c.begin.new.self c.requires.ready c.begin.ensures
     (sym c.holds_none-none.ensures ∙ c.if-none.true) in
-    flush_ready g.W.Run.done h o c.end_uncounted.new.self c.requires.ready c.requires.out (collection_ends g.W.Run.done
+    flush_ready _ _ h o c.end_uncounted.new.self c.requires.ready c.requires.out (collection_ends _ _
     h (record h { machine = c.begin.new.self }) o comes c.collect.ensures) c.end_uncounted.ensures
 
 -- nothing was put
@@ -77,7 +77,7 @@ collect-requires-2 g c =
 pub end_uncounted-requires-2 : goal.end_uncounted-requires-2
 end_uncounted-requires-2 g c =
     let h = c.args.self.now in let n = c.put.new.self in let o = c.collect-2.new.self in
-    let flushed = collection_ends g.W.Run.done h n o
+    let flushed = collection_ends _ _ h n o
     (put_before_scan h n c.begin.new.self c.begin.ensures c.put.ensures) c.collect-2.ensures in
     (omega arith, (flushed.ends, none_counted o.machine flushed.flushes.action))
 
@@ -87,19 +87,21 @@ found_full-requires g c = omega arith
 pub returns-clause-called : goal.returns-clause-called
 returns-clause-called g c =
     let h = c.args.self.now in let n = c.put.new.self in let o = c.collect-2.new.self in
-    flush_does g.W.Run.done h o c.end_uncounted-2.new.self (collection_ends g.W.Run.done h n o
+    flush_does _ _ h o c.end_uncounted-2.new.self (collection_ends _ _ h n o
     (put_before_scan h n c.begin.new.self c.begin.ensures c.put.ensures) c.collect-2.ensures) c.end_uncounted-2.ensures
 
 pub returns-clause-ready : goal.returns-clause-ready
 returns-clause-ready g c =
     let h = c.args.self.now in let n = c.put.new.self in let o = c.collect-2.new.self in
-    flush_ready g.W.Run.done h o c.end_uncounted-2.new.self c.requires.ready c.requires.out
-    (collection_ends g.W.Run.done h n o
+    flush_ready _ _ h o c.end_uncounted-2.new.self c.requires.ready c.requires.out
+    (collection_ends _ _ h n o
     (put_before_scan h n c.begin.new.self c.begin.ensures c.put.ensures) c.collect-2.ensures) c.end_uncounted-2.ensures
 
 -- whichever jobs were called
 pub returns-then-none-clause-does : goal.returns-then-none-clause-does
-returns-then-none-clause-does g c = ends_with_any (IsCalled g.W.Run.done) _ _ (returns-then-none-clause-called g c)
+returns-then-none-clause-does g c = ends_with_any (IsCalled g.W.Run.done g.W.Removing.Remove.tried) _ _
+    (returns-then-none-clause-called g c)
 
 pub returns-clause-does : goal.returns-clause-does
-returns-clause-does g c = ends_with_any (IsCalled g.W.Run.done) _ _ (returns-clause-called g c)
+returns-clause-does g c = ends_with_any (IsCalled g.W.Run.done g.W.Removing.Remove.tried) _ _
+    (returns-clause-called g c)

@@ -42,8 +42,9 @@ pub returns-then-found_full-clause-refused : goal.returns-then-found_full-clause
 returns-then-found_full-clause-refused g c = λ _.
     let h = c.args.self.now in let n = c.put.new.self in let puts = c.put.ensures in
     let is = was_full h.machine n.machine puts.machine (sym c.found_full.ensures ∙ c.if-found_full.true) in
-    refused_behind g.W.Run.done h n c.stay.new.self puts.same (ap (λ (z : Machine (Job g.row.W.Denot)). z.held) is)
-    (drives_of (IsCalled g.W.Run.done) h.collector.now.places.capacity h.machine n.machine (sight_of h)
+    refused_behind _ _ h n c.stay.new.self puts.same (ap (λ (z : Machine (Job g.row.W.Denot)). z.held) is)
+    (drives_of (IsCalled g.W.Run.done g.W.Removing.Remove.tried) h.collector.now.places.capacity h.machine n.machine
+    (sight_of h)
     (sight_of n) puts.drives) c.stay.ensures
 
 -- the bag is in a place
@@ -69,8 +70,8 @@ pub returns-clause-freed : goal.returns-clause-freed
 returns-clause-freed g c = λ _.
     let h = c.args.self.now in let n = c.put.new.self in let puts = c.put.ensures in
     let is = was_put h.machine n.machine puts.machine (sym c.found_full.ensures ∙ c.if-found_full.false) in
-    freed_behind g.W.Run.done h n c.leave_for_good-2.new.self puts.same
-    (ap (λ (z : Machine (Job g.row.W.Denot)). z.sizes) is) (drives_of (IsCalled g.W.Run.done)
+    freed_behind _ _ h n c.leave_for_good-2.new.self puts.same
+    (ap (λ (z : Machine (Job g.row.W.Denot)). z.sizes) is) (drives_of (IsCalled g.W.Run.done g.W.Removing.Remove.tried)
     h.collector.now.places.capacity h.machine n.machine (sight_of h) (sight_of n) puts.drives)
     (λ _. left_still h.machine.held n c.leave_for_good-2.new.self c.leave_for_good-2.ensures.kept
     (puts.whole (sym c.found_full.ensures ∙ c.if-found_full.false)))

@@ -7,7 +7,7 @@ use Rattle.epoch_handles.proofs.Tests.{not_both}
 use Rattle.epoch_handles.proofs.local.Local.pass_places.Goals as goal
 
 pub loop-place-init : goal.loop-place-init
-loop-place-init g c = take_begins g.W.Run.done c.args.self.now c.args.expiry
+loop-place-init g c = take_begins _ _ c.args.self.now c.args.expiry
     (Look 0) c.requires.takes c.requires.places_of refl (omega arith, c.requires.rests)
 
 -- the word of an expired bag: its place is claimed next
@@ -20,7 +20,7 @@ returns-then-is_expired_word g c =
     let tested = c.is_expired_word.ensures.0 c.if-is_expired_word.true in
     let expired = subst (λ x. IsExpiredWord x found) c.new.ensures.number
     (expired_word c.new.result.number found tested.0 tested.1) in
-    look_finds g.W.Run.done h n c.args.expiry c.loop-place.place found c.look-word.new.seat taken (omega arith)
+    look_finds _ _ h n c.args.expiry c.loop-place.place found c.look-word.new.seat taken (omega arith)
     (c.look-word.ensures.kept.0 ∙ taken.claimer) c.look-word.ensures.view expired
 
 pub loop-place-preserved : goal.loop-place-preserved
@@ -29,7 +29,7 @@ loop-place-preserved g c =
     let n = c.loop-place.self in
     let taken = c.loop-place.invariant in
     let found = c.look-word.result in
-    look_passes g.W.Run.done h n c.args.expiry c.loop-place.place found c.look-word.new.seat taken (omega arith)
+    look_passes _ _ h n c.args.expiry c.loop-place.place found c.look-word.new.seat taken (omega arith)
     (c.look-word.ensures.kept.0 ∙ taken.claimer) c.look-word.ensures.view
     (λ expired. not_both c.if-is_expired_word.false (c.is_expired_word.ensures.1 (test_word c.new.result.number found
     (subst (λ x. IsExpiredWord x found) (sym c.new.ensures.number) expired))))

@@ -19,7 +19,8 @@ stage_is_end m a held at is = at ∙ ap (λ (z : Action). after_collect z held) 
 
 pub returns-then-not-pin-clause-called : goal.returns-then-not-pin-clause-called
 returns-then-not-pin-clause-called g c =
-    ends_with_none (IsCalled g.W.Run.done) _ c.pin.new.self (c.pin.ensures.ends c.if-not-pin.true)
+    ends_with_none (IsCalled g.W.Run.done g.W.Removing.Remove.tried) _ c.pin.new.self
+    (c.pin.ensures.ends c.if-not-pin.true)
 
 pub returns-then-not-pin-clause-counted : goal.returns-then-not-pin-clause-counted
 returns-then-not-pin-clause-counted g c = c.pin.ensures.counted c.if-not-pin.true
@@ -59,11 +60,13 @@ returns-clause-called g c =
       over = stage_is_end o.machine n.machine.action n.machine.held
           (ap (λ (z : Machine (Job g.row.W.Denot)). z.stage) is) left.1;
       machine = c.end.ensures;
-      drives = drives_on (IsCalled g.W.Run.done) h.collector.now.places.capacity
+      drives = drives_on (IsCalled g.W.Run.done g.W.Removing.Remove.tried) h.collector.now.places.capacity
           (begun Pin h.machine) n.machine o.machine (sight_of h) (sight_of n) (sight_of o)
-          (drives_of (IsCalled g.W.Run.done) h.collector.now.places.capacity (begun Pin h.machine) n.machine
+          (drives_of (IsCalled g.W.Run.done g.W.Removing.Remove.tried) h.collector.now.places.capacity
+          (begun Pin h.machine) n.machine
           (sight_of h) (sight_of n) (told.drives collects))
-          (subst (λ z. Drives (IsCalled g.W.Run.done) z.now.places.capacity n.machine (sight_of n) o.machine
+          (subst (λ z. Drives (IsCalled g.W.Run.done g.W.Removing.Remove.tried) z.now.places.capacity n.machine
+          (sight_of n) o.machine
           (sight_of o)) told.same.collector c.collect.ensures.calls);
     }
 
@@ -96,7 +99,8 @@ returns-clause-ready g c =
 
 pub returns-then-not-pin-clause-does : goal.returns-then-not-pin-clause-does
 returns-then-not-pin-clause-does g c =
-    ends_with_any (IsCalled g.W.Run.done) _ _ (returns-then-not-pin-clause-called g c)
+    ends_with_any (IsCalled g.W.Run.done g.W.Removing.Remove.tried) _ _ (returns-then-not-pin-clause-called g c)
 
 pub returns-clause-does : goal.returns-clause-does
-returns-clause-does g c = ends_with_any (IsCalled g.W.Run.done) _ _ (returns-clause-called g c)
+returns-clause-does g c = ends_with_any (IsCalled g.W.Run.done g.W.Removing.Remove.tried) _ _
+    (returns-clause-called g c)

@@ -7,7 +7,7 @@ use Rattle.epoch_handles.proofs.local.Local.pin_to_leave.Goals as goal
 
 -- no collection follows the pin
 pub returns-then-not-release_pinned-clause-leaving : goal.returns-then-not-release_pinned-clause-leaving
-returns-then-not-release_pinned-clause-leaving g c = release_pins g.W.Run.done c.args.self.now
+returns-then-not-release_pinned-clause-leaving g c = release_pins _ _ c.args.self.now
     c.pin_steps-epoch.new.self c.pin_steps-epoch.result c.release_pinned.new.self
     c.requires.ready c.requires.none c.pin_steps-epoch.ensures.steps c.release_pinned.ensures.after
 
@@ -20,8 +20,8 @@ returns-then-not-release_pinned-clause-begins g c =
 
 pub collect-requires : goal.collect-requires
 collect-requires g c =
-    let pins = release_pins g.W.Run.done c.args.self.now c.pin_steps-epoch.new.self c.pin_steps-epoch.result
-    c.release_pinned.new.self
+    let pins = release_pins g.W.Run.done g.W.Removing.Remove.tried c.args.self.now c.pin_steps-epoch.new.self
+    c.pin_steps-epoch.result c.release_pinned.new.self
     c.requires.ready c.requires.none c.pin_steps-epoch.ensures.steps c.release_pinned.ensures.after in (
       omega arith,
       (pins.seated, (pins.rests, (pins.pinned, c.release_pinned.ensures.scans c.if-not-release_pinned.false))),
@@ -29,18 +29,18 @@ collect-requires g c =
 
 pub returns-clause-leaving : goal.returns-clause-leaving
 returns-clause-leaving g c =
-    release_collects g.W.Run.done c.args.self.now
+    release_collects _ _ c.args.self.now
     (record c.pin_steps-epoch.new.self { machine = c.release_pinned.new.self }) c.collect.new.self
-    (release_pins g.W.Run.done c.args.self.now c.pin_steps-epoch.new.self c.pin_steps-epoch.result
+    (release_pins _ _ c.args.self.now c.pin_steps-epoch.new.self c.pin_steps-epoch.result
     c.release_pinned.new.self
     c.requires.ready c.requires.none c.pin_steps-epoch.ensures.steps c.release_pinned.ensures.after)
     c.collect.ensures
 
 pub returns-clause-begins : goal.returns-clause-begins
 returns-clause-begins g c =
-    collected_to_leave g.W.Run.done c.args.self.now
+    collected_to_leave _ _ c.args.self.now
     (record c.pin_steps-epoch.new.self { machine = c.release_pinned.new.self }) c.collect.new.self
-    (release_pins g.W.Run.done c.args.self.now c.pin_steps-epoch.new.self c.pin_steps-epoch.result
+    (release_pins _ _ c.args.self.now c.pin_steps-epoch.new.self c.pin_steps-epoch.result
     c.release_pinned.new.self
     c.requires.ready c.requires.none c.pin_steps-epoch.ensures.steps c.release_pinned.ensures.after)
     c.collect.ensures

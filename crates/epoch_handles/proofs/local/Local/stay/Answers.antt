@@ -17,6 +17,6 @@ end-requires g c =
     (omega arith, (ap (λ (z : Machine (Job g.row.W.Denot)). z.stage) over, omega arith))
 
 pub returns : goal.returns
-returns g c = stayed g.W.Run.done c.args.self.now c.store_unpinned.new.self c.take.new.self c.end.new.self
+returns g c = stayed _ _ c.args.self.now c.store_unpinned.new.self c.take.new.self c.end.new.self
     c.requires.rests c.requires.begins c.requires.action c.requires.full c.requires.held c.requires.none
     c.store_unpinned.ensures c.take.ensures c.end.ensures

@@ -37,7 +37,7 @@ bags-preserved-in-Again g c =
     let asked = ap (λ (z : Machine (Job g.row.W.Denot)). ask_at z.stage) taken.machine in
     let moved = told.moves x asked in (
       x,
-      take_again g.W.Run.done h n x c.bags.cursor c.take_shared-step.new.cursor c.take_shared-step.new.self
+      take_again _ _ h n x c.bags.cursor c.take_shared-step.new.cursor c.take_shared-step.new.self
           c.take_shared-step.new.seat moved.0 taken
           (subst (λ (step : TakeStep). c.take_shared-step.new.self
           ≡ took_heard n.machine n.machine.stage step c.take_shared-step.new.self.hand) c.in-Again.is told.after)
@@ -56,7 +56,7 @@ returns-in-Empty g c =
     let told = c.take_shared-step.ensures in let places = taken.same.collector in
     let asked = ap (λ (z : Machine (Job g.row.W.Denot)). ask_at z.stage) taken.machine in
     let moved = told.moves x asked in
-    take_ends g.W.Run.done h n x c.bags.cursor c.take_shared-step.new.cursor c.take_shared-step.new.self
+    take_ends _ _ h n x c.bags.cursor c.take_shared-step.new.cursor c.take_shared-step.new.self
     c.take_shared-step.new.seat moved.0 taken
     (subst (λ (step : TakeStep). c.take_shared-step.new.self
     ≡ took_heard n.machine n.machine.stage step c.take_shared-step.new.self.hand) c.in-Empty.is told.after)
@@ -78,8 +78,8 @@ returns-then-not-is_taking g c =
     let w = c.call_hand.new.self in
     let told = c.take_shared-step.ensures in
     let next = c.take_shared-step.new.cursor in
-    last_bag g.W.Run.done h w c.bags.invariant.0 c.bags.invariant.1.taken next
-    (hand_called g.W.Run.done h n w c.bags.invariant.0 c.bags.cursor next c.take_shared-step.result
+    last_bag _ _ h w c.bags.invariant.0 c.bags.invariant.1.taken next
+    (hand_called _ _ h n w c.bags.invariant.0 c.bags.cursor next c.take_shared-step.result
     c.take_shared-step.new.self c.take_shared-step.new.seat c.bags.invariant.1
     c.in-Got.is told.after told.kept told.at told.rests told.moves c.call_hand.ensures.only c.call_hand.ensures.calls)
     (sym c.is_taking.ensures ∙ c.if-not-is_taking.true)
@@ -92,8 +92,8 @@ bags-preserved g c =
     let told = c.take_shared-step.ensures in
     let next = c.take_shared-step.new.cursor in (
       c.bags.invariant.0,
-      next_bag g.W.Run.done h w c.bags.invariant.0 c.bags.invariant.1.taken next
-          (hand_called g.W.Run.done h n w c.bags.invariant.0 c.bags.cursor next c.take_shared-step.result
+      next_bag _ _ h w c.bags.invariant.0 c.bags.invariant.1.taken next
+          (hand_called _ _ h n w c.bags.invariant.0 c.bags.cursor next c.take_shared-step.result
           c.take_shared-step.new.self c.take_shared-step.new.seat c.bags.invariant.1
           c.in-Got.is told.after told.kept told.at told.rests told.moves c.call_hand.ensures.only
           c.call_hand.ensures.calls) (sym c.is_taking.ensures ∙ c.if-not-is_taking.false),
