@@ -1,4 +1,4 @@
-use crate::calls::{Collector, collector, count, end, pin_and_defer, register, release};
+use crate::calls::{collector, count, end, pin_and_defer, register, release};
 use crate::wants::{want, want_count, want_true};
 use epoch_base::{Bag, Cells, Epoch, GREATEST_EPOCH, Job, Name, SealedBag, Work};
 use epoch_pin::{Capacities, end_bags};
@@ -81,19 +81,6 @@ fn an_end_of_bags_counts_removals_whose_value_is_gone(rt: HostRuntime) {
     want_true(&rt, "the value is dropped", cells.take(name).is_none());
 }
 
-/// A participant defers these jobs, and is released.
-fn defer_and_release(
-    rt: &impl Abort,
-    alloc: Global,
-    collector: &Collector,
-    calls: &Arc<AtomicU64>,
-    jobs: (u64, u64),
-) {
-    let mut handle = register(rt, collector);
-    pin_and_defer(rt, alloc, &mut handle, calls, jobs);
-    release(rt, handle);
-}
-
 /// Two participants, and four bags of two jobs.
 const BAGS_OF_TWO: Capacities = Capacities {
     participants: 2,
@@ -107,9 +94,13 @@ const BAGS_OF_TWO: Capacities = Capacities {
 fn an_end_calls_the_bags_of_all_participants(rt: HostRuntime) {
     let calls = count(&rt, rt.alloc());
     let collector = collector(&rt, rt.alloc(), BAGS_OF_TWO);
+    let mut first = register(&rt, &collector);
+    let mut second = register(&rt, &collector);
     // A bag of two jobs is put by the third deferral, and each release puts one of one job.
-    defer_and_release(&rt, rt.alloc(), &collector, &calls, (3, 1));
-    defer_and_release(&rt, rt.alloc(), &collector, &calls, (1, 0x10));
+    pin_and_defer(&rt, rt.alloc(), &mut first, &calls, (3, 1));
+    pin_and_defer(&rt, rt.alloc(), &mut second, &calls, (1, 0x10));
+    release(&rt, first);
+    release(&rt, second);
     want_count(&rt, "calls before the end", &calls, 0);
     end(&rt, collector, 4);
     want_count(&rt, "calls at the end", &calls, 0x13);

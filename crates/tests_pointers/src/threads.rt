@@ -56,17 +56,31 @@ fn counting_job(rt: &impl Abort, alloc: Global, count: &Arc<AtomicU64>) -> Job {
     Job::Call(Work { run })
 }
 
-/// Defers 1000 jobs, each under a pin of its own, and releases.
-fn pin_and_defer(
-    rt: &impl Abort,
-    alloc: Global,
-    collector: &Collector<u64>,
-    calls: &Arc<AtomicU64>,
-) {
-    let mut handle = register(rt, collector);
+/// A thousand counting jobs for each of 8 threads.
+fn jobs_of_8(rt: &impl Abort, alloc: Global, calls: &Arc<AtomicU64>) -> Vec<Vec<Job>> {
+    let mut all = Vec::new(alloc);
+    for _ in 0..8u64 {
+        let pushed = all.push(thousand_jobs(rt, alloc, calls)).is_ok();
+        want_true(rt, "memory for the jobs", pushed);
+    }
+    all
+}
+
+/// A thousand counting jobs.
+fn thousand_jobs(rt: &impl Abort, alloc: Global, calls: &Arc<AtomicU64>) -> Vec<Job> {
+    let mut jobs = Vec::new(alloc);
     for _ in 0..1000u64 {
+        let pushed = jobs.push(counting_job(rt, alloc, calls)).is_ok();
+        want_true(rt, "memory for a job", pushed);
+    }
+    jobs
+}
+
+/// Defers each job under a pin of its own, and releases.
+fn pin_and_defer(rt: &impl Abort, collector: &Collector<u64>, jobs: Vec<Job>) {
+    let mut handle = register(rt, collector);
+    for job in jobs {
         let guard = pin(rt, &mut handle);
-        let job = counting_job(rt, alloc, calls);
         want_true(rt, "the job is kept", handle.defer(&guard, job).is_ok());
         unpin(rt, &mut handle, guard);
     }
@@ -76,12 +90,13 @@ fn pin_and_defer(
 #[test]
 fn stress(rt: HostRuntime) {
     let calls = count(&rt, rt.alloc());
-    // Each of 8 threads puts 16 bags at most, so 128 places are enough.
+    let all = jobs_of_8(&rt, rt.alloc(), &calls);
+    // Each thread puts 16 bags at most, so 128 places are enough.
     let collector = collector::<u64>(&rt, rt.alloc(), Capacities::usual(8, 0, 128));
-    let (host, alloc, shared, counted) = (&rt, rt.alloc(), &collector, &calls);
+    let (host, shared) = (&rt, &collector);
     thread::scope(thread::scope_env(), &rt, |scope| {
-        for _ in 0..8 {
-            let _ = scope.spawn(move || pin_and_defer(host, alloc, shared, counted));
+        for jobs in all {
+            let _ = scope.spawn(move || pin_and_defer(host, shared, jobs));
         }
     });
     let _ = collector.end();
