@@ -1,10 +1,9 @@
 use crate::wants::want;
-use epoch_cells::{Cells, Fault, MOST_SLOT, Name, Reading, Refused, Removal};
+use epoch_cells::{Cells, Fault, Name, Reading, Refused, Removal};
 use std::alloc::Global;
 use std::process::Abort;
 use std::test::Fail;
 
-mod plain;
 mod threads;
 
 fn pair(name: Name) -> (u32, u32) {
@@ -254,21 +253,6 @@ fn the_first_free_slot_is_taken(rt: HostRuntime) -> Result<(), Fail> {
         Err((2, 4)),
     );
     Ok(())
-}
-
-// The name of this slot and turn, if there is one.
-fn want_name(rt: &impl Abort, slot: u32, turn: u32, wanted: Option<(u32, u32)>) {
-    let name = Name::new(slot, turn).map(pair);
-    want(rt, "a name", (slot, turn, name), (slot, turn, wanted));
-}
-
-#[test]
-fn names_have_a_slot_from_1_to_2_24_less_1(rt: HostRuntime) {
-    want_name(&rt, 0, 0, None);
-    want_name(&rt, 1, 0, Some((1, 0)));
-    want_name(&rt, MOST_SLOT, u32::MAX, Some((MOST_SLOT, u32::MAX)));
-    want_name(&rt, MOST_SLOT + 1, 0, None);
-    want_name(&rt, u32::MAX, 3, None);
 }
 
 // Each of these names is ordered as its place among them.

@@ -1,4 +1,4 @@
-//! Tests of `epoch_cells` by its public calls: shared and plain cells, on one thread and on several.
+//! Tests of `epoch_cells` by its public calls: shared cells, on one thread and on several.
 #![tactic(auto)]
 
 #[cfg(test)]

@@ -1,95 +1,65 @@
 //! Calls on collectors, handles and guards as the tests make them: each asserts first what the call requires, and
-//! then what it has to answer.
-use crate::wants::{want, want_count};
-use epoch_base::{Called, Fault, Job, Name, Refused};
-use epoch_pin::{Capacities, Collector, Guard, LocalHandle, Paused};
+//! then what it has to answer. Memory is there: an error's way out of a test would be proved beside all that it owns.
+use crate::jobs::counting_job;
+use crate::wants::{want, want_count, want_true};
+use epoch_base::{Fault, Job, Name};
+use epoch_pin::Capacities;
 use std::alloc::Global;
 use std::process::Abort;
 use std::sync::Arc;
 use std::sync::atomic::AtomicU64;
-use std::test::Fail;
+
+/// A collector of numbers.
+pub(crate) type Collector = epoch_pin::Collector<u64>;
+
+/// A participant of such a collector.
+pub(crate) type Handle<'c> = epoch_pin::LocalHandle<'c, u64>;
+
+/// A guard of such a collector.
+pub(crate) type Guard<'c> = epoch_pin::Guard<'c, u64>;
 
 /// A count of calls, or of drops, that stands at 0.
-pub(crate) fn count(alloc: Global) -> Result<Arc<AtomicU64>, Fail> {
-    Ok(Arc::new(alloc, AtomicU64::new(0))?)
+pub(crate) fn count(rt: &impl Abort, alloc: Global) -> Arc<AtomicU64> {
+    Arc::new(alloc, AtomicU64::new(0)).expect(rt, "memory for a count")
 }
 
 /// A collector with these capacities.
-pub(crate) fn collector<T: Drop>(
-    rt: &impl Abort,
-    alloc: Global,
-    capacities: Capacities,
-) -> Result<Collector<T>, Fail> {
+pub(crate) fn collector(rt: &impl Abort, alloc: Global, capacities: Capacities) -> Collector {
     assert!(rt; capacities.is_valid(), "the capacities are in their ranges");
-    Ok(Collector::new(alloc, capacities, 1)?)
+    Collector::new(alloc, capacities, 1).expect(rt, "memory for a collector")
 }
 
 /// A new participant, for which a position is free.
-pub(crate) fn register<'c, T: Drop>(
-    rt: &impl Abort,
-    collector: &'c Collector<T>,
-) -> LocalHandle<'c, T> {
+pub(crate) fn register<'c>(rt: &impl Abort, collector: &'c Collector) -> Handle<'c> {
     collector.register().expect(rt, "a free position")
 }
 
 /// Pins the handle.
-pub(crate) fn pin<'c, T: Drop>(rt: &impl Abort, handle: &mut LocalHandle<'c, T>) -> Guard<'c, T> {
+pub(crate) fn pin<'c>(rt: &impl Abort, handle: &mut Handle<'c>) -> Guard<'c> {
     assert!(rt; handle.can_pin(), "a further guard can be counted");
     handle.pin()
 }
 
 /// Spends a guard of the handle.
-pub(crate) fn unpin<'c, T: Drop>(
-    rt: &impl Abort,
-    handle: &mut LocalHandle<'c, T>,
-    guard: Guard<'c, T>,
-) {
+pub(crate) fn unpin<'c>(rt: &impl Abort, handle: &mut Handle<'c>, guard: Guard<'c>) {
     assert!(rt; handle.owns(&guard), "the guard is one of the handle");
     handle.unpin(guard);
 }
 
 /// Repins the handle under a guard of it.
-pub(crate) fn repin<'c, T: Drop>(
-    rt: &impl Abort,
-    handle: &mut LocalHandle<'c, T>,
-    guard: &mut Guard<'c, T>,
-) {
+pub(crate) fn repin<'c>(rt: &impl Abort, handle: &mut Handle<'c>, guard: &mut Guard<'c>) {
     assert!(rt; handle.owns(guard), "the guard is one of the handle");
     handle.repin(guard);
 }
 
-/// Pauses a guard of the handle.
-pub(crate) fn pause<'c, T: Drop>(
-    rt: &impl Abort,
-    handle: &mut LocalHandle<'c, T>,
-    guard: Guard<'c, T>,
-) -> Paused<'c, T> {
-    assert!(rt; handle.owns(&guard), "the guard is one of the handle");
-    handle.pause(guard)
-}
-
-/// Resumes a guard that the handle paused.
-pub(crate) fn resume<'c, T: Drop>(
-    rt: &impl Abort,
-    handle: &mut LocalHandle<'c, T>,
-    paused: Paused<'c, T>,
-) -> Guard<'c, T> {
-    assert!(rt; handle.has_paused(&paused), "the handle paused it");
-    assert!(rt; handle.can_pin(), "a further guard can be counted");
-    handle.resume(paused)
-}
-
 /// Pins and unpins.
-pub(crate) fn cycle<T: Drop>(rt: &impl Abort, handle: &mut LocalHandle<'_, T>) {
+pub(crate) fn cycle(rt: &impl Abort, handle: &mut Handle<'_>) {
     let guard = pin(rt, handle);
     unpin(rt, handle, guard);
 }
 
 /// Pins, flushes and unpins. Answers what the flush answered.
-pub(crate) fn round<T: Drop>(
-    rt: &impl Abort,
-    handle: &mut LocalHandle<'_, T>,
-) -> Result<(), Fault> {
+fn round(rt: &impl Abort, handle: &mut Handle<'_>) -> Result<(), Fault> {
     let guard = pin(rt, handle);
     let flushed = handle.flush(&guard);
     unpin(rt, handle, guard);
@@ -97,132 +67,92 @@ pub(crate) fn round<T: Drop>(
 }
 
 /// Makes a round for each number. Its flush answers `flushed`, and the count stands at the number after it.
-pub(crate) fn rounds<T: Drop>(
+pub(crate) fn rounds(
     rt: &impl Abort,
-    handle: &mut LocalHandle<'_, T>,
+    handle: &mut Handle<'_>,
     flushed: Result<(), Fault>,
     count: &AtomicU64,
     counted: &[u64],
 ) {
-    for (index, wanted) in counted.iter().enumerate() {
-        assert_eq!(rt;
-            round(rt, handle),
-            flushed,
-            "round {index}, before {wanted}"
-        );
+    for wanted in counted {
+        want(rt, "the flush of a round", round(rt, handle), flushed);
         want_count(rt, "the count after a round", count, *wanted);
     }
 }
 
-/// A flush under the guard goes through.
-pub(crate) fn flush<T: Drop>(
+/// Under the guard the held bag is put, or no place is free.
+pub(crate) fn flush(
     rt: &impl Abort,
-    handle: &mut LocalHandle<'_, T>,
-    guard: &Guard<'_, T>,
+    handle: &mut Handle<'_>,
+    guard: &Guard<'_>,
+    flushed: Result<(), Fault>,
 ) {
-    want(rt, "a flush", handle.flush(guard), Ok(()));
+    want(rt, "a flush", handle.flush(guard), flushed);
 }
 
 /// Releases the handle, whose bag finds a place.
-pub(crate) fn release<T: Drop>(rt: &impl Abort, handle: LocalHandle<'_, T>) {
+pub(crate) fn release(rt: &impl Abort, handle: Handle<'_>) {
     assert!(rt; handle.guards_out() == 0, "each guard is spent");
     if let Err((_back, fault)) = handle.release() {
         panic!(rt; "{fault}");
     }
 }
 
-/// Leaves by the handle, whose bag finds a place, and spends what is left of it.
-pub(crate) fn leave<T: Drop>(rt: &impl Abort, handle: LocalHandle<'_, T>) {
-    assert!(rt; handle.guards_out() == 0, "each guard is spent");
-    match handle.leave() {
-        Ok(released) => released.spend(),
-        Err((_back, fault)) => panic!(rt; "{fault}"),
-    }
-}
-
 /// Releases the handle, whose bag finds no place: it comes back.
-pub(crate) fn keep_back<'c>(rt: &impl Abort, handle: LocalHandle<'c, u64>) -> LocalHandle<'c, u64> {
+pub(crate) fn keep_back<'c>(rt: &impl Abort, handle: Handle<'c>) -> Handle<'c> {
     assert!(rt; handle.guards_out() == 0, "each guard is spent");
-    let Err((back, fault)) = handle.release() else {
+    let Err((back, _fault)) = handle.release() else {
         panic!(rt; "the handle is released");
     };
-    assert_eq!(rt; fault, Fault::BagsFull);
     back
 }
 
 /// Ends the collector, which calls so many jobs.
-pub(crate) fn end<T: Drop>(rt: &impl Abort, collector: Collector<T>, jobs: u64) {
+pub(crate) fn end(rt: &impl Abort, collector: Collector, jobs: u64) {
     want(rt, "the jobs that the end calls", collector.end(), jobs);
 }
 
 /// Spends an unprotected guard.
-pub(crate) fn let_go<T>(rt: &impl Abort, guard: Guard<'_, T>) {
+pub(crate) fn let_go(rt: &impl Abort, guard: Guard<'_>) {
     if let Err(_guard) = guard.let_go() {
         panic!(rt; "the guard is kept");
     }
 }
 
 /// Defers the job, which is not refused.
-pub(crate) fn defer<T: Drop>(
-    rt: &impl Abort,
-    handle: &mut LocalHandle<'_, T>,
-    guard: &Guard<'_, T>,
-    job: Job,
-) {
-    assert!(rt; handle.defer(guard, job).is_ok(), "the job is kept");
+pub(crate) fn defer(rt: &impl Abort, handle: &mut Handle<'_>, guard: &Guard<'_>, job: Job) {
+    want_true(rt, "the job is kept", handle.defer(guard, job).is_ok());
 }
 
-/// Defers each job, of which none is refused.
-pub(crate) fn defer_all<T: Drop>(
+/// Defers a removal, which is refused.
+pub(crate) fn refuse(rt: &impl Abort, handle: &mut Handle<'_>, guard: &Guard<'_>) {
+    let refused = handle.defer(guard, Job::Remove(Name::first())).is_err();
+    want_true(rt, "the job is refused", refused);
+}
+
+/// Defers so many jobs, each of which adds this number to the count.
+pub(crate) fn defer_counting(
     rt: &impl Abort,
-    handle: &mut LocalHandle<'_, T>,
-    guard: &Guard<'_, T>,
-    jobs: Vec<Job>,
+    alloc: Global,
+    handle: &mut Handle<'_>,
+    guard: &Guard<'_>,
+    count: &Arc<AtomicU64>,
+    (jobs, amount): (u64, u64),
 ) {
-    for job in jobs {
-        defer(rt, handle, guard, job);
+    for _ in 0..jobs {
+        defer(rt, handle, guard, counting_job(rt, alloc, count, amount));
     }
 }
 
-/// Pins, defers each job and unpins.
-pub(crate) fn defer_under_a_pin(
+/// As `defer_counting`, under a pin of its own.
+pub(crate) fn pin_and_defer(
     rt: &impl Abort,
-    handle: &mut LocalHandle<'_, u64>,
-    jobs: Vec<Job>,
+    alloc: Global,
+    handle: &mut Handle<'_>,
+    count: &Arc<AtomicU64>,
+    jobs: (u64, u64),
 ) {
     let guard = pin(rt, handle);
-    defer_all(rt, handle, &guard, jobs);
+    defer_counting(rt, alloc, handle, &guard, count, jobs);
     unpin(rt, handle, guard);
-}
-
-/// Calls each job at once, under a guard that protects nothing.
-pub(crate) fn call_all(rt: &impl Abort, guard: &Guard<'_, u64>, jobs: Vec<Job>) {
-    for job in jobs {
-        let Ok(called) = guard.call_now(job) else {
-            panic!(rt; "the job is handed back");
-        };
-        assert!(rt; called == Called::Ran, "the job ran");
-    }
-}
-
-/// Why the job was refused, and the name whose removal was handed back.
-pub(crate) fn refusal(deferred: Result<(), Refused<Job>>) -> Option<(Fault, Name)> {
-    let Err(Refused { fault, value }) = deferred else {
-        return None;
-    };
-    match value {
-        Job::Remove(name) => Some((fault, name)),
-        Job::Call(_) => None,
-    }
-}
-
-/// Defers a removal, which is refused and handed back.
-pub(crate) fn refuse(
-    rt: &impl Abort,
-    handle: &mut LocalHandle<'_, u64>,
-    guard: &Guard<'_, u64>,
-    fault: Fault,
-) {
-    let refused = refusal(handle.defer(guard, Job::Remove(Name::first())));
-    want(rt, "a refusal", refused, Some((fault, Name::first())));
 }

@@ -1,45 +1,45 @@
-use crate::calls::{collector, count, defer_under_a_pin, end, register, release};
-use crate::jobs::counting_jobs;
+use crate::calls::{collector, count, end, pin_and_defer, register, release};
 use crate::wants::{want, want_count, want_true};
 use epoch_base::{Bag, Cells, Epoch, GREATEST_EPOCH, Job, Name, SealedBag, Work};
-use epoch_pin::{Capacities, Collector, end_bags};
+use epoch_pin::{Capacities, end_bags};
 use std::alloc::Global;
 use std::process::Abort;
 use std::sync::Arc;
 use std::sync::atomic::AtomicU64;
 use std::sync::atomic::Ordering::SeqCst;
-use std::test::Fail;
 
-/// Jobs of which each appends its digit to the number of those that were called.
-fn noting_jobs(alloc: Global, called: &Arc<AtomicU64>, digits: &[u64]) -> Result<Vec<Job>, Fail> {
-    let mut jobs: Vec<Job> = Vec::new(alloc);
-    for digit in digits.iter().copied() {
-        let inner = called.clone()?;
-        let run = Box::new(alloc, move || {
-            let before = inner.load(SeqCst);
-            inner.store(before.wrapping_mul(10).wrapping_add(digit), SeqCst);
-        })?;
-        jobs.push(Job::Call(Work { run }))?;
-    }
-    Ok(jobs)
+/// A job that appends its digit to the number of those that were called.
+fn noting_job(rt: &impl Abort, alloc: Global, called: &Arc<AtomicU64>, digit: u64) -> Job {
+    let inner = called.clone().expect(rt, "room for one more owner");
+    let run = Box::new(alloc, move || {
+        let before = inner.load(SeqCst);
+        inner.store(before.wrapping_mul(10).wrapping_add(digit), SeqCst);
+    })
+    .expect(rt, "memory for a job");
+    Job::Call(Work { run })
 }
 
-/// Two removals of this name.
-fn two_removals(alloc: Global, name: Name) -> Result<Vec<Job>, Fail> {
-    let mut jobs: Vec<Job> = Vec::new(alloc);
-    for _ in 0..2 {
-        jobs.push(Job::Remove(name))?;
-    }
-    Ok(jobs)
-}
-
-/// A bag with these jobs.
-fn sealed(rt: &impl Abort, jobs: Vec<Job>, epoch: Epoch) -> SealedBag<Job> {
+/// A bag with a noting job for each digit.
+fn noting_bag(
+    rt: &impl Abort,
+    alloc: Global,
+    called: &Arc<AtomicU64>,
+    digits: &[u64],
+    epoch: Epoch,
+) -> Option<SealedBag<Job>> {
     let mut bag = Bag::new();
-    for job in jobs {
-        assert!(rt; bag.try_push(job).is_ok(), "a bag takes 64 jobs");
+    for digit in digits {
+        let _ = bag.try_push(noting_job(rt, alloc, called, *digit));
     }
-    bag.seal(epoch)
+    Some(bag.seal(epoch))
+}
+
+/// A bag with two removals of this name.
+fn two_removals(name: Name) -> Option<SealedBag<Job>> {
+    let mut bag = Bag::new();
+    let _ = bag.try_push(Job::Remove(name));
+    let _ = bag.try_push(Job::Remove(name));
+    Some(bag.seal(Epoch::starting()))
 }
 
 /// An end of these bags calls so many jobs.
@@ -48,89 +48,60 @@ fn end_these(rt: &impl Abort, cells: &Cells<u64>, bags: &mut [Option<SealedBag<J
     want(rt, "the jobs that the end calls", called, jobs);
 }
 
-/// Four places with a bag of each of these jobs, none, and an empty one.
-fn two_of_four(rt: &impl Abort, first: Vec<Job>, last: Vec<Job>) -> [Option<SealedBag<Job>>; 4] {
-    [
-        Some(sealed(rt, first, Epoch::new(GREATEST_EPOCH))),
-        None,
-        Some(sealed(rt, last, Epoch::starting())),
-        Some(Bag::new().seal(Epoch::starting())),
-    ]
-}
-
-/// No place has a bag.
-fn want_no_bag(rt: &impl Abort, bags: &[Option<SealedBag<Job>>]) {
-    want_true(rt, "no bag is left", bags.iter().all(|bag| bag.is_none()));
+/// So many cells.
+fn cells_of(rt: &impl Abort, alloc: Global, cells: u8) -> Cells<u64> {
+    Cells::new(alloc, cells as u32, 0).expect(rt, "memory for cells")
 }
 
 /// Places 7, for which a slot is free.
-fn place_7(rt: &impl Abort, alloc: Global, cells: &Cells<u64>) -> Result<Name, Fail> {
-    let Ok(name) = cells.place(Box::new(alloc, 7)?) else {
+fn place_7(rt: &impl Abort, alloc: Global, cells: &Cells<u64>) -> Name {
+    let boxed = Box::new(alloc, 7).expect(rt, "memory for a value");
+    let Ok(name) = cells.place(boxed) else {
         panic!(rt; "a slot is free");
     };
-    Ok(name)
+    name
 }
 
 #[test]
-fn an_end_of_no_bags_calls_nothing(rt: HostRuntime) -> Result<(), Fail> {
-    let cells = Cells::<u64>::new(rt.alloc(), 0, 0)?;
-    let mut none: [Option<SealedBag<Job>>; 0] = [];
-    end_these(&rt, &cells, &mut none, 0);
-    Ok(())
+fn an_end_of_bags_calls_each_job_of_a_bag_the_oldest_first(rt: HostRuntime) {
+    let alloc = rt.alloc();
+    let called = count(&rt, alloc);
+    let cells = cells_of(&rt, alloc, 0);
+    let latest = Epoch::new(GREATEST_EPOCH);
+    let bag = noting_bag(&rt, alloc, &called, &[1, 2, 3], latest);
+    end_these(&rt, &cells, &mut [None, bag], 3);
+    want_count(&rt, "the oldest job first", &called, 123);
 }
 
 #[test]
-fn an_end_of_bags_calls_each_job_and_leaves_no_bag(rt: HostRuntime) -> Result<(), Fail> {
-    let first = count(rt.alloc())?;
-    let last = count(rt.alloc())?;
-    let three = noting_jobs(rt.alloc(), &first, &[1, 2, 3])?;
-    let one = noting_jobs(rt.alloc(), &last, &[4])?;
-    let cells = Cells::<u64>::new(rt.alloc(), 0, 0)?;
-    let mut bags = two_of_four(&rt, three, one);
-    end_these(&rt, &cells, &mut bags, 4);
-    want_count(&rt, "the first bag, the oldest job first", &first, 123);
-    want_count(&rt, "the last bag with a job", &last, 4);
-    want_no_bag(&rt, &bags);
-    // Nothing is left.
-    end_these(&rt, &cells, &mut bags, 0);
-    want_count(&rt, "the first bag again", &first, 123);
-    want_count(&rt, "the last bag again", &last, 4);
-    Ok(())
-}
-
-#[test]
-fn an_end_of_bags_counts_removals_whose_value_is_gone(rt: HostRuntime) -> Result<(), Fail> {
-    let cells = Cells::<u64>::new(rt.alloc(), 1, 0)?;
-    let name = place_7(&rt, rt.alloc(), &cells)?;
-    let jobs = two_removals(rt.alloc(), name)?;
-    let mut bags = [Some(sealed(&rt, jobs, Epoch::starting()))];
-    end_these(&rt, &cells, &mut bags, 2);
+fn an_end_of_bags_counts_removals_whose_value_is_gone(rt: HostRuntime) {
+    let cells = cells_of(&rt, rt.alloc(), 1);
+    let name = place_7(&rt, rt.alloc(), &cells);
+    end_these(&rt, &cells, &mut [two_removals(name)], 2);
     want_true(&rt, "the value is dropped", cells.take(name).is_none());
-    Ok(())
 }
 
-/// A participant defers these jobs, and is released.
-fn defer_and_release(rt: &impl Abort, collector: &Collector<u64>, jobs: Vec<Job>) {
-    let mut handle = register(rt, collector);
-    defer_under_a_pin(rt, &mut handle, jobs);
-    release(rt, handle);
-}
+/// Two participants, and four bags of two jobs.
+const BAGS_OF_TWO: Capacities = Capacities {
+    participants: 2,
+    cells: 0,
+    bags: 4,
+    bag_jobs: 2,
+    collect_bags: 8,
+};
 
 #[test]
-fn an_end_calls_the_bags_of_all_participants(rt: HostRuntime) -> Result<(), Fail> {
-    let calls = count(rt.alloc())?;
-    let jobs = counting_jobs(rt.alloc(), 3, &calls, 1)?;
-    let further = counting_jobs(rt.alloc(), 1, &calls, 0x10)?;
-    let capacities = Capacities {
-        bag_jobs: 2,
-        ..Capacities::usual(2, 0, 4)
-    };
-    let collector = collector::<u64>(&rt, rt.alloc(), capacities)?;
+fn an_end_calls_the_bags_of_all_participants(rt: HostRuntime) {
+    let calls = count(&rt, rt.alloc());
+    let collector = collector(&rt, rt.alloc(), BAGS_OF_TWO);
+    let mut first = register(&rt, &collector);
+    let mut second = register(&rt, &collector);
     // A bag of two jobs is put by the third deferral, and each release puts one of one job.
-    defer_and_release(&rt, &collector, jobs);
-    defer_and_release(&rt, &collector, further);
+    pin_and_defer(&rt, rt.alloc(), &mut first, &calls, (3, 1));
+    pin_and_defer(&rt, rt.alloc(), &mut second, &calls, (1, 0x10));
+    release(&rt, first);
+    release(&rt, second);
     want_count(&rt, "calls before the end", &calls, 0);
     end(&rt, collector, 4);
     want_count(&rt, "calls at the end", &calls, 0x13);
-    Ok(())
 }

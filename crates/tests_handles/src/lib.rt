@@ -2,13 +2,9 @@
 #![tactic(auto)]
 
 #[cfg(test)]
-mod bags;
-#[cfg(test)]
 mod calls;
 #[cfg(test)]
 mod collections;
-#[cfg(test)]
-mod deferrals;
 #[cfg(test)]
 mod ends;
 #[cfg(test)]

@@ -1,11 +1,9 @@
 //! What the tests want. A comparison stands here once: written out in a test, it would be proved beside all that the
 //! test owns.
-use std::alloc::Global;
 use std::fmt::Debug;
 use std::process::Abort;
 use std::sync::atomic::AtomicU64;
 use std::sync::atomic::Ordering::SeqCst;
-use std::test::Fail;
 
 /// Both are equal. `what` says what was seen.
 pub(crate) fn want<T: PartialEq + Debug + Drop>(rt: &impl Abort, what: &str, seen: T, wanted: T) {

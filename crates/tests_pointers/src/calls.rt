@@ -1,17 +1,16 @@
 //! Calls on collectors, handles and guards as the tests make them: each asserts first what the call requires, and
-//! then what it has to answer.
-use crate::wants::{want, want_count};
-use epoch_base::{Fault, Job};
+//! then what it has to answer. Memory is there: an error's way out of a test would be proved beside all that it owns.
+use crate::wants::{want, want_count, want_ok};
+use epoch_base::Fault;
 use epoch_pin::{Capacities, Collector, Guard, LocalHandle};
 use std::alloc::Global;
 use std::process::Abort;
 use std::sync::Arc;
 use std::sync::atomic::AtomicU64;
-use std::test::Fail;
 
 /// A count of calls, or of drops, that stands at 0.
-pub(crate) fn count(alloc: Global) -> Result<Arc<AtomicU64>, Fail> {
-    Ok(Arc::new(alloc, AtomicU64::new(0))?)
+pub(crate) fn count(rt: &impl Abort, alloc: Global) -> Arc<AtomicU64> {
+    want_ok(rt, "memory for a count", Arc::new(alloc, AtomicU64::new(0)))
 }
 
 /// A collector with these capacities.
@@ -19,9 +18,10 @@ pub(crate) fn collector<T: Drop>(
     rt: &impl Abort,
     alloc: Global,
     capacities: Capacities,
-) -> Result<Collector<T>, Fail> {
+) -> Collector<T> {
     assert!(rt; capacities.is_valid(), "the capacities are in their ranges");
-    Ok(Collector::new(alloc, capacities, 1)?)
+    let made = Collector::new(alloc, capacities, 1);
+    want_ok(rt, "memory for a collector", made)
 }
 
 /// A new participant, for which a position is free.
@@ -29,7 +29,7 @@ pub(crate) fn register<'c, T: Drop>(
     rt: &impl Abort,
     collector: &'c Collector<T>,
 ) -> LocalHandle<'c, T> {
-    collector.register().expect(rt, "a free position")
+    want_ok(rt, "a free position", collector.register())
 }
 
 /// Pins the handle.
@@ -48,41 +48,23 @@ pub(crate) fn unpin<'c, T: Drop>(
     handle.unpin(guard);
 }
 
-/// Repins the handle under a guard of it.
-pub(crate) fn repin<'c, T: Drop>(
-    rt: &impl Abort,
-    handle: &mut LocalHandle<'c, T>,
-    guard: &mut Guard<'c, T>,
-) {
-    assert!(rt; handle.owns(guard), "the guard is one of the handle");
-    handle.repin(guard);
-}
-
 /// Pins, flushes and unpins. Answers what the flush answered.
-pub(crate) fn round<T: Drop>(
-    rt: &impl Abort,
-    handle: &mut LocalHandle<'_, T>,
-) -> Result<(), Fault> {
+fn round<T: Drop>(rt: &impl Abort, handle: &mut LocalHandle<'_, T>) -> Result<(), Fault> {
     let guard = pin(rt, handle);
     let flushed = handle.flush(&guard);
     unpin(rt, handle, guard);
     flushed
 }
 
-/// Makes a round for each number. Its flush answers `flushed`, and the count stands at the number after it.
+/// Makes a round for each number. The count stands at the number after it.
 pub(crate) fn rounds<T: Drop>(
     rt: &impl Abort,
     handle: &mut LocalHandle<'_, T>,
-    flushed: Result<(), Fault>,
     count: &AtomicU64,
     counted: &[u64],
 ) {
-    for (index, wanted) in counted.iter().enumerate() {
-        assert_eq!(rt;
-            round(rt, handle),
-            flushed,
-            "round {index}, before {wanted}"
-        );
+    for wanted in counted {
+        want(rt, "the flush of a round", round(rt, handle), Ok(()));
         want_count(rt, "the count after a round", count, *wanted);
     }
 }
@@ -102,16 +84,6 @@ pub(crate) fn release<T: Drop>(rt: &impl Abort, handle: LocalHandle<'_, T>) {
     if let Err((_back, fault)) = handle.release() {
         panic!(rt; "{fault}");
     }
-}
-
-/// Defers the job, which is not refused.
-pub(crate) fn defer<T: Drop>(
-    rt: &impl Abort,
-    handle: &mut LocalHandle<'_, T>,
-    guard: &Guard<'_, T>,
-    job: Job,
-) {
-    assert!(rt; handle.defer(guard, job).is_ok(), "the job is kept");
 }
 
 /// Ends the collector, which calls so many jobs.

@@ -5,8 +5,6 @@
 #[cfg(test)]
 mod calls;
 #[cfg(test)]
-mod jobs;
-#[cfg(test)]
 mod pointers;
 #[cfg(test)]
 mod removals;

@@ -1,11 +1,10 @@
 //! What the tests want. A comparison stands here once: written out in a test, it would be proved beside all that the
 //! test owns.
-use std::alloc::Global;
+use std::alloc::{AllocError, Global};
 use std::fmt::Debug;
 use std::process::Abort;
 use std::sync::atomic::AtomicU64;
 use std::sync::atomic::Ordering::SeqCst;
-use std::test::Fail;
 
 /// Both are equal. `what` says what was seen.
 pub(crate) fn want<T: PartialEq + Debug + Drop>(rt: &impl Abort, what: &str, seen: T, wanted: T) {
@@ -17,16 +16,15 @@ pub(crate) fn want_true(rt: &impl Abort, what: &str, holds: bool) {
     assert!(rt; holds, "{what}");
 }
 
+/// What is shown of the value.
+fn shown<T: Debug>(alloc: Global, value: &T) -> Result<String, AllocError> {
+    format!(in alloc; "{value:?}")
+}
+
 /// The value is shown as this text.
-pub(crate) fn want_shown<T: Debug>(
-    rt: &impl Abort,
-    alloc: Global,
-    value: &T,
-    wanted: &str,
-) -> Result<(), Fail> {
-    let text = format!(in alloc; "{value:?}")?;
-    want(rt, "the text shown", text.as_str(), wanted);
-    Ok(())
+pub(crate) fn want_shown<T: Debug>(rt: &impl Abort, alloc: Global, value: &T, wanted: &str) {
+    let text = want_ok(rt, "memory for the text", shown(alloc, value));
+    assert!(rt; text.as_str() == wanted, "{text} and not {wanted}");
 }
 
 /// What was answered, where a success is wanted.

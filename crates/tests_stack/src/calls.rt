@@ -6,7 +6,6 @@ use epoch_stack::{Node, Stack};
 use std::alloc::Global;
 use std::fmt::Debug;
 use std::process::Abort;
-use std::test::Fail;
 
 /// A collector of a stack's nodes.
 pub(crate) type Nodes = Collector<Node<u64>>;
@@ -22,24 +21,11 @@ pub(crate) fn want<T: PartialEq + Debug + Drop>(rt: &impl Abort, what: &str, see
     assert_eq!(rt; seen, wanted, "{what}");
 }
 
-/// A collector with these capacities and this number.
-pub(crate) fn numbered(
-    rt: &impl Abort,
-    alloc: Global,
-    capacities: Capacities,
-    id: u64,
-) -> Result<Nodes, Fail> {
+/// A collector with these capacities. Memory is there: an error's way out of a test would be proved beside all that it
+/// owns.
+pub(crate) fn collector(rt: &impl Abort, alloc: Global, capacities: Capacities) -> Nodes {
     assert!(rt; capacities.is_valid(), "the capacities are in their ranges");
-    Ok(Collector::new(alloc, capacities, id)?)
-}
-
-/// A collector with these capacities.
-pub(crate) fn collector(
-    rt: &impl Abort,
-    alloc: Global,
-    capacities: Capacities,
-) -> Result<Nodes, Fail> {
-    numbered(rt, alloc, capacities, 1)
+    Collector::new(alloc, capacities, 1).expect(rt, "memory for a collector")
 }
 
 /// Capacities with one job a bag, of which a collection takes one, and one place.
@@ -78,7 +64,7 @@ pub(crate) fn let_go(rt: &impl Abort, guard: Pin<'_>) {
 }
 
 /// Pins, flushes and unpins. Answers what the flush answered.
-pub(crate) fn round(rt: &impl Abort, handle: &mut Handle<'_>) -> Result<(), Fault> {
+fn round(rt: &impl Abort, handle: &mut Handle<'_>) -> Result<(), Fault> {
     let guard = pin(rt, handle);
     let flushed = handle.flush(&guard);
     unpin(rt, handle, guard);
@@ -162,6 +148,12 @@ pub(crate) fn pop(
     value: u64,
 ) {
     want_pop(rt, stack, handle, guard, 1, Ok(Some(value)));
+}
+
+/// Pops this value in one lone try.
+pub(crate) fn pop_alone(rt: &impl Abort, stack: &Stack<'_, u64>, guard: &Pin<'_>, value: u64) {
+    let popped = stack.pop_alone(guard, 1);
+    want(rt, "a lone pop", popped, Ok(Some(value)));
 }
 
 /// A pop in one try finds nothing, and the stack says that it is empty.

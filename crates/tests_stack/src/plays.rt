@@ -1,14 +1,13 @@
 //! What one participant does with a stack, as a table: deeds under one guard after the other.
 use crate::calls::{
-    Handle, Pin, collector, end, pin, pop, push, register, release, unpin, want, want_empty,
-    want_pop, want_push, want_round,
+    Handle, Pin, collector, end, pin, pop, pop_alone, push, register, release, unpin, want,
+    want_empty, want_pop, want_push, want_round,
 };
 use epoch_base::Fault;
 use epoch_pin::Capacities;
 use epoch_stack::Stack;
 use std::alloc::Global;
 use std::process::Abort;
-use std::test::Fail;
 
 /// What is done under a guard, and what it has to answer.
 #[derive(Clone, Copy)]
@@ -21,6 +20,8 @@ pub(crate) enum Deed {
     Pop(u64),
     /// A pop in so many tries is refused.
     Kept(u32, Fault),
+    /// Pops the value in one lone try.
+    Alone(u64),
     /// A pop in one try finds nothing, and the stack says that it is empty.
     Nothing,
     /// Whether the stack says that it is empty.
@@ -48,6 +49,7 @@ fn act(
         }
         Deed::Pop(value) => pop(rt, stack, handle, guard, value),
         Deed::Kept(tries, fault) => want_pop(rt, stack, handle, guard, tries, Err(fault)),
+        Deed::Alone(value) => pop_alone(rt, stack, guard, value),
         Deed::Nothing => want_empty(rt, stack, handle, guard),
         Deed::Empty(wanted) => want(rt, "whether it is empty", stack.is_empty(guard), wanted),
         Deed::Room(wanted) => want(rt, "room in the held bag", handle.has_room(), wanted),
@@ -62,8 +64,8 @@ pub(crate) fn play(
     capacities: Capacities,
     pins: &[Pinned],
     jobs: u64,
-) -> Result<(), Fail> {
-    let collector = collector(rt, alloc, capacities)?;
+) {
+    let collector = collector(rt, alloc, capacities);
     let stack = Stack::new(&collector);
     let mut handle = register(rt, &collector);
     for (deeds, rounds) in pins.iter().copied() {
@@ -79,5 +81,4 @@ pub(crate) fn play(
     release(rt, handle);
     drop(stack);
     end(rt, collector, jobs);
-    Ok(())
 }

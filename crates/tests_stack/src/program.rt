@@ -4,7 +4,6 @@ use epoch_base::Fault;
 use epoch_pin::Capacities;
 use epoch_stack::Stack;
 use std::alloc::Global;
-use std::test::Fail;
 
 fn two_values(
     alloc: Global,
@@ -25,8 +24,8 @@ fn two_values(
 }
 
 #[test]
-fn two_values_come_off_and_then_none(rt: HostRuntime) -> Result<(), Fail> {
-    let collector = collector(&rt, rt.alloc(), Capacities::usual(1, 2, 1))?;
+fn two_values_come_off_and_then_none(rt: HostRuntime) {
+    let collector = collector(&rt, rt.alloc(), Capacities::usual(1, 2, 1));
     let stack = Stack::new(&collector);
     let mut handle = register(&rt, &collector);
     let guard = pin(&rt, &mut handle);
@@ -36,5 +35,4 @@ fn two_values_come_off_and_then_none(rt: HostRuntime) -> Result<(), Fail> {
     release(&rt, handle);
     drop(stack);
     end(&rt, collector, 2);
-    Ok(())
 }

@@ -1,7 +1,7 @@
 //! Refused pushes and pops, in the order of their faults, and what each leaves.
 use crate::calls::{
-    Handle, Nodes, Pin, collector, end, let_go, numbered, one_job_a_bag, pin, pop, push, register,
-    release, unpin, want, want_pop, want_push, want_round,
+    Handle, Pin, collector, end, let_go, one_job_a_bag, pin, pop, pop_alone, push, register,
+    release, unpin, want, want_pop, want_push,
 };
 use crate::plays::{Deed, Pinned, play};
 use epoch_base::Fault;
@@ -9,56 +9,8 @@ use epoch_pin::{Capacities, unprotected};
 use epoch_stack::Stack;
 use std::alloc::Global;
 use std::process::Abort;
-use std::test::Fail;
 
-/// The first removal is put, and the second one held: neither place nor bag has room. The stack holds 1, and the
-/// three cells are taken.
-fn filled(
-    rt: &impl Abort,
-    alloc: Global,
-    stack: &Stack<'_, u64>,
-    handle: &mut Handle<'_>,
-    guard: &Pin<'_>,
-) {
-    push(rt, alloc, stack, handle, guard, 1);
-    push(rt, alloc, stack, handle, guard, 2);
-    push(rt, alloc, stack, handle, guard, 3);
-    pop(rt, stack, handle, guard, 3);
-    pop(rt, stack, handle, guard, 2);
-    want(rt, "room beside the removal of 2", handle.has_room(), false);
-}
-
-#[test]
-fn a_strangers_guard_is_refused_before_all_else(rt: HostRuntime) -> Result<(), Fail> {
-    let alloc = rt.alloc();
-    let collector = collector(&rt, alloc, one_job_a_bag(1, 3))?;
-    let stack = Stack::new(&collector);
-    let mut handle = register(&rt, &collector);
-    let guard = pin(&rt, &mut handle);
-    filled(&rt, alloc, &stack, &mut handle, &guard);
-    let stranger = unprotected(&collector);
-    let refused = Some(Fault::StrangerGuard);
-    want_push(&rt, alloc, &stack, &mut handle, &stranger, (4, 0), refused);
-    let refused = Err(Fault::StrangerGuard);
-    want_pop(&rt, &stack, &mut handle, &stranger, 0, refused);
-    want(&rt, "whether it is empty", stack.is_empty(&stranger), false);
-    let_go(&rt, stranger);
-    unpin(&rt, &mut handle, guard);
-    // The bag in the place was sealed with 1: the second round calls it in epoch 3.
-    want_round(&rt, &mut handle, Err(Fault::BagsFull));
-    want_round(&rt, &mut handle, Err(Fault::BagsFull));
-    let guard = pin(&rt, &mut handle);
-    pop(&rt, &stack, &mut handle, &guard, 1);
-    unpin(&rt, &mut handle, guard);
-    // The removal of 2 was sealed with 3: it is called in epoch 5.
-    want_round(&rt, &mut handle, Err(Fault::BagsFull));
-    release(&rt, handle);
-    drop(stack);
-    end(&rt, collector, 1);
-    Ok(())
-}
-
-/// A push and a pop of a handle of one collector on a stack of another's are refused, and the stack stays empty.
+/// A push and a pop under a guard that the handle hasn't out are refused, and the stack stays as it was, with 1.
 fn want_strange(
     rt: &impl Abort,
     alloc: Global,
@@ -67,40 +19,33 @@ fn want_strange(
     guard: &Pin<'_>,
 ) {
     let refused = Some(Fault::StrangerGuard);
-    want_push(rt, alloc, stack, handle, guard, (1, 1), refused);
-    want_pop(rt, stack, handle, guard, 1, Err(Fault::StrangerGuard));
+    want_push(rt, alloc, stack, handle, guard, (4, 0), refused);
+    want_pop(rt, stack, handle, guard, 0, Err(Fault::StrangerGuard));
+    pop_alone(rt, stack, guard, 1);
     want(rt, "whether it is empty", stack.is_empty(guard), true);
 }
 
+// The lone pop frees the only cell at once.
 #[test]
-fn a_handle_of_another_collector_is_a_stranger(rt: HostRuntime) -> Result<(), Fail> {
+fn a_strangers_guard_is_refused_before_all_else(rt: HostRuntime) {
     let alloc = rt.alloc();
-    let other = numbered(&rt, alloc, Capacities::usual(1, 1, 1), 2)?;
-    let (own, other) = beside(&rt, alloc, other)?;
-    let stack = Stack::new(&own);
-    let mut handle = register(&rt, &other);
+    let collector = collector(&rt, alloc, Capacities::usual(1, 1, 1));
+    let stack = Stack::new(&collector);
+    let mut handle = register(&rt, &collector);
     let guard = pin(&rt, &mut handle);
-    want_strange(&rt, alloc, &stack, &mut handle, &guard);
+    push(&rt, alloc, &stack, &mut handle, &guard, 1);
+    let stranger = unprotected(&collector);
+    want_strange(&rt, alloc, &stack, &mut handle, &stranger);
+    let_go(&rt, stranger);
+    push(&rt, alloc, &stack, &mut handle, &guard, 5);
+    pop(&rt, &stack, &mut handle, &guard, 5);
     unpin(&rt, &mut handle, guard);
     release(&rt, handle);
     drop(stack);
-    end(&rt, other, 0);
-    end(&rt, own, 0);
-    Ok(())
+    end(&rt, collector, 1);
 }
 
-/// A collector with number 1 beside another one, which is ended where memory is refused.
-fn beside(rt: &impl Abort, alloc: Global, other: Nodes) -> Result<(Nodes, Nodes), Fail> {
-    match collector(rt, alloc, Capacities::usual(1, 1, 1)) {
-        Ok(own) => Ok((own, other)),
-        Err(fail) => {
-            end(rt, other, 0);
-            Err(fail)
-        }
-    }
-}
-
-// The first removal is put, and the second one held, as in `filled`; the cells are full too, and no try is to be made.
+// The first removal is put, and the second one held; the cells are full too, and no try is to be made.
 // The flushes of the refused calls found their own pin at 0, which held the epoch at 1. The bag in the place was sealed
 // with 1: the second round calls it in epoch 3.
 const WITHOUT_A_PLACE: &[Pinned] = &[
@@ -123,8 +68,8 @@ const WITHOUT_A_PLACE: &[Pinned] = &[
 ];
 
 #[test]
-fn without_a_place_nothing_is_pushed_or_popped(rt: HostRuntime) -> Result<(), Fail> {
-    play(&rt, rt.alloc(), one_job_a_bag(1, 3), WITHOUT_A_PLACE, 1)
+fn without_a_place_nothing_is_pushed_or_popped(rt: HostRuntime) {
+    play(&rt, rt.alloc(), one_job_a_bag(1, 3), WITHOUT_A_PLACE, 1);
 }
 
 // Full cells are told before tries that are out.
@@ -140,8 +85,8 @@ const FULL_CELLS: &[Pinned] = &[(
 )];
 
 #[test]
-fn a_push_into_full_cells_pushes_nothing(rt: HostRuntime) -> Result<(), Fail> {
-    play(&rt, rt.alloc(), Capacities::usual(1, 1, 1), FULL_CELLS, 1)
+fn a_push_into_full_cells_pushes_nothing(rt: HostRuntime) {
+    play(&rt, rt.alloc(), Capacities::usual(1, 1, 1), FULL_CELLS, 1);
 }
 
 // The node of a push in no try takes a cell until its removal is called.
@@ -158,9 +103,9 @@ const A_PUSH_IN_NO_TRY: &[Pinned] = &[
 ];
 
 #[test]
-fn a_push_in_no_try_pushes_nothing_and_defers_its_removal(rt: HostRuntime) -> Result<(), Fail> {
+fn a_push_in_no_try_pushes_nothing_and_defers_its_removal(rt: HostRuntime) {
     let capacities = Capacities::usual(1, 1, 1);
-    play(&rt, rt.alloc(), capacities, A_PUSH_IN_NO_TRY, 0)
+    play(&rt, rt.alloc(), capacities, A_PUSH_IN_NO_TRY, 0);
 }
 
 const A_POP_IN_NO_TRY: &[Pinned] = &[(
@@ -174,7 +119,7 @@ const A_POP_IN_NO_TRY: &[Pinned] = &[(
 )];
 
 #[test]
-fn a_pop_in_no_try_leaves_the_value(rt: HostRuntime) -> Result<(), Fail> {
+fn a_pop_in_no_try_leaves_the_value(rt: HostRuntime) {
     let capacities = Capacities::usual(1, 1, 1);
-    play(&rt, rt.alloc(), capacities, A_POP_IN_NO_TRY, 1)
+    play(&rt, rt.alloc(), capacities, A_POP_IN_NO_TRY, 1);
 }

@@ -3,25 +3,6 @@ use crate::calls::one_job_a_bag;
 use crate::plays::{Deed, Pinned, play};
 use epoch_base::Fault;
 use epoch_pin::Capacities;
-use std::test::Fail;
-
-const TWO_PUSHES_AND_THREE_POPS: &[Pinned] = &[(
-    &[
-        Deed::Push(1),
-        Deed::Push(2),
-        Deed::Pop(2),
-        Deed::Pop(1),
-        Deed::Nothing,
-    ],
-    &[],
-)];
-
-#[test]
-fn two_pushes_and_three_pops_in_two_cells(rt: HostRuntime) -> Result<(), Fail> {
-    let capacities = Capacities::usual(1, 2, 1);
-    // One removal for each value that came off.
-    play(&rt, rt.alloc(), capacities, TWO_PUSHES_AND_THREE_POPS, 2)
-}
 
 const PUSHES_AND_POPS: &[Pinned] = &[(
     &[
@@ -40,9 +21,9 @@ const PUSHES_AND_POPS: &[Pinned] = &[(
 )];
 
 #[test]
-fn values_come_off_in_the_order_against_that_of_their_pushes(rt: HostRuntime) -> Result<(), Fail> {
+fn values_come_off_in_the_order_against_that_of_their_pushes(rt: HostRuntime) {
     let capacities = Capacities::usual(1, 4, 1);
-    play(&rt, rt.alloc(), capacities, PUSHES_AND_POPS, 4)
+    play(&rt, rt.alloc(), capacities, PUSHES_AND_POPS, 4);
 }
 
 // Sealed with 1, the removal is called in epoch 3, in the second round after the first guard.
@@ -59,9 +40,9 @@ const A_CELL_FOR_TWO: &[Pinned] = &[
 ];
 
 #[test]
-fn a_popped_node_stays_in_its_cell_for_others(rt: HostRuntime) -> Result<(), Fail> {
+fn a_popped_node_stays_in_its_cell_for_others(rt: HostRuntime) {
     let capacities = Capacities::usual(1, 1, 1);
-    play(&rt, rt.alloc(), capacities, A_CELL_FOR_TWO, 1)
+    play(&rt, rt.alloc(), capacities, A_CELL_FOR_TWO, 1);
 }
 
 // A bag takes one job: the second pop's room is made by a flush, which puts the first removal, and the last pop has no
@@ -82,6 +63,22 @@ const POPS_WITH_FULL_BAGS: &[Pinned] = &[(
 )];
 
 #[test]
-fn a_pop_with_a_full_bag_flushes_and_pops(rt: HostRuntime) -> Result<(), Fail> {
-    play(&rt, rt.alloc(), one_job_a_bag(1, 2), POPS_WITH_FULL_BAGS, 1)
+fn a_pop_with_a_full_bag_flushes_and_pops(rt: HostRuntime) {
+    play(&rt, rt.alloc(), one_job_a_bag(1, 2), POPS_WITH_FULL_BAGS, 1);
+}
+
+// No job is deferred, and the node takes the only cell.
+const A_LONE_POP: &[Pinned] = &[(
+    &[
+        Deed::Push(1),
+        Deed::Alone(1),
+        Deed::Nothing,
+        Deed::Refused(2, 1, Fault::CellsFull),
+    ],
+    &[],
+)];
+
+#[test]
+fn a_lone_pop_under_a_protecting_guard_leaves_its_node(rt: HostRuntime) {
+    play(&rt, rt.alloc(), Capacities::usual(1, 1, 1), A_LONE_POP, 0);
 }

@@ -8,8 +8,8 @@ use std::process::Abort;
 use std::sync::Wait;
 use std::sync::atomic::AtomicU64;
 use std::sync::atomic::Ordering::SeqCst;
-use std::test::Fail;
 use std::thread;
+use std::thread::Threads;
 
 /// As often as any call tries here.
 const TRIES: u32 = 100_000;
@@ -103,12 +103,13 @@ fn push_and_pop<R: Abort + Wait>(
 }
 
 /// So many counts that stand at 0.
-fn counts_of(alloc: Global, values: u64) -> Result<Vec<AtomicU64>, Fail> {
+fn counts_of(rt: &impl Abort, alloc: Global, values: u64) -> Vec<AtomicU64> {
     let mut counts = Vec::new(alloc);
     for _ in 0..values {
-        counts.push(AtomicU64::new(0))?;
+        let pushed = counts.push(AtomicU64::new(0)).is_ok();
+        want(rt, "memory for a count", pushed, true);
     }
-    Ok(counts)
+    counts
 }
 
 /// Pops what is left on the stack.
@@ -135,58 +136,36 @@ fn want_each_once(rt: &impl Abort, counts: &[AtomicU64]) {
     }
 }
 
-#[test]
-fn each_value_of_8_threads_comes_off_once(rt: HostRuntime) -> Result<(), Fail> {
-    let alloc = rt.alloc();
-    let counts = counts_of(alloc, 16_000)?;
-    let collector = collector(&rt, alloc, Capacities::usual(8, 64, 16))?;
-    let stack = Stack::new(&collector);
-    let (host, shared, nodes, all) = (&rt, &stack, &collector, counts.as_slice());
-    thread::scope(thread::scope_env(), &rt, |scope| {
-        for thread in 0..8u64 {
-            let first = thread.wrapping_mul(2000);
-            let _ = scope.spawn(move || push_and_pop(host, alloc, nodes, shared, all, first, 2000));
-        }
-    });
-    pop_the_rest(&rt, &collector, &stack, &counts);
-    want_each_once(&rt, &counts);
-    drop(stack);
-    let _ = collector.end();
-    Ok(())
-}
-
-/// Pushes the numbers below 5, and pops a value after each.
-fn push_and_pop_some<R: Abort + Wait>(
+/// So many threads push and pop so many values each. Each value comes off once, and then the stack is empty.
+fn race<R: Abort + Threads + Wait + Sync>(
     rt: &R,
     alloc: Global,
-    collector: &Nodes,
-    stack: &Stack<'_, u64>,
+    capacities: Capacities,
+    threads: u64,
+    values: u64,
 ) {
-    let mut handle = register(rt, collector);
-    for value in 0..5u64 {
-        push_at_last(rt, alloc, stack, &mut handle, value);
-        let popped = pop_at_last(rt, stack, &mut handle);
-        want(rt, "a value comes off", popped.is_some(), true);
-    }
-    leave(rt, handle);
+    let counts = counts_of(rt, alloc, threads.wrapping_mul(values));
+    let collector = collector(rt, alloc, capacities);
+    let stack = Stack::new(&collector);
+    let (shared, nodes, all) = (&stack, &collector, counts.as_slice());
+    thread::scope(thread::scope_env(), rt, |scope| {
+        for thread in 0..threads {
+            let first = thread.wrapping_mul(values);
+            let _ = scope.spawn(move || push_and_pop(rt, alloc, nodes, shared, all, first, values));
+        }
+    });
+    pop_the_rest(rt, &collector, &stack, &counts);
+    want_each_once(rt, &counts);
+    drop(stack);
+    let _ = collector.end();
 }
 
 #[test]
-fn treiber_stack(rt: HostRuntime) -> Result<(), Fail> {
-    let alloc = rt.alloc();
-    let collector = collector(&rt, alloc, Capacities::usual(3, 16, 16))?;
-    let stack = Stack::new(&collector);
-    let (host, shared, nodes) = (&rt, &stack, &collector);
-    thread::scope(thread::scope_env(), &rt, |scope| {
-        let _ = scope.spawn(move || push_and_pop_some(host, alloc, nodes, shared));
-        let _ = scope.spawn(move || push_and_pop_some(host, alloc, nodes, shared));
-    });
-    let mut handle = register(&rt, &collector);
-    let guard = pin(&rt, &mut handle);
-    want_empty(&rt, &stack, &mut handle, &guard);
-    unpin(&rt, &mut handle, guard);
-    leave(&rt, handle);
-    drop(stack);
-    let _ = collector.end();
-    Ok(())
+fn each_value_of_8_threads_comes_off_once(rt: HostRuntime) {
+    race(&rt, rt.alloc(), Capacities::usual(8, 64, 16), 8, 2000);
+}
+
+#[test]
+fn treiber_stack(rt: HostRuntime) {
+    race(&rt, rt.alloc(), Capacities::usual(3, 16, 16), 2, 5);
 }

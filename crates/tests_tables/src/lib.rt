@@ -1,8 +1,6 @@
-//! Tests of `epoch_base` by its public calls: bags, calls of jobs, stores of bags and the participants' table.
+//! Tests of `epoch_base` by its public calls: calls of jobs, stores of bags and the participants' table.
 #![tactic(auto)]
 
-#[cfg(test)]
-mod bags;
 #[cfg(test)]
 mod jobs;
 #[cfg(test)]

@@ -51,9 +51,9 @@ fn take(
 }
 
 /// A bag with these two jobs, sealed with 3.
-fn sealed_pair(rt: &impl Abort, first: u64, second: u64) -> SealedBag<u64> {
+fn sealed_pair(first: u64, second: u64) -> SealedBag<u64> {
     let mut jobs = bag_of(first);
-    want(rt, "the second is pushed", jobs.try_push(second), Ok(()));
+    let _ = jobs.try_push(second);
     jobs.seal(Epoch::new(3))
 }
 
@@ -73,7 +73,7 @@ fn want_pair(rt: &impl Abort, bag: Option<SealedBag<u64>>, first: u64, second: u
 fn a_bag_is_put_into_a_place_and_comes_out_whole(rt: HostRuntime) -> Result<(), Fault> {
     let places: SharedPlaces<u64> = SharedPlaces::new(rt.alloc(), 2)?;
     let (mut seat, mut other) = (places.seat(), places.seat());
-    let mut bag = Some(sealed_pair(&rt, 5, 6));
+    let mut bag = Some(sealed_pair(5, 6));
     want(&rt, "a new place is empty", places.look(&mut seat, 1), 0);
     want_word(&rt, "it is won", places.claim(&mut seat, 1, 0), 0);
     want(&rt, "it is claimed", places.look(&mut other, 1), 2);
@@ -86,53 +86,6 @@ fn a_bag_is_put_into_a_place_and_comes_out_whole(rt: HostRuntime) -> Result<(), 
     want(&rt, "it is empty again", places.look(&mut seat, 1), 0);
     want_pair(&rt, bag, 5, 6);
     want(&rt, "how many there are", places.capacity(), 2);
-    Ok(())
-}
-
-// The expected words: a look leaves 0, a claim makes it 2, a fill twice the seal and one more.
-#[test]
-fn a_put_by_cursor_looks_claims_and_fills(rt: HostRuntime) -> Result<(), Fault> {
-    let places: SharedPlaces<u64> = SharedPlaces::new(rt.alloc(), 2)?;
-    let (mut seat, mut other) = (places.seat(), places.seat());
-    let (mut held, mut cursor) = (bag_of(70), places.start_put());
-    let looked = places.put_step(&mut seat, &mut cursor, Epoch::new(7), &mut held);
-    want_put_on(&rt, "the look", looked);
-    want(&rt, "the place is empty", places.look(&mut other, 0), 0);
-    let claimed = places.put_step(&mut seat, &mut cursor, Epoch::new(7), &mut held);
-    want_put_on(&rt, "the claim", claimed);
-    want(&rt, "it is claimed", places.look(&mut other, 0), 2);
-    want(&rt, "nothing has moved yet", held.len(), 1);
-    let filled = places.put_step(&mut seat, &mut cursor, Epoch::new(7), &mut held);
-    want(&rt, "the fill", filled, PutStep::Done);
-    want(&rt, "it is filled", places.look(&mut other, 0), 15);
-    want(&rt, "the other one is empty", places.look(&mut other, 1), 0);
-    want(&rt, "the job is in the place", held.is_empty(), true);
-    Ok(())
-}
-
-#[test]
-fn a_full_store_answers_full_at_the_look_at_the_last_place(rt: HostRuntime) -> Result<(), Fault> {
-    let places: SharedPlaces<u64> = SharedPlaces::new(rt.alloc(), 2)?;
-    let (mut one, mut two, mut seat) = (places.seat(), places.seat(), places.seat());
-    want(
-        &rt,
-        "a first bag",
-        put(&places, &mut one, 3, 30),
-        PutStep::Done,
-    );
-    want(
-        &rt,
-        "a second one",
-        put(&places, &mut two, 4, 40),
-        PutStep::Done,
-    );
-    let (mut held, mut cursor) = (bag_of(50), places.start_put());
-    let first = places.put_step(&mut seat, &mut cursor, Epoch::new(5), &mut held);
-    want_put_on(&rt, "one more place is left to look at", first);
-    want(&rt, "it looks at it next", cursor, PutCursor::Look(1));
-    let last = places.put_step(&mut seat, &mut cursor, Epoch::new(5), &mut held);
-    want(&rt, "the look at the last place", last, PutStep::Full);
-    want(&rt, "the job is held as before", held.len(), 1);
     Ok(())
 }
 
@@ -158,61 +111,17 @@ fn a_put_passes_a_place_whose_claim_it_lost(rt: HostRuntime) -> Result<(), Fault
     Ok(())
 }
 
-#[test]
-fn a_collection_by_cursor_looks_claims_and_empties(rt: HostRuntime) -> Result<(), Fault> {
-    let places: SharedPlaces<u64> = SharedPlaces::new(rt.alloc(), 2)?;
-    let (mut seat, mut other) = (places.seat(), places.seat());
-    want(&rt, "a bag", put(&places, &mut other, 3, 30), PutStep::Done);
-    let (expiry, mut cursor) = (Epoch::new(5), places.start_take());
-    let mut hand = Bag::new().seal(Epoch::starting());
-    let looked = places.take_step(&mut seat, &mut cursor, expiry, &mut hand);
-    want_take_on(&rt, "the look", looked);
-    want(
-        &rt,
-        "it claims the place next",
-        cursor,
-        TakeCursor::Claim(0, 7),
-    );
-    let claimed = places.take_step(&mut seat, &mut cursor, expiry, &mut hand);
-    want_take_on(&rt, "the claim", claimed);
-    want(&rt, "it is claimed", places.look(&mut other, 0), 2);
-    let got = places.take_step(&mut seat, &mut cursor, expiry, &mut hand);
-    want(&rt, "a bag is got", got, TakeStep::Got);
-    want(
-        &rt,
-        "it can go on behind the place",
-        cursor,
-        TakeCursor::Look(1),
-    );
-    want(&rt, "the place is empty", places.look(&mut other, 0), 0);
-    want(&rt, "the bag's seal", hand.seal(), 3);
-    want(&rt, "the bag's job", hand.take_next(), Some(30));
-    Ok(())
-}
-
 // Bags are sealed with 3, 4 and 5, and the epoch is 6: the last isn't expired.
 #[test]
 fn a_collection_takes_the_expired_bags_one_after_the_other(rt: HostRuntime) -> Result<(), Fault> {
     let places: SharedPlaces<u64> = SharedPlaces::new(rt.alloc(), 3)?;
     let (mut one, mut two, mut three) = (places.seat(), places.seat(), places.seat());
-    want(
-        &rt,
-        "a first bag",
-        put(&places, &mut one, 3, 30),
-        PutStep::Done,
-    );
-    want(
-        &rt,
-        "a second one",
-        put(&places, &mut two, 5, 50),
-        PutStep::Done,
-    );
-    want(
-        &rt,
-        "a third one",
-        put(&places, &mut three, 4, 40),
-        PutStep::Done,
-    );
+    let step = put(&places, &mut one, 3, 30);
+    want(&rt, "a first bag", step, PutStep::Done);
+    let step = put(&places, &mut two, 5, 50);
+    want(&rt, "a second one", step, PutStep::Done);
+    let step = put(&places, &mut three, 4, 40);
+    want(&rt, "a third one", step, PutStep::Done);
     let (mut seat, mut other) = (places.seat(), places.seat());
     let (expiry, mut cursor) = (Epoch::new(6), places.start_take());
     let first = take(&places, &mut seat, &mut cursor, expiry);
@@ -228,33 +137,25 @@ fn a_collection_takes_the_expired_bags_one_after_the_other(rt: HostRuntime) -> R
     Ok(())
 }
 
-/// The job of some bag that an end takes.
-fn job_at_end(places: &SharedPlaces<u64>, seat: &mut PlaceSeat<u64>) -> Option<u64>
-    requires of { IsPlaceSeatOf places.now seat.old }
-    requires rests { RestsAt seat.old.me }
-    ensures kept { IsSamePlaceSeat seat.old seat.new }
-    ensures rests { RestsAt seat.new.me }
-{
-    let mut bag = places.take_any(seat)?;
-    bag.take_next()
-}
-
+// The words: 0 for an empty place, 7 for a bag sealed with 3.
 #[test]
 fn a_collection_passes_a_place_whose_claim_it_lost(rt: HostRuntime) -> Result<(), Fault> {
     let places: SharedPlaces<u64> = SharedPlaces::new(rt.alloc(), 2)?;
-    let (mut first, mut other) = (places.seat(), places.seat());
-    want(&rt, "a bag", put(&places, &mut first, 3, 30), PutStep::Done);
-    let (mut seat, mut end) = (places.seat(), places.seat());
+    let (mut seat, mut other) = (places.seat(), places.seat());
+    let mut bag = Some(sealed_pair(5, 6));
+    want_word(&rt, "an empty place", places.claim(&mut other, 0, 0), 0);
+    places.fill(&mut other, 0, &mut bag);
     let (expiry, mut cursor) = (Epoch::new(5), places.start_take());
     let mut hand = Bag::new().seal(Epoch::starting());
     let looked = places.take_step(&mut seat, &mut cursor, expiry, &mut hand);
     want_take_on(&rt, "the look", looked);
-    let taken = job_at_end(&places, &mut end);
-    want(&rt, "another seat takes the bag first", taken, Some(30));
+    let won = places.claim(&mut other, 0, 7);
+    want_word(&rt, "another seat takes the bag first", won, 7);
+    places.empty(&mut other, 0, &mut bag);
     let lost = places.take_step(&mut seat, &mut cursor, expiry, &mut hand);
     want(&rt, "the claim is lost", lost, TakeStep::Again);
     want(&rt, "it looks at the next one", cursor, TakeCursor::Look(1));
     want(&rt, "the place is empty", places.look(&mut other, 0), 0);
-    want(&rt, "no bag is left", job_at_end(&places, &mut end), None);
+    want_pair(&rt, bag, 5, 6);
     Ok(())
 }
