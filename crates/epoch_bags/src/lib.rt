@@ -7,7 +7,7 @@ mod job;
 pub mod queue;
 
 pub use bag::{BAG_JOBS, Bag, SealedBag};
-pub use epoch::{Epoch, GREATEST_EPOCH};
+pub use epoch::{Epoch, FREE, GREATEST_EPOCH, UNPINNED, pinned_word};
 pub use job::{Called, FromCells, Job, Remove, Run, Work};
 pub use queue::{
     BagQueue, BagStore, MOST_BAGS, Places, PutCursor, PutStep, TakeCursor, TakeStep, take_some,
