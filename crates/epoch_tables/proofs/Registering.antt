@@ -98,7 +98,7 @@ module _ {S : Type 0} (positions : ℕ) where
   module _ (s : State S ParticipantView) (r : Rule s) (seen : ℕ) (looked : List (Option ℕ)) (found : List ℕ)
       (low : seen ≤ r.epoch) where
     abbrev new_view : ParticipantView
-    new_view = without_position seen looked found
+    new_view = without_position seen looked found []
 
     abbrev more_views : List ParticipantView
     more_views = s.views ++ new_view ∷ []
@@ -144,7 +144,7 @@ module _ {S : Type 0} (positions : ℕ) where
   pub new_seat_enters : (slots : ℕ) (first : ParticipantView)
       → Enters Rule slots 0 (λ x w. Sits {S = S} (step slots 0 0 0 maybe.none) (first, []) x (w, []))
   new_seat_enters slots first s r _ _ = let e : ℕ = r.epoch in (
-    without_position e (None ∷ []) (2 * e ∷ []),
+    without_position e (None ∷ []) (2 * e ∷ []) [],
     new_seat_keeps s r e (None ∷ []) (2 * e ∷ []) (omega arith),
     (refl, (e, r.epoch_word, refl)),
   )

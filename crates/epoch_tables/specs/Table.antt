@@ -99,3 +99,22 @@ abbrev pub NeverFalls : Type 0 → Type 0
 NeverFalls S = (positions : ℕ) (s : State S ParticipantView) → EpochsAgree positions s
     → (seat : ℕ) (view : ParticipantView) (epoch : ℕ) → Sees s seat view → slice_index s.words 0 ≡ 2 * epoch
     → view.seen ≤ epoch
+
+-- GRACE
+
+-- At the first of two moments the seat was pinned, and had read the epoch since it published; and at the second one it
+-- is pinned with that very reading.
+pub record StaysPinned {S : Type 0} (then now : State S ParticipantView) (seat : ℕ) : Type 0 where
+  pub first : ℕ
+  pub was_pinned : (view : ParticipantView) × Sees then seat view × (view.first_read ≡ Some first)
+  pub is_pinned : (view : ParticipantView) × Sees now seat view × (view.first_read ≡ Some first)
+
+-- No seat that was pinned at a moment when this was the epoch is still pinned at a moment when some seat has this view.
+abbrev pub HasNoPinSince : (S : Type 0) → ℕ → ParticipantView → Type 0
+HasNoPinSince S seal view = (positions : ℕ) (then now : State S ParticipantView)
+    → EpochsAgree positions then → EpochsAgree positions now → slice_index then.words 0 ≡ 2 * seal
+    → (knowing other : ℕ) → Sees now knowing view → ¬ (StaysPinned then now other)
+
+-- Whoever has read or stored an epoch for which a bag is expired knows that no pin of before its seal is left.
+abbrev pub HoldsBagsBack : Type 0 → Type 0
+HoldsBagsBack S = (seal : ℕ) (view : ParticipantView) → seal + 2 ≤ view.seen → HasNoPinSince S seal view

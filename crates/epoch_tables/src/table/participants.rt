@@ -82,7 +82,7 @@ impl Participants {
     /// A new seat, which has no position. Making it loads the epoch.
     pub fn seat(&self) -> ParticipantSeat
         ensures of { IsOf self.now result }
-        ensures view { (epoch : ℕ) × (result.me.0 ≡ without_position epoch (None ∷ []) (2 * epoch ∷ [])) }
+        ensures view { (epoch : ℕ) × (result.me.0 ≡ without_position epoch (None ∷ []) (2 * epoch ∷ []) []) }
     {
         self.table.shared.load_new_seat::<Sit>(0).1
     }

@@ -17,4 +17,6 @@ pub struct ParticipantView {
     pub looked: [Option<u64>; 0],
     /// The words found there, in the same order.
     pub found: [u64; 0],
+    /// The words that its stores put down, the oldest first: its own word, or the epoch's.
+    pub stored: [u64; 0],
 }
