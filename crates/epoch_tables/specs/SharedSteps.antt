@@ -73,8 +73,8 @@ abbrev pub IsBagWord : ℕ → Type 0
 IsBagWord word = (seal : ℕ) × (word ≡ 2 * seal + 1)
 
 module _ {J : Type 0} where
-  -- A place was passed: the word found there tells of no bag, or it was that of a bag, and the claim of it found another
-  -- word.
+  -- A place was passed: the word found there tells of no bag, or it was that of a bag, and the claim of it found
+  -- another word.
   abbrev pub PassesPlace : ℕ → PlaceView J → PlaceView J → Type 0
   PassesPlace place before after = (word : ℕ)
       × (((¬ (IsBagWord word)) × (after ≡ after_look before place word))

@@ -6,8 +6,8 @@ use Rattle.epoch_tables.specs.Table.{word_at, seat_word, IsWord, LetsPass}
 
 -- VIEWS
 
-abbrev pub without_position : ℕ → List (Option ℕ) → List ℕ → List ℕ → ParticipantView
-without_position seen looked found stored = record {
+abbrev pub without_position : ℕ → List (Option ℕ) → List ℕ → List ℕ → List ℕ → ParticipantView
+without_position seen looked found stored advanced = record {
   position = None;
   published = None;
   first_read = None;
@@ -16,11 +16,12 @@ without_position seen looked found stored = record {
   looked = looked;
   found = found;
   stored = stored;
+  advanced = advanced;
 }
 
 -- the view before any step
 abbrev pub spent : ParticipantView
-spent = without_position 0 [] [] []
+spent = without_position 0 [] [] [] []
 
 -- The first reading after a publish is kept.
 abbrev pub first_after : Option ℕ → Option ℕ → ℕ → Option ℕ
@@ -54,7 +55,7 @@ after_own v pinned = record v {
 
 -- it stored 0 as its own word, and gave its position up
 abbrev pub after_free : ParticipantView → ParticipantView
-after_free v = without_position v.seen v.looked v.found (v.stored ++ 0 ∷ [])
+after_free v = without_position v.seen v.looked v.found (v.stored ++ 0 ∷ []) v.advanced
 
 -- it found this word at a position, which holds its scan up, or which it doesn't get
 abbrev pub after_word : ParticipantView → ℕ → ℕ → ParticipantView
@@ -70,7 +71,7 @@ after_pass v epoch passed word = record v {
 
 -- it stored the epoch
 abbrev pub after_advance : ParticipantView → ℕ → ParticipantView
-after_advance v epoch = record v { seen = epoch; scan = None; stored = v.stored ++ 2 * epoch ∷ [] }
+after_advance v epoch = record v { seen = epoch; scan = None; advanced = v.advanced ++ epoch ∷ [] }
 
 -- it claimed a position
 abbrev pub after_claim : ParticipantView → ℕ → ℕ → ParticipantView
@@ -89,7 +90,7 @@ after_claim v claimed word = record v {
 module _ {S : Type 0} where
   abbrev pub Sits : Step S → Me S ParticipantView → ℕ → Me S ParticipantView → Type 0
   Sits step before word after = (after.1 ≡ [])
-      × ((epoch : ℕ) × (word ≡ 2 * epoch) × (after.0 ≡ without_position epoch (None ∷ []) (2 * epoch ∷ []) []))
+      × ((epoch : ℕ) × (word ≡ 2 * epoch) × (after.0 ≡ without_position epoch (None ∷ []) (2 * epoch ∷ []) [] []))
 
   abbrev pub LoadsEpoch : Step S → Me S ParticipantView → ℕ → Me S ParticipantView → Type 0
   LoadsEpoch step before word after = (after.1 ≡ before.1)

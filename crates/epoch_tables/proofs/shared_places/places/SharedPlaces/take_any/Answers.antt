@@ -18,8 +18,9 @@ loop-place-preserved g c =
       | else-word-eq1-via-then-word-eq1+else-claim-word w ↦ rw w.seat-is record {
         kept = search rules;
         rests = search rules;
-        passed = passed_one_more at _ before _ c.loop-place.invariant.passed (passed_lost at c.look-word.result before w.claim.new.seat.me.0
-            w.claim.result w.if-word-eq1.true w.if-claim-word.false
+        passed = passed_one_more at _ before _ c.loop-place.invariant.passed
+            (passed_lost at c.look-word.result before w.claim.new.seat.me.0 w.claim.result
+            w.if-word-eq1.true w.if-claim-word.false
             (ap (λ me. me.0) (w.claim.ensures.lost w.if-claim-word.false)
             ∙ ap (λ z. after_look z at w.claim.result) look));
       }
