@@ -1,8 +1,23 @@
 //! Epochs: a number that counts up, and whether a participant is pinned in it.
-ghost use Rattle.std.specs.Prelude.{◌≡◌, ◌+◌, ◌<◌, ◌≤◌, ◌↔◌, false, true, pos, ◌-ℤ◌, IsNone, IfSome};
+ghost use Rattle.std.specs.Prelude.{◌≡◌, ◌+◌, ◌*◌, ◌<◌, ◌≤◌, ◌↔◌, false, true, pos, ◌-ℤ◌, IsNone, IfSome};
 
 /// The greatest epoch, `2^63 - 1`: its word, pinned, is the greatest `u64`.
 pub const GREATEST_EPOCH: u64 = 9_223_372_036_854_775_807;
+
+/// The word of a position that no participant has.
+pub const FREE: u64 = 0;
+
+/// The word of a participant that is not pinned.
+pub const UNPINNED: u64 = 2;
+
+/// The word of a participant that is pinned in the epoch of this number. It is odd, as no other one is.
+#[inline(always)]
+pub fn pinned_word(epoch: u64) -> u64
+    requires { epoch ≤ GREATEST_EPOCH }
+    ensures { result ≡ 2 * epoch + 1 }
+{
+    2 * epoch + 1
+}
 
 /// An epoch: its number, from 0 to [`GREATEST_EPOCH`], and whether it is marked as pinned.
 ///

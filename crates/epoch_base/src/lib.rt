@@ -24,6 +24,7 @@ pub mod queue {
 pub mod table {
     pub use epoch_tables::table::{
         EpochRule, MOST_POSITIONS, ParticipantSeat, ParticipantView, Participants,
-        epoch_never_falls, expired_means_read_later, store_never_lowers,
+        each_epoch_is_stored, epoch_never_falls, expired_means_read_later,
+        pinned_seats_hold_bags_back, store_never_lowers,
     };
 }

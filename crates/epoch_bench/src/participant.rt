@@ -32,9 +32,9 @@ impl<'t> Participant<'t> {
 
     /// Loads the epoch, publishes it, loads the epoch again, and answers the number published.
     fn pin(&mut self) -> u64 {
-        let epoch = self.table.load_epoch(&mut self.seat) / 2;
+        let epoch = self.table.load_epoch_word(&mut self.seat) / 2;
         self.table.publish(&mut self.seat, self.position, epoch);
-        self.table.load_epoch(&mut self.seat);
+        self.table.load_epoch_word(&mut self.seat);
         epoch
     }
 
@@ -75,7 +75,7 @@ pub fn loads(table: &Participants, count: u64) -> u64 {
     let mut seat = table.seat();
     let mut sum: u64 = 0;
     for _ in 0..count {
-        sum = sum.wrapping_add(table.load_epoch(&mut seat));
+        sum = sum.wrapping_add(table.load_epoch_word(&mut seat));
     }
     sum
 }

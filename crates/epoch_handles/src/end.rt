@@ -44,6 +44,7 @@ fn end_places<T: Drop, W: Run>(
     let mut count = 0;
     for taken in 0..places.capacity() {
         count += end_one(places, seat, cells);
+        // Named here so that the loop's invariant can count by it.
         let _ = taken;
     }
     count

@@ -267,6 +267,7 @@ impl<'c, T: Drop, W: Run> LocalHandle<'c, T, W> {
         ensures found { Owns self.old guard.now → IsErr result ↔ (self.new.machine.full ≡ true) }
     {
         if !guard.is_protecting() {
+            // For the prover: a field read shows what a handle keeps between two calls.
             let _ = &self.local;
             return Ok(());
         }

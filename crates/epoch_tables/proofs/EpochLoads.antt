@@ -4,6 +4,7 @@ use Rattle.std.proofs.Common.{Some, None}
 use Rattle.std.proofs.lemmas.Option.{same_Some, none-some}
 use mathlib.Core.Option as maybe
 use lib.Seq.{set-get_or}
+use Rattle.std.specs.List.{Contains}
 use Rattle.atomic_table.specs.Table.{State, Me, step, keeps, Allows}
 use Rattle.epoch_tables.specs.declared.table.view.ParticipantView.{ParticipantView}
 use Rattle.epoch_tables.specs.Table.{EpochsAgree}
@@ -71,6 +72,8 @@ module _ {S : Type 0} (positions : ℕ) where
               long = refl;
               word = r.epoch_word;
               up = omega arith;
+              reaches = λ n below. inl below;
+              advanced = λ u at n has. subst (λ (z : ParticipantView). Contains z.advanced n) (one_view s.views id u v at here) has;
               own = λ k has. r.words_match id v k here has;
               others = λ j u k other at has. (refl, λ mine. other (r.one_seat_each j id u v k at here has mine));
               taken = λ k below held. inr (

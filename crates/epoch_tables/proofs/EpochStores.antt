@@ -1,8 +1,12 @@
 -- A store of the epoch after a whole scan keeps the rule: it raises the epoch, or leaves it as another scan raised it.
 use Rattle.std.proofs.Common.{◌≡◌, ℕ, ◌+◌, ◌*◌, ◌≤◌, get_or, set, refl, ap, ◌∙◌, subst, inr, arith, Some, length-set}
-use Rattle.std.proofs.Common.{get_or-set_other, get_or-set_same}
+use Rattle.std.proofs.Common.{get_or-set_other, get_or-set_same, inl, sym, ◌∷◌, []}
+use Rattle.std.proofs.lemmas.List.Elements.{Contains-append_left, Contains-append_right}
+use mathlib.Core.Logic.{dite}
+use native.Mathlib.Decide.{ℕ_discrete}
 use Rattle.std.proofs.lemmas.Option.{none-some}
 use mathlib.Core.Option as maybe
+use Rattle.std.specs.List.{Contains}
 use Rattle.atomic_table.specs.Table.{State, Me, step, keeps, Allows}
 use Rattle.epoch_tables.specs.declared.table.view.ParticipantView.{ParticipantView}
 use Rattle.epoch_tables.specs.Table.{word_at, Sees, EpochsAgree}
@@ -43,6 +47,11 @@ module _ {S : Type 0} (positions : ℕ) where
           long = length-set s.words 0 (2 * (x + 1));
           word = get_or-set_same s.words 0 (2 * (x + 1)) 0 (omega arith);
           up = omega arith;
+          reaches = λ n below. dite (ℕ_discrete n (x + 1))
+              (λ same. inr (Contains-append_right v.advanced ((x + 1) ∷ []) n (0, omega arith, sym same)))
+              (λ earlier. inl (omega arith));
+          advanced = λ u at n has. Contains-append_left v.advanced ((x + 1) ∷ []) n
+              (subst (λ (z : ParticipantView). Contains z.advanced n) (one_view s.views id u v at here) has);
           own = λ k has. let t = r.words_match id v k here has in (t.0, else k ∙ t.1);
           others = λ j u k other at has. (else k, λ mine. other (r.one_seat_each j id u v k at here has mine));
           taken = λ k below held. inr (

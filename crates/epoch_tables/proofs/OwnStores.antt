@@ -1,10 +1,11 @@
 -- A store of the own word keeps the rule: pinned, not pinned, or free.
 use Rattle.std.proofs.Common.{◌≡◌, ◌≢◌, ℕ, ◌+◌, ◌*◌, ◌<◌, ◌≤◌, get_or, set, sym, refl, ap, ◌∙◌, inl, inr, arith, Option}
-use Rattle.std.proofs.Common.{Some, None, length-set, get_or-set_other, get_or-set_same}
+use Rattle.std.proofs.Common.{Some, None, length-set, get_or-set_other, get_or-set_same, subst, List}
 use Rattle.std.proofs.lemmas.Option.{same_Some, none-some}
 use mathlib.Core.Logic.{dite}
 use mathlib.Core.Option as maybe
 use native.Mathlib.Decide.{ℕ_discrete}
+use Rattle.std.specs.List.{Contains}
 use Rattle.atomic_table.specs.Table.{State, Me, step, keeps, Allows}
 use Rattle.epoch_tables.specs.declared.table.view.ParticipantView.{ParticipantView}
 use Rattle.epoch_tables.specs.Table.{word_at, seat_word, Sees, EpochsAgree}
@@ -17,6 +18,7 @@ record Stored (v w : ParticipantView) (k word : ℕ) : Type 0 where
   pub only : (k' : ℕ) → w.position ≡ Some k' → (k' ≡ k) × (word ≡ seat_word w.published)
   pub kept : word ≢ 0 → w.position ≡ Some k
   pub same_seen : w.seen ≡ v.seen
+  pub same_advanced : w.advanced ≡ v.advanced
   pub pinned : (p : ℕ) → w.published ≡ Some p → (w.position ≡ Some k) × (p ≤ v.seen)
   pub no_first : w.first_read ≡ None
   pub no_scan : w.scan ≡ None
@@ -44,6 +46,9 @@ module _ {S : Type 0} (positions : ℕ) where
         long = length-set s.words (word_at k) word;
         word = get_or-set_other s.words (word_at k) 0 word 0 (λ e. omega arith) ∙ r.epoch_word;
         up = omega arith;
+        reaches = λ n below. inl below;
+        advanced = λ u at n has. subst (λ (l : List ℕ). Contains l n)
+            (ap (λ (z : ParticipantView). z.advanced) (one_view s.views id u v at here) ∙ sym o.same_advanced) has;
         own = λ k' has. let t = o.only k' has in
             let same = t.0 in
             let inside : k' < positions = omega arith in
@@ -81,6 +86,7 @@ module _ {S : Type 0} (positions : ℕ) where
       only = λ k' has. (same_Some k' k (sym has ∙ is_at), refl);
       kept = λ _. is_at;
       same_seen = refl;
+      same_advanced = refl;
       pinned = λ p' is. let same = same_Some p p' is in (is_at, omega arith);
       no_first = refl;
       no_scan = refl;
@@ -98,6 +104,7 @@ module _ {S : Type 0} (positions : ℕ) where
       only = λ k' has. (same_Some k' k (sym has ∙ is_at), refl);
       kept = λ _. is_at;
       same_seen = refl;
+      same_advanced = refl;
       pinned = λ p is. absurd (none-some p is);
       no_first = refl;
       no_scan = refl;
@@ -115,6 +122,7 @@ module _ {S : Type 0} (positions : ℕ) where
       only = λ k' has. absurd (none-some k' has);
       kept = λ not_free. absurd (not_free refl);
       same_seen = refl;
+      same_advanced = refl;
       pinned = λ p is. absurd (none-some p is);
       no_first = refl;
       no_scan = refl;

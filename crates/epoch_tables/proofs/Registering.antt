@@ -9,6 +9,7 @@ use mathlib.Core.Option as maybe
 use native.Mathlib.Decide.{ℕ_discrete}
 use lib.ListN.{get_elem?}
 use prog.Atomic.{either}
+use Rattle.std.specs.List.{Contains}
 use Rattle.atomic_table.specs.Table.{State, Me, step, keeps, stepped, Allows, Enters, opening}
 use Rattle.atomic_table.proofs.Lists.{at_snoc, at_longer}
 use Rattle.epoch_tables.specs.declared.table.view.ParticipantView.{ParticipantView}
@@ -46,6 +47,8 @@ module _ {S : Type 0} (positions : ℕ) where
         long = length-set s.words (word_at k) 2;
         word = get_or-set_other s.words (word_at k) 0 2 0 (λ e. omega arith) ∙ r.epoch_word;
         up = omega arith;
+        reaches = λ n below. inl below;
+        advanced = λ u at n has. subst (λ (z : ParticipantView). Contains z.advanced n) (one_view s.views id u v at here) has;
         own = λ k' has. let same = same_Some k k' has in
             let inside : k' < positions = omega arith in
             (inside, ap (λ (z : ℕ). get_or (set s.words (word_at k) 2) (word_at z) 0) (sym same) ∙ now);
@@ -98,7 +101,7 @@ module _ {S : Type 0} (positions : ℕ) where
   module _ (s : State S ParticipantView) (r : Rule s) (seen : ℕ) (looked : List (Option ℕ)) (found : List ℕ)
       (low : seen ≤ r.epoch) where
     abbrev new_view : ParticipantView
-    new_view = without_position seen looked found
+    new_view = without_position seen looked found [] []
 
     abbrev more_views : List ParticipantView
     more_views = s.views ++ new_view ∷ []
@@ -113,6 +116,9 @@ module _ {S : Type 0} (positions : ℕ) where
       epoch = r.epoch;
       as_many = r.as_many;
       epoch_word = r.epoch_word;
+      reached = λ n above below.
+          let t = r.reached n above below in
+          (t.0, t.1, at_longer s.views (new_view ∷ []) t.0 t.1 t.2, t.3);
       words_match = λ j u k at.
           each_old (λ u. u.position ≡ Some k → (k < positions) × (get_or s.words (word_at k) 0 ≡ seat_word u.published))
           j u at (λ old has. r.words_match j u k old has) (λ has. absurd (none-some k has));
@@ -144,7 +150,7 @@ module _ {S : Type 0} (positions : ℕ) where
   pub new_seat_enters : (slots : ℕ) (first : ParticipantView)
       → Enters Rule slots 0 (λ x w. Sits {S = S} (step slots 0 0 0 maybe.none) (first, []) x (w, []))
   new_seat_enters slots first s r _ _ = let e : ℕ = r.epoch in (
-    without_position e (None ∷ []) (2 * e ∷ []),
+    without_position e (None ∷ []) (2 * e ∷ []) [] [],
     new_seat_keeps s r e (None ∷ []) (2 * e ∷ []) (omega arith),
     (refl, (e, r.epoch_word, refl)),
   )
@@ -155,6 +161,7 @@ module _ {S : Type 0} (positions : ℕ) where
     epoch = 0;
     as_many = long;
     epoch_word = blank 0 (omega arith);
+    reached = λ n above below. absurd (omega arith);
     words_match =
         λ j u k at has. absurd (none-some k (ap (λ (z : ParticipantView). z.position) (only_view spent j u at) ∙ has));
     taken_by_seat = λ k below held. absurd (held (blank (word_at k) (omega arith)));

@@ -6,6 +6,7 @@ use mathlib.Core.Option.{some, some-injective, some-ne-none}
 use mathlib.Core.Option as maybe
 use native.Mathlib.Decide.{ℕ_discrete}
 use lib.ListN.{get_elem?}
+use Rattle.std.specs.List.{Contains}
 use Rattle.atomic_table.specs.Table.{State}
 use Rattle.atomic_table.proofs.Lists.{set_here, set_else}
 use Rattle.epoch_tables.specs.declared.table.view.ParticipantView.{ParticipantView}
@@ -20,6 +21,9 @@ module _ {S : Type 0} where
     pub long : length words ≡ length s.words
     pub word : get_or words 0 0 ≡ 2 * after
     pub up : before ≤ after
+    -- the epochs that it stored
+    pub reaches : (n : ℕ) → n ≤ after → (n ≤ before) ⊎ Contains w.advanced n
+    pub advanced : (u : ParticipantView) → Sees s me u → (n : ℕ) → Contains u.advanced n → Contains w.advanced n
     -- its own word
     pub own : (k : ℕ) → w.position ≡ Some k → (k < positions) × (get_or words (word_at k) 0 ≡ seat_word w.published)
     pub others : (j : ℕ) (u : ParticipantView) (k : ℕ) → j ≢ me → Sees s j u → u.position ≡ Some k
@@ -67,6 +71,16 @@ module _ {S : Type 0} where
         (λ other. (held.0, held.1, set_else s.views me held.0 w other ∙ held.2, held.3)))
         (o.taken k below not_free)
 
+    still_reached : (n : ℕ) → 0 < n → n ≤ after
+        → (j : ℕ) × (u : ParticipantView) × (get_elem? after_views j ≡ some u) × Contains u.advanced n
+    still_reached n above below = let me_there = set_here s.views me w (is_seat s.views me v at_me) in ⊎_elim
+        (λ (old : n ≤ r.epoch). let by = r.reached n above old in
+        dite (ℕ_discrete by.0 me)
+        (λ same. (me, w, me_there, o.advanced by.1 (subst (λ (z : ℕ). Sees s z by.1) same by.2) n by.3))
+        (λ other. (by.0, by.1, set_else s.views me by.0 w other ∙ by.2, by.3)))
+        (λ mine. (me, w, me_there, mine))
+        (o.reaches n below)
+
     still_one_seat_each : (i j : ℕ) (u its : ParticipantView) (k : ℕ) → get_elem? after_views i ≡ some u
         → get_elem? after_views j ≡ some its → u.position ≡ Some k → its.position ≡ Some k → i ≡ j
     still_one_seat_each i j u its k at_i at_j =
@@ -109,6 +123,7 @@ module _ {S : Type 0} where
       epoch = after;
       as_many = o.long ∙ r.as_many;
       epoch_word = o.word;
+      reached = still_reached;
       words_match = words_still_match;
       taken_by_seat = still_taken;
       one_seat_each = still_one_seat_each;

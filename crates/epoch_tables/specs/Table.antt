@@ -2,6 +2,7 @@
 -- Word 0 is twice the epoch. The word of a position is 0 where no seat has the position, 2 where a seat has it
 -- and isn't pinned, and 2e + 1 where that seat is pinned in e.
 use Rattle.std.specs.Prelude.{◌≡◌, ◌≢◌, ℕ, ◌+◌, ◌*◌, ◌<◌, ◌≤◌, ◌⊎◌, [], length, slice_index, Option, Some, None}
+use Rattle.std.specs.List.{Contains}
 use mathlib.Core.Option.{some}
 use lib.ListN.{get_elem?}
 use Rattle.atomic_table.specs.Table.{State}
@@ -42,6 +43,9 @@ pub record EpochsAgree {S : Type 0} (positions : ℕ) (s : State S ParticipantVi
   pub epoch : ℕ
   pub as_many : length s.words ≡ words_for positions
   pub epoch_word : slice_index s.words 0 ≡ 2 * epoch
+  -- Each epoch from 1 to the present one was stored by some seat. So the first epoch of all is 0.
+  pub reached : (number : ℕ) → 0 < number → number ≤ epoch
+      → (seat : ℕ) × (view : ParticipantView) × Sees s seat view × Contains view.advanced number
   -- Each word is what its seat's view says, and 0 where no seat has the position.
   pub words_match : (seat : ℕ) (view : ParticipantView) (position : ℕ) → Sees s seat view
       → view.position ≡ Some position
@@ -99,3 +103,28 @@ abbrev pub NeverFalls : Type 0 → Type 0
 NeverFalls S = (positions : ℕ) (s : State S ParticipantView) → EpochsAgree positions s
     → (seat : ℕ) (view : ParticipantView) (epoch : ℕ) → Sees s seat view → slice_index s.words 0 ≡ 2 * epoch
     → view.seen ≤ epoch
+
+-- Each epoch from 1 to the one that a seat would read now was stored by some seat, after its scan of the one before.
+abbrev pub EachIsStored : Type 0 → Type 0
+EachIsStored S = (positions : ℕ) (s : State S ParticipantView) → EpochsAgree positions s
+    → (epoch number : ℕ) → slice_index s.words 0 ≡ 2 * epoch → 0 < number → number ≤ epoch
+    → (seat : ℕ) × (view : ParticipantView) × Sees s seat view × Contains view.advanced number
+
+-- GRACE
+
+-- At the first of two moments the seat was pinned, and had read the epoch since it published; and at the second one it
+-- is pinned with that very reading.
+pub record IsPinnedStill {S : Type 0} (then now : State S ParticipantView) (seat : ℕ) : Type 0 where
+  pub first : ℕ
+  pub was_pinned : (view : ParticipantView) × Sees then seat view × (view.first_read ≡ Some first)
+  pub is_pinned : (view : ParticipantView) × Sees now seat view × (view.first_read ≡ Some first)
+
+-- No seat that was pinned at a moment when this was the epoch is still pinned at a moment when some seat has this view.
+abbrev pub HasNoPinSince : (S : Type 0) → ℕ → ParticipantView → Type 0
+HasNoPinSince S seal view = (positions : ℕ) (then now : State S ParticipantView)
+    → EpochsAgree positions then → EpochsAgree positions now → slice_index then.words 0 ≡ 2 * seal
+    → (knowing other : ℕ) → Sees now knowing view → ¬ (IsPinnedStill then now other)
+
+-- Whoever has read or stored an epoch for which a bag is expired knows that no pin of before its seal is left.
+abbrev pub HoldsBagsBack : Type 0 → Type 0
+HoldsBagsBack S = (seal : ℕ) (view : ParticipantView) → seal + 2 ≤ view.seen → HasNoPinSince S seal view

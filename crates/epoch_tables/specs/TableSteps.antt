@@ -2,12 +2,12 @@
 use Rattle.std.specs.Prelude.{◌≡◌, ◌≢◌, ℕ, ◌+◌, ◌*◌, ◌≤◌, List, [], ◌∷◌, ◌++◌, Option, Some, None}
 use Rattle.atomic_table.specs.Table.{Me, Step}
 use Rattle.epoch_tables.specs.declared.table.view.ParticipantView.{ParticipantView}
-use Rattle.epoch_tables.specs.Table.{word_at, IsWord, LetsPass}
+use Rattle.epoch_tables.specs.Table.{word_at, seat_word, IsWord, LetsPass}
 
 -- VIEWS
 
-abbrev pub without_position : ℕ → List (Option ℕ) → List ℕ → ParticipantView
-without_position seen looked found = record {
+abbrev pub without_position : ℕ → List (Option ℕ) → List ℕ → List ℕ → List ℕ → ParticipantView
+without_position seen looked found stored advanced = record {
   position = None;
   published = None;
   first_read = None;
@@ -15,11 +15,13 @@ without_position seen looked found = record {
   scan = None;
   looked = looked;
   found = found;
+  stored = stored;
+  advanced = advanced;
 }
 
 -- the view before any step
 abbrev pub spent : ParticipantView
-spent = without_position 0 [] []
+spent = without_position 0 [] [] [] []
 
 -- The first reading after a publish is kept.
 abbrev pub first_after : Option ℕ → Option ℕ → ℕ → Option ℕ
@@ -42,13 +44,18 @@ after_epoch v epoch = record v {
   found = v.found ++ 2 * epoch ∷ [];
 }
 
--- it stored its own word, pinned or not
+-- it stored its own word once, pinned or not
 abbrev pub after_own : ParticipantView → Option ℕ → ParticipantView
-after_own v pinned = record v { published = pinned; first_read = None; scan = None }
+after_own v pinned = record v {
+  published = pinned;
+  first_read = None;
+  scan = None;
+  stored = v.stored ++ seat_word pinned ∷ [];
+}
 
 -- it stored 0 as its own word, and gave its position up
 abbrev pub after_free : ParticipantView → ParticipantView
-after_free v = without_position v.seen v.looked v.found
+after_free v = without_position v.seen v.looked v.found (v.stored ++ 0 ∷ []) v.advanced
 
 -- it found this word at a position, which holds its scan up, or which it doesn't get
 abbrev pub after_word : ParticipantView → ℕ → ℕ → ParticipantView
@@ -64,7 +71,7 @@ after_pass v epoch passed word = record v {
 
 -- it stored the epoch
 abbrev pub after_advance : ParticipantView → ℕ → ParticipantView
-after_advance v epoch = record v { seen = epoch; scan = None }
+after_advance v epoch = record v { seen = epoch; scan = None; advanced = v.advanced ++ epoch ∷ [] }
 
 -- it claimed a position
 abbrev pub after_claim : ParticipantView → ℕ → ℕ → ParticipantView
@@ -83,7 +90,7 @@ after_claim v claimed word = record v {
 module _ {S : Type 0} where
   abbrev pub Sits : Step S → Me S ParticipantView → ℕ → Me S ParticipantView → Type 0
   Sits step before word after = (after.1 ≡ [])
-      × ((epoch : ℕ) × (word ≡ 2 * epoch) × (after.0 ≡ without_position epoch (None ∷ []) (2 * epoch ∷ [])))
+      × ((epoch : ℕ) × (word ≡ 2 * epoch) × (after.0 ≡ without_position epoch (None ∷ []) (2 * epoch ∷ []) [] []))
 
   abbrev pub LoadsEpoch : Step S → Me S ParticipantView → ℕ → Me S ParticipantView → Type 0
   LoadsEpoch step before word after = (after.1 ≡ before.1)

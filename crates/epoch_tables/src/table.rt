@@ -8,6 +8,9 @@ mod plays;
 mod steps;
 mod view;
 
-pub use laws::{epoch_never_falls, expired_means_read_later, store_never_lowers};
+pub use laws::{
+    each_epoch_is_stored, epoch_never_falls, expired_means_read_later, pinned_seats_hold_bags_back,
+    store_never_lowers,
+};
 pub use participants::{EpochRule, MOST_POSITIONS, ParticipantSeat, Participants};
 pub use view::ParticipantView;

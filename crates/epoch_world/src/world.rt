@@ -33,7 +33,7 @@ mod seat;
 
 use calls::{go_on, go_to_end, most_steps};
 use common::Common;
-use epoch_bags::{Bag, BagStore, Epoch, Places, SealedBag};
+use epoch_bags::{Bag, BagStore, Epoch, FREE, Places, SealedBag, UNPINNED, pinned_word};
 use epoch_cells::Fault;
 use epoch_heap::{Answer, Heap};
 use epoch_laws::{Call, Deferral, Reply, Shape, Step, Word};
@@ -493,14 +493,14 @@ fn first_free(seats: &Vec<Seat>) -> Option<usize>
     None
 }
 
-/// A word as a number: 0 is free, 2 not pinned, and `2e + 1` pinned in the epoch e.
+/// A word as a number, as threads store it.
 fn number_of(word: Word) -> u64
     requires { WordFits word }
     ensures { result ≡ word_number word }
 {
     match word {
-        Word::Free => 0,
-        Word::Unpinned => 2,
-        Word::Pinned(epoch) => 2 * epoch + 1,
+        Word::Free => FREE,
+        Word::Unpinned => UNPINNED,
+        Word::Pinned(epoch) => pinned_word(epoch),
     }
 }

@@ -43,11 +43,11 @@ fn one_participant_scans_itself_and_advances_the_epoch(rt: HostRuntime) -> Resul
     want_word(
         &rt,
         "a new table is in epoch 0",
-        table.load_epoch(&mut seat),
+        table.load_epoch_word(&mut seat),
         0,
     );
     table.publish(&mut seat, 0, 0);
-    want_word(&rt, "it still is", table.load_epoch(&mut seat), 0);
+    want_word(&rt, "it still is", table.load_epoch_word(&mut seat), 0);
     let own = table.load_word(&mut seat, 0);
     want_word(
         &rt,
@@ -56,7 +56,12 @@ fn one_participant_scans_itself_and_advances_the_epoch(rt: HostRuntime) -> Resul
         1,
     );
     table.advance(&mut seat, 0);
-    want_word(&rt, "the word of epoch 1", table.load_epoch(&mut seat), 2);
+    want_word(
+        &rt,
+        "the word of epoch 1",
+        table.load_epoch_word(&mut seat),
+        2,
+    );
     let behind = table.load_word(&mut seat, 0);
     want(
         &rt,

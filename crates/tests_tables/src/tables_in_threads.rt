@@ -18,9 +18,9 @@ fn pin_and_advance(table: &Participants, seat: &mut ParticipantSeat, position: u
     ensures kept { IsSameSeat seat.old seat.new }
     ensures own { seat.new.me.0.position ≡ Some position }
 {
-    let published = table.load_epoch(seat) / 2;
+    let published = table.load_epoch_word(seat) / 2;
     table.publish(seat, position, published);
-    let epoch = table.load_epoch(seat) / 2;
+    let epoch = table.load_epoch_word(seat) / 2;
     for other in 0..table.positions() {
         let word = table.load_word(seat, other);
         if word % 2 == 1 && word != 2 * epoch + 1 {
@@ -61,7 +61,7 @@ fn come_and_go(table: &Participants, rounds: u64, greatest: &AtomicU64) {
 
 fn epoch_of(table: &Participants) -> u64 {
     let mut seat = table.seat();
-    table.load_epoch(&mut seat) / 2
+    table.load_epoch_word(&mut seat) / 2
 }
 
 /// How many positions a new seat can claim.

@@ -14,7 +14,7 @@ ghost use Rattle.epoch_bags.specs.PlaceLists.{ArePlaces, bags_in, taken_places, 
 ghost use Rattle.epoch_bags.specs.PlaceLists.{Fills, Empties, LeavesPlace};
 
 use super::size::tell_size;
-use crate::{Bag, BagStore, Epoch, MOST_BAGS, PutStep, SealedBag, TakeStep};
+use crate::{Bag, BagStore, Epoch, GREATEST_EPOCH, MOST_BAGS, PutStep, SealedBag, TakeStep};
 use epoch_cells::Fault;
 use std::alloc::Global;
 use std::marker::Model;
@@ -23,7 +23,16 @@ use std::marker::Model;
 pub const EMPTY: u64 = 0;
 
 /// The word of a claimed place.
-const CLAIMED: u64 = 2;
+pub const CLAIMED: u64 = 2;
+
+/// The word of a place that holds a bag with this seal. It is odd, as no other one is.
+#[inline(always)]
+pub fn place_word(seal: u64) -> u64
+    requires { seal ≤ GREATEST_EPOCH }
+    ensures { result ≡ 2 * seal + 1 }
+{
+    2 * seal + 1
+}
 
 /// The next step of a put, and its place.
 #[derive(Clone, Copy, Debug, PartialEq, Eq)]
@@ -155,7 +164,7 @@ fn fill<J: Default + Drop>(
         return false;
     }
     let seal = seal.number();
-    places.words[place] = 2 * seal + 1;
+    places.words[place] = place_word(seal);
     // `Bag::seal` would ask of each caller that a sealed bag's size is in range, which a generic `J` leaves open.
     places.bags[place] = Some(SealedBag {
         seal,
@@ -195,7 +204,7 @@ fn empty<J: Drop>(
         return false;
     };
     if !bag.is_expired(expiry) {
-        places.words[place] = 2 * bag.seal() + 1;
+        places.words[place] = place_word(bag.seal());
         return false;
     }
     if let Some(bag) = clear(places, place) {
@@ -234,7 +243,12 @@ pub fn take_further(cursor: &mut TakeCursor, place: usize, places: usize) -> Tak
     }
 }
 
-/// Whether the word tells of a bag that is expired for this epoch.
+/// Whether the word tells of a bag whose seal is two epochs or more behind this one: its jobs may be called.
+///
+/// Why two: an advance needs every pinned participant to be pinned in the present epoch, so the epoch rises at most
+/// once past a participant that stays pinned. One that was pinned, and had read the epoch again, when the bag was
+/// sealed had read the seal at most. So while it stays pinned the epoch is at most one past the seal, and no thread
+/// finds the bag expired. One epoch would be too few: the first advance may come while that participant is pinned.
 #[inline(always)]
 pub fn is_expired_word(word: u64, expiry: Epoch) -> bool
     ensures { IsTrue result ↔ ((word % 2 ≡ 1) × (word / 2 + 2 ≤ expiry.number)) }

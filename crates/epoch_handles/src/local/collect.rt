@@ -87,6 +87,8 @@ impl<'c, T: Drop, W: Run> Local<'c, T, W> {
         requires within { expiry < 2 ^ 63 }
         ensures { TakesBags W.done W.Removing.tried self.old self.new }
     {
+        // Each collection begins at the first place: since the last one, a bag may have been put into a place that it
+        // had passed.
         let mut cursor = self.pass_places(expiry);
         'bags: loop {
             let step = self

@@ -24,7 +24,7 @@ impl<'c, T, W> Local<'c, T, W> {
         let (collector, position) = (self.collector, self.position);
         let participants = &collector.participants;
         participants.publish(&mut self.seat, position, epoch);
-        let _again = participants.load_epoch(&mut self.seat);
+        let _again = participants.load_epoch_word(&mut self.seat);
     }
 
     /// The steps of a pin. Answers the epoch that was published.

@@ -22,6 +22,7 @@ impl<'c, T: Drop, W: Run> Local<'c, T, W> {
     {
         let seal = self.load_epoch();
         self.machine.sealed(seal);
+        // Anew for each put: `BagsFull` tells that this very put saw each place occupied, after its load of the seal.
         let mut cursor = self.collector.places.start_put();
         loop {
             let step = self

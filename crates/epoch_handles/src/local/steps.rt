@@ -16,7 +16,7 @@ impl<'c, T, W> Local<'c, T, W> {
         ensures rises { self.old.seat.me.0.seen ≤ result }
         ensures steps { Steps self.old self.new (after_epoch self.old.seat.me.0 result) }
     {
-        self.collector.participants.load_epoch(&mut self.seat) / 2
+        self.collector.participants.load_epoch_word(&mut self.seat) / 2
     }
 
     /// Stores the own word: pinned in this epoch.

@@ -84,6 +84,7 @@ impl<J: Default + Drop> Machine<J> {
             TakeStep::Again => {}
             TakeStep::Empty => self.stage = after,
             TakeStep::Got => {
+                // For the prover: its range shows that the bag has at most 64 jobs.
                 let _few = self.hand.len();
                 let none_left = self.hand.is_empty();
                 self.stage = after_job(self.sizes.collect_bags, after, expiry, taken, none_left);

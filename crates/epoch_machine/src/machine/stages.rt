@@ -6,7 +6,7 @@ ghost use Rattle.epoch_machine.specs.declared.machine.Stage.TheVariants.{End};
 ghost use Rattle.epoch_machine.specs.declared.machine.Sizes.{Sizes};
 
 use super::{Action, Machine, Stage};
-use epoch_bags::GREATEST_EPOCH;
+use epoch_bags::{GREATEST_EPOCH, pinned_word};
 
 impl<J: Drop> Machine<J> {
     pub(super) fn first_stage(&self, action: Action) -> Stage
@@ -14,6 +14,7 @@ impl<J: Drop> Machine<J> {
         ensures fits { StageFits self.now.sizes (length self.now.held) result }
         ensures calls_nothing { is_calling result ≡ false }
     {
+        // For the prover: a field read shows that no more jobs are held than a bag takes.
         let _within = &self.held;
         match action {
             Action::Pin => {
@@ -156,7 +157,7 @@ pub fn holds_up(epoch: u64, word: u64) -> bool
     requires { epoch < 2 ^ 63 }
     ensures { result ≡ holds_up epoch word }
 {
-    word % 2 == 1 && word != 2 * epoch + 1
+    word % 2 == 1 && word != pinned_word(epoch)
 }
 
 /// The stage after a word that the scan of `epoch` has looked at.

@@ -12,7 +12,7 @@ ghost use Rattle.epoch_tables.specs.SharedSteps.{RestsAt, HoldsAt, PutsAt, Takes
 use crate::shared_places::places::{PlaceSeat, SharedPlaces};
 use crate::shared_places::plays::Store;
 use crate::shared_places::steps::word_index;
-use epoch_bags::queue::places::{EMPTY, is_expired_word, put_further, take_further};
+use epoch_bags::queue::places::{EMPTY, is_expired_word, place_word, put_further, take_further};
 use epoch_bags::{Bag, Epoch, PutCursor, PutStep, SealedBag, TakeCursor, TakeStep};
 
 impl<J: Default + Drop> SharedPlaces<J> {
@@ -22,6 +22,7 @@ impl<J: Default + Drop> SharedPlaces<J> {
         ensures first { result ≡ PutCursor.Look 0 }
         ensures at { (me : PlaceMe J) → RestsAt me → PutsAt self.now.capacity result me }
     {
+        // For the prover: a field read shows that there is a place at all.
         let _ = &self.table;
         PutCursor::Look(0)
     }
@@ -90,7 +91,7 @@ impl<J: Default + Drop> SharedPlaces<J> {
         held.seal_into(seal, seat.slot_mut(&self.table.shared, place));
         self.table
             .shared
-            .store::<Store>(seat, word_index(place), 2 * seal.number() + 1);
+            .store::<Store>(seat, word_index(place), place_word(seal.number()));
     }
 
     /// The cursor of a collection that has taken no step: it looks at place 0 first.
@@ -169,7 +170,9 @@ impl<J: Default + Drop> SharedPlaces<J> {
             unreachable!()
         };
         *hand = taken;
-        self.table.shared.store::<Store>(seat, word_index(place), 0);
+        self.table
+            .shared
+            .store::<Store>(seat, word_index(place), EMPTY);
     }
 
     /// Looks at each place once, from place 0 up, and takes out the first bag that it finds and whose claim it

@@ -7,6 +7,7 @@ ghost use Rattle.epoch_tables.specs.SharedPlaces.{after_place_claim, after_store
 use crate::shared_places::places::{PlaceSeat, SharedPlaces};
 use crate::shared_places::plays::{Claim, Look, Store};
 use epoch_bags::SealedBag;
+use epoch_bags::queue::places::{CLAIMED, EMPTY, place_word};
 use std::mem;
 
 /// Where the word of a place stands.
@@ -22,8 +23,8 @@ pub(crate) fn word_index(place: usize) -> usize
 }
 
 impl<J> SharedPlaces<J> {
-    /// Loads a place's word: 0 where it is empty, 2 where it is claimed, and 2s + 1 where it holds a
-    /// bag sealed with s. No bag is moved.
+    /// Loads a place's word: [`EMPTY`], [`CLAIMED`], or the [`place_word`] of the seal of the bag that it holds.
+    /// No bag is moved.
     #[inline(always)]
     pub fn look(&self, seat: &mut PlaceSeat<J>, place: usize) -> u64
         requires of { IsPlaceSeatOf self.now seat.old }
@@ -42,7 +43,7 @@ impl<J> SharedPlaces<J> {
         requires of { IsPlaceSeatOf self.now seat.old }
         requires within { place < self.now.capacity }
         requires free { seat.old.me.0.claimed ≡ None }
-        requires word { word ≢ 2 }
+        requires word { word ≢ CLAIMED }
         ensures kept { IsSamePlaceSeat seat.old seat.new }
         ensures answer { IsPlaceWord result }
         ensures won { result ≡ word → (bag : Option (Sealed J)) × IsAtHome word bag
@@ -51,7 +52,7 @@ impl<J> SharedPlaces<J> {
     {
         self.table
             .shared
-            .compare_exchange::<Claim>(seat, word_index(place), word, 2)
+            .compare_exchange::<Claim>(seat, word_index(place), word, CLAIMED)
     }
 
     /// Moves `bag` into the claimed place, which has none, and stores its seal. `bag` is `None` then.
@@ -70,10 +71,10 @@ impl<J> SharedPlaces<J> {
         mem::swap(bag, seat.slot_mut(&self.table.shared, place));
         self.table
             .shared
-            .store::<Store>(seat, word_index(place), 2 * seal + 1);
+            .store::<Store>(seat, word_index(place), place_word(seal));
     }
 
-    /// Moves what the claimed place holds into `bag`, which is `None` before, and stores 0.
+    /// Moves what the claimed place holds into `bag`, which is `None` before, and stores [`EMPTY`].
     #[inline(never)]
     pub fn empty(&self, seat: &mut PlaceSeat<J>, place: usize, bag: &mut Option<SealedBag<J>>)
         requires of { IsPlaceSeatOf self.now seat.old }
@@ -85,6 +86,8 @@ impl<J> SharedPlaces<J> {
         ensures view { seat.new.me ≡ (after_store seat.old.me.0 None, []) }
     {
         mem::swap(seat.slot_mut(&self.table.shared, place), bag);
-        self.table.shared.store::<Store>(seat, word_index(place), 0);
+        self.table
+            .shared
+            .store::<Store>(seat, word_index(place), EMPTY);
     }
 }

@@ -1,7 +1,8 @@
 //! What the rule of the table means for epochs and for bags.
 //!
 //! Each function here does nothing: its contract is a law about any table that keeps the rule.
-ghost use Rattle.epoch_tables.specs.Table.{IsNeverLowered, ReadsAfterSeal, NeverFalls};
+ghost use Rattle.epoch_tables.specs.Table.{IsNeverLowered, ReadsAfterSeal, NeverFalls, HoldsBagsBack};
+ghost use Rattle.epoch_tables.specs.Table.{EachIsStored};
 
 /// Once a seat has passed all positions in its scan for an epoch, and until it scans anew, the present
 /// epoch is that one or the next. So the plain store of the next one never lowers it.
@@ -18,4 +19,15 @@ pub fn expired_means_read_later()
 /// The epoch is never below one that a seat has read or stored.
 pub fn epoch_never_falls()
     ensures { NeverFalls (Unit {0}) }
+{}
+
+/// A table begins in epoch 0: each later epoch was stored by some seat, from 1 to the present one.
+pub fn each_epoch_is_stored()
+    ensures { EachIsStored (Unit {0}) }
+{}
+
+/// While a participant stays pinned that was pinned, and had read the epoch again, when the epoch was the seal of a
+/// bag, no seat reads or stores an epoch for which that bag is expired.
+pub fn pinned_seats_hold_bags_back()
+    ensures { HoldsBagsBack (Unit {0}) }
 {}

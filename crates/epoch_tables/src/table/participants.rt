@@ -52,7 +52,8 @@ impl Model for Participants {
 }
 
 impl Participants {
-    /// A table with so many positions, from 1 to [`MOST_POSITIONS`], all free, in epoch 0.
+    /// A table with so many positions, from 1 to [`MOST_POSITIONS`], all free, in epoch 0: see
+    /// [`each_epoch_is_stored`](crate::table::each_epoch_is_stored).
     ///
     /// `NoMemory`: an allocation was refused.
     pub fn new(alloc: Global, positions: usize) -> Result<Participants, Fault>
@@ -82,7 +83,7 @@ impl Participants {
     /// A new seat, which has no position. Making it loads the epoch.
     pub fn seat(&self) -> ParticipantSeat
         ensures of { IsOf self.now result }
-        ensures view { (epoch : ℕ) × (result.me.0 ≡ without_position epoch (None ∷ []) (2 * epoch ∷ [])) }
+        ensures view { (epoch : ℕ) × (result.me.0 ≡ without_position epoch (None ∷ []) (2 * epoch ∷ []) [] []) }
     {
         self.table.shared.load_new_seat::<Sit>(0).1
     }

@@ -6,7 +6,7 @@ ghost use Rattle.epoch_tables.specs.TableSteps.{after_advance, after_claim};
 
 use crate::table::participants::{ParticipantSeat, Participants};
 use crate::table::plays::{Claim, Free, LoadEpoch, LoadWord, Publish, StoreEpoch, Unpin};
-use epoch_bags::GREATEST_EPOCH;
+use epoch_bags::{FREE, GREATEST_EPOCH, UNPINNED, pinned_word};
 
 /// Where the word of a position stands.
 ///
@@ -21,7 +21,7 @@ fn word_index(position: usize) -> usize
 
 impl Participants {
     /// Loads the epoch word, which is twice the epoch, and no lower than any that this seat has seen.
-    pub fn load_epoch(&self, seat: &mut ParticipantSeat) -> u64
+    pub fn load_epoch_word(&self, seat: &mut ParticipantSeat) -> u64
         requires of { IsOf self.now seat.old }
         ensures kept { IsSameSeat seat.old seat.new }
         ensures answer { result ≡ 2 * (result / 2) }
@@ -42,7 +42,7 @@ impl Participants {
     {
         self.table
             .shared
-            .store::<Publish>(seat, word_index(position), 2 * epoch + 1);
+            .store::<Publish>(seat, word_index(position), pinned_word(epoch));
     }
 
     /// Stores the own word: registered, and not pinned.
@@ -54,7 +54,7 @@ impl Participants {
     {
         self.table
             .shared
-            .store::<Unpin>(seat, word_index(position), 2);
+            .store::<Unpin>(seat, word_index(position), UNPINNED);
     }
 
     /// Stores the own word: free. The seat has no position from then on.
@@ -66,7 +66,7 @@ impl Participants {
     {
         self.table
             .shared
-            .store::<Free>(seat, word_index(position), 0);
+            .store::<Free>(seat, word_index(position), FREE);
     }
 
     /// Loads the word of the position that this seat's scan is at, and passes it where the word lets it.
@@ -101,17 +101,17 @@ impl Participants {
             .store::<StoreEpoch>(seat, 0, 2 * (epoch + 1));
     }
 
-    /// Tries to claim a position, and answers the word found there: 0 exactly where the seat has it now.
+    /// Tries to claim a position, and answers the word found there: [`FREE`] exactly where the seat has it now.
     pub fn claim(&self, seat: &mut ParticipantSeat, position: usize) -> u64
         requires of { IsOf self.now seat.old }
         requires free { (seat.old.me.0.position ≡ None) × (position < self.now.positions) }
         ensures kept { IsSameSeat seat.old seat.new }
         ensures answer { IsWord result }
-        ensures won { result ≡ 0 → seat.new.me.0 ≡ after_claim seat.old.me.0 position 0 }
-        ensures lost { result ≢ 0 → seat.new.me.0 ≡ after_word seat.old.me.0 position result }
+        ensures won { result ≡ FREE → seat.new.me.0 ≡ after_claim seat.old.me.0 position 0 }
+        ensures lost { result ≢ FREE → seat.new.me.0 ≡ after_word seat.old.me.0 position result }
     {
         self.table
             .shared
-            .compare_exchange::<Claim>(seat, word_index(position), 0, 2)
+            .compare_exchange::<Claim>(seat, word_index(position), FREE, UNPINNED)
     }
 }

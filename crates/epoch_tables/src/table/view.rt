@@ -17,4 +17,8 @@ pub struct ParticipantView {
     pub looked: [Option<u64>; 0],
     /// The words found there, in the same order.
     pub found: [u64; 0],
+    /// The words that it stored as its own, the oldest first.
+    pub stored: [u64; 0],
+    /// The epochs that it stored, the oldest first.
+    pub advanced: [u64; 0],
 }

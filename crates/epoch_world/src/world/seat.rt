@@ -169,11 +169,15 @@ impl Seat {
     {
         match ask {
             Ask::LoadEpoch => {
+                // A put loads the epoch, its bag's seal, right before its first step on a place. It begins at the
+                // first place, so that a refusal tells of places that were all seen occupied after this load.
                 *putting = begin_put(&common.store);
                 self.machine.take(Found::Epoch(common.epoch));
                 Reply::Stepped
             }
             Ask::LoadWord(_) => {
+                // A collection begins at the first place. Its first look comes right after a word that ends its
+                // scan, as this one may be, or after the store of the epoch.
                 *taking = common.store.start_take();
                 self.machine.take(Found::Word(word));
                 Reply::Stepped
@@ -195,6 +199,7 @@ impl Seat {
                 Reply::Done(Answer::Released)
             }
             Ask::StoreEpoch(number) => {
+                // The other step that is followed by a collection's first look.
                 *taking = common.store.start_take();
                 self.advance(number, &mut common.epoch);
                 Reply::Stepped
@@ -345,6 +350,7 @@ impl Seat {
         ensures { (did : Touched) × Touches access made found heap.old did × (result ≡ access_reply did.told)
             × (self.new ≡ accessed_seat access made did.told self.old) × (heap.new ≡ did.heap) }
     {
+        // For the prover: a field read shows what a seat keeps between two steps.
         let _ = &self.readings;
         let told = heap.touch(access, made, found);
         keep_readings(&mut self.readings, access, told);
@@ -427,6 +433,7 @@ fn begin_put<S: BagStore<Job = Deferral>>(store: &S) -> S::Putting
     ensures room { ((place : ℕ) → ¬ (S.Reserved store.now place))
         × (length (S.queued store.now) < length (S.occupied store.now)) → S.has_room store.now result ≡ true }
 {
+    // For the prover: its range shows how few steps the put takes at most.
     let _places = store.capacity();
     store.start_put()
 }

@@ -1,4 +1,4 @@
-use Rattle.std.proofs.Common.{◌≡◌, ◌+◌, ◌*◌, ◌<◌, length, ap, arith, refl, sym, subst, ◌∙◌, None, Some, IsSome}
+use Rattle.std.proofs.Common.{◌≡◌, ◌<◌, length, ap, arith, sym, subst, ◌∙◌, None, Some, IsSome}
 use Rattle.std.proofs.Common.{slice_index_or}
 use Rattle.epoch_bags.specs.Bags.{Sealed}
 use Rattle.epoch_bags.specs.PlaceLists.{PlaceList}
@@ -11,8 +11,8 @@ invariant_of-places g c =
     let within : c.args.place < length c.places.inside.words.items =
     omega (arith, ap (λ (p : PlaceList g.row.J.Denot). length p.words) c.places.view_is) in
     let bag : Sealed g.row.J.Denot = record { seal = c.number-seal.result; jobs = c.take-2.inside.jobs.items } in
-    sets_place c.places.inside.words.items c.places.inside.bags.items c.args.place (2 * c.number-seal.result + 1)
-    (Some bag) within (sealed_matches (2 * c.number-seal.result + 1) bag refl) c.places.invariant
+    sets_place c.places.inside.words.items c.places.inside.bags.items c.args.place c.place_word.result
+    (Some bag) within (sealed_matches c.place_word.result bag c.place_word.ensures) c.places.invariant
 
 -- a bag is at home, so the word is another than that of an empty place
 pub returns-then-is_some-clause-there : goal.returns-then-is_some-clause-there

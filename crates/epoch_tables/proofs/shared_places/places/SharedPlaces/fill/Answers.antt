@@ -16,8 +16,8 @@ store-requires g c =
     let seal = c.seal-seal.ensures.value in
     let left = subst (λ held. IsAtHome (2 * c.seal-seal.result + 1) held) (sym (c.swap.ensures.y_after ∙ c.in-Some.is))
     (ap (λ (z : ℕ). 2 * z + 1) seal) in
-    rw c.word_index.ensures
-    (search rules, omega arith, place_store_keeps _ _ _ _ _ _ bag c.requires.claimed.1 carried left)
+    rw c.place_word.ensures (rw c.word_index.ensures
+    (search rules, omega arith, place_store_keeps _ _ _ _ _ _ bag c.requires.claimed.1 carried left))
 
 -- the view keeps what is in the slot, which is the bag put
 pub returns-clause-view : goal.returns-clause-view

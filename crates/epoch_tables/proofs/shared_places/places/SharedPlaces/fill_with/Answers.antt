@@ -14,8 +14,8 @@ store-requires g c =
     let bag : Sealed g.row.J.Denot = record { seal = c.args.seal.number; jobs = c.args.held.now.jobs } in
     let place : ℕ = c.args.place in
     let carried = ap (λ l. (place, Some bag) ∷ rest l) c.requires.holds.1 in
-    rw c.seal_into.ensures.sealed (rw c.number.ensures.value (rw c.word_index.ensures
-    (search rules, omega arith, place_store_keeps _ _ _ _ _ _ (Some bag) c.requires.holds.0 carried refl)))
+    rw c.seal_into.ensures.sealed (rw c.place_word.ensures (rw c.number.ensures.value (rw c.word_index.ensures
+    (search rules, omega arith, place_store_keeps _ _ _ _ _ _ (Some bag) c.requires.holds.0 carried refl))))
 
 -- the view keeps what is in the slot, which is the bag put
 pub returns-clause-view : goal.returns-clause-view

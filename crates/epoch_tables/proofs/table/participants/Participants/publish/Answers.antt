@@ -8,4 +8,5 @@ store-requires c =
     let same : c.self.inside.positions ≡ c.args.self.now.positions = ap (λ (b : Board). b.positions) c.self.view_is in
     let wide = c.self.invariant.words in
     let below = c.requires.own.1 in
-    rw c.word_index.ensures (search rules, omega arith, publish_keeps _ _ _ _ _ _ c.requires.own.0 c.requires.read)
+    rw c.pinned_word.ensures (rw c.word_index.ensures
+    (search rules, omega arith, publish_keeps _ _ _ _ _ _ c.requires.own.0 c.requires.read))

@@ -1,7 +1,7 @@
 use Rattle.std.proofs.Common.{rules, ◌≡◌, ℕ, ◌*◌, ◌/◌, ap, ◌∙◌, arith}
 use Rattle.epoch_tables.specs.TableSteps.{after_epoch}
 use Rattle.epoch_tables.proofs.EpochLoads.{epoch_load_keeps}
-use Rattle.epoch_tables.proofs.table.participants.Participants.load_epoch.Goals as goal
+use Rattle.epoch_tables.proofs.table.participants.Participants.load_epoch_word.Goals as goal
 
 pub load-requires : goal.load-requires
 load-requires c = let wide = c.self.invariant.words in (search rules, omega arith, epoch_load_keeps _ _ _ _)
