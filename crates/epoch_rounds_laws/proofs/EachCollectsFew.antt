@@ -230,11 +230,7 @@ taken_aside : (q taken : ℕ) (old new : State) (step : Step) (r : Reply)
     (places : List Bool) (seen ahead : List ℕ) (room : List Bool)
     → taken_after q taken old step r (with_places new places seen ahead room) ≡ taken_after q taken old step r new
 taken_aside q taken old new (Begin p c) Began places seen ahead room = refl
-taken_aside q taken old new (Begin p c) _ places seen ahead room = refl
-taken_aside q taken old new (Go p) r places seen ahead room = refl
-taken_aside q taken old new Register r places seen ahead room = refl
-taken_aside q taken old new EndStep r places seen ahead room = refl
-taken_aside q taken old new EndGo r places seen ahead room = refl
+taken_aside q taken old new _ _ places seen ahead room = refl
 
 aside : (z : Sizes) (taken others called : ℕ → ℕ) (s : State) (places : List Bool) (seen ahead : List ℕ)
     (room : List Bool) → ((q : ℕ) → taken q ≡ others q) → Holds z taken called (with_places s places seen ahead room)

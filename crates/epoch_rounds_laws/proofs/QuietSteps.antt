@@ -15,10 +15,9 @@ use Rattle.epoch_machine.specs.declared.machine.Ask.{Ask}
 use Rattle.epoch_machine.specs.declared.machine.Ask.TheVariants.{TakeBag, CallJob}
 use Rattle.epoch_machine.specs.declared.machine.Sizes.{Sizes}
 use Rattle.epoch_machine.specs.declared.machine.Stage.{Stage}
-use Rattle.epoch_machine.specs.declared.machine.Stage.TheVariants.{Idle as Resting, LoadPin, StorePin, ReloadPin}
-use Rattle.epoch_machine.specs.declared.machine.Stage.TheVariants.{LoadScan, Scan, Advance, Take, Calling, LoadSeal}
-use Rattle.epoch_machine.specs.declared.machine.Stage.TheVariants.{Put, Keep, LoadRepin, StoreRepin, ReloadRepin}
-use Rattle.epoch_machine.specs.declared.machine.Stage.TheVariants.{StoreUnpinned, StoreFree, End}
+use Rattle.epoch_machine.specs.declared.machine.Stage.TheVariants.{LoadPin, StorePin, ReloadPin}
+use Rattle.epoch_machine.specs.declared.machine.Stage.TheVariants.{LoadScan, Scan, Advance, Take, Calling}
+use Rattle.epoch_machine.specs.declared.machine.Stage.TheVariants.{StoreUnpinned, End}
 use Rattle.epoch_machine.specs.Machine.{Machine, is_taking, TakesHand, ask_at, hears, took_heard, gives, with_stage}
 use Rattle.epoch_machine.specs.Machine.{after_collect, after_pin, after_unpin, after_job, holds_up, scanned, past_word}
 use Rattle.epoch_machine.specs.Machine.{guards_after}
@@ -201,14 +200,7 @@ to_end : (c : Call) (held : List Deferral) → Collects c → after_collect (act
 to_end Pin held h = refl
 to_end (Flush (Some g)) held h = refl
 to_end (Flush None) held h = absurd h
-to_end (Unpin g) held h = absurd h
-to_end (Repin g) held h = absurd h
-to_end (Pause g) held h = absurd h
-to_end (Resume g) held h = absurd h
-to_end (Defer g) held h = absurd h
-to_end Release held h = absurd h
-to_end (DeferDestroy g ptr) held h = absurd h
-to_end (AccessCall a) held h = absurd h
+to_end _ held h = absurd h
 
 near_next : (v : Plan) (epoch : ℕ) → IsNext v.epoch v.next → epoch ≡ v.next → Near v epoch
 near_next v epoch (inl n) e = inr (e, n.1)
@@ -219,41 +211,18 @@ collected : (v : Plan) (epoch left : ℕ) (w : Word) (c : Call)
     → (v.bound + 2 ≤ v.next → left ≤ v.bags - v.sizes.collect_bags) → After v epoch left w c
 collected v epoch left w Pin next h word e few all = (word, near_next v epoch next e, few)
 collected v epoch left w (Flush g) next h word e few all = (word, e, few, all)
-collected v epoch left w (Unpin g) next h word e few all = absurd h
-collected v epoch left w (Repin g) next h word e few all = absurd h
-collected v epoch left w (Pause g) next h word e few all = absurd h
-collected v epoch left w (Resume g) next h word e few all = absurd h
-collected v epoch left w (Defer g) next h word e few all = absurd h
-collected v epoch left w Release next h word e few all = absurd h
-collected v epoch left w (DeferDestroy g ptr) next h word e few all = absurd h
-collected v epoch left w (AccessCall a) next h word e few all = absurd h
+collected v epoch left w _ next h word e few all = absurd h
 
 unpinned_end : (c : Call) (full : Bool) → IsUnpin c → after_unpin (action_of c) full ≡ End
 unpinned_end (Unpin (Some g)) full h = refl
 unpinned_end (Unpin None) full h = absurd h
-unpinned_end Pin full h = absurd h
-unpinned_end (Flush g) full h = absurd h
-unpinned_end (Repin g) full h = absurd h
-unpinned_end (Pause g) full h = absurd h
-unpinned_end (Resume g) full h = absurd h
-unpinned_end (Defer g) full h = absurd h
-unpinned_end Release full h = absurd h
-unpinned_end (DeferDestroy g ptr) full h = absurd h
-unpinned_end (AccessCall a) full h = absurd h
+unpinned_end _ full h = absurd h
 
 unpinned_after : (v : Plan) (epoch left : ℕ) (c : Call)
     → IsUnpin c → epoch ≡ v.epoch → left ≤ v.bags → After v epoch left Unpinned c
 unpinned_after v epoch left (Unpin (Some g)) h e few = (refl, e, few)
 unpinned_after v epoch left (Unpin None) h e few = absurd h
-unpinned_after v epoch left Pin h e few = absurd h
-unpinned_after v epoch left (Flush g) h e few = absurd h
-unpinned_after v epoch left (Repin g) h e few = absurd h
-unpinned_after v epoch left (Pause g) h e few = absurd h
-unpinned_after v epoch left (Resume g) h e few = absurd h
-unpinned_after v epoch left (Defer g) h e few = absurd h
-unpinned_after v epoch left Release h e few = absurd h
-unpinned_after v epoch left (DeferDestroy g ptr) h e few = absurd h
-unpinned_after v epoch left (AccessCall a) h e few = absurd h
+unpinned_after v epoch left _ h e few = absurd h
 
 -- a pinned word holds up a scan for another epoch, and no other scan
 holds_pinned : (e n : ℕ) → n ≡ e → holds_up e (2 * n + 1) ≡ false
@@ -744,7 +713,6 @@ module _ (v : Plan) (called : ℕ → ℕ) (old new : State) (r : Reply) (next :
 
   go : (s : Stage) → m.stage ≡ s → Known v called old.epoch old.queued (ahead_of old v.p) w m s → FindsFor (ask_at s)
       → DrivesCall old v.p seat v.call s (ask_at s) r aside → Comes v after r new ahead
-  go Resting stage k finds did = absurd k.at
   go LoadPin stage k finds did = staged (StorePin old.epoch) (k.hand, (k.at.0, k.at.1, k.at.1, k.at.2)) did
   go (StorePin e) stage k finds did =
       goes_to (Pinned e) (hears m (StorePin e) Stored) old.epoch old.queued old.heap (λ x. absurd (cc))
@@ -821,13 +789,7 @@ module _ (v : Plan) (called : ℕ → ℕ) (old new : State) (r : Reply) (next :
             (unpinned_after v old.epoch left v.call k.at.0 k.at.1 k.at.2);
       }) did.1
   go End stage k finds did = ends k.at k.hand did.0 did.1
-  go LoadSeal stage k finds did = absurd k.at
-  go (Put e) stage k finds did = absurd k.at
-  go Keep stage k finds did = absurd k.at
-  go LoadRepin stage k finds did = absurd k.at
-  go (StoreRepin e) stage k finds did = absurd k.at
-  go ReloadRepin stage k finds did = absurd k.at
-  go StoreFree stage k finds did = absurd k.at
+  go _ stage k finds did = absurd k.at
 
   -- a step Go of p, whose call is under way
   pub go_comes : TakesStep old (Go v.p) r new → Comes v after r new ahead
