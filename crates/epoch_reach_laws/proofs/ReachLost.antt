@@ -65,6 +65,7 @@ first = world (free_seat sizes) 0 none_placed
 abbrev last : State
 last = world (pinned (Ends (Done (Value 7)))) 1 (heap ptr (empty 1))
 
+-- the participant is registered
 pub taken_unpinned : Unpinned ≢ Free
 taken_unpinned e = cc
 
@@ -169,6 +170,7 @@ run = told.1
 kept : (step : Step) (reply : Reply) → reply ≢ Began → reply ≢ Repinned 0 → ¬ (LetsGo (entry step reply) 0 0)
 kept step reply no_begin no_repin lets = elim lets [ inl begins ↦ no_begin begins.1 | inr repins ↦ no_repin repins ]
 
+-- nor does the Begin of the call that takes it out
 kept_begin : ¬ (LetsGo (entry (Begin 0 (AccessCall (Take (Some 0) ptr))) Began) 0 0)
 kept_begin lets =
     elim lets [ inl begins ↦ elim begins.0 [ inl e ↦ cc (e) | inr e ↦ cc (e) ] | inr repins ↦ cc (repins) ]
@@ -177,7 +179,8 @@ kept_begin lets =
 loses : LosesLoaded (past_of first log last run)
 loses = (0, 0, name, loaded, inr (inr (inl takes)))
   where
-    takes : TakesOut (world (pinned (Accesses (Take (Some 0) ptr) 0 null)) 1 (heap ptr placed)) (entry (Go 0) Stepped) last name
+    takes : TakesOut (world (pinned (Accesses (Take (Some 0) ptr) 0 null)) 1 (heap ptr placed))
+        (entry (Go 0) Stepped) last name
     takes = record {
       who = 0;
       step = refl;
@@ -212,6 +215,7 @@ loses = (0, 0, name, loaded, inr (inr (inl takes)))
       ),
     )
 
+-- so there is a run from a new world that destroys what was loaded
 pub some_run_loses : (s : State) × (log : List Entry) × (new : State) × IsFresh s × (run : Runs s log new)
     × LosesLoaded (past_of s log new run)
 some_run_loses = (first, log, last, lone_fresh 0, run, loses)
