@@ -49,7 +49,7 @@ use Rattle.epoch_laws.proofs.TicketsTallied.{Tallies}
 use Rattle.epoch_laws.proofs.WorldHolds.{Holds}
 use Rattle.epoch_laws.proofs.SizesStay.{sizes_stay}
 use Rattle.epoch_laws.proofs.StoredBags.{SealedBy, sealed_by, sealed_more, none_left}
-use Rattle.epoch_rounds_laws.proofs.QuietSteps.{Plan, IsNext, Known, IsStill, IsUnderWay, Rests}
+use Rattle.epoch_rounds_laws.proofs.QuietCalls.{Plan, IsNext, Known, IsStill, IsUnderWay, Rests}
 use Rattle.epoch_rounds_laws.proofs.QuietRounds.{runs_split, called_append, begun_by, goes_to_end, pins, Pinning, unpins}
 use Rattle.epoch_rounds_laws.proofs.QuietRounds.{round, rounds}
 

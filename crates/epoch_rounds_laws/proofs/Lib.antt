@@ -1,3 +1,4 @@
+pub mod QuietCalls
 pub mod QuietSteps
 pub mod QuietRounds
 pub mod FirstRound
