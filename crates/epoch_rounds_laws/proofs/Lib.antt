@@ -7,6 +7,5 @@ pub mod FewCollected
 pub mod EachCollectsFew
 pub mod SureSteps
 pub mod SharpCalls
-pub mod SharpLog
 pub mod SharpList
 pub mod LonePuts
