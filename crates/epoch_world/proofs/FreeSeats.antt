@@ -80,18 +80,14 @@ module _ (old new : State) (h : FreeRests old) where
     goes (Ends r) did = stays _ refl _ did.1 (λ q. refl)
 
     begun_word : (c : Call) → (begun_seat c seat).word ≡ seat.word
-    begun_word Pin = refl
-    begun_word (Unpin g) = refl
     begun_word (Repin (Some g)) = refl
     begun_word (Pause (Some g)) = refl
     begun_word (Resume (Some g)) = refl
     begun_word (Defer (Some g)) = refl
     begun_word (Flush (Some g)) = refl
-    begun_word Release = refl
     begun_word (Defer None) = refl
     begun_word (DeferDestroy (Some g) ptr) = refl
     begun_word (DeferDestroy None ptr) = refl
-    begun_word (AccessCall a) = refl
     begun_word _ = refl
 
   registers : (p : ℕ)

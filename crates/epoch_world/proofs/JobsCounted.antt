@@ -72,9 +72,7 @@ module _ (m : Machine Deferral) where
   took_few : (s : Stage) (step : TakeStep) (jobs : List Deferral)
       → jobs_of_machine (took_heard m s step jobs) ≤ jobs_of_machine m + jobs_got step jobs
   took_few (Take x k) TakeAgain jobs = omega arith
-  took_few (Take x k) Empty jobs = omega arith
-  took_few (Take x k) Got jobs = omega arith
-  took_few _ step jobs = omega arith
+  took_few _ _ jobs = omega arith
 
   gives_few : (s : Stage) (job : Deferral) (jobs : List Deferral)
       → m.hand ≡ job ∷ jobs
@@ -98,18 +96,14 @@ taken_few x old new Got jobs (bag, in_hand, expired, inserted) =
     omega (arith, ap length in_hand, queued_more bag new old inserted)
 
 begun_same : (c : Call) (seat : WorldSeat) → jobs_of_machine (begun_seat c seat).machine ≡ jobs_of_machine seat.machine
-begun_same Pin seat = refl
-begun_same (Unpin g) seat = refl
 begun_same (Repin (Some g)) seat = refl
 begun_same (Pause (Some g)) seat = refl
 begun_same (Resume (Some g)) seat = refl
 begun_same (Defer (Some g)) seat = refl
 begun_same (Flush (Some g)) seat = refl
-begun_same Release seat = refl
 begun_same (Defer None) seat = refl
 begun_same (DeferDestroy (Some g) ptr) seat = refl
 begun_same (DeferDestroy None ptr) seat = refl
-begun_same (AccessCall a) seat = refl
 begun_same _ seat = refl
 
 ended_same : (c : Call) (seat : WorldSeat) → jobs_of_machine (ended_seat c seat).machine ≡ jobs_of_machine seat.machine
