@@ -15,7 +15,7 @@ use Rattle.epoch_cells.specs.declared.cells.name.Name.{Name}
 use Rattle.epoch_bags.specs.Jobs.{IsCalled}
 use Rattle.epoch_bags.specs.declared.job.Job.{Job}
 use Rattle.epoch_machine.specs.declared.machine.Action.{Action}
-use Rattle.epoch_machine.specs.declared.machine.Action.TheVariants.{Pin, Unpin, Repin, Defer, Flush, Release}
+use Rattle.epoch_machine.specs.declared.machine.Action.TheVariants.{Release}
 use Rattle.epoch_machine.specs.declared.machine.Ask.{Ask}
 use Rattle.epoch_machine.specs.declared.machine.Ask.TheVariants.{CallJob, TakeBag}
 use Rattle.epoch_machine.specs.declared.machine.Stage.{Stage}
@@ -123,12 +123,7 @@ one_bag_asked x y same = ap expiry_of same
 -- a collection stops where its stage is another than that of a look for bags
 stops : {J : Type 0} (a : Action) (held : List J) → is_taking (after_collect a held) ≡ false
 stops Release [] = refl
-stops Release (job ∷ jobs) = refl
-stops Pin held = refl
-stops Unpin held = refl
-stops Repin held = refl
-stops Defer held = refl
-stops Flush held = refl
+stops _ _ = refl
 
 goes_on_at : {J : Type 0} (a : Action) (held : List J) (last : Bool) (x k : ℕ)
     → is_taking (if last then after_collect a held else Take x k) ≡ true

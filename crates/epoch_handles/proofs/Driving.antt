@@ -1,7 +1,7 @@
 -- Pieces of what a thread performs, put together.
 use Rattle.std.proofs.Common.{ℕ, [], ◌∷◌, ◌++◌, refl, subst}
 use Rattle.epoch_machine.specs.Machine.{Machine}
-use Rattle.epoch_machine.specs.Asks.{Log, Exchange, Reply, Heard, PutStepped, TakeStepped, JobGiven}
+use Rattle.epoch_machine.specs.Asks.{Log, Exchange, Reply, JobGiven}
 use Rattle.epoch_handles.specs.Drives.{Sight, Situation, Exchanges, Performed, HoldsOfGiven, GivesOnly, NoJob, Reaches}
 use Rattle.epoch_handles.specs.Drives.{Drives}
 
@@ -32,10 +32,8 @@ module _ {J : Type 0} where
   -- a job given that is such is also as here
   also_given : (IsSuch IsSo : J → Type 0) → ((job : J) → IsSuch job → IsSo job)
       → (reply : Reply J) → HoldsOfGiven IsSuch reply → HoldsOfGiven IsSo reply
-  also_given IsSuch IsSo also (Heard answer) such = tt
-  also_given IsSuch IsSo also (PutStepped step) such = tt
-  also_given IsSuch IsSo also (TakeStepped step jobs) such = tt
   also_given IsSuch IsSo also (JobGiven job) such = also job such
+  also_given IsSuch IsSo also _ such = tt
 
   pub gives_also : (IsSuch IsSo : J → Type 0) → ((job : J) → IsSuch job → IsSo job)
       → (log : Log J) → GivesOnly IsSuch log → GivesOnly IsSo log

@@ -42,12 +42,7 @@ IsSeenBy seen stage answer = Unit {0}
 
 collected_seen : {J : Type 0} (seen : ℕ) (a : Action) (held : List J) → StageSeen seen (after_collect a held)
 collected_seen seen Release [] = tt
-collected_seen seen Release (job ∷ jobs) = tt
-collected_seen seen Pin held = tt
-collected_seen seen Unpin held = tt
-collected_seen seen Repin held = tt
-collected_seen seen Defer held = tt
-collected_seen seen Flush held = tt
+collected_seen seen _ _ = tt
 
 either_seen : (seen : ℕ) (b : Bool) (s t : Stage)
     → StageSeen seen s → StageSeen seen t → StageSeen seen (if b then s else t)
@@ -55,22 +50,12 @@ either_seen seen true s t first second = first
 either_seen seen false s t first second = second
 
 put_seen : (seen : ℕ) (a : Action) (full : Bool) → StageSeen seen (after_put a full)
-put_seen seen Flush full = tt
 put_seen seen Defer true = tt
-put_seen seen Defer false = tt
-put_seen seen Release full = tt
-put_seen seen Pin full = tt
-put_seen seen Unpin full = tt
-put_seen seen Repin full = tt
+put_seen seen _ _ = tt
 
 unpinned_seen : (seen : ℕ) (a : Action) (full : Bool) → StageSeen seen (after_unpin a full)
 unpinned_seen seen Release true = tt
-unpinned_seen seen Release false = tt
-unpinned_seen seen Pin full = tt
-unpinned_seen seen Unpin full = tt
-unpinned_seen seen Repin full = tt
-unpinned_seen seen Defer full = tt
-unpinned_seen seen Flush full = tt
+unpinned_seen seen _ _ = tt
 
 still_seen : (seen now : ℕ) (s : Stage) → seen ≤ now → StageSeen seen s → StageSeen now s
 still_seen seen now (Scan e k) grows at = omega arith

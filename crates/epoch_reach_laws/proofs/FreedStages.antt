@@ -19,11 +19,8 @@ pub frees_pinned : (a : Action) (m : Machine Deferral) → FreesAt a (after_pin 
 frees_pinned a m = after_pin_at (FreesAt a) m tt (frees_collected a m.action m.held)
 
 pub frees_put : (a b : Action) (full : Bool) → FreesAt a (after_put b full)
-frees_put a Flush full = tt
 frees_put a Defer false = tt
-frees_put a Defer true = tt
-frees_put a Release full = tt
-frees_put a _ full = tt
+frees_put a _ _ = tt
 
 pub frees_unpinned : (a : Action) (full : Bool) → FreesAt a (after_unpin a full)
 frees_unpinned Release false = refl

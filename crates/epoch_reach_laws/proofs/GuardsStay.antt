@@ -85,16 +85,11 @@ module _ (seat : WorldSeat) (g : ℕ) (out : is_out g seat.guards ≡ true) wher
   out_ended Pin kept = out_pushed g (lowest seat.guards) seat.guards out
   out_ended (Unpin None) kept = out
   out_ended (Unpin (Some h)) kept = out_kept g h seat.guards kept out
-  out_ended (Repin h) kept = out
   out_ended (Pause None) kept = out
   out_ended (Pause (Some h)) kept = out_kept g h seat.guards kept out
   out_ended (Resume None) kept = out
   out_ended (Resume (Some h)) kept = out_pushed g h seat.guards out
-  out_ended (Defer h) kept = out
-  out_ended (Flush h) kept = out
-  out_ended Release kept = out
-  out_ended (DeferDestroy h ptr) kept = out
-  out_ended (AccessCall a) kept = out
+  out_ended _ kept = out
 
   pub is_out_ended : (c : Call) → ¬ (GivesUp g (Driven c)) → IsOut g (ended_seat c seat)
   is_out_ended c kept = (out_ended c kept, λ gives. subst (GivesUp g) (idle_ended seat c) gives)
@@ -171,8 +166,6 @@ module _ (seat : WorldSeat) (tickets : ℕ) (heap : Heap) where
       ok)
 
   pub guarded_begun : (c : Call) → call_refusal c seat tickets heap ≡ None → Guarded (begun_seat c seat)
-  guarded_begun Pin ok = tt
-  guarded_begun (Unpin g) ok = tt
   guarded_begun (Repin None) ok = tt
   guarded_begun (Repin (Some h)) ok = tt
   guarded_begun (Pause None) ok = tt
@@ -183,10 +176,10 @@ module _ (seat : WorldSeat) (tickets : ℕ) (heap : Heap) where
   guarded_begun (Defer (Some h)) ok = tt
   guarded_begun (Flush None) ok = tt
   guarded_begun (Flush (Some h)) ok = tt
-  guarded_begun Release ok = tt
   guarded_begun (DeferDestroy None ptr) ok = tt
   guarded_begun (DeferDestroy (Some h) ptr) ok = tt
   guarded_begun (AccessCall a) ok = access_guarded a (has_steps a) ok
+  guarded_begun _ ok = tt
 
 -- A CALL ON CELLS AND POINTERS GOES ON
 

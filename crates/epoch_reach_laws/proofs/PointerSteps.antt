@@ -1,5 +1,5 @@
 -- What a step on cells and pointers does to the pointers that stand.
-use Rattle.std.proofs.Common.{◌≡◌, ◌≢◌, ℕ, zero, suc, ◌-◌, ◌==◌, ◌&&◌, Bool, true, false, List, [], ◌∷◌, Option, Some}
+use Rattle.std.proofs.Common.{◌≡◌, ◌≢◌, ℕ, zero, suc, ◌-◌, ◌==◌, ◌&&◌, Bool, true, false, List, ◌∷◌, Option, Some}
 use Rattle.std.proofs.Common.{None, is_some, ◌⊎◌, inl, inr, refl, ap, sym, subst, ◌∙◌, arith, if◌then◌else◌, slice_get}
 use Rattle.std.proofs.Common.{slice_set}
 use Rattle.std.specs.Prelude.{option_map}
@@ -21,14 +21,12 @@ use Rattle.epoch_reach_laws.proofs.Names.{name_same}
 -- what stands in a list after a write
 pub set_or_kept : {A : Type 0} (xs : List A) (i : ℕ) (y : A) (j : ℕ)
     → (slice_get (slice_set xs i y) j ≡ slice_get xs j) ⊎ ((j ≡ i) × (slice_get (slice_set xs i y) j ≡ Some y))
-set_or_kept [] i y j = inl refl
 set_or_kept (x ∷ xs) zero y zero = inr (refl, refl)
-set_or_kept (x ∷ xs) zero y (suc j) = inl refl
-set_or_kept (x ∷ xs) (suc i) y zero = inl refl
 set_or_kept (x ∷ xs) (suc i) y (suc j) = elim (set_or_kept xs i y j) [
   | inl kept ↦ inl kept
   | inr new ↦ inr (ap suc new.0, new.1)
 ]
+set_or_kept _ _ y _ = inl refl
 
 pub set_other : {A : Type 0} (xs : List A) (i : ℕ) (y : A) (j : ℕ)
     → j ≢ i → slice_get (slice_set xs i y) j ≡ slice_get xs j

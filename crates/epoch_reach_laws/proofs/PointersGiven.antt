@@ -40,11 +40,9 @@ either_field : (cell : Cell) (f g t : ℕ) (ptr : Ptr) (b : Bool) (v : Option Co
     ≡ field_in (if b && is_some v then Some (record cell { value = v }) else None) g)
     ⊎ (field_in (if b && is_some (option_map (λ (c : Content). with_field c f ptr) v)
     then Some (record cell { value = option_map (λ (c : Content). with_field c f ptr) v }) else None) g ≡ Some ptr)
-either_field cell f g t ptr true None = inl refl
-either_field cell f g t ptr false None = inl refl
-either_field cell f g t ptr false (Some content) = inl refl
 either_field cell f g t ptr true (Some content) =
     elim (set_or_kept content.fields f ptr g) [ inl kept ↦ inl kept | inr new ↦ inr new.1 ]
+either_field cell f g t ptr _ _ = inl refl
 
 -- each is what it was, or the pointer written
 pointer_either : (h : Heap) (spot : Spot) (ptr : Ptr) (other : Spot)

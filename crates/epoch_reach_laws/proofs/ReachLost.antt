@@ -29,7 +29,7 @@ use Rattle.epoch_heap.specs.Heap.{Cell, Heap, null, nulls, answers}
 use Rattle.epoch_reach_laws.specs.Reach.{LetsGo, TakesOut, past_of, LosesLoaded}
 use Rattle.epoch_reach_laws.proofs.LoneWorld.{sizes, lone_world, lone_heap, lone_machine, seat, name, lone_fresh}
 use Rattle.epoch_laws.specs.Collections.{outlook, TakesAhead}
-use Rattle.epoch_laws.specs.Run.{WorldSeat, State, free_seat, lowest, lowest_from, Runs, IsFresh}
+use Rattle.epoch_laws.specs.Run.{WorldSeat, State, free_seat, lowest, lowest_from, TakesStep, Runs, IsFresh}
 
 abbrev world : WorldSeat → ℕ → Heap → State
 world seat epoch heap = lone_world 0 seat epoch heap
@@ -59,41 +59,13 @@ none_placed = heap null (empty 0)
 abbrev entry : Step → Reply → Entry
 entry step reply = record { step = step; reply = reply }
 
-abbrev went : Reply → Entry
-went reply = entry (Go 0) reply
-
--- it pins, places a value, stores its pointer in the root, loads it, and takes the value out
-abbrev log : List Entry
-log =
-    entry Register (Registered 0)
-    ∷ entry (Begin 0 Pin) Began
-    ∷ went Stepped
-    ∷ went (PinnedReply 0)
-    ∷ went Stepped
-    ∷ went Stepped
-    ∷ went Stepped
-    ∷ went Stepped
-    ∷ went Stepped
-    ∷ went (Done (Guard 0))
-    ∷ entry (Begin 0 (AccessCall (Place 7))) Began
-    ∷ went Stepped
-    ∷ went (Done (NameAnswer name))
-    ∷ entry (Begin 0 (AccessCall (Point None (Root 0) (Store ptr)))) Began
-    ∷ went Stepped
-    ∷ went (Done UnitAnswer)
-    ∷ entry (Begin 0 (AccessCall (Point (Some 0) (Root 0) Load))) Began
-    ∷ went Stepped
-    ∷ went (Done (Pointer ptr))
-    ∷ entry (Begin 0 (AccessCall (Take (Some 0) ptr))) Began
-    ∷ went Stepped
-    ∷ []
-
 abbrev first : State
 first = world (free_seat sizes) 0 none_placed
 
 abbrev last : State
 last = world (pinned (Ends (Done (Value 7)))) 1 (heap ptr (empty 1))
 
+-- the participant is registered
 pub taken_unpinned : Unpinned ≢ Free
 taken_unpinned e = cc
 
@@ -112,136 +84,93 @@ first_guard g = world (seat (Pinned 0) (machine Resting 1 1) Idle (g ∷ [])) 1 
 pub none_ahead : TakesAhead (machine End 0 1) (outlook [] 0) (outlook [] 0)
 none_ahead = record { counted = λ on. refl; none = λ over same. refl }
 
--- a run of it
-abbrev run : Runs first log last
-run = (
-  world (seat Unpinned (machine Resting 0 0) Idle []) 0 none_placed,
-  (inl (0, refl, omega arith, refl, λ k lt. absurd (omega (arith, lt)), refl, refl), (refl, refl, refl, refl)),
-  (
-    world (pinning Unpinned LoadPin 0) 0 none_placed,
-    ((refl, refl), (refl, refl, refl, refl)),
-    (
-      world (pinning Unpinned (StorePin 0) 0) 0 none_placed,
-      (
-        inr (taken_unpinned, (refl, refl)),
-        ((refl, refl), λ q ne. refl, tt, λ place. absurd (omega (arith, place.fewer))),
-      ),
-      (
-        world (pinning (Pinned 0) ReloadPin 1) 0 none_placed,
-        (inr (taken_unpinned, (refl, refl)), ((refl, refl), λ q ne. refl, tt, tt)),
+-- a log, and the run by it from this state to the last one
+abbrev ToLast : State → Type 0
+ToLast from = (log : List Entry) × Runs from log last
+
+-- the same with one more step before it, so that a run is told as a flat list
+abbrev by : {old : State} (mid : State) (step : Step) (reply : Reply)
+    → TakesStep old step reply mid → ToLast mid → ToLast old
+by mid step reply takes rest = (entry step reply ∷ rest.0, (mid, takes, rest.1))
+
+-- the participant pins
+abbrev by_pin : ToLast (first_guard 0) → ToLast first
+by_pin rest =
+    (by (world (seat Unpinned (machine Resting 0 0) Idle []) 0 none_placed) Register (Registered 0)
+    (inl (0, refl, omega arith, refl, λ k lt. absurd (omega (arith, lt)), refl, refl), (refl, refl, refl, refl))
+    (by (world (pinning Unpinned LoadPin 0) 0 none_placed) (Begin 0 Pin) Began ((refl, refl), (refl, refl, refl, refl))
+    (by (world (pinning Unpinned (StorePin 0) 0) 0 none_placed) (Go 0) Stepped
+    (inr (taken_unpinned, (refl, refl)), ((refl, refl), λ q ne. refl, tt, λ place. absurd (omega (arith, place.fewer))))
+    (by (world (pinning (Pinned 0) ReloadPin 1) 0 none_placed) (Go 0) (PinnedReply 0)
+    (inr (taken_unpinned, (refl, refl)), ((refl, refl), λ q ne. refl, tt, tt))
+    (by (world (pinning (Pinned 0) LoadScan 1) 0 none_placed) (Go 0) Stepped
+    (inr (taken_pinned, (refl, refl)), ((refl, refl), λ q ne. refl, tt, λ place. absurd (omega (arith, place.fewer))))
+    (by (world (pinning (Pinned 0) (Scan 0 0) 1) 0 none_placed) (Go 0) Stepped
+    (inr (taken_pinned, (refl, refl)), ((refl, refl), λ q ne. refl, tt, λ place. absurd (omega (arith, place.fewer))))
+    (by (world (pinning (Pinned 0) (Advance 0) 1) 0 none_placed) (Go 0) Stepped
+    (inr (taken_pinned, (refl, refl)), ((refl, refl), λ q ne. refl, λ alone expired. refl, tt))
+    (by (world (pinning (Pinned 0) (TakeStage 1 0) 1) 1 none_placed) (Go 0) Stepped
+    (inr (taken_pinned, (refl, refl)), ((refl, refl), λ q ne. refl, λ alone expired. refl, tt))
+    (by (world (pinning (Pinned 0) End 1) 1 none_placed) (Go 0) Stepped
+    (inr (taken_pinned, (Empty, [], [], refl, refl, refl)), ((refl, refl), λ q ne. refl, none_ahead, tt))
+    (by (first_guard 0) (Go 0) (Done (Guard 0)) (
+      inr (taken_pinned, (ap (λ (g : ℕ). Done (Guard g)) (sym lowest_none), ap first_guard (sym lowest_none))),
+      ((refl, refl), λ q ne. refl, tt, tt),
+    )
+    rest))))))))))
+
+-- a run of it: it places a value, stores its pointer in the root, loads it, and takes the value out
+abbrev told : ToLast first
+told = by_pin
+    (by (world (pinned (Accesses (Place 7) 0 null)) 1 none_placed) (Begin 0 (AccessCall (Place 7))) Began
+    ((refl, refl), (refl, refl, refl, refl))
+    (by (world (pinned (Ends (Done (NameAnswer name)))) 1 (heap null placed)) (Go 0) Stepped (
+      inr (
+        taken_pinned,
         (
-          world (pinning (Pinned 0) LoadScan 1) 0 none_placed,
-          (
-            inr (taken_pinned, (refl, refl)),
-            ((refl, refl), λ q ne. refl, tt, λ place. absurd (omega (arith, place.fewer))),
-          ),
-          (
-            world (pinning (Pinned 0) (Scan 0 0) 1) 0 none_placed,
-            (
-              inr (taken_pinned, (refl, refl)),
-              ((refl, refl), λ q ne. refl, tt, λ place. absurd (omega (arith, place.fewer))),
-            ),
-            (
-              world (pinning (Pinned 0) (Advance 0) 1) 0 none_placed,
-              (inr (taken_pinned, (refl, refl)), ((refl, refl), λ q ne. refl, λ alone expired. refl, tt)),
-              (
-                world (pinning (Pinned 0) (TakeStage 1 0) 1) 1 none_placed,
-                (inr (taken_pinned, (refl, refl)), ((refl, refl), λ q ne. refl, λ alone expired. refl, tt)),
-                (
-                  world (pinning (Pinned 0) End 1) 1 none_placed,
-                  (inr (taken_pinned, (Empty, [], [], refl, refl, refl)), ((refl, refl), λ q ne. refl, none_ahead, tt)),
-                  (
-                    world (pinned Idle) 1 none_placed,
-                    (
-                      inr (
-                        taken_pinned,
-                        (ap (λ (g : ℕ). Done (Guard g)) (sym lowest_none), ap first_guard (sym lowest_none)),
-                      ),
-                      ((refl, refl), λ q ne. refl, tt, tt),
-                    ),
-                    (
-                      world (pinned (Accesses (Place 7) 0 null)) 1 none_placed,
-                      ((refl, refl), (refl, refl, refl, refl)),
-                      (
-                        world (pinned (Ends (Done (NameAnswer name)))) 1 (heap null placed),
-                        (
-                          inr (
-                            taken_pinned,
-                            (
-                              answers (NameAnswer name) (heap null placed),
-                              inl ((refl, omega arith), name, refl, refl, refl),
-                              refl,
-                              refl,
-                            ),
-                          ),
-                          ((refl, refl), λ q ne. refl, tt, tt),
-                        ),
-                        (
-                          world (pinned Idle) 1 (heap null placed),
-                          (inr (taken_pinned, (refl, refl)), ((refl, refl), λ q ne. refl, tt, tt)),
-                          (
-                            world (pinned (Accesses (Point None (Root 0) (Store ptr)) 0 null)) 1 (heap null placed),
-                            ((refl, refl), (refl, refl, refl, refl)),
-                            (
-                              world (pinned (Ends (Done UnitAnswer))) 1 (heap ptr placed),
-                              (
-                                inr (taken_pinned, (answers UnitAnswer (heap ptr placed), refl, refl, refl)),
-                                ((refl, refl), λ q ne. refl, tt, tt),
-                              ),
-                              (
-                                world (pinned Idle) 1 (heap ptr placed),
-                                (inr (taken_pinned, (refl, refl)), ((refl, refl), λ q ne. refl, tt, tt)),
-                                (
-                                  world (pinned (Accesses (Point (Some 0) (Root 0) Load) 0 null)) 1 (heap ptr placed),
-                                  ((refl, refl), (refl, refl, refl, refl)),
-                                  (
-                                    world (pinned (Ends (Done (Pointer ptr)))) 1 (heap ptr placed),
-                                    (
-                                      inr (taken_pinned, (answers (Pointer ptr) (heap ptr placed), refl, refl, refl)),
-                                      ((refl, refl), λ q ne. refl, tt, tt),
-                                    ),
-                                    (
-                                      world (pinned Idle) 1 (heap ptr placed),
-                                      (inr (taken_pinned, (refl, refl)), ((refl, refl), λ q ne. refl, tt, tt)),
-                                      (
-                                        world (pinned (Accesses (Take (Some 0) ptr) 0 null)) 1 (heap ptr placed),
-                                        ((refl, refl), (refl, refl, refl, refl)),
-                                        (
-                                          last,
-                                          (
-                                            inr (
-                                              taken_pinned,
-                                              (answers (Value 7) (heap ptr (empty 1)), refl, refl, refl),
-                                            ),
-                                            ((refl, refl), λ q ne. refl, tt, tt),
-                                          ),
-                                          refl,
-                                        ),
-                                      ),
-                                    ),
-                                  ),
-                                ),
-                              ),
-                            ),
-                          ),
-                        ),
-                      ),
-                    ),
-                  ),
-                ),
-              ),
-            ),
-          ),
+          answers (NameAnswer name) (heap null placed),
+          inl ((refl, omega arith), name, refl, refl, refl),
+          refl,
+          refl,
         ),
       ),
-    ),
-  ),
-)
+      ((refl, refl), λ q ne. refl, tt, tt),
+    )
+    (by (world (pinned Idle) 1 (heap null placed)) (Go 0) (Done (NameAnswer name))
+    (inr (taken_pinned, (refl, refl)), ((refl, refl), λ q ne. refl, tt, tt))
+    (by (world (pinned (Accesses (Point None (Root 0) (Store ptr)) 0 null)) 1 (heap null placed))
+    (Begin 0 (AccessCall (Point None (Root 0) (Store ptr)))) Began ((refl, refl), (refl, refl, refl, refl))
+    (by (world (pinned (Ends (Done UnitAnswer))) 1 (heap ptr placed)) (Go 0) Stepped
+    (inr (taken_pinned, (answers UnitAnswer (heap ptr placed), refl, refl, refl)), ((refl, refl), λ q ne. refl, tt, tt))
+    (by (world (pinned Idle) 1 (heap ptr placed)) (Go 0) (Done UnitAnswer)
+    (inr (taken_pinned, (refl, refl)), ((refl, refl), λ q ne. refl, tt, tt))
+    (by (world (pinned (Accesses (Point (Some 0) (Root 0) Load) 0 null)) 1 (heap ptr placed))
+    (Begin 0 (AccessCall (Point (Some 0) (Root 0) Load))) Began ((refl, refl), (refl, refl, refl, refl))
+    (by (world (pinned (Ends (Done (Pointer ptr)))) 1 (heap ptr placed)) (Go 0) Stepped (
+      inr (taken_pinned, (answers (Pointer ptr) (heap ptr placed), refl, refl, refl)),
+      ((refl, refl), λ q ne. refl, tt, tt),
+    )
+    (by (world (pinned Idle) 1 (heap ptr placed)) (Go 0) (Done (Pointer ptr))
+    (inr (taken_pinned, (refl, refl)), ((refl, refl), λ q ne. refl, tt, tt))
+    (by (world (pinned (Accesses (Take (Some 0) ptr) 0 null)) 1 (heap ptr placed))
+    (Begin 0 (AccessCall (Take (Some 0) ptr))) Began ((refl, refl), (refl, refl, refl, refl))
+    (by last (Go 0) Stepped (
+      inr (taken_pinned, (answers (Value 7) (heap ptr (empty 1)), refl, refl, refl)),
+      ((refl, refl), λ q ne. refl, tt, tt),
+    )
+    ([], refl))))))))))))
+
+abbrev log : List Entry
+log = told.0
+
+abbrev run : Runs first log last
+run = told.1
 
 -- no entry after the load lets go of what was loaded
 kept : (step : Step) (reply : Reply) → reply ≢ Began → reply ≢ Repinned 0 → ¬ (LetsGo (entry step reply) 0 0)
 kept step reply no_begin no_repin lets = elim lets [ inl begins ↦ no_begin begins.1 | inr repins ↦ no_repin repins ]
 
+-- nor does the Begin of the call that takes it out
 kept_begin : ¬ (LetsGo (entry (Begin 0 (AccessCall (Take (Some 0) ptr))) Began) 0 0)
 kept_begin lets =
     elim lets [ inl begins ↦ elim begins.0 [ inl e ↦ cc (e) | inr e ↦ cc (e) ] | inr repins ↦ cc (repins) ]
@@ -250,7 +179,8 @@ kept_begin lets =
 loses : LosesLoaded (past_of first log last run)
 loses = (0, 0, name, loaded, inr (inr (inl takes)))
   where
-    takes : TakesOut (world (pinned (Accesses (Take (Some 0) ptr) 0 null)) 1 (heap ptr placed)) (went Stepped) last name
+    takes : TakesOut (world (pinned (Accesses (Take (Some 0) ptr) 0 null)) 1 (heap ptr placed))
+        (entry (Go 0) Stepped) last name
     takes = record {
       who = 0;
       step = refl;
@@ -285,6 +215,7 @@ loses = (0, 0, name, loaded, inr (inr (inl takes)))
       ),
     )
 
+-- so there is a run from a new world that destroys what was loaded
 pub some_run_loses : (s : State) × (log : List Entry) × (new : State) × IsFresh s × (run : Runs s log new)
     × LosesLoaded (past_of s log new run)
 some_run_loses = (first, log, last, lone_fresh 0, run, loses)

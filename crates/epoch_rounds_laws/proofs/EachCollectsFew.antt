@@ -19,7 +19,7 @@ use Rattle.epoch_laws.specs.declared.step.Reply.TheVariants.{Called, Began}
 use Rattle.epoch_laws.specs.declared.step.Step.{Step}
 use Rattle.epoch_laws.specs.declared.step.Step.TheVariants.{Register, Begin, Go, End as EndStep, EndGo}
 use Rattle.epoch_laws.specs.declared.step.Word.TheVariants.{Free, Unpinned}
-use Rattle.epoch_rounds_laws.specs.Collected.{called_after, taken_after, none_yet, IsFew, FewAlong, CollectsFew}
+use Rattle.epoch_rounds_laws.specs.Collected.{called_after, taken_after, none_yet, IsFew, FewAlong}
 use Rattle.epoch_laws.specs.Run.{WorldSeat, State, Ending, Open, Emptying, Over, seat_of, position_word, with_seat}
 use Rattle.epoch_laws.specs.Run.{with_places, free_seat, begun_seat, refusal, BeginsCall, EndGoes, Moves, Runs, IsFresh}
 use Rattle.epoch_laws.proofs.SeatLemmas.{seat_written, seat_other, seat_there, same_or_other, IsAccepted, begin_given}
@@ -230,11 +230,7 @@ taken_aside : (q taken : ℕ) (old new : State) (step : Step) (r : Reply)
     (places : List Bool) (seen ahead : List ℕ) (room : List Bool)
     → taken_after q taken old step r (with_places new places seen ahead room) ≡ taken_after q taken old step r new
 taken_aside q taken old new (Begin p c) Began places seen ahead room = refl
-taken_aside q taken old new (Begin p c) _ places seen ahead room = refl
-taken_aside q taken old new (Go p) r places seen ahead room = refl
-taken_aside q taken old new Register r places seen ahead room = refl
-taken_aside q taken old new EndStep r places seen ahead room = refl
-taken_aside q taken old new EndGo r places seen ahead room = refl
+taken_aside q taken old new _ _ places seen ahead room = refl
 
 aside : (z : Sizes) (taken others called : ℕ → ℕ) (s : State) (places : List Bool) (seen ahead : List ℕ)
     (room : List Bool) → ((q : ℕ) → taken q ≡ others q) → Holds z taken called (with_places s places seen ahead room)
@@ -267,9 +263,9 @@ few_along z sized taken called old new (x ∷ log) h (mid, did, run) = (
     few p = let both = bound z sized _ _ _ _ _ (after.counts p).at in record { bags = both.0; jobs = both.1 }
 
 -- in a new world nothing was taken and nothing called
-pub few_from_start : (fresh new : State) (log : List Entry) → IsFresh fresh → (run : Runs fresh log new)
+pub collects_few : (fresh new : State) (log : List Entry) → IsFresh fresh → (run : Runs fresh log new)
     → FewAlong fresh.sizes none_yet none_yet fresh new log run
-few_from_start fresh new log is_fresh run =
+collects_few fresh new log is_fresh run =
     few_along fresh.sizes is_fresh.in_range none_yet none_yet fresh new log (record {
       linked = fresh_linked fresh is_fresh;
       sizes = refl;
@@ -277,7 +273,3 @@ few_from_start fresh new log is_fresh run =
       counts = λ q. subst (λ (seat : WorldSeat). Counts fresh.sizes 0 0 seat.machine seat.machine.stage)
           (sym (is_fresh.free q)) (record { held = omega arith; at = (omega arith, omega arith) });
     }) run
-
-pub collects_few : (fresh new : State) (log : List Entry)
-    → IsFresh fresh → Runs fresh log new → CollectsFew fresh log new
-collects_few fresh new log is_fresh run = record { run = run; along = few_from_start fresh new log is_fresh run }

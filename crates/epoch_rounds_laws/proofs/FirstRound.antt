@@ -13,10 +13,10 @@ use Rattle.epoch_machine.specs.declared.machine.Action.TheVariants.{Flush as Flu
 use Rattle.epoch_machine.specs.declared.machine.Answer.TheVariants.{Stored}
 use Rattle.epoch_machine.specs.declared.machine.Sizes.{Sizes}
 use Rattle.epoch_machine.specs.declared.machine.Stage.{Stage}
-use Rattle.epoch_machine.specs.declared.machine.Stage.TheVariants.{Idle as Resting, LoadPin, StorePin, ReloadPin}
+use Rattle.epoch_machine.specs.declared.machine.Stage.TheVariants.{Idle as Resting}
 use Rattle.epoch_machine.specs.declared.machine.Stage.TheVariants.{LoadScan, Scan, Advance, Take, Calling, LoadSeal}
-use Rattle.epoch_machine.specs.declared.machine.Stage.TheVariants.{Put, Keep, LoadRepin, StoreRepin, ReloadRepin}
-use Rattle.epoch_machine.specs.declared.machine.Stage.TheVariants.{StoreUnpinned, StoreFree, End}
+use Rattle.epoch_machine.specs.declared.machine.Stage.TheVariants.{Put}
+use Rattle.epoch_machine.specs.declared.machine.Stage.TheVariants.{End}
 use Rattle.epoch_machine.specs.Machine.{Machine, IsSized, PutsHeld, is_empty, is_taking, ask_at, hears, put_heard}
 use Rattle.epoch_machine.specs.Machine.{took_heard, with_stage, after_collect, after_put, after_job, past_word, begun}
 use Rattle.epoch_machine.proofs.StagesAfter.{past_word_at, after_job_at}
@@ -49,7 +49,7 @@ use Rattle.epoch_laws.proofs.TicketsTallied.{Tallies}
 use Rattle.epoch_laws.proofs.WorldHolds.{Holds}
 use Rattle.epoch_laws.proofs.SizesStay.{sizes_stay}
 use Rattle.epoch_laws.proofs.StoredBags.{SealedBy, sealed_by, sealed_more, none_left}
-use Rattle.epoch_rounds_laws.proofs.QuietSteps.{Plan, IsNext, Known, IsStill, IsUnderWay, Rests}
+use Rattle.epoch_rounds_laws.proofs.QuietCalls.{Plan, IsNext, Known, IsStill, IsUnderWay, Rests}
 use Rattle.epoch_rounds_laws.proofs.QuietRounds.{runs_split, called_append, begun_by, goes_to_end, pins, Pinning, unpins}
 use Rattle.epoch_rounds_laws.proofs.QuietRounds.{round, rounds}
 
@@ -164,19 +164,7 @@ module _ (p g epoch : ℕ) (sizes : Sizes) where
         full_ends : (full : Bool) → ends_call (full_or_done full) ≡ true
         full_ends true = refl
         full_ends false = refl
-    beyond_go h Resting at b on did = absurd b
-    beyond_go h LoadPin at b on did = absurd b
-    beyond_go h (StorePin e) at b on did = absurd b
-    beyond_go h ReloadPin at b on did = absurd b
-    beyond_go h LoadScan at b on did = absurd b
-    beyond_go h LoadSeal at b on did = absurd b
-    beyond_go h (Put e) at b on did = absurd b
-    beyond_go h Keep at b on did = absurd b
-    beyond_go h LoadRepin at b on did = absurd b
-    beyond_go h (StoreRepin e) at b on did = absurd b
-    beyond_go h ReloadRepin at b on did = absurd b
-    beyond_go h StoreUnpinned at b on did = absurd b
-    beyond_go h StoreFree at b on did = absurd b
+    beyond_go h _ at b on did = absurd b
 
     -- BEFORE
 

@@ -1,3 +1,4 @@
+pub mod QuietCalls
 pub mod QuietSteps
 pub mod QuietRounds
 pub mod FirstRound
@@ -6,6 +7,5 @@ pub mod FewCollected
 pub mod EachCollectsFew
 pub mod SureSteps
 pub mod SharpCalls
-pub mod SharpLog
 pub mod SharpList
 pub mod LonePuts

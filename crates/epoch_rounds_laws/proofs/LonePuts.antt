@@ -80,13 +80,8 @@ HasPlaceAt Open room a _ = Unit {0}
 module _ (Open : Type 0) (room : Bool) where
   collected : (a : Action) (held : List Deferral)
       → (a ≡ ReleaseAction → Open) → HasPlaceAt Open room a (after_collect a held)
-  collected ReleaseAction [] h = tt
   collected ReleaseAction (job ∷ jobs) h = h refl
-  collected PinAction held h = tt
-  collected UnpinAction held h = tt
-  collected RepinAction held h = tt
-  collected DeferAction held h = tt
-  collected FlushAction held h = tt
+  collected _ _ h = tt
 
   pinned : (m : Machine Deferral) → (m.action ≡ ReleaseAction → Open) → HasPlaceAt Open room m.action (after_pin m)
   pinned m h = after_pin_at (HasPlaceAt Open room m.action) m h (collected m.action m.held h)
@@ -101,30 +96,16 @@ module _ (Open : Type 0) (room : Bool) where
 
   put_over : (a : Action) → HasPlaceAt Open room a (after_put a false)
   put_over FlushAction = λ e. absurd (cc (e))
-  put_over DeferAction = tt
-  put_over ReleaseAction = tt
-  put_over PinAction = tt
-  put_over UnpinAction = tt
-  put_over RepinAction = tt
+  put_over _ = tt
 
   unpinned : (a : Action) (full : Bool) → HasPlaceAt Open room a (after_unpin a full)
   unpinned ReleaseAction true = tt
-  unpinned ReleaseAction false = tt
-  unpinned PinAction full = tt
-  unpinned UnpinAction full = tt
-  unpinned RepinAction full = tt
-  unpinned DeferAction full = tt
-  unpinned FlushAction full = tt
+  unpinned _ _ = tt
 
 -- no put begins after a put at once
 pub none_putting : (a : Action) (full : Bool) → is_putting (after_put a full) ≡ false
-none_putting FlushAction full = refl
 none_putting DeferAction true = refl
-none_putting DeferAction false = refl
-none_putting ReleaseAction full = refl
-none_putting PinAction full = refl
-none_putting UnpinAction full = refl
-none_putting RepinAction full = refl
+none_putting _ _ = refl
 
 -- the same of a machine, which has found no store full; one that rests has nothing to rest on
 abbrev Ready : Type 0 → Bool → Machine Deferral → Stage → Type 0

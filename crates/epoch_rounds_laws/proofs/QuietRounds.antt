@@ -29,8 +29,9 @@ use Rattle.epoch_laws.specs.Run.{lowest, begun_seat, drives, refusal, BeginsCall
 use Rattle.epoch_laws.specs.Tickets.{times, calls_of, times_called}
 use Rattle.epoch_laws.proofs.JobsPlaced.{HandAt}
 use Rattle.epoch_laws.proofs.SeatLemmas.{seat_written, seat_other}
-use Rattle.epoch_rounds_laws.proofs.QuietSteps.{Plan, IsNext, guards_in, KnowsAt, Known, IsStill, IsUnderWay, Rests}
-use Rattle.epoch_rounds_laws.proofs.QuietSteps.{HasEnded, go_comes}
+use Rattle.epoch_rounds_laws.proofs.QuietCalls.{Plan, IsNext, guards_in, KnowsAt, Known, IsStill, IsUnderWay, Rests}
+use Rattle.epoch_rounds_laws.proofs.QuietCalls.{HasEnded}
+use Rattle.epoch_rounds_laws.proofs.QuietSteps.{go_comes}
 
 -- RUNS AND CALLS
 

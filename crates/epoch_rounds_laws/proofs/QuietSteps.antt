@@ -1,9 +1,7 @@
--- What p's machine is at between the steps of a round that nobody disturbs.
-use Rattle.std.proofs.Common.{◌≡◌, ◌≢◌, ℕ, ◌+◌, ◌-◌, ◌*◌, ◌%◌, ◌^◌, ◌<◌, ◌≤◌, ◌==◌, ◌&&◌, min, Bool, true, false, not}
+-- What one step of p does in such a call, and what is known after it.
+use Rattle.std.proofs.Common.{◌≡◌, ◌≢◌, ℕ, ◌+◌, ◌-◌, ◌*◌, ◌^◌, ◌<◌, ◌≤◌, ◌==◌, min, Bool, true, false}
 use Rattle.std.proofs.Common.{List, [], ◌∷◌, ◌++◌, length, Option, Some, None, ◌⊎◌, inl, inr, refl, ap, ap₂, sym, subst}
 use Rattle.std.proofs.Common.{◌∙◌, arith, if◌then◌else◌, length-set}
-use Rattle.std.proofs.lemmas.Bool.Decides.{nat_tests}
-use Rattle.std.proofs.Math.Nat.{min-eq_left, min-eq_right}
 use Rattle.epoch_bags.specs.Stores.{AllExpired}
 use Rattle.epoch_bags.specs.declared.queue.TakeStep.{TakeStep}
 use Rattle.epoch_bags.specs.declared.queue.TakeStep.TheVariants.{Again as TakeAgain, Empty, Got}
@@ -15,22 +13,20 @@ use Rattle.epoch_machine.specs.declared.machine.Ask.{Ask}
 use Rattle.epoch_machine.specs.declared.machine.Ask.TheVariants.{TakeBag, CallJob}
 use Rattle.epoch_machine.specs.declared.machine.Sizes.{Sizes}
 use Rattle.epoch_machine.specs.declared.machine.Stage.{Stage}
-use Rattle.epoch_machine.specs.declared.machine.Stage.TheVariants.{Idle as Resting, LoadPin, StorePin, ReloadPin}
-use Rattle.epoch_machine.specs.declared.machine.Stage.TheVariants.{LoadScan, Scan, Advance, Take, Calling, LoadSeal}
-use Rattle.epoch_machine.specs.declared.machine.Stage.TheVariants.{Put, Keep, LoadRepin, StoreRepin, ReloadRepin}
-use Rattle.epoch_machine.specs.declared.machine.Stage.TheVariants.{StoreUnpinned, StoreFree, End}
+use Rattle.epoch_machine.specs.declared.machine.Stage.TheVariants.{LoadPin, StorePin, ReloadPin}
+use Rattle.epoch_machine.specs.declared.machine.Stage.TheVariants.{LoadScan, Scan, Advance, Take, Calling}
+use Rattle.epoch_machine.specs.declared.machine.Stage.TheVariants.{StoreUnpinned, End}
 use Rattle.epoch_machine.specs.Machine.{Machine, is_taking, TakesHand, ask_at, hears, took_heard, gives, with_stage}
 use Rattle.epoch_machine.specs.Machine.{after_collect, after_pin, after_unpin, after_job, holds_up, scanned, past_word}
 use Rattle.epoch_machine.specs.Machine.{guards_after}
 use Rattle.epoch_machine.proofs.StagesAfter.{by_test}
-use Rattle.epoch_heap.specs.declared.access.Answer.TheVariants.{Guard, Unit as UnitAnswer}
+use Rattle.epoch_heap.specs.declared.access.Answer.TheVariants.{Guard}
 use Rattle.epoch_heap.specs.Heap.{Heap, outcome_of, heap_after_job as heap_after}
 use Rattle.epoch_laws.specs.declared.step.Call.{Call}
 use Rattle.epoch_laws.specs.declared.step.Call.TheVariants.{Pin, Unpin, Repin, Pause, Resume, Defer, Flush, Release}
 use Rattle.epoch_laws.specs.declared.step.Call.TheVariants.{DeferDestroy, Access as AccessCall}
 use Rattle.epoch_laws.specs.declared.step.Deferral.{Deferral}
 use Rattle.epoch_laws.specs.declared.step.Progress.{Progress}
-use Rattle.epoch_laws.specs.declared.step.Progress.TheVariants.{Driven}
 use Rattle.epoch_laws.specs.declared.step.Reply.{Reply}
 use Rattle.epoch_laws.specs.declared.step.Reply.TheVariants.{Stepped, Called as CalledReply, Done}
 use Rattle.epoch_laws.specs.declared.step.Step.TheVariants.{Go}
@@ -45,289 +41,23 @@ use Rattle.epoch_laws.specs.Run.{without, full_or_done, end_reply, with_guards, 
 use Rattle.epoch_laws.specs.Run.{TakesStep}
 use Rattle.epoch_laws.specs.Tickets.{times, times_queued, calls_of}
 use Rattle.epoch_laws.proofs.SeatLemmas.{seat_written, seat_other, same_or_other}
-use Rattle.epoch_laws.proofs.SeatsFine.{is_pinned}
 use Rattle.epoch_laws.proofs.JobsPlaced.{HandAt}
 use Rattle.epoch_laws.proofs.PutsFind.{turn_taken}
 use Rattle.epoch_laws.proofs.ScanStages.{same_epoch}
 use Rattle.epoch_laws.proofs.TicketSums.{queued_put, times_cons}
 use Rattle.epoch_laws.proofs.StoredBags.{SealedBy, all_expired, sealed_less, one_less}
-
--- A call of a round of p: what it began with, and what its steps lead to.
-pub record Plan : Type 0 where
-  pub p : ℕ
-  pub call : Call
-  pub sizes : Sizes
-  pub held : List Deferral  -- the jobs held all along
-  pub full : Bool  -- whether its own put found no place
-  pub epoch : ℕ  -- the epoch in which the round pins
-  pub next : ℕ  -- the one after it, where there is one
-  pub bound : ℕ  -- no bag's seal is greater
-  pub bags : ℕ  -- there were so many bags at most
-  pub total : ℕ → ℕ  -- how often each job was in the store, or called
-
--- the epoch after this one, where there is one
-abbrev pub IsNext : ℕ → ℕ → Type 0
-IsNext epoch next = ((epoch ≢ 2 ^ 63 - 1) × (next ≡ epoch + 1)) ⊎ ((epoch ≡ 2 ^ 63 - 1) × (next ≡ epoch))
-
--- the round's epoch, or the next one
-abbrev pub Near : Plan → ℕ → Type 0
-Near v epoch = (epoch ≡ v.epoch) ⊎ ((epoch ≡ v.next) × (v.next ≡ v.epoch + 1))
-
--- what holds at the end of each call of a round, where so many bags are left
-abbrev pub After : Plan → ℕ → ℕ → Word → Call → Type 0
-After v epoch left w Pin = (w ≡ Pinned v.epoch) × Near v epoch × (left ≤ v.bags)
-After v epoch left w (Flush g) = (w ≡ Pinned v.epoch) × (epoch ≡ v.next) × (left ≤ v.bags)
-    × (v.bound + 2 ≤ v.next → left ≤ v.bags - v.sizes.collect_bags)
-After v epoch left w (Unpin g) = (w ≡ Unpinned) × (epoch ≡ v.epoch) × (left ≤ v.bags)
-After v epoch left w _ = ⊥
-
-abbrev pub Collects : Call → Type 0
-Collects Pin = Unit {0}
-Collects (Flush (Some g)) = Unit {0}
-Collects _ = ⊥
-
-abbrev pub IsUnpin : Call → Type 0
-IsUnpin (Unpin (Some g)) = Unit {0}
-IsUnpin _ = ⊥
-
--- the guards counted while the call is under way, and from its end on
-abbrev pub guards_in : Call → List ℕ
-guards_in (Flush (Some g)) = g ∷ []
-guards_in (Unpin (Some g)) = g ∷ []
-guards_in _ = []
-
-abbrev pub guards_out : Call → List ℕ
-guards_out Pin = lowest [] ∷ []
-guards_out (Flush (Some g)) = g ∷ []
-guards_out _ = []
-
--- what the call is told at its end
-abbrev pub told_of : Call → Bool → Reply
-told_of Pin full = Done (Guard (lowest []))
-told_of (Flush g) full = full_or_done full
-told_of _ full = Done UnitAnswer
-
--- after so many bags of a collection all that are left are ahead of it, or as many as it may still take
-abbrev pub Enough : ℕ → ℕ → ℕ → Type 0
-Enough taken left ahead = (64 ≤ ahead + taken) ⊎ (left ≤ ahead)
-
-abbrev pub KnowsAt : Plan → ℕ → ℕ → ℕ → Word → Stage → Type 0
-KnowsAt v epoch left ahead w LoadPin = (v.call ≡ Pin) × (epoch ≡ v.epoch) × (left ≤ v.bags)
-KnowsAt v epoch left ahead w (StorePin e) = (v.call ≡ Pin) × (e ≡ v.epoch) × (epoch ≡ v.epoch) × (left ≤ v.bags)
-KnowsAt v epoch left ahead w ReloadPin = (v.call ≡ Pin) × (w ≡ Pinned v.epoch) × (epoch ≡ v.epoch) × (left ≤ v.bags)
-KnowsAt v epoch left ahead w LoadScan = Collects v.call × (w ≡ Pinned v.epoch) × Near v epoch × (left ≤ v.bags)
-KnowsAt v epoch left ahead w (Scan e k) = Collects v.call × (w ≡ Pinned v.epoch) × (e ≡ epoch)
-    × ((e ≡ v.epoch) ⊎ ((e ≡ v.next) × (v.next ≡ v.epoch + 1) × (k ≤ v.p))) × (left ≤ v.bags)
-KnowsAt v epoch left ahead w (Advance e) = Collects v.call × (w ≡ Pinned v.epoch) × (v.next ≡ e + 1) × (left ≤ v.bags)
-KnowsAt v epoch left ahead w (Take x k) = Collects v.call × (w ≡ Pinned v.epoch) × (x ≡ v.next) × (epoch ≡ v.next)
-    × (left + k ≤ v.bags) × (k < v.sizes.collect_bags) × (v.bound + 2 ≤ v.next → Enough k left ahead)
-KnowsAt v epoch left ahead w (Calling x k) = Collects v.call × (w ≡ Pinned v.epoch) × (x ≡ v.next) × (epoch ≡ v.next)
-    × (left + (k + 1) ≤ v.bags) × (k < v.sizes.collect_bags) × (v.bound + 2 ≤ v.next → Enough (k + 1) left ahead)
-KnowsAt v epoch left ahead w StoreUnpinned = IsUnpin v.call × (epoch ≡ v.epoch) × (left ≤ v.bags)
-KnowsAt v epoch left ahead w End = After v epoch left w v.call
-KnowsAt v epoch left ahead w _ = ⊥
-
-pub record Known (v : Plan) (called : ℕ → ℕ) (epoch : ℕ) (queued : List Bag) (ahead : ℕ) (w : Word)
-    (m : Machine Deferral) (s : Stage) : Type 0 where
-  pub held : m.held ≡ v.held
-  pub full : m.full ≡ v.full
-  pub action : m.action ≡ action_of v.call
-  pub sizes : m.sizes ≡ v.sizes
-  pub counted : m.guards ≡ length (guards_in v.call)
-  pub hand : HandAt m.hand s
-  pub seals : SealedBy v.bound queued
-  pub placed : (t : ℕ) → times_queued t queued + times t m.hand + called t ≡ v.total t
-  pub at : KnowsAt v epoch (length queued) ahead w s
-
--- who doesn't disturb p
-abbrev pub IsStill : WorldSeat → Type 0
-IsStill seat = (is_pinned seat.word ≡ false) × (is_taking seat.machine.stage ≡ false)
-
--- the call is under way
-pub record IsUnderWay (v : Plan) (called : ℕ → ℕ) (s : State) (ahead : ℕ) : Type 0 where
-  pub there : v.p < length s.seats
-  pub positions : v.sizes.positions ≡ length s.seats
-  pub others : (q : ℕ) → q ≢ v.p → IsStill (seat_of s q)
-  pub taken : position_word s v.p ≢ Free
-  pub progress : (seat_of s v.p).progress ≡ Driven v.call
-  pub guards : (seat_of s v.p).guards ≡ guards_in v.call
-  pub known : Known v called s.epoch s.queued ahead (position_word s v.p) (seat_of s v.p).machine
-      (seat_of s v.p).machine.stage
-
--- p is between two calls, with these guards and jobs
-pub record Rests (p : ℕ) (sizes : Sizes) (jobs : List Deferral) (out : List ℕ) (bound : ℕ) (total called : ℕ → ℕ)
-    (s : State) : Type 0 where
-  pub there : p < length s.seats
-  pub positions : sizes.positions ≡ length s.seats
-  pub others : (q : ℕ) → q ≢ p → IsStill (seat_of s q)
-  pub taken : position_word s p ≢ Free
-  pub guards : (seat_of s p).guards ≡ out
-  pub counted : (seat_of s p).machine.guards ≡ length out
-  pub held : (seat_of s p).machine.held ≡ jobs
-  pub hand : (seat_of s p).machine.hand ≡ []
-  pub sized : (seat_of s p).machine.sizes ≡ sizes
-  pub seals : SealedBy bound s.queued
-  pub placed : (t : ℕ) → times_queued t s.queued + called t ≡ total t
-
--- the call has ended with this reply
-pub record HasEnded (v : Plan) (called : ℕ → ℕ) (r : Reply) (s : State) : Type 0 where
-  pub rests : Rests v.p v.sizes v.held (guards_out v.call) v.bound v.total called s
-  pub after : After v s.epoch (length s.queued) (position_word s v.p) v.call
-  pub told : r ≡ told_of v.call v.full
-
--- what comes of a step
-abbrev pub Comes : Plan → (ℕ → ℕ) → Reply → State → ℕ → Type 0
-Comes v called r s ahead =
-    ((ends_call r ≡ false) × IsUnderWay v called s ahead) ⊎ ((ends_call r ≡ true) × HasEnded v called r s)
-
--- LEMMAS ON STAGES
-
-eq_true : (x y : ℕ) → (x == y) ≡ true → x ≡ y
-eq_true x y e = grind (arith, nat_tests)
-
-eq_false : (x y : ℕ) → (x == y) ≡ false → x ≢ y
-eq_false x y e = grind (arith, nat_tests)
-
-at_top : (e f : ℕ) → IsNext e f → e ≡ 2 ^ 63 - 1 → f ≡ e
-at_top e f (inl n) at = absurd (n.0 at)
-at_top e f (inr n) at = n.1
-
-below_top : (e f : ℕ) → IsNext e f → e ≢ 2 ^ 63 - 1 → f ≡ e + 1
-below_top e f (inl n) at = n.1
-below_top e f (inr n) at = absurd (at n.0)
-
--- the stage after a collection
-to_end : (c : Call) (held : List Deferral) → Collects c → after_collect (action_of c) held ≡ End
-to_end Pin held h = refl
-to_end (Flush (Some g)) held h = refl
-to_end (Flush None) held h = absurd h
-to_end (Unpin g) held h = absurd h
-to_end (Repin g) held h = absurd h
-to_end (Pause g) held h = absurd h
-to_end (Resume g) held h = absurd h
-to_end (Defer g) held h = absurd h
-to_end Release held h = absurd h
-to_end (DeferDestroy g ptr) held h = absurd h
-to_end (AccessCall a) held h = absurd h
-
-near_next : (v : Plan) (epoch : ℕ) → IsNext v.epoch v.next → epoch ≡ v.next → Near v epoch
-near_next v epoch (inl n) e = inr (e, n.1)
-near_next v epoch (inr n) e = inl (e ∙ n.1)
-
-collected : (v : Plan) (epoch left : ℕ) (w : Word) (c : Call)
-    → IsNext v.epoch v.next → Collects c → w ≡ Pinned v.epoch → epoch ≡ v.next → left ≤ v.bags
-    → (v.bound + 2 ≤ v.next → left ≤ v.bags - v.sizes.collect_bags) → After v epoch left w c
-collected v epoch left w Pin next h word e few all = (word, near_next v epoch next e, few)
-collected v epoch left w (Flush g) next h word e few all = (word, e, few, all)
-collected v epoch left w (Unpin g) next h word e few all = absurd h
-collected v epoch left w (Repin g) next h word e few all = absurd h
-collected v epoch left w (Pause g) next h word e few all = absurd h
-collected v epoch left w (Resume g) next h word e few all = absurd h
-collected v epoch left w (Defer g) next h word e few all = absurd h
-collected v epoch left w Release next h word e few all = absurd h
-collected v epoch left w (DeferDestroy g ptr) next h word e few all = absurd h
-collected v epoch left w (AccessCall a) next h word e few all = absurd h
-
-unpinned_end : (c : Call) (full : Bool) → IsUnpin c → after_unpin (action_of c) full ≡ End
-unpinned_end (Unpin (Some g)) full h = refl
-unpinned_end (Unpin None) full h = absurd h
-unpinned_end Pin full h = absurd h
-unpinned_end (Flush g) full h = absurd h
-unpinned_end (Repin g) full h = absurd h
-unpinned_end (Pause g) full h = absurd h
-unpinned_end (Resume g) full h = absurd h
-unpinned_end (Defer g) full h = absurd h
-unpinned_end Release full h = absurd h
-unpinned_end (DeferDestroy g ptr) full h = absurd h
-unpinned_end (AccessCall a) full h = absurd h
-
-unpinned_after : (v : Plan) (epoch left : ℕ) (c : Call)
-    → IsUnpin c → epoch ≡ v.epoch → left ≤ v.bags → After v epoch left Unpinned c
-unpinned_after v epoch left (Unpin (Some g)) h e few = (refl, e, few)
-unpinned_after v epoch left (Unpin None) h e few = absurd h
-unpinned_after v epoch left Pin h e few = absurd h
-unpinned_after v epoch left (Flush g) h e few = absurd h
-unpinned_after v epoch left (Repin g) h e few = absurd h
-unpinned_after v epoch left (Pause g) h e few = absurd h
-unpinned_after v epoch left (Resume g) h e few = absurd h
-unpinned_after v epoch left (Defer g) h e few = absurd h
-unpinned_after v epoch left Release h e few = absurd h
-unpinned_after v epoch left (DeferDestroy g ptr) h e few = absurd h
-unpinned_after v epoch left (AccessCall a) h e few = absurd h
-
--- a pinned word holds up a scan for another epoch, and no other scan
-holds_pinned : (e n : ℕ) → n ≡ e → holds_up e (2 * n + 1) ≡ false
-holds_pinned e n same =
-    subst (λ (b : Bool). (((2 * n + 1) % 2 == 1) && not b) ≡ false) (sym equal) (and_false ((2 * n + 1) % 2 == 1))
-  where
-    and_false : (b : Bool) → (b && false) ≡ false
-    and_false true = refl
-    and_false false = refl
-
-    equal : (2 * n + 1 == 2 * e + 1) ≡ true
-    equal = grind (arith, nat_tests)
-
-enough_at_first : (left ahead : ℕ) → min 64 ahead ≡ min 64 left → Enough 0 left ahead
-enough_at_first left ahead same = elim (split 64 ahead) [
-  | inl le ↦ inl (omega arith)
-  | inr le ↦ elim (split 64 left) [
-    | inl more ↦ let all : min 64 left ≡ 64 = min-eq_left more in
-        let few : min 64 ahead ≡ ahead = min-eq_right le in
-        inl (omega arith)
-    | inr less ↦ let all : min 64 left ≡ left = min-eq_right less in
-        let few : min 64 ahead ≡ ahead = min-eq_right le in
-        inr (omega arith)
-  ]
-]
-  where
-    split : (a b : ℕ) → (a ≤ b) ⊎ (b ≤ a)
-    split a b = grind arith
-
-enough_same : (k left left' ahead ahead' : ℕ)
-    → Enough k left ahead → ahead + left' ≡ ahead' + left → left' ≡ left → Enough k left' ahead'
-enough_same k left left' ahead ahead' (inl e) count same = inl (omega arith)
-enough_same k left left' ahead ahead' (inr e) count same = inr (omega arith)
-
-enough_less : (k left left' ahead ahead' : ℕ)
-    → Enough k left ahead → ahead + left' ≡ ahead' + left → left ≡ left' + 1 → Enough (k + 1) left' ahead'
-enough_less k left left' ahead ahead' (inl e) count same = inl (omega arith)
-enough_less k left left' ahead ahead' (inr e) count same = inr (omega arith)
-
-enough_none : (k left ahead : ℕ) → Enough k left ahead → ahead ≡ 0 → k < 64 → left ≡ 0
-enough_none k left ahead (inl e) none below = absurd (omega arith)
-enough_none k left ahead (inr e) none below = omega arith
-
-full_calls : (t : ℕ) (full : Bool) → calls_of t (full_or_done full) ≡ 0
-full_calls t true = refl
-full_calls t false = refl
-
--- the end of a call calls no job, and ends it
-told_calls : (t : ℕ) (c : Call) (full : Bool) → calls_of t (told_of c full) ≡ 0
-told_calls t Pin full = refl
-told_calls t (Flush g) full = full_calls t full
-told_calls t _ full = refl
-
-full_ends : (full : Bool) → ends_call (full_or_done full) ≡ true
-full_ends true = refl
-full_ends false = refl
-
-told_ends : (c : Call) (full : Bool) → ends_call (told_of c full) ≡ true
-told_ends Pin full = refl
-told_ends (Flush g) full = full_ends full
-told_ends _ full = refl
-
--- the only guard is spent
-alone : (g : ℕ) → without g (g ∷ []) ≡ []
-alone g = simp same
-  where
-    same : (g == g) ≡ true
-    same = grind (arith, nat_tests)
+use Rattle.epoch_rounds_laws.proofs.QuietCalls.{Plan, IsNext, Near, After, Collects, guards_in, guards_out, told_of}
+use Rattle.epoch_rounds_laws.proofs.QuietCalls.{Enough, KnowsAt, Known, IsStill, IsUnderWay, Rests, Comes, eq_true}
+use Rattle.epoch_rounds_laws.proofs.QuietCalls.{eq_false, at_top, below_top, to_end, collected, unpinned_end}
+use Rattle.epoch_rounds_laws.proofs.QuietCalls.{unpinned_after, holds_pinned, enough_at_first, enough_same}
+use Rattle.epoch_rounds_laws.proofs.QuietCalls.{enough_less, enough_none, told_calls, told_ends, alone}
 
 -- ONE STEP GO OF p
 
 module _ (v : Plan) (called : ℕ → ℕ) (old new : State) (r : Reply) (next : IsNext v.epoch v.next)
     (few : v.sizes.collect_bags ≤ 64) (some : 0 < v.sizes.collect_bags)
     (h : IsUnderWay v called old (ahead_of old v.p)) where
+  -- the participant, its machine and its word before the step
   abbrev seat : WorldSeat
   seat = seat_of old v.p
 
@@ -337,18 +67,22 @@ module _ (v : Plan) (called : ℕ → ℕ) (old new : State) (r : Reply) (next :
   abbrev w : Word
   w = seat.word
 
+  -- how many bags there are, and how many are ahead of its collection
   abbrev left : ℕ
   left = length old.queued
 
   abbrev ahead : ℕ
   ahead = ahead_of new v.p
 
+  -- how often each job was called after the step
   abbrev after : ℕ → ℕ
   after t = called t + calls_of t r
 
+  -- the state after it, but for the places
   abbrev aside : State
   aside = with_places new old.places old.seen old.ahead old.room
 
+  -- the others are still, as before
   others_along : (s : State) (to : WorldSeat)
       → ((q : ℕ) → seat_of s q ≡ seat_of (with_seat old v.p to) q) → (q : ℕ) → q ≢ v.p → IsStill (seat_of s q)
   others_along s to wrote q other = subst IsStill (sym (wrote q ∙ seat_other old v.p q to other)) (h.others q other)
@@ -388,9 +122,11 @@ module _ (v : Plan) (called : ℕ → ℕ) (old new : State) (r : Reply) (next :
       here : seat_of new v.p ≡ to
       here = wrote v.p ∙ seat_written old v.p to h.there
 
+  -- what has to be known where the machine goes on to this stage
   abbrev Fine : Stage → Type 0
   Fine t = HandAt m.hand t × KnowsAt v old.epoch left ahead w t
 
+  -- so much is known of the machine there
   known_at : (t : Stage) → ((u : ℕ) → calls_of u r ≡ 0) → Fine t
       → Known v after old.epoch old.queued ahead w (with_stage m t) t
   known_at t quiet fine = record {
@@ -415,6 +151,7 @@ module _ (v : Plan) (called : ℕ → ℕ) (old new : State) (r : Reply) (next :
   abbrev FineAhead : Stage → Type 0
   FineAhead t = AllAhead (expiry_of t) (outlook_of new v.p) → Fine t
 
+  -- where all bags are ahead of the collection, enough of them are
   enough : (x : ℕ) → x ≡ v.next → new.queued ≡ old.queued → AllAhead x (outlook_of new v.p) → v.bound + 2 ≤ v.next
       → Enough 0 left ahead
   enough x is same all bound =
@@ -422,6 +159,7 @@ module _ (v : Plan) (called : ℕ → ℕ) (old new : State) (r : Reply) (next :
       (all (subst (AllExpired x) (sym same) (all_expired v.bound x old.queued (omega (arith, bound, is)) h.known.seals))
       ∙ ap (λ (bags : List Bag). min 64 (length bags)) same)
 
+  -- past a word a scan goes on to the next one, or to the advance, or to the collection
   behind : (e k : ℕ) → m.hand ≡ [] → Collects v.call → w ≡ Pinned v.epoch → e ≡ old.epoch
       → (e ≡ v.epoch) ⊎ ((e ≡ v.next) × (v.next ≡ v.epoch + 1) × (k < v.p)) → left ≤ v.bags
       → new.queued ≡ old.queued
@@ -441,6 +179,7 @@ module _ (v : Plan) (called : ℕ → ℕ) (old new : State) (r : Reply) (next :
       absurd (omega (arith, h.there, side.2, h.positions, ap (λ (z : Sizes). z.positions) h.known.sizes)))
       (λ f all. (hand, (coll, word, epoch, inr (side.0, side.1, omega (arith, side.2)), less)))
 
+  -- a word of somebody else that is not behind that of p is before it
   side_at : (e k : ℕ) → k ≢ v.p → (e ≡ v.epoch) ⊎ ((e ≡ v.next) × (v.next ≡ v.epoch + 1) × (k ≤ v.p))
       → (e ≡ v.epoch) ⊎ ((e ≡ v.next) × (v.next ≡ v.epoch + 1) × (k < v.p))
   side_at e k ne (inl s) = inl s
@@ -453,6 +192,7 @@ module _ (v : Plan) (called : ℕ → ℕ) (old new : State) (r : Reply) (next :
   passes e k x free fine = subst (λ (b : Bool). FineAhead (if b then Take e 0
       else (if (k + 1 == m.sizes.positions) then scanned e else Scan e (k + 1)))) (sym free) fine
 
+  -- a word that a scan looks at: its own, or that of a participant that is not pinned
   looked : (e k : ℕ) (x : Word) → position_word old k ≡ x → m.hand ≡ [] → Collects v.call → w ≡ Pinned v.epoch
       → e ≡ old.epoch → (e ≡ v.epoch) ⊎ ((e ≡ v.next) × (v.next ≡ v.epoch + 1) × (k ≤ v.p)) → left ≤ v.bags
       → new.queued ≡ old.queued
@@ -492,6 +232,7 @@ module _ (v : Plan) (called : ℕ → ℕ) (old new : State) (r : Reply) (next :
     | inr ne ↦ passes e k 2 refl (behind e k hand coll word epoch (side_at e k ne side) less same_bags)
   ]
 
+  -- the stage after the collection
   ended_stage : Collects v.call → after_collect m.action m.held ≡ End
   ended_stage coll = ap (λ (a : Action). after_collect a m.held) h.known.action ∙ to_end v.call m.held coll
 
@@ -530,6 +271,7 @@ module _ (v : Plan) (called : ℕ → ℕ) (old new : State) (r : Reply) (next :
   stage_now n word wrote =
       ap (λ (st : WorldSeat). st.machine.stage) (wrote v.p ∙ seat_written old v.p (with_word seat word n) h.there)
 
+  -- what is ahead, as the machine counts it
   counts : (n : Machine Deferral) → (seat_of new v.p).machine.stage ≡ n.stage → is_collecting n.stage ≡ true
       → (x : ℕ) (queued : List Bag) → new.queued ≡ queued
       → FindsFor (Some (TakeBag x)) → ahead_of old v.p + length queued ≡ ahead + left
@@ -614,6 +356,7 @@ module _ (v : Plan) (called : ℕ → ℕ) (old new : State) (r : Reply) (next :
         at = fine.1;
       }) did
 
+  -- a step that calls a job of the bag in hand
   calls : (x k : ℕ) → KnowsAt v old.epoch left (ahead_of old v.p) w (Calling x k)
       → (job : Deferral) (jobs : List Deferral) → m.hand ≡ job ∷ jobs
       → r ≡ CalledReply job.ticket (outcome_of old.heap job.removes)
@@ -675,6 +418,7 @@ module _ (v : Plan) (called : ℕ → ℕ) (old new : State) (r : Reply) (next :
       bags : new.queued ≡ old.queued
       bags = ap (λ (s : State). s.queued) did
 
+  -- the call ends with these guards
   ends_with : (guards : List ℕ) (paused : Option ℕ)
       → guards ≡ guards_out v.call → guards_after m.action m.guards ≡ length (guards_out v.call)
       → After v old.epoch left w v.call → m.hand ≡ [] → r ≡ told_of v.call v.full
@@ -695,6 +439,7 @@ module _ (v : Plan) (called : ℕ → ℕ) (old new : State) (r : Reply) (next :
         },
       )
 
+  -- its last step
   ends : After v old.epoch left w v.call → m.hand ≡ [] → r ≡ end_reply v.call seat
       → aside ≡ with_seat old v.p (ended_seat v.call seat) → Comes v after r new ahead
   ends at hand told did = by_call v.call refl told did
@@ -742,9 +487,9 @@ module _ (v : Plan) (called : ℕ → ℕ) (old new : State) (r : Reply) (next :
       by_call (DeferDestroy g ptr) is told did = absurd (subst (After v old.epoch left w) is at)
       by_call (AccessCall a) is told did = absurd (subst (After v old.epoch left w) is at)
 
+  -- a step at each stage
   go : (s : Stage) → m.stage ≡ s → Known v called old.epoch old.queued (ahead_of old v.p) w m s → FindsFor (ask_at s)
       → DrivesCall old v.p seat v.call s (ask_at s) r aside → Comes v after r new ahead
-  go Resting stage k finds did = absurd k.at
   go LoadPin stage k finds did = staged (StorePin old.epoch) (k.hand, (k.at.0, k.at.1, k.at.1, k.at.2)) did
   go (StorePin e) stage k finds did =
       goes_to (Pinned e) (hears m (StorePin e) Stored) old.epoch old.queued old.heap (λ x. absurd (cc))
@@ -821,13 +566,7 @@ module _ (v : Plan) (called : ℕ → ℕ) (old new : State) (r : Reply) (next :
             (unpinned_after v old.epoch left v.call k.at.0 k.at.1 k.at.2);
       }) did.1
   go End stage k finds did = ends k.at k.hand did.0 did.1
-  go LoadSeal stage k finds did = absurd k.at
-  go (Put e) stage k finds did = absurd k.at
-  go Keep stage k finds did = absurd k.at
-  go LoadRepin stage k finds did = absurd k.at
-  go (StoreRepin e) stage k finds did = absurd k.at
-  go ReloadRepin stage k finds did = absurd k.at
-  go StoreFree stage k finds did = absurd k.at
+  go _ stage k finds did = absurd k.at
 
   -- a step Go of p, whose call is under way
   pub go_comes : TakesStep old (Go v.p) r new → Comes v after r new ahead

@@ -1,11 +1,12 @@
 -- The sharp list leads to a sharp state.
-use Rattle.std.proofs.Common.{◌≡◌, ℕ, zero, suc, ◌+◌, ◌<◌, List, [], ◌∷◌, ◌++◌, append_assoc, append-nil, length}
+use Rattle.std.proofs.Common.{◌≡◌, ℕ, zero, suc, ◌+◌, ◌<◌, List, [], ◌∷◌, ◌++◌, ◌≤◌, ◌&&◌, append_assoc, append-nil}
+use Rattle.std.proofs.Common.{length}
 use Rattle.std.proofs.Common.{length-append, Bool, true, false, Some, inl, inr, refl, ap, sym, subst, ◌∙◌, arith}
 use Rattle.std.proofs.Common.{slice_index_or, slice_get}
 use Rattle.epoch_cells.specs.declared.fault.Fault.TheVariants.{BagsFull}
 use Rattle.epoch_machine.specs.declared.machine.Sizes.{Sizes}
 use Rattle.epoch_heap.specs.declared.access.Answer.TheVariants.{Guard, Unit as UnitAnswer}
-use Rattle.epoch_heap.specs.Heap.{Heap}
+use Rattle.epoch_machine.specs.declared.machine.Stage.TheVariants.{LoadSeal}
 use Rattle.epoch_laws.specs.declared.step.Call.{Call}
 use Rattle.epoch_laws.specs.declared.step.Call.TheVariants.{Pin, Unpin, Defer, Flush}
 use Rattle.epoch_laws.specs.declared.step.Entry.{Entry}
@@ -17,43 +18,46 @@ use Rattle.epoch_laws.specs.declared.step.Step.TheVariants.{Register, Begin, Go}
 use Rattle.epoch_laws.specs.declared.step.Word.TheVariants.{Unpinned}
 use Rattle.epoch_laws.specs.Calls.{call_entries, goes_of, ends_call, EndsAtLast}
 use Rattle.epoch_laws.specs.Grace.{IsReplyAt}
-use Rattle.epoch_laws.specs.Run.{Bag, WorldSeat, State, HasFreePlace, Ending, Open, seat_of, with_places, with_heap}
+use Rattle.epoch_laws.specs.Run.{Bag, WorldSeat, State, HasFreePlace, Ending, Open, seat_of}
 use Rattle.epoch_laws.specs.Run.{free_seat, IsFresh, Moves, TakesStep, Runs}
 use Rattle.epoch_laws.specs.Room.{is_at_places}
-use Rattle.epoch_rounds_laws.specs.Sharp.{pair_sizes, EndsIn, TakesSharpList, IsSharp}
-use Rattle.epoch_laws.proofs.Log.{IsWithdrawal, PinnedSince, stands_push, stands_keep, stands_new, stands_within}
+use Rattle.epoch_laws.proofs.Log.{IsWithdrawal, PinnedSince, stands_push, stands_keep, stands_new}
+use Rattle.epoch_laws.proofs.Log.{stands_within}
+use Rattle.epoch_laws.proofs.RunsGoOn.{runs_append}
+use Rattle.epoch_rounds_laws.specs.Sharp.{pair_sizes, EndsIn, EndsCall, TakesCalls, sharp_calls, both_register}
+use Rattle.epoch_rounds_laws.specs.Sharp.{TakesSharpList, IsSharp}
 use Rattle.epoch_rounds_laws.proofs.LonePuts.{lone_calls, places_stay}
-use Rattle.epoch_rounds_laws.proofs.SureSteps.{no_heap, core, back, Leads}
-use Rattle.epoch_rounds_laws.proofs.SharpLog.{SharpReplies, both, log1, log2, log3, log4, log5, log6, log7}
-use Rattle.epoch_rounds_laws.proofs.SharpCalls.{To, Exactly, its_bag, c0, c1, c2, c3, c4, c5, c6, c7, b1_0, b2_0, b3_0, b4_0}
-use Rattle.epoch_rounds_laws.proofs.SharpCalls.{b5_0, b6_0, b7_0, f0, AllStay, Flushed, Collected, call1, call2, call3}
-use Rattle.epoch_rounds_laws.proofs.SharpCalls.{call4, call5, call6, call7, call8}
+use Rattle.epoch_rounds_laws.proofs.SureSteps.{no_heap, Aside, aside_of, among, placed, core, moves_among, Leads}
+use Rattle.epoch_rounds_laws.proofs.SharpCalls.{job, its_bag, both_new, job_deferred, flushing, AllStay, Flushed}
+use Rattle.epoch_rounds_laws.proofs.SharpCalls.{Collected, ends_more, zeroth_pins, zeroth_unpins, first_pins}
+use Rattle.epoch_rounds_laws.proofs.SharpCalls.{first_unpins, zeroth_pins_again, first_pins_again, first_defers}
+use Rattle.epoch_rounds_laws.proofs.SharpCalls.{first_flushes}
 
 -- HOW A CALL BEGINS
 
+-- a Begin of p is accepted in this state, and comes to that one
 abbrev BeginsTo : State → ℕ → Call → State → Type 0
-BeginsTo at p c after =
-    (places : List Bool) (seen ahead : List ℕ) (room : List Bool) (heap : Heap) (new : State) (told : Reply)
-    → Moves (with_heap (with_places at places seen ahead room) heap) (Begin p c) told new
-    → (told ≡ Began) × (core new ≡ after)
+BeginsTo at p c after = (aside : Aside) (new : State) (told : Reply)
+    → Moves (among at aside) (Begin p c) told new → (told ≡ Began) × (core new ≡ after)
 
+-- so it does in every state that is this one but for the places and the cells
 begins_to : (at after old mid : State) (p : ℕ) (c : Call) (told : Reply)
     → BeginsTo at p c after → core old ≡ at → TakesStep old (Begin p c) told mid → (told ≡ Began) × (core mid ≡ after)
 begins_to at after old mid p c told is e did =
-    is old.places old.seen old.ahead old.room old.heap (with_places mid old.places old.seen old.ahead old.room) told
-    (subst (λ (s : State). Moves s (Begin p c) told (with_places mid old.places old.seen old.ahead old.room))
-    (back at old e) did.0)
+    is (aside_of old) (placed mid (aside_of old)) told (moves_among at old mid (Begin p c) told e did)
 
 -- a call of the list, from its Begin on
 record Called (p : ℕ) (c : Call) (Result : State → List Reply → State → Type 0) (old new : State)
     (replies : List Reply) : Type 0 where
   pub mid : State
   pub rs : List Reply
+  -- the log with the flush, and what it is
   pub whole : replies ≡ Began ∷ rs
   pub began : TakesStep old (Begin p c) Began mid
   pub run : Runs mid (goes_of p rs) new
   pub result : Result mid rs new
 
+-- a call that is accepted, and goes on to its end
 called : (p : ℕ) (c : Call) (at after : State) (Result : State → List Reply → State → Type 0)
     → BeginsTo at p c after → Leads p after Result
     → (old new : State) (replies : List Reply) → core old ≡ at → EndsAtLast replies
@@ -74,13 +78,13 @@ called p c at after Result is leads old new (r ∷ s ∷ rs) e ends (mid, did, r
 
 -- THE REGISTRATIONS
 
+-- two seats, each as it was by default
 two_seats : (seats : List WorldSeat) (d : WorldSeat)
     → length seats ≡ 2 → ((p : ℕ) → slice_index_or seats p d ≡ d) → seats ≡ d ∷ d ∷ []
-two_seats [] d len at = absurd (omega (arith, len))
-two_seats (a ∷ []) d len at = absurd (omega (arith, len))
 two_seats (a ∷ b ∷ []) d len at = ap (λ (x : WorldSeat). x ∷ b ∷ []) (at 0) ∙ ap (λ (x : WorldSeat). d ∷ x ∷ []) (at 1)
-two_seats (a ∷ b ∷ c ∷ seats) d len at = absurd (omega (arith, len))
+two_seats _ d len at = absurd (omega (arith, len))
 
+-- a world with its places and its cells left out
 abbrev made : Sizes → ℕ → List WorldSeat → List Bag → ℕ → Ending → State
 made sizes epoch seats queued tickets ending = record {
   sizes = sizes;
@@ -96,6 +100,7 @@ made sizes epoch seats queued tickets ending = record {
   room = [];
 }
 
+-- the core of the new world, and that after one registration
 abbrev unregistered : State
 unregistered = made pair_sizes 0 (free_seat pair_sizes ∷ free_seat pair_sizes ∷ []) [] 0 Open
 
@@ -103,6 +108,7 @@ abbrev half_registered : State
 half_registered =
     made pair_sizes 0 (record (free_seat pair_sizes) { word = Unpinned } ∷ free_seat pair_sizes ∷ []) [] 0 Open
 
+-- the new world is in such a state
 fresh_core : (s : State) → IsFresh s → s.sizes ≡ pair_sizes → s.epoch ≡ 0 → core s ≡ unregistered
 fresh_core s fresh sized first =
     ap (λ (z : Sizes). made z s.epoch s.seats s.queued s.tickets s.ending) sized
@@ -120,51 +126,63 @@ fresh_core s fresh sized first =
     seats : s.seats ≡ free_seat pair_sizes ∷ free_seat pair_sizes ∷ []
     seats = two_seats s.seats (free_seat pair_sizes) (sym fresh.sized ∙ ap (λ (z : Sizes). z.positions) sized) free
 
-registers_first : (pl : List Bool) (se ah : List ℕ) (ro : List Bool) (hp : Heap) (new : State) (told : Reply)
-    → Moves (with_heap (with_places unregistered pl se ah ro) hp) Register told new → core new ≡ half_registered
-registers_first pl se ah ro hp new told (inl (zero, opened, there, free, least, told_so, did)) = ap core did
-registers_first pl se ah ro hp new told (inl (suc p, opened, there, free, least, told_so, did)) =
+-- the first Register takes position 0
+registers_first : (aside : Aside) (new : State) (told : Reply)
+    → Moves (among unregistered aside) Register told new → core new ≡ half_registered
+registers_first aside new told (inl (zero, opened, there, free, least, told_so, did)) = ap core did
+registers_first aside new told (inl (suc p, opened, there, free, least, told_so, did)) =
     absurd (least 0 (omega arith) refl)
-registers_first pl se ah ro hp new told (inr (inl did)) = absurd (did.1 0 (omega arith) refl)
-registers_first pl se ah ro hp new told (inr (inr did)) = absurd (did.0 refl)
+registers_first aside new told (inr (inl did)) = absurd (did.1 0 (omega arith) refl)
+registers_first aside new told (inr (inr did)) = absurd (did.0 refl)
 
-registers_second : (pl : List Bool) (se ah : List ℕ) (ro : List Bool) (hp : Heap) (new : State) (told : Reply)
-    → Moves (with_heap (with_places half_registered pl se ah ro) hp) Register told new → core new ≡ c0
-registers_second pl se ah ro hp new told (inl (zero, opened, there, free, least, told_so, did)) = absurd (cc (free))
-registers_second pl se ah ro hp new told (inl (suc zero, opened, there, free, least, told_so, did)) = ap core did
-registers_second pl se ah ro hp new told (inl (suc (suc p), opened, there, free, least, told_so, did)) =
+-- and the second one position 1
+registers_second : (aside : Aside) (new : State) (told : Reply)
+    → Moves (among half_registered aside) Register told new → core new ≡ both_new
+registers_second aside new told (inl (zero, opened, there, free, least, told_so, did)) = absurd (cc (free))
+registers_second aside new told (inl (suc zero, opened, there, free, least, told_so, did)) = ap core did
+registers_second aside new told (inl (suc (suc p), opened, there, free, least, told_so, did)) =
     absurd (omega (arith, there))
-registers_second pl se ah ro hp new told (inr (inl did)) = absurd (did.1 1 (omega arith) refl)
-registers_second pl se ah ro hp new told (inr (inr did)) = absurd (did.0 refl)
+registers_second aside new told (inr (inl did)) = absurd (did.1 1 (omega arith) refl)
+registers_second aside new told (inr (inr did)) = absurd (did.0 refl)
 
-registered_both : (old new : State) (r s : Reply) → core old ≡ unregistered
-    → Runs old (record { step = Register; reply = r } ∷ record { step = Register; reply = s } ∷ []) new → core new ≡ c0
-registered_both old new r s e (mid, one, more) =
-    ap core more.2 ∙ registers_second mid.places mid.seen mid.ahead mid.room mid.heap
-    (with_places more.0 mid.places mid.seen mid.ahead mid.room) s
-    (subst (λ (x : State). Moves x Register s (with_places more.0 mid.places mid.seen mid.ahead mid.room))
-    (back half_registered mid half) more.1.0)
+-- both registrations
+registered_both : (old new : State) (r s : Reply)
+    → core old ≡ unregistered → Runs old (both_register r s) new → core new ≡ both_new
+registered_both old new r s e (mid, one, (last, two, same)) =
+    ap core same ∙ registers_second (aside_of mid) (placed last (aside_of mid)) s
+    (moves_among half_registered mid last Register s half two)
   where
     half : core mid ≡ half_registered
-    half = registers_first old.places old.seen old.ahead old.room old.heap
-        (with_places mid old.places old.seen old.ahead old.room) r
-        (subst (λ (x : State). Moves x Register r (with_places mid old.places old.seen old.ahead old.room))
-        (back unregistered old e) one.0)
+    half = registers_first (aside_of old) (placed mid (aside_of old)) r
+        (moves_among unregistered old mid Register r e one)
 
 -- RUNS AND LOGS
 
-pub runs_append : (a b c : State) (x y : List Entry) → Runs a x b → Runs b y c → Runs a (x ++ y) c
-runs_append a b c [] y one two = subst (λ (s : State). Runs s y c) one two
-runs_append a b c (e ∷ x) y (mid, did, one) two = (mid, did, runs_append mid b c x y one two)
+-- such calls are a run
+takes_run : (old new : State) (calls : List (ℕ × Call)) (log : List Entry)
+    → TakesCalls old calls log new → Runs old log new
+takes_run old new [] log (none, same) = subst (λ (l : List Entry). Runs old l new) (sym none) same
+takes_run old new ((p, c) ∷ calls) log (mid, replies, rest, ends, whole, others) =
+    subst (λ (l : List Entry). Runs old l new) (sym whole)
+    (runs_append old mid new (call_entries p c replies) rest ends.run (takes_run mid new calls rest others))
 
+-- the Gos of two lists of replies
 goes_append : (p : ℕ) (a b : List Reply) → goes_of p (a ++ b) ≡ goes_of p a ++ goes_of p b
 goes_append p [] b = refl
 goes_append p (r ∷ a) b = ap (λ (es : List Entry). record { step = Go p; reply = r } ∷ es) (goes_append p a b)
 
+-- what stands after a log, and what stands in it, in a longer one
 get_at : (log : List Entry) (x : Entry) (more : List Entry) → slice_get (log ++ x ∷ more) (length log) ≡ Some x
 get_at [] x more = refl
 get_at (e ∷ log) x more = get_at log x more
 
+get_kept : (log more : List Entry) (k : ℕ) (x : Entry)
+    → slice_get log k ≡ Some x → slice_get (log ++ more) k ≡ Some x
+get_kept [] more k x at = absurd (cc (at))
+get_kept (e ∷ log) more zero x at = at
+get_kept (e ∷ log) more (suc k) x at = get_kept log more k x at
+
+-- whoever publishes with the last entry is pinned since
 since_new : (log : List Entry) (x : Entry) (p : ℕ)
     → x.reply ≡ PinnedReply p → PinnedSince (log ++ x ∷ []) p (length log)
 since_new log x p e = record {
@@ -176,6 +194,12 @@ since_new log x p e = record {
     no k after event w =
         absurd (omega (arith, after, stands_within (log ++ x ∷ []) k event w, length-append log (x ∷ [])))
 
+-- it published within the log
+since_within : (log : List Entry) (p at : ℕ) → PinnedSince log p at → at < length log
+since_within log p at h =
+    elim h.published [ inl e ↦ stands_within log at _ e | inr e ↦ stands_within log at _ e ]
+
+-- and stays pinned by an entry that withdraws nothing
 since_push : (log : List Entry) (x : Entry) (p at : ℕ)
     → PinnedSince log p at → ¬ (IsWithdrawal x.reply p) → PinnedSince (log ++ x ∷ []) p at
 since_push log x p at h stays = record {
@@ -186,45 +210,64 @@ since_push log x p at h stays = record {
   ];
 }
 
+-- no entry withdraws what p publishes
 abbrev Keep : ℕ → List Entry → Type 0
 Keep p [] = Unit {0}
 Keep p (x ∷ es) = (¬ (IsWithdrawal x.reply p)) × Keep p es
 
+-- and by entries that withdraw nothing
 since_all : (log es : List Entry) (p at : ℕ) → PinnedSince log p at → Keep p es → PinnedSince (log ++ es) p at
 since_all log [] p at h keep = subst (λ (l : List Entry). PinnedSince l p at) (sym (append-nil log)) h
 since_all log (x ∷ es) p at h keep =
     subst (λ (l : List Entry). PinnedSince l p at) (append_assoc log (x ∷ []) es)
     (since_all (log ++ x ∷ []) es p at (since_push log x p at h keep.0) keep.1)
 
+-- such are the entries of a call whose replies do so
 keep_goes : (p : ℕ) (rs : List Reply) → AllStay rs → Keep 0 (goes_of p rs)
 keep_goes p [] h = tt
 keep_goes p (r ∷ rs) h = (h.0, keep_goes p rs h.1)
 
+-- a reply that withdraws nothing
 abbrev calm : Reply → Bool
 calm (UnpinnedReply p) = false
 calm (Repinned p) = false
 calm _ = true
 
+-- such a reply withdraws nothing of 0
 calm_stays : (r : Reply) → calm r ≡ true → ¬ (IsWithdrawal r 0)
 calm_stays r e (inl w) = let is : calm r ≡ false = ap calm w in cc (e, is)
 calm_stays r e (inr w) = let is : calm r ≡ false = ap calm w in cc (e, is)
 
-ends_cons : (r last : Reply) (rs : List Reply) → EndsIn last rs → EndsIn last (r ∷ rs)
-ends_cons r last [] e = absurd e
-ends_cons r last (s ∷ rs) e = e
+-- entries of which no reply withdraws anything
+abbrev all_calm : List Entry → Bool
+all_calm [] = true
+all_calm (x ∷ es) = calm x.reply && all_calm es
 
+calm_both : (a b : Bool) → a && b ≡ true → (a ≡ true) × (b ≡ true)
+calm_both true b e = (refl, e)
+calm_both false b e = absurd (cc (e))
+
+keep_calm : (es : List Entry) → all_calm es ≡ true → Keep 0 es
+keep_calm [] e = tt
+keep_calm (x ∷ es) e =
+    let both = calm_both (calm x.reply) (all_calm es) e in (calm_stays x.reply both.0, keep_calm es both.1)
+
+-- an accepted Begin, and a step after it
 abbrev begin : ℕ → Call → Entry
 begin p c = record { step = Begin p c; reply = Began }
 
 abbrev went : ℕ → Reply → Entry
 went p r = record { step = Go p; reply = r }
 
+-- what a pin is told that does not collect
 abbrev pin_replies : ℕ → List Reply
 pin_replies p = Began ∷ Stepped ∷ PinnedReply p ∷ Stepped ∷ Done (Guard 0) ∷ []
 
+-- the entries of 0's pin before it publishes
 abbrev up_to : List Entry
 up_to = begin 0 Pin ∷ went 0 Stepped ∷ []
 
+-- with its second pin 0 is pinned since it published
 pinned_in : (l : List Entry) (rs : List Reply)
     → rs ≡ pin_replies 0 → PinnedSince (l ++ call_entries 0 Pin rs) 0 (length (l ++ up_to))
 pinned_in l rs e =
@@ -234,181 +277,230 @@ pinned_in l rs e =
     (subst (λ (z : List Entry). PinnedSince z 0 (length (l ++ up_to)))
     (append_assoc (l ++ up_to) (x ∷ []) more ∙ append_assoc l up_to (x ∷ more))
     (since_all ((l ++ up_to) ++ x ∷ []) more 0 (length (l ++ up_to)) (since_new (l ++ up_to) x 0 refl)
-    (calm_stays Stepped refl, (calm_stays (Done (Guard 0)) refl, tt))))
+    (keep_calm more refl)))
 
+-- what a deferral is told
 abbrev defer_replies : List Reply
 defer_replies = Began ∷ Deferred 0 ∷ Done UnitAnswer ∷ []
 
-deferred_in : (l m : List Entry) (rs : List Reply) → rs ≡ defer_replies
-    → slice_get ((l ++ call_entries 1 (Defer (Some 0)) rs) ++ m) (length (l ++ begin 1 (Defer (Some 0)) ∷ []))
+-- the place of the deferral in the log
+deferred_in : (l : List Entry) (rs : List Reply) → rs ≡ defer_replies
+    → slice_get (l ++ call_entries 1 (Defer (Some 0)) rs) (length (l ++ begin 1 (Defer (Some 0)) ∷ []))
     ≡ Some (went 1 (Deferred 0))
-deferred_in l m rs e =
+deferred_in l rs e =
     let b : Entry = begin 1 (Defer (Some 0)) in
     let x : Entry = went 1 (Deferred 0) in
     let y : Entry = went 1 (Done UnitAnswer) in
-    subst (λ (r : List Reply). slice_get ((l ++ call_entries 1 (Defer (Some 0)) r) ++ m)
-    (length (l ++ b ∷ [])) ≡ Some x) (sym e)
-    (ap (λ (z : List Entry). slice_get z (length (l ++ b ∷ [])))
-    (append_assoc l (b ∷ x ∷ y ∷ []) m ∙ sym (append_assoc l (b ∷ []) (x ∷ y ∷ m))) ∙ get_at (l ++ b ∷ []) x (y ∷ m))
+    subst (λ (r : List Reply). slice_get (l ++ call_entries 1 (Defer (Some 0)) r) (length (l ++ b ∷ [])) ≡ Some x)
+    (sym e) (ap (λ (z : List Entry). slice_get z (length (l ++ b ∷ [])))
+    (sym (append_assoc l (b ∷ []) (x ∷ y ∷ []))) ∙ get_at (l ++ b ∷ []) x (y ∷ []))
 
--- THE LIST
+-- THE LIST, ONE CALL AFTER THE OTHER
 
-module _ (fresh new : State) (log : List Entry) (is_fresh : IsFresh fresh) (sized : fresh.sizes ≡ pair_sizes)
-    (first : fresh.epoch ≡ 0) (some : 0 < length fresh.places) (t : TakesSharpList fresh log new) where
-  k1 : Called 0 Pin (To c1) t.s0 t.s1 t.r1
-  k1 = called 0 Pin c0 b1_0 (To c1) (λ pl se ah ro hp mid told did. (did.0, ap core did.1)) call1 t.s0 t.s1 t.r1
-      (registered_both fresh t.s0 t.first t.second
-      (fresh_core fresh is_fresh sized first) t.registered) t.one.ends t.one.run
+-- From such a state on, with such a log before them, these calls lead to a sharp state.
+record LeadsOn (fresh at : State) (Holds : List Entry → Type 0) (calls : List (ℕ × Call)) : Type 0 where
+  pub so : (before : List Entry) (old new : State) (log : List Entry) → Runs fresh before old → core old ≡ at
+      → Holds before → TakesCalls old calls log new → IsSharp fresh (before ++ log) new
 
-  k2 : Called 0 (Unpin (Some 0)) (Exactly (UnpinnedReply 0 ∷ Done UnitAnswer ∷ []) c2) t.s1 t.s2 t.r2
-  k2 = called 0 (Unpin (Some 0)) c1 b2_0 (Exactly (UnpinnedReply 0 ∷ Done UnitAnswer ∷ []) c2)
-      (λ pl se ah ro hp mid told did. (did.0, ap core did.1)) call2 t.s1 t.s2 t.r2 k1.result t.two.ends t.two.run
+-- So they do with a call before them that comes to such a state, and keeps what holds of the log.
+module _ (fresh at began after : State) (Result : State → List Reply → State → Type 0) (p : ℕ) (c : Call)
+    (calls : List (ℕ × Call)) (Before After : List Entry → Type 0) (begins : BeginsTo at p c began)
+    (leads : Leads p began Result)
+    (keeps : (before : List Entry) (old new : State) (rs : List Reply) → Before before → Result old rs new
+    → (core new ≡ after) × After (before ++ call_entries p c (Began ∷ rs)))
+    (on : LeadsOn fresh after After calls) where
+  -- the call, and then the others
+  one_more : (before : List Entry) (old new : State) (log : List Entry) → Runs fresh before old → core old ≡ at
+      → Before before → TakesCalls old ((p, c) ∷ calls) log new → IsSharp fresh (before ++ log) new
+  one_more before old new log run is holds (mid, replies, rest, ends, whole, others) =
+      let k = called p c at began Result begins leads old mid replies is ends.ends ends.run in
+      let kept = keeps before k.mid mid k.rs holds k.result in
+      let held : After (before ++ call_entries p c replies) =
+      subst (λ (rs : List Reply). After (before ++ call_entries p c rs)) (sym k.whole) kept.1 in
+      subst (λ (l : List Entry). IsSharp fresh l new)
+      (append_assoc before (call_entries p c replies) rest ∙ ap (λ (l : List Entry). before ++ l) (sym whole))
+      (on.so (before ++ call_entries p c replies) mid new rest
+      (runs_append fresh old mid before (call_entries p c replies) run ends.run) kept.0 held others)
 
-  k3 : Called 1 Pin (To c3) t.s2 t.s3 t.r3
-  k3 = called 1 Pin c2 b3_0 (To c3)
-      (λ pl se ah ro hp mid told did. (did.0, ap core did.1)) call3 t.s2 t.s3 t.r3 k2.result.1 t.three.ends t.three.run
+-- the same with the states and the further calls left to be found
+leads_on : {fresh at began after : State} {Result : State → List Reply → State → Type 0} {calls : List (ℕ × Call)}
+    (p : ℕ) (c : Call) (Before After : List Entry → Type 0) → BeginsTo at p c began → Leads p began Result
+    → ((before : List Entry) (old new : State) (rs : List Reply) → Before before → Result old rs new
+    → (core new ≡ after) × After (before ++ call_entries p c (Began ∷ rs)))
+    → LeadsOn fresh after After calls → LeadsOn fresh at Before ((p, c) ∷ calls)
+leads_on {fresh} {at} {began} {after} {Result} {calls} p c Before After begins leads keeps on =
+    record { so = one_more fresh at began after Result p c calls Before After begins leads keeps on }
 
-  k4 : Called 1 (Unpin (Some 0)) (Exactly (UnpinnedReply 1 ∷ Done UnitAnswer ∷ []) c4) t.s3 t.s4 t.r4
-  k4 = called 1 (Unpin (Some 0)) c3 b4_0 (Exactly (UnpinnedReply 1 ∷ Done UnitAnswer ∷ []) c4)
-      (λ pl se ah ro hp mid told did. (did.0, ap core did.1)) call4 t.s3 t.s4 t.r4 k3.result t.four.ends t.four.run
+-- what holds of the log: nothing yet, that 0 has stayed pinned, and that it has so since before 1 deferred its job
+abbrev Any : List Entry → Type 0
+Any log = Unit {0}
 
-  k5 : Called 0 Pin (Exactly (Stepped ∷ PinnedReply 0 ∷ Stepped ∷ Done (Guard 0) ∷ []) c5) t.s4 t.s5 t.r5
-  k5 = called 0 Pin c4 b5_0 (Exactly (Stepped ∷ PinnedReply 0 ∷ Stepped ∷ Done (Guard 0) ∷ []) c5)
-      (λ pl se ah ro hp mid told did. (did.0, ap core did.1)) call5 t.s4 t.s5 t.r5 k4.result.1 t.five.ends t.five.run
+record StillPinned (log : List Entry) : Type 0 where
+  pub at : ℕ
+  pub since : PinnedSince log 0 at
 
-  k6 : Called 1 Pin (Exactly (Stepped ∷ PinnedReply 1 ∷ Stepped ∷ Done (Guard 0) ∷ []) c6) t.s5 t.s6 t.r6
-  k6 = called 1 Pin c5 b6_0 (Exactly (Stepped ∷ PinnedReply 1 ∷ Stepped ∷ Done (Guard 0) ∷ []) c6)
-      (λ pl se ah ro hp mid told did. (did.0, ap core did.1)) call6 t.s5 t.s6 t.r6 k5.result.1 t.six.ends t.six.run
+record DeferredSince (log : List Entry) : Type 0 where
+  pub at : ℕ
+  pub since : PinnedSince log 0 at
+  pub place : ℕ
+  pub earlier : at ≤ place
+  pub deferred : slice_get log place ≡ Some (went 1 (Deferred 0))
 
-  k7 : Called 1 (Defer (Some 0)) (Exactly (Deferred 0 ∷ Done UnitAnswer ∷ []) c7) t.s6 t.s7 t.r7
-  k7 = called 1 (Defer (Some 0)) c6 b7_0 (Exactly (Deferred 0 ∷ Done UnitAnswer ∷ []) c7)
-      (λ pl se ah ro hp mid told did. (did.0, ap core did.1)) call7 t.s6 t.s7 t.r7 k6.result.1 t.seven.ends t.seven.run
+-- the second pin of 1
+keeps_pinned : (before : List Entry) (rs : List Reply) → Began ∷ rs ≡ pin_replies 1 → StillPinned before
+    → StillPinned (before ++ call_entries 1 Pin (Began ∷ rs))
+keeps_pinned before rs e h = record {
+  at = h.at;
+  since = since_all before (call_entries 1 Pin (Began ∷ rs)) 0 h.at h.since
+      (subst (λ (r : List Reply). Keep 0 (call_entries 1 Pin r)) (sym e)
+      (keep_calm (call_entries 1 Pin (pin_replies 1)) refl));
+}
 
-  k8 : Called 1 (Flush (Some 0)) Flushed t.s7 new t.r8
-  k8 = called 1 (Flush (Some 0)) c7 f0 Flushed
-      (λ pl se ah ro hp mid told did. (did.0, ap core did.1)) call8 t.s7 new t.r8 k7.result.1 t.eight.ends t.eight.run
+-- the deferral
+keeps_deferred : (before : List Entry) (rs : List Reply) → Began ∷ rs ≡ defer_replies → StillPinned before
+    → DeferredSince (before ++ call_entries 1 (Defer (Some 0)) (Began ∷ rs))
+keeps_deferred before rs e h = record {
+  at = h.at;
+  since = since_all before (call_entries 1 (Defer (Some 0)) (Began ∷ rs)) 0 h.at h.since
+      (subst (λ (r : List Reply). Keep 0 (call_entries 1 (Defer (Some 0)) r)) (sym e)
+      (keep_calm (call_entries 1 (Defer (Some 0)) defer_replies) refl));
+  place = length (before ++ begin 1 (Defer (Some 0)) ∷ []);
+  earlier = omega (
+    arith,
+    since_within before 0 h.at h.since,
+    length-append before (begin 1 (Defer (Some 0)) ∷ []),
+  );
+  deferred = deferred_in before (Began ∷ rs) e;
+}
 
-  abbrev replies : SharpReplies
-  replies = record {
-    first = t.first;
-    second = t.second;
-    r1 = t.r1;
-    r2 = t.r2;
-    r3 = t.r3;
-    r4 = t.r4;
-    r5 = t.r5;
-    r6 = t.r6;
-    r7 = t.r7;
-    r8 = t.r8;
-  }
+-- THE FLUSH
 
-  run7 : Runs fresh (log7 replies) t.s7
-  run7 =
-      runs_append fresh t.s6 t.s7 (log6 replies) (call_entries 1 (Defer (Some 0)) t.r7)
-      (runs_append fresh t.s5 t.s6 (log5 replies) (call_entries 1 Pin t.r6)
-      (runs_append fresh t.s4 t.s5 (log4 replies) (call_entries 0 Pin t.r5)
-      (runs_append fresh t.s3 t.s4 (log3 replies) (call_entries 1 (Unpin (Some 0)) t.r4)
-      (runs_append fresh t.s2 t.s3 (log2 replies) (call_entries 1 Pin t.r3)
-      (runs_append fresh t.s1 t.s2 (log1 replies) (call_entries 0 (Unpin (Some 0)) t.r2)
-      (runs_append fresh t.s0 t.s1 (both replies) (call_entries 0 Pin t.r1) t.registered t.one.run)
-      t.two.run) t.three.run) t.four.run) t.five.run) t.six.run) t.seven.run
+module _ (fresh old new : State) (before : List Entry) (replies : List Reply) (is_fresh : IsFresh fresh)
+    (some : 0 < length fresh.places) (run : Runs fresh before old) (is : core old ≡ job_deferred)
+    (held : DeferredSince before) (ends : EndsCall 1 (Flush (Some 0)) old replies new) where
+  -- what the flush comes to
+  flush : Called 1 (Flush (Some 0)) Flushed old new replies
+  flush = called 1 (Flush (Some 0)) job_deferred (flushing 2 [] LoadSeal false (job ∷ [])) Flushed
+      (λ aside mid told did. (did.0, ap core did.1)) first_flushes old new replies is ends.ends ends.run
 
-  -- a place is free for the Flush, and nobody else is at the places
-  free : HasFreePlace 1 t.s7
+  -- a place is free for it, and nobody else is at the places
+  free : HasFreePlace 1 old
   free = record {
-    others = λ q other. ap (λ (s : State). is_at_places (seat_of s q).machine.stage) k7.result.1 ∙ away q;
-    fewer = omega (
-      arith,
-      some,
-      ap (λ (s : State). length s.queued) k7.result.1,
-      places_stay fresh t.s7 (log7 replies) run7,
-    );
+    others = λ q other. ap (λ (s : State). is_at_places (seat_of s q).machine.stage) is ∙ away q;
+    fewer = omega (arith, some, ap (λ (s : State). length s.queued) is, places_stay fresh old before run);
   }
     where
-      away : (q : ℕ) → is_at_places (seat_of c7 q).machine.stage ≡ false
+      away : (q : ℕ) → is_at_places (seat_of job_deferred q).machine.stage ≡ false
       away zero = refl
       away (suc zero) = refl
       away (suc (suc q)) = refl
 
-  collected : Collected k8.mid k8.rs new
-  collected = by_end k8.result
+  -- and so it isn't refused
+  collected : Collected flush.mid flush.rs new
+  collected = by_end flush.result
     where
-      by_end : Flushed k8.mid k8.rs new → Collected k8.mid k8.rs new
+      by_end : Flushed flush.mid flush.rs new → Collected flush.mid flush.rs new
       by_end (inl e) =
-          absurd (lone_calls fresh t.s7 new (log7 replies) 1 (Flush (Some 0)) t.r8 is_fresh run7 free t.eight
-          (subst (EndsIn (Refused BagsFull)) (sym k8.whole) (ends_cons Began (Refused BagsFull) k8.rs e)))
+          absurd (lone_calls fresh old new before 1 (Flush (Some 0)) replies is_fresh run free ends
+          (subst (EndsIn (Refused BagsFull)) (sym flush.whole) (ends_more Began (Refused BagsFull) flush.rs e)))
       by_end (inr c) = c
 
-  whole5 : t.r5 ≡ pin_replies 0
-  whole5 = k5.whole ∙ ap (λ (rs : List Reply). Began ∷ rs) k5.result.0
-
-  whole6 : t.r6 ≡ pin_replies 1
-  whole6 = k6.whole ∙ ap (λ (rs : List Reply). Began ∷ rs) k6.result.0
-
-  whole7 : t.r7 ≡ defer_replies
-  whole7 = k7.whole ∙ ap (λ (rs : List Reply). Began ∷ rs) k7.result.0
+  abbrev whole : List Entry
+  whole = before ++ call_entries 1 (Flush (Some 0)) replies
 
   -- 0 has stayed pinned
-  since : PinnedSince log 0 (length (log4 replies ++ up_to))
-  since =
-      subst (λ (l : List Entry). PinnedSince l 0 (length (log4 replies ++ up_to))) (sym t.whole)
-      (since_all (log7 replies) (call_entries 1 (Flush (Some 0)) t.r8) 0 _
-      (since_all (log6 replies) (call_entries 1 (Defer (Some 0)) t.r7) 0 _
-      (since_all (log5 replies) (call_entries 1 Pin t.r6) 0 _ (pinned_in (log4 replies) t.r5 whole5)
-      (subst (λ (rs : List Reply). Keep 0 (call_entries 1 Pin rs)) (sym whole6) (
-        calm_stays Began refl,
-        (
-          calm_stays Stepped refl,
-          (calm_stays (PinnedReply 1) refl, (calm_stays Stepped refl, (calm_stays (Done (Guard 0)) refl, tt))),
-        ),
-      )))
-      (subst (λ (rs : List Reply). Keep 0 (call_entries 1 (Defer (Some 0)) rs)) (sym whole7)
-      (calm_stays Began refl, (calm_stays (Deferred 0) refl, (calm_stays (Done UnitAnswer) refl, tt)))))
-      (subst (λ (rs : List Reply). Keep 0 (call_entries 1 (Flush (Some 0)) rs)) (sym k8.whole)
-      (calm_stays Began refl, keep_goes 1 k8.rs collected.stays)))
+  since : PinnedSince whole 0 held.at
+  since = since_all before (call_entries 1 (Flush (Some 0)) replies) 0 held.at held.since
+      (subst (λ (rs : List Reply). Keep 0 (call_entries 1 (Flush (Some 0)) rs)) (sym flush.whole)
+      (calm_stays Began refl, keep_goes 1 flush.rs collected.stays))
 
-  abbrev flushing : List Entry
-  flushing = goes_of 1 k8.rs
+  whole_is : whole ≡ before ++ begin 1 (Flush (Some 0)) ∷ goes_of 1 flush.rs
+  whole_is = ap (λ (rs : List Reply). before ++ call_entries 1 (Flush (Some 0)) rs) flush.whole
 
-  log_is : log ≡ log7 replies ++ begin 1 (Flush (Some 0)) ∷ flushing
-  log_is = t.whole ∙ ap (λ (rs : List Reply). log7 replies ++ call_entries 1 (Flush (Some 0)) rs) k8.whole
-
-  pub sharp_run : Runs fresh log new
-  sharp_run = subst (λ (l : List Entry). Runs fresh l new) (sym t.whole)
-      (runs_append fresh t.s7 new (log7 replies) (call_entries 1 (Flush (Some 0)) t.r8) run7 t.eight.run)
-
-  pub sharp : IsSharp fresh log new
-  sharp = record {
+  -- the state after the flush is sharp
+  flush_sharp : IsSharp fresh whole new
+  flush_sharp = record {
     bag = its_bag;
     stored = ap (λ (s : State). s.queued) collected.is;
     holds = refl;
-    before = log7 replies ++ begin 1 (Flush (Some 0)) ∷ goes_of 1 collected.front;
+    before = before ++ begin 1 (Flush (Some 0)) ∷ goes_of 1 collected.front;
     collection = collected.behind;
     begins = collected.begins;
-    ends_so = log_is ∙ ap (λ (es : List Entry). log7 replies ++ begin 1 (Flush (Some 0)) ∷ es)
+    ends_so = whole_is ∙ ap (λ (es : List Entry). before ++ begin 1 (Flush (Some 0)) ∷ es)
         (ap (goes_of 1) collected.split ∙ goes_append 1 collected.front collected.behind)
-        ∙ sym (append_assoc (log7 replies) (begin 1 (Flush (Some 0)) ∷ goes_of 1 collected.front)
+        ∙ sym (append_assoc before (begin 1 (Flush (Some 0)) ∷ goes_of 1 collected.front)
         (goes_of 1 collected.behind));
-    earlier = runs_append fresh t.s7 collected.begins (log7 replies)
-        (begin 1 (Flush (Some 0)) ∷ goes_of 1 collected.front) run7 (k8.mid, k8.began, collected.to);
+    earlier = runs_append fresh old collected.begins before
+        (begin 1 (Flush (Some 0)) ∷ goes_of 1 collected.front) run (flush.mid, flush.began, collected.to);
     collects = collected.from;
     expiry = collected.expiry;
-    place = length (log6 replies ++ begin 1 (Defer (Some 0)) ∷ []);
-    last = length (log7 replies) + length flushing;
-    at_end = omega (arith, ap length log_is, length-append (log7 replies) (begin 1 (Flush (Some 0)) ∷ flushing));
-    deferred = ap (λ (l : List Entry). slice_get l (length (log6 replies ++ begin 1 (Defer (Some 0)) ∷ []))) t.whole
-        ∙ deferred_in (log6 replies) (call_entries 1 (Flush (Some 0)) t.r8) t.r7 whole7;
+    ended = collected.ended;
+    place = held.place;
+    last = length before + length (goes_of 1 flush.rs);
+    at_end = omega (arith, ap length whole_is, length-append before (begin 1 (Flush (Some 0)) ∷ goes_of 1 flush.rs));
+    deferred = get_kept before (call_entries 1 (Flush (Some 0)) replies) held.place _ held.deferred;
     blocked = record {
-      at = length (log4 replies ++ up_to);
-      before = omega (
-        arith,
-        length-append (log4 replies) up_to,
-        length-append (log4 replies) (call_entries 0 Pin t.r5),
-        length-append (log5 replies) (call_entries 1 Pin t.r6),
-        length-append (log6 replies) (begin 1 (Defer (Some 0)) ∷ []),
-        ap (λ (rs : List Reply). length (call_entries 0 Pin rs)) whole5,
-      );
+      at = held.at;
+      before = held.earlier;
       published = since.published;
       lasted = λ k after upto ends. since.lasts k after ends;
     };
   }
+
+-- THE WHOLE LIST
+
+module _ (fresh : State) (is_fresh : IsFresh fresh) (some : 0 < length fresh.places) where
+  -- the last call of the list leads to a sharp state
+  last_call : (before : List Entry) (old new : State) (log : List Entry)
+      → Runs fresh before old → core old ≡ job_deferred → DeferredSince before
+      → TakesCalls old ((1, Flush (Some 0)) ∷ []) log new → IsSharp fresh (before ++ log) new
+  last_call before old new log run is held (mid, replies, rest, ends, whole, (none, same)) =
+      let all : log ≡ call_entries 1 (Flush (Some 0)) replies =
+      whole ∙ ap (λ (l : List Entry). call_entries 1 (Flush (Some 0)) replies ++ l) none ∙ append-nil _ in
+      subst (λ (s : State). IsSharp fresh (before ++ log) s) (sym same)
+      (subst (λ (l : List Entry). IsSharp fresh (before ++ l) mid) (sym all)
+      (flush_sharp fresh old mid before replies is_fresh some run is held ends))
+
+  flush_leads : LeadsOn fresh job_deferred DeferredSince ((1, Flush (Some 0)) ∷ [])
+  flush_leads = record { so = last_call }
+
+  -- all of them do
+  list_leads : LeadsOn fresh both_new Any sharp_calls
+  list_leads =
+      (leads_on 0 Pin Any Any (λ aside mid told did. (did.0, ap core did.1)) zeroth_pins
+      (λ before old new rs held e. (e, tt))
+      (leads_on 0 (Unpin (Some 0)) Any Any (λ aside mid told did. (did.0, ap core did.1)) zeroth_unpins
+      (λ before old new rs held e. (e.1, tt))
+      (leads_on 1 Pin Any Any (λ aside mid told did. (did.0, ap core did.1)) first_pins
+      (λ before old new rs held e. (e, tt))
+      (leads_on 1 (Unpin (Some 0)) Any Any (λ aside mid told did. (did.0, ap core did.1)) first_unpins
+      (λ before old new rs held e. (e.1, tt))
+      (leads_on 0 Pin Any StillPinned (λ aside mid told did. (did.0, ap core did.1)) zeroth_pins_again
+      (λ before old new rs held e. (
+        e.1,
+        record {
+          at = length (before ++ up_to);
+          since = pinned_in before (Began ∷ rs) (ap (λ (r : List Reply). Began ∷ r) e.0);
+        },
+      ))
+      (leads_on 1 Pin StillPinned StillPinned (λ aside mid told did. (did.0, ap core did.1)) first_pins_again
+      (λ before old new rs held e. (e.1, keeps_pinned before rs (ap (λ (r : List Reply). Began ∷ r) e.0) held))
+      (leads_on 1 (Defer (Some 0)) StillPinned DeferredSince (λ aside mid told did. (did.0, ap core did.1)) first_defers
+      (λ before old new rs held e. (e.1, keeps_deferred before rs (ap (λ (r : List Reply). Began ∷ r) e.0) held))
+      flush_leads)))))))
+
+-- what the list comes to in a new world, and that it is a run
+pub sharp : (fresh new : State) (log : List Entry) → IsFresh fresh → fresh.sizes ≡ pair_sizes → fresh.epoch ≡ 0
+    → 0 < length fresh.places → TakesSharpList fresh log new → IsSharp fresh log new
+sharp fresh new log is_fresh sized first some list =
+    subst (λ (l : List Entry). IsSharp fresh l new) (sym list.whole)
+    ((list_leads fresh is_fresh some).so (both_register list.first list.second) list.both new list.later list.registered
+    (registered_both fresh list.both list.first list.second (fresh_core fresh is_fresh sized first) list.registered)
+    tt list.calls)
+
+-- the calls after the registrations are a run, whatever world it is
+pub sharp_run : (fresh new : State) (log : List Entry) → TakesSharpList fresh log new → Runs fresh log new
+sharp_run fresh new log list =
+    subst (λ (l : List Entry). Runs fresh l new) (sym list.whole)
+    (runs_append fresh list.both new (both_register list.first list.second) list.later list.registered
+    (takes_run list.both new sharp_calls list.later list.calls))

@@ -37,7 +37,6 @@ FewAlong z taken called s new (x ∷ log) (mid, did, run) =
 abbrev pub none_yet : ℕ → ℕ
 none_yet p = 0
 
--- The world goes so from s to new, and each call on the way takes few bags and calls few jobs.
-pub record CollectsFew (s : State) (log : List Entry) (new : State) : Type 0 where
-  pub run : Runs s log new
-  pub along : FewAlong s.sizes none_yet none_yet s new log run
+-- each call of a run from s to new takes few bags and calls few jobs
+abbrev pub CollectsFew : (s : State) (log : List Entry) (new : State) → Runs s log new → Type 0
+CollectsFew s log new run = FewAlong s.sizes none_yet none_yet s new log run

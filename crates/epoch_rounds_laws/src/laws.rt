@@ -7,7 +7,7 @@ ghost use Rattle.epoch_laws.specs.declared.step.Call.{Call};
 ghost use Rattle.epoch_laws.specs.declared.step.Reply.{Reply};
 ghost use Rattle.epoch_laws.specs.declared.step.Reply.TheVariants.{Refused};
 ghost use Rattle.epoch_laws.specs.Run.{State, HasFreePlace, IsFresh, Runs};
-ghost use Rattle.epoch_rounds_laws.specs.Collected.{FewAlong, none_yet};
+ghost use Rattle.epoch_rounds_laws.specs.Collected.{CollectsFew};
 ghost use Rattle.epoch_rounds_laws.specs.Sharp.{pair_sizes, EndsIn, EndsCall, TakesSharpList, IsSharp};
 ghost use Rattle.epoch_rounds_laws.specs.Rounds.{IsQuiet, IsFirstRound, AreRounds, CallsAll, RoundsCallAll, collections};
 
@@ -29,7 +29,7 @@ pub fn quiet_rounds_call_all()
 /// whatever others do meanwhile. It collects once.
 pub fn every_call_collects_few()
     ensures { (fresh new : State) (log : List Entry) → IsFresh fresh → (run : Runs fresh log new)
-        → FewAlong fresh.sizes none_yet none_yet fresh new log run }
+        → CollectsFew fresh log new run }
 {}
 
 /// A call is not refused for want of a place where some place had no bag when it began and nobody else was putting or

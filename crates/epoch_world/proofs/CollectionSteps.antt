@@ -235,11 +235,9 @@ get_set_same (x ∷ xs) zero a there = refl
 get_set_same (x ∷ xs) (suc p) a there = get_set_same xs p a (omega arith)
 
 get_set_other : {A : Type 0} (xs : List A) (p q : ℕ) (a : A) → q ≢ p → slice_get (slice_set xs p a) q ≡ slice_get xs q
-get_set_other [] p q a other = refl
 get_set_other (x ∷ xs) zero zero a other = absurd (other refl)
-get_set_other (x ∷ xs) zero (suc q) a other = refl
-get_set_other (x ∷ xs) (suc p) zero a other = refl
 get_set_other (x ∷ xs) (suc p) (suc q) a other = get_set_other xs p q a (λ e. other (ap suc e))
+get_set_other _ _ _ a other = refl
 
 -- what is put back is what was there
 pub set_back : {A : Type 0} (xs : List A) (p : ℕ) (a : A) → a ≡ slice_index_or xs p a → slice_set xs p a ≡ xs

@@ -82,17 +82,13 @@ module _ (seat : WorldSeat) (h : HasGuardRoom seat) where
       counted _ _ _ (omega (arith, d.under, ap paused_count awake, length-append seat.guards (lowest seat.guards ∷ [])))
   ended_room (Unpin None) awake d = absurd d.under
   ended_room (Unpin (Some g)) awake d = counted _ _ _ (omega (arith, h.few, length_without g seat.guards d.under))
-  ended_room (Repin g) awake d = counted _ _ _ h.few
   ended_room (Pause None) awake d = absurd d.under
   ended_room (Pause (Some g)) awake d = counted _ _ _ (omega (arith, h.few, length_without g seat.guards d.under))
   ended_room (Resume None) awake d = absurd d.under
   ended_room (Resume (Some g)) awake d =
       counted _ _ _ (omega (arith, h.few, ap paused_count awake, length-append seat.guards (g ∷ [])))
-  ended_room (Defer g) awake d = counted _ _ _ h.few
-  ended_room (Flush g) awake d = counted _ _ _ h.few
-  ended_room Release awake d = counted _ _ _ h.few
-  ended_room (DeferDestroy g ptr) awake d = counted _ _ _ h.few
   ended_room (AccessCall a) awake d = absurd d.under
+  ended_room _ awake d = counted _ _ _ h.few
 
 free_room : (sizes : Sizes) → HasGuardRoom (free_seat sizes)
 free_room sizes = record { few = omega arith; awake = tt }

@@ -69,9 +69,7 @@ module _ (m : Machine Deferral) where
   took_few : (s : Stage) (step : TakeStep) (jobs : List Deferral)
       → jobs_of_machine (took_heard m s step jobs) ≤ jobs_of_machine m + jobs_got step jobs
   took_few (Take x k) TakeAgain jobs = omega arith
-  took_few (Take x k) Empty jobs = omega arith
-  took_few (Take x k) Got jobs = omega arith
-  took_few _ step jobs = omega arith
+  took_few _ _ jobs = omega arith
 
   gives_few : (s : Stage) (job : Deferral) (jobs : List Deferral)
       → m.hand ≡ job ∷ jobs

@@ -1,31 +1,31 @@
 -- The steps that a world takes and writes down, and what the sharp list among them leads to.
 use Rattle.std.proofs.Common.{◌≡◌, ℕ, zero, suc, ◌+◌, ◌-◌, ◌<◌, ◌≤◌, List, [], ◌∷◌, ◌++◌, length, map, Some, refl, ap}
-use Rattle.std.proofs.Common.{sym, ◌∙◌, arith, append_assoc}
+use Rattle.std.proofs.Common.{sym, ◌∙◌, arith, append_assoc, append-nil}
 use Rattle.std.proofs.lemmas.List.{map-append}
 use Rattle.epoch_laws.specs.declared.step.Call.{Call}
-use Rattle.epoch_laws.specs.declared.step.Call.TheVariants.{Pin, Unpin, Defer, Flush}
 use Rattle.epoch_laws.specs.declared.step.Entry.{Entry}
 use Rattle.epoch_laws.specs.declared.step.Reply.{Reply}
 use Rattle.epoch_laws.specs.declared.step.Step.{Step}
 use Rattle.epoch_laws.specs.declared.step.Step.TheVariants.{Register, Begin, Go}
 use Rattle.epoch_laws.specs.Calls.{call_entries, goes_of, EndsAtLast}
-use Rattle.epoch_laws.specs.Run.{State, IsFresh}
-use Rattle.epoch_rounds_laws.specs.Sharp.{pair_sizes, TakesSharpList, LeadsToSharp}
-use Rattle.epoch_rounds_laws.proofs.SharpLog.{SharpReplies, both, log1, log2, log3, log4, log5, log6, log7, log8}
+use Rattle.epoch_laws.specs.Run.{State}
+use Rattle.epoch_rounds_laws.specs.Sharp.{TakesCalls, sharp_calls, both_register, TakesSharpList, LeadsToSharp}
 use Rattle.epoch_rounds_laws.proofs.SharpList.{sharp, sharp_run}
 use Rattle.epoch_world.specs.Listed.{ListsStep, ListsCall}
 
 -- ONE CALL
 
+-- so many steps of p
 abbrev pub gos : ℕ → ℕ → List Step
 gos p zero = []
 gos p (suc n) = Go p ∷ gos p n
 
+-- one Go more at the end
 one_more : (p n : ℕ) → gos p n ++ Go p ∷ [] ≡ gos p (suc n)
 one_more p zero = refl
 one_more p (suc n) = ap (λ (steps : List Step). Go p ∷ steps) (one_more p n)
 
--- counted from 1 on
+-- one Go more, counted from 1 on
 pub gos_on : (p counter : ℕ) (start before after : List Step) → 1 ≤ counter → before ≡ start ++ gos p (counter - 1)
     → after ≡ before ++ Go p ∷ [] → after ≡ start ++ gos p (counter + 1 - 1)
 gos_on p counter start before after some were are =
@@ -33,14 +33,17 @@ gos_on p counter start before after some were are =
     are ∙ ap (λ (steps : List Step). steps ++ Go p ∷ []) were ∙ append_assoc start (gos p (counter - 1)) (Go p ∷ [])
     ∙ ap (λ (steps : List Step). start ++ steps) (one_more p (counter - 1) ∙ ap (gos p) next)
 
+-- the steps of a call, after its Begin
 goes_listed : (p : ℕ) (rs : List Reply) → map (λ (entry : Entry). entry.step) (goes_of p rs) ≡ gos p (length rs)
 goes_listed p [] = refl
 goes_listed p (r ∷ rs) = ap (λ (steps : List Step). Go p ∷ steps) (goes_listed p rs)
 
+-- a call that ended had a reply
 pub some_reply : (rs : List Reply) → EndsAtLast rs → 1 ≤ length rs
 some_reply [] over = absurd over
 some_reply (r ∷ rs) over = omega arith
 
+-- the steps of a whole call
 pub call_listed : (p : ℕ) (c : Call) (before begun after : List Step) (replies : List Reply) (n : ℕ)
     → EndsAtLast replies → n ≡ length replies → begun ≡ before ++ Begin p c ∷ [] → after ≡ begun ++ gos p (n - 1)
     → after ≡ before ++ map (λ (entry : Entry). entry.step) (call_entries p c replies)
@@ -53,94 +56,53 @@ call_listed p c before begun after (r ∷ rs) n over count first are =
 
 -- THE SHARP LIST
 
-listed_on : (before after : List Step) (log more : List Entry)
-    → before ≡ map (λ (entry : Entry). entry.step) log → after ≡ before ++ map (λ (entry : Entry). entry.step) more
-    → after ≡ map (λ (entry : Entry). entry.step) (log ++ more)
-listed_on before after log more were are =
-    are ∙ ap (λ (steps : List Step). steps ++ map (λ (entry : Entry). entry.step) more) were
-    ∙ sym (map-append (λ (entry : Entry). entry.step) log more)
+-- so many calls, of which the steps are written down
+pub record ListsCalls (old : State) (before : List Step) (calls : List (ℕ × Call)) (new : State)
+    (after : List Step) : Type 0 where
+  pub log : List Entry
+  pub takes : TakesCalls old calls log new
+  pub listed : after ≡ before ++ map (λ (entry : Entry). entry.step) log
 
-module _ (fresh half s0 s1 s2 s3 s4 s5 s6 s7 new : State) (none l0 l1 l2 l3 l4 l5 l6 l7 l8 l9 : List Step)
-    (first : ListsStep Register fresh none half l0) (second : ListsStep Register half l0 s0 l1)
-    (one : ListsCall 0 Pin s0 l1 s1 l2) (two : ListsCall 0 (Unpin (Some 0)) s1 l2 s2 l3)
-    (three : ListsCall 1 Pin s2 l3 s3 l4) (four : ListsCall 1 (Unpin (Some 0)) s3 l4 s4 l5)
-    (five : ListsCall 0 Pin s4 l5 s5 l6) (six : ListsCall 1 Pin s5 l6 s6 l7)
-    (seven : ListsCall 1 (Defer (Some 0)) s6 l7 s7 l8) (eight : ListsCall 1 (Flush (Some 0)) s7 l8 new l9) where
-  abbrev replies : SharpReplies
-  replies = record {
-    first = first.reply;
-    second = second.reply;
-    r1 = one.replies;
-    r2 = two.replies;
-    r3 = three.replies;
-    r4 = four.replies;
-    r5 = five.replies;
-    r6 = six.replies;
-    r7 = seven.replies;
-    r8 = eight.replies;
-  }
+-- no call, no step
+pub lists_none : {s : State} {steps : List Step} → ListsCalls s steps [] s steps
+lists_none {s} {steps} = record { log = []; takes = (refl, refl); listed = sym (append-nil steps) }
 
-  takes : TakesSharpList fresh (log8 replies) new
-  takes = record {
-    s0 = s0;
-    s1 = s1;
-    s2 = s2;
-    s3 = s3;
-    s4 = s4;
-    s5 = s5;
-    s6 = s6;
-    s7 = s7;
-    first = replies.first;
-    second = replies.second;
-    r1 = replies.r1;
-    r2 = replies.r2;
-    r3 = replies.r3;
-    r4 = replies.r4;
-    r5 = replies.r5;
-    r6 = replies.r6;
-    r7 = replies.r7;
-    r8 = replies.r8;
-    registered = (half, first.took, (s0, second.took, refl));
-    one = one.ends;
-    two = two.ends;
-    three = three.ends;
-    four = four.ends;
-    five = five.ends;
-    six = six.ends;
-    seven = seven.ends;
-    eight = eight.ends;
-    whole = refl;
-  }
+-- one call before them
+pub lists_more : {old mid new : State} {before between after : List Step} {p : ℕ} {c : Call} {calls : List (ℕ × Call)}
+    → ListsCall p c old before mid between → ListsCalls mid between calls new after
+    → ListsCalls old before ((p, c) ∷ calls) new after
+lists_more {old} {mid} {new} {before} {between} {after} {p} {c} {calls} one more = record {
+  log = call_entries p c one.replies ++ more.log;
+  takes = (mid, one.replies, more.log, one.ends, refl, more.takes);
+  listed = more.listed
+      ∙ ap (λ (steps : List Step). steps ++ map (λ (entry : Entry). entry.step) more.log) one.listed
+      ∙ append_assoc before (map (λ (entry : Entry). entry.step) (call_entries p c one.replies))
+      (map (λ (entry : Entry). entry.step) more.log)
+      ∙ ap (λ (steps : List Step). before ++ steps)
+      (sym (map-append (λ (entry : Entry). entry.step) (call_entries p c one.replies) more.log));
+}
 
-  listed : none ≡ [] → l9 ≡ map (λ (entry : Entry). entry.step) (log8 replies)
-  listed empty =
-      listed_on l8 l9 (log7 replies) (call_entries 1 (Flush (Some 0)) eight.replies)
-      (listed_on l7 l8 (log6 replies) (call_entries 1 (Defer (Some 0)) seven.replies)
-      (listed_on l6 l7 (log5 replies) (call_entries 1 Pin six.replies)
-      (listed_on l5 l6 (log4 replies) (call_entries 0 Pin five.replies)
-      (listed_on l4 l5 (log3 replies) (call_entries 1 (Unpin (Some 0)) four.replies)
-      (listed_on l3 l4 (log2 replies) (call_entries 1 Pin three.replies)
-      (listed_on l2 l3 (log1 replies) (call_entries 0 (Unpin (Some 0)) two.replies)
-      (listed_on l1 l2 (both replies) (call_entries 0 Pin one.replies) begins one.listed)
-      two.listed) three.listed) four.listed) five.listed) six.listed) seven.listed) eight.listed
-    where
-      begins : l1 ≡ map (λ (entry : Entry). entry.step) (both replies)
-      begins = second.listed ∙ ap (λ (steps : List Step). steps ++ Register ∷ [])
-          (first.listed ∙ ap (λ (steps : List Step). steps ++ Register ∷ []) empty)
-
-  pub leads_to_sharp : IsFresh fresh → fresh.sizes ≡ pair_sizes → fresh.epoch ≡ 0 → length fresh.places ≡ 1
-      → none ≡ [] → LeadsToSharp l9
-  leads_to_sharp is_fresh sized at_first one_place empty =
-      let some : 0 < length fresh.places = omega (arith, one_place) in
-      record {
-        fresh = fresh;
-        new = new;
-        log = log8 replies;
-        is_fresh = is_fresh;
-        sized = sized;
-        at_first = at_first;
-        one_place = one_place;
-        listed = listed empty;
-        run = sharp_run fresh new (log8 replies) is_fresh sized at_first some takes;
-        sharp = sharp fresh new (log8 replies) is_fresh sized at_first some takes;
-      }
+-- the registrations before the calls of the list
+pub leads_to_sharp : {fresh half both new : State} {none one_step two_steps after : List Step}
+    → ListsStep Register fresh none half one_step → ListsStep Register half one_step both two_steps
+    → ListsCalls both two_steps sharp_calls new after → none ≡ [] → LeadsToSharp fresh after new
+leads_to_sharp {fresh} {half} {both} {new} {none} {one_step} {two_steps} {after} first second calls empty = record {
+  log = both_register first.reply second.reply ++ calls.log;
+  listed = calls.listed ∙ ap (λ (steps : List Step). steps ++ map (λ (entry : Entry). entry.step) calls.log)
+      (second.listed ∙ ap (λ (steps : List Step). steps ++ Register ∷ [])
+      (first.listed ∙ ap (λ (steps : List Step). steps ++ Register ∷ []) empty));
+  run = sharp_run fresh new (both_register first.reply second.reply ++ calls.log) list;
+  sharp = λ is_fresh sized at_first some.
+      sharp fresh new (both_register first.reply second.reply ++ calls.log) is_fresh sized at_first some list;
+}
+  where
+    list : TakesSharpList fresh (both_register first.reply second.reply ++ calls.log) new
+    list = record {
+      first = first.reply;
+      second = second.reply;
+      both = both;
+      registered = (half, first.took, (both, second.took, refl));
+      later = calls.log;
+      calls = calls.takes;
+      whole = refl;
+    }

@@ -57,11 +57,8 @@ pub keeps_pinned : (a : Action) (m : Machine Deferral) → KeepsAt a (after_pin 
 keeps_pinned a m = after_pin_at (KeepsAt a) m tt (keeps_collected a m.action m.held)
 
 pub keeps_put : (a : Action) (full : Bool) → KeepsAt a (after_put a full)
-keeps_put Flush full = tt
 keeps_put Defer false = refl
-keeps_put Defer true = tt
-keeps_put Release full = tt
-keeps_put _ full = tt
+keeps_put _ _ = tt
 
 pub keeps_unpinned : (a b : Action) (full : Bool) → KeepsAt a (after_unpin b full)
 keeps_unpinned a Release false = tt

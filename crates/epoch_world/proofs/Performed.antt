@@ -66,21 +66,16 @@ module _ (old new : State) (p word : ℕ) (seat after : WorldSeat) (reply : Repl
       → SeatPerforms seat.machine.sizes p word
       (common_of old) seat seat.machine.stage ask reply after h
       → PerformsAsk old p seat seat.machine.stage ask reply new
-  performs_by LoadEpoch sizes found did = (did.0, made _ _ did.1 did.2)
   performs_by (LoadWord k) sizes found did = (
     did.0,
     made _ _ (did.1 ∙ ap (λ (w : ℕ). record seat { machine = hears seat.machine seat.machine.stage (WordFound w) })
         (found k refl)) did.2,
   )
-  performs_by (StorePinned n) sizes found did = (did.0, made _ _ did.1 did.2)
-  performs_by (StoreRepinned n) sizes found did = (did.0, made _ _ did.1 did.2)
-  performs_by StoreUnpinned sizes found did = (did.0, made _ _ did.1 did.2)
   performs_by StoreFree sizes found did = (did.0, made _ _ (did.1 ∙ ap free_seat sizes) did.2)
-  performs_by (StoreEpoch n) sizes found did = (did.0, made _ _ did.1 did.2)
   performs_by (PutBag seal) sizes found did = (did.0, h.store, did.1, did.2, made _ _ did.3 did.4)
   performs_by (TakeBag x) sizes found did = (did.0, after.machine.hand, h.store, did.1, did.2, made _ _ did.3 did.4)
-  performs_by KeepJob sizes found did = (did.0, made _ _ did.1 did.2)
   performs_by CallJob sizes found did = (did.0, did.1, did.2, did.3, made _ _ did.4 did.5)
+  performs_by _ sizes found did = (did.0, made _ _ did.1 did.2)
 
 -- A STEP BEGIN AND A STEP GO
 
@@ -110,10 +105,7 @@ drives_by : (old new : State) (p : ℕ) (seat : WorldSeat) (reply : Reply) (ask 
     → PerformsAsk old p seat seat.machine.stage ask reply new → DoesGo old p seat now reply new
 drives_by old new p seat reply ask (Driven c) driven asked did =
     subst (λ o. DrivesCall old p seat c seat.machine.stage o reply new) (sym asked) did
-drives_by old new p seat reply ask Idle driven asked did = absurd (cc)
-drives_by old new p seat reply ask (CallsNow removes) driven asked did = absurd (cc)
-drives_by old new p seat reply ask (Accesses a k found) driven asked did = absurd (cc)
-drives_by old new p seat reply ask (Ends r) driven asked did = absurd (cc)
+drives_by old new p seat reply ask _ driven asked did = absurd (cc)
 
 pub end_goes : (old new : State) (p : ℕ) (seat : WorldSeat) (c : Call) (reply : Reply)
     → asks seat.machine ≡ None → DrivesCall old p seat c seat.machine.stage None reply new

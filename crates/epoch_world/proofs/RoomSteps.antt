@@ -153,11 +153,9 @@ reserves_by ask m n Reserved Reserves Claims Reserved' Reserves' Claims' asked m
 
 -- a step that asks for nothing says nothing of room, and leaves all places claimed as they were
 no_turn : (w : Word) (progress : Progress) (s : Stage) → ask_at s ≡ None → turn_at w progress s ≡ None
-no_turn Free progress s none = refl
 no_turn Unpinned (Driven c) s none = none
-no_turn Unpinned _ s none = refl
 no_turn (Pinned e) (Driven c) s none = none
-no_turn (Pinned e) _ s none = refl
+no_turn _ _ s none = refl
 
 pub ended_room : (Open : Type 0) (seat was : WorldSeat) (n : Machine Deferral) (room : Bool)
     → seat ≡ was → asks seat.machine ≡ None → TellsRoom Open (turn_of was) n room room
@@ -234,11 +232,9 @@ loads_away _ asked = refl
 
 asks_turn : (w : Word) (progress : Progress) (s : Stage) (ask : Ask)
     → turn_at w progress s ≡ Some ask → ask_at s ≡ Some ask
-asks_turn Free progress s ask turn = absurd (cc (turn))
 asks_turn Unpinned (Driven c) s ask turn = turn
-asks_turn Unpinned _ s ask turn = absurd (cc (turn))
 asks_turn (Pinned e) (Driven c) s ask turn = turn
-asks_turn (Pinned e) _ s ask turn = absurd (cc (turn))
+asks_turn _ _ s ask turn = absurd (cc (turn))
 
 module _ {P T : Type 0} (Reserves : P → ℕ → Type 0) (Claims : T → ℕ → Type 0) (sizes : Sizes) where
   -- where p loads the epoch, and nobody else is putting or taking a bag, no place without a bag is claimed

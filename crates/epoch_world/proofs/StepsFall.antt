@@ -228,14 +228,11 @@ begun_fits _ seat n slots = omega arith
 
 -- what begins has made no step of an update
 pub begun_steady : (h : Heap) (c : Call) (seat : WorldSeat) → IsSteady h (begun_seat c seat).progress
-begun_steady h PinCall seat = tt
-begun_steady h (UnpinCall g) seat = tt
 begun_steady h (RepinCall (Some g)) seat = tt
 begun_steady h (Pause (Some g)) seat = tt
 begun_steady h (Resume (Some g)) seat = tt
 begun_steady h (DeferCall (Some g)) seat = tt
 begun_steady h (FlushCall (Some g)) seat = tt
-begun_steady h ReleaseCall seat = tt
 begun_steady h (DeferDestroy (Some g) ptr) seat = tt
 begun_steady h (AccessCall a) seat = at_first a (has_steps a)
   where

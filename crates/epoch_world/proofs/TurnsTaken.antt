@@ -147,17 +147,14 @@ access_less a k found told seats p other seat after reply h new before later the
 pub performs_slots : (sizes : Sizes) (p word : ℕ) (old new : Common (List Bag)) (seat after : WorldSeat) (s : Stage)
     (ask : Ask) (reply : Reply)
     → SeatPerforms sizes p word old seat s ask reply after new → length new.heap.cells ≡ length old.heap.cells
-performs_slots sizes p word old new seat after s (StoreEpoch e) reply did =
-    ap (λ (x : Common (List Bag)). length x.heap.cells) did.2
 performs_slots sizes p word old new seat after s (PutBag seal) reply did =
     ap (λ (x : Common (List Bag)). length x.heap.cells) did.4
 performs_slots sizes p word old new seat after s (TakeBag x) reply did = ap
     (λ (x : Common (List Bag)). length x.heap.cells) did.4
-performs_slots sizes p word old new seat after s KeepJob reply did = ap
-    (λ (x : Common (List Bag)). length x.heap.cells) did.2
 performs_slots sizes p word old new seat after s CallJob reply did =
     ap (λ (x : Common (List Bag)). length x.heap.cells) did.5 ∙ job_slots old.heap (did.0).removes
-performs_slots sizes p word old new seat after s _ reply did = ap (λ (x : Common (List Bag)). length x.heap.cells) did.2
+performs_slots sizes p word old new seat after s _ reply did =
+    ap (λ (x : Common (List Bag)). length x.heap.cells) did.2
 
 full_ends : (full : Bool) → ends_call (full_or_done full) ≡ true
 full_ends true = refl

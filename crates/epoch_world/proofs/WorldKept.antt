@@ -123,14 +123,7 @@ room_left : (c : Call) (guards : List ℕ) (paused : Option ℕ) → BeganUnder 
 room_left Pin guards paused under awake few adds = under
 room_left (Resume (Some g)) guards paused under awake few adds = omega (arith, few, ap paused_count awake)
 room_left (Resume None) guards paused under awake few adds = absurd (cc)
-room_left (Unpin g) guards paused under awake few adds = absurd (cc)
-room_left (Repin g) guards paused under awake few adds = absurd (cc)
-room_left (Pause g) guards paused under awake few adds = absurd (cc)
-room_left (Defer g) guards paused under awake few adds = absurd (cc)
-room_left (Flush g) guards paused under awake few adds = absurd (cc)
-room_left Release guards paused under awake few adds = absurd (cc)
-room_left (DeferDestroy g ptr) guards paused under awake few adds = absurd (cc)
-room_left (AccessCall a) guards paused under awake few adds = absurd (cc)
+room_left _ guards paused under awake few adds = absurd (cc)
 
 pub room_where_driven : (s : State) (p : ℕ) (c : Call) (seat : WorldSeat)
     → IsSound s → seat ≡ seat_of s p → seat.progress ≡ Driven c → adds_guard c ≡ true → length seat.guards < 64

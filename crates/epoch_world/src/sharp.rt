@@ -5,52 +5,46 @@ ghost use Rattle.epoch_rounds_laws.specs.Sharp.{LeadsToSharp};
 ghost use Rattle.epoch_world.specs.Listed.{ListsStep, ListsCall};
 
 use crate::world::World;
+use epoch_bags::BagStore;
 use epoch_cells::Fault;
-use epoch_laws::{Call, Shape, Step};
+use epoch_laws::{Call, Deferral, Step};
 use std::alloc::Global;
 
-/// Two participants, and room for one bag.
-const PAIR: Shape = Shape {
-    participants: 2,
-    cells: 0,
-    roots: 0,
-    fields: 0,
-    bags: 1,
-    align: 1,
-    start_epoch: 0,
-    start_turn: 0,
-    bag_jobs: 64,
-    collect_bags: 8,
-};
-
-/// Steps for a new world of two participants and one bag, from epoch 0 on. They end with a collection for an epoch one
-/// past the seal of the bag, in which is a job that somebody still blocks who did not defer it: were a bag expired one
-/// epoch after its seal, that job would be called too early. So a bag waits two epochs.
+/// Takes steps in a world, and answers them. In a new world of two participants, with room for a bag, from epoch 0 on,
+/// they end with a whole collection for an epoch one past the seal of that bag, in which is a job that somebody still
+/// blocks who did not defer it: were a bag expired one epoch after its seal, that job would be called too early. So a
+/// bag waits two epochs.
 ///
-/// `NoMemory`: an allocation was refused.
-pub fn sharp_steps(alloc: Global) -> Result<Vec<Step>, Fault>
-    ensures sharp { IfOk result (λ steps. LeadsToSharp steps.items) }
+/// `NoMemory`: an allocation was refused. The world may have taken some of the steps.
+pub fn sharp_steps<S: BagStore<Job = Deferral>>(
+    alloc: Global,
+    world: &mut World<S>,
+) -> Result<Vec<Step>, Fault>
+    ensures sharp { IfOk result (λ steps. LeadsToSharp world.old steps.items world.new) }
     ensures no_memory { IfErr result (λ fault. fault ≡ NoMemory) }
 {
-    let mut world: World = World::new(alloc, PAIR)?;
     let mut steps = Vec::new(alloc);
-    list_step(&mut world, &mut steps, Step::Register)?;
-    list_step(&mut world, &mut steps, Step::Register)?;
+    list_step(world, &mut steps, Step::Register)?;
+    list_step(world, &mut steps, Step::Register)?;
     // The first pin of each collects, and advances the epoch: to 1, and to 2.
-    list_call(&mut world, &mut steps, 0, Call::Pin)?;
-    list_call(&mut world, &mut steps, 0, Call::Unpin(Some(0)))?;
-    list_call(&mut world, &mut steps, 1, Call::Pin)?;
-    list_call(&mut world, &mut steps, 1, Call::Unpin(Some(0)))?;
+    list_call(world, &mut steps, 0, Call::Pin)?;
+    list_call(world, &mut steps, 0, Call::Unpin(Some(0)))?;
+    list_call(world, &mut steps, 1, Call::Pin)?;
+    list_call(world, &mut steps, 1, Call::Unpin(Some(0)))?;
     // Both are pinned in epoch 2 when the job is deferred and sealed, and so the flush advances the epoch to 3.
-    list_call(&mut world, &mut steps, 0, Call::Pin)?;
-    list_call(&mut world, &mut steps, 1, Call::Pin)?;
-    list_call(&mut world, &mut steps, 1, Call::Defer(Some(0)))?;
-    list_call(&mut world, &mut steps, 1, Call::Flush(Some(0)))?;
+    list_call(world, &mut steps, 0, Call::Pin)?;
+    list_call(world, &mut steps, 1, Call::Pin)?;
+    list_call(world, &mut steps, 1, Call::Defer(Some(0)))?;
+    list_call(world, &mut steps, 1, Call::Flush(Some(0)))?;
     Ok(steps)
 }
 
 /// Takes a step, and writes it down.
-fn list_step(world: &mut World, steps: &mut Vec<Step>, step: Step) -> Result<(), Fault>
+fn list_step<S: BagStore<Job = Deferral>>(
+    world: &mut World<S>,
+    steps: &mut Vec<Step>,
+    step: Step,
+) -> Result<(), Fault>
     ensures ok { IfOk result (λ done. ListsStep step world.old steps.old.items world.new steps.new.items) }
     ensures no_memory { IfErr result (λ fault. fault ≡ NoMemory) }
 {
@@ -59,8 +53,8 @@ fn list_step(world: &mut World, steps: &mut Vec<Step>, step: Step) -> Result<(),
 }
 
 /// Begins a call and goes on until it ends, and writes its steps down.
-fn list_call(
-    world: &mut World,
+fn list_call<S: BagStore<Job = Deferral>>(
+    world: &mut World<S>,
     steps: &mut Vec<Step>,
     participant: u64,
     call: Call,

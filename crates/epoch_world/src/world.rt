@@ -16,6 +16,7 @@ ghost use Rattle.epoch_laws.specs.Tickets.{HoldsEachTicketOnce, NumbersTickets, 
 ghost use Rattle.epoch_laws.specs.Ends.{EndsAtCount};
 ghost use Rattle.epoch_laws.specs.Lawful.{IsLawful};
 ghost use Rattle.epoch_laws.specs.Full.{FullWhereFound};
+ghost use Rattle.epoch_laws.specs.Refusals.{RefusedAlong, all_quiet, none_collected};
 ghost use Rattle.epoch_laws.specs.Calls.{call_entries, EndsAtLast};
 ghost use Rattle.epoch_rounds_laws.specs.Rounds.{RoundsCallAll};
 ghost use Rattle.epoch_rounds_laws.specs.Collected.{CollectsFew};
@@ -175,7 +176,12 @@ impl<S: BagStore<Job = Deferral>> World<S> {
             (λ start log. RoundsCallAll start log self.new)) }
         // Each call takes at most as many bags as one collection may take, and calls at most the jobs of so many full
         // bags.
-        ensures few { IfOk result (AlongSteps self.old steps.now (λ fresh log. CollectsFew fresh log self.new)) }
+        ensures few { IfOk result (AlongSteps self.old steps.now
+            (λ fresh log. (run : Runs fresh log self.new) → CollectsFew fresh log self.new run)) }
+        // A call that is refused leaves all as it was when it began, but for what each call may change.
+        ensures refused { IfOk result (AlongSteps self.old steps.now
+            (λ fresh log. (run : Runs fresh log self.new)
+            → RefusedAlong (seat_of fresh) all_quiet none_collected fresh self.new log run)) }
         // Where cells leave once and out of reach, and no field changes of a cell that has fallen out of reach, no name
         // that is loaded under a guard still held is destroyed, and each such name has its cell.
         ensures reach { IfOk result (AlongSteps self.old steps.now
@@ -232,7 +238,12 @@ impl<S: BagStore<Job = Deferral>> World<S> {
             (λ start log. RoundsCallAll start log self.new)) }
         // Each call takes at most as many bags as one collection may take, and calls at most the jobs of so many full
         // bags.
-        ensures few { IfOk result (AlongCall self.old participant call (λ fresh log. CollectsFew fresh log self.new)) }
+        ensures few { IfOk result (AlongCall self.old participant call
+            (λ fresh log. (run : Runs fresh log self.new) → CollectsFew fresh log self.new run)) }
+        // A call that is refused leaves all as it was when it began, but for what each call may change.
+        ensures refused { IfOk result (AlongCall self.old participant call
+            (λ fresh log. (run : Runs fresh log self.new)
+            → RefusedAlong (seat_of fresh) all_quiet none_collected fresh self.new log run)) }
         // Where cells leave once and out of reach, and no field changes of a cell that has fallen out of reach, no name
         // that is loaded under a guard still held is destroyed, and each such name has its cell.
         ensures reach { IfOk result (AlongCall self.old participant call

@@ -96,6 +96,12 @@ fn pair(alloc: Global) -> Result<World<Places<Deferral>>, Fault> {
     World::new(alloc, PAIR)
 }
 
+/// The list, as such a world takes it.
+fn list_of(alloc: Global) -> Result<Vec<Step>, Fault> {
+    let mut world = pair(alloc)?;
+    sharp_steps(alloc, &mut world)
+}
+
 /// The epoch, and both words.
 fn numbers_of(world: &World<Places<Deferral>>) -> (u64, Option<u64>, Option<u64>) {
     (world.epoch(), world.word(0), world.word(1))
@@ -103,9 +109,10 @@ fn numbers_of(world: &World<Places<Deferral>>) -> (u64, Option<u64>, Option<u64>
 
 /// The steps of the list, with the replies of a new world.
 fn history(alloc: Global) -> Result<Vec<Entry>, Fail> {
+    let steps = list_of(alloc)?;
     let mut world = pair(alloc)?;
     let mut entries = Vec::new(alloc);
-    for step in &sharp_steps(alloc)? {
+    for step in &steps {
         let reply = world.step(*step);
         entries.push(Entry { step: *step, reply })?;
     }
@@ -118,7 +125,7 @@ fn want_grace(rt: &impl Abort, what: &str, entries: &[Entry], wanted: bool) {
 
 #[test]
 fn the_sharp_list_has_ten_lines_of_steps(rt: HostRuntime) -> Result<(), Fail> {
-    let steps = sharp_steps(rt.alloc())?;
+    let steps = list_of(rt.alloc())?;
     let wanted = expected(rt.alloc())?;
     want(&rt, "the steps", steps.as_slice(), wanted.as_slice());
     Ok(())
@@ -127,7 +134,7 @@ fn the_sharp_list_has_ten_lines_of_steps(rt: HostRuntime) -> Result<(), Fail> {
 #[test]
 fn a_world_of_one_place_calls_no_job_of_the_sharp_list(rt: HostRuntime) -> Result<(), Fail> {
     let mut world = pair(rt.alloc())?;
-    let replies = world.run(&sharp_steps(rt.alloc())?)?;
+    let replies = world.run(&list_of(rt.alloc())?)?;
     let told = told_of(rt.alloc(), &replies)?;
     want(&rt, "what is told", told.as_slice(), &TOLD);
     want(

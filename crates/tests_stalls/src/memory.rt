@@ -10,13 +10,31 @@ use epoch_base::table::Participants;
 use epoch_base::{BagQueue, Cells, Fault, Places, PlainCells};
 use epoch_pin::atomic::{Array, Atomic, Owned, Pointable};
 use epoch_pin::{Capacities, Collector, Guard, unprotected};
-use epoch_world::sharp_steps;
+use epoch_world::{Shape, World, sharp_steps};
 use std::alloc::{AllocError, Global};
 use std::process::Abort;
 
-/// Why no list of steps is made.
+/// A world for which the sharp list is.
+const PAIR: Shape = Shape {
+    participants: 2,
+    cells: 0,
+    roots: 0,
+    fields: 0,
+    bags: 1,
+    align: 1,
+    start_epoch: 0,
+    start_turn: 0,
+    bag_jobs: 64,
+    collect_bags: 8,
+};
+
+/// Why no list of steps is made, or no world for it.
 fn sharp_refused(alloc: Global) -> Option<Fault> {
-    match sharp_steps(alloc) {
+    let mut world: World = match World::new(alloc, PAIR) {
+        Ok(world) => world,
+        Err(fault) => return Some(fault),
+    };
+    match sharp_steps(alloc, &mut world) {
         Ok(_steps) => None,
         Err(fault) => Some(fault),
     }

@@ -42,7 +42,8 @@ fn run_over_pile(world: &mut World<Pile>, steps: &[Step]) -> Result<Vec<Reply>, 
     ensures lawful { IfOk result (AlongSteps world.old steps.now (λ fresh log. IsLawful log)) }
     ensures rounds { IfOk result (λ replies. SinceEachState world.old (entries_of steps.now replies.items)
         (λ start log. RoundsCallAll start log world.new)) }
-    ensures few { IfOk result (AlongSteps world.old steps.now (λ fresh log. CollectsFew fresh log world.new)) }
+    ensures few { IfOk result (AlongSteps world.old steps.now
+        (λ fresh log. (run : Runs fresh log world.new) → CollectsFew fresh log world.new run)) }
 {
     world.run(steps)
 }

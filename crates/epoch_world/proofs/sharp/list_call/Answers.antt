@@ -3,14 +3,14 @@ use Rattle.epoch_world.proofs.ListedSteps.{gos_on, some_reply, call_listed}
 use Rattle.epoch_world.proofs.sharp.list_call.Goals as goal
 
 pub loop-init : goal.loop-init
-loop-init c = record {
+loop-init g c = record {
   some = omega arith;
   within = omega (arith, some_reply c.in_ok-replies.replies.items c.in_ok-replies.ensures.ends);
   listed = sym (append-nil c.add.new.steps.items);
 }
 
 pub loop-preserved : goal.loop-preserved
-loop-preserved c = record {
+loop-preserved g c = record {
   some = omega arith;
   within = omega arith;
   listed = gos_on c.args.participant c.loop.counter c.add.new.steps.items c.loop.steps.items
@@ -18,7 +18,7 @@ loop-preserved c = record {
 }
 
 pub returns-clause-ok : goal.returns-clause-ok
-returns-clause-ok c =
+returns-clause-ok g c =
     let last : c.loop.counter ≡ length c.in_ok-replies.replies.items = omega arith in
     record {
       replies = c.in_ok-replies.replies.items;

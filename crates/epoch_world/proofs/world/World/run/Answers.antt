@@ -9,6 +9,7 @@ use Rattle.epoch_laws.proofs.FullFound.{found_full}
 use Rattle.epoch_laws.proofs.CallsAfterDeferrals.{calls_follow}
 use Rattle.epoch_rounds_laws.proofs.PutFound.{rounds_call_all}
 use Rattle.epoch_rounds_laws.proofs.EachCollectsFew.{collects_few}
+use Rattle.epoch_laws.proofs.RefusalsLeave.{refused_along}
 use Rattle.epoch_laws.specs.declared.step.Step.{Step}
 use Rattle.epoch_laws.specs.Run.{TakesStep}
 use Rattle.epoch_reach_laws.proofs.ReachRuns.{every_run_keeps_reach}
@@ -70,9 +71,10 @@ returns-clause-rounds g c fresh start earlier since new run more =
     (runs_whole _ _ c.args.steps.now c.loop-step.step-index _ (omega arith) c.loop-step.invariant.run))
 
 pub returns-clause-few : goal.returns-clause-few
-returns-clause-few g c fresh earlier new run =
-    collects_few fresh _ _ new (runs_append _ _ _ earlier _ run
-    (runs_whole _ _ c.args.steps.now c.loop-step.step-index _ (omega arith) c.loop-step.invariant.run))
+returns-clause-few g c fresh earlier new run whole = collects_few fresh _ _ new whole
+
+pub returns-clause-refused : goal.returns-clause-refused
+returns-clause-refused g c fresh earlier new run whole = refused_along fresh _ _ new whole
 
 pub returns-clause-reach : goal.returns-clause-reach
 returns-clause-reach g c fresh earlier new run whole = every_run_keeps_reach fresh _ _ new whole
