@@ -1,0 +1,5 @@
+pub mod QueueForm
+pub mod QueueKept
+pub mod QueueTouches
+pub mod QueueRuns
+pub mod CallsLeft
