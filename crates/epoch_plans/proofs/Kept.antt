@@ -1,6 +1,6 @@
 -- Every step of a structure's plans keeps what holds, and lets cells leave as they should.
-use Rattle.std.proofs.Common.{◌≡◌, ◌≢◌, ℕ, Bool, true, false, [], ◌∷◌, Option, Some}
-use Rattle.std.proofs.Common.{None, ◌⊎◌, inl, inr, refl, ap, ap₂, sym, subst, ◌∙◌}
+use Rattle.std.proofs.Common.{◌≡◌, ◌≢◌, ℕ, Bool, true, false, Option, Some, None, ◌⊎◌, inl, inr, refl, ap, ap₂, sym}
+use Rattle.std.proofs.Common.{subst, ◌∙◌}
 use Rattle.epoch_cells.specs.declared.cells.name.Name.{Name}
 use Rattle.epoch_cells.specs.declared.fault.Fault.{Fault}
 use Rattle.epoch_cells.specs.declared.fault.Fault.TheVariants.{BagsFull}
@@ -10,14 +10,13 @@ use Rattle.epoch_machine.specs.declared.machine.Action.{Action}
 use Rattle.epoch_machine.specs.declared.machine.Action.TheVariants.{Defer as DeferAction}
 use Rattle.epoch_machine.specs.declared.machine.Stage.{Stage}
 use Rattle.epoch_machine.specs.declared.machine.Stage.TheVariants.{LoadSeal, Put, Keep, End}
-use Rattle.epoch_machine.specs.Machine.{Machine, ask_at, after_put, with_stage, put_heard}
+use Rattle.epoch_machine.specs.Machine.{Machine, after_put, with_stage, put_heard}
 use Rattle.epoch_heap.specs.declared.access.Access.{Access}
 use Rattle.epoch_heap.specs.declared.access.Access.TheVariants.{Take as TakeAccess, Point}
 use Rattle.epoch_heap.specs.declared.access.Answer.{Answer}
 use Rattle.epoch_heap.specs.declared.access.Answer.TheVariants.{Unit as UnitAnswer}
 use Rattle.epoch_laws.specs.declared.step.Call.{Call}
-use Rattle.epoch_laws.specs.declared.step.Call.TheVariants.{Flush}
-use Rattle.epoch_laws.specs.declared.step.Call.TheVariants.{DeferDestroy, Access as AccessCall}
+use Rattle.epoch_laws.specs.declared.step.Call.TheVariants.{Flush, DeferDestroy, Access as AccessCall}
 use Rattle.epoch_laws.specs.declared.step.Deferral.{Deferral}
 use Rattle.epoch_laws.specs.declared.step.Entry.{Entry}
 use Rattle.epoch_laws.specs.declared.step.Progress.{Progress}
@@ -29,14 +28,12 @@ use Rattle.epoch_heap.specs.declared.access.Spot.TheVariants.{Field}
 use Rattle.epoch_laws.specs.declared.step.Step.{Step}
 use Rattle.epoch_laws.specs.declared.step.Step.TheVariants.{Register as WorldRegister, Begin as WorldBegin}
 use Rattle.epoch_laws.specs.declared.step.Step.TheVariants.{Go as WorldGo, End as WorldEnd, EndGo as WorldEndGo}
-use Rattle.epoch_laws.specs.declared.step.Word.TheVariants.{Free, Unpinned}
-use Rattle.epoch_heap.specs.Heap.{Heap, pointer_at, Touched, Touches as TouchesHeap}
-use Rattle.epoch_laws.specs.Run.{WorldSeat, State, Ending, Open, Emptying, Over, seat_of, position_word, with_seat}
-use Rattle.epoch_laws.specs.Run.{with_machine, with_places, free_seat, begun_seat, full_or_done, end_reply, ended_seat}
-use Rattle.epoch_laws.specs.Run.{access_reply, accessed_seat, refusal, BeginsCall, DrivesCall, DoesGo, EndGoes, Moves}
-use Rattle.epoch_laws.specs.Run.{TakesStep}
-use Rattle.epoch_reach_laws.specs.Reach.{IsReachable, Points, DefersRemoval, Past, past_after}
-use Rattle.epoch_reach_laws.specs.Reach.{LeavesRightly}
+use Rattle.epoch_laws.specs.declared.step.Word.TheVariants.{Free}
+use Rattle.epoch_heap.specs.Heap.{Heap, pointer_at, Touched}
+use Rattle.epoch_laws.specs.Run.{WorldSeat, State, seat_of, position_word, with_seat, with_machine, with_places}
+use Rattle.epoch_laws.specs.Run.{begun_seat, full_or_done, end_reply, ended_seat, access_reply, accessed_seat, refusal}
+use Rattle.epoch_laws.specs.Run.{BeginsCall, DoesGo, Moves, TakesStep}
+use Rattle.epoch_reach_laws.specs.Reach.{IsReachable, Points, DefersRemoval, Past, past_after, LeavesRightly}
 use Rattle.epoch_laws.proofs.SeatLemmas.{seat_there, begin_given}
 use Rattle.epoch_laws.proofs.SeatLinks.{AllLinked}
 use Rattle.epoch_laws.proofs.Linked.{step_linked}
@@ -44,14 +41,17 @@ use Rattle.epoch_reach_laws.proofs.GuardsStay.{idle_ended}
 use Rattle.epoch_reach_laws.proofs.HeapSteps.{heap_goes}
 use Rattle.epoch_reach_laws.proofs.JobsAsDeferred.{JobsGo, jobs_go}
 use Rattle.epoch_reach_laws.proofs.TurnsGiven.{touches_given}
-use Rattle.epoch_plans.specs.Plans.{Deed, Flushes, Touches, Defers, Answers, Program, Plan, NoPlan, Under, AllPlans, ptr_to}
-use Rattle.epoch_plans.specs.Plans.{call_by, after_by, IsOver, TakesNone, IsFit, IsFlush, IsPlain, Replans, KeepsPlans}
-use Rattle.epoch_plans.specs.Plans.{plan_begun, plan_gone, IsOther}
-use Rattle.epoch_plans.proofs.Custody.{IsLoose, IsUnguarded, IsAccessing, IsDeferring, IsBegun, Tied}
-use Rattle.epoch_plans.proofs.Custody.{now_deferring, now_under, now_of, now, Passed, Calm, AllLeft}
-use Rattle.epoch_plans.proofs.Custody.{Structure, OwnsNow, StandsNow, Acts, Sound, IsHarmless, sound_after, leaves_after}
+use Rattle.epoch_plans.specs.Plans.{Deed, Flushes, Touches, Defers, Answers, Program, Plan, NoPlan, Under, AllPlans}
+use Rattle.epoch_plans.specs.Plans.{ptr_to, call_by, after_by, IsOver, TakesNone, IsFit, IsFlush, IsPlain, Replans}
+use Rattle.epoch_plans.specs.Plans.{KeepsPlans, plan_begun, plan_gone, IsOther}
+use Rattle.epoch_plans.proofs.Custody.{IsLoose, IsUnguarded, IsAccessing, IsDeferring, IsBegun, Tied, now_deferring}
+use Rattle.epoch_plans.proofs.Custody.{now_under, now_of, now, Passed, Calm, AllLeft, Structure, OwnsNow, StandsNow}
+use Rattle.epoch_plans.proofs.Custody.{Acts, Sound, IsHarmless, sound_after, leaves_after}
 use Rattle.epoch_plans.proofs.Obligations.{phase_after, after_touch, TouchesBy, Weaker, Settled, HandsOver, Obeys}
-use Rattle.epoch_plans.proofs.Loose.{alone, unmoved, go_loose, go_plain, calm_step, jobs_left}
+use Rattle.epoch_plans.proofs.CalmSteps.{calm_step, jobs_left}
+use Rattle.epoch_plans.proofs.Moved.{go_taken, Accessing, accessing, ended_with, Deferring, at_seal, at_put, at_keep}
+use Rattle.epoch_plans.proofs.Moved.{at_end, deferring, begin_refused, begin_made, registered, takes_place, changes_none, Registering}
+use Rattle.epoch_plans.proofs.Moved.{registering, alone, unmoved, end_unmoved, ending_unmoved, go_loose, go_plain}
 use Rattle.epoch_plans.proofs.Steps.{fewer_reach, plain_begun, end_not_deferred, gone_end, begun_now, begun_tied}
 use Rattle.epoch_plans.proofs.Steps.{tied_not_now, loose_now, room_tied, gone_now, gone_tied}
 
@@ -310,10 +310,13 @@ module _ (S : Program) (T : Structure S) (Starts : S.Phase → Type 0) (obeys : 
         same : (q : ℕ) → x.step ≡ WorldGo q → q ≡ p
         same q e = cc (on, e)
 
-    touches : (j : ℕ) (found : Ptr) → seat.progress ≡ Accesses t j found → (made : Touched)
-        → TouchesHeap t j found old.heap made → x.reply ≡ access_reply made.told
-        → aside ≡ record (with_seat old p (accessed_seat t j made.told seat)) { heap = made.heap } → Kept
-    touches j found going made does told_is e =
+    touches : (j : ℕ) (found : Ptr) → seat.progress ≡ Accesses t j found → Accessing old aside x.reply p t j found
+        → Kept
+    touches j found going step =
+        let made : Touched = step.did in
+        let does = step.touches in
+        let told_is = step.told in
+        let e = step.state in
         let heap : new.heap ≡ made.heap = ap (λ (s : State). s.heap) e in
         let a = alone old aside _ p (accessed_seat t j made.told seat) (seat_there old p tied.0) e refl refl in
         let before : now S old plans p ≡ Some phase =
@@ -359,19 +362,16 @@ module _ (S : Program) (T : Structure S) (Starts : S.Phase → Type 0) (obeys : 
 
     by_progress : (progress : Progress) → seat.progress ≡ progress → IsAccessing t progress
         → DoesGo old p seat progress x.reply aside → Kept
-    by_progress (Accesses b j found) going same (made, does, told_is, e) =
-        touches j found (going ∙ ap (λ (c : Access). Accesses c j found) same) made
-        (subst (λ (c : Access). TouchesHeap c j found old.heap made) same does) told_is
-        (e ∙ ap (λ (c : Access). record (with_seat old p (accessed_seat c j made.told seat)) { heap = made.heap }) same)
-    by_progress (Ends (Done answer)) going ok (told_is, e) = over answer going told_is e
+    by_progress (Accesses b j found) going same d =
+        touches j found (going ∙ ap (λ (c : Access). Accesses c j found) same)
+        (accessing old aside x.reply p t j found
+        (subst (λ (c : Access). DoesGo old p seat (Accesses c j found) x.reply aside) same d))
+    by_progress (Ends (Done answer)) going ok d =
+        let step = ended_with old aside x.reply (Done answer) p d in over answer going step.0 step.1
     by_progress _ going ok d = absurd ok
 
     go_touch : Kept
-    go_touch = by_takes (goes_by p on)
-      where
-        by_takes : Moves old (WorldGo p) x.reply aside → Kept
-        by_takes (inl d) = absurd (tied.0 d.0)
-        by_takes (inr d) = by_progress seat.progress refl tied.1 d.1
+    go_touch = by_progress seat.progress refl tied.1 (go_taken old aside x.reply p tied.0 (goes_by p on))
 
   -- a Go of the deferral of a removal
   module _ (p g : ℕ) (phase after failed : S.Phase) (n : Name) (is : S.deed g phase ≡ Defers n after failed)
@@ -508,14 +508,13 @@ module _ (S : Program) (T : Structure S) (Starts : S.Phase → Type 0) (obeys : 
         })
         (λ k y d. ap Some (sym (who k y d)))
 
-    defer_at : (s : Stage) → md.stage ≡ s → IsDeferring s md.full → DrivesCall old p sd c s (ask_at s) x.reply aside
-        → Kept
-    defer_at LoadSeal stage ok (told, e) =
-        goes_on (with_stage md (Put old.epoch)) LoadSeal
-        (Put old.epoch) _ stage told e refl refl refl refl ok (same_now _)
-    defer_at (Put b) stage ok (step, bags, told, puts, e) = put_at b step _ stage told e refl refl
-    defer_at Keep stage ok (told, e) = keep_at _ _ stage told refl refl refl e refl refl
-    defer_at End stage ok (told, e) =
+    defer_at : Deferring old aside x.reply p c md.stage → Kept
+    defer_at (at_seal stage told e) =
+        goes_on (with_stage md (Put old.epoch)) LoadSeal (Put old.epoch) _ stage told e refl refl refl refl
+        (is_open LoadSeal stage) (same_now _)
+    defer_at (at_put b step queued stage told e) = put_at b step _ stage told e refl refl
+    defer_at (at_keep job stage told e) = keep_at _ _ stage told refl refl refl e refl refl
+    defer_at (at_end stage told e) =
         let a = alone old aside _ p (ended_seat c sd) (seat_there old p deferral.0) e refl refl in
         let plan : plans' p ≡ Under g (after_by phase (S.deed g phase) (end_reply c sd)) false =
         sets.0 ∙ ap (plan_gone g phase (S.deed g phase)) told ∙ gone_end S g phase c sd in
@@ -525,16 +524,11 @@ module _ (S : Program) (T : Structure S) (Starts : S.Phase → Type 0) (obeys : 
         (subst (λ (l : Plan S.Phase). Tied S l (seat_of new p)) (sym plan)
         (ap (λ (st : WorldSeat). st.progress) a.own ∙ idle_ended sd c))
         (λ k y d. end_not_deferred c sd k (sym told ∙ d.reply))
-    defer_at _ stage ok d = absurd ok
 
     go_defer : Kept
-    go_defer = by_takes (goes_by p on)
-      where
-        by_takes : Moves old (WorldGo p) x.reply aside → Kept
-        by_takes (inl d) = absurd (deferral.0 d.0)
-        by_takes (inr d) =
-            defer_at md.stage refl deferral.3
-            (subst (λ (progress : Progress). DoesGo old p sd progress x.reply aside) deferral.1 d.1)
+    go_defer = defer_at (deferring old aside x.reply p c md.stage md.full deferral.3
+        (subst (λ (progress : Progress). DoesGo old p sd progress x.reply aside) deferral.1
+        (go_taken old aside x.reply p deferral.0 (goes_by p on))))
 
   -- a Go of a plan
   pub go_under : (p g : ℕ) (phase : S.Phase) → x.step ≡ WorldGo p → plans p ≡ Under g phase true
@@ -574,10 +568,11 @@ module _ (S : Program) (T : Structure S) (Starts : S.Phase → Type 0) (obeys : 
       by_refusal : (f : Option Fault)
           → refusal (call_by g (S.deed g phase)) (seat_of old p) old.tickets old.heap ≡ f
           → BeginsCall old p (call_by g (S.deed g phase)) f x.reply aside → Kept
-      by_refusal (Some f) why (told, e) =
+      by_refusal (Some f) why d =
+          let step = begin_refused old aside x.reply p (call_by g (S.deed g phase)) f d in
           let plan : plans' p ≡ Under g (after_by phase (S.deed g phase) (Refused f)) false =
-          sets.0 ∙ ap (plan_begun g phase (S.deed g phase)) told in
-          let seats = unmoved old aside old e refl refl in
+          sets.0 ∙ ap (plan_begun g phase (S.deed g phase)) step.0 in
+          let seats = unmoved old aside old step.1 refl refl in
           alone_kept p (Some phase) (Some (after_by phase (S.deed g phase) (Refused f)))
           (now_as p (Under g phase false) at) (ap (λ (l : Plan S.Phase). now_of S l (seat_of new p)) plan)
           (some_now phase _ (obeys.refused g phase f))
@@ -585,12 +580,13 @@ module _ (S : Program) (T : Structure S) (Starts : S.Phase → Type 0) (obeys : 
           (subst (λ (l : Plan S.Phase). Tied S l (seat_of new p)) (sym plan)
           (ap (λ (st : WorldSeat). st.progress) (seats p) ∙ tied_as p (Under g phase false) at))
           (other_defers_not never)
-      by_refusal None why (told, e) =
+      by_refusal None why d =
+          let step = begin_made old aside x.reply p (call_by g (S.deed g phase)) d in
           let seat : WorldSeat = seat_of old p in
           let taken = (begin_given (call_by g (S.deed g phase)) seat old.tickets old.heap why).taken in
-          let a = alone old aside _ p (begun_seat (call_by g (S.deed g phase)) seat) (seat_there old p taken) e refl
-          refl in
-          let plan : plans' p ≡ Under g phase true = sets.0 ∙ ap (plan_begun g phase (S.deed g phase)) told in
+          let a = alone old aside _ p (begun_seat (call_by g (S.deed g phase)) seat) (seat_there old p taken)
+          step.1 refl refl in
+          let plan : plans' p ≡ Under g phase true = sets.0 ∙ ap (plan_begun g phase (S.deed g phase)) step.0 in
           alone_kept p (Some phase) (Some phase) (now_as p (Under g phase false) at)
           (ap₂ (λ (l : Plan S.Phase) (st : WorldSeat). now_of S l st) plan a.own
           ∙ begun_now S g phase seat call (obeys.fits g phase))
@@ -601,33 +597,32 @@ module _ (S : Program) (T : Structure S) (Starts : S.Phase → Type 0) (obeys : 
           (other_defers_not never)
 
   -- a Begin of a plain call
-  pub begin_plain : (p : ℕ) (d : Call) → x.step ≡ WorldBegin p d → IsPlain d → plans p ≡ NoPlan → KeepsPlans plans plans'
+  pub begin_plain : (p : ℕ) (call : Call) → x.step ≡ WorldBegin p call → IsPlain call → plans p ≡ NoPlan → KeepsPlans plans plans'
       → Kept
-  begin_plain p d on plain none same =
-      by_refusal (refusal d (seat_of old p) old.tickets old.heap) refl (begins_by p d on)
+  begin_plain p call on plain none same =
+      by_refusal (refusal call (seat_of old p) old.tickets old.heap) refl (begins_by p call on)
     where
       never : (q : ℕ) → x.step ≢ WorldGo q
       never q e = cc (on, e)
 
-      by_refusal : (f : Option Fault) → refusal d (seat_of old p) old.tickets old.heap ≡ f
-          → BeginsCall old p d f x.reply aside → Kept
-      by_refusal (Some f) why (told, e) =
-          nobody (none_other never) (unmoved old aside old e refl refl) same (other_defers_not never)
-      by_refusal None why (told, e) =
-          let taken = (begin_given d (seat_of old p) old.tickets old.heap why).taken in
-          let a = alone old aside _ p (begun_seat d (seat_of old p)) (seat_there old p taken) e refl refl in
+      by_refusal : (f : Option Fault) → refusal call (seat_of old p) old.tickets old.heap ≡ f
+          → BeginsCall old p call f x.reply aside → Kept
+      by_refusal (Some f) why d =
+          nobody (none_other never)
+          (unmoved old aside old (begin_refused old aside x.reply p call f d).1 refl refl) same (other_defers_not never)
+      by_refusal None why d =
+          let taken = (begin_given call (seat_of old p) old.tickets old.heap why).taken in
+          let a = alone old aside _ p (begun_seat call (seat_of old p)) (seat_there old p taken)
+          (begin_made old aside x.reply p call d).1 refl refl in
           alone_kept p None None (now_as p NoPlan none) (ap (λ (l : Plan S.Phase). now_of S l (seat_of new p))
           (same p ∙ none)) (same_now _) (none_other never) (λ q ne. (a.others q ne, same q))
           (subst (λ (l : Plan S.Phase). Tied S l (seat_of new p)) (sym (same p ∙ none))
           (subst (λ (st : WorldSeat). IsLoose st ⊎ IsUnguarded st) (sym a.own)
-          (plain_begun d (seat_of old p) plain taken))) (other_defers_not never)
+          (plain_begun call (seat_of old p) plain taken))) (other_defers_not never)
 
   -- what a registration finds of a free position's plan
-  abbrev registered : WorldSeat
-  registered = record (free_seat old.sizes) { word = Unpinned }
-
-  begun_free : (d : Call) (st : WorldSeat) → st.word ≡ Free → IsBegun d st → IsLoose registered
-      → (st.progress ≡ Idle) × IsBegun d registered
+  begun_free : (d : Call) (st : WorldSeat) → st.word ≡ Free → IsBegun d st → IsLoose (registered old)
+      → (st.progress ≡ Idle) × IsBegun d (registered old)
   begun_free (Flush g) st free (inl idle) loose = (idle, loose)
   begun_free (Flush g) st free (inr plain) loose = absurd (plain.3 free)
   begun_free (AccessCall a) st free t loose = absurd (t.0 free)
@@ -635,19 +630,12 @@ module _ (S : Program) (T : Structure S) (Starts : S.Phase → Type 0) (obeys : 
   begun_free _ st free t loose = absurd t
 
   free_shown : (plan : Plan S.Phase) (st : WorldSeat) → st.word ≡ Free → Tied S plan st
-      → (now_of S plan registered ≡ now_of S plan st) × Tied S plan registered
+      → (now_of S plan (registered old) ≡ now_of S plan st) × Tied S plan (registered old)
   free_shown NoPlan st free t = (refl, inl (inl refl))
   free_shown (Under g phase false) st free t = (refl, refl)
   free_shown (Under g phase true) st free t =
       let shown = begun_free (call_by g (S.deed g phase)) st free t (inl refl) in
       (sym (ap (λ (s : Progress). Some (now_under S g phase st s)) shown.0), shown.1)
-
-  end_seats : (e : Ending) → EndGoes old e x.reply aside → (q : ℕ) → seat_of new q ≡ seat_of old q
-  end_seats Open d = unmoved old aside old d.1 refl refl
-  end_seats Over d = unmoved old aside old d.1 refl refl
-  end_seats (Emptying (job ∷ js) n) d = unmoved old aside _ d.1 refl refl
-  end_seats (Emptying [] n) (inl d) = unmoved old aside _ d.4 refl refl
-  end_seats (Emptying [] n) (inr d) = unmoved old aside _ d.2 refl refl
 
   -- Register, End and EndGo
   pub pass : (s : Step) → x.step ≡ s → IsOther s → KeepsPlans plans plans' → Kept
@@ -656,21 +644,19 @@ module _ (S : Program) (T : Structure S) (Starts : S.Phase → Type 0) (obeys : 
       stays : ((q : ℕ) → seat_of new q ≡ seat_of old q) → ((p : ℕ) → x.step ≢ WorldGo p) → Kept
       stays seats never = nobody (none_other never) seats same (other_defers_not never)
 
-      by_step : (s : Step) → x.step ≡ s → IsOther s → Moves old s x.reply aside → Kept
-      by_step WorldRegister on other (inr (inl d)) = stays (unmoved old aside old d.3 refl refl) (λ q e. cc (on, e))
-      by_step WorldRegister on other (inr (inr d)) = stays (unmoved old aside old d.2 refl refl) (λ q e. cc (on, e))
-      by_step WorldRegister on other (inl d) =
-          let p : ℕ = d.0 in
-          let a = alone old aside _ p registered d.2 d.6 refl refl in
-          let shown = free_shown (plans p) (seat_of old p) d.3 (sound.ties p) in
+      registers : ((p : ℕ) → x.step ≢ WorldGo p) → Registering old aside → Kept
+      registers never (changes_none e) = stays (unmoved old aside old e refl refl) never
+      registers never (takes_place p there free e) =
+          let a = alone old aside _ p (registered old) there e refl refl in
+          let shown = free_shown (plans p) (seat_of old p) free (sound.ties p) in
           alone_kept p (now S old plans p) (now S old plans p) refl
           (ap₂ (λ (l : Plan S.Phase) (st : WorldSeat). now_of S l st) (same p) a.own ∙ shown.0)
-          (same_now _) (none_other (λ q e. cc (on, e))) (λ q ne. (a.others q ne, same q))
+          (same_now _) (none_other never) (λ q ne. (a.others q ne, same q))
           (subst (λ (l : Plan S.Phase). Tied S l (seat_of new p)) (sym (same p))
-          (subst (λ (st : WorldSeat). Tied S (plans p) st) (sym a.own) shown.1))
-          (other_defers_not (λ q e. cc (on, e)))
-      by_step WorldEnd on other (inl d) = stays (unmoved old aside _ d.3 refl refl) (λ q e. cc (on, e))
-      by_step WorldEnd on other (inr (inl d)) = stays (unmoved old aside old d.3 refl refl) (λ q e. cc (on, e))
-      by_step WorldEnd on other (inr (inr d)) = stays (unmoved old aside old d.2 refl refl) (λ q e. cc (on, e))
-      by_step WorldEndGo on other d = stays (end_seats old.ending d) (λ q e. cc (on, e))
+          (subst (λ (st : WorldSeat). Tied S (plans p) st) (sym a.own) shown.1)) (other_defers_not never)
+
+      by_step : (s : Step) → x.step ≡ s → IsOther s → Moves old s x.reply aside → Kept
+      by_step WorldRegister on other d = registers (λ q e. cc (on, e)) (registering old aside x.reply d)
+      by_step WorldEnd on other d = stays (end_unmoved old aside x.reply d) (λ q e. cc (on, e))
+      by_step WorldEndGo on other d = stays (ending_unmoved old aside x.reply old.ending d) (λ q e. cc (on, e))
       by_step _ on other d = absurd other

@@ -1,7 +1,8 @@
 pub mod Custody
 pub mod Obligations
 pub mod Cells
-pub mod Loose
+pub mod CalmSteps
+pub mod Moved
 pub mod Steps
 pub mod Kept
 pub mod Runs

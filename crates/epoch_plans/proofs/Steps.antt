@@ -30,7 +30,7 @@ use Rattle.epoch_plans.specs.Plans.{plan_gone}
 use Rattle.epoch_plans.proofs.Custody.{IsLoose, IsUnguarded, IsAccessing, IsDeferring, IsBegun, Tied}
 use Rattle.epoch_plans.proofs.Custody.{now_driven, now_under, now_of, now}
 use Rattle.epoch_plans.proofs.Obligations.{phase_after}
-use Rattle.epoch_plans.proofs.Loose.{is_end}
+use Rattle.epoch_plans.proofs.Moved.{is_end}
 
 -- REACH
 
