@@ -1,6 +1,6 @@
 -- Which calls on cells and pointers change nothing that stands: placing, reading, leaving and loading.
-use Rattle.std.proofs.Common.{◌≡◌, ℕ, ◌-◌, ◌==◌, ◌&&◌, Bool, true, false, Option, Some, None, is_some}
-use Rattle.std.proofs.Common.{inl, inr, refl, ap, sym, subst, ◌∙◌, arith, if◌then◌else◌, slice_get}
+use Rattle.std.proofs.Common.{◌≡◌, ℕ, ◌-◌, ◌==◌, ◌&&◌, Bool, true, false, Option, Some, None, is_some, inl, inr, refl}
+use Rattle.std.proofs.Common.{ap, sym, subst, ◌∙◌, arith, if◌then◌else◌, slice_get}
 use Rattle.std.proofs.lemmas.Bool.Decides.{nat_tests}
 use Rattle.epoch_cells.specs.PlainCells.{if_has, has, filled, readable}
 use Rattle.epoch_cells.specs.declared.cells.name.Name.{Name}
@@ -11,8 +11,8 @@ use Rattle.epoch_heap.specs.declared.access.Ptr.{Ptr}
 use Rattle.epoch_heap.specs.declared.access.Spot.{Spot}
 use Rattle.epoch_heap.specs.declared.access.Spot.TheVariants.{Field}
 use Rattle.epoch_heap.specs.declared.heap.Content.{Content}
-use Rattle.epoch_heap.specs.Heap.{Cell, Heap, nulls, cell_at, with_cell_at, field_of, field_in, pointer_at, Touched, Touches}
-use Rattle.epoch_heap.specs.Heap.{ChangesAt, Places, raised, read_by, left_by, at_name}
+use Rattle.epoch_heap.specs.Heap.{Cell, Heap, nulls, cell_at, with_cell_at, field_of, field_in, pointer_at, Touched}
+use Rattle.epoch_heap.specs.Heap.{Touches, ChangesAt, Places, raised, read_by, left_by, at_name}
 use Rattle.epoch_heap.proofs.FoundCells.{found_cell}
 use Rattle.epoch_reach_laws.proofs.Names.{name_same}
 use Rattle.epoch_reach_laws.proofs.PointerSteps.{set_or_kept, fewer_written, fewer_kept, nulls_lead}
@@ -26,7 +26,8 @@ same_in : (d c : Cell) (t f : ℕ) → d.turn ≡ c.turn → d.value ≡ c.value
 same_in d c t f turn value = at_test (has d t) (has c t) same
   where
     same : has d t ≡ has c t
-    same = ap (λ (k : ℕ). (k == t) && is_some d.value) turn ∙ ap (λ (v : Option Content). (c.turn == t) && is_some v) value
+    same = ap (λ (k : ℕ). (k == t) && is_some d.value) turn
+        ∙ ap (λ (v : Option Content). (c.turn == t) && is_some v) value
 
     at_test : (b e : Bool) → b ≡ e → field_in (if b then Some d else None) f ≡ field_in (if e then Some c else None) f
     at_test true true h = ap (λ (v : Option Content). field_of v f) value
@@ -83,8 +84,8 @@ calm_placed left h v n c at free fresh given = record {
   );
   back = λ m f ptr g there. elim (set_or_kept h.cells (n.slot - 1) new (m.slot - 1)) [
     | inl same ↦ ap (λ (o : Option Cell). field_in (if_has m.turn o) f) (sym same) ∙ there
-    | inr wrote ↦ absurd (by_turn m f ptr g (ap (λ (o : Option Cell). field_in (if_has m.turn o) f) (sym wrote.1) ∙ there)
-        wrote.0)
+    | inr wrote ↦ absurd (by_turn m f ptr g
+        (ap (λ (o : Option Cell). field_in (if_has m.turn o) f) (sym wrote.1) ∙ there) wrote.0)
   ];
   fewer = fewer_written h n new (λ t f x leads. absurd (nulls_lead n.turn v 16 t f x leads));
   given = given;

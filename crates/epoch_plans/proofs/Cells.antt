@@ -1,19 +1,18 @@
 -- What a change of one name's cell does to the others.
-use Rattle.std.proofs.Common.{◌≡◌, ◌≢◌, ℕ, ◌-◌, ◌==◌, ◌&&◌, Bool, true, false, Option, Some, None, is_some}
-use Rattle.std.proofs.Common.{◌⊎◌, inl, inr, refl, ap, sym, ◌∙◌, arith, if◌then◌else◌, slice_get}
+use Rattle.std.proofs.Common.{◌≡◌, ◌≢◌, ℕ, ◌-◌, ◌==◌, ◌&&◌, Bool, true, false, Option, Some, None, is_some, ◌⊎◌, inl}
+use Rattle.std.proofs.Common.{inr, refl, ap, sym, ◌∙◌, arith, if◌then◌else◌, slice_get}
 use Rattle.std.proofs.lemmas.Bool.Decides.{nat_tests}
 use Rattle.std.proofs.lemmas.Option.{slice_get_within}
 use Rattle.epoch_cells.proofs.PlainCellLists.{get_set_same}
-use Rattle.epoch_cells.specs.PlainCells.{if_has, has}
+use Rattle.epoch_cells.specs.PlainCells.{if_has, has, empty}
 use Rattle.epoch_cells.specs.declared.cells.name.Name.{Name}
 use Rattle.epoch_heap.specs.declared.heap.Content.{Content}
 use Rattle.std.specs.Prelude.{option_map}
-use Rattle.epoch_cells.specs.PlainCells.{empty}
 use Rattle.epoch_heap.specs.declared.access.Ptr.{Ptr}
 use Rattle.epoch_heap.specs.declared.access.Spot.{Spot}
 use Rattle.epoch_heap.specs.declared.access.Spot.TheVariants.{Root, Field}
-use Rattle.epoch_heap.specs.Heap.{Cell, Heap, cell_at, with_cell_at, field_of, field_in, pointer_at, with_pointer, with_field}
-use Rattle.epoch_heap.specs.Heap.{with_field_in}
+use Rattle.epoch_heap.specs.Heap.{Cell, Heap, cell_at, with_cell_at, field_of, field_in, pointer_at, with_pointer}
+use Rattle.epoch_heap.specs.Heap.{with_field, with_field_in}
 use Rattle.epoch_reach_laws.proofs.Names.{name_same}
 use Rattle.epoch_reach_laws.proofs.PointerSteps.{set_or_kept}
 use Rattle.epoch_heap.proofs.FoundCells.{found_cell}
@@ -117,7 +116,8 @@ written_there h (Field n f) ptr q e =
     let held : after.value ≡ Some (with_field there.1 f q) =
     ap (λ (o : Option Content). option_map (λ content. with_field content f q) o) there.3 in
     let entry : slice_get there.1.fields f ≡ Some ptr =
-    sym (ap (λ (o : Option Content). field_of o f) there.3) ∙ sym (ap (λ (o : Option Cell). field_in o f) there.2) ∙ e in
+    sym (ap (λ (o : Option Content). field_of o f) there.3)
+    ∙ sym (ap (λ (o : Option Cell). field_in o f) there.2) ∙ e in
     ap (λ (o : Option Cell). pointer_at (with_field_in h n f q o) (Field n f)) there.2
     ∙ ap (λ (o : Option Cell). field_in o f)
     (cell_filled h n there.0 after (with_field there.1 f q) there.2 refl held)

@@ -256,7 +256,8 @@ module _ (S : Program) (T : Structure S) where
 
       own_apart : (q : ℕ) (n : Name) → q ≢ p → OwnsNow (now S new plans' p) n → OwnsNow (now S new plans' q) n → ⊥
       own_apart q n ne mine other =
-          let was : OwnsNow (now S old plans q) n = subst (λ (v : Option S.Phase). OwnsNow v n) (now_other q ne) other in
+          let was : OwnsNow (now S old plans q) n =
+          subst (λ (v : Option S.Phase). OwnsNow v n) (now_other q ne) other in
           elim (acts.owned n mine) [
             | inl own ↦ sound.apart q p n ne was own
             | inr (inl common) ↦ common_apart (now S old plans q) n common (sound.stands q) was

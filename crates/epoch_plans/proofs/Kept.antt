@@ -50,8 +50,9 @@ use Rattle.epoch_plans.proofs.Custody.{Acts, Sound, IsHarmless, sound_after, lea
 use Rattle.epoch_plans.proofs.Obligations.{phase_after, after_touch, TouchesBy, Weaker, Settled, HandsOver, Obeys}
 use Rattle.epoch_plans.proofs.CalmSteps.{calm_step, jobs_left}
 use Rattle.epoch_plans.proofs.Moved.{go_taken, Accessing, accessing, ended_with, Deferring, at_seal, at_put, at_keep}
-use Rattle.epoch_plans.proofs.Moved.{at_end, deferring, begin_refused, begin_made, registered, takes_place, changes_none, Registering}
-use Rattle.epoch_plans.proofs.Moved.{registering, alone, unmoved, end_unmoved, ending_unmoved, go_loose, go_plain}
+use Rattle.epoch_plans.proofs.Moved.{at_end, deferring, begin_refused, begin_made, registered, takes_place}
+use Rattle.epoch_plans.proofs.Moved.{changes_none, Registering, registering, alone, unmoved, end_unmoved}
+use Rattle.epoch_plans.proofs.Moved.{ending_unmoved, go_loose, go_plain}
 use Rattle.epoch_plans.proofs.Steps.{fewer_reach, plain_begun, end_not_deferred, gone_end, begun_now, begun_tied}
 use Rattle.epoch_plans.proofs.Steps.{tied_not_now, loose_now, room_tied, gone_now, gone_tied}
 
@@ -597,8 +598,8 @@ module _ (S : Program) (T : Structure S) (Starts : S.Phase → Type 0) (obeys : 
           (other_defers_not never)
 
   -- a Begin of a plain call
-  pub begin_plain : (p : ℕ) (call : Call) → x.step ≡ WorldBegin p call → IsPlain call → plans p ≡ NoPlan → KeepsPlans plans plans'
-      → Kept
+  pub begin_plain : (p : ℕ) (call : Call) → x.step ≡ WorldBegin p call → IsPlain call → plans p ≡ NoPlan
+      → KeepsPlans plans plans' → Kept
   begin_plain p call on plain none same =
       by_refusal (refusal call (seat_of old p) old.tickets old.heap) refl (begins_by p call on)
     where

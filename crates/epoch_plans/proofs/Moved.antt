@@ -1,6 +1,6 @@
 -- What a step of the world does to the seats. Nothing else here takes a step apart.
-use Rattle.std.proofs.Common.{◌≡◌, ◌≢◌, ℕ, ◌+◌, ◌<◌, Bool, true, false, List, [], ◌∷◌, length, Some, None, ◌⊎◌, inl, inr}
-use Rattle.std.proofs.Common.{refl, ap, sym, subst, ◌∙◌, slice_index_or, slice_set}
+use Rattle.std.proofs.Common.{◌≡◌, ◌≢◌, ℕ, ◌+◌, ◌<◌, Bool, true, false, List, [], ◌∷◌, length, Some, None, ◌⊎◌, inl}
+use Rattle.std.proofs.Common.{inr, refl, ap, sym, subst, ◌∙◌, slice_index_or, slice_set}
 use Rattle.epoch_cells.specs.declared.fault.Fault.{Fault}
 use Rattle.epoch_machine.specs.declared.machine.Sizes.{Sizes}
 use Rattle.epoch_machine.specs.declared.machine.Stage.{Stage}
@@ -75,7 +75,8 @@ pub data Deferring (old new : State) (reply : Reply) (p : ℕ) (c : Call) (s : S
 pub deferring : (old new : State) (reply : Reply) (p : ℕ) (c : Call) (s : Stage) (full : Bool) → IsDeferring s full
     → DrivesCall old p (seat_of old p) c s (ask_at s) reply new → Deferring old new reply p c s
 deferring old new reply p c LoadSeal full ok (told, state) = at_seal refl told state
-deferring old new reply p c (Put seal) full ok (step, queued, told, put, state) = at_put seal step queued refl told state
+deferring old new reply p c (Put seal) full ok (step, queued, told, put, state) =
+    at_put seal step queued refl told state
 deferring old new reply p c Keep full ok (told, state) = at_keep _ refl told state
 deferring old new reply p c End full ok (told, state) = at_end refl told state
 deferring old new reply p c _ full ok did = absurd ok

@@ -37,7 +37,8 @@ module _ (S : Program) (T : Structure S) (Starts : S.Phase → Type 0) (obeys : 
         | inl e ↦ subst (λ (k : ℕ). StandsNow S T past world.heap sound.ghost (now S world plans' k)) (sym e)
             (subst (λ (l : Plan S.Phase). StandsNow S T past world.heap sound.ghost (now_of S l (seat_of world p)))
             (sym sets.0) stands)
-        | inr ne ↦ subst (λ (l : Plan S.Phase). StandsNow S T past world.heap sound.ghost (now_of S l (seat_of world q)))
+        | inr ne ↦ subst
+            (λ (l : Plan S.Phase). StandsNow S T past world.heap sound.ghost (now_of S l (seat_of world q)))
             (sym (sets.1 q ne)) (sound.stands q)
       ];
       apart = λ q r n ne a b. elim (same_number q p) [
@@ -66,8 +67,8 @@ module _ (S : Program) (T : Structure S) (Starts : S.Phase → Type 0) (obeys : 
       linked = sound.linked;
       jobs = sound.jobs;
       ties = λ q. subst (λ (l : Plan S.Phase). Tied S l (seat_of world q)) (sym (same q)) (sound.ties q);
-      stands = λ q. subst (λ (l : Plan S.Phase). StandsNow S T past world.heap sound.ghost (now_of S l (seat_of world q)))
-          (sym (same q)) (sound.stands q);
+      stands = λ q. subst
+          (λ (l : Plan S.Phase). StandsNow S T past world.heap sound.ghost (now_of S l (seat_of world q))) (sym (same q)) (sound.stands q);
       apart = λ q r n ne a b. sound.apart q r n ne
           (subst (λ (l : Plan S.Phase). OwnsNow S T (now_of S l (seat_of world q)) n) (same q) a)
           (subst (λ (l : Plan S.Phase). OwnsNow S T (now_of S l (seat_of world r)) n) (same r) b);
@@ -117,15 +118,17 @@ module _ (S : Program) (T : Structure S) (Starts : S.Phase → Type 0) (obeys : 
     follows_some (begins x p g phase made on under call sets) =
         begin_under S T Starts obeys past world new plans plans' y sound takes p g phase call
         (sym (ap (λ (z : Entry). z.step) (made_is (Makes y) x refl made)) ∙ on) under
-        (subst (λ (z : Entry). Replans plans p (plan_begun g phase (S.deed g phase) z.reply) plans') (made_is (Makes y) x refl made) sets)
+        (subst (λ (z : Entry). Replans plans p (plan_begun g phase (S.deed g phase) z.reply) plans')
+        (made_is (Makes y) x refl made) sets)
     follows_some (goes x p g phase made on under sets) =
         go_under S T Starts obeys past world new plans plans' y sound takes p g phase
         (sym (ap (λ (z : Entry). z.step) (made_is (Makes y) x refl made)) ∙ on) under
-        (subst (λ (z : Entry). Replans plans p (plan_gone g phase (S.deed g phase) z.reply) plans') (made_is (Makes y) x refl made) sets)
+        (subst (λ (z : Entry). Replans plans p (plan_gone g phase (S.deed g phase) z.reply) plans')
+        (made_is (Makes y) x refl made) sets)
 
   -- whole runs
-  pub runs_leave : (past : Past) (world : State) (plans : AllPlans S.Phase) (log : List (PlanEvent S.Phase S.Answer)) (world' : State)
-      (plans' : AllPlans S.Phase) → (sound : Sound S T past world plans)
+  pub runs_leave : (past : Past) (world : State) (plans : AllPlans S.Phase)
+      (log : List (PlanEvent S.Phase S.Answer)) (world' : State) (plans' : AllPlans S.Phase) → (sound : Sound S T past world plans)
       → (run : PlanRuns S Starts world plans log world' plans')
       → LeavesFrom past world (world_log log) world' (run_of_world S Starts world plans log world' plans' run)
   runs_leave past world plans [] world' plans' sound run = tt

@@ -160,8 +160,8 @@ module _ (S : Program) where
   loose_now g phase seat (inr (c, driven, plain, taken)) =
       ap (now_under S g phase seat) driven ∙ plain_now g phase seat c seat.machine.stage plain
 
-  pub room_tied : (g : ℕ) (phase done failed : S.Phase) (r : Reply) (seat : WorldSeat) → S.deed g phase ≡ Flushes done failed
-      → IsLoose seat → (is_end r ≡ true → seat.progress ≡ Idle)
+  pub room_tied : (g : ℕ) (phase done failed : S.Phase) (r : Reply) (seat : WorldSeat)
+      → S.deed g phase ≡ Flushes done failed → IsLoose seat → (is_end r ≡ true → seat.progress ≡ Idle)
       → Tied S (plan_gone g phase (S.deed g phase) r) seat
   room_tied g phase done failed (Done a) seat is loose ends = ends refl
   room_tied g phase done failed (Refused f) seat is loose ends = ends refl
@@ -169,8 +169,8 @@ module _ (S : Program) where
       subst (λ (d : Deed S.Phase S.Answer). IsBegun (call_by g d) seat) (sym is) loose
 
   -- after a step on cells and pointers
-  pub gone_now : (g : ℕ) (phase : S.Phase) (a : Access) (next : Answer → S.Phase) (failed : S.Phase) (j : ℕ) (told : Accessed)
-      (seat : WorldSeat) → S.deed g phase ≡ Touches a next failed
+  pub gone_now : (g : ℕ) (phase : S.Phase) (a : Access) (next : Answer → S.Phase) (failed : S.Phase) (j : ℕ)
+      (told : Accessed) (seat : WorldSeat) → S.deed g phase ≡ Touches a next failed
       → now_of S (plan_gone g phase (S.deed g phase) (access_reply told)) (accessed_seat a j told seat)
       ≡ Some (phase_after phase next failed told)
   gone_now g phase a next failed j (Again found) seat is = refl
@@ -179,8 +179,8 @@ module _ (S : Program) where
   gone_now g phase a next failed j NoSlot seat is =
       ap (λ (d : Deed S.Phase S.Answer). Some (after_by phase d (access_reply NoSlot))) is
 
-  pub gone_tied : (g : ℕ) (phase : S.Phase) (a : Access) (next : Answer → S.Phase) (failed : S.Phase) (j : ℕ) (told : Accessed)
-      (seat : WorldSeat) → S.deed g phase ≡ Touches a next failed → seat.word ≢ Free
+  pub gone_tied : (g : ℕ) (phase : S.Phase) (a : Access) (next : Answer → S.Phase) (failed : S.Phase) (j : ℕ)
+      (told : Accessed) (seat : WorldSeat) → S.deed g phase ≡ Touches a next failed → seat.word ≢ Free
       → Tied S (plan_gone g phase (S.deed g phase) (access_reply told)) (accessed_seat a j told seat)
   gone_tied g phase a next failed j (Again found) seat is taken =
       subst (λ (d : Deed S.Phase S.Answer). IsBegun (call_by g d) (accessed_seat a j (Again found) seat)) (sym is)

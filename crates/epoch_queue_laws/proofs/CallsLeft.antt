@@ -8,12 +8,13 @@ use Rattle.epoch_laws.specs.declared.step.Reply.TheVariants.{Done}
 use Rattle.epoch_plans.specs.Plans.{IsLowered}
 use Rattle.epoch_queue_laws.specs.declared.plan.Work.TheVariants.{Build, Push, Pop}
 use Rattle.epoch_queue_laws.specs.declared.plan.Phase.TheVariants.{MakingRoom, Founding, Crowning, Seating, Placing}
-use Rattle.epoch_queue_laws.specs.declared.plan.Phase.TheVariants.{LoadingTail, LoadingLast, Appending, Swinging, Helping}
-use Rattle.epoch_queue_laws.specs.declared.plan.Phase.TheVariants.{TakingBack, LoadingHead, LoadingNext, Reading, Leaving}
-use Rattle.epoch_queue_laws.specs.declared.plan.Phase.TheVariants.{Taking, LookingBack, Advancing, Removing, Answering}
-use Rattle.epoch_queue_laws.specs.Queue.{retry_push, retry_pop, founded, crowned, placed, to_last, tail_loaded, to_append}
-use Rattle.epoch_queue_laws.specs.Queue.{last_loaded, appended, to_next, head_loaded, to_read, next_loaded, read, taken}
-use Rattle.epoch_queue_laws.specs.Queue.{names, looked_back, calls_left, queue}
+use Rattle.epoch_queue_laws.specs.declared.plan.Phase.TheVariants.{LoadingTail, LoadingLast, Appending, Swinging}
+use Rattle.epoch_queue_laws.specs.declared.plan.Phase.TheVariants.{Helping, TakingBack, LoadingHead, LoadingNext}
+use Rattle.epoch_queue_laws.specs.declared.plan.Phase.TheVariants.{Reading, Leaving, Taking, LookingBack, Advancing}
+use Rattle.epoch_queue_laws.specs.declared.plan.Phase.TheVariants.{Removing, Answering}
+use Rattle.epoch_queue_laws.specs.Queue.{retry_push, retry_pop, founded, crowned, placed, to_last, tail_loaded}
+use Rattle.epoch_queue_laws.specs.Queue.{to_append, last_loaded, appended, to_next, head_loaded, to_read, next_loaded}
+use Rattle.epoch_queue_laws.specs.Queue.{read, taken, names, looked_back, calls_left, queue}
 
 -- A TRY MORE
 

@@ -78,7 +78,8 @@ pub record Form (h : Heap) (xs : List Name) : Type 0 where
 
 -- REACH
 
-led : (h : Heap) (spot : Spot) (o : Option Name) (x : Name) → pointer_at h spot ≡ Some (at o) → Leads h spot x → o ≡ Some x
+led : (h : Heap) (spot : Spot) (o : Option Name) (x : Name) → pointer_at h spot ≡ Some (at o) → Leads h spot x
+    → o ≡ Some x
 led h spot o x e (ptr, entry, name) =
     let same : at o ≡ ptr = cc (e, entry) in ap (λ (q : Ptr). q.name) same ∙ name
 
@@ -162,7 +163,8 @@ module _ (h : Heap) (xs : List Name) (form : Form h xs) (n q : Name) (to_next : 
               last = form.last;
               tailed = pointer_other h (Root 0) (at (Some q)) (Root 1) (λ e. cc (e)) ∙ form.tailed;
               two = λ i x leads. form.two i x
-                  (leads.0, sym (pointer_other h (Root 0) (at (Some q)) (Root (suc (suc i))) (λ e. cc (e))) ∙ leads.1, leads.2);
+                  (leads.0, sym (pointer_other h (Root 0) (at (Some q)) (Root (suc (suc i))) (λ e. cc (e))) ∙ leads.1,
+                  leads.2);
               single = λ y f x leads. form.single y f x (leads.0, sym (kept y (suc f)) ∙ leads.1, leads.2);
               chain = chain_kept h (took h q) (Some q) ms (λ y w there to. kept y 0 ∙ to)
                   (subst (λ (o : Option Name). Chain h o ms) next_is rest);
@@ -220,7 +222,8 @@ module _ (h : Heap) (xs : List Name) (form : Form h xs) (t q : Name)
     single = λ y f x leads. form.single y f x (leads.0, sym (swing_kept y (suc f)) ∙ leads.1, leads.2);
     chain = chain_kept h (swung h q) form.head xs (λ y w there to. swing_kept y 0 ∙ to) form.chain;
     near = λ s e. let same : q ≡ s = cc (e) in
-        inl (subst (λ k. In k xs) same swing_to.0, subst (λ k. Next (swung h q) k None) same (swing_kept q 0 ∙ swing_to.1));
+        inl (subst (λ k. In k xs) same swing_to.0,
+        subst (λ k. Next (swung h q) k None) same (swing_kept q 0 ∙ swing_to.1));
     bare = λ e. absurd (cc (e));
   }
 
@@ -244,7 +247,8 @@ module _ (h : Heap) (xs : List Name) (form : Form h xs) (t n : Name) (there : In
   pub own : Next (appended h t n) n None
   own = other_field n (λ e. fresh (subst (λ k. In k xs) (sym e) there)) ∙ mine
 
-  more : (o : Option Name) (ns : List Name) → Chain h o ns → In t ns → ¬ (In n ns) → Chain (appended h t n) o (ns ++ n ∷ [])
+  more : (o : Option Name) (ns : List Name) → Chain h o ns → In t ns → ¬ (In n ns)
+      → Chain (appended h t n) o (ns ++ n ∷ [])
   more o [] chain at_t out = absurd at_t
   more o (m ∷ ms) (next, name, to, apart, rest) at_t out = elim (same_name m t) [
     | inl e ↦
@@ -300,7 +304,8 @@ module _ (h : Heap) (xs : List Name) (form : Form h xs) (t n : Name) (there : In
     last = Some t;
     tailed = pointer_other h (Field t 0) (at (Some n)) (Root 1) (λ e. cc (e)) ∙ is_tail;
     two = λ i x leads. form.two i x
-        (leads.0, sym (pointer_other h (Field t 0) (at (Some n)) (Root (suc (suc i))) (λ e. cc (e))) ∙ leads.1, leads.2);
+        (leads.0, sym (pointer_other h (Field t 0) (at (Some n)) (Root (suc (suc i))) (λ e. cc (e))) ∙ leads.1,
+        leads.2);
     single = λ y f x leads. form.single y f x
         (leads.0, sym (pointer_other h (Field t 0) (at (Some n)) (Field y (suc f)) (λ e. cc (e))) ∙ leads.1, leads.2);
     chain = more form.head xs form.chain there fresh;

@@ -1,6 +1,6 @@
 -- What holds of a queue between any two steps, and that each step of its plans keeps it.
-use Rattle.std.proofs.Common.{◌≡◌, ◌≢◌, ℕ, zero, suc, List, Option, Some, None, ◌⊎◌}
-use Rattle.std.proofs.Common.{inl, inr, refl, ap, sym, subst, ◌∙◌, slice_get}
+use Rattle.std.proofs.Common.{◌≡◌, ◌≢◌, ℕ, zero, suc, List, Option, Some, None, ◌⊎◌, inl, inr, refl, ap, sym, subst}
+use Rattle.std.proofs.Common.{◌∙◌, slice_get}
 use Rattle.epoch_cells.specs.declared.cells.name.Name.{Name}
 use Rattle.epoch_heap.specs.declared.access.Ptr.{Ptr}
 use Rattle.epoch_heap.specs.declared.access.Spot.TheVariants.{Root, Field}
@@ -17,9 +17,10 @@ use Rattle.epoch_queue_laws.specs.declared.plan.Work.TheVariants.{Build, Push, P
 use Rattle.epoch_queue_laws.specs.declared.plan.QueueAnswer.TheVariants.{TriesOut, Popped}
 use Rattle.epoch_queue_laws.specs.declared.plan.Phase.{Phase}
 use Rattle.epoch_queue_laws.specs.declared.plan.Phase.TheVariants.{MakingRoom, Founding, Crowning, Seating, Placing}
-use Rattle.epoch_queue_laws.specs.declared.plan.Phase.TheVariants.{LoadingTail, LoadingLast, Appending, Swinging, Helping}
-use Rattle.epoch_queue_laws.specs.declared.plan.Phase.TheVariants.{TakingBack, LoadingHead, LoadingNext, Reading, Leaving}
-use Rattle.epoch_queue_laws.specs.declared.plan.Phase.TheVariants.{Taking, LookingBack, Advancing, Removing, Answering}
+use Rattle.epoch_queue_laws.specs.declared.plan.Phase.TheVariants.{LoadingTail, LoadingLast, Appending, Swinging}
+use Rattle.epoch_queue_laws.specs.declared.plan.Phase.TheVariants.{Helping, TakingBack, LoadingHead, LoadingNext}
+use Rattle.epoch_queue_laws.specs.declared.plan.Phase.TheVariants.{Reading, Leaving, Taking, LookingBack, Advancing}
+use Rattle.epoch_queue_laws.specs.declared.plan.Phase.TheVariants.{Removing, Answering}
 use Rattle.epoch_queue_laws.specs.Queue.{retry_push, retry_pop, start_work, deed_of, queue, Starts}
 use Rattle.std.specs.Prelude.{is_some}
 use Rattle.epoch_plans.proofs.Custody.{Passed, Calm, Structure, Sane}
@@ -179,7 +180,10 @@ module _ (past past' : Past) (h h' : Heap) (xs xs' : List Name) (hit gone : Opti
   linked_kept : (t q : Name) → Linked past h t q → Linked past' h' t q
   linked_kept t q l = (
     passed.more t l.0,
-    λ ptr e. elim (turn.back t l.0 ptr e) [ inl was ↦ l.1 ptr was | inr none ↦ absurd (none_not q (l.1 (at None) none.0)) ],
+    λ ptr e. elim (turn.back t l.0 ptr e) [
+      | inl was ↦ l.1 ptr was
+      | inr none ↦ absurd (none_not q (l.1 (at None) none.0))
+    ],
   )
 
   tail_kept : (t : Name) → AtTail past h t → AtTail past' h' t

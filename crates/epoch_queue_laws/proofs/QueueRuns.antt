@@ -1,13 +1,14 @@
 -- Whole runs of a queue, from a fresh world on.
-use Rattle.std.proofs.Common.{◌≡◌, ◌≢◌, ℕ, suc, List, [], Option, Some, None, inl, refl, ap, sym, subst, ◌∙◌}
-use Rattle.std.proofs.Common.{slice_get, ◌-◌}
+use Rattle.std.proofs.Common.{◌≡◌, ◌≢◌, ℕ, suc, List, [], Option, Some, None, inl, refl, ap, sym, subst, ◌∙◌, slice_get}
+use Rattle.std.proofs.Common.{◌-◌}
 use Rattle.epoch_cells.specs.PlainCells.{if_has}
 use Rattle.epoch_cells.specs.declared.cells.name.Name.{Name}
 use Rattle.epoch_heap.specs.declared.access.Ptr.{Ptr}
 use Rattle.epoch_heap.specs.declared.access.Spot.TheVariants.{Root, Field}
 use Rattle.epoch_heap.specs.Heap.{Cell, null, field_in, pointer_at}
 use Rattle.epoch_laws.specs.Run.{WorldSeat, State, seat_of, IsFresh}
-use Rattle.epoch_reach_laws.specs.Reach.{Leads, IsReachable, from_root, from_field, no_past, past_of, LeavesOnce, KeepsLoaded}
+use Rattle.epoch_reach_laws.specs.Reach.{Leads, IsReachable, from_root, from_field, no_past, past_of, LeavesOnce}
+use Rattle.epoch_reach_laws.specs.Reach.{KeepsLoaded}
 use Rattle.epoch_reach_laws.proofs.JobsAsDeferred.{fresh_jobs}
 use Rattle.epoch_reach_laws.proofs.ReachRuns.{every_run_keeps_reach}
 use Rattle.epoch_laws.proofs.Linked.{fresh_linked}
@@ -38,7 +39,9 @@ pub no_reach : (s : State) → IsFresh s → (n : Name) → ¬ (IsReachable s.he
 no_reach s fresh n (from_root i _ leads) = no_root s fresh i n leads
 no_reach s fresh n (from_field y f _ r leads) = no_reach s fresh y r
 
-new_sound : (world : State) (plans : AllPlans Phase) → IsNewQueue world plans → Sound queue structure no_past world plans
+-- a new queue holds what is to be kept
+new_sound : (world : State) (plans : AllPlans Phase) → IsNewQueue world plans
+    → Sound queue structure no_past world plans
 new_sound world plans new = record {
   ghost = [];
   shape = record {
@@ -62,10 +65,11 @@ new_sound world plans new = record {
   jobs = λ job there n e. absurd (((fresh_jobs world new.fresh).jobs job there).1.removed n e);
   ties = λ p. subst (λ (l : Plan Phase). Tied queue l (seat_of world p)) (sym (new.no_plans p))
       (inl (inl (ap (λ (st : WorldSeat). st.progress) (new.fresh.free p))));
-  stands = λ p. subst (λ (l : Plan Phase). StandsNow queue structure no_past world.heap [] (now_of queue l (seat_of world p)))
+  stands = λ p. subst
+      (λ (l : Plan Phase). StandsNow queue structure no_past world.heap [] (now_of queue l (seat_of world p)))
       (sym (new.no_plans p)) tt;
-  apart = λ p q n ne a b. absurd (subst (λ (l : Plan Phase). OwnsNow queue structure (now_of queue l (seat_of world p)) n)
-      (new.no_plans p) a);
+  apart = λ p q n ne a b. absurd (subst
+      (λ (l : Plan Phase). OwnsNow queue structure (now_of queue l (seat_of world p)) n) (new.no_plans p) a);
   left_out = λ n l. absurd l;
   left_given = λ n l. absurd l;
   seen = λ n r. absurd (no_reach world new.fresh n r);

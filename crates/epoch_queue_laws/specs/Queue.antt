@@ -1,5 +1,7 @@
--- The program of a queue after Michael and Scott: the head is root 0, the tail root 1, and the first node is no value's.
-use Rattle.std.specs.Prelude.{ℕ, zero, suc, ◌+◌, ◌*◌, List, Bool, false, Option, Some, None, if◌then◌else◌, ◌≡◌, [], ◌∷◌}
+-- The program of a queue after Michael and Scott: the head is root 0, the tail root 1, and the first node holds no
+-- value of the queue.
+use Rattle.std.specs.Prelude.{ℕ, zero, suc, ◌+◌, ◌*◌, List, Bool, false, Option, Some, None, if◌then◌else◌, ◌≡◌, []}
+use Rattle.std.specs.Prelude.{◌∷◌}
 use Rattle.epoch_cells.specs.declared.cells.name.Name.{Name}
 use Rattle.epoch_heap.specs.declared.access.Ptr.{Ptr}
 use Rattle.epoch_heap.specs.declared.access.Spot.{Spot}
@@ -11,8 +13,8 @@ use Rattle.epoch_heap.specs.declared.access.Answer.{Answer}
 use Rattle.epoch_heap.specs.declared.access.Answer.TheVariants.{Name as NameAnswer, Value, Pointer, Exchanged}
 use Rattle.epoch_heap.specs.Heap.{null, is_name}
 use Rattle.epoch_laws.specs.Run.{State, IsFresh}
-use Rattle.epoch_plans.specs.Plans.{Deed, Flushes, Touches, Defers, Answers, Program, ptr_to, AllPlans, NoPlan, PlanEvent}
-use Rattle.epoch_plans.specs.Plans.{PlanRuns}
+use Rattle.epoch_plans.specs.Plans.{Deed, Flushes, Touches, Defers, Answers, Program, ptr_to, AllPlans, NoPlan}
+use Rattle.epoch_plans.specs.Plans.{PlanEvent, PlanRuns}
 use Rattle.epoch_queue_laws.specs.declared.plan.Work.{Work}
 use Rattle.epoch_queue_laws.specs.declared.plan.Work.TheVariants.{Build, Push, Pop}
 use Rattle.epoch_queue_laws.specs.declared.plan.QueueAnswer.{QueueAnswer}
@@ -20,9 +22,10 @@ use Rattle.epoch_queue_laws.specs.declared.plan.QueueAnswer.TheVariants.{Built, 
 use Rattle.epoch_queue_laws.specs.declared.plan.QueueAnswer.TheVariants.{TriesOut, TriesOutLeaking, CellsFull, BagsFull}
 use Rattle.epoch_queue_laws.specs.declared.plan.Phase.{Phase}
 use Rattle.epoch_queue_laws.specs.declared.plan.Phase.TheVariants.{MakingRoom, Founding, Crowning, Seating, Placing}
-use Rattle.epoch_queue_laws.specs.declared.plan.Phase.TheVariants.{LoadingTail, LoadingLast, Appending, Swinging, Helping}
-use Rattle.epoch_queue_laws.specs.declared.plan.Phase.TheVariants.{TakingBack, LoadingHead, LoadingNext, Reading, Leaving}
-use Rattle.epoch_queue_laws.specs.declared.plan.Phase.TheVariants.{Taking, LookingBack, Advancing, Removing, Answering}
+use Rattle.epoch_queue_laws.specs.declared.plan.Phase.TheVariants.{LoadingTail, LoadingLast, Appending, Swinging}
+use Rattle.epoch_queue_laws.specs.declared.plan.Phase.TheVariants.{Helping, TakingBack, LoadingHead, LoadingNext}
+use Rattle.epoch_queue_laws.specs.declared.plan.Phase.TheVariants.{Reading, Leaving, Taking, LookingBack, Advancing}
+use Rattle.epoch_queue_laws.specs.declared.plan.Phase.TheVariants.{Removing, Answering}
 
 -- one more try, if one is left
 abbrev pub retry_push : Name → ℕ → Phase

@@ -17,7 +17,8 @@ pub fn every_queue_run_leaves_cells_once()
 pub fn every_queue_run_keeps_reach()
     ensures { (world world' : State) (plans plans' : AllPlans Phase) (log : QueueLog) → IsNewQueue world plans
         → (run : QueueRuns world plans log world' plans')
-        → KeepsLoaded (past_of world (world_log log) world' (run_of_world queue Starts world plans log world' plans' run)) }
+        → KeepsLoaded (past_of world (world_log log) world'
+        (run_of_world queue Starts world plans log world' plans' run)) }
 {}
 
 /// Each reply to a call that a phase makes lowers the number of calls left, whatever it is: so a call that begins in a

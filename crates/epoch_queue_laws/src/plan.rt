@@ -22,7 +22,7 @@ pub enum QueueAnswer {
     Pushed,
     /// The front's value, which was taken off.
     Popped(u64),
-    /// The front's value, which was taken off. The removal of its node was refused, so the node's cell isn't free again.
+    /// The front's value, which was taken off. The removal of its node was refused: the cell is never free again.
     PoppedLeaking(u64),
     /// There was no value to pop.
     Empty,
