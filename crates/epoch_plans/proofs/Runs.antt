@@ -68,7 +68,8 @@ module _ (S : Program) (T : Structure S) (Starts : S.Phase → Type 0) (obeys : 
       jobs = sound.jobs;
       ties = λ q. subst (λ (l : Plan S.Phase). Tied S l (seat_of world q)) (sym (same q)) (sound.ties q);
       stands = λ q. subst
-          (λ (l : Plan S.Phase). StandsNow S T past world.heap sound.ghost (now_of S l (seat_of world q))) (sym (same q)) (sound.stands q);
+          (λ (l : Plan S.Phase). StandsNow S T past world.heap sound.ghost (now_of S l (seat_of world q)))
+          (sym (same q)) (sound.stands q);
       apart = λ q r n ne a b. sound.apart q r n ne
           (subst (λ (l : Plan S.Phase). OwnsNow S T (now_of S l (seat_of world q)) n) (same q) a)
           (subst (λ (l : Plan S.Phase). OwnsNow S T (now_of S l (seat_of world r)) n) (same r) b);
@@ -128,7 +129,8 @@ module _ (S : Program) (T : Structure S) (Starts : S.Phase → Type 0) (obeys : 
 
   -- whole runs
   pub runs_leave : (past : Past) (world : State) (plans : AllPlans S.Phase)
-      (log : List (PlanEvent S.Phase S.Answer)) (world' : State) (plans' : AllPlans S.Phase) → (sound : Sound S T past world plans)
+      (log : List (PlanEvent S.Phase S.Answer)) (world' : State) (plans' : AllPlans S.Phase)
+      → (sound : Sound S T past world plans)
       → (run : PlanRuns S Starts world plans log world' plans')
       → LeavesFrom past world (world_log log) world' (run_of_world S Starts world plans log world' plans' run)
   runs_leave past world plans [] world' plans' sound run = tt

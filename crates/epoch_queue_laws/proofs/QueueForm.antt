@@ -162,9 +162,11 @@ module _ (h : Heap) (xs : List Name) (form : Form h xs) (n q : Name) (to_next : 
               rooted = written_there h (Root 0) (at (Some n)) (at (Some q)) is_head;
               last = form.last;
               tailed = pointer_other h (Root 0) (at (Some q)) (Root 1) (λ e. cc (e)) ∙ form.tailed;
-              two = λ i x leads. form.two i x
-                  (leads.0, sym (pointer_other h (Root 0) (at (Some q)) (Root (suc (suc i))) (λ e. cc (e))) ∙ leads.1,
-                  leads.2);
+              two = λ i x leads. form.two i x (
+                leads.0,
+                sym (pointer_other h (Root 0) (at (Some q)) (Root (suc (suc i))) (λ e. cc (e))) ∙ leads.1,
+                leads.2,
+              );
               single = λ y f x leads. form.single y f x (leads.0, sym (kept y (suc f)) ∙ leads.1, leads.2);
               chain = chain_kept h (took h q) (Some q) ms (λ y w there to. kept y 0 ∙ to)
                   (subst (λ (o : Option Name). Chain h o ms) next_is rest);
@@ -222,8 +224,10 @@ module _ (h : Heap) (xs : List Name) (form : Form h xs) (t q : Name)
     single = λ y f x leads. form.single y f x (leads.0, sym (swing_kept y (suc f)) ∙ leads.1, leads.2);
     chain = chain_kept h (swung h q) form.head xs (λ y w there to. swing_kept y 0 ∙ to) form.chain;
     near = λ s e. let same : q ≡ s = cc (e) in
-        inl (subst (λ k. In k xs) same swing_to.0,
-        subst (λ k. Next (swung h q) k None) same (swing_kept q 0 ∙ swing_to.1));
+        inl (
+          subst (λ k. In k xs) same swing_to.0,
+          subst (λ k. Next (swung h q) k None) same (swing_kept q 0 ∙ swing_to.1),
+        );
     bare = λ e. absurd (cc (e));
   }
 
@@ -303,9 +307,11 @@ module _ (h : Heap) (xs : List Name) (form : Form h xs) (t n : Name) (there : In
     rooted = pointer_other h (Field t 0) (at (Some n)) (Root 0) (λ e. cc (e)) ∙ form.rooted;
     last = Some t;
     tailed = pointer_other h (Field t 0) (at (Some n)) (Root 1) (λ e. cc (e)) ∙ is_tail;
-    two = λ i x leads. form.two i x
-        (leads.0, sym (pointer_other h (Field t 0) (at (Some n)) (Root (suc (suc i))) (λ e. cc (e))) ∙ leads.1,
-        leads.2);
+    two = λ i x leads. form.two i x (
+      leads.0,
+      sym (pointer_other h (Field t 0) (at (Some n)) (Root (suc (suc i))) (λ e. cc (e))) ∙ leads.1,
+      leads.2,
+    );
     single = λ y f x leads. form.single y f x
         (leads.0, sym (pointer_other h (Field t 0) (at (Some n)) (Field y (suc f)) (λ e. cc (e))) ∙ leads.1, leads.2);
     chain = more form.head xs form.chain there fresh;

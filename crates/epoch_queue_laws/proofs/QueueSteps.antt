@@ -151,8 +151,9 @@ module _ (past : Past) (h : Heap) (xs : List Name) (settled : Settled past h) (s
         let same : other ≡ ptr = cc (there, e) in same ∙ (λ i. record { name = name i; tag = shape.plain t ptr r e i }),
   )
 
-  pub load_tail : (g : ℕ) (n : Name) (k j : ℕ) (found : Ptr) (did : Touched) (o : Option Ptr) → pointer_at h (Root 1) ≡ o
-      → ChangesAt Load j found (Root 1) h o did → Mine past h n → Does g (LoadingTail n k) did
+  pub load_tail : (g : ℕ) (n : Name) (k j : ℕ) (found : Ptr) (did : Touched) (o : Option Ptr)
+      → pointer_at h (Root 1) ≡ o → ChangesAt Load j found (Root 1) h o did → Mine past h n
+      → Does g (LoadingTail n k) did
   load_tail g n k j found did None e is s =
       subst (Does g (LoadingTail n k)) (sym is) (λ given. weak_here _ _ (refused g (LoadingTail n k) CellsFull) s)
   load_tail g n k j found did (Some ptr) e is s =
