@@ -35,6 +35,7 @@ same_in d c t f turn value = at_test (has d t) (has c t) same
     at_test true false h = absurd (cc (h))
     at_test false true h = absurd (cc (h))
 
+-- a cell of the same turn and value is written: as for who reads it
 calm_rewritten : (left : Name → Type 0) (h : Heap) (n : Name) (c d : Cell) → cell_at h n ≡ Some c → d.turn ≡ c.turn
     → d.value ≡ c.value → StaysGiven h (with_cell_at h n d) → Calm left h (with_cell_at h n d)
 calm_rewritten left h n c d at turn value given = record {
@@ -62,6 +63,7 @@ calm_rewritten left h n c d at turn value given = record {
   given = given;
 }
 
+-- a value with null fields is written into a cell that was free, under a name that was not given before
 calm_placed : (left : Name → Type 0) (h : Heap) (v : ℕ) (n : Name) (c : Cell) → slice_get h.cells (n.slot - 1) ≡ Some c
     → c.value ≡ None → ¬ (IsGiven h n)
     → StaysGiven h (with_cell_at h n (filled n.turn 0 (record { value = v; fields = nulls 16 })))
@@ -107,6 +109,7 @@ calm_placed left h v n c at free fresh given = record {
             fresh (subst (IsGiven h) (name_same m n (omega (arith, slot, m.some, n.some)) turn) g)
         at_test false test there = cc (there)
 
+-- a call that changes no pointer and no value that stands
 abbrev pub IsCalm : Access → Type 0
 IsCalm (Place v) = Unit {0}
 IsCalm (Read g ptr) = Unit {0}
@@ -121,6 +124,7 @@ module _ (left : Name → Type 0) (h : Heap) where
   same : (did : Touched) → did.heap ≡ h → Goal did
   same did e given = calm_same left h did.heap e
 
+  -- a cell that is placed was free, so nothing that stood is another
   place : (v j : ℕ) (found : Ptr) (did : Touched) (o : Option Cell) → slice_get h.cells j ≡ o → Places v j found h o did
       → Goal did
   place v j found did None at e = subst Goal (sym e) (λ given. calm_same left h h refl)
@@ -152,6 +156,7 @@ module _ (left : Name → Type 0) (h : Heap) where
   load j found spot did None e = subst Goal (sym e) (λ given. calm_same left h h refl)
   load j found spot did (Some ptr) e = subst Goal (sym e) (λ given. calm_same left h h refl)
 
+  -- each step of such a call changes nothing that stands
   pub calm_call : (a : Access) (j : ℕ) (found : Ptr) (did : Touched) → IsCalm a → Touches a j found h did → Goal did
   calm_call (Place v) j found did ok e = place v j found did (slice_get h.cells j) refl e
   calm_call (Read g ptr) j found did ok e = named _ did ptr.name

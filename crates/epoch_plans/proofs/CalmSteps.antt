@@ -52,6 +52,7 @@ calm_removed left h n (Some c) l e given fewer = by_test (c.readers == 0) given 
       given = given;
     }
 
+-- the call of a job whose name has left
 calm_job : (left : Name → Type 0) (h : Heap) (job : Option Name) → ((x : Name) → job ≡ Some x → left x)
     → Calm left h (heap_after_job h job)
 calm_job left h None l = calm_same left h h refl
@@ -78,6 +79,7 @@ calm_step left old new step reply jobs go no_now no_access (inr (inr (inr access
 
 -- JOBS
 
+-- a job that is kept removes the name of the deferral under way
 new_job : (old : State) (x : Entry) (who : ℕ) (progress : Progress) (n : Name) → x.step ≡ Go who
     → x.reply ≡ Deferred old.tickets → (seat_of old who).progress ≡ progress → removed_by progress ≡ Some n
     → DefersRemoval old x old.tickets n

@@ -18,6 +18,7 @@ use Rattle.epoch_reach_laws.proofs.PointerSteps.{set_or_kept}
 use Rattle.epoch_heap.proofs.FoundCells.{found_cell}
 use Rattle.epoch_plans.proofs.Custody.{same_number}
 
+-- names are compared by slot and turn
 pub same_name : (n m : Name) → (n ≡ m) ⊎ (n ≢ m)
 same_name n m = elim (same_number n.slot m.slot) [
   | inr ne ↦ inr (λ e. ne (ap (λ (k : Name). k.slot) e))
@@ -65,6 +66,7 @@ cell_there h m x y v at turn value =
     ap (if_has m.turn) (get_set_same h.cells (m.slot - 1) y (slice_get_within h.cells (m.slot - 1) x at))
     ∙ if_own y m.turn (has_own y m.turn v turn value)
 
+-- a cell that is written again under its name is found there
 pub cell_filled : (h : Heap) (m : Name) (x y : Cell) (v : Content) → cell_at h m ≡ Some x → y.turn ≡ x.turn
     → y.value ≡ Some v → cell_at (with_cell_at h m y) m ≡ Some y
 cell_filled h m x y v at turn value =
@@ -84,6 +86,7 @@ back_written h n cell m f ptr was e = elim (set_or_kept h.cells (n.slot - 1) cel
       ∙ was m.turn ptr (ap (λ (c : Option Cell). field_in (if_has m.turn c) f) (sym new.1) ∙ e)
 ]
 
+-- no pointer is found in an empty cell, whatever turn is asked for
 pub none_at : (next turn f : ℕ) (ptr : Ptr) → field_in (if_has turn (Some (empty next))) f ≢ Some ptr
 none_at next turn f ptr e = at_test (next == turn) e
   where
@@ -103,10 +106,12 @@ field_found (Some c) f ptr e = by_value c.value refl e
     by_value None is h = absurd (cc (h))
     by_value (Some content) is h = (c, content, refl, is)
 
+-- where a pointer is found, a cell with a value stands
 pub content_found : (h : Heap) (n : Name) (f : ℕ) (ptr : Ptr) → pointer_at h (Field n f) ≡ Some ptr
     → (c : Cell) × (content : Content) × (cell_at h n ≡ Some c) × (c.value ≡ Some content)
 content_found h n f ptr e = field_found (cell_at h n) f ptr e
 
+-- a pointer that is written where one stood is found there
 pub written_there : (h : Heap) (spot : Spot) (ptr q : Ptr) → pointer_at h spot ≡ Some ptr
     → pointer_at (with_pointer h spot q) spot ≡ Some q
 written_there h (Root i) ptr q e = get_set_same h.roots i q (slice_get_within h.roots i ptr e)

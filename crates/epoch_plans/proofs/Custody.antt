@@ -64,6 +64,8 @@ IsBegun (DeferDestroy g ptr) seat =
     × IsDeferring seat.machine.stage seat.machine.full
 IsBegun _ seat = ⊥
 
+-- a participant's plan and its seat say the same: with no plan no call on cells is under way; before a phase's call
+-- the seat is idle; and then it is in that call
 abbrev pub Tied : (S : Program) → Plan S.Phase → WorldSeat → Type 0
 Tied S NoPlan seat = IsLoose seat ⊎ IsUnguarded seat
 Tied S (Under g phase false) seat = seat.progress ≡ Idle
@@ -80,11 +82,13 @@ abbrev pub now_driven : (S : Program) → ℕ → S.Phase → WorldSeat → Call
 now_driven S g phase seat (DeferDestroy h ptr) s = now_deferring S g phase seat (DeferDestroy h ptr) s
 now_driven S g phase seat c s = phase
 
+-- the phase that counts: once a call has its reply, the one that follows
 abbrev pub now_under : (S : Program) → ℕ → S.Phase → WorldSeat → Progress → S.Phase
 now_under S g phase seat (Ends r) = after_by phase (S.deed g phase) r
 now_under S g phase seat (Driven c) = now_driven S g phase seat c seat.machine.stage
 now_under S g phase seat _ = phase
 
+-- and none where there is no plan
 abbrev pub now_of : (S : Program) → Plan S.Phase → WorldSeat → Option S.Phase
 now_of S NoPlan seat = None
 now_of S (Under g phase false) seat = Some phase
@@ -132,6 +136,7 @@ calm_same left h h' e =
 abbrev pub AllLeft : (Name → Type 0) → State → Type 0
 AllLeft left s = (job : Deferral) → IsInBag s job → (x : Name) → job.removes ≡ Some x → left x
 
+-- what a structure says of itself
 pub record Structure (S : Program) : Type 1 where
   pub Ghost : Type 0  -- what is abstract of it, as a list of nodes
   pub Shape : Past → Heap → Ghost → Type 0  -- how it stands in the cells
@@ -170,6 +175,7 @@ module _ (S : Program) (T : Structure S) where
         → ((n : Name) → T.Owns phase n → ¬ (OwnsNow before n)) → T.Stands past h ghost phase
         → T.Stands past' h' ghost' phase
 
+  -- what holds between any two steps of a run
   pub record Sound (past : Past) (s : State) (plans : AllPlans S.Phase) : Type 1 where
     pub ghost : T.Ghost
     pub shape : T.Shape past s.heap ghost

@@ -96,11 +96,13 @@ module _ (S : Program) (T : Structure S) (Starts : S.Phase → Type 0) (obeys : 
   not_now : (who : ℕ) (removes : Option Name) → (seat_of old who).progress ≡ CallsNow removes → removes ≡ None
   not_now who removes = tied_not_now S (plans who) (seat_of old who) (sound.ties who) removes
 
+  -- where no call on cells goes on, nothing changes but cells that have left, readings and free cells
   calm : NoAccess → Calm past.left old.heap new.heap
   calm none =
       calm_step past.left old aside x.step x.reply sound.jobs go (λ who removes on. not_now who removes) none
       (heap_goes old aside x.step x.reply x.step refl did.0)
 
+  -- such a step takes no cell out, removes none at once and changes no field
   harmless_plain : NoAccess → IsHarmless S T past old x new
   harmless_plain none = record {
     no_takes = λ n t. none t.who (TakeAccess t.guard t.pointer) t.steps t.found t.step t.progress;
@@ -115,6 +117,7 @@ module _ (S : Program) (T : Structure S) (Starts : S.Phase → Type 0) (obeys : 
   abbrev ActsNow : Option S.Phase → Option S.Phase → Type 1
   ActsNow b t = Acts S T past old.heap new.heap sound.ghost b t
 
+  -- what the actor's step shows is enough: cells leave rightly, and all stays as it should
   finish : (p : ℕ) (b t : Option S.Phase) → now S old plans p ≡ b → now S new plans' p ≡ t → Others p
       → Tied S (plans' p) (seat_of new p) → IsHarmless S T past old x new
       → (acts : ActsNow b t) → ((k : ℕ) (n : Name) → DefersRemoval old x k n → acts.gone ≡ Some n) → Kept
@@ -155,6 +158,7 @@ module _ (S : Program) (T : Structure S) (Starts : S.Phase → Type 0) (obeys : 
     calm_now None off s = tt
     calm_now (Some phase) off s = calmly.1 phase off s
 
+  -- a step of no call on cells, after which the actor knows no more than before
   weaken : NoAccess → (b t : Option S.Phase) → WeakerNow b t → StandsNow S T past old.heap sound.ghost b → ActsNow b t
   weaken none b t weak stands = record {
     ghost' = sound.ghost;
@@ -194,6 +198,7 @@ module _ (S : Program) (T : Structure S) (Starts : S.Phase → Type 0) (obeys : 
       (subst (λ (st : WorldSeat). Tied S (plans' 0) st) (sym (seats 0))
       (subst (λ (plan : Plan S.Phase). Tied S plan (seat_of old 0)) (sym (same 0)) (sound.ties 0))) never
 
+  -- the step taken is the one that the world says
   goes_by : (p : ℕ) → x.step ≡ WorldGo p → Moves old (WorldGo p) x.reply aside
   goes_by p on = subst (λ s. Moves old s x.reply aside) on did.0
 
@@ -548,6 +553,7 @@ module _ (S : Program) (T : Structure S) (Starts : S.Phase → Type 0) (obeys : 
   none_other : ((q : ℕ) → x.step ≢ WorldGo q) → NoAccess
   none_other never actor a k found on going = never actor on
 
+  -- a step that is no Go defers no removal
   other_defers_not : ((q : ℕ) → x.step ≢ WorldGo q) → (k : ℕ) (n : Name) → ¬ (DefersRemoval old x k n)
   other_defers_not never k n d = never d.who d.step
 
@@ -630,6 +636,7 @@ module _ (S : Program) (T : Structure S) (Starts : S.Phase → Type 0) (obeys : 
   begun_free (DeferDestroy g ptr) st free t loose = absurd (t.0 free)
   begun_free _ st free t loose = absurd t
 
+  -- a free position has no call under way, so a registration changes nothing for its plan
   free_shown : (plan : Plan S.Phase) (st : WorldSeat) → st.word ≡ Free → Tied S plan st
       → (now_of S plan (registered old) ≡ now_of S plan st) × Tied S plan (registered old)
   free_shown NoPlan st free t = (refl, inl (inl refl))

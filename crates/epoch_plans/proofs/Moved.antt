@@ -63,11 +63,11 @@ pub data Deferring (old new : State) (reply : Reply) (p : ℕ) (c : Call) (s : S
       → Deferring old new reply p c s
   at_put : (seal : ℕ) (step : PutStep) (queued : List Bag) → s ≡ Put seal → reply ≡ Stepped
       → new ≡ record (with_seat old p (with_machine (seat_of old p) (put_heard (seat_of old p).machine step)))
-          { queued = queued }
+      { queued = queued }
       → Deferring old new reply p c s
   at_keep : (job : Deferral) → s ≡ Keep → reply ≡ Deferred old.tickets
       → new ≡ record (with_seat old p (with_machine (seat_of old p) (hears (seat_of old p).machine Keep (Job job))))
-          { tickets = old.tickets + 1 }
+      { tickets = old.tickets + 1 }
       → Deferring old new reply p c s
   at_end : s ≡ End → reply ≡ end_reply c (seat_of old p) → new ≡ with_seat old p (ended_seat c (seat_of old p))
       → Deferring old new reply p c s
@@ -100,6 +100,7 @@ pub data Registering (old new : State) : Type 0 where
       → Registering old new
   changes_none : new ≡ old → Registering old new
 
+-- whichever way a registration goes
 pub registering : (old new : State) (reply : Reply) → Moves old Register reply new → Registering old new
 registering old new reply (inl did) = takes_place did.0 did.2 did.3 did.6
 registering old new reply (inr (inl did)) = changes_none did.3
@@ -118,6 +119,7 @@ pub record Alone (old new : State) (p : ℕ) (seat : WorldSeat) : Type 0 where
   pub own : seat_of new p ≡ seat
   pub others : (q : ℕ) → q ≢ p → seat_of new q ≡ seat_of old q
 
+-- one seat is written, and the others stay
 pub alone : (old new last : State) (p : ℕ) (seat : WorldSeat)
     → p < length old.seats → new ≡ last → last.sizes ≡ old.sizes
     → last.seats ≡ slice_set old.seats p seat → Alone old new p seat
@@ -146,6 +148,7 @@ end_unmoved old new reply (inl did) = unmoved old new _ did.3 refl refl
 end_unmoved old new reply (inr (inl did)) = unmoved old new old did.3 refl refl
 end_unmoved old new reply (inr (inr did)) = unmoved old new old did.2 refl refl
 
+-- and so is it with each step of an end under way
 pub ending_unmoved : (old new : State) (reply : Reply) (e : Ending) → EndGoes old e reply new → (q : ℕ)
     → seat_of new q ≡ seat_of old q
 ending_unmoved old new reply Open did = unmoved old new old did.1 refl refl
@@ -239,6 +242,7 @@ module _ (old new : State) (reply : Reply) (p : ℕ) where
       drives taken c driven plain (seat_of old p).machine.stage
       (subst (λ (progress : Progress). DoesGo old p (seat_of old p) progress reply new) driven did.1)
 
+  -- a step of a call under an unprotected guard
   unguarded : (after : Progress) (last : State) → position_word old p ≢ Free
       → IsLoose (record seat { progress = after }) ⊎ IsUnguarded (record seat { progress = after })
       → new ≡ last → last.sizes ≡ old.sizes

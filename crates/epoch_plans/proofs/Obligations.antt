@@ -77,8 +77,9 @@ pub record Obeys (S : Program) (T : Structure S) (Starts : S.Phase → Type 0) :
       × ((past : Past) (h : Heap) (ghost : T.Ghost) → T.Shape past h ghost → T.Stands past h ghost phase)
   -- A call that answers owns nothing.
   pub answers : (g : ℕ) (phase : S.Phase) → IsOver (S.deed g phase) → (n : Name) → ¬ (T.Owns phase n)
-  -- After a refusal, and after a flush, a phase knows and owns no more than before.
+  -- After a refusal a phase knows and owns no more than before.
   pub refused : (g : ℕ) (phase : S.Phase) (f : Fault) → Weaker S T phase (after_by phase (S.deed g phase) (Refused f))
+  -- Nor does it after a flush.
   pub flushed : (g : ℕ) (phase : S.Phase) (r : Reply) → IsFlush (S.deed g phase)
       → Weaker S T phase (after_by phase (S.deed g phase) r)
   -- A removal is deferred by the one phase that owns the name, once it is out of reach, and so only once.

@@ -34,6 +34,7 @@ use Rattle.epoch_plans.proofs.Moved.{is_end}
 
 -- REACH
 
+-- where no pointer is new, nothing comes into reach
 pub fewer_reach : (old new : Heap) → Fewer old new → (n : Name) → IsReachable new n → IsReachable old n
 fewer_reach old new fewer n (from_root i _ leads) = from_root i n (fewer (Root i) n leads)
 fewer_reach old new fewer n (from_field y f _ r leads) =
@@ -60,6 +61,7 @@ plain_begun Release seat plain taken = inl (inr (_, refl, tt, taken))
 plain_begun (DeferDestroy g ptr) seat plain taken = absurd plain
 plain_begun (AccessCall a) seat plain taken = absurd plain
 
+-- the reply that ends a call is not that of a job kept
 pub end_not_deferred : (c : Call) (seat : WorldSeat) (t : ℕ) → end_reply c seat ≢ Deferred t
 end_not_deferred c seat t e = (quiet_end (end_reply c seat) c seat refl).plain.deferred t e
 
@@ -119,6 +121,7 @@ module _ (S : Program) where
   deferring_first true = refl
   deferring_first false = refl
 
+  -- once its call has begun, the seat is in it
   pub begun_tied : (g : ℕ) (d : Deed S.Phase S.Answer) (seat : WorldSeat) → ¬ (IsOver d) → IsFit d → seat.word ≢ Free
       → IsBegun (call_by g d) (begun_seat (call_by g d) seat)
   begun_tied g (Flushes done refused) seat call fit taken = inr (Flush (Some g), refl, tt, taken)
@@ -154,12 +157,14 @@ module _ (S : Program) where
   plain_now g phase seat (DeferDestroy h ptr) s plain = absurd plain
   plain_now g phase seat _ s plain = refl
 
+  -- a seat in no call on cells is at the phase itself
   pub loose_now : (g : ℕ) (phase : S.Phase) (seat : WorldSeat) → IsLoose seat
       → now_under S g phase seat seat.progress ≡ phase
   loose_now g phase seat (inl idle) = ap (now_under S g phase seat) idle
   loose_now g phase seat (inr (c, driven, plain, taken)) =
       ap (now_under S g phase seat) driven ∙ plain_now g phase seat c seat.machine.stage plain
 
+  -- a flush goes on, or is over
   pub room_tied : (g : ℕ) (phase done failed : S.Phase) (r : Reply) (seat : WorldSeat)
       → S.deed g phase ≡ Flushes done failed → IsLoose seat → (is_end r ≡ true → seat.progress ≡ Idle)
       → Tied S (plan_gone g phase (S.deed g phase) r) seat
@@ -179,6 +184,7 @@ module _ (S : Program) where
   gone_now g phase a next failed j NoSlot seat is =
       ap (λ (d : Deed S.Phase S.Answer). Some (after_by phase d (access_reply NoSlot))) is
 
+  -- and the seat is in that call still, or idle
   pub gone_tied : (g : ℕ) (phase : S.Phase) (a : Access) (next : Answer → S.Phase) (failed : S.Phase) (j : ℕ)
       (told : Accessed) (seat : WorldSeat) → S.deed g phase ≡ Touches a next failed → seat.word ≢ Free
       → Tied S (plan_gone g phase (S.deed g phase) (access_reply told)) (accessed_seat a j told seat)

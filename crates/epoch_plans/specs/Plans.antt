@@ -72,6 +72,7 @@ abbrev pub IsOver : {P A : Type 0} → Deed P A → Type 0
 IsOver (Answers a) = Unit {0}
 IsOver _ = ⊥
 
+-- neither takes a value out of its cell nor overwrites one
 abbrev pub TakesNone : Access → Type 0
 TakesNone (Take g ptr) = ⊥
 TakesNone (Write g ptr v) = ⊥
@@ -161,6 +162,7 @@ pub data Follows (S : Program) (Starts : S.Phase → Type 0) (world : State) (ol
 
 -- WHOLE RUNS
 
+-- the step of the world that was taken, if one was
 abbrev pub made_at : {P A : Type 0} → PlanEvent P A → Option Entry
 made_at (Makes entry) = Some entry
 made_at _ = None

@@ -18,10 +18,12 @@ use Rattle.epoch_queue_laws.specs.Queue.{read, taken, names, looked_back, calls_
 
 -- A TRY MORE
 
+-- a push that tries again has used up a try, or takes its node back
 push_fewer : (n : Name) (k : ℕ) → calls_left (retry_push n k) < 3 * k + 2
 push_fewer n zero = omega arith
 push_fewer n (suc k) = omega arith
 
+-- a pop that tries again has used up a try, or answers
 pop_fewer : (k : ℕ) → calls_left (retry_pop k) < 5 * k + 4
 pop_fewer zero = omega arith
 pop_fewer (suc k) = omega arith

@@ -10,6 +10,7 @@ use Rattle.epoch_reach_laws.specs.Reach.{Leads, IsReachable, from_root, from_fie
 use Rattle.epoch_reach_laws.proofs.PointerSteps.{pointer_other}
 use Rattle.epoch_plans.proofs.Cells.{same_name, written_there}
 
+-- the name is one of these
 abbrev pub In : Name → List Name → Type 0
 In n [] = ⊥
 In n (m ∷ ms) = (n ≡ m) ⊎ In n ms
@@ -21,6 +22,7 @@ at o = record { name = o; tag = 0 }
 pub at_same : (a b : Option Name) → Some (at a) ≡ Some (at b) → a ≡ b
 at_same a b e = let same : at a ≡ at b = cc (e) in ap (λ (q : Ptr). q.name) same
 
+-- the field of the node holds this, untagged
 abbrev pub Next : Heap → Name → Option Name → Type 0
 Next h n o = pointer_at h (Field n 0) ≡ Some (at o)
 
@@ -32,12 +34,14 @@ abbrev pub Chain : Heap → Option Name → List Name → Type 0
 Chain h o [] = o ≡ None
 Chain h o (n ∷ ns) = (next : Option Name) × (o ≡ Some n) × Next h n next × (¬ (In n ns)) × Chain h next ns
 
+-- a chain stays where the fields of its nodes do
 pub chain_kept : (h h' : Heap) (o : Option Name) (ns : List Name)
     → ((n : Name) (next : Option Name) → In n ns → Next h n next → Next h' n next) → Chain h o ns → Chain h' o ns
 chain_kept h h' o [] keep chain = chain
 chain_kept h h' o (n ∷ ns) keep (next, name, to, apart, rest) =
     (next, name, keep n next (inl refl) to, apart, chain_kept h h' next ns (λ m w there. keep m w (inr there)) rest)
 
+-- each node of a chain has a pointer to the next, or null
 pub next_in : (h : Heap) (o : Option Name) (ns : List Name) (n : Name) → Chain h o ns → In n ns
     → (next : Option Name) × Next h n next
 next_in h o [] n chain there = absurd there
@@ -65,6 +69,7 @@ none_follow h (n ∷ ns) chain = absurd (cc (chain.1))
 abbrev pub IsNear : Heap → List Name → Name → Type 0
 IsNear h xs t = (In t xs × Next h t None) ⊎ ((m : Name) × Next h t (Some m) × Next h m None × In m xs)
 
+-- how the queue stands in the cells, with these nodes from the head on
 pub record Form (h : Heap) (xs : List Name) : Type 0 where
   pub head : Option Name
   pub rooted : pointer_at h (Root 0) ≡ Some (at head)
@@ -78,6 +83,7 @@ pub record Form (h : Heap) (xs : List Name) : Type 0 where
 
 -- REACH
 
+-- what an untagged pointer leads to is its name
 led : (h : Heap) (spot : Spot) (o : Option Name) (x : Name) → pointer_at h spot ≡ Some (at o) → Leads h spot x
     → o ≡ Some x
 led h spot o x e (ptr, entry, name) =
@@ -86,6 +92,7 @@ led h spot o x e (ptr, entry, name) =
 pub tail_reached : (h : Heap) (xs : List Name) (form : Form h xs) (t : Name) → form.last ≡ Some t → IsReachable h t
 tail_reached h xs form t e = from_root 1 t (at form.last, form.tailed, e)
 
+-- each node of a chain is in reach where its first one is
 chain_reached : (h : Heap) (o : Option Name) (ns : List Name) → ((x : Name) → o ≡ Some x → IsReachable h x)
     → Chain h o ns → (n : Name) → In n ns → IsReachable h n
 chain_reached h o [] reach chain n there = absurd there
@@ -140,6 +147,7 @@ module _ (h : Heap) (xs : List Name) (form : Form h xs) (n q : Name) (to_next : 
   kept : (m : Name) (f : ℕ) → pointer_at (took h q) (Field m f) ≡ pointer_at h (Field m f)
   kept m f = pointer_other h (Root 0) (at (Some q)) (Field m f) (λ e. cc (e))
 
+  -- the head is brought on to its next: its node is off, and the others stay
   pub take_form : (ys : List Name) × (xs ≡ n ∷ ys) × (¬ (In n ys)) × Form (took h q) ys
   take_form = by_names xs refl form.chain
     where
@@ -202,6 +210,7 @@ module _ (h : Heap) (xs : List Name) (form : Form h xs) (t q : Name)
   swing_kept : (m : Name) (f : ℕ) → pointer_at (swung h q) (Field m f) ≡ pointer_at h (Field m f)
   swing_kept m f = pointer_other h (Root 1) (at (Some q)) (Field m f) (λ e. cc (e))
 
+  -- what follows the tail is the last node
   pub swing_to : In q xs × Next h q None
   swing_to = elim (form.near t (at_same form.last (Some t) (sym form.tailed ∙ is_tail))) [
     | inl there ↦ absurd (let both : at None ≡ at (Some q) = to_next (at None) there.1 in
@@ -213,6 +222,7 @@ module _ (h : Heap) (xs : List Name) (form : Form h xs) (t q : Name)
         (subst (λ k. In k xs) same lags.3, subst (λ k. Next h k None) same lags.2)
   ]
 
+  -- the tail is brought on to it
   pub swing_form : Form (swung h q) xs
   swing_form = record {
     head = form.head;
@@ -251,6 +261,7 @@ module _ (h : Heap) (xs : List Name) (form : Form h xs) (t n : Name) (there : In
   pub own : Next (appended h t n) n None
   own = other_field n (λ e. fresh (subst (λ k. In k xs) (sym e) there)) ∙ mine
 
+  -- the chain with the new node at its end
   more : (o : Option Name) (ns : List Name) → Chain h o ns → In t ns → ¬ (In n ns)
       → Chain (appended h t n) o (ns ++ n ∷ [])
   more o [] chain at_t out = absurd at_t
@@ -301,6 +312,7 @@ module _ (h : Heap) (xs : List Name) (form : Form h xs) (t n : Name) (there : In
   in_either x (m ∷ ms) (inl e) = inl (inl e)
   in_either x (m ∷ ms) (inr is) = elim (in_either x ms is) [ inl was ↦ inl (inr was) | inr new ↦ inr new ]
 
+  -- a node is put behind the last one, and the tail lags by it
   pub append_form : Form (appended h t n) (xs ++ n ∷ [])
   append_form = record {
     head = form.head;

@@ -31,6 +31,7 @@ use Rattle.epoch_plans.proofs.Calls.{calm_pointer}
 use Rattle.epoch_queue_laws.proofs.QueueForm.{In, at, at_same, Next, next_same, chain_kept, next_in, Form, tail_reached}
 use Rattle.epoch_queue_laws.proofs.QueueForm.{in_reach, reached_in}
 
+-- what holds of the queue between any two steps, with what has happened so far
 pub record Shape (past : Past) (h : Heap) (xs : List Name) : Type 0 where
   pub form : Form h xs
   pub known : (n : Name) → In n xs → past.reached n × (¬ (past.left n))
@@ -59,6 +60,7 @@ Off past h xs n = past.reached n × (¬ (In n xs)) × (¬ (past.left n)) × IsGi
 abbrev pub AtHead : Past → Heap → List Name → Name → Type 0
 AtHead past h xs n = past.reached n × (pointer_at h (Root 1) ≡ Some (at None) → In n xs)
 
+-- what is known in each phase
 abbrev pub Stands : Past → Heap → List Name → Phase → Type 0
 Stands past h xs (Crowning n) = Mine past h n
 Stands past h xs (Seating n) = AtHead past h xs n
@@ -77,6 +79,7 @@ Stands past h xs (Advancing n q v) = Off past h xs n × Linked past h n q
 Stands past h xs (Removing n v) = Off past h xs n × (pointer_at h (Root 1) ≢ Some (at (Some n)))
 Stands past h xs _ = Unit {0}
 
+-- each phase owns its own node, or the one that it took off
 abbrev pub Owns : Phase → Name → Type 0
 Owns (Crowning n) x = x ≡ n
 Owns (LoadingTail n k) x = x ≡ n
@@ -110,6 +113,7 @@ off_given : (past : Past) (h : Heap) (xs : List Name) (n x : Name) → x ≡ n �
     → (¬ (past.left x)) × IsGiven h x
 off_given past h xs n x e off = subst (λ k. (¬ (past.left k)) × IsGiven h k) (sym e) (off.2, off.3)
 
+-- what a phase owns was given and has not left
 owned : (past : Past) (h : Heap) (xs : List Name) (phase : Phase) (x : Name)
     → Stands past h xs phase → Owns phase x → (¬ (past.left x)) × IsGiven h x
 owned past h xs (Crowning n) x s e = mine_given past h n x e s
@@ -123,6 +127,7 @@ owned past h xs (Advancing n q v) x s e = off_given past h xs n x e s.0
 owned past h xs (Removing n v) x s e = off_given past h xs n x e s.0
 owned past h xs _ x s e = absurd e
 
+-- no phase owns a node that is in the queue
 unshared : (past : Past) (h : Heap) (xs : List Name) (x : Name) → Shape past h xs → In x xs → (phase : Phase)
     → Stands past h xs phase → ¬ (Owns phase x)
 unshared past h xs x shape there (Crowning n) s e = s.0 (subst (λ k. past.reached k) e (shape.known x there).0)
@@ -167,6 +172,7 @@ module _ (past past' : Past) (h h' : Heap) (xs xs' : List Name) (hit gone : Opti
   tag_of : (ptr : Ptr) (n : Name) (o : Option Name) → pointer_at h' (Field n 0) ≡ Some ptr → Next h' n o → ptr.tag ≡ 0
   tag_of ptr n o e to = let same : ptr ≡ at o = cc (e, to) in ap (λ (q : Ptr). q.tag) same
 
+  -- an own node stays the caller's, unless this step puts it into the queue or defers its removal
   mine_kept : (n : Name) → hit ≢ Some n → gone ≢ Some n → Mine past h n → Mine past' h' n
   mine_kept n off stays m = (
     λ r. elim (passed.reached n r) [
@@ -177,6 +183,7 @@ module _ (past past' : Past) (h h' : Heap) (xs xs' : List Name) (hit gone : Opti
     turn.own n m.0 m.1 off m.2,
   )
 
+  -- a node that has a next keeps it
   linked_kept : (t q : Name) → Linked past h t q → Linked past' h' t q
   linked_kept t q l = (
     passed.more t l.0,
@@ -186,12 +193,14 @@ module _ (past past' : Past) (h h' : Heap) (xs xs' : List Name) (hit gone : Opti
     ],
   )
 
+  -- a node without a next stays the tail
   tail_kept : (t : Name) → AtTail past h t → AtTail past' h' t
   tail_kept t a = (
     passed.more t a.0,
     λ none. turn.at_tail t a.0 none (a.1 (elim (turn.back t a.0 (at None) none) [ inl was ↦ was | inr was ↦ was.0 ])),
   )
 
+  -- what was taken off stays off
   off_kept : (n : Name) → gone ≢ Some n → Off past h xs n → Off past' h' xs' n
   off_kept n stays o = (
     passed.more n o.0,
@@ -200,6 +209,7 @@ module _ (past past' : Past) (h h' : Heap) (xs xs' : List Name) (hit gone : Opti
     turn.given n o.3,
   )
 
+  -- whatever is known in a phase stays known
   pub stands_kept : (phase : Phase) → ((n : Name) → Owns phase n → (hit ≢ Some n) × (gone ≢ Some n))
       → Stands past h xs phase → Stands past' h' xs' phase
   stands_kept (LoadingTail n k) off s = mine_kept n (off n refl).0 (off n refl).1 s
@@ -266,6 +276,7 @@ module _ (past : Past) (h h' : Heap) (xs : List Name) (settled : Settled past h)
   stays : (n : Name) (o : Option Name) → ¬ (past.left n) → Next h n o → Next h' n o
   stays n o l e = calm_pointer past.left h h' calm n 0 (at o) l e
 
+  -- a step that changes nothing that stands leaves the queue as it is
   pub calm_form : Form h' xs
   calm_form = record {
     head = shape.form.head;
@@ -287,6 +298,7 @@ module _ (past : Past) (h h' : Heap) (xs : List Name) (settled : Settled past h)
     bare = λ e n there. stays n None (shape.known n there).1 (shape.form.bare e n there);
   }
 
+  -- a pointer found in a cell once in reach stood there before
   was : (n : Name) (ptr : Ptr) → past.reached n → pointer_at h' (Field n 0) ≡ Some ptr
       → pointer_at h (Field n 0) ≡ Some ptr
   was n ptr r e = calm.back n 0 ptr (settled.reached_given n r) e
@@ -306,6 +318,7 @@ module _ (past : Past) (h h' : Heap) (xs : List Name) (settled : Settled past h)
   pub calm_shut : (n : Name) → past.reached n → ¬ (In n xs) → ¬ (Next h' n None)
   calm_shut n r apart none = shape.shut n r apart (was n (at None) r none)
 
+-- so does it leave what each phase knows
 pub calm_kept : (past past' : Past) (h h' : Heap) (xs : List Name) (gone : Option Name) → Settled past h
     → Calm past.left h h' → Passed past past' h' gone → ((n : Name) → past'.left n → ¬ (IsReachable h' n))
     → Shape past h xs
@@ -320,10 +333,12 @@ calm_kept past past' h h' xs gone settled calm passed out shape = (
 
 -- WHAT IS REFUSED, A CALL'S BEGIN AND END
 
+-- a phase that knows and owns nothing says no more than any other
 weaker_none : (a b : Phase) → ((past : Past) (h : Heap) (xs : List Name) → Stands past h xs b)
     → ((n : Name) → ¬ (Owns b n)) → Weaker queue structure a b
 weaker_none a b stands owns = record { stands = λ past h xs shape s. stands past h xs; owns = λ n o. absurd (owns n o) }
 
+-- one more try to push knows and owns what the last one did
 mine_again : (a : Phase) (n : Name) (k : ℕ) → ((past : Past) (h : Heap) (xs : List Name) → Stands past h xs a
     → Mine past h n) → Owns a n → Weaker queue structure a (retry_push n k)
 mine_again a n zero mine own =
@@ -331,6 +346,7 @@ mine_again a n zero mine own =
 mine_again a n (suc k) mine own =
     record { stands = λ past h xs shape s. mine past h xs s; owns = λ x e. subst (Owns a) (sym e) own }
 
+-- one more try to pop knows and owns nothing
 pub again : (a : Phase) (k : ℕ) → Weaker queue structure a (retry_pop k)
 again a zero = weaker_none a (retry_pop zero) (λ past h xs. tt) (λ n o. o)
 again a (suc k) = weaker_none a (retry_pop (suc k)) (λ past h xs. tt) (λ n o. o)
@@ -410,6 +426,7 @@ fits g (Advancing n q v) = (tt, refl)
 
 -- A REMOVAL
 
+-- what is not in the queue, and is not the tail, is out of reach
 out_of_reach : (past : Past) (h : Heap) (xs : List Name) → Shape past h xs → (n : Name) → ¬ (In n xs)
     → pointer_at h (Root 1) ≢ Some (at (Some n)) → ¬ (IsReachable h n)
 out_of_reach past h xs shape n out off r = elim (reached_in h xs shape.form n r) [
@@ -417,6 +434,7 @@ out_of_reach past h xs shape n out off r = elim (reached_in h xs shape.form n r)
   | inr e ↦ off (shape.form.tailed ∙ ap (λ (o : Option Name). Some (at o)) e)
 ]
 
+-- and so is an own node
 mine_out : (past : Past) (h : Heap) (xs : List Name) → Shape past h xs → (n : Name) → Mine past h n
     → ¬ (IsReachable h n)
 mine_out past h xs shape n mine =

@@ -30,11 +30,13 @@ no_field s fresh n f ptr e = by_cell (slice_get s.heap.cells (n.slot - 1)) refl 
     by_cell (Some c) there h = none_at s.heap.start_turn n.turn f ptr
         (ap (λ (c : Cell). field_in (if_has n.turn (Some c)) f) (sym (fresh.empty_cells (n.slot - 1) c there)) ∙ h)
 
+-- the roots of a fresh world are null
 pub no_root : (s : State) → IsFresh s → (i : ℕ) (x : Name) → ¬ (Leads s.heap (Root i) x)
 no_root s fresh i x (ptr, entry, name) =
     let none : ptr ≡ null = fresh.null_roots i ptr entry in
     let both : None ≡ Some x = sym (ap (λ (q : Ptr). q.name) none) ∙ name in cc (both)
 
+-- so nothing is in reach
 pub no_reach : (s : State) → IsFresh s → (n : Name) → ¬ (IsReachable s.heap n)
 no_reach s fresh n (from_root i _ leads) = no_root s fresh i n leads
 no_reach s fresh n (from_field y f _ r leads) = no_reach s fresh y r

@@ -42,6 +42,7 @@ use Rattle.epoch_queue_laws.proofs.QueueKept.{AtHead, none_not, Shape, Mine, Lin
 use Rattle.epoch_queue_laws.proofs.QueueKept.{structure, sane, Turn, stands_kept, shape_after, calm_form, calm_turn}
 use Rattle.epoch_queue_laws.proofs.QueueKept.{calm_shut, refused}
 
+-- names can be looked up in a list
 pub in_or : (n : Name) (ns : List Name) → In n ns ⊎ (¬ (In n ns))
 in_or n [] = inr (λ h. h)
 in_or n (m ∷ ms) = elim (same_name n m) [
@@ -71,6 +72,7 @@ module _ (past : Past) (h h' : Heap) (xs xs' : List Name) (hit : Option Name) (s
     ]
   ]
 
+  -- a step that keeps the others is one that the frame asks for
   turn_acts : Acts queue structure past h h' xs (Some phase) (Some next)
   turn_acts = record {
     ghost' = xs';
@@ -116,11 +118,13 @@ module _ (past : Past) (h : Heap) (xs : List Name) (settled : Settled past h) (s
       (λ past' passed. stands_kept past past' h h' xs xs None None settled turn passed next
       (λ n o. (λ e. cc (e), λ e. cc (e))) later)
 
+  -- a step that changes nothing
   still : (phase next : Phase) → Stands past h xs phase → Stands past h xs next
       → ((n : Name) → Owns next n → Owns phase n) → Goes h phase next
   still phase next stands later owns =
       calm_acts h (calm_same past.left h h refl) phase next stands later (λ n o. inl (owns n o))
 
+  -- a calm step, after which less is known
   weak : (h' : Heap) → Calm past.left h h' → (phase next : Phase) → Weaker queue structure phase next
       → Stands past h xs phase → Goes h' phase next
   weak h' calm phase next w stands =
@@ -151,6 +155,7 @@ module _ (past : Past) (h : Heap) (xs : List Name) (settled : Settled past h) (s
         let same : other ≡ ptr = cc (there, e) in same ∙ (λ i. record { name = name i; tag = shape.plain t ptr r e i }),
   )
 
+  -- a tail that was loaded is the tail as long as it has no next
   pub load_tail : (g : ℕ) (n : Name) (k j : ℕ) (found : Ptr) (did : Touched) (o : Option Ptr)
       → pointer_at h (Root 1) ≡ o → ChangesAt Load j found (Root 1) h o did → Mine past h n
       → Does g (LoadingTail n k) did
@@ -171,6 +176,7 @@ module _ (past : Past) (h : Heap) (xs : List Name) (settled : Settled past h) (s
             ),
           ) (λ x o. o)
 
+  -- the tail's next is null, or stays its next
   pub load_last : (g : ℕ) (n t : Name) (k j : ℕ) (found : Ptr) (did : Touched) (o : Option Ptr)
       → pointer_at h (Field t 0) ≡ o → ChangesAt Load j found (Field t 0) h o did
       → Mine past h n × AtTail past h t → Does g (LoadingLast n t k) did
@@ -184,6 +190,7 @@ module _ (past : Past) (h : Heap) (xs : List Name) (settled : Settled past h) (s
       by_name (Some q) name =
           still (LoadingLast n t k) (Helping n t q k) s (s.0, links t q ptr s.1.0 e name) (λ x o. o)
 
+  -- a loaded head was in the queue
   pub load_head : (g k j : ℕ) (found : Ptr) (did : Touched) (o : Option Ptr) → pointer_at h (Root 0) ≡ o
       → ChangesAt Load j found (Root 0) h o did → Does g (LoadingHead k) did
   load_head g k j found did None e is =
@@ -197,6 +204,7 @@ module _ (past : Past) (h : Heap) (xs : List Name) (settled : Settled past h) (s
           still (LoadingHead k) (LoadingNext n k) tt
           (shape.known n (head_in n (ap (λ (q : Ptr). q.name) (head_is ptr e) ∙ name))).0 (λ x o. o)
 
+  -- the head's next is null, or stays its next
   pub load_next : (g : ℕ) (n : Name) (k j : ℕ) (found : Ptr) (did : Touched) (o : Option Ptr)
       → pointer_at h (Field n 0) ≡ o → ChangesAt Load j found (Field n 0) h o did → past.reached n
       → Does g (LoadingNext n k) did
@@ -237,6 +245,7 @@ module _ (past : Past) (h : Heap) (xs : List Name) (settled : Settled past h) (s
       (after_touch (Leaving n q v k) (deed_of g (Leaving n q v k)) d.told)) (sym is)
       (record { stands = λ past h xs shape s. s; owns = λ x o. o })) s
 
+  -- where the tail leads elsewhere, what was taken off is out of reach
   pub look_back : (g : ℕ) (n q : Name) (v j : ℕ) (found : Ptr) (did : Touched) (o : Option Ptr)
       → pointer_at h (Root 1) ≡ o → ChangesAt Load j found (Root 1) h o did
       → Off past h xs n × Linked past h n q → Does g (LookingBack n q v) did
@@ -710,6 +719,7 @@ module _ (past : Past) (h : Heap) (xs : List Name) (settled : Settled past h) (s
       ends (Some ptr) (inl is) NoSlot e = absurd (cc (e, ap (λ (d : Touched). d.told) is.1))
       ends (Some ptr) (inr is) NoSlot e = absurd (cc (e, ap (λ (d : Touched). d.told) is.1))
 
+  -- a push brings the tail on to its own node
   pub swing_last : (g : ℕ) (t n : Name) (j : ℕ) (found : Ptr) (did : Touched) (o : Option Ptr)
       → pointer_at h (Root 1) ≡ o → ChangesAt (CompareExchange (ptr_to t) (ptr_to n)) j found (Root 1) h o did
       → Linked past h t n → Does g (Swinging t n) did
@@ -726,6 +736,7 @@ module _ (past : Past) (h : Heap) (xs : List Name) (settled : Settled past h) (s
       ends (Some ptr) (inr is) (Again f) e = absurd (cc (e, ap (λ (d : Touched). d.told) is.1))
       ends o is NoSlot e = refl
 
+  -- or to another's, where the tail lags
   pub help : (g : ℕ) (n t q : Name) (k j : ℕ) (found : Ptr) (did : Touched) (o : Option Ptr)
       → pointer_at h (Root 1) ≡ o → ChangesAt (CompareExchange (ptr_to t) (ptr_to q)) j found (Root 1) h o did
       → Mine past h n × Linked past h t q → Does g (Helping n t q k) did

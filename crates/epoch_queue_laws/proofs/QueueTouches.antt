@@ -92,6 +92,7 @@ module _ (past : Past) (h : Heap) (xs : List Name) (settled : Settled past h) (s
   abbrev Frozen : ℕ → Phase → Touched → Type 0
   Frozen g phase did = ChangesReached past h did.heap (call_by g (deed_of g phase))
 
+  -- a push changes the field of a node in the queue alone
   append_frozen : (g : ℕ) (n t : Name) (k j : ℕ) (found : Ptr) (did : Touched) (o : Option Ptr)
       → pointer_at h (Field t 0) ≡ o → ChangesAt (CompareExchange null (ptr_to n)) j found (Field t 0) h o did
       → AtTail past h t → Frozen g (Appending n t k) did
@@ -105,6 +106,7 @@ module _ (past : Past) (h : Heap) (xs : List Name) (settled : Settled past h) (s
         | inr out ↦ absurd (shape.shut t s.0 out (e ∙ ap Some (is.0 ∙ aligned_at h None)))
       ]))
 
+  -- no other phase changes a field
   touch_frozen : (g : ℕ) (phase : Phase) (j : ℕ) (found : Ptr) (did : Touched)
       → TouchesBy (deed_of g phase) j found h did → Stands past h xs phase → Frozen g phase did
   touch_frozen g (Appending n t k) j found did e s c y f change call changed r never =

@@ -36,6 +36,7 @@ abbrev pub retry_pop : ℕ → Phase
 retry_pop zero = Answering TriesOut
 retry_pop (suc k) = LoadingHead k
 
+-- the first phase of a call, where the held bag has room
 abbrev pub start_work : Work → Phase
 start_work Build = Founding
 start_work (Push v k) = Placing v k
@@ -44,6 +45,7 @@ start_work (Pop k) = retry_pop k
 abbrev pub load : ℕ → Spot → Access
 load g spot = Point (Some g) spot Load
 
+-- exchanges the pointer there, if it is this one still, for the one to the node
 abbrev pub exchange : ℕ → Spot → Ptr → Name → Access
 exchange g spot current n = Point (Some g) spot (CompareExchange current (ptr_to n))
 
@@ -163,6 +165,7 @@ calls_left (Advancing h q v) = 2
 calls_left (Removing h v) = 1
 calls_left (Answering a) = 0
 
+-- the program
 abbrev pub queue : Program
 queue = record { Phase = Phase; Answer = QueueAnswer; deed = deed_of }
 
