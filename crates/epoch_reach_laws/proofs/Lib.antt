@@ -21,3 +21,6 @@ pub mod ReadersCounted
 pub mod FreedStages
 pub mod ReadingsKept
 pub mod RoomToRead
+pub mod HeapFits
+pub mod Readable
+pub mod WorldAlong

@@ -1,0 +1,9 @@
+pub mod Custody
+pub mod Obligations
+pub mod Cells
+pub mod CalmSteps
+pub mod Moved
+pub mod Steps
+pub mod Kept
+pub mod Runs
+pub mod Calls

@@ -1,0 +1,41 @@
+//! A program as code: the phases of a structure's calls, of which each asks for one call of the world.
+ghost use Rattle.std.specs.Prelude.{◌≡◌, ℕ};
+ghost use Rattle.epoch_plans.specs.Plans.{Deed, after_by};
+ghost use Rattle.epoch_plans.specs.Asks.{wish_of};
+
+use epoch_cells::Name;
+use epoch_heap::Access;
+use epoch_laws::Reply;
+
+/// What a phase asks for, under the guard of its call.
+#[derive(Clone, Copy, Debug, PartialEq, Eq)]
+pub enum Wish<A> {
+    /// A flush of the held bag, so that a removal finds room there.
+    Flush,
+    /// A call on cells and pointers.
+    Touch(Access),
+    /// That the removal of this node is deferred.
+    Defer(Name),
+    /// Nothing more: this is the answer.
+    Answer(A),
+}
+
+/// The phases of a structure's calls.
+///
+/// The program that laws speak of is `deed`, the phases being this type. So what is proved of every run of that program
+/// is proved of whatever asks for what `wish` says and goes on as `hear` says.
+pub trait PhaseMachine: Copy {
+    /// What a call answers.
+    type Answer: Copy;
+
+    /// What each phase does under a guard, and which phase follows from each reply.
+    ghost deed: { ℕ → Self → Deed Self Self.Answer };
+
+    /// What this phase asks for under this guard.
+    fn wish(self, guard: u64) -> Wish<Self::Answer>
+        ensures { result ≡ wish_of (deed guard self) };
+
+    /// The phase after this one, whose call ended with this reply. It is the same under every guard.
+    fn hear(self, reply: Reply) -> Self
+        ensures { (guard : ℕ) → result ≡ after_by self (deed guard self) reply };
+}

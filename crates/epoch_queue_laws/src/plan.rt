@@ -1,0 +1,83 @@
+//! How far a call of the queue is. Between any two of its steps others may take theirs.
+
+use epoch_cells::Name;
+
+/// What was asked for.
+#[derive(Clone, Copy, Debug, PartialEq, Eq)]
+pub enum Work {
+    /// The first node, which holds no value, unless somebody has placed one.
+    Build,
+    /// A push of this value, in so many tries.
+    Push(u64, u64),
+    /// A pop, in so many tries.
+    Pop(u64),
+}
+
+/// What a call answers.
+#[derive(Clone, Copy, Debug, PartialEq, Eq)]
+pub enum QueueAnswer {
+    /// The first node stands.
+    Built,
+    /// The value stands behind the others.
+    Pushed,
+    /// The front's value, which was taken off.
+    Popped(u64),
+    /// The front's value, which was taken off. The removal of its node was refused: the cell is never free again.
+    PoppedLeaking(u64),
+    /// There was no value to pop.
+    Empty,
+    /// Each try was lost to others.
+    TriesOut,
+    /// Each try was lost to others, and the removal of the caller's own node was refused, as above.
+    TriesOutLeaking,
+    /// No cell was free.
+    CellsFull,
+    /// No place for a bag was free, so that no removal could be deferred.
+    BagsFull,
+}
+
+/// Which call of the world a call of the queue is at. The number of tries is that of those left after this one. A root
+/// is the head, another the tail; the first node is no value's.
+#[derive(Clone, Copy, Debug, PartialEq, Eq)]
+pub enum Phase {
+    /// Flushes, so that a removal finds room in the held bag.
+    MakingRoom(Work),
+    /// Places the first node.
+    Founding,
+    /// Exchanges the head's null for this node.
+    Crowning(Name),
+    /// And then the tail's.
+    Seating(Name),
+    /// Places this value, in so many tries.
+    Placing(u64, u64),
+    /// Loads the tail, to push this node.
+    LoadingTail(Name, u64),
+    /// Loads the next of the tail, which is the second node here.
+    LoadingLast(Name, Name, u64),
+    /// Exchanges the null of the last one, the second node here, for the node.
+    Appending(Name, Name, u64),
+    /// Exchanges the tail, if it is the first node still, for the second, which is its next and the caller's own.
+    Swinging(Name, Name),
+    /// Exchanges the tail, if it is the second node still, for the third, which is its next, and tries again.
+    Helping(Name, Name, Name, u64),
+    /// Defers the removal of the caller's own node, since each try was lost.
+    TakingBack(Name),
+    /// Loads the head, to pop what follows it.
+    LoadingHead(u64),
+    /// Loads the head's next.
+    LoadingNext(Name, u64),
+    /// Reads the value of the next, which is the second node.
+    Reading(Name, Name, u64),
+    /// Leaves the reading. The first number is the value, here and below.
+    Leaving(Name, Name, u64, u64),
+    /// Exchanges the head, if it is the first node still, for its next.
+    Taking(Name, Name, u64, u64),
+    /// Loads the tail, which may lead to the node that was taken off.
+    LookingBack(Name, Name, u64),
+    /// Brings the tail past it.
+    Advancing(Name, Name, u64),
+    /// Defers the removal of the node that was taken off.
+    Removing(Name, u64),
+    /// No call is left but this answer.
+    Answering(QueueAnswer),
+}
