@@ -4,6 +4,12 @@ ghost use Rattle.epoch_laws.specs.Shapes.{IsValid, is_align};
 
 use epoch_bags::GREATEST_EPOCH;
 
+/// How many jobs a bag takes, where nothing else is said: `MAX_OBJECTS` of crossbeam-epoch.
+const USUAL_BAG_JOBS: u64 = 64;
+
+/// How many bags a collection takes at most, where nothing else is said: `COLLECT_STEPS` of crossbeam-epoch.
+const USUAL_COLLECT_BAGS: u64 = 8;
+
 /// The numbers that a world is made for.
 #[derive(Clone, Copy, Debug, PartialEq, Eq)]
 pub struct Shape {
@@ -30,6 +36,35 @@ pub struct Shape {
 }
 
 impl Shape {
+    /// So many participants, cells, roots and fields, and else what is usual: four bags of 64 jobs, of which a
+    /// collection takes 8, as in crossbeam-epoch; tags below 8, as of a value of eight bytes; and the first epoch and
+    /// turn are 0.
+    pub fn usual(participants: u64, cells: u64, roots: u64, fields: u64) -> Shape
+        ensures participants { result.participants ≡ participants }
+        ensures cells { result.cells ≡ cells }
+        ensures roots { result.roots ≡ roots }
+        ensures fields { result.fields ≡ fields }
+        ensures bags { result.bags ≡ 4 }
+        ensures align { result.align ≡ 8 }
+        ensures start_epoch { result.start_epoch ≡ 0 }
+        ensures start_turn { result.start_turn ≡ 0 }
+        ensures bag_jobs { result.bag_jobs ≡ 64 }
+        ensures collect_bags { result.collect_bags ≡ 8 }
+    {
+        Shape {
+            participants,
+            cells,
+            roots,
+            fields,
+            bags: 4,
+            align: 8,
+            start_epoch: 0,
+            start_turn: 0,
+            bag_jobs: USUAL_BAG_JOBS,
+            collect_bags: USUAL_COLLECT_BAGS,
+        }
+    }
+
     /// Whether each number is in its range.
     pub fn is_valid(&self) -> bool
         ensures { IsTrue result ↔ IsValid self.now }
