@@ -1,3 +1,4 @@
+pub mod CallsGiven
 pub mod Collecting
 pub mod Deferring
 pub mod Driving
@@ -12,6 +13,7 @@ pub mod Registering
 pub mod Releasing
 pub mod Scanning
 pub mod SeatKept
+pub mod StagesHeard
 pub mod StraightCalls
 pub mod Telling
 pub mod Tests

@@ -3,4 +3,5 @@ pub mod Drives
 pub mod Ends
 pub mod Handles
 pub mod Releases
+pub mod ThreadGrace
 pub mod Told

@@ -1,5 +1,8 @@
 //! What holds of whatever threads perform: laws of the definitions.
 ghost use Rattle.epoch_handles.specs.Told.{RepliesAreFound, ExpiriesAreSeen, AnswersAreFound};
+ghost use Rattle.epoch_handles.specs.ThreadGrace.{KeepsGraceOnThreads};
+
+use epoch_tables::table::pinned_seats_hold_bags_back;
 
 /// Where a thread performs what its machine asks, the replies on the participants' table are just the words that
 /// its seat's steps found, in order, and the greatest epoch that the seat has read or stored never falls.
@@ -18,3 +21,16 @@ pub fn expiries_are_seen<J>()
 pub fn answers_are_found<J>()
     ensures { AnswersAreFound J }
 {}
+
+/// No job is called too early. Where a thread performs what its machine asks from the beginning of an action on, as
+/// far as anywhere, the jobs that it is given to call are those of the bags that it got out of places; and no
+/// participant that was pinned, and had read the epoch again, when the epoch was the seal of one of these bags is
+/// still pinned with that reading.
+///
+/// That each call of a handle is such a list of asks, and that each job that was given was called, is what its
+/// clauses `does` and `called` say. A bag's seal is the epoch that was loaded after its last job was deferred.
+pub fn calls_come_after_pins<J>()
+    ensures { KeepsGraceOnThreads J }
+{
+    pinned_seats_hold_bags_back();
+}
