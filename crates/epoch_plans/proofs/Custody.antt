@@ -15,7 +15,7 @@ use Rattle.epoch_laws.specs.declared.step.Deferral.{Deferral}
 use Rattle.epoch_laws.specs.declared.step.Entry.{Entry}
 use Rattle.epoch_laws.specs.declared.step.Progress.{Progress}
 use Rattle.epoch_laws.specs.declared.step.Progress.TheVariants.{Idle, Driven, CallsNow, Accesses, Ends}
-use Rattle.epoch_laws.specs.declared.step.Reply.TheVariants.{Done, Refused}
+use Rattle.epoch_laws.specs.declared.step.Reply.TheVariants.{Done}
 use Rattle.epoch_laws.specs.declared.step.Word.TheVariants.{Free}
 use Rattle.epoch_heap.specs.Heap.{Heap, Cell, cell_at, pointer_at}
 use Rattle.epoch_heap.specs.declared.access.Ptr.{Ptr}
@@ -24,9 +24,9 @@ use Rattle.epoch_reach_laws.specs.Reach.{IsReachable, Points, DefersRemoval, Tak
 use Rattle.epoch_reach_laws.specs.Reach.{past_after, LeavesRightly}
 use Rattle.epoch_reach_laws.specs.Removals.{IsInBag}
 use Rattle.epoch_laws.proofs.SeatLinks.{AllLinked}
-use Rattle.epoch_reach_laws.proofs.TurnsGiven.{IsGiven, StaysGiven}
+use Rattle.epoch_reach_laws.proofs.TurnsGiven.{IsGiven}
 use Rattle.epoch_reach_laws.proofs.PointerSteps.{Fewer, fewer_same}
-use Rattle.epoch_plans.specs.Plans.{Deed, Program, Plan, NoPlan, Under, AllPlans, IsPlain, call_by, after_by}
+use Rattle.epoch_plans.specs.Plans.{Program, Plan, NoPlan, Under, AllPlans, IsPlain, call_by, after_by}
 
 pub same_number : (a b : ℕ) → (a ≡ b) ⊎ (a ≢ b)
 same_number a b = grind arith

@@ -50,11 +50,11 @@ call_by g (Defers n deferred refused) = DeferDestroy (Some g) (ptr_to n)
 call_by g (Answers a) = Pin  -- not asked
 
 -- the phase after the answer to its call, and after its refusal
-abbrev pub answered_by : {P A : Type 0} → P → Deed P A → Answer → P
-answered_by phase (Flushes done refused) a = done
-answered_by phase (Touches access told refused) a = told a
-answered_by phase (Defers n deferred refused) a = deferred
-answered_by phase (Answers answer) a = phase
+abbrev pub done_by : {P A : Type 0} → P → Deed P A → Answer → P
+done_by phase (Flushes done refused) a = done
+done_by phase (Touches access told refused) a = told a
+done_by phase (Defers n deferred refused) a = deferred
+done_by phase (Answers answer) a = phase
 
 abbrev pub refused_by : {P A : Type 0} → P → Deed P A → P
 refused_by phase (Flushes done refused) = refused
@@ -64,7 +64,7 @@ refused_by phase (Answers answer) = phase
 
 -- the phase after the reply that ended the call
 abbrev pub after_by : {P A : Type 0} → P → Deed P A → Reply → P
-after_by phase deed (Done a) = answered_by phase deed a
+after_by phase deed (Done a) = done_by phase deed a
 after_by phase deed _ = refused_by phase deed
 
 -- no call of the world is left, but the answer

@@ -3,7 +3,6 @@ use Rattle.std.proofs.Common.{ℕ, zero, suc, Option, Some, None, Bool, true, fa
 use Rattle.epoch_cells.specs.declared.cells.name.Name.{Name}
 use Rattle.epoch_heap.specs.declared.access.Answer.{Answer}
 use Rattle.epoch_heap.specs.declared.access.Answer.TheVariants.{Name as NameAnswer, Value, Pointer, Exchanged}
-use Rattle.epoch_laws.specs.declared.step.Reply.{Reply}
 use Rattle.epoch_laws.specs.declared.step.Reply.TheVariants.{Done}
 use Rattle.epoch_plans.specs.Plans.{IsLowered}
 use Rattle.epoch_queue_laws.specs.declared.plan.Work.TheVariants.{Build, Push, Pop}
