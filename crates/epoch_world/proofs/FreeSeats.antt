@@ -7,8 +7,8 @@ use Rattle.epoch_machine.specs.declared.machine.Ask.TheVariants.{StorePinned, St
 use Rattle.epoch_machine.specs.declared.machine.Ask.TheVariants.{PutBag, TakeBag, CallJob}
 use Rattle.epoch_machine.specs.Machine.{ask_at}
 use Rattle.epoch_laws.specs.declared.step.Call.{Call}
-use Rattle.epoch_laws.specs.declared.step.Call.TheVariants.{Pin, Unpin, Repin, Pause, Resume, Defer, Flush, Release}
-use Rattle.epoch_laws.specs.declared.step.Call.TheVariants.{DeferDestroy, Access as AccessCall}
+use Rattle.epoch_laws.specs.declared.step.Call.TheVariants.{Pin, Unpin, Repin, Pause, Resume, Defer, Flush}
+use Rattle.epoch_laws.specs.declared.step.Call.TheVariants.{DeferDestroy}
 use Rattle.epoch_laws.specs.declared.step.Progress.{Progress}
 use Rattle.epoch_laws.specs.declared.step.Progress.TheVariants.{Idle, Driven, CallsNow, Accesses, Ends}
 use Rattle.epoch_laws.specs.declared.step.Reply.{Reply}
