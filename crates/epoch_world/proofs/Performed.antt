@@ -2,9 +2,9 @@
 use Rattle.std.proofs.Common.{◌≡◌, ◌≢◌, ℕ, ◌<◌, true, List, [], ◌∷◌, length, zero, suc, Some, None, inr, refl, ap, ap₂}
 use Rattle.std.proofs.Common.{sym, subst, ◌∙◌, arith, slice_index_or}
 use Rattle.epoch_machine.specs.declared.machine.Ask.{Ask}
-use Rattle.epoch_machine.specs.declared.machine.Ask.TheVariants.{LoadEpoch, LoadWord, StorePinned, StoreRepinned}
-use Rattle.epoch_machine.specs.declared.machine.Ask.TheVariants.{StoreUnpinned, StoreFree, StoreEpoch, PutBag, TakeBag}
-use Rattle.epoch_machine.specs.declared.machine.Ask.TheVariants.{KeepJob, CallJob}
+use Rattle.epoch_machine.specs.declared.machine.Ask.TheVariants.{LoadWord}
+use Rattle.epoch_machine.specs.declared.machine.Ask.TheVariants.{StoreFree, PutBag, TakeBag}
+use Rattle.epoch_machine.specs.declared.machine.Ask.TheVariants.{CallJob}
 use Rattle.epoch_machine.specs.declared.machine.Sizes.{Sizes}
 use Rattle.epoch_machine.specs.declared.machine.Answer.TheVariants.{Word as WordFound}
 use Rattle.epoch_machine.specs.Machine.{asks, hears, AskFits}
@@ -14,7 +14,7 @@ use Rattle.epoch_laws.specs.declared.step.Reply.TheVariants.{Began}
 use Rattle.epoch_laws.specs.declared.step.Step.TheVariants.{Begin, Go}
 use Rattle.epoch_laws.specs.declared.step.Word.TheVariants.{Free}
 use Rattle.epoch_laws.specs.declared.step.Progress.{Progress}
-use Rattle.epoch_laws.specs.declared.step.Progress.TheVariants.{Idle, Driven, CallsNow, Ends, Accesses}
+use Rattle.epoch_laws.specs.declared.step.Progress.TheVariants.{Driven}
 use Rattle.epoch_laws.specs.Run.{Bag, WorldSeat, State, seat_of, position_word, with_seat, word_number, free_seat}
 use Rattle.epoch_laws.specs.Run.{begun_seat, refusal, BeginsCall, PerformsAsk, DrivesCall, DoesGo, Moves, is_driven}
 use Rattle.epoch_world.specs.declared.world.common.Common.{Common}

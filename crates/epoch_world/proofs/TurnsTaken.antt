@@ -2,7 +2,7 @@
 use Rattle.std.proofs.Common.{◌≡◌, ℕ, ◌+◌, ◌<◌, Bool, true, false, List, [], length, ap, sym, subst, arith}
 use Rattle.std.proofs.Common.{slice_index_or, slice_set, get_or-set_same, refl, ◌∙◌}
 use Rattle.epoch_machine.specs.declared.machine.Ask.{Ask}
-use Rattle.epoch_machine.specs.declared.machine.Ask.TheVariants.{StoreFree, StoreEpoch, PutBag, TakeBag, KeepJob}
+use Rattle.epoch_machine.specs.declared.machine.Ask.TheVariants.{StoreFree, PutBag, TakeBag}
 use Rattle.epoch_machine.specs.declared.machine.Ask.TheVariants.{CallJob}
 use Rattle.epoch_machine.specs.declared.machine.Sizes.{Sizes}
 use Rattle.epoch_machine.specs.Machine.{Machine}

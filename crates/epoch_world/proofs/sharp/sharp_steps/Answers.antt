@@ -1,4 +1,3 @@
-use Rattle.std.proofs.Common.{refl}
 use Rattle.epoch_world.proofs.ListedSteps.{lists_none, lists_more, leads_to_sharp}
 use Rattle.epoch_world.proofs.sharp.sharp_steps.Goals as goal
 
