@@ -1,10 +1,12 @@
-//! Tests of the checkers of histories: what they say of lists that worlds made, of lists that none makes, and of the
-//! sharp list.
+//! Tests of the checkers of histories: what they say of lists as worlds make them, and of lists that none makes;
+//! and the sharp list.
 #![tactic(auto)]
 
 #[cfg(test)]
 mod histories;
 #[cfg(test)]
 mod sharp;
+#[cfg(test)]
+mod told;
 #[cfg(test)]
 mod wants;

@@ -1,27 +1,11 @@
-//! The sharp list: which steps it has, what a world of one place tells of them, and what it would be to call its job.
+//! The sharp list: which steps it has, and what a world of one place tells of them.
 
 use crate::wants::want;
-use epoch_base::{Called, Fault, Places};
-use epoch_world::{
-    Answer, Call, Deferral, Entry, Reply, Shape, Step, World, keeps_grace, sharp_steps,
-};
+use epoch_base::{Fault, Places};
+use epoch_world::{Answer, Call, Deferral, Reply, Shape, Step, World, sharp_steps};
 use std::alloc::Global;
 use std::process::Abort;
 use std::test::Fail;
-
-/// Two participants and one place.
-const PAIR: Shape = Shape {
-    participants: 2,
-    cells: 0,
-    roots: 0,
-    fields: 0,
-    bags: 1,
-    align: 1,
-    start_epoch: 0,
-    start_turn: 0,
-    bag_jobs: 64,
-    collect_bags: 8,
-};
 
 const UNPIN: Call = Call::Unpin(Some(0));
 
@@ -65,16 +49,25 @@ const TOLD: [Reply; 17] = [
     UNIT,
 ];
 
+/// Adds the steps of a call with so many Go.
+fn add_call(
+    steps: &mut Vec<Step>,
+    (participant, call, goes): (u64, Call, u64),
+) -> Result<(), Fail> {
+    steps.push(Step::Begin(participant, call))?;
+    for _ in 0..goes {
+        steps.push(Step::Go(participant))?;
+    }
+    Ok(())
+}
+
 /// The steps of two registrations and of these calls.
 fn expected(alloc: Global) -> Result<Vec<Step>, Fail> {
     let mut steps = Vec::new(alloc);
     steps.push(Step::Register)?;
     steps.push(Step::Register)?;
-    for (participant, call, goes) in CALLS.iter() {
-        steps.push(Step::Begin(*participant, *call))?;
-        for _ in 0..*goes {
-            steps.push(Step::Go(*participant))?;
-        }
+    for call in CALLS {
+        add_call(&mut steps, call)?;
     }
     Ok(steps)
 }
@@ -83,37 +76,29 @@ fn expected(alloc: Global) -> Result<Vec<Step>, Fail> {
 fn told_of(alloc: Global, replies: &[Reply]) -> Result<Vec<Reply>, Fail> {
     let mut told = Vec::new(alloc);
     for reply in replies {
-        match reply {
-            Reply::Began | Reply::Stepped => {}
-            _ => told.push(*reply)?,
+        if !matches!(reply, Reply::Began | Reply::Stepped) {
+            told.push(*reply)?;
         }
     }
     Ok(told)
 }
 
-/// A world for which the list is.
-fn pair(alloc: Global) -> Result<World<Places<Deferral>>, Fault> {
-    World::new(alloc, PAIR)
+/// A world for which the list is: two participants and one place.
+fn pair(rt: &impl Abort, alloc: Global) -> Result<World<Places<Deferral>>, Fault> {
+    let shape = Shape {
+        bags: 1,
+        ..Shape::usual(2, 0, 0, 0)
+    };
+    assert!(rt; shape.is_valid());
+    World::new(alloc, shape)
 }
 
-/// The epoch, and both words.
-fn numbers_of(world: &World<Places<Deferral>>) -> (u64, Option<u64>, Option<u64>) {
-    (world.epoch(), world.word(0), world.word(1))
-}
-
-/// The steps of the list, with the replies of a new world.
-fn history(alloc: Global) -> Result<Vec<Entry>, Fail> {
-    let mut world = pair(alloc)?;
-    let mut entries = Vec::new(alloc);
-    for step in &sharp_steps(alloc)? {
-        let reply = world.step(*step);
-        entries.push(Entry { step: *step, reply })?;
-    }
-    Ok(entries)
-}
-
-fn want_grace(rt: &impl Abort, what: &str, entries: &[Entry], wanted: bool) {
-    want(rt, what, keeps_grace(entries), wanted);
+/// All steps are taken and no call is under way, in this epoch and with these words.
+fn want_left(rt: &impl Abort, world: &mut World<Places<Deferral>>) {
+    let numbers = (world.epoch(), world.word(0), world.word(1));
+    want(rt, "the numbers", numbers, (3, Some(5), Some(5)));
+    let spare = world.step(Step::Go(1));
+    want(rt, "a spare step", spare, Reply::Refused(Fault::Idle));
 }
 
 #[test]
@@ -126,29 +111,11 @@ fn the_sharp_list_has_ten_lines_of_steps(rt: HostRuntime) -> Result<(), Fail> {
 
 #[test]
 fn a_world_of_one_place_calls_no_job_of_the_sharp_list(rt: HostRuntime) -> Result<(), Fail> {
-    let mut world = pair(rt.alloc())?;
-    let replies = world.run(&sharp_steps(rt.alloc())?)?;
+    let mut world = pair(&rt, rt.alloc())?;
+    let steps = expected(rt.alloc())?;
+    let replies = world.run(&steps)?;
     let told = told_of(rt.alloc(), &replies)?;
     want(&rt, "what is told", told.as_slice(), &TOLD);
-    want(
-        &rt,
-        "the epoch and the words",
-        numbers_of(&world),
-        (3, Some(5), Some(5)),
-    );
-    let spare = world.step(Step::Go(1));
-    want(&rt, "a spare step", spare, Reply::Refused(Fault::Idle));
-    Ok(())
-}
-
-#[test]
-fn to_call_the_job_of_the_sharp_list_would_break_grace(rt: HostRuntime) -> Result<(), Fail> {
-    let mut entries = history(rt.alloc())?;
-    want_grace(&rt, "the list", &entries, true);
-    entries.push(Entry {
-        step: Step::Go(1),
-        reply: Reply::Called(0, Called::Ran),
-    })?;
-    want_grace(&rt, "the list, and the call of its job", &entries, false);
+    want_left(&rt, &mut world);
     Ok(())
 }
