@@ -4,7 +4,7 @@ use crate::plain;
 use crate::wants::want;
 use epoch_bags::{BagStore, Called};
 use epoch_cells::Fault;
-use epoch_world::{Answer, Call, Deferral, Reply, Shape, Step, World};
+use epoch_world::{Answer, Deferral, Reply, Shape, Step, World};
 use std::alloc::Global;
 use std::process::Abort;
 use std::test::Fail;
@@ -83,7 +83,7 @@ pub fn expect_rows<S: BagStore<Job = Deferral>>(
 }
 
 /// A new world of this shape, which is valid.
-pub fn new_world<S: BagStore<Job = Deferral>>(
+fn new_world<S: BagStore<Job = Deferral>>(
     rt: &impl Abort,
     alloc: Global,
     shape: Shape,
@@ -120,23 +120,18 @@ fn done<S: BagStore<Job = Deferral>>(
     }
     let mut replies = Vec::new(alloc);
     add_done(world, deed, &mut replies)?;
-    replies.retain(|reply| !matches!(reply, Reply::Began | Reply::Stepped));
     Ok(replies)
 }
 
-/// Does this, which has an end, and puts all replies after those that are there.
+/// Does this, which has an end, and puts what it tells behind the replies that are there.
 fn add_done<S: BagStore<Job = Deferral>>(
     world: &mut World<S>,
     deed: Deed,
     replies: &mut Vec<Reply>,
 ) -> Result<(), Fail> {
     match deed {
-        Deed::Calls(participant, call, _) => {
-            call_by_steps(world, participant, call.in_world(), replies)
-        }
-        Deed::Goes(participant, _) => {
-            go_to_end(world, Step::Go(participant), Step::Go(participant), replies)
-        }
+        Deed::Calls(participant, call, _) => call_by_steps(world, participant, call, replies),
+        Deed::Goes(participant, _) => go_on_to_end(world, participant, replies),
         Deed::Ends(_, _) => go_to_end(world, Step::End, Step::EndGo, replies),
         deed => call_all(world, calls_of(deed), replies),
     }
@@ -149,9 +144,20 @@ fn call_all<S: BagStore<Job = Deferral>>(
     replies: &mut Vec<Reply>,
 ) -> Result<(), Fail> {
     for _ in 0..times {
-        for call in calls {
-            call_by_steps(world, participant, call.in_world(), replies)?;
-        }
+        call_each(world, participant, calls, replies)?;
+    }
+    Ok(())
+}
+
+/// Makes a participant's calls, one after the other.
+fn call_each<S: BagStore<Job = Deferral>>(
+    world: &mut World<S>,
+    participant: u64,
+    calls: &[plain::Call],
+    replies: &mut Vec<Reply>,
+) -> Result<(), Fail> {
+    for call in calls {
+        call_by_steps(world, participant, *call, replies)?;
     }
     Ok(())
 }
@@ -174,19 +180,25 @@ fn calls_of(deed: Deed) -> (u64, &'static [plain::Call], u64) {
     }
 }
 
-/// Begins a participant's call, goes on with it up to its end, and puts all replies after those that are there.
-pub fn call_by_steps<S: BagStore<Job = Deferral>>(
+/// Begins a participant's call, and goes on with it up to its end.
+fn call_by_steps<S: BagStore<Job = Deferral>>(
     world: &mut World<S>,
     participant: u64,
-    call: Call,
+    call: plain::Call,
     replies: &mut Vec<Reply>,
 ) -> Result<(), Fail> {
-    go_to_end(
-        world,
-        Step::Begin(participant, call),
-        Step::Go(participant),
-        replies,
-    )
+    let begin = Step::Begin(participant, call.in_world());
+    go_to_end(world, begin, Step::Go(participant), replies)
+}
+
+/// Goes on with the call that a participant has under way, up to its end.
+fn go_on_to_end<S: BagStore<Job = Deferral>>(
+    world: &mut World<S>,
+    participant: u64,
+    replies: &mut Vec<Reply>,
+) -> Result<(), Fail> {
+    let go = Step::Go(participant);
+    go_to_end(world, go, go, replies)
 }
 
 /// Takes the first step and then the other one, until a reply ends what is under way.
@@ -198,15 +210,27 @@ fn go_to_end<S: BagStore<Job = Deferral>>(
 ) -> Result<(), Fail> {
     let mut step = first;
     for _ in 0..MANY {
-        for reply in world.run(&[step])? {
-            replies.push(reply)?;
-            if matches!(reply, Reply::Done(_) | Reply::Refused(_)) {
-                return Ok(());
-            }
+        let reply = world.step(step);
+        add_reply(replies, reply)?;
+        if is_last(reply) {
+            return Ok(());
         }
         step = other;
     }
     Err(Fail::from("it has no end"))
+}
+
+/// Puts the reply behind those that are there, where it tells more than that something begins or goes on.
+fn add_reply(replies: &mut Vec<Reply>, reply: Reply) -> Result<(), Fail> {
+    if !matches!(reply, Reply::Began | Reply::Stepped) {
+        replies.push(reply)?;
+    }
+    Ok(())
+}
+
+/// Whether the reply ends what is under way.
+fn is_last(reply: Reply) -> bool {
+    matches!(reply, Reply::Done(_) | Reply::Refused(_))
 }
 
 /// What has to be told of this.
@@ -249,7 +273,8 @@ fn add_guards(replies: &mut Vec<Reply>, first: u64, end: u64) -> Result<(), Fail
 
 fn add_deferred(replies: &mut Vec<Reply>, first: u64, end: u64) -> Result<(), Fail> {
     for ticket in first..end {
-        replies.extend_from_slice(&[Reply::Deferred(ticket), UNIT])?;
+        replies.push(Reply::Deferred(ticket))?;
+        replies.push(UNIT)?;
     }
     Ok(())
 }
@@ -271,9 +296,9 @@ fn add_collected(
     tickets: &[(u64, u64)],
     answer: Reply,
 ) -> Result<(), Fail> {
-    replies.extend_from_slice(&pinned(participant))?;
+    add_pinned(replies, participant)?;
     add_flushed(replies, tickets, answer)?;
-    Ok(replies.extend_from_slice(&unpinned(participant))?)
+    add_unpinned(replies, participant)
 }
 
 fn add_ended(replies: &mut Vec<Reply>, first: u64, end: u64) -> Result<(), Fail> {
@@ -299,30 +324,32 @@ fn add_called(replies: &mut Vec<Reply>, first: u64, end: u64) -> Result<(), Fail
 /// What is told each time by pins and unpins that are made many times.
 fn add_once(replies: &mut Vec<Reply>, deed: Deed) -> Result<(), Fail> {
     match deed {
-        Deed::Pins(participant) => replies.extend_from_slice(&pinned(participant))?,
-        Deed::Unpins(participant) => replies.extend_from_slice(&unpinned(participant))?,
-        Deed::Cycles(participant, _) => {
-            replies.extend_from_slice(&pinned(participant))?;
-            replies.extend_from_slice(&unpinned(participant))?;
-        }
-        Deed::Rounds(participant, _) => {
-            replies.extend_from_slice(&pinned(participant))?;
-            replies.push(UNIT)?;
-            replies.extend_from_slice(&unpinned(participant))?;
-        }
-        Deed::Pauses(participant, _) => {
-            replies.extend_from_slice(&unpinned(participant))?;
-            replies.extend_from_slice(&[Reply::Pinned(participant), UNIT])?;
-        }
-        _ => {}
+        Deed::Pins(participant) => add_pinned(replies, participant),
+        Deed::Unpins(participant) => add_unpinned(replies, participant),
+        Deed::Cycles(participant, _) => add_cycle(replies, participant),
+        Deed::Rounds(participant, _) => add_collected(replies, participant, &[], UNIT),
+        Deed::Pauses(participant, _) => add_pause(replies, participant),
+        _ => Ok(()),
     }
-    Ok(())
 }
 
-fn pinned(participant: u64) -> [Reply; 2] {
-    [Reply::Pinned(participant), Reply::Done(Answer::Guard(0))]
+fn add_pinned(replies: &mut Vec<Reply>, participant: u64) -> Result<(), Fail> {
+    replies.push(Reply::Pinned(participant))?;
+    Ok(replies.push(Reply::Done(Answer::Guard(0)))?)
 }
 
-fn unpinned(participant: u64) -> [Reply; 2] {
-    [Reply::Unpinned(participant), UNIT]
+fn add_unpinned(replies: &mut Vec<Reply>, participant: u64) -> Result<(), Fail> {
+    replies.push(Reply::Unpinned(participant))?;
+    Ok(replies.push(UNIT)?)
+}
+
+fn add_cycle(replies: &mut Vec<Reply>, participant: u64) -> Result<(), Fail> {
+    add_pinned(replies, participant)?;
+    add_unpinned(replies, participant)
+}
+
+fn add_pause(replies: &mut Vec<Reply>, participant: u64) -> Result<(), Fail> {
+    add_unpinned(replies, participant)?;
+    replies.push(Reply::Pinned(participant))?;
+    Ok(replies.push(UNIT)?)
 }

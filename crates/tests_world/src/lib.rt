@@ -1,8 +1,6 @@
-//! Tests of `epoch_world` by its public calls, over three stores of bags: what steps tell, and whole calls beside them.
+//! Tests of `epoch_world` by its public calls, over three stores of bags: what steps tell.
 #![tactic(auto)]
 
-#[cfg(test)]
-mod calls;
 #[cfg(test)]
 mod deeds;
 #[cfg(test)]

@@ -4,19 +4,18 @@ use crate::deeds::Deed::{
     Calls, Collects, Cycles, Defers, Ends, Epoch, Flushes, Goes, Guards, Pauses, Pins, Rounds,
     Takes, Unpins, Word,
 };
-use crate::deeds::{Row, expect_rows, new_world};
+use crate::deeds::{Row, expect_rows};
 use crate::plain::{Answer, Call, Reply, Step};
-use crate::wants::want;
-use epoch_bags::{BagQueue, BagStore, Called, GREATEST_EPOCH, Places};
+use epoch_bags::{BagQueue, Called, GREATEST_EPOCH, Places};
 use epoch_cells::Fault;
-use epoch_world::{Deferral, Shape, World};
+use epoch_world::{Deferral, Shape};
 use std::alloc::Global;
 use std::process::Abort;
 use std::test::Fail;
 use tests_pile::Pile;
 
 /// One participant, and a store for one bag.
-pub const ONE: Shape = Shape {
+const ONE: Shape = Shape {
     participants: 1,
     cells: 0,
     roots: 0,
@@ -669,30 +668,26 @@ fn full_stores_and_ends_tell_the_same_over_any_store(rt: HostRuntime) -> Result<
     expect_everywhere(&rt, rt.alloc(), BAGS)
 }
 
+/// Rows that tell the same over a queue and over a pile, where a put and a look are one step each.
+fn expect_whole_puts(rt: &impl Abort, alloc: Global, rows: &[Row]) -> Result<(), Fail> {
+    expect_rows::<BagQueue<Deferral>>(rt, alloc, rows)?;
+    expect_rows::<Pile>(rt, alloc, rows)
+}
+
+/// Rows that tell the same over stores that give the bag first that was put first.
+fn expect_first_out(rt: &impl Abort, alloc: Global, rows: &[Row]) -> Result<(), Fail> {
+    expect_rows::<Places<Deferral>>(rt, alloc, rows)?;
+    expect_rows::<BagQueue<Deferral>>(rt, alloc, rows)
+}
+
 #[test]
 fn bags_are_taken_in_the_order_of_the_store(rt: HostRuntime) -> Result<(), Fail> {
-    expect_rows::<Places<Deferral>>(&rt, rt.alloc(), FIRST_OUT)?;
-    expect_rows::<BagQueue<Deferral>>(&rt, rt.alloc(), FIRST_OUT)?;
+    expect_first_out(&rt, rt.alloc(), FIRST_OUT)?;
     expect_rows::<Pile>(&rt, rt.alloc(), LAST_OUT)
 }
 
 #[test]
 fn a_put_and_a_look_are_one_step_each_where_the_store_says_so(rt: HostRuntime) -> Result<(), Fail> {
-    expect_rows::<BagQueue<Deferral>>(&rt, rt.alloc(), WHOLE_PUTS)?;
-    expect_rows::<Pile>(&rt, rt.alloc(), WHOLE_PUTS)?;
+    expect_whole_puts(&rt, rt.alloc(), WHOLE_PUTS)?;
     expect_rows::<Pile>(&rt, rt.alloc(), PILES)
-}
-
-fn expect_empty<S: BagStore<Job = Deferral>>(rt: &impl Abort, alloc: Global) -> Result<(), Fail> {
-    let mut world: World<S> = new_world(rt, alloc, ONE)?;
-    let replies = world.run(&[])?;
-    want(rt, "replies to an empty list", replies.is_empty(), true);
-    Ok(())
-}
-
-#[test]
-fn an_empty_list_gives_an_empty_list(rt: HostRuntime) -> Result<(), Fail> {
-    expect_empty::<Places<Deferral>>(&rt, rt.alloc())?;
-    expect_empty::<BagQueue<Deferral>>(&rt, rt.alloc())?;
-    expect_empty::<Pile>(&rt, rt.alloc())
 }
