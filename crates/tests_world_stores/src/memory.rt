@@ -2,16 +2,13 @@
 //! tests passes whichever that is. In a plain run of the tests no allocation is refused.
 
 use crate::wants::want;
-use crate::worlds::{ONE, new_world};
+use crate::worlds::new_world;
 use epoch_bags::{BagQueue, BagStore, Called, Places};
 use epoch_cells::Fault;
 use epoch_world::{Answer, Call, Deferral, Reply, Shape, Step, World};
 use std::alloc::Global;
 use std::process::Abort;
 use tests_pile::Pile;
-
-/// One participant and two places.
-const SHAPE: Shape = Shape { bags: 2, ..ONE };
 
 const UNIT: Reply = Reply::Done(Answer::Unit);
 
@@ -68,18 +65,46 @@ fn want_call(rt: &impl Abort, place: usize, replies: &[Reply], last: Reply, call
     want(rt, "how many are called", (place, count), (place, called));
 }
 
+/// A world of one participant and two places.
+fn small_world<S: BagStore<Job = Deferral>>(
+    rt: &impl Abort,
+    alloc: Global,
+) -> Result<World<S>, Fault> {
+    let shape = Shape {
+        bags: 2,
+        ..Shape::usual(1, 0, 0, 0)
+    };
+    new_world(rt, alloc, shape)
+}
+
 /// A new world. Where memory for it is refused, it is asked for again.
 fn world_at_last<S: BagStore<Job = Deferral>>(
     rt: &impl Abort,
     alloc: Global,
 ) -> Result<World<S>, Fault> {
-    match new_world(rt, alloc, SHAPE) {
+    match small_world(rt, alloc) {
         Ok(world) => Ok(world),
         Err(fault) => {
-            want(rt, "why it is refused", fault, Fault::NoMemory);
-            new_world(rt, alloc, SHAPE)
+            want_no_memory(rt, fault);
+            small_world(rt, alloc)
         }
     }
+}
+
+/// Memory was refused, and nothing else.
+fn want_no_memory(rt: &impl Abort, fault: Fault) {
+    want(rt, "why it is refused", fault, Fault::NoMemory);
+}
+
+/// What was refused for want of memory has left the world as it was.
+fn want_as_before<S: BagStore<Job = Deferral>>(
+    rt: &impl Abort,
+    fault: Fault,
+    world: &World<S>,
+    before: (u64, Option<u64>),
+) {
+    want_no_memory(rt, fault);
+    want(rt, "after what is refused", numbers_of(world), before);
 }
 
 /// Runs the steps of this list. Where memory for its replies is refused, the world is as it was, and the list is handed
@@ -93,8 +118,7 @@ fn run_again<S: BagStore<Job = Deferral>>(
     match world.run(steps) {
         Ok(replies) => Ok(replies),
         Err(fault) => {
-            want(rt, "why it is refused", fault, Fault::NoMemory);
-            want(rt, "after a refused list", numbers_of(world), before);
+            want_as_before(rt, fault, world, before);
             world.run(steps)
         }
     }
@@ -121,24 +145,41 @@ fn call_again<S: BagStore<Job = Deferral>>(
     match world.call(0, call) {
         Ok(replies) => Ok(replies),
         Err(fault) => {
-            want(rt, "why it is refused", fault, Fault::NoMemory);
-            want(rt, "after a refused call", numbers_of(world), before);
+            want_as_before(rt, fault, world, before);
             world.call(0, call)
         }
     }
+}
+
+/// Makes all calls, each with its last reply and so many jobs.
+fn expect_calls<S: BagStore<Job = Deferral>>(
+    rt: &impl Abort,
+    world: &mut World<S>,
+) -> Result<(), Fault> {
+    for (place, (call, last, called)) in CALLS.iter().enumerate() {
+        let replies = call_again(rt, world, *call)?;
+        want_call(rt, place, &replies, *last, *called);
+    }
+    Ok(())
+}
+
+/// The epoch and the word of the participant.
+fn want_numbers<S: BagStore<Job = Deferral>>(
+    rt: &impl Abort,
+    world: &World<S>,
+    numbers: (u64, Option<u64>),
+) {
+    want(rt, "the numbers", numbers_of(world), numbers);
 }
 
 /// Whatever is refused on the way, all is told as if it had never come.
 fn tell_all<S: BagStore<Job = Deferral>>(rt: &impl Abort, alloc: Global) -> Result<(), Fault> {
     let mut world: World<S> = world_at_last(rt, alloc)?;
     expect_run(rt, &mut world, (&FIRST, &FIRST_TOLD))?;
-    for (place, (call, last, called)) in CALLS.iter().enumerate() {
-        let replies = call_again(rt, &mut world, *call)?;
-        want_call(rt, place, &replies, *last, *called);
-    }
-    want(rt, "behind the calls", numbers_of(&world), (3, Some(5)));
+    expect_calls(rt, &mut world)?;
+    want_numbers(rt, &world, (3, Some(5)));
     expect_run(rt, &mut world, (&LAST, &LAST_TOLD))?;
-    want(rt, "at the end", numbers_of(&world), (3, Some(2)));
+    want_numbers(rt, &world, (3, Some(2)));
     Ok(())
 }
 
@@ -154,10 +195,13 @@ fn expect_told<S: BagStore<Job = Deferral>>(rt: &impl Abort, alloc: Global) {
 
 /// How many jobs were called.
 fn count_called(replies: &[Reply]) -> usize {
-    replies
-        .iter()
-        .filter(|reply| matches!(reply, Reply::Called(_, Called::Ran)))
-        .count()
+    let mut called = 0usize;
+    for reply in replies {
+        if matches!(reply, Reply::Called(_, Called::Ran)) {
+            called = called.saturating_add(1);
+        }
+    }
+    called
 }
 
 #[test]

@@ -9,9 +9,9 @@ ghost use Rattle.epoch_rounds_laws.specs.Collected.{CollectsFew};
 ghost use Rattle.epoch_world.specs.Earlier.{AlongSteps, SinceEachState};
 
 use crate::wants::want;
-use crate::worlds::{ONE, new_world};
+use crate::worlds::new_world;
 use epoch_cells::Fault;
-use epoch_world::{Call, Reply, Step, World};
+use epoch_world::{Call, Reply, Shape, Step, World};
 use tests_pile::Pile;
 
 /// A list of steps.
@@ -49,7 +49,7 @@ fn run_over_pile(world: &mut World<Pile>, steps: &[Step]) -> Result<Vec<Reply>, 
 
 #[test]
 fn a_list_over_a_pile_tells_one_reply_a_step(rt: HostRuntime) -> Result<(), Fault> {
-    let mut world = new_world(&rt, rt.alloc(), ONE)?;
+    let mut world = new_world(&rt, rt.alloc(), Shape::usual(1, 0, 0, 0))?;
     let replies = run_over_pile(&mut world, &LIST)?;
     want(&rt, "the replies", replies.as_slice(), &TOLD[..]);
     Ok(())

@@ -1,7 +1,7 @@
 //! Bags that take other numbers of jobs than the usual, and collections of other numbers of bags.
 
 use crate::wants::want;
-use crate::worlds::{ONE, new_world};
+use crate::worlds::new_world;
 use epoch_bags::{BagQueue, BagStore, Places};
 use epoch_world::{Call, Deferral, Reply, Shape, Step, World};
 use std::alloc::Global;
@@ -9,16 +9,34 @@ use std::process::Abort;
 use std::test::Fail;
 use tests_pile::Pile;
 
-/// One participant and four places.
-const SHAPE: Shape = Shape { bags: 4, ..ONE };
-
 /// How many jobs a bag takes, and how many bags a collection.
 const SIZES: &[u64] = &[1, 2, 3, 8, 63, 64];
 
 const DEFER: Call = Call::Defer(Some(0));
 
-/// Makes this call of the one participant so many times. Answers how many jobs were called, and how often it was
-/// refused.
+/// How many of these replies tell that a job was called, and how many that the call was refused.
+fn tally(replies: &[Reply]) -> (u64, u64) {
+    let (mut called, mut refused) = (0u64, 0u64);
+    for reply in replies {
+        match reply {
+            Reply::Called(_, _) => called = called.saturating_add(1),
+            Reply::Refused(_) => refused = refused.saturating_add(1),
+            _ => {}
+        }
+    }
+    (called, refused)
+}
+
+/// Makes this call of the one participant. Answers how many jobs were called, and how often it was refused.
+fn call_once<S: BagStore<Job = Deferral>>(
+    world: &mut World<S>,
+    call: Call,
+) -> Result<(u64, u64), Fail> {
+    let replies = world.call(0, call)?;
+    Ok(tally(&replies))
+}
+
+/// As `call_once`, so many times.
 fn call_times<S: BagStore<Job = Deferral>>(
     world: &mut World<S>,
     call: Call,
@@ -26,13 +44,9 @@ fn call_times<S: BagStore<Job = Deferral>>(
 ) -> Result<(u64, u64), Fail> {
     let (mut called, mut refused) = (0u64, 0u64);
     for _ in 0..times {
-        for reply in world.call(0, call)? {
-            match reply {
-                Reply::Called(_, _) => called = called.saturating_add(1),
-                Reply::Refused(_) => refused = refused.saturating_add(1),
-                _ => {}
-            }
-        }
+        let (calls, refusals) = call_once(world, call)?;
+        called = called.saturating_add(calls);
+        refused = refused.saturating_add(refusals);
     }
     Ok((called, refused))
 }
@@ -45,15 +59,15 @@ fn pinned_world<S: BagStore<Job = Deferral>>(
 ) -> Result<World<S>, Fail> {
     let mut world: World<S> = new_world(rt, alloc, shape)?;
     let _ = world.run(&[Step::Register])?;
-    call_times(&mut world, Call::Pin, 1)?;
+    call_once(&mut world, Call::Pin)?;
     Ok(world)
 }
 
 /// A pin, a flush and the unpin. Answers how many jobs the flush called.
 fn round<S: BagStore<Job = Deferral>>(world: &mut World<S>) -> Result<u64, Fail> {
-    call_times(world, Call::Pin, 1)?;
-    let (called, _) = call_times(world, Call::Flush(Some(0)), 1)?;
-    call_times(world, Call::Unpin(Some(0)), 1)?;
+    call_once(world, Call::Pin)?;
+    let (called, _) = call_once(world, Call::Flush(Some(0)))?;
+    call_once(world, Call::Unpin(Some(0)))?;
     Ok(called)
 }
 
@@ -66,45 +80,75 @@ fn jobs_in(bags: &[u64]) -> u64 {
     jobs
 }
 
+/// How many jobs a bag takes, and how many bags a collection.
+type Sizes = (u64, u64);
+
+/// A world of one participant, who is pinned, so many places, and these sizes.
+fn sized_world<S: BagStore<Job = Deferral>>(
+    rt: &impl Abort,
+    alloc: Global,
+    bags: u64,
+    (jobs, taken): Sizes,
+) -> Result<World<S>, Fail> {
+    let shape = Shape {
+        bags,
+        bag_jobs: jobs,
+        collect_bags: taken,
+        ..Shape::usual(1, 0, 0, 0)
+    };
+    pinned_world(rt, alloc, shape)
+}
+
+/// So many deferrals, of which so many are refused.
+fn want_deferred<S: BagStore<Job = Deferral>>(
+    rt: &impl Abort,
+    sizes: Sizes,
+    world: &mut World<S>,
+    (times, refused): (u64, u64),
+) -> Result<(), Fail> {
+    let told = call_times(world, DEFER, times)?;
+    want(rt, "deferrals", (sizes, told), (sizes, (0, refused)));
+    Ok(())
+}
+
+/// A round calls so many jobs.
+fn want_round<S: BagStore<Job = Deferral>>(
+    rt: &impl Abort,
+    sizes: Sizes,
+    world: &mut World<S>,
+    jobs: u64,
+) -> Result<(), Fail> {
+    let called = round(world)?;
+    want(rt, "a round", (sizes, called), (sizes, jobs));
+    Ok(())
+}
+
+/// Each round calls the jobs of so many bags, which are taken in the order of `bags`.
+fn want_rounds<S: BagStore<Job = Deferral>>(
+    rt: &impl Abort,
+    sizes: Sizes,
+    world: &mut World<S>,
+    bags: &[u64],
+) -> Result<(), Fail> {
+    for part in bags.chunks(sizes.1.max(1) as usize) {
+        want_round(rt, sizes, world, jobs_in(part))?;
+    }
+    Ok(())
+}
+
 /// Three full bags are sealed with 1, and one job more is held. The first round puts it in a bag of its own, and
 /// advances to 2. Each further one calls the jobs of so many bags, which are taken in the order of `bags`.
 fn expect_emptied<S: BagStore<Job = Deferral>>(
     rt: &impl Abort,
     alloc: Global,
-    (jobs, taken): (u64, u64),
+    sizes: Sizes,
     bags: [u64; 4],
 ) -> Result<(), Fail> {
-    let shape = Shape {
-        bag_jobs: jobs,
-        collect_bags: taken,
-        ..SHAPE
-    };
-    let mut world: World<S> = pinned_world(rt, alloc, shape)?;
-    let kept = call_times(&mut world, DEFER, jobs_in(&bags))?;
-    want(
-        rt,
-        "none refused",
-        (jobs, taken, kept),
-        (jobs, taken, (0, 0)),
-    );
-    call_times(&mut world, Call::Unpin(Some(0)), 1)?;
-    let called = round(&mut world)?;
-    want(
-        rt,
-        "the first round",
-        (jobs, taken, called),
-        (jobs, taken, 0),
-    );
-    for part in bags.chunks(taken.max(1) as usize) {
-        let called = round(&mut world)?;
-        want(
-            rt,
-            "a further round",
-            (jobs, taken, called),
-            (jobs, taken, jobs_in(part)),
-        );
-    }
-    Ok(())
+    let mut world: World<S> = sized_world(rt, alloc, 4, sizes)?;
+    want_deferred(rt, sizes, &mut world, (jobs_in(&bags), 0))?;
+    call_once(&mut world, Call::Unpin(Some(0)))?;
+    want_round(rt, sizes, &mut world, 0)?;
+    want_rounds(rt, sizes, &mut world, &bags)
 }
 
 /// Two places and the held bag take the jobs of three bags, and no further one.
@@ -113,17 +157,31 @@ fn expect_filled<S: BagStore<Job = Deferral>>(
     alloc: Global,
     jobs: u64,
 ) -> Result<(), Fail> {
-    let shape = Shape {
-        bags: 2,
-        bag_jobs: jobs,
-        collect_bags: 1,
-        ..SHAPE
-    };
-    let mut world: World<S> = pinned_world(rt, alloc, shape)?;
-    let kept = call_times(&mut world, DEFER, jobs_in(&[jobs; 3]))?;
-    want(rt, "three bags' jobs", (jobs, kept), (jobs, (0, 0)));
-    let next = call_times(&mut world, DEFER, 1)?;
-    want(rt, "the next job", (jobs, next), (jobs, (0, 1)));
+    let sizes = (jobs, 1);
+    let mut world: World<S> = sized_world(rt, alloc, 2, sizes)?;
+    want_deferred(rt, sizes, &mut world, (jobs_in(&[jobs; 3]), 0))?;
+    want_deferred(rt, sizes, &mut world, (1, 1))
+}
+
+/// The jobs of four bags in the order in which a collection takes them: of this store the one put last first, or not.
+fn in_order(jobs: u64, last_out: bool) -> [u64; 4] {
+    if last_out {
+        [1, jobs, jobs, jobs]
+    } else {
+        [jobs, jobs, jobs, 1]
+    }
+}
+
+/// Tries all sizes of collections.
+fn expect_collections<S: BagStore<Job = Deferral>>(
+    rt: &impl Abort,
+    alloc: Global,
+    jobs: u64,
+    last_out: bool,
+) -> Result<(), Fail> {
+    for taken in SIZES {
+        expect_emptied::<S>(rt, alloc, (jobs, *taken), in_order(jobs, last_out))?;
+    }
     Ok(())
 }
 
@@ -133,16 +191,9 @@ fn expect_sizes<S: BagStore<Job = Deferral>>(
     alloc: Global,
     last_out: bool,
 ) -> Result<(), Fail> {
-    for jobs in SIZES.iter().copied() {
-        expect_filled::<S>(rt, alloc, jobs)?;
-        let bags = if last_out {
-            [1, jobs, jobs, jobs]
-        } else {
-            [jobs, jobs, jobs, 1]
-        };
-        for taken in SIZES.iter().copied() {
-            expect_emptied::<S>(rt, alloc, (jobs, taken), bags)?;
-        }
+    for jobs in SIZES {
+        expect_filled::<S>(rt, alloc, *jobs)?;
+        expect_collections::<S>(rt, alloc, *jobs, last_out)?;
     }
     Ok(())
 }
