@@ -56,16 +56,50 @@ struct Outcome {
     faults: Vec<u8>,
 }
 
-/// Does what the words ask for.
+/// What a command line asks for: its words, and the jobs that they ask for, each of which adds one to `called`.
+#[derive(Drop)]
+struct Asked {
+    words: Vec<String>,
+    called: Arc<AtomicU64>,
+    jobs: Vec<Job>,
+}
+
+fn asked_by(alloc: Global, line: &str) -> Result<Asked, AllocError> {
+    let words = words_of(alloc, line)?;
+    let called = Arc::new(alloc, AtomicU64::new(0))?;
+    let jobs = counting_jobs(alloc, jobs_asked(&words), &called)?;
+    Ok(Asked {
+        words,
+        called,
+        jobs,
+    })
+}
+
+/// Does what is asked for.
+fn perform_asked<R: Threads + Wait + Sync, A: Write, F: Write>(
+    rt: &R,
+    alloc: Global,
+    asked: Asked,
+    answers: &mut A,
+    faults: &mut F,
+) -> Ending {
+    let Asked {
+        words,
+        called,
+        jobs,
+    } = asked;
+    perform(rt, alloc, &words, jobs, &called, answers, faults)
+}
+
+/// Does what is asked for, and answers what it gave.
 fn outcome_of<R: Threads + Wait + Sync>(
     rt: &R,
     alloc: Global,
-    words: &[String],
-    jobs: Vec<Job>,
-    called: &AtomicU64,
+    asked: Asked,
+    answers: Vec<u8>,
 ) -> Outcome {
-    let (mut answers, mut faults) = (Vec::new(alloc), Vec::new(alloc));
-    let ending = perform(rt, alloc, words, jobs, called, &mut answers, &mut faults);
+    let (mut answers, mut faults) = (answers, Vec::new(alloc));
+    let ending = perform_asked(rt, alloc, asked, &mut answers, &mut faults);
     Outcome {
         ending,
         answers,
@@ -96,10 +130,8 @@ fn expect_run<R: Threads + Wait + Sync + Abort>(
     line: &str,
     printed: &str,
 ) -> Result<(), Fail> {
-    let words = words_of(alloc, line)?;
-    let called = Arc::new(alloc, AtomicU64::new(0))?;
-    let jobs = counting_jobs(alloc, jobs_asked(&words), &called)?;
-    let outcome = outcome_of(rt, alloc, &words, jobs, &called);
+    let asked = asked_by(alloc, line)?;
+    let outcome = outcome_of(rt, alloc, asked, Vec::new(alloc));
     want_told(rt, line, &outcome, (Ending::Finished, 0), printed, "")
 }
 
@@ -154,10 +186,9 @@ fn expect_usage<R: Threads + Wait + Sync + Abort>(
     alloc: Global,
     line: &str,
 ) -> Result<(), Fail> {
-    let words = words_of(alloc, line)?;
-    want(rt, line, jobs_asked(&words), 0);
-    let called = AtomicU64::new(0);
-    let outcome = outcome_of(rt, alloc, &words, Vec::new(alloc), &called);
+    let asked = asked_by(alloc, line)?;
+    want(rt, line, asked.jobs.len(), 0);
+    let outcome = outcome_of(rt, alloc, asked, Vec::new(alloc));
     let usage = "usage: epoch-run [threads N K | stack N K]\n";
     want_told(rt, line, &outcome, (Ending::NotUnderstood, 2), "", usage)
 }
@@ -216,13 +247,10 @@ fn ending_where_refused<R: Threads + Wait + Sync>(
     line: &str,
     (before, kind): (u64, ErrorKind),
 ) -> Result<Ending, Fail> {
-    let words = words_of(alloc, line)?;
-    let called = Arc::new(alloc, AtomicU64::new(0))?;
-    let jobs = counting_jobs(alloc, jobs_asked(&words), &called)?;
+    let asked = asked_by(alloc, line)?;
     let mut answers = Sink::new(alloc, before, kind);
     let mut faults = Sink::new(alloc, before, kind);
-    let ending = perform(rt, alloc, &words, jobs, &called, &mut answers, &mut faults);
-    Ok(ending)
+    Ok(perform_asked(rt, alloc, asked, &mut answers, &mut faults))
 }
 
 /// More writes than any run here has.
@@ -247,21 +275,23 @@ fn expect_each_refused<R: Threads + Wait + Sync + Abort>(
     Err(Fail::from("its writes have no end"))
 }
 
+/// Each write of runs of both forms, and of none, is refused in turn: the run ends so.
+fn expect_all_refused<R: Threads + Wait + Sync + Abort>(
+    rt: &R,
+    alloc: Global,
+    refusal: (ErrorKind, Ending),
+) -> Result<(), Fail> {
+    expect_each_refused(rt, alloc, "threads 1 1", refusal, Ending::Finished)?;
+    expect_each_refused(rt, alloc, "stack 1 1", refusal, Ending::Finished)?;
+    expect_each_refused(rt, alloc, "threads 1", refusal, Ending::NotUnderstood)
+}
+
 #[test]
 fn a_refused_write_ends_a_run_of_words(rt: HostRuntime) -> Result<(), Fail> {
-    let refusals = [
-        (ErrorKind::BrokenPipe, Ending::StreamFailed),
-        (ErrorKind::OutOfMemory, Ending::NoMemory),
-    ];
-    for refusal in refusals {
-        let line = "threads 1 1";
-        expect_each_refused(&rt, rt.alloc(), line, refusal, Ending::Finished)?;
-        let line = "stack 1 1";
-        expect_each_refused(&rt, rt.alloc(), line, refusal, Ending::Finished)?;
-        let line = "threads 1";
-        expect_each_refused(&rt, rt.alloc(), line, refusal, Ending::NotUnderstood)?;
-    }
-    Ok(())
+    let failed = (ErrorKind::BrokenPipe, Ending::StreamFailed);
+    expect_all_refused(&rt, rt.alloc(), failed)?;
+    let no_memory = (ErrorKind::OutOfMemory, Ending::NoMemory);
+    expect_all_refused(&rt, rt.alloc(), no_memory)
 }
 
 /// What a run of these words gave, whose words and jobs are there. Its answers take no memory where they have room.
@@ -270,17 +300,9 @@ fn outcome_with_room<R: Threads + Wait + Sync>(
     alloc: Global,
     line: &str,
 ) -> Result<Outcome, AllocError> {
-    let words = words_of(alloc, line)?;
-    let called = Arc::new(alloc, AtomicU64::new(0))?;
-    let jobs = counting_jobs(alloc, jobs_asked(&words), &called)?;
-    let mut answers = Vec::with_capacity(alloc, 100)?;
-    let mut faults = Vec::new(alloc);
-    let ending = perform(rt, alloc, &words, jobs, &called, &mut answers, &mut faults);
-    Ok(Outcome {
-        ending,
-        answers,
-        faults,
-    })
+    let asked = asked_by(alloc, line)?;
+    let answers = Vec::with_capacity(alloc, 100)?;
+    Ok(outcome_of(rt, alloc, asked, answers))
 }
 
 /// A run of these words that finds memory refused prints nothing, and else prints this.

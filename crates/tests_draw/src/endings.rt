@@ -32,13 +32,20 @@ pub fn tell(rt: &impl Print, alloc: Global) -> io::Result<()> {
 fn tell_ending(rt: &impl Print, alloc: Global, shows: &str, script: &str) -> io::Result<()> {
     let (mut drawn, mut faults) = (Vec::new(alloc), Vec::new(alloc));
     let status = epoch_pictures::run(alloc, &mut script.as_bytes(), &mut drawn, &mut faults);
-    let outcome = if drawn.is_empty() {
+    let (outcome, told) = (outcome_of(&drawn), text_of(&faults));
+    println!(rt; "{shows}: status {status}, {outcome}, told '{told}'")
+}
+
+fn outcome_of(drawn: &[u8]) -> &'static str {
+    if drawn.is_empty() {
         "nothing is drawn"
     } else {
         "drawn"
-    };
-    let told = str::from_utf8(&faults).unwrap_or("").trim_end();
-    println!(rt; "{shows}: status {status}, {outcome}, told '{told}'")
+    }
+}
+
+fn text_of(told: &[u8]) -> &str {
+    str::from_utf8(told).unwrap_or("").trim_end()
 }
 
 /// A writer that refuses all.

@@ -8,23 +8,45 @@ use std::alloc::Global;
 use std::fs::Files;
 use std::{fs, io};
 
+/// A name, its script, and its picture.
+const KEPT: [(&str, &str, &str); 3] = [
+    ("grace", "grace.txt", "grace.svg"),
+    ("stall", "stall.txt", "stall.svg"),
+    ("full", "full.txt", "full.svg"),
+];
+
 fn main(rt: HostRuntime) -> io::Result<()> {
-    for name in ["grace", "stall", "full"] {
-        compare(&rt, rt.alloc(), name)?;
+    for (name, script, picture) in KEPT {
+        compare(&rt, rt.alloc(), name, script, picture)?;
     }
     endings::tell(&rt, rt.alloc())
 }
 
-/// Draws the script NAME.txt, and compares the picture with NAME.svg.
-fn compare<R: Files + Alloc + Print>(rt: &R, alloc: Global, name: &str) -> io::Result<()> {
-    let script = fs::read(rt, format!(in alloc; "{name}.txt")?.as_str())?;
-    let kept = fs::read(rt, format!(in alloc; "{name}.svg")?.as_str())?;
-    let (mut drawn, mut faults) = (Vec::new(alloc), Vec::new(alloc));
-    let status = epoch_pictures::run(alloc, &mut script.as_slice(), &mut drawn, &mut faults);
-    let verdict = if drawn.as_slice() == kept.as_slice() {
+/// Draws the script, and compares what is drawn with the picture.
+fn compare<R: Files + Alloc + Print>(
+    rt: &R,
+    alloc: Global,
+    name: &str,
+    script: &str,
+    picture: &str,
+) -> io::Result<()> {
+    let script = fs::read(rt, script)?;
+    let kept = fs::read(rt, picture)?;
+    let (status, verdict) = drawn_beside(alloc, &script, &kept);
+    println!(rt; "{name}: status {status}, {verdict}")
+}
+
+/// With which status the script is drawn, and whether it is drawn as it is kept.
+fn drawn_beside(alloc: Global, script: &[u8], kept: &[u8]) -> (u8, &'static str) {
+    let (mut script, mut drawn, mut faults) = (script, Vec::new(alloc), Vec::new(alloc));
+    let status = epoch_pictures::run(alloc, &mut script, &mut drawn, &mut faults);
+    (status, verdict_of(&drawn, kept))
+}
+
+fn verdict_of(drawn: &[u8], kept: &[u8]) -> &'static str {
+    if drawn == kept {
         "as it is kept"
     } else {
         "another picture"
-    };
-    println!(rt; "{name}: status {status}, {verdict}")
+    }
 }

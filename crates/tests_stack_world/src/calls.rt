@@ -15,23 +15,16 @@ pub(crate) type Stack = StackWorld<Places<Deferral>>;
 const MANY: u64 = 10_000;
 
 /// Both are equal. `what` says what was seen.
-pub(crate) fn want<T: PartialEq + Debug + Drop>(rt: &impl Abort, what: &str, seen: T, wanted: T) {
+pub(crate) fn want<T: Copy + PartialEq + Debug>(rt: &impl Abort, what: &str, seen: T, wanted: T) {
     assert_eq!(rt; seen, wanted, "{what}");
 }
 
 /// The numbers of a world with a stack, so many participants and cells, and so many bags of so many jobs.
 pub(crate) fn shape_of(participants: u64, cells: u64, bags: u64, bag_jobs: u64) -> Shape {
     Shape {
-        participants,
-        cells,
-        roots: 1,
-        fields: 1,
         bags,
-        align: 1,
-        start_epoch: 0,
-        start_turn: 0,
         bag_jobs,
-        collect_bags: 8,
+        ..Shape::usual(participants, cells, 1, 1)
     }
 }
 
@@ -65,12 +58,44 @@ pub(crate) fn pinned_in<S: BagStore<Job = Deferral>>(
 ) -> Result<StackWorld<S>, Fault> {
     let mut stack = stack_of(rt, alloc, shape)?;
     for participant in 0..shape.participants {
-        let registered = StackReply::World(Reply::Registered(participant));
-        let seen = stack.step(StackStep::Register);
-        want(rt, "a participant registers", seen, registered);
-        want_done(rt, &mut stack, participant, Plain::Pin);
+        register_and_pin(rt, &mut stack, participant);
     }
     Ok(stack)
+}
+
+/// A participant gets this position, and is pinned.
+fn register_and_pin<S: BagStore<Job = Deferral>>(
+    rt: &impl Abort,
+    stack: &mut StackWorld<S>,
+    participant: u64,
+) {
+    let registered = StackReply::World(Reply::Registered(participant));
+    want_reply(rt, "a registration", stack, StackStep::Register, registered);
+    want_done(rt, stack, participant, Plain::Pin);
+}
+
+/// The step tells this.
+pub(crate) fn want_reply<S: BagStore<Job = Deferral>>(
+    rt: &impl Abort,
+    what: &str,
+    stack: &mut StackWorld<S>,
+    step: StackStep,
+    reply: StackReply,
+) {
+    want(rt, what, stack.step(step), reply);
+}
+
+/// The step begins something.
+pub(crate) fn want_begun(rt: &impl Abort, what: &str, stack: &mut Stack, step: StackStep) {
+    want_reply(rt, what, stack, step, StackReply::World(Reply::Began));
+}
+
+/// So many steps Go of participant 0 go on.
+pub(crate) fn want_stepped(rt: &impl Abort, what: &str, stack: &mut Stack, steps: u64) {
+    for _ in 0..steps {
+        let stepped = StackReply::World(Reply::Stepped);
+        want_reply(rt, what, stack, StackStep::Go(0), stepped);
+    }
 }
 
 /// Whether a call is over with this reply.
@@ -110,18 +135,16 @@ pub(crate) fn want_done<S: BagStore<Job = Deferral>>(
     want(rt, "a plain call is done", done, true);
 }
 
-/// Pushes the value under guard 0, to the end.
-pub(crate) fn push<S: BagStore<Job = Deferral>>(
+/// A push of the value under guard 0 answers so: whose it is, what, and in how many tries.
+pub(crate) fn want_push<S: BagStore<Job = Deferral>>(
+    rt: &impl Abort,
+    what: &str,
     stack: &mut StackWorld<S>,
-    participant: u64,
-    value: u64,
-    tries: u64,
-) -> StackReply {
-    to_end(
-        stack,
-        participant,
-        StackStep::Push(participant, 0, value, tries),
-    )
+    (participant, value, tries): (u64, u64, u64),
+    reply: StackReply,
+) {
+    let step = StackStep::Push(participant, 0, value, tries);
+    want(rt, what, to_end(stack, participant, step), reply);
 }
 
 /// Pops under guard 0, to the end.
@@ -133,12 +156,37 @@ pub(crate) fn pop<S: BagStore<Job = Deferral>>(
     to_end(stack, participant, StackStep::Pop(participant, 0, tries))
 }
 
+/// A pop under guard 0 answers so: whose it is, and in how many tries.
+pub(crate) fn want_pop<S: BagStore<Job = Deferral>>(
+    rt: &impl Abort,
+    what: &str,
+    stack: &mut StackWorld<S>,
+    (participant, tries): (u64, u64),
+    reply: StackReply,
+) {
+    want(rt, what, pop(stack, participant, tries), reply);
+}
+
+/// The call that participant 0 has under way ends so.
+pub(crate) fn want_end(rt: &impl Abort, what: &str, stack: &mut Stack, reply: StackReply) {
+    want(rt, what, to_end(stack, 0, StackStep::Go(0)), reply);
+}
+
 /// Goes on with the end of the world, to its end. Answers how many jobs it called.
 pub(crate) fn end(stack: &mut Stack) -> Option<u64> {
     for _ in 0..MANY {
-        if let StackReply::World(Reply::Done(Answer::Count(count))) = stack.step(StackStep::EndGo) {
-            return Some(count);
+        let count = count_of(stack.step(StackStep::EndGo));
+        if count.is_some() {
+            return count;
         }
     }
     None
+}
+
+/// How many jobs an end has called that is over.
+fn count_of(reply: StackReply) -> Option<u64> {
+    match reply {
+        StackReply::World(Reply::Done(Answer::Count(count))) => Some(count),
+        _ => None,
+    }
 }

@@ -1,5 +1,5 @@
 //! Random runs of participants who push and pop over one stack, step by step, beside a list.
-use crate::calls::{Stack, end, is_over, pinned_in, shape_of, want, want_done};
+use crate::calls::{Stack, end, is_over, pinned_in, pop, shape_of, want, want_begun, want_done};
 use crate::orders::{Did, Past, fit_a_list};
 use epoch_cells::Fault;
 use epoch_laws::Reply;
@@ -86,15 +86,36 @@ fn removals_of(rt: &impl Abort, stack: &mut Stack, participant: u64, call: Plain
     let mut removals: u64 = 0;
     let mut reply = stack.step(StackStep::Begin(participant, call));
     for _ in 0..MANY {
-        match reply {
-            StackReply::World(Reply::Done(_)) => return removals,
-            StackReply::World(Reply::Called(_, _)) => removals = removals.wrapping_add(1),
-            StackReply::World(Reply::Refused(fault)) => panic!(rt; "{fault}"),
-            _ => {}
+        if is_over(reply) {
+            want_done_so(rt, reply);
+            return removals;
         }
+        removals = removals.wrapping_add(removals_told(reply));
         reply = stack.step(StackStep::Go(participant));
     }
     panic!(rt; "a plain call comes to no end")
+}
+
+/// A call is done with this reply.
+fn want_done_so(rt: &impl Abort, reply: StackReply) {
+    let done = matches!(reply, StackReply::World(Reply::Done(_)));
+    want(rt, "a plain call is done", done, true);
+}
+
+/// How many removals a reply tells of.
+fn removals_told(reply: StackReply) -> u64 {
+    match reply {
+        StackReply::World(Reply::Called(_, _)) => 1,
+        _ => 0,
+    }
+}
+
+/// A participant flushes, and leaves its pin for a new one. Answers how many removals were called.
+fn renew_pin(rt: &impl Abort, stack: &mut Stack, participant: u64) -> u64 {
+    let flushed = removals_of(rt, stack, participant, Plain::Flush(Some(0)));
+    let unpinned = removals_of(rt, stack, participant, Plain::Unpin(Some(0)));
+    let pinned = removals_of(rt, stack, participant, Plain::Pin);
+    flushed.wrapping_add(unpinned).wrapping_add(pinned)
 }
 
 /// Each participant with no call under way flushes, and leaves its pin for a new one: what was taken off the stack may
@@ -104,12 +125,69 @@ fn renew_pins(rt: &impl Abort, stack: &mut Stack, under_way: [Option<UnderWay>; 
     let mut removals: u64 = 0;
     for (index, call) in under_way.iter().enumerate() {
         if call.is_none() {
-            for plain in [Plain::Flush(Some(0)), Plain::Unpin(Some(0)), Plain::Pin] {
-                removals = removals.wrapping_add(removals_of(rt, stack, index as u64, plain));
-            }
+            removals = removals.wrapping_add(renew_pin(rt, stack, index as u64));
         }
     }
     removals
+}
+
+/// Begins a call of a participant.
+fn begin_call(
+    rt: &impl Abort,
+    stack: &mut Stack,
+    begun: u64,
+    (step, value): (StackStep, Option<u64>),
+) -> UnderWay {
+    want_begun(rt, "a call begins", stack, step);
+    UnderWay { begun, value }
+}
+
+/// Begins another call of a participant, if there is one.
+fn begin_next(
+    rt: &impl Abort,
+    stack: &mut Stack,
+    run: &mut Run,
+    draws: &mut Draws,
+    participant: u64,
+) -> Option<UnderWay> {
+    if run.begun >= CALLS {
+        return None;
+    }
+    run.begun = run.begun.wrapping_add(1);
+    let drawn = draw_call(draws, participant, run.begun);
+    Some(begin_call(rt, stack, run.steps, drawn))
+}
+
+/// Takes one step of a call under way. Answers the call, if it goes on.
+fn go_on(
+    rt: &impl Abort,
+    stack: &mut Stack,
+    run: &mut Run,
+    participant: u64,
+    call: UnderWay,
+) -> Result<Option<UnderWay>, AllocError> {
+    let reply = stack.step(StackStep::Go(participant));
+    if !is_over(reply) {
+        return Ok(Some(call));
+    }
+    add_past(rt, run, call, reply)?;
+    Ok(None)
+}
+
+/// The call is over with this reply.
+fn add_past(
+    rt: &impl Abort,
+    run: &mut Run,
+    call: UnderWay,
+    reply: StackReply,
+) -> Result<(), AllocError> {
+    let past = Past {
+        begun: call.begun,
+        ended: run.steps,
+        did: did(rt, call, reply),
+    };
+    run.past.push(past)?;
+    Ok(())
 }
 
 /// One step of a participant: of its call under way, or the begin of another.
@@ -124,37 +202,20 @@ fn take_step(
         let removals = renew_pins(rt, stack, run.under_way);
         run.removed = run.removed.wrapping_add(removals);
     }
-    let Some(place) = run.under_way.get_mut(participant as usize) else {
-        return Ok(());
-    };
     run.steps = run.steps.wrapping_add(1);
-    match *place {
-        None => {
-            if run.begun < CALLS {
-                run.begun = run.begun.wrapping_add(1);
-                let (step, value) = draw_call(draws, participant, run.begun);
-                let began = stack.step(step);
-                want(rt, "a call begins", began, StackReply::World(Reply::Began));
-                *place = Some(UnderWay {
-                    begun: run.steps,
-                    value,
-                });
-            }
-        }
-        Some(call) => {
-            let reply = stack.step(StackStep::Go(participant));
-            if is_over(reply) {
-                *place = None;
-                let past = Past {
-                    begun: call.begun,
-                    ended: run.steps,
-                    did: did(rt, call, reply),
-                };
-                run.past.push(past)?;
-            }
-        }
-    }
+    let call = match run.under_way.get(participant as usize).copied().flatten() {
+        None => begin_next(rt, stack, run, draws, participant),
+        Some(call) => go_on(rt, stack, run, participant, call)?,
+    };
+    put_call(&mut run.under_way, participant as usize, call);
     Ok(())
+}
+
+/// What a participant has under way from now on.
+fn put_call(under_way: &mut [Option<UnderWay>; 3], index: usize, call: Option<UnderWay>) {
+    if index < 3 {
+        under_way[index] = call;
+    }
 }
 
 /// Whether all calls were begun, and none is under way.
@@ -163,21 +224,22 @@ fn is_done(run: &Run) -> bool {
     run.begun >= CALLS && first.is_none() && second.is_none() && third.is_none()
 }
 
+/// Pops one value of what is left. Answers what the pop did.
+fn pop_next(rt: &impl Abort, stack: &mut Stack, run: &mut Run) -> Result<StackReply, AllocError> {
+    run.steps = run.steps.wrapping_add(1);
+    let reply = pop(stack, 0, 1);
+    let call = UnderWay {
+        begun: run.steps,
+        value: None,
+    };
+    add_past(rt, run, call, reply)?;
+    Ok(reply)
+}
+
 /// Pops what is left, and sees the stack empty.
 fn pop_the_rest(rt: &impl Abort, stack: &mut Stack, run: &mut Run) -> Result<(), AllocError> {
     for _ in 0..=CALLS {
-        run.steps = run.steps.wrapping_add(1);
-        let reply = crate::calls::pop(stack, 0, 1);
-        let call = UnderWay {
-            begun: run.steps,
-            value: None,
-        };
-        let past = Past {
-            begun: run.steps,
-            ended: run.steps,
-            did: did(rt, call, reply),
-        };
-        run.past.push(past)?;
+        let reply = pop_next(rt, stack, run)?;
         if reply == StackReply::Empty {
             return Ok(());
         }
@@ -191,9 +253,48 @@ fn end_all(rt: &impl Abort, stack: &mut Stack) -> Option<u64> {
         want_done(rt, stack, participant, Plain::Unpin(Some(0)));
         want_done(rt, stack, participant, Plain::Release);
     }
-    let began = stack.step(StackStep::End);
-    want(rt, "the end begins", began, StackReply::World(Reply::Began));
+    want_begun(rt, "the end begins", stack, StackStep::End);
     end(stack)
+}
+
+/// A run that has taken no step.
+fn new_run(alloc: Global, renews: bool) -> Run {
+    Run {
+        renews,
+        past: Vec::new(alloc),
+        under_way: [None; 3],
+        steps: 0,
+        begun: 0,
+        removed: 0,
+    }
+}
+
+/// Takes steps of participants until all calls are over.
+fn take_steps(
+    rt: &impl Abort,
+    stack: &mut Stack,
+    run: &mut Run,
+    draws: &mut Draws,
+) -> Result<(), AllocError> {
+    for _ in 0..MANY {
+        if is_done(run) {
+            return Ok(());
+        }
+        let participant = draws.below(PARTICIPANTS);
+        take_step(rt, stack, run, draws, participant)?;
+    }
+    panic!(rt; "some call comes to no end")
+}
+
+/// The calls that are over fit a list.
+fn want_list(rt: &impl Abort, past: &[Past]) {
+    want(rt, "the calls fit a list", fit_a_list(past), true);
+}
+
+/// The end of the world comes to its end.
+fn want_ended(rt: &impl Abort, stack: &mut Stack) {
+    let called = end_all(rt, stack);
+    want(rt, "the end comes to its end", called.is_some(), true);
 }
 
 /// One run: its calls fit a list, whose values are those that are left. Answers how many removals were called before
@@ -201,26 +302,11 @@ fn end_all(rt: &impl Abort, stack: &mut Stack) -> Option<u64> {
 fn run_once(rt: &impl Abort, alloc: Global, draws: &mut Draws, renews: bool) -> Result<u64, Fail> {
     let cells = draws.below(9).wrapping_add(1);
     let mut stack: Stack = pinned_in(rt, alloc, shape_of(PARTICIPANTS, cells, BAGS, 64))?;
-    let mut run = Run {
-        renews,
-        past: Vec::new(alloc),
-        under_way: [None; 3],
-        steps: 0,
-        begun: 0,
-        removed: 0,
-    };
-    for _ in 0..MANY {
-        if is_done(&run) {
-            break;
-        }
-        let participant = draws.below(PARTICIPANTS);
-        take_step(rt, &mut stack, &mut run, draws, participant)?;
-    }
-    want(rt, "each call comes to its end", is_done(&run), true);
+    let mut run = new_run(alloc, renews);
+    take_steps(rt, &mut stack, &mut run, draws)?;
     pop_the_rest(rt, &mut stack, &mut run)?;
-    want(rt, "the calls fit a list", fit_a_list(&run.past), true);
-    let called = end_all(rt, &mut stack);
-    want(rt, "the end comes to its end", called.is_some(), true);
+    want_list(rt, &run.past);
+    want_ended(rt, &mut stack);
     Ok(run.removed)
 }
 

@@ -1,34 +1,38 @@
 //! Rows: steps of a stack's world, and what each has to tell.
-use crate::calls::{Stack, end, pinned, pop, push, shape_of, stack_of, to_end, want, want_done};
+use crate::calls::{
+    Stack, end, pinned, pinned_in, shape_of, stack_of, want, want_begun, want_done, want_end,
+    want_pop, want_push, want_reply, want_stepped,
+};
 use epoch_bags::{BagQueue, BagStore};
 use epoch_cells::Fault;
+use epoch_heap::Answer;
 use epoch_laws::{Deferral, Reply};
 use epoch_stack_world::{Plain, StackReply, StackStep, StackWorld};
+use std::alloc::Global;
 use std::process::Abort;
 use std::test::Fail;
 
+const PUSHED: StackReply = StackReply::Pushed;
+
+const EMPTY: StackReply = StackReply::Empty;
+
+const TRIES_OUT: StackReply = StackReply::Failed(Fault::TriesOut);
+
+const BAGS_FULL: StackReply = StackReply::Failed(Fault::BagsFull);
+
+const BUSY: StackReply = StackReply::World(Reply::Refused(Fault::Busy));
+
+const STRANGER: StackReply = StackReply::World(Reply::Refused(Fault::StrangerGuard));
+
+const UNREGISTERED: StackReply = StackReply::World(Reply::Refused(Fault::NotRegistered));
+
 /// Two values are pushed, and come off last first; and then the stack is empty.
 fn want_two_values<S: BagStore<Job = Deferral>>(rt: &impl Abort, stack: &mut StackWorld<S>) {
-    want(
-        rt,
-        "the first push",
-        push(stack, 0, 1, 3),
-        StackReply::Pushed,
-    );
-    want(
-        rt,
-        "the second push",
-        push(stack, 0, 2, 3),
-        StackReply::Pushed,
-    );
-    want(rt, "the first pop", pop(stack, 0, 3), StackReply::Popped(2));
-    want(
-        rt,
-        "the second pop",
-        pop(stack, 0, 3),
-        StackReply::Popped(1),
-    );
-    want(rt, "the third pop", pop(stack, 0, 3), StackReply::Empty);
+    want_push(rt, "the first push", stack, (0, 1, 3), PUSHED);
+    want_push(rt, "the second push", stack, (0, 2, 3), PUSHED);
+    want_pop(rt, "the first pop", stack, (0, 3), StackReply::Popped(2));
+    want_pop(rt, "the second pop", stack, (0, 3), StackReply::Popped(1));
+    want_pop(rt, "the third pop", stack, (0, 3), EMPTY);
 }
 
 #[test]
@@ -49,33 +53,18 @@ fn a_stack_stands_over_a_queue_of_bags_too(rt: HostRuntime) -> Result<(), Fail> 
 /// read the value, loaded the next and left, each by a begin, one step on cells or pointers, and an end. Then
 /// participant 1 pops that value, and pushes 2.
 fn meet(rt: &impl Abort, stack: &mut Stack, tries: u64) {
-    want(rt, "a push", push(stack, 0, 1, 1), StackReply::Pushed);
-    let began = stack.step(StackStep::Pop(0, 0, tries));
-    want(rt, "a pop begins", began, StackReply::World(Reply::Began));
-    for _ in 0..13u64 {
-        let stepped = stack.step(StackStep::Go(0));
-        want(
-            rt,
-            "the pop goes on",
-            stepped,
-            StackReply::World(Reply::Stepped),
-        );
-    }
-    want(rt, "another's pop", pop(stack, 1, 1), StackReply::Popped(1));
-    want(
-        rt,
-        "another's push",
-        push(stack, 1, 2, 1),
-        StackReply::Pushed,
-    );
+    want_push(rt, "a push", stack, (0, 1, 1), PUSHED);
+    want_begun(rt, "a pop begins", stack, StackStep::Pop(0, 0, tries));
+    want_stepped(rt, "the pop goes on", stack, 13);
+    want_pop(rt, "another's pop", stack, (1, 1), StackReply::Popped(1));
+    want_push(rt, "another's push", stack, (1, 2, 1), PUSHED);
 }
 
 #[test]
 fn an_exchange_that_others_met_is_tried_again(rt: HostRuntime) -> Result<(), Fail> {
     let mut stack: Stack = pinned(&rt, rt.alloc(), 2, 2)?;
     meet(&rt, &mut stack, 2);
-    let popped = to_end(&mut stack, 0, StackStep::Go(0));
-    want(&rt, "the second try", popped, StackReply::Popped(2));
+    want_end(&rt, "the second try", &mut stack, StackReply::Popped(2));
     Ok(())
 }
 
@@ -83,144 +72,132 @@ fn an_exchange_that_others_met_is_tried_again(rt: HostRuntime) -> Result<(), Fai
 fn an_exchange_that_others_met_is_lost_in_the_last_try(rt: HostRuntime) -> Result<(), Fail> {
     let mut stack: Stack = pinned(&rt, rt.alloc(), 2, 2)?;
     meet(&rt, &mut stack, 1);
-    let refused = to_end(&mut stack, 0, StackStep::Go(0));
-    want(
-        &rt,
-        "the only try",
-        refused,
-        StackReply::Failed(Fault::TriesOut),
-    );
-    want(
-        &rt,
-        "a further pop",
-        pop(&mut stack, 1, 1),
-        StackReply::Popped(2),
-    );
+    want_end(&rt, "the only try", &mut stack, TRIES_OUT);
+    let two = StackReply::Popped(2);
+    want_pop(&rt, "a further pop", &mut stack, (1, 1), two);
     Ok(())
+}
+
+/// Participant 0 begins a push of 1: it places the value in the first cell, loads the head, stores it in the node, and
+/// begins its exchange. Then participant 1 pushes 2.
+fn meet_push(rt: &impl Abort, stack: &mut Stack) {
+    want_begun(rt, "a push begins", stack, StackStep::Push(0, 0, 1, 2));
+    want_stepped(rt, "the push goes on", stack, 10);
+    want_push(rt, "another's push", stack, (1, 2, 1), PUSHED);
+    want_end(rt, "the second try", stack, PUSHED);
+    want_pop(rt, "the first pop", stack, (1, 1), StackReply::Popped(1));
+    want_pop(rt, "the second pop", stack, (0, 1), StackReply::Popped(2));
+    want_pop(rt, "the third pop", stack, (0, 1), EMPTY);
 }
 
 #[test]
 fn a_push_that_others_met_is_tried_again(rt: HostRuntime) -> Result<(), Fail> {
     let mut stack: Stack = pinned(&rt, rt.alloc(), 2, 2)?;
-    // It places the value in the first cell, loads the head, stores it in the node, and begins its exchange.
-    want(
-        &rt,
-        "a push begins",
-        stack.step(StackStep::Push(0, 0, 1, 2)),
-        StackReply::World(Reply::Began),
-    );
-    for _ in 0..10u64 {
-        let stepped = stack.step(StackStep::Go(0));
-        let goes_on = StackReply::World(Reply::Stepped);
-        want(&rt, "the push goes on", stepped, goes_on);
-    }
-    let pushed = push(&mut stack, 1, 2, 1);
-    want(&rt, "another's push", pushed, StackReply::Pushed);
-    let pushed = to_end(&mut stack, 0, StackStep::Go(0));
-    want(&rt, "the second try", pushed, StackReply::Pushed);
-    let first = pop(&mut stack, 1, 1);
-    want(&rt, "the first pop", first, StackReply::Popped(1));
-    let second = pop(&mut stack, 0, 1);
-    want(&rt, "the second pop", second, StackReply::Popped(2));
-    let third = pop(&mut stack, 0, 1);
-    want(&rt, "the third pop", third, StackReply::Empty);
+    meet_push(&rt, &mut stack);
     Ok(())
+}
+
+/// A pop and a push in no try. The node of the push is still in the only cell, since its removal is deferred.
+fn run_out(rt: &impl Abort, stack: &mut Stack) {
+    want_pop(rt, "a pop", stack, (0, 0), TRIES_OUT);
+    want_push(rt, "a push", stack, (0, 1, 0), TRIES_OUT);
+    let full = StackReply::Failed(Fault::CellsFull);
+    want_push(rt, "a further push", stack, (0, 1, 1), full);
+    want_pop(rt, "a further pop", stack, (0, 1), EMPTY);
 }
 
 #[test]
 fn a_call_in_no_try_runs_out_of_them(rt: HostRuntime) -> Result<(), Fail> {
     let mut stack: Stack = pinned(&rt, rt.alloc(), 1, 1)?;
-    let out = StackReply::Failed(Fault::TriesOut);
-    want(&rt, "a pop", pop(&mut stack, 0, 0), out);
-    want(&rt, "a push", push(&mut stack, 0, 1, 0), out);
-    // Its node is still in the only cell, since its removal is deferred.
-    let full = StackReply::Failed(Fault::CellsFull);
-    want(&rt, "a further push", push(&mut stack, 0, 1, 1), full);
-    want(
-        &rt,
-        "a further pop",
-        pop(&mut stack, 0, 1),
-        StackReply::Empty,
-    );
+    run_out(&rt, &mut stack);
     Ok(())
 }
 
-/// What refuses a step.
-fn refused(fault: Fault) -> StackReply {
-    StackReply::World(Reply::Refused(fault))
+/// Nobody is registered, and then nobody is pinned; at last participant 0 is.
+fn meet_no_pin(rt: &impl Abort, stack: &mut Stack) {
+    want_pop(rt, "nobody is registered", stack, (0, 1), UNREGISTERED);
+    want_push(rt, "past the table", stack, (1, 7, 1), UNREGISTERED);
+    let registered = StackReply::World(Reply::Registered(0));
+    want_reply(rt, "a registration", stack, StackStep::Register, registered);
+    want_pop(rt, "no guard is out", stack, (0, 1), STRANGER);
+    want_done(rt, stack, 0, Plain::Pin);
+}
+
+/// A plain call is under way at a push, and then a push is at a pop and at a plain call.
+fn meet_a_call(rt: &impl Abort, stack: &mut Stack) {
+    let flush = StackStep::Begin(0, Plain::Flush(Some(0)));
+    want_begun(rt, "a plain call", stack, flush);
+    want_push(rt, "a push within it", stack, (0, 7, 1), BUSY);
+    want_done_at_last(rt, stack);
+    want_begun(rt, "a push", stack, StackStep::Push(0, 0, 7, 1));
+    want_reply(rt, "a pop within it", stack, StackStep::Pop(0, 0, 1), BUSY);
+    want_reply(rt, "a plain call within it", stack, flush, BUSY);
+    want_end(rt, "the push", stack, PUSHED);
+    let idle = StackReply::World(Reply::Refused(Fault::Idle));
+    want_reply(rt, "a step of nothing", stack, StackStep::Go(0), idle);
+}
+
+/// The plain call that participant 0 has under way is done.
+fn want_done_at_last(rt: &impl Abort, stack: &mut Stack) {
+    let done = StackReply::World(Reply::Done(Answer::Unit));
+    want_end(rt, "the plain call", stack, done);
+}
+
+/// The guard of participant 0 is paused, and resumed; another one, and then its own, pops the value.
+fn meet_a_pause(rt: &impl Abort, stack: &mut Stack) {
+    want_done(rt, stack, 0, Plain::Pause(Some(0)));
+    want_pop(rt, "a paused guard", stack, (0, 1), BUSY);
+    want_done(rt, stack, 0, Plain::Resume(Some(0)));
+    want_reply(
+        rt,
+        "another guard",
+        stack,
+        StackStep::Pop(0, 1, 1),
+        STRANGER,
+    );
+    want_pop(rt, "its own guard", stack, (0, 1), StackReply::Popped(7));
 }
 
 #[test]
 fn refusals_come_in_their_order(rt: HostRuntime) -> Result<(), Fail> {
     let mut stack: Stack = stack_of(&rt, rt.alloc(), shape_of(1, 1, 1, 64))?;
-    let [unregistered, busy] = [refused(Fault::NotRegistered), refused(Fault::Busy)];
-    let stranger = refused(Fault::StrangerGuard);
-    let popped = pop(&mut stack, 0, 1);
-    want(&rt, "nobody is registered", popped, unregistered);
-    let pushed = push(&mut stack, 1, 7, 1);
-    want(&rt, "past the table", pushed, unregistered);
-    let _ = stack.step(StackStep::Register);
-    want(&rt, "no guard is out", pop(&mut stack, 0, 1), stranger);
-    want_done(&rt, &mut stack, 0, Plain::Pin);
-    let _ = stack.step(StackStep::Begin(0, Plain::Flush(Some(0))));
-    let pushed = push(&mut stack, 0, 7, 1);
-    want(&rt, "a plain call is under way", pushed, busy);
-    let _ = to_end(&mut stack, 0, StackStep::Go(0));
-    let _ = stack.step(StackStep::Push(0, 0, 7, 1));
-    let popped = stack.step(StackStep::Pop(0, 0, 1));
-    want(&rt, "a push is under way", popped, busy);
-    let plain = stack.step(StackStep::Begin(0, Plain::Flush(Some(0))));
-    want(&rt, "a push is under way of a plain call", plain, busy);
-    let _ = to_end(&mut stack, 0, StackStep::Go(0));
-    let idle = stack.step(StackStep::Go(0));
-    want(&rt, "nothing is under way", idle, refused(Fault::Idle));
-    want_done(&rt, &mut stack, 0, Plain::Pause(Some(0)));
-    want(&rt, "a paused guard", pop(&mut stack, 0, 1), busy);
-    want_done(&rt, &mut stack, 0, Plain::Resume(Some(0)));
-    let other = stack.step(StackStep::Pop(0, 1, 1));
-    want(&rt, "another guard", other, stranger);
-    let own = pop(&mut stack, 0, 1);
-    want(&rt, "its own guard", own, StackReply::Popped(7));
+    meet_no_pin(&rt, &mut stack);
+    meet_a_call(&rt, &mut stack);
+    meet_a_pause(&rt, &mut stack);
     Ok(())
+}
+
+/// One job fills the bag, and there is one place. The first bag is sealed with the epoch in which the participant is
+/// pinned, so it stays in its place.
+fn fill_up(rt: &impl Abort, stack: &mut Stack) {
+    want_done(rt, stack, 0, Plain::Defer(Some(0)));
+    want_push(rt, "the bag is put", stack, (0, 7, 1), PUSHED);
+    want_done(rt, stack, 0, Plain::Defer(Some(0)));
+    want_pop(rt, "no place is left", stack, (0, 1), BAGS_FULL);
+    want_push(rt, "nor for a push", stack, (0, 8, 1), BAGS_FULL);
 }
 
 #[test]
 fn a_full_bag_is_flushed_first(rt: HostRuntime) -> Result<(), Fail> {
-    // One job fills the bag, and there is one place.
-    let mut stack: Stack = stack_of(&rt, rt.alloc(), shape_of(1, 1, 1, 1))?;
-    let _ = stack.step(StackStep::Register);
-    want_done(&rt, &mut stack, 0, Plain::Pin);
-    want_done(&rt, &mut stack, 0, Plain::Defer(Some(0)));
-    want(
-        &rt,
-        "the bag is put",
-        push(&mut stack, 0, 7, 1),
-        StackReply::Pushed,
-    );
-    want_done(&rt, &mut stack, 0, Plain::Defer(Some(0)));
-    // The first bag is sealed with the epoch in which the participant is pinned, so it stays in its place.
-    let full = StackReply::Failed(Fault::BagsFull);
-    want(&rt, "no place is left", pop(&mut stack, 0, 1), full);
-    want(&rt, "nor for a push", push(&mut stack, 0, 8, 1), full);
+    let mut stack: Stack = pinned_in(&rt, rt.alloc(), shape_of(1, 1, 1, 1))?;
+    fill_up(&rt, &mut stack);
     Ok(())
+}
+
+/// A value comes and goes, and the participant leaves. The end calls the removal of the value.
+fn leave_and_end(rt: &impl Abort, stack: &mut Stack) {
+    want_push(rt, "a push", stack, (0, 1, 1), PUSHED);
+    want_pop(rt, "a pop", stack, (0, 1), StackReply::Popped(1));
+    want_done(rt, stack, 0, Plain::Unpin(Some(0)));
+    want_done(rt, stack, 0, Plain::Release);
+    want_begun(rt, "the end begins", stack, StackStep::End);
+    want(rt, "the end calls the removal", end(stack), Some(1));
 }
 
 #[test]
 fn an_end_calls_each_removal(rt: HostRuntime) -> Result<(), Fail> {
     let mut stack: Stack = pinned(&rt, rt.alloc(), 1, 3)?;
-    want(&rt, "a push", push(&mut stack, 0, 1, 1), StackReply::Pushed);
-    want(&rt, "a pop", pop(&mut stack, 0, 1), StackReply::Popped(1));
-    want_done(&rt, &mut stack, 0, Plain::Unpin(Some(0)));
-    want_done(&rt, &mut stack, 0, Plain::Release);
-    let began = stack.step(StackStep::End);
-    want(
-        &rt,
-        "the end begins",
-        began,
-        StackReply::World(Reply::Began),
-    );
-    let count = end(&mut stack);
-    want(&rt, "the end calls the removal", count, Some(1));
+    leave_and_end(&rt, &mut stack);
     Ok(())
 }
 
@@ -233,29 +210,16 @@ fn push_alone() -> [StackStep; 14] {
 }
 
 /// The replies to such a push.
+fn pushed_alone() -> [StackReply; 14] {
+    let mut replies = [StackReply::World(Reply::Stepped); 14];
+    replies[0] = StackReply::World(Reply::Began);
+    replies[13] = PUSHED;
+    replies
+}
+
+/// These are the replies to such a push.
 fn want_pushed(rt: &impl Abort, replies: &[StackReply]) {
-    want(rt, "there is a reply for each step", replies.len(), 14);
-    let first = replies.first().copied();
-    want(
-        rt,
-        "the push begins",
-        first,
-        Some(StackReply::World(Reply::Began)),
-    );
-    for reply in replies.iter().skip(1).take(12) {
-        want(
-            rt,
-            "the push goes on",
-            *reply,
-            StackReply::World(Reply::Stepped),
-        );
-    }
-    want(
-        rt,
-        "the push answers",
-        replies.last().copied(),
-        Some(StackReply::Pushed),
-    );
+    want(rt, "a push alone", replies, &pushed_alone()[..]);
 }
 
 #[test]
@@ -263,36 +227,40 @@ fn a_list_of_steps_is_taken_one_by_one(rt: HostRuntime) -> Result<(), Fail> {
     let mut stack: Stack = pinned(&rt, rt.alloc(), 1, 1)?;
     let replies = stack.run(&push_alone())?;
     want_pushed(&rt, &replies);
-    want(&rt, "a pop", pop(&mut stack, 0, 1), StackReply::Popped(5));
+    want_pop(&rt, "a pop", &mut stack, (0, 1), StackReply::Popped(5));
     Ok(())
+}
+
+/// A stack with one pinned participant and one cell, for which memory is asked once more where it is refused.
+fn pinned_at_last(rt: &impl Abort, alloc: Global) -> Result<Stack, Fault> {
+    match pinned(rt, alloc, 1, 1) {
+        Ok(stack) => Ok(stack),
+        Err(fault) => {
+            want(rt, "memory is refused", fault, Fault::NoMemory);
+            pinned(rt, alloc, 1, 1)
+        }
+    }
+}
+
+/// Takes the steps of a push. Where memory is refused for the replies, nothing was pushed, and they are taken again.
+fn push_at_last(rt: &impl Abort, stack: &mut Stack) -> Result<Vec<StackReply>, Fault> {
+    match stack.run(&push_alone()) {
+        Ok(replies) => Ok(replies),
+        Err(fault) => {
+            want(rt, "memory is refused", fault, Fault::NoMemory);
+            want_pop(rt, "nothing was pushed", stack, (0, 1), EMPTY);
+            stack.run(&push_alone())
+        }
+    }
 }
 
 /// `rt try --test --fail-alloc N` refuses the Nth allocation of a test, and this one passes whichever that is. In a
 /// plain run none is refused.
 #[test]
 fn steps_to_which_memory_is_refused_are_not_taken(rt: HostRuntime) -> Result<(), Fail> {
-    let alloc = rt.alloc();
     // One allocation is refused at most, so a further world is made, and a further run is.
-    let mut stack: Stack = match pinned(&rt, alloc, 1, 1) {
-        Ok(stack) => stack,
-        Err(fault) => {
-            want(&rt, "memory is refused", fault, Fault::NoMemory);
-            pinned(&rt, alloc, 1, 1)?
-        }
-    };
-    let replies = match stack.run(&push_alone()) {
-        Ok(replies) => replies,
-        Err(fault) => {
-            want(&rt, "memory is refused", fault, Fault::NoMemory);
-            want(
-                &rt,
-                "nothing was pushed",
-                pop(&mut stack, 0, 1),
-                StackReply::Empty,
-            );
-            stack.run(&push_alone())?
-        }
-    };
+    let mut stack = pinned_at_last(&rt, rt.alloc())?;
+    let replies = push_at_last(&rt, &mut stack)?;
     want_pushed(&rt, &replies);
     Ok(())
 }

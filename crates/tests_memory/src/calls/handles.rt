@@ -99,64 +99,130 @@ fn deferred(
     }
 }
 
+/// This job is called at once under a guard that protects nothing.
+fn want_called(rt: &impl Abort, none: &Guard<'_, u64>, job: Job) {
+    let called = none.call_now(job).is_ok_and(|called| called == Called::Ran);
+    want(rt, "a job called now", called, true);
+}
+
+/// A job that is handed back is called at once under a guard that protects nothing.
+fn call_back(rt: &impl Abort, none: &Guard<'_, u64>, back: Option<Job>) {
+    if let Some(job) = back {
+        want_called(rt, none, job);
+    }
+}
+
+/// The job that is deferred at this place. Where it is refused, it is called at once.
+fn defer_one(
+    rt: &impl Abort,
+    handle: &mut LocalHandle<'_, u64>,
+    (guard, none): (&Guard<'_, u64>, &Guard<'_, u64>),
+    place: usize,
+    job: Job,
+) {
+    let (fault, back) = deferred(handle, guard, job);
+    want(rt, "a deferral", (place, fault), (place, fault_at(place)));
+    call_back(rt, none, back);
+}
+
+/// Why the deferral at this place is refused: the bag and the one place are full by then.
+fn fault_at(place: usize) -> Option<Fault> {
+    if place < 2 {
+        None
+    } else {
+        Some(Fault::BagsFull)
+    }
+}
+
 /// Of three jobs the first one is put, the second one held, and the third one refused. It is called under a guard that
 /// protects nothing.
 fn defer_three(
     rt: &impl Abort,
     handle: &mut LocalHandle<'_, u64>,
-    (guard, none): (&Guard<'_, u64>, &Guard<'_, u64>),
+    guards: (&Guard<'_, u64>, &Guard<'_, u64>),
     jobs: Vec<Job>,
 ) {
     for (place, job) in jobs.into_iter().enumerate() {
-        let (fault, back) = deferred(handle, guard, job);
-        let wanted = if place < 2 {
-            None
-        } else {
-            Some(Fault::BagsFull)
-        };
-        want(rt, "a deferral", (place, fault), (place, wanted));
-        if let Some(job) = back {
-            let called = none.call_now(job).is_ok_and(|called| called == Called::Ran);
-            want(rt, "a job called now", called, true);
-        }
+        defer_one(rt, handle, guards, place, job);
     }
 }
 
-/// Makes a round for each number: its flush answers this, and so many jobs were called after it.
-fn rounds(
+/// A pin, a flush and the unpin. Answers what the flush did.
+pub fn round(rt: &impl Abort, handle: &mut LocalHandle<'_, u64>) -> Result<(), Fault> {
+    let guard = pin(rt, handle);
+    let flushed = handle.flush(&guard);
+    unpin(rt, handle, guard);
+    flushed
+}
+
+/// The flush of a round answers this, and so many jobs were called after it.
+fn want_round(
     rt: &impl Abort,
     handle: &mut LocalHandle<'_, u64>,
     calls: &AtomicU64,
-    wanted: &[(Result<(), Fault>, u64)],
+    wanted: (Result<(), Fault>, u64),
 ) {
-    for (place, (answer, called)) in wanted.iter().enumerate() {
-        let guard = pin(rt, handle);
-        let flushed = handle.flush(&guard);
-        unpin(rt, handle, guard);
-        let seen = (place, flushed, calls.load(SeqCst));
-        want(rt, "a round", seen, (place, *answer, *called));
-    }
+    let flushed = round(rt, handle);
+    want(rt, "a round", (flushed, calls.load(SeqCst)), wanted);
+}
+
+/// Pins, repins, and defers the jobs.
+fn pin_and_defer(
+    rt: &impl Abort,
+    handle: &mut LocalHandle<'_, u64>,
+    none: &Guard<'_, u64>,
+    jobs: Vec<Job>,
+) {
+    let mut guard = pin(rt, handle);
+    want_guard(rt, &guard, true);
+    repin_twice(rt, handle, &mut guard);
+    defer_three(rt, handle, (&guard, none), jobs);
+    want_views(rt, "with a full bag", handle, (true, 1, false));
+    unpin(rt, handle, guard);
 }
 
 /// The whole way of one participant. The first pin advances to 1, and is repinned there: the first bag is sealed with 1
 /// and called in 3, the second one sealed with 3 and called in 5.
-fn come_and_go(rt: &impl Abort, collector: &Collector<u64>, calls: &AtomicU64, jobs: Vec<Job>) {
-    let none = unprotected(collector);
-    want_guard(rt, &none, false);
+fn come_and_go(
+    rt: &impl Abort,
+    collector: &Collector<u64>,
+    none: &Guard<'_, u64>,
+    calls: &AtomicU64,
+    jobs: Vec<Job>,
+) {
     let mut handle = register(rt, collector);
     want_views(rt, "behind its registration", &handle, (false, 0, true));
-    let mut guard = pin(rt, &mut handle);
-    want_guard(rt, &guard, true);
-    repin_twice(rt, &mut handle, &mut guard);
-    defer_three(rt, &mut handle, (&guard, &none), jobs);
-    want_views(rt, "with a full bag", &handle, (true, 1, false));
-    unpin(rt, &mut handle, guard);
+    pin_and_defer(rt, &mut handle, none, jobs);
     want_calls(rt, "behind the deferrals", calls, 1);
-    let full = Err(Fault::BagsFull);
-    let wanted = [(full, 1), (full, 2), (Ok(()), 2), (Ok(()), 3)];
-    rounds(rt, &mut handle, calls, &wanted);
+    want_round(rt, &mut handle, calls, (Err(Fault::BagsFull), 1));
+    want_round(rt, &mut handle, calls, (Err(Fault::BagsFull), 2));
+    want_round(rt, &mut handle, calls, (Ok(()), 2));
+    want_round(rt, &mut handle, calls, (Ok(()), 3));
     release(rt, handle);
+}
+
+/// The whole way of one participant, beside a guard that protects nothing.
+fn come_and_go_beside(
+    rt: &impl Abort,
+    collector: &Collector<u64>,
+    calls: &AtomicU64,
+    jobs: Vec<Job>,
+) {
+    let none = unprotected(collector);
+    want_guard(rt, &none, false);
+    come_and_go(rt, collector, &none, calls, jobs);
     let_go(rt, none);
+}
+
+/// The deferral of a job is kept.
+fn want_deferred(
+    rt: &impl Abort,
+    handle: &mut LocalHandle<'_, u64>,
+    guard: &Guard<'_, u64>,
+    job: Job,
+) {
+    let kept = handle.defer(guard, job).is_ok();
+    want(rt, "a deferral", kept, true);
 }
 
 /// Another participant defers the jobs, of which there is one, and is released: its bag is put.
@@ -164,8 +230,7 @@ fn defer_and_leave(rt: &impl Abort, collector: &Collector<u64>, jobs: Vec<Job>) 
     let mut handle = register(rt, collector);
     let guard = pin(rt, &mut handle);
     for job in jobs {
-        let kept = handle.defer(&guard, job).is_ok();
-        want(rt, "a deferral", kept, true);
+        want_deferred(rt, &mut handle, &guard, job);
     }
     unpin(rt, &mut handle, guard);
     release(rt, handle);
@@ -177,7 +242,7 @@ fn calls_of_handles_and_guards_take_no_memory(rt: HostRuntime) -> Result<(), Fai
     let three = jobs_at_last(rt.alloc(), 3, &calls)?;
     let one = jobs_at_last(rt.alloc(), 1, &calls)?;
     let collector = collector_at_last(rt.alloc())?;
-    come_and_go(&rt, &collector, &calls, three);
+    come_and_go_beside(&rt, &collector, &calls, three);
     defer_and_leave(&rt, &collector, one);
     want_calls(&rt, "before the end", &calls, 3);
     end(&rt, collector, 1);

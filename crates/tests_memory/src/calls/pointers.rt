@@ -1,13 +1,13 @@
 //! Calls of pointers and values.
 
-use crate::calls::handles::{end, let_go, pin, register, release, unpin};
+use crate::calls::handles::{end, let_go, pin, register, release, round, unpin};
 use crate::calls::made::{collector_at_last, owned_at_last};
 use crate::wants::want;
 use epoch_base::{Called, Fault};
 use epoch_pin::atomic::{
     Atomic, DeferDestroy, DestroyNow, ExchangeFault, Owned, Shared, UpdateFault,
 };
-use epoch_pin::{Collector, Guard, unprotected};
+use epoch_pin::{Collector, Guard, LocalHandle, unprotected};
 use std::process::Abort;
 use std::sync::atomic::Ordering::SeqCst;
 use std::test::Fail;
@@ -71,13 +71,13 @@ fn want_full_store(
     want(rt, "the value handed back", *back, value);
 }
 
-/// Two values come to stand behind one pointer, a third one finds no cell, and the two are owned again.
-fn store_and_swap(
+/// The first value, which stands behind the pointer, is swapped for the second one. Answers the pointers to both.
+fn swap_two<'g>(
     rt: &impl Abort,
-    guard: &Guard<'_, u64>,
-    (first, second, third): (Owned<u64>, Owned<u64>, Owned<u64>),
-) {
-    let atomic = want_ok(rt, "a cell is free", Atomic::from_owned(first, guard));
+    guard: &'g Guard<'_, u64>,
+    atomic: &Atomic<u64>,
+    second: Owned<u64>,
+) -> (Shared<'g, u64>, Shared<'g, u64>) {
     let one = atomic.load(SeqCst, guard);
     want_value(rt, "the first value", one, 10);
     let before = atomic.swap(second.with_tag(5), SeqCst, guard);
@@ -85,10 +85,26 @@ fn store_and_swap(
     want(rt, "the first pointer", before == one, true);
     let two = atomic.load_consume(guard);
     want_value(rt, "the second value", two, 20);
-    want_full_store(rt, guard, &atomic, third);
+    (one, two)
+}
+
+/// The first value stands behind the pointer again, and is owned again.
+fn store_back(rt: &impl Abort, guard: &Guard<'_, u64>, atomic: Atomic<u64>, one: Shared<'_, u64>) {
     let stored = atomic.store(one, SeqCst, guard).is_ok();
     want(rt, "a pointer is stored", stored, true);
     want_owned(rt, "the first", atomic.try_into_owned(guard), (10, 0));
+}
+
+/// Two values come to stand behind one pointer, a third one finds no cell, and the two are owned again.
+fn store_and_swap(
+    rt: &impl Abort,
+    guard: &Guard<'_, u64>,
+    (first, second, third): (Owned<u64>, Owned<u64>, Owned<u64>),
+) {
+    let atomic = want_ok(rt, "a cell is free", Atomic::from_owned(first, guard));
+    let (one, two) = swap_two(rt, guard, &atomic, second);
+    want_full_store(rt, guard, &atomic, third);
+    store_back(rt, guard, atomic, one);
     let last = Atomic::from(two);
     want_owned(rt, "the second", last.into_owned(guard), (20, 5));
 }
@@ -120,9 +136,13 @@ fn lost(
     }
 }
 
-/// An owned value is lost by one exchange and placed by the next, and pointers are exchanged for one another.
-fn exchange(rt: &impl Abort, guard: &Guard<'_, u64>, owned: Owned<u64>) {
-    let atomic = Atomic::<u64>::null();
+/// An owned value is lost by one exchange and placed by the next. Answers the pointer to it.
+fn lose_and_place<'g>(
+    rt: &impl Abort,
+    guard: &'g Guard<'_, u64>,
+    atomic: &Atomic<u64>,
+    owned: Owned<u64>,
+) -> Shared<'g, u64> {
     let null = Shared::<u64>::null();
     let answer = atomic.compare_exchange(null.with_tag(1), owned, SeqCst, SeqCst, guard);
     let owned = lost(rt, answer);
@@ -130,6 +150,17 @@ fn exchange(rt: &impl Abort, guard: &Guard<'_, u64>, owned: Owned<u64>) {
     let won = atomic.compare_and_set(null, owned, SeqCst, guard);
     let placed = want_ok(rt, "compare_and_set", won);
     want_value(rt, "the value that is placed", placed, 10);
+    placed
+}
+
+/// The pointer is exchanged for one with a tag, and that one for null. Answers the one with the tag.
+fn exchange_for_null<'g>(
+    rt: &impl Abort,
+    guard: &'g Guard<'_, u64>,
+    atomic: &Atomic<u64>,
+    placed: Shared<'g, u64>,
+) -> Shared<'g, u64> {
+    let null = Shared::<u64>::null();
     let won = atomic.compare_exchange_weak(placed, placed.with_tag(3), SeqCst, SeqCst, guard);
     let tagged = want_ok(rt, "compare_exchange_weak", won);
     want(rt, "its tag", tagged.tag(), 3);
@@ -137,6 +168,14 @@ fn exchange(rt: &impl Abort, guard: &Guard<'_, u64>, owned: Owned<u64>) {
     want(rt, "one with another tag", lost.is_err(), true);
     let won = atomic.compare_and_set_weak(tagged, null, SeqCst, guard);
     want(rt, "compare_and_set_weak", won.is_ok(), true);
+    tagged
+}
+
+/// An owned value is lost by one exchange and placed by the next, and pointers are exchanged for one another.
+fn exchange(rt: &impl Abort, guard: &Guard<'_, u64>, owned: Owned<u64>) {
+    let atomic = Atomic::<u64>::null();
+    let placed = lose_and_place(rt, guard, &atomic, owned);
+    let tagged = exchange_for_null(rt, guard, &atomic, placed);
     want_owned(rt, "the value", tagged.into_owned(), (10, 3));
 }
 
@@ -204,27 +243,40 @@ fn add_one(rt: &impl Abort, shared: Shared<'_, u64>) {
     }
 }
 
-/// A value is changed where it is owned, in its cell, and in its box, and is destroyed at last.
-fn change_and_destroy(rt: &impl Abort, guard: &Guard<'_, u64>, owned: Owned<u64>) {
+/// A value is changed where it is owned and in its cell, and is owned again.
+fn change_in_cell(rt: &impl Abort, guard: &Guard<'_, u64>, owned: Owned<u64>) -> Owned<u64> {
     let mut owned = owned;
     *owned = 40;
     let placed = want_ok(rt, "a cell is free", owned.into_shared(guard));
     add_one(rt, placed);
     want_value(rt, "the value in its cell", placed, 41);
-    let Some(owned) = placed.try_into_owned() else {
-        panic!(rt; "the value is gone");
-    };
+    match placed.try_into_owned() {
+        Some(owned) => owned,
+        None => panic!(rt; "the value is gone"),
+    }
+}
+
+/// A destruction of the value says so.
+fn want_destroyed(
+    rt: &impl Abort,
+    guard: &Guard<'_, u64>,
+    placed: Shared<'_, u64>,
+    wanted: Called,
+) {
+    let called = guard
+        .destroy_now(placed)
+        .is_ok_and(|called| called == wanted);
+    want(rt, "a destruction", called, true);
+}
+
+/// A value is changed where it is owned, in its cell, and in its box, and is destroyed at last.
+fn change_and_destroy(rt: &impl Abort, guard: &Guard<'_, u64>, owned: Owned<u64>) {
+    let owned = change_in_cell(rt, guard, owned);
     let again = Owned::from(owned.into_box());
     want(rt, "the value in its box", *again, 41);
     let placed = want_ok(rt, "its next turn", again.into_shared(guard));
-    let called = guard
-        .destroy_now(placed)
-        .is_ok_and(|called| called == Called::Destroyed);
-    want(rt, "a destruction", called, true);
-    let called = guard
-        .destroy_now(placed)
-        .is_ok_and(|called| called == Called::Gone);
-    want(rt, "another one", called, true);
+    want_destroyed(rt, guard, placed, Called::Destroyed);
+    want_destroyed(rt, guard, placed, Called::Gone);
 }
 
 #[test]
@@ -238,39 +290,48 @@ fn values_are_changed_and_destroyed_without_memory(rt: HostRuntime) -> Result<()
     Ok(())
 }
 
-/// Of two removals the first one is put, the second one held: the third one is refused.
-fn remove_later(
+/// The removal of the value is deferred, or refused for this.
+fn want_removal(
     rt: &impl Abort,
-    collector: &Collector<u64>,
+    handle: &mut LocalHandle<'_, u64>,
+    guard: &Guard<'_, u64>,
+    shared: Shared<'_, u64>,
+    wanted: Result<(), Fault>,
+) {
+    let deferred = handle
+        .defer_destroy(guard, shared)
+        .map_err(|refused| refused.fault);
+    want(rt, "a removal", deferred, wanted);
+}
+
+/// Of two removals the first one is put, the second one held: the third one is refused.
+fn remove_two(
+    rt: &impl Abort,
+    handle: &mut LocalHandle<'_, u64>,
+    guard: &Guard<'_, u64>,
     (first, second): (Owned<u64>, Owned<u64>),
 ) {
+    let one = want_ok(rt, "a cell is free", first.into_shared(guard));
+    let two = want_ok(rt, "the other cell is free", second.into_shared(guard));
+    want_removal(rt, handle, guard, one, Ok(()));
+    want_removal(rt, handle, guard, two, Ok(()));
+    want_removal(rt, handle, guard, two, Err(Fault::BagsFull));
+}
+
+/// The flush of a round answers this.
+fn want_flushed(rt: &impl Abort, handle: &mut LocalHandle<'_, u64>, wanted: Result<(), Fault>) {
+    want(rt, "a flush", round(rt, handle), wanted);
+}
+
+/// A participant removes both values. The bag in the one place was sealed with 1, and is taken in epoch 3.
+fn remove_later(rt: &impl Abort, collector: &Collector<u64>, values: (Owned<u64>, Owned<u64>)) {
     let mut handle = register(rt, collector);
     let guard = pin(rt, &mut handle);
-    let one = want_ok(rt, "a cell is free", first.into_shared(&guard));
-    let two = want_ok(rt, "the other cell is free", second.into_shared(&guard));
-    want(
-        rt,
-        "the first",
-        handle.defer_destroy(&guard, one).is_ok(),
-        true,
-    );
-    want(
-        rt,
-        "the second",
-        handle.defer_destroy(&guard, two).is_ok(),
-        true,
-    );
-    let refused = handle
-        .defer_destroy(&guard, two)
-        .map_err(|refused| refused.fault);
-    want(rt, "a third one", refused, Err(Fault::BagsFull));
+    remove_two(rt, &mut handle, &guard, values);
     unpin(rt, &mut handle, guard);
-    // The bag in the one place was sealed with 1, and is taken in epoch 3.
-    for flushed in [Err(Fault::BagsFull), Err(Fault::BagsFull), Ok(())] {
-        let guard = pin(rt, &mut handle);
-        want(rt, "a flush", handle.flush(&guard), flushed);
-        unpin(rt, &mut handle, guard);
-    }
+    want_flushed(rt, &mut handle, Err(Fault::BagsFull));
+    want_flushed(rt, &mut handle, Err(Fault::BagsFull));
+    want_flushed(rt, &mut handle, Ok(()));
     release(rt, handle);
 }
 

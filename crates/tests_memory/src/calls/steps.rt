@@ -10,20 +10,6 @@ use std::alloc::{AllocError, Global};
 use std::process::Abort;
 use std::test::Fail;
 
-/// One participant and one place; a bag takes one job, and a collection one bag.
-const SHAPE: Shape = Shape {
-    participants: 1,
-    cells: 0,
-    roots: 0,
-    fields: 0,
-    bags: 1,
-    align: 1,
-    start_epoch: 0,
-    start_turn: 0,
-    bag_jobs: 1,
-    collect_bags: 1,
-};
-
 /// More steps than any call or end of these tests has.
 const MANY: u64 = 100;
 
@@ -70,11 +56,42 @@ const CALLS: [(Call, Reply, u64); 26] = [
     (Call::Release, Reply::Done(Answer::Released), 2),
 ];
 
+/// A new world of one participant and one place; a bag takes one job, and a collection one bag.
+fn new_world<S: BagStore<Job = Deferral>>(
+    rt: &impl Abort,
+    alloc: Global,
+) -> Result<World<S>, Fault> {
+    let shape = Shape {
+        bags: 1,
+        bag_jobs: 1,
+        collect_bags: 1,
+        ..Shape::usual(1, 0, 0, 0)
+    };
+    assert!(rt; shape.is_valid());
+    World::new(alloc, shape)
+}
+
 /// A new world, for which memory is asked once more where it is refused.
-fn world_at_last<S: BagStore<Job = Deferral>>(alloc: Global) -> Result<World<S>, Fault> {
-    match World::new(alloc, SHAPE) {
+fn world_at_last<S: BagStore<Job = Deferral>>(
+    rt: &impl Abort,
+    alloc: Global,
+) -> Result<World<S>, Fault> {
+    match new_world(rt, alloc) {
         Ok(world) => Ok(world),
-        Err(_) => World::new(alloc, SHAPE),
+        Err(_) => new_world(rt, alloc),
+    }
+}
+
+/// Whether the reply ends what is under way.
+fn is_last(reply: Reply) -> bool {
+    matches!(reply, Reply::Done(_) | Reply::Refused(_))
+}
+
+/// How many jobs a reply tells of.
+fn jobs_told(reply: Reply) -> u64 {
+    match reply {
+        Reply::Called(_, Called::Ran) => 1,
+        _ => 0,
     }
 }
 
@@ -84,18 +101,17 @@ fn go_to_end<S: BagStore<Job = Deferral>>(
     world: &mut World<S>,
     first: Step,
     other: Step,
-) -> Option<(Reply, u64)> {
+) -> (Reply, u64) {
     let (mut step, mut called) = (first, 0u64);
     for _ in 0..MANY {
         let reply = world.step(step);
-        match reply {
-            Reply::Done(_) | Reply::Refused(_) => return Some((reply, called)),
-            Reply::Called(_, Called::Ran) => called = called.saturating_add(1),
-            _ => {}
+        called = called.saturating_add(jobs_told(reply));
+        if is_last(reply) {
+            return (reply, called);
         }
         step = other;
     }
-    None
+    (Reply::Stepped, called)
 }
 
 /// The epoch, the participant's word, and whether its bag has room.
@@ -109,43 +125,54 @@ fn want_numbers<S: BagStore<Job = Deferral>>(
     want(rt, what, numbers, wanted);
 }
 
-/// The participant makes all calls, and the world is ended, which calls the job that the release has put.
-fn come_and_go<S: BagStore<Job = Deferral>>(rt: &impl Abort, world: &mut World<S>) {
-    let told = world.step(Step::Register);
-    want(rt, "a registration", told, Reply::Registered(0));
-    want_numbers(rt, "behind it", world, (0, Some(2), Some(true)));
+/// The participant makes this call, which ends with this reply. Answers how many jobs it called.
+fn want_call<S: BagStore<Job = Deferral>>(
+    rt: &impl Abort,
+    world: &mut World<S>,
+    place: usize,
+    (call, last): (Call, Reply),
+) -> u64 {
+    let (reply, called) = go_to_end(world, Step::Begin(0, call), Step::Go(0));
+    want(rt, "a call", (place, reply), (place, last));
+    called
+}
+
+/// The participant makes all calls.
+fn want_calls<S: BagStore<Job = Deferral>>(rt: &impl Abort, world: &mut World<S>) {
     let mut called = 0u64;
     for (place, (call, last, by_then)) in CALLS.iter().enumerate() {
-        let told = go_to_end(world, Step::Begin(0, *call), Step::Go(0));
-        let (reply, now) = told.unwrap_or((Reply::Stepped, 0));
+        let now = want_call(rt, world, place, (*call, *last));
         called = called.saturating_add(now);
-        want(
-            rt,
-            "a call",
-            (place, reply, called),
-            (place, *last, *by_then),
-        );
+        want(rt, "the jobs", (place, called), (place, *by_then));
     }
+}
+
+/// The participant is registered at position 0.
+fn register<S: BagStore<Job = Deferral>>(rt: &impl Abort, world: &mut World<S>) {
+    let told = world.step(Step::Register);
+    want(rt, "a registration", told, Reply::Registered(0));
+}
+
+/// The participant makes all calls, and the world is ended, which calls the job that the release has put.
+fn come_and_go<S: BagStore<Job = Deferral>>(rt: &impl Abort, world: &mut World<S>) {
+    register(rt, world);
+    want_numbers(rt, "behind it", world, (0, Some(2), Some(true)));
+    want_calls(rt, world);
     want_numbers(rt, "behind the calls", world, (5, Some(0), None));
     let told = go_to_end(world, Step::End, Step::EndGo);
-    want(
-        rt,
-        "the end",
-        told,
-        Some((Reply::Done(Answer::Count(1)), 1)),
-    );
+    want(rt, "the end", told, (Reply::Done(Answer::Count(1)), 1));
 }
 
 #[test]
 fn steps_of_a_world_over_places_take_no_memory(rt: HostRuntime) -> Result<(), Fail> {
-    let mut world: World<Places<Deferral>> = world_at_last(rt.alloc())?;
+    let mut world: World<Places<Deferral>> = world_at_last(&rt, rt.alloc())?;
     come_and_go(&rt, &mut world);
     Ok(())
 }
 
 #[test]
 fn steps_of_a_world_over_a_queue_take_no_memory(rt: HostRuntime) -> Result<(), Fail> {
-    let mut world: World<BagQueue<Deferral>> = world_at_last(rt.alloc())?;
+    let mut world: World<BagQueue<Deferral>> = world_at_last(&rt, rt.alloc())?;
     come_and_go(&rt, &mut world);
     Ok(())
 }
@@ -168,10 +195,11 @@ const EARLY: [(Step, Reply); 10] = [
 fn entries_of(alloc: Global, history: &[(Step, Reply)]) -> Result<Vec<Entry>, AllocError> {
     let mut entries = Vec::with_capacity(alloc, history.len())?;
     for (step, reply) in history {
-        entries.push(Entry {
+        let entry = Entry {
             step: *step,
             reply: *reply,
-        })?;
+        };
+        entries.push(entry)?;
     }
     Ok(entries)
 }
@@ -184,21 +212,16 @@ fn entries_at_last(alloc: Global, history: &[(Step, Reply)]) -> Result<Vec<Entry
     }
 }
 
+/// Each event stands where it may, no job is called twice, and one is called too early.
+fn want_early(rt: &impl Abort, entries: &[Entry]) {
+    want(rt, "is_lawful", is_lawful(entries), true);
+    want(rt, "calls_none_twice", calls_none_twice(entries), true);
+    want(rt, "keeps_grace", keeps_grace(entries), false);
+}
+
 #[test]
 fn checkers_of_histories_take_no_memory(rt: HostRuntime) -> Result<(), Fail> {
     let early = entries_at_last(rt.alloc(), &EARLY)?;
-    want(
-        &rt,
-        "each event stands where it may",
-        is_lawful(&early),
-        true,
-    );
-    want(
-        &rt,
-        "no job is called twice",
-        calls_none_twice(&early),
-        true,
-    );
-    want(&rt, "none is called too early", keeps_grace(&early), false);
+    want_early(&rt, &early);
     Ok(())
 }
