@@ -139,7 +139,8 @@ returns-clause-kept g c = λ name owns names ok.
 pub returns-clause-tried : goal.returns-clause-tried
 returns-clause-tried g c = λ name none names.
     subst (λ (n : Name). g.W.Removing.Remove.tried n)
-    (same_Some c.in-Some.name name (sym c.in-Some.ensures.name ∙ names.name_of)) (c.in_default-defer.ensures.at_once none)
+    (same_Some c.in-Some.name name (sym c.in-Some.ensures.name ∙ names.name_of))
+    (c.in_default-defer.ensures.at_once none)
 
 pub returns-in-Err-clause-tried : goal.returns-in-Err-clause-tried
 returns-in-Err-clause-tried g c = λ name none names.
