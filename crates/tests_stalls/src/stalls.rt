@@ -173,8 +173,8 @@ fn whoever_stalls_in_a_repin_keeps_the_laws(rt: HostRuntime) {
 
 #[test]
 fn whoever_stalls_in_a_deferral_to_a_full_bag_keeps_the_laws(rt: HostRuntime) {
-    let before = (&[Call::Pin], 64);
-    stalls(&rt, rt.alloc(), "the 65th deferral", before, DEFER);
+    let pin = [Call::Pin];
+    stalls(&rt, rt.alloc(), "the 65th deferral", (&pin, 64), DEFER);
 }
 
 #[test]
