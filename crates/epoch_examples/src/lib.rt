@@ -1,6 +1,7 @@
 //! Small programs over these crates, each a page to copy: the functions are proved, and the tests run them.
 #![tactic(auto)]
 
+pub mod schedule;
 pub mod shared_value;
 #[cfg(test)]
 mod tests;

@@ -1,7 +1,9 @@
 //! Runs the examples, on threads where they are for threads.
+use crate::schedule::half_a_pin;
 use crate::shared_value::{read, replace};
 use epoch_pin::atomic::Atomic;
 use epoch_pin::{Capacities, Collector, LocalHandle};
+use epoch_world::Reply;
 use std::alloc::Global;
 use std::process::Abort;
 use std::test::Fail;
@@ -55,5 +57,12 @@ fn readers_read_while_one_thread_replaces(rt: HostRuntime) -> Result<(), Fail> {
         }
     });
     let _ = collector.end();
+    Ok(())
+}
+
+#[test]
+fn a_pin_stops_after_its_first_step(rt: HostRuntime) -> Result<(), Fail> {
+    let replies = half_a_pin(rt.alloc())?;
+    assert!(rt; replies.as_slice() == [Reply::Began, Reply::Stepped]);
     Ok(())
 }
