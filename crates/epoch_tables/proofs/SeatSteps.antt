@@ -64,7 +64,8 @@ module _ {S : Type 0} where
         → (j : ℕ) × (u : ParticipantView) × (get_elem? after_views j ≡ some u) × (u.position ≡ Some k)
     still_taken k below not_free = let me_there = set_here s.views me w (is_seat s.views me v at_me) in ⊎_elim
         (λ mine. (me, w, me_there, mine))
-        (λ (t : (get_or s.words (word_at k) 0 ≢ 0) × ((u : ParticipantView) → Sees s me u → u.position ≡ Some k → w.position ≡ Some k)).
+        (λ (t : (get_or s.words (word_at k) 0 ≢ 0)
+        × ((u : ParticipantView) → Sees s me u → u.position ≡ Some k → w.position ≡ Some k)).
         let held = r.taken_by_seat k below t.0 in
         dite (ℕ_discrete held.0 me)
         (λ same. (me, w, me_there, t.1 held.1 (subst (λ (z : ℕ). Sees s z held.1) same held.2) held.3))
