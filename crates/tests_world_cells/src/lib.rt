@@ -1,14 +1,10 @@
-//! Tests of cells and pointers in the world: rows of lines, random steps, long lists, and memory that is refused.
+//! Tests of cells and pointers in the world: rows of lines, long lists, and memory that is refused.
 #![tactic(auto)]
 
-#[cfg(test)]
-mod dice;
 #[cfg(test)]
 mod long;
 #[cfg(test)]
 mod memory;
-#[cfg(test)]
-mod random;
 #[cfg(test)]
 mod rows;
 #[cfg(test)]

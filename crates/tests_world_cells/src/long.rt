@@ -25,6 +25,17 @@ fn long_script(alloc: Global) -> Result<String, AllocError> {
     Ok(lines)
 }
 
+/// How many lines end in these bytes.
+fn count_lines(bytes: &[u8]) -> u64 {
+    let mut lines = 0u64;
+    for byte in bytes {
+        if *byte == b'\n' {
+            lines = lines.saturating_add(1);
+        }
+    }
+    lines
+}
+
 #[test]
 fn a_hundred_thousand_lines_on_cells_are_done(rt: HostRuntime) -> Result<(), Fail> {
     let script = long_script(rt.alloc())?;
@@ -33,7 +44,7 @@ fn a_hundred_thousand_lines_on_cells_are_done(rt: HostRuntime) -> Result<(), Fai
     let mut faults = Vec::new(rt.alloc());
     let ending = run(rt.alloc(), &mut reader, &mut answers, &mut faults);
     want(&rt, "the exit status", ending.status(), 0);
-    let lines = answers.iter().filter(|byte| **byte == b'\n').count();
+    let lines = count_lines(&answers);
     want(&rt, "how many lines are printed", lines, 100_006);
     Ok(())
 }

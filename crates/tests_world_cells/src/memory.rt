@@ -10,20 +10,6 @@ use epoch_world::{Call, Deferral, Reply, Shape, Step, World};
 use std::alloc::Global;
 use std::process::Abort;
 
-/// One participant, two cells of one field, one root, and two places.
-const SHAPE: Shape = Shape {
-    participants: 1,
-    cells: 2,
-    roots: 1,
-    fields: 1,
-    bags: 2,
-    align: 4,
-    start_epoch: 0,
-    start_turn: 0,
-    bag_jobs: 64,
-    collect_bags: 8,
-};
-
 /// More steps than any of the calls has.
 const MANY: u64 = 100;
 
@@ -56,12 +42,22 @@ const LAST_TOLD: [Reply; 6] = [
     Reply::Done(Answer::Unit),
 ];
 
+/// A world of one participant, two cells of one field, one root, and two places.
 fn new_world<S: BagStore<Job = Deferral>>(
     rt: &impl Abort,
     alloc: Global,
 ) -> Result<World<S>, Fault> {
-    assert!(rt; SHAPE.is_valid());
-    World::new(alloc, SHAPE)
+    let shape = Shape {
+        bags: 2,
+        ..Shape::usual(1, 2, 1, 1)
+    };
+    assert!(rt; shape.is_valid());
+    World::new(alloc, shape)
+}
+
+/// Memory was refused, and nothing else.
+fn want_no_memory(rt: &impl Abort, fault: Fault) {
+    want(rt, "why it is refused", fault, Fault::NoMemory);
 }
 
 /// A world, for which memory is asked once more where it is refused.
@@ -72,7 +68,7 @@ fn world_at_last<S: BagStore<Job = Deferral>>(
     match new_world(rt, alloc) {
         Ok(world) => Ok(world),
         Err(fault) => {
-            want(rt, "why no world is made", fault, Fault::NoMemory);
+            want_no_memory(rt, fault);
             new_world(rt, alloc)
         }
     }
@@ -83,22 +79,50 @@ fn numbers_of<S: BagStore<Job = Deferral>>(world: &World<S>) -> (u64, Option<u64
     (world.epoch(), world.word(0))
 }
 
+/// The epoch and the word of the participant.
+fn want_numbers<S: BagStore<Job = Deferral>>(
+    rt: &impl Abort,
+    world: &World<S>,
+    numbers: (u64, Option<u64>),
+) {
+    want(rt, "the numbers", numbers_of(world), numbers);
+}
+
+/// What was refused for want of memory has left the world as it was.
+fn want_as_before<S: BagStore<Job = Deferral>>(
+    rt: &impl Abort,
+    fault: Fault,
+    world: &World<S>,
+    before: (u64, Option<u64>),
+) {
+    want_no_memory(rt, fault);
+    want_numbers(rt, world, before);
+}
+
 /// Runs this list. Where memory for its replies is refused, the world is as it was, and the list is handed in again.
+fn run_again<S: BagStore<Job = Deferral>>(
+    rt: &impl Abort,
+    world: &mut World<S>,
+    steps: &[Step],
+) -> Result<Vec<Reply>, Fault> {
+    let before = numbers_of(world);
+    match world.run(steps) {
+        Ok(replies) => Ok(replies),
+        Err(fault) => {
+            want_as_before(rt, fault, world, before);
+            world.run(steps)
+        }
+    }
+}
+
+/// Runs this list, to which these are the replies.
 fn expect_run<S: BagStore<Job = Deferral>>(
     rt: &impl Abort,
     world: &mut World<S>,
     steps: &[Step],
     told: &[Reply],
 ) -> Result<(), Fault> {
-    let before = numbers_of(world);
-    let replies = match world.run(steps) {
-        Ok(replies) => replies,
-        Err(fault) => {
-            want(rt, "why a list is refused", fault, Fault::NoMemory);
-            want(rt, "after a refused list", numbers_of(world), before);
-            world.run(steps)?
-        }
-    };
+    let replies = run_again(rt, world, steps)?;
     want(rt, "the replies to a list", replies.as_slice(), told);
     Ok(())
 }
@@ -113,8 +137,7 @@ fn call_again<S: BagStore<Job = Deferral>>(
     match world.call(0, call) {
         Ok(replies) => Ok(replies),
         Err(fault) => {
-            want(rt, "why a call is refused", fault, Fault::NoMemory);
-            want(rt, "after a refused call", numbers_of(world), before);
+            want_as_before(rt, fault, world, before);
             world.call(0, call)
         }
     }
@@ -122,11 +145,26 @@ fn call_again<S: BagStore<Job = Deferral>>(
 
 /// The last one of these replies, and how many of them tell that a job was called.
 fn outcome_of(replies: &[Reply]) -> (Option<Reply>, u64) {
-    let called = replies
-        .iter()
-        .filter(|reply| matches!(reply, Reply::Called(_, _)))
-        .count();
-    (replies.last().copied(), called as u64)
+    let mut called = 0u64;
+    for reply in replies {
+        if matches!(reply, Reply::Called(_, _)) {
+            called = called.saturating_add(1);
+        }
+    }
+    (replies.last().copied(), called)
+}
+
+/// Makes this call whole. It has this outcome.
+fn expect_call<S: BagStore<Job = Deferral>>(
+    rt: &impl Abort,
+    world: &mut World<S>,
+    place: usize,
+    (call, last, called): Told,
+) -> Result<(), Fault> {
+    let replies = call_again(rt, world, call)?;
+    let seen = (place, outcome_of(&replies));
+    want(rt, "a call", seen, (place, (Some(last), called)));
+    Ok(())
 }
 
 /// Makes these calls whole.
@@ -135,10 +173,8 @@ fn expect_calls<S: BagStore<Job = Deferral>>(
     world: &mut World<S>,
     calls: &[Told],
 ) -> Result<(), Fault> {
-    for (place, (call, last, called)) in calls.iter().enumerate() {
-        let replies = call_again(rt, world, *call)?;
-        let seen = (place, outcome_of(&replies));
-        want(rt, "a call", seen, (place, (Some(*last), *called)));
+    for (place, call) in calls.iter().enumerate() {
+        expect_call(rt, world, place, *call)?;
     }
     Ok(())
 }
@@ -181,7 +217,7 @@ fn tell_all<S: BagStore<Job = Deferral>>(rt: &impl Abort, alloc: Global) -> Resu
     expect_calls(rt, &mut world, &moves())?;
     expect_calls(rt, &mut world, &removals(rt))?;
     expect_run(rt, &mut world, &last(), &LAST_TOLD)?;
-    want(rt, "at the end", numbers_of(&world), (3, Some(2)));
+    want_numbers(rt, &world, (3, Some(2)));
     Ok(())
 }
 
@@ -200,18 +236,19 @@ fn what_is_refused_to_cells_over_a_queue_has_never_come(rt: HostRuntime) {
     want_told(&rt, tell_all::<BagQueue<Deferral>>(&rt, rt.alloc()));
 }
 
+/// The participant is registered at position 0.
+fn register<S: BagStore<Job = Deferral>>(rt: &impl Abort, world: &mut World<S>) {
+    let told = world.step(Step::Register);
+    want(rt, "a registration", told, Reply::Registered(0));
+}
+
 #[test]
 fn steps_on_cells_take_no_memory(rt: HostRuntime) -> Result<(), Fault> {
     let mut world: World<Places<Deferral>> = world_at_last(&rt, rt.alloc())?;
-    want(
-        &rt,
-        "register",
-        world.step(Step::Register),
-        Reply::Registered(0),
-    );
+    register(&rt, &mut world);
     expect_steps(&rt, &mut world, &links(&rt));
     expect_steps(&rt, &mut world, &moves());
     expect_steps(&rt, &mut world, &removals(&rt));
-    want(&rt, "at the end", numbers_of(&world), (3, Some(5)));
+    want_numbers(&rt, &world, (3, Some(5)));
     Ok(())
 }
