@@ -1,0 +1,15 @@
+use denote.Param.Send.{IsSend}
+use Rattle.epoch_lend.specs.contracts.post.Guard.{the_row}
+use Rattle.epoch_lend.proofs.Keyless.{registered_keyless}
+
+pub send : IsSend the_row
+send = record {
+  owned = λ d vs. (
+    (λ vss. (tt, ((λ uss. (tt, tt)), tt))),
+    (
+      (λ e. (λ c. tt)),
+      registered_keyless (d.atom, d.epoch) d.log,
+    ),
+  );
+  leaving = λ k f vs. tt;
+}

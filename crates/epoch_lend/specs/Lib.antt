@@ -1,0 +1,3 @@
+pub mod Parted
+pub mod Posts
+pub mod Loans

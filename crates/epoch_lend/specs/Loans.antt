@@ -1,0 +1,171 @@
+-- What the word of a value holds while it is present: the token of the value's lifetime a, less what was lent to
+-- guards, and
+-- the loans.
+use Rattle.std.specs.Prelude.{◌≡◌, ◌≢◌, ℕ, zero, suc, ◌+◌, ◌*◌, ◌≤◌, ◌⊎◌, List, [], ◌∷◌, length}
+use mathlib.Core.Bool.{Bool, true, false}
+use base.Share
+use base.Fraction.{full_share}
+use base.Stored.{Coded, coded×, coded_ℕ, coded_list, coded_via, gnum}
+use base.Fml.{Lft, GName, Share, Fml, ftrue, ffalse, fsep, fex, fall, flft, fdead, fobs, fauth, fbor, flent}
+use denote.RattleType.{RattleType}
+use denote.RawPtr.{Ptr, block_ptr, null_ptr, coded_ptr}
+use denote.Struct.Lending.{lent_at}
+use denote.Sharing.{said, beside, some, ends, always}
+use Rattle.core.specs.Sync.RawAtomic.{word}
+use Rattle.epoch_lend.specs.Posts.{fact, IsOneOf, posted, registered}
+
+-- what is left of the token after n loans, and what the next loan takes: each loan takes half of what is left
+abbrev pub left_after : ℕ → Share
+left_after zero = full_share
+left_after (suc n) = Share.right (left_after n)
+
+abbrev pub loan_share : ℕ → Share
+loan_share n = Share.left (left_after n)
+
+-- What a guard borrows for its own lifetime before it looks: nothing yet, or the n-th loan of the token. The name δ
+-- says which.
+abbrev pub filled : ℕ → GName → ℕ → Fml
+filled a δ n = fsep (fobs δ (gnum (suc n))) (flft (a ∷ []) (loan_share n))
+
+abbrev pub pocket_case : ℕ → GName → Bool → Fml
+pocket_case a δ true = fobs δ (gnum 0)
+pocket_case a δ false = fex ℕ (filled a δ)
+
+abbrev pub pocket : ℕ → GName → Fml
+pocket a δ = fex Bool (pocket_case a δ)
+
+-- a loan: the atom of the guard's lifetime, its epoch, the log of its post, and the name of its pocket
+pub record Loan : Type 0 where
+  pub atom : ℕ
+  pub epoch : ℕ
+  pub log : ℕ
+  pub pocket_name : ℕ
+
+abbrev pub loan_coded : Coded Loan
+loan_coded = coded_via (coded× coded_ℕ (coded× coded_ℕ (coded× coded_ℕ coded_ℕ))) (λ (l : Loan). (
+  l.atom,
+  (
+    l.epoch,
+    (l.log, l.pocket_name),
+  ),
+)) (λ x y e i. record {
+  atom = (e i).0;
+  epoch = (e i).1.0;
+  log = (e i).1.1.0;
+  pocket_name
+      = (e i).1.1.1;
+})
+
+-- the n-th loan: once the guard's lifetime is over the pocket comes back, and it holds the n-th share
+abbrev pub loan : ℕ → ℕ → Loan → Fml
+loan a n l = fsep (flent (l.atom ∷ []) (pocket a l.pocket_name)) (fsep (fauth l.pocket_name (gnum (suc n)))
+    (registered (l.atom, l.epoch) l.log))
+
+abbrev pub loans : ℕ → List Loan → Fml
+loans a [] = ftrue
+loans a (l ∷ ls) = fsep (loan a (length ls) l) (loans a ls)
+
+abbrev pub stock : ℕ → List Loan → Fml
+stock a ls = fsep (flft (a ∷ []) (left_after (length ls))) (loans a ls)
+
+-- a look at a post: its log, and the word found
+abbrev pub Sight : Type 0
+Sight = ℕ × ℕ
+
+-- the look was at the post of the loan's guard, and found another word than that of the guard's epoch
+abbrev pub Shows : Sight → Loan → Type 0
+Shows s l = (l.log ≡ s.0) × (s.1 ≢ posted l.epoch)
+
+-- what a look tells of these loans: the guards of which it shows that they are over
+abbrev pub shown_by : Sight → List Loan → Fml
+shown_by s [] = ftrue
+shown_by s (l ∷ ls) = fsep (fall (Shows s l) (λ _. fdead (l.atom ∷ []))) (shown_by s ls)
+
+abbrev pub all_shown : List Sight → List Loan → Fml
+all_shown [] ls = ftrue
+all_shown (s ∷ ss) ls = fsep (shown_by s ls) (all_shown ss ls)
+
+-- one of these looks shows that the loan's guard is over
+abbrev pub IsShown : List Sight → Loan → Type 0
+IsShown [] l = ⊥
+IsShown (s ∷ ss) l = Shows s l ⊎ IsShown ss l
+
+abbrev pub AreShown : List Sight → List Loan → Type 0
+AreShown ss [] = Unit {0}
+AreShown ss (l ∷ ls) = IsShown ss l × AreShown ss ls
+
+-- each loan went to a guard of one of these posts
+abbrev pub Within : List ℕ → List Loan → Type 0
+Within ηs [] = Unit {0}
+Within ηs (l ∷ ls) = IsOneOf l.log ηs × Within ηs ls
+
+-- one of these looks was at this post, and found a word of which P holds
+abbrev pub WasSeen : (ℕ → Type 0) → ℕ → List Sight → Type 0
+WasSeen P η [] = ⊥
+WasSeen P η (s ∷ ss) = ((s.0 ≡ η) × P s.1) ⊎ WasSeen P η ss
+
+abbrev pub EachSeen : (ℕ → Type 0) → List ℕ → List Sight → Type 0
+EachSeen P [] ss = Unit {0}
+EachSeen P (η ∷ ηs) ss = WasSeen P η ss × EachSeen P ηs ss
+
+-- a post with this word isn't pinned, or is in an epoch before the seal
+abbrev pub IsSealed : ℕ → ℕ → Type 0
+IsSealed seal found = found ≤ 2 * seal
+
+-- a post with this word isn't pinned, or is in the seal's epoch or a later one
+abbrev pub IsPast : ℕ → ℕ → Type 0
+IsPast seal found = found ≢ 0 → 2 * seal ≤ found
+
+-- what a word is of: where its value lies, the value, and the atom of the lifetime that it is lent for
+pub record Shown (T : Type 0) : Type 0 where
+  pub at : Ptr
+  pub value : T
+  pub lifetime : ℕ
+  -- the logs of the posts whose guards may look
+  pub posts : List ℕ
+
+abbrev pub shown_coded : {T : Type 0} → Coded T → Coded (Shown T)
+shown_coded {T} c = coded_via (coded× coded_ptr (coded× c (coded× coded_ℕ (coded_list coded_ℕ)))) (λ (s : Shown T). (
+  s.at,
+  (
+    s.value,
+    (
+      s.lifetime,
+      s.posts,
+    ),
+  ),
+)) (λ x y e i. record { at = (e i).0; value = (e i).1.0; lifetime = (e i).1.1.0; posts = (e i).1.1.1 })
+
+module _ (R : RattleType) (d : Shown R.Denot) where
+  abbrev pub shown_at : Lft → Fml
+  shown_at = lent_at R d.at d.value
+
+  abbrev pub held_for : List Loan → Fml
+  held_for ls = fsep (stock d.lifetime ls) (fsep (shown_at (d.lifetime ∷ [])) (fact (Within d.posts ls)))
+
+  abbrev pub present : Fml
+  present = fex (List Loan) held_for
+
+  -- while the word is 1 the value is there for who looks
+  abbrev pub while_present : ℕ → Fml
+  while_present n = fall (n ≡ 1) (λ _. present)
+
+  abbrev pub lending_owns : (ℕ → Fml) → Fml
+  lending_owns fields = fex ℕ (λ n. fsep (fields n) (while_present n))
+
+  abbrev pub lending : ℕ → ℕ → Fml
+  lending b o = lending_owns (word b (o + 0))
+
+  abbrev pub lending_shares : Ptr → Lft → Fml
+  lending_shares (block_ptr b o) = some Lft (λ α. beside (ends α) (always (fbor α (lending b o))))
+  lending_shares null_ptr = said ffalse
+
+-- the right that a look gained: none, or to see the value for β
+abbrev pub glance_owns : Lft → (R : RattleType) → Ptr → R.Denot → ℕ → Fml
+glance_owns β R p x zero = ftrue
+glance_owns β R p x (suc k) = lent_at R p x β
+
+-- what a mark took out, with what was seen of its loans since
+abbrev pub marked_owns : (R : RattleType) → Ptr → R.Denot → ℕ → ℕ → List Loan → List Sight → Fml
+marked_owns R p x a zero ls ss = ftrue
+marked_owns R p x a (suc k) ls ss = fsep (stock a ls) (fsep (lent_at R p x (a ∷ [])) (all_shown ss ls))

@@ -1,0 +1,180 @@
+//! Posts: a participant's word, which says in which epoch it is pinned, and its guards, to which values are lent.
+ghost use Rattle.std.specs.Prelude.{◌≡◌, ℕ, ◌+◌, ◌-◌, ◌^◌, ◌<◌, ◌≤◌, ◌∷◌};
+ghost use Rattle.epoch_lend.specs.Posts.{PostNames, post_coded, posted, post_owns};
+ghost use Rattle.epoch_lend.specs.Posts.{post_shares, unpinned_owns, pin_owns, guard_owns, guard_shares};
+
+use crate::lending::Marked;
+use std::marker::{Brand, Model, Move, Owns, PhantomData};
+use std::sync::atomic::Ordering::SeqCst;
+use std::sync::atomic::raw;
+
+/// A participant's word: 0 while it isn't pinned, and `2e + 1` while it is, in epoch `e`.
+pub struct Post {
+    word: u64,
+    marker: PhantomData<()>,
+}
+
+impl Owns for Post {
+    ghost Value = { PostNames };
+
+    ghost coded = { post_coded };
+
+    ghost shr_at = { λ d p κ. post_shares d p κ };
+}
+
+impl Move for Post {
+    ghost own_val = { λ d vs. post_owns d (λ n. Fields.own_val (record { word = n; marker = record {} }) vs) };
+}
+
+/// The right to pin at a post. It has no bytes.
+#[derive(Drop)]
+pub struct Unpinned {
+    pub(crate) marker: PhantomData<()>,
+    pub ghost log: { ℕ },
+    pub ghost state: { ℕ },
+}
+
+impl Model for Unpinned {
+    ghost also_owns = { λ p. unpinned_owns p.state };
+}
+
+/// The right to end a pin. It has no bytes.
+#[derive(Drop)]
+pub struct Pin {
+    pub(crate) marker: PhantomData<()>,
+    pub ghost atom: { ℕ },
+    pub ghost log: { ℕ },
+    pub ghost state: { ℕ },
+}
+
+impl Model for Pin {
+    ghost also_owns = { λ p. pin_owns p.atom p.state };
+}
+
+/// A guard of a pin. All guards of one pin share a lifetime, which `atom` names: 2^63 parts, of which this is `count`.
+/// It has no bytes.
+#[derive(Drop)]
+pub struct Guard {
+    pub(crate) marker: PhantomData<()>,
+    pub ghost atom: { ℕ },
+    pub ghost epoch: { ℕ },
+    pub ghost log: { ℕ },
+    pub ghost count: { ℕ },
+}
+
+impl Model for Guard {
+    ghost also_owns = { λ g. guard_owns g.atom g.epoch g.log g.count };
+
+    ghost also_shares = { λ g _ κ. guard_shares g.atom g.epoch g.log κ };
+}
+
+impl Post {
+    /// A post whose participant isn't pinned, and the right to pin there.
+    pub fn new() -> (Post, Unpinned)
+        ensures { (result.1.log ≡ result.0.log) × (result.1.state ≡ result.0.state) }
+    {
+        (
+            Post {
+                word: 0,
+                marker: PhantomData,
+            },
+            Unpinned {
+                marker: PhantomData,
+            },
+        )
+    }
+
+    /// One store, of the word of this epoch.
+    pub(crate) fn publish(&self, unpinned: Unpinned, epoch: u64, word: u64) -> (Pin, Guard)
+        requires { (unpinned.log ≡ self.now.log) × (unpinned.state ≡ self.now.state) × (word ≡ posted epoch) }
+        ensures pin { (result.0.log ≡ self.now.log) × (result.0.state ≡ self.now.state)
+            × (result.0.atom ≡ result.1.atom) }
+        ensures guard { (result.1.log ≡ self.now.log) × (result.1.epoch ≡ epoch) × (result.1.count ≡ 2 ^ 63) }
+    {
+        let Unpinned { marker: _ } = unpinned;
+        let _ = epoch;
+        unsafe { raw::store::<Brand>(&raw const self.word, word, SeqCst) };
+        (
+            Pin {
+                marker: PhantomData,
+            },
+            Guard {
+                marker: PhantomData,
+            },
+        )
+    }
+
+    /// Pins in this epoch, by one store. Answers the right to end the pin, and all of its guards as one.
+    pub fn pin(&self, unpinned: Unpinned, epoch: u64) -> (Pin, Guard)
+        requires of_post { (unpinned.log ≡ self.now.log) × (unpinned.state ≡ self.now.state) }
+        requires within { epoch < 2 ^ 63 }
+        ensures pin { (result.0.log ≡ self.now.log) × (result.0.state ≡ self.now.state)
+            × (result.0.atom ≡ result.1.atom) }
+        ensures guard { (result.1.log ≡ self.now.log) × (result.1.epoch ≡ epoch) × (result.1.count ≡ 2 ^ 63) }
+    {
+        self.publish(unpinned, epoch, 2 * epoch + 1)
+    }
+
+    /// Ends the pin, by one store, with all of its guards, which are here again as one.
+    pub fn unpin(&self, pin: Pin, guard: Guard) -> Unpinned
+        requires of_post { (pin.log ≡ self.now.log) × (pin.state ≡ self.now.state) }
+        requires all_here { (guard.atom ≡ pin.atom) × (guard.count ≡ 2 ^ 63) }
+        ensures { (result.log ≡ self.now.log) × (result.state ≡ self.now.state) }
+    {
+        let Pin { marker: _ } = pin;
+        let Guard { marker: _ } = guard;
+        unsafe { raw::store::<Brand>(&raw const self.word, 0, SeqCst) };
+        Unpinned {
+            marker: PhantomData,
+        }
+    }
+
+    /// One plain load. It shows that each guard of this post that had a loan is over, but those of the epoch found.
+    pub fn look<T>(&self, marked: Marked<T>) -> (u64, Marked<T>)
+        requires { marked.right ≡ 1 }
+        ensures seen { result.1.seen ≡ (self.now.log, result.0) ∷ marked.seen }
+        ensures same { (result.1.right ≡ 1) × (result.1.value ≡ marked.value)
+            × (result.1.lifetime ≡ marked.lifetime) × (result.1.loans ≡ marked.loans) }
+    {
+        let Marked { at } = marked;
+        let found = unsafe { raw::load::<Brand>(&raw const self.word, SeqCst) };
+        (found, Marked { at })
+    }
+}
+
+impl Guard {
+    /// Another guard of the same pin: one part of what this one is.
+    pub fn split_one(&mut self) -> Guard
+        requires { (1 < self.old.count) × (self.old.count ≤ 2 ^ 63) }
+        ensures { (self.new ≡ record self.old { count = self.old.count - 1 })
+            × (result ≡ record self.old { count = 1 }) }
+    {
+        Guard {
+            marker: PhantomData,
+        }
+    }
+
+    /// Takes in another guard of the same pin.
+    pub fn join(&mut self, other: Guard)
+        requires { (other.atom ≡ self.old.atom) × (0 < self.old.count) × (self.old.count + other.count ≤ 2 ^ 63) }
+        ensures { self.new ≡ record self.old { count = self.old.count + other.count } }
+    {
+        let Guard { marker: _ } = other;
+    }
+}
+
+impl Drop for Post {
+    fn drop(self) {
+        let Self { word: _, marker: _ } = self;
+    }
+}
+
+unsafe impl Send for Post {}
+
+unsafe impl Sync for Post {}
+
+unsafe impl Send for Unpinned {}
+
+unsafe impl Send for Pin {}
+
+unsafe impl Send for Guard {}
