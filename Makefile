@@ -41,7 +41,7 @@ pictures:
 
 test:
 	@for name in $(PICTURES); do cmp crates/tests_draw/data/$$name.svg docs/pictures/$$name.svg || exit 1; done
-	@rm -rf .git/proving .git/refute-*
+	@rm -rf .git/proving .git/refuting
 	@tools/refute.py --stand
 	@tools/gate.py
 

@@ -13,7 +13,7 @@ import time
 from concurrent.futures import ThreadPoolExecutor
 
 sys.dont_write_bytecode = True
-from prove import BYTES_A_PROOF, linked
+from prove import BYTES_A_PROOF, apart, linked
 
 
 def crates_with_any():
@@ -83,8 +83,7 @@ def main(words):
     if stand():
         return 1
     memory = os.sysconf("SC_PHYS_PAGES") * os.sysconf("SC_PAGE_SIZE")
-    with tempfile.TemporaryDirectory(prefix="refute-", dir=".git") as room:
-        room = os.path.abspath(room)
+    with tempfile.TemporaryDirectory(dir=apart(".git/refuting")) as room:
         copied(room)
         # (the libraries below are built once, before several runs want them)
         if subprocess.run([os.path.abspath("tools/prove.py"), *crates], cwd=room, check=False).returncode:
