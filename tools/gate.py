@@ -35,9 +35,16 @@ def work_of(pid):
 
 
 def usage_of(pid):
-    """Returns when a process started, its processor seconds and its memory in bytes."""
+    """Returns a process's parent, when it started, its processor seconds and its memory in bytes."""
     fields = text_of(f"/proc/{pid}/stat").rpartition(")")[2].split()
-    return fields[19], (int(fields[11]) + int(fields[12])) / TICKS, int(fields[21]) * PAGE
+    return fields[1], fields[19], (int(fields[11]) + int(fields[12])) / TICKS, int(fields[21]) * PAGE
+
+
+def is_below(pid, found):
+    """Whether this very program started the process, or one of those that led to it."""
+    while pid in found and pid != str(os.getpid()):
+        pid = found[pid][1]
+    return pid in found
 
 
 class Samples:
@@ -48,16 +55,17 @@ class Samples:
         self.seconds, self.memory, self.is_over = {}, {}, False
 
     def take(self):
-        held = {}
+        found, held = {}, {}
         for pid in filter(str.isdigit, os.listdir("/proc")):
             try:
-                work = work_of(pid)
-                if work:
-                    since, seconds, memory = usage_of(pid)
-                    self.seconds[pid, since] = work, seconds
-                    held[work] = held.get(work, 0) + memory
+                found[pid] = work_of(pid), *usage_of(pid)
             except (OSError, IndexError, ValueError):
+                # (it has ended meanwhile)
                 pass
+        for pid, (work, _, since, seconds, memory) in found.items():
+            if work and is_below(pid, found):
+                self.seconds[pid, since] = work, seconds
+                held[work] = held.get(work, 0) + memory
         for work, memory in held.items():
             if work not in self.memory:
                 self.said(f"at {time.monotonic() - self.started:.0f} s: {work[0]}, {work[1]}")
