@@ -174,7 +174,8 @@ impl<T: Pointable + Drop> Atomic<T> {
         Ok(Atomic::from(shared))
     }
 
-    /// Takes the value out of its cell, with the pointer's tag. The guard is one of the value's collector.
+    /// Takes the value out of its cell, with the pointer's tag. The guard is one of the value's collector. This is how
+    /// the last owner takes a structure apart, since dropping an `Atomic` leaves its value in the cell.
     ///
     /// `None`: the pointer is null, whatever its tag is; or its value is gone, or is read or written; or each try
     /// was lost to others.
