@@ -1,7 +1,8 @@
 //! Pointers to values in cells, which threads share: tags, exchanges, and values taken back.
 //!
-//! Each call on an [`Atomic`] is one atomic step, but for those that try an exchange again. Each step is sequentially
-//! consistent, whichever ordering is asked for. No call on an existing `Atomic` or a [`Shared`] takes memory or waits.
+//! Each call on an [`Atomic`] makes one atomic step on its word, except those that try an exchange again. Each step
+//! acts as `SeqCst`, whichever ordering is asked for. No call on an existing `Atomic` or a [`Shared`] takes memory or
+//! waits.
 ghost use Rattle.std.specs.Prelude.{◌≡◌, ◌<◌, ◌%◌, ◌⊎◌, IfSome, IfOk, IfErr};
 ghost use Rattle.epoch_cells.specs.declared.fault.Fault.TheVariants.{CellsFull, NoMemory};
 ghost use Rattle.epoch_atomic.specs.Pointers.{IsPointerWord, Reads, IsRead, IsUnder};
@@ -69,7 +70,7 @@ impl<T: Pointable> Atomic<T> {
         Atomic::from(Shared::null())
     }
 
-    /// The pointer that is stored now.
+    /// The pointer that is stored now. The load acts as `SeqCst`, whichever ordering is asked for.
     #[inline(always)]
     pub fn load<'g, W>(&self, order: Ordering, guard: &'g Guard<'_, T, W>) -> Shared<'g, T>
         ensures read { IsRead T.ALIGN result.name result.tag }
@@ -79,7 +80,7 @@ impl<T: Pointable> Atomic<T> {
         read(self.word.load(order), guard)
     }
 
-    /// As [`Atomic::load`].
+    /// As [`Atomic::load`], without an ordering.
     pub fn load_consume<'g, W>(&self, guard: &'g Guard<'_, T, W>) -> Shared<'g, T>
         ensures read { IsRead T.ALIGN result.name result.tag }
         ensures below { result.tag < T.ALIGN }
@@ -90,7 +91,9 @@ impl<T: Pointable> Atomic<T> {
 
     /// Stores a pointer, or an owned value, which is placed in a cell first.
     ///
-    /// An owned value comes back where the cells are full, and nothing was stored then.
+    /// An owned value comes back where the cells are full, and nothing was stored then. The value of the pointer before
+    /// stays in its cell: to destroy it, use [`Atomic::swap`], which answers that pointer. The store acts as `SeqCst`,
+    /// whichever ordering is asked for.
     #[inline(always)]
     pub fn store<'g, P: Pointer<'g, T>, W>(
         &self,
@@ -107,7 +110,8 @@ impl<T: Pointable> Atomic<T> {
 
     /// Stores a pointer, or an owned value, which is placed in a cell first, and answers the pointer before.
     ///
-    /// An owned value comes back where the cells are full, and nothing was stored then.
+    /// An owned value comes back where the cells are full, and nothing was stored then. The swap acts as `SeqCst`,
+    /// whichever ordering is asked for.
     #[inline(always)]
     pub fn swap<'g, P: Pointer<'g, T>, W>(
         &self,
@@ -170,7 +174,8 @@ impl<T: Pointable + Drop> Atomic<T> {
         Ok(Atomic::from(shared))
     }
 
-    /// Takes the value out of its cell, with the pointer's tag. The guard is one of the value's collector.
+    /// Takes the value out of its cell, with the pointer's tag. The guard is one of the value's collector. This is how
+    /// the last owner takes a structure apart, since dropping an `Atomic` leaves its value in the cell.
     ///
     /// `None`: the pointer is null, whatever its tag is; or its value is gone, or is read or written; or each try
     /// was lost to others.

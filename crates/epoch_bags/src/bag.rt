@@ -41,7 +41,7 @@ impl<J: Default + Drop> Bag<J> {
         Bag::with_limit(BAG_JOBS)
     }
 
-    /// An empty bag for so many jobs, from 1 to [`BAG_JOBS`].
+    /// An empty bag that takes `limit` jobs, from 1 to [`BAG_JOBS`].
     pub fn with_limit(limit: usize) -> Bag<J>
         requires some { 0 < limit }
         requires most { limit ≤ BAG_JOBS }

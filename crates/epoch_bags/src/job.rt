@@ -1,4 +1,4 @@
-//! Jobs: what is called once, at the earliest when nobody who was pinned at its deferral has stayed pinned.
+//! Jobs: what is called once, at the earliest when every participant that was pinned at its deferral has unpinned.
 ghost use Rattle.std.specs.Prelude.{◌≡◌, [], ◌∷◌, None, MatchOption, IfSome};
 ghost use Rattle.epoch_cells.specs.declared.cells.name.Name.{Name};
 ghost use Rattle.epoch_bags.specs.Jobs.{AnswersJob, IsCalled};

@@ -103,7 +103,7 @@ pub trait BagStore: Drop {
     /// every store.
     ghost TakeMoves: { ℕ → Self → Self → Sealed Self.Job → Self.Taking → TakeStep → Self.Taking → Type 0 };
 
-    /// An empty store with room for so many bags, from 1 to [`MOST_BAGS`]. `NoMemory`: an allocation was refused.
+    /// An empty store with room for `bags` bags, from 1 to [`MOST_BAGS`]. `NoMemory`: an allocation was refused.
     fn with_room(alloc: Global, bags: usize) -> Result<Self, Fault>
         requires some { 0 < bags }
         requires most { bags ≤ MOST_BAGS }

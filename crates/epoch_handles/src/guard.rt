@@ -9,14 +9,22 @@ use std::{fmt, mem};
 /// A guard, which must be spent.
 ///
 /// A *protecting* guard is a token of a pin: while it is out, its participant stays pinned, and no job that is
-/// deferred meanwhile is called. Its handle spends it, by `unpin`. An *unprotected* guard stands where a guard is
-/// asked for and nothing needs protection.
+/// deferred meanwhile is called. So a value that was found under it stays, if values are taken out of reach before
+/// their destruction is deferred, until the handle spends the guard, by
+/// [`LocalHandle::unpin`](crate::LocalHandle::unpin), or repins. Guards of one handle may be spent in any order: the
+/// last one unpins. An *unprotected* guard, from [`unprotected`], stands where a guard is asked for and nothing needs
+/// protection.
 pub struct Guard<'c, T, W = Work> {
     pub(crate) collector: &'c Collector<T, W>,
     pub(crate) position: Option<usize>,
 }
 
-/// A guard of this collector that protects nothing. Calls under it act at once.
+/// A guard of this collector that protects nothing: a job that is deferred under it is called at once.
+///
+/// Use it only where no other thread can use the structure: to make one before it is shared, and to take one apart
+/// when only its owner is left. It needs no handle, and each call answers one more guard. It is spent by
+/// [`Guard::let_go`]. As `unprotected` of crossbeam-epoch, which is unsafe to call: here every call under it is safe,
+/// but a value that another thread still wants to read may be gone.
 pub fn unprotected<T, W>(collector: &Collector<T, W>) -> Guard<'_, T, W>
     ensures protects { result.position ≡ None }
     ensures of { result.collector.now ≡ collector.now }

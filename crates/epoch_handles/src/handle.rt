@@ -99,7 +99,8 @@ impl<'c, T, W> LocalHandle<'c, T, W> {
 
     /// Repins the participant, where this is its only guard: its word gets the present epoch, and no object that
     /// was loaded under the guard before is protected any more. With more guards, and under an unprotected guard,
-    /// nothing happens. As `Guard::repin` of crossbeam-epoch.
+    /// nothing happens. A loop that stays pinned for long calls this where it holds no pointer, since a participant
+    /// that stays pinned in an old epoch keeps jobs from being called. As `Guard::repin` of crossbeam-epoch.
     #[inline]
     pub fn repin(&mut self, guard: &mut Guard<'c, T, W>)
         requires { guard.old.position ≡ None ⊎ Owns self.old guard.old }
@@ -166,8 +167,12 @@ impl<'c, T, W> LocalHandle<'c, T, W> {
 }
 
 impl<'c, T: Drop, W: Run> LocalHandle<'c, T, W> {
-    /// Defers the job: it is called, at the earliest, when nobody who is pinned now has stayed pinned, by some
-    /// participant's collection. Under an unprotected guard it is called at once.
+    /// Defers the job: a later collection calls it, at the earliest when every participant that is pinned now has
+    /// unpinned or repinned since. Under an unprotected guard it is called at once.
+    ///
+    /// There is no promise when it is called, nor by which thread. While a participant stays pinned, or nobody pins or
+    /// flushes any more, it waits, at the latest until the end of the collector. [`LocalHandle::flush`] hurries it,
+    /// since no collection finds the jobs of a held bag.
     ///
     /// The job is kept in the held bag, which is sealed and put into a place first where it is full.
     /// `StrangerGuard`: the guard isn't one that this handle has out. `BagsFull`: each place was seen occupied.
@@ -248,6 +253,9 @@ impl<'c, T: Drop, W: Run> LocalHandle<'c, T, W> {
     /// the jobs of bags that are expired, as many bags as a collection takes. Under an unprotected guard nothing
     /// happens.
     ///
+    /// From then on every participant's collections can call the jobs that this one has deferred. Its own pin holds
+    /// the epoch back, so to see them called, flush again under a new pin.
+    ///
     /// `StrangerGuard`: the guard isn't one that this handle has out. `BagsFull`: each place was seen occupied; the
     /// held bag stays as it was, and the collection was made. As `Guard::flush` of crossbeam-epoch, whose queue is
     /// never full.
@@ -282,7 +290,7 @@ impl<'c, T: Drop, W: Run> LocalHandle<'c, T, W> {
 
     /// Unpins the participant, calls `f`, and pins again, where this is its only guard: that counts as a pinning,
     /// and may collect. With more guards the participant stays pinned, and under an unprotected guard `f` alone is
-    /// called. As `Guard::repin_after` of crossbeam-epoch.
+    /// called. It is for work that takes long and needs no protection. As `Guard::repin_after` of crossbeam-epoch.
     ///
     /// It is a [`LocalHandle::pause`], the call of `f`, and a [`LocalHandle::resume`]. A caller that has to know that
     /// the participant is unpinned while its code runs makes these calls itself.
@@ -409,6 +417,10 @@ impl<'c, T: Drop, W: Run> LocalHandle<'c, T, W> {
 
     /// Pins the participant, and answers a guard. The first pin collects, and each 128th after it, where no guard
     /// was out before.
+    ///
+    /// While the participant is pinned already, this only counts one more guard, and makes no atomic step. Ask
+    /// [`LocalHandle::can_pin`] first: at most `2^32 - 1` guards can be out. Keep pins short: while a participant stays
+    /// pinned, the epoch advances at most once, and deferred jobs wait.
     #[inline]
     pub fn pin(&mut self) -> Guard<'c, T, W>
         requires { self.old.machine.guards + 1 < 2 ^ 32 }

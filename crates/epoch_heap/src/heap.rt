@@ -57,7 +57,7 @@ impl Model for Heap {
 }
 
 impl Heap {
-    /// A heap of so many roots, all null, and cells, all free, each of which begins at `start_turn`.
+    /// A heap of `roots` roots, all null, and `cells` cells, all free, each of which begins at `start_turn`.
     ///
     /// `NoMemory`: an allocation was refused.
     pub fn new(

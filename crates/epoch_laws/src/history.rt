@@ -1,8 +1,8 @@
 //! Recorded histories: what the entries tell, as events, and plain checkers of lists of steps with their replies.
 //!
-//! A world keeps no history. Who has recorded one, as steps with their replies from a new world on, checks here that it
-//! is lawful, that it keeps grace, and that no ticket is called twice, by the very definitions that the laws of every
-//! run speak of. The checkers take no memory.
+//! A world keeps no history. A caller that has recorded one, as steps with their replies from a new world on, checks
+//! here that it is lawful, that it keeps grace, and that no ticket is called twice, by the very definitions that the
+//! laws of every run speak of. The checkers take no memory.
 mod events;
 mod grace;
 mod guards;

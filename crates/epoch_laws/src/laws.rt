@@ -30,7 +30,7 @@ pub fn every_end_calls_all()
         → times_called t log ≡ times_deferred t log }
 {}
 
-/// An end that answers how many jobs it called has called so many, and every accepted job was called.
+/// An end that answers how many jobs it called has called exactly that many, and every accepted job was called.
 pub fn every_end_answers_its_calls()
     ensures { (s new : State) (log : List Entry) → IsFresh s → Runs s log new → EndsAtCount log }
 {}

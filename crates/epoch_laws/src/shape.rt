@@ -36,9 +36,9 @@ pub struct Shape {
 }
 
 impl Shape {
-    /// So many participants, cells, roots and fields, and else what is usual: four bags of 64 jobs, of which a
-    /// collection takes 8, as in crossbeam-epoch; tags below 8, as of a value of eight bytes; and the first epoch and
-    /// turn are 0.
+    /// A shape with these numbers of participants, cells, roots and fields, and the usual ones for the rest: four
+    /// places for bags; 64 jobs a bag and 8 bags a collection, as in crossbeam-epoch; tags below 8, as of a value of
+    /// eight bytes; and 0 for the first epoch and turn.
     pub fn usual(participants: u64, cells: u64, roots: u64, fields: u64) -> Shape
         ensures participants { result.participants ≡ participants }
         ensures cells { result.cells ≡ cells }

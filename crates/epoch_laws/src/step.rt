@@ -95,7 +95,7 @@ pub enum Progress {
     Driven(Call),
     /// A job is called at once by the next step: the removal of this name, or work.
     CallsNow(Option<Name>),
-    /// The call on cells and pointers has made so many steps, and found this pointer last.
+    /// The call on cells and pointers has made this many steps, and found this pointer last.
     Accesses(Access, u64, Ptr),
     /// Nothing is left to do but this reply.
     Ends(Reply),

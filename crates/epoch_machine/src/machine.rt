@@ -52,7 +52,7 @@ pub enum Stage {
     /// The scan of this epoch goes on at this position.
     Scan(u64, u64),
     Advance(u64),
-    /// A collection for this epoch, which has taken so many bags.
+    /// A collection for this epoch, which has taken this many bags.
     Take(u64, u64),
     Calling(u64, u64),
     LoadSeal,

@@ -45,8 +45,8 @@ pub fn every_loaded_name_stands()
         → LoadedStand (past_of s log new run) new.heap }
 {}
 
-/// Each cell counts the participants that read it, each of them once; so what is read stands. Whoever reads one cell
-/// more reads fewer than there are.
+/// Each cell counts the participants that read it, each of them once; so what is read stands. A participant that can
+/// begin to read one more cell reads fewer cells than there are.
 pub fn every_cell_counts_its_readers()
     ensures counted { (s new : State) (log : List Entry) → IsFresh s → Runs s log new → KeepsReadings new }
     ensures room { (s new : State) (log : List Entry) → IsFresh s → Runs s log new → HasCellsToRead new }

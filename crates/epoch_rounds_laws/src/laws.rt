@@ -25,7 +25,7 @@ pub fn quiet_rounds_call_all()
         → Runs put (after ++ others) new → CallsAll put.queued (after ++ others) new }
 {}
 
-/// One call takes at most as many bags as one collection may take, and calls at most so many times a full bag's jobs,
+/// One call takes at most as many bags as one collection may take, and calls at most the jobs of that many full bags,
 /// whatever others do meanwhile. It collects once.
 pub fn every_call_collects_few()
     ensures { (fresh new : State) (log : List Entry) → IsFresh fresh → (run : Runs fresh log new)
@@ -40,7 +40,7 @@ pub fn lone_calls_find_a_place()
 {}
 
 /// A bag waits no longer than it has to: the sharp list leads to a state in which a bag is one epoch old for a
-/// collection, and has a job that somebody still blocks who did not defer it.
+/// collection, and has a job that a participant other than the one that deferred it still blocks.
 pub fn sharp_list_is_sharp()
     ensures { (fresh new : State) (log : List Entry) → IsFresh fresh → fresh.sizes ≡ pair_sizes → fresh.epoch ≡ 0
         → 0 < length fresh.places → TakesSharpList fresh log new → IsSharp fresh log new }

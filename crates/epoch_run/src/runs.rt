@@ -22,9 +22,9 @@ const MOST: u64 = 64;
 /// What is run.
 #[derive(Clone, Copy)]
 pub enum Run {
-    /// `threads N K`: so many threads each defer so many jobs.
+    /// `threads N K`: N threads defer K jobs each.
     Threads(Size),
-    /// `stack N K`: so many threads each push and pop so many values.
+    /// `stack N K`: N threads push and pop K values each.
     Stack(Size),
 }
 

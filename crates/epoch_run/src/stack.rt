@@ -1,4 +1,4 @@
-//! `epoch-run stack N K`: so many threads that push and pop over one stack.
+//! `epoch-run stack N K`: N threads that push and pop over one stack, K times each.
 ghost use Rattle.std.specs.Prelude.{◌≡◌};
 
 use crate::threads::leave;

@@ -1,4 +1,4 @@
-//! `epoch-run threads N K`: so many threads that pin, defer, flush and unpin over one collector.
+//! `epoch-run threads N K`: N threads that pin, defer, flush and unpin over one collector, K times each.
 ghost use Rattle.std.specs.Prelude.{◌≡◌};
 
 use epoch_bags::Job;

@@ -9,6 +9,9 @@ use epoch_cells::Fault;
 use std::alloc::Global;
 
 /// A type whose values may stand behind pointers: it says how many tags its pointers have, and how a value is made.
+///
+/// A type of your own implements it by a power of two for `ALIGN`, with the power and the two facts about it, and by
+/// `init`. A value of another crate's type goes into [`Plain`](crate::Plain).
 pub trait Pointable {
     ghost ALIGN: { ℕ };
 

@@ -11,9 +11,9 @@ use epoch_laws::{Call, Deferral, Step};
 use std::alloc::Global;
 
 /// Takes steps in a world, and answers them. In a new world of two participants, with room for a bag, from epoch 0 on,
-/// they end with a whole collection for an epoch one past the seal of that bag, in which is a job that somebody still
-/// blocks who did not defer it: were a bag expired one epoch after its seal, that job would be called too early. So a
-/// bag waits two epochs.
+/// they end with a whole collection for an epoch one past the seal of that bag. In it is a job that a participant
+/// other than the one that deferred it still blocks: were a bag expired one epoch after its seal, that job would be
+/// called too early. So a bag waits two epochs.
 ///
 /// `NoMemory`: an allocation was refused. The world may have taken some of the steps.
 pub fn sharp_steps<S: BagStore<Job = Deferral>>(

@@ -430,7 +430,7 @@ impl<S: BagStore<Job = Deferral>> World<S> {
     }
 }
 
-/// An empty list with room for so many replies.
+/// An empty list with room for `count` replies.
 fn with_room(alloc: Global, count: usize) -> Result<Vec<Reply>, Fault>
     ensures ok { IfOk result (λ replies. (replies.items ≡ []) × (count ≤ vec_capacity replies)) }
     ensures no_memory { IfErr result (λ fault. fault ≡ NoMemory) }

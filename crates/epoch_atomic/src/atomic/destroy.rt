@@ -28,8 +28,8 @@ impl<'g, T> Shared<'g, T> {
 
 /// What a [`Guard`] does with a pointer's value.
 pub trait DestroyNow<T> {
-    /// Destroys the value at once, under a guard that protects nothing, and says what that did: a value that is
-    /// read or written by somebody else stays.
+    /// Destroys the value at once, under a guard that protects nothing, and says what that did: a value that
+    /// another thread reads or writes stays.
     ///
     /// The pointer is handed back, and nothing is done, under a protecting guard, where it is null, and where it
     /// was got under a guard of another collector.
@@ -38,15 +38,20 @@ pub trait DestroyNow<T> {
 
 /// What a [`LocalHandle`] does with a pointer's value.
 pub trait DeferDestroy<T, W> {
-    /// Defers the removal of the value that the pointer names: it is destroyed, at the earliest, when nobody who is
-    /// pinned now has stayed pinned, by some participant's collection, unless it is read or written then. Under an
-    /// unprotected guard that is done at once.
+    /// Defers the removal of the value that the pointer names: a later collection destroys it, at the earliest when
+    /// every participant that is pinned now has unpinned or repinned since. Under an unprotected guard that is done at
+    /// once. A value that is read or written at that moment stays in its cell until the end.
+    ///
+    /// Take the value out of reach first: unlink it, so that no pointer in the structure leads to it any more, and
+    /// then defer. A thread that pins after this call and still finds the pointer may find the value gone. Defer each
+    /// value once.
     ///
     /// The removal is kept as the job of [`LocalHandle::defer`] is. `StrangerGuard`: the guard isn't one that this
     /// handle has out. `StrangerPointer`: the pointer is null, whatever its tag is, or was got under a guard of
     /// another collector. `BagsFull`: each place was seen occupied. They are looked for in this order. A refused
-    /// call hands the pointer back, and leaves the handle as it was, with its bag. As `Guard::defer_destroy` of
-    /// crossbeam-epoch, which refuses nothing.
+    /// call hands the pointer back, and leaves the held bag as it was. Where [`LocalHandle::has_room`] says yes, the
+    /// last fault doesn't come: so make room before you unlink. As `Guard::defer_destroy` of crossbeam-epoch, which
+    /// refuses nothing.
     fn defer_destroy<'g>(
         &mut self,
         guard: &Guard<'_, T, W>,

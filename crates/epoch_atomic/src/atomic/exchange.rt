@@ -31,8 +31,8 @@ pub enum ExchangeFault<'g, T, P> {
     Changed(CompareExchangeError<'g, T, P>),
     /// The cells are full, so that the owned value couldn't be placed. It is handed back.
     Full(P),
-    /// The exchange was lost, and the owned value, which was placed for it, is held or was removed by somebody
-    /// else, so that it couldn't be taken back. This is the pointer to it.
+    /// The exchange was lost, and the owned value, which was placed for it, is held or was removed by another
+    /// thread, so that it couldn't be taken back. This is the pointer to it.
     Stuck(Shared<'g, T>),
 }
 
@@ -40,7 +40,8 @@ impl<T: Pointable> Atomic<T> {
     /// Stores `new` where `current` stands, pointer and tag both, and answers the pointer that was written.
     ///
     /// An owned value is placed in a cell first, and is taken back where the exchange is lost. What an
-    /// [`ExchangeFault`] says is all that the call left. Each pointer that is answered was got under this guard.
+    /// [`ExchangeFault`] says is all that the call left. Each pointer that is answered was got under this guard. The
+    /// exchange acts as `SeqCst`, whichever orderings are asked for.
     #[inline(always)]
     pub fn compare_exchange<'g, P: Pointer<'g, T>, W>(
         &self,
@@ -120,7 +121,8 @@ impl<T: Pointable> Atomic<T> {
         self.compare_exchange(current, new, success, failure, guard)
     }
 
-    /// As [`Atomic::compare_exchange`], with one ordering or a pair of them.
+    /// As [`Atomic::compare_exchange`], with one ordering or a pair of them: [`CompareAndSetOrdering`] tells which
+    /// ordering of a lost exchange goes with which one of a won exchange.
     pub fn compare_and_set<'g, P: Pointer<'g, T>, O: CompareAndSetOrdering + Drop, W>(
         &self,
         current: Shared<'_, T>,

@@ -5,7 +5,21 @@ ghost use Rattle.epoch_atomic.specs.Orders.{failure_of};
 
 use std::sync::atomic::Ordering;
 
-/// One ordering, or a pair of them, for `compare_and_set`.
+/// One ordering, or a pair of them, for [`Atomic::compare_and_set`](crate::atomic::Atomic::compare_and_set).
+///
+/// Of a pair, the first is for an exchange that is won, and the second for one that is lost. One ordering alone stands
+/// for these two:
+///
+/// | Given | Won | Lost |
+/// |---|---|---|
+/// | `Relaxed` | `Relaxed` | `Relaxed` |
+/// | `Acquire` | `Acquire` | `Acquire` |
+/// | `Release` | `Release` | `Relaxed` |
+/// | `AcqRel` | `AcqRel` | `Acquire` |
+/// | `SeqCst` | `SeqCst` | `SeqCst` |
+///
+/// The exchange acts as `SeqCst` whichever is asked for. In crossbeam-epoch this trait and `compare_and_set` are
+/// deprecated: use [`Atomic::compare_exchange`](crate::atomic::Atomic::compare_exchange).
 pub trait CompareAndSetOrdering {
     ghost success_order: { Self → Ordering };
 

@@ -90,7 +90,8 @@ impl<'g, T: Pointable> Shared<'g, T> {
 }
 
 impl<'g, T: Pointable + Drop> Shared<'g, T> {
-    /// Lends the value for reading, through the collector of the guard under which the pointer was got.
+    /// Lends the value for reading, through the collector of the guard under which the pointer was got. The reading
+    /// must be given back, by `Reading::leave`. A read counts itself in its cell and out again: two exchanges.
     ///
     /// `None`: the pointer is null; or its value is gone, is written, or has `2^30 - 1` readers; or each try was
     /// lost to others. A value that was placed into the slot at a later turn is never lent.

@@ -58,7 +58,7 @@ impl<J: Drop> Drop for BagQueue<J> {
 }
 
 impl<J: Drop> BagQueue<J> {
-    /// An empty queue for so many bags, from 1 to [`MOST_BAGS`]. `NoMemory`: an allocation was refused.
+    /// An empty queue for `capacity` bags, from 1 to [`MOST_BAGS`]. `NoMemory`: an allocation was refused.
     pub fn new(alloc: Global, capacity: usize) -> Result<BagQueue<J>, Fault>
         requires some { 0 < capacity }
         requires most { capacity ≤ MOST_BAGS }

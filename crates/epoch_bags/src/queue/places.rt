@@ -174,7 +174,7 @@ fn fill<J: Default + Drop>(
     true
 }
 
-/// Takes out the bag at home, whoever claims the place.
+/// Takes out the bag at home, even where the place is claimed.
 fn clear<J: Drop>(places: &mut Places<J>, place: usize) -> Option<SealedBag<J>>
     requires { place < length places.old.words }
     ensures bag { result ≡ slice_index_or places.old.bags place None }

@@ -4,8 +4,8 @@
 //! |---|---|---|
 //! | `FREE` | nothing | the next one |
 //! | `PRESENT` | a value, or nothing where the slot is retired | the value's, or the last one |
-//! | `MARKED` | nothing: who marked it has the value for the time between two steps | the value's |
-//! | `TAKEN` | whatever the one who took it puts there | the value's |
+//! | `MARKED` | nothing: the thread that marked it has the value for the time between two steps | the value's |
+//! | `TAKEN` | whatever the thread that took it puts there | the value's |
 ghost use Rattle.std.specs.Prelude.{◌≡◌, ◌+◌, ◌*◌, ◌/◌, ◌%◌, ◌<◌, ◌==◌, if◌then◌else◌};
 ghost use Rattle.counted_slot.specs.Counting.{readers};
 

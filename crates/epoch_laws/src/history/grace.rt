@@ -21,7 +21,7 @@ pub fn keeps_grace(entries: &[Entry]) -> bool
     true
 }
 
-/// Whether somebody who was pinned when the ticket was deferred has stayed pinned up to that place.
+/// Whether a participant that was pinned when the ticket was deferred has stayed pinned up to that place.
 fn is_blocked(entries: &[Entry], ticket: u64, until: usize) -> bool
     requires { until < length entries.now }
     ensures { IsTrue result ↔ IsBlocked entries.now ticket until }

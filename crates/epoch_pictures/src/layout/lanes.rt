@@ -6,7 +6,7 @@ use crate::Moment;
 use epoch_world::{Answer, Reply};
 use std::alloc::{AllocError, Global};
 
-/// Runs of more steps than this are folded. Our own: so many columns fit a page.
+/// Runs of more steps than this are folded. Our own: this many columns fit a page.
 const UNFOLDED: usize = 56;
 
 /// How many positions there are from 0 to the greatest one that was ever taken.
@@ -20,7 +20,7 @@ pub fn participants_of(moments: &[Moment]) -> u32
     lanes
 }
 
-/// At least so many lanes, and as many as this reply tells of.
+/// The greater of `lanes` and the number of lanes that this reply tells of.
 fn lanes_with(lanes: u32, reply: Reply) -> u32
     ensures { result ≡ lanes_with lanes reply }
 {

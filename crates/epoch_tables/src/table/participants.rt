@@ -52,7 +52,7 @@ impl Model for Participants {
 }
 
 impl Participants {
-    /// A table with so many positions, from 1 to [`MOST_POSITIONS`], all free, in epoch 0: see
+    /// A table with this many positions, from 1 to [`MOST_POSITIONS`], all free, in epoch 0: see
     /// [`each_epoch_is_stored`](crate::table::each_epoch_is_stored).
     ///
     /// `NoMemory`: an allocation was refused.

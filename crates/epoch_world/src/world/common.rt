@@ -1,7 +1,7 @@
 //! What the participants of a world have in common.
 use epoch_heap::Heap;
 
-/// What all participants of a world have in common, but for their words.
+/// What all participants of a world have in common, except their words.
 #[derive(Drop)]
 pub struct Common<S> {
     pub epoch: u64,

@@ -30,7 +30,7 @@ impl Seat {
         self.own_refusal(call, tickets, heap)
     }
 
-    /// Who is paused may only resume.
+    /// A paused participant may only resume.
     fn waits(&self, call: Call) -> bool
         ensures { result ≡ waits call self.now.paused }
     {
