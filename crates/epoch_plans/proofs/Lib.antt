@@ -7,3 +7,5 @@ pub mod Steps
 pub mod Kept
 pub mod Runs
 pub mod Calls
+pub mod HeapTurns
+pub mod RunsSound

@@ -49,7 +49,7 @@ next_in h o (m ∷ ms) n (next, name, to, apart, rest) (inl e) = (next, subst (�
 next_in h o (m ∷ ms) n (next, name, to, apart, rest) (inr there) = next_in h next ms n rest there
 
 -- whoever follows one of the chain is in it
-follows_in : (h : Heap) (o : Option Name) (ns : List Name) (n x : Name) → Chain h o ns → In n ns → Next h n (Some x)
+pub follows_in : (h : Heap) (o : Option Name) (ns : List Name) (n x : Name) → Chain h o ns → In n ns → Next h n (Some x)
     → In x ns
 follows_in h o [] n x chain there to = absurd there
 follows_in h o (m ∷ ms) n x (next, name, old, apart, rest) (inr there) to = inr (follows_in h next ms n x rest there to)
@@ -105,7 +105,7 @@ pub in_reach : (h : Heap) (xs : List Name) → Form h xs → (n : Name) → In n
 in_reach h xs form n there =
     chain_reached h form.head xs (λ x e. from_root 0 x (at form.head, form.rooted, e)) form.chain n there
 
-head_in : (h : Heap) (o : Option Name) (ns : List Name) (x : Name) → Chain h o ns → o ≡ Some x → In x ns
+pub head_in : (h : Heap) (o : Option Name) (ns : List Name) (x : Name) → Chain h o ns → o ≡ Some x → In x ns
 head_in h o [] x chain e = absurd (cc (chain, e))
 head_in h o (m ∷ ms) x chain e = inl (cc (chain.1, e))
 

@@ -1,6 +1,6 @@
 -- What holds of a queue between any two steps, and that each step of its plans keeps it.
-use Rattle.std.proofs.Common.{◌≡◌, ◌≢◌, ℕ, zero, suc, List, Option, Some, None, ◌⊎◌, inl, inr, refl, ap, sym, subst}
-use Rattle.std.proofs.Common.{◌∙◌, slice_get}
+use Rattle.std.proofs.Common.{◌≡◌, ◌≢◌, ℕ, zero, suc, List, ◌∷◌, Option, Some, None, ◌⊎◌, inl, inr, refl, ap, sym}
+use Rattle.std.proofs.Common.{subst, ◌∙◌, slice_get}
 use Rattle.epoch_cells.specs.declared.cells.name.Name.{Name}
 use Rattle.epoch_heap.specs.declared.access.Ptr.{Ptr}
 use Rattle.epoch_heap.specs.declared.access.Spot.TheVariants.{Root, Field}
@@ -23,6 +23,7 @@ use Rattle.epoch_queue_laws.specs.declared.plan.Phase.TheVariants.{Reading, Leav
 use Rattle.epoch_queue_laws.specs.declared.plan.Phase.TheVariants.{Removing, Answering}
 use Rattle.epoch_queue_laws.specs.Queue.{retry_push, retry_pop, start_work, deed_of, queue, Starts}
 use Rattle.std.specs.Prelude.{is_some}
+use Rattle.epoch_queue_laws.specs.QueueValues.{HoldsValue}
 use Rattle.epoch_plans.proofs.Custody.{Passed, Calm, Structure, Sane}
 use Rattle.epoch_plans.proofs.Obligations.{Weaker, Settled, HandsOver}
 use Rattle.epoch_plans.proofs.Steps.{fewer_reach}
@@ -60,6 +61,14 @@ Off past h xs n = past.reached n × (¬ (In n xs)) × (¬ (past.left n)) × IsGi
 abbrev pub AtHead : Past → Heap → List Name → Name → Type 0
 AtHead past h xs n = past.reached n × (pointer_at h (Root 1) ≡ Some (at None) → In n xs)
 
+-- it is the first one, as long as it is in the queue
+abbrev pub First : List Name → Name → Type 0
+First xs n = In n xs → (ys : List Name) × (xs ≡ n ∷ ys)
+
+-- its value is this one, until its removal is deferred
+abbrev pub Worth : Past → Heap → Name → ℕ → Type 0
+Worth past h n v = ¬ (past.left n) → HoldsValue h n v
+
 -- what is known in each phase
 abbrev pub Stands : Past → Heap → List Name → Phase → Type 0
 Stands past h xs (Crowning n) = Mine past h n
@@ -70,10 +79,10 @@ Stands past h xs (Appending n t k) = Mine past h n × AtTail past h t
 Stands past h xs (Swinging t n) = Linked past h t n
 Stands past h xs (Helping n t q k) = Mine past h n × Linked past h t q
 Stands past h xs (TakingBack n) = Mine past h n
-Stands past h xs (LoadingNext n k) = past.reached n
+Stands past h xs (LoadingNext n k) = past.reached n × First xs n
 Stands past h xs (Reading n q k) = Linked past h n q
-Stands past h xs (Leaving n q v k) = Linked past h n q
-Stands past h xs (Taking n q v k) = Linked past h n q
+Stands past h xs (Leaving n q v k) = Linked past h n q × Worth past h q v
+Stands past h xs (Taking n q v k) = Linked past h n q × Worth past h q v
 Stands past h xs (LookingBack n q v) = Off past h xs n × Linked past h n q
 Stands past h xs (Advancing n q v) = Off past h xs n × Linked past h n q
 Stands past h xs (Removing n v) = Off past h xs n × (pointer_at h (Root 1) ≢ Some (at (Some n)))
@@ -163,6 +172,8 @@ pub record Turn (past : Past) (h h' : Heap) (xs xs' : List Name) (hit : Option N
       → (pointer_at h (Root 1) ≡ Some (at None)) × (In n xs → In n xs')
   pub reach : (n : Name) → IsReachable h' n → IsReachable h n ⊎ (hit ≡ Some n)
   pub given : (n : Name) → IsGiven h n → IsGiven h' n
+  pub first : (n : Name) → past.reached n → First xs n → First xs' n
+  pub worth : (n : Name) (v : ℕ) → ¬ (past.left n) → HoldsValue h n v → HoldsValue h' n v
 
 pub none_not : (q : Name) → at None ≢ at (Some q)
 none_not q e = let name : None ≡ Some q = ap (λ (p : Ptr). p.name) e in cc (name)
@@ -209,6 +220,11 @@ module _ (past past' : Past) (h h' : Heap) (xs xs' : List Name) (hit gone : Opti
     turn.given n o.3,
   )
 
+  -- a node's value stays
+  worth_kept : (n : Name) (v : ℕ) → Worth past h n v → Worth past' h' n v
+  worth_kept n v w off =
+      let before : ¬ (past.left n) = λ l. off (passed.left_more n l) in turn.worth n v before (w before)
+
   -- whatever is known in a phase stays known
   pub stands_kept : (phase : Phase) → ((n : Name) → Owns phase n → (hit ≢ Some n) × (gone ≢ Some n))
       → Stands past h xs phase → Stands past' h' xs' phase
@@ -218,10 +234,10 @@ module _ (past past' : Past) (h h' : Heap) (xs xs' : List Name) (hit gone : Opti
   stands_kept (Swinging t n) off s = linked_kept t n s
   stands_kept (Helping n t q k) off s = (mine_kept n (off n refl).0 (off n refl).1 s.0, linked_kept t q s.1)
   stands_kept (TakingBack n) off s = mine_kept n (off n refl).0 (off n refl).1 s
-  stands_kept (LoadingNext n k) off s = passed.more n s
+  stands_kept (LoadingNext n k) off s = (passed.more n s.0, turn.first n s.0 s.1)
   stands_kept (Reading n q k) off s = linked_kept n q s
-  stands_kept (Leaving n q v k) off s = linked_kept n q s
-  stands_kept (Taking n q v k) off s = linked_kept n q s
+  stands_kept (Leaving n q v k) off s = (linked_kept n q s.0, worth_kept q v s.1)
+  stands_kept (Taking n q v k) off s = (linked_kept n q s.0, worth_kept q v s.1)
   stands_kept (LookingBack n q v) off s = (off_kept n (off n refl).1 s.0, linked_kept n q s.1)
   stands_kept (Advancing n q v) off s = (off_kept n (off n refl).1 s.0, linked_kept n q s.1)
   stands_kept (Removing n v) off s = (
@@ -313,6 +329,8 @@ module _ (past : Past) (h h' : Heap) (xs : List Name) (settled : Settled past h)
     untailed = λ n e. (ap (λ (rs : List Ptr). slice_get rs 1) (sym calm.roots) ∙ e, λ there. there);
     reach = λ n r. inl (fewer_reach h h' calm.fewer n r);
     given = calm.given;
+    first = λ n r f. f;
+    worth = λ n v l w. let kept = calm.kept n w.0 w.1 l w.2 w.3 in (kept.0, w.1, kept.1, kept.2, w.4);
   }
 
   pub calm_shut : (n : Name) → past.reached n → ¬ (In n xs) → ¬ (Next h' n None)

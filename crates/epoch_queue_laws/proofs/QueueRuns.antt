@@ -6,7 +6,8 @@ use Rattle.epoch_cells.specs.declared.cells.name.Name.{Name}
 use Rattle.epoch_heap.specs.declared.access.Ptr.{Ptr}
 use Rattle.epoch_heap.specs.declared.access.Spot.TheVariants.{Root, Field}
 use Rattle.epoch_heap.specs.Heap.{Cell, null, field_in, pointer_at}
-use Rattle.epoch_laws.specs.Run.{WorldSeat, State, seat_of, IsFresh}
+use Rattle.epoch_laws.specs.declared.step.Entry.{Entry}
+use Rattle.epoch_laws.specs.Run.{WorldSeat, State, seat_of, TakesStep, IsFresh}
 use Rattle.epoch_reach_laws.specs.Reach.{Leads, IsReachable, from_root, from_field, no_past, past_of, LeavesOnce}
 use Rattle.epoch_reach_laws.specs.Reach.{KeepsLoaded}
 use Rattle.epoch_reach_laws.proofs.JobsAsDeferred.{fresh_jobs}
@@ -15,11 +16,15 @@ use Rattle.epoch_laws.proofs.Linked.{fresh_linked}
 use Rattle.epoch_plans.specs.Plans.{Plan, AllPlans, world_log, run_of_world}
 use Rattle.epoch_queue_laws.specs.declared.plan.Phase.{Phase}
 use Rattle.epoch_queue_laws.specs.Queue.{queue, Starts, QueueLog, QueueRuns, IsNewQueue}
+use Rattle.epoch_queue_laws.specs.QueueValues.{QueueHolds, StepOnValues, FindsNone}
 use Rattle.epoch_plans.proofs.Cells.{none_at}
 use Rattle.epoch_plans.proofs.Custody.{Tied, now_of, Sound, StandsNow, OwnsNow}
 use Rattle.epoch_queue_laws.proofs.QueueKept.{structure}
 use Rattle.epoch_queue_laws.proofs.QueueTouches.{queue_obeys}
+use Rattle.epoch_queue_laws.proofs.QueueLists.{holds_some}
+use Rattle.epoch_queue_laws.proofs.QueueTurns.{step_on_values, finds_none}
 use Rattle.epoch_plans.proofs.Runs.{runs_leave}
+use Rattle.epoch_plans.proofs.RunsSound.{runs_sound}
 
 -- nothing stands in a fresh world's cells
 pub no_field : (s : State) → IsFresh s → (n : Name) (f : ℕ) (ptr : Ptr) → pointer_at s.heap (Field n f) ≢ Some ptr
@@ -91,3 +96,24 @@ every_queue_run_keeps_reach world world' plans plans' log new run =
     every_run_keeps_reach world world' (world_log log) new.fresh
     (run_of_world queue Starts world plans log world' plans' run)
     (every_queue_run_leaves_cells_once world world' plans plans' log new run)
+
+pub every_queue_run_holds_a_list : (world world' : State) (plans plans' : AllPlans Phase) (log : QueueLog)
+    → IsNewQueue world plans → QueueRuns world plans log world' plans'
+    → QueueHolds world.heap [] × ((vs : List ℕ) × QueueHolds world'.heap vs)
+every_queue_run_holds_a_list world world' plans plans' log new run =
+    let last = runs_sound queue structure Starts queue_obeys no_past world plans log world' plans'
+    (new_sound world plans new) run in (
+      (None, ap (λ (rs : List Ptr). slice_get rs 0) new.two_roots, refl),
+      holds_some world'.heap last.1.ghost last.1.shape.form,
+    )
+
+pub every_queue_run_is_a_queue : (world world' new : State) (plans plans' : AllPlans Phase) (log : QueueLog)
+    (x : Entry) → IsNewQueue world plans → QueueRuns world plans log world' plans'
+    → TakesStep world' x.step x.reply new → (vs : List ℕ) → QueueHolds world'.heap vs
+    → StepOnValues world' plans' x new vs × (FindsNone world' plans' x new → vs ≡ [])
+every_queue_run_is_a_queue world world' new plans plans' log x fresh run takes vs holds =
+    let last = runs_sound queue structure Starts queue_obeys no_past world plans log world' plans'
+    (new_sound world plans fresh) run in (
+      step_on_values last.0 world' new plans' x last.1 takes vs holds,
+      finds_none last.0 world' new plans' x last.1 takes vs holds,
+    )

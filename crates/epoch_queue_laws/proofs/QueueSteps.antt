@@ -2,7 +2,7 @@
 use Rattle.std.proofs.Common.{◌≡◌, ◌≢◌, ℕ, zero, suc, ◌-◌, Bool, true, false, List, [], ◌∷◌, ◌++◌, Option, Some, None}
 use Rattle.std.proofs.Common.{◌⊎◌, inl, inr, refl, ap, sym, subst, ◌∙◌, arith, slice_get, if◌then◌else◌}
 use Rattle.std.proofs.Math.Nat.{zero-mod}
-use Rattle.epoch_cells.specs.PlainCells.{filled}
+use Rattle.epoch_cells.specs.PlainCells.{filled, readable}
 use Rattle.epoch_cells.specs.declared.cells.name.Name.{Name}
 use Rattle.epoch_heap.specs.declared.access.Ptr.{Ptr}
 use Rattle.epoch_heap.specs.declared.access.Spot.TheVariants.{Root, Field}
@@ -12,8 +12,8 @@ use Rattle.epoch_heap.specs.declared.access.Accessed.{Accessed}
 use Rattle.epoch_heap.specs.declared.access.Accessed.TheVariants.{Again, Answers as Told, NoSlot}
 use Rattle.epoch_heap.specs.declared.access.Answer.{Answer}
 use Rattle.epoch_heap.specs.declared.heap.Content.{Content}
-use Rattle.epoch_heap.specs.Heap.{Cell, Heap, null, nulls, with_cell_at, field_in, pointer_at, aligned, Touched}
-use Rattle.epoch_heap.specs.Heap.{ChangesAt, Places, read_by, left_by, with_pointer}
+use Rattle.epoch_heap.specs.Heap.{Cell, Heap, cell_at, null, nulls, with_cell_at, field_in, pointer_at, aligned}
+use Rattle.epoch_heap.specs.Heap.{Touched, ChangesAt, Places, read_by, left_by, with_pointer}
 use Rattle.epoch_reach_laws.specs.Reach.{IsReachable, Past}
 use Rattle.epoch_reach_laws.proofs.TurnsGiven.{IsGiven, StaysGiven, place_gives}
 use Rattle.epoch_reach_laws.proofs.ReadersCounted.{name_self}
@@ -28,6 +28,7 @@ use Rattle.epoch_queue_laws.specs.declared.plan.Phase.TheVariants.{LoadingHead, 
 use Rattle.epoch_queue_laws.specs.declared.plan.Phase.TheVariants.{LookingBack, Advancing, Removing, Answering}
 use Rattle.epoch_queue_laws.specs.Queue.{retry_push, deed_of, queue, to_last, to_append, to_next, to_read, names}
 use Rattle.epoch_queue_laws.specs.Queue.{placed}
+use Rattle.epoch_queue_laws.proofs.QueueLists.{in_or, readable_held, value_written}
 use Rattle.epoch_heap.specs.declared.access.Answer.TheVariants.{Name as NameAnswer}
 use Rattle.epoch_cells.specs.declared.fault.Fault.TheVariants.{CellsFull}
 use Rattle.epoch_plans.proofs.Custody.{Passed, Calm, calm_same, Acts}
@@ -38,20 +39,10 @@ use Rattle.epoch_queue_laws.proofs.QueueForm.{In, at, at_same, Next, next_same, 
 use Rattle.epoch_queue_laws.proofs.QueueForm.{crown_form, seat_form, reached_in, took, take_form, swung, swing_to}
 use Rattle.epoch_queue_laws.proofs.QueueForm.{swing_form, appended, in_more, in_either, append_form, other_field}
 use Rattle.epoch_queue_laws.proofs.QueueForm.{written, next_in}
-use Rattle.epoch_queue_laws.proofs.QueueKept.{AtHead, none_not, Shape, Mine, Linked, AtTail, Off, Stands, Owns}
+use Rattle.epoch_queue_laws.proofs.QueueKept.{AtHead, First, Worth, none_not, Shape, Mine, Linked, AtTail, Off}
+use Rattle.epoch_queue_laws.proofs.QueueKept.{Stands, Owns}
 use Rattle.epoch_queue_laws.proofs.QueueKept.{structure, sane, Turn, stands_kept, shape_after, calm_form, calm_turn}
 use Rattle.epoch_queue_laws.proofs.QueueKept.{calm_shut, refused}
-
--- names can be looked up in a list
-pub in_or : (n : Name) (ns : List Name) → In n ns ⊎ (¬ (In n ns))
-in_or n [] = inr (λ h. h)
-in_or n (m ∷ ms) = elim (same_name n m) [
-  | inl e ↦ inl (inl e)
-  | inr ne ↦ elim (in_or n ms) [
-    | inl there ↦ inl (inr there)
-    | inr out ↦ inr (λ h. elim h [ inl e ↦ ne e | inr there ↦ out there ])
-  ]
-]
 
 -- an untagged pointer is aligned
 pub aligned_at : (h : Heap) (o : Option Name) → aligned h (at o) ≡ at o
@@ -146,6 +137,14 @@ module _ (past : Past) (h : Heap) (xs : List Name) (settled : Settled past h) (s
       by_chain [] chain = absurd (cc (chain, e))
       by_chain (m ∷ ms) chain = inl (cc (chain.1, e))
 
+  head_first : (n : Name) → shape.form.head ≡ Some n → (ys : List Name) × (xs ≡ n ∷ ys)
+  head_first n e = by_chain xs shape.form.chain
+    where
+      by_chain : (ns : List Name) → Chain h shape.form.head ns → (ys : List Name) × (ns ≡ n ∷ ys)
+      by_chain [] chain = absurd (cc (chain, e))
+      by_chain (m ∷ ms) chain =
+          let same : m ≡ n = cc (chain.1, e) in (ms, ap (λ (k : Name). k ∷ ms) same)
+
   -- the pointer found in a field is this one's next from then on
   links : (t q : Name) (ptr : Ptr) → past.reached t → pointer_at h (Field t 0) ≡ Some ptr → ptr.name ≡ Some q
       → Linked past h t q
@@ -201,13 +200,15 @@ module _ (past : Past) (h : Heap) (xs : List Name) (settled : Settled past h) (s
       by_name : (o : Option Name) → ptr.name ≡ o → Goes h (LoadingHead k) (to_next k o)
       by_name None name = weak_here _ _ (refused g (LoadingHead k) CellsFull) tt
       by_name (Some n) name =
-          still (LoadingHead k) (LoadingNext n k) tt
-          (shape.known n (head_in n (ap (λ (q : Ptr). q.name) (head_is ptr e) ∙ name))).0 (λ x o. o)
+          still (LoadingHead k) (LoadingNext n k) tt (
+            (shape.known n (head_in n (ap (λ (q : Ptr). q.name) (head_is ptr e) ∙ name))).0,
+            λ there. head_first n (ap (λ (q : Ptr). q.name) (head_is ptr e) ∙ name),
+          ) (λ x o. o)
 
   -- the head's next is null, or stays its next
   pub load_next : (g : ℕ) (n : Name) (k j : ℕ) (found : Ptr) (did : Touched) (o : Option Ptr)
-      → pointer_at h (Field n 0) ≡ o → ChangesAt Load j found (Field n 0) h o did → past.reached n
-      → Does g (LoadingNext n k) did
+      → pointer_at h (Field n 0) ≡ o → ChangesAt Load j found (Field n 0) h o did
+      → past.reached n × First xs n → Does g (LoadingNext n k) did
   load_next g n k j found did None e is s =
       subst (Does g (LoadingNext n k)) (sym is) (λ given. weak_here _ _ (refused g (LoadingNext n k) CellsFull) s)
   load_next g n k j found did (Some ptr) e is s =
@@ -215,26 +216,27 @@ module _ (past : Past) (h : Heap) (xs : List Name) (settled : Settled past h) (s
     where
       by_name : (o : Option Name) → ptr.name ≡ o → Goes h (LoadingNext n k) (to_read n k o)
       by_name None name = still (LoadingNext n k) (Answering Empty) s tt (λ x o. o)
-      by_name (Some q) name = still (LoadingNext n k) (Reading n q k) s (links n q ptr s e name) (λ x o. o)
+      by_name (Some q) name = still (LoadingNext n k) (Reading n q k) s (links n q ptr s.0 e name) (λ x o. o)
 
   pub read_next : (g : ℕ) (n q : Name) (k : ℕ) (did : Touched) (o : Option Cell) (p : Option Content)
-      → did ≡ read_by h q o p → Linked past h n q → (StaysGiven h did.heap → Calm past.left h did.heap)
-      → Does g (Reading n q k) did
-  read_next g n q k did None p is s calm given =
+      → cell_at h q ≡ o → readable o ≡ p → did ≡ read_by h q o p → Linked past h n q
+      → (StaysGiven h did.heap → Calm past.left h did.heap) → Does g (Reading n q k) did
+  read_next g n q k did None p at_q held is s calm given =
       weak did.heap (calm given) _ _ (subst (λ (d : Touched). Weaker queue structure (Reading n q k)
       (after_touch (Reading n q k) (deed_of g (Reading n q k)) d.told)) (sym is)
       (refused g (Reading n q k) CellsFull)) s
-  read_next g n q k did (Some c) None is s calm given =
+  read_next g n q k did (Some c) None at_q held is s calm given =
       weak did.heap (calm given) _ _ (subst (λ (d : Touched). Weaker queue structure (Reading n q k)
       (after_touch (Reading n q k) (deed_of g (Reading n q k)) d.told)) (sym is)
       (refused g (Reading n q k) CellsFull)) s
-  read_next g n q k did (Some c) (Some content) is s calm given =
-      weak did.heap (calm given) _ _ (subst (λ (d : Touched). Weaker queue structure (Reading n q k)
-      (after_touch (Reading n q k) (deed_of g (Reading n q k)) d.told)) (sym is)
-      (record { stands = λ past h xs shape s. s; owns = λ x o. o })) s
+  read_next g n q k did (Some c) (Some content) at_q held is s calm given =
+      subst (λ (d : Touched). Goes did.heap (Reading n q k) (after_touch (Reading n q k) (deed_of g
+      (Reading n q k)) d.told)) (sym is) (calm_acts did.heap (calm given) (Reading n q k)
+      (Leaving n q content.value k) s (s, λ l. (c, content, at_q, readable_held c content held, refl))
+      (λ x o. absurd o))
 
   pub leave_next : (g : ℕ) (n q : Name) (v k : ℕ) (did : Touched) (o : Option Cell)
-      → did ≡ left_by h q o → Linked past h n q → (StaysGiven h did.heap → Calm past.left h did.heap)
+      → did ≡ left_by h q o → Linked past h n q × Worth past h q v → (StaysGiven h did.heap → Calm past.left h did.heap)
       → Does g (Leaving n q v k) did
   leave_next g n q v k did None is s calm given =
       weak did.heap (calm given) _ _ (subst (λ (d : Touched). Weaker queue structure (Leaving n q v k)
@@ -319,6 +321,8 @@ module _ (past : Past) (h : Heap) (xs : List Name) (settled : Settled past h) (s
               let one : q ≡ n = cc (name) in in_reach h xs shape.form n (subst (λ k. In k xs) one goal.0)
         ]);
         given = given;
+        first = λ n r f. f;
+        worth = λ n v l w. w;
       }
 
   -- an exchange of the tail, won or lost
@@ -352,16 +356,19 @@ module _ (past : Past) (h : Heap) (xs : List Name) (settled : Settled past h) (s
   -- the head is taken off, won or lost
   pub take : (g : ℕ) (n q : Name) (v k j : ℕ) (found : Ptr) (did : Touched) (o : Option Ptr)
       → pointer_at h (Root 0) ≡ o → ChangesAt (CompareExchange (ptr_to n) (ptr_to q)) j found (Root 0) h o did
-      → Linked past h n q → Does g (Taking n q v k) did
-  take g n q v k j found did None e is l = absurd (cc (e, shape.form.rooted))
-  take g n q v k j found did (Some ptr) e (inr is) l =
-      subst (Does g (Taking n q v k)) (sym is.1) (λ given. weak_here _ _ (refused g (Taking n q v k) CellsFull) l)
-  take g n q v k j found did (Some ptr) e (inl is) l =
+      → Linked past h n q × Worth past h q v → Does g (Taking n q v k) did
+  take g n q v k j found did None e is s = absurd (cc (e, shape.form.rooted))
+  take g n q v k j found did (Some ptr) e (inr is) s =
+      subst (Does g (Taking n q v k)) (sym is.1) (λ given. weak_here _ _ (refused g (Taking n q v k) CellsFull) s)
+  take g n q v k j found did (Some ptr) e (inl is) s =
       subst (Does g (Taking n q v k)) (sym is.1) (λ given.
       subst (λ (p : Ptr). StaysGiven h (with_pointer h (Root 0) p)
       → Goes (with_pointer h (Root 0) p) (Taking n q v k) (LookingBack n q v)) (sym (aligned_at h (Some q)))
       (λ given. by_form (take_form h xs shape.form n q (linked_next) is_head) given) given)
     where
+      l : Linked past h n q
+      l = s.0
+
       is_head : pointer_at h (Root 0) ≡ Some (at (Some n))
       is_head = e ∙ ap Some (is.0 ∙ aligned_at h (Some n))
 
@@ -382,7 +389,7 @@ module _ (past : Past) (h : Heap) (xs : List Name) (settled : Settled past h) (s
       by_form : (ys : List Name) × (xs ≡ n ∷ ys) × (¬ (In n ys)) × Form (took h q) ys → StaysGiven h (took h q)
           → Goes (took h q) (Taking n q v k) (LookingBack n q v)
       by_form (ys, whole, apart, form) given =
-          turn_acts past h (took h q) xs ys None settled shape turn form shut (Taking n q v k) (LookingBack n q v) l
+          turn_acts past h (took h q) xs ys None settled shape turn form shut (Taking n q v k) (LookingBack n q v) s
           (λ m e. absurd (cc (e))) (λ m o. inr (inl (subst (λ k. In k xs) (sym o) there)))
           (λ past' passed. (
             (
@@ -396,6 +403,10 @@ module _ (past : Past) (h : Heap) (xs : List Name) (settled : Settled past h) (s
         where
           before : (m : Name) → In m ys → In m xs
           before m is = subst (λ ns. In m ns) (sym whole) (inr is)
+
+          by_first : (m : Name) → In m ys → ((zs : List Name) × (xs ≡ m ∷ zs)) → ⊥
+          by_first m is (zs, first) =
+              let same : m ≡ n = cc (first, whole) in apart (subst (λ k. In k ys) same is)
 
           turn : Turn past h (took h q) xs ys None
           turn = record {
@@ -415,6 +426,8 @@ module _ (past : Past) (h : Heap) (xs : List Name) (settled : Settled past h) (s
                   (at_same shape.form.last form.last (sym shape.form.tailed ∙ sym tail ∙ form.tailed) ∙ e)
             ]);
             given = given;
+            first = λ m r f is. absurd (by_first m is (f (before m is)));
+            worth = λ m v l w. w;
           }
 
           shut : (m : Name) → past.reached m → ¬ (In m ys) → ¬ (Next (took h q) m None)
@@ -482,6 +495,11 @@ module _ (past : Past) (h : Heap) (xs : List Name) (settled : Settled past h) (s
             (at_same shape.form.last longer.last (sym shape.form.tailed ∙ sym same_tail ∙ longer.tailed) ∙ e))
       ];
       given = given;
+      first = λ m r f is. elim (either m is) [
+        | inl was ↦ let one = f was in (one.0 ++ n ∷ [], ap (λ (ns : List Name). ns ++ n ∷ []) one.1)
+        | inr e ↦ absurd (s.0.0 (subst (λ k. past.reached k) e r))
+      ];
+      worth = λ m v l w. value_written h t (at (Some n)) m v w;
     }
 
     append_shut : (m : Name) → past.reached m → ¬ (In m (xs ++ n ∷ [])) → ¬ (Next (appended h t n) m None)
@@ -618,6 +636,11 @@ module _ (past : Past) (h : Heap) (xs : List Name) (settled : Settled past h) (s
               (at_same shape.form.last formed.2.last (sym shape.form.tailed ∙ sym tail ∙ formed.2.tailed) ∙ e))
         ];
         given = given;
+        first = λ m r f there. elim there [
+          | inl e ↦ absurd (s.0 (subst (λ k. past.reached k) e r))
+          | inr nothing ↦ absurd nothing
+        ];
+        worth = λ m v l w. w;
       }
 
       crowns : StaysGiven h (took h n) → Goes (took h n) (Crowning n) (Seating n)
@@ -677,6 +700,8 @@ module _ (past : Past) (h : Heap) (xs : List Name) (settled : Settled past h) (s
               let one : n ≡ m = cc (name) in in_reach h xs shape.form m (subst (λ k. In k xs) one there)
         ]);
         given = given;
+        first = λ m r f. f;
+        worth = λ m v l w. w;
       }
 
       seats : StaysGiven h (swung h n) → Goes (swung h n) (Seating n) (Answering Built)

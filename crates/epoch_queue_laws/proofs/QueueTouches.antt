@@ -25,7 +25,8 @@ use Rattle.epoch_plans.proofs.Calls.{calm_call}
 use Rattle.epoch_queue_laws.proofs.QueueForm.{in_reach}
 use Rattle.epoch_queue_laws.proofs.QueueKept.{Shape, AtTail, Stands, structure, sane, calm_kept, refused, flushed}
 use Rattle.epoch_queue_laws.proofs.QueueKept.{starts, answers, fits, defers}
-use Rattle.epoch_queue_laws.proofs.QueueSteps.{in_or, aligned_at, tries_mine, load_tail, load_last, load_head}
+use Rattle.epoch_queue_laws.proofs.QueueLists.{in_or}
+use Rattle.epoch_queue_laws.proofs.QueueSteps.{aligned_at, tries_mine, load_tail, load_last, load_head}
 use Rattle.epoch_queue_laws.proofs.QueueSteps.{load_next, read_next, leave_next, look_back, take, append, place, crown}
 use Rattle.epoch_queue_laws.proofs.QueueSteps.{seat, advance, swing_last, help}
 
@@ -71,7 +72,7 @@ module _ (past : Past) (h : Heap) (xs : List Name) (settled : Settled past h) (s
   touch_does g (LoadingNext n k) j found did e s =
       load_next past h xs settled shape g n k j found did (pointer_at h (Field n 0)) refl e s
   touch_does g (Reading n q k) j found did e s =
-      read_next past h xs settled shape g n q k did (cell_at h q) (readable (cell_at h q)) e s
+      read_next past h xs settled shape g n q k did (cell_at h q) (readable (cell_at h q)) refl refl e s
       (calm_call past.left h (Read (Some g) (ptr_to q)) j found did tt e)
   touch_does g (Leaving n q v k) j found did e s =
       leave_next past h xs settled shape g n q v k did (cell_at h q) e s (calm_call past.left h (Leave

@@ -1,10 +1,12 @@
 //! What holds of every run of a queue, in any interleaving: laws of the definitions.
-ghost use Rattle.std.specs.Prelude.{ℕ};
-ghost use Rattle.epoch_laws.specs.Run.{State};
+ghost use Rattle.std.specs.Prelude.{◌≡◌, ℕ, List, []};
+ghost use Rattle.epoch_laws.specs.declared.step.Entry.{Entry};
+ghost use Rattle.epoch_laws.specs.Run.{State, TakesStep};
 ghost use Rattle.epoch_reach_laws.specs.Reach.{LeavesOnce, KeepsLoaded, past_of};
 ghost use Rattle.epoch_plans.specs.Plans.{AllPlans, IsLowered, world_log, run_of_world};
 ghost use Rattle.epoch_queue_laws.specs.declared.plan.Phase.{Phase};
 ghost use Rattle.epoch_queue_laws.specs.Queue.{queue, calls_left, Starts, QueueLog, QueueRuns, IsNewQueue};
+ghost use Rattle.epoch_queue_laws.specs.QueueValues.{QueueHolds, StepOnValues, FindsNone};
 
 /// In the run of the world that a queue makes cells leave as they have to: once, by a deferred removal, and for good.
 pub fn every_queue_run_leaves_cells_once()
@@ -25,4 +27,21 @@ pub fn every_queue_run_keeps_reach()
 /// phase answers after at most so many.
 pub fn every_queue_reply_comes_nearer_the_answer()
     ensures { IsLowered queue calls_left }
+{}
+
+/// A new queue holds no value, and at each moment of a run its cells hold a list of values, the front's first.
+pub fn every_queue_run_holds_a_list()
+    ensures { (world world' : State) (plans plans' : AllPlans Phase) (log : QueueLog) → IsNewQueue world plans
+        → QueueRuns world plans log world' plans'
+        → QueueHolds world.heap [] × ((vs : List ℕ) × QueueHolds world'.heap vs) }
+{}
+
+/// Each step of a run leaves that list as it is, but for the won exchange of a push, which adds its node's value at the
+/// back, and that of a pop, which takes the value in front, the one that the pop has read and will answer. Where a pop
+/// finds nothing behind the head, so that it will answer `Empty`, the list is empty at that step.
+pub fn every_queue_run_is_a_queue()
+    ensures { (world world' new : State) (plans plans' : AllPlans Phase) (log : QueueLog) (x : Entry)
+        → IsNewQueue world plans → QueueRuns world plans log world' plans'
+        → TakesStep world' x.step x.reply new → (vs : List ℕ) → QueueHolds world'.heap vs
+        → StepOnValues world' plans' x new vs × (FindsNone world' plans' x new → vs ≡ []) }
 {}
