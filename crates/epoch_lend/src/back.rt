@@ -23,7 +23,7 @@ fn stays_clear(clear: bool, seal: u64, word: u64) -> bool
 }
 
 impl<T> Marked<T> {
-    /// Looks at each post once. Each guard that had a loan is over, or is pinned in an epoch before the one answered.
+    /// Looks at each post once. Answers a seal: each guard that had a loan is over, or is of an epoch before it.
     pub fn seal(self, posts: &[Post]) -> (u64, Marked<T>)
         requires { self.right ≡ 1 }
         ensures sealed { EachSeen (IsSealed result.0) (logs_of posts.now) result.1.seen }
@@ -62,8 +62,8 @@ impl<T> Marked<T> {
         (clear, marked)
     }
 
-    /// All parts of the value, where each post is seen with no pin in an epoch before the seal. Else nothing comes back
-    /// yet, since a guard that had a loan may live.
+    /// Looks at each post once more. Where none is pinned in an epoch before the seal, all parts of the value come
+    /// back. Else what was marked does, to be tried again, since a guard that had a loan may live.
     pub fn take_back(self, posts: &[Post], seal: u64) -> Result<Part<T>, Marked<T>>
         requires marked { self.right ≡ 1 }
         requires lent { Within (logs_of posts.now) self.loans }

@@ -30,7 +30,8 @@ impl<T: Drop> Lent<T> {
 }
 
 impl<T> Lent<T> {
-    /// One plain load. Where the value is present, it is lent for as long as the guard is.
+    /// One plain load. Where the value is present, it is lent for as long as the guard is. `None`: it was marked.
+    /// The guard must be of one of the value's posts.
     pub fn look<'g>(&self, guard: &'g Guard) -> Option<&'g T>
         requires { IsOneOf guard.now.log self.now.lending.posts }
         ensures { IfSome result (λ value. value.now ≡ self.now.lending.value) }
@@ -45,6 +46,7 @@ impl<T> Lent<T> {
     }
 
     /// Marks the value, so that no look finds it from then on. Who marks it has what was lent of it, and only one does.
+    /// `None`: it was marked before.
     pub fn mark(&self) -> Option<Marked<T>>
         ensures marked { IfSome result (λ marked. (marked.right ≡ 1) × (marked.seen ≡ [])) }
         ensures value { IfSome result (λ marked. (marked.value ≡ self.now.lending.value)

@@ -1,8 +1,8 @@
 use Rattle.std.proofs.Common.{◌≡◌, refl, sym, subst, ◌∙◌, List, ℕ, true}
 use native.Mathlib.Omega.{arith}
 use Rattle.epoch_lend.specs.Posts.{logs_of}
-use Rattle.epoch_lend.specs.Loans.{Sight, EachSeen, IsSealed, IsPast}
-use Rattle.epoch_lend.proofs.Sights.{each_more, each_also, looked, looked_at_all, later_sealed, all_are_shown}
+use Rattle.epoch_lend.specs.Loans.{IsSealed}
+use Rattle.epoch_lend.proofs.Sights.{looked, looked_at_all, later_sealed}
 use Rattle.epoch_lend.proofs.lending.Marked.seal.Goals as goal
 
 pub loop-position-init : goal.loop-position-init
@@ -13,7 +13,8 @@ look-word-requires g c = c.loop-position.invariant.right
 
 -- the look adds one post, and those before stay sealed by a later seal
 pub loop-position-preserved : goal.loop-position-preserved
-loop-position-preserved g c = let kept = c.loop-position.invariant in let same = c.look-word.ensures.same in
+loop-position-preserved g c = let kept = c.loop-position.invariant in
+    let same = c.look-word.ensures.same in
     let later = c.sealed_past-later.result in record {
       right = same.0;
       value = same.1 ∙ kept.value;

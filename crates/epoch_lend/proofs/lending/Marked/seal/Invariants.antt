@@ -1,4 +1,4 @@
-use Rattle.std.proofs.Common.{◌≡◌, ℕ, ◌^◌, ◌≤◌, take}
+use Rattle.std.proofs.Common.{◌≡◌, take}
 use Rattle.epoch_lend.specs.Posts.{logs_of}
 use Rattle.epoch_lend.specs.Loans.{EachSeen, IsSealed}
 use Rattle.epoch_lend.proofs.lending.Marked.seal.Given as goal
