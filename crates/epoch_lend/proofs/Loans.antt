@@ -1,7 +1,10 @@
 -- A loan is made, and all loans come back. Assumes `Logic`.
 use Rattle.std.proofs.Common.{◌≡◌, ◌≢◌, ℕ, suc, List, [], ◌∷◌, ◌++◌, sym, refl, ap, subst, length, inl, inr}
 use native.Mathlib.Nat.{suc-ne-zero}
-use mathlib.Core.Bool.{Bool, true, false}
+use mathlib.Core.Bool.{Bool, true, false, not}
+use Rattle.std.proofs.Common.{◌∙◌, ◌⊎◌}
+use Rattle.std.specs.Prelude.{eqb}
+use Rattle.std.proofs.lemmas.Bool.{and_parts, or_cases, eqb-true, eq-eqb, not_from_true, not_from_false, false≢true}
 use seplogic.Ra.Ura.{Ura}
 use base.Share
 use base.Fraction.{full_share}
@@ -68,7 +71,9 @@ use Rattle.epoch_lend.specs.Loans.{
   Shows,
   shown_by,
   all_shown,
-  IsShown,
+  shows,
+  is_shown,
+  are_shown,
   AreShown,
 }
 
@@ -164,28 +169,53 @@ module _ {M : Type 1} {𝓤 : Ura M} (𝓛 : Logic 𝓤) (a : ℕ) where
   one_shown (s ∷ ss) l ls = qed 𝓛 (‵ (all_shown (s ∷ ss) (l ∷ ls)) ∷ []) ∵ fsplit ! $ fsplit ! $ drop ! $
       move ! (1 ∷ []) $ use1 𝓛 (‵ (all_shown ss ls)) (one_shown ss l ls) $ move ! (1 ∷ 0 ∷ []) $ fjoin ! $ done !
 
-  -- the guard of the first loan is over, where one of the looks shows it
-  first_shown : (ss : List SeenPost) (l : Loan) (ls : List Loan) → IsShown ss l
-      → ⟦ all_shown ss (l ∷ ls) ⟧ ⊢ A.dead (l.atom ∷ []) ∗ ⟦ all_shown ss ls ⟧
-  first_shown [] l ls x = elim x [ ]
-  first_shown (s ∷ ss) l ls (inl e) = qed 𝓛 (‵ (all_shown (s ∷ ss) (l ∷ ls)) ∷ []) ∵ fsplit ! $ fsplit ! $
-      use1 𝓛 (‵ (fdead (l.atom ∷ []))) (all_e 𝓤 (λ (_ : Shows s l). A.dead (l.atom ∷ [])) e) $ frame ! $
+  -- what the test of one look says
+  shows_fact : (s : SeenPost) (l : Loan) → shows s l ≡ true → Shows s l
+  shows_fact s l e =
+      let parts = and_parts (eqb l.log s.0) (not (eqb s.1 (posted l.epoch))) e in
+      let here : l.log ≡ s.0 = eqb-true l.log s.0 parts.0 in (
+        here,
+        (λ same. false≢true (sym (not_from_true (not (eqb s.1 (posted l.epoch))) parts.1) ∙ not_from_same same)),
+      )
+    where
+      not_from_same : s.1 ≡ posted l.epoch → not (not (eqb s.1 (posted l.epoch))) ≡ true
+      not_from_same same = not_from_false (not (eqb s.1 (posted l.epoch))) (not_from_true (eqb s.1 (posted l.epoch))
+          (eq-eqb s.1 (posted l.epoch) same))
+
+  -- the guard of the first loan is over, where this look or one of the others shows it
+  shown_by_one : (s : SeenPost) (ss : List SeenPost) (l : Loan) (ls : List Loan)
+      → (is_shown ss l ≡ true → ⟦ all_shown ss (l ∷ ls) ⟧ ⊢ A.dead (l.atom ∷ []) ∗ ⟦ all_shown ss ls ⟧)
+      → (shows s l ≡ true) ⊎ (is_shown ss l ≡ true)
+      → ⟦ all_shown (s ∷ ss) (l ∷ ls) ⟧ ⊢ A.dead (l.atom ∷ []) ∗ ⟦ all_shown (s ∷ ss) ls ⟧
+  shown_by_one s ss l ls others (inl e) = qed 𝓛 (‵ (all_shown (s ∷ ss) (l ∷ ls)) ∷ []) ∵ fsplit ! $ fsplit ! $
+      use1 𝓛 (‵ (fdead (l.atom ∷ []))) (all_e 𝓤 (λ (_ : Shows s l). A.dead (l.atom ∷ [])) (shows_fact s l e)) $
+      frame ! $
       move ! (1 ∷ []) $ use1 𝓛 (‵ (all_shown ss ls)) (one_shown ss l ls) $ move ! (1 ∷ 0 ∷ []) $ fjoin ! $ done !
-  first_shown (s ∷ ss) l ls (inr i) = qed 𝓛 (‵ (all_shown (s ∷ ss) (l ∷ ls)) ∷ []) ∵ fsplit ! $ fsplit ! $ drop ! $
-      move ! (1 ∷ []) $ use1 𝓛 (‵ (fdead (l.atom ∷ [])) ⊛ ‵ (all_shown ss ls)) (first_shown ss l ls i) $ split ! $
+  shown_by_one s ss l ls others (inr i) = qed 𝓛 (‵ (all_shown (s ∷ ss) (l ∷ ls)) ∷ []) ∵ fsplit ! $ fsplit ! $
+      drop ! $
+      move ! (1 ∷ []) $ use1 𝓛 (‵ (fdead (l.atom ∷ [])) ⊛ ‵ (all_shown ss ls)) (others i) $ split ! $
       frame ! $ move ! (1 ∷ 0 ∷ []) $ fjoin ! $ done !
+
+  -- the guard of the first loan is over, where one of the looks shows it
+  first_shown : (ss : List SeenPost) (l : Loan) (ls : List Loan) → is_shown ss l ≡ true
+      → ⟦ all_shown ss (l ∷ ls) ⟧ ⊢ A.dead (l.atom ∷ []) ∗ ⟦ all_shown ss ls ⟧
+  first_shown [] l ls shown = absurd (false≢true shown)
+  first_shown (s ∷ ss) l ls shown = shown_by_one s ss l ls (first_shown ss l ls) (or_cases (shows s l) (is_shown ss
+      l) shown)
 
   -- every loan comes back, where of each a look showed that its guard is over: the whole token is there again
   pub all_home : (ss : List SeenPost) (ls : List Loan) → AreShown ss ls
       → ⟦ stock a ls ⟧ ∗ ⟦ all_shown ss ls ⟧ ⊢ H.⇛ (A.lft (a ∷ []) full_share)
   all_home ss [] c = qed 𝓛 (‵ (stock a []) ∷ ‵ (all_shown ss []) ∷ []) ∵ updating ! $ fsplit ! $ now ! $
       keep ! (0 ∷ []) $ done !
-  all_home ss (l ∷ ls) c = let n : ℕ = length ls in qed 𝓛 (‵ (stock a (l ∷ ls)) ∷ ‵ (all_shown ss (l ∷ ls)) ∷ []) ∵
+  all_home ss (l ∷ ls) c = let n : ℕ = length ls in
+      let parts = and_parts (is_shown ss l) (are_shown ss ls) c in qed 𝓛 (‵ (stock a (l ∷ ls)) ∷ ‵ (all_shown ss (l ∷
+      ls)) ∷ []) ∵
       updating ! $ fsplit ! $ move ! (1 ∷ []) $ fsplit ! $ move ! (3 ∷ []) $
-      use1 𝓛 (‵ (fdead (l.atom ∷ [])) ⊛ ‵ (all_shown ss ls)) (first_shown ss l ls c.0) $ split ! $
+      use1 𝓛 (‵ (fdead (l.atom ∷ [])) ⊛ ‵ (all_shown ss ls)) (first_shown ss l ls parts.0) $ split ! $
       move ! (2 ∷ 0 ∷ []) $ use2 𝓛 (later (‵ (flft (a ∷ []) (loan_share n)))) (comes_home n l) $ await ! tt $
       move ! (0 ∷ 3 ∷ []) $ use2 𝓛 (‵ (flft (a ∷ []) (left_after n))) (𝓛.lfts.lft_join (a ∷ []) (left_after n)) $
-      move ! (0 ∷ 2 ∷ []) $ fjoin ! $ by ! (all_home ss ls c.1)
+      move ! (0 ∷ 2 ∷ []) $ fjoin ! $ by ! (all_home ss ls parts.1)
 
   -- ---- what a look at a post tells
   abbrev pub all_entered : List Loan → Fml

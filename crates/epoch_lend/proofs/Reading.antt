@@ -21,6 +21,7 @@ use Rattle.std.proofs.Common.{
 use native.Mathlib.Nat.{suc-ne-zero}
 use native.Mathlib.Decide.{ℕ_discrete}
 use mathlib.Core.Logic.{dite}
+use Rattle.std.proofs.lemmas.Bool.{and_from}
 use mathlib.Core.Bool.{Bool, true, false}
 use seplogic.Ra.Ura.{Ura}
 use base.Stored.{gnum, num}
@@ -103,7 +104,7 @@ use Rattle.core.specs.Sync.RawAtomic.{asks, always, word}
 use Rattle.core.proofs.raw_atomic.Asked.{borrowed, Lies, Again}
 use base.FractionLaws.{Counts}
 use Rattle.epoch_lend.specs.Parted.{tokens}
-use Rattle.epoch_lend.specs.Posts.{known, IsOneOf, entered, guard_owns, guard_shares}
+use Rattle.epoch_lend.specs.Posts.{known, is_among, IsAmong, entered, guard_owns, guard_shares}
 use Rattle.epoch_lend.specs.Loans.{
   loan_share,
   filled_pocket,
@@ -119,6 +120,7 @@ use Rattle.epoch_lend.specs.Loans.{
   lending,
   glance_owns,
   marked_owns,
+  are_within,
   Within,
 }
 use Rattle.core.proofs.cell.Borrows.{by_one}
@@ -297,7 +299,7 @@ module _ {M : Type 1} {𝓤 : Ura M} (𝓛 : Logic 𝓤) where
             split ! $ suffices ! _ (upd_i 𝓤 Goal) $
             move ! (2 ∷ 0 ∷ []) $ fjoin ! $ fpack ! ℕ (λ m. fsep (word b e m) (Waiting m)) (f n) $ done !)))
 
-        module _ (γ epoch η : ℕ) (of : IsOneOf η d.posts) (r : Share) (δ : GName) where
+        module _ (γ epoch η : ℕ) (of : IsAmong η d.posts) (r : Share) (δ : GName) where
           abbrev lent_now : Loan
           lent_now = record { atom = γ; epoch = epoch; log = η; pocket_name = δ }
 
@@ -315,7 +317,8 @@ module _ {M : Type 1} {𝓤 : Ura M} (𝓛 : Logic 𝓤) where
               $ settle 𝓛 Goal (‵ (stock a (lent_now ∷ ls)) ⊛ ‵ (filled_pocket a δ (length ls))) $ split ! $
               suffices ! Goal (upd_i 𝓤 Goal) $
               move ! (2 ∷ []) $ use1 𝓛 (‵ (S (a ∷ [])) ⊛ ‵ (S (a ∷ []))) (contraction 𝓛 S SL (a ∷ [])) $ split ! $
-              nothing ! $ fpack ! (Within d.posts (lent_now ∷ ls)) (λ _. ftrue) (of, within) $
+              nothing ! $ fpack ! (Within d.posts (lent_now ∷ ls)) (λ _. ftrue) (and_from
+              (is_among η d.posts) (are_within d.posts ls) of within) $
               -- [within; shown; shown; stock; filled_pocket]
               move ! (3 ∷ 1 ∷ 0 ∷ []) $ fjoin3 ! $ fpack ! (List Loan) (held_for R d) (lent_now ∷ ls) $
               use1 𝓛 (‵ (Waiting n)) (qed 𝓛 (‵ (present R d) ∷ []) ∵ each ! (λ (_ : n ≡ 1). ⟦ present R d ⟧) (λ _.
@@ -388,4 +391,4 @@ module _ {M : Type 1} {𝓤 : Ura M} (𝓛 : Logic 𝓤) where
             fpick ! (λ within. move ! (1 ∷ 2 ∷ 0 ∷ []) $ fjoin3 ! $
             show ! Take (1, ls) $ types.Kit.check ! (((λ _. refl), (λ miss. absurd (miss hit))), within) $ done !)))
             (λ miss. qed 𝓛 (‵ (while_present R d n) ∷ []) ∵ drop ! $ nothing ! $ show ! Take (0, []) $
-            types.Kit.check ! (((λ hit. absurd (miss hit)), (λ _. refl)), tt) $ done !)
+            types.Kit.check ! (((λ hit. absurd (miss hit)), (λ _. refl)), refl) $ done !)

@@ -1,6 +1,6 @@
 -- What the word of a value holds while it is present: the token of the value's lifetime a, less what was lent to
 -- guards, and the loans.
-use Rattle.std.specs.Prelude.{◌≡◌, ◌≢◌, ℕ, zero, suc, ◌+◌, ◌*◌, ◌≤◌, ◌⊎◌, List, [], ◌∷◌, length}
+use Rattle.std.specs.Prelude.{◌≡◌, ◌≢◌, ℕ, zero, suc, ◌+◌, ◌*◌, eqb, leb, not, ◌&&◌, ◌||◌, List, [], ◌∷◌, length}
 use mathlib.Core.Bool.{Bool, true, false}
 use base.Share
 use base.Fraction.{full_share}
@@ -11,7 +11,7 @@ use denote.RawPtr.{Ptr, block_ptr, null_ptr, coded_ptr}
 use denote.Struct.Lending.{lent_at}
 use denote.Sharing.{said, beside, some, ends, always}
 use Rattle.core.specs.Sync.RawAtomic.{word}
-use Rattle.epoch_lend.specs.Posts.{known, IsOneOf, posted, entered}
+use Rattle.epoch_lend.specs.Posts.{known, is_among, posted, entered}
 
 -- what is left of the token after n loans, and what the next loan takes: each loan takes half of what is left
 abbrev pub left_after : ℕ → Share
@@ -85,35 +85,48 @@ all_shown [] ls = ftrue
 all_shown (s ∷ ss) ls = fsep (shown_by s ls) (all_shown ss ls)
 
 -- one of these looks shows that the loan's guard is over
-abbrev pub IsShown : List SeenPost → Loan → Type 0
-IsShown [] l = ⊥
-IsShown (s ∷ ss) l = Shows s l ⊎ IsShown ss l
+abbrev pub shows : SeenPost → Loan → Bool
+shows s l = eqb l.log s.0 && not (eqb s.1 (posted l.epoch))
+
+abbrev pub is_shown : List SeenPost → Loan → Bool
+is_shown [] l = false
+is_shown (s ∷ ss) l = shows s l || is_shown ss l
+
+-- of each loan one of these looks shows it
+abbrev pub are_shown : List SeenPost → List Loan → Bool
+are_shown ss [] = true
+are_shown ss (l ∷ ls) = is_shown ss l && are_shown ss ls
 
 abbrev pub AreShown : List SeenPost → List Loan → Type 0
-AreShown ss [] = Unit {0}
-AreShown ss (l ∷ ls) = IsShown ss l × AreShown ss ls
+AreShown ss ls = are_shown ss ls ≡ true
 
 -- each loan went to a guard of one of these posts
+abbrev pub are_within : List ℕ → List Loan → Bool
+are_within ηs [] = true
+are_within ηs (l ∷ ls) = is_among l.log ηs && are_within ηs ls
+
 abbrev pub Within : List ℕ → List Loan → Type 0
-Within ηs [] = Unit {0}
-Within ηs (l ∷ ls) = IsOneOf l.log ηs × Within ηs ls
+Within ηs ls = are_within ηs ls ≡ true
 
--- one of these looks was at this post, and found a word of which P holds
-abbrev pub WasSeen : (ℕ → Type 0) → ℕ → List SeenPost → Type 0
-WasSeen P η [] = ⊥
-WasSeen P η (s ∷ ss) = ((s.0 ≡ η) × P s.1) ⊎ WasSeen P η ss
+-- one of these looks was at this post, and found a word that passes
+abbrev pub was_seen : (ℕ → Bool) → ℕ → List SeenPost → Bool
+was_seen passes η [] = false
+was_seen passes η (s ∷ ss) = (eqb η s.0 && passes s.1) || was_seen passes η ss
 
-abbrev pub EachSeen : (ℕ → Type 0) → List ℕ → List SeenPost → Type 0
-EachSeen P [] ss = Unit {0}
-EachSeen P (η ∷ ηs) ss = WasSeen P η ss × EachSeen P ηs ss
+abbrev pub each_seen : (ℕ → Bool) → List ℕ → List SeenPost → Bool
+each_seen passes [] ss = true
+each_seen passes (η ∷ ηs) ss = was_seen passes η ss && each_seen passes ηs ss
+
+abbrev pub EachSeen : (ℕ → Bool) → List ℕ → List SeenPost → Type 0
+EachSeen passes ηs ss = each_seen passes ηs ss ≡ true
 
 -- a post with this word isn't pinned, or is in an epoch before the seal
-abbrev pub IsSealed : ℕ → ℕ → Type 0
-IsSealed seal found = found ≤ 2 * seal
+abbrev pub is_sealed : ℕ → ℕ → Bool
+is_sealed seal found = leb found (2 * seal)
 
 -- a post with this word isn't pinned, or is in the seal's epoch or a later one
-abbrev pub IsPast : ℕ → ℕ → Type 0
-IsPast seal found = found ≢ 0 → 2 * seal ≤ found
+abbrev pub is_past : ℕ → ℕ → Bool
+is_past seal found = eqb found 0 || leb (2 * seal) found
 
 -- what a word is of: where its value lies, the value, and the atom of the lifetime that it is lent for
 pub record Shown (T : Type 0) : Type 0 where

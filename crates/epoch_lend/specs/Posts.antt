@@ -1,6 +1,6 @@
 -- What the word of a post says of its participant's guards. Guards of one pin share a lifetime of their own, named by
 -- an atom. A post keeps a log of its pins so far: the atom of each, and the epoch that it published.
-use Rattle.std.specs.Prelude.{◌≡◌, ℕ, suc, ◌+◌, ◌*◌, ◌⊎◌, List, [], ◌∷◌, ◌++◌}
+use Rattle.std.specs.Prelude.{◌≡◌, ℕ, suc, ◌+◌, ◌*◌, ◌⊎◌, Bool, true, false, ◌||◌, eqb, List, [], ◌∷◌, ◌++◌}
 use base.Fraction.{full_share}
 use base.Stored.{Coded, coded×, coded_ℕ, coded_via, gnum}
 use base.Fml.{Lft, Fml, ftrue, ffalse, fsep, fex, fdead, fobs, fauth, fbor}
@@ -58,6 +58,14 @@ post_coded = coded_via (coded× coded_ℕ coded_ℕ) (λ (d : PostNames). (
 abbrev pub logs_of : List PostNames → List ℕ
 logs_of [] = []
 logs_of (d ∷ ds) = d.log ∷ logs_of ds
+
+-- the post with this log is one of these
+abbrev pub is_among : ℕ → List ℕ → Bool
+is_among η [] = false
+is_among η (other ∷ ηs) = eqb η other || is_among η ηs
+
+abbrev pub IsAmong : ℕ → List ℕ → Type 0
+IsAmong η ηs = is_among η ηs ≡ true
 
 pub data PostStage : Type 0 where
   idle : PostStage

@@ -1,7 +1,7 @@
 //! The word of a value that is read under guards.
 ghost use Rattle.std.specs.Prelude.{◌≡◌, ◌≢◌, ℕ, ◌^◌, List, [], ◌∷◌};
 ghost use base.Stored.{coded_list, coded×, coded_ℕ};
-ghost use Rattle.epoch_lend.specs.Posts.{IsOneOf, logs_of};
+ghost use Rattle.epoch_lend.specs.Posts.{IsAmong, logs_of};
 ghost use Rattle.epoch_lend.specs.Loans.{Shown, shown_coded, lending_owns, lending_shares, glance_owns};
 ghost use Rattle.epoch_lend.specs.Loans.{marked_owns, Loan, loan_coded, SeenPost, Within, AreShown};
 
@@ -83,7 +83,7 @@ impl<T> Lending<T> {
     /// One plain load. Where it finds `PRESENT`, the value may be read for as long as the guard is lent. The guard
     /// must be of one of the value's posts.
     pub fn look<'g>(&self, guard: &'g Guard, at: *const T) -> (u64, Glance<'g, T>)
-        requires { (at ≡ self.now.at) × IsOneOf guard.now.log self.now.posts }
+        requires { (at ≡ self.now.at) × IsAmong guard.now.log self.now.posts }
         ensures { (result.0 ≡ PRESENT → result.1.right ≡ 1) × (result.0 ≢ PRESENT → result.1.right ≡ 0)
             × (result.1.value ≡ self.now.value) }
     {

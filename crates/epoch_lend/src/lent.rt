@@ -1,6 +1,6 @@
 //! A value that threads look at under guards, each time by one plain load.
 ghost use Rattle.std.specs.Prelude.{◌≡◌, [], IfSome};
-ghost use Rattle.epoch_lend.specs.Posts.{IsOneOf, logs_of};
+ghost use Rattle.epoch_lend.specs.Posts.{IsAmong, logs_of};
 ghost use Rattle.epoch_lend.specs.Loans.{Within};
 
 use crate::lending::{Lending, Marked, PRESENT};
@@ -33,7 +33,7 @@ impl<T> Lent<T> {
     /// One plain load. Where the value is present, it is lent for as long as the guard is. `None`: it was marked.
     /// The guard must be of one of the value's posts.
     pub fn look<'g>(&self, guard: &'g Guard) -> Option<&'g T>
-        requires { IsOneOf guard.now.log self.now.lending.posts }
+        requires { IsAmong guard.now.log self.now.lending.posts }
         ensures { IfSome result (λ value. value.now ≡ self.now.lending.value) }
     {
         let (found, glance) = self.lending.look(guard, self.at);

@@ -65,7 +65,7 @@ use Rattle.core.proofs.atomic.Steps.{tail}
 use Rattle.core.specs.contracts.marker.PhantomData as marker
 use Rattle.atomic_table.proofs.Walks.{proved, leaves}
 use Rattle.atomic_table.proofs.Calls.{fm, seq_cst, found, finds, loads}
-use Rattle.epoch_lend.specs.Posts.{guard_shares, IsOneOf}
+use Rattle.epoch_lend.specs.Posts.{guard_shares, IsAmong}
 use Rattle.epoch_lend.specs.Loans.{Shown, glance_owns, pocket}
 use Rattle.epoch_lend.specs.contracts.lending.Lending as lending_is
 use Rattle.epoch_lend.specs.contracts.lending.Glance as glance
@@ -151,8 +151,8 @@ look_spec 𝓤 𝓛 𝓜 𝓡 wired X L =
     ) in
     let Post : Val → SProp 𝓤 = (walk_of 𝓛 En hs c).post y in
     qed 𝓛 (((‵ (flft κ q) ⊛ ‵ (flft κg qg) ⊛ ‵ others) ⊛ ‵ (owns (types_at En.signature.params κs) a y.0.4)) ∷ raw
-    (fact 𝓤 _) ∷ raw (fact 𝓤 ((p ≡ d.at) × IsOneOf η d.posts)) ∷ []) ∵
-    keep ! (2 ∷ 0 ∷ []) $ heard ! ((p ≡ d.at) × IsOneOf η d.posts) (λ asks. let asked = asks.0 in split ! $
+    (fact 𝓤 _) ∷ raw (fact 𝓤 ((p ≡ d.at) × IsAmong η d.posts)) ∷ []) ∵
+    keep ! (2 ∷ 0 ∷ []) $ heard ! ((p ≡ d.at) × IsAmong η d.posts) (λ asks. let asked = asks.0 in split ! $
     split3 ! $ move ! (3 ∷ []) $ fsplit ! $ fsplit ! $ keep ! (2 ∷ 1 ∷ 3 ∷ 4 ∷ 5 ∷ []) $ fsplit ! $ fsplit ! $
     keep ! (1 ∷ 3 ∷ 4 ∷ 5 ∷ 6 ∷ []) $
     -- [the guard; the word; κ; κg; the others]

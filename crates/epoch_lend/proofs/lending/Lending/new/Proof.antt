@@ -111,7 +111,7 @@ new_spec 𝓤 𝓛 𝓜 𝓡 wired X L =
     keep ! (2 ∷ 0 ∷ []) $ heard ! (u.count ≡ 2 ^ 63) (λ asked. split ! $ move ! (1 ∷ []) $ fsplit ! $ fsplit ! $
     keep ! (1 ∷ 3 ∷ []) $ fsplit ! $
     rewrite ! 0 (λ (k : ℕ). ‵ (tokens n k)) asked refl $ use1 𝓛 (‵ (flft (n ∷ []) full_share)) (tokens_whole 𝓛 n) $
-    nothing ! $ move ! (1 ∷ 0 ∷ []) $ fjoin ! $ nothing ! $ fpack ! (Within d.posts []) (λ _. ftrue) tt $
+    nothing ! $ move ! (1 ∷ 0 ∷ []) $ fjoin ! $ nothing ! $ fpack ! (Within d.posts []) (λ _. ftrue) refl $
     move ! (1 ∷ 2 ∷ 0 ∷ []) $ fjoin3 ! $ fpack ! (List Loan) (held_for R d) [] $
     use1 𝓛 (‵ (while_present R d 1)) (qed 𝓛 (‵ (present R d) ∷ []) ∵ each ! (λ (_ : 1 ≡ 1). sem 𝓛 (present R d)) (λ
     _. done !)) $
