@@ -1,5 +1,5 @@
-ghost use Rattle.std.specs.Prelude.{◌≡◌, [], ◌∷◌};
-ghost use Rattle.epoch_lend.specs.Posts.{logs_of};
+ghost use Rattle.std.specs.Prelude.{◌≡◌};
+ghost use Rattle.epoch_lend.specs.Posts.{logs_of, IsAmong};
 
 use crate::wants::want;
 use epoch_lend::lent::Lent;
@@ -15,11 +15,10 @@ use std::thread;
 #[derive(Drop)]
 struct Reader<'p> {
     first: &'p Post,
-    second: &'p Post,
     lent: &'p Lent<u64>,
     unpinned: Unpinned,
     ghost of_post: { (unpinned.log ≡ first.now.log) × (unpinned.state ≡ first.now.state) },
-    ghost may_look: { lent.now.lending.posts ≡ first.now.log ∷ second.now.log ∷ [] },
+    ghost may_look: { IsAmong first.now.log lent.now.lending.posts },
 }
 
 /// Who takes the value back.
@@ -53,7 +52,6 @@ fn wait_for(flag: &AtomicBool) {
 fn stall(reader: Reader<'_>, signals: &Signals) -> u64 {
     let Reader {
         first,
-        second: _,
         lent,
         unpinned,
     } = reader;
@@ -110,7 +108,6 @@ fn a_value_waits_for_a_thread_that_stalls_pinned(rt: HostRuntime) -> Result<(), 
     let told = &signals;
     let reader = Reader {
         first: &posts[0],
-        second: &posts[1],
         lent: &lent,
         unpinned,
     };
