@@ -7,7 +7,7 @@ use denote.RattleType.{RattleType}
 use denote.RawPtr.{Ptr}
 use denote.Param.Send.{IsSync}
 use Rattle.std_alloc.proofs.SendSync.{seen}
-use Rattle.epoch_lend.specs.Posts.{Entry, registered, are_over, PostNames, idle, out, at_post}
+use Rattle.epoch_lend.specs.Posts.{Entry, entered, are_over, PostNames, idle, out, at_post}
 use Rattle.epoch_lend.specs.Loans.{
   pocket_case,
   Loan,
@@ -15,46 +15,55 @@ use Rattle.epoch_lend.specs.Loans.{
   Shown,
   while_present,
   marked_owns,
-  Sight,
+  SeenPost,
   shown_by,
   all_shown,
 }
 
+-- nor does a pocket
 pocket_keyless : (a δ : ℕ) (y : Bool) → Keyless (pocket_case a δ y)
 pocket_keyless a δ true = tt
 pocket_keyless a δ false = λ n. (tt, tt)
 
-pub registered_keyless : (g : Entry) (η : ℕ) → Keyless (registered g η)
+-- nor does the entry of a pin
+pub entered_keyless : (g : Entry) (η : ℕ) → Keyless (entered g η)
 unfolding at_least
-registered_keyless g η = λ ks. (tt, λ _. tt)
+entered_keyless g η = λ ks. (tt, λ _. tt)
 
+-- nor do loans
 loans_keyless : (a : ℕ) (ls : List Loan) → Keyless (loans a ls)
 loans_keyless a [] = tt
 loans_keyless a (l ∷ ls) = (
-  (pocket_keyless a l.pocket_name, (tt, registered_keyless (l.atom, l.epoch) l.log)),
+  (pocket_keyless a l.pocket_name, (tt, entered_keyless (l.atom, l.epoch) l.log)),
   loans_keyless a ls,
 )
 
+-- nor does the word of a value that threads may share
 pub while_keyless : (R : RattleType) → IsSync R → (d : Shown R.Denot) (n : ℕ) → Keyless (while_present R d n)
 while_keyless R y d n = λ _ ls. ((tt, loans_keyless d.lifetime ls), (seen R y d.at d.value (d.lifetime ∷ []), λ _. tt))
 
-shown_keyless : (s : Sight) (ls : List Loan) → Keyless (shown_by s ls)
+-- nor does what one look told
+shown_keyless : (s : SeenPost) (ls : List Loan) → Keyless (shown_by s ls)
 shown_keyless s [] = tt
 shown_keyless s (l ∷ ls) = ((λ _. tt), shown_keyless s ls)
 
-all_shown_keyless : (ss : List Sight) (ls : List Loan) → Keyless (all_shown ss ls)
+-- nor does what all looks told
+all_shown_keyless : (ss : List SeenPost) (ls : List Loan) → Keyless (all_shown ss ls)
 all_shown_keyless [] ls = tt
 all_shown_keyless (s ∷ ss) ls = (shown_keyless s ls, all_shown_keyless ss ls)
 
+-- nor does what a mark took out
 pub marked_keyless : (R : RattleType) → IsSync R
-    → (p : Ptr) (x : R.Denot) (a k : ℕ) (ls : List Loan) (ss : List Sight) → Keyless (marked_owns R p x a k ls ss)
+    → (p : Ptr) (x : R.Denot) (a k : ℕ) (ls : List Loan) (ss : List SeenPost) → Keyless (marked_owns R p x a k ls ss)
 marked_keyless R y p x a zero ls ss = tt
 marked_keyless R y p x a (suc k) ls ss = ((tt, loans_keyless a ls), (seen R y p x (a ∷ []), all_shown_keyless ss ls))
 
+-- nor do pins that are over
 pub over_keyless : (gs : List Entry) → Keyless (are_over gs)
 over_keyless [] = tt
 over_keyless (g ∷ gs) = (tt, over_keyless gs)
 
+-- nor does a post
 pub post_keyless : (d : PostNames) (n : ℕ) → Keyless (at_post d n)
 unfolding latest
 post_keyless d n idle = ((λ _. tt), (tt, λ gs. (tt, over_keyless gs)))

@@ -1,7 +1,10 @@
 -- A loan is made, and all loans come back. Assumes `Logic`.
 use Rattle.std.proofs.Common.{◌≡◌, ◌≢◌, ℕ, suc, List, [], ◌∷◌, ◌++◌, sym, refl, ap, subst, length, inl, inr}
 use native.Mathlib.Nat.{suc-ne-zero}
-use mathlib.Core.Bool.{Bool, true, false}
+use mathlib.Core.Bool.{Bool, true, false, not}
+use Rattle.std.proofs.Common.{◌∙◌, ◌⊎◌}
+use Rattle.std.specs.Prelude.{eqb}
+use Rattle.std.proofs.lemmas.Bool.{and_parts, or_cases, eqb-true, eq-eqb, not_from_true, not_from_false, false≢true}
 use seplogic.Ra.Ura.{Ura}
 use base.Share
 use base.Fraction.{full_share}
@@ -53,22 +56,24 @@ use denote.Steps.{nothing}
 use types.Kit.{use3, each, frame}
 use base.Logic.{all_e}
 use base.Fml.{fall}
-use Rattle.epoch_lend.specs.Posts.{fact, IsOneOf, Entry, posted, logs, registered, registered_in, are_over}
+use Rattle.epoch_lend.specs.Posts.{IsOneOf, Entry, posted, logs, entered, entered_in, are_over}
 use Rattle.epoch_lend.specs.Loans.{
   left_after,
   loan_share,
-  filled,
+  filled_pocket,
   pocket_case,
   pocket,
   Loan,
   loan,
   loans,
   stock,
-  Sight,
+  SeenPost,
   Shows,
   shown_by,
   all_shown,
-  IsShown,
+  shows,
+  is_shown,
+  are_shown,
   AreShown,
 }
 
@@ -92,18 +97,20 @@ module _ {M : Type 1} {𝓤 : Ura M} (𝓛 : Logic 𝓤) (a : ℕ) where
   -- at the load: the cell lends half of what is left, against the lender's right to the pocket
   pub lends : (ls : List Loan) (l : Loan)
       → ⟦ stock a ls ⟧ ∗ A.lent (l.atom ∷ []) (pocket a l.pocket_name) ∗ A.obs l.pocket_name (gnum 0) ∗ A.auth
-      l.pocket_name (gnum 0) ∗ ⟦ registered (l.atom, l.epoch) l.log ⟧
-      ⊢ upd 𝓤 (⟦ stock a (l ∷ ls) ⟧ ∗ ⟦ filled a l.pocket_name (length ls) ⟧)
-  lends ls l = let δ : ℕ = l.pocket_name in let n : ℕ = length ls in let u = gnum (suc n) in
-      let Z : Pr = ⟦ stock a (l ∷ ls) ⟧ ∗ ⟦ filled a δ n ⟧ in
+      l.pocket_name (gnum 0) ∗ ⟦ entered (l.atom, l.epoch) l.log ⟧
+      ⊢ upd 𝓤 (⟦ stock a (l ∷ ls) ⟧ ∗ ⟦ filled_pocket a l.pocket_name (length ls) ⟧)
+  lends ls l = let δ : ℕ = l.pocket_name in
+      let n : ℕ = length ls in
+      let u = gnum (suc n) in
+      let Goal : Pr = ⟦ stock a (l ∷ ls) ⟧ ∗ ⟦ filled_pocket a δ n ⟧ in
       qed 𝓛 (‵ (stock a ls) ∷ ‵ (flent (l.atom ∷ []) (pocket a l.pocket_name)) ∷ ‵ (fobs l.pocket_name (gnum 0)) ∷ ‵
-      (fauth l.pocket_name (gnum 0)) ∷ ‵ (registered (l.atom, l.epoch) l.log) ∷ []) ∵ move ! (2 ∷ 3 ∷ []) $
+      (fauth l.pocket_name (gnum 0)) ∷ ‵ (entered (l.atom, l.epoch) l.log) ∷ []) ∵ move ! (2 ∷ 3 ∷ []) $
       use2 𝓛 (raw (upd 𝓤 (A.obs δ u ∗ A.auth δ u))) (𝓛.names.name_set_upd δ (gnum 0) (gnum 0) u) $
-      settle 𝓛 Z (‵ (fobs δ u) ⊛ ‵ (fauth δ u)) $ split ! $ suffices ! Z (upd_i 𝓤 Z) $
+      settle 𝓛 Goal (‵ (fobs δ u) ⊛ ‵ (fauth δ u)) $ split ! $ suffices ! Goal (upd_i 𝓤 Goal) $
       move ! (2 ∷ []) $ fsplit ! $
       use1 𝓛 (‵ (flft (a ∷ []) (Share.left (left_after n))) ⊛ ‵ (flft (a ∷ []) (Share.right (left_after n))))
       (𝓛.lfts.lft_split (a ∷ []) (left_after n)) $ split ! $
-      -- [left; right; loans; obs; auth; lent; registered]
+      -- [left; right; loans; obs; auth; lent; entered]
       move ! (3 ∷ 0 ∷ []) $ fjoin ! $ move ! (3 ∷ 5 ∷ []) $ fjoin ! $ move ! (4 ∷ 0 ∷ []) $ fjoin ! $
       move ! (0 ∷ 3 ∷ []) $ fjoin ! $ move ! (2 ∷ 0 ∷ []) $ fjoin ! $ done !
 
@@ -112,13 +119,14 @@ module _ {M : Type 1} {𝓤 : Ura M} (𝓛 : Logic 𝓤) (a : ℕ) where
   comes_home n l = let δ : ℕ = l.pocket_name in qed 𝓛 (‵ (loan a n l) ∷ ‵ (fdead (l.atom ∷ [])) ∷ []) ∵ updating ! $
       fsplit3 ! $ move ! (3 ∷ 0 ∷ []) $ lent_back ! tt $ keep ! (0 ∷ 1 ∷ []) $ fpick ! (λ y. by ! (cases y))
     where
+      -- the name says that the pocket holds this loan
       cases : (y : Bool) → ⟦ pocket_case a l.pocket_name y ⟧ ∗ A.auth l.pocket_name (gnum (suc n)) ⊢ H.⇛ (A.lft (a ∷
           []) (loan_share n))
       cases true = qed 𝓛 (‵ (fobs l.pocket_name (gnum 0)) ∷ ‵ (fauth l.pocket_name (gnum (suc n))) ∷ []) ∵
           use2 𝓛 (given (gnum 0 ≡ gnum (suc n)) (‵ (fobs l.pocket_name (gnum 0)) ⊛ ‵ (fauth l.pocket_name (gnum (suc
           n))))) (𝓛.names.name_agree l.pocket_name (gnum 0) (gnum (suc n))) $
           learn ! (λ e. absurd (suc-ne-zero n (ap num (sym e))))
-      cases false = qed 𝓛 (‵ (fex ℕ (filled a l.pocket_name)) ∷ ‵ (fauth l.pocket_name (gnum (suc n))) ∷ []) ∵
+      cases false = qed 𝓛 (‵ (fex ℕ (filled_pocket a l.pocket_name)) ∷ ‵ (fauth l.pocket_name (gnum (suc n))) ∷ []) ∵
           updating ! $ fpick ! (λ m. fsplit ! $ move ! (0 ∷ 2 ∷ []) $
           use2 𝓛 (given (gnum (suc m) ≡ gnum (suc n)) (‵ (fobs l.pocket_name (gnum (suc m))) ⊛ ‵ (fauth l.pocket_name
           (gnum (suc n))))) (𝓛.names.name_agree l.pocket_name (gnum (suc m)) (gnum (suc n))) $
@@ -139,67 +147,94 @@ module _ {M : Type 1} {𝓤 : Ura M} (𝓛 : Logic 𝓤) (a : ℕ) where
       use1 𝓛 (‵ (are_over hs) ⊛ ‵ (fdead (g.0 ∷ []))) (one_over g hs i) $ split ! $ move ! (2 ∷ 0 ∷ []) $ fjoin ! $
       done !
 
+  -- one pin more that is over
   pub over_snoc : (gs : List Entry) (g : Entry) → ⟦ are_over gs ⟧ ∗ A.dead (g.0 ∷ []) ⊢ ⟦ are_over (gs ++ g ∷ []) ⟧
   over_snoc [] g = qed 𝓛 (‵ ftrue ∷ ‵ (fdead (g.0 ∷ [])) ∷ []) ∵ move ! (1 ∷ 0 ∷ []) $ done !
   over_snoc (h ∷ hs) g = qed 𝓛 (‵ (are_over (h ∷ hs)) ∷ ‵ (fdead (g.0 ∷ [])) ∷ []) ∵ fsplit ! $ move ! (1 ∷ 2 ∷ []) $
       use2 𝓛 (‵ (are_over (hs ++ g ∷ []))) (over_snoc hs g) $ move ! (1 ∷ 0 ∷ []) $ fjoin ! $ done !
 
   -- that a pin is one of a post's is a fact, which may be had twice
-  pub registered_dup : (g : Entry) (η : ℕ) → ⟦ registered g η ⟧ ⊢ ⟦ registered g η ⟧ ∗ ⟦ registered g η ⟧
-  registered_dup g η = qed 𝓛 (‵ (registered g η) ∷ []) ∵ fpick ! (λ ks. fsplit ! $
+  pub entered_dup : (g : Entry) (η : ℕ) → ⟦ entered g η ⟧ ⊢ ⟦ entered g η ⟧ ∗ ⟦ entered g η ⟧
+  entered_dup g η = qed 𝓛 (‵ (entered g η) ∷ []) ∵ fpick ! (λ ks. fsplit ! $
       use1 𝓛 (‵ (at_least logs η ks) ⊛ ‵ (at_least logs η ks)) (at_least_dup logs 𝓛 η ks) $ split ! $
       move ! (2 ∷ []) $ fpick ! (λ i. drop ! $
       nothing ! $ fpack ! (IsOneOf g ks) (λ _. ftrue) i $ move ! (1 ∷ 0 ∷ []) $ fjoin ! $
-      fpack ! (List Entry) (registered_in g η) ks $ frame ! $
+      fpack ! (List Entry) (entered_in g η) ks $ frame ! $
       nothing ! $ fpack ! (IsOneOf g ks) (λ _. ftrue) i $ move ! (1 ∷ 0 ∷ []) $ fjoin ! $
-      fpack ! (List Entry) (registered_in g η) ks $ done !))
+      fpack ! (List Entry) (entered_in g η) ks $ done !))
 
   -- what looks tell of these loans they tell of those behind the first
-  one_shown : (ss : List Sight) (l : Loan) (ls : List Loan) → ⟦ all_shown ss (l ∷ ls) ⟧ ⊢ ⟦ all_shown ss ls ⟧
+  one_shown : (ss : List SeenPost) (l : Loan) (ls : List Loan) → ⟦ all_shown ss (l ∷ ls) ⟧ ⊢ ⟦ all_shown ss ls ⟧
   one_shown [] l ls = id⊢ 𝓤 _
   one_shown (s ∷ ss) l ls = qed 𝓛 (‵ (all_shown (s ∷ ss) (l ∷ ls)) ∷ []) ∵ fsplit ! $ fsplit ! $ drop ! $
       move ! (1 ∷ []) $ use1 𝓛 (‵ (all_shown ss ls)) (one_shown ss l ls) $ move ! (1 ∷ 0 ∷ []) $ fjoin ! $ done !
 
-  -- the guard of the first loan is over, where one of the looks shows it
-  first_shown : (ss : List Sight) (l : Loan) (ls : List Loan) → IsShown ss l
-      → ⟦ all_shown ss (l ∷ ls) ⟧ ⊢ A.dead (l.atom ∷ []) ∗ ⟦ all_shown ss ls ⟧
-  first_shown [] l ls x = elim x [ ]
-  first_shown (s ∷ ss) l ls (inl e) = qed 𝓛 (‵ (all_shown (s ∷ ss) (l ∷ ls)) ∷ []) ∵ fsplit ! $ fsplit ! $
-      use1 𝓛 (‵ (fdead (l.atom ∷ []))) (all_e 𝓤 (λ (_ : Shows s l). A.dead (l.atom ∷ [])) e) $ frame ! $
+  -- what the test of one look says
+  shows_fact : (s : SeenPost) (l : Loan) → shows s l ≡ true → Shows s l
+  shows_fact s l e =
+      let parts = and_parts (eqb l.log s.0) (not (eqb s.1 (posted l.epoch))) e in
+      let here : l.log ≡ s.0 = eqb-true l.log s.0 parts.0 in (
+        here,
+        (λ same. false≢true (sym (not_from_true (not (eqb s.1 (posted l.epoch))) parts.1) ∙ not_from_same same)),
+      )
+    where
+      not_from_same : s.1 ≡ posted l.epoch → not (not (eqb s.1 (posted l.epoch))) ≡ true
+      not_from_same same = not_from_false (not (eqb s.1 (posted l.epoch))) (not_from_true (eqb s.1 (posted l.epoch))
+          (eq-eqb s.1 (posted l.epoch) same))
+
+  -- the guard of the first loan is over, where this look or one of the others shows it
+  shown_by_one : (s : SeenPost) (ss : List SeenPost) (l : Loan) (ls : List Loan)
+      → (is_shown ss l ≡ true → ⟦ all_shown ss (l ∷ ls) ⟧ ⊢ A.dead (l.atom ∷ []) ∗ ⟦ all_shown ss ls ⟧)
+      → (shows s l ≡ true) ⊎ (is_shown ss l ≡ true)
+      → ⟦ all_shown (s ∷ ss) (l ∷ ls) ⟧ ⊢ A.dead (l.atom ∷ []) ∗ ⟦ all_shown (s ∷ ss) ls ⟧
+  shown_by_one s ss l ls others (inl e) = qed 𝓛 (‵ (all_shown (s ∷ ss) (l ∷ ls)) ∷ []) ∵ fsplit ! $ fsplit ! $
+      use1 𝓛 (‵ (fdead (l.atom ∷ []))) (all_e 𝓤 (λ (_ : Shows s l). A.dead (l.atom ∷ [])) (shows_fact s l e)) $
+      frame ! $
       move ! (1 ∷ []) $ use1 𝓛 (‵ (all_shown ss ls)) (one_shown ss l ls) $ move ! (1 ∷ 0 ∷ []) $ fjoin ! $ done !
-  first_shown (s ∷ ss) l ls (inr i) = qed 𝓛 (‵ (all_shown (s ∷ ss) (l ∷ ls)) ∷ []) ∵ fsplit ! $ fsplit ! $ drop ! $
-      move ! (1 ∷ []) $ use1 𝓛 (‵ (fdead (l.atom ∷ [])) ⊛ ‵ (all_shown ss ls)) (first_shown ss l ls i) $ split ! $
+  shown_by_one s ss l ls others (inr i) = qed 𝓛 (‵ (all_shown (s ∷ ss) (l ∷ ls)) ∷ []) ∵ fsplit ! $ fsplit ! $
+      drop ! $
+      move ! (1 ∷ []) $ use1 𝓛 (‵ (fdead (l.atom ∷ [])) ⊛ ‵ (all_shown ss ls)) (others i) $ split ! $
       frame ! $ move ! (1 ∷ 0 ∷ []) $ fjoin ! $ done !
 
+  -- the guard of the first loan is over, where one of the looks shows it
+  first_shown : (ss : List SeenPost) (l : Loan) (ls : List Loan) → is_shown ss l ≡ true
+      → ⟦ all_shown ss (l ∷ ls) ⟧ ⊢ A.dead (l.atom ∷ []) ∗ ⟦ all_shown ss ls ⟧
+  first_shown [] l ls shown = absurd (false≢true shown)
+  first_shown (s ∷ ss) l ls shown = shown_by_one s ss l ls (first_shown ss l ls) (or_cases (shows s l) (is_shown ss
+      l) shown)
+
   -- every loan comes back, where of each a look showed that its guard is over: the whole token is there again
-  pub all_home : (ss : List Sight) (ls : List Loan) → AreShown ss ls
+  pub all_home : (ss : List SeenPost) (ls : List Loan) → AreShown ss ls
       → ⟦ stock a ls ⟧ ∗ ⟦ all_shown ss ls ⟧ ⊢ H.⇛ (A.lft (a ∷ []) full_share)
   all_home ss [] c = qed 𝓛 (‵ (stock a []) ∷ ‵ (all_shown ss []) ∷ []) ∵ updating ! $ fsplit ! $ now ! $
       keep ! (0 ∷ []) $ done !
-  all_home ss (l ∷ ls) c = let n : ℕ = length ls in qed 𝓛 (‵ (stock a (l ∷ ls)) ∷ ‵ (all_shown ss (l ∷ ls)) ∷ []) ∵
+  all_home ss (l ∷ ls) c = let n : ℕ = length ls in
+      let parts = and_parts (is_shown ss l) (are_shown ss ls) c in qed 𝓛 (‵ (stock a (l ∷ ls)) ∷ ‵ (all_shown ss (l ∷
+      ls)) ∷ []) ∵
       updating ! $ fsplit ! $ move ! (1 ∷ []) $ fsplit ! $ move ! (3 ∷ []) $
-      use1 𝓛 (‵ (fdead (l.atom ∷ [])) ⊛ ‵ (all_shown ss ls)) (first_shown ss l ls c.0) $ split ! $
+      use1 𝓛 (‵ (fdead (l.atom ∷ [])) ⊛ ‵ (all_shown ss ls)) (first_shown ss l ls parts.0) $ split ! $
       move ! (2 ∷ 0 ∷ []) $ use2 𝓛 (later (‵ (flft (a ∷ []) (loan_share n)))) (comes_home n l) $ await ! tt $
       move ! (0 ∷ 3 ∷ []) $ use2 𝓛 (‵ (flft (a ∷ []) (left_after n))) (𝓛.lfts.lft_join (a ∷ []) (left_after n)) $
-      move ! (0 ∷ 2 ∷ []) $ fjoin ! $ by ! (all_home ss ls c.1)
+      move ! (0 ∷ 2 ∷ []) $ fjoin ! $ by ! (all_home ss ls parts.1)
 
   -- ---- what a look at a post tells
-  abbrev pub all_registered : List Loan → Fml
-  all_registered [] = ftrue
-  all_registered (l ∷ ls) = fsep (registered (l.atom, l.epoch) l.log) (all_registered ls)
+  abbrev pub all_entered : List Loan → Fml
+  all_entered [] = ftrue
+  all_entered (l ∷ ls) = fsep (entered (l.atom, l.epoch) l.log) (all_entered ls)
 
-  -- loans keep that their guards' pins are registered
-  pub loans_tell : (ls : List Loan) → ⟦ loans a ls ⟧ ⊢ ⟦ loans a ls ⟧ ∗ ⟦ all_registered ls ⟧
+  -- loans keep that their guards' pins are entered
+  pub loans_tell : (ls : List Loan) → ⟦ loans a ls ⟧ ⊢ ⟦ loans a ls ⟧ ∗ ⟦ all_entered ls ⟧
   loans_tell [] = qed 𝓛 (‵ ftrue ∷ []) ∵ nothing ! $ done !
-  loans_tell (l ∷ ls) = let r : Fml = registered (
+  loans_tell (l ∷ ls) = let r : Fml = entered (
     l.atom,
     l.epoch,
   ) l.log in qed 𝓛 (‵ (loans a (l ∷ ls)) ∷ []) ∵ fsplit ! $ fsplit3 ! $ move ! (2 ∷ []) $
-      use1 𝓛 (‵ r ⊛ ‵ r) (registered_dup (l.atom, l.epoch) l.log) $ split ! $ move ! (4 ∷ []) $
-      use1 𝓛 (‵ (loans a ls) ⊛ ‵ (all_registered ls)) (loans_tell ls) $ split ! $
-      -- [loans; told; registered; registered; lent; auth]
+      use1 𝓛 (‵ r ⊛ ‵ r) (entered_dup (l.atom, l.epoch) l.log) $ split ! $ move ! (4 ∷ []) $
+      use1 𝓛 (‵ (loans a ls) ⊛ ‵ (all_entered ls)) (loans_tell ls) $ split ! $
+      -- [loans; told; entered; entered; lent; auth]
       move ! (2 ∷ 1 ∷ []) $ fjoin ! $ move ! (3 ∷ 4 ∷ 2 ∷ []) $ fjoin3 ! $ move ! (0 ∷ 2 ∷ []) $ fjoin ! $ done !
 
+  -- a pin of a log is one of every longer log
   is_prefix : (g : Entry) (ks rest : List Entry) → IsOneOf g ks → IsOneOf g (ks ++ rest)
   is_prefix g [] rest x = elim x [ ]
   is_prefix g (k ∷ ks) rest (inl e) = inl e
@@ -218,11 +253,11 @@ module _ {M : Type 1} {𝓤 : Ura M} (𝓛 : Logic 𝓤) (a : ℕ) where
 
     -- the guard is of another pin than the post's last, so it is over
     told : (l : Loan) → Shows (η, n) l
-        → Log ∗ ⟦ are_over gs ⟧ ∗ ⟦ registered (l.atom, l.epoch) l.log ⟧ ⊢ Log ∗ ⟦ are_over gs ⟧ ∗ ⟦ Told l ⟧
+        → Log ∗ ⟦ are_over gs ⟧ ∗ ⟦ entered (l.atom, l.epoch) l.log ⟧ ⊢ Log ∗ ⟦ are_over gs ⟧ ∗ ⟦ Told l ⟧
     told l shows = let g : Entry = (
       l.atom,
       l.epoch,
-    ) in qed 𝓛 (‵ (latest logs full_share η all) ∷ ‵ (are_over gs) ∷ ‵ (registered g l.log) ∷ []) ∵ move !
+    ) in qed 𝓛 (‵ (latest logs full_share η all) ∷ ‵ (are_over gs) ∷ ‵ (entered g l.log) ∷ []) ∵ move !
         (2 ∷ []) $ fpick ! (λ ks. fsplit ! $ move ! (1 ∷ []) $ fpick ! (λ i. drop ! $
         rewrite ! 0 (λ (h : ℕ). ‵ (at_least logs h ks)) shows.0 refl $ move ! (1 ∷ 0 ∷ []) $
         use2 𝓛 (given (IsPrefix ks all) (‵ (latest logs full_share η all) ⊛ ‵ (at_least logs η ks)))
@@ -233,9 +268,10 @@ module _ {M : Type 1} {𝓤 : Ura M} (𝓛 : Logic 𝓤) (a : ℕ) where
         move ! (2 ∷ 0 ∷ 1 ∷ []) $ frame ! $ frame ! $ keep ! (0 ∷ []) $
         each ! (λ (_ : Shows (η, n) l). A.dead (l.atom ∷ [])) (λ _. done !))))
 
+    -- a look tells of this loan, or has nothing to tell of it
     one_told : (l : Loan)
-        → Log ∗ ⟦ are_over gs ⟧ ∗ ⟦ registered (l.atom, l.epoch) l.log ⟧ ⊢ Log ∗ ⟦ are_over gs ⟧ ∗ ⟦ Told l ⟧
-    one_told l = let F = ‵ (latest logs full_share η all) ∷ ‵ (are_over gs) ∷ ‵ (registered (
+        → Log ∗ ⟦ are_over gs ⟧ ∗ ⟦ entered (l.atom, l.epoch) l.log ⟧ ⊢ Log ∗ ⟦ are_over gs ⟧ ∗ ⟦ Told l ⟧
+    one_told l = let F = ‵ (latest logs full_share η all) ∷ ‵ (are_over gs) ∷ ‵ (entered (
       l.atom,
       l.epoch,
     ) l.log) ∷ [] in dite (ℕ_discrete l.log η)
@@ -248,9 +284,9 @@ module _ {M : Type 1} {𝓤 : Ura M} (𝓛 : Logic 𝓤) (a : ℕ) where
 
     -- a look that found n tells of each loan at this post whose epoch n isn't of
     pub tells : (ls : List Loan)
-        → Log ∗ ⟦ are_over gs ⟧ ∗ ⟦ all_registered ls ⟧ ⊢ Log ∗ ⟦ are_over gs ⟧ ∗ ⟦ shown_by (η, n) ls ⟧
+        → Log ∗ ⟦ are_over gs ⟧ ∗ ⟦ all_entered ls ⟧ ⊢ Log ∗ ⟦ are_over gs ⟧ ∗ ⟦ shown_by (η, n) ls ⟧
     tells [] = id⊢ 𝓤 _
-    tells (l ∷ ls) = qed 𝓛 (‵ (latest logs full_share η all) ∷ ‵ (are_over gs) ∷ ‵ (all_registered (l ∷ ls)) ∷ []) ∵
+    tells (l ∷ ls) = qed 𝓛 (‵ (latest logs full_share η all) ∷ ‵ (are_over gs) ∷ ‵ (all_entered (l ∷ ls)) ∷ []) ∵
         move ! (2 ∷ []) $ fsplit ! $ move ! (2 ∷ 3 ∷ 0 ∷ []) $
         use3 𝓛 (‵ (latest logs full_share η all) ⊛ ‵ (are_over gs) ⊛ ‵ (Told l)) (one_told l) $ split3 ! $
         move ! (0 ∷ 1 ∷ 3 ∷ []) $

@@ -54,10 +54,12 @@ use Rattle.epoch_lend.specs.Parted.{tokens, part_owns}
 module _ {M : Type 1} {𝓤 : Ura M} (𝓛 : Logic 𝓤) (a : ℕ) where
   open 𝓛 use {A}
 
+  -- a share that counts as k parts is k parts
   pub tokens_in : (k : ℕ) (e : Share) → Counts 63 e k → ent 𝓤 (A.lft (a ∷ []) e) (sem 𝓛 (tokens a k))
   tokens_in k e c = qed 𝓛 (‵ (flft (a ∷ []) e) ∷ []) ∵ fpack ! (Counts 63 e k) (λ _. flft (a ∷ []) e) c $
       fpack ! Share (λ s. fex (Counts 63 s k) (λ _. flft (a ∷ []) s)) e $ done !
 
+  -- parts are cut in two
   pub tokens_cut : (k i j : ℕ) → 0 < i → 0 < j → i + j ≡ k → k ≤ 2 ^ 63
       → ent 𝓤 (sem 𝓛 (tokens a k)) (sep 𝓤 (sem 𝓛 (tokens a i)) (sem 𝓛 (tokens a j)))
   tokens_cut k i j pi pj sum fits = let e = counts_some 63 i pi (omega arith) in
@@ -68,18 +70,21 @@ module _ {M : Type 1} {𝓤 : Ura M} (𝓛 : Logic 𝓤) (a : ℕ) where
       move ! (1 ∷ []) $ use1 𝓛 (‵ (tokens a j)) (tokens_in j f.0 f.1) $ move ! (1 ∷ []) $
       use1 𝓛 (‵ (tokens a i)) (tokens_in i e.0 e.1) $ done !))
 
+  -- parts that are put together are a share of as many
   glued : (i j : ℕ) (r : Share) → Counts 63 r (i + j)
       → ent 𝓤 (sep 𝓤 (sem 𝓛 (tokens a i)) (sem 𝓛 (tokens a j))) (A.lft (a ∷ []) r)
   glued i j r c = qed 𝓛 (‵ (tokens a i) ∷ ‵ (tokens a j) ∷ []) ∵ fpick ! (λ e. fpick ! (λ ce. move ! (1 ∷ []) $
       fpick ! (λ f. fpick ! (λ cf. move ! (1 ∷ []) $
       by ! (𝓛.lfts.lft_glue (a ∷ []) r e f (Counts-op 63 e f r i j (i + j) ce cf c Rattle.std.proofs.Common.refl))))))
 
+  -- parts are put together
   pub tokens_glue : (i j : ℕ) → 0 < i + j → i + j ≤ 2 ^ 63
       → ent 𝓤 (sep 𝓤 (sem 𝓛 (tokens a i)) (sem 𝓛 (tokens a j))) (sem 𝓛 (tokens a (i + j)))
   tokens_glue i j some fits = let r = counts_some 63 (i + j) some fits in
       qed 𝓛 (‵ (tokens a i) ∷ ‵ (tokens a j) ∷ []) ∵ use2 𝓛 (‵ (flft (a ∷ []) r.0)) (glued i j r.0 r.1) $
       by ! (tokens_in (i + j) r.0 r.1)
 
+  -- 2^63 parts are the whole token
   pub tokens_whole : ent 𝓤 (sem 𝓛 (tokens a (2 ^ 63))) (A.lft (a ∷ []) full_share)
   tokens_whole = qed 𝓛 (‵ (tokens a (2 ^ 63)) ∷ []) ∵
       use1 𝓛 (‵ (tokens a 1) ⊛ ‵ (tokens a (2 ^ 63 - 1))) (tokens_cut (2 ^ 63) 1 (2 ^ 63 - 1) (omega arith) (omega
@@ -93,6 +98,7 @@ module _ (t : Lft → Fml) (L : ShrLaws t) where
   abbrev pub Lent : ℕ → Lft → Fml
   Lent a = beside (one (λ q. flft (a ∷ []) q)) (held (a ∷ []) t)
 
+  -- what is seen of a part that is lent may be had twice, and for a shorter time
   pub lent_laws : (a : ℕ) → ShrLaws (Lent a)
   lent_laws a = beside_shr_laws (one (λ q. flft (a ∷ []) q)) (held (a ∷ []) t) (one_shr_laws (λ q. flft (a ∷ []) q))
       (held_shr_laws (a ∷ []) t L)
@@ -103,6 +109,7 @@ module _ (t : Lft → Fml) (L : ShrLaws t) where
     abbrev pub Frozen : Fml → ℕ → Fml
     Frozen P a = fsep (flent (a ∷ []) P) (Owns a (2 ^ 63))
 
+    -- what is owned is lent for a new lifetime, as 2^63 parts
     pub freezes : (P : Fml) (l μ : Lft) (q : Share) → Lends 𝓛 P t l → Incl μ l
         → ent 𝓤 (sep 𝓤 (sem 𝓛 P) (A.lft μ q)) (H.⇛ (sep 𝓤 (sem 𝓛 (fex ℕ (Frozen P))) (A.lft μ q)))
     freezes P l μ q lends inc = qed 𝓛 (‵ P ∷ ‵ (flft μ q) ∷ []) ∵ updating ! $ lft_new ! tt (λ a. move ! (1 ∷ []) $
@@ -116,11 +123,13 @@ module _ (t : Lft → Fml) (L : ShrLaws t) where
         move ! (1 ∷ []) $ use1 𝓛 (‵ (tokens a (2 ^ 63))) (tokens_in 𝓛 a (2 ^ 63) full_share (Counts-all 63)) $
         fjoin ! $ move ! (2 ∷ 0 ∷ []) $ fjoin ! $ fpack ! ℕ (Frozen P) a $ now ! $ done !)
 
+    -- with all parts the lifetime ends, and what was lent is owned again
     pub thaws : (P : Fml) (a : ℕ) → ent 𝓤 (sep 𝓤 (sem 𝓛 (flent (a ∷ []) P)) (sem 𝓛 (tokens a (2 ^ 63)))) (H.⇛ (sem 𝓛 P))
     thaws P a = qed 𝓛 (‵ (flent (a ∷ []) P) ∷ ‵ (tokens a (2 ^ 63)) ∷ []) ∵ updating ! $ move ! (1 ∷ []) $
         use1 𝓛 (‵ (flft (a ∷ []) full_share)) (tokens_whole 𝓛 a) $ lft_end ! tt $ lent_back ! tt $ now ! $ done !
 
     module _ (a k : ℕ) (κ : Lft) where
+      -- once the loan of a part is over, the part is there again
       again : (e : Share) → Counts 63 e k
           → ent 𝓤 (sem 𝓛 (t (a ∷ []))) (sem 𝓛 (fwand (fsep (fdead κ) (fseps (flft (a ∷ []) e ∷ []))) (fupd (Owns a k))))
       unfolding fseps
@@ -129,6 +138,7 @@ module _ (t : Lft → Fml) (L : ShrLaws t) where
           fsplit3 ! $ move ! (1 ∷ []) $ use1 𝓛 (‵ (tokens a k)) (tokens_in 𝓛 a k e c) $ keep ! (0 ∷ 3 ∷ []) $
           fjoin ! $ done !
 
+      -- a part is lent against a share of the token of the loan
       by_token : (q : Share)
           → ent 𝓤 (sep 𝓤 (A.bor κ (Owns a k)) (A.lft κ q)) (H.⇛ (sep 𝓤 (sem 𝓛 (Lent a κ)) (A.lft κ q)))
       unfolding fseps
@@ -142,6 +152,7 @@ module _ (t : Lft → Fml) (L : ShrLaws t) where
           bor_fracture ! tt (λ r. flft (a ∷ []) r) e $ move ! (0 ∷ 3 ∷ []) $ fjoin ! $ now ! $
           keep ! (0 ∷ 2 ∷ []) $ done !))
 
+    -- a part may be lent for any lifetime that it lasts for
     pub Lends-part : (a k : ℕ) (l : Lft) → Lends 𝓛 (Owns a k) (Lent a) l
     Lends-part a k l κ ts inc sp = qed 𝓛 (‵ (fbor κ (Owns a k)) ∷ raw (lfts 𝓛 ts) ∷ []) ∵ updating ! $ move ! (1 ∷ []) $
         use1 𝓛 (exists (λ (q : Share). ‵ (flft (span ts) q) ⊛ raw (wand 𝓤 (A.lft (span ts) q) (lfts 𝓛 ts))))
@@ -154,10 +165,12 @@ module _ (t : Lft → Fml) (L : ShrLaws t) where
         use2 𝓛 (raw (lfts 𝓛 ts)) (apply∗ 𝓤 (A.lft (span ts) q) (lfts 𝓛 ts)) $
         now ! $ move ! (1 ∷ 0 ∷ []) $ done !)
 
+    -- who is lent a part sees what its value shares
     pub part_sees : (a : ℕ) (κ : Lft) → ent 𝓤 (sem 𝓛 (Lent a κ)) (sem 𝓛 (t κ))
     part_sees a κ = qed 𝓛 (‵ (Lent a κ) ∷ []) ∵ fsplit ! $
         by ! (moves_from 𝓛 t L κ (a ∷ []) (a ∷ []) (meet_⊑_left (a ∷ []) κ))
 
+-- the value of a part lies in a block
 pub part_lies : {M : Type 1} {𝓤 : Ura M} (𝓛 : Logic 𝓤) (R : RattleType) (p : Ptr) (x : R.Denot) (a k : ℕ)
     → ent 𝓤 (sem 𝓛 (part_owns R p x a k)) (fact 𝓤 (InBlock p))
 part_lies 𝓛 R p x a k = qed 𝓛 (‵ (part_owns R p x a k) ∷ []) ∵ fsplit ! $ drop ! $ fsplit ! $ keep ! (0 ∷ []) $

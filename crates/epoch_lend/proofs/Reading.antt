@@ -21,9 +21,9 @@ use Rattle.std.proofs.Common.{
 use native.Mathlib.Nat.{suc-ne-zero}
 use native.Mathlib.Decide.{ℕ_discrete}
 use mathlib.Core.Logic.{dite}
+use Rattle.std.proofs.lemmas.Bool.{and_from}
 use mathlib.Core.Bool.{Bool, true, false}
 use seplogic.Ra.Ura.{Ura}
-use base.Fraction.{full_share}
 use base.Stored.{gnum, num}
 use base.Logic.{SProp, ent, sep, ex, all_e, guard, upd, upd_i, id⊢, emp}
 use base.Fml.{
@@ -104,10 +104,10 @@ use Rattle.core.specs.Sync.RawAtomic.{asks, always, word}
 use Rattle.core.proofs.raw_atomic.Asked.{borrowed, Lies, Again}
 use base.FractionLaws.{Counts}
 use Rattle.epoch_lend.specs.Parted.{tokens}
-use Rattle.epoch_lend.specs.Posts.{fact, IsOneOf, registered, guard_owns, guard_shares}
+use Rattle.epoch_lend.specs.Posts.{known, is_among, IsAmong, entered, guard_owns, guard_shares}
 use Rattle.epoch_lend.specs.Loans.{
   loan_share,
-  filled,
+  filled_pocket,
   pocket_case,
   pocket,
   Loan,
@@ -120,10 +120,11 @@ use Rattle.epoch_lend.specs.Loans.{
   lending,
   glance_owns,
   marked_owns,
+  are_within,
   Within,
 }
 use Rattle.core.proofs.cell.Borrows.{by_one}
-use Rattle.epoch_lend.proofs.Loans.{lends, registered_dup}
+use Rattle.epoch_lend.proofs.Loans.{lends, entered_dup}
 use Rattle.epoch_lend.proofs.PartSteps.{tokens_in}
 
 module _ {M : Type 1} {𝓤 : Ura M} (𝓛 : Logic 𝓤) where
@@ -151,9 +152,10 @@ module _ {M : Type 1} {𝓤 : Ura M} (𝓛 : Logic 𝓤) where
     abbrev Way : Share → Fml
     Way e = fwand (fsep (fdead κ) (fseps (flft (γ ∷ []) e ∷ []))) (fupd Has)
 
-    kept_back : (e : Share) → Counts 63 e k → ⟦ registered (γ, epoch) η ⟧ ⊢ ⟦ Way e ⟧
+    -- once the loan of a guard is over, the guard is there again
+    kept_back : (e : Share) → Counts 63 e k → ⟦ entered (γ, epoch) η ⟧ ⊢ ⟦ Way e ⟧
     unfolding fseps
-    kept_back e c = qed 𝓛 (‵ (registered (
+    kept_back e c = qed 𝓛 (‵ (entered (
       γ,
       epoch,
     ) η) ∷ []) ∵ assume ! (‵ (fsep (fdead κ) (fsep (flft (γ ∷ []) e) ftrue))) $
@@ -161,14 +163,15 @@ module _ {M : Type 1} {𝓤 : Ura M} (𝓛 : Logic 𝓤) where
         fsplit3 ! $ move ! (1 ∷ []) $ use1 𝓛 (‵ (tokens γ k)) (tokens_in 𝓛 γ k e c) $ keep ! (0 ∷ 3 ∷ []) $ fjoin ! $
         done !
 
+    -- a guard is lent against a share of the token of the loan
     guard_by_token : (q : Share) → A.bor κ Has ∗ A.lft κ q ⊢ H.⇛ (⟦ guard_shares γ epoch η κ ⟧ ∗ A.lft κ q)
     unfolding fseps
-    guard_by_token q = let r : Fml = registered (
+    guard_by_token q = let r : Fml = entered (
       γ,
       epoch,
     ) η in qed 𝓛 (‵ (fbor κ Has) ∷ ‵ (flft κ q) ∷ []) ∵ updating ! $ bor_open ! tt $ move ! (1 ∷ []) $
         fsplit ! $ fpick ! (λ e. fpick ! (λ c. move ! (1 ∷ []) $
-        use1 𝓛 (‵ r ⊛ ‵ r) (registered_dup 𝓛 0 (γ, epoch) η) $ split ! $ use1 𝓛 (‵ (Way e)) (kept_back e c) $
+        use1 𝓛 (‵ r ⊛ ‵ r) (entered_dup 𝓛 0 (γ, epoch) η) $ split ! $ use1 𝓛 (‵ (Way e)) (kept_back e c) $
         nothing ! $ move ! (3 ∷ 0 ∷ []) $ fjoin ! $ move ! (3 ∷ 0 ∷ 1 ∷ []) $
         obor_alter ! tt (flft (γ ∷ []) e ∷ []) $ use1 𝓛 (‵ (fbor κ (flft (γ ∷ []) e)) ⊛ ‵ ftrue) (id⊢ 𝓤 _) $
         split ! $
@@ -177,6 +180,7 @@ module _ {M : Type 1} {𝓤 : Ura M} (𝓛 : Logic 𝓤) where
         fjoin ! $ fpack ! (List Lft) (λ νs. chain νs κ (γ ∷ [])) ((γ ∷ []) ∷ []) $
         move ! (0 ∷ 3 ∷ []) $ fjoin ! $ now ! $ keep ! (0 ∷ 2 ∷ []) $ done !))
 
+  -- a guard may be lent for any lifetime that it lasts for
   pub guard_lends : (γ epoch η k : ℕ) (l : Lft) → Lends 𝓛 (guard_owns γ epoch η k) (guard_shares γ epoch η) l
   guard_lends γ epoch η k l κ ts inc sp = by_one 𝓛 κ ts sp (A.bor κ (guard_owns γ epoch η k)) ⟦ guard_shares γ epoch
       η κ ⟧ (guard_by_token γ epoch η k κ)
@@ -184,7 +188,7 @@ module _ {M : Type 1} {𝓤 : Ura M} (𝓛 : Logic 𝓤) where
   module _ (a γ epoch η : ℕ) (r : Share) where
     -- before the look: a pocket is borrowed for the guard's lifetime, and open
     abbrev pub Offer : GName → Fml
-    Offer δ = fsep (flent (γ ∷ []) (pocket a δ)) (fsep (fobs δ (gnum 0)) (fsep (fauth δ (gnum 0)) (registered (
+    Offer δ = fsep (flent (γ ∷ []) (pocket a δ)) (fsep (fobs δ (gnum 0)) (fsep (fauth δ (gnum 0)) (entered (
       γ,
       epoch,
     ) η)))
@@ -192,20 +196,22 @@ module _ {M : Type 1} {𝓤 : Ura M} (𝓛 : Logic 𝓤) where
     abbrev pub Prepared : GName → Pr
     Prepared δ = A.obor (γ ∷ []) r (pocket a δ) ∗ ⟦ Offer δ ⟧
 
+    -- the pocket is borrowed and opened, with nothing in it
     opened : (δ : GName) (y : Bool)
         → ⟦ pocket_case a δ y ⟧ ∗ A.auth δ (gnum 0) ⊢ ⟦ fsep (fobs δ (gnum 0)) (fauth δ (gnum 0)) ⟧
     opened δ true = qed 𝓛 (‵ (fobs δ (gnum 0)) ∷ ‵ (fauth δ (gnum 0)) ∷ []) ∵ fjoin ! $ done !
-    opened δ false = qed 𝓛 (‵ (fex ℕ (filled a δ)) ∷ ‵ (fauth δ (gnum 0)) ∷ []) ∵ fpick ! (λ m. fsplit ! $
+    opened δ false = qed 𝓛 (‵ (fex ℕ (filled_pocket a δ)) ∷ ‵ (fauth δ (gnum 0)) ∷ []) ∵ fpick ! (λ m. fsplit ! $
         move ! (0 ∷ 2 ∷ []) $
         use2 𝓛 (given (gnum (suc m) ≡ gnum 0) (‵ (fobs δ (gnum (suc m))) ⊛ ‵ (fauth δ (gnum 0)))) (𝓛.names.name_agree
         δ (gnum (suc m)) (gnum 0)) $ learn ! (λ e. absurd (suc-ne-zero m (ap num e))))
 
-    pub prepares : A.lft (γ ∷ []) r ∗ ⟦ registered (γ, epoch) η ⟧ ⊢ H.⇛ (ex 𝓤 Prepared)
-    prepares = qed 𝓛 (‵ (flft (γ ∷ []) r) ∷ ‵ (registered (γ, epoch) η) ∷ []) ∵ updating ! $
+    -- what a look brings along is made
+    pub prepares : A.lft (γ ∷ []) r ∗ ⟦ entered (γ, epoch) η ⟧ ⊢ H.⇛ (ex 𝓤 Prepared)
+    prepares = qed 𝓛 (‵ (flft (γ ∷ []) r) ∷ ‵ (entered (γ, epoch) η) ∷ []) ∵ updating ! $
         name_new ! tt (gnum 0) (λ δ. fpack ! Bool (pocket_case a δ) true $ bor_new ! tt (γ ∷ []) $
         move ! (0 ∷ 3 ∷ []) $ bor_open ! tt $ move ! (1 ∷ []) $ fpick ! (λ y. move ! (0 ∷ 3 ∷ []) $
         use2 𝓛 (‵ (fsep (fobs δ (gnum 0)) (fauth δ (gnum 0)))) (opened δ y) $ fsplit ! $
-        -- [obs; auth; the open borrow; the lender's right; registered]
+        -- [obs; auth; the open borrow; the lender's right; entered]
         move ! (1 ∷ 4 ∷ []) $ fjoin ! $ move ! (3 ∷ 1 ∷ 0 ∷ []) $ fjoin3 ! $ now ! $ show ! Prepared δ $
         move ! (1 ∷ 0 ∷ []) $ done !))
 
@@ -217,16 +223,16 @@ module _ {M : Type 1} {𝓤 : Ura M} (𝓛 : Logic 𝓤) where
     S = shown_at R d
 
     abbrev looked_case : GName → ℕ → Bool → Fml
-    looked_case δ n true = fsep (fact (n ≡ 1)) (fsep (fex ℕ (filled a δ)) (S (a ∷ [])))
-    looked_case δ n false = fsep (fact (n ≢ 1)) (fobs δ (gnum 0))
+    looked_case δ n true = fsep (known (n ≡ 1)) (fsep (fex ℕ (filled_pocket a δ)) (S (a ∷ [])))
+    looked_case δ n false = fsep (known (n ≢ 1)) (fobs δ (gnum 0))
 
     abbrev pub Looked : GName → ℕ → Fml
     Looked δ n = fex Bool (looked_case δ n)
 
     -- what was lent is now lent for the guard's lifetime
     abbrev pub got_case : ℕ → ℕ → Bool → Fml
-    got_case γ n true = fsep (fact (n ≡ 1)) (S (γ ∷ []))
-    got_case γ n false = fact (n ≢ 1)
+    got_case γ n true = fsep (known (n ≡ 1)) (S (γ ∷ []))
+    got_case γ n false = known (n ≢ 1)
 
     abbrev pub Got : ℕ → ℕ → Fml
     Got γ n = fex Bool (got_case γ n)
@@ -236,14 +242,16 @@ module _ {M : Type 1} {𝓤 : Ura M} (𝓛 : Logic 𝓤) where
       SL = lent_at_shr_laws R L d.at d.value
 
       module _ (γ : ℕ) (r : Share) (δ : GName) where
+        -- the pocket with this loan in it is a pocket again
         way : (m : ℕ) → A.obs δ (gnum (suc m)) ⊢ ⟦ fwand (fsep (fdead (γ ∷ [])) (fseps (flft (a ∷ []) (loan_share m)
             ∷ []))) (fupd (pocket a δ)) ⟧
         unfolding fseps
         way m = qed 𝓛 (‵ (fobs δ (gnum (suc m))) ∷ []) ∵ assume ! (‵ (fsep (fdead (γ ∷ [])) (fsep (flft (a ∷ [])
             (loan_share m)) ftrue))) $ suffices ! ⟦ pocket a δ ⟧ (upd_i 𝓤 ⟦ pocket a δ ⟧) $
-            fsplit3 ! $ move ! (3 ∷ 1 ∷ []) $ fjoin ! $ fpack ! ℕ (filled a δ) m $
+            fsplit3 ! $ move ! (3 ∷ 1 ∷ []) $ fjoin ! $ fpack ! ℕ (filled_pocket a δ) m $
             fpack ! Bool (pocket_case a δ) false $ keep ! (0 ∷ []) $ done !
 
+        -- a pocket is closed with the loan in it, or with nothing
         settled : (n : ℕ) (y : Bool)
             → A.obor (γ ∷ []) r (pocket a δ) ∗ ⟦ looked_case δ n y ⟧ ⊢ H.⇛ (A.lft (γ ∷ []) r ∗ ⟦ Got γ n ⟧)
         unfolding fseps
@@ -261,76 +269,94 @@ module _ {M : Type 1} {𝓤 : Ura M} (𝓛 : Logic 𝓤) where
             move ! (1 ∷ []) $ fsplit ! $ move ! (1 ∷ []) $ fpack ! Bool (pocket_case a δ) true $ move ! (2 ∷ 0 ∷ []) $
             obor_close ! tt $ move ! (2 ∷ []) $ fpack ! Bool (got_case γ n) false $ now ! $ keep ! (2 ∷ 0 ∷ []) $ done !
 
+        -- after the look the pocket is closed, with what it found
         pub settles : (n : ℕ) → A.obor (γ ∷ []) r (pocket a δ) ∗ ⟦ Looked δ n ⟧ ⊢ H.⇛ (A.lft (γ ∷ []) r ∗ ⟦ Got γ n ⟧)
         settles n = qed 𝓛 (‵ (fobor (γ ∷ []) r (pocket a δ)) ∷ ‵ (Looked δ n) ∷ []) ∵ move ! (1 ∷ []) $
             fpick ! (λ y. move ! (1 ∷ 0 ∷ []) $ by ! (settled n y))
 
       -- ---- under the word's invariant
       module _ (α : Lft) (q : Share) (b o : ℕ) where
-        abbrev I : Fml
-        I = lending R d b o
+        abbrev Memory : Fml
+        Memory = lending R d b o
 
-        abbrev W : ℕ → Fml
-        W = while_present R d
+        abbrev Waiting : ℕ → Fml
+        Waiting = while_present R d
 
+        -- one step under the word's invariant
         stepped : (f : ℕ → ℕ) (after : ℕ → Fml) (K : Fml) → ((n : ℕ)
-            → ⟦ W n ⟧ ∗ ⟦ K ⟧ ⊢ upd 𝓤 (⟦ W (f n) ⟧ ∗ ⟦ after n ⟧))
-            → A.inv (fbor α I) ∗ (A.lft α q ∗ ⟦ K ⟧) ⊢ asks 𝓛 (block_ptr b (o + 0)) f always (λ n. fsep (flft α q)
+            → ⟦ Waiting n ⟧ ∗ ⟦ K ⟧ ⊢ upd 𝓤 (⟦ Waiting (f n) ⟧ ∗ ⟦ after n ⟧))
+            → A.inv (fbor α Memory) ∗ (A.lft α q ∗ ⟦ K ⟧) ⊢ asks 𝓛 (block_ptr b (o + 0)) f always (λ n. fsep (flft α q)
             (after n))
         stepped f after K law = let e : ℕ = o + 0 in
-            let G : Pr = ex 𝓤 (Lies 𝓛 α q I b e f always after) in borrowed 𝓛 α q I b e f always after ⟦ K ⟧ (
-            qed 𝓛 (‵ I ∷ ‵ K ∷ []) ∵ suffices ! _ (upd_i 𝓤 G) $ fpick ! (λ n. fsplit ! $
-            let Z : Pr = ⟦ I ⟧ ∗ ⟦ after n ⟧ in
-            show ! (Lies 𝓛 α q I b e f always after) n $ frame ! $
-            each ! (λ (_ : Unit {0}). Again 𝓛 α q I b e f always after n) (λ _. assume ! (‵ (word b e (f n))) $
+            let G : Pr = ex 𝓤 (Lies 𝓛 α q Memory b e f always after) in borrowed 𝓛 α q Memory b e f always after ⟦ K ⟧ (
+            qed 𝓛 (‵ Memory ∷ ‵ K ∷ []) ∵ suffices ! _ (upd_i 𝓤 G) $ fpick ! (λ n. fsplit ! $
+            let Goal : Pr = ⟦ Memory ⟧ ∗ ⟦ after n ⟧ in
+            show ! (Lies 𝓛 α q Memory b e f always after) n $ frame ! $
+            each ! (λ (_ : Unit {0}). Again 𝓛 α q Memory b e f always after n) (λ _. assume ! (‵ (word b e (f n))) $
             move ! (1 ∷ 2 ∷ []) $
-            use2 𝓛 (raw (upd 𝓤 (⟦ W (f n) ⟧ ∗ ⟦ after n ⟧))) (law n) $ settle 𝓛 Z (‵ (W (f n)) ⊛ ‵ (after n)) $
-            split ! $ suffices ! _ (upd_i 𝓤 Z) $
-            move ! (2 ∷ 0 ∷ []) $ fjoin ! $ fpack ! ℕ (λ m. fsep (word b e m) (W m)) (f n) $ done !)))
+            use2 𝓛 (raw (upd 𝓤 (⟦ Waiting (f n) ⟧ ∗ ⟦ after n ⟧))) (law n) $
+            settle 𝓛 Goal (‵ (Waiting (f n)) ⊛ ‵ (after n)) $
+            split ! $ suffices ! _ (upd_i 𝓤 Goal) $
+            move ! (2 ∷ 0 ∷ []) $ fjoin ! $ fpack ! ℕ (λ m. fsep (word b e m) (Waiting m)) (f n) $ done !)))
 
-        module _ (γ epoch η : ℕ) (of : IsOneOf η d.posts) (r : Share) (δ : GName) where
+        module _ (γ epoch η : ℕ) (of : IsAmong η d.posts) (r : Share) (δ : GName) where
           abbrev lent_now : Loan
           lent_now = record { atom = γ; epoch = epoch; log = η; pocket_name = δ }
 
-          seen : (n : ℕ) → ⟦ W n ⟧ ∗ ⟦ Offer a γ epoch η r δ ⟧ ⊢ upd 𝓤 (⟦ W n ⟧ ∗ ⟦ Looked δ n ⟧)
-          seen n = let Z : Pr = ⟦ W n ⟧ ∗ ⟦ Looked δ n ⟧ in dite (ℕ_discrete n 1)
-              (λ hit. qed 𝓛 (‵ (W n) ∷ ‵ (Offer a γ epoch η r δ) ∷ []) ∵ use1 𝓛 (‵ (present R d)) (all_e 𝓤 (λ (_ : n
+          -- a look that finds 1 leaves its loan with the word, and any other leaves all as it is
+          seen : (n : ℕ) → ⟦ Waiting n ⟧ ∗ ⟦ Offer a γ epoch η r δ ⟧ ⊢ upd 𝓤 (⟦ Waiting n ⟧ ∗ ⟦ Looked δ n ⟧)
+          seen n = let Goal : Pr = ⟦ Waiting n ⟧ ∗ ⟦ Looked δ n ⟧ in dite (ℕ_discrete n 1)
+              (λ hit. qed 𝓛 (‵ (Waiting n) ∷ ‵ (Offer a γ epoch η r δ) ∷ []) ∵ use1 𝓛 (‵ (present R d)) (all_e 𝓤 (λ (_
+              : n
               ≡ 1). ⟦ present R d ⟧) hit) $ fpick ! (λ ls. fsplit3 ! $ move ! (2 ∷ []) $
               fpick ! (λ within. drop ! $ move ! (2 ∷ []) $ fsplit3 ! $ move ! (2 ∷ []) $ fsplit ! $
-              -- [auth; registered; lent; obs; stock; shown]
+              -- [auth; entered; lent; obs; stock; shown]
               move ! (4 ∷ 2 ∷ 3 ∷ 0 ∷ 1 ∷ []) $ types.Kit.group ! 5 $
-              use1 𝓛 (raw (upd 𝓤 (⟦ stock a (lent_now ∷ ls) ⟧ ∗ ⟦ filled a δ (length ls) ⟧))) (lends 𝓛 a ls lent_now)
-              $ settle 𝓛 Z (‵ (stock a (lent_now ∷ ls)) ⊛ ‵ (filled a δ (length ls))) $ split ! $
-              suffices ! Z (upd_i 𝓤 Z) $
+              use1 𝓛 (raw (upd 𝓤 (⟦ stock a (lent_now ∷ ls) ⟧ ∗ ⟦ filled_pocket a δ (length ls) ⟧))) (lends 𝓛 a ls
+              lent_now)
+              $ settle 𝓛 Goal (‵ (stock a (lent_now ∷ ls)) ⊛ ‵ (filled_pocket a δ (length ls))) $ split ! $
+              suffices ! Goal (upd_i 𝓤 Goal) $
               move ! (2 ∷ []) $ use1 𝓛 (‵ (S (a ∷ [])) ⊛ ‵ (S (a ∷ []))) (contraction 𝓛 S SL (a ∷ [])) $ split ! $
-              nothing ! $ fpack ! (Within d.posts (lent_now ∷ ls)) (λ _. ftrue) (of, within) $
-              -- [within; shown; shown; stock; filled]
+              nothing ! $ fpack ! (Within d.posts (lent_now ∷ ls)) (λ _. ftrue) (and_from
+              (is_among η d.posts) (are_within d.posts ls) of within) $
+              -- [within; shown; shown; stock; filled_pocket]
               move ! (3 ∷ 1 ∷ 0 ∷ []) $ fjoin3 ! $ fpack ! (List Loan) (held_for R d) (lent_now ∷ ls) $
-              use1 𝓛 (‵ (W n)) (qed 𝓛 (‵ (present R d) ∷ []) ∵ each ! (λ (_ : n ≡ 1). ⟦ present R d ⟧) (λ _. done !))
-              $ frame ! $ move ! (1 ∷ []) $ fpack ! ℕ (filled a δ) (length ls) $ move ! (0 ∷ 1 ∷ []) $ fjoin ! $
+              use1 𝓛 (‵ (Waiting n)) (qed 𝓛 (‵ (present R d) ∷ []) ∵ each ! (λ (_ : n ≡ 1). ⟦ present R d ⟧) (λ _.
+              done !))
+              $ frame ! $ move ! (1 ∷ []) $ fpack ! ℕ (filled_pocket a δ) (length ls) $ move ! (0 ∷ 1 ∷ []) $ fjoin ! $
               nothing ! $ fpack ! (n ≡ 1) (λ _. ftrue) hit $ fjoin ! $ fpack ! Bool (looked_case δ n) true $ done !)))
-              (λ miss. qed 𝓛 (‵ (W n) ∷ ‵ (Offer a γ epoch η r δ) ∷ []) ∵ suffices ! Z (upd_i 𝓤 Z) $ frame ! $
+              (λ miss. qed 𝓛 (‵ (Waiting n) ∷ ‵ (Offer a γ epoch η r δ) ∷ []) ∵ suffices ! Goal (upd_i 𝓤 Goal) $
+              frame ! $
               fsplit3 ! $ keep ! (1 ∷ []) $ nothing ! $ fpack ! (n ≢ 1) (λ _. ftrue) miss $ fjoin ! $
               fpack ! Bool (looked_case δ n) false $ done !)
 
-          pub looks : A.inv (fbor α I) ∗ (A.lft α q ∗ ⟦ Offer a γ epoch η r δ ⟧) ⊢ asks 𝓛 (block_ptr b (o + 0)) (λ n.
+          -- one plain load looks at the value
+          pub looks : A.inv (fbor α Memory) ∗ (A.lft α q ∗ ⟦ Offer a γ epoch η r δ ⟧) ⊢ asks 𝓛 (block_ptr b (o + 0))
+              (λ n.
               n) always (λ n. fsep (flft α q) (Looked δ n))
           looks = stepped (λ n. n) (Looked δ) (Offer a γ epoch η r δ) seen
 
-        marks : (n : ℕ) → ⟦ W n ⟧ ∗ ⟦ ftrue ⟧ ⊢ upd 𝓤 (⟦ W (either (eqb n 1) 2 n) ⟧ ∗ ⟦ W n ⟧)
-        marks n = let F : Bool → Type 1 = λ y. ⟦ W n ⟧ ∗ ⟦ ftrue ⟧ ⊢ upd 𝓤 (⟦ W (either y 2 n) ⟧ ∗ ⟦ W n ⟧) in
+        -- a mark that finds 1 takes everything out, and any other leaves all as it is
+        marks : (n : ℕ) → ⟦ Waiting n ⟧ ∗ ⟦ ftrue ⟧ ⊢ upd 𝓤 (⟦ Waiting (either (eqb n 1) 2 n) ⟧ ∗ ⟦ Waiting n ⟧)
+        marks n = let F : Bool → Type 1 = λ y. ⟦ Waiting n ⟧ ∗ ⟦ ftrue ⟧ ⊢ upd 𝓤 (⟦ Waiting (either y 2 n) ⟧ ∗ ⟦
+            Waiting n ⟧) in
             let none : (k : ℕ) → k ≢ 1
-            → emp 𝓤 ⊢ ⟦ W k ⟧ = λ k miss. qed 𝓛 [] ∵ each ! (λ (_ : k ≡ 1). ⟦ present R d ⟧) (λ e. absurd (miss e))
+            → emp 𝓤 ⊢ ⟦ Waiting k ⟧ = λ k miss. qed 𝓛 [] ∵ each ! (λ (_ : k ≡ 1). ⟦ present R d ⟧) (λ e. absurd (miss
+            e))
             in dite (ℕ_discrete n 1)
-            (λ hit. subst F (sym (eq-eqb n 1 hit)) (qed 𝓛 (‵ (W n) ∷ ‵ ftrue ∷ []) ∵ suffices ! _ (upd_i 𝓤 (⟦ W 2 ⟧ ∗
-            ⟦ W n ⟧)) $ use0 𝓛 (‵ (W 2)) (none 2 (λ e. absurd (omega (native.Mathlib.Omega.arith, e)))) $
+            (λ hit. subst F (sym (eq-eqb n 1 hit)) (qed 𝓛 (‵ (Waiting n) ∷ ‵ ftrue ∷ []) ∵ suffices ! _ (upd_i 𝓤 (⟦
+            Waiting 2 ⟧ ∗
+            ⟦ Waiting n ⟧)) $ use0 𝓛 (‵ (Waiting 2)) (none 2 (λ e. absurd (omega (native.Mathlib.Omega.arith, e)))) $
             keep ! (0 ∷ 1 ∷ []) $ done !))
-            (λ miss. subst F (sym (ne_eqb n 1 miss)) (qed 𝓛 (‵ (W n) ∷ ‵ ftrue ∷ []) ∵ suffices ! _ (upd_i 𝓤 (⟦ W n ⟧
-            ∗ ⟦ W n ⟧)) $ keep ! (0 ∷ []) $ use0 𝓛 (‵ (W n)) (none n miss) $ done !))
+            (λ miss. subst F (sym (ne_eqb n 1 miss)) (qed 𝓛 (‵ (Waiting n) ∷ ‵ ftrue ∷ []) ∵ suffices ! _ (upd_i 𝓤 (⟦
+            Waiting n ⟧
+            ∗ ⟦ Waiting n ⟧)) $ keep ! (0 ∷ []) $ use0 𝓛 (‵ (Waiting n)) (none n miss) $ done !))
 
-        pub takes_out : A.inv (fbor α I) ∗ (A.lft α q ∗ ⟦ ftrue ⟧) ⊢ asks 𝓛 (block_ptr b (o + 0)) (λ n. either (eqb n
-            1) 2 n) always (λ n. fsep (flft α q) (W n))
-        takes_out = stepped (λ n. either (eqb n 1) 2 n) W ftrue marks
+        -- one exchange marks the value
+        pub takes_out : A.inv (fbor α Memory) ∗ (A.lft α q ∗ ⟦ ftrue ⟧) ⊢ asks 𝓛 (block_ptr b (o + 0)) (λ n. either
+            (eqb n
+            1) 2 n) always (λ n. fsep (flft α q) (Waiting n))
+        takes_out = stepped (λ n. either (eqb n 1) 2 n) Waiting ftrue marks
 
       abbrev pub Gained : ℕ → ℕ → Type 0
       Gained n k = (n ≡ 1 → k ≡ 1) × (n ≢ 1 → k ≡ 0)
@@ -340,6 +366,7 @@ module _ {M : Type 1} {𝓤 : Ura M} (𝓛 : Logic 𝓤) where
         abbrev pub Gain : ℕ → Pr
         Gain k = guard 𝓤 (Gained n k) ⟦ glance_owns κ R d.at d.value k ⟧
 
+        -- a glance has the right to read where the word was 1, and else nothing
         gain : (y : Bool) → ⟦ got_case γ n y ⟧ ∗ ⟦ before κ (γ ∷ []) ⟧ ⊢ ex 𝓤 Gain
         gain true = qed 𝓛 (‵ (got_case γ n true) ∷ ‵ (before κ (γ ∷ [])) ∷ []) ∵ fsplit ! $ fpick ! (λ hit. drop ! $
             move ! (1 ∷ 0 ∷ []) $ use2 𝓛 (‵ (S κ)) (SL.mono M 𝓤 𝓛 κ (γ ∷ [])) $
@@ -347,6 +374,7 @@ module _ {M : Type 1} {𝓤 : Ura M} (𝓛 : Logic 𝓤) where
         gain false = qed 𝓛 (‵ (got_case γ n false) ∷ ‵ (before κ (γ ∷ [])) ∷ []) ∵ fpick ! (λ miss. keep ! (0 ∷ []) $
             show ! Gain 0 $ types.Kit.check ! ((λ hit. absurd (miss hit)), (λ _. refl)) $ done !)
 
+        -- so it has one or the other
         pub gains : ⟦ Got γ n ⟧ ∗ ⟦ before κ (γ ∷ []) ⟧ ⊢ ex 𝓤 Gain
         gains = qed 𝓛 (‵ (Got γ n) ∷ ‵ (before κ (γ ∷ [])) ∷ []) ∵ fpick ! (λ y. by ! (gain y))
 
@@ -355,6 +383,7 @@ module _ {M : Type 1} {𝓤 : Ura M} (𝓛 : Logic 𝓤) where
         abbrev pub Take : ℕ × List Loan → Pr
         Take t = guard 𝓤 (Gained n t.0 × Within d.posts t.1) ⟦ marked_owns R d.at d.value a t.0 t.1 [] ⟧
 
+        -- who marked at 1 has the rest of the value with all loans, and else nothing
         pub takes : ⟦ while_present R d n ⟧ ⊢ ex 𝓤 Take
         takes = dite (ℕ_discrete n 1)
             (λ hit. qed 𝓛 (‵ (while_present R d n) ∷ []) ∵ use1 𝓛 (‵ (present R d)) (all_e 𝓤 (λ (_ : n ≡ 1). ⟦
@@ -362,4 +391,4 @@ module _ {M : Type 1} {𝓤 : Ura M} (𝓛 : Logic 𝓤) where
             fpick ! (λ within. move ! (1 ∷ 2 ∷ 0 ∷ []) $ fjoin3 ! $
             show ! Take (1, ls) $ types.Kit.check ! (((λ _. refl), (λ miss. absurd (miss hit))), within) $ done !)))
             (λ miss. qed 𝓛 (‵ (while_present R d n) ∷ []) ∵ drop ! $ nothing ! $ show ! Take (0, []) $
-            types.Kit.check ! (((λ hit. absurd (miss hit)), (λ _. refl)), tt) $ done !)
+            types.Kit.check ! (((λ hit. absurd (miss hit)), (λ _. refl)), refl) $ done !)

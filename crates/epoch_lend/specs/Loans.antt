@@ -1,7 +1,6 @@
 -- What the word of a value holds while it is present: the token of the value's lifetime a, less what was lent to
--- guards, and
--- the loans.
-use Rattle.std.specs.Prelude.{◌≡◌, ◌≢◌, ℕ, zero, suc, ◌+◌, ◌*◌, ◌≤◌, ◌⊎◌, List, [], ◌∷◌, length}
+-- guards, and the loans.
+use Rattle.std.specs.Prelude.{◌≡◌, ◌≢◌, ℕ, zero, suc, ◌+◌, ◌*◌, eqb, leb, not, ◌&&◌, ◌||◌, List, [], ◌∷◌, length}
 use mathlib.Core.Bool.{Bool, true, false}
 use base.Share
 use base.Fraction.{full_share}
@@ -12,7 +11,7 @@ use denote.RawPtr.{Ptr, block_ptr, null_ptr, coded_ptr}
 use denote.Struct.Lending.{lent_at}
 use denote.Sharing.{said, beside, some, ends, always}
 use Rattle.core.specs.Sync.RawAtomic.{word}
-use Rattle.epoch_lend.specs.Posts.{fact, IsOneOf, posted, registered}
+use Rattle.epoch_lend.specs.Posts.{known, is_among, posted, entered}
 
 -- what is left of the token after n loans, and what the next loan takes: each loan takes half of what is left
 abbrev pub left_after : ℕ → Share
@@ -24,12 +23,12 @@ loan_share n = Share.left (left_after n)
 
 -- What a guard borrows for its own lifetime before it looks: nothing yet, or the n-th loan of the token. The name δ
 -- says which.
-abbrev pub filled : ℕ → GName → ℕ → Fml
-filled a δ n = fsep (fobs δ (gnum (suc n))) (flft (a ∷ []) (loan_share n))
+abbrev pub filled_pocket : ℕ → GName → ℕ → Fml
+filled_pocket a δ n = fsep (fobs δ (gnum (suc n))) (flft (a ∷ []) (loan_share n))
 
 abbrev pub pocket_case : ℕ → GName → Bool → Fml
 pocket_case a δ true = fobs δ (gnum 0)
-pocket_case a δ false = fex ℕ (filled a δ)
+pocket_case a δ false = fex ℕ (filled_pocket a δ)
 
 abbrev pub pocket : ℕ → GName → Fml
 pocket a δ = fex Bool (pocket_case a δ)
@@ -59,7 +58,7 @@ loan_coded = coded_via (coded× coded_ℕ (coded× coded_ℕ (coded× coded_ℕ 
 -- the n-th loan: once the guard's lifetime is over the pocket comes back, and it holds the n-th share
 abbrev pub loan : ℕ → ℕ → Loan → Fml
 loan a n l = fsep (flent (l.atom ∷ []) (pocket a l.pocket_name)) (fsep (fauth l.pocket_name (gnum (suc n)))
-    (registered (l.atom, l.epoch) l.log))
+    (entered (l.atom, l.epoch) l.log))
 
 abbrev pub loans : ℕ → List Loan → Fml
 loans a [] = ftrue
@@ -69,52 +68,65 @@ abbrev pub stock : ℕ → List Loan → Fml
 stock a ls = fsep (flft (a ∷ []) (left_after (length ls))) (loans a ls)
 
 -- a look at a post: its log, and the word found
-abbrev pub Sight : Type 0
-Sight = ℕ × ℕ
+abbrev pub SeenPost : Type 0
+SeenPost = ℕ × ℕ
 
 -- the look was at the post of the loan's guard, and found another word than that of the guard's epoch
-abbrev pub Shows : Sight → Loan → Type 0
+abbrev pub Shows : SeenPost → Loan → Type 0
 Shows s l = (l.log ≡ s.0) × (s.1 ≢ posted l.epoch)
 
 -- what a look tells of these loans: the guards of which it shows that they are over
-abbrev pub shown_by : Sight → List Loan → Fml
+abbrev pub shown_by : SeenPost → List Loan → Fml
 shown_by s [] = ftrue
 shown_by s (l ∷ ls) = fsep (fall (Shows s l) (λ _. fdead (l.atom ∷ []))) (shown_by s ls)
 
-abbrev pub all_shown : List Sight → List Loan → Fml
+abbrev pub all_shown : List SeenPost → List Loan → Fml
 all_shown [] ls = ftrue
 all_shown (s ∷ ss) ls = fsep (shown_by s ls) (all_shown ss ls)
 
 -- one of these looks shows that the loan's guard is over
-abbrev pub IsShown : List Sight → Loan → Type 0
-IsShown [] l = ⊥
-IsShown (s ∷ ss) l = Shows s l ⊎ IsShown ss l
+abbrev pub shows : SeenPost → Loan → Bool
+shows s l = eqb l.log s.0 && not (eqb s.1 (posted l.epoch))
 
-abbrev pub AreShown : List Sight → List Loan → Type 0
-AreShown ss [] = Unit {0}
-AreShown ss (l ∷ ls) = IsShown ss l × AreShown ss ls
+abbrev pub is_shown : List SeenPost → Loan → Bool
+is_shown [] l = false
+is_shown (s ∷ ss) l = shows s l || is_shown ss l
+
+-- of each loan one of these looks shows it
+abbrev pub are_shown : List SeenPost → List Loan → Bool
+are_shown ss [] = true
+are_shown ss (l ∷ ls) = is_shown ss l && are_shown ss ls
+
+abbrev pub AreShown : List SeenPost → List Loan → Type 0
+AreShown ss ls = are_shown ss ls ≡ true
 
 -- each loan went to a guard of one of these posts
+abbrev pub are_within : List ℕ → List Loan → Bool
+are_within ηs [] = true
+are_within ηs (l ∷ ls) = is_among l.log ηs && are_within ηs ls
+
 abbrev pub Within : List ℕ → List Loan → Type 0
-Within ηs [] = Unit {0}
-Within ηs (l ∷ ls) = IsOneOf l.log ηs × Within ηs ls
+Within ηs ls = are_within ηs ls ≡ true
 
--- one of these looks was at this post, and found a word of which P holds
-abbrev pub WasSeen : (ℕ → Type 0) → ℕ → List Sight → Type 0
-WasSeen P η [] = ⊥
-WasSeen P η (s ∷ ss) = ((s.0 ≡ η) × P s.1) ⊎ WasSeen P η ss
+-- one of these looks was at this post, and found a word that passes
+abbrev pub was_seen : (ℕ → Bool) → ℕ → List SeenPost → Bool
+was_seen passes η [] = false
+was_seen passes η (s ∷ ss) = (eqb η s.0 && passes s.1) || was_seen passes η ss
 
-abbrev pub EachSeen : (ℕ → Type 0) → List ℕ → List Sight → Type 0
-EachSeen P [] ss = Unit {0}
-EachSeen P (η ∷ ηs) ss = WasSeen P η ss × EachSeen P ηs ss
+abbrev pub each_seen : (ℕ → Bool) → List ℕ → List SeenPost → Bool
+each_seen passes [] ss = true
+each_seen passes (η ∷ ηs) ss = was_seen passes η ss && each_seen passes ηs ss
+
+abbrev pub EachSeen : (ℕ → Bool) → List ℕ → List SeenPost → Type 0
+EachSeen passes ηs ss = each_seen passes ηs ss ≡ true
 
 -- a post with this word isn't pinned, or is in an epoch before the seal
-abbrev pub IsSealed : ℕ → ℕ → Type 0
-IsSealed seal found = found ≤ 2 * seal
+abbrev pub is_sealed : ℕ → ℕ → Bool
+is_sealed seal found = leb found (2 * seal)
 
 -- a post with this word isn't pinned, or is in the seal's epoch or a later one
-abbrev pub IsPast : ℕ → ℕ → Type 0
-IsPast seal found = found ≢ 0 → 2 * seal ≤ found
+abbrev pub is_past : ℕ → ℕ → Bool
+is_past seal found = eqb found 0 || leb (2 * seal) found
 
 -- what a word is of: where its value lies, the value, and the atom of the lifetime that it is lent for
 pub record Shown (T : Type 0) : Type 0 where
@@ -141,7 +153,7 @@ module _ (R : RattleType) (d : Shown R.Denot) where
   shown_at = lent_at R d.at d.value
 
   abbrev pub held_for : List Loan → Fml
-  held_for ls = fsep (stock d.lifetime ls) (fsep (shown_at (d.lifetime ∷ [])) (fact (Within d.posts ls)))
+  held_for ls = fsep (stock d.lifetime ls) (fsep (shown_at (d.lifetime ∷ [])) (known (Within d.posts ls)))
 
   abbrev pub present : Fml
   present = fex (List Loan) held_for
@@ -166,6 +178,6 @@ glance_owns β R p x zero = ftrue
 glance_owns β R p x (suc k) = lent_at R p x β
 
 -- what a mark took out, with what was seen of its loans since
-abbrev pub marked_owns : (R : RattleType) → Ptr → R.Denot → ℕ → ℕ → List Loan → List Sight → Fml
+abbrev pub marked_owns : (R : RattleType) → Ptr → R.Denot → ℕ → ℕ → List Loan → List SeenPost → Fml
 marked_owns R p x a zero ls ss = ftrue
 marked_owns R p x a (suc k) ls ss = fsep (stock a ls) (fsep (lent_at R p x (a ∷ [])) (all_shown ss ls))

@@ -15,8 +15,8 @@ use denote.Struct.Lending.{lent_at}
 abbrev pub tokens : ℕ → ℕ → Fml
 tokens a k = fex Share (λ e. fex (Counts 63 e k) (λ _. flft (a ∷ []) e))
 
-abbrev pub placed : Ptr → Fml
-placed p = fex (InBlock p) (λ _. ftrue)
+abbrev pub in_block : Ptr → Fml
+in_block p = fex (InBlock p) (λ _. ftrue)
 
 module _ (R : RattleType) (p : Ptr) (x : R.Denot) (a : ℕ) where
   abbrev pub part_owns : ℕ → Fml
@@ -26,5 +26,5 @@ module _ (R : RattleType) (p : Ptr) (x : R.Denot) (a : ℕ) where
   part_shares = beside (one (λ q. flft (a ∷ []) q)) (held (a ∷ []) (lent_at R p x))
 
 abbrev pub deed_owns : (Ty → Ptr → Fml) → (R : RattleType) → Ptr → R.Denot → ℕ → Fml
-deed_owns frees R p x a = fsep (placed p) (fsep (flent (a ∷ []) (lies_at R full_share p x)) (frees (raw (lone R.mir))
+deed_owns frees R p x a = fsep (in_block p) (fsep (flent (a ∷ []) (lies_at R full_share p x)) (frees (raw (lone R.mir))
     p))

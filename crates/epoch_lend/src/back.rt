@@ -1,7 +1,7 @@
 //! The way back: posts are looked at until each guard that had a loan is over.
-ghost use Rattle.std.specs.Prelude.{◌≡◌, ℕ, ◌*◌, ◌≤◌, ◌^◌, true, IfOk, IfErr};
+ghost use Rattle.std.specs.Prelude.{◌≡◌, ◌≢◌, ℕ, ◌*◌, ◌≤◌, ◌^◌, true, IfOk, IfErr};
 ghost use Rattle.epoch_lend.specs.Posts.{logs_of};
-ghost use Rattle.epoch_lend.specs.Loans.{Within, EachSeen, IsSealed, IsPast, AreShown};
+ghost use Rattle.epoch_lend.specs.Loans.{Within, EachSeen, is_sealed, AreShown};
 
 use crate::lending::Marked;
 use crate::part::Part;
@@ -17,16 +17,16 @@ fn sealed_past(seal: u64, word: u64) -> u64
 
 // Whether it was clear, and a post with this word is unpinned, or in the seal's epoch or a later one.
 fn stays_clear(clear: bool, seal: u64, word: u64) -> bool
-    ensures { result ≡ true → (clear ≡ true) × IsPast seal word }
+    ensures { result ≡ true → (clear ≡ true) × (word ≢ 0 → 2 * seal ≤ word) }
 {
     clear && (word == 0 || seal <= word / 2)
 }
 
 impl<T> Marked<T> {
-    /// Looks at each post once. Each guard that had a loan is over, or is pinned in an epoch before the one answered.
+    /// Looks at each post once. Answers a seal: each guard that had a loan is over, or is of an epoch before it.
     pub fn seal(self, posts: &[Post]) -> (u64, Marked<T>)
         requires { self.right ≡ 1 }
-        ensures sealed { EachSeen (IsSealed result.0) (logs_of posts.now) result.1.seen }
+        ensures sealed { EachSeen (is_sealed result.0) (logs_of posts.now) result.1.seen }
         ensures same { (result.1.right ≡ 1) × (result.1.value ≡ self.value) × (result.1.lifetime ≡ self.lifetime)
             × (result.1.loans ≡ self.loans) }
     {
@@ -45,9 +45,9 @@ impl<T> Marked<T> {
     fn scan(self, posts: &[Post], seal: u64) -> (bool, Marked<T>)
         requires marked { self.right ≡ 1 }
         requires lent { Within (logs_of posts.now) self.loans }
-        requires sealed { EachSeen (IsSealed seal) (logs_of posts.now) self.seen }
+        requires sealed { EachSeen (is_sealed seal) (logs_of posts.now) self.seen }
         ensures clear { result.0 ≡ true → AreShown result.1.seen result.1.loans }
-        ensures sealed { EachSeen (IsSealed seal) (logs_of posts.now) result.1.seen }
+        ensures sealed { EachSeen (is_sealed seal) (logs_of posts.now) result.1.seen }
         ensures same { (result.1.right ≡ 1) × (result.1.value ≡ self.value) × (result.1.lifetime ≡ self.lifetime)
             × (result.1.loans ≡ self.loans) }
     {
@@ -62,16 +62,16 @@ impl<T> Marked<T> {
         (clear, marked)
     }
 
-    /// All parts of the value, where each post is seen with no pin in an epoch before the seal. Else nothing comes back
-    /// yet, since a guard that had a loan may live.
+    /// Looks at each post once more. Where none is pinned in an epoch before the seal, all parts of the value come
+    /// back. Else what was marked does, to be tried again, since a guard that had a loan may live.
     pub fn take_back(self, posts: &[Post], seal: u64) -> Result<Part<T>, Marked<T>>
         requires marked { self.right ≡ 1 }
         requires lent { Within (logs_of posts.now) self.loans }
-        requires sealed { EachSeen (IsSealed seal) (logs_of posts.now) self.seen }
+        requires sealed { EachSeen (is_sealed seal) (logs_of posts.now) self.seen }
         ensures whole { IfOk result (λ part. (part.value ≡ self.value) × (part.lifetime ≡ self.lifetime)
             × (part.count ≡ 2 ^ 63)) }
         ensures again { IfErr result (λ marked. (marked.right ≡ 1) × (marked.loans ≡ self.loans)
-            × EachSeen (IsSealed seal) (logs_of posts.now) marked.seen) }
+            × EachSeen (is_sealed seal) (logs_of posts.now) marked.seen) }
         ensures same { IfErr result (λ marked. (marked.value ≡ self.value) × (marked.lifetime ≡ self.lifetime)) }
     {
         let (clear, marked) = self.scan(posts, seal);

@@ -1,9 +1,9 @@
 //! The word of a value that is read under guards.
 ghost use Rattle.std.specs.Prelude.{◌≡◌, ◌≢◌, ℕ, ◌^◌, List, [], ◌∷◌};
 ghost use base.Stored.{coded_list, coded×, coded_ℕ};
-ghost use Rattle.epoch_lend.specs.Posts.{IsOneOf, logs_of};
+ghost use Rattle.epoch_lend.specs.Posts.{IsAmong, logs_of};
 ghost use Rattle.epoch_lend.specs.Loans.{Shown, shown_coded, lending_owns, lending_shares, glance_owns};
-ghost use Rattle.epoch_lend.specs.Loans.{marked_owns, Loan, loan_coded, Sight, Within, AreShown};
+ghost use Rattle.epoch_lend.specs.Loans.{marked_owns, Loan, loan_coded, SeenPost, Within, AreShown};
 
 use crate::part::Part;
 use crate::post::{Guard, Post};
@@ -12,8 +12,10 @@ use std::marker::{Brand, Model, Move, Owns, PhantomData};
 use std::sync::atomic::Ordering::SeqCst;
 use std::sync::atomic::raw;
 
+/// The word of a value that guards may look at.
 pub const PRESENT: u64 = 1;
 
+/// The word of a value that a mark took out.
 pub const MARKED: u64 = 2;
 
 /// The word: 1 while the value may be read, and 2 once its removal is under way.
@@ -54,7 +56,7 @@ pub struct Marked<T> {
     pub ghost right: { ℕ },
     pub ghost value: { T },
     pub ghost lifetime: { ℕ },
-    pub ghost seen: { List Sight } by { coded_list (coded× coded_ℕ coded_ℕ) },
+    pub ghost seen: { List SeenPost } by { coded_list (coded× coded_ℕ coded_ℕ) },
     pub ghost loans: { List Loan } by { coded_list loan_coded },
 }
 
@@ -78,9 +80,10 @@ impl<T> Lending<T> {
         (lending, ptr)
     }
 
-    /// One plain load. Where it finds `PRESENT`, the value may be read for as long as the guard is lent.
+    /// One plain load. Where it finds `PRESENT`, the value may be read for as long as the guard is lent. The guard
+    /// must be of one of the value's posts.
     pub fn look<'g>(&self, guard: &'g Guard, at: *const T) -> (u64, Glance<'g, T>)
-        requires { (at ≡ self.now.at) × IsOneOf guard.now.log self.now.posts }
+        requires { (at ≡ self.now.at) × IsAmong guard.now.log self.now.posts }
         ensures { (result.0 ≡ PRESENT → result.1.right ≡ 1) × (result.0 ≢ PRESENT → result.1.right ≡ 0)
             × (result.1.value ≡ self.now.value) }
     {
@@ -93,7 +96,8 @@ impl<T> Lending<T> {
         (found, glance)
     }
 
-    /// Marks the value, so that no guard reads it from then on but those that do.
+    /// Marks the value, by one exchange: no look finds it from then on, and guards that have found it keep it. Where
+    /// the word was `PRESENT`, what the mark took out comes with it, and else nothing.
     pub fn mark(&self, at: *const T) -> (u64, Marked<T>)
         requires { at ≡ self.now.at }
         ensures { (result.0 ≡ PRESENT → result.1.right ≡ 1) × (result.0 ≢ PRESENT → result.1.right ≡ 0)
@@ -107,6 +111,7 @@ impl<T> Lending<T> {
 }
 
 impl<'g, T> Glance<'g, T> {
+    /// The value, for a glance that gained it.
     pub fn get(self) -> &'g T
         requires { self.right ≡ 1 }
         ensures { result.now ≡ self.entry.value }
@@ -114,9 +119,7 @@ impl<'g, T> Glance<'g, T> {
         let Glance { at, marker: _ } = self;
         unsafe { &*at }
     }
-}
 
-impl<'g, T> Glance<'g, T> {
     /// Ends a glance that gained nothing, or that is not wanted.
     pub fn done(self) {
         let Glance { at: _, marker: _ } = self;
@@ -131,7 +134,7 @@ impl<T> Marked<T> {
         let Marked { at: _ } = self;
     }
 
-    /// All parts of the value, once each post that one was lent at was seen clear.
+    /// All parts of the value. Looks must have shown that each guard with a loan is over.
     pub fn collect(self) -> Part<T>
         requires { (self.right ≡ 1) × AreShown self.seen self.loans }
         ensures { (result.value ≡ self.value) × (result.lifetime ≡ self.lifetime) × (result.count ≡ 2 ^ 63) }

@@ -1,6 +1,6 @@
 //! A value that threads look at under guards, each time by one plain load.
 ghost use Rattle.std.specs.Prelude.{◌≡◌, [], IfSome};
-ghost use Rattle.epoch_lend.specs.Posts.{IsOneOf, logs_of};
+ghost use Rattle.epoch_lend.specs.Posts.{IsAmong, logs_of};
 ghost use Rattle.epoch_lend.specs.Loans.{Within};
 
 use crate::lending::{Lending, Marked, PRESENT};
@@ -30,9 +30,10 @@ impl<T: Drop> Lent<T> {
 }
 
 impl<T> Lent<T> {
-    /// One plain load. Where the value is present, it is lent for as long as the guard is.
+    /// One plain load. Where the value is present, it is lent for as long as the guard is. `None`: it was marked.
+    /// The guard must be of one of the value's posts.
     pub fn look<'g>(&self, guard: &'g Guard) -> Option<&'g T>
-        requires { IsOneOf guard.now.log self.now.lending.posts }
+        requires { IsAmong guard.now.log self.now.lending.posts }
         ensures { IfSome result (λ value. value.now ≡ self.now.lending.value) }
     {
         let (found, glance) = self.lending.look(guard, self.at);
@@ -45,6 +46,7 @@ impl<T> Lent<T> {
     }
 
     /// Marks the value, so that no look finds it from then on. Who marks it has what was lent of it, and only one does.
+    /// `None`: it was marked before.
     pub fn mark(&self) -> Option<Marked<T>>
         ensures marked { IfSome result (λ marked. (marked.right ≡ 1) × (marked.seen ≡ [])) }
         ensures value { IfSome result (λ marked. (marked.value ≡ self.now.lending.value)

@@ -104,7 +104,8 @@ impl Post {
         )
     }
 
-    /// Pins in this epoch, by one store. Answers the right to end the pin, and all of its guards as one.
+    /// Pins in this epoch, by one store. The right to pin must be that of this post, and the epoch less than 2^63.
+    /// Answers the right to end the pin, and all of its guards as one.
     pub fn pin(&self, unpinned: Unpinned, epoch: u64) -> (Pin, Guard)
         requires of_post { (unpinned.log ≡ self.now.log) × (unpinned.state ≡ self.now.state) }
         requires within { epoch < 2 ^ 63 }
@@ -115,7 +116,7 @@ impl Post {
         self.publish(unpinned, epoch, 2 * epoch + 1)
     }
 
-    /// Ends the pin, by one store, with all of its guards, which are here again as one.
+    /// Ends the pin, by one store. All of its guards must be here again as one. Answers the right to pin again.
     pub fn unpin(&self, pin: Pin, guard: Guard) -> Unpinned
         requires of_post { (pin.log ≡ self.now.log) × (pin.state ≡ self.now.state) }
         requires all_here { (guard.atom ≡ pin.atom) × (guard.count ≡ 2 ^ 63) }
@@ -130,6 +131,7 @@ impl Post {
     }
 
     /// One plain load. It shows that each guard of this post that had a loan is over, but those of the epoch found.
+    /// Answers the word found, and what was marked, with this look added to what was seen.
     pub fn look<T>(&self, marked: Marked<T>) -> (u64, Marked<T>)
         requires { marked.right ≡ 1 }
         ensures seen { result.1.seen ≡ (self.now.log, result.0) ∷ marked.seen }
@@ -143,7 +145,7 @@ impl Post {
 }
 
 impl Guard {
-    /// Another guard of the same pin: one part of what this one is.
+    /// Another guard of the same pin, of one share. This one must have more than one, and keeps the rest.
     pub fn split_one(&mut self) -> Guard
         requires { (1 < self.old.count) × (self.old.count ≤ 2 ^ 63) }
         ensures { (self.new ≡ record self.old { count = self.old.count - 1 })

@@ -1,5 +1,5 @@
-ghost use Rattle.std.specs.Prelude.{◌≡◌, [], ◌∷◌};
-ghost use Rattle.epoch_lend.specs.Posts.{logs_of};
+ghost use Rattle.std.specs.Prelude.{◌≡◌};
+ghost use Rattle.epoch_lend.specs.Posts.{logs_of, IsAmong};
 
 use crate::wants::want;
 use epoch_lend::lent::Lent;
@@ -15,11 +15,10 @@ use std::thread;
 #[derive(Drop)]
 struct Reader<'p> {
     first: &'p Post,
-    second: &'p Post,
     lent: &'p Lent<u64>,
     unpinned: Unpinned,
     ghost of_post: { (unpinned.log ≡ first.now.log) × (unpinned.state ≡ first.now.state) },
-    ghost may_look: { lent.now.lending.posts ≡ first.now.log ∷ second.now.log ∷ [] },
+    ghost may_look: { IsAmong first.now.log lent.now.lending.posts },
 }
 
 /// Who takes the value back.
@@ -53,7 +52,6 @@ fn wait_for(flag: &AtomicBool) {
 fn stall(reader: Reader<'_>, signals: &Signals) -> u64 {
     let Reader {
         first,
-        second: _,
         lent,
         unpinned,
     } = reader;
@@ -70,6 +68,29 @@ fn stall(reader: Reader<'_>, signals: &Signals) -> u64 {
     let _ = first.unpin(pin, guard);
     signals.is_over.store(true, SeqCst);
     read
+}
+
+/// Looks at the value under a pin of its own, again and again. Answers 1 if it found another value than 7, else 0.
+fn look_often(reader: Reader<'_>) -> u64 {
+    let Reader {
+        first,
+        lent,
+        unpinned,
+    } = reader;
+    let (pin, guard) = first.pin(unpinned, 1);
+    let mut others = 0u64;
+    for _ in 0..1000u64 {
+        match lent.look(&guard) {
+            Some(value) => {
+                if *value != 7 {
+                    others = 1;
+                }
+            }
+            None => {}
+        }
+    }
+    let _ = first.unpin(pin, guard);
+    others
 }
 
 /// Marks the value once the other has looked, and tries to take it back before the other's pin is over and after.
@@ -110,7 +131,6 @@ fn a_value_waits_for_a_thread_that_stalls_pinned(rt: HostRuntime) -> Result<(), 
     let told = &signals;
     let reader = Reader {
         first: &posts[0],
-        second: &posts[1],
         lent: &lent,
         unpinned,
     };
@@ -132,5 +152,33 @@ fn a_value_waits_for_a_thread_that_stalls_pinned(rt: HostRuntime) -> Result<(), 
     );
     want(&rt, "nothing comes back while it is pinned", early, 0);
     want(&rt, "the value comes back once it isn't", late, 7);
+    Ok(())
+}
+
+#[test]
+fn whatever_is_found_while_another_marks_is_the_value(rt: HostRuntime) -> Result<(), Fail> {
+    let (first, unpinned) = Post::new();
+    let (second, other) = Post::new();
+    let posts = [first, second];
+    let (lent, _deed) = Lent::new(Box::new(rt.alloc(), 7u64)?, &posts);
+    let reader = Reader {
+        first: &posts[0],
+        lent: &lent,
+        unpinned,
+    };
+    let another = Reader {
+        first: &posts[1],
+        lent: &lent,
+        unpinned: other,
+    };
+    let marked = &lent;
+    let (others, (more, is_marked)) = thread::join(
+        &rt,
+        move || look_often(reader),
+        move || (look_often(another), marked.mark().is_some()),
+    );
+    want(&rt, "the first reader finds no other value", others, 0);
+    want(&rt, "nor does the second", more, 0);
+    want(&rt, "the value is marked", is_marked, true);
     Ok(())
 }

@@ -82,14 +82,19 @@ use Rattle.epoch_lend.proofs.part.freeze.Code as code
 
 pub freeze_spec : {M : Type 1} → statement M
 freeze_spec 𝓤 𝓛 𝓜 𝓡 wired X Z L LZ g d dx dd met glue md =
-    let H = 𝓛.H in let 𝓣 = tables 𝓤 H 𝓜 𝓡 𝓡.env in
+    let H = 𝓛.H in
+    let 𝓣 = tables 𝓤 H 𝓜 𝓡 𝓡.env in
     let E : box.Bx = record { row = X; laws = L; al = record { row = Z; laws = LZ; g = g; d = d; drops = dd } } in
-    let R : RattleType = box.R E in let P : RattleType = box.P E in let B : RattleType = box.B E in
-    let Row : RattleType = part.the_row R in let Dd : RattleType = deed.the_row R P g in
+    let R : RattleType = box.R E in
+    let P : RattleType = box.P E in
+    let B : RattleType = box.B E in
+    let Row : RattleType = part.the_row R in
+    let Dd : RattleType = deed.the_row R P g in
     let LR = param_laws 0 X L in
     let En = ended X Z g d dx dd in
     let inst = bounded (a_type ∷ a_type ∷ []) (X, (Z, tt)) (dcons d (dcons dx (dcons dd dnil))) in
-    let fn = inst_fn inst code.function in let c = clauses X Z g d dx dd 𝓛 𝓜.mem 𝓡.returns in
+    let fn = inst_fn inst code.function in
+    let c = clauses X Z g d dx dd 𝓛 𝓜.mem 𝓡.returns in
     let Parts = triple_of 𝓛 (callee.signature X Z g d dd dx) (callee.spec X Z g d dd dx 𝓛 𝓜.mem 𝓡.returns) in
     let known = callee_met.met 𝓤 𝓛 𝓜 𝓡 (code.calls-std_alloc::boxed::Box::into_raw_with_allocator 𝓡.env wired) X Z L
     LZ g d dd dx met md glue in
@@ -98,16 +103,23 @@ freeze_spec 𝓤 𝓛 𝓜 𝓡 wired X Z L LZ g d dx dd met glue md =
       Goes-blank 𝓛 2 (plain (λ _. B)) no (λ κs x f. tt),
       tt,
     ) (#self inst) fn (code.unfolded 𝓤 H 𝓜 𝓡 wired (X, (Z, tt)) d dx dd) (λ z are.
-    let κs = z.0.0 in let qs = z.0.1 in let t₁ : Item 𝓤 = ‵ (flft κs.0 qs.0) in
-    let t₂ : Item 𝓤 = ‵ (flft κs.1.0 qs.1.0) in let inX = κs.0 ⊑ X.lives in let inZ = κs.1.0 ⊑ Z.lives in
+    let κs = z.0.0 in
+    let qs = z.0.1 in
+    let t₁ : Item 𝓤 = ‵ (flft κs.0 qs.0) in
+    let t₂ : Item 𝓤 = ‵ (flft κs.1.0 qs.1.0) in
+    let inX = κs.0 ⊑ X.lives in
+    let inZ = κs.1.0 ⊑ Z.lives in
     let Post : Val → SProp 𝓤 = (walk_of 𝓛 En hs c).post z in
     let Run : List Val → SProp 𝓤 = λ ws. prog.Wp.WpFn 𝓤 H 𝓣.C 𝓣.Λ fn ws Post in
-    let v : B.Denot = z.0.3.0 in let a : Z.Denot = v.alloc in let x : X.Denot = v.value in
+    let v : B.Denot = z.0.3.0 in
+    let a : Z.Denot = v.alloc in
+    let x : X.Denot = v.value in
     qed 𝓛 (((t₁ ⊛ t₂ ⊛ ‵ ftrue) ⊛ ‵ (fsep (B.own_val v z.0.4.0) ftrue)) ∷ raw (fact 𝓤 inX) ∷ raw (fact 𝓤 inZ) ∷ ‵
     ftrue ∷ []) ∵
     move ! (1 ∷ 2 ∷ []) $ heard ! inX (λ leX. heard ! inZ (λ leZ. split ! $ move ! (1 ∷ []) $ fsplit ! $
     box_out E ! v z.0.4.0 (λ b o hv e ws fa. box_in E ! v b o x e refl $ keep ! (0 ∷ 2 ∷ []) $
-    let w : Val = box.word E hv b o in let typed = box.box_typed E hv b o fa in
+    let w : Val = box.word E hv b o in
+    let typed = box.box_typed E hv b o fa in
     let y : Parts.Ghost = ((κs, qs, tt, (v, tt), (w ∷ [], tt)), tt) in
     suffices ! (Run (w ∷ [])) (subst (λ (us : List Val). ent 𝓤 (Run (w ∷ [])) (Run us)) (sym (λ i. ws i ++ [])) (id⊢
     𝓤 (Run (w ∷ [])))) $
@@ -125,7 +137,8 @@ freeze_spec 𝓤 𝓛 𝓜 𝓡 wired X Z L LZ g d dx dd met glue md =
     x)))))) (id⊢ 𝓤 _) $
     await ! tt $ pick ! (λ r. split ! $ move ! (1 ∷ []) $ pick ! (λ _. split3 ! $ drop ! $ heard ! (r.1 ≡ a) (λ ea.
     in_a_block ! r.0 (λ p. box_owns (token E.al a) R p x) (fst∗ 𝓤 (never 𝓤) (sem 𝓛 (token E.al a (bare (layout X))
-    null_ptr))) (λ b' o' e'. let p : Ptr = block_ptr b' o' in let whole_value : Fml = lies_at R full_share p x in
+    null_ptr))) (λ b' o' e'. let p : Ptr = block_ptr b' o' in
+    let whole_value : Fml = lies_at R full_share p x in
     let laws = lent_at_shr_laws R LR.shr_laws p x in fsplit ! $ move ! (2 ∷ []) $ split ! $ split ! $
     move ! (3 ∷ 0 ∷ []) $
     use2 𝓛 (later (‵ (fex ℕ (Frozen (lent_at R p x) laws 𝓛 whole_value)) ⊛ t₁)) (freezes (lent_at R p x) laws 𝓛
@@ -133,7 +146,8 @@ freeze_spec 𝓤 𝓛 𝓜 𝓡 wired X Z L LZ g d dx dd met glue md =
     await ! tt $ split ! $ fpick ! (λ n. fsplit ! $ move ! (2 ∷ 3 ∷ []) $ join ! $ move ! (3 ∷ []) $
     fpick ! (λ vss. fsplit ! $ feq_l ! (λ eu. fsplit ! $ feq_l ! (λ ep. fsplit ! $
     rewrite ! 0 (λ (s : Z.Denot). ‵ (Z.own_val s vss.1.0)) ea refl $ handle_tells E.al ! a vss.1.0 (λ hw eh fw.
-    let w' : Val = box.word E hw b' o' in let typed' = box.box_typed E hw b' o' fw in
+    let w' : Val = box.word E hw b' o' in
+    let typed' = box.box_typed E hw b' o' fw in
     let out : Val = vstruct (vcons w' (vcons (word p) vnil)) in
     let right : Dd.Denot = record { ptr = p; alloc = a; value = x; lifetime = n } in
     let all : Row.Denot = record { ptr = p; value = x; lifetime = n; count = 2 ^ 63 } in

@@ -82,14 +82,19 @@ use Rattle.epoch_lend.proofs.part.thaw.Code as code
 
 pub thaw_spec : {M : Type 1} → statement M
 thaw_spec 𝓤 𝓛 𝓜 𝓡 wired X Z L LZ g d dd met md =
-    let H = 𝓛.H in let 𝓣 = tables 𝓤 H 𝓜 𝓡 𝓡.env in
+    let H = 𝓛.H in
+    let 𝓣 = tables 𝓤 H 𝓜 𝓡 𝓡.env in
     let E : box.Bx = record { row = X; laws = L; al = record { row = Z; laws = LZ; g = g; d = d; drops = dd } } in
-    let R : RattleType = box.R E in let P : RattleType = box.P E in let B : RattleType = box.B E in
-    let Row : RattleType = part.the_row R in let Dd : RattleType = deed.the_row R P g in
+    let R : RattleType = box.R E in
+    let P : RattleType = box.P E in
+    let B : RattleType = box.B E in
+    let Row : RattleType = part.the_row R in
+    let Dd : RattleType = deed.the_row R P g in
     let LR = param_laws 0 X L in
     let En = ended X Z g d dd in
     let inst = bounded (a_type ∷ a_type ∷ []) (X, (Z, tt)) (dcons d (dcons dd dnil)) in
-    let fn = inst_fn inst code.function in let c = clauses X Z g d dd 𝓛 𝓜.mem 𝓡.returns in
+    let fn = inst_fn inst code.function in
+    let c = clauses X Z g d dd 𝓛 𝓜.mem 𝓡.returns in
     let Made = triple_of 𝓛 (callee.signature X Z g d dd) (callee.spec X Z g d dd 𝓛 𝓜.mem 𝓡.returns) in
     let Ce = callee.ended X Z g d dd in
     let known = callee_met.met 𝓤 𝓛 𝓜 𝓡 (code.calls-std_alloc::boxed::Box::from_raw 𝓡.env wired) X Z L LZ g d dd met
@@ -105,14 +110,24 @@ thaw_spec 𝓤 𝓛 𝓜 𝓡 wired X Z L LZ g d dd met md =
         tt,
       ),
     ) (#self inst) fn (code.unfolded 𝓤 H 𝓜 𝓡 wired (X, (Z, tt)) d dd) (λ z are.
-    let κs = z.0.0 in let qs = z.0.1 in let t₁ : Item 𝓤 = ‵ (flft κs.0 qs.0) in
-    let t₂ : Item 𝓤 = ‵ (flft κs.1.0 qs.1.0) in let inX = κs.0 ⊑ X.lives in let inZ = κs.1.0 ⊑ Z.lives in
+    let κs = z.0.0 in
+    let qs = z.0.1 in
+    let t₁ : Item 𝓤 = ‵ (flft κs.0 qs.0) in
+    let t₂ : Item 𝓤 = ‵ (flft κs.1.0 qs.1.0) in
+    let inX = κs.0 ⊑ X.lives in
+    let inZ = κs.1.0 ⊑ Z.lives in
     let Post : Val → SProp 𝓤 = (walk_of 𝓛 En hs c).post z in
     let Run : List Val → SProp 𝓤 = λ ws. prog.Wp.WpFn 𝓤 H 𝓣.C 𝓣.Λ fn ws Post in
-    let v : Dd.Denot = z.0.3.0 in let all : Row.Denot = z.0.3.1.0 in let a : Z.Denot = v.alloc in
-    let x : X.Denot = v.value in let p : Ptr = v.ptr in let n : ℕ = v.lifetime in
-    let Asked : Type 0 = (all.lifetime ≡ n) × (all.count ≡ 2 ^ 63) in let b : ℕ = block_of p in
-    let o : ℕ = count_of p in let whole_value : Fml = lies_at R full_share p x in
+    let v : Dd.Denot = z.0.3.0 in
+    let all : Row.Denot = z.0.3.1.0 in
+    let a : Z.Denot = v.alloc in
+    let x : X.Denot = v.value in
+    let p : Ptr = v.ptr in
+    let n : ℕ = v.lifetime in
+    let Asked : Type 0 = (all.lifetime ≡ n) × (all.count ≡ 2 ^ 63) in
+    let b : ℕ = block_of p in
+    let o : ℕ = count_of p in
+    let whole_value : Fml = lies_at R full_share p x in
     qed 𝓛 (((t₁ ⊛ t₂ ⊛ ‵ ftrue) ⊛ ‵ (fsep (Dd.own_val v z.0.4.0) (fsep (Row.own_val all z.0.4.1.0) ftrue))) ∷ raw
     (fact 𝓤 inX) ∷ raw (fact 𝓤 inZ) ∷ raw (fact 𝓤 Asked) ∷ []) ∵
     move ! (1 ∷ 2 ∷ 3 ∷ []) $ heard ! inX (λ leX. heard ! inZ (λ leZ. heard ! Asked (λ asked. split ! $
@@ -127,10 +142,13 @@ thaw_spec 𝓤 𝓛 𝓜 𝓡 wired X Z L LZ g d dd met md =
     -- [the lender's right; the right to free; the handle; nothing; the parts; what they show; nothing; the tokens]
     move ! (0 ∷ 4 ∷ []) $ use2 𝓛 (later (‵ whole_value)) (thaws (lent_at R p x) (lent_at_shr_laws R LR.shr_laws p x)
     𝓛 whole_value n) $
-    let at : p ≡ block_ptr b o = at_block p inside in let w : Val = box.word E hv b o in
-    let typed = box.box_typed E hv b o fa in let us : List Val = w ∷ word all.ptr ∷ [] in
+    let at : p ≡ block_ptr b o = at_block p inside in
+    let w : Val = box.word E hv b o in
+    let typed = box.box_typed E hv b o fa in
+    let us : List Val = w ∷ word all.ptr ∷ [] in
     let ew : z.0.4.0 ≡ w ∷ [] = ev ∙ (λ j. vstruct (of_list ((ep ∙ ap (λ (π : Ptr). ptr_val π ∷ []) at) j ++ (eh j ++
-    []))) ∷ []) in let eall : z.0.4.1.0 ≡ word all.ptr ∷ [] = told R all.ptr z.0.4.1.0 are.1.0.0 in
+    []))) ∷ []) in
+    let eall : z.0.4.1.0 ≡ word all.ptr ∷ [] = told R all.ptr z.0.4.1.0 are.1.0.0 in
     let y : Made.Ghost = ((κs, qs, tt, (a, (p, tt)), (hv ∷ [], (vptr b o ∷ [], tt))), x) in
     suffices ! (Run us) (subst (λ (ws : List Val). ent 𝓤 (Run us) (Run ws)) (sym (λ i. ew i ++ (eall i ++ []))) (id⊢
     𝓤 (Run us))) $ keep ! (0 ∷ 1 ∷ 2 ∷ 6 ∷ []) $
@@ -156,7 +174,8 @@ thaw_spec 𝓤 𝓛 𝓜 𝓡 wired X Z L LZ g d dd met md =
     await ! tt $ pick ! (λ r. split ! $ move ! (1 ∷ []) $ pick ! (λ _. split3 ! $ drop ! $ move ! (1 ∷ []) $ drop ! $
     heard ! (r.value ≡ x) (λ same. split ! $ move ! (1 ∷ []) $
     box_out E ! r (u ∷ []) (λ b' o' hw e' eu fw. box_in E ! r b' o' r.value e' refl $
-    let w' : Val = box.word E hw b' o' in let typed' = box.box_typed E hw b' o' fw in
+    let w' : Val = box.word E hw b' o' in
+    let typed' = box.box_typed E hw b' o' fw in
     let is_word : u ≡ w' = ap only eu in
     lands_last ! refl (subst (λ (s : Val). T (has_ty (box.box_ty E) s) × WT s) (sym is_word) typed') $
     exec ! 𝓣.C 𝓣.Λ Ev (tail (tail (tail fn.body))) (at_ret Ev Post) $

@@ -36,9 +36,13 @@ use Rattle.epoch_lend.proofs.lending.Glance.get.Code as code
 
 pub get_spec : {M : Type 1} → statement M
 get_spec 𝓤 𝓛 𝓜 𝓡 wired X L =
-    let H = 𝓛.H in let 𝓣 = tables 𝓤 H 𝓜 𝓡 𝓡.env in let R : RattleType = param 0 X in let En = ended X in
+    let H = 𝓛.H in
+    let 𝓣 = tables 𝓤 H 𝓜 𝓡 𝓡.env in
+    let R : RattleType = param 0 X in
+    let En = ended X in
     let c = clauses X 𝓛 𝓜.mem 𝓡.returns in
-    let inst = layouts (a_type ∷ []) (X, tt) in let fn = inst_fn inst code.function in
+    let inst = layouts (a_type ∷ []) (X, tt) in
+    let fn = inst_fn inst code.function in
     let closed = code.unfolded 𝓤 H 𝓜 𝓡 wired (X, tt) in
     let self = plain (λ κs. glance.the_row (named_lft 2 0 tt κs) R) in
     let hs : Stays En.signature.params En.kept = (stay_dropped self no, tt) in
@@ -47,8 +51,11 @@ get_spec 𝓤 𝓛 𝓜 𝓡 wired X L =
       (λ x vs so. hand_told (named_lft 2 0 tt κs) R x.at vs so.0),
       tt,
     )) (λ κs qs bounds a gh are.
-    let Hr : RattleType = glance.the_row (named_lft 2 0 tt κs) R in let h : Hr.Denot = a.0 in
-    let p : Ptr = h.at in let x : X.Denot = h.value in let κ : Lft = κs.0 in
+    let Hr : RattleType = glance.the_row (named_lft 2 0 tt κs) R in
+    let h : Hr.Denot = a.0 in
+    let p : Ptr = h.at in
+    let x : X.Denot = h.value in
+    let κ : Lft = κs.0 in
     let there : Val = vptr (block_of p) (count_of p) in
     let y : (walk_of 𝓛 En hs c).Ghost = ((κs, qs, bounds, a, (hand_of p ∷ [], tt)), gh) in
     let Post : Val → SProp 𝓤 = (walk_of 𝓛 En hs c).post y in

@@ -105,7 +105,8 @@ module _ (R : RattleType) {M : Type 1} {𝓤 : Ura M} (𝓛 : Logic 𝓤) (d : S
     unfolding part_of
     back n = qed 𝓛 (‵ (Fields n) ∷ ‵ (Due n) ∷ []) ∵ fpick ! (λ vs. fsplit ! $ move ! (1 ∷ 2 ∷ []) $ fjoin ! $
         fpack ! ℕ (λ m. fsep (Data.own_val (m, (tt, tt)) vs) (Due m)) n $ move ! (1 ∷ 0 ∷ []) $ fjoin ! $
-        fpack ! (List Val) (λ us. fsep (cell_at full_share Data.mir us b o) ((C.the_written R).own_val d us)) vs $ done !)
+        fpack ! (List Val) (λ us. fsep (cell_at full_share Data.mir us b o) ((C.the_written R).own_val d us)) vs $
+        done !)
 
     way_back : ent 𝓤 (sep 𝓤 ⟦ Mark ⟧ (PartsBack 𝓛 full_share [] ks b o)) ⟦ fwand (fsep (fdead κ) (fseps (I ∷ [])))
         (fupd P) ⟧

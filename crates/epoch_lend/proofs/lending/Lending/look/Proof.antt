@@ -65,7 +65,7 @@ use Rattle.core.proofs.atomic.Steps.{tail}
 use Rattle.core.specs.contracts.marker.PhantomData as marker
 use Rattle.atomic_table.proofs.Walks.{proved, leaves}
 use Rattle.atomic_table.proofs.Calls.{fm, seq_cst, found, finds, loads}
-use Rattle.epoch_lend.specs.Posts.{guard_shares, IsOneOf}
+use Rattle.epoch_lend.specs.Posts.{guard_shares, IsAmong}
 use Rattle.epoch_lend.specs.Loans.{Shown, glance_owns, pocket}
 use Rattle.epoch_lend.specs.contracts.lending.Lending as lending_is
 use Rattle.epoch_lend.specs.contracts.lending.Glance as glance
@@ -80,13 +80,20 @@ use Rattle.epoch_lend.proofs.lending.Lending.look.Code as code
 
 pub look_spec : {M : Type 1} → statement M
 look_spec 𝓤 𝓛 𝓜 𝓡 wired X L =
-    let H = 𝓛.H in let 𝓣 = tables 𝓤 H 𝓜 𝓡 𝓡.env in let R : RattleType = param 0 X in let En = ended X in
+    let H = 𝓛.H in
+    let 𝓣 = tables 𝓤 H 𝓜 𝓡 𝓡.env in
+    let R : RattleType = param 0 X in
+    let En = ended X in
     let c = clauses X 𝓛 𝓜.mem 𝓡.returns in
-    let inst = layouts (a_type ∷ []) (X, tt) in let fn = inst_fn inst code.function in
-    let closed = code.unfolded 𝓤 H 𝓜 𝓡 wired (X, tt) in let Row : RattleType = lending_is.the_row R in
-    let Pr : RattleType = lent_guard.the_row in let LR = param_laws 0 X L in
+    let inst = layouts (a_type ∷ []) (X, tt) in
+    let fn = inst_fn inst code.function in
+    let closed = code.unfolded 𝓤 H 𝓜 𝓡 wired (X, tt) in
+    let Row : RattleType = lending_is.the_row R in
+    let Pr : RattleType = lent_guard.the_row in
+    let LR = param_laws 0 X L in
     let self = RefOf (0 ∷ []) tt (plain (λ _. Row)) (λ _. tt) in
-    let guard = RefOf (1 ∷ []) tt (plain (λ _. Pr)) (λ _. tt) in let ptr = plain (λ _. RawPtr) in
+    let guard = RefOf (1 ∷ []) tt (plain (λ _. Pr)) (λ _. tt) in
+    let ptr = plain (λ _. RawPtr) in
     let hs : Stays En.signature.params En.kept = (
       stay_dropped self yes,
       (
@@ -105,13 +112,23 @@ look_spec 𝓤 𝓛 𝓜 𝓡 wired X L =
       shr_Tells (named 0) κs.0 Row,
       (shr_Tells (named 1) κs.1.0 Pr, (rawptr_Tells, tt)),
     )) (λ κs qs bounds a gh are.
-    let b : ℕ = a.0.ref_ptr.0 in let o : ℕ = a.0.ref_ptr.1 in let pb : ℕ = a.1.0.ref_ptr.0 in
-    let po : ℕ = a.1.0.ref_ptr.1 in let κ : Lft = κs.0 in let q : Share = qs.0 in let κg : Lft = κs.1.0 in
+    let b : ℕ = a.0.ref_ptr.0 in
+    let o : ℕ = a.0.ref_ptr.1 in
+    let pb : ℕ = a.1.0.ref_ptr.0 in
+    let po : ℕ = a.1.0.ref_ptr.1 in
+    let κ : Lft = κs.0 in
+    let q : Share = qs.0 in
+    let κg : Lft = κs.1.0 in
     let qg : Share = qs.1.0 in
-    let d : Shown X.Denot = a.0.now in let g : Pr.Denot = a.1.0.now in let γ : ℕ = g.atom in
-    let e : ℕ = g.epoch in let η : ℕ = g.log in let p : Ptr = a.1.1.0 in
+    let d : Shown X.Denot = a.0.now in
+    let g : Pr.Denot = a.1.0.now in
+    let γ : ℕ = g.atom in
+    let e : ℕ = g.epoch in
+    let η : ℕ = g.log in
+    let p : Ptr = a.1.1.0 in
     let others : Fml = fsep (flft κs.1.1.0 qs.1.1.0) ftrue in
-    let ℓ = named_lft 3 1 tt κs in let Hr : RattleType = glance.the_row ℓ R in
+    let ℓ = named_lft 3 1 tt κs in
+    let Hr : RattleType = glance.the_row ℓ R in
     let us : List Val = vptr b o ∷ vptr pb po ∷ ptr_val p ∷ [] in
     let y : (walk_of 𝓛 En hs c).Ghost = (
       (
@@ -131,10 +148,11 @@ look_spec 𝓤 𝓛 𝓜 𝓡 wired X L =
         ),
       ),
       gh,
-    ) in let Post : Val → SProp 𝓤 = (walk_of 𝓛 En hs c).post y in
+    ) in
+    let Post : Val → SProp 𝓤 = (walk_of 𝓛 En hs c).post y in
     qed 𝓛 (((‵ (flft κ q) ⊛ ‵ (flft κg qg) ⊛ ‵ others) ⊛ ‵ (owns (types_at En.signature.params κs) a y.0.4)) ∷ raw
-    (fact 𝓤 _) ∷ raw (fact 𝓤 ((p ≡ d.at) × IsOneOf η d.posts)) ∷ []) ∵
-    keep ! (2 ∷ 0 ∷ []) $ heard ! ((p ≡ d.at) × IsOneOf η d.posts) (λ asks. let asked = asks.0 in split ! $
+    (fact 𝓤 _) ∷ raw (fact 𝓤 ((p ≡ d.at) × IsAmong η d.posts)) ∷ []) ∵
+    keep ! (2 ∷ 0 ∷ []) $ heard ! ((p ≡ d.at) × IsAmong η d.posts) (λ asks. let asked = asks.0 in split ! $
     split3 ! $ move ! (3 ∷ []) $ fsplit ! $ fsplit ! $ keep ! (2 ∷ 1 ∷ 3 ∷ 4 ∷ 5 ∷ []) $ fsplit ! $ fsplit ! $
     keep ! (1 ∷ 3 ∷ 4 ∷ 5 ∷ 6 ∷ []) $
     -- [the guard; the word; κ; κg; the others]

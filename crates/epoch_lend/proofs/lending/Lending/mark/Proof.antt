@@ -74,12 +74,18 @@ use Rattle.epoch_lend.proofs.lending.Lending.mark.Code as code
 
 pub mark_spec : {M : Type 1} → statement M
 mark_spec 𝓤 𝓛 𝓜 𝓡 wired X L =
-    let H = 𝓛.H in let 𝓣 = tables 𝓤 H 𝓜 𝓡 𝓡.env in let R : RattleType = param 0 X in let En = ended X in
+    let H = 𝓛.H in
+    let 𝓣 = tables 𝓤 H 𝓜 𝓡 𝓡.env in
+    let R : RattleType = param 0 X in
+    let En = ended X in
     let c = clauses X 𝓛 𝓜.mem 𝓡.returns in
-    let inst = layouts (a_type ∷ []) (X, tt) in let fn = inst_fn inst code.function in
-    let closed = code.unfolded 𝓤 H 𝓜 𝓡 wired (X, tt) in let Row : RattleType = lending_is.the_row R in
+    let inst = layouts (a_type ∷ []) (X, tt) in
+    let fn = inst_fn inst code.function in
+    let closed = code.unfolded 𝓤 H 𝓜 𝓡 wired (X, tt) in
+    let Row : RattleType = lending_is.the_row R in
     let LR = param_laws 0 X L in
-    let self = RefOf (0 ∷ []) tt (plain (λ _. Row)) (λ _. tt) in let ptr = plain (λ _. RawPtr) in
+    let self = RefOf (0 ∷ []) tt (plain (λ _. Row)) (λ _. tt) in
+    let ptr = plain (λ _. RawPtr) in
     let hs : Stays En.signature.params En.kept = (stay_dropped self yes, (stay_dropped ptr yes, tt)) in
     proved 𝓛 En hs c 𝓜 𝓡 (
       Goes-dropped 𝓛 2 self yes (λ κs x f. refl),
@@ -95,9 +101,15 @@ mark_spec 𝓤 𝓛 𝓜 𝓡 wired X L =
         tt,
       ),
     )) (λ κs qs bounds a gh are.
-    let b : ℕ = a.0.ref_ptr.0 in let o : ℕ = a.0.ref_ptr.1 in let κ : Lft = κs.0 in let q : Share = qs.0 in
-    let d : Shown X.Denot = a.0.now in let p : Ptr = a.1.0 in let others : Fml = fsep (flft κs.1.0 qs.1.0) ftrue in
-    let Hr : RattleType = marked.the_row R in let us : List Val = vptr b o ∷ ptr_val p ∷ [] in
+    let b : ℕ = a.0.ref_ptr.0 in
+    let o : ℕ = a.0.ref_ptr.1 in
+    let κ : Lft = κs.0 in
+    let q : Share = qs.0 in
+    let d : Shown X.Denot = a.0.now in
+    let p : Ptr = a.1.0 in
+    let others : Fml = fsep (flft κs.1.0 qs.1.0) ftrue in
+    let Hr : RattleType = marked.the_row R in
+    let us : List Val = vptr b o ∷ ptr_val p ∷ [] in
     let y : (walk_of 𝓛 En hs c).Ghost = ((κs, qs, bounds, a, (vptr b o ∷ [], (ptr_val p ∷ [], tt))), gh) in
     let Post : Val → SProp 𝓤 = (walk_of 𝓛 En hs c).post y in
     qed 𝓛 (((‵ (flft κ q) ⊛ ‵ others) ⊛ ‵ (owns (types_at En.signature.params κs) a y.0.4)) ∷ raw (fact 𝓤 _) ∷ raw
@@ -109,7 +121,8 @@ mark_spec 𝓤 𝓛 𝓜 𝓡 wired X L =
     unhide ! $ fpick ! (λ α. fsplit ! $ move ! (0 ∷ 2 ∷ []) $
     use2 𝓛 (later (some (λ (s : Share). ‵ (flft α s) ⊛ raw (wand 𝓤 (𝓛.A.lft α s) (H.⇛ (𝓛.A.lft κ q))))))
     (Lends-one 𝓛 𝓜 𝓡 κ α q) $ await ! tt $ pick ! (λ s. split ! $
-    let W : ℕ → Fml = while_present R d in let after : ℕ → Fml = λ n. fsep (flft α s) (W n) in first ! $ blocks ! $
+    let W : ℕ → Fml = while_present R d in
+    let after : ℕ → Fml = λ n. fsep (flft α s) (W n) in first ! $ blocks ! $
     sets ! (addr ! (through ! refl (fld ! refl (stop !)))) refl (tt, tt) $ nothing ! $ move ! (3 ∷ 1 ∷ 0 ∷ []) $
     use3 𝓛 (raw (𝓣.C _ (vptr b (o + 0) ∷ vint w64 1 ∷ vint w64 2 ∷ []) (λ u. mean 𝓛 (found after u))))
     (via 𝓤 _ (steps.takes_out 𝓛 R d LR.shr_laws α s b o) (exchanges 𝓛 𝓜 𝓡 (code.calls-atomic_table::exchange 𝓡.env
@@ -134,7 +147,8 @@ mark_spec 𝓤 𝓛 𝓜 𝓡 wired X L =
       seen = [];
       loans =
           t.1;
-    } in let v : Val = pair_of n (word p) in
+    } in
+    let v : Val = pair_of n (word p) in
     let Told : Type 0 = (n ≡ 1 → t.0 ≡ 1) × (n ≢ 1
     → t.0 ≡ 0) × (d.value ≡ d.value) × (d.lifetime ≡ d.lifetime) × (h.seen ≡ []) × Within d.posts t.1 in
     use0 𝓛 (‵ ((Found R).own_val (p, tt) (word p ∷ []))) (found_made R 𝓛 p) $ fjoin ! $ nothing ! $

@@ -1,7 +1,7 @@
 -- `new` has all of the value's token in the word's keeping.
 use Rattle.std.proofs.Common.{length, ◌≡◌, ℕ, ◌^◌, List, [], ◌∷◌, ◌++◌, refl, lit<, w64}
 use mir.Syntax.{a_type, named}
-use mir.Val.{Val, vint, vptr, vstruct, vcons, vnil, of_list}
+use mir.Val.{Val, vint, vstruct, vcons, vnil, of_list}
 use mir.MapTy.{inst_fn}
 use base.Fraction.{full_share}
 use base.Logic.{SProp, emp}
@@ -43,7 +43,6 @@ use denote.Param.{param, layouts}
 use denote.Slice.{slice_val, shr_slice_vals, shr_slice_Tells}
 use Rattle.epoch_lend.specs.Posts.{logs_of}
 use denote.Builtin.{SliceRefOf}
-use denote.Ref.{shr_vals, shr_Tells}
 use denote.Triple.Entry.{alive}
 use denote.Triple.Walked.{Stays, stay_dropped, walk_of, Goes-dropped}
 use Rattle.atomic_table.proofs.Walks.{proved, leaves}
@@ -70,16 +69,22 @@ use Rattle.epoch_lend.proofs.lending.Lending.new.Code as code
 
 pub new_spec : {M : Type 1} → statement M
 new_spec 𝓤 𝓛 𝓜 𝓡 wired X L =
-    let H = 𝓛.H in let 𝓣 = tables 𝓤 H 𝓜 𝓡 𝓡.env in let R : RattleType = param 0 X in let En = ended X in
+    let H = 𝓛.H in
+    let 𝓣 = tables 𝓤 H 𝓜 𝓡 𝓡.env in
+    let R : RattleType = param 0 X in
+    let En = ended X in
     let c = clauses X 𝓛 𝓜.mem 𝓡.returns in
-    let inst = layouts (a_type ∷ []) (X, tt) in let fn = inst_fn inst code.function in
+    let inst = layouts (a_type ∷ []) (X, tt) in
+    let fn = inst_fn inst code.function in
     let closed = code.unfolded 𝓤 H 𝓜 𝓡 wired (X, tt) in
-    let Pr : RattleType = part.the_row R in let Sr : RattleType = post_is.the_row in
+    let Pr : RattleType = part.the_row R in
+    let Sr : RattleType = post_is.the_row in
     let shown_post = SliceRefOf (0 ∷ []) tt (plain (λ _. Sr)) (λ _. tt) in
     let hs : Stays En.signature.params En.kept = (
       stay_dropped (plain (λ _. Pr)) no,
       (stay_dropped shown_post yes, tt),
-    ) in let F : RattleType = inside.the_row R in
+    ) in
+    let F : RattleType = inside.the_row R in
     let pv : Val = vstruct (vcons (vint w64 1) (vcons (vstruct vnil) vnil)) in
     let Has : ℕ → Fml = λ k. F.own_val (record { word = k; marker = record {} }) (pv ∷ []) in
     let Laid : Type 0 = Typed F.mir (pv ∷ []) in
@@ -91,10 +96,13 @@ new_spec 𝓤 𝓛 𝓜 𝓡 wired X L =
       (λ x vs so. told R x.ptr vs so.0),
       (shr_slice_Tells (named 0) κs.0 Sr, tt),
     )) (λ κs qs bounds a gh are.
-    let u : Pr.Denot = a.0 in let p : Ptr = u.ptr in let n : ℕ = u.lifetime in
+    let u : Pr.Denot = a.0 in
+    let p : Ptr = u.ptr in
+    let n : ℕ = u.lifetime in
     let d : Shown X.Denot = record { at = p; value = u.value; lifetime = n; posts = logs_of a.1.0.now } in
     let Told : Type 0 = (d.posts ≡ logs_of a.1.0.now) × (p ≡ p) × (u.value ≡ u.value) × (n ≡ n) in
-    let Lr : RattleType = lending_is.the_row R in let v : Val = begun_of p in
+    let Lr : RattleType = lending_is.the_row R in
+    let v : Val = begun_of p in
     let among : Val = slice_val a.1.0.ref_ptr (length a.1.0.now) in
     let y : (walk_of 𝓛 En hs c).Ghost = ((κs, qs, bounds, a, (word p ∷ [], (among ∷ [], tt))), gh) in
     let Post : Val → SProp 𝓤 = (walk_of 𝓛 En hs c).post y in
@@ -103,7 +111,7 @@ new_spec 𝓤 𝓛 𝓜 𝓡 wired X L =
     keep ! (2 ∷ 0 ∷ []) $ heard ! (u.count ≡ 2 ^ 63) (λ asked. split ! $ move ! (1 ∷ []) $ fsplit ! $ fsplit ! $
     keep ! (1 ∷ 3 ∷ []) $ fsplit ! $
     rewrite ! 0 (λ (k : ℕ). ‵ (tokens n k)) asked refl $ use1 𝓛 (‵ (flft (n ∷ []) full_share)) (tokens_whole 𝓛 n) $
-    nothing ! $ move ! (1 ∷ 0 ∷ []) $ fjoin ! $ nothing ! $ fpack ! (Within d.posts []) (λ _. ftrue) tt $
+    nothing ! $ move ! (1 ∷ 0 ∷ []) $ fjoin ! $ nothing ! $ fpack ! (Within d.posts []) (λ _. ftrue) refl $
     move ! (1 ∷ 2 ∷ 0 ∷ []) $ fjoin3 ! $ fpack ! (List Loan) (held_for R d) [] $
     use1 𝓛 (‵ (while_present R d 1)) (qed 𝓛 (‵ (present R d) ∷ []) ∵ each ! (λ (_ : 1 ≡ 1). sem 𝓛 (present R d)) (λ
     _. done !)) $

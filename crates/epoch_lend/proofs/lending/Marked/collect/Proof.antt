@@ -59,15 +59,23 @@ use Rattle.epoch_lend.proofs.lending.Marked.collect.Code as code
 
 pub collect_spec : {M : Type 1} → statement M
 collect_spec 𝓤 𝓛 𝓜 𝓡 wired X L =
-    let H = 𝓛.H in let 𝓣 = tables 𝓤 H 𝓜 𝓡 𝓡.env in let R : RattleType = param 0 X in let En = ended X in
+    let H = 𝓛.H in
+    let 𝓣 = tables 𝓤 H 𝓜 𝓡 𝓡.env in
+    let R : RattleType = param 0 X in
+    let En = ended X in
     let c = clauses X 𝓛 𝓜.mem 𝓡.returns in
-    let inst = layouts (a_type ∷ []) (X, tt) in let fn = inst_fn inst code.function in
+    let inst = layouts (a_type ∷ []) (X, tt) in
+    let fn = inst_fn inst code.function in
     let closed = code.unfolded 𝓤 H 𝓜 𝓡 wired (X, tt) in
-    let Hr : RattleType = marked.the_row R in let Pr : RattleType = part.the_row R in
+    let Hr : RattleType = marked.the_row R in
+    let Pr : RattleType = part.the_row R in
     let hs : Stays En.signature.params En.kept = (stay_dropped (plain (λ _. Hr)) no, tt) in
     proved 𝓛 En hs c 𝓜 𝓡 (Goes-dropped 𝓛 1 (plain (λ _. Hr)) no (λ κs x f. refl), tt) (#self inst) fn closed
     (λ κs. ((λ x. word x.at ∷ []), tt)) (λ κs. ((λ x vs so. found_told R x.at vs so.0), tt)) (λ κs qs bounds a gh are.
-    let h : Hr.Denot = a.0 in let p : Ptr = h.at in let n : ℕ = h.lifetime in let ls : List Loan = h.loans in
+    let h : Hr.Denot = a.0 in
+    let p : Ptr = h.at in
+    let n : ℕ = h.lifetime in
+    let ls : List Loan = h.loans in
     let Asked : Type 0 = (h.right ≡ 1) × AreShown h.seen ls in
     let r : Pr.Denot = record { ptr = p; value = h.value; lifetime = n; count = 2 ^ 63 } in
     let Told : Type 0 = (h.value ≡ h.value) × (n ≡ n) × (r.count ≡ 2 ^ 63) in

@@ -1,8 +1,8 @@
-use Rattle.std.proofs.Common.{◌≡◌, refl, sym, subst, ◌∙◌, List, ℕ, true}
+use Rattle.std.proofs.Common.{refl, sym, subst, ◌∙◌, List}
 use native.Mathlib.Omega.{arith}
 use Rattle.epoch_lend.specs.Posts.{logs_of}
-use Rattle.epoch_lend.specs.Loans.{Sight, EachSeen, IsSealed, IsPast}
-use Rattle.epoch_lend.proofs.Sights.{each_more, each_also, looked, looked_at_all, later_sealed, all_are_shown}
+use Rattle.epoch_lend.specs.Loans.{SeenPost, EachSeen, is_sealed, is_past}
+use Rattle.epoch_lend.proofs.Sights.{past_test, each_more, looked, looked_at_all, all_are_shown}
 use Rattle.epoch_lend.proofs.lending.Marked.scan.Goals as goal
 
 pub loop-position-init : goal.loop-position-init
@@ -12,7 +12,7 @@ loop-position-init g c = record {
   lifetime = refl;
   loans = refl;
   past = λ _.
-      tt;
+      refl;
   sealed = c.requires.sealed;
 }
 
@@ -21,29 +21,34 @@ look-word-requires g c = c.loop-position.invariant.right
 
 -- the look adds one post, and what was sealed stays so
 pub loop-position-preserved : goal.loop-position-preserved
-loop-position-preserved g c = let kept = c.loop-position.invariant in let same = c.look-word.ensures.same in
-    let found = c.look-word.result.0 in let before = c.loop-position.marked.seen in
+loop-position-preserved g c = let kept = c.loop-position.invariant in
+    let same = c.look-word.ensures.same in
+    let found = c.look-word.result.0 in
+    let before = c.loop-position.marked.seen in
     let log = c.index-posts-position.result.log in record {
       right = same.0;
       value = same.1 ∙ kept.value;
       lifetime = same.2 ∙ kept.lifetime;
       loans = same.3 ∙ kept.loans;
       past = λ clear. let told = c.stays_clear-next.ensures clear in
-          looked (IsPast c.args.seal) c.args.posts.now c.loop-position.position c.index-posts-position.result found
+          looked (is_past c.args.seal) c.args.posts.now c.loop-position.position c.index-posts-position.result found
           before c.look-word.result.1.seen
-          c.loop-position-test.true c.index-posts-position.is told.1 c.look-word.ensures.seen (kept.past told.0);
-      sealed = subst (λ (ss : List Sight). EachSeen (IsSealed c.args.seal) (logs_of c.args.posts.now) ss) (sym
+          c.loop-position-test.true c.index-posts-position.is (past_test c.args.seal found told.1)
+          c.look-word.ensures.seen (kept.past told.0);
+      sealed = subst (λ (ss : List SeenPost). EachSeen (is_sealed c.args.seal) (logs_of c.args.posts.now) ss) (sym
           c.look-word.ensures.seen)
-          (each_more (IsSealed c.args.seal) (logs_of c.args.posts.now) (log, found) before kept.sealed);
+          (each_more (is_sealed c.args.seal) (logs_of c.args.posts.now) (log, found) before kept.sealed);
     }
 
 -- all posts were looked at, before the seal and after it
 pub returns-clause-clear : goal.returns-clause-clear
-returns-clause-clear g c = let kept = c.loop-position.invariant in let seal = c.args.seal in
-    let ds = c.args.posts.now in let marked = c.loop-position.marked in λ clear.
+returns-clause-clear g c = let kept = c.loop-position.invariant in
+    let seal = c.args.seal in
+    let ds = c.args.posts.now in
+    let marked = c.loop-position.marked in λ clear.
     all_are_shown seal (logs_of ds) marked.seen marked.loans (subst (Rattle.epoch_lend.specs.Loans.Within (logs_of
     ds)) (sym kept.loans) c.requires.lent) kept.sealed
-    (looked_at_all (IsPast seal) ds c.loop-position.position marked.seen (omega (
+    (looked_at_all (is_past seal) ds c.loop-position.position marked.seen (omega (
       arith,
       c.loop-position-test.false,
     )) (kept.past clear))

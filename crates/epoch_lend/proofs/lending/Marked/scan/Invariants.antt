@@ -1,6 +1,6 @@
 use Rattle.std.proofs.Common.{◌≡◌, true, take}
 use Rattle.epoch_lend.specs.Posts.{logs_of}
-use Rattle.epoch_lend.specs.Loans.{EachSeen, IsSealed, IsPast}
+use Rattle.epoch_lend.specs.Loans.{EachSeen, is_sealed, is_past}
 use Rattle.epoch_lend.proofs.lending.Marked.scan.Given as goal
 
 abbrev pub invariant-loop-position : goal.invariant-loop-position
@@ -9,6 +9,6 @@ invariant-loop-position g l = record {
   value : l.marked.value ≡ l.fn.self.value;
   lifetime : l.marked.lifetime ≡ l.fn.self.lifetime;
   loans : l.marked.loans ≡ l.fn.self.loans;
-  past : l.clear ≡ true → EachSeen (IsPast l.fn.seal) (logs_of (take l.position l.fn.posts)) l.marked.seen;
-  sealed : EachSeen (IsSealed l.fn.seal) (logs_of l.fn.posts) l.marked.seen;
+  past : l.clear ≡ true → EachSeen (is_past l.fn.seal) (logs_of (take l.position l.fn.posts)) l.marked.seen;
+  sealed : EachSeen (is_sealed l.fn.seal) (logs_of l.fn.posts) l.marked.seen;
 }

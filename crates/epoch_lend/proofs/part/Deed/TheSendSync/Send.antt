@@ -11,6 +11,7 @@ use Rattle.epoch_lend.specs.contracts.part.Deed.{the_row, the_type}
 
 pub send : (T A : RattleType) (g : Ghosts A.Denot) → IsSend T → IsSend A → Frees g g.dealloc_token
     → IsSend (the_row T A g)
-send T A g s sa f = let O = the_type T A g in let ps : IsSend RawPtr = search sendable in
+send T A g s sa f = let O = the_type T A g in
+    let ps : IsSend RawPtr = search sendable in
     owning_send O (ps, (sa, tt)) (λ d. ((λ _. tt), (lies T s d.ptr d.value, f.frees d.alloc (raw (lone T.mir)) d.ptr)))
     (λ k. quiet (to O) (exits_of k (fields O)) ((struct_send (shape O) (ps, (sa, tt))).leaving k))

@@ -58,10 +58,16 @@ use Rattle.epoch_lend.proofs.part.Part.get.Code as code
 
 pub get_spec : {M : Type 1} → statement M
 get_spec 𝓤 𝓛 𝓜 𝓡 wired X L =
-    let H = 𝓛.H in let 𝓣 = tables 𝓤 H 𝓜 𝓡 𝓡.env in let R : RattleType = param 0 X in let En = ended X in
-    let inst = layouts (a_type ∷ []) (X, tt) in let fn = inst_fn inst code.function in
-    let Row : RattleType = part.the_row R in let D : RattleType = Data R in
-    let c = clauses X 𝓛 𝓜.mem 𝓡.returns in let laws = (param_laws 0 X L).shr_laws in
+    let H = 𝓛.H in
+    let 𝓣 = tables 𝓤 H 𝓜 𝓡 𝓡.env in
+    let R : RattleType = param 0 X in
+    let En = ended X in
+    let inst = layouts (a_type ∷ []) (X, tt) in
+    let fn = inst_fn inst code.function in
+    let Row : RattleType = part.the_row R in
+    let D : RattleType = Data R in
+    let c = clauses X 𝓛 𝓜.mem 𝓡.returns in
+    let laws = (param_laws 0 X L).shr_laws in
     let self = RefOf (0 ∷ []) tt (plain (λ _. Row)) (λ _. tt) in
     let hs : Stays En.signature.params En.kept = (stay_dropped self yes, tt) in
     proved 𝓛 En hs c 𝓜 𝓡 (
@@ -69,11 +75,16 @@ get_spec 𝓤 𝓛 𝓜 𝓡 wired X L =
       tt,
     ) (#self inst) fn (code.unfolded 𝓤 H 𝓜 𝓡 wired (X, tt))
     (λ κs. (shr_vals, tt)) (λ κs. (shr_Tells (named 0) κs.0 Row, tt)) (λ κs qs bounds a gh are.
-    let b : ℕ = a.0.ref_ptr.0 in let o : ℕ = a.0.ref_ptr.1 in let κ : Lft = κs.0 in
-    let d : Row.Denot = a.0.now in let p : Ptr = d.ptr in let x : X.Denot = d.value in
+    let b : ℕ = a.0.ref_ptr.0 in
+    let o : ℕ = a.0.ref_ptr.1 in
+    let κ : Lft = κs.0 in
+    let d : Row.Denot = a.0.now in
+    let p : Ptr = d.ptr in
+    let x : X.Denot = d.value in
     let others : Fml = fsep (flft κs.1.0 qs.1.0) ftrue in
     let y : (walk_of 𝓛 En hs c).Ghost = ((κs, qs, bounds, a, (vptr b o ∷ [], tt)), gh) in
-    let Post : Val → SProp 𝓤 = (walk_of 𝓛 En hs c).post y in let there : Val = vptr (block_of p) (count_of p) in
+    let Post : Val → SProp 𝓤 = (walk_of 𝓛 En hs c).post y in
+    let there : Val = vptr (block_of p) (count_of p) in
     qed 𝓛 (((‵ (flft κ qs.0) ⊛ ‵ others) ⊛ ‵ (owns (types_at En.signature.params κs) a y.0.4)) ∷ raw ((c κs
     a).requires gh) ∷ []) ∵
     split ! $ split ! $ move ! (2 ∷ []) $ fsplit ! $ fsplit ! $ keep ! (1 ∷ 3 ∷ 4 ∷ []) $

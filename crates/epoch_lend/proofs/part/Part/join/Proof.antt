@@ -58,10 +58,16 @@ use Rattle.epoch_lend.proofs.part.Part.join.Code as code
 
 pub join_spec : {M : Type 1} → statement M
 join_spec 𝓤 𝓛 𝓜 𝓡 wired X L =
-    let H = 𝓛.H in let 𝓣 = tables 𝓤 H 𝓜 𝓡 𝓡.env in let R : RattleType = param 0 X in let En = ended X in
-    let inst = layouts (a_type ∷ []) (X, tt) in let fn = inst_fn inst code.function in
-    let Row : RattleType = part.the_row R in let D : RattleType = Data R in
-    let c = clauses X 𝓛 𝓜.mem 𝓡.returns in let laws = (param_laws 0 X L).shr_laws in
+    let H = 𝓛.H in
+    let 𝓣 = tables 𝓤 H 𝓜 𝓡 𝓡.env in
+    let R : RattleType = param 0 X in
+    let En = ended X in
+    let inst = layouts (a_type ∷ []) (X, tt) in
+    let fn = inst_fn inst code.function in
+    let Row : RattleType = part.the_row R in
+    let D : RattleType = Data R in
+    let c = clauses X 𝓛 𝓜.mem 𝓡.returns in
+    let laws = (param_laws 0 X L).shr_laws in
     let self = plain (λ _. Row) in
     let hs : Stays En.signature.params En.kept = (stay_ref (0 ∷ []) tt self, (stay_dropped self no, tt)) in
     proved 𝓛 En hs c 𝓜 𝓡 (
@@ -75,10 +81,17 @@ join_spec 𝓤 𝓛 𝓜 𝓡 wired X L =
       mut_Tells (named 0) κs.0 Row,
       ((λ e vs so. told R e.ptr vs so.0), tt),
     )) (λ κs qs bounds a gh are.
-    let b : ℕ = a.0.ref_ptr.0 in let o : ℕ = a.0.ref_ptr.1 in let κ : Lft = κs.0 in
-    let d : Row.Denot = a.0.now in let p : Ptr = d.ptr in let x : X.Denot = d.value in
+    let b : ℕ = a.0.ref_ptr.0 in
+    let o : ℕ = a.0.ref_ptr.1 in
+    let κ : Lft = κs.0 in
+    let d : Row.Denot = a.0.now in
+    let p : Ptr = d.ptr in
+    let x : X.Denot = d.value in
     let others : Fml = fsep (flft κs.1.0 qs.1.0) ftrue in
-    let n : ℕ = d.lifetime in let k : ℕ = d.count in let e : Row.Denot = a.1.0 in let j : ℕ = e.count in
+    let n : ℕ = d.lifetime in
+    let k : ℕ = d.count in
+    let e : Row.Denot = a.1.0 in
+    let j : ℕ = e.count in
     let d' : Row.Denot = record d { count = k + j } in
     let Asked : Type 0 = (e.lifetime ≡ n) × (0 < k) × (k + j ≤ 2 ^ 63) in
     let y : (walk_of 𝓛 En hs c).Ghost = ((κs, qs, bounds, a, (vptr b o ∷ [], (word e.ptr ∷ [], tt))), gh) in

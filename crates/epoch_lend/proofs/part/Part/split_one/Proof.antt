@@ -61,20 +61,35 @@ use Rattle.epoch_lend.proofs.part.Part.split_one.Code as code
 
 pub split_one_spec : {M : Type 1} → statement M
 split_one_spec 𝓤 𝓛 𝓜 𝓡 wired X L =
-    let H = 𝓛.H in let 𝓣 = tables 𝓤 H 𝓜 𝓡 𝓡.env in let R : RattleType = param 0 X in let En = ended X in
-    let inst = layouts (a_type ∷ []) (X, tt) in let fn = inst_fn inst code.function in
-    let Row : RattleType = part.the_row R in let D : RattleType = Data R in
-    let c = clauses X 𝓛 𝓜.mem 𝓡.returns in let laws = (param_laws 0 X L).shr_laws in
-    let self = plain (λ _. Row) in let hs : Stays En.signature.params En.kept = (stay_ref (0 ∷ []) tt self, tt) in
+    let H = 𝓛.H in
+    let 𝓣 = tables 𝓤 H 𝓜 𝓡 𝓡.env in
+    let R : RattleType = param 0 X in
+    let En = ended X in
+    let inst = layouts (a_type ∷ []) (X, tt) in
+    let fn = inst_fn inst code.function in
+    let Row : RattleType = part.the_row R in
+    let D : RattleType = Data R in
+    let c = clauses X 𝓛 𝓜.mem 𝓡.returns in
+    let laws = (param_laws 0 X L).shr_laws in
+    let self = plain (λ _. Row) in
+    let hs : Stays En.signature.params En.kept = (stay_ref (0 ∷ []) tt self, tt) in
     proved 𝓛 En hs c 𝓜 𝓡 (Goes-ref 𝓛 2 0 tt self, tt) (#self inst) fn (code.unfolded 𝓤 H 𝓜 𝓡 wired (X, tt))
     (λ κs. (mut_vals, tt)) (λ κs. (mut_Tells (named 0) κs.0 Row, tt)) (λ κs qs bounds a gh are.
-    let b : ℕ = a.0.ref_ptr.0 in let o : ℕ = a.0.ref_ptr.1 in let κ : Lft = κs.0 in
-    let d : Row.Denot = a.0.now in let p : Ptr = d.ptr in let x : X.Denot = d.value in
+    let b : ℕ = a.0.ref_ptr.0 in
+    let o : ℕ = a.0.ref_ptr.1 in
+    let κ : Lft = κs.0 in
+    let d : Row.Denot = a.0.now in
+    let p : Ptr = d.ptr in
+    let x : X.Denot = d.value in
     let others : Fml = fsep (flft κs.1.0 qs.1.0) ftrue in
-    let n : ℕ = d.lifetime in let k : ℕ = d.count in let seen : Fml = lent_at R p x (n ∷ []) in
-    let d' : Row.Denot = record d { count = k - 1 } in let new : Row.Denot = record d { count = 1 } in
+    let n : ℕ = d.lifetime in
+    let k : ℕ = d.count in
+    let seen : Fml = lent_at R p x (n ∷ []) in
+    let d' : Row.Denot = record d { count = k - 1 } in
+    let new : Row.Denot = record d { count = 1 } in
     let y : (walk_of 𝓛 En hs c).Ghost = ((κs, qs, bounds, a, (vptr b o ∷ [], tt)), gh) in
-    let Post : Val → SProp 𝓤 = (walk_of 𝓛 En hs c).post y in let Told : Type 0 = (d' ≡ d') × (new ≡ new) in
+    let Post : Val → SProp 𝓤 = (walk_of 𝓛 En hs c).post y in
+    let Told : Type 0 = (d' ≡ d') × (new ≡ new) in
     qed 𝓛 (((‵ (flft κ qs.0) ⊛ ‵ others) ⊛ ‵ (owns (types_at En.signature.params κs) a y.0.4)) ∷ raw (fact 𝓤 _) ∷ raw
     (fact 𝓤 ((1 < k) × (k ≤ 2 ^ 63))) ∷ []) ∵
     keep ! (2 ∷ 0 ∷ []) $ heard ! ((1 < k) × (k ≤ 2 ^ 63)) (λ asked. let many = asked.0 in split ! $ split ! $

@@ -1,6 +1,6 @@
 use denote.Param.Send.{IsSend}
 use Rattle.epoch_lend.specs.contracts.post.Guard.{the_row}
-use Rattle.epoch_lend.proofs.Keyless.{registered_keyless}
+use Rattle.epoch_lend.proofs.Keyless.{entered_keyless}
 
 pub send : IsSend the_row
 send = record {
@@ -8,7 +8,7 @@ send = record {
     (λ vss. (tt, ((λ uss. (tt, tt)), tt))),
     (
       (λ e. (λ c. tt)),
-      registered_keyless (d.atom, d.epoch) d.log,
+      entered_keyless (d.atom, d.epoch) d.log,
     ),
   );
   leaving = λ k f vs. tt;

@@ -1,52 +1,22 @@
 -- `join` puts the other guard's parts of the pin's lifetime beside this one's.
 use Rattle.std.proofs.Common.{◌≡◌, ℕ, ◌+◌, ◌^◌, ◌<◌, ◌≤◌, List, [], ◌∷◌, refl, arith}
-use mir.Syntax.{a_type, named}
+use mir.Syntax.{named}
 use mir.Val.{Val, vunit, vptr}
-use mir.MapTy.{inst_fn}
-use base.Logic.{SProp, emp, guard_i}
-use base.Fml.{Lft, Fml, ftrue, fsep, flft}
-use types.Logic.{sem}
-use types.Kit.{
-  ‵,
-  raw,
-  ◌⊛◌,
-  given,
-  ◌$◌,
-  ◌∵◌,
-  !,
-  qed,
-  by,
-  move,
-  keep,
-  drop,
-  split,
-  join,
-  fsplit,
-  fsplit3,
-  fjoin,
-  fjoin3,
-  learn,
-  use0,
-  use1,
-  use2,
-  rewrite,
-  feq_i,
-}
+use base.Logic.{SProp, emp}
+use base.Fml.{Lft, ftrue, flft}
+use types.Kit.{‵, raw, ◌⊛◌, ◌$◌, ◌∵◌, !, qed, by, move, keep, drop, split, join, fsplit, fsplit3, fjoin, fjoin3, use0}
+use types.Kit.{use2, rewrite, feq_i}
 use types.Run.{unit_lit, of_opd, returns, enter}
 use types.ByLocal.{alloc_all, pass_all, free_all, look_at, sets}
 use contract.Running.{tables}
-use contract.Monad.{fact, fact_i, fact_use}
+use contract.Monad.{fact, fact_i}
 use denote.Exit.{yes}
 use denote.RattleType.{RattleType, owns}
 use denote.Signature.{types_at, plain}
-use denote.RawPtr.{Ptr, InBlock}
 use denote.Steps.{nothing, heard, opens, closes}
-use denote.Param.{param, layouts}
-use denote.Param.Laws.{param_laws}
 use denote.Ref.{mut_vals, mut_Tells}
 use denote.Triple.Walked.{Stays, stay_dropped, stay_ref, walk_of, Goes-dropped, Goes-ref}
 use Rattle.atomic_table.proofs.Walks.{proved, leaves}
-use Rattle.atomic_table.proofs.Fields.{strip_good}
 use Rattle.epoch_lend.specs.Parted.{tokens}
 use Rattle.epoch_lend.specs.contracts.post.Guard as guard
 use Rattle.epoch_lend.proofs.Fields.{token, token_told}
@@ -58,8 +28,12 @@ use Rattle.epoch_lend.proofs.post.Guard.join.Code as code
 
 pub join_spec : {M : Type 1} → statement M
 join_spec 𝓤 𝓛 𝓜 𝓡 wired =
-    let H = 𝓛.H in let 𝓣 = tables 𝓤 H 𝓜 𝓡 𝓡.env in let En = ended in let fn = code.function in
-    let Row : RattleType = guard.the_row in let c = clauses 𝓛 𝓜.mem 𝓡.returns in
+    let H = 𝓛.H in
+    let 𝓣 = tables 𝓤 H 𝓜 𝓡 𝓡.env in
+    let En = ended in
+    let fn = code.function in
+    let Row : RattleType = guard.the_row in
+    let c = clauses 𝓛 𝓜.mem 𝓡.returns in
     let self = plain (λ _. Row) in
     let hs : Stays En.signature.params En.kept = (stay_ref (0 ∷ []) tt self, (stay_dropped self yes, tt)) in
     proved 𝓛 En hs c 𝓜 𝓡 (
@@ -73,10 +47,16 @@ join_spec 𝓤 𝓛 𝓜 𝓡 wired =
       mut_Tells (named 0) κs.0 Row,
       ((λ e vs so. token_told vs so.0), tt),
     )) (λ κs qs bounds a gh are.
-    let b : ℕ = a.0.ref_ptr.0 in let o : ℕ = a.0.ref_ptr.1 in let κ : Lft = κs.0 in
-    let d : Row.Denot = a.0.now in let n : ℕ = d.atom in let k : ℕ = d.count in let e : Row.Denot = a.1.0 in
+    let b : ℕ = a.0.ref_ptr.0 in
+    let o : ℕ = a.0.ref_ptr.1 in
+    let κ : Lft = κs.0 in
+    let d : Row.Denot = a.0.now in
+    let n : ℕ = d.atom in
+    let k : ℕ = d.count in
+    let e : Row.Denot = a.1.0 in
     let j : ℕ = e.count in
-    let d' : Row.Denot = record d { count = k + j } in let Asked : Type 0 = (e.atom ≡ n) × (0 < k) × (k + j ≤ 2 ^ 63) in
+    let d' : Row.Denot = record d { count = k + j } in
+    let Asked : Type 0 = (e.atom ≡ n) × (0 < k) × (k + j ≤ 2 ^ 63) in
     let y : (walk_of 𝓛 En hs c).Ghost = ((κs, qs, bounds, a, (vptr b o ∷ [], (token ∷ [], tt))), gh) in
     let Post : Val → SProp 𝓤 = (walk_of 𝓛 En hs c).post y in
     qed 𝓛 (((‵ (flft κ qs.0) ⊛ ‵ ftrue) ⊛ ‵ (owns (types_at En.signature.params κs) a y.0.4)) ∷ raw (fact 𝓤 Asked) ∷

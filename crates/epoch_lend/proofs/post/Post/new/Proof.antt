@@ -44,7 +44,7 @@ use base.Growing.{latest}
 use base.Stored.{gnum}
 use denote.Laws.{Typed}
 use denote.Shadow.{makes_shadow}
-use Rattle.epoch_lend.specs.Posts.{PostNames, Entry, logs, idle, idle_log, Phase, phase, at_post}
+use Rattle.epoch_lend.specs.Posts.{PostNames, Entry, logs, idle, idle_log, PostStage, at_stage, at_post}
 use Rattle.epoch_lend.specs.contracts.post.Post as post_is
 use Rattle.epoch_lend.specs.contracts.post.Post.TheInside as inside
 use Rattle.epoch_lend.specs.contracts.post.Unpinned as unpinned
@@ -56,9 +56,14 @@ use Rattle.epoch_lend.proofs.post.Post.new.Code as code
 
 pub new_spec : {M : Type 1} → statement M
 new_spec 𝓤 𝓛 𝓜 𝓡 wired =
-    let H = 𝓛.H in let 𝓣 = tables 𝓤 H 𝓜 𝓡 𝓡.env in let fn = code.function in let c = clauses 𝓛 𝓜.mem 𝓡.returns in
-    let Row : RattleType = post_is.the_row in let Tr : RattleType = unpinned.the_row in
-    let hs : Stays ended.signature.params ended.kept = tt in let F : RattleType = inside.the_row in
+    let H = 𝓛.H in
+    let 𝓣 = tables 𝓤 H 𝓜 𝓡 𝓡.env in
+    let fn = code.function in
+    let c = clauses 𝓛 𝓜.mem 𝓡.returns in
+    let Row : RattleType = post_is.the_row in
+    let Tr : RattleType = unpinned.the_row in
+    let hs : Stays ended.signature.params ended.kept = tt in
+    let F : RattleType = inside.the_row in
     let pv : Val = vstruct (vcons (vint w64 0) (vcons (vstruct vnil) vnil)) in
     let v : Val = vstruct (vcons pv (vcons token vnil)) in
     let Has : ℕ → Fml = λ k. F.own_val (record { word = k; marker = record {} }) (pv ∷ []) in
@@ -86,7 +91,7 @@ new_spec 𝓤 𝓛 𝓜 𝓡 wired =
     let r : Tr.Denot = record { marker = record {}; log = η; state = δ } in
     move ! (2 ∷ []) $ nothing ! $ move ! (1 ∷ 0 ∷ []) $ fjoin ! $ fpack ! (List Entry) (idle_log η) [] $
     move ! (2 ∷ 0 ∷ []) $ fjoin ! $ nothing ! $ fpack ! (0 ≡ 0) (λ _. ftrue) refl $ fjoin ! $
-    fpack ! Phase (phase d 0) idle $
+    fpack ! PostStage (at_stage d 0) idle $
     use0 𝓛 (‵ (Has 0)) (makes_shadow 𝓛 (Has 0) (λ vss. (tt, ((tt, tt), ((λ uss. (tt, tt)), tt)))) (
       (
         vint w64 0 ∷ [],

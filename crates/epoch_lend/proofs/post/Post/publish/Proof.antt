@@ -6,40 +6,10 @@ use Rattle.std.proofs.Common.{List, ◌≡◌, ℕ, ◌+◌, [], ◌∷◌, refl
 use mir.Syntax.{named}
 use mir.Val.{Val, vint, vptr, vstruct, vcons, vnil, of_list}
 use base.Logic.{SProp, wand, emp, via, apply∗, ent, sep}
-use base.Fml.{Lft, Share, Fml, ftrue, fsep, flft, feq, fbor, fex}
-use types.Kit.{
-  use1,
-  some,
-  pick,
-  fpick,
-  fpack,
-  fsplit3,
-  fjoin3,
-  feq_i,
-  ‵,
-  raw,
-  ◌⊛◌,
-  later,
-  mean,
-  at_ret,
-  ◌$◌,
-  ◌∵◌,
-  !,
-  qed,
-  by,
-  move,
-  keep,
-  split,
-  join,
-  fsplit,
-  fjoin,
-  use0,
-  use2,
-  use3,
-  await,
-  rewrite,
-}
-use types.Run.{of_opd, stop, fld, addr, lit, no_more, and_then, first, blocks, exec, Calls-last, returns, enter}
+use base.Fml.{Lft, Share, Fml, ftrue, fsep, flft, feq, fbor}
+use types.Kit.{use1, some, pick, fpick, fpack, feq_i, ‵, raw, ◌⊛◌, later, mean, at_ret, ◌$◌, ◌∵◌, !, qed, by, move}
+use types.Kit.{keep, split, join, fsplit, fjoin, use0, use2, use3, await, rewrite}
+use types.Run.{stop, fld, addr, lit, no_more, and_then, first, blocks, exec, Calls-last, returns, enter}
 use types.ByLocal.{alloc_all, pass_all, free_all, look_at, get, through, sets, lands_last, env}
 use types.Part.{agg}
 use contract.Running.{tables}
@@ -59,7 +29,7 @@ use Rattle.atomic_table.proofs.Walks.{proved, leaves}
 use Rattle.atomic_table.proofs.Calls.{fm, seq_cst}
 use Rattle.epoch_lend.specs.contracts.post.Pin as pin
 use Rattle.epoch_lend.specs.contracts.post.Guard as guard
-use Rattle.epoch_lend.specs.Posts.{PostNames, posted, registered}
+use Rattle.epoch_lend.specs.Posts.{PostNames, posted}
 use Rattle.epoch_lend.specs.Parted.{tokens}
 use Rattle.epoch_lend.proofs.PartSteps.{tokens_in}
 use base.FractionLaws.{Counts-all}
@@ -80,9 +50,14 @@ use Rattle.epoch_lend.proofs.post.Post.publish.Code as code
 
 pub publish_spec : {M : Type 1} → statement M
 publish_spec 𝓤 𝓛 𝓜 𝓡 wired =
-    let H = 𝓛.H in let 𝓣 = tables 𝓤 H 𝓜 𝓡 𝓡.env in let fn = code.function in let c = clauses 𝓛 𝓜.mem 𝓡.returns in
-    let Row : RattleType = post_is.the_row in let Tr : RattleType = unpinned.the_row in
-    let self = RefOf (0 ∷ []) tt (plain (λ _. Row)) (λ _. tt) in let given_in = plain (λ _. Tr) in
+    let H = 𝓛.H in
+    let 𝓣 = tables 𝓤 H 𝓜 𝓡 𝓡.env in
+    let fn = code.function in
+    let c = clauses 𝓛 𝓜.mem 𝓡.returns in
+    let Row : RattleType = post_is.the_row in
+    let Tr : RattleType = unpinned.the_row in
+    let self = RefOf (0 ∷ []) tt (plain (λ _. Row)) (λ _. tt) in
+    let given_in = plain (λ _. Tr) in
     let num = plain (λ _. u64) in
     let hs : Stays ended.signature.params ended.kept = (
       stay_dropped self yes,
@@ -123,9 +98,15 @@ publish_spec 𝓤 𝓛 𝓜 𝓡 wired =
         ),
       ),
     )) (λ κs qs bounds a gh are.
-    let b : ℕ = a.0.ref_ptr.0 in let o : ℕ = a.0.ref_ptr.1 in let κ : Lft = κs.0 in let q : Share = qs.0 in
-    let d : PostNames = a.0.now in let t : Tr.Denot = a.1.0 in let e : ℕ = a.1.1.0 in
-    let w : ℕ = a.1.1.1.0 in let Asked : Type 0 = (t.log ≡ d.log) × (t.state ≡ d.state) × (w ≡ posted e) in
+    let b : ℕ = a.0.ref_ptr.0 in
+    let o : ℕ = a.0.ref_ptr.1 in
+    let κ : Lft = κs.0 in
+    let q : Share = qs.0 in
+    let d : PostNames = a.0.now in
+    let t : Tr.Denot = a.1.0 in
+    let e : ℕ = a.1.1.0 in
+    let w : ℕ = a.1.1.1.0 in
+    let Asked : Type 0 = (t.log ≡ d.log) × (t.state ≡ d.state) × (w ≡ posted e) in
     let y : (walk_of 𝓛 ended hs c).Ghost = (
       (
         κs,
@@ -144,7 +125,8 @@ publish_spec 𝓤 𝓛 𝓜 𝓡 wired =
         ),
       ),
       gh,
-    ) in let Post : Val → SProp 𝓤 = (walk_of 𝓛 ended hs c).post y in
+    ) in
+    let Post : Val → SProp 𝓤 = (walk_of 𝓛 ended hs c).post y in
     qed 𝓛 (((‵ (flft κ q) ⊛ ‵ ftrue) ⊛ ‵ (owns (types_at ended.signature.params κs) a y.0.4)) ∷ raw (fact 𝓤 Asked) ∷
     []) ∵
     move ! (1 ∷ []) $ heard ! Asked (λ asked. split ! $ split ! $ move ! (2 ∷ []) $ fsplit ! $ fsplit ! $
@@ -173,7 +155,7 @@ publish_spec 𝓤 𝓛 𝓜 𝓡 wired =
     pick ! (λ s. split ! $ let after : Fml = fsep (flft α s) (posting.pinned 𝓛 d α s b o γ e) in first ! $ blocks ! $
     sets ! (addr ! (through ! refl (fld ! refl (stop !)))) refl (tt, tt) $ move ! (2 ∷ 0 ∷ 4 ∷ []) $
     use3 𝓛 (raw (𝓣.C _ (vptr b (o + 0) ∷ vint w64 w ∷ seq_cst ∷ []) (λ u. mean 𝓛 (stored after u))))
-    (via 𝓤 _ (subst (λ (k : ℕ). ent 𝓤 (sep 𝓤 (𝓛.A.inv (fbor α (posting.I 𝓛 d α s b o))) (sep 𝓤 (𝓛.A.lft α s) (sem 𝓛
+    (via 𝓤 _ (subst (λ (k : ℕ). ent 𝓤 (sep 𝓤 (𝓛.A.inv (fbor α (posting.Memory 𝓛 d α s b o))) (sep 𝓤 (𝓛.A.lft α s) (sem 𝓛
     (fobs d.state (gnum 0))))) (asks 𝓛 (block_ptr b (o + 0)) (λ _. k) always (λ _. after))) (sym asked.2)
     (posting.pins 𝓛 d α s b o γ e)) (stores 𝓛 𝓜 𝓡 (code.calls-core::raw_atomic::store 𝓡.env wired) (block_ptr b
     (o + 0)) w are.1.1.1.0.1 after)) $
@@ -198,13 +180,14 @@ publish_spec 𝓤 𝓛 𝓜 𝓡 wired =
     fsplit ! $ move ! (0 ∷ 2 ∷ []) $ use2 𝓛 (later (‵ (flft κ q))) (apply∗ 𝓤 (𝓛.A.lft α s) (H.⇛ (𝓛.A.lft κ q))) $
     await ! tt $ move ! (0 ∷ 3 ∷ []) $ join ! $
     -- [the tokens; the pin; the guards' lifetime]
-    let Pr : RattleType = pin.the_row in let Gr : RattleType = guard.the_row in
+    let Pr : RattleType = pin.the_row in
+    let Gr : RattleType = guard.the_row in
     let r : Pr.Denot = record { marker = record {}; atom = γ; log = d.log; state = d.state } in
     let g : Gr.Denot = record { marker = record {}; atom = γ; epoch = e; log = d.log; count = 2 ^ 63 } in
     let v : Val = vstruct (vcons token (vcons token vnil)) in
     move ! (2 ∷ []) $ use1 𝓛 (‵ (tokens γ (2 ^ 63))) (tokens_in 𝓛 γ (2 ^ 63) full_share (Counts-all 63)) $
     move ! (2 ∷ []) $ fsplit ! $ move ! (1 ∷ 2 ∷ 0 ∷ 3 ∷ []) $
-    -- [registered; the guards' parts; the pin; the tokens]
+    -- [entered; the guards' parts; the pin; the tokens]
     move ! (1 ∷ 0 ∷ []) $ fjoin ! $ use0 𝓛 (‵ (Token.own_val (record {}, tt) (token ∷ []))) (token_made 𝓛) $
     fjoin ! $ nothing ! $ move ! (1 ∷ 0 ∷ []) $ fjoin ! $
     move ! (1 ∷ []) $ use0 𝓛 (‵ (Token.own_val (record {}, tt) (token ∷ []))) (token_made 𝓛) $ fjoin ! $ fjoin ! $

@@ -5,35 +5,8 @@ use mir.Syntax.{named}
 use mir.Val.{Val, vint, vptr}
 use base.Logic.{SProp, wand, emp, via, apply∗}
 use base.Fml.{Lft, Share, Fml, ftrue, fsep, flft}
-use types.Kit.{
-  use1,
-  ‵,
-  raw,
-  ◌⊛◌,
-  some,
-  later,
-  mean,
-  at_ret,
-  ◌$◌,
-  ◌∵◌,
-  !,
-  qed,
-  by,
-  move,
-  keep,
-  split,
-  join,
-  fsplit,
-  fsplit3,
-  fjoin,
-  fpick,
-  pick,
-  use0,
-  use2,
-  use3,
-  await,
-  rewrite,
-}
+use types.Kit.{use1, ‵, raw, ◌⊛◌, some, later, mean, at_ret, ◌$◌, ◌∵◌, !, qed, by, move, keep, split, join, fsplit}
+use types.Kit.{fjoin, fpick, pick, use0, use2, use3, await, rewrite}
 use types.Run.{stop, fld, addr, lit, no_more, and_then, first, blocks, exec, Calls-last, returns, enter}
 use types.ByLocal.{alloc_all, pass_all, free_all, look_at, get, through, sets, lands_last, env}
 use types.Part.{agg}
@@ -73,10 +46,15 @@ use Rattle.epoch_lend.proofs.post.Post.unpin.Code as code
 
 pub unpin_spec : {M : Type 1} → statement M
 unpin_spec 𝓤 𝓛 𝓜 𝓡 wired =
-    let H = 𝓛.H in let 𝓣 = tables 𝓤 H 𝓜 𝓡 𝓡.env in let fn = code.function in let c = clauses 𝓛 𝓜.mem 𝓡.returns in
-    let Row : RattleType = post_is.the_row in let Tr : RattleType = pin.the_row in
+    let H = 𝓛.H in
+    let 𝓣 = tables 𝓤 H 𝓜 𝓡 𝓡.env in
+    let fn = code.function in
+    let c = clauses 𝓛 𝓜.mem 𝓡.returns in
+    let Row : RattleType = post_is.the_row in
+    let Tr : RattleType = pin.the_row in
     let Gr : RattleType = guard.the_row in
-    let self = RefOf (0 ∷ []) tt (plain (λ _. Row)) (λ _. tt) in let given_in = plain (λ _. Tr) in
+    let self = RefOf (0 ∷ []) tt (plain (λ _. Row)) (λ _. tt) in
+    let given_in = plain (λ _. Tr) in
     let held_in = plain (λ _. Gr) in
     let hs : Stays ended.signature.params ended.kept = (
       stay_dropped self yes,
@@ -99,14 +77,20 @@ unpin_spec 𝓤 𝓛 𝓜 𝓡 wired =
       shr_Tells (named 0) κs.0 Row,
       ((λ x vs so. token_told vs so.0), ((λ x vs so. token_told vs so.0), tt)),
     )) (λ κs qs bounds a gh are.
-    let b : ℕ = a.0.ref_ptr.0 in let o : ℕ = a.0.ref_ptr.1 in let κ : Lft = κs.0 in let q : Share = qs.0 in
-    let d : PostNames = a.0.now in let t : Tr.Denot = a.1.0 in let g : Gr.Denot = a.1.1.0 in
+    let b : ℕ = a.0.ref_ptr.0 in
+    let o : ℕ = a.0.ref_ptr.1 in
+    let κ : Lft = κs.0 in
+    let q : Share = qs.0 in
+    let d : PostNames = a.0.now in
+    let t : Tr.Denot = a.1.0 in
+    let g : Gr.Denot = a.1.1.0 in
     let Asked : Type 0 = (t.log ≡ d.log) × (t.state ≡ d.state) in
     let Whole : Type 0 = (g.atom ≡ t.atom) × (g.count ≡ 2 ^ 63) in
     let y : (walk_of 𝓛 ended hs c).Ghost = (
       (κs, qs, bounds, a, (vptr b o ∷ [], (token ∷ [], (token ∷ [], tt)))),
       gh,
-    ) in let Post : Val → SProp 𝓤 = (walk_of 𝓛 ended hs c).post y in
+    ) in
+    let Post : Val → SProp 𝓤 = (walk_of 𝓛 ended hs c).post y in
     qed 𝓛 (((‵ (flft κ q) ⊛ ‵ ftrue) ⊛ ‵ (owns (types_at ended.signature.params κs) a y.0.4)) ∷ raw (fact 𝓤 Asked) ∷
     raw (fact 𝓤 Whole) ∷ []) ∵
     move ! (1 ∷ []) $ heard ! Asked (λ asked. move ! (1 ∷ []) $ heard ! Whole (λ whole_here. split ! $ split ! $
