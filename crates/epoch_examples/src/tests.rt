@@ -10,8 +10,8 @@ use std::test::Fail;
 use std::thread;
 
 /// Replaces the value by 1, 2, .. up to 500, each under a guard of its own.
-fn write_500(rt: &impl Abort, alloc: Global, handle: LocalHandle<'_, u64>, pointer: &Atomic<u64>) {
-    let mut handle = handle;
+fn write_500(rt: &impl Abort, alloc: Global, collector: &Collector<u64>, pointer: &Atomic<u64>) {
+    let mut handle = collector.register().expect(rt, "a free position");
     for value in 1..501u64 {
         assert!(rt; handle.can_pin());
         let guard = handle.pin();
@@ -22,8 +22,8 @@ fn write_500(rt: &impl Abort, alloc: Global, handle: LocalHandle<'_, u64>, point
 }
 
 /// Reads the value 500 times: what a thread reads never falls.
-fn read_500(rt: &impl Abort, handle: LocalHandle<'_, u64>, pointer: &Atomic<u64>) {
-    let mut handle = handle;
+fn read_500(rt: &impl Abort, collector: &Collector<u64>, pointer: &Atomic<u64>) {
+    let mut handle = collector.register().expect(rt, "a free position");
     let mut last = 0;
     for _ in 0..500u64 {
         assert!(rt; handle.can_pin());
@@ -49,11 +49,9 @@ fn readers_read_while_one_thread_replaces(rt: HostRuntime) -> Result<(), Fail> {
     let pointer = Atomic::<u64>::null();
     let (host, alloc, shared, place) = (&rt, rt.alloc(), &collector, &pointer);
     thread::scope(thread::scope_env(), &rt, |scope| {
-        let writer = shared.register().expect(host, "a free position");
-        let _ = scope.spawn(move || write_500(host, alloc, writer, place));
+        let _ = scope.spawn(move || write_500(host, alloc, shared, place));
         for _ in 0..7u64 {
-            let reader = shared.register().expect(host, "a free position");
-            let _ = scope.spawn(move || read_500(host, reader, place));
+            let _ = scope.spawn(move || read_500(host, shared, place));
         }
     });
     let _ = collector.end();
@@ -63,6 +61,6 @@ fn readers_read_while_one_thread_replaces(rt: HostRuntime) -> Result<(), Fail> {
 #[test]
 fn a_pin_stops_after_its_first_step(rt: HostRuntime) -> Result<(), Fail> {
     let replies = half_a_pin(rt.alloc())?;
-    assert!(rt; replies.as_slice() == [Reply::Began, Reply::Stepped]);
+    assert!(rt; replies.as_slice() == [Reply::Began, Reply::Stepped].as_slice());
     Ok(())
 }
