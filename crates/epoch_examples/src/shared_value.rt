@@ -28,6 +28,7 @@ pub fn replace(
     guard: &Guard<'_, u64>,
 ) -> Result<(), Fault>
     requires { Owns handle.old guard.now }
+    ensures owns { Owns handle.new guard.now }
 {
     // Room for the deferral comes first: a value that nobody can reach any more, and whose destruction was refused,
     // would keep its cell until the end.
