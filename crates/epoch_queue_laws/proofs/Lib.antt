@@ -1,5 +1,6 @@
 pub mod QueueForm
 pub mod QueueLists
+pub mod OneQueue
 pub mod QueueKept
 pub mod QueueSteps
 pub mod QueueTouches

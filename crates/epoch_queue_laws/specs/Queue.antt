@@ -140,7 +140,7 @@ deed_of g (Advancing h q v) =
 deed_of g (Removing h v) = Defers h (Answering (Popped v)) (Answering (PoppedLeaking v))
 deed_of g (Answering a) = Answers a
 
--- At most so many calls of the world are made from a phase on: three a try of a push, and five a try of a pop.
+-- how many calls of the world are made from this phase on, at most: three a try of a push, and five a try of a pop
 abbrev pub calls_left : Phase → ℕ
 calls_left (MakingRoom Build) = 4
 calls_left (MakingRoom (Push v k)) = 3 * k + 3

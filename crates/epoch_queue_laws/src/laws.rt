@@ -1,5 +1,6 @@
 //! What holds of every run of a queue, in any interleaving: laws of the definitions.
 ghost use Rattle.std.specs.Prelude.{◌≡◌, ℕ, List, []};
+ghost use Rattle.epoch_heap.specs.Heap.{Heap};
 ghost use Rattle.epoch_laws.specs.declared.step.Entry.{Entry};
 ghost use Rattle.epoch_laws.specs.Run.{State, TakesStep};
 ghost use Rattle.epoch_reach_laws.specs.Reach.{LeavesOnce, KeepsLoaded, past_of};
@@ -23,8 +24,8 @@ pub fn every_queue_run_keeps_reach()
         (run_of_world queue Starts world plans log world' plans' run)) }
 {}
 
-/// Each reply to a call that a phase makes lowers the number of calls left, whatever it is: so a call that begins in a
-/// phase answers after at most so many.
+/// Every reply to a call of the world that a phase makes, also a refusal, lowers the number of calls that are left. A
+/// call of the queue answers when none is left.
 pub fn every_queue_reply_comes_nearer_the_answer()
     ensures { IsLowered queue calls_left }
 {}
@@ -36,12 +37,17 @@ pub fn every_queue_run_holds_a_list()
         → QueueHolds world.heap [] × ((vs : List ℕ) × QueueHolds world'.heap vs) }
 {}
 
-/// Each step of a run leaves that list as it is, but for the won exchange of a push, which adds its node's value at the
-/// back, and that of a pop, which takes the value in front, the one that the pop has read and will answer. Where a pop
-/// finds nothing behind the head, so that it will answer `Empty`, the list is empty at that step.
+/// First in, first out: only two kinds of steps change that list. The won exchange of a push adds the value of its node
+/// at the back. The won exchange of a pop takes the value in front, which is the one that the pop has read. At the step
+/// at which a pop finds nothing behind the head, the list is empty.
 pub fn every_queue_run_is_a_queue()
     ensures { (world world' new : State) (plans plans' : AllPlans Phase) (log : QueueLog) (x : Entry)
         → IsNewQueue world plans → QueueRuns world plans log world' plans'
         → TakesStep world' x.step x.reply new → (vs : List ℕ) → QueueHolds world'.heap vs
         → StepOnValues world' plans' x new vs × (FindsNone world' plans' x new → vs ≡ []) }
+{}
+
+/// The cells hold the values of one list at most.
+pub fn every_heap_holds_one_queue()
+    ensures { (heap : Heap) (vs ws : List ℕ) → QueueHolds heap vs → QueueHolds heap ws → vs ≡ ws }
 {}
