@@ -28,6 +28,7 @@ use Rattle.epoch_machine.specs.Asks.{Reply, Heard, PutStepped, TakeStepped, JobG
 use Rattle.epoch_handles.specs.Drives.{Sight, Situation, Performs, Performed}
 use Rattle.epoch_handles.specs.Told.{IsExpiryWithin, AreExpiriesWithin}
 use Rattle.epoch_handles.specs.ThreadGrace.{job_given, jobs_given, jobs_of_each, GetsBags, PerformedWithBags}
+use Rattle.epoch_handles.specs.JobsKept.{left_to_call}
 use Rattle.epoch_handles.proofs.StagesHeard.{StageIs, AnswerIs, either_is, collected_is, put_is, heard_is, begun_is}
 
 -- AT WHICH STAGES JOBS ARE CALLED
@@ -52,21 +53,16 @@ calls_nothing_at : (s : Stage) (ask : Ask) → ask_at s ≡ Some ask → ask ≢
 calls_nothing_at (Calling x k) ask is other = absurd (other (sym (same_Some CallJob ask is)))
 calls_nothing_at _ ask is other = tt
 
--- what is in hand to be called
-abbrev hand_at : {J : Type 0} → Stage → List J → List J
-hand_at (Calling x k) hand = hand
-hand_at stage hand = []
-
-none_at : {J : Type 0} (s : Stage) (hand : List J) → CallsNothing s → hand_at s hand ≡ []
+none_at : {J : Type 0} (s : Stage) (hand : List J) → CallsNothing s → left_to_call s hand ≡ []
 none_at (Calling x k) hand nothing = absurd nothing
 none_at _ hand nothing = refl
 
 module _ {J : Type 0} where
-  abbrev owed : Machine J → List J
-  owed m = hand_at m.stage m.hand
+  abbrev pub owed : Machine J → List J
+  owed m = left_to_call m.stage m.hand
 
   -- the bag in hand is called, as far as it has jobs
-  after_owed : (m : Machine J) (x k : ℕ) (jobs : List J) → hand_at (after_job m x k jobs) jobs ≡ jobs
+  after_owed : (m : Machine J) (x k : ℕ) (jobs : List J) → left_to_call (after_job m x k jobs) jobs ≡ jobs
   after_owed m x k [] = none_at (after_job m x k []) [] (either_is Any Never (k + 1 == m.sizes.collect_bags)
       (after_collect m.action m.held) (Take x (k + 1)) (collected_is Any Never m.action m.held) tt)
   after_owed m x k (job ∷ jobs) = refl
@@ -92,7 +88,7 @@ module _ {J : Type 0} where
   got_owed m _ x jobs is = absurd (cc is)
 
   given_owed : (m : Machine J) (s : Stage) (job : J) → m.stage ≡ s → ask_at s ≡ Some CallJob
-      → m.hand ≡ job ∷ rest m.hand → hand_at s m.hand ≡ job ∷ owed (gives m s (rest m.hand))
+      → m.hand ≡ job ∷ rest m.hand → left_to_call s m.hand ≡ job ∷ owed (gives m s (rest m.hand))
   given_owed m (Calling x k) job at is first =
       first ∙ ap (λ (l : List J). job ∷ l) (sym (after_owed m x k (rest m.hand)))
   given_owed m _ job at is first = absurd (cc is)
@@ -104,27 +100,37 @@ got_or_not true is = absurd (cc is)
 got_or_not false is = absurd (cc is)
 
 module _ {J : Type 0} where
+  pub no_got_at_look : (places x place : ℕ) (next : TakeCursor) (bag : Sealed J) (v u : PlaceMe J)
+      → TakeMoves places x (TakeLook place) v Got next u bag → ⊥
+  no_got_at_look places x place next bag v u (past, looks) = elim (eqb_tells place places) [
+    | inl last ↦ cc (past last.1).0
+    | inr before ↦ let found = looks before.1 in
+        let none : ¬ (IsExpiredWord x found.0) = (λ expired. absurd (cc (found.2 expired).0)) in
+        got_or_not (place + 1 == places) (found.3 none).1
+  ]
+
+  pub no_got_at_claim : (places x place claims : ℕ) (next : TakeCursor) (bag : Sealed J) (v u : PlaceMe J)
+      → TakeMoves places x (TakeClaim place claims) v Got next u bag → ⊥
+  no_got_at_claim places x place claims next bag v u (word, won, lost) = elim (eqb_tells word claims) [
+    | inl same ↦ cc (won same.1).1
+    | inr differs ↦ got_or_not (place + 1 == places) (lost differs.1).1.1
+  ]
+
   -- A bag that is got was in hand before, out of a place that had been claimed.
   got_from_hand : (places x : ℕ) (cursor next : TakeCursor) (bag : Sealed J) (v u : PlaceMe J)
       → TakeMoves places x cursor v Got next u bag
       → (place : ℕ) × (v.1 ≡ (place, Some bag) ∷ []) × IsExpired x bag
-  got_from_hand places x (TakeLook place) next bag v u (past, looks) = elim (eqb_tells place places) [
-    | inl last ↦ absurd (cc (past last.1).0)
-    | inr before ↦ let found = looks before.1 in
-        let none : ¬ (IsExpiredWord x found.0) = (λ expired. absurd (cc (found.2 expired).0)) in
-        absurd (got_or_not (place + 1 == places) (found.3 none).1)
-  ]
-  got_from_hand places x (TakeClaim place claims) next bag v u (word, won, lost) = elim (eqb_tells word claims) [
-    | inl same ↦ absurd (cc (won same.1).1)
-    | inr differs ↦ absurd (got_or_not (place + 1 == places) (lost differs.1).1.1)
-  ]
+  got_from_hand places x (TakeLook place) next bag v u moves =
+      absurd (no_got_at_look places x place next bag v u moves)
+  got_from_hand places x (TakeClaim place claims) next bag v u moves =
+      absurd (no_got_at_claim places x place claims next bag v u moves)
   got_from_hand places x (Empty place) next bag v u (got, goes, (is, hand, expired)) = (place, hand, expired)
 
 -- ONE STEP
 
 module _ {J : Type 0} where
   -- What is in hand after a step is what was in hand and was got, without the job that was given.
-  record Gives (seen : ℕ) (v : Sight J) (m : Machine J) (reply : Reply J) (n : Machine J) : Type 0 where
+  pub record Gives (seen : ℕ) (v : Sight J) (m : Machine J) (reply : Reply J) (n : Machine J) : Type 0 where
     pub got : List (Sealed J)
     pub gets : GetsBags v reply got
     pub jobs : owed m ++ jobs_of_each got ≡ job_given reply ++ owed n
@@ -134,7 +140,7 @@ module _ {J : Type 0} where
   nothing_owed m n before after =
       ap (λ (l : List J). l ++ []) (none_at m.stage m.hand before) ∙ sym (none_at n.stage n.hand after)
 
-  one_gives : (places seen : ℕ) (before after : Situation J) (ask : Ask) (reply : Reply J)
+  pub one_gives : (places seen : ℕ) (before after : Situation J) (ask : Ask) (reply : Reply J)
       → ask_at before.machine.stage ≡ Some ask
       → IsReply ask before.machine.hand reply
       → Performs places before ask reply after

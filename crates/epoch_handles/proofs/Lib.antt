@@ -7,12 +7,15 @@ pub mod Ending
 pub mod Expiries
 pub mod FirstPins
 pub mod Flushing
+pub mod HeldJobs
+pub mod JobsKept
 pub mod PlacesTold
 pub mod Putting
 pub mod Registering
 pub mod Releasing
 pub mod Scanning
 pub mod SeatKept
+pub mod SlotsMoved
 pub mod StagesHeard
 pub mod StraightCalls
 pub mod Telling

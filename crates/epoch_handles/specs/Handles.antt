@@ -5,7 +5,7 @@ use Rattle.std.specs.List.{All, range_with_len}
 use Rattle.epoch_bags.specs.Bags.{Sealed}
 use Rattle.epoch_tables.specs.Table.{IsOf}
 use Rattle.epoch_tables.specs.TableSteps.{after_epoch, after_own}
-use Rattle.epoch_tables.specs.SharedPlaces.{IsPlaceSeatOf as IsAt}
+use Rattle.epoch_tables.specs.SharedPlaces.{IsPlaceSeatOf as IsAt, with_claim}
 use Rattle.epoch_tables.specs.SharedSteps.{RestsAt, TakesAt}
 use Rattle.epoch_bags.specs.declared.queue.places.TakeCursor.{TakeCursor}
 use Rattle.epoch_bags.specs.declared.queue.places.PutCursor.TheVariants.{Look as PutLook}
@@ -227,8 +227,9 @@ TriesInOrder position looked found =
     × (looked ≡ tried ++ Some position ∷ []) × (found ≡ before ++ 0 ∷ [])
 
 -- a new participant of this collector: registered at the first position that was found free, not pinned, with an empty
--- bag
+-- bag, and at no place yet
 pub record IsNewParticipant {T W : Type 0} (collector : Collector T W) (h : Local T W) : Type 0 where
   pub of : h.collector.now ≡ collector
   pub machine : h.machine ≡ fresh collector.sizes
   pub tries : TriesInOrder h.position h.seat.me.0.looked h.seat.me.0.found
+  pub places : h.claimer.me ≡ (with_claim None [] [] [] [], [])

@@ -1,7 +1,9 @@
 //! What holds of whatever threads perform: laws of the definitions.
 ghost use Rattle.epoch_handles.specs.Told.{RepliesAreFound, ExpiriesAreSeen, AnswersAreFound};
 ghost use Rattle.epoch_handles.specs.ThreadGrace.{KeepsGraceOnThreads};
+ghost use Rattle.epoch_handles.specs.JobsKept.{KeepsJobsInCalls, LosesNoJob};
 
+use epoch_tables::shared_places::no_bag_is_lost;
 use epoch_tables::table::pinned_seats_hold_bags_back;
 
 /// Where a thread performs what its machine asks, the replies on the participants' table are just the words that
@@ -33,4 +35,25 @@ pub fn calls_come_after_pins<J>()
     ensures { KeepsGraceOnThreads J }
 {
     pinned_seats_hold_bags_back();
+}
+
+/// Where a thread performs what its machine asks from the beginning of an action on, as far as anywhere, it loses no
+/// job. However jobs are weighed: what it had, what it was given to keep and what it has won in places weighs as much
+/// as what it has now, what it was given to call and what it has left in places.
+///
+/// What it has is the jobs in its bag, those that are left of a bag that it calls, and a bag in hand at a place.
+pub fn calls_keep_jobs<J>()
+    ensures { KeepsJobsInCalls J }
+{}
+
+/// No job is lost on threads, and none is called twice. At any moment, wherever the participants have come to in their
+/// calls, and however jobs are weighed: all jobs that were accepted weigh as much as those that participants have, those
+/// that were given to be called, and those of the bags that stand in places.
+///
+/// A job is accepted where the machine asks for it to be kept. The law is over all that participants have done since
+/// they registered, before the collector ends.
+pub fn no_job_is_lost<J>()
+    ensures { LosesNoJob J }
+{
+    no_bag_is_lost::<J>();
 }

@@ -5,6 +5,7 @@ pub mod WordLoads
 pub mod OwnStores
 pub mod EpochStores
 pub mod Registering
+pub mod BagBalance
 pub mod PlaceLooks
 pub mod PlaceClaims
 pub mod PlaceStores

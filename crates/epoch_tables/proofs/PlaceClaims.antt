@@ -4,8 +4,9 @@ use Rattle.std.proofs.Common.{inr, arith, Option, Some, None, length-set, get_or
 use Rattle.std.proofs.Common.{ne_eqb}
 use Rattle.std.proofs.lemmas.Option.{same_Some, none-some}
 use mathlib.Core.Logic.{dite}
-use mathlib.Core.Option.{none}
+use mathlib.Core.Option.{none, some}
 use native.Mathlib.Decide.{ℕ_discrete}
+use lib.ListN.{get_elem?}
 use prog.Atomic.{either}
 use Rattle.atomic_table.specs.Table.{State, Me, step, keeps, takes, stepped, Allows}
 use Rattle.atomic_table.proofs.Lists.{set_here, set_else}
@@ -14,6 +15,7 @@ use Rattle.epoch_tables.specs.declared.shared_places.view.PlaceView.{PlaceView}
 use Rattle.epoch_tables.specs.SharedPlaces.{place_word_at, IsPlaceWord, IsAtHome, PlaceSeatSees, PlacesAgree}
 use Rattle.epoch_tables.specs.SharedPlaces.{with_claim, after_look, after_place_claim, ClaimsPlace}
 use Rattle.epoch_tables.proofs.Views.{each_view, is_seat, one_view}
+use Rattle.epoch_tables.proofs.BagBalance.{claim_balances}
 use Rattle.epoch_tables.proofs.PlaceLooks.{look_keeps}
 
 module _ {J : Type 0} (places : ℕ) where
@@ -21,16 +23,18 @@ module _ {J : Type 0} (places : ℕ) where
   Rule = PlacesAgree places
 
   won_keeps : (s : State (Option (Sealed J)) (PlaceView J)) (r : Rule s) (id k : ℕ) (v : PlaceView J)
-      (looked found : List ℕ) (left won : List (Option (Sealed J))) → k < places
+      (looked found : List ℕ) (home : Option (Sealed J)) → k < places
       → PlaceSeatSees s id v → v.claimed ≡ None → get_or s.words (place_word_at k) 0 ≢ 2
+      → get_elem? s.homes k ≡ some (some home)
       → Rule record {
         words = set s.words (place_word_at k) 2;
         homes = set s.homes k none;
-        views = set s.views id (with_claim (Some k) looked found left won);
+        views = set s.views id (with_claim (Some k) looked found v.left (v.won ++ home ∷ []));
       }
-  won_keeps s r id k v looked found left won below here no_claim unclaimed =
-      let w : PlaceView J = with_claim (Some k) looked found left won in
+  won_keeps s r id k v looked found home below here no_claim unclaimed has =
+      let w : PlaceView J = with_claim (Some k) looked found v.left (v.won ++ home ∷ []) in
       let long = r.as_many in
+      let long_slots = r.as_many_slots in
       let now : get_or (set s.words (place_word_at k) 2) (place_word_at k) 0 ≡ 2 = get_or-set_same s.words
       (place_word_at k) 2 0 (omega arith) in
       let now_at : (k' : ℕ) → k' ≡ k → get_or (set s.words (place_word_at k) 2) (place_word_at k') 0 ≡ 2 =
@@ -50,6 +54,10 @@ module _ {J : Type 0} (places : ℕ) where
             (λ same. absurd (not (now_at k' same)))
             (λ apart. let t = r.at_home k' inside (λ is. not (else k' apart ∙ is)) in
             (t.0, set_else s.homes k k' none apart ∙ t.1, subst (λ (z : ℕ). IsAtHome z t.0) (sym (else k' apart)) t.2));
+        is_out = λ k' inside is. dite (ℕ_discrete k' k)
+            (λ same. ap (λ (z : ℕ). get_elem? (set s.homes k none) z) same ∙ set_here s.homes k none (omega arith))
+            (λ apart. set_else s.homes k k' none apart ∙ r.is_out k' inside (sym (else k' apart) ∙ is));
+        balanced = claim_balances s.views s.homes id k v w home here has refl refl r.balanced;
         has_claimer = λ k' inside is. dite (ℕ_discrete k' k)
             (λ same. (
               id,
@@ -96,8 +104,8 @@ module _ {J : Type 0} (places : ℕ) where
         takes k held.0,
         held.1,
         subst (λ b. Rule (stepped s (place_word_at k) (either b 2 x) id me.1 w (takes k held.0)))
-            (sym (eq-eqb x old hit)) (won_keeps s r id k v (v.looked ++ k ∷ []) (v.found ++ x ∷ []) v.left
-            (v.won ++ held.0 ∷ []) below here no_claim not),
+            (sym (eq-eqb x old hit)) (won_keeps s r id k v (v.looked ++ k ∷ []) (v.found ++ x ∷ []) held.0
+            below here no_claim not held.1),
         (
           r.is_word k below,
           (λ miss. absurd (miss hit)),
@@ -111,7 +119,7 @@ module _ {J : Type 0} (places : ℕ) where
         tt,
         subst (λ b. Rule (stepped s (place_word_at k) (either b 2 x) id me.1 (after_look v k x) keeps))
             (sym (ne_eqb x old miss))
-            (look_keeps places s r (place_word_at k) id v (v.looked ++ k ∷ []) (v.found ++ x ∷ []) v.left v.won here),
+            (look_keeps places s r (place_word_at k) id v (v.looked ++ k ∷ []) (v.found ++ x ∷ []) here),
         (
           r.is_word k below,
           (λ _ k' at_k'. let same : k ≡ k' = omega arith in ap (λ (z : ℕ). (after_look v z x, me.1)) same),

@@ -15,6 +15,7 @@ use Rattle.epoch_tables.specs.declared.shared_places.view.PlaceView.{PlaceView}
 use Rattle.epoch_tables.specs.SharedPlaces.{place_word_at, place_words_for, PlaceSeatSees, PlacesAgree, with_claim}
 use Rattle.epoch_tables.specs.SharedPlaces.{after_look, SitsAtPlaces, LooksAtPlace}
 use Rattle.epoch_tables.proofs.Views.{each_view, is_seat, one_view, only_view}
+use Rattle.epoch_tables.proofs.BagBalance.{new_balances, enters_balances, look_balances}
 
 blank : (n i : ℕ) → get_or (replicate {A = ℕ} n 0) i 0 ≡ 0
 blank Rattle.std.proofs.Common.zero i = refl
@@ -35,19 +36,21 @@ module _ {J : Type 0} (places : ℕ) where
 
   -- a step that leaves the words, the slots and what is claimed
   pub look_keeps : (s : State (Option (Sealed J)) (PlaceView J)) (r : Rule s) (i id : ℕ) (v : PlaceView J)
-      (looked found : List ℕ) (left won : List (Option (Sealed J))) → PlaceSeatSees s id v
+      (looked found : List ℕ) → PlaceSeatSees s id v
       → Rule record {
         words = set s.words i (get_or s.words i 0);
         homes = s.homes;
-        views = set s.views id (with_claim v.claimed looked found left won);
+        views = set s.views id (with_claim v.claimed looked found v.left v.won);
       }
-  look_keeps s r i id v looked found left won here = let w : PlaceView J = with_claim v.claimed looked found left won in
+  look_keeps s r i id v looked found here = let w : PlaceView J = with_claim v.claimed looked found v.left v.won in
       subst (λ (ws : List ℕ). Rule record { words = ws; homes = s.homes; views = set s.views id w })
       (sym (set-get_or s.words i 0)) record {
         as_many = r.as_many;
         as_many_slots = r.as_many_slots;
         is_word = r.is_word;
         at_home = r.at_home;
+        is_out = r.is_out;
+        balanced = look_balances s.views s.homes id v w here refl refl r.balanced;
         has_claimer = λ k below is. let by = r.has_claimer k below is in dite (ℕ_discrete by.0 id)
             (λ same. (
               id,
@@ -76,7 +79,7 @@ module _ {J : Type 0} (places : ℕ) where
     after_look me.0 k word,
     keeps,
     tt,
-    look_keeps s r (place_word_at k) id me.0 (me.0.looked ++ k ∷ []) (me.0.found ++ word ∷ []) me.0.left me.0.won here,
+    look_keeps s r (place_word_at k) id me.0 (me.0.looked ++ k ∷ []) (me.0.found ++ word ∷ []) here,
     (
       r.is_word k below,
       λ k' at_k'. let same : k ≡ k' = omega arith in ap (λ (z : ℕ). (after_look me.0 z word, me.1)) same,
@@ -94,6 +97,8 @@ module _ {J : Type 0} (places : ℕ) where
           as_many_slots = r.as_many_slots;
           is_word = r.is_word;
           at_home = r.at_home;
+          is_out = r.is_out;
+          balanced = enters_balances s.views s.homes w refl refl r.balanced;
           has_claimer = λ k below is.
               let by = r.has_claimer k below is in
               (by.0, by.1, at_longer s.views (w ∷ []) by.0 by.1 by.2, by.3);
@@ -118,6 +123,8 @@ module _ {J : Type 0} (places : ℕ) where
         as_many_slots = length-map (replicate places None) some ∙ length-replicate places None;
         is_word = λ k below. inl (free (place_word_at k));
         at_home = λ k below not. (None, all_at_home places k None below, free (place_word_at k));
+        is_out = λ k below is. absurd (zero_is_not_two _ (free (place_word_at k)) is);
+        balanced = new_balances places v refl refl;
         has_claimer = λ k below is. absurd (zero_is_not_two _ (free (place_word_at k)) is);
         one_claimer_each = λ i j u its k at_i at_j mine theirs. absurd (unclaimed i u k at_i mine);
         claims_match = λ j u k at has. absurd (unclaimed j u k at has);

@@ -1,6 +1,6 @@
 -- A fill and an empty keep the rule of the places: the slot goes home with what was left in it, under the word that
 -- says so.
-use Rattle.std.proofs.Common.{◌≡◌, ◌≢◌, ℕ, ◌<◌, List, [], ◌∷◌, get_or, set, sym, ap, ◌∙◌, subst, inl, inr, arith}
+use Rattle.std.proofs.Common.{◌≡◌, ◌≢◌, ℕ, ◌<◌, List, [], ◌∷◌, ◌++◌, get_or, set, sym, refl, ap, ◌∙◌, subst, inl, inr, arith}
 use Rattle.std.proofs.Common.{Option, Some, None, length-set, get_or-set_other, get_or-set_same}
 use Rattle.std.proofs.lemmas.Option.{same_Some, none-some}
 use mathlib.Core.Logic.{dite}
@@ -13,6 +13,7 @@ use Rattle.epoch_bags.specs.Bags.{Sealed}
 use Rattle.epoch_tables.specs.declared.shared_places.view.PlaceView.{PlaceView}
 use Rattle.epoch_tables.specs.SharedPlaces.{place_word_at, IsPlaceWord, IsAtHome, PlaceSeatSees, PlacesAgree}
 use Rattle.epoch_tables.specs.SharedPlaces.{with_claim, after_store, StoresPlace}
+use Rattle.epoch_tables.proofs.BagBalance.{store_balances}
 use Rattle.epoch_tables.proofs.Views.{each_view, one_view}
 
 at_home_is_word : {J : Type 0} (word : ℕ) (bag : Option (Sealed J)) → IsAtHome word bag → IsPlaceWord word
@@ -35,15 +36,15 @@ module _ {J : Type 0} (places : ℕ) where
   -- the claimed place gets this word, over what is left in its slot
   store_keeps : (s : State (Option (Sealed J)) (PlaceView J)) (r : Rule s) (id k word : ℕ)
       (bag : Option (Sealed J)) (v : PlaceView J)
-      (looked found : List ℕ) (rests won : List (Option (Sealed J))) → PlaceSeatSees s id v
+      (looked found : List ℕ) → PlaceSeatSees s id v
       → v.claimed ≡ Some k → IsAtHome word bag
       → Rule record {
         words = set s.words (place_word_at k) word;
         homes = set s.homes k (some bag);
-        views = set s.views id (with_claim None looked found rests won);
+        views = set s.views id (with_claim None looked found (v.left ++ bag ∷ []) v.won);
       }
-  store_keeps s r id k word bag v looked found rests won here is_mine left =
-      let w : PlaceView J = with_claim None looked found rests won in
+  store_keeps s r id k word bag v looked found here is_mine left =
+      let w : PlaceView J = with_claim None looked found (v.left ++ bag ∷ []) v.won in
       let long = r.as_many in
       let long_slots = r.as_many_slots in
       let mine = r.claims_match id v k here is_mine in
@@ -72,6 +73,10 @@ module _ {J : Type 0} (places : ℕ) where
               set_else s.homes k k' (some bag) apart ∙ t.1,
               subst (λ (z : ℕ). IsAtHome z t.0) (sym (else k' apart)) t.2,
             ));
+        is_out = λ k' inside is. dite (ℕ_discrete k' k)
+            (λ same. absurd (at_home_is_unclaimed word bag left (sym (now_at k' same) ∙ is)))
+            (λ apart. set_else s.homes k k' (some bag) apart ∙ r.is_out k' inside (sym (else k' apart) ∙ is));
+        balanced = store_balances s.views s.homes id k v w bag here (r.is_out k below mine.1) refl refl r.balanced;
         has_claimer = λ k' inside is. dite (ℕ_discrete k' k)
             (λ same. absurd (at_home_is_unclaimed word bag left (sym (now_at k' same) ∙ is)))
             (λ apart. let by = r.has_claimer k' inside (sym (else k' apart) ∙ is) in
@@ -107,7 +112,7 @@ module _ {J : Type 0} (places : ℕ) where
         gives,
         tt,
         subst (λ (c : List (ℕ × Option (Sealed J))). Rule (stepped s (place_word_at k) word id c w gives)) (sym carried)
-            (store_keeps s r id k word bag v w.looked w.found w.left w.won here is_mine left),
+            (store_keeps s r id k word bag v w.looked w.found here is_mine left),
         λ place content holds. let same : bag ≡ content = ap (content_or bag) (sym carried ∙ holds) in
             ap (λ (x : List (ℕ × Option (Sealed J)) × Option (Sealed J)). (after_store v x.1, rest x.0))
             (λ i. (carried i, same i)),

@@ -1,8 +1,9 @@
 -- The rule of the shared places for bags: what holds between any two steps, whatever threads take them.
 -- A place's word is 0 where it is empty, 2 while a seat has claimed it, and 2s + 1 where it holds a bag sealed with s.
 use Rattle.std.specs.Prelude.{◌≡◌, ◌≢◌, ℕ, ◌+◌, ◌*◌, ◌<◌, List, [], ◌∷◌, ◌++◌, length, slice_index, Option, Some, None}
-use Rattle.std.specs.Prelude.{◌⊎◌}
-use mathlib.Core.Option.{some}
+use Rattle.std.specs.Prelude.{◌⊎◌, sum_by}
+use mathlib.Core.Option.{some, none}
+use mathlib.Core.Option.{Option as InTable}
 use lib.ListN.{get_elem?}
 use Rattle.atomic_table.specs.Table.{State, Me, Step}
 use Rattle.atomic_table.specs.Seated.{TableId}
@@ -34,6 +35,36 @@ IsAtHome word (Some bag) = word ≡ 2 * bag.seal + 1
 abbrev pub PlaceSeatSees : {S J : Type 0} → State S (PlaceView J) → ℕ → PlaceView J → Type 0
 PlaceSeatSees s seat view = get_elem? s.views seat ≡ some view
 
+-- WEIGHTS
+-- Where lists are weighed alike in whatever way, each bag stands in both as often.
+
+-- what a bag weighs; where there is none, that is 0
+abbrev pub bag_weight : {J : Type 0} → (Sealed J → ℕ) → Option (Sealed J) → ℕ
+bag_weight weigh None = 0
+bag_weight weigh (Some bag) = weigh bag
+
+-- what a slot weighs that is at home; while a seat has it, that is 0
+abbrev pub home_weight : {J : Type 0} → (Sealed J → ℕ) → InTable (Option (Sealed J)) → ℕ
+home_weight weigh none = 0
+home_weight weigh (some content) = bag_weight weigh content
+
+-- what all seats have left in places, what all of them have won there, and what is at home
+abbrev pub left_weight : {J : Type 0} → (Sealed J → ℕ) → List (PlaceView J) → ℕ
+left_weight weigh views = sum_by (λ view. sum_by (bag_weight weigh) view.left) views
+
+abbrev pub won_weight : {J : Type 0} → (Sealed J → ℕ) → List (PlaceView J) → ℕ
+won_weight weigh views = sum_by (λ view. sum_by (bag_weight weigh) view.won) views
+
+abbrev pub homes_weight : {J : Type 0} → (Sealed J → ℕ) → List (InTable (Option (Sealed J))) → ℕ
+homes_weight weigh homes = sum_by (home_weight weigh) homes
+
+-- Each bag that some seat has left in a place is at home in one, or some seat has won it: as often as it was left.
+abbrev pub IsBalanced : {J : Type 0} → List (PlaceView J) → List (InTable (Option (Sealed J))) → Type 0
+IsBalanced {J} views homes = (weigh : Sealed J → ℕ)
+    → left_weight weigh views ≡ won_weight weigh views + homes_weight weigh homes
+
+-- THE RULE
+
 pub record PlacesAgree {J : Type 0} (places : ℕ) (s : State (Option (Sealed J)) (PlaceView J)) : Type 0 where
   pub as_many : length s.words ≡ place_words_for places
   pub as_many_slots : length s.homes ≡ places
@@ -42,6 +73,9 @@ pub record PlacesAgree {J : Type 0} (places : ℕ) (s : State (Option (Sealed J)
   pub at_home : (place : ℕ) → place < places → slice_index s.words (place_word_at place) ≢ 2
       → (bag : Option (Sealed J)) × (get_elem? s.homes place ≡ some (some bag))
       × IsAtHome (slice_index s.words (place_word_at place)) bag
+  pub is_out : (place : ℕ) → place < places → slice_index s.words (place_word_at place) ≡ 2
+      → get_elem? s.homes place ≡ some none
+  pub balanced : IsBalanced s.views s.homes
   -- A place at 2 is claimed by one seat. A view names at most one place that its seat has claimed.
   pub has_claimer : (place : ℕ) → place < places → slice_index s.words (place_word_at place) ≡ 2
       → (seat : ℕ) × (view : PlaceView J) × PlaceSeatSees s seat view × (view.claimed ≡ Some place)
@@ -50,6 +84,11 @@ pub record PlacesAgree {J : Type 0} (places : ℕ) (s : State (Option (Sealed J)
       → view.claimed ≡ Some place → its.claimed ≡ Some place → seat ≡ other
   pub claims_match : (seat : ℕ) (view : PlaceView J) (place : ℕ) → PlaceSeatSees s seat view → view.claimed ≡ Some place
       → (place < places) × (slice_index s.words (place_word_at place) ≡ 2)
+
+-- However bags are weighed, what all seats have left in places is what they have won there and what is at home.
+abbrev pub LosesNoBag : Type 0 → Type 0
+LosesNoBag J = (places : ℕ) (s : State (Option (Sealed J)) (PlaceView J)) → PlacesAgree places s
+    → IsBalanced s.views s.homes
 
 -- SEATS
 

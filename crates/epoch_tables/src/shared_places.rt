@@ -2,10 +2,12 @@
 //!
 //! A thread takes its steps through a *seat*. What the seat knows is its *view*, which contracts alone see.
 mod cursors;
+mod laws;
 mod places;
 mod plays;
 mod steps;
 mod view;
 
+pub use laws::no_bag_is_lost;
 pub use places::{MOST_PLACES, PlaceRule, PlaceSeat, SharedPlaces};
 pub use view::PlaceView;

@@ -50,6 +50,7 @@ returns-then-claim-eq0-clause-fresh g c = record {
     ap (λ (z : ParticipantView). z.looked) claimed,
     ap (λ (z : ParticipantView). z.found) claimed,
   );
+  places = c.seat.ensures.view;
 }
 
 -- this position is lost as those before it were

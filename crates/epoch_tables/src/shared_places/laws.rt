@@ -1,0 +1,10 @@
+//! What the rule of the shared places means for bags.
+//!
+//! The function here does nothing: its contract is a law about any places that keep the rule.
+ghost use Rattle.epoch_tables.specs.SharedPlaces.{LosesNoBag};
+
+/// No bag is lost and none is got twice. However bags are weighed, what all seats have left in places weighs as much
+/// as what all of them have won there and what is at home in places.
+pub fn no_bag_is_lost<J>()
+    ensures { LosesNoBag J }
+{}
