@@ -36,6 +36,20 @@ pub fn run<R: BufRead, W: Write, F: Write>(
     }
 }
 
+/// Tells `faults` how the program `epoch-draw` is called, for words that it doesn't take, and answers its exit status:
+/// 2, or 3 where the stream fails, or 4 where that is for want of memory.
+pub fn tell_usage<F: Write>(faults: &mut F) -> u8 {
+    match write_usage(faults) {
+        Ok(()) => Ending::NotUnderstood.status(),
+        Err(error) => Ending::from(error).status(),
+    }
+}
+
+fn write_usage<F: Write>(faults: &mut F) -> io::Result<()> {
+    writeln!(faults, "usage: epoch-draw <SCRIPT >PICTURE.svg")?;
+    faults.flush()
+}
+
 fn write<W: Write>(alloc: Global, moments: &[crate::Moment], out: &mut W) -> io::Result<()> {
     let picture = lay_out(alloc, moments)?;
     draw(alloc, &picture, out)?;

@@ -8,7 +8,7 @@ mod marks;
 
 use crate::Moment;
 use epoch_bags::Called;
-use epoch_cells::Fault;
+use epoch_cells::{Fault, Name};
 use epoch_world::Call;
 use std::alloc::{AllocError, Global};
 
@@ -34,6 +34,8 @@ pub struct Mark {
 #[derive(Clone, Copy)]
 pub struct Deferral {
     pub ticket: u64,
+    /// The cell that the job removes, if it is a removal.
+    pub removes: Option<Name>,
     pub mark: Mark,
 }
 
@@ -46,6 +48,13 @@ pub struct Arrow {
     pub to: Mark,
 }
 
+/// A job that was called at once.
+#[derive(Clone, Copy)]
+pub struct AtOnce {
+    pub outcome: Called,
+    pub mark: Mark,
+}
+
 /// A step that was refused.
 #[derive(Clone, Copy)]
 pub struct Refusal {
@@ -55,7 +64,9 @@ pub struct Refusal {
 
 /// What the picture of a run shows.
 #[derive(Drop)]
-pub struct Picture {
+pub struct Picture<'m> {
+    /// The steps that it shows.
+    pub moments: &'m [Moment],
     /// The column of each step.
     pub columns: Vec<u32>,
     /// How many participants have a lane: those at the positions below.
@@ -69,7 +80,7 @@ pub struct Picture {
     pub deferrals: Vec<Deferral>,
     pub arrows: Vec<Arrow>,
     /// The jobs that were called at once, which have no ticket.
-    pub called_at_once: Vec<Mark>,
+    pub called_at_once: Vec<AtOnce>,
     pub refusals: Vec<Refusal>,
     /// The words of places that aren't empty.
     pub places: Vec<Bar<u64>>,
@@ -77,7 +88,7 @@ pub struct Picture {
 }
 
 /// Lays the steps of a run out. `AllocError`: an allocation was refused.
-pub fn lay_out(alloc: Global, moments: &[Moment]) -> Result<Picture, AllocError>
+pub fn lay_out<'m>(alloc: Global, moments: &'m [Moment]) -> Result<Picture<'m>, AllocError>
     // A lane for each participant that ever registered, and a pin, a call, a mark or an arrow for each reply that tells
     // of one.
     ensures lanes { IfOk result (λ picture. picture.participants ≡ lanes_told moments.now) }
@@ -93,6 +104,7 @@ pub fn lay_out(alloc: Global, moments: &[Moment]) -> Result<Picture, AllocError>
     let deferrals = marks::deferrals_of(alloc, moments)?;
     let arrows = marks::arrows_of(alloc, moments, &deferrals)?;
     Ok(Picture {
+        moments,
         columns: lanes::columns_of(alloc, moments)?,
         participants: lanes::participants_of(moments),
         registrations: bars::registrations_of(alloc, moments)?,

@@ -10,8 +10,8 @@ mod recording;
 mod sheet;
 
 pub use escape::escaped;
-pub use from_script::run;
-pub use layout::{Arrow, Bar, Deferral, Mark, Picture, Refusal, lay_out};
+pub use from_script::{run, tell_usage};
+pub use layout::{Arrow, AtOnce, Bar, Deferral, Mark, Picture, Refusal, lay_out};
 pub use moment::Moment;
 pub use recording::{MOST_STEPS, Stop, record};
 pub use sheet::draw;

@@ -7,6 +7,8 @@ use epoch_world::{Reply, Step};
 pub struct Moment {
     /// The number of the step, counted from 0.
     pub number: u32,
+    /// The number of the script's line that asks for it, counted from 1.
+    pub line: u64,
     pub step: Step,
     pub reply: Reply,
     /// The epoch.

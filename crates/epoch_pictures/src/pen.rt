@@ -17,14 +17,21 @@ const STYLES: &str = "<defs>
 text{font:10px Arial,Helvetica,'Liberation Sans',sans-serif;fill:#222}
 .middle{text-anchor:middle}.lane{font-weight:bold}.grey{fill:#666}.grey.middle{font-size:9px}
 .light{fill:#fff;font-weight:bold}.white{fill:#fff;text-anchor:middle}.ticket{text-anchor:middle}
-.white.long,.ticket.long{font-size:8px}.fault{fill:#a33f00;font-weight:bold}
+.white.long,.ticket.long,.small{font-size:8px}.white.many,.ticket.many{font-size:7px}
+.fault{fill:#a33f00;font-weight:bold}.note{fill:#444;font-size:9px}.before{text-anchor:end}
+.fault,.note{paint-order:stroke;stroke:#f6f6f6;stroke-width:2px}
 .page{fill:#fff}.shade{fill:#f6f6f6}.fold{fill:#ececec}.rule{stroke:#ddd;fill:none}
 .even{fill:#fff;stroke:#888}.odd{fill:#d9d9d9;stroke:#888}.member{fill:none;stroke:#999;stroke-dasharray:3 2}
 .call{fill:#e3e3e3;stroke:#999}.pin{fill:#0072b2;stroke:#00507d}.bag{fill:#f0b93a;stroke:#8a6000}
 .claim{fill:url(#hatch);stroke:#777}.deferral{fill:#fff;stroke:#00795a;stroke-width:1.5}.called{fill:#00795a;stroke:#00543f}
+.destroyed{fill:#7b3294;stroke:#4d1a5e}.held{fill:#ffe3cf;stroke:#d55e00;stroke-width:2}
+.gone{fill:#fff;stroke:#777;stroke-dasharray:2 2}.several{fill:#fff;stroke:#222}
 .arrow{fill:none;stroke:#333;stroke-width:1;stroke-linejoin:round;marker-end:url(#tip)}.cross{fill:none;stroke:#d55e00;stroke-width:3}
 </style>
 ";
+
+/// The room that two dots and a digit take.
+const LAST_DIGIT: u64 = 14;
 
 /// What bounds an element.
 #[derive(Clone, Copy)]
@@ -54,7 +61,7 @@ impl<'w, W: Write> Pen<'w, W> {
     pub fn begin(alloc: Global, out: &'w mut W, width: u64, height: u64) -> io::Result<Pen<'w, W>> {
         writeln!(
             out,
-            "<svg xmlns=\"http://www.w3.org/2000/svg\" width=\"{width}\" height=\"{height}\" viewBox=\"0 0 {width} {height}\">"
+            "<svg xmlns=\"http://www.w3.org/2000/svg\" role=\"img\" width=\"{width}\" height=\"{height}\" viewBox=\"0 0 {width} {height}\">"
         )?;
         out.write_all(STYLES.as_bytes())?;
         Ok(Pen { out, alloc })
@@ -66,7 +73,24 @@ impl<'w, W: Write> Pen<'w, W> {
         self.element(class, at, &text)
     }
 
-    /// Writes the element of a text. There is no other that has one.
+    /// Begins a group of shapes with a title, which a browser shows where the pointer rests on one of them.
+    pub fn open(&mut self, title: &str) -> io::Result<()> {
+        let title = SvgText::of(self.alloc, title)?;
+        self.title(&title)
+    }
+
+    /// Writes the element of a title.
+    fn title(&mut self, title: &SvgText) -> io::Result<()> {
+        let title = title.as_str();
+        writeln!(self.out, "<g><title>{title}</title>")
+    }
+
+    /// Ends the group.
+    pub fn close(&mut self) -> io::Result<()> {
+        writeln!(self.out, "</g>")
+    }
+
+    /// Writes the element of a text. But for titles there is no other that has one.
     fn element(
         &mut self,
         class: &'static str,
@@ -80,7 +104,7 @@ impl<'w, W: Write> Pen<'w, W> {
         )
     }
 
-    /// Writes a number behind these words, or alone, or as few of its last digits as there is room for.
+    /// Writes a number behind these words, or alone, or its last digit, or nothing, as there is room for.
     pub fn number(
         &mut self,
         class: &'static str,
@@ -96,6 +120,9 @@ impl<'w, W: Write> Pen<'w, W> {
         let digits = format!(in self.alloc; "{number}")?;
         if takes(&digits) <= room {
             return self.text(class, (x, y), &digits);
+        }
+        if room < LAST_DIGIT {
+            return Ok(());
         }
         let end = format!(in self.alloc; "..{}", number % 10)?;
         self.text(class, (x, y), &end)
@@ -172,4 +199,9 @@ impl<'w, W: Write> Pen<'w, W> {
 /// About how wide a text is: six pixels a letter, and two beside it.
 pub fn takes(text: &str) -> u64 {
     (text.len() as u64).saturating_mul(6).saturating_add(2)
+}
+
+/// About how wide a text of the class `small` is, with what is beside it in a bar.
+pub fn takes_small(text: &str) -> u64 {
+    (text.len() as u64).saturating_mul(4).saturating_add(5)
 }

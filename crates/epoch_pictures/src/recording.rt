@@ -8,7 +8,7 @@ use epoch_world::{Reply, Shape, Step, World};
 use std::alloc::Global;
 use std::io::BufRead;
 
-/// How many steps a picture may have. Our own: about 90,000 pixels.
+/// How many steps a picture may have. Our own: a picture of more says little.
 pub const MOST_STEPS: usize = 5_000;
 
 /// Why there is no recording.
@@ -37,6 +37,7 @@ pub fn record<R: BufRead>(alloc: Global, script: &mut Script<'_, R>) -> Result<V
         if !script.advance()? {
             break;
         }
+        recorder.line = script.number;
         recorder.perform(script.command()?)?;
     }
     Ok(recorder.moments)
@@ -47,6 +48,8 @@ pub fn record<R: BufRead>(alloc: Global, script: &mut Script<'_, R>) -> Result<V
 struct Recorder {
     world: World,
     words: Vec<u64>,
+    /// The number of the line that is done.
+    line: u64,
     moments: Vec<Moment>,
 }
 
@@ -59,6 +62,7 @@ impl Recorder {
         Ok(Recorder {
             world,
             words,
+            line: 0,
             moments: Vec::new(alloc),
         })
     }
@@ -102,6 +106,7 @@ impl Recorder {
         let reply = self.world.step(step);
         let moment = Moment {
             number,
+            line: self.line,
             step,
             reply,
             epoch: self.world.epoch(),

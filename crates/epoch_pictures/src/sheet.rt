@@ -4,9 +4,12 @@ ghost use Rattle.std.specs.Prelude.{◌≤◌, ◌*◌};
 mod bars;
 mod legend;
 mod marks;
+mod signs;
+mod titles;
 
 use crate::pen::{Area, Pen};
 use crate::{Bar, Picture};
+use legend::Legend;
 use std::alloc::Global;
 use std::io;
 use std::io::Write;
@@ -29,7 +32,8 @@ const FAR: u64 = 1_099_511_627_776;
 /// Where the lanes and the columns of a picture stand.
 #[derive(Clone, Copy)]
 struct Sheet<'p> {
-    picture: &'p Picture,
+    alloc: Global,
+    picture: &'p Picture<'p>,
     columns: u32,
     /// The lanes of participants, and the collector's, where something stands in it.
     lanes: u32,
@@ -37,19 +41,23 @@ struct Sheet<'p> {
 }
 
 /// Writes the picture as SVG. An `Err` is that of the writer, or says that an allocation was refused.
-pub fn draw<W: Write>(alloc: Global, picture: &Picture, out: &mut W) -> io::Result<()> {
-    let sheet = Sheet::of(picture);
-    let mut pen = Pen::begin(alloc, out, sheet.width(), sheet.bottom() + legend::HEIGHT)?;
-    sheet.draw_ground(&mut pen)?;
+pub fn draw<W: Write>(alloc: Global, picture: &Picture<'_>, out: &mut W) -> io::Result<()> {
+    let sheet = Sheet::of(alloc, picture);
+    let signs = sheet.signs()?;
+    let legend = Legend::of(alloc, &signs)?;
+    let height = sheet.bottom().saturating_add(legend.height());
+    let mut pen = Pen::begin(alloc, out, sheet.width(), height)?;
+    sheet.draw_ground(&mut pen, height)?;
     sheet.draw_columns(&mut pen)?;
+    sheet.draw_arrows(&mut pen)?;
     sheet.draw_bars(&mut pen)?;
-    sheet.draw_marks(alloc, &mut pen)?;
-    legend::draw(&mut pen, sheet.bottom())?;
+    sheet.draw_signs(&mut pen, &signs)?;
+    legend.draw(alloc, &mut pen, sheet.bottom())?;
     pen.end()
 }
 
 impl<'p> Sheet<'p> {
-    fn of(picture: &'p Picture) -> Sheet<'p> {
+    fn of(alloc: Global, picture: &'p Picture<'p>) -> Sheet<'p> {
         let columns = match picture.columns.last() {
             Some(column) => column.saturating_add(1),
             None => 0,
@@ -57,6 +65,7 @@ impl<'p> Sheet<'p> {
         let collects = has_collector(picture);
         let lanes = picture.participants.saturating_add(u32::from(collects));
         Sheet {
+            alloc,
             picture,
             columns,
             lanes,
@@ -120,8 +129,8 @@ impl<'p> Sheet<'p> {
     }
 
     /// The paper, and the ground and the name of each lane.
-    fn draw_ground<W: Write>(&self, pen: &mut Pen<'_, W>) -> io::Result<()> {
-        self.draw_strip(pen, "page", 0, self.bottom() + legend::HEIGHT)?;
+    fn draw_ground<W: Write>(&self, pen: &mut Pen<'_, W>, height: u64) -> io::Result<()> {
+        self.draw_strip(pen, "page", 0, height)?;
         for lane in 0..self.lanes {
             self.draw_lane_ground(pen, lane)?;
         }
@@ -190,6 +199,7 @@ impl<'p> Sheet<'p> {
         if steps > 1 {
             let left = middle.saturating_sub(COLUMN / 2);
             let height = self.bottom().saturating_sub(LANES);
+            self.open_span(pen, first, end.checked_sub(1))?;
             pen.rect(
                 "fold",
                 Area {
@@ -206,6 +216,7 @@ impl<'p> Sheet<'p> {
                 u64::from(steps),
                 2 * COLUMN,
             )?;
+            pen.close()?;
         }
         if self.column(first) % 5 == 0 {
             pen.line(middle, 28, self.bottom())?;
@@ -222,7 +233,7 @@ impl<'p> Sheet<'p> {
 }
 
 /// Whether something stands in no lane of a participant.
-fn has_collector(picture: &Picture) -> bool {
+fn has_collector(picture: &Picture<'_>) -> bool {
     let count = u64::from(picture.participants);
     let outside = |lane: Option<u64>| match lane {
         Some(position) => position >= count,

@@ -25,7 +25,21 @@ pub fn tell(rt: &impl Print, alloc: Global) -> io::Result<()> {
         tell_ending(rt, alloc, shows, script)?;
     }
     tell_refused(rt, alloc, "a stream that fails", ErrorKind::BrokenPipe)?;
-    tell_refused(rt, alloc, "a stream without memory", ErrorKind::OutOfMemory)
+    tell_refused(rt, alloc, "a stream without memory", ErrorKind::OutOfMemory)?;
+    tell_usage(rt, alloc)
+}
+
+/// Says what a word on the command line is answered, and with which status, on a stream that takes it and on others.
+fn tell_usage(rt: &impl Print, alloc: Global) -> io::Result<()> {
+    let mut faults = Vec::new(alloc);
+    let status = epoch_pictures::tell_usage(&mut faults);
+    let told = text_of(&faults);
+    println!(rt; "a word: status {status}, told '{told}'")?;
+    for kind in [ErrorKind::BrokenPipe, ErrorKind::OutOfMemory] {
+        let status = epoch_pictures::tell_usage(&mut Refusing(kind));
+        println!(rt; "a word, and {kind:?}: status {status}")?;
+    }
+    Ok(())
 }
 
 /// Says with which status a script ends, whether something is drawn, and what is told.

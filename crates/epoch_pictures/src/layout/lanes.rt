@@ -3,6 +3,7 @@ ghost use Rattle.std.specs.Prelude.{◌≡◌, length, IfOk};
 ghost use Rattle.epoch_pictures.specs.Told.{lanes_told, lanes_with};
 
 use crate::Moment;
+use crate::moment::lane_of;
 use epoch_world::{Answer, Reply};
 use std::alloc::{AllocError, Global};
 
@@ -42,16 +43,24 @@ pub fn columns_of(alloc: Global, moments: &[Moment]) -> Result<Vec<u32>, AllocEr
     let mut column: u32 = 0;
     let mut before = None;
     let mut was_quiet = false;
+    let mut told = None;
     for moment in moments {
         let is_same = before == Some(moment.epoch) && moment.place.is_none();
-        if before.is_some() && !(folds && joins(moment.reply, is_same, was_quiet)) {
+        let repeats = is_refused_again(told, moment);
+        if before.is_some() && !(folds && (repeats || joins(moment.reply, is_same, was_quiet))) {
             column = column.saturating_add(1);
         }
         columns.push(column)?;
         before = Some(moment.epoch);
         was_quiet = tells_nothing(moment.reply, is_same);
+        told = Some((lane_of(moment.step), moment.reply));
     }
     Ok(columns)
+}
+
+/// Whether a step is refused as the step before was, in the same lane.
+fn is_refused_again(told: Option<(Option<u64>, Reply)>, moment: &Moment) -> bool {
+    matches!(moment.reply, Reply::Refused(_)) && told == Some((lane_of(moment.step), moment.reply))
 }
 
 /// Whether a step only says that a call begins or goes on, and leaves the epoch and the places the same.

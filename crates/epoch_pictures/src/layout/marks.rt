@@ -3,8 +3,9 @@ ghost use Rattle.std.specs.Prelude.{◌≡◌, count_by, length, IfOk};
 ghost use Rattle.epoch_pictures.specs.Told.{calls, defers, refuses};
 
 use crate::moment::lane_of;
-use crate::{Arrow, Deferral, Mark, Moment, Refusal};
-use epoch_world::Reply;
+use crate::{Arrow, AtOnce, Deferral, Mark, Moment, Refusal};
+use epoch_cells::Name;
+use epoch_world::{Call, Reply, Step};
 use std::alloc::{AllocError, Global};
 
 fn mark_of(moment: &Moment) -> Mark {
@@ -21,10 +22,37 @@ pub fn deferrals_of(alloc: Global, moments: &[Moment]) -> Result<Vec<Deferral>, 
     for moment in moments {
         if let Reply::Deferred(ticket) = moment.reply {
             let mark = mark_of(moment);
-            deferrals.push(Deferral { ticket, mark })?;
+            let removes = removed_by(begun_before(moments, mark));
+            deferrals.push(Deferral {
+                ticket,
+                removes,
+                mark,
+            })?;
         }
     }
     Ok(deferrals)
+}
+
+/// The call that is under way in this lane at this step: the last one that began.
+fn begun_before(moments: &[Moment], mark: Mark) -> Option<Call> {
+    let end = (mark.at as usize).min(moments.len());
+    for back in 1..=end {
+        let moment = moments[end - back];
+        if let (Step::Begin(position, call), Reply::Began) = (moment.step, moment.reply)
+            && mark.lane == Some(position)
+        {
+            return Some(call);
+        }
+    }
+    None
+}
+
+/// The name that a call removes.
+fn removed_by(call: Option<Call>) -> Option<Name> {
+    match call? {
+        Call::DeferDestroy(_, ptr) => ptr.name,
+        _ => None,
+    }
 }
 
 /// An arrow to each called job that has a ticket, from its deferral among these.
@@ -60,14 +88,15 @@ fn deferred_at(deferrals: &[Deferral], ticket: u64) -> Option<Mark> {
     }
 }
 
-pub fn called_at_once_of(alloc: Global, moments: &[Moment]) -> Result<Vec<Mark>, AllocError> {
-    let mut marks = Vec::new(alloc);
+pub fn called_at_once_of(alloc: Global, moments: &[Moment]) -> Result<Vec<AtOnce>, AllocError> {
+    let mut called = Vec::new(alloc);
     for moment in moments {
-        if let Reply::CalledNow(_) = moment.reply {
-            marks.push(mark_of(moment))?;
+        if let Reply::CalledNow(outcome) = moment.reply {
+            let mark = mark_of(moment);
+            called.push(AtOnce { outcome, mark })?;
         }
     }
-    Ok(marks)
+    Ok(called)
 }
 
 pub fn refusals_of(alloc: Global, moments: &[Moment]) -> Result<Vec<Refusal>, AllocError>

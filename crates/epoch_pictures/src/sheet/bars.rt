@@ -2,7 +2,7 @@
 
 use super::{LANE, Sheet};
 use crate::Bar;
-use crate::pen::{Area, Pen, takes};
+use crate::pen::{Area, Pen, takes, takes_small};
 use epoch_world::{Access, Call, Change};
 use std::io;
 use std::io::Write;
@@ -17,18 +17,22 @@ impl Sheet<'_> {
         self.draw_epochs(pen)?;
         for bar in &self.picture.registrations {
             let area = self.area(bar, self.top_of(bar.lane), LANE - 4);
+            self.open_span(pen, bar.from, bar.to)?;
             match bar.to {
                 Some(_) => pen.rect("member", area)?,
                 None => pen.unclosed("member", area)?,
             }
+            pen.close()?;
         }
         for bar in &self.picture.calls {
             self.draw_call(pen, bar)?;
         }
         for bar in &self.picture.pins {
             let area = self.area(bar, self.top_of(bar.lane) + 24, BAR);
+            self.open_span(pen, bar.from, bar.to)?;
             self.draw_bar(pen, "pin", bar, area)?;
             self.draw_number(pen, "light", area, "pinned in ", bar.kind)?;
+            pen.close()?;
         }
         for bar in &self.picture.places {
             self.draw_place(pen, bar)?;
@@ -41,8 +45,10 @@ impl Sheet<'_> {
         for bar in &self.picture.epochs {
             let area = self.area(bar, 32, BAR);
             let class = if bar.kind % 2 == 0 { "even" } else { "odd" };
+            self.open_span(pen, bar.from, bar.to)?;
             self.draw_bar(pen, class, bar, area)?;
             self.draw_number(pen, "", area, "epoch ", bar.kind)?;
+            pen.close()?;
         }
         Ok(())
     }
@@ -59,26 +65,32 @@ impl Sheet<'_> {
         {
             area.width = area.width.saturating_add(OVER);
         }
+        self.open_span(pen, bar.from, bar.to)?;
         self.draw_bar(pen, "call", bar, area)?;
-        let name = match bar.kind {
-            Some(call) => name_of(call),
-            None => "end",
+        let (name, short) = match bar.kind {
+            Some(call) => (name_of(call), short_name_of(call)),
+            None => ("end", "end"),
         };
-        if takes(name) > area.width {
-            return Ok(());
+        if takes(name) <= area.width {
+            pen.text("", area.inside(), name)?;
+        } else if takes_small(short) <= area.width {
+            pen.text("small", area.inside(), short)?;
         }
-        pen.text("", area.inside(), name)
+        pen.close()
     }
 
     /// A claimed place, or a bag in its place.
     fn draw_place<W: Write>(&self, pen: &mut Pen<'_, W>, bar: &Bar<u64>) -> io::Result<()> {
         let top = self.top_of_place(bar.lane.unwrap_or(0));
         let area = self.area(bar, top + 3, BAR);
+        self.open_span(pen, bar.from, bar.to)?;
         if bar.kind % 2 == 0 {
-            return self.draw_bar(pen, "claim", bar, area);
+            self.draw_bar(pen, "claim", bar, area)?;
+        } else {
+            self.draw_bar(pen, "bag", bar, area)?;
+            self.draw_number(pen, "", area, "sealed with ", bar.kind / 2)?;
         }
-        self.draw_bar(pen, "bag", bar, area)?;
-        self.draw_number(pen, "", area, "sealed with ", bar.kind / 2)
+        pen.close()
     }
 
     /// Whether these are two steps of one column.
@@ -146,6 +158,14 @@ fn name_of(call: Call) -> &'static str {
         Call::Release => "release",
         Call::DeferDestroy(_, _) => "defer-destroy",
         Call::Access(access) => name_of_access(access),
+    }
+}
+
+/// A word for a call where its first word has no room.
+fn short_name_of(call: Call) -> &'static str {
+    match call {
+        Call::DeferDestroy(_, _) => "destroy",
+        _ => name_of(call),
     }
 }
 

@@ -1,9 +1,11 @@
 //! What happens in one step, as marks, and the arrows between them.
 
-use super::{COLUMN, Sheet};
+use super::signs::{Kind, Sign};
+use super::{LEFT, Sheet};
 use crate::pen::{Area, Pen, takes};
-use crate::{Arrow, Mark, Refusal};
-use std::alloc::Global;
+use crate::{Arrow, Mark};
+use epoch_bags::Called;
+use std::alloc::AllocError;
 use std::io;
 use std::io::Write;
 
@@ -11,27 +13,28 @@ use std::io::Write;
 const TOP: u64 = 45;
 
 const BOTTOM: u64 = 60;
+/// How far a mark reaches beside the middle of its column.
+const BESIDE: u64 = 9;
 
 impl Sheet<'_> {
-    pub fn draw_marks<W: Write>(&self, alloc: Global, pen: &mut Pen<'_, W>) -> io::Result<()> {
+    /// An arrow for each job from its deferral to its call, and one alone where several would be the same.
+    pub fn draw_arrows<W: Write>(&self, pen: &mut Pen<'_, W>) -> io::Result<()> {
+        let mut before = None;
         for arrow in &self.picture.arrows {
             if let Some(from) = arrow.from {
-                self.draw_arrow(pen, from, arrow)?;
+                let ends = (self.mark_at(from), self.mark_at(arrow.to));
+                if before != Some(ends) {
+                    self.draw_arrow(pen, from, arrow)?;
+                    before = Some(ends);
+                }
             }
         }
-        for deferral in &self.picture.deferrals {
-            self.draw_ticket(pen, "deferral", deferral.mark, Some(deferral.ticket))?;
-        }
-        for arrow in &self.picture.arrows {
-            self.draw_ticket(pen, "called", arrow.to, Some(arrow.ticket))?;
-        }
-        for mark in &self.picture.called_at_once {
-            self.draw_ticket(pen, "called", *mark, None)?;
-        }
-        for refusal in &self.picture.refusals {
-            self.draw_refusal(alloc, pen, refusal)?;
-        }
         Ok(())
+    }
+
+    /// Where a mark stands.
+    fn mark_at(&self, mark: Mark) -> (u64, u64) {
+        (self.x(mark.at), self.top_of(mark.lane))
     }
 
     /// An arrow goes below the marks of the lane where it begins, up to the column where it ends.
@@ -45,81 +48,162 @@ impl Sheet<'_> {
         let level = start + BOTTOM + 5 + arrow.ticket % 4 * 4;
         let bottom = if start < end { end + TOP } else { end + BOTTOM };
         let (left, right) = (self.x(from.at), self.x(arrow.to.at));
-        pen.arrow((left, start + BOTTOM), level, (right, bottom))
+        self.open_span(pen, from.at, Some(arrow.to.at))?;
+        pen.arrow((left, start + BOTTOM), level, (right, bottom))?;
+        pen.close()
     }
 
-    /// A box with the number of a ticket, if it has one.
-    fn draw_ticket<W: Write>(
-        &self,
-        pen: &mut Pen<'_, W>,
-        class: &'static str,
-        mark: Mark,
-        ticket: Option<u64>,
-    ) -> io::Result<()> {
-        let (middle, top) = (self.x(mark.at), self.top_of(mark.lane) + TOP);
-        let left = middle.saturating_sub(8);
-        pen.rect(
-            class,
-            Area {
-                left,
-                top,
-                width: 16,
-                height: BOTTOM - TOP,
-            },
-        )?;
-        let text = match (class, ticket) {
-            ("called", Some(100..)) => "white long",
-            ("called", _) => "white",
-            (_, Some(100..)) => "ticket long",
-            _ => "ticket",
-        };
-        match ticket {
-            Some(ticket) => pen.number(text, (middle, top + 11), "", ticket, 28),
-            None => pen.text(text, (middle, top + 11), "!"),
-        }
-    }
-
-    /// A cross, and behind it the name of the fault, or its number where there is no room up to the next mark.
-    fn draw_refusal<W: Write>(
-        &self,
-        alloc: Global,
-        pen: &mut Pen<'_, W>,
-        refusal: &Refusal,
-    ) -> io::Result<()> {
-        let (middle, top) = (
-            self.x(refusal.mark.at),
-            self.top_of(refusal.mark.lane) + TOP,
-        );
-        pen.cross(middle.saturating_sub(9), top + 3)?;
-        let fault = refusal.fault;
-        let name = format!(in alloc; "{fault:?}")?;
-        if (middle + 3).saturating_add(takes(&name)) <= self.next_mark(refusal.mark) {
-            return pen.text("fault", (middle + 3, top + 11), &name);
-        }
-        pen.number("fault", (middle + 3, top + 11), "", fault.number(), COLUMN)
-    }
-
-    /// The left edge of the next mark in this lane, or of nothing.
-    fn next_mark(&self, mark: Mark) -> u64 {
-        let mut next = self.width();
-        let lane = self.top_of(mark.lane);
-        let mut see = |other: Mark| {
-            if other.at > mark.at && self.top_of(other.lane) == lane {
-                next = next.min(self.x(other.at).saturating_sub(8));
+    pub fn draw_signs<W: Write>(&self, pen: &mut Pen<'_, W>, signs: &[Sign]) -> io::Result<()> {
+        for sign in signs {
+            self.open_span(pen, sign.from, Some(sign.to))?;
+            let top = sign.top.saturating_add(TOP);
+            match sign.kind {
+                Kind::Refusal(_) => pen.cross(
+                    sign.x.saturating_sub(BESIDE),
+                    top.saturating_add(3),
+                )?,
+                _ => draw_box(pen, sign, top)?,
             }
-        };
-        for deferral in &self.picture.deferrals {
-            see(deferral.mark);
+            self.draw_label(pen, signs, sign)?;
+            pen.close()?;
         }
-        for arrow in &self.picture.arrows {
-            see(arrow.to);
+        Ok(())
+    }
+
+    /// Writes what a sign is called behind it, or before it, where there is room. A fault's number always has room.
+    fn draw_label<W: Write>(
+        &self,
+        pen: &mut Pen<'_, W>,
+        signs: &[Sign],
+        sign: &Sign,
+    ) -> io::Result<()> {
+        let label = self.label_of(sign)?;
+        if label.is_empty() {
+            return Ok(());
         }
-        for called in &self.picture.called_at_once {
-            see(*called);
+        let (width, y) = (takes(&label), sign.top.saturating_add(TOP + 11));
+        let left = left_of_label(sign);
+        if left.saturating_add(width) <= self.next_sign(signs, sign) {
+            return pen.text(label_class(sign.kind), (left, y), &label);
         }
-        for refusal in &self.picture.refusals {
-            see(refusal.mark);
+        let right = sign.x.saturating_sub(BESIDE + 3);
+        if self.last_label(signs, sign)?.saturating_add(width) <= right {
+            return pen.text(label_class_before(sign.kind), (right, y), &label);
+        }
+        match sign.kind {
+            Kind::Refusal(fault) => pen.number("fault", (left, y), "", fault.number(), BESIDE * 2),
+            _ => Ok(()),
+        }
+    }
+
+    /// What a sign is called: the fault, what a removal did, or the cell that will be removed.
+    fn label_of(&self, sign: &Sign) -> Result<String, AllocError> {
+        let alloc = self.alloc;
+        match sign.kind {
+            Kind::Refusal(fault) if sign.count > 1 => {
+                format!(in alloc; "x{} {fault:?}", sign.count)
+            }
+            Kind::Refusal(fault) => format!(in alloc; "{fault:?}"),
+            Kind::Deferral(Some(name)) => format!(in alloc; "{}.{}", name.slot(), name.turn()),
+            Kind::Called(Called::Destroyed) => format!(in alloc; "destroyed"),
+            Kind::Called(Called::HeldElsewhere) => format!(in alloc; "held"),
+            Kind::Called(Called::Gone) => format!(in alloc; "gone"),
+            _ => Ok(String::new(alloc)),
+        }
+    }
+
+    /// The left edge of the next sign in this lane, or of nothing.
+    fn next_sign(&self, signs: &[Sign], sign: &Sign) -> u64 {
+        let mut next = self.width();
+        for other in signs {
+            if other.top == sign.top && other.x > sign.x {
+                next = next.min(other.x.saturating_sub(BESIDE));
+            }
         }
         next
+    }
+
+    /// Where the label of the sign before this one ends in its lane, or the lane begins.
+    fn last_label(&self, signs: &[Sign], sign: &Sign) -> Result<u64, AllocError> {
+        let mut end = LEFT;
+        for other in signs {
+            if other.top == sign.top && other.x < sign.x {
+                let label = self.label_of(other)?;
+                end = end.max(left_of_label(other).saturating_add(takes(&label)));
+            }
+        }
+        Ok(end)
+    }
+}
+
+/// A box with the number of a ticket, an exclamation mark where there is none, or the number of its marks.
+fn draw_box<W: Write>(pen: &mut Pen<'_, W>, sign: &Sign, top: u64) -> io::Result<()> {
+    let left = sign.x.saturating_sub(8);
+    pen.rect(
+        class_of(sign.kind),
+        Area {
+            left,
+            top,
+            width: 16,
+            height: BOTTOM - TOP,
+        },
+    )?;
+    let at = (sign.x, top.saturating_add(11));
+    let text = text_class(sign);
+    match sign.ticket {
+        _ if sign.count > 1 => pen.number(text, at, "x", sign.count, 64),
+        Some(ticket) => pen.number(text, at, "", ticket, 28),
+        None => pen.text(text, at, "!"),
+    }
+}
+
+/// The class of a sign's shape.
+pub fn class_of(kind: Kind) -> &'static str {
+    match kind {
+        Kind::Deferral(_) => "deferral",
+        Kind::Called(Called::Ran) => "called",
+        Kind::Called(Called::Destroyed) => "destroyed",
+        Kind::Called(Called::HeldElsewhere) => "held",
+        Kind::Called(Called::Gone) => "gone",
+        Kind::Refusal(_) => "cross",
+        Kind::Several => "several",
+    }
+}
+
+/// The class of the text in a sign's box.
+fn text_class(sign: &Sign) -> &'static str {
+    let is_full = matches!(sign.kind, Kind::Called(Called::Ran | Called::Destroyed));
+    let is_long = matches!(sign.ticket, Some(100..));
+    match (is_full, sign.count > 1, is_long) {
+        (true, true, _) => "white many",
+        (true, false, true) => "white long",
+        (true, false, false) => "white",
+        (false, true, _) => "ticket many",
+        (false, false, true) => "ticket long",
+        (false, false, false) => "ticket",
+    }
+}
+
+/// The class of the text behind a sign.
+fn label_class(kind: Kind) -> &'static str {
+    match kind {
+        Kind::Refusal(_) => "fault",
+        _ => "note",
+    }
+}
+
+/// The class of the text before a sign.
+fn label_class_before(kind: Kind) -> &'static str {
+    match kind {
+        Kind::Refusal(_) => "fault before",
+        _ => "note before",
+    }
+}
+
+/// Where the text behind a sign begins. A cross stands left of the middle of its column.
+fn left_of_label(sign: &Sign) -> u64 {
+    match sign.kind {
+        Kind::Refusal(_) => sign.x.saturating_add(3),
+        _ => sign.x.saturating_add(BESIDE + 2),
     }
 }
