@@ -31,7 +31,7 @@ unfolding at_least
 entered_keyless g η = λ ks. (tt, λ _. tt)
 
 -- nor do loans
-loans_keyless : (a : ℕ) (ls : List Loan) → Keyless (loans a ls)
+pub loans_keyless : (a : ℕ) (ls : List Loan) → Keyless (loans a ls)
 loans_keyless a [] = tt
 loans_keyless a (l ∷ ls) = (
   (pocket_keyless a l.pocket_name, (tt, entered_keyless (l.atom, l.epoch) l.log)),

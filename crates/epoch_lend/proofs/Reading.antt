@@ -222,7 +222,7 @@ module _ {M : Type 1} {𝓤 : Ura M} (𝓛 : Logic 𝓤) where
     abbrev S : Lft → Fml
     S = shown_at R d
 
-    abbrev looked_case : GName → ℕ → Bool → Fml
+    abbrev pub looked_case : GName → ℕ → Bool → Fml
     looked_case δ n true = fsep (known (n ≡ 1)) (fsep (fex ℕ (filled_pocket a δ)) (S (a ∷ [])))
     looked_case δ n false = fsep (known (n ≢ 1)) (fobs δ (gnum 0))
 

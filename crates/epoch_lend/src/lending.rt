@@ -39,8 +39,8 @@ impl<T> Move for Lending<T> {
 /// What a look gained: nothing, or the right to read for as long as the guard is lent.
 #[derive(Drop)]
 pub struct Glance<'g, T> {
-    at: *const T,
-    marker: PhantomData<&'g T>,
+    pub at: *const T,
+    pub marker: PhantomData<&'g T>,
     pub ghost right: { ℕ },
     pub ghost value: { T },
 }
@@ -52,7 +52,7 @@ impl<'g, T> Model for Glance<'g, T> {
 /// What a marking gained: nothing, or the value with what was lent of it.
 #[derive(Drop)]
 pub struct Marked<T> {
-    pub(crate) at: *const T,
+    pub at: *const T,
     pub ghost right: { ℕ },
     pub ghost value: { T },
     pub ghost lifetime: { ℕ },

@@ -9,7 +9,7 @@ use std::marker::Model;
 /// The right to read the value, for as long as this is held. A value has 2^63 parts, and this is `count` of them.
 #[derive(Drop)]
 pub struct Part<T> {
-    pub(crate) ptr: *const T,
+    pub ptr: *const T,
     pub ghost value: { T },
     pub ghost lifetime: { ℕ },
     pub ghost count: { ℕ },

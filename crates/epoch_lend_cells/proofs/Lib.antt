@@ -1,0 +1,3 @@
+pub mod Keyless
+pub mod TurnFields
+pub mod Turned

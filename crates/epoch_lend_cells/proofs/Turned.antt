@@ -1,0 +1,478 @@
+-- The steps on the word of a place, under its invariant. Assumes `Logic`.
+use Rattle.std.proofs.Common.{◌≡◌, ◌≢◌, ℕ, suc, ◌+◌, ◌*◌, List, [], ◌∷◌, ◌++◌, sym, refl, ap, ◌∙◌, subst, length}
+use Rattle.std.proofs.Common.{eqb, eq-eqb, ne_eqb}
+use Rattle.std.proofs.lemmas.List.{length-append}
+use Rattle.std.proofs.lemmas.Bool.{and_from}
+use native.Mathlib.Omega.{arith}
+use native.Mathlib.Decide.{ℕ_discrete}
+use mathlib.Core.Logic.{dite}
+use mathlib.Core.Bool.{Bool, true, false}
+use mathlib.Core.List.{IsPrefix}
+use seplogic.Ra.Ura.{Ura}
+use prog.Atomic.{either}
+use base.Fraction.{full_share}
+use base.Stored.{gnum, num}
+use base.Growing.{latest, at_least}
+use base.Logic.{SProp, ent, sep, ex, all_e, guard, upd, upd_i, emp, never_e}
+use base.Fml.{Lft, GName, Share, Fml, ftrue, fsep, fex, fall, flft, fobs, fauth, fbor, flent}
+use types.Logic.{Logic, sem}
+use types.Kit.{‵, raw, ◌⊛◌, given, ◌$◌, ◌∵◌, !, qed, by, move, keep, drop, split, split3, fsplit, fsplit3, fjoin, fjoin3}
+use types.Kit.{fpick, fpack, learn, show, frame, each, assume, suffices, settle, use0, use1, use2, use3, rewrite, done}
+use types.Growing.{latest_grows, latest_shows, latest_bounds, at_least_dup}
+use denote.RattleType.{RattleType, RowLaws}
+use denote.RawPtr.{Ptr, block_ptr, lies_at}
+use denote.SharingLaws.{contraction}
+use denote.Steps.{nothing}
+use denote.Struct.Lending.{lent_at}
+use Rattle.core.specs.Sync.RawAtomic.{asks, always, word}
+use Rattle.core.proofs.raw_atomic.Asked.{borrowed, Lies, Again}
+use Rattle.epoch_lend.specs.Posts.{known, is_among, IsAmong}
+use Rattle.std.specs.Prelude.{Option, Some, None}
+use Rattle.epoch_lend.specs.Loans.{Loan, filled_pocket, stock, Shown, are_within, Within, marked_owns}
+use Rattle.epoch_lend.proofs.Loans.{lends}
+use Rattle.epoch_lend.proofs.Reading as reading
+use Rattle.epoch_lend_cells.specs.Turning.{
+  TurnNames,
+  TurnStage,
+  vacant,
+  claimed,
+  shown,
+  removed,
+  turn_word,
+  TurnOf,
+  turn_logs,
+  turn_in,
+  turn_is,
+  claim_has,
+  claim_of,
+  vacancy_of,
+  log_of,
+  turns_so_far,
+  lent_with,
+  lent_of,
+  shown_with,
+  vacant_with,
+  turn_holds,
+  at_turn,
+  at_turn_word,
+  turns_at,
+}
+
+-- the stage of a word that is four times a turn
+is_vacant : (s : TurnStage) (t : ℕ) → turn_word s ≡ 4 * t → s ≡ vacant t
+is_vacant (vacant u) t e = ap vacant (omega (arith, e))
+is_vacant (claimed u) t e = absurd (omega (arith, e))
+is_vacant (shown u) t e = absurd (omega (arith, e))
+is_vacant (removed u) t e = absurd (omega (arith, e))
+
+-- the stage of a word that is four times a turn, and 1
+is_claimed : (s : TurnStage) (t : ℕ) → turn_word s ≡ 4 * t + 1 → s ≡ claimed t
+is_claimed (vacant u) t e = absurd (omega (arith, e))
+is_claimed (claimed u) t e = ap claimed (omega (arith, e))
+is_claimed (shown u) t e = absurd (omega (arith, e))
+is_claimed (removed u) t e = absurd (omega (arith, e))
+
+-- the stage of a word that is four times a turn, and 2
+is_shown : (s : TurnStage) (t : ℕ) → turn_word s ≡ 4 * t + 2 → s ≡ shown t
+is_shown (vacant u) t e = absurd (omega (arith, e))
+is_shown (claimed u) t e = absurd (omega (arith, e))
+is_shown (shown u) t e = ap shown (omega (arith, e))
+is_shown (removed u) t e = absurd (omega (arith, e))
+
+-- the stage of a word that is four times a turn, and 3
+is_removed : (s : TurnStage) (t : ℕ) → turn_word s ≡ 4 * t + 3 → s ≡ removed t
+is_removed (vacant u) t e = absurd (omega (arith, e))
+is_removed (claimed u) t e = absurd (omega (arith, e))
+is_removed (shown u) t e = absurd (omega (arith, e))
+is_removed (removed u) t e = ap removed (omega (arith, e))
+
+-- the first of a list, and what is behind it
+abbrev first_or : {X : Type 0} → X → List X → X
+first_or x [] = x
+first_or x (y ∷ ys) = y
+
+abbrev behind : {X : Type 0} → List X → List X
+behind [] = []
+behind (y ∷ ys) = ys
+
+-- of two logs, one the beginning of the other, the last values are one where they are of one turn
+same_turn : {X : Type 0} (xs ys rest : List X) (x y : X) → length xs ≡ length ys
+    → (xs ++ x ∷ []) ++ rest ≡ ys ++ y ∷ [] → y ≡ x
+same_turn [] [] rest x y e p = sym (ap (first_or x) p)
+same_turn [] (z ∷ ys) rest x y e p = absurd (omega (arith, e))
+same_turn (z ∷ xs) [] rest x y e p = absurd (omega (arith, e))
+same_turn (z ∷ xs) (w ∷ ys) rest x y e p = same_turn xs ys rest x y (omega (arith, e)) (ap behind p)
+
+-- the value of a turn is a fact, which may be had twice
+pub turn_dup : {M : Type 1} {𝓤 : Ura M} (𝓛 : Logic 𝓤) (R : RattleType) (log t : ℕ) (e : TurnOf R.Denot)
+    → ent 𝓤 (sem 𝓛 (turn_is R log t e)) (sep 𝓤 (sem 𝓛 (turn_is R log t e)) (sem 𝓛 (turn_is R log t e)))
+turn_dup 𝓛 R log t e = let O = turn_logs R in qed 𝓛 (‵ (turn_is R log t e) ∷ []) ∵ fpick ! (λ es. fsplit ! $
+    use1 𝓛 (‵ (at_least O log (es ++ e ∷ [])) ⊛ ‵ (at_least O log (es ++ e ∷ []))) (at_least_dup O 𝓛 log (es ++ e ∷ [])) $
+    split ! $ move ! (2 ∷ []) $ fpick ! (λ long. drop ! $
+    nothing ! $ fpack ! (length es ≡ t) (λ _. ftrue) long $ move ! (1 ∷ 0 ∷ []) $ fjoin ! $
+    fpack ! (List (TurnOf R.Denot)) (turn_in R log t e) es $ frame ! $
+    nothing ! $ fpack ! (length es ≡ t) (λ _. ftrue) long $ move ! (1 ∷ 0 ∷ []) $ fjoin ! $
+    fpack ! (List (TurnOf R.Denot)) (turn_in R log t e) es $ done !))
+
+module _ {M : Type 1} {𝓤 : Ura M} (𝓛 : Logic 𝓤) (R : RattleType) (d : TurnNames) where
+  open 𝓛 use {H, A}
+
+  abbrev Pr : Type 2
+  Pr = SProp 𝓤
+
+  abbrev ◌⊢◌ : Pr → Pr → Type 1
+  P ⊢ Q = ent 𝓤 P Q
+
+  abbrev ◌∗◌ : Pr → Pr → Pr
+  P ∗ Q = sep 𝓤 P Q
+
+  abbrev ⟦◌⟧ : Fml → Pr
+  ⟦ P ⟧ = sem 𝓛 P
+
+  infix 26 ◌⊢◌
+  infixr 35 ◌∗◌
+  abbrev δ : ℕ
+  δ = d.state
+
+  abbrev W : ℕ → Fml
+  W = at_turn_word R d
+
+  abbrev E : Type 0
+  E = TurnOf R.Denot
+
+  -- ---- a claim
+  module _ (t : ℕ) where
+    abbrev pub Claimed : ℕ → Fml
+    Claimed n = fall (n ≡ 4 * t) (λ _. fex R.Denot (claim_has R d.at δ (4 * t + 1)))
+
+    -- nothing is claimed by an exchange that found another word
+    unclaimed : (n : ℕ) → n ≢ 4 * t → emp 𝓤 ⊢ ⟦ Claimed n ⟧
+    unclaimed n miss = qed 𝓛 [] ∵ each ! (λ (_ : n ≡ 4 * t). ⟦ fex R.Denot (claim_has R d.at δ (4 * t + 1)) ⟧) (λ e.
+        absurd (miss e))
+
+    -- an exchange that finds the place vacant takes the place out
+    claims_hit : (n : ℕ) → n ≡ 4 * t → ⟦ W n ⟧ ∗ ⟦ ftrue ⟧ ⊢ upd 𝓤 (⟦ W (4 * t + 1) ⟧ ∗ ⟦ Claimed n ⟧)
+    claims_hit n hit = let u = gnum (4 * t + 1) in
+        let Goal : Pr = ⟦ W (4 * t + 1) ⟧ ∗ ⟦ Claimed n ⟧ in
+        qed 𝓛 (‵ (W n) ∷ ‵ ftrue ∷ []) ∵ fpick ! (λ s. fsplit3 ! $ fpick ! (λ is. drop ! $ move ! (1 ∷ []) $
+        rewrite ! 0 (λ (z : TurnStage). ‵ (turn_holds R d z)) (is_vacant s t (sym is ∙ hit)) refl $ fsplit3 ! $
+        move ! (0 ∷ 3 ∷ []) $
+        use2 𝓛 (raw (upd 𝓤 (A.obs δ u ∗ A.auth δ u))) (𝓛.names.name_set_upd δ (gnum (4 * t)) (gnum n) u) $
+        settle 𝓛 Goal (‵ (fobs δ u) ⊛ ‵ (fauth δ u)) $ split ! $ suffices ! Goal (upd_i 𝓤 Goal) $
+        -- [obs; auth; turns; the value]
+        move ! (1 ∷ 2 ∷ []) $ fjoin ! $ nothing ! $
+        fpack ! (4 * t + 1 ≡ 4 * t + 1) (λ _. ftrue) refl $ fjoin ! $
+        fpack ! TurnStage (at_turn R d (4 * t + 1)) (claimed t) $ frame ! $ keep ! (0 ∷ 1 ∷ []) $
+        move ! (1 ∷ []) $ fpick ! (λ x. move ! (1 ∷ 0 ∷ []) $ fjoin ! $ fpack ! R.Denot (claim_has R d.at δ (4 * t + 1)) x $
+        each ! (λ (_ : n ≡ 4 * t). ⟦ fex R.Denot (claim_has R d.at δ (4 * t + 1)) ⟧) (λ _. done !))))
+
+    -- an exchange that finds another word leaves all as it is
+    claims_miss : (n : ℕ) → n ≢ 4 * t → ⟦ W n ⟧ ∗ ⟦ ftrue ⟧ ⊢ upd 𝓤 (⟦ W n ⟧ ∗ ⟦ Claimed n ⟧)
+    claims_miss n miss = qed 𝓛 (‵ (W n) ∷ ‵ ftrue ∷ []) ∵ suffices ! _ (upd_i 𝓤 (⟦ W n ⟧ ∗ ⟦ Claimed n ⟧)) $ frame ! $
+        drop ! $ use0 𝓛 (‵ (Claimed n)) (unclaimed n miss) $ done !
+
+    claims : (n : ℕ) → ⟦ W n ⟧ ∗ ⟦ ftrue ⟧ ⊢ upd 𝓤 (⟦ W (either (eqb n (4 * t)) (4 * t + 1) n) ⟧ ∗ ⟦ Claimed n ⟧)
+    claims n = let F : Bool → Type 1 = λ y. ⟦ W n ⟧ ∗ ⟦ ftrue ⟧ ⊢ upd 𝓤 (⟦ W (either y (4 * t + 1) n) ⟧ ∗ ⟦ Claimed n ⟧) in
+        dite (ℕ_discrete n (4 * t))
+        (λ hit. subst F (sym (eq-eqb n (4 * t) hit)) (claims_hit n hit))
+        (λ miss. subst F (sym (ne_eqb n (4 * t) miss)) (claims_miss n miss))
+
+  -- ---- a value is shown
+  module _ (t : ℕ) (e : E) where
+    -- what a claim has once its value is lent for a lifetime of its own
+    abbrev pub Showing : Fml
+    Showing = fsep (fobs δ (gnum (4 * t + 1))) (fsep (flft (e.1 ∷ []) full_share) (fsep (lent_at R d.at e.0 (e.1 ∷ []))
+        (flent (e.1 ∷ []) (lies_at R full_share d.at e.0))))
+
+    -- a claimed place shows the value, as that of its turn
+    shows_claimed : (n : ℕ) → n ≡ 4 * t + 1 → (s : TurnStage)
+        → ⟦ at_turn R d n s ⟧ ∗ ⟦ Showing ⟧ ⊢ upd 𝓤 (⟦ W (4 * t + 2) ⟧ ∗ ⟦ turn_is R d.log t e ⟧)
+    shows_claimed n at s = let u = gnum (4 * t + 2) in
+        let Goal : Pr = ⟦ W (4 * t + 2) ⟧ ∗ ⟦ turn_is R d.log t e ⟧ in
+        let O = turn_logs R in
+        qed 𝓛 (‵ (at_turn R d n s) ∷ ‵ Showing ∷ []) ∵ fsplit3 ! $ fpick ! (λ is. drop ! $ move ! (1 ∷ []) $
+        rewrite ! 0 (λ (z : TurnStage). ‵ (turn_holds R d z)) (is_claimed s t (sym is ∙ at)) refl $ move ! (2 ∷ []) $
+        fsplit3 ! $ move ! (0 ∷ 4 ∷ []) $
+        -- [obs; auth; the token; what is shown and lent; turns]
+        use2 𝓛 (raw (upd 𝓤 (A.obs δ u ∗ A.auth δ u))) (𝓛.names.name_set_upd δ (gnum (4 * t + 1)) (gnum n) u) $
+        settle 𝓛 Goal (‵ (fobs δ u) ⊛ ‵ (fauth δ u)) $ split ! $ move ! (4 ∷ []) $ fpick ! (λ es. fsplit ! $
+        let fs : List E = es ++ e ∷ [] in
+        use1 𝓛 (raw (upd 𝓤 ⟦ latest O full_share d.log fs ⟧)) (latest_grows O 𝓛 d.log es fs (e ∷ [], refl)) $
+        settle 𝓛 Goal (‵ (latest O full_share d.log fs)) $ suffices ! Goal (upd_i 𝓤 Goal) $
+        use1 𝓛 (‵ (latest O full_share d.log fs) ⊛ ‵ (at_least O d.log fs)) (latest_shows O 𝓛 full_share d.log fs fs
+        (O.same fs)) $ split ! $
+        -- [latest; at_least; length; obs; auth; the token; what is shown and lent]
+        move ! (2 ∷ []) $ fpick ! (λ long. drop ! $ move ! (5 ∷ []) $ fsplit ! $ move ! (6 ∷ []) $ nothing ! $
+        move ! (1 ∷ 0 ∷ []) $ fjoin ! $ nothing ! $ fpack ! (Within d.posts []) (λ _. ftrue) refl $ move ! (2 ∷ 0 ∷ []) $
+        fjoin ! $ move ! (1 ∷ 0 ∷ []) $ fjoin ! $ move ! (0 ∷ 1 ∷ []) $ fjoin ! $ fpack ! (List Loan) (lent_with R d e) [] $
+        -- [lent; latest; at_least; obs; auth]
+        nothing ! $ fpack ! (length es ≡ t) (λ _. ftrue) long $ move ! (2 ∷ 0 ∷ 1 ∷ []) $ fjoin3 ! $
+        fpack ! (List E × E) (shown_with R d t) (es, e) $ move ! (2 ∷ 0 ∷ []) $ fjoin ! $ move ! (2 ∷ 0 ∷ []) $ fjoin ! $
+        nothing ! $ fpack ! (4 * t + 2 ≡ 4 * t + 2) (λ _. ftrue) refl $ fjoin ! $
+        fpack ! TurnStage (at_turn R d (4 * t + 2)) (shown t) $ frame ! $
+        nothing ! $ fpack ! (length es ≡ t) (λ _. ftrue) long $ move ! (1 ∷ 0 ∷ []) $ fjoin ! $
+        fpack ! (List E) (turn_in R d.log t e) es $ done !)))
+
+    shows : (n : ℕ) → ⟦ W n ⟧ ∗ ⟦ Showing ⟧ ⊢ upd 𝓤 (⟦ W (4 * t + 2) ⟧ ∗ ⟦ turn_is R d.log t e ⟧)
+    shows n = let Rest = fsep (flft (e.1 ∷ []) full_share) (fsep (lent_at R d.at e.0 (e.1 ∷ [])) (flent (e.1 ∷ [])
+        (lies_at R full_share d.at e.0))) in
+        qed 𝓛 (‵ (W n) ∷ ‵ Showing ∷ []) ∵ fpick ! (λ s. fsplit3 ! $ move ! (3 ∷ []) $ fsplit ! $ move ! (0 ∷ 3 ∷ []) $
+        use2 𝓛 (given (gnum (4 * t + 1) ≡ gnum n) (‵ (fobs δ (gnum (4 * t + 1))) ⊛ ‵ (fauth δ (gnum n))))
+        (𝓛.names.name_agree δ (gnum (4 * t + 1)) (gnum n)) $ learn ! (λ same. split ! $
+        -- [obs; auth; the rest; known; what the stage holds]
+        move ! (0 ∷ 2 ∷ []) $ fjoin ! $ move ! (2 ∷ 1 ∷ 3 ∷ []) $ fjoin3 ! $ by ! (shows_claimed n (sym (ap num same)) s)))
+
+  -- ---- what is shown at a turn, for who knows the value of a turn
+  module _ (t : ℕ) (e : E) where
+    abbrev w : ℕ
+    w = 4 * t + 2
+
+    abbrev pub Known : Fml
+    Known = turn_is R d.log t e
+
+    abbrev Held : List E × E → Fml
+    Held = shown_with R d t
+
+    -- a place that is shown at this turn has the value of this turn
+    abbrev pub Open : List E → Fml
+    Open es = fsep (latest (turn_logs R) full_share d.log (es ++ e ∷ [])) (fsep (known (length es ≡ t)) (lent_of R d e))
+
+    opens : ⟦ fex (List E × E) Held ⟧ ∗ ⟦ Known ⟧ ⊢ ⟦ fex (List E) Open ⟧
+    opens = let O = turn_logs R in qed 𝓛 (‵ (fex (List E × E) Held) ∷ ‵ Known ∷ []) ∵ fpick ! (λ now. fsplit3 ! $
+        move ! (1 ∷ []) $ fpick ! (λ long. drop ! $ move ! (2 ∷ []) $ fpick ! (λ es. fsplit ! $ move ! (1 ∷ []) $
+        fpick ! (λ as_long. drop ! $ move ! (1 ∷ 0 ∷ []) $
+        use2 𝓛 (given (IsPrefix (es ++ e ∷ []) (now.0 ++ now.1 ∷ [])) (‵ (latest O full_share d.log (now.0 ++ now.1 ∷ [])) ⊛
+        ‵ (at_least O d.log (es ++ e ∷ [])))) (latest_bounds O 𝓛 full_share d.log (now.0 ++ now.1 ∷ []) (es ++ e ∷ [])) $
+        learn ! (λ p. split ! $ let same : now.1 ≡ e = same_turn es now.0 p.0 e now.1 (as_long ∙ sym long) p.1 in
+        keep ! (0 ∷ 2 ∷ []) $
+        rewrite ! 0 (λ (z : E). ‵ (latest O full_share d.log (now.0 ++ z ∷ []))) same refl $ move ! (1 ∷ []) $
+        rewrite ! 0 (λ (z : E). ‵ (lent_of R d z)) same refl $ nothing ! $
+        fpack ! (length now.0 ≡ t) (λ _. ftrue) long $ move ! (2 ∷ 0 ∷ 1 ∷ []) $ fjoin3 ! $
+        fpack ! (List E) Open now.0 $ done !)))))
+
+    -- what was opened is closed again
+    closes : (es : List E) → ⟦ Open es ⟧ ⊢ ⟦ fex (List E × E) Held ⟧
+    closes es = qed 𝓛 (‵ (Open es) ∷ []) ∵ fpack ! (List E × E) Held (es, e) $ done !
+
+    -- ---- a mark
+    abbrev pub Out : Fml
+    Out = fsep (fobs δ (gnum (4 * t + 3))) (lent_of R d e)
+
+    abbrev pub Outed : ℕ → Fml
+    Outed n = fall (n ≡ w) (λ _. Out)
+
+    -- a mark that finds the value shown takes it out
+    marks_hit : (n : ℕ) → n ≡ w → ⟦ W n ⟧ ∗ ⟦ Known ⟧ ⊢ upd 𝓤 (⟦ W (4 * t + 3) ⟧ ∗ ⟦ Outed n ⟧)
+    marks_hit n hit = let u = gnum (4 * t + 3) in
+        let Goal : Pr = ⟦ W (4 * t + 3) ⟧ ∗ ⟦ Outed n ⟧ in
+        qed 𝓛 (‵ (W n) ∷ ‵ Known ∷ []) ∵ fpick ! (λ s. fsplit3 ! $ fpick ! (λ is. drop ! $ move ! (1 ∷ []) $
+        rewrite ! 0 (λ (z : TurnStage). ‵ (turn_holds R d z)) (is_shown s t (sym is ∙ hit)) refl $ fsplit ! $
+        move ! (1 ∷ 3 ∷ []) $ use2 𝓛 (‵ (fex (List E) Open)) opens $ fpick ! (λ es. fsplit3 ! $ move ! (3 ∷ 4 ∷ []) $
+        use2 𝓛 (raw (upd 𝓤 (A.obs δ u ∗ A.auth δ u))) (𝓛.names.name_set_upd δ (gnum w) (gnum n) u) $
+        settle 𝓛 Goal (‵ (fobs δ u) ⊛ ‵ (fauth δ u)) $ split ! $ suffices ! Goal (upd_i 𝓤 Goal) $
+        -- [obs; auth; latest; length; what was lent]
+        move ! (3 ∷ []) $ fpick ! (λ long. drop ! $ nothing ! $
+        fpack ! (length (es ++ e ∷ []) ≡ suc t) (λ _. ftrue) (omega (arith, length-append es (e ∷ []), long)) $
+        move ! (3 ∷ 0 ∷ []) $ fjoin ! $ fpack ! (List E) (log_of R d (suc t)) (es ++ e ∷ []) $ move ! (2 ∷ 0 ∷ []) $
+        fjoin ! $ nothing ! $ fpack ! (4 * t + 3 ≡ 4 * t + 3) (λ _. ftrue) refl $ fjoin ! $
+        fpack ! TurnStage (at_turn R d (4 * t + 3)) (removed t) $ frame ! $ fjoin ! $
+        each ! (λ (_ : n ≡ w). ⟦ Out ⟧) (λ _. done !)))))
+
+    -- a mark that finds another word leaves all as it is
+    marks_miss : (n : ℕ) → n ≢ w → ⟦ W n ⟧ ∗ ⟦ Known ⟧ ⊢ upd 𝓤 (⟦ W n ⟧ ∗ ⟦ Outed n ⟧)
+    marks_miss n miss = qed 𝓛 (‵ (W n) ∷ ‵ Known ∷ []) ∵ suffices ! _ (upd_i 𝓤 (⟦ W n ⟧ ∗ ⟦ Outed n ⟧)) $ frame ! $
+        drop ! $ use0 𝓛 (‵ (Outed n)) (qed 𝓛 [] ∵ each ! (λ (_ : n ≡ w). ⟦ Out ⟧) (λ e. absurd (miss e))) $ done !
+
+    marks : (n : ℕ) → ⟦ W n ⟧ ∗ ⟦ Known ⟧ ⊢ upd 𝓤 (⟦ W (either (eqb n w) (4 * t + 3) n) ⟧ ∗ ⟦ Outed n ⟧)
+    marks n = let F : Bool → Type 1 = λ y. ⟦ W n ⟧ ∗ ⟦ Known ⟧ ⊢ upd 𝓤 (⟦ W (either y (4 * t + 3) n) ⟧ ∗ ⟦ Outed n ⟧) in
+        dite (ℕ_discrete n w)
+        (λ hit. subst F (sym (eq-eqb n w hit)) (marks_hit n hit))
+        (λ miss. subst F (sym (ne_eqb n w miss)) (marks_miss n miss))
+
+    -- ---- a look
+    abbrev pub flag : ℕ → ℕ
+    flag n = either (eqb n w) 1 0
+
+    pub flag_hit : (n : ℕ) → n ≡ w → flag n ≡ 1
+    flag_hit n hit = ap (λ (y : Bool). either y 1 0) (eq-eqb n w hit)
+
+    pub flag_miss : (n : ℕ) → n ≢ w → flag n ≢ 1
+    flag_miss n miss one = absurd (omega (arith, sym (ap (λ (y : Bool). either y 1 0) (ne_eqb n w miss)) ∙ one))
+
+    -- the value as a look sees it
+    abbrev pub Seen : Shown R.Denot
+    Seen = record { at = d.at; value = e.0; lifetime = e.1; posts = d.posts }
+
+    module _ (L : RowLaws R) (γ epoch η : ℕ) (of : IsAmong η d.posts) (r : Share) (pocket : GName) where
+      abbrev lent_now : Loan
+      lent_now = record { atom = γ; epoch = epoch; log = η; pocket_name = pocket }
+
+      abbrev pub Asks : Fml
+      Asks = fsep Known (reading.Offer 𝓛 e.1 γ epoch η r pocket)
+
+      abbrev pub Looked : ℕ → Fml
+      Looked k = reading.Looked 𝓛 R Seen pocket k
+
+      -- the loan is left with the word, and the value is lent
+      lends_it : (n : ℕ) (es : List E) (ls : List Loan) → Within d.posts ls
+          → ⟦ fsep (stock e.1 ls) (fsep (lent_at R d.at e.0 (e.1 ∷ [])) (flent (e.1 ∷ []) (lies_at R full_share d.at e.0))) ⟧ ∗
+          ⟦ reading.Offer 𝓛 e.1 γ epoch η r pocket ⟧ ⊢ upd 𝓤 (⟦ lent_of R d e ⟧ ∗ ⟦ Looked 1 ⟧)
+      lends_it n es ls within = let Goal : Pr = ⟦ lent_of R d e ⟧ ∗ ⟦ Looked 1 ⟧ in
+          qed 𝓛 (‵ (fsep (stock e.1 ls) (fsep (lent_at R d.at e.0 (e.1 ∷ [])) (flent (e.1 ∷ []) (lies_at R full_share d.at
+          e.0)))) ∷ ‵ (reading.Offer 𝓛 e.1 γ epoch η r pocket) ∷ []) ∵ fsplit3 ! $ move ! (3 ∷ []) $ fsplit3 ! $ move ! (2 ∷ []) $
+          fsplit ! $
+          -- [auth; entered; the lender's right; obs; stock; shown; the value afterwards]
+          move ! (4 ∷ 2 ∷ 3 ∷ 0 ∷ 1 ∷ []) $ types.Kit.group ! 5 $
+          use1 𝓛 (raw (upd 𝓤 (⟦ stock e.1 (lent_now ∷ ls) ⟧ ∗ ⟦ filled_pocket e.1 pocket (length ls) ⟧))) (lends 𝓛 e.1 ls
+          lent_now) $
+          settle 𝓛 Goal (‵ (stock e.1 (lent_now ∷ ls)) ⊛ ‵ (filled_pocket e.1 pocket (length ls))) $ split ! $
+          suffices ! Goal (upd_i 𝓤 Goal) $ move ! (2 ∷ []) $
+          use1 𝓛 (‵ (lent_at R d.at e.0 (e.1 ∷ [])) ⊛ ‵ (lent_at R d.at e.0 (e.1 ∷ []))) (contraction 𝓛 (lent_at R d.at e.0)
+          (denote.Struct.Lending.lent_at_shr_laws R L d.at e.0) (e.1 ∷ [])) $ split ! $
+          nothing ! $ fpack ! (Within d.posts (lent_now ∷ ls)) (λ _. ftrue) (and_from (is_among η d.posts) (are_within
+          d.posts ls) of within) $
+          -- [within; shown; shown; stock; the pocket; the value afterwards]
+          move ! (3 ∷ 1 ∷ 0 ∷ []) $ fjoin3 ! $ move ! (0 ∷ 3 ∷ []) $ fjoin ! $
+          fpack ! (List Loan) (lent_with R d e) (lent_now ∷ ls) $ frame ! $
+          move ! (1 ∷ []) $ fpack ! ℕ (filled_pocket e.1 pocket) (length ls) $ fjoin ! $
+          nothing ! $ fpack ! (1 ≡ 1) (λ _. ftrue) refl $ fjoin ! $
+          fpack ! Bool (reading.looked_case 𝓛 R Seen pocket 1) true $ done !
+
+      -- a look that finds the value shown is lent it
+      sees_hit : (n : ℕ) → n ≡ w → ⟦ W n ⟧ ∗ ⟦ Asks ⟧ ⊢ upd 𝓤 (⟦ W n ⟧ ∗ ⟦ Looked 1 ⟧)
+      sees_hit n hit = let Goal : Pr = ⟦ W n ⟧ ∗ ⟦ Looked 1 ⟧ in
+          let O : Fml = reading.Offer 𝓛 e.1 γ epoch η r pocket in
+          qed 𝓛 (‵ (W n) ∷ ‵ Asks ∷ []) ∵ fpick ! (λ s. fsplit3 ! $ fpick ! (λ is. drop ! $ move ! (1 ∷ []) $
+          rewrite ! 0 (λ (z : TurnStage). ‵ (turn_holds R d z)) (is_shown s t (sym is ∙ hit)) refl $ fsplit ! $
+          move ! (3 ∷ []) $ fsplit ! $ move ! (3 ∷ 0 ∷ []) $ use2 𝓛 (‵ (fex (List E) Open)) opens $ fpick ! (λ es. fsplit3 ! $
+          -- [latest; length; what was lent; the offer; obs; auth]
+          move ! (2 ∷ []) $ fpick ! (λ ls. fsplit ! $ fsplit3 ! $ move ! (2 ∷ []) $ fpick ! (λ within. drop ! $
+          fjoin3 ! $ move ! (0 ∷ 3 ∷ []) $
+          use2 𝓛 (raw (upd 𝓤 (⟦ lent_of R d e ⟧ ∗ ⟦ Looked 1 ⟧))) (lends_it n es ls within) $
+          settle 𝓛 Goal (‵ (lent_of R d e) ⊛ ‵ (Looked 1)) $ split ! $ suffices ! Goal (upd_i 𝓤 Goal) $
+          -- [what was lent; what was seen; latest; length; obs; auth]
+          move ! (2 ∷ 3 ∷ 0 ∷ []) $ fjoin3 ! $ use1 𝓛 (‵ (fex (List E × E) Held)) (closes es) $ move ! (2 ∷ 0 ∷ []) $
+          fjoin ! $ move ! (2 ∷ 0 ∷ []) $ fjoin ! $ nothing ! $ fpack ! (n ≡ turn_word (shown t)) (λ _. ftrue) hit $
+          fjoin ! $ fpack ! TurnStage (at_turn R d n) (shown t) $ frame ! $ done !)))))
+
+      -- any other look is lent nothing
+      sees_miss : (n : ℕ) → ⟦ W n ⟧ ∗ ⟦ Asks ⟧ ⊢ upd 𝓤 (⟦ W n ⟧ ∗ ⟦ Looked 0 ⟧)
+      sees_miss n = let Goal : Pr = ⟦ W n ⟧ ∗ ⟦ Looked 0 ⟧ in
+          qed 𝓛 (‵ (W n) ∷ ‵ Asks ∷ []) ∵ suffices ! Goal (upd_i 𝓤 Goal) $ frame ! $ fsplit ! $ drop ! $ fsplit3 ! $
+          keep ! (1 ∷ []) $ nothing ! $ fpack ! (0 ≢ 1) (λ _. ftrue) (λ same. absurd (omega (arith, same))) $ fjoin ! $
+          fpack ! Bool (reading.looked_case 𝓛 R Seen pocket 0) false $ done !
+
+      sees : (n : ℕ) → ⟦ W n ⟧ ∗ ⟦ Asks ⟧ ⊢ upd 𝓤 (⟦ W n ⟧ ∗ ⟦ Looked (flag n) ⟧)
+      sees n = let F : Bool → Type 1 = λ y. ⟦ W n ⟧ ∗ ⟦ Asks ⟧ ⊢ upd 𝓤 (⟦ W n ⟧ ∗ ⟦ Looked (either y 1 0) ⟧) in
+          dite (ℕ_discrete n w)
+          (λ hit. subst F (sym (eq-eqb n w hit)) (sees_hit n hit))
+          (λ miss. subst F (sym (ne_eqb n w miss)) (sees_miss n))
+
+  -- ---- a place is vacant again, at the next turn
+  module _ (t : ℕ) (x : R.Denot) where
+    abbrev pub Removed : Fml
+    Removed = claim_has R d.at δ (4 * t + 3) x
+
+    -- who has the word gives the place back
+    releases : (n : ℕ) → ⟦ W n ⟧ ∗ ⟦ Removed ⟧ ⊢ upd 𝓤 (⟦ W (4 * suc t) ⟧ ∗ ⟦ ftrue ⟧)
+    releases n = let u = gnum (4 * suc t) in
+        let Goal : Pr = ⟦ W (4 * suc t) ⟧ ∗ ⟦ ftrue ⟧ in
+        qed 𝓛 (‵ (W n) ∷ ‵ Removed ∷ []) ∵ fpick ! (λ s. fsplit3 ! $ move ! (3 ∷ []) $ fsplit ! $ move ! (2 ∷ []) $
+        fpick ! (λ is. drop ! $ move ! (0 ∷ 2 ∷ []) $
+        use2 𝓛 (given (gnum (4 * t + 3) ≡ gnum n) (‵ (fobs δ (gnum (4 * t + 3))) ⊛ ‵ (fauth δ (gnum n))))
+        (𝓛.names.name_agree δ (gnum (4 * t + 3)) (gnum n)) $ learn ! (λ same. split ! $ move ! (3 ∷ []) $
+        rewrite ! 0 (λ (z : TurnStage). ‵ (turn_holds R d z)) (is_removed s t (sym is ∙ sym (ap num same))) refl $
+        move ! (1 ∷ 2 ∷ []) $
+        use2 𝓛 (raw (upd 𝓤 (A.obs δ u ∗ A.auth δ u))) (𝓛.names.name_set_upd δ (gnum (4 * t + 3)) (gnum n) u) $
+        settle 𝓛 Goal (‵ (fobs δ u) ⊛ ‵ (fauth δ u)) $ split ! $ suffices ! Goal (upd_i 𝓤 Goal) $
+        -- [obs; auth; turns; the value]
+        move ! (3 ∷ []) $ fpack ! R.Denot (vacant_with R d) x $ move ! (1 ∷ 3 ∷ 0 ∷ []) $ fjoin3 ! $
+        move ! (1 ∷ 0 ∷ []) $ fjoin ! $ nothing ! $ fpack ! (4 * suc t ≡ 4 * suc t) (λ _. ftrue) refl $ fjoin ! $
+        fpack ! TurnStage (at_turn R d (4 * suc t)) (vacant (suc t)) $ frame ! $ nothing ! $ done !)))
+
+  -- ---- under the invariant
+  module _ (α : Lft) (q : Share) (b o : ℕ) where
+    abbrev pub Memory : Fml
+    Memory = turns_at R d b o
+
+    -- one step under the invariant of the word
+    stepped : (f : ℕ → ℕ) (after : ℕ → Fml) (K : Fml) → ((n : ℕ) → ⟦ W n ⟧ ∗ ⟦ K ⟧ ⊢ upd 𝓤 (⟦ W (f n) ⟧ ∗ ⟦ after n ⟧))
+        → A.inv (fbor α Memory) ∗ (A.lft α q ∗ ⟦ K ⟧) ⊢ asks 𝓛 (block_ptr b (o + 0)) f always (λ n. fsep (flft α q) (after n))
+    stepped f after K law = let at : ℕ = o + 0 in
+        let G : Pr = ex 𝓤 (Lies 𝓛 α q Memory b at f always after) in borrowed 𝓛 α q Memory b at f always after ⟦ K ⟧ (
+        qed 𝓛 (‵ Memory ∷ ‵ K ∷ []) ∵ suffices ! _ (upd_i 𝓤 G) $ fpick ! (λ n. fsplit ! $
+        let Goal : Pr = ⟦ Memory ⟧ ∗ ⟦ after n ⟧ in
+        show ! (Lies 𝓛 α q Memory b at f always after) n $ frame ! $
+        each ! (λ (_ : Unit {0}). Again 𝓛 α q Memory b at f always after n) (λ _. assume ! (‵ (word b at (f n))) $
+        move ! (1 ∷ 2 ∷ []) $ use2 𝓛 (raw (upd 𝓤 (⟦ W (f n) ⟧ ∗ ⟦ after n ⟧))) (law n) $
+        settle 𝓛 Goal (‵ (W (f n)) ⊛ ‵ (after n)) $ split ! $ suffices ! _ (upd_i 𝓤 Goal) $
+        move ! (2 ∷ 0 ∷ []) $ fjoin ! $ fpack ! ℕ (λ m. fsep (word b at m) (W m)) (f n) $ done !)))
+
+    -- one exchange claims the place
+    pub claims_it : (t : ℕ) → A.inv (fbor α Memory) ∗ (A.lft α q ∗ ⟦ ftrue ⟧) ⊢ asks 𝓛 (block_ptr b (o + 0)) (λ n. either
+        (eqb n (4 * t)) (4 * t + 1) n) always (λ n. fsep (flft α q) (Claimed t n))
+    claims_it t = stepped (λ n. either (eqb n (4 * t)) (4 * t + 1) n) (Claimed t) ftrue (claims t)
+
+    -- one store shows the value
+    pub shows_it : (t : ℕ) (e : E) → A.inv (fbor α Memory) ∗ (A.lft α q ∗ ⟦ Showing t e ⟧) ⊢ asks 𝓛 (block_ptr b (o + 0))
+        (λ _. 4 * t + 2) always (λ n. fsep (flft α q) (turn_is R d.log t e))
+    shows_it t e = stepped (λ _. 4 * t + 2) (λ _. turn_is R d.log t e) (Showing t e) (shows t e)
+
+    -- one exchange marks the value
+    pub marks_it : (t : ℕ) (e : E) → A.inv (fbor α Memory) ∗ (A.lft α q ∗ ⟦ turn_is R d.log t e ⟧) ⊢ asks 𝓛 (block_ptr b
+        (o + 0)) (λ n. either (eqb n (4 * t + 2)) (4 * t + 3) n) always (λ n. fsep (flft α q) (Outed t e n))
+    marks_it t e = stepped (λ n. either (eqb n (4 * t + 2)) (4 * t + 3) n) (Outed t e) (Known t e) (marks t e)
+
+    -- one store makes the place vacant
+    pub releases_it : (t : ℕ) (x : R.Denot) → A.inv (fbor α Memory) ∗ (A.lft α q ∗ ⟦ Removed t x ⟧) ⊢ asks 𝓛 (block_ptr b
+        (o + 0)) (λ _. 4 * suc t) always (λ n. fsep (flft α q) ftrue)
+    releases_it t x = stepped (λ _. 4 * suc t) (λ _. ftrue) (Removed t x) (releases t x)
+
+    -- one plain load looks at the value
+    pub sees_it : (t : ℕ) (e : E) (L : RowLaws R) (γ epoch η : ℕ) (of : IsAmong η d.posts) (r : Share) (pocket : GName)
+        → A.inv (fbor α Memory) ∗ (A.lft α q ∗ ⟦ Asks t e L γ epoch η of r pocket ⟧) ⊢ asks 𝓛 (block_ptr b (o + 0)) (λ n. n)
+        always (λ n. fsep (flft α q) (Looked t e L γ epoch η of r pocket (flag t e n)))
+    sees_it t e L γ epoch η of r pocket = stepped (λ n. n) (λ n. Looked t e L γ epoch η of r pocket (flag t e n)) (Asks t e L γ
+        epoch η of r pocket) (sees t e L γ epoch η of r pocket)
+
+  -- ---- what an exchange gained
+  abbrev pub Gains : ℕ → ℕ → ℕ → Type 0
+  Gains old n k = (n ≡ old → k ≡ 1) × (n ≢ old → k ≡ 0)
+
+  module _ (t n : ℕ) where
+    abbrev pub Gain : ℕ × Option R.Denot → Pr
+    Gain g = guard 𝓤 (Gains (4 * t) n g.0) ⟦ claim_of R d.at δ (4 * t + 1) g.1 g.0 ⟧
+
+    -- a claim has the place where the word was that of a vacant place at this turn, and else nothing
+    pub gains : ⟦ Claimed t n ⟧ ⊢ ex 𝓤 Gain
+    gains = dite (ℕ_discrete n (4 * t))
+        (λ hit. qed 𝓛 (‵ (Claimed t n) ∷ []) ∵ use1 𝓛 (‵ (fex R.Denot (claim_has R d.at δ (4 * t + 1)))) (all_e 𝓤 (λ (_ : n
+        ≡ 4 * t). ⟦ fex R.Denot (claim_has R d.at δ (4 * t + 1)) ⟧) hit) $ fpick ! (λ x. show ! Gain (1, Some x) $
+        types.Kit.check ! ((λ _. refl), (λ miss. absurd (miss hit))) $ done !))
+        (λ miss. qed 𝓛 (‵ (Claimed t n) ∷ []) ∵ drop ! $ nothing ! $ show ! Gain (0, None) $
+        types.Kit.check ! ((λ hit. absurd (miss hit)), (λ _. refl)) $ done !)
+
+  module _ (t : ℕ) (e : E) (n : ℕ) where
+    abbrev pub Take : ℕ × List Loan → Pr
+    Take g = guard 𝓤 (Gains (4 * t + 2) n g.0 × Within d.posts g.1) ⟦ fsep (marked_owns R d.at e.0 e.1 g.0 g.1 [])
+        (vacancy_of R d.at δ (4 * t + 3) e g.0) ⟧
+
+    -- a mark has the value with its loans where the word was that of its turn, and else nothing
+    pub takes : ⟦ Outed t e n ⟧ ⊢ ex 𝓤 Take
+    takes = dite (ℕ_discrete n (4 * t + 2))
+        (λ hit. qed 𝓛 (‵ (Outed t e n) ∷ []) ∵ use1 𝓛 (‵ (Out t e)) (all_e 𝓤 (λ (_ : n ≡ 4 * t + 2). ⟦ Out t e ⟧) hit) $
+        fsplit ! $ move ! (1 ∷ []) $ fpick ! (λ ls. fsplit ! $ fsplit3 ! $ move ! (2 ∷ []) $ fpick ! (λ within.
+        -- [nothing; stock; shown; the value afterwards; obs]
+        move ! (1 ∷ 2 ∷ 0 ∷ []) $ fjoin3 ! $ move ! (2 ∷ 1 ∷ []) $ fjoin ! $ move ! (1 ∷ 0 ∷ []) $ fjoin ! $
+        show ! Take (1, ls) $ types.Kit.check ! (((λ _. refl), (λ miss. absurd (miss hit))), within) $ done !)))
+        (λ miss. qed 𝓛 (‵ (Outed t e n) ∷ []) ∵ drop ! $ nothing ! $ nothing ! $ fjoin ! $ show ! Take (0, []) $
+        types.Kit.check ! (((λ hit. absurd (miss hit)), (λ _. refl)), refl) $ done !)
+
+  -- who has the right of a claim has its value
+  abbrev pub Opened : ℕ → Option R.Denot → Ptr → R.Denot → Fml
+  Opened k v p x = fex (v ≡ Some x) (λ _. claim_has R p δ k x)
+
+  pub claim_opens : (k : ℕ) (v : Option R.Denot) (p : Ptr) → ⟦ claim_of R p δ k v 1 ⟧ ⊢ ⟦ fex R.Denot (Opened k v p) ⟧
+  claim_opens k None p = never_e 𝓤 _
+  claim_opens k (Some x) p = qed 𝓛 (‵ (claim_has R p δ k x) ∷ []) ∵ fpack ! (Some x ≡ Some x) (λ _. claim_has R p δ k x) refl $
+      fpack ! R.Denot (Opened k (Some x) p) x $ done !

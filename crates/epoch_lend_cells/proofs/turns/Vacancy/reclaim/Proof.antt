@@ -1,0 +1,119 @@
+-- `reclaim` ends the value's lifetime by all of its parts.
+use Rattle.std.proofs.Common.{length, ◌≡◌, ◌≢◌, ℕ, suc, ◌+◌, ◌*◌, ◌^◌, ◌<◌, List, [], ◌∷◌, ◌++◌, sym, refl, ap, ◌∙◌}
+use Rattle.std.proofs.Common.{subst, lit<, w64}
+use Rattle.std.specs.Prelude.{Option, Some, None}
+use native.Mathlib.Omega.{arith}
+use mir.Syntax.{a_type, named}
+use mir.Val.{Val, vunit, vint, vptr, vstruct, vcons, vnil, of_list}
+use mir.MapTy.{inst_fn}
+use prog.Atomic.{either}
+use base.Fraction.{full_share}
+use base.Stored.{gnum}
+use base.Logic.{SProp, ent, sep, wand, emp, id⊢, via, apply∗}
+use base.Fml.{Lft, Share, Fml, ftrue, fsep, fex, feq, flft, flent, fobs, fbor, fobor, fhide}
+use base.Before.{before}
+use types.Logic.{sem}
+use types.Kit.{‵, raw, ◌⊛◌, some, given, later, mean, at_ret, ◌$◌, ◌∵◌, !, qed, by, move, keep, drop, split, split3, join}
+use types.Kit.{fsplit, fsplit3, fjoin, fjoin3, fpick, fpack, pick, learn, use0, use1, use2, use3, await, rewrite, feq_i, flt_i}
+use types.Run.{stop, fld, addr, lit, of_opd, no_more, and_then, first, blocks, exec, Calls-last, returns, enter}
+use types.Run.{unit_lit}
+use types.ByLocal.{alloc_all, pass_all, free_all, look_at, get, get_in, through, sets, lands_last, env}
+use types.Part.{agg, sub, whole}
+use types.Na.{before_dup}
+use contract.Running.{tables}
+use contract.Monad.{fact, fact_i}
+use contract.BorrowLft.{◌⊑◌}
+use contract.Shared.{Lends-one}
+use denote.Exit.{yes, no}
+use denote.RattleType.{RattleType, Valss, owns}
+use denote.Signature.{types_at, plain, named_lft}
+use denote.RawPtr.{Ptr, RawPtr, block_ptr, ptr_val, lies_at, rawptr_vals, rawptr_Tells}
+use denote.Steps.{nothing, heard}
+use denote.Opens.{unhide}
+use denote.Memory.{hidden_shr}
+use denote.Param.{param, layouts}
+use denote.Param.Laws.{param_laws}
+use denote.Builtin.{RefOf, u64, unit}
+use denote.Ref.{shr_vals, shr_Tells}
+use denote.Plain.{uint_vals, uint_Tells}
+use denote.Struct.Lending.{lent_at, lent_at_shr_laws, lent_out, Lends-lies}
+use denote.Triple.Entry.{alive}
+use denote.Triple.Walked.{Stays, stay_dropped, walk_of, Goes-dropped}
+use Rattle.core.proofs.atomic.Steps.{tail}
+use Rattle.core.specs.contracts.marker.PhantomData as marker
+use Rattle.core.specs.Sync.RawAtomic.{asks, always}
+use Rattle.atomic_table.proofs.Walks.{proved, leaves}
+use Rattle.atomic_table.proofs.Calls.{fm, seq_cst, found, finds, stored, has_stored, loads, stores, exchanges}
+use Rattle.epoch_lend.specs.Posts.{guard_shares, IsAmong, logs_of}
+use Rattle.epoch_lend.specs.Loans.{Loan, Within, glance_owns, marked_owns, pocket}
+use Rattle.epoch_lend.proofs.Fields.{Token, hand_of, hand_typed, ptr_typed, pair_of, looked_typed, Words, hand_made}
+use Rattle.epoch_lend.proofs.Fields.{word, word_typed, marked_typed, Found, found_made}
+use Rattle.epoch_lend.proofs.PartSteps.{freezes, Frozen, tokens_whole}
+use Rattle.epoch_lend.proofs.Reading as reading
+use Rattle.epoch_lend.specs.contracts.post.Guard as lent_guard
+use Rattle.epoch_lend.specs.contracts.lending.Glance as glance
+use Rattle.epoch_lend.specs.contracts.lending.Marked as marked_is
+use Rattle.epoch_lend.specs.contracts.part.Part as part_is
+use Rattle.epoch_lend.proofs.PartFields as part_fields
+use Rattle.epoch_lend.specs.Parted.{tokens, part_owns}
+use Rattle.epoch_lend_cells.specs.Turning.{TurnNames, TurnOf, turn_is, turn_shares, claim_has, claim_of, vacancy_of}
+use Rattle.epoch_lend_cells.specs.contracts.turns.Turns as turns_is
+use Rattle.epoch_lend_cells.specs.contracts.turns.Claim as claim_is
+use Rattle.epoch_lend_cells.specs.contracts.turns.Vacancy as vacancy_is
+use Rattle.epoch_lend_cells.specs.contracts.turns.Name as name_is
+use Rattle.epoch_lend_cells.proofs.TurnFields as fields
+use Rattle.epoch_lend_cells.proofs.Turned as steps
+use Rattle.epoch_lend_cells.specs.contracts.turns.Vacancy.reclaim.{ended, clauses}
+use Rattle.epoch_lend_cells.specs.contracts.turns.Vacancy.reclaim.Key.{name as #self}
+use Rattle.epoch_lend_cells.proofs.turns.Vacancy.reclaim.Statement.{statement}
+use Rattle.epoch_lend_cells.proofs.turns.Vacancy.reclaim.Code as code
+
+pub reclaim_spec : {M : Type 1} → statement M
+reclaim_spec 𝓤 𝓛 𝓜 𝓡 wired X L =
+    let H = 𝓛.H in
+    let 𝓣 = tables 𝓤 H 𝓜 𝓡 𝓡.env in
+    let R : RattleType = param 0 X in
+    let En = ended X in
+    let c = clauses X 𝓛 𝓜.mem 𝓡.returns in
+    let inst = layouts (a_type ∷ []) (X, tt) in
+    let fn = inst_fn inst code.function in
+    let closed = code.unfolded 𝓤 H 𝓜 𝓡 wired (X, tt) in
+    let Row : RattleType = turns_is.the_row R in
+    let Cr : RattleType = claim_is.the_row R in
+    let Nr : RattleType = name_is.the_row R in
+    let LR = param_laws 0 X L in
+    let p0 = plain (λ _. vacancy_is.the_row R) in
+    let p1 = plain (λ _. part_is.the_row R) in
+    let hs : Stays En.signature.params En.kept = (stay_dropped p0 no, (stay_dropped p1 no, tt)) in
+    proved 𝓛 En hs c 𝓜 𝓡 (Goes-dropped 𝓛 1 p0 no (λ κs x f. refl), (Goes-dropped 𝓛 1 p1 no (λ κs x f. refl), tt)) (#self inst) fn closed
+    (λ κs. ((λ x. word x.at ∷ []), ((λ x. part_fields.word x.ptr ∷ []), tt)))
+    (λ κs. ((λ x vs so. fields.vacancy_told R x.at vs so.0), ((λ x vs so. part_fields.told R x.ptr vs so.0), tt))) (λ κs qs bounds a gh are.
+    let Vr : RattleType = vacancy_is.the_row R in
+    let Pr : RattleType = part_is.the_row R in
+    let u : Vr.Denot = a.0 in
+    let all : Pr.Denot = a.1.0 in
+    let p : Ptr = u.at in
+    let n : ℕ = u.lifetime in
+    let whole_value : Fml = lies_at R full_share p u.value in
+    let Asked : Type 0 = (u.right ≡ 1) × (all.lifetime ≡ n) × (all.count ≡ 2 ^ 63) in
+    let h : Cr.Denot = record { at = p; right = 1; state = u.state; word = u.word; value = Some u.value } in
+    let Told : Type 0 = (h.right ≡ 1) × (h.value ≡ Some u.value) × (u.state ≡ u.state) × (u.word ≡ u.word) × (p ≡ p) in
+    let y : (walk_of 𝓛 En hs c).Ghost = ((κs, qs, bounds, a, (word p ∷ [], (part_fields.word all.ptr ∷ [], tt))), gh) in
+    let Post : Val → SProp 𝓤 = (walk_of 𝓛 En hs c).post y in
+    qed 𝓛 ((raw (alive 𝓛 En.signature κs qs) ⊛ ‵ (owns (types_at En.signature.params κs) a y.0.4)) ∷ raw (fact 𝓤 _) ∷
+    raw (fact 𝓤 Asked) ∷ []) ∵
+    keep ! (2 ∷ 0 ∷ []) $ heard ! Asked (λ asked. split ! $ move ! (1 ∷ []) $ fsplit ! $ fsplit ! $
+    keep ! (2 ∷ 1 ∷ 3 ∷ []) $ fsplit ! $ fsplit ! $ keep ! (1 ∷ 3 ∷ 4 ∷ []) $ fsplit ! $ keep ! (0 ∷ 2 ∷ 3 ∷ []) $
+    -- [the parts' tokens; the vacancy; the tokens]
+    rewrite ! 0 (λ (z : ℕ × ℕ). ‵ (tokens z.0 z.1)) (λ i. (asked.1 i, asked.2 i)) refl $ move ! (1 ∷ []) $
+    rewrite ! 0 (λ (k : ℕ). ‵ (vacancy_of R p u.state u.word (u.value, n) k)) asked.0 refl $ fsplit ! $ move ! (1 ∷ 2 ∷ []) $
+    enter ! 𝓣.C 𝓣.Λ fn (word p ∷ part_fields.word all.ptr ∷ []) Post $
+    alloc_all ! (λ l. pass_all ! refl (word_typed p, (word_typed all.ptr, tt)) $
+    use2 𝓛 (later (‵ whole_value)) (Rattle.epoch_lend.proofs.PartSteps.thaws (lent_at R p u.value) (lent_at_shr_laws R
+    LR.shr_laws p u.value) 𝓛 whole_value n) $ await ! tt $ move ! (1 ∷ 0 ∷ []) $ fjoin ! $
+    sets ! (of_opd ! (get_in ! (fld ! refl (stop !)) (sub ! 0 refl (whole !)))) refl (ptr_typed p) $
+    sets ! (agg ! (and_then ! (get ! refl) (no_more !))) refl (word_typed p) $
+    use0 𝓛 (‵ ((fields.Claim R).own_val (p, tt) (word p ∷ []))) (fields.claim_made R 𝓛 p) $ fjoin ! $
+    use0 𝓛 (raw (fact 𝓤 Told)) (fact_i 𝓤 Told (emp 𝓤) (refl, refl, refl, refl, refl)) $ nothing ! $ nothing ! $ fjoin ! $ nothing ! $ fjoin ! $
+    returns ! (look_at ! 0 refl) $ free_all ! refl $ keep ! (3 ∷ 0 ∷ 2 ∷ 1 ∷ []) $
+    by ! (leaves 𝓛 En hs c y (word p) h (tt, (tt, tt)) (tt, (tt, tt))))))

@@ -1,0 +1,130 @@
+-- The word of a place that values take turns at. It is four times the turn, and the state: vacant, claimed by who
+-- places a value, shown to who looks, or removed. A log has the value of each turn so far, with the atom of the
+-- lifetime that it was lent for.
+use Rattle.std.specs.Prelude.{◌≡◌, ℕ, zero, suc, ◌+◌, ◌*◌, List, [], ◌∷◌, ◌++◌, length, Option, Some, None}
+use base.Fraction.{full_share}
+use base.Stored.{Coded, coded×, coded_ℕ, coded_list, coded_via, gnum}
+use base.Fml.{Lft, Fml, ftrue, ffalse, fsep, fex, fobs, fauth, fbor, flent}
+use base.Growing.{Order, prefixes, latest, at_least}
+use denote.RattleType.{RattleType}
+use denote.RawPtr.{Ptr, block_ptr, null_ptr, coded_ptr, lies_at}
+use denote.Sharing.{said, beside, some, ends, always}
+use denote.Struct.Lending.{lent_at}
+use Rattle.core.specs.Sync.RawAtomic.{word}
+use Rattle.epoch_lend.specs.Posts.{known}
+use Rattle.epoch_lend.specs.Loans.{Loan, stock, Within}
+
+-- what names a place: where its values lie, the log of their turns, who has the word, and whose guards may look
+pub record TurnNames : Type 0 where
+  pub at : Ptr
+  pub log : ℕ
+  pub state : ℕ
+  pub posts : List ℕ
+
+abbrev pub turn_names_coded : Coded TurnNames
+turn_names_coded = coded_via (coded× coded_ptr (coded× coded_ℕ (coded× coded_ℕ (coded_list coded_ℕ)))) (λ (d : TurnNames). (
+  d.at,
+  (
+    d.log,
+    (
+      d.state,
+      d.posts,
+    ),
+  ),
+)) (λ x y e i. record { at = (e i).0; log = (e i).1.0; state = (e i).1.1.0; posts = (e i).1.1.1 })
+
+-- the state at a turn
+pub data TurnStage : Type 0 where
+  vacant : ℕ → TurnStage
+  claimed : ℕ → TurnStage
+  shown : ℕ → TurnStage
+  removed : ℕ → TurnStage
+
+abbrev pub turn_word : TurnStage → ℕ
+turn_word (vacant turn) = 4 * turn
+turn_word (claimed turn) = 4 * turn + 1
+turn_word (shown turn) = 4 * turn + 2
+turn_word (removed turn) = 4 * turn + 3
+
+-- the value of a turn, and the atom of the lifetime that it is lent for
+abbrev pub TurnOf : Type 0 → Type 0
+TurnOf X = X × ℕ
+
+-- the values of the turns so far, which only grow
+abbrev pub turn_logs : (R : RattleType) → Order (List (TurnOf R.Denot))
+turn_logs R = prefixes (coded× R.coded coded_ℕ)
+
+abbrev pub turn_in : (R : RattleType) → ℕ → ℕ → TurnOf R.Denot → List (TurnOf R.Denot) → Fml
+turn_in R log turn e before = fsep (at_least (turn_logs R) log (before ++ e ∷ [])) (known (length before ≡ turn))
+
+-- this is the value of this turn
+abbrev pub turn_is : (R : RattleType) → ℕ → ℕ → TurnOf R.Denot → Fml
+turn_is R log turn e = fex (List (TurnOf R.Denot)) (turn_in R log turn e)
+
+abbrev pub turn_shares : (R : RattleType) → ℕ → ℕ → TurnOf R.Denot → Lft → Fml
+turn_shares R log turn e = said (turn_is R log turn e)
+
+-- the right of who has the word, and all of the value
+abbrev pub claim_has : (R : RattleType) → Ptr → ℕ → ℕ → R.Denot → Fml
+claim_has R p state n x = fsep (fobs state (gnum n)) (lies_at R full_share p x)
+
+abbrev pub claim_some : (R : RattleType) → Ptr → ℕ → ℕ → Option R.Denot → Fml
+claim_some R p state n (Some x) = claim_has R p state n x
+claim_some R p state n None = ffalse
+
+abbrev pub claim_of : (R : RattleType) → Ptr → ℕ → ℕ → Option R.Denot → ℕ → Fml
+claim_of R p state n v zero = ftrue
+claim_of R p state n v (suc k) = claim_some R p state n v
+
+-- the right of who removed a value: the word, and the value once its lifetime is over
+abbrev pub vacancy_has : (R : RattleType) → Ptr → ℕ → ℕ → TurnOf R.Denot → Fml
+vacancy_has R p state n e = fsep (fobs state (gnum n)) (flent (e.1 ∷ []) (lies_at R full_share p e.0))
+
+abbrev pub vacancy_of : (R : RattleType) → Ptr → ℕ → ℕ → TurnOf R.Denot → ℕ → Fml
+vacancy_of R p state n e zero = ftrue
+vacancy_of R p state n e (suc k) = vacancy_has R p state n e
+
+module _ (R : RattleType) (d : TurnNames) where
+  abbrev pub log_of : ℕ → List (TurnOf R.Denot) → Fml
+  log_of turns es = fsep (latest (turn_logs R) full_share d.log es) (known (length es ≡ turns))
+
+  abbrev pub turns_so_far : ℕ → Fml
+  turns_so_far turns = fex (List (TurnOf R.Denot)) (log_of turns)
+
+  -- what is lent of a value that is shown: the token of its lifetime less its loans, and the value itself after it
+  abbrev pub lent_with : TurnOf R.Denot → List Loan → Fml
+  lent_with e ls = fsep (fsep (stock e.1 ls) (fsep (lent_at R d.at e.0 (e.1 ∷ [])) (known (Within d.posts ls)))) (flent (e.1 ∷
+      []) (lies_at R full_share d.at e.0))
+
+  abbrev pub lent_of : TurnOf R.Denot → Fml
+  lent_of e = fex (List Loan) (lent_with e)
+
+  abbrev pub shown_with : ℕ → List (TurnOf R.Denot) × TurnOf R.Denot → Fml
+  shown_with turn s = fsep (latest (turn_logs R) full_share d.log (s.0 ++ s.1 ∷ [])) (fsep (known (length s.0 ≡ turn))
+      (lent_of s.1))
+
+  abbrev pub vacant_with : R.Denot → Fml
+  vacant_with x = lies_at R full_share d.at x
+
+  abbrev pub turn_holds : TurnStage → Fml
+  turn_holds (vacant turn) = fsep (fobs d.state (gnum (4 * turn))) (fsep (turns_so_far turn) (fex R.Denot vacant_with))
+  turn_holds (claimed turn) = turns_so_far turn
+  turn_holds (shown turn) = fsep (fobs d.state (gnum (4 * turn + 2))) (fex (List (TurnOf R.Denot) × TurnOf R.Denot)
+      (shown_with turn))
+  turn_holds (removed turn) = turns_so_far (suc turn)
+
+  abbrev pub at_turn : ℕ → TurnStage → Fml
+  at_turn n s = fsep (known (n ≡ turn_word s)) (fsep (fauth d.state (gnum n)) (turn_holds s))
+
+  abbrev pub at_turn_word : ℕ → Fml
+  at_turn_word n = fex TurnStage (at_turn n)
+
+  abbrev pub turns_own : (ℕ → Fml) → Fml
+  turns_own fields = fex ℕ (λ n. fsep (fields n) (at_turn_word n))
+
+  abbrev pub turns_at : ℕ → ℕ → Fml
+  turns_at b o = turns_own (word b (o + 0))
+
+  abbrev pub turns_share : Ptr → Lft → Fml
+  turns_share (block_ptr b o) = some Lft (λ α. beside (ends α) (always (fbor α (turns_at b o))))
+  turns_share null_ptr = said ffalse

@@ -1,0 +1,254 @@
+//! The word of a place that values take turns at.
+ghost use Rattle.std.specs.Prelude.{◌≡◌, ◌≢◌, ℕ, ◌+◌, ◌*◌, ◌^◌, [], Option, Some};
+ghost use Rattle.std.specs.Coded.{coded_option};
+ghost use Rattle.std.specs.Borrow.{full_share};
+ghost use Rattle.std.specs.Ptr.{Ptr, lies_at};
+ghost use Rattle.epoch_lend.specs.Posts.{IsAmong, logs_of};
+ghost use Rattle.epoch_lend.specs.Loans.{Within};
+ghost use Rattle.epoch_lend_cells.specs.Turning.{TurnNames, turn_names_coded, turns_own, turns_share};
+ghost use Rattle.epoch_lend_cells.specs.Turning.{turn_is, turn_shares, claim_of, vacancy_of};
+
+use atomic_table::exchange;
+use epoch_lend::lending::{Glance, Marked};
+use epoch_lend::part::Part;
+use epoch_lend::post::{Guard, Post};
+use std::alloc::Allocator;
+use std::marker::{Brand, Model, Move, Owns, PhantomData};
+use std::sync::atomic::Ordering::SeqCst;
+use std::sync::atomic::raw;
+
+/// The word: four times the turn, and the state. 0: vacant. 1: claimed, while a value is placed. 2: shown to guards.
+/// 3: removed, until the value is out.
+pub struct Turns<T> {
+    word: u64,
+    marker: PhantomData<T>,
+}
+
+impl<T> Owns for Turns<T> {
+    ghost Value = { TurnNames };
+
+    ghost coded = { turn_names_coded };
+
+    ghost shr_at = { λ d p κ. turns_share T.row d p κ };
+}
+
+impl<T> Move for Turns<T> {
+    ghost own_val = { λ d vs. turns_own T.row d (λ n. Fields.own_val (record { word = n; marker = record {} }) vs) };
+}
+
+/// A place in memory with its value.
+#[derive(Drop)]
+pub struct Place<T> {
+    pub(crate) at: *const T,
+    pub ghost value: { T },
+}
+
+impl<T> Model for Place<T> {
+    ghost also_owns = { λ h. lies_at T.row full_share h.at h.value };
+}
+
+/// What a claim gained: nothing, or the place with its value, which nobody else reaches until it is given back.
+#[derive(Drop)]
+pub struct Claim<T> {
+    pub(crate) at: *const T,
+    pub ghost right: { ℕ },
+    pub ghost state: { ℕ },
+    pub ghost word: { ℕ },
+    pub ghost value: { Option T } by { coded_option T.code },
+}
+
+impl<T> Model for Claim<T> {
+    ghost also_owns = { λ h. claim_of T.row h.at h.state h.word h.value h.right };
+}
+
+/// What a mark gained beside what was lent: nothing, or the place, once the value's lifetime is over.
+#[derive(Drop)]
+pub struct Vacancy<T> {
+    pub(crate) at: *const T,
+    pub ghost right: { ℕ },
+    pub ghost state: { ℕ },
+    pub ghost word: { ℕ },
+    pub ghost value: { T },
+    pub ghost lifetime: { ℕ },
+}
+
+impl<T> Model for Vacancy<T> {
+    ghost also_owns = { λ h. vacancy_of T.row h.at h.state h.word (h.value, h.lifetime) h.right };
+}
+
+/// The name of a value: its turn. It shows which value was placed at this turn.
+#[derive(Drop)]
+pub struct Name<T> {
+    pub turn: u64,
+    marker: PhantomData<T>,
+    pub ghost log: { ℕ },
+    pub ghost value: { T },
+    pub ghost lifetime: { ℕ },
+}
+
+impl<T> Model for Name<T> {
+    ghost also_owns = { λ h. turn_is T.row h.log h.turn (h.value, h.lifetime) };
+
+    ghost also_shares = { λ h _ κ. turn_shares T.row h.log h.turn (h.value, h.lifetime) κ };
+}
+
+impl<T> Turns<T> {
+    /// A vacant place at turn 0. Guards of these posts may look at its values.
+    pub fn new(place: Place<T>, posts: &[Post]) -> (Turns<T>, *const T)
+        ensures { (result.0.posts ≡ logs_of posts.now) × (result.0.at ≡ result.1) }
+    {
+        let _ = posts;
+        let Place { at } = place;
+        let turns = Turns {
+            word: 0,
+            marker: PhantomData,
+        };
+        (turns, at)
+    }
+
+    /// Claims the place at this turn, by one exchange. Only one does, and where the word was another, nobody.
+    pub fn claim(&self, at: *const T, turn: u64, vacant: u64, claimed: u64) -> (u64, Claim<T>)
+        requires { (at ≡ self.now.at) × (vacant ≡ 4 * turn) × (claimed ≡ 4 * turn + 1) }
+        ensures { (result.0 ≡ vacant → result.1.right ≡ 1) × (result.0 ≢ vacant → result.1.right ≡ 0)
+            × (result.1.state ≡ self.now.state) × (result.1.word ≡ claimed) × (result.1.at ≡ self.now.at) }
+    {
+        let _ = turn;
+        let found = unsafe { exchange::<Brand>(&raw const self.word, vacant, claimed) };
+        let claim = Claim { at };
+        (found, claim)
+    }
+
+    /// Shows the value of a claim to guards, by one store of the word, and answers its name.
+    pub fn show(&self, claim: Claim<T>, turn: u64, word: u64) -> Name<T>
+        requires of_place { (claim.right ≡ 1) × (claim.state ≡ self.now.state) × (claim.at ≡ self.now.at) }
+        requires of_turn { (claim.word ≡ 4 * turn + 1) × (word ≡ 4 * turn + 2) }
+        ensures { (result.turn ≡ turn) × (result.log ≡ self.now.log) × (Some result.value ≡ claim.value) }
+    {
+        let Claim { at: _ } = claim;
+        unsafe { raw::store::<Brand>(&raw const self.word, word, SeqCst) };
+        Name {
+            turn,
+            marker: PhantomData,
+        }
+    }
+
+    /// One plain load. Where it finds the word of the name's turn, the value of that turn may be read for as long as
+    /// the guard is lent. The guard must be of one of the place's posts.
+    pub fn look<'g>(&self, name: &Name<T>, guard: &'g Guard, at: *const T, word: u64) -> (u64, Glance<'g, T>)
+        requires { (at ≡ self.now.at) × (name.now.log ≡ self.now.log) × (word ≡ 4 * name.now.turn + 2)
+            × IsAmong guard.now.log self.now.posts }
+        ensures { (result.0 ≡ word → result.1.right ≡ 1) × (result.0 ≢ word → result.1.right ≡ 0)
+            × (result.1.value ≡ name.now.value) }
+    {
+        let _ = name;
+        let _ = guard;
+        let _ = word;
+        let found = unsafe { raw::load::<Brand>(&raw const self.word, SeqCst) };
+        let glance = Glance {
+            at,
+            marker: PhantomData,
+        };
+        (found, glance)
+    }
+
+    /// Marks the value of the name's turn, by one exchange: no look finds it from then on, and guards that have found
+    /// it keep it. Where the word was that of its turn, what the mark took out comes with it, and else nothing.
+    pub fn mark(&self, name: &Name<T>, at: *const T, shown: u64, removed: u64) -> (u64, Marked<T>, Vacancy<T>)
+        requires { (at ≡ self.now.at) × (name.now.log ≡ self.now.log) × (shown ≡ 4 * name.now.turn + 2)
+            × (removed ≡ 4 * name.now.turn + 3) }
+        ensures gained { (result.0 ≡ shown → (result.1.right ≡ 1) × (result.2.right ≡ 1))
+            × (result.0 ≢ shown → (result.1.right ≡ 0) × (result.2.right ≡ 0)) }
+        ensures marked { (result.1.value ≡ name.now.value) × (result.1.lifetime ≡ name.now.lifetime)
+            × (result.1.seen ≡ []) × Within self.now.posts result.1.loans }
+        ensures vacancy { (result.2.value ≡ name.now.value) × (result.2.lifetime ≡ name.now.lifetime)
+            × (result.2.state ≡ self.now.state) × (result.2.word ≡ removed) × (result.2.at ≡ self.now.at) }
+    {
+        let _ = name;
+        let found = unsafe { exchange::<Brand>(&raw const self.word, shown, removed) };
+        let marked = Marked { at };
+        let vacancy = Vacancy { at };
+        (found, marked, vacancy)
+    }
+
+    /// Makes the place vacant at the next turn, by one store of the word. What is in the place stays there.
+    pub fn release(&self, claim: Claim<T>, turn: u64, word: u64)
+        requires of_place { (claim.right ≡ 1) × (claim.state ≡ self.now.state) × (claim.at ≡ self.now.at) }
+        requires of_turn { (claim.word ≡ 4 * turn + 3) × (word ≡ 4 * turn + 4) }
+    {
+        let Claim { at: _ } = claim;
+        let _ = turn;
+        unsafe { raw::store::<Brand>(&raw const self.word, word, SeqCst) };
+    }
+}
+
+impl<T> Vacancy<T> {
+    /// The place with its value, once all parts of the value are back.
+    pub fn reclaim(self, all: Part<T>) -> Claim<T>
+        requires { (self.right ≡ 1) × (all.lifetime ≡ self.lifetime) × (all.count ≡ 2 ^ 63) }
+        ensures { (result.right ≡ 1) × (result.value ≡ Some self.value) × (result.state ≡ self.state)
+            × (result.word ≡ self.word) × (result.at ≡ self.at) }
+    {
+        let Vacancy { at } = self;
+        let Part { ptr: _ } = all;
+        Claim { at }
+    }
+
+    /// Ends what gained nothing.
+    pub fn done(self)
+        requires { self.right ≡ 0 }
+    {
+        let Vacancy { at: _ } = self;
+    }
+}
+
+impl<T> Claim<T> {
+    /// Leaves `value` in the place, and answers what was there.
+    pub fn swap(self, value: T) -> (Claim<T>, T)
+        requires { self.right ≡ 1 }
+        ensures value { Some result.1 ≡ self.value }
+        ensures claim { (result.0.right ≡ 1) × (result.0.value ≡ Some value) × (result.0.state ≡ self.state)
+            × (result.0.word ≡ self.word) × (result.0.at ≡ self.at) }
+    {
+        let Claim { at } = self;
+        let old = unsafe {
+            let place = at as *mut T;
+            let old = place.read();
+            place.write(value);
+            old
+        };
+        (Claim { at }, old)
+    }
+
+    /// Ends what gained nothing.
+    pub fn done(self)
+        requires { self.right ≡ 0 }
+    {
+        let Claim { at: _ } = self;
+    }
+}
+
+/// The place in memory of a box, for good, with its allocator.
+pub fn place_of<T: Drop, A: Allocator>(whole: Box<T, A>) -> (Place<T>, A)
+    ensures { result.0.value ≡ whole.value }
+{
+    let (ptr, alloc) = Box::into_raw_with_allocator(whole);
+    (Place { at: ptr }, alloc)
+}
+
+impl<T> Drop for Turns<T> {
+    fn drop(self) {
+        let Self { word: _, marker: _ } = self;
+    }
+}
+
+unsafe impl<T: Send + Sync> Send for Turns<T> {}
+
+unsafe impl<T: Send + Sync> Sync for Turns<T> {}
+
+unsafe impl<T: Send> Send for Claim<T> {}
+
+unsafe impl<T: Send> Send for Vacancy<T> {}
+
+unsafe impl<T> Send for Name<T> {}
+
+unsafe impl<T> Sync for Name<T> {}
