@@ -1,7 +1,7 @@
 -- What looks at posts tell together: a look before the seal and one after it show that each guard with a loan is over.
 use Rattle.std.proofs.Common.{length, take, slice_index_or, ◌≡◌, ◌≢◌, ℕ, suc, ◌+◌, ◌*◌, ◌<◌, ◌≤◌, ◌⊎◌, List, [], ◌∷◌}
 use Rattle.std.proofs.Common.{◌++◌, sym, refl, ap, ◌∙◌, subst, inl, inr}
-use mathlib.Core.Bool.{Bool, true, not, ◌&&◌, ◌||◌}
+use mathlib.Core.Bool.{Bool, true, not, ◌&&◌}
 use Rattle.std.specs.Prelude.{eqb, leb}
 use Rattle.std.proofs.lemmas.Bool.{and_parts, and_from, or_cases, or_left, or_right, not_from_false, eqb-true, eq-eqb}
 use Rattle.std.proofs.lemmas.Bool.{ne_eqb, le-leb, leb-true, false≢true}

@@ -177,6 +177,8 @@ unsafe impl Sync for Post {}
 
 unsafe impl Send for Unpinned {}
 
+unsafe impl Sync for Unpinned {}
+
 unsafe impl Send for Pin {}
 
 unsafe impl Send for Guard {}

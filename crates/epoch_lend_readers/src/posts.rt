@@ -1,0 +1,125 @@
+//! A fixed set of posts, and the rights to pin at them, which readers take and give back.
+ghost use Rattle.std.specs.Prelude.{◌≡◌, ◌<◌, List, [], length, map};
+ghost use Rattle.epoch_lend.specs.Posts.{PostNames};
+ghost use Rattle.epoch_lend_readers.specs.Sets.{Stands, names_of};
+
+use crate::reader::Reader;
+use counted_slot::{Counted, FREE, Fits, PRESENT, TAKEN};
+use epoch_lend::post::{Post, Unpinned};
+use std::alloc::{AllocError, Global};
+use std::marker::{Brand, PhantomData};
+
+/// Which posts a set has. Each call of a program that makes a set picks it.
+pub trait PostSet {
+    ghost posts: { List PostNames };
+}
+
+impl PostSet for Brand {
+    ghost posts = { [] };
+}
+
+/// The right to pin at one post of a set.
+#[derive(Drop)]
+pub(crate) struct Right<J: PostSet> {
+    pub(crate) position: usize,
+    // The place that it is taken from, and given back to.
+    pub(crate) home: usize,
+    pub(crate) unpinned: Unpinned,
+    pub(crate) set: PhantomData<J>,
+    pub(crate) ghost stands: { Stands J.posts position unpinned.log unpinned.state },
+}
+
+impl<J: PostSet> Fits for Right<J> {
+    type Tag = ();
+
+    ghost fits = { λ _ _. Unit {0} };
+}
+
+/// A fixed set of posts. Threads share it by `&`, and register at it to read.
+#[derive(Drop)]
+pub struct Posts<J: PostSet> {
+    posts: Vec<Post>,
+    places: Vec<Counted<Option<Right<J>>>>,
+    pub ghost named: { posts.items ≡ J.posts },
+}
+
+impl<J: PostSet> Posts<J> {
+    // A set of these posts, whose rights may be taken.
+    pub(crate) fn new(
+        alloc: Global,
+        posts: Vec<Post>,
+        rights: Vec<Unpinned>,
+    ) -> Result<Posts<J>, AllocError>
+        requires named { posts.items ≡ J.posts }
+        requires rights { map names_of rights.items ≡ J.posts }
+    {
+        let mut rest = rights;
+        let mut places = Vec::with_capacity(alloc, rest.len())?;
+        while let Some(unpinned) = rest.pop() {
+            let right = Right {
+                position: rest.len(),
+                home: places.len(),
+                unpinned,
+                set: PhantomData,
+            };
+            places.push(holding(right)).map_err(|_| AllocError)?;
+        }
+        Ok(Posts { posts, places })
+    }
+
+    /// How many posts there are, which is how many readers may be registered at a time.
+    pub fn len(&self) -> usize
+        ensures { result ≡ length J.posts }
+    {
+        self.posts.len()
+    }
+
+    /// The posts.
+    pub(crate) fn as_slice(&self) -> &[Post]
+        ensures { result.now ≡ J.posts }
+    {
+        self.posts.as_slice()
+    }
+
+    /// Registers a reader at a post that no reader has. `None`: each post was seen with a reader.
+    pub fn register(&self) -> Option<Reader<'_, J>> {
+        for place in &self.places {
+            if place.load() != PRESENT {
+                continue;
+            }
+            let (found, claim) = place.turn(PRESENT, TAKEN);
+            if found != PRESENT {
+                claim.done();
+                continue;
+            }
+            if let Some(right) = claim.put(None, FREE) {
+                return Some(Reader { posts: self, right });
+            }
+        }
+        None
+    }
+
+    // Puts the right back where it was taken from.
+    pub(crate) fn give_back(&self, right: Right<J>) {
+        if let Some(place) = self.places.get(right.home) {
+            let (found, claim) = place.turn(FREE, TAKEN);
+            if found == FREE {
+                let _ = claim.put(Some(right), PRESENT);
+            } else {
+                claim.done();
+            }
+        }
+    }
+}
+
+// A place from which this right may be taken.
+fn holding<J: PostSet>(right: Right<J>) -> Counted<Option<Right<J>>> {
+    let place = Counted::new(None, &());
+    let (found, claim) = place.turn(FREE, TAKEN);
+    if found == FREE {
+        let _ = claim.put(Some(right), PRESENT);
+    } else {
+        claim.done();
+    }
+    place
+}
