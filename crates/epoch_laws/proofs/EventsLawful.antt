@@ -13,7 +13,7 @@ use Rattle.epoch_laws.specs.declared.step.Entry.{Entry}
 use Rattle.epoch_laws.specs.declared.step.Word.TheVariants.{Free, Unpinned}
 use Rattle.epoch_laws.specs.Run.{with_places, WorldSeat, State, Ending, Open, Emptying, Over, seat_of, position_word}
 use Rattle.epoch_laws.specs.Run.{with_seat, free_seat, refusal, begun_seat, BeginsCall, EndGoes, Moves, Runs, IsFresh}
-use Rattle.epoch_laws.specs.Lawful.{Told, nothing, after_begin, after_go, told_after, HasToldRefused, MayEnd, MayEndGo}
+use Rattle.epoch_laws.specs.Lawful.{Told, nothing, after_begin, after_go, told_after, told_from, HasToldRefused, MayEnd, MayEndGo}
 use Rattle.epoch_laws.specs.Lawful.{MayReply, MayReplyAll}
 use Rattle.epoch_laws.proofs.SeatLemmas.{seat_there, IsAccepted, begin_given}
 use Rattle.epoch_laws.proofs.SeatLinks.{AllLinked}
@@ -129,8 +129,19 @@ replies_from old new (x ∷ log) told h linked (mid, took, run) =
     let still_linked : AllLinked mid = step_linked old mid x.step x.reply linked took in
     (shown.0, replies_from mid new log (λ q. told_after q (told q) x.step x.reply) shown.1 still_linked run)
 
-pub replies_stand : (s new : State) (log : List Entry) → IsFresh s → Runs s log new → MayReplyAll (λ p. nothing) log
-replies_stand s new log fresh run = replies_from s new log (λ p. nothing) all_free (fresh_linked s fresh) run
+-- what is told agrees with the seats after a run, too
+pub agrees_along : (old new : State) (log : List Entry) (told : ℕ → Told) → AllAgree old told → AllLinked old
+    → Runs old log new → AllAgree new (λ q. told_from q (told q) log)
+agrees_along old new [] told h linked run = subst (λ (s : State). AllAgree s told) (sym run) h
+agrees_along old new (x ∷ log) told h linked (mid, took, run) =
+    let aside : State = with_places mid old.places old.seen old.ahead old.room in
+    let shown : ShowsStep mid told x.step x.reply = step_shown old aside told x.reply h linked x.step took.0 in
+    agrees_along mid new log (λ q. told_after q (told q) x.step x.reply) shown.1
+    (step_linked old mid x.step x.reply linked took) run
+
+-- nothing is told of a new world
+pub fresh_agrees : (s : State) → IsFresh s → AllAgree s (λ p. nothing)
+fresh_agrees s fresh q = subst (λ (at : WorldSeat). Agrees nothing at) (sym (fresh.free q)) none_told
   where
     none_told : Agrees nothing (free_seat s.sizes)
     none_told = record {
@@ -141,5 +152,6 @@ replies_stand s new log fresh run = replies_from s new log (λ p. nothing) all_f
       away = λ free. record { registered = refl; call = refl; guards = refl; paused = refl; pinned = refl };
     }
 
-    all_free : AllAgree s (λ p. nothing)
-    all_free q = subst (λ (at : WorldSeat). Agrees nothing at) (sym (fresh.free q)) none_told
+pub replies_stand : (s new : State) (log : List Entry) → IsFresh s → Runs s log new → MayReplyAll (λ p. nothing) log
+replies_stand s new log fresh run =
+    replies_from s new log (λ p. nothing) (fresh_agrees s fresh) (fresh_linked s fresh) run

@@ -65,3 +65,9 @@ pub mod ToldGrows
 pub mod RepliesRead
 pub mod GuardsCounted
 pub mod CallsChecked
+pub mod LowestGuard
+pub mod Phases
+pub mod FitsRead
+pub mod Leavers
+pub mod RefusalsFit
+pub mod RepliesFit

@@ -350,11 +350,3 @@ IsDeferredBefore log t j = (i : ℕ) × (i < j) × IsReplyAt log i (Deferred t)
 -- no ticket is called that wasn't deferred before
 abbrev pub CallsAfterDeferrals : List Entry → Type 0
 CallsAfterDeferrals log = (t j : ℕ) (how : Called) → IsReplyAt log j (CalledReply t how) → IsDeferredBefore log t j
-
--- Each event stands only in its calls, and as often as it should; a call begins only of a participant that is
--- registered and has none under way, and whose guards allow it, and is done with its own kind of answer; a job is
--- called at most once, after it was deferred.
-pub record IsLawful (log : List Entry) : Type 0 where
-  pub in_calls : MayReplyAll (λ p. nothing) log
-  pub once : CallsNoneTwice log
-  pub deferred : CallsAfterDeferrals log

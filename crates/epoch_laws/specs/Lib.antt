@@ -6,6 +6,7 @@ pub mod Grace
 pub mod Tickets
 pub mod Ends
 pub mod Lawful
+pub mod Fits
 pub mod Known
 pub mod Events
 pub mod Shapes

@@ -4,10 +4,12 @@
 //! here that it is lawful, that it keeps grace, and that no ticket is called twice, by the very definitions that the
 //! laws of every run speak of. The checkers take no memory.
 mod events;
+mod fits;
 mod grace;
 mod guards;
 mod known;
 mod lawful;
+mod phase;
 mod tickets;
 
 pub use events::Event;

@@ -5,7 +5,7 @@ ghost use Rattle.epoch_laws.specs.Run.{State, IsFresh, Runs, Over, seat_of};
 ghost use Rattle.epoch_laws.specs.Grace.{KeepsGrace};
 ghost use Rattle.epoch_laws.specs.Tickets.{HoldsEachTicketOnce, NumbersTickets, times_called, times_deferred};
 ghost use Rattle.epoch_laws.specs.Ends.{EndsAtCount};
-ghost use Rattle.epoch_laws.specs.Lawful.{IsLawful};
+ghost use Rattle.epoch_laws.specs.Fits.{IsLawful};
 ghost use Rattle.epoch_laws.specs.Full.{FullWhereFound};
 ghost use Rattle.epoch_laws.specs.Refusals.{RefusedAlong, all_quiet, none_collected};
 

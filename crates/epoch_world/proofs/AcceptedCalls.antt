@@ -14,12 +14,13 @@ use Rattle.epoch_machine.specs.Machine.{is_taking}
 use Rattle.epoch_laws.specs.Collections.{expiry_of}
 use Rattle.epoch_laws.specs.Room.{is_putting}
 use Rattle.epoch_laws.specs.Kept.{IsSound}
-use Rattle.epoch_laws.specs.Lawful.{IsLawful}
+use Rattle.epoch_laws.specs.Fits.{IsLawful}
 use Rattle.epoch_world.specs.Steps.{InStore, steps_left, call_bound, IsSteady}
 use Rattle.epoch_world.specs.Worlds.{aheads}
 use Rattle.epoch_world.proofs.AheadsStay.{same_aheads, begun_for}
 use Rattle.epoch_laws.proofs.SeatLemmas.{seat_there, begin_given}
 use Rattle.epoch_laws.proofs.EventsLawful.{replies_stand}
+use Rattle.epoch_laws.proofs.RepliesFit.{replies_fit}
 use Rattle.epoch_laws.proofs.CallsAfterDeferrals.{calls_follow}
 use Rattle.epoch_world.proofs.Performed.{found_there, begin_moves}
 use Rattle.epoch_world.proofs.StepsFall.{begun_fits, begun_steady}
@@ -123,4 +124,9 @@ refused_takes s p c o f found some = (
 pub run_is_lawful : (s new : State) (log : List Entry) → IsFresh s → Runs s log new → IsLawful log
 run_is_lawful s new log fresh run =
     let calls = calls_follow s new log fresh run in
-    record { in_calls = replies_stand s new log fresh run; once = calls.once; deferred = calls.deferred }
+    record {
+      in_calls = replies_stand s new log fresh run;
+      fits = replies_fit s new log fresh run;
+      once = calls.once;
+      deferred = calls.deferred;
+    }

@@ -1,4 +1,3 @@
-pub mod LowestGuard
 pub mod PendingDeferrals
 pub mod DeferralsBounded
 pub mod TicketsBounded

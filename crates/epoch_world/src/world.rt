@@ -14,7 +14,7 @@ ghost use Rattle.epoch_world.specs.Worlds.{IsEmptying};
 ghost use Rattle.epoch_laws.specs.Grace.{KeepsGrace};
 ghost use Rattle.epoch_laws.specs.Tickets.{HoldsEachTicketOnce, NumbersTickets, times_called, times_deferred};
 ghost use Rattle.epoch_laws.specs.Ends.{EndsAtCount};
-ghost use Rattle.epoch_laws.specs.Lawful.{IsLawful};
+ghost use Rattle.epoch_laws.specs.Fits.{IsLawful};
 ghost use Rattle.epoch_laws.specs.Full.{FullWhereFound};
 ghost use Rattle.epoch_laws.specs.Refusals.{RefusedAlong, all_quiet, none_collected};
 ghost use Rattle.epoch_laws.specs.Calls.{call_entries, EndsAtLast};

@@ -1,12 +1,14 @@
 //! Histories that the checkers accept, and such that they have to refuse, told by hand.
 
 use crate::told::Told::{
-    BagsFull, Called, CalledByEnd, CalledGone, CalledNow, Deferred, Defers, Done, Flushes, Guard,
-    Pauses, Pinned, PinnedAtBegin, PinnedFor, Pins, RefusedAtBegin, Registered, RegistrationBegins,
+    BagsFull, Called, CalledByEnd, CalledGone, CalledNow, Deferred, Defers, Done, EndBegins,
+    EndDone, EndGoRefused, EndRefused, EndTakes, Flushes, GoRefused, Guard, Pauses, PinRefused,
+    Pinned, PinnedAtBegin, PinnedFor, Pins, Registered, RegistrationBegins, RegistrationRefused,
     Released, Releases, Repinned, Repins, Resumes, Stepped, Unpinned, UnpinnedByEnd, Unpins,
 };
 use crate::told::{Told, entries_of};
 use crate::wants::want;
+use epoch_base::Fault;
 use epoch_world::{calls_none_twice, is_lawful, keeps_grace};
 use std::alloc::Global;
 use std::process::Abort;
@@ -450,11 +452,224 @@ const CALLS: &[Row] = &[
         &[PinnedAtBegin],
     ),
     ("an end unpins nobody", false, &[UnpinnedByEnd]),
-    ("any call may be refused", true, &[RefusedAtBegin]),
     (
         "a call refused at its begin is no call",
         false,
-        &[Registered(0), RefusedAtBegin, Pinned(0)],
+        &[PinRefused(Fault::NotRegistered), Registered(0), Pinned(0)],
+    ),
+    (
+        "a guard that isn't the lowest",
+        false,
+        &[Registered(0), Pins(0), Pinned(0), Guard(1)],
+    ),
+    ("a position that isn't the lowest", false, &[Registered(1)]),
+    (
+        "a position that is free again",
+        true,
+        &[
+            Registered(0),
+            Registered(1),
+            Releases,
+            Pinned(0),
+            Unpinned(0),
+            Released,
+            Registered(0),
+        ],
+    ),
+];
+
+/// Which fault is whose.
+const FAULTS: &[Row] = &[
+    (
+        "a pin of nobody is refused",
+        true,
+        &[PinRefused(Fault::NotRegistered)],
+    ),
+    (
+        "but as that of nobody",
+        false,
+        &[PinRefused(Fault::TooManyGuards)],
+    ),
+    (
+        "a pin that has to be accepted",
+        false,
+        &[Registered(0), PinRefused(Fault::TooManyGuards)],
+    ),
+    (
+        "a pin within another is busy",
+        true,
+        &[Registered(0), Pins(0), PinRefused(Fault::Busy)],
+    ),
+    (
+        "and not after it",
+        false,
+        &[
+            Registered(0),
+            Pins(0),
+            Pinned(0),
+            Guard(0),
+            PinRefused(Fault::Busy),
+        ],
+    ),
+    (
+        "a pin of a paused participant is busy",
+        true,
+        &[
+            Registered(0),
+            Pins(0),
+            Pinned(0),
+            Guard(0),
+            Pauses(Some(0)),
+            Unpinned(0),
+            Done,
+            PinRefused(Fault::Busy),
+        ],
+    ),
+    (
+        "a pin finds no cells wanting",
+        false,
+        &[Registered(0), PinRefused(Fault::CellsFull)],
+    ),
+    (
+        "a deferral finds the bags full",
+        true,
+        &[
+            Registered(0),
+            Pins(0),
+            Pinned(0),
+            Guard(0),
+            Defers(Some(0)),
+            GoRefused(Fault::BagsFull),
+        ],
+    ),
+    (
+        "and no cells wanting",
+        false,
+        &[
+            Registered(0),
+            Pins(0),
+            Pinned(0),
+            Guard(0),
+            Defers(Some(0)),
+            GoRefused(Fault::CellsFull),
+        ],
+    ),
+    (
+        "a Go of no call is idle",
+        true,
+        &[Registered(0), GoRefused(Fault::Idle)],
+    ),
+    ("but not that of nobody", false, &[GoRefused(Fault::Idle)]),
+    (
+        "a table is full or not",
+        true,
+        &[RegistrationRefused(Fault::TableFull)],
+    ),
+    ("and never busy", false, &[RegistrationRefused(Fault::Busy)]),
+];
+
+/// When an end begins, and takes its steps.
+const ENDS: &[Row] = &[
+    (
+        "an end calls the job that is left",
+        true,
+        &[
+            Registered(0),
+            Pins(0),
+            Pinned(0),
+            Guard(0),
+            Defers(Some(0)),
+            Deferred(0),
+            Done,
+            Unpins(Some(0)),
+            Unpinned(0),
+            Done,
+            Releases,
+            Pinned(0),
+            Unpinned(0),
+            Released,
+            EndBegins,
+            EndTakes,
+            CalledByEnd(0),
+            EndDone(1),
+        ],
+    ),
+    (
+        "a call by no end",
+        false,
+        &[
+            Registered(0),
+            Pins(0),
+            Pinned(0),
+            Guard(0),
+            Defers(Some(0)),
+            Deferred(0),
+            Done,
+            Unpins(Some(0)),
+            Unpinned(0),
+            Done,
+            Releases,
+            Pinned(0),
+            Unpinned(0),
+            Released,
+            CalledByEnd(0),
+        ],
+    ),
+    ("a second end", false, &[EndBegins, EndBegins]),
+    (
+        "a second end is refused",
+        true,
+        &[EndBegins, EndRefused(Fault::Ended)],
+    ),
+    (
+        "an end with a participant left",
+        false,
+        &[Registered(0), EndBegins],
+    ),
+    (
+        "such an end is refused",
+        true,
+        &[Registered(0), EndRefused(Fault::ParticipantsLeft)],
+    ),
+    (
+        "an end that has to be accepted",
+        false,
+        &[EndRefused(Fault::ParticipantsLeft)],
+    ),
+    (
+        "a step of no end is refused",
+        true,
+        &[EndGoRefused(Fault::Idle)],
+    ),
+    (
+        "a step of an end is not",
+        false,
+        &[EndBegins, EndGoRefused(Fault::Idle)],
+    ),
+    (
+        "a step after the end is done",
+        false,
+        &[EndBegins, EndDone(0), EndTakes],
+    ),
+    (
+        "such a step is refused",
+        true,
+        &[EndBegins, EndDone(0), EndGoRefused(Fault::Idle)],
+    ),
+    (
+        "a registration after an end began",
+        false,
+        &[EndBegins, Registered(0)],
+    ),
+    (
+        "such a registration is refused",
+        true,
+        &[EndBegins, RegistrationRefused(Fault::Ended)],
+    ),
+    (
+        "but not for want of a position",
+        false,
+        &[EndBegins, RegistrationRefused(Fault::TableFull)],
     ),
 ];
 
@@ -515,4 +730,14 @@ fn jobs_are_deferred_and_called_once_and_in_order(rt: HostRuntime) -> Result<(),
 #[test]
 fn calls_begin_and_answer_only_where_they_may(rt: HostRuntime) -> Result<(), Fail> {
     expect_lawful(&rt, rt.alloc(), CALLS)
+}
+
+#[test]
+fn steps_are_refused_with_their_own_faults(rt: HostRuntime) -> Result<(), Fail> {
+    expect_lawful(&rt, rt.alloc(), FAULTS)
+}
+
+#[test]
+fn an_end_begins_once_and_when_all_have_left(rt: HostRuntime) -> Result<(), Fail> {
+    expect_lawful(&rt, rt.alloc(), ENDS)
 }

@@ -38,10 +38,19 @@ pub enum Told {
     Released,
     /// A deferral is refused at its end.
     BagsFull,
-    /// A registration begins, and a pin is published or refused at its begin.
+    /// A registration begins, and a pin is published at its begin.
     RegistrationBegins,
     PinnedAtBegin,
-    RefusedAtBegin,
+    /// A registration, the Begin of a pin, a Go, an end, or a step of an end is refused with this fault.
+    RegistrationRefused(Fault),
+    PinRefused(Fault),
+    GoRefused(Fault),
+    EndRefused(Fault),
+    EndGoRefused(Fault),
+    /// An end begins, takes a bag, and is done after so many calls.
+    EndBegins,
+    EndTakes,
+    EndDone(u64),
     /// A step of an end calls the job of this ticket, or withdraws a pin.
     CalledByEnd(u64),
     UnpinnedByEnd,
@@ -66,7 +75,9 @@ fn entry_of(told: Told) -> Entry {
 /// The step of an entry.
 fn step_of(told: Told) -> Step {
     match told {
-        Told::Registered(_) | Told::RegistrationBegins => Step::Register,
+        Told::Registered(_) | Told::RegistrationBegins | Told::RegistrationRefused(_) => {
+            Step::Register
+        }
         Told::Pins(participant) => Step::Begin(participant, Call::Pin),
         Told::Unpins(guard) => Step::Begin(0, Call::Unpin(guard)),
         Told::Repins(guard) => Step::Begin(0, Call::Repin(guard)),
@@ -75,12 +86,17 @@ fn step_of(told: Told) -> Step {
         Told::Defers(guard) => Step::Begin(0, Call::Defer(guard)),
         Told::Flushes(guard) => Step::Begin(0, Call::Flush(guard)),
         Told::Releases => Step::Begin(0, Call::Release),
-        Told::PinnedAtBegin | Told::RefusedAtBegin => Step::Begin(0, Call::Pin),
+        Told::PinnedAtBegin | Told::PinRefused(_) => Step::Begin(0, Call::Pin),
         Told::Pinned(participant)
         | Told::Unpinned(participant)
         | Told::Repinned(participant)
         | Told::PinnedFor(participant, _) => Step::Go(participant),
-        Told::CalledByEnd(_) | Told::UnpinnedByEnd => Step::EndGo,
+        Told::EndBegins | Told::EndRefused(_) => Step::End,
+        Told::CalledByEnd(_)
+        | Told::UnpinnedByEnd
+        | Told::EndTakes
+        | Told::EndDone(_)
+        | Told::EndGoRefused(_) => Step::EndGo,
         _ => Step::Go(0),
     }
 }
@@ -103,7 +119,12 @@ fn reply_of(told: Told) -> Reply {
         Told::Done => Reply::Done(Answer::Unit),
         Told::Released => Reply::Done(Answer::Released),
         Told::BagsFull => Reply::Refused(Fault::BagsFull),
-        Told::RefusedAtBegin => Reply::Refused(Fault::Busy),
+        Told::RegistrationRefused(fault) | Told::PinRefused(fault) => Reply::Refused(fault),
+        Told::GoRefused(fault) | Told::EndRefused(fault) | Told::EndGoRefused(fault) => {
+            Reply::Refused(fault)
+        }
+        Told::EndTakes => Reply::Stepped,
+        Told::EndDone(calls) => Reply::Done(Answer::Count(calls)),
         _ => Reply::Began,
     }
 }

@@ -3,7 +3,7 @@ ghost use Rattle.std.specs.Prelude.{IfOk};
 ghost use Rattle.epoch_laws.specs.Run.{Runs, entries_of};
 ghost use Rattle.epoch_laws.specs.Grace.{KeepsGrace};
 ghost use Rattle.epoch_laws.specs.Tickets.{HoldsEachTicketOnce};
-ghost use Rattle.epoch_laws.specs.Lawful.{IsLawful};
+ghost use Rattle.epoch_laws.specs.Fits.{IsLawful};
 ghost use Rattle.epoch_rounds_laws.specs.Rounds.{RoundsCallAll};
 ghost use Rattle.epoch_rounds_laws.specs.Collected.{CollectsFew};
 ghost use Rattle.epoch_world.specs.Earlier.{AlongSteps, SinceEachState};

@@ -5,7 +5,7 @@ ghost use Rattle.std.specs.Prelude.{◌≡◌, ◌↔◌, ◌==◌, ℕ, ◌+◌
 ghost use Rattle.std.specs.Prelude.{count_by};
 ghost use Rattle.epoch_laws.specs.Lawful.{told_of};
 ghost use Rattle.epoch_laws.specs.Known.{changed};
-ghost use Rattle.epoch_laws.specs.Run.{is_out};
+ghost use Rattle.epoch_laws.specs.Run.{is_out, lowest};
 
 use crate::history::known::{Change, Known};
 use crate::step::Entry;
@@ -46,6 +46,18 @@ pub fn has_out(entries: &[Entry], participant: u64, guard: u64) -> bool
     ensures { IsTrue result ↔ (is_out guard (told_of participant entries.now).guards ≡ true) }
 {
     times_out(entries, participant, guard) > 0
+}
+
+/// The least number of no guard of this participant that is counted; 64 where all are.
+pub fn lowest(entries: &[Entry], participant: u64) -> u64
+    ensures { result ≡ lowest (told_of participant entries.now).guards }
+{
+    for number in 0..64 {
+        if !has_out(entries, participant, number) {
+            return number;
+        }
+    }
+    64
 }
 
 /// How many guards of this participant are counted.

@@ -1,13 +1,15 @@
 //! Whether each event of a history stands only where it may.
 ghost use Rattle.std.specs.Prelude.{◌≡◌, ◌↔◌, IsTrue, Some};
-ghost use Rattle.epoch_laws.specs.Lawful.{IsLawful, nothing, told_of, MayPin, MayUnpin, MayRepin, MayDefer, MayCall};
+ghost use Rattle.epoch_laws.specs.Lawful.{nothing, told_of, MayPin, MayUnpin, MayRepin, MayDefer, MayCall};
 ghost use Rattle.epoch_laws.specs.Lawful.{MayCallNow, Told, HasTold, HasToldRefused, IsValue, IsPointer, IsWritten};
 ghost use Rattle.epoch_laws.specs.Lawful.{IsExchange, IsUpdate, ChangeAnswers, AccessAnswers, AnswerFits, MayTell};
 ghost use Rattle.epoch_laws.specs.Lawful.{MayRegister, GuardAllows, GuardsAllow, MayAccept, MayBegin, MayEnd, MayEndGo};
 ghost use Rattle.epoch_laws.specs.Lawful.{MayReply, MayReplyAll};
+ghost use Rattle.epoch_laws.specs.Fits.{IsLawful};
 ghost use Rattle.epoch_laws.specs.Known.{known_of};
 ghost use Rattle.epoch_laws.specs.Run.{waits as call_waits};
 
+use crate::history::fits::each_fits;
 use crate::history::guards::{has_none, has_one, has_only, has_out, has_room};
 use crate::history::known::Known;
 use crate::history::tickets::{calls_after_deferrals, calls_none_twice};
@@ -16,13 +18,18 @@ use epoch_heap::{Access, Answer, Change};
 
 /// Whether each event stands only in the calls in which it may and as often as it should, each call begins only of a
 /// participant that is registered and has none under way, and whose guards allow it, and is done with its own kind of
-/// answer, and each job is called at most once, after it was deferred.
+/// answer, and each job is called at most once, after it was deferred; whether each position given is the lowest free
+/// one, each guard given the lowest that isn't counted, each refusal one that a world may give then, and an end is
+/// accepted once, when each participant has left, and takes its steps from then on until it is done.
 ///
 /// It takes no memory. Its time grows with the third power of the number of entries at worst.
 pub fn is_lawful(entries: &[Entry]) -> bool
     ensures { IsTrue result ↔ IsLawful entries.now }
 {
-    all_stand_in_calls(entries) && calls_none_twice(entries) && calls_after_deferrals(entries)
+    all_stand_in_calls(entries)
+        && each_fits(entries)
+        && calls_none_twice(entries)
+        && calls_after_deferrals(entries)
 }
 
 /// Whether each reply may be that of its step.
@@ -82,7 +89,7 @@ fn may_accept(before: &[Entry], participant: u64, call: Call) -> bool
 }
 
 /// Whether this call has to wait for the guard that is paused.
-fn waits(call: Call, paused: Option<u64>) -> bool
+pub fn waits(call: Call, paused: Option<u64>) -> bool
     ensures { result ≡ call_waits call paused }
 {
     match call {

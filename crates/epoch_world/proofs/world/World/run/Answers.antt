@@ -4,9 +4,8 @@ use Rattle.epoch_laws.proofs.GraceKept.{every_run_keeps_grace}
 use Rattle.epoch_laws.proofs.TicketsOnce.{holds_each_once, end_calls_all}
 use Rattle.epoch_laws.proofs.TicketsNumbered.{numbers_tickets}
 use Rattle.epoch_laws.proofs.EndsCounted.{ends_at_count}
-use Rattle.epoch_laws.proofs.EventsLawful.{replies_stand}
 use Rattle.epoch_laws.proofs.FullFound.{found_full}
-use Rattle.epoch_laws.proofs.CallsAfterDeferrals.{calls_follow}
+use Rattle.epoch_world.proofs.AcceptedCalls.{run_is_lawful}
 use Rattle.epoch_rounds_laws.proofs.PutFound.{rounds_call_all}
 use Rattle.epoch_rounds_laws.proofs.EachCollectsFew.{collects_few}
 use Rattle.epoch_laws.proofs.RefusalsLeave.{refused_along}
@@ -47,10 +46,8 @@ returns-clause-tickets g c fresh earlier new run =
 
 pub returns-clause-lawful : goal.returns-clause-lawful
 returns-clause-lawful g c fresh earlier new run =
-    let whole = runs_append _ _ _ earlier _ run
-    (runs_whole _ _ c.args.steps.now c.loop-step.step-index _ (omega arith) c.loop-step.invariant.run) in
-    let calls = calls_follow fresh _ _ new whole in
-    record { in_calls = replies_stand fresh _ _ new whole; once = calls.once; deferred = calls.deferred }
+    run_is_lawful fresh _ _ new (runs_append _ _ _ earlier _ run
+    (runs_whole _ _ c.args.steps.now c.loop-step.step-index _ (omega arith) c.loop-step.invariant.run))
 
 pub returns-clause-full : goal.returns-clause-full
 returns-clause-full g c fresh earlier new run = found_full fresh _ _ new
