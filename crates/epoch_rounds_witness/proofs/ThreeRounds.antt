@@ -13,7 +13,7 @@ use Rattle.epoch_laws.specs.declared.step.Reply.TheVariants.{Registered, Stepped
 use Rattle.epoch_laws.specs.declared.step.Reply.TheVariants.{Unpinned as UnpinnedReply, Called as CalledReply, Done}
 use Rattle.epoch_laws.specs.declared.step.Step.TheVariants.{Register}
 use Rattle.epoch_laws.specs.declared.step.Word.TheVariants.{Pinned}
-use Rattle.epoch_laws.specs.Run.{State, position_word}
+use Rattle.epoch_laws.specs.Run.{State, position_word, Runs}
 use Rattle.epoch_laws.proofs.RunsGoOn.{runs_append}
 use Rattle.epoch_rounds_laws.specs.Rounds.{IsQuiet, IsRound, IsFirstRound}
 use Rattle.epoch_rounds_witness.specs.Met.{MeetsRounds}
@@ -178,6 +178,9 @@ abbrev Met : Type 0
 Met = (fresh s put new : State) × (p : ℕ) × (earlier before after others : List Entry)
     × MeetsRounds fresh s put new p earlier before after others
 
+others : Runs over (second.0 ++ third.0) last
+others = runs_append over emptied last second.0 third.0 second.1 third.1
+
 pub some_run : Met
 some_run = (
   first,
@@ -200,6 +203,6 @@ some_run = (
     reaches = puts.1;
     job = refl;
     rounds = (second.0, third.0, second_round, (third.0, [], third_round, refl, refl), refl);
-    goes_on = runs_append put over last ends.0 (second.0 ++ third.0) ends.1 (runs_append over emptied last second.0 third.0 second.1 third.1);
+    goes_on = runs_append put over last ends.0 (second.0 ++ third.0) ends.1 others;
   },
 )

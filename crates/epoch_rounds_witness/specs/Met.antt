@@ -9,7 +9,8 @@ use Rattle.epoch_rounds_laws.specs.Rounds.{IsQuiet, IsRound, IsFirstRound, AreRo
 
 -- From a new world a run leads to a state s, in which p is registered, unpinned and without a call, nobody else is
 -- pinned, and three more epochs are left. From there p makes a round whose Flush isn't refused, and that has put its
--- bag when the scan begins; in a bag of the store is the job of ticket 0 then. As many rounds follow as these bags take.
+-- bag when the scan begins; then the job of ticket 0 is in a bag of the store. As many rounds follow as these bags
+-- take.
 pub record MeetsRounds (fresh s put new : State) (p : ℕ) (earlier before after others : List Entry) : Type 0 where
   pub is_fresh : IsFresh fresh
   pub leads : Runs fresh earlier s
