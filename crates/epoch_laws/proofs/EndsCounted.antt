@@ -25,8 +25,8 @@ use Rattle.epoch_laws.proofs.TicketsOnce.{end_calls_all}
 abbrev pub end_of : State → Ending
 end_of s = s.ending
 
-pub machine_apart : (old new : State) (p : ℕ) (seat : WorldSeat) (c : Call) (s : Stage) (ask : Option Ask) (reply : Reply)
-    → DrivesCall old p seat c s ask reply new → new.ending ≡ old.ending
+pub machine_apart : (old new : State) (p : ℕ) (seat : WorldSeat) (c : Call) (s : Stage) (ask : Option Ask)
+    (reply : Reply) → DrivesCall old p seat c s ask reply new → new.ending ≡ old.ending
 machine_apart old new p seat c s (Some (PutBag seal)) reply did = ap end_of did.4
 machine_apart old new p seat c s (Some (TakeBag x)) reply did = ap end_of did.5
 machine_apart old new p seat c s (Some CallJob) reply did = ap end_of did.4

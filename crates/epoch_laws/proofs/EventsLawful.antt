@@ -13,7 +13,8 @@ use Rattle.epoch_laws.specs.declared.step.Entry.{Entry}
 use Rattle.epoch_laws.specs.declared.step.Word.TheVariants.{Free, Unpinned}
 use Rattle.epoch_laws.specs.Run.{with_places, WorldSeat, State, Ending, Open, Emptying, Over, seat_of, position_word}
 use Rattle.epoch_laws.specs.Run.{with_seat, free_seat, refusal, begun_seat, BeginsCall, EndGoes, Moves, Runs, IsFresh}
-use Rattle.epoch_laws.specs.Lawful.{Told, nothing, after_begin, after_go, told_after, told_from, HasToldRefused, MayEnd, MayEndGo}
+use Rattle.epoch_laws.specs.Lawful.{Told, nothing, after_begin, after_go, told_after, told_from}
+use Rattle.epoch_laws.specs.Lawful.{HasToldRefused, MayEnd, MayEndGo}
 use Rattle.epoch_laws.specs.Lawful.{MayReply, MayReplyAll}
 use Rattle.epoch_laws.proofs.SeatLemmas.{seat_there, IsAccepted, begin_given}
 use Rattle.epoch_laws.proofs.SeatLinks.{AllLinked}

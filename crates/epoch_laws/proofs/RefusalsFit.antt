@@ -53,10 +53,11 @@ resumed g (Some h) fault e =
 in_heap : (a : Access) (readings : List Name) (heap : Heap) (fault : Fault)
     → access_refusal a readings heap ≡ Some fault → HeapFault a fault
 in_heap (Place v) readings heap fault e = absurd (cc (e))
-in_heap (Read g ptr) readings heap fault e = elim (refused_or (knows_names heap (Read g ptr)) StrangerPointer fault _ e) [
-  | inl stranger ↦ subst (HeapFault (Read g ptr)) (sym stranger.1) tt
-  | inr own ↦ subst (HeapFault (Read g ptr)) (sym (refused_if (reads ptr.name readings) Busy fault own.1).1) tt
-]
+in_heap (Read g ptr) readings heap fault e =
+    elim (refused_or (knows_names heap (Read g ptr)) StrangerPointer fault _ e) [
+      | inl stranger ↦ subst (HeapFault (Read g ptr)) (sym stranger.1) tt
+      | inr own ↦ subst (HeapFault (Read g ptr)) (sym (refused_if (reads ptr.name readings) Busy fault own.1).1) tt
+    ]
 in_heap (Leave ptr) readings heap fault e = elim (refused_or (knows_names heap (Leave ptr)) StrangerPointer fault _ e) [
   | inl stranger ↦ subst (HeapFault (Leave ptr)) (sym stranger.1) tt
   | inr own ↦
@@ -86,7 +87,8 @@ tickets_out b fault e = (refused_if b TicketsOut fault e).1
 
 -- a removal under a guard that is counted
 removed : (b tickets : Bool) (fault : Fault)
-    → (if b then (if tickets then Some TicketsOut else None) else Some StrangerPointer) ≡ Some fault → RemovalFault fault
+    → (if b then (if tickets then Some TicketsOut else None) else Some StrangerPointer) ≡ Some fault
+    → RemovalFault fault
 removed b tickets fault e = elim (refused_or b StrangerPointer fault _ e) [
   | inl stranger ↦ subst RemovalFault (sym stranger.1) tt
   | inr own ↦ subst RemovalFault (sym (tickets_out tickets fault own.1)) tt

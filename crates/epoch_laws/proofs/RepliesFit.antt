@@ -1,6 +1,7 @@
 -- In every run each reply fits what the entries before it tell.
 use Rattle.std.proofs.Common.{◌≡◌, ◌≢◌, ℕ, zero, suc, ◌⊎◌, inl, inr, Bool, true, false, List, [], ◌∷◌, ◌++◌, length}
-use Rattle.std.proofs.Common.{Option, Some, None, take, slice_get, refl, ap, sym, subst, ◌∙◌, arith, length-append, if◌then◌else◌, ◌==◌}
+use Rattle.std.proofs.Common.{Option, Some, None, take, slice_get, refl, ap, sym, subst, ◌∙◌, arith}
+use Rattle.std.proofs.Common.{length-append, if◌then◌else◌, ◌==◌}
 use Rattle.std.proofs.lemmas.Bool.Decides.{nat_tests}
 use Rattle.std.proofs.lemmas.Option.{same_Some}
 use Rattle.epoch_cells.specs.declared.fault.Fault.{Fault}
@@ -34,9 +35,11 @@ use Rattle.epoch_laws.specs.declared.step.Word.TheVariants.{Free}
 use Rattle.epoch_laws.specs.Grace.{IsReplyAt}
 use Rattle.epoch_laws.specs.Run.{with_places, WorldSeat, State, Ending, Open, Emptying, Over, seat_of, position_word}
 use Rattle.epoch_laws.specs.Run.{is_free, is_idle, waits, call_refusal, refusal, BeginsCall, full_or_done, end_reply}
-use Rattle.epoch_laws.specs.Run.{access_reply, lowest, DrivesCall, PerformsAsk, DoesGo, AllFree, EndGoes, Moves, TakesStep}
+use Rattle.epoch_laws.specs.Run.{access_reply, lowest, DrivesCall, PerformsAsk, DoesGo, AllFree, EndGoes, Moves}
+use Rattle.epoch_laws.specs.Run.{TakesStep}
 use Rattle.epoch_laws.specs.Run.{Runs, IsFresh}
-use Rattle.epoch_laws.specs.Lawful.{Told, nothing, after_begin, after_go, after_refused, after_done, registered_after, told_after, told_from}
+use Rattle.epoch_laws.specs.Lawful.{Told, nothing, after_begin, after_go, after_refused, after_done}
+use Rattle.epoch_laws.specs.Lawful.{registered_after, told_after, told_from}
 use Rattle.epoch_laws.specs.Lawful.{told_of, HasTold, MayCallNow}
 use Rattle.epoch_laws.specs.Fits.{phase_after, phase_from, phase_of, EachHasLeft, EndFits, EndGoFits, RegisterFits}
 use Rattle.epoch_laws.specs.Fits.{CallFault, BeginFault, BeginFits, IsGivenGuard, go_fault, GoFits, Fits, EachFits}
@@ -225,7 +228,8 @@ no_pin t _ g leaves = tt
 
 module _ (t : Told) (seat : WorldSeat) (h : Agrees t seat) (taken : seat.word ≢ Free) where
   -- the fault of a Go, where this call is under way
-  fault_of : (call : Option Call) (fault : Fault) → t.call ≡ call → fault ≡ go_fault true call → GoFits t (Refused fault)
+  fault_of : (call : Option Call) (fault : Fault) → t.call ≡ call → fault ≡ go_fault true call
+      → GoFits t (Refused fault)
   fault_of call fault under told = subst (λ (r : Bool). fault ≡ go_fault r t.call) (sym (h.here taken))
       (subst (λ (o : Option Call). fault ≡ go_fault true o) (sym under) told)
 

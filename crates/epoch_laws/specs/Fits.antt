@@ -116,8 +116,8 @@ CallFault (AccessCall a) guards paused fault = AccessFault (guard_of a) a guards
 CallFault _ guards paused fault = ⊥
 
 -- before it comes that the participant isn't registered, that it has a call under way, and that it is paused
-abbrev pub BeginFault : (registered : Bool) (under_way : Option Call) (waiting : Bool) → Call → List ℕ → Option ℕ → Fault
-    → Type 0
+abbrev pub BeginFault : (registered : Bool) (under_way : Option Call) (waiting : Bool) → Call → List ℕ → Option ℕ
+    → Fault → Type 0
 BeginFault false under_way waiting c guards paused fault = fault ≡ NotRegistered
 BeginFault true (Some other) waiting c guards paused fault = fault ≡ Busy
 BeginFault true None true c guards paused fault = fault ≡ Busy
@@ -160,8 +160,8 @@ abbrev pub EachFits : List Entry → Type 0
 EachFits log = (k : ℕ) (entry : Entry) → slice_get log k ≡ Some entry → Fits (take k log) entry.step entry.reply
 
 -- Each event stands only in its calls, and as often as it should; a call begins only of a participant that is
--- registered and has none under way, and whose guards allow it, and is done with its own kind of answer; each reply fits
--- what is told of everybody before it; a job is called at most once, after it was deferred.
+-- registered and has none under way, and whose guards allow it, and is done with its own kind of answer; each reply
+-- fits what is told of everybody before it; a job is called at most once, after it was deferred.
 pub record IsLawful (log : List Entry) : Type 0 where
   pub in_calls : MayReplyAll (λ p. nothing) log
   pub fits : EachFits log

@@ -2,9 +2,9 @@
 ghost use Rattle.std.specs.Prelude.{◌≡◌, ◌↔◌, ℕ, ◌<◌, true, IsTrue, ◌⊎◌};
 ghost use Rattle.epoch_heap.specs.Heap.{guard_of};
 ghost use Rattle.epoch_laws.specs.Lawful.{told_of};
-ghost use Rattle.epoch_laws.specs.Fits.{EachFits, Fits, EachHasLeft, EndFits, EndGoFits, RegisterFits, BeginFits, GoFits};
+ghost use Rattle.epoch_laws.specs.Fits.{EachFits, Fits, EachHasLeft, EndFits, EndGoFits, RegisterFits, BeginFits};
 ghost use Rattle.epoch_laws.specs.Fits.{IsStranger, ResumeFault, HeapFault, AccessFault, CallFault};
-ghost use Rattle.epoch_laws.specs.Fits.{BeginFault, IsGivenGuard, go_fault as fault_of_go};
+ghost use Rattle.epoch_laws.specs.Fits.{GoFits, BeginFault, IsGivenGuard, go_fault as fault_of_go};
 ghost use Rattle.epoch_laws.specs.Run.{is_out};
 
 use crate::history::guards::{has_out, has_room, lowest};

@@ -6,4 +6,9 @@ use Rattle.epoch_laws.proofs.CallsAfterDeferrals.{CallsFollow, calls_follow}
 pub returns : goal.returns
 returns c s new log fresh run =
     let calls : CallsFollow log = calls_follow s new log fresh run in
-    record { in_calls = replies_stand s new log fresh run; fits = replies_fit s new log fresh run; once = calls.once; deferred = calls.deferred }
+    record {
+      in_calls = replies_stand s new log fresh run;
+      fits = replies_fit s new log fresh run;
+      once = calls.once;
+      deferred = calls.deferred;
+    }

@@ -1,0 +1,3 @@
+mod LoneWorld
+mod LoneCalls
+mod ThreeRounds
