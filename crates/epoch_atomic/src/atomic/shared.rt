@@ -58,6 +58,31 @@ impl<'g, T> Shared<'g, T> {
         self.tag as usize
     }
 
+    /// The pointer to the value that was placed under this name, with tag 0. It is as good as one that was loaded: a
+    /// value is lent only as long as it stands in its cell under this name. As crossbeam-epoch's `Shared::from` of a
+    /// raw pointer.
+    #[inline(always)]
+    pub fn named<W>(name: Name, guard: &'g Guard<'_, T, W>) -> Shared<'g, T>
+        ensures name { result.name ≡ Some name }
+        ensures tag { result.tag ≡ 0 }
+        ensures home { IsUnder guard.now.collector.now.id result.home }
+    {
+        Shared {
+            name: Some(name),
+            tag: 0,
+            home: Some(home_of(guard)),
+        }
+    }
+
+    /// The name of the value that it points to, or `None` where it is null. Two pointers with one name point to the
+    /// same value, whatever their tags are.
+    #[inline(always)]
+    pub fn name(&self) -> Option<Name>
+        ensures { result ≡ self.now.name }
+    {
+        self.name
+    }
+
     // The same pointer, as one that was got under this guard.
     #[inline(always)]
     pub(crate) fn under<W>(&self, guard: &'g Guard<'_, T, W>) -> Shared<'g, T>

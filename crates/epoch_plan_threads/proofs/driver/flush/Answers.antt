@@ -1,0 +1,13 @@
+use Rattle.std.proofs.Common.{◌≡◌, [], length, ap, arith, rules}
+use Rattle.epoch_machine.specs.declared.machine.Sizes.{Sizes}
+use Rattle.epoch_plan_threads.proofs.driver.flush.Goals as goal
+
+-- an empty bag has room, since a collector's bags take a job
+pub returns-in-Ok-clause-flushes : goal.returns-in-Ok-clause-flushes
+returns-in-Ok-clause-flushes g c =
+    let none : c.flush.new.self.machine.held ≡ [] = c.flush.ensures.empty c.requires (search rules) in
+    let sized = c.flush.new.self.collector.now.sized in (
+      c.flush.ensures.does c.requires,
+      none,
+      omega (arith, ap length none, ap (λ (z : Sizes). z.bag_jobs) c.flush.ensures.ready.seated.sizes, sized.bag_jobs.0),
+    )

@@ -1,0 +1,3 @@
+mod SameNumbers
+mod Standing
+mod Walks
