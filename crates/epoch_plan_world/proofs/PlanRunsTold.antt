@@ -1,8 +1,7 @@
 -- A list of steps of a structure goes on by one step.
-use Rattle.std.proofs.Common.{◌≡◌, ℕ, ◌+◌, ◌<◌, ◌≤◌, Bool, List, [], ◌∷◌, ◌++◌, length, Option, Some, None, refl, ap}
+use Rattle.std.proofs.Common.{◌≡◌, ℕ, ◌+◌, ◌<◌, ◌≤◌, Bool, List, [], ◌∷◌, ◌++◌, length, refl, ap}
 use Rattle.std.proofs.Common.{sym, subst, ◌∙◌, get_or, take, take_all}
 use Rattle.std.proofs.lemmas.List.{take_more}
-use Rattle.epoch_laws.specs.declared.step.Entry.{Entry}
 use Rattle.epoch_laws.specs.Run.{State}
 use Rattle.epoch_plans.specs.Plans.{Deed, AllPlans, PlanEvent, made_at, WorldThen, Follows}
 use Rattle.epoch_plan_world.specs.declared.step.PlanReply.{PlanReply}

@@ -5,7 +5,6 @@ use Rattle.std.proofs.lemmas.List.{get_or_past}
 use Rattle.epoch_cells.specs.declared.fault.Fault.{Fault}
 use Rattle.epoch_cells.specs.declared.fault.Fault.TheVariants.{Busy, NotRegistered, StrangerGuard}
 use Rattle.epoch_laws.specs.declared.step.Call.{Call}
-use Rattle.epoch_laws.specs.declared.step.Entry.{Entry}
 use Rattle.epoch_laws.specs.declared.step.Progress.{Progress}
 use Rattle.epoch_laws.specs.declared.step.Progress.TheVariants.{Idle}
 use Rattle.epoch_laws.specs.declared.step.Reply.{Reply}
@@ -22,7 +21,7 @@ use Rattle.epoch_plans.specs.declared.plan.Plan.{Plan}
 use Rattle.epoch_plans.specs.declared.plan.Plan.TheVariants.{NoPlan, Under}
 use Rattle.epoch_plans.specs.Asks.{wish_of}
 use Rattle.epoch_plans.specs.Plans.{Deed, Flushes, Touches, Defers, Answers, PlanEvent, Asked, Declined, Answered, Makes}
-use Rattle.epoch_plans.specs.Plans.{Follows, passes, asks, declines, answers, free_begins, free_goes, begins, goes}
+use Rattle.epoch_plans.specs.Plans.{passes, asks, declines, answers, free_begins, free_goes, begins, goes}
 use Rattle.epoch_plans.specs.Plans.{call_by, plan_begun, plan_gone, IsOver, IsPlain, Replans}
 use Rattle.epoch_plan_world.specs.declared.step.PlainCall.{PlainCall}
 use Rattle.epoch_plan_world.specs.declared.step.PlainCall.TheVariants.{Pin, Unpin, Pause, Resume, Repin, Defer, Flush}

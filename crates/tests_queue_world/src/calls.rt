@@ -52,7 +52,14 @@ pub(crate) fn built_in<S: BagStore<Job = Deferral>>(
     for participant in 0..shape.participants {
         register_and_pin(rt, &mut queue, participant);
     }
-    want_answer(rt, "the first node", &mut queue, 0, Work::Build, QueueAnswer::Built);
+    want_answer(
+        rt,
+        "the first node",
+        &mut queue,
+        0,
+        Work::Build,
+        QueueAnswer::Built,
+    );
     Ok(queue)
 }
 
@@ -167,7 +174,13 @@ pub(crate) fn want_answer<S: BagStore<Job = Deferral>>(
     work: Work,
     answer: QueueAnswer,
 ) {
-    want_whole(rt, what, queue, (participant, work), PlanReply::Answered(answer));
+    want_whole(
+        rt,
+        what,
+        queue,
+        (participant, work),
+        PlanReply::Answered(answer),
+    );
 }
 
 /// The call that participant 0 has under way ends so.

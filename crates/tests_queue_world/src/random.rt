@@ -2,9 +2,7 @@
 use crate::calls::{Queue, built_in, end, is_over, shape_of, want, want_begun, want_done, whole};
 use crate::orders::{Did, Past, fit_a_list};
 use epoch_laws::Reply;
-use epoch_queue_world::{
-    PlainCall, PlanReply, PlanStep, QueueAnswer, QueueReply, Work,
-};
+use epoch_queue_world::{PlainCall, PlanReply, PlanStep, QueueAnswer, QueueReply, Work};
 use std::alloc::{AllocError, Global};
 use std::process::Abort;
 use std::test::Fail;
@@ -70,10 +68,11 @@ fn draw_work(draws: &mut Draws, value: u64) -> Work {
     }
 }
 
-/// What is known of a run: the calls that are over, those under way, how many steps were taken and calls begun, and how
-/// many removals were called before the end.
+/// What is known of a run: whether a participant renews its pin before each call, the calls that are over, those under
+/// way, how many steps were taken and calls begun, and how many removals were called before the end.
 #[derive(Drop)]
 struct Run {
+    renews: bool,
     past: Vec<Past>,
     under_way: [Option<UnderWay>; 3],
     steps: u64,
@@ -117,11 +116,18 @@ fn begin_next(
     if run.begun >= CALLS {
         return None;
     }
-    let removed = renew_pin(rt, queue, participant);
-    run.removed = run.removed.wrapping_add(removed);
+    if run.renews {
+        let removed = renew_pin(rt, queue, participant);
+        run.removed = run.removed.wrapping_add(removed);
+    }
     run.begun = run.begun.wrapping_add(1);
     let work = draw_work(draws, run.begun);
-    want_begun(rt, "a call begins", queue, PlanStep::Ask(participant, 0, work));
+    want_begun(
+        rt,
+        "a call begins",
+        queue,
+        PlanStep::Ask(participant, 0, work),
+    );
     Some(UnderWay {
         begun: run.steps,
         work,
@@ -232,10 +238,11 @@ fn take_steps(
 
 /// One run: its calls fit a list, whose values are those that are left. Answers how many removals were called before
 /// its end.
-fn run_once(rt: &impl Abort, alloc: Global, draws: &mut Draws) -> Result<u64, Fail> {
+fn run_once(rt: &impl Abort, alloc: Global, draws: &mut Draws, renews: bool) -> Result<u64, Fail> {
     let cells = draws.below(8).wrapping_add(2);
     let mut queue: Queue = built_in(rt, alloc, shape_of(PARTICIPANTS, cells, BAGS, 64))?;
     let mut run = Run {
+        renews,
         past: Vec::new(alloc),
         under_way: [None; 3],
         steps: 0,
@@ -252,10 +259,24 @@ fn run_once(rt: &impl Abort, alloc: Global, draws: &mut Draws) -> Result<u64, Fa
 #[test]
 fn replies_to_three_participants_fit_a_list(rt: HostRuntime) -> Result<(), Fail> {
     let mut draws = Draws { state: 2026 };
-    let mut removed: u64 = 0;
-    for _ in 0..1_000u64 {
-        removed = removed.wrapping_add(run_once(&rt, rt.alloc(), &mut draws)?);
+    for _ in 0..10_000u64 {
+        run_once(&rt, rt.alloc(), &mut draws, false)?;
     }
-    want(&rt, "cells are destroyed in the midst of runs", removed, 0);
+    Ok(())
+}
+
+#[test]
+fn replies_fit_a_list_where_cells_are_taken_again(rt: HostRuntime) -> Result<(), Fail> {
+    let mut draws = Draws { state: 2027 };
+    let mut removed: u64 = 0;
+    for _ in 0..200u64 {
+        removed = removed.wrapping_add(run_once(&rt, rt.alloc(), &mut draws, true)?);
+    }
+    want(
+        &rt,
+        "cells are destroyed in the midst of runs",
+        removed > 0,
+        true,
+    );
     Ok(())
 }

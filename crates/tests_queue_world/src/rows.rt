@@ -30,8 +30,22 @@ const UNREGISTERED: QueueReply = PlanReply::World(Reply::Refused(Fault::NotRegis
 fn want_two_values<S: BagStore<Job = Deferral>>(rt: &impl Abort, queue: &mut QueueWorld<S>) {
     want_answer(rt, "the first push", queue, 0, Work::Push(1, 1), PUSHED);
     want_answer(rt, "the second push", queue, 0, Work::Push(2, 1), PUSHED);
-    want_answer(rt, "the first pop", queue, 0, Work::Pop(1), QueueAnswer::Popped(1));
-    want_answer(rt, "the second pop", queue, 0, Work::Pop(1), QueueAnswer::Popped(2));
+    want_answer(
+        rt,
+        "the first pop",
+        queue,
+        0,
+        Work::Pop(1),
+        QueueAnswer::Popped(1),
+    );
+    want_answer(
+        rt,
+        "the second pop",
+        queue,
+        0,
+        Work::Pop(1),
+        QueueAnswer::Popped(2),
+    );
     want_answer(rt, "the third pop", queue, 0, Work::Pop(1), EMPTY);
 }
 
@@ -52,9 +66,23 @@ fn a_queue_stands_over_a_queue_of_bags_too(rt: HostRuntime) -> Result<(), Fail> 
 /// Before the first node stands a push and a pop lose each try; the second that would build finds the first one there.
 fn meet_no_node(rt: &impl Abort, queue: &mut Queue) {
     register_and_pin(rt, queue, 0);
-    want_answer(rt, "a push too early", queue, 0, Work::Push(1, 3), TRIES_OUT);
+    want_answer(
+        rt,
+        "a push too early",
+        queue,
+        0,
+        Work::Push(1, 3),
+        TRIES_OUT,
+    );
     want_answer(rt, "a pop too early", queue, 0, Work::Pop(3), TRIES_OUT);
-    want_answer(rt, "the first node", queue, 0, Work::Build, QueueAnswer::Built);
+    want_answer(
+        rt,
+        "the first node",
+        queue,
+        0,
+        Work::Build,
+        QueueAnswer::Built,
+    );
     want_answer(rt, "another first node", queue, 0, Work::Build, TRIES_OUT);
     want_answer(rt, "no value yet", queue, 0, Work::Pop(1), EMPTY);
 }
@@ -70,7 +98,12 @@ fn nothing_goes_before_the_first_node_stands(rt: HostRuntime) -> Result<(), Fail
 /// its next, and won its exchange, each by a begin, one step on cells or pointers, and an end. One step more finds the
 /// first node's cell used.
 fn leave_the_tail(rt: &impl Abort, queue: &mut Queue) {
-    want_begun(rt, "a push begins", queue, PlanStep::Ask(0, 0, Work::Push(1, 1)));
+    want_begun(
+        rt,
+        "a push begins",
+        queue,
+        PlanStep::Ask(0, 0, Work::Push(1, 1)),
+    );
     want_stepped(rt, "the push goes on", queue, 13);
 }
 
@@ -78,15 +111,34 @@ fn leave_the_tail(rt: &impl Abort, queue: &mut Queue) {
 fn help_the_tail(rt: &impl Abort, queue: &mut Queue, tries: u64, answer: QueueAnswer) {
     leave_the_tail(rt, queue);
     want_answer(rt, "another's push", queue, 1, Work::Push(2, tries), answer);
-    want_end(rt, "the push that was met", queue, PlanReply::Answered(PUSHED));
-    want_answer(rt, "the first pop", queue, 1, Work::Pop(1), QueueAnswer::Popped(1));
+    want_end(
+        rt,
+        "the push that was met",
+        queue,
+        PlanReply::Answered(PUSHED),
+    );
+    want_answer(
+        rt,
+        "the first pop",
+        queue,
+        1,
+        Work::Pop(1),
+        QueueAnswer::Popped(1),
+    );
 }
 
 #[test]
 fn a_tail_that_lags_is_helped_and_the_push_tried_again(rt: HostRuntime) -> Result<(), Fail> {
     let mut queue: Queue = built(&rt, rt.alloc(), 2, 4)?;
     help_the_tail(&rt, &mut queue, 2, PUSHED);
-    want_answer(&rt, "the second pop", &mut queue, 0, Work::Pop(1), QueueAnswer::Popped(2));
+    want_answer(
+        &rt,
+        "the second pop",
+        &mut queue,
+        0,
+        Work::Pop(1),
+        QueueAnswer::Popped(2),
+    );
     Ok(())
 }
 
@@ -101,11 +153,30 @@ fn a_tail_that_lags_takes_the_only_try(rt: HostRuntime) -> Result<(), Fail> {
 /// The value is there before the tail leads to it, and a pop brings the tail past what it took off.
 fn pop_before_the_tail(rt: &impl Abort, queue: &mut Queue) {
     leave_the_tail(rt, queue);
-    want_answer(rt, "another's pop", queue, 1, Work::Pop(1), QueueAnswer::Popped(1));
+    want_answer(
+        rt,
+        "another's pop",
+        queue,
+        1,
+        Work::Pop(1),
+        QueueAnswer::Popped(1),
+    );
     want_answer(rt, "a further pop", queue, 1, Work::Pop(1), EMPTY);
-    want_end(rt, "the push that was met", queue, PlanReply::Answered(PUSHED));
+    want_end(
+        rt,
+        "the push that was met",
+        queue,
+        PlanReply::Answered(PUSHED),
+    );
     want_answer(rt, "a push", queue, 1, Work::Push(3, 1), PUSHED);
-    want_answer(rt, "its pop", queue, 0, Work::Pop(1), QueueAnswer::Popped(3));
+    want_answer(
+        rt,
+        "its pop",
+        queue,
+        0,
+        Work::Pop(1),
+        QueueAnswer::Popped(3),
+    );
 }
 
 #[test]
@@ -121,9 +192,21 @@ fn a_value_comes_off_before_the_tail_leads_to_it(rt: HostRuntime) -> Result<(), 
 fn meet(rt: &impl Abort, queue: &mut Queue, tries: u64) {
     want_answer(rt, "a push", queue, 0, Work::Push(1, 1), PUSHED);
     want_answer(rt, "another push", queue, 0, Work::Push(2, 1), PUSHED);
-    want_begun(rt, "a pop begins", queue, PlanStep::Ask(0, 0, Work::Pop(tries)));
+    want_begun(
+        rt,
+        "a pop begins",
+        queue,
+        PlanStep::Ask(0, 0, Work::Pop(tries)),
+    );
     want_stepped(rt, "the pop goes on", queue, 13);
-    want_answer(rt, "another's pop", queue, 1, Work::Pop(1), QueueAnswer::Popped(1));
+    want_answer(
+        rt,
+        "another's pop",
+        queue,
+        1,
+        Work::Pop(1),
+        QueueAnswer::Popped(1),
+    );
 }
 
 #[test]
@@ -139,8 +222,20 @@ fn an_exchange_that_others_met_is_tried_again(rt: HostRuntime) -> Result<(), Fai
 fn an_exchange_that_others_met_is_lost_in_the_last_try(rt: HostRuntime) -> Result<(), Fail> {
     let mut queue: Queue = built(&rt, rt.alloc(), 2, 4)?;
     meet(&rt, &mut queue, 1);
-    want_end(&rt, "the only try", &mut queue, PlanReply::Answered(TRIES_OUT));
-    want_answer(&rt, "a further pop", &mut queue, 1, Work::Pop(1), QueueAnswer::Popped(2));
+    want_end(
+        &rt,
+        "the only try",
+        &mut queue,
+        PlanReply::Answered(TRIES_OUT),
+    );
+    want_answer(
+        &rt,
+        "a further pop",
+        &mut queue,
+        1,
+        Work::Pop(1),
+        QueueAnswer::Popped(2),
+    );
     Ok(())
 }
 
@@ -148,7 +243,14 @@ fn an_exchange_that_others_met_is_lost_in_the_last_try(rt: HostRuntime) -> Resul
 fn run_out(rt: &impl Abort, queue: &mut Queue) {
     want_answer(rt, "a pop", queue, 0, Work::Pop(0), TRIES_OUT);
     want_answer(rt, "a push", queue, 0, Work::Push(1, 0), TRIES_OUT);
-    want_answer(rt, "a further push", queue, 0, Work::Push(1, 1), QueueAnswer::CellsFull);
+    want_answer(
+        rt,
+        "a further push",
+        queue,
+        0,
+        Work::Push(1, 1),
+        QueueAnswer::CellsFull,
+    );
     want_answer(rt, "a further pop", queue, 0, Work::Pop(1), EMPTY);
 }
 
@@ -161,8 +263,20 @@ fn a_call_in_no_try_runs_out_of_them(rt: HostRuntime) -> Result<(), Fail> {
 
 /// Nobody is registered, and then nobody is pinned; at last participant 0 is.
 fn meet_no_pin(rt: &impl Abort, queue: &mut Queue) {
-    want_whole(rt, "nobody is registered", queue, (0, Work::Pop(1)), UNREGISTERED);
-    want_whole(rt, "past the table", queue, (1, Work::Push(7, 1)), UNREGISTERED);
+    want_whole(
+        rt,
+        "nobody is registered",
+        queue,
+        (0, Work::Pop(1)),
+        UNREGISTERED,
+    );
+    want_whole(
+        rt,
+        "past the table",
+        queue,
+        (1, Work::Push(7, 1)),
+        UNREGISTERED,
+    );
     let registered = PlanReply::World(Reply::Registered(0));
     want_reply(rt, "a registration", queue, PlanStep::Register, registered);
     want_whole(rt, "no guard is out", queue, (0, Work::Build), STRANGER);
@@ -171,13 +285,31 @@ fn meet_no_pin(rt: &impl Abort, queue: &mut Queue) {
 
 /// A plain call is under way at a push, and then a push is at a pop and at a plain call.
 fn meet_a_call(rt: &impl Abort, queue: &mut Queue) {
-    want_answer(rt, "the first node", queue, 0, Work::Build, QueueAnswer::Built);
+    want_answer(
+        rt,
+        "the first node",
+        queue,
+        0,
+        Work::Build,
+        QueueAnswer::Built,
+    );
     let flush: QueueStep = PlanStep::Begin(0, PlainCall::Flush(Some(0)));
     want_begun(rt, "a plain call", queue, flush);
     want_whole(rt, "a push within it", queue, (0, Work::Push(7, 1)), BUSY);
-    want_end(rt, "the plain call", queue, PlanReply::World(Reply::Done(Answer::Unit)));
+    want_end(
+        rt,
+        "the plain call",
+        queue,
+        PlanReply::World(Reply::Done(Answer::Unit)),
+    );
     want_begun(rt, "a push", queue, PlanStep::Ask(0, 0, Work::Push(7, 1)));
-    want_reply(rt, "a pop within it", queue, PlanStep::Ask(0, 0, Work::Pop(1)), BUSY);
+    want_reply(
+        rt,
+        "a pop within it",
+        queue,
+        PlanStep::Ask(0, 0, Work::Pop(1)),
+        BUSY,
+    );
     want_reply(rt, "a plain call within it", queue, flush, BUSY);
     want_end(rt, "the push", queue, PlanReply::Answered(PUSHED));
     let idle = PlanReply::World(Reply::Refused(Fault::Idle));
@@ -189,8 +321,21 @@ fn meet_a_pause(rt: &impl Abort, queue: &mut Queue) {
     want_done(rt, queue, 0, PlainCall::Pause(Some(0)));
     want_whole(rt, "a paused guard", queue, (0, Work::Pop(1)), BUSY);
     want_done(rt, queue, 0, PlainCall::Resume(Some(0)));
-    want_reply(rt, "another guard", queue, PlanStep::Ask(0, 1, Work::Pop(1)), STRANGER);
-    want_answer(rt, "its own guard", queue, 0, Work::Pop(1), QueueAnswer::Popped(7));
+    want_reply(
+        rt,
+        "another guard",
+        queue,
+        PlanStep::Ask(0, 1, Work::Pop(1)),
+        STRANGER,
+    );
+    want_answer(
+        rt,
+        "its own guard",
+        queue,
+        0,
+        Work::Pop(1),
+        QueueAnswer::Popped(7),
+    );
 }
 
 #[test]
@@ -208,8 +353,22 @@ fn fill_up(rt: &impl Abort, queue: &mut Queue) {
     want_done(rt, queue, 0, PlainCall::Defer(Some(0)));
     want_answer(rt, "the bag is put", queue, 0, Work::Push(7, 1), PUSHED);
     want_done(rt, queue, 0, PlainCall::Defer(Some(0)));
-    want_answer(rt, "no place is left", queue, 0, Work::Pop(1), QueueAnswer::BagsFull);
-    want_answer(rt, "nor for a push", queue, 0, Work::Push(8, 1), QueueAnswer::BagsFull);
+    want_answer(
+        rt,
+        "no place is left",
+        queue,
+        0,
+        Work::Pop(1),
+        QueueAnswer::BagsFull,
+    );
+    want_answer(
+        rt,
+        "nor for a push",
+        queue,
+        0,
+        Work::Push(8, 1),
+        QueueAnswer::BagsFull,
+    );
 }
 
 #[test]
@@ -288,6 +447,13 @@ fn a_list_of_steps_is_taken_one_by_one_or_not_at_all(rt: HostRuntime) -> Result<
     let mut queue = built_at_last(&rt, rt.alloc())?;
     let replies = push_at_last(&rt, &mut queue)?;
     want_pushed(&rt, &replies);
-    want_answer(&rt, "a pop", &mut queue, 0, Work::Pop(1), QueueAnswer::Popped(5));
+    want_answer(
+        &rt,
+        "a pop",
+        &mut queue,
+        0,
+        Work::Pop(1),
+        QueueAnswer::Popped(5),
+    );
     Ok(())
 }

@@ -1,8 +1,7 @@
-use Rattle.std.proofs.Common.{◌≡◌, ap, sym, subst, ◌∙◌, false}
+use Rattle.std.proofs.Common.{ap, ◌∙◌, false}
 use Rattle.epoch_laws.specs.declared.step.Reply.{Reply}
-use Rattle.epoch_plans.specs.declared.plan.Plan.{Plan}
 use Rattle.epoch_plans.specs.declared.plan.Plan.TheVariants.{Under}
-use Rattle.epoch_plans.specs.Plans.{plan_begun, after_by}
+use Rattle.epoch_plans.specs.Plans.{after_by}
 use Rattle.epoch_plan_world.proofs.calls.plan_begun.Goals as goal
 
 pub returns-in-Refused : goal.returns-in-Refused

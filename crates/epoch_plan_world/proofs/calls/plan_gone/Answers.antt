@@ -1,7 +1,7 @@
-use Rattle.std.proofs.Common.{◌≡◌, ap, sym, subst, ◌∙◌, false, inl, inr}
+use Rattle.std.proofs.Common.{ap, ◌∙◌, false, inl, inr}
 use Rattle.epoch_laws.specs.declared.step.Reply.{Reply}
 use Rattle.epoch_plans.specs.declared.plan.Plan.TheVariants.{Under}
-use Rattle.epoch_plans.specs.Plans.{plan_gone, after_by}
+use Rattle.epoch_plans.specs.Plans.{after_by}
 use Rattle.epoch_plan_world.proofs.calls.plan_gone.Goals as goal
 
 pub returns-in-Done : goal.returns-in-Done
