@@ -26,7 +26,9 @@ use Rattle.epoch_reach_laws.specs.Removals.{IsInBag}
 use Rattle.epoch_laws.proofs.SeatLinks.{AllLinked}
 use Rattle.epoch_reach_laws.proofs.TurnsGiven.{IsGiven}
 use Rattle.epoch_reach_laws.proofs.PointerSteps.{Fewer, fewer_same}
-use Rattle.epoch_plans.specs.Plans.{Program, Plan, NoPlan, Under, AllPlans, IsPlain, call_by, after_by}
+use Rattle.epoch_plans.specs.declared.plan.Plan.{Plan}
+use Rattle.epoch_plans.specs.declared.plan.Plan.TheVariants.{NoPlan, Under}
+use Rattle.epoch_plans.specs.Plans.{Program, AllPlans, IsPlain, call_by, after_by}
 
 pub same_number : (a b : ℕ) → (a ≡ b) ⊎ (a ≢ b)
 same_number a b = grind arith

@@ -17,7 +17,9 @@ use Rattle.epoch_laws.proofs.SeatLemmas.{seat_there}
 use Rattle.epoch_reach_laws.specs.Reach.{Past}
 use Rattle.epoch_reach_laws.proofs.HeapSteps.{heap_goes}
 use Rattle.epoch_reach_laws.proofs.JobsAsDeferred.{JobsGo, jobs_go}
-use Rattle.epoch_plans.specs.Plans.{Deed, Flushes, Touches, Defers, Answers, Program, Plan, NoPlan, Under, AllPlans}
+use Rattle.epoch_plans.specs.declared.plan.Plan.{Plan}
+use Rattle.epoch_plans.specs.declared.plan.Plan.TheVariants.{NoPlan, Under}
+use Rattle.epoch_plans.specs.Plans.{Deed, Flushes, Touches, Defers, Answers, Program, AllPlans}
 use Rattle.epoch_plans.specs.Plans.{call_by}
 use Rattle.epoch_plans.proofs.Custody.{IsLoose, IsUnguarded, IsAccessing, IsBegun, Tied, now_under, now_of, now, Calm}
 use Rattle.epoch_plans.proofs.Custody.{Structure, StandsNow, Sound}

@@ -41,7 +41,9 @@ use Rattle.epoch_reach_laws.proofs.GuardsStay.{idle_ended}
 use Rattle.epoch_reach_laws.proofs.HeapSteps.{heap_goes}
 use Rattle.epoch_reach_laws.proofs.JobsAsDeferred.{JobsGo, jobs_go}
 use Rattle.epoch_reach_laws.proofs.TurnsGiven.{touches_given}
-use Rattle.epoch_plans.specs.Plans.{Deed, Flushes, Touches, Defers, Answers, Program, Plan, NoPlan, Under, AllPlans}
+use Rattle.epoch_plans.specs.declared.plan.Plan.{Plan}
+use Rattle.epoch_plans.specs.declared.plan.Plan.TheVariants.{NoPlan, Under}
+use Rattle.epoch_plans.specs.Plans.{Deed, Flushes, Touches, Defers, Answers, Program, AllPlans}
 use Rattle.epoch_plans.specs.Plans.{ptr_to, call_by, after_by, IsOver, TakesNone, IsFit, IsFlush, IsPlain, Replans}
 use Rattle.epoch_plans.specs.Plans.{KeepsPlans, plan_begun, plan_gone, IsOther}
 use Rattle.epoch_plans.proofs.Custody.{IsLoose, IsUnguarded, IsAccessing, IsDeferring, IsBegun, Tied, now_deferring}

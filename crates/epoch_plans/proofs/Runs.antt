@@ -5,7 +5,9 @@ use Rattle.epoch_cells.specs.declared.cells.name.Name.{Name}
 use Rattle.epoch_laws.specs.declared.step.Entry.{Entry}
 use Rattle.epoch_laws.specs.Run.{State, seat_of, TakesStep}
 use Rattle.epoch_reach_laws.specs.Reach.{Past, past_after, LeavesRightly, LeavesFrom}
-use Rattle.epoch_plans.specs.Plans.{Program, Plan, NoPlan, Under, AllPlans, Replans, KeepsPlans, PlanEvent, Asked}
+use Rattle.epoch_plans.specs.declared.plan.Plan.{Plan}
+use Rattle.epoch_plans.specs.declared.plan.Plan.TheVariants.{NoPlan, Under}
+use Rattle.epoch_plans.specs.Plans.{Program, AllPlans, Replans, KeepsPlans, PlanEvent, Asked}
 use Rattle.epoch_plans.specs.Plans.{Declined, Answered, Makes, Follows, asks, declines, answers, passes, free_begins}
 use Rattle.epoch_plans.specs.Plans.{free_goes, begins, goes, made_at, WorldThen, PlanRuns, also_made, world_log}
 use Rattle.epoch_plans.specs.Plans.{then_world_runs, run_of_world, plan_begun, plan_gone}

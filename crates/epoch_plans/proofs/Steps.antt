@@ -24,7 +24,9 @@ use Rattle.epoch_laws.specs.Run.{access_reply, accessed_seat}
 use Rattle.epoch_reach_laws.specs.Reach.{IsReachable, from_root, from_field}
 use Rattle.epoch_laws.proofs.QuietReplies.{quiet_end}
 use Rattle.epoch_reach_laws.proofs.PointerSteps.{Fewer}
-use Rattle.epoch_plans.specs.Plans.{Deed, Flushes, Touches, Defers, Answers, Program, Plan, NoPlan, Under, ptr_to}
+use Rattle.epoch_plans.specs.declared.plan.Plan.{Plan}
+use Rattle.epoch_plans.specs.declared.plan.Plan.TheVariants.{NoPlan, Under}
+use Rattle.epoch_plans.specs.Plans.{Deed, Flushes, Touches, Defers, Answers, Program, ptr_to}
 use Rattle.epoch_plans.specs.Plans.{call_by, after_by, IsOver, IsFit, IsPlain}
 use Rattle.epoch_plans.specs.Plans.{plan_gone}
 use Rattle.epoch_plans.proofs.Custody.{IsLoose, IsUnguarded, IsAccessing, IsDeferring, IsBegun, Tied}

@@ -17,6 +17,8 @@ use Rattle.epoch_laws.specs.declared.step.Step.TheVariants.{Register, Begin, Go,
 use Rattle.epoch_laws.specs.declared.step.Progress.TheVariants.{Idle}
 use Rattle.epoch_heap.specs.Heap.{has_steps}
 use Rattle.epoch_laws.specs.Run.{State, seat_of, TakesStep, Runs}
+use Rattle.epoch_plans.specs.declared.plan.Plan.{Plan}
+use Rattle.epoch_plans.specs.declared.plan.Plan.TheVariants.{NoPlan, Under}
 
 -- WHAT A PHASE DOES
 
@@ -32,11 +34,6 @@ pub record Program : Type 1 where
   pub Phase : Type 0
   pub Answer : Type 0
   pub deed : ℕ → Phase → Deed Phase Answer
-
--- a participant's call: none, or one under this guard in this phase, whose call of the world has begun or hasn't
-pub data Plan (P : Type 0) : Type 0 where
-  NoPlan : Plan P
-  Under : (guard : ℕ) (phase : P) (begun : Bool) → Plan P
 
 -- the untagged pointer to a name
 abbrev pub ptr_to : Name → Ptr

@@ -2,5 +2,7 @@
 #![tactic(auto)]
 
 mod machine;
+mod plan;
 
-pub use machine::{PhaseMachine, Wish};
+pub use machine::{PhaseMachine, Wish, Works};
+pub use plan::Plan;

@@ -1,5 +1,5 @@
 //! A program as code: the phases of a structure's calls, of which each asks for one call of the world.
-ghost use Rattle.std.specs.Prelude.{◌≡◌, ℕ};
+ghost use Rattle.std.specs.Prelude.{◌≡◌, ℕ, Bool};
 ghost use Rattle.epoch_plans.specs.Plans.{Deed, after_by};
 ghost use Rattle.epoch_plans.specs.Asks.{wish_of};
 
@@ -38,4 +38,21 @@ pub trait PhaseMachine: Copy {
     /// The phase after this one, whose call ended with this reply. It is the same under every guard.
     fn hear(self, reply: Reply) -> Self
         ensures { (guard : ℕ) → result ≡ after_by self (deed guard self) reply };
+}
+
+/// A structure's calls, as they are asked for.
+pub trait Works: PhaseMachine {
+    /// What is asked for.
+    type Work: Copy;
+
+    /// A call may begin in this phase.
+    ghost starts: { Self → Type 0 };
+
+    /// The phase in which a call begins, where the held bag has room for a further job or hasn't.
+    ghost first: { Self.Work → Bool → Self };
+
+    /// The phase in which a call begins.
+    fn first(work: Self::Work, has_room: bool) -> Self
+        ensures first { result ≡ first work has_room }
+        ensures starts { starts result };
 }

@@ -7,3 +7,4 @@ pub mod QueueTouches
 pub mod QueueTurns
 pub mod QueueRuns
 pub mod CallsLeft
+pub mod DeedsDone

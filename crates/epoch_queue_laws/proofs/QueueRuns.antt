@@ -13,7 +13,8 @@ use Rattle.epoch_reach_laws.specs.Reach.{KeepsLoaded}
 use Rattle.epoch_reach_laws.proofs.JobsAsDeferred.{fresh_jobs}
 use Rattle.epoch_reach_laws.proofs.ReachRuns.{every_run_keeps_reach}
 use Rattle.epoch_laws.proofs.Linked.{fresh_linked}
-use Rattle.epoch_plans.specs.Plans.{Plan, AllPlans, world_log, run_of_world}
+use Rattle.epoch_plans.specs.declared.plan.Plan.{Plan}
+use Rattle.epoch_plans.specs.Plans.{AllPlans, world_log, run_of_world}
 use Rattle.epoch_queue_laws.specs.declared.plan.Phase.{Phase}
 use Rattle.epoch_queue_laws.specs.Queue.{queue, Starts, QueueLog, QueueRuns, IsNewQueue}
 use Rattle.epoch_queue_laws.specs.QueueValues.{QueueHolds, StepOnValues, FindsNone}

@@ -21,7 +21,9 @@ use Rattle.epoch_laws.specs.Run.{State, WorldSeat, seat_of, TakesStep, progress_
 use Rattle.epoch_reach_laws.specs.Reach.{Past, no_past}
 use Rattle.epoch_reach_laws.proofs.PointerSteps.{pointer_other}
 use Rattle.epoch_reach_laws.proofs.TurnsGiven.{touches_given}
-use Rattle.epoch_plans.specs.Plans.{AllPlans, Plan, Under, ptr_to}
+use Rattle.epoch_plans.specs.declared.plan.Plan.{Plan}
+use Rattle.epoch_plans.specs.declared.plan.Plan.TheVariants.{Under}
+use Rattle.epoch_plans.specs.Plans.{AllPlans, ptr_to}
 use Rattle.epoch_plans.proofs.Custody.{Calm, Sound}
 use Rattle.epoch_plans.proofs.Obligations.{TouchesBy}
 use Rattle.epoch_plans.proofs.Calls.{calm_call, calm_pointer}
@@ -286,10 +288,10 @@ module _ (past : Past) (old new : State) (plans : AllPlans Phase) (x : Entry)
       (subst (λ (p : Phase). TouchesBy (deed_of t.guard p) t.made t.found old.heap t.did) phase t.touches)
     where
       t : Touching queue structure past old new plans x sound
-      t = touched queue structure past old new plans x sound did f.who f.brings.0 f.brings.1.0 f.brings.1.1 f.brings.1.2
+      t = touched queue structure past old new plans x sound did f.participant f.brings.0 f.brings.1.0 f.brings.1.1 f.brings.1.2
           f.brings.1.3
 
-      same : t.who ≡ f.who
+      same : t.who ≡ f.participant
       same = cc (t.step, f.brings.0)
 
       phase : t.phase ≡ LoadingNext f.head f.tries

@@ -1,6 +1,6 @@
 -- The program of a queue after Michael and Scott: the head is root 0, the tail root 1, and the first node holds no
 -- value of the queue.
-use Rattle.std.specs.Prelude.{ℕ, zero, suc, ◌+◌, ◌*◌, List, Bool, false, Option, Some, None, if◌then◌else◌, ◌≡◌, []}
+use Rattle.std.specs.Prelude.{ℕ, zero, suc, ◌+◌, ◌*◌, List, Bool, true, false, Option, Some, None, if◌then◌else◌, ◌≡◌, []}
 use Rattle.std.specs.Prelude.{◌∷◌}
 use Rattle.epoch_cells.specs.declared.cells.name.Name.{Name}
 use Rattle.epoch_heap.specs.declared.access.Ptr.{Ptr}
@@ -13,7 +13,8 @@ use Rattle.epoch_heap.specs.declared.access.Answer.{Answer}
 use Rattle.epoch_heap.specs.declared.access.Answer.TheVariants.{Name as NameAnswer, Value, Pointer, Exchanged}
 use Rattle.epoch_heap.specs.Heap.{null, is_name}
 use Rattle.epoch_laws.specs.Run.{State, IsFresh}
-use Rattle.epoch_plans.specs.Plans.{Deed, Flushes, Touches, Defers, Answers, Program, ptr_to, AllPlans, NoPlan}
+use Rattle.epoch_plans.specs.declared.plan.Plan.TheVariants.{NoPlan}
+use Rattle.epoch_plans.specs.Plans.{Deed, Flushes, Touches, Defers, Answers, Program, ptr_to, AllPlans}
 use Rattle.epoch_plans.specs.Plans.{PlanEvent, PlanRuns}
 use Rattle.epoch_queue_laws.specs.declared.plan.Work.{Work}
 use Rattle.epoch_queue_laws.specs.declared.plan.Work.TheVariants.{Build, Push, Pop}
@@ -41,6 +42,11 @@ abbrev pub start_work : Work → Phase
 start_work Build = Founding
 start_work (Push v k) = Placing v k
 start_work (Pop k) = retry_pop k
+
+-- and where it has room or hasn't
+abbrev pub begin_work : Work → Bool → Phase
+begin_work work true = start_work work
+begin_work work false = MakingRoom work
 
 abbrev pub load : ℕ → Spot → Access
 load g spot = Point (Some g) spot Load
@@ -175,7 +181,7 @@ Starts (MakingRoom work) = Unit {0}
 Starts Founding = Unit {0}
 Starts (Placing v k) = Unit {0}
 Starts (LoadingHead k) = Unit {0}
-Starts (Answering a) = Unit {0}
+Starts (Answering TriesOut) = Unit {0}  -- a pop in no try
 Starts _ = ⊥
 
 -- what the steps of a queue show

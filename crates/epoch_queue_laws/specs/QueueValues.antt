@@ -13,7 +13,8 @@ use Rattle.epoch_laws.specs.declared.step.Reply.{Reply}
 use Rattle.epoch_laws.specs.declared.step.Reply.TheVariants.{Done}
 use Rattle.epoch_laws.specs.declared.step.Step.TheVariants.{Go}
 use Rattle.epoch_laws.specs.Run.{State, seat_of}
-use Rattle.epoch_plans.specs.Plans.{AllPlans, Under}
+use Rattle.epoch_plans.specs.declared.plan.Plan.TheVariants.{Under}
+use Rattle.epoch_plans.specs.Plans.{AllPlans}
 use Rattle.epoch_queue_laws.specs.declared.plan.Phase.{Phase}
 use Rattle.epoch_queue_laws.specs.declared.plan.Phase.TheVariants.{Appending, Taking, LoadingNext}
 
@@ -65,11 +66,11 @@ pub data StepOnValues (old : State) (plans : AllPlans Phase) (x : Entry) (new : 
 
 -- the step of a pop that finds nothing behind the head, so that the pop will answer Empty
 pub record FindsNone (old : State) (plans : AllPlans Phase) (x : Entry) (new : State) : Type 0 where
-  pub who : ℕ
+  pub participant : ℕ
   pub guard : ℕ
   pub head : Name
   pub tries : ℕ
   pub ptr : Ptr
-  pub phase : plans who ≡ Under guard (LoadingNext head tries) true
-  pub brings : Brings old x new who (Done (Pointer ptr))
+  pub phase : plans participant ≡ Under guard (LoadingNext head tries) true
+  pub brings : Brings old x new participant (Done (Pointer ptr))
   pub none : ptr.name ≡ None

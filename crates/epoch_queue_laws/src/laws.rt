@@ -2,11 +2,15 @@
 ghost use Rattle.std.specs.Prelude.{◌≡◌, ℕ, List, []};
 ghost use Rattle.epoch_heap.specs.Heap.{Heap};
 ghost use Rattle.epoch_laws.specs.declared.step.Entry.{Entry};
+ghost use Rattle.epoch_laws.specs.declared.step.Reply.{Reply};
 ghost use Rattle.epoch_laws.specs.Run.{State, TakesStep};
 ghost use Rattle.epoch_reach_laws.specs.Reach.{LeavesOnce, KeepsLoaded, past_of};
-ghost use Rattle.epoch_plans.specs.Plans.{AllPlans, IsLowered, world_log, run_of_world};
+ghost use Rattle.epoch_plans.specs.Plans.{AllPlans, IsLowered, after_by, world_log, run_of_world};
 ghost use Rattle.epoch_queue_laws.specs.declared.plan.Phase.{Phase};
-ghost use Rattle.epoch_queue_laws.specs.Queue.{queue, calls_left, Starts, QueueLog, QueueRuns, IsNewQueue};
+ghost use Rattle.epoch_queue_laws.specs.declared.plan.Phase.TheVariants.{Answering};
+ghost use Rattle.epoch_queue_laws.specs.declared.plan.QueueAnswer.{QueueAnswer};
+ghost use Rattle.epoch_queue_laws.specs.Queue.{queue, calls_left, deed_of, Starts, QueueLog, QueueRuns, IsNewQueue};
+ghost use Rattle.epoch_queue_laws.specs.QueueDeeds.{DidNothing, deed_answered, deed_done, deed_then};
 ghost use Rattle.epoch_queue_laws.specs.QueueValues.{QueueHolds, StepOnValues, FindsNone};
 
 /// In the run of the world that a queue makes cells leave as they have to: once, by a deferred removal, and for good.
@@ -28,6 +32,18 @@ pub fn every_queue_run_keeps_reach()
 /// call of the queue answers when none is left.
 pub fn every_queue_reply_comes_nearer_the_answer()
     ensures { IsLowered queue calls_left }
+{}
+
+/// By its phase a call has done nothing to the list yet, has added its node at the back, has taken a value from the
+/// front, or has found nothing behind the head. It begins with nothing done. Each reply passes on what was done, and
+/// only three add to it: a push's exchange that is won, a pop's, and the pointer behind the head that is null. So a call
+/// answers `Pushed` exactly where it has won its exchange, `Popped` or `PoppedLeaking` with the value that its won
+/// exchange took, `Empty` exactly where it found nothing behind the head, and anything else where it did none of these.
+pub fn every_queue_answer_tells_what_was_done()
+    ensures begins { (phase : Phase) → Starts phase → deed_done phase ≡ DidNothing }
+    ensures passes_on { (guard : ℕ) (phase : Phase) (reply : Reply)
+        → deed_done (after_by phase (deed_of guard phase) reply) ≡ deed_then phase reply }
+    ensures answers { (answer : QueueAnswer) → deed_done (Answering answer) ≡ deed_answered answer }
 {}
 
 /// A new queue holds no value, and at each moment of a run its cells hold a list of values, the front's first.

@@ -1,0 +1,3 @@
+pub mod PlansListed
+pub mod PlanSteps
+pub mod PlanRunsTold

@@ -1,0 +1,2 @@
+pub mod AnyReplies
+pub mod TwoRoots

@@ -1,0 +1,85 @@
+-- The state of a queue's world, what one step does to it, and what holds of whole lists of steps.
+use Rattle.std.specs.Prelude.{◌≡◌, ℕ, List, [], ◌++◌}
+use Rattle.std.specs.Global.{Vec}
+use Rattle.epoch_laws.specs.Full.{FullWhereFound}
+use Rattle.epoch_laws.specs.Run.{State, Runs, TakesStep}
+use Rattle.epoch_laws.specs.declared.step.Entry.{Entry}
+use Rattle.epoch_plan_world.specs.declared.step.PlanReply.{PlanReply}
+use Rattle.epoch_plan_world.specs.declared.step.PlanStep.{PlanStep}
+use Rattle.epoch_plan_world.specs.PlanWorlds.{PlanState, PlanEntry, PlanTakes, GoesByPlans, ListsSteps, events_of, plan_run}
+use Rattle.epoch_plan_world.specs.PlanWorlds.{plans_in}
+use Rattle.epoch_plans.specs.Plans.{world_log, run_of_world}
+use Rattle.epoch_queue_laws.specs.declared.plan.Phase.{Phase}
+use Rattle.epoch_queue_laws.specs.declared.plan.QueueAnswer.{QueueAnswer}
+use Rattle.epoch_queue_laws.specs.declared.plan.Work.{Work}
+use Rattle.epoch_queue_laws.specs.Queue.{queue, deed_of, Starts, begin_work, QueueRuns, IsNewQueue}
+use Rattle.epoch_queue_laws.specs.QueueValues.{QueueHolds, StepOnValues, FindsNone}
+use Rattle.epoch_reach_laws.specs.Reach.{LeavesOnce, KeepsLoaded, past_of}
+
+abbrev pub QueueState : Type 0
+QueueState = PlanState Phase
+
+abbrev pub QueueEntry : Type 0
+QueueEntry = PlanEntry Phase QueueAnswer Work
+
+-- the queue takes this step, with this reply
+abbrev pub QueueTakes : QueueState → PlanStep Work → PlanReply QueueAnswer → QueueState → Type 0
+QueueTakes old step reply new = PlanTakes deed_of Starts begin_work old step reply new
+
+-- the queue goes by these entries from old to new
+abbrev pub GoesByQueue : QueueState → List QueueEntry → QueueState → Type 0
+GoesByQueue old log new = GoesByPlans deed_of Starts begin_work old log new
+
+-- WHAT HOLDS OF A RUN FROM A NEW QUEUE
+
+-- a new world with two null roots, and no call under way
+abbrev pub StartsEmpty : QueueState → Type 0
+StartsEmpty s = IsNewQueue s.world (plans_in s.plans)
+
+-- of the steps that the queue takes now, together with all those that it took before them
+abbrev pub AlongQueue : (old : QueueState) (steps : List (PlanStep Work)) (new : QueueState)
+    → ((fresh : QueueState) (log : List QueueEntry) (last : QueueState) → GoesByQueue fresh log last → Type 0)
+    → Vec (PlanReply QueueAnswer) → Type 0
+AlongQueue old steps new Holds replies = (fresh : QueueState) (earlier log : List QueueEntry)
+    → StartsEmpty fresh → GoesByQueue fresh earlier old → ListsSteps log steps replies.items
+    → (run : GoesByQueue fresh (earlier ++ log) new) → Holds fresh (earlier ++ log) new run
+
+-- the run of the queue's program that it is, and the run of the world that it makes
+abbrev pub queue_run : (old : QueueState) (log : List QueueEntry) (new : QueueState) → GoesByQueue old log new
+    → QueueRuns old.world (plans_in old.plans) (events_of log) new.world (plans_in new.plans)
+queue_run old log new run =
+    plan_run deed_of Starts begin_work old.world (plans_in old.plans) log new.world (plans_in new.plans) run
+
+abbrev pub world_made : (old : QueueState) (log : List QueueEntry) (new : QueueState) → GoesByQueue old log new
+    → Runs old.world (world_log (events_of log)) new.world
+world_made old log new run = run_of_world queue Starts old.world (plans_in old.plans) (events_of log) new.world
+    (plans_in new.plans) (queue_run old log new run)
+
+-- cells leave once, by a deferred removal, and for good
+abbrev pub LeavesNodesOnce : (old : QueueState) (log : List QueueEntry) (new : QueueState) → GoesByQueue old log new
+    → Type 0
+LeavesNodesOnce old log new run =
+    LeavesOnce old.world (world_log (events_of log)) new.world (world_made old log new run)
+
+-- no name that is loaded under a guard still held is destroyed
+abbrev pub KeepsNamesLoaded : (old : QueueState) (log : List QueueEntry) (new : QueueState) → GoesByQueue old log new
+    → Type 0
+KeepsNamesLoaded old log new run =
+    KeepsLoaded (past_of old.world (world_log (events_of log)) new.world (world_made old log new run))
+
+-- the bags are told to be full exactly where the put of the call found each place of the store occupied
+abbrev pub TellsFullWhereFound : (old : QueueState) (log : List QueueEntry) (new : QueueState) → GoesByQueue old log new
+    → Type 0
+TellsFullWhereFound old log new run = FullWhereFound old.world (world_log (events_of log)) new.world
+
+-- a new queue holds no value, and the cells hold a list of values
+abbrev pub HoldsAList : (old : QueueState) (log : List QueueEntry) (new : QueueState) → GoesByQueue old log new → Type 0
+HoldsAList old log new run = QueueHolds old.world.heap [] × ((vs : List ℕ) × QueueHolds new.world.heap vs)
+
+-- each further step of the world leaves that list, adds a push's value at the back, or takes a pop's value from the
+-- front; and where a pop finds nothing the list is empty
+abbrev pub FirstInFirstOut : (old : QueueState) (log : List QueueEntry) (new : QueueState) → GoesByQueue old log new
+    → Type 0
+FirstInFirstOut old log new run = (next : State) (x : Entry) → TakesStep new.world x.step x.reply next
+    → (vs : List ℕ) → QueueHolds new.world.heap vs
+    → StepOnValues new.world (plans_in new.plans) x next vs × (FindsNone new.world (plans_in new.plans) x next → vs ≡ [])
