@@ -111,7 +111,7 @@ impl<'a, R: Threads + Wait> Timed for Rounds<'a, R> {
     }
 }
 
-/// A store in which so many values live.
+/// A store in which this many values live.
 fn filled(alloc: Global, live: u32) -> io::Result<Cells<u64>> {
     let Ok(cells) = Cells::new(alloc, SLOTS, 0) else {
         return Err(io::Error::from(AllocError));
@@ -122,7 +122,7 @@ fn filled(alloc: Global, live: u32) -> io::Result<Cells<u64>> {
     Ok(cells)
 }
 
-/// The time of a round where so many values live.
+/// The time of a round where this many values live.
 fn time<R: Clock + Threads + Wait>(
     rt: &R,
     alloc: Global,

@@ -31,7 +31,7 @@ impl<'a> Timed for Words<'a> {
     }
 }
 
-/// A collector for so many participants, with 16 places for bags and no cell.
+/// A collector for this many participants, with 16 places for bags and no cell.
 pub fn collector_of(alloc: Global, participants: u32) -> io::Result<Collector<u64>> {
     let capacities = Capacities::usual(participants, 0, 16);
     if !capacities.is_valid() {

@@ -63,7 +63,7 @@ impl<'c> Idle<'c> {
         count
     }
 
-    /// Pins so many times under one pin.
+    /// Pins this many times under one pin.
     fn nest(&mut self, turns: u64) {
         let outer = self.handle.pin();
         pin_under(&mut self.handle, turns);

@@ -50,7 +50,7 @@ fn replaced<R: Clock + Wait>(
     }
 }
 
-/// The time of a replacement where so many other objects live, and how many objects were replaced.
+/// The time of a replacement where this many other objects live, and how many objects were replaced.
 fn beside<R: Clock + Wait>(rt: &R, alloc: Global, live: u32) -> io::Result<(u64, u64)> {
     let capacities = Capacities::usual(1, 4096, 16);
     let made: Result<Collector<u64>, Fault> = Collector::new(alloc, capacities, 1);

@@ -42,14 +42,14 @@ impl<'t> Participant<'t> {
         self.table.unpin(&mut self.seat, self.position);
     }
 
-    /// Stores the own word so many times.
+    /// Stores the own word this many times.
     pub fn stores(&mut self, count: u64) {
         for _ in 0..count {
             self.unpin();
         }
     }
 
-    /// Pins and unpins so many times, and adds up the numbers published.
+    /// Pins and unpins this many times, and adds up the numbers published.
     pub fn pins(&mut self, count: u64) -> u64 {
         let mut sum: u64 = 0;
         for _ in 0..count {
@@ -70,7 +70,7 @@ impl<'t> Participant<'t> {
     }
 }
 
-/// Loads the epoch so many times, and adds up the words found.
+/// Loads the epoch this many times, and adds up the words found.
 pub fn loads(table: &Participants, count: u64) -> u64 {
     let mut seat = table.seat();
     let mut sum: u64 = 0;
@@ -80,7 +80,7 @@ pub fn loads(table: &Participants, count: u64) -> u64 {
     sum
 }
 
-/// Claims and frees the last position so many times, and counts the claims that were won.
+/// Claims and frees the last position this many times, and counts the claims that were won.
 pub fn claims(table: &Participants, count: u64) -> u64 {
     let last = table.positions() - 1;
     let mut seat = table.seat();

@@ -2,7 +2,7 @@
 use std::alloc::{AllocError, Global};
 use std::sync::atomic::{AtomicU64, Ordering};
 
-/// A word for the epoch, and one for each position, so many words apart.
+/// A word for the epoch, and one for each position, this many words apart.
 #[derive(Drop)]
 pub struct PlainWords {
     epoch: AtomicU64,
@@ -26,7 +26,7 @@ impl PlainWords {
         })
     }
 
-    /// Loads the epoch so many times, and adds up what was found.
+    /// Loads the epoch this many times, and adds up what was found.
     pub fn loads(&self, count: u64) -> u64 {
         let mut sum: u64 = 0;
         for _ in 0..count {
@@ -35,7 +35,7 @@ impl PlainWords {
         sum
     }
 
-    /// Stores the word of a position so many times.
+    /// Stores the word of a position this many times.
     pub fn stores(&self, position: usize, count: u64) {
         if let Some(word) = self.words.get(position.wrapping_mul(self.spacing)) {
             for _ in 0..count {
@@ -44,7 +44,7 @@ impl PlainWords {
         }
     }
 
-    /// Claims and frees a position so many times, and counts the claims that were won.
+    /// Claims and frees a position this many times, and counts the claims that were won.
     pub fn claims(&self, position: usize, count: u64) -> u64 {
         let mut won: u64 = 0;
         if let Some(word) = self.words.get(position.wrapping_mul(self.spacing)) {
@@ -59,7 +59,7 @@ impl PlainWords {
         won
     }
 
-    /// Pins and unpins a position so many times, and adds up the numbers published.
+    /// Pins and unpins a position this many times, and adds up the numbers published.
     pub fn pins(&self, position: usize, count: u64) -> u64 {
         let mut sum: u64 = 0;
         if let Some(word) = self.words.get(position.wrapping_mul(self.spacing)) {

@@ -60,7 +60,7 @@ impl<'a, R: Threads + Wait> Timed for Words<'a, R> {
     }
 }
 
-/// The time of a pin where so many threads pin, each with a handle of its own.
+/// The time of a pin where this many threads pin, each with a handle of its own.
 fn best_of_handles<R: Clock + Threads + Wait + Sync>(
     rt: &R,
     collector: &Collector<u64>,

@@ -18,11 +18,11 @@ impl Display for Hundredths {
 
 /// A loop that can be timed.
 pub trait Timed {
-    /// Goes round so many times.
+    /// Goes round this many times.
     fn go(&mut self, turns: u64);
 }
 
-/// The time since `start` for each of so many turns.
+/// The time since `start` for each of this many turns.
 pub fn each(rt: &impl Clock, start: Instant, turns: u64) -> io::Result<u64> {
     let nanos = start.elapsed(rt)?.as_nanos();
     Ok(u64::try_from(nanos).unwrap_or(u64::MAX).saturating_mul(100) / turns.max(1))

@@ -6,7 +6,7 @@ ghost use Rattle.epoch_handles.specs.JobsKept.{KeepsJobsInCalls, LosesNoJob};
 use epoch_tables::shared_places::no_bag_is_lost;
 use epoch_tables::table::pinned_seats_hold_bags_back;
 
-/// Where a thread performs what its machine asks, the replies on the participants' table are just the words that
+/// Where a thread performs what its machine asks, the replies on the participants' table are exactly the words that
 /// its seat's steps found, in order, and the greatest epoch that the seat has read or stored never falls.
 pub fn replies_are_found<J>()
     ensures { RepliesAreFound J }
@@ -19,7 +19,7 @@ pub fn expiries_are_seen<J>()
 {}
 
 /// Where a thread performs what its machine asks, each answer of a put or of a collection is the one that the word
-/// found at its place stands for, in order: these are just the words that its seat's steps found there.
+/// found at its place stands for, in order: these are exactly the words that its seat's steps found there.
 pub fn answers_are_found<J>()
     ensures { AnswersAreFound J }
 {}

@@ -20,7 +20,7 @@ pub fn every_run_gives_no_name_twice()
     ensures { (s new : State) (log : List Entry) → IsFresh s → (run : Runs s log new) → GivesNoNameTwice s log new run }
 {}
 
-/// A job in a bag removes the name that its ticket's deferral named, or is work; and its call does just that.
+/// A job in a bag removes the name that its ticket's deferral named, or is work, and its call does exactly that.
 pub fn every_run_calls_what_was_deferred()
     ensures { (s new : State) (log : List Entry) → IsFresh s → (run : Runs s log new)
         → CallsWhatWasDeferred s log new run }

@@ -168,14 +168,14 @@ impl<S: BagStore<Job = Deferral>> World<S> {
         // When an end is over, every accepted job was called.
         ensures all_called { IfOk result (AlongSteps self.old steps.now
             (λ fresh log. self.new.ending ≡ Over → (t : ℕ) → times_called t log ≡ times_deferred t log)) }
-        // An end that answered how many jobs it called has called so many, and every accepted job was called.
+        // An end that answered how many jobs it called has called that many, and every accepted job was called.
         ensures ended { IfOk result (AlongSteps self.old steps.now (λ fresh log. EndsAtCount log)) }
-        // Rounds of a participant whom nobody disturbs call every job of the bags in the store: one round that puts its
-        // own bag, one more, and one for each collection that the bags take.
+        // Rounds of a participant that no other one disturbs call every job of the bags in the store: one round that
+        // puts its own bag, one more, and one for each collection that the bags take.
         ensures rounds { IfOk result (λ replies. SinceEachState self.old (entries_of steps.now replies.items)
             (λ start log. RoundsCallAll start log self.new)) }
-        // Each call takes at most as many bags as one collection may take, and calls at most the jobs of so many full
-        // bags.
+        // Each call takes at most as many bags as one collection may take, and calls at most the jobs of as many
+        // full bags.
         ensures few { IfOk result (AlongSteps self.old steps.now
             (λ fresh log. (run : Runs fresh log self.new) → CollectsFew fresh log self.new run)) }
         // A call that is refused leaves all as it was when it began, but for what each call may change.
@@ -196,7 +196,7 @@ impl<S: BagStore<Job = Deferral>> World<S> {
         ensures stands { IfOk result (AlongSteps self.old steps.now
             (λ fresh log. (run : Runs fresh log self.new)
             → StandsOrDestroyed (given_of fresh log self.new run) (past_of fresh log self.new run) self.new.heap)) }
-        // A job in a bag removes the name that its ticket's deferral named, or is work; and its call does just that.
+        // A job in a bag removes the name that its ticket's deferral named, or is work, and its call does exactly that.
         ensures removals { IfOk result (AlongSteps self.old steps.now
             (λ fresh log. (run : Runs fresh log self.new) → CallsWhatWasDeferred fresh log self.new run)) }
 
@@ -233,11 +233,11 @@ impl<S: BagStore<Job = Deferral>> World<S> {
         // The bags are told to be full exactly where the call's put found each place of the store occupied.
         ensures full { IfOk result (AlongCall self.old participant call
             (λ fresh log. FullWhereFound fresh log self.new)) }
-        // Rounds of a participant whom nobody disturbs call every job of the bags in the store.
+        // Rounds of a participant that no other one disturbs call every job of the bags in the store.
         ensures rounds { IfOk result (λ replies. SinceEachState self.old (call_entries participant call replies.items)
             (λ start log. RoundsCallAll start log self.new)) }
-        // Each call takes at most as many bags as one collection may take, and calls at most the jobs of so many full
-        // bags.
+        // Each call takes at most as many bags as one collection may take, and calls at most the jobs of as many
+        // full bags.
         ensures few { IfOk result (AlongCall self.old participant call
             (λ fresh log. (run : Runs fresh log self.new) → CollectsFew fresh log self.new run)) }
         // A call that is refused leaves all as it was when it began, but for what each call may change.
@@ -258,7 +258,7 @@ impl<S: BagStore<Job = Deferral>> World<S> {
         ensures stands { IfOk result (AlongCall self.old participant call
             (λ fresh log. (run : Runs fresh log self.new)
             → StandsOrDestroyed (given_of fresh log self.new run) (past_of fresh log self.new run) self.new.heap)) }
-        // A job in a bag removes the name that its ticket's deferral named, or is work; and its call does just that.
+        // A job in a bag removes the name that its ticket's deferral named, or is work, and its call does exactly that.
         ensures removals { IfOk result (AlongCall self.old participant call
             (λ fresh log. (run : Runs fresh log self.new) → CallsWhatWasDeferred fresh log self.new run)) }
 
