@@ -18,6 +18,36 @@ impl PostSet for Brand {
     ghost posts = { [] };
 }
 
+/// Posts that are no set yet, with the rights to pin at them.
+#[derive(Drop)]
+pub struct Made {
+    posts: Vec<Post>,
+    rights: Vec<Unpinned>,
+    pub ghost in_order: { map names_of rights.items ≡ posts.items },
+}
+
+impl Made {
+    /// This many posts, at which nobody is pinned. It fails for want of memory alone.
+    pub fn new(alloc: Global, count: usize) -> Result<Made, AllocError> {
+        let mut posts = Vec::with_capacity(alloc, count)?;
+        let mut rights = Vec::with_capacity(alloc, count)?;
+        for _ in 0..count {
+            let (post, unpinned) = Post::new();
+            posts.push(post).map_err(|_| AllocError)?;
+            rights.push(unpinned).map_err(|_| AllocError)?;
+        }
+        Ok(Made { posts, rights })
+    }
+}
+
+/// Says of a type which set it is of, and no more: it has no value of `J`.
+#[derive(Drop)]
+pub(crate) struct Of<J: PostSet>(pub(crate) PhantomData<*const J>);
+
+unsafe impl<J: PostSet> Send for Of<J> {}
+
+unsafe impl<J: PostSet> Sync for Of<J> {}
+
 /// The right to pin at one post of a set.
 #[derive(Drop)]
 pub(crate) struct Right<J: PostSet> {
@@ -25,7 +55,7 @@ pub(crate) struct Right<J: PostSet> {
     // The place that it is taken from, and given back to.
     pub(crate) home: usize,
     pub(crate) unpinned: Unpinned,
-    pub(crate) set: PhantomData<J>,
+    pub(crate) set: Of<J>,
     pub(crate) ghost stands: { Stands J.posts position unpinned.log unpinned.state },
 }
 
@@ -44,15 +74,12 @@ pub struct Posts<J: PostSet> {
 }
 
 impl<J: PostSet> Posts<J> {
-    // A set of these posts, whose rights may be taken.
-    pub(crate) fn new(
-        alloc: Global,
-        posts: Vec<Post>,
-        rights: Vec<Unpinned>,
-    ) -> Result<Posts<J>, AllocError>
-        requires named { posts.items ≡ J.posts }
-        requires rights { map names_of rights.items ≡ J.posts }
+    /// The set of these posts. That they are those of `J` is so for any posts where the call of the function that
+    /// `J` is a parameter of picks them. It fails for want of memory alone.
+    pub fn of(alloc: Global, made: Made) -> Result<Posts<J>, AllocError>
+        requires { made.posts.items ≡ J.posts }
     {
+        let Made { posts, rights } = made;
         let mut rest = rights;
         let mut places = Vec::with_capacity(alloc, rest.len())?;
         while let Some(unpinned) = rest.pop() {
@@ -60,7 +87,7 @@ impl<J: PostSet> Posts<J> {
                 position: rest.len(),
                 home: places.len(),
                 unpinned,
-                set: PhantomData,
+                set: Of(PhantomData),
             };
             places.push(holding(right)).map_err(|_| AllocError)?;
         }
@@ -123,3 +150,7 @@ fn holding<J: PostSet>(right: Right<J>) -> Counted<Option<Right<J>>> {
     }
     place
 }
+
+unsafe impl<J: PostSet> Send for Posts<J> {}
+
+unsafe impl<J: PostSet> Sync for Posts<J> {}

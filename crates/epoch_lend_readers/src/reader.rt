@@ -3,7 +3,7 @@ ghost use Rattle.std.specs.Prelude.{◌≡◌, ◌<◌, ◌^◌};
 ghost use Rattle.epoch_lend.specs.Posts.{IsAmong, logs_of};
 ghost use Rattle.epoch_lend_readers.specs.Sets.{Stands};
 
-use crate::posts::{PostSet, Posts, Right};
+use crate::posts::{Of, PostSet, Posts, Right};
 use epoch_lend::post::{Guard, Pin, Post};
 use std::marker::PhantomData;
 
@@ -78,7 +78,7 @@ impl<'p, J: PostSet> Pinned<'p, J> {
                 position,
                 home,
                 unpinned,
-                set: PhantomData,
+                set: Of(PhantomData),
             },
         }
     }

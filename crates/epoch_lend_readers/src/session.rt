@@ -1,9 +1,7 @@
 //! How a set of posts is made.
-ghost use Rattle.std.specs.Prelude.{◌≡◌, map, IfOk};
-ghost use Rattle.epoch_lend_readers.specs.Sets.{names_of};
+ghost use Rattle.std.specs.Prelude.{◌≡◌, IfOk};
 
-use crate::posts::{PostSet, Posts};
-use epoch_lend::post::{Post, Unpinned};
+use crate::posts::{Made, PostSet, Posts};
 use std::alloc::{AllocError, Global};
 use std::marker::Brand;
 
@@ -26,34 +24,18 @@ pub fn with_posts<S: Session + Drop>(
 ) -> Result<S::Answer, AllocError>
     ensures { IfOk result (S.answers session) }
 {
-    let (posts, rights) = made(alloc, count)?;
-    begin::<Brand, S>(alloc, posts, rights, session)
+    let made = Made::new(alloc, count)?;
+    begin::<Brand, S>(alloc, made, session)
 }
 
 fn begin<J: PostSet + Send + Sync, S: Session + Drop>(
     alloc: Global,
-    posts: Vec<Post>,
-    rights: Vec<Unpinned>,
+    made: Made,
     session: S,
 ) -> Result<S::Answer, AllocError>
-    requires named { posts.items ≡ J.posts }
-    requires rights { map names_of rights.items ≡ J.posts }
+    requires { made.posts.items ≡ J.posts }
     ensures { IfOk result (S.answers session) }
 {
-    let set = Posts::<J>::new(alloc, posts, rights)?;
+    let set = Posts::<J>::of(alloc, made)?;
     Ok(session.run(set))
-}
-
-// This many posts, and the rights to pin at them, in the same order.
-fn made(alloc: Global, count: usize) -> Result<(Vec<Post>, Vec<Unpinned>), AllocError>
-    ensures { IfOk result (λ made. map names_of made.1.items ≡ made.0.items) }
-{
-    let mut posts = Vec::with_capacity(alloc, count)?;
-    let mut rights = Vec::with_capacity(alloc, count)?;
-    for _ in 0..count {
-        let (post, unpinned) = Post::new();
-        posts.push(post).map_err(|_| AllocError)?;
-        rights.push(unpinned).map_err(|_| AllocError)?;
-    }
-    Ok((posts, rights))
 }

@@ -3,7 +3,7 @@ ghost use Rattle.std.specs.Prelude.{◌≡◌, IfSome, IfOk, IfErr};
 ghost use Rattle.epoch_lend.specs.Posts.{logs_of};
 ghost use Rattle.epoch_lend.specs.Loans.{Within, EachSeen, is_sealed};
 
-use crate::posts::{PostSet, Posts};
+use crate::posts::{Of, PostSet, Posts};
 use crate::reader::Pinned;
 use epoch_lend::lending::Marked;
 use epoch_lend::lent::Lent;
@@ -15,7 +15,7 @@ use std::marker::PhantomData;
 #[derive(Drop)]
 pub struct Value<J: PostSet, T> {
     lent: Lent<T>,
-    set: PhantomData<J>,
+    set: Of<J>,
     pub ghost posts: { lent.lending.posts ≡ logs_of J.posts },
 }
 
@@ -33,7 +33,7 @@ pub struct Retired<J: PostSet, T, A: Allocator> {
     marked: Marked<T>,
     seal: u64,
     deed: Deed<T, A>,
-    set: PhantomData<J>,
+    set: Of<J>,
     pub ghost right: { marked.right ≡ 1 },
     pub ghost lent: { Within (logs_of J.posts) marked.loans },
     pub ghost sealed: { EachSeen (is_sealed seal) (logs_of J.posts) marked.seen },
@@ -51,7 +51,7 @@ pub fn lend<'v, J: PostSet, T: Drop, A: Allocator>(
     let (lent, deed) = Lent::new(whole, posts.as_slice());
     let value = place.insert(Value {
         lent,
-        set: PhantomData,
+        set: Of(PhantomData),
     });
     Owner { value, deed }
 }
@@ -88,7 +88,7 @@ impl<'v, J: PostSet, T, A: Allocator> Owner<'v, J, T, A> {
                     marked,
                     seal,
                     deed,
-                    set: PhantomData,
+                    set: Of(PhantomData),
                 })
             }
             None => Err(Owner { value, deed }),
@@ -115,8 +115,12 @@ impl<J: PostSet, T: Drop, A: Allocator> Retired<J, T, A> {
                 marked,
                 seal,
                 deed,
-                set: PhantomData,
+                set: Of(PhantomData),
             }),
         }
     }
 }
+
+unsafe impl<J: PostSet, T: Send + Sync> Send for Value<J, T> {}
+
+unsafe impl<J: PostSet, T: Send + Sync> Sync for Value<J, T> {}

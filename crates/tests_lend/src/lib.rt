@@ -2,6 +2,8 @@
 #![tactic(auto)]
 
 #[cfg(test)]
+mod readers;
+#[cfg(test)]
 mod threads;
 #[cfg(test)]
 mod wants;

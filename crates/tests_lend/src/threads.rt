@@ -1,7 +1,7 @@
 ghost use Rattle.std.specs.Prelude.{◌≡◌};
 ghost use Rattle.epoch_lend.specs.Posts.{logs_of, IsAmong};
 
-use crate::wants::want;
+use crate::wants::{wait_for, want};
 use epoch_lend::lent::Lent;
 use epoch_lend::part::{Deed, thaw};
 use epoch_lend::post::{Post, Unpinned};
@@ -37,15 +37,6 @@ struct Signals {
     has_looked: AtomicBool,
     may_go_on: AtomicBool,
     is_over: AtomicBool,
-}
-
-fn wait_for(flag: &AtomicBool) {
-    for _ in 0..10_000_000u64 {
-        if flag.load(SeqCst) {
-            return;
-        }
-        thread::yield_now();
-    }
 }
 
 /// Looks under the second guard of a nested pin, and reads only once it is told to go on. Answers what it read.

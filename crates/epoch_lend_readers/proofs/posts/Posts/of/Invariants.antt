@@ -1,6 +1,6 @@
 use Rattle.std.proofs.Common.{vec_len}
 use Rattle.epoch_lend_readers.specs.Sets.{AreFirst}
-use Rattle.epoch_lend_readers.proofs.posts.Posts.new.Given as goal
+use Rattle.epoch_lend_readers.proofs.posts.Posts.of.Given as goal
 
 -- the rights that are left are those of the first posts
 abbrev pub invariant-loop-unpinned : goal.invariant-loop-unpinned
