@@ -2,7 +2,7 @@ INPUT ?= crates/epoch_run/stdin
 
 PICTURES = grace stall full
 
-.PHONY: help run try draw pictures test refute
+.PHONY: help run try draw pictures test refute beside beside-histories
 
 help:
 	@echo 'make try      compiles the program epoch-run and runs it on a script; proves nothing   20 s'
@@ -12,9 +12,14 @@ help:
 	@echo '              bodies of crates/*/must-fail, each of which must be refused    half an hour and more'
 	@echo 'make refute   tries the other wrong bodies, those of crates/*/refuted        half an hour and more'
 	@echo 'make pictures draws the pictures of the documents anew                                  1 min'
+	@echo 'make beside   times this library and crossbeam-epoch in turn: beside/README.md says what'
+	@echo '              must be installed    minutes at first for the proofs, then 20 min'
+	@echo 'make beside-histories   gives random scripts to both, and compares which jobs they call   1 min'
 	@echo
 	@echo 'INPUT=FILE    the script of try, run and draw, in place of crates/epoch_run/stdin'
 	@echo 'CRATE=NAME    the crate of refute, in place of all'
+	@echo 'ROWS=REGEX THREADS=1,4 PASSES=10    which rows beside measures, and how often'
+	@echo 'LINES=N SEED=S                      how long the scripts of beside-histories are, and which'
 	@echo 'Times are of 4 processors; docs/PERFORMANCE.md says what they depend on.'
 
 ifeq ($(shell command -v rt),)
@@ -47,3 +52,9 @@ test:
 
 refute:
 	@tools/refute.py $(CRATE)
+
+beside:
+	@tools/beside.py table
+
+beside-histories:
+	@tools/beside.py histories
