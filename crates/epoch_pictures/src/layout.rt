@@ -1,13 +1,18 @@
 //! From the steps of a run to what its picture shows. Time is the number of a step.
 ghost use Rattle.std.specs.Prelude.{◌≡◌, ◌≤◌, ◌<◌, count_by, length, IfOk};
+ghost use Rattle.std.specs.List.{All};
 ghost use Rattle.epoch_pictures.specs.Told.{begins, calls, defers, lanes_told, pins, refuses, registers};
 
 mod bars;
+mod columns;
 mod lanes;
 mod marks;
 
 use crate::Moment;
+use crate::moment::entries_of;
+pub use columns::MOST_COLUMNS;
 use epoch_bags::Called;
+use epoch_cell_pictures::{Shown, shown_of};
 use epoch_cells::{Fault, Name};
 use epoch_world::Call;
 use std::alloc::{AllocError, Global};
@@ -85,6 +90,8 @@ pub struct Picture<'m> {
     /// The words of places that aren't empty.
     pub places: Vec<Bar<u64>>,
     pub epochs: Vec<Bar<u64>>,
+    /// What is shown of the cells.
+    pub cells: Vec<Shown>,
 }
 
 /// Lays the steps of a run out. `AllocError`: an allocation was refused.
@@ -100,12 +107,13 @@ pub fn lay_out<'m>(alloc: Global, moments: &'m [Moment]) -> Result<Picture<'m>, 
     ensures arrows { IfOk result (λ picture. length picture.arrows.items ≡ count_by calls moments.now) }
     ensures refusals { IfOk result (λ picture. length picture.refusals.items ≡ count_by refuses moments.now) }
     ensures columns { IfOk result (λ picture. length picture.columns.items ≡ length moments.now) }
+    ensures few { IfOk result (λ picture. All (λ column. column < MOST_COLUMNS) picture.columns.items) }
 {
     let deferrals = marks::deferrals_of(alloc, moments)?;
     let arrows = marks::arrows_of(alloc, moments, &deferrals)?;
     Ok(Picture {
         moments,
-        columns: lanes::columns_of(alloc, moments)?,
+        columns: columns::columns_of(alloc, moments)?,
         participants: lanes::participants_of(moments),
         registrations: bars::registrations_of(alloc, moments)?,
         calls: bars::calls_of(alloc, moments)?,
@@ -116,5 +124,6 @@ pub fn lay_out<'m>(alloc: Global, moments: &'m [Moment]) -> Result<Picture<'m>, 
         refusals: marks::refusals_of(alloc, moments)?,
         places: bars::places_of(alloc, moments)?,
         epochs: bars::epochs_of(alloc, moments)?,
+        cells: shown_of(alloc, &entries_of(alloc, moments)?)?,
     })
 }

@@ -11,7 +11,7 @@ mod sheet;
 
 pub use escape::escaped;
 pub use from_script::{run, tell_usage};
-pub use layout::{Arrow, AtOnce, Bar, Deferral, Mark, Picture, Refusal, lay_out};
+pub use layout::{Arrow, AtOnce, Bar, Deferral, MOST_COLUMNS, Mark, Picture, Refusal, lay_out};
 pub use moment::Moment;
 pub use recording::{MOST_STEPS, Stop, record};
 pub use sheet::draw;

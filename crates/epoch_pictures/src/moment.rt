@@ -1,6 +1,7 @@
 //! One step of a run, what it told, and what stood after it.
 
-use epoch_world::{Reply, Step};
+use epoch_world::{Entry, Reply, Step};
+use std::alloc::{AllocError, Global};
 
 /// One step of a run, what it told, and what stood after it.
 #[derive(Clone, Copy)]
@@ -25,4 +26,16 @@ pub fn lane_of(step: Step) -> Option<u64> {
         Step::Begin(position, _) | Step::Go(position) => Some(position),
         Step::Register | Step::End | Step::EndGo => None,
     }
+}
+
+/// The steps and their replies.
+pub fn entries_of(alloc: Global, moments: &[Moment]) -> Result<Vec<Entry>, AllocError> {
+    let mut entries = Vec::new(alloc);
+    for moment in moments {
+        entries.push(Entry {
+            step: moment.step,
+            reply: moment.reply,
+        })?;
+    }
+    Ok(entries)
 }

@@ -16,6 +16,7 @@ const STYLES: &str = "<defs>
 <style>
 text{font:10px Arial,Helvetica,'Liberation Sans',sans-serif;fill:#222}
 .middle{text-anchor:middle}.lane{font-weight:bold}.grey{fill:#666}.grey.middle{font-size:9px}
+.count{fill:#666;font-size:8px;text-anchor:middle}
 .light{fill:#fff;font-weight:bold}.white{fill:#fff;text-anchor:middle}.ticket{text-anchor:middle}
 .white.long,.ticket.long,.small{font-size:8px}.white.many,.ticket.many{font-size:7px}
 .fault{fill:#a33f00;font-weight:bold}.note{fill:#444;font-size:9px}.before{text-anchor:end}
@@ -23,10 +24,14 @@ text{font:10px Arial,Helvetica,'Liberation Sans',sans-serif;fill:#222}
 .page{fill:#fff}.shade{fill:#f6f6f6}.fold{fill:#ececec}.rule{stroke:#ddd;fill:none}
 .even{fill:#fff;stroke:#888}.odd{fill:#d9d9d9;stroke:#888}.member{fill:none;stroke:#999;stroke-dasharray:3 2}
 .call{fill:#e3e3e3;stroke:#999}.pin{fill:#0072b2;stroke:#00507d}.bag{fill:#f0b93a;stroke:#8a6000}
-.claim{fill:url(#hatch);stroke:#777}.deferral{fill:#fff;stroke:#00795a;stroke-width:1.5}.called{fill:#00795a;stroke:#00543f}
+.claim{fill:url(#hatch);stroke:#777}
+.deferral{fill:#fff;stroke:#00795a;stroke-width:1.5}.called{fill:#00795a;stroke:#00543f}
 .destroyed{fill:#7b3294;stroke:#4d1a5e}.held{fill:#ffe3cf;stroke:#d55e00;stroke-width:2}
+.cell{fill:#8fd0f5;stroke:#2a6f97}.apart{fill:#fff;stroke:#2a6f97;stroke-dasharray:4 2}
+.pointed{fill:#e8f4fb;stroke:#7fb2d0}.reading{fill:#f3d6e6;stroke:#a8517f}
 .gone{fill:#fff;stroke:#777;stroke-dasharray:2 2}.several{fill:#fff;stroke:#222}
-.arrow{fill:none;stroke:#333;stroke-width:1;stroke-linejoin:round;marker-end:url(#tip)}.cross{fill:none;stroke:#d55e00;stroke-width:3}
+.arrow{fill:none;stroke:#333;stroke-width:1;stroke-linejoin:round;marker-end:url(#tip)}
+.cross{fill:none;stroke:#d55e00;stroke-width:3}
 </style>
 ";
 
@@ -61,8 +66,9 @@ impl<'w, W: Write> Pen<'w, W> {
     pub fn begin(alloc: Global, out: &'w mut W, width: u64, height: u64) -> io::Result<Pen<'w, W>> {
         writeln!(
             out,
-            "<svg xmlns=\"http://www.w3.org/2000/svg\" role=\"img\" width=\"{width}\" height=\"{height}\" viewBox=\"0 0 {width} {height}\">"
+            "<svg xmlns=\"http://www.w3.org/2000/svg\" role=\"img\" width=\"{width}\" height=\"{height}\""
         )?;
+        writeln!(out, " viewBox=\"0 0 {width} {height}\">")?;
         out.write_all(STYLES.as_bytes())?;
         Ok(Pen { out, alloc })
     }

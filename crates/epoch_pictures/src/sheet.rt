@@ -2,6 +2,7 @@
 ghost use Rattle.std.specs.Prelude.{◌≤◌, ◌*◌};
 
 mod bars;
+mod cells;
 mod legend;
 mod marks;
 mod signs;
@@ -9,6 +10,7 @@ mod titles;
 
 use crate::pen::{Area, Pen};
 use crate::{Bar, Picture};
+use epoch_cell_pictures::Shown;
 use legend::Legend;
 use std::alloc::Global;
 use std::io;
@@ -26,6 +28,8 @@ const LANES: u64 = 58;
 const LANE: u64 = 84;
 
 const PLACE: u64 = 26;
+
+const CELL: u64 = 60;
 /// No length is greater.
 const FAR: u64 = 1_099_511_627_776;
 
@@ -38,19 +42,22 @@ struct Sheet<'p> {
     /// The lanes of participants, and the collector's, where something stands in it.
     lanes: u32,
     places: u32,
+    /// The greatest slot of a cell that ever held a value, or 0.
+    cells: u32,
 }
 
 /// Writes the picture as SVG. An `Err` is that of the writer, or says that an allocation was refused.
 pub fn draw<W: Write>(alloc: Global, picture: &Picture<'_>, out: &mut W) -> io::Result<()> {
     let sheet = Sheet::of(alloc, picture);
     let signs = sheet.signs()?;
-    let legend = Legend::of(alloc, &signs)?;
+    let legend = Legend::of(alloc, picture, &signs)?;
     let height = sheet.bottom().saturating_add(legend.height());
     let mut pen = Pen::begin(alloc, out, sheet.width(), height)?;
     sheet.draw_ground(&mut pen, height)?;
     sheet.draw_columns(&mut pen)?;
     sheet.draw_arrows(&mut pen)?;
     sheet.draw_bars(&mut pen)?;
+    sheet.draw_cells(&mut pen)?;
     sheet.draw_signs(&mut pen, &signs)?;
     legend.draw(alloc, &mut pen, sheet.bottom())?;
     pen.end()
@@ -70,6 +77,7 @@ impl<'p> Sheet<'p> {
             columns,
             lanes,
             places: places_of(&picture.places),
+            cells: cells_of(&picture.cells),
         }
     }
 
@@ -122,10 +130,23 @@ impl<'p> Sheet<'p> {
         self.top_of_places() + PLACE * place.min(u64::from(self.places))
     }
 
-    fn bottom(&self) -> u64
+    fn top_of_cells(&self) -> u64
         ensures { result ≤ 2 * FAR }
     {
-        self.top_of_places() + PLACE * u64::from(self.places)
+        self.top_of_places() + PLACE * u64::from(self.places) + 6
+    }
+
+    /// The top of the lane of a slot. Slots are counted from 1.
+    fn top_of_cell(&self, slot: u64) -> u64
+        ensures { result ≤ 3 * FAR }
+    {
+        self.top_of_cells() + CELL * slot.saturating_sub(1).min(u64::from(self.cells))
+    }
+
+    fn bottom(&self) -> u64
+        ensures { result ≤ 3 * FAR }
+    {
+        self.top_of_cells() + CELL * u64::from(self.cells)
     }
 
     /// The paper, and the ground and the name of each lane.
@@ -136,6 +157,9 @@ impl<'p> Sheet<'p> {
         }
         for place in 0..self.places {
             self.draw_place_ground(pen, u64::from(place))?;
+        }
+        for cell in 0..self.cells {
+            self.draw_cell_ground(pen, u64::from(cell) + 1)?;
         }
         Ok(())
     }
@@ -209,13 +233,7 @@ impl<'p> Sheet<'p> {
                     height,
                 },
             )?;
-            pen.number(
-                "grey middle",
-                (middle, 26),
-                "+",
-                u64::from(steps),
-                2 * COLUMN,
-            )?;
+            pen.number("count", (middle, 26), "+", u64::from(steps), 2 * COLUMN)?;
             pen.close()?;
         }
         if self.column(first) % 5 == 0 {
@@ -256,4 +274,13 @@ fn places_of(bars: &[Bar<u64>]) -> u32 {
         }
     }
     places
+}
+
+/// The greatest slot of these cells, or 0.
+fn cells_of(shown: &[Shown]) -> u32 {
+    let mut greatest: u32 = 0;
+    for cell in shown {
+        greatest = greatest.max(cell.name.slot());
+    }
+    greatest
 }

@@ -9,10 +9,11 @@ use std::fs::Files;
 use std::{fs, io};
 
 /// A name, its script, and its picture.
-const KEPT: [(&str, &str, &str); 3] = [
+const KEPT: [(&str, &str, &str); 4] = [
     ("grace", "grace.txt", "grace.svg"),
     ("stall", "stall.txt", "stall.svg"),
     ("full", "full.txt", "full.svg"),
+    ("held", "held.txt", "held.svg"),
 ];
 
 fn main(rt: HostRuntime) -> io::Result<()> {

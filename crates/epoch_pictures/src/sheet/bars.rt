@@ -2,6 +2,7 @@
 
 use super::{LANE, Sheet};
 use crate::Bar;
+use crate::moment::lane_of;
 use crate::pen::{Area, Pen, takes, takes_small};
 use epoch_world::{Access, Call, Change};
 use std::io;
@@ -53,17 +54,13 @@ impl Sheet<'_> {
         Ok(())
     }
 
-    /// A call. It takes the columns of its first and last steps whole, where they have no other steps.
+    /// A call, with its name where there is room. One of a column that begins with another call of its lane isn't drawn
+    /// beside that.
     fn draw_call<W: Write>(&self, pen: &mut Pen<'_, W>, bar: &Bar<Option<Call>>) -> io::Result<()> {
-        let mut area = self.area(bar, self.top_of(bar.lane) + 4, BAR);
-        if !self.shares_column(bar.from.checked_sub(1), bar.from) {
-            area.left = area.left.saturating_sub(OVER);
-            area.width = area.width.saturating_add(OVER);
-        }
-        if let Some(last) = bar.to
-            && !self.shares_column(last.checked_add(1), last)
-        {
-            area.width = area.width.saturating_add(OVER);
+        let area = self.call_area(bar);
+        let before = bar.from.checked_sub(1);
+        if area.width == 0 || self.is_short(bar) && self.shares_column(before, bar.from) {
+            return Ok(());
         }
         self.open_span(pen, bar.from, bar.to)?;
         self.draw_bar(pen, "call", bar, area)?;
@@ -77,6 +74,34 @@ impl Sheet<'_> {
             pen.text("small", area.inside(), short)?;
         }
         pen.close()
+    }
+
+    /// Whether a call begins and ends in one column.
+    fn is_short(&self, bar: &Bar<Option<Call>>) -> bool {
+        match bar.to {
+            Some(last) => self.columns_at(last) == self.columns_at(bar.from),
+            None => false,
+        }
+    }
+
+    /// The area of a call. It takes the columns of its first and last steps whole, where no other lane has steps there
+    /// beside it. It begins behind a column that an earlier call of its lane takes.
+    fn call_area(&self, bar: &Bar<Option<Call>>) -> Area {
+        let mut area = self.area(bar, self.top_of(bar.lane) + 4, BAR);
+        let before = bar.from.checked_sub(1);
+        if !self.shares_column(before, bar.from) {
+            area.left = area.left.saturating_sub(OVER);
+            area.width = area.width.saturating_add(OVER);
+        } else if !self.is_crowded(before, bar.from) {
+            area.left = area.left.saturating_add(OVER);
+            area.width = area.width.saturating_sub(OVER);
+        }
+        if let Some(last) = bar.to
+            && !self.is_crowded(last.checked_add(1), last)
+        {
+            area.width = area.width.saturating_add(OVER);
+        }
+        area
     }
 
     /// A claimed place, or a bag in its place.
@@ -101,12 +126,25 @@ impl Sheet<'_> {
         }
     }
 
+    /// Whether these are two steps of one column, and of two lanes.
+    fn is_crowded(&self, beside: Option<u32>, step: u32) -> bool {
+        self.shares_column(beside, step)
+            && match beside {
+                Some(beside) => self.lane_at(beside) != self.lane_at(step),
+                None => false,
+            }
+    }
+
+    fn lane_at(&self, step: u32) -> Option<u64> {
+        lane_of(self.picture.moments.get(step as usize)?.step)
+    }
+
     fn columns_at(&self, step: u32) -> Option<u32> {
         self.picture.columns.get(step as usize).copied()
     }
 
     /// From the middle of the column of the bar's first step to that of its last, or to the end of the columns.
-    fn area<K>(&self, bar: &Bar<K>, top: u64, height: u64) -> Area {
+    pub fn area<K>(&self, bar: &Bar<K>, top: u64, height: u64) -> Area {
         let left = self.x(bar.from);
         let right = match bar.to {
             Some(step) => self.x(step),
@@ -120,7 +158,7 @@ impl Sheet<'_> {
         }
     }
 
-    fn draw_bar<W: Write, K>(
+    pub fn draw_bar<W: Write, K>(
         &self,
         pen: &mut Pen<'_, W>,
         class: &'static str,

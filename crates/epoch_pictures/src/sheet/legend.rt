@@ -1,8 +1,11 @@
 //! What the marks of a picture mean.
 
+use super::cells;
 use super::marks::class_of;
 use super::signs::{Kind, Sign};
+use crate::Picture;
 use crate::pen::{Area, Pen};
+use epoch_cell_pictures::Shown;
 use epoch_cells::Fault;
 use std::alloc::{AllocError, Global};
 use std::io;
@@ -17,7 +20,7 @@ const SAMPLE: u64 = 20;
 const WORDS: u64 = 16;
 
 /// The class of each sample, what it means, and whether it stands in every legend, or where it occurs.
-const SAMPLES: [(&str, &str, bool); 13] = [
+const SAMPLES: [(&str, &str, bool); 17] = [
     ("call", "a call under way", true),
     ("pin", "pinned, with the epoch published", true),
     ("member", "a participant is registered", true),
@@ -33,6 +36,10 @@ const SAMPLES: [(&str, &str, bool); 13] = [
     ("several", "marks of several kinds, in one column", false),
     ("bag", "a bag in its place, with its seal", true),
     ("claim", "a place is claimed, to fill or empty it", true),
+    ("cell", "a cell within reach of a root", false),
+    ("apart", "a cell out of reach of the roots", false),
+    ("pointed", "pointers to the cell; +N: N more", false),
+    ("reading", "participants that read the cell", false),
     ("fold", "+N: N steps share this column", true),
     ("cross", "a step is refused, with its fault", true),
 ];
@@ -49,10 +56,10 @@ pub struct Legend {
 
 impl Legend {
     /// The legend of a picture with these signs.
-    pub fn of(alloc: Global, signs: &[Sign]) -> Result<Legend, AllocError> {
+    pub fn of(alloc: Global, picture: &Picture<'_>, signs: &[Sign]) -> Result<Legend, AllocError> {
         let mut samples = Vec::new(alloc);
         for (class, text, always) in SAMPLES {
-            if always || signs.iter().any(|sign| class_of(sign.kind) == class) {
+            if always || has_sign(signs, class) || has_cell(&picture.cells, class) {
                 samples.push((class, text))?;
             }
         }
@@ -111,6 +118,16 @@ impl Legend {
         }
         Ok(())
     }
+}
+
+fn has_sign(signs: &[Sign], class: &str) -> bool {
+    signs.iter().any(|sign| class_of(sign.kind) == class)
+}
+
+fn has_cell(cells: &[Shown], class: &str) -> bool {
+    cells
+        .iter()
+        .any(|shown| cells::class_of(shown.look) == class)
 }
 
 const TIME: &str =

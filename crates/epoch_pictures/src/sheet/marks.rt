@@ -20,12 +20,14 @@ impl Sheet<'_> {
     /// An arrow for each job from its deferral to its call, and one alone where several would be the same.
     pub fn draw_arrows<W: Write>(&self, pen: &mut Pen<'_, W>) -> io::Result<()> {
         let mut before = None;
+        let mut drawn = 0;
         for arrow in &self.picture.arrows {
             if let Some(from) = arrow.from {
                 let ends = (self.mark_at(from), self.mark_at(arrow.to));
                 if before != Some(ends) {
-                    self.draw_arrow(pen, from, arrow)?;
+                    self.draw_arrow(pen, from, arrow, drawn)?;
                     before = Some(ends);
+                    drawn = drawn % 4 + 1;
                 }
             }
         }
@@ -37,15 +39,16 @@ impl Sheet<'_> {
         (self.x(mark.at), self.top_of(mark.lane))
     }
 
-    /// An arrow goes below the marks of the lane where it begins, up to the column where it ends.
+    /// An arrow goes below the marks of the lane where it begins, on one of four levels, to the column where it ends.
     fn draw_arrow<W: Write>(
         &self,
         pen: &mut Pen<'_, W>,
         from: Mark,
         arrow: &Arrow,
+        level: u64,
     ) -> io::Result<()> {
         let (start, end) = (self.top_of(from.lane), self.top_of(arrow.to.lane));
-        let level = start + BOTTOM + 5 + arrow.ticket % 4 * 4;
+        let level = start + BOTTOM + 5 + level % 4 * 4;
         let bottom = if start < end { end + TOP } else { end + BOTTOM };
         let (left, right) = (self.x(from.at), self.x(arrow.to.at));
         self.open_span(pen, from.at, Some(arrow.to.at))?;

@@ -1,0 +1,122 @@
+//! The lanes of cells: what each holds, what points to it, and who reads it.
+
+use super::{LEFT, Sheet};
+use crate::Bar;
+use crate::pen::{Area, Pen, takes};
+use epoch_cell_pictures::{Look, Shown};
+use epoch_world::Spot;
+use std::alloc::AllocError;
+use std::io;
+use std::io::Write;
+
+impl Sheet<'_> {
+    /// The ground and the name of a cell's lane.
+    pub fn draw_cell_ground<W: Write>(&self, pen: &mut Pen<'_, W>, slot: u64) -> io::Result<()> {
+        let top = self.top_of_cell(slot);
+        self.draw_strip(pen, "shade", top, super::CELL - 4)?;
+        pen.number("lane", (8, top.saturating_add(15)), "cell ", slot, LEFT)
+    }
+
+    pub fn draw_cells<W: Write>(&self, pen: &mut Pen<'_, W>) -> io::Result<()> {
+        for shown in &self.picture.cells {
+            self.draw_shown(pen, shown)?;
+        }
+        Ok(())
+    }
+
+    /// A bar, and in it what it says, or a shorter form of that, where there is room.
+    fn draw_shown<W: Write>(&self, pen: &mut Pen<'_, W>, shown: &Shown) -> io::Result<()> {
+        let bar = Bar {
+            lane: None,
+            kind: (),
+            from: shown.from,
+            to: shown.to,
+        };
+        let top = self.top_of_cell(u64::from(shown.name.slot()));
+        let (below, height) = row_of(shown.look);
+        let area = self.area(&bar, top.saturating_add(below), height);
+        self.open_span(pen, shown.from, shown.to)?;
+        self.draw_bar(pen, class_of(shown.look), &bar, area)?;
+        let (long, short) = self.labels_of(shown)?;
+        draw_label(pen, area, &long, &short)?;
+        pen.close()
+    }
+
+    /// What a bar says, and its shorter form.
+    fn labels_of(&self, shown: &Shown) -> Result<(String, String), AllocError> {
+        let (alloc, name) = (self.alloc, shown.name);
+        let short = match shown.look {
+            Look::Holds(_, _) => format!(in alloc; "{}.{}", name.slot(), name.turn())?,
+            Look::Pointed(spot, 0) => self.spot(spot)?,
+            Look::Pointed(spot, more) => format!(in alloc; "{} +{more}", self.spot(spot)?)?,
+            Look::Read(readers) => self.readers(readers)?,
+        };
+        let long = match shown.look {
+            Look::Holds(value, _) => format!(in alloc; "{short} holds {value}")?,
+            Look::Pointed(_, _) => format!(in alloc; "from {short}")?,
+            Look::Read(_) => format!(in alloc; "read by {short}")?,
+        };
+        Ok((long, short))
+    }
+
+    /// A spot, as scripts spell it.
+    fn spot(&self, spot: Spot) -> Result<String, AllocError> {
+        match spot {
+            Spot::Root(root) => format!(in self.alloc; "r{root}"),
+            Spot::Field(name, field) => {
+                format!(in self.alloc; "{}.{}/{field}", name.slot(), name.turn())
+            }
+        }
+    }
+
+    /// The positions of the participants whose bits are set.
+    fn readers(&self, readers: u64) -> Result<String, AllocError> {
+        let mut text = String::new(self.alloc);
+        let mut rest = readers;
+        for position in 0_u64..64 {
+            if rest % 2 == 1 {
+                if !text.is_empty() {
+                    text.push_str(", ")?;
+                }
+                let number = format!(in self.alloc; "{position}")?;
+                text.push_str(&number)?;
+            }
+            rest /= 2;
+        }
+        Ok(text)
+    }
+}
+
+/// The class of a bar.
+pub fn class_of(look: Look) -> &'static str {
+    match look {
+        Look::Holds(_, true) => "cell",
+        Look::Holds(_, false) => "apart",
+        Look::Pointed(_, _) => "pointed",
+        Look::Read(_) => "reading",
+    }
+}
+
+/// How far below the top of its lane a bar begins, and its height.
+fn row_of(look: Look) -> (u64, u64) {
+    match look {
+        Look::Holds(_, _) => (3, 16),
+        Look::Pointed(_, _) => (21, 15),
+        Look::Read(_) => (38, 15),
+    }
+}
+
+fn draw_label<W: Write>(
+    pen: &mut Pen<'_, W>,
+    area: Area,
+    long: &str,
+    short: &str,
+) -> io::Result<()> {
+    if takes(long) <= area.width {
+        pen.text("", area.inside(), long)
+    } else if takes(short) <= area.width {
+        pen.text("", area.inside(), short)
+    } else {
+        Ok(())
+    }
+}
