@@ -74,8 +74,8 @@ pub struct Posts<J: PostSet> {
 }
 
 impl<J: PostSet> Posts<J> {
-    /// The set of these posts. That they are those of `J` is so for any posts where the call of the function that
-    /// `J` is a parameter of picks them. It fails for want of memory alone.
+    /// The set of these posts. They must be those of `J`, which the call of a function over `J` picks: at `Brand`,
+    /// any posts that the call is given. It fails for want of memory alone.
     pub fn of(alloc: Global, made: Made) -> Result<Posts<J>, AllocError>
         requires { made.posts.items ≡ J.posts }
     {

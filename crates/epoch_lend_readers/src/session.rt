@@ -5,13 +5,15 @@ use crate::posts::{Made, PostSet, Posts};
 use std::alloc::{AllocError, Global};
 use std::marker::Brand;
 
-/// What is done with a set of posts, whichever the set is.
+/// What one thread does with a set of posts, whichever the set is. Threads that share the set are started in a
+/// function over the set, by [`Posts::of`].
 pub trait Session {
     type Answer;
 
     /// What the answer says of the session.
     ghost answers: { Self → Self.Answer → Type 0 } = { λ _ _. Unit {0} };
 
+    /// Does it with this set.
     fn run<J: PostSet + Send + Sync>(self, posts: Posts<J>) -> Self::Answer
         ensures { answers self result };
 }

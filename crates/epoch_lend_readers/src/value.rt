@@ -74,7 +74,8 @@ impl<'v, J: PostSet, T, A: Allocator> Owner<'v, J, T, A> {
         self.value
     }
 
-    /// Marks the value, so that no look finds it from then on, and looks at each post once.
+    /// Marks the value, so that no look finds it from then on, and looks at each post once. Guards that have found the
+    /// value keep it. `Err`: it was marked before, and the owner is as it was.
     pub fn mark(self, posts: &Posts<J>) -> Result<Retired<J, T, A>, Owner<'v, J, T, A>>
         ensures marked { IfOk result (λ retired. retired.deed.value ≡ self.entry.deed.value) }
         ensures same { IfErr result (λ owner. (owner.deed.value ≡ self.entry.deed.value)
@@ -97,8 +98,9 @@ impl<'v, J: PostSet, T, A: Allocator> Owner<'v, J, T, A> {
 }
 
 impl<J: PostSet, T: Drop, A: Allocator> Retired<J, T, A> {
-    /// Looks at each post once. Where no guard that the value was lent to may live, its box comes back. Else what was
-    /// marked does, to be tried again.
+    /// Looks at each post once. Where none is pinned in an epoch before the mark's looks, no guard that the value was
+    /// lent to lives, and its box comes back. Else what was marked does, to be tried again. Readers that go on must
+    /// pin in later epochs.
     pub fn take_back(self, posts: &Posts<J>) -> Result<Box<T, A>, Retired<J, T, A>>
         ensures whole { IfOk result (λ whole. whole.value ≡ self.deed.value) }
         ensures again { IfErr result (λ retired. retired.deed.value ≡ self.deed.value) }

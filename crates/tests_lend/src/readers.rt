@@ -1,10 +1,12 @@
-ghost use Rattle.std.specs.Prelude.{◌<◌, ◌^◌};
+ghost use Rattle.std.specs.Prelude.{◌≡◌, ◌<◌, ◌^◌};
 
-use crate::wants::want;
-use epoch_lend_readers::posts::{PostSet, Posts};
+use crate::wants::{wait_for, want};
+use epoch_lend_readers::posts::{Made, PostSet, Posts};
+use epoch_lend_readers::reader::Pinned;
 use epoch_lend_readers::session::{Session, with_posts};
 use epoch_lend_readers::value::{Owner, Retired, Value, lend};
-use std::alloc::Global;
+use std::alloc::{AllocError, Global};
+use std::marker::Brand;
 use std::sync::Wait;
 use std::sync::atomic::Ordering::SeqCst;
 use std::sync::atomic::{AtomicBool, AtomicU64};
@@ -155,29 +157,32 @@ fn run_at_once<J: PostSet + Send + Sync, R: Threads + Wait>(
     });
 }
 
-/// Readers that go on, and a remover.
-#[derive(Drop)]
-struct Race<'r, 'd, R> {
-    rt: &'r R,
+fn start<J: PostSet + Send + Sync, R: Threads + Wait>(
+    rt: &R,
+    alloc: Global,
+    made: Made,
     threads: usize,
-    course: &'r Course,
-    whole: Box<Tracked<'d>>,
+    whole: Box<Tracked<'_>>,
+    course: &Course,
+) -> Result<(), AllocError>
+    requires { made.posts.items ≡ J.posts }
+{
+    let posts = Posts::<J>::of(alloc, made)?;
+    let mut place = None;
+    let owner = lend(&mut place, whole, &posts);
+    run_at_once(rt, threads, &posts, owner, course);
+    Ok(())
 }
 
-impl<'r, 'd, R: Threads + Wait> Session for Race<'r, 'd, R> {
-    type Answer = ();
-
-    fn run<J: PostSet + Send + Sync>(self, posts: Posts<J>) {
-        let Race {
-            rt,
-            threads,
-            course,
-            whole,
-        } = self;
-        let mut place = None;
-        let owner = lend(&mut place, whole, &posts);
-        run_at_once(rt, threads, &posts, owner, course);
-    }
+fn race<R: Threads + Wait>(
+    rt: &R,
+    alloc: Global,
+    threads: usize,
+    whole: Box<Tracked<'_>>,
+    course: &Course,
+) -> Result<(), AllocError> {
+    let made = Made::new(alloc, threads.saturating_add(1))?;
+    start::<Brand, R>(rt, alloc, made, threads, whole, course)
 }
 
 #[test]
@@ -192,13 +197,7 @@ fn a_value_comes_back_while_readers_go_on(rt: HostRuntime) -> Result<(), Fail> {
             },
         )?;
         let course = Course::new();
-        let race = Race {
-            rt: &rt,
-            threads,
-            course: &course,
-            whole,
-        };
-        with_posts(rt.alloc(), threads + 1, race)?;
+        race(&rt, rt.alloc(), threads, whole, &course)?;
         let number = course.number.load(SeqCst);
         want(&rt, "the value comes back", number, 7);
         let is_found = course.is_found.load(SeqCst);
@@ -209,5 +208,148 @@ fn a_value_comes_back_while_readers_go_on(rt: HostRuntime) -> Result<(), Fail> {
         want(&rt, "and no other value", others, 0);
         want(&rt, "it is dropped once", drops.load(SeqCst), 1);
     }
+    Ok(())
+}
+
+/// What a thread that stalls pinned and the remover tell each other.
+#[derive(Drop)]
+struct Signals {
+    has_looked: AtomicBool,
+    may_go_on: AtomicBool,
+    is_over: AtomicBool,
+}
+
+/// Looks in a nested read of the pinned reader.
+fn look_nested<'g, J: PostSet>(
+    pinned: &'g Pinned<'_, J>,
+    value: &Value<J, u64>,
+) -> Option<&'g u64> {
+    let nested = pinned;
+    value.look(nested)
+}
+
+/// Looks, stalls pinned until it may go on, and reads only then. Answers what it read.
+fn stall<J: PostSet>(posts: &Posts<J>, value: &Value<J, u64>, signals: &Signals) -> u64 {
+    let Some(reader) = posts.register() else {
+        return 0;
+    };
+    let pinned = reader.pin(1);
+    let found = look_nested(&pinned, value);
+    signals.has_looked.store(true, SeqCst);
+    wait_for(&signals.may_go_on);
+    let read = match found {
+        Some(number) => *number,
+        None => 0,
+    };
+    pinned.unpin().release();
+    signals.is_over.store(true, SeqCst);
+    read
+}
+
+/// Marks the value once the other has looked, and tries to take it back before the other's pin is over and after.
+/// Answers what came back each time.
+fn take_early_and_late<J: PostSet>(
+    owner: Owner<'_, J, u64, Global>,
+    posts: &Posts<J>,
+    signals: &Signals,
+) -> (u64, u64) {
+    wait_for(&signals.has_looked);
+    let Ok(retired) = owner.mark(posts) else {
+        return (0, 0);
+    };
+    match retired.take_back(posts) {
+        Ok(whole) => (*whole, 0),
+        Err(again) => {
+            signals.may_go_on.store(true, SeqCst);
+            wait_for(&signals.is_over);
+            match again.take_back(posts) {
+                Ok(whole) => (0, *whole),
+                Err(_) => (0, 0),
+            }
+        }
+    }
+}
+
+fn stall_beside<J: PostSet + Send + Sync, R: Threads>(
+    rt: &R,
+    alloc: Global,
+    made: Made,
+    whole: Box<u64>,
+) -> Result<(u64, (u64, u64)), AllocError>
+    requires { made.posts.items ≡ J.posts }
+{
+    let posts = Posts::<J>::of(alloc, made)?;
+    let mut place = None;
+    let owner = lend(&mut place, whole, &posts);
+    let signals = Signals {
+        has_looked: AtomicBool::new(false),
+        may_go_on: AtomicBool::new(false),
+        is_over: AtomicBool::new(false),
+    };
+    Ok(stalled(rt, &posts, owner, &signals))
+}
+
+fn stalled<J: PostSet + Send + Sync, R: Threads>(
+    rt: &R,
+    posts: &Posts<J>,
+    owner: Owner<'_, J, u64, Global>,
+    signals: &Signals,
+) -> (u64, (u64, u64)) {
+    let value = owner.value();
+    thread::join(
+        rt,
+        move || stall(posts, value, signals),
+        move || take_early_and_late(owner, posts, signals),
+    )
+}
+
+fn stalls<R: Threads>(
+    rt: &R,
+    alloc: Global,
+    whole: Box<u64>,
+) -> Result<(u64, (u64, u64)), AllocError> {
+    let made = Made::new(alloc, 1)?;
+    stall_beside::<Brand, R>(rt, alloc, made, whole)
+}
+
+#[test]
+fn a_reader_that_stalls_pinned_holds_the_value_back(rt: HostRuntime) -> Result<(), Fail> {
+    let whole = Box::new(rt.alloc(), 7u64)?;
+    let (read, (early, late)) = stalls(&rt, rt.alloc(), whole)?;
+    want(&rt, "the pinned reader reads it after the mark", read, 7);
+    want(&rt, "nothing comes back while it is pinned", early, 0);
+    want(&rt, "the value comes back after its unpin", late, 7);
+    Ok(())
+}
+
+/// How many of three readers are registered at once, and how many more after two are released or dropped.
+#[derive(Drop)]
+struct Registers;
+
+impl Session for Registers {
+    type Answer = (usize, bool, bool);
+
+    fn run<J: PostSet + Send + Sync>(self, posts: Posts<J>) -> (usize, bool, bool) {
+        let first = posts.register();
+        let second = posts.register();
+        let is_full = posts.register().is_none();
+        drop(first);
+        let has_room = posts.register().is_some();
+        drop(second);
+        (posts.len(), is_full, has_room)
+    }
+}
+
+#[test]
+fn as_many_readers_register_as_there_are_posts(rt: HostRuntime) -> Result<(), Fail> {
+    let (posts, is_full, has_room) = with_posts(rt.alloc(), 2, Registers)?;
+    want(&rt, "there are two posts", posts, 2);
+    want(&rt, "a third reader finds none free", is_full, true);
+    want(
+        &rt,
+        "one that is dropped gives its post back",
+        has_room,
+        true,
+    );
     Ok(())
 }
