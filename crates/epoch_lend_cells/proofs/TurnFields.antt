@@ -83,8 +83,19 @@ module _ (R : RattleType) where
   -- a name is made of its turn
   pub name_made : {M : Type 1} {𝓤 : Ura M} (𝓛 : Logic 𝓤) (t : ℕ) → t < 2 ^ 64
       → ent 𝓤 (emp 𝓤) (sem 𝓛 (Name.own_val (t, (record {}, tt)) (name_val t ∷ [])))
-  name_made 𝓛 t f = makes_shadow 𝓛 (Name.own_val (t, (record {}, tt)) (name_val t ∷ [])) (λ vss. (tt, ((tt, tt), ((λ uss. (tt,
-      tt)), tt)))) (
+  name_made 𝓛 t f = makes_shadow 𝓛 (Name.own_val (t, (record {}, tt)) (name_val t ∷ [])) (λ vss. (
+    tt,
+    (
+      (tt, tt),
+      (
+        (λ uss. (
+          tt,
+          tt,
+        )),
+        tt,
+      ),
+    ),
+  )) (
     (vint w64 t ∷ [], (vstruct vnil ∷ [], tt)),
     (refl, ((refl, f), ((tt, (refl, tt)), tt))),
   )

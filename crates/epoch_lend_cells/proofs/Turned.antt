@@ -31,32 +31,7 @@ use Rattle.std.specs.Prelude.{Option, Some, None}
 use Rattle.epoch_lend.specs.Loans.{Loan, filled_pocket, stock, Shown, are_within, Within, marked_owns}
 use Rattle.epoch_lend.proofs.Loans.{lends}
 use Rattle.epoch_lend.proofs.Reading as reading
-use Rattle.epoch_lend_cells.specs.Turning.{
-  TurnNames,
-  TurnStage,
-  vacant,
-  claimed,
-  shown,
-  removed,
-  turn_word,
-  TurnOf,
-  turn_logs,
-  turn_in,
-  turn_is,
-  claim_has,
-  claim_of,
-  vacancy_of,
-  log_of,
-  turns_so_far,
-  lent_with,
-  lent_of,
-  shown_with,
-  vacant_with,
-  turn_holds,
-  at_turn,
-  at_turn_word,
-  turns_at,
-}
+use Rattle.epoch_lend_cells.specs.Turning.{TurnNames, TurnStage, vacant, claimed, shown, removed, turn_word, TurnOf, turn_logs, turn_in, turn_is, claim_has, claim_of, vacancy_of, log_of, lent_with, lent_of, shown_with, vacant_with, turn_holds, at_turn, at_turn_word, turns_at}
 
 -- the stage of a word that is four times a turn
 is_vacant : (s : TurnStage) (t : ℕ) → turn_word s ≡ 4 * t → s ≡ vacant t

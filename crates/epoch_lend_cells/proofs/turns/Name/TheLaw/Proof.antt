@@ -1,19 +1,17 @@
 -- A `&` to a name shows the value of its turn. Assumes `Logic`.
 use mathlib.Core.List.{[], ◌∷◌}
 use Rattle.std.proofs.Common.{ℕ}
-use base.Logic.{sep, ent, snd∗, upd_i, id⊢}
+use base.Logic.{sep, ent, snd∗}
 use base.Before.{before}
-use base.Fml.{Lft, Share, Fml, ftrue, fsep, fseps, fwand, fupd, fdead, fbor, flft}
+use base.Fml.{Lft, Share, Fml, fbor, flft}
 use types.Logic.{Logic, sem}
 use seplogic.Ra.Ura.{Ura}
-use types.Kit.{‵, ◌⊛◌, ◌$◌, ◌∵◌, !, qed, move, keep, split, fsplit, fsplit3, assume, suffices, use1, updating, now, done}
+use types.Kit.{‵, ◌⊛◌, ◌$◌, ◌∵◌, !, qed, move, keep, split, use1, updating, now, done}
 use types.Tokens.{bor_open, obor_close}
 use denote.RattleType.{RattleType}
-use denote.Builtin.{u64, unit}
 use denote.Param.Laws.{Laws}
 use denote.Param.Shared.{copy_shared}
 use denote.Sharing.{said}
-use denote.Steps.{nothing}
 use denote.Struct.Laws.{u64-copy, field_copy}
 use denote.Struct.Field.{u64-field}
 use denote.Struct.Lending.{of_Lends, Lends}

@@ -1,68 +1,38 @@
 -- `new` makes a log with no turn, and the word has the place.
-use Rattle.std.proofs.Common.{length, ◌≡◌, ◌≢◌, ℕ, suc, ◌+◌, ◌*◌, ◌^◌, ◌<◌, List, [], ◌∷◌, ◌++◌, sym, refl, ap, ◌∙◌}
-use Rattle.std.proofs.Common.{subst, lit<, w64}
-use Rattle.std.specs.Prelude.{Option, Some, None}
-use native.Mathlib.Omega.{arith}
+use Rattle.std.proofs.Common.{length, ◌≡◌, ℕ, ◌*◌, List, [], ◌∷◌, ◌++◌, refl}
+use Rattle.std.proofs.Common.{lit<, w64}
 use mir.Syntax.{a_type, named}
-use mir.Val.{Val, vunit, vint, vptr, vstruct, vcons, vnil, of_list}
+use mir.Val.{Val, vint, vstruct, vcons, vnil, of_list}
 use mir.MapTy.{inst_fn}
-use prog.Atomic.{either}
 use base.Fraction.{full_share}
 use base.Stored.{gnum}
-use base.Logic.{SProp, ent, sep, wand, emp, id⊢, via, apply∗}
-use base.Fml.{Lft, Share, Fml, ftrue, fsep, fex, feq, flft, flent, fobs, fbor, fobor, fhide}
-use base.Before.{before}
-use types.Logic.{sem}
-use types.Kit.{‵, raw, ◌⊛◌, some, given, later, mean, at_ret, ◌$◌, ◌∵◌, !, qed, by, move, keep, drop, split, split3, join}
-use types.Kit.{fsplit, fsplit3, fjoin, fjoin3, fpick, fpack, pick, learn, use0, use1, use2, use3, await, rewrite, feq_i, flt_i}
-use types.Run.{stop, fld, addr, lit, of_opd, no_more, and_then, first, blocks, exec, Calls-last, returns, enter}
-use types.Run.{unit_lit}
-use types.ByLocal.{alloc_all, pass_all, free_all, look_at, get, get_in, through, sets, lands_last, env}
+use base.Logic.{SProp, emp, via}
+use base.Fml.{Fml, ftrue, fsep, feq}
+use types.Kit.{‵, raw, ◌⊛◌, some, later, ◌$◌, ◌∵◌, !, qed, by, move, keep, split}
+use types.Kit.{fsplit, fjoin, fjoin3, fpack, pick, use0, await, feq_i}
+use types.Run.{stop, fld, lit, of_opd, no_more, and_then, returns, enter}
+use types.ByLocal.{alloc_all, pass_all, free_all, look_at, get, get_in, sets}
 use types.Part.{agg, sub, whole}
-use types.Na.{before_dup}
 use contract.Running.{tables}
 use contract.Monad.{fact, fact_i}
-use contract.BorrowLft.{◌⊑◌}
-use contract.Shared.{Lends-one}
 use denote.Exit.{yes, no}
 use denote.RattleType.{RattleType, Valss, owns}
-use denote.Signature.{types_at, plain, named_lft}
-use denote.RawPtr.{Ptr, RawPtr, block_ptr, ptr_val, lies_at, rawptr_vals, rawptr_Tells}
-use denote.Steps.{nothing, heard}
-use denote.Opens.{unhide}
-use denote.Memory.{hidden_shr}
+use denote.Signature.{types_at, plain}
+use denote.RawPtr.{Ptr, RawPtr, ptr_val}
+use denote.Steps.{nothing}
 use denote.Param.{param, layouts}
 use denote.Param.Laws.{param_laws}
-use denote.Builtin.{RefOf, u64, unit}
-use denote.Ref.{shr_vals, shr_Tells}
-use denote.Plain.{uint_vals, uint_Tells}
-use denote.Struct.Lending.{lent_at, lent_at_shr_laws, lent_out, Lends-lies}
 use denote.Triple.Entry.{alive}
 use denote.Triple.Walked.{Stays, stay_dropped, walk_of, Goes-dropped}
-use Rattle.core.proofs.atomic.Steps.{tail}
-use Rattle.core.specs.contracts.marker.PhantomData as marker
-use Rattle.core.specs.Sync.RawAtomic.{asks, always}
 use Rattle.atomic_table.proofs.Walks.{proved, leaves}
-use Rattle.atomic_table.proofs.Calls.{fm, seq_cst, found, finds, stored, has_stored, loads, stores, exchanges}
-use Rattle.epoch_lend.specs.Posts.{guard_shares, IsAmong, logs_of}
-use Rattle.epoch_lend.specs.Loans.{Loan, Within, glance_owns, marked_owns, pocket}
-use Rattle.epoch_lend.proofs.Fields.{Token, hand_of, hand_typed, ptr_typed, pair_of, looked_typed, Words, hand_made}
-use Rattle.epoch_lend.proofs.Fields.{word, word_typed, marked_typed, Found, found_made}
-use Rattle.epoch_lend.proofs.PartSteps.{freezes, Frozen, tokens_whole}
-use Rattle.epoch_lend.proofs.Reading as reading
-use Rattle.epoch_lend.specs.contracts.post.Guard as lent_guard
-use Rattle.epoch_lend.specs.contracts.lending.Glance as glance
-use Rattle.epoch_lend.specs.contracts.lending.Marked as marked_is
-use Rattle.epoch_lend.specs.contracts.part.Part as part_is
-use Rattle.epoch_lend.proofs.PartFields as part_fields
-use Rattle.epoch_lend.specs.Parted.{tokens, part_owns}
-use Rattle.epoch_lend_cells.specs.Turning.{TurnNames, TurnOf, turn_is, turn_shares, claim_has, claim_of, vacancy_of}
+use Rattle.epoch_lend.specs.Posts.{logs_of}
+use Rattle.epoch_lend.proofs.Fields.{ptr_typed}
+use Rattle.epoch_lend.proofs.Fields.{word, word_typed}
+use Rattle.epoch_lend_cells.specs.Turning.{TurnNames, TurnOf}
 use Rattle.epoch_lend_cells.specs.contracts.turns.Turns as turns_is
 use Rattle.epoch_lend_cells.specs.contracts.turns.Claim as claim_is
-use Rattle.epoch_lend_cells.specs.contracts.turns.Vacancy as vacancy_is
 use Rattle.epoch_lend_cells.specs.contracts.turns.Name as name_is
 use Rattle.epoch_lend_cells.proofs.TurnFields as fields
-use Rattle.epoch_lend_cells.proofs.Turned as steps
 use denote.Slice.{slice_val, shr_slice_vals, shr_slice_Tells}
 use denote.Builtin.{SliceRefOf}
 use denote.Laws.{Typed}
@@ -71,7 +41,6 @@ use types.Tokens.{name_new}
 use types.Owned.{basic}
 use types.Growing.{latest_new}
 use base.Growing.{latest}
-use Rattle.epoch_lend.specs.Posts.{known}
 use Rattle.epoch_lend_cells.specs.Turning.{turn_logs, log_of, vacant_with, TurnStage, vacant, at_turn, at_turn_word}
 use Rattle.epoch_lend_cells.specs.contracts.turns.Turns.TheInside as inside
 use Rattle.epoch_lend_cells.specs.contracts.turns.Place as place_is

@@ -1,6 +1,5 @@
-use mathlib.Core.List.{[], ◌∷◌}
 use denote.RattleType.{RattleType}
-use denote.Param.Send.{IsSend, IsSync, owning_send, struct_send, sendable}
+use denote.Param.Send.{IsSend, owning_send, struct_send, sendable}
 use denote.Builtin.{RawPtr}
 use denote.Struct.Struct.{exits_of}
 use denote.Struct.Owning.{shape, fields, to}
