@@ -7,7 +7,8 @@ use mir.Raw.{raw as bare}
 use base.Logic.{SProp, ent, emp, id⊢, fst∗, never}
 use base.Fml.{ftrue, fsep, feq, flft}
 use types.Logic.{sem}
-use types.Kit.{Item, ‵, raw, ◌⊛◌, some, later, ◌$◌, ◌∵◌, !, qed, by, move, keep, drop, split, split3, join, fsplit, fjoin, fjoin3, fpick, fpack, pick, use0, use1, await, rewrite, feq_i, feq_l, suffices}
+use types.Kit.{Item, ‵, raw, ◌⊛◌, some, later, ◌$◌, ◌∵◌, !, qed, by, move, keep, drop, split, split3, join, fsplit}
+use types.Kit.{fjoin, fjoin3, fpick, fpack, pick, use0, use1, await, rewrite, feq_i, feq_l, suffices}
 use types.Run.{stop, fld, of_opd, no_more, and_then, returns, enter}
 use types.ByLocal.{alloc_all, pass_all, free_all, look_at, get, get_in, sets, lands_as}
 use types.Part.{agg, sub, whole}

@@ -38,7 +38,8 @@ module _ {M : Type 1} {𝓤 : Ura M} (𝓛 : Logic 𝓤) (R : RattleType) (log t
   name_lends l κ ts inc sp = by_one 𝓛 κ ts sp (A.bor κ P) (sem 𝓛 P) (by_token κ)
 
 pub shares : (T : RattleType) (L : Laws T) → statement T L
-shares T L = of_Lends (C.struct T) (C.the_codes T.Denot T.coded (marker.the_row T).coded) (C.the_heap T) (C.the_lent T) (λ d p. record {
+shares T L = of_Lends (C.struct T) (C.the_codes T.Denot T.coded (marker.the_row T).coded) (C.the_heap T) (C.the_lent
+    T) (λ d p. record {
   contraction = λ M 𝓤 𝓛 κ. turn_dup 𝓛 T d.log d.turn (d.value, d.lifetime);
   mono = λ M 𝓤 𝓛 κ' κ. snd∗ 𝓤 (sem 𝓛 (before κ' κ)) (sem 𝓛 (turn_is T d.log d.turn (d.value, d.lifetime)));
 }) (
