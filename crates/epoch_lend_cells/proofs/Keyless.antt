@@ -1,5 +1,5 @@
 -- What a place and what is taken of it say names no thread's token.
-use Rattle.std.proofs.Common.{ℕ, zero, suc, List, [], ◌∷◌}
+use Rattle.std.proofs.Common.{ℕ, zero, suc, [], ◌∷◌}
 use Rattle.std.specs.Prelude.{Option, Some, None}
 use base.Growing.{latest, at_least}
 use base.Shift.{Keyless}
@@ -39,8 +39,26 @@ holds_keyless : (R : RattleType) → IsSend R → IsSync R → (d : TurnNames) (
 unfolding latest
 holds_keyless R s y d (vacant t) = (tt, (so_far_keyless R d t, λ x. lies R s d.at x))
 holds_keyless R s y d (claimed t) = so_far_keyless R d t
-holds_keyless R s y d (shown t) = (tt, λ e. (tt, ((λ _. tt), λ ls. (((tt, loans_keyless e.1.1 ls), (seen R y d.at e.1.0
-    (e.1.1 ∷ []), λ _. tt)), lies R s d.at e.1.0))))
+holds_keyless R s y d (shown t) = (
+  tt,
+  λ e. (
+    tt,
+    (
+      (λ _. tt),
+      λ ls. (
+        (
+          (tt, loans_keyless e.1.1 ls),
+          (
+            seen R y d.at e.1.0
+                (e.1.1 ∷ []),
+            λ _. tt,
+          ),
+        ),
+        lies R s d.at e.1.0,
+      ),
+    ),
+  ),
+)
 holds_keyless R s y d (removed t) = so_far_keyless R d (suc t)
 
 pub turns_keyless : (R : RattleType) → IsSend R → IsSync R → (d : TurnNames) (n : ℕ) → Keyless (at_turn_word R d n)

@@ -83,8 +83,19 @@ module _ (R : RattleType) where
   -- a name is made of its turn
   pub name_made : {M : Type 1} {𝓤 : Ura M} (𝓛 : Logic 𝓤) (t : ℕ) → t < 2 ^ 64
       → ent 𝓤 (emp 𝓤) (sem 𝓛 (Name.own_val (t, (record {}, tt)) (name_val t ∷ [])))
-  name_made 𝓛 t f = makes_shadow 𝓛 (Name.own_val (t, (record {}, tt)) (name_val t ∷ [])) (λ vss. (tt, ((tt, tt), ((λ uss. (tt,
-      tt)), tt)))) (
+  name_made 𝓛 t f = makes_shadow 𝓛 (Name.own_val (t, (record {}, tt)) (name_val t ∷ [])) (λ vss. (
+    tt,
+    (
+      (tt, tt),
+      (
+        (λ uss. (
+          tt,
+          tt,
+        )),
+        tt,
+      ),
+    ),
+  )) (
     (vint w64 t ∷ [], (vstruct vnil ∷ [], tt)),
     (refl, ((refl, f), ((tt, (refl, tt)), tt))),
   )
@@ -95,10 +106,12 @@ three_of n v w = vstruct (vcons (vint w64 n) (vcons v (vcons w vnil)))
 
 -- what a mark answers is of its type
 pub three_typed : (p : Ptr) (n : ℕ) → n < 2 ^ 64
-    → T (has_ty (ty_struct [] (tcons (ty_int w64) (tcons (ty_struct [] (tcons ty_ptr tnil)) (tcons (ty_struct [] (tcons ty_ptr
+    → T (has_ty (ty_struct [] (tcons (ty_int w64) (tcons (ty_struct [] (tcons ty_ptr tnil)) (tcons (ty_struct []
+        (tcons ty_ptr
     tnil)) tnil)))) (three_of n (word p) (word p))) × WT (three_of n (word p) (word p))
 three_typed (block_ptr b o) n f = (tt, (record { fits = f }, ((tt, tt), ((tt, tt), tt))))
-three_typed null_ptr n f = (tt, (record { fits = f }, ((record { fits = lit< tt }, tt), ((record { fits = lit< tt }, tt), tt))))
+three_typed null_ptr n f = (tt, (record { fits = f }, ((record { fits = lit< tt }, tt), ((record { fits = lit< tt },
+    tt), tt))))
 
 -- a new word is 0
 abbrev pub none_val : Val

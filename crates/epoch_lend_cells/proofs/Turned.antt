@@ -16,7 +16,8 @@ use base.Growing.{latest, at_least}
 use base.Logic.{SProp, ent, sep, ex, all_e, guard, upd, upd_i, emp, never_e}
 use base.Fml.{Lft, GName, Share, Fml, ftrue, fsep, fex, fall, flft, fobs, fauth, fbor, flent}
 use types.Logic.{Logic, sem}
-use types.Kit.{‵, raw, ◌⊛◌, given, ◌$◌, ◌∵◌, !, qed, by, move, keep, drop, split, split3, fsplit, fsplit3, fjoin, fjoin3}
+use types.Kit.{‵, raw, ◌⊛◌, given, ◌$◌, ◌∵◌, !, qed, by, move, keep, drop, split, split3, fsplit, fsplit3, fjoin}
+use types.Kit.{fjoin3}
 use types.Kit.{fpick, fpack, learn, show, frame, each, assume, suffices, settle, use0, use1, use2, use3, rewrite, done}
 use types.Growing.{latest_grows, latest_shows, latest_bounds, at_least_dup}
 use denote.RattleType.{RattleType, RowLaws}
@@ -31,32 +32,10 @@ use Rattle.std.specs.Prelude.{Option, Some, None}
 use Rattle.epoch_lend.specs.Loans.{Loan, filled_pocket, stock, Shown, are_within, Within, marked_owns}
 use Rattle.epoch_lend.proofs.Loans.{lends}
 use Rattle.epoch_lend.proofs.Reading as reading
-use Rattle.epoch_lend_cells.specs.Turning.{
-  TurnNames,
-  TurnStage,
-  vacant,
-  claimed,
-  shown,
-  removed,
-  turn_word,
-  TurnOf,
-  turn_logs,
-  turn_in,
-  turn_is,
-  claim_has,
-  claim_of,
-  vacancy_of,
-  log_of,
-  turns_so_far,
-  lent_with,
-  lent_of,
-  shown_with,
-  vacant_with,
-  turn_holds,
-  at_turn,
-  at_turn_word,
-  turns_at,
-}
+use Rattle.epoch_lend_cells.specs.Turning.{TurnNames, TurnStage, vacant, claimed, shown, removed, turn_word, TurnOf}
+use Rattle.epoch_lend_cells.specs.Turning.{turn_logs, turn_in, turn_is, claim_has, claim_of, vacancy_of, log_of}
+use Rattle.epoch_lend_cells.specs.Turning.{lent_with, lent_of, shown_with, vacant_with, turn_holds, at_turn}
+use Rattle.epoch_lend_cells.specs.Turning.{at_turn_word, turns_at}
 
 -- the stage of a word that is four times a turn
 is_vacant : (s : TurnStage) (t : ℕ) → turn_word s ≡ 4 * t → s ≡ vacant t
@@ -107,7 +86,8 @@ same_turn (z ∷ xs) (w ∷ ys) rest x y e p = same_turn xs ys rest x y (omega (
 pub turn_dup : {M : Type 1} {𝓤 : Ura M} (𝓛 : Logic 𝓤) (R : RattleType) (log t : ℕ) (e : TurnOf R.Denot)
     → ent 𝓤 (sem 𝓛 (turn_is R log t e)) (sep 𝓤 (sem 𝓛 (turn_is R log t e)) (sem 𝓛 (turn_is R log t e)))
 turn_dup 𝓛 R log t e = let O = turn_logs R in qed 𝓛 (‵ (turn_is R log t e) ∷ []) ∵ fpick ! (λ es. fsplit ! $
-    use1 𝓛 (‵ (at_least O log (es ++ e ∷ [])) ⊛ ‵ (at_least O log (es ++ e ∷ []))) (at_least_dup O 𝓛 log (es ++ e ∷ [])) $
+    use1 𝓛 (‵ (at_least O log (es ++ e ∷ [])) ⊛ ‵ (at_least O log (es ++ e ∷ []))) (at_least_dup O 𝓛 log (es ++ e ∷
+        [])) $
     split ! $ move ! (2 ∷ []) $ fpick ! (λ long. drop ! $
     nothing ! $ fpack ! (length es ≡ t) (λ _. ftrue) long $ move ! (1 ∷ 0 ∷ []) $ fjoin ! $
     fpack ! (List (TurnOf R.Denot)) (turn_in R log t e) es $ frame ! $
@@ -163,7 +143,8 @@ module _ {M : Type 1} {𝓤 : Ura M} (𝓛 : Logic 𝓤) (R : RattleType) (d : T
         move ! (1 ∷ 2 ∷ []) $ fjoin ! $ nothing ! $
         fpack ! (4 * t + 1 ≡ 4 * t + 1) (λ _. ftrue) refl $ fjoin ! $
         fpack ! TurnStage (at_turn R d (4 * t + 1)) (claimed t) $ frame ! $ keep ! (0 ∷ 1 ∷ []) $
-        move ! (1 ∷ []) $ fpick ! (λ x. move ! (1 ∷ 0 ∷ []) $ fjoin ! $ fpack ! R.Denot (claim_has R d.at δ (4 * t + 1)) x $
+        move ! (1 ∷ []) $ fpick ! (λ x. move ! (1 ∷ 0 ∷ []) $ fjoin ! $ fpack ! R.Denot (claim_has R d.at δ (4 * t +
+            1)) x $
         each ! (λ (_ : n ≡ 4 * t). ⟦ fex R.Denot (claim_has R d.at δ (4 * t + 1)) ⟧) (λ _. done !))))
 
     -- an exchange that finds another word leaves all as it is
@@ -172,7 +153,8 @@ module _ {M : Type 1} {𝓤 : Ura M} (𝓛 : Logic 𝓤) (R : RattleType) (d : T
         drop ! $ use0 𝓛 (‵ (Claimed n)) (unclaimed n miss) $ done !
 
     claims : (n : ℕ) → ⟦ W n ⟧ ∗ ⟦ ftrue ⟧ ⊢ upd 𝓤 (⟦ W (either (eqb n (4 * t)) (4 * t + 1) n) ⟧ ∗ ⟦ Claimed n ⟧)
-    claims n = let F : Bool → Type 1 = λ y. ⟦ W n ⟧ ∗ ⟦ ftrue ⟧ ⊢ upd 𝓤 (⟦ W (either y (4 * t + 1) n) ⟧ ∗ ⟦ Claimed n ⟧) in
+    claims n = let F : Bool → Type 1 = λ y. ⟦ W n ⟧ ∗ ⟦ ftrue ⟧ ⊢ upd 𝓤 (⟦ W (either y (4 * t + 1) n) ⟧ ∗ ⟦ Claimed n
+        ⟧) in
         dite (ℕ_discrete n (4 * t))
         (λ hit. subst F (sym (eq-eqb n (4 * t) hit)) (claims_hit n hit))
         (λ miss. subst F (sym (ne_eqb n (4 * t) miss)) (claims_miss n miss))
@@ -203,11 +185,14 @@ module _ {M : Type 1} {𝓤 : Ura M} (𝓛 : Logic 𝓤) (R : RattleType) (d : T
         (O.same fs)) $ split ! $
         -- [latest; at_least; length; obs; auth; the token; what is shown and lent]
         move ! (2 ∷ []) $ fpick ! (λ long. drop ! $ move ! (5 ∷ []) $ fsplit ! $ move ! (6 ∷ []) $ nothing ! $
-        move ! (1 ∷ 0 ∷ []) $ fjoin ! $ nothing ! $ fpack ! (Within d.posts []) (λ _. ftrue) refl $ move ! (2 ∷ 0 ∷ []) $
-        fjoin ! $ move ! (1 ∷ 0 ∷ []) $ fjoin ! $ move ! (0 ∷ 1 ∷ []) $ fjoin ! $ fpack ! (List Loan) (lent_with R d e) [] $
+        move ! (1 ∷ 0 ∷ []) $ fjoin ! $ nothing ! $ fpack ! (Within d.posts []) (λ _. ftrue) refl $ move ! (2 ∷ 0 ∷
+            []) $
+        fjoin ! $ move ! (1 ∷ 0 ∷ []) $ fjoin ! $ move ! (0 ∷ 1 ∷ []) $ fjoin ! $ fpack ! (List Loan) (lent_with R d
+            e) [] $
         -- [lent; latest; at_least; obs; auth]
         nothing ! $ fpack ! (length es ≡ t) (λ _. ftrue) long $ move ! (2 ∷ 0 ∷ 1 ∷ []) $ fjoin3 ! $
-        fpack ! (List E × E) (shown_with R d t) (es, e) $ move ! (2 ∷ 0 ∷ []) $ fjoin ! $ move ! (2 ∷ 0 ∷ []) $ fjoin ! $
+        fpack ! (List E × E) (shown_with R d t) (es, e) $ move ! (2 ∷ 0 ∷ []) $ fjoin ! $ move ! (2 ∷ 0 ∷ []) $ fjoin
+            ! $
         nothing ! $ fpack ! (4 * t + 2 ≡ 4 * t + 2) (λ _. ftrue) refl $ fjoin ! $
         fpack ! TurnStage (at_turn R d (4 * t + 2)) (shown t) $ frame ! $
         nothing ! $ fpack ! (length es ≡ t) (λ _. ftrue) long $ move ! (1 ∷ 0 ∷ []) $ fjoin ! $
@@ -220,7 +205,8 @@ module _ {M : Type 1} {𝓤 : Ura M} (𝓛 : Logic 𝓤) (R : RattleType) (d : T
         use2 𝓛 (given (gnum (4 * t + 1) ≡ gnum n) (‵ (fobs δ (gnum (4 * t + 1))) ⊛ ‵ (fauth δ (gnum n))))
         (𝓛.names.name_agree δ (gnum (4 * t + 1)) (gnum n)) $ learn ! (λ same. split ! $
         -- [obs; auth; the rest; known; what the stage holds]
-        move ! (0 ∷ 2 ∷ []) $ fjoin ! $ move ! (2 ∷ 1 ∷ 3 ∷ []) $ fjoin3 ! $ by ! (shows_claimed n (sym (ap num same)) s)))
+        move ! (0 ∷ 2 ∷ []) $ fjoin ! $ move ! (2 ∷ 1 ∷ 3 ∷ []) $ fjoin3 ! $ by ! (shows_claimed n (sym (ap num same))
+            s)))
 
   -- ---- what is shown at a turn, for who knows the value of a turn
   module _ (t : ℕ) (e : E) where
@@ -241,8 +227,10 @@ module _ {M : Type 1} {𝓤 : Ura M} (𝓛 : Logic 𝓤) (R : RattleType) (d : T
     opens = let O = turn_logs R in qed 𝓛 (‵ (fex (List E × E) Held) ∷ ‵ Known ∷ []) ∵ fpick ! (λ now. fsplit3 ! $
         move ! (1 ∷ []) $ fpick ! (λ long. drop ! $ move ! (2 ∷ []) $ fpick ! (λ es. fsplit ! $ move ! (1 ∷ []) $
         fpick ! (λ as_long. drop ! $ move ! (1 ∷ 0 ∷ []) $
-        use2 𝓛 (given (IsPrefix (es ++ e ∷ []) (now.0 ++ now.1 ∷ [])) (‵ (latest O full_share d.log (now.0 ++ now.1 ∷ [])) ⊛
-        ‵ (at_least O d.log (es ++ e ∷ [])))) (latest_bounds O 𝓛 full_share d.log (now.0 ++ now.1 ∷ []) (es ++ e ∷ [])) $
+        use2 𝓛 (given (IsPrefix (es ++ e ∷ []) (now.0 ++ now.1 ∷ [])) (‵ (latest O full_share d.log (now.0 ++ now.1 ∷
+            [])) ⊛
+        ‵ (at_least O d.log (es ++ e ∷ [])))) (latest_bounds O 𝓛 full_share d.log (now.0 ++ now.1 ∷ []) (es ++ e ∷
+            [])) $
         learn ! (λ p. split ! $ let same : now.1 ≡ e = same_turn es now.0 p.0 e now.1 (as_long ∙ sym long) p.1 in
         keep ! (0 ∷ 2 ∷ []) $
         rewrite ! 0 (λ (z : E). ‵ (latest O full_share d.log (now.0 ++ z ∷ []))) same refl $ move ! (1 ∷ []) $
@@ -315,19 +303,24 @@ module _ {M : Type 1} {𝓤 : Ura M} (𝓛 : Logic 𝓤) (R : RattleType) (d : T
 
       -- the loan is left with the word, and the value is lent
       lends_it : (n : ℕ) (es : List E) (ls : List Loan) → Within d.posts ls
-          → ⟦ fsep (stock e.1 ls) (fsep (lent_at R d.at e.0 (e.1 ∷ [])) (flent (e.1 ∷ []) (lies_at R full_share d.at e.0))) ⟧ ∗
+          → ⟦ fsep (stock e.1 ls) (fsep (lent_at R d.at e.0 (e.1 ∷ [])) (flent (e.1 ∷ []) (lies_at R full_share d.at
+              e.0))) ⟧ ∗
           ⟦ reading.Offer 𝓛 e.1 γ epoch η r pocket ⟧ ⊢ upd 𝓤 (⟦ lent_of R d e ⟧ ∗ ⟦ Looked 1 ⟧)
       lends_it n es ls within = let Goal : Pr = ⟦ lent_of R d e ⟧ ∗ ⟦ Looked 1 ⟧ in
-          qed 𝓛 (‵ (fsep (stock e.1 ls) (fsep (lent_at R d.at e.0 (e.1 ∷ [])) (flent (e.1 ∷ []) (lies_at R full_share d.at
-          e.0)))) ∷ ‵ (reading.Offer 𝓛 e.1 γ epoch η r pocket) ∷ []) ∵ fsplit3 ! $ move ! (3 ∷ []) $ fsplit3 ! $ move ! (2 ∷ []) $
+          qed 𝓛 (‵ (fsep (stock e.1 ls) (fsep (lent_at R d.at e.0 (e.1 ∷ [])) (flent (e.1 ∷ []) (lies_at R full_share
+              d.at
+          e.0)))) ∷ ‵ (reading.Offer 𝓛 e.1 γ epoch η r pocket) ∷ []) ∵ fsplit3 ! $ move ! (3 ∷ []) $ fsplit3 ! $ move
+              ! (2 ∷ []) $
           fsplit ! $
           -- [auth; entered; the lender's right; obs; stock; shown; the value afterwards]
           move ! (4 ∷ 2 ∷ 3 ∷ 0 ∷ 1 ∷ []) $ types.Kit.group ! 5 $
-          use1 𝓛 (raw (upd 𝓤 (⟦ stock e.1 (lent_now ∷ ls) ⟧ ∗ ⟦ filled_pocket e.1 pocket (length ls) ⟧))) (lends 𝓛 e.1 ls
+          use1 𝓛 (raw (upd 𝓤 (⟦ stock e.1 (lent_now ∷ ls) ⟧ ∗ ⟦ filled_pocket e.1 pocket (length ls) ⟧))) (lends 𝓛 e.1
+              ls
           lent_now) $
           settle 𝓛 Goal (‵ (stock e.1 (lent_now ∷ ls)) ⊛ ‵ (filled_pocket e.1 pocket (length ls))) $ split ! $
           suffices ! Goal (upd_i 𝓤 Goal) $ move ! (2 ∷ []) $
-          use1 𝓛 (‵ (lent_at R d.at e.0 (e.1 ∷ [])) ⊛ ‵ (lent_at R d.at e.0 (e.1 ∷ []))) (contraction 𝓛 (lent_at R d.at e.0)
+          use1 𝓛 (‵ (lent_at R d.at e.0 (e.1 ∷ [])) ⊛ ‵ (lent_at R d.at e.0 (e.1 ∷ []))) (contraction 𝓛 (lent_at R
+              d.at e.0)
           (denote.Struct.Lending.lent_at_shr_laws R L d.at e.0) (e.1 ∷ [])) $ split ! $
           nothing ! $ fpack ! (Within d.posts (lent_now ∷ ls)) (λ _. ftrue) (and_from (is_among η d.posts) (are_within
           d.posts ls) of within) $
@@ -344,7 +337,8 @@ module _ {M : Type 1} {𝓤 : Ura M} (𝓛 : Logic 𝓤) (R : RattleType) (d : T
           let O : Fml = reading.Offer 𝓛 e.1 γ epoch η r pocket in
           qed 𝓛 (‵ (W n) ∷ ‵ Asks ∷ []) ∵ fpick ! (λ s. fsplit3 ! $ fpick ! (λ is. drop ! $ move ! (1 ∷ []) $
           rewrite ! 0 (λ (z : TurnStage). ‵ (turn_holds R d z)) (is_shown s t (sym is ∙ hit)) refl $ fsplit ! $
-          move ! (3 ∷ []) $ fsplit ! $ move ! (3 ∷ 0 ∷ []) $ use2 𝓛 (‵ (fex (List E) Open)) opens $ fpick ! (λ es. fsplit3 ! $
+          move ! (3 ∷ []) $ fsplit ! $ move ! (3 ∷ 0 ∷ []) $ use2 𝓛 (‵ (fex (List E) Open)) opens $ fpick ! (λ es.
+              fsplit3 ! $
           -- [latest; length; what was lent; the offer; obs; auth]
           move ! (2 ∷ []) $ fpick ! (λ ls. fsplit ! $ fsplit3 ! $ move ! (2 ∷ []) $ fpick ! (λ within. drop ! $
           fjoin3 ! $ move ! (0 ∷ 3 ∷ []) $
@@ -397,7 +391,8 @@ module _ {M : Type 1} {𝓤 : Ura M} (𝓛 : Logic 𝓤) (R : RattleType) (d : T
 
     -- one step under the invariant of the word
     stepped : (f : ℕ → ℕ) (after : ℕ → Fml) (K : Fml) → ((n : ℕ) → ⟦ W n ⟧ ∗ ⟦ K ⟧ ⊢ upd 𝓤 (⟦ W (f n) ⟧ ∗ ⟦ after n ⟧))
-        → A.inv (fbor α Memory) ∗ (A.lft α q ∗ ⟦ K ⟧) ⊢ asks 𝓛 (block_ptr b (o + 0)) f always (λ n. fsep (flft α q) (after n))
+        → A.inv (fbor α Memory) ∗ (A.lft α q ∗ ⟦ K ⟧) ⊢ asks 𝓛 (block_ptr b (o + 0)) f always (λ n. fsep (flft α q)
+            (after n))
     stepped f after K law = let at : ℕ = o + 0 in
         let G : Pr = ex 𝓤 (Lies 𝓛 α q Memory b at f always after) in borrowed 𝓛 α q Memory b at f always after ⟦ K ⟧ (
         qed 𝓛 (‵ Memory ∷ ‵ K ∷ []) ∵ suffices ! _ (upd_i 𝓤 G) $ fpick ! (λ n. fsplit ! $
@@ -409,12 +404,14 @@ module _ {M : Type 1} {𝓤 : Ura M} (𝓛 : Logic 𝓤) (R : RattleType) (d : T
         move ! (2 ∷ 0 ∷ []) $ fjoin ! $ fpack ! ℕ (λ m. fsep (word b at m) (W m)) (f n) $ done !)))
 
     -- one exchange claims the place
-    pub claims_it : (t : ℕ) → A.inv (fbor α Memory) ∗ (A.lft α q ∗ ⟦ ftrue ⟧) ⊢ asks 𝓛 (block_ptr b (o + 0)) (λ n. either
+    pub claims_it : (t : ℕ) → A.inv (fbor α Memory) ∗ (A.lft α q ∗ ⟦ ftrue ⟧) ⊢ asks 𝓛 (block_ptr b (o + 0)) (λ n.
+        either
         (eqb n (4 * t)) (4 * t + 1) n) always (λ n. fsep (flft α q) (Claimed t n))
     claims_it t = stepped (λ n. either (eqb n (4 * t)) (4 * t + 1) n) (Claimed t) ftrue (claims t)
 
     -- one store shows the value
-    pub shows_it : (t : ℕ) (e : E) → A.inv (fbor α Memory) ∗ (A.lft α q ∗ ⟦ Showing t e ⟧) ⊢ asks 𝓛 (block_ptr b (o + 0))
+    pub shows_it : (t : ℕ) (e : E) → A.inv (fbor α Memory) ∗ (A.lft α q ∗ ⟦ Showing t e ⟧) ⊢ asks 𝓛 (block_ptr b (o +
+        0))
         (λ _. 4 * t + 2) always (λ n. fsep (flft α q) (turn_is R d.log t e))
     shows_it t e = stepped (λ _. 4 * t + 2) (λ _. turn_is R d.log t e) (Showing t e) (shows t e)
 
@@ -424,15 +421,18 @@ module _ {M : Type 1} {𝓤 : Ura M} (𝓛 : Logic 𝓤) (R : RattleType) (d : T
     marks_it t e = stepped (λ n. either (eqb n (4 * t + 2)) (4 * t + 3) n) (Outed t e) (Known t e) (marks t e)
 
     -- one store makes the place vacant
-    pub releases_it : (t : ℕ) (x : R.Denot) → A.inv (fbor α Memory) ∗ (A.lft α q ∗ ⟦ Removed t x ⟧) ⊢ asks 𝓛 (block_ptr b
+    pub releases_it : (t : ℕ) (x : R.Denot) → A.inv (fbor α Memory) ∗ (A.lft α q ∗ ⟦ Removed t x ⟧) ⊢ asks 𝓛
+        (block_ptr b
         (o + 0)) (λ _. 4 * suc t) always (λ n. fsep (flft α q) ftrue)
     releases_it t x = stepped (λ _. 4 * suc t) (λ _. ftrue) (Removed t x) (releases t x)
 
     -- one plain load looks at the value
     pub sees_it : (t : ℕ) (e : E) (L : RowLaws R) (γ epoch η : ℕ) (of : IsAmong η d.posts) (r : Share) (pocket : GName)
-        → A.inv (fbor α Memory) ∗ (A.lft α q ∗ ⟦ Asks t e L γ epoch η of r pocket ⟧) ⊢ asks 𝓛 (block_ptr b (o + 0)) (λ n. n)
+        → A.inv (fbor α Memory) ∗ (A.lft α q ∗ ⟦ Asks t e L γ epoch η of r pocket ⟧) ⊢ asks 𝓛 (block_ptr b (o + 0)) (λ
+            n. n)
         always (λ n. fsep (flft α q) (Looked t e L γ epoch η of r pocket (flag t e n)))
-    sees_it t e L γ epoch η of r pocket = stepped (λ n. n) (λ n. Looked t e L γ epoch η of r pocket (flag t e n)) (Asks t e L γ
+    sees_it t e L γ epoch η of r pocket = stepped (λ n. n) (λ n. Looked t e L γ epoch η of r pocket (flag t e n))
+        (Asks t e L γ
         epoch η of r pocket) (sees t e L γ epoch η of r pocket)
 
   -- ---- what an exchange gained
@@ -446,7 +446,8 @@ module _ {M : Type 1} {𝓤 : Ura M} (𝓛 : Logic 𝓤) (R : RattleType) (d : T
     -- a claim has the place where the word was that of a vacant place at this turn, and else nothing
     pub gains : ⟦ Claimed t n ⟧ ⊢ ex 𝓤 Gain
     gains = dite (ℕ_discrete n (4 * t))
-        (λ hit. qed 𝓛 (‵ (Claimed t n) ∷ []) ∵ use1 𝓛 (‵ (fex R.Denot (claim_has R d.at δ (4 * t + 1)))) (all_e 𝓤 (λ (_ : n
+        (λ hit. qed 𝓛 (‵ (Claimed t n) ∷ []) ∵ use1 𝓛 (‵ (fex R.Denot (claim_has R d.at δ (4 * t + 1)))) (all_e 𝓤 (λ
+            (_ : n
         ≡ 4 * t). ⟦ fex R.Denot (claim_has R d.at δ (4 * t + 1)) ⟧) hit) $ fpick ! (λ x. show ! Gain (1, Some x) $
         types.Kit.check ! ((λ _. refl), (λ miss. absurd (miss hit))) $ done !))
         (λ miss. qed 𝓛 (‵ (Claimed t n) ∷ []) ∵ drop ! $ nothing ! $ show ! Gain (0, None) $
@@ -474,5 +475,6 @@ module _ {M : Type 1} {𝓤 : Ura M} (𝓛 : Logic 𝓤) (R : RattleType) (d : T
 
   pub claim_opens : (k : ℕ) (v : Option R.Denot) (p : Ptr) → ⟦ claim_of R p δ k v 1 ⟧ ⊢ ⟦ fex R.Denot (Opened k v p) ⟧
   claim_opens k None p = never_e 𝓤 _
-  claim_opens k (Some x) p = qed 𝓛 (‵ (claim_has R p δ k x) ∷ []) ∵ fpack ! (Some x ≡ Some x) (λ _. claim_has R p δ k x) refl $
+  claim_opens k (Some x) p = qed 𝓛 (‵ (claim_has R p δ k x) ∷ []) ∵ fpack ! (Some x ≡ Some x) (λ _. claim_has R p δ k
+      x) refl $
       fpack ! R.Denot (Opened k (Some x) p) x $ done !

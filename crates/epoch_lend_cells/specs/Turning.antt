@@ -22,7 +22,8 @@ pub record TurnNames : Type 0 where
   pub posts : List ℕ
 
 abbrev pub turn_names_coded : Coded TurnNames
-turn_names_coded = coded_via (coded× coded_ptr (coded× coded_ℕ (coded× coded_ℕ (coded_list coded_ℕ)))) (λ (d : TurnNames). (
+turn_names_coded = coded_via (coded× coded_ptr (coded× coded_ℕ (coded× coded_ℕ (coded_list coded_ℕ)))) (λ (d :
+    TurnNames). (
   d.at,
   (
     d.log,
@@ -93,7 +94,8 @@ module _ (R : RattleType) (d : TurnNames) where
 
   -- what is lent of a value that is shown: the token of its lifetime less its loans, and the value itself after it
   abbrev pub lent_with : TurnOf R.Denot → List Loan → Fml
-  lent_with e ls = fsep (fsep (stock e.1 ls) (fsep (lent_at R d.at e.0 (e.1 ∷ [])) (known (Within d.posts ls)))) (flent (e.1 ∷
+  lent_with e ls = fsep (fsep (stock e.1 ls) (fsep (lent_at R d.at e.0 (e.1 ∷ [])) (known (Within d.posts ls))))
+      (flent (e.1 ∷
       []) (lies_at R full_share d.at e.0))
 
   abbrev pub lent_of : TurnOf R.Denot → Fml

@@ -58,7 +58,10 @@ pub struct Sealed<'c, 'p, T> {
 
 impl<'p, T: Drop> LendingCell<'p, T> {
     /// An empty cell at turn 0. Guards of these posts may look at its values. Its place in memory is never freed.
-    pub fn new<A: Allocator + Drop>(alloc: A, posts: &'p [Post]) -> Result<LendingCell<'p, T>, AllocError>
+    pub fn new<A: Allocator + Drop>(
+        alloc: A,
+        posts: &'p [Post],
+    ) -> Result<LendingCell<'p, T>, AllocError>
         ensures { IfOk result (λ cell. cell.posts.now ≡ posts.now) }
     {
         let whole = Box::new(alloc, None)?;

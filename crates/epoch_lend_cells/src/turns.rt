@@ -134,7 +134,13 @@ impl<T> Turns<T> {
 
     /// One plain load. Where it finds the word of the name's turn, the value of that turn may be read for as long as
     /// the guard is lent. The guard must be of one of the place's posts.
-    pub fn look<'g>(&self, name: &Name<T>, guard: &'g Guard, at: *const T, word: u64) -> (u64, Glance<'g, T>)
+    pub fn look<'g>(
+        &self,
+        name: &Name<T>,
+        guard: &'g Guard,
+        at: *const T,
+        word: u64,
+    ) -> (u64, Glance<'g, T>)
         requires { (at ≡ self.now.at) × (name.now.log ≡ self.now.log) × (word ≡ 4 * name.now.turn + 2)
             × IsAmong guard.now.log self.now.posts }
         ensures { (result.0 ≡ word → result.1.right ≡ 1) × (result.0 ≢ word → result.1.right ≡ 0)
@@ -153,7 +159,13 @@ impl<T> Turns<T> {
 
     /// Marks the value of the name's turn, by one exchange: no look finds it from then on, and guards that have found
     /// it keep it. Where the word was that of its turn, what the mark took out comes with it, and else nothing.
-    pub fn mark(&self, name: &Name<T>, at: *const T, shown: u64, removed: u64) -> (u64, Marked<T>, Vacancy<T>)
+    pub fn mark(
+        &self,
+        name: &Name<T>,
+        at: *const T,
+        shown: u64,
+        removed: u64,
+    ) -> (u64, Marked<T>, Vacancy<T>)
         requires { (at ≡ self.now.at) × (name.now.log ≡ self.now.log) × (shown ≡ 4 * name.now.turn + 2)
             × (removed ≡ 4 * name.now.turn + 3) }
         ensures gained { (result.0 ≡ shown → (result.1.right ≡ 1) × (result.2.right ≡ 1))

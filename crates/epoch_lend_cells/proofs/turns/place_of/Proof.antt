@@ -1,46 +1,14 @@
 -- `place_of` takes the box apart.
-use Rattle.std.proofs.Common.{◌≡◌, ℕ, ◌^◌, ◌&&◌, true, List, [], ◌∷◌, ◌++◌, sym, refl, ap, ◌∙◌, subst}
+use Rattle.std.proofs.Common.{◌≡◌, List, [], ◌∷◌, ◌++◌, sym, refl, ap, ◌∙◌, subst}
 use mir.Syntax.{a_type, dcons, dnil}
-use mir.Val.{Val, vptr, vstruct, vcons, vnil, of_list, has_ty}
+use mir.Val.{Val, vstruct, vcons, vnil, of_list, has_ty}
 use mir.MapTy.{inst_fn}
 use mir.Raw.{raw as bare}
-use base.Fraction.{full_share}
 use base.Logic.{SProp, ent, emp, id⊢, fst∗, never}
-use base.Fml.{Fml, ftrue, fsep, fex, feq, flft}
+use base.Fml.{ftrue, fsep, feq, flft}
 use types.Logic.{sem}
-use types.Kit.{
-  Item,
-  ‵,
-  raw,
-  ◌⊛◌,
-  some,
-  later,
-  ◌$◌,
-  ◌∵◌,
-  !,
-  qed,
-  by,
-  move,
-  keep,
-  drop,
-  split,
-  split3,
-  join,
-  fsplit,
-  fjoin,
-  fjoin3,
-  fpick,
-  fpack,
-  pick,
-  use0,
-  use1,
-  use2,
-  await,
-  rewrite,
-  feq_i,
-  feq_l,
-  suffices,
-}
+use types.Kit.{Item, ‵, raw, ◌⊛◌, some, later, ◌$◌, ◌∵◌, !, qed, by, move, keep, drop, split, split3, join, fsplit}
+use types.Kit.{fjoin, fjoin3, fpick, fpack, pick, use0, use1, await, rewrite, feq_i, feq_l, suffices}
 use types.Run.{stop, fld, of_opd, no_more, and_then, returns, enter}
 use types.ByLocal.{alloc_all, pass_all, free_all, look_at, get, get_in, sets, lands_as}
 use types.Part.{agg, sub, whole}
@@ -50,15 +18,11 @@ use contract.BorrowLft.{◌⊑◌}
 use denote.Exit.{no}
 use denote.RattleType.{RattleType, Valss, owns}
 use denote.Signature.{plain}
-use denote.RawPtr.{Ptr, InBlock, block_ptr, null_ptr, ptr_val, lies_at, in_a_block}
+use denote.RawPtr.{Ptr, block_ptr, null_ptr, ptr_val, in_a_block}
 use denote.Steps.{nothing, only, heard}
 use denote.Param.{layout, bounded}
-use denote.Param.Laws.{param_laws}
 use denote.Builtin.{RawPtr}
 use denote.Struct.Tuple.{Tuple}
-use denote.Struct.Struct.{within}
-use denote.Struct.Owning.{shape}
-use denote.Struct.Lending.{lent_at, lent_at_shr_laws, Lends-lies}
 use denote.Triple.Spec.{triple_of}
 use denote.Triple.Call.{calls_at}
 use denote.Triple.Walked.{Stays, stay_dropped, walk_of}
@@ -148,8 +112,16 @@ place_of_spec 𝓤 𝓛 𝓜 𝓡 wired X Z L LZ g d dx dd met glue md =
     sets ! (of_opd ! (get_in ! (fld ! refl (stop !)) (sub ! 1 refl (whole !)))) refl fw $
     sets ! (agg ! (and_then ! (get ! refl) (no_more !))) refl (tt, (tt, tt)) $
     sets ! (of_opd ! (get ! refl)) refl fw $
-    sets ! (agg ! (and_then ! (get ! refl) (and_then ! (get ! refl) (no_more !)))) refl (and_tt (has_ty (α E.al) hw) fw.0, ((tt,
-    tt), (fw.1, tt))) $
+    sets ! (agg ! (and_then ! (get ! refl) (and_then ! (get ! refl) (no_more !)))) refl (
+      and_tt (has_ty (α E.al) hw) fw.0,
+      (
+        (
+          tt,
+          tt,
+        ),
+        (fw.1, tt),
+      ),
+    ) $
     -- [the handle; nothing; the tokens; the value]
     move ! (3 ∷ []) $ use0 𝓛 (‵ ((fields.Place R).own_val (p, tt) (word p ∷ []))) (fields.place_made R 𝓛 p) $ fjoin ! $
     move ! (0 ∷ 1 ∷ 2 ∷ []) $ fjoin3 ! $ feq_i ! (List Val) (out ∷ []) (out ∷ []) refl $ fjoin ! $

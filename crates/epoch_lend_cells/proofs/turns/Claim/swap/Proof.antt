@@ -1,66 +1,39 @@
 -- `swap` moves the old value out and the new one in.
-use Rattle.std.proofs.Common.{length, ◌≡◌, ◌≢◌, ℕ, suc, ◌+◌, ◌*◌, ◌^◌, ◌<◌, List, [], ◌∷◌, ◌++◌, sym, refl, ap, ◌∙◌}
-use Rattle.std.proofs.Common.{subst, lit<, w64}
-use Rattle.std.specs.Prelude.{Option, Some, None}
-use native.Mathlib.Omega.{arith}
-use mir.Syntax.{a_type, named}
-use mir.Val.{Val, vunit, vint, vptr, vstruct, vcons, vnil, of_list}
+use Rattle.std.proofs.Common.{◌≡◌, ℕ, List, [], ◌∷◌, ◌++◌, sym, refl, ap}
+use Rattle.std.proofs.Common.{subst}
+use Rattle.std.specs.Prelude.{Some}
+use mir.Syntax.{a_type}
+use mir.Val.{Val, vstruct, of_list}
 use mir.MapTy.{inst_fn}
-use prog.Atomic.{either}
 use base.Fraction.{full_share}
-use base.Stored.{gnum}
-use base.Logic.{SProp, ent, sep, wand, emp, id⊢, via, apply∗}
-use base.Fml.{Lft, Share, Fml, ftrue, fsep, fex, feq, flft, flent, fobs, fbor, fobor, fhide}
-use base.Before.{before}
+use base.Logic.{SProp, ent, emp}
+use base.Fml.{fsep, fex, feq}
 use types.Logic.{sem}
-use types.Kit.{‵, raw, ◌⊛◌, some, given, later, mean, at_ret, ◌$◌, ◌∵◌, !, qed, by, move, keep, drop, split, split3, join}
-use types.Kit.{fsplit, fsplit3, fjoin, fjoin3, fpick, fpack, pick, learn, use0, use1, use2, use3, await, rewrite, feq_i, flt_i}
-use types.Run.{stop, fld, addr, lit, of_opd, no_more, and_then, first, blocks, exec, Calls-last, returns, enter}
-use types.Run.{unit_lit, load, assigns, look_raw, store_raw}
+use types.Kit.{‵, raw, ◌⊛◌, given, at_ret, ◌$◌, ◌∵◌, !, qed, by, move, keep, split, join}
+use types.Kit.{fsplit, fsplit3, fjoin, fpick, fpack, learn, use0, use1, rewrite, feq_i}
+use types.Run.{stop, fld, of_opd, no_more, and_then, first, blocks, exec, returns, enter}
+use types.Run.{load, assigns, look_raw, store_raw}
 use types.ByLocal.{sets_last, is}
-use types.ByLocal.{alloc_all, pass_all, free_all, look_at, get, get_in, through, sets, lands_last, env}
+use types.ByLocal.{alloc_all, pass_all, free_all, look_at, get, get_in, through, sets, env}
 use types.Part.{agg, sub, whole}
-use types.Na.{before_dup}
 use contract.Running.{tables}
 use contract.Monad.{fact, fact_i}
-use contract.BorrowLft.{◌⊑◌}
-use contract.Shared.{Lends-one}
-use denote.Exit.{yes, no}
+use denote.Exit.{no}
 use denote.RattleType.{RattleType, Valss, owns}
-use denote.Signature.{types_at, plain, named_lft}
-use denote.RawPtr.{Ptr, RawPtr, block_ptr, ptr_val, lies_at, rawptr_vals, rawptr_Tells}
+use denote.Signature.{types_at, plain}
+use denote.RawPtr.{Ptr, block_ptr, ptr_val, lies_at}
 use denote.Steps.{nothing, heard}
-use denote.Opens.{unhide}
-use denote.Memory.{hidden_shr}
 use denote.Param.{param, layouts}
 use denote.Param.Laws.{param_laws}
-use denote.Builtin.{RefOf, u64, unit}
-use denote.Ref.{shr_vals, shr_Tells}
-use denote.Plain.{uint_vals, uint_Tells}
-use denote.Struct.Lending.{lent_at, lent_at_shr_laws, lent_out, Lends-lies}
 use denote.Triple.Entry.{alive}
 use denote.Triple.Walked.{Stays, stay_dropped, walk_of, Goes-dropped}
 use Rattle.core.proofs.atomic.Steps.{tail}
-use Rattle.core.specs.contracts.marker.PhantomData as marker
-use Rattle.core.specs.Sync.RawAtomic.{asks, always}
-use Rattle.atomic_table.proofs.Walks.{proved, leaves}
-use Rattle.atomic_table.proofs.Calls.{fm, seq_cst, found, finds, stored, has_stored, loads, stores, exchanges}
-use Rattle.epoch_lend.specs.Posts.{guard_shares, IsAmong, logs_of}
-use Rattle.epoch_lend.specs.Loans.{Loan, Within, glance_owns, marked_owns, pocket}
-use Rattle.epoch_lend.proofs.Fields.{Token, hand_of, hand_typed, ptr_typed, pair_of, looked_typed, Words, hand_made}
-use Rattle.epoch_lend.proofs.Fields.{word, word_typed, marked_typed, Found, found_made}
-use Rattle.epoch_lend.proofs.PartSteps.{freezes, Frozen, tokens_whole}
-use Rattle.epoch_lend.proofs.Reading as reading
-use Rattle.epoch_lend.specs.contracts.post.Guard as lent_guard
-use Rattle.epoch_lend.specs.contracts.lending.Glance as glance
-use Rattle.epoch_lend.specs.contracts.lending.Marked as marked_is
-use Rattle.epoch_lend.specs.contracts.part.Part as part_is
-use Rattle.epoch_lend.proofs.PartFields as part_fields
-use Rattle.epoch_lend.specs.Parted.{tokens, part_owns}
-use Rattle.epoch_lend_cells.specs.Turning.{TurnNames, TurnOf, turn_is, turn_shares, claim_has, claim_of, vacancy_of}
+use Rattle.atomic_table.proofs.Walks.{leaves}
+use Rattle.epoch_lend.proofs.Fields.{ptr_typed}
+use Rattle.epoch_lend.proofs.Fields.{word, word_typed}
+use Rattle.epoch_lend_cells.specs.Turning.{TurnNames, claim_of}
 use Rattle.epoch_lend_cells.specs.contracts.turns.Turns as turns_is
 use Rattle.epoch_lend_cells.specs.contracts.turns.Claim as claim_is
-use Rattle.epoch_lend_cells.specs.contracts.turns.Vacancy as vacancy_is
 use Rattle.epoch_lend_cells.specs.contracts.turns.Name as name_is
 use Rattle.epoch_lend_cells.proofs.TurnFields as fields
 use Rattle.epoch_lend_cells.proofs.Turned as steps
@@ -97,7 +70,8 @@ swap_spec 𝓤 𝓛 𝓜 𝓡 wired X L =
     let p0 = plain (λ _. Cr) in
     let p1 = plain (λ _. R) in
     let hs : Stays En.signature.params En.kept = (stay_dropped p0 no, (stay_dropped p1 no, tt)) in
-    proved_at 𝓛 En hs c 𝓜 𝓡 (Goes-dropped 𝓛 1 p0 no (λ κs x f. refl), (Goes-dropped 𝓛 1 p1 no (λ κs x f. refl), tt)) (#self
+    proved_at 𝓛 En hs c 𝓜 𝓡 (Goes-dropped 𝓛 1 p0 no (λ κs x f. refl), (Goes-dropped 𝓛 1 p1 no (λ κs x f. refl), tt))
+        (#self
     inst) fn closed (λ z are.
     let κs = z.0.0 in
     let qs = z.0.1 in
@@ -117,7 +91,8 @@ swap_spec 𝓤 𝓛 𝓜 𝓡 wired X L =
     subst (λ (vss : List Val × (List Val × Unit {0})). ent 𝓤 ((walk_of 𝓛 En hs c).pre (At vss)) (WpFn 𝓤 H 𝓣.C 𝓣.Λ fn
     ((walk_of 𝓛 En hs c).args (At vss)) ((walk_of 𝓛 En hs c).post (At vss))))
     (λ i. (sym (fields.claim_told R p z.0.4.0 are.0.0) i, (sym got.1 i, tt))) (
-    qed 𝓛 ((raw (alive 𝓛 En.signature κs qs) ⊛ ‵ (owns (types_at En.signature.params κs) a y.0.4)) ∷ raw (fact 𝓤 _) ∷ raw (fact
+    qed 𝓛 ((raw (alive 𝓛 En.signature κs qs) ⊛ ‵ (owns (types_at En.signature.params κs) a y.0.4)) ∷ raw (fact 𝓤 _) ∷
+        raw (fact
     𝓤 (h.right ≡ 1)) ∷ []) ∵
     keep ! (2 ∷ 0 ∷ []) $ heard ! (h.right ≡ 1) (λ asked. split ! $ move ! (1 ∷ []) $ fsplit3 ! $ fsplit ! $
     -- [its bytes; the claim; the new value; nothing; the tokens]
@@ -125,7 +100,8 @@ swap_spec 𝓤 𝓛 𝓜 𝓡 wired X L =
     rewrite ! 0 (λ (k : ℕ). ‵ (claim_of R p h.state h.word h.value k)) asked refl $
     use1 𝓛 (‵ (fex R.Denot (steps.Opened 𝓛 R d h.word h.value p))) (steps.claim_opens 𝓛 R d h.word h.value p) $
     fpick ! (λ old. fpick ! (λ is_old. fsplit ! $ move ! (1 ∷ []) $
-    use1 𝓛 (given (InBlock p) (‵ (lies_at R full_share p old))) (fact_use 𝓤 _ (lies_in_block 𝓛 R full_share p old) (guard_i 𝓤
+    use1 𝓛 (given (InBlock p) (‵ (lies_at R full_share p old))) (fact_use 𝓤 _ (lies_in_block 𝓛 R full_share p old)
+        (guard_i 𝓤
     (InBlock p) (sem 𝓛 (lies_at R full_share p old)))) $ learn ! (λ inb. let at : p ≡ block_ptr b o = at_block p inb in
     rewrite ! 0 (λ (z : Ptr). ‵ (lies_at R full_share z old)) at refl $
     enter ! 𝓣.C 𝓣.Λ fn (word p ∷ vy ∷ []) Post $ alloc_all ! (λ l. pass_all ! refl (word_typed p, (fy, tt)) $
@@ -135,17 +111,21 @@ swap_spec 𝓤 𝓛 𝓜 𝓡 wired X L =
     rewrite ! 0 (λ (ws : List Val). ‵ (R.own_val old ws)) was.1 refl $
     rewrite ! 1 (λ (ws : List Val). ‵ (cell_at full_share R.mir ws b o)) was.1 refl $ move ! (1 ∷ []) $
     -- [the cell; the old value; obs; the new value; the tokens]
-    sets ! (of_opd ! (get_in ! (fld ! refl (stop !)) (sub ! 0 refl (whole !)))) refl (ptr_typed p) $ first ! $ blocks ! $
+    sets ! (of_opd ! (get_in ! (fld ! refl (stop !)) (sub ! 0 refl (whole !)))) refl (ptr_typed p) $ first ! $ blocks
+        ! $
     sets ! (is ! (of_opd ! (get ! refl)) (ap ptr_val at)) refl (tt, tt) $
-    sets ! (of_opd ! (load ! (through ! refl (stop !)) (look_raw ! 0 refl))) refl fo $ sets ! (of_opd ! (get ! refl)) refl fy $
+    sets ! (of_opd ! (load ! (through ! refl (stop !)) (look_raw ! 0 refl))) refl fo $ sets ! (of_opd ! (get ! refl))
+        refl fy $
     assigns ! (of_opd ! (get ! refl)) (through ! refl (stop !)) (store_raw ! 0 refl fy) $
     sets_last ! (of_opd ! (get ! refl)) refl fo $
     exec ! 𝓣.C 𝓣.Λ Ev (tail (tail fn.body)) (at_ret Ev Post) $
     sets ! (of_opd ! (get ! refl)) refl fo $
     sets ! (agg ! (and_then ! (get ! refl) (no_more !))) refl (word_typed p) $
     sets ! (of_opd ! (get ! refl)) refl fo $
-    sets ! (agg ! (and_then ! (get ! refl) (and_then ! (get ! refl) (no_more !)))) refl (fields.swapped_typed E p vo fo) $
-    move ! (0 ∷ 3 ∷ []) $ fjoin ! $ fpack ! (List Val) (λ us. fsep (cell_at full_share R.mir us b o) (R.own_val x us)) (vy ∷ []) $
+    sets ! (agg ! (and_then ! (get ! refl) (and_then ! (get ! refl) (no_more !)))) refl (fields.swapped_typed E p vo
+        fo) $
+    move ! (0 ∷ 3 ∷ []) $ fjoin ! $ fpack ! (List Val) (λ us. fsep (cell_at full_share R.mir us b o) (R.own_val x us))
+        (vy ∷ []) $
     rewrite ! 0 (λ (z : Ptr). ‵ (lies_at R full_share z x)) (sym at) refl $ move ! (2 ∷ 0 ∷ []) $ fjoin ! $
     -- [the claim; the old value; the tokens]
     let r : Cr.Denot = record { at = p; right = 1; state = h.state; word = h.word; value = Some x } in
@@ -153,7 +133,8 @@ swap_spec 𝓤 𝓛 𝓜 𝓡 wired X L =
     let Value : Type 0 = Some old ≡ h.value in
     let Told : Type 0 = (r.right ≡ 1) × (r.value ≡ Some x) × (h.state ≡ h.state) × (h.word ≡ h.word) × (p ≡ p) in
     use0 𝓛 (‵ ((fields.Claim R).own_val (p, tt) (word p ∷ []))) (fields.claim_made R 𝓛 p) $ fjoin ! $ nothing ! $
-    move ! (2 ∷ 0 ∷ []) $ fjoin ! $ move ! (1 ∷ 0 ∷ []) $ fjoin ! $ feq_i ! (List Val) (v ∷ []) (v ∷ []) refl $ fjoin ! $
+    move ! (2 ∷ 0 ∷ []) $ fjoin ! $ move ! (1 ∷ 0 ∷ []) $ fjoin ! $ feq_i ! (List Val) (v ∷ []) (v ∷ []) refl $ fjoin
+        ! $
     fpack ! (Valss (Cr ∷ R ∷ [])) (λ uss. fsep (feq (List Val) (v ∷ []) (vstruct (of_list (uss.0 ++ (uss.1.0 ++
     []))) ∷ [])) (owns (Cr ∷ R ∷ []) (r, (old, tt)) uss)) (word p ∷ [], (vo ∷ [], tt)) $
     use0 𝓛 (raw (fact 𝓤 Told)) (fact_i 𝓤 Told (emp 𝓤) (refl, refl, refl, refl, refl)) $

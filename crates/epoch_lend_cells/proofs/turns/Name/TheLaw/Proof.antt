@@ -1,19 +1,17 @@
 -- A `&` to a name shows the value of its turn. Assumes `Logic`.
 use mathlib.Core.List.{[], ◌∷◌}
 use Rattle.std.proofs.Common.{ℕ}
-use base.Logic.{sep, ent, snd∗, upd_i, id⊢}
+use base.Logic.{sep, ent, snd∗}
 use base.Before.{before}
-use base.Fml.{Lft, Share, Fml, ftrue, fsep, fseps, fwand, fupd, fdead, fbor, flft}
+use base.Fml.{Lft, Share, Fml, fbor, flft}
 use types.Logic.{Logic, sem}
 use seplogic.Ra.Ura.{Ura}
-use types.Kit.{‵, ◌⊛◌, ◌$◌, ◌∵◌, !, qed, move, keep, split, fsplit, fsplit3, assume, suffices, use1, updating, now, done}
+use types.Kit.{‵, ◌⊛◌, ◌$◌, ◌∵◌, !, qed, move, keep, split, use1, updating, now, done}
 use types.Tokens.{bor_open, obor_close}
 use denote.RattleType.{RattleType}
-use denote.Builtin.{u64, unit}
 use denote.Param.Laws.{Laws}
 use denote.Param.Shared.{copy_shared}
 use denote.Sharing.{said}
-use denote.Steps.{nothing}
 use denote.Struct.Laws.{u64-copy, field_copy}
 use denote.Struct.Field.{u64-field}
 use denote.Struct.Lending.{of_Lends, Lends}
@@ -40,7 +38,8 @@ module _ {M : Type 1} {𝓤 : Ura M} (𝓛 : Logic 𝓤) (R : RattleType) (log t
   name_lends l κ ts inc sp = by_one 𝓛 κ ts sp (A.bor κ P) (sem 𝓛 P) (by_token κ)
 
 pub shares : (T : RattleType) (L : Laws T) → statement T L
-shares T L = of_Lends (C.struct T) (C.the_codes T.Denot T.coded (marker.the_row T).coded) (C.the_heap T) (C.the_lent T) (λ d p. record {
+shares T L = of_Lends (C.struct T) (C.the_codes T.Denot T.coded (marker.the_row T).coded) (C.the_heap T) (C.the_lent
+    T) (λ d p. record {
   contraction = λ M 𝓤 𝓛 κ. turn_dup 𝓛 T d.log d.turn (d.value, d.lifetime);
   mono = λ M 𝓤 𝓛 κ' κ. snd∗ 𝓤 (sem 𝓛 (before κ' κ)) (sem 𝓛 (turn_is T d.log d.turn (d.value, d.lifetime)));
 }) (

@@ -1,65 +1,43 @@
 -- `claim` is one compare-exchange, which takes the place where it was vacant.
-use Rattle.std.proofs.Common.{length, ◌≡◌, ◌≢◌, ℕ, suc, ◌+◌, ◌*◌, ◌^◌, ◌<◌, List, [], ◌∷◌, ◌++◌, sym, refl, ap, ◌∙◌}
-use Rattle.std.proofs.Common.{subst, lit<, w64}
+use Rattle.std.proofs.Common.{◌≡◌, ◌≢◌, ℕ, ◌+◌, ◌*◌, ◌^◌, List, [], ◌∷◌, ◌++◌, sym, refl, ◌∙◌}
+use Rattle.std.proofs.Common.{subst, w64}
 use Rattle.std.specs.Prelude.{Option, Some, None}
-use native.Mathlib.Omega.{arith}
 use mir.Syntax.{a_type, named}
-use mir.Val.{Val, vunit, vint, vptr, vstruct, vcons, vnil, of_list}
+use mir.Val.{Val, vint, vptr, vstruct, of_list}
 use mir.MapTy.{inst_fn}
 use prog.Atomic.{either}
-use base.Fraction.{full_share}
-use base.Stored.{gnum}
-use base.Logic.{SProp, ent, sep, wand, emp, id⊢, via, apply∗}
-use base.Fml.{Lft, Share, Fml, ftrue, fsep, fex, feq, flft, flent, fobs, fbor, fobor, fhide}
-use base.Before.{before}
+use base.Logic.{SProp, ent, sep, wand, emp, via, apply∗}
+use base.Fml.{Lft, Share, Fml, ftrue, fsep, feq, flft, fbor}
 use types.Logic.{sem}
-use types.Kit.{‵, raw, ◌⊛◌, some, given, later, mean, at_ret, ◌$◌, ◌∵◌, !, qed, by, move, keep, drop, split, split3, join}
-use types.Kit.{fsplit, fsplit3, fjoin, fjoin3, fpick, fpack, pick, learn, use0, use1, use2, use3, await, rewrite, feq_i, flt_i}
-use types.Run.{stop, fld, addr, lit, of_opd, no_more, and_then, first, blocks, exec, Calls-last, returns, enter}
-use types.Run.{unit_lit}
-use types.ByLocal.{alloc_all, pass_all, free_all, look_at, get, get_in, through, sets, lands_last, env}
-use types.Part.{agg, sub, whole}
-use types.Na.{before_dup}
+use types.Kit.{‵, raw, ◌⊛◌, some, given, later, mean, at_ret, ◌$◌, ◌∵◌, !, qed, by, move, keep, split, join}
+use types.Kit.{fsplit, fjoin, fjoin3, fpick, fpack, pick, learn, use0, use1, use2, use3, await, rewrite, feq_i, flt_i}
+use types.Run.{stop, fld, addr, of_opd, no_more, and_then, first, blocks, exec, Calls-last, returns, enter}
+use types.ByLocal.{alloc_all, pass_all, free_all, look_at, get, through, sets, lands_last, env}
+use types.Part.{agg}
 use contract.Running.{tables}
 use contract.Monad.{fact, fact_i}
-use contract.BorrowLft.{◌⊑◌}
 use contract.Shared.{Lends-one}
-use denote.Exit.{yes, no}
+use denote.Exit.{yes}
 use denote.RattleType.{RattleType, Valss, owns}
-use denote.Signature.{types_at, plain, named_lft}
-use denote.RawPtr.{Ptr, RawPtr, block_ptr, ptr_val, lies_at, rawptr_vals, rawptr_Tells}
+use denote.Signature.{types_at, plain}
+use denote.RawPtr.{Ptr, RawPtr, block_ptr, ptr_val, rawptr_vals, rawptr_Tells}
 use denote.Steps.{nothing, heard}
 use denote.Opens.{unhide}
-use denote.Memory.{hidden_shr}
 use denote.Param.{param, layouts}
 use denote.Param.Laws.{param_laws}
-use denote.Builtin.{RefOf, u64, unit}
+use denote.Builtin.{RefOf, u64}
 use denote.Ref.{shr_vals, shr_Tells}
 use denote.Plain.{uint_vals, uint_Tells}
-use denote.Struct.Lending.{lent_at, lent_at_shr_laws, lent_out, Lends-lies}
-use denote.Triple.Entry.{alive}
 use denote.Triple.Walked.{Stays, stay_dropped, walk_of, Goes-dropped}
 use Rattle.core.proofs.atomic.Steps.{tail}
-use Rattle.core.specs.contracts.marker.PhantomData as marker
 use Rattle.core.specs.Sync.RawAtomic.{asks, always}
 use Rattle.atomic_table.proofs.Walks.{proved, leaves}
-use Rattle.atomic_table.proofs.Calls.{fm, seq_cst, found, finds, stored, has_stored, loads, stores, exchanges}
-use Rattle.epoch_lend.specs.Posts.{guard_shares, IsAmong, logs_of}
-use Rattle.epoch_lend.specs.Loans.{Loan, Within, glance_owns, marked_owns, pocket}
-use Rattle.epoch_lend.proofs.Fields.{Token, hand_of, hand_typed, ptr_typed, pair_of, looked_typed, Words, hand_made}
-use Rattle.epoch_lend.proofs.Fields.{word, word_typed, marked_typed, Found, found_made}
-use Rattle.epoch_lend.proofs.PartSteps.{freezes, Frozen, tokens_whole}
-use Rattle.epoch_lend.proofs.Reading as reading
-use Rattle.epoch_lend.specs.contracts.post.Guard as lent_guard
-use Rattle.epoch_lend.specs.contracts.lending.Glance as glance
-use Rattle.epoch_lend.specs.contracts.lending.Marked as marked_is
-use Rattle.epoch_lend.specs.contracts.part.Part as part_is
-use Rattle.epoch_lend.proofs.PartFields as part_fields
-use Rattle.epoch_lend.specs.Parted.{tokens, part_owns}
-use Rattle.epoch_lend_cells.specs.Turning.{TurnNames, TurnOf, turn_is, turn_shares, claim_has, claim_of, vacancy_of}
+use Rattle.atomic_table.proofs.Calls.{fm, found, finds, exchanges}
+use Rattle.epoch_lend.proofs.Fields.{ptr_typed, pair_of}
+use Rattle.epoch_lend.proofs.Fields.{word, word_typed, marked_typed}
+use Rattle.epoch_lend_cells.specs.Turning.{TurnNames, claim_of}
 use Rattle.epoch_lend_cells.specs.contracts.turns.Turns as turns_is
 use Rattle.epoch_lend_cells.specs.contracts.turns.Claim as claim_is
-use Rattle.epoch_lend_cells.specs.contracts.turns.Vacancy as vacancy_is
 use Rattle.epoch_lend_cells.specs.contracts.turns.Name as name_is
 use Rattle.epoch_lend_cells.proofs.TurnFields as fields
 use Rattle.epoch_lend_cells.proofs.Turned as steps
@@ -87,10 +65,14 @@ claim_spec 𝓤 𝓛 𝓜 𝓡 wired X L =
     let p2 = plain (λ _. u64) in
     let p3 = plain (λ _. u64) in
     let p4 = plain (λ _. u64) in
-    let hs : Stays En.signature.params En.kept = (stay_dropped p0 yes, (stay_dropped p1 yes, (stay_dropped p2 yes, (stay_dropped p3 yes, (stay_dropped p4 yes, tt))))) in
-    proved 𝓛 En hs c 𝓜 𝓡 (Goes-dropped 𝓛 2 p0 yes (λ κs x f. refl), (Goes-dropped 𝓛 2 p1 yes (λ κs x f. refl), (Goes-dropped 𝓛 2 p2 yes (λ κs x f. refl), (Goes-dropped 𝓛 2 p3 yes (λ κs x f. refl), (Goes-dropped 𝓛 2 p4 yes (λ κs x f. refl), tt))))) (#self inst) fn closed
+    let hs : Stays En.signature.params En.kept = (stay_dropped p0 yes, (stay_dropped p1 yes, (stay_dropped p2 yes,
+        (stay_dropped p3 yes, (stay_dropped p4 yes, tt))))) in
+    proved 𝓛 En hs c 𝓜 𝓡 (Goes-dropped 𝓛 2 p0 yes (λ κs x f. refl), (Goes-dropped 𝓛 2 p1 yes (λ κs x f. refl),
+        (Goes-dropped 𝓛 2 p2 yes (λ κs x f. refl), (Goes-dropped 𝓛 2 p3 yes (λ κs x f. refl), (Goes-dropped 𝓛 2 p4 yes
+        (λ κs x f. refl), tt))))) (#self inst) fn closed
     (λ κs. (shr_vals, (rawptr_vals, (uint_vals w64, (uint_vals w64, (uint_vals w64, tt))))))
-    (λ κs. (shr_Tells (named 0) κs.0 Row, (rawptr_Tells, (uint_Tells w64, (uint_Tells w64, (uint_Tells w64, tt)))))) (λ κs qs bounds a gh are.
+    (λ κs. (shr_Tells (named 0) κs.0 Row, (rawptr_Tells, (uint_Tells w64, (uint_Tells w64, (uint_Tells w64, tt))))))
+        (λ κs qs bounds a gh are.
     let b : ℕ = a.0.ref_ptr.0 in
     let o : ℕ = a.0.ref_ptr.1 in
     let κ : Lft = κs.0 in
@@ -103,26 +85,67 @@ claim_spec 𝓤 𝓛 𝓜 𝓡 wired X L =
     let Asked : Type 0 = (p ≡ d.at) × (old ≡ 4 * t) × (new ≡ 4 * t + 1) in
     let others : Fml = fsep (flft κs.1.0 qs.1.0) ftrue in
     let us : List Val = vptr b o ∷ ptr_val p ∷ vint w64 t ∷ vint w64 old ∷ vint w64 new ∷ [] in
-    let y : (walk_of 𝓛 En hs c).Ghost = ((κs, qs, bounds, a, (vptr b o ∷ [], (ptr_val p ∷ [], (vint w64 t ∷ [], (vint w64 old
-    ∷ [], (vint w64 new ∷ [], tt)))))), gh) in
+    let y : (walk_of 𝓛 En hs c).Ghost = (
+      (
+        κs,
+        qs,
+        bounds,
+        a,
+        (
+          vptr b o ∷ [],
+          (
+            ptr_val p ∷ [],
+            (
+              vint w64 t ∷ [],
+              (
+                vint w64 old
+                    ∷ [],
+                (vint w64 new ∷ [], tt),
+              ),
+            ),
+          ),
+        ),
+      ),
+      gh,
+    ) in
     let Post : Val → SProp 𝓤 = (walk_of 𝓛 En hs c).post y in
     qed 𝓛 (((‵ (flft κ q) ⊛ ‵ others) ⊛ ‵ (owns (types_at En.signature.params κs) a y.0.4)) ∷ raw (fact 𝓤 _) ∷ raw
     (fact 𝓤 Asked) ∷ []) ∵
     keep ! (2 ∷ 0 ∷ []) $ heard ! Asked (λ asked. split ! $ split ! $ move ! (2 ∷ []) $ fsplit ! $ fsplit ! $
     keep ! (1 ∷ 3 ∷ 4 ∷ []) $
-    enter ! 𝓣.C 𝓣.Λ fn us Post $ alloc_all ! (λ l. pass_all ! refl ((tt, tt), (ptr_typed p, ((tt, record { fits =
-    are.1.1.0.1 }), ((tt, record { fits = are.1.1.1.0.1 }), ((tt, record { fits = are.1.1.1.1.0.1 }), tt))))) $
+    enter ! 𝓣.C 𝓣.Λ fn us Post $ alloc_all ! (λ l. pass_all ! refl (
+      (tt, tt),
+      (
+        ptr_typed p,
+        (
+          (
+            tt,
+            record {
+              fits =
+                  are.1.1.0.1;
+            },
+          ),
+          ((tt, record { fits = are.1.1.1.0.1 }), ((tt, record { fits = are.1.1.1.1.0.1 }), tt)),
+        ),
+      ),
+    ) $
     let Ev = env fn.locals l in
     unhide ! $ fpick ! (λ α. fsplit ! $ move ! (0 ∷ 2 ∷ []) $
-    use2 𝓛 (later (some (λ (s : Share). ‵ (flft α s) ⊛ raw (wand 𝓤 (𝓛.A.lft α s) (H.⇛ (𝓛.A.lft κ q)))))) (Lends-one 𝓛 𝓜 𝓡
+    use2 𝓛 (later (some (λ (s : Share). ‵ (flft α s) ⊛ raw (wand 𝓤 (𝓛.A.lft α s) (H.⇛ (𝓛.A.lft κ q)))))) (Lends-one 𝓛
+        𝓜 𝓡
     κ α q) $ await ! tt $ pick ! (λ s. split ! $
     let W : ℕ → Fml = steps.Claimed 𝓛 R d t in
     let after : ℕ → Fml = λ n. fsep (flft α s) (W n) in first ! $ blocks ! $
     sets ! (addr ! (through ! refl (fld ! refl (stop !)))) refl (tt, tt) $ nothing ! $ move ! (3 ∷ 1 ∷ 0 ∷ []) $
     use3 𝓛 (raw (𝓣.C _ (vptr b (o + 0) ∷ vint w64 old ∷ vint w64 new ∷ []) (λ u. mean 𝓛 (found after u))))
-    (via 𝓤 _ (subst (λ (k : ℕ × ℕ). ent 𝓤 (sep 𝓤 (𝓛.A.inv (fbor α (steps.Memory 𝓛 R d α s b o))) (sep 𝓤 (𝓛.A.lft α s) (sem 𝓛
-    ftrue))) (asks 𝓛 (block_ptr b (o + 0)) (λ n. either (Rattle.std.specs.Prelude.eqb n k.0) k.1 n) always after)) (λ i. (sym
-    asked.1 i, sym asked.2 i)) (steps.claims_it 𝓛 R d α s b o t)) (exchanges 𝓛 𝓜 𝓡 (code.calls-atomic_table::exchange 𝓡.env
+    (via 𝓤 _ (subst (λ (k : ℕ × ℕ). ent 𝓤 (sep 𝓤 (𝓛.A.inv (fbor α (steps.Memory 𝓛 R d α s b o))) (sep 𝓤 (𝓛.A.lft α s)
+        (sem 𝓛
+    ftrue))) (asks 𝓛 (block_ptr b (o + 0)) (λ n. either (Rattle.std.specs.Prelude.eqb n k.0) k.1 n) always after)) (λ
+        i. (
+      sym
+          asked.1 i,
+      sym asked.2 i,
+    )) (steps.claims_it 𝓛 R d α s b o t)) (exchanges 𝓛 𝓜 𝓡 (code.calls-atomic_table::exchange 𝓡.env
     wired) (block_ptr b (o + 0)) old new are.1.1.1.0.1 are.1.1.1.1.0.1 after)) $
     Calls-last ! (fm 𝓛 𝓜 𝓡) (found after) (and_then ! (get ! refl) (and_then ! (get ! refl) (and_then ! (get ! refl)
     (no_more !)))) (λ u. finds ! after (λ n fits.
@@ -130,9 +153,11 @@ claim_spec 𝓤 𝓛 𝓜 𝓡 wired X L =
     sets ! (of_opd ! (get ! refl)) refl (tt, record { fits = fits }) $
     sets ! (agg ! (and_then ! (get ! refl) (no_more !))) refl (word_typed p) $
     sets ! (agg ! (and_then ! (get ! refl) (and_then ! (get ! refl) (no_more !)))) refl (marked_typed p n fits) $
-    fsplit ! $ move ! (0 ∷ 2 ∷ []) $ use2 𝓛 (later (‵ (flft κ q))) (apply∗ 𝓤 (𝓛.A.lft α s) (H.⇛ (𝓛.A.lft κ q))) $ await ! tt $
+    fsplit ! $ move ! (0 ∷ 2 ∷ []) $ use2 𝓛 (later (‵ (flft κ q))) (apply∗ 𝓤 (𝓛.A.lft α s) (H.⇛ (𝓛.A.lft κ q))) $
+        await ! tt $
     move ! (0 ∷ 2 ∷ []) $ join ! $ move ! (1 ∷ []) $
-    use1 𝓛 (some (λ (g : ℕ × Option R.Denot). given (steps.Gains 𝓛 R d (4 * t) n g.0) (‵ (claim_of R d.at d.state (4 * t +
+    use1 𝓛 (some (λ (g : ℕ × Option R.Denot). given (steps.Gains 𝓛 R d (4 * t) n g.0) (‵ (claim_of R d.at d.state (4 *
+        t +
     1) g.1 g.0)))) (steps.gains 𝓛 R d t n) $ pick ! (λ g. learn ! (λ so.
     rewrite ! 0 (λ (z : Ptr × ℕ). ‵ (claim_of R z.0 d.state z.1 g.1 g.0)) (λ i. (sym asked.0 i, sym asked.2 i)) refl $
     let h : Cr.Denot = record { at = p; right = g.0; state = d.state; word = new; value = g.1 } in
@@ -143,7 +168,13 @@ claim_spec 𝓤 𝓛 𝓜 𝓡 wired X L =
     move ! (0 ∷ 2 ∷ 1 ∷ []) $ fjoin3 ! $ feq_i ! (List Val) (v ∷ []) (v ∷ []) refl $ fjoin ! $
     fpack ! (Valss (u64 ∷ Cr ∷ [])) (λ uss. fsep (feq (List Val) (v ∷ []) (vstruct (of_list (uss.0 ++ (uss.1.0 ++
     []))) ∷ [])) (owns (u64 ∷ Cr ∷ []) (n, (h, tt)) uss)) (vint w64 n ∷ [], (word p ∷ [], tt)) $
-    use0 𝓛 (raw (fact 𝓤 Told)) (fact_i 𝓤 Told (emp 𝓤) ((λ e. so.0 (e ∙ asked.1)), (λ ne. so.1 (λ e. ne (e ∙ sym asked.1))),
-    refl, refl, asked.0)) $ nothing ! $ nothing ! $ fjoin ! $ nothing ! $ fjoin ! $ nothing ! $ fjoin ! $ nothing ! $ fjoin ! $ nothing ! $ fjoin ! $
+    use0 𝓛 (raw (fact 𝓤 Told)) (fact_i 𝓤 Told (emp 𝓤) (
+      (λ e. so.0 (e ∙ asked.1)),
+      (λ ne. so.1 (λ e. ne (e ∙ sym asked.1))),
+      refl,
+      refl,
+      asked.0,
+    )) $ nothing ! $ nothing ! $ fjoin ! $ nothing ! $ fjoin ! $ nothing ! $ fjoin ! $ nothing ! $ fjoin ! $ nothing !
+        $ fjoin ! $
     returns ! (look_at ! 0 refl) $ free_all ! refl $ keep ! (3 ∷ 0 ∷ 2 ∷ 1 ∷ []) $
     by ! (leaves 𝓛 En hs c y v (n, h) (tt, (tt, (tt, (tt, (tt, tt))))) (tt, (tt, (tt, (tt, (tt, tt)))))))))))))))

@@ -1,33 +1,26 @@
 -- `look` is one plain load, and the glance has what it gained.
-use Rattle.std.proofs.Common.{length, ◌≡◌, ◌≢◌, ℕ, suc, ◌+◌, ◌*◌, ◌^◌, ◌<◌, List, [], ◌∷◌, ◌++◌, sym, refl, ap, ◌∙◌}
-use Rattle.std.proofs.Common.{subst, lit<, w64}
-use Rattle.std.specs.Prelude.{Option, Some, None}
-use native.Mathlib.Omega.{arith}
+use Rattle.std.proofs.Common.{◌≡◌, ◌≢◌, ℕ, ◌+◌, ◌*◌, ◌^◌, List, [], ◌∷◌, ◌++◌, sym, refl, ◌∙◌}
+use Rattle.std.proofs.Common.{lit<, w64}
 use mir.Syntax.{a_type, named}
-use mir.Val.{Val, vunit, vint, vptr, vstruct, vcons, vnil, of_list}
+use mir.Val.{Val, vint, vptr, vstruct, of_list}
 use mir.MapTy.{inst_fn}
-use prog.Atomic.{either}
-use base.Fraction.{full_share}
-use base.Stored.{gnum}
-use base.Logic.{SProp, ent, sep, wand, emp, id⊢, via, apply∗}
-use base.Fml.{Lft, Share, Fml, ftrue, fsep, fex, feq, flft, flent, fobs, fbor, fobor, fhide}
+use base.Logic.{SProp, wand, emp, via, apply∗}
+use base.Fml.{Lft, Share, Fml, ftrue, fsep, feq, flft, fobor, fhide}
 use base.Before.{before}
-use types.Logic.{sem}
-use types.Kit.{‵, raw, ◌⊛◌, some, given, later, mean, at_ret, ◌$◌, ◌∵◌, !, qed, by, move, keep, drop, split, split3, join}
-use types.Kit.{fsplit, fsplit3, fjoin, fjoin3, fpick, fpack, pick, learn, use0, use1, use2, use3, await, rewrite, feq_i, flt_i}
+use types.Kit.{‵, raw, ◌⊛◌, some, given, later, mean, at_ret, ◌$◌, ◌∵◌, !, qed, by, move, keep, drop, split, split3}
+use types.Kit.{join}
+use types.Kit.{fsplit, fjoin, fjoin3, fpick, fpack, pick, learn, use0, use1, use2, use3, await, rewrite, feq_i, flt_i}
 use types.Run.{stop, fld, addr, lit, of_opd, no_more, and_then, first, blocks, exec, Calls-last, returns, enter}
-use types.Run.{unit_lit}
-use types.ByLocal.{alloc_all, pass_all, free_all, look_at, get, get_in, through, sets, lands_last, env}
-use types.Part.{agg, sub, whole}
+use types.ByLocal.{alloc_all, pass_all, free_all, look_at, get, through, sets, lands_last, env}
+use types.Part.{agg}
 use types.Na.{before_dup}
 use contract.Running.{tables}
 use contract.Monad.{fact, fact_i}
-use contract.BorrowLft.{◌⊑◌}
 use contract.Shared.{Lends-one}
-use denote.Exit.{yes, no}
+use denote.Exit.{yes}
 use denote.RattleType.{RattleType, Valss, owns}
 use denote.Signature.{types_at, plain, named_lft}
-use denote.RawPtr.{Ptr, RawPtr, block_ptr, ptr_val, lies_at, rawptr_vals, rawptr_Tells}
+use denote.RawPtr.{Ptr, RawPtr, block_ptr, ptr_val, rawptr_vals, rawptr_Tells}
 use denote.Steps.{nothing, heard}
 use denote.Opens.{unhide}
 use denote.Memory.{hidden_shr}
@@ -36,30 +29,21 @@ use denote.Param.Laws.{param_laws}
 use denote.Builtin.{RefOf, u64, unit}
 use denote.Ref.{shr_vals, shr_Tells}
 use denote.Plain.{uint_vals, uint_Tells}
-use denote.Struct.Lending.{lent_at, lent_at_shr_laws, lent_out, Lends-lies}
-use denote.Triple.Entry.{alive}
+use denote.Struct.Lending.{lent_out}
 use denote.Triple.Walked.{Stays, stay_dropped, walk_of, Goes-dropped}
 use Rattle.core.proofs.atomic.Steps.{tail}
 use Rattle.core.specs.contracts.marker.PhantomData as marker
-use Rattle.core.specs.Sync.RawAtomic.{asks, always}
 use Rattle.atomic_table.proofs.Walks.{proved, leaves}
-use Rattle.atomic_table.proofs.Calls.{fm, seq_cst, found, finds, stored, has_stored, loads, stores, exchanges}
-use Rattle.epoch_lend.specs.Posts.{guard_shares, IsAmong, logs_of}
-use Rattle.epoch_lend.specs.Loans.{Loan, Within, glance_owns, marked_owns, pocket}
+use Rattle.atomic_table.proofs.Calls.{fm, seq_cst, found, finds, loads}
+use Rattle.epoch_lend.specs.Posts.{guard_shares, IsAmong}
+use Rattle.epoch_lend.specs.Loans.{glance_owns, pocket}
 use Rattle.epoch_lend.proofs.Fields.{Token, hand_of, hand_typed, ptr_typed, pair_of, looked_typed, Words, hand_made}
-use Rattle.epoch_lend.proofs.Fields.{word, word_typed, marked_typed, Found, found_made}
-use Rattle.epoch_lend.proofs.PartSteps.{freezes, Frozen, tokens_whole}
 use Rattle.epoch_lend.proofs.Reading as reading
 use Rattle.epoch_lend.specs.contracts.post.Guard as lent_guard
 use Rattle.epoch_lend.specs.contracts.lending.Glance as glance
-use Rattle.epoch_lend.specs.contracts.lending.Marked as marked_is
-use Rattle.epoch_lend.specs.contracts.part.Part as part_is
-use Rattle.epoch_lend.proofs.PartFields as part_fields
-use Rattle.epoch_lend.specs.Parted.{tokens, part_owns}
-use Rattle.epoch_lend_cells.specs.Turning.{TurnNames, TurnOf, turn_is, turn_shares, claim_has, claim_of, vacancy_of}
+use Rattle.epoch_lend_cells.specs.Turning.{TurnNames, TurnOf, turn_is, turn_shares}
 use Rattle.epoch_lend_cells.specs.contracts.turns.Turns as turns_is
 use Rattle.epoch_lend_cells.specs.contracts.turns.Claim as claim_is
-use Rattle.epoch_lend_cells.specs.contracts.turns.Vacancy as vacancy_is
 use Rattle.epoch_lend_cells.specs.contracts.turns.Name as name_is
 use Rattle.epoch_lend_cells.proofs.TurnFields as fields
 use Rattle.epoch_lend_cells.proofs.Turned as steps
@@ -87,10 +71,14 @@ look_spec 𝓤 𝓛 𝓜 𝓡 wired X L =
     let p2 = RefOf (2 ∷ []) tt (plain (λ _. lent_guard.the_row)) (λ _. tt) in
     let p3 = plain (λ _. RawPtr) in
     let p4 = plain (λ _. u64) in
-    let hs : Stays En.signature.params En.kept = (stay_dropped p0 yes, (stay_dropped p1 yes, (stay_dropped p2 yes, (stay_dropped p3 yes, (stay_dropped p4 yes, tt))))) in
-    proved 𝓛 En hs c 𝓜 𝓡 (Goes-dropped 𝓛 4 p0 yes (λ κs x f. refl), (Goes-dropped 𝓛 4 p1 yes (λ κs x f. refl), (Goes-dropped 𝓛 4 p2 yes (λ κs x f. refl), (Goes-dropped 𝓛 4 p3 yes (λ κs x f. refl), (Goes-dropped 𝓛 4 p4 yes (λ κs x f. refl), tt))))) (#self inst) fn closed
+    let hs : Stays En.signature.params En.kept = (stay_dropped p0 yes, (stay_dropped p1 yes, (stay_dropped p2 yes,
+        (stay_dropped p3 yes, (stay_dropped p4 yes, tt))))) in
+    proved 𝓛 En hs c 𝓜 𝓡 (Goes-dropped 𝓛 4 p0 yes (λ κs x f. refl), (Goes-dropped 𝓛 4 p1 yes (λ κs x f. refl),
+        (Goes-dropped 𝓛 4 p2 yes (λ κs x f. refl), (Goes-dropped 𝓛 4 p3 yes (λ κs x f. refl), (Goes-dropped 𝓛 4 p4 yes
+        (λ κs x f. refl), tt))))) (#self inst) fn closed
     (λ κs. (shr_vals, (shr_vals, (shr_vals, (rawptr_vals, (uint_vals w64, tt))))))
-    (λ κs. (shr_Tells (named 0) κs.0 Row, (shr_Tells (named 1) κs.1.0 Nr, (shr_Tells (named 2) κs.1.1.0 lent_guard.the_row, (rawptr_Tells, (uint_Tells w64, tt)))))) (λ κs qs bounds a gh are.
+    (λ κs. (shr_Tells (named 0) κs.0 Row, (shr_Tells (named 1) κs.1.0 Nr, (shr_Tells (named 2) κs.1.1.0
+        lent_guard.the_row, (rawptr_Tells, (uint_Tells w64, tt)))))) (λ κs qs bounds a gh are.
     let b : ℕ = a.0.ref_ptr.0 in
     let o : ℕ = a.0.ref_ptr.1 in
     let κ : Lft = κs.0 in
@@ -118,19 +106,59 @@ look_spec 𝓤 𝓛 𝓜 𝓡 wired X L =
     let ℓ = named_lft 4 2 tt κs in
     let Hr : RattleType = glance.the_row ℓ R in
     let us : List Val = vptr b o ∷ vptr nb no ∷ vptr pb po ∷ ptr_val p ∷ vint w64 w ∷ [] in
-    let y : (walk_of 𝓛 En hs c).Ghost = ((κs, qs, bounds, a, (vptr b o ∷ [], (vptr nb no ∷ [], (vptr pb po ∷ [], (ptr_val p ∷
-    [], (vint w64 w ∷ [], tt)))))), gh) in
+    let y : (walk_of 𝓛 En hs c).Ghost = (
+      (
+        κs,
+        qs,
+        bounds,
+        a,
+        (
+          vptr b o ∷ [],
+          (
+            vptr nb no ∷ [],
+            (
+              vptr pb po ∷ [],
+              (
+                ptr_val p ∷
+                    [],
+                (vint w64 w ∷ [], tt),
+              ),
+            ),
+          ),
+        ),
+      ),
+      gh,
+    ) in
     let Post : Val → SProp 𝓤 = (walk_of 𝓛 En hs c).post y in
-    qed 𝓛 (((‵ (flft κ q) ⊛ ‵ (flft κn qs.1.0) ⊛ ‵ (flft κg qg) ⊛ ‵ others) ⊛ ‵ (owns (types_at En.signature.params κs) a
+    qed 𝓛 (((‵ (flft κ q) ⊛ ‵ (flft κn qs.1.0) ⊛ ‵ (flft κg qg) ⊛ ‵ others) ⊛ ‵ (owns (types_at En.signature.params
+        κs) a
     y.0.4)) ∷ raw (fact 𝓤 _) ∷ raw (fact 𝓤 Asked) ∷ []) ∵
     keep ! (2 ∷ 0 ∷ []) $ heard ! Asked (λ asked. split ! $ split3 ! $ move ! (2 ∷ []) $ split ! $ move ! (4 ∷ []) $
     -- [the arguments; κg; the others; κ; κn]
     fsplit ! $ fsplit ! $ keep ! (2 ∷ 1 ∷ 3 ∷ 4 ∷ 5 ∷ 6 ∷ []) $ fsplit ! $ fsplit ! $
     keep ! (2 ∷ 1 ∷ 3 ∷ 4 ∷ 5 ∷ 6 ∷ 7 ∷ []) $ fsplit ! $ fsplit ! $ keep ! (1 ∷ 3 ∷ 4 ∷ 5 ∷ 6 ∷ 7 ∷ 8 ∷ []) $
     -- [the guard; the name; the place; κg; the others; κ; κn]
-    enter ! 𝓣.C 𝓣.Λ fn us Post $ alloc_all ! (λ l. pass_all ! refl ((tt, tt), ((tt, tt), ((tt, tt), (ptr_typed p, ((tt,
-    record { fits = are.1.1.1.1.0.1 }), tt))))) $ let Ev = env fn.locals l in
-    use1 𝓛 (‵ (hidden_shr Token κg (record {}, tt) pb po) ⊛ ‵ (fhide (guard_shares γ f η κg))) (lent_out 𝓛 lent_guard.struct
+    enter ! 𝓣.C 𝓣.Λ fn us Post $ alloc_all ! (λ l. pass_all ! refl (
+      (tt, tt),
+      (
+        (tt, tt),
+        (
+          (tt, tt),
+          (
+            ptr_typed p,
+            (
+              (
+                tt,
+                record { fits = are.1.1.1.1.0.1 },
+              ),
+              tt,
+            ),
+          ),
+        ),
+      ),
+    ) $ let Ev = env fn.locals l in
+    use1 𝓛 (‵ (hidden_shr Token κg (record {}, tt) pb po) ⊛ ‵ (fhide (guard_shares γ f η κg))) (lent_out 𝓛
+        lent_guard.struct
     (lent_guard.the_codes (marker.the_row unit).coded) lent_guard.the_heap lent_guard.the_lent κg gd pb po) $ split ! $
     drop ! $ unhide ! $ fsplit ! $
     use1 𝓛 (‵ (before κg (γ ∷ [])) ⊛ ‵ (before κg (γ ∷ []))) (before_dup 𝓛 κg (γ ∷ [])) $ split ! $
@@ -142,13 +170,16 @@ look_spec 𝓤 𝓛 𝓜 𝓡 wired X L =
     (reading.prepares 𝓛 e.1 γ f η r) $ await ! tt $ pick ! (λ pk. split ! $
     -- [the pocket; the offer; κg's way back; before; the name; the place; the others; κ; κn]
     move ! (4 ∷ []) $
-    use1 𝓛 (‵ (hidden_shr (fields.Name R) κn (nm.turn, (record {}, tt)) nb no) ⊛ ‵ (fhide (turn_shares R nm.log nm.turn e κn)))
-    (lent_out 𝓛 (name_is.struct R) (name_is.the_codes X.Denot R.coded (marker.the_row R).coded) (name_is.the_heap R) (name_is.the_lent R) κn nm nb no)
+    use1 𝓛 (‵ (hidden_shr (fields.Name R) κn (nm.turn, (record {}, tt)) nb no) ⊛ ‵ (fhide (turn_shares R nm.log
+        nm.turn e κn)))
+    (lent_out 𝓛 (name_is.struct R) (name_is.the_codes X.Denot R.coded (marker.the_row R).coded) (name_is.the_heap R)
+        (name_is.the_lent R) κn nm nb no)
     $ split ! $ drop ! $ unhide ! $
     rewrite ! 0 (λ (z : ℕ). ‵ (turn_is R z t e)) asked.1 refl $ move ! (0 ∷ 2 ∷ []) $ fjoin ! $
     -- [what the look asks; the pocket; κg's way back; before; the place; the others; κ; κn]
     move ! (4 ∷ []) $ unhide ! $ fpick ! (λ α. fsplit ! $ move ! (0 ∷ 7 ∷ []) $
-    use2 𝓛 (later (some (λ (s : Share). ‵ (flft α s) ⊛ raw (wand 𝓤 (𝓛.A.lft α s) (H.⇛ (𝓛.A.lft κ q)))))) (Lends-one 𝓛 𝓜 𝓡
+    use2 𝓛 (later (some (λ (s : Share). ‵ (flft α s) ⊛ raw (wand 𝓤 (𝓛.A.lft α s) (H.⇛ (𝓛.A.lft κ q)))))) (Lends-one 𝓛
+        𝓜 𝓡
     κ α q) $ await ! tt $ pick ! (λ s. split ! $
     -- [α; its way back; the invariant; what the look asks; the pocket; κg's way back; before; the others; κn]
     let Saw : ℕ → Fml = λ n. steps.Looked 𝓛 R d t e LR.shr_laws γ f η asked.3 r pk (steps.flag 𝓛 R d t e n) in
@@ -166,7 +197,8 @@ look_spec 𝓤 𝓛 𝓜 𝓡 wired X L =
     sets ! (agg ! (and_then ! (get ! refl) (and_then ! (get ! refl) (no_more !)))) refl (hand_typed p) $
     sets ! (agg ! (and_then ! (get ! refl) (and_then ! (get ! refl) (no_more !)))) refl (looked_typed p n fits) $
     -- [α and what was found; its way back; the pocket; κg's way back; before; the others; κn]
-    fsplit ! $ move ! (0 ∷ 2 ∷ []) $ use2 𝓛 (later (‵ (flft κ q))) (apply∗ 𝓤 (𝓛.A.lft α s) (H.⇛ (𝓛.A.lft κ q))) $ await ! tt $
+    fsplit ! $ move ! (0 ∷ 2 ∷ []) $ use2 𝓛 (later (‵ (flft κ q))) (apply∗ 𝓤 (𝓛.A.lft α s) (H.⇛ (𝓛.A.lft κ q))) $
+        await ! tt $
     let m : ℕ = steps.flag 𝓛 R d t e n in
     let sd = steps.Seen 𝓛 R d t e in
     move ! (2 ∷ 1 ∷ []) $
@@ -187,7 +219,12 @@ look_spec 𝓤 𝓛 𝓜 𝓡 wired X L =
     move ! (0 ∷ 2 ∷ 1 ∷ []) $ fjoin3 ! $ feq_i ! (List Val) (v ∷ []) (v ∷ []) refl $ fjoin ! $
     fpack ! (Valss (u64 ∷ Hr ∷ [])) (λ uss. fsep (feq (List Val) (v ∷ []) (vstruct (of_list (uss.0 ++ (uss.1.0 ++
     []))) ∷ [])) (owns (u64 ∷ Hr ∷ []) (n, (h, tt)) uss)) (vint w64 n ∷ [], (hand_of p ∷ [], tt)) $
-    use0 𝓛 (raw (fact 𝓤 Told)) (fact_i 𝓤 Told (emp 𝓤) ((λ e'. so.0 (steps.flag_hit 𝓛 R d t e n (e' ∙ asked.2))), (λ ne. so.1
-    (steps.flag_miss 𝓛 R d t e n (λ e'. ne (e' ∙ sym asked.2)))), refl)) $ nothing ! $ nothing ! $ fjoin ! $ nothing ! $ fjoin ! $ nothing ! $ fjoin ! $ nothing ! $ fjoin ! $ nothing ! $ fjoin ! $
+    use0 𝓛 (raw (fact 𝓤 Told)) (fact_i 𝓤 Told (emp 𝓤) (
+      (λ e'. so.0 (steps.flag_hit 𝓛 R d t e n (e' ∙ asked.2))),
+      (λ ne. so.1
+          (steps.flag_miss 𝓛 R d t e n (λ e'. ne (e' ∙ sym asked.2)))),
+      refl,
+    )) $ nothing ! $ nothing ! $ fjoin ! $ nothing ! $ fjoin ! $ nothing ! $ fjoin ! $ nothing ! $ fjoin ! $ nothing !
+        $ fjoin ! $
     returns ! (look_at ! 0 refl) $ free_all ! refl $ keep ! (3 ∷ 0 ∷ 2 ∷ 1 ∷ []) $
     by ! (leaves 𝓛 En hs c y v (n, h) (tt, (tt, (tt, (tt, (tt, tt))))) (tt, (tt, (tt, (tt, (tt, tt)))))))))))))))))

@@ -1,68 +1,38 @@
 -- `new` makes a log with no turn, and the word has the place.
-use Rattle.std.proofs.Common.{length, ◌≡◌, ◌≢◌, ℕ, suc, ◌+◌, ◌*◌, ◌^◌, ◌<◌, List, [], ◌∷◌, ◌++◌, sym, refl, ap, ◌∙◌}
-use Rattle.std.proofs.Common.{subst, lit<, w64}
-use Rattle.std.specs.Prelude.{Option, Some, None}
-use native.Mathlib.Omega.{arith}
+use Rattle.std.proofs.Common.{length, ◌≡◌, ℕ, ◌*◌, List, [], ◌∷◌, ◌++◌, refl}
+use Rattle.std.proofs.Common.{lit<, w64}
 use mir.Syntax.{a_type, named}
-use mir.Val.{Val, vunit, vint, vptr, vstruct, vcons, vnil, of_list}
+use mir.Val.{Val, vint, vstruct, vcons, vnil, of_list}
 use mir.MapTy.{inst_fn}
-use prog.Atomic.{either}
 use base.Fraction.{full_share}
 use base.Stored.{gnum}
-use base.Logic.{SProp, ent, sep, wand, emp, id⊢, via, apply∗}
-use base.Fml.{Lft, Share, Fml, ftrue, fsep, fex, feq, flft, flent, fobs, fbor, fobor, fhide}
-use base.Before.{before}
-use types.Logic.{sem}
-use types.Kit.{‵, raw, ◌⊛◌, some, given, later, mean, at_ret, ◌$◌, ◌∵◌, !, qed, by, move, keep, drop, split, split3, join}
-use types.Kit.{fsplit, fsplit3, fjoin, fjoin3, fpick, fpack, pick, learn, use0, use1, use2, use3, await, rewrite, feq_i, flt_i}
-use types.Run.{stop, fld, addr, lit, of_opd, no_more, and_then, first, blocks, exec, Calls-last, returns, enter}
-use types.Run.{unit_lit}
-use types.ByLocal.{alloc_all, pass_all, free_all, look_at, get, get_in, through, sets, lands_last, env}
+use base.Logic.{SProp, emp, via}
+use base.Fml.{Fml, ftrue, fsep, feq}
+use types.Kit.{‵, raw, ◌⊛◌, some, later, ◌$◌, ◌∵◌, !, qed, by, move, keep, split}
+use types.Kit.{fsplit, fjoin, fjoin3, fpack, pick, use0, await, feq_i}
+use types.Run.{stop, fld, lit, of_opd, no_more, and_then, returns, enter}
+use types.ByLocal.{alloc_all, pass_all, free_all, look_at, get, get_in, sets}
 use types.Part.{agg, sub, whole}
-use types.Na.{before_dup}
 use contract.Running.{tables}
 use contract.Monad.{fact, fact_i}
-use contract.BorrowLft.{◌⊑◌}
-use contract.Shared.{Lends-one}
 use denote.Exit.{yes, no}
 use denote.RattleType.{RattleType, Valss, owns}
-use denote.Signature.{types_at, plain, named_lft}
-use denote.RawPtr.{Ptr, RawPtr, block_ptr, ptr_val, lies_at, rawptr_vals, rawptr_Tells}
-use denote.Steps.{nothing, heard}
-use denote.Opens.{unhide}
-use denote.Memory.{hidden_shr}
+use denote.Signature.{types_at, plain}
+use denote.RawPtr.{Ptr, RawPtr, ptr_val}
+use denote.Steps.{nothing}
 use denote.Param.{param, layouts}
 use denote.Param.Laws.{param_laws}
-use denote.Builtin.{RefOf, u64, unit}
-use denote.Ref.{shr_vals, shr_Tells}
-use denote.Plain.{uint_vals, uint_Tells}
-use denote.Struct.Lending.{lent_at, lent_at_shr_laws, lent_out, Lends-lies}
 use denote.Triple.Entry.{alive}
 use denote.Triple.Walked.{Stays, stay_dropped, walk_of, Goes-dropped}
-use Rattle.core.proofs.atomic.Steps.{tail}
-use Rattle.core.specs.contracts.marker.PhantomData as marker
-use Rattle.core.specs.Sync.RawAtomic.{asks, always}
 use Rattle.atomic_table.proofs.Walks.{proved, leaves}
-use Rattle.atomic_table.proofs.Calls.{fm, seq_cst, found, finds, stored, has_stored, loads, stores, exchanges}
-use Rattle.epoch_lend.specs.Posts.{guard_shares, IsAmong, logs_of}
-use Rattle.epoch_lend.specs.Loans.{Loan, Within, glance_owns, marked_owns, pocket}
-use Rattle.epoch_lend.proofs.Fields.{Token, hand_of, hand_typed, ptr_typed, pair_of, looked_typed, Words, hand_made}
-use Rattle.epoch_lend.proofs.Fields.{word, word_typed, marked_typed, Found, found_made}
-use Rattle.epoch_lend.proofs.PartSteps.{freezes, Frozen, tokens_whole}
-use Rattle.epoch_lend.proofs.Reading as reading
-use Rattle.epoch_lend.specs.contracts.post.Guard as lent_guard
-use Rattle.epoch_lend.specs.contracts.lending.Glance as glance
-use Rattle.epoch_lend.specs.contracts.lending.Marked as marked_is
-use Rattle.epoch_lend.specs.contracts.part.Part as part_is
-use Rattle.epoch_lend.proofs.PartFields as part_fields
-use Rattle.epoch_lend.specs.Parted.{tokens, part_owns}
-use Rattle.epoch_lend_cells.specs.Turning.{TurnNames, TurnOf, turn_is, turn_shares, claim_has, claim_of, vacancy_of}
+use Rattle.epoch_lend.specs.Posts.{logs_of}
+use Rattle.epoch_lend.proofs.Fields.{ptr_typed}
+use Rattle.epoch_lend.proofs.Fields.{word, word_typed}
+use Rattle.epoch_lend_cells.specs.Turning.{TurnNames, TurnOf}
 use Rattle.epoch_lend_cells.specs.contracts.turns.Turns as turns_is
 use Rattle.epoch_lend_cells.specs.contracts.turns.Claim as claim_is
-use Rattle.epoch_lend_cells.specs.contracts.turns.Vacancy as vacancy_is
 use Rattle.epoch_lend_cells.specs.contracts.turns.Name as name_is
 use Rattle.epoch_lend_cells.proofs.TurnFields as fields
-use Rattle.epoch_lend_cells.proofs.Turned as steps
 use denote.Slice.{slice_val, shr_slice_vals, shr_slice_Tells}
 use denote.Builtin.{SliceRefOf}
 use denote.Laws.{Typed}
@@ -71,7 +41,6 @@ use types.Tokens.{name_new}
 use types.Owned.{basic}
 use types.Growing.{latest_new}
 use base.Growing.{latest}
-use Rattle.epoch_lend.specs.Posts.{known}
 use Rattle.epoch_lend_cells.specs.Turning.{turn_logs, log_of, vacant_with, TurnStage, vacant, at_turn, at_turn_word}
 use Rattle.epoch_lend_cells.specs.contracts.turns.Turns.TheInside as inside
 use Rattle.epoch_lend_cells.specs.contracts.turns.Place as place_is
@@ -103,9 +72,11 @@ new_spec 𝓤 𝓛 𝓜 𝓡 wired X L =
     let p0 = plain (λ _. place_is.the_row R) in
     let p1 = SliceRefOf (0 ∷ []) tt (plain (λ _. Sr)) (λ _. tt) in
     let hs : Stays En.signature.params En.kept = (stay_dropped p0 no, (stay_dropped p1 yes, tt)) in
-    proved 𝓛 En hs c 𝓜 𝓡 (Goes-dropped 𝓛 2 p0 no (λ κs x f. refl), (Goes-dropped 𝓛 2 p1 yes (λ κs x f. refl), tt)) (#self inst) fn closed
+    proved 𝓛 En hs c 𝓜 𝓡 (Goes-dropped 𝓛 2 p0 no (λ κs x f. refl), (Goes-dropped 𝓛 2 p1 yes (λ κs x f. refl), tt))
+        (#self inst) fn closed
     (λ κs. ((λ x. word x.at ∷ []), (shr_slice_vals, tt)))
-    (λ κs. ((λ x vs so. fields.place_told R x.at vs so.0), (shr_slice_Tells (named 0) κs.0 Sr, tt))) (λ κs qs bounds a gh are.
+    (λ κs. ((λ x vs so. fields.place_told R x.at vs so.0), (shr_slice_Tells (named 0) κs.0 Sr, tt))) (λ κs qs bounds a
+        gh are.
     let Pl : RattleType = place_is.the_row R in
     let u : Pl.Denot = a.0 in
     let p : Ptr = u.at in
@@ -114,7 +85,8 @@ new_spec 𝓤 𝓛 𝓜 𝓡 wired X L =
     let y : (walk_of 𝓛 En hs c).Ghost = ((κs, qs, bounds, a, (word p ∷ [], (among ∷ [], tt))), gh) in
     let Post : Val → SProp 𝓤 = (walk_of 𝓛 En hs c).post y in
     let O = turn_logs R in
-    qed 𝓛 ((raw (alive 𝓛 En.signature κs qs) ⊛ ‵ (owns (types_at En.signature.params κs) a y.0.4)) ∷ raw ((c κs a).requires gh)
+    qed 𝓛 ((raw (alive 𝓛 En.signature κs qs) ⊛ ‵ (owns (types_at En.signature.params κs) a y.0.4)) ∷ raw ((c κs
+        a).requires gh)
     ∷ []) ∵
     split ! $ move ! (1 ∷ []) $ fsplit ! $ fsplit ! $ keep ! (1 ∷ 3 ∷ []) $
     enter ! 𝓣.C 𝓣.Λ fn (word p ∷ among ∷ []) Post $
@@ -129,7 +101,8 @@ new_spec 𝓤 𝓛 𝓜 𝓡 wired X L =
     let d : TurnNames = record { at = p; log = η; state = δ; posts = logs_of a.1.0.now } in
     -- [obs; auth; latest; the value; the tokens]
     move ! (3 ∷ []) $ fpack ! R.Denot (vacant_with R d) u.value $ nothing ! $ let none : List (TurnOf R.Denot) = [] in
-    fpack ! (length none ≡ 0) (λ _. ftrue) refl $ move ! (4 ∷ 0 ∷ []) $ fjoin ! $ fpack ! (List (TurnOf R.Denot)) (log_of R d 0) [] $ move ! (2 ∷ 0 ∷ 1 ∷ []) $
+    fpack ! (length none ≡ 0) (λ _. ftrue) refl $ move ! (4 ∷ 0 ∷ []) $ fjoin ! $ fpack ! (List (TurnOf R.Denot))
+        (log_of R d 0) [] $ move ! (2 ∷ 0 ∷ 1 ∷ []) $
     fjoin3 ! $ move ! (1 ∷ 0 ∷ []) $ fjoin ! $ nothing ! $ fpack ! (4 * 0 ≡ 4 * 0) (λ _. ftrue) refl $ fjoin ! $
     fpack ! TurnStage (at_turn R d (4 * 0)) (vacant 0) $
     use0 𝓛 (‵ (Has 0)) (makes_shadow 𝓛 (Has 0) (λ vss. (tt, ((tt, tt), ((λ uss. (tt, tt)), tt)))) (
@@ -146,6 +119,7 @@ new_spec 𝓤 𝓛 𝓜 𝓡 wired X L =
     fpack ! (Valss (Row ∷ RawPtr ∷ [])) (λ uss. fsep (feq (List Val) (v ∷ []) (vstruct (of_list (uss.0 ++ (uss.1.0 ++
     []))) ∷ [])) (owns (Row ∷ RawPtr ∷ []) (d, (p, tt)) uss)) (pv ∷ [], (ptr_val p ∷ [], tt)) $
     let Told : Type 0 = (d.posts ≡ logs_of a.1.0.now) × (p ≡ p) in
-    use0 𝓛 (raw (fact 𝓤 Told)) (fact_i 𝓤 Told (emp 𝓤) (refl, refl)) $ nothing ! $ nothing ! $ fjoin ! $ nothing ! $ fjoin ! $
+    use0 𝓛 (raw (fact 𝓤 Told)) (fact_i 𝓤 Told (emp 𝓤) (refl, refl)) $ nothing ! $ nothing ! $ fjoin ! $ nothing ! $
+        fjoin ! $
     returns ! (look_at ! 0 refl) $ free_all ! refl $ keep ! (3 ∷ 0 ∷ 2 ∷ 1 ∷ []) $
     by ! (leaves 𝓛 En hs c y v (d, p) (tt, (tt, tt)) (tt, (tt, tt)))))))

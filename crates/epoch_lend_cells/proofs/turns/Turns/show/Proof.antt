@@ -1,65 +1,45 @@
 -- `show` lends the value for a lifetime of its own, and is one store, which the log of turns goes with.
-use Rattle.std.proofs.Common.{length, ◌≡◌, ◌≢◌, ℕ, suc, ◌+◌, ◌*◌, ◌^◌, ◌<◌, List, [], ◌∷◌, ◌++◌, sym, refl, ap, ◌∙◌}
+use Rattle.std.proofs.Common.{◌≡◌, ℕ, ◌+◌, ◌*◌, List, [], ◌∷◌, sym, refl}
 use Rattle.std.proofs.Common.{subst, lit<, w64}
-use Rattle.std.specs.Prelude.{Option, Some, None}
-use native.Mathlib.Omega.{arith}
+use Rattle.std.specs.Prelude.{Some}
 use mir.Syntax.{a_type, named}
-use mir.Val.{Val, vunit, vint, vptr, vstruct, vcons, vnil, of_list}
+use mir.Val.{Val, vint, vptr}
 use mir.MapTy.{inst_fn}
-use prog.Atomic.{either}
 use base.Fraction.{full_share}
-use base.Stored.{gnum}
-use base.Logic.{SProp, ent, sep, wand, emp, id⊢, via, apply∗}
-use base.Fml.{Lft, Share, Fml, ftrue, fsep, fex, feq, flft, flent, fobs, fbor, fobor, fhide}
-use base.Before.{before}
+use base.Logic.{SProp, ent, sep, wand, emp, via, apply∗}
+use base.Fml.{Lft, Share, Fml, ftrue, fsep, fex, flft, fbor}
 use types.Logic.{sem}
-use types.Kit.{‵, raw, ◌⊛◌, some, given, later, mean, at_ret, ◌$◌, ◌∵◌, !, qed, by, move, keep, drop, split, split3, join}
-use types.Kit.{fsplit, fsplit3, fjoin, fjoin3, fpick, fpack, pick, learn, use0, use1, use2, use3, await, rewrite, feq_i, flt_i}
-use types.Run.{stop, fld, addr, lit, of_opd, no_more, and_then, first, blocks, exec, Calls-last, returns, enter}
-use types.Run.{unit_lit}
-use types.ByLocal.{alloc_all, pass_all, free_all, look_at, get, get_in, through, sets, lands_last, env}
-use types.Part.{agg, sub, whole}
-use types.Na.{before_dup}
+use types.Kit.{‵, raw, ◌⊛◌, some, later, mean, at_ret, ◌$◌, ◌∵◌, !, qed, by, move, keep, split, join}
+use types.Kit.{fsplit, fjoin, fpick, pick, use0, use1, use2, use3, await, rewrite}
+use types.Run.{stop, fld, addr, lit, no_more, and_then, first, blocks, exec, Calls-last, returns, enter}
+use types.ByLocal.{alloc_all, pass_all, free_all, look_at, get, through, sets, lands_last, env}
+use types.Part.{agg}
 use contract.Running.{tables}
 use contract.Monad.{fact, fact_i}
 use contract.BorrowLft.{◌⊑◌}
 use contract.Shared.{Lends-one}
 use denote.Exit.{yes, no}
-use denote.RattleType.{RattleType, Valss, owns}
-use denote.Signature.{types_at, plain, named_lft}
-use denote.RawPtr.{Ptr, RawPtr, block_ptr, ptr_val, lies_at, rawptr_vals, rawptr_Tells}
+use denote.RattleType.{RattleType, owns}
+use denote.Signature.{types_at, plain}
+use denote.RawPtr.{Ptr, block_ptr, lies_at}
 use denote.Steps.{nothing, heard}
 use denote.Opens.{unhide}
-use denote.Memory.{hidden_shr}
 use denote.Param.{param, layouts}
 use denote.Param.Laws.{param_laws}
-use denote.Builtin.{RefOf, u64, unit}
+use denote.Builtin.{RefOf, u64}
 use denote.Ref.{shr_vals, shr_Tells}
 use denote.Plain.{uint_vals, uint_Tells}
-use denote.Struct.Lending.{lent_at, lent_at_shr_laws, lent_out, Lends-lies}
-use denote.Triple.Entry.{alive}
+use denote.Struct.Lending.{lent_at, lent_at_shr_laws, Lends-lies}
 use denote.Triple.Walked.{Stays, stay_dropped, walk_of, Goes-dropped}
 use Rattle.core.proofs.atomic.Steps.{tail}
-use Rattle.core.specs.contracts.marker.PhantomData as marker
 use Rattle.core.specs.Sync.RawAtomic.{asks, always}
 use Rattle.atomic_table.proofs.Walks.{proved, leaves}
-use Rattle.atomic_table.proofs.Calls.{fm, seq_cst, found, finds, stored, has_stored, loads, stores, exchanges}
-use Rattle.epoch_lend.specs.Posts.{guard_shares, IsAmong, logs_of}
-use Rattle.epoch_lend.specs.Loans.{Loan, Within, glance_owns, marked_owns, pocket}
-use Rattle.epoch_lend.proofs.Fields.{Token, hand_of, hand_typed, ptr_typed, pair_of, looked_typed, Words, hand_made}
-use Rattle.epoch_lend.proofs.Fields.{word, word_typed, marked_typed, Found, found_made}
+use Rattle.atomic_table.proofs.Calls.{fm, seq_cst, stored, has_stored, stores}
+use Rattle.epoch_lend.proofs.Fields.{word, word_typed}
 use Rattle.epoch_lend.proofs.PartSteps.{freezes, Frozen, tokens_whole}
-use Rattle.epoch_lend.proofs.Reading as reading
-use Rattle.epoch_lend.specs.contracts.post.Guard as lent_guard
-use Rattle.epoch_lend.specs.contracts.lending.Glance as glance
-use Rattle.epoch_lend.specs.contracts.lending.Marked as marked_is
-use Rattle.epoch_lend.specs.contracts.part.Part as part_is
-use Rattle.epoch_lend.proofs.PartFields as part_fields
-use Rattle.epoch_lend.specs.Parted.{tokens, part_owns}
-use Rattle.epoch_lend_cells.specs.Turning.{TurnNames, TurnOf, turn_is, turn_shares, claim_has, claim_of, vacancy_of}
+use Rattle.epoch_lend_cells.specs.Turning.{TurnNames, TurnOf, turn_is, claim_of}
 use Rattle.epoch_lend_cells.specs.contracts.turns.Turns as turns_is
 use Rattle.epoch_lend_cells.specs.contracts.turns.Claim as claim_is
-use Rattle.epoch_lend_cells.specs.contracts.turns.Vacancy as vacancy_is
 use Rattle.epoch_lend_cells.specs.contracts.turns.Name as name_is
 use Rattle.epoch_lend_cells.proofs.TurnFields as fields
 use Rattle.epoch_lend_cells.proofs.Turned as steps
@@ -86,10 +66,14 @@ show_spec 𝓤 𝓛 𝓜 𝓡 wired X L =
     let p1 = plain (λ _. Cr) in
     let p2 = plain (λ _. u64) in
     let p3 = plain (λ _. u64) in
-    let hs : Stays En.signature.params En.kept = (stay_dropped p0 yes, (stay_dropped p1 no, (stay_dropped p2 yes, (stay_dropped p3 yes, tt)))) in
-    proved 𝓛 En hs c 𝓜 𝓡 (Goes-dropped 𝓛 2 p0 yes (λ κs x f. refl), (Goes-dropped 𝓛 2 p1 no (λ κs x f. refl), (Goes-dropped 𝓛 2 p2 yes (λ κs x f. refl), (Goes-dropped 𝓛 2 p3 yes (λ κs x f. refl), tt)))) (#self inst) fn closed
+    let hs : Stays En.signature.params En.kept = (stay_dropped p0 yes, (stay_dropped p1 no, (stay_dropped p2 yes,
+        (stay_dropped p3 yes, tt)))) in
+    proved 𝓛 En hs c 𝓜 𝓡 (Goes-dropped 𝓛 2 p0 yes (λ κs x f. refl), (Goes-dropped 𝓛 2 p1 no (λ κs x f. refl),
+        (Goes-dropped 𝓛 2 p2 yes (λ κs x f. refl), (Goes-dropped 𝓛 2 p3 yes (λ κs x f. refl), tt)))) (#self inst) fn
+        closed
     (λ κs. (shr_vals, ((λ x. word x.at ∷ []), (uint_vals w64, (uint_vals w64, tt)))))
-    (λ κs. (shr_Tells (named 0) κs.0 Row, ((λ x vs so. fields.claim_told R x.at vs so.0), (uint_Tells w64, (uint_Tells w64, tt))))) (λ κs qs bounds a gh are.
+    (λ κs. (shr_Tells (named 0) κs.0 Row, ((λ x vs so. fields.claim_told R x.at vs so.0), (uint_Tells w64, (uint_Tells
+        w64, tt))))) (λ κs qs bounds a gh are.
     let b : ℕ = a.0.ref_ptr.0 in
     let o : ℕ = a.0.ref_ptr.1 in
     let κ : Lft = κs.0 in
@@ -100,29 +84,73 @@ show_spec 𝓤 𝓛 𝓜 𝓡 wired X L =
     let t : ℕ = a.1.1.0 in
     let w : ℕ = a.1.1.1.0 in
     let us : List Val = vptr b o ∷ word p ∷ vint w64 t ∷ vint w64 w ∷ [] in
-    let y : (walk_of 𝓛 En hs c).Ghost = ((κs, qs, bounds, a, (vptr b o ∷ [], (word p ∷ [], (vint w64 t ∷ [], (vint w64 w ∷
-    [], tt))))), gh) in
+    let y : (walk_of 𝓛 En hs c).Ghost = (
+      (
+        κs,
+        qs,
+        bounds,
+        a,
+        (
+          vptr b o ∷ [],
+          (
+            word p ∷ [],
+            (
+              vint w64 t ∷ [],
+              (
+                vint w64 w ∷
+                    [],
+                tt,
+              ),
+            ),
+          ),
+        ),
+      ),
+      gh,
+    ) in
     let Post : Val → SProp 𝓤 = (walk_of 𝓛 En hs c).post y in
     let OfPlace : Type 0 = (h.right ≡ 1) × (h.state ≡ d.state) × (h.at ≡ d.at) in
     let OfTurn : Type 0 = (h.word ≡ 4 * t + 1) × (w ≡ 4 * t + 2) in
     let tX : Fml = flft κs.1.0 qs.1.0 in
     let inX : Type 0 = κs.1.0 ⊑ X.lives in
-    qed 𝓛 (((‵ (flft κ q) ⊛ ‵ (fsep tX ftrue)) ⊛ ‵ (owns (types_at En.signature.params κs) a y.0.4)) ∷ raw (fact 𝓤 inX) ∷
+    qed 𝓛 (((‵ (flft κ q) ⊛ ‵ (fsep tX ftrue)) ⊛ ‵ (owns (types_at En.signature.params κs) a y.0.4)) ∷ raw (fact 𝓤
+        inX) ∷
     raw (fact 𝓤 OfPlace) ∷ raw (fact 𝓤 OfTurn) ∷ []) ∵
-    move ! (1 ∷ 2 ∷ 3 ∷ []) $ heard ! inX (λ le. heard ! OfPlace (λ of_place. heard ! OfTurn (λ of_turn. split ! $ split ! $
+    move ! (1 ∷ 2 ∷ 3 ∷ []) $ heard ! inX (λ le. heard ! OfPlace (λ of_place. heard ! OfTurn (λ of_turn. split ! $
+        split ! $
     move ! (2 ∷ []) $ fsplit ! $ fsplit ! $
     keep ! (2 ∷ 1 ∷ 3 ∷ 4 ∷ []) $ fsplit ! $ fsplit ! $ keep ! (1 ∷ 3 ∷ 4 ∷ 5 ∷ []) $
-    rewrite ! 0 (λ (z : Ptr × ℕ × ℕ × ℕ). ‵ (claim_of R z.0 z.1 z.2 h.value z.3)) (λ i. (of_place.2 i, of_place.1 i,
-    of_turn.0 i, of_place.0 i)) refl $
-    use1 𝓛 (‵ (fex R.Denot (steps.Opened 𝓛 R d (4 * t + 1) h.value d.at))) (steps.claim_opens 𝓛 R d (4 * t + 1) h.value d.at) $
+    rewrite ! 0 (λ (z : Ptr × ℕ × ℕ × ℕ). ‵ (claim_of R z.0 z.1 z.2 h.value z.3)) (λ i. (
+      of_place.2 i,
+      of_place.1 i,
+      of_turn.0 i,
+      of_place.0 i,
+    )) refl $
+    use1 𝓛 (‵ (fex R.Denot (steps.Opened 𝓛 R d (4 * t + 1) h.value d.at))) (steps.claim_opens 𝓛 R d (4 * t + 1)
+        h.value d.at) $
     fpick ! (λ x. fpick ! (λ is. fsplit ! $
     -- [obs; the value; the place; κ; X's token]
-    enter ! 𝓣.C 𝓣.Λ fn us Post $ alloc_all ! (λ l. pass_all ! refl ((tt, tt), (word_typed p, ((tt, record { fits =
-    are.1.1.0.1 }), ((tt, record { fits = are.1.1.1.0.1 }), tt)))) $ let Ev = env fn.locals l in
+    enter ! 𝓣.C 𝓣.Λ fn us Post $ alloc_all ! (λ l. pass_all ! refl (
+      (tt, tt),
+      (
+        word_typed p,
+        (
+          (
+            tt,
+            record {
+              fits =
+                  are.1.1.0.1;
+            },
+          ),
+          ((tt, record { fits = are.1.1.1.0.1 }), tt),
+        ),
+      ),
+    ) $ let Ev = env fn.locals l in
     move ! (4 ∷ []) $ fsplit ! $ move ! (3 ∷ 0 ∷ []) $
     let laws = lent_at_shr_laws R LR.shr_laws d.at x in
-    use2 𝓛 (later (‵ (fex ℕ (Frozen (lent_at R d.at x) laws 𝓛 (lies_at R full_share d.at x))) ⊛ ‵ tX)) (freezes (lent_at R
-    d.at x) laws 𝓛 (lies_at R full_share d.at x) R.lives κs.1.0 qs.1.0 (Lends-lies 𝓛 R R.lives d.at x (LR.shares 𝓛 x)) le) $
+    use2 𝓛 (later (‵ (fex ℕ (Frozen (lent_at R d.at x) laws 𝓛 (lies_at R full_share d.at x))) ⊛ ‵ tX)) (freezes
+        (lent_at R
+    d.at x) laws 𝓛 (lies_at R full_share d.at x) R.lives κs.1.0 qs.1.0 (Lends-lies 𝓛 R R.lives d.at x (LR.shares 𝓛 x))
+        le) $
     await ! tt $ split ! $ fpick ! (λ n. fsplit ! $ move ! (1 ∷ []) $ fsplit ! $
     use1 𝓛 (‵ (flft (n ∷ []) full_share)) (tokens_whole 𝓛 n) $
     -- [the token; shown; the value afterwards; X's token; nothing; obs; the place; κ]
@@ -130,7 +158,8 @@ show_spec 𝓤 𝓛 𝓜 𝓡 wired X L =
     let e : TurnOf R.Denot = (x, n) in
     -- [what is shown; X's token; nothing; the place; κ]
     move ! (3 ∷ []) $ unhide ! $ fpick ! (λ α. fsplit ! $ move ! (0 ∷ 5 ∷ []) $
-    use2 𝓛 (later (some (λ (s : Share). ‵ (flft α s) ⊛ raw (wand 𝓤 (𝓛.A.lft α s) (H.⇛ (𝓛.A.lft κ q)))))) (Lends-one 𝓛 𝓜 𝓡
+    use2 𝓛 (later (some (λ (s : Share). ‵ (flft α s) ⊛ raw (wand 𝓤 (𝓛.A.lft α s) (H.⇛ (𝓛.A.lft κ q)))))) (Lends-one 𝓛
+        𝓜 𝓡
     κ α q) $ await ! tt $ pick ! (λ s. split ! $
     let after : Fml = fsep (flft α s) (turn_is R d.log t e) in first ! $ blocks ! $
     sets ! (addr ! (through ! refl (fld ! refl (stop !)))) refl (tt, tt) $ move ! (2 ∷ 0 ∷ 3 ∷ []) $
@@ -144,14 +173,18 @@ show_spec 𝓤 𝓛 𝓜 𝓡 wired X L =
     (no_more !)))) (λ u. has_stored ! after (
     lands_last ! refl (tt, tt) $ exec ! 𝓣.C 𝓣.Λ Ev (tail fn.body) (at_ret Ev Post) $
     sets ! (agg ! (no_more !)) refl (tt, tt) $
-    sets ! (agg ! (and_then ! (get ! refl) (and_then ! (get ! refl) (no_more !)))) refl (fields.name_typed t are.1.1.0.1) $
+    sets ! (agg ! (and_then ! (get ! refl) (and_then ! (get ! refl) (no_more !)))) refl (fields.name_typed t
+        are.1.1.0.1) $
     -- [the place's lifetime and the entry; its way back; X's token; nothing]
-    fsplit ! $ move ! (0 ∷ 2 ∷ []) $ use2 𝓛 (later (‵ (flft κ q))) (apply∗ 𝓤 (𝓛.A.lft α s) (H.⇛ (𝓛.A.lft κ q))) $ await ! tt $
+    fsplit ! $ move ! (0 ∷ 2 ∷ []) $ use2 𝓛 (later (‵ (flft κ q))) (apply∗ 𝓤 (𝓛.A.lft α s) (H.⇛ (𝓛.A.lft κ q))) $
+        await ! tt $
     move ! (2 ∷ 3 ∷ []) $ fjoin ! $ move ! (1 ∷ 0 ∷ []) $ join ! $ move ! (1 ∷ []) $
     let r : Nr.Denot = record { turn = t; marker = record {}; log = d.log; value = x; lifetime = n } in
     let Told : Type 0 = (t ≡ t) × (d.log ≡ d.log) × (Some x ≡ h.value) in
-    use0 𝓛 (‵ ((fields.Name R).own_val (t, (record {}, tt)) (fields.name_val t ∷ []))) (fields.name_made R 𝓛 t are.1.1.0.1) $
+    use0 𝓛 (‵ ((fields.Name R).own_val (t, (record {}, tt)) (fields.name_val t ∷ []))) (fields.name_made R 𝓛 t
+        are.1.1.0.1) $
     fjoin ! $
-    use0 𝓛 (raw (fact 𝓤 Told)) (fact_i 𝓤 Told (emp 𝓤) (refl, refl, sym is)) $ nothing ! $ nothing ! $ fjoin ! $ nothing ! $ fjoin ! $ nothing ! $ fjoin ! $ nothing ! $ fjoin ! $
+    use0 𝓛 (raw (fact 𝓤 Told)) (fact_i 𝓤 Told (emp 𝓤) (refl, refl, sym is)) $ nothing ! $ nothing ! $ fjoin ! $
+        nothing ! $ fjoin ! $ nothing ! $ fjoin ! $ nothing ! $ fjoin ! $
     returns ! (look_at ! 0 refl) $ free_all ! refl $ keep ! (3 ∷ 0 ∷ 2 ∷ 1 ∷ []) $
     by ! (leaves 𝓛 En hs c y (fields.name_val t) r (tt, (tt, (tt, (tt, tt)))) (tt, (tt, (tt, (tt, tt)))))))))))))))))

@@ -1,68 +1,42 @@
 -- `reclaim` ends the value's lifetime by all of its parts.
-use Rattle.std.proofs.Common.{length, ◌≡◌, ◌≢◌, ℕ, suc, ◌+◌, ◌*◌, ◌^◌, ◌<◌, List, [], ◌∷◌, ◌++◌, sym, refl, ap, ◌∙◌}
-use Rattle.std.proofs.Common.{subst, lit<, w64}
-use Rattle.std.specs.Prelude.{Option, Some, None}
-use native.Mathlib.Omega.{arith}
-use mir.Syntax.{a_type, named}
-use mir.Val.{Val, vunit, vint, vptr, vstruct, vcons, vnil, of_list}
+use Rattle.std.proofs.Common.{◌≡◌, ℕ, ◌^◌, [], ◌∷◌, refl}
+use Rattle.std.specs.Prelude.{Some}
+use mir.Syntax.{a_type}
+use mir.Val.{Val}
 use mir.MapTy.{inst_fn}
-use prog.Atomic.{either}
 use base.Fraction.{full_share}
-use base.Stored.{gnum}
-use base.Logic.{SProp, ent, sep, wand, emp, id⊢, via, apply∗}
-use base.Fml.{Lft, Share, Fml, ftrue, fsep, fex, feq, flft, flent, fobs, fbor, fobor, fhide}
-use base.Before.{before}
-use types.Logic.{sem}
-use types.Kit.{‵, raw, ◌⊛◌, some, given, later, mean, at_ret, ◌$◌, ◌∵◌, !, qed, by, move, keep, drop, split, split3, join}
-use types.Kit.{fsplit, fsplit3, fjoin, fjoin3, fpick, fpack, pick, learn, use0, use1, use2, use3, await, rewrite, feq_i, flt_i}
-use types.Run.{stop, fld, addr, lit, of_opd, no_more, and_then, first, blocks, exec, Calls-last, returns, enter}
-use types.Run.{unit_lit}
-use types.ByLocal.{alloc_all, pass_all, free_all, look_at, get, get_in, through, sets, lands_last, env}
+use base.Logic.{SProp, emp}
+use base.Fml.{Fml}
+use types.Kit.{‵, raw, ◌⊛◌, later, ◌$◌, ◌∵◌, !, qed, by, move, keep, split}
+use types.Kit.{fsplit, fjoin, use0, use2, await, rewrite}
+use types.Run.{stop, fld, of_opd, no_more, and_then, returns, enter}
+use types.ByLocal.{alloc_all, pass_all, free_all, look_at, get, get_in, sets}
 use types.Part.{agg, sub, whole}
-use types.Na.{before_dup}
 use contract.Running.{tables}
 use contract.Monad.{fact, fact_i}
-use contract.BorrowLft.{◌⊑◌}
-use contract.Shared.{Lends-one}
-use denote.Exit.{yes, no}
-use denote.RattleType.{RattleType, Valss, owns}
-use denote.Signature.{types_at, plain, named_lft}
-use denote.RawPtr.{Ptr, RawPtr, block_ptr, ptr_val, lies_at, rawptr_vals, rawptr_Tells}
+use denote.Exit.{no}
+use denote.RattleType.{RattleType, owns}
+use denote.Signature.{types_at, plain}
+use denote.RawPtr.{Ptr, lies_at}
 use denote.Steps.{nothing, heard}
-use denote.Opens.{unhide}
-use denote.Memory.{hidden_shr}
 use denote.Param.{param, layouts}
 use denote.Param.Laws.{param_laws}
-use denote.Builtin.{RefOf, u64, unit}
-use denote.Ref.{shr_vals, shr_Tells}
-use denote.Plain.{uint_vals, uint_Tells}
-use denote.Struct.Lending.{lent_at, lent_at_shr_laws, lent_out, Lends-lies}
+use denote.Struct.Lending.{lent_at, lent_at_shr_laws}
 use denote.Triple.Entry.{alive}
 use denote.Triple.Walked.{Stays, stay_dropped, walk_of, Goes-dropped}
-use Rattle.core.proofs.atomic.Steps.{tail}
-use Rattle.core.specs.contracts.marker.PhantomData as marker
-use Rattle.core.specs.Sync.RawAtomic.{asks, always}
 use Rattle.atomic_table.proofs.Walks.{proved, leaves}
-use Rattle.atomic_table.proofs.Calls.{fm, seq_cst, found, finds, stored, has_stored, loads, stores, exchanges}
-use Rattle.epoch_lend.specs.Posts.{guard_shares, IsAmong, logs_of}
-use Rattle.epoch_lend.specs.Loans.{Loan, Within, glance_owns, marked_owns, pocket}
-use Rattle.epoch_lend.proofs.Fields.{Token, hand_of, hand_typed, ptr_typed, pair_of, looked_typed, Words, hand_made}
-use Rattle.epoch_lend.proofs.Fields.{word, word_typed, marked_typed, Found, found_made}
+use Rattle.epoch_lend.proofs.Fields.{ptr_typed}
+use Rattle.epoch_lend.proofs.Fields.{word, word_typed}
 use Rattle.epoch_lend.proofs.PartSteps.{freezes, Frozen, tokens_whole}
-use Rattle.epoch_lend.proofs.Reading as reading
-use Rattle.epoch_lend.specs.contracts.post.Guard as lent_guard
-use Rattle.epoch_lend.specs.contracts.lending.Glance as glance
-use Rattle.epoch_lend.specs.contracts.lending.Marked as marked_is
 use Rattle.epoch_lend.specs.contracts.part.Part as part_is
 use Rattle.epoch_lend.proofs.PartFields as part_fields
-use Rattle.epoch_lend.specs.Parted.{tokens, part_owns}
-use Rattle.epoch_lend_cells.specs.Turning.{TurnNames, TurnOf, turn_is, turn_shares, claim_has, claim_of, vacancy_of}
+use Rattle.epoch_lend.specs.Parted.{tokens}
+use Rattle.epoch_lend_cells.specs.Turning.{vacancy_of}
 use Rattle.epoch_lend_cells.specs.contracts.turns.Turns as turns_is
 use Rattle.epoch_lend_cells.specs.contracts.turns.Claim as claim_is
 use Rattle.epoch_lend_cells.specs.contracts.turns.Vacancy as vacancy_is
 use Rattle.epoch_lend_cells.specs.contracts.turns.Name as name_is
 use Rattle.epoch_lend_cells.proofs.TurnFields as fields
-use Rattle.epoch_lend_cells.proofs.Turned as steps
 use Rattle.epoch_lend_cells.specs.contracts.turns.Vacancy.reclaim.{ended, clauses}
 use Rattle.epoch_lend_cells.specs.contracts.turns.Vacancy.reclaim.Key.{name as #self}
 use Rattle.epoch_lend_cells.proofs.turns.Vacancy.reclaim.Statement.{statement}
@@ -85,9 +59,11 @@ reclaim_spec 𝓤 𝓛 𝓜 𝓡 wired X L =
     let p0 = plain (λ _. vacancy_is.the_row R) in
     let p1 = plain (λ _. part_is.the_row R) in
     let hs : Stays En.signature.params En.kept = (stay_dropped p0 no, (stay_dropped p1 no, tt)) in
-    proved 𝓛 En hs c 𝓜 𝓡 (Goes-dropped 𝓛 1 p0 no (λ κs x f. refl), (Goes-dropped 𝓛 1 p1 no (λ κs x f. refl), tt)) (#self inst) fn closed
+    proved 𝓛 En hs c 𝓜 𝓡 (Goes-dropped 𝓛 1 p0 no (λ κs x f. refl), (Goes-dropped 𝓛 1 p1 no (λ κs x f. refl), tt))
+        (#self inst) fn closed
     (λ κs. ((λ x. word x.at ∷ []), ((λ x. part_fields.word x.ptr ∷ []), tt)))
-    (λ κs. ((λ x vs so. fields.vacancy_told R x.at vs so.0), ((λ x vs so. part_fields.told R x.ptr vs so.0), tt))) (λ κs qs bounds a gh are.
+    (λ κs. ((λ x vs so. fields.vacancy_told R x.at vs so.0), ((λ x vs so. part_fields.told R x.ptr vs so.0), tt))) (λ
+        κs qs bounds a gh are.
     let Vr : RattleType = vacancy_is.the_row R in
     let Pr : RattleType = part_is.the_row R in
     let u : Vr.Denot = a.0 in
@@ -106,7 +82,8 @@ reclaim_spec 𝓤 𝓛 𝓜 𝓡 wired X L =
     keep ! (2 ∷ 1 ∷ 3 ∷ []) $ fsplit ! $ fsplit ! $ keep ! (1 ∷ 3 ∷ 4 ∷ []) $ fsplit ! $ keep ! (0 ∷ 2 ∷ 3 ∷ []) $
     -- [the parts' tokens; the vacancy; the tokens]
     rewrite ! 0 (λ (z : ℕ × ℕ). ‵ (tokens z.0 z.1)) (λ i. (asked.1 i, asked.2 i)) refl $ move ! (1 ∷ []) $
-    rewrite ! 0 (λ (k : ℕ). ‵ (vacancy_of R p u.state u.word (u.value, n) k)) asked.0 refl $ fsplit ! $ move ! (1 ∷ 2 ∷ []) $
+    rewrite ! 0 (λ (k : ℕ). ‵ (vacancy_of R p u.state u.word (u.value, n) k)) asked.0 refl $ fsplit ! $ move ! (1 ∷ 2
+        ∷ []) $
     enter ! 𝓣.C 𝓣.Λ fn (word p ∷ part_fields.word all.ptr ∷ []) Post $
     alloc_all ! (λ l. pass_all ! refl (word_typed p, (word_typed all.ptr, tt)) $
     use2 𝓛 (later (‵ whole_value)) (Rattle.epoch_lend.proofs.PartSteps.thaws (lent_at R p u.value) (lent_at_shr_laws R
@@ -114,6 +91,7 @@ reclaim_spec 𝓤 𝓛 𝓜 𝓡 wired X L =
     sets ! (of_opd ! (get_in ! (fld ! refl (stop !)) (sub ! 0 refl (whole !)))) refl (ptr_typed p) $
     sets ! (agg ! (and_then ! (get ! refl) (no_more !))) refl (word_typed p) $
     use0 𝓛 (‵ ((fields.Claim R).own_val (p, tt) (word p ∷ []))) (fields.claim_made R 𝓛 p) $ fjoin ! $
-    use0 𝓛 (raw (fact 𝓤 Told)) (fact_i 𝓤 Told (emp 𝓤) (refl, refl, refl, refl, refl)) $ nothing ! $ nothing ! $ fjoin ! $ nothing ! $ fjoin ! $
+    use0 𝓛 (raw (fact 𝓤 Told)) (fact_i 𝓤 Told (emp 𝓤) (refl, refl, refl, refl, refl)) $ nothing ! $ nothing ! $ fjoin
+        ! $ nothing ! $ fjoin ! $
     returns ! (look_at ! 0 refl) $ free_all ! refl $ keep ! (3 ∷ 0 ∷ 2 ∷ 1 ∷ []) $
     by ! (leaves 𝓛 En hs c y (word p) h (tt, (tt, tt)) (tt, (tt, tt))))))
