@@ -169,7 +169,10 @@ module _ {T W : Type 0} (old h : Local T W) where
 -- a full bag was flushed
 module _ {T W : Type 0} (old new : Local T W) where
   made_room : IsFull old → Does old Flush new → new.machine.held ≡ [] → HasRoom new → InFlight old new
-  made_room full does empty room = (record { room = λ has. absurd (omega (arith, has, full)); full = λ _. (does, empty) }, room)
+  made_room full does empty room = (
+    record { room = λ has. absurd (omega (arith, has, full)); full = λ _. (does, empty) },
+    room,
+  )
 
 -- a phase of a push that is left for the next one
 pub push_steps : {L T W : Type 0} (does : L → Access → Reply → L → Type 0) (v tries : ℕ) (phase : Phase) (reply : Reply)

@@ -6,8 +6,9 @@ use Rattle.epoch_plan_threads.proofs.driver.flush.Goals as goal
 pub returns-in-Ok-clause-flushes : goal.returns-in-Ok-clause-flushes
 returns-in-Ok-clause-flushes g c =
     let none : c.flush.new.self.machine.held ≡ [] = c.flush.ensures.empty c.requires (search rules) in
-    let sized = c.flush.new.self.collector.now.sized in (
+    let sized = c.flush.new.self.collector.now.sized in
+    let sizes = ap (λ (z : Sizes). z.bag_jobs) c.flush.ensures.ready.seated.sizes in (
       c.flush.ensures.does c.requires,
       none,
-      omega (arith, ap length none, ap (λ (z : Sizes). z.bag_jobs) c.flush.ensures.ready.seated.sizes, sized.bag_jobs.0),
+      omega (arith, ap length none, sizes, sized.bag_jobs.0),
     )
