@@ -288,8 +288,8 @@ module _ (past : Past) (old new : State) (plans : AllPlans Phase) (x : Entry)
       (subst (λ (p : Phase). TouchesBy (deed_of t.guard p) t.made t.found old.heap t.did) phase t.touches)
     where
       t : Touching queue structure past old new plans x sound
-      t = touched queue structure past old new plans x sound did f.participant f.brings.0 f.brings.1.0 f.brings.1.1 f.brings.1.2
-          f.brings.1.3
+      t = touched queue structure past old new plans x sound did f.participant f.brings.0 f.brings.1.0 f.brings.1.1
+          f.brings.1.2 f.brings.1.3
 
       same : t.who ≡ f.participant
       same = cc (t.step, f.brings.0)
