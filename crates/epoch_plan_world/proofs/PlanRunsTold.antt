@@ -7,7 +7,8 @@ use Rattle.epoch_plans.specs.Plans.{Deed, AllPlans, PlanEvent, made_at, WorldThe
 use Rattle.epoch_plan_world.specs.declared.step.PlanReply.{PlanReply}
 use Rattle.epoch_plan_world.specs.declared.step.PlanStep.{PlanStep}
 use Rattle.epoch_plan_world.specs.PlanWorlds.{PlanState, PlanEntry, PlanTakes, Shows, GoesBySteps, GoesByPlans}
-use Rattle.epoch_plan_world.specs.PlanWorlds.{ListsSteps, asked_steps, told_replies, then_plan_runs, program_of, plans_in}
+use Rattle.epoch_plan_world.specs.PlanWorlds.{ListsSteps, asked_steps, told_replies, then_plan_runs, program_of}
+use Rattle.epoch_plan_world.specs.PlanWorlds.{plans_in}
 
 module _ {P A W : Type 0} where
   steps_append : (a b : List (PlanEntry P A W)) → asked_steps (a ++ b) ≡ asked_steps a ++ asked_steps b
