@@ -6,8 +6,9 @@ use Rattle.epoch_laws.specs.Run.{State}
 use Rattle.epoch_plans.specs.Plans.{Deed, AllPlans, PlanEvent, made_at, WorldThen, Follows}
 use Rattle.epoch_plan_world.specs.declared.step.PlanReply.{PlanReply}
 use Rattle.epoch_plan_world.specs.declared.step.PlanStep.{PlanStep}
-use Rattle.epoch_plan_world.specs.PlanWorlds.{PlanState, PlanEntry, PlanTakes, Shows, GoesBySteps, GoesByPlans, ListsSteps}
-use Rattle.epoch_plan_world.specs.PlanWorlds.{asked_steps, told_replies, then_plan_runs, program_of, plans_in}
+use Rattle.epoch_plan_world.specs.PlanWorlds.{PlanState, PlanEntry, PlanTakes, Shows, GoesBySteps, GoesByPlans}
+use Rattle.epoch_plan_world.specs.PlanWorlds.{ListsSteps, asked_steps, told_replies, then_plan_runs, program_of}
+use Rattle.epoch_plan_world.specs.PlanWorlds.{plans_in}
 
 module _ {P A W : Type 0} where
   steps_append : (a b : List (PlanEntry P A W)) → asked_steps (a ++ b) ≡ asked_steps a ++ asked_steps b
@@ -48,7 +49,8 @@ module _ {P A W : Type 0} (deed : ℕ → P → Deed P A) (starts : P → Type 0
     shows,
     follows,
     then_plan_runs (made_at event) old.world (λ w. new.world ≡ w)
-        (λ w. GoesBySteps deed starts first w (plans_in new.plans) [] new.world (plans_in new.plans)) (λ w is. (is, refl)) made,
+        (λ w. GoesBySteps deed starts first w (plans_in new.plans) [] new.world (plans_in new.plans))
+        (λ w is. (is, refl)) made,
   )
 
   -- what leads from one state to another by these steps

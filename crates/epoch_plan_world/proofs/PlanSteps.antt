@@ -20,7 +20,8 @@ use Rattle.epoch_plans.specs.declared.machine.Wish.TheVariants.{Answer}
 use Rattle.epoch_plans.specs.declared.plan.Plan.{Plan}
 use Rattle.epoch_plans.specs.declared.plan.Plan.TheVariants.{NoPlan, Under}
 use Rattle.epoch_plans.specs.Asks.{wish_of}
-use Rattle.epoch_plans.specs.Plans.{Deed, Flushes, Touches, Defers, Answers, PlanEvent, Asked, Declined, Answered, Makes}
+use Rattle.epoch_plans.specs.Plans.{Deed, Flushes, Touches, Defers, Answers, PlanEvent, Asked, Declined, Answered}
+use Rattle.epoch_plans.specs.Plans.{Makes}
 use Rattle.epoch_plans.specs.Plans.{passes, asks, declines, answers, free_begins, free_goes, begins, goes}
 use Rattle.epoch_plans.specs.Plans.{call_by, plan_begun, plan_gone, IsOver, IsPlain, Replans}
 use Rattle.epoch_plan_world.specs.declared.step.PlainCall.{PlainCall}
@@ -28,7 +29,8 @@ use Rattle.epoch_plan_world.specs.declared.step.PlainCall.TheVariants.{Pin, Unpi
 use Rattle.epoch_plan_world.specs.declared.step.PlainCall.TheVariants.{Release}
 use Rattle.epoch_plan_world.specs.declared.step.PlanStep.TheVariants.{Register, Begin, Ask, Go, End, EndGo}
 use Rattle.epoch_plan_world.specs.declared.step.PlanReply.TheVariants.{World, Answered as AnsweredReply}
-use Rattle.epoch_plan_world.specs.PlanWorlds.{PlanTakes, ShowsBegin, ShowsAsk, ShowsGo, ShowsPhase, Performs, plan_state}
+use Rattle.epoch_plan_world.specs.PlanWorlds.{PlanTakes, ShowsBegin, ShowsAsk, ShowsGo, ShowsPhase, Performs}
+use Rattle.epoch_plan_world.specs.PlanWorlds.{plan_state}
 use Rattle.epoch_plan_world.specs.PlanWorlds.{plans_in, plain_call, reply_told, ask_refusal, bag_has_room, call_wished}
 use Rattle.epoch_plan_world.specs.PlanWorlds.{has_no_plan, may_ask}
 use Rattle.epoch_plan_world.proofs.PlansListed.{sets_plan, plan_there}
@@ -115,7 +117,8 @@ module _ {P A W : Type 0} (deed : ℕ → P → Deed P A) (starts : P → Type 0
         → PlanTakes deed starts first (plan_state old plans) (Begin p c) (World r) (plan_state new plans)
     begins_free new c r free did = (
       made (WorldBegin p (plain_call c)) r,
-      subst (λ plan. ShowsBegin {A = A} plan p c (World r) (made (WorldBegin p (plain_call c)) r)) (sym free) (r, refl, refl),
+      subst (λ plan. ShowsBegin {A = A} plan p c (World r) (made (WorldBegin p (plain_call c)) r)) (sym free)
+          (r, refl, refl),
       free_begins _ p (plain_call c) refl refl (plain c) free (λ q. refl),
       (new, did, refl),
     )
@@ -167,7 +170,8 @@ module _ {P A W : Type 0} (deed : ℕ → P → Deed P A) (starts : P → Type 0
           (plan_state new (slice_set plans p plan))
       goes_calling new wish r tells plan under wishes unanswered tell follows did = (
         made (WorldBegin p (call_by g (deed g phase))) r,
-        subst (λ (l : Plan P). ShowsGo {A = A} deed l p (World tells) (made (WorldBegin p (call_by g (deed g phase))) r))
+        subst
+            (λ (l : Plan P). ShowsGo {A = A} deed l p (World tells) (made (WorldBegin p (call_by g (deed g phase))) r))
             (sym under) (performs (deed g phase) calls),
         begins _ p g phase refl refl under (calls_on (deed g phase) calls)
             (subst (λ (l : Plan P). Replans (plans_in plans) p l (plans_in (slice_set plans p plan))) follows
@@ -207,7 +211,8 @@ module _ {P A W : Type 0} (deed : ℕ → P → Deed P A) (starts : P → Type 0
       goes_over wish a under wishes is = (
         Answered p a,
         subst (λ (l : Plan P). ShowsGo {A = A} deed l p (AnsweredReply a) (Answered p a)) (sym under)
-            (subst (λ (d : Deed P A). ShowsPhase {A = A} p g d (AnsweredReply a) (Answered p a)) (sym over) (refl, refl)),
+            (subst (λ (d : Deed P A). ShowsPhase {A = A} p g d (AnsweredReply a) (Answered p a)) (sym over)
+            (refl, refl)),
         answers p g phase a refl under over (sets_plan plans p NoPlan (plan_there plans p g phase false under)),
         refl,
       )
@@ -221,7 +226,8 @@ module _ {P A W : Type 0} (deed : ℕ → P → Deed P A) (starts : P → Type 0
         → PlanTakes deed starts first (plan_state old plans) (Ask p g work) (World (Refused f)) (plan_state old plans)
     asks_refused g work o f refuses is = (
       Declined p f,
-      subst (λ (v : Option Fault). ShowsAsk {A = A} v p g (first work (bag_has_room (seat_of old p))) (World (Refused f))
+      subst
+          (λ (v : Option Fault). ShowsAsk {A = A} v p g (first work (bag_has_room (seat_of old p))) (World (Refused f))
           (Declined p f)) (sym is ∙ refuses) (refl, refl),
       declines p f refl (λ q. refl),
       refl,
@@ -256,5 +262,6 @@ module _ {P A W : Type 0} (deed : ℕ → P → Deed P A) (starts : P → Type 0
         there : p < length plans
         there = elim (within p (length old.seats)) [
           | inl lt ↦ subst (λ (n : ℕ). p < n) (sym positions) lt
-          | inr le ↦ absurd (begun.2 (ap (λ (st : WorldSeat). st.word) (get_or_past old.seats p (free_seat old.sizes) le)))
+          | inr le ↦ absurd (begun.2 (ap (λ (st : WorldSeat). st.word)
+              (get_or_past old.seats p (free_seat old.sizes) le)))
         ]

@@ -20,7 +20,8 @@ get_push (x ∷ xs) d (suc k) = get_push xs d k
 
 module _ {P : Type 0} (plans : List (Plan P)) (p : ℕ) where
   -- the plan that is written is the participant's, and nobody else's
-  pub sets_plan : (plan : Plan P) → p < length plans → Replans (plans_in plans) p plan (plans_in (slice_set plans p plan))
+  pub sets_plan : (plan : Plan P) → p < length plans
+      → Replans (plans_in plans) p plan (plans_in (slice_set plans p plan))
   sets_plan plan lt = (get_or-set_same plans p plan NoPlan lt, λ q ne. get_or-set_other plans p q plan NoPlan ne)
 
   -- a participant with a call has a position

@@ -17,7 +17,7 @@ use Rattle.epoch_queue_laws.specs.declared.plan.Phase.TheVariants.{Removing, Ans
 use Rattle.epoch_queue_laws.specs.Queue.{deed_of, Starts, retry_push, retry_pop, founded, crowned, placed, to_last}
 use Rattle.epoch_queue_laws.specs.Queue.{tail_loaded, to_append, last_loaded, appended, to_next, head_loaded, to_read}
 use Rattle.epoch_queue_laws.specs.Queue.{next_loaded, read, taken, names, looked_back}
-use Rattle.epoch_queue_laws.specs.QueueDeeds.{QueueDeed, DidNothing, Added, Took, deed_done, deed_of_look}
+use Rattle.epoch_queue_laws.specs.QueueDeeds.{DidNothing, Took, deed_done, deed_of_look}
 use Rattle.epoch_queue_laws.specs.QueueDeeds.{deed_told, deed_then}
 
 -- a call that tries again has done nothing

@@ -27,7 +27,6 @@ use Rattle.epoch_queue_laws.specs.declared.plan.Phase.TheVariants.{Appending, Sw
 use Rattle.epoch_queue_laws.specs.declared.plan.Phase.TheVariants.{LoadingHead, LoadingNext, Reading, Leaving, Taking}
 use Rattle.epoch_queue_laws.specs.declared.plan.Phase.TheVariants.{LookingBack, Advancing, Removing, Answering}
 use Rattle.epoch_queue_laws.specs.Queue.{retry_push, deed_of, queue, to_last, to_append, to_next, to_read, names}
-use Rattle.epoch_queue_laws.specs.Queue.{placed}
 use Rattle.epoch_queue_laws.proofs.QueueLists.{in_or, readable_held, value_written}
 use Rattle.epoch_heap.specs.declared.access.Answer.TheVariants.{Name as NameAnswer}
 use Rattle.epoch_cells.specs.declared.fault.Fault.TheVariants.{CellsFull}

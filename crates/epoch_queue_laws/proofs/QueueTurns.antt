@@ -1,8 +1,7 @@
 -- What a step of a queue's run makes of the values that it holds.
-use Rattle.std.proofs.Common.{◌≡◌, ◌≢◌, ℕ, List, [], ◌∷◌, ◌++◌, Option, Some, None, true, ◌⊎◌, inl, inr, refl, ap, sym}
+use Rattle.std.proofs.Common.{◌≡◌, ℕ, List, [], ◌∷◌, ◌++◌, Option, Some, None, true, ◌⊎◌, inl, inr, refl, ap, sym}
 use Rattle.std.proofs.Common.{subst, ◌∙◌, slice_get}
 use Rattle.epoch_cells.specs.declared.cells.name.Name.{Name}
-use Rattle.epoch_heap.specs.declared.access.Access.{Access}
 use Rattle.epoch_heap.specs.declared.access.Access.TheVariants.{Place, Read, Leave}
 use Rattle.epoch_heap.specs.declared.access.Accessed.{Accessed}
 use Rattle.epoch_heap.specs.declared.access.Accessed.TheVariants.{Answers as Told}
@@ -18,10 +17,9 @@ use Rattle.epoch_laws.specs.declared.step.Entry.{Entry}
 use Rattle.epoch_laws.specs.declared.step.Progress.TheVariants.{Ends}
 use Rattle.epoch_laws.specs.declared.step.Reply.TheVariants.{Done}
 use Rattle.epoch_laws.specs.Run.{State, WorldSeat, seat_of, TakesStep, progress_after}
-use Rattle.epoch_reach_laws.specs.Reach.{Past, no_past}
+use Rattle.epoch_reach_laws.specs.Reach.{Past}
 use Rattle.epoch_reach_laws.proofs.PointerSteps.{pointer_other}
 use Rattle.epoch_reach_laws.proofs.TurnsGiven.{touches_given}
-use Rattle.epoch_plans.specs.declared.plan.Plan.{Plan}
 use Rattle.epoch_plans.specs.declared.plan.Plan.TheVariants.{Under}
 use Rattle.epoch_plans.specs.Plans.{AllPlans, ptr_to}
 use Rattle.epoch_plans.proofs.Custody.{Calm, Sound}
@@ -288,8 +286,8 @@ module _ (past : Past) (old new : State) (plans : AllPlans Phase) (x : Entry)
       (subst (λ (p : Phase). TouchesBy (deed_of t.guard p) t.made t.found old.heap t.did) phase t.touches)
     where
       t : Touching queue structure past old new plans x sound
-      t = touched queue structure past old new plans x sound did f.participant f.brings.0 f.brings.1.0 f.brings.1.1 f.brings.1.2
-          f.brings.1.3
+      t = touched queue structure past old new plans x sound did f.participant f.brings.0 f.brings.1.0 f.brings.1.1
+          f.brings.1.2 f.brings.1.3
 
       same : t.who ≡ f.participant
       same = cc (t.step, f.brings.0)

@@ -8,8 +8,8 @@ use Rattle.epoch_laws.specs.declared.step.Reply.TheVariants.{Done}
 use Rattle.epoch_queue_laws.specs.declared.plan.QueueAnswer.{QueueAnswer}
 use Rattle.epoch_queue_laws.specs.declared.plan.QueueAnswer.TheVariants.{Pushed, Popped, PoppedLeaking, Empty}
 use Rattle.epoch_queue_laws.specs.declared.plan.Phase.{Phase}
-use Rattle.epoch_queue_laws.specs.declared.plan.Phase.TheVariants.{Appending, Swinging, LoadingNext, Taking, LookingBack}
-use Rattle.epoch_queue_laws.specs.declared.plan.Phase.TheVariants.{Advancing, Removing, Answering}
+use Rattle.epoch_queue_laws.specs.declared.plan.Phase.TheVariants.{Appending, Swinging, LoadingNext, Taking}
+use Rattle.epoch_queue_laws.specs.declared.plan.Phase.TheVariants.{LookingBack, Advancing, Removing, Answering}
 
 pub data QueueDeed : Type 0 where
   DidNothing : QueueDeed

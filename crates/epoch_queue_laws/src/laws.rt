@@ -36,8 +36,8 @@ pub fn every_queue_reply_comes_nearer_the_answer()
 
 /// By its phase a call has done nothing to the list yet, has added its node at the back, has taken a value from the
 /// front, or has found nothing behind the head. It begins with nothing done. Each reply passes on what was done, and
-/// only three add to it: a push's exchange that is won, a pop's, and the pointer behind the head that is null. So a call
-/// answers `Pushed` exactly where it has won its exchange, `Popped` or `PoppedLeaking` with the value that its won
+/// only three add to it: a push's exchange that is won, a pop's, and the pointer behind the head that is null. So a
+/// call answers `Pushed` exactly where it has won its exchange, `Popped` or `PoppedLeaking` with the value that its won
 /// exchange took, `Empty` exactly where it found nothing behind the head, and anything else where it did none of these.
 pub fn every_queue_answer_tells_what_was_done()
     ensures begins { (phase : Phase) → Starts phase → deed_done phase ≡ DidNothing }

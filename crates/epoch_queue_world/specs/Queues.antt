@@ -6,8 +6,8 @@ use Rattle.epoch_laws.specs.Run.{State, Runs, TakesStep}
 use Rattle.epoch_laws.specs.declared.step.Entry.{Entry}
 use Rattle.epoch_plan_world.specs.declared.step.PlanReply.{PlanReply}
 use Rattle.epoch_plan_world.specs.declared.step.PlanStep.{PlanStep}
-use Rattle.epoch_plan_world.specs.PlanWorlds.{PlanState, PlanEntry, PlanTakes, GoesByPlans, ListsSteps, events_of, plan_run}
-use Rattle.epoch_plan_world.specs.PlanWorlds.{plans_in}
+use Rattle.epoch_plan_world.specs.PlanWorlds.{PlanState, PlanEntry, PlanTakes, GoesByPlans, ListsSteps, events_of}
+use Rattle.epoch_plan_world.specs.PlanWorlds.{plan_run, plans_in}
 use Rattle.epoch_plans.specs.Plans.{world_log, run_of_world}
 use Rattle.epoch_queue_laws.specs.declared.plan.Phase.{Phase}
 use Rattle.epoch_queue_laws.specs.declared.plan.QueueAnswer.{QueueAnswer}
@@ -82,4 +82,5 @@ abbrev pub FirstInFirstOut : (old : QueueState) (log : List QueueEntry) (new : Q
     → Type 0
 FirstInFirstOut old log new run = (next : State) (x : Entry) → TakesStep new.world x.step x.reply next
     → (vs : List ℕ) → QueueHolds new.world.heap vs
-    → StepOnValues new.world (plans_in new.plans) x next vs × (FindsNone new.world (plans_in new.plans) x next → vs ≡ [])
+    → StepOnValues new.world (plans_in new.plans) x next vs
+    × (FindsNone new.world (plans_in new.plans) x next → vs ≡ [])

@@ -94,9 +94,9 @@ fn nothing_goes_before_the_first_node_stands(rt: HostRuntime) -> Result<(), Fail
     Ok(())
 }
 
-/// Participant 0 pushes 1, up to its exchange of the tail, which lags then: it has placed the value, loaded the tail and
-/// its next, and won its exchange, each by a begin, one step on cells or pointers, and an end. One step more finds the
-/// first node's cell used.
+/// Participant 0 pushes 1, up to its exchange of the tail, which lags then: it has placed the value, loaded the tail
+/// and its next, and won its exchange, each by a begin, one step on cells or pointers, and an end. One step more finds
+/// the first node's cell used.
 fn leave_the_tail(rt: &impl Abort, queue: &mut Queue) {
     want_begun(
         rt,
@@ -186,8 +186,8 @@ fn a_value_comes_off_before_the_tail_leads_to_it(rt: HostRuntime) -> Result<(), 
     Ok(())
 }
 
-/// Participant 0 begins a pop of the first of two values, 1, and goes up to the begin of its exchange: it has loaded the
-/// head and its next, read the value and left, each by a begin, one step on cells or pointers, and an end. Then
+/// Participant 0 begins a pop of the first of two values, 1, and goes up to the begin of its exchange: it has loaded
+/// the head and its next, read the value and left, each by a begin, one step on cells or pointers, and an end. Then
 /// participant 1 pops that value.
 fn meet(rt: &impl Abort, queue: &mut Queue, tries: u64) {
     want_answer(rt, "a push", queue, 0, Work::Push(1, 1), PUSHED);
