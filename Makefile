@@ -13,8 +13,8 @@ help:
 	@echo 'make refute   tries the other wrong bodies, those of crates/*/refuted        half an hour and more'
 	@echo 'make pictures draws the pictures of the documents anew                                  1 min'
 	@echo 'make beside   times this library and crossbeam-epoch in turn: beside/README.md says what'
-	@echo '              must be installed    minutes at first for the proofs, then 20 min'
-	@echo 'make beside-histories   gives random scripts to both, and compares which jobs they call   1 min'
+	@echo '              must be installed     minutes at first for the proofs, then 5 min'
+	@echo 'make beside-histories   gives random scripts to both, and compares which jobs they call'
 	@echo
 	@echo 'INPUT=FILE    the script of try, run and draw, in place of crates/epoch_run/stdin'
 	@echo 'CRATE=NAME    the crate of refute, in place of all'

@@ -4,8 +4,9 @@
 usage: tools/beside.py table|histories    at the top of the repository
 
 It proves and builds the library's program, builds the folder beside/ with cargo, which it keeps offline, and runs both.
-The environment says more: ORIGINAL, a checkout of crossbeam or of its crate crossbeam-epoch, in place of Debian's package;
-for the table ROWS, a regular expression over whole names, THREADS, as 1,4, and PASSES; for the histories LINES and SEED.
+The environment says more. ORIGINAL: a checkout of crossbeam or of its crate crossbeam-epoch, in place of Debian's
+package. For the table, ROWS: a regular expression over whole names; THREADS, as 1,4; PASSES. For the histories, LINES
+and SEED.
 """
 import os
 import re
@@ -35,7 +36,8 @@ def original():
     """Returns the folder of the crate that ORIGINAL names, or None for Debian's package."""
     named = setting("ORIGINAL", None)
     if named is None:
-        if not any(name.startswith("crossbeam-epoch-") for name in (os.listdir(DEBIAN) if os.path.isdir(DEBIAN) else [])):
+        found = os.listdir(DEBIAN) if os.path.isdir(DEBIAN) else []
+        if not any(name.startswith("crossbeam-epoch-") for name in found):
             stop(HOW)
         return None
     for folder in (f"{named}/crossbeam-epoch", named):
@@ -87,7 +89,7 @@ def heading(version):
 
 
 def least(words, turns):
-    """Runs one side, and returns the least time of a turn, and what it says of turns that didn't do what they should."""
+    """Runs one side, and returns the least time of a turn, and what it says of turns that did nothing."""
     fields = answer([*words, str(turns), str(ROUNDS)]).split()
     return float(fields[2]), "" if fields[4:5] == fields[6:7] else f"  {' '.join(fields[4:])} turns"
 

@@ -75,7 +75,10 @@ fn compare(history: &History, program: &str, counts: &mut Counts) -> Result<(), 
 fn compare_lines(history: &History, original: &Calls, port: &Calls, counts: &mut Counts) -> Result<(), String> {
     for (number, line) in history.lines.iter().enumerate() {
         if original.at_once[number] != port.at_once[number] {
-            return Err(format!("line {}: only one side called a job at once: {line}", number + 2));
+            return Err(format!(
+                "line {}: only one side called a job at once: {line}",
+                number + 2
+            ));
         }
         counts.at_once += u64::from(original.at_once[number]);
         if original.pinned[number] != port.pinned[number] {
@@ -104,22 +107,52 @@ fn lines_of_jobs(history: &History, calls: &Calls) -> Result<BTreeMap<u64, usize
         }
     }
     if lines.len() as u64 != history.jobs {
-        return Err(format!("{} jobs were deferred, and {} called", history.jobs, lines.len()));
+        return Err(format!(
+            "{} jobs were deferred, and {} called",
+            history.jobs,
+            lines.len()
+        ));
     }
     Ok(lines)
 }
 
 fn tell(counts: &Counts, seed: u64) {
     let by = |map: &BTreeMap<u64, u64>| {
-        let parts: Vec<String> = map.iter().map(|(flushes, jobs)| format!("{jobs} by {flushes}")).collect();
-        format!("{} ({})", map.values().sum::<u64>(), if parts.is_empty() { "none".into() } else { parts.join(", ") })
+        let parts: Vec<String> = map
+            .iter()
+            .map(|(flushes, jobs)| format!("{jobs} by {flushes}"))
+            .collect();
+        format!(
+            "{} ({})",
+            map.values().sum::<u64>(),
+            if parts.is_empty() {
+                "none".into()
+            } else {
+                parts.join(", ")
+            }
+        )
     };
-    println!("{} lines in {} histories, seeds from {seed} on", counts.lines, counts.histories);
-    println!("{} flushes; {} looks at whether a participant is pinned, alike on both sides", counts.flushes, counts.looks);
-    println!("{} jobs deferred, each called once on both sides; {} called at once on both", counts.jobs, counts.at_once);
+    println!(
+        "{} lines in {} histories, seeds from {seed} on",
+        counts.lines, counts.histories
+    );
+    println!(
+        "{} flushes; {} looks at whether a participant is pinned, alike on both sides",
+        counts.flushes, counts.looks
+    );
+    println!(
+        "{} jobs deferred, each called once on both sides; {} called at once on both",
+        counts.jobs, counts.at_once
+    );
     println!("called by the same line: {}", counts.same);
-    println!("called later by crossbeam-epoch, by how many flushes: {}", by(&counts.later));
-    println!("called earlier by crossbeam-epoch, by how many flushes: {}", by(&counts.earlier));
+    println!(
+        "called later by crossbeam-epoch, by how many flushes: {}",
+        by(&counts.later)
+    );
+    println!(
+        "called earlier by crossbeam-epoch, by how many flushes: {}",
+        by(&counts.earlier)
+    );
     println!(
         "lines that call jobs: {}, of which {} call other ones, and {} the same ones in another order",
         counts.lines_that_call, counts.lines_that_differ, counts.other_order

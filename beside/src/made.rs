@@ -4,5 +4,11 @@ use std::hint::black_box;
 pub type Function = Box<dyn FnOnce() + Send>;
 
 pub fn functions(count: u64) -> Vec<Function> {
-    (0..count).map(|number| Box::new(move || { black_box(number); }) as Function).collect()
+    (0..count)
+        .map(|number| {
+            Box::new(move || {
+                black_box(number);
+            }) as Function
+        })
+        .collect()
 }

@@ -23,7 +23,9 @@ fn main() -> ExitCode {
             rows::list();
             Ok(())
         }
-        ["time", name, threads, turns, rounds] => rows::time(name, number(threads) as usize, number(turns), number(rounds)),
+        ["time", name, threads, turns, rounds] => {
+            rows::time(name, number(threads) as usize, number(turns), number(rounds))
+        }
         ["histories", program, lines, seed] => histories::replay(program, number(lines), number(seed)),
         ["script", lines, seed] => {
             histories::print(number(lines), number(seed));

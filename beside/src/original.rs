@@ -16,33 +16,48 @@ struct Padded<T>(T);
 /// Pins and unpins.
 pub fn pins(threads: usize, turns: u64) -> Duration {
     let collector = Collector::new();
-    on_threads(threads, || collector.register(), |handle| {
-        for _ in 0..turns {
-            black_box(&handle.pin());
-        }
-    }, drop)
+    on_threads(
+        threads,
+        || collector.register(),
+        |handle| {
+            for _ in 0..turns {
+                black_box(&handle.pin());
+            }
+        },
+        drop,
+    )
 }
 
 /// The same beside 63 other participants.
 pub fn pins_among_64(threads: usize, turns: u64) -> Duration {
     let collector = Collector::new();
     let _others: Vec<_> = (1..64).map(|_| collector.register()).collect();
-    on_threads(threads, || collector.register(), |handle| {
-        for _ in 0..turns {
-            black_box(&handle.pin());
-        }
-    }, drop)
+    on_threads(
+        threads,
+        || collector.register(),
+        |handle| {
+            for _ in 0..turns {
+                black_box(&handle.pin());
+            }
+        },
+        drop,
+    )
 }
 
 /// Pins and unpins under one pin.
 pub fn nested_pins(threads: usize, turns: u64) -> Duration {
     let collector = Collector::new();
-    on_threads(threads, || collector.register(), |handle| {
-        let _guard = handle.pin();
-        for _ in 0..turns {
-            black_box(&handle.pin());
-        }
-    }, drop)
+    on_threads(
+        threads,
+        || collector.register(),
+        |handle| {
+            let _guard = handle.pin();
+            for _ in 0..turns {
+                black_box(&handle.pin());
+            }
+        },
+        drop,
+    )
 }
 
 /// Pins, flushes nothing and unpins, among so many participants.
@@ -60,46 +75,64 @@ pub fn flushes(participants: u64, turns: u64) -> Duration {
 /// Pins, defers 64 boxed functions, flushes and unpins. A turn is one function.
 pub fn defers_64(threads: usize, turns: u64) -> Duration {
     let collector = Collector::new();
-    on_threads(threads, || (collector.register(), functions(turns)), |(handle, functions)| {
-        for _ in 0..turns / JOBS {
-            let guard = handle.pin();
-            for _ in 0..JOBS {
-                if let Some(function) = functions.pop() {
-                    guard.defer(move || function());
+    on_threads(
+        threads,
+        || (collector.register(), functions(turns)),
+        |(handle, functions)| {
+            for _ in 0..turns / JOBS {
+                let guard = handle.pin();
+                for _ in 0..JOBS {
+                    if let Some(function) = functions.pop() {
+                        guard.defer(move || function());
+                    }
                 }
+                guard.flush();
             }
-            guard.flush();
-        }
-        for _ in 0..3 {
-            handle.pin().flush();
-        }
-    }, drop)
+            for _ in 0..3 {
+                handle.pin().flush();
+            }
+        },
+        drop,
+    )
 }
 
 /// Pins, defers one boxed function and unpins, 64 times, and then flushes. A turn is one function.
 pub fn defers_apart(threads: usize, turns: u64) -> Duration {
     let collector = Collector::new();
-    on_threads(threads, || (collector.register(), functions(turns)), |(handle, functions)| {
-        for _ in 0..turns / JOBS {
-            for _ in 0..JOBS {
-                let guard = handle.pin();
-                if let Some(function) = functions.pop() {
-                    guard.defer(move || function());
+    on_threads(
+        threads,
+        || (collector.register(), functions(turns)),
+        |(handle, functions)| {
+            for _ in 0..turns / JOBS {
+                for _ in 0..JOBS {
+                    let guard = handle.pin();
+                    if let Some(function) = functions.pop() {
+                        guard.defer(move || function());
+                    }
                 }
+                handle.pin().flush();
             }
-            handle.pin().flush();
-        }
-        for _ in 0..3 {
-            handle.pin().flush();
-        }
-    }, drop)
+            for _ in 0..3 {
+                handle.pin().flush();
+            }
+        },
+        drop,
+    )
 }
 
 /// A round on one pointer that all threads share. Nothing else refers to its value after the round.
-fn on_one_pointer<R>(threads: usize, body: impl Fn(&crossbeam_epoch::LocalHandle, &Atomic<u64>) -> R + Sync) -> Duration {
+fn on_one_pointer<R>(
+    threads: usize,
+    body: impl Fn(&crossbeam_epoch::LocalHandle, &Atomic<u64>) -> R + Sync,
+) -> Duration {
     let collector = Collector::new();
     let pointer = Padded(Atomic::new(7u64));
-    let time = on_threads(threads, || collector.register(), |handle| body(handle, &pointer.0), drop);
+    let time = on_threads(
+        threads,
+        || collector.register(),
+        |handle| body(handle, &pointer.0),
+        drop,
+    );
     // SAFETY: the threads have ended, and what stands behind the pointer was deferred by none.
     drop(unsafe { pointer.0.into_owned() });
     time
@@ -120,14 +153,18 @@ pub fn reads(threads: usize, turns: u64) -> Duration {
 
 /// The same with a pin for each.
 pub fn pinned_reads(threads: usize, turns: u64) -> Duration {
-    on_one_pointer(threads, |handle, pointer| (0..turns).fold(0u64, |sum, _| sum.wrapping_add(read(pointer, &handle.pin()))))
+    on_one_pointer(threads, |handle, pointer| {
+        (0..turns).fold(0u64, |sum, _| sum.wrapping_add(read(pointer, &handle.pin())))
+    })
 }
 
 /// Loads of a pointer, whose tags are added up.
 pub fn loads(threads: usize, turns: u64) -> Duration {
     on_one_pointer(threads, |handle, pointer| {
         let guard = handle.pin();
-        (0..turns).fold(0, |sum: usize, _| sum.wrapping_add(black_box(pointer).load(SeqCst, &guard).tag()))
+        (0..turns).fold(0, |sum: usize, _| {
+            sum.wrapping_add(black_box(pointer).load(SeqCst, &guard).tag())
+        })
     })
 }
 
@@ -138,7 +175,9 @@ pub fn exchanges(threads: usize, turns: u64) -> Duration {
         let mut current = pointer.load(SeqCst, &guard);
         for turn in 0..turns {
             let new = current.with_tag(turn as usize & 1);
-            current = pointer.compare_exchange(current, new, SeqCst, SeqCst, &guard).unwrap_or(current);
+            current = pointer
+                .compare_exchange(current, new, SeqCst, SeqCst, &guard)
+                .unwrap_or(current);
         }
     })
 }
@@ -207,12 +246,17 @@ pub fn replaces_64(threads: usize, turns: u64) -> Duration {
 pub fn pushes(threads: usize, turns: u64) -> Duration {
     let collector = Collector::new();
     let stack: Stack<u64> = Stack::new();
-    let time = on_threads(threads, || collector.register(), |handle| {
-        for turn in 0..turns {
-            stack.push(turn, &handle.pin());
-            black_box(stack.pop(&handle.pin()));
-        }
-    }, drop);
+    let time = on_threads(
+        threads,
+        || collector.register(),
+        |handle| {
+            for turn in 0..turns {
+                stack.push(turn, &handle.pin());
+                black_box(stack.pop(&handle.pin()));
+            }
+        },
+        drop,
+    );
     let handle = collector.register();
     while stack.pop(&handle.pin()).is_some() {}
     time
@@ -221,9 +265,14 @@ pub fn pushes(threads: usize, turns: u64) -> Duration {
 /// Registers a participant and drops it.
 pub fn registers(threads: usize, turns: u64) -> Duration {
     let collector = Collector::new();
-    on_threads(threads, || collector.clone(), |collector| {
-        for _ in 0..turns {
-            black_box(collector.register());
-        }
-    }, drop)
+    on_threads(
+        threads,
+        || collector.clone(),
+        |collector| {
+            for _ in 0..turns {
+                black_box(collector.register());
+            }
+        },
+        drop,
+    )
 }

@@ -19,7 +19,11 @@ pub struct Calls {
 
 impl Calls {
     fn new(lines: usize) -> Calls {
-        Calls { jobs: vec![vec![]; lines], at_once: vec![false; lines], pinned: vec![None; lines] }
+        Calls {
+            jobs: vec![vec![]; lines],
+            at_once: vec![false; lines],
+            pinned: vec![None; lines],
+        }
     }
 }
 
@@ -77,12 +81,15 @@ impl Original<'_> {
     fn perform(&mut self, line: Line) {
         match line {
             Line::Register(at) => {
-                self.participants.resize_with(self.participants.len().max(at + 1), Participant::default);
+                self.participants
+                    .resize_with(self.participants.len().max(at + 1), Participant::default);
                 self.participants[at].handle = self.collector.as_ref().map(Collector::register);
             }
             Line::Pin(at, guard) => {
                 let participant = &mut self.participants[at];
-                participant.guards.resize_with(participant.guards.len().max(guard + 1), || None);
+                participant
+                    .guards
+                    .resize_with(participant.guards.len().max(guard + 1), || None);
                 participant.guards[guard] = participant.handle.as_ref().map(LocalHandle::pin);
             }
             Line::Unpin(at, guard) => drop(self.participants[at].guards[guard].take()),
@@ -95,7 +102,12 @@ impl Original<'_> {
                     calls.jobs[*line].push(job);
                 };
                 // SAFETY: all of this is on one thread.
-                unsafe { self.participants[at].guards[guard].as_ref().unwrap().defer_unchecked(run) };
+                unsafe {
+                    self.participants[at].guards[guard]
+                        .as_ref()
+                        .unwrap()
+                        .defer_unchecked(run)
+                };
             }
             Line::DeferUnprotected(_) => {
                 let calls = Rc::clone(&self.calls);
@@ -142,7 +154,9 @@ fn read_answers(history: &History, answers: &str) -> Result<Calls, String> {
     let mut answers = answers.lines();
     for (number, line) in history.lines.iter().enumerate() {
         loop {
-            let answer = answers.next().ok_or(format!("line {}: no answer: {line}", number + 2))?;
+            let answer = answers
+                .next()
+                .ok_or(format!("line {}: no answer: {line}", number + 2))?;
             let words: Vec<&str> = answer.split(' ').collect();
             match (words[..].first().copied().unwrap_or(""), line) {
                 ("called", _) => calls.jobs[number].push(words[1].parse().unwrap()),

@@ -13,8 +13,18 @@ struct Row {
     round: Round,
 }
 
-fn row(name: &'static str, threads: &'static [usize], turns: u64, round: impl Fn(usize, u64) -> Duration + 'static) -> Row {
-    Row { name, threads, turns, round: Box::new(round) }
+fn row(
+    name: &'static str,
+    threads: &'static [usize],
+    turns: u64,
+    round: impl Fn(usize, u64) -> Duration + 'static,
+) -> Row {
+    Row {
+        name,
+        threads,
+        turns,
+        round: Box::new(round),
+    }
 }
 
 /// Another row is a line here, a line in `work_of` of `crates/epoch_beside`, and the same work on both sides.
@@ -25,10 +35,18 @@ fn rows() -> Vec<Row> {
         row("pin_unpin", several, 64_000, pins),
         row("pin_unpin_64_idle", one, 64_000, pins_among_64),
         row("pin_unpin_nested", several, 256_000, nested_pins),
-        row("pin_flush_empty_1_registered", one, 25_600, |_, turns| flushes(1, turns)),
-        row("pin_flush_empty_16_registered", one, 25_600, |_, turns| flushes(16, turns)),
-        row("pin_flush_empty_64_registered", one, 6_400, |_, turns| flushes(64, turns)),
-        row("pin_flush_empty_1024_registered", one, 640, |_, turns| flushes(1024, turns)),
+        row("pin_flush_empty_1_registered", one, 25_600, |_, turns| {
+            flushes(1, turns)
+        }),
+        row("pin_flush_empty_16_registered", one, 25_600, |_, turns| {
+            flushes(16, turns)
+        }),
+        row("pin_flush_empty_64_registered", one, 6_400, |_, turns| {
+            flushes(64, turns)
+        }),
+        row("pin_flush_empty_1024_registered", one, 640, |_, turns| {
+            flushes(1024, turns)
+        }),
         row("defer_made_64_a_guard_flush", one, 25_600, defers_64),
         row("defer_made_pin_each_flush_64", one, 25_600, defers_apart),
         row("load_one_pointer", one, 512_000, loads),
@@ -55,9 +73,13 @@ pub fn list() {
 
 /// Prints the least and the middle time of so many rounds, in nanoseconds a turn.
 pub fn time(name: &str, threads: usize, turns: u64, rounds: u64) -> Result<(), String> {
-    let row = rows().into_iter().find(|row| row.name == name).ok_or(format!("no such row: {name}"))?;
-    let mut times: Vec<f64> =
-        (0..rounds.max(1)).map(|_| black_box((row.round)(threads, turns)).as_nanos() as f64 / turns as f64).collect();
+    let row = rows()
+        .into_iter()
+        .find(|row| row.name == name)
+        .ok_or(format!("no such row: {name}"))?;
+    let mut times: Vec<f64> = (0..rounds.max(1))
+        .map(|_| black_box((row.round)(threads, turns)).as_nanos() as f64 / turns as f64)
+        .collect();
     times.sort_by(f64::total_cmp);
     println!("{name} {threads} {:.2} {:.2}", times[0], times[times.len() / 2]);
     Ok(())

@@ -93,7 +93,9 @@ impl Player {
     }
 
     fn lowest(&self) -> usize {
-        (0..).find(|guard| !self.guards.get(*guard).copied().unwrap_or(false)).unwrap()
+        (0..)
+            .find(|guard| !self.guards.get(*guard).copied().unwrap_or(false))
+            .unwrap()
     }
 }
 
@@ -116,12 +118,23 @@ pub fn history(lines: u64, seed: u64) -> History {
     let deferrals = [5, 20, 40, 80][random.below(4) as usize];
     let patience = [5, 20, 60, 150][random.below(4) as usize];
     let players = vec![Player::default(); players];
-    let mut maker = Maker { random, players, paused: vec![], lines: vec![], jobs: 0, deferrals, patience };
+    let mut maker = Maker {
+        random,
+        players,
+        paused: vec![],
+        lines: vec![],
+        jobs: 0,
+        deferrals,
+        patience,
+    };
     while (maker.lines.len() as u64) < lines {
         maker.next();
     }
     maker.end();
-    History { lines: maker.lines, jobs: maker.jobs }
+    History {
+        lines: maker.lines,
+        jobs: maker.jobs,
+    }
 }
 
 impl Maker {
@@ -175,7 +188,12 @@ impl Maker {
         let now = self.lines.len();
         self.lines.push(line);
         match line {
-            Line::Register(at) => self.players[at] = Player { is_registered: true, ..Player::default() },
+            Line::Register(at) => {
+                self.players[at] = Player {
+                    is_registered: true,
+                    ..Player::default()
+                }
+            }
             Line::Pin(at, guard) => {
                 let player = &mut self.players[at];
                 if player.guards_out().is_empty() {

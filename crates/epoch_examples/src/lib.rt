@@ -1,6 +1,8 @@
 //! Small programs over these crates, each a page to copy: the functions are proved, and the tests run them.
 #![tactic(auto)]
 
+pub mod last_owner;
+pub mod replacement;
 pub mod schedule;
 pub mod shared_value;
 #[cfg(test)]

@@ -1,9 +1,12 @@
 //! Runs the examples, on threads where they are for threads.
+use crate::last_owner::take_apart;
+use crate::replacement::read_late;
 use crate::schedule::half_a_pin;
 use crate::shared_value::{read, replace};
 use epoch_pin::atomic::Atomic;
 use epoch_pin::{Capacities, Collector, LocalHandle};
-use epoch_world::Reply;
+use epoch_stack::{Node, Stack};
+use epoch_world::{Answer, Reply};
 use std::alloc::Global;
 use std::process::Abort;
 use std::test::Fail;
@@ -62,5 +65,47 @@ fn readers_read_while_one_thread_replaces(rt: HostRuntime) -> Result<(), Fail> {
 fn a_pin_stops_after_its_first_step(rt: HostRuntime) -> Result<(), Fail> {
     let replies = half_a_pin(rt.alloc())?;
     assert!(rt; replies.as_slice() == [Reply::Began, Reply::Stepped].as_slice());
+    Ok(())
+}
+
+#[test]
+fn a_value_stands_until_its_reader_unpins(rt: HostRuntime) -> Result<(), Fail> {
+    let (first, second) = read_late(rt.alloc())?;
+    assert_eq!(rt; first, Reply::Done(Answer::Value(10)));
+    assert_eq!(rt; second, Reply::Done(Answer::Absent));
+    Ok(())
+}
+
+/// Pushes the numbers from 1 to 100, each under a guard of its own.
+fn push_100(
+    rt: &impl Abort,
+    alloc: Global,
+    collector: &Collector<Node<u64>>,
+    stack: &Stack<'_, u64>,
+) {
+    let mut handle = collector.register().expect(rt, "a free position");
+    for value in 1..101u64 {
+        assert!(rt; handle.can_pin());
+        let guard = handle.pin();
+        let pushed = stack.push(alloc, &mut handle, &guard, value, 1_000_000);
+        assert!(rt; pushed.is_ok());
+        handle.unpin(guard);
+    }
+    assert!(rt; handle.guards_out() == 0);
+    handle.release().expect(rt, "a place for the bag");
+}
+
+#[test]
+fn the_last_owner_takes_all_that_threads_pushed(rt: HostRuntime) -> Result<(), Fail> {
+    let collector = Collector::<Node<u64>>::new(rt.alloc(), Capacities::usual(4, 512, 16), 1)?;
+    let stack = Stack::new(&collector);
+    let (host, alloc, nodes, shared) = (&rt, rt.alloc(), &collector, &stack);
+    thread::scope(thread::scope_env(), &rt, |scope| {
+        for _ in 0..4u64 {
+            let _ = scope.spawn(move || push_100(host, alloc, nodes, shared));
+        }
+    });
+    assert_eq!(rt; take_apart(&collector, stack), 4 * 5050);
+    let _ = collector.end();
     Ok(())
 }
