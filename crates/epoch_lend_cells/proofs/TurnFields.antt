@@ -107,11 +107,25 @@ three_of n v w = vstruct (vcons (vint w64 n) (vcons v (vcons w vnil)))
 -- what a mark answers is of its type
 pub three_typed : (p : Ptr) (n : ℕ) → n < 2 ^ 64
     → T (has_ty (ty_struct [] (tcons (ty_int w64) (tcons (ty_struct [] (tcons ty_ptr tnil)) (tcons (ty_struct []
-        (tcons ty_ptr
+    (tcons ty_ptr
     tnil)) tnil)))) (three_of n (word p) (word p))) × WT (three_of n (word p) (word p))
 three_typed (block_ptr b o) n f = (tt, (record { fits = f }, ((tt, tt), ((tt, tt), tt))))
-three_typed null_ptr n f = (tt, (record { fits = f }, ((record { fits = lit< tt }, tt), ((record { fits = lit< tt },
-    tt), tt))))
+three_typed null_ptr n f = (
+  tt,
+  (
+    record { fits = f },
+    (
+      (record { fits = lit< tt }, tt),
+      (
+        (
+          record { fits = lit< tt },
+          tt,
+        ),
+        tt,
+      ),
+    ),
+  ),
+)
 
 -- a new word is 0
 abbrev pub none_val : Val

@@ -87,7 +87,7 @@ pub turn_dup : {M : Type 1} {𝓤 : Ura M} (𝓛 : Logic 𝓤) (R : RattleType) 
     → ent 𝓤 (sem 𝓛 (turn_is R log t e)) (sep 𝓤 (sem 𝓛 (turn_is R log t e)) (sem 𝓛 (turn_is R log t e)))
 turn_dup 𝓛 R log t e = let O = turn_logs R in qed 𝓛 (‵ (turn_is R log t e) ∷ []) ∵ fpick ! (λ es. fsplit ! $
     use1 𝓛 (‵ (at_least O log (es ++ e ∷ [])) ⊛ ‵ (at_least O log (es ++ e ∷ []))) (at_least_dup O 𝓛 log (es ++ e ∷
-        [])) $
+    [])) $
     split ! $ move ! (2 ∷ []) $ fpick ! (λ long. drop ! $
     nothing ! $ fpack ! (length es ≡ t) (λ _. ftrue) long $ move ! (1 ∷ 0 ∷ []) $ fjoin ! $
     fpack ! (List (TurnOf R.Denot)) (turn_in R log t e) es $ frame ! $
@@ -144,7 +144,7 @@ module _ {M : Type 1} {𝓤 : Ura M} (𝓛 : Logic 𝓤) (R : RattleType) (d : T
         fpack ! (4 * t + 1 ≡ 4 * t + 1) (λ _. ftrue) refl $ fjoin ! $
         fpack ! TurnStage (at_turn R d (4 * t + 1)) (claimed t) $ frame ! $ keep ! (0 ∷ 1 ∷ []) $
         move ! (1 ∷ []) $ fpick ! (λ x. move ! (1 ∷ 0 ∷ []) $ fjoin ! $ fpack ! R.Denot (claim_has R d.at δ (4 * t +
-            1)) x $
+        1)) x $
         each ! (λ (_ : n ≡ 4 * t). ⟦ fex R.Denot (claim_has R d.at δ (4 * t + 1)) ⟧) (λ _. done !))))
 
     -- an exchange that finds another word leaves all as it is
@@ -186,13 +186,13 @@ module _ {M : Type 1} {𝓤 : Ura M} (𝓛 : Logic 𝓤) (R : RattleType) (d : T
         -- [latest; at_least; length; obs; auth; the token; what is shown and lent]
         move ! (2 ∷ []) $ fpick ! (λ long. drop ! $ move ! (5 ∷ []) $ fsplit ! $ move ! (6 ∷ []) $ nothing ! $
         move ! (1 ∷ 0 ∷ []) $ fjoin ! $ nothing ! $ fpack ! (Within d.posts []) (λ _. ftrue) refl $ move ! (2 ∷ 0 ∷
-            []) $
+        []) $
         fjoin ! $ move ! (1 ∷ 0 ∷ []) $ fjoin ! $ move ! (0 ∷ 1 ∷ []) $ fjoin ! $ fpack ! (List Loan) (lent_with R d
-            e) [] $
+        e) [] $
         -- [lent; latest; at_least; obs; auth]
         nothing ! $ fpack ! (length es ≡ t) (λ _. ftrue) long $ move ! (2 ∷ 0 ∷ 1 ∷ []) $ fjoin3 ! $
         fpack ! (List E × E) (shown_with R d t) (es, e) $ move ! (2 ∷ 0 ∷ []) $ fjoin ! $ move ! (2 ∷ 0 ∷ []) $ fjoin
-            ! $
+        ! $
         nothing ! $ fpack ! (4 * t + 2 ≡ 4 * t + 2) (λ _. ftrue) refl $ fjoin ! $
         fpack ! TurnStage (at_turn R d (4 * t + 2)) (shown t) $ frame ! $
         nothing ! $ fpack ! (length es ≡ t) (λ _. ftrue) long $ move ! (1 ∷ 0 ∷ []) $ fjoin ! $
@@ -206,7 +206,7 @@ module _ {M : Type 1} {𝓤 : Ura M} (𝓛 : Logic 𝓤) (R : RattleType) (d : T
         (𝓛.names.name_agree δ (gnum (4 * t + 1)) (gnum n)) $ learn ! (λ same. split ! $
         -- [obs; auth; the rest; known; what the stage holds]
         move ! (0 ∷ 2 ∷ []) $ fjoin ! $ move ! (2 ∷ 1 ∷ 3 ∷ []) $ fjoin3 ! $ by ! (shows_claimed n (sym (ap num same))
-            s)))
+        s)))
 
   -- ---- what is shown at a turn, for who knows the value of a turn
   module _ (t : ℕ) (e : E) where
@@ -228,9 +228,9 @@ module _ {M : Type 1} {𝓤 : Ura M} (𝓛 : Logic 𝓤) (R : RattleType) (d : T
         move ! (1 ∷ []) $ fpick ! (λ long. drop ! $ move ! (2 ∷ []) $ fpick ! (λ es. fsplit ! $ move ! (1 ∷ []) $
         fpick ! (λ as_long. drop ! $ move ! (1 ∷ 0 ∷ []) $
         use2 𝓛 (given (IsPrefix (es ++ e ∷ []) (now.0 ++ now.1 ∷ [])) (‵ (latest O full_share d.log (now.0 ++ now.1 ∷
-            [])) ⊛
+        [])) ⊛
         ‵ (at_least O d.log (es ++ e ∷ [])))) (latest_bounds O 𝓛 full_share d.log (now.0 ++ now.1 ∷ []) (es ++ e ∷
-            [])) $
+        [])) $
         learn ! (λ p. split ! $ let same : now.1 ≡ e = same_turn es now.0 p.0 e now.1 (as_long ∙ sym long) p.1 in
         keep ! (0 ∷ 2 ∷ []) $
         rewrite ! 0 (λ (z : E). ‵ (latest O full_share d.log (now.0 ++ z ∷ []))) same refl $ move ! (1 ∷ []) $
@@ -304,23 +304,23 @@ module _ {M : Type 1} {𝓤 : Ura M} (𝓛 : Logic 𝓤) (R : RattleType) (d : T
       -- the loan is left with the word, and the value is lent
       lends_it : (n : ℕ) (es : List E) (ls : List Loan) → Within d.posts ls
           → ⟦ fsep (stock e.1 ls) (fsep (lent_at R d.at e.0 (e.1 ∷ [])) (flent (e.1 ∷ []) (lies_at R full_share d.at
-              e.0))) ⟧ ∗
+          e.0))) ⟧ ∗
           ⟦ reading.Offer 𝓛 e.1 γ epoch η r pocket ⟧ ⊢ upd 𝓤 (⟦ lent_of R d e ⟧ ∗ ⟦ Looked 1 ⟧)
       lends_it n es ls within = let Goal : Pr = ⟦ lent_of R d e ⟧ ∗ ⟦ Looked 1 ⟧ in
           qed 𝓛 (‵ (fsep (stock e.1 ls) (fsep (lent_at R d.at e.0 (e.1 ∷ [])) (flent (e.1 ∷ []) (lies_at R full_share
-              d.at
+          d.at
           e.0)))) ∷ ‵ (reading.Offer 𝓛 e.1 γ epoch η r pocket) ∷ []) ∵ fsplit3 ! $ move ! (3 ∷ []) $ fsplit3 ! $ move
-              ! (2 ∷ []) $
+          ! (2 ∷ []) $
           fsplit ! $
           -- [auth; entered; the lender's right; obs; stock; shown; the value afterwards]
           move ! (4 ∷ 2 ∷ 3 ∷ 0 ∷ 1 ∷ []) $ types.Kit.group ! 5 $
           use1 𝓛 (raw (upd 𝓤 (⟦ stock e.1 (lent_now ∷ ls) ⟧ ∗ ⟦ filled_pocket e.1 pocket (length ls) ⟧))) (lends 𝓛 e.1
-              ls
+          ls
           lent_now) $
           settle 𝓛 Goal (‵ (stock e.1 (lent_now ∷ ls)) ⊛ ‵ (filled_pocket e.1 pocket (length ls))) $ split ! $
           suffices ! Goal (upd_i 𝓤 Goal) $ move ! (2 ∷ []) $
           use1 𝓛 (‵ (lent_at R d.at e.0 (e.1 ∷ [])) ⊛ ‵ (lent_at R d.at e.0 (e.1 ∷ []))) (contraction 𝓛 (lent_at R
-              d.at e.0)
+          d.at e.0)
           (denote.Struct.Lending.lent_at_shr_laws R L d.at e.0) (e.1 ∷ [])) $ split ! $
           nothing ! $ fpack ! (Within d.posts (lent_now ∷ ls)) (λ _. ftrue) (and_from (is_among η d.posts) (are_within
           d.posts ls) of within) $
@@ -338,7 +338,7 @@ module _ {M : Type 1} {𝓤 : Ura M} (𝓛 : Logic 𝓤) (R : RattleType) (d : T
           qed 𝓛 (‵ (W n) ∷ ‵ Asks ∷ []) ∵ fpick ! (λ s. fsplit3 ! $ fpick ! (λ is. drop ! $ move ! (1 ∷ []) $
           rewrite ! 0 (λ (z : TurnStage). ‵ (turn_holds R d z)) (is_shown s t (sym is ∙ hit)) refl $ fsplit ! $
           move ! (3 ∷ []) $ fsplit ! $ move ! (3 ∷ 0 ∷ []) $ use2 𝓛 (‵ (fex (List E) Open)) opens $ fpick ! (λ es.
-              fsplit3 ! $
+          fsplit3 ! $
           -- [latest; length; what was lent; the offer; obs; auth]
           move ! (2 ∷ []) $ fpick ! (λ ls. fsplit ! $ fsplit3 ! $ move ! (2 ∷ []) $ fpick ! (λ within. drop ! $
           fjoin3 ! $ move ! (0 ∷ 3 ∷ []) $
@@ -392,7 +392,7 @@ module _ {M : Type 1} {𝓤 : Ura M} (𝓛 : Logic 𝓤) (R : RattleType) (d : T
     -- one step under the invariant of the word
     stepped : (f : ℕ → ℕ) (after : ℕ → Fml) (K : Fml) → ((n : ℕ) → ⟦ W n ⟧ ∗ ⟦ K ⟧ ⊢ upd 𝓤 (⟦ W (f n) ⟧ ∗ ⟦ after n ⟧))
         → A.inv (fbor α Memory) ∗ (A.lft α q ∗ ⟦ K ⟧) ⊢ asks 𝓛 (block_ptr b (o + 0)) f always (λ n. fsep (flft α q)
-            (after n))
+        (after n))
     stepped f after K law = let at : ℕ = o + 0 in
         let G : Pr = ex 𝓤 (Lies 𝓛 α q Memory b at f always after) in borrowed 𝓛 α q Memory b at f always after ⟦ K ⟧ (
         qed 𝓛 (‵ Memory ∷ ‵ K ∷ []) ∵ suffices ! _ (upd_i 𝓤 G) $ fpick ! (λ n. fsplit ! $
@@ -429,7 +429,7 @@ module _ {M : Type 1} {𝓤 : Ura M} (𝓛 : Logic 𝓤) (R : RattleType) (d : T
     -- one plain load looks at the value
     pub sees_it : (t : ℕ) (e : E) (L : RowLaws R) (γ epoch η : ℕ) (of : IsAmong η d.posts) (r : Share) (pocket : GName)
         → A.inv (fbor α Memory) ∗ (A.lft α q ∗ ⟦ Asks t e L γ epoch η of r pocket ⟧) ⊢ asks 𝓛 (block_ptr b (o + 0)) (λ
-            n. n)
+        n. n)
         always (λ n. fsep (flft α q) (Looked t e L γ epoch η of r pocket (flag t e n)))
     sees_it t e L γ epoch η of r pocket = stepped (λ n. n) (λ n. Looked t e L γ epoch η of r pocket (flag t e n))
         (Asks t e L γ
@@ -447,7 +447,7 @@ module _ {M : Type 1} {𝓤 : Ura M} (𝓛 : Logic 𝓤) (R : RattleType) (d : T
     pub gains : ⟦ Claimed t n ⟧ ⊢ ex 𝓤 Gain
     gains = dite (ℕ_discrete n (4 * t))
         (λ hit. qed 𝓛 (‵ (Claimed t n) ∷ []) ∵ use1 𝓛 (‵ (fex R.Denot (claim_has R d.at δ (4 * t + 1)))) (all_e 𝓤 (λ
-            (_ : n
+        (_ : n
         ≡ 4 * t). ⟦ fex R.Denot (claim_has R d.at δ (4 * t + 1)) ⟧) hit) $ fpick ! (λ x. show ! Gain (1, Some x) $
         types.Kit.check ! ((λ _. refl), (λ miss. absurd (miss hit))) $ done !))
         (λ miss. qed 𝓛 (‵ (Claimed t n) ∷ []) ∵ drop ! $ nothing ! $ show ! Gain (0, None) $

@@ -24,15 +24,15 @@ pub record TurnNames : Type 0 where
 abbrev pub turn_names_coded : Coded TurnNames
 turn_names_coded = coded_via (coded× coded_ptr (coded× coded_ℕ (coded× coded_ℕ (coded_list coded_ℕ)))) (λ (d :
     TurnNames). (
-  d.at,
-  (
-    d.log,
-    (
-      d.state,
-      d.posts,
-    ),
-  ),
-)) (λ x y e i. record { at = (e i).0; log = (e i).1.0; state = (e i).1.1.0; posts = (e i).1.1.1 })
+      d.at,
+      (
+        d.log,
+        (
+          d.state,
+          d.posts,
+        ),
+      ),
+    )) (λ x y e i. record { at = (e i).0; log = (e i).1.0; state = (e i).1.1.0; posts = (e i).1.1.1 })
 
 -- the state at a turn
 pub data TurnStage : Type 0 where

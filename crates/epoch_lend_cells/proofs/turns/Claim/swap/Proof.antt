@@ -71,7 +71,7 @@ swap_spec 𝓤 𝓛 𝓜 𝓡 wired X L =
     let p1 = plain (λ _. R) in
     let hs : Stays En.signature.params En.kept = (stay_dropped p0 no, (stay_dropped p1 no, tt)) in
     proved_at 𝓛 En hs c 𝓜 𝓡 (Goes-dropped 𝓛 1 p0 no (λ κs x f. refl), (Goes-dropped 𝓛 1 p1 no (λ κs x f. refl), tt))
-        (#self
+    (#self
     inst) fn closed (λ z are.
     let κs = z.0.0 in
     let qs = z.0.1 in
@@ -92,7 +92,7 @@ swap_spec 𝓤 𝓛 𝓜 𝓡 wired X L =
     ((walk_of 𝓛 En hs c).args (At vss)) ((walk_of 𝓛 En hs c).post (At vss))))
     (λ i. (sym (fields.claim_told R p z.0.4.0 are.0.0) i, (sym got.1 i, tt))) (
     qed 𝓛 ((raw (alive 𝓛 En.signature κs qs) ⊛ ‵ (owns (types_at En.signature.params κs) a y.0.4)) ∷ raw (fact 𝓤 _) ∷
-        raw (fact
+    raw (fact
     𝓤 (h.right ≡ 1)) ∷ []) ∵
     keep ! (2 ∷ 0 ∷ []) $ heard ! (h.right ≡ 1) (λ asked. split ! $ move ! (1 ∷ []) $ fsplit3 ! $ fsplit ! $
     -- [its bytes; the claim; the new value; nothing; the tokens]
@@ -101,7 +101,7 @@ swap_spec 𝓤 𝓛 𝓜 𝓡 wired X L =
     use1 𝓛 (‵ (fex R.Denot (steps.Opened 𝓛 R d h.word h.value p))) (steps.claim_opens 𝓛 R d h.word h.value p) $
     fpick ! (λ old. fpick ! (λ is_old. fsplit ! $ move ! (1 ∷ []) $
     use1 𝓛 (given (InBlock p) (‵ (lies_at R full_share p old))) (fact_use 𝓤 _ (lies_in_block 𝓛 R full_share p old)
-        (guard_i 𝓤
+    (guard_i 𝓤
     (InBlock p) (sem 𝓛 (lies_at R full_share p old)))) $ learn ! (λ inb. let at : p ≡ block_ptr b o = at_block p inb in
     rewrite ! 0 (λ (z : Ptr). ‵ (lies_at R full_share z old)) at refl $
     enter ! 𝓣.C 𝓣.Λ fn (word p ∷ vy ∷ []) Post $ alloc_all ! (λ l. pass_all ! refl (word_typed p, (fy, tt)) $
@@ -112,10 +112,10 @@ swap_spec 𝓤 𝓛 𝓜 𝓡 wired X L =
     rewrite ! 1 (λ (ws : List Val). ‵ (cell_at full_share R.mir ws b o)) was.1 refl $ move ! (1 ∷ []) $
     -- [the cell; the old value; obs; the new value; the tokens]
     sets ! (of_opd ! (get_in ! (fld ! refl (stop !)) (sub ! 0 refl (whole !)))) refl (ptr_typed p) $ first ! $ blocks
-        ! $
+    ! $
     sets ! (is ! (of_opd ! (get ! refl)) (ap ptr_val at)) refl (tt, tt) $
     sets ! (of_opd ! (load ! (through ! refl (stop !)) (look_raw ! 0 refl))) refl fo $ sets ! (of_opd ! (get ! refl))
-        refl fy $
+    refl fy $
     assigns ! (of_opd ! (get ! refl)) (through ! refl (stop !)) (store_raw ! 0 refl fy) $
     sets_last ! (of_opd ! (get ! refl)) refl fo $
     exec ! 𝓣.C 𝓣.Λ Ev (tail (tail fn.body)) (at_ret Ev Post) $
@@ -123,9 +123,9 @@ swap_spec 𝓤 𝓛 𝓜 𝓡 wired X L =
     sets ! (agg ! (and_then ! (get ! refl) (no_more !))) refl (word_typed p) $
     sets ! (of_opd ! (get ! refl)) refl fo $
     sets ! (agg ! (and_then ! (get ! refl) (and_then ! (get ! refl) (no_more !)))) refl (fields.swapped_typed E p vo
-        fo) $
+    fo) $
     move ! (0 ∷ 3 ∷ []) $ fjoin ! $ fpack ! (List Val) (λ us. fsep (cell_at full_share R.mir us b o) (R.own_val x us))
-        (vy ∷ []) $
+    (vy ∷ []) $
     rewrite ! 0 (λ (z : Ptr). ‵ (lies_at R full_share z x)) (sym at) refl $ move ! (2 ∷ 0 ∷ []) $ fjoin ! $
     -- [the claim; the old value; the tokens]
     let r : Cr.Denot = record { at = p; right = 1; state = h.state; word = h.word; value = Some x } in
@@ -134,7 +134,7 @@ swap_spec 𝓤 𝓛 𝓜 𝓡 wired X L =
     let Told : Type 0 = (r.right ≡ 1) × (r.value ≡ Some x) × (h.state ≡ h.state) × (h.word ≡ h.word) × (p ≡ p) in
     use0 𝓛 (‵ ((fields.Claim R).own_val (p, tt) (word p ∷ []))) (fields.claim_made R 𝓛 p) $ fjoin ! $ nothing ! $
     move ! (2 ∷ 0 ∷ []) $ fjoin ! $ move ! (1 ∷ 0 ∷ []) $ fjoin ! $ feq_i ! (List Val) (v ∷ []) (v ∷ []) refl $ fjoin
-        ! $
+    ! $
     fpack ! (Valss (Cr ∷ R ∷ [])) (λ uss. fsep (feq (List Val) (v ∷ []) (vstruct (of_list (uss.0 ++ (uss.1.0 ++
     []))) ∷ [])) (owns (Cr ∷ R ∷ []) (r, (old, tt)) uss)) (word p ∷ [], (vo ∷ [], tt)) $
     use0 𝓛 (raw (fact 𝓤 Told)) (fact_i 𝓤 Told (emp 𝓤) (refl, refl, refl, refl, refl)) $

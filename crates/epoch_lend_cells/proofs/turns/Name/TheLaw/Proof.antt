@@ -40,9 +40,9 @@ module _ {M : Type 1} {𝓤 : Ura M} (𝓛 : Logic 𝓤) (R : RattleType) (log t
 pub shares : (T : RattleType) (L : Laws T) → statement T L
 shares T L = of_Lends (C.struct T) (C.the_codes T.Denot T.coded (marker.the_row T).coded) (C.the_heap T) (C.the_lent
     T) (λ d p. record {
-  contraction = λ M 𝓤 𝓛 κ. turn_dup 𝓛 T d.log d.turn (d.value, d.lifetime);
-  mono = λ M 𝓤 𝓛 κ' κ. snd∗ 𝓤 (sem 𝓛 (before κ' κ)) (sem 𝓛 (turn_is T d.log d.turn (d.value, d.lifetime)));
-}) (
-  copy_shared u64-field u64-copy,
-  (copy_shared (marker.the_field T) (field_copy (marker.the_type T) tt), tt),
-) (λ M 𝓤 𝓛 d p. name_lends 𝓛 T d.log d.turn (d.value, d.lifetime) (C.the_row T).lives)
+      contraction = λ M 𝓤 𝓛 κ. turn_dup 𝓛 T d.log d.turn (d.value, d.lifetime);
+      mono = λ M 𝓤 𝓛 κ' κ. snd∗ 𝓤 (sem 𝓛 (before κ' κ)) (sem 𝓛 (turn_is T d.log d.turn (d.value, d.lifetime)));
+    }) (
+      copy_shared u64-field u64-copy,
+      (copy_shared (marker.the_field T) (field_copy (marker.the_type T) tt), tt),
+    ) (λ M 𝓤 𝓛 d p. name_lends 𝓛 T d.log d.turn (d.value, d.lifetime) (C.the_row T).lives)

@@ -65,14 +65,36 @@ claim_spec 𝓤 𝓛 𝓜 𝓡 wired X L =
     let p2 = plain (λ _. u64) in
     let p3 = plain (λ _. u64) in
     let p4 = plain (λ _. u64) in
-    let hs : Stays En.signature.params En.kept = (stay_dropped p0 yes, (stay_dropped p1 yes, (stay_dropped p2 yes,
-        (stay_dropped p3 yes, (stay_dropped p4 yes, tt))))) in
-    proved 𝓛 En hs c 𝓜 𝓡 (Goes-dropped 𝓛 2 p0 yes (λ κs x f. refl), (Goes-dropped 𝓛 2 p1 yes (λ κs x f. refl),
-        (Goes-dropped 𝓛 2 p2 yes (λ κs x f. refl), (Goes-dropped 𝓛 2 p3 yes (λ κs x f. refl), (Goes-dropped 𝓛 2 p4 yes
-        (λ κs x f. refl), tt))))) (#self inst) fn closed
+    let hs : Stays En.signature.params En.kept = (
+      stay_dropped p0 yes,
+      (
+        stay_dropped p1 yes,
+        (
+          stay_dropped p2 yes,
+          (stay_dropped p3 yes, (stay_dropped p4 yes, tt)),
+        ),
+      ),
+    ) in
+    proved 𝓛 En hs c 𝓜 𝓡 (
+      Goes-dropped 𝓛 2 p0 yes (λ κs x f. refl),
+      (
+        Goes-dropped 𝓛 2 p1 yes (λ κs x f. refl),
+        (
+          Goes-dropped 𝓛 2 p2 yes (λ κs x f. refl),
+          (
+            Goes-dropped 𝓛 2 p3 yes (λ κs x f. refl),
+            (
+              Goes-dropped 𝓛 2 p4 yes
+                  (λ κs x f. refl),
+              tt,
+            ),
+          ),
+        ),
+      ),
+    ) (#self inst) fn closed
     (λ κs. (shr_vals, (rawptr_vals, (uint_vals w64, (uint_vals w64, (uint_vals w64, tt))))))
     (λ κs. (shr_Tells (named 0) κs.0 Row, (rawptr_Tells, (uint_Tells w64, (uint_Tells w64, (uint_Tells w64, tt))))))
-        (λ κs qs bounds a gh are.
+    (λ κs qs bounds a gh are.
     let b : ℕ = a.0.ref_ptr.0 in
     let o : ℕ = a.0.ref_ptr.1 in
     let κ : Lft = κs.0 in
@@ -132,16 +154,16 @@ claim_spec 𝓤 𝓛 𝓜 𝓡 wired X L =
     let Ev = env fn.locals l in
     unhide ! $ fpick ! (λ α. fsplit ! $ move ! (0 ∷ 2 ∷ []) $
     use2 𝓛 (later (some (λ (s : Share). ‵ (flft α s) ⊛ raw (wand 𝓤 (𝓛.A.lft α s) (H.⇛ (𝓛.A.lft κ q)))))) (Lends-one 𝓛
-        𝓜 𝓡
+    𝓜 𝓡
     κ α q) $ await ! tt $ pick ! (λ s. split ! $
     let W : ℕ → Fml = steps.Claimed 𝓛 R d t in
     let after : ℕ → Fml = λ n. fsep (flft α s) (W n) in first ! $ blocks ! $
     sets ! (addr ! (through ! refl (fld ! refl (stop !)))) refl (tt, tt) $ nothing ! $ move ! (3 ∷ 1 ∷ 0 ∷ []) $
     use3 𝓛 (raw (𝓣.C _ (vptr b (o + 0) ∷ vint w64 old ∷ vint w64 new ∷ []) (λ u. mean 𝓛 (found after u))))
     (via 𝓤 _ (subst (λ (k : ℕ × ℕ). ent 𝓤 (sep 𝓤 (𝓛.A.inv (fbor α (steps.Memory 𝓛 R d α s b o))) (sep 𝓤 (𝓛.A.lft α s)
-        (sem 𝓛
+    (sem 𝓛
     ftrue))) (asks 𝓛 (block_ptr b (o + 0)) (λ n. either (Rattle.std.specs.Prelude.eqb n k.0) k.1 n) always after)) (λ
-        i. (
+    i. (
       sym
           asked.1 i,
       sym asked.2 i,
@@ -154,10 +176,10 @@ claim_spec 𝓤 𝓛 𝓜 𝓡 wired X L =
     sets ! (agg ! (and_then ! (get ! refl) (no_more !))) refl (word_typed p) $
     sets ! (agg ! (and_then ! (get ! refl) (and_then ! (get ! refl) (no_more !)))) refl (marked_typed p n fits) $
     fsplit ! $ move ! (0 ∷ 2 ∷ []) $ use2 𝓛 (later (‵ (flft κ q))) (apply∗ 𝓤 (𝓛.A.lft α s) (H.⇛ (𝓛.A.lft κ q))) $
-        await ! tt $
+    await ! tt $
     move ! (0 ∷ 2 ∷ []) $ join ! $ move ! (1 ∷ []) $
     use1 𝓛 (some (λ (g : ℕ × Option R.Denot). given (steps.Gains 𝓛 R d (4 * t) n g.0) (‵ (claim_of R d.at d.state (4 *
-        t +
+    t +
     1) g.1 g.0)))) (steps.gains 𝓛 R d t n) $ pick ! (λ g. learn ! (λ so.
     rewrite ! 0 (λ (z : Ptr × ℕ). ‵ (claim_of R z.0 d.state z.1 g.1 g.0)) (λ i. (sym asked.0 i, sym asked.2 i)) refl $
     let h : Cr.Denot = record { at = p; right = g.0; state = d.state; word = new; value = g.1 } in
@@ -175,6 +197,6 @@ claim_spec 𝓤 𝓛 𝓜 𝓡 wired X L =
       refl,
       asked.0,
     )) $ nothing ! $ nothing ! $ fjoin ! $ nothing ! $ fjoin ! $ nothing ! $ fjoin ! $ nothing ! $ fjoin ! $ nothing !
-        $ fjoin ! $
+    $ fjoin ! $
     returns ! (look_at ! 0 refl) $ free_all ! refl $ keep ! (3 ∷ 0 ∷ 2 ∷ 1 ∷ []) $
     by ! (leaves 𝓛 En hs c y v (n, h) (tt, (tt, (tt, (tt, (tt, tt))))) (tt, (tt, (tt, (tt, (tt, tt)))))))))))))))

@@ -71,14 +71,45 @@ look_spec 𝓤 𝓛 𝓜 𝓡 wired X L =
     let p2 = RefOf (2 ∷ []) tt (plain (λ _. lent_guard.the_row)) (λ _. tt) in
     let p3 = plain (λ _. RawPtr) in
     let p4 = plain (λ _. u64) in
-    let hs : Stays En.signature.params En.kept = (stay_dropped p0 yes, (stay_dropped p1 yes, (stay_dropped p2 yes,
-        (stay_dropped p3 yes, (stay_dropped p4 yes, tt))))) in
-    proved 𝓛 En hs c 𝓜 𝓡 (Goes-dropped 𝓛 4 p0 yes (λ κs x f. refl), (Goes-dropped 𝓛 4 p1 yes (λ κs x f. refl),
-        (Goes-dropped 𝓛 4 p2 yes (λ κs x f. refl), (Goes-dropped 𝓛 4 p3 yes (λ κs x f. refl), (Goes-dropped 𝓛 4 p4 yes
-        (λ κs x f. refl), tt))))) (#self inst) fn closed
+    let hs : Stays En.signature.params En.kept = (
+      stay_dropped p0 yes,
+      (
+        stay_dropped p1 yes,
+        (
+          stay_dropped p2 yes,
+          (stay_dropped p3 yes, (stay_dropped p4 yes, tt)),
+        ),
+      ),
+    ) in
+    proved 𝓛 En hs c 𝓜 𝓡 (
+      Goes-dropped 𝓛 4 p0 yes (λ κs x f. refl),
+      (
+        Goes-dropped 𝓛 4 p1 yes (λ κs x f. refl),
+        (
+          Goes-dropped 𝓛 4 p2 yes (λ κs x f. refl),
+          (
+            Goes-dropped 𝓛 4 p3 yes (λ κs x f. refl),
+            (
+              Goes-dropped 𝓛 4 p4 yes
+                  (λ κs x f. refl),
+              tt,
+            ),
+          ),
+        ),
+      ),
+    ) (#self inst) fn closed
     (λ κs. (shr_vals, (shr_vals, (shr_vals, (rawptr_vals, (uint_vals w64, tt))))))
-    (λ κs. (shr_Tells (named 0) κs.0 Row, (shr_Tells (named 1) κs.1.0 Nr, (shr_Tells (named 2) κs.1.1.0
-        lent_guard.the_row, (rawptr_Tells, (uint_Tells w64, tt)))))) (λ κs qs bounds a gh are.
+    (λ κs. (
+      shr_Tells (named 0) κs.0 Row,
+      (
+        shr_Tells (named 1) κs.1.0 Nr,
+        (
+          shr_Tells (named 2) κs.1.1.0
+              lent_guard.the_row,
+          (rawptr_Tells, (uint_Tells w64, tt)),
+        ),
+      ),
+    )) (λ κs qs bounds a gh are.
     let b : ℕ = a.0.ref_ptr.0 in
     let o : ℕ = a.0.ref_ptr.1 in
     let κ : Lft = κs.0 in
@@ -131,7 +162,7 @@ look_spec 𝓤 𝓛 𝓜 𝓡 wired X L =
     ) in
     let Post : Val → SProp 𝓤 = (walk_of 𝓛 En hs c).post y in
     qed 𝓛 (((‵ (flft κ q) ⊛ ‵ (flft κn qs.1.0) ⊛ ‵ (flft κg qg) ⊛ ‵ others) ⊛ ‵ (owns (types_at En.signature.params
-        κs) a
+    κs) a
     y.0.4)) ∷ raw (fact 𝓤 _) ∷ raw (fact 𝓤 Asked) ∷ []) ∵
     keep ! (2 ∷ 0 ∷ []) $ heard ! Asked (λ asked. split ! $ split3 ! $ move ! (2 ∷ []) $ split ! $ move ! (4 ∷ []) $
     -- [the arguments; κg; the others; κ; κn]
@@ -158,7 +189,7 @@ look_spec 𝓤 𝓛 𝓜 𝓡 wired X L =
       ),
     ) $ let Ev = env fn.locals l in
     use1 𝓛 (‵ (hidden_shr Token κg (record {}, tt) pb po) ⊛ ‵ (fhide (guard_shares γ f η κg))) (lent_out 𝓛
-        lent_guard.struct
+    lent_guard.struct
     (lent_guard.the_codes (marker.the_row unit).coded) lent_guard.the_heap lent_guard.the_lent κg gd pb po) $ split ! $
     drop ! $ unhide ! $ fsplit ! $
     use1 𝓛 (‵ (before κg (γ ∷ [])) ⊛ ‵ (before κg (γ ∷ []))) (before_dup 𝓛 κg (γ ∷ [])) $ split ! $
@@ -171,15 +202,15 @@ look_spec 𝓤 𝓛 𝓜 𝓡 wired X L =
     -- [the pocket; the offer; κg's way back; before; the name; the place; the others; κ; κn]
     move ! (4 ∷ []) $
     use1 𝓛 (‵ (hidden_shr (fields.Name R) κn (nm.turn, (record {}, tt)) nb no) ⊛ ‵ (fhide (turn_shares R nm.log
-        nm.turn e κn)))
+    nm.turn e κn)))
     (lent_out 𝓛 (name_is.struct R) (name_is.the_codes X.Denot R.coded (marker.the_row R).coded) (name_is.the_heap R)
-        (name_is.the_lent R) κn nm nb no)
+    (name_is.the_lent R) κn nm nb no)
     $ split ! $ drop ! $ unhide ! $
     rewrite ! 0 (λ (z : ℕ). ‵ (turn_is R z t e)) asked.1 refl $ move ! (0 ∷ 2 ∷ []) $ fjoin ! $
     -- [what the look asks; the pocket; κg's way back; before; the place; the others; κ; κn]
     move ! (4 ∷ []) $ unhide ! $ fpick ! (λ α. fsplit ! $ move ! (0 ∷ 7 ∷ []) $
     use2 𝓛 (later (some (λ (s : Share). ‵ (flft α s) ⊛ raw (wand 𝓤 (𝓛.A.lft α s) (H.⇛ (𝓛.A.lft κ q)))))) (Lends-one 𝓛
-        𝓜 𝓡
+    𝓜 𝓡
     κ α q) $ await ! tt $ pick ! (λ s. split ! $
     -- [α; its way back; the invariant; what the look asks; the pocket; κg's way back; before; the others; κn]
     let Saw : ℕ → Fml = λ n. steps.Looked 𝓛 R d t e LR.shr_laws γ f η asked.3 r pk (steps.flag 𝓛 R d t e n) in
@@ -198,7 +229,7 @@ look_spec 𝓤 𝓛 𝓜 𝓡 wired X L =
     sets ! (agg ! (and_then ! (get ! refl) (and_then ! (get ! refl) (no_more !)))) refl (looked_typed p n fits) $
     -- [α and what was found; its way back; the pocket; κg's way back; before; the others; κn]
     fsplit ! $ move ! (0 ∷ 2 ∷ []) $ use2 𝓛 (later (‵ (flft κ q))) (apply∗ 𝓤 (𝓛.A.lft α s) (H.⇛ (𝓛.A.lft κ q))) $
-        await ! tt $
+    await ! tt $
     let m : ℕ = steps.flag 𝓛 R d t e n in
     let sd = steps.Seen 𝓛 R d t e in
     move ! (2 ∷ 1 ∷ []) $
@@ -225,6 +256,6 @@ look_spec 𝓤 𝓛 𝓜 𝓡 wired X L =
           (steps.flag_miss 𝓛 R d t e n (λ e'. ne (e' ∙ sym asked.2)))),
       refl,
     )) $ nothing ! $ nothing ! $ fjoin ! $ nothing ! $ fjoin ! $ nothing ! $ fjoin ! $ nothing ! $ fjoin ! $ nothing !
-        $ fjoin ! $
+    $ fjoin ! $
     returns ! (look_at ! 0 refl) $ free_all ! refl $ keep ! (3 ∷ 0 ∷ 2 ∷ 1 ∷ []) $
     by ! (leaves 𝓛 En hs c y v (n, h) (tt, (tt, (tt, (tt, (tt, tt))))) (tt, (tt, (tt, (tt, (tt, tt)))))))))))))))))

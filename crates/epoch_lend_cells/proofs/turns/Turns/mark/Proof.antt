@@ -72,14 +72,51 @@ mark_spec 𝓤 𝓛 𝓜 𝓡 wired X L =
     let p2 = plain (λ _. RawPtr) in
     let p3 = plain (λ _. u64) in
     let p4 = plain (λ _. u64) in
-    let hs : Stays En.signature.params En.kept = (stay_dropped p0 yes, (stay_dropped p1 yes, (stay_dropped p2 yes,
-        (stay_dropped p3 yes, (stay_dropped p4 yes, tt))))) in
-    proved 𝓛 En hs c 𝓜 𝓡 (Goes-dropped 𝓛 3 p0 yes (λ κs x f. refl), (Goes-dropped 𝓛 3 p1 yes (λ κs x f. refl),
-        (Goes-dropped 𝓛 3 p2 yes (λ κs x f. refl), (Goes-dropped 𝓛 3 p3 yes (λ κs x f. refl), (Goes-dropped 𝓛 3 p4 yes
-        (λ κs x f. refl), tt))))) (#self inst) fn closed
+    let hs : Stays En.signature.params En.kept = (
+      stay_dropped p0 yes,
+      (
+        stay_dropped p1 yes,
+        (
+          stay_dropped p2 yes,
+          (stay_dropped p3 yes, (stay_dropped p4 yes, tt)),
+        ),
+      ),
+    ) in
+    proved 𝓛 En hs c 𝓜 𝓡 (
+      Goes-dropped 𝓛 3 p0 yes (λ κs x f. refl),
+      (
+        Goes-dropped 𝓛 3 p1 yes (λ κs x f. refl),
+        (
+          Goes-dropped 𝓛 3 p2 yes (λ κs x f. refl),
+          (
+            Goes-dropped 𝓛 3 p3 yes (λ κs x f. refl),
+            (
+              Goes-dropped 𝓛 3 p4 yes
+                  (λ κs x f. refl),
+              tt,
+            ),
+          ),
+        ),
+      ),
+    ) (#self inst) fn closed
     (λ κs. (shr_vals, (shr_vals, (rawptr_vals, (uint_vals w64, (uint_vals w64, tt))))))
-    (λ κs. (shr_Tells (named 0) κs.0 Row, (shr_Tells (named 1) κs.1.0 Nr, (rawptr_Tells, (uint_Tells w64, (uint_Tells
-        w64, tt)))))) (λ κs qs bounds a gh are.
+    (λ κs. (
+      shr_Tells (named 0) κs.0 Row,
+      (
+        shr_Tells (named 1) κs.1.0 Nr,
+        (
+          rawptr_Tells,
+          (
+            uint_Tells w64,
+            (
+              uint_Tells
+                  w64,
+              tt,
+            ),
+          ),
+        ),
+      ),
+    )) (λ κs qs bounds a gh are.
     let b : ℕ = a.0.ref_ptr.0 in
     let o : ℕ = a.0.ref_ptr.1 in
     let κ : Lft = κs.0 in
@@ -124,7 +161,7 @@ mark_spec 𝓤 𝓛 𝓜 𝓡 wired X L =
     ) in
     let Post : Val → SProp 𝓤 = (walk_of 𝓛 En hs c).post y in
     qed 𝓛 (((‵ (flft κ q) ⊛ ‵ (flft κn qs.1.0) ⊛ ‵ others) ⊛ ‵ (owns (types_at En.signature.params κs) a y.0.4)) ∷ raw
-        (fact 𝓤
+    (fact 𝓤
     _) ∷ raw (fact 𝓤 Asked) ∷ []) ∵
     keep ! (2 ∷ 0 ∷ []) $ heard ! Asked (λ asked. split ! $ split3 ! $ move ! (3 ∷ []) $ fsplit ! $ fsplit ! $
     keep ! (2 ∷ 1 ∷ 3 ∷ 4 ∷ 5 ∷ []) $ fsplit ! $ fsplit ! $ keep ! (1 ∷ 3 ∷ 4 ∷ 5 ∷ 6 ∷ []) $
@@ -149,14 +186,14 @@ mark_spec 𝓤 𝓛 𝓜 𝓡 wired X L =
       ),
     ) $ let Ev = env fn.locals l in
     use1 𝓛 (‵ (hidden_shr (fields.Name R) κn (nm.turn, (record {}, tt)) nb no) ⊛ ‵ (fhide (turn_shares R nm.log
-        nm.turn e κn)))
+    nm.turn e κn)))
     (lent_out 𝓛 (name_is.struct R) (name_is.the_codes X.Denot R.coded (marker.the_row R).coded) (name_is.the_heap R)
-        (name_is.the_lent R) κn nm nb no)
+    (name_is.the_lent R) κn nm nb no)
     $ split ! $ drop ! $ unhide ! $
     rewrite ! 0 (λ (z : ℕ). ‵ (turn_is R z t e)) asked.1 refl $ move ! (1 ∷ []) $
     unhide ! $ fpick ! (λ α. fsplit ! $ move ! (0 ∷ 3 ∷ []) $
     use2 𝓛 (later (some (λ (s : Share). ‵ (flft α s) ⊛ raw (wand 𝓤 (𝓛.A.lft α s) (H.⇛ (𝓛.A.lft κ q)))))) (Lends-one 𝓛
-        𝓜 𝓡
+    𝓜 𝓡
     κ α q) $ await ! tt $ pick ! (λ s. split ! $
     -- [α; its way back; the invariant; the entry; κn; the others]
     let W : ℕ → Fml = steps.Outed 𝓛 R d t e in
@@ -164,12 +201,12 @@ mark_spec 𝓤 𝓛 𝓜 𝓡 wired X L =
     sets ! (addr ! (through ! refl (fld ! refl (stop !)))) refl (tt, tt) $ move ! (2 ∷ 0 ∷ 3 ∷ []) $
     use3 𝓛 (raw (𝓣.C _ (vptr b (o + 0) ∷ vint w64 old ∷ vint w64 new ∷ []) (λ u. mean 𝓛 (found after u))))
     (via 𝓤 _ (subst (λ (k : ℕ × ℕ). ent 𝓤 (sep 𝓤 (𝓛.A.inv (fbor α (steps.Memory 𝓛 R d α s b o))) (sep 𝓤 (𝓛.A.lft α s)
-        (sem 𝓛
+    (sem 𝓛
     (turn_is R d.log t e)))) (asks 𝓛 (block_ptr b (o + 0)) (λ n. either (Rattle.std.specs.Prelude.eqb n k.0) k.1 n)
-        always
+    always
     after)) (λ i. (sym asked.2 i, sym asked.3 i)) (steps.marks_it 𝓛 R d α s b o t e)) (exchanges 𝓛 𝓜 𝓡
     (code.calls-atomic_table::exchange 𝓡.env wired) (block_ptr b (o + 0)) old new are.1.1.1.0.1 are.1.1.1.1.0.1
-        after)) $
+    after)) $
     Calls-last ! (fm 𝓛 𝓜 𝓡) (found after) (and_then ! (get ! refl) (and_then ! (get ! refl) (and_then ! (get ! refl)
     (no_more !)))) (λ u. finds ! after (λ n fits.
     lands_last ! refl (tt, record { fits = fits }) $ exec ! 𝓣.C 𝓣.Λ Ev (tail fn.body) (at_ret Ev Post) $
@@ -179,15 +216,15 @@ mark_spec 𝓤 𝓛 𝓜 𝓡 wired X L =
     sets ! (agg ! (and_then ! (get ! refl) (and_then ! (get ! refl) (and_then ! (get ! refl) (no_more !))))) refl
     (fields.three_typed p n fits) $
     fsplit ! $ move ! (0 ∷ 2 ∷ []) $ use2 𝓛 (later (‵ (flft κ q))) (apply∗ 𝓤 (𝓛.A.lft α s) (H.⇛ (𝓛.A.lft κ q))) $
-        await ! tt $
+    await ! tt $
     -- [κ; what the mark took out; κn; the others]
     move ! (2 ∷ 3 ∷ []) $ join ! $ move ! (1 ∷ 0 ∷ []) $ join ! $ move ! (1 ∷ []) $
     use1 𝓛 (some (λ (g : ℕ × List Loan). given (steps.Gains 𝓛 R d (4 * t + 2) n g.0 × Within d.posts g.1) (‵ (fsep
     (marked_owns R d.at e.0 e.1 g.0 g.1 []) (vacancy_of R d.at d.state (4 * t + 3) e g.0))))) (steps.takes 𝓛 R d t e
-        n) $
+    n) $
     pick ! (λ g. learn ! (λ so.
     rewrite ! 0 (λ (z : Ptr × ℕ). ‵ (fsep (marked_owns R z.0 e.0 e.1 g.0 g.1 []) (vacancy_of R z.0 d.state z.1 e
-        g.0))) (λ i.
+    g.0))) (λ i.
     (sym asked.0 i, sym asked.3 i)) refl $ fsplit ! $
     let h : Mr.Denot = record { at = p; right = g.0; value = e.0; lifetime = e.1; seen = []; loans = g.1 } in
     let z : Vr.Denot = record { at = p; right = g.0; state = d.state; word = new; value = e.0; lifetime = e.1 } in
@@ -222,6 +259,6 @@ mark_spec 𝓤 𝓛 𝓜 𝓡 wired X L =
         so.0.1 (λ e. ne (e ∙ sym asked.2)),
       )),
     )) $ join ! $ nothing ! $ nothing ! $ fjoin ! $ nothing ! $ fjoin ! $ nothing ! $ fjoin ! $ nothing ! $ fjoin ! $
-        nothing ! $ fjoin ! $
+    nothing ! $ fjoin ! $
     returns ! (look_at ! 0 refl) $ free_all ! refl $ keep ! (3 ∷ 0 ∷ 2 ∷ 1 ∷ []) $
     by ! (leaves 𝓛 En hs c y v (n, h, z) (tt, (tt, (tt, (tt, (tt, tt))))) (tt, (tt, (tt, (tt, (tt, tt)))))))))))))))

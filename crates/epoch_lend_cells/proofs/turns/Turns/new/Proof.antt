@@ -73,10 +73,10 @@ new_spec 𝓤 𝓛 𝓜 𝓡 wired X L =
     let p1 = SliceRefOf (0 ∷ []) tt (plain (λ _. Sr)) (λ _. tt) in
     let hs : Stays En.signature.params En.kept = (stay_dropped p0 no, (stay_dropped p1 yes, tt)) in
     proved 𝓛 En hs c 𝓜 𝓡 (Goes-dropped 𝓛 2 p0 no (λ κs x f. refl), (Goes-dropped 𝓛 2 p1 yes (λ κs x f. refl), tt))
-        (#self inst) fn closed
+    (#self inst) fn closed
     (λ κs. ((λ x. word x.at ∷ []), (shr_slice_vals, tt)))
     (λ κs. ((λ x vs so. fields.place_told R x.at vs so.0), (shr_slice_Tells (named 0) κs.0 Sr, tt))) (λ κs qs bounds a
-        gh are.
+    gh are.
     let Pl : RattleType = place_is.the_row R in
     let u : Pl.Denot = a.0 in
     let p : Ptr = u.at in
@@ -86,7 +86,7 @@ new_spec 𝓤 𝓛 𝓜 𝓡 wired X L =
     let Post : Val → SProp 𝓤 = (walk_of 𝓛 En hs c).post y in
     let O = turn_logs R in
     qed 𝓛 ((raw (alive 𝓛 En.signature κs qs) ⊛ ‵ (owns (types_at En.signature.params κs) a y.0.4)) ∷ raw ((c κs
-        a).requires gh)
+    a).requires gh)
     ∷ []) ∵
     split ! $ move ! (1 ∷ []) $ fsplit ! $ fsplit ! $ keep ! (1 ∷ 3 ∷ []) $
     enter ! 𝓣.C 𝓣.Λ fn (word p ∷ among ∷ []) Post $
@@ -102,7 +102,7 @@ new_spec 𝓤 𝓛 𝓜 𝓡 wired X L =
     -- [obs; auth; latest; the value; the tokens]
     move ! (3 ∷ []) $ fpack ! R.Denot (vacant_with R d) u.value $ nothing ! $ let none : List (TurnOf R.Denot) = [] in
     fpack ! (length none ≡ 0) (λ _. ftrue) refl $ move ! (4 ∷ 0 ∷ []) $ fjoin ! $ fpack ! (List (TurnOf R.Denot))
-        (log_of R d 0) [] $ move ! (2 ∷ 0 ∷ 1 ∷ []) $
+    (log_of R d 0) [] $ move ! (2 ∷ 0 ∷ 1 ∷ []) $
     fjoin3 ! $ move ! (1 ∷ 0 ∷ []) $ fjoin ! $ nothing ! $ fpack ! (4 * 0 ≡ 4 * 0) (λ _. ftrue) refl $ fjoin ! $
     fpack ! TurnStage (at_turn R d (4 * 0)) (vacant 0) $
     use0 𝓛 (‵ (Has 0)) (makes_shadow 𝓛 (Has 0) (λ vss. (tt, ((tt, tt), ((λ uss. (tt, tt)), tt)))) (
@@ -120,6 +120,6 @@ new_spec 𝓤 𝓛 𝓜 𝓡 wired X L =
     []))) ∷ [])) (owns (Row ∷ RawPtr ∷ []) (d, (p, tt)) uss)) (pv ∷ [], (ptr_val p ∷ [], tt)) $
     let Told : Type 0 = (d.posts ≡ logs_of a.1.0.now) × (p ≡ p) in
     use0 𝓛 (raw (fact 𝓤 Told)) (fact_i 𝓤 Told (emp 𝓤) (refl, refl)) $ nothing ! $ nothing ! $ fjoin ! $ nothing ! $
-        fjoin ! $
+    fjoin ! $
     returns ! (look_at ! 0 refl) $ free_all ! refl $ keep ! (3 ∷ 0 ∷ 2 ∷ 1 ∷ []) $
     by ! (leaves 𝓛 En hs c y v (d, p) (tt, (tt, tt)) (tt, (tt, tt)))))))

@@ -63,14 +63,39 @@ release_spec 𝓤 𝓛 𝓜 𝓡 wired X L =
     let p1 = plain (λ _. Cr) in
     let p2 = plain (λ _. u64) in
     let p3 = plain (λ _. u64) in
-    let hs : Stays En.signature.params En.kept = (stay_dropped p0 yes, (stay_dropped p1 no, (stay_dropped p2 yes,
-        (stay_dropped p3 yes, tt)))) in
-    proved 𝓛 En hs c 𝓜 𝓡 (Goes-dropped 𝓛 2 p0 yes (λ κs x f. refl), (Goes-dropped 𝓛 2 p1 no (λ κs x f. refl),
-        (Goes-dropped 𝓛 2 p2 yes (λ κs x f. refl), (Goes-dropped 𝓛 2 p3 yes (λ κs x f. refl), tt)))) (#self inst) fn
-        closed
+    let hs : Stays En.signature.params En.kept = (
+      stay_dropped p0 yes,
+      (
+        stay_dropped p1 no,
+        (
+          stay_dropped p2 yes,
+          (stay_dropped p3 yes, tt),
+        ),
+      ),
+    ) in
+    proved 𝓛 En hs c 𝓜 𝓡 (
+      Goes-dropped 𝓛 2 p0 yes (λ κs x f. refl),
+      (
+        Goes-dropped 𝓛 2 p1 no (λ κs x f. refl),
+        (Goes-dropped 𝓛 2 p2 yes (λ κs x f. refl), (Goes-dropped 𝓛 2 p3 yes (λ κs x f. refl), tt)),
+      ),
+    ) (#self inst) fn
+    closed
     (λ κs. (shr_vals, ((λ x. word x.at ∷ []), (uint_vals w64, (uint_vals w64, tt)))))
-    (λ κs. (shr_Tells (named 0) κs.0 Row, ((λ x vs so. fields.claim_told R x.at vs so.0), (uint_Tells w64, (uint_Tells
-        w64, tt))))) (λ κs qs bounds a gh are.
+    (λ κs. (
+      shr_Tells (named 0) κs.0 Row,
+      (
+        (λ x vs so. fields.claim_told R x.at vs so.0),
+        (
+          uint_Tells w64,
+          (
+            uint_Tells
+                w64,
+            tt,
+          ),
+        ),
+      ),
+    )) (λ κs qs bounds a gh are.
     let b : ℕ = a.0.ref_ptr.0 in
     let o : ℕ = a.0.ref_ptr.1 in
     let κ : Lft = κs.0 in
@@ -120,7 +145,7 @@ release_spec 𝓤 𝓛 𝓜 𝓡 wired X L =
       of_place.0 i,
     )) refl $
     use1 𝓛 (‵ (fex R.Denot (steps.Opened 𝓛 R d (4 * t + 3) h.value d.at))) (steps.claim_opens 𝓛 R d (4 * t + 3)
-        h.value d.at) $
+    h.value d.at) $
     fpick ! (λ x. fpick ! (λ is.
     -- [the claim; the place; κ; the others]
     enter ! 𝓣.C 𝓣.Λ fn us Post $ alloc_all ! (λ l. pass_all ! refl (
@@ -141,7 +166,7 @@ release_spec 𝓤 𝓛 𝓜 𝓡 wired X L =
     ) $ let Ev = env fn.locals l in
     move ! (1 ∷ []) $ unhide ! $ fpick ! (λ α. fsplit ! $ move ! (0 ∷ 3 ∷ []) $
     use2 𝓛 (later (some (λ (s : Share). ‵ (flft α s) ⊛ raw (wand 𝓤 (𝓛.A.lft α s) (H.⇛ (𝓛.A.lft κ q)))))) (Lends-one 𝓛
-        𝓜 𝓡
+    𝓜 𝓡
     κ α q) $ await ! tt $ pick ! (λ s. split ! $
     let at : 4 * suc t ≡ w = omega (arith, of_turn.1) in
     let after : Fml = fsep (flft α s) ftrue in first ! $ blocks ! $
@@ -157,7 +182,7 @@ release_spec 𝓤 𝓛 𝓜 𝓡 wired X L =
     lands_last ! refl (tt, tt) $ exec ! 𝓣.C 𝓣.Λ Ev (tail fn.body) (at_ret Ev Post) $
     sets ! (of_opd ! (unit_lit !)) refl (tt, tt) $
     fsplit ! $ move ! (0 ∷ 2 ∷ []) $ use2 𝓛 (later (‵ (flft κ q))) (apply∗ 𝓤 (𝓛.A.lft α s) (H.⇛ (𝓛.A.lft κ q))) $
-        await ! tt $
+    await ! tt $
     move ! (0 ∷ 2 ∷ []) $ join ! $ feq_i ! (List Val) (vunit ∷ []) (vunit ∷ []) refl $
     nothing ! $ nothing ! $ nothing ! $ fjoin ! $ nothing ! $ fjoin ! $ nothing ! $ fjoin ! $ nothing ! $ fjoin ! $
     returns ! (look_at ! 0 refl) $ free_all ! refl $ keep ! (3 ∷ 0 ∷ 2 ∷ 1 ∷ []) $

@@ -66,14 +66,39 @@ show_spec 𝓤 𝓛 𝓜 𝓡 wired X L =
     let p1 = plain (λ _. Cr) in
     let p2 = plain (λ _. u64) in
     let p3 = plain (λ _. u64) in
-    let hs : Stays En.signature.params En.kept = (stay_dropped p0 yes, (stay_dropped p1 no, (stay_dropped p2 yes,
-        (stay_dropped p3 yes, tt)))) in
-    proved 𝓛 En hs c 𝓜 𝓡 (Goes-dropped 𝓛 2 p0 yes (λ κs x f. refl), (Goes-dropped 𝓛 2 p1 no (λ κs x f. refl),
-        (Goes-dropped 𝓛 2 p2 yes (λ κs x f. refl), (Goes-dropped 𝓛 2 p3 yes (λ κs x f. refl), tt)))) (#self inst) fn
-        closed
+    let hs : Stays En.signature.params En.kept = (
+      stay_dropped p0 yes,
+      (
+        stay_dropped p1 no,
+        (
+          stay_dropped p2 yes,
+          (stay_dropped p3 yes, tt),
+        ),
+      ),
+    ) in
+    proved 𝓛 En hs c 𝓜 𝓡 (
+      Goes-dropped 𝓛 2 p0 yes (λ κs x f. refl),
+      (
+        Goes-dropped 𝓛 2 p1 no (λ κs x f. refl),
+        (Goes-dropped 𝓛 2 p2 yes (λ κs x f. refl), (Goes-dropped 𝓛 2 p3 yes (λ κs x f. refl), tt)),
+      ),
+    ) (#self inst) fn
+    closed
     (λ κs. (shr_vals, ((λ x. word x.at ∷ []), (uint_vals w64, (uint_vals w64, tt)))))
-    (λ κs. (shr_Tells (named 0) κs.0 Row, ((λ x vs so. fields.claim_told R x.at vs so.0), (uint_Tells w64, (uint_Tells
-        w64, tt))))) (λ κs qs bounds a gh are.
+    (λ κs. (
+      shr_Tells (named 0) κs.0 Row,
+      (
+        (λ x vs so. fields.claim_told R x.at vs so.0),
+        (
+          uint_Tells w64,
+          (
+            uint_Tells
+                w64,
+            tt,
+          ),
+        ),
+      ),
+    )) (λ κs qs bounds a gh are.
     let b : ℕ = a.0.ref_ptr.0 in
     let o : ℕ = a.0.ref_ptr.1 in
     let κ : Lft = κs.0 in
@@ -113,10 +138,10 @@ show_spec 𝓤 𝓛 𝓜 𝓡 wired X L =
     let tX : Fml = flft κs.1.0 qs.1.0 in
     let inX : Type 0 = κs.1.0 ⊑ X.lives in
     qed 𝓛 (((‵ (flft κ q) ⊛ ‵ (fsep tX ftrue)) ⊛ ‵ (owns (types_at En.signature.params κs) a y.0.4)) ∷ raw (fact 𝓤
-        inX) ∷
+    inX) ∷
     raw (fact 𝓤 OfPlace) ∷ raw (fact 𝓤 OfTurn) ∷ []) ∵
     move ! (1 ∷ 2 ∷ 3 ∷ []) $ heard ! inX (λ le. heard ! OfPlace (λ of_place. heard ! OfTurn (λ of_turn. split ! $
-        split ! $
+    split ! $
     move ! (2 ∷ []) $ fsplit ! $ fsplit ! $
     keep ! (2 ∷ 1 ∷ 3 ∷ 4 ∷ []) $ fsplit ! $ fsplit ! $ keep ! (1 ∷ 3 ∷ 4 ∷ 5 ∷ []) $
     rewrite ! 0 (λ (z : Ptr × ℕ × ℕ × ℕ). ‵ (claim_of R z.0 z.1 z.2 h.value z.3)) (λ i. (
@@ -126,7 +151,7 @@ show_spec 𝓤 𝓛 𝓜 𝓡 wired X L =
       of_place.0 i,
     )) refl $
     use1 𝓛 (‵ (fex R.Denot (steps.Opened 𝓛 R d (4 * t + 1) h.value d.at))) (steps.claim_opens 𝓛 R d (4 * t + 1)
-        h.value d.at) $
+    h.value d.at) $
     fpick ! (λ x. fpick ! (λ is. fsplit ! $
     -- [obs; the value; the place; κ; X's token]
     enter ! 𝓣.C 𝓣.Λ fn us Post $ alloc_all ! (λ l. pass_all ! refl (
@@ -148,9 +173,9 @@ show_spec 𝓤 𝓛 𝓜 𝓡 wired X L =
     move ! (4 ∷ []) $ fsplit ! $ move ! (3 ∷ 0 ∷ []) $
     let laws = lent_at_shr_laws R LR.shr_laws d.at x in
     use2 𝓛 (later (‵ (fex ℕ (Frozen (lent_at R d.at x) laws 𝓛 (lies_at R full_share d.at x))) ⊛ ‵ tX)) (freezes
-        (lent_at R
+    (lent_at R
     d.at x) laws 𝓛 (lies_at R full_share d.at x) R.lives κs.1.0 qs.1.0 (Lends-lies 𝓛 R R.lives d.at x (LR.shares 𝓛 x))
-        le) $
+    le) $
     await ! tt $ split ! $ fpick ! (λ n. fsplit ! $ move ! (1 ∷ []) $ fsplit ! $
     use1 𝓛 (‵ (flft (n ∷ []) full_share)) (tokens_whole 𝓛 n) $
     -- [the token; shown; the value afterwards; X's token; nothing; obs; the place; κ]
@@ -159,7 +184,7 @@ show_spec 𝓤 𝓛 𝓜 𝓡 wired X L =
     -- [what is shown; X's token; nothing; the place; κ]
     move ! (3 ∷ []) $ unhide ! $ fpick ! (λ α. fsplit ! $ move ! (0 ∷ 5 ∷ []) $
     use2 𝓛 (later (some (λ (s : Share). ‵ (flft α s) ⊛ raw (wand 𝓤 (𝓛.A.lft α s) (H.⇛ (𝓛.A.lft κ q)))))) (Lends-one 𝓛
-        𝓜 𝓡
+    𝓜 𝓡
     κ α q) $ await ! tt $ pick ! (λ s. split ! $
     let after : Fml = fsep (flft α s) (turn_is R d.log t e) in first ! $ blocks ! $
     sets ! (addr ! (through ! refl (fld ! refl (stop !)))) refl (tt, tt) $ move ! (2 ∷ 0 ∷ 3 ∷ []) $
@@ -174,17 +199,17 @@ show_spec 𝓤 𝓛 𝓜 𝓡 wired X L =
     lands_last ! refl (tt, tt) $ exec ! 𝓣.C 𝓣.Λ Ev (tail fn.body) (at_ret Ev Post) $
     sets ! (agg ! (no_more !)) refl (tt, tt) $
     sets ! (agg ! (and_then ! (get ! refl) (and_then ! (get ! refl) (no_more !)))) refl (fields.name_typed t
-        are.1.1.0.1) $
+    are.1.1.0.1) $
     -- [the place's lifetime and the entry; its way back; X's token; nothing]
     fsplit ! $ move ! (0 ∷ 2 ∷ []) $ use2 𝓛 (later (‵ (flft κ q))) (apply∗ 𝓤 (𝓛.A.lft α s) (H.⇛ (𝓛.A.lft κ q))) $
-        await ! tt $
+    await ! tt $
     move ! (2 ∷ 3 ∷ []) $ fjoin ! $ move ! (1 ∷ 0 ∷ []) $ join ! $ move ! (1 ∷ []) $
     let r : Nr.Denot = record { turn = t; marker = record {}; log = d.log; value = x; lifetime = n } in
     let Told : Type 0 = (t ≡ t) × (d.log ≡ d.log) × (Some x ≡ h.value) in
     use0 𝓛 (‵ ((fields.Name R).own_val (t, (record {}, tt)) (fields.name_val t ∷ []))) (fields.name_made R 𝓛 t
-        are.1.1.0.1) $
+    are.1.1.0.1) $
     fjoin ! $
     use0 𝓛 (raw (fact 𝓤 Told)) (fact_i 𝓤 Told (emp 𝓤) (refl, refl, sym is)) $ nothing ! $ nothing ! $ fjoin ! $
-        nothing ! $ fjoin ! $ nothing ! $ fjoin ! $ nothing ! $ fjoin ! $
+    nothing ! $ fjoin ! $ nothing ! $ fjoin ! $ nothing ! $ fjoin ! $
     returns ! (look_at ! 0 refl) $ free_all ! refl $ keep ! (3 ∷ 0 ∷ 2 ∷ 1 ∷ []) $
     by ! (leaves 𝓛 En hs c y (fields.name_val t) r (tt, (tt, (tt, (tt, tt)))) (tt, (tt, (tt, (tt, tt)))))))))))))))))

@@ -60,10 +60,10 @@ reclaim_spec 𝓤 𝓛 𝓜 𝓡 wired X L =
     let p1 = plain (λ _. part_is.the_row R) in
     let hs : Stays En.signature.params En.kept = (stay_dropped p0 no, (stay_dropped p1 no, tt)) in
     proved 𝓛 En hs c 𝓜 𝓡 (Goes-dropped 𝓛 1 p0 no (λ κs x f. refl), (Goes-dropped 𝓛 1 p1 no (λ κs x f. refl), tt))
-        (#self inst) fn closed
+    (#self inst) fn closed
     (λ κs. ((λ x. word x.at ∷ []), ((λ x. part_fields.word x.ptr ∷ []), tt)))
     (λ κs. ((λ x vs so. fields.vacancy_told R x.at vs so.0), ((λ x vs so. part_fields.told R x.ptr vs so.0), tt))) (λ
-        κs qs bounds a gh are.
+    κs qs bounds a gh are.
     let Vr : RattleType = vacancy_is.the_row R in
     let Pr : RattleType = part_is.the_row R in
     let u : Vr.Denot = a.0 in
@@ -83,7 +83,7 @@ reclaim_spec 𝓤 𝓛 𝓜 𝓡 wired X L =
     -- [the parts' tokens; the vacancy; the tokens]
     rewrite ! 0 (λ (z : ℕ × ℕ). ‵ (tokens z.0 z.1)) (λ i. (asked.1 i, asked.2 i)) refl $ move ! (1 ∷ []) $
     rewrite ! 0 (λ (k : ℕ). ‵ (vacancy_of R p u.state u.word (u.value, n) k)) asked.0 refl $ fsplit ! $ move ! (1 ∷ 2
-        ∷ []) $
+    ∷ []) $
     enter ! 𝓣.C 𝓣.Λ fn (word p ∷ part_fields.word all.ptr ∷ []) Post $
     alloc_all ! (λ l. pass_all ! refl (word_typed p, (word_typed all.ptr, tt)) $
     use2 𝓛 (later (‵ whole_value)) (Rattle.epoch_lend.proofs.PartSteps.thaws (lent_at R p u.value) (lent_at_shr_laws R
@@ -92,6 +92,6 @@ reclaim_spec 𝓤 𝓛 𝓜 𝓡 wired X L =
     sets ! (agg ! (and_then ! (get ! refl) (no_more !))) refl (word_typed p) $
     use0 𝓛 (‵ ((fields.Claim R).own_val (p, tt) (word p ∷ []))) (fields.claim_made R 𝓛 p) $ fjoin ! $
     use0 𝓛 (raw (fact 𝓤 Told)) (fact_i 𝓤 Told (emp 𝓤) (refl, refl, refl, refl, refl)) $ nothing ! $ nothing ! $ fjoin
-        ! $ nothing ! $ fjoin ! $
+    ! $ nothing ! $ fjoin ! $
     returns ! (look_at ! 0 refl) $ free_all ! refl $ keep ! (3 ∷ 0 ∷ 2 ∷ 1 ∷ []) $
     by ! (leaves 𝓛 En hs c y (word p) h (tt, (tt, tt)) (tt, (tt, tt))))))
