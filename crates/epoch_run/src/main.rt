@@ -1,9 +1,11 @@
 //! `epoch-run`: reads a script of steps from standard input and prints what each of them tells, or runs threads, over a
-//! stack too.
+//! stack or a queue too.
 #![tactic(auto)]
 
+mod queue;
 mod runs;
 mod stack;
+mod tally;
 #[cfg(test)]
 mod tests;
 mod threads;

@@ -5,8 +5,9 @@ ghost use Rattle.epoch_script.specs.Sizes.{SpellsSize};
 ghost use Rattle.epoch_run.specs.declared.runs.Run.{Run};
 ghost use Rattle.epoch_run.specs.Runs.{SpellsRun};
 
-use crate::stack::{Popped, push_and_pop};
+use crate::tally::Popped;
 use crate::threads::come_and_go;
+use crate::{queue, stack};
 use epoch_bags::Job;
 use epoch_script::{Ending, Size, read_number};
 use std::alloc::Global;
@@ -24,8 +25,10 @@ const MOST: u64 = 64;
 pub enum Run {
     /// `threads N K`: N threads defer K jobs each.
     Threads(Size),
-    /// `stack N K`: N threads push and pop K values each.
+    /// `stack N K`: N threads push and pop K values each, over a stack.
     Stack(Size),
+    /// `queue N K`: N threads push and pop K values each, over a queue.
+    Queue(Size),
 }
 
 /// The run that the words of a command line ask for, or `None` where they ask for none.
@@ -52,6 +55,7 @@ fn read_run(form: &str, threads: &str, rounds: &str) -> Option<Run>
     match read_size(threads, rounds) {
         Some(size) if form == "threads" => Some(Run::Threads(size)),
         Some(size) if form == "stack" => Some(Run::Stack(size)),
+        Some(size) if form == "queue" => Some(Run::Queue(size)),
         _ => None,
     }
 }
@@ -73,8 +77,8 @@ fn read_size(threads: &str, rounds: &str) -> Option<Size>
 /// `called`.
 ///
 /// Where they ask for a run of threads it is told how many jobs were called, and where they ask for a run over a stack
-/// how many values were popped, and their sum. `Refused`: memory, a thread, a registration or a call was refused, and
-/// nothing is printed. `NotUnderstood`: the words ask for nothing, of which `faults` is told.
+/// or a queue how many values were popped, and their sum. `Refused`: memory, a thread, a registration or a call was
+/// refused, and nothing is printed. `NotUnderstood`: the words ask for nothing, of which `faults` is told.
 pub fn perform<R: Threads + Wait + Sync, A: Write, F: Write>(
     rt: &R,
     alloc: Global,
@@ -92,7 +96,11 @@ pub fn perform<R: Threads + Wait + Sync, A: Write, F: Write>(
             }
             tell_called(called, answers)
         }
-        Some(Run::Stack(size)) => match push_and_pop(rt, alloc, size) {
+        Some(Run::Stack(size)) => match stack::push_and_pop(rt, alloc, size) {
+            Some(popped) => tell_popped(popped, answers),
+            None => return Ending::Refused,
+        },
+        Some(Run::Queue(size)) => match queue::push_and_pop(rt, alloc, size) {
             Some(popped) => tell_popped(popped, answers),
             None => return Ending::Refused,
         },
@@ -104,7 +112,10 @@ pub fn perform<R: Threads + Wait + Sync, A: Write, F: Write>(
 }
 
 fn tell_usage<F: Write>(faults: &mut F) -> io::Result<Ending> {
-    writeln!(faults, "usage: epoch-run [threads N K | stack N K]")?;
+    writeln!(
+        faults,
+        "usage: epoch-run [threads N K | stack N K | queue N K]"
+    )?;
     faults.flush()?;
     Ok(Ending::NotUnderstood)
 }

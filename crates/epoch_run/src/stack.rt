@@ -1,62 +1,15 @@
 //! `epoch-run stack N K`: N threads that push and pop over one stack, K times each.
 ghost use Rattle.std.specs.Prelude.{◌≡◌};
 
+use crate::tally::{Popped, TRIES, Tally};
 use crate::threads::leave;
 use epoch_handles::{Capacities, Collector, LocalHandle};
 use epoch_script::Size;
 use epoch_stack::{Node, Stack};
 use std::alloc::Global;
 use std::sync::Wait;
-use std::sync::atomic::{AtomicBool, AtomicU64, Ordering};
 use std::thread;
 use std::thread::Threads;
-
-/// As often as a push or a pop tries.
-const TRIES: u32 = 100_000;
-
-/// How many values were popped, and their sum.
-#[derive(Clone, Copy)]
-pub struct Popped {
-    pub count: u64,
-    pub sum: u64,
-}
-
-/// What all threads have popped so far, and whether anything was refused to one of them.
-#[derive(Drop)]
-struct Tally {
-    count: AtomicU64,
-    sum: AtomicU64,
-    refused: AtomicBool,
-}
-
-impl Tally {
-    fn new() -> Tally {
-        Tally {
-            count: AtomicU64::new(0),
-            sum: AtomicU64::new(0),
-            refused: AtomicBool::new(false),
-        }
-    }
-
-    fn add(&self, value: u64) {
-        self.count.fetch_add(1, Ordering::SeqCst);
-        self.sum.fetch_add(value, Ordering::SeqCst);
-    }
-
-    fn refuse(&self) {
-        self.refused.store(true, Ordering::SeqCst);
-    }
-
-    /// What was popped, or `None` where anything was refused.
-    fn popped(&self) -> Option<Popped> {
-        if self.refused.load(Ordering::SeqCst) {
-            return None;
-        }
-        let count = self.count.load(Ordering::SeqCst);
-        let sum = self.sum.load(Ordering::SeqCst);
-        Some(Popped { count, sum })
-    }
-}
 
 /// A whole run: makes the collector and the stack, has all threads push and pop, and ends the collector. `None` where
 /// anything was refused.

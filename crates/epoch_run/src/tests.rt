@@ -153,6 +153,15 @@ fn threads_pop_each_value_that_they_push(rt: HostRuntime) -> Result<(), Fail> {
     expect_run(&rt, rt.alloc(), "stack 64 2", "popped 128 sum 8128\n")
 }
 
+#[test]
+fn threads_pop_each_value_that_they_push_behind_others(rt: HostRuntime) -> Result<(), Fail> {
+    expect_run(&rt, rt.alloc(), "queue 1 1", "popped 1 sum 0\n")?;
+    expect_run(&rt, rt.alloc(), "queue 1 3", "popped 3 sum 3\n")?;
+    expect_run(&rt, rt.alloc(), "queue 3 4", "popped 12 sum 66\n")?;
+    expect_run(&rt, rt.alloc(), "queue 8 64", "popped 512 sum 130816\n")?;
+    expect_run(&rt, rt.alloc(), "queue 64 2", "popped 128 sum 8128\n")
+}
+
 /// Command lines that ask for no run.
 const OTHER_WORDS: &[&str] = &[
     "threads",
@@ -177,6 +186,13 @@ const OTHER_WORDS: &[&str] = &[
     "stack 3 4 5",
     "Stack 3 4",
     "stacks 3 4",
+    "queue",
+    "queue 3",
+    "queue 0 1",
+    "queue 1 65",
+    "queue 3 4 5",
+    "Queue 3 4",
+    "queues 3 4",
     "",
 ];
 
@@ -189,7 +205,7 @@ fn expect_usage<R: Threads + Wait + Sync + Abort>(
     let asked = asked_by(alloc, line)?;
     want(rt, line, asked.jobs.len(), 0);
     let outcome = outcome_of(rt, alloc, asked, Vec::new(alloc));
-    let usage = "usage: epoch-run [threads N K | stack N K]\n";
+    let usage = "usage: epoch-run [threads N K | stack N K | queue N K]\n";
     want_told(rt, line, &outcome, (Ending::NotUnderstood, 2), "", usage)
 }
 
@@ -275,7 +291,7 @@ fn expect_each_refused<R: Threads + Wait + Sync + Abort>(
     Err(Fail::from("its writes have no end"))
 }
 
-/// Each write of runs of both forms, and of none, is refused in turn: the run ends so.
+/// Each write of runs of each form, and of none, is refused in turn: the run ends so.
 fn expect_all_refused<R: Threads + Wait + Sync + Abort>(
     rt: &R,
     alloc: Global,
@@ -283,6 +299,7 @@ fn expect_all_refused<R: Threads + Wait + Sync + Abort>(
 ) -> Result<(), Fail> {
     expect_each_refused(rt, alloc, "threads 1 1", refusal, Ending::Finished)?;
     expect_each_refused(rt, alloc, "stack 1 1", refusal, Ending::Finished)?;
+    expect_each_refused(rt, alloc, "queue 1 1", refusal, Ending::Finished)?;
     expect_each_refused(rt, alloc, "threads 1", refusal, Ending::NotUnderstood)
 }
 
@@ -336,4 +353,12 @@ fn a_run_over_a_stack_to_which_memory_is_refused_prints_nothing(
     rt: HostRuntime,
 ) -> Result<(), Fail> {
     expect_all_or_nothing(&rt, rt.alloc(), "stack 2 2", "popped 4 sum 6\n")
+}
+
+/// As the test above, over a queue.
+#[test]
+fn a_run_over_a_queue_to_which_memory_is_refused_prints_nothing(
+    rt: HostRuntime,
+) -> Result<(), Fail> {
+    expect_all_or_nothing(&rt, rt.alloc(), "queue 2 2", "popped 4 sum 6\n")
 }

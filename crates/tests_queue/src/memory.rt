@@ -1,0 +1,131 @@
+//! Memory that is refused to a push: `rt try --test --fail-alloc N` refuses the Nth allocation of each test, and each
+//! of these tests passes whichever that is. In a plain run no allocation is refused.
+use crate::calls::{
+    Handle, Nodes, Pin, end, new_queue, pin, register, release, told, unpin, want, want_empty,
+    want_pop,
+};
+use epoch_base::Fault;
+use epoch_pin::{Capacities, Collector};
+use epoch_queue::Queue;
+use std::alloc::Global;
+use std::process::Abort;
+
+/// A collector with one participant, so many cells and one place.
+fn new_collector(alloc: Global, cells: u32) -> Result<Nodes, Fault> {
+    let capacities = Capacities::usual(1, cells, 1);
+    if !capacities.is_valid() {
+        return Err(Fault::CellsFull);
+    }
+    Collector::new(alloc, capacities, 1)
+}
+
+/// A collector, for which memory is asked once more where it is refused.
+fn collector_at_last(alloc: Global, cells: u32) -> Result<Nodes, Fault> {
+    match new_collector(alloc, cells) {
+        Ok(collector) => Ok(collector),
+        Err(_) => new_collector(alloc, cells),
+    }
+}
+
+/// A queue, for which memory is asked once more where it is refused.
+fn queue_at_last<'c>(rt: &impl Abort, alloc: Global, collector: &'c Nodes) -> Queue<'c, u64> {
+    match Queue::new(alloc, collector) {
+        Ok(queue) => queue,
+        Err(_) => new_queue(rt, alloc, collector),
+    }
+}
+
+/// Pushes the value, and answers its fault. The value is handed back with it.
+fn pushed(
+    rt: &impl Abort,
+    queue: &Queue<'_, u64>,
+    handle: &mut Handle<'_>,
+    guard: &Pin<'_>,
+    value: u64,
+) -> Option<Fault> {
+    match told(queue.push(handle, guard, value, 1)) {
+        Ok(()) => None,
+        Err((fault, back)) => {
+            want(rt, "the value that comes back", back, value);
+            Some(fault)
+        }
+    }
+}
+
+/// One allocation is refused at most, so of 1 and 2 one is in the queue at least, and nothing else is.
+fn want_left(
+    rt: &impl Abort,
+    queue: &Queue<'_, u64>,
+    handle: &mut Handle<'_>,
+    guard: &Pin<'_>,
+    first: Option<Fault>,
+    second: Option<Fault>,
+) -> u64 {
+    let front = match first {
+        None => 1,
+        Some(fault) => {
+            want(rt, "why 1 is refused", fault, Fault::NoMemory);
+            want(rt, "why 2 is not refused", second, None);
+            0
+        }
+    };
+    if front == 1 {
+        want_pop(rt, queue, handle, guard, 1, Ok(Some(1)));
+    }
+    match second {
+        None => want_pop(rt, queue, handle, guard, 1, Ok(Some(2))),
+        Some(fault) => want(rt, "why 2 is refused", fault, Fault::NoMemory),
+    }
+    want_empty(rt, queue, handle, guard);
+    let back = if second.is_none() { 1 } else { 0 };
+    front + back
+}
+
+#[test]
+fn a_value_is_pushed_or_memory_is_refused(rt: HostRuntime) -> Result<(), Fault> {
+    let alloc = rt.alloc();
+    let collector = collector_at_last(alloc, 3)?;
+    let queue = queue_at_last(&rt, alloc, &collector);
+    let mut handle = register(&rt, &collector);
+    let guard = pin(&rt, &mut handle);
+    let first = pushed(&rt, &queue, &mut handle, &guard, 1);
+    let second = pushed(&rt, &queue, &mut handle, &guard, 2);
+    let popped = want_left(&rt, &queue, &mut handle, &guard, first, second);
+    unpin(&rt, &mut handle, guard);
+    release(&rt, handle);
+    drop(queue);
+    // A push that is refused has deferred nothing.
+    end(&rt, collector, popped);
+    Ok(())
+}
+
+/// Memory is refused once at most, and the cells are full else.
+fn want_full_or_refused(rt: &impl Abort, first: Option<Fault>, second: Option<Fault>) {
+    if first == Some(Fault::NoMemory) {
+        want(rt, "the second fault", second, Some(Fault::CellsFull));
+    } else {
+        want(rt, "the first fault", first, Some(Fault::CellsFull));
+        if second != Some(Fault::NoMemory) {
+            want(rt, "the second fault", second, Some(Fault::CellsFull));
+        }
+    }
+}
+
+// Without a further cell: memory that is refused is told before full cells.
+#[test]
+fn refused_memory_is_told_before_full_cells(rt: HostRuntime) -> Result<(), Fault> {
+    let alloc = rt.alloc();
+    let collector = collector_at_last(alloc, 1)?;
+    let queue = queue_at_last(&rt, alloc, &collector);
+    let mut handle = register(&rt, &collector);
+    let guard = pin(&rt, &mut handle);
+    let first = pushed(&rt, &queue, &mut handle, &guard, 1);
+    let second = pushed(&rt, &queue, &mut handle, &guard, 2);
+    want_full_or_refused(&rt, first, second);
+    want_empty(&rt, &queue, &mut handle, &guard);
+    unpin(&rt, &mut handle, guard);
+    release(&rt, handle);
+    drop(queue);
+    end(&rt, collector, 0);
+    Ok(())
+}
