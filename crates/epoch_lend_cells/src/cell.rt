@@ -1,5 +1,5 @@
 //! A cell that lends: one place in memory, which holds one value after another, and guards look at each by one load.
-ghost use Rattle.std.specs.Prelude.{◌≡◌, ℕ, ◌+◌, ◌*◌, ◌≤◌, Some, IfSome, IfOk, IfErr};
+ghost use Rattle.std.specs.Prelude.{◌≡◌, ℕ, ◌+◌, ◌*◌, ◌≤◌, IfSome, IfOk, IfErr};
 ghost use Rattle.epoch_lend.specs.Posts.{IsAmong, logs_of};
 ghost use Rattle.epoch_lend.specs.Loans.{Within, EachSeen, is_sealed};
 ghost use Rattle.epoch_lend_cells.specs.declared.cell.TheConstants.{LAST_TURN};
@@ -15,8 +15,8 @@ pub const LAST_TURN: u64 = 0x3fff_ffff_ffff_fffe;
 /// A cell that lends its values to guards of some posts. Each value has a turn of its own, and no turn comes twice.
 #[derive(Drop)]
 pub struct LendingCell<'p, T> {
-    turns: Turns<Option<T>>,
-    at: *const Option<T>,
+    turns: Turns<T>,
+    at: *const T,
     posts: &'p [Post],
     pub ghost same: { at ≡ turns.at },
     pub ghost of_posts: { turns.posts ≡ logs_of posts.now },
@@ -26,7 +26,7 @@ pub struct LendingCell<'p, T> {
 #[derive(Drop)]
 pub struct Placed<'c, 'p, T> {
     pub cell: &'c LendingCell<'p, T>,
-    pub name: Name<Option<T>>,
+    pub name: Name<T>,
     pub turn: u64,
     pub word: u64,
     pub ghost of_cell: { name.log ≡ cell.now.turns.log },
@@ -38,8 +38,8 @@ pub struct Placed<'c, 'p, T> {
 #[derive(Drop)]
 pub struct Removal<'c, 'p, T> {
     cell: &'c LendingCell<'p, T>,
-    pub marked: Marked<Option<T>>,
-    vacancy: Vacancy<Option<T>>,
+    pub marked: Marked<T>,
+    vacancy: Vacancy<T>,
     turn: u64,
     pub ghost rights: { (marked.right ≡ 1) × (vacancy.right ≡ 1) },
     pub ghost alike: { (vacancy.value ≡ marked.value) × (vacancy.lifetime ≡ marked.lifetime) },
@@ -57,24 +57,26 @@ pub struct Sealed<'c, 'p, T> {
 }
 
 impl<'p, T: Drop> LendingCell<'p, T> {
-    /// An empty cell at turn 0. Guards of these posts may look at its values. Its place in memory is never freed.
+    /// An empty cell at turn 0. Guards of these posts may look at its values. The filler lies in its place, and no
+    /// guard sees it, until the first value takes its turn. The place in memory is never freed.
     pub fn new<A: Allocator + Drop>(
         alloc: A,
+        filler: T,
         posts: &'p [Post],
     ) -> Result<LendingCell<'p, T>, AllocError>
         ensures { IfOk result (λ cell. cell.posts.now ≡ posts.now) }
     {
-        let whole = Box::new(alloc, None)?;
+        let whole = Box::new(alloc, filler)?;
         let (place, _alloc) = place_of(whole);
         let (turns, at) = Turns::new(place, posts);
         Ok(LendingCell { turns, at, posts })
     }
 
-    /// Places a value at this turn, and answers its name. Hands the value back where the cell isn't empty at this
-    /// turn, or the turn is past the last.
+    /// Places a value at this turn, and answers its name. The filler that lay there is dropped. Hands the value back
+    /// where the cell isn't empty at this turn, or the turn is past the last.
     pub fn place(&self, turn: u64, value: T) -> Result<Placed<'_, 'p, T>, T>
         ensures placed { IfOk result (λ placed. (placed.turn ≡ turn) × (placed.cell.now ≡ self.now)
-            × (placed.name.value ≡ Some value)) }
+            × (placed.name.value ≡ value)) }
         ensures handed_back { IfErr result (λ back. back ≡ value) }
     {
         if turn > LAST_TURN {
@@ -86,7 +88,7 @@ impl<'p, T: Drop> LendingCell<'p, T> {
             claim.done();
             return Err(value);
         }
-        let (claim, _) = claim.swap(Some(value));
+        let (claim, _filler) = claim.swap(value);
         let name = self.turns.show(claim, turn, vacant + 2);
         Ok(Placed {
             cell: self,
@@ -102,12 +104,12 @@ impl<'c, 'p, T> Placed<'c, 'p, T> {
     /// `None`: it was marked, whatever the cell has now. The guard must be of one of the cell's posts.
     pub fn look<'g>(&self, guard: &'g Guard) -> Option<&'g T>
         requires { IsAmong guard.now.log (logs_of self.now.cell.now.posts.now) }
-        ensures { IfSome result (λ value. Some value.now ≡ self.now.name.value) }
+        ensures { IfSome result (λ value. value.now ≡ self.now.name.value) }
     {
         let cell = self.cell;
         let (found, glance) = cell.turns.look(&self.name, guard, cell.at, self.word);
         if found == self.word {
-            glance.get().as_ref()
+            Some(glance.get())
         } else {
             glance.done();
             None
@@ -164,13 +166,13 @@ impl<'c, 'p, T> Removal<'c, 'p, T> {
 }
 
 impl<'c, 'p, T> Sealed<'c, 'p, T> {
-    /// Looks at each post once more. Where none is pinned in an epoch before the seal, the value comes out whole, and
-    /// its cell is empty at the next turn. Else the removal comes back, to be tried again, since a guard that had a
-    /// loan may live.
-    pub fn take_back(self) -> Result<Option<T>, Sealed<'c, 'p, T>>
+    /// Looks at each post once more. Where none is pinned in an epoch before the seal, the value comes out whole, the
+    /// filler takes its place, and the cell is empty at the next turn. Else the removal and the filler come back, to be
+    /// tried again, since a guard that had a loan may live.
+    pub fn take_back(self, filler: T) -> Result<T, (Sealed<'c, 'p, T>, T)>
         ensures value { IfOk result (λ value. value ≡ self.entry.removal.marked.value) }
-        ensures again { IfErr result (λ sealed. (sealed.removal.marked.value ≡ self.entry.removal.marked.value)
-            × (sealed.removal.marked.loans ≡ self.entry.removal.marked.loans)) }
+        ensures again { IfErr result (λ back. (back.0.removal.marked.value ≡ self.entry.removal.marked.value)
+            × (back.0.removal.marked.loans ≡ self.entry.removal.marked.loans) × (back.1 ≡ filler)) }
     {
         let Sealed { removal, seal } = self;
         let Removal {
@@ -181,20 +183,18 @@ impl<'c, 'p, T> Sealed<'c, 'p, T> {
         } = removal;
         match marked.take_back(cell.posts, seal) {
             Ok(all) => {
-                let (claim, value) = vacancy.reclaim(all).swap(None);
+                let (claim, value) = vacancy.reclaim(all).swap(filler);
                 cell.turns.release(claim, turn, 4 * turn + 4);
                 Ok(value)
             }
             Err(marked) => {
-                Err(Sealed {
-                    removal: Removal {
-                        cell,
-                        marked,
-                        vacancy,
-                        turn,
-                    },
-                    seal,
-                })
+                let removal = Removal {
+                    cell,
+                    marked,
+                    vacancy,
+                    turn,
+                };
+                Err((Sealed { removal, seal }, filler))
             }
         }
     }

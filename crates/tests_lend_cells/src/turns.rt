@@ -1,0 +1,100 @@
+ghost use Rattle.std.specs.Prelude.{◌≡◌};
+ghost use Rattle.epoch_lend.specs.Posts.{IsAmong, logs_of};
+
+use crate::wants::want;
+use epoch_lend::post::{Guard, Post};
+use epoch_lend_cells::cell::{LAST_TURN, LendingCell, Placed, Sealed};
+use std::test::Fail;
+
+/// What a look at the name finds, or 0.
+fn found(placed: &Placed<'_, '_, u64>, guard: &Guard) -> u64
+    requires { IsAmong guard.now.log (logs_of placed.now.cell.now.posts.now) }
+{
+    match placed.look(guard) {
+        Some(value) => *value,
+        None => 0,
+    }
+}
+
+/// What comes back at one try: the value, or 0 with what has to be tried again.
+fn one_try<'c, 'p>(sealed: Sealed<'c, 'p, u64>) -> (u64, Option<Sealed<'c, 'p, u64>>) {
+    match sealed.take_back(3) {
+        Ok(value) => (value, None),
+        Err((sealed, _)) => (0, Some(sealed)),
+    }
+}
+
+/// What comes back at another try, or 0.
+fn tried_again(sealed: Option<Sealed<'_, '_, u64>>) -> u64 {
+    match sealed {
+        Some(sealed) => one_try(sealed).0,
+        None => 0,
+    }
+}
+
+/// Marks the value, and looks at each post for the first time.
+fn removed<'c, 'p>(placed: &Placed<'c, 'p, u64>) -> Option<Sealed<'c, 'p, u64>> {
+    match placed.mark() {
+        Some(removal) => Some(removal.seal()),
+        None => None,
+    }
+}
+
+/// Whether the cell takes a value at this turn.
+fn takes(cell: &LendingCell<'_, u64>, turn: u64) -> bool {
+    cell.place(turn, 9).is_ok()
+}
+
+#[test]
+fn a_cell_is_used_again_at_the_next_turn(rt: HostRuntime) -> Result<(), Fail> {
+    let (first, unpinned) = Post::new();
+    let posts = [first];
+    let cell = LendingCell::new(rt.alloc(), 3, &posts)?;
+    let Ok(old) = cell.place(0, 7) else {
+        want(&rt, "an empty cell takes a value", false, true);
+        return Ok(());
+    };
+    want(
+        &rt,
+        "a cell with a value takes no other",
+        takes(&cell, 0),
+        false,
+    );
+    want(&rt, "nor one of the next turn", takes(&cell, 1), false);
+    want(
+        &rt,
+        "nor one past the last turn",
+        takes(&cell, LAST_TURN + 1),
+        false,
+    );
+    let (pin, guard) = posts[0].pin(unpinned, 1);
+    want(&rt, "the value is lent", found(&old, &guard), 7);
+    let sealed = removed(&old);
+    want(
+        &rt,
+        "no look finds it after its mark",
+        found(&old, &guard),
+        0,
+    );
+    want(&rt, "it is marked once", old.mark().is_none(), true);
+    let early = tried(sealed);
+    want(&rt, "it stays while the guard lives", early.0, 0);
+    let _ = posts[0].unpin(pin, guard);
+    want(&rt, "and comes back after it", tried_again(early.1), 7);
+    want(
+        &rt,
+        "the old turn doesn't come again",
+        takes(&cell, 0),
+        false,
+    );
+    want(&rt, "the next one does", takes(&cell, 1), true);
+    Ok(())
+}
+
+/// What comes back at the first try of a removal, if there is one.
+fn tried<'c, 'p>(sealed: Option<Sealed<'c, 'p, u64>>) -> (u64, Option<Sealed<'c, 'p, u64>>) {
+    match sealed {
+        Some(sealed) => one_try(sealed),
+        None => (2, None),
+    }
+}
