@@ -3,10 +3,9 @@
 //! Each call on an [`Atomic`] makes one atomic step on its word, except those that try an exchange again. Each step
 //! acts as `SeqCst`, whichever ordering is asked for. No call on an existing `Atomic` or a [`Shared`] takes memory or
 //! waits.
-ghost use Rattle.std.specs.Prelude.{◌≡◌, ◌<◌, ◌%◌, ◌⊎◌, IfSome, IfOk, IfErr, OnOk};
+ghost use Rattle.std.specs.Prelude.{◌≡◌, ◌<◌, ◌%◌, ◌⊎◌, IfSome, IfOk, IfErr};
 ghost use Rattle.epoch_cells.specs.declared.fault.Fault.TheVariants.{CellsFull, NoMemory};
 ghost use Rattle.epoch_atomic.specs.Pointers.{IsPointerWord, Reads, IsRead, IsUnder};
-ghost use Rattle.epoch_atomic.specs.WordSteps.{LoadsPointer, StoresPointer, SwapsPointer};
 
 mod borrow;
 mod destroy;
@@ -38,19 +37,15 @@ use std::fmt::Debug;
 use std::marker::PhantomData;
 use std::sync::atomic::{AtomicIn, Ordering};
 pub use update::UpdateFault;
-pub use word::{PointerWord, SharedWord};
-use word::{name_in, pointer_word};
+use word::{PointerWord, name_in, pointer_word};
 
 /// A pointer with a tag that threads share: null, or the name of a value in a cell.
 ///
 /// It isn't tied to a collector: a call reads it under a guard of the collector that the values are of. Dropping
 /// an `Atomic` leaves the value in its cell.
-///
-/// `A` is the word, of which there is one kind: no caller names it. What a call did to the word is told by
-/// [`SharedWord`].
 #[derive(Drop)]
-pub struct Atomic<T, A = AtomicIn<PointerWord>> {
-    word: A,
+pub struct Atomic<T> {
+    word: AtomicIn<PointerWord>,
     of: PhantomData<T>,
 }
 
@@ -74,16 +69,13 @@ impl<T: Pointable> Atomic<T> {
     pub fn null() -> Atomic<T> {
         Atomic::from(Shared::null())
     }
-}
 
-impl<T: Pointable, A: SharedWord> Atomic<T, A> {
     /// The pointer that is stored now. The load acts as `SeqCst`, whichever ordering is asked for.
     #[inline(always)]
     pub fn load<'g, W>(&self, order: Ordering, guard: &'g Guard<'_, T, W>) -> Shared<'g, T>
         ensures read { IsRead T.ALIGN result.name result.tag }
         ensures below { result.tag < T.ALIGN }
         ensures home { IsUnder guard.now.collector.now.id result.home }
-        ensures did { LoadsPointer T.ALIGN (A.did self.now.word) result.name result.tag }
     {
         read(self.word.load(order), guard)
     }
@@ -93,7 +85,6 @@ impl<T: Pointable, A: SharedWord> Atomic<T, A> {
         ensures read { IsRead T.ALIGN result.name result.tag }
         ensures below { result.tag < T.ALIGN }
         ensures home { IsUnder guard.now.collector.now.id result.home }
-        ensures did { LoadsPointer T.ALIGN (A.did self.now.word) result.name result.tag }
     {
         self.load(Ordering::Acquire, guard)
     }
@@ -111,7 +102,6 @@ impl<T: Pointable, A: SharedWord> Atomic<T, A> {
         guard: &'g Guard<'_, T, W>,
     ) -> Result<(), P>
         ensures full { IfErr result (λ back. P.takes_cell × (back ≡ new)) }
-        ensures did { OnOk result (StoresPointer T.ALIGN (A.did self.now.word) (P.becomes new)) }
     {
         let word = new.enter_word(guard)?;
         self.word.store(word, order);
@@ -133,7 +123,6 @@ impl<T: Pointable, A: SharedWord> Atomic<T, A> {
         ensures below { IfOk result (λ before. before.tag < T.ALIGN) }
         ensures home { IfOk result (λ before. IsUnder guard.now.collector.now.id before.home) }
         ensures full { IfErr result (λ back. P.takes_cell × (back ≡ new)) }
-        ensures did { IfOk result (SwapsPointer T.ALIGN (A.did self.now.word) (P.becomes new)) }
     {
         let word = new.enter_word(guard)?;
         Ok(read(self.word.swap(word, order), guard))

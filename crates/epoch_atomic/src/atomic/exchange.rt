@@ -1,14 +1,12 @@
 //! Exchanges of one pointer for another.
 ghost use Rattle.std.specs.Prelude.{◌≡◌, ◌≢◌, IfOk, IfErr};
 ghost use Rattle.epoch_atomic.specs.Pointers.{IsPointerWord, BecomesBelow, BecomesBoth, IsUnder};
-ghost use Rattle.epoch_atomic.specs.WordSteps.{ExchangesPointer, MissesPointer};
-ghost use Rattle.epoch_atomic.specs.WordSteps.WordStep.{Exchanges, Misses};
 ghost use Rattle.epoch_atomic.specs.Exchanges.{OnChanged, OnFull, OnStuck, FindsAnother, AnswersUnder};
 
 use crate::atomic::orders::CompareAndSetOrdering;
 use crate::atomic::pointer::Pointer;
 use crate::atomic::shared::Shared;
-use crate::atomic::word::{SharedWord, pointer_word};
+use crate::atomic::word::pointer_word;
 use crate::atomic::{Atomic, read};
 use epoch_handles::Guard;
 use epoch_values::Pointable;
@@ -38,7 +36,7 @@ pub enum ExchangeFault<'g, T, P> {
     Stuck(Shared<'g, T>),
 }
 
-impl<T: Pointable, A: SharedWord> Atomic<T, A> {
+impl<T: Pointable> Atomic<T> {
     /// Stores `new` where `current` stands, pointer and tag both, and answers the pointer that was written.
     ///
     /// An owned value is placed in a cell first, and is taken back where the exchange is lost. What an
@@ -61,9 +59,6 @@ impl<T: Pointable, A: SharedWord> Atomic<T, A> {
         ensures full { IfErr result (λ fault. OnFull fault (λ back. P.takes_cell × (back ≡ new))) }
         ensures stuck { IfErr result
             (λ fault. OnStuck fault (λ stuck. P.takes_cell × P.becomes new stuck.name stuck.tag)) }
-        ensures won { IfOk result (ExchangesPointer T.ALIGN (A.did self.now.word) current.entry) }
-        ensures lost { IfErr result (λ fault.
-            OnChanged fault (λ found back. MissesPointer T.ALIGN (A.did self.now.word) current.entry found)) }
         ensures home { IfOk result (λ written. IsUnder guard.now.collector.now.id written.home) }
         ensures fault_home { IfErr result (λ fault. AnswersUnder guard.now.collector.now.id fault) }
     {
@@ -98,8 +93,6 @@ impl<T: Pointable, A: SharedWord> Atomic<T, A> {
         requires { IsPointerWord new }
         ensures ok { IfOk result (λ found. found ≡ expected) }
         ensures err { IfErr result (λ found. (found ≢ expected) × IsPointerWord found) }
-        ensures won { IfOk result (λ found. A.did self.now.word (Exchanges expected new)) }
-        ensures lost { IfErr result (λ found. A.did self.now.word (Misses expected found)) }
     {
         self.word.compare_exchange(expected, new, success, failure)
     }
@@ -122,9 +115,6 @@ impl<T: Pointable, A: SharedWord> Atomic<T, A> {
         ensures full { IfErr result (λ fault. OnFull fault (λ back. P.takes_cell × (back ≡ new))) }
         ensures stuck { IfErr result
             (λ fault. OnStuck fault (λ stuck. P.takes_cell × P.becomes new stuck.name stuck.tag)) }
-        ensures won { IfOk result (ExchangesPointer T.ALIGN (A.did self.now.word) current.entry) }
-        ensures lost { IfErr result (λ fault.
-            OnChanged fault (λ found back. MissesPointer T.ALIGN (A.did self.now.word) current.entry found)) }
         ensures home { IfOk result (λ written. IsUnder guard.now.collector.now.id written.home) }
         ensures fault_home { IfErr result (λ fault. AnswersUnder guard.now.collector.now.id fault) }
     {
@@ -148,9 +138,6 @@ impl<T: Pointable, A: SharedWord> Atomic<T, A> {
         ensures full { IfErr result (λ fault. OnFull fault (λ back. P.takes_cell × (back ≡ new))) }
         ensures stuck { IfErr result
             (λ fault. OnStuck fault (λ stuck. P.takes_cell × P.becomes new stuck.name stuck.tag)) }
-        ensures won { IfOk result (ExchangesPointer T.ALIGN (A.did self.now.word) current.entry) }
-        ensures lost { IfErr result (λ fault.
-            OnChanged fault (λ found back. MissesPointer T.ALIGN (A.did self.now.word) current.entry found)) }
         ensures home { IfOk result (λ written. IsUnder guard.now.collector.now.id written.home) }
         ensures fault_home { IfErr result (λ fault. AnswersUnder guard.now.collector.now.id fault) }
     {
@@ -173,9 +160,6 @@ impl<T: Pointable, A: SharedWord> Atomic<T, A> {
         ensures full { IfErr result (λ fault. OnFull fault (λ back. P.takes_cell × (back ≡ new))) }
         ensures stuck { IfErr result
             (λ fault. OnStuck fault (λ stuck. P.takes_cell × P.becomes new stuck.name stuck.tag)) }
-        ensures won { IfOk result (ExchangesPointer T.ALIGN (A.did self.now.word) current.entry) }
-        ensures lost { IfErr result (λ fault.
-            OnChanged fault (λ found back. MissesPointer T.ALIGN (A.did self.now.word) current.entry found)) }
         ensures home { IfOk result (λ written. IsUnder guard.now.collector.now.id written.home) }
         ensures fault_home { IfErr result (λ fault. AnswersUnder guard.now.collector.now.id fault) }
     {
