@@ -48,6 +48,7 @@ test:
 	@for name in $(PICTURES); do cmp crates/tests_draw/data/$$name.svg docs/pictures/$$name.svg || exit 1; done
 	@rm -rf .git/proving .git/refuting
 	@tools/refute.py --stand
+	@tools/quotes.py
 	@tools/gate.py
 
 refute:

@@ -1,6 +1,7 @@
 //! Small programs over these crates, each a page to copy: the functions are proved, and the tests run them.
 #![tactic(auto)]
 
+pub mod crossed_out;
 pub mod last_owner;
 pub mod replacement;
 pub mod schedule;

@@ -1,4 +1,5 @@
 //! Runs the examples, on threads where they are for threads.
+use crate::crossed_out::{Entry, List};
 use crate::last_owner::take_apart;
 use crate::replacement::read_late;
 use crate::schedule::half_a_pin;
@@ -9,6 +10,8 @@ use epoch_stack::{Node, Stack};
 use epoch_world::{Answer, Reply};
 use std::alloc::Global;
 use std::process::Abort;
+use std::sync::atomic::AtomicU64;
+use std::sync::atomic::Ordering::SeqCst;
 use std::test::Fail;
 use std::thread;
 
@@ -106,6 +109,61 @@ fn the_last_owner_takes_all_that_threads_pushed(rt: HostRuntime) -> Result<(), F
         }
     });
     assert_eq!(rt; take_apart(&collector, stack), 4 * 5050);
+    let _ = collector.end();
+    Ok(())
+}
+
+/// Puts 25 numbers from this one on, each under a guard of its own.
+fn put_25(rt: &impl Abort, alloc: Global, collector: &Collector<Entry>, list: &List, first: u64) {
+    let mut handle = collector.register().expect(rt, "a free position");
+    for index in 0..25u64 {
+        assert!(rt; handle.can_pin());
+        let guard = handle.pin();
+        let put = list.put(alloc, first.wrapping_add(index), &guard, 1_000_000);
+        handle.unpin(guard);
+        assert!(rt; put == Ok(()), "the number {index} behind {first} is put");
+    }
+    assert!(rt; handle.guards_out() == 0);
+    handle.release().expect(rt, "a place for the bag");
+}
+
+/// Crosses out the numbers from 1 to 50, and counts those that this thread was the one to cross out.
+fn cross_out_50(rt: &impl Abort, collector: &Collector<Entry>, list: &List, count: &AtomicU64) {
+    let mut handle = collector.register().expect(rt, "a free position");
+    for number in 1..51u64 {
+        assert!(rt; handle.can_pin());
+        let guard = handle.pin();
+        let crossed_out = list.cross_out(number, &guard, 1_000);
+        handle.unpin(guard);
+        match crossed_out {
+            Ok(true) => {
+                let _ = count.fetch_add(1, SeqCst);
+            }
+            Ok(false) => {}
+            Err(fault) => panic!(rt; "{number}: {fault}"),
+        }
+    }
+    assert!(rt; handle.guards_out() == 0);
+    handle.release().expect(rt, "a place for the bag");
+}
+
+#[test]
+fn each_number_is_crossed_out_by_one_thread(rt: HostRuntime) -> Result<(), Fail> {
+    let collector = Collector::<Entry>::new(rt.alloc(), Capacities::usual(4, 100, 16), 1)?;
+    let (list, count) = (List::new(), AtomicU64::new(0));
+    let (host, alloc, entries, shared, counted) = (&rt, rt.alloc(), &collector, &list, &count);
+    thread::scope(thread::scope_env(), &rt, |scope| {
+        for thread in 0..4u64 {
+            let _ = scope.spawn(move || put_25(host, alloc, entries, shared, 1 + 25 * thread));
+        }
+    });
+    thread::scope(thread::scope_env(), &rt, |scope| {
+        for _ in 0..4u64 {
+            let _ = scope.spawn(move || cross_out_50(host, entries, shared, counted));
+        }
+    });
+    assert_eq!(rt; count.load(SeqCst), 50);
+    assert_eq!(rt; list.take_apart(&collector), 50);
     let _ = collector.end();
     Ok(())
 }

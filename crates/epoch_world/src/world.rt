@@ -31,6 +31,7 @@ mod guards;
 mod places;
 mod readings;
 mod seat;
+mod shown;
 
 use calls::{go_on, go_to_end, most_steps};
 use common::Common;

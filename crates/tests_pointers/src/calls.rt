@@ -13,14 +13,24 @@ pub(crate) fn count(rt: &impl Abort, alloc: Global) -> Arc<AtomicU64> {
     want_ok(rt, "memory for a count", Arc::new(alloc, AtomicU64::new(0)))
 }
 
-/// A collector with these capacities.
+/// A collector with these capacities, and the number 1.
 pub(crate) fn collector<T: Drop>(
     rt: &impl Abort,
     alloc: Global,
     capacities: Capacities,
 ) -> Collector<T> {
+    numbered(rt, alloc, capacities, 1)
+}
+
+/// A collector with these capacities and this number.
+pub(crate) fn numbered<T: Drop>(
+    rt: &impl Abort,
+    alloc: Global,
+    capacities: Capacities,
+    id: u64,
+) -> Collector<T> {
     assert!(rt; capacities.is_valid(), "the capacities are in their ranges");
-    let made = Collector::new(alloc, capacities, 1);
+    let made = Collector::new(alloc, capacities, id);
     want_ok(rt, "memory for a collector", made)
 }
 

@@ -1,8 +1,10 @@
 ghost use Rattle.std.specs.Prelude.{◌≡◌, refl};
 ghost use Rattle.std.proofs.Common.{lit≤};
 
-use crate::calls::{collector, count, end, flush, let_go, pin, register, release, rounds, unpin};
-use crate::wants::{want, want_count, want_err, want_ok, want_true};
+use crate::calls::{
+    collector, count, end, flush, let_go, numbered, pin, register, release, rounds, unpin,
+};
+use crate::wants::{want, want_count, want_err, want_ok, want_some, want_true};
 use epoch_base::{Fault, Refused};
 use epoch_pin::atomic::{Array, Atomic, DeferDestroy, Owned, Pointable, Shared};
 use epoch_pin::{Capacities, Guard, LocalHandle, unprotected};
@@ -220,11 +222,18 @@ fn a_value_left_in_its_cell_is_dropped_by_the_end(rt: HostRuntime) {
     want_count(&rt, "drops at the end", &drops, 2);
 }
 
-/// The removal of null, whatever its tag, is refused as that of a stranger's pointer.
-fn refuse_null(rt: &impl Abort, handle: &mut LocalHandle<'_, u64>, guard: &Guard<'_, u64>) {
-    let removed = handle.defer_destroy(guard, Shared::null().with_tag(3));
-    let Refused { fault, value: _ } = want_err(rt, "null has no value", removed);
-    want(rt, "the fault", fault.number(), 14);
+/// The deferral of this removal is refused with the fault of this number.
+fn refuse(
+    rt: &impl Abort,
+    what: &str,
+    handle: &mut LocalHandle<'_, u64>,
+    guard: &Guard<'_, u64>,
+    shared: Shared<'_, u64>,
+    fault: u64,
+) {
+    let Refused { fault: told, value } = want_err(rt, what, handle.defer_destroy(guard, shared));
+    want(rt, what, told.number(), fault);
+    want_true(rt, what, value == shared);
 }
 
 #[test]
@@ -235,11 +244,81 @@ fn a_removal_under_an_unprotected_guard_is_made_at_once_and_one_of_null_is_refus
     let collector = collector::<u64>(&rt, alloc, Capacities::usual(1, 1, 1));
     let mut handle = register(&rt, &collector);
     let guard = unprotected(&collector);
-    refuse_null(&rt, &mut handle, &guard);
+    let null = Shared::null().with_tag(3);
+    refuse(&rt, "null has no value", &mut handle, &guard, null, 14);
     // Each value is gone before the next one comes into the only cell.
     remove_later(&rt, alloc, &mut handle, &guard, 5);
     remove_later(&rt, alloc, &mut handle, &guard, 6);
     let_go(&rt, guard);
+    release(&rt, handle);
+    end(&rt, collector, 0);
+}
+
+#[test]
+fn pointers_and_guards_of_another_collector_are_refused(rt: HostRuntime) {
+    let alloc = rt.alloc();
+    let one = collector::<u64>(&rt, alloc, Capacities::usual(1, 1, 1));
+    let two = numbered::<u64>(&rt, alloc, Capacities::usual(1, 1, 1), 2);
+    let (mut own, mut other) = (register(&rt, &one), register(&rt, &two));
+    let (mine, others) = (pin(&rt, &mut own), pin(&rt, &mut other));
+    let foreign = placed(&rt, alloc, &others, 5);
+    let null = Shared::null().with_tag(3);
+    refuse(&rt, "another's pointer", &mut own, &mine, foreign, 14);
+    refuse(&rt, "another's guard", &mut own, &others, foreign, 8);
+    refuse(&rt, "null", &mut own, &mine, null, 14);
+    refuse(&rt, "null, and another's guard", &mut own, &others, null, 8);
+    unpin(&rt, &mut own, mine);
+    unpin(&rt, &mut other, others);
+    release(&rt, own);
+    release(&rt, other);
+    end(&rt, one, 0);
+    end(&rt, two, 0);
+}
+
+#[test]
+fn a_pointer_of_a_collector_with_the_same_number_is_taken_for_its_own(rt: HostRuntime) {
+    let alloc = rt.alloc();
+    let one = collector::<u64>(&rt, alloc, Capacities::usual(1, 1, 1));
+    let two = collector::<u64>(&rt, alloc, Capacities::usual(1, 1, 1));
+    let (mut own, mut other) = (register(&rt, &one), register(&rt, &two));
+    let (mine, others) = (pin(&rt, &mut own), pin(&rt, &mut other));
+    let foreign = placed(&rt, alloc, &others, 5);
+    let kept = own.defer_destroy(&mine, foreign).is_ok();
+    want_true(&rt, "the removal is kept", kept);
+    unpin(&rt, &mut own, mine);
+    release(&rt, own);
+    // The removal looks for the name in its own cells, where it isn't.
+    end(&rt, one, 1);
+    let back = want_some(&rt, "the value stands", foreign.into_owned());
+    want(&rt, "the value", *back.into_box(), 5);
+    unpin(&rt, &mut other, others);
+    release(&rt, other);
+    end(&rt, two, 0);
+}
+
+/// No cell is free for a value.
+fn refuse_place(rt: &impl Abort, alloc: Global, guard: &Guard<'_, u64>) {
+    let owned = want_ok(rt, "memory for a value", Owned::new(alloc, 6));
+    let Refused { fault, value: _ } = want_err(rt, "no cell is free", owned.into_shared(guard));
+    want(rt, "the fault", fault.number(), 2);
+}
+
+// The removal is sealed with 1, and so it is called in epoch 3, by the second flush after its own.
+#[test]
+fn the_only_cell_is_free_when_the_removal_of_its_value_was_called(rt: HostRuntime) {
+    let alloc = rt.alloc();
+    let collector = collector::<u64>(&rt, alloc, Capacities::usual(1, 1, 1));
+    let mut handle = register(&rt, &collector);
+    remove_and_flush(&rt, alloc, &mut handle);
+    let guard = pin(&rt, &mut handle);
+    flush(&rt, &mut handle, &guard);
+    refuse_place(&rt, alloc, &guard);
+    unpin(&rt, &mut handle, guard);
+    let guard = pin(&rt, &mut handle);
+    refuse_place(&rt, alloc, &guard);
+    flush(&rt, &mut handle, &guard);
+    let _ = placed(&rt, alloc, &guard, 7);
+    unpin(&rt, &mut handle, guard);
     release(&rt, handle);
     end(&rt, collector, 0);
 }

@@ -140,6 +140,62 @@ const POINTERS: &[Row] = &[
     ),
 ];
 
+/// Which names are known, and which calls find nothing.
+const NAMES: &[Row] = &[
+    (
+        "a name is known from the step on that places its value, and not from the end of that call",
+        "shape 2 1 0 0 1 1 0 0;register;register;call 1 pin;begin 0 place 7;call 1 read 0 1.0;go 0;\
+         call 1 read 0 1.0;go 0",
+        "registered 0;registered 1;pinned 1;guard 0;began;refused 14 StrangerPointer;stepped;value 7;\
+         name 1.0",
+    ),
+    (
+        "without cells a place is refused at its first step",
+        "shape 1 0 0 0 1 1 0 0;register;begin 0 place 7;go 0;go 0",
+        "registered 0;began;refused 2 CellsFull;refused 6 Idle",
+    ),
+    (
+        "an update whose cell goes between its load and its exchange finds nothing, with tries left",
+        "shape 2 1 0 1 1 4 0 0;register;register;call 0 pin;call 1 pin;call 0 place 9;\
+         begin 0 update 0 1.0/0 3 tag 1;go 0;call 1 take 0 1.0;go 0;go 0",
+        "registered 0;registered 1;pinned 0;guard 0;pinned 1;guard 0;name 1.0;began;stepped;value 9;\
+         stepped;absent",
+    ),
+    (
+        "each name of a line has to have been given, also one that would never be looked at",
+        "shape 1 1 1 1 1 4 0 0;register;call 0 pin;call 0 place 1;call 0 cas 0 r0 1.1 null;\
+         call 0 cas 0 r0 null 1.1;call 0 update 0 r0 0 to 1.1;call 0 load 0 1.1/0;call 0 read 0 2.0;\
+         call 0 write 0 1.1 5;call 0 take 0 1.1;call 0 leave 1.1;call 0 swap 0 r0 1.1;\
+         call 0 store r0 1.1;call 0 load 0 r0",
+        "registered 0;pinned 0;guard 0;name 1.0;refused 14 StrangerPointer;refused 14 StrangerPointer;\
+         refused 14 StrangerPointer;refused 14 StrangerPointer;refused 14 StrangerPointer;\
+         refused 14 StrangerPointer;refused 14 StrangerPointer;refused 14 StrangerPointer;\
+         refused 14 StrangerPointer;refused 14 StrangerPointer;pointer null",
+    ),
+    (
+        "a field that no cell has is refused before its name is looked at; one of a cell that is gone is not",
+        "shape 1 1 0 1 1 4 0 0;register;call 0 pin;call 0 load 0 9.9/7;call 0 load 0 9.9/0;call 0 place 1;\
+         call 0 take 0 1.0;call 0 load 0 1.0/1;call 0 load 0 1.0/0",
+        "registered 0;pinned 0;guard 0;refused 13 NoSuchPlace;refused 14 StrangerPointer;name 1.0;value 1;\
+         refused 13 NoSuchPlace;absent",
+    ),
+    (
+        "a cell is read once at a time, whatever the tags are",
+        "shape 1 1 0 0 1 4 0 0;register;call 0 pin;call 0 place 6;call 0 read 0 1.0+1;call 0 read 0 1.0;\
+         call 0 leave 1.0+2;call 0 leave 1.0;call 0 read 0 1.0",
+        "registered 0;pinned 0;guard 0;name 1.0;value 6;refused 5 Busy;done;refused 14 StrangerPointer;\
+         value 6",
+    ),
+    (
+        "tags of a line may be any number of 64 bits, and count modulo the alignment",
+        "shape 1 0 1 0 1 4 0 0;register;call 0 pin;call 0 or 0 r0 18446744073709551615;call 0 load 0 r0;\
+         call 0 cas 0 r0 null+7 null+6;call 0 load 0 r0;call 0 xor 0 r0 18446744073709551615;\
+         call 0 load 0 r0;call 0 and 0 r0 18446744073709551614;call 0 load 0 r0",
+        "registered 0;pinned 0;guard 0;pointer null;pointer null+3;exchanged null+2;pointer null+2;\
+         pointer null+2;pointer null+1;pointer null+1;pointer null",
+    ),
+];
+
 /// What a pin protects.
 const REACH: &[Row] = &[
     (
@@ -178,6 +234,11 @@ fn cells_are_placed_read_written_taken_and_removed(rt: HostRuntime) -> Result<()
 #[test]
 fn pointers_are_exchanged_by_name_and_tag(rt: HostRuntime) -> Result<(), Fail> {
     expect_rows(&rt, rt.alloc(), POINTERS)
+}
+
+#[test]
+fn names_are_known_from_their_placing_on(rt: HostRuntime) -> Result<(), Fail> {
+    expect_rows(&rt, rt.alloc(), NAMES)
 }
 
 #[test]
