@@ -1,0 +1,10 @@
+//! A map after Harris and Michael in the cells of a world: its program of phases, and what holds of every run.
+#![tactic(auto)]
+
+mod laws;
+mod plan;
+mod program;
+
+pub use laws::{every_map_run_keeps_reach, every_map_run_leaves_cells_once};
+pub use plan::{Aim, MapAnswer, Phase, Work};
+pub use program::{key_of, start_work};
