@@ -1,8 +1,12 @@
+pub mod CallsLeft
+pub mod DeedsDone
 pub mod MapChains
-pub mod MapLinks
+pub mod MapExchanges
 pub mod MapForm
 pub mod MapKept
-pub mod MapSteps
-pub mod MapExchanges
-pub mod MapTouches
+pub mod MapLinks
+pub mod MapLists
 pub mod MapRuns
+pub mod MapSteps
+pub mod MapTouches
+pub mod MapTurns

@@ -1,12 +1,13 @@
 -- Whole runs of a map, from a fresh world on.
-use Rattle.std.proofs.Common.{◌≡◌, ◌≢◌, ℕ, suc, [], Option, Some, None, inl, inr, refl, ap, sym, subst, ◌∙◌}
+use Rattle.std.proofs.Common.{◌≡◌, ◌≢◌, ℕ, suc, List, [], Option, Some, None, inl, inr, refl, ap, sym, subst, ◌∙◌}
 use Rattle.std.proofs.Common.{slice_get, ◌-◌}
 use Rattle.epoch_cells.specs.PlainCells.{if_has}
 use Rattle.epoch_cells.specs.declared.cells.name.Name.{Name}
 use Rattle.epoch_heap.specs.declared.access.Ptr.{Ptr}
 use Rattle.epoch_heap.specs.declared.access.Spot.TheVariants.{Root, Field}
 use Rattle.epoch_heap.specs.Heap.{Cell, null, field_in, pointer_at}
-use Rattle.epoch_laws.specs.Run.{WorldSeat, State, seat_of, IsFresh}
+use Rattle.epoch_laws.specs.declared.step.Entry.{Entry}
+use Rattle.epoch_laws.specs.Run.{WorldSeat, State, seat_of, TakesStep, IsFresh}
 use Rattle.epoch_reach_laws.specs.Reach.{Leads, IsReachable, from_root, from_field, no_past, past_of, LeavesOnce}
 use Rattle.epoch_reach_laws.specs.Reach.{KeepsLoaded}
 use Rattle.epoch_reach_laws.proofs.JobsAsDeferred.{fresh_jobs}
@@ -17,11 +18,14 @@ use Rattle.epoch_plans.specs.Plans.{AllPlans, world_log, run_of_world}
 use Rattle.epoch_plans.proofs.Cells.{none_at}
 use Rattle.epoch_plans.proofs.Custody.{Tied, now_of, Sound, StandsNow, OwnsNow}
 use Rattle.epoch_plans.proofs.Runs.{runs_leave}
+use Rattle.epoch_plans.proofs.RunsSound.{runs_sound}
 use Rattle.epoch_map_laws.specs.declared.plan.Phase.{Phase}
 use Rattle.epoch_map_laws.specs.Map.{map, Starts, MapLog, MapRuns, IsNewMap}
-use Rattle.epoch_map_laws.specs.MapEntries.{Rooted, BucketHolds}
+use Rattle.epoch_map_laws.specs.MapEntries.{Item, Rooted, BucketHolds, Ascends, MapHolds, Has, Lacks, StepOnEntries, FindsNone}
+use Rattle.epoch_map_laws.specs.MapEntries.{FindsEntry}
 use Rattle.epoch_map_laws.proofs.MapKept.{structure}
 use Rattle.epoch_map_laws.proofs.MapTouches.{map_obeys}
+use Rattle.epoch_map_laws.proofs.MapTurns.{step_on_entries, finds_none, finds_entry}
 
 -- nothing stands in a fresh world's cells
 no_field : (s : State) → IsFresh s → (n : Name) (f : ℕ) (ptr : Ptr) → pointer_at s.heap (Field n f) ≢ Some ptr
@@ -96,3 +100,26 @@ every_map_run_keeps_reach world world' plans plans' log new run =
     every_run_keeps_reach world world' (world_log log) new.fresh
     (run_of_world map Starts world plans log world' plans' run)
     (every_map_run_leaves_cells_once world world' plans plans' log new run)
+
+pub every_map_run_holds_sorted_lists : (world world' : State) (plans plans' : AllPlans Phase) (log : MapLog)
+    → IsNewMap world plans → MapRuns world plans log world' plans' → (i : ℕ)
+    → MapHolds world.heap i [] × ((xs : List Item) × BucketHolds world'.heap i xs × Ascends 0 xs)
+every_map_run_holds_sorted_lists world world' plans plans' log new run i =
+    let last = runs_sound map structure Starts map_obeys no_past world plans log world' plans'
+    (new_sound world plans new) run in (
+      ([], empty_bucket world new.fresh i, refl),
+      (last.1.ghost i, last.1.shape.form.held i, last.1.shape.form.sorted i),
+    )
+
+pub every_map_run_is_a_map : (world world' new : State) (plans plans' : AllPlans Phase) (log : MapLog)
+    (x : Entry) → IsNewMap world plans → MapRuns world plans log world' plans'
+    → TakesStep world' x.step x.reply new → (i : ℕ) (vs : List ℕ) → MapHolds world'.heap i vs
+    → StepOnEntries world' plans' x new i vs × ((key : ℕ) → FindsNone world' plans' x new i key → Lacks key vs)
+    × ((v : ℕ) → FindsEntry world' plans' x new i v → Has v vs)
+every_map_run_is_a_map world world' new plans plans' log x fresh run takes i vs holds =
+    let last = runs_sound map structure Starts map_obeys no_past world plans log world' plans'
+    (new_sound world plans fresh) run in (
+      step_on_entries last.0 world' new plans' x last.1 takes i vs holds,
+      finds_none last.0 world' new plans' x last.1 takes i vs holds,
+      finds_entry last.0 world' new plans' x last.1 takes i vs holds,
+    )
