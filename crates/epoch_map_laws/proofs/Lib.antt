@@ -1,0 +1,12 @@
+pub mod CallsLeft
+pub mod DeedsDone
+pub mod MapChains
+pub mod MapExchanges
+pub mod MapForm
+pub mod MapKept
+pub mod MapLinks
+pub mod MapLists
+pub mod MapRuns
+pub mod MapSteps
+pub mod MapTouches
+pub mod MapTurns

@@ -1,0 +1,245 @@
+-- The program of a map after Harris and Michael: each bucket's root leads to the first of its nodes, whose keys ascend,
+-- and a node's field with a mark, which is tag 1, says that its entry was removed. Whoever wins the exchange that
+-- unlinks the node, and nobody else, defers its removal.
+use Rattle.std.specs.Prelude.{ℕ, zero, suc, ◌+◌, ◌*◌, ◌/◌, ◌≤◌, Bool, true, false, Option, Some, None, ◌≡◌, List, nat_lt}
+use Rattle.std.specs.Prelude.{if◌then◌else◌}
+use Rattle.epoch_cells.specs.declared.cells.name.Name.{Name}
+use Rattle.epoch_heap.specs.declared.access.Ptr.{Ptr}
+use Rattle.epoch_heap.specs.declared.access.Spot.{Spot}
+use Rattle.epoch_heap.specs.declared.access.Spot.TheVariants.{Root, Field}
+use Rattle.epoch_heap.specs.declared.access.Change.TheVariants.{Load, Store, CompareExchange}
+use Rattle.epoch_heap.specs.declared.access.Access.{Access}
+use Rattle.epoch_heap.specs.declared.access.Access.TheVariants.{Place, Read, Leave, Point}
+use Rattle.epoch_heap.specs.declared.access.Answer.{Answer}
+use Rattle.epoch_heap.specs.declared.access.Answer.TheVariants.{Unit as UnitAnswer, Name as NameAnswer, Value, Pointer}
+use Rattle.epoch_heap.specs.declared.access.Answer.TheVariants.{Exchanged}
+use Rattle.epoch_laws.specs.Run.{State, IsFresh}
+use Rattle.epoch_plans.specs.declared.plan.Plan.TheVariants.{NoPlan}
+use Rattle.epoch_plans.specs.Plans.{Deed, Flushes, Touches, Defers, Answers, Program, AllPlans, PlanEvent, PlanRuns}
+use Rattle.epoch_map_laws.specs.declared.plan.Work.{Work}
+use Rattle.epoch_map_laws.specs.declared.plan.Work.TheVariants.{Insert, Remove, Get}
+use Rattle.epoch_map_laws.specs.declared.plan.Aim.{Aim}
+use Rattle.epoch_map_laws.specs.declared.plan.Aim.TheVariants.{ToInsert, ToRemove, ToGet}
+use Rattle.epoch_map_laws.specs.declared.plan.MapAnswer.{MapAnswer}
+use Rattle.epoch_map_laws.specs.declared.plan.MapAnswer.TheVariants.{Inserted, AlreadyThere, AlreadyThereLeaking}
+use Rattle.epoch_map_laws.specs.declared.plan.MapAnswer.TheVariants.{Removed, RemovedLeaking, Found, NotFound, MovesOut}
+use Rattle.epoch_map_laws.specs.declared.plan.MapAnswer.TheVariants.{MovesOutLeaking, CellsFull, BagsFull}
+use Rattle.epoch_map_laws.specs.declared.plan.Phase.{Phase}
+use Rattle.epoch_map_laws.specs.declared.plan.Phase.TheVariants.{MakingRoom, Placing, LoadingFirst, Reading, Leaving}
+use Rattle.epoch_map_laws.specs.declared.plan.Phase.TheVariants.{LoadingNext, Unlinking, Burying, Linking, Inserting}
+use Rattle.epoch_map_laws.specs.declared.plan.Phase.TheVariants.{Marking, Dropping, Removing, TakingBack, Answering}
+
+-- the key of an entry
+unfoldable pub key_of : ℕ → ℕ
+key_of entry = entry / 4294967296
+
+-- POINTERS, AND CALLS ON THEM
+
+abbrev pub plain : Option Name → Ptr
+plain next = record { name = next; tag = 0 }
+
+abbrev pub marked : Option Name → Ptr
+marked next = record { name = next; tag = 1 }
+
+abbrev pub load : ℕ → Spot → Access
+load g spot = Point (Some g) spot Load
+
+-- exchanges the pointer there, if it is this one still, for the other
+abbrev pub exchange : ℕ → Spot → Ptr → Ptr → Access
+exchange g spot current other = Point (Some g) spot (CompareExchange current other)
+
+-- WHAT A WALK IS FOR
+
+abbrev pub bucket_of : Aim → ℕ
+bucket_of (ToInsert b e own) = b
+bucket_of (ToRemove b key) = b
+bucket_of (ToGet b key) = b
+
+abbrev pub key_sought : Aim → ℕ
+key_sought (ToInsert b e own) = key_of e
+key_sought (ToRemove b key) = key
+key_sought (ToGet b key) = key
+
+-- WHAT FOLLOWS
+
+-- no move is left: an own node is taken back
+abbrev pub out_of_moves : Aim → Phase
+out_of_moves (ToInsert b e own) = TakingBack own MovesOut
+out_of_moves _ = Answering MovesOut
+
+-- the walk begins again, if a move is left
+abbrev pub again : Aim → ℕ → Phase
+again aim zero = out_of_moves aim
+again aim (suc k) = LoadingFirst aim k
+
+-- the first phase of a call, where the held bag has room
+abbrev pub start_work : Work → Phase
+start_work (Insert b e k) = Placing b e k
+start_work (Remove b key k) = again (ToRemove b key) k
+start_work (Get b key k) = again (ToGet b key) k
+
+-- and where it has room or hasn't
+abbrev pub begin_work : Work → Bool → Phase
+begin_work work true = start_work work
+begin_work work false = MakingRoom work
+
+-- the link leads past the key
+abbrev pub absent : Aim → Spot → Option Name → ℕ → Phase
+absent (ToInsert b e own) link next k = Linking b e own link next k
+absent _ link next k = Answering NotFound
+
+-- the node holds this entry of the key, and had no mark when its field was loaded
+abbrev pub present : Aim → Spot → Name → ℕ → Option Name → ℕ → Phase
+present (ToInsert b e own) link c v next k = TakingBack own (AlreadyThere v)
+present (ToRemove b key) link c v next k = Marking b key link c v next k
+present (ToGet b key) link c v next k = Answering (Found v)
+
+-- a link leads to this node, if a move is left to go on to it
+abbrev pub to_node : Aim → Spot → Name → ℕ → Phase
+to_node aim link c zero = out_of_moves aim
+to_node aim link c (suc k) = Reading aim link c k
+
+abbrev pub at : Aim → Spot → Option Name → ℕ → Phase
+at aim link None k = absent aim link None k
+at aim link (Some c) k = to_node aim link c k
+
+-- what follows from the entry that was read, before the node's field is loaded
+abbrev pub to_look : Aim → Spot → Name → ℕ → ℕ → Phase
+to_look aim link c v k =
+    if nat_lt (key_sought aim) (key_of v) then absent aim link (Some c) k else LoadingNext aim link c v k
+
+-- what follows from the node's field, by its name and tag
+abbrev pub looked_at : Aim → Spot → Name → ℕ → ℕ → Option Name → ℕ → Phase
+looked_at aim link c v k next zero =
+    if nat_lt (key_of v) (key_sought aim) then at aim (Field c 0) next k else present aim link c v next k
+looked_at aim link c v k next (suc tag) = Unlinking aim link c next k
+
+-- the answer where the removal of an own node was refused
+abbrev pub leaking : MapAnswer → MapAnswer
+leaking (AlreadyThere v) = AlreadyThereLeaking v
+leaking MovesOut = MovesOutLeaking
+leaking answer = answer
+
+-- the walk begins again, from a phase whose call did nothing
+abbrev pub lost : Phase → Phase
+lost (LoadingFirst aim k) = again aim k
+lost (Reading aim link c k) = again aim k
+lost (Leaving aim link c v k) = again aim k
+lost (LoadingNext aim link c v k) = again aim k
+lost (Unlinking aim link c next k) = again aim k
+lost (Linking b e own link next k) = again (ToInsert b e own) k
+lost (Inserting b e own link next k) = again (ToInsert b e own) k
+lost (Marking b key link c v next k) = again (ToRemove b key) k
+lost phase = phase
+
+-- WHAT FOLLOWS FROM ANSWERS
+
+abbrev pub placed : ℕ → ℕ → ℕ → Answer → Phase
+placed b e k (NameAnswer n) = again (ToInsert b e n) k
+placed b e k _ = Answering CellsFull
+
+abbrev pub first_loaded : Aim → ℕ → Answer → Phase
+first_loaded aim k (Pointer ptr) = at aim (Root (bucket_of aim)) ptr.name k
+first_loaded aim k _ = again aim k
+
+abbrev pub read : Aim → Spot → Name → ℕ → Answer → Phase
+read aim link c k (Value v) = Leaving aim link c v k
+read aim link c k _ = again aim k
+
+abbrev pub next_loaded : Aim → Spot → Name → ℕ → ℕ → Answer → Phase
+next_loaded aim link c v k (Pointer ptr) = looked_at aim link c v k ptr.name ptr.tag
+next_loaded aim link c v k _ = again aim k
+
+abbrev pub unlinked : Aim → Name → ℕ → Answer → Phase
+unlinked aim c k (Exchanged ptr) = Burying aim c k
+unlinked aim c k _ = again aim k
+
+abbrev pub linked : ℕ → ℕ → Name → Spot → Option Name → ℕ → Answer → Phase
+linked b e own link next k UnitAnswer = Inserting b e own link next k
+linked b e own link next k _ = again (ToInsert b e own) k
+
+abbrev pub inserted : ℕ → ℕ → Name → ℕ → Answer → Phase
+inserted b e own k (Exchanged ptr) = Answering Inserted
+inserted b e own k _ = again (ToInsert b e own) k
+
+abbrev pub marked_now : ℕ → ℕ → Spot → Name → ℕ → Option Name → ℕ → Answer → Phase
+marked_now b key link c v next k (Exchanged ptr) = Dropping b key link c v next
+marked_now b key link c v next k _ = again (ToRemove b key) k
+
+-- where another has unlinked the node, that one defers its removal
+abbrev pub dropped : Name → ℕ → Answer → Phase
+dropped c v (Exchanged ptr) = Removing c v
+dropped c v _ = Answering (Removed v)
+
+-- what each phase does
+abbrev pub deed_of : ℕ → Phase → Deed Phase MapAnswer
+deed_of g (MakingRoom work) = Flushes (start_work work) (Answering BagsFull)
+deed_of g (Placing b e k) = Touches (Place e) (placed b e k) (Answering CellsFull)
+deed_of g (LoadingFirst aim k) = Touches (load g (Root (bucket_of aim))) (first_loaded aim k) (again aim k)
+deed_of g (Reading aim link c k) = Touches (Read (Some g) (plain (Some c))) (read aim link c k) (again aim k)
+deed_of g (Leaving aim link c v k) = Touches (Leave (plain (Some c))) (λ a. to_look aim link c v k) (again aim k)
+deed_of g (LoadingNext aim link c v k) =
+    Touches (load g (Field c 0)) (next_loaded aim link c v k) (again aim k)
+deed_of g (Unlinking aim link c next k) =
+    Touches (exchange g link (plain (Some c)) (plain next)) (unlinked aim c k) (again aim k)
+deed_of g (Burying aim c k) = Defers c (again aim k) (Answering MovesOutLeaking)
+deed_of g (Linking b e own link next k) =
+    Touches (Point (Some g) (Field own 0) (Store (plain next))) (linked b e own link next k) (again (ToInsert b e own) k)
+deed_of g (Inserting b e own link next k) =
+    Touches (exchange g link (plain next) (plain (Some own))) (inserted b e own k) (again (ToInsert b e own) k)
+deed_of g (Marking b key link c v next k) =
+    Touches (exchange g (Field c 0) (plain next) (marked next)) (marked_now b key link c v next k)
+    (again (ToRemove b key) k)
+deed_of g (Dropping b key link c v next) =
+    Touches (exchange g link (plain (Some c)) (plain next)) (dropped c v) (Answering (Removed v))
+deed_of g (Removing c v) = Defers c (Answering (Removed v)) (Answering (RemovedLeaking v))
+deed_of g (TakingBack own answer) = Defers own (Answering answer) (Answering (leaking answer))
+deed_of g (Answering a) = Answers a
+
+-- how many calls of the world are made from this phase on, at most: five a move
+abbrev pub calls_left : Phase → ℕ
+calls_left (MakingRoom (Insert b e k)) = 5 * k + 3
+calls_left (MakingRoom (Remove b key k)) = 5 * k + 2
+calls_left (MakingRoom (Get b key k)) = 5 * k + 2
+calls_left (Placing b e k) = 5 * k + 2
+calls_left (LoadingFirst aim k) = 5 * k + 6
+calls_left (Reading aim link c k) = 5 * k + 6
+calls_left (Leaving aim link c v k) = 5 * k + 5
+calls_left (LoadingNext aim link c v k) = 5 * k + 4
+calls_left (Unlinking aim link c next k) = 5 * k + 3
+calls_left (Burying aim c k) = 5 * k + 2
+calls_left (Linking b e own link next k) = 5 * k + 3
+calls_left (Inserting b e own link next k) = 5 * k + 2
+calls_left (Marking b key link c v next k) = 5 * k + 3
+calls_left (Dropping b key link c v next) = 2
+calls_left (Removing c v) = 1
+calls_left (TakingBack own answer) = 1
+calls_left (Answering a) = 0
+
+-- the program
+abbrev pub map : Program
+map = record { Phase = Phase; Answer = MapAnswer; deed = deed_of }
+
+-- a call begins by making room, or at once
+abbrev pub Starts : Phase → Type 0
+Starts (MakingRoom work) = Unit {0}
+Starts (Placing b e k) = Unit {0}
+Starts (LoadingFirst (ToRemove b key) k) = Unit {0}
+Starts (LoadingFirst (ToGet b key) k) = Unit {0}
+Starts (Answering MovesOut) = Unit {0}  -- with no move
+Starts _ = ⊥
+
+-- what the steps of a map show
+abbrev pub MapLog : Type 0
+MapLog = List (PlanEvent Phase MapAnswer)
+
+-- a world and the plans of map calls go by the steps that show these events
+abbrev pub MapRuns : State → AllPlans Phase → MapLog → State → AllPlans Phase → Type 0
+MapRuns world plans log world' plans' = PlanRuns map Starts world plans log world' plans'
+
+-- A new map: a new world, whose roots are the buckets, and no call under way. Tags are taken modulo the alignment, so a
+-- mark needs an alignment of 2 at least.
+pub record IsNewMap (world : State) (plans : AllPlans Phase) : Type 0 where
+  pub fresh : IsFresh world
+  pub marks : 2 ≤ world.heap.align
+  pub no_plans : (p : ℕ) → plans p ≡ NoPlan
