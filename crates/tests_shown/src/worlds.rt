@@ -1,0 +1,59 @@
+//! Worlds are shown by their epoch and by counts: of participants, of tickets, and of calls of a structure.
+use crate::wants::want_shown;
+use epoch_bags::Places;
+use epoch_cells::Fault;
+use epoch_laws::{Call, Deferral, Shape, Step};
+use epoch_queue_world::{PlainCall, PlanStep, QueueWorld, Work};
+use epoch_stack_world::{Plain, StackStep, StackWorld};
+use epoch_world::World;
+
+// The first pin collects, and advances the epoch to 1.
+#[test]
+fn a_world_is_shown_by_its_epoch_and_counts(rt: HostRuntime) -> Result<(), Fault> {
+    let alloc = rt.alloc();
+    let mut world = World::<Places<Deferral>>::new(alloc, Shape::usual(3, 0, 0, 0))?;
+    let wanted = "World { epoch: 0, participants: 0, tickets: 0, .. }";
+    want_shown(&rt, alloc, "a new world", &world, wanted);
+    world.run(&[Step::Register, Step::Register])?;
+    world.call(1, Call::Pin)?;
+    world.call(1, Call::Defer(Some(0)))?;
+    let wanted = "World { epoch: 1, participants: 2, tickets: 1, .. }";
+    want_shown(&rt, alloc, "after a deferral", &world, wanted);
+    world.call(0, Call::Release)?;
+    let wanted = "World { epoch: 1, participants: 1, tickets: 1, .. }";
+    want_shown(&rt, alloc, "after a release", &world, wanted);
+    Ok(())
+}
+
+#[test]
+fn a_stacks_world_is_shown_by_its_world_and_its_calls(rt: HostRuntime) -> Result<(), Fault> {
+    let alloc = rt.alloc();
+    let mut stack = StackWorld::<Places<Deferral>>::new(alloc, Shape::usual(2, 2, 1, 1))?;
+    stack.run(&[StackStep::Register, StackStep::Begin(0, Plain::Pin)])?;
+    for _ in 0..20 {
+        let _ = stack.step(StackStep::Go(0));
+    }
+    let wanted =
+        "StackWorld { world: World { epoch: 1, participants: 1, tickets: 0, .. }, calls: 0, .. }";
+    want_shown(&rt, alloc, "after a pin", &stack, wanted);
+    let _ = stack.step(StackStep::Push(0, 0, 7, 1));
+    let wanted =
+        "StackWorld { world: World { epoch: 1, participants: 1, tickets: 0, .. }, calls: 1, .. }";
+    want_shown(&rt, alloc, "in a push", &stack, wanted);
+    Ok(())
+}
+
+#[test]
+fn a_queues_world_is_shown_by_its_world_and_its_calls(rt: HostRuntime) -> Result<(), Fault> {
+    let alloc = rt.alloc();
+    let mut queue = QueueWorld::<Places<Deferral>>::new(alloc, Shape::usual(2, 2, 2, 1))?;
+    queue.run(&[PlanStep::Register, PlanStep::Begin(0, PlainCall::Pin)])?;
+    for _ in 0..20 {
+        let _ = queue.step(PlanStep::Go(0));
+    }
+    let _ = queue.step(PlanStep::Ask(0, 0, Work::Build));
+    let wanted =
+        "QueueWorld { queue: PlanWorld { world: World { epoch: 1, participants: 1, tickets: 0, .. }, calls: 1, .. } }";
+    want_shown(&rt, alloc, "in its first call", &queue, wanted);
+    Ok(())
+}
