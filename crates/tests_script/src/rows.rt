@@ -366,6 +366,36 @@ const PAUSES: &[Row] = &[
             "registered 0;pinned 0;guard 0;unpinned 0;done;done;refused 5 Busy;word 2;pinned 0;done",
         )],
     ),
+    (
+        "a resume is refused by the participant, then by its call, then by its pause, and then by the guard",
+        &[(
+            0,
+            1,
+            "shape 1 0 0 0 1 1 0 0;call 0 resume 0;register;call 0 pin;call 0 resume 99;call 0 pin;\
+             call 0 pause 1;call 0 resume 99;call 0 resume 0;call 0 resume 1;begin 0 flush 0;call 0 resume 99",
+        )],
+        &[(
+            0,
+            1,
+            "refused 7 NotRegistered;registered 0;pinned 0;guard 0;refused 6 Idle;guard 1;done;\
+             refused 8 StrangerGuard;refused 8 StrangerGuard;done;began;refused 5 Busy",
+        )],
+    ),
+    (
+        "a paused participant is busy, before anything else of the call is looked at",
+        &[(
+            0,
+            1,
+            "shape 1 0 0 0 1 1 0 0;register;call 0 pin;call 0 pause 0;call 0 release;call 0 pause -;\
+             call 0 flush 7;call 0 load 0 r0;call 0 defer-destroy 0 null;call 0 pin;call 0 resume 0",
+        )],
+        &[(
+            0,
+            1,
+            "registered 0;pinned 0;guard 0;unpinned 0;done;refused 5 Busy;refused 5 Busy;refused 5 Busy;\
+             refused 5 Busy;refused 5 Busy;refused 5 Busy;pinned 0;done",
+        )],
+    ),
 ];
 
 /// What full stores do.
@@ -638,22 +668,39 @@ const LAST_EPOCHS: &[Row] = &[
 ];
 
 /// What an end does.
-const ENDS: &[Row] = &[(
-    "after an end all is refused",
-    &[(
-        0,
-        1,
-        "shape 1 0 0 0 4 1 0 0;register;call 0 pin;call 0 defer 0;call 0 defer 0;call 0 unpin 0;\
+const ENDS: &[Row] = &[
+    (
+        "after an end all is refused",
+        &[(
+            0,
+            1,
+            "shape 1 0 0 0 4 1 0 0;register;call 0 pin;call 0 defer 0;call 0 defer 0;call 0 unpin 0;\
              call 0 release;endall;register;end;endgo",
-    )],
-    &[(
-        0,
-        1,
-        "registered 0;pinned 0;guard 0;deferred 0;done;deferred 1;done;unpinned 0;done;pinned 0;\
+        )],
+        &[(
+            0,
+            1,
+            "registered 0;pinned 0;guard 0;deferred 0;done;deferred 1;done;unpinned 0;done;pinned 0;\
              unpinned 0;released;called 0 ran;called 1 ran;ended 2;refused 12 Ended;refused 12 Ended;\
              refused 6 Idle",
-    )],
-)];
+        )],
+    ),
+    (
+        "an end that is under way is not gone on with by a further one",
+        &[(
+            0,
+            1,
+            "shape 1 0 0 0 4 1 0 0;register;call 0 pin;call 0 defer 0;call 0 unpin 0;call 0 release;end;endgo;\
+             endall;register;endgo;endgo;endgo",
+        )],
+        &[(
+            0,
+            1,
+            "registered 0;pinned 0;guard 0;deferred 0;done;unpinned 0;done;pinned 0;unpinned 0;released;\
+             began;stepped;refused 12 Ended;refused 12 Ended;called 0 ran;ended 1;refused 6 Idle",
+        )],
+    ),
+];
 
 /// Runs the script of each row.
 fn expect_rows(rt: &impl Abort, alloc: Global, rows: &[Row]) -> Result<(), Fail> {

@@ -263,6 +263,37 @@ fn numbers_may_have_leading_zeros_and_go_up_to_the_greatest(rt: HostRuntime) -> 
     )
 }
 
+/// A shape, a registration, and a line of this and a million zeros.
+fn script_with_a_long_line(alloc: Global, begin: &str) -> Result<String, AllocError> {
+    let mut script = String::new(alloc);
+    script.push_str("shape 1 0 0 0 1 1 0 0\nregister\n")?;
+    script.push_str(begin)?;
+    for _ in 0..1_000_000u32 {
+        script.push('0')?;
+    }
+    Ok(script)
+}
+
+#[test]
+fn a_line_of_a_million_bytes_is_read_as_any_other(rt: HostRuntime) -> Result<(), Fail> {
+    let alloc = rt.alloc();
+    let script = script_with_a_long_line(alloc, "word ")?;
+    let outcome = outcome_of(alloc, script.as_bytes());
+    let shows = "a number of a million zeros";
+    want_told(&rt, shows, &outcome, 0, "registered 0\nword 2\n", "")?;
+    let script = script_with_a_long_line(alloc, "wor")?;
+    let outcome = outcome_of(alloc, script.as_bytes());
+    let shows = "a million bytes that are no step";
+    want_told(
+        &rt,
+        shows,
+        &outcome,
+        2,
+        "registered 0\n",
+        "line 3: not a step\n",
+    )
+}
+
 /// Gives its bytes and then fails.
 #[derive(Drop)]
 struct FailingReader {
