@@ -48,6 +48,9 @@ pub mod EventsAtBegin
 pub mod EventsAtEnd
 pub mod EventsOfGo
 pub mod EventsLawful
+pub mod LowestGuard
+pub mod RefusalsFit
+pub mod RepliesFit
 -- FULL STORES: a call is told of one where its put found each place occupied
 pub mod PutStages
 pub mod SeatsFind
@@ -59,15 +62,3 @@ pub mod FullFound
 -- REFUSALS: what a refused call leaves as it was
 pub mod RefusalsSince
 pub mod RefusalsLeave
--- HISTORIES: what the checkers of recorded ones read
-pub mod PlacesRead
-pub mod ToldGrows
-pub mod RepliesRead
-pub mod GuardsCounted
-pub mod CallsChecked
-pub mod LowestGuard
-pub mod Phases
-pub mod FitsRead
-pub mod Leavers
-pub mod RefusalsFit
-pub mod RepliesFit

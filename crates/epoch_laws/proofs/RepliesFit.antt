@@ -17,8 +17,8 @@ use Rattle.epoch_machine.specs.declared.machine.Stage.{Stage}
 use Rattle.epoch_machine.specs.declared.machine.Ask.{Ask}
 use Rattle.epoch_machine.specs.declared.machine.Ask.TheVariants.{PutBag, TakeBag, CallJob}
 use Rattle.epoch_machine.specs.Machine.{Machine, ask_at}
-use Rattle.epoch_laws.specs.declared.history.phase.Phase.{Phase}
-use Rattle.epoch_laws.specs.declared.history.phase.Phase.TheVariants.{Before, During, After}
+use Rattle.epoch_laws.specs.declared.step.Phase.{Phase}
+use Rattle.epoch_laws.specs.declared.step.Phase.TheVariants.{Before, During, After}
 use Rattle.epoch_laws.specs.declared.step.Call.{Call}
 use Rattle.epoch_laws.specs.declared.step.Call.TheVariants.{Pin, Defer, Flush, Release, DeferDestroy}
 use Rattle.epoch_laws.specs.declared.step.Call.TheVariants.{Access as AccessCall}

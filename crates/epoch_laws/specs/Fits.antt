@@ -11,8 +11,8 @@ use Rattle.epoch_heap.specs.declared.access.Access.{Access}
 use Rattle.epoch_heap.specs.declared.access.Access.TheVariants.{Place, Read, Point}
 use Rattle.epoch_heap.specs.declared.access.Answer.TheVariants.{Guard}
 use Rattle.epoch_heap.specs.Heap.{guard_of}
-use Rattle.epoch_laws.specs.declared.history.phase.Phase.{Phase}
-use Rattle.epoch_laws.specs.declared.history.phase.Phase.TheVariants.{Before, During, After}
+use Rattle.epoch_laws.specs.declared.step.Phase.{Phase}
+use Rattle.epoch_laws.specs.declared.step.Phase.TheVariants.{Before, During, After}
 use Rattle.epoch_laws.specs.declared.step.Call.{Call}
 use Rattle.epoch_laws.specs.declared.step.Call.TheVariants.{Pin, Unpin, Pause, Resume, Repin, Defer, Flush, Release}
 use Rattle.epoch_laws.specs.declared.step.Call.TheVariants.{DeferDestroy, Access as AccessCall}

@@ -7,8 +7,6 @@ pub mod Tickets
 pub mod Ends
 pub mod Lawful
 pub mod Fits
-pub mod Known
-pub mod Events
 pub mod Shapes
 pub mod Readings
 pub mod Kept

@@ -1,17 +1,15 @@
-//! The steps of all participants of a collector, what holds of every run of them, and checkers of recorded histories.
+//! The steps of all participants of a collector, and what holds of every run of them.
 #![tactic(auto)]
 
-mod history;
 mod laws;
 mod shape;
 mod step;
 
 pub use epoch_heap::{Access, Accessed, Answer, Change, Ptr, Spot, Update};
-pub use history::{Event, calls_none_twice, is_lawful, keeps_grace};
 pub use laws::{
     every_end_answers_its_calls, every_end_calls_all, every_full_reply_found_each_place,
     every_refusal_leaves_what_it_must, every_run_holds_each_ticket_once, every_run_is_lawful,
     every_run_keeps_grace, every_run_numbers_tickets,
 };
 pub use shape::Shape;
-pub use step::{Call, Deferral, Entry, Progress, Reply, Step, Word};
+pub use step::{Call, Deferral, Entry, Phase, Progress, Reply, Step, Word};

@@ -100,3 +100,14 @@ pub enum Progress {
     /// Nothing is left to do but this reply.
     Ends(Reply),
 }
+
+/// How far the end of the collector is.
+#[derive(Clone, Copy)]
+pub enum Phase {
+    /// No end was accepted.
+    Before,
+    /// It is under way.
+    During,
+    /// It is done.
+    After,
+}

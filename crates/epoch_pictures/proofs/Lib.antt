@@ -1,2 +1,1 @@
 pub mod EscapedText
-pub mod LanesTold

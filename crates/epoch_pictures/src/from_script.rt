@@ -1,7 +1,7 @@
 //! From the lines of a reader to a picture on a writer.
 
-use crate::recording::{MOST_STEPS, Stop, record};
-use crate::{draw, lay_out};
+use crate::draw;
+use epoch_layouts::{MOST_STEPS, Moment, Stop, lay_out, record};
 use epoch_script::{Ending, Script, tell_ending};
 use std::alloc::Global;
 use std::io;
@@ -50,7 +50,7 @@ fn write_usage<F: Write>(faults: &mut F) -> io::Result<()> {
     faults.flush()
 }
 
-fn write<W: Write>(alloc: Global, moments: &[crate::Moment], out: &mut W) -> io::Result<()> {
+fn write<W: Write>(alloc: Global, moments: &[Moment], out: &mut W) -> io::Result<()> {
     let picture = lay_out(alloc, moments)?;
     draw(alloc, &picture, out)?;
     out.flush()

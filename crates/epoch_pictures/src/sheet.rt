@@ -9,8 +9,8 @@ mod signs;
 mod titles;
 
 use crate::pen::{Area, Pen};
-use crate::{Bar, Picture};
 use epoch_cell_pictures::Shown;
+use epoch_layouts::{Bar, Picture};
 use legend::Legend;
 use std::alloc::Global;
 use std::io;

@@ -5,11 +5,12 @@ mod sharp;
 mod world;
 
 pub use epoch_heap::{Access, Answer, Change, Ptr, Spot, Update};
+pub use epoch_histories::{Event, calls_none_twice, is_lawful, keeps_grace};
 pub use epoch_laws::{
-    Call, Deferral, Entry, Event, Progress, Reply, Shape, Step, Word, calls_none_twice,
-    every_end_answers_its_calls, every_end_calls_all, every_full_reply_found_each_place,
-    every_refusal_leaves_what_it_must, every_run_holds_each_ticket_once, every_run_is_lawful,
-    every_run_keeps_grace, every_run_numbers_tickets, is_lawful, keeps_grace,
+    Call, Deferral, Entry, Progress, Reply, Shape, Step, Word, every_end_answers_its_calls,
+    every_end_calls_all, every_full_reply_found_each_place, every_refusal_leaves_what_it_must,
+    every_run_holds_each_ticket_once, every_run_is_lawful, every_run_keeps_grace,
+    every_run_numbers_tickets,
 };
 pub use epoch_reach_laws::{
     every_cell_counts_its_readers, every_loaded_name_stands, every_name_stands_or_is_destroyed,

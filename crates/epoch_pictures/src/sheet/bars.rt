@@ -1,9 +1,8 @@
 //! What lasts for a while, as bars.
 
 use super::{LANE, Sheet};
-use crate::Bar;
-use crate::moment::lane_of;
 use crate::pen::{Area, Pen, takes, takes_small};
+use epoch_layouts::{Bar, lane_of};
 use epoch_world::{Access, Call, Change};
 use std::io;
 use std::io::Write;

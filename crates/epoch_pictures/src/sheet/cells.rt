@@ -1,9 +1,9 @@
 //! The lanes of cells: what each holds, what points to it, and who reads it.
 
 use super::{LEFT, Sheet};
-use crate::Bar;
 use crate::pen::{Area, Pen, takes};
 use epoch_cell_pictures::{Look, Shown};
+use epoch_layouts::Bar;
 use epoch_world::Spot;
 use std::alloc::AllocError;
 use std::io;

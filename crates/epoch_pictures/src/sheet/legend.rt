@@ -3,10 +3,10 @@
 use super::cells;
 use super::marks::class_of;
 use super::signs::{Kind, Sign};
-use crate::Picture;
 use crate::pen::{Area, Pen};
 use epoch_cell_pictures::Shown;
 use epoch_cells::Fault;
+use epoch_layouts::Picture;
 use std::alloc::{AllocError, Global};
 use std::io;
 use std::io::Write;

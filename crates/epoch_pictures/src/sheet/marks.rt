@@ -3,8 +3,8 @@
 use super::signs::{Kind, Sign};
 use super::{LEFT, Sheet};
 use crate::pen::{Area, Pen, takes};
-use crate::{Arrow, Mark};
 use epoch_bags::Called;
+use epoch_layouts::{Arrow, Mark};
 use std::alloc::AllocError;
 use std::io;
 use std::io::Write;

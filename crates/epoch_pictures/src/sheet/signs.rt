@@ -1,9 +1,9 @@
 //! What happens in one step, gathered by lane and column: what stands in one place is one sign.
 
 use super::Sheet;
-use crate::Mark;
 use epoch_bags::Called;
 use epoch_cells::{Fault, Name};
+use epoch_layouts::Mark;
 use std::alloc::AllocError;
 
 /// What a sign stands for.
