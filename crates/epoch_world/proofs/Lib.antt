@@ -20,3 +20,4 @@ pub mod FreeSeats
 pub mod RoomSteps
 pub mod ListedSteps
 pub mod RoomForReadings
+pub mod SteppedOnce

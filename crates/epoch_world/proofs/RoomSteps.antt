@@ -152,7 +152,7 @@ reserves_by ask m n Reserved Reserves Claims Reserved' Reserves' Claims' asked m
 )
 
 -- a step that asks for nothing says nothing of room, and leaves all places claimed as they were
-no_turn : (w : Word) (progress : Progress) (s : Stage) → ask_at s ≡ None → turn_at w progress s ≡ None
+pub no_turn : (w : Word) (progress : Progress) (s : Stage) → ask_at s ≡ None → turn_at w progress s ≡ None
 no_turn Unpinned (Driven c) s none = none
 no_turn (Pinned e) (Driven c) s none = none
 no_turn _ _ s none = refl

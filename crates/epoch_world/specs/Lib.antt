@@ -3,3 +3,4 @@ pub mod Worlds
 pub mod Steps
 pub mod Listed
 pub mod Earlier
+pub mod StoreSteps

@@ -10,6 +10,7 @@ ghost use Rattle.epoch_laws.specs.Run.{IsFresh, Runs, TakesStep, Over, entries_o
 ghost use Rattle.epoch_laws.specs.Run.{seat_of, position_word, WorldSeat};
 ghost use Rattle.epoch_world.specs.Seats.{WordFits};
 ghost use Rattle.epoch_world.specs.Earlier.{AlongSteps, AlongCall, SinceEachState};
+ghost use Rattle.epoch_world.specs.StoreSteps.{MakesOneStep, RunsBy};
 ghost use Rattle.epoch_world.specs.Worlds.{IsEmptying};
 ghost use Rattle.epoch_laws.specs.Grace.{KeepsGrace};
 ghost use Rattle.epoch_laws.specs.Tickets.{HoldsEachTicketOnce, NumbersTickets, times_called, times_deferred};
@@ -154,6 +155,10 @@ impl<S: BagStore<Job = Deferral>> World<S> {
     pub fn run(&mut self, steps: &[Step]) -> Result<Vec<Reply>, Fault>
         // Steps and replies lead from the state before to the state after, one atomic step each.
         ensures runs { IfOk result (λ replies. Runs self.old (entries_of steps.now replies.items) self.new) }
+        // In such a run each Go makes at most one step of the store, as the store says of its own steps.
+        ensures one_step { IfOk result (λ replies. RunsBy
+            (MakesOneStep S.queued S.occupied S.passed S.ahead S.has_room S.PutMoves S.TakeMoves)
+            self.old (entries_of steps.now replies.items) self.new) }
         ensures replies { IfOk result (λ replies. length replies.items ≡ length steps.now) }
 
         // No job is called while a participant pinned at its deferral has stayed pinned without repinning.
@@ -219,6 +224,10 @@ impl<S: BagStore<Job = Deferral>> World<S> {
     pub fn call(&mut self, participant: u64, call: Call) -> Result<Vec<Reply>, Fault>
         // It is a run of Begin, and then of Go.
         ensures runs { IfOk result (λ replies. Runs self.old (call_entries participant call replies.items) self.new) }
+        // In such a run each Go makes at most one step of the store, as the store says of its own steps.
+        ensures one_step { IfOk result (λ replies. RunsBy
+            (MakesOneStep S.queued S.occupied S.passed S.ahead S.has_room S.PutMoves S.TakeMoves)
+            self.old (call_entries participant call replies.items) self.new) }
         // The last reply ends the call, and none before it does.
         ensures ends { IfOk result (λ replies. EndsAtLast replies.items) }
 
@@ -294,7 +303,10 @@ impl<S: BagStore<Job = Deferral>> World<S> {
 
     /// Takes one step. It takes no memory.
     pub fn step(&mut self, step: Step) -> Reply
-        ensures { TakesStep self.old step result self.new }
+        ensures takes { TakesStep self.old step result self.new }
+        // A Go makes at most one step of the store, as the store says of its own steps.
+        ensures one_step { MakesOneStep S.queued S.occupied S.passed S.ahead S.has_room S.PutMoves S.TakeMoves
+            self.old step self.new }
     {
         match step {
             Step::Register => self.register(),
@@ -369,7 +381,9 @@ impl<S: BagStore<Job = Deferral>> World<S> {
     }
 
     fn go(&mut self, position: u64) -> Reply
-        ensures { TakesStep self.old (Go position) result self.new }
+        ensures takes { TakesStep self.old (Go position) result self.new }
+        ensures one_step { MakesOneStep S.queued S.occupied S.passed S.ahead S.has_room S.PutMoves S.TakeMoves
+            self.old (Go position) self.new }
     {
         let index = position as usize;
         if index >= self.seats.len() {

@@ -1,5 +1,6 @@
 //! A step of a put, and of a collection, over a store of bags.
 ghost use Rattle.std.specs.Prelude.{◌≡◌, ◌≢◌, ℕ, true, ◌<◌, ◌≤◌, Some, slice_get, length, ◌⊎◌};
+ghost use Rattle.epoch_bags.specs.Bags.{Sealed};
 ghost use Rattle.epoch_bags.specs.Stores.{FindsBag, FindsRoom};
 ghost use Rattle.epoch_machine.specs.Machine.{asks, put_heard, took_heard, StageFits, PutsHeld, TakesHand};
 ghost use Rattle.epoch_machine.specs.declared.machine.Ask.TheVariants.{PutBag, TakeBag};
@@ -19,6 +20,10 @@ impl<J: Default + Drop> Machine<J> {
         ensures put { (seal : ℕ) → asks self.old ≡ Some (PutBag seal)
             → PutsHeld seal self.old (S.queued store.old) result (S.queued store.new) }
         ensures after { self.new ≡ put_heard self.old result }
+
+        // It is one step of the store, as the store says of its own.
+        ensures moves { (seal : ℕ) → asks self.old ≡ Some (PutBag seal) → S.PutMoves store.old store.new
+            (record { seal = seal; jobs = self.old.held }) cursor.old result cursor.new }
         ensures capacity { S.capacity store.new ≡ S.capacity store.old }
         ensures occupied { result ≢ PutStep.Done → (place : ℕ) → S.passed cursor.old ≤ place
             → place < S.passed cursor.new → slice_get (S.occupied store.old) place ≡ Some true }
@@ -64,6 +69,11 @@ impl<J: Default + Drop> Machine<J> {
         ensures within { StageFits self.old.sizes (length self.old.held) self.old.stage }
         ensures few { result ≡ TakeStep.Got → length self.new.hand ≤ 64 }
         ensures after { self.new ≡ took_heard self.old self.old.stage result self.new.hand }
+
+        // It is one step of the store, as the store says of its own; the bag is the one in hand.
+        ensures moves { (expiry : ℕ) → asks self.old ≡ Some (TakeBag expiry) → (bag : Sealed J)
+            × (bag.jobs ≡ self.new.hand)
+            × S.TakeMoves expiry store.old store.new bag cursor.old result cursor.new }
         ensures capacity { S.capacity store.new ≡ S.capacity store.old }
         ensures fewer { 0 < S.takes_left (S.capacity store.old) cursor.old
             → S.takes_left (S.capacity store.old) cursor.new < S.takes_left (S.capacity store.old) cursor.old }

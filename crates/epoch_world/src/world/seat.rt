@@ -10,6 +10,7 @@ ghost use Rattle.epoch_cells.specs.declared.fault.Fault.TheVariants.{NoMemory};
 ghost use Rattle.epoch_heap.specs.Heap.{has_steps, Touched, Touches, outcome_of, heap_after_job};
 ghost use Rattle.epoch_world.specs.Worlds.{with_bags};
 ghost use Rattle.epoch_world.specs.Steps.{steps_in_store, most_in_store, machine_steps};
+ghost use Rattle.epoch_world.specs.StoreSteps.{AskMoves};
 ghost use Rattle.epoch_laws.specs.Places.{occupancy, SeesOccupied};
 ghost use Rattle.epoch_laws.specs.Collections.{outlook, expiry_of, FindsAhead, MayClaim};
 ghost use Rattle.epoch_laws.specs.Room.{TellsRoom, MayReserve};
@@ -145,6 +146,8 @@ impl Seat {
         ensures step { SeatPerforms self.old.machine.sizes position word
             (with_bags S.queued common.old) self.old self.old.machine.stage ask result
             self.new (with_bags S.queued common.new) }
+        ensures once { AskMoves S.PutMoves S.TakeMoves (Some ask) self.old.machine self.new.machine common.old.store
+            putting.old taking.old common.new.store putting.new taking.new }
         ensures looks { SeesOccupied (Some ask) self.old.machine self.new.machine
             (occupancy (S.occupied common.old.store) (S.passed putting.old))
             (occupancy (S.occupied common.new.store) (S.passed putting.new)) }

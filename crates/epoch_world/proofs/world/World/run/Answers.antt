@@ -5,7 +5,9 @@ use Rattle.epoch_laws.proofs.TicketsOnce.{holds_each_once, end_calls_all}
 use Rattle.epoch_laws.proofs.TicketsNumbered.{numbers_tickets}
 use Rattle.epoch_laws.proofs.EndsCounted.{ends_at_count}
 use Rattle.epoch_laws.proofs.FullFound.{found_full}
+use Rattle.epoch_world.specs.StoreSteps.{MakesOneStep}
 use Rattle.epoch_world.proofs.AcceptedCalls.{run_is_lawful}
+use Rattle.epoch_world.proofs.SteppedOnce.{by_more, by_whole}
 use Rattle.epoch_rounds_laws.proofs.PutFound.{rounds_call_all}
 use Rattle.epoch_rounds_laws.proofs.EachCollectsFew.{collects_few}
 use Rattle.epoch_laws.proofs.RefusalsLeave.{refused_along}
@@ -24,10 +26,24 @@ loop-step-preserved g c = record {
       (omega arith)
       c.loop-step.invariant.count c.push_reserved.ensures.items c.loop-step.invariant.run
       (subst (λ (step : Step). TakesStep c.loop-step.self step c.step-reply.result c.step-reply.new.self)
-      c.step-item.is c.step-reply.ensures);
+      c.step-item.is c.step-reply.ensures.takes);
+  once = by_more (MakesOneStep g.S.BagStore.queued g.S.BagStore.occupied g.S.BagStore.passed g.S.BagStore.ahead
+      g.S.BagStore.has_room g.S.BagStore.PutMoves g.S.BagStore.TakeMoves) _ _ _ c.args.steps.now c.loop-step.step-index _ c.loop-step.replies.items _
+      c.step-reply.result (omega arith)
+      c.loop-step.invariant.count c.push_reserved.ensures.items c.loop-step.invariant.once
+      (subst (λ (step : Step). TakesStep c.loop-step.self step c.step-reply.result c.step-reply.new.self)
+      c.step-item.is c.step-reply.ensures.takes)
+      (subst (λ (step : Step). MakesOneStep g.S.BagStore.queued g.S.BagStore.occupied g.S.BagStore.passed g.S.BagStore.ahead
+      g.S.BagStore.has_room g.S.BagStore.PutMoves g.S.BagStore.TakeMoves c.loop-step.self step c.step-reply.new.self)
+      c.step-item.is c.step-reply.ensures.one_step);
   count = ap length c.push_reserved.ensures.items ∙ simp length-append (omega arith);
   room = omega arith;
 }
+
+pub returns-clause-one_step : goal.returns-clause-one_step
+returns-clause-one_step g c =
+    by_whole (MakesOneStep g.S.BagStore.queued g.S.BagStore.occupied g.S.BagStore.passed g.S.BagStore.ahead
+    g.S.BagStore.has_room g.S.BagStore.PutMoves g.S.BagStore.TakeMoves) _ _ c.args.steps.now c.loop-step.step-index _ (omega arith) c.loop-step.invariant.once
 
 pub returns-clause-grace : goal.returns-clause-grace
 returns-clause-grace g c fresh earlier new run =

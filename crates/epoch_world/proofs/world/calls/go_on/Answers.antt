@@ -11,6 +11,7 @@ use Rattle.epoch_heap.specs.Heap.{Heap}
 use Rattle.epoch_world.proofs.SlotsStay.{access_slots, job_slots}
 use Rattle.epoch_world.proofs.Performed.{IsDrivenAt, driven_here, found_there, performed}
 use Rattle.epoch_world.proofs.RoomForReadings.{can_read}
+use Rattle.epoch_world.proofs.SteppedOnce.{performed_once, ended_once}
 use Rattle.epoch_world.proofs.TurnsTaken.{access_less, end_ends, linked_at, performs_less, performs_slots}
 use Rattle.epoch_world.proofs.TurnsTaken.{performs_steady, seat_less}
 use Rattle.epoch_world.proofs.WorldKept.{ends_where_driven, guards_fit, room_where_driven}
@@ -75,6 +76,11 @@ returns-in-Some g c =
           (record { taken = driven.taken; under_way = driven.under_way; asked = driven.asked; within = driven.within })
           (λ k loads. c.word_asked-word.ensures c.args.sizes k (driven.asked ∙ ap (λ (ask : Ask). Some ask) loads))
           c.perform.ensures.step refl;
+      once = performed_once g.S.BagStore.PutMoves g.S.BagStore.TakeMoves c.args.seats.now.items c.args.sizes c.args.index
+          seat c.perform.new.self c.in-Some.ask c.args.common.now.store c.args.putting.now c.args.taking.now
+          c.perform.new.common.store c.perform.new.putting c.perform.new.taking c.requires.there is
+          (λ free. driven.taken (ap (λ (q : WorldSeat). q.word) (sym is) ∙ free))
+          (ap (λ (q : WorldSeat). is_driven q.progress) is ∙ driven.under_way) asked c.perform.ensures.once;
       looks = search rules;
       finds = performed_finds c.args.seats.now.items c.args.sizes c.args.index seat c.perform.new.self
           c.in-Some.ask c.requires.there is _
@@ -112,6 +118,12 @@ returns-in-Some g c =
     }
 
 -- the end of a call touches no place
+pub returns-in-None-clause-once : goal.returns-in-None-clause-once
+returns-in-None-clause-once g c =
+    ended_once g.S.BagStore.PutMoves g.S.BagStore.TakeMoves c.index_mut-seat.result.now _ _ _ _ _ _
+    (found_there c.args.seats.now.items c.args.sizes c.args.index c.index_mut-seat.result.now c.requires.there
+    c.index_mut-seat.ensures.value) (sym c.ask.ensures.value ∙ c.in-None.is)
+
 pub returns-in-None-clause-room : goal.returns-in-None-clause-room
 returns-in-None-clause-room g c =
     ended_room _ c.index_mut-seat.result.now _ _ _
