@@ -1,7 +1,7 @@
 //! `rt try --test --fail-alloc N` refuses the Nth allocation of each test, and these tests pass whichever that is. In a
 //! plain run of the tests no allocation is refused.
 
-use crate::scripts::lines::{LINES, Outcome, PRINTING, printed_by_lines, script, want_ended};
+use crate::lines::{LINES, Outcome, PRINTING, printed_by_lines, script, want_ended};
 use crate::wants::want;
 use epoch_script::{Ending, run};
 use std::alloc::{AllocError, Global};

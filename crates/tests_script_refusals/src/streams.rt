@@ -1,7 +1,7 @@
 //! Each read and each write of the script is refused in turn, once. These tests take memory of their own, and want all
 //! of it.
 
-use crate::scripts::lines::{
+use crate::lines::{
     LINES, Outcome, PRINTING, printed_by_bytes, printed_by_lines, script, want_ended,
 };
 use crate::wants::want;
