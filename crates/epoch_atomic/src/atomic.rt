@@ -3,9 +3,12 @@
 //! Each call on an [`Atomic`] makes one atomic step on its word, except those that try an exchange again. Each step
 //! acts as `SeqCst`, whichever ordering is asked for. No call on an existing `Atomic` or a [`Shared`] takes memory or
 //! waits.
-ghost use Rattle.std.specs.Prelude.{◌≡◌, ◌<◌, ◌%◌, ◌⊎◌, IfSome, IfOk, IfErr};
+ghost use Rattle.std.specs.Prelude.{◌≡◌, ◌<◌, ◌%◌, ◌⊎◌, IfSome, IfOk, IfErr, OnOk};
 ghost use Rattle.epoch_cells.specs.declared.fault.Fault.TheVariants.{CellsFull, NoMemory};
 ghost use Rattle.epoch_atomic.specs.Pointers.{IsPointerWord, Reads, IsRead, IsUnder};
+ghost use Rattle.epoch_atomic.specs.WordSteps.{BeginsNamed, BeginsWith, CopiesWord};
+ghost use Rattle.epoch_atomic.specs.WordSteps.{LoadsPointer, StoresPointer, SwapsPointer};
+ghost use Rattle.epoch_atomic.specs.WordSteps.WordStep.{Begins};
 
 mod borrow;
 mod destroy;
@@ -37,15 +40,19 @@ use std::fmt::Debug;
 use std::marker::PhantomData;
 use std::sync::atomic::{AtomicIn, Ordering};
 pub use update::UpdateFault;
-use word::{PointerWord, name_in, pointer_word};
+pub use word::{HasWord, PointerWord, SharedWord};
+use word::{name_in, pointer_word};
 
 /// A pointer with a tag that threads share: null, or the name of a value in a cell.
 ///
 /// It isn't tied to a collector: a call reads it under a guard of the collector that the values are of. Dropping
 /// an `Atomic` leaves the value in its cell.
+///
+/// `A` is the word, of which there is one kind, and no caller names it: [`HasWord`]. What a call did to the word is told
+/// by [`SharedWord`].
 #[derive(Drop)]
-pub struct Atomic<T> {
-    word: AtomicIn<PointerWord>,
+pub struct Atomic<T, A = AtomicIn<PointerWord>> {
+    word: A,
     of: PhantomData<T>,
 }
 
@@ -64,18 +71,26 @@ fn read<'g, T: Pointable, W>(word: u64, guard: &'g Guard<'_, T, W>) -> Shared<'g
     }
 }
 
-impl<T: Pointable> Atomic<T> {
+impl<T: Pointable + HasWord<A>, A: SharedWord> Atomic<T, A> {
     /// Null, with tag 0.
-    pub fn null() -> Atomic<T> {
-        Atomic::from(Shared::null())
+    pub fn null() -> Atomic<T, A>
+        ensures did { A.did result.word (Begins 0) }
+    {
+        Atomic {
+            word: A::begin(0),
+            of: PhantomData,
+        }
     }
+}
 
+impl<T: Pointable, A: SharedWord> Atomic<T, A> {
     /// The pointer that is stored now. The load acts as `SeqCst`, whichever ordering is asked for.
     #[inline(always)]
     pub fn load<'g, W>(&self, order: Ordering, guard: &'g Guard<'_, T, W>) -> Shared<'g, T>
         ensures read { IsRead T.ALIGN result.name result.tag }
         ensures below { result.tag < T.ALIGN }
         ensures home { IsUnder guard.now.collector.now.id result.home }
+        ensures did { LoadsPointer T.ALIGN (A.did self.now.word) result.name result.tag }
     {
         read(self.word.load(order), guard)
     }
@@ -85,6 +100,7 @@ impl<T: Pointable> Atomic<T> {
         ensures read { IsRead T.ALIGN result.name result.tag }
         ensures below { result.tag < T.ALIGN }
         ensures home { IsUnder guard.now.collector.now.id result.home }
+        ensures did { LoadsPointer T.ALIGN (A.did self.now.word) result.name result.tag }
     {
         self.load(Ordering::Acquire, guard)
     }
@@ -102,6 +118,7 @@ impl<T: Pointable> Atomic<T> {
         guard: &'g Guard<'_, T, W>,
     ) -> Result<(), P>
         ensures full { IfErr result (λ back. P.takes_cell × (back ≡ new)) }
+        ensures did { OnOk result (StoresPointer T.ALIGN (A.did self.now.word) (P.becomes new)) }
     {
         let word = new.enter_word(guard)?;
         self.word.store(word, order);
@@ -123,18 +140,20 @@ impl<T: Pointable> Atomic<T> {
         ensures below { IfOk result (λ before. before.tag < T.ALIGN) }
         ensures home { IfOk result (λ before. IsUnder guard.now.collector.now.id before.home) }
         ensures full { IfErr result (λ back. P.takes_cell × (back ≡ new)) }
+        ensures did { IfOk result (SwapsPointer T.ALIGN (A.did self.now.word) (P.becomes new)) }
     {
         let word = new.enter_word(guard)?;
         Ok(read(self.word.swap(word, order), guard))
     }
 }
 
-impl<T: Pointable + Drop> Atomic<T> {
+impl<T: Pointable + HasWord<A> + Drop, A: SharedWord> Atomic<T, A> {
     /// A pointer to this value, which is placed in a cell.
     ///
     /// `NoMemory`: an allocation was refused. `CellsFull`: every slot was seen used or retired. The value is
     /// dropped then.
-    pub fn new<W>(alloc: Global, value: T, guard: &Guard<'_, T, W>) -> Result<Atomic<T>, Fault>
+    pub fn new<W>(alloc: Global, value: T, guard: &Guard<'_, T, W>) -> Result<Atomic<T, A>, Fault>
+        ensures did { IfOk result (λ atomic. BeginsNamed T.ALIGN (A.did atomic.word) 0) }
         ensures refused { IfErr result (λ fault. (fault ≡ NoMemory) ⊎ (fault ≡ CellsFull)) }
     {
         match Atomic::from_owned(Owned::new(alloc, value)?, guard) {
@@ -151,7 +170,8 @@ impl<T: Pointable + Drop> Atomic<T> {
         alloc: Global,
         init: T::Init,
         guard: &Guard<'_, T, W>,
-    ) -> Result<Atomic<T>, Fault>
+    ) -> Result<Atomic<T, A>, Fault>
+        ensures did { IfOk result (λ atomic. BeginsNamed T.ALIGN (A.did atomic.word) 0) }
         ensures refused { IfErr result (λ fault. (fault ≡ NoMemory) ⊎ (fault ≡ CellsFull)) }
     {
         match Atomic::from_owned(Owned::init(alloc, init)?, guard) {
@@ -166,14 +186,17 @@ impl<T: Pointable + Drop> Atomic<T> {
     pub fn from_owned<W>(
         owned: Owned<T>,
         guard: &Guard<'_, T, W>,
-    ) -> Result<Atomic<T>, Refused<Owned<T>>>
+    ) -> Result<Atomic<T, A>, Refused<Owned<T>>>
+        ensures did { IfOk result (λ atomic. BeginsNamed T.ALIGN (A.did atomic.word) owned.tag) }
         ensures full { IfErr result (λ refused. refused.fault ≡ CellsFull) }
         ensures handed_back { IfErr result (λ refused. refused.value ≡ owned) }
     {
         let shared = owned.into_shared(guard)?;
         Ok(Atomic::from(shared))
     }
+}
 
+impl<T: Pointable + Drop> Atomic<T> {
     /// Takes the value out of its cell, with the pointer's tag. The guard is one of the value's collector. This is how
     /// the last owner takes a structure apart, since dropping an `Atomic` leaves its value in the cell.
     ///
@@ -194,28 +217,34 @@ impl<T: Pointable + Drop> Atomic<T> {
     }
 }
 
-impl<'g, T: Pointable> From<Shared<'g, T>> for Atomic<T> {
-    fn from(shared: Shared<'g, T>) -> Atomic<T> {
+impl<'g, T: Pointable + HasWord<A>, A: SharedWord> From<Shared<'g, T>> for Atomic<T, A> {
+    ghost from_gives = { λ shared atomic. BeginsWith T.ALIGN (A.did atomic.word) shared };
+
+    fn from(shared: Shared<'g, T>) -> Atomic<T, A> {
         Atomic {
-            word: AtomicIn::new(pointer_word::<T>(shared.name, shared.tag)),
+            word: A::begin(pointer_word::<T>(shared.name, shared.tag)),
             of: PhantomData,
         }
     }
 }
 
-impl<T: Pointable> Default for Atomic<T> {
-    fn default() -> Atomic<T> {
+impl<T: Pointable + HasWord<A>, A: SharedWord> Default for Atomic<T, A> {
+    ghost is_default = { λ atomic. A.did atomic.word (Begins 0) };
+
+    fn default() -> Atomic<T, A> {
         Atomic::null()
     }
 }
 
-impl<T: Pointable> Clone for Atomic<T> {
+impl<T: Pointable, A: SharedWord + Drop> Clone for Atomic<T, A> {
+    ghost is_clone = { λ source twin. CopiesWord (A.did source.word) (A.did twin.word) };
+
     ghost is_infallible = { λ _. Unit {0} };
 
-    /// An `Atomic` that holds what one load of this one found.
-    fn clone(&self) -> Result<Atomic<T>, AllocError> {
+    /// An `Atomic` that begins with what one load of this one found.
+    fn clone(&self) -> Result<Atomic<T, A>, AllocError> {
         Ok(Atomic {
-            word: AtomicIn::new(self.word.load(Ordering::Relaxed)),
+            word: A::begin(self.word.load(Ordering::Relaxed)),
             of: PhantomData,
         })
     }

@@ -1,12 +1,14 @@
 //! Exchanges of one pointer for another.
 ghost use Rattle.std.specs.Prelude.{◌≡◌, ◌≢◌, IfOk, IfErr};
 ghost use Rattle.epoch_atomic.specs.Pointers.{IsPointerWord, BecomesBelow, BecomesBoth, IsUnder};
+ghost use Rattle.epoch_atomic.specs.WordSteps.{ExchangesPointer, MissesPointer};
+ghost use Rattle.epoch_atomic.specs.WordSteps.WordStep.{Exchanges, Misses};
 ghost use Rattle.epoch_atomic.specs.Exchanges.{OnChanged, OnFull, OnStuck, FindsAnother, AnswersUnder};
 
 use crate::atomic::orders::CompareAndSetOrdering;
 use crate::atomic::pointer::Pointer;
 use crate::atomic::shared::Shared;
-use crate::atomic::word::pointer_word;
+use crate::atomic::word::{SharedWord, pointer_word};
 use crate::atomic::{Atomic, read};
 use epoch_handles::Guard;
 use epoch_values::Pointable;
@@ -36,7 +38,7 @@ pub enum ExchangeFault<'g, T, P> {
     Stuck(Shared<'g, T>),
 }
 
-impl<T: Pointable> Atomic<T> {
+impl<T: Pointable, A: SharedWord> Atomic<T, A> {
     /// Stores `new` where `current` stands, pointer and tag both, and answers the pointer that was written.
     ///
     /// An owned value is placed in a cell first, and is taken back where the exchange is lost. What an
@@ -59,6 +61,9 @@ impl<T: Pointable> Atomic<T> {
         ensures full { IfErr result (λ fault. OnFull fault (λ back. P.takes_cell × (back ≡ new))) }
         ensures stuck { IfErr result
             (λ fault. OnStuck fault (λ stuck. P.takes_cell × P.becomes new stuck.name stuck.tag)) }
+        ensures won { IfOk result (ExchangesPointer T.ALIGN (A.did self.now.word) current.entry) }
+        ensures lost { IfErr result (λ fault.
+            OnChanged fault (λ found back. MissesPointer T.ALIGN (A.did self.now.word) current.entry found)) }
         ensures home { IfOk result (λ written. IsUnder guard.now.collector.now.id written.home) }
         ensures fault_home { IfErr result (λ fault. AnswersUnder guard.now.collector.now.id fault) }
     {
@@ -93,6 +98,8 @@ impl<T: Pointable> Atomic<T> {
         requires { IsPointerWord new }
         ensures ok { IfOk result (λ found. found ≡ expected) }
         ensures err { IfErr result (λ found. (found ≢ expected) × IsPointerWord found) }
+        ensures won { IfOk result (λ found. A.did self.now.word (Exchanges expected new)) }
+        ensures lost { IfErr result (λ found. A.did self.now.word (Misses expected found)) }
     {
         self.word.compare_exchange(expected, new, success, failure)
     }
@@ -115,6 +122,9 @@ impl<T: Pointable> Atomic<T> {
         ensures full { IfErr result (λ fault. OnFull fault (λ back. P.takes_cell × (back ≡ new))) }
         ensures stuck { IfErr result
             (λ fault. OnStuck fault (λ stuck. P.takes_cell × P.becomes new stuck.name stuck.tag)) }
+        ensures won { IfOk result (ExchangesPointer T.ALIGN (A.did self.now.word) current.entry) }
+        ensures lost { IfErr result (λ fault.
+            OnChanged fault (λ found back. MissesPointer T.ALIGN (A.did self.now.word) current.entry found)) }
         ensures home { IfOk result (λ written. IsUnder guard.now.collector.now.id written.home) }
         ensures fault_home { IfErr result (λ fault. AnswersUnder guard.now.collector.now.id fault) }
     {
@@ -138,6 +148,9 @@ impl<T: Pointable> Atomic<T> {
         ensures full { IfErr result (λ fault. OnFull fault (λ back. P.takes_cell × (back ≡ new))) }
         ensures stuck { IfErr result
             (λ fault. OnStuck fault (λ stuck. P.takes_cell × P.becomes new stuck.name stuck.tag)) }
+        ensures won { IfOk result (ExchangesPointer T.ALIGN (A.did self.now.word) current.entry) }
+        ensures lost { IfErr result (λ fault.
+            OnChanged fault (λ found back. MissesPointer T.ALIGN (A.did self.now.word) current.entry found)) }
         ensures home { IfOk result (λ written. IsUnder guard.now.collector.now.id written.home) }
         ensures fault_home { IfErr result (λ fault. AnswersUnder guard.now.collector.now.id fault) }
     {
@@ -160,6 +173,9 @@ impl<T: Pointable> Atomic<T> {
         ensures full { IfErr result (λ fault. OnFull fault (λ back. P.takes_cell × (back ≡ new))) }
         ensures stuck { IfErr result
             (λ fault. OnStuck fault (λ stuck. P.takes_cell × P.becomes new stuck.name stuck.tag)) }
+        ensures won { IfOk result (ExchangesPointer T.ALIGN (A.did self.now.word) current.entry) }
+        ensures lost { IfErr result (λ fault.
+            OnChanged fault (λ found back. MissesPointer T.ALIGN (A.did self.now.word) current.entry found)) }
         ensures home { IfOk result (λ written. IsUnder guard.now.collector.now.id written.home) }
         ensures fault_home { IfErr result (λ fault. AnswersUnder guard.now.collector.now.id fault) }
     {
