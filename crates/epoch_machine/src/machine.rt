@@ -7,6 +7,7 @@ ghost use Rattle.epoch_machine.specs.declared.machine.Stage.TheVariants.{Idle, E
 
 mod hearing;
 mod shared;
+mod shown;
 mod stages;
 mod stepping;
 mod straight;
