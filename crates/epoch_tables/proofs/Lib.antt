@@ -10,3 +10,4 @@ pub mod PlaceLooks
 pub mod PlaceClaims
 pub mod PlaceStores
 pub mod PlaceTries
+pub mod LastContents

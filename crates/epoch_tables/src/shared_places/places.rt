@@ -1,5 +1,5 @@
 //! The shared places, and the seats at them.
-ghost use Rattle.std.specs.Prelude.{◌≡◌, ◌<◌, ◌≤◌, ◌*◌, [], None, IfOk, IfErr, IsTrue, replicate};
+ghost use Rattle.std.specs.Prelude.{◌≡◌, ◌<◌, ◌≤◌, ◌*◌, [], None, IfOk, IfErr, length, replicate, vec_len};
 ghost use Rattle.std.specs.Mem.{type_size};
 ghost use Rattle.epoch_tables.specs.SharedPlaces.{PlacesAgree, place_words_for, IsPlaceSeatOf, with_claim};
 ghost use Rattle.epoch_cells.specs.declared.fault.Fault.TheVariants.{NoMemory};
@@ -36,7 +36,10 @@ pub type PlaceSeat<J> = Seat<Option<SealedBag<J>>, PlaceView<J>>;
 #[derive(Drop)]
 pub struct SharedPlaces<J> {
     pub(crate) table: Table<Option<SealedBag<J>>, PlaceView<J>, u64, PlaceRule<J>, Global>,
-    capacity: usize,
+    pub(crate) capacity: usize,
+    // Two of them, which are never put anywhere, tell that bags fit in memory.
+    pub(crate) blanks: Vec<Option<SealedBag<J>>>,
+    pub(crate) ghost two: { 2 ≤ vec_len blanks },
 }
 
 impl<J> Model for SharedPlaces<J> {
@@ -56,14 +59,15 @@ impl<J> Model for SharedPlaces<J> {
     } };
 }
 
-/// Whether values of this type take fewer than 2^63 bytes, as all that are ever made do.
-fn fits_in_memory<S>(value: &Option<S>) -> bool
-    ensures { IsTrue result → type_size S.row < 9223372036854775808 }
+/// Tells that an `S` takes fewer than 2^63 bytes, since the number of bytes of two values is a `usize`.
+pub(crate) fn tell_size<S>(values: &[Option<S>])
+    requires { 2 ≤ length values.now }
+    ensures { type_size S.row < 9223372036854775808 }
 {
-    mem::size_of_val(value) < 1 << 63
+    let _bytes = mem::size_of_val(values);
 }
 
-impl<J> SharedPlaces<J> {
+impl<J: Drop> SharedPlaces<J> {
     /// So many places, from 1 to [`MOST_PLACES`], all empty.
     ///
     /// `NoMemory`: an allocation was refused.
@@ -73,24 +77,27 @@ impl<J> SharedPlaces<J> {
         ensures ok { IfOk result (λ made. made.capacity ≡ places) }
         ensures err { IfErr result (λ fault. fault ≡ NoMemory) }
     {
-        let vacant: Option<SealedBag<J>> = None;
-        let fits = fits_in_memory(&vacant);
-        let None = vacant else { unreachable!() };
-        if !fits {
-            return Err(Fault::NoMemory);
-        }
         let Ok(words) = Vec::from_elem(alloc, 0, 16 * places) else {
             return Err(Fault::NoMemory);
         };
+        let Ok(mut blanks) = Vec::with_capacity(alloc, 2) else {
+            return Err(Fault::NoMemory);
+        };
+        blanks.push_reserved(None);
+        blanks.push_reserved(None);
+        tell_size(blanks.as_slice());
         let Ok((table, _)) = Table::vacant(alloc, words.as_slice(), places, &(places as u64)) else {
             return Err(Fault::NoMemory);
         };
         Ok(SharedPlaces {
             table,
             capacity: places,
+            blanks,
         })
     }
+}
 
+impl<J> SharedPlaces<J> {
     /// How many places there are, from 1 to [`MOST_PLACES`].
     pub fn capacity(&self) -> usize
         ensures value { result ≡ self.now.capacity }

@@ -1,15 +1,12 @@
-use Rattle.std.proofs.Common.{rules, ℕ, List, [], None, replicate, sym, refl, subst}
+use Rattle.std.proofs.Common.{rules, ℕ, List, [], None, replicate, sym, subst}
 use Rattle.atomic_table.specs.Table.{opening}
 use Rattle.epoch_tables.specs.SharedPlaces.{PlacesAgree, with_claim}
 use Rattle.epoch_tables.proofs.PlaceLooks.{new_places_keep}
 use Rattle.epoch_tables.proofs.shared_places.places.SharedPlaces.new.Goals as goal
 
--- the code has tested that a bag fits in memory
+-- two blanks tell that a bag fits in memory
 pub vacant-requires-room-P-TableRule : goal.vacant-requires-room-P-TableRule
-vacant-requires-room-P-TableRule g c κs within = c.if-not-fits.ensures refl
-
-pub drop-requires-room-S-Destruct : goal.drop-requires-room-S-Destruct
-drop-requires-room-S-Destruct g c κs within = c.if-not-fits.ensures refl
+vacant-requires-room-P-TableRule g c κs within = c.tell_size.ensures
 
 pub vacant-requires : goal.vacant-requires
 vacant-requires g c = subst (λ (words : List ℕ). PlacesAgree {J = g.row.J.Denot} c.args.places

@@ -1,0 +1,90 @@
+//! Places that no thread shares any more.
+ghost use Rattle.std.specs.Prelude.{◌≡◌, ◌<◌, ◌≤◌, ◌∷◌, length, vec_len};
+ghost use Rattle.epoch_tables.specs.ClosedPlaces.{AreLast};
+
+use crate::shared_places::places::{MOST_PLACES, SharedPlaces, tell_size};
+use atomic_table::Closed;
+use epoch_bags::SealedBag;
+use std::alloc::Global;
+use std::marker::Model;
+
+/// What is left in places that were closed, a place after another. It must be spent, by [`ClosedPlaces::free`].
+pub struct ClosedPlaces<J> {
+    closed: Closed<Option<SealedBag<J>>, Global>,
+    next: usize,
+    blanks: Vec<Option<SealedBag<J>>>,
+    ghost two: { 2 ≤ vec_len blanks },
+}
+
+impl<J> Model for ClosedPlaces<J> {
+    ghost use Rattle.std.specs.Prelude.{◌≡◌, ℕ, ◌<◌, ◌≤◌, List, Option, drop, false, true, slice_index_or};
+    ghost use Rattle.std.specs.Slots.{slots_items, slots_filled, slots_len};
+    ghost use Rattle.epoch_bags.specs.Bags.{Sealed};
+
+    ghost Value = { List (Option (Sealed J)) };
+
+    ghost view = { λ a. drop a.next (slots_items a.closed.slots) };
+
+    ghost invariant = { λ a. record {
+      most : slots_len a.closed.slots ≤ 4096;
+      within : a.next ≤ slots_len a.closed.slots;
+      taken : (place : ℕ) → place < a.next → slice_index_or (slots_filled a.closed.slots) place false ≡ false;
+      left : (place : ℕ) → a.next ≤ place → place < slots_len a.closed.slots
+          → slice_index_or (slots_filled a.closed.slots) place false ≡ true;
+    } };
+}
+
+impl<J> SharedPlaces<J> {
+    /// Ends the sharing, and answers what is left in the places.
+    pub fn close(self) -> ClosedPlaces<J>
+        ensures { AreLast self.capacity result }
+    {
+        let SharedPlaces {
+            table,
+            capacity: _,
+            blanks,
+        } = self;
+        tell_size(blanks.as_slice());
+        ClosedPlaces {
+            closed: table.close(),
+            next: 0,
+            blanks,
+        }
+    }
+}
+
+impl<J> ClosedPlaces<J> {
+    /// How many places are left.
+    pub fn len(&self) -> usize
+        ensures value { result ≡ length self.now }
+        ensures most { result ≤ MOST_PLACES }
+    {
+        self.closed.slot_count() - self.next
+    }
+
+    /// Takes out what is left in the next place.
+    pub fn take_next(&mut self) -> Option<SealedBag<J>>
+        requires { 0 < length self.old }
+        ensures { self.old ≡ result ∷ self.new }
+    {
+        tell_size(self.blanks.as_slice());
+        let place = self.next;
+        self.next = place + 1;
+        self.closed.take(place)
+    }
+
+    /// Frees the memory of the places, once each was taken out of.
+    pub fn free(self)
+    where
+        J: Drop,
+        requires { length self ≡ 0 }
+    {
+        let ClosedPlaces {
+            closed,
+            next: _,
+            blanks,
+        } = self;
+        tell_size(blanks.as_slice());
+        closed.free();
+    }
+}
