@@ -3,12 +3,12 @@ pub mod Collecting
 pub mod Deferring
 pub mod Driving
 pub mod Ended
-pub mod Ending
 pub mod Expiries
 pub mod FirstPins
 pub mod Flushing
 pub mod HeldJobs
 pub mod JobsKept
+pub mod JobsLeft
 pub mod PlacesTold
 pub mod Putting
 pub mod Registering

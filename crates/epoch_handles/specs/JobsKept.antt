@@ -1,8 +1,10 @@
 -- No job is lost on threads: where each job stands that a participant was given to keep.
-use Rattle.std.specs.Prelude.{◌≡◌, ℕ, ◌+◌, List, [], ◌∷◌, ◌++◌, Option, None, sum_by}
+use Rattle.std.specs.Prelude.{◌≡◌, ℕ, ◌+◌, List, [], ◌∷◌, ◌++◌, Option, None, All, sum_by}
 use Rattle.atomic_table.specs.Table.{State}
 use Rattle.epoch_bags.specs.Bags.{Sealed}
 use Rattle.epoch_tables.specs.SharedPlaces.{PlacesAgree, bag_weight, homes_weight, with_claim}
+use Rattle.epoch_tables.specs.SharedSteps.{RestsAt}
+use Rattle.epoch_tables.specs.ClosedPlaces.{AreLast}
 use Rattle.epoch_tables.specs.declared.shared_places.view.PlaceView.{PlaceView}
 use Rattle.epoch_machine.specs.declared.machine.Action.{Action}
 use Rattle.epoch_machine.specs.declared.machine.Answer.TheVariants.{Job}
@@ -132,3 +134,19 @@ LosesNoJob J = (places : ℕ) (s : State (Option (Sealed J)) (PlaceView J)) (liv
     → sum_by (λ life. sum_by weigh (all_kept life.calls)) lives
     ≡ sum_by (λ life. has_weight weigh life.now) lives + sum_by (λ life. sum_by weigh (all_given life.calls)) lives
     + homes_weight (jobs_weight weigh) s.homes
+
+-- AN END
+
+-- The participant has left: it has no job, and has claimed no place.
+pub record HasLeft {J : Type 0} (at : Situation J) : Type 0 where
+  pub sizes : Sizes
+  pub machine : at.machine ≡ fresh sizes
+  pub rests : RestsAt at.sight.places
+
+-- All participants have left, and the places were closed, which had these contents then. However jobs are weighed, all
+-- jobs that were given to be kept are those that were given to be called and those that were left in the places.
+abbrev pub LeavesTheRest : Type 0 → Type 0
+LeavesTheRest J = (places : ℕ) (left : List (Option (Sealed J))) (last : AreLast places left) (lives : List (Life J))
+    → AreLivesOf places last.state.views lives → All (λ life. HasLeft life.now) lives → (weigh : J → ℕ)
+    → sum_by (λ life. sum_by weigh (all_kept life.calls)) lives
+    ≡ sum_by (λ life. sum_by weigh (all_given life.calls)) lives + sum_by (bag_weight (jobs_weight weigh)) left

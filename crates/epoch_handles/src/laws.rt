@@ -1,9 +1,9 @@
 //! What holds of whatever threads perform: laws of the definitions.
 ghost use Rattle.epoch_handles.specs.Told.{RepliesAreFound, ExpiriesAreSeen, AnswersAreFound};
 ghost use Rattle.epoch_handles.specs.ThreadGrace.{KeepsGraceOnThreads};
-ghost use Rattle.epoch_handles.specs.JobsKept.{KeepsJobsInCalls, LosesNoJob};
+ghost use Rattle.epoch_handles.specs.JobsKept.{KeepsJobsInCalls, LosesNoJob, LeavesTheRest};
 
-use epoch_tables::shared_places::no_bag_is_lost;
+use epoch_tables::shared_places::{closed_places_hold_the_rest, no_bag_is_lost};
 use epoch_tables::table::pinned_seats_hold_bags_back;
 
 /// Where a thread performs what its machine asks, the replies on the participants' table are exactly the words that
@@ -56,4 +56,17 @@ pub fn no_job_is_lost<J>()
     ensures { LosesNoJob J }
 {
     no_bag_is_lost::<J>();
+}
+
+/// An end calls what is left. Where all participants have left when the places are closed, and however jobs are
+/// weighed: all jobs that were accepted weigh as much as those that were given to be called and those that are left in
+/// the closed places.
+///
+/// That an end calls each of these is what its clause `called` says. So after it each accepted job was called, and as
+/// often as it was accepted.
+pub fn an_end_calls_the_rest<J>()
+    ensures { LeavesTheRest J }
+{
+    no_job_is_lost::<J>();
+    closed_places_hold_the_rest::<J>();
 }

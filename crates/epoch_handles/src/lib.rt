@@ -12,13 +12,13 @@ mod paused;
 mod released;
 
 pub use collector::{Capacities, Collector};
-pub use end::end_bags;
+pub use end::{Ends, end_bags};
 pub use guard::{Guard, unprotected};
 pub use handle::LocalHandle;
 pub use home::{Home, home_of};
 pub use laws::{
-    answers_are_found, calls_come_after_pins, calls_keep_jobs, expiries_are_seen, no_job_is_lost,
-    replies_are_found,
+    an_end_calls_the_rest, answers_are_found, calls_come_after_pins, calls_keep_jobs,
+    expiries_are_seen, no_job_is_lost, replies_are_found,
 };
 pub use paused::Paused;
 pub use released::Released;

@@ -4,7 +4,7 @@
 
 pub use epoch_atomic::atomic;
 pub use epoch_handles::{
-    Capacities, Collector, Guard, LocalHandle, Paused, Released, answers_are_found,
+    Capacities, Collector, Ends, Guard, LocalHandle, Paused, Released, answers_are_found,
     calls_come_after_pins, end_bags, expiries_are_seen, replies_are_found, unprotected,
 };
 pub use epoch_machine::{

@@ -1,5 +1,7 @@
 //! Places that no thread shares any more.
 ghost use Rattle.std.specs.Prelude.{◌≡◌, ◌<◌, ◌≤◌, ◌∷◌, length, vec_len};
+ghost use Rattle.std.specs.Mem.{type_size};
+ghost use Rattle.epoch_bags.specs.contracts.bag.SealedBag.{the_row as bag_row};
 ghost use Rattle.epoch_tables.specs.ClosedPlaces.{AreLast};
 
 use crate::shared_places::places::{MOST_PLACES, SharedPlaces, tell_size};
@@ -60,6 +62,14 @@ impl<J> ClosedPlaces<J> {
         ensures most { result ≤ MOST_PLACES }
     {
         self.closed.slot_count() - self.next
+    }
+
+    /// Tells that a bag takes fewer than 2^63 bytes. A caller of [`ClosedPlaces::take_next`] with jobs of any type owes
+    /// that.
+    pub fn tell_size(&self)
+        ensures { type_size (bag_row J.row) < 9223372036854775808 }
+    {
+        tell_size(self.blanks.as_slice());
     }
 
     /// Takes out what is left in the next place.

@@ -7,7 +7,7 @@ ghost use Rattle.std.specs.Prelude.{◌≡◌, ◌≢◌, ℕ, ◌<◌, [], ◌�
 ghost use Rattle.epoch_bags.specs.Bags.{Sealed, IsExpired};
 ghost use Rattle.epoch_tables.specs.SharedPlaces.{PlaceMe, IsPlaceSeatOf, IsSamePlaceSeat, after_store};
 ghost use Rattle.epoch_bags.specs.Places.{put_left, take_left};
-ghost use Rattle.epoch_tables.specs.SharedSteps.{RestsAt, HoldsAt, PutsAt, TakesAt, PutMoves, TakeMoves, TriesEach};
+ghost use Rattle.epoch_tables.specs.SharedSteps.{RestsAt, HoldsAt, PutsAt, TakesAt, PutMoves, TakeMoves};
 
 use crate::shared_places::places::{PlaceSeat, SharedPlaces};
 use crate::shared_places::plays::Store;
@@ -173,27 +173,5 @@ impl<J: Default + Drop> SharedPlaces<J> {
         self.table
             .shared
             .store::<Store>(seat, word_index(place), EMPTY);
-    }
-
-    /// Looks at each place once, from place 0 up, and takes out the first bag that it finds and whose claim it
-    /// wins, whatever its seal. `None`: no claim was won.
-    ///
-    /// For an end, with nobody else at work; it is no atomic step.
-    pub fn take_any(&self, seat: &mut PlaceSeat<J>) -> Option<SealedBag<J>>
-        requires of { IsPlaceSeatOf self.now seat.old }
-        requires rests { RestsAt seat.old.me }
-        ensures kept { IsSamePlaceSeat seat.old seat.new }
-        ensures rests { RestsAt seat.new.me }
-        ensures tries { TriesEach self.now.capacity seat.old.me.0 result seat.new.me.0 }
-    {
-        for place in 0..self.capacity() {
-            let word = self.look(seat, place);
-            if word % 2 == 1 && self.claim(seat, place, word) == word {
-                let mut bag = None;
-                self.empty(seat, place, &mut bag);
-                return bag;
-            }
-        }
-        None
     }
 }
