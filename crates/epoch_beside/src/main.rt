@@ -6,6 +6,7 @@
 #![tactic(auto)]
 
 mod idle;
+mod lent;
 mod nodes;
 mod rounds;
 mod rows;

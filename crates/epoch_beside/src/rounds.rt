@@ -1,5 +1,6 @@
 //! Rounds of a row's work on one thread or several.
 use crate::idle::Idle;
+use crate::lent::look_rounds;
 use crate::nodes::Nodes;
 use crate::rows::{NAMES, Work, work_of};
 use crate::span::{Hundredths, Span};
@@ -16,7 +17,7 @@ use std::{io, thread};
 /// Cells of a collector.
 const CELLS: u32 = 4096;
 
-/// Places for bags of a collector.
+/// Places for bags of a collector, for each thread.
 const PLACES: u32 = 16;
 
 /// The value that stands behind a pointer at first.
@@ -32,7 +33,8 @@ pub struct Size {
 /// A collector for at least so many participants, and for each thread of the round.
 fn collector_of<T: Drop>(alloc: Global, size: Size, participants: u32) -> io::Result<Collector<T>> {
     let threads = u32::try_from(size.threads).unwrap_or(u32::MAX);
-    let capacities = Capacities::usual(participants.max(threads), CELLS, PLACES);
+    let places = PLACES.saturating_mul(threads.max(1));
+    let capacities = Capacities::usual(participants.max(threads), CELLS, places);
     if !capacities.is_valid() {
         return Err(io::Error::from(io::ErrorKind::InvalidInput));
     }
@@ -249,6 +251,7 @@ fn rounds<R: Clock + Threads + Wait + Sync>(
 ) -> io::Result<u64> {
     match work_of(name) {
         Some((Work::Push, _)) => push_rounds(rt, alloc, size, times),
+        Some((Work::Look, _)) => look_rounds(rt, alloc, size, times),
         _ => work_rounds(rt, alloc, size, name, times, functions),
     }
 }

@@ -1,7 +1,7 @@
 //! The rows of the comparison.
 
 /// A row is a name here, a line in `work_of`, and the same work in `beside/src`.
-pub const NAMES: [&str; 20] = [
+pub const NAMES: [&str; 21] = [
     "pin_unpin",
     "pin_unpin_64_idle",
     "pin_unpin_nested",
@@ -14,6 +14,7 @@ pub const NAMES: [&str; 20] = [
     "load_one_pointer",
     "load_deref_one_cell",
     "load_get_one_cell",
+    "look_lent_value",
     "pin_load_deref_one_cell",
     "cas_shared_success",
     "owned_atomic_owned",
@@ -34,6 +35,7 @@ pub enum Work {
     DeferApart,
     Load,
     Read,
+    Look,
     PinnedRead,
     Exchange,
     Place,
@@ -58,6 +60,7 @@ pub fn work_of(name: &str) -> Option<(Work, u32)> {
         "defer_made_pin_each_flush_64" => Some((Work::DeferApart, 4)),
         "load_one_pointer" => Some((Work::Load, 4)),
         "load_deref_one_cell" | "load_get_one_cell" => Some((Work::Read, 4)),
+        "look_lent_value" => Some((Work::Look, 4)),
         "pin_load_deref_one_cell" => Some((Work::PinnedRead, 4)),
         "cas_shared_success" => Some((Work::Exchange, 4)),
         "owned_atomic_owned" => Some((Work::Place, 4)),
