@@ -33,7 +33,7 @@ impl<J> Model for Bag<J> {
 }
 
 impl<J: Default + Drop> Bag<J> {
-    /// An empty bag for [`BAG_JOBS`] jobs.
+    /// Makes an empty bag for [`BAG_JOBS`] jobs.
     pub fn new() -> Bag<J>
         ensures limit { result.limit ≡ 64 }
         ensures empty { result.jobs ≡ [] }
@@ -41,7 +41,7 @@ impl<J: Default + Drop> Bag<J> {
         Bag::with_limit(BAG_JOBS)
     }
 
-    /// An empty bag that takes `limit` jobs, from 1 to [`BAG_JOBS`].
+    /// Makes an empty bag that takes `limit` jobs, from 1 to [`BAG_JOBS`].
     pub fn with_limit(limit: usize) -> Bag<J>
         requires some { 0 < limit }
         requires most { limit ≤ BAG_JOBS }
@@ -66,8 +66,8 @@ impl<J: Default + Drop> Bag<J> {
 
     /// Seals what it holds with this epoch, straight into `place`, and leaves an empty bag of the same limit.
     ///
-    /// A sealed bag that is answered would ask of each caller that its size is in range, which a generic `J` leaves
-    /// open.
+    /// It doesn't answer the sealed bag: each caller would have to show that the size of one is in range, and for a
+    /// generic `J` that isn't known.
     #[inline(always)]
     pub fn seal_into(&mut self, epoch: Epoch, place: &mut Option<SealedBag<J>>)
         ensures sealed { place.new ≡ Some (record { seal = epoch.number; jobs = self.old.jobs }) }
@@ -83,7 +83,7 @@ impl<J: Default + Drop> Bag<J> {
 }
 
 impl<J: Drop> Bag<J> {
-    /// Puts `job` behind the others, or hands it back from a full bag, which stays as it was.
+    /// Puts `job` behind the others. `Err`: the bag is full, and stays as it was; the job comes back.
     pub fn try_push(&mut self, job: J) -> Result<(), J>
         ensures full { IsErr result ↔ (self.old.limit ≤ length self.old.jobs) }
         ensures ok { OnOk result (self.new.jobs ≡ self.old.jobs ++ job ∷ []) }
@@ -98,7 +98,7 @@ impl<J: Drop> Bag<J> {
         Ok(())
     }
 
-    /// Puts `job` behind the others, where the bag has room.
+    /// Puts `job` behind the others. The bag must have room.
     #[inline]
     pub fn push(&mut self, job: J)
         requires { length self.old.jobs < self.old.limit }
@@ -135,7 +135,7 @@ impl<J: Drop> Bag<J> {
 }
 
 impl<J> Bag<J> {
-    /// How many jobs it has.
+    /// Answers how many jobs it has.
     pub fn len(&self) -> usize
         ensures value { result ≡ length self.now.jobs }
         ensures within { result ≤ self.now.limit }
@@ -143,7 +143,7 @@ impl<J> Bag<J> {
         self.jobs.len()
     }
 
-    /// Whether it has none.
+    /// Answers whether it has no job.
     pub fn is_empty(&self) -> bool
         ensures test { result ≡ is_empty self.now.jobs }
         ensures none { IsTrue result ↔ (self.now.jobs ≡ []) }
@@ -151,7 +151,7 @@ impl<J> Bag<J> {
         self.jobs.is_empty()
     }
 
-    /// How many jobs it takes at most, from 1 to [`BAG_JOBS`].
+    /// Answers how many jobs it takes at most, from 1 to [`BAG_JOBS`].
     pub fn limit(&self) -> usize
         ensures value { result ≡ self.now.limit }
         ensures some { 0 < result }
@@ -160,7 +160,7 @@ impl<J> Bag<J> {
         self.limit
     }
 
-    /// Whether it takes no further job.
+    /// Answers whether it takes no further job.
     pub fn is_full(&self) -> bool
         ensures { IsTrue result ↔ (self.now.limit ≤ length self.now.jobs) }
     {
@@ -192,7 +192,7 @@ impl<J> Model for SealedBag<J> {
 }
 
 impl<J> SealedBag<J> {
-    /// The number of the epoch that seals it, from 0 to [`GREATEST_EPOCH`].
+    /// Answers the number of the epoch that seals it, from 0 to [`GREATEST_EPOCH`].
     pub fn seal(&self) -> u64
         ensures value { result ≡ self.now.seal }
         ensures within { result ≤ GREATEST_EPOCH }
@@ -200,7 +200,7 @@ impl<J> SealedBag<J> {
         self.seal
     }
 
-    /// Whether `epoch` is two ahead of the seal, or more.
+    /// Answers whether `epoch` is ahead of the seal by two or more.
     pub fn is_expired(&self, epoch: Epoch) -> bool
         ensures { IsTrue result ↔ IsExpired epoch.number self.now }
     {
@@ -209,7 +209,7 @@ impl<J> SealedBag<J> {
         self.seal + 2 <= epoch.number()
     }
 
-    /// How many jobs are left, at most [`BAG_JOBS`].
+    /// Answers how many jobs are left, at most [`BAG_JOBS`].
     pub fn len(&self) -> usize
         ensures value { result ≡ length self.now.jobs }
         ensures within { result ≤ BAG_JOBS }
@@ -217,7 +217,7 @@ impl<J> SealedBag<J> {
         self.jobs.len() - self.next
     }
 
-    /// Whether no job is left.
+    /// Answers whether no job is left.
     pub fn is_empty(&self) -> bool
         ensures test { result ≡ is_empty self.now.jobs }
         ensures none { IsTrue result ↔ (self.now.jobs ≡ []) }
@@ -238,7 +238,7 @@ impl<J: Default + Drop> SealedBag<J> {
         }
     }
 
-    /// Takes the oldest job out, and doesn't call it. `None` exactly where none is left.
+    /// Takes the oldest job out, and doesn't call it. `None`: no job is left.
     pub fn take_next(&mut self) -> Option<J>
         ensures job { MatchOption result (self.old.jobs ≡ []) (λ job. self.old.jobs ≡ job ∷ self.new.jobs) }
         ensures none { result ≡ None → self.new ≡ self.old }

@@ -10,7 +10,7 @@ pub const FREE: u64 = 0;
 /// The word of a participant that is not pinned.
 pub const UNPINNED: u64 = 2;
 
-/// The word of a participant that is pinned in the epoch of this number. It is odd, as no other one is.
+/// Answers the word of a participant that is pinned in the epoch of this number. It is odd, as no other one is.
 #[inline(always)]
 pub fn pinned_word(epoch: u64) -> u64
     requires { epoch ≤ GREATEST_EPOCH }
@@ -30,7 +30,7 @@ pub struct Epoch {
 }
 
 impl Epoch {
-    /// The first epoch: number 0, not pinned.
+    /// Answers the first epoch: number 0, not pinned.
     pub fn starting() -> Epoch
         ensures number { result.number ≡ 0 }
         ensures unpinned { result.pinned ≡ false }
@@ -38,7 +38,7 @@ impl Epoch {
         Epoch::new(0)
     }
 
-    /// The epoch of this number, not pinned.
+    /// Answers the epoch of this number, not pinned.
     pub fn new(number: u64) -> Epoch
         requires { number ≤ GREATEST_EPOCH }
         ensures number { result.number ≡ number }
@@ -50,7 +50,7 @@ impl Epoch {
         }
     }
 
-    /// The same epoch, marked as pinned.
+    /// Answers the same epoch, marked as pinned.
     pub fn pinned(self) -> Epoch
         ensures number { result.number ≡ self.number }
         ensures pinned { result.pinned ≡ true }
@@ -61,7 +61,7 @@ impl Epoch {
         }
     }
 
-    /// The same epoch, marked as not pinned.
+    /// Answers the same epoch, marked as not pinned.
     pub fn unpinned(self) -> Epoch
         ensures number { result.number ≡ self.number }
         ensures unpinned { result.pinned ≡ false }
@@ -72,14 +72,14 @@ impl Epoch {
         }
     }
 
-    /// Whether it is marked as pinned.
+    /// Answers whether it is marked as pinned.
     pub fn is_pinned(self) -> bool
         ensures { result ≡ self.pinned }
     {
         self.pinned
     }
 
-    /// Its number, from 0 to [`GREATEST_EPOCH`].
+    /// Answers its number, from 0 to [`GREATEST_EPOCH`].
     pub fn number(self) -> u64
         ensures value { result ≡ self.number }
         ensures within { result ≤ GREATEST_EPOCH }
@@ -87,7 +87,7 @@ impl Epoch {
         self.number
     }
 
-    /// The next epoch, with the same mark; `None` exactly at the greatest one.
+    /// Answers the next epoch, with the same mark; `None` exactly at the greatest one.
     pub fn successor(self) -> Option<Epoch>
         ensures none { IsNone result ↔ (self.number ≡ GREATEST_EPOCH) }
         ensures some { IfSome result (λ next. (next.number ≡ self.number + 1)) }
@@ -102,7 +102,7 @@ impl Epoch {
         })
     }
 
-    /// How many epochs `self` is ahead of `other`, negative where it is behind. Marks don't count.
+    /// Answers how many epochs `self` is ahead of `other`, negative where it is behind. Marks don't count.
     pub fn distance(self, other: Epoch) -> i64
         ensures { result ≡ pos self.number -ℤ pos other.number }
     {

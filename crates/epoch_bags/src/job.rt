@@ -8,15 +8,15 @@ use epoch_cells::{Cells, Name, Removal};
 
 /// How values are removed by their names.
 pub trait Remove {
-    /// That a removal of the name was tried. Where the type is a parameter, nothing but `remove` shows it.
+    /// A removal of the name was tried. If the type is a parameter, nothing but `remove` shows it.
     ghost tried: { Name → Type 0 };
 
-    /// Tries to remove the value of this name, as [`Cells::remove`].
+    /// Tries to remove the value of this name, as [`Cells::remove`] does.
     fn remove<T: Drop>(cells: &Cells<T>, name: Name) -> Removal
         ensures tried { tried name };
 }
 
-/// Values are removed by their cells: the one way that there is. No value of it is made.
+/// Values are removed by their cells. There is no other way. No value of this type is made.
 pub struct FromCells;
 
 impl Remove for FromCells {
@@ -33,7 +33,7 @@ pub trait Run: Drop {
     /// How the values are removed whose removal is deferred: [`FromCells`].
     type Removing: Remove;
 
-    /// That it was called. Where the type is a parameter, nothing but a call shows it.
+    /// It was called. If the type is a parameter, nothing but a call shows it.
     ghost done: { Self → Type 0 };
 
     /// Calls it.
@@ -43,9 +43,9 @@ pub trait Run: Drop {
         ensures done { done self };
 }
 
-/// A caller's job, which keeps that it may be called.
+/// A caller's function, which is called once. The type keeps the fact that it can be called.
 ///
-/// The boxed function waits for nobody, and can't reach the handle that calls it.
+/// The boxed function doesn't wait for other threads, and can't reach the handle that calls it.
 #[derive(Drop)]
 pub struct Work {
     pub run: Box<dyn FnOnce() + Send>,
@@ -87,14 +87,14 @@ pub enum Called {
     Ran,
     /// The removal dropped the value.
     Destroyed,
-    /// The removal met a value that is read or written, or lost each try to others. The value stays.
+    /// The removal met a value that is read or written, or lost each try to other threads. The value stays.
     HeldElsewhere,
     /// The removal met no value of its name.
     Gone,
 }
 
 impl<W: Run> Job<W> {
-    /// Calls the job, and says what that did.
+    /// Calls the job, and answers what that did.
     #[inline(always)]
     pub fn call<T: Drop>(self, cells: &Cells<T>) -> Called
         ensures answers { AnswersJob self result }
@@ -115,7 +115,7 @@ impl<W: Run> Job<W> {
 }
 
 impl<W: Run> SealedBag<Job<W>> {
-    /// Takes the oldest job out and calls it. `None` exactly where none is left.
+    /// Takes the oldest job out, calls it, and answers what that did. `None`: no job is left.
     pub fn call_next<T: Drop>(&mut self, cells: &Cells<T>) -> Option<Called>
         ensures called { MatchOption result (self.old.jobs ≡ []) (λ called. (job : _) × (self.old.jobs ≡ job
             ∷ self.new.jobs) × AnswersJob job called × IsCalled W.done W.Removing.tried job) }

@@ -78,7 +78,7 @@ pub trait BagStore: Drop {
     /// How many places the put has seen occupied.
     ghost passed: { Self.Putting → ℕ };
 
-    /// Whether a put, that nobody disturbs, will find a place.
+    /// Whether a put will find a place if no other participant is at work.
     ghost has_room: { Self → Self.Putting → Bool };
 
     /// It is this put that claims the place.
@@ -93,7 +93,8 @@ pub trait BagStore: Drop {
     /// How many steps a collection takes at most in a store of this capacity, before one that answers `Empty` at once.
     ghost takes_left: { ℕ → Self.Taking → ℕ };
 
-    /// How many bags a collection for this epoch, that nobody disturbs, will still take if it is not stopped.
+    /// How many bags a collection for this epoch will still take if no other participant is at work and nothing stops
+    /// it.
     ghost ahead: { ℕ → Self → Self.Taking → ℕ };
 
     /// What one step of a put of this bag does to the store and to the cursor, beyond what is said of every store.
@@ -103,7 +104,9 @@ pub trait BagStore: Drop {
     /// every store.
     ghost TakeMoves: { ℕ → Self → Self → Sealed Self.Job → Self.Taking → TakeStep → Self.Taking → Type 0 };
 
-    /// An empty store with room for `bags` bags, from 1 to [`MOST_BAGS`]. `NoMemory`: an allocation was refused.
+    /// Makes an empty store with room for `bags` bags, from 1 to [`MOST_BAGS`].
+    ///
+    /// `NoMemory`: an allocation was refused, and nothing was made.
     fn with_room(alloc: Global, bags: usize) -> Result<Self, Fault>
         requires some { 0 < bags }
         requires most { bags ≤ MOST_BAGS }
@@ -113,7 +116,7 @@ pub trait BagStore: Drop {
         ensures unreserved { IfOk result (λ store. (place : ℕ) → ¬ (Reserved store place)) }
         ensures no_memory { IfErr result (λ fault. fault ≡ Fault.NoMemory) };
 
-    /// How many bags it has room for, from 1 to [`MOST_BAGS`].
+    /// Answers how many bags it has room for, from 1 to [`MOST_BAGS`].
     fn capacity(&self) -> usize
         ensures value { result ≡ capacity self.now }
         ensures within { length (queued self.now) ≤ capacity self.now }
@@ -125,7 +128,7 @@ pub trait BagStore: Drop {
         ensures some { 0 < result }
         ensures most { result ≤ MOST_BAGS };
 
-    /// The cursor of a put that has taken no step.
+    /// Answers the cursor of a put that has taken no step.
     fn start_put(&self) -> Self::Putting
         ensures passed { passed result ≡ 0 }
         ensures few { puts_left (capacity self.now) result ≤ 3 * capacity self.now + 65 }
@@ -133,9 +136,10 @@ pub trait BagStore: Drop {
         ensures room { (place : ℕ) → slice_get (occupied self.now) place ≡ Some false
             → has_room self.now result ≡ true };
 
-    /// One step of a put of the bag `held`, to be sealed with `seal`.
+    /// Takes one step of a put of the bag `held`, to be sealed with `seal`.
     ///
-    /// `Done`: its jobs are in the store, in a bag sealed so, and `held` is left empty. Else nothing has moved.
+    /// `Done`: its jobs are in the store, in a bag with that seal, and `held` is left empty. Otherwise nothing has
+    /// moved.
     fn put_step(
         &mut self,
         cursor: &mut Self::Putting,
@@ -156,7 +160,7 @@ pub trait BagStore: Drop {
         ensures again { result ≡ PutStep.Again → passed cursor.new < capacity self.old }
         ensures onward { result ≢ PutStep.Done → passed cursor.old ≤ passed cursor.new }
 
-        // Where nobody disturbs it, it is done exactly where it finds a place.
+        // If no other participant is at work, it is done exactly if it finds a place.
         ensures room { FindsRoom (has_room self.old cursor.old) result (has_room self.new cursor.new) }
 
         // Its number falls with each step.
@@ -165,12 +169,12 @@ pub trait BagStore: Drop {
         ensures last { puts_left (capacity self.old) cursor.old ≡ 0 → result ≡ PutStep.Full }
         ensures claims { (place : ℕ) → Claimed self.new place → Claimed self.old place }
 
-        // It claims for itself alone, and only between its steps that answer Again.
+        // It claims places only for itself, and only between its steps that answer `Again`.
         ensures reserves { (place : ℕ) → Reserved self.new place
             → Reserves cursor.new place ⊎ (Reserved self.old place × (¬ (Reserves cursor.old place))) }
         ensures lets_go { result ≢ PutStep.Again → (place : ℕ) → ¬ (Reserves cursor.new place) };
 
-    /// The cursor of a collection that has taken no step.
+    /// Answers the cursor of a collection that has taken no step.
     fn start_take(&self) -> Self::Taking
         ensures few { takes_left (capacity self.now) result ≤ 3 * capacity self.now + 65 }
         ensures claims { (place : ℕ) → ¬ (Claims result place) }
@@ -179,9 +183,9 @@ pub trait BagStore: Drop {
         ensures ahead { (epoch : ℕ) → ((place : ℕ) → ¬ (Claimed self.now place)) → AllExpired epoch (queued self.now)
             → min 64 (ahead epoch self.now result) ≡ min 64 (length (queued self.now)) };
 
-    /// One step of a collection of bags that are expired for `expiry`. The bag `hand` has no jobs left.
+    /// Takes one step of a collection of bags that are expired for `expiry`. The bag `hand` must have no jobs left.
     ///
-    /// `Got`: one such bag has left the store, and `hand` is that bag. Else nothing has moved.
+    /// `Got`: one such bag has left the store, and `hand` is that bag. Otherwise nothing has moved.
     fn take_step(
         &mut self,
         cursor: &mut Self::Taking,
@@ -200,7 +204,7 @@ pub trait BagStore: Drop {
             → takes_left (capacity self.old) cursor.new < takes_left (capacity self.old) cursor.old }
         ensures last { takes_left (capacity self.old) cursor.old ≡ 0 → result ≡ TakeStep.Empty }
 
-        // It claims for itself alone, and only between its steps that answer Again.
+        // It claims places only for itself, and only between its steps that answer `Again`.
         ensures claims { (place : ℕ) → Claimed self.new place
             → Claims cursor.new place ⊎ (Claimed self.old place × (¬ (Claims cursor.old place))) }
         ensures reserves { (place : ℕ) → Reserved self.new place
@@ -209,9 +213,9 @@ pub trait BagStore: Drop {
         ensures ahead { FindsBag (ahead expiry.number self.old cursor.old) result
             (ahead expiry.number self.new cursor.new) };
 
-    /// Takes out one bag whatever its seal. `None` exactly where the store has none.
+    /// Takes out one bag, whatever its seal is. `None`: the store has no bag.
     ///
-    /// For an end, with nobody else at work; it is no atomic step.
+    /// It is for an end, when no other participant is at work: it is no atomic step.
     fn take_any(&mut self) -> Option<SealedBag<Self::Job>>
         ensures bag { TakesAny (queued self.old) result (queued self.new) }
         ensures capacity { capacity self.new ≡ capacity self.old }

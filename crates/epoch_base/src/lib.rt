@@ -16,7 +16,8 @@ pub mod queue {
         BagQueue, BagStore, MOST_BAGS, Places, PutCursor, PutStep, TakeCursor, TakeStep, take_some,
     };
     pub use epoch_tables::shared_places::{
-        MOST_PLACES, PlaceRule, PlaceSeat, PlaceView, SharedPlaces,
+        ClosedPlaces, MOST_PLACES, PlaceRule, PlaceSeat, PlaceView, SharedPlaces,
+        closed_places_hold_the_rest, no_bag_is_lost,
     };
 }
 

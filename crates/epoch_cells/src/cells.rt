@@ -1,10 +1,10 @@
 //! Numbered cells, which threads share: values that are read while others remove them.
 //!
-//! A value stands in its cell beside its own name, whose slot is the cell's. Every call that is given a
-//! name claims the cell of the name's slot, compares the name that stands there with the one asked for,
-//! and gives the claim back where they differ. A call that takes a value out spends its one claim before
-//! it compares, and would put the value of another turn back. None is met: the claim was won at a word
-//! of the name's own turn, and a value is placed beside the turn of its slot's word.
+//! A value stands in its cell beside its own name, whose slot is the cell's. Every call that is given a name claims the
+//! cell of the name's slot, compares the name that stands there with the one asked for, and gives the claim back if
+//! they differ. A call that takes a value out spends its claim before it compares, and would put the value of another
+//! turn back. It meets none: the claim was won at a word of the name's own turn, and a value is placed beside the turn
+//! of its slot's word.
 ghost use Rattle.std.specs.Prelude.{◌≡◌, ◌≤◌, ◌<◌, ◌+◌, ◌++◌, ◌∷◌, [], IfSome, IfOk, IfErr, OnOk, IsOkUnless, vec_len};
 ghost use Rattle.epoch_cells.specs.declared.fault.Fault.TheVariants.{NoMemory, CellsFull};
 ghost use Rattle.epoch_cells.specs.SlotNumbers.{AreNumbered};
@@ -51,16 +51,16 @@ pub struct Cells<T, P = IntoSlots> {
 pub enum Removal {
     /// The value was there, and was dropped.
     Destroyed,
-    /// The value is there, and is read or written; or each try was lost to others.
+    /// The value is there, and is read or written; or each try was lost to other threads. The value stays.
     HeldElsewhere,
     /// No value of that name is there.
     Gone,
 }
 
 impl<T: Drop> Cells<T> {
-    /// A store of `capacity` slots, from 0 to [`MOST_SLOT`], each of which begins at `start_turn`.
+    /// Makes a store of `capacity` slots, from 0 to [`MOST_SLOT`], each of which begins at `start_turn`.
     ///
-    /// `NoMemory`: an allocation was refused.
+    /// `NoMemory`: an allocation was refused, and nothing was made.
     pub fn new(alloc: Global, capacity: u32, start_turn: u32) -> Result<Cells<T>, Fault>
         requires { capacity ≤ MOST_SLOT }
         ensures memory { IsOkUnless result NoMemory }
@@ -79,7 +79,7 @@ impl<T: Drop> Cells<T> {
 }
 
 impl<T: Drop, P: Puts<T>> Cells<T, P> {
-    /// How many slots there are.
+    /// Answers how many slots there are.
     pub fn capacity(&self) -> usize
         ensures value { result ≡ vec_len self.now.slots }
         ensures within { result ≤ MOST_SLOT }
@@ -87,8 +87,7 @@ impl<T: Drop, P: Puts<T>> Cells<T, P> {
         self.slots.len()
     }
 
-    /// Places the value in the first free slot, and answers its name: that slot and its next turn. It is put beside
-    /// that name.
+    /// Places the value in the first free slot, beside its name, and answers that name: the slot and its next turn.
     ///
     /// `CellsFull`: every slot was seen used or retired during the call. The value is handed back.
     #[inline(always)]
@@ -166,9 +165,9 @@ impl<T: Drop, P: Puts<T>> Cells<T, P> {
         }
     }
 
-    /// Lends the value of this name for reading.
+    /// Lends the value of this name for reading. The reading must be given back, by [`Reading::leave`].
     ///
-    /// `None`: it is gone, or is written, or has `2^30 - 1` readers, or each try was lost to others.
+    /// `None`: the value is gone, or is written, or has `2^30 - 1` readers, or each try was lost to other threads.
     #[inline(always)]
     pub fn read(&self, name: Name) -> Option<Reading<'_, T>>
         ensures { IfSome result (λ reading. reading.name ≡ name) }
@@ -184,24 +183,24 @@ impl<T: Drop, P: Puts<T>> Cells<T, P> {
         None
     }
 
-    /// Lends the value of this name for writing.
+    /// Lends the value of this name for writing. The writing must be given back, by [`Writing::leave`].
     ///
-    /// `None`: it is gone, or is read or written, or each try was lost to others.
+    /// `None`: the value is gone, or is read or written, or each try was lost to other threads.
     pub fn write(&self, name: Name) -> Option<Writing<'_, T>>
         ensures { IfSome result (λ writing. writing.name ≡ name) }
     {
         self.hold(name).ok()
     }
 
-    /// Takes the value of this name out of its cell, whose slot is free for its next turn from then on.
+    /// Takes the value of this name out of its cell. From then on the slot is free for its next turn.
     ///
-    /// `None`: it is gone, or is read or written, or each try was lost to others.
+    /// `None`: the value is gone, or is read or written, or each try was lost to other threads.
     #[inline(always)]
     pub fn take(&self, name: Name) -> Option<Box<T>> {
         Some(self.take_held(name)?.into_value())
     }
 
-    /// As [`Cells::take`]: what stood in the cell, the value beside its own name, which is the one asked for.
+    /// Does what [`Cells::take`] does, and answers the value with its own name, which is the one asked for.
     #[inline(always)]
     pub fn take_held(&self, name: Name) -> Option<Held<T>>
         ensures { IfSome result (λ held. held.name ≡ name) }

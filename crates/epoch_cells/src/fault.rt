@@ -5,7 +5,7 @@ ghost use Rattle.epoch_cells.specs.Faults.{fault_number};
 use std::error::Error;
 use std::fmt;
 
-/// Why a call was refused. Each fault says when it comes; a refused call hands its argument back.
+/// Why a call was refused. A refused call hands its argument back.
 #[derive(Clone, Copy, Debug, PartialEq, Eq)]
 pub enum Fault {
     /// Every participant's word was seen taken during the call.
@@ -18,7 +18,7 @@ pub enum Fault {
     NoMemory,
     /// The participant has a call under way, is paused, or reads that name already.
     Busy,
-    /// There is no call, no pause or no end to go on with.
+    /// There is no call, pause or end to go on with.
     Idle,
     /// There is no such participant.
     NotRegistered,
@@ -34,16 +34,16 @@ pub enum Fault {
     Ended,
     /// There is no such root or field.
     NoSuchPlace,
-    /// The pointer is null, of another collector, or names no cell that was ever given.
+    /// The pointer is null, is of another collector, or has a name that was never given.
     StrangerPointer,
     /// The numbers for tickets are used up.
     TicketsOut,
-    /// Each of the tries allowed was lost.
+    /// Each of the tries was lost.
     TriesOut,
 }
 
 impl Fault {
-    /// The number under which the fault is printed, from 1 to 16, in the order of the variants.
+    /// Answers the number under which the fault is printed, from 1 to 16, in the order of the variants.
     pub fn number(self) -> u64
         ensures { result ≡ fault_number self }
     {

@@ -9,4 +9,4 @@ pub mod BagBalance
 pub mod PlaceLooks
 pub mod PlaceClaims
 pub mod PlaceStores
-pub mod PlaceTries
+pub mod LastContents

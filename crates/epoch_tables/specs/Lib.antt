@@ -2,3 +2,4 @@ pub mod Table
 pub mod TableSteps
 pub mod SharedPlaces
 pub mod SharedSteps
+pub mod ClosedPlaces

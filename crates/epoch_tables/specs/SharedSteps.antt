@@ -1,9 +1,8 @@
 -- The steps of a put and of a collection over shared places: where a cursor stands, and what each step does.
-use Rattle.std.specs.Prelude.{◌≡◌, ◌≢◌, ℕ, zero, suc, ◌+◌, ◌*◌, ◌<◌, ◌≤◌, ◌⊎◌, [], ◌∷◌, Option, Some, None}
+use Rattle.std.specs.Prelude.{◌≡◌, ℕ, ◌<◌, ◌≤◌, [], ◌∷◌, Option, Some, None}
 use Rattle.epoch_bags.specs.Bags.{Sealed, IsExpired}
 use Rattle.epoch_bags.specs.CursorSteps.{IsExpiredWord, PutGoes, TakeGoes}
 use Rattle.epoch_tables.specs.SharedPlaces.{PlaceMe, IsAtHome, after_look, after_place_claim, after_store}
-use Rattle.epoch_tables.specs.declared.shared_places.view.PlaceView.{PlaceView}
 use Rattle.epoch_bags.specs.declared.queue.PutStep.{PutStep}
 use Rattle.epoch_bags.specs.declared.queue.TakeStep.{TakeStep}
 use Rattle.epoch_bags.specs.declared.queue.places.PutCursor.{PutCursor}
@@ -65,31 +64,3 @@ module _ {J : Type 0} where
       TakeGoes places (λ place word. Finds place before word after) (λ place word. Wins place before word after)
       (λ place. LeavesContent before None after × (before.1 ≡ (place, Some hand) ∷ [])
       × IsExpired x hand) (after ≡ before) x cursor step next
-
--- AN END
-
--- the word of a place that holds a bag
-abbrev pub IsBagWord : ℕ → Type 0
-IsBagWord word = (seal : ℕ) × (word ≡ 2 * seal + 1)
-
-module _ {J : Type 0} where
-  -- A place was passed: the word found there tells of no bag, or it was that of a bag, and the claim of it found
-  -- another word.
-  abbrev pub PassesPlace : ℕ → PlaceView J → PlaceView J → Type 0
-  PassesPlace place before after = (word : ℕ)
-      × (((¬ (IsBagWord word)) × (after ≡ after_look before place word))
-      ⊎ (IsBagWord word × ((other : ℕ) × (other ≢ word)
-      × (after ≡ after_look (after_look before place word) place other))))
-
-  -- So many places were passed, from the first one on.
-  abbrev pub PassesEach : ℕ → PlaceView J → PlaceView J → Type 0
-  PassesEach zero before after = after ≡ before
-  PassesEach (suc place) before after =
-      (between : PlaceView J) × PassesEach place before between × PassesPlace place between after
-
-  -- Each of so many places was passed, or each one before that of this bag, whose word was found there and claimed.
-  abbrev pub TriesEach : ℕ → PlaceView J → Option (Sealed J) → PlaceView J → Type 0
-  TriesEach places before None after = PassesEach places before after
-  TriesEach places before (Some bag) after = (place : ℕ) × (place < places) × ((between : PlaceView J)
-      × PassesEach place before between × (after ≡ after_store (after_place_claim
-      (after_look between place (2 * bag.seal + 1)) place (2 * bag.seal + 1) (Some bag)) None))

@@ -1,6 +1,7 @@
 //! Numbered places for sealed bags, which threads share: a word and a slot for each.
 //!
-//! A thread takes its steps through a *seat*. What the seat knows is its *view*, which contracts alone see.
+//! A thread takes its steps through a *seat*. What the seat knows is its *view*, which only contracts see.
+mod closed;
 mod cursors;
 mod laws;
 mod places;
@@ -8,6 +9,7 @@ mod plays;
 mod steps;
 mod view;
 
-pub use laws::no_bag_is_lost;
+pub use closed::ClosedPlaces;
+pub use laws::{closed_places_hold_the_rest, no_bag_is_lost};
 pub use places::{MOST_PLACES, PlaceRule, PlaceSeat, SharedPlaces};
 pub use view::PlaceView;

@@ -1,7 +1,7 @@
 //! The participants' table, which threads share.
 //!
 //! A *participant* has a *position* in the table, and a word there. A thread takes its steps through a
-//! *seat*. What the seat knows is its *view*, which contracts alone see.
+//! *seat*. What the seat knows is its *view*, which only contracts see.
 mod laws;
 mod participants;
 mod plays;

@@ -3,7 +3,7 @@ ghost use Rattle.epoch_tables.specs.SharedPlaces.{IsPlaceSeatOf, IsSamePlaceSeat
 ghost use Rattle.epoch_tables.specs.SharedSteps.{RestsAt, TakesAt};
 
 use crate::wants::{bag_of, want, want_put_on, want_take_on, want_word};
-use epoch_base::queue::{PlaceSeat, SharedPlaces};
+use epoch_base::queue::{ClosedPlaces, PlaceSeat, SharedPlaces};
 use epoch_base::{
     Bag, Epoch, Fault, GREATEST_EPOCH, PutCursor, PutStep, SealedBag, TakeCursor, TakeStep,
 };
@@ -157,5 +157,45 @@ fn a_collection_passes_a_place_whose_claim_it_lost(rt: HostRuntime) -> Result<()
     want(&rt, "it looks at the next one", cursor, TakeCursor::Look(1));
     want(&rt, "the place is empty", places.look(&mut other, 0), 0);
     want_pair(&rt, bag, 5, 6);
+    Ok(())
+}
+
+/// What is left in the next place; nothing past the last one.
+fn next_of(closed: &mut ClosedPlaces<u64>) -> Option<SealedBag<u64>> {
+    if closed.len() == 0 {
+        return None;
+    }
+    closed.take_next()
+}
+
+/// Frees places with nothing left.
+fn free(rt: &impl Abort, closed: ClosedPlaces<u64>) {
+    assert!(rt; closed.len() == 0, "each place was taken out of");
+    closed.free();
+}
+
+#[test]
+fn closed_places_give_what_is_left_in_their_order(rt: HostRuntime) -> Result<(), Fault> {
+    let places: SharedPlaces<u64> = SharedPlaces::new(rt.alloc(), 3)?;
+    let mut seat = places.seat();
+    let mut bag = Some(sealed_pair(5, 6));
+    want_word(&rt, "an empty place", places.claim(&mut seat, 1, 0), 0);
+    places.fill(&mut seat, 1, &mut bag);
+    let mut closed = places.close();
+    want(&rt, "how many places are left", closed.len(), 3);
+    want(
+        &rt,
+        "nothing in the first",
+        next_of(&mut closed).is_none(),
+        true,
+    );
+    want_pair(&rt, next_of(&mut closed), 5, 6);
+    want(
+        &rt,
+        "nothing in the last",
+        next_of(&mut closed).is_none(),
+        true,
+    );
+    free(&rt, closed);
     Ok(())
 }

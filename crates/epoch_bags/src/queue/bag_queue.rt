@@ -58,7 +58,9 @@ impl<J: Drop> Drop for BagQueue<J> {
 }
 
 impl<J: Drop> BagQueue<J> {
-    /// An empty queue for `capacity` bags, from 1 to [`MOST_BAGS`]. `NoMemory`: an allocation was refused.
+    /// Makes an empty queue for `capacity` bags, from 1 to [`MOST_BAGS`].
+    ///
+    /// `NoMemory`: an allocation was refused, and nothing was made.
     pub fn new(alloc: Global, capacity: usize) -> Result<BagQueue<J>, Fault>
         requires some { 0 < capacity }
         requires most { capacity ≤ MOST_BAGS }
@@ -80,14 +82,14 @@ impl<J: Drop> BagQueue<J> {
         })
     }
 
-    /// Whether it has no bag.
+    /// Answers whether it has no bag.
     pub fn is_empty(&self) -> bool
         ensures { IsTrue result ↔ (self.now.bags ≡ []) }
     {
         self.bags.is_empty()
     }
 
-    /// Puts `bag` behind the others, or hands it back from a full queue, which stays as it was.
+    /// Puts `bag` behind the others. `Err`: the queue is full, and stays as it was; the bag comes back.
     pub fn push(&mut self, bag: SealedBag<J>) -> Result<(), SealedBag<J>>
         ensures full { IsErr result ↔ (self.old.capacity ≤ length self.old.bags) }
         ensures ok { OnOk result (self.new.bags ≡ self.old.bags ++ bag ∷ []) }
@@ -102,7 +104,7 @@ impl<J: Drop> BagQueue<J> {
         Ok(())
     }
 
-    /// Takes the front out, exactly where there is one and the condition holds of it. Else nothing changes.
+    /// Takes the front out, if there is one and the condition holds of it. Otherwise nothing changes.
     pub fn try_pop_if<F: Fn(&SealedBag<J>) -> bool + Drop>(
         &mut self,
         condition: F,
@@ -208,7 +210,7 @@ impl<J: Default + Drop> BagStore for BagQueue<J> {
         PutStep::Done
     }
 
-    /// So many bags may still be taken.
+    /// How many bags may still be taken.
     fn start_take(&self) -> u32 {
         64
     }

@@ -1,11 +1,11 @@
-//! What one collection takes where nobody else is at work.
+//! What one collection takes if no other participant is at work.
 ghost use Rattle.std.specs.Prelude.{◌≡◌, ℕ, ◌+◌, ◌≤◌, [], length, min};
 ghost use Rattle.epoch_bags.specs.Stores.{AllExpired};
 
 use crate::{BagStore, Epoch, SealedBag, TakeStep};
 
-/// Takes the bags that one collection gets with nobody else at work, at most `most` of them, drops their jobs
-/// uncalled, and answers how many bags there were: where all are expired, the least of `most` and their number.
+/// Takes the bags that one collection gets if no other participant is at work, at most `most` of them. Drops their jobs
+/// uncalled, and answers how many bags it took: `most`, or all of them if there are fewer and all are expired.
 pub fn take_some<S: BagStore>(
     store: &mut S,
     expiry: Epoch,

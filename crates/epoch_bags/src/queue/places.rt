@@ -25,7 +25,7 @@ pub const EMPTY: u64 = 0;
 /// The word of a claimed place.
 pub const CLAIMED: u64 = 2;
 
-/// The word of a place that holds a bag with this seal. It is odd, as no other one is.
+/// Answers the word of a place that holds a bag with this seal. It is odd, as no other one is.
 #[inline(always)]
 pub fn place_word(seal: u64) -> u64
     requires { seal ≤ GREATEST_EPOCH }
@@ -78,7 +78,9 @@ impl<J: Drop> Drop for Places<J> {
 }
 
 impl<J: Drop> Places<J> {
-    /// So many empty places, from 1 to [`MOST_BAGS`]. `NoMemory`: an allocation was refused.
+    /// Makes `capacity` empty places, from 1 to [`MOST_BAGS`].
+    ///
+    /// `NoMemory`: an allocation was refused, and nothing was made.
     pub fn new(alloc: Global, capacity: usize) -> Result<Places<J>, Fault>
         requires some { 0 < capacity }
         requires most { capacity ≤ MOST_BAGS }
@@ -102,7 +104,7 @@ impl<J: Drop> Places<J> {
 }
 
 impl<J> Places<J> {
-    /// The word of this place; `None` past the last one.
+    /// Answers the word of this place; `None` past the last one.
     pub fn word(&self, place: usize) -> Option<u64>
         ensures { result ≡ slice_get self.now.words place }
     {
@@ -126,7 +128,7 @@ fn look<J>(places: &Places<J>, place: usize) -> u64
     places.words[place]
 }
 
-/// Exchanges this very word for the claimed one.
+/// Exchanges exactly this word for the claimed one.
 #[inline(never)]
 fn claim<J>(places: &mut Places<J>, place: usize, expected: u64) -> bool
     requires { place < length places.old.words }
@@ -143,7 +145,7 @@ fn claim<J>(places: &mut Places<J>, place: usize, expected: u64) -> bool
     true
 }
 
-/// Seals what is held and moves it to its home; not where a bag is at home.
+/// Seals what is held and moves it into the place, unless a bag stands there.
 #[inline(never)]
 fn fill<J: Default + Drop>(
     places: &mut Places<J>,
@@ -213,7 +215,7 @@ fn empty<J: Drop>(
     true
 }
 
-/// Goes on behind this place, which was seen occupied.
+/// Goes on to the place after this one, which was seen occupied.
 #[inline(always)]
 pub fn put_further(cursor: &mut PutCursor, place: usize, places: usize) -> PutStep
     requires { place < places }
@@ -228,7 +230,7 @@ pub fn put_further(cursor: &mut PutCursor, place: usize, places: usize) -> PutSt
     }
 }
 
-/// Goes on behind this place.
+/// Goes on to the place after this one.
 #[inline(always)]
 pub fn take_further(cursor: &mut TakeCursor, place: usize, places: usize) -> TakeStep
     requires { place < places }
@@ -243,7 +245,7 @@ pub fn take_further(cursor: &mut TakeCursor, place: usize, places: usize) -> Tak
     }
 }
 
-/// Whether the word tells of a bag whose seal is two epochs or more behind this one: its jobs may be called.
+/// Answers whether the word tells of a bag whose seal is two epochs or more behind this one: its jobs may be called.
 ///
 /// Why two: an advance needs every pinned participant to be pinned in the present epoch, so the epoch rises at most
 /// once past a participant that stays pinned. One that was pinned, and had read the epoch again, when the bag was

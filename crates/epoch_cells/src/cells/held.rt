@@ -20,14 +20,14 @@ impl<T> Held<T> {
     ghost use Rattle.epoch_cells.specs.contracts.cells.held.Held.{the_row};
     ghost use Rattle.epoch_cells.specs.LentCells.{with_held};
 
-    /// The name that the value stood beside.
+    /// Answers the name under which the value stood.
     pub fn name(&self) -> Name
         ensures { result ≡ self.now.name }
     {
         self.name
     }
 
-    /// The value alone.
+    /// Answers the value without its name.
     #[inline(always)]
     pub fn into_value(self) -> Box<T>
         ensures { result ≡ self.value }
@@ -57,7 +57,7 @@ pub type Slot<T> = Counted<Option<Held<T>>>;
 
 /// How a value is put into the slot that was claimed for it.
 pub trait Puts<T> {
-    /// That the value was put into a slot beside this name. Where the type is a parameter, nothing but `put` shows it.
+    /// The value was put into a slot beside this name. If the type is a parameter, nothing but `put` shows it.
     ghost placed: { T → Name → Type 0 };
 
     /// Puts the value and its name into the claimed slot, whose word is this one from then on.
@@ -68,7 +68,7 @@ pub trait Puts<T> {
         ensures placed { placed held.value.value held.name };
 }
 
-/// Values are put into the slots themselves: the one way that there is. No value of it is made.
+/// Values are put into the slots themselves. There is no other way. No value of this type is made.
 pub struct IntoSlots;
 
 impl<T: Drop> Puts<T> for IntoSlots {
@@ -88,9 +88,9 @@ impl<T: Drop> Puts<T> for IntoSlots {
 /// Why a try to claim a cell gave nothing.
 #[derive(Clone, Copy, PartialEq, Eq)]
 pub enum Miss {
-    /// The exchange was lost to somebody else.
+    /// The exchange was lost to another thread.
     Lost,
-    /// The value is there, and in other hands.
+    /// The value is there, and another thread reads or writes it.
     Held,
     /// No value of that name is there.
     Gone,
@@ -98,7 +98,7 @@ pub enum Miss {
 
 /// A claim to read a cell. It lends the value, which stands beside its own name: the one asked for.
 ///
-/// While it is kept, nobody writes, takes or removes the value. It must be spent by `leave`.
+/// While it is kept, no thread writes, takes or removes the value. It must be given back, by [`Reading::leave`].
 pub struct Reading<'a, T> {
     claim: Claim<'a, Option<Held<T>>>,
     name: Name,
@@ -107,14 +107,14 @@ pub struct Reading<'a, T> {
 }
 
 impl<'a, T: Drop> Reading<'a, T> {
-    /// The name that the value was asked for by.
+    /// Answers the name under which the value was asked for.
     pub fn name(&self) -> Name
         ensures { result ≡ self.now.name }
     {
         self.name
     }
 
-    /// The value.
+    /// Lends the value for reading.
     pub fn get(&self) -> &T
         ensures named { ∥ IsSomeAnd self.now.claim.value
             (λ cell. IsSomeAnd cell (λ held. held.name ≡ self.now.name)) ∥₁ }
@@ -126,7 +126,7 @@ impl<'a, T: Drop> Reading<'a, T> {
         }
     }
 
-    /// Ends the reading.
+    /// Ends the reading. From then on the value can be written, taken and removed again.
     pub fn leave(self) {
         let Self { claim, name: _ } = self;
         claim.leave();
@@ -135,7 +135,8 @@ impl<'a, T: Drop> Reading<'a, T> {
 
 /// A claim to write a cell. It lends the value, which stood beside its own name: the one asked for.
 ///
-/// The value is out of its cell, which nobody else may enter meanwhile. It must be spent by `leave`.
+/// The value is out of its cell, which no other thread can enter meanwhile. It must be given back, by
+/// [`Writing::leave`].
 pub struct Writing<'a, T> {
     claim: Claim<'a, Option<Held<T>>>,
     // What stood in the cell, the value beside its name.
@@ -150,14 +151,14 @@ impl<'a, T: Drop> Writing<'a, T> {
     ghost use Rattle.epoch_cells.specs.contracts.cells.held.Writing.{the_row};
     ghost use Rattle.epoch_cells.specs.LentCells.{with_written};
 
-    /// The name that the value was asked for by.
+    /// Answers the name under which the value was asked for.
     pub fn name(&self) -> Name
         ensures { result ≡ self.now.name }
     {
         self.name
     }
 
-    /// The value.
+    /// Lends the value for reading.
     pub fn get(&self) -> &T
         ensures named { self.now.held.name ≡ self.now.name }
         ensures value { result.now ≡ self.now.held.value.value }
@@ -165,7 +166,7 @@ impl<'a, T: Drop> Writing<'a, T> {
         &self.held.value
     }
 
-    /// The value, to be changed. The name that it stands beside stays.
+    /// Lends the value for changes. Its name stays.
     pub fn get_mut(&mut self) -> &mut T
         ensures* writes_back { sem 𝓛 (Lends (the_row (record { mir = named 1; lft = [] }) T.row) T.row self.entry result
             (with_written self.old)) }
@@ -187,7 +188,7 @@ impl<'a, T: Drop> Writing<'a, T> {
     }
 }
 
-/// The slot of this number, which begins at this turn.
+/// Answers the slot of this number, which begins at this turn.
 pub fn started<T: Drop>(number: u32, start_turn: u32) -> Slot<T>
     ensures { result ≡ number }
 {
@@ -201,12 +202,12 @@ pub fn started<T: Drop>(number: u32, start_turn: u32) -> Slot<T>
     slot
 }
 
-/// Whether a value may be placed there.
+/// Answers whether a value can be placed there.
 pub fn is_free<T>(slot: &Slot<T>) -> bool {
     state_of(slot.load()) == FREE
 }
 
-/// One try to place the value in the slot of this number, at the slot's turn.
+/// Tries once to place the value in the slot of this number, at the slot's turn.
 #[inline(always)]
 pub fn try_place<T: Drop, P: Puts<T>>(
     slot: &Slot<T>,
@@ -235,7 +236,7 @@ pub fn try_place<T: Drop, P: Puts<T>>(
     Ok(name)
 }
 
-/// One try to claim the value of this name for reading.
+/// Tries once to claim the value of this name for reading.
 #[inline(always)]
 pub fn try_read<'a, T: Drop>(slot: &'a Slot<T>, name: Name) -> Result<Reading<'a, T>, Miss>
     ensures { IfOk result (λ reading. reading.name ≡ name) }
@@ -264,7 +265,7 @@ pub fn try_read<'a, T: Drop>(slot: &'a Slot<T>, name: Name) -> Result<Reading<'a
     }
 }
 
-/// One try to take the value of this name out, which leaves its slot free for the next turn.
+/// Tries once to take the value of this name out, which leaves its slot free for the next turn.
 #[inline(always)]
 pub fn try_take<T: Drop>(slot: &Slot<T>, name: Name) -> Result<Held<T>, Miss>
     requires numbered { slot.now ≡ name.slot }
@@ -294,8 +295,8 @@ pub fn try_take<T: Drop>(slot: &Slot<T>, name: Name) -> Result<Held<T>, Miss>
     Err(Miss::Gone)
 }
 
-/// Puts a value back that was taken out by the name of another turn, or drops it where its slot is used by then.
-/// This isn't met.
+/// Puts a value back that was taken out by the name of another turn, or drops it if its slot is used by then. This
+/// isn't met.
 #[cold]
 #[inline(never)]
 fn put_back<T: Drop>(slot: &Slot<T>, held: Held<T>)
@@ -314,7 +315,7 @@ fn put_back<T: Drop>(slot: &Slot<T>, held: Held<T>)
     let _ = claim.put(Some(held), word);
 }
 
-/// One try to claim the value of this name for writing.
+/// Tries once to claim the value of this name for writing.
 #[inline(always)]
 pub fn try_write<'a, T: Drop>(slot: &'a Slot<T>, name: Name) -> Result<Writing<'a, T>, Miss>
     ensures { IfOk result (λ writing. writing.name ≡ name) }

@@ -1,4 +1,4 @@
-//! Numbered cells that nobody shares: a plain map from names to values.
+//! Numbered cells that aren't shared: a plain map from names to values.
 ghost use Rattle.std.specs.Prelude.{◌≡◌, ◌≢◌, ℕ, ◌+◌, ◌-◌, ◌<◌, ◌≤◌, ◌↔◌, false, None, Some, length, slice_get, IsTrue};
 ghost use Rattle.std.specs.Prelude.{IsNone, IsSome, IfSome, IfOk, IfErr, OnOk, OnErr, IsOkUnless, MatchOption};
 ghost use Rattle.std.specs.Prelude.{MatchResult, All, ◌⊎◌};
@@ -74,7 +74,7 @@ impl<V: Drop> Cell<V> {
         Ok(self.turn as u32)
     }
 
-    // Takes the value out, if there is one that nobody reads: the slot is for the next turn then.
+    // Takes the value out, if there is one that isn't being read. The slot is for the next turn then.
     fn vacate(&mut self) -> Option<V>
         ensures value { result ≡ unread (Some self.old) }
         ensures some { IfSome result (λ _. self.new ≡ empty (self.old.turn + 1)) }
@@ -102,7 +102,7 @@ impl<V: Drop> Cell<V> {
         }
     }
 
-    // Replaces the value, if there is one that nobody reads.
+    // Replaces the value, if there is one that isn't being read.
     fn replace(&mut self, value: V) -> Result<V, V>
         ensures ok { IfOk result (λ before. unread (Some self.old) ≡ Some before) }
         ensures written { OnOk result (self.new ≡ filled self.old.turn 0 value) }
@@ -160,7 +160,7 @@ impl<V: Copy + Drop> Cell<V> {
     }
 }
 
-/// A store of numbered cells that nobody shares. It does what [`crate::Cells`] does, one call at a time.
+/// A store of numbered cells that isn't shared. It does what [`crate::Cells`] does, one call at a time.
 #[derive(Drop)]
 pub struct PlainCells<V> {
     cells: Vec<Cell<V>>,
@@ -178,9 +178,9 @@ impl<V> Model for PlainCells<V> {
 }
 
 impl<V: Drop> PlainCells<V> {
-    /// A store of `capacity` slots, each of which begins at `start_turn`.
+    /// Makes a store of `capacity` slots, each of which begins at `start_turn`.
     ///
-    /// `NoMemory`: an allocation was refused.
+    /// `NoMemory`: an allocation was refused, and nothing was made.
     pub fn new(alloc: Global, capacity: u32, start_turn: u32) -> Result<PlainCells<V>, Fault>
         requires { capacity ≤ MOST_SLOT }
         ensures memory { IsOkUnless result NoMemory }
@@ -194,7 +194,7 @@ impl<V: Drop> PlainCells<V> {
         Ok(PlainCells { cells })
     }
 
-    /// How many slots there are.
+    /// Answers how many slots there are.
     pub fn capacity(&self) -> usize
         ensures value { result ≡ length self.now }
         ensures within { result ≤ MOST_SLOT }
@@ -216,8 +216,8 @@ impl<V: Drop> PlainCells<V> {
         }
     }
 
-    /// The turn of a slot: that of its value, or of the next one that it takes, which is `2^32` where it takes none any
-    /// more. `None`: there is no such slot.
+    /// Answers the turn of a slot: that of its value, or of the next one that it takes, which is `2^32` where it takes
+    /// none any more. `None`: there is no such slot.
     pub fn turn_at(&self, slot: u32) -> Option<u64>
         requires { 0 < slot }
         ensures { MatchOption result (slice_get self.now (slot - 1) ≡ None)
@@ -229,7 +229,7 @@ impl<V: Drop> PlainCells<V> {
         }
     }
 
-    /// The value of this name, without a reading.
+    /// Answers the value of this name, without a reading.
     pub fn get(&self, name: Name) -> Option<&V>
         ensures { MatchOption result (cell_of self.now name.slot name.turn ≡ None) (λ value. (readers : ℕ)
             × (cell_of self.now name.slot name.turn ≡ Some (filled name.turn readers value.now))) }
@@ -238,7 +238,7 @@ impl<V: Drop> PlainCells<V> {
         self.cells[index].value.as_ref()
     }
 
-    /// Places the value in this slot at its next turn, or hands it back where the slot is used or retired.
+    /// Places the value in this slot at its next turn. `Err`: the slot is used or retired, and the value comes back.
     pub fn place_at(&mut self, slot: u32, value: V) -> Result<Name, V>
         requires some { 0 < slot }
         requires within { slot ≤ length self.old }
@@ -258,8 +258,8 @@ impl<V: Drop> PlainCells<V> {
         Ok(Name::at(slot, turn))
     }
 
-    /// Replaces the value of this name and answers the one before, or hands it back where the name's
-    /// cell is gone or read.
+    /// Replaces the value of this name, and answers the one before. `Err`: the name's cell is gone or read, and the
+    /// value comes back.
     pub fn write(&mut self, name: Name, value: V) -> Result<V, V>
         ensures ok { IfOk result (λ before. unread (cell_of self.old name.slot name.turn) ≡ Some before) }
         ensures written { OnOk result (self.new ≡ with_cell self.old name.slot (filled name.turn 0 value)) }
@@ -273,7 +273,7 @@ impl<V: Drop> PlainCells<V> {
         self.cells[index].replace(value)
     }
 
-    /// Replaces the value of this name, also while it is read, and says whether its cell is there.
+    /// Replaces the value of this name, also while it is read, and answers whether its cell is there.
     pub fn amend(&mut self, name: Name, value: V) -> bool
         ensures amended { IsTrue result
             → Replaces name.slot value (cell_of self.old name.slot name.turn) self.old self.new }
@@ -289,7 +289,7 @@ impl<V: Drop> PlainCells<V> {
         }
     }
 
-    /// Takes the value of this name out, whose slot is for its next turn then.
+    /// Takes the value of this name out. From then on the slot is free for its next turn.
     ///
     /// `None`: the name's cell is gone or read.
     pub fn take(&mut self, name: Name) -> Option<V>
@@ -315,7 +315,7 @@ impl<V: Drop> PlainCells<V> {
         }
     }
 
-    /// Ends one reading of this name, and says whether there was one.
+    /// Ends one reading of this name, and answers whether there was one.
     pub fn leave(&mut self, name: Name) -> bool
         ensures left { IsTrue result ↔ HasReader (cell_of self.old name.slot name.turn) }
         ensures lowered { IsTrue result → Lowers name.slot (cell_of self.old name.slot name.turn) self.old self.new }

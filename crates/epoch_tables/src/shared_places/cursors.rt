@@ -7,7 +7,7 @@ ghost use Rattle.std.specs.Prelude.{◌≡◌, ◌≢◌, ℕ, ◌<◌, [], ◌�
 ghost use Rattle.epoch_bags.specs.Bags.{Sealed, IsExpired};
 ghost use Rattle.epoch_tables.specs.SharedPlaces.{PlaceMe, IsPlaceSeatOf, IsSamePlaceSeat, after_store};
 ghost use Rattle.epoch_bags.specs.Places.{put_left, take_left};
-ghost use Rattle.epoch_tables.specs.SharedSteps.{RestsAt, HoldsAt, PutsAt, TakesAt, PutMoves, TakeMoves, TriesEach};
+ghost use Rattle.epoch_tables.specs.SharedSteps.{RestsAt, HoldsAt, PutsAt, TakesAt, PutMoves, TakeMoves};
 
 use crate::shared_places::places::{PlaceSeat, SharedPlaces};
 use crate::shared_places::plays::Store;
@@ -16,7 +16,7 @@ use epoch_bags::queue::places::{EMPTY, is_expired_word, place_word, put_further,
 use epoch_bags::{Bag, Epoch, PutCursor, PutStep, SealedBag, TakeCursor, TakeStep};
 
 impl<J: Default + Drop> SharedPlaces<J> {
-    /// The cursor of a put that has taken no step: it looks at place 0 first.
+    /// Answers the cursor of a put that has taken no step: it looks at place 0 first.
     #[inline(always)]
     pub fn start_put(&self) -> PutCursor
         ensures first { result ≡ PutCursor.Look 0 }
@@ -27,9 +27,9 @@ impl<J: Default + Drop> SharedPlaces<J> {
         PutCursor::Look(0)
     }
 
-    /// One step of a put of the bag `held`, to be sealed with `seal`. It is one atomic instruction.
+    /// Takes one step of a put of the bag `held`, to be sealed with `seal`. It is one atomic instruction.
     ///
-    /// `Done`: its jobs are in a place, in a bag sealed so, and `held` is left empty. Else nothing has moved.
+    /// `Done`: its jobs are in a place, in a bag with that seal, and `held` is left empty. Otherwise nothing has moved.
     /// `Full`: each place was seen occupied by some step of this put. A place whose claim was lost is passed.
     #[inline(always)]
     pub fn put_step(
@@ -94,7 +94,7 @@ impl<J: Default + Drop> SharedPlaces<J> {
             .store::<Store>(seat, word_index(place), place_word(seal.number()));
     }
 
-    /// The cursor of a collection that has taken no step: it looks at place 0 first.
+    /// Answers the cursor of a collection that has taken no step: it looks at place 0 first.
     #[inline(always)]
     pub fn start_take(&self) -> TakeCursor
         ensures first { result ≡ TakeCursor.Look 0 }
@@ -103,11 +103,11 @@ impl<J: Default + Drop> SharedPlaces<J> {
         TakeCursor::Look(0)
     }
 
-    /// One step of a collection of bags that are expired for `expiry`. It is one atomic instruction, or none past
-    /// the last place. The bag `hand` has no jobs left.
+    /// Takes one step of a collection of bags that are expired for `expiry`. It is one atomic instruction, or none past
+    /// the last place. The bag `hand` must have no jobs left.
     ///
-    /// `Got`: one such bag has left its place, and `hand` is that bag; the collection can go on behind the place.
-    /// `Empty`: the last place is passed. Else nothing has moved. A place whose claim was lost is passed.
+    /// `Got`: one such bag has left its place, and `hand` is that bag; the collection can go on with the next place.
+    /// `Empty`: the last place is passed. Otherwise nothing has moved. A place whose claim was lost is passed.
     #[inline(always)]
     pub fn take_step(
         &self,
@@ -173,27 +173,5 @@ impl<J: Default + Drop> SharedPlaces<J> {
         self.table
             .shared
             .store::<Store>(seat, word_index(place), EMPTY);
-    }
-
-    /// Looks at each place once, from place 0 up, and takes out the first bag that it finds and whose claim it
-    /// wins, whatever its seal. `None`: no claim was won.
-    ///
-    /// For an end, with nobody else at work; it is no atomic step.
-    pub fn take_any(&self, seat: &mut PlaceSeat<J>) -> Option<SealedBag<J>>
-        requires of { IsPlaceSeatOf self.now seat.old }
-        requires rests { RestsAt seat.old.me }
-        ensures kept { IsSamePlaceSeat seat.old seat.new }
-        ensures rests { RestsAt seat.new.me }
-        ensures tries { TriesEach self.now.capacity seat.old.me.0 result seat.new.me.0 }
-    {
-        for place in 0..self.capacity() {
-            let word = self.look(seat, place);
-            if word % 2 == 1 && self.claim(seat, place, word) == word {
-                let mut bag = None;
-                self.empty(seat, place, &mut bag);
-                return bag;
-            }
-        }
-        None
     }
 }

@@ -36,7 +36,7 @@ pub type PlaceSeat<J> = Seat<Option<SealedBag<J>>, PlaceView<J>>;
 #[derive(Drop)]
 pub struct SharedPlaces<J> {
     pub(crate) table: Table<Option<SealedBag<J>>, PlaceView<J>, u64, PlaceRule<J>, Global>,
-    capacity: usize,
+    pub(crate) capacity: usize,
 }
 
 impl<J> Model for SharedPlaces<J> {
@@ -64,9 +64,9 @@ fn fits_in_memory<S>(value: &Option<S>) -> bool
 }
 
 impl<J> SharedPlaces<J> {
-    /// So many places, from 1 to [`MOST_PLACES`], all empty.
+    /// Makes `places` empty places, from 1 to [`MOST_PLACES`].
     ///
-    /// `NoMemory`: an allocation was refused.
+    /// `NoMemory`: an allocation was refused, and nothing was made.
     pub fn new(alloc: Global, places: usize) -> Result<SharedPlaces<J>, Fault>
         requires some { 0 < places }
         requires most { places ≤ MOST_PLACES }
@@ -91,7 +91,7 @@ impl<J> SharedPlaces<J> {
         })
     }
 
-    /// How many places there are, from 1 to [`MOST_PLACES`].
+    /// Answers how many places there are, from 1 to [`MOST_PLACES`].
     pub fn capacity(&self) -> usize
         ensures value { result ≡ self.now.capacity }
         ensures some { 0 < result }
@@ -100,7 +100,7 @@ impl<J> SharedPlaces<J> {
         self.capacity
     }
 
-    /// A new seat, which has claimed no place. Making it loads a word.
+    /// Makes a seat, which has claimed no place. Making it loads a word.
     pub fn seat(&self) -> PlaceSeat<J>
         ensures of { IsPlaceSeatOf self.now result }
         ensures view { result.me ≡ (with_claim None [] [] [] [], []) }

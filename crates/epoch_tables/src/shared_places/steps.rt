@@ -36,8 +36,8 @@ impl<J> SharedPlaces<J> {
         self.table.shared.load::<Look>(seat, word_index(place))
     }
 
-    /// Tries to claim a place whose word is this one, and answers the word found: this one exactly
-    /// where the seat has the place now, and in hand what was at home there.
+    /// Tries to claim a place whose word is `word`, and answers the word that it found. If that is `word`, and only
+    /// then, the seat has claimed the place, and has in hand what stood there.
     #[inline(always)]
     pub fn claim(&self, seat: &mut PlaceSeat<J>, place: usize, word: u64) -> u64
         requires of { IsPlaceSeatOf self.now seat.old }
@@ -55,7 +55,7 @@ impl<J> SharedPlaces<J> {
             .compare_exchange::<Claim>(seat, word_index(place), word, CLAIMED)
     }
 
-    /// Moves `bag` into the claimed place, which has none, and stores its seal. `bag` is `None` then.
+    /// Moves `bag` into the claimed place, which has none, and stores its seal. `bag` is left `None`.
     #[inline(never)]
     pub fn fill(&self, seat: &mut PlaceSeat<J>, place: usize, bag: &mut Option<SealedBag<J>>)
         requires of { IsPlaceSeatOf self.now seat.old }

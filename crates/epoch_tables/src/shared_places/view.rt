@@ -2,7 +2,7 @@
 use epoch_bags::SealedBag;
 use std::marker::Model;
 
-/// Bags, for contracts alone: a list of what may be a bag. No value of it is made.
+/// A list of bags, each there or not. It is only for contracts: no value of it is made.
 ///
 /// They stand behind a pointer, so that the size of a view is known for every `J`.
 pub struct LeftBags<J> {
@@ -19,7 +19,7 @@ impl<J> Model for LeftBags<J> {
     ghost view = { λ a. a.bags.value };
 }
 
-/// The view of one seat, for contracts alone. No value of it is made.
+/// The view of one seat. It is only for contracts: no value of it is made.
 pub struct PlaceView<J> {
     /// The place that the seat has claimed, and not yet filled or emptied.
     pub claimed: Option<u64>,
@@ -29,6 +29,6 @@ pub struct PlaceView<J> {
     pub found: [u64; 0],
     /// What each of its fills and empties left in the place, the oldest first.
     pub left: LeftBags<J>,
-    /// What was at home in each place that it claimed, the oldest first.
+    /// What stood in each place that it claimed, the oldest first.
     pub won: LeftBags<J>,
 }

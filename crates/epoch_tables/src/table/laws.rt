@@ -4,14 +4,14 @@
 ghost use Rattle.epoch_tables.specs.Table.{IsNeverLowered, ReadsAfterSeal, NeverFalls, HoldsBagsBack};
 ghost use Rattle.epoch_tables.specs.Table.{EachIsStored};
 
-/// Once a seat has passed all positions in its scan for an epoch, and until it scans anew, the present
-/// epoch is that one or the next. So the plain store of the next one never lowers it.
+/// When a seat has passed all positions in its scan for an epoch, and until it scans anew, the present epoch is that
+/// one or the next. So the plain store of the next one never lowers it.
 pub fn store_never_lowers()
     ensures { IsNeverLowered (Unit {0}) }
 {}
 
-/// Where a bag is expired for an epoch that any seat has read or stored, every pinned seat that has
-/// read the epoch since it published read one after the bag's seal.
+/// If a bag is expired for an epoch that some seat has read or stored, every pinned seat that has read the epoch since
+/// it published read an epoch after the bag's seal.
 pub fn expired_means_read_later()
     ensures { ReadsAfterSeal (Unit {0}) }
 {}
@@ -21,13 +21,13 @@ pub fn epoch_never_falls()
     ensures { NeverFalls (Unit {0}) }
 {}
 
-/// A table begins in epoch 0: each later epoch was stored by some seat, from 1 to the present one.
+/// A table begins in epoch 0. Each epoch from 1 to the present one was stored by some seat.
 pub fn each_epoch_is_stored()
     ensures { EachIsStored (Unit {0}) }
 {}
 
-/// While a participant stays pinned that was pinned, and had read the epoch again, when the epoch was the seal of a
-/// bag, no seat reads or stores an epoch for which that bag is expired.
+/// Say that a participant was pinned, and had read the epoch again, when the epoch was the seal of a bag. While it
+/// stays pinned, no seat reads or stores an epoch for which that bag is expired.
 pub fn pinned_seats_hold_bags_back()
     ensures { HoldsBagsBack (Unit {0}) }
 {}

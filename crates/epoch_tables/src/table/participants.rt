@@ -52,10 +52,10 @@ impl Model for Participants {
 }
 
 impl Participants {
-    /// A table with this many positions, from 1 to [`MOST_POSITIONS`], all free, in epoch 0: see
-    /// [`each_epoch_is_stored`](crate::table::each_epoch_is_stored).
+    /// Makes a table with this many positions, from 1 to [`MOST_POSITIONS`], all free. Its epoch is 0, as
+    /// [`each_epoch_is_stored`](crate::table::each_epoch_is_stored) says.
     ///
-    /// `NoMemory`: an allocation was refused.
+    /// `NoMemory`: an allocation was refused, and nothing was made.
     pub fn new(alloc: Global, positions: usize) -> Result<Participants, Fault>
         requires some { 0 < positions }
         requires most { positions ≤ MOST_POSITIONS }
@@ -71,7 +71,7 @@ impl Participants {
         Ok(Participants { table, positions })
     }
 
-    /// How many positions it has, from 1 to [`MOST_POSITIONS`].
+    /// Answers how many positions it has, from 1 to [`MOST_POSITIONS`].
     pub fn positions(&self) -> usize
         ensures value { result ≡ self.now.positions }
         ensures some { 0 < result }
@@ -80,7 +80,7 @@ impl Participants {
         self.positions
     }
 
-    /// A new seat, which has no position. Making it loads the epoch.
+    /// Makes a seat, which has no position. Making it loads the epoch.
     pub fn seat(&self) -> ParticipantSeat
         ensures of { IsOf self.now result }
         ensures view { (epoch : ℕ) × (result.me.0 ≡ without_position epoch (None ∷ []) (2 * epoch ∷ []) [] []) }

@@ -20,7 +20,7 @@ fn word_index(position: usize) -> usize
 }
 
 impl Participants {
-    /// Loads the epoch word, which is twice the epoch, and no lower than any that this seat has seen.
+    /// Loads the epoch's word, which is twice the epoch, and no lower than any that this seat has seen.
     pub fn load_epoch_word(&self, seat: &mut ParticipantSeat) -> u64
         requires of { IsOf self.now seat.old }
         ensures kept { IsSameSeat seat.old seat.new }
@@ -31,7 +31,7 @@ impl Participants {
         self.table.shared.load::<LoadEpoch>(seat, 0)
     }
 
-    /// Stores the own word: pinned in the epoch of this number, which this seat has read or gone past.
+    /// Stores the participant's own word: pinned in the epoch of this number, which this seat has read or gone past.
     pub fn publish(&self, seat: &mut ParticipantSeat, position: usize, epoch: u64)
         requires of { IsOf self.now seat.old }
         requires own { (seat.old.me.0.position ≡ Some position) × (position < self.now.positions) }
@@ -45,7 +45,7 @@ impl Participants {
             .store::<Publish>(seat, word_index(position), pinned_word(epoch));
     }
 
-    /// Stores the own word: registered, and not pinned.
+    /// Stores the participant's own word: registered, and not pinned.
     pub fn unpin(&self, seat: &mut ParticipantSeat, position: usize)
         requires of { IsOf self.now seat.old }
         requires own { (seat.old.me.0.position ≡ Some position) × (position < self.now.positions) }
@@ -57,7 +57,7 @@ impl Participants {
             .store::<Unpin>(seat, word_index(position), UNPINNED);
     }
 
-    /// Stores the own word: free. The seat has no position from then on.
+    /// Stores the participant's own word: free. From then on the seat has no position.
     pub fn free(&self, seat: &mut ParticipantSeat, position: usize)
         requires of { IsOf self.now seat.old }
         requires own { (seat.old.me.0.position ≡ Some position) × (position < self.now.positions) }
@@ -69,7 +69,7 @@ impl Participants {
             .store::<Free>(seat, word_index(position), FREE);
     }
 
-    /// Loads the word of the position that this seat's scan is at, and passes it where the word lets it.
+    /// Loads the word of the position that this seat's scan is at, and passes that position if the word allows it.
     pub fn load_word(&self, seat: &mut ParticipantSeat, position: usize) -> u64
         requires of { IsOf self.now seat.old }
         requires within { position < self.now.positions }
@@ -101,7 +101,7 @@ impl Participants {
             .store::<StoreEpoch>(seat, 0, 2 * (epoch + 1));
     }
 
-    /// Tries to claim a position, and answers the word found there: [`FREE`] exactly where the seat has it now.
+    /// Tries to claim a position, and answers the word that it found there: [`FREE`] exactly if the seat has it now.
     pub fn claim(&self, seat: &mut ParticipantSeat, position: usize) -> u64
         requires of { IsOf self.now seat.old }
         requires free { (seat.old.me.0.position ≡ None) × (position < self.now.positions) }

@@ -1,6 +1,6 @@
 //! What a seat at the participants' table knows.
 
-/// The view of one seat, for contracts alone. No value of it is made.
+/// The view of one seat. It is only for contracts: no value of it is made.
 pub struct ParticipantView {
     /// The position that the seat has.
     pub position: Option<u64>,
