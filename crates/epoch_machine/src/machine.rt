@@ -1,5 +1,5 @@
-//! A participant's machine. It makes all decisions of one participant, and touches nothing shared itself:
-//! it says what it asks next, and goes on by the answer.
+//! A participant's machine. It makes all decisions of one participant, and touches nothing shared itself: it says what
+//! it asks for next, and goes on by the answer.
 ghost use Rattle.std.specs.Prelude.{◌≡◌, false, ◌^◌, ◌<◌, ◌↔◌, IsTrue, IfSome, length};
 ghost use Rattle.epoch_machine.specs.Machine.{AskFits, asks, begun, ended, fresh, guards_after, is_empty, is_taking};
 ghost use Rattle.epoch_machine.specs.Machine.{IsSized};
@@ -7,6 +7,7 @@ ghost use Rattle.epoch_machine.specs.declared.machine.Stage.TheVariants.{Idle, E
 
 mod hearing;
 mod shared;
+mod shown;
 mod stages;
 mod stepping;
 mod straight;
@@ -40,7 +41,7 @@ pub struct Sizes {
     pub collect_bags: u64,
 }
 
-/// How far the action under way is, named by what is asked next.
+/// How far the action under way is, named by what is asked for next.
 #[derive(Clone, Copy, Debug, PartialEq, Eq)]
 pub enum Stage {
     /// No action is under way.
@@ -63,7 +64,7 @@ pub enum Stage {
     ReloadRepin,
     StoreUnpinned,
     StoreFree,
-    /// Nothing is left to ask.
+    /// Nothing is left to ask for.
     End,
 }
 
@@ -74,13 +75,13 @@ pub enum Ask {
     LoadEpoch,
     /// Load the word of the participant at this position.
     LoadWord(u64),
-    /// Store the own word, pinned in this epoch: a pin.
+    /// Store the participant's own word, pinned in this epoch: a pin.
     StorePinned(u64),
-    /// Store the own word, pinned in this epoch: a repin.
+    /// Store the participant's own word, pinned in this epoch: a repin.
     StoreRepinned(u64),
-    /// Store the own word, not pinned.
+    /// Store the participant's own word, not pinned.
     StoreUnpinned,
-    /// Store the own word, free.
+    /// Store the participant's own word, free.
     StoreFree,
     /// Store the word of this epoch.
     StoreEpoch(u64),
@@ -110,7 +111,7 @@ pub enum Answer<J> {
 
 /// The machine of one participant.
 ///
-/// It counts guards, and doesn't know them: which numbers are out is the caller's to keep.
+/// It counts guards, and doesn't know which ones are out: the caller keeps their numbers.
 #[derive(Drop)]
 pub struct Machine<J> {
     stage: Stage,
@@ -153,7 +154,7 @@ impl<J> Model for Machine<J> {
 }
 
 impl<J: Default + Drop> Machine<J> {
-    /// The machine of a new participant: no guard out, an empty bag and no pin so far.
+    /// Answers the machine of a new participant: no guard out, an empty bag and no pin so far.
     pub fn new(sizes: Sizes) -> Machine<J>
         requires { IsSized sizes }
         ensures { result ≡ fresh sizes }
@@ -173,21 +174,21 @@ impl<J: Default + Drop> Machine<J> {
 }
 
 impl<J> Machine<J> {
-    /// How many guards are counted.
+    /// Answers how many guards are counted.
     pub fn guards(&self) -> u32
         ensures { result ≡ self.now.guards }
     {
         self.guards
     }
 
-    /// The number that was published last.
+    /// Answers the number that was published last.
     pub fn published(&self) -> u64
         ensures { result ≡ self.now.published }
     {
         self.published
     }
 
-    /// Whether the bag takes a further job without a put.
+    /// Answers whether the bag takes a further job without a put.
     pub fn has_room(&self) -> bool
         ensures room { IsTrue result ↔ (length self.now.held < self.now.sizes.bag_jobs) }
         ensures full { result ≡ false → length self.now.held ≡ self.now.sizes.bag_jobs }
@@ -195,14 +196,14 @@ impl<J> Machine<J> {
         !self.held.is_full()
     }
 
-    /// Whether the put of the action under way, or of the last one, found every place occupied.
+    /// Answers whether the put of the action under way, or of the last one, found every place occupied.
     pub fn found_full(&self) -> bool
         ensures { result ≡ self.now.full }
     {
         self.full
     }
 
-    /// Whether the held bag has no job.
+    /// Answers whether the held bag has no job.
     #[inline(always)]
     pub fn holds_none(&self) -> bool
         ensures { result ≡ is_empty self.now.held }
@@ -210,7 +211,7 @@ impl<J> Machine<J> {
         self.held.is_empty()
     }
 
-    /// Whether a step of a collection is asked for.
+    /// Answers whether a step of a collection is asked for.
     #[inline(always)]
     pub fn is_taking(&self) -> bool
         ensures { result ≡ is_taking self.now.stage }
@@ -223,7 +224,7 @@ impl<J> Machine<J> {
 }
 
 impl<J: Drop> Machine<J> {
-    /// What is asked next: `None` where no action is under way, and at an action's end.
+    /// Answers what is asked next: `None` where no action is under way, and at an action's end.
     pub fn ask(&self) -> Option<Ask>
         ensures value { result ≡ asks self.now }
         ensures within { IfSome result (AskFits self.now.sizes) }

@@ -13,7 +13,7 @@ use epoch_bags::{Epoch, PutCursor, PutStep, TakeCursor, TakeStep};
 use epoch_tables::shared_places::{PlaceSeat, SharedPlaces};
 
 impl<J: Default + Drop> Machine<J> {
-    /// One step of the put that is asked for. The bag stays held unless the answer is `Done`.
+    /// Takes one step of the put that is asked for. The bag stays held unless the answer is `Done`.
     #[inline(always)]
     pub fn put_shared(
         &mut self,
@@ -51,7 +51,7 @@ impl<J: Default + Drop> Machine<J> {
         step
     }
 
-    /// One step of the collection that is asked for. A bag that is got is in hand then.
+    /// Takes one step of the collection that is asked for. A bag that it gets is in hand.
     #[inline(always)]
     pub fn take_shared(
         &mut self,

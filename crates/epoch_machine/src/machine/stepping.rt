@@ -10,7 +10,7 @@ use super::{Machine, Stage};
 use epoch_bags::{BagStore, Epoch, PutStep, TakeStep};
 
 impl<J: Default + Drop> Machine<J> {
-    /// One step of the put that is asked for. The bag stays held unless the answer is `Done`.
+    /// Takes one step of the put that is asked for. The bag stays held unless the answer is `Done`.
     pub fn put_step<S: BagStore<Job = J>>(
         &mut self,
         store: &mut S,
@@ -57,7 +57,7 @@ impl<J: Default + Drop> Machine<J> {
         step
     }
 
-    /// One step of the collection that is asked for. A bag that is got is in hand then.
+    /// Takes one step of the collection that is asked for. A bag that it gets is in hand.
     pub fn take_step<S: BagStore<Job = J>>(
         &mut self,
         store: &mut S,

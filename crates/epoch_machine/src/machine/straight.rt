@@ -33,8 +33,8 @@ impl<J> Machine<J> {
 }
 
 impl<J> Machine<J> {
-    /// After a pin with no guard counted, which published this epoch. Answers whether a collection follows;
-    /// else the pin has ended.
+    /// Becomes the machine after a pin with no guard counted, which published this epoch. Answers whether a collection
+    /// follows; if not, the pin has ended.
     #[inline]
     pub fn pin_first(&mut self, epoch: u64) -> bool
         requires idle { self.old.stage ≡ Idle }
@@ -62,7 +62,7 @@ impl<J> Machine<J> {
         }
     }
 
-    /// After a pin with guards counted, which asks nothing.
+    /// Becomes the machine after a pin with guards counted, which asks for nothing.
     #[inline]
     pub fn pin_again(&mut self)
         requires idle { self.old.stage ≡ Idle }
@@ -75,7 +75,7 @@ impl<J> Machine<J> {
         self.guards += 1;
     }
 
-    /// After the unpin of the only guard.
+    /// Becomes the machine after the unpin of the only guard.
     #[inline]
     pub fn unpin_last(&mut self)
         requires idle { self.old.stage ≡ Idle }
@@ -87,7 +87,7 @@ impl<J> Machine<J> {
         self.guards = 0;
     }
 
-    /// After the unpin of one guard of more, which asks nothing.
+    /// Becomes the machine after the unpin of one guard of several, which asks for nothing.
     #[inline]
     pub fn unpin_one(&mut self)
         requires idle { self.old.stage ≡ Idle }
@@ -99,7 +99,7 @@ impl<J> Machine<J> {
         self.guards -= 1;
     }
 
-    /// After a repin with another number of guards than one, which asks nothing.
+    /// Becomes the machine after a repin with no guard or with several, which asks for nothing.
     #[inline]
     pub fn repin_none(&mut self)
         requires idle { self.old.stage ≡ Idle }
@@ -110,7 +110,8 @@ impl<J> Machine<J> {
         self.full = false;
     }
 
-    /// After a repin that found this epoch. Where that was published already, nothing follows its first load.
+    /// Becomes the machine after a repin that found this epoch. If that was published already, nothing follows the
+    /// repin's first load.
     #[inline]
     pub fn repin_only(&mut self, epoch: u64)
         requires idle { self.old.stage ≡ Idle }
@@ -125,7 +126,7 @@ impl<J> Machine<J> {
         self.published = epoch;
     }
 
-    /// After a scan that gave this epoch.
+    /// Becomes the machine after a scan that gave this epoch.
     #[inline]
     pub fn scanned(&mut self, epoch: u64)
         requires scans { self.old.stage ≡ LoadScan }
@@ -135,7 +136,7 @@ impl<J> Machine<J> {
         self.stage = Stage::Take(epoch, 0);
     }
 
-    /// After the load of the epoch that the held bag is sealed with.
+    /// Becomes the machine after the load of the epoch that the held bag is sealed with.
     #[inline]
     pub fn sealed(&mut self, seal: u64)
         requires loads { self.old.stage ≡ LoadSeal }
@@ -157,7 +158,7 @@ impl<J> Machine<J> {
 }
 
 impl<J: Drop> Machine<J> {
-    /// After a deferral into a bag with room, which kept this job.
+    /// Becomes the machine after a deferral into a bag with room, which kept this job.
     #[inline]
     pub fn keep_with_room(&mut self, job: J)
         requires idle { self.old.stage ≡ Idle }
@@ -169,7 +170,8 @@ impl<J: Drop> Machine<J> {
         self.held.push(job);
     }
 
-    /// After the pin of a release, which published this epoch. Answers whether a collection follows.
+    /// Becomes the machine after the pin of a release, which published this epoch. Answers whether a collection
+    /// follows.
     #[inline]
     pub fn release_pinned(&mut self, epoch: u64) -> bool
         requires idle { self.old.stage ≡ Idle }
