@@ -93,8 +93,9 @@ module _ {T W : Type 0} where
       → o ≡ record n { machine = told; seat = o.seat }
       → o.seat.me.0 ≡ after_free n.seat.me.0
       → last ≡ heard o.machine Stored
+      → RestsAt h.claimer.me
       → IsFreed done tried h (record o { machine = last })
-  left_for_good done tried h n o told last at action room none steps is only knows is_last =
+  left_for_good done tried h n o told last at action room none steps is only knows is_last rests =
       let freed : last ≡ fresh h.machine.sizes = is_last ∙ ap (λ (z : Machine (Job W)). heard z Stored)
       (ap (λ (z : Local T W). z.machine) only ∙ is ∙ ap (λ (z : Machine (Job W)). heard z Stored) steps.machine
       ∙ store_leads_on h.machine at action room) in
@@ -105,6 +106,7 @@ module _ {T W : Type 0} where
         };
         position = ap (λ (z : ParticipantView). z.position) knows;
         machine = freed;
+        rests = subst (λ z. RestsAt z.me) (sym (ap (λ (z : Local T W). z.claimer) only ∙ steps.claimer)) rests;
         whole = λ some. absurd (some none);
         calls = drives_of (IsCalled done tried) h.collector.now.places.capacity h.machine last (sight_of h) (sight_of o)
             (subst (λ (z : Machine (Job W)). Drives NoJob h.collector.now.places.capacity h.machine (sight_of h) z
@@ -220,6 +222,7 @@ module _ {T W : Type 0} where
     same = record { position = freed.same.position ∙ same.position; collector = freed.same.collector ∙ same.collector };
     position = freed.position;
     machine = freed.machine ∙ ap (λ (z : Sizes). fresh z) sizes;
+    rests = freed.rests;
     whole = whole;
     calls = drives_on (IsCalled done tried) h.collector.now.places.capacity h.machine n.machine o.machine (sight_of h)
         (sight_of n) (sight_of o) before

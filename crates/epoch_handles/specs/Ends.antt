@@ -1,11 +1,10 @@
 -- How many jobs are left in bags, and that each was called.
-use Rattle.std.specs.Prelude.{◌≡◌, ℕ, ◌+◌, List, [], ◌∷◌, length, Option, Some, None, All}
+use Rattle.std.specs.Prelude.{◌≡◌, ℕ, ◌+◌, ◌≤◌, List, [], ◌∷◌, length, Option, Some, None, All}
 use Rattle.epoch_bags.specs.Bags.{Sealed}
 use Rattle.epoch_cells.specs.declared.cells.name.Name.{Name}
 use Rattle.epoch_bags.specs.Jobs.{IsCalled}
 use Rattle.epoch_bags.specs.declared.job.Job.{Job}
-use Rattle.epoch_tables.specs.SharedSteps.{TriesEach}
-use Rattle.epoch_tables.specs.declared.shared_places.view.PlaceView.{PlaceView}
+use Rattle.epoch_tables.specs.SharedPlaces.{PlaceBoard}
 
 module _ {J : Type 0} where
   abbrev pub jobs_of : Option (Sealed J) → ℕ
@@ -21,18 +20,19 @@ module _ {J : Type 0} where
   IsBagCalled IsCalled None = Unit {0}
   IsBagCalled IsCalled (Some bag) = All IsCalled bag.jobs
 
-  -- A seat took out these bags one after another, and each job of each was called. For each bag it went over the places
-  -- from the first one on.
-  abbrev pub CallsBags : (J → Type 0) → ℕ → PlaceView J → List (Option (Sealed J)) → PlaceView J → Type 0
-  CallsBags IsCalled places before [] after = after ≡ before
-  CallsBags IsCalled places before (bag ∷ bags) after = (between : PlaceView J)
-      × TriesEach places before bag between × IsBagCalled IsCalled bag × CallsBags IsCalled places between bags after
+-- The jobs of the first bag were called, and these are so many. The others are left.
+pub record EndsNext {J : Type 0} (IsCalled : J → Type 0) (left : List (Option (Sealed J))) (jobs : ℕ)
+    (others : List (Option (Sealed J))) : Type 0 where
+  pub bag : Option (Sealed J)
+  pub first : left ≡ bag ∷ others
+  pub calls : IsBagCalled IsCalled bag
+  pub counts : jobs ≡ jobs_of bag
+  pub few : jobs ≤ 64
 
--- In so many tries a seat took out bags, and each of their jobs was called: so many jobs.
-pub record CallsEach {W : Type 0} (done : W → Type 0) (tried : Name → Type 0) (places : ℕ)
-    (before after : PlaceView (Job W))
-    (tries jobs : ℕ) : Type 0 where
-  pub bags : List (Option (Sealed (Job W)))
-  pub as_many : length bags ≡ tries
-  pub calls : CallsBags (IsCalled done tried) places before bags after
-  pub counts : jobs ≡ jobs_in bags
+-- The places were closed. Each job of each bag that they had then was called, and these are so many jobs.
+pub record CallsAllLeft {W : Type 0} (closed : PlaceBoard → List (Option (Sealed (Job W))) → Type 0)
+    (done : W → Type 0) (tried : Name → Type 0) (places : PlaceBoard) (jobs : ℕ) : Type 0 where
+  pub left : List (Option (Sealed (Job W)))
+  pub closed_with : closed places left
+  pub calls : All (IsBagCalled (IsCalled done tried)) left
+  pub counts : jobs ≡ jobs_in left

@@ -32,12 +32,13 @@ pub record IsRefused {T W : Type 0} (done : W → Type 0) (tried : Name → Type
   pub counted : new.machine.guards ≡ 0
   pub full : new.machine.full ≡ true
 
--- The position is free, the machine is that of a free position, and the held bag, if it had a job, was left whole in a
--- place.
+-- The position is free, the machine is that of a free position, no place is claimed, and the held bag, if it had a job,
+-- was left whole in a place.
 pub record IsFreed {T W : Type 0} (done : W → Type 0) (tried : Name → Type 0) (old new : Local T W) : Type 0 where
   pub same : IsSame old new
   pub position : new.seat.me.0.position ≡ None
   pub machine : new.machine ≡ fresh old.machine.sizes
+  pub rests : RestsAt new.claimer.me
   pub whole : old.machine.held ≢ [] → IsLeftWhole old.machine.held new.claimer.me.0
   pub calls : IsDrivenTo (IsCalled done tried) old new
 

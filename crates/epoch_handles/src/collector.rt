@@ -1,4 +1,4 @@
-//! The collector: what the threads that share its objects have in common.
+//! The collector: what all participants have in common.
 ghost use Rattle.std.specs.Prelude.{◌≡◌, ℕ, ◌<◌, ◌≤◌, ◌↔◌, ◌==◌, IsTrue, IfOk, IsOkUnless, vec_len};
 ghost use Rattle.std.proofs.Common.{rules};
 ghost use Rattle.std.specs.Cmp.Rules.{comparing};
@@ -17,14 +17,14 @@ use std::fmt;
 
 mod register;
 
-/// How much a collector has room for.
+/// How much a collector has room for. Nothing of it grows later.
 #[derive(Clone, Copy, Debug, PartialEq, Eq)]
 pub struct Capacities {
-    /// How many participants may be registered at a time, from 1 to 4096.
+    /// How many participants can be registered at a time, from 1 to 4096.
     pub participants: u32,
     /// How many cells there are, from 0 to `2^24 - 1`.
     pub cells: u32,
-    /// How many sealed bags may wait at a time, from 1 to 4096.
+    /// How many sealed bags can wait at a time, from 1 to 4096.
     pub bags: u32,
     /// How many jobs a bag takes, from 1 to 64.
     pub bag_jobs: u32,
@@ -32,11 +32,11 @@ pub struct Capacities {
     pub collect_bags: u32,
 }
 
-/// How many bags a collection takes at most, where nothing else is said: `COLLECT_STEPS` of crossbeam-epoch.
+/// How many bags a collection usually takes at most: `COLLECT_STEPS` of crossbeam-epoch.
 const USUAL_COLLECT_BAGS: u32 = 8;
 
 impl Capacities {
-    /// Bags of 64 jobs, of which a collection takes 8, as in crossbeam-epoch.
+    /// Answers capacities with bags of 64 jobs, of which a collection takes at most 8, as in crossbeam-epoch.
     pub fn usual(participants: u32, cells: u32, bags: u32) -> Capacities
         ensures { result
             ≡ (record { participants = participants; cells = cells; bags = bags; bag_jobs = 64; collect_bags = 8 }) }
@@ -50,7 +50,7 @@ impl Capacities {
         }
     }
 
-    /// Whether each number is in its range.
+    /// Answers whether each number is in its range.
     pub fn is_valid(&self) -> bool
         ensures { IsTrue result ↔ AreValid self.now }
     {
@@ -64,8 +64,8 @@ impl Capacities {
 
 /// What all participants share: the table of their words, the places for sealed bags, and the cells.
 ///
-/// Threads share it by `&`. It must be spent, by [`Collector::end`]. Collectors are told apart by the number
-/// that their maker gave them: of two with the same number, a guard of one is taken for a guard of the other.
+/// Threads share it by `&`. It must be given back, by [`Collector::end`]. The numbers that their maker gave them tell
+/// collectors apart: if two have the same number, a guard of one is taken for a guard of the other.
 pub struct Collector<T, W = Work> {
     pub(crate) id: u64,
     pub(crate) participants: Participants,
@@ -77,7 +77,7 @@ pub struct Collector<T, W = Work> {
 }
 
 impl<T, W> Collector<T, W> {
-    /// The number that its maker gave it.
+    /// Answers the number that its maker gave it.
     #[inline(always)]
     pub fn id(&self) -> u64
         ensures { result ≡ self.now.id }
@@ -97,7 +97,7 @@ impl<T, W> PartialEq for Collector<T, W> {
 
     ghost laws = { Prim.search (comparing, rules) };
 
-    /// Whether the numbers are the same that their makers gave them.
+    /// Answers whether their makers gave them the same number.
     fn eq(&self, other: &Collector<T, W>) -> bool {
         self.id == other.id
     }
@@ -108,9 +108,10 @@ impl<T, W> Eq for Collector<T, W> {
 }
 
 impl<T: Drop, W: Drop> Collector<T, W> {
-    /// A collector with these capacities and this number, in epoch 0, with no participant.
+    /// Makes a collector with these capacities and this number, in epoch 0, with no participant.
     ///
-    /// `NoMemory`: an allocation was refused. No other call on a collector, a handle or a guard takes memory.
+    /// The capacities must be valid: [`Capacities::is_valid`]. `NoMemory`: an allocation was refused, and nothing was
+    /// made. No other call on a collector, a handle or a guard takes memory.
     pub fn new(alloc: Global, capacities: Capacities, id: u64) -> Result<Collector<T, W>, Fault>
         requires { AreValid capacities }
         ensures memory { IsOkUnless result NoMemory }

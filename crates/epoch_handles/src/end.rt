@@ -1,22 +1,66 @@
 //! The end of a collector: what is left is called.
-ghost use Rattle.std.specs.Prelude.{◌≡◌, ℕ, ◌*◌, ◌<◌, ◌≤◌, [], None, length, slice_index_or};
-ghost use Rattle.epoch_tables.specs.SharedPlaces.{IsPlaceSeatOf, IsSamePlaceSeat, with_claim};
-ghost use Rattle.epoch_tables.specs.SharedSteps.{RestsAt};
+ghost use Rattle.std.specs.Prelude.{◌≡◌, ℕ, ◌*◌, ◌<◌, ◌≤◌, List, Option, None, length, slice_index_or, All};
+ghost use Rattle.epoch_bags.specs.Bags.{Sealed};
+ghost use Rattle.std.specs.Mem.{type_size};
+ghost use Rattle.epoch_bags.specs.contracts.bag.SealedBag.{the_row as bag_row};
+ghost use Rattle.epoch_bags.specs.contracts.job.Job.{the_row as job_row};
 ghost use Rattle.epoch_bags.specs.Jobs.{IsCalled};
-ghost use Rattle.epoch_handles.specs.Ends.{jobs_in, jobs_of, IsBagCalled, CallsEach};
+ghost use Rattle.epoch_bags.specs.declared.job.Job.{Job};
+ghost use Rattle.epoch_tables.specs.SharedPlaces.{PlaceBoard};
+ghost use Rattle.epoch_tables.specs.ClosedPlaces.{AreLast};
+ghost use Rattle.epoch_handles.specs.Ends.{jobs_in, jobs_of, IsBagCalled, EndsNext, CallsAllLeft};
 
 use crate::collector::Collector;
 use epoch_bags::{FromCells, Job, Remove, Run, SealedBag, Work};
 use epoch_cells::Cells;
-use epoch_tables::shared_places::{PlaceSeat, SharedPlaces};
+use epoch_tables::shared_places::{ClosedPlaces, SharedPlaces};
 use std::mem;
 
-impl<T: Drop> Collector<T> {
-    /// Ends the collector: calls every job that is left in its places, drops the values that are left in its cells,
-    /// and answers how many jobs it called. It tries once for each place to take a bag out.
+/// What a kind of work does at the end of a collector of `T`s. A generic caller can't do it, since it takes a type
+/// whose size is known to fit in memory. Each implementation is two lines long, as that of [`Work`].
+pub trait AtEnd<T>: Run {
+    /// The places had these contents when they were closed. If the type is a parameter, nothing but `close` shows it.
+    ghost closed: { PlaceBoard → List (Option (Sealed (Job Self))) → Type 0 };
+
+    /// Closes the places, by [`SharedPlaces::close`].
+    fn close(places: SharedPlaces<Job<Self>>) -> ClosedPlaces<Job<Self>>
+    where
+        Self: Sized,
+        ensures closed { closed places result };
+
+    /// Takes out what is left in the next place, and calls its jobs, by [`end_next`]. Answers how many jobs it called.
+    fn next(cells: &Cells<T>, left: &mut ClosedPlaces<Job<Self>>) -> u64
+    where
+        Self: Sized,
+        requires more { 0 < length left.old }
+        ensures next { EndsNext (IsCalled ⟦<Self as Run>⟧.done ⟦<Self::Removing as Remove>⟧.tried) left.old result left.new };
+}
+
+impl<T: Drop> AtEnd<T> for Work {
+    ghost closed = { λ board left. AreLast board.capacity left };
+
+    fn close(places: SharedPlaces<Job>) -> ClosedPlaces<Job>
+        ensures closed { AreLast places.capacity result }
+    {
+        places.close()
+    }
+
+    fn next(cells: &Cells<T>, left: &mut ClosedPlaces<Job>) -> u64
+        requires more { 0 < length left.old }
+        ensures next { EndsNext (IsCalled ⟦<Work as Run>⟧.done ⟦<FromCells as Remove>⟧.tried) left.old result left.new }
+    {
+        end_next(cells, left)
+    }
+}
+
+impl<T: Drop, W: AtEnd<T>> Collector<T, W> {
+    /// Ends the collector: closes its places, calls every job that is left in them, drops the values that are left in
+    /// its cells, and answers how many jobs it called.
+    ///
+    /// Every handle must have been given back, since handles borrow the collector. In crossbeam-epoch the last owner of
+    /// a collector does this by dropping it.
     pub fn end(self) -> u64
-        ensures called { (after : _) × CallsEach ⟦<Work as Run>⟧.done ⟦<FromCells as Remove>⟧.tried self.places.capacity
-            (with_claim None [] [] [] []) after self.places.capacity result }
+        ensures called { CallsAllLeft W.closed W.done W.Removing.tried self.places result }
     {
         let Collector {
             id: _,
@@ -25,45 +69,38 @@ impl<T: Drop> Collector<T> {
             cells,
             sizes: _,
         } = self;
-        let mut seat = places.seat();
-        end_places(&places, &mut seat, &cells)
+        let mut left = W::close(places);
+        let count = end_left(&cells, &mut left);
+        left.free();
+        count
     }
 }
 
-/// Calls every job that is left in the places, with nobody else at work. Answers how many jobs.
-fn end_places<T: Drop, W: Run>(
-    places: &SharedPlaces<Job<W>>,
-    seat: &mut PlaceSeat<Job<W>>,
-    cells: &Cells<T>,
-) -> u64
-    requires of { IsPlaceSeatOf places.now seat.old }
-    requires rests { RestsAt seat.old.me }
-    ensures { CallsEach W.done W.Removing.tried places.now.capacity seat.old.me.0 seat.new.me.0 places.now.capacity
-        result }
+/// Calls every job that is left in closed places, and leaves none. Answers how many jobs.
+fn end_left<T: Drop, W: AtEnd<T>>(cells: &Cells<T>, left: &mut ClosedPlaces<Job<W>>) -> u64
+    ensures called { All (IsBagCalled (IsCalled W.done W.Removing.tried)) left.old }
+    ensures count { result ≡ jobs_in left.old }
+    ensures none { length left.new ≡ 0 }
 {
     let mut count = 0;
-    for taken in 0..places.capacity() {
-        count += end_one(places, seat, cells);
+    for taken in 0..left.len() {
+        count += W::next(cells, left);
         // Named here so that the loop's invariant can count by it.
         let _ = taken;
     }
     count
 }
 
-/// Takes out one bag, and calls its jobs. Answers how many.
-fn end_one<T: Drop, W: Run>(
-    places: &SharedPlaces<Job<W>>,
-    seat: &mut PlaceSeat<Job<W>>,
-    cells: &Cells<T>,
-) -> u64
-    requires of { IsPlaceSeatOf places.now seat.old }
-    requires rests { RestsAt seat.old.me }
-    ensures kept { IsSamePlaceSeat seat.old seat.new }
-    ensures rests { RestsAt seat.new.me }
-    ensures few { result ≤ 64 }
-    ensures called { CallsEach W.done W.Removing.tried places.now.capacity seat.old.me.0 seat.new.me.0 1 result }
+/// Takes out what is left in the next place, and calls its jobs, the oldest of a bag first. Answers how many jobs it
+/// called.
+///
+/// A place must be left. A caller that names its kind of work has nothing else to show.
+pub fn end_next<T: Drop, W: Run>(cells: &Cells<T>, left: &mut ClosedPlaces<Job<W>>) -> u64
+    requires more { 0 < length left.old }
+    requires room { type_size (bag_row (job_row W.row)) < 9223372036854775808 }
+    ensures next { EndsNext (IsCalled W.done W.Removing.tried) left.old result left.new }
 {
-    let mut bag = places.take_any(seat);
+    let mut bag = left.take_next();
     let count = end_bag(cells, &mut bag);
     let None = bag else { unreachable!() };
     count
@@ -76,7 +113,8 @@ fn tell_few<W>(bags: &[Option<SealedBag<Job<W>>>])
     let _bytes = mem::size_of_val(bags);
 }
 
-/// Calls every job of each bag, the oldest of a bag first, and leaves each place `None`. Answers how many jobs.
+/// Calls every job of each bag, the oldest of a bag first, and leaves each place `None`. Answers how many jobs it
+/// called.
 pub fn end_bags<T: Drop, W: Run>(cells: &Cells<T>, bags: &mut [Option<SealedBag<Job<W>>>]) -> u64
     ensures count { result ≡ jobs_in bags.old }
     ensures called { (place : ℕ) → place < length bags.old

@@ -6,25 +6,25 @@ use crate::collector::Collector;
 use epoch_bags::{Called, Job, Run, Work};
 use std::{fmt, mem};
 
-/// A guard, which must be spent.
+/// A guard, under which pointers are loaded. It must be given back.
 ///
-/// A *protecting* guard is a token of a pin: while it is out, its participant stays pinned, and no job that is
-/// deferred meanwhile is called. So a value that was found under it stays, if values are taken out of reach before
-/// their destruction is deferred, until the handle spends the guard, by
-/// [`LocalHandle::unpin`](crate::LocalHandle::unpin), or repins. Guards of one handle may be spent in any order: the
-/// last one unpins. An *unprotected* guard, from [`unprotected`], stands where a guard is asked for and nothing needs
-/// protection.
+/// A *protecting* guard is a token of a pin. While it is out, its participant stays pinned, and no job that is deferred
+/// meanwhile is called. So a value that was found under it stays until the handle takes the guard back, by
+/// [`LocalHandle::unpin`](crate::LocalHandle::unpin), or repins; this needs every thread to take values out of reach
+/// before it defers their destruction. Guards of one handle can be given back in any order: the last one unpins.
+///
+/// An *unprotected* guard, from [`unprotected`], serves where a call asks for a guard and nothing needs protection.
 pub struct Guard<'c, T, W = Work> {
     pub(crate) collector: &'c Collector<T, W>,
     pub(crate) position: Option<usize>,
 }
 
-/// A guard of this collector that protects nothing: a job that is deferred under it is called at once.
+/// Answers a guard of this collector that protects nothing: a job that is deferred under it is called at once.
 ///
-/// Use it only where no other thread can use the structure: to make one before it is shared, and to take one apart
-/// when only its owner is left. It needs no handle, and each call answers one more guard. It is spent by
-/// [`Guard::let_go`]. As `unprotected` of crossbeam-epoch, which is unsafe to call: here every call under it is safe,
-/// but a value that another thread still wants to read may be gone.
+/// Use it only while no other thread can use the structure: to make a structure before it is shared, and to take one
+/// apart when only its owner is left. It needs no handle, and each call answers one more guard, which is given back to
+/// [`Guard::let_go`]. As `unprotected` of crossbeam-epoch, which is unsafe to call. Here every call under the guard is
+/// safe, but a value that another thread still wants to read may be gone.
 pub fn unprotected<T, W>(collector: &Collector<T, W>) -> Guard<'_, T, W>
     ensures protects { result.position ≡ None }
     ensures of { result.collector.now ≡ collector.now }
@@ -36,14 +36,14 @@ pub fn unprotected<T, W>(collector: &Collector<T, W>) -> Guard<'_, T, W>
 }
 
 impl<'c, T, W> Guard<'c, T, W> {
-    /// Whether it is a token of a pin.
+    /// Answers whether it is a token of a pin.
     pub fn is_protecting(&self) -> bool
         ensures { IsTrue result ↔ IsSome self.now.position }
     {
         self.position.is_some()
     }
 
-    /// The collector of a protecting guard, and `None` of an unprotected one, as in crossbeam-epoch.
+    /// Answers the collector of a protecting guard, and `None` for an unprotected one, as in crossbeam-epoch.
     pub fn collector(&self) -> Option<&'c Collector<T, W>>
         ensures { MatchOption result (self.now.position ≡ None)
             (λ collector. IsSome self.now.position × (collector.now ≡ self.now.collector.now)) }
@@ -54,7 +54,7 @@ impl<'c, T, W> Guard<'c, T, W> {
         }
     }
 
-    /// Spends an unprotected guard. A protecting one is handed back: its handle spends it.
+    /// Takes an unprotected guard back. A protecting guard comes back, since its handle has to take it: `unpin`.
     pub fn let_go(self) -> Result<(), Guard<'c, T, W>>
         ensures ok { IsOk result ↔ IsNone self.entry.position }
         ensures handed_back { IfErr result (λ guard. guard ≡ self.entry) }
@@ -71,8 +71,8 @@ impl<'c, T, W> Guard<'c, T, W> {
 }
 
 impl<'c, T: Drop, W: Run> Guard<'c, T, W> {
-    /// Calls the job at once, under a guard that protects nothing, and says what that did. Under a protecting
-    /// guard the job is handed back.
+    /// Calls the job at once, under an unprotected guard, and answers what that did. Under a protecting guard the job
+    /// comes back uncalled.
     pub fn call_now(&self, job: Job<W>) -> Result<Called, Job<W>>
         ensures ok { IsOk result ↔ IsNone self.now.position }
         ensures called { IfOk result (λ called. AnswersJob job called × IsCalled W.done W.Removing.tried job) }

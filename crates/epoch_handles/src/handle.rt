@@ -1,4 +1,4 @@
-//! Handles: what a thread is a participant by.
+//! Handles: a thread takes part through its handle.
 ghost use Rattle.std.specs.Prelude.{◌≡◌, true, ℕ, ◌+◌, ◌<◌, ◌^◌, ◌↔◌, ◌≢◌, [], ◌∷◌, ◌++◌, ◌⊎◌, IsTrue, IsSome, IsOk};
 ghost use Rattle.std.specs.Prelude.{IsErr, Err, IfOk, IfErr, Some, None, length};
 ghost use Rattle.epoch_cells.specs.declared.fault.Fault.TheVariants.{StrangerGuard, BagsFull};
@@ -17,7 +17,8 @@ use epoch_cells::{Fault, Refused};
 use std::fmt;
 use std::marker::Model;
 
-/// A participant of one thread. It must be spent, by `release`, or by `leave` and then its answer.
+/// A participant, for one thread at a time. It must be given back, by [`LocalHandle::release`], or by
+/// [`LocalHandle::leave`], whose answer is then spent.
 pub struct LocalHandle<'c, T, W = Work> {
     pub(crate) local: Local<'c, T, W>,
 }
@@ -40,7 +41,7 @@ impl<'c, T, W> fmt::Debug for LocalHandle<'c, T, W> {
 }
 
 impl<'c, T, W> LocalHandle<'c, T, W> {
-    /// The collector that it is a participant of.
+    /// Answers the collector that it is a participant of.
     pub fn collector(&self) -> &'c Collector<T, W>
         ensures value { result.now ≡ self.now.collector.now }
         ensures ready { IsReady self.now }
@@ -48,28 +49,28 @@ impl<'c, T, W> LocalHandle<'c, T, W> {
         self.local.collector
     }
 
-    /// How many of its guards are out.
+    /// Answers how many of its guards are out.
     pub fn guards_out(&self) -> u32
         ensures { result ≡ self.now.machine.guards }
     {
         self.local.machine.guards()
     }
 
-    /// Whether it is pinned: whether a guard of it is out.
+    /// Answers whether it is pinned: whether one of its guards is out.
     pub fn is_pinned(&self) -> bool
         ensures { IsTrue result ↔ (0 < self.now.machine.guards) }
     {
         self.local.machine.guards() > 0
     }
 
-    /// Whether a further guard can be counted: at most `2^32 - 1` are.
+    /// Answers whether a further guard can be counted. At most `2^32 - 1` guards can be out.
     pub fn can_pin(&self) -> bool
         ensures { IsTrue result ↔ (self.now.machine.guards + 1 < 2 ^ 32) }
     {
         self.local.machine.guards() < u32::MAX
     }
 
-    /// Whether the held bag takes a further job without being put first.
+    /// Answers whether the held bag takes a further job without being put into a place first.
     pub fn has_room(&self) -> bool
         ensures value { IsTrue result ↔ (length self.now.machine.held < self.now.machine.sizes.bag_jobs) }
         ensures ready { IsReady self.now }
@@ -77,7 +78,7 @@ impl<'c, T, W> LocalHandle<'c, T, W> {
         self.local.machine.has_room()
     }
 
-    /// Whether this is a guard of this participant. `false` with no guard out.
+    /// Answers whether this is a guard of this participant. The answer is `false` if none of its guards is out.
     ///
     /// Two collectors with the same number aren't told apart.
     #[inline(always)]
@@ -97,10 +98,13 @@ impl<'c, T, W> LocalHandle<'c, T, W> {
         }
     }
 
-    /// Repins the participant, where this is its only guard: its word gets the present epoch, and no object that
-    /// was loaded under the guard before is protected any more. With more guards, and under an unprotected guard,
-    /// nothing happens. A loop that stays pinned for long calls this where it holds no pointer, since a participant
-    /// that stays pinned in an old epoch keeps jobs from being called. As `Guard::repin` of crossbeam-epoch.
+    /// Repins the participant, if this is its only guard: its word gets the present epoch, and no value that was found
+    /// under the guard before is protected any more. With more guards out, and under an unprotected guard, nothing
+    /// happens.
+    ///
+    /// The guard must be this handle's, or unprotected. A participant that stays pinned in an old epoch keeps jobs from
+    /// being called, so a loop that stays pinned for long calls this at a point where it holds no pointer. As
+    /// `Guard::repin` of crossbeam-epoch.
     #[inline]
     pub fn repin(&mut self, guard: &mut Guard<'c, T, W>)
         requires { guard.old.position ≡ None ⊎ Owns self.old guard.old }
@@ -116,10 +120,11 @@ impl<'c, T, W> LocalHandle<'c, T, W> {
         }
     }
 
-    /// Unpins the participant until [`LocalHandle::resume`] pins it again under the same guard. No object that was
-    /// loaded under the guard before is protected any more. With more guards out the participant stays pinned.
+    /// Unpins the participant until [`LocalHandle::resume`] pins it again under the same guard. No value that was found
+    /// under the guard before is protected any more. With more guards out the participant stays pinned.
     ///
-    /// The handle can make every other call meanwhile: none is made under the guard, which the answer keeps.
+    /// The guard must be this handle's. The answer keeps it, so no call can be made under it meanwhile; the handle can
+    /// make every other call. This is the first half of [`LocalHandle::repin_after`].
     #[inline]
     pub fn pause(&mut self, guard: Guard<'c, T, W>) -> Paused<'c, T, W>
         requires { Owns self.old guard }
@@ -134,7 +139,7 @@ impl<'c, T, W> LocalHandle<'c, T, W> {
         Paused { guard }
     }
 
-    /// Whether this is a guard that this participant paused, as [`LocalHandle::owns`] tells of guards.
+    /// Answers whether this is a guard that this participant paused, in the way of [`LocalHandle::owns`].
     #[inline]
     pub fn has_paused(&self, paused: &Paused<'_, T, W>) -> bool
         ensures value { IsTrue result ↔ IsPausedBy self.now paused.now }
@@ -149,7 +154,9 @@ impl<'c, T, W> LocalHandle<'c, T, W> {
         position == self.local.position
     }
 
-    /// Spends a guard of this handle. With the last one the participant isn't pinned any more.
+    /// Takes a guard of this handle back. When the last one is back, the participant isn't pinned any more.
+    ///
+    /// The guard must be this handle's: [`LocalHandle::owns`]. In crossbeam-epoch a guard does this when it is dropped.
     #[inline]
     pub fn unpin(&mut self, guard: Guard<'c, T, W>)
         requires { Owns self.old guard }
@@ -168,15 +175,17 @@ impl<'c, T, W> LocalHandle<'c, T, W> {
 
 impl<'c, T: Drop, W: Run> LocalHandle<'c, T, W> {
     /// Defers the job: a later collection calls it, at the earliest when every participant that is pinned now has
-    /// unpinned or repinned since. Under an unprotected guard it is called at once.
+    /// unpinned or repinned. Under an unprotected guard the job is called at once.
     ///
-    /// There is no promise when it is called, nor by which thread. While a participant stays pinned, or nobody pins or
-    /// flushes any more, it waits, at the latest until the end of the collector. [`LocalHandle::flush`] hurries it,
-    /// since no collection finds the jobs of a held bag.
+    /// There is no promise when the job is called, or by which thread. It waits while a participant stays pinned, and
+    /// while no participant pins or flushes; at the latest, the end of the collector calls it. [`LocalHandle::flush`]
+    /// hurries it, since no collection finds the jobs of a held bag.
     ///
-    /// The job is kept in the held bag, which is sealed and put into a place first where it is full.
-    /// `StrangerGuard`: the guard isn't one that this handle has out. `BagsFull`: each place was seen occupied.
-    /// A refused call hands the job back, and leaves the handle as it was, with its bag.
+    /// The job is kept in the held bag. A full one is first sealed and put into a place.
+    ///
+    /// `StrangerGuard`: the guard isn't one that this handle has out. `BagsFull`: the held bag was full, and each place
+    /// was seen occupied. A refused call hands the job back, and leaves the held bag as it was. As `Guard::defer` of
+    /// crossbeam-epoch, which is never refused.
     #[inline(always)]
     pub fn defer(&mut self, guard: &Guard<'_, T, W>, job: Job<W>) -> Result<(), Refused<Job<W>>>
         ensures same { IsSame self.old self.new }
@@ -249,16 +258,15 @@ impl<'c, T: Drop, W: Run> LocalHandle<'c, T, W> {
         }
     }
 
-    /// Puts the held bag into a place, if it has a job, and then collects: tries to advance the epoch, and calls
-    /// the jobs of bags that are expired, as many bags as a collection takes. Under an unprotected guard nothing
-    /// happens.
+    /// Puts the held bag into a place, if it has a job, and then collects: tries to advance the epoch, and calls the
+    /// jobs of expired bags, of as many bags as a collection takes. Under an unprotected guard nothing happens.
     ///
-    /// From then on every participant's collections can call the jobs that this one has deferred. Its own pin holds
-    /// the epoch back, so to see them called, flush again under a new pin.
+    /// From then on the collections of every participant can call the jobs that this one has deferred. Its own pin
+    /// holds the epoch back, so to see the jobs called, flush again under a new pin.
     ///
-    /// `StrangerGuard`: the guard isn't one that this handle has out. `BagsFull`: each place was seen occupied; the
-    /// held bag stays as it was, and the collection was made. As `Guard::flush` of crossbeam-epoch, whose queue is
-    /// never full.
+    /// `StrangerGuard`: the guard isn't one that this handle has out, and nothing was done. `BagsFull`: each place was
+    /// seen occupied; the held bag is as it was, and the collection was made. As `Guard::flush` of crossbeam-epoch,
+    /// whose queue is never full.
     #[inline(always)]
     pub fn flush(&mut self, guard: &Guard<'_, T, W>) -> Result<(), Fault>
         ensures same { IsSame self.old self.new }
@@ -288,12 +296,13 @@ impl<'c, T: Drop, W: Run> LocalHandle<'c, T, W> {
         Ok(())
     }
 
-    /// Unpins the participant, calls `f`, and pins again, where this is its only guard: that counts as a pinning,
-    /// and may collect. With more guards the participant stays pinned, and under an unprotected guard `f` alone is
-    /// called. It is for work that takes long and needs no protection. As `Guard::repin_after` of crossbeam-epoch.
+    /// Unpins the participant, calls `f`, and pins again, if this is its only guard. The new pin counts as one, and may
+    /// collect. With more guards out the participant stays pinned, and under an unprotected guard `f` is only called.
     ///
-    /// It is a [`LocalHandle::pause`], the call of `f`, and a [`LocalHandle::resume`]. A caller that has to know that
-    /// the participant is unpinned while its code runs makes these calls itself.
+    /// The guard must be this handle's, or unprotected. The call is for work that takes long and needs no protection.
+    /// It is a [`LocalHandle::pause`], the call of `f`, and a [`LocalHandle::resume`]: a caller that must know that the
+    /// participant is unpinned while its code runs makes these calls itself. As `Guard::repin_after` of
+    /// crossbeam-epoch.
     pub fn repin_after<F: FnOnce() -> X, X>(&mut self, guard: &mut Guard<'c, T, W>, f: F) -> X
         requires guard { guard.old.position ≡ None ⊎ Owns self.old guard.old }
         requires f { F.pre f }
@@ -308,6 +317,7 @@ impl<'c, T: Drop, W: Run> LocalHandle<'c, T, W> {
             × DoesAndCalls W.done W.Removing.tried between Pin self.new }
     {
         if !guard.is_protecting() {
+            // For the prover, as in `flush`: a field read shows what a handle keeps between two calls.
             let _ = &self.local;
             return f();
         }
@@ -318,8 +328,11 @@ impl<'c, T: Drop, W: Run> LocalHandle<'c, T, W> {
         answer
     }
 
-    /// Pins the participant again under the guard that was paused, where it is the only one: that counts as a
-    /// pinning, and may collect. Answers the guard. With more guards the participant is pinned already.
+    /// Pins the participant again under the guard that was paused, and answers that guard. The new pin counts as one,
+    /// and may collect. With more guards out the participant is pinned already.
+    ///
+    /// This handle must have paused the guard, and be able to count one more: [`LocalHandle::has_paused`],
+    /// [`LocalHandle::can_pin`].
     #[inline]
     pub fn resume(&mut self, paused: Paused<'c, T, W>) -> Guard<'c, T, W>
         requires own { IsPausedBy self.old paused }
@@ -337,11 +350,11 @@ impl<'c, T: Drop, W: Run> LocalHandle<'c, T, W> {
         guard
     }
 
-    /// Gives the position up: the participant pins, puts its held bag, if it has a job, unpins, and frees its
-    /// position. What is answered is the state after that, and is only to be spent: the word is 0, the machine is
-    /// that of a free position, and the held bag, if it had a job, was put whole.
+    /// Gives the position up: the participant pins, puts its held bag if it has a job, unpins, and frees its position.
     ///
-    /// `BagsFull`: each place was seen occupied. The handle comes back unpinned, with its bag as it was.
+    /// None of its guards may be out. The answer is the state after the release, and can only be spent: the word is 0,
+    /// the machine is that of a free position, and the held bag, if it had a job, was put whole. `BagsFull`: each place
+    /// was seen occupied. The handle comes back unpinned, with its bag as it was.
     #[inline(always)]
     pub fn leave(self) -> Result<Released<'c, T, W>, (LocalHandle<'c, T, W>, Fault)>
         requires { self.machine.guards ≡ 0 }
@@ -364,10 +377,11 @@ impl<'c, T: Drop, W: Run> LocalHandle<'c, T, W> {
         Err((LocalHandle { local }, Fault::BagsFull))
     }
 
-    /// Ends the participant: as [`LocalHandle::leave`] with its answer spent, and without moving a handle into an
-    /// answer. After an accepted release no value has the last state: `frees` says that there is one.
+    /// Ends the participant, as [`LocalHandle::leave`] and then [`Released::spend`](crate::Released::spend) do, but
+    /// answers no state: the clause `frees` says only that there is one.
     ///
-    /// `BagsFull`: each place was seen occupied. The handle comes back unpinned, with its bag as it was.
+    /// None of its guards may be out. `BagsFull`: each place was seen occupied. The handle comes back unpinned, with
+    /// its bag as it was. In crossbeam-epoch a handle does this when it is dropped, and is never refused.
     pub fn release(self) -> Result<(), (LocalHandle<'c, T, W>, Fault)>
         requires { self.machine.guards ≡ 0 }
         ensures full { IfErr result (λ back. back.1 ≡ BagsFull) }
@@ -389,7 +403,8 @@ impl<'c, T: Drop, W: Run> LocalHandle<'c, T, W> {
         Err((LocalHandle { local }, Fault::BagsFull))
     }
 
-    /// As [`LocalHandle::defer`]: a job is the caller's box, and there is no call that trusts its caller more.
+    /// Does what [`LocalHandle::defer`] does. A job is the caller's box, so no call has to trust its caller more, as
+    /// the unsafe call of this name in crossbeam-epoch does.
     pub fn defer_unchecked(
         &mut self,
         guard: &Guard<'_, T, W>,
@@ -415,12 +430,12 @@ impl<'c, T: Drop, W: Run> LocalHandle<'c, T, W> {
         self.defer(guard, job)
     }
 
-    /// Pins the participant, and answers a guard. The first pin collects, and each 128th after it, where no guard
-    /// was out before.
+    /// Pins the participant, and answers a guard. Of the pins with no guard out, the first one collects, and so does
+    /// each 128th after it.
     ///
-    /// While the participant is pinned already, this only counts one more guard, and makes no atomic step. Ask
-    /// [`LocalHandle::can_pin`] first: at most `2^32 - 1` guards can be out. Keep pins short: while a participant stays
-    /// pinned, the epoch advances at most once, and deferred jobs wait.
+    /// If the participant is pinned already, this only counts one more guard, and makes no atomic step. At most
+    /// `2^32 - 1` guards can be out: [`LocalHandle::can_pin`] must hold. Keep pins short: while a participant stays
+    /// pinned, the epoch advances at most once, and deferred jobs wait. As `LocalHandle::pin` of crossbeam-epoch.
     #[inline]
     pub fn pin(&mut self) -> Guard<'c, T, W>
         requires { self.old.machine.guards + 1 < 2 ^ 32 }

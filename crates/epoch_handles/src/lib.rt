@@ -6,19 +6,14 @@ mod end;
 mod guard;
 mod handle;
 mod home;
-mod laws;
 mod local;
 mod paused;
 mod released;
 
 pub use collector::{Capacities, Collector};
-pub use end::end_bags;
+pub use end::{AtEnd, end_bags, end_next};
 pub use guard::{Guard, unprotected};
 pub use handle::LocalHandle;
 pub use home::{Home, home_of};
-pub use laws::{
-    answers_are_found, calls_come_after_pins, calls_keep_jobs, expiries_are_seen, no_job_is_lost,
-    replies_are_found,
-};
 pub use paused::Paused;
 pub use released::Released;

@@ -3,10 +3,9 @@ use crate::guard::Guard;
 use epoch_bags::Work;
 use std::fmt;
 
-/// A guard that is paused, by [`LocalHandle::pause`](crate::LocalHandle::pause): while this is kept, it doesn't hold
-/// its participant pinned.
+/// A guard that [`LocalHandle::pause`](crate::LocalHandle::pause) has paused: it doesn't keep its participant pinned.
 ///
-/// It is only to be given back, to [`LocalHandle::resume`](crate::LocalHandle::resume) of the same handle.
+/// It must be given back, to [`LocalHandle::resume`](crate::LocalHandle::resume) of the same handle.
 pub struct Paused<'c, T, W = Work> {
     pub(crate) guard: Guard<'c, T, W>,
 }

@@ -5,7 +5,7 @@ use crate::local::Local;
 use epoch_bags::{Run, Work};
 use std::fmt;
 
-/// A participant that has given its position up: the state after a release. It is only to be spent, by
+/// A participant that has given its position up: the state after a release. It must be spent, by
 /// [`Released::spend`].
 pub struct Released<'c, T, W = Work> {
     pub(crate) local: Local<'c, T, W>,
@@ -20,7 +20,7 @@ impl<'c, T, W> fmt::Debug for Released<'c, T, W> {
 }
 
 impl<'c, T: Drop, W: Run> Released<'c, T, W> {
-    /// Ends the participant. Nothing is done to what participants share.
+    /// Ends the participant. It does nothing to what participants share.
     #[inline(always)]
     pub fn spend(self) {
         let Released { local } = self;

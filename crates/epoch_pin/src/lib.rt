@@ -4,8 +4,8 @@
 
 pub use epoch_atomic::atomic;
 pub use epoch_handles::{
-    Capacities, Collector, Guard, LocalHandle, Paused, Released, answers_are_found,
-    calls_come_after_pins, end_bags, expiries_are_seen, replies_are_found, unprotected,
+    AtEnd, Capacities, Collector, Guard, LocalHandle, Paused, Released, end_bags, end_next,
+    unprotected,
 };
 pub use epoch_machine::{
     Action, Answer, Ask, Machine, PINS_BETWEEN_COLLECTIONS, Sizes, Stage, asks_follow_the_table,

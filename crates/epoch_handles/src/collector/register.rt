@@ -11,9 +11,10 @@ use epoch_cells::Fault;
 use epoch_machine::Machine;
 
 impl<T: Drop, W: Run> Collector<T, W> {
-    /// A new participant: registered, not pinned, with an empty bag. Each position is tried once, from 0 up.
+    /// Registers a new participant, which isn't pinned and has an empty bag. Each position is tried once, from 0 up.
     ///
-    /// `TableFull`: each position was seen taken.
+    /// `TableFull`: each position was seen taken, and nothing was done. As `Collector::register` of crossbeam-epoch,
+    /// whose list of participants grows.
     pub fn register(&self) -> Result<LocalHandle<'_, T, W>, Fault>
         ensures full { IsOkUnless result TableFull }
         ensures fresh { IfOk result (λ handle. IsNewParticipant self.now handle) }

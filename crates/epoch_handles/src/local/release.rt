@@ -91,6 +91,7 @@ impl<'c, T: Drop, W: Run> Local<'c, T, W> {
     #[inline(never)]
     fn leave_for_good(&mut self)
         requires seated { IsSeated self.old }
+        requires rests { RestsAt self.old.claimer.me }
         requires begins { self.old.machine.stage ≡ StoreUnpinned }
         requires action { self.old.machine.action ≡ Release }
         requires room { self.old.machine.full ≡ false }

@@ -56,11 +56,14 @@ leave_for_good-requires-2 g c =
       (
         puts.seated,
         (
-          ap (λ (z : Machine (Job g.row.W.Denot)). z.stage) is
-              ∙ ap (λ (a : Action). after_put a false) c.requires.action,
+          puts.rests,
           (
-            ap (λ (z : Machine (Job g.row.W.Denot)). z.action) is ∙ c.requires.action,
-            (ap (λ (z : Machine (Job g.row.W.Denot)). z.full) is, ap (λ (z : Machine (Job g.row.W.Denot)). z.held) is),
+            ap (λ (z : Machine (Job g.row.W.Denot)). z.stage) is
+                ∙ ap (λ (a : Action). after_put a false) c.requires.action,
+            (
+              ap (λ (z : Machine (Job g.row.W.Denot)). z.action) is ∙ c.requires.action,
+              (ap (λ (z : Machine (Job g.row.W.Denot)). z.full) is, ap (λ (z : Machine (Job g.row.W.Denot)). z.held) is),
+            ),
           ),
         ),
       ),

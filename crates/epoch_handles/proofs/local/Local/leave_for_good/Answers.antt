@@ -6,7 +6,7 @@ pub returns-clause-freed : goal.returns-clause-freed
 returns-clause-freed g c = left_for_good _ _ c.args.self.now c.store_unpinned.new.self c.free.new.self
     c.take.new.self c.take-2.new.self
     c.requires.begins c.requires.action c.requires.room c.requires.none c.store_unpinned.ensures c.take.ensures
-    c.free.ensures.only c.free.ensures.knows c.take-2.ensures
+    c.free.ensures.only c.free.ensures.knows c.take-2.ensures c.requires.rests
 
 pub returns-clause-kept : goal.returns-clause-kept
 returns-clause-kept g c = ap (λ z. z.claimer) c.free.ensures.only ∙ c.store_unpinned.ensures.claimer

@@ -1,0 +1,3 @@
+pub mod JobsKept
+pub mod ThreadGrace
+pub mod Told
