@@ -1,5 +1,5 @@
 pub mod Exchanges
-pub mod Orders
 pub mod OwnedValues
 pub mod Pointers
 pub mod Updates
+pub mod WordSteps

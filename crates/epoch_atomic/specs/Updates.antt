@@ -20,10 +20,13 @@ AnswersCalls on step f zero g = g ≡ f
 AnswersCalls {F} {A} on step f (suc calls) g =
     (h : F) × (x : A) × (next : A) × AnswersCalls on step f calls h × on x × step h x (Some next) g
 
--- The last call, one of at most so many, was on this pointer, was answered by some pointer, and left the function as h.
-abbrev pub WinsLast : {F A : Type 0} → (A → Type 0) → (F → A → Option A → F → Type 0) → F → ℕ → A → F → Type 0
-WinsLast {F} {A} on step f tries before h =
+-- The last call, one of at most so many, was on this pointer, was answered by some pointer, for which the one before
+-- was exchanged, and left the function as h.
+abbrev pub WinsLast : {F A : Type 0} → (A → Type 0) → (F → A → Option A → F → Type 0) → (A → A → Type 0)
+    → F → ℕ → A → F → Type 0
+WinsLast {F} {A} on step exchanged f tries before h =
     (calls : ℕ) × (g : F) × (next : A) × (calls < tries) × AnswersCalls on step f calls g × step g before (Some next) h
+    × exchanged before next
 
 -- The last call, one of at most so many, was on this pointer, was answered by none, and left the function as h.
 abbrev pub Stops : {F A : Type 0} → (A → Type 0) → (F → A → Option A → F → Type 0) → F → ℕ → A → F → Type 0

@@ -3,15 +3,17 @@
 //! Each call on an [`Atomic`] makes one atomic step on its word, except those that try an exchange again. Each step
 //! acts as `SeqCst`, whichever ordering is asked for. No call on an existing `Atomic` or a [`Shared`] takes memory or
 //! waits.
-ghost use Rattle.std.specs.Prelude.{◌≡◌, ◌<◌, ◌%◌, ◌⊎◌, IfSome, IfOk, IfErr};
+ghost use Rattle.std.specs.Prelude.{◌≡◌, ◌<◌, ◌%◌, ◌⊎◌, IfSome, IfOk, IfErr, OnOk};
 ghost use Rattle.epoch_cells.specs.declared.fault.Fault.TheVariants.{CellsFull, NoMemory};
 ghost use Rattle.epoch_atomic.specs.Pointers.{IsPointerWord, Reads, IsRead, IsUnder};
+ghost use Rattle.epoch_atomic.specs.WordSteps.{BeginsNamed, BeginsWith, CopiesWord};
+ghost use Rattle.epoch_atomic.specs.WordSteps.{LoadsPointer, StoresPointer, SwapsPointer};
+ghost use Rattle.epoch_atomic.specs.WordSteps.WordStep.{Begins};
 
 mod borrow;
 mod destroy;
 mod exchange;
 mod laws;
-mod orders;
 mod owned;
 mod pointer;
 mod shared;
@@ -24,10 +26,9 @@ pub use destroy::{DeferDestroy, DestroyNow};
 use epoch_cells::{Fault, Refused};
 use epoch_handles::{Guard, home_of};
 use epoch_values::tag_of;
-pub use epoch_values::{Array, Plain, Pointable};
+pub use epoch_values::{Array, CompareAndSetOrdering, Plain, Pointable};
 pub use exchange::{CompareAndSetError, CompareExchangeError, ExchangeFault};
 pub use laws::equal_numbers_are_of_one_pointer;
-pub use orders::CompareAndSetOrdering;
 pub use owned::Owned;
 pub use pointer::Pointer;
 pub use shared::Shared;
@@ -37,15 +38,19 @@ use std::fmt::Debug;
 use std::marker::PhantomData;
 use std::sync::atomic::{AtomicIn, Ordering};
 pub use update::UpdateFault;
-use word::{PointerWord, name_in, pointer_word};
+pub use word::{HasWord, PointerWord, SharedWord};
+use word::{name_in, pointer_word};
 
 /// A pointer with a tag that threads share: null, or the name of a value in a cell.
 ///
-/// It isn't tied to a collector: a call reads it under a guard of the collector that the values are of. Dropping
-/// an `Atomic` leaves the value in its cell.
+/// It isn't tied to a collector: each call is made under a guard of the collector that has the values. Dropping an
+/// `Atomic` leaves the value in its cell.
+///
+/// `A` is the kind of its word. There is one kind, and no caller names it: [`HasWord`]. The clauses tell by
+/// [`SharedWord`] what a call did to the word.
 #[derive(Drop)]
-pub struct Atomic<T> {
-    word: AtomicIn<PointerWord>,
+pub struct Atomic<T, A = AtomicIn<PointerWord>> {
+    word: A,
     of: PhantomData<T>,
 }
 
@@ -64,35 +69,44 @@ fn read<'g, T: Pointable, W>(word: u64, guard: &'g Guard<'_, T, W>) -> Shared<'g
     }
 }
 
-impl<T: Pointable> Atomic<T> {
-    /// Null, with tag 0.
-    pub fn null() -> Atomic<T> {
-        Atomic::from(Shared::null())
+impl<T: Pointable + HasWord<A>, A: SharedWord> Atomic<T, A> {
+    /// Makes a null pointer, with tag 0.
+    pub fn null() -> Atomic<T, A>
+        ensures did { A.did result.word (Begins 0) }
+    {
+        Atomic {
+            word: A::begin(0),
+            of: PhantomData,
+        }
     }
+}
 
-    /// The pointer that is stored now. The load acts as `SeqCst`, whichever ordering is asked for.
+impl<T: Pointable, A: SharedWord> Atomic<T, A> {
+    /// Loads the pointer. The load acts as `SeqCst`, whichever ordering is asked for.
     #[inline(always)]
     pub fn load<'g, W>(&self, order: Ordering, guard: &'g Guard<'_, T, W>) -> Shared<'g, T>
         ensures read { IsRead T.ALIGN result.name result.tag }
         ensures below { result.tag < T.ALIGN }
         ensures home { IsUnder guard.now.collector.now.id result.home }
+        ensures did { LoadsPointer T.ALIGN (A.did self.now.word) result.name result.tag }
     {
         read(self.word.load(order), guard)
     }
 
-    /// As [`Atomic::load`], without an ordering.
+    /// Loads the pointer, as [`Atomic::load`] does, without an ordering.
     pub fn load_consume<'g, W>(&self, guard: &'g Guard<'_, T, W>) -> Shared<'g, T>
         ensures read { IsRead T.ALIGN result.name result.tag }
         ensures below { result.tag < T.ALIGN }
         ensures home { IsUnder guard.now.collector.now.id result.home }
+        ensures did { LoadsPointer T.ALIGN (A.did self.now.word) result.name result.tag }
     {
         self.load(Ordering::Acquire, guard)
     }
 
     /// Stores a pointer, or an owned value, which is placed in a cell first.
     ///
-    /// An owned value comes back where the cells are full, and nothing was stored then. The value of the pointer before
-    /// stays in its cell: to destroy it, use [`Atomic::swap`], which answers that pointer. The store acts as `SeqCst`,
+    /// If the cells are full, the owned value comes back, and nothing was stored. The value of the pointer before stays
+    /// in its cell: to destroy it, use [`Atomic::swap`], which answers that pointer. The store acts as `SeqCst`,
     /// whichever ordering is asked for.
     #[inline(always)]
     pub fn store<'g, P: Pointer<'g, T>, W>(
@@ -102,6 +116,7 @@ impl<T: Pointable> Atomic<T> {
         guard: &'g Guard<'_, T, W>,
     ) -> Result<(), P>
         ensures full { IfErr result (λ back. P.takes_cell × (back ≡ new)) }
+        ensures did { OnOk result (StoresPointer T.ALIGN (A.did self.now.word) (P.becomes new)) }
     {
         let word = new.enter_word(guard)?;
         self.word.store(word, order);
@@ -110,8 +125,8 @@ impl<T: Pointable> Atomic<T> {
 
     /// Stores a pointer, or an owned value, which is placed in a cell first, and answers the pointer before.
     ///
-    /// An owned value comes back where the cells are full, and nothing was stored then. The swap acts as `SeqCst`,
-    /// whichever ordering is asked for.
+    /// If the cells are full, the owned value comes back, and nothing was stored. The swap acts as `SeqCst`, whichever
+    /// ordering is asked for.
     #[inline(always)]
     pub fn swap<'g, P: Pointer<'g, T>, W>(
         &self,
@@ -123,18 +138,20 @@ impl<T: Pointable> Atomic<T> {
         ensures below { IfOk result (λ before. before.tag < T.ALIGN) }
         ensures home { IfOk result (λ before. IsUnder guard.now.collector.now.id before.home) }
         ensures full { IfErr result (λ back. P.takes_cell × (back ≡ new)) }
+        ensures did { IfOk result (SwapsPointer T.ALIGN (A.did self.now.word) (P.becomes new)) }
     {
         let word = new.enter_word(guard)?;
         Ok(read(self.word.swap(word, order), guard))
     }
 }
 
-impl<T: Pointable + Drop> Atomic<T> {
-    /// A pointer to this value, which is placed in a cell.
+impl<T: Pointable + HasWord<A> + Drop, A: SharedWord> Atomic<T, A> {
+    /// Places this value in a cell, and makes a pointer to it, with tag 0.
     ///
-    /// `NoMemory`: an allocation was refused. `CellsFull`: every slot was seen used or retired. The value is
-    /// dropped then.
-    pub fn new<W>(alloc: Global, value: T, guard: &Guard<'_, T, W>) -> Result<Atomic<T>, Fault>
+    /// `NoMemory`: an allocation was refused. `CellsFull`: every slot was seen used or retired. In both cases the value
+    /// is dropped.
+    pub fn new<W>(alloc: Global, value: T, guard: &Guard<'_, T, W>) -> Result<Atomic<T, A>, Fault>
+        ensures did { IfOk result (λ atomic. BeginsNamed T.ALIGN (A.did atomic.word) 0) }
         ensures refused { IfErr result (λ fault. (fault ≡ NoMemory) ⊎ (fault ≡ CellsFull)) }
     {
         match Atomic::from_owned(Owned::new(alloc, value)?, guard) {
@@ -143,15 +160,16 @@ impl<T: Pointable + Drop> Atomic<T> {
         }
     }
 
-    /// A pointer to what [`Pointable::init`] makes, which is placed in a cell.
+    /// Places the value that [`Pointable::init`] makes in a cell, and makes a pointer to it, with tag 0.
     ///
-    /// `NoMemory`: an allocation was refused. `CellsFull`: every slot was seen used or retired. The value is
-    /// dropped then.
+    /// `NoMemory`: an allocation was refused. `CellsFull`: every slot was seen used or retired. In both cases the value
+    /// is dropped.
     pub fn init<W>(
         alloc: Global,
         init: T::Init,
         guard: &Guard<'_, T, W>,
-    ) -> Result<Atomic<T>, Fault>
+    ) -> Result<Atomic<T, A>, Fault>
+        ensures did { IfOk result (λ atomic. BeginsNamed T.ALIGN (A.did atomic.word) 0) }
         ensures refused { IfErr result (λ fault. (fault ≡ NoMemory) ⊎ (fault ≡ CellsFull)) }
     {
         match Atomic::from_owned(Owned::init(alloc, init)?, guard) {
@@ -160,25 +178,28 @@ impl<T: Pointable + Drop> Atomic<T> {
         }
     }
 
-    /// A pointer to this value, which is placed in a cell, with its tag.
+    /// Places this value in a cell, and makes a pointer to it, with the same tag.
     ///
     /// `CellsFull`: every slot was seen used or retired. The value is handed back.
     pub fn from_owned<W>(
         owned: Owned<T>,
         guard: &Guard<'_, T, W>,
-    ) -> Result<Atomic<T>, Refused<Owned<T>>>
+    ) -> Result<Atomic<T, A>, Refused<Owned<T>>>
+        ensures did { IfOk result (λ atomic. BeginsNamed T.ALIGN (A.did atomic.word) owned.tag) }
         ensures full { IfErr result (λ refused. refused.fault ≡ CellsFull) }
         ensures handed_back { IfErr result (λ refused. refused.value ≡ owned) }
     {
         let shared = owned.into_shared(guard)?;
         Ok(Atomic::from(shared))
     }
+}
 
-    /// Takes the value out of its cell, with the pointer's tag. The guard is one of the value's collector. This is how
-    /// the last owner takes a structure apart, since dropping an `Atomic` leaves its value in the cell.
+impl<T: Pointable + Drop> Atomic<T> {
+    /// Takes the value out of its cell, with the pointer's tag. This is how the last owner takes a structure apart,
+    /// since dropping an `Atomic` leaves its value in the cell.
     ///
-    /// `None`: the pointer is null, whatever its tag is; or its value is gone, or is read or written; or each try
-    /// was lost to others.
+    /// The guard must be of the collector that has the value. `None`: the pointer is null, whatever its tag is; or its
+    /// value is gone, or is read or written; or each try was lost to other threads.
     pub fn try_into_owned<W>(self, guard: &Guard<'_, T, W>) -> Option<Owned<T>>
         ensures below { IfSome result (λ owned. owned.tag < T.ALIGN) }
     {
@@ -186,7 +207,7 @@ impl<T: Pointable + Drop> Atomic<T> {
         read(word.into_inner(), guard).try_into_owned()
     }
 
-    /// As [`Atomic::try_into_owned`].
+    /// Does what [`Atomic::try_into_owned`] does.
     pub fn into_owned<W>(self, guard: &Guard<'_, T, W>) -> Option<Owned<T>>
         ensures below { IfSome result (λ owned. owned.tag < T.ALIGN) }
     {
@@ -194,28 +215,34 @@ impl<T: Pointable + Drop> Atomic<T> {
     }
 }
 
-impl<'g, T: Pointable> From<Shared<'g, T>> for Atomic<T> {
-    fn from(shared: Shared<'g, T>) -> Atomic<T> {
+impl<'g, T: Pointable + HasWord<A>, A: SharedWord> From<Shared<'g, T>> for Atomic<T, A> {
+    ghost from_gives = { λ shared atomic. BeginsWith T.ALIGN (A.did atomic.word) shared };
+
+    fn from(shared: Shared<'g, T>) -> Atomic<T, A> {
         Atomic {
-            word: AtomicIn::new(pointer_word::<T>(shared.name, shared.tag)),
+            word: A::begin(pointer_word::<T>(shared.name, shared.tag)),
             of: PhantomData,
         }
     }
 }
 
-impl<T: Pointable> Default for Atomic<T> {
-    fn default() -> Atomic<T> {
+impl<T: Pointable + HasWord<A>, A: SharedWord> Default for Atomic<T, A> {
+    ghost is_default = { λ atomic. A.did atomic.word (Begins 0) };
+
+    fn default() -> Atomic<T, A> {
         Atomic::null()
     }
 }
 
-impl<T: Pointable> Clone for Atomic<T> {
+impl<T: Pointable, A: SharedWord + Drop> Clone for Atomic<T, A> {
+    ghost is_clone = { λ source twin. CopiesWord (A.did source.word) (A.did twin.word) };
+
     ghost is_infallible = { λ _. Unit {0} };
 
-    /// An `Atomic` that holds what one load of this one found.
-    fn clone(&self) -> Result<Atomic<T>, AllocError> {
+    /// Makes an `Atomic` that begins with what one load of this one found.
+    fn clone(&self) -> Result<Atomic<T, A>, AllocError> {
         Ok(Atomic {
-            word: AtomicIn::new(self.word.load(Ordering::Relaxed)),
+            word: A::begin(self.word.load(Ordering::Relaxed)),
             of: PhantomData,
         })
     }

@@ -10,16 +10,16 @@ use std::alloc::Global;
 
 /// A fixed number of elements, each of which may be there or not.
 ///
-/// It stands where crossbeam-epoch has slices of elements that may not be written yet.
+/// crossbeam-epoch has slices of elements that may be uninitialized instead.
 #[derive(Debug, Drop)]
 pub struct Array<E> {
     pub(crate) elements: Vec<Option<E>>,
 }
 
 impl<E: Drop> Array<E> {
-    /// An array of this many elements, each of which is `None`.
+    /// Makes an array of this many elements, each of which is `None`.
     ///
-    /// `NoMemory`: an allocation was refused.
+    /// `NoMemory`: an allocation was refused, and nothing was made.
     pub fn new(alloc: Global, len: usize) -> Result<Array<E>, Fault>
         ensures memory { IsOkUnless result NoMemory }
         ensures length { IfOk result (λ array. vec_len array.elements ≡ len) }
@@ -32,14 +32,14 @@ impl<E: Drop> Array<E> {
         Ok(Array { elements })
     }
 
-    /// How many elements there are, present or not.
+    /// Answers how many elements there are, present or not.
     pub fn len(&self) -> usize
         ensures { result ≡ vec_len self.now.elements }
     {
         self.elements.len()
     }
 
-    /// The element of this index. `None`: it isn't there, or the index is at or past [`Array::len`].
+    /// Answers the element at this index. `None`: it isn't there, or the index is at or past [`Array::len`].
     pub fn get(&self, index: usize) -> Option<&E>
         ensures value { (element : _) → slice_get self.now.elements.items index ≡ Some (Some element)
             → IsSomeAnd result (λ found. found.now ≡ element) }
@@ -51,7 +51,7 @@ impl<E: Drop> Array<E> {
 
     /// Puts the element at this index, and answers the one before.
     ///
-    /// An index at or past [`Array::len`] hands the element back, and nothing is changed.
+    /// `Err`: the index is at or past [`Array::len`]. The element comes back, and nothing was changed.
     pub fn set(&mut self, index: usize, element: E) -> Result<Option<E>, E>
         ensures past { IsErr result ↔ (vec_len self.old.elements ≤ index) }
         ensures handed_back { IfErr result (λ back. back ≡ element) }

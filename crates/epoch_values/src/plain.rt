@@ -6,7 +6,7 @@ use crate::Pointable;
 use epoch_cells::Fault;
 use std::alloc::Global;
 
-/// A value of any type, to stand behind a pointer: for types of other crates, for which nobody else can write
+/// A value of any type, to stand behind a pointer: for types of other crates, to which your crate can't give
 /// [`Pointable`]. Its pointers have 8 tags.
 ///
 /// `Owned::init(alloc, value)` makes one of the value itself, and `Owned::new(alloc, Plain { value })` does the same.

@@ -8,20 +8,21 @@ mod values;
 use epoch_cells::Fault;
 use std::alloc::Global;
 
-/// A type whose values may stand behind pointers: it says how many tags its pointers have, and how a value is made.
+/// A type whose values can stand behind pointers. It says how many tags the pointers have, and how a value is made.
 ///
-/// A type of your own implements it by a power of two for `ALIGN`, with the power and the two facts about it, and by
-/// `init`. A value of another crate's type goes into [`Plain`](crate::Plain).
+/// To implement it for a type of your own, choose a power of two for `ALIGN`, state the exponent `log` and the two
+/// facts about it, and write `init`: docs/CALLING.md has an example. Put a value of another crate's type into
+/// [`Plain`](crate::Plain). In crossbeam-epoch every type implements this trait.
 pub trait Pointable {
     ghost ALIGN: { ℕ };
 
     // `ALIGN` is two to this power.
     ghost log: { ℕ };
 
-    /// How many tags a pointer has, a power of two from 1 to 256: a tag is taken modulo this number.
+    /// How many tags a pointer has: a power of two from 1 to 256. A tag is taken modulo this number.
     const ALIGN: usize;
 
-    /// What a value is made from.
+    /// What [`Pointable::init`] makes a value from.
     type Init;
 
     // What `init` makes.
@@ -41,7 +42,7 @@ pub trait Pointable {
     ghost is_small: { log ≤ 8 };
 }
 
-/// A tag modulo the alignment, in the byte that a word has for it.
+/// Answers the tag modulo the alignment, as the byte that a word has for it.
 #[inline(always)]
 pub fn tag_of<T: Pointable>(tag: usize) -> u8
     ensures below { result < T.ALIGN }

@@ -26,32 +26,33 @@ impl<'g, T> Shared<'g, T> {
     }
 }
 
-/// What a [`Guard`] does with a pointer's value.
+/// Gives a [`Guard`] the call `destroy_now`.
 pub trait DestroyNow<T> {
-    /// Destroys the value at once, under a guard that protects nothing, and says what that did: a value that
-    /// another thread reads or writes stays.
+    /// Destroys the value at once, under an unprotected guard, and answers what that did: a value that another thread
+    /// reads or writes stays.
     ///
-    /// The pointer is handed back, and nothing is done, under a protecting guard, where it is null, and where it
-    /// was got under a guard of another collector.
+    /// No other thread may use the structure. If the guard is protecting, or the pointer is null or was loaded under a
+    /// guard of another collector, the pointer comes back, and nothing was done.
     fn destroy_now<'g>(&self, shared: Shared<'g, T>) -> Result<Called, Shared<'g, T>>;
 }
 
-/// What a [`LocalHandle`] does with a pointer's value.
+/// Gives a [`LocalHandle`] the call `defer_destroy`.
 pub trait DeferDestroy<T, W> {
-    /// Defers the removal of the value that the pointer names: a later collection destroys it, at the earliest when
-    /// every participant that is pinned now has unpinned or repinned since. Under an unprotected guard that is done at
-    /// once. A value that is read or written at that moment stays in its cell until the end.
+    /// Defers the removal of the value that the pointer names: a later collection destroys the value, at the earliest
+    /// when every participant that is pinned now has unpinned or repinned. Under an unprotected guard the value is
+    /// destroyed at once. A value that is read or written at that moment stays in its cell until the end.
     ///
-    /// Take the value out of reach first: unlink it, so that no pointer in the structure leads to it any more, and
-    /// then defer. A thread that pins after this call and still finds the pointer may find the value gone. Defer each
+    /// The value must be out of reach: unlink it first, so that no pointer in the structure leads to it any more. A
+    /// thread that pins after this call, and still finds a pointer to the value, may find the value gone. Defer each
     /// value once.
     ///
-    /// The removal is kept as the job of [`LocalHandle::defer`] is. `StrangerGuard`: the guard isn't one that this
-    /// handle has out. `StrangerPointer`: the pointer is null, whatever its tag is, or was got under a guard of
-    /// another collector. `BagsFull`: each place was seen occupied. They are looked for in this order. A refused
-    /// call hands the pointer back, and leaves the held bag as it was. Where [`LocalHandle::has_room`] says yes, the
-    /// last fault doesn't come: so make room before you unlink. As `Guard::defer_destroy` of crossbeam-epoch, which
-    /// refuses nothing.
+    /// The removal is kept as the job of [`LocalHandle::defer`] is, with no promise when it is called. The faults, in
+    /// the order in which they are looked for: `StrangerGuard`: the guard isn't one that this handle has out.
+    /// `StrangerPointer`: the pointer is null, whatever its tag is, or was loaded under a guard of another collector.
+    /// `BagsFull`: the held bag was full, and each place was seen occupied; this doesn't come if
+    /// [`LocalHandle::has_room`] holds, so make room before you unlink. A refused call hands the pointer back, and
+    /// leaves the held bag as it was. As `Guard::defer_destroy` of crossbeam-epoch, which is unsafe to call and refuses
+    /// nothing.
     fn defer_destroy<'g>(
         &mut self,
         guard: &Guard<'_, T, W>,

@@ -1,21 +1,22 @@
 //! Exchanges of one pointer for another.
 ghost use Rattle.std.specs.Prelude.{◌≡◌, ◌≢◌, IfOk, IfErr};
 ghost use Rattle.epoch_atomic.specs.Pointers.{IsPointerWord, BecomesBelow, BecomesBoth, IsUnder};
+ghost use Rattle.epoch_atomic.specs.WordSteps.{ExchangesPointer, MissesPointer};
+ghost use Rattle.epoch_atomic.specs.WordSteps.WordStep.{Exchanges, Misses};
 ghost use Rattle.epoch_atomic.specs.Exchanges.{OnChanged, OnFull, OnStuck, FindsAnother, AnswersUnder};
 
-use crate::atomic::orders::CompareAndSetOrdering;
 use crate::atomic::pointer::Pointer;
 use crate::atomic::shared::Shared;
-use crate::atomic::word::pointer_word;
+use crate::atomic::word::{SharedWord, pointer_word};
 use crate::atomic::{Atomic, read};
 use epoch_handles::Guard;
-use epoch_values::Pointable;
+use epoch_values::{CompareAndSetOrdering, Pointable};
 use std::sync::atomic::Ordering;
 
 /// What a lost exchange found, and the new pointer, which is handed back.
 #[derive(Drop)]
 pub struct CompareExchangeError<'g, T, P> {
-    /// The pointer that stood there.
+    /// The pointer that was found.
     pub current: Shared<'g, T>,
     /// The pointer, or the owned value, that was not stored.
     pub new: P,
@@ -24,24 +25,24 @@ pub struct CompareExchangeError<'g, T, P> {
 /// Another name of [`CompareExchangeError`].
 pub type CompareAndSetError<'g, T, P> = CompareExchangeError<'g, T, P>;
 
-/// Why an exchange was not made. Nothing is stored then.
+/// Why an exchange was not made. In each case nothing was stored.
 #[derive(Drop)]
 pub enum ExchangeFault<'g, T, P> {
-    /// Another pointer, or another tag, stood there.
+    /// Another pointer, or another tag, was found.
     Changed(CompareExchangeError<'g, T, P>),
-    /// The cells are full, so that the owned value couldn't be placed. It is handed back.
+    /// The cells are full, so the owned value couldn't be placed. It is handed back.
     Full(P),
-    /// The exchange was lost, and the owned value, which was placed for it, is held or was removed by another
-    /// thread, so that it couldn't be taken back. This is the pointer to it.
+    /// The exchange was lost, and the owned value that was placed for it couldn't be taken back: another thread holds
+    /// it, or has removed it. This is the pointer to it.
     Stuck(Shared<'g, T>),
 }
 
-impl<T: Pointable> Atomic<T> {
-    /// Stores `new` where `current` stands, pointer and tag both, and answers the pointer that was written.
+impl<T: Pointable, A: SharedWord> Atomic<T, A> {
+    /// Stores `new` if the pointer is `current`, with the same tag, and answers the pointer that it wrote.
     ///
-    /// An owned value is placed in a cell first, and is taken back where the exchange is lost. What an
-    /// [`ExchangeFault`] says is all that the call left. Each pointer that is answered was got under this guard. The
-    /// exchange acts as `SeqCst`, whichever orderings are asked for.
+    /// An owned value is placed in a cell first, and is taken back if the exchange is lost. An [`ExchangeFault`] says
+    /// all that the call left. Each pointer that is answered is under this guard. The exchange acts as `SeqCst`,
+    /// whichever orderings are asked for.
     #[inline(always)]
     pub fn compare_exchange<'g, P: Pointer<'g, T>, W>(
         &self,
@@ -59,6 +60,9 @@ impl<T: Pointable> Atomic<T> {
         ensures full { IfErr result (λ fault. OnFull fault (λ back. P.takes_cell × (back ≡ new))) }
         ensures stuck { IfErr result
             (λ fault. OnStuck fault (λ stuck. P.takes_cell × P.becomes new stuck.name stuck.tag)) }
+        ensures won { IfOk result (ExchangesPointer T.ALIGN (A.did self.now.word) current.entry) }
+        ensures lost { IfErr result (λ fault.
+            OnChanged fault (λ found back. MissesPointer T.ALIGN (A.did self.now.word) current.entry found)) }
         ensures home { IfOk result (λ written. IsUnder guard.now.collector.now.id written.home) }
         ensures fault_home { IfErr result (λ fault. AnswersUnder guard.now.collector.now.id fault) }
     {
@@ -93,12 +97,14 @@ impl<T: Pointable> Atomic<T> {
         requires { IsPointerWord new }
         ensures ok { IfOk result (λ found. found ≡ expected) }
         ensures err { IfErr result (λ found. (found ≢ expected) × IsPointerWord found) }
+        ensures won { IfOk result (λ found. A.did self.now.word (Exchanges expected new)) }
+        ensures lost { IfErr result (λ found. A.did self.now.word (Misses expected found)) }
     {
         self.word.compare_exchange(expected, new, success, failure)
     }
 
-    /// As [`Atomic::compare_exchange`]: this one doesn't fail where `current` stands there, as the weak exchange of
-    /// some machines may.
+    /// Does what [`Atomic::compare_exchange`] does. It doesn't fail if the pointer is `current`, as the weak exchange
+    /// of crossbeam-epoch may.
     pub fn compare_exchange_weak<'g, P: Pointer<'g, T>, W>(
         &self,
         current: Shared<'_, T>,
@@ -115,14 +121,17 @@ impl<T: Pointable> Atomic<T> {
         ensures full { IfErr result (λ fault. OnFull fault (λ back. P.takes_cell × (back ≡ new))) }
         ensures stuck { IfErr result
             (λ fault. OnStuck fault (λ stuck. P.takes_cell × P.becomes new stuck.name stuck.tag)) }
+        ensures won { IfOk result (ExchangesPointer T.ALIGN (A.did self.now.word) current.entry) }
+        ensures lost { IfErr result (λ fault.
+            OnChanged fault (λ found back. MissesPointer T.ALIGN (A.did self.now.word) current.entry found)) }
         ensures home { IfOk result (λ written. IsUnder guard.now.collector.now.id written.home) }
         ensures fault_home { IfErr result (λ fault. AnswersUnder guard.now.collector.now.id fault) }
     {
         self.compare_exchange(current, new, success, failure, guard)
     }
 
-    /// As [`Atomic::compare_exchange`], with one ordering or a pair of them: [`CompareAndSetOrdering`] tells which
-    /// ordering of a lost exchange goes with which one of a won exchange.
+    /// Does what [`Atomic::compare_exchange`] does, with one ordering or a pair of them: [`CompareAndSetOrdering`]
+    /// tells which pair one ordering stands for. In crossbeam-epoch this call is deprecated.
     pub fn compare_and_set<'g, P: Pointer<'g, T>, O: CompareAndSetOrdering + Drop, W>(
         &self,
         current: Shared<'_, T>,
@@ -138,13 +147,16 @@ impl<T: Pointable> Atomic<T> {
         ensures full { IfErr result (λ fault. OnFull fault (λ back. P.takes_cell × (back ≡ new))) }
         ensures stuck { IfErr result
             (λ fault. OnStuck fault (λ stuck. P.takes_cell × P.becomes new stuck.name stuck.tag)) }
+        ensures won { IfOk result (ExchangesPointer T.ALIGN (A.did self.now.word) current.entry) }
+        ensures lost { IfErr result (λ fault.
+            OnChanged fault (λ found back. MissesPointer T.ALIGN (A.did self.now.word) current.entry found)) }
         ensures home { IfOk result (λ written. IsUnder guard.now.collector.now.id written.home) }
         ensures fault_home { IfErr result (λ fault. AnswersUnder guard.now.collector.now.id fault) }
     {
         self.compare_exchange(current, new, order.success(), order.failure(), guard)
     }
 
-    /// As [`Atomic::compare_exchange_weak`], with one ordering or a pair of them.
+    /// Does what [`Atomic::compare_and_set`] does. In crossbeam-epoch this call is deprecated.
     pub fn compare_and_set_weak<'g, P: Pointer<'g, T>, O: CompareAndSetOrdering + Drop, W>(
         &self,
         current: Shared<'_, T>,
@@ -160,6 +172,9 @@ impl<T: Pointable> Atomic<T> {
         ensures full { IfErr result (λ fault. OnFull fault (λ back. P.takes_cell × (back ≡ new))) }
         ensures stuck { IfErr result
             (λ fault. OnStuck fault (λ stuck. P.takes_cell × P.becomes new stuck.name stuck.tag)) }
+        ensures won { IfOk result (ExchangesPointer T.ALIGN (A.did self.now.word) current.entry) }
+        ensures lost { IfErr result (λ fault.
+            OnChanged fault (λ found back. MissesPointer T.ALIGN (A.did self.now.word) current.entry found)) }
         ensures home { IfOk result (λ written. IsUnder guard.now.collector.now.id written.home) }
         ensures fault_home { IfErr result (λ fault. AnswersUnder guard.now.collector.now.id fault) }
     {

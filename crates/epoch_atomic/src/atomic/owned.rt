@@ -21,7 +21,7 @@ pub struct Owned<T> {
 }
 
 impl<T: Pointable> Owned<T> {
-    /// The box. The tag is lost.
+    /// Answers the box. The tag is lost.
     pub fn into_box(self) -> Box<T>
         ensures { result ≡ self.value }
     {
@@ -29,14 +29,14 @@ impl<T: Pointable> Owned<T> {
         value
     }
 
-    /// The tag.
+    /// Answers the tag.
     pub fn tag(&self) -> usize
         ensures { result ≡ self.now.tag }
     {
         self.tag as usize
     }
 
-    /// The same value with this tag, which is taken modulo [`Pointable::ALIGN`].
+    /// Answers the same value with this tag, which is taken modulo [`Pointable::ALIGN`].
     pub fn with_tag(self, tag: usize) -> Owned<T>
         ensures value { result.value ≡ self.value }
         ensures tag { result.tag ≡ tag % T.ALIGN }
@@ -51,9 +51,9 @@ impl<T: Pointable> Owned<T> {
 }
 
 impl<T: Pointable + Drop> Owned<T> {
-    /// The value, with tag 0.
+    /// Puts the value into a box, with tag 0.
     ///
-    /// `NoMemory`: an allocation was refused. The value is dropped then.
+    /// `NoMemory`: an allocation was refused, and the value was dropped.
     #[inline(always)]
     pub fn new(alloc: Global, value: T) -> Result<Owned<T>, Fault>
         ensures memory { IsOkUnless result NoMemory }
@@ -64,9 +64,9 @@ impl<T: Pointable + Drop> Owned<T> {
         Ok(Owned::from(value))
     }
 
-    /// What [`Pointable::init`] makes, with tag 0.
+    /// Puts the value that [`Pointable::init`] makes into a box, with tag 0.
     ///
-    /// `NoMemory`: an allocation was refused.
+    /// `NoMemory`: an allocation was refused, and what was made was dropped.
     pub fn init(alloc: Global, init: T::Init) -> Result<Owned<T>, Fault>
         ensures memory { IsOkUnless result NoMemory }
         ensures value { IfOk result (λ owned. T.init_gives init owned.value.value) }
@@ -75,9 +75,10 @@ impl<T: Pointable + Drop> Owned<T> {
         Owned::new(alloc, T::init(alloc, init)?)
     }
 
-    /// An equal value with the same tag, where clones of `T` equal their source.
+    /// Clones the value, with the same tag.
     ///
-    /// `NoMemory`: an allocation was refused. It stands where crossbeam-epoch has `clone`, which can't refuse.
+    /// `NoMemory`: an allocation was refused, and this value is as it was. crossbeam-epoch has `clone` instead, which
+    /// can't be refused.
     pub fn try_clone(&self, alloc: Global) -> Result<Owned<T>, Fault>
     where
         T: Clone,

@@ -1,4 +1,4 @@
-//! What an `Atomic` may be given: a pointer, or an owned value that is placed in a cell for it.
+//! What an `Atomic` can be given: a pointer, or an owned value that is placed in a cell for it.
 ghost use Rattle.std.specs.Prelude.{◌≡◌, ℕ, Option, IsSome, IfOk, IfErr, Some};
 ghost use Rattle.epoch_cells.specs.declared.cells.name.Name.{Name};
 ghost use Rattle.epoch_cells.specs.declared.fault.Fault.TheVariants.{CellsFull};
@@ -11,7 +11,7 @@ use epoch_cells::Refused;
 use epoch_handles::{Guard, home_of};
 use epoch_values::Pointable;
 
-/// A pointer that an `Atomic` may be given: a [`Shared`], or an [`Owned`], which takes a cell.
+/// What an `Atomic` can be given: a [`Shared`], or an [`Owned`], which takes a cell.
 pub trait Pointer<'g, T: Pointable>: Sized {
     // Whether it takes a cell, so that it may be refused.
     ghost takes_cell: { Type 0 };
@@ -19,22 +19,22 @@ pub trait Pointer<'g, T: Pointable>: Sized {
     // It becomes a pointer with this name and tag.
     ghost becomes: { Self → Option Name → ℕ → Type 0 };
 
-    /// The pointer that it becomes. A [`Shared`] is that pointer; an [`Owned`] is placed in a cell, and is handed
-    /// back where the cells are full.
+    /// Answers the pointer that it becomes. A [`Shared`] is that pointer. An [`Owned`] is placed in a cell, and comes
+    /// back if the cells are full.
     fn enter<W>(self, guard: &'g Guard<'_, T, W>) -> Result<Shared<'g, T>, Self>
         ensures ok { IfOk result (λ shared. becomes self shared.name shared.tag) }
         ensures home { IfOk result (λ shared. takes_cell → IsUnder guard.now.collector.now.id shared.home) }
         ensures full { IfErr result (λ back. takes_cell × (back ≡ self)) };
 
-    /// The word of the pointer that it becomes, as [`Pointer::enter`] says: of its name, and of its tag modulo the
+    /// Does what [`Pointer::enter`] does, and answers the pointer's word: that of its name, and of its tag modulo the
     /// alignment.
     fn enter_word<W>(self, guard: &'g Guard<'_, T, W>) -> Result<u64, Self>
         ensures rule { IfOk result (λ word. IsPointerWord word) }
         ensures word { IfOk result (λ word. BecomesWord T.ALIGN (becomes self) word) }
         ensures full { IfErr result (λ back. takes_cell × (back ≡ self)) };
 
-    /// Undoes [`Pointer::enter`] under the same guard. An [`Owned`] is taken out of its cell again; where somebody
-    /// else holds or has removed its value by now, the pointer is handed back.
+    /// Undoes [`Pointer::enter`], under the same guard. An [`Owned`] is taken out of its cell again. If another thread
+    /// holds the value, or has removed it, the pointer comes back.
     fn back<W>(shared: Shared<'g, T>, guard: &'g Guard<'_, T, W>) -> Result<Self, Shared<'g, T>>
         ensures ok { IfOk result (λ back. becomes back shared.entry.name shared.entry.tag) }
         ensures stuck { IfErr result (λ stuck. takes_cell × (stuck ≡ shared.entry)) };

@@ -15,11 +15,11 @@ use std::cmp::Ordering;
 use std::fmt;
 use std::fmt::Debug;
 
-/// A pointer to a cell's value, or null, and a tag.
+/// A pointer to a value in a cell, or null, with a tag.
 ///
-/// It is got under a guard, which it doesn't outlive. Pointers are compared by their numbers, which are
-/// `turn * 2^32 + slot * 2^8 + tag`; null has slot 0 and turn 0. So a null pointer with a tag is null, and is not
-/// equal to [`Shared::null`].
+/// It is loaded under a guard, which it doesn't outlive. Pointers are compared by their numbers, which are `turn * 2^32
+/// + slot * 2^8 + tag`; null has slot 0 and turn 0. So a null pointer with a tag is null, but isn't equal to
+/// [`Shared::null`]. In crossbeam-epoch pointers are compared by address and tag.
 #[derive_where(Clone, Copy)]
 pub struct Shared<'g, T> {
     // The tag comes first, so that the eight bytes of a name begin where a box does in what else an answer may
@@ -30,7 +30,7 @@ pub struct Shared<'g, T> {
 }
 
 impl<'g, T> Shared<'g, T> {
-    /// The null pointer with tag 0.
+    /// Answers the null pointer, with tag 0.
     pub fn null() -> Shared<'g, T>
         ensures name { result.name ≡ None }
         ensures tag { result.tag ≡ 0 }
@@ -42,7 +42,7 @@ impl<'g, T> Shared<'g, T> {
         }
     }
 
-    /// Whether it is null, whatever its tag is.
+    /// Answers whether it is null, whatever its tag is.
     #[inline(always)]
     pub fn is_null(&self) -> bool
         ensures { IsTrue result ↔ IsNone self.now.name }
@@ -50,7 +50,7 @@ impl<'g, T> Shared<'g, T> {
         self.name.is_none()
     }
 
-    /// The tag.
+    /// Answers the tag.
     #[inline(always)]
     pub fn tag(&self) -> usize
         ensures { result ≡ self.now.tag }
@@ -58,9 +58,10 @@ impl<'g, T> Shared<'g, T> {
         self.tag as usize
     }
 
-    /// The pointer to the value that was placed under this name, with tag 0. It is as good as one that was loaded: a
-    /// value is lent only as long as it stands in its cell under this name. As crossbeam-epoch's `Shared::from` of a
-    /// raw pointer.
+    /// Answers the pointer to the value that was placed under this name, with tag 0.
+    ///
+    /// It is as good as one that was loaded: a value is lent only while it stands in its cell under this name. The
+    /// guard must be of the collector that gave the name. In crossbeam-epoch `Shared::from` of a raw pointer does this.
     #[inline(always)]
     pub fn named<W>(name: Name, guard: &'g Guard<'_, T, W>) -> Shared<'g, T>
         ensures name { result.name ≡ Some name }
@@ -74,8 +75,8 @@ impl<'g, T> Shared<'g, T> {
         }
     }
 
-    /// The name of the value that it points to, or `None` where it is null. Two pointers with one name point to the
-    /// same value, whatever their tags are.
+    /// Answers the name of the value that it points to, or `None` if it is null. Two pointers with the same name point
+    /// to the same value, whatever their tags are.
     #[inline(always)]
     pub fn name(&self) -> Option<Name>
         ensures { result ≡ self.now.name }
@@ -98,7 +99,7 @@ impl<'g, T> Shared<'g, T> {
 }
 
 impl<'g, T: Pointable> Shared<'g, T> {
-    /// The same pointer with this tag, which is taken modulo [`Pointable::ALIGN`].
+    /// Answers the same pointer with this tag, which is taken modulo [`Pointable::ALIGN`].
     #[inline(always)]
     pub fn with_tag(&self, tag: usize) -> Shared<'g, T>
         ensures name { result.name ≡ self.now.name }
@@ -115,11 +116,12 @@ impl<'g, T: Pointable> Shared<'g, T> {
 }
 
 impl<'g, T: Pointable + Drop> Shared<'g, T> {
-    /// Lends the value for reading, through the collector of the guard under which the pointer was got. The reading
-    /// must be given back, by `Reading::leave`. A read counts itself in its cell and out again: two exchanges.
+    /// Lends the value for reading. The reading must be given back, by `Reading::leave`.
     ///
-    /// `None`: the pointer is null; or its value is gone, is written, or has `2^30 - 1` readers; or each try was
-    /// lost to others. A value that was placed into the slot at a later turn is never lent.
+    /// `None`: the pointer is null; or its value is gone, is written, or has `2^30 - 1` readers; or each try was lost
+    /// to other threads. A value that was placed into the slot at a later turn is never lent. A read costs two
+    /// exchanges, since it counts itself in its cell and out again; in crossbeam-epoch the call is unsafe, and costs
+    /// none.
     #[inline(always)]
     pub fn deref(&self) -> Option<Reading<'g, T>>
         ensures named { IfSome result (λ reading. Some reading.name ≡ self.now.name) }
@@ -128,16 +130,16 @@ impl<'g, T: Pointable + Drop> Shared<'g, T> {
         home.cells.read(self.name?)
     }
 
-    /// As [`Shared::deref`].
+    /// Does what [`Shared::deref`] does.
     pub fn as_ref(&self) -> Option<Reading<'g, T>>
         ensures named { IfSome result (λ reading. Some reading.name ≡ self.now.name) }
     {
         self.deref()
     }
 
-    /// Lends the value for writing, through the collector of the guard under which the pointer was got.
+    /// Lends the value for writing. The writing must be given back, by `Writing::leave`.
     ///
-    /// `None`: the pointer is null; or its value is gone, or is read or written; or each try was lost to others.
+    /// `None`: the pointer is null; or its value is gone, or is read or written; or each try was lost to other threads.
     pub fn deref_mut(&mut self) -> Option<Writing<'g, T>>
         ensures named { IfSome result (λ writing. Some writing.name ≡ self.old.name) }
         ensures same { self.new ≡ self.old }
@@ -146,10 +148,10 @@ impl<'g, T: Pointable + Drop> Shared<'g, T> {
         home.cells.write(self.name?)
     }
 
-    /// Takes the value out of its cell, with the pointer's tag. The pointer names no value from then on.
+    /// Takes the value out of its cell, with the pointer's tag. From then on every pointer of this name finds no value.
     ///
-    /// `None`: the pointer is null, whatever its tag is; or its value is gone, or is read or written; or each try
-    /// was lost to others.
+    /// `None`: the pointer is null, whatever its tag is; or its value is gone, or is read or written; or each try was
+    /// lost to other threads.
     #[inline(always)]
     pub fn try_into_owned(self) -> Option<Owned<T>>
         ensures tag { IfSome result (λ owned. owned.tag ≡ self.entry.tag) }
@@ -163,7 +165,7 @@ impl<'g, T: Pointable + Drop> Shared<'g, T> {
         })
     }
 
-    /// As [`Shared::try_into_owned`].
+    /// Does what [`Shared::try_into_owned`] does.
     #[inline(always)]
     pub fn into_owned(self) -> Option<Owned<T>>
         ensures tag { IfSome result (λ owned. owned.tag ≡ self.entry.tag) }
@@ -178,7 +180,7 @@ impl<'g, T> PartialEq for Shared<'g, T> {
 
     ghost laws = { Prim.search (comparing, rules) };
 
-    /// Whether the numbers are equal: names and tags both.
+    /// Answers whether the numbers are equal: both names and tags.
     fn eq(&self, other: &Shared<'g, T>) -> bool {
         number(self.name, self.tag) == number(other.name, other.tag)
     }
@@ -197,7 +199,7 @@ impl<'g, T> Ord for Shared<'g, T> {
 
     ghost matches_eq = { Prim.search (comparing, rules) };
 
-    /// The order of the numbers: by the turn, then by the slot, then by the tag.
+    /// Answers the order of the numbers: by the turn, then by the slot, then by the tag.
     fn cmp(&self, other: &Shared<'g, T>) -> Ordering {
         number(self.name, self.tag).cmp(&number(other.name, other.tag))
     }

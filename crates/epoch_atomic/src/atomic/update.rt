@@ -1,32 +1,58 @@
-//! Changes of a pointer by what it was before, which try an exchange again where another one came first.
+//! Changes of a pointer by what it was before, which try an exchange again if another one came first.
 ghost use Rattle.std.specs.Prelude.{◌≡◌, ◌≢◌, ◌<◌, Option, IfOk, IfErr};
 ghost use Rattle.epoch_cells.specs.declared.cells.name.Name.{Name};
 ghost use Rattle.epoch_atomic.specs.Pointers.{HasName, IsPointerWord, IsRead, IsUnder};
+ghost use Rattle.epoch_atomic.specs.declared.atomic.update.TagChange.TheVariants.{And, Or, Xor};
+ghost use Rattle.epoch_atomic.specs.WordSteps.{ChangesTag, ReplacesPointer, changed_tag};
+ghost use Rattle.epoch_atomic.specs.WordSteps.WordStep.{Exchanges, Misses};
 ghost use Rattle.epoch_atomic.specs.Updates.{EndsUnmade, IsReadUnder, WinsLast, pointer_of};
 
 use crate::atomic::shared::Shared;
-use crate::atomic::word::pointer_word;
+use crate::atomic::word::{SharedWord, number, pointer_word};
 use crate::atomic::{Atomic, read};
 use epoch_handles::Guard;
 use epoch_values::{Pointable, tag_of};
 use std::sync::atomic::Ordering;
 
-/// Why an update was not made. Nothing is stored then.
+/// Why an update was not made. In both cases nothing was stored.
 #[derive_where(Clone, Copy)]
 pub enum UpdateFault<'g, T> {
     /// The function answered `None` for this pointer.
     Stopped(Shared<'g, T>),
-    /// Each try was lost to somebody else. This is the pointer that was read last.
+    /// Each try was lost to other threads. This is the pointer that was found last.
     RanOut(Shared<'g, T>),
 }
 
-impl<T: Pointable> Atomic<T> {
-    /// Loads the pointer, calls `f` on it, and exchanges it for the pointer that `f` answers; where the exchange is
-    /// lost, tries again with the pointer that stands there by then, `max_tries` times in all. Answers the pointer
-    /// before.
+/// How the bits of a tag are changed.
+#[derive(Clone, Copy)]
+pub enum TagChange {
+    /// The bits that aren't among these are cleared.
+    And(usize),
+    /// These bits are set.
+    Or(usize),
+    /// These bits are flipped.
+    Xor(usize),
+}
+
+impl TagChange {
+    // The tag after the change.
+    fn of(self, tag: usize) -> usize
+        ensures { result ≡ changed_tag self tag }
+    {
+        match self {
+            TagChange::And(bits) => tag & bits,
+            TagChange::Or(bits) => tag | bits,
+            TagChange::Xor(bits) => tag ^ bits,
+        }
+    }
+}
+
+impl<T: Pointable, A: SharedWord> Atomic<T, A> {
+    /// Loads the pointer, calls `f` on it, and exchanges it for the pointer that `f` answers. If the exchange is lost,
+    /// it tries again with the pointer that it found, in at most `max_tries` tries. Answers the pointer before.
     ///
-    /// `Stopped`: `f` answered `None`. `RanOut`: each exchange was lost; with `max_tries` 0, `f` isn't called. The
-    /// bound is our own: crossbeam-epoch tries until it wins.
+    /// `Stopped`: `f` answered `None`. `RanOut`: each exchange was lost; with `max_tries` 0, `f` isn't called. In both
+    /// cases nothing was stored. The bound is our own: crossbeam-epoch tries until it wins.
     pub fn fetch_update<'g, F: FnMut(Shared<'g, T>) -> Option<Shared<'g, T>> + Drop, W>(
         &self,
         set_order: Ordering,
@@ -37,7 +63,8 @@ impl<T: Pointable> Atomic<T> {
     ) -> Result<Shared<'g, T>, UpdateFault<'g, T>>
         requires { F.IsAlwaysCallable f }
         ensures ok { IfOk result (λ before. (last : F)
-            × WinsLast (IsReadUnder T.ALIGN guard.now.collector.now.id) F.step f max_tries before last) }
+            × WinsLast (IsReadUnder T.ALIGN guard.now.collector.now.id) F.step
+            (ReplacesPointer T.ALIGN (A.did self.now.word)) f max_tries before last) }
         ensures ended { (last : F) × IfErr result
             (λ fault. EndsUnmade (IsReadUnder T.ALIGN guard.now.collector.now.id) F.step f max_tries fault last) }
         ensures read { IfOk result (λ before. IsRead T.ALIGN before.name before.tag) }
@@ -60,7 +87,8 @@ impl<T: Pointable> Atomic<T> {
     ) -> Result<Shared<'g, T>, UpdateFault<'g, T>>
         requires { F.IsAlwaysCallable f.old }
         ensures ok { IfOk result
-            (λ before. WinsLast (IsReadUnder T.ALIGN guard.now.collector.now.id) F.step f.old max_tries before f.new) }
+            (λ before. WinsLast (IsReadUnder T.ALIGN guard.now.collector.now.id) F.step
+            (ReplacesPointer T.ALIGN (A.did self.now.word)) f.old max_tries before f.new) }
         ensures ended { IfErr result
             (λ fault. EndsUnmade (IsReadUnder T.ALIGN guard.now.collector.now.id) F.step f.old max_tries fault f.new) }
         ensures read { IfOk result (λ before. IsRead T.ALIGN before.name before.tag) }
@@ -83,7 +111,7 @@ impl<T: Pointable> Atomic<T> {
         Err(UpdateFault::RanOut(read(seen, guard)))
     }
 
-    /// Changes the tag to that which it has in common with this one, bit by bit, and answers the pointer before.
+    /// Clears the bits of the tag that aren't set in `tag`, and answers the pointer before.
     pub fn fetch_and<'g, W>(
         &self,
         tag: usize,
@@ -93,11 +121,12 @@ impl<T: Pointable> Atomic<T> {
         ensures read { IsRead T.ALIGN result.name result.tag }
         ensures below { result.tag < T.ALIGN }
         ensures home { IsUnder guard.now.collector.now.id result.home }
+        ensures did { ChangesTag T.ALIGN (A.did self.now.word) (And tag) result }
     {
-        self.change_tag(order, guard, |before| before & tag)
+        self.change_tag(TagChange::And(tag), order, guard)
     }
 
-    /// Sets the bits of the tag that are set in this one, and answers the pointer before.
+    /// Sets the bits of the tag that are set in `tag`, and answers the pointer before.
     pub fn fetch_or<'g, W>(
         &self,
         tag: usize,
@@ -107,11 +136,12 @@ impl<T: Pointable> Atomic<T> {
         ensures read { IsRead T.ALIGN result.name result.tag }
         ensures below { result.tag < T.ALIGN }
         ensures home { IsUnder guard.now.collector.now.id result.home }
+        ensures did { ChangesTag T.ALIGN (A.did self.now.word) (Or tag) result }
     {
-        self.change_tag(order, guard, |before| before | tag)
+        self.change_tag(TagChange::Or(tag), order, guard)
     }
 
-    /// Changes the bits of the tag that are set in this one, and answers the pointer before.
+    /// Flips the bits of the tag that are set in `tag`, and answers the pointer before.
     pub fn fetch_xor<'g, W>(
         &self,
         tag: usize,
@@ -121,28 +151,29 @@ impl<T: Pointable> Atomic<T> {
         ensures read { IsRead T.ALIGN result.name result.tag }
         ensures below { result.tag < T.ALIGN }
         ensures home { IsUnder guard.now.collector.now.id result.home }
+        ensures did { ChangesTag T.ALIGN (A.did self.now.word) (Xor tag) result }
     {
-        self.change_tag(order, guard, |before| before ^ tag)
+        self.change_tag(TagChange::Xor(tag), order, guard)
     }
 
-    // Changes the tag by this function, modulo the alignment, and answers the pointer before.
-    fn change_tag<'g, F: Fn(usize) -> usize + Drop, W>(
+    // Changes the tag, modulo the alignment, and answers the pointer before.
+    fn change_tag<'g, W>(
         &self,
+        change: TagChange,
         order: Ordering,
         guard: &'g Guard<'_, T, W>,
-        change: F,
     ) -> Shared<'g, T>
-        requires { F.IsAlwaysCallable change }
         ensures read { IsRead T.ALIGN result.name result.tag }
         ensures below { result.tag < T.ALIGN }
         ensures home { IsUnder guard.now.collector.now.id result.home }
+        ensures did { ChangesTag T.ALIGN (A.did self.now.word) change result }
     {
         let mut seen = self.word.load(order);
         // No try is lost so often.
         for _ in 0..u64::MAX {
             let before = read(seen, guard);
-            let tag = tag_of::<T>(change(before.tag()));
-            let word = pointer_word::<T>(before.name, tag);
+            let tag = tag_of::<T>(change.of(before.tag()));
+            let word = number(before.name, tag);
             match self.exchange_tag(seen, word, order) {
                 Ok(_) => return before,
                 Err(found) => seen = found,
@@ -157,6 +188,8 @@ impl<T: Pointable> Atomic<T> {
         requires same_name { (name : Option Name) × HasName expected name × HasName new name }
         ensures ok { IfOk result (λ found. found ≡ expected) }
         ensures err { IfErr result (λ found. (found ≢ expected) × IsPointerWord found) }
+        ensures won { IfOk result (λ found. A.did self.now.word (Exchanges expected new)) }
+        ensures lost { IfErr result (λ found. A.did self.now.word (Misses expected found)) }
     {
         self.exchange_word(expected, new, order, order)
     }

@@ -1,10 +1,12 @@
 //! The word of a pointer: `turn * 2^32 + slot * 2^8 + tag`, where null has slot 0 and turn 0.
-ghost use Rattle.std.specs.Prelude.{◌≡◌, ◌%◌};
+ghost use Rattle.std.specs.Prelude.{◌≡◌, ◌≢◌, ◌%◌, IfOk, IfErr};
 ghost use Rattle.epoch_atomic.specs.Pointers.{tagged_word, tag_in, HasName, IsPointerWord};
+ghost use Rattle.epoch_atomic.specs.WordSteps.{WordStep};
+ghost use Rattle.epoch_atomic.specs.WordSteps.WordStep.{Begins, Loads, Stores, Swaps, Exchanges, Misses};
 
 use epoch_cells::Name;
 use epoch_values::{Pointable, tag_of};
-use std::sync::atomic::Rule;
+use std::sync::atomic::{AtomicIn, Ordering, Rule};
 
 /// The rule of a pointer's word, which threads share: null has turn 0.
 pub struct PointerWord;
@@ -12,6 +14,110 @@ pub struct PointerWord;
 impl Rule for PointerWord {
     ghost invariant = { IsPointerWord };
 }
+
+/// A word that threads share, in which a pointer stands.
+///
+/// Each call makes one atomic step, which acts as `SeqCst`, whichever ordering is asked for.
+pub trait SharedWord: Sized {
+    /// This step was made on the word. If the type is a parameter, nothing but the calls below shows it.
+    ghost did: { Self → WordStep → Type 0 };
+
+    /// Makes a word that holds this number.
+    fn begin(word: u64) -> Self
+        requires rule { IsPointerWord word }
+        ensures did { did result (Begins word) };
+
+    /// Loads the number.
+    fn load(&self, order: Ordering) -> u64
+        ensures rule { IsPointerWord result }
+        ensures did { did self.now (Loads result) };
+
+    /// Stores this number.
+    fn store(&self, word: u64, order: Ordering)
+        requires rule { IsPointerWord word }
+        ensures did { did self.now (Stores word) };
+
+    /// Stores this number, and answers the one before.
+    fn swap(&self, word: u64, order: Ordering) -> u64
+        requires rule { IsPointerWord word }
+        ensures before { IsPointerWord result }
+        ensures did { did self.now (Swaps result word) };
+
+    /// Stores `new` if the number is `expected`, and answers the number that it found. `Err`: it found another number,
+    /// and nothing was stored.
+    fn compare_exchange(
+        &self,
+        expected: u64,
+        new: u64,
+        success: Ordering,
+        failure: Ordering,
+    ) -> Result<u64, u64>
+        requires rule { IsPointerWord new }
+        ensures ok { IfOk result (λ found. found ≡ expected) }
+        ensures err { IfErr result (λ found. (found ≢ expected) × IsPointerWord found) }
+        ensures won { IfOk result (λ found. did self.now (Exchanges expected new)) }
+        ensures lost { IfErr result (λ found. did self.now (Misses expected found)) };
+}
+
+impl SharedWord for AtomicIn<PointerWord> {
+    ghost did = { λ _ _. Unit {0} };
+
+    #[inline(always)]
+    fn begin(word: u64) -> AtomicIn<PointerWord>
+        requires rule { IsPointerWord word }
+        ensures did { Unit {0} }
+    {
+        AtomicIn::new(word)
+    }
+
+    #[inline(always)]
+    fn load(&self, order: Ordering) -> u64
+        ensures rule { IsPointerWord result }
+        ensures did { Unit {0} }
+    {
+        self.load(order)
+    }
+
+    #[inline(always)]
+    fn store(&self, word: u64, order: Ordering)
+        requires rule { IsPointerWord word }
+        ensures did { Unit {0} }
+    {
+        self.store(word, order)
+    }
+
+    #[inline(always)]
+    fn swap(&self, word: u64, order: Ordering) -> u64
+        requires rule { IsPointerWord word }
+        ensures before { IsPointerWord result }
+        ensures did { Unit {0} }
+    {
+        self.swap(word, order)
+    }
+
+    #[inline(always)]
+    fn compare_exchange(
+        &self,
+        expected: u64,
+        new: u64,
+        success: Ordering,
+        failure: Ordering,
+    ) -> Result<u64, u64>
+        requires rule { IsPointerWord new }
+        ensures ok { IfOk result (λ found. found ≡ expected) }
+        ensures err { IfErr result (λ found. (found ≢ expected) × IsPointerWord found) }
+        ensures won { IfOk result (λ found. Unit {0}) }
+        ensures lost { IfErr result (λ found. Unit {0}) }
+    {
+        self.compare_exchange(expected, new, success, failure)
+    }
+}
+
+/// Tells in which kind of word pointers to a type stand. There is one kind, and only this impl, so `Atomic::null()` and
+/// its like need no type.
+pub trait HasWord<A> {}
+
+impl<T> HasWord<AtomicIn<PointerWord>> for T {}
 
 // The number that a pointer is compared by, and its word.
 #[inline(always)]

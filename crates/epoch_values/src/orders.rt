@@ -1,14 +1,14 @@
 //! The orderings of an exchange.
 ghost use Rattle.std.specs.Prelude.{◌≡◌};
 ghost use Rattle.std.specs.declared.sync.atomic.Ordering.{Ordering};
-ghost use Rattle.epoch_atomic.specs.Orders.{failure_of};
+ghost use Rattle.epoch_values.specs.Orders.{failure_of};
 
 use std::sync::atomic::Ordering;
 
-/// One ordering, or a pair of them, for [`Atomic::compare_and_set`](crate::atomic::Atomic::compare_and_set).
+/// One ordering, or a pair of them, for `Atomic::compare_and_set`.
 ///
-/// Of a pair, the first is for an exchange that is won, and the second for one that is lost. One ordering alone stands
-/// for these two:
+/// The first of a pair is for an exchange that is won, and the second for one that is lost. One ordering stands for
+/// this pair:
 ///
 /// | Given | Won | Lost |
 /// |---|---|---|
@@ -18,18 +18,18 @@ use std::sync::atomic::Ordering;
 /// | `AcqRel` | `AcqRel` | `Acquire` |
 /// | `SeqCst` | `SeqCst` | `SeqCst` |
 ///
-/// The exchange acts as `SeqCst` whichever is asked for. In crossbeam-epoch this trait and `compare_and_set` are
-/// deprecated: use [`Atomic::compare_exchange`](crate::atomic::Atomic::compare_exchange).
+/// The exchange acts as `SeqCst`, whichever ordering is asked for. In crossbeam-epoch this trait and `compare_and_set`
+/// are deprecated: use `Atomic::compare_exchange`.
 pub trait CompareAndSetOrdering {
     ghost success_order: { Self → Ordering };
 
     ghost failure_order: { Self → Ordering };
 
-    /// The ordering of an exchange that is won.
+    /// Answers the ordering of an exchange that is won.
     fn success(&self) -> Ordering
         ensures { result ≡ success_order self.now };
 
-    /// The ordering of an exchange that is lost.
+    /// Answers the ordering of an exchange that is lost.
     fn failure(&self) -> Ordering
         ensures { result ≡ failure_order self.now };
 }
