@@ -1,4 +1,4 @@
-//! A list of numbers, each of which can be crossed out: a mark in a pointer's tag, and a walk of so many steps.
+//! A list of numbers, each of which can be crossed out: a mark in a pointer's tag, and a walk of a bounded length.
 ghost use Rattle.std.specs.Prelude.{◌≡◌, refl};
 ghost use Rattle.std.proofs.Common.{lit≤};
 
@@ -45,7 +45,7 @@ pub struct List {
 }
 
 impl List {
-    /// An empty list.
+    /// Makes an empty list.
     pub fn new() -> List {
         List {
             first: Atomic::null(),
@@ -85,8 +85,8 @@ impl List {
         Err(Fault::TriesOut)
     }
 
-    /// Crosses the number out where it stands first, in a walk of at most `steps` entries, and says whether this call
-    /// did it: of several threads that cross out one entry, one is told `true`.
+    /// Crosses the number out where it stands first, in a walk of at most `steps` entries, and answers whether this
+    /// call did it: of several threads that cross out one entry, exactly one is told `true`.
     ///
     /// `TriesOut`: the walk ended before the list did, or an entry wasn't lent for reading.
     pub fn cross_out(

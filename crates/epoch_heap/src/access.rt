@@ -20,7 +20,7 @@ pub enum Spot {
     Field(Name, u64),
 }
 
-/// What the function of an update answers for the pointer that it is given.
+/// What the function of an update answers to the pointer that it is given.
 #[derive(Clone, Copy, Debug, PartialEq, Eq)]
 pub enum Update {
     /// That pointer with this tag.
@@ -40,17 +40,17 @@ pub enum Change {
     Store(Ptr),
     /// Writes this one, and answers the one before.
     Swap(Ptr),
-    /// Writes the second pointer where the first one stands, with its tag; else nothing changes.
+    /// Writes the second pointer if the first one stands there, with its tag. Otherwise nothing changes.
     CompareExchange(Ptr, Ptr),
-    /// Changes the tag alone, by these bits, and answers the pointer before; so do the next two.
+    /// Changes only the tag, by these bits, and answers the pointer before. So do the next two.
     FetchAnd(u64),
     FetchOr(u64),
     FetchXor(u64),
-    /// Loads, and then exchanges what it found for the function's answer, so often at most.
+    /// Loads the pointer, and then exchanges what it found for the function's answer, in at most this many tries.
     FetchUpdate(u64, Update),
 }
 
-/// A call on cells and pointers. No guard: an unprotected one, or the call has none.
+/// A call on cells and pointers. `None` for a guard: the guard is unprotected, or the call has none.
 #[derive(Clone, Copy, Debug, PartialEq, Eq)]
 pub enum Access {
     /// Places this value in the first cell that is free.
@@ -59,16 +59,16 @@ pub enum Access {
     Read(Option<u64>, Ptr),
     /// Ends the reading.
     Leave(Ptr),
-    /// Writes the value of the pointer's cell, if nobody reads it.
+    /// Writes the value of the pointer's cell, if no participant reads it.
     Write(Option<u64>, Ptr, u64),
-    /// Takes the value out of the pointer's cell, if nobody reads it.
+    /// Takes the value out of the pointer's cell, if no participant reads it.
     Take(Option<u64>, Ptr),
     /// One or more steps on the pointer at this spot.
     Point(Option<u64>, Spot, Change),
 }
 
 impl Access {
-    /// The guard that the call names, if it is a protecting one. A `Place` and a `Leave` name none.
+    /// Answers the guard that the call names, if it is a protecting one. A `Place` and a `Leave` name none.
     pub fn guard(self) -> Option<u64>
         ensures { result ≡ guard_of self }
     {
@@ -85,7 +85,7 @@ impl Access {
 pub enum Answer {
     /// A pin: the number of the guard, from 0 to 63.
     Guard(u64),
-    /// The call is done, and tells no more.
+    /// The call is done, and answers nothing else.
     Unit,
     /// A release: the position is free.
     Released,
@@ -95,13 +95,13 @@ pub enum Answer {
     Name(Name),
     /// The value that was read or taken.
     Value(u64),
-    /// The cell is gone, or is read where nobody may; nothing was done.
+    /// The cell is gone, or is read when it may not be. Nothing was done.
     Absent,
     /// The pointer that stood there.
     Pointer(Ptr),
     /// The pointer written.
     Exchanged(Ptr),
-    /// The pointer that stands there, and isn't the one expected.
+    /// The pointer that was found, which isn't the one expected.
     Unchanged(Ptr),
     /// The pointer before the update.
     Updated(Ptr),

@@ -57,9 +57,9 @@ impl Model for Heap {
 }
 
 impl Heap {
-    /// A heap of `roots` roots, all null, and `cells` cells, all free, each of which begins at `start_turn`.
+    /// Makes a heap of `roots` roots, all null, and `cells` cells, all free, each of which begins at `start_turn`.
     ///
-    /// `NoMemory`: an allocation was refused.
+    /// `NoMemory`: an allocation was refused, and nothing was made.
     pub fn new(
         alloc: Global,
         roots: usize,
@@ -90,7 +90,7 @@ impl Heap {
         })
     }
 
-    /// How many slots there are.
+    /// Answers how many slots there are.
     pub fn slots(&self) -> usize
         ensures value { result ≡ length self.now.cells }
         ensures within { result ≤ 16777215 }
@@ -98,10 +98,10 @@ impl Heap {
         self.cells.capacity()
     }
 
-    /// Calls a job: the removal of this name, or work.
+    /// Calls a job, the removal of this name or work, and answers what that did.
     ///
-    /// A removal of a cell that nobody reads empties it, for its next turn. One of a cell that is read, or that is
-    /// gone, changes nothing. So does work.
+    /// The removal of a cell that no participant reads empties the cell, for its next turn. The removal of a cell that
+    /// is read, or that is gone, changes nothing, and work changes nothing.
     pub fn call_job(&mut self, removes: Option<Name>) -> Called
         ensures outcome { result ≡ outcome_of self.old removes }
         ensures after { self.new ≡ heap_after_job self.old removes }
@@ -116,10 +116,10 @@ impl Heap {
         }
     }
 
-    /// One step of a call that has made `made` steps, and found this pointer last. It takes no memory.
+    /// Takes one step of a call that has made `made` steps, and found this pointer last. It takes no memory.
     ///
-    /// A cell that is read isn't written or taken, and a name whose cell is gone is told as absent. An exchange writes
-    /// exactly where name and tag are those expected, each tag taken modulo the alignment.
+    /// A cell that is being read isn't written or taken, and a name whose cell is gone is answered `Absent`. An
+    /// exchange writes exactly if name and tag are those expected, each tag taken modulo the alignment.
     pub fn touch(&mut self, access: Access, made: u64, found: Ptr) -> Accessed
         requires { AccessFits access made }
         ensures step { Touches access made found self.old (touched result self.new) }
@@ -331,7 +331,7 @@ impl Heap {
         }
     }
 
-    /// Whether there is such a root or field.
+    /// Answers whether there is such a root or field.
     pub fn has_place(&self, access: Access) -> bool
         ensures { result ≡ has_place self.now access }
     {
@@ -342,7 +342,7 @@ impl Heap {
         }
     }
 
-    /// Whether each name that the call is given was given before.
+    /// Answers whether each name that the call is given was given before.
     pub fn knows_names(&self, access: Access) -> bool
         ensures { result ≡ knows_names self.now access }
     {
@@ -386,7 +386,7 @@ impl Heap {
         }
     }
 
-    /// Whether it is a name that was given.
+    /// Answers whether it is a name that was given.
     pub fn is_removable(&self, name: Option<Name>) -> bool
         ensures { result ≡ is_removable self.now name }
     {
@@ -434,7 +434,7 @@ fn is_same_one(one: Name, other: Name) -> bool
     one.slot() == other.slot() && one.turn() == other.turn()
 }
 
-/// Whether the two names are the same.
+/// Answers whether the two names are the same.
 pub fn is_name(one: Name, other: Name) -> bool
     ensures { result ≡ is_name one other }
 {

@@ -4,10 +4,10 @@ ghost use Rattle.epoch_laws.specs.Grace.{WithdrawsAt, StaysPinned, IsBlocked, Ke
 
 use epoch_laws::{Entry, Reply};
 
-/// Whether no job is called while a participant that was pinned when it was deferred has stayed pinned.
+/// Answers whether no job is called while a participant that was pinned at the job's deferral has stayed pinned.
 ///
-/// It takes no memory. Its time grows with the third power of the number of entries where each ticket is deferred
-/// once, and with the fourth at worst.
+/// It takes no memory. Its time grows with the third power of the number of entries if each ticket is deferred once,
+/// and with the fourth at worst.
 pub fn keeps_grace(entries: &[Entry]) -> bool
     ensures { IsTrue result ↔ KeepsGrace entries.now }
 {

@@ -16,11 +16,15 @@ use crate::tickets::{calls_after_deferrals, calls_none_twice};
 use epoch_heap::{Access, Answer, Change};
 use epoch_laws::{Call, Entry, Reply, Step};
 
-/// Whether each event stands only in the calls in which it may and as often as it should, each call begins only of a
-/// participant that is registered and has none under way, and whose guards allow it, and is done with its own kind of
-/// answer, and each job is called at most once, after it was deferred; whether each position given is the lowest free
-/// one, each guard given the lowest that isn't counted, each refusal one that a world may give then, and an end is
-/// accepted once, when each participant has left, and takes its steps from then on until it is done.
+/// Answers whether a recorded list is lawful:
+///
+/// - Each event stands only in a call that may tell it, and as often as it should.
+/// - Each call begins only for a participant that is registered, has no call under way, and whose guards allow it. It
+///   is done with its own kind of answer.
+/// - Each job is called at most once, after it was deferred.
+/// - Each position that is given is the lowest free one, and each guard the lowest that isn't counted.
+/// - Each refusal is one that a world may give then.
+/// - An end is accepted once, when each participant has left, and takes its steps from then until it is done.
 ///
 /// It takes no memory. Its time grows with the third power of the number of entries at worst.
 pub fn is_lawful(entries: &[Entry]) -> bool
@@ -88,7 +92,7 @@ fn may_accept(before: &[Entry], participant: u64, call: Call) -> bool
         && guards_allow(before, participant, call, known.paused)
 }
 
-/// Whether this call has to wait for the guard that is paused.
+/// Answers whether this call has to wait for the guard that is paused.
 pub fn waits(call: Call, paused: Option<u64>) -> bool
     ensures { result ≡ call_waits call paused }
 {

@@ -9,7 +9,7 @@ ghost use Rattle.epoch_laws.specs.Fits.{IsLawful};
 ghost use Rattle.epoch_laws.specs.Full.{FullWhereFound};
 ghost use Rattle.epoch_laws.specs.Refusals.{RefusedAlong, all_quiet, none_collected};
 
-/// No job is called while a participant that was pinned when it was deferred has stayed pinned.
+/// No job is called while a participant that was pinned at the job's deferral has stayed pinned.
 pub fn every_run_keeps_grace()
     ensures { (s new : State) (log : List Entry) → IsFresh s → Runs s log new → KeepsGrace log }
 {}
@@ -30,7 +30,7 @@ pub fn every_end_calls_all()
         → times_called t log ≡ times_deferred t log }
 {}
 
-/// An end that answers how many jobs it called has called exactly that many, and every accepted job was called.
+/// An end that answers how many jobs it called has called exactly that many. By then every accepted job was called.
 pub fn every_end_answers_its_calls()
     ensures { (s new : State) (log : List Entry) → IsFresh s → Runs s log new → EndsAtCount log }
 {}
@@ -40,16 +40,16 @@ pub fn every_run_is_lawful()
     ensures { (s new : State) (log : List Entry) → IsFresh s → Runs s log new → IsLawful log }
 {}
 
-/// A call is refused at its end because the bags are full exactly where its put found each place of the store occupied,
-/// each at a step that it took since the call began: one that looked at the place and didn't put the bag.
+/// A call is refused with `BagsFull` at its end exactly if its put found each place of the store occupied, each at a
+/// step of its own since the call began: one that looked at the place and didn't put the bag.
 pub fn every_full_reply_found_each_place()
     ensures { (s new : State) (log : List Entry) → IsFresh s → FullWhereFound s log new }
 {}
 
-/// A Begin, a Register or an End that is refused changes nothing. A call that is refused because the bags are full
-/// leaves its guards and its held bag as they were when it began: a deferral has changed no word, epoch, bag or ticket,
-/// a flush has collected, and a release leaves its position taken and unpinned. No other call is refused so. A place
-/// that is refused because no cell is free has changed nothing, and no other call is refused so.
+/// A `Begin`, a `Register` or an `End` that is refused changes nothing. A call that is refused with `BagsFull` leaves
+/// its guards and its held bag as they were when it began. A deferral has changed no word, epoch, bag or ticket; a
+/// flush has collected; and a release leaves its position taken and unpinned. No other call is refused with that fault.
+/// A `Place` that is refused with `CellsFull` has changed nothing, and no other call is refused with that fault.
 pub fn every_refusal_leaves_what_it_must()
     ensures { (s new : State) (log : List Entry) → IsFresh s → (run : Runs s log new)
         → RefusedAlong (seat_of s) all_quiet none_collected s new log run }

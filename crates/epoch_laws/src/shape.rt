@@ -4,16 +4,16 @@ ghost use Rattle.epoch_laws.specs.Shapes.{IsValid, is_align};
 
 use epoch_bags::GREATEST_EPOCH;
 
-/// How many jobs a bag takes, where nothing else is said: `MAX_OBJECTS` of crossbeam-epoch.
+/// How many jobs a bag usually takes: `MAX_OBJECTS` of crossbeam-epoch.
 const USUAL_BAG_JOBS: u64 = 64;
 
-/// How many bags a collection takes at most, where nothing else is said: `COLLECT_STEPS` of crossbeam-epoch.
+/// How many bags a collection usually takes at most: `COLLECT_STEPS` of crossbeam-epoch.
 const USUAL_COLLECT_BAGS: u64 = 8;
 
 /// The numbers that a world is made for.
 #[derive(Clone, Copy, Debug, PartialEq, Eq)]
 pub struct Shape {
-    /// How many participants there may be, from 1 to 64.
+    /// How many participants there can be at a time, from 1 to 64.
     pub participants: u64,
     /// How many cells there are, from 0 to 4096.
     pub cells: u64,
@@ -36,9 +36,9 @@ pub struct Shape {
 }
 
 impl Shape {
-    /// A shape with these numbers of participants, cells, roots and fields, and the usual ones for the rest: four
-    /// places for bags; 64 jobs a bag and 8 bags a collection, as in crossbeam-epoch; tags below 8, as of a value of
-    /// eight bytes; and 0 for the first epoch and turn.
+    /// Answers a shape with these numbers of participants, cells, roots and fields, and the usual ones for the rest:
+    /// four places for bags; 64 jobs for each bag and 8 bags for each collection, as in crossbeam-epoch; tags below 8,
+    /// as a value of eight bytes has; and 0 for the first epoch and turn.
     pub fn usual(participants: u64, cells: u64, roots: u64, fields: u64) -> Shape
         ensures participants { result.participants ≡ participants }
         ensures cells { result.cells ≡ cells }
@@ -65,7 +65,7 @@ impl Shape {
         }
     }
 
-    /// Whether each number is in its range.
+    /// Answers whether each number is in its range.
     pub fn is_valid(&self) -> bool
         ensures { IsTrue result ↔ IsValid self.now }
     {

@@ -9,11 +9,11 @@ use epoch_heap::{Access, Answer, Ptr};
 pub enum Call {
     /// Pins, and answers the new guard's number.
     Pin,
-    /// Spends the guard.
+    /// Gives the guard back.
     Unpin(Option<u64>),
-    /// Publishes the present epoch, where the guard is the only one.
+    /// Publishes the present epoch, if the guard is the only one.
     Repin(Option<u64>),
-    /// Spends the guard until the same one is resumed.
+    /// Gives the guard back until the same one is resumed.
     Pause(Option<u64>),
     /// Pins again under the paused guard.
     Resume(Option<u64>),

@@ -1,3 +1,4 @@
 mod LoneWorld
 mod LoneCalls
 mod ThreeRounds
+mod ListedSteps

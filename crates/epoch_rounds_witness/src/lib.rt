@@ -1,4 +1,4 @@
-//! A run of a world that meets all that the law of rounds asks for.
+//! Two runs of a world: one that the law of rounds speaks of, and one that shows how long a bag has to wait.
 #![tactic(auto)]
 
 ghost use Rattle.std.specs.Prelude.{ℕ, List};
@@ -6,8 +6,12 @@ ghost use Rattle.epoch_laws.specs.declared.step.Entry.{Entry};
 ghost use Rattle.epoch_laws.specs.Run.{State};
 ghost use Rattle.epoch_rounds_witness.specs.Met.{MeetsRounds};
 
-/// The law of rounds, `quiet_rounds_call_all` of epoch_rounds_laws, is said of something: some run of a world meets all
-/// its premises, with a bag in the store whose job its rounds have to call.
+mod sharp;
+
+pub use sharp::sharp_steps;
+
+/// Some run of a world meets all premises of the law of rounds, `quiet_rounds_call_all` of epoch_rounds_laws, with a
+/// bag in the store whose job its rounds have to call.
 pub fn some_run_empties_its_store()
     ensures { (fresh s put new : State) × (p : ℕ) × (earlier before after others : List Entry)
         × MeetsRounds fresh s put new p earlier before after others }

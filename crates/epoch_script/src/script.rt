@@ -36,7 +36,7 @@ pub enum Ending {
 }
 
 impl Ending {
-    /// The exit status that tells of it.
+    /// Answers the exit status that tells of it.
     pub fn status(self) -> u8
         ensures { result ≡ status_of self }
     {
@@ -165,7 +165,7 @@ impl<R: BufRead> Script<'_, R> {
         str::from_utf8(&self.line).ok()
     }
 
-    /// The shape that the line says. `NotAShape`: it says none.
+    /// Answers the shape that the line says. `NotAShape`: it says none.
     pub fn shape(&self) -> Result<Shape, Ending>
         ensures ok { IfOk result (λ shape. SpellsShape shape self.now.line.items) }
         ensures says { (shape : Shape) → IsUtf8 self.now.line.items
@@ -177,7 +177,7 @@ impl<R: BufRead> Script<'_, R> {
         read_shape(text).ok_or(fault)
     }
 
-    /// What the line asks for. `NotAStep`: it asks for nothing.
+    /// Answers what the line asks for. `NotAStep`: it asks for nothing.
     pub fn command(&self) -> Result<Command, Ending>
         ensures ok { IfOk result (λ command. SpellsCommand command self.now.line.items) }
         ensures says { (command : Command) → IsUtf8 self.now.line.items

@@ -18,6 +18,5 @@ pub mod WorldSteps
 pub mod CollectionSteps
 pub mod FreeSeats
 pub mod RoomSteps
-pub mod ListedSteps
 pub mod RoomForReadings
 pub mod SteppedOnce

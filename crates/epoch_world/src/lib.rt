@@ -1,7 +1,6 @@
 //! The world: all participants over lists of steps, one atomic step at a time, in runs for which the laws hold.
 #![tactic(auto)]
 
-mod sharp;
 mod world;
 
 pub use epoch_heap::{Access, Answer, Change, Ptr, Spot, Update};
@@ -17,5 +16,4 @@ pub use epoch_reach_laws::{
     every_run_calls_what_was_deferred, every_run_gives_no_name_twice, every_run_keeps_reach,
     some_run_loses_reach,
 };
-pub use sharp::sharp_steps;
 pub use world::{Seat, World};

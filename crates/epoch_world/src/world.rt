@@ -53,7 +53,7 @@ enum EndStage {
     Over,
 }
 
-/// All participants of one collector, over a store of bags.
+/// All participants of one collector, over a store of bags. A test chooses which of them takes the next step.
 #[derive(Drop)]
 pub struct World<S: BagStore<Job = Deferral> = Places<Deferral>> {
     alloc: Global,
@@ -94,9 +94,9 @@ impl<S: BagStore<Job = Deferral>> Model for World<S> {
 }
 
 impl<S: BagStore<Job = Deferral>> World<S> {
-    /// A new world of this shape: no participant is registered, nothing is deferred, and the store is empty.
+    /// Makes a world of this shape: no participant is registered, nothing is deferred, and the store is empty.
     ///
-    /// `NoMemory`: an allocation was refused.
+    /// The shape must be valid: `Shape::is_valid`. `NoMemory`: an allocation was refused, and nothing was made.
     pub fn new(alloc: Global, shape: Shape) -> Result<World<S>, Fault>
         requires { IsValid shape }
         ensures fresh { IfOk result IsFresh }
@@ -149,9 +149,9 @@ impl<S: BagStore<Job = Deferral>> World<S> {
 
     /// Takes these steps, one after the other, and answers one reply for each.
     ///
-    /// `NoMemory`: there was no room for the replies, and nothing was done. What holds of the list holds together with
-    /// every earlier run that leads from a new world to the state before it, so lists given one after the other count
-    /// as one list.
+    /// `NoMemory`: there was no memory for the replies, and no step was taken. The laws hold of this list together with
+    /// every earlier run that leads from a new world to the state before it: lists that are given one after the other
+    /// count as one list.
     pub fn run(&mut self, steps: &[Step]) -> Result<Vec<Reply>, Fault>
         // Steps and replies lead from the state before to the state after, one atomic step each.
         ensures runs { IfOk result (λ replies. Runs self.old (entries_of steps.now replies.items) self.new) }
@@ -184,7 +184,7 @@ impl<S: BagStore<Job = Deferral>> World<S> {
         // full bags.
         ensures few { IfOk result (AlongSteps self.old steps.now
             (λ fresh log. (run : Runs fresh log self.new) → CollectsFew fresh log self.new run)) }
-        // A call that is refused leaves all as it was when it began, but for what each call may change.
+        // A call that is refused leaves all as it was when it began, except for what each call may change.
         ensures refused { IfOk result (AlongSteps self.old steps.now
             (λ fresh log. (run : Runs fresh log self.new)
             → RefusedAlong (seat_of fresh) all_quiet none_collected fresh self.new log run)) }
@@ -217,10 +217,10 @@ impl<S: BagStore<Job = Deferral>> World<S> {
         Ok(replies)
     }
 
-    /// Begins this participant's call and goes on until it ends, and answers a reply for each step.
+    /// Begins this participant's call, goes on until it ends, and answers a reply for each step.
     ///
-    /// A refused call has one reply. `NoMemory`: there was no room for the replies, and nothing was done. What holds
-    /// of the steps holds together with every earlier run, as for [`World::run`].
+    /// A call that is refused at once has one reply. `NoMemory`: there was no memory for the replies, and no step was
+    /// taken. The laws hold of these steps together with every earlier run, as for [`World::run`].
     pub fn call(&mut self, participant: u64, call: Call) -> Result<Vec<Reply>, Fault>
         // It is a run of Begin, and then of Go.
         ensures runs { IfOk result (λ replies. Runs self.old (call_entries participant call replies.items) self.new) }
@@ -250,7 +250,7 @@ impl<S: BagStore<Job = Deferral>> World<S> {
         // full bags.
         ensures few { IfOk result (AlongCall self.old participant call
             (λ fresh log. (run : Runs fresh log self.new) → CollectsFew fresh log self.new run)) }
-        // A call that is refused leaves all as it was when it began, but for what each call may change.
+        // A call that is refused leaves all as it was when it began, except for what each call may change.
         ensures refused { IfOk result (AlongCall self.old participant call
             (λ fresh log. (run : Runs fresh log self.new)
             → RefusedAlong (seat_of fresh) all_quiet none_collected fresh self.new log run)) }
@@ -301,7 +301,7 @@ impl<S: BagStore<Job = Deferral>> World<S> {
         Ok(replies)
     }
 
-    /// Takes one step. It takes no memory.
+    /// Takes one step, and answers its reply. It takes no memory.
     pub fn step(&mut self, step: Step) -> Reply
         ensures takes { TakesStep self.old step result self.new }
         // A Go makes at most one step of the store, as the store says of its own steps.
@@ -317,14 +317,14 @@ impl<S: BagStore<Job = Deferral>> World<S> {
         }
     }
 
-    /// The present epoch. It is no step.
+    /// Answers the present epoch. It is no step.
     pub fn epoch(&self) -> u64
         ensures { result ≡ self.now.epoch }
     {
         self.common.epoch
     }
 
-    /// The word of the participant at a position, or `None` past the table. It is no step.
+    /// Answers the word of the participant at a position, or `None` past the table. It is no step.
     pub fn word(&self, position: u64) -> Option<u64>
         ensures { MatchOption result (length self.now.seats ≤ position)
             (λ word. (position < length self.now.seats) × (word ≡ word_number (position_word self.now position))) }
@@ -333,8 +333,8 @@ impl<S: BagStore<Job = Deferral>> World<S> {
         Some(number_of(seat.word()))
     }
 
-    /// Whether the held bag of the participant at a position takes a further job without being put first, or `None`
-    /// where nobody is registered. It is no step.
+    /// Answers whether the held bag of the participant at a position takes a further job without being put first, or
+    /// `None` where no participant is registered. It is no step.
     pub fn has_room(&self, position: u64) -> Option<bool>
         ensures value { MatchOption result (position_word self.now position ≡ Word.Free)
             (λ room. (position_word self.now position ≢ Word.Free)
@@ -360,7 +360,7 @@ impl<S: BagStore<Job = Deferral>> World<S> {
         Reply::Registered(index as u64)
     }
 
-    /// The fault that refuses this call of the participant at a position now, or `None`. It is no step.
+    /// Answers the fault that refuses this call of the participant at a position now, or `None`. It is no step.
     pub fn refusal(&self, position: u64, call: Call) -> Option<Fault>
         ensures { result ≡ refusal call (seat_of self.now position) self.now.tickets self.now.heap }
     {
@@ -473,7 +473,7 @@ fn free_seats(alloc: Global, count: usize, sizes: Sizes) -> Result<Vec<Seat>, Fa
     Ok(seats)
 }
 
-/// So many copies of a cursor.
+/// A list of `count` copies of a cursor.
 fn repeated<C: Copy + Drop>(alloc: Global, count: usize, cursor: C) -> Result<Vec<C>, Fault>
     ensures ok { IfOk result (λ cursors. length cursors.items ≡ count) }
     ensures no_memory { IfErr result (λ fault. fault ≡ NoMemory) }

@@ -2,7 +2,8 @@
 
 use crate::wants::want;
 use epoch_base::{Fault, Places};
-use epoch_world::{Answer, Call, Deferral, Reply, Shape, Step, World, sharp_steps};
+use epoch_rounds_witness::sharp_steps;
+use epoch_world::{Answer, Call, Deferral, Reply, Shape, Step, World};
 use std::alloc::Global;
 use std::process::Abort;
 use std::test::Fail;

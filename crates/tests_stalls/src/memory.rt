@@ -10,7 +10,8 @@ use epoch_base::table::Participants;
 use epoch_base::{BagQueue, Cells, Fault, Places, PlainCells};
 use epoch_pin::atomic::{Array, Atomic, Owned, Pointable};
 use epoch_pin::{Capacities, Collector, Guard, unprotected};
-use epoch_world::{Shape, World, sharp_steps};
+use epoch_rounds_witness::sharp_steps;
+use epoch_world::{Shape, World};
 use std::alloc::{AllocError, Global};
 use std::process::Abort;
 

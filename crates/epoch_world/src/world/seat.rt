@@ -91,7 +91,7 @@ impl Seat {
         })
     }
 
-    /// What its word says.
+    /// Answers what its word says.
     pub fn word(&self) -> Word
         ensures value { result ≡ self.now.word }
         ensures within { WordFits result }
@@ -99,14 +99,14 @@ impl Seat {
         self.word
     }
 
-    /// How far its call is.
+    /// Answers how far its call is.
     pub fn progress(&self) -> Progress
         ensures { result ≡ self.now.progress }
     {
         self.progress
     }
 
-    /// Whether its held bag takes a further job without a put, or `None` at a free position.
+    /// Answers whether its held bag takes a further job without a put, or `None` at a free position.
     pub fn has_room(&self) -> Option<bool>
         ensures value { MatchOption result (self.now.word ≡ Word.Free) (λ room. (self.now.word ≢ Word.Free)
             × (IsTrue room ↔ (length self.now.machine.held < self.now.machine.sizes.bag_jobs))) }
@@ -119,7 +119,7 @@ impl Seat {
         }
     }
 
-    /// What its machine asks for.
+    /// Answers what its machine asks for.
     pub fn ask(&self) -> Option<Ask>
         ensures value { result ≡ asks self.now.machine }
         ensures within { IfSome result (AskFits self.now.machine.sizes) }

@@ -2,18 +2,20 @@
 ghost use Rattle.std.specs.Prelude.{◌≡◌, [], ◌∷◌, ◌++◌, IfOk, IfErr};
 ghost use Rattle.epoch_cells.specs.declared.fault.Fault.TheVariants.{NoMemory};
 ghost use Rattle.epoch_rounds_laws.specs.Sharp.{LeadsToSharp};
-ghost use Rattle.epoch_world.specs.Listed.{ListsStep, ListsCall};
+ghost use Rattle.epoch_rounds_witness.specs.Listed.{ListsStep, ListsCall};
 
-use crate::world::World;
 use epoch_bags::BagStore;
 use epoch_cells::Fault;
 use epoch_laws::{Call, Deferral, Step};
+use epoch_world::World;
 use std::alloc::Global;
 
-/// Takes steps in a world, and answers them. In a new world of two participants, with room for a bag, from epoch 0 on,
-/// they end with a whole collection for an epoch one past the seal of that bag. In it is a job that a participant
-/// other than the one that deferred it still blocks: were a bag expired one epoch after its seal, that job would be
-/// called too early. So a bag waits two epochs.
+/// Takes steps in a world, and answers them.
+///
+/// If the world is new, of two participants, in epoch 0 and with room for a bag, the steps end with a whole collection
+/// for an epoch one past the seal of a bag. In that bag is a job that a participant other than the one that deferred it
+/// still blocks. If a bag were expired one epoch after its seal, that job would be called too early. So a bag waits two
+/// epochs.
 ///
 /// `NoMemory`: an allocation was refused. The world may have taken some of the steps.
 pub fn sharp_steps<S: BagStore<Job = Deferral>>(

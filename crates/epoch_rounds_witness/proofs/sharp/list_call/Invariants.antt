@@ -1,6 +1,6 @@
 use Rattle.std.proofs.Common.{◌≡◌, ◌++◌, ◌-◌, ◌≤◌}
-use Rattle.epoch_world.proofs.ListedSteps.{gos}
-use Rattle.epoch_world.proofs.sharp.list_call.Given as goal
+use Rattle.epoch_rounds_witness.proofs.ListedSteps.{gos}
+use Rattle.epoch_rounds_witness.proofs.sharp.list_call.Given as goal
 
 -- the counter counts the replies of which the steps are written down
 abbrev pub invariant-loop : goal.invariant-loop

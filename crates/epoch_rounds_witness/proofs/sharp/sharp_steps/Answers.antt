@@ -1,5 +1,5 @@
-use Rattle.epoch_world.proofs.ListedSteps.{lists_none, lists_more, leads_to_sharp}
-use Rattle.epoch_world.proofs.sharp.sharp_steps.Goals as goal
+use Rattle.epoch_rounds_witness.proofs.ListedSteps.{lists_none, lists_more, leads_to_sharp}
+use Rattle.epoch_rounds_witness.proofs.sharp.sharp_steps.Goals as goal
 
 -- the steps are those of the sharp list
 pub returns-clause-sharp : goal.returns-clause-sharp

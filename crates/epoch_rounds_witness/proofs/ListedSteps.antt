@@ -11,7 +11,7 @@ use Rattle.epoch_laws.specs.Calls.{call_entries, goes_of, EndsAtLast}
 use Rattle.epoch_laws.specs.Run.{State}
 use Rattle.epoch_rounds_laws.specs.Sharp.{TakesCalls, sharp_calls, both_register, TakesSharpList, LeadsToSharp}
 use Rattle.epoch_rounds_laws.proofs.SharpList.{sharp, sharp_run}
-use Rattle.epoch_world.specs.Listed.{ListsStep, ListsCall}
+use Rattle.epoch_rounds_witness.specs.Listed.{ListsStep, ListsCall}
 
 -- ONE CALL
 

@@ -1,6 +1,6 @@
 use Rattle.std.proofs.Common.{◌≡◌, length, arith, sym, append-nil}
-use Rattle.epoch_world.proofs.ListedSteps.{gos_on, some_reply, call_listed}
-use Rattle.epoch_world.proofs.sharp.list_call.Goals as goal
+use Rattle.epoch_rounds_witness.proofs.ListedSteps.{gos_on, some_reply, call_listed}
+use Rattle.epoch_rounds_witness.proofs.sharp.list_call.Goals as goal
 
 pub loop-init : goal.loop-init
 loop-init g c = record {
