@@ -8,6 +8,7 @@ use denote.RawPtr.{Ptr}
 use denote.Param.Send.{IsSync}
 use Rattle.std_alloc.proofs.SendSync.{seen}
 use Rattle.epoch_lend.specs.Posts.{Entry, entered, are_over, PostNames, idle, out, at_post}
+use Rattle.epoch_lend.specs.Watching.{entries, watch_owns}
 use Rattle.epoch_lend.specs.Loans.{
   pocket_case,
   Loan,
@@ -51,6 +52,14 @@ shown_keyless s (l ∷ ls) = ((λ _. tt), shown_keyless s ls)
 all_shown_keyless : (ss : List SeenPost) (ls : List Loan) → Keyless (all_shown ss ls)
 all_shown_keyless [] ls = tt
 all_shown_keyless (s ∷ ss) ls = (shown_keyless s ls, all_shown_keyless ss ls)
+
+-- nor does a watch
+entries_keyless : (ls : List Loan) → Keyless (entries ls)
+entries_keyless [] = tt
+entries_keyless (l ∷ ls) = (entered_keyless (l.atom, l.epoch) l.log, entries_keyless ls)
+
+pub watch_keyless : (ls : List Loan) (ss : List SeenPost) → Keyless (watch_owns ls ss)
+watch_keyless ls ss = (entries_keyless ls, all_shown_keyless ss ls)
 
 -- nor does what a mark took out
 pub marked_keyless : (R : RattleType) → IsSync R

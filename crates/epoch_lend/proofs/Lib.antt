@@ -6,3 +6,4 @@ pub mod Posting
 pub mod Reading
 pub mod Fields
 pub mod Sights
+pub mod Watching

@@ -10,7 +10,7 @@ use base.Share
 use base.Fraction.{full_share}
 use base.Stored.{gnum, num}
 use base.Logic.{SProp, ent, sep, upd, upd_i, id⊢, emp}
-use base.Fml.{Fml, ftrue, fsep, fex, flft, fdead, fobs, fauth, flent}
+use base.Fml.{Fml, ftrue, fex, flft, fdead, fobs, fauth, flent}
 use types.Logic.{Logic, sem}
 use types.Kit.{
   ‵,
@@ -57,6 +57,7 @@ use types.Kit.{use3, each, frame}
 use base.Logic.{all_e}
 use base.Fml.{fall}
 use Rattle.epoch_lend.specs.Posts.{IsOneOf, Entry, posted, logs, entered, entered_in, are_over}
+use Rattle.epoch_lend.specs.Watching.{entries}
 use Rattle.epoch_lend.specs.Loans.{
   left_after,
   loan_share,
@@ -197,7 +198,7 @@ module _ {M : Type 1} {𝓤 : Ura M} (𝓛 : Logic 𝓤) (a : ℕ) where
       frame ! $ move ! (1 ∷ 0 ∷ []) $ fjoin ! $ done !
 
   -- the guard of the first loan is over, where one of the looks shows it
-  first_shown : (ss : List SeenPost) (l : Loan) (ls : List Loan) → is_shown ss l ≡ true
+  pub first_shown : (ss : List SeenPost) (l : Loan) (ls : List Loan) → is_shown ss l ≡ true
       → ⟦ all_shown ss (l ∷ ls) ⟧ ⊢ A.dead (l.atom ∷ []) ∗ ⟦ all_shown ss ls ⟧
   first_shown [] l ls shown = absurd (false≢true shown)
   first_shown (s ∷ ss) l ls shown = shown_by_one s ss l ls (first_shown ss l ls) (or_cases (shows s l) (is_shown ss
@@ -219,8 +220,7 @@ module _ {M : Type 1} {𝓤 : Ura M} (𝓛 : Logic 𝓤) (a : ℕ) where
 
   -- ---- what a look at a post tells
   abbrev pub all_entered : List Loan → Fml
-  all_entered [] = ftrue
-  all_entered (l ∷ ls) = fsep (entered (l.atom, l.epoch) l.log) (all_entered ls)
+  all_entered = entries
 
   -- loans keep that their guards' pins are entered
   pub loans_tell : (ls : List Loan) → ⟦ loans a ls ⟧ ⊢ ⟦ loans a ls ⟧ ∗ ⟦ all_entered ls ⟧

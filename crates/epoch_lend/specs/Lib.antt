@@ -1,3 +1,4 @@
 pub mod Parted
 pub mod Posts
 pub mod Loans
+pub mod Watching

@@ -8,7 +8,7 @@ use crate::part::Part;
 use crate::post::Post;
 
 // The seal, or the epoch after the one of this word, whichever is later.
-fn sealed_past(seal: u64, word: u64) -> u64
+pub(crate) fn sealed_past(seal: u64, word: u64) -> u64
     ensures { (seal ≤ result) × (word ≤ 2 * result) }
 {
     let least = word / 2 + word % 2;
@@ -16,7 +16,7 @@ fn sealed_past(seal: u64, word: u64) -> u64
 }
 
 // Whether it was clear, and a post with this word is unpinned, or in the seal's epoch or a later one.
-fn stays_clear(clear: bool, seal: u64, word: u64) -> bool
+pub(crate) fn stays_clear(clear: bool, seal: u64, word: u64) -> bool
     ensures { result ≡ true → (clear ≡ true) × (word ≢ 0 → 2 * seal ≤ word) }
 {
     clear && (word == 0 || seal <= word / 2)

@@ -6,3 +6,4 @@ pub mod lending;
 pub mod lent;
 pub mod part;
 pub mod post;
+pub mod watch;

@@ -4,6 +4,7 @@ ghost use Rattle.epoch_lend.specs.Posts.{PostNames, post_coded, posted, post_own
 ghost use Rattle.epoch_lend.specs.Posts.{post_shares, unpinned_owns, pin_owns, guard_owns, guard_shares};
 
 use crate::lending::Marked;
+use crate::watch::Watch;
 use std::marker::{Brand, Model, Move, Owns, PhantomData};
 use std::sync::atomic::Ordering::SeqCst;
 use std::sync::atomic::raw;
@@ -141,6 +142,20 @@ impl Post {
         let Marked { at } = marked;
         let found = unsafe { raw::load::<Brand>(&raw const self.word, SeqCst) };
         (found, Marked { at })
+    }
+
+    /// One plain load, for all loans of a watch. It shows that each guard of this post that had one is over, but those
+    /// of the epoch found. Answers the word found, and the watch, with this look added to what was seen.
+    pub fn look_for(&self, watch: Watch) -> (u64, Watch)
+        ensures seen { result.1.seen ≡ (self.now.log, result.0) ∷ watch.seen }
+        ensures same { result.1.loans ≡ watch.loans }
+    {
+        let Watch { marker: _ } = watch;
+        let found = unsafe { raw::load::<Brand>(&raw const self.word, SeqCst) };
+        let told = Watch {
+            marker: PhantomData,
+        };
+        (found, told)
     }
 }
 

@@ -1,3 +1,4 @@
 pub mod Keyless
 pub mod TurnFields
 pub mod Turned
+pub mod Finding

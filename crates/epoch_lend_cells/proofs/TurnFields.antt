@@ -18,6 +18,7 @@ use Rattle.epoch_lend_cells.specs.contracts.turns.Place as place
 use Rattle.epoch_lend_cells.specs.contracts.turns.Claim as claim
 use Rattle.epoch_lend_cells.specs.contracts.turns.Vacancy as vacancy
 use Rattle.epoch_lend_cells.specs.contracts.turns.Name as name
+use Rattle.epoch_lend_cells.specs.contracts.turns.Found as found
 
 module _ (R : RattleType) where
   abbrev pub Place : RattleType
@@ -99,6 +100,45 @@ module _ (R : RattleType) where
     (vint w64 t ∷ [], (vstruct vnil ∷ [], tt)),
     (refl, ((refl, f), ((tt, (refl, tt)), tt))),
   )
+
+module _ (R : RattleType) where
+  abbrev pub Found : RattleType
+  Found = Struct (shape (found.the_type R))
+
+  -- the bytes of what a look found are its turn
+  pub found_told : (t : ℕ) (vs : List Val) → Is Found (t, (record {}, tt)) vs → vs ≡ name_val t ∷ []
+  found_told t vs is = is.1.0 ∙ ap (λ (ws : List Val). vstruct (of_list (ws ++ (is.0.1.0 ++ []))) ∷ []) is.1.1.0.0 ∙ ap
+      (λ (ws : List Val). vstruct (of_list (vint w64 t ∷ (ws ++ []))) ∷ []) is.1.1.1.0.1.0
+
+  -- it is made of its turn
+  pub found_made : {M : Type 1} {𝓤 : Ura M} (𝓛 : Logic 𝓤) (t : ℕ) → t < 2 ^ 64
+      → ent 𝓤 (emp 𝓤) (sem 𝓛 (Found.own_val (t, (record {}, tt)) (name_val t ∷ [])))
+  found_made 𝓛 t f = makes_shadow 𝓛 (Found.own_val (t, (record {}, tt)) (name_val t ∷ [])) (λ vss. (
+    tt,
+    (
+      (tt, tt),
+      (
+        (λ uss. (
+          tt,
+          tt,
+        )),
+        tt,
+      ),
+    ),
+  )) (
+    (vint w64 t ∷ [], (vstruct vnil ∷ [], tt)),
+    (refl, ((refl, f), ((tt, (refl, tt)), tt))),
+  )
+
+-- a word and what was found with it
+abbrev pub found_pair : ℕ → ℕ → Val
+found_pair n t = vstruct (vcons (vint w64 n) (vcons (name_val t) vnil))
+
+-- what a look for a turn answers is of its type
+pub found_typed : (n t : ℕ) → n < 2 ^ 64 → t < 2 ^ 64
+    → T (has_ty (ty_struct [] (tcons (ty_int w64) (tcons (ty_struct [] (tcons (ty_int w64) (tcons (ty_struct [] tnil)
+    tnil))) tnil))) (found_pair n t)) × WT (found_pair n t)
+found_typed n t f g = (tt, (record { fits = f }, ((record { fits = g }, (tt, tt)), tt)))
 
 -- what a mark answers
 abbrev pub three_of : ℕ → Val → Val → Val

@@ -52,7 +52,7 @@ is_claimed (shown u) t e = absurd (omega (arith, e))
 is_claimed (removed u) t e = absurd (omega (arith, e))
 
 -- the stage of a word that is four times a turn, and 2
-is_shown : (s : TurnStage) (t : ℕ) → turn_word s ≡ 4 * t + 2 → s ≡ shown t
+pub is_shown : (s : TurnStage) (t : ℕ) → turn_word s ≡ 4 * t + 2 → s ≡ shown t
 is_shown (vacant u) t e = absurd (omega (arith, e))
 is_shown (claimed u) t e = absurd (omega (arith, e))
 is_shown (shown u) t e = ap shown (omega (arith, e))
@@ -390,7 +390,7 @@ module _ {M : Type 1} {𝓤 : Ura M} (𝓛 : Logic 𝓤) (R : RattleType) (d : T
     Memory = turns_at R d b o
 
     -- one step under the invariant of the word
-    stepped : (f : ℕ → ℕ) (after : ℕ → Fml) (K : Fml) → ((n : ℕ) → ⟦ W n ⟧ ∗ ⟦ K ⟧ ⊢ upd 𝓤 (⟦ W (f n) ⟧ ∗ ⟦ after n ⟧))
+    pub stepped : (f : ℕ → ℕ) (after : ℕ → Fml) (K : Fml) → ((n : ℕ) → ⟦ W n ⟧ ∗ ⟦ K ⟧ ⊢ upd 𝓤 (⟦ W (f n) ⟧ ∗ ⟦ after n ⟧))
         → A.inv (fbor α Memory) ∗ (A.lft α q ∗ ⟦ K ⟧) ⊢ asks 𝓛 (block_ptr b (o + 0)) f always (λ n. fsep (flft α q)
         (after n))
     stepped f after K law = let at : ℕ = o + 0 in

@@ -85,6 +85,15 @@ abbrev pub vacancy_of : (R : RattleType) → Ptr → ℕ → ℕ → TurnOf R.De
 vacancy_of R p state n e zero = ftrue
 vacancy_of R p state n e (suc k) = vacancy_has R p state n e
 
+-- which value a look found at a turn: none, or this one
+abbrev pub found_some : (R : RattleType) → ℕ → ℕ → ℕ → Option R.Denot → Fml
+found_some R log turn lifetime (Some x) = turn_is R log turn (x, lifetime)
+found_some R log turn lifetime None = ffalse
+
+abbrev pub found_of : (R : RattleType) → ℕ → ℕ → ℕ → Option R.Denot → ℕ → Fml
+found_of R log turn lifetime v zero = ftrue
+found_of R log turn lifetime v (suc k) = found_some R log turn lifetime v
+
 module _ (R : RattleType) (d : TurnNames) where
   abbrev pub log_of : ℕ → List (TurnOf R.Denot) → Fml
   log_of turns es = fsep (latest (turn_logs R) full_share d.log es) (known (length es ≡ turns))

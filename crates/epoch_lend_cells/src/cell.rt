@@ -15,8 +15,8 @@ pub const LAST_TURN: u64 = 0x3fff_ffff_ffff_fffe;
 /// A cell that lends its values to guards of some posts. Each value has a turn of its own, and no turn comes twice.
 #[derive(Drop)]
 pub struct LendingCell<'p, T> {
-    turns: Turns<T>,
-    at: *const T,
+    pub(crate) turns: Turns<T>,
+    pub(crate) at: *const T,
     posts: &'p [Post],
     pub ghost same: { at ≡ turns.at },
     pub ghost of_posts: { turns.posts ≡ logs_of posts.now },

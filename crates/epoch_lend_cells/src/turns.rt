@@ -6,7 +6,7 @@ ghost use Rattle.std.specs.Ptr.{Ptr, lies_at};
 ghost use Rattle.epoch_lend.specs.Posts.{IsAmong, logs_of};
 ghost use Rattle.epoch_lend.specs.Loans.{Within};
 ghost use Rattle.epoch_lend_cells.specs.Turning.{TurnNames, turn_names_coded, turns_own, turns_share};
-ghost use Rattle.epoch_lend_cells.specs.Turning.{turn_is, turn_shares, claim_of, vacancy_of};
+ghost use Rattle.epoch_lend_cells.specs.Turning.{turn_is, turn_shares, claim_of, vacancy_of, found_of};
 
 use atomic_table::exchange;
 use epoch_lend::lending::{Glance, Marked};
@@ -92,6 +92,21 @@ impl<T> Model for Name<T> {
     ghost also_shares = { λ h _ κ. turn_shares T.row h.log h.turn (h.value, h.lifetime) κ };
 }
 
+/// What a look for a turn found: nothing, or which value was placed at this turn.
+#[derive(Drop)]
+pub struct Found<T> {
+    pub(crate) turn: u64,
+    pub(crate) marker: PhantomData<T>,
+    pub ghost right: { ℕ },
+    pub ghost log: { ℕ },
+    pub ghost value: { Option T } by { coded_option T.code },
+    pub ghost lifetime: { ℕ },
+}
+
+impl<T> Model for Found<T> {
+    ghost also_owns = { λ h. found_of T.row h.log h.turn h.lifetime h.value h.right };
+}
+
 impl<T> Turns<T> {
     /// A vacant place at turn 0. Guards of these posts may look at its values.
     pub fn new(place: Place<T>, posts: &[Post]) -> (Turns<T>, *const T)
@@ -130,6 +145,21 @@ impl<T> Turns<T> {
             turn,
             marker: PhantomData,
         }
+    }
+
+    /// One plain load. Where it finds the word of a value that is shown at this turn, it answers which value that is.
+    pub fn find(&self, turn: u64, word: u64) -> (u64, Found<T>)
+        requires { word ≡ 4 * turn + 2 }
+        ensures { (result.0 ≡ word → result.1.right ≡ 1) × (result.0 ≢ word → result.1.right ≡ 0)
+            × (result.1.log ≡ self.now.log) × (result.1.turn ≡ turn) }
+    {
+        let _ = word;
+        let found = unsafe { raw::load::<Brand>(&raw const self.word, SeqCst) };
+        let which = Found {
+            turn,
+            marker: PhantomData,
+        };
+        (found, which)
     }
 
     /// One plain load. Where it finds the word of the name's turn, the value of that turn may be read for as long as
@@ -190,6 +220,36 @@ impl<T> Turns<T> {
         let Claim { at: _ } = claim;
         let _ = turn;
         unsafe { raw::store::<Brand>(&raw const self.word, word, SeqCst) };
+    }
+}
+
+impl<T> Found<T> {
+    /// The name of the value that was found.
+    pub fn name(self) -> Name<T>
+        requires { self.right ≡ 1 }
+        ensures { (result.turn ≡ self.turn) × (result.log ≡ self.log) × (Some result.value ≡ self.value)
+            × (result.lifetime ≡ self.lifetime) }
+    {
+        let Found { turn, marker: _ } = self;
+        Name {
+            turn,
+            marker: PhantomData,
+        }
+    }
+
+    /// Ends what found nothing, or what is not wanted.
+    pub fn done(self) {
+        let Found { turn: _, marker: _ } = self;
+    }
+}
+
+impl<T> Name<T> {
+    /// Two names of one turn of one place are of one value. It does nothing when it runs.
+    pub fn agree(&self, other: &Name<T>)
+        requires { (self.now.log ≡ other.now.log) × (self.now.turn ≡ other.now.turn) }
+        ensures { (self.now.value ≡ other.now.value) × (self.now.lifetime ≡ other.now.lifetime) }
+    {
+        let _ = other;
     }
 }
 

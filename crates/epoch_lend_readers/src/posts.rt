@@ -42,7 +42,7 @@ impl Made {
 
 /// Says of a type which set it is of, and no more: it has no value of `J`.
 #[derive(Drop)]
-pub(crate) struct Of<J: PostSet>(pub(crate) PhantomData<*const J>);
+pub struct Of<J: PostSet>(pub PhantomData<*const J>);
 
 unsafe impl<J: PostSet> Send for Of<J> {}
 
@@ -101,8 +101,8 @@ impl<J: PostSet> Posts<J> {
         self.posts.len()
     }
 
-    /// The posts.
-    pub(crate) fn as_slice(&self) -> &[Post]
+    /// The posts, in their order.
+    pub fn as_slice(&self) -> &[Post]
         ensures { result.now ≡ J.posts }
     {
         self.posts.as_slice()

@@ -61,6 +61,13 @@ impl<'p, J: PostSet> Reader<'p, J> {
 }
 
 impl<'p, J: PostSet> Pinned<'p, J> {
+    /// The guard of the pin, which is of one of the set's posts.
+    pub fn guard(&self) -> &Guard
+        ensures { (result.now ≡ self.now.guard) × IsAmong result.now.log (logs_of J.posts) }
+    {
+        &self.guard
+    }
+
     /// Ends the pin, by one store to its post.
     pub fn unpin(self) -> Reader<'p, J> {
         let Pinned {

@@ -1,0 +1,94 @@
+//! Posts are looked at once for many marked values, and not once for each.
+ghost use Rattle.std.specs.Prelude.{◌≡◌, ℕ, ◌^◌, List, [], ◌++◌, true};
+ghost use base.Stored.{coded_list, coded×, coded_ℕ};
+ghost use Rattle.epoch_lend.specs.Posts.{logs_of};
+ghost use Rattle.epoch_lend.specs.Loans.{Loan, loan_coded, SeenPost, Within, EachSeen, is_sealed, AreShown};
+ghost use Rattle.epoch_lend.specs.Watching.{AreWatched, watch_owns};
+
+use crate::back::{sealed_past, stays_clear};
+use crate::lending::Marked;
+use crate::part::Part;
+use crate::post::Post;
+use std::marker::{Model, PhantomData};
+
+/// What is known of the loans of some marked values, and what looks at posts told of them. It has no bytes.
+#[derive(Drop)]
+pub struct Watch {
+    pub(crate) marker: PhantomData<()>,
+    pub ghost loans: { List Loan } by { coded_list loan_coded },
+    pub ghost seen: { List SeenPost } by { coded_list (coded× coded_ℕ coded_ℕ) },
+}
+
+impl Model for Watch {
+    ghost also_owns = { λ w. watch_owns w.loans w.seen };
+}
+
+impl Watch {
+    /// A watch of no loans.
+    pub fn new() -> Watch
+        ensures { (result.loans ≡ []) × (result.seen ≡ []) }
+    {
+        Watch {
+            marker: PhantomData,
+        }
+    }
+
+    /// Watches the loans of this value, too. No post may have been looked at before.
+    pub fn add<T>(&mut self, marked: Marked<T>) -> Marked<T>
+        requires { (marked.right ≡ 1) × (self.old.seen ≡ []) }
+        ensures { (self.new.loans ≡ marked.loans ++ self.old.loans) × (self.new.seen ≡ []) × (result ≡ marked) }
+    {
+        let Marked { at } = marked;
+        Marked { at }
+    }
+
+    /// All parts of a value of which the loans are watched. Looks must have shown that each guard with a loan is over.
+    pub fn collect<T>(&mut self, marked: Marked<T>) -> Part<T>
+        requires marked { marked.right ≡ 1 }
+        requires watched { AreWatched marked.loans self.old.loans }
+        requires shown { AreShown self.old.seen self.old.loans }
+        ensures { (self.new ≡ self.old) × (result.value ≡ marked.value) × (result.lifetime ≡ marked.lifetime)
+            × (result.count ≡ 2 ^ 63) }
+    {
+        let Marked { at } = marked;
+        Part { ptr: at }
+    }
+
+    /// Looks at each post once. Answers a seal: each guard that had a loan is over, or is of an epoch before it.
+    pub fn seal(self, posts: &[Post]) -> (u64, Watch)
+        ensures sealed { EachSeen (is_sealed result.0) (logs_of posts.now) result.1.seen }
+        ensures same { result.1.loans ≡ self.loans }
+    {
+        let mut watch = self;
+        let mut seal = 0;
+        for position in 0..posts.len() {
+            let (word, told) = posts[position].look_for(watch);
+            watch = told;
+            let later = sealed_past(seal, word);
+            seal = later;
+        }
+        (seal, watch)
+    }
+
+    /// Looks at each post once more. Answers whether each is unpinned, or in the seal's epoch or a later one: then
+    /// each guard that had a loan is over.
+    pub fn scan(self, posts: &[Post], seal: u64) -> (bool, Watch)
+        requires lent { Within (logs_of posts.now) self.loans }
+        requires sealed { EachSeen (is_sealed seal) (logs_of posts.now) self.seen }
+        ensures clear { result.0 ≡ true → AreShown result.1.seen result.1.loans }
+        ensures sealed { EachSeen (is_sealed seal) (logs_of posts.now) result.1.seen }
+        ensures same { result.1.loans ≡ self.loans }
+    {
+        let mut watch = self;
+        let mut clear = true;
+        for position in 0..posts.len() {
+            let (word, told) = posts[position].look_for(watch);
+            watch = told;
+            let next = stays_clear(clear, seal, word);
+            clear = next;
+        }
+        (clear, watch)
+    }
+}
+
+unsafe impl Send for Watch {}

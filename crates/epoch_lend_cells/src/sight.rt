@@ -1,0 +1,57 @@
+//! Values that are found by their turns, which are plain numbers, and not by names that are carried from the placing.
+ghost use Rattle.std.specs.Prelude.{◌≡◌, IfSome};
+ghost use Rattle.epoch_lend.specs.Posts.{IsAmong, logs_of};
+
+use crate::cell::{LAST_TURN, LendingCell};
+use crate::turns::{Name, Turns};
+use epoch_lend::post::Guard;
+
+/// A value that was found by its turn, and its name, which shows that it was placed at this turn.
+#[derive(Drop)]
+pub struct Sight<'g, T> {
+    pub value: &'g T,
+    pub name: Name<T>,
+    pub ghost same: { value.now ≡ name.value },
+}
+
+impl<T> Turns<T> {
+    /// Two plain loads. Where both find the word of a value that is shown at this turn, that value is lent for as long
+    /// as the guard is. `None`: no value is shown at this turn, or it is past the last. The guard must be of one of the
+    /// place's posts.
+    pub fn sight<'g>(&self, at: *const T, turn: u64, guard: &'g Guard) -> Option<Sight<'g, T>>
+        requires { (at ≡ self.now.at) × IsAmong guard.now.log self.now.posts }
+        ensures { IfSome result (λ sight. (sight.name.log ≡ self.now.log) × (sight.name.turn ≡ turn)) }
+    {
+        if turn > LAST_TURN {
+            return None;
+        }
+        let shown = 4 * turn + 2;
+        let (first, which) = self.find(turn, shown);
+        if first != shown {
+            which.done();
+            return None;
+        }
+        let name = which.name();
+        let (second, glance) = self.look(&name, guard, at, shown);
+        if second == shown {
+            Some(Sight {
+                value: glance.get(),
+                name,
+            })
+        } else {
+            glance.done();
+            None
+        }
+    }
+}
+
+impl<'p, T> LendingCell<'p, T> {
+    /// Two plain loads. Where the cell has a value of this turn, it is lent for as long as the guard is. `None`: it has
+    /// none, since none was placed at this turn yet, or it was marked. The guard must be of one of the cell's posts.
+    pub fn look<'g>(&self, turn: u64, guard: &'g Guard) -> Option<Sight<'g, T>>
+        requires { IsAmong guard.now.log (logs_of self.now.posts.now) }
+        ensures { IfSome result (λ sight. (sight.name.log ≡ self.now.turns.log) × (sight.name.turn ≡ turn)) }
+    {
+        self.turns.sight(self.at, turn, guard)
+    }
+}
