@@ -1,0 +1,128 @@
+//! The cells of an array, and where a value is in it.
+ghost use Rattle.std.specs.Prelude.{◌≡◌, ◌+◌, ◌*◌, Some, length, map, IfSome, IfOk, IfErr};
+ghost use Rattle.std.specs.List.{slice_get};
+
+use crate::slot::{Removal, Slot};
+use epoch_lend_cells::sight::Sight;
+use epoch_lend_cells::turns::Name;
+use epoch_lend_readers::posts::{PostSet, Posts};
+use epoch_lend_readers::reader::Pinned;
+use std::alloc::{AllocError, Global};
+
+/// Where a value is: its slot, and its turn there. No other value ever has both.
+#[derive(Clone, Copy, PartialEq, Eq, Debug)]
+pub struct Spot {
+    pub slot: usize,
+    pub turn: u64,
+}
+
+/// A value that was placed: where it is, and its name, which shows which value was placed there.
+#[derive(Drop)]
+pub struct Placed<T> {
+    pub spot: Spot,
+    pub name: Name<T>,
+}
+
+/// A fixed number of cells, whose values are lent to readers pinned at the posts of a set. Threads share them by `&`.
+#[derive(Drop)]
+pub struct LendingCells<J: PostSet, T> {
+    slots: Vec<Slot<J, T>>,
+}
+
+impl<J: PostSet, T: Default + Drop> LendingCells<J, T> {
+    /// This many empty cells. `T::default()` lies in each until its first value comes, and no look finds it. It fails
+    /// for want of memory alone, and the cells' places in memory are never freed.
+    pub fn new(
+        alloc: Global,
+        count: usize,
+        posts: &Posts<J>,
+    ) -> Result<LendingCells<J, T>, AllocError>
+        ensures { IfOk result (λ cells. length cells.slots.items ≡ count) }
+    {
+        let mut slots = Vec::with_capacity(alloc, count)?;
+        for position in 0..count {
+            let _ = position;
+            let slot = Slot::new(alloc, T::default(), posts)?;
+            slots.push(slot).map_err(|_| AllocError)?;
+        }
+        Ok(LendingCells { slots })
+    }
+}
+
+impl<J: PostSet, T> LendingCells<J, T> {
+    /// How many cells there are.
+    pub fn len(&self) -> usize
+        ensures { result ≡ length self.now.slots.items }
+    {
+        self.slots.len()
+    }
+
+    /// Two plain loads. Where a value is shown at this spot, it is lent for as long as the reference to the pinned
+    /// reader is, with the name that shows that it was placed there. `None`: no value was placed there yet, or it was
+    /// marked, or there is no such slot.
+    pub fn look<'g>(&self, spot: Spot, pinned: &'g Pinned<'_, J>) -> Option<Sight<'g, T>>
+        ensures slot { IfSome result (λ sight. slice_get (map (λ s. s.turns.log) self.now.slots.items) spot.slot
+            ≡ Some sight.name.log) }
+        ensures turn { IfSome result (λ sight. sight.name.turn ≡ spot.turn) }
+    {
+        match self.slots.get(spot.slot) {
+            Some(slot) => slot.look(spot.turn, pinned),
+            None => None,
+        }
+    }
+
+    /// The value that is shown at this spot, as [`LendingCells::look`] finds it.
+    pub fn get<'g>(&self, spot: Spot, pinned: &'g Pinned<'_, J>) -> Option<&'g T> {
+        match self.look(spot, pinned) {
+            Some(sight) => Some(sight.value),
+            None => None,
+        }
+    }
+
+    /// Marks the value at this spot, so that no look finds it from then on. Of all that mark it, one alone has the
+    /// removal. `None`: no value was placed there yet, or it was marked, or there is no such slot.
+    pub fn mark(&self, spot: Spot) -> Option<Removal<'_, J, T>>
+        ensures slot { IfSome result (λ removal. slice_get (map (λ s. s.turns.log) self.now.slots.items) spot.slot
+            ≡ Some removal.name.log) }
+        ensures turn { IfSome result (λ removal. removal.name.turn ≡ spot.turn) }
+    {
+        match self.slots.get(spot.slot) {
+            Some(slot) => slot.mark(spot.turn),
+            None => None,
+        }
+    }
+}
+
+impl<J: PostSet, T: Drop> LendingCells<J, T> {
+    /// Places a value in the first cell that is seen empty, and answers where. Hands it back where each cell was seen
+    /// in use, or past its last turn.
+    pub fn place(&self, value: T) -> Result<Placed<T>, T>
+        ensures slot { IfOk result (λ placed. slice_get (map (λ s. s.turns.log) self.now.slots.items) placed.spot.slot
+            ≡ Some placed.name.log) }
+        ensures turn { IfOk result (λ placed. placed.name.turn ≡ placed.spot.turn) }
+        ensures placed { IfOk result (λ placed. placed.name.value ≡ value) }
+        ensures handed_back { IfErr result (λ back. back ≡ value) }
+    {
+        let mut kept = value;
+        for position in 0..self.slots.len() {
+            let Some(slot) = self.slots.get(position) else {
+                break;
+            };
+            match slot.place(kept) {
+                Ok((turn, name)) => {
+                    let spot = Spot {
+                        slot: position,
+                        turn,
+                    };
+                    return Ok(Placed { spot, name });
+                }
+                Err(back) => kept = back,
+            }
+        }
+        Err(kept)
+    }
+}
+
+unsafe impl<J: PostSet, T: Send + Sync> Send for LendingCells<J, T> {}
+
+unsafe impl<J: PostSet, T: Send + Sync> Sync for LendingCells<J, T> {}

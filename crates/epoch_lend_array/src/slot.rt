@@ -1,0 +1,176 @@
+//! One cell of an array, which holds one value after another, a turn each.
+ghost use Rattle.std.specs.Prelude.{◌≡◌, ◌+◌, ◌*◌, ◌≤◌, ◌++◌, [], IfSome, IfOk, IfErr};
+ghost use Rattle.epoch_lend.specs.Posts.{logs_of};
+ghost use Rattle.epoch_lend.specs.Loans.{Within, AreShown};
+ghost use Rattle.epoch_lend.specs.Watching.{AreWatched};
+ghost use Rattle.epoch_lend_cells.specs.declared.cell.TheConstants.{LAST_TURN};
+
+use epoch_lend::lending::Marked;
+use epoch_lend::watch::Watch;
+use epoch_lend_cells::cell::LAST_TURN;
+use epoch_lend_cells::sight::Sight;
+use epoch_lend_cells::turns::{Name, Turns, Vacancy, place_of};
+use epoch_lend_readers::posts::{Of, PostSet, Posts};
+use epoch_lend_readers::reader::Pinned;
+use std::alloc::{AllocError, Allocator};
+use std::marker::PhantomData;
+
+/// A cell whose values are lent to readers pinned at the posts of a set. Each value has a turn of its own, and no turn
+/// comes twice.
+#[derive(Drop)]
+pub struct Slot<J: PostSet, T> {
+    turns: Turns<T>,
+    at: *const T,
+    set: Of<J>,
+    pub ghost same: { at ≡ turns.at },
+    pub ghost of_posts: { turns.posts ≡ logs_of J.posts },
+}
+
+/// A value that a mark took out of its slot, with what was lent of it, and its name.
+#[derive(Drop)]
+pub struct Removal<'c, J: PostSet, T> {
+    slot: &'c Slot<J, T>,
+    pub marked: Marked<T>,
+    vacancy: Vacancy<T>,
+    pub name: Name<T>,
+    turn: u64,
+    pub ghost rights: { (marked.right ≡ 1) × (vacancy.right ≡ 1) },
+    pub ghost alike: { (vacancy.value ≡ marked.value) × (vacancy.lifetime ≡ marked.lifetime) },
+    pub ghost of_slot: { (vacancy.state ≡ slot.now.turns.state) × (vacancy.at ≡ slot.now.turns.at) },
+    pub ghost of_turn: { (vacancy.word ≡ 4 * turn + 3) × (turn ≤ LAST_TURN) },
+    pub ghost lent: { Within (logs_of J.posts) marked.loans },
+    pub ghost named: { (name.log ≡ slot.now.turns.log) × (name.turn ≡ turn) × (name.value ≡ marked.value) },
+}
+
+impl<J: PostSet, T: Drop> Slot<J, T> {
+    /// An empty cell at turn 0. The filler lies in its place, and no look finds it, until the first value comes. It
+    /// fails for want of memory alone, and its place in memory is never freed.
+    pub fn new<A: Allocator + Drop>(
+        alloc: A,
+        filler: T,
+        posts: &Posts<J>,
+    ) -> Result<Slot<J, T>, AllocError> {
+        let whole = Box::new(alloc, filler)?;
+        let (place, _alloc) = place_of(whole);
+        let (turns, at) = Turns::new(place, posts.as_slice());
+        Ok(Slot {
+            turns,
+            at,
+            set: Of(PhantomData),
+        })
+    }
+
+    /// Places a value at the turn of the cell, and answers this turn and its name. Hands the value back where the cell
+    /// isn't empty, or is past its last turn.
+    pub fn place(&self, value: T) -> Result<(u64, Name<T>), T>
+        ensures placed { IfOk result (λ placed. (placed.1.log ≡ self.now.turns.log) × (placed.1.turn ≡ placed.0)
+            × (placed.1.value ≡ value)) }
+        ensures handed_back { IfErr result (λ back. back ≡ value) }
+    {
+        let (found, which) = self.turns.find(0, 2);
+        which.done();
+        let turn = found / 4;
+        let vacant = 4 * turn;
+        if found != vacant || turn > LAST_TURN {
+            return Err(value);
+        }
+        let (again, claim) = self.turns.claim(self.at, turn, vacant, vacant + 1);
+        if again != vacant {
+            claim.done();
+            return Err(value);
+        }
+        let (claim, _filler) = claim.swap(value);
+        Ok((turn, self.turns.show(claim, turn, vacant + 2)))
+    }
+}
+
+impl<J: PostSet, T> Slot<J, T> {
+    /// Two plain loads. Where the cell has a value of this turn, it is lent for as long as the reference to the pinned
+    /// reader is. `None`: it has none, since none was placed at this turn yet, or it was marked.
+    pub fn look<'g>(&self, turn: u64, pinned: &'g Pinned<'_, J>) -> Option<Sight<'g, T>>
+        ensures { IfSome result (λ sight. (sight.name.log ≡ self.now.turns.log) × (sight.name.turn ≡ turn)) }
+    {
+        self.turns.sight(self.at, turn, pinned.guard())
+    }
+
+    /// Marks the value of this turn, by a plain load and one exchange, so that no look finds it from then on. Who marks
+    /// it has what was lent of it, and only one does. `None`: the cell has no value of this turn.
+    pub fn mark(&self, turn: u64) -> Option<Removal<'_, J, T>>
+        ensures { IfSome result (λ removal. (removal.name.log ≡ self.now.turns.log) × (removal.name.turn ≡ turn)) }
+    {
+        if turn > LAST_TURN {
+            return None;
+        }
+        let shown = 4 * turn + 2;
+        let (found, which) = self.turns.find(turn, shown);
+        if found != shown {
+            which.done();
+            return None;
+        }
+        let name = which.name();
+        let (again, marked, vacancy) = self.turns.mark(&name, self.at, shown, shown + 1);
+        if again == shown {
+            Some(Removal {
+                slot: self,
+                marked,
+                vacancy,
+                name,
+                turn,
+            })
+        } else {
+            marked.done();
+            vacancy.done();
+            None
+        }
+    }
+}
+
+impl<'c, J: PostSet, T> Removal<'c, J, T> {
+    /// Has its loans watched, too. No post may have been looked at before.
+    pub(crate) fn watched(self, watch: &mut Watch) -> Removal<'c, J, T>
+        requires { watch.old.seen ≡ [] }
+        ensures watched { (watch.new.loans ≡ self.entry.marked.loans ++ watch.old.loans) × (watch.new.seen ≡ []) }
+        ensures same { (result.marked ≡ self.entry.marked) × (result.name ≡ self.entry.name) }
+    {
+        let Removal {
+            slot,
+            marked,
+            vacancy,
+            name,
+            turn,
+        } = self;
+        let marked = watch.add(marked);
+        Removal {
+            slot,
+            marked,
+            vacancy,
+            name,
+            turn,
+        }
+    }
+
+    /// Takes the value out of its slot, leaves the filler, and makes the slot empty at its next turn. The watch must
+    /// have seen that each guard with a loan is over.
+    pub(crate) fn take(self, watch: &mut Watch, filler: T) -> (T, Name<T>)
+        requires watched { AreWatched self.marked.loans watch.old.loans }
+        requires shown { AreShown watch.old.seen watch.old.loans }
+        ensures value { (result.0 ≡ result.1.value) × (result.1 ≡ self.entry.name) }
+        ensures same { watch.new ≡ watch.old }
+    {
+        let Removal {
+            slot,
+            marked,
+            vacancy,
+            name,
+            turn,
+        } = self;
+        let all = watch.collect(marked);
+        let (claim, value) = vacancy.reclaim(all).swap(filler);
+        slot.turns.release(claim, turn, 4 * turn + 4);
+        (value, name)
+    }
+}
+
+unsafe impl<J: PostSet, T: Send + Sync> Send for Slot<J, T> {}
+
+unsafe impl<J: PostSet, T: Send + Sync> Sync for Slot<J, T> {}

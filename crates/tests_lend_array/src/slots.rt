@@ -1,0 +1,151 @@
+ghost use Rattle.std.specs.Prelude.{◌≡◌, ◌<◌, ◌^◌};
+
+use crate::wants::want;
+use epoch_lend_array::bag::Bag;
+use epoch_lend_array::cells::{LendingCells, Spot};
+use epoch_lend_array::slot::Slot;
+use epoch_lend_readers::posts::{PostSet, Posts};
+use epoch_lend_readers::reader::Pinned;
+use epoch_lend_readers::session::{Session, with_posts};
+use std::alloc::Global;
+use std::test::Fail;
+
+/// What a look finds, or 0.
+fn found<J: PostSet>(slot: &Slot<J, u64>, turn: u64, pinned: &Pinned<'_, J>) -> u64 {
+    match slot.look(turn, pinned) {
+        Some(lent) => *lent.value,
+        None => 0,
+    }
+}
+
+#[derive(Drop)]
+struct Places {
+    alloc: Global,
+}
+
+impl Session for Places {
+    type Answer = (u64, u64);
+
+    fn run<J: PostSet + Send + Sync>(self, posts: Posts<J>) -> (u64, u64) {
+        let Ok(slot) = Slot::new(self.alloc, 0u64, &posts) else {
+            return (0, 0);
+        };
+        let _ = slot.place(7);
+        let Some(reader) = posts.register() else {
+            return (0, 0);
+        };
+        let pinned = reader.pin(1);
+        let answer = (found(&slot, 0, &pinned), found(&slot, 1, &pinned));
+        pinned.unpin().release();
+        answer
+    }
+}
+
+#[test]
+fn a_placed_value_is_found_by_its_turn(rt: HostRuntime) -> Result<(), Fail> {
+    let (first, second) = with_posts(rt.alloc(), 1, Places { alloc: rt.alloc() })?;
+    want(&rt, "the value is found at its turn", first, 7);
+    want(&rt, "and not at the next one", second, 0);
+    Ok(())
+}
+
+/// Where a value is placed, or a spot that there isn't.
+fn placed<J: PostSet>(cells: &LendingCells<J, u64>, value: u64) -> Spot {
+    match cells.place(value) {
+        Ok(placed) => placed.spot,
+        Err(_) => Spot { slot: 99, turn: 99 },
+    }
+}
+
+/// Takes the value at this spot back, with nobody pinned. Answers it, or 0.
+fn taken<J: PostSet>(
+    alloc: Global,
+    posts: &Posts<J>,
+    cells: &LendingCells<J, u64>,
+    spot: Spot,
+) -> u64 {
+    let Ok(made) = Bag::with_capacity(alloc, 1) else {
+        return 0;
+    };
+    let mut bag = made;
+    if let Some(removal) = cells.mark(spot) {
+        let _ = bag.push(removal);
+    }
+    let sealed = bag.seal(posts);
+    if sealed.len() != 1 {
+        return 0;
+    }
+    let Ok(clear) = sealed.take_back(posts) else {
+        return 0;
+    };
+    let mut rest = clear;
+    match rest.next() {
+        Some((value, _)) => value,
+        None => 0,
+    }
+}
+
+/// Fills an array of two cells, and uses one again.
+#[derive(Drop)]
+struct Fills {
+    alloc: Global,
+}
+
+/// How many cells there are, where three values are placed, what comes back between them, and whether a mark of an old
+/// spot finds nothing.
+type Filled = (usize, (Spot, Spot, Spot), u64, (Spot, bool));
+
+impl Session for Fills {
+    type Answer = Filled;
+
+    fn run<J: PostSet + Send + Sync>(self, posts: Posts<J>) -> Filled {
+        let none = Spot { slot: 99, turn: 99 };
+        let Ok(cells) = LendingCells::new(self.alloc, 2, &posts) else {
+            return (0, (none, none, none), 0, (none, false));
+        };
+        let first = placed(&cells, 7);
+        let second = placed(&cells, 8);
+        let third = placed(&cells, 9);
+        let back = taken(self.alloc, &posts, &cells, first);
+        let again = placed(&cells, 9);
+        let is_gone = cells.mark(first).is_none();
+        (cells.len(), (first, second, third), back, (again, is_gone))
+    }
+}
+
+#[test]
+fn a_cell_of_an_array_is_used_again_at_its_next_turn(rt: HostRuntime) -> Result<(), Fail> {
+    let (len, spots, back, (again, is_gone)) = with_posts(
+        rt.alloc(),
+        1,
+        Fills { alloc: rt.alloc() },
+    )?;
+    want(&rt, "there are two cells", len, 2);
+    want(
+        &rt,
+        "the first value is in the first",
+        spots.0,
+        Spot { slot: 0, turn: 0 },
+    );
+    want(
+        &rt,
+        "the second in the second",
+        spots.1,
+        Spot { slot: 1, turn: 0 },
+    );
+    want(
+        &rt,
+        "a third is handed back",
+        spots.2,
+        Spot { slot: 99, turn: 99 },
+    );
+    want(&rt, "the first comes back", back, 7);
+    want(
+        &rt,
+        "its cell is used again",
+        again,
+        Spot { slot: 0, turn: 1 },
+    );
+    want(&rt, "its old turn is not", is_gone, true);
+    Ok(())
+}
