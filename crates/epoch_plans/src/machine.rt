@@ -14,7 +14,7 @@ pub enum Wish<A> {
     Flush,
     /// A call on cells and pointers.
     Touch(Access),
-    /// That the removal of this node is deferred.
+    /// A deferral of the removal of this node.
     Defer(Name),
     /// Nothing more: this is the answer.
     Answer(A),
@@ -22,8 +22,8 @@ pub enum Wish<A> {
 
 /// The phases of a structure's calls.
 ///
-/// The program that laws speak of is `deed`, the phases being this type. So what is proved of every run of that program
-/// is proved of whatever asks for what `wish` says and goes on as `hear` says.
+/// The program that the laws speak of is `deed`, with the values of this type as its phases. So what is proved of every
+/// run of that program holds of all code that asks for what `wish` says and goes on as `hear` says.
 pub trait PhaseMachine: Copy {
     /// What a call answers.
     type Answer: Copy;
@@ -31,11 +31,11 @@ pub trait PhaseMachine: Copy {
     /// What each phase does under a guard, and which phase follows from each reply.
     ghost deed: { ℕ → Self → Deed Self Self.Answer };
 
-    /// What this phase asks for under this guard.
+    /// Answers what this phase asks for under this guard.
     fn wish(self, guard: u64) -> Wish<Self::Answer>
         ensures { result ≡ wish_of (deed guard self) };
 
-    /// The phase after this one, whose call ended with this reply. It is the same under every guard.
+    /// Answers the phase after this one, whose call ended with this reply. It is the same under every guard.
     fn hear(self, reply: Reply) -> Self
         ensures { (guard : ℕ) → result ≡ after_by self (deed guard self) reply };
 }
@@ -51,7 +51,7 @@ pub trait Works: PhaseMachine {
     /// The phase in which a call begins, where the held bag has room for a further job or hasn't.
     ghost first: { Self.Work → Bool → Self };
 
-    /// The phase in which a call begins.
+    /// Answers the phase in which a call begins.
     fn first(work: Self::Work, has_room: bool) -> Self
         ensures first { result ≡ first work has_room }
         ensures starts { starts result };
