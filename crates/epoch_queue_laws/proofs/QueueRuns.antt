@@ -48,7 +48,7 @@ no_reach s fresh n (from_root i _ leads) = no_root s fresh i n leads
 no_reach s fresh n (from_field y f _ r leads) = no_reach s fresh y r
 
 -- a new queue holds what is to be kept
-new_sound : (world : State) (plans : AllPlans Phase) → IsNewQueue world plans
+pub new_sound : (world : State) (plans : AllPlans Phase) → IsNewQueue world plans
     → Sound queue structure no_past world plans
 new_sound world plans new = record {
   ghost = [];

@@ -13,7 +13,7 @@ ghost use Rattle.epoch_queue_laws.specs.Queue.{queue, calls_left, deed_of, Start
 ghost use Rattle.epoch_queue_laws.specs.QueueDeeds.{DidNothing, deed_answered, deed_done, deed_then};
 ghost use Rattle.epoch_queue_laws.specs.QueueValues.{QueueHolds, StepOnValues, FindsNone};
 
-/// In the run of the world that a queue makes cells leave as they have to: once, by a deferred removal, and for good.
+/// In the run of the world that a queue makes, cells leave as they must: once, by a deferred removal, and for good.
 pub fn every_queue_run_leaves_cells_once()
     ensures { (world world' : State) (plans plans' : AllPlans Phase) (log : QueueLog) → IsNewQueue world plans
         → (run : QueueRuns world plans log world' plans')
@@ -34,11 +34,12 @@ pub fn every_queue_reply_comes_nearer_the_answer()
     ensures { IsLowered queue calls_left }
 {}
 
-/// By its phase a call has done nothing to the list yet, has added its node at the back, has taken a value from the
-/// front, or has found nothing behind the head. It begins with nothing done. Each reply passes on what was done, and
-/// only three add to it: a push's exchange that is won, a pop's, and the pointer behind the head that is null. So a
-/// call answers `Pushed` exactly where it has won its exchange, `Popped` or `PoppedLeaking` with the value that its won
-/// exchange took, `Empty` exactly where it found nothing behind the head, and anything else where it did none of these.
+/// A call's phase tells what the call has done to the list: nothing yet, added its node at the back, taken a value from
+/// the front, or found nothing behind the head. A call begins with nothing done. Each reply passes on what was done,
+/// and only three add to it: an exchange that a push wins, one that a pop wins, and a null pointer behind the head. So
+/// a call answers `Pushed` exactly if it has won its exchange; `Popped` or `PoppedLeaking` with the value that the
+/// exchange it won took; `Empty` exactly if it found nothing behind the head; and anything else if it did none of
+/// these.
 pub fn every_queue_answer_tells_what_was_done()
     ensures begins { (phase : Phase) → Starts phase → deed_done phase ≡ DidNothing }
     ensures passes_on { (guard : ℕ) (phase : Phase) (reply : Reply)
@@ -53,9 +54,9 @@ pub fn every_queue_run_holds_a_list()
         → QueueHolds world.heap [] × ((vs : List ℕ) × QueueHolds world'.heap vs) }
 {}
 
-/// First in, first out: only two kinds of steps change that list. The won exchange of a push adds the value of its node
-/// at the back. The won exchange of a pop takes the value in front, which is the one that the pop has read. At the step
-/// at which a pop finds nothing behind the head, the list is empty.
+/// First in, first out: only two kinds of steps change that list. The exchange that a push wins adds the value of its
+/// node at the back. The exchange that a pop wins takes the value in front, which is the one that the pop has read. At
+/// the step at which a pop finds nothing behind the head, the list is empty.
 pub fn every_queue_run_is_a_queue()
     ensures { (world world' new : State) (plans plans' : AllPlans Phase) (log : QueueLog) (x : Entry)
         → IsNewQueue world plans → QueueRuns world plans log world' plans'
@@ -63,7 +64,7 @@ pub fn every_queue_run_is_a_queue()
         → StepOnValues world' plans' x new vs × (FindsNone world' plans' x new → vs ≡ []) }
 {}
 
-/// The cells hold the values of one list at most.
+/// The cells hold the values of at most one list.
 pub fn every_heap_holds_one_queue()
     ensures { (heap : Heap) (vs ws : List ℕ) → QueueHolds heap vs → QueueHolds heap ws → vs ≡ ws }
 {}

@@ -1,2 +1,5 @@
+pub mod AskedReady
+pub mod QueueAsked
+pub mod LoneSteps
 pub mod AnyReplies
 pub mod TwoRoots

@@ -1,11 +1,14 @@
 -- The state of a queue's world, what one step does to it, and what holds of whole lists of steps.
-use Rattle.std.specs.Prelude.{◌≡◌, ℕ, List, [], ◌++◌}
+use Rattle.std.specs.Prelude.{◌≡◌, ◌≤◌, ℕ, List, [], ◌∷◌, ◌++◌, length}
 use Rattle.std.specs.Global.{Vec}
 use Rattle.epoch_laws.specs.Full.{FullWhereFound}
 use Rattle.epoch_laws.specs.Run.{State, Runs, TakesStep}
 use Rattle.epoch_laws.specs.declared.step.Entry.{Entry}
+use Rattle.epoch_laws.specs.declared.step.Reply.TheVariants.{Began}
 use Rattle.epoch_plan_world.specs.declared.step.PlanReply.{PlanReply}
+use Rattle.epoch_plan_world.specs.declared.step.PlanReply.TheVariants.{World, Answered}
 use Rattle.epoch_plan_world.specs.declared.step.PlanStep.{PlanStep}
+use Rattle.epoch_plan_world.specs.declared.step.PlanStep.TheVariants.{Ask, Go}
 use Rattle.epoch_plan_world.specs.PlanWorlds.{PlanState, PlanEntry, PlanTakes, GoesByPlans, ListsSteps, events_of}
 use Rattle.epoch_plan_world.specs.PlanWorlds.{plan_run, plans_in}
 use Rattle.epoch_plans.specs.Plans.{world_log, run_of_world}
@@ -14,6 +17,8 @@ use Rattle.epoch_queue_laws.specs.declared.plan.QueueAnswer.{QueueAnswer}
 use Rattle.epoch_queue_laws.specs.declared.plan.Work.{Work}
 use Rattle.epoch_queue_laws.specs.Queue.{queue, deed_of, Starts, begin_work, QueueRuns, IsNewQueue}
 use Rattle.epoch_queue_laws.specs.QueueValues.{QueueHolds, StepOnValues, FindsNone}
+use Rattle.epoch_queue_served.specs.Lone.{HasTries, IsBuilt, IsOut}
+use Rattle.epoch_queue_served.specs.QueueServed.{AllServed}
 use Rattle.epoch_reach_laws.specs.Reach.{LeavesOnce, KeepsLoaded, past_of}
 
 abbrev pub QueueState : Type 0
@@ -84,3 +89,47 @@ FirstInFirstOut old log new run = (next : State) (x : Entry) → TakesStep new.w
     → (vs : List ℕ) → QueueHolds new.world.heap vs
     → StepOnValues new.world (plans_in new.plans) x next vs
     × (FindsNone new.world (plans_in new.plans) x next → vs ≡ [])
+
+-- Each call of the world that a phase makes is replied to as expected, where there are at most 64 participants, and a
+-- cell has one field.
+abbrev pub ServesCalls : (old : QueueState) (log : List QueueEntry) (new : QueueState) → GoesByQueue old log new → Type 0
+ServesCalls old log new run = length old.world.seats ≤ 64 → old.world.heap.fields ≡ 1
+    → AllServed old.world (plans_in old.plans) (events_of log) new.world (plans_in new.plans) (queue_run old log new run)
+
+-- A LONE CALL
+
+-- each further step is a Go of p
+abbrev pub AllGo : ℕ → List (PlanStep Work) → Type 0
+AllGo p [] = Unit {0}
+AllGo p (step ∷ steps) = (step ≡ Go p) × AllGo p steps
+
+-- no call answers that each try was lost
+abbrev pub RepliesOut : PlanReply QueueAnswer → Type 0
+RepliesOut (Answered answer) = IsOut answer
+RepliesOut (World reply) = ⊥
+
+abbrev pub NoneOut : List (PlanReply QueueAnswer) → Type 0
+NoneOut [] = Unit {0}
+NoneOut (reply ∷ replies) = (¬ (RepliesOut reply)) × NoneOut replies
+
+-- The first of these steps begins a push or a pop of p with tries enough, and the others are its own; the queue is
+-- built.
+pub record IsLoneCall (old : QueueState) (steps : List (PlanStep Work)) (replies : List (PlanReply QueueAnswer))
+    (p : ℕ) : Type 0 where
+  pub guard : ℕ
+  pub work : Work
+  pub later : List (PlanStep Work)
+  pub rest : List (PlanReply QueueAnswer)
+  pub asks : steps ≡ Ask p guard work ∷ later
+  pub begins : replies ≡ World Began ∷ rest
+  pub own : AllGo p later
+  pub tries : HasTries work
+  pub built : IsBuilt old.world
+
+-- a lone call of a queue that goes on from a new one, of at most 64 participants and with one field a cell, does not
+-- run out of tries
+abbrev pub RunsOutOfNone : QueueState → List (PlanStep Work) → QueueState → Vec (PlanReply QueueAnswer) → Type 0
+RunsOutOfNone old steps new replies = (fresh : QueueState) (earlier log : List QueueEntry) (p : ℕ) → StartsEmpty fresh
+    → length fresh.world.seats ≤ 64 → fresh.world.heap.fields ≡ 1 → GoesByQueue fresh earlier old
+    → ListsSteps log steps replies.items → GoesByQueue old log new → IsLoneCall old steps replies.items p
+    → NoneOut replies.items

@@ -1,0 +1,4 @@
+pub mod QueueServes
+pub mod PushThenPop
+pub mod LonePhases
+pub mod LoneRuns

@@ -1,0 +1,2 @@
+pub mod QueueServed
+pub mod Lone

@@ -1,0 +1,44 @@
+//! Which replies the calls of a queue may get: laws of the definitions.
+ghost use Rattle.std.specs.Prelude.{◌≡◌, ◌∷◌, [], ℕ, Bool};
+ghost use Rattle.epoch_laws.specs.Run.{State};
+ghost use Rattle.epoch_plans.specs.Plans.{AllPlans, Asked};
+ghost use Rattle.epoch_queue_laws.specs.Queue.{QueueLog, QueueRuns, begin_work};
+ghost use Rattle.epoch_queue_laws.specs.declared.plan.Phase.{Phase};
+ghost use Rattle.epoch_queue_laws.specs.declared.plan.Work.{Work};
+ghost use Rattle.epoch_queue_laws.specs.declared.plan.QueueAnswer.TheVariants.{Built, Empty, Popped, Pushed};
+ghost use Rattle.epoch_queue_served.specs.QueueServed.{IsUsualQueue, AllAskReady, AllServed};
+ghost use Rattle.epoch_queue_served.specs.QueueServed.{answers_in};
+ghost use Rattle.epoch_queue_served.specs.Lone.{AllOwn, HasTries, IsBuilt, NeverOut};
+
+/// Each call of the world that a phase makes is replied to as expected: none is refused for a guard, a name, a place or a
+/// reading, and none finds nothing there, so that no access answers `Absent`. A flush that makes room may be refused
+/// `BagsFull`, a placing `CellsFull`, and a removal `TicketsOut`, but never for want of room. So a push or a pop answers
+/// `BagsFull` and `CellsFull` only where the world has refused that.
+///
+/// This is of calls that are asked for by a participant that is registered and not paused, under a guard that is out,
+/// and that begin with a flush where the held bag has no room. A world of the queue asks for no others.
+pub fn every_queue_call_is_served()
+    ensures { (world world' : State) (plans plans' : AllPlans Phase) (log : QueueLog) → IsUsualQueue world plans
+        → (run : QueueRuns world plans log world' plans')
+        → AllAskReady world plans log world' plans' run → AllServed world plans log world' plans' run }
+{}
+
+/// A push or a pop of a queue that is built, with no step of others in its midst, never answers that each try was lost,
+/// where a pop has one try and a push two: a push may find a tail that lags, and its first try then goes to helping it.
+pub fn no_lone_queue_call_runs_out_of_tries()
+    ensures { (world world' world'' : State) (plans plans' plans'' : AllPlans Phase) (earlier steps : QueueLog)
+        (p g : ℕ) (work : Work) (has_room : Bool) → IsUsualQueue world plans
+        → (run : QueueRuns world plans earlier world' plans')
+        → AllAskReady world plans earlier world' plans' run → IsBuilt world' → HasTries work
+        → (lone : QueueRuns world' plans' (Asked p g (begin_work work has_room) ∷ steps) world'' plans'')
+        → AllAskReady world' plans' (Asked p g (begin_work work has_room) ∷ steps) world'' plans'' lone
+        → AllOwn p steps → NeverOut steps }
+{}
+
+/// Some run builds the queue, pushes 7, pops 7 and finds the queue empty: what the laws ask of a run is met.
+pub fn some_queue_run_pushes_and_pops()
+    ensures { (world : State) × (plans : AllPlans Phase) × (log : QueueLog) × (world' : State)
+        × (plans' : AllPlans Phase) × IsUsualQueue world plans
+        × (run : QueueRuns world plans log world' plans') × AllAskReady world plans log world' plans' run
+        × (answers_in log ≡ Built ∷ Pushed ∷ Popped 7 ∷ Empty ∷ []) }
+{}
