@@ -1,3 +1,4 @@
+mod OnePhase
 mod SameNumbers
 mod Standing
 mod Walks

@@ -1,11 +1,15 @@
 -- Which path of the queue's program a push or a pop takes, what its answer tells, and what it leaves of the handle.
-use Rattle.std.specs.Prelude.{◌≡◌, ◌⊎◌, ℕ, ◌<◌, Option, Some, None, Result, Ok, Err}
+use Rattle.std.specs.Prelude.{◌≡◌, ◌⊎◌, ℕ, ◌<◌, Bool, true, false, not, Option, Some, None, Result, Ok, Err}
+use Rattle.epoch_cells.specs.declared.cells.name.Name.{Name}
 use Rattle.epoch_cells.specs.declared.fault.Fault.{Fault}
 use Rattle.epoch_cells.specs.declared.fault.Fault.TheVariants.{NoMemory, CellsFull as NoCell, BagsFull as NoPlace}
 use Rattle.epoch_cells.specs.declared.fault.Fault.TheVariants.{TriesOut as NoTry}
 use Rattle.epoch_cells.specs.declared.fault.Refused.{Refused}
 use Rattle.epoch_handles.specs.declared.local.Local.{Local}
 use Rattle.epoch_heap.specs.declared.access.Access.{Access}
+use Rattle.epoch_heap.specs.declared.access.Access.TheVariants.{Place}
+use Rattle.epoch_heap.specs.declared.access.Answer.{Answer}
+use Rattle.epoch_heap.specs.declared.access.Answer.TheVariants.{Pointer}
 use Rattle.epoch_laws.specs.declared.step.Reply.{Reply}
 use Rattle.epoch_plan_threads.specs.Paths.{DoesPlan}
 use Rattle.epoch_queue_laws.specs.declared.plan.Phase.{Phase}
@@ -15,8 +19,32 @@ use Rattle.epoch_queue_laws.specs.declared.plan.QueueAnswer.TheVariants.{Pushed,
 use Rattle.epoch_queue_laws.specs.declared.plan.QueueAnswer.TheVariants.{BagsFull}
 use Rattle.epoch_queue_laws.specs.declared.plan.Work.{Work}
 use Rattle.epoch_queue_laws.specs.declared.plan.Work.TheVariants.{Build, Push, Pop}
-use Rattle.epoch_queue_laws.specs.Queue.{deed_of, start_work}
+use Rattle.epoch_queue_laws.specs.Queue.{deed_of, names, start_work}
 use Rattle.epoch_removals.specs.Removals.{HasRoom, IsFull, MakesRoom, FindsNoPlace, RemovesOne}
+
+-- an access that is never refused: any but a placing
+abbrev pub IsAnswered : Access → Type 0
+IsAnswered (Place value) = ⊥
+IsAnswered access = Unit {0}
+
+-- the node that the loaded pointer leads to
+abbrev pub node_of : Answer → Option Name
+node_of (Pointer ptr) = ptr.name
+node_of answer = None
+
+-- the loaded pointer is null
+abbrev pub is_none : Option Name → Bool
+is_none None = true
+is_none (Some node) = false
+
+abbrev pub is_null : Answer → Bool
+is_null (Pointer ptr) = is_none ptr.name
+is_null answer = false
+
+-- the loaded pointer doesn't lead to this node
+abbrev pub leads_on : Name → Answer → Bool
+leads_on node (Pointer ptr) = not (names ptr.name node)
+leads_on node answer = false
 
 -- A call begins by making room where the held bag is full, and else at once.
 abbrev pub BeginsAt : {T W : Type 0} → Work → Local T W → Phase → Type 0

@@ -5,6 +5,7 @@ mod calls;
 mod node;
 mod queue;
 mod spots;
+mod straight;
 
 pub use calls::{pop_over, push_over};
 pub use node::Node;
