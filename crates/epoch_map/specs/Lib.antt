@@ -1,0 +1,4 @@
+pub mod Calls
+pub mod Entries
+pub mod Leavings
+pub mod Maps
