@@ -95,84 +95,93 @@ fn work<R: Clock + Wait>(
     }
 }
 
-/// The same on a thread of its own, with no functions to defer.
-fn work_apart<R: Clock + Wait>(
-    rt: &R,
-    alloc: Global,
-    size: Size,
-    collector: &Collector<u64>,
-    pointer: &Atomic<u64>,
-    name: &str,
-    span: &Span,
-) {
-    match work_of(name) {
-        Some((what, _)) => {
-            let mut none = Vec::new(alloc);
-            work(rt, alloc, size, collector, pointer, what, span, &mut none);
-        }
-        None => span.miss(),
-    }
+/// What the threads of a round do with a collector and with what else they share.
+///
+/// The two are parameters, so that each is shown by itself to be what threads may share: both at once, beside all else
+/// that a thread takes, are more than the checker finds by itself.
+trait Round<C: Sync>: Sync {
+    /// Does one thread's work.
+    fn take_part<R: Clock + Wait>(
+        &self,
+        rt: &R,
+        alloc: Global,
+        size: Size,
+        collector: &C,
+        span: &Span,
+    );
 }
 
-/// What one thread does with a stack.
-fn push<R: Clock + Wait>(
-    rt: &R,
-    alloc: Global,
-    size: Size,
-    collector: &Collector<Node<u64>>,
-    stack: &Stack<'_, u64>,
-    span: &Span,
-) {
-    let mut nodes = Nodes::register(collector);
-    let start = span.begin(rt, size.threads);
-    let done = match &mut nodes {
-        Some(nodes) => nodes.pushes(alloc, stack, size.turns),
-        None => 0,
-    };
-    span.end(rt, size.threads, start, done);
-    if let Some(nodes) = nodes {
-        nodes.leave(rt);
-    }
+/// A row's pointer, and its name.
+#[derive(Drop)]
+struct Named<'s> {
+    pointer: &'s Atomic<u64>,
+    name: &'s str,
 }
 
-fn work_on_threads<R: Clock + Threads + Wait + Sync>(
-    rt: &R,
-    alloc: Global,
-    threads: u64,
-    turns: u64,
-    collector: &Collector<u64>,
-    pointer: &Atomic<u64>,
-    name: &str,
-    span: &Span,
-) {
-    thread::scope(thread::scope_env(), rt, move |scope| {
-        for _ in 0..threads {
-            let made = scope.spawn(move || {
-                let size = Size { threads, turns };
-                work_apart(rt, alloc, size, collector, pointer, name, span);
-            });
-            if made.is_err() {
-                span.miss();
+impl<'s> Round<Collector<u64>> for Named<'s> {
+    /// As `work`, with no functions to defer.
+    fn take_part<R: Clock + Wait>(
+        &self,
+        rt: &R,
+        alloc: Global,
+        size: Size,
+        collector: &Collector<u64>,
+        span: &Span,
+    ) {
+        match work_of(self.name) {
+            Some((what, _)) => {
+                let mut none = Vec::new(alloc);
+                work(
+                    rt,
+                    alloc,
+                    size,
+                    collector,
+                    self.pointer,
+                    what,
+                    span,
+                    &mut none,
+                );
             }
+            None => span.miss(),
         }
-    });
+    }
 }
 
-fn push_on_threads<R: Clock + Threads + Wait + Sync>(
+impl<'c> Round<Collector<Node<u64>>> for Stack<'c, u64> {
+    /// Pushes and pops.
+    fn take_part<R: Clock + Wait>(
+        &self,
+        rt: &R,
+        alloc: Global,
+        size: Size,
+        collector: &Collector<Node<u64>>,
+        span: &Span,
+    ) {
+        let mut nodes = Nodes::register(collector);
+        let start = span.begin(rt, size.threads);
+        let done = match &mut nodes {
+            Some(nodes) => nodes.pushes(alloc, self, size.turns),
+            None => 0,
+        };
+        span.end(rt, size.threads, start, done);
+        if let Some(nodes) = nodes {
+            nodes.leave(rt);
+        }
+    }
+}
+
+/// Does a round on as many threads as its size says.
+fn on_threads<R: Clock + Threads + Wait + Sync, C: Sync, S: Round<C>>(
     rt: &R,
     alloc: Global,
-    threads: u64,
-    turns: u64,
-    collector: &Collector<Node<u64>>,
-    stack: &Stack<'_, u64>,
+    size: Size,
+    collector: &C,
+    round: &S,
     span: &Span,
 ) {
     thread::scope(thread::scope_env(), rt, move |scope| {
-        for _ in 0..threads {
-            let made = scope.spawn(move || {
-                let size = Size { threads, turns };
-                push(rt, alloc, size, collector, stack, span);
-            });
+        for _ in 0..size.threads {
+            let made = scope.spawn(move || round.take_part(rt, alloc, size, collector, span));
             if made.is_err() {
                 span.miss();
             }
@@ -194,9 +203,9 @@ fn push_rounds<R: Clock + Threads + Wait + Sync>(
     for time in times {
         let span = Span::new();
         if threads == 1 {
-            push(rt, alloc, size, &collector, &stack, &span);
+            stack.take_part(rt, alloc, size, &collector, &span);
         } else {
-            push_on_threads(rt, alloc, threads, turns, &collector, &stack, &span);
+            on_threads(rt, alloc, size, &collector, &stack, &span);
         }
         *time = span.each(turns);
         done = span.done();
@@ -229,7 +238,11 @@ fn work_rounds<R: Clock + Threads + Wait + Sync>(
                 rt, alloc, size, &collector, &pointer, what, &span, functions,
             );
         } else {
-            work_on_threads(rt, alloc, threads, turns, &collector, &pointer, name, &span);
+            let round = Named {
+                pointer: &pointer,
+                name,
+            };
+            on_threads(rt, alloc, size, &collector, &round, &span);
         }
         *time = span.each(turns);
         done = span.done();

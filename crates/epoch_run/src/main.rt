@@ -4,6 +4,7 @@
 
 mod queue;
 mod runs;
+mod sharing;
 mod stack;
 mod tally;
 #[cfg(test)]

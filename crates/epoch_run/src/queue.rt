@@ -1,6 +1,7 @@
 //! `epoch-run queue N K`: N threads that push and pop over one queue, K times each.
 ghost use Rattle.std.specs.Prelude.{◌≡◌};
 
+use crate::sharing::{Structure, start_all};
 use crate::tally::{Popped, TRIES, Tally};
 use crate::threads::leave;
 use epoch_handles::{Capacities, Collector, LocalHandle};
@@ -8,7 +9,6 @@ use epoch_queue::{Node, Queue};
 use epoch_script::Size;
 use std::alloc::Global;
 use std::sync::Wait;
-use std::thread;
 use std::thread::Threads;
 
 /// A whole run: makes the collector and the queue, has all threads push and pop, and ends the collector. `None` where
@@ -23,38 +23,24 @@ pub fn push_and_pop<R: Threads + Wait + Sync>(rt: &R, alloc: Global, size: Size)
     };
     let tally = Tally::new();
     match Queue::new(alloc, &collector) {
-        Ok(queue) => start_all(rt, &collector, &queue, size, &tally),
+        Ok(queue) => start_all(rt, alloc, &collector, &queue, size, &tally),
         Err(_) => tally.refuse(),
     }
     let _ = collector.end();
     tally.popped()
 }
 
-/// Starts all threads, and comes back when they are done.
-fn start_all<R: Threads + Wait + Sync>(
-    rt: &R,
-    collector: &Collector<Node<u64>>,
-    queue: &Queue<'_, u64>,
-    size: Size,
-    tally: &Tally,
-) {
-    thread::scope(thread::scope_env(), rt, move |scope| {
-        for thread in 0..size.threads {
-            // At most 63 times 64.
-            let first = thread.wrapping_mul(size.rounds);
-            let rounds = size.rounds;
-            let started = scope.spawn(move || participate(
-                rt,
-                collector,
-                queue,
-                (first, rounds),
-                tally,
-            ));
-            if started.is_err() {
-                tally.refuse();
-            }
-        }
-    });
+impl<'c> Structure<Collector<Node<u64>>> for Queue<'c, u64> {
+    fn take_part<R: Wait>(
+        &self,
+        rt: &R,
+        _alloc: Global,
+        collector: &Collector<Node<u64>>,
+        values: (u64, u64),
+        tally: &Tally,
+    ) {
+        participate(rt, collector, self, values, tally);
+    }
 }
 
 /// One thread: registers, does a round for each of its values, and releases.

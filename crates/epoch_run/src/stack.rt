@@ -1,6 +1,7 @@
 //! `epoch-run stack N K`: N threads that push and pop over one stack, K times each.
 ghost use Rattle.std.specs.Prelude.{◌≡◌};
 
+use crate::sharing::{Structure, start_all};
 use crate::tally::{Popped, TRIES, Tally};
 use crate::threads::leave;
 use epoch_handles::{Capacities, Collector, LocalHandle};
@@ -8,7 +9,6 @@ use epoch_script::Size;
 use epoch_stack::{Node, Stack};
 use std::alloc::Global;
 use std::sync::Wait;
-use std::thread;
 use std::thread::Threads;
 
 /// A whole run: makes the collector and the stack, has all threads push and pop, and ends the collector. `None` where
@@ -29,33 +29,17 @@ pub fn push_and_pop<R: Threads + Wait + Sync>(rt: &R, alloc: Global, size: Size)
     tally.popped()
 }
 
-/// Starts all threads, and comes back when they are done.
-fn start_all<R: Threads + Wait + Sync>(
-    rt: &R,
-    alloc: Global,
-    collector: &Collector<Node<u64>>,
-    stack: &Stack<'_, u64>,
-    size: Size,
-    tally: &Tally,
-) {
-    thread::scope(thread::scope_env(), rt, move |scope| {
-        for thread in 0..size.threads {
-            // At most 63 times 64.
-            let first = thread.wrapping_mul(size.rounds);
-            let rounds = size.rounds;
-            let started = scope.spawn(move || participate(
-                rt,
-                alloc,
-                collector,
-                stack,
-                (first, rounds),
-                tally,
-            ));
-            if started.is_err() {
-                tally.refuse();
-            }
-        }
-    });
+impl<'c> Structure<Collector<Node<u64>>> for Stack<'c, u64> {
+    fn take_part<R: Wait>(
+        &self,
+        rt: &R,
+        alloc: Global,
+        collector: &Collector<Node<u64>>,
+        values: (u64, u64),
+        tally: &Tally,
+    ) {
+        participate(rt, alloc, collector, self, values, tally);
+    }
 }
 
 /// One thread: registers, does a round for each of its values, and releases.

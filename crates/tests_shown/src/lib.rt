@@ -2,6 +2,8 @@
 #![tactic(auto)]
 
 #[cfg(test)]
+mod machines;
+#[cfg(test)]
 mod structures;
 #[cfg(test)]
 mod wants;
