@@ -15,7 +15,6 @@ import threading
 import time
 
 TICKS = os.sysconf("SC_CLK_TCK")
-PAGE = os.sysconf("SC_PAGE_SIZE")
 KINDS = ("proof", "tests", "wrong bodies")
 
 
@@ -35,9 +34,18 @@ def work_of(pid):
 
 
 def usage_of(pid):
-    """Returns a process's parent, when it started, its processor seconds and its memory in bytes."""
+    """Returns a process's parent, when it started and its processor seconds."""
     fields = text_of(f"/proc/{pid}/stat").rpartition(")")[2].split()
-    return fields[1], fields[19], (int(fields[11]) + int(fields[12])) / TICKS, int(fields[21]) * PAGE
+    return fields[1], fields[19], (int(fields[11]) + int(fields[12])) / TICKS
+
+
+def memory_of(pid):
+    """Returns a process's memory in bytes, with its share of what several processes of one check have in common."""
+    try:
+        return 1024 * int(re.search(r"^Pss:\s+(\d+)", text_of(f"/proc/{pid}/smaps_rollup"), re.M)[1])
+    except (OSError, TypeError):
+        # (it has ended meanwhile)
+        return 0
 
 
 def is_below(pid, found):
@@ -62,10 +70,10 @@ class Samples:
             except (OSError, IndexError, ValueError):
                 # (it has ended meanwhile)
                 pass
-        for pid, (work, _, since, seconds, memory) in found.items():
+        for pid, (work, _, since, seconds) in found.items():
             if work and is_below(pid, found):
                 self.seconds[pid, since] = work, seconds
-                held[work] = held.get(work, 0) + memory
+                held[work] = held.get(work, 0) + memory_of(pid)
         for work, memory in held.items():
             if work not in self.memory:
                 self.said(f"at {time.monotonic() - self.started:.0f} s: {work[0]}, {work[1]}")
