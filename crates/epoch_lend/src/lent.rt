@@ -45,8 +45,8 @@ impl<T> Lent<T> {
         }
     }
 
-    /// Marks the value, so that no look finds it from then on. Who marks it has what was lent of it, and only one does.
-    /// `None`: it was marked before.
+    /// Marks the value, so that no look finds it from then on. The caller that marks it gets what was lent of it, and
+    /// no other caller does. `None`: it was marked before.
     pub fn mark(&self) -> Option<Marked<T>>
         ensures marked { IfSome result (λ marked. (marked.right ≡ 1) × (marked.seen ≡ [])) }
         ensures value { IfSome result (λ marked. (marked.value ≡ self.now.lending.value)

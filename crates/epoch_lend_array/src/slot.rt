@@ -93,8 +93,9 @@ impl<J: PostSet, T> Slot<J, T> {
         self.turns.sight(self.at, turn, pinned.guard())
     }
 
-    /// Marks the value of this turn, by a plain load and one exchange, so that no look finds it from then on. Who marks
-    /// it has what was lent of it, and only one does. `None`: the cell has no value of this turn.
+    /// Marks the value of this turn, by a plain load and one exchange, so that no look finds it from then on. The
+    /// caller that marks it gets what was lent of it, and no other caller does. `None`: the cell has no value of this
+    /// turn.
     pub fn mark(&self, turn: u64) -> Option<Removal<'_, J, T>>
         ensures { IfSome result (λ removal. (removal.name.log ≡ self.now.turns.log) × (removal.name.turn ≡ turn)) }
     {

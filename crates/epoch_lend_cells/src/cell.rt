@@ -116,8 +116,8 @@ impl<'c, 'p, T> Placed<'c, 'p, T> {
         }
     }
 
-    /// Marks the value of this turn, so that no look finds it from then on. Who marks it has what was lent of it, and
-    /// only one does. `None`: it was marked before.
+    /// Marks the value of this turn, so that no look finds it from then on. The caller that marks it gets what was
+    /// lent of it, and no other caller does. `None`: it was marked before.
     pub fn mark(&self) -> Option<Removal<'c, 'p, T>>
         ensures { IfSome result (λ removal. (removal.marked.value ≡ self.now.name.value)
             × (removal.cell.now ≡ self.now.cell.now)) }

@@ -21,7 +21,7 @@ const USUAL_COLLECT_BAGS: u64 = 8;
 pub enum Command {
     /// One step.
     Once(Step),
-    /// So many steps Go, from 1 to 100000, of the participant at this position.
+    /// This many steps Go, from 1 to 100000, of the participant at this position.
     Go(u64, u64),
     /// A whole call of the participant at this position.
     Call(u64, Call),
