@@ -3,8 +3,8 @@
 
 usage: tools/gate.py    at the top of the repository
 
-Figures are sampled each second: processor seconds (user and system) and the most memory of a crate's proof, of the proof of
-its tests, and of its wrong bodies. The total is the system's own count.
+Processor seconds (user and system) are sampled each second, and memory each ten seconds: the most that a crate's proof, the proof
+of its tests, and its wrong bodies took. The total is the system's own count. What failed is told last, below the table.
 """
 import os
 import re
@@ -15,6 +15,8 @@ import threading
 import time
 
 TICKS = os.sysconf("SC_CLK_TCK")
+# To count a process's memory takes the system as long as some ten looks at its processor seconds.
+LOOKS_A_COUNT_OF_MEMORY = 10
 KINDS = ("proof", "tests", "wrong bodies")
 
 
@@ -60,10 +62,12 @@ class Samples:
 
     def __init__(self, said):
         self.said, self.started = said, time.monotonic()
-        self.seconds, self.memory, self.is_over = {}, {}, False
+        self.seconds, self.memory, self.looks, self.is_over = {}, {}, 0, False
 
     def take(self):
         found, held = {}, {}
+        counts_memory = self.looks % LOOKS_A_COUNT_OF_MEMORY == 0
+        self.looks += 1
         for pid in filter(str.isdigit, os.listdir("/proc")):
             try:
                 found[pid] = work_of(pid), *usage_of(pid)
@@ -73,7 +77,7 @@ class Samples:
         for pid, (work, _, since, seconds) in found.items():
             if work and is_below(pid, found):
                 self.seconds[pid, since] = work, seconds
-                held[work] = held.get(work, 0) + memory_of(pid)
+                held[work] = held.get(work, 0) + (memory_of(pid) if counts_memory else 0)
         for work, memory in held.items():
             if work not in self.memory:
                 self.said(f"at {time.monotonic() - self.started:.0f} s: {work[0]}, {work[1]}")
@@ -103,11 +107,12 @@ def main():
     sampling = threading.Thread(target=samples.go_on, daemon=True)
     sampling.start()
     ran = subprocess.Popen(["rt", "ci"], stdin=subprocess.DEVNULL, stdout=subprocess.PIPE, stderr=subprocess.STDOUT, text=True, errors="replace")
-    last = ""
+    last = []
     for line in ran.stdout:
-        if last:
-            said(last)
-        last = line.rstrip("\n")
+        last.append(line.rstrip("\n"))
+        # (two lines: what failed, and how many)
+        if len(last) > 2:
+            said(last.pop(0))
     status = ran.wait()
     samples.is_over = True
     sampling.join()
@@ -116,7 +121,7 @@ def main():
     for row in samples.rows():
         said(row)
     said(f"{used.ru_utime + used.ru_stime:.0f} processor seconds, {time.monotonic() - samples.started:.0f} s on {len(os.sched_getaffinity(0))} processors")
-    said(last)
+    said("\n".join(last))
     return status
 
 
