@@ -3,7 +3,7 @@ use crate::plain::PlainWords;
 use crate::{cells, handles, objects, pointers, steps, threads};
 use epoch_base::Work;
 use epoch_base::table::Participants;
-use std::alloc::Global;
+use std::alloc::{AllocError, Global};
 use std::io;
 use std::sync::Wait;
 use std::thread::Threads;
@@ -12,11 +12,12 @@ use std::time::Clock;
 /// So many words from one plain word to the next, where they stand 128 bytes apart as those of the table do.
 const PADDED: usize = 16;
 
-pub fn run<R: Clock + Print + Threads + Wait + Sync>(
-    rt: &R,
-    alloc: Global,
-    functions: &mut Vec<Work>,
-) -> io::Result<()> {
+pub fn run<R: Clock + Print + Threads + Wait + Sync>(rt: &R, alloc: Global) -> io::Result<()> {
+    let mut functions = Vec::new(alloc);
+    for _ in 0..handles::FUNCTIONS {
+        let run = Box::new(alloc, || {})?;
+        functions.push(Work { run }).map_err(|_| AllocError)?;
+    }
     let Ok(table) = Participants::new(alloc, 4) else {
         return Err(io::Error::from(io::ErrorKind::OutOfMemory));
     };
@@ -24,7 +25,7 @@ pub fn run<R: Clock + Print + Threads + Wait + Sync>(
     let close = PlainWords::new(alloc, 4, 1)?;
     steps::run(rt, &table, &padded)?;
     let collector = handles::collector_of(alloc, 64)?;
-    let mut told = handles::run(rt, alloc, &collector, &padded, functions);
+    let mut told = handles::run(rt, alloc, &collector, &padded, &mut functions);
     if told.is_ok() {
         told = threads::run(rt, &table, &collector, &padded, &close);
     }

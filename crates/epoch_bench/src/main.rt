@@ -16,8 +16,6 @@ mod steps;
 mod threads;
 mod timing;
 
-use epoch_base::Work;
-use std::alloc::AllocError;
 use std::{env, io};
 
 fn main(rt: HostRuntime) -> io::Result<()> {
@@ -30,11 +28,5 @@ fn main(rt: HostRuntime) -> io::Result<()> {
     if !is_long {
         return short::run(&rt);
     }
-    let alloc = rt.alloc();
-    let mut functions = Vec::new(alloc);
-    for _ in 0..handles::FUNCTIONS {
-        let run = Box::new(alloc, || {})?;
-        functions.push(Work { run }).map_err(|_| AllocError)?;
-    }
-    long::run(&rt, alloc, &mut functions)
+    long::run(&rt, rt.alloc())
 }
