@@ -2,6 +2,7 @@
 mod histories;
 mod made;
 mod original;
+mod queue;
 mod replay;
 mod rows;
 mod script;

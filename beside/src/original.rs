@@ -1,5 +1,6 @@
 //! What each row does, on crossbeam-epoch.
 use crate::made::functions;
+use crate::queue::Queue;
 use crate::stack::Stack;
 use crate::timing::on_threads;
 use crossbeam_epoch::{Atomic, Collector, Guard, Owned};
@@ -260,6 +261,23 @@ pub fn pushes(threads: usize, turns: u64) -> Duration {
     let handle = collector.register();
     while stack.pop(&handle.pin()).is_some() {}
     time
+}
+
+/// The same with a queue.
+pub fn enqueues(threads: usize, turns: u64) -> Duration {
+    let collector = Collector::new();
+    let queue: Queue<u64> = Queue::new();
+    on_threads(
+        threads,
+        || collector.register(),
+        |handle| {
+            for turn in 0..turns {
+                queue.push(turn, &handle.pin());
+                black_box(queue.pop(&handle.pin()));
+            }
+        },
+        drop,
+    )
 }
 
 /// Registers a participant and drops it.

@@ -59,6 +59,7 @@ fn rows() -> Vec<Row> {
         row("replace_cas", several, 12_800, replaces_cas),
         row("replace_swap_64_a_guard_flush", several, 12_800, replaces_64),
         row("treiber_push_pop", several, 12_800, pushes),
+        row("queue_push_pop", several, 12_800, enqueues),
         row("register_drop", several, 1_280, registers),
     ]
 }

@@ -55,7 +55,7 @@ impl<'c> Idle<'c> {
             Work::Replace => self.replaces(alloc, pointer, turns),
             Work::ReplaceCas => self.replaces_cas(alloc, pointer, turns),
             Work::Replace64 => self.replaces_64(alloc, pointer, turns),
-            Work::Register | Work::Push => 0,
+            Work::Register | Work::Push | Work::Enqueue => 0,
         }
     }
 

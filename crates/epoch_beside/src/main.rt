@@ -11,9 +11,7 @@ mod rounds;
 mod rows;
 mod span;
 
-use epoch_base::Work;
 use rounds::Size;
-use std::alloc::AllocError;
 use std::{env, io};
 
 /// Turns of a short round.
@@ -30,27 +28,17 @@ fn main(rt: HostRuntime) -> io::Result<()> {
         None => usual,
     };
     let (threads, turns, rounds) = (number(2, 1), number(3, FEW), number(4, 1));
-    let mut functions = Vec::new(alloc);
-    let wanted = match words.get(1) {
-        Some(name) if rows::calls_functions(name.as_str()) => turns.saturating_mul(rounds),
-        Some(_) => 0,
-        None => 2 * FEW,
-    };
-    for _ in 0..wanted {
-        let run = Box::new(alloc, || {})?;
-        functions.push(Work { run }).map_err(|_| AllocError)?;
-    }
     match words.get(1) {
         Some(name) => {
             let size = Size { threads, turns };
-            rounds::time(&rt, alloc, size, name.as_str(), rounds, &mut functions)
+            rounds::time(&rt, alloc, size, name.as_str(), rounds)
         }
         None => {
             let size = Size {
                 threads: 1,
                 turns: FEW,
             };
-            rounds::count(&rt, alloc, size, &mut functions)
+            rounds::count(&rt, alloc, size)
         }
     }
 }

@@ -1,13 +1,14 @@
 //! Rounds of a row's work on one thread or several.
 use crate::idle::Idle;
 use crate::nodes::Nodes;
-use crate::rows::{NAMES, Work, work_of};
+use crate::rows::{NAMES, Work, functions_for, work_of};
 use crate::span::{Hundredths, Span};
 use epoch_base::Work as Function;
 use epoch_pin::atomic::Atomic;
 use epoch_pin::{Capacities, Collector, unprotected};
-use epoch_stack::{Node, Stack};
-use std::alloc::Global;
+use epoch_queue::Queue;
+use epoch_stack::Stack;
+use std::alloc::{AllocError, Global};
 use std::sync::Wait;
 use std::thread::Threads;
 use std::time::Clock;
@@ -147,20 +148,43 @@ impl<'s> Round<Collector<u64>> for Named<'s> {
     }
 }
 
-impl<'c> Round<Collector<Node<u64>>> for Stack<'c, u64> {
+impl<'c> Round<Collector<epoch_stack::Node<u64>>> for Stack<'c, u64> {
     /// Pushes and pops.
     fn take_part<R: Clock + Wait>(
         &self,
         rt: &R,
         alloc: Global,
         size: Size,
-        collector: &Collector<Node<u64>>,
+        collector: &Collector<epoch_stack::Node<u64>>,
         span: &Span,
     ) {
         let mut nodes = Nodes::register(collector);
         let start = span.begin(rt, size.threads);
         let done = match &mut nodes {
             Some(nodes) => nodes.pushes(alloc, self, size.turns),
+            None => 0,
+        };
+        span.end(rt, size.threads, start, done);
+        if let Some(nodes) = nodes {
+            nodes.leave(rt);
+        }
+    }
+}
+
+impl<'c> Round<Collector<epoch_queue::Node<u64>>> for Queue<'c, u64> {
+    /// Pushes and pops.
+    fn take_part<R: Clock + Wait>(
+        &self,
+        rt: &R,
+        _alloc: Global,
+        size: Size,
+        collector: &Collector<epoch_queue::Node<u64>>,
+        span: &Span,
+    ) {
+        let mut nodes = Nodes::register(collector);
+        let start = span.begin(rt, size.threads);
+        let done = match &mut nodes {
+            Some(nodes) => nodes.enqueues(self, size.turns),
             None => 0,
         };
         span.end(rt, size.threads, start, done);
@@ -189,28 +213,56 @@ fn on_threads<R: Clock + Threads + Wait + Sync, C: Sync, S: Round<C>>(
     });
 }
 
-/// Makes rounds of pushes and pops, and answers how many turns of the last one did what they should.
+/// Makes rounds over a structure, and answers how many turns of the last one did what they should.
+fn rounds_over<R: Clock + Threads + Wait + Sync, C: Sync, S: Round<C>>(
+    rt: &R,
+    alloc: Global,
+    size: Size,
+    collector: &C,
+    structure: &S,
+    times: &mut [u64],
+) -> u64 {
+    let mut done = 0;
+    for time in times {
+        let span = Span::new();
+        if size.threads == 1 {
+            structure.take_part(rt, alloc, size, collector, &span);
+        } else {
+            on_threads(rt, alloc, size, collector, structure, &span);
+        }
+        *time = span.each(size.turns);
+        done = span.done();
+    }
+    done
+}
+
+/// Makes rounds of pushes to a stack and pops.
 fn push_rounds<R: Clock + Threads + Wait + Sync>(
     rt: &R,
     alloc: Global,
     size: Size,
     times: &mut [u64],
 ) -> io::Result<u64> {
-    let Size { threads, turns } = size;
     let collector = collector_of(alloc, size, 4)?;
     let stack = Stack::new(&collector);
-    let mut done = 0;
-    for time in times {
-        let span = Span::new();
-        if threads == 1 {
-            stack.take_part(rt, alloc, size, &collector, &span);
-        } else {
-            on_threads(rt, alloc, size, &collector, &stack, &span);
-        }
-        *time = span.each(turns);
-        done = span.done();
-    }
+    let done = rounds_over(rt, alloc, size, &collector, &stack, times);
     drop(stack);
+    collector.end();
+    Ok(done)
+}
+
+/// Makes rounds of pushes to a queue and pops.
+fn enqueue_rounds<R: Clock + Threads + Wait + Sync>(
+    rt: &R,
+    alloc: Global,
+    size: Size,
+    times: &mut [u64],
+) -> io::Result<u64> {
+    let collector = collector_of(alloc, size, 4)?;
+    let done = match Queue::new(alloc, &collector) {
+        Ok(queue) => rounds_over(rt, alloc, size, &collector, &queue, times),
+        Err(_) => 0,
+    };
     collector.end();
     Ok(done)
 }
@@ -222,12 +274,16 @@ fn work_rounds<R: Clock + Threads + Wait + Sync>(
     size: Size,
     name: &str,
     times: &mut [u64],
-    functions: &mut Vec<Function>,
 ) -> io::Result<u64> {
     let Some((what, participants)) = work_of(name) else {
         return Err(io::Error::from(io::ErrorKind::InvalidInput));
     };
     let Size { threads, turns } = size;
+    let mut functions = Vec::new(alloc);
+    for _ in 0..functions_for(name, turns, times.len()) {
+        let run = Box::new(alloc, || {})?;
+        functions.push(Function { run }).map_err(|_| AllocError)?;
+    }
     let collector = collector_of(alloc, size, participants)?;
     let pointer = pointer_to(alloc, &collector);
     let mut done = 0;
@@ -235,7 +291,14 @@ fn work_rounds<R: Clock + Threads + Wait + Sync>(
         let span = Span::new();
         if threads == 1 {
             work(
-                rt, alloc, size, &collector, &pointer, what, &span, functions,
+                rt,
+                alloc,
+                size,
+                &collector,
+                &pointer,
+                what,
+                &span,
+                &mut functions,
             );
         } else {
             let round = Named {
@@ -258,11 +321,11 @@ fn rounds<R: Clock + Threads + Wait + Sync>(
     size: Size,
     name: &str,
     times: &mut [u64],
-    functions: &mut Vec<Function>,
 ) -> io::Result<u64> {
     match work_of(name) {
         Some((Work::Push, _)) => push_rounds(rt, alloc, size, times),
-        _ => work_rounds(rt, alloc, size, name, times, functions),
+        Some((Work::Enqueue, _)) => enqueue_rounds(rt, alloc, size, times),
+        _ => work_rounds(rt, alloc, size, name, times),
     }
 }
 
@@ -273,13 +336,12 @@ pub fn time<R: Clock + Print + Threads + Wait + Sync>(
     size: Size,
     name: &str,
     count: u64,
-    functions: &mut Vec<Function>,
 ) -> io::Result<()> {
     let mut times = Vec::new(alloc);
     for _ in 0..count {
         times.push(0)?;
     }
-    let done = rounds(rt, alloc, size, name, &mut times, functions)?;
+    let done = rounds(rt, alloc, size, name, &mut times)?;
     times.sort_unstable();
     let (Some(least), Some(middle)) = (times.first(), times.get(times.len() / 2)) else {
         return Ok(());
@@ -297,10 +359,9 @@ pub fn count<R: Clock + Print + Threads + Wait + Sync>(
     rt: &R,
     alloc: Global,
     size: Size,
-    functions: &mut Vec<Function>,
 ) -> io::Result<()> {
     for name in NAMES {
-        let done = rounds(rt, alloc, size, name, &mut [0], functions)?;
+        let done = rounds(rt, alloc, size, name, &mut [0])?;
         println!(rt; "{name}: {done} of {}", size.turns)?;
     }
     Ok(())

@@ -1,7 +1,7 @@
 //! The rows of the comparison.
 
 /// A row is a name here, a line in `work_of`, and the same work in `beside/src`.
-pub const NAMES: [&str; 20] = [
+pub const NAMES: [&str; 21] = [
     "pin_unpin",
     "pin_unpin_64_idle",
     "pin_unpin_nested",
@@ -21,6 +21,7 @@ pub const NAMES: [&str; 20] = [
     "replace_cas",
     "replace_swap_64_a_guard_flush",
     "treiber_push_pop",
+    "queue_push_pop",
     "register_drop",
 ];
 
@@ -41,6 +42,7 @@ pub enum Work {
     ReplaceCas,
     Replace64,
     Push,
+    Enqueue,
     Register,
 }
 
@@ -65,15 +67,16 @@ pub fn work_of(name: &str) -> Option<(Work, u32)> {
         "replace_cas" => Some((Work::ReplaceCas, 4)),
         "replace_swap_64_a_guard_flush" => Some((Work::Replace64, 4)),
         "treiber_push_pop" => Some((Work::Push, 4)),
+        "queue_push_pop" => Some((Work::Enqueue, 4)),
         "register_drop" => Some((Work::Register, 4)),
         _ => None,
     }
 }
 
-/// Whether each turn takes a boxed function.
-pub fn calls_functions(name: &str) -> bool {
+/// How many boxed functions the rounds of a row take: one for each turn, or none.
+pub fn functions_for(name: &str, turns: u64, rounds: usize) -> u64 {
     match work_of(name) {
-        Some((Work::Defer | Work::DeferApart, _)) => true,
-        _ => false,
+        Some((Work::Defer | Work::DeferApart, _)) => turns.saturating_mul(rounds as u64),
+        _ => 0,
     }
 }
