@@ -13,8 +13,11 @@ use std::test::Fail;
 /// How many participants there are.
 const PARTICIPANTS: u64 = 3;
 
-/// How many calls each run begins.
+/// How many calls a run begins.
 const CALLS: u64 = 6;
+
+/// How many calls a run begins whose participants renew their pins: enough for bags to expire meanwhile.
+const CALLS_OF_MANY_PINS: u64 = 24;
 
 /// How many keys there are: one bucket has two of them.
 const KEYS: u64 = 3;
@@ -56,11 +59,13 @@ struct UnderWay {
     entry: u64,
 }
 
-/// What is known of a run: whether a participant renews its pin before each call, the calls that are over, those under
-/// way, how many steps were taken and calls begun, and how many removals were called before the end.
+/// What is known of a run: whether a participant renews its pin before each call, how many calls it begins, the calls
+/// that are over, those under way, how many steps were taken and calls begun, and how many removals were called before
+/// the end.
 #[derive(Drop)]
 struct Run {
     renews: bool,
+    calls: u64,
     past: Vec<Past>,
     under_way: [Option<UnderWay>; 3],
     steps: u64,
@@ -134,7 +139,7 @@ fn begin_next(
     draws: &mut Draws,
     participant: u64,
 ) -> Option<UnderWay> {
-    if run.begun >= CALLS {
+    if run.begun >= run.calls {
         return None;
     }
     if run.renews {
@@ -212,7 +217,7 @@ fn take_step(
 /// Whether all calls were begun, and none is under way.
 fn is_done(run: &Run) -> bool {
     let [first, second, third] = run.under_way;
-    run.begun >= CALLS && first.is_none() && second.is_none() && third.is_none()
+    run.begun >= run.calls && first.is_none() && second.is_none() && third.is_none()
 }
 
 /// Takes steps of participants until all calls are over.
@@ -263,6 +268,7 @@ fn run_once(rt: &impl Abort, alloc: Global, draws: &mut Draws, renews: bool) -> 
     let mut map = map_of(rt, alloc, PARTICIPANTS, cells, BAGS)?;
     let mut run = Run {
         renews,
+        calls: if renews { CALLS_OF_MANY_PINS } else { CALLS },
         past: Vec::new(alloc),
         under_way: [None; 3],
         steps: 0,
