@@ -1,30 +1,24 @@
 //! A function that is called later, when nobody who was pinned at its deferral is pinned any more.
+ghost use Rattle.std.specs.Prelude.{◌≡◌, IfErr};
 ghost use Rattle.epoch_handles.specs.Handles.{Owns};
 
-use epoch_base::{Fault, Job, Work};
+use epoch_base::{Job, Refused};
 use epoch_pin::{Guard, LocalHandle};
-use std::alloc::Global;
-use std::sync::Arc;
-use std::sync::atomic::AtomicU64;
-use std::sync::atomic::Ordering::SeqCst;
 
-/// Defers a function that adds one to the count. It is called once, and not before every thread that is pinned now has
-/// unpinned or repinned.
+/// Defers the job, and puts the bag that has it where the collections of all threads find it.
 ///
-/// `NoMemory` or `BagsFull`: nothing is deferred.
-pub fn count_later(
-    alloc: Global,
-    count: Arc<AtomicU64>,
+/// A refused call hands the job back: the handle's bag was full, and there was no place for it. If only the flush finds
+/// no place, the job waits in the handle's bag.
+pub fn call_soon(
+    job: Job,
     handle: &mut LocalHandle<'_, u64>,
     guard: &Guard<'_, u64>,
-) -> Result<(), Fault>
+) -> Result<(), Refused<Job>>
     requires { Owns handle.old guard.now }
     ensures owns { Owns handle.new guard.now }
+    ensures handed_back { IfErr result (λ refused. refused.value ≡ job) }
 {
-    let run = Box::new(alloc, move || {
-        let _ = count.fetch_add(1, SeqCst);
-    });
-    let run = run.map_err(|_| Fault::NoMemory)?;
-    let deferred = handle.defer(guard, Job::Call(Work { run }));
-    deferred.map_err(|refused| refused.fault)
+    handle.defer(guard, job)?;
+    let _ = handle.flush(guard);
+    Ok(())
 }

@@ -2,6 +2,7 @@
 #![tactic(auto)]
 
 pub mod crossed_out;
+pub mod deferred;
 pub mod last_owner;
 pub mod replacement;
 pub mod schedule;

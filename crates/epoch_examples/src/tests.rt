@@ -1,15 +1,18 @@
 //! Runs the examples, on threads where they are for threads.
 use crate::crossed_out::{Entry, List};
+use crate::deferred::call_soon;
 use crate::last_owner::take_apart;
 use crate::replacement::read_late;
 use crate::schedule::half_a_pin;
 use crate::shared_value::{read, replace};
+use epoch_base::{Job, Work};
 use epoch_pin::atomic::Atomic;
 use epoch_pin::{Capacities, Collector, LocalHandle};
 use epoch_stack::{Node, Stack};
 use epoch_world::{Answer, Reply};
 use std::alloc::Global;
 use std::process::Abort;
+use std::sync::Arc;
 use std::sync::atomic::AtomicU64;
 use std::sync::atomic::Ordering::SeqCst;
 use std::test::Fail;
@@ -60,6 +63,55 @@ fn readers_read_while_one_thread_replaces(rt: HostRuntime) -> Result<(), Fail> {
             let _ = scope.spawn(move || read_500(host, shared, place));
         }
     });
+    let _ = collector.end();
+    Ok(())
+}
+
+/// Pins, flushes and unpins, three times.
+fn flush_3(rt: &impl Abort, handle: &mut LocalHandle<'_, u64>) {
+    for _ in 0..3u64 {
+        assert!(rt; handle.can_pin());
+        let guard = handle.pin();
+        handle.flush(&guard).expect(rt, "a place for the bag");
+        handle.unpin(guard);
+    }
+}
+
+/// Defers the job, and flushes while another participant is pinned, and then when it is not. Answers what the count is
+/// after each.
+fn counts(
+    rt: &impl Abort,
+    collector: &Collector<u64>,
+    job: Job,
+    count: &Arc<AtomicU64>,
+) -> (u64, u64) {
+    let mut reader = collector.register().expect(rt, "a free position");
+    let mut writer = collector.register().expect(rt, "a free position");
+    assert!(rt; reader.can_pin());
+    let reading = reader.pin();
+    assert!(rt; writer.can_pin());
+    let guard = writer.pin();
+    assert!(rt; call_soon(job, &mut writer, &guard).is_ok());
+    writer.unpin(guard);
+    flush_3(rt, &mut writer);
+    let before = count.load(SeqCst);
+    reader.unpin(reading);
+    flush_3(rt, &mut writer);
+    leave(rt, reader);
+    leave(rt, writer);
+    (before, count.load(SeqCst))
+}
+
+#[test]
+fn a_deferred_function_waits_for_a_pin(rt: HostRuntime) -> Result<(), Fail> {
+    let count = Arc::new(rt.alloc(), AtomicU64::new(0))?;
+    let counted = count.clone()?;
+    let run = Box::new(rt.alloc(), move || {
+        let _ = counted.fetch_add(1, SeqCst);
+    })?;
+    let job = Job::Call(Work { run });
+    let collector = Collector::<u64>::new(rt.alloc(), Capacities::usual(2, 1, 4), 1)?;
+    assert_eq!(rt; counts(&rt, &collector, job, &count), (0, 1));
     let _ = collector.end();
     Ok(())
 }
