@@ -1,8 +1,10 @@
 //! The cells of an array, and where a value is in it.
-ghost use Rattle.std.specs.Prelude.{◌≡◌, ◌+◌, ◌*◌, Some, length, map, IfSome, IfOk, IfErr};
-ghost use Rattle.std.specs.List.{slice_get};
+ghost use Rattle.std.specs.Prelude.{◌≡◌, ◌+◌, ◌*◌, ◌≤◌, min, Some, length, map, IfSome, IfOk, IfErr};
+ghost use Rattle.std.specs.List.{All, slice_get};
+ghost use Rattle.epoch_lend_cells.specs.declared.cell.TheConstants.{GREATEST_TURN};
 
 use crate::slot::{Removal, Slot};
+use epoch_lend_cells::cell::GREATEST_TURN;
 use epoch_lend_cells::sight::Sight;
 use epoch_lend_cells::turns::Name;
 use epoch_lend_readers::posts::{PostSet, Posts};
@@ -27,25 +29,32 @@ pub struct Placed<T> {
 #[derive(Drop)]
 pub struct LendingCells<J: PostSet, T> {
     slots: Vec<Slot<J, T>>,
+    last_turn: u64,
+    pub ghost bounded: { last_turn ≤ GREATEST_TURN },
+    pub ghost alike: { All (λ s. s.last_turn ≡ last_turn) slots.items },
 }
 
 impl<J: PostSet, T: Default + Drop> LendingCells<J, T> {
-    /// This many empty cells. `T::default()` lies in each until its first value comes, and no look finds it. It fails
-    /// for want of memory alone, and the cells' places in memory are never freed.
+    /// This many empty cells. The last turn of each is this one, or [`GREATEST_TURN`] where that is less. `T::default()`
+    /// lies in each until its first value comes, and no look finds it. It fails for want of memory alone, and the cells'
+    /// places in memory are never freed.
     pub fn new(
         alloc: Global,
         count: usize,
+        last_turn: u64,
         posts: &Posts<J>,
     ) -> Result<LendingCells<J, T>, AllocError>
-        ensures { IfOk result (λ cells. length cells.slots.items ≡ count) }
+        ensures count { IfOk result (λ cells. length cells.slots.items ≡ count) }
+        ensures last_turn { IfOk result (λ cells. cells.last_turn ≡ min last_turn GREATEST_TURN) }
     {
+        let last_turn = last_turn.min(GREATEST_TURN);
         let mut slots = Vec::with_capacity(alloc, count)?;
         for position in 0..count {
             let _ = position;
-            let slot = Slot::new(alloc, T::default(), posts)?;
+            let slot = Slot::new(alloc, T::default(), last_turn, posts)?;
             slots.push(slot).map_err(|_| AllocError)?;
         }
-        Ok(LendingCells { slots })
+        Ok(LendingCells { slots, last_turn })
     }
 }
 
@@ -55,6 +64,14 @@ impl<J: PostSet, T> LendingCells<J, T> {
         ensures { result ≡ length self.now.slots.items }
     {
         self.slots.len()
+    }
+
+    /// The last turn at which a cell takes a value.
+    pub fn last_turn(&self) -> u64
+        ensures value { result ≡ self.now.last_turn }
+        ensures within { result ≤ GREATEST_TURN }
+    {
+        self.last_turn
     }
 
     /// Two plain loads. Where a value is shown at this spot, it is lent for as long as the reference to the pinned
@@ -95,11 +112,12 @@ impl<J: PostSet, T> LendingCells<J, T> {
 
 impl<J: PostSet, T: Drop> LendingCells<J, T> {
     /// Places a value in the first cell that is seen empty, and answers where. Hands it back where each cell was seen
-    /// in use, or past its last turn.
+    /// in use, or past the last turn.
     pub fn place(&self, value: T) -> Result<Placed<T>, T>
         ensures slot { IfOk result (λ placed. slice_get (map (λ s. s.turns.log) self.now.slots.items) placed.spot.slot
             ≡ Some placed.name.log) }
         ensures turn { IfOk result (λ placed. placed.name.turn ≡ placed.spot.turn) }
+        ensures within { IfOk result (λ placed. placed.spot.turn ≤ self.now.last_turn) }
         ensures placed { IfOk result (λ placed. placed.name.value ≡ value) }
         ensures handed_back { IfErr result (λ back. back ≡ value) }
     {

@@ -1,13 +1,13 @@
 //! One cell of an array, which holds one value after another, a turn each.
-ghost use Rattle.std.specs.Prelude.{◌≡◌, ◌+◌, ◌*◌, ◌≤◌, ◌++◌, [], IfSome, IfOk, IfErr};
+ghost use Rattle.std.specs.Prelude.{◌≡◌, ◌+◌, ◌*◌, ◌≤◌, ◌++◌, [], min, IfSome, IfOk, IfErr};
 ghost use Rattle.epoch_lend.specs.Posts.{logs_of};
 ghost use Rattle.epoch_lend.specs.Loans.{Within, AreShown};
 ghost use Rattle.epoch_lend.specs.Watching.{AreWatched};
-ghost use Rattle.epoch_lend_cells.specs.declared.cell.TheConstants.{LAST_TURN};
+ghost use Rattle.epoch_lend_cells.specs.declared.cell.TheConstants.{GREATEST_TURN};
 
 use epoch_lend::lending::Marked;
 use epoch_lend::watch::Watch;
-use epoch_lend_cells::cell::LAST_TURN;
+use epoch_lend_cells::cell::GREATEST_TURN;
 use epoch_lend_cells::sight::Sight;
 use epoch_lend_cells::turns::{Name, Turns, Vacancy, place_of};
 use epoch_lend_readers::posts::{Of, PostSet, Posts};
@@ -22,6 +22,8 @@ pub struct Slot<J: PostSet, T> {
     turns: Turns<T>,
     at: *const T,
     set: Of<J>,
+    last_turn: u64,
+    pub ghost bounded: { last_turn ≤ GREATEST_TURN },
     pub ghost same: { at ≡ turns.at },
     pub ghost of_posts: { turns.posts ≡ logs_of J.posts },
 }
@@ -37,19 +39,23 @@ pub struct Removal<'c, J: PostSet, T> {
     pub ghost rights: { (marked.right ≡ 1) × (vacancy.right ≡ 1) },
     pub ghost alike: { (vacancy.value ≡ marked.value) × (vacancy.lifetime ≡ marked.lifetime) },
     pub ghost of_slot: { (vacancy.state ≡ slot.now.turns.state) × (vacancy.at ≡ slot.now.turns.at) },
-    pub ghost of_turn: { (vacancy.word ≡ 4 * turn + 3) × (turn ≤ LAST_TURN) },
+    pub ghost of_turn: { (vacancy.word ≡ 4 * turn + 3) × (turn ≤ GREATEST_TURN) },
     pub ghost lent: { Within (logs_of J.posts) marked.loans },
     pub ghost named: { (name.log ≡ slot.now.turns.log) × (name.turn ≡ turn) × (name.value ≡ marked.value) },
 }
 
 impl<J: PostSet, T: Drop> Slot<J, T> {
-    /// An empty cell at turn 0. The filler lies in its place, and no look finds it, until the first value comes. It
-    /// fails for want of memory alone, and its place in memory is never freed.
+    /// An empty cell at turn 0. Its last turn is this one, or [`GREATEST_TURN`] where that is less. The filler lies in
+    /// its place, and no look finds it, until the first value comes. It fails for want of memory alone, and its place in
+    /// memory is never freed.
     pub fn new<A: Allocator + Drop>(
         alloc: A,
         filler: T,
+        last_turn: u64,
         posts: &Posts<J>,
-    ) -> Result<Slot<J, T>, AllocError> {
+    ) -> Result<Slot<J, T>, AllocError>
+        ensures last_turn { IfOk result (λ slot. slot.last_turn ≡ min last_turn GREATEST_TURN) }
+    {
         let whole = Box::new(alloc, filler)?;
         let (place, _alloc) = place_of(whole);
         let (turns, at) = Turns::new(place, posts.as_slice());
@@ -57,6 +63,7 @@ impl<J: PostSet, T: Drop> Slot<J, T> {
             turns,
             at,
             set: Of(PhantomData),
+            last_turn: last_turn.min(GREATEST_TURN),
         })
     }
 
@@ -65,13 +72,14 @@ impl<J: PostSet, T: Drop> Slot<J, T> {
     pub fn place(&self, value: T) -> Result<(u64, Name<T>), T>
         ensures placed { IfOk result (λ placed. (placed.1.log ≡ self.now.turns.log) × (placed.1.turn ≡ placed.0)
             × (placed.1.value ≡ value)) }
+        ensures within { IfOk result (λ placed. placed.0 ≤ self.now.last_turn) }
         ensures handed_back { IfErr result (λ back. back ≡ value) }
     {
         let (found, which) = self.turns.find(0, 2);
         which.done();
         let turn = found / 4;
         let vacant = 4 * turn;
-        if found != vacant || turn > LAST_TURN {
+        if found != vacant || turn > self.last_turn {
             return Err(value);
         }
         let (again, claim) = self.turns.claim(self.at, turn, vacant, vacant + 1);
@@ -99,7 +107,7 @@ impl<J: PostSet, T> Slot<J, T> {
     pub fn mark(&self, turn: u64) -> Option<Removal<'_, J, T>>
         ensures { IfSome result (λ removal. (removal.name.log ≡ self.now.turns.log) × (removal.name.turn ≡ turn)) }
     {
-        if turn > LAST_TURN {
+        if turn > GREATEST_TURN {
             return None;
         }
         let shown = 4 * turn + 2;

@@ -122,7 +122,7 @@ fn rounds_over<R: Clock + Threads + Wait + Sync, J: PostSet + Send + Sync>(
 {
     let (threads, turns, rounds) = size;
     let posts = Posts::<J>::of(alloc, made)?;
-    let cells = LendingCells::new(alloc, 4, &posts)?;
+    let cells = LendingCells::new(alloc, 4, u64::MAX, &posts)?;
     let spot = match cells.place(VALUE) {
         Ok(placed) => placed.spot,
         Err(_) => Spot { slot: 0, turn: 0 },

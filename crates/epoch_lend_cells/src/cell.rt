@@ -1,16 +1,16 @@
 //! A cell that lends: one place in memory, which holds one value after another, and guards look at each by one load.
-ghost use Rattle.std.specs.Prelude.{◌≡◌, ℕ, ◌+◌, ◌*◌, ◌≤◌, IfSome, IfOk, IfErr};
+ghost use Rattle.std.specs.Prelude.{◌≡◌, ℕ, ◌+◌, ◌*◌, ◌<◌, ◌≤◌, min, IsErr, IfSome, IfOk, IfErr};
 ghost use Rattle.epoch_lend.specs.Posts.{IsAmong, logs_of};
 ghost use Rattle.epoch_lend.specs.Loans.{Within, EachSeen, is_sealed};
-ghost use Rattle.epoch_lend_cells.specs.declared.cell.TheConstants.{LAST_TURN};
+ghost use Rattle.epoch_lend_cells.specs.declared.cell.TheConstants.{GREATEST_TURN};
 
 use crate::turns::{Name, Turns, Vacancy, place_of};
 use epoch_lend::lending::Marked;
 use epoch_lend::post::{Guard, Post};
 use std::alloc::{AllocError, Allocator};
 
-/// The last turn of a cell: the word of the turn after it is the greatest multiple of 4 that fits.
-pub const LAST_TURN: u64 = 0x3fff_ffff_ffff_fffe;
+/// The greatest last turn of a cell: the word of the turn after it is the greatest multiple of 4 that fits.
+pub const GREATEST_TURN: u64 = 0x3fff_ffff_ffff_fffe;
 
 /// A cell that lends its values to guards of some posts. Each value has a turn of its own, and no turn comes twice.
 #[derive(Drop)]
@@ -18,6 +18,8 @@ pub struct LendingCell<'p, T> {
     pub(crate) turns: Turns<T>,
     pub(crate) at: *const T,
     posts: &'p [Post],
+    last_turn: u64,
+    pub ghost bounded: { last_turn ≤ GREATEST_TURN },
     pub ghost same: { at ≡ turns.at },
     pub ghost of_posts: { turns.posts ≡ logs_of posts.now },
 }
@@ -31,7 +33,7 @@ pub struct Placed<'c, 'p, T> {
     pub word: u64,
     pub ghost of_cell: { name.log ≡ cell.now.turns.log },
     pub ghost of_turn: { (turn ≡ name.turn) × (word ≡ 4 * turn + 2) },
-    pub ghost within: { turn ≤ LAST_TURN },
+    pub ghost within: { turn ≤ cell.now.last_turn },
 }
 
 /// A value that a mark took out of its cell, with what was lent of it.
@@ -44,7 +46,7 @@ pub struct Removal<'c, 'p, T> {
     pub ghost rights: { (marked.right ≡ 1) × (vacancy.right ≡ 1) },
     pub ghost alike: { (vacancy.value ≡ marked.value) × (vacancy.lifetime ≡ marked.lifetime) },
     pub ghost of_cell: { (vacancy.state ≡ cell.now.turns.state) × (vacancy.at ≡ cell.now.turns.at) },
-    pub ghost of_turn: { (vacancy.word ≡ 4 * turn + 3) × (turn ≤ LAST_TURN) },
+    pub ghost of_turn: { (vacancy.word ≡ 4 * turn + 3) × (turn ≤ GREATEST_TURN) },
     pub ghost lent: { Within (logs_of cell.now.posts.now) marked.loans },
 }
 
@@ -57,29 +59,46 @@ pub struct Sealed<'c, 'p, T> {
 }
 
 impl<'p, T: Drop> LendingCell<'p, T> {
-    /// An empty cell at turn 0. Guards of these posts may look at its values. The filler lies in its place, and no
-    /// guard sees it, until the first value takes its turn. The place in memory is never freed.
+    /// An empty cell at turn 0. Guards of these posts may look at its values. Its last turn is this one, or
+    /// [`GREATEST_TURN`] where that is less. The filler lies in its place, and no guard sees it, until the first value
+    /// takes its turn. The place in memory is never freed.
     pub fn new<A: Allocator + Drop>(
         alloc: A,
         filler: T,
+        last_turn: u64,
         posts: &'p [Post],
     ) -> Result<LendingCell<'p, T>, AllocError>
-        ensures { IfOk result (λ cell. cell.posts.now ≡ posts.now) }
+        ensures posts { IfOk result (λ cell. cell.posts.now ≡ posts.now) }
+        ensures last_turn { IfOk result (λ cell. cell.last_turn ≡ min last_turn GREATEST_TURN) }
     {
         let whole = Box::new(alloc, filler)?;
         let (place, _alloc) = place_of(whole);
         let (turns, at) = Turns::new(place, posts);
-        Ok(LendingCell { turns, at, posts })
+        Ok(LendingCell {
+            turns,
+            at,
+            posts,
+            last_turn: last_turn.min(GREATEST_TURN),
+        })
+    }
+
+    /// The last turn at which the cell takes a value.
+    pub fn last_turn(&self) -> u64
+        ensures value { result ≡ self.now.last_turn }
+        ensures within { result ≤ GREATEST_TURN }
+    {
+        self.last_turn
     }
 
     /// Places a value at this turn, and answers its name. The filler that lay there is dropped. Hands the value back
-    /// where the cell isn't empty at this turn, or the turn is past the last.
+    /// where the cell isn't empty at this turn, or the turn is past the cell's last.
     pub fn place(&self, turn: u64, value: T) -> Result<Placed<'_, 'p, T>, T>
         ensures placed { IfOk result (λ placed. (placed.turn ≡ turn) × (placed.cell.now ≡ self.now)
             × (placed.name.value ≡ value)) }
+        ensures past_last { self.now.last_turn < turn → IsErr result }
         ensures handed_back { IfErr result (λ back. back ≡ value) }
     {
-        if turn > LAST_TURN {
+        if turn > self.last_turn {
             return Err(value);
         }
         let vacant = 4 * turn;

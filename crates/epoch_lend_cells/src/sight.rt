@@ -2,7 +2,7 @@
 ghost use Rattle.std.specs.Prelude.{◌≡◌, IfSome};
 ghost use Rattle.epoch_lend.specs.Posts.{IsAmong, logs_of};
 
-use crate::cell::{LAST_TURN, LendingCell};
+use crate::cell::{GREATEST_TURN, LendingCell};
 use crate::turns::{Name, Turns};
 use epoch_lend::post::Guard;
 
@@ -16,13 +16,13 @@ pub struct Sight<'g, T> {
 
 impl<T> Turns<T> {
     /// Two plain loads. Where both find the word of a value that is shown at this turn, that value is lent for as long
-    /// as the guard is. `None`: no value is shown at this turn, or it is past the last. The guard must be of one of the
-    /// place's posts.
+    /// as the guard is. `None`: no value is shown at this turn, as at each past [`GREATEST_TURN`]. The guard must be of
+    /// one of the place's posts.
     pub fn sight<'g>(&self, at: *const T, turn: u64, guard: &'g Guard) -> Option<Sight<'g, T>>
         requires { (at ≡ self.now.at) × IsAmong guard.now.log self.now.posts }
         ensures { IfSome result (λ sight. (sight.name.log ≡ self.now.log) × (sight.name.turn ≡ turn)) }
     {
-        if turn > LAST_TURN {
+        if turn > GREATEST_TURN {
             return None;
         }
         let shown = 4 * turn + 2;

@@ -27,7 +27,7 @@ impl Session for Places {
     type Answer = (u64, u64);
 
     fn run<J: PostSet + Send + Sync>(self, posts: Posts<J>) -> (u64, u64) {
-        let Ok(slot) = Slot::new(self.alloc, 0u64, &posts) else {
+        let Ok(slot) = Slot::new(self.alloc, 0u64, u64::MAX, &posts) else {
             return (0, 0);
         };
         let _ = slot.place(7);
@@ -100,7 +100,7 @@ impl Session for Fills {
 
     fn run<J: PostSet + Send + Sync>(self, posts: Posts<J>) -> Filled {
         let none = Spot { slot: 99, turn: 99 };
-        let Ok(cells) = LendingCells::new(self.alloc, 2, &posts) else {
+        let Ok(cells) = LendingCells::new(self.alloc, 2, u64::MAX, &posts) else {
             return (0, (none, none, none), 0, (none, false));
         };
         let first = placed(&cells, 7);
@@ -147,5 +147,46 @@ fn a_cell_of_an_array_is_used_again_at_its_next_turn(rt: HostRuntime) -> Result<
         Spot { slot: 0, turn: 1 },
     );
     want(&rt, "its old turn is not", is_gone, true);
+    Ok(())
+}
+
+/// Fills an array of two cells whose last turn is 0, and tries to use one again.
+#[derive(Drop)]
+struct EndsAtOnce {
+    alloc: Global,
+}
+
+impl Session for EndsAtOnce {
+    type Answer = (u64, u64, Spot, Spot);
+
+    fn run<J: PostSet + Send + Sync>(self, posts: Posts<J>) -> (u64, u64, Spot, Spot) {
+        let none = Spot { slot: 99, turn: 99 };
+        let Ok(cells) = LendingCells::new(self.alloc, 2, 0, &posts) else {
+            return (99, 0, none, none);
+        };
+        let first = placed(&cells, 7);
+        let back = taken(self.alloc, &posts, &cells, first);
+        let second = placed(&cells, 8);
+        (cells.last_turn(), back, second, placed(&cells, 9))
+    }
+}
+
+#[test]
+fn a_cell_of_an_array_is_done_after_its_last_turn(rt: HostRuntime) -> Result<(), Fail> {
+    let (last, back, second, third) = with_posts(rt.alloc(), 1, EndsAtOnce { alloc: rt.alloc() })?;
+    want(&rt, "the last turn is 0", last, 0);
+    want(&rt, "the first value comes back", back, 7);
+    want(
+        &rt,
+        "the second is in the other cell",
+        second,
+        Spot { slot: 1, turn: 0 },
+    );
+    want(
+        &rt,
+        "no cell takes a third",
+        third,
+        Spot { slot: 99, turn: 99 },
+    );
     Ok(())
 }

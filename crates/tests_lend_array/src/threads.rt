@@ -256,7 +256,7 @@ fn start<J: PostSet + Send + Sync, R: Threads + Wait>(
     requires { made.posts.items ≡ J.posts }
 {
     let posts = Posts::<J>::of(alloc, made)?;
-    let cells = LendingCells::new(alloc, 8, &posts)?;
+    let cells = LendingCells::new(alloc, 8, u64::MAX, &posts)?;
     run_at_once(rt, alloc, threads, &posts, &cells, course);
     Ok(())
 }
@@ -368,7 +368,7 @@ fn stalls_over<J: PostSet + Send + Sync, R: Threads>(
     requires { made.posts.items ≡ J.posts }
 {
     let posts = Posts::<J>::of(alloc, made)?;
-    let cells = LendingCells::new(alloc, 1, &posts)?;
+    let cells = LendingCells::new(alloc, 1, u64::MAX, &posts)?;
     if let Ok(placed) = cells.place(pair_of(7)) {
         signals.root.store(word_of(placed.spot), SeqCst);
     }

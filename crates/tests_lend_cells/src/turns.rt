@@ -3,7 +3,7 @@ ghost use Rattle.epoch_lend.specs.Posts.{IsAmong, logs_of};
 
 use crate::wants::want;
 use epoch_lend::post::{Guard, Post};
-use epoch_lend_cells::cell::{LAST_TURN, LendingCell, Placed, Sealed};
+use epoch_lend_cells::cell::{GREATEST_TURN, LendingCell, Placed, Sealed};
 use std::test::Fail;
 
 /// What a look at the name finds, or 0.
@@ -49,7 +49,7 @@ fn takes(cell: &LendingCell<'_, u64>, turn: u64) -> bool {
 fn a_cell_is_used_again_at_the_next_turn(rt: HostRuntime) -> Result<(), Fail> {
     let (first, unpinned) = Post::new();
     let posts = [first];
-    let cell = LendingCell::new(rt.alloc(), 3, &posts)?;
+    let cell = LendingCell::new(rt.alloc(), 3, u64::MAX, &posts)?;
     let Ok(old) = cell.place(0, 7) else {
         want(&rt, "an empty cell takes a value", false, true);
         return Ok(());
@@ -64,7 +64,7 @@ fn a_cell_is_used_again_at_the_next_turn(rt: HostRuntime) -> Result<(), Fail> {
     want(
         &rt,
         "nor one past the last turn",
-        takes(&cell, LAST_TURN + 1),
+        takes(&cell, GREATEST_TURN + 1),
         false,
     );
     let (pin, guard) = posts[0].pin(unpinned, 1);
@@ -97,4 +97,38 @@ fn tried<'c, 'p>(sealed: Option<Sealed<'c, 'p, u64>>) -> (u64, Option<Sealed<'c,
         Some(sealed) => one_try(sealed),
         None => (2, None),
     }
+}
+
+/// Places a value at turn 0 and takes it back, with nobody pinned. Answers it, or 0.
+fn used_once(cell: &LendingCell<'_, u64>) -> u64 {
+    match cell.place(0, 7) {
+        Ok(placed) => tried(removed(&placed)).0,
+        Err(_) => 0,
+    }
+}
+
+#[test]
+fn a_cell_takes_no_value_past_its_last_turn(rt: HostRuntime) -> Result<(), Fail> {
+    let (first, _) = Post::new();
+    let posts = [first];
+    let cases = [
+        (0, 0, false),
+        (1, 1, true),
+        (0xffff_ffff, 0xffff_ffff, true),
+        (GREATEST_TURN, GREATEST_TURN, true),
+        (GREATEST_TURN + 1, GREATEST_TURN, true),
+        (u64::MAX, GREATEST_TURN, true),
+    ];
+    for (given, last, takes_a_second) in cases {
+        let cell = LendingCell::new(rt.alloc(), 3, given, &posts)?;
+        want(&rt, "this is its last turn", cell.last_turn(), last);
+        want(&rt, "a value comes at turn 0", used_once(&cell), 7);
+        want(
+            &rt,
+            "the next one only up to the last turn",
+            takes(&cell, 1),
+            takes_a_second,
+        );
+    }
+    Ok(())
 }
