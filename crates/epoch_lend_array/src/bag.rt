@@ -124,7 +124,7 @@ impl<'c, J: PostSet, T> SealedBag<'c, J, T> {
     }
 }
 
-impl<'c, J: PostSet, T: Default> ClearBag<'c, J, T> {
+impl<'c, J: PostSet, T> ClearBag<'c, J, T> {
     /// Takes the value of the last removal out of its slot, which is empty at its next turn from then on, and answers
     /// the value with its name. `None`: each value was taken out.
     pub fn next(&mut self) -> Option<(T, Name<T>)>
@@ -134,7 +134,7 @@ impl<'c, J: PostSet, T: Default> ClearBag<'c, J, T> {
         ensures value { MatchOption result (Unit {0}) (λ back. back.0 ≡ back.1.value) }
     {
         match self.removals.pop() {
-            Some(removal) => Some(removal.take(&mut self.watch, T::default())),
+            Some(removal) => Some(removal.take(&mut self.watch)),
             None => None,
         }
     }

@@ -34,10 +34,10 @@ pub struct LendingCells<J: PostSet, T> {
     pub ghost alike: { All (λ s. s.last_turn ≡ last_turn) slots.items },
 }
 
-impl<J: PostSet, T: Default + Drop> LendingCells<J, T> {
-    /// This many empty cells. The last turn of each is this one, or [`GREATEST_TURN`] where that is less. `T::default()`
-    /// lies in each until its first value comes, and no look finds it. It fails for want of memory alone, and the cells'
-    /// places in memory are never freed.
+impl<J: PostSet, T: Drop> LendingCells<J, T> {
+    /// This many empty cells. The last turn of each is this one, or [`GREATEST_TURN`] where that is less. It fails for
+    /// want of memory alone. The cells' places in memory are never freed, and values that are still in the cells when
+    /// these are dropped are not dropped.
     pub fn new(
         alloc: Global,
         count: usize,
@@ -51,7 +51,7 @@ impl<J: PostSet, T: Default + Drop> LendingCells<J, T> {
         let mut slots = Vec::with_capacity(alloc, count)?;
         for position in 0..count {
             let _ = position;
-            let slot = Slot::new(alloc, T::default(), last_turn, posts)?;
+            let slot = Slot::new(alloc, last_turn, posts)?;
             slots.push(slot).map_err(|_| AllocError)?;
         }
         Ok(LendingCells { slots, last_turn })

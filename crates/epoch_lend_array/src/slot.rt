@@ -9,7 +9,7 @@ use epoch_lend::lending::Marked;
 use epoch_lend::watch::Watch;
 use epoch_lend_cells::cell::GREATEST_TURN;
 use epoch_lend_cells::sight::Sight;
-use epoch_lend_cells::turns::{Name, Turns, Vacancy, place_of};
+use epoch_lend_cells::turns::{Name, Place, Turns, Vacancy};
 use epoch_lend_readers::posts::{Of, PostSet, Posts};
 use epoch_lend_readers::reader::Pinned;
 use std::alloc::{AllocError, Allocator};
@@ -45,20 +45,17 @@ pub struct Removal<'c, J: PostSet, T> {
 }
 
 impl<J: PostSet, T: Drop> Slot<J, T> {
-    /// An empty cell at turn 0. Its last turn is this one, or [`GREATEST_TURN`] where that is less. The filler lies in
-    /// its place, and no look finds it, until the first value comes. It fails for want of memory alone, and its place in
-    /// memory is never freed.
+    /// An empty cell at turn 0. Its last turn is this one, or [`GREATEST_TURN`] where that is less. It fails for want
+    /// of memory alone. The place in memory is never freed, and a value that is still in the cell when the cell is
+    /// dropped is not dropped.
     pub fn new<A: Allocator + Drop>(
         alloc: A,
-        filler: T,
         last_turn: u64,
         posts: &Posts<J>,
     ) -> Result<Slot<J, T>, AllocError>
         ensures last_turn { IfOk result (λ slot. slot.last_turn ≡ min last_turn GREATEST_TURN) }
     {
-        let whole = Box::new(alloc, filler)?;
-        let (place, _alloc) = place_of(whole);
-        let (turns, at) = Turns::new(place, posts.as_slice());
+        let (turns, at) = Turns::new(Place::new(alloc)?, posts.as_slice());
         Ok(Slot {
             turns,
             at,
@@ -87,8 +84,8 @@ impl<J: PostSet, T: Drop> Slot<J, T> {
             claim.done();
             return Err(value);
         }
-        let (claim, _filler) = claim.swap(value);
-        Ok((turn, self.turns.show(claim, turn, vacant + 2)))
+        let filled = claim.fill(value);
+        Ok((turn, self.turns.show(filled, turn, vacant + 2)))
     }
 }
 
@@ -158,9 +155,9 @@ impl<'c, J: PostSet, T> Removal<'c, J, T> {
         }
     }
 
-    /// Takes the value out of its slot, leaves the filler, and makes the slot empty at its next turn. The watch must
-    /// have seen that each guard with a loan is over.
-    pub(crate) fn take(self, watch: &mut Watch, filler: T) -> (T, Name<T>)
+    /// Takes the value out of its slot, and makes the slot empty at its next turn. The watch must have seen that each
+    /// guard with a loan is over.
+    pub(crate) fn take(self, watch: &mut Watch) -> (T, Name<T>)
         requires watched { AreWatched self.marked.loans watch.old.loans }
         requires shown { AreShown watch.old.seen watch.old.loans }
         ensures value { (result.0 ≡ result.1.value) × (result.1 ≡ self.entry.name) }
@@ -174,7 +171,7 @@ impl<'c, J: PostSet, T> Removal<'c, J, T> {
             turn,
         } = self;
         let all = watch.collect(marked);
-        let (claim, value) = vacancy.reclaim(all).swap(filler);
+        let (claim, value) = vacancy.reclaim(all).take();
         slot.turns.release(claim, turn, 4 * turn + 4);
         (value, name)
     }

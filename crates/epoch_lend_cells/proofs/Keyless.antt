@@ -1,10 +1,9 @@
 -- What a place and what is taken of it say names no thread's token.
 use Rattle.std.proofs.Common.{ℕ, zero, suc, [], ◌∷◌}
-use Rattle.std.specs.Prelude.{Option, Some, None}
 use base.Growing.{latest, at_least}
 use base.Shift.{Keyless}
 use denote.RattleType.{RattleType}
-use denote.RawPtr.{Ptr}
+use denote.RawPtr.{Ptr, block_ptr, null_ptr}
 use denote.Param.Send.{IsSend, IsSync}
 use Rattle.std_alloc.proofs.SendSync.{seen, lies}
 use Rattle.epoch_lend.proofs.Keyless.{loans_keyless}
@@ -17,7 +16,9 @@ use Rattle.epoch_lend_cells.specs.Turning.{
   removed,
   TurnOf,
   turn_is,
+  room_of,
   claim_of,
+  filled_has,
   vacancy_of,
   turn_holds,
   turns_so_far,
@@ -34,10 +35,15 @@ so_far_keyless : (R : RattleType) (d : TurnNames) (t : ℕ) → Keyless (turns_s
 unfolding latest
 so_far_keyless R d t = λ es. (tt, λ _. tt)
 
+-- nor does room for a value
+room_keyless : (R : RattleType) (p : Ptr) → Keyless (room_of R p)
+room_keyless R (block_ptr b o) = tt
+room_keyless R null_ptr = tt
+
 -- nor does what a place has at a stage
 holds_keyless : (R : RattleType) → IsSend R → IsSync R → (d : TurnNames) (s : TurnStage) → Keyless (turn_holds R d s)
 unfolding latest
-holds_keyless R s y d (vacant t) = (tt, (so_far_keyless R d t, λ x. lies R s d.at x))
+holds_keyless R s y d (vacant t) = (tt, (so_far_keyless R d t, room_keyless R d.at))
 holds_keyless R s y d (claimed t) = so_far_keyless R d t
 holds_keyless R s y d (shown t) = (
   tt,
@@ -65,11 +71,13 @@ pub turns_keyless : (R : RattleType) → IsSend R → IsSync R → (d : TurnName
 turns_keyless R s y d n = λ z. ((λ _. tt), (tt, holds_keyless R s y d z))
 
 -- nor does what a claim has
-pub claim_keyless : (R : RattleType) → IsSend R → (p : Ptr) (δ n : ℕ) (v : Option R.Denot) (k : ℕ)
-    → Keyless (claim_of R p δ n v k)
-claim_keyless R s p δ n v zero = tt
-claim_keyless R s p δ n None (suc k) = tt
-claim_keyless R s p δ n (Some x) (suc k) = (tt, lies R s p x)
+pub claim_keyless : (R : RattleType) (p : Ptr) (δ n k : ℕ) → Keyless (claim_of R p δ n k)
+claim_keyless R p δ n zero = tt
+claim_keyless R p δ n (suc k) = (tt, room_keyless R p)
+
+-- nor does what a claimed place with a value has
+pub filled_keyless : (R : RattleType) → IsSend R → (p : Ptr) (δ n : ℕ) (x : R.Denot) → Keyless (filled_has R p δ n x)
+filled_keyless R s p δ n x = (tt, lies R s p x)
 
 -- nor does what a mark has beside the loans
 pub vacancy_keyless : (R : RattleType) → IsSend R → (p : Ptr) (δ n : ℕ) (e : TurnOf R.Denot) (k : ℕ)

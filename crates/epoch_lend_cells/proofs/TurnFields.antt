@@ -16,6 +16,7 @@ use Rattle.std_alloc.proofs.ResultValues.{and_tt}
 use Rattle.epoch_lend.proofs.Fields.{word}
 use Rattle.epoch_lend_cells.specs.contracts.turns.Place as place
 use Rattle.epoch_lend_cells.specs.contracts.turns.Claim as claim
+use Rattle.epoch_lend_cells.specs.contracts.turns.Filled as filled
 use Rattle.epoch_lend_cells.specs.contracts.turns.Vacancy as vacancy
 use Rattle.epoch_lend_cells.specs.contracts.turns.Name as name
 use Rattle.epoch_lend_cells.specs.contracts.turns.Found as found
@@ -48,6 +49,22 @@ module _ (R : RattleType) where
   pub claim_made : {M : Type 1} {𝓤 : Ura M} (𝓛 : Logic 𝓤) (p : Ptr)
       → ent 𝓤 (emp 𝓤) (sem 𝓛 (Claim.own_val (p, tt) (word p ∷ [])))
   claim_made 𝓛 p = makes_shadow 𝓛 (Claim.own_val (p, tt) (word p ∷ [])) (λ vss. (tt, (tt, tt))) (
+    (ptr_val p ∷ [], tt),
+    (refl, (refl, tt)),
+  )
+
+module _ (R : RattleType) where
+  abbrev pub Filled : RattleType
+  Filled = Struct (shape (filled.the_type R))
+
+  -- its bytes are its pointer
+  pub filled_told : (p : Ptr) (vs : List Val) → Is Filled (p, tt) vs → vs ≡ word p ∷ []
+  filled_told p vs is = is.1.0 ∙ ap (λ (ws : List Val). vstruct (of_list (ws ++ [])) ∷ []) is.1.1.0
+
+  -- it is made of its pointer
+  pub filled_made : {M : Type 1} {𝓤 : Ura M} (𝓛 : Logic 𝓤) (p : Ptr)
+      → ent 𝓤 (emp 𝓤) (sem 𝓛 (Filled.own_val (p, tt) (word p ∷ [])))
+  filled_made 𝓛 p = makes_shadow 𝓛 (Filled.own_val (p, tt) (word p ∷ [])) (λ vss. (tt, (tt, tt))) (
     (ptr_val p ∷ [], tt),
     (refl, (refl, tt)),
   )
@@ -185,13 +202,13 @@ pub begun_typed : (p : Ptr)
 begun_typed (block_ptr b o) = (tt, ((record { fits = lit< tt }, (tt, tt)), (tt, tt)))
 begun_typed null_ptr = (tt, ((record { fits = lit< tt }, (tt, tt)), (record { fits = lit< tt }, tt)))
 
--- what a swap answers
+-- what a take answers
 abbrev pub two_of : Val → Val → Val
 two_of v w = vstruct (vcons v (vcons w vnil))
 
--- what a swap answers is of its type
-pub swapped_typed : (E : El) (p : Ptr) (v : Val) → Good E v
+-- what a take answers is of its type
+pub taken_typed : (E : El) (p : Ptr) (v : Val) → Good E v
     → T (has_ty (ty_struct [] (tcons (ty_struct [] (tcons ty_ptr tnil)) (tcons (elτ E) tnil))) (two_of (word p) v)) × WT
     (two_of (word p) v)
-swapped_typed E (block_ptr b o) v f = (and_tt (has_ty (elτ E) v) f.0, ((tt, tt), (f.1, tt)))
-swapped_typed E null_ptr v f = (and_tt (has_ty (elτ E) v) f.0, ((record { fits = lit< tt }, tt), (f.1, tt)))
+taken_typed E (block_ptr b o) v f = (and_tt (has_ty (elτ E) v) f.0, ((tt, tt), (f.1, tt)))
+taken_typed E null_ptr v f = (and_tt (has_ty (elτ E) v) f.0, ((record { fits = lit< tt }, tt), (f.1, tt)))

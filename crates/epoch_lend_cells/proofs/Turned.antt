@@ -13,7 +13,7 @@ use prog.Atomic.{either}
 use base.Fraction.{full_share}
 use base.Stored.{gnum, num}
 use base.Growing.{latest, at_least}
-use base.Logic.{SProp, ent, sep, ex, all_e, guard, upd, upd_i, emp, never_e}
+use base.Logic.{SProp, ent, sep, ex, all_e, guard, upd, upd_i, emp}
 use base.Fml.{Lft, GName, Share, Fml, ftrue, fsep, fex, fall, flft, fobs, fauth, fbor, flent}
 use types.Logic.{Logic, sem}
 use types.Kit.{‵, raw, ◌⊛◌, given, ◌$◌, ◌∵◌, !, qed, by, move, keep, drop, split, split3, fsplit, fsplit3, fjoin}
@@ -21,20 +21,19 @@ use types.Kit.{fjoin3}
 use types.Kit.{fpick, fpack, learn, show, frame, each, assume, suffices, settle, use0, use1, use2, use3, rewrite, done}
 use types.Growing.{latest_grows, latest_shows, latest_bounds, at_least_dup}
 use denote.RattleType.{RattleType, RowLaws}
-use denote.RawPtr.{Ptr, block_ptr, lies_at}
+use denote.RawPtr.{block_ptr, lies_at}
 use denote.SharingLaws.{contraction}
 use denote.Steps.{nothing}
 use denote.Struct.Lending.{lent_at}
 use Rattle.core.specs.Sync.RawAtomic.{asks, always, word}
 use Rattle.core.proofs.raw_atomic.Asked.{borrowed, Lies, Again}
 use Rattle.epoch_lend.specs.Posts.{known, is_among, IsAmong}
-use Rattle.std.specs.Prelude.{Option, Some, None}
 use Rattle.epoch_lend.specs.Loans.{Loan, filled_pocket, stock, Shown, are_within, Within, marked_owns}
 use Rattle.epoch_lend.proofs.Loans.{lends}
 use Rattle.epoch_lend.proofs.Reading as reading
 use Rattle.epoch_lend_cells.specs.Turning.{TurnNames, TurnStage, vacant, claimed, shown, removed, turn_word, TurnOf}
 use Rattle.epoch_lend_cells.specs.Turning.{turn_logs, turn_in, turn_is, claim_has, claim_of, vacancy_of, log_of}
-use Rattle.epoch_lend_cells.specs.Turning.{lent_with, lent_of, shown_with, vacant_with, turn_holds, at_turn}
+use Rattle.epoch_lend_cells.specs.Turning.{lent_with, lent_of, shown_with, turn_holds, at_turn}
 use Rattle.epoch_lend_cells.specs.Turning.{at_turn_word, turns_at}
 
 -- the stage of a word that is four times a turn
@@ -122,13 +121,15 @@ module _ {M : Type 1} {𝓤 : Ura M} (𝓛 : Logic 𝓤) (R : RattleType) (d : T
 
   -- ---- a claim
   module _ (t : ℕ) where
+    abbrev pub Gained : Fml
+    Gained = claim_has R d.at δ (4 * t + 1)
+
     abbrev pub Claimed : ℕ → Fml
-    Claimed n = fall (n ≡ 4 * t) (λ _. fex R.Denot (claim_has R d.at δ (4 * t + 1)))
+    Claimed n = fall (n ≡ 4 * t) (λ _. Gained)
 
     -- nothing is claimed by an exchange that found another word
     unclaimed : (n : ℕ) → n ≢ 4 * t → emp 𝓤 ⊢ ⟦ Claimed n ⟧
-    unclaimed n miss = qed 𝓛 [] ∵ each ! (λ (_ : n ≡ 4 * t). ⟦ fex R.Denot (claim_has R d.at δ (4 * t + 1)) ⟧) (λ e.
-        absurd (miss e))
+    unclaimed n miss = qed 𝓛 [] ∵ each ! (λ (_ : n ≡ 4 * t). ⟦ Gained ⟧) (λ e. absurd (miss e))
 
     -- an exchange that finds the place vacant takes the place out
     claims_hit : (n : ℕ) → n ≡ 4 * t → ⟦ W n ⟧ ∗ ⟦ ftrue ⟧ ⊢ upd 𝓤 (⟦ W (4 * t + 1) ⟧ ∗ ⟦ Claimed n ⟧)
@@ -139,13 +140,11 @@ module _ {M : Type 1} {𝓤 : Ura M} (𝓛 : Logic 𝓤) (R : RattleType) (d : T
         move ! (0 ∷ 3 ∷ []) $
         use2 𝓛 (raw (upd 𝓤 (A.obs δ u ∗ A.auth δ u))) (𝓛.names.name_set_upd δ (gnum (4 * t)) (gnum n) u) $
         settle 𝓛 Goal (‵ (fobs δ u) ⊛ ‵ (fauth δ u)) $ split ! $ suffices ! Goal (upd_i 𝓤 Goal) $
-        -- [obs; auth; turns; the value]
+        -- [obs; auth; turns; the room]
         move ! (1 ∷ 2 ∷ []) $ fjoin ! $ nothing ! $
         fpack ! (4 * t + 1 ≡ 4 * t + 1) (λ _. ftrue) refl $ fjoin ! $
-        fpack ! TurnStage (at_turn R d (4 * t + 1)) (claimed t) $ frame ! $ keep ! (0 ∷ 1 ∷ []) $
-        move ! (1 ∷ []) $ fpick ! (λ x. move ! (1 ∷ 0 ∷ []) $ fjoin ! $ fpack ! R.Denot (claim_has R d.at δ (4 * t +
-        1)) x $
-        each ! (λ (_ : n ≡ 4 * t). ⟦ fex R.Denot (claim_has R d.at δ (4 * t + 1)) ⟧) (λ _. done !))))
+        fpack ! TurnStage (at_turn R d (4 * t + 1)) (claimed t) $ frame ! $ keep ! (0 ∷ 1 ∷ []) $ fjoin ! $
+        each ! (λ (_ : n ≡ 4 * t). ⟦ Gained ⟧) (λ _. done !)))
 
     -- an exchange that finds another word leaves all as it is
     claims_miss : (n : ℕ) → n ≢ 4 * t → ⟦ W n ⟧ ∗ ⟦ ftrue ⟧ ⊢ upd 𝓤 (⟦ W n ⟧ ∗ ⟦ Claimed n ⟧)
@@ -363,9 +362,9 @@ module _ {M : Type 1} {𝓤 : Ura M} (𝓛 : Logic 𝓤) (R : RattleType) (d : T
           (λ miss. subst F (sym (ne_eqb n w miss)) (sees_miss n))
 
   -- ---- a place is vacant again, at the next turn
-  module _ (t : ℕ) (x : R.Denot) where
+  module _ (t : ℕ) where
     abbrev pub Removed : Fml
-    Removed = claim_has R d.at δ (4 * t + 3) x
+    Removed = claim_has R d.at δ (4 * t + 3)
 
     -- who has the word gives the place back
     releases : (n : ℕ) → ⟦ W n ⟧ ∗ ⟦ Removed ⟧ ⊢ upd 𝓤 (⟦ W (4 * suc t) ⟧ ∗ ⟦ ftrue ⟧)
@@ -379,9 +378,9 @@ module _ {M : Type 1} {𝓤 : Ura M} (𝓛 : Logic 𝓤) (R : RattleType) (d : T
         move ! (1 ∷ 2 ∷ []) $
         use2 𝓛 (raw (upd 𝓤 (A.obs δ u ∗ A.auth δ u))) (𝓛.names.name_set_upd δ (gnum (4 * t + 3)) (gnum n) u) $
         settle 𝓛 Goal (‵ (fobs δ u) ⊛ ‵ (fauth δ u)) $ split ! $ suffices ! Goal (upd_i 𝓤 Goal) $
-        -- [obs; auth; turns; the value]
-        move ! (3 ∷ []) $ fpack ! R.Denot (vacant_with R d) x $ move ! (1 ∷ 3 ∷ 0 ∷ []) $ fjoin3 ! $
-        move ! (1 ∷ 0 ∷ []) $ fjoin ! $ nothing ! $ fpack ! (4 * suc t ≡ 4 * suc t) (λ _. ftrue) refl $ fjoin ! $
+        -- [obs; auth; turns; the room]
+        move ! (0 ∷ 2 ∷ 3 ∷ []) $ fjoin3 ! $ move ! (1 ∷ 0 ∷ []) $ fjoin ! $ nothing ! $
+        fpack ! (4 * suc t ≡ 4 * suc t) (λ _. ftrue) refl $ fjoin ! $
         fpack ! TurnStage (at_turn R d (4 * suc t)) (vacant (suc t)) $ frame ! $ nothing ! $ done !)))
 
   -- ---- under the invariant
@@ -421,10 +420,9 @@ module _ {M : Type 1} {𝓤 : Ura M} (𝓛 : Logic 𝓤) (R : RattleType) (d : T
     marks_it t e = stepped (λ n. either (eqb n (4 * t + 2)) (4 * t + 3) n) (Outed t e) (Known t e) (marks t e)
 
     -- one store makes the place vacant
-    pub releases_it : (t : ℕ) (x : R.Denot) → A.inv (fbor α Memory) ∗ (A.lft α q ∗ ⟦ Removed t x ⟧) ⊢ asks 𝓛
-        (block_ptr b
-        (o + 0)) (λ _. 4 * suc t) always (λ n. fsep (flft α q) ftrue)
-    releases_it t x = stepped (λ _. 4 * suc t) (λ _. ftrue) (Removed t x) (releases t x)
+    pub releases_it : (t : ℕ) → A.inv (fbor α Memory) ∗ (A.lft α q ∗ ⟦ Removed t ⟧) ⊢ asks 𝓛 (block_ptr b (o + 0)) (λ _.
+        4 * suc t) always (λ n. fsep (flft α q) ftrue)
+    releases_it t = stepped (λ _. 4 * suc t) (λ _. ftrue) (Removed t) (releases t)
 
     -- one plain load looks at the value
     pub sees_it : (t : ℕ) (e : E) (L : RowLaws R) (γ epoch η : ℕ) (of : IsAmong η d.posts) (r : Share) (pocket : GName)
@@ -440,17 +438,15 @@ module _ {M : Type 1} {𝓤 : Ura M} (𝓛 : Logic 𝓤) (R : RattleType) (d : T
   Gains old n k = (n ≡ old → k ≡ 1) × (n ≢ old → k ≡ 0)
 
   module _ (t n : ℕ) where
-    abbrev pub Gain : ℕ × Option R.Denot → Pr
-    Gain g = guard 𝓤 (Gains (4 * t) n g.0) ⟦ claim_of R d.at δ (4 * t + 1) g.1 g.0 ⟧
+    abbrev pub Gain : ℕ → Pr
+    Gain k = guard 𝓤 (Gains (4 * t) n k) ⟦ claim_of R d.at δ (4 * t + 1) k ⟧
 
     -- a claim has the place where the word was that of a vacant place at this turn, and else nothing
     pub gains : ⟦ Claimed t n ⟧ ⊢ ex 𝓤 Gain
     gains = dite (ℕ_discrete n (4 * t))
-        (λ hit. qed 𝓛 (‵ (Claimed t n) ∷ []) ∵ use1 𝓛 (‵ (fex R.Denot (claim_has R d.at δ (4 * t + 1)))) (all_e 𝓤 (λ
-        (_ : n
-        ≡ 4 * t). ⟦ fex R.Denot (claim_has R d.at δ (4 * t + 1)) ⟧) hit) $ fpick ! (λ x. show ! Gain (1, Some x) $
-        types.Kit.check ! ((λ _. refl), (λ miss. absurd (miss hit))) $ done !))
-        (λ miss. qed 𝓛 (‵ (Claimed t n) ∷ []) ∵ drop ! $ nothing ! $ show ! Gain (0, None) $
+        (λ hit. qed 𝓛 (‵ (Claimed t n) ∷ []) ∵ use1 𝓛 (‵ (Gained t)) (all_e 𝓤 (λ (_ : n ≡ 4 * t). ⟦ Gained t ⟧) hit) $
+        show ! Gain 1 $ types.Kit.check ! ((λ _. refl), (λ miss. absurd (miss hit))) $ done !)
+        (λ miss. qed 𝓛 (‵ (Claimed t n) ∷ []) ∵ drop ! $ nothing ! $ show ! Gain 0 $
         types.Kit.check ! ((λ hit. absurd (miss hit)), (λ _. refl)) $ done !)
 
   module _ (t : ℕ) (e : E) (n : ℕ) where
@@ -468,13 +464,3 @@ module _ {M : Type 1} {𝓤 : Ura M} (𝓛 : Logic 𝓤) (R : RattleType) (d : T
         show ! Take (1, ls) $ types.Kit.check ! (((λ _. refl), (λ miss. absurd (miss hit))), within) $ done !)))
         (λ miss. qed 𝓛 (‵ (Outed t e n) ∷ []) ∵ drop ! $ nothing ! $ nothing ! $ fjoin ! $ show ! Take (0, []) $
         types.Kit.check ! (((λ hit. absurd (miss hit)), (λ _. refl)), refl) $ done !)
-
-  -- who has the right of a claim has its value
-  abbrev pub Opened : ℕ → Option R.Denot → Ptr → R.Denot → Fml
-  Opened k v p x = fex (v ≡ Some x) (λ _. claim_has R p δ k x)
-
-  pub claim_opens : (k : ℕ) (v : Option R.Denot) (p : Ptr) → ⟦ claim_of R p δ k v 1 ⟧ ⊢ ⟦ fex R.Denot (Opened k v p) ⟧
-  claim_opens k None p = never_e 𝓤 _
-  claim_opens k (Some x) p = qed 𝓛 (‵ (claim_has R p δ k x) ∷ []) ∵ fpack ! (Some x ≡ Some x) (λ _. claim_has R p δ k
-      x) refl $
-      fpack ! R.Denot (Opened k (Some x) p) x $ done !

@@ -7,7 +7,9 @@ use base.Stored.{Coded, coded×, coded_ℕ, coded_list, coded_via, gnum}
 use base.Fml.{Lft, Fml, ftrue, ffalse, fsep, fex, fobs, fauth, fbor, flent}
 use base.Growing.{Order, prefixes, latest, at_least}
 use denote.RattleType.{RattleType}
-use denote.RawPtr.{Ptr, block_ptr, null_ptr, coded_ptr, lies_at}
+use mir.Raw.{raw}
+use denote.Memory.{lone}
+use denote.RawPtr.{Ptr, block_ptr, null_ptr, coded_ptr, lies_at, room_for}
 use denote.Sharing.{said, beside, some, ends, always}
 use denote.Struct.Lending.{lent_at}
 use Rattle.core.specs.Sync.RawAtomic.{word}
@@ -65,17 +67,21 @@ turn_is R log turn e = fex (List (TurnOf R.Denot)) (turn_in R log turn e)
 abbrev pub turn_shares : (R : RattleType) → ℕ → ℕ → TurnOf R.Denot → Lft → Fml
 turn_shares R log turn e = said (turn_is R log turn e)
 
+-- room for a value, at the type as the machine sees it, as a box has it
+abbrev pub room_of : (R : RattleType) → Ptr → Fml
+room_of R p = room_for (raw (lone R.mir)) p
+
+-- the right of who has the word, and room for a value
+abbrev pub claim_has : (R : RattleType) → Ptr → ℕ → ℕ → Fml
+claim_has R p state n = fsep (fobs state (gnum n)) (room_of R p)
+
+abbrev pub claim_of : (R : RattleType) → Ptr → ℕ → ℕ → ℕ → Fml
+claim_of R p state n zero = ftrue
+claim_of R p state n (suc k) = claim_has R p state n
+
 -- the right of who has the word, and all of the value
-abbrev pub claim_has : (R : RattleType) → Ptr → ℕ → ℕ → R.Denot → Fml
-claim_has R p state n x = fsep (fobs state (gnum n)) (lies_at R full_share p x)
-
-abbrev pub claim_some : (R : RattleType) → Ptr → ℕ → ℕ → Option R.Denot → Fml
-claim_some R p state n (Some x) = claim_has R p state n x
-claim_some R p state n None = ffalse
-
-abbrev pub claim_of : (R : RattleType) → Ptr → ℕ → ℕ → Option R.Denot → ℕ → Fml
-claim_of R p state n v zero = ftrue
-claim_of R p state n v (suc k) = claim_some R p state n v
+abbrev pub filled_has : (R : RattleType) → Ptr → ℕ → ℕ → R.Denot → Fml
+filled_has R p state n x = fsep (fobs state (gnum n)) (lies_at R full_share p x)
 
 -- the right of who removed a value: the word, and the value once its lifetime is over
 abbrev pub vacancy_has : (R : RattleType) → Ptr → ℕ → ℕ → TurnOf R.Denot → Fml
@@ -114,11 +120,8 @@ module _ (R : RattleType) (d : TurnNames) where
   shown_with turn s = fsep (latest (turn_logs R) full_share d.log (s.0 ++ s.1 ∷ [])) (fsep (known (length s.0 ≡ turn))
       (lent_of s.1))
 
-  abbrev pub vacant_with : R.Denot → Fml
-  vacant_with x = lies_at R full_share d.at x
-
   abbrev pub turn_holds : TurnStage → Fml
-  turn_holds (vacant turn) = fsep (fobs d.state (gnum (4 * turn))) (fsep (turns_so_far turn) (fex R.Denot vacant_with))
+  turn_holds (vacant turn) = fsep (fobs d.state (gnum (4 * turn))) (fsep (turns_so_far turn) (room_of R d.at))
   turn_holds (claimed turn) = turns_so_far turn
   turn_holds (shown turn) = fsep (fobs d.state (gnum (4 * turn + 2))) (fex (List (TurnOf R.Denot) × TurnOf R.Denot)
       (shown_with turn))

@@ -4,7 +4,7 @@ ghost use Rattle.epoch_lend.specs.Posts.{IsAmong, logs_of};
 ghost use Rattle.epoch_lend.specs.Loans.{Within, EachSeen, is_sealed};
 ghost use Rattle.epoch_lend_cells.specs.declared.cell.TheConstants.{GREATEST_TURN};
 
-use crate::turns::{Name, Turns, Vacancy, place_of};
+use crate::turns::{Name, Place, Turns, Vacancy};
 use epoch_lend::lending::Marked;
 use epoch_lend::post::{Guard, Post};
 use std::alloc::{AllocError, Allocator};
@@ -60,20 +60,17 @@ pub struct Sealed<'c, 'p, T> {
 
 impl<'p, T: Drop> LendingCell<'p, T> {
     /// An empty cell at turn 0. Guards of these posts may look at its values. Its last turn is this one, or
-    /// [`GREATEST_TURN`] where that is less. The filler lies in its place, and no guard sees it, until the first value
-    /// takes its turn. The place in memory is never freed.
+    /// [`GREATEST_TURN`] where that is less. It fails for want of memory alone. The place in memory is never freed, and
+    /// a value that is still in the cell when the cell is dropped is not dropped.
     pub fn new<A: Allocator + Drop>(
         alloc: A,
-        filler: T,
         last_turn: u64,
         posts: &'p [Post],
     ) -> Result<LendingCell<'p, T>, AllocError>
         ensures posts { IfOk result (λ cell. cell.posts.now ≡ posts.now) }
         ensures last_turn { IfOk result (λ cell. cell.last_turn ≡ min last_turn GREATEST_TURN) }
     {
-        let whole = Box::new(alloc, filler)?;
-        let (place, _alloc) = place_of(whole);
-        let (turns, at) = Turns::new(place, posts);
+        let (turns, at) = Turns::new(Place::new(alloc)?, posts);
         Ok(LendingCell {
             turns,
             at,
@@ -90,8 +87,8 @@ impl<'p, T: Drop> LendingCell<'p, T> {
         self.last_turn
     }
 
-    /// Places a value at this turn, and answers its name. The filler that lay there is dropped. Hands the value back
-    /// where the cell isn't empty at this turn, or the turn is past the cell's last.
+    /// Places a value at this turn, and answers its name. Hands the value back where the cell isn't empty at this turn,
+    /// or the turn is past the cell's last.
     pub fn place(&self, turn: u64, value: T) -> Result<Placed<'_, 'p, T>, T>
         ensures placed { IfOk result (λ placed. (placed.turn ≡ turn) × (placed.cell.now ≡ self.now)
             × (placed.name.value ≡ value)) }
@@ -107,8 +104,7 @@ impl<'p, T: Drop> LendingCell<'p, T> {
             claim.done();
             return Err(value);
         }
-        let (claim, _filler) = claim.swap(value);
-        let name = self.turns.show(claim, turn, vacant + 2);
+        let name = self.turns.show(claim.fill(value), turn, vacant + 2);
         Ok(Placed {
             cell: self,
             name,
@@ -185,13 +181,13 @@ impl<'c, 'p, T> Removal<'c, 'p, T> {
 }
 
 impl<'c, 'p, T> Sealed<'c, 'p, T> {
-    /// Looks at each post once more. Where none is pinned in an epoch before the seal, the value comes out whole, the
-    /// filler takes its place, and the cell is empty at the next turn. Else the removal and the filler come back, to be
-    /// tried again, since a guard that had a loan may live.
-    pub fn take_back(self, filler: T) -> Result<T, (Sealed<'c, 'p, T>, T)>
+    /// Looks at each post once more. Where none is pinned in an epoch before the seal, the value comes out whole, and
+    /// the cell is empty at the next turn. Else the removal comes back, to be tried again, since a guard that had a
+    /// loan may live.
+    pub fn take_back(self) -> Result<T, Sealed<'c, 'p, T>>
         ensures value { IfOk result (λ value. value ≡ self.entry.removal.marked.value) }
-        ensures again { IfErr result (λ back. (back.0.removal.marked.value ≡ self.entry.removal.marked.value)
-            × (back.0.removal.marked.loans ≡ self.entry.removal.marked.loans) × (back.1 ≡ filler)) }
+        ensures again { IfErr result (λ back. (back.removal.marked.value ≡ self.entry.removal.marked.value)
+            × (back.removal.marked.loans ≡ self.entry.removal.marked.loans)) }
     {
         let Sealed { removal, seal } = self;
         let Removal {
@@ -202,7 +198,7 @@ impl<'c, 'p, T> Sealed<'c, 'p, T> {
         } = removal;
         match marked.take_back(cell.posts, seal) {
             Ok(all) => {
-                let (claim, value) = vacancy.reclaim(all).swap(filler);
+                let (claim, value) = vacancy.reclaim(all).take();
                 cell.turns.release(claim, turn, 4 * turn + 4);
                 Ok(value)
             }
@@ -213,7 +209,7 @@ impl<'c, 'p, T> Sealed<'c, 'p, T> {
                     vacancy,
                     turn,
                 };
-                Err((Sealed { removal, seal }, filler))
+                Err(Sealed { removal, seal })
             }
         }
     }

@@ -1,21 +1,21 @@
 //! The word of a place that values take turns at.
 ghost use Rattle.std.specs.Prelude.{◌≡◌, ◌≢◌, ℕ, ◌+◌, ◌*◌, ◌^◌, [], Option, Some};
 ghost use Rattle.std.specs.Coded.{coded_option};
-ghost use Rattle.std.specs.Borrow.{full_share};
-ghost use Rattle.std.specs.Ptr.{Ptr, lies_at};
+ghost use Rattle.std.specs.Ptr.{Ptr};
 ghost use Rattle.epoch_lend.specs.Posts.{IsAmong, logs_of};
 ghost use Rattle.epoch_lend.specs.Loans.{Within};
-ghost use Rattle.epoch_lend_cells.specs.Turning.{TurnNames, turn_names_coded, turns_own, turns_share};
-ghost use Rattle.epoch_lend_cells.specs.Turning.{turn_is, turn_shares, claim_of, vacancy_of, found_of};
+ghost use Rattle.epoch_lend_cells.specs.Turning.{TurnNames, turn_names_coded, turns_own, turns_share, room_of};
+ghost use Rattle.epoch_lend_cells.specs.Turning.{turn_is, turn_shares, claim_of, filled_has, vacancy_of, found_of};
 
 use atomic_table::exchange;
 use epoch_lend::lending::{Glance, Marked};
 use epoch_lend::part::Part;
 use epoch_lend::post::{Guard, Post};
-use std::alloc::Allocator;
+use std::alloc::{AllocError, Allocator};
 use std::marker::{Brand, Model, Move, Owns, PhantomData};
 use std::sync::atomic::Ordering::SeqCst;
 use std::sync::atomic::raw;
+use std_alloc::room::Vacant;
 
 /// The word: four times the turn, and the state. 0: vacant. 1: claimed, while a value is placed. 2: shown to guards.
 /// 3: removed, until the value is out.
@@ -36,29 +36,40 @@ impl<T> Move for Turns<T> {
     ghost own_val = { λ d vs. turns_own T.row d (λ n. Fields.own_val (record { word = n; marker = record {} }) vs) };
 }
 
-/// A place in memory with its value.
+/// A place in memory with room for one value.
 #[derive(Drop)]
 pub struct Place<T> {
     pub(crate) at: *const T,
-    pub ghost value: { T },
 }
 
 impl<T> Model for Place<T> {
-    ghost also_owns = { λ h. lies_at T.row full_share h.at h.value };
+    ghost also_owns = { λ h. room_of T.row h.at };
 }
 
-/// What a claim gained: nothing, or the place with its value, which nobody else reaches until it is given back.
+/// What a claim gained: nothing, or the place with no value in it, which nobody else reaches until it is given back.
 #[derive(Drop)]
 pub struct Claim<T> {
     pub(crate) at: *const T,
     pub ghost right: { ℕ },
     pub ghost state: { ℕ },
     pub ghost word: { ℕ },
-    pub ghost value: { Option T } by { coded_option T.code },
 }
 
 impl<T> Model for Claim<T> {
-    ghost also_owns = { λ h. claim_of T.row h.at h.state h.word h.value h.right };
+    ghost also_owns = { λ h. claim_of T.row h.at h.state h.word h.right };
+}
+
+/// A claimed place with a value in it.
+#[derive(Drop)]
+pub struct Filled<T> {
+    pub(crate) at: *const T,
+    pub ghost state: { ℕ },
+    pub ghost word: { ℕ },
+    pub ghost value: { T },
+}
+
+impl<T> Model for Filled<T> {
+    ghost also_owns = { λ h. filled_has T.row h.at h.state h.word h.value };
 }
 
 /// What a mark gained beside what was lent: nothing, or the place, once the value's lifetime is over.
@@ -133,13 +144,13 @@ impl<T> Turns<T> {
         (found, claim)
     }
 
-    /// Shows the value of a claim to guards, by one store of the word, and answers its name.
-    pub fn show(&self, claim: Claim<T>, turn: u64, word: u64) -> Name<T>
-        requires of_place { (claim.right ≡ 1) × (claim.state ≡ self.now.state) × (claim.at ≡ self.now.at) }
-        requires of_turn { (claim.word ≡ 4 * turn + 1) × (word ≡ 4 * turn + 2) }
-        ensures { (result.turn ≡ turn) × (result.log ≡ self.now.log) × (Some result.value ≡ claim.value) }
+    /// Shows the value of a claimed place to guards, by one store of the word, and answers its name.
+    pub fn show(&self, filled: Filled<T>, turn: u64, word: u64) -> Name<T>
+        requires of_place { (filled.state ≡ self.now.state) × (filled.at ≡ self.now.at) }
+        requires of_turn { (filled.word ≡ 4 * turn + 1) × (word ≡ 4 * turn + 2) }
+        ensures { (result.turn ≡ turn) × (result.log ≡ self.now.log) × (result.value ≡ filled.value) }
     {
-        let Claim { at: _ } = claim;
+        let Filled { at: _ } = filled;
         unsafe { raw::store::<Brand>(&raw const self.word, word, SeqCst) };
         Name {
             turn,
@@ -212,7 +223,7 @@ impl<T> Turns<T> {
         (found, marked, vacancy)
     }
 
-    /// Makes the place vacant at the next turn, by one store of the word. What is in the place stays there.
+    /// Makes the place vacant at the next turn, by one store of the word.
     pub fn release(&self, claim: Claim<T>, turn: u64, word: u64)
         requires of_place { (claim.right ≡ 1) × (claim.state ≡ self.now.state) × (claim.at ≡ self.now.at) }
         requires of_turn { (claim.word ≡ 4 * turn + 3) × (word ≡ 4 * turn + 4) }
@@ -255,14 +266,14 @@ impl<T> Name<T> {
 
 impl<T> Vacancy<T> {
     /// The place with its value, once all parts of the value are back.
-    pub fn reclaim(self, all: Part<T>) -> Claim<T>
+    pub fn reclaim(self, all: Part<T>) -> Filled<T>
         requires { (self.right ≡ 1) × (all.lifetime ≡ self.lifetime) × (all.count ≡ 2 ^ 63) }
-        ensures { (result.right ≡ 1) × (result.value ≡ Some self.value) × (result.state ≡ self.state)
-            × (result.word ≡ self.word) × (result.at ≡ self.at) }
+        ensures { (result.value ≡ self.value) × (result.state ≡ self.state) × (result.word ≡ self.word)
+            × (result.at ≡ self.at) }
     {
         let Vacancy { at } = self;
         let Part { ptr: _ } = all;
-        Claim { at }
+        Filled { at }
     }
 
     /// Ends what gained nothing.
@@ -274,21 +285,18 @@ impl<T> Vacancy<T> {
 }
 
 impl<T> Claim<T> {
-    /// Leaves `value` in the place, and answers what was there.
-    pub fn swap(self, value: T) -> (Claim<T>, T)
+    /// Puts a value into the place.
+    pub fn fill(self, value: T) -> Filled<T>
         requires { self.right ≡ 1 }
-        ensures value { Some result.1 ≡ self.value }
-        ensures claim { (result.0.right ≡ 1) × (result.0.value ≡ Some value) × (result.0.state ≡ self.state)
-            × (result.0.word ≡ self.word) × (result.0.at ≡ self.at) }
+        ensures { (result.value ≡ value) × (result.state ≡ self.state) × (result.word ≡ self.word)
+            × (result.at ≡ self.at) }
     {
         let Claim { at } = self;
-        let old = unsafe {
+        unsafe {
             let place = at as *mut T;
-            let old = place.read();
             place.write(value);
-            old
-        };
-        (Claim { at }, old)
+        }
+        Filled { at }
     }
 
     /// Ends what gained nothing.
@@ -299,11 +307,35 @@ impl<T> Claim<T> {
     }
 }
 
-/// The place in memory of a box, for good, with its allocator.
-pub fn place_of<T: Drop, A: Allocator>(whole: Box<T, A>) -> (Place<T>, A)
-    ensures { result.0.value ≡ whole.value }
-{
-    let (ptr, alloc) = Box::into_raw_with_allocator(whole);
+impl<T> Filled<T> {
+    /// Takes the value out of the place.
+    pub fn take(self) -> (Claim<T>, T)
+        ensures value { result.1 ≡ self.value }
+        ensures claim { (result.0.right ≡ 1) × (result.0.state ≡ self.state) × (result.0.word ≡ self.word)
+            × (result.0.at ≡ self.at) }
+    {
+        let Filled { at } = self;
+        let value = unsafe { at.read() };
+        (Claim { at }, value)
+    }
+}
+
+impl<T: Drop> Place<T> {
+    /// Room for one value, which is never freed. It fails for want of memory alone.
+    pub fn new<A: Allocator + Drop>(alloc: A) -> Result<Place<T>, AllocError> {
+        match Vacant::take(alloc) {
+            Ok(room) => {
+                let (place, _alloc) = place_of(room);
+                Ok(place)
+            }
+            Err(_) => Err(AllocError),
+        }
+    }
+}
+
+/// The room of a block, for good, with its allocator.
+fn place_of<T: Drop, A: Allocator>(room: Vacant<T, A>) -> (Place<T>, A) {
+    let Vacant { ptr, alloc } = room;
     (Place { at: ptr }, alloc)
 }
 
@@ -318,6 +350,8 @@ unsafe impl<T: Send + Sync> Send for Turns<T> {}
 unsafe impl<T: Send + Sync> Sync for Turns<T> {}
 
 unsafe impl<T: Send> Send for Claim<T> {}
+
+unsafe impl<T: Send> Send for Filled<T> {}
 
 unsafe impl<T: Send> Send for Vacancy<T> {}
 

@@ -27,7 +27,7 @@ impl Session for Places {
     type Answer = (u64, u64);
 
     fn run<J: PostSet + Send + Sync>(self, posts: Posts<J>) -> (u64, u64) {
-        let Ok(slot) = Slot::new(self.alloc, 0u64, u64::MAX, &posts) else {
+        let Ok(slot) = Slot::new(self.alloc, u64::MAX, &posts) else {
             return (0, 0);
         };
         let _ = slot.place(7);

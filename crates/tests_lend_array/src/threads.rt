@@ -39,15 +39,6 @@ impl Drop for Pair {
     }
 }
 
-impl Default for Pair {
-    fn default() -> Pair {
-        Pair {
-            first: 0,
-            second: 0,
-        }
-    }
-}
-
 fn pair_of(number: u64) -> Pair {
     Pair {
         first: number,

@@ -18,9 +18,9 @@ fn found(placed: &Placed<'_, '_, u64>, guard: &Guard) -> u64
 
 /// What comes back at one try: the value, or 0 with what has to be tried again.
 fn one_try<'c, 'p>(sealed: Sealed<'c, 'p, u64>) -> (u64, Option<Sealed<'c, 'p, u64>>) {
-    match sealed.take_back(3) {
+    match sealed.take_back() {
         Ok(value) => (value, None),
-        Err((sealed, _)) => (0, Some(sealed)),
+        Err(sealed) => (0, Some(sealed)),
     }
 }
 
@@ -49,7 +49,7 @@ fn takes(cell: &LendingCell<'_, u64>, turn: u64) -> bool {
 fn a_cell_is_used_again_at_the_next_turn(rt: HostRuntime) -> Result<(), Fail> {
     let (first, unpinned) = Post::new();
     let posts = [first];
-    let cell = LendingCell::new(rt.alloc(), 3, u64::MAX, &posts)?;
+    let cell = LendingCell::new(rt.alloc(), u64::MAX, &posts)?;
     let Ok(old) = cell.place(0, 7) else {
         want(&rt, "an empty cell takes a value", false, true);
         return Ok(());
@@ -120,7 +120,7 @@ fn a_cell_takes_no_value_past_its_last_turn(rt: HostRuntime) -> Result<(), Fail>
         (u64::MAX, GREATEST_TURN, true),
     ];
     for (given, last, takes_a_second) in cases {
-        let cell = LendingCell::new(rt.alloc(), 3, given, &posts)?;
+        let cell = LendingCell::new(rt.alloc(), given, &posts)?;
         want(&rt, "this is its last turn", cell.last_turn(), last);
         want(&rt, "a value comes at turn 0", used_once(&cell), 7);
         want(

@@ -1,40 +1,27 @@
--- `place_of` takes the box apart.
-use Rattle.std.proofs.Common.{◌≡◌, List, [], ◌∷◌, ◌++◌, sym, refl, ap, ◌∙◌, subst}
+-- `place_of` takes the room and its allocator apart.
+use Rattle.std.proofs.Common.{List, [], ◌∷◌, ◌++◌, sym, refl, subst}
 use mir.Syntax.{a_type, dcons, dnil}
 use mir.Val.{Val, vstruct, vcons, vnil, of_list, has_ty}
 use mir.MapTy.{inst_fn}
-use mir.Raw.{raw as bare}
-use base.Logic.{SProp, ent, emp, id⊢, fst∗, never}
+use base.Logic.{SProp, ent, id⊢}
 use base.Fml.{ftrue, fsep, feq, flft}
-use types.Logic.{sem}
-use types.Kit.{Item, ‵, raw, ◌⊛◌, some, later, ◌$◌, ◌∵◌, !, qed, by, move, keep, drop, split, split3, join, fsplit}
-use types.Kit.{fjoin, fjoin3, fpick, fpack, pick, use0, use1, await, rewrite, feq_i, feq_l, suffices}
+use types.Kit.{Item, ‵, raw, ◌⊛◌, ◌$◌, ◌∵◌, !, qed, by, move, keep, split, fsplit}
+use types.Kit.{fjoin, fjoin3, fpack, use0, feq_i, suffices}
 use types.Run.{stop, fld, of_opd, no_more, and_then, returns, enter}
-use types.ByLocal.{alloc_all, pass_all, free_all, look_at, get, get_in, sets, lands_as}
+use types.ByLocal.{alloc_all, pass_all, free_all, look_at, get, get_in, sets}
 use types.Part.{agg, sub, whole}
 use contract.Running.{tables}
-use contract.Monad.{fact, fact_i}
-use contract.BorrowLft.{◌⊑◌}
 use denote.Exit.{no}
 use denote.RattleType.{RattleType, Valss, owns}
 use denote.Signature.{plain}
-use denote.RawPtr.{Ptr, block_ptr, null_ptr, ptr_val, in_a_block}
-use denote.Steps.{nothing, only, heard}
-use denote.Param.{layout, bounded}
-use denote.Builtin.{RawPtr}
-use denote.Struct.Tuple.{Tuple}
-use denote.Triple.Spec.{triple_of}
-use denote.Triple.Call.{calls_at}
+use denote.RawPtr.{Ptr, block_ptr}
+use denote.Steps.{nothing}
+use denote.Param.{bounded, param}
 use denote.Triple.Walked.{Stays, stay_dropped, walk_of}
 use Rattle.atomic_table.proofs.Walks.{proved_at, leaves}
-use Rattle.atomic_table.proofs.Calls.{fm}
-use Rattle.core.proofs.alloc.Calls.{α, token, handle_tells, Goes-blank}
-use Rattle.std_alloc.specs.Box.Ownership.{box_owns}
-use Rattle.std_alloc.proofs.BoxSteps.Form as box
-use Rattle.std_alloc.proofs.BoxSteps.Steps.{box_out, box_in}
+use Rattle.core.proofs.alloc.Calls.{Al, α, Goes-blank}
+use Rattle.std_alloc.proofs.OfVacant.{Vacant, vacant_val, vacant_typed, Vacant-had}
 use Rattle.std_alloc.proofs.ResultValues.{and_tt}
-use Rattle.std_alloc.specs.contracts.boxed.Box.into_raw_with_allocator as callee
-use Rattle.std_alloc.proofs.boxed.Box.into_raw_with_allocator.Met as callee_met
 use Rattle.epoch_lend.proofs.Fields.{word}
 use Rattle.epoch_lend_cells.specs.contracts.turns.Place as place_is
 use Rattle.epoch_lend_cells.proofs.TurnFields as fields
@@ -47,73 +34,46 @@ pub place_of_spec : {M : Type 1} → statement M
 place_of_spec 𝓤 𝓛 𝓜 𝓡 wired X Z L LZ g d dx dd met glue md =
     let H = 𝓛.H in
     let 𝓣 = tables 𝓤 H 𝓜 𝓡 𝓡.env in
-    let E : box.Bx = record { row = X; laws = L; al = record { row = Z; laws = LZ; g = g; d = d; drops = dd } } in
-    let R : RattleType = box.R E in
-    let P : RattleType = box.P E in
-    let B : RattleType = box.B E in
+    let al : Al = record { row = Z; laws = LZ; g = g; d = d; drops = dd } in
+    let R : RattleType = param 0 X in
+    let P : RattleType = param 1 Z in
+    let V : RattleType = Vacant al R in
     let Row : RattleType = place_is.the_row R in
     let En = ended X Z g d dx dd in
     let inst = bounded (a_type ∷ a_type ∷ []) (X, (Z, tt)) (dcons d (dcons dx (dcons dd dnil))) in
     let fn = inst_fn inst code.function in
     let c = clauses X Z g d dx dd 𝓛 𝓜.mem 𝓡.returns in
-    let Parts = triple_of 𝓛 (callee.signature X Z g d dd dx) (callee.spec X Z g d dd dx 𝓛 𝓜.mem 𝓡.returns) in
-    let known = callee_met.met 𝓤 𝓛 𝓜 𝓡 (code.calls-std_alloc::boxed::Box::into_raw_with_allocator 𝓡.env wired) X Z L
-    LZ g d dd dx met md glue in
-    let hs : Stays En.signature.params En.kept = (stay_dropped (plain (λ _. B)) no, tt) in
+    let hs : Stays En.signature.params En.kept = (stay_dropped (plain (λ _. V)) no, tt) in
     proved_at 𝓛 En hs c 𝓜 𝓡 (
-      Goes-blank 𝓛 2 (plain (λ _. B)) no (λ κs x f. tt),
+      Goes-blank 𝓛 2 (plain (λ _. V)) no (λ κs x f. tt),
       tt,
     ) (#self inst) fn (code.unfolded 𝓤 H 𝓜 𝓡 wired (X, (Z, tt)) d dx dd) (λ z are.
     let κs = z.0.0 in
     let qs = z.0.1 in
     let t₁ : Item 𝓤 = ‵ (flft κs.0 qs.0) in
     let t₂ : Item 𝓤 = ‵ (flft κs.1.0 qs.1.0) in
-    let inX = κs.0 ⊑ X.lives in
-    let inZ = κs.1.0 ⊑ Z.lives in
     let Post : Val → SProp 𝓤 = (walk_of 𝓛 En hs c).post z in
     let Run : List Val → SProp 𝓤 = λ ws. prog.Wp.WpFn 𝓤 H 𝓣.C 𝓣.Λ fn ws Post in
-    let v : B.Denot = z.0.3.0 in
+    let v : V.Denot = z.0.3.0 in
     let a : Z.Denot = v.alloc in
-    let x : X.Denot = v.value in
-    qed 𝓛 (((t₁ ⊛ t₂ ⊛ ‵ ftrue) ⊛ ‵ (fsep (B.own_val v z.0.4.0) ftrue)) ∷ raw (fact 𝓤 inX) ∷ raw (fact 𝓤 inZ) ∷ ‵
-    ftrue ∷ []) ∵
-    move ! (1 ∷ 2 ∷ []) $ heard ! inX (λ leX. heard ! inZ (λ leZ. split ! $ move ! (1 ∷ []) $ fsplit ! $
-    box_out E ! v z.0.4.0 (λ b o hv e ws fa. box_in E ! v b o x e refl $ keep ! (0 ∷ 2 ∷ []) $
-    let w : Val = box.word E hv b o in
-    let typed = box.box_typed E hv b o fa in
-    let y : Parts.Ghost = ((κs, qs, tt, (v, tt), (w ∷ [], tt)), tt) in
-    suffices ! (Run (w ∷ [])) (subst (λ (us : List Val). ent 𝓤 (Run (w ∷ [])) (Run us)) (sym (λ i. ws i ++ [])) (id⊢
-    𝓤 (Run (w ∷ [])))) $
-    enter ! 𝓣.C 𝓣.Λ fn (w ∷ []) Post $ alloc_all ! (λ l. pass_all ! refl (typed, tt) $
-    sets ! (of_opd ! (get ! refl)) refl typed $
-    nothing ! $ move ! (1 ∷ 0 ∷ []) $ fjoin ! $ move ! (1 ∷ 0 ∷ []) $ join ! $
-    nothing ! $ use0 𝓛 (raw (fact 𝓤 inZ)) (fact_i 𝓤 inZ (emp 𝓤) leZ) $ join ! $
-    use0 𝓛 (raw (fact 𝓤 inX)) (fact_i 𝓤 inX (emp 𝓤) leX) $ join ! $ move ! (1 ∷ 0 ∷ []) $ join ! $
-    use1 𝓛 (raw (Parts.pre y)) (id⊢ 𝓤 _) $
-    calls_at ! (fm 𝓛 𝓜 𝓡) Parts known y (and_then ! (get ! refl) (no_more !)) (λ u. let Pair = Tuple (RawPtr ∷ P ∷
-    []) in
-    use1 𝓛 (later (some (λ (r : Ptr × Z.Denot). ((t₁ ⊛ t₂ ⊛ ‵ ftrue) ⊛ ‵ (Pair.own_val r (u ∷ []))) ⊛ some (λ (_ :
-    (Unit {0} × (Unit {0} × Unit {0})) × Unit {0}).
-    ‵ (fsep (fsep ftrue (fsep ftrue ftrue)) ftrue) ⊛ (raw (fact 𝓤 (r.1 ≡ a)) ⊛ ‵ (box_owns (token E.al a) R r.0
-    x)))))) (id⊢ 𝓤 _) $
-    await ! tt $ pick ! (λ r. split ! $ move ! (1 ∷ []) $ pick ! (λ _. split3 ! $ drop ! $ heard ! (r.1 ≡ a) (λ ea.
-    in_a_block ! r.0 (λ p. box_owns (token E.al a) R p x) (fst∗ 𝓤 (never 𝓤) (sem 𝓛 (token E.al a (bare (layout X))
-    null_ptr))) (λ b' o' e'. let p : Ptr = block_ptr b' o' in
-    fsplit ! $ move ! (2 ∷ []) $ split ! $ move ! (3 ∷ []) $ drop ! $ move ! (1 ∷ []) $
-    fpick ! (λ vss. fsplit ! $ feq_l ! (λ eu. fsplit ! $ feq_l ! (λ ep. fsplit ! $
-    rewrite ! 0 (λ (s : Z.Denot). ‵ (Z.own_val s vss.1.0)) ea refl $ handle_tells E.al ! a vss.1.0 (λ hw eh fw.
-    let w' : Val = box.word E hw b' o' in
-    let typed' = box.box_typed E hw b' o' fw in
+    qed 𝓛 (((t₁ ⊛ t₂ ⊛ ‵ ftrue) ⊛ ‵ (fsep (V.own_val v z.0.4.0) ftrue)) ∷ raw ((c κs z.0.3).requires z.1) ∷ []) ∵
+    split ! $ move ! (1 ∷ []) $ fsplit ! $
+    Vacant-had al R ! v z.0.4.0 (λ b o hw e ws fw.
+    let p : Ptr = block_ptr b o in
     let out : Val = vstruct (vcons (word p) (vcons hw vnil)) in
-    let all : Row.Denot = record { at = p; value = x } in
-    lands_as ! (ap only (eu ∙ (λ j. vstruct (of_list ((ep ∙ ap (λ (π : Ptr). ptr_val π ∷ []) e') j ++ (eh j ++ [])))
-    ∷ []))) refl typed' $
+    let all : Row.Denot = record { at = p } in
+    -- [the room; the right to free it; the handle; nothing; the tokens]
+    keep ! (0 ∷ 2 ∷ 4 ∷ []) $
+    suffices ! (Run (vacant_val hw b o ∷ [])) (subst (λ (us : List Val). ent 𝓤 (Run (vacant_val hw b o ∷ [])) (Run us))
+    (sym (λ i. ws i ++ [])) (id⊢ 𝓤 (Run (vacant_val hw b o ∷ [])))) $
+    enter ! 𝓣.C 𝓣.Λ fn (vacant_val hw b o ∷ []) Post $
+    alloc_all ! (λ l. pass_all ! refl (vacant_typed al R hw b o fw, tt) $
     sets ! (of_opd ! (get_in ! (fld ! refl (stop !)) (sub ! 0 refl (whole !)))) refl (tt, tt) $
     sets ! (of_opd ! (get_in ! (fld ! refl (stop !)) (sub ! 1 refl (whole !)))) refl fw $
     sets ! (agg ! (and_then ! (get ! refl) (no_more !))) refl (tt, (tt, tt)) $
     sets ! (of_opd ! (get ! refl)) refl fw $
     sets ! (agg ! (and_then ! (get ! refl) (and_then ! (get ! refl) (no_more !)))) refl (
-      and_tt (has_ty (α E.al) hw) fw.0,
+      and_tt (has_ty (α al) hw) fw.0,
       (
         (
           tt,
@@ -122,11 +82,11 @@ place_of_spec 𝓤 𝓛 𝓜 𝓡 wired X Z L LZ g d dx dd met glue md =
         (fw.1, tt),
       ),
     ) $
-    -- [the handle; nothing; the tokens; the value]
-    move ! (3 ∷ []) $ use0 𝓛 (‵ ((fields.Place R).own_val (p, tt) (word p ∷ []))) (fields.place_made R 𝓛 p) $ fjoin ! $
-    move ! (0 ∷ 1 ∷ 2 ∷ []) $ fjoin3 ! $ feq_i ! (List Val) (out ∷ []) (out ∷ []) refl $ fjoin ! $
+    -- [the room; the handle; the tokens]
+    use0 𝓛 (‵ ((fields.Place R).own_val (p, tt) (word p ∷ []))) (fields.place_made R 𝓛 p) $ fjoin ! $ nothing ! $
+    move ! (1 ∷ 2 ∷ 0 ∷ []) $ fjoin3 ! $ feq_i ! (List Val) (out ∷ []) (out ∷ []) refl $ fjoin ! $
     fpack ! (Valss (Row ∷ P ∷ [])) (λ uss. fsep (feq (List Val) (out ∷ []) (vstruct (of_list (uss.0 ++ (uss.1.0 ++
     []))) ∷ [])) (owns (Row ∷ P ∷ []) (all, (a, tt)) uss)) (word p ∷ [], (hw ∷ [], tt)) $
-    use0 𝓛 (raw (fact 𝓤 (x ≡ x))) (fact_i 𝓤 (x ≡ x) (emp 𝓤) refl) $ nothing ! $ nothing ! $ fjoin ! $
+    nothing ! $ nothing ! $ nothing ! $ fjoin ! $
     returns ! (look_at ! 0 refl) $ free_all ! refl $ keep ! (3 ∷ 0 ∷ 2 ∷ 1 ∷ []) $
-    by ! (leaves 𝓛 En hs c z out (all, a) ((tt, (tt, tt)), tt) (tt, tt))))))))))))))))
+    by ! (leaves 𝓛 En hs c z out (all, a) ((tt, (tt, tt)), tt) (tt, tt)))))

@@ -9,6 +9,6 @@ use Rattle.epoch_lend_cells.proofs.Keyless.{claim_keyless}
 
 pub send : (T : RattleType) → IsSend T → IsSend (the_row T)
 send T s = let O = the_type T in
-    let ps : IsSend RawPtr = search sendable in owning_send O (ps, tt) (λ d. claim_keyless T s d.at d.state d.word
-    d.value d.right)
+    let ps : IsSend RawPtr = search sendable in owning_send O (ps, tt) (λ d. claim_keyless T d.at d.state d.word
+    d.right)
     (λ k. quiet (to O) (exits_of k (fields O)) ((struct_send (shape O) (ps, tt)).leaving k))

@@ -1,7 +1,6 @@
 -- `claim` is one compare-exchange, which takes the place where it was vacant.
 use Rattle.std.proofs.Common.{◌≡◌, ◌≢◌, ℕ, ◌+◌, ◌*◌, ◌^◌, List, [], ◌∷◌, ◌++◌, sym, refl, ◌∙◌}
 use Rattle.std.proofs.Common.{subst, w64}
-use Rattle.std.specs.Prelude.{Option, Some, None}
 use mir.Syntax.{a_type, named}
 use mir.Val.{Val, vint, vptr, vstruct, of_list}
 use mir.MapTy.{inst_fn}
@@ -178,13 +177,12 @@ claim_spec 𝓤 𝓛 𝓜 𝓡 wired X L =
     fsplit ! $ move ! (0 ∷ 2 ∷ []) $ use2 𝓛 (later (‵ (flft κ q))) (apply∗ 𝓤 (𝓛.A.lft α s) (H.⇛ (𝓛.A.lft κ q))) $
     await ! tt $
     move ! (0 ∷ 2 ∷ []) $ join ! $ move ! (1 ∷ []) $
-    use1 𝓛 (some (λ (g : ℕ × Option R.Denot). given (steps.Gains 𝓛 R d (4 * t) n g.0) (‵ (claim_of R d.at d.state (4 *
-    t +
-    1) g.1 g.0)))) (steps.gains 𝓛 R d t n) $ pick ! (λ g. learn ! (λ so.
-    rewrite ! 0 (λ (z : Ptr × ℕ). ‵ (claim_of R z.0 d.state z.1 g.1 g.0)) (λ i. (sym asked.0 i, sym asked.2 i)) refl $
-    let h : Cr.Denot = record { at = p; right = g.0; state = d.state; word = new; value = g.1 } in
+    use1 𝓛 (some (λ (k : ℕ). given (steps.Gains 𝓛 R d (4 * t) n k) (‵ (claim_of R d.at d.state (4 * t + 1) k))))
+    (steps.gains 𝓛 R d t n) $ pick ! (λ k. learn ! (λ so.
+    rewrite ! 0 (λ (z : Ptr × ℕ). ‵ (claim_of R z.0 d.state z.1 k)) (λ i. (sym asked.0 i, sym asked.2 i)) refl $
+    let h : Cr.Denot = record { at = p; right = k; state = d.state; word = new } in
     let v : Val = pair_of n (word p) in
-    let Told : Type 0 = (n ≡ old → g.0 ≡ 1) × (n ≢ old → g.0 ≡ 0) × (d.state ≡ d.state) × (new ≡ new) × (p ≡ d.at) in
+    let Told : Type 0 = (n ≡ old → k ≡ 1) × (n ≢ old → k ≡ 0) × (d.state ≡ d.state) × (new ≡ new) × (p ≡ d.at) in
     use0 𝓛 (‵ ((fields.Claim R).own_val (p, tt) (word p ∷ []))) (fields.claim_made R 𝓛 p) $ fjoin ! $ nothing ! $
     flt_i ! n (2 ^ 64) fits $ feq_i ! (List Val) (vint w64 n ∷ []) (vint w64 n ∷ []) refl $ fjoin ! $
     move ! (0 ∷ 2 ∷ 1 ∷ []) $ fjoin3 ! $ feq_i ! (List Val) (v ∷ []) (v ∷ []) refl $ fjoin ! $

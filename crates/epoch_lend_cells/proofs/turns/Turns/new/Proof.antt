@@ -41,7 +41,7 @@ use types.Tokens.{name_new}
 use types.Owned.{basic}
 use types.Growing.{latest_new}
 use base.Growing.{latest}
-use Rattle.epoch_lend_cells.specs.Turning.{turn_logs, log_of, vacant_with, TurnStage, vacant, at_turn, at_turn_word}
+use Rattle.epoch_lend_cells.specs.Turning.{turn_logs, log_of, TurnStage, vacant, at_turn, at_turn_word}
 use Rattle.epoch_lend_cells.specs.contracts.turns.Turns.TheInside as inside
 use Rattle.epoch_lend_cells.specs.contracts.turns.Place as place_is
 use Rattle.epoch_lend.specs.contracts.post.Post as post_is
@@ -99,8 +99,8 @@ new_spec 𝓤 𝓛 𝓜 𝓡 wired X L =
     use0 𝓛 (later (some (λ (η : ℕ). ‵ (latest O full_share η [])))) (via 𝓤 _ (latest_new O 𝓛 []) (basic 𝓛 _)) $
     await ! tt $ pick ! (λ η. name_new ! tt (gnum (4 * 0)) (λ δ.
     let d : TurnNames = record { at = p; log = η; state = δ; posts = logs_of a.1.0.now } in
-    -- [obs; auth; latest; the value; the tokens]
-    move ! (3 ∷ []) $ fpack ! R.Denot (vacant_with R d) u.value $ nothing ! $ let none : List (TurnOf R.Denot) = [] in
+    -- [obs; auth; latest; the room; the tokens]
+    move ! (3 ∷ []) $ nothing ! $ let none : List (TurnOf R.Denot) = [] in
     fpack ! (length none ≡ 0) (λ _. ftrue) refl $ move ! (4 ∷ 0 ∷ []) $ fjoin ! $ fpack ! (List (TurnOf R.Denot))
     (log_of R d 0) [] $ move ! (2 ∷ 0 ∷ 1 ∷ []) $
     fjoin3 ! $ move ! (1 ∷ 0 ∷ []) $ fjoin ! $ nothing ! $ fpack ! (4 * 0 ≡ 4 * 0) (λ _. ftrue) refl $ fjoin ! $

@@ -6,10 +6,10 @@ use mir.Syntax.{a_type, named}
 use mir.Val.{Val, vunit, vint, vptr}
 use mir.MapTy.{inst_fn}
 use base.Logic.{SProp, ent, sep, wand, via, apply∗}
-use base.Fml.{Lft, Share, Fml, ftrue, fsep, fex, flft, fbor}
+use base.Fml.{Lft, Share, Fml, ftrue, fsep, flft, fbor}
 use types.Logic.{sem}
 use types.Kit.{‵, raw, ◌⊛◌, some, later, mean, at_ret, ◌$◌, ◌∵◌, !, qed, by, move, keep, split, join}
-use types.Kit.{fsplit, fjoin, fpick, pick, use1, use2, use3, await, rewrite, feq_i}
+use types.Kit.{fsplit, fjoin, fpick, pick, use2, use3, await, rewrite, feq_i}
 use types.Run.{stop, fld, addr, lit, of_opd, no_more, and_then, first, blocks, exec, Calls-last, returns, enter}
 use types.Run.{unit_lit}
 use types.ByLocal.{alloc_all, pass_all, free_all, look_at, get, through, sets, lands_last, env}
@@ -138,15 +138,12 @@ release_spec 𝓤 𝓛 𝓜 𝓡 wired X L =
     keep ! (2 ∷ 3 ∷ 0 ∷ []) $ heard ! OfPlace (λ of_place. heard ! OfTurn (λ of_turn. split ! $ split ! $
     move ! (2 ∷ []) $ fsplit ! $ fsplit ! $
     keep ! (2 ∷ 1 ∷ 3 ∷ 4 ∷ []) $ fsplit ! $ fsplit ! $ keep ! (1 ∷ 3 ∷ 4 ∷ 5 ∷ []) $
-    rewrite ! 0 (λ (z : Ptr × ℕ × ℕ × ℕ). ‵ (claim_of R z.0 z.1 z.2 h.value z.3)) (λ i. (
+    rewrite ! 0 (λ (z : Ptr × ℕ × ℕ × ℕ). ‵ (claim_of R z.0 z.1 z.2 z.3)) (λ i. (
       of_place.2 i,
       of_place.1 i,
       of_turn.0 i,
       of_place.0 i,
     )) refl $
-    use1 𝓛 (‵ (fex R.Denot (steps.Opened 𝓛 R d (4 * t + 3) h.value d.at))) (steps.claim_opens 𝓛 R d (4 * t + 3)
-    h.value d.at) $
-    fpick ! (λ x. fpick ! (λ is.
     -- [the claim; the place; κ; the others]
     enter ! 𝓣.C 𝓣.Λ fn us Post $ alloc_all ! (λ l. pass_all ! refl (
       (tt, tt),
@@ -173,8 +170,8 @@ release_spec 𝓤 𝓛 𝓜 𝓡 wired X L =
     sets ! (addr ! (through ! refl (fld ! refl (stop !)))) refl (tt, tt) $ move ! (2 ∷ 0 ∷ 3 ∷ []) $
     use3 𝓛 (raw (𝓣.C _ (vptr b (o + 0) ∷ vint w64 w ∷ seq_cst ∷ []) (λ u. mean 𝓛 (stored after u))))
     (via 𝓤 _ (subst (λ (k : ℕ). ent 𝓤 (sep 𝓤 (𝓛.A.inv (fbor α (steps.Memory 𝓛 R d α s b o))) (sep 𝓤 (𝓛.A.lft α s) (sem 𝓛
-    (steps.Removed 𝓛 R d t x)))) (asks 𝓛 (block_ptr b (o + 0)) (λ _. k) always (λ _. after))) at
-    (steps.releases_it 𝓛 R d α s b o t x)) (stores 𝓛 𝓜 𝓡 (code.calls-core::raw_atomic::store 𝓡.env wired) (block_ptr b
+    (steps.Removed 𝓛 R d t)))) (asks 𝓛 (block_ptr b (o + 0)) (λ _. k) always (λ _. after))) at
+    (steps.releases_it 𝓛 R d α s b o t)) (stores 𝓛 𝓜 𝓡 (code.calls-core::raw_atomic::store 𝓡.env wired) (block_ptr b
     (o + 0)) w are.1.1.1.0.1 after)) $
     sets ! (agg ! (and_then ! (lit ! tt) (no_more !))) refl (tt, (record { fits = lit< tt }, tt)) $
     Calls-last ! (fm 𝓛 𝓜 𝓡) (stored after) (and_then ! (get ! refl) (and_then ! (get ! refl) (and_then ! (get ! refl)
@@ -186,4 +183,4 @@ release_spec 𝓤 𝓛 𝓜 𝓡 wired X L =
     move ! (0 ∷ 2 ∷ []) $ join ! $ feq_i ! (List Val) (vunit ∷ []) (vunit ∷ []) refl $
     nothing ! $ nothing ! $ nothing ! $ fjoin ! $ nothing ! $ fjoin ! $ nothing ! $ fjoin ! $ nothing ! $ fjoin ! $
     returns ! (look_at ! 0 refl) $ free_all ! refl $ keep ! (3 ∷ 0 ∷ 2 ∷ 1 ∷ []) $
-    by ! (leaves 𝓛 En hs c y vunit tt (tt, (tt, (tt, (tt, tt)))) (tt, (tt, (tt, (tt, tt)))))))))))))))
+    by ! (leaves 𝓛 En hs c y vunit tt (tt, (tt, (tt, (tt, tt)))) (tt, (tt, (tt, (tt, tt)))))))))))))

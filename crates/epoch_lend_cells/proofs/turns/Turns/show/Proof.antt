@@ -1,7 +1,6 @@
 -- `show` lends the value for a lifetime of its own, and is one store, which the log of turns goes with.
 use Rattle.std.proofs.Common.{◌≡◌, ℕ, ◌+◌, ◌*◌, List, [], ◌∷◌, sym, refl}
 use Rattle.std.proofs.Common.{subst, lit<, w64}
-use Rattle.std.specs.Prelude.{Some}
 use mir.Syntax.{a_type, named}
 use mir.Val.{Val, vint, vptr}
 use mir.MapTy.{inst_fn}
@@ -37,9 +36,9 @@ use Rattle.atomic_table.proofs.Walks.{proved, leaves}
 use Rattle.atomic_table.proofs.Calls.{fm, seq_cst, stored, has_stored, stores}
 use Rattle.epoch_lend.proofs.Fields.{word, word_typed}
 use Rattle.epoch_lend.proofs.PartSteps.{freezes, Frozen, tokens_whole}
-use Rattle.epoch_lend_cells.specs.Turning.{TurnNames, TurnOf, turn_is, claim_of}
+use Rattle.epoch_lend_cells.specs.Turning.{TurnNames, TurnOf, turn_is, filled_has}
 use Rattle.epoch_lend_cells.specs.contracts.turns.Turns as turns_is
-use Rattle.epoch_lend_cells.specs.contracts.turns.Claim as claim_is
+use Rattle.epoch_lend_cells.specs.contracts.turns.Filled as filled_is
 use Rattle.epoch_lend_cells.specs.contracts.turns.Name as name_is
 use Rattle.epoch_lend_cells.proofs.TurnFields as fields
 use Rattle.epoch_lend_cells.proofs.Turned as steps
@@ -59,7 +58,7 @@ show_spec 𝓤 𝓛 𝓜 𝓡 wired X L =
     let fn = inst_fn inst code.function in
     let closed = code.unfolded 𝓤 H 𝓜 𝓡 wired (X, tt) in
     let Row : RattleType = turns_is.the_row R in
-    let Cr : RattleType = claim_is.the_row R in
+    let Cr : RattleType = filled_is.the_row R in
     let Nr : RattleType = name_is.the_row R in
     let LR = param_laws 0 X L in
     let p0 = RefOf (0 ∷ []) tt (plain (λ _. Row)) (λ _. tt) in
@@ -88,7 +87,7 @@ show_spec 𝓤 𝓛 𝓜 𝓡 wired X L =
     (λ κs. (
       shr_Tells (named 0) κs.0 Row,
       (
-        (λ x vs so. fields.claim_told R x.at vs so.0),
+        (λ x vs so. fields.filled_told R x.at vs so.0),
         (
           uint_Tells w64,
           (
@@ -133,7 +132,7 @@ show_spec 𝓤 𝓛 𝓜 𝓡 wired X L =
       gh,
     ) in
     let Post : Val → SProp 𝓤 = (walk_of 𝓛 En hs c).post y in
-    let OfPlace : Type 0 = (h.right ≡ 1) × (h.state ≡ d.state) × (h.at ≡ d.at) in
+    let OfPlace : Type 0 = (h.state ≡ d.state) × (h.at ≡ d.at) in
     let OfTurn : Type 0 = (h.word ≡ 4 * t + 1) × (w ≡ 4 * t + 2) in
     let tX : Fml = flft κs.1.0 qs.1.0 in
     let inX : Type 0 = κs.1.0 ⊑ X.lives in
@@ -144,15 +143,12 @@ show_spec 𝓤 𝓛 𝓜 𝓡 wired X L =
     split ! $
     move ! (2 ∷ []) $ fsplit ! $ fsplit ! $
     keep ! (2 ∷ 1 ∷ 3 ∷ 4 ∷ []) $ fsplit ! $ fsplit ! $ keep ! (1 ∷ 3 ∷ 4 ∷ 5 ∷ []) $
-    rewrite ! 0 (λ (z : Ptr × ℕ × ℕ × ℕ). ‵ (claim_of R z.0 z.1 z.2 h.value z.3)) (λ i. (
-      of_place.2 i,
+    let x : R.Denot = h.value in
+    rewrite ! 0 (λ (z : Ptr × ℕ × ℕ). ‵ (filled_has R z.0 z.1 z.2 x)) (λ i. (
       of_place.1 i,
-      of_turn.0 i,
       of_place.0 i,
-    )) refl $
-    use1 𝓛 (‵ (fex R.Denot (steps.Opened 𝓛 R d (4 * t + 1) h.value d.at))) (steps.claim_opens 𝓛 R d (4 * t + 1)
-    h.value d.at) $
-    fpick ! (λ x. fpick ! (λ is. fsplit ! $
+      of_turn.0 i,
+    )) refl $ fsplit ! $
     -- [obs; the value; the place; κ; X's token]
     enter ! 𝓣.C 𝓣.Λ fn us Post $ alloc_all ! (λ l. pass_all ! refl (
       (tt, tt),
@@ -205,11 +201,11 @@ show_spec 𝓤 𝓛 𝓜 𝓡 wired X L =
     await ! tt $
     move ! (2 ∷ 3 ∷ []) $ fjoin ! $ move ! (1 ∷ 0 ∷ []) $ join ! $ move ! (1 ∷ []) $
     let r : Nr.Denot = record { turn = t; marker = record {}; log = d.log; value = x; lifetime = n } in
-    let Told : Type 0 = (t ≡ t) × (d.log ≡ d.log) × (Some x ≡ h.value) in
+    let Told : Type 0 = (t ≡ t) × (d.log ≡ d.log) × (x ≡ x) in
     use0 𝓛 (‵ ((fields.Name R).own_val (t, (record {}, tt)) (fields.name_val t ∷ []))) (fields.name_made R 𝓛 t
     are.1.1.0.1) $
     fjoin ! $
-    use0 𝓛 (raw (fact 𝓤 Told)) (fact_i 𝓤 Told (emp 𝓤) (refl, refl, sym is)) $ nothing ! $ nothing ! $ fjoin ! $
+    use0 𝓛 (raw (fact 𝓤 Told)) (fact_i 𝓤 Told (emp 𝓤) (refl, refl, refl)) $ nothing ! $ nothing ! $ fjoin ! $
     nothing ! $ fjoin ! $ nothing ! $ fjoin ! $ nothing ! $ fjoin ! $
     returns ! (look_at ! 0 refl) $ free_all ! refl $ keep ! (3 ∷ 0 ∷ 2 ∷ 1 ∷ []) $
-    by ! (leaves 𝓛 En hs c y (fields.name_val t) r (tt, (tt, (tt, (tt, tt)))) (tt, (tt, (tt, (tt, tt)))))))))))))))))
+    by ! (leaves 𝓛 En hs c y (fields.name_val t) r (tt, (tt, (tt, (tt, tt)))) (tt, (tt, (tt, (tt, tt)))))))))))))))

@@ -1,6 +1,5 @@
 -- `reclaim` ends the value's lifetime by all of its parts.
 use Rattle.std.proofs.Common.{◌≡◌, ℕ, ◌^◌, [], ◌∷◌, refl}
-use Rattle.std.specs.Prelude.{Some}
 use mir.Syntax.{a_type}
 use mir.Val.{Val}
 use mir.MapTy.{inst_fn}
@@ -33,7 +32,7 @@ use Rattle.epoch_lend.proofs.PartFields as part_fields
 use Rattle.epoch_lend.specs.Parted.{tokens}
 use Rattle.epoch_lend_cells.specs.Turning.{vacancy_of}
 use Rattle.epoch_lend_cells.specs.contracts.turns.Turns as turns_is
-use Rattle.epoch_lend_cells.specs.contracts.turns.Claim as claim_is
+use Rattle.epoch_lend_cells.specs.contracts.turns.Filled as filled_is
 use Rattle.epoch_lend_cells.specs.contracts.turns.Vacancy as vacancy_is
 use Rattle.epoch_lend_cells.specs.contracts.turns.Name as name_is
 use Rattle.epoch_lend_cells.proofs.TurnFields as fields
@@ -53,7 +52,7 @@ reclaim_spec 𝓤 𝓛 𝓜 𝓡 wired X L =
     let fn = inst_fn inst code.function in
     let closed = code.unfolded 𝓤 H 𝓜 𝓡 wired (X, tt) in
     let Row : RattleType = turns_is.the_row R in
-    let Cr : RattleType = claim_is.the_row R in
+    let Fr : RattleType = filled_is.the_row R in
     let Nr : RattleType = name_is.the_row R in
     let LR = param_laws 0 X L in
     let p0 = plain (λ _. vacancy_is.the_row R) in
@@ -72,8 +71,8 @@ reclaim_spec 𝓤 𝓛 𝓜 𝓡 wired X L =
     let n : ℕ = u.lifetime in
     let whole_value : Fml = lies_at R full_share p u.value in
     let Asked : Type 0 = (u.right ≡ 1) × (all.lifetime ≡ n) × (all.count ≡ 2 ^ 63) in
-    let h : Cr.Denot = record { at = p; right = 1; state = u.state; word = u.word; value = Some u.value } in
-    let Told : Type 0 = (h.right ≡ 1) × (h.value ≡ Some u.value) × (u.state ≡ u.state) × (u.word ≡ u.word) × (p ≡ p) in
+    let h : Fr.Denot = record { at = p; state = u.state; word = u.word; value = u.value } in
+    let Told : Type 0 = (u.value ≡ u.value) × (u.state ≡ u.state) × (u.word ≡ u.word) × (p ≡ p) in
     let y : (walk_of 𝓛 En hs c).Ghost = ((κs, qs, bounds, a, (word p ∷ [], (part_fields.word all.ptr ∷ [], tt))), gh) in
     let Post : Val → SProp 𝓤 = (walk_of 𝓛 En hs c).post y in
     qed 𝓛 ((raw (alive 𝓛 En.signature κs qs) ⊛ ‵ (owns (types_at En.signature.params κs) a y.0.4)) ∷ raw (fact 𝓤 _) ∷
@@ -90,8 +89,8 @@ reclaim_spec 𝓤 𝓛 𝓜 𝓡 wired X L =
     LR.shr_laws p u.value) 𝓛 whole_value n) $ await ! tt $ move ! (1 ∷ 0 ∷ []) $ fjoin ! $
     sets ! (of_opd ! (get_in ! (fld ! refl (stop !)) (sub ! 0 refl (whole !)))) refl (ptr_typed p) $
     sets ! (agg ! (and_then ! (get ! refl) (no_more !))) refl (word_typed p) $
-    use0 𝓛 (‵ ((fields.Claim R).own_val (p, tt) (word p ∷ []))) (fields.claim_made R 𝓛 p) $ fjoin ! $
-    use0 𝓛 (raw (fact 𝓤 Told)) (fact_i 𝓤 Told (emp 𝓤) (refl, refl, refl, refl, refl)) $ nothing ! $ nothing ! $ fjoin
+    use0 𝓛 (‵ ((fields.Filled R).own_val (p, tt) (word p ∷ []))) (fields.filled_made R 𝓛 p) $ fjoin ! $
+    use0 𝓛 (raw (fact 𝓤 Told)) (fact_i 𝓤 Told (emp 𝓤) (refl, refl, refl, refl)) $ nothing ! $ nothing ! $ fjoin
     ! $ nothing ! $ fjoin ! $
     returns ! (look_at ! 0 refl) $ free_all ! refl $ keep ! (3 ∷ 0 ∷ 2 ∷ 1 ∷ []) $
     by ! (leaves 𝓛 En hs c y (word p) h (tt, (tt, tt)) (tt, (tt, tt))))))
