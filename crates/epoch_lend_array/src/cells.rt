@@ -96,6 +96,27 @@ impl<J: PostSet, T> LendingCells<J, T> {
         }
     }
 
+    /// Two plain loads. Where the value of this slot is, and its name, so that what is left in the cells can be marked
+    /// and taken back. `None`: the cell is empty, or its value was marked, or went out between the loads, or there is
+    /// no such slot.
+    pub fn shown(&self, slot: usize) -> Option<Placed<T>>
+        ensures slot { IfSome result (λ placed. slice_get (map (λ s. s.turns.log) self.now.slots.items) slot
+            ≡ Some placed.name.log) }
+        ensures spot { IfSome result (λ placed. (placed.spot.slot ≡ slot) × (placed.spot.turn ≡ placed.name.turn)) }
+        ensures within { IfSome result (λ placed. placed.spot.turn ≤ self.now.last_turn) }
+    {
+        let Some(cell) = self.slots.get(slot) else {
+            return None;
+        };
+        match cell.shown() {
+            Some((turn, name)) => {
+                let spot = Spot { slot, turn };
+                Some(Placed { spot, name })
+            }
+            None => None,
+        }
+    }
+
     /// Marks the value at this spot, so that no look finds it from then on. Of all that mark it, one alone has the
     /// removal. `None`: no value was placed there yet, or it was marked, or there is no such slot.
     pub fn mark(&self, spot: Spot) -> Option<Removal<'_, J, T>>

@@ -98,6 +98,21 @@ impl<J: PostSet, T> Slot<J, T> {
         self.turns.sight(self.at, turn, pinned.guard())
     }
 
+    /// Two plain loads. The turn and the name of the value that the cell has. `None`: the cell is empty, or its value
+    /// was marked, or went out between the loads.
+    pub fn shown(&self) -> Option<(u64, Name<T>)>
+        ensures shown { IfSome result (λ shown. (shown.1.log ≡ self.now.turns.log) × (shown.1.turn ≡ shown.0)) }
+        ensures within { IfSome result (λ shown. shown.0 ≤ self.now.last_turn) }
+    {
+        let Some((turn, name)) = self.turns.shown() else {
+            return None;
+        };
+        if turn > self.last_turn {
+            return None;
+        }
+        Some((turn, name))
+    }
+
     /// Marks the value of this turn, by a plain load and one exchange, so that no look finds it from then on. The
     /// caller that marks it gets what was lent of it, and no other caller does. `None`: the cell has no value of this
     /// turn.

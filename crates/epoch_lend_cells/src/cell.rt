@@ -18,7 +18,7 @@ pub struct LendingCell<'p, T> {
     pub(crate) turns: Turns<T>,
     pub(crate) at: *const T,
     posts: &'p [Post],
-    last_turn: u64,
+    pub(crate) last_turn: u64,
     pub ghost bounded: { last_turn ≤ GREATEST_TURN },
     pub ghost same: { at ≡ turns.at },
     pub ghost of_posts: { turns.posts ≡ logs_of posts.now },

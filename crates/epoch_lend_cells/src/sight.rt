@@ -2,7 +2,7 @@
 ghost use Rattle.std.specs.Prelude.{◌≡◌, IfSome};
 ghost use Rattle.epoch_lend.specs.Posts.{IsAmong, logs_of};
 
-use crate::cell::{GREATEST_TURN, LendingCell};
+use crate::cell::{GREATEST_TURN, LendingCell, Placed};
 use crate::turns::{Name, Turns};
 use epoch_lend::post::Guard;
 
@@ -43,6 +43,23 @@ impl<T> Turns<T> {
             None
         }
     }
+
+    /// Two plain loads. The turn and the name of the value that is shown. `None`: no value is shown, or the place went
+    /// to another value between the loads.
+    pub fn shown(&self) -> Option<(u64, Name<T>)>
+        ensures { IfSome result (λ shown. (shown.1.log ≡ self.now.log) × (shown.1.turn ≡ shown.0)) }
+    {
+        let (now, any) = self.find(0, 2);
+        any.done();
+        let turn = now / 4;
+        let word = 4 * turn + 2;
+        let (found, which) = self.find(turn, word);
+        if found != word {
+            which.done();
+            return None;
+        }
+        Some((turn, which.name()))
+    }
 }
 
 impl<'p, T> LendingCell<'p, T> {
@@ -53,5 +70,25 @@ impl<'p, T> LendingCell<'p, T> {
         ensures { IfSome result (λ sight. (sight.name.log ≡ self.now.turns.log) × (sight.name.turn ≡ turn)) }
     {
         self.turns.sight(self.at, turn, guard)
+    }
+
+    /// Two plain loads. The value that the cell has, as [`LendingCell::place`] answered it, so that what is left in a
+    /// cell can be marked and taken back. `None`: the cell is empty, or its value was marked, or went out between the
+    /// loads.
+    pub fn shown(&self) -> Option<Placed<'_, 'p, T>>
+        ensures { IfSome result (λ placed. placed.cell.now ≡ self.now) }
+    {
+        let Some((turn, name)) = self.turns.shown() else {
+            return None;
+        };
+        if turn > self.last_turn {
+            return None;
+        }
+        Some(Placed {
+            cell: self,
+            name,
+            turn,
+            word: 4 * turn + 2,
+        })
     }
 }

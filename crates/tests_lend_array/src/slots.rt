@@ -190,3 +190,45 @@ fn a_cell_of_an_array_is_done_after_its_last_turn(rt: HostRuntime) -> Result<(),
     );
     Ok(())
 }
+
+/// Takes out the value that this slot shows, with nobody pinned. Answers it, or 0.
+fn left_in<J: PostSet>(
+    alloc: Global,
+    posts: &Posts<J>,
+    cells: &LendingCells<J, u64>,
+    slot: usize,
+) -> u64 {
+    match cells.shown(slot) {
+        Some(placed) => taken(alloc, posts, cells, placed.spot),
+        None => 0,
+    }
+}
+
+/// Leaves two values in an array of three cells, and takes out what each slot has.
+#[derive(Drop)]
+struct Leaves {
+    alloc: Global,
+}
+
+impl Session for Leaves {
+    type Answer = [u64; 4];
+
+    fn run<J: PostSet + Send + Sync>(self, posts: Posts<J>) -> [u64; 4] {
+        let Ok(cells) = LendingCells::new(self.alloc, 3, u64::MAX, &posts) else {
+            return [0; 4];
+        };
+        let _ = cells.place(7);
+        let _ = cells.place(8);
+        let first = left_in(self.alloc, &posts, &cells, 0);
+        let second = left_in(self.alloc, &posts, &cells, 1);
+        let third = left_in(self.alloc, &posts, &cells, 2);
+        [first, second, third, left_in(self.alloc, &posts, &cells, 3)]
+    }
+}
+
+#[test]
+fn values_left_in_an_array_are_taken_out(rt: HostRuntime) -> Result<(), Fail> {
+    let left = with_posts(rt.alloc(), 1, Leaves { alloc: rt.alloc() })?;
+    want(&rt, "each slot has its own", left, [7, 8, 0, 0]);
+    Ok(())
+}

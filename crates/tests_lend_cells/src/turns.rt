@@ -132,3 +132,25 @@ fn a_cell_takes_no_value_past_its_last_turn(rt: HostRuntime) -> Result<(), Fail>
     }
     Ok(())
 }
+
+/// Takes out the value that the cell shows, with nobody pinned. Answers it, or 0.
+fn left_in(cell: &LendingCell<'_, u64>) -> u64 {
+    match cell.shown() {
+        Some(placed) => tried(removed(&placed)).0,
+        None => 0,
+    }
+}
+
+#[test]
+fn a_value_left_in_a_cell_is_taken_out(rt: HostRuntime) -> Result<(), Fail> {
+    let (first, _) = Post::new();
+    let posts = [first];
+    let cell = LendingCell::new(rt.alloc(), u64::MAX, &posts)?;
+    want(&rt, "nothing is in an empty cell", left_in(&cell), 0);
+    let _ = cell.place(0, 7);
+    want(&rt, "a value is taken out", left_in(&cell), 7);
+    want(&rt, "and is there once", left_in(&cell), 0);
+    want(&rt, "the next turn comes", takes(&cell, 1), true);
+    want(&rt, "with a value of its own", left_in(&cell), 9);
+    Ok(())
+}
