@@ -49,6 +49,7 @@ test:
 	@rm -rf .git/proving .git/refuting
 	@tools/refute.py --stand
 	@tools/quotes.py
+	@tools/names.py
 	@tools/gate.py
 
 refute:

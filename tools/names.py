@@ -1,0 +1,127 @@
+#!/usr/bin/env python3
+"""Says whether the names that documents give still stand in the code, and whether their links lead somewhere.
+
+- A link leads to a file of the repository, and what follows '#' is a heading there.
+- 'Type::call' stands in a file that names the type.
+- A word with two or more underscores is a word of the code, or a file's name.
+- In a row of PROMISES.md, a clause stands in a contract of a call that is named in the same cell, a definition in the
+  code, and a lemma in a proof. 'S/Name' and 'P/Name' are files in specs/ and proofs/.
+- A row of DIFFERENCES.md that quotes a script's name quotes one that a test has.
+"""
+import glob
+import re
+import sys
+
+WORD = r"[A-Za-z_][A-Za-z0-9_]*"
+DOCUMENTS = ["README.md", "CHANGELOG.md", "beside/README.md", *sorted(glob.glob("docs/*.md"))]
+
+
+def words(text):
+    return set(re.findall(WORD, text))
+
+
+def files(folder, suffix):
+    found = glob.glob(f"crates/*/{folder}/**/*{suffix}", recursive=True)
+    return {f: open(f, encoding="utf-8").read() for f in found}
+
+
+SOURCES = files("src", ".rt")
+SPECS, PROOFS = files("specs", ".antt"), files("proofs", ".antt")
+SOURCE_WORDS = {f: words(t) for f, t in SOURCES.items()}
+CODE = set().union(*SOURCE_WORDS.values(), *map(words, SPECS.values()))
+LEMMAS = set().union(*map(words, PROOFS.values()))
+NAMES = words(" ".join([*SOURCES, *SPECS, *PROOFS, *glob.glob("crates/*"), *glob.glob("crates/*/*.txt")]))
+SCRIPTS = "".join(t for f, t in SOURCES.items() if "/tests_" in f)
+
+
+CLAUSE = r"(?:ensures|requires)\*? (" + WORD + r") \{"
+
+
+def contracts():
+    """The names of the clauses of all functions of one name, by that name."""
+    found = {}
+    for text in SOURCES.values():
+        for piece in re.split(r"\bfn (?=" + WORD + r"\s*[<(])", text)[1:]:
+            clauses = re.findall(CLAUSE, piece)
+            found.setdefault(re.match(WORD, piece)[0], set()).update(clauses)
+    return found
+
+
+CONTRACTS = contracts()
+GHOSTS = set(re.findall(r"ghost (" + WORD + r")\s*[:=]", "".join(SOURCES.values())))
+
+
+def anchors(path):
+    text = re.sub(r"```.*?```", "", open(path, encoding="utf-8").read(), flags=re.DOTALL)
+    headings = re.findall(r"^#+ (.*)$", text, flags=re.MULTILINE)
+    return {re.sub(r"[^\w\- ]", "", h.lower()).strip().replace(" ", "-") for h in headings}
+
+
+def bad_links(document, text):
+    for target in re.findall(r"\]\(([^)\s]+)\)", text):
+        path, _, part = target.partition("#")
+        parts = [p for p in f"{document.rpartition('/')[0]}/{path}".split("/") if p]
+        while ".." in parts:
+            at = parts.index("..")
+            parts[at - 1 : at + 1] = []
+        file = "/".join(parts) if path else document
+        if not target.startswith("http") and not (glob.glob(file) and (not part or part in anchors(file))):
+            yield f"the link {target} leads nowhere"
+
+
+def bad_words(text):
+    for owner, item in set(re.findall(rf"`({WORD})::({WORD})[^`]*`", text)):
+        if not any(owner in w and item in w for w in SOURCE_WORDS.values()):
+            yield f"{owner}::{item} isn't there"
+    for word in set(re.findall(rf"`({WORD})`", text)):
+        if word.count("_") < 2 or not word.islower() or word in CODE or word in LEMMAS or word in NAMES:
+            continue
+        # A text may speak of all tests whose names begin so.
+        if not any(known.startswith(word + "_") for known in CODE):
+            yield f"{word} isn't there"
+
+
+def bad_rows(text):
+    for row in re.findall(r"^\| .* \|$", text, flags=re.MULTILINE):
+        cells = [c.strip() for c in row.strip("|").split("|")]
+        if len(cells) != 4 or cells[1] == "Call and clause":
+            continue
+        named = set(re.findall(WORD, " ".join(re.findall(r"`[^`]*`", cells[1])))) - {"requires", "ensures"}
+        calls = named & set(CONTRACTS)
+        types = {w for w in named if w[0].isupper()}
+        known = GHOSTS.union(*(CONTRACTS[w] for w in calls or CONTRACTS))
+        for kind in re.findall(rf"calls of `({WORD})`", cells[1]):
+            known |= set(re.findall(CLAUSE, "".join(t for f, t in SOURCES.items() if kind in SOURCE_WORDS[f])))
+        if not calls:
+            known |= CONTRACTS.keys()
+        for word in named - known - calls - types - NAMES:
+            yield f"no clause {word} in a contract beside it: {cells[0][:70]}"
+        for kind, name in re.findall(rf"\b([SP])/({WORD})", row):
+            if not re.search(rf"/{name}\b", "\n".join(SPECS if kind == "S" else PROOFS)):
+                yield f"no file {kind}/{name}: {cells[0][:70]}"
+        for word in re.findall(rf"`({WORD})`", cells[2] + cells[3]):
+            if word not in CODE and word not in LEMMAS:
+                yield f"no definition or lemma {word}: {cells[0][:70]}"
+
+
+def bad_scripts(text):
+    for name in re.findall(r'[;|] "([^"]+)"', text):
+        if f'"{name}"' not in SCRIPTS:
+            yield f"no script is named {name}"
+
+
+def main():
+    amiss = 0
+    for document in DOCUMENTS:
+        text = open(document, encoding="utf-8").read()
+        found = [*bad_links(document, text), *(bad_words(text) if document != "CHANGELOG.md" else [])]
+        found += bad_rows(text) if document == "docs/PROMISES.md" else []
+        found += bad_scripts(text) if document == "docs/DIFFERENCES.md" else []
+        for line in found:
+            print(f"{document}: {line}")
+        amiss += len(found)
+    print(f"{len(DOCUMENTS)} documents, {amiss} names or links amiss")
+    return 1 if amiss else 0
+
+
+sys.exit(main())
