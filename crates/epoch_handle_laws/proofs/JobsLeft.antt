@@ -7,7 +7,8 @@ use Rattle.epoch_tables.specs.ClosedPlaces.{AreLast, LastHaveTheRest}
 use Rattle.epoch_tables.specs.declared.shared_places.view.PlaceView.{PlaceView}
 use Rattle.epoch_machine.specs.Machine.{Machine}
 use Rattle.epoch_handles.specs.Drives.{Situation}
-use Rattle.epoch_handle_laws.specs.JobsKept.{left_to_call, slots_weight, has_weight, jobs_weight, Life, AreLivesOf, LosesNoJob}
+use Rattle.epoch_handle_laws.specs.JobsKept.{left_to_call, slots_weight, has_weight, jobs_weight, Life, AreLivesOf}
+use Rattle.epoch_handle_laws.specs.JobsKept.{LosesNoJob}
 use Rattle.epoch_handle_laws.specs.JobsKept.{HasLeft, LeavesTheRest}
 
 module _ {J : Type 0} where

@@ -36,6 +36,7 @@ module _ {J : Type 0} where
   abbrev pub with_hand : Machine J → ℕ → ℕ → List J → Machine J
   with_hand m x k jobs = record m { stage = after_job m x k jobs; hand = jobs }
 
+  -- calling the first job of the hand is what the machine has asked for
   call_performed : (places : ℕ) (m : Machine J) (v : Sight J) (c : Cursors) (x k : ℕ) (job : J) (jobs : List J)
       → Performed places (situated (with_hand m x k (job ∷ jobs)) v c)
       (record { ask = CallJob; reply = JobGiven job } ∷ []) (situated (with_hand m x k jobs) v c)
@@ -57,6 +58,7 @@ pub record HasCalled {T W : Type 0} (done : W → Type 0) (tried : Name → Type
       × GivesOnly (IsCalled done tried) log
 
 module _ {T W : Type 0} where
+  -- one more job of the hand was called, and the others are left in it
   pub one_more_called : (done : W → Type 0) (tried : Name → Type 0) (h n : Local T W) (x k : ℕ) (job : Job W)
       (m : Machine (Job W))
       → HasCalled done tried h x k n
@@ -88,6 +90,7 @@ module _ {T W : Type 0} where
         );
       }
 
+  -- a machine that asks for no further call has called the whole hand
   pub all_called : (done : W → Type 0) (tried : Name → Type 0) (h n : Local T W) (x k : ℕ) (m : Machine (Job W))
       → HasCalled done tried h x k n
       → asks n.machine ≢ Some CallJob
@@ -116,6 +119,7 @@ expiry_of : Option Ask → ℕ
 expiry_of (Some (TakeBag x)) = x
 expiry_of _ = 0
 
+-- two equal asks for a bag are for bags as old
 pub one_bag_asked : (x y : ℕ) → Some (TakeBag x) ≡ Some (TakeBag y) → x ≡ y
 unfolding expiry_of
 one_bag_asked x y same = ap expiry_of same
@@ -125,12 +129,14 @@ stops : {J : Type 0} (a : Action) (held : List J) → is_taking (after_collect a
 stops Release [] = refl
 stops _ _ = refl
 
+-- a machine that still takes after the calls of a hand takes at the next place
 goes_on_at : {J : Type 0} (a : Action) (held : List J) (last : Bool) (x k : ℕ)
     → is_taking (if last then after_collect a held else Take x k) ≡ true
     → (if last then after_collect a held else Take x k) ≡ Take x k
 goes_on_at a held true x k takes = absurd (cc (stops a held, takes))
 goes_on_at a held false x k takes = refl
 
+-- and one that takes no more has ended its collection
 stops_at : {J : Type 0} (a : Action) (held : List J) (last : Bool) (x k : ℕ)
     → is_taking (if last then after_collect a held else Take x k) ≡ false
     → (if last then after_collect a held else Take x k) ≡ after_collect a held
@@ -177,6 +183,7 @@ module _ {T W : Type 0} where
         gives_on (IsCalled done tried) taken.performed.0 (exchange ∷ []) taken.performed.2 (tt, tt),
       )
 
+  -- a collection that begins has taken nothing yet, and looks at the first place first
   pub take_begins : (done : W → Type 0) (tried : Name → Type 0) (h : Local T W) (x : ℕ) (cursor : TakeCursor)
       → h.machine.stage ≡ Take x 0
       → IsAt h.collector.now.places h.claimer
@@ -313,6 +320,7 @@ module _ {T W : Type 0} where
         (situation_of w (record { put = PutLook 0; take = next }))
         × GivesOnly (IsCalled done tried) log
 
+  -- a bag that was taken and called is one more of the collection
   pub bag_called : (done : W → Type 0) (tried : Name → Type 0) (h n w : Local T W) (x : ℕ) (cursor next : TakeCursor)
       (m : Machine (Job W))
       (claimer : _) (bag : Sealed (Job W))

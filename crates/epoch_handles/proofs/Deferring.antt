@@ -36,16 +36,19 @@ module _ {J : Type 0} where
   abbrev pub with_kept : Machine J → List J → J → Machine J
   with_kept m held job = record m { stage = End; action = Defer; full = false; held = held ++ job ∷ [] }
 
+  -- a deferral with room in the held bag adds its job there, and changes nothing else of the machine
   pub job_kept : (m b n : Machine J) (job : J)
       → length m.held < m.sizes.bag_jobs → b ≡ begun Defer m → n ≡ heard b (Deferred job) → n ≡ with_kept m m.held job
   job_kept m b n job room begins is = is ∙ ap (λ (z : Machine J). heard z (Deferred job)) begins
       ∙ ap (λ (s : Stage). heard (record (begun Defer m) { stage = s }) (Deferred job)) (keep_begins m room)
 
+  -- the same, where the call has ended too
   pub kept_at_once : (m n : Machine J) (job : J) → length m.held < m.sizes.bag_jobs
       → n ≡ ended (heard (begun Defer m) (Deferred job)) → n ≡ ended (with_kept m m.held job)
   kept_at_once m n job room is =
       is ∙ ap ended (job_kept m (begun Defer m) (heard (begun Defer m) (Deferred job)) job room refl refl)
 
+  -- keeping the job is what the machine has asked for
   pub keep_performed : (places : ℕ) (m : Machine J) (v : Sight J) (job : J)
       → m.stage ≡ Keep → Drives NoJob places m v (heard m (Deferred job)) v
   keep_performed places m v job at =
@@ -66,12 +69,14 @@ module _ {J : Type 0} where
   PutEnded b n = (n ≡ record b { stage = after_put b.action false; full = false; held = [] })
       ⊎ (n ≡ record b { stage = after_put b.action true; full = true })
 
+  -- where the put before it found no place, a deferral is over, and the held bag stays as it was
   pub found_full : (m b n : Machine J)
       → b ≡ begun Defer m → PutEnded b n → n.full ≡ true → n ≡ record m { stage = End; action = Defer; full = true }
   found_full m b n begins (inl done) full = absurd (true≢false (sym full ∙ ap (λ (z : Machine J). z.full) done))
   found_full m b n begins (inr occupied) full =
       occupied ∙ ap (λ (z : Machine J). record z { stage = after_put z.action true; full = true }) begins
 
+  -- where the put before it found a place, the deferral has an empty bag to keep its job in
   pub found_room : (m b n : Machine J) → b ≡ begun Defer m → PutEnded b n → n.full ≡ false
       → n ≡ record m { stage = Keep; action = Defer; full = false; held = [] }
   found_room m b n begins (inl done) room =

@@ -24,6 +24,7 @@ module _ {J : Type 0} where
 
   -- WHICH JOBS WERE GIVEN
 
+  -- two logs that give such jobs alone do so one behind the other
   pub gives_on : (IsSuch : J → Type 0) (log more : Log J)
       → GivesOnly IsSuch log → GivesOnly IsSuch more → GivesOnly IsSuch (log ++ more)
   gives_on IsSuch [] more first further = further
@@ -35,6 +36,7 @@ module _ {J : Type 0} where
   also_given IsSuch IsSo also (JobGiven job) such = also job such
   also_given IsSuch IsSo also _ such = tt
 
+  -- jobs that are such are so as well, where the one follows from the other
   pub gives_also : (IsSuch IsSo : J → Type 0) → ((job : J) → IsSuch job → IsSo job)
       → (log : Log J) → GivesOnly IsSuch log → GivesOnly IsSo log
   gives_also IsSuch IsSo also [] such = tt
@@ -43,9 +45,11 @@ module _ {J : Type 0} where
 
   -- WHAT IS DRIVEN
 
+  -- a machine that was asked nothing is where it was
   pub drives_none : (IsSuch : J → Type 0) (places : ℕ) (m : Machine J) (v : Sight J) → Drives IsSuch places m v m v
   drives_none IsSuch places m v = λ c. (c, [], refl, tt)
 
+  -- what drives a machine on goes on from where it has come
   pub drives_on : (IsSuch : J → Type 0) (places : ℕ) (m n o : Machine J) (v u w : Sight J)
       → Drives IsSuch places m v n u
       → Drives IsSuch places n u o w
@@ -74,6 +78,7 @@ module _ {J : Type 0} where
       → Drives IsSuch places m v n u
   drives_of IsSuch places m n v u drives = drives_also NoJob IsSuch (λ job none. absurd none) places m n v u drives
 
+  -- a situation that was reached leads on to the ones behind it
   pub reaches_on : (IsSuch : J → Type 0) (places : ℕ) (m : Machine J) (v : Sight J) (between after : Situation J)
       → Reaches IsSuch places m v between
       → (more : Log J) → Performed places between more after → GivesOnly IsSuch more
@@ -85,6 +90,7 @@ module _ {J : Type 0} where
         gives_on IsSuch one.0 more one.2 such,
       )
 
+  -- a situation that was reached is one that the machine was driven to
   pub reached : (IsSuch : J → Type 0) (places : ℕ) (m : Machine J) (v : Sight J) (after : Situation J)
       → Reaches IsSuch places m v after
       → Drives IsSuch places m v after.machine after.sight

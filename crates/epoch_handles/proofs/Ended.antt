@@ -6,6 +6,7 @@ use Rattle.epoch_handles.specs.Handles.{EndsGiving, sight_of}
 use Rattle.epoch_handles.proofs.Driving.{drives_also}
 
 module _ {T W : Type 0} where
+  -- jobs that are such are so as well, where the one follows from the other
   ends_also : (IsSuch IsSo : Job W → Type 0) → ((job : Job W) → IsSuch job → IsSo job)
       → (h n : Local T W) → EndsGiving IsSuch h n → EndsGiving IsSo h n
   ends_also IsSuch IsSo also h n ends = record {

@@ -20,6 +20,7 @@ pub record GoesOn {J : Type 0} (m : Machine J) (e : ℕ) (collects : Bool) (n : 
   pub stops : collects ≡ false → (again : ℕ) → (told_of_pin m e again).stage ≡ End
   pub ends : collects ≡ false → (again : ℕ) → n ≡ ended (told_of_pin m e again)
 
+-- a machine that goes on with a pin keeps its sizes
 keeps_sizes : {J : Type 0} (m n : Machine J) (e : ℕ) (collects : Bool)
     → m.guards ≡ 0 → GoesOn m e collects n → n.sizes ≡ m.sizes
 keeps_sizes m n e true none goes = ap (λ (z : Machine _). z.sizes) (goes.follows refl 0) ∙ (pin_leaves m e 0 none).0
@@ -57,6 +58,7 @@ module _ {T W : Type 0} where
     pub steps : PinSteps h e (record w { machine = h.machine })
     pub machine : GoesOn h.machine e collects w.machine
 
+  -- the first guard of a participant loads the epoch, publishes it, and loads it again
   pub pins_first : (h n w : Local T W) (m : Machine (Job W)) (e : ℕ) (collects : Bool)
       → h.machine.guards ≡ 0
       → h.seat.me.0.seen ≤ e

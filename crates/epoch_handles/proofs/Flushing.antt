@@ -20,9 +20,11 @@ use Rattle.epoch_handles.proofs.StraightCalls.{reading, ready_with, seated_with}
 module _ {J : Type 0} where
   -- HOW IT BEGINS
 
+  -- a flush of an empty bag begins with the scan of its collection
   pub flush_scans : (m : Machine J) → is_empty m.held ≡ true → (begun Flush m).stage ≡ LoadScan
   flush_scans m none = ap (λ (b : Bool). if b then LoadScan else LoadSeal) none
 
+  -- a flush of a bag with jobs begins with the load of its seal
   pub flush_seals : (m : Machine J) → is_empty m.held ≡ false → (begun Flush m).stage ≡ LoadSeal
   flush_seals m some = ap (λ (b : Bool). if b then LoadScan else LoadSeal) some
 
@@ -35,6 +37,7 @@ module _ {J : Type 0} where
     pub guards : n.guards ≡ m.guards
     pub published : n.published ≡ m.published
 
+  -- the machine of a flush that has begun asks first for one of the two
   pub flush_begun : (m n : Machine J) → n ≡ begun Flush m → Flushes m n
   flush_begun m n is = record {
     action = ap (λ (z : Machine J). z.action) is;
@@ -88,6 +91,7 @@ module _ {T W : Type 0} where
     read = reading h.seat.me.0.first_read (ready.agrees.read out);
   }
 
+  -- a step that keeps the pin leaves a pinned participant pinned
   pub still_pinned : (h n : Local T W) → KeepsPin h n → IsPinned h.seat.me.0 → IsPinned n.seat.me.0
   still_pinned h n keeps pinned = record {
     published = (pinned.published.0, keeps.published ∙ pinned.published.1);
@@ -149,6 +153,7 @@ module _ {T W : Type 0} where
     pub ends : o.machine.stage ≡ End
     pub calls : IsDrivenTo (IsCalled done tried) (record h { machine = begun Flush h.machine }) o
 
+  -- a flush is done when the collection behind its put has ended
   pub collection_ends : (done : W → Type 0) (tried : Name → Type 0) (h n o : Local T W)
       → ComesToScan h n → Collects done tried n o → HasFlushed done tried h o
   collection_ends done tried h n o comes collects = record {
@@ -173,6 +178,7 @@ module _ {T W : Type 0} where
 
   -- THE WHOLE
 
+  -- a flush does what its machine asks for, and calls what it is given
   pub flush_does : (done : W → Type 0) (tried : Name → Type 0) (h o : Local T W) (m : Machine (Job W))
       → HasFlushed done tried h o
       → m ≡ ended o.machine

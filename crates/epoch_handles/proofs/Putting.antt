@@ -108,6 +108,7 @@ module _ {T W : Type 0} where
     (tt, tt),
   )
 
+  -- a put begins with the load of its seal, and looks at the first place first
   pub put_begins : (h n : Local T W) (seal : ℕ) (cursor : PutCursor) (m : Machine (Job W))
       → IsPinned h.seat.me.0
       → h.machine.stage ≡ LoadSeal
@@ -178,6 +179,7 @@ module _ {T W : Type 0} where
     positions = seated.positions;
   }
 
+  -- a put that has not found a place yet goes on at the next one
   pub put_again : (h n : Local T W) (seal : ℕ) (cursor next : PutCursor) (m : Machine (Job W)) (claimer : _)
       → HasPut h seal cursor n
       → m ≡ put_heard n.machine Again
@@ -207,6 +209,7 @@ module _ {T W : Type 0} where
   put_over h seal Done m over after = inl after
   put_over h seal Full m over after = inr after
 
+  -- a put that has found a place, or has seen each of them occupied, is over
   pub put_ends : (h n : Local T W) (seal : ℕ) (cursor next : PutCursor) (step : PutStep)
       (m : Machine (Job W)) (claimer : _)
       → HasPut h seal cursor n

@@ -10,6 +10,7 @@ one_more : (position : ℕ) → each_before (position + 1) ≡ each_before posit
 one_more position = ap (λ (positions : List (Option ℕ)). None ∷ positions)
     (map-range_with_len_more (λ (earlier : ℕ). Some earlier) 0 position position (omega arith))
 
+-- a participant that has found one more position taken goes on to the next one
 pub loses_one_more : (position : ℕ) (looked : List (Option ℕ)) (found : List ℕ) (word : ℕ)
     → FindsEachTaken position looked found
     → word ≢ 0

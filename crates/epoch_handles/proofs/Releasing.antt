@@ -48,6 +48,7 @@ module _ {J : Type 0} where
       (ap (λ (a : Action). with_stage m (after_unpin a m.full)) action
       ∙ ap (λ (b : Bool). with_stage m (after_unpin Release b)) full)
 
+  -- giving the position back is the last thing that the machine asks for
   free_performed : (places : ℕ) (m : Machine J) (v : Sight J)
       → Drives NoJob places (with_stage m StageFree) v (fresh m.sizes) (with_words v (after_free v.words))
   free_performed places m v = λ c. (
@@ -130,6 +131,7 @@ module _ {T W : Type 0} where
   told_last h n told at action full same is =
       is ∙ ap (λ (z : Machine (Job W)). heard z Stored) same ∙ store_is_last h.machine at action full
 
+  -- a release that has found no place for its bag leaves the participant registered, and not pinned
   pub stayed : (done : W → Type 0) (tried : Name → Type 0) (h n : Local T W) (told last : Machine (Job W))
       → RestsAt h.claimer.me
       → h.machine.stage ≡ StageUnpinned
@@ -177,11 +179,13 @@ module _ {T W : Type 0} where
 -- WHAT FOLLOWS THE PIN AND THE COLLECTION
 
 module _ {J : Type 0} where
+  -- a release with no job left asks for no put after its collection
   pub no_put : (m : Machine J) (held : List J)
       → m.stage ≡ after_collect Release held → is_empty held ≡ true → m.stage ≡ StageUnpinned
   no_put m [] at none = at
   no_put m (job ∷ jobs) at none = absurd (false≢true none)
 
+  -- and one with jobs asks for a put first
   pub put_first : (m : Machine J) (held : List J)
       → m.stage ≡ after_collect Release held → is_empty held ≡ false → m.stage ≡ LoadSeal
   put_first m [] at some = absurd (true≢false some)
@@ -196,6 +200,7 @@ module _ {J : Type 0} where
   was_put m n (inl is) room = is
   was_put m n (inr is) room = absurd (true≢false (sym (ap (λ (z : Machine J). z.full) is) ∙ room))
 
+  -- a put that tells of no place has left the held bag as it was
   pub was_full : (m n : Machine J)
       → ((n ≡ record m { stage = after_put m.action false; full = false; held = [] })
       ⊎ (n ≡ record m { stage = after_put m.action true; full = true }))
@@ -230,6 +235,7 @@ module _ {T W : Type 0} where
         same.collector freed.calls);
   }
 
+  -- a refused release is refused whatever went before it, if that left the held bag as it was
   pub refused_behind : (done : W → Type 0) (tried : Name → Type 0) (h n o : Local T W)
       → IsSame h n
       → n.machine.held ≡ h.machine.held
@@ -318,6 +324,7 @@ module _ {T W : Type 0} where
         leaving.same.collector collects.calls);
   }
 
+  -- the collection of a release goes on to its put
   pub collected_to_leave : (done : W → Type 0) (tried : Name → Type 0) (h n o : Local T W)
       → IsLeaving done tried h n → Collects done tried n o → o.machine.stage ≡ after_collect Release o.machine.held
   collected_to_leave done tried h n o leaving collects =
@@ -327,6 +334,7 @@ module _ {T W : Type 0} where
 
   -- HOW IT COMES OUT
 
+  -- a release whose last put is refused is refused as a whole
   pub refused_at_last : (done : W → Type 0) (tried : Name → Type 0) (h n o : Local T W)
       → IsLeaving done tried h n → IsRefused done tried n o → IsRefused done tried
       (record h { machine = begun Release h.machine }) o
@@ -335,6 +343,7 @@ module _ {T W : Type 0} where
       (record { position = leaving.same.position; collector = leaving.same.collector }) leaving.held
       leaving.calls refused
 
+  -- a release whose position is given back is done as a whole
   pub freed_at_last : (done : W → Type 0) (tried : Name → Type 0) (h n o : Local T W)
       → IsLeaving done tried h n → IsFreed done tried n o → IsReleased done tried h o
   freed_at_last done tried h n o leaving freed =
@@ -342,6 +351,7 @@ module _ {T W : Type 0} where
       (record { position = leaving.same.position; collector = leaving.same.collector }) leaving.sizes leaving.calls
       (subst (λ (z : List (Job W)). z ≢ [] → IsLeftWhole z o.claimer.me.0) leaving.held freed.whole) freed
 
+  -- and in both cases the handle is of the same collector and the same sizes
   pub same_at_last : (done : W → Type 0) (tried : Name → Type 0) (h n o : Local T W) (free : Bool)
       → IsLeaving done tried h n
       → (free ≡ false → IsRefused done tried n o)

@@ -25,11 +25,13 @@ at_scan positions e k = if k == positions then scanned e else Scan e k
 
 -- WHAT A WORD SAYS
 
+-- a word that does not hold the scan up lets it pass
 pub lets_pass : (e w : ℕ) → IsWord w → holds_up e w ≡ false → LetsPass e w
 lets_pass e w (inl free) low = inl free
 lets_pass e w (inr (inl unpinned)) low = inr (inl unpinned)
 lets_pass e w (inr (inr (published, is))) low = inr (inr (grind (arith, nat_tests)))
 
+-- and one that holds it up does not
 pub doesnt_let_pass : (e w : ℕ) → holds_up e w ≡ true → ¬ LetsPass e w
 doesnt_let_pass e w high (inl free) = grind (arith, nat_tests)
 doesnt_let_pass e w high (inr (inl unpinned)) = grind (arith, nat_tests)
@@ -79,6 +81,7 @@ pub record HasPassed {T W : Type 0} (h : Local T W) (e k : ℕ) (n : Local T W) 
       (situated (with_stage h.machine (at_scan h.machine.sizes.positions e k)) (sight_of n) at_start)
 
 module _ {T W : Type 0} where
+  -- a scan that begins has passed no position
   pub scan_begins : (h n : Local T W) (e : ℕ)
       → IsPinned h.seat.me.0
       → h.machine.stage ≡ LoadScan
@@ -131,6 +134,7 @@ module _ {T W : Type 0} where
       (sight_of o) e k w refl within is_word passed.scan
       (λ lets. sight_after n o _ (found.0 lets), λ holds. sight_after n o _ (found.1 holds))) (tt, tt)
 
+  -- a scan that finds a word that lets it pass has passed one position more
   pub scan_passes : (h n o : Local T W) (e k w : ℕ)
       → HasPassed h e k n
       → k < h.machine.sizes.positions

@@ -6,6 +6,7 @@ use Rattle.epoch_tables.specs.declared.table.view.ParticipantView.{ParticipantVi
 use Rattle.epoch_handles.specs.declared.local.Local.{Local}
 use Rattle.epoch_handles.specs.Handles.{IsSeated, Steps}
 
+-- a step of the seat on the table of words changes nothing else of the handle
 pub seat_steps : {T W : Type 0} (h : Local T W) (seat : Seat _ ParticipantView) (view : ParticipantView)
     → IsSeated h
     → IsSameSeat h.seat seat

@@ -22,21 +22,27 @@ use Rattle.epoch_handles.specs.Handles.{IsSeated, IsReady, IsPinned, Steps, PinS
 -- HOW THE ACTIONS BEGIN
 
 module _ {J : Type 0} where
+  -- a pin with no guard out begins with a load of the epoch
   pub pin_begins : (m : Machine J) → m.guards ≡ 0 → (begun Pin m).stage ≡ LoadPin
   pin_begins m none = ap (λ (n : ℕ). if n == 0 then LoadPin else End) none
 
+  -- a further pin asks for nothing
   pub pin_asks_nothing : (m : Machine J) → m.guards ≢ 0 → (begun Pin m).stage ≡ End
   pin_asks_nothing m some = ap (λ (b : Bool). if b then LoadPin else End) (ne_eqb m.guards 0 some)
 
+  -- the unpin of the only guard begins with the store of its word
   pub unpin_begins : (m : Machine J) → m.guards ≡ 1 → (begun Unpin m).stage ≡ StageUnpinned
   unpin_begins m one = ap (λ (n : ℕ). if n == 1 then StageUnpinned else End) one
 
+  -- and that of one of several guards asks for nothing
   pub unpin_asks_nothing : (m : Machine J) → m.guards ≢ 1 → (begun Unpin m).stage ≡ End
   unpin_asks_nothing m more = ap (λ (b : Bool). if b then StageUnpinned else End) (ne_eqb m.guards 1 more)
 
+  -- a repin of the only guard begins with a load of the epoch
   pub repin_begins : (m : Machine J) → m.guards ≡ 1 → (begun Repin m).stage ≡ LoadRepin
   repin_begins m one = ap (λ (n : ℕ). if n == 1 then LoadRepin else End) one
 
+  -- and one of several guards asks for nothing
   pub repin_asks_nothing : (m : Machine J) → m.guards ≢ 1 → (begun Repin m).stage ≡ End
   repin_asks_nothing m other = ap (λ (b : Bool). if b then LoadRepin else End) (ne_eqb m.guards 1 other)
 
@@ -50,6 +56,7 @@ module _ {J : Type 0} where
       (n.sizes ≡ m.sizes) × (n.guards ≡ m.guards) × (n.published ≡ e) × (n.action ≡ Pin)) (sym (pin_begins m none))
       (refl, refl, refl, refl)
 
+  -- after its store an unpin has only to end
   pub unpin_leaves : (m : Machine J) → m.guards ≡ 1
       → let n : Machine J = heard (begun Unpin m) Stored in
       (n.sizes ≡ m.sizes) × (n.stage ≡ End) × (n.guards ≡ m.guards) × (n.action ≡ Unpin)
@@ -58,6 +65,7 @@ module _ {J : Type 0} where
       (n.sizes ≡ m.sizes) × (n.stage ≡ End) × (n.guards ≡ m.guards) × (n.action ≡ Unpin)) (sym (unpin_begins m one))
       (refl, refl, refl, refl)
 
+  -- a repin that finds the epoch that is published has only to end
   pub repin_leaves : (m : Machine J) (e : ℕ) → m.guards ≡ 1 → m.published ≡ e
       → let n : Machine J = heard (begun Repin m) (Epoch e) in
       (n.sizes ≡ m.sizes) × (n.stage ≡ End) × (n.guards ≡ m.guards) × (n.published ≡ e) × (n.action ≡ Repin)
@@ -76,6 +84,7 @@ module _ {J : Type 0} where
       (ap (λ (b : Bool). record (begun Repin m) { stage = if b then End else StoreRepin e })
       (ne_eqb m.published e moved))
 
+  -- a repin that finds another epoch publishes that one, and has then only to end
   pub repin_moved_leaves : (m : Machine J) (e again : ℕ) → m.guards ≡ 1 → m.published ≢ e
       → let n : Machine J = heard (heard (heard (begun Repin m) (Epoch e)) Stored) (Epoch again) in
       (n.sizes ≡ m.sizes) × (n.stage ≡ End) × (n.guards ≡ m.guards) × (n.published ≡ e) × (n.action ≡ Repin)
@@ -87,6 +96,7 @@ module _ {J : Type 0} where
 
   -- WHAT IS PERFORMED
 
+  -- the three steps of a pin are what its machine asks for
   pub pin_performed : (places : ℕ) (m : Machine J) (v : Sight J) (e again : ℕ)
       → m.stage ≡ LoadPin
       → v.words.seen ≤ e
@@ -116,6 +126,7 @@ module _ {J : Type 0} where
         (tt, (tt, (tt, tt))),
       ))
 
+  -- the one step of a repin that finds the published epoch is what its machine asks for
   pub repin_same_performed : (places : ℕ) (m : Machine J) (v : Sight J) (e : ℕ)
       → m.stage ≡ LoadRepin
       → v.words.seen ≤ e
@@ -151,6 +162,7 @@ module _ {J : Type 0} where
     (tt, (tt, tt)),
   )
 
+  -- and so are the three steps of one that finds another epoch
   pub repin_moved_performed : (places : ℕ) (m : Machine J) (v : Sight J) (e again : ℕ)
       → m.guards ≡ 1
       → m.published ≢ e
@@ -167,6 +179,7 @@ module _ {J : Type 0} where
       (with_words v (after_epoch (after_own (after_epoch v.words e) (Some e)) again))) (sym (repin_moves m e one moved))
       (repin_stores places (begun Repin m) (with_words v (after_epoch v.words e)) e again (omega arith) rises_again))
 
+  -- the one step of an unpin is what its machine asks for
   pub unpin_performed : (places : ℕ) (m : Machine J) (v : Sight J)
       → m.stage ≡ StageUnpinned
       → Drives NoJob places m v (heard m Stored) (with_words v (after_own v.words None))
@@ -200,6 +213,7 @@ module _ {T W : Type 0} where
   sight_after h n view steps = ap (λ (z : ParticipantView). record { words = z; places = n.claimer.me }) steps.knows
       ∙ ap (λ z. record { words = view; places = z.me }) steps.claimer
 
+  -- a handle that takes the steps of a pin drives the machine of a pin
   pub pin_drives : (h n : Local T W) (m : Machine (Job W)) (e : ℕ)
       → m.stage ≡ LoadPin
       → (steps : PinSteps h e n)

@@ -2,5 +2,6 @@
 use Rattle.std.proofs.Common.{◌≡◌, ◌∙◌, Bool, true, false, sym}
 use Rattle.std.proofs.lemmas.Bool.{false≢true}
 
+-- no test is both
 pub not_both : {b : Bool} → b ≡ false → b ≡ true → ⊥
 not_both off on = false≢true (sym off ∙ on)

@@ -33,7 +33,8 @@ pub trait AtEnd<T>: Run {
     where
         Self: Sized,
         requires more { 0 < length left.old }
-        ensures next { EndsNext (IsCalled ⟦<Self as Run>⟧.done ⟦<Self::Removing as Remove>⟧.tried) left.old result left.new };
+        ensures next { EndsNext (IsCalled ⟦<Self as Run>⟧.done ⟦<Self::Removing as Remove>⟧.tried) left.old result
+            left.new };
 }
 
 impl<T: Drop> AtEnd<T> for Work {

@@ -389,7 +389,8 @@ module _ {M : Type 1} {𝓤 : Ura M} (𝓛 : Logic 𝓤) (R : RattleType) (d : T
     Memory = turns_at R d b o
 
     -- one step under the invariant of the word
-    pub stepped : (f : ℕ → ℕ) (after : ℕ → Fml) (K : Fml) → ((n : ℕ) → ⟦ W n ⟧ ∗ ⟦ K ⟧ ⊢ upd 𝓤 (⟦ W (f n) ⟧ ∗ ⟦ after n ⟧))
+    pub stepped : (f : ℕ → ℕ) (after : ℕ → Fml) (K : Fml)
+        → ((n : ℕ) → ⟦ W n ⟧ ∗ ⟦ K ⟧ ⊢ upd 𝓤 (⟦ W (f n) ⟧ ∗ ⟦ after n ⟧))
         → A.inv (fbor α Memory) ∗ (A.lft α q ∗ ⟦ K ⟧) ⊢ asks 𝓛 (block_ptr b (o + 0)) f always (λ n. fsep (flft α q)
         (after n))
     stepped f after K law = let at : ℕ = o + 0 in

@@ -58,4 +58,5 @@ one_more us ds u d made log state = snoc us ∙ ap (λ xs. xs ++ names_of u ∷ 
     snoc (v ∷ vs) = ap (λ xs. names_of v ∷ xs) (snoc vs)
 
     same : names_of u ≡ d
-    same = ap (λ (n : ℕ). record { log = n; state = u.state }) log ∙ ap (λ (n : ℕ). record { log = d.log; state = n }) state
+    same = ap (λ (n : ℕ). record { log = n; state = u.state }) log ∙ ap (λ (n : ℕ). record { log = d.log; state = n })
+        state

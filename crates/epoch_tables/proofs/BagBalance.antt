@@ -30,6 +30,7 @@ module _ {J : Type 0} where
   none_weighs weigh zero = refl
   none_weighs weigh (suc places) = none_weighs weigh places
 
+  -- in new places, where nobody has taken or put a bag, the balance holds
   pub new_balances : (places : ℕ) (v : PlaceView J) → v.left ≡ [] → v.won ≡ []
       → IsBalanced (v ∷ []) (map some (replicate places None))
   new_balances places v left won weigh =

@@ -16,6 +16,8 @@ use Rattle.epoch_tables.proofs.Views.{one_view}
 abbrev Near : Option ℕ → ℕ → ℕ → Type 0
 Near published first epoch = (p : ℕ) × (published ≡ Some p) × (p ≤ first) × (first ≤ epoch) × (epoch ≤ first + 1)
 
+-- what a participant keeps as its first reading is near the epoch: an older reading stays, and a new one is the epoch
+-- itself
 first_is_near : (published first : Option ℕ) (epoch q : ℕ) → ((p : ℕ) → published ≡ Some p → p ≤ epoch)
     → ((r : ℕ) → first ≡ Some r → Near published r epoch) → first_after published first epoch ≡ Some q
     → Near published q epoch
@@ -38,6 +40,7 @@ abbrev Begins : Option ℕ → Option ℕ → ℕ → ℕ → ℕ → Type 0
 Begins published first epoch scanned passed =
     ((q : ℕ) × (first_after published first epoch ≡ Some q) × (q ≤ scanned)) × (scanned ≡ epoch) × (passed ≡ 0)
 
+-- a load of the epoch by a pinned participant begins a scan for that epoch, which has passed no position yet
 scan_begins : (published first : Option ℕ) (epoch scanned passed : ℕ) → ((r : ℕ) → first ≡ Some r → r ≤ epoch)
     → scan_after published epoch ≡ Some (scanned, passed) → Begins published first epoch scanned passed
 scan_begins None first epoch scanned passed old is = absurd (none-some _ is)
@@ -52,9 +55,11 @@ scan_begins (Some p) (Some r) epoch scanned passed old is = let same = same_Some
     ((r, refl, omega arith), sym scanned_for, sym none)
 
 module _ {S : Type 0} (positions : ℕ) where
+  -- what holds of the table between any two steps
   abbrev Rule : State S ParticipantView → Type 0
   Rule = EpochsAgree positions
 
+  -- a load of the epoch changes no word, and what the participant then knows of it holds
   pub epoch_load_keeps : (slots id : ℕ) (me : Me S ParticipantView)
       → Allows Rule slots id me 0 (λ x. x) (LoadsEpoch (step slots 0 0 0 maybe.none) me)
   epoch_load_keeps slots id me s r _ here _ = let e : ℕ = r.epoch in
@@ -73,7 +78,8 @@ module _ {S : Type 0} (positions : ℕ) where
               word = r.epoch_word;
               up = omega arith;
               reaches = λ n below. inl below;
-              advanced = λ u at n has. subst (λ (z : ParticipantView). Contains z.advanced n) (one_view s.views id u v at here) has;
+              advanced = λ u at n has. subst (λ (z : ParticipantView). Contains z.advanced n)
+                  (one_view s.views id u v at here) has;
               own = λ k has. r.words_match id v k here has;
               others = λ j u k other at has. (refl, λ mine. other (r.one_seat_each j id u v k at here has mine));
               taken = λ k below held. inr (

@@ -15,6 +15,7 @@ use Rattle.epoch_tables.proofs.SeatSteps.{step_keeps}
 use Rattle.epoch_tables.proofs.Views.{one_view}
 
 module _ {S : Type 0} (positions : ℕ) where
+  -- what holds of the table between any two steps
   abbrev Rule : State S ParticipantView → Type 0
   Rule = EpochsAgree positions
 
@@ -26,6 +27,8 @@ module _ {S : Type 0} (positions : ℕ) where
       let place = (r.pins_known j u near.0 at near.1).0 in
       r.scans_hold id v x positions j u place.0 q here is at place.1 (r.words_match j u place.0 at place.1).0 first
 
+  -- a participant whose scan has passed every position may store the next epoch: no pinned participant is behind the
+  -- one that the scan is for
   pub epoch_store_keeps : (slots id : ℕ) (me : Me S ParticipantView) (x : ℕ) → me.0.scan ≡ Some (x, positions)
       → Allows Rule slots id me 0 (λ _. 2 * (x + 1))
       (λ _. StoresEpoch (step slots 0 (2 * (x + 1)) 0 maybe.none) me (2 * (x + 1)))

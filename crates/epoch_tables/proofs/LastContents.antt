@@ -1,5 +1,6 @@
 -- What places have at last weighs as much as what is at home in the last state, where no seat has claimed a place.
-use Rattle.std.proofs.Common.{◌≡◌, ℕ, zero, suc, ◌+◌, ◌<◌, List, [], ◌∷◌, length, Option, Some, None, get_or, sym, refl, ap, ◌∙◌, subst}
+use Rattle.std.proofs.Common.{◌≡◌, ℕ, zero, suc, ◌+◌, ◌<◌, List, [], ◌∷◌, length, Option, Some, None, get_or, sym, refl}
+use Rattle.std.proofs.Common.{ap, ◌∙◌, subst}
 use Rattle.std.proofs.Common.{inl, inr, arith}
 use Rattle.std.proofs.lemmas.Bool.Decides.{eqb_tells}
 use Rattle.std.proofs.lemmas.List.Sums.{sum_by-cons}
@@ -26,7 +27,8 @@ of_seen P l i a each at = subst P (read_there l i a at) (each i a (is_seat l i a
 
 module _ {J : Type 0} where
   -- each slot is at home, with what stands at its place
-  same_weight : (weigh : Sealed J → ℕ) (homes : List (InTable (Option (Sealed J)))) (contents : List (Option (Sealed J)))
+  same_weight : (weigh : Sealed J → ℕ) (homes : List (InTable (Option (Sealed J))))
+      (contents : List (Option (Sealed J)))
       → length homes ≡ length contents
       → ((k : ℕ) → k < length homes → (content : Option (Sealed J)) × (get_elem? homes k ≡ some (some content))
       × (get_elem? contents k ≡ some content))

@@ -24,9 +24,11 @@ record Stored (v w : ParticipantView) (k word : ℕ) : Type 0 where
   pub no_scan : w.scan ≡ None
 
 module _ {S : Type 0} (positions : ℕ) where
+  -- what holds of the table between any two steps
   abbrev Rule : State S ParticipantView → Type 0
   Rule = EpochsAgree positions
 
+  -- a store of a participant into its own word keeps all that is said of the others, whose words and views stay
   own_store_keeps : (s : State S ParticipantView) (r : Rule s) (id : ℕ) (v w : ParticipantView) (k word : ℕ)
       → Sees s id v
       → v.position ≡ Some k → Stored v w k word
@@ -75,6 +77,7 @@ module _ {S : Type 0} (positions : ℕ) where
         myself = λ x m k q is has lt first. absurd (no_first q first);
       } s.homes
 
+  -- a participant may publish an epoch that it has seen
   pub publish_keeps : (slots id : ℕ) (me : Me S ParticipantView) (k p : ℕ) → me.0.position ≡ Some k → p ≤ me.0.seen
       → Allows Rule slots id me (word_at k) (λ _. 2 * p + 1)
       (λ _. Publishes (step slots (word_at k) (2 * p + 1) 0 maybe.none) me (2 * p + 1))
@@ -94,6 +97,7 @@ module _ {S : Type 0} (positions : ℕ) where
     (refl, λ p' is. let same : p ≡ p' = omega arith in ap (λ (z : ℕ). after_own me.0 (Some z)) same),
   )
 
+  -- a participant may store the word of one that is not pinned
   pub unpin_keeps : (slots id : ℕ) (me : Me S ParticipantView) (k : ℕ) → me.0.position ≡ Some k
       → Allows Rule slots id me (word_at k) (λ _. 2) (λ _. Unpins (step slots (word_at k) 2 0 maybe.none) me 2)
   unpin_keeps slots id me k is_at s r _ here _ = (
@@ -112,6 +116,7 @@ module _ {S : Type 0} (positions : ℕ) where
     (refl, refl),
   )
 
+  -- a participant may give its position back
   pub free_keeps : (slots id : ℕ) (me : Me S ParticipantView) (k : ℕ) → me.0.position ≡ Some k
       → Allows Rule slots id me (word_at k) (λ _. 0) (λ _. Frees (step slots (word_at k) 0 0 maybe.none) me 0)
   free_keeps slots id me k is_at s r _ here _ = (

@@ -19,9 +19,11 @@ use Rattle.epoch_tables.proofs.BagBalance.{claim_balances}
 use Rattle.epoch_tables.proofs.PlaceLooks.{look_keeps}
 
 module _ {J : Type 0} (places : ℕ) where
+  -- what holds of the places between any two steps
   abbrev Rule : State (Option (Sealed J)) (PlaceView J) → Type 0
   Rule = PlacesAgree places
 
+  -- a claim that is won moves what was at home in the place into the hands of the seat
   won_keeps : (s : State (Option (Sealed J)) (PlaceView J)) (r : Rule s) (id k : ℕ) (v : PlaceView J)
       (looked found : List ℕ) (home : Option (Sealed J)) → k < places
       → PlaceSeatSees s id v → v.claimed ≡ None → get_or s.words (place_word_at k) 0 ≢ 2
@@ -90,6 +92,8 @@ module _ {J : Type 0} (places : ℕ) where
             j u at;
       }
 
+  -- a seat that has claimed no place may try to claim one, by an exchange of the word that it has found; a lost
+  -- exchange changes nothing
   pub place_claim_keeps : (slots id : ℕ) (me : Me (Option (Sealed J)) (PlaceView J)) (k old : ℕ)
       → me.0.claimed ≡ None → k < places → old ≢ 2
       → Allows Rule slots id me (place_word_at k) (λ x. either (eqb x old) 2 x)

@@ -17,20 +17,24 @@ use Rattle.epoch_tables.specs.SharedPlaces.{after_look, SitsAtPlaces, LooksAtPla
 use Rattle.epoch_tables.proofs.Views.{each_view, is_seat, one_view, only_view}
 use Rattle.epoch_tables.proofs.BagBalance.{new_balances, enters_balances, look_balances}
 
+-- each word of a new table is 0
 blank : (n i : ℕ) → get_or (replicate {A = ℕ} n 0) i 0 ≡ 0
 blank Rattle.std.proofs.Common.zero i = refl
 blank (Rattle.std.proofs.Common.suc n) Rattle.std.proofs.Common.zero = refl
 blank (Rattle.std.proofs.Common.suc n) (Rattle.std.proofs.Common.suc i) = blank n i
 
+-- in a new table each slot is at home, and holds the same
 all_at_home : {A : Type 0} (n i : ℕ) (a : A) → i < n → get_elem? (map some (replicate n a)) i ≡ some (some a)
 all_at_home Rattle.std.proofs.Common.zero i a below = absurd (omega arith)
 all_at_home (Rattle.std.proofs.Common.suc n) Rattle.std.proofs.Common.zero a below = refl
 all_at_home (Rattle.std.proofs.Common.suc n) (Rattle.std.proofs.Common.suc i) a below = all_at_home n i a (omega arith)
 
+-- an empty place is no claimed one
 zero_is_not_two : (x : ℕ) → x ≡ 0 → x ≡ 2 → ⊥
 zero_is_not_two x zero two = omega arith
 
 module _ {J : Type 0} (places : ℕ) where
+  -- what holds of the places between any two steps
   abbrev Rule : State (Option (Sealed J)) (PlaceView J) → Type 0
   Rule = PlacesAgree places
 
@@ -73,6 +77,7 @@ module _ {J : Type 0} (places : ℕ) where
             (r.claims_match id v k here) (λ j u other at_j has. r.claims_match j u k at_j has) j u at;
       }
 
+  -- a load of the word of a place changes no word, and the seat then knows what it has found there
   pub place_look_keeps : (slots id : ℕ) (me : Me (Option (Sealed J)) (PlaceView J)) (k : ℕ) → k < places
       → Allows Rule slots id me (place_word_at k) (λ x. x) (LooksAtPlace (step slots (place_word_at k) 0 0 none) me)
   place_look_keeps slots id me k below s r _ here _ = let word : ℕ = get_or s.words (place_word_at k) 0 in (
@@ -86,6 +91,7 @@ module _ {J : Type 0} (places : ℕ) where
     ),
   )
 
+  -- a new seat has claimed nothing, and so takes nothing from the others
   pub new_seat_enters : (slots : ℕ) (first : PlaceView J)
       → Enters Rule slots 0 (λ x w. SitsAtPlaces {J = J} (step slots 0 0 0 none) (first, []) x (w, []))
   new_seat_enters slots first s r _ _ = let w : PlaceView J = with_claim None [] [] [] [] in
@@ -112,6 +118,7 @@ module _ {J : Type 0} (places : ℕ) where
         refl,
       )
 
+  -- new places hold no bag, and their one seat has none in hand
   pub new_places_keep : Rule (opening (replicate (place_words_for places) 0) (replicate places None)
       (with_claim None [] [] [] []))
   new_places_keep = let v : PlaceView J = with_claim None [] [] [] [] in

@@ -1,6 +1,7 @@
 -- A fill and an empty keep the rule of the places: the slot goes home with what was left in it, under the word that
 -- says so.
-use Rattle.std.proofs.Common.{◌≡◌, ◌≢◌, ℕ, ◌<◌, List, [], ◌∷◌, ◌++◌, get_or, set, sym, refl, ap, ◌∙◌, subst, inl, inr, arith}
+use Rattle.std.proofs.Common.{◌≡◌, ◌≢◌, ℕ, ◌<◌, List, [], ◌∷◌, ◌++◌, get_or, set, sym, refl, ap, ◌∙◌, subst, inl, inr}
+use Rattle.std.proofs.Common.{arith}
 use Rattle.std.proofs.Common.{Option, Some, None, length-set, get_or-set_other, get_or-set_same}
 use Rattle.std.proofs.lemmas.Option.{same_Some, none-some}
 use mathlib.Core.Logic.{dite}
@@ -16,10 +17,12 @@ use Rattle.epoch_tables.specs.SharedPlaces.{with_claim, after_store, StoresPlace
 use Rattle.epoch_tables.proofs.BagBalance.{store_balances}
 use Rattle.epoch_tables.proofs.Views.{each_view, one_view}
 
+-- the word of a place that is at home is that of no bag, or of a bag
 at_home_is_word : {J : Type 0} (word : ℕ) (bag : Option (Sealed J)) → IsAtHome word bag → IsPlaceWord word
 at_home_is_word word None is = inl is
 at_home_is_word word (Some bag) is = inr (inr (bag.seal, is))
 
+-- and so is not that of a claimed place
 at_home_is_unclaimed : {J : Type 0} (word : ℕ) (bag : Option (Sealed J)) → IsAtHome word bag → word ≢ 2
 at_home_is_unclaimed word None is two = omega arith
 at_home_is_unclaimed word (Some bag) is two = omega arith
@@ -30,6 +33,7 @@ content_or d [] = d
 content_or d (slot ∷ slots) = slot.1
 
 module _ {J : Type 0} (places : ℕ) where
+  -- what holds of the places between any two steps
   abbrev Rule : State (Option (Sealed J)) (PlaceView J) → Type 0
   Rule = PlacesAgree places
 
@@ -101,6 +105,7 @@ module _ {J : Type 0} (places : ℕ) where
             j u at;
       }
 
+  -- the seat that has claimed a place may put back what it holds, with the word that tells of it
   pub place_store_keeps : (slots id : ℕ) (me : Me (Option (Sealed J)) (PlaceView J)) (k word : ℕ)
       (bag : Option (Sealed J))
       → me.0.claimed ≡ Some k → me.1 ≡ (k, bag) ∷ [] → IsAtHome word bag

@@ -19,14 +19,17 @@ use Rattle.epoch_tables.proofs.SeatSteps.{step_keeps}
 use Rattle.epoch_tables.proofs.Views.{one_view, only_view}
 use Rattle.epoch_tables.proofs.WordLoads.{load_keeps, same_scan, is_word}
 
+-- the word of a participant is not 0, which is that of a free position
 word_of_some : (published : Option ℕ) → 0 < seat_word published
 word_of_some None = omega arith
 word_of_some (Some p) = omega arith
 
 module _ {S : Type 0} (positions : ℕ) where
+  -- what holds of the table between any two steps
   abbrev Rule : State S ParticipantView → Type 0
   Rule = EpochsAgree positions
 
+  -- a claim that is won makes the position that of the participant: it was free, so no other participant has it
   claim_won_keeps : (s : State S ParticipantView) (r : Rule s) (id : ℕ) (v : ParticipantView) (k word : ℕ) → Sees s id v
       → v.position ≡ None → k < positions → get_or s.words (word_at k) 0 ≡ 0
       → Rule
@@ -48,7 +51,8 @@ module _ {S : Type 0} (positions : ℕ) where
         word = get_or-set_other s.words (word_at k) 0 2 0 (λ e. omega arith) ∙ r.epoch_word;
         up = omega arith;
         reaches = λ n below. inl below;
-        advanced = λ u at n has. subst (λ (z : ParticipantView). Contains z.advanced n) (one_view s.views id u v at here) has;
+        advanced = λ u at n has. subst (λ (z : ParticipantView). Contains z.advanced n)
+            (one_view s.views id u v at here) has;
         own = λ k' has. let same = same_Some k k' has in
             let inside : k' < positions = omega arith in
             (inside, ap (λ (z : ℕ). get_or (set s.words (word_at k) 2) (word_at z) 0) (sym same) ∙ now);
@@ -72,6 +76,7 @@ module _ {S : Type 0} (positions : ℕ) where
         myself = λ x m k q is has lt first. absurd (none-some q first);
       } s.homes
 
+  -- a participant without a position may try to claim one, by an exchange of 0 for the word of one that is not pinned
   pub claim_keeps : (slots id : ℕ) (me : Me S ParticipantView) (k : ℕ) → me.0.position ≡ None → k < positions
       → Allows Rule slots id me (word_at k) (λ x. either (eqb x 0) 2 x)
       (ClaimsPosition (step slots (word_at k) 0 2 maybe.none) me)
@@ -147,6 +152,7 @@ module _ {S : Type 0} (positions : ℕ) where
           (λ is. absurd (none-some (x, m) is)) scans;
     }
 
+  -- a new participant has no position yet, and so takes none from the others
   pub new_seat_enters : (slots : ℕ) (first : ParticipantView)
       → Enters Rule slots 0 (λ x w. Sits {S = S} (step slots 0 0 0 maybe.none) (first, []) x (w, []))
   new_seat_enters slots first s r _ _ = let e : ℕ = r.epoch in (
@@ -155,6 +161,7 @@ module _ {S : Type 0} (positions : ℕ) where
     (refl, (e, r.epoch_word, refl)),
   )
 
+  -- a new table is at epoch 0, and each of its positions is free
   pub new_table_keeps : (words : List ℕ) (slots : List S) → length words ≡ words_for positions
       → ((i : ℕ) → i < length words → get_or words i 0 ≡ 0) → Rule (opening words slots spent)
   new_table_keeps words slots long blank = record {

@@ -19,6 +19,7 @@ is_seat [] j u at = absurd (some-ne-none u (sym at))
 is_seat (x ∷ xs) Rattle.std.proofs.Common.zero u at = omega arith
 is_seat (x ∷ xs) (Rattle.std.proofs.Common.suc j) u at = let later = is_seat xs j u at in omega arith
 
+-- a participant has one view
 pub one_view : {V : Type 0} (views : List V) (id : ℕ) (u v : V)
     → get_elem? views id ≡ some u → get_elem? views id ≡ some v → u ≡ v
 one_view views id u v at at' = some-injective u v (sym at ∙ at')

@@ -15,6 +15,7 @@ use Rattle.epoch_tables.specs.TableSteps.{after_word, after_pass, LoadsWord}
 use Rattle.epoch_tables.proofs.SeatSteps.{step_keeps}
 use Rattle.epoch_tables.proofs.Views.{one_view}
 
+-- the word of a participant is one that a scan understands
 word_of_is_word : (published : Option ℕ) (word : ℕ) → word ≡ seat_word published → IsWord word
 word_of_is_word None word is = inr (inl is)
 word_of_is_word (Some p) word is = inr (inr (p, is))
@@ -30,9 +31,11 @@ lets_pass epoch word = dite (ℕ_discrete word 0)
     (λ apart. no (λ any. ⊎_elim not_free (λ rest. ⊎_elim not_two apart rest) any))))
 
 module _ {S : Type 0} (positions : ℕ) where
+  -- what holds of the table between any two steps
   abbrev Rule : State S ParticipantView → Type 0
   Rule = EpochsAgree positions
 
+  -- and so is each word of the table, also that of a free position
   pub is_word : (s : State S ParticipantView) → Rule s → (k : ℕ) → k < positions → IsWord (get_or s.words (word_at k) 0)
   is_word s r k below = dite (ℕ_discrete (get_or s.words (word_at k) 0) 0)
       (λ free. inl free)
@@ -71,7 +74,8 @@ module _ {S : Type 0} (positions : ℕ) where
         word = r.epoch_word;
         up = omega arith;
         reaches = λ n below. inl below;
-        advanced = λ u at n has. subst (λ (z : ParticipantView). Contains z.advanced n) (one_view s.views id u v at here) has;
+        advanced = λ u at n has. subst (λ (z : ParticipantView). Contains z.advanced n)
+            (one_view s.views id u v at here) has;
         own = λ k has. r.words_match id v k here has;
         others = λ j u k other at has. (refl, λ mine. other (r.one_seat_each j id u v k at here has mine));
         taken = λ k below held. inr (
@@ -112,6 +116,8 @@ module _ {S : Type 0} (positions : ℕ) where
         omega arith;
   }
 
+  -- a load of the word that a scan is at changes no word; past it the scan knows that its participant holds no
+  -- advance back
   pub word_load_keeps : (slots id : ℕ) (me : Me S ParticipantView) (x k : ℕ) → me.0.scan ≡ Some (x, k) → k < positions
       → Allows Rule slots id me (word_at k) (λ x. x) (LoadsWord (step slots (word_at k) 0 0 maybe.none) me)
   word_load_keeps slots id me x k is below s r _ here _ = let v : ParticipantView = me.0 in

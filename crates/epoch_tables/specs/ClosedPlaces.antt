@@ -7,8 +7,8 @@ use Rattle.epoch_bags.specs.Bags.{Sealed}
 use Rattle.epoch_tables.specs.SharedPlaces.{PlacesAgree, bag_weight, left_weight, won_weight}
 use Rattle.epoch_tables.specs.declared.shared_places.view.PlaceView.{PlaceView}
 
--- The contents of all places, the first place's first, are those of a last state, which meets the rule: what was at home
--- in it. Of a slot that a seat had in hand then, nothing is said.
+-- The contents of all places, the first place's first, are those of a last state, which meets the rule: what was at
+-- home in it. Of a slot that a seat had in hand then, nothing is said.
 pub record AreLast {J : Type 0} (places : ℕ) (contents : List (Option (Sealed J))) : Type 0 where
   pub state : State (Option (Sealed J)) (PlaceView J)
   pub agrees : PlacesAgree places state

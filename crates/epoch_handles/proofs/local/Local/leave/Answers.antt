@@ -62,7 +62,10 @@ leave_for_good-requires-2 g c =
                 ∙ ap (λ (a : Action). after_put a false) c.requires.action,
             (
               ap (λ (z : Machine (Job g.row.W.Denot)). z.action) is ∙ c.requires.action,
-              (ap (λ (z : Machine (Job g.row.W.Denot)). z.full) is, ap (λ (z : Machine (Job g.row.W.Denot)). z.held) is),
+              (
+                ap (λ (z : Machine (Job g.row.W.Denot)). z.full) is,
+                ap (λ (z : Machine (Job g.row.W.Denot)). z.held) is,
+              ),
             ),
           ),
         ),

@@ -74,7 +74,8 @@ agree_spec 𝓤 𝓛 𝓜 𝓡 wired X L =
     keep ! (2 ∷ 0 ∷ []) $ heard ! Asked (λ asked. split ! $ move ! (1 ∷ []) $ fsplit ! $ fsplit ! $
     keep ! (2 ∷ 1 ∷ 3 ∷ []) $ fsplit ! $ fsplit ! $ keep ! (1 ∷ 3 ∷ 4 ∷ []) $
     -- [the other; this one; the tokens]
-    enter ! 𝓣.C 𝓣.Λ fn (vptr b o ∷ vptr pb po ∷ []) Post $ alloc_all ! (λ l. pass_all ! refl ((tt, tt), ((tt, tt), tt)) $
+    enter ! 𝓣.C 𝓣.Λ fn (vptr b o ∷ vptr pb po ∷ []) Post $ alloc_all !
+    (λ l. pass_all ! refl ((tt, tt), ((tt, tt), tt)) $
     use1 𝓛 (‵ (hidden_shr (fields.Name R) κo (other.turn, (record {}, tt)) pb po) ⊛ ‵ (fhide (turn_shares R other.log
     other.turn f κo))) (lent_out 𝓛 (name_is.struct R) (name_is.the_codes X.Denot R.coded (marker.the_row R).coded)
     (name_is.the_heap R) (name_is.the_lent R) κo other pb po) $ split ! $ drop ! $ unhide ! $ move ! (1 ∷ []) $

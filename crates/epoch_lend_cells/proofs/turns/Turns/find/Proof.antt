@@ -55,7 +55,8 @@ find_spec 𝓤 𝓛 𝓜 𝓡 wired X L =
     let p0 = RefOf (0 ∷ []) tt (plain (λ _. Row)) (λ _. tt) in
     let p1 = plain (λ _. u64) in
     let p2 = plain (λ _. u64) in
-    let hs : Stays En.signature.params En.kept = (stay_dropped p0 yes, (stay_dropped p1 yes, (stay_dropped p2 yes, tt))) in
+    let hs : Stays En.signature.params En.kept =
+    (stay_dropped p0 yes, (stay_dropped p1 yes, (stay_dropped p2 yes, tt))) in
     proved 𝓛 En hs c 𝓜 𝓡 (
       Goes-dropped 𝓛 2 p0 yes (λ κs x f. refl),
       (Goes-dropped 𝓛 2 p1 yes (λ κs x f. refl), (Goes-dropped 𝓛 2 p2 yes (λ κs x f. refl), tt)),
@@ -103,7 +104,8 @@ find_spec 𝓤 𝓛 𝓜 𝓡 wired X L =
     lands_last ! refl (tt, record { fits = fits }) $ exec ! 𝓣.C 𝓣.Λ Ev (tail fn.body) (at_ret Ev Post) $
     sets ! (of_opd ! (get ! refl)) refl (tt, record { fits = fits }) $
     sets ! (agg ! (no_more !)) refl (tt, tt) $
-    sets ! (agg ! (and_then ! (get ! refl) (and_then ! (get ! refl) (no_more !)))) refl (fields.name_typed t are.1.0.1) $
+    sets ! (agg ! (and_then ! (get ! refl) (and_then ! (get ! refl) (no_more !)))) refl
+    (fields.name_typed t are.1.0.1) $
     sets ! (agg ! (and_then ! (get ! refl) (and_then ! (get ! refl) (no_more !)))) refl (fields.found_typed n t fits
     are.1.0.1) $
     fsplit ! $ move ! (0 ∷ 2 ∷ []) $ use2 𝓛 (later (‵ (flft κ q))) (apply∗ 𝓤 (𝓛.A.lft α s) (H.⇛ (𝓛.A.lft κ q))) $
