@@ -15,7 +15,8 @@ use Rattle.epoch_map_laws.specs.declared.plan.Work.TheVariants.{Insert, Remove, 
 use Rattle.epoch_map_laws.specs.declared.plan.Phase.TheVariants.{MakingRoom, Placing, LoadingFirst, Reading, Leaving}
 use Rattle.epoch_map_laws.specs.declared.plan.Phase.TheVariants.{LoadingNext, Unlinking, Burying, Linking, Inserting}
 use Rattle.epoch_map_laws.specs.declared.plan.Phase.TheVariants.{Marking, Dropping, Removing, TakingBack, Answering}
-use Rattle.epoch_map_laws.specs.Map.{map, calls_left, key_of, key_sought, bucket_of, again, absent, present, at, to_look}
+use Rattle.epoch_map_laws.specs.Map.{map, calls_left, key_of, key_sought, bucket_of, again, absent, present, at}
+use Rattle.epoch_map_laws.specs.Map.{to_look}
 use Rattle.epoch_map_laws.specs.Map.{looked_at, placed, first_loaded, read, next_loaded, unlinked, linked, inserted}
 use Rattle.epoch_map_laws.specs.Map.{marked_now, dropped}
 

@@ -18,7 +18,8 @@ use Rattle.epoch_map_laws.specs.declared.plan.Phase.{Phase}
 use Rattle.epoch_map_laws.specs.declared.plan.Phase.TheVariants.{MakingRoom, Placing, LoadingFirst, Reading, Leaving}
 use Rattle.epoch_map_laws.specs.declared.plan.Phase.TheVariants.{LoadingNext, Unlinking, Burying, Linking, Inserting}
 use Rattle.epoch_map_laws.specs.declared.plan.Phase.TheVariants.{Marking, Dropping, Removing, TakingBack, Answering}
-use Rattle.epoch_map_laws.specs.Map.{key_of, key_sought, bucket_of, deed_of, Starts, again, absent, present, at, leaking}
+use Rattle.epoch_map_laws.specs.Map.{key_of, key_sought, bucket_of, deed_of, Starts, again, absent, present, at}
+use Rattle.epoch_map_laws.specs.Map.{leaking}
 use Rattle.epoch_map_laws.specs.Map.{placed, first_loaded, read, looked_at, to_look, next_loaded, unlinked, linked}
 use Rattle.epoch_map_laws.specs.Map.{inserted, marked_now, dropped}
 use Rattle.epoch_map_laws.specs.MapDeeds.{MapDeed, DidNothing, TookOut, deed_answered, deed_done, deed_past, deed_to}

@@ -30,16 +30,19 @@ in_or n (x ∷ xs) = elim (same_name n x.name) [
   ]
 ]
 
+-- a node of two lists one behind the other is of the one or of the other
 pub in_app : (n : Name) (xs ys : List Item) → In n (xs ++ ys) → In n xs ⊎ In n ys
 in_app n [] ys there = inr there
 in_app n (x ∷ xs) ys (inl e) = inl (inl e)
 in_app n (x ∷ xs) ys (inr there) = elim (in_app n xs ys there) [ inl front ↦ inl (inr front) | inr back ↦ inr back ]
 
+-- a node of the first list is one of both
 pub in_front : (n : Name) (xs ys : List Item) → In n xs → In n (xs ++ ys)
 in_front n [] ys there = absurd there
 in_front n (x ∷ xs) ys (inl e) = inl e
 in_front n (x ∷ xs) ys (inr there) = inr (in_front n xs ys there)
 
+-- and so is a node of the second
 pub in_back : (n : Name) (xs ys : List Item) → In n ys → In n (xs ++ ys)
 in_back n [] ys there = there
 in_back n (x ∷ xs) ys there = inr (in_back n xs ys there)
@@ -109,6 +112,7 @@ pub record Holds (h : Heap) (n : Name) : Type 0 where
   pub worth : HoldsValue h n entry
   pub link : pointer_at h (Field n 0) ≡ Some (with_tag next tag)
 
+-- each node of a chain has its cell
 pub item_in : (h : Heap) (o : Option Name) (xs : List Item) (n : Name) → Chain h o xs → In n xs → Holds h n
 item_in h o [] n chain there = absurd there
 item_in h o (x ∷ xs) n (next, name, worth, link, rest) (inl e) =
@@ -116,6 +120,7 @@ item_in h o (x ∷ xs) n (next, name, worth, link, rest) (inl e) =
     (record { entry = x.entry; next = next; tag = x.tag; worth = worth; link = link })
 item_in h o (x ∷ xs) n (next, name, worth, link, rest) (inr there) = item_in h next xs n rest there
 
+-- the node at which a chain begins is one of it
 pub head_in : (h : Heap) (o : Option Name) (xs : List Item) (n : Name) → Chain h o xs → o ≡ Some n → In n xs
 head_in h o [] n chain e = absurd (cc (chain, e))
 head_in h o (x ∷ xs) n chain e = inl (cc (chain.1, e))
@@ -171,6 +176,7 @@ abbrev pub Splices : List Item → List Item → List Item → List Item → Typ
 Splices mid mid' xs zs =
     (before : List Item) × (after : List Item) × (xs ≡ before ++ (mid ++ after)) × (zs ≡ before ++ (mid' ++ after))
 
+-- a splice further back is a splice of the whole list
 pub splice_cons : (mid mid' xs zs : List Item) (x : Item) → Splices mid mid' xs zs
     → Splices mid mid' (x ∷ xs) (x ∷ zs)
 splice_cons mid mid' xs zs x (before, after, e, e') =
@@ -188,6 +194,7 @@ spliced_in mid mid' xs zs n (before, after, e, e') there =
       ]
     ]
 
+-- a node that was in the list is in the new one, or was spliced out
 pub spliced_back : (mid mid' xs zs : List Item) (n : Name) → Splices mid mid' xs zs → In n xs → In n zs ⊎ In n mid
 spliced_back mid mid' xs zs n (before, after, e, e') there =
     spliced_in mid' mid zs xs n (before, after, e', e) there

@@ -24,7 +24,8 @@ use Rattle.epoch_map_laws.specs.MapEntries.{Item, HoldsValue}
 use Rattle.epoch_map_laws.proofs.MapChains.{In, value_written, one_value, spliced_in, spliced_back, new_in}
 use Rattle.epoch_map_laws.proofs.MapLinks.{item, Adds, Drops, Marks, with_mark}
 use Rattle.epoch_map_laws.proofs.MapForm.{Buckets, InAny, Form, in_reach, reached_in, put, put_here, put_other, put_in}
-use Rattle.epoch_map_laws.proofs.MapForm.{put_form, single_kept, align_kept, LinkOf, Rebucketed, others_kept, link_single}
+use Rattle.epoch_map_laws.proofs.MapForm.{put_form, single_kept, align_kept, LinkOf, Rebucketed, others_kept}
+use Rattle.epoch_map_laws.proofs.MapForm.{link_single}
 use Rattle.epoch_map_laws.proofs.MapForm.{link_in, drop_from, add_to, mark_in}
 use Rattle.epoch_map_laws.proofs.MapKept.{Shape, Below, Above, Marked, Off, Stands, Owns, Turn}
 use Rattle.epoch_map_laws.proofs.MapKept.{below_kept, aim_kept, refused}
@@ -61,6 +62,7 @@ module _ (past : Past) (h : Heap) (xs : Buckets) (settled : Settled past h) (sha
       let known : Below past h xs b key (Field y 0) = subst (Below past h xs b key) is s in
       shape.live y o known.0.0 (subst (λ (k : Spot). pointer_at h k ≡ Some (plain o)) is there)
 
+  -- a link that a call has come to is the root of its bucket, or stands in a node that was in reach
   pub link_reached : (b key : ℕ) (link : Spot) → Below past h xs b key link → (y : Name) → link ≡ Field y 0
       → past.reached y
   link_reached b key link s y is =
@@ -229,10 +231,12 @@ module _ (past : Past) (h : Heap) (xs : Buckets) (settled : Settled past h) (sha
           given c (settled.reached_given c r),
         ))
 
+  -- a marked node is unlinked, or the exchange is lost
   pub unlink : (g : ℕ) (aim : Aim) (link : Spot) (c : Name) (next : Option Name) (k j : ℕ) (found : Ptr)
       (did : Touched) (o : Option Ptr) → pointer_at h link ≡ o
       → ChangesAt (CompareExchange (plain (Some c)) (plain next)) j found link h o did
-      → Stands past h xs (Unlinking aim link c next k) → Does past h xs settled shape g (Unlinking aim link c next k) did
+      → Stands past h xs (Unlinking aim link c next k) → Does past h xs settled shape g (Unlinking aim link c next k)
+      did
   unlink g aim link c next k j found did None e is s =
       subst (Does past h xs settled shape g (Unlinking aim link c next k)) (sym is)
       (λ given. weak_here past h xs settled shape _ _ (refused g (Unlinking aim link c next k) CellsFull) s)
@@ -261,6 +265,7 @@ module _ (past : Past) (h : Heap) (xs : Buckets) (settled : Settled past h) (sha
             passed.more c s.1,
           )) given
 
+  -- a removal unlinks the node that it has marked itself, or the exchange is lost
   pub drop_own : (g b key : ℕ) (link : Spot) (c : Name) (v : ℕ) (next : Option Name) (j : ℕ) (found : Ptr)
       (did : Touched) (o : Option Ptr) → pointer_at h link ≡ o
       → ChangesAt (CompareExchange (plain (Some c)) (plain next)) j found link h o did
@@ -343,6 +348,7 @@ module _ (past : Past) (h : Heap) (xs : Buckets) (settled : Settled past h) (sha
         (Inserting b e own link next k) (Answering Inserted) s (λ n is. let same : own ≡ n = cc (is) in sym same)
         (λ n o. absurd o) (λ past' passed. tt)
 
+  -- a new node is linked before the one with the next key, or the exchange is lost
   pub insert : (g b e : ℕ) (own : Name) (link : Spot) (next : Option Name) (k j : ℕ) (found : Ptr) (did : Touched)
       (o : Option Ptr) → pointer_at h link ≡ o
       → ChangesAt (CompareExchange (plain next) (plain (Some own))) j found link h o did
@@ -364,7 +370,8 @@ module _ (past : Past) (h : Heap) (xs : Buckets) (settled : Settled past h) (sha
   -- A NODE IS MARKED
 
   module _ (b key : ℕ) (link : Spot) (c : Name) (v : ℕ) (next : Option Name) (k : ℕ)
-      (s : Stands past h xs (Marking b key link c v next k)) (there : pointer_at h (Field c 0) ≡ Some (plain next)) where
+      (s : Stands past h xs (Marking b key link c v next k))
+      (there : pointer_at h (Field c 0) ≡ Some (plain next)) where
     is_in : In c (xs b)
     is_in = unmarked_in past h xs settled shape b c next s.1 there
 
@@ -417,6 +424,7 @@ module _ (past : Past) (h : Heap) (xs : Buckets) (settled : Settled past h) (sha
               ),
         ))
 
+  -- the node of an entry is marked, which takes the entry out of the map, or the exchange is lost
   pub mark : (g b key : ℕ) (link : Spot) (c : Name) (v : ℕ) (next : Option Name) (k j : ℕ) (found : Ptr)
       (did : Touched) (o : Option Ptr) → pointer_at h (Field c 0) ≡ o
       → ChangesAt (CompareExchange (plain next) (marked next)) j found (Field c 0) h o did

@@ -38,6 +38,7 @@ rooted_first : (h : Heap) (i : ℕ) (head : Option Name) (x : Name) → Rooted h
 rooted_first h i head x (inl there) e = from_root i x (plain head, there, e)
 rooted_first h i head x (inr none) e = absurd (cc (none.1, e))
 
+-- each node of a bucket is in reach
 pub in_reach : (h : Heap) (xs : Buckets) → Form h xs → (n : Name) → InAny n xs → IsReachable h n
 in_reach h xs form n (i, there) =
     let bucket = form.held i in
@@ -90,6 +91,7 @@ put_here xs i zs = by_test (same_number i i)
     by_test (inl e) = refl
     by_test (inr ne) = absurd (ne refl)
 
+-- a bucket that is put in leaves the others
 pub put_other : (xs : Buckets) (i : ℕ) (zs : List Item) (j : ℕ) → j ≢ i → put xs i zs j ≡ xs j
 put_other xs i zs j off = by_test (same_number j i)
   where
@@ -115,6 +117,7 @@ module _ (h h' : Heap) (xs : Buckets) (form : Form h xs) (i : ℕ) (zs : List It
     (comes : (n : Name) → In n zs → In n (xs i) ⊎ New n) (new : (n : Name) → New n → ¬ (InAny n xs))
     (others : (j : ℕ) → j ≢ i → BucketHolds h' j (xs j))
     (single : (y : Name) (f : ℕ) (x : Name) → ¬ (Leads h' (Field y (suc f)) x)) (align : h'.align ≡ h.align) where
+  -- the map with the new bucket stands as it must
   pub put_form : Form h' (put xs i zs)
   put_form = record {
     held = by_bucket (BucketHolds h') xs i zs held others;
@@ -142,12 +145,15 @@ pub single_kept : (h : Heap) (spot : Spot) (ptr : Ptr) → ((y : Name) (f : ℕ)
 single_kept h spot ptr apart single y f x leads =
     single y f x (leads.0, sym (pointer_other h spot ptr (Field y (suc f)) (apart y f)) ∙ leads.1, leads.2)
 
+-- a root is no field of a node
 pub root_apart : (i : ℕ) (y : Name) (f : ℕ) → Field y (suc f) ≢ Root i
 root_apart i y f e = cc (e)
 
+-- only the first field of a node links it
 pub field_apart : (n y : Name) (f : ℕ) → Field y (suc f) ≢ Field n 0
 field_apart n y f e = cc (e)
 
+-- a store changes no alignment
 pub align_kept : (h : Heap) (spot : Spot) (ptr : Ptr) → (with_pointer h spot ptr).align ≡ h.align
 align_kept h (Root i) ptr = refl
 align_kept h (Field n f) ptr = by_cell (cell_at h n)
@@ -238,6 +244,7 @@ others_kept h xs form b (Field y zero) ptr of live j ne =
     others_by_field h xs form b y ptr (of (live y refl)) j ne
 others_kept h xs form b (Field y (suc f)) ptr of live j ne = absurd of
 
+-- a link is a root, or the first field of a node
 pub link_single : (xs : Buckets) (b : ℕ) (link : Spot) → LinkOf xs b link → (y : Name) (f : ℕ)
     → Field y (suc f) ≢ link
 link_single xs b (Root i) of y f = root_apart i y f

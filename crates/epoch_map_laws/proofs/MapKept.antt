@@ -163,6 +163,7 @@ owned past h xs (TakingBack own answer) x s o = off_safe past h xs own x o s
 owned past h xs _ x s o = absurd o
 
 module _ (past : Past) (h : Heap) (xs : Buckets) (shape : Shape past h xs) where
+  -- a node that a call has not linked yet is in no bucket
   pub mine_off : (n : Name) (e : ℕ) → Mine past h n e → Off past h xs n
   mine_off n e m = (λ there. m.0 (shape.known n there).0, m.1, m.2)
 
@@ -189,6 +190,7 @@ module _ (past : Past) (h : Heap) (xs : Buckets) (shape : Shape past h xs) where
   unshared x there (TakingBack own answer) s o = off_not own x there o s
   unshared x there _ s o = o
 
+-- a node that a phase owns has not left, and neither has a node of a bucket, which no phase owns
 pub sane : Sane map structure
 sane = record {
   owned = owned;
@@ -228,12 +230,14 @@ module _ (past past' : Past) (h h' : Heap) (xs xs' : Buckets) (hit gone : Option
     turn.worth n e m.1 m.3,
   )
 
+  -- the steps of others leave the own node of an insert
   pub aim_kept : (aim : Aim) → ((n : Name) → OwnsFor aim n → (hit ≢ Some n) × (gone ≢ Some n)) → MineFor past h aim
       → MineFor past' h' aim
   aim_kept (ToInsert b e own) off m = mine_kept own e (off own refl).0 (off own refl).1 m
   aim_kept (ToRemove b key) off m = tt
   aim_kept (ToGet b key) off m = tt
 
+  -- and leave a node out that is in no bucket
   pub off_kept : (n : Name) → hit ≢ Some n → gone ≢ Some n → Off past h xs n → Off past' h' xs' n
   off_kept n off stays o = (
     λ is. elim (turn.inside is.0 n is.1) [ inl was ↦ o.0 (is.0, was) | inr e ↦ off e ],
@@ -241,6 +245,7 @@ module _ (past past' : Past) (h h' : Heap) (xs xs' : Buckets) (hit gone : Option
     turn.given n o.2,
   )
 
+  -- a node that was once in reach, and is in no bucket but this one, stays so
   pub node_kept : (b : ℕ) (n : Name) → Node past xs b n → Node past' xs' b n
   node_kept b n s = (
     passed.more n s.0,
@@ -252,15 +257,18 @@ module _ (past past' : Past) (h h' : Heap) (xs xs' : Buckets) (hit gone : Option
   worth_kept n v w off =
       let before : ¬ (past.left n) = λ l. off (passed.left_more n l) in turn.worth n v before (w before)
 
+  -- a link below the key that is sought stays one below it
   pub below_kept : (b key : ℕ) (link : Spot) → Below past h xs b key link → Below past' h' xs' b key link
   below_kept b key (Root i) s = s
   below_kept b key (Field y zero) s = (node_kept b y s.0, (s.1.0, worth_kept y s.1.0 s.1.1, s.1.2))
   below_kept b key (Field y (suc f)) s = absurd s
 
+  -- and what was above the key stays above it
   pub above_kept : (key : ℕ) (next : Option Name) → Above past h key next → Above past' h' key next
   above_kept key None s = tt
   above_kept key (Some m) s = (s.0, worth_kept m s.0 s.1, s.2)
 
+  -- a node that is marked stays marked, with the same next node
   pub marked_kept : (c : Name) (next : Option Name) → past.reached c → Marked h c next → Marked h' c next
   marked_kept c next r m ptr e = elim (turn.back c ptr r e) [
     | inl was ↦ m ptr was
@@ -345,6 +353,7 @@ module _ (past : Past) (h h' : Heap) (xs : Buckets) (settled : Settled past h) (
       → pointer_at h (Field n 0) ≡ Some ptr
   was n ptr r e = calm.back n 0 ptr (settled.reached_given n r) e
 
+  -- a calm step leaves each bucket as it was
   pub calm_turn : Turn past h h' xs xs None
   calm_turn = record {
     own = λ n ptr r l off e. calm_pointer past.left h h' calm n 0 ptr l e;
@@ -356,6 +365,7 @@ module _ (past : Past) (h h' : Heap) (xs : Buckets) (settled : Settled past h) (
     worth = calm_worth;
   }
 
+  -- and a node in reach that is not marked is in some bucket
   pub calm_live : (n : Name) (next : Option Name) → past.reached n → pointer_at h' (Field n 0) ≡ Some (plain next)
       → InAny n xs
   calm_live n next r e = shape.live n next r (was n (plain next) r e)
@@ -390,6 +400,7 @@ once_more a (ToRemove b key) zero mine owns = weaker_none a _ (λ past h xs. tt)
 once_more a (ToGet b key) zero mine owns = weaker_none a _ (λ past h xs. tt) (λ n o. o)
 once_more a aim (suc k) mine owns = record { stands = λ past h xs shape s. mine past h xs s; owns = owns }
 
+-- what a phase knows when its call is refused is no more than before
 pub refused : (g : ℕ) (phase : Phase) (f : Fault)
     → Weaker map structure phase (after_by phase (deed_of g phase) (Refused f))
 refused g (MakingRoom work) f = weaker_none _ _ (λ past h xs. tt) (λ n o. o)
@@ -418,12 +429,14 @@ begins a (Insert b e k) = weaker_none a (Placing b e k) (λ past h xs. tt) (λ n
 begins a (Remove b key k) = once_more a (ToRemove b key) k (λ past h xs s. tt) (λ n o. absurd o)
 begins a (Get b key k) = once_more a (ToGet b key) k (λ past h xs s. tt) (λ n o. absurd o)
 
+-- and so it is behind a flush
 pub flushed : (g : ℕ) (phase : Phase) (r : Reply) → IsFlush (deed_of g phase)
     → Weaker map structure phase (after_by phase (deed_of g phase) r)
 flushed g (MakingRoom work) (Done a) is = begins _ work
 flushed g (MakingRoom work) _ is = weaker_none _ _ (λ past h xs. tt) (λ n o. o)
 flushed g _ r is = absurd is
 
+-- a first phase owns no node, and stands whatever the map is
 pub starts : (phase : Phase) → Starts phase → ((n : Name) → ¬ (Owns phase n))
     × ((past : Past) (h : Heap) (xs : Buckets) → Shape past h xs → Stands past h xs phase)
 starts (MakingRoom work) is = (λ n o. o, λ past h xs shape. tt)
@@ -433,10 +446,12 @@ starts (LoadingFirst (ToGet b key) k) is = (λ n o. o, λ past h xs shape. tt)
 starts (Answering a) is = (λ n o. o, λ past h xs shape. tt)
 starts _ is = absurd is
 
+-- a phase that answers owns no node
 pub answers : (g : ℕ) (phase : Phase) → IsOver (deed_of g phase) → (n : Name) → ¬ (Owns phase n)
 answers g (Answering a) is n o = o
 answers g _ is n o = absurd is
 
+-- each call of a phase is one that programs of phases may make
 pub fits : (g : ℕ) (phase : Phase) → IsFit (deed_of g phase)
 fits g (MakingRoom work) = tt
 fits g (Burying aim c k) = tt
@@ -487,6 +502,7 @@ hands_over phase n a own off = record {
   known = λ past h xs shape s. (not_in_reach past h xs shape n (off past h xs s), tt, λ x o. absurd o);
 }
 
+-- a phase that defers a removal owns the node, and hands it over
 pub defers : (g : ℕ) (phase next failed : Phase) (n : Name) → deed_of g phase ≡ Defers n next failed
     → HandsOver map structure phase next n
 defers g (Burying aim c k) next failed n is =

@@ -28,6 +28,7 @@ other_field h y ptr m ne = pointer_other h (Field y 0) ptr (Field m 0) (λ e. ne
 pub same_names : (a b : Option Name) (s t : ℕ) → Some (with_tag a s) ≡ Some (with_tag b t) → a ≡ b
 same_names a b s t e = let same : with_tag a s ≡ with_tag b t = cc (e) in ap (λ (q : Ptr). q.name) same
 
+-- two equal pointers have equal tags
 pub same_tags : (a b : Option Name) (s t : ℕ) → Some (with_tag a s) ≡ Some (with_tag b t) → s ≡ t
 same_tags a b s t e = let same : with_tag a s ≡ with_tag b t = cc (e) in ap (λ (q : Ptr). q.tag) same
 
@@ -46,6 +47,7 @@ module _ (h h' : Heap) (y : Name) (R : List Item → List Item → Type 0)
     → Ascends (suc (key_of x.entry)) xs → Relinked h' R low (Some x.name) (x ∷ xs))
     (cons : (x : Item) (next : Option Name) (xs zs : List Item) → HoldsValue h x.name x.entry → Chain h next xs
     → Ascends (suc (key_of x.entry)) xs → R xs zs → R (x ∷ xs) (x ∷ zs)) where
+  -- what is done at a node of an ascending chain is done once in it
   pub relinked : (low : ℕ) (o : Option Name) (xs : List Item) → Chain h o xs → Ascends low xs → In y xs
       → Relinked h' R low o xs
   relinked low o [] chain asc there = absurd there
@@ -288,6 +290,7 @@ Marks h c xs zs =
     (z : Item) × (z.name ≡ c) × (z.tag ≡ 0) × HoldsValue h c z.entry
     × Splices (z ∷ []) (with_mark z ∷ []) xs zs
 
+-- a node of a chain that is marked stays where it is, and the others stay as they are
 pub marked_there : (h : Heap) (c : Name) (next : Option Name) → pointer_at h (Field c 0) ≡ Some (plain next)
     → (low : ℕ) (o : Option Name) (xs : List Item) → Chain h o xs → Ascends low xs → In c xs
     → Relinked (with_pointer h (Field c 0) (marked next)) (Marks h c) low o xs
@@ -295,7 +298,8 @@ marked_there h c next there low o xs chain asc is_in =
     relinked h h' c (Marks h c) (λ m ne. other_field h c (marked next) m ne)
     (λ m v w. value_written h c (marked next) m v w) from
     (λ x o xs zs w chain asc marks.
-    (marks.0, marks.1, marks.2, marks.3, splice_cons (marks.0 ∷ []) (with_mark marks.0 ∷ []) xs zs x marks.4)) low o xs chain asc is_in
+    (marks.0, marks.1, marks.2, marks.3, splice_cons (marks.0 ∷ []) (with_mark marks.0 ∷ []) xs zs x marks.4)) low o xs
+    chain asc is_in
   where
     h' : Heap
     h' = with_pointer h (Field c 0) (marked next)

@@ -37,6 +37,7 @@ one_head h i a b (inl there) (inr none) = absurd (cc (there, none.0))
 one_head h i a b (inr none) (inl at) = absurd (cc (at, none.0))
 one_head h i a b (inr none) (inr nil) = none.1 ∙ sym nil.1
 
+-- a heap shows one list of nodes for each bucket
 pub one_bucket : (h : Heap) (i : ℕ) (xs ys : List Item) → BucketHolds h i xs → BucketHolds h i ys → xs ≡ ys
 one_bucket h i xs ys (head, rooted, chain) (other, root, nodes) =
     let same : head ≡ other = one_head h i head other rooted root in
@@ -53,6 +54,7 @@ unless_app : (v tag : ℕ) (us ws : List ℕ) → unless_marked v tag (us ++ ws)
 unless_app v zero us ws = refl
 unless_app v (suc tag) us ws = refl
 
+-- the entries of two lists of nodes are those of the one and then of the other
 pub entries_app : (xs ys : List Item) → entries (xs ++ ys) ≡ entries xs ++ entries ys
 entries_app [] ys = refl
 entries_app (x ∷ xs) ys =
@@ -63,6 +65,7 @@ entries_app (x ∷ xs) ys =
 pub entry_first : (x : Item) (xs : List Item) → x.tag ≡ 0 → entries (x ∷ xs) ≡ x.entry ∷ entries xs
 entry_first x xs none = ap (λ (t : ℕ). unless_marked x.entry t (entries xs)) none
 
+-- a marked node has no entry
 pub entry_gone : (x : Item) (xs : List Item) → x.tag ≢ 0 → entries (x ∷ xs) ≡ entries xs
 entry_gone x xs some = by_tag x.tag some
   where
@@ -135,6 +138,7 @@ has_unless : (v w tag : ℕ) (vs : List ℕ) → Has v vs → Has v (unless_mark
 has_unless v w zero vs has = inr has
 has_unless v w (suc tag) vs has = has
 
+-- a node that is not marked has its entry in the map
 pub has_entry : (h : Heap) (o : Option Name) (xs : List Item) (c : Name) (v : ℕ) (next : Option Name) → Chain h o xs
     → In c xs → HoldsValue h c v → pointer_at h (Field c 0) ≡ Some (plain next) → Has v (entries xs)
 has_entry h o [] c v after chain there worth to = absurd there

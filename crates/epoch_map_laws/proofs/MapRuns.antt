@@ -21,7 +21,8 @@ use Rattle.epoch_plans.proofs.Runs.{runs_leave}
 use Rattle.epoch_plans.proofs.RunsSound.{runs_sound}
 use Rattle.epoch_map_laws.specs.declared.plan.Phase.{Phase}
 use Rattle.epoch_map_laws.specs.Map.{map, Starts, MapLog, MapRuns, IsNewMap}
-use Rattle.epoch_map_laws.specs.MapEntries.{Item, Rooted, BucketHolds, Ascends, MapHolds, Has, Lacks, StepOnEntries, FindsNone}
+use Rattle.epoch_map_laws.specs.MapEntries.{Item, Rooted, BucketHolds, Ascends, MapHolds, Has, Lacks, StepOnEntries}
+use Rattle.epoch_map_laws.specs.MapEntries.{FindsNone}
 use Rattle.epoch_map_laws.specs.MapEntries.{FindsEntry}
 use Rattle.epoch_map_laws.proofs.MapKept.{structure}
 use Rattle.epoch_map_laws.proofs.MapTouches.{map_obeys}
@@ -87,12 +88,14 @@ new_sound world plans new = record {
   reached_given = λ n r. absurd r;
 }
 
+-- cells leave a map as they must
 pub every_map_run_leaves_cells_once : (world world' : State) (plans plans' : AllPlans Phase) (log : MapLog)
     → IsNewMap world plans → (run : MapRuns world plans log world' plans')
     → LeavesOnce world (world_log log) world' (run_of_world map Starts world plans log world' plans' run)
 every_map_run_leaves_cells_once world world' plans plans' log new run =
     runs_leave map structure Starts map_obeys no_past world plans log world' plans' (new_sound world plans new) run
 
+-- so no cell that a guard has loaded is destroyed while the guard is held
 pub every_map_run_keeps_reach : (world world' : State) (plans plans' : AllPlans Phase) (log : MapLog)
     → IsNewMap world plans → (run : MapRuns world plans log world' plans')
     → KeepsLoaded (past_of world (world_log log) world' (run_of_world map Starts world plans log world' plans' run))
@@ -101,6 +104,7 @@ every_map_run_keeps_reach world world' plans plans' log new run =
     (run_of_world map Starts world plans log world' plans' run)
     (every_map_run_leaves_cells_once world world' plans plans' log new run)
 
+-- a new map is empty, and at the end of each run its buckets are lists of ascending keys
 pub every_map_run_holds_sorted_lists : (world world' : State) (plans plans' : AllPlans Phase) (log : MapLog)
     → IsNewMap world plans → MapRuns world plans log world' plans' → (i : ℕ)
     → MapHolds world.heap i [] × ((xs : List Item) × BucketHolds world'.heap i xs × Ascends 0 xs)
@@ -111,6 +115,8 @@ every_map_run_holds_sorted_lists world world' plans plans' log new run i =
       (last.1.ghost i, last.1.shape.form.held i, last.1.shape.form.sorted i),
     )
 
+-- each step changes its bucket as its phase says, and a call that finds an entry, or none, finds what the bucket
+-- holds
 pub every_map_run_is_a_map : (world world' new : State) (plans plans' : AllPlans Phase) (log : MapLog)
     (x : Entry) → IsNewMap world plans → MapRuns world plans log world' plans'
     → TakesStep world' x.step x.reply new → (i : ℕ) (vs : List ℕ) → MapHolds world'.heap i vs

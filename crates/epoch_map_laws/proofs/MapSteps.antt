@@ -32,7 +32,8 @@ use Rattle.epoch_map_laws.proofs.MapChains.{In, readable_held, value_written, fo
 use Rattle.epoch_map_laws.proofs.MapLinks.{other_field}
 use Rattle.epoch_map_laws.proofs.MapForm.{Buckets, InAny, Form, in_reach, reached_in, root_in, bucket_kept, single_kept}
 use Rattle.epoch_map_laws.proofs.MapForm.{field_apart, align_kept}
-use Rattle.epoch_map_laws.proofs.MapKept.{Shape, Mine, MineFor, Node, Worth, Above, At, Stands, OwnsFor, Owns, structure}
+use Rattle.epoch_map_laws.proofs.MapKept.{Shape, Mine, MineFor, Node, Worth, Above, At, Stands, OwnsFor, Owns}
+use Rattle.epoch_map_laws.proofs.MapKept.{structure}
 use Rattle.epoch_map_laws.proofs.MapKept.{sane, mine_off, Turn, stands_kept, below_kept, above_kept, shape_after}
 use Rattle.epoch_map_laws.proofs.MapKept.{calm_form, calm_turn, calm_live, refused}
 
@@ -80,12 +81,14 @@ again_owns (ToRemove b key) zero n o = o
 again_owns (ToGet b key) zero n o = o
 again_owns aim (suc k) n o = o
 
+-- a call that finds no node of its key owns no more than before
 pub absent_owns : (aim : Aim) (link : Spot) (o : Option Name) (k : ℕ) (n : Name) → Owns (absent aim link o k) n
     → OwnsFor aim n
 absent_owns (ToInsert b e own) link o k n owns = owns
 absent_owns (ToRemove b key) link o k n owns = absurd owns
 absent_owns (ToGet b key) link o k n owns = absurd owns
 
+-- and neither does one that goes on along its bucket
 pub at_owns : (aim : Aim) (link : Spot) (o : Option Name) (k : ℕ) (n : Name) → Owns (at aim link o k) n → OwnsFor aim n
 at_owns aim link None k n owns = absent_owns aim link None k n owns
 at_owns aim link (Some c) zero n owns = again_owns aim 0 n owns
@@ -123,6 +126,7 @@ module _ (past : Past) (h : Heap) (xs : Buckets) (settled : Settled past h) (sha
   weak h' calm phase next w stands =
       calm_acts h' calm phase next stands (w.stands past h xs shape stands) (λ n o. inl (w.owns n o))
 
+  -- a step that changes nothing may leave a phase that knows less
   pub weak_here : (phase next : Phase) → Weaker map structure phase next → Stands past h xs phase → Goes h phase next
   weak_here phase next w stands = weak h (calm_same past.left h h refl) phase next w stands
 
@@ -157,6 +161,7 @@ module _ (past : Past) (h : Heap) (xs : Buckets) (settled : Settled past h) (sha
 
   -- LOADS
 
+  -- the load of a root learns the first node of the bucket
   pub load_first : (g : ℕ) (aim : Aim) (k j : ℕ) (found : Ptr) (did : Touched) (o : Option Ptr)
       → pointer_at h (Root (bucket_of aim)) ≡ o → ChangesAt Load j found (Root (bucket_of aim)) h o did
       → MineFor past h aim → Does g (LoadingFirst aim k) did
@@ -169,6 +174,7 @@ module _ (past : Past) (h : Heap) (xs : Buckets) (settled : Settled past h) (sha
       (λ c name. node_in (bucket_of aim) c (root_in h xs shape.form (bucket_of aim) ptr c e name)))
       (λ n o. at_owns aim (Root (bucket_of aim)) ptr.name k n o))
 
+  -- the load of a link learns the next node, and whether its own is marked
   pub load_next : (g : ℕ) (aim : Aim) (link : Spot) (c : Name) (v k j : ℕ) (found : Ptr) (did : Touched)
       (o : Option Ptr) → pointer_at h (Field c 0) ≡ o → ChangesAt Load j found (Field c 0) h o did
       → Stands past h xs (LoadingNext aim link c v k) → Does g (LoadingNext aim link c v k) did
@@ -228,6 +234,7 @@ module _ (past : Past) (h : Heap) (xs : Buckets) (settled : Settled past h) (sha
 
   -- A READING
 
+  -- the read of a node learns its entry
   pub read_entry : (g : ℕ) (aim : Aim) (link : Spot) (c : Name) (k : ℕ) (did : Touched) (o : Option Cell)
       (p : Option Content) → cell_at h c ≡ o → readable o ≡ p → did ≡ read_by h c o p
       → Stands past h xs (Reading aim link c k) → (StaysGiven h did.heap → Calm past.left h did.heap)
@@ -246,6 +253,7 @@ module _ (past : Past) (h : Heap) (xs : Buckets) (settled : Settled past h) (sha
       (Leaving aim link c content.value k) s
       (s.0, s.1, λ l. (cell, content, at_c, readable_held cell content held, refl)) (λ n o. inl o))
 
+  -- the end of that read keeps what was learnt
   pub leave_entry : (g : ℕ) (aim : Aim) (link : Spot) (c : Name) (v k : ℕ) (did : Touched) (o : Option Cell)
       → did ≡ left_by h c o → Stands past h xs (Leaving aim link c v k)
       → (StaysGiven h did.heap → Calm past.left h did.heap) → Does g (Leaving aim link c v k) did
@@ -351,7 +359,8 @@ module _ (past : Past) (h : Heap) (xs : Buckets) (settled : Settled past h) (sha
     pub pointed_form : Form pointed xs
     pointed_form = record {
       held = λ i. bucket_kept h pointed i (xs i)
-          (pointer_other h (Field own 0) (plain next) (Root i) (λ e. cc (e))) (λ n ptr is e. field_kept n (shape.known n (i, is)).0 ∙ e)
+          (pointer_other h (Field own 0) (plain next) (Root i) (λ e. cc (e)))
+          (λ n ptr is e. field_kept n (shape.known n (i, is)).0 ∙ e)
           (λ n v is w. value_written h own (plain next) n v w) (shape.form.held i);
       sorted = shape.form.sorted;
       apart = shape.form.apart;

@@ -362,6 +362,7 @@ module _ (past : Past) (old new : State) (plans : AllPlans Phase) (x : Entry)
           (subst (λ (h : Heap). MapHolds h i (before ++ after)) (sym t.heap) less)
       by_won _ is won = absurd won
 
+  -- what the step makes of the entries of a bucket
   pub step_on_entries : StepOnEntries old plans x new i vs
   step_on_entries = elim (heap_turns map structure past old new plans x sound did) [
     | inl calm ↦ keeps (kept new.heap (
@@ -408,6 +409,7 @@ module _ (past : Past) (old new : State) (plans : AllPlans Phase) (x : Entry)
             let ended = ends (Pointer p) (ap (λ (d : Touched). d.told) e) in
             let one : p ≡ ptr = cc (ended) in to ∙ ap Some one
 
+  -- a call that finds no node of its key finds no entry of it in the map
   pub finds_none : (key : ℕ) → FindsNone old plans x new i key → Lacks key vs
   finds_none key f = subst (Lacks key) (sym whole) (by_phase f.phase f.under f.looks)
     where
@@ -426,6 +428,7 @@ module _ (past : Past) (old new : State) (plans : AllPlans Phase) (x : Entry)
           (touches f.participant f.guard (LoadingNext aim link c v k) f.ptr under f.brings)) none f.past
       by_phase _ under looks = absurd looks
 
+  -- and one that finds an entry finds one of the map
   pub finds_entry : (v : ℕ) → FindsEntry old plans x new i v → Has v vs
   finds_entry v f =
       let s = stands f.participant f.guard (LoadingNext f.aim f.link f.node v f.moves) f.ptr f.under f.brings in

@@ -1,7 +1,8 @@
 -- The program of a map after Harris and Michael: each bucket's root leads to the first of its nodes, whose keys ascend,
 -- and a node's field with a mark, which is tag 1, says that its entry was removed. Whoever wins the exchange that
 -- unlinks the node, and nobody else, defers its removal.
-use Rattle.std.specs.Prelude.{ℕ, zero, suc, ◌+◌, ◌*◌, ◌/◌, ◌≤◌, Bool, true, false, Option, Some, None, ◌≡◌, List, nat_lt}
+use Rattle.std.specs.Prelude.{ℕ, zero, suc, ◌+◌, ◌*◌, ◌/◌, ◌≤◌, Bool, true, false, Option, Some, None, ◌≡◌, List}
+use Rattle.std.specs.Prelude.{nat_lt}
 use Rattle.std.specs.Prelude.{if◌then◌else◌}
 use Rattle.epoch_cells.specs.declared.cells.name.Name.{Name}
 use Rattle.epoch_heap.specs.declared.access.Ptr.{Ptr}
@@ -184,7 +185,8 @@ deed_of g (Unlinking aim link c next k) =
     Touches (exchange g link (plain (Some c)) (plain next)) (unlinked aim c k) (again aim k)
 deed_of g (Burying aim c k) = Defers c (again aim k) (Answering MovesOutLeaking)
 deed_of g (Linking b e own link next k) =
-    Touches (Point (Some g) (Field own 0) (Store (plain next))) (linked b e own link next k) (again (ToInsert b e own) k)
+    Touches (Point (Some g) (Field own 0) (Store (plain next))) (linked b e own link next k)
+    (again (ToInsert b e own) k)
 deed_of g (Inserting b e own link next k) =
     Touches (exchange g link (plain next) (plain (Some own))) (inserted b e own k) (again (ToInsert b e own) k)
 deed_of g (Marking b key link c v next k) =

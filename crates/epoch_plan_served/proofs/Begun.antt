@@ -16,7 +16,8 @@ use Rattle.epoch_laws.specs.declared.step.Progress.{Progress}
 use Rattle.epoch_laws.specs.declared.step.Progress.TheVariants.{Idle}
 use Rattle.epoch_laws.specs.declared.step.Word.{Word}
 use Rattle.epoch_laws.specs.declared.step.Word.TheVariants.{Free}
-use Rattle.epoch_laws.specs.Run.{WorldSeat, is_free, is_idle, is_out, waits, under_guard, reading_refusal, access_refusal}
+use Rattle.epoch_laws.specs.Run.{WorldSeat, is_free, is_idle, is_out, waits, under_guard, reading_refusal}
+use Rattle.epoch_laws.specs.Run.{access_refusal}
 use Rattle.epoch_laws.specs.Run.{call_refusal, refusal}
 use Rattle.epoch_reach_laws.proofs.PointersGiven.{WasGiven}
 use Rattle.epoch_reach_laws.proofs.TurnsGiven.{GivenAt}
@@ -72,7 +73,8 @@ module _ (g tickets : ℕ) (seat : WorldSeat) (heap : Heap) (idle : seat.progres
   guarded : (fault : Option Fault) → (if is_out g seat.guards then fault else Some StrangerGuard) ≡ fault
   guarded fault = ap (λ (b : Bool). if b then fault else Some StrangerGuard) ready.out
 
-  under : (o : Option ℕ) (fault : Option Fault) → ((k : ℕ) → o ≡ Some k → k ≡ g) → under_guard o seat.guards fault ≡ fault
+  under : (o : Option ℕ) (fault : Option Fault) → ((k : ℕ) → o ≡ Some k → k ≡ g) → under_guard o seat.guards fault
+      ≡ fault
   under None fault same = refl
   under (Some k) fault same =
       subst (λ (j : ℕ). (if is_out j seat.guards then fault else Some StrangerGuard) ≡ fault) (sym (same k refl))

@@ -1,4 +1,5 @@
--- Which participant a step is of: nobody else lets go what it has loaded, and a participant without a plan reads nothing.
+-- Which participant a step is of: nobody else lets go what it has loaded, and a participant without a plan reads
+-- nothing.
 use Rattle.std.proofs.Common.{◌≡◌, ℕ, [], Option, Some, None, ◌⊎◌, inl, inr, refl, ap, sym}
 use Rattle.std.proofs.Common.{subst, ◌∙◌}
 use Rattle.epoch_machine.specs.declared.machine.Ask.{Ask}
@@ -55,7 +56,8 @@ module _ (old new : State) (p : ℕ) (s : Stage) (reply : Reply) (q : ℕ) (told
   drives c None did = absurd (end_not_repinned c (seat_of old p) q (sym did.0 ∙ told))
 
 -- a repin is told by a Go of its participant
-repins : (old : State) (linked : AllLinked old) (step : Step) (reply : Reply) (new : State) → StepKind old step reply new
+repins : (old : State) (linked : AllLinked old) (step : Step) (reply : Reply) (new : State) → StepKind old step reply
+    new
     → (q : ℕ) → reply ≡ Repinned q → step ≡ Go q
 repins old linked _ _ _ (Refusal step fault) q e = absurd (cc (e))
 repins old linked _ _ _ (Registration p opened there free) q e = absurd (cc (e))

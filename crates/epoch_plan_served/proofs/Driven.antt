@@ -1,4 +1,5 @@
--- A flush, and the deferral of a removal that has room: what a step of its machine leaves of the seat, and of the machine.
+-- A flush, and the deferral of a removal that has room: what a step of its machine leaves of the seat, and of the
+-- machine.
 use Rattle.std.proofs.Common.{◌≡◌, ◌≢◌, ℕ, ◌+◌, ◌-◌, ◌^◌, ◌==◌, Bool, true, false, List, [], ◌⊎◌, inl, inr}
 use Rattle.std.proofs.Common.{refl, ap, sym, subst, ◌∙◌, if◌then◌else◌, slice_set}
 use Rattle.epoch_bags.specs.Bags.{is_empty}
@@ -20,7 +21,8 @@ use Rattle.epoch_laws.specs.declared.step.Deferral.{Deferral}
 use Rattle.epoch_laws.specs.declared.step.Reply.{Reply}
 use Rattle.epoch_laws.specs.declared.step.Reply.TheVariants.{Repinned}
 use Rattle.epoch_laws.specs.declared.step.Word.TheVariants.{Free}
-use Rattle.epoch_laws.specs.Run.{WorldSeat, State, seat_of, position_word, word_number, removed_by, with_machine, end_reply, ended_seat, DrivesCall}
+use Rattle.epoch_laws.specs.Run.{WorldSeat, State, seat_of, position_word, word_number, removed_by, with_machine}
+use Rattle.epoch_laws.specs.Run.{end_reply, ended_seat, DrivesCall}
 use Rattle.epoch_laws.proofs.QuietReplies.{quiet_end}
 use Rattle.epoch_laws.proofs.SeatLemmas.{seat_there}
 use Rattle.epoch_plans.proofs.Moved.{is_end, alone}
@@ -42,7 +44,8 @@ IsStill _ = ⊥
 pub data Heard (m : Machine Deferral) : Stage → Machine Deferral → Type 0 where
   Hears : (s : Stage) (a : Answer Deferral) → Heard m s (hears m s a)
   HearsPut : (seal : ℕ) (step : PutStep) → Heard m (Put seal) (put_heard m step)
-  HearsTake : (x k : ℕ) (step : TakeStep) (jobs : List Deferral) → Heard m (Take x k) (took_heard m (Take x k) step jobs)
+  HearsTake : (x k : ℕ) (step : TakeStep) (jobs : List Deferral) → Heard m (Take x k)
+      (took_heard m (Take x k) step jobs)
   Gives : (x k : ℕ) (jobs : List Deferral) → Heard m (Calling x k) (gives m (Calling x k) jobs)
 
 -- the call goes on with this machine
@@ -103,16 +106,19 @@ module _ (old new : State) (p : ℕ) (c : Call) (reply : Reply) (taken : positio
   drove_at (Calling x k) at still (job, jobs, hand, told, e) =
       on (Calling x k) _ _ _ at (Gives x k jobs) told refl (λ q e. cc (e)) e refl refl
   drove_at Keep at still did = on Keep _ _ _ at
-      (Hears Keep (Job (record { ticket = old.tickets; removes = removed_by seat.progress }))) did.0 refl (λ q e. cc (e)) did.1 refl refl
+      (Hears Keep (Job (record { ticket = old.tickets; removes = removed_by seat.progress }))) did.0 refl
+      (λ q e. cc (e)) did.1 refl refl
   drove_at End at still did =
       let a = alone old new _ p (ended_seat c seat) (seat_there old p taken) did.1 refl refl in
       record { others = a.others; goes = inr (record { stage = at; reply_is = did.0; seat = a.own }) }
   drove_at _ at still did = absurd still
 
+  -- such a step leaves the other seats, and the machine goes on or the call is over
   pub drove : IsStill seat.machine.stage
       → DrivesCall old p seat c seat.machine.stage (ask_at seat.machine.stage) reply new → Drove old new p c reply
   drove still did = drove_at seat.machine.stage refl still did
 
+-- no call ends by telling of a repin
 pub end_not_repinned : (c : Call) (seat : WorldSeat) (q : ℕ) → end_reply c seat ≢ Repinned q
 end_not_repinned c seat q e = (quiet_end (end_reply c seat) c seat refl).plain.published q (inr e)
 
@@ -133,6 +139,7 @@ FlushesAt _ full held = ⊥
 abbrev pub Flushing : Machine Deferral → Type 0
 Flushing m = FlushesAt m.stage m.full m.held
 
+-- a flush never stores the word of its participant
 pub flush_still : (s : Stage) (full : Bool) (held : List Deferral) → FlushesAt s full held → IsStill s
 flush_still LoadSeal full held at = tt
 flush_still (Put seal) full held at = tt
@@ -162,7 +169,8 @@ module _ (m : Machine Deferral) (action : m.action ≡ FlushAction) where
   past empties false false d e k = empties
 
   called : Empties → (b c : Bool) (x k : ℕ)
-      → FlushesAt (if b then (if c then after_collect m.action m.held else Take x (k + 1)) else Calling x k) m.full m.held
+      → FlushesAt (if b then (if c then after_collect m.action m.held else Take x (k + 1)) else Calling x k) m.full
+      m.held
   called empties true true x k = collected empties
   called empties true false x k = empties
   called empties false c x k = empties
@@ -188,6 +196,7 @@ module _ (m : Machine Deferral) (action : m.action ≡ FlushAction) where
   hears_flush End a is at = stays End is at
   hears_flush _ a is at = absurd at
 
+  -- a flush that has heard an answer is at the next of its stages
   pub flush_heard : (s : Stage) (next : Machine Deferral) → m.stage ≡ s → FlushesAt s m.full m.held → Heard m s next
       → Flushing next
   flush_heard s _ is at (Hears _ a) = hears_flush s a is at
@@ -211,6 +220,7 @@ IsKeeping _ = ⊥
 abbrev pub Keeping : Machine Deferral → Type 0
 Keeping m = IsKeeping m.stage × (m.full ≡ false)
 
+-- and neither does a deferral that has room
 pub keeps_still : (s : Stage) → IsKeeping s → IsStill s
 keeps_still Keep at = tt
 keeps_still End at = tt

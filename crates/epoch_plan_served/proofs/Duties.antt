@@ -84,7 +84,8 @@ module _ (S : Program) (T : Structure S) (K : Knowledge S) where
     pub none_after : ¬ (K.Roomy deferred)
 
   -- A call on cells and pointers may begin, and finds what it is made on. A placing that is refused tells nothing.
-  pub record TouchDuty (g : ℕ) (phase : S.Phase) (a : Access) (told : Answer → S.Phase) (failed : S.Phase) : Type 1 where
+  pub record TouchDuty (g : ℕ) (phase : S.Phase) (a : Access) (told : Answer → S.Phase) (failed : S.Phase) :
+      Type 1 where
     pub allows : Allows g phase a
     pub learns : (answer : Answer) → AnswersAccess a answer → Learns g phase a answer (told answer)
     pub unplaced : RefusesAccess a CellsFull → Fewer phase failed × (K.Roomy failed → K.Roomy phase)

@@ -8,7 +8,8 @@ use Rattle.epoch_heap.specs.declared.access.Ptr.{Ptr}
 use Rattle.epoch_heap.specs.declared.access.Spot.{Spot}
 use Rattle.epoch_heap.specs.declared.access.Spot.TheVariants.{Root, Field}
 use Rattle.epoch_heap.specs.declared.heap.Content.{Content}
-use Rattle.epoch_heap.specs.Heap.{Cell, Heap, cell_at, with_field_in, with_pointer, without_cell, heap_after_job, read_by}
+use Rattle.epoch_heap.specs.Heap.{Cell, Heap, cell_at, with_field_in, with_pointer, without_cell, heap_after_job}
+use Rattle.epoch_heap.specs.Heap.{read_by}
 use Rattle.epoch_heap.specs.Heap.{left_by, written_by, taken_by}
 use Rattle.epoch_laws.specs.declared.step.Call.{Call}
 use Rattle.epoch_laws.specs.declared.step.Entry.{Entry}
@@ -144,7 +145,8 @@ module _ (S : Program) (T : Structure S) (Starts : S.Phase → Type 0) (obeys : 
     first_room g phase p (inl flush) known = absurd (by_deed (S.deed g phase) refl flush)
       where
         by_deed : (d : Deed S.Phase S.Answer) → S.deed g phase ≡ d → IsFlush d → ⊥
-        by_deed (Flushes done failed) is flush = (duty_of S T K Starts serves g phase (Flushes done failed) is).none_before known
+        by_deed (Flushes done failed) is flush =
+            (duty_of S T K Starts serves g phase (Flushes done failed) is).none_before known
         by_deed (Touches a told failed) is flush = flush
         by_deed (Defers n deferred failed) is flush = flush
         by_deed (Answers a) is flush = flush
@@ -152,7 +154,8 @@ module _ (S : Program) (T : Structure S) (Starts : S.Phase → Type 0) (obeys : 
     steady_none : (event : PlanEvent S.Phase S.Answer) → made_at event ≡ None → AsksReady S world plans event
         → Follows S Starts world plans plans' event → AllSteady S K past world plans'
     steady_none event none ready (declines p f is same) =
-        λ q. subst (λ (l : Plan S.Phase). Steady S K past world.heap q l (seat_of world q)) (sym (same q)) (keeps.steady q)
+        λ q. subst (λ (l : Plan S.Phase). Steady S K past world.heap q l (seat_of world q)) (sym (same q))
+        (keeps.steady q)
     steady_none event none ready (asks p g phase is free idle starts sets) =
         let first = serves.starts phase starts in
         let able = subst (AsksReady S world plans) is ready in
@@ -216,12 +219,20 @@ module _ (S : Program) (T : Structure S) (Starts : S.Phase → Type 0) (obeys : 
       serves_begin p c on served = subst (λ (s : Step). ServesAt S plans s y.reply) (sym on) served
 
       pass_shown : (s : Step) → y.step ≡ s → IsOther s → KeepsPlans plans plans' → Shown
-      pass_shown Register on other same =
-          (free_shown same (λ p is. absurd (not_of Register on tt p is)), subst (λ (s : Step). ServesAt S plans s y.reply) (sym on) tt)
-      pass_shown End on other same =
-          (free_shown same (λ p is. absurd (not_of End on tt p is)), subst (λ (s : Step). ServesAt S plans s y.reply) (sym on) tt)
-      pass_shown EndGo on other same =
-          (free_shown same (λ p is. absurd (not_of EndGo on tt p is)), subst (λ (s : Step). ServesAt S plans s y.reply) (sym on) tt)
+      pass_shown Register on other same = (
+        free_shown same (λ p is. absurd (not_of Register on tt p is)),
+        subst (λ (s : Step). ServesAt S plans s y.reply) (sym on) tt,
+      )
+      pass_shown End on other same = (
+        free_shown same (λ p is. absurd (not_of End on tt p is)),
+        subst (λ (s : Step). ServesAt S plans s y.reply)
+            (sym on) tt,
+      )
+      pass_shown EndGo on other same = (
+        free_shown same (λ p is. absurd (not_of EndGo on tt p is)),
+        subst (λ (s : Step). ServesAt S plans s y.reply)
+            (sym on) tt,
+      )
       pass_shown (Begin p c) on other same = absurd other
       pass_shown (Go p) on other same = absurd other
 

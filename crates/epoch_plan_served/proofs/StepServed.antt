@@ -36,7 +36,8 @@ use Rattle.epoch_laws.specs.Run.{full_or_done, access_reply, accessed_seat, read
 use Rattle.epoch_laws.specs.Run.{BeginsCall, DrivesCall, DoesGo, Moves, TakesStep, reading_refusal}
 use Rattle.epoch_laws.proofs.Linked.{step_linked}
 use Rattle.epoch_laws.proofs.QuietReplies.{quiet_access}
-use Rattle.epoch_laws.proofs.SeatChanges.{SeatChange, Registers, Begins as BeginsCallAt, MachineGoes, Leaves, MachineEnds}
+use Rattle.epoch_laws.proofs.SeatChanges.{SeatChange, Registers, Begins as BeginsCallAt, MachineGoes, Leaves}
+use Rattle.epoch_laws.proofs.SeatChanges.{MachineEnds}
 use Rattle.epoch_laws.proofs.SeatChanges.{JobCalled, AccessGoes, Replies, seats_go, each_seat}
 use Rattle.epoch_laws.proofs.SeatLemmas.{seat_there, begin_given}
 use Rattle.epoch_laws.proofs.SeatLinks.{IsInStep}
@@ -48,14 +49,16 @@ use Rattle.epoch_plans.specs.declared.plan.Plan.{Plan}
 use Rattle.epoch_plans.specs.declared.plan.Plan.TheVariants.{NoPlan, Under}
 use Rattle.epoch_plans.specs.Plans.{Deed, Flushes, Touches, Defers, Answers, Program, AllPlans, IsFit, IsOver, Replans}
 use Rattle.epoch_plans.specs.Plans.{KeepsPlans, call_by, after_by, plan_begun, plan_gone, ptr_to}
-use Rattle.epoch_plans.proofs.Custody.{same_number, IsAccessing, IsBegun, Tied, now, now_of, now_under, Structure, StandsNow, Sound}
+use Rattle.epoch_plans.proofs.Custody.{same_number, IsAccessing, IsBegun, Tied, now, now_of, now_under, Structure}
+use Rattle.epoch_plans.proofs.Custody.{StandsNow, Sound}
 use Rattle.epoch_plans.proofs.Moved.{is_end, go_taken, accessing, ended_with, begin_refused, begin_made}
 use Rattle.epoch_plans.proofs.Moved.{Alone, alone, unmoved}
 use Rattle.epoch_plans.proofs.Obligations.{Obeys}
 use Rattle.epoch_plan_served.specs.Served.{AnswersAccess, RefusesAccess, RefusesDeed, IsExpected, HasRoom}
 use Rattle.epoch_plan_served.proofs.Begun.{begin_expected}
 use Rattle.epoch_plan_served.proofs.Clear.{IsOf, lets_own, reads_none}
-use Rattle.epoch_plan_served.proofs.Driven.{GoesOn, IsOverAt, Drove, drove, FlushesAt, Flushing, flush_still, flush_heard}
+use Rattle.epoch_plan_served.proofs.Driven.{GoesOn, IsOverAt, Drove, drove, FlushesAt, Flushing, flush_still}
+use Rattle.epoch_plan_served.proofs.Driven.{flush_heard}
 use Rattle.epoch_plan_served.proofs.Driven.{Keeping, keeps_still, keep_heard}
 use Rattle.epoch_plan_served.proofs.Duties.{Knowledge, Fewer, Allows, LoadedBy, Serves, duty_of}
 use Rattle.epoch_plan_served.proofs.Ready.{ExpectedBy, next_under, RoomAt, Sees, Works, Steady, AllSteady, steady_later}
@@ -299,7 +302,8 @@ module _ (S : Program) (T : Structure S) (Starts : S.Phase → Type 0) (obeys : 
       go_flush : Served
       go_flush =
           let drove_so = drove old aside p (Flush (Some g)) x.reply taken
-          (flush_still (seat_of old p).machine.stage (seat_of old p).machine.full (seat_of old p).machine.held flushing.1)
+          (flush_still (seat_of old p).machine.stage (seat_of old p).machine.full (seat_of old p).machine.held
+          flushing.1)
           (driven_as (Flush (Some g)) flushing.0) in
           let shown = flush_goes drove_so in
           (of_actor p (go_only p on) (λ q ne. (drove_so.others q ne, sets.1 q ne)) shown.0, shown.1)
@@ -342,7 +346,8 @@ module _ (S : Program) (T : Structure S) (Starts : S.Phase → Type 0) (obeys : 
           (of_actor p (go_only p on) (λ q ne. (drove_so.others q ne, sets.1 q ne)) shown.0, shown.1)
 
     -- a call on cells and pointers
-    module _ (a : Access) (told : Answer → S.Phase) (failed : S.Phase) (is : S.deed g phase ≡ Touches a told failed) where
+    module _ (a : Access) (told : Answer → S.Phase) (failed : S.Phase)
+        (is : S.deed g phase ≡ Touches a told failed) where
       room : RoomAt S K phase (seat_of old p)
       room = (works_at (Touches a told failed) is).0
 
@@ -373,7 +378,8 @@ module _ (S : Program) (T : Structure S) (Starts : S.Phase → Type 0) (obeys : 
       -- what one step of it shows
       module _ (j : ℕ) (found : Ptr) (now_at : (seat_of old p).progress ≡ Accesses a j found) (made : Touched)
           (touches : TouchesHeap a j found old.heap made) (reply_is : x.reply ≡ access_reply made.told)
-          (heap : new.heap ≡ made.heap) (alone_so : Alone old aside p (accessed_seat a j made.told (seat_of old p))) where
+          (heap : new.heap ≡ made.heap) (alone_so : Alone old aside p
+          (accessed_seat a j made.told (seat_of old p))) where
         duty : Allows S T K g phase a
         duty = (duty_of S T K Starts serves g phase (Touches a told failed) is).allows
 
@@ -504,7 +510,8 @@ module _ (S : Program) (T : Structure S) (Starts : S.Phase → Type 0) (obeys : 
           let after : after_by phase (S.deed g phase) (Done answer) ≡ told answer =
           ap (λ (d : Deed S.Phase S.Answer). after_by phase d (Done answer)) is in
           let before : Sees S K past old.heap p g (told answer) (seat_of old p) =
-          subst (λ (f : S.Phase). Sees S K past old.heap p g f (seat_of old p)) after (sees_at (Ends (Done answer)) now_at)
+          subst (λ (f : S.Phase). Sees S K past old.heap p g f (seat_of old p)) after
+          (sees_at (Ends (Done answer)) now_at)
           in (
             to_plan p (Under g (told answer) false) (ends_at (Done answer) (told answer) reply_is refl after) (
               sees_fewer p g (told answer) (told answer) (same_fewer (told answer))
@@ -582,7 +589,8 @@ module _ (S : Program) (T : Structure S) (Starts : S.Phase → Type 0) (obeys : 
         → refusal (call_by g d) (seat_of old p) old.tickets old.heap ≡ Some f
         → Fewer S T K phase (after_by phase d (Refused f)) × RoomAt S K (after_by phase d (Refused f)) (seat_of old p)
     refused_less (Flushes done failed) is f expected why =
-        let duty = duty_of S T K Starts serves g phase (Flushes done failed) is in (duty.refused, λ known. absurd (duty.none_refused known))
+        let duty = duty_of S T K Starts serves g phase (Flushes done failed) is in
+        (duty.refused, λ known. absurd (duty.none_refused known))
     refused_less (Touches a told failed) is f expected why =
         let less = (duty_of S T K Starts serves g phase (Touches a told failed) is).unplaced (placing a f expected) in
         (less.0, λ known. was.1 (less.1 known))
@@ -595,7 +603,8 @@ module _ (S : Program) (T : Structure S) (Starts : S.Phase → Type 0) (obeys : 
         placing (Take h ptr) e expected = absurd expected
         placing (Point h spot change) e expected = absurd expected
     refused_less (Defers n deferred failed) is f expected why =
-        let duty = duty_of S T K Starts serves g phase (Defers n deferred failed) is in (duty.refused, λ known. was.1 duty.room)
+        let duty = duty_of S T K Starts serves g phase (Defers n deferred failed) is in
+        (duty.refused, λ known. was.1 duty.room)
     refused_less (Answers a) is f expected why = absurd expected
 
     expected_at : (f : Fault) → refusal (call_by g (S.deed g phase)) (seat_of old p) old.tickets old.heap ≡ Some f
@@ -603,13 +612,15 @@ module _ (S : Program) (T : Structure S) (Starts : S.Phase → Type 0) (obeys : 
     expected_at f why =
         begin_expected g old.tickets (seat_of old p) old.heap (tied_as p (Under g phase false) at) was.0.ready
         (S.deed g phase) call
-        (λ a told failed is. let duty = (duty_of S T K Starts serves g phase (Touches a told failed) is).allows in record {
+        (λ a told failed is. let duty = (duty_of S T K Starts serves g phase (Touches a told failed) is).allows in
+        record {
           guard = duty.guard;
           place = duty.place past old.heap sound.ghost one_field sound.shape;
           names = duty.names old.heap was.0.known;
           reading = subst (λ (rs : List Name). reading_refusal a rs ≡ None) (sym was.0.reads) duty.reading;
         })
-        (λ n deferred failed is. was.0.known n (duty_of S T K Starts serves g phase (Defers n deferred failed) is).name) f why
+        (λ n deferred failed is. was.0.known n (duty_of S T K Starts serves g phase (Defers n deferred failed) is).name)
+        f why
 
     by_refusal : (f : Option Fault)
         → refusal (call_by g (S.deed g phase)) (seat_of old p) old.tickets old.heap ≡ f
@@ -634,7 +645,8 @@ module _ (S : Program) (T : Structure S) (Starts : S.Phase → Type 0) (obeys : 
     by_refusal None why d =
         let step = begin_made old aside x.reply p (call_by g (S.deed g phase)) d in
         let taken = (begin_given (call_by g (S.deed g phase)) (seat_of old p) old.tickets old.heap why).taken in
-        let a_so = alone old aside _ p (begun_seat (call_by g (S.deed g phase)) (seat_of old p)) (seat_there old p taken)
+        let a_so = alone old aside _ p (begun_seat (call_by g (S.deed g phase)) (seat_of old p))
+        (seat_there old p taken)
         step.1 refl refl in
         let begun = begun_at S K g phase (seat_of old p) (S.deed g phase) refl call (obeys.fits g phase) was.1
         (λ n deferred failed is. (duty_of S T K Starts serves g phase (Defers n deferred failed) is).room) in (
@@ -685,7 +697,8 @@ module _ (S : Program) (T : Structure S) (Starts : S.Phase → Type 0) (obeys : 
           registers : (j : ℕ) (st : WorldSeat) → SeatChange old x.step j st → (h : ℕ) (f : S.Phase) (c : Bool)
               → plans j ≡ Under h f c → ⊥
           registers j _ (Registers at_free) h f true under = (steady_as j (Under h f true) under).0.ready.taken at_free
-          registers j _ (Registers at_free) h f false under = (steady_as j (Under h f false) under).0.ready.taken at_free
+          registers j _ (Registers at_free) h f false under = (steady_as j (Under h f false) under).0.ready.taken
+              at_free
           registers j _ (BeginsCallAt c on given) h f b under = of_it j (inr (c, on)) h f b under
           registers j _ (MachineGoes c w m on drive word stage heard) h f b under = of_it j (inl on.0) h f b under
           registers j _ (Leaves on) h f b under = of_it j (inl on.0) h f b under

@@ -16,7 +16,8 @@ use Rattle.epoch_heap.specs.declared.access.Change.TheVariants.{FetchXor, FetchU
 use Rattle.epoch_heap.specs.declared.access.Ptr.{Ptr}
 use Rattle.epoch_heap.specs.declared.access.Spot.{Spot}
 use Rattle.epoch_heap.specs.declared.heap.Content.{Content}
-use Rattle.epoch_heap.specs.Heap.{Cell, Heap, nulls, cell_at, with_cell_at, pointer_at, read_by, left_by, at_name, Touched}
+use Rattle.epoch_heap.specs.Heap.{Cell, Heap, nulls, cell_at, with_cell_at, pointer_at, read_by, left_by, at_name}
+use Rattle.epoch_heap.specs.Heap.{Touched}
 use Rattle.epoch_heap.specs.Heap.{Touches, Changes, ChangesAt, Places, is_stop}
 use Rattle.epoch_laws.specs.Run.{readings_after}
 use Rattle.epoch_plans.specs.Plans.{TakesNone}
@@ -106,7 +107,8 @@ told_given (Place v) k found h did (NameAnswer m) fits e told n same leads = at_
     at_cell (Some c) at (inl (free, x, slot, turn, is)) =
         let which : x ≡ n = cc (ap (λ (d : Touched). d.told) is, told, same) in
         subst (λ (d : Touched). WasGiven d.heap n) (sym is)
-        (subst (λ (y : Name). WasGiven (with_cell_at h x (filled x.turn 0 (record { value = v; fields = nulls 16 }))) y) which (
+        (subst (λ (y : Name). WasGiven (with_cell_at h x (filled x.turn 0 (record { value = v; fields = nulls 16 }))) y)
+        which (
           (place_gives v k found h (Some c) at _ (inl (free, x, slot, turn, refl)) x refl).given,
           subst (λ (t : ℕ). h.start_turn ≤ t) (sym turn) (fits k c at).turn,
         ))

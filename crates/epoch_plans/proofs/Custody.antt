@@ -30,6 +30,7 @@ use Rattle.epoch_plans.specs.declared.plan.Plan.{Plan}
 use Rattle.epoch_plans.specs.declared.plan.Plan.TheVariants.{NoPlan, Under}
 use Rattle.epoch_plans.specs.Plans.{Program, AllPlans, IsPlain, call_by, after_by}
 
+-- two numbers are equal or not
 pub same_number : (a b : ℕ) → (a ≡ b) ⊎ (a ≢ b)
 same_number a b = grind arith
 

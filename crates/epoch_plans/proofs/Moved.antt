@@ -46,6 +46,7 @@ pub record Accessing (old new : State) (reply : Reply) (p : ℕ) (a : Access) (k
   pub told : reply ≡ access_reply did.told
   pub state : new ≡ record (with_seat old p (accessed_seat a k did.told (seat_of old p))) { heap = did.heap }
 
+-- a call on cells and pointers that goes on changes its own seat and the heap alone
 pub accessing : (old new : State) (reply : Reply) (p : ℕ) (a : Access) (k : ℕ) (found : Ptr)
     → DoesGo old p (seat_of old p) (Accesses a k found) reply new → Accessing old new reply p a k found
 accessing old new reply p a k found (did, touches, told, state) =
@@ -72,6 +73,7 @@ pub data Deferring (old new : State) (reply : Reply) (p : ℕ) (c : Call) (s : S
   at_end : s ≡ End → reply ≡ end_reply c (seat_of old p) → new ≡ with_seat old p (ended_seat c (seat_of old p))
       → Deferring old new reply p c s
 
+-- each step of a driven call whose machine is that of a deferral is one of these
 pub deferring : (old new : State) (reply : Reply) (p : ℕ) (c : Call) (s : Stage) (full : Bool) → IsDeferring s full
     → DrivesCall old p (seat_of old p) c s (ask_at s) reply new → Deferring old new reply p c s
 deferring old new reply p c LoadSeal full ok (told, state) = at_seal refl told state
@@ -86,6 +88,7 @@ pub begin_refused : (old new : State) (reply : Reply) (p : ℕ) (c : Call) (f : 
     → BeginsCall old p c (Some f) reply new → (reply ≡ Refused f) × (new ≡ old)
 begin_refused old new reply p c f (told, state) = (told, state)
 
+-- a call that is not refused has begun
 pub begin_made : (old new : State) (reply : Reply) (p : ℕ) (c : Call) → BeginsCall old p c None reply new
     → (reply ≡ Began) × (new ≡ with_seat old p (begun_seat c (seat_of old p)))
 begin_made old new reply p c (told, state) = (told, state)

@@ -19,6 +19,7 @@ In n (m ∷ ms) = (n ≡ m) ⊎ In n ms
 abbrev pub at : Option Name → Ptr
 at o = record { name = o; tag = 0 }
 
+-- a pointer without a tag tells which node it leads to
 pub at_same : (a b : Option Name) → Some (at a) ≡ Some (at b) → a ≡ b
 at_same a b e = let same : at a ≡ at b = cc (e) in ap (λ (q : Ptr). q.name) same
 
@@ -26,6 +27,7 @@ at_same a b e = let same : at a ≡ at b = cc (e) in ap (λ (q : Ptr). q.name) s
 abbrev pub Next : Heap → Name → Option Name → Type 0
 Next h n o = pointer_at h (Field n 0) ≡ Some (at o)
 
+-- a node has one next node, or none
 pub next_same : (h : Heap) (n : Name) (a b : Option Name) → Next h n a → Next h n b → a ≡ b
 next_same h n a b one other = at_same a b (sym one ∙ other)
 
@@ -89,6 +91,7 @@ led : (h : Heap) (spot : Spot) (o : Option Name) (x : Name) → pointer_at h spo
 led h spot o x e (ptr, entry, name) =
     let same : at o ≡ ptr = cc (e, entry) in ap (λ (q : Ptr). q.name) same ∙ name
 
+-- the node that the tail leads to is in reach, also while it is off the list
 pub tail_reached : (h : Heap) (xs : List Name) (form : Form h xs) (t : Name) → form.last ≡ Some t → IsReachable h t
 tail_reached h xs form t e = from_root 1 t (at form.last, form.tailed, e)
 
@@ -101,10 +104,12 @@ chain_reached h o (m ∷ ms) reach (next, name, to, apart, rest) n (inl e) =
 chain_reached h o (m ∷ ms) reach (next, name, to, apart, rest) n (inr there) =
     chain_reached h next ms (λ x e. from_field m 0 x (reach m name) (at next, to, e)) rest n there
 
+-- each node of the list is in reach
 pub in_reach : (h : Heap) (xs : List Name) → Form h xs → (n : Name) → In n xs → IsReachable h n
 in_reach h xs form n there =
     chain_reached h form.head xs (λ x e. from_root 0 x (at form.head, form.rooted, e)) form.chain n there
 
+-- the node at which a chain begins is one of it
 pub head_in : (h : Heap) (o : Option Name) (ns : List Name) (x : Name) → Chain h o ns → o ≡ Some x → In x ns
 head_in h o [] x chain e = absurd (cc (chain, e))
 head_in h o (m ∷ ms) x chain e = inl (cc (chain.1, e))
@@ -245,6 +250,7 @@ module _ (h : Heap) (xs : List Name) (form : Form h xs) (t q : Name)
 
 module _ (h : Heap) (xs : List Name) (form : Form h xs) (t n : Name) (there : In t xs) (none : Next h t None)
     (is_tail : pointer_at h (Root 1) ≡ Some (at (Some t))) (fresh : ¬ (In n xs)) (mine : Next h n None) where
+  -- an exchange in the last node writes no other node
   pub other_field : (m : Name) → m ≢ t → pointer_at (appended h t n) (Field m 0) ≡ pointer_at h (Field m 0)
   other_field m ne = pointer_other h (Field t 0) (at (Some n)) (Field m 0) (λ e. ne (name_of e))
     where
@@ -255,9 +261,11 @@ module _ (h : Heap) (xs : List Name) (form : Form h xs) (t n : Name) (there : In
       name_of : Field m 0 ≡ Field t 0 → m ≡ t
       name_of e = cc (e)
 
+  -- the last node then leads to the new one
   pub written : Next (appended h t n) t (Some n)
   written = written_there h (Field t 0) (at None) (at (Some n)) none
 
+  -- and the new one leads nowhere
   pub own : Next (appended h t n) n None
   own = other_field n (λ e. fresh (subst (λ k. In k xs) (sym e) there)) ∙ mine
 
@@ -297,15 +305,18 @@ module _ (h : Heap) (xs : List Name) (form : Form h xs) (t n : Name) (there : In
       later m ms ne (inl e) = absurd (ne (sym e))
       later m ms ne (inr is) = is
 
+  -- a node of the list stays one when another is put behind
   pub in_more : (x : Name) (ns : List Name) → In x ns → In x (ns ++ n ∷ [])
   in_more x [] is = absurd is
   in_more x (m ∷ ms) (inl e) = inl e
   in_more x (m ∷ ms) (inr is) = inr (in_more x ms is)
 
+  -- the node that is put behind is one of the list
   pub new_in : (ns : List Name) → In n (ns ++ n ∷ [])
   new_in [] = inl refl
   new_in (m ∷ ms) = inr (new_in ms)
 
+  -- and there are no others
   pub in_either : (x : Name) (ns : List Name) → In x (ns ++ n ∷ []) → In x ns ⊎ (x ≡ n)
   in_either x [] (inl e) = inr e
   in_either x [] (inr nothing) = absurd nothing

@@ -150,6 +150,7 @@ unshared past h xs x shape there (Advancing n q v) s e = s.0.1 (subst (λ k. In 
 unshared past h xs x shape there (Removing n v) s e = s.0.1 (subst (λ k. In k xs) e there)
 unshared past h xs x shape there _ s e = e
 
+-- a node that a phase owns has not left, and neither has a node of the list, which no phase owns
 pub sane : Sane queue structure
 sane = record {
   owned = owned;
@@ -175,6 +176,7 @@ pub record Turn (past : Past) (h h' : Heap) (xs xs' : List Name) (hit : Option N
   pub first : (n : Name) → past.reached n → First xs n → First xs' n
   pub worth : (n : Name) (v : ℕ) → ¬ (past.left n) → HoldsValue h n v → HoldsValue h' n v
 
+-- a null pointer leads to no node
 pub none_not : (q : Name) → at None ≢ at (Some q)
 none_not q e = let name : None ≡ Some q = ap (λ (p : Ptr). p.name) e in cc (name)
 
@@ -319,6 +321,7 @@ module _ (past : Past) (h h' : Heap) (xs : List Name) (settled : Settled past h)
       → pointer_at h (Field n 0) ≡ Some ptr
   was n ptr r e = calm.back n 0 ptr (settled.reached_given n r) e
 
+  -- a calm step leaves the list as it was
   pub calm_turn : Turn past h h' xs xs None
   calm_turn = record {
     own = λ n r l off e. stays n None l e;
@@ -333,6 +336,7 @@ module _ (past : Past) (h h' : Heap) (xs : List Name) (settled : Settled past h)
     worth = λ n v l w. let kept = calm.kept n w.0 w.1 l w.2 w.3 in (kept.0, w.1, kept.1, kept.2, w.4);
   }
 
+  -- and each node in reach that is off the list still leads somewhere
   pub calm_shut : (n : Name) → past.reached n → ¬ (In n xs) → ¬ (Next h' n None)
   calm_shut n r apart none = shape.shut n r apart (was n (at None) r none)
 
@@ -373,11 +377,13 @@ same : (a b : Phase) → ((past : Past) (h : Heap) (xs : List Name) → Stands p
     → ((n : Name) → Owns b n → Owns a n) → Weaker queue structure a b
 same a b stands owns = record { stands = λ past h xs shape s. stands past h xs s; owns = owns }
 
+-- a call that begins knows nothing yet
 pub begins : (a : Phase) (work : Work) → Weaker queue structure a (start_work work)
 begins a Build = weaker_none a Founding (λ past h xs. tt) (λ n o. o)
 begins a (Push v k) = weaker_none a (Placing v k) (λ past h xs. tt) (λ n o. o)
 begins a (Pop k) = again a k
 
+-- what a phase knows when its call is refused is no more than before
 pub refused : (g : ℕ) (phase : Phase) (f : Fault)
     → Weaker queue structure phase (after_by phase (deed_of g phase) (Refused f))
 refused g (MakingRoom work) f = weaker_none _ _ (λ past h xs. tt) (λ n o. o)
@@ -401,12 +407,14 @@ refused g (Advancing n q v) f = weaker_none _ _ (λ past h xs. tt) (λ n o. o)
 refused g (Removing n v) f = weaker_none _ _ (λ past h xs. tt) (λ n o. o)
 refused g (Answering a) f = same (Answering a) (Answering a) (λ past h xs s. s) (λ n o. o)
 
+-- and so it is behind a flush
 pub flushed : (g : ℕ) (phase : Phase) (r : Reply) → IsFlush (deed_of g phase)
     → Weaker queue structure phase (after_by phase (deed_of g phase) r)
 flushed g (MakingRoom work) (Done a) is = begins _ work
 flushed g (MakingRoom work) _ is = weaker_none _ _ (λ past h xs. tt) (λ n o. o)
 flushed g _ r is = absurd is
 
+-- a first phase owns no node, and stands whatever the queue is
 pub starts : (phase : Phase) → Starts phase → ((n : Name) → ¬ (Owns phase n))
     × ((past : Past) (h : Heap) (xs : List Name) → Shape past h xs → Stands past h xs phase)
 starts (MakingRoom work) is = (λ n o. o, λ past h xs shape. tt)
@@ -416,10 +424,12 @@ starts (LoadingHead k) is = (λ n o. o, λ past h xs shape. tt)
 starts (Answering a) is = (λ n o. o, λ past h xs shape. tt)
 starts _ is = absurd is
 
+-- a phase that answers owns no node
 pub answers : (g : ℕ) (phase : Phase) → IsOver (deed_of g phase) → (n : Name) → ¬ (Owns phase n)
 answers g (Answering a) is n o = o
 answers g _ is n o = absurd is
 
+-- each call of a phase is one that programs of phases may make
 pub fits : (g : ℕ) (phase : Phase) → IsFit (deed_of g phase)
 fits g (MakingRoom work) = tt
 fits g (TakingBack n) = tt
@@ -470,6 +480,7 @@ hands_over phase n next own out stands none = record {
   known = λ past h xs shape s. (out past h xs shape s, stands past h xs, λ x o. absurd (none x o));
 }
 
+-- a phase that defers a removal owns the node, and hands it over
 pub defers : (g : ℕ) (phase next failed : Phase) (n : Name) → deed_of g phase ≡ Defers n next failed
     → HandsOver queue structure phase next n
 defers g (TakingBack m) next failed n is =

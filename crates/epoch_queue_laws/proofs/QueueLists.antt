@@ -85,6 +85,7 @@ from_kept h h' o (m ∷ ms) (v ∷ vs) fields values (next, name, to, apart, res
           (subst (λ (p : Option Name). Chain h p ms) (sym one) rest) behind,
     )
 
+-- a step that leaves the head, the links and the values of the list leaves what the queue holds
 pub holds_kept : (h h' : Heap) (xs : List Name) (form : Form h xs) (vs : List ℕ)
     → pointer_at h' (Root 0) ≡ pointer_at h (Root 0)
     → ((n : Name) (next : Option Name) → In n xs → Next h n next → Next h' n next)
@@ -155,6 +156,7 @@ module _ (h h' : Heap) (t n : Name) (v : ℕ) (none : Next h t None) (written : 
         ]
       ]
 
+  -- a node that is put behind adds its value at the end
   pub holds_more : (xs : List Name) (form : Form h xs) (vs : List ℕ) → In t xs
       → pointer_at h' (Root 0) ≡ pointer_at h (Root 0) → QueueHolds h vs → QueueHolds h' (vs ++ v ∷ [])
   holds_more xs form vs there root (head, rooted, behind) =
@@ -208,6 +210,7 @@ listed h o (n ∷ ns) (next, name, to, apart, rest) =
     let more = listed h next ns rest in
     (there.1.value ∷ more.0, (n, next, name, (there.0, there.1, there.2, there.3, refl), to, more.1))
 
+-- the nodes of a queue hold some list of values
 pub holds_some : (h : Heap) (xs : List Name) → Form h xs → (vs : List ℕ) × QueueHolds h vs
 holds_some h xs form =
     let behind = by_names form.head xs form.chain in (behind.0, (form.head, form.rooted, behind.1))

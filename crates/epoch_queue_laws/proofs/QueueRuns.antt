@@ -84,12 +84,14 @@ new_sound world plans new = record {
   reached_given = λ n r. absurd r;
 }
 
+-- cells leave a queue as they must
 pub every_queue_run_leaves_cells_once : (world world' : State) (plans plans' : AllPlans Phase) (log : QueueLog)
     → IsNewQueue world plans → (run : QueueRuns world plans log world' plans')
     → LeavesOnce world (world_log log) world' (run_of_world queue Starts world plans log world' plans' run)
 every_queue_run_leaves_cells_once world world' plans plans' log new run =
     runs_leave queue structure Starts queue_obeys no_past world plans log world' plans' (new_sound world plans new) run
 
+-- so no cell that a guard has loaded is destroyed while the guard is held
 pub every_queue_run_keeps_reach : (world world' : State) (plans plans' : AllPlans Phase) (log : QueueLog)
     → IsNewQueue world plans → (run : QueueRuns world plans log world' plans')
     → KeepsLoaded (past_of world (world_log log) world' (run_of_world queue Starts world plans log world' plans' run))
@@ -98,6 +100,7 @@ every_queue_run_keeps_reach world world' plans plans' log new run =
     (run_of_world queue Starts world plans log world' plans' run)
     (every_queue_run_leaves_cells_once world world' plans plans' log new run)
 
+-- a new queue is empty, and at the end of each run it holds some list
 pub every_queue_run_holds_a_list : (world world' : State) (plans plans' : AllPlans Phase) (log : QueueLog)
     → IsNewQueue world plans → QueueRuns world plans log world' plans'
     → QueueHolds world.heap [] × ((vs : List ℕ) × QueueHolds world'.heap vs)
@@ -108,6 +111,7 @@ every_queue_run_holds_a_list world world' plans plans' log new run =
       holds_some world'.heap last.1.ghost last.1.shape.form,
     )
 
+-- each step changes the list as its phase says, and a pop that finds nothing finds an empty list
 pub every_queue_run_is_a_queue : (world world' new : State) (plans plans' : AllPlans Phase) (log : QueueLog)
     (x : Entry) → IsNewQueue world plans → QueueRuns world plans log world' plans'
     → TakesStep world' x.step x.reply new → (vs : List ℕ) → QueueHolds world'.heap vs

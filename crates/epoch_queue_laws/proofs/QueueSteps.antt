@@ -84,6 +84,7 @@ pub record MineOf (phase : Phase) (n : Name) : Type 1 where
   pub stands : (past : Past) (h : Heap) (xs : List Name) → Mine past h n → Stands past h xs phase
   pub owns : (x : Name) → Owns phase x → x ≡ n
 
+-- a push that tries again still owns its node, and one that gives up owns it to the end
 pub tries_mine : (n : Name) (k : ℕ) → MineOf (retry_push n k) n
 tries_mine n zero = record { stands = λ past h xs m. m; owns = λ x o. o }
 tries_mine n (suc k) = record { stands = λ past h xs m. m; owns = λ x o. o }
@@ -217,6 +218,7 @@ module _ (past : Past) (h : Heap) (xs : List Name) (settled : Settled past h) (s
       by_name None name = still (LoadingNext n k) (Answering Empty) s tt (λ x o. o)
       by_name (Some q) name = still (LoadingNext n k) (Reading n q k) s (links n q ptr s.0 e name) (λ x o. o)
 
+  -- the read of the node behind the first one learns its value
   pub read_next : (g : ℕ) (n q : Name) (k : ℕ) (did : Touched) (o : Option Cell) (p : Option Content)
       → cell_at h q ≡ o → readable o ≡ p → did ≡ read_by h q o p → Linked past h n q
       → (StaysGiven h did.heap → Calm past.left h did.heap) → Does g (Reading n q k) did
@@ -234,6 +236,7 @@ module _ (past : Past) (h : Heap) (xs : List Name) (settled : Settled past h) (s
       (Leaving n q content.value k) s (s, λ l. (c, content, at_q, readable_held c content held, refl))
       (λ x o. absurd o))
 
+  -- the end of that read keeps what was learnt
   pub leave_next : (g : ℕ) (n q : Name) (v k : ℕ) (did : Touched) (o : Option Cell)
       → did ≡ left_by h q o → Linked past h n q × Worth past h q v → (StaysGiven h did.heap → Calm past.left h did.heap)
       → Does g (Leaving n q v k) did
@@ -352,6 +355,13 @@ module _ (past : Past) (h : Heap) (xs : List Name) (settled : Settled past h) (s
       heap = ap (λ (d : Touched). d.heap) is.1
           ∙ ap (λ (p : Ptr). with_pointer h (Root 1) p) (aligned_at h (Some q))
 
+  -- the exchange of the head writes no node, and not the tail
+  took_field : (q m : Name) → pointer_at (took h q) (Field m 0) ≡ pointer_at h (Field m 0)
+  took_field q m = pointer_other h (Root 0) (at (Some q)) (Field m 0) (λ e. cc (e))
+
+  took_tail : (q : Name) → pointer_at (took h q) (Root 1) ≡ pointer_at h (Root 1)
+  took_tail q = pointer_other h (Root 0) (at (Some q)) (Root 1) (λ e. cc (e))
+
   -- the head is taken off, won or lost
   pub take : (g : ℕ) (n q : Name) (v k j : ℕ) (found : Ptr) (did : Touched) (o : Option Ptr)
       → pointer_at h (Root 0) ≡ o → ChangesAt (CompareExchange (ptr_to n) (ptr_to q)) j found (Root 0) h o did
@@ -379,12 +389,6 @@ module _ (past : Past) (h : Heap) (xs : List Name) (settled : Settled past h) (s
           let next = next_in h shape.form.head xs n shape.form.chain there in
           next.1 ∙ ap Some (l.1 (at next.0) next.1)
 
-      kept : (m : Name) → pointer_at (took h q) (Field m 0) ≡ pointer_at h (Field m 0)
-      kept m = pointer_other h (Root 0) (at (Some q)) (Field m 0) (λ e. cc (e))
-
-      tail : pointer_at (took h q) (Root 1) ≡ pointer_at h (Root 1)
-      tail = pointer_other h (Root 0) (at (Some q)) (Root 1) (λ e. cc (e))
-
       by_form : (ys : List Name) × (xs ≡ n ∷ ys) × (¬ (In n ys)) × Form (took h q) ys → StaysGiven h (took h q)
           → Goes (took h q) (Taking n q v k) (LookingBack n q v)
       by_form (ys, whole, apart, form) given =
@@ -397,7 +401,7 @@ module _ (past : Past) (h : Heap) (xs : List Name) (settled : Settled past h) (s
               λ left. elim (passed.left n left) [ inl was ↦ (shape.known n there).1 was | inr e ↦ cc (e) ],
               given n (settled.reached_given n l.0),
             ),
-            (passed.more n l.0, λ ptr e. l.1 ptr (sym (kept n) ∙ e)),
+            (passed.more n l.0, λ ptr e. l.1 ptr (sym (took_field q n) ∙ e)),
           ))
         where
           before : (m : Name) → In m ys → In m xs
@@ -409,20 +413,20 @@ module _ (past : Past) (h : Heap) (xs : List Name) (settled : Settled past h) (s
 
           turn : Turn past h (took h q) xs ys None
           turn = record {
-            own = λ m r left off e. kept m ∙ e;
-            back = λ m r ptr e. inl (sym (kept m) ∙ e);
+            own = λ m r left off e. took_field q m ∙ e;
+            back = λ m r ptr e. inl (sym (took_field q m) ∙ e);
             inside = λ m is r. before m is;
-            at_tail = λ t r none e. tail ∙ e;
-            tails = λ m e. inl (sym tail ∙ e);
+            at_tail = λ t r none e. took_tail q ∙ e;
+            tails = λ m e. inl (sym (took_tail q) ∙ e);
             untailed = λ m e. absurd (
                 let none : Next h n None = shape.form.bare
-                (at_same shape.form.last None (sym shape.form.tailed ∙ sym tail ∙ e)) n there in
+                (at_same shape.form.last None (sym shape.form.tailed ∙ sym (took_tail q) ∙ e)) n there in
                 let both : None ≡ Some q = next_same h n None (Some q) none linked_next in cc (both)
                 );
             reach = λ m r. inl (elim (reached_in (took h q) ys form m r) [
               | inl is ↦ in_reach h xs shape.form m (before m is)
               | inr e ↦ tail_reached h xs shape.form m
-                  (at_same shape.form.last form.last (sym shape.form.tailed ∙ sym tail ∙ form.tailed) ∙ e)
+                  (at_same shape.form.last form.last (sym shape.form.tailed ∙ sym (took_tail q) ∙ form.tailed) ∙ e)
             ]);
             given = given;
             first = λ m r f is. absurd (by_first m is (f (before m is)));
@@ -433,11 +437,11 @@ module _ (past : Past) (h : Heap) (xs : List Name) (settled : Settled past h) (s
           shut m r out none = elim (same_name m n) [
             | inl e ↦
                 let both : None ≡ Some q = next_same h n None (Some q)
-                (subst (λ k. Next h k None) e (sym (kept m) ∙ none)) linked_next in cc (both)
+                (subst (λ k. Next h k None) e (sym (took_field q m) ∙ none)) linked_next in cc (both)
             | inr ne ↦ shape.shut m r (λ is. elim (subst (λ ns. In m ns) whole is) [
               | inl e ↦ ne e
               | inr later ↦ out later
-            ]) (sym (kept m) ∙ none)
+            ]) (sym (took_field q m) ∙ none)
           ]
 
   -- a node is put behind the last one

@@ -275,12 +275,14 @@ module _ (past : Past) (old new : State) (plans : AllPlans Phase) (x : Entry)
           (subst (λ (i : Heap). QueueHolds i ws) (sym t.heap) less)
       by_won _ is won = absurd won
 
+  -- what the step makes of the values
   pub step_on_values : StepOnValues old plans x new vs
   step_on_values = elim (heap_turns queue structure past old new plans x sound did) [
     | inl calm ↦ keeps (calm_list past old.heap sound.ghost sound.shape new.heap vs calm holds)
     | inr t ↦ by_touch t
   ]
 
+  -- a pop that finds no node behind the first one finds no value
   pub finds_none : FindsNone old plans x new → vs ≡ []
   finds_none f = by_pointer (pointer_at old.heap (Field f.head 0)) refl
       (subst (λ (p : Phase). TouchesBy (deed_of t.guard p) t.made t.found old.heap t.did) phase t.touches)

@@ -11,7 +11,8 @@ use Rattle.epoch_heap.specs.declared.access.Answer.TheVariants.{Pointer}
 use Rattle.epoch_heap.specs.declared.access.Change.TheVariants.{Load, CompareExchange}
 use Rattle.epoch_heap.specs.declared.access.Ptr.{Ptr}
 use Rattle.epoch_heap.specs.declared.access.Spot.TheVariants.{Root, Field}
-use Rattle.epoch_heap.specs.Heap.{Cell, Heap, null, aligned, pointer_at, Touched, ChangesAt, Places, read_by, left_by, cell_at}
+use Rattle.epoch_heap.specs.Heap.{Cell, Heap, null, aligned, pointer_at, Touched, ChangesAt, Places, read_by, left_by}
+use Rattle.epoch_heap.specs.Heap.{cell_at}
 use Rattle.epoch_heap.specs.Heap.{nulls, with_cell_at, with_pointer}
 use Rattle.epoch_heap.specs.declared.heap.Content.{Content}
 use Rattle.epoch_cells.specs.PlainCells.{filled, readable}
@@ -91,6 +92,7 @@ roots_kept h h' same ends = (
   (ends.1.0, ap (λ (rs : List Ptr). slice_get rs 1) same ∙ ends.1.1),
 )
 
+-- making room leaves the head and the tail as they are
 pub room_kept : (h h' : Heap) (work : Work) → h'.roots ≡ h.roots → Lone h (MakingRoom work) → Lone h' (MakingRoom work)
 room_kept h h' work same lone = (roots_kept h h' same lone.0, lone.1)
 

@@ -1,5 +1,6 @@
 -- A push or a pop with no step of others in its midst never loses each of its tries.
-use Rattle.std.proofs.Common.{◌≡◌, ◌≢◌, ℕ, ◌==◌, Bool, true, false, List, [], ◌∷◌, ◌++◌, Option, Some, None, inl, inr, refl}
+use Rattle.std.proofs.Common.{◌≡◌, ◌≢◌, ℕ, ◌==◌, Bool, true, false, List, [], ◌∷◌, ◌++◌, Option, Some, None, inl, inr}
+use Rattle.std.proofs.Common.{refl}
 use Rattle.std.proofs.Common.{ap, sym, subst, ◌∙◌, if◌then◌else◌}
 use Rattle.epoch_cells.specs.PlainCells.{removal_of}
 use Rattle.epoch_cells.specs.declared.cells.Removal.TheVariants.{Destroyed, HeldElsewhere}
@@ -19,7 +20,8 @@ use Rattle.epoch_laws.specs.declared.step.Reply.{Reply}
 use Rattle.epoch_laws.specs.declared.step.Reply.TheVariants.{Done, Refused}
 use Rattle.epoch_laws.specs.declared.step.Step.{Step}
 use Rattle.epoch_laws.specs.declared.step.Step.TheVariants.{Begin, Go}
-use Rattle.epoch_laws.specs.Run.{WorldSeat, State, seat_of, with_places, begun_seat, refusal, access_reply, accessed_seat}
+use Rattle.epoch_laws.specs.Run.{WorldSeat, State, seat_of, with_places, begun_seat, refusal, access_reply}
+use Rattle.epoch_laws.specs.Run.{accessed_seat}
 use Rattle.epoch_laws.specs.Run.{BeginsCall, DoesGo, Moves, TakesStep}
 use Rattle.epoch_laws.proofs.SeatLemmas.{seat_there, begin_given}
 use Rattle.epoch_plan_served.specs.Served.{AnswersDeed, AsksReady, IsExpected, ServesAt, ServesPlan, ThenAlso}
@@ -30,7 +32,8 @@ use Rattle.epoch_plan_served.proofs.RunsServed.{Keeps, keeps_none, keeps_some, n
 use Rattle.epoch_plans.specs.declared.plan.Plan.{Plan}
 use Rattle.epoch_plans.specs.declared.plan.Plan.TheVariants.{NoPlan, Under}
 use Rattle.epoch_plans.specs.Plans.{Deed, Flushes, Touches, Defers, Answers, AllPlans, IsOver, KeepsPlans, Replans}
-use Rattle.epoch_plans.specs.Plans.{PlanEvent, Asked, Declined, Answered, Makes, Follows, asks, declines, answers, passes}
+use Rattle.epoch_plans.specs.Plans.{PlanEvent, Asked, Declined, Answered, Makes, Follows, asks, declines, answers}
+use Rattle.epoch_plans.specs.Plans.{passes}
 use Rattle.epoch_plans.specs.Plans.{free_begins, free_goes, begins, goes, made_at, WorldThen, call_by, after_by}
 use Rattle.epoch_plans.specs.Plans.{plan_begun, plan_gone, ptr_to}
 use Rattle.epoch_plans.proofs.Custody.{IsAccessing, IsBegun, Tied}
@@ -50,7 +53,8 @@ use Rattle.epoch_queue_laws.proofs.QueueKept.{structure, fits}
 use Rattle.epoch_queue_laws.proofs.QueueTouches.{queue_obeys}
 use Rattle.epoch_queue_served.specs.QueueServed.{IsUsualQueue, AllAskReady}
 use Rattle.epoch_queue_served.specs.Lone.{AllOwn, AnswersOut, HasTries, IsBuilt, IsOut, IsOwn, NeverOut}
-use Rattle.epoch_queue_served.proofs.LonePhases.{HasEnds, Lone, has_ends, lone_refused, lone_start, lone_touch, room_kept}
+use Rattle.epoch_queue_served.proofs.LonePhases.{HasEnds, Lone, has_ends, lone_refused, lone_start, lone_touch}
+use Rattle.epoch_queue_served.proofs.LonePhases.{room_kept}
 use Rattle.epoch_queue_served.proofs.QueueServes.{knowledge, new_keeps, queue_serves}
 use Rattle.epoch_reach_laws.specs.Reach.{Past, past_after, no_past}
 use Rattle.epoch_reach_laws.proofs.HeapSteps.{HeapGoes, heap_goes}
@@ -230,7 +234,8 @@ module _ (past past' : Past) (old new : State) (plans plans' : AllPlans Phase) (
           (defer_lone old.heap new.heap g phase deferred failed n is
           (lone_at (Driven (DeferDestroy (Some g) (ptr_to n))) now))
 
-      module _ (a : Access) (tells : Answer → Phase) (failed : Phase) (is : deed_of g phase ≡ Touches a tells failed) where
+      module _ (a : Access) (tells : Answer → Phase) (failed : Phase)
+          (is : deed_of g phase ≡ Touches a tells failed) where
         taken : (seat_of old p).word ≢ Free
         taken = (subst (λ (d : Deed Phase QueueAnswer). IsBegun (call_by g d) (seat_of old p)) is tied).0
 
@@ -321,7 +326,8 @@ module _ (past past' : Past) (old new : State) (plans plans' : AllPlans Phase) (
       where
         by_refusal : (f : Option Fault)
             → refusal (call_by g (deed_of g phase)) (seat_of old p) old.tickets old.heap ≡ f
-            → BeginsCall old p (call_by g (deed_of g phase)) f x.reply aside → LoneOf new.heap (plans' p) (seat_of new p)
+            → BeginsCall old p (call_by g (deed_of g phase)) f x.reply aside → LoneOf new.heap (plans' p)
+            (seat_of new p)
         by_refusal (Some f) why d =
             let step = begin_refused old aside x.reply p (call_by g (deed_of g phase)) f d in
             to_plan (Under g (after_by phase (deed_of g phase) (Refused f)) false)
@@ -334,7 +340,8 @@ module _ (past past' : Past) (old new : State) (plans plans' : AllPlans Phase) (
             let a_so = alone old aside _ p (begun_seat (call_by g (deed_of g phase)) (seat_of old p))
             (seat_there old p taken) step.1 refl refl in
             let was = subst (λ (l : Plan Phase). SteadyOf past old.heap p l (seat_of old p)) at (keeps.steady p) in
-            let begun = begun_at queue knowledge g phase (seat_of old p) (deed_of g phase) refl call (fits g phase) was.1
+            let begun = begun_at queue knowledge g phase (seat_of old p) (deed_of g phase) refl call (fits g phase)
+            was.1
             (λ n deferred failed is. (duty_of queue structure knowledge Starts queue_serves g phase
             (Defers n deferred failed) is).room) in
             to_plan (Under g phase true) (sets.0 ∙ ap (plan_begun g phase (deed_of g phase)) step.0)
@@ -435,7 +442,8 @@ answer_lone world plans plans' p q answer who follows lone = by_kind follows
         let said : other ≡ answer = cc (is) in
         let at : plans p ≡ Under g phase false = subst (λ (k : ℕ). plans k ≡ Under g phase false) actor under in (
           subst (λ (b : QueueAnswer). ¬ (IsOut b)) said
-              (answers_at g phase other over (subst (λ (l : Plan Phase). LoneOf world.heap l (seat_of world p)) at lone)),
+              (answers_at g phase other over (subst (λ (l : Plan Phase). LoneOf world.heap l (seat_of world p)) at
+              lone)),
           subst (λ (l : Plan Phase). LoneOf world.heap l (seat_of world p))
               (sym (subst (λ (k : ℕ). plans' k ≡ NoPlan) actor sets.0)) tt,
         )
@@ -512,7 +520,8 @@ pub no_lone_queue_call_runs_out_of_tries : (world world' world'' : State) (plans
     → (lone : QueueRuns world' plans' (Asked p g (begin_work work has_room) ∷ steps) world'' plans'')
     → AllAskReady world' plans' (Asked p g (begin_work work has_room) ∷ steps) world'' plans'' lone → AllOwn p steps
     → NeverOut steps
-no_lone_queue_call_runs_out_of_tries world world' world'' plans plans' plans'' earlier steps p g work has_room usual run ready
+no_lone_queue_call_runs_out_of_tries world world' world'' plans plans' plans'' earlier steps p g work has_room usual run
+    ready
     (t, tail) tries lone able own =
     let ends = (runs_served queue structure Starts queue_obeys knowledge queue_serves no_past world plans earlier world'
     plans' [] (new_keeps world plans usual) run ready).1 in

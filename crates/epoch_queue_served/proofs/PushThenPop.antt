@@ -18,14 +18,16 @@ use Rattle.epoch_machine.specs.declared.machine.Action.{Action}
 use Rattle.epoch_machine.specs.declared.machine.Action.TheVariants.{Pin as PinAction, Defer as DeferAction}
 use Rattle.epoch_machine.specs.declared.machine.Stage.{Stage}
 use Rattle.epoch_machine.specs.declared.machine.Stage.TheVariants.{Idle as Resting, LoadPin, StorePin, ReloadPin}
-use Rattle.epoch_machine.specs.declared.machine.Stage.TheVariants.{LoadScan, Scan, Advance, Take as TakeStage, Keep, End}
+use Rattle.epoch_machine.specs.declared.machine.Stage.TheVariants.{LoadScan, Scan, Advance, Take as TakeStage, Keep}
+use Rattle.epoch_machine.specs.declared.machine.Stage.TheVariants.{End}
 use Rattle.epoch_laws.specs.declared.step.Call.TheVariants.{Pin, DeferDestroy}
 use Rattle.epoch_laws.specs.declared.step.Deferral.{Deferral}
 use Rattle.epoch_laws.specs.declared.step.Entry.{Entry}
 use Rattle.epoch_laws.specs.declared.step.Progress.{Progress}
 use Rattle.epoch_laws.specs.declared.step.Progress.TheVariants.{Idle, Driven, Accesses, Ends}
 use Rattle.epoch_laws.specs.declared.step.Reply.{Reply}
-use Rattle.epoch_laws.specs.declared.step.Reply.TheVariants.{Registered, Began, Stepped, Pinned as PinnedReply, Deferred}
+use Rattle.epoch_laws.specs.declared.step.Reply.TheVariants.{Registered, Began, Stepped, Pinned as PinnedReply}
+use Rattle.epoch_laws.specs.declared.step.Reply.TheVariants.{Deferred}
 use Rattle.epoch_laws.specs.declared.step.Reply.TheVariants.{Done}
 use Rattle.epoch_laws.specs.declared.step.Step.{Step}
 use Rattle.epoch_laws.specs.declared.step.Step.TheVariants.{Register, Begin, Go}
@@ -35,7 +37,8 @@ use Rattle.epoch_laws.specs.Run.{WorldSeat, State, seat_of, free_seat, IsFresh, 
 use Rattle.epoch_plans.specs.declared.plan.Plan.{Plan}
 use Rattle.epoch_plans.specs.declared.plan.Plan.TheVariants.{NoPlan, Under}
 use Rattle.epoch_plans.specs.Plans.{AllPlans, Asked, Answered, Makes, Replans, Follows, asks, free_begins}
-use Rattle.epoch_plans.specs.Plans.{free_goes, passes, begins, goes, answers as answers_plan, IsOver, call_by, done_by, ptr_to}
+use Rattle.epoch_plans.specs.Plans.{free_goes, passes, begins, goes, answers as answers_plan, IsOver, call_by, done_by}
+use Rattle.epoch_plans.specs.Plans.{ptr_to}
 use Rattle.epoch_plan_served.specs.Served.{HasRoom, IsReady}
 use Rattle.epoch_queue_laws.specs.declared.plan.QueueAnswer.{QueueAnswer}
 use Rattle.epoch_queue_laws.specs.declared.plan.QueueAnswer.TheVariants.{Built, Pushed, Popped, Empty}
@@ -221,7 +224,8 @@ by_access action held tickets phase a answer h h' rs rs' call begin step rest =
     rest))
 
 -- with an answer, and with a call that is asked for
-abbrev answering : {old : State} (answer : QueueAnswer) → ToLast old NoPlan → ToLast old (Under 0 (Answering answer) false)
+abbrev answering : {old : State} (answer : QueueAnswer) → ToLast old NoPlan → ToLast old
+    (Under 0 (Answering answer) false)
 answering answer rest = (
   Answered 0 answer ∷ rest.0,
   (
@@ -278,8 +282,10 @@ by_pin rest =
     (inr (taken_pinned, (refl, refl)), ((refl, refl), λ q ne. refl, λ alone expired. refl, tt))
     (pinning_on (world (pinning (Pinned 0) End 1) 1) (Stepped)
     (inr (taken_pinned, (NoBag, [], [], refl, refl, refl)), ((refl, refl), λ q ne. refl, none_ahead, tt))
-    (pinning_on (pinned none_placed) (Done (Guard 0))
-    (inr (taken_pinned, (ap (λ (g : ℕ). Done (Guard g)) (sym lowest_none), ap first_guard (sym lowest_none))), ((refl, refl), λ q ne. refl, tt, tt))
+    (pinning_on (pinned none_placed) (Done (Guard 0)) (
+      inr (taken_pinned, (ap (λ (g : ℕ). Done (Guard g)) (sym lowest_none), ap first_guard (sym lowest_none))),
+      ((refl, refl), λ q ne. refl, tt, tt),
+    )
     rest))))))))))
 
 -- it builds the queue
@@ -288,7 +294,15 @@ by_build rest =
     (asking (Founding) refl tt (is_ready PinAction [] 0 none_placed) (λ e. absurd (omega (arith, e)))
     (by_access PinAction [] 0 (Founding) (Place 0) (NameAnswer first_node)
     none_placed founded_heap [] [] (λ o. o) ((refl, refl), (refl, refl, refl, refl)) (
-      inr (taken_pinned, (answers (NameAnswer first_node) founded_heap, inl ((refl, omega arith), first_node, refl, refl, refl), refl, refl)),
+      inr (
+        taken_pinned,
+        (
+          answers (NameAnswer first_node) founded_heap,
+          inl ((refl, omega arith), first_node, refl, refl, refl),
+          refl,
+          refl,
+        ),
+      ),
       ((refl, refl), λ q ne. refl, tt, tt),
     )
     (by_access PinAction [] 0 (Crowning first_node) (exchange 0 (Root 0) null first_node) (Exchanged to_first)
@@ -309,17 +323,31 @@ abbrev by_place : ToLast (pinned placed_heap) (Under 0 (LoadingTail second_node 
     → ToLast (pinned built_heap) NoPlan
 by_place rest =
     (asking (Placing 7 1) refl tt (is_ready PinAction [] 0 built_heap) (λ e. absurd (omega (arith, e)))
-    (begun (Placing 7 1) (holds PinAction [] 0 (Accesses (Place 7) 0 null) built_heap []) (λ o. o) ((refl, refl), (refl, refl, refl, refl))
-    (steps (Placing 7 1) (Under 0 (Placing 7 1) true) (holds PinAction [] 0 (Accesses (Place 7) 1 null) built_heap []) Stepped
-    (inr (taken_pinned, (touched (Again null) built_heap, inr (is_used, refl), refl, refl)), ((refl, refl), λ q ne. refl, tt, tt))
-    (λ set. goes (entry (Go 0) Stepped) 0 0 (Placing 7 1) refl refl refl set)
-    (steps (Placing 7 1) (Under 0 (Placing 7 1) true) (holds PinAction [] 0 (Ends (Done (NameAnswer second_node))) placed_heap [])
+    (begun (Placing 7 1) (holds PinAction [] 0 (Accesses (Place 7) 0 null) built_heap []) (λ o. o)
+    ((refl, refl), (refl, refl, refl, refl))
+    (steps (Placing 7 1) (Under 0 (Placing 7 1) true) (holds PinAction [] 0 (Accesses (Place 7) 1 null) built_heap [])
     Stepped (
-      inr (taken_pinned, (answers (NameAnswer second_node) placed_heap, inl ((refl, omega arith), second_node, refl, refl, refl), refl, refl)),
+      inr (taken_pinned, (touched (Again null) built_heap, inr (is_used, refl), refl, refl)),
       ((refl, refl), λ q ne. refl, tt, tt),
     )
     (λ set. goes (entry (Go 0) Stepped) 0 0 (Placing 7 1) refl refl refl set)
-    (steps (Placing 7 1) (Under 0 (LoadingTail second_node 0) false) (pinned placed_heap) (Done (NameAnswer second_node))
+    (steps (Placing 7 1) (Under 0 (Placing 7 1) true)
+    (holds PinAction [] 0 (Ends (Done (NameAnswer second_node))) placed_heap [])
+    Stepped (
+      inr (
+        taken_pinned,
+        (
+          answers (NameAnswer second_node) placed_heap,
+          inl ((refl, omega arith), second_node, refl, refl, refl),
+          refl,
+          refl,
+        ),
+      ),
+      ((refl, refl), λ q ne. refl, tt, tt),
+    )
+    (λ set. goes (entry (Go 0) Stepped) 0 0 (Placing 7 1) refl refl refl set)
+    (steps (Placing 7 1) (Under 0 (LoadingTail second_node 0) false) (pinned placed_heap)
+    (Done (NameAnswer second_node))
     (inr (taken_pinned, (refl, refl)), ((refl, refl), λ q ne. refl, tt, tt))
     (λ set. goes (entry (Go 0) (Done (NameAnswer second_node))) 0 0 (Placing 7 1) refl refl refl set)
     rest)))))
@@ -338,12 +366,14 @@ by_append rest =
       inr (taken_pinned, (answers (Pointer null) placed_heap, refl, refl, refl)),
       ((refl, refl), λ q ne. refl, tt, tt),
     )
-    (by_access PinAction [] 0 (Appending second_node first_node 0) (exchange 0 (Field first_node 0) null second_node) (Exchanged to_second)
+    (by_access PinAction [] 0 (Appending second_node first_node 0) (exchange 0 (Field first_node 0) null second_node)
+    (Exchanged to_second)
     placed_heap appended_heap [] [] (λ o. o) ((refl, refl), (refl, refl, refl, refl)) (
       inr (taken_pinned, (answers (Exchanged to_second) appended_heap, inl (refl, refl), refl, refl)),
       ((refl, refl), λ q ne. refl, tt, tt),
     )
-    (by_access PinAction [] 0 (Swinging first_node second_node) (exchange 0 (Root 1) to_first second_node) (Exchanged to_second)
+    (by_access PinAction [] 0 (Swinging first_node second_node) (exchange 0 (Root 1) to_first second_node)
+    (Exchanged to_second)
     appended_heap pushed_heap [] [] (λ o. o) ((refl, refl), (refl, refl, refl, refl)) (
       inr (taken_pinned, (answers (Exchanged to_second) pushed_heap, inl (refl, refl), refl, refl)),
       ((refl, refl), λ q ne. refl, tt, tt),
@@ -386,7 +416,8 @@ deferring stage held tickets = lone_world tickets (seat (Pinned 0) (lone_machine
 abbrev by_take : ToLast (popped taken_heap) NoPlan
     → ToLast (pinned pushed_heap) (Under 0 (Taking first_node second_node 7 0) false)
 by_take rest =
-    (by_access PinAction [] 0 (Taking first_node second_node 7 0) (exchange 0 (Root 0) to_first second_node) (Exchanged to_second)
+    (by_access PinAction [] 0 (Taking first_node second_node 7 0) (exchange 0 (Root 0) to_first second_node)
+    (Exchanged to_second)
     pushed_heap taken_heap [] [] (λ o. o) ((refl, refl), (refl, refl, refl, refl)) (
       inr (taken_pinned, (answers (Exchanged to_second) taken_heap, inl (refl, refl), refl, refl)),
       ((refl, refl), λ q ne. refl, tt, tt),

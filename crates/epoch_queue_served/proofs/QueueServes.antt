@@ -1,5 +1,6 @@
 -- A queue's phases know what their calls are made on, so that each is replied to as expected.
-use Rattle.std.proofs.Common.{◌≡◌, ℕ, zero, suc, ◌<◌, ◌&&◌, ◌||◌, nat_lt, Bool, true, false, List, [], ◌∷◌, length, Option}
+use Rattle.std.proofs.Common.{◌≡◌, ℕ, zero, suc, ◌<◌, ◌&&◌, ◌||◌, nat_lt, Bool, true, false, List, [], ◌∷◌, length}
+use Rattle.std.proofs.Common.{Option}
 use Rattle.std.proofs.Common.{Some, None, ◌⊎◌, inl, inr, refl, ap, sym, subst, ◌∙◌, arith, if◌then◌else◌}
 use Rattle.std.proofs.lemmas.Bool.Decides.{nat_tests}
 use Rattle.std.proofs.lemmas.Option.{slice_get_within}
@@ -34,8 +35,10 @@ use Rattle.epoch_queue_laws.specs.declared.plan.Phase.TheVariants.{LoadingTail, 
 use Rattle.epoch_queue_laws.specs.declared.plan.Phase.TheVariants.{Helping, TakingBack, LoadingHead, LoadingNext}
 use Rattle.epoch_queue_laws.specs.declared.plan.Phase.TheVariants.{Reading, Leaving, Taking, LookingBack, Advancing}
 use Rattle.epoch_queue_laws.specs.declared.plan.Phase.TheVariants.{Removing, Answering}
-use Rattle.epoch_queue_laws.specs.Queue.{deed_of, exchange, load, names, queue, retry_push, retry_pop, start_work, Starts}
-use Rattle.epoch_queue_laws.specs.Queue.{founded, crowned, placed, tail_loaded, last_loaded, appended, head_loaded, next_loaded, read, taken}
+use Rattle.epoch_queue_laws.specs.Queue.{deed_of, exchange, load, names, queue, retry_push, retry_pop, start_work}
+use Rattle.epoch_queue_laws.specs.Queue.{Starts}
+use Rattle.epoch_queue_laws.specs.Queue.{founded, crowned, placed, tail_loaded, last_loaded, appended, head_loaded}
+use Rattle.epoch_queue_laws.specs.Queue.{next_loaded, read, taken}
 use Rattle.epoch_queue_laws.specs.Queue.{looked_back, to_append, to_last, to_next, to_read, QueueLog, QueueRuns}
 use Rattle.epoch_queue_laws.proofs.QueueKept.{Shape, structure}
 use Rattle.epoch_queue_laws.proofs.QueueRuns.{new_sound}
@@ -154,7 +157,8 @@ module _ (g : ℕ) (phase : Phase) (unread : reads_at phase ≡ []) where
   }
 
   -- the phase after an answer knows nothing
-  blank : (a : Access) (answer : Answer) (next : Phase) → ((x : Name) → ¬ (Names next x)) → ((x : Name) → ¬ (Loads next x))
+  blank : (a : Access) (answer : Answer) (next : Phase) → ((x : Name) → ¬ (Names next x))
+      → ((x : Name) → ¬ (Loads next x))
       → ¬ (Roomy next) → reads_at next ≡ readings_after a (Told answer) (reads_at phase)
       → Learns queue structure knowledge g phase a answer next
   blank a answer next none unloaded poor reads = record {
@@ -479,6 +483,7 @@ begins (LoadingHead k) is = (λ n k. k, λ n l. l, refl)
 begins (Answering a) is = (λ n k. k, λ n l. l, refl)
 begins _ is = absurd is
 
+-- each phase of a queue shows that its call will be replied to as expected
 pub queue_serves : Serves queue structure knowledge Starts
 queue_serves = record { starts = begins; duties = duties }
 
@@ -495,6 +500,7 @@ new_keeps world plans usual = record {
       (sym (usual.new.no_plans p)) (ap (λ (st : WorldSeat). st.readings) (usual.new.fresh.free p));
 }
 
+-- and so each call of each run is
 pub every_queue_call_is_served : (world world' : State) (plans plans' : AllPlans Phase) (log : QueueLog)
     → IsUsualQueue world plans → (run : QueueRuns world plans log world' plans')
     → AllAskReady world plans log world' plans' run → AllServed world plans log world' plans' run

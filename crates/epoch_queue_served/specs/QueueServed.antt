@@ -16,12 +16,14 @@ pub record IsUsualQueue (world : State) (plans : AllPlans Phase) : Type 0 where
 -- each call is asked for by a participant that is ready, and begins with a flush or has room in the held bag
 abbrev pub AllAskReady : (world : State) (plans : AllPlans Phase) (log : QueueLog) (world' : State)
     (plans' : AllPlans Phase) → QueueRuns world plans log world' plans' → Type 0
-AllAskReady world plans log world' plans' run = AtEachStep queue Starts (AsksReady queue) world plans log world' plans' run
+AllAskReady world plans log world' plans' run =
+    AtEachStep queue Starts (AsksReady queue) world plans log world' plans' run
 
 -- each step of a phase's call is replied to as expected
 abbrev pub AllServed : (world : State) (plans : AllPlans Phase) (log : QueueLog) (world' : State)
     (plans' : AllPlans Phase) → QueueRuns world plans log world' plans' → Type 0
-AllServed world plans log world' plans' run = AtEachStep queue Starts (ServesStep queue) world plans log world' plans' run
+AllServed world plans log world' plans' run =
+    AtEachStep queue Starts (ServesStep queue) world plans log world' plans' run
 
 -- what a run's calls answer, in the order of their answers
 abbrev pub also_answer : PlanEvent Phase QueueAnswer → List QueueAnswer → List QueueAnswer

@@ -10,10 +10,10 @@ ghost use Rattle.epoch_queue_served.specs.QueueServed.{IsUsualQueue, AllAskReady
 ghost use Rattle.epoch_queue_served.specs.QueueServed.{answers_in};
 ghost use Rattle.epoch_queue_served.specs.Lone.{AllOwn, HasTries, IsBuilt, NeverOut};
 
-/// Each call of the world that a phase makes is replied to as expected: none is refused for a guard, a name, a place or a
-/// reading, and none finds nothing there, so that no access answers `Absent`. A flush that makes room may be refused
-/// `BagsFull`, a placing `CellsFull`, and a removal `TicketsOut`, but never for want of room. So a push or a pop answers
-/// `BagsFull` and `CellsFull` only where the world has refused that.
+/// Each call of the world that a phase makes is replied to as expected: none is refused for a guard, a name, a place or
+/// a reading, and none finds nothing there, so that no access answers `Absent`. A flush that makes room may be refused
+/// `BagsFull`, a placing `CellsFull`, and a removal `TicketsOut`, but never for want of room. So a push or a pop
+/// answers `BagsFull` and `CellsFull` only where the world has refused that.
 ///
 /// This is of calls that are asked for by a participant that is registered and not paused, under a guard that is out,
 /// and that begin with a flush where the held bag has no room. A world of the queue asks for no others.

@@ -17,7 +17,8 @@ use Rattle.epoch_laws.specs.declared.step.Step.{Step}
 use Rattle.epoch_laws.specs.declared.step.Step.TheVariants.{Go}
 use Rattle.epoch_reach_laws.specs.Given.{GivesName, given_after}
 use Rattle.epoch_heap.specs.Heap.{Heap, outcome_of, heap_after_job}
-use Rattle.epoch_reach_laws.specs.Reach.{Past, CallsRemoval, TakesOut, RemovesNow, past_after, no_past, past_from, past_of}
+use Rattle.epoch_reach_laws.specs.Reach.{Past, CallsRemoval, TakesOut, RemovesNow, past_after, no_past, past_from}
+use Rattle.epoch_reach_laws.specs.Reach.{past_of}
 use Rattle.epoch_laws.specs.Run.{State, seat_of, with_places, progress_after, Moves, TakesStep, Runs, IsFresh}
 use Rattle.epoch_reach_laws.specs.Standing.{IsInHeap, given_from, given_of, StandsOrDestroyed}
 use Rattle.epoch_laws.proofs.SeatLinks.{AllLinked}
@@ -25,7 +26,8 @@ use Rattle.epoch_laws.proofs.Linked.{step_linked, fresh_linked}
 use Rattle.epoch_reach_laws.proofs.HeapSteps.{MakesAccess, HeapGoes, heap_goes, access_goes, now_goes}
 use Rattle.epoch_reach_laws.proofs.TurnsGiven.{IsGiven}
 use Rattle.epoch_reach_laws.proofs.NamesOnce.{stays_given, gives_new}
-use Rattle.epoch_reach_laws.proofs.CellsStand.{job_changes, TakesValue, Empties, touch_changes, place_stands, stands_given}
+use Rattle.epoch_reach_laws.proofs.CellsStand.{job_changes, TakesValue, Empties, touch_changes, place_stands}
+use Rattle.epoch_reach_laws.proofs.CellsStand.{stands_given}
 use Rattle.epoch_reach_laws.proofs.JobsAsDeferred.{JobsGo, CallsOne, JobsHold, jobs_push, fresh_jobs, step_jobs}
 
 -- the value that a Take is told

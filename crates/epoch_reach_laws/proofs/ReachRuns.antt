@@ -4,7 +4,8 @@ use Rattle.epoch_cells.specs.declared.cells.name.Name.{Name}
 use Rattle.epoch_laws.specs.declared.step.Entry.{Entry}
 use Rattle.epoch_heap.specs.declared.access.Ptr.{Ptr}
 use Rattle.epoch_heap.specs.Heap.{null}
-use Rattle.epoch_reach_laws.specs.Reach.{IsReachable, from_root, from_field, Past, past_after, no_past, past_from, past_of}
+use Rattle.epoch_reach_laws.specs.Reach.{IsReachable, from_root, from_field, Past, past_after, no_past, past_from}
+use Rattle.epoch_reach_laws.specs.Reach.{past_of}
 use Rattle.epoch_reach_laws.specs.Reach.{LeavesFrom, LeavesOnce, KeepsLoaded}
 use Rattle.epoch_laws.specs.Run.{WorldSeat, State, Runs, IsFresh}
 use Rattle.epoch_laws.proofs.SeatLinks.{AllLinked}

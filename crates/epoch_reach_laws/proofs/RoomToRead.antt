@@ -16,7 +16,8 @@ use Rattle.epoch_laws.specs.declared.step.Progress.{Progress}
 use Rattle.epoch_laws.proofs.SeatLemmas.{seat_past}
 use Rattle.epoch_laws.specs.Readings.{times_read, readers_in, ReadingFits, KeepsReadings, ReadsNext, HasCellsToRead}
 use Rattle.epoch_reach_laws.proofs.Names.{name_same}
-use Rattle.epoch_reach_laws.proofs.ReadersCounted.{name_self, one, times_cons, readers_at, FoundAt, found_at, reads_counted}
+use Rattle.epoch_reach_laws.proofs.ReadersCounted.{name_self, one, times_cons, readers_at, FoundAt, found_at}
+use Rattle.epoch_reach_laws.proofs.ReadersCounted.{reads_counted}
 use Rattle.epoch_reach_laws.proofs.ReadingsKept.{reader_counted}
 
 -- the slot of a name, counted from 0

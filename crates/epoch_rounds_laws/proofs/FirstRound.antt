@@ -50,7 +50,8 @@ use Rattle.epoch_laws.proofs.WorldHolds.{Holds}
 use Rattle.epoch_laws.proofs.SizesStay.{sizes_stay}
 use Rattle.epoch_laws.proofs.StoredBags.{SealedBy, sealed_by, sealed_more, none_left}
 use Rattle.epoch_rounds_laws.proofs.QuietCalls.{Plan, IsNext, Known, IsStill, IsUnderWay, Rests}
-use Rattle.epoch_rounds_laws.proofs.QuietRounds.{runs_split, called_append, begun_by, goes_to_end, pins, Pinning, unpins}
+use Rattle.epoch_rounds_laws.proofs.QuietRounds.{runs_split, called_append, begun_by, goes_to_end, pins, Pinning}
+use Rattle.epoch_rounds_laws.proofs.QuietRounds.{unpins}
 use Rattle.epoch_rounds_laws.proofs.QuietRounds.{round, rounds}
 
 -- after the load that begins the scan

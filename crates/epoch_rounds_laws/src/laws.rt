@@ -10,7 +10,8 @@ ghost use Rattle.epoch_laws.specs.declared.step.Reply.TheVariants.{Refused};
 ghost use Rattle.epoch_laws.specs.Run.{State, HasFreePlace, IsFresh, Runs};
 ghost use Rattle.epoch_rounds_laws.specs.Collected.{CollectsFew};
 ghost use Rattle.epoch_rounds_laws.specs.Sharp.{pair_sizes, EndsIn, EndsCall, TakesSharpList, IsSharp};
-ghost use Rattle.epoch_rounds_laws.specs.Rounds.{IsQuiet, IsFirstRound, AreRounds, CallsAll, RoundsCallAll, collections};
+ghost use Rattle.epoch_rounds_laws.specs.Rounds.{IsQuiet, IsFirstRound, AreRounds, CallsAll, RoundsCallAll};
+ghost use Rattle.epoch_rounds_laws.specs.Rounds.{collections};
 
 /// Rounds of one participant, while no other one is pinned or at work, call every job that is in the store when the
 /// flush of the first round has put its own bag. It takes that round, one more, and one for each collection that the
