@@ -136,21 +136,16 @@ leaking_done MovesOut = refl
 leaking_done answer = refl
 
 refusal_done : (g : ℕ) (phase : Phase) → deed_done (refused_by phase (deed_of g phase)) ≡ deed_done phase
-refusal_done g (MakingRoom work) = refl
-refusal_done g (Placing b e k) = refl
 refusal_done g (LoadingFirst aim k) = again_done aim k
 refusal_done g (Reading aim link c k) = again_done aim k
 refusal_done g (Leaving aim link c v k) = again_done aim k
 refusal_done g (LoadingNext aim link c v k) = again_done aim k
 refusal_done g (Unlinking aim link c next k) = again_done aim k
-refusal_done g (Burying aim c k) = refl
 refusal_done g (Linking b e own link next k) = again_done (ToInsert b e own) k
 refusal_done g (Inserting b e own link next k) = again_done (ToInsert b e own) k
 refusal_done g (Marking b key link c v next k) = again_done (ToRemove b key) k
-refusal_done g (Dropping b key link c v next) = refl
-refusal_done g (Removing c v) = refl
 refusal_done g (TakingBack own answer) = leaking_done answer
-refusal_done g (Answering answer) = refl
+refusal_done g _ = refl
 
 -- each reply passes on what was done
 pub deed_passed_on : (g : ℕ) (phase : Phase) (r : Reply)

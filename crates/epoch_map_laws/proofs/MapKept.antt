@@ -403,8 +403,6 @@ once_more a aim (suc k) mine owns = record { stands = λ past h xs shape s. mine
 -- what a phase knows when its call is refused is no more than before
 pub refused : (g : ℕ) (phase : Phase) (f : Fault)
     → Weaker map structure phase (after_by phase (deed_of g phase) (Refused f))
-refused g (MakingRoom work) f = weaker_none _ _ (λ past h xs. tt) (λ n o. o)
-refused g (Placing b e k) f = weaker_none _ _ (λ past h xs. tt) (λ n o. o)
 refused g (LoadingFirst aim k) f = once_more (LoadingFirst aim k) aim k (λ past h xs s. s) (λ n o. o)
 refused g (Reading aim link c k) f = once_more (Reading aim link c k) aim k (λ past h xs s. s.0.0) (λ n o. o)
 refused g (Leaving aim link c v k) f = once_more (Leaving aim link c v k) aim k (λ past h xs s. s.0.0) (λ n o. o)
@@ -412,17 +410,14 @@ refused g (LoadingNext aim link c v k) f =
     once_more (LoadingNext aim link c v k) aim k (λ past h xs s. s.0.0) (λ n o. o)
 refused g (Unlinking aim link c next k) f =
     once_more (Unlinking aim link c next k) aim k (λ past h xs s. s.0.0) (λ n o. o)
-refused g (Burying aim c k) f = weaker_none _ _ (λ past h xs. tt) (λ n o. o)
 refused g (Linking b e own link next k) f =
     once_more (Linking b e own link next k) (ToInsert b e own) k (λ past h xs s. s.0) (λ n o. o)
 refused g (Inserting b e own link next k) f =
     once_more (Inserting b e own link next k) (ToInsert b e own) k (λ past h xs s. s.0) (λ n o. o)
 refused g (Marking b key link c v next k) f =
     once_more (Marking b key link c v next k) (ToRemove b key) k (λ past h xs s. tt) (λ n o. o)
-refused g (Dropping b key link c v next) f = weaker_none _ _ (λ past h xs. tt) (λ n o. o)
-refused g (Removing c v) f = weaker_none _ _ (λ past h xs. tt) (λ n o. o)
-refused g (TakingBack own answer) f = weaker_none _ _ (λ past h xs. tt) (λ n o. o)
 refused g (Answering a) f = record { stands = λ past h xs shape s. s; owns = λ n o. o }
+refused g _ f = weaker_none _ _ (λ past h xs. tt) (λ n o. o)
 
 begins : (a : Phase) (work : Work) → Weaker map structure a (start_work work)
 begins a (Insert b e k) = weaker_none a (Placing b e k) (λ past h xs. tt) (λ n o. o)
@@ -522,15 +517,4 @@ defers g (TakingBack own answer) next failed n is =
     subst (λ (f : Phase). HandsOver map structure (TakingBack own answer) f n) ends
     (subst (λ (x : Name). HandsOver map structure (TakingBack own answer) (Answering answer) x) name
     (hands_over (TakingBack own answer) own answer refl (λ past h xs s. s)))
-defers g (MakingRoom work) next failed n is = absurd (cc (is))
-defers g (Placing b e k) next failed n is = absurd (cc (is))
-defers g (LoadingFirst aim k) next failed n is = absurd (cc (is))
-defers g (Reading aim link c k) next failed n is = absurd (cc (is))
-defers g (Leaving aim link c v k) next failed n is = absurd (cc (is))
-defers g (LoadingNext aim link c v k) next failed n is = absurd (cc (is))
-defers g (Unlinking aim link c q k) next failed n is = absurd (cc (is))
-defers g (Linking b e own link q k) next failed n is = absurd (cc (is))
-defers g (Inserting b e own link q k) next failed n is = absurd (cc (is))
-defers g (Marking b key link c v q k) next failed n is = absurd (cc (is))
-defers g (Dropping b key link c v q) next failed n is = absurd (cc (is))
-defers g (Answering a) next failed n is = absurd (cc (is))
+defers g _ next failed n is = absurd (cc (is))

@@ -39,17 +39,11 @@ IsOf step p = (step ≡ Go p) ⊎ ((c : Call) × (step ≡ Begin p c))
 module _ (old new : State) (p : ℕ) (s : Stage) (reply : Reply) (q : ℕ) (told : reply ≡ Repinned q) where
   -- a machine's step that tells of a repin tells of its own participant's
   performs : (ask : Ask) → PerformsAsk old p (seat_of old p) s ask reply new → p ≡ q
-  performs LoadEpoch did = absurd (cc (did.0, told))
-  performs (LoadWord k) did = absurd (cc (did.0, told))
-  performs (StorePinned e) did = absurd (cc (did.0, told))
   performs (StoreRepinned e) did = cc (did.0, told)
-  performs StoreUnpinned did = absurd (cc (did.0, told))
-  performs StoreFree did = absurd (cc (did.0, told))
-  performs (StoreEpoch e) did = absurd (cc (did.0, told))
   performs (PutBag seal) did = absurd (cc (did.2, told))
   performs (TakeBag e) did = absurd (cc (did.3, told))
-  performs KeepJob did = absurd (cc (did.0, told))
   performs CallJob did = absurd (cc (did.3, told))
+  performs _ did = absurd (cc (did.0, told))
 
   drives : (c : Call) (ask : Option Ask) → DrivesCall old p (seat_of old p) c s ask reply new → p ≡ q
   drives c (Some ask) did = performs ask did

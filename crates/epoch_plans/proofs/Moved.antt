@@ -217,23 +217,15 @@ module _ (old new : State) (reply : Reply) (p : ℕ) where
 
     drives : (s : Stage) → DrivesCall old p seat c s (ask_at s) reply new → LooseGo old new reply p
     drives Resting did = over (ended_seat c seat) _ (idle_ended seat c) did.1 refl refl
-    drives LoadPin did = stays _ _ _ refl taken did.0 refl did.1 refl refl
     drives (StorePin e) did = stays _ _ _ refl (λ h. cc (h)) did.0 refl did.1 refl refl
-    drives ReloadPin did = stays _ _ _ refl taken did.0 refl did.1 refl refl
-    drives LoadScan did = stays _ _ _ refl taken did.0 refl did.1 refl refl
-    drives (Scan e k) did = stays _ _ _ refl taken did.0 refl did.1 refl refl
-    drives (Advance e) did = stays _ _ _ refl taken did.0 refl did.1 refl refl
     drives (Take y k) (step, jobs, bags, told, takes, e) = stays _ _ _ refl taken told refl e refl refl
     drives (Calling y k) (job, jobs, hand, told, e) = stays _ _ _ refl taken told refl e refl refl
-    drives LoadSeal did = stays _ _ _ refl taken did.0 refl did.1 refl refl
     drives (Put s) (step, bags, told, puts, e) = stays _ _ _ refl taken told refl e refl refl
-    drives Keep did = stays _ _ _ refl taken did.0 refl did.1 refl refl
-    drives LoadRepin did = stays _ _ _ refl taken did.0 refl did.1 refl refl
     drives (StoreRepin e) did = stays _ _ _ refl (λ h. cc (h)) did.0 refl did.1 refl refl
-    drives ReloadRepin did = stays _ _ _ refl taken did.0 refl did.1 refl refl
     drives StoreUnpinned did = stays _ _ _ refl (λ h. cc (h)) did.0 refl did.1 refl refl
     drives StoreFree did = over (free_seat old.sizes) _ refl did.1 refl refl
     drives End did = over (ended_seat c seat) _ (idle_ended seat c) did.1 refl refl
+    drives _ did = stays _ _ _ refl taken did.0 refl did.1 refl refl
 
   -- a Go in a call that does nothing to cells
   pub go_loose : IsLoose (seat_of old p) → Moves old (Go p) reply new → LooseGo old new reply p

@@ -96,52 +96,33 @@ looked_done h q v (Pointer ptr) = by_test (names ptr.name h)
 looked_done h q v _ = refl
 
 answer_done : (g : ℕ) (phase : Phase) (a : Answer) → deed_done (done_by phase (deed_of g phase) a) ≡ deed_told phase a
-answer_done g (MakingRoom Build) a = refl
-answer_done g (MakingRoom (Push v k)) a = refl
 answer_done g (MakingRoom (Pop k)) a = pop_again k
 answer_done g Founding a = founded_done a
 answer_done g (Crowning n) a = crowned_done n a
-answer_done g (Seating n) a = refl
 answer_done g (Placing v k) a = placed_done k a
 answer_done g (LoadingTail n k) a = tail_done n k a
 answer_done g (LoadingLast n t k) a = last_done n t k a
 answer_done g (Appending n t k) a = appended_done n t k a
-answer_done g (Swinging t n) a = refl
 answer_done g (Helping n t q k) a = push_again n k
-answer_done g (TakingBack n) a = refl
 answer_done g (LoadingHead k) a = head_done k a
 answer_done g (LoadingNext h k) a = next_done h k a
 answer_done g (Reading h q k) a = read_done h q k a
-answer_done g (Leaving h q v k) a = refl
 answer_done g (Taking h q v k) a = taken_done h q v k a
 answer_done g (LookingBack h q v) a = looked_done h q v a
-answer_done g (Advancing h q v) a = refl
-answer_done g (Removing h v) a = refl
-answer_done g (Answering answer) a = refl
+answer_done g _ a = refl
 
 -- A REFUSAL
 
 refusal_done : (g : ℕ) (phase : Phase) → deed_done (refused_by phase (deed_of g phase)) ≡ deed_done phase
-refusal_done g (MakingRoom work) = refl
-refusal_done g Founding = refl
-refusal_done g (Crowning n) = refl
-refusal_done g (Seating n) = refl
-refusal_done g (Placing v k) = refl
 refusal_done g (LoadingTail n k) = push_again n k
 refusal_done g (LoadingLast n t k) = push_again n k
 refusal_done g (Appending n t k) = push_again n k
-refusal_done g (Swinging t n) = refl
 refusal_done g (Helping n t q k) = push_again n k
-refusal_done g (TakingBack n) = refl
 refusal_done g (LoadingHead k) = pop_again k
 refusal_done g (LoadingNext h k) = pop_again k
 refusal_done g (Reading h q k) = pop_again k
-refusal_done g (Leaving h q v k) = refl
 refusal_done g (Taking h q v k) = pop_again k
-refusal_done g (LookingBack h q v) = refl
-refusal_done g (Advancing h q v) = refl
-refusal_done g (Removing h v) = refl
-refusal_done g (Answering answer) = refl
+refusal_done g _ = refl
 
 -- each reply passes on what was done
 pub deed_passed_on : (g : ℕ) (phase : Phase) (r : Reply)

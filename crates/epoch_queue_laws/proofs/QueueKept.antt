@@ -435,22 +435,7 @@ fits g (MakingRoom work) = tt
 fits g (TakingBack n) = tt
 fits g (Removing n v) = tt
 fits g (Answering a) = tt
-fits g Founding = (tt, refl)
-fits g (Crowning n) = (tt, refl)
-fits g (Seating n) = (tt, refl)
-fits g (Placing v k) = (tt, refl)
-fits g (LoadingTail n k) = (tt, refl)
-fits g (LoadingLast n t k) = (tt, refl)
-fits g (Appending n t k) = (tt, refl)
-fits g (Swinging t n) = (tt, refl)
-fits g (Helping n t q k) = (tt, refl)
-fits g (LoadingHead k) = (tt, refl)
-fits g (LoadingNext n k) = (tt, refl)
-fits g (Reading n q k) = (tt, refl)
-fits g (Leaving n q v k) = (tt, refl)
-fits g (Taking n q v k) = (tt, refl)
-fits g (LookingBack n q v) = (tt, refl)
-fits g (Advancing n q v) = (tt, refl)
+fits g _ = (tt, refl)
 
 -- A REMOVAL
 
@@ -497,21 +482,4 @@ defers g (Removing m v) next failed n is =
     (subst (λ (x : Name). HandsOver queue structure (Removing m v) (Answering (Popped v)) x) name
     (hands_over (Removing m v) m (Answering (Popped v)) refl
     (λ past h xs shape s. out_of_reach past h xs shape m s.0.1 s.1) (λ past h xs. tt) (λ x o. o)))
-defers g (MakingRoom work) next failed n is = absurd (cc (is))
-defers g Founding next failed n is = absurd (cc (is))
-defers g (Crowning m) next failed n is = absurd (cc (is))
-defers g (Seating m) next failed n is = absurd (cc (is))
-defers g (Placing v k) next failed n is = absurd (cc (is))
-defers g (LoadingTail m k) next failed n is = absurd (cc (is))
-defers g (LoadingLast m t k) next failed n is = absurd (cc (is))
-defers g (Appending m t k) next failed n is = absurd (cc (is))
-defers g (Swinging t m) next failed n is = absurd (cc (is))
-defers g (Helping m t q k) next failed n is = absurd (cc (is))
-defers g (LoadingHead k) next failed n is = absurd (cc (is))
-defers g (LoadingNext m k) next failed n is = absurd (cc (is))
-defers g (Reading m q k) next failed n is = absurd (cc (is))
-defers g (Leaving m q v k) next failed n is = absurd (cc (is))
-defers g (Taking m q v k) next failed n is = absurd (cc (is))
-defers g (LookingBack m q v) next failed n is = absurd (cc (is))
-defers g (Advancing m q v) next failed n is = absurd (cc (is))
-defers g (Answering a) next failed n is = absurd (cc (is))
+defers g _ next failed n is = absurd (cc (is))

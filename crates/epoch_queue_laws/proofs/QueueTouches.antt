@@ -118,23 +118,7 @@ module _ (past : Past) (h : Heap) (xs : List Name) (settled : Settled past h) (s
   touch_frozen g (LoadingNext n k) j found did e s c y f change call changed r never =
       changed (ap (λ (i : Heap). pointer_at i (Field y f))
       (sym (loads_same (pointer_at h (Field n 0)) (Field n 0) j found did e)))
-  touch_frozen g (MakingRoom work) j found did e s c y f change call changed r never = cc (call)
-  touch_frozen g (TakingBack n) j found did e s c y f change call changed r never = cc (call)
-  touch_frozen g (Removing n v) j found did e s c y f change call changed r never = cc (call)
-  touch_frozen g (Answering a) j found did e s c y f change call changed r never = cc (call)
-  touch_frozen g Founding j found did e s c y f change call changed r never = cc (call)
-  touch_frozen g (Crowning n) j found did e s c y f change call changed r never = cc (call)
-  touch_frozen g (Seating n) j found did e s c y f change call changed r never = cc (call)
-  touch_frozen g (Placing v k) j found did e s c y f change call changed r never = cc (call)
-  touch_frozen g (LoadingTail n k) j found did e s c y f change call changed r never = cc (call)
-  touch_frozen g (Swinging t n) j found did e s c y f change call changed r never = cc (call)
-  touch_frozen g (Helping n t q k) j found did e s c y f change call changed r never = cc (call)
-  touch_frozen g (LoadingHead k) j found did e s c y f change call changed r never = cc (call)
-  touch_frozen g (Reading n q k) j found did e s c y f change call changed r never = cc (call)
-  touch_frozen g (Leaving n q v k) j found did e s c y f change call changed r never = cc (call)
-  touch_frozen g (Taking n q v k) j found did e s c y f change call changed r never = cc (call)
-  touch_frozen g (LookingBack n q v) j found did e s c y f change call changed r never = cc (call)
-  touch_frozen g (Advancing n q v) j found did e s c y f change call changed r never = cc (call)
+  touch_frozen g _ j found did e s c y f change call changed r never = cc (call)
 
 -- A QUEUE OBEYS
 

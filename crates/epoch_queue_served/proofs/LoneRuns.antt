@@ -113,25 +113,7 @@ flush_lone h h' g (MakingRoom work) done failed is same lone =
       subst (Lone h') (let e : start_work work ≡ done = cc (is) in e) (lone_start h' work kept),
       subst (Lone h') (let e : Answering BagsFull ≡ failed = cc (is) in e) (λ out. out),
     )
-flush_lone h h' g Founding done failed is same lone = absurd (cc (is))
-flush_lone h h' g (Crowning n) done failed is same lone = absurd (cc (is))
-flush_lone h h' g (Seating n) done failed is same lone = absurd (cc (is))
-flush_lone h h' g (TakingBack n) done failed is same lone = absurd (cc (is))
-flush_lone h h' g (Placing v k) done failed is same lone = absurd (cc (is))
-flush_lone h h' g (LoadingTail n k) done failed is same lone = absurd (cc (is))
-flush_lone h h' g (LoadingLast n t k) done failed is same lone = absurd (cc (is))
-flush_lone h h' g (Appending n t k) done failed is same lone = absurd (cc (is))
-flush_lone h h' g (Swinging t n) done failed is same lone = absurd (cc (is))
-flush_lone h h' g (Helping n t q k) done failed is same lone = absurd (cc (is))
-flush_lone h h' g (LoadingHead k) done failed is same lone = absurd (cc (is))
-flush_lone h h' g (LoadingNext n k) done failed is same lone = absurd (cc (is))
-flush_lone h h' g (Reading n q k) done failed is same lone = absurd (cc (is))
-flush_lone h h' g (Leaving n q v k) done failed is same lone = absurd (cc (is))
-flush_lone h h' g (Taking n q v k) done failed is same lone = absurd (cc (is))
-flush_lone h h' g (LookingBack n q v) done failed is same lone = absurd (cc (is))
-flush_lone h h' g (Advancing n q v) done failed is same lone = absurd (cc (is))
-flush_lone h h' g (Removing n v) done failed is same lone = absurd (cc (is))
-flush_lone h h' g (Answering a) done failed is same lone = absurd (cc (is))
+flush_lone h h' g _ done failed is same lone = absurd (cc (is))
 
 -- a lone call defers the removal of what it took off alone
 defer_lone : (h h' : Heap) (g : ℕ) (phase deferred failed : Phase) (n : Name)

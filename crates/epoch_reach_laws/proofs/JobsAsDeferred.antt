@@ -330,24 +330,16 @@ module _ (old new : State) (step : Step) (reply : Reply) (p : ℕ) (on : step �
       (ap (λ (n : Machine Deferral). n.held) (machine_ended seat c))
       (ap (λ (n : Machine Deferral). n.hand) (machine_ended seat c))
       did.1 refl refl refl refl refl
-  drives c LoadPin did = steps _ _ did.0 refl refl did.1 refl refl refl refl refl
   drives c (StorePin e) did =
       keeps _ _ (no_job reply _ did.0 (λ t h. cc) (λ t how h. cc)) refl refl did.1 refl refl refl refl refl
-  drives c ReloadPin did = steps _ _ did.0 refl refl did.1 refl refl refl refl refl
-  drives c LoadScan did = steps _ _ did.0 refl refl did.1 refl refl refl refl refl
-  drives c (Scan e k) did = steps _ _ did.0 refl refl did.1 refl refl refl refl refl
-  drives c (Advance e) did = steps _ _ did.0 refl refl did.1 refl refl refl refl refl
   drives c (Take y k) (step, jobs, bags, told, takes, e) = let jobs_there = took y k step jobs bags takes in
       goes _ _ (quiet_job reply (quiet_stepped reply told)) e refl refl refl refl jobs_there.0 jobs_there.1
   drives c (Calling y k) (job, jobs, hand, told, e) = calls _ job jobs hand refl refl told e
-  drives c LoadSeal did = steps _ _ did.0 refl refl did.1 refl refl refl refl refl
   drives c (Put s) (step, bags, told, puts, e) = let jobs_there = put s step bags puts in
       goes _ _ (quiet_job reply (quiet_stepped reply told)) e refl refl refl refl jobs_there.0 jobs_there.1
   drives c Keep did = keeps_job did.0 did.1
-  drives c LoadRepin did = steps _ _ did.0 refl refl did.1 refl refl refl refl refl
   drives c (StoreRepin e) did =
       keeps _ _ (no_job reply _ did.0 (λ t h. cc) (λ t how h. cc)) refl refl did.1 refl refl refl refl refl
-  drives c ReloadRepin did = steps _ _ did.0 refl refl did.1 refl refl refl refl refl
   drives c StoreUnpinned did =
       keeps _ _ (no_job reply _ did.0 (λ t h. cc) (λ t how h. cc)) refl refl did.1 refl refl refl refl refl
   drives c StoreFree did =
@@ -361,6 +353,7 @@ module _ (old new : State) (step : Step) (reply : Reply) (p : ℕ) (on : step �
       (ap (λ (n : Machine Deferral). n.held) (machine_ended seat c))
       (ap (λ (n : Machine Deferral). n.hand) (machine_ended seat c))
       did.1 refl refl refl refl refl
+  drives c _ did = steps _ _ did.0 refl refl did.1 refl refl refl refl refl
 
 -- EVERY STEP
 

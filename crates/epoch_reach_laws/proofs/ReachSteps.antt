@@ -242,7 +242,6 @@ module _ (past : Past) (old new : State) (log : List Entry) (x : Entry) (holds :
   drives c drive Resting at fine did =
       let driven : IsDriven c m seat.guards = follows_at old.sizes seat (linked.seats p) (Driven c) drive in
       absurd (cc (driven.under_way, at))
-  drives c drive LoadPin at fine did = steps _ _ did.0 did.1 refl refl refl
   drives c drive (StorePin e) at fine did =
       own_word (Pinned e) (with_word seat (Pinned e) (hears m (StorePin e) Stored)) refl
       (λ q ne. (
@@ -250,19 +249,13 @@ module _ (past : Past) (old new : State) (log : List Entry) (x : Entry) (holds :
         λ h. elim h [ inl a ↦ cc (did.0, a) | inr a ↦ cc (did.0, a) ],
       ))
       (λ pin. inl did.0) (λ g pin out kept. cc (pin, fine.agrees)) (λ was. was) did.1
-  drives c drive ReloadPin at fine did = steps _ _ did.0 did.1 refl refl refl
-  drives c drive LoadScan at fine did = steps _ _ did.0 did.1 refl refl refl
-  drives c drive (Scan e k) at fine did = steps _ _ did.0 did.1 refl refl refl
-  drives c drive (Advance e) at fine did = steps _ _ did.0 did.1 refl refl refl
   drives c drive (Take y k) at fine (step, jobs, queued, told, took, e) = steps _ _ told e refl refl refl
   drives c drive (Calling y k) at fine (job, jobs, hand, told, e) = machine_goes _ _ e refl refl
       (plain_silent x.reply (plain_called x.reply job.ticket _ told))
       (fewer_fields past old new x _ e (fewer_job old.heap job.removes))
-  drives c drive LoadSeal at fine did = steps _ _ did.0 did.1 refl refl refl
   drives c drive (Put s) at fine (step, queued, told, put, e) = steps _ _ told e refl refl refl
   drives c drive Keep at fine did = machine_goes _ _ did.1 refl refl (silent_deferred x.reply _ did.0)
       (heap_stays past old new x _ did.1 refl)
-  drives c drive LoadRepin at fine did = steps _ _ did.0 did.1 refl refl refl
   drives c drive (StoreRepin e) at fine did =
       own_word (Pinned e) (with_word seat (Pinned e) (hears m (StoreRepin e) Stored)) refl
       (λ q ne. (
@@ -270,7 +263,6 @@ module _ (past : Past) (old new : State) (log : List Entry) (x : Entry) (holds :
         λ h. elim h [ inl a ↦ cc (did.0, a) | inr a ↦ ne (cc (did.0, a)) ],
       ))
       (λ pin. inr did.0) (λ g pin out kept. kept (inr did.0)) (λ was. was) did.1
-  drives c drive ReloadRepin at fine did = steps _ _ did.0 did.1 refl refl refl
   drives c drive StoreUnpinned at fine did =
       own_word Unpinned (with_word seat Unpinned (hears m StoreUnpinned Stored)) refl
       (λ q ne. (
@@ -297,6 +289,7 @@ module _ (past : Past) (old new : State) (log : List Entry) (x : Entry) (holds :
       (word_ended seat c) (silent x.reply (quiet_end x.reply c seat did.0))
       (λ g out kept. is_out_ended seat g out.0 c (λ gives. out.1 (subst (GivesUp g) (sym drive) gives)))
       (λ was. guarded_ended seat c) (heap_stays past old new x _ did.1 refl)
+  drives c drive _ at fine did = steps _ _ did.0 did.1 refl refl refl
 
   -- a call on cells and pointers
   accesses : (a : Access) (k : ℕ) (found : Ptr) → seat.progress ≡ Accesses a k found
