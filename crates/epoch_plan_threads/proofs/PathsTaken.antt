@@ -79,6 +79,7 @@ module _ {P A L T W : Type 0} (does : L → Access → Reply → L → Type 0) w
 -- THE HANDLE ON THE WAY
 
 module _ {T W : Type 0} where
+  -- a handle that is twice the same participant of its collector is so from first to last
   pub same_on : (old mid new : Local T W) → IsSame old mid → IsSame mid new → IsSame old new
   same_on old mid new first next =
       record { position = next.position ∙ first.position; collector = next.collector ∙ first.collector }

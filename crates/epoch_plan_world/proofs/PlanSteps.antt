@@ -98,15 +98,18 @@ may_begin g seat plan is = by_word (is_free seat.word) refl is
 
 module _ {P A W : Type 0} (deed : ℕ → P → Deed P A) (starts : P → Type 0) (first : W → Bool → P)
     (old : State) (plans : List (Plan P)) where
+  -- a registration is the world's, and begins no call of the structure
   pub registers : (new : State) (r : Reply) → TakesStep old WorldRegister r new
       → PlanTakes deed starts first (plan_state old plans) Register (World r) (plan_state new plans)
   registers new r did =
       (made WorldRegister r, (r, refl, refl), passes _ refl tt (λ q. refl), (new, did, refl))
 
+  -- and so is the begin of an end
   pub ends : (new : State) (r : Reply) → TakesStep old WorldEnd r new
       → PlanTakes deed starts first (plan_state old plans) End (World r) (plan_state new plans)
   ends new r did = (made WorldEnd r, (r, refl, refl), passes _ refl tt (λ q. refl), (new, did, refl))
 
+  -- and each step of one
   pub ends_further : (new : State) (r : Reply) → TakesStep old WorldEndGo r new
       → PlanTakes deed starts first (plan_state old plans) EndGo (World r) (plan_state new plans)
   ends_further new r did = (made WorldEndGo r, (r, refl, refl), passes _ refl tt (λ q. refl), (new, did, refl))

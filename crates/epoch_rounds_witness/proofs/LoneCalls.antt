@@ -202,6 +202,7 @@ place_filled = record {
   places = refl;
 }
 
+-- its put will find the one place, and says so
 pub room_told : (e pins : ℕ) → PutTellsRoom (machine FlushAction LoadScan 1 e pins [] []) true true
 room_told e pins = record { kept = λ on. absurd (cc (on)); told = λ off. refl }
 

@@ -67,6 +67,7 @@ seat word m progress guards =
 pub taken_unpinned : Unpinned ≢ Free
 taken_unpinned e = cc
 
+-- a pinned participant has its position
 pub taken_pinned : (e : ℕ) → Pinned e ≢ Free
 taken_pinned e same = cc
 
@@ -87,6 +88,7 @@ by mid step reply takes rest = (record { step = step; reply = reply } ∷ rest.0
 abbrev pub first : State
 first = world (around 0 [] 0 false 0) (free_seat sizes)
 
+-- the world that the run begins with is a new one
 pub first_fresh : IsFresh first
 first_fresh = record {
   sized = refl;

@@ -38,6 +38,7 @@ pub record IsGiven (s now : State) (p : ℕ) (c : Call) (o : Option Fault) (seat
   pub none : o ≡ None
   pub found : seat ≡ slice_index_or s.seats p seat
 
+-- what the code has found of a call is what the laws speak of, whatever the places tell
 pub given_by : {s now : State} {p : ℕ} {c : Call} {o : Option Fault} {seat : WorldSeat} (places : List Bool)
     (seen ahead : List ℕ) (room : List Bool) → with_places s places seen ahead room ≡ now
     → o ≡ refusal c (seat_of now p) now.tickets now.heap → o ≡ None → seat ≡ slice_index_or s.seats p seat
@@ -57,6 +58,7 @@ module _ (s now : State) (p : ℕ) (c : Call) (o : Option Fault) (seat : WorldSe
   not_refused : refusal c (seat_of s p) s.tickets s.heap ≡ None
   not_refused = ap (λ (z : State). refusal c (seat_of z p) z.tickets z.heap) h.is ∙ sym h.asked ∙ h.none
 
+  -- the participant of a call that is accepted has a position in the table
   pub given_there : p < length s.seats
   given_there = seat_there s p (begin_given c (seat_of s p) s.tickets s.heap not_refused).taken
 
@@ -66,12 +68,15 @@ module _ (s now : State) (p : ℕ) (c : Call) (o : Option Fault) (seat : WorldSe
   given_here : refusal c seat s.tickets s.heap ≡ None
   given_here = ap (λ (q : WorldSeat). refusal c q s.tickets s.heap) given_at ∙ not_refused
 
+  -- its machine rests
   pub given_rests : IsSound s → seat.machine.stage ≡ Resting
   given_rests kept = rests_where_accepted s p c seat kept given_at given_here
 
+  -- so it has no collection under way
   pub given_quiet : IsSound s → is_taking (seat_of s p).machine.stage ≡ false
   given_quiet kept = ap (λ (q : WorldSeat). is_taking q.machine.stage) (sym given_at) ∙ ap is_taking (given_rests kept)
 
+  -- and no put
   pub given_away : IsSound s → is_putting (seat_of s p).machine.stage ≡ false
   given_away kept = ap (λ (q : WorldSeat). is_putting q.machine.stage) (sym given_at) ∙ ap is_putting (given_rests kept)
 
@@ -87,6 +92,7 @@ module _ (s now : State) (p : ℕ) (c : Call) (o : Option Fault) (seat : WorldSe
       (sym given_at) ∙ rests in
       same_aheads ahead s.seats cursors p after (free_seat s.sizes) (after_rests ∙ sym before_rests)
 
+  -- to begin the call is a step of the world
   pub given_moves : (after : WorldSeat) (places : List Bool) (seen : List ℕ) (ahead : List ℕ) (room : List Bool)
       → after ≡ begun_seat c seat
       → Moves (with_places s places seen ahead room) (Begin p c) Began
@@ -114,6 +120,7 @@ module _ (s now : State) (p : ℕ) (c : Call) (o : Option Fault) (seat : WorldSe
       (subst (λ k. steps_left slots (begun_seat c seat) n < k) (ap₂ (λ (z : Sizes) m. call_bound slots z m + 1) sized
       same ∙ sym (bound ∙ ap (λ k. call_bound k s.sizes most + 1) counted)) (begun_fits c seat n slots))
 
+-- and to refuse it is one too
 pub refused_takes : (s : State) (p : ℕ) (c : Call) (o : Option Fault) (f : Fault)
     → o ≡ refusal c (seat_of s p) s.tickets s.heap → o ≡ Some f → TakesStep s (Begin p c) (Refused f) s
 refused_takes s p c o f found some = (
@@ -121,6 +128,7 @@ refused_takes s p c o f found some = (
   (refl, refl, refl, refl),
 )
 
+-- the log of a run from a new world on is lawful
 pub run_is_lawful : (s new : State) (log : List Entry) → IsFresh s → Runs s log new → IsLawful log
 run_is_lawful s new log fresh run =
     let calls = calls_follow s new log fresh run in

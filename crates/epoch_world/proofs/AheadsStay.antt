@@ -35,10 +35,12 @@ none_for (Take x k) on = absurd (cc (on))
 none_for (Calling x k) on = absurd (cc (on))
 none_for _ on = refl
 
+-- a machine that rests has no collection under way
 pub not_taking : (s : Stage) → rests s ≡ true → is_taking s ≡ false
 not_taking (Take x k) on = absurd (cc (on))
 not_taking _ on = refl
 
+-- and no put
 pub not_putting : (s : Stage) → rests s ≡ true → is_putting s ≡ false
 not_putting (Put seal) on = absurd (cc (on))
 not_putting _ on = refl

@@ -33,6 +33,7 @@ asks_taking : (s : Stage) (x : ℕ) → ask_at s ≡ Some (TakeBag x) → is_tak
 asks_taking (Take x k) y asked = refl
 asks_taking _ y asked = absurd (cc (asked))
 
+-- a machine with a collection under way asks for a bag next
 pub taking_asks : (s : Stage) → is_taking s ≡ true → (x : ℕ) × (ask_at s ≡ Some (TakeBag x))
 taking_asks (Take x k) taking = (x, refl)
 taking_asks _ taking = absurd (cc (taking))
@@ -77,6 +78,7 @@ calls_for : (m : Machine Deferral) (s : Stage) (jobs : List Deferral) → ask_at
 calls_for m (Calling x k) jobs asked on = job_for m x k jobs on
 calls_for m _ jobs asked on = absurd (cc (asked))
 
+-- the call of a job leaves the epoch that its collection is for
 pub gave_ahead : (m n : Machine Deferral) (f : ℕ → ℕ) (jobs : List Deferral) → asks m ≡ Some CallJob
     → n ≡ gives m m.stage jobs → is_collecting n.stage ≡ true → f (expiry_of n.stage) ≡ f (expiry_of m.stage)
 gave_ahead m n f jobs asked gave on =
@@ -103,6 +105,7 @@ module _ (x : ℕ) (m n : Machine Deferral) (step : TakeStep) (asked : asks m �
           (goes_for m m.stage x step n.hand asked
           (ap (λ (q : Machine Deferral). is_collecting q.stage) (sym heard) ∙ on) before_at)
 
+  -- a step on a place leaves as many bags ahead as its answer tells
   pub took_ahead : (f f' : ℕ → ℕ) (bags bags' : List Bag)
       → TakesHand x bags step bags' n.hand → FindsBag (f x) step (f' x)
       → TakesAhead n (outlook bags (f (expiry_of m.stage))) (outlook bags' (f' (expiry_of n.stage)))
@@ -128,6 +131,7 @@ module _ (x : ℕ) (m n : Machine Deferral) (step : TakeStep) (asked : asks m �
         none = λ over same. absurd (omega (arith, one_less bags bags' bag out, same));
       }
 
+  -- a collection that has ended leaves no claim of its own
   pub took_claims : (Claimed Claims Claimed' Claims' : ℕ → Type 0)
       → ((place : ℕ) → Claimed' place → Claims' place ⊎ (Claimed place × (¬ (Claims place))))
       → (step ≢ TakeAgain → (place : ℕ) → ¬ (Claims' place))
@@ -143,6 +147,7 @@ module _ (x : ℕ) (m n : Machine Deferral) (step : TakeStep) (asked : asks m �
       by_step Empty heard goes own = goes (λ e. cc (e)) place own
       by_step Got heard goes own = goes (λ e. cc (e)) place own
 
+-- so a step on a place tells what is ahead
 pub took_finds : (Alone : Type 0) (ask : Ask) (x : ℕ) (m before n : Machine Deferral) (f f' : ℕ → ℕ)
     (bags bags' : List Bag) → m ≡ before → ask ≡ TakeBag x
     → TakesAhead n (outlook bags (f (expiry_of m.stage))) (outlook bags' (f' (expiry_of n.stage)))
@@ -152,6 +157,7 @@ took_finds Alone ask x m before n f f' bags bags' same is took = subst (λ (a : 
     (subst (λ (q : Machine Deferral). TakesAhead n (outlook bags (f (expiry_of q.stage)))
     (outlook bags' (f' (expiry_of n.stage)))) same took)
 
+-- and so does the call of a job
 pub gave_finds : (Alone : Type 0) (ask : Ask) (m before n : Machine Deferral) (f : ℕ → ℕ) (bags : List Bag)
     (jobs : List Deferral) → m ≡ before → ask ≡ CallJob → asks m ≡ Some CallJob → n ≡ gives m m.stage jobs
     → FindsAhead Alone (Some ask) n (outlook bags (f (expiry_of before.stage))) (outlook bags (f (expiry_of n.stage)))
@@ -159,6 +165,7 @@ gave_finds Alone ask m before n f bags jobs same is asked gave = subst (λ (a : 
     (outlook bags (f (expiry_of before.stage))) (outlook bags (f (expiry_of n.stage)))) (sym is)
     (λ on. gave_ahead m n f jobs asked gave on ∙ ap (λ (q : Machine Deferral). f (expiry_of q.stage)) same)
 
+-- only a step on a place claims a bag
 pub may_claim : (ask : Ask) (x : ℕ) (s : Stage) (Claimed Claims Claimed' Claims' : ℕ → Type 0) → ask ≡ TakeBag x
     → LeavesClaims Claimed Claims Claimed' (OwnClaims s Claims') → MayClaim ask s Claimed Claims Claimed' Claims'
 may_claim ask x s Claimed Claims Claimed' Claims' is leaves =
@@ -175,6 +182,7 @@ leaves_by _ m n Claimed Claims Claimed' Claims' asked may place not_own claimed 
 
 -- AT A PARTICIPANT'S POSITION
 
+-- a machine that is driven asks in its turn
 pub turn_driven : (w : Word) (progress : Progress) (s : Stage) (ask : Ask)
     → w ≢ Free → is_driven progress ≡ true → ask_at s ≡ Some ask → turn_at w progress s ≡ Some ask
 turn_driven Free progress s ask taken driven asked = absurd (taken refl)
@@ -196,6 +204,7 @@ module _ (seats : List WorldSeat) (sizes : Sizes) (p : ℕ) (seat after : WorldS
   written : after ≡ now
   written = sym (get_or-set_same seats p after (free_seat sizes) there)
 
+  -- what an ask tells of the bags ahead, the step of the participant tells
   pub performed_finds : (Alone : Type 0) (f f' : ℕ → ℕ) (bags bags' : List Bag)
       → was.word ≢ Free → is_driven was.progress ≡ true → asks was.machine ≡ Some ask
       → FindsAhead Alone (Some ask) after.machine (outlook bags (f (expiry_of seat.machine.stage)))
@@ -211,6 +220,7 @@ module _ (seats : List WorldSeat) (sizes : Sizes) (p : ℕ) (seat after : WorldS
       (subst (λ (q : WorldSeat). FindsAhead Alone (Some ask) q.machine (outlook bags (f (expiry_of seat.machine.stage)))
       (outlook bags' (f' (expiry_of q.machine.stage)))) written finds))
 
+  -- and so it is with what the ask leaves claimed
   pub performed_claims : (Claimed Claims Claimed' Claims' : ℕ → Type 0)
       → asks seat.machine ≡ Some ask → MayClaim ask after.machine.stage Claimed Claims Claimed' Claims'
       → LeavesClaims Claimed (OwnClaims was.machine.stage Claims) Claimed' (OwnClaims now.machine.stage Claims')
@@ -223,12 +233,14 @@ module _ (seats : List WorldSeat) (sizes : Sizes) (p : ℕ) (seat after : WorldS
 
 -- FROM ONE PARTICIPANT TO ALL
 
+-- no test is both
 pub not_both : (t : Bool) → t ≡ true → t ≡ false → ⊥
 not_both t holds fails = cc (holds, fails)
 
 same_some : {A : Type 0} {a b : A} → Some a ≡ Some b → a ≡ b
 same_some e = cc (e)
 
+-- what is written in a list is found there
 pub get_set_same : {A : Type 0} (xs : List A) (p : ℕ) (a : A) → p < length xs → slice_get (slice_set xs p a) p ≡ Some a
 get_set_same [] p a there = absurd (omega arith)
 get_set_same (x ∷ xs) zero a there = refl
@@ -260,6 +272,7 @@ module _ {C : Type 0} (at : Stage → Bool) (Claims : C → ℕ → Type 0) (siz
   abbrev At : List WorldSeat → ℕ → Bool
   At seats q = at (slice_index_or seats q (free_seat sizes)).machine.stage
 
+  -- where no seat has a collection under way, nobody has
   pub nobody_there : (seats : List WorldSeat) (cursors : List C) → ((q : ℕ) → At seats q ≡ false) → Nobody seats cursors
   nobody_there seats cursors off q cursor found own = not_both _ own.0 (off q)
 

@@ -80,6 +80,7 @@ module _ (old new : State) (h : TicketsBounded old) where
       → TicketsBounded new
   acts p seat epoch queued tickets = acts_beside p seat epoch queued tickets old.heap
 
+  -- a registration adds no deferral
   pub registers : (p : ℕ)
       → p < length old.seats
       → new ≡ with_seat old p (record (free_seat old.sizes) { word = Unpinned })

@@ -21,10 +21,12 @@ changed old step p _ (JobCalled removes go now) is = absurd (go.1 is)
 changed old step p _ (AccessGoes a k found did go now touches) is = absurd (go.1 is)
 changed old step p _ (Replies r go now) is = absurd (go.1 is)
 
+-- each step keeps that
 pub moves_free : (old new : State) → FreeRests old → (step : Step) (reply : Reply) → Moves old step reply new
     → FreeRests new
 moves_free old new h step reply did = each_seat (λ q seat. seat.word ≡ Free → rests seat.machine.stage ≡ true) h
     (changed old step) (seats_go old new step reply did)
 
+-- and it holds of a new world
 pub fresh_free : (s : State) → IsFresh s → FreeRests s
 fresh_free s fresh p free = ap (λ (seat : WorldSeat). rests seat.machine.stage) (fresh.free p)

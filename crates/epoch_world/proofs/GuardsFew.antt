@@ -51,6 +51,7 @@ module _ (seat : WorldSeat) (h : HasGuardRoom seat) where
   accesses a true = at_progress _ tt
   accesses a false = at_progress _ tt
 
+  -- a call that may begin has room for the guard that it will add
   pub begun_room : (c : Call) (tickets : ℕ) (heap : Heap)
       → waits c seat.paused ≡ false → call_refusal c seat tickets heap ≡ None → HasGuardRoom (begun_seat c seat)
   begun_room Pin n heap awake given = record { few = h.few; awake = none_waits seat.paused true awake }
@@ -76,6 +77,7 @@ module _ (seat : WorldSeat) (h : HasGuardRoom seat) where
       → HasGuardRoom (record seat { machine = m; progress = Idle; guards = guards; paused = paused })
   counted guards paused m few = record { few = few; awake = tt }
 
+  -- so the guards stay few where it ends
   pub ended_room : (c : Call) → Awake (Driven c) seat.paused → IsDriven c seat.machine seat.guards
       → HasGuardRoom (ended_seat c seat)
   ended_room Pin awake d =
@@ -113,10 +115,12 @@ changed old linked h step p _ (AccessGoes a k found did go now touches) = access
     accessed _ = record { few = (h p).few; awake = tt }
 changed old linked h step p _ (Replies r go now) = at_progress (seat_of old p) (h p) _ tt
 
+-- each step keeps that
 pub moves_room : (old new : State) (reply : Reply) → AllLinked old → AllRoomy old → (step : Step)
     → Moves old step reply new → AllRoomy new
 moves_room old new reply linked h step did =
     each_seat (λ q. HasGuardRoom) h (changed old linked h step) (seats_go old new step reply did)
 
+-- and it holds of a new world
 pub fresh_room : (s : State) → IsFresh s → AllRoomy s
 fresh_room s fresh p = subst HasGuardRoom (sym (fresh.free p)) (free_room s.sizes)

@@ -28,6 +28,7 @@ pending_most Defer s t busy = most (is_busy t) (is_busy s) busy
     most b false busy = absurd (cc)
 pending_most _ s t busy = omega arith
 
+-- a participant has at most one deferral under way
 pub pending_one : (a : Action) (s : Stage) → pending_at a s ≤ 1
 pending_one Defer s = one (is_busy s)
   where
@@ -36,41 +37,50 @@ pending_one Defer s = one (is_busy s)
     one false = omega arith
 pending_one _ s = omega arith
 
+-- one that is not busy has none
 pub none_pending : (a : Action) (s : Stage) → is_busy s ≡ false → pending_at a s ≡ 0
 none_pending Defer s rests =
     let one_or_none : Bool → ℕ = λ b. if b then 1 else 0 in
     ap one_or_none rests
 none_pending _ s rests = refl
 
+-- a sum over the seats of at most one each is at most their number
 pub sum_most : (f : WorldSeat → ℕ) (seats : List WorldSeat)
     → ((seat : WorldSeat) → f seat ≤ 1)
     → sum_by f seats ≤ length seats
 sum_most f [] one = omega arith
 sum_most f (seat ∷ seats) one = omega (arith, sum_by-cons f seat seats, one seat, sum_most f seats one)
 
+-- only a deferral keeps a job: what follows a collection
 pub keeps_collected : (a b : Action) (jobs : List Deferral) → KeepsAt a (after_collect b jobs)
 keeps_collected a Release [] = tt
 keeps_collected a Release (job ∷ jobs) = tt
 keeps_collected a _ jobs = tt
 
+-- what follows a pin
 pub keeps_pinned : (a : Action) (m : Machine Deferral) → KeepsAt a (after_pin m)
 keeps_pinned a m = after_pin_at (KeepsAt a) m tt (keeps_collected a m.action m.held)
 
+-- what follows a put
 pub keeps_put : (a : Action) (full : Bool) → KeepsAt a (after_put a full)
 keeps_put Defer false = refl
 keeps_put _ _ = tt
 
+-- what follows an unpin
 pub keeps_unpinned : (a b : Action) (full : Bool) → KeepsAt a (after_unpin b full)
 keeps_unpinned a Release false = tt
 keeps_unpinned a _ full = tt
 
+-- what follows the call of a job
 pub keeps_called : (a : Action) (m : Machine Deferral) (x k : ℕ) (jobs : List Deferral)
     → KeepsAt a (after_job m x k jobs)
 keeps_called a m x k jobs = after_job_at (KeepsAt a) m x k jobs tt tt (keeps_collected a m.action m.held)
 
+-- what follows a word of a scan
 pub keeps_past : (a : Action) (positions e k w : ℕ) → KeepsAt a (past_word positions e k w)
 keeps_past a positions e k w = past_word_at (KeepsAt a) positions e k w tt tt tt
 
+-- and what an action begins with
 pub keeps_first : (a : Action) (m : Machine Deferral) → KeepsAt a (first_stage a m)
 keeps_first Pin m = either_way (KeepsAt Pin) (m.guards == 0) LoadPin End tt tt
 keeps_first Unpin m = either_way (KeepsAt Unpin) (m.guards == 1) StoreUnpinned End tt tt

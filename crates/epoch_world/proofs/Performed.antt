@@ -28,6 +28,7 @@ pub record IsDrivenAt (s : State) (p : ℕ) (ask : Ask) : Type 0 where
   pub asked : asks (seat_of s p).machine ≡ Some ask
   pub within : AskFits (seat_of s p).machine.sizes ask
 
+-- a participant that the code has found at an ask is at it in the world
 pub driven_here : (s : State) (p : ℕ) (seat : WorldSeat) (call : Call) (ask : Ask) → seat ≡ seat_of s p
     → seat.word ≢ Free → seat.progress ≡ Driven call → asks seat.machine ≡ Some ask → AskFits seat.machine.sizes ask
     → IsDrivenAt s p ask
@@ -61,6 +62,7 @@ module _ (old new : State) (p word : ℕ) (seat after : WorldSeat) (reply : Repl
   made seat' h' a b = e ∙ ap₂ (λ (q : WorldSeat) (k : Common (List Bag)).
       record (with_seat old p q) { epoch = k.epoch; queued = k.store; tickets = k.tickets; heap = k.heap }) a b
 
+  -- what its seat does is what the world does, but for the places
   pub performs_by : (ask : Ask)
       → seat.machine.sizes ≡ old.sizes → ((k : ℕ) → ask ≡ LoadWord k → word ≡ word_number (position_word old k))
       → SeatPerforms seat.machine.sizes p word
@@ -79,6 +81,7 @@ module _ (old new : State) (p word : ℕ) (seat after : WorldSeat) (reply : Repl
 
 -- A STEP BEGIN AND A STEP GO
 
+-- to begin a call is a step of the world
 pub begin_moves : (old new : State) (p : ℕ) (c : Call) (seat after : WorldSeat) → seat ≡ seat_of old p
     → refusal c seat old.tickets old.heap ≡ None → after ≡ begun_seat c seat → new ≡ with_seat old p after
     → Moves old (Begin p c) Began new
@@ -87,6 +90,7 @@ begin_moves old new p c seat after is given begun e =
     (sym (ap (λ (q : WorldSeat). refusal c q old.tickets old.heap) (sym is) ∙ given))
     (refl, e ∙ ap (with_seat old p) (begun ∙ ap (begun_seat c) is))
 
+-- and so is to go on with it
 pub go_moves : (old new : State) (p : ℕ) (seat : WorldSeat) (reply : Reply)
     → seat ≡ seat_of old p → seat.word ≢ Free → DoesGo old p seat seat.progress reply new → Moves old (Go p) reply new
 go_moves old new p seat reply is taken goes =
@@ -107,12 +111,14 @@ drives_by old new p seat reply ask (Driven c) driven asked did =
     subst (λ o. DrivesCall old p seat c seat.machine.stage o reply new) (sym asked) did
 drives_by old new p seat reply ask _ driven asked did = absurd (cc)
 
+-- to end a call is one way to go on
 pub end_goes : (old new : State) (p : ℕ) (seat : WorldSeat) (c : Call) (reply : Reply)
     → asks seat.machine ≡ None → DrivesCall old p seat c seat.machine.stage None reply new
     → DoesGo old p seat (Driven c) reply new
 end_goes old new p seat c reply none did =
     subst (λ o. DrivesCall old p seat c seat.machine.stage o reply new) (sym none) did
 
+-- and to perform an ask is another
 pub perform_moves : (old new : State) (p : ℕ) (seat : WorldSeat) (reply : Reply) (ask : Ask)
     → seat ≡ seat_of old p → IsDrivenAt old p ask
     → PerformsAsk old p seat seat.machine.stage ask reply new → Moves old (Go p) reply new

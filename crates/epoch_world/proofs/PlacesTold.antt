@@ -8,11 +8,13 @@ abbrev pub TellsPlace : List Bool → ℕ → Option ℕ → Type 0
 TellsPlace places place found =
     MatchOption found (length places ≤ place) (λ word. slice_get places place ≡ Some (not (word == 0)))
 
+-- a place further on is told of in the same way
 pub one_further : (first : Bool) (places : List Bool) (place : ℕ) (found : Option ℕ)
     → TellsPlace places place found → TellsPlace (first ∷ places) (suc place) found
 one_further first places place None past = omega arith
 one_further first places place (Some word) at = at
 
+-- the word of each place tells whether it is occupied
 pub words_tell : (words : List ℕ) (place : ℕ) → TellsPlace (taken_places words) place (slice_get words place)
 words_tell [] place = omega arith
 words_tell (word ∷ words) zero = refl

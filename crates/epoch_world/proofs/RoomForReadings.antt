@@ -15,6 +15,7 @@ use Rattle.epoch_laws.specs.Run.{WorldSeat, State, seat_of}
 use Rattle.epoch_reach_laws.proofs.RoomToRead.{room_to_read}
 use Rattle.epoch_world.specs.Seats.{CanRead, HasRead}
 
+-- a read that is about to come finds room in the list
 pub can_read : (s : State) (p : ℕ) (seat : WorldSeat) (a : Access) (k : ℕ) (found : Ptr)
     → IsSound s → p < length s.seats → seat ≡ seat_of s p
     → seat.progress ≡ Accesses a k found → CanRead a seat.readings s.heap
@@ -31,6 +32,7 @@ can_read s p seat (Read g ptr) k found h there is now = λ n name stands.
     omega (arith, room_to_read s p n h.readings there next, h.cells, ap (λ (q : WorldSeat). length q.readings) is)
 can_read s p seat _ k found h there is now = tt
 
+-- so the list has room for what it has read
 pub has_read : (a : Access) (k : ℕ) (found : Ptr) (h : Heap) (did : Touched) (readings : List Name)
     → Touches a k found h did
     → CanRead a readings h → HasRead a did.told readings

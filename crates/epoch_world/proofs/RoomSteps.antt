@@ -40,6 +40,7 @@ free_place (true ∷ occupied) (true ∷ standing) stands fewer =
     let more = free_place occupied standing (λ place at. stands (suc place) at) (omega (arith, fewer)) in
     (suc more.0, more.1)
 
+-- a put that begins while nobody claims a place, and fewer bags than places stand there, will find one
 pub room_at_first : (Reserved : ℕ → Type 0) (occupied standing : List Bool) (bags : ℕ) (room : Bool)
     → how_many standing ≡ bags
     → ((place : ℕ) → slice_get occupied place ≡ Some true → (slice_get standing place ≡ Some true) ⊎ Reserved place)
@@ -68,6 +69,7 @@ module _ (seal : ℕ) (m n : Machine Deferral) (asked : asks m ≡ Some (PutBag 
   still_puts : n ≡ put_heard m Again → is_putting n.stage ≡ true
   still_puts heard = ap (λ (q : Machine Deferral). is_putting q.stage) heard ∙ asks_putting m.stage seal asked
 
+  -- a step on a place tells whether the put will find one
   pub put_told : (step : PutStep) (room room' : Bool)
       → n ≡ put_heard m step → FindsRoom room step room' → PutTellsRoom n room room'
   put_told Again room room' heard finds =
@@ -83,6 +85,7 @@ module _ (seal : ℕ) (m n : Machine Deferral) (asked : asks m ≡ Some (PutBag 
     told = λ off. ap (λ (q : Machine Deferral). q.full) heard ∙ sym (ap not finds);
   }
 
+  -- a put that has ended leaves no claim of its own
   pub put_reserves : (step : PutStep) (Reserved Reserves Reserved' Reserves' : ℕ → Type 0) → n ≡ put_heard m step
       → ((place : ℕ) → Reserved' place → Reserves' place ⊎ (Reserved place × (¬ (Reserves place))))
       → (step ≢ Again → (place : ℕ) → ¬ (Reserves' place))
@@ -99,17 +102,20 @@ module _ (seal : ℕ) (m n : Machine Deferral) (asked : asks m ≡ Some (PutBag 
       by_step Done heard goes own = goes (λ e. cc (e)) place own
       by_step Full heard goes own = goes (λ e. cc (e)) place own
 
+-- so a step of a put tells of its room
 pub tells_put : (Open : Type 0) (ask : Ask) (seal : ℕ) (n : Machine Deferral) (room room' : Bool)
     → ask ≡ PutBag seal → PutTellsRoom n room room' → TellsRoom Open (Some ask) n room room'
 tells_put Open ask seal n room room' is tells = subst (λ (a : Ask). TellsRoom Open (Some a) n room room') (sym is) tells
 
 module _ (s : Stage) (Reserved Reserves Claims Reserved' Reserves' Claims' : ℕ → Type 0) where
+  -- a step of a put claims places for the put alone
   pub may_put : (ask : Ask) (seal : ℕ)
       → ask ≡ PutBag seal → LeavesClaims Reserved Reserves Reserved' (OwnReserves s Reserves')
       → MayReserve ask s Reserved Reserves Claims Reserved' Reserves' Claims'
   may_put ask seal is leaves =
       subst (λ (a : Ask). MayReserve a s Reserved Reserves Claims Reserved' Reserves' Claims') (sym is) leaves
 
+  -- and a step of a collection claims them for the collection alone
   pub may_take : (ask : Ask) (x : ℕ) → ask ≡ TakeBag x → LeavesClaims Reserved Claims Reserved' (OwnClaims s Claims')
       → MayReserve ask s Reserved Reserves Claims Reserved' Reserves' Claims'
   may_take ask x is leaves =
@@ -157,6 +163,7 @@ no_turn Unpinned (Driven c) s none = none
 no_turn (Pinned e) (Driven c) s none = none
 no_turn _ _ s none = refl
 
+-- the end of a call tells nothing new of the room
 pub ended_room : (Open : Type 0) (seat was : WorldSeat) (n : Machine Deferral) (room : Bool)
     → seat ≡ was → asks seat.machine ≡ None → TellsRoom Open (turn_of was) n room room
 ended_room Open seat was n room is none =
@@ -164,6 +171,7 @@ ended_room Open seat was n room is none =
     (subst (λ (o : Option Ask). TellsRoom Open o n room room)
     (sym (no_turn seat.word seat.progress seat.machine.stage none)) tt)
 
+-- and claims nothing
 pub ended_reserves : (seat was : WorldSeat) (s : Stage) (Reserved Reserves Claims : ℕ → Type 0)
     → seat ≡ was → asks seat.machine ≡ None
     → LeavesClaims Reserved (OwnPlaces was.machine.stage Reserves Claims) Reserved (OwnPlaces s Reserves Claims)
@@ -192,6 +200,7 @@ module _ (seats : List WorldSeat) (sizes : Sizes) (p : ℕ) (seat after : WorldS
   written : after ≡ now
   written = sym (get_or-set_same seats p after (free_seat sizes) there)
 
+  -- what an ask tells of the room, the step of the participant tells
   pub performed_room : (Open : Type 0) (room room' : Bool)
       → was.word ≢ Free → is_driven was.progress ≡ true → asks was.machine ≡ Some ask
       → TellsRoom Open (Some ask) after.machine room room' → TellsRoom Open (turn_of was) now.machine room room'
@@ -200,6 +209,7 @@ module _ (seats : List WorldSeat) (sizes : Sizes) (p : ℕ) (seat after : WorldS
       (sym (turn_driven was.word was.progress was.machine.stage ask taken driven asked))
       (subst (λ (q : WorldSeat). TellsRoom Open (Some ask) q.machine room room') written tells)
 
+  -- and so it is with what the ask leaves claimed
   pub performed_reserves : (Reserved Reserves Claims Reserved' Reserves' Claims' : ℕ → Type 0)
       → asks seat.machine ≡ Some ask
       → MayReserve ask after.machine.stage Reserved Reserves Claims Reserved' Reserves' Claims'

@@ -141,6 +141,7 @@ module _ (m : Machine Deferral) (puts takes most : ℕ) where
 
 -- The machine now is that of the fields m, as they stand in a function of the type.
 
+-- a load of the epoch leaves fewer steps, though a put may begin anew there
 pub loaded_less : (m now after : Machine Deferral) (puts puts' takes most e : ℕ)
     → m ≡ now → ask_at now.stage ≡ Some LoadEpoch
     → after ≡ hears m m.stage (Epoch e) → puts' ≤ most
@@ -152,6 +153,7 @@ loaded_less m now after puts puts' takes most e is asked went few =
     (in_store puts takes most)) (sym went)
     (epoch_falls m puts takes most m.stage e puts' (ap (λ (k : Machine Deferral). ask_at k.stage) is ∙ asked) few))
 
+-- so does a load of a word, though a collection may begin anew there
 pub looked_less : (m now after : Machine Deferral) (puts takes takes' most x w : ℕ)
     → m ≡ now → ask_at now.stage ≡ Some (LoadWord x)
     → after ≡ hears m m.stage (WordFound w) → x < now.sizes.positions → takes' ≤ most
@@ -164,6 +166,7 @@ looked_less m now after puts takes takes' most x w is asked went there few =
     (word_falls m puts takes most m.stage x w takes' (ap (λ (k : Machine Deferral). ask_at k.stage) is ∙ asked)
     (subst (λ (k : Machine Deferral). x < k.sizes.positions) (sym is) there) few))
 
+-- so does a step on a place, though the jobs of a bag may follow
 pub took_less : (m now after : Machine Deferral) (puts takes takes' most x : ℕ) (step : TakeStep)
     → m ≡ now → ask_at now.stage ≡ Some (TakeBag x)
     → after ≡ took_heard m m.stage step after.hand → StageFits m.sizes (length m.held) m.stage
@@ -177,6 +180,7 @@ took_less m now after puts takes takes' most x step is asked went fits fewer las
     (take_falls m puts takes most x takes' step after.hand
     (ap (λ (k : Machine Deferral). ask_at k.stage) is ∙ asked) fits fewer last few))
 
+-- and so does the call of a job
 pub gave_less : (m now after : Machine Deferral) (puts takes most : ℕ) (job : Deferral)
     → m ≡ now → ask_at m.stage ≡ Some CallJob → m.hand ≡ job ∷ rest m.hand
     → after ≡ gives m m.stage (rest m.hand)

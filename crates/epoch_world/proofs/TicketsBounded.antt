@@ -33,12 +33,14 @@ kind_bounded old h _ _ _ (EndCalls job jobs n at) = record { tickets = h.tickets
 kind_bounded old h _ _ _ (EndTakes bag queued n at out) = record { tickets = h.tickets; keeps = h.keeps }
 kind_bounded old h _ _ _ (EndIsOver n at none) = record { tickets = h.tickets; keeps = h.keeps }
 
+-- each kind of step keeps that
 pub tickets_bounded : (old new : State) (step : Step) (reply : Reply)
     → Moves old step reply new
     → TicketsBounded old
     → TicketsBounded new
 tickets_bounded old new step reply did h = kind_bounded old h step reply new (step_kind old new step reply did)
 
+-- and it holds of a new world
 pub fresh_bounded : (s : State) → IsFresh s → TicketsBounded s
 fresh_bounded s fresh = record {
   tickets =

@@ -31,6 +31,7 @@ use Rattle.epoch_world.specs.Worlds.{state_of}
 
 -- HOW FAR THE END IS PLAYS NO PART, NOR DO THE PLACES
 
+-- what links the seats to their calls says nothing of the places
 pub linked_at : (sizes : Sizes) (common : Common (List Bag)) (seats : List WorldSeat) (ending later : Ending)
     (places : List Bool) (seen : List ℕ) (ahead : List ℕ) (room : List Bool)
     → AllLinked (state_of sizes common seats ending)
@@ -72,6 +73,7 @@ driven_less slots (Driven c) after m n before later driven same less =
     subst (λ (q : Progress). steps_of slots q n later < machine_steps m before) (sym same) less
 driven_less slots _ after m n before later driven same less = absurd (cc)
 
+-- an ask that leaves its machine fewer steps leaves its call fewer
 pub performs_less : (slots : ℕ) (sizes : Sizes) (p word : ℕ) (old new : Common (List Bag)) (seat after : WorldSeat)
     (ask : Ask)
     (reply : Reply) (before later : InStore)
@@ -98,11 +100,19 @@ seat_less slots seats p other seat after before later there is less =
 pub still_few : (steps left i bound : ℕ) → steps < left → left + i < bound → steps + (i + 1) < bound
 still_few steps left i bound less few = omega arith
 
+-- and where the step leaves as many slots, and as much room for bags
+pub still_few_of : (left : ℕ → ℕ → ℕ) (slots slots' bags bags' before i bound : ℕ) → slots' ≡ slots → bags' ≡ bags
+    → left slots bags < before → before + i < bound → left slots' bags' + (i + 1) < bound
+still_few_of left slots slots' bags bags' before i bound same_slots same_bags less few =
+    subst (λ (k : ℕ). left k bags' + (i + 1) < bound) (sym same_slots)
+    (subst (λ (k : ℕ). left slots k + (i + 1) < bound) (sym same_bags) (still_few _ before i bound less few))
+
 -- what is driven says nothing of an update
 driven_steady : (h : Heap) (now after : Progress) → is_driven now ≡ true → after ≡ now → IsSteady h after
 driven_steady h (Driven c) after driven same = subst (λ (q : Progress). IsSteady h q) (sym same) tt
 driven_steady h _ after driven same = absurd (cc)
 
+-- and the others' updates stay steady
 pub performs_steady : (sizes : Sizes) (p word : ℕ) (old new : Common (List Bag)) (seat after : WorldSeat)
     (seats : List WorldSeat)
     (other : WorldSeat) (ask : Ask) (reply : Reply) (h : Heap)

@@ -49,6 +49,7 @@ moves_slots old new step reply did = elim (heap_goes old new step reply step ref
       ∙ access_slots access.call access.steps access.found old.heap access.makes.did access.makes.touches
 ]
 
+-- each step keeps that
 pub kept_moves : (old new : State) (step : Step) (reply : Reply)
     → IsSound old → length new.seats ≡ length old.seats → Moves old step reply new → IsSound new
 kept_moves old new step reply h same did = record {
@@ -62,6 +63,7 @@ kept_moves old new step reply h same did = record {
   cells = omega (arith, h.cells, moves_slots old new step reply did);
 }
 
+-- and it holds of a new world of these sizes
 pub fresh_kept : (s : State) → IsFresh s → length s.seats ≤ 64 → length s.heap.cells ≤ 4096 → IsSound s
 fresh_kept s fresh few cells = record {
   linked = fresh_linked s fresh;
@@ -109,6 +111,7 @@ keeps_at : (s : Stage) → ask_at s ≡ Some KeepJob → s ≡ Keep
 keeps_at Keep asked = refl
 keeps_at _ asked = absurd (cc)
 
+-- a driven machine that asks for nothing is at its end
 pub ends_where_driven : (s : State) (p : ℕ) (c : Call) (seat : WorldSeat)
     → IsSound s → seat ≡ seat_of s p → seat.progress ≡ Driven c → asks seat.machine ≡ None → seat.machine.stage ≡ End
 ends_where_driven s p c seat h is drive none =
@@ -124,6 +127,7 @@ room_left (Resume (Some g)) guards paused under awake few adds = omega (arith, f
 room_left (Resume None) guards paused under awake few adds = absurd (cc)
 room_left _ guards paused under awake few adds = absurd (cc)
 
+-- a call that adds a guard has room for it
 pub room_where_driven : (s : State) (p : ℕ) (c : Call) (seat : WorldSeat)
     → IsSound s → seat ≡ seat_of s p → seat.progress ≡ Driven c → adds_guard c ≡ true → length seat.guards < 64
 room_where_driven s p c seat h is drive adds =

@@ -1,7 +1,8 @@
 use Rattle.std.proofs.Common.{below_more, refl, sym, subst, arith}
 use Rattle.std.proofs.lemmas.Bool.Decides.{not_from_Decides}
 use Rattle.epoch_laws.specs.Lawful.{nothing}
-use Rattle.epoch_histories.proofs.RepliesRead.{MayReplyBefore, MayReplyAt, all_may_reply, may_reply_read, read_may_reply}
+use Rattle.epoch_histories.proofs.RepliesRead.{MayReplyBefore, MayReplyAt, all_may_reply, may_reply_read}
+use Rattle.epoch_histories.proofs.RepliesRead.{read_may_reply}
 use Rattle.epoch_histories.proofs.lawful.all_stand_in_calls.Goals as goal
 
 pub returns-then-not-may_reply : goal.returns-then-not-may_reply

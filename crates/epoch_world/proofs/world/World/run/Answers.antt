@@ -28,12 +28,14 @@ loop-step-preserved g c = record {
       (subst (λ (step : Step). TakesStep c.loop-step.self step c.step-reply.result c.step-reply.new.self)
       c.step-item.is c.step-reply.ensures.takes);
   once = by_more (MakesOneStep g.S.BagStore.queued g.S.BagStore.occupied g.S.BagStore.passed g.S.BagStore.ahead
-      g.S.BagStore.has_room g.S.BagStore.PutMoves g.S.BagStore.TakeMoves) _ _ _ c.args.steps.now c.loop-step.step-index _ c.loop-step.replies.items _
+      g.S.BagStore.has_room g.S.BagStore.PutMoves g.S.BagStore.TakeMoves) _ _ _ c.args.steps.now
+      c.loop-step.step-index _ c.loop-step.replies.items _
       c.step-reply.result (omega arith)
       c.loop-step.invariant.count c.push_reserved.ensures.items c.loop-step.invariant.once
       (subst (λ (step : Step). TakesStep c.loop-step.self step c.step-reply.result c.step-reply.new.self)
       c.step-item.is c.step-reply.ensures.takes)
-      (subst (λ (step : Step). MakesOneStep g.S.BagStore.queued g.S.BagStore.occupied g.S.BagStore.passed g.S.BagStore.ahead
+      (subst (λ (step : Step). MakesOneStep g.S.BagStore.queued g.S.BagStore.occupied g.S.BagStore.passed
+      g.S.BagStore.ahead
       g.S.BagStore.has_room g.S.BagStore.PutMoves g.S.BagStore.TakeMoves c.loop-step.self step c.step-reply.new.self)
       c.step-item.is c.step-reply.ensures.one_step);
   count = ap length c.push_reserved.ensures.items ∙ simp length-append (omega arith);
@@ -43,7 +45,8 @@ loop-step-preserved g c = record {
 pub returns-clause-one_step : goal.returns-clause-one_step
 returns-clause-one_step g c =
     by_whole (MakesOneStep g.S.BagStore.queued g.S.BagStore.occupied g.S.BagStore.passed g.S.BagStore.ahead
-    g.S.BagStore.has_room g.S.BagStore.PutMoves g.S.BagStore.TakeMoves) _ _ c.args.steps.now c.loop-step.step-index _ (omega arith) c.loop-step.invariant.once
+    g.S.BagStore.has_room g.S.BagStore.PutMoves g.S.BagStore.TakeMoves) _ _ c.args.steps.now c.loop-step.step-index _
+    (omega arith) c.loop-step.invariant.once
 
 pub returns-clause-grace : goal.returns-clause-grace
 returns-clause-grace g c fresh earlier new run =

@@ -76,7 +76,8 @@ returns-in-Some g c =
           (record { taken = driven.taken; under_way = driven.under_way; asked = driven.asked; within = driven.within })
           (λ k loads. c.word_asked-word.ensures c.args.sizes k (driven.asked ∙ ap (λ (ask : Ask). Some ask) loads))
           c.perform.ensures.step refl;
-      once = performed_once g.S.BagStore.PutMoves g.S.BagStore.TakeMoves c.args.seats.now.items c.args.sizes c.args.index
+      once = performed_once g.S.BagStore.PutMoves g.S.BagStore.TakeMoves c.args.seats.now.items c.args.sizes
+          c.args.index
           seat c.perform.new.self c.in-Some.ask c.args.common.now.store c.args.putting.now c.args.taking.now
           c.perform.new.common.store c.perform.new.putting c.perform.new.taking c.requires.there is
           (λ free. driven.taken (ap (λ (q : WorldSeat). q.word) (sym is) ∙ free))
