@@ -6,7 +6,7 @@ use Rattle.epoch_queue_laws.specs.declared.plan.Work.{Work}
 use Rattle.epoch_queue_laws.specs.Queue.{begin_work, deed_of, Starts}
 use Rattle.epoch_queue_served.specs.QueueServed.{AllAskReady}
 use Rattle.epoch_queue_world.specs.Queues.{GoesByQueue, QueueEntry, QueueState, queue_run}
-use Rattle.epoch_queue_world.proofs.AskedReady.{asks_ready}
+use Rattle.epoch_plan_asked.proofs.AskedReady.{asks_ready}
 
 -- a call begins with a flush where the held bag has no room
 flushes : (g : ℕ) (work : Work) → IsFlush (deed_of g (begin_work work false))

@@ -16,7 +16,8 @@ use Rattle.epoch_plan_world.specs.PlanWorlds.{ask_refusal, bag_has_room, events_
 use Rattle.epoch_plan_world.specs.PlanWorlds.{program_of, then_plan_runs}
 use Rattle.epoch_plans.specs.declared.plan.Plan.{Plan}
 use Rattle.epoch_plans.specs.declared.plan.Plan.TheVariants.{NoPlan, Under}
-use Rattle.epoch_plans.specs.Plans.{Deed, Flushes, Touches, Defers, Answers, AllPlans, IsFlush, PlanEvent, Asked, Declined}
+use Rattle.epoch_plans.specs.Plans.{Deed, Flushes, Touches, Defers, Answers, AllPlans, IsFlush, PlanEvent, Asked}
+use Rattle.epoch_plans.specs.Plans.{Declined}
 use Rattle.epoch_plans.specs.Plans.{Answered, Makes, PlanRuns, WorldThen, made_at}
 
 -- whoever isn't refused is ready

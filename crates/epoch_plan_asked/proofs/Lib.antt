@@ -1,0 +1,2 @@
+pub mod AskedReady
+pub mod AnyReplies
