@@ -4,7 +4,7 @@ use epoch_bags::Places;
 use epoch_cells::Fault;
 use epoch_laws::{Call, Deferral, Shape, Step};
 use epoch_queue_world::{PlainCall, PlanStep, QueueWorld, Work};
-use epoch_stack_world::{Plain, StackStep, StackWorld};
+use epoch_stack_world::{StackWorld, Work as StackWork};
 use epoch_world::World;
 
 // The first pin collects, and advances the epoch to 1.
@@ -29,16 +29,16 @@ fn a_world_is_shown_by_its_epoch_and_counts(rt: HostRuntime) -> Result<(), Fault
 fn a_stacks_world_is_shown_by_its_world_and_its_calls(rt: HostRuntime) -> Result<(), Fault> {
     let alloc = rt.alloc();
     let mut stack = StackWorld::<Places<Deferral>>::new(alloc, Shape::usual(2, 2, 1, 1))?;
-    stack.run(&[StackStep::Register, StackStep::Begin(0, Plain::Pin)])?;
+    stack.run(&[PlanStep::Register, PlanStep::Begin(0, PlainCall::Pin)])?;
     for _ in 0..20 {
-        let _ = stack.step(StackStep::Go(0));
+        let _ = stack.step(PlanStep::Go(0));
     }
     let wanted =
-        "StackWorld { world: World { epoch: 1, participants: 1, tickets: 0, .. }, calls: 0, .. }";
+        "StackWorld { stack: PlanWorld { world: World { epoch: 1, participants: 1, tickets: 0, .. }, calls: 0, .. } }";
     want_shown(&rt, alloc, "after a pin", &stack, wanted);
-    let _ = stack.step(StackStep::Push(0, 0, 7, 1));
+    let _ = stack.step(PlanStep::Ask(0, 0, StackWork::Push(7, 1)));
     let wanted =
-        "StackWorld { world: World { epoch: 1, participants: 1, tickets: 0, .. }, calls: 1, .. }";
+        "StackWorld { stack: PlanWorld { world: World { epoch: 1, participants: 1, tickets: 0, .. }, calls: 1, .. } }";
     want_shown(&rt, alloc, "in a push", &stack, wanted);
     Ok(())
 }

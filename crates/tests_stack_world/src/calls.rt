@@ -3,7 +3,9 @@ use epoch_bags::{BagStore, Places};
 use epoch_cells::Fault;
 use epoch_heap::Answer;
 use epoch_laws::{Deferral, Reply, Shape};
-use epoch_stack_world::{Plain, StackReply, StackStep, StackWorld};
+use epoch_stack_world::{
+    PlainCall, PlanReply, PlanStep, StackAnswer, StackReply, StackStep, StackWorld, Work,
+};
 use std::alloc::Global;
 use std::fmt::Debug;
 use std::process::Abort;
@@ -69,9 +71,9 @@ fn register_and_pin<S: BagStore<Job = Deferral>>(
     stack: &mut StackWorld<S>,
     participant: u64,
 ) {
-    let registered = StackReply::World(Reply::Registered(participant));
-    want_reply(rt, "a registration", stack, StackStep::Register, registered);
-    want_done(rt, stack, participant, Plain::Pin);
+    let registered = PlanReply::World(Reply::Registered(participant));
+    want_reply(rt, "a registration", stack, PlanStep::Register, registered);
+    want_done(rt, stack, participant, PlainCall::Pin);
 }
 
 /// The step tells this.
@@ -87,22 +89,22 @@ pub(crate) fn want_reply<S: BagStore<Job = Deferral>>(
 
 /// The step begins something.
 pub(crate) fn want_begun(rt: &impl Abort, what: &str, stack: &mut Stack, step: StackStep) {
-    want_reply(rt, what, stack, step, StackReply::World(Reply::Began));
+    want_reply(rt, what, stack, step, PlanReply::World(Reply::Began));
 }
 
 /// So many steps Go of participant 0 go on.
 pub(crate) fn want_stepped(rt: &impl Abort, what: &str, stack: &mut Stack, steps: u64) {
     for _ in 0..steps {
-        let stepped = StackReply::World(Reply::Stepped);
-        want_reply(rt, what, stack, StackStep::Go(0), stepped);
+        let stepped = PlanReply::World(Reply::Stepped);
+        want_reply(rt, what, stack, PlanStep::Go(0), stepped);
     }
 }
 
 /// Whether a call is over with this reply.
 pub(crate) fn is_over(reply: StackReply) -> bool {
     match reply {
-        StackReply::World(Reply::Done(_) | Reply::Refused(_)) => true,
-        StackReply::World(_) => false,
+        PlanReply::World(Reply::Done(_) | Reply::Refused(_)) => true,
+        PlanReply::World(_) => false,
         _ => true,
     }
 }
@@ -118,7 +120,7 @@ pub(crate) fn to_end<S: BagStore<Job = Deferral>>(
         if is_over(reply) {
             return reply;
         }
-        reply = stack.step(StackStep::Go(participant));
+        reply = stack.step(PlanStep::Go(participant));
     }
     reply
 }
@@ -128,10 +130,10 @@ pub(crate) fn want_done<S: BagStore<Job = Deferral>>(
     rt: &impl Abort,
     stack: &mut StackWorld<S>,
     participant: u64,
-    call: Plain,
+    call: PlainCall,
 ) {
-    let reply = to_end(stack, participant, StackStep::Begin(participant, call));
-    let done = matches!(reply, StackReply::World(Reply::Done(_)));
+    let reply = to_end(stack, participant, PlanStep::Begin(participant, call));
+    let done = matches!(reply, PlanReply::World(Reply::Done(_)));
     want(rt, "a plain call is done", done, true);
 }
 
@@ -143,7 +145,7 @@ pub(crate) fn want_push<S: BagStore<Job = Deferral>>(
     (participant, value, tries): (u64, u64, u64),
     reply: StackReply,
 ) {
-    let step = StackStep::Push(participant, 0, value, tries);
+    let step = PlanStep::Ask(participant, 0, Work::Push(value, tries));
     want(rt, what, to_end(stack, participant, step), reply);
 }
 
@@ -153,7 +155,11 @@ pub(crate) fn pop<S: BagStore<Job = Deferral>>(
     participant: u64,
     tries: u64,
 ) -> StackReply {
-    to_end(stack, participant, StackStep::Pop(participant, 0, tries))
+    to_end(
+        stack,
+        participant,
+        PlanStep::Ask(participant, 0, Work::Pop(tries)),
+    )
 }
 
 /// A pop under guard 0 answers so: whose it is, and in how many tries.
@@ -169,13 +175,13 @@ pub(crate) fn want_pop<S: BagStore<Job = Deferral>>(
 
 /// The call that participant 0 has under way ends so.
 pub(crate) fn want_end(rt: &impl Abort, what: &str, stack: &mut Stack, reply: StackReply) {
-    want(rt, what, to_end(stack, 0, StackStep::Go(0)), reply);
+    want(rt, what, to_end(stack, 0, PlanStep::Go(0)), reply);
 }
 
 /// Goes on with the end of the world, to its end. Answers how many jobs it called.
 pub(crate) fn end(stack: &mut Stack) -> Option<u64> {
     for _ in 0..MANY {
-        let count = count_of(stack.step(StackStep::EndGo));
+        let count = count_of(stack.step(PlanStep::EndGo));
         if count.is_some() {
             return count;
         }
@@ -186,7 +192,7 @@ pub(crate) fn end(stack: &mut Stack) -> Option<u64> {
 /// How many jobs an end has called that is over.
 fn count_of(reply: StackReply) -> Option<u64> {
     match reply {
-        StackReply::World(Reply::Done(Answer::Count(count))) => Some(count),
+        PlanReply::World(Reply::Done(Answer::Count(count))) => Some(count),
         _ => None,
     }
 }

@@ -3,7 +3,7 @@ use crate::calls::{Stack, end, is_over, pinned_in, pop, shape_of, want, want_beg
 use crate::orders::{Did, Past, fit_a_list};
 use epoch_cells::Fault;
 use epoch_laws::Reply;
-use epoch_stack_world::{Plain, StackReply, StackStep};
+use epoch_stack_world::{PlainCall, PlanReply, PlanStep, StackAnswer, StackReply, StackStep, Work};
 use std::alloc::{AllocError, Global};
 use std::process::Abort;
 use std::test::Fail;
@@ -50,11 +50,11 @@ struct UnderWay {
 /// What a call did, by its last reply.
 fn did(rt: &impl Abort, call: UnderWay, reply: StackReply) -> Did {
     match (reply, call.value) {
-        (StackReply::Pushed, Some(value)) => Did::Pushed(value),
-        (StackReply::Popped(value), None) => Did::Popped(value),
-        (StackReply::Empty, None) => Did::Empty,
-        (StackReply::Failed(Fault::TriesOut), _) => Did::Nothing,
-        (StackReply::Failed(Fault::CellsFull), Some(_)) => Did::Nothing,
+        (PlanReply::Answered(StackAnswer::Pushed), Some(value)) => Did::Pushed(value),
+        (PlanReply::Answered(StackAnswer::Popped(value)), None) => Did::Popped(value),
+        (PlanReply::Answered(StackAnswer::Empty), None) => Did::Empty,
+        (PlanReply::Answered(StackAnswer::Failed(Fault::TriesOut)), _) => Did::Nothing,
+        (PlanReply::Answered(StackAnswer::Failed(Fault::CellsFull)), Some(_)) => Did::Nothing,
         _ => panic!(rt; "no reply to such a call: {reply:?}"),
     }
 }
@@ -63,9 +63,12 @@ fn did(rt: &impl Abort, call: UnderWay, reply: StackReply) -> Did {
 fn draw_call(draws: &mut Draws, participant: u64, value: u64) -> (StackStep, Option<u64>) {
     let tries = draws.below(4);
     if draws.below(2) == 0 {
-        (StackStep::Push(participant, 0, value, tries), Some(value))
+        (
+            PlanStep::Ask(participant, 0, Work::Push(value, tries)),
+            Some(value),
+        )
     } else {
-        (StackStep::Pop(participant, 0, tries), None)
+        (PlanStep::Ask(participant, 0, Work::Pop(tries)), None)
     }
 }
 
@@ -82,39 +85,39 @@ struct Run {
 }
 
 /// Makes the plain call, to its end. Answers how many removals it called.
-fn removals_of(rt: &impl Abort, stack: &mut Stack, participant: u64, call: Plain) -> u64 {
+fn removals_of(rt: &impl Abort, stack: &mut Stack, participant: u64, call: PlainCall) -> u64 {
     let mut removals: u64 = 0;
-    let mut reply = stack.step(StackStep::Begin(participant, call));
+    let mut reply = stack.step(PlanStep::Begin(participant, call));
     for _ in 0..MANY {
         if is_over(reply) {
             want_done_so(rt, reply);
             return removals;
         }
         removals = removals.wrapping_add(removals_told(reply));
-        reply = stack.step(StackStep::Go(participant));
+        reply = stack.step(PlanStep::Go(participant));
     }
     panic!(rt; "a plain call comes to no end")
 }
 
 /// A call is done with this reply.
 fn want_done_so(rt: &impl Abort, reply: StackReply) {
-    let done = matches!(reply, StackReply::World(Reply::Done(_)));
+    let done = matches!(reply, PlanReply::World(Reply::Done(_)));
     want(rt, "a plain call is done", done, true);
 }
 
 /// How many removals a reply tells of.
 fn removals_told(reply: StackReply) -> u64 {
     match reply {
-        StackReply::World(Reply::Called(_, _)) => 1,
+        PlanReply::World(Reply::Called(_, _)) => 1,
         _ => 0,
     }
 }
 
 /// A participant flushes, and leaves its pin for a new one. Answers how many removals were called.
 fn renew_pin(rt: &impl Abort, stack: &mut Stack, participant: u64) -> u64 {
-    let flushed = removals_of(rt, stack, participant, Plain::Flush(Some(0)));
-    let unpinned = removals_of(rt, stack, participant, Plain::Unpin(Some(0)));
-    let pinned = removals_of(rt, stack, participant, Plain::Pin);
+    let flushed = removals_of(rt, stack, participant, PlainCall::Flush(Some(0)));
+    let unpinned = removals_of(rt, stack, participant, PlainCall::Unpin(Some(0)));
+    let pinned = removals_of(rt, stack, participant, PlainCall::Pin);
     flushed.wrapping_add(unpinned).wrapping_add(pinned)
 }
 
@@ -166,7 +169,7 @@ fn go_on(
     participant: u64,
     call: UnderWay,
 ) -> Result<Option<UnderWay>, AllocError> {
-    let reply = stack.step(StackStep::Go(participant));
+    let reply = stack.step(PlanStep::Go(participant));
     if !is_over(reply) {
         return Ok(Some(call));
     }
@@ -240,7 +243,7 @@ fn pop_next(rt: &impl Abort, stack: &mut Stack, run: &mut Run) -> Result<StackRe
 fn pop_the_rest(rt: &impl Abort, stack: &mut Stack, run: &mut Run) -> Result<(), AllocError> {
     for _ in 0..=CALLS {
         let reply = pop_next(rt, stack, run)?;
-        if reply == StackReply::Empty {
+        if reply == PlanReply::Answered(StackAnswer::Empty) {
             return Ok(());
         }
     }
@@ -250,10 +253,10 @@ fn pop_the_rest(rt: &impl Abort, stack: &mut Stack, run: &mut Run) -> Result<(),
 /// Has all participants leave, and ends the world. Answers how many removals the end called.
 fn end_all(rt: &impl Abort, stack: &mut Stack) -> Option<u64> {
     for participant in 0..PARTICIPANTS {
-        want_done(rt, stack, participant, Plain::Unpin(Some(0)));
-        want_done(rt, stack, participant, Plain::Release);
+        want_done(rt, stack, participant, PlainCall::Unpin(Some(0)));
+        want_done(rt, stack, participant, PlainCall::Release);
     }
-    want_begun(rt, "the end begins", stack, StackStep::End);
+    want_begun(rt, "the end begins", stack, PlanStep::End);
     end(stack)
 }
 

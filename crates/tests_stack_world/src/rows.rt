@@ -7,31 +7,45 @@ use epoch_bags::{BagQueue, BagStore};
 use epoch_cells::Fault;
 use epoch_heap::Answer;
 use epoch_laws::{Deferral, Reply};
-use epoch_stack_world::{Plain, StackReply, StackStep, StackWorld};
+use epoch_stack_world::{
+    PlainCall, PlanReply, PlanStep, StackAnswer, StackReply, StackStep, StackWorld, Work,
+};
 use std::alloc::Global;
 use std::process::Abort;
 use std::test::Fail;
 
-const PUSHED: StackReply = StackReply::Pushed;
+const PUSHED: StackReply = PlanReply::Answered(StackAnswer::Pushed);
 
-const EMPTY: StackReply = StackReply::Empty;
+const EMPTY: StackReply = PlanReply::Answered(StackAnswer::Empty);
 
-const TRIES_OUT: StackReply = StackReply::Failed(Fault::TriesOut);
+const TRIES_OUT: StackReply = PlanReply::Answered(StackAnswer::Failed(Fault::TriesOut));
 
-const BAGS_FULL: StackReply = StackReply::Failed(Fault::BagsFull);
+const BAGS_FULL: StackReply = PlanReply::Answered(StackAnswer::Failed(Fault::BagsFull));
 
-const BUSY: StackReply = StackReply::World(Reply::Refused(Fault::Busy));
+const BUSY: StackReply = PlanReply::World(Reply::Refused(Fault::Busy));
 
-const STRANGER: StackReply = StackReply::World(Reply::Refused(Fault::StrangerGuard));
+const STRANGER: StackReply = PlanReply::World(Reply::Refused(Fault::StrangerGuard));
 
-const UNREGISTERED: StackReply = StackReply::World(Reply::Refused(Fault::NotRegistered));
+const UNREGISTERED: StackReply = PlanReply::World(Reply::Refused(Fault::NotRegistered));
 
 /// Two values are pushed, and come off last first; and then the stack is empty.
 fn want_two_values<S: BagStore<Job = Deferral>>(rt: &impl Abort, stack: &mut StackWorld<S>) {
     want_push(rt, "the first push", stack, (0, 1, 3), PUSHED);
     want_push(rt, "the second push", stack, (0, 2, 3), PUSHED);
-    want_pop(rt, "the first pop", stack, (0, 3), StackReply::Popped(2));
-    want_pop(rt, "the second pop", stack, (0, 3), StackReply::Popped(1));
+    want_pop(
+        rt,
+        "the first pop",
+        stack,
+        (0, 3),
+        PlanReply::Answered(StackAnswer::Popped(2)),
+    );
+    want_pop(
+        rt,
+        "the second pop",
+        stack,
+        (0, 3),
+        PlanReply::Answered(StackAnswer::Popped(1)),
+    );
     want_pop(rt, "the third pop", stack, (0, 3), EMPTY);
 }
 
@@ -54,9 +68,20 @@ fn a_stack_stands_over_a_queue_of_bags_too(rt: HostRuntime) -> Result<(), Fail> 
 /// participant 1 pops that value, and pushes 2.
 fn meet(rt: &impl Abort, stack: &mut Stack, tries: u64) {
     want_push(rt, "a push", stack, (0, 1, 1), PUSHED);
-    want_begun(rt, "a pop begins", stack, StackStep::Pop(0, 0, tries));
+    want_begun(
+        rt,
+        "a pop begins",
+        stack,
+        PlanStep::Ask(0, 0, Work::Pop(tries)),
+    );
     want_stepped(rt, "the pop goes on", stack, 13);
-    want_pop(rt, "another's pop", stack, (1, 1), StackReply::Popped(1));
+    want_pop(
+        rt,
+        "another's pop",
+        stack,
+        (1, 1),
+        PlanReply::Answered(StackAnswer::Popped(1)),
+    );
     want_push(rt, "another's push", stack, (1, 2, 1), PUSHED);
 }
 
@@ -64,7 +89,12 @@ fn meet(rt: &impl Abort, stack: &mut Stack, tries: u64) {
 fn an_exchange_that_others_met_is_tried_again(rt: HostRuntime) -> Result<(), Fail> {
     let mut stack: Stack = pinned(&rt, rt.alloc(), 2, 2)?;
     meet(&rt, &mut stack, 2);
-    want_end(&rt, "the second try", &mut stack, StackReply::Popped(2));
+    want_end(
+        &rt,
+        "the second try",
+        &mut stack,
+        PlanReply::Answered(StackAnswer::Popped(2)),
+    );
     Ok(())
 }
 
@@ -73,7 +103,7 @@ fn an_exchange_that_others_met_is_lost_in_the_last_try(rt: HostRuntime) -> Resul
     let mut stack: Stack = pinned(&rt, rt.alloc(), 2, 2)?;
     meet(&rt, &mut stack, 1);
     want_end(&rt, "the only try", &mut stack, TRIES_OUT);
-    let two = StackReply::Popped(2);
+    let two = PlanReply::Answered(StackAnswer::Popped(2));
     want_pop(&rt, "a further pop", &mut stack, (1, 1), two);
     Ok(())
 }
@@ -81,12 +111,29 @@ fn an_exchange_that_others_met_is_lost_in_the_last_try(rt: HostRuntime) -> Resul
 /// Participant 0 begins a push of 1: it places the value in the first cell, loads the head, stores it in the node, and
 /// begins its exchange. Then participant 1 pushes 2.
 fn meet_push(rt: &impl Abort, stack: &mut Stack) {
-    want_begun(rt, "a push begins", stack, StackStep::Push(0, 0, 1, 2));
+    want_begun(
+        rt,
+        "a push begins",
+        stack,
+        PlanStep::Ask(0, 0, Work::Push(1, 2)),
+    );
     want_stepped(rt, "the push goes on", stack, 10);
     want_push(rt, "another's push", stack, (1, 2, 1), PUSHED);
     want_end(rt, "the second try", stack, PUSHED);
-    want_pop(rt, "the first pop", stack, (1, 1), StackReply::Popped(1));
-    want_pop(rt, "the second pop", stack, (0, 1), StackReply::Popped(2));
+    want_pop(
+        rt,
+        "the first pop",
+        stack,
+        (1, 1),
+        PlanReply::Answered(StackAnswer::Popped(1)),
+    );
+    want_pop(
+        rt,
+        "the second pop",
+        stack,
+        (0, 1),
+        PlanReply::Answered(StackAnswer::Popped(2)),
+    );
     want_pop(rt, "the third pop", stack, (0, 1), EMPTY);
 }
 
@@ -101,7 +148,7 @@ fn a_push_that_others_met_is_tried_again(rt: HostRuntime) -> Result<(), Fail> {
 fn run_out(rt: &impl Abort, stack: &mut Stack) {
     want_pop(rt, "a pop", stack, (0, 0), TRIES_OUT);
     want_push(rt, "a push", stack, (0, 1, 0), TRIES_OUT);
-    let full = StackReply::Failed(Fault::CellsFull);
+    let full = PlanReply::Answered(StackAnswer::Failed(Fault::CellsFull));
     want_push(rt, "a further push", stack, (0, 1, 1), full);
     want_pop(rt, "a further pop", stack, (0, 1), EMPTY);
 }
@@ -117,45 +164,57 @@ fn a_call_in_no_try_runs_out_of_them(rt: HostRuntime) -> Result<(), Fail> {
 fn meet_no_pin(rt: &impl Abort, stack: &mut Stack) {
     want_pop(rt, "nobody is registered", stack, (0, 1), UNREGISTERED);
     want_push(rt, "past the table", stack, (1, 7, 1), UNREGISTERED);
-    let registered = StackReply::World(Reply::Registered(0));
-    want_reply(rt, "a registration", stack, StackStep::Register, registered);
+    let registered = PlanReply::World(Reply::Registered(0));
+    want_reply(rt, "a registration", stack, PlanStep::Register, registered);
     want_pop(rt, "no guard is out", stack, (0, 1), STRANGER);
-    want_done(rt, stack, 0, Plain::Pin);
+    want_done(rt, stack, 0, PlainCall::Pin);
 }
 
 /// A plain call is under way at a push, and then a push is at a pop and at a plain call.
 fn meet_a_call(rt: &impl Abort, stack: &mut Stack) {
-    let flush = StackStep::Begin(0, Plain::Flush(Some(0)));
+    let flush = PlanStep::Begin(0, PlainCall::Flush(Some(0)));
     want_begun(rt, "a plain call", stack, flush);
     want_push(rt, "a push within it", stack, (0, 7, 1), BUSY);
     want_done_at_last(rt, stack);
-    want_begun(rt, "a push", stack, StackStep::Push(0, 0, 7, 1));
-    want_reply(rt, "a pop within it", stack, StackStep::Pop(0, 0, 1), BUSY);
+    want_begun(rt, "a push", stack, PlanStep::Ask(0, 0, Work::Push(7, 1)));
+    want_reply(
+        rt,
+        "a pop within it",
+        stack,
+        PlanStep::Ask(0, 0, Work::Pop(1)),
+        BUSY,
+    );
     want_reply(rt, "a plain call within it", stack, flush, BUSY);
     want_end(rt, "the push", stack, PUSHED);
-    let idle = StackReply::World(Reply::Refused(Fault::Idle));
-    want_reply(rt, "a step of nothing", stack, StackStep::Go(0), idle);
+    let idle = PlanReply::World(Reply::Refused(Fault::Idle));
+    want_reply(rt, "a step of nothing", stack, PlanStep::Go(0), idle);
 }
 
 /// The plain call that participant 0 has under way is done.
 fn want_done_at_last(rt: &impl Abort, stack: &mut Stack) {
-    let done = StackReply::World(Reply::Done(Answer::Unit));
+    let done = PlanReply::World(Reply::Done(Answer::Unit));
     want_end(rt, "the plain call", stack, done);
 }
 
 /// The guard of participant 0 is paused, and resumed; another one, and then its own, pops the value.
 fn meet_a_pause(rt: &impl Abort, stack: &mut Stack) {
-    want_done(rt, stack, 0, Plain::Pause(Some(0)));
+    want_done(rt, stack, 0, PlainCall::Pause(Some(0)));
     want_pop(rt, "a paused guard", stack, (0, 1), BUSY);
-    want_done(rt, stack, 0, Plain::Resume(Some(0)));
+    want_done(rt, stack, 0, PlainCall::Resume(Some(0)));
     want_reply(
         rt,
         "another guard",
         stack,
-        StackStep::Pop(0, 1, 1),
+        PlanStep::Ask(0, 1, Work::Pop(1)),
         STRANGER,
     );
-    want_pop(rt, "its own guard", stack, (0, 1), StackReply::Popped(7));
+    want_pop(
+        rt,
+        "its own guard",
+        stack,
+        (0, 1),
+        PlanReply::Answered(StackAnswer::Popped(7)),
+    );
 }
 
 #[test]
@@ -170,9 +229,9 @@ fn refusals_come_in_their_order(rt: HostRuntime) -> Result<(), Fail> {
 /// One job fills the bag, and there is one place. The first bag is sealed with the epoch in which the participant is
 /// pinned, so it stays in its place.
 fn fill_up(rt: &impl Abort, stack: &mut Stack) {
-    want_done(rt, stack, 0, Plain::Defer(Some(0)));
+    want_done(rt, stack, 0, PlainCall::Defer(Some(0)));
     want_push(rt, "the bag is put", stack, (0, 7, 1), PUSHED);
-    want_done(rt, stack, 0, Plain::Defer(Some(0)));
+    want_done(rt, stack, 0, PlainCall::Defer(Some(0)));
     want_pop(rt, "no place is left", stack, (0, 1), BAGS_FULL);
     want_push(rt, "nor for a push", stack, (0, 8, 1), BAGS_FULL);
 }
@@ -187,10 +246,16 @@ fn a_full_bag_is_flushed_first(rt: HostRuntime) -> Result<(), Fail> {
 /// A value comes and goes, and the participant leaves. The end calls the removal of the value.
 fn leave_and_end(rt: &impl Abort, stack: &mut Stack) {
     want_push(rt, "a push", stack, (0, 1, 1), PUSHED);
-    want_pop(rt, "a pop", stack, (0, 1), StackReply::Popped(1));
-    want_done(rt, stack, 0, Plain::Unpin(Some(0)));
-    want_done(rt, stack, 0, Plain::Release);
-    want_begun(rt, "the end begins", stack, StackStep::End);
+    want_pop(
+        rt,
+        "a pop",
+        stack,
+        (0, 1),
+        PlanReply::Answered(StackAnswer::Popped(1)),
+    );
+    want_done(rt, stack, 0, PlainCall::Unpin(Some(0)));
+    want_done(rt, stack, 0, PlainCall::Release);
+    want_begun(rt, "the end begins", stack, PlanStep::End);
     want(rt, "the end calls the removal", end(stack), Some(1));
 }
 
@@ -204,15 +269,15 @@ fn an_end_calls_each_removal(rt: HostRuntime) -> Result<(), Fail> {
 /// A push of the first value into the first cell: it places the value, loads the head, stores it in the node and
 /// exchanges the head, each by a begin, one step on cells or pointers, and an end; and then it answers.
 fn push_alone() -> [StackStep; 14] {
-    let mut steps = [StackStep::Go(0); 14];
-    steps[0] = StackStep::Push(0, 0, 5, 1);
+    let mut steps = [PlanStep::Go(0); 14];
+    steps[0] = PlanStep::Ask(0, 0, Work::Push(5, 1));
     steps
 }
 
 /// The replies to such a push.
 fn pushed_alone() -> [StackReply; 14] {
-    let mut replies = [StackReply::World(Reply::Stepped); 14];
-    replies[0] = StackReply::World(Reply::Began);
+    let mut replies = [PlanReply::World(Reply::Stepped); 14];
+    replies[0] = PlanReply::World(Reply::Began);
     replies[13] = PUSHED;
     replies
 }
@@ -227,7 +292,13 @@ fn a_list_of_steps_is_taken_one_by_one(rt: HostRuntime) -> Result<(), Fail> {
     let mut stack: Stack = pinned(&rt, rt.alloc(), 1, 1)?;
     let replies = stack.run(&push_alone())?;
     want_pushed(&rt, &replies);
-    want_pop(&rt, "a pop", &mut stack, (0, 1), StackReply::Popped(5));
+    want_pop(
+        &rt,
+        "a pop",
+        &mut stack,
+        (0, 1),
+        PlanReply::Answered(StackAnswer::Popped(5)),
+    );
     Ok(())
 }
 
