@@ -30,7 +30,8 @@ fn hold_back<'c>(
     held
 }
 
-/// Repins `own`, whose guard this is, after a round of `other` for each number. The count stands at the number after it.
+/// Repins `own`, whose guard this is, after a round of `other` for each number. The count stands at the number after
+/// it.
 fn repin_after_rounds<'c>(
     rt: &impl Abort,
     own: &mut Handle<'c>,

@@ -140,6 +140,7 @@ pub(crate) fn shown(rt: &impl Abort, alloc: Global, guard: &Guard<'_, u64>) {
     want_shown(rt, alloc, &atomic, text);
     let lost = atomic.compare_exchange(null, null, SeqCst, SeqCst, guard);
     let text =
-        "CompareExchangeError { current: Shared { name: Some(Name { turn: 0, slot: 1 }), tag: 2, .. }, new: Shared { name: None, tag: 0, .. } }";
+        "CompareExchangeError { current: Shared { name: Some(Name { turn: 0, slot: 1 }), tag: 2, .. }, \
+        new: Shared { name: None, tag: 0, .. } }";
     want_shown(rt, alloc, &changed(rt, lost), text);
 }
