@@ -50,6 +50,7 @@ test:
 	@tools/refute.py --stand
 	@tools/quotes.py
 	@tools/names.py
+	-@tools/sizes.py
 	@tools/gate.py
 
 refute:
