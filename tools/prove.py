@@ -70,10 +70,26 @@ def prove(uses, name, jobs):
     return name, ran.returncode, ran.stdout, time.monotonic() - start
 
 
+def work_in(name):
+    """Returns about how much work the proof of a crate is, as bytes: a line of code takes some ten times as long as one of a proof."""
+    files = [f"{at}/{it}" for part in ("src", "specs", "proofs") for at, _, found in os.walk(f"crates/{name}/{part}") for it in found]
+    return sum(os.path.getsize(it) * (10 if it.endswith(".rt") else 1) for it in files)
+
+
+def chains(uses, order):
+    """Returns, for each crate, how much work the longest chain is that begins with its proof."""
+    found = {}
+    for name in reversed(order):
+        found[name] = work_in(name) + max((found[it] for it in found if name in uses[it]), default=0)
+    return found
+
+
 def main(names):
     uses = libraries()
     apart(ROOM)
     left, done, running = below(uses, names), set(), {}
+    length = chains(uses, left)
+    left.sort(key=lambda it: -length[it])
     memory = os.sysconf("SC_PHYS_PAGES") * os.sysconf("SC_PAGE_SIZE")
     lanes = max(1, min(len(os.sched_getaffinity(0)), memory // BYTES_A_PROOF))
     total = len(left)
@@ -82,7 +98,8 @@ def main(names):
             ready = [it for it in left if done.issuperset(filter(uses.__contains__, uses[it]))][: lanes - len(running)]
             for name in ready:
                 left.remove(name)
-                jobs = max(1, lanes // (len(running) + len(ready)))
+                # A proof with several jobs leaves processors idle for almost half of its time, so two proofs get twice as many as there are.
+                jobs = max(1, min(lanes, 2 * lanes // (len(running) + len(ready))))
                 running[pool.submit(prove, uses, name, jobs)] = name
             ended, _ = wait(running, return_when=FIRST_COMPLETED)
             for it in ended:
