@@ -66,7 +66,7 @@ impl List {
         let mut entry = Owned::new(alloc, Entry { number, next })?;
         let mut first = self.first.load(SeqCst, guard);
         for _ in 0..tries {
-            // Nobody else can reach the entry before the exchange is won.
+            // No other thread can reach the entry before the exchange is won.
             entry.next = Atomic::from(first);
             match self
                 .first

@@ -1,4 +1,4 @@
-//! A function that is called later, when nobody who was pinned at its deferral is pinned any more.
+//! A function that is called later, when every thread that was pinned at its deferral has ended that pin.
 ghost use Rattle.std.specs.Prelude.{◌≡◌, IfErr};
 ghost use Rattle.epoch_handles.specs.Handles.{Owns};
 

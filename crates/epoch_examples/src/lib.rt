@@ -4,8 +4,10 @@
 pub mod crossed_out;
 pub mod deferred;
 pub mod last_owner;
+pub mod owners;
 pub mod replacement;
 pub mod schedule;
 pub mod shared_value;
 #[cfg(test)]
 mod tests;
+pub mod work_queue;

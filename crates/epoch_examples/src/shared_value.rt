@@ -30,7 +30,7 @@ pub fn replace(
     requires { Owns handle.old guard.now }
     ensures owns { Owns handle.new guard.now }
 {
-    // Room for the deferral comes first: a value that nobody can reach any more, and whose destruction was refused,
+    // Room for the deferral comes first: a value that no thread can reach any more, and whose destruction was refused,
     // would keep its cell until the end.
     if !handle.has_room() {
         handle.flush(guard)?;
