@@ -13,6 +13,7 @@ flushes : (g : ℕ) (work : Work) → IsFlush (deed_of g (begin_work work false)
 flushes g work = tt
 
 pub queue_asks_ready : (old : QueueState) (log : List QueueEntry) (new : QueueState) (run : GoesByQueue old log new)
-    → AllAskReady old.world (plans_in old.plans) (events_of log) new.world (plans_in new.plans) (queue_run old log new run)
+    → AllAskReady old.world (plans_in old.plans) (events_of log) new.world (plans_in new.plans)
+    (queue_run old log new run)
 queue_asks_ready old log new run = asks_ready deed_of Starts begin_work flushes old.world (plans_in old.plans) log
     new.world (plans_in new.plans) run

@@ -92,9 +92,11 @@ FirstInFirstOut old log new run = (next : State) (x : Entry) → TakesStep new.w
 
 -- Each call of the world that a phase makes is replied to as expected, where there are at most 64 participants, and a
 -- cell has one field.
-abbrev pub ServesCalls : (old : QueueState) (log : List QueueEntry) (new : QueueState) → GoesByQueue old log new → Type 0
+abbrev pub ServesCalls : (old : QueueState) (log : List QueueEntry) (new : QueueState) → GoesByQueue old log new
+    → Type 0
 ServesCalls old log new run = length old.world.seats ≤ 64 → old.world.heap.fields ≡ 1
-    → AllServed old.world (plans_in old.plans) (events_of log) new.world (plans_in new.plans) (queue_run old log new run)
+    → AllServed old.world (plans_in old.plans) (events_of log) new.world (plans_in new.plans)
+    (queue_run old log new run)
 
 -- A LONE CALL
 
