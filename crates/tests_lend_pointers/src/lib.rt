@@ -1,0 +1,10 @@
+//! Tests of `epoch_lend_pointers` by its public calls.
+#![tactic(auto)]
+
+#[cfg(test)]
+mod probes;
+pub mod shares;
+#[cfg(test)]
+mod threads;
+#[cfg(test)]
+mod wants;
