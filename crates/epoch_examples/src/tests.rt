@@ -2,19 +2,23 @@
 use crate::crossed_out::{Entry, List};
 use crate::deferred::call_soon;
 use crate::last_owner::take_apart;
+use crate::owners::{claim, give_up};
 use crate::replacement::read_late;
 use crate::schedule::half_a_pin;
 use crate::shared_value::{read, replace};
+use crate::work_queue::{receive, send};
 use epoch_base::{Job, Work};
+use epoch_map::{Map, Node as MapNode};
 use epoch_pin::atomic::Atomic;
 use epoch_pin::{Capacities, Collector, LocalHandle};
+use epoch_queue::{Node as QueueNode, Queue};
 use epoch_stack::{Node, Stack};
 use epoch_world::{Answer, Reply};
 use std::alloc::Global;
 use std::process::Abort;
-use std::sync::Arc;
 use std::sync::atomic::AtomicU64;
 use std::sync::atomic::Ordering::SeqCst;
+use std::sync::{Arc, Wait};
 use std::test::Fail;
 use std::thread;
 
@@ -61,6 +65,48 @@ fn readers_read_while_one_thread_replaces(rt: HostRuntime) -> Result<(), Fail> {
         let _ = scope.spawn(move || write_500(host, alloc, shared, place));
         for _ in 0..7u64 {
             let _ = scope.spawn(move || read_500(host, shared, place));
+        }
+    });
+    let _ = collector.end();
+    Ok(())
+}
+
+/// Replaces the value by 250 multiples of 7, each under a guard of its own.
+fn write_sevens(rt: &impl Abort, alloc: Global, collector: &Collector<u64>, pointer: &Atomic<u64>) {
+    let mut handle = collector.register().expect(rt, "a free position");
+    for value in 1..251u64 {
+        assert!(rt; handle.can_pin());
+        let guard = handle.pin();
+        let replaced = replace(alloc, pointer, 7 * value, &mut handle, &guard);
+        replaced.expect(rt, "room for the value");
+        handle.unpin(guard);
+    }
+    leave(rt, handle);
+}
+
+/// Reads the value 250 times: it is always a multiple of 7.
+fn read_sevens(rt: &impl Abort, collector: &Collector<u64>, pointer: &Atomic<u64>) {
+    let mut handle = collector.register().expect(rt, "a free position");
+    for _ in 0..250u64 {
+        assert!(rt; handle.can_pin());
+        let guard = handle.pin();
+        let value = read(pointer, &guard).unwrap_or(0);
+        handle.unpin(guard);
+        assert!(rt; value % 7 == 0, "{value} was never written");
+    }
+    leave(rt, handle);
+}
+
+#[test]
+fn readers_read_while_four_threads_replace(rt: HostRuntime) -> Result<(), Fail> {
+    let capacities = Capacities::usual(8, 2048, 64);
+    let collector = Collector::<u64>::new(rt.alloc(), capacities, 1)?;
+    let pointer = Atomic::<u64>::null();
+    let (host, alloc, shared, place) = (&rt, rt.alloc(), &collector, &pointer);
+    thread::scope(thread::scope_env(), &rt, |scope| {
+        for _ in 0..4u64 {
+            let _ = scope.spawn(move || write_sevens(host, alloc, shared, place));
+            let _ = scope.spawn(move || read_sevens(host, shared, place));
         }
     });
     let _ = collector.end();
@@ -216,6 +262,127 @@ fn each_number_is_crossed_out_by_one_thread(rt: HostRuntime) -> Result<(), Fail>
     });
     assert_eq!(rt; count.load(SeqCst), 50);
     assert_eq!(rt; list.take_apart(&collector), 50);
+    let _ = collector.end();
+    Ok(())
+}
+
+/// Sends the numbers from 1 to 100.
+fn send_100<R: Abort + Wait>(
+    rt: &R,
+    collector: &Collector<QueueNode<u64>>,
+    queue: &Queue<'_, u64>,
+) {
+    let mut handle = collector.register().expect(rt, "a free position");
+    for number in 1..101u64 {
+        for _ in rt.forever() {
+            assert!(rt; handle.guards_out() == 0);
+            if send(queue, &mut handle, number).is_ok() {
+                break;
+            }
+            thread::yield_now();
+        }
+    }
+    assert!(rt; handle.guards_out() == 0);
+    handle.release().expect(rt, "a place for the bag");
+}
+
+/// Takes numbers until all threads together have 400, and adds them up.
+fn receive_some<R: Abort + Wait>(
+    rt: &R,
+    collector: &Collector<QueueNode<u64>>,
+    queue: &Queue<'_, u64>,
+    (count, sum): (&AtomicU64, &AtomicU64),
+) {
+    let mut handle = collector.register().expect(rt, "a free position");
+    for _ in rt.forever() {
+        if count.load(SeqCst) == 400 {
+            break;
+        }
+        assert!(rt; handle.guards_out() == 0);
+        match receive(queue, &mut handle) {
+            Ok(Some(number)) => {
+                let _ = sum.fetch_add(number, SeqCst);
+                let _ = count.fetch_add(1, SeqCst);
+            }
+            Ok(None) | Err(_) => thread::yield_now(),
+        }
+    }
+    assert!(rt; handle.guards_out() == 0);
+    handle.release().expect(rt, "a place for the bag");
+}
+
+#[test]
+fn four_threads_receive_what_four_others_send(rt: HostRuntime) -> Result<(), Fail> {
+    let capacities = Capacities::usual(8, 1024, 64);
+    let collector = Collector::<QueueNode<u64>>::new(rt.alloc(), capacities, 1)?;
+    let queue = Queue::new(rt.alloc(), &collector).expect(&rt, "a cell for the first node");
+    let (count, sum) = (AtomicU64::new(0), AtomicU64::new(0));
+    let (host, nodes, shared, counted, summed) = (&rt, &collector, &queue, &count, &sum);
+    thread::scope(thread::scope_env(), &rt, |scope| {
+        for _ in 0..4u64 {
+            let _ = scope.spawn(move || send_100(host, nodes, shared));
+            let _ = scope.spawn(move || receive_some(host, nodes, shared, (counted, summed)));
+        }
+    });
+    assert_eq!(rt; sum.load(SeqCst), 4 * 5050);
+    drop(queue);
+    let _ = collector.end();
+    Ok(())
+}
+
+/// Claims the keys from 1 to 100 for this owner, and counts those that it got.
+fn claim_100<R: Abort + Wait>(
+    rt: &R,
+    collector: &Collector<MapNode>,
+    map: &Map<'_>,
+    owner: u32,
+    count: &AtomicU64,
+) {
+    let mut handle = collector.register().expect(rt, "a free position");
+    for key in 1..101u32 {
+        for _ in rt.forever() {
+            assert!(rt; handle.guards_out() == 0);
+            if let Ok(first) = claim(map, &mut handle, key, owner) {
+                if first == owner {
+                    let _ = count.fetch_add(1, SeqCst);
+                }
+                break;
+            }
+            thread::yield_now();
+        }
+    }
+    assert!(rt; handle.guards_out() == 0);
+    handle.release().expect(rt, "a place for the bag");
+}
+
+/// Gives up the keys from 0 to 100, and answers how many had an owner.
+fn give_up_all(rt: &impl Abort, collector: &Collector<MapNode>, map: &Map<'_>) -> u64 {
+    let mut handle = collector.register().expect(rt, "a free position");
+    let mut owned: u64 = 0;
+    for key in 0..101u32 {
+        assert!(rt; handle.guards_out() == 0);
+        let owner = give_up(map, &mut handle, key).expect(rt, "room for a removal");
+        owned = owned.wrapping_add(if owner.is_some() { 1 } else { 0 });
+    }
+    assert!(rt; handle.guards_out() == 0);
+    handle.release().expect(rt, "a place for the bag");
+    owned
+}
+
+#[test]
+fn each_key_is_claimed_by_one_of_eight_threads(rt: HostRuntime) -> Result<(), Fail> {
+    let collector = Collector::<MapNode>::new(rt.alloc(), Capacities::usual(8, 2048, 64), 1)?;
+    let map = Map::new(rt.alloc(), &collector, 4).expect(&rt, "memory for the buckets");
+    let count = AtomicU64::new(0);
+    let (host, nodes, shared, counted) = (&rt, &collector, &map, &count);
+    thread::scope(thread::scope_env(), &rt, |scope| {
+        for owner in 0..8u32 {
+            let _ = scope.spawn(move || claim_100(host, nodes, shared, owner, counted));
+        }
+    });
+    assert_eq!(rt; count.load(SeqCst), 100);
+    assert_eq!(rt; give_up_all(&rt, &collector, &map), 100);
+    drop(map);
     let _ = collector.end();
     Ok(())
 }
