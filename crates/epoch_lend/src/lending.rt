@@ -155,3 +155,5 @@ unsafe impl<T: Send + Sync> Send for Lending<T> {}
 unsafe impl<T: Send + Sync> Sync for Lending<T> {}
 
 unsafe impl<T: Send + Sync> Send for Marked<T> {}
+
+unsafe impl<T: Send + Sync> Sync for Marked<T> {}

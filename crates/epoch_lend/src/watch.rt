@@ -92,3 +92,5 @@ impl Watch {
 }
 
 unsafe impl Send for Watch {}
+
+unsafe impl Sync for Watch {}

@@ -355,6 +355,8 @@ unsafe impl<T: Send> Send for Filled<T> {}
 
 unsafe impl<T: Send> Send for Vacancy<T> {}
 
+unsafe impl<T: Send> Sync for Vacancy<T> {}
+
 unsafe impl<T> Send for Name<T> {}
 
 unsafe impl<T> Sync for Name<T> {}

@@ -1,0 +1,6 @@
+//! A page to copy: a sorted list that readers look through by plain loads.
+#![tactic(auto)]
+
+pub mod sorted_list;
+#[cfg(test)]
+mod tests;

@@ -1,0 +1,74 @@
+//! Guards that values are lent to.
+ghost use Rattle.std.specs.Prelude.{◌≡◌, map, IfSome, IfOk, IfErr, Some};
+ghost use Rattle.epoch_cells.specs.declared.fault.Fault.TheVariants.{CellsFull};
+ghost use Rattle.epoch_atomic.specs.Pointers.{IsUnder};
+ghost use Rattle.epoch_lend_store.specs.Named.{StandsUnder};
+
+use epoch_atomic::atomic::Shared;
+use epoch_cells::{Fault, Refused};
+use epoch_handles::Guard;
+use epoch_lend_cells::sight::Sight;
+use epoch_lend_readers::posts::PostSet;
+use epoch_lend_readers::reader::Pinned;
+use epoch_lend_store::lent_cells::LentCells;
+use std::fmt;
+
+/// A guard of a pin, to which values are lent. It must be given back, to `LendingHandle::unpin`.
+///
+/// What is lent under a reference to it stays for as long as that reference does.
+pub struct LendingGuard<'c, 's, J: PostSet, T, W> {
+    pub(crate) guard: Guard<'c, T, W>,
+    pub(crate) pinned: Pinned<'s, J>,
+    pub(crate) cells: &'s LentCells<J, T>,
+}
+
+impl<'c, 's, J: PostSet, T, W> fmt::Debug for LendingGuard<'c, 's, J, T, W> {
+    fn fmt<F: fmt::Write>(&self, f: &mut fmt::Formatter<F>) -> fmt::Result {
+        f.pad("LendingGuard { .. }")
+    }
+}
+
+impl<'c, 's, J: PostSet, T, W> LendingGuard<'c, 's, J, T, W> {
+    /// Answers the collector's guard, under which pointers are loaded and exchanged.
+    #[inline(always)]
+    pub fn guard(&self) -> &Guard<'c, T, W>
+        ensures { result.now ≡ self.now.guard }
+    {
+        &self.guard
+    }
+
+    /// Lends the value that the pointer names, by two plain loads, for as long as this guard is borrowed.
+    ///
+    /// `None`: the pointer is null; or its value was retired, and each pin from before is over.
+    #[inline(always)]
+    pub fn get<'g>(&'g self, pointer: Shared<'_, T>) -> Option<&'g T> {
+        match self.look(pointer) {
+            Some(sight) => Some(sight.value),
+            None => None,
+        }
+    }
+
+    /// Does what [`LendingGuard::get`] does, and answers a witness, too, of which value was placed under this name.
+    #[inline(always)]
+    pub fn look<'g>(&'g self, pointer: Shared<'_, T>) -> Option<Sight<'g, T>>
+        ensures named { IfSome result (λ sight. IfSome pointer.entry.name
+            (λ name. StandsUnder (map (λ s. s.turns.log) self.now.cells.now.cells.slots.items) name sight.name.log
+            sight.name.turn)) }
+    {
+        self.cells.look(pointer.name()?, &self.pinned)
+    }
+}
+
+impl<'c, 's, J: PostSet, T: Drop, W> LendingGuard<'c, 's, J, T, W> {
+    /// Places the value in a cell, and answers the pointer to it, with tag 0.
+    ///
+    /// `CellsFull`: every cell was seen in use. The value is handed back.
+    pub fn place<'g>(&'g self, value: T) -> Result<Shared<'g, T>, Refused<T>>
+        ensures tag { IfOk result (λ pointer. pointer.tag ≡ 0) }
+        ensures home { IfOk result (λ pointer. IsUnder self.now.guard.collector.now.id pointer.home) }
+        ensures full { IfErr result (λ refused. (refused.fault ≡ CellsFull) × (refused.value ≡ value)) }
+    {
+        let placed = self.cells.place(value)?;
+        Ok(Shared::named(placed.name, &self.guard))
+    }
+}

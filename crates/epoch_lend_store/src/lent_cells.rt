@@ -1,0 +1,130 @@
+//! Cells whose values have names, the posts of the readers that they are lent to, and a clock.
+ghost use Rattle.std.specs.Prelude.{◌≡◌, ◌<◌, ◌≤◌, ◌^◌, length, map, IfOk, IfErr, IfSome, IsOkUnless};
+ghost use Rattle.epoch_cells.specs.declared.fault.Fault.TheVariants.{NoMemory, CellsFull};
+ghost use Rattle.epoch_lend_store.specs.Named.{StandsUnder};
+
+use crate::spots::{LAST_TURN, name_of, spot_of};
+use epoch_cells::{Fault, MOST_SLOT, Name, Refused};
+use epoch_lend_array::cells::LendingCells;
+use epoch_lend_cells::sight::Sight;
+use epoch_lend_cells::turns::Name as Witness;
+use epoch_lend_readers::posts::{PostSet, Posts};
+use epoch_lend_readers::reader::{Pinned, Reader};
+use std::alloc::Global;
+use std::sync::atomic::AtomicU64;
+use std::sync::atomic::Ordering::SeqCst;
+
+/// A value that was placed: its name, and a witness of which value was placed under this name.
+#[derive(Drop)]
+pub struct Placed<T> {
+    pub name: Name,
+    pub witness: Witness<T>,
+}
+
+/// A fixed number of cells, whose values are lent to readers at the posts of a set, and a clock for these readers.
+///
+/// Threads share it by `&`.
+#[derive(Drop)]
+pub struct LentCells<J: PostSet, T> {
+    pub(crate) posts: Posts<J>,
+    pub(crate) cells: LendingCells<J, T>,
+    // Twice an epoch, that of a pin which begins now.
+    clock: AtomicU64,
+    pub ghost few: { length cells.slots.items ≤ 16777215 },
+    pub ghost named: { cells.last_turn ≤ 4294967295 },
+}
+
+impl<J: PostSet, T: Drop> LentCells<J, T> {
+    /// Makes so many empty cells, from 0 to [`MOST_SLOT`], for the readers at these posts.
+    ///
+    /// `NoMemory`: an allocation was refused.
+    pub fn new(alloc: Global, capacity: u32, posts: Posts<J>) -> Result<LentCells<J, T>, Fault>
+        requires { capacity ≤ MOST_SLOT }
+        ensures memory { IsOkUnless result NoMemory }
+        ensures cells { IfOk result (λ lent. length lent.cells.slots.items ≡ capacity) }
+    {
+        match LendingCells::new(alloc, capacity as usize, LAST_TURN, &posts) {
+            Ok(cells) => Ok(LentCells {
+                posts,
+                cells,
+                clock: AtomicU64::new(2),
+            }),
+            Err(_) => Err(Fault::NoMemory),
+        }
+    }
+
+    /// Places the value in the first cell that is seen empty, and answers the name that it has from then on.
+    ///
+    /// `CellsFull`: every cell was seen in use, or past its last turn. The value is handed back.
+    pub fn place(&self, value: T) -> Result<Placed<T>, Refused<T>>
+        ensures placed { IfOk result (λ placed. placed.witness.value ≡ value) }
+        ensures named { IfOk result
+            (λ placed. StandsUnder (map (λ s. s.turns.log) self.now.cells.slots.items) placed.name placed.witness.log
+            placed.witness.turn) }
+        ensures full { IfErr result (λ refused. (refused.fault ≡ CellsFull) × (refused.value ≡ value)) }
+    {
+        match self.cells.place(value) {
+            Ok(placed) => {
+                let name = name_of(placed.spot);
+                Ok(Placed {
+                    name,
+                    witness: placed.name,
+                })
+            }
+            Err(value) => Err(Refused {
+                fault: Fault::CellsFull,
+                value,
+            }),
+        }
+    }
+}
+
+impl<J: PostSet, T> LentCells<J, T> {
+    /// Answers how many cells there are.
+    pub fn capacity(&self) -> usize
+        ensures value { result ≡ length self.now.cells.slots.items }
+        ensures within { result ≤ MOST_SLOT }
+    {
+        self.cells.len()
+    }
+
+    /// Answers how many readers can be registered at a time.
+    pub fn readers(&self) -> usize
+        ensures { result ≡ length J.posts }
+    {
+        self.posts.len()
+    }
+
+    /// Two plain loads. Lends the value of this name for as long as the reference to the pinned reader is, with a
+    /// witness that it was placed under this name. `None`: none was placed there yet, or it was marked.
+    #[inline(always)]
+    pub fn look<'g>(&self, name: Name, pinned: &'g Pinned<'_, J>) -> Option<Sight<'g, T>>
+        ensures named { IfSome result
+            (λ sight. StandsUnder (map (λ s. s.turns.log) self.now.cells.slots.items) name sight.name.log
+            sight.name.turn) }
+    {
+        self.cells.look(spot_of(name), pinned)
+    }
+
+    /// Registers a reader at a post that no reader has. `None`: each post was seen with a reader.
+    pub fn register(&self) -> Option<Reader<'_, J>> {
+        self.posts.register()
+    }
+
+    /// The epoch of a pin that begins now.
+    #[inline(always)]
+    pub fn epoch(&self) -> u64
+        ensures { result < 2 ^ 63 }
+    {
+        self.clock.load(SeqCst) / 2
+    }
+
+    /// Lets pins that begin from now on be of a later epoch.
+    pub(crate) fn advance(&self) {
+        self.clock.fetch_add(2, SeqCst);
+    }
+}
+
+unsafe impl<J: PostSet, T: Send + Sync> Send for LentCells<J, T> {}
+
+unsafe impl<J: PostSet, T: Send + Sync> Sync for LentCells<J, T> {}

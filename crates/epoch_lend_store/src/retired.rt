@@ -1,0 +1,76 @@
+//! Retired values: they are marked when their grace period is over, and wait then for guards that they were lent to.
+ghost use Rattle.std.specs.Prelude.{◌≡◌, ◌≤◌, ◌<◌, ◌++◌, ◌∷◌, [], IfOk, OnOk, OnErr, IsOk, vec_len, vec_capacity};
+
+use crate::lender::Lender;
+use epoch_lend_array::bag::Bag;
+use epoch_lend_array::cells::Spot;
+use epoch_lend_readers::posts::PostSet;
+use std::alloc::{AllocError, Global};
+
+/// How many values are retired by one job.
+pub const RETIRED_TOGETHER: usize = 64;
+
+/// Where values are that were retired, and will be marked together.
+#[derive(Drop)]
+pub struct Retired<'q, 's, J: PostSet, T> {
+    lender: &'q Lender<'s, J, T>,
+    spots: Vec<Spot>,
+    // Room for the removals, taken beforehand: the call of a job takes no memory.
+    bag: Bag<'s, J, T>,
+}
+
+impl<'q, 's, J: PostSet, T> Retired<'q, 's, J, T> {
+    /// None yet, with room for [`RETIRED_TOGETHER`]. It fails for want of memory alone.
+    pub fn new(
+        alloc: Global,
+        lender: &'q Lender<'s, J, T>,
+    ) -> Result<Retired<'q, 's, J, T>, AllocError>
+        ensures { IfOk result (λ retired. retired.spots.items ≡ []) }
+    {
+        let spots = Vec::with_capacity(alloc, RETIRED_TOGETHER)?;
+        let bag = Bag::with_capacity(alloc, RETIRED_TOGETHER)?;
+        Ok(Retired { lender, spots, bag })
+    }
+
+    /// Answers the lender.
+    #[inline(always)]
+    pub fn lender(&self) -> &'q Lender<'s, J, T>
+        ensures { result.now ≡ self.now.lender.now }
+    {
+        self.lender
+    }
+
+    /// Answers how many there are.
+    pub fn len(&self) -> usize
+        ensures { result ≡ vec_len self.now.spots }
+    {
+        self.spots.len()
+    }
+
+    /// Adds the value at this spot. `Err`: there was no memory.
+    pub fn keep(&mut self, spot: Spot) -> Result<(), AllocError>
+        ensures ok { OnOk result (self.new.spots.items ≡ self.old.spots.items ++ spot ∷ []) }
+        ensures err { OnErr result (self.new.spots.items ≡ self.old.spots.items) }
+    {
+        match self.spots.push(spot) {
+            Ok(()) => Ok(()),
+            Err(_) => Err(AllocError),
+        }
+    }
+}
+
+impl<'q, 's, J: PostSet, T: Drop> Retired<'q, 's, J, T> {
+    /// Marks the values, looks at each post once for all of them, and gives them to the lender.
+    pub fn mark(self) {
+        let Retired { lender, spots, bag } = self;
+        let mut removals = bag;
+        let mut home = 0;
+        for spot in &spots {
+            if let Some(removal) = lender.cells.cells.mark(*spot) {
+                home = spot.slot;
+                let _ = removals.push(removal);
+            }
+        }
+        lender.take(home, removals.seal(&lender.cells.posts));
+    }
+}
