@@ -2,3 +2,4 @@ mod OnePhase
 mod SameNumbers
 mod Standing
 mod Walks
+mod Carried

@@ -6,8 +6,10 @@ mod node;
 mod queue;
 mod spots;
 mod straight;
+mod taking;
 
 pub use calls::{pop_over, push_over};
 pub use node::Node;
 pub use queue::Queue;
 pub use spots::SharedSpots;
+pub use taking::TakingSpots;
