@@ -9,6 +9,7 @@ ghost use Rattle.epoch_machine.specs.declared.machine.Action.TheVariants.{Pin, U
 
 use crate::collector::Collector;
 use crate::guard::Guard;
+use crate::interlude::{HasInterlude, Interlude};
 use crate::local::Local;
 use crate::paused::Paused;
 use crate::released::Released;
@@ -300,10 +301,13 @@ impl<'c, T: Drop, W: Run> LocalHandle<'c, T, W> {
     /// collect. With more guards out the participant stays pinned, and under an unprotected guard `f` is only called.
     ///
     /// The guard must be this handle's, or unprotected. The call is for work that takes long and needs no protection.
-    /// It is a [`LocalHandle::pause`], the call of `f`, and a [`LocalHandle::resume`]: a caller that must know that the
-    /// participant is unpinned while its code runs makes these calls itself. As `Guard::repin_after` of
-    /// crossbeam-epoch.
-    pub fn repin_after<F: FnOnce() -> X, X>(&mut self, guard: &mut Guard<'c, T, W>, f: F) -> X
+    /// It is a [`LocalHandle::pause`], the call of `f`, and a [`LocalHandle::resume`]. The clauses tell by
+    /// [`Interlude`] that `f` was called between these two. As `Guard::repin_after` of crossbeam-epoch.
+    pub fn repin_after<F: FnOnce() -> X + HasInterlude<M>, X, M: Interlude<W, F, X>>(
+        &mut self,
+        guard: &mut Guard<'c, T, W>,
+        f: F,
+    ) -> X
         requires guard { guard.old.position ≡ None ⊎ Owns self.old guard.old }
         requires f { F.pre f }
         ensures f { F.post f result }
@@ -314,16 +318,17 @@ impl<'c, T: Drop, W: Run> LocalHandle<'c, T, W> {
         ensures unprotected { guard.old.position ≡ None → self.new ≡ self.old }
         ensures does { IsSome guard.old.position → (between : _) × IsBetween self.old between
             × Does self.old Unpin between × Does between Pin self.new
-            × DoesAndCalls W.done W.Removing.tried between Pin self.new }
+            × DoesAndCalls W.done W.Removing.tried between Pin self.new
+            × M.ran between.seat.me.0 between.machine f result }
     {
         if !guard.is_protecting() {
             // For the prover, as in `flush`: a field read shows what a handle keeps between two calls.
             let _ = &self.local;
-            return f();
+            return self.local.run::<F, X, M>(f);
         }
         let _guards = self.local.machine.guards();
         let paused = self.pause(guard.taken());
-        let answer = f();
+        let answer = self.local.run::<F, X, M>(f);
         guard.give_back(self.resume(paused));
         answer
     }

@@ -4,8 +4,8 @@
 
 pub use epoch_atomic::atomic;
 pub use epoch_handles::{
-    AtEnd, Capacities, Collector, Guard, LocalHandle, Paused, Released, end_bags, end_next,
-    unprotected,
+    AtEnd, Capacities, Collector, DirectInterlude, Guard, HasInterlude, Interlude, LocalHandle,
+    Paused, Released, end_bags, end_next, unprotected,
 };
 pub use epoch_machine::{
     Action, Answer, Ask, Machine, PINS_BETWEEN_COLLECTIONS, Sizes, Stage, asks_follow_the_table,

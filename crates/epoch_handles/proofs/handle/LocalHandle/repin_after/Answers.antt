@@ -18,3 +18,18 @@ pause-paused-requires g c =
     let own : Owns c.args.self.now c.args.guard.now = ⊎_elim (λ none. absurd (none_is_not_some none
     (c.is_protecting.ensures.0 c.if-not-is_protecting.false))) (λ owns. owns) c.requires.guard in
     (omega arith, subst (λ z. Owns c.args.self.now z) (sym c.taken.ensures.taken) own)
+
+-- the function is called on what the pause left
+pub returns-clause-does : goal.returns-clause-does
+returns-clause-does g c = λ some. (
+  c.pause-paused.new.self,
+  record {
+    same = c.pause-paused.ensures.same;
+    ready = c.pause-paused.ensures.ready;
+    counted = c.pause-paused.ensures.counted;
+  },
+  c.pause-paused.ensures.does,
+  c.resume.ensures.does,
+  c.resume.ensures.called,
+  rw (← c.self-2.view_is) (c.run-answer.ensures.ran),
+)
