@@ -1,6 +1,8 @@
--- How often an update calls its function, and with what it ends.
+-- What an update does: its load, its exchanges, and the calls of its function.
 use Rattle.std.specs.Prelude.{◌≡◌, ℕ, zero, suc, ◌<◌, Option, Some, None}
-use Rattle.epoch_atomic.specs.Pointers.{IsRead, IsUnder}
+use Rattle.epoch_atomic.specs.Pointers.{Reads, IsUnder}
+use Rattle.epoch_atomic.specs.WordSteps.{WordStep, word_for}
+use Rattle.epoch_atomic.specs.WordSteps.WordStep.{Loads, Exchanges, Misses}
 use Rattle.epoch_atomic.specs.declared.atomic.shared.Shared.{Shared}
 use Rattle.epoch_atomic.specs.declared.atomic.update.UpdateFault.{UpdateFault}
 use Rattle.epoch_atomic.specs.declared.atomic.update.UpdateFault.TheVariants.{Stopped, RanOut}
@@ -10,31 +12,35 @@ abbrev pub pointer_of : {T : Type 0} → UpdateFault T → Shared T
 pointer_of (Stopped before) = before
 pointer_of (RanOut seen) = seen
 
--- the pointer reads as some word does, and is of the collector with this number
-abbrev pub IsReadUnder : {T : Type 0} → (align id : ℕ) → Shared T → Type 0
-IsReadUnder align id shared = IsRead align shared.name shared.tag × IsUnder id shared.home
+-- the word reads as this pointer, which is of the collector with this number
+abbrev pub ReadsUnder : {T : Type 0} → (align id word : ℕ) → Shared T → Type 0
+ReadsUnder align id word shared = Reads align word shared.name shared.tag × IsUnder id shared.home
 
--- so many calls, each on such a pointer and answered by some pointer, took the function from f to g
-abbrev pub AnswersCalls : {F A : Type 0} → (A → Type 0) → (F → A → Option A → F → Type 0) → F → ℕ → F → Type 0
-AnswersCalls on step f zero g = g ≡ f
-AnswersCalls {F} {A} on step f (suc calls) g =
-    (h : F) × (x : A) × (next : A) × AnswersCalls on step f calls h × on x × step h x (Some next) g
+-- of the alignment, the collector's number, the steps made on the word, and the function's calls
+module _ {F T : Type 0} (align id : ℕ) (did : WordStep → Type 0)
+    (step : F → Shared T → Option (Shared T) → F → Type 0) where
+  -- So many tries were lost, one after another, and took the function from f to g, and the word from the first one to
+  -- the last one that was found. Each try called the function on the pointer that the word before it reads as, was
+  -- answered by some pointer, and lost its exchange, which expected that word.
+  abbrev pub LosesTries : F → (first lost : ℕ) → F → (last : ℕ) → Type 0
+  LosesTries f first zero g last = (g ≡ f) × (last ≡ first)
+  LosesTries f first (suc lost) g last = (h : F) × (word : ℕ) × (x : Shared T) × (next : Shared T)
+      × LosesTries f first lost h word × ReadsUnder align id word x × step h x (Some next) g × did (Misses word last)
 
--- The last call, one of at most so many, was on this pointer, was answered by some pointer, for which the one before
--- was exchanged, and left the function as h.
-abbrev pub WinsLast : {F A : Type 0} → (A → Type 0) → (F → A → Option A → F → Type 0) → (A → A → Type 0)
-    → F → ℕ → A → F → Type 0
-WinsLast {F} {A} on step exchanged f tries before h =
-    (calls : ℕ) × (g : F) × (next : A) × (calls < tries) × AnswersCalls on step f calls g × step g before (Some next) h
-    × exchanged before next
+  -- A load and then fewer lost tries than these left the function as g, and found a word that reads as this pointer.
+  abbrev pub ComesTo : F → (tries : ℕ) → F → (word : ℕ) → Shared T → Type 0
+  ComesTo f tries g word before = (first : ℕ) × (lost : ℕ) × did (Loads first) × (lost < tries)
+      × LosesTries f first lost g word × ReadsUnder align id word before
 
--- The last call, one of at most so many, was on this pointer, was answered by none, and left the function as h.
-abbrev pub Stops : {F A : Type 0} → (A → Type 0) → (F → A → Option A → F → Type 0) → F → ℕ → A → F → Type 0
-Stops {F} on step f tries before h =
-    (calls : ℕ) × (g : F) × (calls < tries) × AnswersCalls on step f calls g × step g before None h
+  -- The last of at most so many tries called the function on this pointer, was answered by some pointer, for which it
+  -- exchanged this one, and left the function as h.
+  abbrev pub WinsLast : F → (tries : ℕ) → Shared T → F → Type 0
+  WinsLast f tries before h = (g : F) × (word : ℕ) × (next : Shared T) × ComesTo f tries g word before
+      × step g before (Some next) h × did (Exchanges word (word_for align next))
 
--- An update that isn't made was stopped by its function, or made each of its calls, and left the function as h.
-abbrev pub EndsUnmade : {F T : Type 0}
-    → (Shared T → Type 0) → (F → Shared T → Option (Shared T) → F → Type 0) → F → ℕ → UpdateFault T → F → Type 0
-EndsUnmade on step f tries (Stopped before) h = Stops on step f tries before h
-EndsUnmade on step f tries (RanOut seen) h = AnswersCalls on step f tries h
+  -- An update that isn't made was stopped by its function, whose last call was answered by none; or each of its tries
+  -- was lost, and this pointer was found last. It left the function as h.
+  abbrev pub EndsUnmade : F → (tries : ℕ) → UpdateFault T → F → Type 0
+  EndsUnmade f tries (Stopped before) h = (g : F) × (word : ℕ) × ComesTo f tries g word before × step g before None h
+  EndsUnmade f tries (RanOut seen) h = (first : ℕ) × (last : ℕ) × did (Loads first)
+      × LosesTries f first tries h last × ReadsUnder align id last seen

@@ -1,7 +1,8 @@
 -- What a call of an `Atomic` did to its word: the atomic steps that it made.
-use Rattle.std.specs.Prelude.{◌≡◌, ℕ, ◌%◌, ◌⊎◌, Option, IsSome, bit_and, bit_or, bit_xor}
+use Rattle.std.specs.Prelude.{◌≡◌, ℕ, zero, suc, ◌%◌, ◌⊎◌, Option, Some, None, IsSome, bit_and, bit_or, bit_xor}
 use Rattle.epoch_cells.specs.declared.cells.name.Name.{Name}
-use Rattle.epoch_atomic.specs.Pointers.{tagged_word, Reads, BecomesWord}
+use Rattle.epoch_atomic.specs.Pointers.{tagged_word, IsPointerWord, Reads, BecomesWord}
+use Rattle.epoch_atomic.specs.declared.atomic.owned.Owned.{Owned}
 use Rattle.epoch_atomic.specs.declared.atomic.shared.Shared.{Shared}
 use Rattle.epoch_atomic.specs.declared.atomic.update.TagChange.{TagChange}
 use Rattle.epoch_atomic.specs.declared.atomic.update.TagChange.TheVariants.{And, Or, Xor}
@@ -14,6 +15,7 @@ pub data WordStep : Type 0 where
   Swaps : (found new : ℕ) → WordStep
   Exchanges : (found new : ℕ) → WordStep  -- the word found was the one expected
   Misses : (expected found : ℕ) → WordStep  -- another word was found, and it stays
+  Ends : (last : ℕ) → WordStep  -- the word is given up, and this stood in it
 
 -- the word that stands for a pointer, whose tag is taken modulo the alignment
 abbrev pub word_for : {T : Type 0} → (align : ℕ) → Shared T → ℕ
@@ -57,21 +59,29 @@ abbrev pub MissesPointer : {T : Type 0} → (align : ℕ) → (WordStep → Type
 MissesPointer align did current found =
     (word : ℕ) × Reads align word found.name found.tag × did (Misses (word_for align current) word)
 
--- one exchange found a word that reads as the pointer before, and left the word of the next one
-abbrev pub ReplacesPointer : {T : Type 0} → (align : ℕ) → (WordStep → Type 0) → (before next : Shared T) → Type 0
-ReplacesPointer align did before next =
-    (found : ℕ) × Reads align found before.name before.tag × did (Exchanges found (word_for align next))
-
 -- the tag after this change, before it is taken modulo the alignment
 abbrev pub changed_tag : TagChange → ℕ → ℕ
 changed_tag (And bits) tag = bit_and tag bits
 changed_tag (Or bits) tag = bit_or tag bits
 changed_tag (Xor bits) tag = bit_xor tag bits
 
--- One exchange found a word that reads as the pointer before, and left its name with the changed tag. Or an exchange
--- was lost, and nothing was changed: so it ends after 2^64 - 1 lost tries.
+-- So many exchanges were lost, one after another. The first one expected this word, each other one expected what the one
+-- before it found, and the last one found this word.
+abbrev pub LosesEach : (WordStep → Type 0) → (first lost last : ℕ) → Type 0
+LosesEach did first zero last = last ≡ first
+LosesEach did first (suc lost) last = (word : ℕ) × LosesEach did first lost word × did (Misses word last)
+
+-- A load and then lost exchanges found a word that reads as the pointer before. One more exchange left its name with the
+-- changed tag. Or none did, after 2^64 - 1 lost ones.
 abbrev pub ChangesTag : {T : Type 0} → (align : ℕ) → (WordStep → Type 0) → TagChange → Shared T → Type 0
 ChangesTag align did change before =
-    ((found : ℕ) × Reads align found before.name before.tag
-    × did (Exchanges found (tagged_word before.name (changed_tag change before.tag % align))))
-    ⊎ ((expected : ℕ) × (found : ℕ) × did (Misses expected found))
+    (first : ℕ) × (lost : ℕ) × (found : ℕ) × did (Loads first) × LosesEach did first lost found
+    × Reads align found before.name before.tag
+    × (did (Exchanges found (tagged_word before.name (changed_tag change before.tag % align)))
+    ⊎ (lost ≡ 18446744073709551615))
+
+-- The word was given up. Where a value is answered, what stood there reads as a pointer to some name, with its tag.
+abbrev pub EndsOwned : {T : Type 0} → (align : ℕ) → (WordStep → Type 0) → Option (Owned T) → Type 0
+EndsOwned align did None = (word : ℕ) × IsPointerWord word × did (Ends word)
+EndsOwned align did (Some owned) =
+    (word : ℕ) × (name : Name) × Reads align word (Some name) owned.tag × did (Ends word)

@@ -7,7 +7,7 @@ ghost use Rattle.std.specs.Prelude.{◌≡◌, ◌<◌, ◌%◌, ◌⊎◌, IfSo
 ghost use Rattle.epoch_cells.specs.declared.fault.Fault.TheVariants.{CellsFull, NoMemory};
 ghost use Rattle.epoch_atomic.specs.Pointers.{IsPointerWord, Reads, IsRead, IsUnder};
 ghost use Rattle.epoch_atomic.specs.WordSteps.{BeginsNamed, BeginsWith, CopiesWord};
-ghost use Rattle.epoch_atomic.specs.WordSteps.{LoadsPointer, StoresPointer, SwapsPointer};
+ghost use Rattle.epoch_atomic.specs.WordSteps.{LoadsPointer, StoresPointer, SwapsPointer, EndsOwned};
 ghost use Rattle.epoch_atomic.specs.WordSteps.WordStep.{Begins};
 
 mod borrow;
@@ -194,7 +194,7 @@ impl<T: Pointable + HasWord<A> + Drop, A: SharedWord> Atomic<T, A> {
     }
 }
 
-impl<T: Pointable + Drop> Atomic<T> {
+impl<T: Pointable + Drop, A: SharedWord> Atomic<T, A> {
     /// Takes the value out of its cell, with the pointer's tag. This is how the last owner takes a structure apart,
     /// since dropping an `Atomic` leaves its value in the cell.
     ///
@@ -202,14 +202,16 @@ impl<T: Pointable + Drop> Atomic<T> {
     /// value is gone, or is read or written; or each try was lost to other threads.
     pub fn try_into_owned<W>(self, guard: &Guard<'_, T, W>) -> Option<Owned<T>>
         ensures below { IfSome result (λ owned. owned.tag < T.ALIGN) }
+        ensures did { EndsOwned T.ALIGN (A.did self.word) result }
     {
         let Atomic { word, of: _ } = self;
-        read(word.into_inner(), guard).try_into_owned()
+        read(word.end(), guard).try_into_owned()
     }
 
     /// Does what [`Atomic::try_into_owned`] does.
     pub fn into_owned<W>(self, guard: &Guard<'_, T, W>) -> Option<Owned<T>>
         ensures below { IfSome result (λ owned. owned.tag < T.ALIGN) }
+        ensures did { EndsOwned T.ALIGN (A.did self.word) result }
     {
         self.try_into_owned(guard)
     }

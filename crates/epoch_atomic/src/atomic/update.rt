@@ -3,9 +3,9 @@ ghost use Rattle.std.specs.Prelude.{◌≡◌, ◌≢◌, ◌<◌, Option, IfOk,
 ghost use Rattle.epoch_cells.specs.declared.cells.name.Name.{Name};
 ghost use Rattle.epoch_atomic.specs.Pointers.{HasName, IsPointerWord, IsRead, IsUnder};
 ghost use Rattle.epoch_atomic.specs.declared.atomic.update.TagChange.TheVariants.{And, Or, Xor};
-ghost use Rattle.epoch_atomic.specs.WordSteps.{ChangesTag, ReplacesPointer, changed_tag};
+ghost use Rattle.epoch_atomic.specs.WordSteps.{ChangesTag, changed_tag};
 ghost use Rattle.epoch_atomic.specs.WordSteps.WordStep.{Exchanges, Misses};
-ghost use Rattle.epoch_atomic.specs.Updates.{EndsUnmade, IsReadUnder, WinsLast, pointer_of};
+ghost use Rattle.epoch_atomic.specs.Updates.{EndsUnmade, WinsLast, pointer_of};
 
 use crate::atomic::shared::Shared;
 use crate::atomic::word::{SharedWord, number, pointer_word};
@@ -62,11 +62,10 @@ impl<T: Pointable, A: SharedWord> Atomic<T, A> {
         f: F,
     ) -> Result<Shared<'g, T>, UpdateFault<'g, T>>
         requires { F.IsAlwaysCallable f }
-        ensures ok { IfOk result (λ before. (last : F)
-            × WinsLast (IsReadUnder T.ALIGN guard.now.collector.now.id) F.step
-            (ReplacesPointer T.ALIGN (A.did self.now.word)) f max_tries before last) }
-        ensures ended { (last : F) × IfErr result
-            (λ fault. EndsUnmade (IsReadUnder T.ALIGN guard.now.collector.now.id) F.step f max_tries fault last) }
+        ensures ok { IfOk result (λ before. (last : F) × WinsLast T.ALIGN guard.now.collector.now.id
+            (A.did self.now.word) F.step f max_tries before last) }
+        ensures ended { (last : F) × IfErr result (λ fault. EndsUnmade T.ALIGN guard.now.collector.now.id
+            (A.did self.now.word) F.step f max_tries fault last) }
         ensures read { IfOk result (λ before. IsRead T.ALIGN before.name before.tag) }
         ensures seen { IfErr result (λ fault. IsRead T.ALIGN (pointer_of fault).name (pointer_of fault).tag) }
         ensures home { IfOk result (λ before. IsUnder guard.now.collector.now.id before.home) }
@@ -86,11 +85,10 @@ impl<T: Pointable, A: SharedWord> Atomic<T, A> {
         f: &mut F,
     ) -> Result<Shared<'g, T>, UpdateFault<'g, T>>
         requires { F.IsAlwaysCallable f.old }
-        ensures ok { IfOk result
-            (λ before. WinsLast (IsReadUnder T.ALIGN guard.now.collector.now.id) F.step
-            (ReplacesPointer T.ALIGN (A.did self.now.word)) f.old max_tries before f.new) }
-        ensures ended { IfErr result
-            (λ fault. EndsUnmade (IsReadUnder T.ALIGN guard.now.collector.now.id) F.step f.old max_tries fault f.new) }
+        ensures ok { IfOk result (λ before. WinsLast T.ALIGN guard.now.collector.now.id (A.did self.now.word)
+            F.step f.old max_tries before f.new) }
+        ensures ended { IfErr result (λ fault. EndsUnmade T.ALIGN guard.now.collector.now.id (A.did self.now.word)
+            F.step f.old max_tries fault f.new) }
         ensures read { IfOk result (λ before. IsRead T.ALIGN before.name before.tag) }
         ensures seen { IfErr result (λ fault. IsRead T.ALIGN (pointer_of fault).name (pointer_of fault).tag) }
         ensures home { IfOk result (λ before. IsUnder guard.now.collector.now.id before.home) }

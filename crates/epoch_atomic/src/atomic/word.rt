@@ -2,7 +2,7 @@
 ghost use Rattle.std.specs.Prelude.{◌≡◌, ◌≢◌, ◌%◌, IfOk, IfErr};
 ghost use Rattle.epoch_atomic.specs.Pointers.{tagged_word, tag_in, HasName, IsPointerWord};
 ghost use Rattle.epoch_atomic.specs.WordSteps.{WordStep};
-ghost use Rattle.epoch_atomic.specs.WordSteps.WordStep.{Begins, Loads, Stores, Swaps, Exchanges, Misses};
+ghost use Rattle.epoch_atomic.specs.WordSteps.WordStep.{Begins, Loads, Stores, Swaps, Exchanges, Misses, Ends};
 
 use epoch_cells::Name;
 use epoch_values::{Pointable, tag_of};
@@ -57,6 +57,11 @@ pub trait SharedWord: Sized {
         ensures err { IfErr result (λ found. (found ≢ expected) × IsPointerWord found) }
         ensures won { IfOk result (λ found. did self.now (Exchanges expected new)) }
         ensures lost { IfErr result (λ found. did self.now (Misses expected found)) };
+
+    /// Gives the word up, and answers the number that it held last.
+    fn end(self) -> u64
+        ensures rule { IsPointerWord result }
+        ensures did { did self (Ends result) };
 }
 
 impl SharedWord for AtomicIn<PointerWord> {
@@ -110,6 +115,14 @@ impl SharedWord for AtomicIn<PointerWord> {
         ensures lost { IfErr result (λ found. Unit {0}) }
     {
         self.compare_exchange(expected, new, success, failure)
+    }
+
+    #[inline(always)]
+    fn end(self) -> u64
+        ensures rule { IsPointerWord result }
+        ensures did { Unit {0} }
+    {
+        self.into_inner()
     }
 }
 
