@@ -1,4 +1,5 @@
-//! A function that is called later, when every thread that was pinned at its deferral has ended that pin.
+//! A function that is called later, at the earliest when every participant that was pinned at its deferral has unpinned
+//! or repinned.
 ghost use Rattle.std.specs.Prelude.{◌≡◌, IfErr};
 ghost use Rattle.epoch_handles.specs.Handles.{Owns};
 
