@@ -1,5 +1,5 @@
 //! Guards that values are lent to.
-ghost use Rattle.std.specs.Prelude.{◌≡◌, map, IfSome, IfOk, IfErr, Some};
+ghost use Rattle.std.specs.Prelude.{◌≡◌, map, IsSome, IfSome, IfOk, IfErr, Some};
 ghost use Rattle.epoch_cells.specs.declared.fault.Fault.TheVariants.{CellsFull};
 ghost use Rattle.epoch_atomic.specs.Pointers.{IsUnder};
 ghost use Rattle.epoch_lend_store.specs.Named.{StandsUnder};
@@ -8,6 +8,7 @@ use epoch_atomic::atomic::Shared;
 use epoch_cells::{Fault, Refused};
 use epoch_handles::Guard;
 use epoch_lend_cells::sight::Sight;
+use epoch_lend_cells::turns::Name as Witness;
 use epoch_lend_readers::posts::PostSet;
 use epoch_lend_readers::reader::Pinned;
 use epoch_lend_store::lent_cells::LentCells;
@@ -68,7 +69,30 @@ impl<'c, 's, J: PostSet, T: Drop, W> LendingGuard<'c, 's, J, T, W> {
         ensures home { IfOk result (λ pointer. IsUnder self.now.guard.collector.now.id pointer.home) }
         ensures full { IfErr result (λ refused. (refused.fault ≡ CellsFull) × (refused.value ≡ value)) }
     {
-        let placed = self.cells.place(value)?;
-        Ok(Shared::named(placed.name, &self.guard))
+        match self.place_with_witness(value) {
+            Ok((pointer, _)) => Ok(pointer),
+            Err(refused) => Err(refused),
+        }
+    }
+
+    /// Does what [`LendingGuard::place`] does, and answers a witness, too, that this value was placed under the
+    /// pointer's name.
+    pub fn place_with_witness<'g>(
+        &'g self,
+        value: T,
+    ) -> Result<(Shared<'g, T>, Witness<T>), Refused<T>>
+        ensures tag { IfOk result (λ placed. placed.0.tag ≡ 0) }
+        ensures home { IfOk result (λ placed. IsUnder self.now.guard.collector.now.id placed.0.home) }
+        ensures placed { IfOk result (λ placed. placed.1.value ≡ value) }
+        ensures some { IfOk result (λ placed. IsSome placed.0.name) }
+        ensures named { IfOk result (λ placed. IfSome placed.0.name
+            (λ name. StandsUnder (map (λ s. s.turns.log) self.now.cells.now.cells.slots.items) name placed.1.log
+            placed.1.turn)) }
+        ensures full { IfErr result (λ refused. (refused.fault ≡ CellsFull) × (refused.value ≡ value)) }
+    {
+        match self.cells.place(value) {
+            Ok(placed) => Ok((Shared::named(placed.name, &self.guard), placed.witness)),
+            Err(refused) => Err(refused),
+        }
     }
 }

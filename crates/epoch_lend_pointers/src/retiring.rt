@@ -52,7 +52,7 @@ impl<'c, 'q, 's, J: PostSet, T: Drop> LendingHandle<'c, 'q, 's, J, T> {
     /// gathered, and 64 of them are deferred by one job; [`LendingHandle::flush`] hurries them.
     ///
     /// `StrangerGuard`: the guard isn't this handle's. `StrangerPointer`: the pointer is null. `NoMemory` and
-    /// `BagsFull` come only where 64 are gathered and their job is refused: see [`LendingHandle::has_room`]. The
+    /// `BagsFull` come only where 64 are gathered and their job is refused: see [`LendingHandle::make_room`]. The
     /// pointer is handed back.
     pub fn retire<'g>(
         &mut self,

@@ -1,5 +1,5 @@
 -- A list that lost its last element is shorter.
-use Rattle.std.proofs.Common.{◌≡◌, ℕ, ◌<◌, List, [], ◌∷◌, ◌++◌, length, map, ap, arith, length-append}
+use Rattle.std.proofs.Common.{◌≡◌, ◌<◌, List, [], ◌∷◌, ◌++◌, length, map, ap, arith, length-append}
 use Rattle.std.proofs.lemmas.List.{length-map}
 
 -- one with as many elements as are left after the last one

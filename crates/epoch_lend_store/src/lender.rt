@@ -111,7 +111,7 @@ impl<'s, J: PostSet, T> Lender<'s, J, T> {
     }
 }
 
-// So many places where no bag waits.
+// This many places, in none of which a bag waits.
 fn places_for<'s, J: PostSet, T>(
     alloc: Global,
     count: usize,
@@ -150,30 +150,28 @@ impl<'s, J: PostSet, T: Drop> Lender<'s, J, T> {
         }
         let bound = self.bound.load(SeqCst).min(self.places.len());
         let first = self.next.load(SeqCst).min(bound);
-        let mut tried: usize = 0;
-        for position in first..bound {
-            if tried >= BAGS_TRIED {
+        let mut left = BAGS_TRIED;
+        if self.try_between(first, bound, &mut left) {
+            self.next.store(0, SeqCst);
+            self.try_between(0, first, &mut left);
+        }
+    }
+
+    // Tries the bags that wait from place `from` up to `to`, while some are left to try. `false`: none was left, and the
+    // next search begins where this one stopped.
+    fn try_between(&self, from: usize, to: usize, left: &mut usize) -> bool {
+        for position in from..to {
+            if *left == 0 {
                 self.next.store(position, SeqCst);
-                return;
+                return false;
             }
             if let Some(waiting) = self.take_out(position) {
                 let Waiting { home, bag } = waiting;
                 self.settle(home, bag);
-                tried += 1;
+                *left -= 1;
             }
         }
-        self.next.store(0, SeqCst);
-        for position in 0..first {
-            if tried >= BAGS_TRIED {
-                self.next.store(position, SeqCst);
-                return;
-            }
-            if let Some(waiting) = self.take_out(position) {
-                let Waiting { home, bag } = waiting;
-                self.settle(home, bag);
-                tried += 1;
-            }
-        }
+        true
     }
 
     /// Drops the values that wait, and those that are still in the cells. Answers how many.

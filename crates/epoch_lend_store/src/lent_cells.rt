@@ -35,7 +35,7 @@ pub struct LentCells<J: PostSet, T> {
 }
 
 impl<J: PostSet, T: Drop> LentCells<J, T> {
-    /// Makes so many empty cells, from 0 to [`MOST_SLOT`], for the readers at these posts.
+    /// Makes this many empty cells, from 0 to [`MOST_SLOT`], for the readers at these posts.
     ///
     /// `NoMemory`: an allocation was refused.
     pub fn new(alloc: Global, capacity: u32, posts: Posts<J>) -> Result<LentCells<J, T>, Fault>

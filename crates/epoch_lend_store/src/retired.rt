@@ -71,6 +71,9 @@ impl<'q, 's, J: PostSet, T: Drop> Retired<'q, 's, J, T> {
                 let _ = removals.push(removal);
             }
         }
-        lender.take(home, removals.seal(&lender.cells.posts));
+        // If none was marked, since each had been marked before, there is no slot in whose place the bag could wait.
+        if removals.len() > 0 {
+            lender.take(home, removals.seal(&lender.cells.posts));
+        }
     }
 }
