@@ -1,10 +1,11 @@
 //! Jobs: what is called once, at the earliest when every participant that was pinned at its deferral has unpinned.
-ghost use Rattle.std.specs.Prelude.{◌≡◌, [], ◌∷◌, None, MatchOption, IfSome};
+ghost use Rattle.std.specs.Prelude.{◌≡◌, ◌≢◌, [], ◌∷◌, None, MatchOption, IfSome};
 ghost use Rattle.epoch_cells.specs.declared.cells.name.Name.{Name};
 ghost use Rattle.epoch_bags.specs.Jobs.{AnswersJob, IsCalled};
+ghost use Rattle.epoch_bags.specs.declared.job.Called.TheVariants.{Ran};
 
 use crate::bag::SealedBag;
-use epoch_cells::{Cells, Name, Removal};
+use epoch_cells::{Cells, Freed, Name, Removal};
 
 /// How values are removed by their names.
 pub trait Remove {
@@ -13,6 +14,10 @@ pub trait Remove {
 
     /// Tries to remove the value of this name, as [`Cells::remove`] does.
     fn remove<T: Drop>(cells: &Cells<T>, name: Name) -> Removal
+        ensures tried { tried name };
+
+    /// Tries the same, as [`Cells::remove_near`] does, which adds the slot to those that were given free.
+    fn remove_near<T: Drop>(cells: &Cells<T>, freed: &mut Freed, name: Name) -> Removal
         ensures tried { tried name };
 }
 
@@ -25,6 +30,11 @@ impl Remove for FromCells {
     #[inline(always)]
     fn remove<T: Drop>(cells: &Cells<T>, name: Name) -> Removal {
         cells.remove(name)
+    }
+
+    #[inline(always)]
+    fn remove_near<T: Drop>(cells: &Cells<T>, freed: &mut Freed, name: Name) -> Removal {
+        cells.remove_near(freed, name)
     }
 }
 
@@ -105,12 +115,35 @@ impl<W: Run> Job<W> {
                 work.call();
                 Called::Ran
             }
-            Job::Remove(name) => match W::Removing::remove(cells, name) {
-                Removal::Destroyed => Called::Destroyed,
-                Removal::HeldElsewhere => Called::HeldElsewhere,
-                Removal::Gone => Called::Gone,
-            },
+            Job::Remove(name) => called_for(W::Removing::remove(cells, name)),
         }
+    }
+
+    /// Calls the job, and answers what that did. A removal adds its slot to those that were given free.
+    #[inline(always)]
+    pub fn call_near<T: Drop>(self, cells: &Cells<T>, freed: &mut Freed) -> Called
+        ensures answers { AnswersJob self result }
+        ensures called { IsCalled W.done W.Removing.tried self }
+    {
+        match self {
+            Job::Call(work) => {
+                work.call();
+                Called::Ran
+            }
+            Job::Remove(name) => called_for(W::Removing::remove_near(cells, freed, name)),
+        }
+    }
+}
+
+// What the call of a removal did that met this.
+#[inline(always)]
+fn called_for(removal: Removal) -> Called
+    ensures { result ≢ Ran }
+{
+    match removal {
+        Removal::Destroyed => Called::Destroyed,
+        Removal::HeldElsewhere => Called::HeldElsewhere,
+        Removal::Gone => Called::Gone,
     }
 }
 

@@ -11,13 +11,16 @@ ghost use Rattle.epoch_cells.specs.SlotNumbers.{AreNumbered};
 
 mod held;
 mod name;
+mod notes;
 mod plain;
 mod word;
 
 use crate::cells::held::{Miss, Slot, is_free, started, try_place, try_read, try_take, try_write};
+use crate::cells::notes::{Notes, SPANS, Span};
 use crate::fault::{Fault, Refused};
 pub use held::{Held, IntoSlots, Puts, Reading, Writing};
 pub use name::{MOST_SLOT, Name};
+pub use notes::Freed;
 pub use plain::PlainCells;
 use std::alloc::Global;
 use std::marker::PhantomData;
@@ -30,15 +33,22 @@ pub const CELL_TRIES: u32 = 16;
 // The bound is raised by this many slots at once, since each time costs as much as many looks at slots.
 const STRIDE: usize = 8;
 
+// A position that has no note left looks in so many slots in a row from then on.
+const FAR: usize = 64;
+
 /// A collector's store of numbered cells. Its calls take no memory and never wait.
 ///
 /// `P` is how values are put into slots: [`IntoSlots`].
 #[derive(Drop)]
 pub struct Cells<T, P = IntoSlots> {
     slots: Vec<Slot<T>>,
-    // No slot before this place is free, but for those whose call is still under way. After the times
-    // it costs looks, and no more.
+    // Where `place` begins to look. No slot before is free, but for those whose call is still under way, and those of
+    // which the notes tell. After the times it costs looks, and no more.
     first_free: AtomicUsize,
+    // Where each position looks for free slots.
+    notes: Notes,
+    // Where a position looks that has no note left, modulo the number of slots.
+    next_far: AtomicUsize,
     // No value: only how values are put into slots.
     puts: PhantomData<P>,
     pub ghost few: { vec_len slots ≤ 16777215 },
@@ -66,6 +76,23 @@ impl<T: Drop> Cells<T> {
         ensures memory { IsOkUnless result NoMemory }
         ensures slots { IfOk result (λ cells. vec_len cells.slots ≡ capacity) }
     {
+        Cells::with_positions(alloc, capacity, start_turn, 0)
+    }
+
+    /// Makes such a store, with room for the notes of so many positions: [`Cells::place_near`].
+    ///
+    /// `NoMemory`: an allocation was refused, and nothing was made.
+    pub fn with_positions(
+        alloc: Global,
+        capacity: u32,
+        start_turn: u32,
+        positions: usize,
+    ) -> Result<Cells<T>, Fault>
+        requires { capacity ≤ MOST_SLOT }
+        ensures memory { IsOkUnless result NoMemory }
+        ensures slots { IfOk result (λ cells. vec_len cells.slots ≡ capacity) }
+    {
+        let notes = Notes::new(alloc, positions)?;
         let mut slots = Vec::with_capacity(alloc, capacity as usize).map_err(|_| Fault::NoMemory)?;
         for index in 0..capacity {
             push(&mut slots, started(index + 1, start_turn))?;
@@ -73,6 +100,8 @@ impl<T: Drop> Cells<T> {
         Ok(Cells {
             slots,
             first_free: AtomicUsize::new(0),
+            notes,
+            next_far: AtomicUsize::new(0),
             puts: PhantomData,
         })
     }
@@ -105,6 +134,117 @@ impl<T: Drop, P: Puts<T>> Cells<T, P> {
             }
             Err(Refused { fault: _, value }) => self.place_between(0, first, value),
         }
+    }
+
+    /// Places the value in a free slot, as [`Cells::place`] does, and looks first at the slots that removals near this
+    /// position gave free: [`Cells::remove_near`]. So threads that place at positions of their own claim different
+    /// slots.
+    ///
+    /// Any position may be given. A position that the store has no room for has no notes.
+    ///
+    /// `CellsFull`: every slot was seen used or retired during the call. The value is handed back.
+    #[inline(always)]
+    pub fn place_near(&self, position: usize, value: Box<T>) -> Result<Name, Refused<Box<T>>>
+        ensures full { IfErr result (λ refused. (refused.fault ≡ CellsFull) × (refused.value ≡ value)) }
+        ensures slot { IfOk result (λ name. name.slot ≤ vec_len self.now.slots) }
+        ensures placed { IfOk result (λ name. P.placed value.value name) }
+    {
+        let Span { from, to } = self.notes.current(position);
+        let to = to.min(self.slots.len());
+        match self.place_between(from, to, value) {
+            Ok(name) => {
+                let next = name.slot() as usize;
+                if next.saturating_sub(from) > STRIDE {
+                    self.notes.look_in(position, Span { from: next, to });
+                }
+                Ok(name)
+            }
+            Err(Refused { fault: _, value }) => self.place_further(position, value),
+        }
+    }
+
+    // Places the value in a slot of another span that is noted at this position, or else in any.
+    #[inline(never)]
+    fn place_further(&self, position: usize, value: Box<T>) -> Result<Name, Refused<Box<T>>>
+        ensures full { IfErr result (λ refused. (refused.fault ≡ CellsFull) × (refused.value ≡ value)) }
+        ensures slot { IfOk result (λ name. name.slot ≤ vec_len self.now.slots) }
+        ensures placed { IfOk result (λ name. P.placed value.value name) }
+    {
+        let mut kept = value;
+        for _ in 0..SPANS {
+            let Some(Span { from, to }) = self.notes.next(position) else {
+                break;
+            };
+            match self.place_between(from, to.min(self.slots.len()), kept) {
+                Ok(name) => return Ok(name),
+                Err(Refused { fault: _, value }) => kept = value,
+            }
+        }
+        self.place_far(position, kept)
+    }
+
+    // Places the value in any free slot, and lets the position look in the slots behind it from now on.
+    #[inline(never)]
+    fn place_far(&self, position: usize, value: Box<T>) -> Result<Name, Refused<Box<T>>>
+        ensures full { IfErr result (λ refused. (refused.fault ≡ CellsFull) × (refused.value ≡ value)) }
+        ensures slot { IfOk result (λ name. name.slot ≤ vec_len self.now.slots) }
+        ensures placed { IfOk result (λ name. P.placed value.value name) }
+    {
+        let count = self.slots.len();
+        let first = self.next_far.fetch_add(FAR, SeqCst) % count.max(1);
+        let first = first.min(count);
+        let placed = match self.place_between(first, count, value) {
+            Ok(name) => Ok(name),
+            Err(Refused { fault: _, value }) => self.place_between(0, first, value),
+        };
+        if let Ok(name) = &placed {
+            self.look_behind(position, first, name.slot() as usize);
+        }
+        placed
+    }
+
+    // Lets the position look in the slots from place `from` on, after a search that began at place `first`.
+    fn look_behind(&self, position: usize, first: usize, from: usize) {
+        let to = from.saturating_add(FAR).min(self.slots.len());
+        if from.wrapping_sub(first) >= FAR {
+            self.next_far.store(to, SeqCst);
+        }
+        self.notes.look_in(position, Span { from, to });
+    }
+
+    // Notes this span, or lets the next position look there that has no note left.
+    #[inline(never)]
+    fn note(&self, position: usize, span: Span) {
+        if span.from < span.to && !self.notes.add(position, span) {
+            self.next_far.store(span.from, SeqCst);
+        }
+    }
+
+    /// Drops the value of this name, as [`Cells::remove`] does, and adds its slot to those that were given free.
+    #[inline(always)]
+    pub fn remove_near(&self, freed: &mut Freed, name: Name) -> Removal {
+        match self.take_out_near(name) {
+            Ok(_) => {
+                let place = name.slot() as usize - 1;
+                if !freed.span.takes_in(place) {
+                    self.note(freed.position, freed.span);
+                    freed.span = Span {
+                        from: place,
+                        to: place + 1,
+                    };
+                }
+                Removal::Destroyed
+            }
+            Err(Miss::Held | Miss::Lost) => Removal::HeldElsewhere,
+            Err(Miss::Gone) => Removal::Gone,
+        }
+    }
+
+    /// Notes the slots that were given free near their position, so that values are placed there next.
+    #[inline(never)]
+    pub fn note_freed(&self, freed: Freed) {
+        let Freed { position, span } = freed;
+        self.note(position, span);
     }
 
     // Places the value in the first free slot from place `from` up to `to`. The box that is handed back
@@ -219,25 +359,29 @@ impl<T: Drop, P: Puts<T>> Cells<T, P> {
     }
 
     #[inline(always)]
-    #[tactic(auto, using(crate::proofs::SlotNumberLists::number_of))]
     fn take_out(&self, name: Name) -> Result<Held<T>, Miss>
         ensures { IfOk result (λ held. held.name ≡ name) }
     {
-        let index = name.slot() as usize - 1;
-        let Some(slot) = self.slots.get(index) else {
-            return Err(Miss::Gone);
-        };
-        for _ in 0..CELL_TRIES {
-            match try_take(slot, name) {
-                Ok(held) => {
-                    self.lower(index);
-                    return Ok(held);
-                }
-                Err(Miss::Lost) => {}
-                Err(miss) => return Err(miss),
+        match self.take_out_near(name) {
+            Ok(held) => {
+                self.lower(name.slot() as usize - 1);
+                Ok(held)
             }
+            Err(miss) => Err(miss),
         }
-        Err(Miss::Lost)
+    }
+
+    // Takes the value out, and leaves it to the caller to tell of the slot.
+    #[inline(always)]
+    #[tactic(auto, using(crate::proofs::SlotNumberLists::number_of))]
+    fn take_out_near(&self, name: Name) -> Result<Held<T>, Miss>
+        ensures { IfOk result (λ held. held.name ≡ name) }
+    {
+        let index = name.slot() as usize - 1;
+        if index >= self.slots.len() {
+            return Err(Miss::Gone);
+        }
+        take_from(&self.slots[index], name)
     }
 
     #[inline(always)]
@@ -280,6 +424,22 @@ fn place_in<T: Drop, P: Puts<T>>(
         }
     }
     Err((Miss::Lost, kept))
+}
+
+// Tries to take the value of this name out of its slot, until all tries are lost.
+#[inline(always)]
+fn take_from<T: Drop>(slot: &Slot<T>, name: Name) -> Result<Held<T>, Miss>
+    requires numbered { slot.now ≡ name.slot }
+    ensures { IfOk result (λ held. held.name ≡ name) }
+{
+    for _ in 0..CELL_TRIES {
+        match try_take(slot, name) {
+            Ok(held) => return Ok(held),
+            Err(Miss::Lost) => {}
+            Err(miss) => return Err(miss),
+        }
+    }
+    Err(Miss::Lost)
 }
 
 // Puts one item behind the others.

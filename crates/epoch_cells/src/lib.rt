@@ -6,7 +6,7 @@ mod fault;
 mod shown;
 
 pub use cells::{
-    CELL_TRIES, Cells, Held, IntoSlots, MOST_SLOT, Name, PlainCells, Puts, Reading, Removal,
+    CELL_TRIES, Cells, Freed, Held, IntoSlots, MOST_SLOT, Name, PlainCells, Puts, Reading, Removal,
     Writing,
 };
 pub use fault::{Fault, Refused};

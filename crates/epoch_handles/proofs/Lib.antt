@@ -4,6 +4,7 @@ pub mod Driving
 pub mod Ended
 pub mod FirstPins
 pub mod Flushing
+pub mod Owned
 pub mod Putting
 pub mod Registering
 pub mod Releasing

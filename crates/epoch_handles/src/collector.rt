@@ -122,7 +122,12 @@ impl<T: Drop, W: Drop> Collector<T, W> {
         ensures sizes { IfOk result (λ collector. collector.sizes ≡ sizes_for capacities) }
     {
         let participants = Participants::new(alloc, capacities.participants as usize)?;
-        let cells = Cells::new(alloc, capacities.cells, 0)?;
+        let cells = Cells::with_positions(
+            alloc,
+            capacities.cells,
+            0,
+            capacities.participants as usize,
+        )?;
         let sizes = Sizes {
             positions: capacities.participants as u64,
             bag_jobs: capacities.bag_jobs as u64,

@@ -15,7 +15,7 @@ pub use collector::{Capacities, Collector};
 pub use end::{AtEnd, end_bags, end_next};
 pub use guard::{Guard, unprotected};
 pub use handle::LocalHandle;
-pub use home::{Home, home_of};
+pub use home::{Home, home_of, place_under};
 pub use interlude::{DirectInterlude, HasInterlude, Interlude};
 pub use paused::Paused;
 pub use released::Released;

@@ -4,6 +4,7 @@ use std::alloc::Global;
 use std::process::Abort;
 use std::test::Fail;
 
+mod near;
 mod threads;
 
 fn pair(name: Name) -> (u32, u32) {

@@ -6,3 +6,8 @@ use std::process::Abort;
 pub fn want<T: Copy + PartialEq + Debug>(rt: &impl Abort, what: &str, seen: T, wanted: T) {
     assert_eq!(rt; seen, wanted, "{what}");
 }
+
+/// It is so.
+pub fn want_true(rt: &impl Abort, what: &str, seen: bool) {
+    assert!(rt; seen, "{what}");
+}

@@ -8,7 +8,7 @@ use crate::atomic::owned::Owned;
 use crate::atomic::shared::Shared;
 use crate::atomic::word::pointer_word;
 use epoch_cells::Refused;
-use epoch_handles::{Guard, home_of};
+use epoch_handles::{Guard, home_of, place_under};
 use epoch_values::Pointable;
 
 /// What an `Atomic` can be given: a [`Shared`], or an [`Owned`], which takes a cell.
@@ -98,7 +98,7 @@ impl<'g, T: Pointable + Drop> Pointer<'g, T> for Owned<T> {
         ensures full { IfErr result (λ back. Unit {0} × (back ≡ self)) }
     {
         let Owned { value, tag } = self;
-        match home_of(guard).cells.place(value) {
+        match place_under(guard, value) {
             Ok(name) => Ok(pointer_word::<T>(Some(name), tag)),
             Err(Refused { fault: _, value }) => Err(Owned { value, tag }),
         }
@@ -138,7 +138,7 @@ impl<T: Pointable + Drop> Owned<T> {
         ensures handed_back { IfErr result (λ refused. refused.value ≡ self) }
     {
         let Owned { value, tag } = self;
-        match home_of(guard).cells.place(value) {
+        match place_under(guard, value) {
             Ok(name) => Ok(Shared {
                 name: Some(name),
                 tag,

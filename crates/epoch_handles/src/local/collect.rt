@@ -9,6 +9,7 @@ ghost use Rattle.epoch_machine.specs.declared.machine.Stage.TheVariants.{LoadSca
 use crate::local::Local;
 use epoch_bags::queue::places::is_expired_word;
 use epoch_bags::{Epoch, GREATEST_EPOCH, Run, TakeCursor, TakeStep};
+use epoch_cells::Freed;
 use epoch_machine::holds_up;
 
 impl<'c, T, W> Local<'c, T, W> {
@@ -50,9 +51,11 @@ impl<'c, T: Drop, W: Run> Local<'c, T, W> {
             → self.old.machine.stage ≡ after_job self.old.machine expiry taken self.old.machine.hand
             → CallsHand W.done W.Removing.tried self.old expiry taken self.new }
     {
+        let mut freed = Freed::none(self.position);
         while let Some(job) = self.machine.give() {
-            let _ = job.call(&self.collector.cells);
+            let _ = job.call_near(&self.collector.cells, &mut freed);
         }
+        self.collector.cells.note_freed(freed);
     }
 
     /// Looks at the places, as the first steps of a collection for `expiry`: up to the first place whose word tells

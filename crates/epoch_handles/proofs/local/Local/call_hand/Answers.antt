@@ -14,7 +14,7 @@ loop-job-preserved g c =
       only = only;
       called = λ x k at. subst (λ z. HasCalled g.W.Run.done g.W.Removing.Remove.tried h x k z) (sym only)
           (one_more_called _ _ h c.loop-job.self x k c.in-Some.job c.give.new.self
-          (inv.called x k at) c.in-Some.ensures.job.1 c.give.ensures.after c.call.ensures.called);
+          (inv.called x k at) c.in-Some.ensures.job.1 c.give.ensures.after c.call_near.ensures.called);
     }
 
 pub returns-clause-calls : goal.returns-clause-calls

@@ -1,6 +1,6 @@
 use Rattle.std.proofs.Common.{◌≡◌, ◌+◌, length, arith, subst, sym}
 use Rattle.epoch_cells.proofs.SlotNumberLists.{all_numbered, counts_push, CountsFrom}
-use Rattle.epoch_cells.proofs.cells.Cells+T.new.Goals as goal
+use Rattle.epoch_cells.proofs.cells.Cells+T.with_positions.Goals as goal
 
 -- The slot that is pushed has the number after those before it.
 pub loop-index-preserved : goal.loop-index-preserved
