@@ -1,8 +1,8 @@
 //! Stores of sealed bags, in which bags are put and from which they are taken one atomic step at a time.
 //!
 //! A put and a collection each keep a cursor, which says how far they have come. A store holds its bags at
-//! *places*; a collection *claims* a place before it takes the bag that is at home there. A claimed bag counts
-//! as in the store until it is taken.
+//! *places*. A collection *claims* a place before it takes the bag that stands there, and a claimed bag counts
+//! as being in the store until it is taken.
 ghost use Rattle.std.specs.Prelude.{◌≡◌, ◌≢◌, ℕ, ◌+◌, ◌*◌, ◌<◌, ◌≤◌, List, Bool, true, false, Some, [], IfOk, IfErr};
 ghost use Rattle.std.specs.Prelude.{length, min, slice_get, ◌⊎◌};
 ghost use Rattle.epoch_bags.specs.Bags.{Sealed};
@@ -47,7 +47,7 @@ pub enum TakeStep {
     Got,
 }
 
-/// A store of bags. Each step is one atomic step, and costs nothing of a bag's size unless it moves that bag.
+/// A store of bags. Each step is one atomic step. Only a step that moves a bag costs more if the bag is larger.
 pub trait BagStore: Drop {
     type Job: Default + Drop;
 

@@ -2,8 +2,8 @@
 //!
 //! A value stands in its cell beside its own name, whose slot is the cell's. Every call that is given a name claims the
 //! cell of the name's slot, compares the name that stands there with the one asked for, and gives the claim back if
-//! they differ. A call that takes a value out spends its claim before it compares, and would put the value of another
-//! turn back. It meets none: the claim was won at a word of the name's own turn, and a value is placed beside the turn
+//! they differ. A call that takes a value out spends its claim before it compares, so it would put the value of another
+//! turn back. It never has to: it won its claim at a word of the name's own turn, and a value is placed beside the turn
 //! of its slot's word.
 ghost use Rattle.std.specs.Prelude.{◌≡◌, ◌≤◌, ◌<◌, ◌+◌, ◌++◌, ◌∷◌, [], IfSome, IfOk, IfErr, OnOk, IsOkUnless, vec_len};
 ghost use Rattle.epoch_cells.specs.declared.fault.Fault.TheVariants.{NoMemory, CellsFull};
@@ -27,7 +27,7 @@ use std::marker::PhantomData;
 use std::sync::atomic::AtomicUsize;
 use std::sync::atomic::Ordering::SeqCst;
 
-/// How often a call on a cell tries its exchange. Our own: crossbeam-epoch has no such bound.
+/// How often a call on a cell tries its exchange. crossbeam-epoch has no such bound.
 pub const CELL_TRIES: u32 = 16;
 
 // The bound is raised by this many slots at once, since each time costs as much as many looks at slots.

@@ -1,4 +1,4 @@
-//! How cells, and the values read or written in them, are shown: by their type, and by the name where there is one.
+//! How cells, and the claims to read and to write in them, are shown: by the names of their types alone.
 use crate::{Cells, Reading, Writing};
 use std::fmt;
 

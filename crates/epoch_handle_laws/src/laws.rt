@@ -37,17 +37,18 @@ pub fn calls_come_after_pins<J>()
 }
 
 /// If a thread performs what its machine asks for, from the beginning of an action up to any point, it loses no job.
-/// However jobs are weighed, what it had, what it was given to keep and what it has won in places weighs as much as
-/// what it has now, what it was given to call and what it has left in places.
+/// Give each job any weight: then the jobs that it had, those that it was given to keep and those that it has won in
+/// places weigh as much together as the jobs that it has now, those that it was given to call and those that it has
+/// left in places.
 ///
-/// What it has is the jobs in its bag, those that are left of a bag that it calls, and a bag in hand at a place.
+/// It has the jobs in its bag, those that are left of a bag that it calls, and those of a bag in hand at a place.
 pub fn calls_keep_jobs<J>()
     ensures { KeepsJobsInCalls J }
 {}
 
-/// No job is lost on threads, and none is given to be called twice. At any moment, wherever the participants have come
-/// to in their calls, and however jobs are weighed, all jobs that were accepted weigh as much as those that
-/// participants have, those that were given to be called, and those of the bags that stand in places.
+/// No job is lost on threads, and none is given to be called twice. Give each job any weight: then at any moment,
+/// wherever the participants have come to in their calls, all jobs that were accepted weigh as much together as those
+/// that participants have, those that were given to be called, and those of the bags that stand in places.
 ///
 /// A job is accepted when the machine asks for it to be kept. The law is about all that participants have done since
 /// they registered, before the collector ends.
@@ -57,8 +58,8 @@ pub fn no_job_is_lost<J>()
     no_bag_is_lost::<J>();
 }
 
-/// An end calls what is left. If all participants have left when the places are closed, then, however jobs are weighed,
-/// all jobs that were accepted weigh as much as those that were given to be called and those that are left in the
+/// An end calls what is left. Give each job any weight. If all participants have left when the places are closed, all
+/// jobs that were accepted weigh as much together as those that were given to be called and those that are left in the
 /// closed places.
 ///
 /// The clause `called` of an end says that it calls each of these. So after it each accepted job was called, exactly as

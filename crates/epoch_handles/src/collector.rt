@@ -64,8 +64,8 @@ impl Capacities {
 
 /// What all participants share: the table of their words, the places for sealed bags, and the cells.
 ///
-/// Threads share it by `&`. It must be given back, by [`Collector::end`]. The numbers that their maker gave them tell
-/// collectors apart: if two have the same number, a guard of one is taken for a guard of the other.
+/// Threads share it by `&`. It must be given back, by [`Collector::end`]. Collectors are told apart by the numbers with
+/// which they were made: if two have the same number, a guard of one is taken for a guard of the other.
 pub struct Collector<T, W = Work> {
     pub(crate) id: u64,
     pub(crate) participants: Participants,
@@ -77,7 +77,7 @@ pub struct Collector<T, W = Work> {
 }
 
 impl<T, W> Collector<T, W> {
-    /// Answers the number that its maker gave it.
+    /// Answers the number with which it was made.
     #[inline(always)]
     pub fn id(&self) -> u64
         ensures { result ≡ self.now.id }
@@ -97,7 +97,7 @@ impl<T, W> PartialEq for Collector<T, W> {
 
     ghost laws = { Prim.search (comparing, rules) };
 
-    /// Answers whether their makers gave them the same number.
+    /// Answers whether both were made with the same number.
     fn eq(&self, other: &Collector<T, W>) -> bool {
         self.id == other.id
     }

@@ -16,8 +16,8 @@ use epoch_cells::Cells;
 use epoch_tables::shared_places::{ClosedPlaces, SharedPlaces};
 use std::mem;
 
-/// What a kind of work does at the end of a collector of `T`s. A generic caller can't do it, since it takes a type
-/// whose size is known to fit in memory. Each implementation is two lines long, as that of [`Work`].
+/// What a kind of work does at the end of a collector of `T`s. A generic caller can't do it, since values of the kind of
+/// work must be known to fit in memory. Each implementation is two lines long, like that of [`Work`].
 pub trait AtEnd<T>: Run {
     /// The places had these contents when they were closed. If the type is a parameter, nothing but `close` shows it.
     ghost closed: { PlaceBoard → List (Option (Sealed (Job Self))) → Type 0 };

@@ -140,7 +140,8 @@ impl<'c, T, W> LocalHandle<'c, T, W> {
         Paused { guard }
     }
 
-    /// Answers whether this is a guard that this participant paused, in the way of [`LocalHandle::owns`].
+    /// Answers whether this is a guard that this participant paused. Like [`LocalHandle::owns`], it doesn't tell two
+    /// collectors with the same number apart.
     #[inline]
     pub fn has_paused(&self, paused: &Paused<'_, T, W>) -> bool
         ensures value { IsTrue result ↔ IsPausedBy self.now paused.now }
@@ -216,7 +217,7 @@ impl<'c, T: Drop, W: Run> LocalHandle<'c, T, W> {
         self.defer_with_full_bag(job)
     }
 
-    /// A deferral under a guard that this handle hasn't out: an unprotected one, or a stranger's.
+    /// A deferral under a guard that isn't one of this handle's: an unprotected one, or a stranger's.
     #[inline(never)]
     fn defer_unowned(&self, guard: &Guard<'_, T, W>, job: Job<W>) -> Result<(), Refused<Job<W>>>
         ensures unprotected { guard.now.position ≡ None → IsOk result }
@@ -259,8 +260,8 @@ impl<'c, T: Drop, W: Run> LocalHandle<'c, T, W> {
         }
     }
 
-    /// Puts the held bag into a place, if it has a job, and then collects: tries to advance the epoch, and calls the
-    /// jobs of expired bags, of as many bags as a collection takes. Under an unprotected guard nothing happens.
+    /// Puts the held bag into a place, if it has a job, and then collects: tries to advance the epoch, takes expired
+    /// bags, at most as many as one collection takes, and calls their jobs. Under an unprotected guard nothing happens.
     ///
     /// From then on the collections of every participant can call the jobs that this one has deferred. Its own pin
     /// holds the epoch back, so to see the jobs called, flush again under a new pin.
@@ -435,8 +436,8 @@ impl<'c, T: Drop, W: Run> LocalHandle<'c, T, W> {
         self.defer(guard, job)
     }
 
-    /// Pins the participant, and answers a guard. Of the pins with no guard out, the first one collects, and so does
-    /// each 128th after it.
+    /// Pins the participant, and answers a guard. Of the pins that are made with no guard out, the first one collects,
+    /// and so does each 128th after it.
     ///
     /// If the participant is pinned already, this only counts one more guard, and makes no atomic step. At most
     /// `2^32 - 1` guards can be out: [`LocalHandle::can_pin`] must hold. Keep pins short: while a participant stays

@@ -10,7 +10,7 @@ use epoch_cells::{Cells, Name, Refused};
 pub struct Home<'g, T> {
     /// The collector's cells.
     pub cells: &'g Cells<T>,
-    /// The number that the collector's maker gave it.
+    /// The number with which the collector was made.
     pub id: u64,
 }
 

@@ -1,4 +1,4 @@
-//! Whether each reply of a history fits what the entries before it tell of everybody.
+//! Whether each reply of a history fits what the entries before it tell of all participants.
 ghost use Rattle.std.specs.Prelude.{◌≡◌, ◌↔◌, ℕ, ◌<◌, true, IsTrue, ◌⊎◌};
 ghost use Rattle.epoch_heap.specs.Heap.{guard_of};
 ghost use Rattle.epoch_laws.specs.Lawful.{told_of};

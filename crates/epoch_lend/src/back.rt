@@ -62,8 +62,8 @@ impl<T> Marked<T> {
         (clear, marked)
     }
 
-    /// Looks at each post once more. Where none is pinned in an epoch before the seal, all parts of the value come
-    /// back. Else what was marked does, to be tried again, since a guard that had a loan may live.
+    /// Looks at each post once more. If none is pinned in an epoch before the seal, all parts of the value come back.
+    /// Otherwise the marked value comes back, to be tried again, since a guard that had a loan may still live.
     pub fn take_back(self, posts: &[Post], seal: u64) -> Result<Part<T>, Marked<T>>
         requires marked { self.right ≡ 1 }
         requires lent { Within (logs_of posts.now) self.loans }

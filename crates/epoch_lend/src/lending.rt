@@ -96,8 +96,8 @@ impl<T> Lending<T> {
         (found, glance)
     }
 
-    /// Marks the value, by one exchange: no look finds it from then on, and guards that have found it keep it. Where
-    /// the word was `PRESENT`, what the mark took out comes with it, and else nothing.
+    /// Marks the value, by one exchange: no look finds it from then on, and guards that have found it keep it. Answers
+    /// the word that it found and, only if that was `PRESENT`, what the mark took out.
     pub fn mark(&self, at: *const T) -> (u64, Marked<T>)
         requires { at ≡ self.now.at }
         ensures { (result.0 ≡ PRESENT → result.1.right ≡ 1) × (result.0 ≢ PRESENT → result.1.right ≡ 0)
@@ -120,7 +120,7 @@ impl<'g, T> Glance<'g, T> {
         unsafe { &*at }
     }
 
-    /// Ends a glance that gained nothing, or that is not wanted.
+    /// Ends a glance that gained nothing, or that isn't needed.
     pub fn done(self) {
         let Glance { at: _, marker: _ } = self;
     }

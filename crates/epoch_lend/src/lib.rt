@@ -1,4 +1,5 @@
-//! Values that are lent to guards for as long as these live, by one plain load, and come back whole to who marks them.
+//! Values that are lent to guards for as long as the guards live, by one plain load. A caller that marks a value gets
+//! the whole value back.
 #![tactic(auto)]
 
 pub mod back;

@@ -131,7 +131,7 @@ impl Post {
         }
     }
 
-    /// One plain load. It shows that each guard of this post that had a loan is over, but those of the epoch found.
+    /// One plain load. It shows that each guard of this post that had a loan is over, except those of the epoch found.
     /// Answers the word found, and what was marked, with this look added to what was seen.
     pub fn look<T>(&self, marked: Marked<T>) -> (u64, Marked<T>)
         requires { marked.right ≡ 1 }
@@ -144,8 +144,8 @@ impl Post {
         (found, Marked { at })
     }
 
-    /// One plain load, for all loans of a watch. It shows that each guard of this post that had one is over, but those
-    /// of the epoch found. Answers the word found, and the watch, with this look added to what was seen.
+    /// One plain load, for all loans of a watch. It shows that each guard of this post that had one is over, except
+    /// those of the epoch found. Answers the word found, and the watch, with this look added to what was seen.
     pub fn look_for(&self, watch: Watch) -> (u64, Watch)
         ensures seen { result.1.seen ≡ (self.now.log, result.0) ∷ watch.seen }
         ensures same { result.1.loans ≡ watch.loans }

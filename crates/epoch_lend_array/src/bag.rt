@@ -42,7 +42,7 @@ pub struct ClearBag<'c, J: PostSet, T> {
 }
 
 impl<'c, J: PostSet, T> Bag<'c, J, T> {
-    /// An empty bag with room for this many removals. It fails for want of memory alone.
+    /// An empty bag with room for this many removals. It fails only if memory is refused.
     pub fn with_capacity(alloc: Global, capacity: usize) -> Result<Bag<'c, J, T>, AllocError>
         ensures empty { IfOk result (λ bag. bag.removals.items ≡ []) }
         ensures room { IfOk result (λ bag. capacity ≤ vec_capacity bag.removals) }
@@ -61,8 +61,8 @@ impl<'c, J: PostSet, T> Bag<'c, J, T> {
         self.removals.len()
     }
 
-    /// Puts a removal into the bag, behind the others. Where there is room it goes in, and else it is handed back where
-    /// there is no memory for it.
+    /// Puts a removal into the bag, behind the others. It is handed back only if the bag has no room for it, and memory
+    /// for more room is refused.
     pub fn push(&mut self, removal: Removal<'c, J, T>) -> Result<(), Removal<'c, J, T>>
         ensures ok { OnOk result (map (λ r. r.name) self.new.removals.items
             ≡ map (λ r. r.name) self.old.removals.items ++ removal.entry.name ∷ []) }
@@ -99,9 +99,9 @@ impl<'c, J: PostSet, T> SealedBag<'c, J, T> {
         self.removals.len()
     }
 
-    /// Looks at each post once more, for all removals of the bag. Where none is pinned in an epoch before the seal, the
-    /// values come back. Else the bag does, to be tried again, since a guard that one was lent to may live. Readers
-    /// that go on must pin in later epochs.
+    /// Looks at each post once more, for all removals of the bag. If none is pinned in an epoch before the seal, the
+    /// values come back. Otherwise the bag does, to be tried again, since a guard that has one of the values may still
+    /// live. Readers that go on must pin in later epochs.
     pub fn take_back(self, posts: &Posts<J>) -> Result<ClearBag<'c, J, T>, SealedBag<'c, J, T>>
         ensures clear { IfOk result (λ bag. bag.removals.items ≡ self.entry.removals.items) }
         ensures again { IfErr result (λ bag. bag.removals.items ≡ self.entry.removals.items) }

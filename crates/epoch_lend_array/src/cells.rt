@@ -35,8 +35,8 @@ pub struct LendingCells<J: PostSet, T> {
 }
 
 impl<J: PostSet, T: Drop> LendingCells<J, T> {
-    /// This many empty cells. The last turn of each is this one, or [`GREATEST_TURN`] where that is less. It fails for
-    /// want of memory alone. The cells' places in memory are never freed, and values that are still in the cells when
+    /// This many empty cells. The last turn of each is this one, or [`GREATEST_TURN`] where that is less. It fails only
+    /// if memory is refused. The cells' places in memory are never freed, and values that are still in the cells when
     /// these are dropped are not dropped.
     pub fn new(
         alloc: Global,
@@ -117,8 +117,8 @@ impl<J: PostSet, T> LendingCells<J, T> {
         }
     }
 
-    /// Marks the value at this spot, so that no look finds it from then on. Of all that mark it, one alone has the
-    /// removal. `None`: no value was placed there yet, or it was marked, or there is no such slot.
+    /// Marks the value at this spot, so that no look finds it from then on. Of all callers that mark it, only one gets
+    /// the removal. `None`: no value was placed there yet, or it was marked, or there is no such slot.
     pub fn mark(&self, spot: Spot) -> Option<Removal<'_, J, T>>
         ensures slot { IfSome result (λ removal. slice_get (map (λ s. s.turns.log) self.now.slots.items) spot.slot
             ≡ Some removal.name.log) }

@@ -1,4 +1,4 @@
-//! One cell of an array, which holds one value after another, a turn each.
+//! One cell of an array, which holds one value after another, each at a turn of its own.
 ghost use Rattle.std.specs.Prelude.{◌≡◌, ◌+◌, ◌*◌, ◌≤◌, ◌++◌, [], min, IfSome, IfOk, IfErr};
 ghost use Rattle.epoch_lend.specs.Posts.{logs_of};
 ghost use Rattle.epoch_lend.specs.Loans.{Within, AreShown};
@@ -45,8 +45,8 @@ pub struct Removal<'c, J: PostSet, T> {
 }
 
 impl<J: PostSet, T: Drop> Slot<J, T> {
-    /// An empty cell at turn 0. Its last turn is this one, or [`GREATEST_TURN`] where that is less. It fails for want
-    /// of memory alone. The place in memory is never freed, and a value that is still in the cell when the cell is
+    /// An empty cell at turn 0. Its last turn is this one, or [`GREATEST_TURN`] where that is less. It fails only if
+    /// memory is refused. The place in memory is never freed, and a value that is still in the cell when the cell is
     /// dropped is not dropped.
     pub fn new<A: Allocator + Drop>(
         alloc: A,

@@ -60,8 +60,8 @@ pub struct Sealed<'c, 'p, T> {
 
 impl<'p, T: Drop> LendingCell<'p, T> {
     /// An empty cell at turn 0. Guards of these posts may look at its values. Its last turn is this one, or
-    /// [`GREATEST_TURN`] where that is less. It fails for want of memory alone. The place in memory is never freed, and
-    /// a value that is still in the cell when the cell is dropped is not dropped.
+    /// [`GREATEST_TURN`] where that is less. It fails only if memory is refused. The place in memory is never freed,
+    /// and a value that is still in the cell when the cell is dropped is not dropped.
     pub fn new<A: Allocator + Drop>(
         alloc: A,
         last_turn: u64,
@@ -181,9 +181,9 @@ impl<'c, 'p, T> Removal<'c, 'p, T> {
 }
 
 impl<'c, 'p, T> Sealed<'c, 'p, T> {
-    /// Looks at each post once more. Where none is pinned in an epoch before the seal, the value comes out whole, and
-    /// the cell is empty at the next turn. Else the removal comes back, to be tried again, since a guard that had a
-    /// loan may live.
+    /// Looks at each post once more. If none is pinned in an epoch before the seal, the value comes out whole, and the
+    /// cell is empty at the next turn. Otherwise the removal comes back, to be tried again, since a guard that had a
+    /// loan may still live.
     pub fn take_back(self) -> Result<T, Sealed<'c, 'p, T>>
         ensures value { IfOk result (λ value. value ≡ self.entry.removal.marked.value) }
         ensures again { IfErr result (λ back. (back.removal.marked.value ≡ self.entry.removal.marked.value)

@@ -1,4 +1,5 @@
-//! Cells that lend: each holds one value after another, a turn each, which guards look at by one plain load.
+//! Cells that lend. A cell holds one value after another, each at a turn of its own, and guards look at it by one plain
+//! load.
 #![tactic(auto)]
 
 pub mod cell;

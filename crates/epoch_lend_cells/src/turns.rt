@@ -46,7 +46,7 @@ impl<T> Model for Place<T> {
     ghost also_owns = { λ h. room_of T.row h.at };
 }
 
-/// What a claim gained: nothing, or the place with no value in it, which nobody else reaches until it is given back.
+/// What a claim gained: nothing, or the place with no value in it. No other thread reaches it until it is given back.
 #[derive(Drop)]
 pub struct Claim<T> {
     pub(crate) at: *const T,
@@ -132,7 +132,8 @@ impl<T> Turns<T> {
         (turns, at)
     }
 
-    /// Claims the place at this turn, by one exchange. Only one does, and where the word was another, nobody.
+    /// Claims the place at this turn, by one exchange. Of several claims one succeeds, and none does if the word is
+    /// another one.
     pub fn claim(&self, at: *const T, turn: u64, vacant: u64, claimed: u64) -> (u64, Claim<T>)
         requires { (at ≡ self.now.at) × (vacant ≡ 4 * turn) × (claimed ≡ 4 * turn + 1) }
         ensures { (result.0 ≡ vacant → result.1.right ≡ 1) × (result.0 ≢ vacant → result.1.right ≡ 0)
@@ -199,7 +200,7 @@ impl<T> Turns<T> {
     }
 
     /// Marks the value of the name's turn, by one exchange: no look finds it from then on, and guards that have found
-    /// it keep it. Where the word was that of its turn, what the mark took out comes with it, and else nothing.
+    /// it keep it. Answers the word that it found and, only if that was the word of its turn, what the mark took out.
     pub fn mark(
         &self,
         name: &Name<T>,
@@ -248,7 +249,7 @@ impl<T> Found<T> {
         }
     }
 
-    /// Ends what found nothing, or what is not wanted.
+    /// Ends what found nothing, or what isn't needed.
     pub fn done(self) {
         let Found { turn: _, marker: _ } = self;
     }
@@ -321,7 +322,7 @@ impl<T> Filled<T> {
 }
 
 impl<T: Drop> Place<T> {
-    /// Room for one value, which is never freed. It fails for want of memory alone.
+    /// Room for one value, which is never freed. It fails only if memory is refused.
     pub fn new<A: Allocator + Drop>(alloc: A) -> Result<Place<T>, AllocError> {
         match Vacant::take(alloc) {
             Ok(room) => {

@@ -27,7 +27,7 @@ pub struct Made {
 }
 
 impl Made {
-    /// This many posts, at which nobody is pinned. It fails for want of memory alone.
+    /// This many posts, at which no reader is pinned. It fails only if memory is refused.
     pub fn new(alloc: Global, count: usize) -> Result<Made, AllocError> {
         let mut posts = Vec::with_capacity(alloc, count)?;
         let mut rights = Vec::with_capacity(alloc, count)?;
@@ -75,7 +75,7 @@ pub struct Posts<J: PostSet> {
 
 impl<J: PostSet> Posts<J> {
     /// The set of these posts. They must be those of `J`, which the call of a function over `J` picks: at `Brand`,
-    /// any posts that the call is given. It fails for want of memory alone.
+    /// any posts that the call is given. It fails only if memory is refused.
     pub fn of(alloc: Global, made: Made) -> Result<Posts<J>, AllocError>
         requires { made.posts.items ≡ J.posts }
     {

@@ -98,9 +98,9 @@ impl<'v, J: PostSet, T, A: Allocator> Owner<'v, J, T, A> {
 }
 
 impl<J: PostSet, T: Drop, A: Allocator> Retired<J, T, A> {
-    /// Looks at each post once. Where none is pinned in an epoch before the mark's looks, no guard that the value was
-    /// lent to lives, and its box comes back. Else what was marked does, to be tried again. Readers that go on must
-    /// pin in later epochs.
+    /// Looks at each post once. If none is pinned in an epoch before the mark's looks, each guard that the value was
+    /// lent to is over, and its box comes back. Otherwise the marked value comes back, to be tried again. Readers that
+    /// go on must pin in later epochs.
     pub fn take_back(self, posts: &Posts<J>) -> Result<Box<T, A>, Retired<J, T, A>>
         ensures whole { IfOk result (λ whole. whole.value ≡ self.deed.value) }
         ensures again { IfErr result (λ retired. retired.deed.value ≡ self.deed.value) }

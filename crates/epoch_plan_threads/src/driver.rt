@@ -115,8 +115,8 @@ fn newest(before: Option<Fault>, reply: Reply) -> Option<Fault>
 /// Goes over the phases of a program from this one on: makes the one call that each asks for, and goes on as the
 /// program says of its reply, until a phase answers.
 ///
-/// It ends, as `E` says. The program's phases know no guard but one: the
-/// guard that is given here has the number 0 there.
+/// It ends, as `E` says. The phases of a program name guards by their numbers. Here they know only one, the number 0,
+/// which stands for the guard that is given.
 #[inline(always)]
 pub fn drive<P: PhaseMachine, E: Ends<P>, T: Drop, W: Run, L: Spots>(
     first: P,

@@ -48,7 +48,7 @@ pub trait Works: PhaseMachine {
     /// A call may begin in this phase.
     ghost starts: { Self → Type 0 };
 
-    /// The phase in which a call begins, where the held bag has room for a further job or hasn't.
+    /// The phase in which a call begins, which depends on whether the held bag has room for a further job.
     ghost first: { Self.Work → Bool → Self };
 
     /// Answers the phase in which a call begins.

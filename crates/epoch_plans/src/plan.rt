@@ -3,8 +3,9 @@
 /// A participant's call of a structure.
 #[derive(Clone, Copy, Debug, PartialEq, Eq)]
 pub enum Plan<P> {
-    /// None is under way.
+    /// No call is under way.
     NoPlan,
-    /// One is under way under this guard, in this phase, whose call of the world has begun or hasn't.
+    /// A call is under way under this guard, in this phase. The last field says whether the phase's call of the world
+    /// has begun.
     Under(u64, P, bool),
 }

@@ -1,4 +1,4 @@
-//! What holds of every run of cells and pointers, some of it where cells leave as they must: laws of the definitions.
+//! What holds of every run of cells and pointers. Some of these laws hold only if cells leave as they must.
 ghost use Rattle.std.specs.Prelude.{◌≡◌, ℕ, List};
 ghost use Rattle.epoch_laws.specs.declared.step.Entry.{Entry};
 ghost use Rattle.epoch_laws.specs.Run.{State, IsFresh, Runs};

@@ -52,7 +52,7 @@ impl<T: Pointable, A: SharedWord> Atomic<T, A> {
     /// it tries again with the pointer that it found, in at most `max_tries` tries. Answers the pointer before.
     ///
     /// `Stopped`: `f` answered `None`. `RanOut`: each exchange was lost; with `max_tries` 0, `f` isn't called. In both
-    /// cases nothing was stored. The bound is our own: crossbeam-epoch tries until it wins.
+    /// cases nothing was stored. crossbeam-epoch has no such bound.
     pub fn fetch_update<'g, F: FnMut(Shared<'g, T>) -> Option<Shared<'g, T>> + Drop, W>(
         &self,
         set_order: Ordering,

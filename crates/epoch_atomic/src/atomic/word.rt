@@ -126,8 +126,8 @@ impl SharedWord for AtomicIn<PointerWord> {
     }
 }
 
-/// Tells in which kind of word pointers to a type stand. There is one kind, and only this impl, so `Atomic::null()` and
-/// its like need no type.
+/// Tells in which kind of word pointers to a type stand. There is one kind, and only this impl, so that
+/// `Atomic::null()` and similar calls need no type.
 pub trait HasWord<A> {}
 
 impl<T> HasWord<AtomicIn<PointerWord>> for T {}

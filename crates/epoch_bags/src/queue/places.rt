@@ -1,4 +1,4 @@
-//! The store of numbered places, each a word and a home for a bag.
+//! The store of numbered places, each of which has a word and room for a bag.
 //!
 //! A word is 0 for an empty place, 2 for a claimed one, and `2s + 1` for one that holds a bag sealed with `s`.
 //! A put goes from place 0 to the last: it looks at the word, claims an empty place and fills it. A collection
@@ -176,7 +176,7 @@ fn fill<J: Default + Drop>(
     true
 }
 
-/// Takes out the bag at home, even where the place is claimed.
+/// Takes out the bag that stands there, even if the place is claimed.
 fn clear<J: Drop>(places: &mut Places<J>, place: usize) -> Option<SealedBag<J>>
     requires { place < length places.old.words }
     ensures bag { result ≡ slice_index_or places.old.bags place None }
@@ -187,7 +187,7 @@ fn clear<J: Drop>(places: &mut Places<J>, place: usize) -> Option<SealedBag<J>>
     places.bags[place].take()
 }
 
-/// Moves the bag at home into the hand, where it is expired. Else the place is let go with its bag.
+/// Moves the bag that stands there into the hand, if it is expired. Otherwise the place is let go with its bag.
 #[inline(never)]
 fn empty<J: Drop>(
     places: &mut Places<J>,
@@ -258,7 +258,7 @@ pub fn is_expired_word(word: u64, expiry: Epoch) -> bool
     word % 2 == 1 && word / 2 + 2 <= expiry.number()
 }
 
-/// Whether a bag is at home at this place.
+/// Whether a bag stands at this place.
 fn has_bag<J>(places: &Places<J>, place: usize) -> bool
     requires { place < length places.now.words }
     ensures { IsTrue result ↔ IsSome (slice_index_or places.now.bags place None) }

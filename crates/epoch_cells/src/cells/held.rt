@@ -52,7 +52,7 @@ impl<T> Fits for Held<T> {
     ghost fits = { λ number held. held.name.slot ≡ number };
 }
 
-/// A slot: `None` stands where it has no value. In a clause it is its number.
+/// A slot: `None` if it has no value. A clause sees a slot as its number.
 pub type Slot<T> = Counted<Option<Held<T>>>;
 
 /// How a value is put into the slot that was claimed for it.
@@ -296,7 +296,7 @@ pub fn try_take<T: Drop>(slot: &Slot<T>, name: Name) -> Result<Held<T>, Miss>
 }
 
 /// Puts a value back that was taken out by the name of another turn, or drops it if its slot is used by then. This
-/// isn't met.
+/// never comes about.
 #[cold]
 #[inline(never)]
 fn put_back<T: Drop>(slot: &Slot<T>, held: Held<T>)

@@ -39,7 +39,7 @@ impl<'c, T, W> Local<'c, T, W> {
         epoch
     }
 
-    /// A pin as far as its collection. Answers whether one follows; else the pin has ended.
+    /// A pin as far as its collection. Answers whether one follows; if not, the pin has ended.
     #[inline]
     pub(crate) fn pin(&mut self) -> bool
         requires ready { IsReady self.old }

@@ -4,14 +4,15 @@
 ghost use Rattle.epoch_tables.specs.SharedPlaces.{LosesNoBag};
 ghost use Rattle.epoch_tables.specs.ClosedPlaces.{LastHaveTheRest};
 
-/// No bag is lost, and none is got twice. However bags are weighed, what all seats have left in places weighs as much
-/// as what they have won there and what stands there now.
+/// No bag is lost, and none is got twice. Give each bag any weight: then all bags that seats have left in places weigh
+/// as much together as all that seats have won there and those that stand there now.
 pub fn no_bag_is_lost<J>()
     ensures { LosesNoBag J }
 {}
 
-/// Nothing is lost at the end. If no seat has a place claimed when places are closed, then, however bags are weighed,
-/// what all seats have left in places weighs as much as what they have won there and what is left in the closed places.
+/// Nothing is lost at the end. Give each bag any weight. If no seat has claimed a place when the places are closed, all
+/// bags that seats have left in places weigh as much together as all that seats have won there and those that are left
+/// in the closed places.
 pub fn closed_places_hold_the_rest<J>()
     ensures { LastHaveTheRest J }
 {}
