@@ -1,0 +1,100 @@
+//! Calls on stacks of values that are moved.
+use crate::tokens::Token;
+use epoch_base::{Fault, Refused};
+use epoch_once::TakeOnce;
+use epoch_pin::atomic::Pointable;
+use epoch_pin::{Capacities, Collector, Guard, LocalHandle};
+use epoch_stack::Stack;
+use std::alloc::Global;
+use std::process::Abort;
+
+/// What a stack keeps.
+pub(crate) type StackNode<'a> = epoch_stack::Node<TakeOnce<Token<'a>>>;
+
+/// What values are pushed on and popped off.
+pub(crate) trait Pile<'a, N: Pointable + Drop> {
+    /// Pushes the value.
+    fn push(
+        &self,
+        alloc: Global,
+        handle: &mut LocalHandle<'_, N>,
+        guard: &Guard<'_, N>,
+        token: Token<'a>,
+        tries: u32,
+    ) -> Result<(), Refused<Token<'a>>>;
+
+    /// Pops a value.
+    fn pop(
+        &self,
+        handle: &mut LocalHandle<'_, N>,
+        guard: &Guard<'_, N>,
+        tries: u32,
+    ) -> Result<Option<Token<'a>>, Fault>;
+}
+
+impl<'a, 'c> Pile<'a, StackNode<'a>> for Stack<'c, TakeOnce<Token<'a>>> {
+    fn push(
+        &self,
+        alloc: Global,
+        handle: &mut LocalHandle<'_, StackNode<'a>>,
+        guard: &Guard<'_, StackNode<'a>>,
+        token: Token<'a>,
+        tries: u32,
+    ) -> Result<(), Refused<Token<'a>>> {
+        self.push_once(alloc, handle, guard, token, tries)
+    }
+
+    fn pop(
+        &self,
+        handle: &mut LocalHandle<'_, StackNode<'a>>,
+        guard: &Guard<'_, StackNode<'a>>,
+        tries: u32,
+    ) -> Result<Option<Token<'a>>, Fault> {
+        self.pop_once(handle, guard, tries)
+    }
+}
+
+/// A collector with these capacities.
+pub(crate) fn collector<N: Pointable + Drop>(
+    rt: &impl Abort,
+    alloc: Global,
+    capacities: Capacities,
+) -> Collector<N> {
+    assert!(rt; capacities.is_valid(), "the capacities are in their ranges");
+    Collector::new(alloc, capacities, 1).expect(rt, "memory for a collector")
+}
+
+/// A new participant, for which a position is free.
+pub(crate) fn register<'c, N: Pointable + Drop>(
+    rt: &impl Abort,
+    collector: &'c Collector<N>,
+) -> LocalHandle<'c, N> {
+    collector.register().expect(rt, "a free position")
+}
+
+/// Pins the handle.
+pub(crate) fn pin<'c, N: Pointable + Drop>(
+    rt: &impl Abort,
+    handle: &mut LocalHandle<'c, N>,
+) -> Guard<'c, N> {
+    assert!(rt; handle.can_pin(), "a further guard can be counted");
+    handle.pin()
+}
+
+/// Spends a guard of the handle.
+pub(crate) fn unpin<'c, N: Pointable + Drop>(
+    rt: &impl Abort,
+    handle: &mut LocalHandle<'c, N>,
+    guard: Guard<'c, N>,
+) {
+    assert!(rt; handle.owns(&guard), "the guard is one of the handle");
+    handle.unpin(guard);
+}
+
+/// Releases the handle, whose bag finds a place.
+pub(crate) fn release<N: Pointable + Drop>(rt: &impl Abort, handle: LocalHandle<'_, N>) {
+    assert!(rt; handle.guards_out() == 0, "each guard is spent");
+    if let Err((_back, fault)) = handle.release() {
+        panic!(rt; "{fault}");
+    }
+}
