@@ -65,14 +65,14 @@ changed_tag (And bits) tag = bit_and tag bits
 changed_tag (Or bits) tag = bit_or tag bits
 changed_tag (Xor bits) tag = bit_xor tag bits
 
--- So many exchanges were lost, one after another. The first one expected this word, each other one expected what the one
--- before it found, and the last one found this word.
+-- So many exchanges were lost, one after another. The first one expected this word, each other one expected what the
+-- one before it found, and the last one found this word.
 abbrev pub LosesEach : (WordStep → Type 0) → (first lost last : ℕ) → Type 0
 LosesEach did first zero last = last ≡ first
 LosesEach did first (suc lost) last = (word : ℕ) × LosesEach did first lost word × did (Misses word last)
 
--- A load and then lost exchanges found a word that reads as the pointer before. One more exchange left its name with the
--- changed tag. Or none did, after 2^64 - 1 lost ones.
+-- A load and then lost exchanges found a word that reads as the pointer before. One more exchange left its name with
+-- the changed tag. Or none did, after 2^64 - 1 lost ones.
 abbrev pub ChangesTag : {T : Type 0} → (align : ℕ) → (WordStep → Type 0) → TagChange → Shared T → Type 0
 ChangesTag align did change before =
     (first : ℕ) × (lost : ℕ) × (found : ℕ) × did (Loads first) × LosesEach did first lost found

@@ -4,8 +4,8 @@ use epoch_stack::{Node, Stack};
 
 /// Takes all values off the stack, destroys their nodes at once, and answers the values' sum.
 ///
-/// An unprotected guard holds nothing back, and its calls don't wait for the epoch. That is right if no other thread can
-/// reach the structure, as here, where the stack itself was given away.
+/// An unprotected guard holds nothing back, and its calls don't wait for the epoch. That is right if no other thread
+/// can reach the structure, as here, where the stack itself was given away.
 pub fn take_apart(collector: &Collector<Node<u64>>, stack: Stack<'_, u64>) -> u64 {
     let guard = unprotected(collector);
     let mut sum: u64 = 0;

@@ -5,10 +5,12 @@ ghost use Rattle.std.specs.Cmp.Rules.{comparing};
 ghost use Rattle.std.specs.Ordering.{on};
 ghost use Rattle.epoch_cells.specs.declared.fault.Fault.TheVariants.{NoMemory};
 ghost use Rattle.epoch_machine.specs.Machine.{IsSized};
+ghost use Rattle.epoch_ends.specs.Ends.{CallsAllLeft};
 ghost use Rattle.epoch_handles.specs.Capacities.{AreValid, sizes_for};
 
 use epoch_bags::{BAG_JOBS, Job, Work};
 use epoch_cells::{Cells, Fault, MOST_SLOT};
+use epoch_ends::{AtEnd, end_left};
 use epoch_machine::Sizes;
 use epoch_tables::shared_places::{MOST_PLACES, SharedPlaces};
 use epoch_tables::table::{MOST_POSITIONS, Participants};
@@ -142,5 +144,28 @@ impl<T: Drop, W: Drop> Collector<T, W> {
             cells,
             sizes,
         })
+    }
+}
+
+impl<T: Drop, W: AtEnd<T>> Collector<T, W> {
+    /// Ends the collector: closes its places, calls every job that is left in them, drops the values that are left in
+    /// its cells, and answers how many jobs it called.
+    ///
+    /// Every handle must have been given back, since handles borrow the collector. In crossbeam-epoch the last owner of
+    /// a collector does this by dropping it.
+    pub fn end(self) -> u64
+        ensures called { CallsAllLeft W.closed W.done W.Removing.tried self.places result }
+    {
+        let Collector {
+            id: _,
+            participants: _,
+            places,
+            cells,
+            sizes: _,
+        } = self;
+        let mut left = W::close(places);
+        let count = end_left(&cells, &mut left);
+        left.free();
+        count
     }
 }

@@ -2,7 +2,6 @@
 #![tactic(auto)]
 
 mod collector;
-mod end;
 mod guard;
 mod handle;
 mod home;
@@ -12,7 +11,6 @@ mod paused;
 mod released;
 
 pub use collector::{Capacities, Collector};
-pub use end::{AtEnd, end_bags, end_next};
 pub use guard::{Guard, unprotected};
 pub use handle::LocalHandle;
 pub use home::{Home, home_of, place_under};

@@ -6,7 +6,8 @@ ghost use Rattle.epoch_tables.specs.ClosedPlaces.{AreLast};
 
 use epoch_bags::{FromCells, Job, Run};
 use epoch_cells::{Cells, Fault};
-use epoch_handles::{AtEnd, Capacities, Collector, end_next};
+use epoch_ends::{AtEnd, end_next};
+use epoch_handles::{Capacities, Collector};
 use epoch_lend_readers::posts::PostSet;
 use epoch_lend_store::lender::Lender;
 use epoch_lend_store::retired::Retired;

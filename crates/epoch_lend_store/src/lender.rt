@@ -157,8 +157,8 @@ impl<'s, J: PostSet, T: Drop> Lender<'s, J, T> {
         }
     }
 
-    // Tries the bags that wait from place `from` up to `to`, while some are left to try. `false`: none was left, and the
-    // next search begins where this one stopped.
+    // Tries the bags that wait from place `from` up to `to`, while some are left to try. `false`: none was left, and
+    // the next search begins where this one stopped.
     fn try_between(&self, from: usize, to: usize, left: &mut usize) -> bool {
         for position in from..to {
             if *left == 0 {

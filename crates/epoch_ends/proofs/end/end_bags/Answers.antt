@@ -3,8 +3,8 @@ use Rattle.std.proofs.lemmas.Bool.Decides.{eqb_tells}
 use Rattle.std.proofs.lemmas.Grind.{common_steps, get_or-set_at}
 use Rattle.std.proofs.lemmas.List.{get_or_default, get_or-set_other}
 use Rattle.epoch_bags.specs.Jobs.{IsCalled}
-use Rattle.epoch_handles.specs.Ends.{IsBagCalled}
-use Rattle.epoch_handles.proofs.end.end_bags.Goals as goal
+use Rattle.epoch_ends.specs.Ends.{IsBagCalled}
+use Rattle.epoch_ends.proofs.end.end_bags.Goals as goal
 
 -- the bag at this place is ended, and those after it are as they were
 pub loop-place-preserved : goal.loop-place-preserved

@@ -1,7 +1,7 @@
 use Rattle.std.proofs.Common.{length, All}
 use Rattle.epoch_bags.specs.Jobs.{IsCalled}
-use Rattle.epoch_handles.specs.Ends.{IsBagCalled}
-use Rattle.epoch_handles.proofs.end.end_bag.Given as goal
+use Rattle.epoch_ends.specs.Ends.{IsBagCalled}
+use Rattle.epoch_ends.proofs.end.end_bag.Given as goal
 
 abbrev pub invariant-loop : goal.invariant-loop
 invariant-loop g l = All (IsCalled g.W.Run.done g.W.Removing.Remove.tried) l.bag.jobs → IsBagCalled

@@ -1,4 +1,4 @@
-//! The end of a collector: what is left is called.
+//! What is left in the places of a collector that ends, and its calls.
 ghost use Rattle.std.specs.Prelude.{◌≡◌, ℕ, ◌*◌, ◌<◌, ◌≤◌, List, Option, None, length, slice_index_or, All};
 ghost use Rattle.epoch_bags.specs.Bags.{Sealed};
 ghost use Rattle.std.specs.Mem.{type_size};
@@ -8,16 +8,15 @@ ghost use Rattle.epoch_bags.specs.Jobs.{IsCalled};
 ghost use Rattle.epoch_bags.specs.declared.job.Job.{Job};
 ghost use Rattle.epoch_tables.specs.SharedPlaces.{PlaceBoard};
 ghost use Rattle.epoch_tables.specs.ClosedPlaces.{AreLast};
-ghost use Rattle.epoch_handles.specs.Ends.{jobs_in, jobs_of, IsBagCalled, EndsNext, CallsAllLeft};
+ghost use Rattle.epoch_ends.specs.Ends.{jobs_in, jobs_of, IsBagCalled, EndsNext};
 
-use crate::collector::Collector;
 use epoch_bags::{FromCells, Job, Remove, Run, SealedBag, Work};
 use epoch_cells::Cells;
 use epoch_tables::shared_places::{ClosedPlaces, SharedPlaces};
 use std::mem;
 
-/// What a kind of work does at the end of a collector of `T`s. A generic caller can't do it, since values of the kind of
-/// work must be known to fit in memory. Each implementation is two lines long, like that of [`Work`].
+/// What a kind of work does at the end of a collector of `T`s. A generic caller can't do it, since values of the kind
+/// of work must be known to fit in memory. Each implementation is two lines long, like that of [`Work`].
 pub trait AtEnd<T>: Run {
     /// The places had these contents when they were closed. If the type is a parameter, nothing but `close` shows it.
     ghost closed: { PlaceBoard → List (Option (Sealed (Job Self))) → Type 0 };
@@ -54,31 +53,8 @@ impl<T: Drop> AtEnd<T> for Work {
     }
 }
 
-impl<T: Drop, W: AtEnd<T>> Collector<T, W> {
-    /// Ends the collector: closes its places, calls every job that is left in them, drops the values that are left in
-    /// its cells, and answers how many jobs it called.
-    ///
-    /// Every handle must have been given back, since handles borrow the collector. In crossbeam-epoch the last owner of
-    /// a collector does this by dropping it.
-    pub fn end(self) -> u64
-        ensures called { CallsAllLeft W.closed W.done W.Removing.tried self.places result }
-    {
-        let Collector {
-            id: _,
-            participants: _,
-            places,
-            cells,
-            sizes: _,
-        } = self;
-        let mut left = W::close(places);
-        let count = end_left(&cells, &mut left);
-        left.free();
-        count
-    }
-}
-
-/// Calls every job that is left in closed places, and leaves none. Answers how many jobs.
-fn end_left<T: Drop, W: AtEnd<T>>(cells: &Cells<T>, left: &mut ClosedPlaces<Job<W>>) -> u64
+/// Calls every job that is left in closed places, place after place, and leaves none. Answers how many jobs it called.
+pub fn end_left<T: Drop, W: AtEnd<T>>(cells: &Cells<T>, left: &mut ClosedPlaces<Job<W>>) -> u64
     ensures called { All (IsBagCalled (IsCalled W.done W.Removing.tried)) left.old }
     ensures count { result ≡ jobs_in left.old }
     ensures none { length left.new ≡ 0 }

@@ -1,7 +1,7 @@
 use Rattle.std.proofs.Common.{◌≡◌, ℕ, ◌+◌, ◌*◌, ◌<◌, ◌≤◌, None, drop, slice_index_or}
 use Rattle.epoch_bags.specs.Jobs.{IsCalled}
-use Rattle.epoch_handles.specs.Ends.{jobs_in, IsBagCalled}
-use Rattle.epoch_handles.proofs.end.end_bags.Given as goal
+use Rattle.epoch_ends.specs.Ends.{jobs_in, IsBagCalled}
+use Rattle.epoch_ends.proofs.end.end_bags.Given as goal
 
 abbrev pub invariant-loop-place : goal.invariant-loop-place
 invariant-loop-place g l = record {

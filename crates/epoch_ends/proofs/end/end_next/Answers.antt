@@ -1,4 +1,4 @@
-use Rattle.epoch_handles.proofs.end.end_next.Goals as goal
+use Rattle.epoch_ends.proofs.end.end_next.Goals as goal
 
 -- the bag that was in the next place
 pub returns : goal.returns

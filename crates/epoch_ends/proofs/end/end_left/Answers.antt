@@ -2,8 +2,8 @@ use Rattle.std.proofs.Common.{◌≡◌, ◌∙◌, ℕ, zero, suc, ◌+◌, ◌
 use Rattle.std.proofs.Common.{subst, arith}
 use Rattle.epoch_bags.specs.Bags.{Sealed}
 use Rattle.epoch_bags.specs.Jobs.{IsCalled}
-use Rattle.epoch_handles.specs.Ends.{jobs_in, IsBagCalled}
-use Rattle.epoch_handles.proofs.end.end_left.Goals as goal
+use Rattle.epoch_ends.specs.Ends.{jobs_in, IsBagCalled}
+use Rattle.epoch_ends.proofs.end.end_left.Goals as goal
 
 -- what holds of the first and of all behind it holds of all
 all_from_first : {A : Type 0} (P : A → Type 0) (x : A) (xs : List A) → P x → All P xs → All P (x ∷ xs)

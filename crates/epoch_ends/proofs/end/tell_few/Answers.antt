@@ -1,6 +1,6 @@
 use Rattle.std.proofs.Common.{◌≡◌, ℕ, ◌*◌, ◌<◌, ◌≤◌, arith}
 use Rattle.std.proofs.Math.Nat.{mul-le-mul_left}
-use Rattle.epoch_handles.proofs.end.tell_few.Goals as goal
+use Rattle.epoch_ends.proofs.end.tell_few.Goals as goal
 
 -- so many values of 64 bytes or more each, with their bytes counted by a word
 few_of_size : (count bytes size : ℕ)

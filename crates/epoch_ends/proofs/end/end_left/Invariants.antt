@@ -1,7 +1,7 @@
 use Rattle.std.proofs.Common.{◌≡◌, ◌+◌, ◌*◌, ◌≤◌, ◌++◌, length, All}
 use Rattle.epoch_bags.specs.Jobs.{IsCalled}
-use Rattle.epoch_handles.specs.Ends.{jobs_in, IsBagCalled}
-use Rattle.epoch_handles.proofs.end.end_left.Given as goal
+use Rattle.epoch_ends.specs.Ends.{jobs_in, IsBagCalled}
+use Rattle.epoch_ends.proofs.end.end_left.Given as goal
 
 abbrev pub invariant-loop-taken : goal.invariant-loop-taken
 invariant-loop-taken g l = record {
