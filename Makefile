@@ -16,8 +16,8 @@ help:
 	@echo '              must be installed     minutes at first for the proofs, then 5 min'
 	@echo 'make beside-histories   gives random scripts to both, and compares which jobs they call'
 	@echo
-	@echo 'INPUT=FILE    the script of try, run and draw, in place of crates/epoch_run/stdin'
-	@echo 'CRATE=NAME    the crate of refute, in place of all'
+	@echo 'INPUT=FILE    the script of try, run and draw, instead of crates/epoch_run/stdin'
+	@echo 'CRATE=NAME    the crate of refute, instead of all'
 	@echo 'ROWS=REGEX THREADS=1,4 PASSES=10    which rows beside measures, and how often'
 	@echo 'LINES=N SEED=S                      how long the scripts of beside-histories are, and which'
 	@echo 'Times are of 4 processors; docs/PERFORMANCE.md says what they depend on.'
@@ -36,7 +36,9 @@ try:
 
 draw:
 	@echo 'This proves nothing: the program is only compiled and run, in about 20 seconds on 4 processors.' >&2
-	@mkdir -p out && script=$$(realpath "$(INPUT)") && cd crates/epoch_draw && rt try < "$$script" > ../../out/run.svg.part && mv ../../out/run.svg.part ../../out/run.svg
+	@mkdir -p out && script=$$(realpath "$(INPUT)") && cd crates/epoch_draw && \
+	  if rt try < "$$script" > ../../out/run.svg.part; then mv ../../out/run.svg.part ../../out/run.svg; \
+	  else status=$$?; rm -f ../../out/run.svg.part; exit $$status; fi
 	@echo 'The picture is out/run.svg.' >&2
 
 pictures:
