@@ -1,1 +1,2 @@
 pub mod AloneRuns
+pub mod ToldRuns
