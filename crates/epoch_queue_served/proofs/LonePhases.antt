@@ -2,7 +2,6 @@
 use Rattle.std.proofs.Common.{◌≡◌, ℕ, zero, suc, ◌≤◌, Bool, true, false, List, [], ◌∷◌, Option, Some, None}
 use Rattle.std.proofs.Common.{◌⊎◌, inl, inr, refl, ap, sym, subst, ◌∙◌, arith, if◌then◌else◌, slice_get}
 use Rattle.epoch_cells.specs.declared.cells.name.Name.{Name}
-use Rattle.epoch_cells.specs.declared.fault.Fault.{Fault}
 use Rattle.epoch_heap.specs.declared.access.Access.TheVariants.{Read, Point}
 use Rattle.epoch_heap.specs.declared.access.Accessed.{Accessed}
 use Rattle.epoch_heap.specs.declared.access.Accessed.TheVariants.{Again, Answers as Told, NoSlot}
@@ -16,11 +15,11 @@ use Rattle.epoch_heap.specs.Heap.{cell_at}
 use Rattle.epoch_heap.specs.Heap.{nulls, with_cell_at, with_pointer}
 use Rattle.epoch_heap.specs.declared.heap.Content.{Content}
 use Rattle.epoch_cells.specs.PlainCells.{filled, readable}
-use Rattle.epoch_laws.specs.declared.step.Reply.TheVariants.{Refused}
-use Rattle.epoch_plans.specs.Plans.{after_by, ptr_to}
+use Rattle.epoch_plan_alone.proofs.AloneRuns.{LoneDuty}
+use Rattle.epoch_plans.specs.Plans.{ptr_to}
 use Rattle.epoch_plans.proofs.Cells.{written_there}
-use Rattle.epoch_plans.proofs.Obligations.{after_touch, TouchesBy}
-use Rattle.epoch_plan_served.specs.Served.{AnswersDeed, RefusesDeed, AnswersAccess}
+use Rattle.epoch_plans.proofs.Obligations.{after_touch}
+use Rattle.epoch_plan_served.specs.Served.{AnswersAccess}
 use Rattle.epoch_queue_laws.specs.declared.plan.Work.{Work}
 use Rattle.epoch_queue_laws.specs.declared.plan.Work.TheVariants.{Build, Push, Pop}
 use Rattle.epoch_queue_laws.specs.declared.plan.Phase.{Phase}
@@ -29,11 +28,14 @@ use Rattle.epoch_queue_laws.specs.declared.plan.Phase.TheVariants.{LoadingTail, 
 use Rattle.epoch_queue_laws.specs.declared.plan.Phase.TheVariants.{Helping, TakingBack, LoadingHead, LoadingNext}
 use Rattle.epoch_queue_laws.specs.declared.plan.Phase.TheVariants.{Reading, Leaving, Taking, LookingBack, Advancing}
 use Rattle.epoch_queue_laws.specs.declared.plan.Phase.TheVariants.{Removing, Answering}
-use Rattle.epoch_queue_laws.specs.Queue.{deed_of, names, retry_push, start_work, to_append, to_last, to_next}
-use Rattle.epoch_queue_laws.specs.Queue.{to_read}
+use Rattle.epoch_queue_laws.specs.Queue.{Starts, deed_of, names, queue, retry_push, start_work, to_append, to_last}
+use Rattle.epoch_queue_laws.specs.Queue.{to_next, to_read}
 use Rattle.epoch_queue_laws.proofs.QueueForm.{at, at_same, In, Next, next_same, Form, Chain}
+use Rattle.epoch_queue_laws.proofs.QueueKept.{structure}
 use Rattle.epoch_queue_laws.proofs.QueueSteps.{aligned_at}
+use Rattle.epoch_queue_laws.proofs.QueueTouches.{queue_obeys}
 use Rattle.epoch_queue_served.specs.Lone.{HasTries, IsOut}
+use Rattle.epoch_queue_served.proofs.QueueServes.{knowledge, queue_serves}
 
 abbrev pub TailIs : Heap → Name → Type 0
 TailIs h t = pointer_at h (Root 1) ≡ Some (at (Some t))
@@ -93,7 +95,7 @@ roots_kept h h' same ends = (
 )
 
 -- making room leaves the head and the tail as they are
-pub room_kept : (h h' : Heap) (work : Work) → h'.roots ≡ h.roots → Lone h (MakingRoom work) → Lone h' (MakingRoom work)
+room_kept : (h h' : Heap) (work : Work) → h'.roots ≡ h.roots → Lone h (MakingRoom work) → Lone h' (MakingRoom work)
 room_kept h h' work same lone = (roots_kept h h' same lone.0, lone.1)
 
 -- a call that begins
@@ -225,36 +227,17 @@ module _ (h : Heap) (xs : List Name) (form : Form h xs) where
   take g n q v k j found did (Some ptr) is (inr e) head =
       absurd (e.0 (let same : ptr ≡ at (Some n) = cc (is, head) in same ∙ sym (aligned_at h (Some n))))
 
-  -- each phase's step keeps what is known
-  pub lone_touch : (g : ℕ) (phase : Phase) (j : ℕ) (found : Ptr) (did : Touched)
-      → TouchesBy (deed_of g phase) j found h did
-      → ((answer : Answer) → did.told ≡ Told answer → AnswersDeed (deed_of g phase) answer) → Lone h phase
-      → Shows g phase did
-  lone_touch g (Placing v k) j found did e expected lone = place g v k j found did (slice_get h.cells j) e lone
-  lone_touch g (LoadingTail n k) j found did e expected lone =
-      load_tail g n k j found did (pointer_at h (Root 1)) refl e lone
-  lone_touch g (LoadingLast n t k) j found did e expected lone =
-      load_last g n t k j found did (pointer_at h (Field t 0)) refl e lone
-  lone_touch g (Appending n t k) j found did e expected lone =
-      append g n t k j found did (pointer_at h (Field t 0)) refl e lone
-  lone_touch g (Helping n t q k) j found did e expected lone =
-      help g n t q k j found did (pointer_at h (Root 1)) refl e lone
-  lone_touch g (LoadingHead k) j found did e expected lone =
-      load_head g k j found did (pointer_at h (Root 0)) refl e lone
-  lone_touch g (LoadingNext n k) j found did e expected lone =
-      load_next g n k j found did (pointer_at h (Field n 0)) e expected lone
-  lone_touch g (Reading n q k) j found did e expected lone =
-      read g n q k did (cell_at h q) (readable (cell_at h q)) e expected lone
-  lone_touch g (Leaving n q v k) j found did e expected lone = leave g n q v k did (cell_at h q) e lone
-  lone_touch g (Taking n q v k) j found did e expected lone =
-      take g n q v k j found did (pointer_at h (Root 0)) refl e lone
-  lone_touch g (Swinging t n) j found did e expected lone = by_told did.told
+  -- a look at the tail, and its exchange, are the same to the call whatever they tell
+  swing : (g : ℕ) (t n : Name) (did : Touched) → Shows g (Swinging t n) did
+  swing g t n did = by_told did.told
     where
       by_told : (told : Accessed) → Lone did.heap (after_touch (Swinging t n) (deed_of g (Swinging t n)) told)
       by_told (Again f) = tt
       by_told (Told answer) = λ out. out
       by_told NoSlot = λ out. out
-  lone_touch g (LookingBack n q v) j found did e expected lone = by_told did.told
+
+  look_back : (g : ℕ) (n q : Name) (v : ℕ) (did : Touched) → Shows g (LookingBack n q v) did
+  look_back g n q v did = by_told did.told
     where
       by_test : (b : Bool) → Lone did.heap (if b then Advancing n q v else Removing n v)
       by_test true = tt
@@ -266,26 +249,79 @@ module _ (h : Heap) (xs : List Name) (form : Form h xs) where
       by_told (Told (Pointer ptr)) = by_test (names ptr.name n)
       by_told (Told _) = tt
       by_told NoSlot = tt
-  lone_touch g (Advancing n q v) j found did e expected lone = by_told did.told
+
+  advance : (g : ℕ) (n q : Name) (v : ℕ) (did : Touched) → Shows g (Advancing n q v) did
+  advance g n q v did = by_told did.told
     where
       by_told : (told : Accessed) → Lone did.heap (after_touch (Advancing n q v) (deed_of g (Advancing n q v)) told)
       by_told (Again f) = tt
       by_told (Told answer) = tt
       by_told NoSlot = λ out. out
-  lone_touch g (MakingRoom work) j found did e expected lone = absurd e
-  lone_touch g (Removing n v) j found did e expected lone = absurd e
-  lone_touch g (Answering a) j found did e expected lone = absurd e
-  lone_touch g (Founding) j found did e expected lone = absurd lone
-  lone_touch g (Crowning n) j found did e expected lone = absurd lone
-  lone_touch g (Seating n) j found did e expected lone = absurd lone
-  lone_touch g (TakingBack n) j found did e expected lone = absurd lone
 
--- a refusal that is expected ends the call
-pub lone_refused : (h : Heap) (g : ℕ) (phase : Phase) (f : Fault) → RefusesDeed (deed_of g phase) f → Lone h phase
-    → Lone h (after_by phase (deed_of g phase) (Refused f))
-lone_refused h g (MakingRoom work) f refused lone = λ out. out
-lone_refused h g (Placing v k) f refused lone = λ out. out
-lone_refused h g (Removing n v) f refused lone = λ out. out
-lone_refused h g (Founding) f refused lone = absurd lone
-lone_refused h g (TakingBack n) f refused lone = absurd lone
-lone_refused h g _ f refused lone = absurd refused
+-- each phase does its duty
+pub lone_duties : (g : ℕ) (phase : Phase)
+    → LoneDuty queue structure Starts queue_obeys knowledge queue_serves Lone IsOut g phase (deed_of g phase)
+lone_duties g (MakingRoom work) = λ past h h' same lone.
+    let kept = room_kept h h' work same lone in (kept, lone_start h' work kept, λ out. out)
+lone_duties g Founding = (λ past h xs shape j found did e expected lone. absurd lone, λ h f r lone. absurd lone)
+lone_duties g (Crowning n) = (λ past h xs shape j found did e expected lone. absurd lone, λ h f r. absurd r)
+lone_duties g (Seating n) = (λ past h xs shape j found did e expected lone. absurd lone, λ h f r. absurd r)
+lone_duties g (Placing v k) = (
+  λ past h xs shape j found did e expected lone.
+      place h xs shape.form g v k j found did (slice_get h.cells j) e lone,
+  λ h f r lone. λ out. out,
+)
+lone_duties g (LoadingTail n k) = (
+  λ past h xs shape j found did e expected lone.
+      load_tail h xs shape.form g n k j found did (pointer_at h (Root 1)) refl e lone,
+  λ h f r. absurd r,
+)
+lone_duties g (LoadingLast n t k) = (
+  λ past h xs shape j found did e expected lone.
+      load_last h xs shape.form g n t k j found did (pointer_at h (Field t 0)) refl e lone,
+  λ h f r. absurd r,
+)
+lone_duties g (Appending n t k) = (
+  λ past h xs shape j found did e expected lone.
+      append h xs shape.form g n t k j found did (pointer_at h (Field t 0)) refl e lone,
+  λ h f r. absurd r,
+)
+lone_duties g (Swinging t n) =
+    (λ past h xs shape j found did e expected lone. swing h xs shape.form g t n did, λ h f r. absurd r)
+lone_duties g (Helping n t q k) = (
+  λ past h xs shape j found did e expected lone.
+      help h xs shape.form g n t q k j found did (pointer_at h (Root 1)) refl e lone,
+  λ h f r. absurd r,
+)
+lone_duties g (TakingBack n) = λ past h h' lone. absurd lone
+lone_duties g (LoadingHead k) = (
+  λ past h xs shape j found did e expected lone.
+      load_head h xs shape.form g k j found did (pointer_at h (Root 0)) refl e lone,
+  λ h f r. absurd r,
+)
+lone_duties g (LoadingNext n k) = (
+  λ past h xs shape j found did e expected lone.
+      load_next h xs shape.form g n k j found did (pointer_at h (Field n 0)) e expected lone,
+  λ h f r. absurd r,
+)
+lone_duties g (Reading n q k) = (
+  λ past h xs shape j found did e expected lone.
+      read h xs shape.form g n q k did (cell_at h q) (readable (cell_at h q)) e expected lone,
+  λ h f r. absurd r,
+)
+lone_duties g (Leaving n q v k) = (
+  λ past h xs shape j found did e expected lone. leave h xs shape.form g n q v k did (cell_at h q) e lone,
+  λ h f r. absurd r,
+)
+lone_duties g (Taking n q v k) = (
+  λ past h xs shape j found did e expected lone.
+      take h xs shape.form g n q v k j found did (pointer_at h (Root 0)) refl e lone,
+  λ h f r. absurd r,
+)
+lone_duties g (LookingBack n q v) =
+    (λ past h xs shape j found did e expected lone. look_back h xs shape.form g n q v did, λ h f r. absurd r)
+lone_duties g (Advancing n q v) =
+    (λ past h xs shape j found did e expected lone. advance h xs shape.form g n q v did, λ h f r. absurd r)
+-- a lone call defers the removal of what it took off alone
+lone_duties g (Removing n v) = λ past h h' lone. (tt, λ out. out, λ out. out)
+lone_duties g (Answering a) = λ past h lone. lone
