@@ -1,0 +1,12 @@
+//! A map for threads, after Harris and Michael, whose look-ups write nothing: its nodes are lent by plain loads.
+#![tactic(auto)]
+
+mod gathering;
+mod map;
+mod node;
+mod spots;
+
+pub use gathering::Gathers;
+pub use map::LendingMap;
+pub use node::Node;
+pub use spots::LentSpots;

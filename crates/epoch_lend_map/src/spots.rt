@@ -1,0 +1,147 @@
+//! The buckets of a map that threads share, and its nodes, which are lent.
+ghost use Rattle.std.specs.Prelude.{◌≡◌, IfErr};
+ghost use Rattle.epoch_cells.specs.declared.fault.Fault.TheVariants.{CellsFull};
+ghost use Rattle.epoch_plan_threads.specs.Paths.{IsTold, reply_of};
+
+use crate::node::Node;
+use epoch_atomic::atomic::{Atomic, ExchangeFault, Shared};
+use epoch_cells::{Fault, Name};
+use epoch_handles::Guard;
+use epoch_heap::{Access, Answer, Change, Ptr, Spot};
+use epoch_lend_pointers::guard::LendingGuard;
+use epoch_lend_readers::posts::PostSet;
+use epoch_plan_threads::Spots;
+use std::sync::atomic::Ordering::SeqCst;
+
+/// The buckets of a map, and its nodes, under the guard of one call.
+#[derive(Drop)]
+pub struct LentSpots<'g, 'c, 's, J: PostSet, W> {
+    pub(crate) buckets: &'g [Atomic<Node>],
+    pub(crate) guard: &'g LendingGuard<'c, 's, J, Node, W>,
+    // The node that was read last.
+    pub(crate) last: Option<(Name, &'g Node)>,
+}
+
+// The pointer that a thread has for one of the program.
+#[inline(always)]
+fn shared<'g, W>(ptr: Ptr, guard: &'g Guard<'_, Node, W>) -> Shared<'g, Node> {
+    let Some(name) = ptr.name else {
+        return Shared::null().with_tag(ptr.tag as usize);
+    };
+    Shared::named(name, guard).with_tag(ptr.tag as usize)
+}
+
+// The pointer that the program has for one of a thread.
+#[inline(always)]
+fn ptr_of(shared: Shared<'_, Node>) -> Ptr {
+    Ptr {
+        name: shared.name(),
+        tag: shared.tag() as u64,
+    }
+}
+
+// Exchanges the pointer there, if it is this one still, for the other.
+#[inline(always)]
+fn exchange_at<W>(at: &Atomic<Node>, current: Ptr, new: Ptr, guard: &Guard<'_, Node, W>) -> Answer {
+    let (current, new) = (shared(current, guard), shared(new, guard));
+    match at.compare_exchange(current, new, SeqCst, SeqCst, guard) {
+        Ok(written) => Answer::Exchanged(ptr_of(written)),
+        Err(ExchangeFault::Changed(lost)) => Answer::Unchanged(ptr_of(lost.current)),
+        Err(_) => Answer::Absent,
+    }
+}
+
+// Loads, stores or exchanges the pointer there. The phases of a map ask for no other change.
+#[inline(always)]
+fn change_at<W>(at: &Atomic<Node>, change: Change, guard: &Guard<'_, Node, W>) -> Answer {
+    match change {
+        Change::Load => Answer::Pointer(ptr_of(at.load(SeqCst, guard))),
+        Change::Store(new) => match at.store(shared(new, guard), SeqCst, guard) {
+            Ok(()) => Answer::Unit,
+            Err(_) => Answer::Absent,
+        },
+        Change::CompareExchange(current, new) => exchange_at(at, current, new, guard),
+        _ => Answer::Absent,
+    }
+}
+
+// Places a node with this entry, which points to none.
+#[inline(always)]
+fn place<J: PostSet, W>(
+    entry: u64,
+    guard: &LendingGuard<'_, '_, J, Node, W>,
+) -> Result<Answer, Fault>
+    ensures { IfErr result (λ fault. fault ≡ CellsFull) }
+{
+    let next = Atomic::null();
+    let Ok(node) = guard.place(Node { entry, next }) else {
+        return Err(Fault::CellsFull);
+    };
+    match node.name() {
+        Some(name) => Ok(Answer::Name(name)),
+        None => Ok(Answer::Absent),
+    }
+}
+
+impl<'g, 'c, 's, J: PostSet, W> LentSpots<'g, 'c, 's, J, W> {
+    // The node of this name, which is lent for as long as the guard is borrowed.
+    #[inline(always)]
+    fn node_of(&self, name: Name) -> Option<&'g Node> {
+        if let Some((last, node)) = self.last {
+            if last == name {
+                return Some(node);
+            }
+        }
+        self.guard.get(Shared::named(name, self.guard.guard()))
+    }
+
+    // Changes or loads a root, which is a bucket's, or the pointer in a node, which has one. `Absent`: there is no such
+    // bucket, or the node isn't lent.
+    #[inline(always)]
+    fn point(&self, spot: Spot, change: Change) -> Answer {
+        match spot {
+            Spot::Root(bucket) => match self.buckets.get(bucket as usize) {
+                Some(root) => change_at(root, change, self.guard.guard()),
+                None => Answer::Absent,
+            },
+            Spot::Field(name, _) => match self.node_of(name) {
+                Some(node) => change_at(&node.next, change, self.guard.guard()),
+                None => Answer::Absent,
+            },
+        }
+    }
+
+    // Answers the node's entry. `Absent`: it isn't lent.
+    #[inline(always)]
+    fn read(&mut self, ptr: Ptr) -> Answer {
+        let Some(name) = ptr.name else {
+            return Answer::Absent;
+        };
+        match self.guard.get(Shared::named(name, self.guard.guard())) {
+            Some(node) => {
+                self.last = Some((name, node));
+                Answer::Value(node.entry)
+            }
+            None => Answer::Absent,
+        }
+    }
+}
+
+impl<'g, 'c, 's, J: PostSet, W> Spots for LentSpots<'g, 'c, 's, J, W> {
+    ghost does = { λ _ _ _ _. Unit {0} };
+
+    #[inline(always)]
+    fn touch(&mut self, access: Access) -> Result<Answer, Fault>
+        ensures does { Unit {0} }
+        ensures told { IsTold access (reply_of result) }
+    {
+        match access {
+            Access::Place(entry) => place(entry, self.guard),
+            Access::Read(_, ptr) => Ok(self.read(ptr)),
+            // What is lent need not be given back.
+            Access::Leave(_) => Ok(Answer::Unit),
+            Access::Point(_, spot, change) => Ok(self.point(spot, change)),
+            Access::Write(..) | Access::Take(..) => Ok(Answer::Absent),
+        }
+    }
+}

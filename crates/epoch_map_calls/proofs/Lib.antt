@@ -1,0 +1,4 @@
+mod Fitting
+mod Looking
+mod Strides
+mod Telling

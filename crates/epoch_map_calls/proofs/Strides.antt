@@ -1,0 +1,96 @@
+-- How a walk goes from one node to the next by three accesses that only read.
+use Rattle.std.proofs.Common.{◌≡◌, ℕ, zero, suc, ◌<◌, ◌≤◌, List, [], ◌∷◌, ◌++◌, Bool, true, false, Some, refl, sym, ap}
+use Rattle.std.proofs.Common.{subst, arith, nat_lt, if◌then◌else◌}
+use Rattle.std.proofs.lemmas.Bool.Decides.{nat_tests}
+use Rattle.epoch_cells.specs.declared.cells.name.Name.{Name}
+use Rattle.epoch_heap.specs.declared.access.Access.{Access}
+use Rattle.epoch_heap.specs.declared.access.Answer.{Answer}
+use Rattle.epoch_heap.specs.declared.access.Answer.TheVariants.{Value, Pointer}
+use Rattle.epoch_heap.specs.declared.access.Spot.{Spot}
+use Rattle.epoch_heap.specs.declared.access.Spot.TheVariants.{Field}
+use Rattle.epoch_laws.specs.declared.step.Reply.{Reply}
+use Rattle.epoch_laws.specs.declared.step.Reply.TheVariants.{Done, Refused}
+use Rattle.epoch_plans.specs.Plans.{ptr_to, after_by}
+use Rattle.epoch_plan_calls.specs.Courses.{ReadsBy, ReadsTo, ReadsOn}
+use Rattle.epoch_plan_calls.proofs.Ways.{reads_then}
+use Rattle.epoch_map_laws.specs.declared.plan.Aim.{Aim}
+use Rattle.epoch_map_laws.specs.declared.plan.Phase.{Phase}
+use Rattle.epoch_map_laws.specs.declared.plan.Phase.TheVariants.{Reading, Leaving, LoadingNext}
+use Rattle.epoch_map_laws.specs.Map.{deed_of, key_of, key_sought, absent, to_look, at, present}
+
+module _ {L : Type 0} (does : L → Access → Reply → L → Type 0) where
+  -- one access was made
+  pub reads_one : (phase : Phase) (l l' : L) (reply : Reply) → ReadsBy does (deed_of 0 phase) l reply l'
+      → ReadsOn does (deed_of 0) phase l (after_by phase (deed_of 0 phase) reply) l'
+  reads_one phase l l' reply by = (reply ∷ [], (l', by, (refl, refl)))
+
+  -- and then others
+  pub reads_first : (phase last : Phase) (l mid l' : L) (reply : Reply) → ReadsBy does (deed_of 0 phase) l reply mid
+      → ReadsOn does (deed_of 0) (after_by phase (deed_of 0 phase) reply) mid last l'
+      → ReadsOn does (deed_of 0) phase l last l'
+  reads_first phase last l mid l' reply by rest = (reply ∷ rest.0, (mid, by, rest.1))
+
+  -- one path after the other
+  pub reads_on : (first mid last : Phase) (l l' l'' : L) → ReadsOn does (deed_of 0) first l mid l'
+      → ReadsOn does (deed_of 0) mid l' last l'' → ReadsOn does (deed_of 0) first l last l''
+  reads_on first mid last l l' l'' before after =
+      (before.0 ++ after.0, reads_then does (deed_of 0) before.0 after.0 first mid last l l' l'' before.1 after.1)
+
+  -- the end of a path by another name
+  pub reads_so : (first last last' : Phase) (l l' : L) → last' ≡ last → ReadsOn does (deed_of 0) first l last l'
+      → ReadsOn does (deed_of 0) first l last' l'
+  reads_so first last last' l l' same reads =
+      subst (λ (f : Phase). ReadsOn does (deed_of 0) first l f l') (sym same) reads
+
+  -- A node whose key is lower was left: its pointer is loaded next.
+  looks_on : (aim : Aim) (link : Spot) (c : Name) (v k : ℕ) → key_of v < key_sought aim
+      → to_look aim link c v k ≡ LoadingNext aim link c v k
+  looks_on aim link c v k lower = by_test (nat_lt (key_sought aim) (key_of v)) refl
+    where
+      by_test : (b : Bool) → nat_lt (key_sought aim) (key_of v) ≡ b
+          → (if b then absent aim link (Some c) k else LoadingNext aim link c v k) ≡ LoadingNext aim link c v k
+      by_test true is = absurd (grind (arith, nat_tests, is, lower))
+      by_test false is = refl
+
+  left_so : (aim : Aim) (link : Spot) (c : Name) (v k : ℕ) (l l' : L) (reply : Reply)
+      → ReadsBy does (deed_of 0 (Leaving aim link c v k)) l reply l' → key_of v < key_sought aim
+      → after_by (Leaving aim link c v k) (deed_of 0 (Leaving aim link c v k)) reply ≡ LoadingNext aim link c v k
+  left_so aim link c v k l l' (Done a) by lower = looks_on aim link c v k lower
+  left_so aim link c v k l l' reply by lower = absurd by.2
+
+  pub reads_to_next : (aim : Aim) (link : Spot) (c : Name) (v k : ℕ) (l l1 l2 l3 : L) (reply : Reply) (last : Phase)
+      → ReadsBy does (deed_of 0 (Reading aim link c k)) l (Done (Value v)) l1
+      → ReadsBy does (deed_of 0 (Leaving aim link c v k)) l1 reply l2 → key_of v < key_sought aim
+      → ReadsOn does (deed_of 0) (LoadingNext aim link c v k) l2 last l3
+      → ReadsOn does (deed_of 0) (Reading aim link c k) l last l3
+  reads_to_next aim link c v k l l1 l2 l3 reply last read leaves lower rest =
+      reads_first (Reading aim link c k) last l l1 l3 (Done (Value v)) read
+      (reads_first (Leaving aim link c v k) last l1 l2 l3 reply leaves
+      (subst (λ (f : Phase). ReadsOn does (deed_of 0) f l2 last l3)
+      (sym (left_so aim link c v k l1 l2 reply leaves lower)) rest))
+
+  -- Its pointer leads to a further node, and has no mark: the walk goes on there.
+  goes_on : (aim : Aim) (link : Spot) (c n : Name) (v k rest : ℕ) → k ≡ suc rest → key_of v < key_sought aim
+      → after_by (LoadingNext aim link c v k) (deed_of 0 (LoadingNext aim link c v k)) (Done (Pointer (ptr_to n)))
+      ≡ Reading aim (Field c 0) n rest
+  goes_on aim link c n v zero rest is lower = absurd (omega (arith, is))
+  goes_on aim link c n v (suc k) rest is lower = by_test (nat_lt (key_of v) (key_sought aim)) refl
+    where
+      by_test : (b : Bool) → nat_lt (key_of v) (key_sought aim) ≡ b
+          → (if b then at aim (Field c 0) (Some n) (suc k) else present aim link c v (Some n) (suc k))
+          ≡ Reading aim (Field c 0) n rest
+      by_test true test = ap (λ (m : ℕ). Reading aim (Field c 0) n m) (omega (arith, is))
+      by_test false test = absurd (grind (arith, nat_tests, test, lower))
+
+  pub strides_on : (aim : Aim) (link : Spot) (c n : Name) (v k rest : ℕ) (l l1 l2 l3 : L) (reply : Reply)
+      → k ≡ suc rest
+      → ReadsBy does (deed_of 0 (Reading aim link c k)) l (Done (Value v)) l1
+      → ReadsBy does (deed_of 0 (Leaving aim link c v k)) l1 reply l2 → key_of v < key_sought aim
+      → ReadsBy does (deed_of 0 (LoadingNext aim link c v k)) l2 (Done (Pointer (ptr_to n))) l3
+      → ReadsOn does (deed_of 0) (Reading aim link c k) l (Reading aim (Field c 0) n rest) l3
+  strides_on aim link c n v k rest l l1 l2 l3 reply is read leaves lower loads =
+      reads_to_next aim link c v k l l1 l2 l3 reply (Reading aim (Field c 0) n rest) read leaves lower
+      (reads_so (LoadingNext aim link c v k)
+      (after_by (LoadingNext aim link c v k) (deed_of 0 (LoadingNext aim link c v k)) (Done (Pointer (ptr_to n))))
+      (Reading aim (Field c 0) n rest) l2 l3 (sym (goes_on aim link c n v k rest is lower))
+      (reads_one (LoadingNext aim link c v k) l2 l3 (Done (Pointer (ptr_to n))) loads))

@@ -1,0 +1,32 @@
+-- What a call's answer tells.
+use Rattle.std.proofs.Common.{◌≡◌, ◌⊎◌, inl, inr, ℕ, Option, Some, None, refl, arith, IsErr, IfErr}
+use Rattle.epoch_cells.specs.declared.fault.Fault.{Fault}
+use Rattle.epoch_cells.specs.declared.fault.Fault.TheVariants.{NoMemory, CellsFull as NoCell, BagsFull as NoPlace}
+use Rattle.epoch_cells.specs.declared.fault.Fault.TheVariants.{TriesOut}
+use Rattle.epoch_map_laws.specs.declared.plan.MapAnswer.{MapAnswer}
+use Rattle.epoch_map_laws.specs.declared.plan.MapAnswer.TheVariants.{Inserted, AlreadyThere, AlreadyThereLeaking}
+use Rattle.epoch_map_laws.specs.declared.plan.MapAnswer.TheVariants.{Removed, RemovedLeaking, Found, NotFound}
+use Rattle.epoch_map_laws.specs.declared.plan.Work.TheVariants.{Insert, Remove, Get}
+use Rattle.epoch_map_calls.specs.MapCalls.{insert_tells, remove_tells, get_tells}
+use Rattle.epoch_map_calls.proofs.Fitting.{MayAnswer}
+
+-- with no move a call fails
+pub insert_needs_moves : (b e moves value : ℕ) (a : MapAnswer) (f : Option Fault) → MayAnswer (Insert b e moves) a
+    → moves ≡ 0 → IsErr (insert_tells value a f)
+insert_needs_moves b e moves value Inserted f may none = absurd (omega (arith, may, none))
+insert_needs_moves b e moves value (AlreadyThere v) f may none = absurd (omega (arith, may.0, none))
+insert_needs_moves b e moves value (AlreadyThereLeaking v) f may none = absurd (omega (arith, may.0, none))
+insert_needs_moves b e moves value a f may none = refl
+
+pub remove_needs_moves : (b key moves : ℕ) (a : MapAnswer) (f : Option Fault) → MayAnswer (Remove b key moves) a
+    → moves ≡ 0 → IsErr (remove_tells a f)
+remove_needs_moves b key moves (Removed v) f may none = absurd (omega (arith, may.0, none))
+remove_needs_moves b key moves (RemovedLeaking v) f may none = absurd (omega (arith, may.0, none))
+remove_needs_moves b key moves NotFound f may none = absurd (omega (arith, may, none))
+remove_needs_moves b key moves a f may none = refl
+
+pub get_needs_moves : (b key moves : ℕ) (a : MapAnswer) (f : Option Fault) → MayAnswer (Get b key moves) a
+    → moves ≡ 0 → IsErr (get_tells a f)
+get_needs_moves b key moves (Found v) f may none = absurd (omega (arith, may.0, none))
+get_needs_moves b key moves NotFound f may none = absurd (omega (arith, may, none))
+get_needs_moves b key moves a f may none = refl

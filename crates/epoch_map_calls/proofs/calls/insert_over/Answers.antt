@@ -1,0 +1,16 @@
+use Rattle.std.proofs.Common.{◌≡◌, sym, subst, IsErr}
+use Rattle.epoch_map_laws.specs.declared.plan.Work.TheVariants.{Insert}
+use Rattle.epoch_map_calls.proofs.Fitting.{call_suits}
+use Rattle.epoch_map_calls.proofs.Telling.{insert_needs_moves}
+use Rattle.epoch_map_calls.proofs.calls.insert_over.Goals as goal
+
+pub returns-clause-no_moves : goal.returns-clause-no_moves
+returns-clause-no_moves g c =
+    let outcome = c.work_over-outcome in
+    let entry = c.entry_with.result in
+    let may =
+    call_suits g.L.Spots.does g.K.Keeps.keeping (Insert c.args.bucket entry c.args.moves) outcome.result.answer
+    outcome.result.refused c.args.handle.now outcome.new.handle c.args.spots.now outcome.new.spots
+    outcome.ensures.does in
+    subst (λ r. c.args.moves ≡ 0 → IsErr r) (sym c.insert_tells.ensures)
+    (insert_needs_moves c.args.bucket entry c.args.moves c.args.value outcome.result.answer outcome.result.refused may)

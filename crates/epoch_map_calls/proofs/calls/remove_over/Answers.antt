@@ -1,0 +1,15 @@
+use Rattle.std.proofs.Common.{◌≡◌, sym, subst, IsErr}
+use Rattle.epoch_map_laws.specs.declared.plan.Work.TheVariants.{Remove}
+use Rattle.epoch_map_calls.proofs.Fitting.{call_suits}
+use Rattle.epoch_map_calls.proofs.Telling.{remove_needs_moves}
+use Rattle.epoch_map_calls.proofs.calls.remove_over.Goals as goal
+
+pub returns-clause-no_moves : goal.returns-clause-no_moves
+returns-clause-no_moves g c =
+    let outcome = c.work_over-outcome in
+    let may =
+    call_suits g.L.Spots.does g.K.Keeps.keeping (Remove c.args.bucket c.args.key c.args.moves) outcome.result.answer
+    outcome.result.refused c.args.handle.now outcome.new.handle c.args.spots.now outcome.new.spots
+    outcome.ensures.does in
+    subst (λ r. c.args.moves ≡ 0 → IsErr r) (sym c.remove_tells.ensures)
+    (remove_needs_moves c.args.bucket c.args.key c.args.moves outcome.result.answer outcome.result.refused may)

@@ -1,0 +1,161 @@
+//! How a call of a map goes along a bucket: over nodes of lower keys it takes a straight path.
+ghost use Rattle.std.specs.Prelude.{◌≡◌, ◌<◌, ◌-◌, None, Ok, IfOk, IfErr, IfSome};
+ghost use Rattle.epoch_heap.specs.declared.access.Answer.TheVariants.{Pointer, Value};
+ghost use Rattle.epoch_heap.specs.declared.access.Spot.TheVariants.{Field};
+ghost use Rattle.epoch_plans.specs.Asks.{wish_of};
+ghost use Rattle.epoch_plans.specs.Plans.{ptr_to};
+ghost use Rattle.epoch_plan_calls.specs.Courses.{ReadsOn, reading_of};
+ghost use Rattle.epoch_map_laws.specs.declared.plan.Phase.TheVariants.{Reading};
+ghost use Rattle.epoch_map_laws.specs.Map.{bucket_of, calls_left, deed_of, key_sought};
+ghost use Rattle.epoch_map_laws.proofs.CallsLeft.{map_lowered};
+
+use epoch_cells::{Fault, Name};
+use epoch_heap::{Access, Answer, Change, Ptr, Spot};
+use epoch_map_laws::{Aim, Phase, key_of};
+use epoch_plan_calls::{Course, as_reply, read_on};
+use epoch_plan_threads::{Ends, Spots};
+use epoch_plans::PhaseMachine;
+
+/// The calls of a map end: each of their phases says how many calls are left at most. And they go ahead along a bucket,
+/// as long as they only read. No value of it is made.
+pub struct MapCourse;
+
+impl Ends<Phase> for MapCourse {
+    ghost calls_left = { calls_left };
+
+    ghost lowered = { map_lowered };
+}
+
+impl<L: Spots> Course<Phase, L> for MapCourse {
+    #[inline(always)]
+    fn ahead(first: Phase, spots: &mut L) -> Phase {
+        ahead(first, spots)
+    }
+}
+
+#[inline(always)]
+fn bucket_of(aim: Aim) -> u64
+    ensures { result ≡ bucket_of aim }
+{
+    match aim {
+        Aim::ToInsert(bucket, _, _) | Aim::ToRemove(bucket, _) | Aim::ToGet(bucket, _) => bucket,
+    }
+}
+
+#[inline(always)]
+fn key_sought(aim: Aim) -> u64
+    ensures { result ≡ key_sought aim }
+{
+    match aim {
+        Aim::ToInsert(_, entry, _) => key_of(entry),
+        Aim::ToRemove(_, key) | Aim::ToGet(_, key) => key,
+    }
+}
+
+// The entry that was read.
+#[inline(always)]
+fn entry_in(told: Result<Answer, Fault>) -> Option<u64>
+    ensures { IfSome result (λ entry. told ≡ Ok (Value entry)) }
+{
+    match told {
+        Ok(Answer::Value(entry)) => Some(entry),
+        _ => None,
+    }
+}
+
+// The node to which this pointer leads, if it has no mark and a move is left.
+#[inline(always)]
+fn next_in(told: Result<Answer, Fault>, left: u64) -> Option<Name>
+    ensures some { IfSome result (λ next. told ≡ Ok (Pointer (ptr_to next))) }
+    ensures left { IfSome result (λ next. 0 < left) }
+{
+    match told {
+        Ok(Answer::Pointer(next)) if next.tag == 0 && left > 0 => next.name,
+        _ => None,
+    }
+}
+
+// One node of a walk: its entry is read, and its pointer too where its key is lower. `Ok`: the walk goes on to this
+// node. `Err`: it goes on with this phase.
+#[inline(always)]
+fn stride<L: Spots>(
+    aim: Aim,
+    key: u64,
+    link: Spot,
+    node: Name,
+    left: u64,
+    spots: &mut L,
+) -> Result<Name, Phase>
+    requires { key ≡ key_sought aim }
+    ensures on { IfOk result (λ next. ReadsOn L.does (deed_of 0) (Reading aim link node left) spots.old
+        (Reading aim (Field node 0) next (left - 1)) spots.new) }
+    ensures left { IfOk result (λ next. 0 < left) }
+    ensures over { IfErr result
+        (λ phase. ReadsOn L.does (deed_of 0) (Reading aim link node left) spots.old phase spots.new) }
+{
+    let ptr = Ptr {
+        name: Some(node),
+        tag: 0,
+    };
+    let read = spots.touch(Access::Read(Some(0), ptr));
+    let Some(entry) = entry_in(read) else {
+        return Err(Phase::Reading(aim, link, node, left).hear(as_reply(read)));
+    };
+    let is_left = as_reply(spots.touch(Access::Leave(ptr)));
+    if key_of(entry) >= key {
+        return Err(Phase::Leaving(aim, link, node, entry, left).hear(is_left));
+    }
+    let told = spots.touch(Access::Point(Some(0), Spot::Field(node, 0), Change::Load));
+    match next_in(told, left) {
+        Some(next) => Ok(next),
+        None => Err(Phase::LoadingNext(aim, link, node, entry, left).hear(as_reply(told))),
+    }
+}
+
+// Loads the bucket's root, if that is what this phase asks for.
+#[inline(always)]
+fn to_bucket<L: Spots>(first: Phase, spots: &mut L) -> Phase
+    ensures { ReadsOn L.does (deed_of 0) first spots.old result spots.new }
+{
+    let Phase::LoadingFirst(aim, moves) = first else {
+        return first;
+    };
+    let root = Spot::Root(bucket_of(aim));
+    let told = spots.touch(Access::Point(Some(0), root, Change::Load));
+    Phase::LoadingFirst(aim, moves).hear(as_reply(told))
+}
+
+// Goes along the nodes of lower keys, from the node that this phase reads.
+#[inline(always)]
+fn along<L: Spots>(first: Phase, spots: &mut L) -> Phase
+    ensures { ReadsOn L.does (deed_of 0) first spots.old result spots.new }
+{
+    let Phase::Reading(aim, first_link, first_node, moves) = first else {
+        return first;
+    };
+    let key = key_sought(aim);
+    let mut link = first_link;
+    let mut node = first_node;
+    let mut left = moves;
+    loop {
+        match stride(aim, key, link, node, left, spots) {
+            Ok(next) => {
+                link = Spot::Field(node, 0);
+                node = next;
+                left -= 1;
+            }
+            Err(phase) => return phase,
+        }
+    }
+}
+
+// Goes from this phase on, as long as phases only read.
+#[inline(always)]
+pub(crate) fn ahead<L: Spots>(first: Phase, spots: &mut L) -> Phase
+    ensures reads { ReadsOn L.does (deed_of 0) first spots.old result spots.new }
+    ensures stops { reading_of (wish_of (deed_of 0 result)) ≡ None }
+{
+    let at_bucket = to_bucket(first, spots);
+    let at_key = along(at_bucket, spots);
+    read_on::<Phase, MapCourse, L>(at_key, spots)
+}

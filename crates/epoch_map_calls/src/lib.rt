@@ -1,0 +1,11 @@
+//! Calls of a map by its program, over any spots, whatever keeps their removals; and look-ups that only read.
+#![tactic(auto)]
+
+mod calls;
+mod course;
+mod entries;
+mod looks;
+
+pub use calls::{get_over, insert_over, remove_over};
+pub use course::MapCourse;
+pub use looks::look_over;
