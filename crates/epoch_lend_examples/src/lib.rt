@@ -2,3 +2,5 @@
 #![tactic(auto)]
 
 pub mod sorted_list;
+#[cfg(test)]
+mod tests;
