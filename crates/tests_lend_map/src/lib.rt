@@ -1,4 +1,4 @@
-//! Tests of the map of `epoch_lend_map` by its public calls: on one thread, and beside a map of std.
+//! Tests of the map of `epoch_lend_map` by its public calls: on one thread, beside a map of std, and on several.
 #![tactic(auto)]
 
 #[cfg(test)]
@@ -7,3 +7,5 @@ mod alone;
 mod beside_std;
 #[cfg(test)]
 mod calls;
+#[cfg(test)]
+mod threads;
