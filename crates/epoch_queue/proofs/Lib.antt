@@ -1,4 +1,1 @@
-mod OnePhase
 mod SameNumbers
-mod Standing
-mod Walks

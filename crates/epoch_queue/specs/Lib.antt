@@ -1,2 +1,1 @@
 pub mod Queues
-pub mod Calls
