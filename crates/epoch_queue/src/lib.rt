@@ -4,8 +4,10 @@
 mod node;
 mod queue;
 mod spots;
+mod taking;
 
 pub use epoch_queue_calls::{pop_over, push_over};
 pub use node::Node;
 pub use queue::Queue;
 pub use spots::SharedSpots;
+pub use taking::TakingSpots;

@@ -1,4 +1,4 @@
-//! Tests of stacks that move their values.
+//! Tests of stacks and queues that move their values.
 #![tactic(auto)]
 
 #[cfg(test)]

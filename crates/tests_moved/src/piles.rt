@@ -1,9 +1,10 @@
-//! Calls on stacks of values that are moved.
+//! Stacks and queues of values that are moved, by the same calls.
 use crate::tokens::Token;
 use epoch_base::{Fault, Refused};
 use epoch_once::TakeOnce;
 use epoch_pin::atomic::Pointable;
 use epoch_pin::{Capacities, Collector, Guard, LocalHandle};
+use epoch_queue::Queue;
 use epoch_stack::Stack;
 use std::alloc::Global;
 use std::process::Abort;
@@ -11,7 +12,10 @@ use std::process::Abort;
 /// What a stack keeps.
 pub(crate) type StackNode<'a> = epoch_stack::Node<TakeOnce<Token<'a>>>;
 
-/// What values are pushed on and popped off.
+/// What a queue keeps.
+pub(crate) type QueueNode<'a> = epoch_queue::Node<TakeOnce<Token<'a>>>;
+
+/// A stack or a queue.
 pub(crate) trait Pile<'a, N: Pointable + Drop> {
     /// Pushes the value.
     fn push(
@@ -54,6 +58,28 @@ impl<'a, 'c> Pile<'a, StackNode<'a>> for Stack<'c, TakeOnce<Token<'a>>> {
     }
 }
 
+impl<'a, 'c> Pile<'a, QueueNode<'a>> for Queue<'c, TakeOnce<Token<'a>>> {
+    fn push(
+        &self,
+        _alloc: Global,
+        handle: &mut LocalHandle<'_, QueueNode<'a>>,
+        guard: &Guard<'_, QueueNode<'a>>,
+        token: Token<'a>,
+        tries: u32,
+    ) -> Result<(), Refused<Token<'a>>> {
+        self.push_once(handle, guard, token, tries)
+    }
+
+    fn pop(
+        &self,
+        handle: &mut LocalHandle<'_, QueueNode<'a>>,
+        guard: &Guard<'_, QueueNode<'a>>,
+        tries: u32,
+    ) -> Result<Option<Token<'a>>, Fault> {
+        self.pop_once(handle, guard, tries)
+    }
+}
+
 /// A collector with these capacities.
 pub(crate) fn collector<N: Pointable + Drop>(
     rt: &impl Abort,
@@ -62,6 +88,15 @@ pub(crate) fn collector<N: Pointable + Drop>(
 ) -> Collector<N> {
     assert!(rt; capacities.is_valid(), "the capacities are in their ranges");
     Collector::new(alloc, capacities, 1).expect(rt, "memory for a collector")
+}
+
+/// A queue, for whose first node there is a cell.
+pub(crate) fn queue<'a, 'c>(
+    rt: &impl Abort,
+    alloc: Global,
+    collector: &'c Collector<QueueNode<'a>>,
+) -> Queue<'c, TakeOnce<Token<'a>>> {
+    Queue::new_once(alloc, collector).expect(rt, "memory and a cell for a queue")
 }
 
 /// A new participant, for which a position is free.

@@ -1,5 +1,5 @@
 //! What refused calls hand back, and what is dropped with the collector.
-use crate::piles::{Pile, StackNode, collector, pin, register, release, unpin};
+use crate::piles::{Pile, QueueNode, StackNode, collector, pin, queue, register, release, unpin};
 use crate::tokens::{Token, counts_of, number_of, want, want_each};
 use epoch_base::{Fault, Refused};
 use epoch_pin::atomic::Pointable;
@@ -76,4 +76,22 @@ fn stack_refuses(rt: &impl Abort, alloc: Global) {
 #[test]
 fn a_stack_hands_a_moved_value_back(rt: HostRuntime) {
     stack_refuses(&rt, rt.alloc());
+}
+
+fn queue_refuses(rt: &impl Abort, alloc: Global) {
+    let drops = counts_of(rt, alloc, 4);
+    let collector: Collector<QueueNode<'_>> = collector(rt, alloc, Capacities::usual(1, 3, 1));
+    let queue = queue(rt, alloc, &collector);
+    let mut handle = register(rt, &collector);
+    let guard = pin(rt, &mut handle);
+    fill_and_empty(rt, alloc, &queue, (&mut handle, &guard), &drops, (1, 2));
+    unpin(rt, &mut handle, guard);
+    release(rt, handle);
+    drop(queue);
+    want(rt, "two nodes are removed", collector.end(), 2);
+}
+
+#[test]
+fn a_queue_hands_a_moved_value_back(rt: HostRuntime) {
+    queue_refuses(&rt, rt.alloc());
 }

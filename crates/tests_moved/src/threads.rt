@@ -1,5 +1,5 @@
-//! A stack of moved values that 8 threads share.
-use crate::piles::{Pile, StackNode, collector, pin, register, unpin};
+//! Stacks and queues of moved values that 8 threads share.
+use crate::piles::{Pile, QueueNode, StackNode, collector, pin, queue, register, unpin};
 use crate::tokens::{Token, counts_of, want, want_each};
 use epoch_base::Fault;
 use epoch_pin::atomic::Pointable;
@@ -167,4 +167,28 @@ fn race_on_a_stack<R: Abort + Threads + Wait + Sync>(rt: &R, alloc: Global, valu
 #[test]
 fn each_value_on_a_stack_is_moved_off_once(rt: HostRuntime) {
     race_on_a_stack(&rt, rt.alloc(), 1000);
+}
+
+/// The same on a queue.
+fn race_on_a_queue<R: Abort + Threads + Wait + Sync>(rt: &R, alloc: Global, values: u64) {
+    let all = values.wrapping_mul(8);
+    let (drops, popped) = (counts_of(rt, alloc, all), counts_of(rt, alloc, all));
+    let common = Common {
+        alloc,
+        drops: &drops,
+        popped: &popped,
+        values,
+    };
+    let collector: Collector<QueueNode<'_>> = collector(rt, alloc, Capacities::usual(8, 6000, 32));
+    let queue = queue(rt, alloc, &collector);
+    start_all(rt, &collector, &queue, common);
+    drop(queue);
+    let _ = collector.end();
+    want_none_twice(rt, &popped, all / 2);
+    want_each(rt, "each value was dropped once", &drops, 1);
+}
+
+#[test]
+fn each_value_in_a_queue_is_moved_out_once(rt: HostRuntime) {
+    race_on_a_queue(&rt, rt.alloc(), 1000);
 }
