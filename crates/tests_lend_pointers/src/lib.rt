@@ -2,8 +2,12 @@
 #![tactic(auto)]
 
 #[cfg(test)]
+mod alone;
+#[cfg(test)]
 mod probes;
 pub mod shares;
+#[cfg(test)]
+mod stage;
 #[cfg(test)]
 mod threads;
 #[cfg(test)]
