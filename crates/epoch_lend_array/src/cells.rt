@@ -142,8 +142,35 @@ impl<J: PostSet, T: Drop> LendingCells<J, T> {
         ensures placed { IfOk result (λ placed. placed.name.value ≡ value) }
         ensures handed_back { IfErr result (λ back. back ≡ value) }
     {
+        self.place_between(0, self.slots.len(), value)
+    }
+
+    /// Does what [`LendingCells::place`] does, but begins at this slot. It looks at the slots before it last.
+    pub fn place_from(&self, first: usize, value: T) -> Result<Placed<T>, T>
+        ensures slot { IfOk result (λ placed. slice_get (map (λ s. s.turns.log) self.now.slots.items) placed.spot.slot
+            ≡ Some placed.name.log) }
+        ensures turn { IfOk result (λ placed. placed.name.turn ≡ placed.spot.turn) }
+        ensures within { IfOk result (λ placed. placed.spot.turn ≤ self.now.last_turn) }
+        ensures placed { IfOk result (λ placed. placed.name.value ≡ value) }
+        ensures handed_back { IfErr result (λ back. back ≡ value) }
+    {
+        match self.place_between(first, self.slots.len(), value) {
+            Ok(placed) => Ok(placed),
+            Err(back) => self.place_between(0, first, back),
+        }
+    }
+
+    // Places a value in the first cell that is seen empty, of those from slot `from` up to slot `to`.
+    fn place_between(&self, from: usize, to: usize, value: T) -> Result<Placed<T>, T>
+        ensures slot { IfOk result (λ placed. slice_get (map (λ s. s.turns.log) self.now.slots.items) placed.spot.slot
+            ≡ Some placed.name.log) }
+        ensures turn { IfOk result (λ placed. placed.name.turn ≡ placed.spot.turn) }
+        ensures within { IfOk result (λ placed. placed.spot.turn ≤ self.now.last_turn) }
+        ensures placed { IfOk result (λ placed. placed.name.value ≡ value) }
+        ensures handed_back { IfErr result (λ back. back ≡ value) }
+    {
         let mut kept = value;
-        for position in 0..self.slots.len() {
+        for position in from..to {
             let Some(slot) = self.slots.get(position) else {
                 break;
             };

@@ -90,7 +90,7 @@ impl<'c, 's, J: PostSet, T: Drop, W> LendingGuard<'c, 's, J, T, W> {
             placed.1.turn)) }
         ensures full { IfErr result (λ refused. (refused.fault ≡ CellsFull) × (refused.value ≡ value)) }
     {
-        match self.cells.place(value) {
+        match self.cells.place_near(value, &self.pinned) {
             Ok(placed) => Ok((Shared::named(placed.name, &self.guard), placed.witness)),
             Err(refused) => Err(refused),
         }

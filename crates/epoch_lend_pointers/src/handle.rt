@@ -1,7 +1,7 @@
 //! Handles whose guards lend.
 ghost use Rattle.std.specs.Prelude.{◌≡◌, ◌<◌, ◌+◌, ◌^◌, ◌↔◌, IsTrue, IsSome, IfOk};
 ghost use Rattle.epoch_handles.specs.Handles.{IsReady, IsSame, Owns, Does};
-ghost use Rattle.epoch_machine.specs.declared.machine.Action.TheVariants.{Pin, Unpin};
+ghost use Rattle.epoch_machine.specs.declared.machine.Action.TheVariants.{Pin, Unpin, Repin};
 
 use crate::guard::LendingGuard;
 use crate::marking::Marking;
@@ -146,6 +146,37 @@ impl<'c, 'q, 's, J: PostSet, T: Drop> LendingHandle<'c, 'q, 's, J, T> {
         };
         let guard = self.handle.pin();
         let cells = self.kept.lender().cells();
+        LendingGuard {
+            guard,
+            pinned: reader.pin(cells.epoch()),
+            cells,
+        }
+    }
+
+    /// Ends the pin of a guard of this handle, and pins anew, in the clock's present epoch. If no other guard is out,
+    /// the collector's handle repins, too. What the guard lent before has ended, and may be dropped.
+    ///
+    /// The guard must be this handle's: [`LendingHandle::owns`]. A participant that stays pinned in an old epoch keeps
+    /// values from being dropped, so a loop that stays pinned for long calls this at a point where it holds none.
+    #[inline]
+    pub fn repin(&mut self, guard: GuardOf<'c, 'q, 's, J, T>) -> GuardOf<'c, 'q, 's, J, T>
+        requires { Owns self.old.handle guard.guard }
+        ensures guard { result.guard ≡ guard.entry.guard }
+        ensures own { Owns self.new.handle result.guard }
+        ensures reader { self.new.reader ≡ self.old.reader }
+        ensures same { IsSame self.old.handle self.new.handle }
+        ensures does { Does self.old.handle Repin self.new.handle }
+        ensures ready { IsReady self.new.handle }
+        ensures counted { self.new.handle.machine.guards ≡ self.old.handle.machine.guards }
+    {
+        let LendingGuard {
+            guard,
+            pinned,
+            cells,
+        } = guard;
+        let mut guard = guard;
+        let reader = pinned.unpin();
+        self.handle.repin(&mut guard);
         LendingGuard {
             guard,
             pinned: reader.pin(cells.epoch()),

@@ -9,6 +9,9 @@ use epoch_lend::post::{Post, Unpinned};
 use std::alloc::{AllocError, Global};
 use std::marker::{Brand, PhantomData};
 
+/// How many posts, of 8 bytes each, take 128 bytes. Words that are nearer slow each other's threads down.
+const APART: usize = 16;
+
 /// Which posts a set has. Each call of a program that makes a set picks it.
 pub trait PostSet {
     ghost posts: { List PostNames };
@@ -109,21 +112,36 @@ impl<J: PostSet> Posts<J> {
     }
 
     /// Registers a reader at a post that no reader has. `None`: each post was seen with a reader.
+    ///
+    /// Of 16 neighbours one is tried first, so readers have posts 128 bytes apart where a set has 16 posts for each.
     pub fn register(&self) -> Option<Reader<'_, J>> {
-        for place in &self.places {
-            if place.load() != PRESENT {
-                continue;
-            }
-            let (found, claim) = place.turn(PRESENT, TAKEN);
-            if found != PRESENT {
-                claim.done();
-                continue;
-            }
-            if let Some(right) = claim.put(None, FREE) {
-                return Some(Reader { posts: self, right });
+        let rows = self.places.len() / APART;
+        for first in 0..APART {
+            for row in 0..rows + 1 {
+                let index = row.wrapping_mul(APART).wrapping_add(first);
+                if let Some(reader) = self.register_at(index) {
+                    return Some(reader);
+                }
             }
         }
         None
+    }
+
+    // Registers a reader with the right of this place, unless that was taken.
+    fn register_at(&self, index: usize) -> Option<Reader<'_, J>> {
+        let place = self.places.get(index)?;
+        if place.load() != PRESENT {
+            return None;
+        }
+        let (found, claim) = place.turn(PRESENT, TAKEN);
+        if found != PRESENT {
+            claim.done();
+            return None;
+        }
+        match claim.put(None, FREE) {
+            Some(right) => Some(Reader { posts: self, right }),
+            None => None,
+        }
     }
 
     // Puts the right back where it was taken from.

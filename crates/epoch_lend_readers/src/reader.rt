@@ -68,6 +68,11 @@ impl<'p, J: PostSet> Pinned<'p, J> {
         &self.guard
     }
 
+    /// The place of its post among those of the set. No other reader is pinned there.
+    pub fn position(&self) -> usize {
+        self.position
+    }
+
     /// Ends the pin, by one store to its post.
     pub fn unpin(self) -> Reader<'p, J> {
         let Pinned {

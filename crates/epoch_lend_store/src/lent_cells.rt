@@ -10,9 +10,12 @@ use epoch_lend_cells::sight::Sight;
 use epoch_lend_cells::turns::Name as Witness;
 use epoch_lend_readers::posts::{PostSet, Posts};
 use epoch_lend_readers::reader::{Pinned, Reader};
-use std::alloc::Global;
-use std::sync::atomic::AtomicU64;
+use std::alloc::{AllocError, Global};
 use std::sync::atomic::Ordering::SeqCst;
+use std::sync::atomic::{AtomicU64, AtomicUsize};
+
+/// A reader's search begins at the same slot again until it has found an empty cell so many slots behind that one.
+const NEAR: usize = 8;
 
 /// A value that was placed: its name, and a witness of which value was placed under this name.
 #[derive(Drop)]
@@ -30,6 +33,8 @@ pub struct LentCells<J: PostSet, T> {
     pub(crate) cells: LendingCells<J, T>,
     // Twice an epoch, that of a pin which begins now.
     clock: AtomicU64,
+    // For each post, the slot where its reader's search for an empty cell begins.
+    starts: Vec<AtomicUsize>,
     pub ghost few: { length cells.slots.items ≤ 16777215 },
     pub ghost named: { cells.last_turn ≤ 4294967295 },
 }
@@ -43,11 +48,15 @@ impl<J: PostSet, T: Drop> LentCells<J, T> {
         ensures memory { IsOkUnless result NoMemory }
         ensures cells { IfOk result (λ lent. length lent.cells.slots.items ≡ capacity) }
     {
+        let Ok(starts) = starts_for(alloc, posts.len(), capacity as usize) else {
+            return Err(Fault::NoMemory);
+        };
         match LendingCells::new(alloc, capacity as usize, LAST_TURN, &posts) {
             Ok(cells) => Ok(LentCells {
                 posts,
                 cells,
                 clock: AtomicU64::new(2),
+                starts,
             }),
             Err(_) => Err(Fault::NoMemory),
         }
@@ -63,7 +72,42 @@ impl<J: PostSet, T: Drop> LentCells<J, T> {
             placed.witness.turn) }
         ensures full { IfErr result (λ refused. (refused.fault ≡ CellsFull) × (refused.value ≡ value)) }
     {
-        match self.cells.place(value) {
+        self.place_from(0, value)
+    }
+
+    /// Does what [`LentCells::place`] does, but begins its search near the cell in which this reader placed a value
+    /// last. Readers begin in different parts of the cells.
+    pub fn place_near(&self, value: T, pinned: &Pinned<'_, J>) -> Result<Placed<T>, Refused<T>>
+        ensures placed { IfOk result (λ placed. placed.witness.value ≡ value) }
+        ensures named { IfOk result
+            (λ placed. StandsUnder (map (λ s. s.turns.log) self.now.cells.slots.items) placed.name placed.witness.log
+            placed.witness.turn) }
+        ensures full { IfErr result (λ refused. (refused.fault ≡ CellsFull) × (refused.value ≡ value)) }
+    {
+        let Some(start) = self.starts.get(pinned.position()) else {
+            return self.place_from(0, value);
+        };
+        let first = start.load(SeqCst);
+        match self.place_from(first, value) {
+            Ok(placed) => {
+                let slot = placed.name.slot() as usize - 1;
+                if slot.wrapping_sub(first) >= NEAR {
+                    start.store(slot, SeqCst);
+                }
+                Ok(placed)
+            }
+            Err(refused) => Err(refused),
+        }
+    }
+
+    fn place_from(&self, first: usize, value: T) -> Result<Placed<T>, Refused<T>>
+        ensures placed { IfOk result (λ placed. placed.witness.value ≡ value) }
+        ensures named { IfOk result
+            (λ placed. StandsUnder (map (λ s. s.turns.log) self.now.cells.slots.items) placed.name placed.witness.log
+            placed.witness.turn) }
+        ensures full { IfErr result (λ refused. (refused.fault ≡ CellsFull) × (refused.value ≡ value)) }
+    {
+        match self.cells.place_from(first, value) {
             Ok(placed) => {
                 let name = name_of(placed.spot);
                 Ok(Placed {
@@ -77,6 +121,18 @@ impl<J: PostSet, T: Drop> LentCells<J, T> {
             }),
         }
     }
+}
+
+// So many starts, in equal distances among so many cells.
+fn starts_for(alloc: Global, count: usize, cells: usize) -> Result<Vec<AtomicUsize>, AllocError> {
+    let mut starts = Vec::with_capacity(alloc, count)?;
+    for index in 0..count {
+        let start = index.wrapping_mul(cells) / count;
+        starts
+            .push(AtomicUsize::new(start))
+            .map_err(|_| AllocError)?;
+    }
+    Ok(starts)
 }
 
 impl<J: PostSet, T> LentCells<J, T> {

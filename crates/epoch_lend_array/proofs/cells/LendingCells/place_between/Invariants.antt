@@ -1,5 +1,5 @@
 use Rattle.std.proofs.Common.{◌≡◌}
-use Rattle.epoch_lend_array.proofs.cells.LendingCells.place.Given as goal
+use Rattle.epoch_lend_array.proofs.cells.LendingCells.place_between.Given as goal
 
 -- what is left to be placed is the value
 abbrev pub invariant-loop-position : goal.invariant-loop-position
