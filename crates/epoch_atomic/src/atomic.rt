@@ -106,7 +106,7 @@ impl<T: Pointable, A: SharedWord> Atomic<T, A> {
     /// Stores a pointer, or an owned value, which is placed in a cell first.
     ///
     /// If the cells are full, the owned value comes back, and nothing was stored. The value of the pointer before stays
-    /// in its cell: to destroy it, use [`Atomic::swap`], which answers that pointer. The store acts as `SeqCst`,
+    /// in its cell: to destroy it, use [`Atomic::swap`], which returns that pointer. The store acts as `SeqCst`,
     /// whichever ordering is asked for.
     #[inline(always)]
     pub fn store<'g, P: Pointer<'g, T>, W>(

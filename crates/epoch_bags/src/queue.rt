@@ -25,7 +25,7 @@ use std::alloc::Global;
 /// How many bags a store has room for at most.
 pub const MOST_BAGS: usize = 4096;
 
-/// What one step of a put answers.
+/// What one step of a put returns.
 #[derive(Clone, Copy, Debug, PartialEq, Eq)]
 pub enum PutStep {
     /// The put goes on.
@@ -36,7 +36,7 @@ pub enum PutStep {
     Full,
 }
 
-/// What one step of a collection answers.
+/// What one step of a collection returns.
 #[derive(Clone, Copy, Debug, PartialEq, Eq)]
 pub enum TakeStep {
     /// The collection goes on.
@@ -87,10 +87,10 @@ pub trait BagStore: Drop {
     /// It is this collection that claims the place.
     ghost Claims: { Self.Taking → ℕ → Type 0 };
 
-    /// How many steps a put takes at most in a store of this capacity, before one that answers `Full` at once.
+    /// How many steps a put takes at most in a store of this capacity, before one that returns `Full` at once.
     ghost puts_left: { ℕ → Self.Putting → ℕ };
 
-    /// How many steps a collection takes at most in a store of this capacity, before one that answers `Empty` at once.
+    /// How many steps a collection takes at most in a store of this capacity, before one that returns `Empty` at once.
     ghost takes_left: { ℕ → Self.Taking → ℕ };
 
     /// How many bags a collection for this epoch will still take if no other participant is at work and nothing stops

@@ -79,7 +79,7 @@ impl<T: Drop> Cells<T> {
         Cells::with_positions(alloc, capacity, start_turn, 0)
     }
 
-    /// Makes such a store, with room for the notes of so many positions: [`Cells::place_near`].
+    /// Makes such a store, with room for the notes of this many positions: [`Cells::place_near`].
     ///
     /// `NoMemory`: an allocation was refused, and nothing was made.
     pub fn with_positions(

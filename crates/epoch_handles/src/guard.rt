@@ -22,7 +22,7 @@ pub struct Guard<'c, T, W = Work> {
 /// Answers a guard of this collector that protects nothing: a job that is deferred under it is called at once.
 ///
 /// Use it only while no other thread can use the structure: to make a structure before it is shared, and to take one
-/// apart when only its owner is left. It needs no handle, and each call answers one more guard, which is given back to
+/// apart when only its owner is left. It needs no handle, and each call returns one more guard, which is given back to
 /// [`Guard::let_go`]. As `unprotected` of crossbeam-epoch, which is unsafe to call. Here every call under the guard is
 /// safe, but a value that another thread still wants to read may be gone.
 pub fn unprotected<T, W>(collector: &Collector<T, W>) -> Guard<'_, T, W>

@@ -19,7 +19,7 @@ use std::fmt;
 use std::marker::Model;
 
 /// A participant, for one thread at a time. It must be given back, by [`LocalHandle::release`], or by
-/// [`LocalHandle::leave`], whose answer is then spent.
+/// [`LocalHandle::leave`], whose result is then spent.
 pub struct LocalHandle<'c, T, W = Work> {
     pub(crate) local: Local<'c, T, W>,
 }
@@ -124,7 +124,7 @@ impl<'c, T, W> LocalHandle<'c, T, W> {
     /// Unpins the participant until [`LocalHandle::resume`] pins it again under the same guard. No value that was found
     /// under the guard before is protected any more. With more guards out the participant stays pinned.
     ///
-    /// The guard must be this handle's. The answer keeps it, so no call can be made under it meanwhile; the handle can
+    /// The guard must be this handle's. The result keeps it, so no call can be made under it meanwhile; the handle can
     /// make every other call. This is the first half of [`LocalHandle::repin_after`].
     #[inline]
     pub fn pause(&mut self, guard: Guard<'c, T, W>) -> Paused<'c, T, W>
@@ -358,7 +358,7 @@ impl<'c, T: Drop, W: Run> LocalHandle<'c, T, W> {
 
     /// Gives the position up: the participant pins, puts its held bag if it has a job, unpins, and frees its position.
     ///
-    /// None of its guards may be out. The answer is the state after the release, and can only be spent: the word is 0,
+    /// None of its guards may be out. The result is the state after the release, and can only be spent: the word is 0,
     /// the machine is that of a free position, and the held bag, if it had a job, was put whole. `BagsFull`: each place
     /// was seen occupied. The handle comes back unpinned, with its bag as it was.
     #[inline(always)]
@@ -384,7 +384,7 @@ impl<'c, T: Drop, W: Run> LocalHandle<'c, T, W> {
     }
 
     /// Ends the participant, as [`LocalHandle::leave`] and then [`Released::spend`](crate::Released::spend) do, but
-    /// answers no state: the clause `frees` says only that there is one.
+    /// returns no state: the clause `frees` says only that there is one.
     ///
     /// None of its guards may be out. `BagsFull`: each place was seen occupied. The handle comes back unpinned, with
     /// its bag as it was. In crossbeam-epoch a handle does this when it is dropped, and is never refused.

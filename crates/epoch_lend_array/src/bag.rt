@@ -42,7 +42,7 @@ pub struct ClearBag<'c, J: PostSet, T> {
 }
 
 impl<'c, J: PostSet, T> Bag<'c, J, T> {
-    /// An empty bag with room for this many removals. It fails only if memory is refused.
+    /// Makes an empty bag with room for this many removals. It fails only if memory is refused.
     pub fn with_capacity(alloc: Global, capacity: usize) -> Result<Bag<'c, J, T>, AllocError>
         ensures empty { IfOk result (λ bag. bag.removals.items ≡ []) }
         ensures room { IfOk result (λ bag. capacity ≤ vec_capacity bag.removals) }
@@ -54,7 +54,7 @@ impl<'c, J: PostSet, T> Bag<'c, J, T> {
         })
     }
 
-    /// How many removals are in the bag.
+    /// Returns how many removals are in the bag.
     pub fn len(&self) -> usize
         ensures { result ≡ length self.now.removals.items }
     {
@@ -92,7 +92,7 @@ impl<'c, J: PostSet, T> Bag<'c, J, T> {
 }
 
 impl<'c, J: PostSet, T> SealedBag<'c, J, T> {
-    /// How many removals are in the bag.
+    /// Returns how many removals are in the bag.
     pub fn len(&self) -> usize
         ensures { result ≡ length self.now.removals.items }
     {

@@ -35,9 +35,9 @@ pub struct LendingCells<J: PostSet, T> {
 }
 
 impl<J: PostSet, T: Drop> LendingCells<J, T> {
-    /// This many empty cells. The last turn of each is this one, or [`GREATEST_TURN`] where that is less. It fails only
-    /// if memory is refused. The cells' places in memory are never freed, and values that are still in the cells when
-    /// these are dropped are not dropped.
+    /// Makes this many empty cells. The last turn of each is the given one, or [`GREATEST_TURN`] if that is less. It
+    /// fails only if memory is refused. The cells' places in memory are never freed, and values that are still in the
+    /// cells when these are dropped are not dropped.
     pub fn new(
         alloc: Global,
         count: usize,
@@ -59,14 +59,14 @@ impl<J: PostSet, T: Drop> LendingCells<J, T> {
 }
 
 impl<J: PostSet, T> LendingCells<J, T> {
-    /// How many cells there are.
+    /// Returns how many cells there are.
     pub fn len(&self) -> usize
         ensures { result ≡ length self.now.slots.items }
     {
         self.slots.len()
     }
 
-    /// The last turn at which a cell takes a value.
+    /// Returns the last turn at which a cell takes a value.
     pub fn last_turn(&self) -> u64
         ensures value { result ≡ self.now.last_turn }
         ensures within { result ≤ GREATEST_TURN }
@@ -74,9 +74,9 @@ impl<J: PostSet, T> LendingCells<J, T> {
         self.last_turn
     }
 
-    /// Two plain loads. Where a value is shown at this spot, it is lent for as long as the reference to the pinned
-    /// reader is, with the name that shows that it was placed there. `None`: no value was placed there yet, or it was
-    /// marked, or there is no such slot.
+    /// Lends the value that is shown at this spot, by two plain loads, for as long as the reference to the pinned
+    /// reader lasts, with the name that shows that it was placed there. `None`: no value was placed there yet, or it
+    /// was marked, or there is no such slot.
     pub fn look<'g>(&self, spot: Spot, pinned: &'g Pinned<'_, J>) -> Option<Sight<'g, T>>
         ensures slot { IfSome result (λ sight. slice_get (map (λ s. s.turns.log) self.now.slots.items) spot.slot
             ≡ Some sight.name.log) }
@@ -88,7 +88,7 @@ impl<J: PostSet, T> LendingCells<J, T> {
         }
     }
 
-    /// The value that is shown at this spot, as [`LendingCells::look`] finds it.
+    /// Lends the value that is shown at this spot, as [`LendingCells::look`] does, without its name.
     pub fn get<'g>(&self, spot: Spot, pinned: &'g Pinned<'_, J>) -> Option<&'g T> {
         match self.look(spot, pinned) {
             Some(sight) => Some(sight.value),
@@ -96,9 +96,9 @@ impl<J: PostSet, T> LendingCells<J, T> {
         }
     }
 
-    /// Two plain loads. Where the value of this slot is, and its name, so that what is left in the cells can be marked
-    /// and taken back. `None`: the cell is empty, or its value was marked, or went out between the loads, or there is
-    /// no such slot.
+    /// Returns where the value of this slot is, and its name, by two plain loads, so that what is left in the cells can
+    /// be marked and taken back. `None`: the cell is empty, or its value was marked, or went out between the loads, or
+    /// there is no such slot.
     pub fn shown(&self, slot: usize) -> Option<Placed<T>>
         ensures slot { IfSome result (λ placed. slice_get (map (λ s. s.turns.log) self.now.slots.items) slot
             ≡ Some placed.name.log) }
@@ -132,8 +132,8 @@ impl<J: PostSet, T> LendingCells<J, T> {
 }
 
 impl<J: PostSet, T: Drop> LendingCells<J, T> {
-    /// Places a value in the first cell that is seen empty, and answers where. Hands it back where each cell was seen
-    /// in use, or past the last turn.
+    /// Places a value in the first cell that is seen empty, and returns where. It hands the value back if each cell was
+    /// seen in use, or past the last turn.
     pub fn place(&self, value: T) -> Result<Placed<T>, T>
         ensures slot { IfOk result (λ placed. slice_get (map (λ s. s.turns.log) self.now.slots.items) placed.spot.slot
             ≡ Some placed.name.log) }

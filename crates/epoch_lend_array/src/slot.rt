@@ -45,9 +45,9 @@ pub struct Removal<'c, J: PostSet, T> {
 }
 
 impl<J: PostSet, T: Drop> Slot<J, T> {
-    /// An empty cell at turn 0. Its last turn is this one, or [`GREATEST_TURN`] where that is less. It fails only if
-    /// memory is refused. The place in memory is never freed, and a value that is still in the cell when the cell is
-    /// dropped is not dropped.
+    /// Makes an empty cell at turn 0. Its last turn is the given one, or [`GREATEST_TURN`] if that is less. It fails
+    /// only if memory is refused. The place in memory is never freed, and a value that is still in the cell when the
+    /// cell is dropped is not dropped.
     pub fn new<A: Allocator + Drop>(
         alloc: A,
         last_turn: u64,
@@ -64,7 +64,7 @@ impl<J: PostSet, T: Drop> Slot<J, T> {
         })
     }
 
-    /// Places a value at the turn of the cell, and answers this turn and its name. Hands the value back where the cell
+    /// Places a value at the turn of the cell, and returns this turn and its name. It hands the value back if the cell
     /// isn't empty, or is past its last turn.
     pub fn place(&self, value: T) -> Result<(u64, Name<T>), T>
         ensures placed { IfOk result (λ placed. (placed.1.log ≡ self.now.turns.log) × (placed.1.turn ≡ placed.0)
@@ -90,16 +90,16 @@ impl<J: PostSet, T: Drop> Slot<J, T> {
 }
 
 impl<J: PostSet, T> Slot<J, T> {
-    /// Two plain loads. Where the cell has a value of this turn, it is lent for as long as the reference to the pinned
-    /// reader is. `None`: it has none, since none was placed at this turn yet, or it was marked.
+    /// Lends the value of this turn, by two plain loads, for as long as the reference to the pinned reader lasts.
+    /// `None`: the cell has none, since none was placed at this turn yet, or it was marked.
     pub fn look<'g>(&self, turn: u64, pinned: &'g Pinned<'_, J>) -> Option<Sight<'g, T>>
         ensures { IfSome result (λ sight. (sight.name.log ≡ self.now.turns.log) × (sight.name.turn ≡ turn)) }
     {
         self.turns.sight(self.at, turn, pinned.guard())
     }
 
-    /// Two plain loads. The turn and the name of the value that the cell has. `None`: the cell is empty, or its value
-    /// was marked, or went out between the loads.
+    /// Returns the turn and the name of the value that the cell has, by two plain loads. `None`: the cell is empty, or
+    /// its value was marked, or went out between the loads.
     pub fn shown(&self) -> Option<(u64, Name<T>)>
         ensures shown { IfSome result (λ shown. (shown.1.log ≡ self.now.turns.log) × (shown.1.turn ≡ shown.0)) }
         ensures within { IfSome result (λ shown. shown.0 ≤ self.now.last_turn) }

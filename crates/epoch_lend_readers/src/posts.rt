@@ -30,7 +30,7 @@ pub struct Made {
 }
 
 impl Made {
-    /// This many posts, at which no reader is pinned. It fails only if memory is refused.
+    /// Makes this many posts, at which no reader is pinned. It fails only if memory is refused.
     pub fn new(alloc: Global, count: usize) -> Result<Made, AllocError> {
         let mut posts = Vec::with_capacity(alloc, count)?;
         let mut rights = Vec::with_capacity(alloc, count)?;
@@ -77,8 +77,8 @@ pub struct Posts<J: PostSet> {
 }
 
 impl<J: PostSet> Posts<J> {
-    /// The set of these posts. They must be those of `J`, which the call of a function over `J` picks: at `Brand`,
-    /// any posts that the call is given. It fails only if memory is refused.
+    /// Makes the set of these posts. They must be those of `J`, which the call of a function over `J` picks: at
+    /// `Brand`, any posts that the call is given. It fails only if memory is refused.
     pub fn of(alloc: Global, made: Made) -> Result<Posts<J>, AllocError>
         requires { made.posts.items ≡ J.posts }
     {
@@ -97,14 +97,14 @@ impl<J: PostSet> Posts<J> {
         Ok(Posts { posts, places })
     }
 
-    /// How many posts there are, which is how many readers may be registered at a time.
+    /// Returns how many posts there are, which is how many readers may be registered at a time.
     pub fn len(&self) -> usize
         ensures { result ≡ length J.posts }
     {
         self.posts.len()
     }
 
-    /// The posts, in their order.
+    /// Returns the posts, in their order.
     pub fn as_slice(&self) -> &[Post]
         ensures { result.now ≡ J.posts }
     {

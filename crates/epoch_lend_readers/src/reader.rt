@@ -61,7 +61,7 @@ impl<'p, J: PostSet> Reader<'p, J> {
 }
 
 impl<'p, J: PostSet> Pinned<'p, J> {
-    /// The guard of the pin, which is of one of the set's posts.
+    /// Returns the guard of the pin, which is of one of the set's posts.
     pub fn guard(&self) -> &Guard
         ensures { (result.now ≡ self.now.guard) × IsAmong result.now.log (logs_of J.posts) }
     {

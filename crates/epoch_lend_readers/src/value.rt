@@ -57,8 +57,8 @@ pub fn lend<'v, J: PostSet, T: Drop, A: Allocator>(
 }
 
 impl<J: PostSet, T> Value<J, T> {
-    /// One plain load. Where the value is present, it is lent for as long as the reference to the pinned reader is.
-    /// `None`: it was marked.
+    /// Lends the value, by one plain load, for as long as the reference to the pinned reader lasts. `None`: it was
+    /// marked.
     pub fn look<'g>(&self, pinned: &'g Pinned<'_, J>) -> Option<&'g T>
         ensures { IfSome result (λ value. value.now ≡ self.now.lent.lending.value) }
     {
@@ -67,7 +67,7 @@ impl<J: PostSet, T> Value<J, T> {
 }
 
 impl<'v, J: PostSet, T, A: Allocator> Owner<'v, J, T, A> {
-    /// The value, for readers.
+    /// Returns the value, for readers.
     pub fn value(&self) -> &'v Value<J, T>
         ensures { result.now ≡ self.now.value.now }
     {

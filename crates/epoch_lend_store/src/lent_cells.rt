@@ -151,8 +151,8 @@ impl<J: PostSet, T> LentCells<J, T> {
         self.posts.len()
     }
 
-    /// Two plain loads. Lends the value of this name for as long as the reference to the pinned reader is, with a
-    /// witness that it was placed under this name. `None`: none was placed there yet, or it was marked.
+    /// Lends the value of this name, by two plain loads, for as long as the reference to the pinned reader lasts, with
+    /// a witness that it was placed under this name. `None`: none was placed there yet, or it was marked.
     #[inline(always)]
     pub fn look<'g>(&self, name: Name, pinned: &'g Pinned<'_, J>) -> Option<Sight<'g, T>>
         ensures named { IfSome result
@@ -167,7 +167,7 @@ impl<J: PostSet, T> LentCells<J, T> {
         self.posts.register()
     }
 
-    /// The epoch of a pin that begins now.
+    /// Returns the epoch of a pin that begins now.
     #[inline(always)]
     pub fn epoch(&self) -> u64
         ensures { result < 2 ^ 63 }

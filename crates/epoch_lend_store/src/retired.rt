@@ -20,7 +20,7 @@ pub struct Retired<'q, 's, J: PostSet, T> {
 }
 
 impl<'q, 's, J: PostSet, T> Retired<'q, 's, J, T> {
-    /// None yet, with room for [`RETIRED_TOGETHER`]. It fails for want of memory alone.
+    /// Makes an empty list, with room for [`RETIRED_TOGETHER`] values. It fails only if memory is refused.
     pub fn new(
         alloc: Global,
         lender: &'q Lender<'s, J, T>,

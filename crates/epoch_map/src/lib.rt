@@ -1,4 +1,4 @@
-//! A map for threads, after Harris and Michael: each call goes over the phases of the map's program.
+//! A map for threads, after Harris and Michael: each call goes through the phases of the map's program.
 #![tactic(auto)]
 
 mod calls;

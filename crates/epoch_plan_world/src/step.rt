@@ -25,8 +25,8 @@ pub enum PlanStep<W> {
     /// Begins a call of the structure by this participant, under this guard, which is asked for this. It performs
     /// nothing yet.
     Ask(u64, u64, W),
-    /// Takes one step of the world for the participant's call, or, where nothing is left to do, answers a call of the
-    /// structure.
+    /// Takes one step of the world for the participant's call. If nothing is left to do, the call of the structure
+    /// answers.
     Go(u64),
     /// Begins the end of the collector.
     End,

@@ -1,4 +1,4 @@
-//! A queue for threads, after Michael and Scott: each call goes over the phases of the queue's program.
+//! A queue for threads, after Michael and Scott: each call goes through the phases of the queue's program.
 #![tactic(auto)]
 
 mod node;

@@ -12,7 +12,7 @@ ghost use Rattle.epoch_queue_served.specs.Lone.{AllOwn, HasTries, IsBuilt, Never
 
 /// Each call of the world that a phase makes is replied to as expected: none is refused for a guard, a name, a place or
 /// a reading, and none finds nothing there, so that no access answers `Absent`. A flush that makes room may be refused
-/// `BagsFull`, a placing `CellsFull`, and a removal `TicketsOut`, but never for want of room. So a push or a pop
+/// `BagsFull`, a placing `CellsFull`, and a removal `TicketsOut`, but never for lack of room. So a push or a pop
 /// answers `BagsFull` and `CellsFull` only where the world has refused that.
 ///
 /// This is of calls that are asked for by a participant that is registered and not paused, under a guard that is out,

@@ -35,7 +35,7 @@ pub fn every_call_collects_few()
         → CollectsFew fresh log new run }
 {}
 
-/// A call isn't refused for want of a place if some place had no bag when it began, no other participant was putting or
+/// A call isn't refused for lack of a place if some place had no bag when it began, no other participant was putting or
 /// taking a bag then, and no other participant takes a step before it ends.
 pub fn lone_calls_find_a_place()
     ensures { (fresh s new : State) (earlier : List Entry) (p : ℕ) (c : Call) (replies : List Reply) → IsFresh fresh

@@ -17,7 +17,7 @@ use std::sync::atomic::Ordering;
 /// Why an update was not made. In both cases nothing was stored.
 #[derive_where(Clone, Copy)]
 pub enum UpdateFault<'g, T> {
-    /// The function answered `None` for this pointer.
+    /// The function returned `None` for this pointer.
     Stopped(Shared<'g, T>),
     /// Each try was lost to other threads. This is the pointer that was found last.
     RanOut(Shared<'g, T>),
@@ -48,11 +48,12 @@ impl TagChange {
 }
 
 impl<T: Pointable, A: SharedWord> Atomic<T, A> {
-    /// Loads the pointer, calls `f` on it, and exchanges it for the pointer that `f` answers. If the exchange is lost,
-    /// it tries again with the pointer that it found, in at most `max_tries` tries. Answers the pointer before.
+    /// Loads the pointer, calls `f` on it, and exchanges it for the pointer that `f` returns. If the exchange is lost,
+    /// it tries again with the pointer that it found, in at most `max_tries` tries. Returns the pointer before.
     ///
-    /// `Stopped`: `f` answered `None`. `RanOut`: each exchange was lost; with `max_tries` 0, `f` isn't called. In both
-    /// cases nothing was stored. crossbeam-epoch has no such bound.
+    /// `Stopped`: `f` returned `None`. `RanOut`: each exchange was lost; with `max_tries` 0, `f` isn't called. In both
+    /// cases nothing was stored. The load and the exchanges act as `SeqCst`, whichever orderings are asked for.
+    /// crossbeam-epoch has no such bound.
     pub fn fetch_update<'g, F: FnMut(Shared<'g, T>) -> Option<Shared<'g, T>> + Drop, W>(
         &self,
         set_order: Ordering,
@@ -109,7 +110,10 @@ impl<T: Pointable, A: SharedWord> Atomic<T, A> {
         Err(UpdateFault::RanOut(read(seen, guard)))
     }
 
-    /// Clears the bits of the tag that aren't set in `tag`, and answers the pointer before.
+    /// Clears the bits of the tag that aren't set in `tag`, and returns the pointer before.
+    ///
+    /// It loads the pointer, and then tries an exchange until it wins one. Each of these acts as `SeqCst`, whichever
+    /// ordering is asked for. In crossbeam-epoch it is one atomic operation.
     pub fn fetch_and<'g, W>(
         &self,
         tag: usize,
@@ -124,7 +128,10 @@ impl<T: Pointable, A: SharedWord> Atomic<T, A> {
         self.change_tag(TagChange::And(tag), order, guard)
     }
 
-    /// Sets the bits of the tag that are set in `tag`, and answers the pointer before.
+    /// Sets the bits of the tag that are set in `tag`, and returns the pointer before.
+    ///
+    /// It loads the pointer, and then tries an exchange until it wins one. Each of these acts as `SeqCst`, whichever
+    /// ordering is asked for. In crossbeam-epoch it is one atomic operation.
     pub fn fetch_or<'g, W>(
         &self,
         tag: usize,
@@ -139,7 +146,10 @@ impl<T: Pointable, A: SharedWord> Atomic<T, A> {
         self.change_tag(TagChange::Or(tag), order, guard)
     }
 
-    /// Flips the bits of the tag that are set in `tag`, and answers the pointer before.
+    /// Flips the bits of the tag that are set in `tag`, and returns the pointer before.
+    ///
+    /// It loads the pointer, and then tries an exchange until it wins one. Each of these acts as `SeqCst`, whichever
+    /// ordering is asked for. In crossbeam-epoch it is one atomic operation.
     pub fn fetch_xor<'g, W>(
         &self,
         tag: usize,

@@ -296,7 +296,7 @@ pub fn try_take<T: Drop>(slot: &Slot<T>, name: Name) -> Result<Held<T>, Miss>
 }
 
 /// Puts a value back that was taken out by the name of another turn, or drops it if its slot is used by then. This
-/// never comes about.
+/// never happens.
 #[cold]
 #[inline(never)]
 fn put_back<T: Drop>(slot: &Slot<T>, held: Held<T>)

@@ -69,7 +69,7 @@ pub struct Notes {
 }
 
 impl Notes {
-    /// Makes room for the notes of so many positions.
+    /// Makes room for the notes of this many positions.
     ///
     /// `NoMemory`: an allocation was refused.
     pub fn new(alloc: Global, positions: usize) -> Result<Notes, Fault>
