@@ -123,7 +123,7 @@ impl<T: Pointable, A: SharedWord> Atomic<T, A> {
         Ok(())
     }
 
-    /// Stores a pointer, or an owned value, which is placed in a cell first, and answers the pointer before.
+    /// Stores a pointer, or an owned value, which is placed in a cell first, and returns the pointer before.
     ///
     /// If the cells are full, the owned value comes back, and nothing was stored. The swap acts as `SeqCst`, whichever
     /// ordering is asked for.

@@ -54,7 +54,7 @@ impl<J: Default + Drop> Bag<J> {
         }
     }
 
-    /// Leaves an empty bag of the same limit, and answers the one that was here.
+    /// Leaves an empty bag of the same limit, and returns the one that was here.
     pub fn take(&mut self) -> Bag<J>
         ensures taken { result ≡ self.old }
         ensures limit { self.new.limit ≡ self.old.limit }
@@ -135,7 +135,7 @@ impl<J: Drop> Bag<J> {
 }
 
 impl<J> Bag<J> {
-    /// Answers how many jobs it has.
+    /// Returns how many jobs it has.
     pub fn len(&self) -> usize
         ensures value { result ≡ length self.now.jobs }
         ensures within { result ≤ self.now.limit }
@@ -143,7 +143,7 @@ impl<J> Bag<J> {
         self.jobs.len()
     }
 
-    /// Answers whether it has no job.
+    /// Returns whether it has no job.
     pub fn is_empty(&self) -> bool
         ensures test { result ≡ is_empty self.now.jobs }
         ensures none { IsTrue result ↔ (self.now.jobs ≡ []) }
@@ -151,7 +151,7 @@ impl<J> Bag<J> {
         self.jobs.is_empty()
     }
 
-    /// Answers how many jobs it takes at most, from 1 to [`BAG_JOBS`].
+    /// Returns how many jobs it takes at most, from 1 to [`BAG_JOBS`].
     pub fn limit(&self) -> usize
         ensures value { result ≡ self.now.limit }
         ensures some { 0 < result }
@@ -160,7 +160,7 @@ impl<J> Bag<J> {
         self.limit
     }
 
-    /// Answers whether it takes no further job.
+    /// Returns whether it takes no further job.
     pub fn is_full(&self) -> bool
         ensures { IsTrue result ↔ (self.now.limit ≤ length self.now.jobs) }
     {
@@ -192,7 +192,7 @@ impl<J> Model for SealedBag<J> {
 }
 
 impl<J> SealedBag<J> {
-    /// Answers the number of the epoch that seals it, from 0 to [`GREATEST_EPOCH`].
+    /// Returns the number of the epoch that seals it, from 0 to [`GREATEST_EPOCH`].
     pub fn seal(&self) -> u64
         ensures value { result ≡ self.now.seal }
         ensures within { result ≤ GREATEST_EPOCH }
@@ -200,7 +200,7 @@ impl<J> SealedBag<J> {
         self.seal
     }
 
-    /// Answers whether `epoch` is ahead of the seal by two or more.
+    /// Returns whether `epoch` is ahead of the seal by two or more.
     pub fn is_expired(&self, epoch: Epoch) -> bool
         ensures { IsTrue result ↔ IsExpired epoch.number self.now }
     {
@@ -209,7 +209,7 @@ impl<J> SealedBag<J> {
         self.seal + 2 <= epoch.number()
     }
 
-    /// Answers how many jobs are left, at most [`BAG_JOBS`].
+    /// Returns how many jobs are left, at most [`BAG_JOBS`].
     pub fn len(&self) -> usize
         ensures value { result ≡ length self.now.jobs }
         ensures within { result ≤ BAG_JOBS }
@@ -217,7 +217,7 @@ impl<J> SealedBag<J> {
         self.jobs.len() - self.next
     }
 
-    /// Answers whether no job is left.
+    /// Returns whether no job is left.
     pub fn is_empty(&self) -> bool
         ensures test { result ≡ is_empty self.now.jobs }
         ensures none { IsTrue result ↔ (self.now.jobs ≡ []) }

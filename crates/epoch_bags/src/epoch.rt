@@ -10,7 +10,7 @@ pub const FREE: u64 = 0;
 /// The word of a participant that is not pinned.
 pub const UNPINNED: u64 = 2;
 
-/// Answers the word of a participant that is pinned in the epoch of this number. It is odd, as no other one is.
+/// Returns the word of a participant that is pinned in the epoch of this number. It is odd, as no other one is.
 #[inline(always)]
 pub fn pinned_word(epoch: u64) -> u64
     requires { epoch ≤ GREATEST_EPOCH }
@@ -30,7 +30,7 @@ pub struct Epoch {
 }
 
 impl Epoch {
-    /// Answers the first epoch: number 0, not pinned.
+    /// Returns the first epoch: number 0, not pinned.
     pub fn starting() -> Epoch
         ensures number { result.number ≡ 0 }
         ensures unpinned { result.pinned ≡ false }
@@ -38,7 +38,7 @@ impl Epoch {
         Epoch::new(0)
     }
 
-    /// Answers the epoch of this number, not pinned.
+    /// Returns the epoch of this number, not pinned.
     pub fn new(number: u64) -> Epoch
         requires { number ≤ GREATEST_EPOCH }
         ensures number { result.number ≡ number }
@@ -50,7 +50,7 @@ impl Epoch {
         }
     }
 
-    /// Answers the same epoch, marked as pinned.
+    /// Returns the same epoch, marked as pinned.
     pub fn pinned(self) -> Epoch
         ensures number { result.number ≡ self.number }
         ensures pinned { result.pinned ≡ true }
@@ -61,7 +61,7 @@ impl Epoch {
         }
     }
 
-    /// Answers the same epoch, marked as not pinned.
+    /// Returns the same epoch, marked as not pinned.
     pub fn unpinned(self) -> Epoch
         ensures number { result.number ≡ self.number }
         ensures unpinned { result.pinned ≡ false }
@@ -72,14 +72,14 @@ impl Epoch {
         }
     }
 
-    /// Answers whether it is marked as pinned.
+    /// Returns whether it is marked as pinned.
     pub fn is_pinned(self) -> bool
         ensures { result ≡ self.pinned }
     {
         self.pinned
     }
 
-    /// Answers its number, from 0 to [`GREATEST_EPOCH`].
+    /// Returns its number, from 0 to [`GREATEST_EPOCH`].
     pub fn number(self) -> u64
         ensures value { result ≡ self.number }
         ensures within { result ≤ GREATEST_EPOCH }
@@ -87,7 +87,7 @@ impl Epoch {
         self.number
     }
 
-    /// Answers the next epoch, with the same mark; `None` exactly at the greatest one.
+    /// Returns the next epoch, with the same mark; `None` exactly at the greatest one.
     pub fn successor(self) -> Option<Epoch>
         ensures none { IsNone result ↔ (self.number ≡ GREATEST_EPOCH) }
         ensures some { IfSome result (λ next. (next.number ≡ self.number + 1)) }
@@ -102,7 +102,7 @@ impl Epoch {
         })
     }
 
-    /// Answers how many epochs `self` is ahead of `other`, negative where it is behind. Marks don't count.
+    /// Returns how many epochs `self` is ahead of `other`, negative where it is behind. Marks don't count.
     pub fn distance(self, other: Epoch) -> i64
         ensures { result ≡ pos self.number -ℤ pos other.number }
     {

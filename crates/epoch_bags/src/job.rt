@@ -104,7 +104,7 @@ pub enum Called {
 }
 
 impl<W: Run> Job<W> {
-    /// Calls the job, and answers what that did.
+    /// Calls the job, and returns what that did.
     #[inline(always)]
     pub fn call<T: Drop>(self, cells: &Cells<T>) -> Called
         ensures answers { AnswersJob self result }
@@ -119,7 +119,7 @@ impl<W: Run> Job<W> {
         }
     }
 
-    /// Calls the job, and answers what that did. A removal adds its slot to those that were given free.
+    /// Calls the job, and returns what that did. A removal adds its slot to those that were given free.
     #[inline(always)]
     pub fn call_near<T: Drop>(self, cells: &Cells<T>, freed: &mut Freed) -> Called
         ensures answers { AnswersJob self result }
@@ -148,7 +148,7 @@ fn called_for(removal: Removal) -> Called
 }
 
 impl<W: Run> SealedBag<Job<W>> {
-    /// Takes the oldest job out, calls it, and answers what that did. `None`: no job is left.
+    /// Takes the oldest job out, calls it, and returns what that did. `None`: no job is left.
     pub fn call_next<T: Drop>(&mut self, cells: &Cells<T>) -> Option<Called>
         ensures called { MatchOption result (self.old.jobs ≡ []) (λ called. (job : _) × (self.old.jobs ≡ job
             ∷ self.new.jobs) × AnswersJob job called × IsCalled W.done W.Removing.tried job) }

@@ -116,7 +116,7 @@ pub trait BagStore: Drop {
         ensures unreserved { IfOk result (λ store. (place : ℕ) → ¬ (Reserved store place)) }
         ensures no_memory { IfErr result (λ fault. fault ≡ Fault.NoMemory) };
 
-    /// Answers how many bags it has room for, from 1 to [`MOST_BAGS`].
+    /// Returns how many bags it has room for, from 1 to [`MOST_BAGS`].
     fn capacity(&self) -> usize
         ensures value { result ≡ capacity self.now }
         ensures within { length (queued self.now) ≤ capacity self.now }
@@ -128,7 +128,7 @@ pub trait BagStore: Drop {
         ensures some { 0 < result }
         ensures most { result ≤ MOST_BAGS };
 
-    /// Answers the cursor of a put that has taken no step.
+    /// Returns the cursor of a put that has taken no step.
     fn start_put(&self) -> Self::Putting
         ensures passed { passed result ≡ 0 }
         ensures few { puts_left (capacity self.now) result ≤ 3 * capacity self.now + 65 }
@@ -174,7 +174,7 @@ pub trait BagStore: Drop {
             → Reserves cursor.new place ⊎ (Reserved self.old place × (¬ (Reserves cursor.old place))) }
         ensures lets_go { result ≢ PutStep.Again → (place : ℕ) → ¬ (Reserves cursor.new place) };
 
-    /// Answers the cursor of a collection that has taken no step.
+    /// Returns the cursor of a collection that has taken no step.
     fn start_take(&self) -> Self::Taking
         ensures few { takes_left (capacity self.now) result ≤ 3 * capacity self.now + 65 }
         ensures claims { (place : ℕ) → ¬ (Claims result place) }

@@ -108,7 +108,7 @@ impl<T: Drop> Cells<T> {
 }
 
 impl<T: Drop, P: Puts<T>> Cells<T, P> {
-    /// Answers how many slots there are.
+    /// Returns how many slots there are.
     pub fn capacity(&self) -> usize
         ensures value { result ≡ vec_len self.now.slots }
         ensures within { result ≤ MOST_SLOT }
@@ -116,7 +116,7 @@ impl<T: Drop, P: Puts<T>> Cells<T, P> {
         self.slots.len()
     }
 
-    /// Places the value in the first free slot, beside its name, and answers that name: the slot and its next turn.
+    /// Places the value in the first free slot, beside its name, and returns that name: the slot and its next turn.
     ///
     /// `CellsFull`: every slot was seen used or retired during the call. The value is handed back.
     #[inline(always)]
@@ -340,7 +340,7 @@ impl<T: Drop, P: Puts<T>> Cells<T, P> {
         Some(self.take_held(name)?.into_value())
     }
 
-    /// Does what [`Cells::take`] does, and answers the value with its own name, which is the one asked for.
+    /// Does what [`Cells::take`] does, and returns the value with its own name, which is the one asked for.
     #[inline(always)]
     pub fn take_held(&self, name: Name) -> Option<Held<T>>
         ensures { IfSome result (λ held. held.name ≡ name) }

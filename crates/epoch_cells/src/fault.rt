@@ -43,7 +43,7 @@ pub enum Fault {
 }
 
 impl Fault {
-    /// Answers the number under which the fault is printed, from 1 to 16, in the order of the variants.
+    /// Returns the number under which the fault is printed, from 1 to 16, in the order of the variants.
     pub fn number(self) -> u64
         ensures { result ≡ fault_number self }
     {

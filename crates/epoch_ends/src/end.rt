@@ -27,7 +27,7 @@ pub trait AtEnd<T>: Run {
         Self: Sized,
         ensures closed { closed places result };
 
-    /// Takes out what is left in the next place, and calls its jobs, by [`end_next`]. Answers how many jobs it called.
+    /// Takes out what is left in the next place, and calls its jobs, by [`end_next`]. Returns how many jobs it called.
     fn next(cells: &Cells<T>, left: &mut ClosedPlaces<Job<Self>>) -> u64
     where
         Self: Sized,
@@ -53,7 +53,7 @@ impl<T: Drop> AtEnd<T> for Work {
     }
 }
 
-/// Calls every job that is left in closed places, place after place, and leaves none. Answers how many jobs it called.
+/// Calls every job that is left in closed places, place after place, and leaves none. Returns how many jobs it called.
 pub fn end_left<T: Drop, W: AtEnd<T>>(cells: &Cells<T>, left: &mut ClosedPlaces<Job<W>>) -> u64
     ensures called { All (IsBagCalled (IsCalled W.done W.Removing.tried)) left.old }
     ensures count { result ≡ jobs_in left.old }
@@ -68,7 +68,7 @@ pub fn end_left<T: Drop, W: AtEnd<T>>(cells: &Cells<T>, left: &mut ClosedPlaces<
     count
 }
 
-/// Takes out what is left in the next place, and calls its jobs, the oldest of a bag first. Answers how many jobs it
+/// Takes out what is left in the next place, and calls its jobs, the oldest of a bag first. Returns how many jobs it
 /// called.
 ///
 /// A place must be left. A caller that names its kind of work has nothing else to show.
@@ -90,7 +90,7 @@ fn tell_few<W>(bags: &[Option<SealedBag<Job<W>>>])
     let _bytes = mem::size_of_val(bags);
 }
 
-/// Calls every job of each bag, the oldest of a bag first, and leaves each place `None`. Answers how many jobs it
+/// Calls every job of each bag, the oldest of a bag first, and leaves each place `None`. Returns how many jobs it
 /// called.
 pub fn end_bags<T: Drop, W: Run>(cells: &Cells<T>, bags: &mut [Option<SealedBag<Job<W>>>]) -> u64
     ensures count { result ≡ jobs_in bags.old }
@@ -107,7 +107,7 @@ pub fn end_bags<T: Drop, W: Run>(cells: &Cells<T>, bags: &mut [Option<SealedBag<
     count
 }
 
-/// Calls every job of the bag, if there is one, and leaves none. Answers how many jobs.
+/// Calls every job of the bag, if there is one, and leaves none. Returns how many jobs.
 fn end_bag<T: Drop, W: Run>(cells: &Cells<T>, place: &mut Option<SealedBag<Job<W>>>) -> u64
     ensures count { result ≡ jobs_of place.old }
     ensures called { IsBagCalled (IsCalled W.done W.Removing.tried) place.old }

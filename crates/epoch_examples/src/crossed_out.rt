@@ -85,7 +85,7 @@ impl List {
         Err(Fault::TriesOut)
     }
 
-    /// Crosses the number out where it stands first, in a walk of at most `steps` entries, and answers whether this
+    /// Crosses the number out where it stands first, in a walk of at most `steps` entries, and returns whether this
     /// call did it: of several threads that cross out one entry, exactly one is told `true`.
     ///
     /// `TriesOut`: the walk ended before the list did, or an entry wasn't lent for reading.
@@ -115,7 +115,7 @@ impl List {
         Err(Fault::TriesOut)
     }
 
-    /// Takes the list apart when no other thread uses it any more, and answers how many numbers aren't crossed out.
+    /// Takes the list apart when no other thread uses it any more, and returns how many numbers aren't crossed out.
     pub fn take_apart(self, collector: &Collector<Entry>) -> u64 {
         let guard = unprotected(collector);
         let List { first } = self;

@@ -2,7 +2,7 @@
 use epoch_pin::{Collector, unprotected};
 use epoch_stack::{Node, Stack};
 
-/// Takes all values off the stack, destroys their nodes at once, and answers the values' sum.
+/// Takes all values off the stack, destroys their nodes at once, and returns the values' sum.
 ///
 /// An unprotected guard holds nothing back, and its calls don't wait for the epoch. That is right if no other thread
 /// can reach the structure, as here, where the stack itself was given away.

@@ -28,7 +28,7 @@ impl Replaceable {
         Ok(Replaceable { world })
     }
 
-    /// Does a whole call of the participant, and answers its last reply.
+    /// Does a whole call of the participant, and returns its last reply.
     ///
     /// `NoMemory`: an allocation was refused.
     fn call(&mut self, participant: u64, call: Call) -> Result<Reply, Fault> {
@@ -90,7 +90,7 @@ fn pointer_of(reply: Reply) -> Ptr {
 }
 
 /// A schedule: participant 0 loads the pointer, participant 1 replaces the value and does all that it can to have the
-/// old one destroyed, and only then participant 0 reads what it loaded. Answers what it read, and what it reads by the
+/// old one destroyed, and only then participant 0 reads what it loaded. Returns what it read, and what it reads by the
 /// same pointer after it has unpinned, participant 1 has flushed, and it has pinned again.
 ///
 /// `NoMemory`: an allocation was refused.

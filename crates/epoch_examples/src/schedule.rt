@@ -3,7 +3,7 @@ use epoch_base::{Fault, Places};
 use epoch_world::{Call, Deferral, Reply, Shape, Step, World};
 use std::alloc::Global;
 
-/// Pins participant 0, stops participant 1 after the first step of its pin, and answers the world's replies.
+/// Pins participant 0, stops participant 1 after the first step of its pin, and returns the world's replies.
 ///
 /// `NoMemory`: an allocation was refused.
 pub fn half_a_pin(alloc: Global) -> Result<Vec<Reply>, Fault> {

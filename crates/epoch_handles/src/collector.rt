@@ -38,7 +38,7 @@ pub struct Capacities {
 const USUAL_COLLECT_BAGS: u32 = 8;
 
 impl Capacities {
-    /// Answers capacities with bags of 64 jobs, of which a collection takes at most 8, as in crossbeam-epoch.
+    /// Returns capacities with bags of 64 jobs, of which a collection takes at most 8, as in crossbeam-epoch.
     pub fn usual(participants: u32, cells: u32, bags: u32) -> Capacities
         ensures { result
             ≡ (record { participants = participants; cells = cells; bags = bags; bag_jobs = 64; collect_bags = 8 }) }
@@ -52,7 +52,7 @@ impl Capacities {
         }
     }
 
-    /// Answers whether each number is in its range.
+    /// Returns whether each number is in its range.
     pub fn is_valid(&self) -> bool
         ensures { IsTrue result ↔ AreValid self.now }
     {
@@ -79,7 +79,7 @@ pub struct Collector<T, W = Work> {
 }
 
 impl<T, W> Collector<T, W> {
-    /// Answers the number with which it was made.
+    /// Returns the number with which it was made.
     #[inline(always)]
     pub fn id(&self) -> u64
         ensures { result ≡ self.now.id }
@@ -99,7 +99,7 @@ impl<T, W> PartialEq for Collector<T, W> {
 
     ghost laws = { Prim.search (comparing, rules) };
 
-    /// Answers whether both were made with the same number.
+    /// Returns whether both were made with the same number.
     fn eq(&self, other: &Collector<T, W>) -> bool {
         self.id == other.id
     }
@@ -149,7 +149,7 @@ impl<T: Drop, W: Drop> Collector<T, W> {
 
 impl<T: Drop, W: AtEnd<T>> Collector<T, W> {
     /// Ends the collector: closes its places, calls every job that is left in them, drops the values that are left in
-    /// its cells, and answers how many jobs it called.
+    /// its cells, and returns how many jobs it called.
     ///
     /// Every handle must have been given back, since handles borrow the collector. In crossbeam-epoch the last owner of
     /// a collector does this by dropping it.

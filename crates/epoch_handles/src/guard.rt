@@ -19,7 +19,7 @@ pub struct Guard<'c, T, W = Work> {
     pub(crate) position: Option<usize>,
 }
 
-/// Answers a guard of this collector that protects nothing: a job that is deferred under it is called at once.
+/// Returns a guard of this collector that protects nothing: a job that is deferred under it is called at once.
 ///
 /// Use it only while no other thread can use the structure: to make a structure before it is shared, and to take one
 /// apart when only its owner is left. It needs no handle, and each call returns one more guard, which is given back to
@@ -36,14 +36,14 @@ pub fn unprotected<T, W>(collector: &Collector<T, W>) -> Guard<'_, T, W>
 }
 
 impl<'c, T, W> Guard<'c, T, W> {
-    /// Answers whether it is a token of a pin.
+    /// Returns whether it is a token of a pin.
     pub fn is_protecting(&self) -> bool
         ensures { IsTrue result ↔ IsSome self.now.position }
     {
         self.position.is_some()
     }
 
-    /// Answers the collector of a protecting guard, and `None` for an unprotected one, as in crossbeam-epoch.
+    /// Returns the collector of a protecting guard, and `None` for an unprotected one, as in crossbeam-epoch.
     pub fn collector(&self) -> Option<&'c Collector<T, W>>
         ensures { MatchOption result (self.now.position ≡ None)
             (λ collector. IsSome self.now.position × (collector.now ≡ self.now.collector.now)) }
@@ -71,7 +71,7 @@ impl<'c, T, W> Guard<'c, T, W> {
 }
 
 impl<'c, T: Drop, W: Run> Guard<'c, T, W> {
-    /// Calls the job at once, under an unprotected guard, and answers what that did. Under a protecting guard the job
+    /// Calls the job at once, under an unprotected guard, and returns what that did. Under a protecting guard the job
     /// comes back uncalled.
     pub fn call_now(&self, job: Job<W>) -> Result<Called, Job<W>>
         ensures ok { IsOk result ↔ IsNone self.now.position }

@@ -42,7 +42,7 @@ impl<'c, T, W> fmt::Debug for LocalHandle<'c, T, W> {
 }
 
 impl<'c, T, W> LocalHandle<'c, T, W> {
-    /// Answers the collector that it is a participant of.
+    /// Returns the collector that it is a participant of.
     pub fn collector(&self) -> &'c Collector<T, W>
         ensures value { result.now ≡ self.now.collector.now }
         ensures ready { IsReady self.now }
@@ -50,28 +50,28 @@ impl<'c, T, W> LocalHandle<'c, T, W> {
         self.local.collector
     }
 
-    /// Answers how many of its guards are out.
+    /// Returns how many of its guards are out.
     pub fn guards_out(&self) -> u32
         ensures { result ≡ self.now.machine.guards }
     {
         self.local.machine.guards()
     }
 
-    /// Answers whether it is pinned: whether one of its guards is out.
+    /// Returns whether it is pinned: whether one of its guards is out.
     pub fn is_pinned(&self) -> bool
         ensures { IsTrue result ↔ (0 < self.now.machine.guards) }
     {
         self.local.machine.guards() > 0
     }
 
-    /// Answers whether a further guard can be counted. At most `2^32 - 1` guards can be out.
+    /// Returns whether a further guard can be counted. At most `2^32 - 1` guards can be out.
     pub fn can_pin(&self) -> bool
         ensures { IsTrue result ↔ (self.now.machine.guards + 1 < 2 ^ 32) }
     {
         self.local.machine.guards() < u32::MAX
     }
 
-    /// Answers whether the held bag takes a further job without being put into a place first.
+    /// Returns whether the held bag takes a further job without being put into a place first.
     pub fn has_room(&self) -> bool
         ensures value { IsTrue result ↔ (length self.now.machine.held < self.now.machine.sizes.bag_jobs) }
         ensures ready { IsReady self.now }
@@ -79,7 +79,7 @@ impl<'c, T, W> LocalHandle<'c, T, W> {
         self.local.machine.has_room()
     }
 
-    /// Answers whether this is a guard of this participant. The answer is `false` if none of its guards is out.
+    /// Returns whether this is a guard of this participant. The answer is `false` if none of its guards is out.
     ///
     /// Two collectors with the same number aren't told apart.
     #[inline(always)]
@@ -140,7 +140,7 @@ impl<'c, T, W> LocalHandle<'c, T, W> {
         Paused { guard }
     }
 
-    /// Answers whether this is a guard that this participant paused. Like [`LocalHandle::owns`], it doesn't tell two
+    /// Returns whether this is a guard that this participant paused. Like [`LocalHandle::owns`], it doesn't tell two
     /// collectors with the same number apart.
     #[inline]
     pub fn has_paused(&self, paused: &Paused<'_, T, W>) -> bool
@@ -334,7 +334,7 @@ impl<'c, T: Drop, W: Run> LocalHandle<'c, T, W> {
         answer
     }
 
-    /// Pins the participant again under the guard that was paused, and answers that guard. The new pin counts as one,
+    /// Pins the participant again under the guard that was paused, and returns that guard. The new pin counts as one,
     /// and may collect. With more guards out the participant is pinned already.
     ///
     /// This handle must have paused the guard, and be able to count one more: [`LocalHandle::has_paused`],
@@ -436,7 +436,7 @@ impl<'c, T: Drop, W: Run> LocalHandle<'c, T, W> {
         self.defer(guard, job)
     }
 
-    /// Pins the participant, and answers a guard. Of the pins that are made with no guard out, the first one collects,
+    /// Pins the participant, and returns a guard. Of the pins that are made with no guard out, the first one collects,
     /// and so does each 128th after it.
     ///
     /// If the participant is pinned already, this only counts one more guard, and makes no atomic step. At most

@@ -14,7 +14,7 @@ pub struct Home<'g, T> {
     pub id: u64,
 }
 
-/// Answers the cells of the guard's collector, and its number.
+/// Returns the cells of the guard's collector, and its number.
 #[inline(always)]
 pub fn home_of<'g, T, W>(guard: &'g Guard<'_, T, W>) -> Home<'g, T>
     ensures cells { result.cells.now ≡ guard.now.collector.now.cells }

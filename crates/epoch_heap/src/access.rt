@@ -34,15 +34,15 @@ pub enum Update {
 /// What a pointer call does to the pointer at its spot.
 #[derive(Clone, Copy, Debug, PartialEq, Eq)]
 pub enum Change {
-    /// Answers the pointer.
+    /// Returns the pointer.
     Load,
     /// Writes this one.
     Store(Ptr),
-    /// Writes this one, and answers the one before.
+    /// Writes this one, and returns the one before.
     Swap(Ptr),
     /// Writes the second pointer if the first one stands there, with its tag. Otherwise nothing changes.
     CompareExchange(Ptr, Ptr),
-    /// Changes only the tag, by these bits, and answers the pointer before. So do the next two.
+    /// Changes only the tag, by these bits, and returns the pointer before. So do the next two.
     FetchAnd(u64),
     FetchOr(u64),
     FetchXor(u64),
@@ -55,7 +55,7 @@ pub enum Change {
 pub enum Access {
     /// Places this value in the first cell that is free.
     Place(u64),
-    /// Begins a reading of the pointer's cell, and answers its value.
+    /// Begins a reading of the pointer's cell, and returns its value.
     Read(Option<u64>, Ptr),
     /// Ends the reading.
     Leave(Ptr),
@@ -68,7 +68,7 @@ pub enum Access {
 }
 
 impl Access {
-    /// Answers the guard that the call names, if it is a protecting one. A `Place` and a `Leave` name none.
+    /// Returns the guard that the call names, if it is a protecting one. A `Place` and a `Leave` name none.
     pub fn guard(self) -> Option<u64>
         ensures { result ≡ guard_of self }
     {
@@ -85,7 +85,7 @@ impl Access {
 pub enum Answer {
     /// A pin: the number of the guard, from 0 to 63.
     Guard(u64),
-    /// The call is done, and answers nothing else.
+    /// The call is done, and returns nothing else.
     Unit,
     /// A release: the position is free.
     Released,

@@ -90,7 +90,7 @@ impl Heap {
         })
     }
 
-    /// Answers how many slots there are.
+    /// Returns how many slots there are.
     pub fn slots(&self) -> usize
         ensures value { result ≡ length self.now.cells }
         ensures within { result ≤ 16777215 }
@@ -98,7 +98,7 @@ impl Heap {
         self.cells.capacity()
     }
 
-    /// Calls a job, the removal of this name or work, and answers what that did.
+    /// Calls a job, the removal of this name or work, and returns what that did.
     ///
     /// The removal of a cell that no participant reads empties the cell, for its next turn. The removal of a cell that
     /// is read, or that is gone, changes nothing, and work changes nothing.
@@ -331,7 +331,7 @@ impl Heap {
         }
     }
 
-    /// Answers whether there is such a root or field.
+    /// Returns whether there is such a root or field.
     pub fn has_place(&self, access: Access) -> bool
         ensures { result ≡ has_place self.now access }
     {
@@ -342,7 +342,7 @@ impl Heap {
         }
     }
 
-    /// Answers whether each name that the call is given was given before.
+    /// Returns whether each name that the call is given was given before.
     pub fn knows_names(&self, access: Access) -> bool
         ensures { result ≡ knows_names self.now access }
     {
@@ -386,7 +386,7 @@ impl Heap {
         }
     }
 
-    /// Answers whether it is a name that was given.
+    /// Returns whether it is a name that was given.
     pub fn is_removable(&self, name: Option<Name>) -> bool
         ensures { result ≡ is_removable self.now name }
     {
@@ -434,7 +434,7 @@ fn is_same_one(one: Name, other: Name) -> bool
     one.slot() == other.slot() && one.turn() == other.turn()
 }
 
-/// Answers whether the two names are the same.
+/// Returns whether the two names are the same.
 pub fn is_name(one: Name, other: Name) -> bool
     ensures { result ≡ is_name one other }
 {

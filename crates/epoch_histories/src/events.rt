@@ -24,7 +24,7 @@ pub enum Event {
 }
 
 impl Event {
-    /// Answers what the reply of an entry tells, or `None`. A job called at once, under an unprotected guard, is no
+    /// Returns what the reply of an entry tells, or `None`. A job called at once, under an unprotected guard, is no
     /// event.
     pub fn of(entry: &Entry) -> Option<Event>
         ensures { (event : Event) → (result ≡ Some event) ↔ (entry.now.reply ≡ reply_of event) }

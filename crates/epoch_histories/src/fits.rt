@@ -15,7 +15,7 @@ use epoch_cells::Fault;
 use epoch_heap::{Access, Answer};
 use epoch_laws::{Call, Entry, Phase, Reply, Step};
 
-/// Answers whether each reply fits what the entries before it tell.
+/// Returns whether each reply fits what the entries before it tell.
 pub fn each_fits(entries: &[Entry]) -> bool
     ensures { IsTrue result ↔ EachFits entries.now }
 {

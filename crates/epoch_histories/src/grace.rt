@@ -4,7 +4,7 @@ ghost use Rattle.epoch_laws.specs.Grace.{WithdrawsAt, StaysPinned, IsBlocked, Ke
 
 use epoch_laws::{Entry, Reply};
 
-/// Answers whether no job is called while a participant that was pinned at the job's deferral has stayed pinned.
+/// Returns whether no job is called while a participant that was pinned at the job's deferral has stayed pinned.
 ///
 /// It takes no memory. Its time grows with the third power of the number of entries if each ticket is deferred once,
 /// and with the fourth at worst.

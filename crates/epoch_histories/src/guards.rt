@@ -13,42 +13,42 @@ use epoch_laws::Entry;
 /// How many guards of one participant may be out.
 const GUARDS: usize = 64;
 
-/// Answers whether no guard of this participant is counted.
+/// Returns whether no guard of this participant is counted.
 pub fn has_none(entries: &[Entry], participant: u64) -> bool
     ensures { IsTrue result ↔ ((told_of participant entries.now).guards ≡ []) }
 {
     guards_out(entries, participant) == 0
 }
 
-/// Answers whether exactly one guard of this participant is counted.
+/// Returns whether exactly one guard of this participant is counted.
 pub fn has_one(entries: &[Entry], participant: u64) -> bool
     ensures { IsTrue result ↔ (length (told_of participant entries.now).guards ≡ 1) }
 {
     guards_out(entries, participant) == 1
 }
 
-/// Answers whether this guard is the only one of this participant that is counted.
+/// Returns whether this guard is the only one of this participant that is counted.
 pub fn has_only(entries: &[Entry], participant: u64, guard: u64) -> bool
     ensures { IsTrue result ↔ ((told_of participant entries.now).guards ≡ guard ∷ []) }
 {
     guards_out(entries, participant) == 1 && times_out(entries, participant, guard) == 1
 }
 
-/// Answers whether this participant may have one more guard.
+/// Returns whether this participant may have one more guard.
 pub fn has_room(entries: &[Entry], participant: u64) -> bool
     ensures { IsTrue result ↔ (length (told_of participant entries.now).guards < 64) }
 {
     guards_out(entries, participant) < GUARDS
 }
 
-/// Answers whether this guard of this participant is counted.
+/// Returns whether this guard of this participant is counted.
 pub fn has_out(entries: &[Entry], participant: u64, guard: u64) -> bool
     ensures { IsTrue result ↔ (is_out guard (told_of participant entries.now).guards ≡ true) }
 {
     times_out(entries, participant, guard) > 0
 }
 
-/// Answers the least number of no guard of this participant that is counted; 64 where all are.
+/// Returns the least number of no guard of this participant that is counted; 64 where all are.
 pub fn lowest(entries: &[Entry], participant: u64) -> u64
     ensures { result ≡ lowest (told_of participant entries.now).guards }
 {

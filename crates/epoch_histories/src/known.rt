@@ -51,7 +51,7 @@ impl Known {
         }
     }
 
-    /// Answers what these entries tell of this participant.
+    /// Returns what these entries tell of this participant.
     pub fn of(entries: &[Entry], participant: u64) -> Known
         ensures { result ≡ known_of (told_of participant entries.now) }
     {
@@ -62,7 +62,7 @@ impl Known {
         known
     }
 
-    /// Answers what is told of this participant after one more entry.
+    /// Returns what is told of this participant after one more entry.
     pub fn after(self, participant: u64, entry: Entry) -> Known
         ensures { (t : Told) → self ≡ known_of t → result ≡ known_of (told_after participant t entry.step entry.reply) }
     {
@@ -140,7 +140,7 @@ impl Known {
         }
     }
 
-    /// Answers what one more entry does to the guards counted of this participant.
+    /// Returns what one more entry does to the guards counted of this participant.
     pub fn change(self, participant: u64, entry: Entry) -> Change
         ensures { (t : Told) → self ≡ known_of t
             → (told_after participant t entry.step entry.reply).guards ≡ changed result t.guards }

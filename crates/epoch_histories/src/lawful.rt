@@ -16,7 +16,7 @@ use crate::tickets::{calls_after_deferrals, calls_none_twice};
 use epoch_heap::{Access, Answer, Change};
 use epoch_laws::{Call, Entry, Reply, Step};
 
-/// Answers whether a recorded list is lawful:
+/// Returns whether a recorded list is lawful:
 ///
 /// - Each event stands only in a call that may tell it, and as often as it should.
 /// - Each call begins only for a participant that is registered, has no call under way, and whose guards allow it. It
@@ -92,7 +92,7 @@ fn may_accept(before: &[Entry], participant: u64, call: Call) -> bool
         && guards_allow(before, participant, call, known.paused)
 }
 
-/// Answers whether this call has to wait for the guard that is paused.
+/// Returns whether this call has to wait for the guard that is paused.
 pub fn waits(call: Call, paused: Option<u64>) -> bool
     ensures { result ≡ call_waits call paused }
 {

@@ -4,7 +4,7 @@ ghost use Rattle.epoch_laws.specs.Fits.{phase_after, phase_of};
 
 use epoch_laws::{Entry, Phase, Reply, Step};
 
-/// Answers how far the end is after these entries.
+/// Returns how far the end is after these entries.
 pub fn phase_of(entries: &[Entry]) -> Phase
     ensures { result ≡ phase_of entries.now }
 {

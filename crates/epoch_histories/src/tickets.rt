@@ -4,7 +4,7 @@ ghost use Rattle.epoch_laws.specs.Lawful.{CallsNoneTwice, IsCalledBefore, CallsA
 
 use epoch_laws::{Entry, Reply};
 
-/// Answers whether no ticket is called twice. It takes no memory. Its time grows with the square of the number of
+/// Returns whether no ticket is called twice. It takes no memory. Its time grows with the square of the number of
 /// entries.
 pub fn calls_none_twice(entries: &[Entry]) -> bool
     ensures { IsTrue result ↔ CallsNoneTwice entries.now }
@@ -19,7 +19,7 @@ pub fn calls_none_twice(entries: &[Entry]) -> bool
     true
 }
 
-/// Answers whether each ticket that is called was deferred before.
+/// Returns whether each ticket that is called was deferred before.
 pub fn calls_after_deferrals(entries: &[Entry]) -> bool
     ensures { IsTrue result ↔ CallsAfterDeferrals entries.now }
 {

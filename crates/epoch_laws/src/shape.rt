@@ -36,7 +36,7 @@ pub struct Shape {
 }
 
 impl Shape {
-    /// Answers a shape with these numbers of participants, cells, roots and fields, and the usual ones for the rest:
+    /// Returns a shape with these numbers of participants, cells, roots and fields, and the usual ones for the rest:
     /// four places for bags; 64 jobs for each bag and 8 bags for each collection, as in crossbeam-epoch; tags below 8,
     /// as a value of eight bytes has; and 0 for the first epoch and turn.
     pub fn usual(participants: u64, cells: u64, roots: u64, fields: u64) -> Shape
@@ -65,7 +65,7 @@ impl Shape {
         }
     }
 
-    /// Answers whether each number is in its range.
+    /// Returns whether each number is in its range.
     pub fn is_valid(&self) -> bool
         ensures { IsTrue result ↔ IsValid self.now }
     {

@@ -7,7 +7,7 @@ use epoch_heap::{Access, Answer, Ptr};
 /// What a participant is asked to do. A guard is its number, or `None` for an unprotected guard.
 #[derive(Clone, Copy, Debug, PartialEq, Eq)]
 pub enum Call {
-    /// Pins, and answers the new guard's number.
+    /// Pins, and returns the new guard's number.
     Pin,
     /// Gives the guard back.
     Unpin(Option<u64>),

@@ -26,7 +26,7 @@ impl From<Ending> for Stop {
     }
 }
 
-/// Does the lines of a script in a new world, as `epoch_script::run` does, and answers all steps. Nothing is printed,
+/// Does the lines of a script in a new world, as `epoch_script::run` does, and returns all steps. Nothing is printed,
 /// and `epoch` and `word` do nothing.
 pub fn record<R: BufRead>(alloc: Global, script: &mut Script<'_, R>) -> Result<Vec<Moment>, Stop> {
     if !script.advance()? {

@@ -23,7 +23,7 @@ pub(crate) fn stays_clear(clear: bool, seal: u64, word: u64) -> bool
 }
 
 impl<T> Marked<T> {
-    /// Looks at each post once. Answers a seal: each guard that had a loan is over, or is of an epoch before it.
+    /// Looks at each post once. Returns a seal: each guard that had a loan is over, or is of an epoch before it.
     pub fn seal(self, posts: &[Post]) -> (u64, Marked<T>)
         requires { self.right ≡ 1 }
         ensures sealed { EachSeen (is_sealed result.0) (logs_of posts.now) result.1.seen }

@@ -96,7 +96,7 @@ impl<T> Lending<T> {
         (found, glance)
     }
 
-    /// Marks the value, by one exchange: no look finds it from then on, and guards that have found it keep it. Answers
+    /// Marks the value, by one exchange: no look finds it from then on, and guards that have found it keep it. Returns
     /// the word that it found and, only if that was `PRESENT`, what the mark took out.
     pub fn mark(&self, at: *const T) -> (u64, Marked<T>)
         requires { at ≡ self.now.at }

@@ -106,7 +106,7 @@ impl Post {
     }
 
     /// Pins in this epoch, by one store. The right to pin must be that of this post, and the epoch less than 2^63.
-    /// Answers the right to end the pin, and all of its guards as one.
+    /// Returns the right to end the pin, and all of its guards as one.
     pub fn pin(&self, unpinned: Unpinned, epoch: u64) -> (Pin, Guard)
         requires of_post { (unpinned.log ≡ self.now.log) × (unpinned.state ≡ self.now.state) }
         requires within { epoch < 2 ^ 63 }
@@ -117,7 +117,7 @@ impl Post {
         self.publish(unpinned, epoch, 2 * epoch + 1)
     }
 
-    /// Ends the pin, by one store. All of its guards must be here again as one. Answers the right to pin again.
+    /// Ends the pin, by one store. All of its guards must be here again as one. Returns the right to pin again.
     pub fn unpin(&self, pin: Pin, guard: Guard) -> Unpinned
         requires of_post { (pin.log ≡ self.now.log) × (pin.state ≡ self.now.state) }
         requires all_here { (guard.atom ≡ pin.atom) × (guard.count ≡ 2 ^ 63) }
@@ -132,7 +132,7 @@ impl Post {
     }
 
     /// One plain load. It shows that each guard of this post that had a loan is over, except those of the epoch found.
-    /// Answers the word found, and what was marked, with this look added to what was seen.
+    /// Returns the word found, and what was marked, with this look added to what was seen.
     pub fn look<T>(&self, marked: Marked<T>) -> (u64, Marked<T>)
         requires { marked.right ≡ 1 }
         ensures seen { result.1.seen ≡ (self.now.log, result.0) ∷ marked.seen }
@@ -145,7 +145,7 @@ impl Post {
     }
 
     /// One plain load, for all loans of a watch. It shows that each guard of this post that had one is over, except
-    /// those of the epoch found. Answers the word found, and the watch, with this look added to what was seen.
+    /// those of the epoch found. Returns the word found, and the watch, with this look added to what was seen.
     pub fn look_for(&self, watch: Watch) -> (u64, Watch)
         ensures seen { result.1.seen ≡ (self.now.log, result.0) ∷ watch.seen }
         ensures same { result.1.loans ≡ watch.loans }

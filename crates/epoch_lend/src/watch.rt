@@ -54,7 +54,7 @@ impl Watch {
         Part { ptr: at }
     }
 
-    /// Looks at each post once. Answers a seal: each guard that had a loan is over, or is of an epoch before it.
+    /// Looks at each post once. Returns a seal: each guard that had a loan is over, or is of an epoch before it.
     pub fn seal(self, posts: &[Post]) -> (u64, Watch)
         ensures sealed { EachSeen (is_sealed result.0) (logs_of posts.now) result.1.seen }
         ensures same { result.1.loans ≡ self.loans }
@@ -70,7 +70,7 @@ impl Watch {
         (seal, watch)
     }
 
-    /// Looks at each post once more. Answers whether each is unpinned, or in the seal's epoch or a later one: then
+    /// Looks at each post once more. Returns whether each is unpinned, or in the seal's epoch or a later one: then
     /// each guard that had a loan is over.
     pub fn scan(self, posts: &[Post], seal: u64) -> (bool, Watch)
         requires lent { Within (logs_of posts.now) self.loans }

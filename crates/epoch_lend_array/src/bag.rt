@@ -125,7 +125,7 @@ impl<'c, J: PostSet, T> SealedBag<'c, J, T> {
 }
 
 impl<'c, J: PostSet, T> ClearBag<'c, J, T> {
-    /// Takes the value of the last removal out of its slot, which is empty at its next turn from then on, and answers
+    /// Takes the value of the last removal out of its slot, which is empty at its next turn from then on, and returns
     /// the value with its name. `None`: each value was taken out.
     pub fn next(&mut self) -> Option<(T, Name<T>)>
         ensures which { MatchOption result (self.old.removals.items ≡ [])

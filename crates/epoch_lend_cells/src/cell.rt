@@ -87,7 +87,7 @@ impl<'p, T: Drop> LendingCell<'p, T> {
         self.last_turn
     }
 
-    /// Places a value at this turn, and answers its name. Hands the value back where the cell isn't empty at this turn,
+    /// Places a value at this turn, and returns its name. Hands the value back where the cell isn't empty at this turn,
     /// or the turn is past the cell's last.
     pub fn place(&self, turn: u64, value: T) -> Result<Placed<'_, 'p, T>, T>
         ensures placed { IfOk result (λ placed. (placed.turn ≡ turn) × (placed.cell.now ≡ self.now)

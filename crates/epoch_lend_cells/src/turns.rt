@@ -145,7 +145,7 @@ impl<T> Turns<T> {
         (found, claim)
     }
 
-    /// Shows the value of a claimed place to guards, by one store of the word, and answers its name.
+    /// Shows the value of a claimed place to guards, by one store of the word, and returns its name.
     pub fn show(&self, filled: Filled<T>, turn: u64, word: u64) -> Name<T>
         requires of_place { (filled.state ≡ self.now.state) × (filled.at ≡ self.now.at) }
         requires of_turn { (filled.word ≡ 4 * turn + 1) × (word ≡ 4 * turn + 2) }
@@ -200,7 +200,7 @@ impl<T> Turns<T> {
     }
 
     /// Marks the value of the name's turn, by one exchange: no look finds it from then on, and guards that have found
-    /// it keep it. Answers the word that it found and, only if that was the word of its turn, what the mark took out.
+    /// it keep it. Returns the word that it found and, only if that was the word of its turn, what the mark took out.
     pub fn mark(
         &self,
         name: &Name<T>,

@@ -61,7 +61,7 @@ impl SortedList {
         }
     }
 
-    /// Answers whether the key is in the list, by looking at no more than `steps` entries. It writes nothing.
+    /// Returns whether the key is in the list, by looking at no more than `steps` entries. It writes nothing.
     ///
     /// `TriesOut`: the list is longer.
     #[inline]
@@ -84,7 +84,7 @@ impl SortedList {
         Err(Fault::TriesOut)
     }
 
-    /// Inserts the key, and answers whether it is new. No other thread may change the list meanwhile.
+    /// Inserts the key, and returns whether it is new. No other thread may change the list meanwhile.
     ///
     /// `CellsFull`, `TriesOut`: nothing was inserted.
     pub fn insert<J: PostSet, W>(
@@ -107,7 +107,7 @@ impl SortedList {
         }
     }
 
-    /// Removes the key, and answers whether it was there. No other thread may change the list meanwhile. A reader that
+    /// Removes the key, and returns whether it was there. No other thread may change the list meanwhile. A reader that
     /// stands at the entry goes on from there, and has it for as long as its guard is out.
     ///
     /// The guard must be the handle's. `NoMemory`, `BagsFull`, `TriesOut`: nothing was removed.

@@ -30,7 +30,7 @@ impl<'c, 's, J: PostSet, T, W> fmt::Debug for LendingGuard<'c, 's, J, T, W> {
 }
 
 impl<'c, 's, J: PostSet, T, W> LendingGuard<'c, 's, J, T, W> {
-    /// Answers the collector's guard, under which pointers are loaded and exchanged.
+    /// Returns the collector's guard, under which pointers are loaded and exchanged.
     #[inline(always)]
     pub fn guard(&self) -> &Guard<'c, T, W>
         ensures { result.now ≡ self.now.guard }
@@ -49,7 +49,7 @@ impl<'c, 's, J: PostSet, T, W> LendingGuard<'c, 's, J, T, W> {
         }
     }
 
-    /// Does what [`LendingGuard::get`] does, and answers a witness, too, of which value was placed under this name.
+    /// Does what [`LendingGuard::get`] does, and returns a witness, too, of which value was placed under this name.
     #[inline(always)]
     pub fn look<'g>(&'g self, pointer: Shared<'_, T>) -> Option<Sight<'g, T>>
         ensures named { IfSome result (λ sight. IfSome pointer.entry.name
@@ -61,7 +61,7 @@ impl<'c, 's, J: PostSet, T, W> LendingGuard<'c, 's, J, T, W> {
 }
 
 impl<'c, 's, J: PostSet, T: Drop, W> LendingGuard<'c, 's, J, T, W> {
-    /// Places the value in a cell, and answers the pointer to it, with tag 0.
+    /// Places the value in a cell, and returns the pointer to it, with tag 0.
     ///
     /// `CellsFull`: every cell was seen in use. The value is handed back.
     pub fn place<'g>(&'g self, value: T) -> Result<Shared<'g, T>, Refused<T>>
@@ -75,7 +75,7 @@ impl<'c, 's, J: PostSet, T: Drop, W> LendingGuard<'c, 's, J, T, W> {
         }
     }
 
-    /// Does what [`LendingGuard::place`] does, and answers a witness, too, that this value was placed under the
+    /// Does what [`LendingGuard::place`] does, and returns a witness, too, that this value was placed under the
     /// pointer's name.
     pub fn place_with_witness<'g>(
         &'g self,

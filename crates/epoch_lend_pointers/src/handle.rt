@@ -34,26 +34,26 @@ impl<'c, 'q, 's, J: PostSet, T> fmt::Debug for LendingHandle<'c, 'q, 's, J, T> {
 pub type GuardOf<'c, 'q, 's, J, T> = LendingGuard<'c, 's, J, T, Marking<'q, 's, J, T>>;
 
 impl<'c, 'q, 's, J: PostSet, T> LendingHandle<'c, 'q, 's, J, T> {
-    /// Answers the lender whose values its guards lend.
+    /// Returns the lender whose values its guards lend.
     pub fn lender(&self) -> &'q Lender<'s, J, T> {
         self.kept.lender()
     }
 
-    /// Answers whether it can be pinned: no guard of it that lends is out, and one more can be counted.
+    /// Returns whether it can be pinned: no guard of it that lends is out, and one more can be counted.
     pub fn can_pin(&self) -> bool
         ensures { IsTrue result ↔ (IsSome self.now.reader × (self.now.handle.machine.guards + 1 < 2 ^ 32)) }
     {
         self.reader.is_some() && self.handle.can_pin()
     }
 
-    /// Answers how many of its guards are out, nested ones too.
+    /// Returns how many of its guards are out, nested ones too.
     pub fn guards_out(&self) -> u32
         ensures { result ≡ self.now.handle.machine.guards }
     {
         self.handle.guards_out()
     }
 
-    /// Answers whether this is a guard of this participant, in the way of `LocalHandle::owns`.
+    /// Returns whether this is a guard of this participant, in the way of `LocalHandle::owns`.
     #[inline(always)]
     pub fn owns(&self, guard: &GuardOf<'_, 'q, 's, J, T>) -> bool
         ensures value { IsTrue result ↔ Owns self.now.handle guard.now.guard }
@@ -126,7 +126,7 @@ impl<'c, 'q, 's, J: PostSet, T: Drop> LendingHandle<'c, 'q, 's, J, T> {
         }
     }
 
-    /// Pins the participant, and answers a guard that lends. First the collector's handle pins. Then the reader pins
+    /// Pins the participant, and returns a guard that lends. First the collector's handle pins. Then the reader pins
     /// at its post: it loads the clock, and stores what it found.
     ///
     /// [`LendingHandle::can_pin`] must hold.

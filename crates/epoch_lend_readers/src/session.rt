@@ -18,7 +18,7 @@ pub trait Session {
         ensures { answers self result };
 }
 
-/// Makes a set of this many posts, and answers what the session makes of it. It fails only if memory is refused.
+/// Makes a set of this many posts, and returns what the session makes of it. It fails only if memory is refused.
 pub fn with_posts<S: Session + Drop>(
     alloc: Global,
     count: usize,

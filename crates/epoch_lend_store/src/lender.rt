@@ -66,7 +66,7 @@ impl<'s, J: PostSet, T> Lender<'s, J, T> {
         }
     }
 
-    /// Answers the cells.
+    /// Returns the cells.
     #[inline(always)]
     pub fn cells(&self) -> &'s LentCells<J, T>
         ensures { result.now ≡ self.now.cells.now }
@@ -74,7 +74,7 @@ impl<'s, J: PostSet, T> Lender<'s, J, T> {
         self.cells
     }
 
-    /// Answers how many bags of retired values wait for guards. Another thread may change this at once.
+    /// Returns how many bags of retired values wait for guards. Another thread may change this at once.
     pub fn waiting(&self) -> usize {
         self.waiting.load(SeqCst)
     }
@@ -174,7 +174,7 @@ impl<'s, J: PostSet, T: Drop> Lender<'s, J, T> {
         true
     }
 
-    /// Drops the values that wait, and those that are still in the cells. Answers how many.
+    /// Drops the values that wait, and those that are still in the cells. Returns how many.
     ///
     /// Each collector of this lender must have ended. Where a reader is still pinned, values that it may have are left
     /// where they are, and so is a value for whose removal there is no memory.

@@ -62,7 +62,7 @@ impl<J: PostSet, T: Drop> LentCells<J, T> {
         }
     }
 
-    /// Places the value in the first cell that is seen empty, and answers the name that it has from then on.
+    /// Places the value in the first cell that is seen empty, and returns the name that it has from then on.
     ///
     /// `CellsFull`: every cell was seen in use, or past its last turn. The value is handed back.
     pub fn place(&self, value: T) -> Result<Placed<T>, Refused<T>>
@@ -136,7 +136,7 @@ fn starts_for(alloc: Global, count: usize, cells: usize) -> Result<Vec<AtomicUsi
 }
 
 impl<J: PostSet, T> LentCells<J, T> {
-    /// Answers how many cells there are.
+    /// Returns how many cells there are.
     pub fn capacity(&self) -> usize
         ensures value { result ≡ length self.now.cells.slots.items }
         ensures within { result ≤ MOST_SLOT }
@@ -144,7 +144,7 @@ impl<J: PostSet, T> LentCells<J, T> {
         self.cells.len()
     }
 
-    /// Answers how many readers can be registered at a time.
+    /// Returns how many readers can be registered at a time.
     pub fn readers(&self) -> usize
         ensures { result ≡ length J.posts }
     {

@@ -32,7 +32,7 @@ impl<'q, 's, J: PostSet, T> Retired<'q, 's, J, T> {
         Ok(Retired { lender, spots, bag })
     }
 
-    /// Answers the lender.
+    /// Returns the lender.
     #[inline(always)]
     pub fn lender(&self) -> &'q Lender<'s, J, T>
         ensures { result.now ≡ self.now.lender.now }
@@ -40,7 +40,7 @@ impl<'q, 's, J: PostSet, T> Retired<'q, 's, J, T> {
         self.lender
     }
 
-    /// Answers how many there are.
+    /// Returns how many there are.
     pub fn len(&self) -> usize
         ensures { result ≡ vec_len self.now.spots }
     {

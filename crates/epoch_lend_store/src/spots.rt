@@ -7,7 +7,7 @@ use epoch_lend_array::cells::Spot;
 /// The last turn of a cell whose values have names: a name's turn has 32 bits.
 pub const LAST_TURN: u64 = 4_294_967_295;
 
-/// Answers where the value of this name is.
+/// Returns where the value of this name is.
 #[inline(always)]
 pub fn spot_of(name: Name) -> Spot
     ensures slot { result.slot ≡ name.slot - 1 }
@@ -19,7 +19,7 @@ pub fn spot_of(name: Name) -> Spot
     }
 }
 
-/// Answers the name of the value at this spot.
+/// Returns the name of the value at this spot.
 #[inline(always)]
 pub fn name_of(spot: Spot) -> Name
     requires slot { spot.slot < MOST_SLOT }

@@ -154,7 +154,7 @@ impl<J> Model for Machine<J> {
 }
 
 impl<J: Default + Drop> Machine<J> {
-    /// Answers the machine of a new participant: no guard out, an empty bag and no pin so far.
+    /// Returns the machine of a new participant: no guard out, an empty bag and no pin so far.
     pub fn new(sizes: Sizes) -> Machine<J>
         requires { IsSized sizes }
         ensures { result ≡ fresh sizes }
@@ -174,21 +174,21 @@ impl<J: Default + Drop> Machine<J> {
 }
 
 impl<J> Machine<J> {
-    /// Answers how many guards are counted.
+    /// Returns how many guards are counted.
     pub fn guards(&self) -> u32
         ensures { result ≡ self.now.guards }
     {
         self.guards
     }
 
-    /// Answers the number that was published last.
+    /// Returns the number that was published last.
     pub fn published(&self) -> u64
         ensures { result ≡ self.now.published }
     {
         self.published
     }
 
-    /// Answers whether the bag takes a further job without a put.
+    /// Returns whether the bag takes a further job without a put.
     pub fn has_room(&self) -> bool
         ensures room { IsTrue result ↔ (length self.now.held < self.now.sizes.bag_jobs) }
         ensures full { result ≡ false → length self.now.held ≡ self.now.sizes.bag_jobs }
@@ -196,14 +196,14 @@ impl<J> Machine<J> {
         !self.held.is_full()
     }
 
-    /// Answers whether the put of the action under way, or of the last one, found every place occupied.
+    /// Returns whether the put of the action under way, or of the last one, found every place occupied.
     pub fn found_full(&self) -> bool
         ensures { result ≡ self.now.full }
     {
         self.full
     }
 
-    /// Answers whether the held bag has no job.
+    /// Returns whether the held bag has no job.
     #[inline(always)]
     pub fn holds_none(&self) -> bool
         ensures { result ≡ is_empty self.now.held }
@@ -211,7 +211,7 @@ impl<J> Machine<J> {
         self.held.is_empty()
     }
 
-    /// Answers whether a step of a collection is asked for.
+    /// Returns whether a step of a collection is asked for.
     #[inline(always)]
     pub fn is_taking(&self) -> bool
         ensures { result ≡ is_taking self.now.stage }
@@ -224,7 +224,7 @@ impl<J> Machine<J> {
 }
 
 impl<J: Drop> Machine<J> {
-    /// Answers what is asked next: `None` where no action is under way, and at an action's end.
+    /// Returns what is asked next: `None` where no action is under way, and at an action's end.
     pub fn ask(&self) -> Option<Ask>
         ensures value { result ≡ asks self.now }
         ensures within { IfSome result (AskFits self.now.sizes) }

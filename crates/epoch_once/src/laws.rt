@@ -4,7 +4,7 @@ ghost use Rattle.std.specs.Prelude.{◌≡◌, ◌<◌, IsSome, IfSome};
 use crate::take_once::TakeOnce;
 use std::sync::ledger::{Ledger, Share};
 
-/// Takes twice from a slot whose value is all parts of a ledger, and answers what the takes gave.
+/// Takes twice from a slot whose value is all parts of a ledger, and returns what the takes gave.
 ///
 /// A ledger's parts exist only once, so two values that have all of them can't both be there. This shows that no two
 /// takes give a value: `take` treats every type of value alike.

@@ -76,7 +76,7 @@ impl<V> TakeOnce<V> {
         }
     }
 
-    /// Answers the value. `None`: it was taken before.
+    /// Returns the value. `None`: it was taken before.
     pub fn into_inner(self) -> Option<V>
         ensures { IfSome result (λ value. self ≡ Some value) }
     {

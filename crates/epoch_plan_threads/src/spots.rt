@@ -12,7 +12,7 @@ pub trait Spots {
     /// below shows it.
     ghost does: { Self → Access → Reply → Self → Type 0 };
 
-    /// Makes this access, and answers what it gave. The guard that the access names is the one of the call.
+    /// Makes this access, and returns what it gave. The guard that the access names is the one of the call.
     ///
     /// Only a placing is refused. `NoMemory`: an allocation was refused. `CellsFull`: every slot was seen used or
     /// retired.

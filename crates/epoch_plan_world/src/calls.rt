@@ -9,7 +9,7 @@ use epoch_heap::Ptr;
 use epoch_laws::{Call, Reply};
 use epoch_plans::{PhaseMachine, Plan, Wish};
 
-/// Answers the call of the world that a participant begins by itself.
+/// Returns the call of the world that a participant begins by itself.
 pub fn plain_call(call: PlainCall) -> Call
     ensures { result ≡ plain_call call }
 {
@@ -34,7 +34,7 @@ fn to(node: Name) -> Ptr
     }
 }
 
-/// Answers the call of the world that is wished for, under this guard. An answer is none.
+/// Returns the call of the world that is wished for, under this guard. An answer is none.
 pub fn call_wished<A: Copy>(guard: u64, wish: Wish<A>) -> Call
     ensures { result ≡ call_wished guard wish }
 {
@@ -47,7 +47,7 @@ pub fn call_wished<A: Copy>(guard: u64, wish: Wish<A>) -> Call
     }
 }
 
-/// Answers what follows from the reply to the begin of a phase's call.
+/// Returns what follows from the reply to the begin of a phase's call.
 pub fn plan_begun<P: PhaseMachine>(guard: u64, phase: P, reply: Reply) -> Plan<P>
     ensures { result ≡ plan_begun guard phase (P.deed guard phase) reply }
 {
@@ -57,7 +57,7 @@ pub fn plan_begun<P: PhaseMachine>(guard: u64, phase: P, reply: Reply) -> Plan<P
     }
 }
 
-/// Answers what follows from the reply to a further step of a phase's call.
+/// Returns what follows from the reply to a further step of a phase's call.
 pub fn plan_gone<P: PhaseMachine>(guard: u64, phase: P, reply: Reply) -> Plan<P>
     ensures { result ≡ plan_gone guard phase (P.deed guard phase) reply }
 {
@@ -67,7 +67,7 @@ pub fn plan_gone<P: PhaseMachine>(guard: u64, phase: P, reply: Reply) -> Plan<P>
     }
 }
 
-/// Answers what is told of a step of a structure's call: its event, or `Stepped`.
+/// Returns what is told of a step of a structure's call: its event, or `Stepped`.
 pub fn told(reply: Reply) -> Reply
     ensures { result ≡ reply_told reply }
 {

@@ -31,11 +31,11 @@ pub trait PhaseMachine: Copy {
     /// What each phase does under a guard, and which phase follows from each reply.
     ghost deed: { ℕ → Self → Deed Self Self.Answer };
 
-    /// Answers what this phase asks for under this guard.
+    /// Returns what this phase asks for under this guard.
     fn wish(self, guard: u64) -> Wish<Self::Answer>
         ensures { result ≡ wish_of (deed guard self) };
 
-    /// Answers the phase after this one, whose call ended with this reply. It is the same under every guard.
+    /// Returns the phase after this one, whose call ended with this reply. It is the same under every guard.
     fn hear(self, reply: Reply) -> Self
         ensures { (guard : ℕ) → result ≡ after_by self (deed guard self) reply };
 }
@@ -51,7 +51,7 @@ pub trait Works: PhaseMachine {
     /// The phase in which a call begins, which depends on whether the held bag has room for a further job.
     ghost first: { Self.Work → Bool → Self };
 
-    /// Answers the phase in which a call begins.
+    /// Returns the phase in which a call begins.
     fn first(work: Self::Work, has_room: bool) -> Self
         ensures first { result ≡ first work has_room }
         ensures starts { starts result };

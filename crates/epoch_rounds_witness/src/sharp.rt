@@ -10,7 +10,7 @@ use epoch_laws::{Call, Deferral, Step};
 use epoch_world::World;
 use std::alloc::Global;
 
-/// Takes steps in a world, and answers them.
+/// Takes steps in a world, and returns them.
 ///
 /// If the world is new, of two participants, in epoch 0 and with room for a bag, the steps end with a whole collection
 /// for an epoch one past the seal of a bag. In that bag is a job that a participant other than the one that deferred it

@@ -10,7 +10,7 @@ ghost use Rattle.epoch_script.specs.Accesses.{SpellsTries, SpellsUnder, SpellsUp
 use crate::words::{cut, read_guard, read_number, read_ptr, read_spot};
 use epoch_heap::{Access, Change, Ptr, Spot, Update};
 
-/// Answers what a call on cells and pointers says, or `None` where it is none of the grammar.
+/// Returns what a call on cells and pointers says, or `None` where it is none of the grammar.
 pub fn read_access(text: &str) -> Option<Access>
     ensures { ReadsText SpellsAccess text.now result }
 {

@@ -33,7 +33,7 @@ pub enum Command {
     Word(u64),
 }
 
-/// Answers what a line says, or `None` where it is no line of the grammar.
+/// Returns what a line says, or `None` where it is no line of the grammar.
 pub fn read_command(line: &str) -> Option<Command>
     ensures { ReadsText SpellsCommand line.now result }
 {
@@ -108,7 +108,7 @@ fn read_call(text: &str) -> Option<Call>
     }
 }
 
-/// Answers the shape that a line says, or `None` where it is none.
+/// Returns the shape that a line says, or `None` where it is none.
 #[tactic(auto, using(crate::proofs::SameSizes::said_shape_is_valid))]
 pub fn read_shape(line: &str) -> Option<Shape>
     ensures { ReadsText SpellsShape line.now result }

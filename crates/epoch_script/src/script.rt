@@ -36,7 +36,7 @@ pub enum Ending {
 }
 
 impl Ending {
-    /// Answers the exit status that tells of it.
+    /// Returns the exit status that tells of it.
     pub fn status(self) -> u8
         ensures { result ≡ status_of self }
     {
@@ -81,7 +81,7 @@ pub fn run<R: BufRead, A: Write, F: Write>(
     tell_ending(ending, faults)
 }
 
-/// Tells `faults` of a line that isn't what it should be, and answers how the run ends: as given, unless telling fails.
+/// Tells `faults` of a line that isn't what it should be, and returns how the run ends: as given, unless telling fails.
 pub fn tell_ending<F: Write>(ending: Ending, faults: &mut F) -> Ending {
     after_telling(ending, tell(ending, faults))
 }
@@ -165,7 +165,7 @@ impl<R: BufRead> Script<'_, R> {
         str::from_utf8(&self.line).ok()
     }
 
-    /// Answers the shape that the line says. `NotAShape`: it says none.
+    /// Returns the shape that the line says. `NotAShape`: it says none.
     pub fn shape(&self) -> Result<Shape, Ending>
         ensures ok { IfOk result (λ shape. SpellsShape shape self.now.line.items) }
         ensures says { (shape : Shape) → IsUtf8 self.now.line.items
@@ -177,7 +177,7 @@ impl<R: BufRead> Script<'_, R> {
         read_shape(text).ok_or(fault)
     }
 
-    /// Answers what the line asks for. `NotAStep`: it asks for nothing.
+    /// Returns what the line asks for. `NotAStep`: it asks for nothing.
     pub fn command(&self) -> Result<Command, Ending>
         ensures ok { IfOk result (λ command. SpellsCommand command self.now.line.items) }
         ensures says { (command : Command) → IsUtf8 self.now.line.items

@@ -13,7 +13,7 @@ pub struct Size {
 }
 
 impl Size {
-    /// Answers how many jobs the run takes: one for each round of each thread.
+    /// Returns how many jobs the run takes: one for each round of each thread.
     pub fn jobs(self) -> u64
         ensures product { result ≡ self.threads * self.rounds }
         ensures few { result ≤ 4096 }

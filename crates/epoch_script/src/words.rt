@@ -8,7 +8,7 @@ ghost use Rattle.epoch_script.specs.Words.{behind, first_word, others};
 use epoch_cells::{MOST_SLOT, Name};
 use epoch_heap::{Ptr, Spot};
 
-/// Answers the number that decimal digits write, and no other text; `None` also above `2^64 - 1`.
+/// Returns the number that decimal digits write, and no other text; `None` also above `2^64 - 1`.
 pub fn read_number(text: &str) -> Option<u64>
     ensures { ReadsText SpellsNumber text.now result }
 {
@@ -18,7 +18,7 @@ pub fn read_number(text: &str) -> Option<u64>
     text.parse().ok()
 }
 
-/// Answers the number that the first word writes, and what stands behind its space.
+/// Returns the number that the first word writes, and what stands behind its space.
 pub fn read_number_before(text: &str) -> Option<(u64, &str)>
     ensures { MatchOption result ((number : ℕ) (rest : List ℕ) → ¬ SpellsNumberBefore number rest text.now)
         (λ read. SpellsNumberBefore read.0 read.1.now text.now) }
@@ -124,7 +124,7 @@ fn read_field(text: &str) -> Option<(Name, u64)>
     Some((read_name(name)?, read_number(field)?))
 }
 
-/// Answers the first word of a text, and what stands behind its space; `None` after the last word.
+/// Returns the first word of a text, and what stands behind its space; `None` after the last word.
 pub fn cut(text: &str) -> (&str, Option<&str>)
     ensures first { result.0.now ≡ first_word text.now }
     ensures others { MatchOption result.1 (others text.now ≡ None) (λ rest. others text.now ≡ Some rest.now) }

@@ -5,7 +5,7 @@ ghost use Rattle.epoch_structures.specs.Serving.{ServesUnder};
 
 use epoch_handles::{Guard, LocalHandle, home_of};
 
-/// Answers whether the guard is of the collector with this number, also if the guard is unprotected.
+/// Returns whether the guard is of the collector with this number, also if the guard is unprotected.
 ///
 /// A read-only call of a structure is given a guard and no handle. By this it can tell a guard of another collector.
 #[inline(always)]
@@ -15,7 +15,7 @@ pub fn is_under<T, W>(id: u64, guard: &Guard<'_, T, W>) -> bool
     home_of(guard).id == id
 }
 
-/// Answers whether the guard is one that the handle has out, and both are of the collector with this number.
+/// Returns whether the guard is one that the handle has out, and both are of the collector with this number.
 ///
 /// The answer is `false` for an unprotected guard, which no handle has out.
 #[inline(always)]

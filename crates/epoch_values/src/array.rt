@@ -32,14 +32,14 @@ impl<E: Drop> Array<E> {
         Ok(Array { elements })
     }
 
-    /// Answers how many elements there are, present or not.
+    /// Returns how many elements there are, present or not.
     pub fn len(&self) -> usize
         ensures { result ≡ vec_len self.now.elements }
     {
         self.elements.len()
     }
 
-    /// Answers the element at this index. `None`: it isn't there, or the index is at or past [`Array::len`].
+    /// Returns the element at this index. `None`: it isn't there, or the index is at or past [`Array::len`].
     pub fn get(&self, index: usize) -> Option<&E>
         ensures value { (element : _) → slice_get self.now.elements.items index ≡ Some (Some element)
             → IsSomeAnd result (λ found. found.now ≡ element) }
@@ -49,7 +49,7 @@ impl<E: Drop> Array<E> {
         self.elements.get(index)?.as_ref()
     }
 
-    /// Puts the element at this index, and answers the one before.
+    /// Puts the element at this index, and returns the one before.
     ///
     /// `Err`: the index is at or past [`Array::len`]. The element comes back, and nothing was changed.
     pub fn set(&mut self, index: usize, element: E) -> Result<Option<E>, E>

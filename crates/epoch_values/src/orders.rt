@@ -25,11 +25,11 @@ pub trait CompareAndSetOrdering {
 
     ghost failure_order: { Self → Ordering };
 
-    /// Answers the ordering of an exchange that is won.
+    /// Returns the ordering of an exchange that is won.
     fn success(&self) -> Ordering
         ensures { result ≡ success_order self.now };
 
-    /// Answers the ordering of an exchange that is lost.
+    /// Returns the ordering of an exchange that is lost.
     fn failure(&self) -> Ordering
         ensures { result ≡ failure_order self.now };
 }

@@ -42,7 +42,7 @@ pub trait Pointable {
     ghost is_small: { log ≤ 8 };
 }
 
-/// Answers the tag modulo the alignment, as the byte that a word has for it.
+/// Returns the tag modulo the alignment, as the byte that a word has for it.
 #[inline(always)]
 pub fn tag_of<T: Pointable>(tag: usize) -> u8
     ensures below { result < T.ALIGN }

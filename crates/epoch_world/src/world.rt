@@ -147,7 +147,7 @@ impl<S: BagStore<Job = Deferral>> World<S> {
         })
     }
 
-    /// Takes these steps, one after the other, and answers one reply for each.
+    /// Takes these steps, one after the other, and returns one reply for each.
     ///
     /// `NoMemory`: there was no memory for the replies, and no step was taken. The laws hold of this list together with
     /// every earlier run that leads from a new world to the state before it: lists that are given one after the other
@@ -217,7 +217,7 @@ impl<S: BagStore<Job = Deferral>> World<S> {
         Ok(replies)
     }
 
-    /// Begins this participant's call, goes on until it ends, and answers a reply for each step.
+    /// Begins this participant's call, goes on until it ends, and returns a reply for each step.
     ///
     /// A call that is refused at once has one reply. `NoMemory`: there was no memory for the replies, and no step was
     /// taken. The laws hold of these steps together with every earlier run, as for [`World::run`].
@@ -301,7 +301,7 @@ impl<S: BagStore<Job = Deferral>> World<S> {
         Ok(replies)
     }
 
-    /// Takes one step, and answers its reply. It takes no memory.
+    /// Takes one step, and returns its reply. It takes no memory.
     pub fn step(&mut self, step: Step) -> Reply
         ensures takes { TakesStep self.old step result self.new }
         // A Go makes at most one step of the store, as the store says of its own steps.
@@ -317,14 +317,14 @@ impl<S: BagStore<Job = Deferral>> World<S> {
         }
     }
 
-    /// Answers the present epoch. It is no step.
+    /// Returns the present epoch. It is no step.
     pub fn epoch(&self) -> u64
         ensures { result ≡ self.now.epoch }
     {
         self.common.epoch
     }
 
-    /// Answers the word of the participant at a position, or `None` past the table. It is no step.
+    /// Returns the word of the participant at a position, or `None` past the table. It is no step.
     pub fn word(&self, position: u64) -> Option<u64>
         ensures { MatchOption result (length self.now.seats ≤ position)
             (λ word. (position < length self.now.seats) × (word ≡ word_number (position_word self.now position))) }
@@ -333,7 +333,7 @@ impl<S: BagStore<Job = Deferral>> World<S> {
         Some(number_of(seat.word()))
     }
 
-    /// Answers whether the held bag of the participant at a position takes a further job without being put first, or
+    /// Returns whether the held bag of the participant at a position takes a further job without being put first, or
     /// `None` where no participant is registered. It is no step.
     pub fn has_room(&self, position: u64) -> Option<bool>
         ensures value { MatchOption result (position_word self.now position ≡ Word.Free)
@@ -360,7 +360,7 @@ impl<S: BagStore<Job = Deferral>> World<S> {
         Reply::Registered(index as u64)
     }
 
-    /// Answers the fault that refuses this call of the participant at a position now, or `None`. It is no step.
+    /// Returns the fault that refuses this call of the participant at a position now, or `None`. It is no step.
     pub fn refusal(&self, position: u64, call: Call) -> Option<Fault>
         ensures { result ≡ refusal call (seat_of self.now position) self.now.tickets self.now.heap }
     {

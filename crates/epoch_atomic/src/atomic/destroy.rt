@@ -28,7 +28,7 @@ impl<'g, T> Shared<'g, T> {
 
 /// Gives a [`Guard`] the call `destroy_now`.
 pub trait DestroyNow<T> {
-    /// Destroys the value at once, under an unprotected guard, and answers what that did: a value that another thread
+    /// Destroys the value at once, under an unprotected guard, and returns what that did: a value that another thread
     /// reads or writes stays.
     ///
     /// No other thread may use the structure. If the guard is protecting, or the pointer is null or was loaded under a

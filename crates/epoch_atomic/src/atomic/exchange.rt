@@ -38,7 +38,7 @@ pub enum ExchangeFault<'g, T, P> {
 }
 
 impl<T: Pointable, A: SharedWord> Atomic<T, A> {
-    /// Stores `new` if the pointer is `current`, with the same tag, and answers the pointer that it wrote.
+    /// Stores `new` if the pointer is `current`, with the same tag, and returns the pointer that it wrote.
     ///
     /// An owned value is placed in a cell first, and is taken back if the exchange is lost. An [`ExchangeFault`] says
     /// all that the call left. Each pointer that is returned is under this guard. The exchange acts as `SeqCst`,

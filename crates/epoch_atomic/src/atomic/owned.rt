@@ -21,7 +21,7 @@ pub struct Owned<T> {
 }
 
 impl<T: Pointable> Owned<T> {
-    /// Answers the box. The tag is lost.
+    /// Returns the box. The tag is lost.
     pub fn into_box(self) -> Box<T>
         ensures { result ≡ self.value }
     {
@@ -29,14 +29,14 @@ impl<T: Pointable> Owned<T> {
         value
     }
 
-    /// Answers the tag.
+    /// Returns the tag.
     pub fn tag(&self) -> usize
         ensures { result ≡ self.now.tag }
     {
         self.tag as usize
     }
 
-    /// Answers the same value with this tag, which is taken modulo [`Pointable::ALIGN`].
+    /// Returns the same value with this tag, which is taken modulo [`Pointable::ALIGN`].
     pub fn with_tag(self, tag: usize) -> Owned<T>
         ensures value { result.value ≡ self.value }
         ensures tag { result.tag ≡ tag % T.ALIGN }

@@ -19,14 +19,14 @@ pub trait Pointer<'g, T: Pointable>: Sized {
     // It becomes a pointer with this name and tag.
     ghost becomes: { Self → Option Name → ℕ → Type 0 };
 
-    /// Answers the pointer that it becomes. A [`Shared`] is that pointer. An [`Owned`] is placed in a cell, and comes
+    /// Returns the pointer that it becomes. A [`Shared`] is that pointer. An [`Owned`] is placed in a cell, and comes
     /// back if the cells are full.
     fn enter<W>(self, guard: &'g Guard<'_, T, W>) -> Result<Shared<'g, T>, Self>
         ensures ok { IfOk result (λ shared. becomes self shared.name shared.tag) }
         ensures home { IfOk result (λ shared. takes_cell → IsUnder guard.now.collector.now.id shared.home) }
         ensures full { IfErr result (λ back. takes_cell × (back ≡ self)) };
 
-    /// Does what [`Pointer::enter`] does, and answers the pointer's word: that of its name, and of its tag modulo the
+    /// Does what [`Pointer::enter`] does, and returns the pointer's word: that of its name, and of its tag modulo the
     /// alignment.
     fn enter_word<W>(self, guard: &'g Guard<'_, T, W>) -> Result<u64, Self>
         ensures rule { IfOk result (λ word. IsPointerWord word) }
@@ -123,7 +123,7 @@ impl<'g, T: Pointable + Drop> Pointer<'g, T> for Owned<T> {
 }
 
 impl<T: Pointable + Drop> Owned<T> {
-    /// Places the value in a cell, and answers the pointer to it, with the same tag.
+    /// Places the value in a cell, and returns the pointer to it, with the same tag.
     ///
     /// `CellsFull`: every slot was seen used or retired. The value is handed back.
     #[inline(always)]

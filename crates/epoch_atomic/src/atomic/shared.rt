@@ -30,7 +30,7 @@ pub struct Shared<'g, T> {
 }
 
 impl<'g, T> Shared<'g, T> {
-    /// Answers the null pointer, with tag 0.
+    /// Returns the null pointer, with tag 0.
     pub fn null() -> Shared<'g, T>
         ensures name { result.name ≡ None }
         ensures tag { result.tag ≡ 0 }
@@ -42,7 +42,7 @@ impl<'g, T> Shared<'g, T> {
         }
     }
 
-    /// Answers whether it is null, whatever its tag is.
+    /// Returns whether it is null, whatever its tag is.
     #[inline(always)]
     pub fn is_null(&self) -> bool
         ensures { IsTrue result ↔ IsNone self.now.name }
@@ -50,7 +50,7 @@ impl<'g, T> Shared<'g, T> {
         self.name.is_none()
     }
 
-    /// Answers the tag.
+    /// Returns the tag.
     #[inline(always)]
     pub fn tag(&self) -> usize
         ensures { result ≡ self.now.tag }
@@ -58,7 +58,7 @@ impl<'g, T> Shared<'g, T> {
         self.tag as usize
     }
 
-    /// Answers the pointer to the value that was placed under this name, with tag 0.
+    /// Returns the pointer to the value that was placed under this name, with tag 0.
     ///
     /// It is as good as one that was loaded: a value is lent only while it stands in its cell under this name. The
     /// guard must be of the collector that gave the name. In crossbeam-epoch `Shared::from` of a raw pointer does this.
@@ -75,7 +75,7 @@ impl<'g, T> Shared<'g, T> {
         }
     }
 
-    /// Answers the name of the value that it points to, or `None` if it is null. Two pointers with the same name point
+    /// Returns the name of the value that it points to, or `None` if it is null. Two pointers with the same name point
     /// to the same value, whatever their tags are.
     #[inline(always)]
     pub fn name(&self) -> Option<Name>
@@ -99,7 +99,7 @@ impl<'g, T> Shared<'g, T> {
 }
 
 impl<'g, T: Pointable> Shared<'g, T> {
-    /// Answers the same pointer with this tag, which is taken modulo [`Pointable::ALIGN`].
+    /// Returns the same pointer with this tag, which is taken modulo [`Pointable::ALIGN`].
     #[inline(always)]
     pub fn with_tag(&self, tag: usize) -> Shared<'g, T>
         ensures name { result.name ≡ self.now.name }
@@ -180,7 +180,7 @@ impl<'g, T> PartialEq for Shared<'g, T> {
 
     ghost laws = { Prim.search (comparing, rules) };
 
-    /// Answers whether the numbers are equal: both names and tags.
+    /// Returns whether the numbers are equal: both names and tags.
     fn eq(&self, other: &Shared<'g, T>) -> bool {
         number(self.name, self.tag) == number(other.name, other.tag)
     }
@@ -199,7 +199,7 @@ impl<'g, T> Ord for Shared<'g, T> {
 
     ghost matches_eq = { Prim.search (comparing, rules) };
 
-    /// Answers the order of the numbers: by the turn, then by the slot, then by the tag.
+    /// Returns the order of the numbers: by the turn, then by the slot, then by the tag.
     fn cmp(&self, other: &Shared<'g, T>) -> Ordering {
         number(self.name, self.tag).cmp(&number(other.name, other.tag))
     }

@@ -37,13 +37,13 @@ pub trait SharedWord: Sized {
         requires rule { IsPointerWord word }
         ensures did { did self.now (Stores word) };
 
-    /// Stores this number, and answers the one before.
+    /// Stores this number, and returns the one before.
     fn swap(&self, word: u64, order: Ordering) -> u64
         requires rule { IsPointerWord word }
         ensures before { IsPointerWord result }
         ensures did { did self.now (Swaps result word) };
 
-    /// Stores `new` if the number is `expected`, and answers the number that it found. `Err`: it found another number,
+    /// Stores `new` if the number is `expected`, and returns the number that it found. `Err`: it found another number,
     /// and nothing was stored.
     fn compare_exchange(
         &self,
@@ -58,7 +58,7 @@ pub trait SharedWord: Sized {
         ensures won { IfOk result (λ found. did self.now (Exchanges expected new)) }
         ensures lost { IfErr result (λ found. did self.now (Misses expected found)) };
 
-    /// Gives the word up, and answers the number that it held last.
+    /// Gives the word up, and returns the number that it held last.
     fn end(self) -> u64
         ensures rule { IsPointerWord result }
         ensures did { did self (Ends result) };

@@ -82,7 +82,7 @@ impl<J: Drop> BagQueue<J> {
         })
     }
 
-    /// Answers whether it has no bag.
+    /// Returns whether it has no bag.
     pub fn is_empty(&self) -> bool
         ensures { IsTrue result ↔ (self.now.bags ≡ []) }
     {

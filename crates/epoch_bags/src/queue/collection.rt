@@ -5,7 +5,7 @@ ghost use Rattle.epoch_bags.specs.Stores.{AllExpired};
 use crate::{BagStore, Epoch, SealedBag, TakeStep};
 
 /// Takes the bags that one collection gets if no other participant is at work, at most `most` of them. Drops their jobs
-/// uncalled, and answers how many bags it took: `most`, or all of them if there are fewer and all are expired.
+/// uncalled, and returns how many bags it took: `most`, or all of them if there are fewer and all are expired.
 pub fn take_some<S: BagStore>(
     store: &mut S,
     expiry: Epoch,

@@ -25,7 +25,7 @@ pub const EMPTY: u64 = 0;
 /// The word of a claimed place.
 pub const CLAIMED: u64 = 2;
 
-/// Answers the word of a place that holds a bag with this seal. It is odd, as no other one is.
+/// Returns the word of a place that holds a bag with this seal. It is odd, as no other one is.
 #[inline(always)]
 pub fn place_word(seal: u64) -> u64
     requires { seal ≤ GREATEST_EPOCH }
@@ -104,7 +104,7 @@ impl<J: Drop> Places<J> {
 }
 
 impl<J> Places<J> {
-    /// Answers the word of this place; `None` past the last one.
+    /// Returns the word of this place; `None` past the last one.
     pub fn word(&self, place: usize) -> Option<u64>
         ensures { result ≡ slice_get self.now.words place }
     {
@@ -245,7 +245,7 @@ pub fn take_further(cursor: &mut TakeCursor, place: usize, places: usize) -> Tak
     }
 }
 
-/// Answers whether the word tells of a bag whose seal is two epochs or more behind this one: its jobs may be called.
+/// Returns whether the word tells of a bag whose seal is two epochs or more behind this one: its jobs may be called.
 ///
 /// Why two: an advance needs every pinned participant to be pinned in the present epoch, so the epoch rises at most
 /// once past a participant that stays pinned. One that was pinned, and had read the epoch again, when the bag was

@@ -20,14 +20,14 @@ impl<T> Held<T> {
     ghost use Rattle.epoch_cells.specs.contracts.cells.held.Held.{the_row};
     ghost use Rattle.epoch_cells.specs.LentCells.{with_held};
 
-    /// Answers the name under which the value stood.
+    /// Returns the name under which the value stood.
     pub fn name(&self) -> Name
         ensures { result ≡ self.now.name }
     {
         self.name
     }
 
-    /// Answers the value without its name.
+    /// Returns the value without its name.
     #[inline(always)]
     pub fn into_value(self) -> Box<T>
         ensures { result ≡ self.value }
@@ -107,7 +107,7 @@ pub struct Reading<'a, T> {
 }
 
 impl<'a, T: Drop> Reading<'a, T> {
-    /// Answers the name under which the value was asked for.
+    /// Returns the name under which the value was asked for.
     pub fn name(&self) -> Name
         ensures { result ≡ self.now.name }
     {
@@ -151,7 +151,7 @@ impl<'a, T: Drop> Writing<'a, T> {
     ghost use Rattle.epoch_cells.specs.contracts.cells.held.Writing.{the_row};
     ghost use Rattle.epoch_cells.specs.LentCells.{with_written};
 
-    /// Answers the name under which the value was asked for.
+    /// Returns the name under which the value was asked for.
     pub fn name(&self) -> Name
         ensures { result ≡ self.now.name }
     {
@@ -188,7 +188,7 @@ impl<'a, T: Drop> Writing<'a, T> {
     }
 }
 
-/// Answers the slot of this number, which begins at this turn.
+/// Returns the slot of this number, which begins at this turn.
 pub fn started<T: Drop>(number: u32, start_turn: u32) -> Slot<T>
     ensures { result ≡ number }
 {
@@ -202,7 +202,7 @@ pub fn started<T: Drop>(number: u32, start_turn: u32) -> Slot<T>
     slot
 }
 
-/// Answers whether a value can be placed there.
+/// Returns whether a value can be placed there.
 pub fn is_free<T>(slot: &Slot<T>) -> bool {
     state_of(slot.load()) == FREE
 }

@@ -17,7 +17,7 @@ pub struct Name {
 }
 
 impl Name {
-    /// Answers the first name of the first slot.
+    /// Returns the first name of the first slot.
     pub fn first() -> Name
         ensures slot { result.slot ≡ 1 }
         ensures turn { result.turn ≡ 0 }
@@ -25,7 +25,7 @@ impl Name {
         Name { turn: 0, slot: 1 }
     }
 
-    /// Answers the name of this slot and turn; `None` exactly where the slot is 0 or above [`MOST_SLOT`].
+    /// Returns the name of this slot and turn; `None` exactly where the slot is 0 or above [`MOST_SLOT`].
     pub fn new(slot: u32, turn: u32) -> Option<Name>
         ensures some { IsSome result ↔ ((0 < slot) × (slot ≤ MOST_SLOT)) }
         ensures slot { IfSome result (λ name. name.slot ≡ slot) }
@@ -47,7 +47,7 @@ impl Name {
         Name { turn, slot }
     }
 
-    /// Answers the number of the slot, from 1 to [`MOST_SLOT`].
+    /// Returns the number of the slot, from 1 to [`MOST_SLOT`].
     pub fn slot(self) -> u32
         ensures value { result ≡ self.slot }
         ensures some { 0 < result }
@@ -56,7 +56,7 @@ impl Name {
         self.slot
     }
 
-    /// Answers the turn of the slot.
+    /// Returns the turn of the slot.
     pub fn turn(self) -> u32
         ensures { result ≡ self.turn }
     {

@@ -94,7 +94,7 @@ impl Notes {
             .get(position.wrapping_mul(STEP).wrapping_add(place))
     }
 
-    /// Answers the span in which this position looks for free slots.
+    /// Returns the span in which this position looks for free slots.
     #[inline(always)]
     pub fn current(&self, position: usize) -> Span {
         match self.word(position, 0) {
@@ -124,7 +124,7 @@ impl Notes {
         Some(span)
     }
 
-    /// Notes one more span, and answers whether there was room for it.
+    /// Notes one more span, and returns whether there was room for it.
     pub fn add(&self, position: usize, span: Span) -> bool {
         let Some(count) = self.word(position, 1) else {
             return false;

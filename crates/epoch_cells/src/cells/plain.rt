@@ -194,7 +194,7 @@ impl<V: Drop> PlainCells<V> {
         Ok(PlainCells { cells })
     }
 
-    /// Answers how many slots there are.
+    /// Returns how many slots there are.
     pub fn capacity(&self) -> usize
         ensures value { result ≡ length self.now }
         ensures within { result ≤ MOST_SLOT }
@@ -216,7 +216,7 @@ impl<V: Drop> PlainCells<V> {
         }
     }
 
-    /// Answers the turn of a slot: that of its value, or of the next one that it takes, which is `2^32` where it takes
+    /// Returns the turn of a slot: that of its value, or of the next one that it takes, which is `2^32` where it takes
     /// none any more. `None`: there is no such slot.
     pub fn turn_at(&self, slot: u32) -> Option<u64>
         requires { 0 < slot }
@@ -229,7 +229,7 @@ impl<V: Drop> PlainCells<V> {
         }
     }
 
-    /// Answers the value of this name, without a reading.
+    /// Returns the value of this name, without a reading.
     pub fn get(&self, name: Name) -> Option<&V>
         ensures { MatchOption result (cell_of self.now name.slot name.turn ≡ None) (λ value. (readers : ℕ)
             × (cell_of self.now name.slot name.turn ≡ Some (filled name.turn readers value.now))) }
@@ -258,7 +258,7 @@ impl<V: Drop> PlainCells<V> {
         Ok(Name::at(slot, turn))
     }
 
-    /// Replaces the value of this name, and answers the one before. `Err`: the name's cell is gone or read, and the
+    /// Replaces the value of this name, and returns the one before. `Err`: the name's cell is gone or read, and the
     /// value comes back.
     pub fn write(&mut self, name: Name, value: V) -> Result<V, V>
         ensures ok { IfOk result (λ before. unread (cell_of self.old name.slot name.turn) ≡ Some before) }
@@ -273,7 +273,7 @@ impl<V: Drop> PlainCells<V> {
         self.cells[index].replace(value)
     }
 
-    /// Replaces the value of this name, also while it is read, and answers whether its cell is there.
+    /// Replaces the value of this name, also while it is read, and returns whether its cell is there.
     pub fn amend(&mut self, name: Name, value: V) -> bool
         ensures amended { IsTrue result
             → Replaces name.slot value (cell_of self.old name.slot name.turn) self.old self.new }
@@ -315,7 +315,7 @@ impl<V: Drop> PlainCells<V> {
         }
     }
 
-    /// Ends one reading of this name, and answers whether there was one.
+    /// Ends one reading of this name, and returns whether there was one.
     pub fn leave(&mut self, name: Name) -> bool
         ensures left { IsTrue result ↔ HasReader (cell_of self.old name.slot name.turn) }
         ensures lowered { IsTrue result → Lowers name.slot (cell_of self.old name.slot name.turn) self.old self.new }
@@ -330,7 +330,7 @@ impl<V: Drop> PlainCells<V> {
 }
 
 impl<V: Copy + Drop> PlainCells<V> {
-    /// Begins a reading of this name, and answers its value.
+    /// Begins a reading of this name, and returns its value.
     ///
     /// `None`: the name's cell is gone, or has `2^30 - 1` readers.
     pub fn read(&mut self, name: Name) -> Option<V>

@@ -31,7 +31,7 @@ pub fn readers_of(word: u64) -> u64
     word % HALF / 4
 }
 
-/// Answers the word of this turn and state, without a reader.
+/// Returns the word of this turn and state, without a reader.
 pub fn word_of(turn: u32, state: u64) -> u64
     requires { state < 4 }
     ensures { result ≡ turn * 4294967296 + state }
@@ -39,7 +39,7 @@ pub fn word_of(turn: u32, state: u64) -> u64
     turn as u64 * HALF + state
 }
 
-/// Answers the word of a slot whose value of this turn has gone: free for the next turn, or retired after the last one.
+/// Returns the word of a slot whose value of this turn has gone: free for the next turn, or retired after the last one.
 pub fn vacant(turn: u32) -> u64
     ensures word { result ≡ (if turn == u32.MAX then turn * 4294967296 + 1 else (turn + 1) * 4294967296) }
     ensures state { result % 4 < 3 }

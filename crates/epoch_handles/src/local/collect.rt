@@ -13,7 +13,7 @@ use epoch_cells::Freed;
 use epoch_machine::holds_up;
 
 impl<'c, T, W> Local<'c, T, W> {
-    /// Scans the words in a plain loop, and advances the epoch where none holds it up. Answers the epoch for which bags
+    /// Scans the words in a plain loop, and advances the epoch where none holds it up. Returns the epoch for which bags
     /// are taken.
     #[inline(always)]
     pub(crate) fn scan(&mut self) -> u64
@@ -59,7 +59,7 @@ impl<'c, T: Drop, W: Run> Local<'c, T, W> {
     }
 
     /// Looks at the places, as the first steps of a collection for `expiry`: up to the first place whose word tells
-    /// of an expired bag, or as far as the last place, which is not looked at. Answers where the collection stands.
+    /// of an expired bag, or as far as the last place, which is not looked at. Returns where the collection stands.
     ///
     /// A plain loop over the words: in most collections no bag is expired.
     #[inline(always)]

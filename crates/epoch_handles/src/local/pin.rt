@@ -27,7 +27,7 @@ impl<'c, T, W> Local<'c, T, W> {
         let _again = participants.load_epoch_word(&mut self.seat);
     }
 
-    /// The steps of a pin. Answers the epoch that was published.
+    /// The steps of a pin. Returns the epoch that was published.
     #[inline]
     pub(crate) fn pin_steps(&mut self) -> u64
         requires { IsSeated self.old }
@@ -39,7 +39,7 @@ impl<'c, T, W> Local<'c, T, W> {
         epoch
     }
 
-    /// A pin as far as its collection. Answers whether one follows; if not, the pin has ended.
+    /// A pin as far as its collection. Returns whether one follows; if not, the pin has ended.
     #[inline]
     pub(crate) fn pin(&mut self) -> bool
         requires ready { IsReady self.old }

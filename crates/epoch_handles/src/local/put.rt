@@ -78,7 +78,7 @@ impl<'c, T: Drop, W: Run> Local<'c, T, W> {
         Ok(())
     }
 
-    /// A flush: the held bag is put, if it has a job, and bags are collected. Answers whether the put saw each
+    /// A flush: the held bag is put, if it has a job, and bags are collected. Returns whether the put saw each
     /// place occupied.
     #[inline(always)]
     pub(crate) fn flush(&mut self) -> bool

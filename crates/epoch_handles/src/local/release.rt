@@ -28,7 +28,7 @@ impl<'c, T, W> Local<'c, T, W> {
 
 impl<'c, T: Drop, W: Run> Local<'c, T, W> {
     /// A release: pins as a first pin does, puts the held bag if it has a job, stores the word of an unpinned
-    /// participant, and, unless each place was seen occupied, the word of a free position. Answers whether the
+    /// participant, and, unless each place was seen occupied, the word of a free position. Returns whether the
     /// position is free.
     pub(crate) fn release(&mut self) -> bool
         requires ready { IsReady self.old }
@@ -62,7 +62,7 @@ impl<'c, T: Drop, W: Run> Local<'c, T, W> {
         self.collect();
     }
 
-    /// What a release does after its pin and the collection. Answers whether the position is free.
+    /// What a release does after its pin and the collection. Returns whether the position is free.
     fn leave(&mut self) -> bool
         requires seated { IsSeated self.old }
         requires rests { RestsAt self.old.claimer.me }

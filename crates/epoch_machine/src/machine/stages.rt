@@ -151,7 +151,7 @@ pub(super) fn after_job(most: u64, after: Stage, expiry: u64, taken: u64, none_l
     }
 }
 
-/// Answers whether a participant's word is pinned in another epoch than this one, and so ends a scan for it.
+/// Returns whether a participant's word is pinned in another epoch than this one, and so ends a scan for it.
 #[inline]
 pub fn holds_up(epoch: u64, word: u64) -> bool
     requires { epoch < 2 ^ 63 }

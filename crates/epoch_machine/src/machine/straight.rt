@@ -33,7 +33,7 @@ impl<J> Machine<J> {
 }
 
 impl<J> Machine<J> {
-    /// Becomes the machine after a pin with no guard counted, which published this epoch. Answers whether a collection
+    /// Becomes the machine after a pin with no guard counted, which published this epoch. Returns whether a collection
     /// follows; if not, the pin has ended.
     #[inline]
     pub fn pin_first(&mut self, epoch: u64) -> bool
@@ -170,7 +170,7 @@ impl<J: Drop> Machine<J> {
         self.held.push(job);
     }
 
-    /// Becomes the machine after the pin of a release, which published this epoch. Answers whether a collection
+    /// Becomes the machine after the pin of a release, which published this epoch. Returns whether a collection
     /// follows.
     #[inline]
     pub fn release_pinned(&mut self, epoch: u64) -> bool

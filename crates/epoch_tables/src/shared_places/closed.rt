@@ -35,7 +35,7 @@ impl<J> Model for ClosedPlaces<J> {
 }
 
 impl<J> SharedPlaces<J> {
-    /// Ends the sharing, and answers what is left in the places.
+    /// Ends the sharing, and returns what is left in the places.
     ///
     /// A caller that names the type of its jobs has nothing to show: the checker shows by itself that their bags fit in
     /// memory.
@@ -52,7 +52,7 @@ impl<J> SharedPlaces<J> {
 }
 
 impl<J> ClosedPlaces<J> {
-    /// Answers how many places are left, at most [`MOST_PLACES`].
+    /// Returns how many places are left, at most [`MOST_PLACES`].
     pub fn len(&self) -> usize
         ensures value { result ≡ length self.now }
         ensures most { result ≤ MOST_PLACES }

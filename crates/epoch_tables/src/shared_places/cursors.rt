@@ -16,7 +16,7 @@ use epoch_bags::queue::places::{EMPTY, is_expired_word, place_word, put_further,
 use epoch_bags::{Bag, Epoch, PutCursor, PutStep, SealedBag, TakeCursor, TakeStep};
 
 impl<J: Default + Drop> SharedPlaces<J> {
-    /// Answers the cursor of a put that has taken no step: it looks at place 0 first.
+    /// Returns the cursor of a put that has taken no step: it looks at place 0 first.
     #[inline(always)]
     pub fn start_put(&self) -> PutCursor
         ensures first { result ≡ PutCursor.Look 0 }
@@ -94,7 +94,7 @@ impl<J: Default + Drop> SharedPlaces<J> {
             .store::<Store>(seat, word_index(place), place_word(seal.number()));
     }
 
-    /// Answers the cursor of a collection that has taken no step: it looks at place 0 first.
+    /// Returns the cursor of a collection that has taken no step: it looks at place 0 first.
     #[inline(always)]
     pub fn start_take(&self) -> TakeCursor
         ensures first { result ≡ TakeCursor.Look 0 }

@@ -91,7 +91,7 @@ impl<J> SharedPlaces<J> {
         })
     }
 
-    /// Answers how many places there are, from 1 to [`MOST_PLACES`].
+    /// Returns how many places there are, from 1 to [`MOST_PLACES`].
     pub fn capacity(&self) -> usize
         ensures value { result ≡ self.now.capacity }
         ensures some { 0 < result }

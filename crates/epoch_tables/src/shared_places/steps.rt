@@ -36,7 +36,7 @@ impl<J> SharedPlaces<J> {
         self.table.shared.load::<Look>(seat, word_index(place))
     }
 
-    /// Tries to claim a place whose word is `word`, and answers the word that it found. If that is `word`, and only
+    /// Tries to claim a place whose word is `word`, and returns the word that it found. If that is `word`, and only
     /// then, the seat has claimed the place, and has in hand what stood there.
     #[inline(always)]
     pub fn claim(&self, seat: &mut PlaceSeat<J>, place: usize, word: u64) -> u64

@@ -71,7 +71,7 @@ impl Participants {
         Ok(Participants { table, positions })
     }
 
-    /// Answers how many positions it has, from 1 to [`MOST_POSITIONS`].
+    /// Returns how many positions it has, from 1 to [`MOST_POSITIONS`].
     pub fn positions(&self) -> usize
         ensures value { result ≡ self.now.positions }
         ensures some { 0 < result }

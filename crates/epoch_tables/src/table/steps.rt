@@ -101,7 +101,7 @@ impl Participants {
             .store::<StoreEpoch>(seat, 0, 2 * (epoch + 1));
     }
 
-    /// Tries to claim a position, and answers the word that it found there: [`FREE`] exactly if the seat has it now.
+    /// Tries to claim a position, and returns the word that it found there: [`FREE`] exactly if the seat has it now.
     pub fn claim(&self, seat: &mut ParticipantSeat, position: usize) -> u64
         requires of { IsOf self.now seat.old }
         requires free { (seat.old.me.0.position ≡ None) × (position < self.now.positions) }

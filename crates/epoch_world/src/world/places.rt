@@ -6,7 +6,7 @@ use epoch_bags::Places;
 use epoch_laws::Deferral;
 
 impl World<Places<Deferral>> {
-    /// Answers the word of a place of the store, or `None` past the last one: 0 is empty, 2 claimed, and `2s + 1` tells
+    /// Returns the word of a place of the store, or `None` past the last one: 0 is empty, 2 claimed, and `2s + 1` tells
     /// of a bag that was sealed with `s`. It is no step.
     pub fn place(&self, place: u64) -> Option<u64>
         ensures { MatchOption result (length self.now.places ≤ place)

@@ -6,7 +6,7 @@ ghost use Rattle.epoch_world.specs.Seats.{HasRead};
 use epoch_cells::Name;
 use epoch_heap::{Access, Accessed, Answer, is_name};
 
-/// Answers whether the name is among those read.
+/// Returns whether the name is among those read.
 pub fn reads(name: Option<Name>, readings: &[Name]) -> bool
     ensures { result ≡ reads name readings.now }
 {

@@ -91,7 +91,7 @@ impl Seat {
         })
     }
 
-    /// Answers what its word says.
+    /// Returns what its word says.
     pub fn word(&self) -> Word
         ensures value { result ≡ self.now.word }
         ensures within { WordFits result }
@@ -99,14 +99,14 @@ impl Seat {
         self.word
     }
 
-    /// Answers how far its call is.
+    /// Returns how far its call is.
     pub fn progress(&self) -> Progress
         ensures { result ≡ self.now.progress }
     {
         self.progress
     }
 
-    /// Answers whether its held bag takes a further job without a put, or `None` at a free position.
+    /// Returns whether its held bag takes a further job without a put, or `None` at a free position.
     pub fn has_room(&self) -> Option<bool>
         ensures value { MatchOption result (self.now.word ≡ Word.Free) (λ room. (self.now.word ≢ Word.Free)
             × (IsTrue room ↔ (length self.now.machine.held < self.now.machine.sizes.bag_jobs))) }
@@ -119,7 +119,7 @@ impl Seat {
         }
     }
 
-    /// Answers what its machine asks for.
+    /// Returns what its machine asks for.
     pub fn ask(&self) -> Option<Ask>
         ensures value { result ≡ asks self.now.machine }
         ensures within { IfSome result (AskFits self.now.machine.sizes) }
@@ -251,7 +251,7 @@ impl Seat {
         self.machine.take(Found::Stored);
     }
 
-    /// Keeps a job under the next ticket, which it answers.
+    /// Keeps a job under the next ticket, which it returns.
     fn keep_job(&mut self, tickets: &mut u64) -> u64
         requires asked { asks self.old.machine ≡ Some Ask.KeepJob }
         requires tickets { tickets.old + 1 < 2 ^ 64 }
@@ -390,7 +390,7 @@ impl Seat {
         self.progress = Progress::Idle;
     }
 
-    /// Ends a call that has nothing left to ask, and answers it.
+    /// Ends a call that has nothing left to ask, and returns it.
     pub fn end(&mut self, call: Call) -> Reply
         requires ended { self.old.machine.stage ≡ End }
         requires fits { guards_after self.old.machine.action self.old.machine.guards < 2 ^ 32 }

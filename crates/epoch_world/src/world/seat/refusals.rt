@@ -14,7 +14,7 @@ use epoch_laws::{Call, Progress, Word};
 const TICKETS_ASIDE: u64 = 4096;
 
 impl Seat {
-    /// Answers the fault that refuses a call now, where `tickets` were given so far, or `None`.
+    /// Returns the fault that refuses a call now, where `tickets` were given so far, or `None`.
     pub fn refusal(&self, call: Call, tickets: u64, heap: &Heap) -> Option<Fault>
         ensures { result ≡ refusal call self.now tickets heap.now }
     {
