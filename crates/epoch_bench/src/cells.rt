@@ -44,7 +44,7 @@ fn count(word: &AtomicU64, turns: u64) {
     }
 }
 
-/// Answers the sum of what was read.
+/// Returns the sum of what was read.
 fn read(cells: &Cells<u64>, turns: u64) -> u64 {
     let mut sum: u64 = 0;
     for _ in 0..turns {

@@ -43,7 +43,7 @@ pub fn collector_of(alloc: Global, participants: u32) -> io::Result<Collector<u6
     }
 }
 
-/// Times all calls of one participant among 64. Answers the time of a flush of nothing.
+/// Times all calls of one participant among 64. Returns the time of a flush of nothing.
 fn among_64<R: Clock + Print>(
     rt: &R,
     idle: &mut Idle<'_>,

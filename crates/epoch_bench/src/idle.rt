@@ -54,7 +54,7 @@ impl<'c> Idle<'c> {
         self.handle.unpin(guard);
     }
 
-    /// Pins, replaces 64 objects, flushes and unpins. Answers how many objects were replaced.
+    /// Pins, replaces 64 objects, flushes and unpins. Returns how many objects were replaced.
     fn replace(&mut self, alloc: Global, pointer: &Atomic<u64>) -> u64 {
         let guard = self.handle.pin();
         let count = replace_objects(&mut self.handle, &guard, alloc, pointer);
@@ -119,7 +119,7 @@ fn defer_calls(handle: &mut LocalHandle<'_, u64>, guard: &Guard<'_, u64>, functi
     }
 }
 
-/// Places objects behind the pointer, one after the other, and defers the destruction of those before. Answers how
+/// Places objects behind the pointer, one after the other, and defers the destruction of those before. Returns how
 /// many destructions were deferred.
 fn replace_objects(
     handle: &mut LocalHandle<'_, u64>,

@@ -30,7 +30,7 @@ impl<'t> Participant<'t> {
         None
     }
 
-    /// Loads the epoch, publishes it, loads the epoch again, and answers the number published.
+    /// Loads the epoch, publishes it, loads the epoch again, and returns the number published.
     fn pin(&mut self) -> u64 {
         let epoch = self.table.load_epoch_word(&mut self.seat) / 2;
         self.table.publish(&mut self.seat, self.position, epoch);

@@ -30,7 +30,7 @@ impl<'c> Idle<'c> {
         Some(Idle { handle })
     }
 
-    /// Does so many turns of a row's work, and answers how many did what they should.
+    /// Does so many turns of a row's work, and returns how many did what they should.
     pub fn work(
         &mut self,
         alloc: Global,
@@ -189,7 +189,7 @@ fn pin_under(handle: &mut LocalHandle<'_, u64>, turns: u64)
     }
 }
 
-/// Defers so many of the last functions. Answers how many were deferred.
+/// Defers so many of the last functions. Returns how many were deferred.
 fn defer_calls(
     handle: &mut LocalHandle<'_, u64>,
     guard: &Guard<'_, u64>,
@@ -279,7 +279,7 @@ fn place(guard: &Guard<'_, u64>, alloc: Global, turns: u64) -> u64 {
     sum
 }
 
-/// Puts objects behind the pointer, one after the other, and defers the destruction of those before. Answers how
+/// Puts objects behind the pointer, one after the other, and defers the destruction of those before. Returns how
 /// many destructions were deferred.
 fn replace(
     handle: &mut LocalHandle<'_, u64>,

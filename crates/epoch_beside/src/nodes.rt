@@ -38,7 +38,7 @@ impl<'c, N: Drop> Nodes<'c, N> {
 }
 
 impl<'c> Nodes<'c, epoch_stack::Node<u64>> {
-    /// Pushes and pops, each under a pin of its own. Answers how many pops found a value.
+    /// Pushes and pops, each under a pin of its own. Returns how many pops found a value.
     pub fn pushes(&mut self, alloc: Global, stack: &Stack<'_, u64>, turns: u64) -> u64 {
         let mut done: u64 = 0;
         for turn in 0..turns {

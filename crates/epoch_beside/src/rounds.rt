@@ -213,7 +213,7 @@ fn on_threads<R: Clock + Threads + Wait + Sync, C: Sync, S: Round<C>>(
     });
 }
 
-/// Makes rounds over a structure, and answers how many turns of the last one did what they should.
+/// Makes rounds over a structure, and returns how many turns of the last one did what they should.
 fn rounds_over<R: Clock + Threads + Wait + Sync, C: Sync, S: Round<C>>(
     rt: &R,
     alloc: Global,
@@ -314,7 +314,7 @@ fn work_rounds<R: Clock + Threads + Wait + Sync>(
     Ok(done)
 }
 
-/// Makes as many rounds as there are times, and answers how many turns of the last one did what they should.
+/// Makes as many rounds as there are times, and returns how many turns of the last one did what they should.
 fn rounds<R: Clock + Threads + Wait + Sync>(
     rt: &R,
     alloc: Global,

@@ -36,7 +36,7 @@ impl Span {
         }
     }
 
-    /// Waits until so many threads are here, and answers the time.
+    /// Waits until so many threads are here, and returns the time.
     pub fn begin<R: Clock + Wait>(&self, rt: &R, threads: u64) -> io::Result<Instant> {
         arrive(rt, &self.ready, threads);
         Instant::now(rt)

@@ -12,7 +12,7 @@ use epoch_plans::{PhaseMachine, Wish};
 
 /// How the calls of a program go ahead over those phases that only read. No value of it is made.
 pub trait Course<P: PhaseMachine, L: Spots> {
-    /// Goes from this phase on by accesses that write nothing, as far as it likes, and answers the phase that it has
+    /// Goes from this phase on by accesses that write nothing, as far as it likes, and returns the phase that it has
     /// come to.
     fn ahead(first: P, spots: &mut L) -> P
         ensures { ReadsOn L.does (P.deed 0) first spots.old result spots.new };
@@ -51,7 +51,7 @@ fn reading_of<A: Copy>(wish: Wish<A>) -> Option<Access>
     }
 }
 
-/// Goes over the phases of a program from this one on, as long as they ask for accesses that write nothing, and answers
+/// Goes over the phases of a program from this one on, as long as they ask for accesses that write nothing, and returns
 /// the first phase that asks for something else.
 #[inline(always)]
 pub fn read_on<P: PhaseMachine, E: Ends<P>, L: Spots>(first: P, spots: &mut L) -> P
