@@ -63,7 +63,7 @@ pub fn quotient(time: u64, unit: u64) -> Hundredths {
     Hundredths(time.saturating_mul(100) / unit.max(1))
 }
 
-/// Times both loops in turn, and prints a line with the quotient. Answers both times.
+/// Times both loops in turn, and prints a line with the quotient. Returns both times.
 pub fn compare_loops<R: Clock + Print, A: Timed, B: Timed>(
     rt: &R,
     what: &str,

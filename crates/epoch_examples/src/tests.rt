@@ -123,7 +123,7 @@ fn flush_3(rt: &impl Abort, handle: &mut LocalHandle<'_, u64>) {
     }
 }
 
-/// Defers the job, and flushes while another participant is pinned, and then when it is not. Answers what the count is
+/// Defers the job, and flushes while another participant is pinned, and then when it is not. Returns what the count is
 /// after each.
 fn counts(
     rt: &impl Abort,

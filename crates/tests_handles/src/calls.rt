@@ -58,7 +58,7 @@ pub(crate) fn cycle(rt: &impl Abort, handle: &mut Handle<'_>) {
     unpin(rt, handle, guard);
 }
 
-/// Pins, flushes and unpins. Answers what the flush answered.
+/// Pins, flushes and unpins. Returns what the flush answered.
 fn round(rt: &impl Abort, handle: &mut Handle<'_>) -> Result<(), Fault> {
     let guard = pin(rt, handle);
     let flushed = handle.flush(&guard);

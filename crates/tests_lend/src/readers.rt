@@ -228,7 +228,7 @@ fn look_nested<'g, J: PostSet>(
     value.look(nested)
 }
 
-/// Looks, stalls pinned until it may go on, and reads only then. Answers what it read.
+/// Looks, stalls pinned until it may go on, and reads only then. Returns what it read.
 fn stall<J: PostSet>(posts: &Posts<J>, value: &Value<J, u64>, signals: &Signals) -> u64 {
     let Some(reader) = posts.register() else {
         return 0;
@@ -247,7 +247,7 @@ fn stall<J: PostSet>(posts: &Posts<J>, value: &Value<J, u64>, signals: &Signals)
 }
 
 /// Marks the value once the other has looked, and tries to take it back before the other's pin is over and after.
-/// Answers what came back each time.
+/// Returns what came back each time.
 fn take_early_and_late<J: PostSet>(
     owner: Owner<'_, J, u64, Global>,
     posts: &Posts<J>,

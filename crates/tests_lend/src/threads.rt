@@ -39,7 +39,7 @@ struct Signals {
     is_over: AtomicBool,
 }
 
-/// Looks under the second guard of a nested pin, and reads only once it is told to go on. Answers what it read.
+/// Looks under the second guard of a nested pin, and reads only once it is told to go on. Returns what it read.
 fn stall(reader: Reader<'_>, signals: &Signals) -> u64 {
     let Reader {
         first,
@@ -85,7 +85,7 @@ fn look_often(reader: Reader<'_>) -> u64 {
 }
 
 /// Marks the value once the other has looked, and tries to take it back before the other's pin is over and after.
-/// Answers what came back each time.
+/// Returns what came back each time.
 fn take(remover: Remover<'_>, signals: &Signals) -> (u64, u64) {
     let Remover { posts, lent, deed } = remover;
     wait_for(&signals.has_looked);

@@ -154,7 +154,7 @@ fn take_back<J: PostSet>(bag: Bag<'_, J, Pair>, posts: &Posts<J>, course: &Cours
     }
 }
 
-/// Places one value, names it in the root, and marks the one that was there before. Answers the spot.
+/// Places one value, names it in the root, and marks the one that was there before. Returns the spot.
 fn replace<'c, J: PostSet>(
     cells: &'c LendingCells<J, Pair>,
     bag: &mut Bag<'c, J, Pair>,
@@ -288,7 +288,7 @@ struct Signals {
     is_over: AtomicBool,
 }
 
-/// Gets the value that the root names, stalls pinned until it may go on, and reads only then. Answers what it read.
+/// Gets the value that the root names, stalls pinned until it may go on, and reads only then. Returns what it read.
 fn stall<J: PostSet>(posts: &Posts<J>, cells: &LendingCells<J, Pair>, signals: &Signals) -> u64 {
     let Some(reader) = posts.register() else {
         return 0;

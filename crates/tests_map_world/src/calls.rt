@@ -105,7 +105,7 @@ pub(crate) fn is_over(reply: MapReply) -> bool {
     }
 }
 
-/// Takes the step, and then steps of the participant to the end of its call. Answers the last reply.
+/// Takes the step, and then steps of the participant to the end of its call. Returns the last reply.
 pub(crate) fn to_end(map: &mut Map, participant: u64, step: MapStep) -> MapReply {
     let mut reply = map.step(step);
     for _ in 0..MANY {
@@ -142,7 +142,7 @@ pub(crate) fn want_answer(
     want(rt, what, reply, PlanReply::Answered(answer));
 }
 
-/// Goes on with the end of the world, to its end. Answers how many jobs it called.
+/// Goes on with the end of the world, to its end. Returns how many jobs it called.
 pub(crate) fn end(map: &mut Map) -> Option<u64> {
     for _ in 0..MANY {
         if let PlanReply::World(Reply::Done(Answer::Count(count))) = map.step(PlanStep::EndGo) {

@@ -101,7 +101,7 @@ fn draw_work(draws: &mut Draws, key: u64, value: u64) -> Work {
     }
 }
 
-/// Makes the plain call, to its end. Answers how many removals it called.
+/// Makes the plain call, to its end. Returns how many removals it called.
 fn removals_of(rt: &impl Abort, map: &mut Map, participant: u64, call: PlainCall) -> u64 {
     let mut removals: u64 = 0;
     let mut reply = map.step(PlanStep::Begin(participant, call));
@@ -118,7 +118,7 @@ fn removals_of(rt: &impl Abort, map: &mut Map, participant: u64, call: PlainCall
 }
 
 /// A participant with no call under way flushes, and leaves its pin for a new one: what was taken out of the map may be
-/// destroyed, and its cells taken again, while calls of others are under way. Answers how many removals were called.
+/// destroyed, and its cells taken again, while calls of others are under way. Returns how many removals were called.
 fn renew_pin(rt: &impl Abort, map: &mut Map, participant: u64) -> u64 {
     let mut removals: u64 = 0;
     for call in [
@@ -179,7 +179,7 @@ fn add_past(
     Ok(())
 }
 
-/// Takes one step of a call under way. Answers the call, if it goes on.
+/// Takes one step of a call under way. Returns the call, if it goes on.
 fn go_on(
     rt: &impl Abort,
     map: &mut Map,
@@ -262,7 +262,7 @@ fn want_ended(rt: &impl Abort, map: &mut Map) {
     want(rt, "the end comes to its end", end(map).is_some(), true);
 }
 
-/// One run: its calls fit a table of entries. Answers how many removals were called before its end.
+/// One run: its calls fit a table of entries. Returns how many removals were called before its end.
 fn run_once(rt: &impl Abort, alloc: Global, draws: &mut Draws, renews: bool) -> Result<u64, Fail> {
     let cells = draws.below(8).wrapping_add(1);
     let mut map = map_of(rt, alloc, PARTICIPANTS, cells, BAGS)?;

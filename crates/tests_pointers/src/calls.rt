@@ -58,7 +58,7 @@ pub(crate) fn unpin<'c, T: Drop>(
     handle.unpin(guard);
 }
 
-/// Pins, flushes and unpins. Answers what the flush answered.
+/// Pins, flushes and unpins. Returns what the flush answered.
 fn round<T: Drop>(rt: &impl Abort, handle: &mut LocalHandle<'_, T>) -> Result<(), Fault> {
     let guard = pin(rt, handle);
     let flushed = handle.flush(&guard);

@@ -72,7 +72,7 @@ pub(crate) fn let_go(rt: &impl Abort, guard: Pin<'_>) {
     }
 }
 
-/// Pins, flushes and unpins. Answers what the flush answered.
+/// Pins, flushes and unpins. Returns what the flush answered.
 fn round(rt: &impl Abort, handle: &mut Handle<'_>) -> Result<(), Fault> {
     let guard = pin(rt, handle);
     let flushed = handle.flush(&guard);

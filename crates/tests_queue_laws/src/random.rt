@@ -264,7 +264,7 @@ fn is_done(run: &Run) -> bool {
     run.begun >= CALLS && first.is_none() && second.is_none() && third.is_none()
 }
 
-/// One run, whose calls do as the list does. Answers how many removals were called in its midst.
+/// One run, whose calls do as the list does. Returns how many removals were called in its midst.
 fn run_once(rt: &impl Abort, alloc: Global, draws: &mut Draws) -> Result<u64, Fail> {
     let mut run = Run {
         under_way: [None; 3],

@@ -117,7 +117,7 @@ pub(crate) fn is_over(reply: QueueReply) -> bool {
     }
 }
 
-/// Takes the step, and then steps of the participant to the end of its call. Answers the last reply.
+/// Takes the step, and then steps of the participant to the end of its call. Returns the last reply.
 pub(crate) fn to_end<S: BagStore<Job = Deferral>>(
     queue: &mut QueueWorld<S>,
     participant: u64,
@@ -188,7 +188,7 @@ pub(crate) fn want_end(rt: &impl Abort, what: &str, queue: &mut Queue, reply: Qu
     want(rt, what, to_end(queue, 0, PlanStep::Go(0)), reply);
 }
 
-/// Goes on with the end of the world, to its end. Answers how many jobs it called.
+/// Goes on with the end of the world, to its end. Returns how many jobs it called.
 pub(crate) fn end(queue: &mut Queue) -> Option<u64> {
     for _ in 0..MANY {
         let count = count_of(queue.step(PlanStep::EndGo));

@@ -80,7 +80,7 @@ struct Run {
     removed: u64,
 }
 
-/// Makes the plain call, to its end. Answers how many removals it called.
+/// Makes the plain call, to its end. Returns how many removals it called.
 fn removals_of(rt: &impl Abort, queue: &mut Queue, participant: u64, call: PlainCall) -> u64 {
     let mut removals: u64 = 0;
     let mut reply = queue.step(PlanStep::Begin(participant, call));
@@ -97,7 +97,7 @@ fn removals_of(rt: &impl Abort, queue: &mut Queue, participant: u64, call: Plain
 }
 
 /// A participant with no call under way flushes, and leaves its pin for a new one: what was taken off the queue may be
-/// destroyed, and its cells taken again, while calls of others are under way. Answers how many removals were called.
+/// destroyed, and its cells taken again, while calls of others are under way. Returns how many removals were called.
 fn renew_pin(rt: &impl Abort, queue: &mut Queue, participant: u64) -> u64 {
     let flushed = removals_of(rt, queue, participant, PlainCall::Flush(Some(0)));
     let unpinned = removals_of(rt, queue, participant, PlainCall::Unpin(Some(0)));
@@ -134,7 +134,7 @@ fn begin_next(
     })
 }
 
-/// Takes one step of a call under way. Answers the call, if it goes on.
+/// Takes one step of a call under way. Returns the call, if it goes on.
 fn go_on(
     rt: &impl Abort,
     queue: &mut Queue,
@@ -236,7 +236,7 @@ fn take_steps(
     panic!(rt; "some call comes to no end")
 }
 
-/// One run: its calls fit a list, whose values are those that are left. Answers how many removals were called before
+/// One run: its calls fit a list, whose values are those that are left. Returns how many removals were called before
 /// its end.
 fn run_once(rt: &impl Abort, alloc: Global, draws: &mut Draws, renews: bool) -> Result<u64, Fail> {
     let cells = draws.below(8).wrapping_add(2);

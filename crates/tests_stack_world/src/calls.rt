@@ -109,7 +109,7 @@ pub(crate) fn is_over(reply: StackReply) -> bool {
     }
 }
 
-/// Takes the step, and then steps of the participant to the end of its call. Answers the last reply.
+/// Takes the step, and then steps of the participant to the end of its call. Returns the last reply.
 pub(crate) fn to_end<S: BagStore<Job = Deferral>>(
     stack: &mut StackWorld<S>,
     participant: u64,
@@ -178,7 +178,7 @@ pub(crate) fn want_end(rt: &impl Abort, what: &str, stack: &mut Stack, reply: St
     want(rt, what, to_end(stack, 0, PlanStep::Go(0)), reply);
 }
 
-/// Goes on with the end of the world, to its end. Answers how many jobs it called.
+/// Goes on with the end of the world, to its end. Returns how many jobs it called.
 pub(crate) fn end(stack: &mut Stack) -> Option<u64> {
     for _ in 0..MANY {
         let count = count_of(stack.step(PlanStep::EndGo));

@@ -84,7 +84,7 @@ struct Run {
     removed: u64,
 }
 
-/// Makes the plain call, to its end. Answers how many removals it called.
+/// Makes the plain call, to its end. Returns how many removals it called.
 fn removals_of(rt: &impl Abort, stack: &mut Stack, participant: u64, call: PlainCall) -> u64 {
     let mut removals: u64 = 0;
     let mut reply = stack.step(PlanStep::Begin(participant, call));
@@ -113,7 +113,7 @@ fn removals_told(reply: StackReply) -> u64 {
     }
 }
 
-/// A participant flushes, and leaves its pin for a new one. Answers how many removals were called.
+/// A participant flushes, and leaves its pin for a new one. Returns how many removals were called.
 fn renew_pin(rt: &impl Abort, stack: &mut Stack, participant: u64) -> u64 {
     let flushed = removals_of(rt, stack, participant, PlainCall::Flush(Some(0)));
     let unpinned = removals_of(rt, stack, participant, PlainCall::Unpin(Some(0)));
@@ -122,7 +122,7 @@ fn renew_pin(rt: &impl Abort, stack: &mut Stack, participant: u64) -> u64 {
 }
 
 /// Each participant with no call under way flushes, and leaves its pin for a new one: what was taken off the stack may
-/// be destroyed, and its cells taken again, while calls on the stack are under way. Answers how many removals were
+/// be destroyed, and its cells taken again, while calls on the stack are under way. Returns how many removals were
 /// called.
 fn renew_pins(rt: &impl Abort, stack: &mut Stack, under_way: [Option<UnderWay>; 3]) -> u64 {
     let mut removals: u64 = 0;
@@ -161,7 +161,7 @@ fn begin_next(
     Some(begin_call(rt, stack, run.steps, drawn))
 }
 
-/// Takes one step of a call under way. Answers the call, if it goes on.
+/// Takes one step of a call under way. Returns the call, if it goes on.
 fn go_on(
     rt: &impl Abort,
     stack: &mut Stack,
@@ -227,7 +227,7 @@ fn is_done(run: &Run) -> bool {
     run.begun >= CALLS && first.is_none() && second.is_none() && third.is_none()
 }
 
-/// Pops one value of what is left. Answers what the pop did.
+/// Pops one value of what is left. Returns what the pop did.
 fn pop_next(rt: &impl Abort, stack: &mut Stack, run: &mut Run) -> Result<StackReply, AllocError> {
     run.steps = run.steps.wrapping_add(1);
     let reply = pop(stack, 0, 1);
@@ -250,7 +250,7 @@ fn pop_the_rest(rt: &impl Abort, stack: &mut Stack, run: &mut Run) -> Result<(),
     panic!(rt; "more values come off than were pushed")
 }
 
-/// Has all participants leave, and ends the world. Answers how many removals the end called.
+/// Has all participants leave, and ends the world. Returns how many removals the end called.
 fn end_all(rt: &impl Abort, stack: &mut Stack) -> Option<u64> {
     for participant in 0..PARTICIPANTS {
         want_done(rt, stack, participant, PlainCall::Unpin(Some(0)));
@@ -300,7 +300,7 @@ fn want_ended(rt: &impl Abort, stack: &mut Stack) {
     want(rt, "the end comes to its end", called.is_some(), true);
 }
 
-/// One run: its calls fit a list, whose values are those that are left. Answers how many removals were called before
+/// One run: its calls fit a list, whose values are those that are left. Returns how many removals were called before
 /// its end.
 fn run_once(rt: &impl Abort, alloc: Global, draws: &mut Draws, renews: bool) -> Result<u64, Fail> {
     let cells = draws.below(9).wrapping_add(1);

@@ -62,7 +62,7 @@ impl Play {
         reply
     }
 
-    /// Goes on with a participant's call, so many steps at most. Answers whether it ended.
+    /// Goes on with a participant's call, so many steps at most. Returns whether it ended.
     fn go(&mut self, rt: &impl Abort, participant: u64, steps: u64) -> bool {
         for _ in 0..steps {
             let reply = self.take(rt, Step::Go(participant));
@@ -83,7 +83,7 @@ impl Play {
         }
     }
 
-    /// The first participant begins this call and goes so many steps. Answers whether it ended.
+    /// The first participant begins this call and goes so many steps. Returns whether it ended.
     fn stall(&mut self, rt: &impl Abort, call: Call, steps: u64) -> bool {
         self.take(rt, Step::Begin(0, call));
         self.go(rt, 0, steps)
@@ -124,7 +124,7 @@ fn want_numbers(rt: &impl Abort, what: &str, play: &Play, wanted: (u64, usize)) 
 }
 
 /// The first participant makes these calls and `deferrals`, and stalls after so many steps of a further call. It goes
-/// to its end after all that the second one does. Answers whether it had ended before.
+/// to its end after all that the second one does. Returns whether it had ended before.
 fn stalls_once(
     rt: &impl Abort,
     alloc: Global,

@@ -10,7 +10,7 @@ use std::sync::atomic::AtomicU64;
 use std::sync::atomic::Ordering::SeqCst;
 use std::thread;
 
-/// Pins, scans all words for the epoch read then, and stores the next one where no word holds the scan up. Answers the
+/// Pins, scans all words for the epoch read then, and stores the next one where no word holds the scan up. Returns the
 /// epoch then.
 fn pin_and_advance(table: &Participants, seat: &mut ParticipantSeat, position: usize) -> u64
     requires of { IsOf table.now seat.old }
@@ -34,7 +34,7 @@ fn pin_and_advance(table: &Participants, seat: &mut ParticipantSeat, position: u
     epoch + 1
 }
 
-/// Claims the position, pins, tries to advance, unpins and frees it. Answers whether the claim was won.
+/// Claims the position, pins, tries to advance, unpins and frees it. Returns whether the claim was won.
 fn visit(table: &Participants, position: usize, greatest: &AtomicU64) -> bool
     requires { position < table.now.positions }
 {

@@ -27,7 +27,7 @@ fn tally(replies: &[Reply]) -> (u64, u64) {
     (called, refused)
 }
 
-/// Makes this call of the one participant. Answers how many jobs were called, and how often it was refused.
+/// Makes this call of the one participant. Returns how many jobs were called, and how often it was refused.
 fn call_once<S: BagStore<Job = Deferral>>(
     world: &mut World<S>,
     call: Call,
@@ -63,7 +63,7 @@ fn pinned_world<S: BagStore<Job = Deferral>>(
     Ok(world)
 }
 
-/// A pin, a flush and the unpin. Answers how many jobs the flush called.
+/// A pin, a flush and the unpin. Returns how many jobs the flush called.
 fn round<S: BagStore<Job = Deferral>>(world: &mut World<S>) -> Result<u64, Fail> {
     call_once(world, Call::Pin)?;
     let (called, _) = call_once(world, Call::Flush(Some(0)))?;

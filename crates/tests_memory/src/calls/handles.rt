@@ -147,7 +147,7 @@ fn defer_three(
     }
 }
 
-/// A pin, a flush and the unpin. Answers what the flush did.
+/// A pin, a flush and the unpin. Returns what the flush did.
 pub fn round(rt: &impl Abort, handle: &mut LocalHandle<'_, u64>) -> Result<(), Fault> {
     let guard = pin(rt, handle);
     let flushed = handle.flush(&guard);

@@ -71,7 +71,7 @@ fn want_full_store(
     want(rt, "the value handed back", *back, value);
 }
 
-/// The first value, which stands behind the pointer, is swapped for the second one. Answers the pointers to both.
+/// The first value, which stands behind the pointer, is swapped for the second one. Returns the pointers to both.
 fn swap_two<'g>(
     rt: &impl Abort,
     guard: &'g Guard<'_, u64>,
@@ -136,7 +136,7 @@ fn lost(
     }
 }
 
-/// An owned value is lost by one exchange and placed by the next. Answers the pointer to it.
+/// An owned value is lost by one exchange and placed by the next. Returns the pointer to it.
 fn lose_and_place<'g>(
     rt: &impl Abort,
     guard: &'g Guard<'_, u64>,
@@ -153,7 +153,7 @@ fn lose_and_place<'g>(
     placed
 }
 
-/// The pointer is exchanged for one with a tag, and that one for null. Answers the one with the tag.
+/// The pointer is exchanged for one with a tag, and that one for null. Returns the one with the tag.
 fn exchange_for_null<'g>(
     rt: &impl Abort,
     guard: &'g Guard<'_, u64>,

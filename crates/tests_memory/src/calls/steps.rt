@@ -125,7 +125,7 @@ fn want_numbers<S: BagStore<Job = Deferral>>(
     want(rt, what, numbers, wanted);
 }
 
-/// The participant makes this call, which ends with this reply. Answers how many jobs it called.
+/// The participant makes this call, which ends with this reply. Returns how many jobs it called.
 fn want_call<S: BagStore<Job = Deferral>>(
     rt: &impl Abort,
     world: &mut World<S>,
