@@ -102,20 +102,20 @@ module _ (old new : State) (told : ℕ → Told) (reply : Reply) (h : AllAgree o
   end_shown Open did = (subst MayEndGo (sym did.0) tt, untold_along old did.1 refl refl)
   end_shown Over did = (subst MayEndGo (sym did.0) tt, untold_along old did.1 refl refl)
   end_shown (Emptying (job ∷ jobs) n) did = (subst MayEndGo (sym did.0) tt, untold_along _ did.1 refl refl)
-  end_shown (Emptying [] n) (inl did) = (subst MayEndGo (sym did.3) tt, untold_along _ did.4 refl refl)
-  end_shown (Emptying [] n) (inr did) = (subst MayEndGo (sym did.1) tt, untold_along _ did.2 refl refl)
+  end_shown (Emptying [] n) (inl did) = (subst MayEndGo (sym did.told) tt, untold_along _ did.state refl refl)
+  end_shown (Emptying [] n) (inr did) = (subst MayEndGo (sym did.told) tt, untold_along _ did.state refl refl)
 
   step_shown : (step : Step) → Moves old step reply new → ShowsStep new told step reply
-  step_shown Register (inl did) = registered did.0 did.2 did.3 did.5 did.6
-  step_shown Register (inr (inl did)) = unregistered TableFull did.2 did.3
-  step_shown Register (inr (inr did)) = unregistered Ended did.1 did.2
+  step_shown Register (inl did) = registered did.position did.there did.free did.told did.state
+  step_shown Register (inr (inl did)) = unregistered TableFull did.told did.state
+  step_shown Register (inr (inr did)) = unregistered Ended did.told did.state
   step_shown (Begin p c) did = begin_shown p c (refusal c (seat_of old p) old.tickets old.heap) refl did
   step_shown (Go p) (inl did) = away_shown p did.0 did.1 did.2
   step_shown (Go p) (inr did) =
       tell_go old new told reply h p did.0 (linked.seats p) (seat_of old p).progress refl did.1
-  step_shown EndStep (inl did) = (subst MayEnd (sym did.2) tt, untold_along _ did.3 refl refl)
-  step_shown EndStep (inr (inl did)) = (subst MayEnd (sym did.2) tt, untold_along old did.3 refl refl)
-  step_shown EndStep (inr (inr did)) = (subst MayEnd (sym did.1) tt, untold_along old did.2 refl refl)
+  step_shown EndStep (inl did) = (subst MayEnd (sym did.told) tt, untold_along _ did.state refl refl)
+  step_shown EndStep (inr (inl did)) = (subst MayEnd (sym did.told) tt, untold_along old did.state refl refl)
+  step_shown EndStep (inr (inr did)) = (subst MayEnd (sym did.told) tt, untold_along old did.state refl refl)
   step_shown EndGo did = end_shown old.ending did
 
 replies_from : (old new : State) (log : List Entry) (told : ℕ → Told)

@@ -116,8 +116,8 @@ module _ (old new : State) (reply : Reply) (found : ℕ → ℕ → Type 0) (h :
       by_ending Open did = along old did.1 (λ q. refl)
       by_ending Over did = along old did.1 (λ q. refl)
       by_ending (Emptying (job ∷ jobs) n) did = along _ did.1 (λ q. refl)
-      by_ending (Emptying [] n) (inl did) = along _ did.4 (λ q. refl)
-      by_ending (Emptying [] n) (inr did) = along _ did.2 (λ q. refl)
+      by_ending (Emptying [] n) (inl did) = along _ did.state (λ q. refl)
+      by_ending (Emptying [] n) (inr did) = along _ did.state (λ q. refl)
 
   -- a step that neither an end nor a participant goes on with
   still : (new.places ≡ old.places) × (new.seen ≡ old.seen) × (new.ahead ≡ old.ahead) × (new.room ≡ old.room)
@@ -127,15 +127,15 @@ module _ (old new : State) (reply : Reply) (found : ℕ → ℕ → Type 0) (h :
       (λ q. ap (λ (all : List ℕ). slice_index_or all q 0) same.1) (λ q. ap (λ (s : State). seat_of s q) e ∙ seats q)
 
   step_shown : (step : Step) → TakesStep old step reply new → ShowsFull found old new step reply
-  step_shown Register (inl did, sees) = (tt, registers did.0 did.2 sees did.6)
-  step_shown Register (inr (inl did), sees) = (tt, still sees old did.3 (λ q. refl))
-  step_shown Register (inr (inr did), sees) = (tt, still sees old did.2 (λ q. refl))
+  step_shown Register (inl did, sees) = (tt, registers did.position did.there sees did.state)
+  step_shown Register (inr (inl did), sees) = (tt, still sees old did.state (λ q. refl))
+  step_shown Register (inr (inr did), sees) = (tt, still sees old did.state (λ q. refl))
   step_shown (Begin p c) (did, sees) = begins p c (refusal c (seat_of old p) old.tickets old.heap) refl sees did
   step_shown (Go p) (inl did, sees) = goes_free p did.0 sees did.1 did.2
   step_shown (Go p) (inr did, sees) = goes old new reply found h p did.0 sees linked (seat_of old p).progress refl did.1
-  step_shown EndStep (inl did, sees) = (tt, still sees _ did.3 (λ q. refl))
-  step_shown EndStep (inr (inl did), sees) = (tt, still sees old did.3 (λ q. refl))
-  step_shown EndStep (inr (inr did), sees) = (tt, still sees old did.2 (λ q. refl))
+  step_shown EndStep (inl did, sees) = (tt, still sees _ did.state (λ q. refl))
+  step_shown EndStep (inr (inl did), sees) = (tt, still sees old did.state (λ q. refl))
+  step_shown EndStep (inr (inr did), sees) = (tt, still sees old did.state (λ q. refl))
   step_shown EndGo (did, sees) = (tt, ends_all old.ending sees did)
 
 -- WHOLE RUNS

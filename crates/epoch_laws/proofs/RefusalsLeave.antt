@@ -703,24 +703,25 @@ module _ (old new : State) (reply : Reply) (before : ℕ → WorldSeat) (quiet c
   ends_all Open did = stays old did.1 (λ q. refl)
   ends_all Over did = stays old did.1 (λ q. refl)
   ends_all (Emptying (job ∷ jobs) n) did = stays _ did.1 (λ q. refl)
-  ends_all (Emptying [] n) (inl did) = stays _ did.4 (λ q. refl)
-  ends_all (Emptying [] n) (inr did) = stays _ did.2 (λ q. refl)
+  ends_all (Emptying [] n) (inl did) = stays _ did.state (λ q. refl)
+  ends_all (Emptying [] n) (inr did) = stays _ did.state (λ q. refl)
 
   step_shown : (step : Step) → TakesStep old step reply new → Shown step reply
-  step_shown Register (inl did, same) = subst (Shown Register) (sym did.5) (tt, registers did.0 did.2 did.6)
+  step_shown Register (inl did, same) =
+      subst (Shown Register) (sym did.told) (tt, registers did.position did.there did.state)
   step_shown Register (inr (inl did), same) =
-      subst (Shown Register) (sym did.2) (unchanged did.3 same, stays old did.3 (λ q. refl))
+      subst (Shown Register) (sym did.told) (unchanged did.state same, stays old did.state (λ q. refl))
   step_shown Register (inr (inr did), same) =
-      subst (Shown Register) (sym did.1) (unchanged did.2 same, stays old did.2 (λ q. refl))
+      subst (Shown Register) (sym did.told) (unchanged did.state same, stays old did.state (λ q. refl))
   step_shown (Begin p c) (did, same) = begins p c (refusal c (seat_of old p) old.tickets old.heap) refl same did
   step_shown (Go p) (inl did, sees) = goes_free p did.1 did.2
   step_shown (Go p) (inr did, sees) =
       goes old new reply before quiet collected h p did.0 linked (seat_of old p).progress refl did.1
-  step_shown EndStep (inl did, same) = subst (Shown EndStep) (sym did.2) (tt, stays _ did.3 (λ q. refl))
+  step_shown EndStep (inl did, same) = subst (Shown EndStep) (sym did.told) (tt, stays _ did.state (λ q. refl))
   step_shown EndStep (inr (inl did), same) =
-      subst (Shown EndStep) (sym did.2) (unchanged did.3 same, stays old did.3 (λ q. refl))
+      subst (Shown EndStep) (sym did.told) (unchanged did.state same, stays old did.state (λ q. refl))
   step_shown EndStep (inr (inr did), same) =
-      subst (Shown EndStep) (sym did.1) (unchanged did.2 same, stays old did.2 (λ q. refl))
+      subst (Shown EndStep) (sym did.told) (unchanged did.state same, stays old did.state (λ q. refl))
   step_shown EndGo (did, sees) = (tt, ends_all old.ending did)
 
 -- WHOLE RUNS

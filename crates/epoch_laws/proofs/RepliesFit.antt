@@ -353,23 +353,24 @@ module _ (old new : State) (before : List Entry) (reply : Reply) (h : AllAgree o
   ends_on Open e did = end_go_fits (Refused IdleFault) Open did.0 e refl
   ends_on Over e did = end_go_fits (Refused IdleFault) Over did.0 e refl
   ends_on (Emptying (job ∷ jobs) n) e did = end_go_fits _ (Emptying (job ∷ jobs) n) did.0 e tt
-  ends_on (Emptying [] n) e (inl did) = end_go_fits _ (Emptying [] n) did.3 e tt
-  ends_on (Emptying [] n) e (inr did) = end_go_fits _ (Emptying [] n) did.1 e tt
+  ends_on (Emptying [] n) e (inl did) = end_go_fits _ (Emptying [] n) did.told e tt
+  ends_on (Emptying [] n) e (inr did) = end_go_fits _ (Emptying [] n) did.told e tt
 
   pub step_fits : (step : Step) → Moves old step reply new → Fits before step reply
   step_fits Register (inl did) =
-      register_fits (Registered did.0) Open did.5 did.1 (λ k below. (h k).here (did.4 k below))
-  step_fits Register (inr (inl did)) = register_fits (Refused TableFull) Open did.2 did.0 refl
+      register_fits (Registered did.position) Open did.told did.opened (λ k below. (h k).here (did.lowest k below))
+  step_fits Register (inr (inl did)) = register_fits (Refused TableFull) Open did.told did.opened refl
   step_fits Register (inr (inr did)) =
-      register_fits (Refused Ended) old.ending did.1 refl (too_late old.ending did.0).0
+      register_fits (Refused Ended) old.ending did.told refl (too_late old.ending did.begun).0
   step_fits (Begin p c) did = begin_fits p c (refusal c (seat_of old p) old.tickets old.heap) refl did
   step_fits (Go p) (inl did) = subst (GoFits (told p)) (sym did.1) (away_fits p did.0)
   step_fits (Go p) (inr did) = go_fits p (seat_of old p).progress refl did.0 did.1
   step_fits EndStep (inl did) =
-      end_fits Began Open did.2 did.0 (λ i p at. ((h p).away (did.1 p)).registered)
+      end_fits Began Open did.told did.opened (λ i p at. ((h p).away (did.free p)).registered)
   step_fits EndStep (inr (inl did)) =
-      end_fits (Refused ParticipantsLeft) Open did.2 did.0 (refl, λ left. did.1 (all_free left))
-  step_fits EndStep (inr (inr did)) = end_fits (Refused Ended) old.ending did.1 refl (too_late old.ending did.0).1
+      end_fits (Refused ParticipantsLeft) Open did.told did.opened (refl, λ left. did.some (all_free left))
+  step_fits EndStep (inr (inr did)) =
+      end_fits (Refused Ended) old.ending did.told refl (too_late old.ending did.begun).1
   step_fits EndGo did = ends_on old.ending refl did
 
 -- WHOLE RUNS

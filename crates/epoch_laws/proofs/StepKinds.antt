@@ -88,19 +88,21 @@ module _ (old new : State) (reply : Reply) where
   end_goes Open at did = refused _ did.0 did.1
   end_goes Over at did = refused _ did.0 did.1
   end_goes (Emptying (job ∷ jobs) n) at did = told _ _ did.0 did.1 (EndCalls job jobs n at)
-  end_goes (Emptying [] n) at (inl (bag, queued, out, same, e)) = told _ _ same e (EndTakes bag queued n at out)
-  end_goes (Emptying [] n) at (inr (none, same, e)) = told _ _ same e (EndIsOver n at none)
+  end_goes (Emptying [] n) at (inl did) =
+      told _ _ did.told did.state (EndTakes did.bag did.queued n at did.inserted)
+  end_goes (Emptying [] n) at (inr did) = told _ _ did.told did.state (EndIsOver n at did.none)
 
   kinds : (step : Step) → Moves old step reply new → StepKind old step reply new
-  kinds Register (inl (p, opened, there, free, lowest, same, e)) = told _ _ same e (Registration p opened there free)
-  kinds Register (inr (inl did)) = refused _ did.2 did.3
-  kinds Register (inr (inr did)) = refused _ did.1 did.2
+  kinds Register (inl did) =
+      told _ _ did.told did.state (Registration did.position did.opened did.there did.free)
+  kinds Register (inr (inl did)) = refused _ did.told did.state
+  kinds Register (inr (inr did)) = refused _ did.told did.state
   kinds (Begin p c) did = begins p c _ refl did
   kinds (Go p) (inl did) = refused _ did.1 did.2
   kinds (Go p) (inr did) = goes p _ did.0 refl did.1
-  kinds EndStep (inl did) = told _ _ did.2 did.3 (EndBegins did.0 did.1)
-  kinds EndStep (inr (inl did)) = refused _ did.2 did.3
-  kinds EndStep (inr (inr did)) = refused _ did.1 did.2
+  kinds EndStep (inl did) = told _ _ did.told did.state (EndBegins did.opened did.free)
+  kinds EndStep (inr (inl did)) = refused _ did.told did.state
+  kinds EndStep (inr (inr did)) = refused _ did.told did.state
   kinds EndGo did = end_goes old.ending refl did
 
 -- each step is one of these

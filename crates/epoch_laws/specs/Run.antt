@@ -368,6 +368,19 @@ DoesGo old p seat (Ends r) reply new = (reply ≡ r) × (new ≡ with_seat old p
 abbrev pub AllFree : State → Type 0
 AllFree s = (p : ℕ) → position_word s p ≡ Free
 
+-- an end takes a bag that is left, or finds none and is over
+pub record TakesLeftBag (old : State) (count : ℕ) (reply : Reply) (new : State) : Type 0 where
+  pub bag : Bag
+  pub queued : List Bag
+  pub inserted : IsInserted bag queued old.queued
+  pub told : reply ≡ Stepped
+  pub state : new ≡ record old { queued = queued; ending = Emptying bag.jobs count }
+
+pub record FindsNoneLeft (old : State) (count : ℕ) (reply : Reply) (new : State) : Type 0 where
+  pub none : old.queued ≡ []
+  pub told : reply ≡ Done (Count count)
+  pub state : new ≡ record old { ending = Over }
+
 -- an end takes any bag, calls its jobs one by one, and is over when no bag is left
 abbrev pub EndGoes : State → Ending → Reply → State → Type 0
 EndGoes old Open reply new = (reply ≡ Refused IdleFault) × (new ≡ old)
@@ -375,28 +388,52 @@ EndGoes old Over reply new = (reply ≡ Refused IdleFault) × (new ≡ old)
 EndGoes old (Emptying (job ∷ jobs) n) reply new =
     (reply ≡ CalledReply job.ticket (outcome_of old.heap job.removes))
     × (new ≡ record old { ending = Emptying jobs (n + 1); heap = heap_after_job old.heap job.removes })
-EndGoes old (Emptying [] n) reply new =
-    ((bag : Bag) × (queued : List Bag) × IsInserted bag queued old.queued × (reply ≡ Stepped)
-    × (new ≡ record old { queued = queued; ending = Emptying bag.jobs n }))
-    ⊎ ((old.queued ≡ []) × (reply ≡ Done (Count n)) × (new ≡ record old { ending = Over }))
+EndGoes old (Emptying [] n) reply new = TakesLeftBag old n reply new ⊎ FindsNoneLeft old n reply new
+
+-- a registration gets the lowest free position, or finds none
+pub record GetsPosition (old : State) (reply : Reply) (new : State) : Type 0 where
+  pub position : ℕ
+  pub opened : old.ending ≡ Open
+  pub there : position < length old.seats
+  pub free : position_word old position ≡ Free
+  pub lowest : (k : ℕ) → k < position → position_word old k ≢ Free
+  pub told : reply ≡ Registered position
+  pub state : new ≡ with_seat old position (record (free_seat old.sizes) { word = Unpinned })
+
+pub record FindsTableFull (old : State) (reply : Reply) (new : State) : Type 0 where
+  pub opened : old.ending ≡ Open
+  pub taken : (k : ℕ) → k < length old.seats → position_word old k ≢ Free
+  pub told : reply ≡ Refused TableFull
+  pub state : new ≡ old
+
+-- the end begins where all positions are free, and waits where one isn't
+pub record BeginsEnd (old : State) (reply : Reply) (new : State) : Type 0 where
+  pub opened : old.ending ≡ Open
+  pub free : AllFree old
+  pub told : reply ≡ Began
+  pub state : new ≡ record old { ending = Emptying [] 0 }
+
+pub record FindsSomeLeft (old : State) (reply : Reply) (new : State) : Type 0 where
+  pub opened : old.ending ≡ Open
+  pub some : ¬ (AllFree old)
+  pub told : reply ≡ Refused ParticipantsLeft
+  pub state : new ≡ old
+
+-- once the end has begun there is no registration, and no further end
+pub record ComesTooLate (old : State) (reply : Reply) (new : State) : Type 0 where
+  pub begun : old.ending ≢ Open
+  pub told : reply ≡ Refused Ended
+  pub state : new ≡ old
 
 -- what this step does, with this reply, to all but the places
 abbrev pub Moves : State → Step → Reply → State → Type 0
 Moves old Register reply new =
-    ((p : ℕ) × (old.ending ≡ Open) × (p < length old.seats) × (position_word old p ≡ Free)
-    × ((k : ℕ) → k < p → position_word old k ≢ Free) × (reply ≡ Registered p)
-    × (new ≡ with_seat old p (record (free_seat old.sizes) { word = Unpinned })))
-    ⊎ ((old.ending ≡ Open) × ((k : ℕ) → k < length old.seats → position_word old k ≢ Free) × (reply ≡ Refused TableFull)
-    × (new ≡ old))
-    ⊎ ((old.ending ≢ Open) × (reply ≡ Refused Ended) × (new ≡ old))
+    GetsPosition old reply new ⊎ FindsTableFull old reply new ⊎ ComesTooLate old reply new
 Moves old (Begin p c) reply new = BeginsCall old p c (refusal c (seat_of old p) old.tickets old.heap) reply new
 Moves old (Go p) reply new =
     ((position_word old p ≡ Free) × (reply ≡ Refused NotRegistered) × (new ≡ old))
     ⊎ ((position_word old p ≢ Free) × DoesGo old p (seat_of old p) (seat_of old p).progress reply new)
-Moves old EndStep reply new =
-    ((old.ending ≡ Open) × AllFree old × (reply ≡ Began) × (new ≡ record old { ending = Emptying [] 0 }))
-    ⊎ ((old.ending ≡ Open) × (¬ (AllFree old)) × (reply ≡ Refused ParticipantsLeft) × (new ≡ old))
-    ⊎ ((old.ending ≢ Open) × (reply ≡ Refused Ended) × (new ≡ old))
+Moves old EndStep reply new = BeginsEnd old reply new ⊎ FindsSomeLeft old reply new ⊎ ComesTooLate old reply new
 Moves old EndGo reply new = EndGoes old old.ending reply new
 
 -- WHAT A STEP SEES OF THE PLACES, AND WHAT A COLLECTION AND A PUT FIND

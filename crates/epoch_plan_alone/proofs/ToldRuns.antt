@@ -171,8 +171,18 @@ module _ {S : Program} {Starts : S.Phase → Type 0} {last : State} where
       → ToLast S Starts last (lone_world 0 (free_seat sizes) 0 h) NoPlan
   by_pin h rest =
       (plainly (at h 0 Unpinned (lone_machine PinAction Resting 0 0 []) Idle []) (entry Register (Registered 0))
-      (passes (entry Register (Registered 0)) refl tt (λ q. refl))
-      (inl (0, refl, omega arith, refl, λ k lt. absurd (omega (arith, lt)), refl, refl), (refl, refl, refl, refl))
+      (passes (entry Register (Registered 0)) refl tt (λ q. refl)) (
+        inl (record {
+          position = 0;
+          opened = refl;
+          there = omega arith;
+          free = refl;
+          lowest = λ k lt. absurd (omega (arith, lt));
+          told = refl;
+          state = refl;
+        }),
+        (refl, refl, refl, refl),
+      )
       (plainly (pins h 0 Unpinned LoadPin 0) (entry (Begin 0 Pin) Began)
       (free_begins (entry (Begin 0 Pin) Began) 0 Pin refl refl tt refl (λ q. refl))
       ((refl, refl), (refl, refl, refl, refl))

@@ -105,9 +105,9 @@ pub data Registering (old new : State) : Type 0 where
 
 -- whichever way a registration goes
 pub registering : (old new : State) (reply : Reply) → Moves old Register reply new → Registering old new
-registering old new reply (inl did) = takes_place did.0 did.2 did.3 did.6
-registering old new reply (inr (inl did)) = changes_none did.3
-registering old new reply (inr (inr did)) = changes_none did.2
+registering old new reply (inl did) = takes_place did.position did.there did.free did.state
+registering old new reply (inr (inl did)) = changes_none did.state
+registering old new reply (inr (inr did)) = changes_none did.state
 
 -- SEATS
 
@@ -147,9 +147,9 @@ unmoved old new last e sizes seats q =
 -- an end changes no seat
 pub end_unmoved : (old new : State) (reply : Reply) → Moves old EndStep reply new → (q : ℕ)
     → seat_of new q ≡ seat_of old q
-end_unmoved old new reply (inl did) = unmoved old new _ did.3 refl refl
-end_unmoved old new reply (inr (inl did)) = unmoved old new old did.3 refl refl
-end_unmoved old new reply (inr (inr did)) = unmoved old new old did.2 refl refl
+end_unmoved old new reply (inl did) = unmoved old new _ did.state refl refl
+end_unmoved old new reply (inr (inl did)) = unmoved old new old did.state refl refl
+end_unmoved old new reply (inr (inr did)) = unmoved old new old did.state refl refl
 
 -- and so is it with each step of an end under way
 pub ending_unmoved : (old new : State) (reply : Reply) (e : Ending) → EndGoes old e reply new → (q : ℕ)
@@ -157,8 +157,8 @@ pub ending_unmoved : (old new : State) (reply : Reply) (e : Ending) → EndGoes 
 ending_unmoved old new reply Open did = unmoved old new old did.1 refl refl
 ending_unmoved old new reply Over did = unmoved old new old did.1 refl refl
 ending_unmoved old new reply (Emptying (job ∷ jobs) n) did = unmoved old new _ did.1 refl refl
-ending_unmoved old new reply (Emptying [] n) (inl did) = unmoved old new _ did.4 refl refl
-ending_unmoved old new reply (Emptying [] n) (inr did) = unmoved old new _ did.2 refl refl
+ending_unmoved old new reply (Emptying [] n) (inl did) = unmoved old new _ did.state refl refl
+ending_unmoved old new reply (Emptying [] n) (inr did) = unmoved old new _ did.state refl refl
 
 -- what a step of p shows that is in a call which does nothing to cells
 pub record LooseGo (old new : State) (reply : Reply) (p : ℕ) : Type 0 where

@@ -96,8 +96,18 @@ by mid step reply takes rest = (entry step reply ∷ rest.0, (mid, takes, rest.1
 -- the participant pins
 abbrev by_pin : ToLast (first_guard 0) → ToLast first
 by_pin rest =
-    (by (world (seat Unpinned (machine Resting 0 0) Idle []) 0 none_placed) Register (Registered 0)
-    (inl (0, refl, omega arith, refl, λ k lt. absurd (omega (arith, lt)), refl, refl), (refl, refl, refl, refl))
+    (by (world (seat Unpinned (machine Resting 0 0) Idle []) 0 none_placed) Register (Registered 0) (
+      inl (record {
+        position = 0;
+        opened = refl;
+        there = omega arith;
+        free = refl;
+        lowest = λ k lt. absurd (omega (arith, lt));
+        told = refl;
+        state = refl;
+      }),
+      (refl, refl, refl, refl),
+    )
     (by (world (pinning Unpinned LoadPin 0) 0 none_placed) (Begin 0 Pin) Began ((refl, refl), (refl, refl, refl, refl))
     (by (world (pinning Unpinned (StorePin 0) 0) 0 none_placed) (Go 0) Stepped
     (inr (taken_unpinned, (refl, refl)), ((refl, refl), λ q ne. refl, tt, λ place. absurd (omega (arith, place.fewer))))

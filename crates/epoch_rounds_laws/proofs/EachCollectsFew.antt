@@ -189,18 +189,20 @@ module _ (z : Sizes) (sized : IsSized z) (taken called : ℕ → ℕ) (old new :
   ends Open did (is, e) = stays EndGo did (λ q. refl) (λ q. refl) old e refl (λ q. refl)
   ends Over did (is, e) = stays EndGo did (λ q. refl) (λ q. refl) old e refl (λ q. refl)
   ends (Emptying (job ∷ jobs) n) did (is, e) = stays EndGo did (λ q. refl) (λ q. refl) _ e refl (λ q. refl)
-  ends (Emptying [] n) did (inl (bag, queued, out, is, e)) =
-      along EndGo did (λ q. refl) (λ q. refl) (subst (AllSmall z.bag_jobs) (sym (ap (λ (s : State). s.queued) e))
-      (small_got z.bag_jobs old.queued queued bag out h.small).0) (λ q. ap (λ (s : State). seat_of s q) e)
-  ends (Emptying [] n) did (inr (none, is, e)) = stays EndGo did (λ q. refl) (λ q. refl) _ e refl (λ q. refl)
+  ends (Emptying [] n) did (inl to) =
+      along EndGo did (λ q. refl) (λ q. refl)
+      (subst (AllSmall z.bag_jobs) (sym (ap (λ (s : State). s.queued) to.state))
+      (small_got z.bag_jobs old.queued to.queued to.bag to.inserted h.small).0)
+      (λ q. ap (λ (s : State). seat_of s q) to.state)
+  ends (Emptying [] n) did (inr to) = stays EndGo did (λ q. refl) (λ q. refl) _ to.state refl (λ q. refl)
 
   moves : (step : Step) → Moves old step r new → After step
   moves Register did = by_case did
     where
       by_case : Moves old Register r new → After Register
-      by_case (inl to) = registers to.0 did to.2 to.6
-      by_case (inr (inl to)) = stays Register did (λ q. refl) (λ q. refl) old to.3 refl (λ q. refl)
-      by_case (inr (inr to)) = stays Register did (λ q. refl) (λ q. refl) old to.2 refl (λ q. refl)
+      by_case (inl to) = registers to.position did to.there to.state
+      by_case (inr (inl to)) = stays Register did (λ q. refl) (λ q. refl) old to.state refl (λ q. refl)
+      by_case (inr (inr to)) = stays Register did (λ q. refl) (λ q. refl) old to.state refl (λ q. refl)
   moves (Begin p c) did = begins p c (refusal c (seat_of old p) old.tickets old.heap) refl did did
   moves (Go p) did = by_case did
     where
@@ -220,9 +222,9 @@ module _ (z : Sizes) (sized : IsSized z) (taken called : ℕ → ℕ) (old new :
   moves EndStep did = by_case did
     where
       by_case : Moves old EndStep r new → After EndStep
-      by_case (inl to) = stays EndStep did (λ q. refl) (λ q. refl) _ to.3 refl (λ q. refl)
-      by_case (inr (inl to)) = stays EndStep did (λ q. refl) (λ q. refl) old to.3 refl (λ q. refl)
-      by_case (inr (inr to)) = stays EndStep did (λ q. refl) (λ q. refl) old to.2 refl (λ q. refl)
+      by_case (inl to) = stays EndStep did (λ q. refl) (λ q. refl) _ to.state refl (λ q. refl)
+      by_case (inr (inl to)) = stays EndStep did (λ q. refl) (λ q. refl) old to.state refl (λ q. refl)
+      by_case (inr (inr to)) = stays EndStep did (λ q. refl) (λ q. refl) old to.state refl (λ q. refl)
   moves EndGo did = ends old.ending did did
 
 -- the places play no part

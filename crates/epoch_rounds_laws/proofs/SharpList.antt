@@ -1,6 +1,6 @@
 -- The sharp list leads to a sharp state.
-use Rattle.std.proofs.Common.{◌≡◌, ℕ, zero, suc, ◌+◌, ◌<◌, List, [], ◌∷◌, ◌++◌, ◌≤◌, ◌&&◌, append_assoc, append-nil}
-use Rattle.std.proofs.Common.{length}
+use Rattle.std.proofs.Common.{◌≡◌, ◌≢◌, ℕ, zero, suc, ◌+◌, ◌<◌, List, [], ◌∷◌, ◌++◌, ◌≤◌, ◌&&◌, append_assoc}
+use Rattle.std.proofs.Common.{append-nil, length}
 use Rattle.std.proofs.Common.{length-append, Bool, true, false, Some, inl, inr, refl, ap, sym, subst, ◌∙◌, arith}
 use Rattle.std.proofs.Common.{slice_index_or, slice_get}
 use Rattle.epoch_cells.specs.declared.fault.Fault.TheVariants.{BagsFull}
@@ -15,10 +15,10 @@ use Rattle.epoch_laws.specs.declared.step.Reply.TheVariants.{Began, Stepped, Pin
 use Rattle.epoch_laws.specs.declared.step.Reply.TheVariants.{Unpinned as UnpinnedReply, Repinned, Deferred, Done}
 use Rattle.epoch_laws.specs.declared.step.Reply.TheVariants.{Refused}
 use Rattle.epoch_laws.specs.declared.step.Step.TheVariants.{Register, Begin, Go}
-use Rattle.epoch_laws.specs.declared.step.Word.TheVariants.{Unpinned}
+use Rattle.epoch_laws.specs.declared.step.Word.TheVariants.{Free, Unpinned}
 use Rattle.epoch_laws.specs.Calls.{call_entries, goes_of, ends_call, EndsAtLast}
 use Rattle.epoch_laws.specs.Grace.{IsReplyAt}
-use Rattle.epoch_laws.specs.Run.{Bag, WorldSeat, State, HasFreePlace, Ending, Open, seat_of}
+use Rattle.epoch_laws.specs.Run.{Bag, WorldSeat, State, HasFreePlace, Ending, Open, seat_of, position_word, with_seat}
 use Rattle.epoch_laws.specs.Run.{free_seat, IsFresh, Moves, TakesStep, Runs}
 use Rattle.epoch_laws.specs.Room.{is_at_places}
 use Rattle.epoch_laws.proofs.Log.{IsWithdrawal, PinnedSince, stands_push, stands_keep, stands_new}
@@ -129,21 +129,29 @@ fresh_core s fresh sized first =
 -- the first Register takes position 0
 registers_first : (aside : Aside) (new : State) (told : Reply)
     → Moves (among unregistered aside) Register told new → core new ≡ half_registered
-registers_first aside new told (inl (zero, opened, there, free, least, told_so, did)) = ap core did
-registers_first aside new told (inl (suc p, opened, there, free, least, told_so, did)) =
-    absurd (least 0 (omega arith) refl)
-registers_first aside new told (inr (inl did)) = absurd (did.1 0 (omega arith) refl)
-registers_first aside new told (inr (inr did)) = absurd (did.0 refl)
+registers_first aside new told (inl did) = at did.position did.lowest did.state
+  where
+    at : (p : ℕ) → ((k : ℕ) → k < p → position_word (among unregistered aside) k ≢ Free)
+        → new ≡ with_seat (among unregistered aside) p (record (free_seat pair_sizes) { word = Unpinned })
+        → core new ≡ half_registered
+    at zero lowest e = ap core e
+    at (suc p) lowest e = absurd (lowest 0 (omega arith) refl)
+registers_first aside new told (inr (inl did)) = absurd (did.taken 0 (omega arith) refl)
+registers_first aside new told (inr (inr did)) = absurd (did.begun refl)
 
 -- and the second one position 1
 registers_second : (aside : Aside) (new : State) (told : Reply)
     → Moves (among half_registered aside) Register told new → core new ≡ both_new
-registers_second aside new told (inl (zero, opened, there, free, least, told_so, did)) = absurd (cc (free))
-registers_second aside new told (inl (suc zero, opened, there, free, least, told_so, did)) = ap core did
-registers_second aside new told (inl (suc (suc p), opened, there, free, least, told_so, did)) =
-    absurd (omega (arith, there))
-registers_second aside new told (inr (inl did)) = absurd (did.1 1 (omega arith) refl)
-registers_second aside new told (inr (inr did)) = absurd (did.0 refl)
+registers_second aside new told (inl did) = at did.position did.there did.free did.state
+  where
+    at : (p : ℕ) → p < 2 → position_word (among half_registered aside) p ≡ Free
+        → new ≡ with_seat (among half_registered aside) p (record (free_seat pair_sizes) { word = Unpinned })
+        → core new ≡ both_new
+    at zero there free e = absurd (cc (free))
+    at (suc zero) there free e = ap core e
+    at (suc (suc p)) there free e = absurd (omega (arith, there))
+registers_second aside new told (inr (inl did)) = absurd (did.taken 1 (omega arith) refl)
+registers_second aside new told (inr (inr did)) = absurd (did.begun refl)
 
 -- both registrations
 registered_both : (old new : State) (r s : Reply)

@@ -44,8 +44,18 @@ last = resting (around 4 [] 1 true 0) UnpinAction 3 4 []
 -- the first pin collects, as it always does
 abbrev begins : To held first
 begins =
-    by (resting (around 0 [] 0 false 0) PinAction 0 0 []) Register (Registered 0)
-    (inl (0, refl, omega arith, refl, λ k lt. absurd (omega (arith, lt)), refl, refl), (refl, refl, refl, refl))
+    by (resting (around 0 [] 0 false 0) PinAction 0 0 []) Register (Registered 0) (
+      inl (record {
+        position = 0;
+        opened = refl;
+        there = omega arith;
+        free = refl;
+        lowest = λ k lt. absurd (omega (arith, lt));
+        told = refl;
+        state = refl;
+      }),
+      (refl, refl, refl, refl),
+    )
     (by_pinning (around 0 [] 0 false 0) PinAction 0 0 1 [] LoadScan refl refl
     (by_scan Pin PinAction 0 1 [] [] 0 [] 0 false 0 refl (λ expired. refl) (λ expired. refl)
     (by_none Pin PinAction 0 1 [] [] 0 1 0 [] 0 false refl
