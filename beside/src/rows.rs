@@ -52,6 +52,8 @@ fn rows() -> Vec<Row> {
         row("load_one_pointer", one, 512_000, loads),
         row("load_deref_one_cell", several, 51_200, reads),
         row("load_get_one_cell", &[1, 4], 51_200, reads),
+        row("list_100_contains", &[1, 4], 5_120, walks),
+        row("pin_unpin_lending", &[1, 4], 64_000, pins),
         row("pin_load_deref_one_cell", several, 32_000, pinned_reads),
         row("cas_shared_success", one, 128_000, exchanges),
         row("owned_atomic_owned", one, 25_600, places),
