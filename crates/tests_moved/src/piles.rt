@@ -1,6 +1,6 @@
 //! Stacks and queues of values that are moved, by the same calls.
 use crate::tokens::Token;
-use epoch_base::{Fault, Refused};
+use epoch_base::{Fault, Refused, Run};
 use epoch_once::TakeOnce;
 use epoch_pin::atomic::Pointable;
 use epoch_pin::{Capacities, Collector, Guard, LocalHandle};
@@ -18,40 +18,40 @@ pub(crate) type QueueNode<'a> = epoch_queue::Node<TakeOnce<Token<'a>>>;
 /// A stack or a queue.
 pub(crate) trait Pile<'a, N: Pointable + Drop> {
     /// Pushes the value.
-    fn push(
+    fn push<W: Run>(
         &self,
         alloc: Global,
-        handle: &mut LocalHandle<'_, N>,
-        guard: &Guard<'_, N>,
+        handle: &mut LocalHandle<'_, N, W>,
+        guard: &Guard<'_, N, W>,
         token: Token<'a>,
         tries: u32,
     ) -> Result<(), Refused<Token<'a>>>;
 
     /// Pops a value.
-    fn pop(
+    fn pop<W: Run>(
         &self,
-        handle: &mut LocalHandle<'_, N>,
-        guard: &Guard<'_, N>,
+        handle: &mut LocalHandle<'_, N, W>,
+        guard: &Guard<'_, N, W>,
         tries: u32,
     ) -> Result<Option<Token<'a>>, Fault>;
 }
 
 impl<'a, 'c> Pile<'a, StackNode<'a>> for Stack<'c, TakeOnce<Token<'a>>> {
-    fn push(
+    fn push<W: Run>(
         &self,
         alloc: Global,
-        handle: &mut LocalHandle<'_, StackNode<'a>>,
-        guard: &Guard<'_, StackNode<'a>>,
+        handle: &mut LocalHandle<'_, StackNode<'a>, W>,
+        guard: &Guard<'_, StackNode<'a>, W>,
         token: Token<'a>,
         tries: u32,
     ) -> Result<(), Refused<Token<'a>>> {
         self.push_once(alloc, handle, guard, token, tries)
     }
 
-    fn pop(
+    fn pop<W: Run>(
         &self,
-        handle: &mut LocalHandle<'_, StackNode<'a>>,
-        guard: &Guard<'_, StackNode<'a>>,
+        handle: &mut LocalHandle<'_, StackNode<'a>, W>,
+        guard: &Guard<'_, StackNode<'a>, W>,
         tries: u32,
     ) -> Result<Option<Token<'a>>, Fault> {
         self.pop_once(handle, guard, tries)
@@ -59,21 +59,21 @@ impl<'a, 'c> Pile<'a, StackNode<'a>> for Stack<'c, TakeOnce<Token<'a>>> {
 }
 
 impl<'a, 'c> Pile<'a, QueueNode<'a>> for Queue<'c, TakeOnce<Token<'a>>> {
-    fn push(
+    fn push<W: Run>(
         &self,
         _alloc: Global,
-        handle: &mut LocalHandle<'_, QueueNode<'a>>,
-        guard: &Guard<'_, QueueNode<'a>>,
+        handle: &mut LocalHandle<'_, QueueNode<'a>, W>,
+        guard: &Guard<'_, QueueNode<'a>, W>,
         token: Token<'a>,
         tries: u32,
     ) -> Result<(), Refused<Token<'a>>> {
         self.push_once(handle, guard, token, tries)
     }
 
-    fn pop(
+    fn pop<W: Run>(
         &self,
-        handle: &mut LocalHandle<'_, QueueNode<'a>>,
-        guard: &Guard<'_, QueueNode<'a>>,
+        handle: &mut LocalHandle<'_, QueueNode<'a>, W>,
+        guard: &Guard<'_, QueueNode<'a>, W>,
         tries: u32,
     ) -> Result<Option<Token<'a>>, Fault> {
         self.pop_once(handle, guard, tries)
@@ -100,34 +100,34 @@ pub(crate) fn queue<'a, 'c>(
 }
 
 /// A new participant, for which a position is free.
-pub(crate) fn register<'c, N: Pointable + Drop>(
+pub(crate) fn register<'c, N: Pointable + Drop, W: Run>(
     rt: &impl Abort,
-    collector: &'c Collector<N>,
-) -> LocalHandle<'c, N> {
+    collector: &'c Collector<N, W>,
+) -> LocalHandle<'c, N, W> {
     collector.register().expect(rt, "a free position")
 }
 
 /// Pins the handle.
-pub(crate) fn pin<'c, N: Pointable + Drop>(
+pub(crate) fn pin<'c, N: Pointable + Drop, W: Run>(
     rt: &impl Abort,
-    handle: &mut LocalHandle<'c, N>,
-) -> Guard<'c, N> {
+    handle: &mut LocalHandle<'c, N, W>,
+) -> Guard<'c, N, W> {
     assert!(rt; handle.can_pin(), "a further guard can be counted");
     handle.pin()
 }
 
 /// Spends a guard of the handle.
-pub(crate) fn unpin<'c, N: Pointable + Drop>(
+pub(crate) fn unpin<'c, N: Pointable + Drop, W: Run>(
     rt: &impl Abort,
-    handle: &mut LocalHandle<'c, N>,
-    guard: Guard<'c, N>,
+    handle: &mut LocalHandle<'c, N, W>,
+    guard: Guard<'c, N, W>,
 ) {
     assert!(rt; handle.owns(&guard), "the guard is one of the handle");
     handle.unpin(guard);
 }
 
 /// Releases the handle, whose bag finds a place.
-pub(crate) fn release<N: Pointable + Drop>(rt: &impl Abort, handle: LocalHandle<'_, N>) {
+pub(crate) fn release<N: Pointable + Drop, W: Run>(rt: &impl Abort, handle: LocalHandle<'_, N, W>) {
     assert!(rt; handle.guards_out() == 0, "each guard is spent");
     if let Err((_back, fault)) = handle.release() {
         panic!(rt; "{fault}");

@@ -1,7 +1,7 @@
 //! What refused calls hand back, and what is dropped with the collector.
 use crate::piles::{Pile, QueueNode, StackNode, collector, pin, queue, register, release, unpin};
 use crate::tokens::{Token, counts_of, number_of, want, want_each};
-use epoch_base::{Fault, Refused};
+use epoch_base::{Fault, Refused, Run};
 use epoch_pin::atomic::Pointable;
 use epoch_pin::{Capacities, Collector, Guard, LocalHandle};
 use epoch_stack::Stack;
@@ -26,11 +26,11 @@ fn popped(answer: Result<Option<Token<'_>>, Fault>) -> Result<Option<u64>, Fault
 }
 
 /// Pushes and pops on a pile with 2 cells for values. The first value that comes off is this one.
-fn fill_and_empty<'a, N: Pointable + Drop, P: Pile<'a, N>>(
+fn fill_and_empty<'a, N: Pointable + Drop, W: Run, P: Pile<'a, N>>(
     rt: &impl Abort,
     alloc: Global,
     pile: &P,
-    (handle, guard): (&mut LocalHandle<'_, N>, &Guard<'_, N>),
+    (handle, guard): (&mut LocalHandle<'_, N, W>, &Guard<'_, N, W>),
     drops: &'a [AtomicU64],
     (first, second): (u64, u64),
 ) {

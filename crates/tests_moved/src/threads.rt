@@ -1,7 +1,7 @@
 //! Stacks and queues of moved values that 8 threads share.
 use crate::piles::{Pile, QueueNode, StackNode, collector, pin, queue, register, unpin};
 use crate::tokens::{Token, counts_of, want, want_each};
-use epoch_base::Fault;
+use epoch_base::{Fault, Run};
 use epoch_pin::atomic::Pointable;
 use epoch_pin::{Capacities, Collector, LocalHandle};
 use epoch_stack::Stack;
@@ -18,11 +18,11 @@ const TRIES: u32 = 100_000;
 
 /// Pushes the value. Where it finds no cell, or no place for its full bag, it lets go its guard, flushes under a new
 /// one, so that removals are called, and pushes again.
-fn push_at_last<'a, N: Pointable + Drop, P: Pile<'a, N>, R: Abort + Wait>(
+fn push_at_last<'a, N: Pointable + Drop, W: Run, P: Pile<'a, N>, R: Abort + Wait>(
     rt: &R,
     alloc: Global,
     pile: &P,
-    handle: &mut LocalHandle<'_, N>,
+    handle: &mut LocalHandle<'_, N, W>,
     token: Token<'a>,
 ) {
     let mut kept = token;
@@ -45,10 +45,10 @@ fn push_at_last<'a, N: Pointable + Drop, P: Pile<'a, N>, R: Abort + Wait>(
 
 /// Pops a value, or `None` where the pile is empty. Where there is no place for its full bag, it lets go its guard,
 /// flushes under a new one, and pops again.
-fn pop_at_last<'a, N: Pointable + Drop, P: Pile<'a, N>, R: Abort + Wait>(
+fn pop_at_last<'a, N: Pointable + Drop, W: Run, P: Pile<'a, N>, R: Abort + Wait>(
     rt: &R,
     pile: &P,
-    handle: &mut LocalHandle<'_, N>,
+    handle: &mut LocalHandle<'_, N, W>,
 ) -> Option<Token<'a>> {
     for _ in rt.forever() {
         let guard = pin(rt, handle);
@@ -64,7 +64,7 @@ fn pop_at_last<'a, N: Pointable + Drop, P: Pile<'a, N>, R: Abort + Wait>(
 }
 
 /// Releases the handle, and flushes for as long as its bag finds no place.
-fn leave<N: Pointable + Drop, R: Abort + Wait>(rt: &R, handle: LocalHandle<'_, N>) {
+fn leave<N: Pointable + Drop, W: Run, R: Abort + Wait>(rt: &R, handle: LocalHandle<'_, N, W>) {
     let mut staying = handle;
     for _ in rt.forever() {
         if staying.guards_out() != 0 {
@@ -98,9 +98,9 @@ struct Common<'a> {
 }
 
 /// Pushes its values, from the first one on, and pops one after each second of them.
-fn take_part<'a, N: Pointable + Drop, P: Pile<'a, N>, R: Abort + Wait>(
+fn take_part<'a, N: Pointable + Drop, W: Run, P: Pile<'a, N>, R: Abort + Wait>(
     rt: &R,
-    collector: &Collector<N>,
+    collector: &Collector<N, W>,
     pile: &P,
     common: Common<'a>,
     thread: u64,
@@ -118,14 +118,15 @@ fn take_part<'a, N: Pointable + Drop, P: Pile<'a, N>, R: Abort + Wait>(
 }
 
 /// Starts 8 threads that take part.
-fn start_all<'a, N: Pointable + Drop, P: Pile<'a, N> + Sync, R: Abort + Threads + Wait + Sync>(
-    rt: &R,
-    collector: &Collector<N>,
-    pile: &P,
-    common: Common<'a>,
-)
+fn start_all<
+    'a,
+    N: Pointable + Drop,
+    W: Run,
+    P: Pile<'a, N> + Sync,
+    R: Abort + Threads + Wait + Sync,
+>(rt: &R, collector: &Collector<N, W>, pile: &P, common: Common<'a>)
 where
-    Collector<N>: Sync,
+    Collector<N, W>: Sync,
 {
     thread::scope(thread::scope_env(), rt, |scope| {
         for thread in 0..8 {
