@@ -353,3 +353,76 @@ fn a_full_table_and_full_cells_refuse(rt: HostRuntime) -> Result<(), Fail> {
     want(&rt, "each value is dropped once", dropped_once(&counts), 3);
     Ok(())
 }
+
+/// Retires values one after another, while another handle stays pinned.
+#[derive(Drop)]
+struct Fills;
+
+impl Scene for Fills {
+    fn play<'q, 's, J: PostSet + Send + Sync, R: Abort>(
+        &self,
+        rt: &R,
+        alloc: Global,
+        lender: &'q Lender<'s, J, Probe>,
+        collector: &Collector<Probe, Marking<'q, 's, J, Probe>>,
+        counts: &Counts,
+    ) -> Seen {
+        let mut writer = LendingHandle::register(alloc, collector, lender).expect(rt, "a post");
+        let mut reader = LendingHandle::register(alloc, collector, lender).expect(rt, "a post");
+        let reading = reader.pin();
+        let guard = writer.pin();
+        let (mut retired, mut refused) = (0u64, 0u64);
+        for number in 0..300usize {
+            let Ok(shared) = guard.place(Probe::new(number, counts)) else {
+                break;
+            };
+            match writer.retire(&guard, shared) {
+                Ok(()) => retired = retired.wrapping_add(1),
+                Err(Refused { fault, value: _ }) => {
+                    refused = refused.wrapping_add((fault == Fault::BagsFull) as u64);
+                    break;
+                }
+            }
+        }
+        assert!(rt; writer.owns(&guard));
+        writer.unpin(guard);
+        reader.unpin(reading);
+        for _ in 0..4u64 {
+            assert!(rt; writer.can_pin() && writer.guards_out() == 0);
+            flush_3(&mut writer);
+        }
+        let late = dropped_once(counts);
+        assert!(rt; writer.guards_out() == 0 && reader.guards_out() == 0);
+        writer.release().expect(rt, "a place for the bag");
+        reader.release().expect(rt, "a place for the bag");
+        [retired, refused, late, 0, 0, 0, 0, 0]
+    }
+}
+
+#[test]
+fn a_full_store_of_bags_hands_the_pointer_back(rt: HostRuntime) -> Result<(), Fail> {
+    let counts = counts_for(rt.alloc(), 300)?;
+    let one = Capacities {
+        participants: 2,
+        cells: 0,
+        bags: 1,
+        bag_jobs: 1,
+        collect_bags: 1,
+    };
+    let seen = play(&rt, rt.alloc(), 300, one, &counts, Fills)?;
+    want(
+        &rt,
+        "64 in a place, 64 in the held bag, and 64 gathered",
+        seen[0],
+        192,
+    );
+    want(&rt, "the next one finds no place", seen[1], 1);
+    want(&rt, "they are dropped when nobody is pinned", seen[2], 192);
+    want(
+        &rt,
+        "and the one that was refused at the end",
+        dropped_once(&counts),
+        193,
+    );
+    Ok(())
+}
