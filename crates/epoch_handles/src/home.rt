@@ -1,5 +1,6 @@
 //! Where pointers that are read under a guard find their values.
 ghost use Rattle.std.specs.Prelude.{◌≡◌, ◌≤◌, IfOk, IfErr, vec_len};
+ghost use Rattle.epoch_cells.specs.declared.cells.name.Name.{Name};
 ghost use Rattle.epoch_cells.specs.declared.fault.Fault.TheVariants.{CellsFull};
 
 use crate::guard::Guard;
@@ -26,18 +27,54 @@ pub fn home_of<'g, T, W>(guard: &'g Guard<'_, T, W>) -> Home<'g, T>
     }
 }
 
+/// How [`place_under`] places a value in the cells of a collector. There is one way, and no caller names it:
+/// [`HasPlacing`].
+pub trait Placing<T> {
+    /// The value was placed in a cell under this name. If the type is a parameter, nothing but `place` shows it.
+    ghost placed: { T → Name → Type 0 };
+
+    /// Places the value, as [`Cells::place_near`] does.
+    fn place(cells: &Cells<T>, position: usize, value: Box<T>) -> Result<Name, Refused<Box<T>>>
+        ensures full { IfErr result (λ refused. (refused.fault ≡ CellsFull) × (refused.value ≡ value)) }
+        ensures slot { IfOk result (λ name. name.slot ≤ vec_len cells.now.slots) }
+        ensures placed { IfOk result (λ name. placed value.value name) };
+}
+
+/// The one [`Placing`]: the cells place the value, and nothing else is done. No value of this type is made.
+pub struct InCells;
+
+impl<T: Drop> Placing<T> for InCells {
+    ghost placed = { λ _ _. Unit {0} };
+
+    #[inline(always)]
+    fn place(cells: &Cells<T>, position: usize, value: Box<T>) -> Result<Name, Refused<Box<T>>>
+        ensures full { IfErr result (λ refused. (refused.fault ≡ CellsFull) × (refused.value ≡ value)) }
+        ensures slot { IfOk result (λ name. name.slot ≤ vec_len cells.now.slots) }
+        ensures placed { IfOk result (λ name. Unit {0}) }
+    {
+        cells.place_near(position, value)
+    }
+}
+
+/// Tells which [`Placing`] places a value. There is only this impl, so no caller names it.
+pub trait HasPlacing<M> {}
+
+impl<T> HasPlacing<InCells> for T {}
+
 /// Places the value in a cell of the guard's collector, near the guard's participant. Under an unprotected guard the
 /// first position serves.
 ///
-/// `CellsFull`: every slot was seen used or retired during the call. The value is handed back.
+/// `CellsFull`: every slot was seen used or retired during the call. The value is handed back. The clauses tell by
+/// [`Placing`] that the value was placed under the name that is answered.
 #[inline(always)]
-pub fn place_under<T: Drop, W>(
+pub fn place_under<T: Drop + HasPlacing<M>, W, M: Placing<T>>(
     guard: &Guard<'_, T, W>,
     value: Box<T>,
 ) -> Result<Name, Refused<Box<T>>>
     ensures full { IfErr result (λ refused. (refused.fault ≡ CellsFull) × (refused.value ≡ value)) }
     ensures slot { IfOk result (λ name. name.slot ≤ vec_len guard.now.collector.now.cells.slots) }
+    ensures placed { IfOk result (λ name. M.placed value.value name) }
 {
     let position = guard.position.unwrap_or(0);
-    guard.collector.cells.place_near(position, value)
+    M::place(&guard.collector.cells, position, value)
 }

@@ -13,7 +13,7 @@ mod released;
 pub use collector::{Capacities, Collector};
 pub use guard::{Guard, unprotected};
 pub use handle::LocalHandle;
-pub use home::{Home, home_of, place_under};
+pub use home::{HasPlacing, Home, InCells, Placing, home_of, place_under};
 pub use interlude::{DirectInterlude, HasInterlude, Interlude};
 pub use paused::Paused;
 pub use released::Released;
