@@ -14,7 +14,8 @@ help:
 	@echo 'make pictures draws the pictures of the documents anew                                  1 min'
 	@echo 'make beside   times this library and crossbeam-epoch in turn: beside/README.md says what'
 	@echo '              must be installed     minutes at first for the proofs, then 5 min'
-	@echo 'make beside-histories   gives random scripts to both, and compares which jobs they call'
+	@echo 'make beside-histories   gives random scripts to both, and compares which jobs they call;'
+	@echo '              minutes at first for the proofs, longer for more LINES'
 	@echo
 	@echo 'INPUT=FILE    the script of try, run and draw, instead of crates/epoch_run/stdin'
 	@echo 'CRATE=NAME    the crate of refute, instead of all'
