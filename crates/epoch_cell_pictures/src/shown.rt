@@ -11,7 +11,7 @@ use std::alloc::{AllocError, Global};
 pub enum Look {
     /// It holds this value, and whether a path of pointers leads to it from a root.
     Holds(u64, bool),
-    /// There is a pointer to it at this spot, and at so many further ones.
+    /// There is a pointer to it at this spot, and at this many others.
     Pointed(Spot, u64),
     /// The participants whose bits are set read it.
     Read(u64),

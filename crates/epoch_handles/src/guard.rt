@@ -14,6 +14,20 @@ use std::{fmt, mem};
 /// before it defers their destruction. Guards of one handle can be given back in any order: the last one unpins.
 ///
 /// An *unprotected* guard, from [`unprotected`], serves where a call asks for a guard and nothing needs protection.
+///
+/// # Examples
+///
+/// A pointer is loaded, and its value read, under one pin:
+///
+/// ```
+/// let guard = handle.pin();
+/// let next = pointer.load(Acquire, &guard);
+/// if let Some(reading) = next.deref() {
+///     total += *reading.get();
+///     reading.leave();
+/// }
+/// handle.unpin(guard);
+/// ```
 pub struct Guard<'c, T, W = Work> {
     pub(crate) collector: &'c Collector<T, W>,
     pub(crate) position: Option<usize>,

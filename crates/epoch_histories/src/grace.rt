@@ -36,7 +36,7 @@ fn is_blocked(entries: &[Entry], ticket: u64, until: usize) -> bool
     false
 }
 
-/// Whether somebody has been pinned since a place at or before `from`, and withdrew nothing up to `until`.
+/// Whether a participant has been pinned since a place at or before `from`, and withdrew nothing up to `until`.
 fn somebody_stays_pinned(entries: &[Entry], from: usize, until: usize) -> bool
     requires from { from < length entries.now }
     requires until { until < length entries.now }

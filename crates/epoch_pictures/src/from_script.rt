@@ -37,7 +37,7 @@ pub fn run<R: BufRead, W: Write, F: Write>(
 }
 
 /// Tells `faults` how the program `epoch-draw` is called, for words that it doesn't take, and returns its exit status:
-/// 2, or 3 where the stream fails, or 4 where that is for want of memory.
+/// 2, or 3 where the stream fails, or 4 where memory is refused.
 pub fn tell_usage<F: Write>(faults: &mut F) -> u8 {
     match write_usage(faults) {
         Ok(()) => Ending::NotUnderstood.status(),

@@ -31,7 +31,7 @@ pub trait Keeps<H, G> {
         ensures stays { stays handle.old handle.new }
         ensures made { keeping.room handle.old result handle.new };
 
-    /// Keeps the removal of what has this name, which is out of reach, until nobody may read it.
+    /// Keeps the removal of what has this name, which is out of reach, until no guard protects it any more.
     fn keep(handle: &mut H, name: Name, guard: &G) -> Reply
         requires { serves handle.old guard.now }
         ensures stays { stays handle.old handle.new }

@@ -1,5 +1,5 @@
 //! What an `Atomic` can be given: a pointer, or an owned value that is placed in a cell for it.
-ghost use Rattle.std.specs.Prelude.{◌≡◌, ℕ, Option, IsSome, IfOk, IfErr, Some};
+ghost use Rattle.std.specs.Prelude.{◌≡◌, ℕ, Option, IsSome, IfSome, IfOk, IfErr, Some};
 ghost use Rattle.epoch_cells.specs.declared.cells.name.Name.{Name};
 ghost use Rattle.epoch_cells.specs.declared.fault.Fault.TheVariants.{CellsFull};
 ghost use Rattle.epoch_atomic.specs.Pointers.{IsUnder, IsPointerWord, BecomesWord};
@@ -8,7 +8,7 @@ use crate::atomic::owned::Owned;
 use crate::atomic::shared::Shared;
 use crate::atomic::word::pointer_word;
 use epoch_cells::Refused;
-use epoch_handles::{Guard, home_of, place_under};
+use epoch_handles::{Guard, HasPlacing, Placing, home_of, place_under};
 use epoch_values::Pointable;
 
 /// What an `Atomic` can be given: a [`Shared`], or an [`Owned`], which takes a cell.
@@ -125,13 +125,17 @@ impl<'g, T: Pointable + Drop> Pointer<'g, T> for Owned<T> {
 impl<T: Pointable + Drop> Owned<T> {
     /// Places the value in a cell, and returns the pointer to it, with the same tag.
     ///
-    /// `CellsFull`: every slot was seen used or retired. The value is handed back.
+    /// `CellsFull`: every slot was seen used or retired. The value is handed back. The clause `placed` tells by
+    /// [`Placing`] that the value was placed under the pointer's name.
     #[inline(always)]
-    pub fn into_shared<'g, W>(
+    pub fn into_shared<'g, W, M: Placing<T>>(
         self,
         guard: &'g Guard<'_, T, W>,
     ) -> Result<Shared<'g, T>, Refused<Owned<T>>>
+    where
+        T: HasPlacing<M>,
         ensures name { IfOk result (λ shared. IsSome shared.name) }
+        ensures placed { IfOk result (λ shared. IfSome shared.name (λ name. M.placed self.value.value name)) }
         ensures tag { IfOk result (λ shared. shared.tag ≡ self.tag) }
         ensures home { IfOk result (λ shared. IsUnder guard.now.collector.now.id shared.home) }
         ensures full { IfErr result (λ refused. refused.fault ≡ CellsFull) }
