@@ -1,2 +1,5 @@
 mod Standing
+mod Pushing
+mod Popping
 mod Walks
+mod Told
