@@ -21,8 +21,7 @@ use std::{fmt, mem};
 ///
 /// ```
 /// let guard = handle.pin();
-/// let next = pointer.load(Acquire, &guard);
-/// if let Some(reading) = next.deref() {
+/// if let Some(reading) = pointer.load(Acquire, &guard).deref() {
 ///     total += *reading.get();
 ///     reading.leave();
 /// }

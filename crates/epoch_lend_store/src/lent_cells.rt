@@ -14,7 +14,7 @@ use std::alloc::{AllocError, Global};
 use std::sync::atomic::Ordering::SeqCst;
 use std::sync::atomic::{AtomicU64, AtomicUsize};
 
-/// A reader's search begins at the same slot again, until it has found an empty cell at least this many slots behind it.
+/// A reader's search begins at the same slot again, until it has found an empty cell this many slots behind it.
 const NEAR: usize = 8;
 
 /// A value that was placed: its name, and a witness of which value was placed under this name.
