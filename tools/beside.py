@@ -18,6 +18,8 @@ import time
 DEBIAN = "/usr/share/cargo/registry"
 BUILT = "out/beside"
 ROUNDS = 12
+# The rows that epoch_lend_bench makes. epoch_beside makes the others.
+LENDING = ("load_get_one_cell", "list_100_contains", "pin_unpin_lending")
 HOW = f"""crossbeam-epoch isn't in {DEBIAN}. On Debian or Ubuntu it is installed by
     apt-get update && apt-get install librust-crossbeam-epoch-dev
 Elsewhere, name a checkout of https://github.com/crossbeam-rs/crossbeam by ORIGINAL=FOLDER."""
@@ -96,15 +98,18 @@ def least(words, turns):
 
 def table():
     beside, version = build_original()
-    port = build_port("epoch_beside")
-    heading(version)
-    print(f"{'# name':34} {'threads':>7} {'original':>9} {'port':>9} {'quotient':>8}", flush=True)
     wanted = setting("ROWS", ".*")
     threads = setting("THREADS", "1,2,4").split(",")
+    rows = [line.split() for line in answer([beside, "rows"]).splitlines()]
+    rows = [row for row in rows if re.fullmatch(wanted, row[0])]
+    crates = {row[0]: "epoch_lend_bench" if row[0] in LENDING else "epoch_beside" for row in rows}
+    ports = {crate: build_port(crate) for crate in sorted(set(crates.values()))}
+    heading(version)
+    print(f"{'# name':34} {'threads':>7} {'original':>9} {'port':>9} {'quotient':>8}", flush=True)
     found = 0
-    for line in answer([beside, "rows"]).splitlines():
-        name, all_threads, turns = line.split()
-        for count in all_threads.split(",") if re.fullmatch(wanted, name) else []:
+    for name, all_threads, turns in rows:
+        port = ports[crates[name]]
+        for count in all_threads.split(","):
             if count not in threads:
                 continue
             found += 1

@@ -152,6 +152,57 @@ pub fn reads(threads: usize, turns: u64) -> Duration {
     })
 }
 
+/// The keys of the list.
+const KEYS: u64 = 100;
+
+struct Entry {
+    key: u64,
+    next: Atomic<Entry>,
+}
+
+/// Whether the key is in the sorted list, as the library's sorted list tells it.
+#[inline(never)]
+fn contains(first: &Atomic<Entry>, key: u64, steps: u32, guard: &Guard) -> Option<bool> {
+    let mut at = first.load(SeqCst, guard);
+    for _ in 0..steps {
+        // SAFETY: no entry is destroyed before the threads have ended.
+        let Some(entry) = (unsafe { at.as_ref() }) else {
+            return Some(false);
+        };
+        if entry.key >= key {
+            return Some(entry.key == key);
+        }
+        at = entry.next.load(SeqCst, guard);
+    }
+    None
+}
+
+/// Walks to the last of 100 keys, under one guard.
+pub fn walks(threads: usize, turns: u64) -> Duration {
+    let collector = Collector::new();
+    let first = (1..=KEYS)
+        .rev()
+        .fold(Atomic::null(), |next, key| Atomic::new(Entry { key, next }));
+    let first = Padded(first);
+    let time = on_threads(
+        threads,
+        || collector.register(),
+        |handle| {
+            let guard = handle.pin();
+            (0..turns)
+                .filter(|_| contains(black_box(&first.0), KEYS, 1_000, &guard) == Some(true))
+                .count()
+        },
+        drop,
+    );
+    let mut at = first.0;
+    // SAFETY: the threads have ended, and nobody else has the entries.
+    while let Some(entry) = unsafe { at.try_into_owned() } {
+        at = entry.into_box().next;
+    }
+    time
+}
+
 /// The same with a pin for each.
 pub fn pinned_reads(threads: usize, turns: u64) -> Duration {
     on_one_pointer(threads, |handle, pointer| {

@@ -1,7 +1,7 @@
 //! The rows of the comparison.
 
 /// A row is a name here, a line in `work_of`, and the same work in `beside/src`.
-pub const NAMES: [&str; 21] = [
+pub const NAMES: [&str; 20] = [
     "pin_unpin",
     "pin_unpin_64_idle",
     "pin_unpin_nested",
@@ -13,7 +13,6 @@ pub const NAMES: [&str; 21] = [
     "defer_made_pin_each_flush_64",
     "load_one_pointer",
     "load_deref_one_cell",
-    "load_get_one_cell",
     "pin_load_deref_one_cell",
     "cas_shared_success",
     "owned_atomic_owned",
@@ -59,7 +58,7 @@ pub fn work_of(name: &str) -> Option<(Work, u32)> {
         "defer_made_64_a_guard_flush" => Some((Work::Defer, 4)),
         "defer_made_pin_each_flush_64" => Some((Work::DeferApart, 4)),
         "load_one_pointer" => Some((Work::Load, 4)),
-        "load_deref_one_cell" | "load_get_one_cell" => Some((Work::Read, 4)),
+        "load_deref_one_cell" => Some((Work::Read, 4)),
         "pin_load_deref_one_cell" => Some((Work::PinnedRead, 4)),
         "cas_shared_success" => Some((Work::Exchange, 4)),
         "owned_atomic_owned" => Some((Work::Place, 4)),

@@ -1,12 +1,26 @@
-//! Times looks at a value in cells that lend, beside loads of a plain atomic word.
+//! Times looks at values that are lent.
 //!
-//! With no argument it makes a short run on one thread, and prints what the looks found. With `long` it prints times on
-//! one thread and on four.
+//! With no argument it makes a short run, and prints what the looks found. With `long` it prints times of looks in
+//! cells, beside loads of a plain atomic word, on one thread and on four.
+//!
+//! `NAME THREADS TURNS ROUNDS` prints the least and the middle time of so many rounds of a row of the comparison with
+//! crossbeam-epoch, in nanoseconds a turn, and how many turns of the last round did what they should. `replacing
+//! THREADS TURNS` has so many threads read, replace and retire values, and prints how many values were placed, dropped,
+//! read, and read torn.
 #![tactic(auto)]
 
+mod idle;
+mod pointers;
+mod replacing;
 mod rounds;
 mod span;
 
+use pointers::{Row, Size};
+use span::Hundredths;
+use std::alloc::Global;
+use std::sync::Wait;
+use std::thread::Threads;
+use std::time::Clock;
 use std::{env, io};
 
 /// Turns of a round, and rounds, of which the quickest counts.
@@ -14,22 +28,100 @@ const TURNS: u64 = 1_000_000;
 
 const ROUNDS: u64 = 20;
 
+/// Turns of a short round.
+const FEW: u64 = 1_000;
+
 fn main(rt: HostRuntime) -> io::Result<()> {
-    let mut is_long = false;
-    for argument in env::args(&rt)? {
-        if argument.as_str() == "long" {
-            is_long = true;
-        }
+    let alloc = rt.alloc();
+    let mut words = Vec::new(alloc);
+    for word in env::args(&rt)? {
+        words.push(word)?;
     }
-    if !is_long {
-        let times = rounds::time(&rt, rt.alloc(), 1, 1000, 1)?;
-        println!(rt; "looks found the value {} times of 1000", times.found)?;
-        return println!(rt; "run with the argument long for times");
+    let number = |at: usize, usual: u64| match words.get(at) {
+        Some(word) => word.as_str().parse().unwrap_or(usual),
+        None => usual,
+    };
+    let size = Size {
+        threads: number(2, 1),
+        turns: number(3, FEW),
+    };
+    match words.get(1) {
+        None => short(&rt, alloc),
+        Some(word) => match word.as_str() {
+            "long" => long(&rt, alloc),
+            "replacing" => replace_values(&rt, alloc, size),
+            name => one_row(&rt, alloc, name, size, number(4, 1)),
+        },
     }
+}
+
+fn short<R: Clock + Print + Threads + Wait + Sync>(rt: &R, alloc: Global) -> io::Result<()> {
+    let times = rounds::time(rt, alloc, 1, FEW, 1)?;
+    println!(rt; "looks found the value {} times of 1000", times.found)?;
+    let size = Size {
+        threads: 1,
+        turns: FEW,
+    };
+    let got = pointers::time(rt, alloc, Row::Get, size, &mut [0])?;
+    println!(rt; "gets found the value {got} times of 1000")?;
+    let walked = pointers::time(rt, alloc, Row::Contains, size, &mut [0])?;
+    println!(rt; "walks found the key {walked} times of 1000")?;
+    let pinned = pointers::time(rt, alloc, Row::Pin, size, &mut [0])?;
+    println!(rt; "{pinned} pins of 1000 were made")?;
+    let told = replacing::run(rt, alloc, 2, 100)?;
+    println!(rt;
+        "{} values were torn, and {} weren't dropped",
+        told.torn,
+        told.placed.wrapping_sub(told.dropped)
+    )?;
+    println!(rt; "run with the argument long for times")
+}
+
+fn long<R: Clock + Print + Threads + Wait + Sync>(rt: &R, alloc: Global) -> io::Result<()> {
     for threads in [1, 4] {
-        let times = rounds::time(&rt, rt.alloc(), threads, TURNS, ROUNDS)?;
+        let times = rounds::time(rt, alloc, threads, TURNS, ROUNDS)?;
         let (look, plain) = (times.look, times.plain);
         println!(rt; "threads {threads}: look {look} hundredths of a ns, plain load {plain}")?;
     }
     Ok(())
+}
+
+fn replace_values<R: Print + Threads + Wait + Sync>(
+    rt: &R,
+    alloc: Global,
+    size: Size,
+) -> io::Result<()> {
+    let told = replacing::run(rt, alloc, size.threads, size.turns)?;
+    println!(rt;
+        "placed {}, dropped {}, read {}, torn {}",
+        told.placed, told.dropped, told.reads, told.torn
+    )
+}
+
+// Prints the least and the middle time of so many rounds of this row, in nanoseconds, and the turns done.
+fn one_row<R: Clock + Print + Threads + Wait + Sync>(
+    rt: &R,
+    alloc: Global,
+    name: &str,
+    size: Size,
+    count: u64,
+) -> io::Result<()> {
+    let Some(row) = pointers::row_of(name) else {
+        return Err(io::Error::from(io::ErrorKind::InvalidInput));
+    };
+    let mut times = Vec::new(alloc);
+    for _ in 0..count {
+        times.push(0)?;
+    }
+    let done = pointers::time(rt, alloc, row, size, &mut times)?;
+    times.sort_unstable();
+    let (Some(least), Some(middle)) = (times.first(), times.get(times.len() / 2)) else {
+        return Ok(());
+    };
+    let (least, middle) = (Hundredths(*least), Hundredths(*middle));
+    let Size { threads, turns } = size;
+    println!(rt;
+        "{name} {threads} {least} {middle} {done} of {}",
+        turns.saturating_mul(threads)
+    )
 }

@@ -1,9 +1,20 @@
 //! The time of a round on several threads, which begin together: that of the slowest one.
-use std::io;
+use std::fmt::Display;
 use std::sync::Wait;
 use std::sync::atomic::AtomicU64;
 use std::sync::atomic::Ordering::SeqCst;
 use std::time::{Clock, Instant};
+use std::{fmt, io};
+
+/// A number of hundredths, as those of a nanosecond.
+#[derive(Clone, Copy)]
+pub struct Hundredths(pub u64);
+
+impl Display for Hundredths {
+    fn fmt<W: fmt::Write>(&self, f: &mut fmt::Formatter<W>) -> fmt::Result {
+        write!(f, "{}.{:02}", self.0 / 100, self.0 % 100)
+    }
+}
 
 /// What the threads of a round tell one another.
 #[derive(Drop)]
