@@ -14,8 +14,8 @@ use std::sync::atomic::Ordering::SeqCst;
 /// A key, and the pointer to the entry behind it, whose key is greater.
 #[derive(Drop)]
 pub struct Entry {
-    key: u64,
     next: Atomic<Entry>,
+    key: u64,
 }
 
 impl Pointable for Entry {
@@ -71,15 +71,17 @@ impl SortedList {
         guard: &LendingGuard<'_, '_, J, Entry, W>,
         steps: u32,
     ) -> Result<bool, Fault> {
-        let mut at = self.first.load(SeqCst, guard.guard());
+        // A walk goes from link to link, and not from pointer to pointer: what it carries on is then one address.
+        let mut link = &self.first;
         for _ in 0..steps {
+            let at = link.load(SeqCst, guard.guard());
             let Some(entry) = guard.get(at) else {
                 return ended(at);
             };
             if entry.key >= key {
                 return Ok(entry.key == key);
             }
-            at = entry.next.load(SeqCst, guard.guard());
+            link = &entry.next;
         }
         Err(Fault::TriesOut)
     }
