@@ -1,6 +1,6 @@
 INPUT ?= crates/epoch_run/stdin
 
-PICTURES = grace stall full held
+PICTURES = grace stall full held queue
 
 .PHONY: help run try draw pictures test refute beside beside-histories
 

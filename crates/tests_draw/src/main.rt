@@ -9,11 +9,12 @@ use std::fs::Files;
 use std::{fs, io};
 
 /// A name, its script, and its picture.
-const KEPT: [(&str, &str, &str); 4] = [
+const KEPT: [(&str, &str, &str); 5] = [
     ("grace", "grace.txt", "grace.svg"),
     ("stall", "stall.txt", "stall.svg"),
     ("full", "full.txt", "full.svg"),
     ("held", "held.txt", "held.svg"),
+    ("queue", "queue.txt", "queue.svg"),
 ];
 
 fn main(rt: HostRuntime) -> io::Result<()> {
