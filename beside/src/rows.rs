@@ -27,8 +27,8 @@ fn row(
     }
 }
 
-/// Another row is a line here, a line in `work_of` of `crates/epoch_beside` or in `row_of` of `crates/epoch_lend_bench`,
-/// and the same work on both sides.
+/// Another row is a line here, a line in `work_of` of `crates/epoch_beside` or in `time_row` or `row_of` of
+/// `crates/epoch_lend_bench`, and the same work on both sides.
 fn rows() -> Vec<Row> {
     let one: &[usize] = &[1];
     let several: &[usize] = &[1, 2, 4];
@@ -55,6 +55,7 @@ fn rows() -> Vec<Row> {
         row("pin_load_deref_one_cell", several, 32_000, pinned_reads),
         row("load_get_one_cell", &[1, 4], 51_200, reads),
         row("list_100_contains", &[1, 4], 5_120, walks),
+        row("map_100_contains", &[1, 4], 5_120, walks),
         row("pin_unpin_lending", &[1, 4], 64_000, pins),
         row("cas_shared_success", one, 128_000, exchanges),
         row("owned_atomic_owned", one, 25_600, places),

@@ -10,6 +10,7 @@
 #![tactic(auto)]
 
 mod idle;
+mod maps;
 mod pointers;
 mod replacing;
 mod rounds;
@@ -66,6 +67,8 @@ fn short<R: Clock + Print + Threads + Wait + Sync>(rt: &R, alloc: Global) -> io:
     println!(rt; "gets found the value {got} times of 1000")?;
     let walked = pointers::time(rt, alloc, Row::Contains, size, &mut [0])?;
     println!(rt; "walks found the key {walked} times of 1000")?;
+    let looked = maps::time(rt, alloc, size, &mut [0])?;
+    println!(rt; "look-ups found the key {looked} times of 1000")?;
     let pinned = pointers::time(rt, alloc, Row::Pin, size, &mut [0])?;
     println!(rt; "{pinned} pins of 1000 were made")?;
     let told = replacing::run(rt, alloc, 2, 100)?;
@@ -98,6 +101,23 @@ fn replace_values<R: Print + Threads + Wait + Sync>(
     )
 }
 
+// Makes the rounds of the row of this name, and returns how many turns of the last one did what they should.
+fn time_row<R: Clock + Threads + Wait + Sync>(
+    rt: &R,
+    alloc: Global,
+    name: &str,
+    size: Size,
+    times: &mut [u64],
+) -> io::Result<u64> {
+    if name == "map_100_contains" {
+        return maps::time(rt, alloc, size, times);
+    }
+    let Some(row) = pointers::row_of(name) else {
+        return Err(io::Error::from(io::ErrorKind::InvalidInput));
+    };
+    pointers::time(rt, alloc, row, size, times)
+}
+
 // Prints the least and the middle time of so many rounds of this row, in nanoseconds, and the turns done.
 fn one_row<R: Clock + Print + Threads + Wait + Sync>(
     rt: &R,
@@ -106,14 +126,11 @@ fn one_row<R: Clock + Print + Threads + Wait + Sync>(
     size: Size,
     count: u64,
 ) -> io::Result<()> {
-    let Some(row) = pointers::row_of(name) else {
-        return Err(io::Error::from(io::ErrorKind::InvalidInput));
-    };
     let mut times = Vec::new(alloc);
     for _ in 0..count {
         times.push(0)?;
     }
-    let done = pointers::time(rt, alloc, row, size, &mut times)?;
+    let done = time_row(rt, alloc, name, size, &mut times)?;
     times.sort_unstable();
     let (Some(least), Some(middle)) = (times.first(), times.get(times.len() / 2)) else {
         return Ok(());
