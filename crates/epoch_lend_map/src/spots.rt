@@ -51,11 +51,11 @@ fn exchange_at<W>(at: &Atomic<Node>, current: Ptr, new: Ptr, guard: &Guard<'_, N
     }
 }
 
-// Loads, stores or exchanges the pointer there. The phases of a map ask for no other change.
-#[inline(always)]
-fn change_at<W>(at: &Atomic<Node>, change: Change, guard: &Guard<'_, Node, W>) -> Answer {
+// Stores or exchanges the pointer there. It stands out of line, as `place` does: a function that holds all accesses isn't
+// inlined if it holds these, too, and then a walk that only loads doesn't know its accesses.
+#[inline(never)]
+fn write_at<W>(at: &Atomic<Node>, change: Change, guard: &Guard<'_, Node, W>) -> Answer {
     match change {
-        Change::Load => Answer::Pointer(ptr_of(at.load(SeqCst, guard))),
         Change::Store(new) => match at.store(shared(new, guard), SeqCst, guard) {
             Ok(()) => Answer::Unit,
             Err(_) => Answer::Absent,
@@ -65,8 +65,17 @@ fn change_at<W>(at: &Atomic<Node>, change: Change, guard: &Guard<'_, Node, W>) -
     }
 }
 
-// Places a node with this entry, which points to none.
+// Loads, stores or exchanges the pointer there. The phases of a map ask for no other change.
 #[inline(always)]
+fn change_at<W>(at: &Atomic<Node>, change: Change, guard: &Guard<'_, Node, W>) -> Answer {
+    match change {
+        Change::Load => Answer::Pointer(ptr_of(at.load(SeqCst, guard))),
+        _ => write_at(at, change, guard),
+    }
+}
+
+// Places a node with this entry, which points to none.
+#[inline(never)]
 fn place<J: PostSet, W>(
     entry: u64,
     guard: &LendingGuard<'_, '_, J, Node, W>,
@@ -99,15 +108,16 @@ impl<'g, 'c, 's, J: PostSet, W> LentSpots<'g, 'c, 's, J, W> {
     // bucket, or the node isn't lent.
     #[inline(always)]
     fn point(&self, spot: Spot, change: Change) -> Answer {
-        match spot {
-            Spot::Root(bucket) => match self.buckets.get(bucket as usize) {
-                Some(root) => change_at(root, change, self.guard.guard()),
-                None => Answer::Absent,
-            },
+        let at = match spot {
+            Spot::Root(bucket) => self.buckets.get(bucket as usize),
             Spot::Field(name, _) => match self.node_of(name) {
-                Some(node) => change_at(&node.next, change, self.guard.guard()),
-                None => Answer::Absent,
+                Some(node) => Some(&node.next),
+                None => None,
             },
+        };
+        match at {
+            Some(at) => change_at(at, change, self.guard.guard()),
+            None => Answer::Absent,
         }
     }
 
