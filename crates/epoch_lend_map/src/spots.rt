@@ -51,8 +51,8 @@ fn exchange_at<W>(at: &Atomic<Node>, current: Ptr, new: Ptr, guard: &Guard<'_, N
     }
 }
 
-// Stores or exchanges the pointer there. It stands out of line, as `place` does: a function that holds all accesses isn't
-// inlined if it holds these, too, and then a walk that only loads doesn't know its accesses.
+// Stores or exchanges the pointer there. It stands out of line, as `place` does: a function that holds all accesses
+// isn't inlined if it holds these, too, and then a walk that only loads doesn't know its accesses.
 #[inline(never)]
 fn write_at<W>(at: &Atomic<Node>, change: Change, guard: &Guard<'_, Node, W>) -> Answer {
     match change {
