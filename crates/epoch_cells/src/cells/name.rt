@@ -1,5 +1,11 @@
 //! Names of cells.
 ghost use Rattle.std.specs.Prelude.{◌≡◌, ◌<◌, ◌≤◌, ◌↔◌, IsSome, IfSome};
+ghost use Rattle.std.proofs.Common.{rules};
+ghost use Rattle.std.specs.Cmp.{partial_order_from_own_ties};
+ghost use Rattle.std.specs.Cmp.Rules.{comparing};
+ghost use Rattle.std.specs.Ordering.{nat_cmp, on, then_cmp, as_partial_cmp};
+
+use std::cmp::Ordering;
 
 /// The greatest number of a slot: 24 bits of a pointer's word, beside 8 for the tag and 32 for the turn.
 pub const MOST_SLOT: u32 = 16_777_215;
@@ -8,12 +14,37 @@ pub const MOST_SLOT: u32 = 16_777_215;
 /// came in. Each placing uses the slot's next turn, so no name is given twice.
 ///
 /// Names are in the order of their pointers' words: by the turn first, and then by the slot.
-#[derive(Clone, Copy, Debug, PartialEq, Eq, PartialOrd, Ord, Hash)]
+#[derive(Clone, Copy, Debug, PartialEq, Eq, Hash)]
 pub struct Name {
-    turn: u32,
+    // It comes first, so that it is the low half of a name in a register: the half that tells the cell.
     slot: u32,
+    turn: u32,
     pub ghost some: { 0 < slot },
     pub ghost within: { slot ≤ 16777215 },
+}
+
+impl Ord for Name {
+    ghost cmp = { then_cmp (on (λ n. n.turn) nat_cmp) (on (λ n. n.slot) nat_cmp) };
+
+    ghost total = { Prim.search (comparing, rules) };
+
+    ghost matches_partial_cmp = { Prim.search (comparing, rules) };
+
+    ghost matches_eq = { Prim.search (comparing, rules) };
+
+    fn cmp(&self, other: &Name) -> Ordering {
+        self.turn.cmp(&other.turn).then(self.slot.cmp(&other.slot))
+    }
+}
+
+impl PartialOrd for Name {
+    ghost partial_cmp = { as_partial_cmp (then_cmp (on (λ n. n.turn) nat_cmp) (on (λ n. n.slot) nat_cmp)) };
+
+    ghost laws = { partial_order_from_own_ties (Prim.search (comparing, rules)) (Prim.search (comparing, rules)) };
+
+    fn partial_cmp(&self, other: &Name) -> Option<Ordering> {
+        Some(self.cmp(other))
+    }
 }
 
 impl Name {
