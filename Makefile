@@ -6,16 +6,16 @@ PICTURES = grace stall full held queue
 
 help:
 	@echo 'make try      compiles the program epoch-run and runs it on a script; proves nothing   20 s'
-	@echo 'make run      proves and builds what the program needs, and runs it     minutes at first, then seconds'
+	@echo 'make run      proves and builds what the program needs, and runs it   10 to 25 min at first, then seconds'
 	@echo 'make draw     draws the run of a script to out/run.svg; proves nothing                 20 s'
 	@echo 'make test     the merge gate: every proof from nothing, every test, and the wrong'
-	@echo '              bodies of crates/*/must-fail, each of which must be refused    half an hour and more'
-	@echo 'make refute   tries the other wrong bodies, those of crates/*/refuted        half an hour and more'
+	@echo '              bodies of crates/*/must-fail, each of which must be refused    40 to 80 min'
+	@echo 'make refute   tries the other wrong bodies, those of crates/*/refuted        an hour and more'
 	@echo 'make pictures draws the pictures of the documents anew                                  1 min'
 	@echo 'make beside   times this library and crossbeam-epoch in turn: beside/README.md says what'
-	@echo '              must be installed     minutes at first for the proofs, then 5 min'
+	@echo '              must be installed     10 to 25 min at first for the proofs, then 5 min'
 	@echo 'make beside-histories   gives random scripts to both, and compares which jobs they call;'
-	@echo '              minutes at first for the proofs, longer for more LINES'
+	@echo '              10 to 25 min at first for the proofs, then 72 s for 10,000,000 LINES'
 	@echo
 	@echo 'INPUT=FILE    the script of try, run and draw, instead of crates/epoch_run/stdin'
 	@echo 'CRATE=NAME    the crate of refute, instead of all'
