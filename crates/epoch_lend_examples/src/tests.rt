@@ -116,7 +116,8 @@ fn start<J: PostSet + Send + Sync, R: Threads + Wait + Abort + Sync>(
     let posts = Posts::<J>::of(alloc, made)?;
     let cells = LentCells::new(alloc, 2_048, posts)?;
     let lender = Lender::new(alloc, &cells)?;
-    let collector = collector_of(&lender, alloc, Capacities::usual(4, 0, 64), 1)?;
+    // A reader that stands still while it is pinned holds all bags back: there is a place for each that is put.
+    let collector = collector_of(&lender, alloc, Capacities::usual(4, 0, 512), 1)?;
     run_at_once(rt, alloc, &lender, &collector, course);
     let _ = collector.end();
     Ok(lender.end(alloc))
