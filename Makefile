@@ -6,22 +6,22 @@ PICTURES = grace stall full held queue
 
 help:
 	@echo 'make try      compiles the program epoch-run and runs it on a script; proves nothing   20 s'
-	@echo 'make run      proves and builds what the program needs, and runs it   10 to 25 min at first, then seconds'
+	@echo 'make run      proves and builds what the program needs, and runs it      25 min at first, then seconds'
 	@echo 'make draw     draws the run of a script to out/run.svg; proves nothing                 20 s'
 	@echo 'make test     the merge gate: every proof from nothing, every test, and the wrong'
-	@echo '              bodies of crates/*/must-fail, each of which must be refused    40 to 80 min'
+	@echo '              bodies of crates/*/must-fail, each of which must be refused    80 min'
 	@echo 'make refute   tries the other wrong bodies, those of crates/*/refuted        an hour and more'
 	@echo 'make pictures draws the pictures of the documents anew                                  1 min'
 	@echo 'make beside   times this library and crossbeam-epoch in turn: beside/README.md says what'
-	@echo '              must be installed     10 to 25 min at first for the proofs, then 5 min'
+	@echo '              must be installed     25 min at first for the proofs, then 5 min'
 	@echo 'make beside-histories   gives random scripts to both, and compares which jobs they call;'
-	@echo '              10 to 25 min at first for the proofs, then 72 s for 10,000,000 LINES'
+	@echo '              25 min at first for the proofs, then 72 s for 10,000,000 LINES'
 	@echo
 	@echo 'INPUT=FILE    the script of try, run and draw, instead of crates/epoch_run/stdin'
 	@echo 'CRATE=NAME    the crate of refute, instead of all'
 	@echo 'ROWS=REGEX THREADS=1,4 PASSES=10    which rows beside measures, and how often'
 	@echo 'LINES=N SEED=S                      how long the scripts of beside-histories are, and which'
-	@echo 'Times are of 4 processors; docs/PERFORMANCE.md says what they depend on.'
+	@echo 'Times are of 4 slow processors; docs/PERFORMANCE.md says what they depend on.'
 
 ifeq ($(shell command -v rt),)
 $(error rt, the command of the Rattle toolchain, is missing: put its folder on PATH)

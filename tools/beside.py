@@ -3,7 +3,7 @@
 
 usage: tools/beside.py table|histories    at the top of the repository
 
-It proves and builds the library's program, builds the folder beside/ with cargo, which it keeps offline, and runs both.
+It proves and builds the library's programs, builds the folder beside/ with cargo, which it keeps offline, and runs both.
 The environment says more. ORIGINAL: a checkout of crossbeam or of its crate crossbeam-epoch, in place of Debian's
 package. For the table, ROWS: a regular expression over whole names; THREADS, as 1,4; PASSES. For the histories, LINES
 and SEED.
