@@ -66,8 +66,8 @@ impl<J: Default + Drop> Bag<J> {
 
     /// Seals what it holds with this epoch, straight into `place`, and leaves an empty bag of the same limit.
     ///
-    /// It doesn't answer the sealed bag: each caller would have to show that the size of one is in range, and for a
-    /// generic `J` that isn't known.
+    /// It doesn't return the sealed bag, since each caller would then have to show that the size of one is in range,
+    /// and for a generic `J` that isn't known.
     #[inline(always)]
     pub fn seal_into(&mut self, epoch: Epoch, place: &mut Option<SealedBag<J>>)
         ensures sealed { place.new ≡ Some (record { seal = epoch.number; jobs = self.old.jobs }) }

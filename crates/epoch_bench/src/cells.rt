@@ -71,7 +71,7 @@ fn place(cells: &Cells<u64>, value: Box<u64>, turns: u64) {
     }
 }
 
-/// So many threads, which go round on one word or in one store.
+/// This many threads, which go round on one word or in one store.
 #[derive(Drop)]
 struct Rounds<'a, R> {
     rt: &'a R,

@@ -9,7 +9,7 @@ use std::sync::Wait;
 use std::thread::Threads;
 use std::time::Clock;
 
-/// So many words from one plain word to the next, where they stand 128 bytes apart as those of the table do.
+/// This many words from one plain word to the next, where they stand 128 bytes apart as those of the table do.
 const PADDED: usize = 16;
 
 pub fn run<R: Clock + Print + Threads + Wait + Sync>(rt: &R, alloc: Global) -> io::Result<()> {

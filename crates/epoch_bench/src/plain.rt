@@ -11,7 +11,7 @@ pub struct PlainWords {
 }
 
 impl PlainWords {
-    /// So many positions, with neighbours 8 bytes times `spacing` apart.
+    /// This many positions, with neighbours 8 bytes times `spacing` apart.
     pub fn new(alloc: Global, positions: usize, spacing: usize) -> Result<PlainWords, AllocError> {
         let mut words = Vec::new(alloc);
         for _ in 0..positions {

@@ -13,7 +13,7 @@ use std::{io, thread};
 /// Pins of one thread in one loop.
 const PINS: u64 = 400_000;
 
-/// So many threads, each at a position of its own.
+/// This many threads, each at a position of its own.
 #[derive(Drop)]
 struct Seats<'a, R> {
     rt: &'a R,
@@ -39,7 +39,7 @@ fn pin_seat(table: &Participants, turns: u64) {
     }
 }
 
-/// So many threads, each with a word of its own.
+/// This many threads, each with a word of its own.
 #[derive(Drop)]
 struct Words<'a, R> {
     rt: &'a R,

@@ -1,4 +1,4 @@
-//! What a run tells of its cells: how long each stands, what points to it, and who reads it.
+//! What a run tells of its cells: how long each stands, what points to it, and which participants read it.
 #![tactic(auto)]
 
 mod cells;

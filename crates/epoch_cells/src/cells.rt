@@ -33,7 +33,7 @@ pub const CELL_TRIES: u32 = 16;
 // The bound is raised by this many slots at once, since each time costs as much as many looks at slots.
 const STRIDE: usize = 8;
 
-// A position that has no note left looks in so many slots in a row from then on.
+// A position that has no note left looks in this many slots in a row from then on.
 const FAR: usize = 64;
 
 /// A collector's store of numbered cells. Its calls take no memory and never wait.
@@ -273,8 +273,8 @@ impl<T: Drop, P: Puts<T>> Cells<T, P> {
         })
     }
 
-    // Says that the slots from place `from` up to `to` were seen used. One that was given free since it
-    // was looked at lowers the bound again: if not here, then by who gave it free.
+    // Says that the slots from place `from` up to `to` were seen used. If one was given free since it was
+    // looked at, the bound is lowered again: here, or by the thread that gave it free.
     #[inline(always)]
     fn advance(&self, from: usize, to: usize)
         requires { to ≤ vec_len self.now.slots }

@@ -5,7 +5,7 @@ ghost use Rattle.epoch_cells.specs.Faults.{fault_number};
 use std::error::Error;
 use std::fmt;
 
-/// Why a call was refused. A refused call hands its argument back.
+/// Why a call was refused. Most refused calls hand their argument back; a call that drops it says so.
 #[derive(Clone, Copy, Debug, PartialEq, Eq)]
 pub enum Fault {
     /// Every participant's word was seen taken during the call.

@@ -6,7 +6,7 @@ use std::io::{BufReader, BufWriter, ErrorKind, Lock};
 use std::process::ExitCode;
 use std::{env, io};
 
-/// The exit status where an allocation is refused.
+/// The exit status if an allocation is refused.
 const NO_MEMORY: u8 = 4;
 
 fn main(rt: HostRuntime) -> ExitCode {

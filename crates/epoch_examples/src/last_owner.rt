@@ -12,7 +12,7 @@ pub fn take_apart(collector: &Collector<Node<u64>>, stack: Stack<'_, u64>) -> u6
     for _ in 0..u64::MAX {
         match stack.pop_alone(&guard, 1) {
             Ok(Some(value)) => sum = sum.wrapping_add(value),
-            // Nothing is left. With nobody else there, no try is lost.
+            // Nothing is left. With no other thread there, no try is lost.
             Ok(None) | Err(_) => break,
         }
     }

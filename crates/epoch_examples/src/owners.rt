@@ -9,7 +9,7 @@ use epoch_pin::LocalHandle;
 /// change the same bucket meanwhile.
 const MOVES: u32 = 1_000;
 
-/// Claims the key for this owner, under a pin of its own, and returns who owns it now: this owner, or the one that came
+/// Claims the key for this owner, under a pin of its own, and returns its owner: this one, or the one that came
 /// first.
 ///
 /// An error leaves the key as it is, and the caller can call again.
@@ -40,7 +40,7 @@ pub fn claim(
     claimed
 }
 
-/// Gives the key up, under a pin of its own, and returns who owned it. `None`: it had no owner.
+/// Gives the key up, under a pin of its own, and returns the owner it had. `None`: it had none.
 ///
 /// An error leaves the key as it is, and the caller can call again.
 pub fn give_up(

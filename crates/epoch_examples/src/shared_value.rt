@@ -1,4 +1,4 @@
-//! A value that many threads read while one of them replaces it.
+//! A value that many threads read while another thread replaces it.
 ghost use Rattle.epoch_handles.specs.Handles.{Owns};
 
 use epoch_base::Fault;

@@ -179,9 +179,9 @@ impl<'c, T: Drop, W: Run> LocalHandle<'c, T, W> {
     /// Defers the job: a later collection calls it, at the earliest when every participant that is pinned now has
     /// unpinned or repinned. Under an unprotected guard the job is called at once.
     ///
-    /// There is no promise when the job is called, or by which thread. It waits while a participant stays pinned, and
-    /// while no participant pins or flushes; at the latest, the end of the collector calls it. [`LocalHandle::flush`]
-    /// hurries it, since no collection finds the jobs of a held bag.
+    /// Otherwise no clause says when the job is called, or by which thread. It waits while a participant stays pinned,
+    /// and while no participant pins or flushes; at the latest, the end of the collector calls it.
+    /// [`LocalHandle::flush`] hurries it, since no collection finds the jobs of a held bag.
     ///
     /// The job is kept in the held bag. A full one is first sealed and put into a place.
     ///

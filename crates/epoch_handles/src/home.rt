@@ -65,7 +65,7 @@ impl<T> HasPlacing<InCells> for T {}
 /// first position serves.
 ///
 /// `CellsFull`: every slot was seen used or retired during the call. The value is handed back. The clauses tell by
-/// [`Placing`] that the value was placed under the name that is answered.
+/// [`Placing`] that the value was placed under the name that is returned.
 #[inline(always)]
 pub fn place_under<T: Drop + HasPlacing<M>, W, M: Placing<T>>(
     guard: &Guard<'_, T, W>,

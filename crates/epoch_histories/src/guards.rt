@@ -94,7 +94,7 @@ fn times_out(entries: &[Entry], participant: u64, guard: u64) -> usize
     times
 }
 
-/// How often a guard is counted after a change, where it was counted so often before.
+/// How many times a guard is counted after a change, from how many times it was counted before.
 fn times_after(change: Change, guard: u64, times: usize) -> usize
     requires { times + 1 < 2 ^ 64 }
     ensures counted { (guards : List ℕ) → times ≡ count_by (λ other. other == guard) guards

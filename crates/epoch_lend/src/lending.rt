@@ -65,7 +65,7 @@ impl<T> Model for Marked<T> {
 }
 
 impl<T> Lending<T> {
-    /// A value that is present, of which nothing was lent, and where it lies. Guards of these posts may look at it.
+    /// Returns the word of a present value, not lent yet, and where it lies. Guards of these posts may look at it.
     pub fn new(whole: Part<T>, posts: &[Post]) -> (Lending<T>, *const T)
         requires { whole.count ≡ 2 ^ 63 }
         ensures { (result.0.posts ≡ logs_of posts.now) × (result.0.at ≡ result.1) × (result.0.value ≡ whole.value)
@@ -80,8 +80,8 @@ impl<T> Lending<T> {
         (lending, ptr)
     }
 
-    /// One plain load. Where it finds `PRESENT`, the value may be read for as long as the guard is lent. The guard
-    /// must be of one of the value's posts.
+    /// Looks at the value, by one plain load. If it finds `PRESENT`, the value may be read for as long as the guard is
+    /// lent. The guard must be of one of the value's posts.
     pub fn look<'g>(&self, guard: &'g Guard, at: *const T) -> (u64, Glance<'g, T>)
         requires { (at ≡ self.now.at) × IsAmong guard.now.log self.now.posts }
         ensures { (result.0 ≡ PRESENT → result.1.right ≡ 1) × (result.0 ≢ PRESENT → result.1.right ≡ 0)
@@ -111,7 +111,7 @@ impl<T> Lending<T> {
 }
 
 impl<'g, T> Glance<'g, T> {
-    /// The value, for a glance that gained it.
+    /// Returns the value, for a glance that gained it.
     pub fn get(self) -> &'g T
         requires { self.right ≡ 1 }
         ensures { result.now ≡ self.entry.value }
@@ -134,7 +134,7 @@ impl<T> Marked<T> {
         let Marked { at: _ } = self;
     }
 
-    /// All parts of the value. Looks must have shown that each guard with a loan is over.
+    /// Returns all parts of the value. Looks must have shown that each guard with a loan is over.
     pub fn collect(self) -> Part<T>
         requires { (self.right ≡ 1) × AreShown self.seen self.loans }
         ensures { (result.value ≡ self.value) × (result.lifetime ≡ self.lifetime) × (result.count ≡ 2 ^ 63) }

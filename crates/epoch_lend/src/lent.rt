@@ -17,7 +17,7 @@ pub struct Lent<T> {
 }
 
 impl<T: Drop> Lent<T> {
-    /// A value that guards of these posts may look at, and the right to have its box back.
+    /// Makes a value that guards of these posts may look at, and the right to have its box back.
     pub fn new<A: Allocator>(value: Box<T, A>, posts: &[Post]) -> (Lent<T>, Deed<T, A>)
         ensures value { result.0.lending.value ≡ value.value }
         ensures posts { result.0.lending.posts ≡ logs_of posts.now }
@@ -30,8 +30,8 @@ impl<T: Drop> Lent<T> {
 }
 
 impl<T> Lent<T> {
-    /// One plain load. Where the value is present, it is lent for as long as the guard is. `None`: it was marked.
-    /// The guard must be of one of the value's posts.
+    /// Looks at the value, by one plain load. If the value is present, it is lent for as long as the guard is. `None`:
+    /// it was marked. The guard must be of one of the value's posts.
     pub fn look<'g>(&self, guard: &'g Guard) -> Option<&'g T>
         requires { IsAmong guard.now.log self.now.lending.posts }
         ensures { IfSome result (λ value. value.now ≡ self.now.lending.value) }

@@ -34,7 +34,7 @@ impl<T, A: Allocator> Model for Deed<T, A> {
     ghost also_owns = { λ d. deed_owns (A.dealloc_token d.alloc) T.row d.ptr d.value d.lifetime };
 }
 
-/// Shares the value: answers the right to have its box back, and all of its parts as one.
+/// Shares the value: returns the right to have its box back, and all of its parts as one.
 pub fn freeze<T: Drop, A: Allocator>(whole: Box<T, A>) -> (Deed<T, A>, Part<T>)
     ensures { (result.0.value ≡ whole.value) × (result.1.value ≡ whole.value)
         × (result.1.lifetime ≡ result.0.lifetime) × (result.1.count ≡ 2 ^ 63) }
@@ -43,7 +43,7 @@ pub fn freeze<T: Drop, A: Allocator>(whole: Box<T, A>) -> (Deed<T, A>, Part<T>)
     (Deed { ptr, alloc }, Part { ptr })
 }
 
-/// The box, for the right to it and all parts of its value. Both must be of one value, and the part must be whole.
+/// Returns the box, for the right to it and all parts of its value. Both must be of one value, and the part whole.
 pub fn thaw<T, A: Allocator>(deed: Deed<T, A>, all: Part<T>) -> Box<T, A>
     requires { (all.lifetime ≡ deed.lifetime) × (all.count ≡ 2 ^ 63) }
     ensures { result.value ≡ deed.value }
@@ -54,14 +54,14 @@ pub fn thaw<T, A: Allocator>(deed: Deed<T, A>, all: Part<T>) -> Box<T, A>
 }
 
 impl<T> Part<T> {
-    /// The value.
+    /// Returns the value.
     pub fn get(&self) -> &T
         ensures { result.now ≡ self.now.value }
     {
         unsafe { &*self.ptr }
     }
 
-    /// Another part of the same value, of one share. This part must have more than one, and keeps the rest.
+    /// Splits off another part of the same value, of one share. This part must have more than one, and keeps the rest.
     pub fn split_one(&mut self) -> Part<T>
         requires { (1 < self.old.count) × (self.old.count ≤ 2 ^ 63) }
         ensures { (self.new ≡ record self.old { count = self.old.count - 1 })

@@ -70,7 +70,7 @@ impl Model for Guard {
 }
 
 impl Post {
-    /// A post whose participant isn't pinned, and the right to pin there.
+    /// Makes a post whose participant isn't pinned, and the right to pin there.
     pub fn new() -> (Post, Unpinned)
         ensures { (result.1.log ≡ result.0.log) × (result.1.state ≡ result.0.state) }
     {
@@ -85,7 +85,7 @@ impl Post {
         )
     }
 
-    /// One store, of the word of this epoch.
+    /// Pins, by one store of the word of this epoch.
     pub(crate) fn publish(&self, unpinned: Unpinned, epoch: u64, word: u64) -> (Pin, Guard)
         requires { (unpinned.log ≡ self.now.log) × (unpinned.state ≡ self.now.state) × (word ≡ posted epoch) }
         ensures pin { (result.0.log ≡ self.now.log) × (result.0.state ≡ self.now.state)
@@ -131,8 +131,8 @@ impl Post {
         }
     }
 
-    /// One plain load. It shows that each guard of this post that had a loan is over, except those of the epoch found.
-    /// Returns the word found, and what was marked, with this look added to what was seen.
+    /// Looks at the post, by one plain load. It shows that each guard of this post that had a loan is over, except
+    /// those of the epoch found. Returns the word found, and what was marked, with this look added to what was seen.
     pub fn look<T>(&self, marked: Marked<T>) -> (u64, Marked<T>)
         requires { marked.right ≡ 1 }
         ensures seen { result.1.seen ≡ (self.now.log, result.0) ∷ marked.seen }
@@ -144,8 +144,8 @@ impl Post {
         (found, Marked { at })
     }
 
-    /// One plain load, for all loans of a watch. It shows that each guard of this post that had one is over, except
-    /// those of the epoch found. Returns the word found, and the watch, with this look added to what was seen.
+    /// Looks at the post for all loans of a watch, by one plain load. It shows that each guard of this post with one is
+    /// over, except those of the epoch found. Returns the word found, and the watch with this look added.
     pub fn look_for(&self, watch: Watch) -> (u64, Watch)
         ensures seen { result.1.seen ≡ (self.now.log, result.0) ∷ watch.seen }
         ensures same { result.1.loans ≡ watch.loans }
@@ -160,7 +160,7 @@ impl Post {
 }
 
 impl Guard {
-    /// Another guard of the same pin, of one share. This one must have more than one, and keeps the rest.
+    /// Splits off another guard of the same pin, of one share. This one must have more than one, and keeps the rest.
     pub fn split_one(&mut self) -> Guard
         requires { (1 < self.old.count) × (self.old.count ≤ 2 ^ 63) }
         ensures { (self.new ≡ record self.old { count = self.old.count - 1 })

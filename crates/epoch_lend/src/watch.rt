@@ -24,7 +24,7 @@ impl Model for Watch {
 }
 
 impl Watch {
-    /// A watch of no loans.
+    /// Makes a watch of no loans.
     pub fn new() -> Watch
         ensures { (result.loans ≡ []) × (result.seen ≡ []) }
     {
@@ -42,7 +42,7 @@ impl Watch {
         Marked { at }
     }
 
-    /// All parts of a value of which the loans are watched. Looks must have shown that each guard with a loan is over.
+    /// Returns all parts of a value whose loans are watched. Looks must have shown that each guard with a loan is over.
     pub fn collect<T>(&mut self, marked: Marked<T>) -> Part<T>
         requires marked { marked.right ≡ 1 }
         requires watched { AreWatched marked.loans self.old.loans }

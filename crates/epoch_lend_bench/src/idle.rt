@@ -29,7 +29,7 @@ impl<'c, 'q, 's, J: PostSet, T: Drop> Idle<'c, 'q, 's, J, T> {
         }
     }
 
-    /// Pins and unpins so many times.
+    /// Pins and unpins this many times.
     pub fn pins(&mut self, turns: u64) -> u64 {
         for _ in 0..turns {
             self.pin_once();

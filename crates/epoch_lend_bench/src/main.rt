@@ -3,10 +3,10 @@
 //! With no argument it makes a short run, and prints what the looks found. With `long` it prints times of looks in
 //! cells, beside loads of a plain atomic word, on one thread and on four.
 //!
-//! `NAME THREADS TURNS ROUNDS` prints the least and the middle time of so many rounds of a row of the comparison with
+//! `NAME THREADS TURNS ROUNDS` prints the least and the middle time of this many rounds of a row of the comparison with
 //! crossbeam-epoch, in nanoseconds a turn, and how many turns of the last round did what they should. `replacing
-//! THREADS TURNS` has so many threads read, replace and retire values, and prints how many values were placed, dropped,
-//! read, and read torn.
+//! THREADS TURNS` has this many threads read, replace and retire values, and prints how many values were placed,
+//! dropped, read, and read torn.
 #![tactic(auto)]
 
 mod idle;
@@ -118,7 +118,7 @@ fn time_row<R: Clock + Threads + Wait + Sync>(
     pointers::time(rt, alloc, row, size, times)
 }
 
-// Prints the least and the middle time of so many rounds of this row, in nanoseconds, and the turns done.
+// Prints the least and the middle time of this many rounds of this row, in nanoseconds, and the turns done.
 fn one_row<R: Clock + Print + Threads + Wait + Sync>(
     rt: &R,
     alloc: Global,

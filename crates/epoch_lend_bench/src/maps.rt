@@ -29,7 +29,7 @@ const KEYS: u32 = 100;
 /// Moves that a call of the map has.
 const MOVES: u32 = 1_000;
 
-// How often so many look-ups find the last key.
+// How often this many look-ups find the last key.
 #[inline(always)]
 fn found<J: PostSet>(
     map: &LendingMap<'_, J>,
@@ -59,7 +59,7 @@ impl<'c, 'q, 's, J: PostSet> Idle<'c, 'q, 's, J, Node> {
         self.handle.unpin(guard);
     }
 
-    // Makes so many look-ups under one guard. It isn't inlined, so that code around it doesn't move its loops.
+    // Makes this many look-ups under one guard. It isn't inlined, so that code around it doesn't move its loops.
     #[inline(never)]
     fn look_ups(&mut self, map: &LendingMap<'_, J>, turns: u64) -> u64 {
         let guard = self.handle.pin();

@@ -63,7 +63,7 @@ trait Work<T>: Sync {
     /// Puts there what is read later.
     fn fill<J: PostSet>(&self, guard: &GuardOf<'_, '_, '_, J, T>);
 
-    /// Does so many turns, and returns how many did what they should.
+    /// Does this many turns, and returns how many did what they should.
     fn turns<J: PostSet>(&self, guard: &GuardOf<'_, '_, '_, J, T>, turns: u64) -> u64;
 }
 
@@ -288,7 +288,7 @@ fn time_one<R: Clock + Threads + Wait + Sync>(
     rounds_over::<R, Brand, u64, One>(rt, alloc, made, &one, row, size, times)
 }
 
-/// How many posts so many threads use: 16 for each, so that they pin in different lines of the cache.
+/// How many posts this many threads use: 16 for each, so that they pin in different lines of the cache.
 pub fn posts_for(threads: u64) -> usize {
     usize::try_from(threads.saturating_mul(16)).unwrap_or(usize::MAX)
 }

@@ -298,7 +298,7 @@ fn over<R: Threads + Wait + Sync, J: PostSet + Send + Sync>(
     Ok(())
 }
 
-/// Has so many threads read and replace values, each in so many turns, and tells what was placed, read and dropped.
+/// Has this many threads read and replace values, each in this many turns, and tells what was placed, read and dropped.
 pub fn run<R: Threads + Wait + Sync>(
     rt: &R,
     alloc: Global,

@@ -161,7 +161,7 @@ fn all_rounds<R: Clock + Threads + Wait + Sync, J: PostSet + Send + Sync>(
     times
 }
 
-/// Times this many rounds of so many turns, on so many threads at once. The quickest round counts.
+/// Times this many rounds of this many turns, on this many threads at once. The quickest round counts.
 pub fn time<R: Clock + Threads + Wait + Sync>(
     rt: &R,
     alloc: Global,

@@ -15,9 +15,9 @@ pub struct Sight<'g, T> {
 }
 
 impl<T> Turns<T> {
-    /// Two plain loads. Where both find the word of a value that is shown at this turn, that value is lent for as long
-    /// as the guard is. `None`: no value is shown at this turn, as at each past [`GREATEST_TURN`]. The guard must be of
-    /// one of the place's posts.
+    /// Looks at the place, by two plain loads. If both find the word of a value that is shown at this turn, that value
+    /// is lent for as long as the guard is. `None`: no value is shown at this turn, as at each past [`GREATEST_TURN`].
+    /// The guard must be of one of the place's posts.
     pub fn sight<'g>(&self, at: *const T, turn: u64, guard: &'g Guard) -> Option<Sight<'g, T>>
         requires { (at ≡ self.now.at) × IsAmong guard.now.log self.now.posts }
         ensures { IfSome result (λ sight. (sight.name.log ≡ self.now.log) × (sight.name.turn ≡ turn)) }
@@ -44,8 +44,8 @@ impl<T> Turns<T> {
         }
     }
 
-    /// Two plain loads. The turn and the name of the value that is shown. `None`: no value is shown, or the place went
-    /// to another value between the loads.
+    /// Returns, by two plain loads, the turn and the name of the value that is shown. `None`: no value is shown, or the
+    /// place went to another value between the loads.
     pub fn shown(&self) -> Option<(u64, Name<T>)>
         ensures { IfSome result (λ shown. (shown.1.log ≡ self.now.log) × (shown.1.turn ≡ shown.0)) }
     {
@@ -63,8 +63,8 @@ impl<T> Turns<T> {
 }
 
 impl<'p, T> LendingCell<'p, T> {
-    /// Two plain loads. Where the cell has a value of this turn, it is lent for as long as the guard is. `None`: it has
-    /// none, since none was placed at this turn yet, or it was marked. The guard must be of one of the cell's posts.
+    /// Looks at the cell, by two plain loads. A value that it has of this turn is lent for as long as the guard is.
+    /// `None`: none was placed at this turn yet, or it was marked. The guard must be of one of the cell's posts.
     pub fn look<'g>(&self, turn: u64, guard: &'g Guard) -> Option<Sight<'g, T>>
         requires { IsAmong guard.now.log (logs_of self.now.posts.now) }
         ensures { IfSome result (λ sight. (sight.name.log ≡ self.now.turns.log) × (sight.name.turn ≡ turn)) }
@@ -72,9 +72,9 @@ impl<'p, T> LendingCell<'p, T> {
         self.turns.sight(self.at, turn, guard)
     }
 
-    /// Two plain loads. The value that the cell has, as [`LendingCell::place`] answered it, so that what is left in a
-    /// cell can be marked and taken back. `None`: the cell is empty, or its value was marked, or went out between the
-    /// loads.
+    /// Returns, by two plain loads, the value that the cell has, as [`LendingCell::place`] returned it, so that what is
+    /// left in a cell can be marked and taken back. `None`: the cell is empty, or its value was marked, or went out
+    /// between the loads.
     pub fn shown(&self) -> Option<Placed<'_, 'p, T>>
         ensures { IfSome result (λ placed. placed.cell.now ≡ self.now) }
     {

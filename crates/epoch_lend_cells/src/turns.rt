@@ -119,7 +119,7 @@ impl<T> Model for Found<T> {
 }
 
 impl<T> Turns<T> {
-    /// A vacant place at turn 0. Guards of these posts may look at its values.
+    /// Makes the place vacant at turn 0. Guards of these posts may look at its values.
     pub fn new(place: Place<T>, posts: &[Post]) -> (Turns<T>, *const T)
         ensures { (result.0.posts ≡ logs_of posts.now) × (result.0.at ≡ result.1) }
     {
@@ -159,7 +159,7 @@ impl<T> Turns<T> {
         }
     }
 
-    /// One plain load. Where it finds the word of a value that is shown at this turn, it answers which value that is.
+    /// Looks at the word, by one plain load. If it is that of a value shown at this turn, returns which value that is.
     pub fn find(&self, turn: u64, word: u64) -> (u64, Found<T>)
         requires { word ≡ 4 * turn + 2 }
         ensures { (result.0 ≡ word → result.1.right ≡ 1) × (result.0 ≢ word → result.1.right ≡ 0)
@@ -174,8 +174,8 @@ impl<T> Turns<T> {
         (found, which)
     }
 
-    /// One plain load. Where it finds the word of the name's turn, the value of that turn may be read for as long as
-    /// the guard is lent. The guard must be of one of the place's posts.
+    /// Looks at the value, by one plain load. If it finds the word of the name's turn, the value of that turn may be
+    /// read for as long as the guard is lent. The guard must be of one of the place's posts.
     pub fn look<'g>(
         &self,
         name: &Name<T>,
@@ -236,7 +236,7 @@ impl<T> Turns<T> {
 }
 
 impl<T> Found<T> {
-    /// The name of the value that was found.
+    /// Returns the name of the value that was found.
     pub fn name(self) -> Name<T>
         requires { self.right ≡ 1 }
         ensures { (result.turn ≡ self.turn) × (result.log ≡ self.log) × (Some result.value ≡ self.value)
@@ -256,7 +256,7 @@ impl<T> Found<T> {
 }
 
 impl<T> Name<T> {
-    /// Two names of one turn of one place are of one value. It does nothing when it runs.
+    /// Shows that two names of one turn of one place are of one value. It does nothing when it runs.
     pub fn agree(&self, other: &Name<T>)
         requires { (self.now.log ≡ other.now.log) × (self.now.turn ≡ other.now.turn) }
         ensures { (self.now.value ≡ other.now.value) × (self.now.lifetime ≡ other.now.lifetime) }
@@ -266,7 +266,7 @@ impl<T> Name<T> {
 }
 
 impl<T> Vacancy<T> {
-    /// The place with its value, once all parts of the value are back.
+    /// Returns the place with its value, once all parts of the value are back.
     pub fn reclaim(self, all: Part<T>) -> Filled<T>
         requires { (self.right ≡ 1) × (all.lifetime ≡ self.lifetime) × (all.count ≡ 2 ^ 63) }
         ensures { (result.value ≡ self.value) × (result.state ≡ self.state) × (result.word ≡ self.word)
@@ -322,7 +322,7 @@ impl<T> Filled<T> {
 }
 
 impl<T: Drop> Place<T> {
-    /// Room for one value, which is never freed. It fails only if memory is refused.
+    /// Takes room for one value, which is never freed. It fails only if memory is refused.
     pub fn new<A: Allocator + Drop>(alloc: A) -> Result<Place<T>, AllocError> {
         match Vacant::take(alloc) {
             Ok(room) => {
@@ -334,7 +334,7 @@ impl<T: Drop> Place<T> {
     }
 }
 
-/// The room of a block, for good, with its allocator.
+/// Returns the room of a block, for good, with its allocator.
 fn place_of<T: Drop, A: Allocator>(room: Vacant<T, A>) -> (Place<T>, A) {
     let Vacant { ptr, alloc } = room;
     (Place { at: ptr }, alloc)

@@ -116,7 +116,7 @@ fn start<J: PostSet + Send + Sync, R: Threads + Wait + Abort + Sync>(
     let posts = Posts::<J>::of(alloc, made)?;
     let cells = LentCells::new(alloc, 2_048, posts)?;
     let lender = Lender::new(alloc, &cells)?;
-    // A reader that stands still while it is pinned holds all bags back: there is a place for each that is put.
+    // A reader that is stopped while it is pinned holds all bags back: there is a place for each that is put.
     let collector = collector_of(&lender, alloc, Capacities::usual(4, 0, 512), 1)?;
     run_at_once(rt, alloc, &lender, &collector, course);
     let _ = collector.end();

@@ -184,8 +184,8 @@ impl<'c, 'q, 's, J: PostSet, T: Drop> LendingHandle<'c, 'q, 's, J, T> {
         }
     }
 
-    /// Pins the participant once more, while a guard that lends is out or not: a guard of the collector, which lends
-    /// nothing itself. It stores to no post. Values are got under the outer guard, as before.
+    /// Pins the participant once more, whether or not a guard that lends is out. Returns a guard of the collector,
+    /// which lends nothing itself. It stores to no post. Values are got under the outer guard, as before.
     ///
     /// One more guard must be counted: fewer than `2^32 - 1` may be out.
     #[inline]

@@ -52,7 +52,7 @@ impl<'c, 'q, 's, J: PostSet, T: Drop> LendingHandle<'c, 'q, 's, J, T> {
     /// gathered, and 64 of them are deferred by one job; [`LendingHandle::flush`] hurries them.
     ///
     /// `StrangerGuard`: the guard isn't this handle's. `StrangerPointer`: the pointer is null. `NoMemory` and
-    /// `BagsFull` come only where 64 are gathered and their job is refused: see [`LendingHandle::make_room`]. The
+    /// `BagsFull` come only if 64 values are gathered and their job is refused: see [`LendingHandle::make_room`]. The
     /// pointer is handed back.
     pub fn retire<'g>(
         &mut self,
@@ -97,7 +97,7 @@ impl<'c, 'q, 's, J: PostSet, T: Drop> LendingHandle<'c, 'q, 's, J, T> {
         Ok(())
     }
 
-    /// Makes room for a value that is retired next, so that it is unlinked only where it can be retired: where 64 are
+    /// Makes room for a value that is retired next, so that it is unlinked only if it can be retired: if 64 values are
     /// gathered, they are deferred.
     ///
     /// The guard must be this handle's. `NoMemory`, `BagsFull`: what was gathered is as before.

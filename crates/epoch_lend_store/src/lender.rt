@@ -176,7 +176,7 @@ impl<'s, J: PostSet, T: Drop> Lender<'s, J, T> {
 
     /// Drops the values that wait, and those that are still in the cells. Returns how many.
     ///
-    /// Each collector of this lender must have ended. Where a reader is still pinned, values that it may have are left
+    /// Each collector of this lender must have ended. If a reader is still pinned, values that it may have are left
     /// where they are, and so is a value for whose removal there is no memory.
     pub fn end(self, alloc: Global) -> usize {
         let mut dropped: usize = 0;

@@ -123,7 +123,7 @@ impl<J: PostSet, T: Drop> LentCells<J, T> {
     }
 }
 
-// So many starts, in equal distances among so many cells.
+// This many starts, in equal distances among this many cells.
 fn starts_for(alloc: Global, count: usize, cells: usize) -> Result<Vec<AtomicUsize>, AllocError> {
     let mut starts = Vec::with_capacity(alloc, count)?;
     for index in 0..count {

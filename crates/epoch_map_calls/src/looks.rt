@@ -9,12 +9,12 @@ use epoch_cells::Fault;
 use epoch_map_laws::{MapAnswer, Phase, Work, start_work};
 use epoch_plan_threads::Spots;
 
-/// Where a look-up stops that only reads.
+/// Where a look-up that only reads stops.
 #[derive(Clone, Copy)]
 pub enum Stop {
     /// At this answer.
     Answered(MapAnswer),
-    /// At a node that is marked and still linked. So many moves are left.
+    /// At a node that is marked and still linked. This many moves are left.
     Marked(u64),
     /// Nowhere else.
     Elsewhere,

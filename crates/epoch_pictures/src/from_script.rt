@@ -10,7 +10,7 @@ use std::io::{BufRead, Write};
 /// Does the lines of `reader` as `epoch_script::run` does, and writes a picture of all steps to `out`.
 ///
 /// Returns the exit status, that of `epoch-run`: 0, or 2 at a line that is no shape or no step or asks for a step past
-/// the 5,000th, of which `faults` is told, or 3 where a stream fails, or 4 where an allocation is refused. Where the
+/// the 5,000th, of which `faults` is told, or 3 if a stream fails, or 4 if an allocation is refused. If the
 /// lines end so, nothing is written to `out`.
 pub fn run<R: BufRead, W: Write, F: Write>(
     alloc: Global,
@@ -37,7 +37,7 @@ pub fn run<R: BufRead, W: Write, F: Write>(
 }
 
 /// Tells `faults` how the program `epoch-draw` is called, for words that it doesn't take, and returns its exit status:
-/// 2, or 3 where the stream fails, or 4 where memory is refused.
+/// 2, or 3 if the stream fails, or 4 if memory is refused.
 pub fn tell_usage<F: Write>(faults: &mut F) -> u8 {
     match write_usage(faults) {
         Ok(()) => Ending::NotUnderstood.status(),

@@ -26,7 +26,7 @@ fn add_word(alloc: Global, words: &mut Vec<String>, word: &str) -> Result<(), Al
     Ok(())
 }
 
-/// So many jobs, each of which adds one to `called`.
+/// This many jobs, each of which adds one to `called`.
 fn counting_jobs(
     alloc: Global,
     count: u64,
@@ -217,7 +217,7 @@ fn other_words_are_told_how_the_program_is_called(rt: HostRuntime) -> Result<(),
     Ok(())
 }
 
-/// Keeps what is written to it. One write or flush is refused, after so many others.
+/// Keeps what is written to it. One write or flush is refused, after this many others.
 #[derive(Drop)]
 struct Sink {
     taken: Vec<u8>,

@@ -86,7 +86,7 @@ fn fill_both(rt: &impl Abort, alloc: Global, cells: &Cells<u64>) {
     want(rt, "the turn before", glimpsed(cells, 1, 0), None);
 }
 
-// Has the first slot's value read twice, and meanwhile nobody else gets it.
+// Has the first slot's value read twice, and meanwhile no other thread gets it.
 fn read_twice(rt: &impl Abort, cells: &Cells<u64>) {
     let first = read(cells, 1, 1);
     let second = read(cells, 1, 1);
@@ -194,7 +194,7 @@ fn a_reader_that_leaves_never_lowers_the_count_of_another(rt: HostRuntime) -> Re
     Ok(())
 }
 
-// Each of so many slots takes a value, its own number, and then all are used.
+// Each of this many slots takes a value, its own number, and then all are used.
 fn fill_all(rt: &impl Abort, alloc: Global, cells: &Cells<u64>, slots: u32) {
     for slot in 1..=slots {
         want(

@@ -107,7 +107,7 @@ pub(crate) fn keep_back<'c>(rt: &impl Abort, handle: Handle<'c>) -> Handle<'c> {
     back
 }
 
-/// Ends the collector, which calls so many jobs.
+/// Ends the collector, which calls this many jobs.
 pub(crate) fn end(rt: &impl Abort, collector: Collector, jobs: u64) {
     want(rt, "the jobs that the end calls", collector.end(), jobs);
 }
@@ -130,7 +130,7 @@ pub(crate) fn refuse(rt: &impl Abort, handle: &mut Handle<'_>, guard: &Guard<'_>
     want_true(rt, "the job is refused", refused);
 }
 
-/// Defers so many jobs, each of which adds this number to the count.
+/// Defers this many jobs, each of which adds this number to the count.
 pub(crate) fn defer_counting(
     rt: &impl Abort,
     alloc: Global,

@@ -42,13 +42,13 @@ fn two_removals(name: Name) -> Option<SealedBag<Job>> {
     Some(bag.seal(Epoch::starting()))
 }
 
-/// An end of these bags calls so many jobs.
+/// An end of these bags calls this many jobs.
 fn end_these(rt: &impl Abort, cells: &Cells<u64>, bags: &mut [Option<SealedBag<Job>>], jobs: u64) {
     let called = end_bags(cells, bags);
     want(rt, "the jobs that the end calls", called, jobs);
 }
 
-/// So many cells.
+/// This many cells.
 fn cells_of(rt: &impl Abort, alloc: Global, cells: u8) -> Cells<u64> {
     Cells::new(alloc, cells as u32, 0).expect(rt, "memory for cells")
 }

@@ -44,7 +44,7 @@ fn repin_after_rounds<'c>(
     own.repin_after(guard, || rounds(rt, other, Ok(()), calls, counted));
 }
 
-/// Repins so many times, each after nothing.
+/// Repins this many times, each after nothing.
 fn repins_after<'c>(rt: &impl Abort, handle: &mut Handle<'c>, guard: &mut Guard<'c>, repins: u64) {
     for _ in 0..repins {
         assert!(rt; handle.owns(guard), "the guard is one of the handle");

@@ -30,7 +30,7 @@ const TWICE: &[Row] = &[
     ("by an end", false, &[Called(4), Called(5), CalledByEnd(4)]),
 ];
 
-/// Whether a history keeps grace: a call comes after all have withdrawn who were pinned at its deferral.
+/// Whether a history keeps grace: a call comes after each participant that was pinned at its deferral has withdrawn.
 const GRACE: &[Row] = &[
     (
         "it unpinned",

@@ -50,7 +50,7 @@ const TOLD: [Reply; 17] = [
     UNIT,
 ];
 
-/// Adds the steps of a call with so many Go.
+/// Adds the steps of a call with this many steps Go.
 fn add_call(
     steps: &mut Vec<Step>,
     (participant, call, goes): (u64, Call, u64),

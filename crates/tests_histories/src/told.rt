@@ -47,7 +47,7 @@ pub enum Told {
     GoRefused(Fault),
     EndRefused(Fault),
     EndGoRefused(Fault),
-    /// An end begins, takes a bag, and is done after so many calls.
+    /// An end begins, takes a bag, and is done after this many calls.
     EndBegins,
     EndTakes,
     EndDone(u64),

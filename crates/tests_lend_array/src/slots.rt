@@ -57,7 +57,7 @@ fn placed<J: PostSet>(cells: &LendingCells<J, u64>, value: u64) -> Spot {
     }
 }
 
-/// Takes the value at this spot back, with nobody pinned. Answers it, or 0.
+/// Takes the value at this spot back, with no participant pinned. Returns it, or 0.
 fn taken<J: PostSet>(
     alloc: Global,
     posts: &Posts<J>,
@@ -191,7 +191,7 @@ fn a_cell_of_an_array_is_done_after_its_last_turn(rt: HostRuntime) -> Result<(),
     Ok(())
 }
 
-/// Takes out the value that this slot shows, with nobody pinned. Answers it, or 0.
+/// Takes out the value that this slot shows, with no participant pinned. Returns it, or 0.
 fn left_in<J: PostSet>(
     alloc: Global,
     posts: &Posts<J>,

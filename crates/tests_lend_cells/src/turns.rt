@@ -99,7 +99,7 @@ fn tried<'c, 'p>(sealed: Option<Sealed<'c, 'p, u64>>) -> (u64, Option<Sealed<'c,
     }
 }
 
-/// Places a value at turn 0 and takes it back, with nobody pinned. Answers it, or 0.
+/// Places a value at turn 0 and takes it back, with no participant pinned. Returns it, or 0.
 fn used_once(cell: &LendingCell<'_, u64>) -> u64 {
     match cell.place(0, 7) {
         Ok(placed) => tried(removed(&placed)).0,
@@ -133,7 +133,7 @@ fn a_cell_takes_no_value_past_its_last_turn(rt: HostRuntime) -> Result<(), Fail>
     Ok(())
 }
 
-/// Takes out the value that the cell shows, with nobody pinned. Answers it, or 0.
+/// Takes out the value that the cell shows, with no participant pinned. Returns it, or 0.
 fn left_in(cell: &LendingCell<'_, u64>) -> u64 {
     match cell.shown() {
         Some(placed) => tried(removed(&placed)).0,

@@ -101,7 +101,7 @@ pub(crate) fn told(
     }
 }
 
-/// An insert in so many moves answers so.
+/// An insert in at most this many moves answers so.
 pub(crate) fn want_insert<'d, 'q, 's, J: PostSet>(
     rt: &impl Abort,
     map: &LendingMap<'_, J>,
@@ -114,7 +114,7 @@ pub(crate) fn want_insert<'d, 'q, 's, J: PostSet>(
     want(rt, "an insert", told(rt, value, inserted), wanted);
 }
 
-/// A removal in so many moves answers so.
+/// A removal in at most this many moves answers so.
 pub(crate) fn want_remove<'d, 'q, 's, J: PostSet>(
     rt: &impl Abort,
     map: &LendingMap<'_, J>,
@@ -127,7 +127,7 @@ pub(crate) fn want_remove<'d, 'q, 's, J: PostSet>(
     want(rt, "a removal", removed, wanted);
 }
 
-/// A look-up in so many moves answers so, one that helps does too, and what `contains` says agrees.
+/// A look-up in at most this many moves answers so, one that helps does too, and what `contains` says agrees.
 pub(crate) fn want_get<'d, 'q, 's, J: PostSet>(
     rt: &impl Abort,
     map: &LendingMap<'_, J>,

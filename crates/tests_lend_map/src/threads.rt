@@ -201,7 +201,7 @@ fn want_same_counts(rt: &impl Abort, put: &[AtomicU64], off: &[AtomicU64]) {
     }
 }
 
-/// So many counts that stand at 0.
+/// This many counts that stand at 0.
 fn counts_of(rt: &impl Abort, alloc: Global) -> Vec<AtomicU64> {
     let mut counts = Vec::new(alloc);
     for _ in 0..THREADS.wrapping_mul(EACH) {

@@ -92,7 +92,7 @@ pub fn dropped_once(counts: &Counts) -> u64 {
     once
 }
 
-/// So many counts, each 0.
+/// This many counts, each 0.
 pub fn counts_for(alloc: Global, values: usize) -> Result<Counts, AllocError> {
     let mut counts = Vec::with_capacity(alloc, values)?;
     for _ in 0..values {

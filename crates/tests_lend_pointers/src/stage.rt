@@ -62,7 +62,7 @@ impl<'t, S: Scene + Drop, R: Abort> Session for Staged<'t, S, R> {
     }
 }
 
-/// Plays the scene with so many cells, two posts, and a collector of these capacities.
+/// Plays the scene with this many cells, two posts, and a collector of these capacities.
 pub fn play<'t, S: Scene + Drop, R: Abort>(
     rt: &'t R,
     alloc: Global,

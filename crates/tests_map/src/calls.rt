@@ -97,7 +97,7 @@ pub(crate) fn release(rt: &impl Abort, handle: Handle<'_>) {
     }
 }
 
-/// Ends the collector, which calls so many jobs.
+/// Ends the collector, which calls this many jobs.
 pub(crate) fn end(rt: &impl Abort, collector: Nodes, jobs: u64) {
     want(rt, "the jobs that the end calls", collector.end(), jobs);
 }
@@ -117,7 +117,7 @@ pub(crate) fn told(
     }
 }
 
-/// An insert in so many moves answers so.
+/// An insert in at most this many moves answers so.
 pub(crate) fn want_insert(
     rt: &impl Abort,
     map: &Map<'_>,
@@ -130,7 +130,7 @@ pub(crate) fn want_insert(
     want(rt, "an insert", told(rt, value, inserted), wanted);
 }
 
-/// A removal in so many moves answers so.
+/// A removal in at most this many moves answers so.
 pub(crate) fn want_remove(
     rt: &impl Abort,
     map: &Map<'_>,
@@ -143,7 +143,7 @@ pub(crate) fn want_remove(
     want(rt, "a removal", removed, wanted);
 }
 
-/// A look-up in so many moves answers so, and what `contains` says agrees.
+/// A look-up in at most this many moves answers so, and what `contains` says agrees.
 pub(crate) fn want_get(
     rt: &impl Abort,
     map: &Map<'_>,

@@ -14,7 +14,7 @@ use epoch_plan_threads::Spots;
 use std::alloc::Global;
 use std::process::Abort;
 
-/// The spots of a map, of which one access isn't made: the one after so many others.
+/// The spots of a map, of which one access isn't made: the one after this many others.
 struct Stopped<'s, 'g> {
     own: SharedSpots<'s, 'g, Work>,
     before: u32,
@@ -36,7 +36,7 @@ impl<'s, 'g> Spots for Stopped<'s, 'g> {
     }
 }
 
-/// The spots of a map, on which another participant removes key 5 and inserts it again, with value 51, after so many
+/// The spots of a map, on which another participant removes key 5 and inserts it again, with value 51, after this many
 /// accesses.
 struct Met<'s, 'g, 'c> {
     own: SharedSpots<'s, 'g, Work>,
@@ -75,7 +75,7 @@ impl<'s, 'g, 'c> Spots for Met<'s, 'g, 'c> {
     }
 }
 
-/// Removes the key's entry, which is behind so many nodes of its bucket, and stops before its node is unlinked. The
+/// Removes the key's entry, which is behind this many nodes of its bucket, and stops before its node is unlinked. The
 /// accesses before that load the bucket; read each node, leave it and load its pointer; and mark the last one.
 fn mark_alone(
     rt: &impl Abort,
@@ -170,7 +170,7 @@ enum MetCall {
     Insert(u32, Option<u32>),
 }
 
-/// Makes a call on key 5, or an insert, in which the other participant acts after so many accesses.
+/// Makes a call on key 5, or an insert, in which the other participant acts after this many accesses.
 fn want_met<'c>(
     rt: &impl Abort,
     map: &Map<'c>,
@@ -214,7 +214,7 @@ fn want_met<'c>(
 }
 
 /// Of two participants the first one inserts 50 under key 5, and makes a call in which the other one removes that and
-/// inserts 51, after so many accesses. Then these entries are left, and are removed. The end calls so many removals.
+/// inserts 51, after this many accesses. Then these entries are left, and removed. The end calls this many removals.
 fn meet(
     rt: &impl Abort,
     alloc: Global,

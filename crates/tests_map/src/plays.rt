@@ -12,11 +12,11 @@ use std::process::Abort;
 /// What is done under a guard, and what it has to answer.
 #[derive(Clone, Copy)]
 pub(crate) enum Deed {
-    /// Inserts the value under the key in so many moves.
+    /// Inserts the value under the key in at most this many moves.
     Insert(u32, u32, u32, Told),
-    /// Removes the key's entry in so many moves.
+    /// Removes the key's entry in at most this many moves.
     Remove(u32, u32, Told),
-    /// Looks the key up in so many moves.
+    /// Looks the key up in at most this many moves.
     Get(u32, u32, Told),
     /// Whether the held bag has room.
     Room(bool),
@@ -46,7 +46,7 @@ pub(crate) fn act(
 }
 
 /// The one participant of a collector with these capacities does all this to an empty map of 2 to the power of `bits`
-/// buckets. The end calls so many jobs.
+/// buckets. The end calls this many jobs.
 pub(crate) fn play(
     rt: &impl Abort,
     alloc: Global,

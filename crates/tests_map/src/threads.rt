@@ -159,7 +159,7 @@ fn work<R: Abort + Wait>(
     leave(rt, handle);
 }
 
-/// So many counts that stand at 0.
+/// This many counts that stand at 0.
 fn counts_of(rt: &impl Abort, alloc: Global, values: u32) -> Vec<AtomicU64> {
     let mut counts = Vec::new(alloc);
     for _ in 0..values {
@@ -200,8 +200,8 @@ fn want_same_counts(rt: &impl Abort, counts: Counts<'_>) {
     }
 }
 
-/// So many threads insert, look up and remove so many values each, under keys of their own and common ones. Each value
-/// comes off once, and then the map is empty.
+/// This many threads insert, look up and remove this many values each, under keys of their own and common ones. Each
+/// value comes off once, and then the map is empty.
 fn race<R: Abort + Threads + Wait + Sync>(
     rt: &R,
     alloc: Global,

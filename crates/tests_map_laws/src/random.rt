@@ -1,4 +1,4 @@
-//! Drawn runs of three participants who insert, remove and look up in one map, a call of the world at a time, beside a
+//! Drawn runs of three participants that insert, remove and look up in one map, a call of the world at a time, beside a
 //! table of entries.
 use epoch_bags::Places;
 use epoch_cells::Fault;

@@ -34,22 +34,22 @@ pub(crate) fn bucket_of(key: u64) -> u64 {
     key % 2
 }
 
-/// An insert of this entry, in at most so many moves.
+/// An insert of this entry, in at most this many moves.
 pub(crate) fn insert(key: u64, value: u64, moves: u64) -> Work {
     Work::Insert(bucket_of(key), entry_of(key, value), moves)
 }
 
-/// A removal of this key's entry, in at most so many moves.
+/// A removal of this key's entry, in at most this many moves.
 pub(crate) fn remove(key: u64, moves: u64) -> Work {
     Work::Remove(bucket_of(key), key, moves)
 }
 
-/// A look-up of this key's entry, in at most so many moves.
+/// A look-up of this key's entry, in at most this many moves.
 pub(crate) fn get(key: u64, moves: u64) -> Work {
     Work::Get(bucket_of(key), key, moves)
 }
 
-/// A new map in a world of so many participants and cells, each participant pinned by its guard 0.
+/// A new map in a world of this many participants and cells, each participant pinned by its guard 0.
 pub(crate) fn map_of(
     rt: &impl Abort,
     alloc: Global,

@@ -1,4 +1,4 @@
-//! Random runs of participants who insert, remove and look up in one map, step by step, beside a table of entries.
+//! Random runs of participants that insert, remove and look up in one map, step by step, beside a table of entries.
 use crate::calls::{
     Map, end, entry_of, get, insert, is_over, map_of, remove, to_end, want, want_begun, want_done,
     whole,
@@ -237,7 +237,7 @@ fn take_steps(
     panic!(rt; "some call comes to no end")
 }
 
-/// Looks each key up, with nobody else at work.
+/// Looks each key up, with no other participant at work.
 fn look_all_up(rt: &impl Abort, map: &mut Map, run: &mut Run) -> Result<(), AllocError> {
     for key in 0..KEYS {
         run.steps = run.steps.wrapping_add(1);
@@ -289,7 +289,7 @@ fn run_once(rt: &impl Abort, alloc: Global, draws: &mut Draws, renews: bool) -> 
     Ok(run.removed)
 }
 
-/// So many runs with cells enough for each insert or too few, from this state of the draws on.
+/// This many runs with cells enough for each insert or too few, from this state of the draws on.
 fn run_often(rt: &impl Abort, alloc: Global, state: u64, runs: u64) -> Result<(), Fail> {
     let mut draws = Draws { state };
     for _ in 0..runs {

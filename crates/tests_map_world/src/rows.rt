@@ -179,7 +179,7 @@ fn a_walk_that_runs_out_of_moves_says_so(rt: HostRuntime) -> Result<(), Fail> {
     Ok(())
 }
 
-/// A map with one entry, whose removal by participant 0 was begun and then went on by so many steps.
+/// A map with one entry, whose removal by participant 0 was begun and then went on by this many steps.
 fn half_removed(rt: &impl Abort, alloc: Global, steps: u64) -> Result<Map, Fail> {
     let mut map = map_of(rt, alloc, 2, 4, 4)?;
     want_answer(
@@ -202,7 +202,7 @@ fn half_removed(rt: &impl Abort, alloc: Global, steps: u64) -> Result<Map, Fail>
     Ok(map)
 }
 
-/// Whether another participant finds the entry where the removal stalls after so many steps. It answers no error, and
+/// Whether another participant finds the entry where the removal stalls after this many steps. It answers no error, and
 /// if none is there another insert of the key is done.
 fn is_found_after(rt: &impl Abort, alloc: Global, steps: u64) -> Result<bool, Fail> {
     let mut map = half_removed(rt, alloc, steps)?;

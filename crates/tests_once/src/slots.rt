@@ -41,7 +41,7 @@ fn a_value_is_taken_once_or_dropped_with_its_slot(rt: HostRuntime) {
     takes(&rt, rt.alloc());
 }
 
-/// So many slots, each with the value of its number.
+/// This many slots, each with the value of its number.
 fn slots_of<'a>(
     rt: &impl Abort,
     alloc: Global,

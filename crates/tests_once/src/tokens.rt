@@ -32,7 +32,7 @@ pub(crate) fn want<T: PartialEq + Debug + Drop>(rt: &impl Abort, what: &str, see
     assert_eq!(rt; seen, wanted, "{what}");
 }
 
-/// So many counts that stand at 0.
+/// This many counts that stand at 0.
 pub(crate) fn counts_of(rt: &impl Abort, alloc: Global, values: u64) -> Vec<AtomicU64> {
     let mut counts = Vec::new(alloc);
     for _ in 0..values {

@@ -96,7 +96,7 @@ pub(crate) fn release<T: Drop>(rt: &impl Abort, handle: LocalHandle<'_, T>) {
     }
 }
 
-/// Ends the collector, which calls so many jobs.
+/// Ends the collector, which calls this many jobs.
 pub(crate) fn end<T: Drop>(rt: &impl Abort, collector: Collector<T>, jobs: u64) {
     want(rt, "the jobs that the end calls", collector.end(), jobs);
 }

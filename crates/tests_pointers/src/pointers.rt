@@ -49,7 +49,7 @@ fn act(rt: &impl Abort, alloc: Global, guard: &Guard<'_, u64>, case: Case) {
     }
 }
 
-/// Does this under an unprotected guard of a collector with so many cells.
+/// Does this under an unprotected guard of a collector with this many cells.
 fn under_guard(rt: &impl Abort, alloc: Global, cells: u32, case: Case) {
     let collector = collector(rt, alloc, Capacities::usual(1, cells, 1));
     let guard = unprotected(&collector);

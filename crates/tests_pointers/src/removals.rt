@@ -76,7 +76,7 @@ pub(crate) fn remove_later<T: Pointable + Drop>(
     want_true(rt, "the removal is kept", kept);
 }
 
-/// As `remove_later`, for so many values that count their drops.
+/// As `remove_later`, for this many values that count their drops.
 fn remove_counted_later(
     rt: &impl Abort,
     alloc: Global,
@@ -107,7 +107,7 @@ fn each_value_is_dropped_once_by_its_removal(rt: HostRuntime) {
     want_count(&rt, "drops at the end", &drops, 700);
 }
 
-/// So many values that count their drops.
+/// This many values that count their drops.
 fn counted_values(
     rt: &impl Abort,
     alloc: Global,
@@ -122,7 +122,7 @@ fn counted_values(
     made
 }
 
-/// Removes the value under a pin, and makes two rounds. It is dropped by the second one, with so many elements.
+/// Removes the value under a pin, and makes two rounds. It is dropped by the second one, with this many elements.
 fn remove_whole<T: Pointable + Drop>(
     rt: &impl Abort,
     alloc: Global,

@@ -14,7 +14,7 @@ use epoch_queue::{Queue, SharedSpots, pop_over, push_over};
 use std::alloc::Global;
 use std::process::Abort;
 
-/// The spots of a queue, on which another participant pops and then pushes 2 after so many accesses.
+/// The spots of a queue, on which another participant pops and then pushes 2 after this many accesses.
 struct Met<'s, 'g, 'c> {
     own: SharedSpots<'s, 'g, u64, Work>,
     queue: &'s Queue<'c, u64>,
@@ -52,7 +52,7 @@ impl<'s, 'g, 'c> Spots for Met<'s, 'g, 'c> {
     }
 }
 
-/// The spots of a queue, of which one access isn't made: the one after so many others.
+/// The spots of a queue, of which one access isn't made: the one after this many others.
 struct Stopped<'s, 'g> {
     own: SharedSpots<'s, 'g, u64, Work>,
     before: u32,
@@ -82,7 +82,7 @@ enum MetCall {
     Push(u32, Result<(), (Fault, u64)>),
 }
 
-/// Makes a call, in which the other participant acts after so many accesses.
+/// Makes a call, in which the other participant acts after this many accesses.
 fn want_met<'c>(
     rt: &impl Abort,
     queue: &Queue<'c, u64>,
@@ -138,7 +138,7 @@ fn stop_before_the_tail_is_moved(
     own.close();
 }
 
-/// Of two participants the first one pushes `before`, and makes a call in which the other one acts after so many
+/// Of two participants the first one pushes `before`, and makes a call in which the other one acts after this many
 /// accesses. The other one pops `left`, and then nothing is there. The end calls two removals.
 fn meet(rt: &impl Abort, alloc: Global, before: &[u64], call: (MetCall, u32), left: &[u64]) {
     let collector = collector(rt, alloc, Capacities::usual(2, 4, 2));

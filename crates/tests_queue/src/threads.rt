@@ -82,7 +82,7 @@ struct Seen<'a> {
 }
 
 impl<'a> Seen<'a> {
-    /// Nothing has come off yet. Each producer pushes so many values.
+    /// Nothing has come off yet. Each producer pushes this many values.
     fn new(rt: &impl Abort, alloc: Global, counts: &'a [AtomicU64], values: u64) -> Seen<'a> {
         let mut behind = Vec::new(alloc);
         for _ in counts {
@@ -135,7 +135,7 @@ fn push_and_pop<R: Abort + Wait>(
     leave(rt, handle);
 }
 
-/// So many counts that stand at 0.
+/// This many counts that stand at 0.
 fn counts_of(rt: &impl Abort, alloc: Global, values: u64) -> Vec<AtomicU64> {
     let mut counts = Vec::new(alloc);
     for _ in 0..values {
@@ -171,8 +171,8 @@ fn want_each_once(rt: &impl Abort, counts: &[AtomicU64]) {
     }
 }
 
-/// So many threads push and pop so many values each. Each value comes off once, behind the earlier ones of its thread,
-/// and then the queue is empty.
+/// This many threads push and pop this many values each. Each value comes off once, behind the earlier ones of its
+/// thread, and then the queue is empty.
 fn race<R: Abort + Threads + Wait + Sync>(
     rt: &R,
     alloc: Global,

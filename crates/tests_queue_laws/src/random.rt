@@ -1,4 +1,4 @@
-//! Drawn runs of three participants who push and pop over one queue, a call of the world at a time, beside a list.
+//! Drawn runs of three participants that push and pop over one queue, a call of the world at a time, beside a list.
 use epoch_bags::Places;
 use epoch_cells::Fault;
 use epoch_plans::{PhaseMachine, Wish};

@@ -21,7 +21,7 @@ pub(crate) fn want<T: Copy + PartialEq + Debug>(rt: &impl Abort, what: &str, see
     assert_eq!(rt; seen, wanted, "{what}");
 }
 
-/// The numbers of a world with a queue, so many participants and cells, and so many bags of so many jobs.
+/// The numbers of a world with a queue, this many participants and cells, and this many bags of this many jobs.
 pub(crate) fn shape_of(participants: u64, cells: u64, bags: u64, bag_jobs: u64) -> Shape {
     Shape {
         bags,
@@ -63,7 +63,7 @@ pub(crate) fn built_in<S: BagStore<Job = Deferral>>(
     Ok(queue)
 }
 
-/// Such a queue with so many participants and cells.
+/// Such a queue with this many participants and cells.
 pub(crate) fn built<S: BagStore<Job = Deferral>>(
     rt: &impl Abort,
     alloc: Global,
@@ -100,7 +100,7 @@ pub(crate) fn want_begun(rt: &impl Abort, what: &str, queue: &mut Queue, step: Q
     want_reply(rt, what, queue, step, PlanReply::World(Reply::Began));
 }
 
-/// So many steps Go of participant 0 go on.
+/// This many steps Go of participant 0 go on.
 pub(crate) fn want_stepped(rt: &impl Abort, what: &str, queue: &mut Queue, steps: u64) {
     for _ in 0..steps {
         let stepped = PlanReply::World(Reply::Stepped);

@@ -1,4 +1,4 @@
-//! Random runs of participants who push and pop over one queue, step by step, beside a list.
+//! Random runs of participants that push and pop over one queue, step by step, beside a list.
 use crate::calls::{Queue, built_in, end, is_over, shape_of, want, want_begun, want_done, whole};
 use crate::orders::{Did, Past, fit_a_list};
 use epoch_laws::Reply;
@@ -191,7 +191,7 @@ fn is_done(run: &Run) -> bool {
     run.begun >= CALLS && first.is_none() && second.is_none() && third.is_none()
 }
 
-/// Pops what is left, and sees the queue empty. Nobody meets such a pop, so it needs two tries at most.
+/// Pops what is left, and sees the queue empty. No other call meets such a pop, so it needs two tries at most.
 fn pop_the_rest(rt: &impl Abort, queue: &mut Queue, run: &mut Run) -> Result<(), AllocError> {
     for _ in 0..=CALLS {
         run.steps = run.steps.wrapping_add(1);

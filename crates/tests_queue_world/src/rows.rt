@@ -261,7 +261,7 @@ fn a_call_in_no_try_runs_out_of_them(rt: HostRuntime) -> Result<(), Fail> {
     Ok(())
 }
 
-/// Nobody is registered, and then nobody is pinned; at last participant 0 is.
+/// No participant is registered, and then none is pinned; at last participant 0 is.
 fn meet_no_pin(rt: &impl Abort, queue: &mut Queue) {
     want_whole(
         rt,
@@ -416,7 +416,7 @@ fn want_pushed(rt: &impl Abort, replies: &[QueueReply]) {
     want(rt, "a push alone", replies, &pushed_alone()[..]);
 }
 
-/// A queue with one pinned participant and two cells, for which memory is asked once more where it is refused.
+/// A queue with one pinned participant and two cells, for which memory is asked once more if it is refused.
 fn built_at_last(rt: &impl Abort, alloc: Global) -> Result<Queue, Fault> {
     match built(rt, alloc, 1, 2) {
         Ok(queue) => Ok(queue),

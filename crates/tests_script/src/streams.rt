@@ -338,7 +338,7 @@ fn a_failing_read_ends_the_run_after_the_lines_before_it(rt: HostRuntime) -> Res
     Ok(())
 }
 
-/// Takes so many bytes and then fails.
+/// Takes this many bytes and then fails.
 #[derive(Drop)]
 struct FailingWriter {
     room: usize,
@@ -449,7 +449,7 @@ impl Write for FailingFlush {
     }
 }
 
-/// Asserts that a run ends at a flush of its answers, after so many that went well, and tells nothing.
+/// Asserts that a run ends at a flush of its answers, after this many that went well, and tells nothing.
 fn expect_flush_to_end_it(
     rt: &impl Abort,
     alloc: Global,

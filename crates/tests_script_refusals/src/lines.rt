@@ -38,7 +38,7 @@ pub fn script(alloc: Global) -> Result<String, AllocError> {
     Ok(script)
 }
 
-/// What is printed where the first so many bytes of the script are read: a line is done when its line feed is there.
+/// What is printed if only this many bytes of the script are read: a line is done when its line feed is there.
 pub fn printed_by_bytes(alloc: Global, bytes: usize) -> Result<String, AllocError> {
     let mut printed = String::new(alloc);
     let mut left = bytes;
@@ -52,7 +52,7 @@ pub fn printed_by_bytes(alloc: Global, bytes: usize) -> Result<String, AllocErro
     Ok(printed)
 }
 
-/// What the first so many lines print of those that print something.
+/// What the script's lines print, up to this many of those that print something.
 pub fn printed_by_lines(alloc: Global, lines: usize) -> Result<String, AllocError> {
     let mut printed = String::new(alloc);
     let mut left = lines;

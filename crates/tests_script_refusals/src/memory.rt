@@ -11,7 +11,7 @@ use std::test::Fail;
 /// More bytes than the script prints.
 const ROOM: usize = 1_000;
 
-/// The script, for which memory is asked once more where it is refused.
+/// The script, for which memory is asked once more if it is refused.
 fn script_at_last(alloc: Global) -> Result<String, AllocError> {
     match script(alloc) {
         Ok(script) => Ok(script),
@@ -19,7 +19,7 @@ fn script_at_last(alloc: Global) -> Result<String, AllocError> {
     }
 }
 
-/// Room for what is printed, for which memory is asked once more where it is refused.
+/// Room for what is printed, for which memory is asked once more if it is refused.
 fn room_at_last(alloc: Global) -> Result<Vec<u8>, AllocError> {
     match Vec::with_capacity(alloc, ROOM) {
         Ok(room) => Ok(room),

@@ -39,7 +39,7 @@ impl Gate {
     }
 }
 
-/// Gives its bytes, so many a read at most. One read is refused.
+/// Gives its bytes, this many a read at most. One read is refused.
 #[derive(Drop)]
 struct Source<'s> {
     bytes: &'s [u8],
@@ -86,7 +86,7 @@ fn run_from(alloc: Global, source: Source<'_>, at_once: usize) -> Result<Outcome
     })
 }
 
-/// The script is read so many bytes at once, and the read after so many is refused.
+/// The script is read this many bytes at once, and the read after this many is refused.
 fn expect_read_refused(
     rt: &impl Abort,
     alloc: Global,
@@ -111,7 +111,7 @@ fn expect_read_refused(
     Ok(())
 }
 
-/// The script is read so many bytes at once, and each read is refused in turn, the one at its end too.
+/// The script is read this many bytes at once, and each read is refused in turn, the one at its end too.
 fn expect_each_read_refused(rt: &impl Abort, alloc: Global, at_once: usize) -> Result<(), Fail> {
     let script = script(alloc)?;
     for reads in 0..=script.len().div_ceil(at_once.max(1)) {
@@ -142,7 +142,7 @@ fn run_into(alloc: Global, script: &str, sink: Sink) -> Result<Outcome, Fail> {
     })
 }
 
-/// The answers of a line are one write and one flush. Of these, the one after so many is refused.
+/// The answers of a line are one write and one flush. Of these, the one after this many is refused.
 fn expect_write_refused(
     rt: &impl Abort,
     alloc: Global,
@@ -184,7 +184,7 @@ fn a_script_of_which_nothing_is_refused_is_done_to_its_end(rt: HostRuntime) -> R
     want_ended(&rt, (0, 0), &outcome, (Ending::Finished, 0), &printed)
 }
 
-/// How the script ends, with a bad line after it, where of what is told of that line the write or flush after so many
+/// How the script ends, with a bad line after it, if of what is told of that line the write or flush after this many
 /// is refused.
 fn ending_of_telling(
     alloc: Global,

@@ -84,7 +84,7 @@ pub(crate) fn release(rt: &impl Abort, handle: Handle<'_>) {
     }
 }
 
-/// Ends the collector, which calls so many jobs.
+/// Ends the collector, which calls this many jobs.
 pub(crate) fn end(rt: &impl Abort, collector: Nodes, jobs: u64) {
     want(rt, "the jobs that the end calls", collector.end(), jobs);
 }
@@ -97,7 +97,7 @@ pub(crate) fn told(pushed: Result<(), Refused<u64>>) -> Result<(), (Fault, u64)>
     }
 }
 
-/// A push of the value, in so many tries, answers no fault, or this one with the value.
+/// A push of the value, in at most this many tries, answers no fault, or this one with the value.
 pub(crate) fn want_push(
     rt: &impl Abort,
     alloc: Global,
@@ -127,7 +127,7 @@ pub(crate) fn push(
     want_push(rt, alloc, stack, handle, guard, (value, 1), None);
 }
 
-/// What a pop in so many tries answers.
+/// What a pop in at most this many tries answers.
 pub(crate) fn want_pop(
     rt: &impl Abort,
     stack: &Stack<'_, u64>,

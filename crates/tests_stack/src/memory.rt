@@ -9,7 +9,7 @@ use epoch_stack::Stack;
 use std::alloc::Global;
 use std::process::Abort;
 
-/// A collector with one participant, so many cells and one place.
+/// A collector with one participant, this many cells and one place.
 fn new_collector(alloc: Global, cells: u32) -> Result<Nodes, Fault> {
     let capacities = Capacities::usual(1, cells, 1);
     if !capacities.is_valid() {
@@ -18,7 +18,7 @@ fn new_collector(alloc: Global, cells: u32) -> Result<Nodes, Fault> {
     Collector::new(alloc, capacities, 1)
 }
 
-/// A collector, for which memory is asked once more where it is refused.
+/// A collector, for which memory is asked once more if it is refused.
 fn collector_at_last(alloc: Global, cells: u32) -> Result<Nodes, Fault> {
     match new_collector(alloc, cells) {
         Ok(collector) => Ok(collector),

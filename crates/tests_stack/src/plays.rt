@@ -14,11 +14,11 @@ use std::process::Abort;
 pub(crate) enum Deed {
     /// Pushes the value in one try.
     Push(u64),
-    /// A push of the value in so many tries is refused.
+    /// A push of the value in at most this many tries is refused.
     Refused(u64, u32, Fault),
     /// Pops the value in one try.
     Pop(u64),
-    /// A pop in so many tries is refused.
+    /// A pop in at most this many tries is refused.
     Kept(u32, Fault),
     /// Pops the value in one lone try.
     Alone(u64),
@@ -56,7 +56,7 @@ fn act(
     }
 }
 
-/// The one participant of a collector with these capacities does all this to an empty stack. The end calls so many
+/// The one participant of a collector with these capacities does all this to an empty stack. The end calls this many
 /// jobs.
 pub(crate) fn play(
     rt: &impl Abort,

@@ -102,7 +102,7 @@ fn push_and_pop<R: Abort + Wait>(
     leave(rt, handle);
 }
 
-/// So many counts that stand at 0.
+/// This many counts that stand at 0.
 fn counts_of(rt: &impl Abort, alloc: Global, values: u64) -> Vec<AtomicU64> {
     let mut counts = Vec::new(alloc);
     for _ in 0..values {
@@ -136,7 +136,7 @@ fn want_each_once(rt: &impl Abort, counts: &[AtomicU64]) {
     }
 }
 
-/// So many threads push and pop so many values each. Each value comes off once, and then the stack is empty.
+/// This many threads push and pop this many values each. Each value comes off once, and then the stack is empty.
 fn race<R: Abort + Threads + Wait + Sync>(
     rt: &R,
     alloc: Global,

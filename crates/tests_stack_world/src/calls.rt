@@ -21,7 +21,7 @@ pub(crate) fn want<T: Copy + PartialEq + Debug>(rt: &impl Abort, what: &str, see
     assert_eq!(rt; seen, wanted, "{what}");
 }
 
-/// The numbers of a world with a stack, so many participants and cells, and so many bags of so many jobs.
+/// The numbers of a world with a stack, this many participants and cells, and this many bags of this many jobs.
 pub(crate) fn shape_of(participants: u64, cells: u64, bags: u64, bag_jobs: u64) -> Shape {
     Shape {
         bags,
@@ -42,7 +42,7 @@ pub(crate) fn stack_of<S: BagStore<Job = Deferral>>(
     StackWorld::new(alloc, shape)
 }
 
-/// A new stack with so many participants, each of which is pinned by its guard 0, and so many cells.
+/// A new stack with this many participants, each of which is pinned by its guard 0, and this many cells.
 pub(crate) fn pinned<S: BagStore<Job = Deferral>>(
     rt: &impl Abort,
     alloc: Global,
@@ -92,7 +92,7 @@ pub(crate) fn want_begun(rt: &impl Abort, what: &str, stack: &mut Stack, step: S
     want_reply(rt, what, stack, step, PlanReply::World(Reply::Began));
 }
 
-/// So many steps Go of participant 0 go on.
+/// This many steps Go of participant 0 go on.
 pub(crate) fn want_stepped(rt: &impl Abort, what: &str, stack: &mut Stack, steps: u64) {
     for _ in 0..steps {
         let stepped = PlanReply::World(Reply::Stepped);

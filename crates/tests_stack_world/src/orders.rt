@@ -67,7 +67,7 @@ fn may_be_next(calls: &[Past], taken: &[bool; MOST], next: Past) -> bool {
     true
 }
 
-/// Whether the calls that are still to come, so many, fit the list in some order.
+/// Whether this many calls, those that are still to come, fit the list in some order.
 fn fit_from(calls: &[Past], taken: &[bool; MOST], list: Values, left: usize) -> bool {
     if left == 0 {
         return true;

@@ -1,4 +1,4 @@
-//! Random runs of participants who push and pop over one stack, step by step, beside a list.
+//! Random runs of participants that push and pop over one stack, step by step, beside a list.
 use crate::calls::{Stack, end, is_over, pinned_in, pop, shape_of, want, want_begun, want_done};
 use crate::orders::{Did, Past, fit_a_list};
 use epoch_cells::Fault;

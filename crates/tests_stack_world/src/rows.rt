@@ -160,7 +160,7 @@ fn a_call_in_no_try_runs_out_of_them(rt: HostRuntime) -> Result<(), Fail> {
     Ok(())
 }
 
-/// Nobody is registered, and then nobody is pinned; at last participant 0 is.
+/// No participant is registered, and then none is pinned; at last participant 0 is.
 fn meet_no_pin(rt: &impl Abort, stack: &mut Stack) {
     want_pop(rt, "nobody is registered", stack, (0, 1), UNREGISTERED);
     want_push(rt, "past the table", stack, (1, 7, 1), UNREGISTERED);
@@ -302,7 +302,7 @@ fn a_list_of_steps_is_taken_one_by_one(rt: HostRuntime) -> Result<(), Fail> {
     Ok(())
 }
 
-/// A stack with one pinned participant and one cell, for which memory is asked once more where it is refused.
+/// A stack with one pinned participant and one cell, for which memory is asked once more if it is refused.
 fn pinned_at_last(rt: &impl Abort, alloc: Global) -> Result<Stack, Fault> {
     match pinned(rt, alloc, 1, 1) {
         Ok(stack) => Ok(stack),

@@ -88,7 +88,7 @@ fn new_collector(alloc: Global) -> Result<Collector<u64>, Fault> {
     Collector::new(alloc, Capacities::usual(1, 4, 1), 1)
 }
 
-/// A collector, for which memory is asked once more where it is refused.
+/// A collector, for which memory is asked once more if it is refused.
 fn collector_at_last(alloc: Global) -> Result<Collector<u64>, Fault> {
     match new_collector(alloc) {
         Ok(collector) => Ok(collector),
@@ -132,7 +132,7 @@ fn owned_array_refused(alloc: Global) -> Option<Fault> {
     Owned::<Array<u64>>::init(alloc, 3).err()
 }
 
-/// An owned 5, for which memory is asked once more where it is refused.
+/// An owned 5, for which memory is asked once more if it is refused.
 fn owned_at_last(alloc: Global) -> Result<Owned<u64>, Fault> {
     match Owned::new(alloc, 5u64) {
         Ok(owned) => Ok(owned),
@@ -190,7 +190,7 @@ impl Pointable for Costly {
     }
 }
 
-/// An owned 5 whose clone is costly, for which memory is asked once more where it is refused.
+/// An owned 5 whose clone is costly, for which memory is asked once more if it is refused.
 fn costly_at_last(alloc: Global) -> Result<Owned<Costly>, Fault> {
     match Owned::new(alloc, Costly { alloc, number: 5 }) {
         Ok(owned) => Ok(owned),

@@ -62,7 +62,7 @@ impl Play {
         reply
     }
 
-    /// Goes on with a participant's call, so many steps at most. Returns whether it ended.
+    /// Goes on with a participant's call, this many steps at most. Returns whether it ended.
     fn go(&mut self, rt: &impl Abort, participant: u64, steps: u64) -> bool {
         for _ in 0..steps {
             let reply = self.take(rt, Step::Go(participant));
@@ -73,7 +73,7 @@ impl Play {
         false
     }
 
-    /// Makes a participant's calls, one after the other, so many times.
+    /// Makes a participant's calls, one after the other, this many times.
     fn call(&mut self, rt: &impl Abort, participant: u64, calls: &[Call], times: u64) {
         for _ in 0..times {
             for call in calls {
@@ -83,7 +83,7 @@ impl Play {
         }
     }
 
-    /// The first participant begins this call and goes so many steps. Returns whether it ended.
+    /// The first participant begins this call and goes this many steps. Returns whether it ended.
     fn stall(&mut self, rt: &impl Abort, call: Call, steps: u64) -> bool {
         self.take(rt, Step::Begin(0, call));
         self.go(rt, 0, steps)
@@ -94,7 +94,7 @@ impl Play {
         self.call(rt, 1, &[Call::Pin, DEFER, FLUSH, UNPIN], 1);
     }
 
-    /// The second participant makes so many rounds.
+    /// The second participant makes this many rounds.
     fn rounds(&mut self, rt: &impl Abort, times: u64) {
         self.call(rt, 1, &[Call::Pin, FLUSH, UNPIN], times);
     }
@@ -118,12 +118,12 @@ fn want_accepted(rt: &impl Abort, shows: &str, steps: u64, entries: &[Entry]) {
     want(rt, shows, (steps, calls_none_twice(entries)), (steps, true));
 }
 
-/// So far the world has this epoch, and so many jobs were called.
+/// So far the world has this epoch, and this many jobs were called.
 fn want_numbers(rt: &impl Abort, what: &str, play: &Play, wanted: (u64, usize)) {
     want(rt, what, play.numbers(), wanted);
 }
 
-/// The first participant makes these calls and `deferrals`, and stalls after so many steps of a further call. It goes
+/// The first participant makes these calls and `deferrals`, and stalls after this many steps of a further call. It goes
 /// to its end after all that the second one does. Returns whether it had ended before.
 fn stalls_once(
     rt: &impl Abort,
@@ -145,7 +145,7 @@ fn stalls_once(
     ended
 }
 
-/// The first participant makes these calls and so many deferrals. It stalls before and after each step of a further
+/// The first participant makes these calls and this many deferrals. It stalls before and after each step of a further
 /// call, each time in a world of its own.
 fn stalls(rt: &impl Abort, alloc: Global, shows: &str, before: (&[Call], u64), call: Call) {
     for steps in 0..MANY {

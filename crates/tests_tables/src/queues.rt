@@ -66,7 +66,7 @@ fn a_queue_puts_and_takes_in_one_step(rt: HostRuntime) -> Result<(), Fail> {
     Ok(())
 }
 
-/// A put looks at so many places, and then takes two more steps.
+/// A put looks at this many places, and then takes two more steps.
 fn put_after_looks(rt: &impl Abort, places: &mut Places<u64>, seal: u32, job: u64, looks: u64) {
     let mut cursor = places.start_put();
     for _ in 0..looks {

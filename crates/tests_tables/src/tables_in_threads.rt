@@ -48,7 +48,7 @@ fn visit(table: &Participants, position: usize, greatest: &AtomicU64) -> bool
     true
 }
 
-/// Visits the first position whose claim is won, so many times, and counts up to the greatest epoch.
+/// Visits the first position whose claim is won, this many times, and counts up to the greatest epoch.
 fn come_and_go(table: &Participants, rounds: u64, greatest: &AtomicU64) {
     for _ in 0..rounds {
         for position in 0..table.positions() {
@@ -190,7 +190,7 @@ impl Calls {
     }
 }
 
-/// Takes bags and calls their jobs, until so many jobs were called by all.
+/// Takes bags and calls their jobs, until this many jobs were called by all.
 fn call_jobs(places: &SharedPlaces<u64>, jobs: u64, calls: &Calls) {
     for _ in 0..10_000_000u64 {
         for place in 0..places.capacity() {

@@ -40,13 +40,13 @@ pub enum Deed {
     Unpins(u64),
     /// Pins of a participant that is pinned: they give these guards.
     Guards(u64, u64, u64),
-    /// A pin and its unpin, so many times.
+    /// A pin and its unpin, this many times.
     Cycles(u64, u64),
-    /// A pin, a flush that calls nothing, and the unpin, so many times.
+    /// A pin, a flush that calls nothing, and the unpin, this many times.
     Rounds(u64, u64),
     /// A pin, a flush that calls the jobs of these tickets, in this order, and answers so, and the unpin.
     Collects(u64, &'static [(u64, u64)], plain::Reply),
-    /// A pause and its resume, so many times.
+    /// A pause and its resume, this many times.
     Pauses(u64, u64),
     /// Deferrals, each accepted, that get these tickets.
     Defers(u64, u64, u64),
@@ -137,7 +137,7 @@ fn add_done<S: BagStore<Job = Deferral>>(
     }
 }
 
-/// Makes a participant's calls, one after the other, so many times.
+/// Makes a participant's calls, one after the other, this many times.
 fn call_all<S: BagStore<Job = Deferral>>(
     world: &mut World<S>,
     (participant, calls, times): (u64, &[plain::Call], u64),

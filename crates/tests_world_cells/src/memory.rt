@@ -60,7 +60,7 @@ fn want_no_memory(rt: &impl Abort, fault: Fault) {
     want(rt, "why it is refused", fault, Fault::NoMemory);
 }
 
-/// A world, for which memory is asked once more where it is refused.
+/// A world, for which memory is asked once more if it is refused.
 fn world_at_last<S: BagStore<Job = Deferral>>(
     rt: &impl Abort,
     alloc: Global,

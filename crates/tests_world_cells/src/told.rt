@@ -54,7 +54,7 @@ fn points(spot: Spot, change: Change, answer: Answer) -> Told {
     tells(Access::Point(Some(0), spot, change), Reply::Done(answer))
 }
 
-/// A flush calls so many jobs.
+/// A flush calls this many jobs.
 fn flushes(jobs: u64) -> Told {
     (Call::Flush(Some(0)), UNIT, jobs)
 }

@@ -57,7 +57,7 @@ fn numbers_of<S: BagStore<Job = Deferral>>(world: &World<S>) -> (u64, Option<u64
     (world.epoch(), world.word(0))
 }
 
-/// A call has told this last, and has called so many jobs.
+/// A call has told this last, and has called this many jobs.
 fn want_call(rt: &impl Abort, place: usize, replies: &[Reply], last: Reply, called: usize) {
     let told = replies.last().copied();
     want(rt, "the last reply", (place, told), (place, Some(last)));
@@ -151,7 +151,7 @@ fn call_again<S: BagStore<Job = Deferral>>(
     }
 }
 
-/// Makes all calls, each with its last reply and so many jobs.
+/// Makes all calls, each with its last reply and this many jobs.
 fn expect_calls<S: BagStore<Job = Deferral>>(
     rt: &impl Abort,
     world: &mut World<S>,

@@ -36,7 +36,7 @@ fn call_once<S: BagStore<Job = Deferral>>(
     Ok(tally(&replies))
 }
 
-/// As `call_once`, so many times.
+/// As `call_once`, this many times.
 fn call_times<S: BagStore<Job = Deferral>>(
     world: &mut World<S>,
     call: Call,
@@ -83,7 +83,7 @@ fn jobs_in(bags: &[u64]) -> u64 {
 /// How many jobs a bag takes, and how many bags a collection.
 type Sizes = (u64, u64);
 
-/// A world of one participant, who is pinned, so many places, and these sizes.
+/// A world of one pinned participant, this many places, and these sizes.
 fn sized_world<S: BagStore<Job = Deferral>>(
     rt: &impl Abort,
     alloc: Global,
@@ -99,7 +99,7 @@ fn sized_world<S: BagStore<Job = Deferral>>(
     pinned_world(rt, alloc, shape)
 }
 
-/// So many deferrals, of which so many are refused.
+/// This many deferrals, of which this many are refused.
 fn want_deferred<S: BagStore<Job = Deferral>>(
     rt: &impl Abort,
     sizes: Sizes,
@@ -111,7 +111,7 @@ fn want_deferred<S: BagStore<Job = Deferral>>(
     Ok(())
 }
 
-/// A round calls so many jobs.
+/// A round calls this many jobs.
 fn want_round<S: BagStore<Job = Deferral>>(
     rt: &impl Abort,
     sizes: Sizes,
@@ -123,7 +123,7 @@ fn want_round<S: BagStore<Job = Deferral>>(
     Ok(())
 }
 
-/// Each round calls the jobs of so many bags, which are taken in the order of `bags`.
+/// Each round calls the jobs of this many bags, which are taken in the order of `bags`.
 fn want_rounds<S: BagStore<Job = Deferral>>(
     rt: &impl Abort,
     sizes: Sizes,
@@ -137,7 +137,7 @@ fn want_rounds<S: BagStore<Job = Deferral>>(
 }
 
 /// Three full bags are sealed with 1, and one job more is held. The first round puts it in a bag of its own, and
-/// advances to 2. Each further one calls the jobs of so many bags, which are taken in the order of `bags`.
+/// advances to 2. Each further one calls the jobs of this many bags, which are taken in the order of `bags`.
 fn expect_emptied<S: BagStore<Job = Deferral>>(
     rt: &impl Abort,
     alloc: Global,

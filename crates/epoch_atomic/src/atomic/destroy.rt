@@ -38,16 +38,16 @@ pub trait DestroyNow<T> {
 
 /// Gives a [`LocalHandle`] the call `defer_destroy`.
 pub trait DeferDestroy<T, W> {
-    /// Defers the removal of the value that the pointer names: a later collection destroys the value, at the earliest
-    /// when every participant that is pinned now has unpinned or repinned. Under an unprotected guard the value is
-    /// destroyed at once. A value that is read or written at that moment stays in its cell until the end.
+    /// Defers the removal of the value that the pointer names: a later collection destroys it, at the earliest when
+    /// every participant pinned now has unpinned or repinned. Under an unprotected guard it is destroyed at once. If it
+    /// is read or written then, it stays in its cell until a further removal of it is called, or until the end.
     ///
     /// The value must be out of reach: unlink it first, so that no pointer in the structure leads to it any more. A
     /// thread that pins after this call, and still finds a pointer to the value, may find the value gone. Defer each
     /// value once.
     ///
-    /// The removal is kept as the job of [`LocalHandle::defer`] is, with no promise when it is called. The faults, in
-    /// the order in which they are looked for: `StrangerGuard`: the guard isn't one that this handle has out.
+    /// The removal is kept as the job of [`LocalHandle::defer`] is, and no clause says when it is called. The faults,
+    /// in the order in which they are looked for: `StrangerGuard`: the guard isn't one that this handle has out.
     /// `StrangerPointer`: the pointer is null, whatever its tag is, or was loaded under a guard of another collector.
     /// `BagsFull`: the held bag was full, and each place was seen occupied; this doesn't come if
     /// [`LocalHandle::has_room`] holds, so make room before you unlink. A refused call hands the pointer back, and

@@ -177,7 +177,7 @@ impl<T: Pointable, A: SharedWord> Atomic<T, A> {
         ensures did { ChangesTag T.ALIGN (A.did self.now.word) change result }
     {
         let mut seen = self.word.load(order);
-        // No try is lost so often.
+        // No try is lost that often.
         for _ in 0..u64::MAX {
             let before = read(seen, guard);
             let tag = tag_of::<T>(change.of(before.tag()));

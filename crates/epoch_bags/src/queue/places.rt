@@ -249,8 +249,8 @@ pub fn take_further(cursor: &mut TakeCursor, place: usize, places: usize) -> Tak
 ///
 /// Why two: an advance needs every pinned participant to be pinned in the present epoch, so the epoch rises at most
 /// once past a participant that stays pinned. One that was pinned, and had read the epoch again, when the bag was
-/// sealed had read the seal at most. So while it stays pinned the epoch is at most one past the seal, and no thread
-/// finds the bag expired. One epoch would be too few: the first advance may come while that participant is pinned.
+/// sealed had read an epoch no later than the seal. So while it stays pinned the epoch is at most one past the seal,
+/// and no thread finds the bag expired. One epoch is too few: the first advance may come while that one is pinned.
 #[inline(always)]
 pub fn is_expired_word(word: u64, expiry: Epoch) -> bool
     ensures { IsTrue result ↔ ((word % 2 ≡ 1) × (word / 2 + 2 ≤ expiry.number)) }

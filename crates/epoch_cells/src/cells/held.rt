@@ -336,7 +336,7 @@ pub fn try_write<'a, T: Drop>(slot: &'a Slot<T>, name: Name) -> Result<Writing<'
     let held = claim.put(None, marked);
     let (found, claim) = slot.turn(marked, word_of(name.turn(), TAKEN));
     if found != marked {
-        // Only who marked a slot acts on it, so this isn't met.
+        // Only the thread that marked a slot acts on it, so this doesn't happen.
         claim.done();
         return Err(Miss::Held);
     }

@@ -1,4 +1,4 @@
-//! The lanes of cells: what each holds, what points to it, and who reads it.
+//! The lanes of cells: what each holds, what points to it, and which participants read it.
 
 use super::{LEFT, Sheet};
 use crate::pen::{Area, Pen, takes};

@@ -194,7 +194,7 @@ fn start<'a, 'd, R: Threads + Wait + Sync>(
     });
 }
 
-// What four threads made of a store of so many slots: how much was seen wrong, how many values were
+// What four threads made of a store of this many slots: how much was seen wrong, how many values were
 // not dropped once, and whether as many were made as were dropped.
 fn race<R: Threads + Wait + Sync>(
     rt: &R,

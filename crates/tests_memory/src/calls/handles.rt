@@ -41,12 +41,12 @@ pub fn let_go(rt: &impl Abort, guard: Guard<'_, u64>) {
     }
 }
 
-/// Ends the collector, which calls so many jobs.
+/// Ends the collector, which calls this many jobs.
 pub fn end(rt: &impl Abort, collector: Collector<u64>, jobs: u64) {
     want(rt, "the jobs that an end calls", collector.end(), jobs);
 }
 
-/// So many jobs were called.
+/// This many jobs were called.
 fn want_calls(rt: &impl Abort, what: &str, calls: &AtomicU64, wanted: u64) {
     want(rt, what, calls.load(SeqCst), wanted);
 }
@@ -155,7 +155,7 @@ pub fn round(rt: &impl Abort, handle: &mut LocalHandle<'_, u64>) -> Result<(), F
     flushed
 }
 
-/// The flush of a round answers this, and so many jobs were called after it.
+/// The flush of a round answers this, and this many jobs were called after it.
 fn want_round(
     rt: &impl Abort,
     handle: &mut LocalHandle<'_, u64>,

@@ -1,4 +1,4 @@
-//! What the tests make first, for which memory is asked once more where it is refused.
+//! What the tests make first, for which memory is asked once more if it is refused.
 
 use epoch_base::{Fault, Job, Work};
 use epoch_pin::atomic::Owned;
@@ -38,7 +38,7 @@ pub fn count_at_last(alloc: Global) -> Result<Arc<AtomicU64>, AllocError> {
     }
 }
 
-/// So many jobs, each of which adds one to the count.
+/// This many jobs, each of which adds one to the count.
 pub fn jobs_at_last(
     alloc: Global,
     jobs: u64,

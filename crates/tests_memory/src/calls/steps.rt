@@ -71,7 +71,7 @@ fn new_world<S: BagStore<Job = Deferral>>(
     World::new(alloc, shape)
 }
 
-/// A new world, for which memory is asked once more where it is refused.
+/// A new world, for which memory is asked once more if it is refused.
 fn world_at_last<S: BagStore<Job = Deferral>>(
     rt: &impl Abort,
     alloc: Global,
@@ -204,7 +204,7 @@ fn entries_of(alloc: Global, history: &[(Step, Reply)]) -> Result<Vec<Entry>, Al
     Ok(entries)
 }
 
-/// The entries, for which memory is asked once more where it is refused.
+/// The entries, for which memory is asked once more if it is refused.
 fn entries_at_last(alloc: Global, history: &[(Step, Reply)]) -> Result<Vec<Entry>, AllocError> {
     match entries_of(alloc, history) {
         Ok(entries) => Ok(entries),

@@ -126,7 +126,7 @@ fn ran_out<'g>(
     }
 }
 
-// Updates to a pointer with tag 1, in so many tries.
+// Updates to a pointer with tag 1, in at most this many tries.
 fn update<'g>(
     atomic: &Atomic<u64>,
     tries: u64,
