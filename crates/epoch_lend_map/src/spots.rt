@@ -1,5 +1,5 @@
 //! The buckets of a map that threads share, and its nodes, which are lent.
-ghost use Rattle.std.specs.Prelude.{◌≡◌, IfErr};
+ghost use Rattle.std.specs.Prelude.{◌≡◌, None, IfSome, IfErr};
 ghost use Rattle.epoch_cells.specs.declared.fault.Fault.TheVariants.{CellsFull};
 ghost use Rattle.epoch_plan_threads.specs.Paths.{IsTold, reply_of};
 
@@ -10,6 +10,7 @@ use epoch_handles::Guard;
 use epoch_heap::{Access, Answer, Change, Ptr, Spot};
 use epoch_lend_pointers::guard::LendingGuard;
 use epoch_lend_readers::posts::PostSet;
+use epoch_map_calls::MapSpots;
 use epoch_plan_threads::Spots;
 use std::sync::atomic::Ordering::SeqCst;
 
@@ -127,13 +128,39 @@ impl<'g, 'c, 's, J: PostSet, W> LentSpots<'g, 'c, 's, J, W> {
         let Some(name) = ptr.name else {
             return Answer::Absent;
         };
-        match self.guard.get(Shared::named(name, self.guard.guard())) {
-            Some(node) => {
-                self.last = Some((name, node));
-                Answer::Value(node.entry)
-            }
+        match self.entry(name) {
+            Some(entry) => Answer::Value(entry),
             None => Answer::Absent,
         }
+    }
+}
+
+impl<'g, 'c, 's, J: PostSet, W> MapSpots for LentSpots<'g, 'c, 's, J, W> {
+    #[inline(always)]
+    fn entry(&mut self, node: Name) -> Option<u64>
+        ensures some { IfSome result (λ _. Unit {0}) }
+        ensures none { result ≡ None → self.new ≡ self.old }
+    {
+        match self.guard.get(Shared::named(node, self.guard.guard())) {
+            Some(lent) => {
+                self.last = Some((node, lent));
+                Some(lent.entry)
+            }
+            None => None,
+        }
+    }
+
+    // What is lent need not be given back.
+    #[inline(always)]
+    fn leave(&mut self, _node: Name) {}
+
+    #[inline(always)]
+    fn next(&mut self, node: Name) -> Option<Ptr>
+        ensures some { IfSome result (λ _. Unit {0}) }
+        ensures same { self.new ≡ self.old }
+    {
+        let lent = self.node_of(node)?;
+        Some(ptr_of(lent.next.load(SeqCst, self.guard.guard())))
     }
 }
 

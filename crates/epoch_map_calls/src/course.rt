@@ -1,19 +1,20 @@
 //! How a call of a map goes along a bucket: over nodes of lower keys it takes a straight path.
-ghost use Rattle.std.specs.Prelude.{◌≡◌, ◌<◌, ◌-◌, None, Ok, IfOk, IfErr, IfSome};
-ghost use Rattle.epoch_heap.specs.declared.access.Answer.TheVariants.{Pointer, Value};
+ghost use Rattle.std.specs.Prelude.{◌≡◌, ◌<◌, ◌-◌, None, IfOk, IfErr, IfSome};
 ghost use Rattle.epoch_heap.specs.declared.access.Spot.TheVariants.{Field};
 ghost use Rattle.epoch_plans.specs.Asks.{wish_of};
 ghost use Rattle.epoch_plans.specs.Plans.{ptr_to};
 ghost use Rattle.epoch_plan_calls.specs.Courses.{ReadsOn, reading_of};
 ghost use Rattle.epoch_map_laws.specs.declared.plan.Phase.TheVariants.{Reading};
 ghost use Rattle.epoch_map_laws.specs.Map.{bucket_of, calls_left, deed_of, key_sought};
+ghost use Rattle.epoch_map_calls.specs.MapCalls.{link_of};
 ghost use Rattle.epoch_map_laws.proofs.CallsLeft.{map_lowered};
 
-use epoch_cells::{Fault, Name};
-use epoch_heap::{Access, Answer, Change, Ptr, Spot};
+use crate::spots::MapSpots;
+use epoch_cells::Name;
+use epoch_heap::{Access, Change, Ptr, Spot};
 use epoch_map_laws::{Aim, Phase, key_of};
 use epoch_plan_calls::{Course, as_reply, read_on};
-use epoch_plan_threads::{Ends, Spots};
+use epoch_plan_threads::Ends;
 use epoch_plans::PhaseMachine;
 
 /// The calls of a map end: each of their phases says how many calls are left at most. And they go ahead along a bucket,
@@ -26,7 +27,7 @@ impl Ends<Phase> for MapCourse {
     ghost lowered = { map_lowered };
 }
 
-impl<L: Spots> Course<Phase, L> for MapCourse {
+impl<L: MapSpots> Course<Phase, L> for MapCourse {
     #[inline(always)]
     fn ahead(first: Phase, spots: &mut L) -> Phase {
         ahead(first, spots)
@@ -52,33 +53,18 @@ fn key_sought(aim: Aim) -> u64
     }
 }
 
-// The entry that was read.
+// The node to which this pointer leads, if it has no mark.
 #[inline(always)]
-fn entry_in(told: Result<Answer, Fault>) -> Option<u64>
-    ensures { IfSome result (λ entry. told ≡ Ok (Value entry)) }
+fn node_at(ptr: Ptr) -> Option<Name>
+    ensures { IfSome result (λ node. ptr ≡ ptr_to node) }
 {
-    match told {
-        Ok(Answer::Value(entry)) => Some(entry),
-        _ => None,
-    }
-}
-
-// The node to which this pointer leads, if it has no mark and a move is left.
-#[inline(always)]
-fn next_in(told: Result<Answer, Fault>, left: u64) -> Option<Name>
-    ensures some { IfSome result (λ next. told ≡ Ok (Pointer (ptr_to next))) }
-    ensures left { IfSome result (λ next. 0 < left) }
-{
-    match told {
-        Ok(Answer::Pointer(next)) if next.tag == 0 && left > 0 => next.name,
-        _ => None,
-    }
+    if ptr.tag == 0 { ptr.name } else { None }
 }
 
 // One node of a walk: its entry is read, and its pointer too where its key is lower. `Ok`: the walk goes on to this
-// node. `Err`: it goes on with this phase.
+// node. `Err`: it has come to this phase. A pointer that ends the walk is loaded again in that phase.
 #[inline(always)]
-fn stride<L: Spots>(
+fn stride<L: MapSpots>(
     aim: Aim,
     key: u64,
     link: Spot,
@@ -93,28 +79,28 @@ fn stride<L: Spots>(
     ensures over { IfErr result
         (λ phase. ReadsOn L.does (deed_of 0) (Reading aim link node left) spots.old phase spots.new) }
 {
-    let ptr = Ptr {
-        name: Some(node),
-        tag: 0,
+    let Some(entry) = spots.entry(node) else {
+        return Err(Phase::Reading(aim, link, node, left));
     };
-    let read = spots.touch(Access::Read(Some(0), ptr));
-    let Some(entry) = entry_in(read) else {
-        return Err(Phase::Reading(aim, link, node, left).hear(as_reply(read)));
-    };
-    let is_left = as_reply(spots.touch(Access::Leave(ptr)));
     if key_of(entry) >= key {
-        return Err(Phase::Leaving(aim, link, node, entry, left).hear(is_left));
+        return Err(Phase::Leaving(aim, link, node, entry, left));
     }
-    let told = spots.touch(Access::Point(Some(0), Spot::Field(node, 0), Change::Load));
-    match next_in(told, left) {
+    if left == 0 {
+        return Err(Phase::Leaving(aim, link, node, entry, left));
+    }
+    spots.leave(node);
+    let Some(ptr) = spots.next(node) else {
+        return Err(Phase::LoadingNext(aim, link, node, entry, left));
+    };
+    match node_at(ptr) {
         Some(next) => Ok(next),
-        None => Err(Phase::LoadingNext(aim, link, node, entry, left).hear(as_reply(told))),
+        None => Err(Phase::LoadingNext(aim, link, node, entry, left)),
     }
 }
 
 // Loads the bucket's root, if that is what this phase asks for.
 #[inline(always)]
-fn to_bucket<L: Spots>(first: Phase, spots: &mut L) -> Phase
+fn to_bucket<L: MapSpots>(first: Phase, spots: &mut L) -> Phase
     ensures { ReadsOn L.does (deed_of 0) first spots.old result spots.new }
 {
     let Phase::LoadingFirst(aim, moves) = first else {
@@ -125,22 +111,52 @@ fn to_bucket<L: Spots>(first: Phase, spots: &mut L) -> Phase
     Phase::LoadingFirst(aim, moves).hear(as_reply(told))
 }
 
+// The link to a node, from the node above or, if there is none, from this root.
+#[inline(always)]
+fn link_of(root: u64, above: Option<Name>) -> Spot
+    ensures { result ≡ link_of root above }
+{
+    match above {
+        Some(name) => Spot::Field(name, 0),
+        None => Spot::Root(root),
+    }
+}
+
+// The root and the node above of a link, if it is that of a root or of a node.
+#[inline(always)]
+fn ends_of(link: Spot) -> Option<(u64, Option<Name>)>
+    ensures { IfSome result (λ ends. link ≡ link_of ends.0 ends.1) }
+{
+    match link {
+        Spot::Root(root) => Some((root, None)),
+        Spot::Field(above, field) => {
+            if field != 0 {
+                return None;
+            }
+            Some((0, Some(above)))
+        }
+    }
+}
+
 // Goes along the nodes of lower keys, from the node that this phase reads.
 #[inline(always)]
-fn along<L: Spots>(first: Phase, spots: &mut L) -> Phase
+fn along<L: MapSpots>(first: Phase, spots: &mut L) -> Phase
     ensures { ReadsOn L.does (deed_of 0) first spots.old result spots.new }
 {
-    let Phase::Reading(aim, first_link, first_node, moves) = first else {
+    let Phase::Reading(aim, link, first_node, moves) = first else {
+        return first;
+    };
+    let Some((root, first_above)) = ends_of(link) else {
         return first;
     };
     let key = key_sought(aim);
-    let mut link = first_link;
+    let mut above = first_above;
     let mut node = first_node;
     let mut left = moves;
     loop {
-        match stride(aim, key, link, node, left, spots) {
+        match stride(aim, key, link_of(root, above), node, left, spots) {
             Ok(next) => {
-                link = Spot::Field(node, 0);
+                above = Some(node);
                 node = next;
                 left -= 1;
             }
@@ -151,7 +167,7 @@ fn along<L: Spots>(first: Phase, spots: &mut L) -> Phase
 
 // Goes from this phase on, as long as phases only read.
 #[inline(always)]
-pub(crate) fn ahead<L: Spots>(first: Phase, spots: &mut L) -> Phase
+pub(crate) fn ahead<L: MapSpots>(first: Phase, spots: &mut L) -> Phase
     ensures reads { ReadsOn L.does (deed_of 0) first spots.old result spots.new }
     ensures stops { reading_of (wish_of (deed_of 0 result)) ≡ None }
 {

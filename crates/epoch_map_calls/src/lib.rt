@@ -5,7 +5,9 @@ mod calls;
 mod course;
 mod entries;
 mod looks;
+mod spots;
 
 pub use calls::{get_over, insert_over, remove_over};
 pub use course::MapCourse;
 pub use looks::look_over;
+pub use spots::MapSpots;

@@ -5,9 +5,9 @@ ghost use Rattle.epoch_map_calls.specs.MapCalls.{Looks, stop_of};
 
 use crate::calls::get_tells;
 use crate::course::ahead;
+use crate::spots::MapSpots;
 use epoch_cells::Fault;
 use epoch_map_laws::{MapAnswer, Phase, Work, start_work};
-use epoch_plan_threads::Spots;
 
 /// Where a look-up that only reads stops.
 #[derive(Clone, Copy)]
@@ -38,7 +38,7 @@ fn stop_of(phase: Phase) -> Stop
 ///
 /// `TriesOut`: all moves were used up.
 #[inline(always)]
-pub fn look_over<L: Spots>(
+pub fn look_over<L: MapSpots>(
     spots: &mut L,
     bucket: u32,
     key: u32,

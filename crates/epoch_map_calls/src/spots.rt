@@ -1,0 +1,34 @@
+//! The nodes of a map, as a walk along a bucket reads them.
+ghost use Rattle.std.specs.Prelude.{◌≡◌, Some, None, IfSome};
+ghost use Rattle.epoch_heap.specs.declared.access.Access.TheVariants.{Read, Leave, Point};
+ghost use Rattle.epoch_heap.specs.declared.access.Answer.TheVariants.{Unit as Nothing, Value, Pointer};
+ghost use Rattle.epoch_heap.specs.declared.access.Change.TheVariants.{Load};
+ghost use Rattle.epoch_heap.specs.declared.access.Spot.TheVariants.{Field};
+ghost use Rattle.epoch_laws.specs.declared.step.Reply.TheVariants.{Done};
+ghost use Rattle.epoch_plans.specs.Plans.{ptr_to};
+
+use epoch_cells::Name;
+use epoch_heap::Ptr;
+use epoch_plan_threads::Spots;
+
+/// The spots of a map, along whose nodes a walk goes.
+///
+/// A walk makes three accesses at each node. They have calls of their own here, with names as they stand in registers:
+/// an access and an answer would be stored at each node, and loaded again in other pieces.
+pub trait MapSpots: Spots {
+    /// Reads the entry of this node. `None`: it can't be read, and nothing was done.
+    fn entry(&mut self, node: Name) -> Option<u64>
+        ensures some { IfSome result
+            (λ entry. Self.does self.old (Read (Some 0) (ptr_to node)) (Done (Value entry)) self.new) }
+        ensures none { result ≡ None → self.new ≡ self.old };
+
+    /// Leaves this node, whose entry was read.
+    fn leave(&mut self, node: Name)
+        ensures { Self.does self.old (Leave (ptr_to node)) (Done Nothing) self.new };
+
+    /// Loads the pointer in this node, which changes nothing. `None`: it can't be loaded.
+    fn next(&mut self, node: Name) -> Option<Ptr>
+        ensures some { IfSome result
+            (λ ptr. Self.does self.old (Point (Some 0) (Field node 0) Load) (Done (Pointer ptr)) self.new) }
+        ensures same { self.new ≡ self.old };
+}
