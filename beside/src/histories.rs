@@ -19,12 +19,12 @@ struct Counts {
     lines_that_call: u64,
     lines_that_differ: u64,
     other_order: u64,
-    /// How many jobs the original called later, or earlier, by so many flushes.
+    /// How many jobs the original called later, or earlier, by that many flushes.
     later: BTreeMap<u64, u64>,
     earlier: BTreeMap<u64, u64>,
 }
 
-/// Replays histories until they have so many lines, and prints what was counted.
+/// Replays histories until they have that many lines, and prints what was counted.
 pub fn replay(program: &str, lines: u64, seed: u64) -> Result<(), String> {
     let mut counts = Counts::default();
     while counts.lines < lines {

@@ -61,7 +61,36 @@ pub fn nested_pins(threads: usize, turns: u64) -> Duration {
     )
 }
 
-/// Pins, flushes nothing and unpins, among so many participants.
+/// Repins one guard.
+pub fn repins(threads: usize, turns: u64) -> Duration {
+    let collector = Collector::new();
+    on_threads(
+        threads,
+        || collector.register(),
+        |handle| {
+            let mut guard = handle.pin();
+            for _ in 0..turns {
+                black_box(&mut guard).repin();
+            }
+        },
+        drop,
+    )
+}
+
+/// Flushes nothing under one guard, among that many participants.
+pub fn flushes_again(participants: u64, turns: u64) -> Duration {
+    let collector = Collector::new();
+    let _others: Vec<_> = (1..participants).map(|_| collector.register()).collect();
+    let handle = collector.register();
+    let guard = handle.pin();
+    let start = Instant::now();
+    for _ in 0..turns {
+        guard.flush();
+    }
+    start.elapsed()
+}
+
+/// Pins, flushes nothing and unpins, among that many participants.
 pub fn flushes(participants: u64, turns: u64) -> Duration {
     let collector = Collector::new();
     let _others: Vec<_> = (1..participants).map(|_| collector.register()).collect();
@@ -150,6 +179,25 @@ pub fn reads(threads: usize, turns: u64) -> Duration {
         let guard = handle.pin();
         (0..turns).fold(0u64, |sum, _| sum.wrapping_add(read(pointer, &guard)))
     })
+}
+
+/// The same with a pointer for each thread.
+pub fn own_reads(threads: usize, turns: u64) -> Duration {
+    let collector = Collector::new();
+    on_threads(
+        threads,
+        || (collector.register(), Padded(Atomic::new(Padded(7u64)))),
+        |(handle, pointer)| {
+            let guard = handle.pin();
+            (0..turns).fold(0u64, |sum, _| {
+                let value = black_box(&pointer.0).load(SeqCst, &guard);
+                // SAFETY: the pointer isn't null, and nothing takes its value away before `after`.
+                sum.wrapping_add(unsafe { value.deref() }.0)
+            })
+        },
+        // SAFETY: nobody else has the pointer.
+        |(_, pointer)| drop(unsafe { pointer.0.into_owned() }),
+    )
 }
 
 /// The keys of the list.
@@ -277,6 +325,19 @@ pub fn replaces_cas(threads: usize, turns: u64) -> Duration {
                     Err(lost) => new = lost.new,
                 }
             }
+        }
+    })
+}
+
+/// The same by a load and a store, where no other thread stores.
+pub fn replaces_store(threads: usize, turns: u64) -> Duration {
+    on_one_pointer(threads, |handle, pointer| {
+        for turn in 0..turns {
+            let guard = handle.pin();
+            let before = pointer.load(SeqCst, &guard);
+            pointer.store(Owned::new(turn), SeqCst);
+            // SAFETY: the value was taken out of reach by this store.
+            unsafe { guard.defer_destroy(before) };
         }
     })
 }

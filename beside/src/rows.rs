@@ -36,6 +36,19 @@ fn rows() -> Vec<Row> {
         row("pin_unpin", several, 64_000, pins),
         row("pin_unpin_64_idle", one, 64_000, pins_among_64),
         row("pin_unpin_nested", several, 256_000, nested_pins),
+        row("repin", one, 64_000, repins),
+        row("flush_empty_1_registered", one, 25_600, |_, turns| {
+            flushes_again(1, turns)
+        }),
+        row("flush_empty_16_registered", one, 25_600, |_, turns| {
+            flushes_again(16, turns)
+        }),
+        row("flush_empty_64_registered", one, 6_400, |_, turns| {
+            flushes_again(64, turns)
+        }),
+        row("flush_empty_1024_registered", one, 640, |_, turns| {
+            flushes_again(1024, turns)
+        }),
         row("pin_flush_empty_1_registered", one, 25_600, |_, turns| {
             flushes(1, turns)
         }),
@@ -52,6 +65,7 @@ fn rows() -> Vec<Row> {
         row("defer_made_pin_each_flush_64", one, 25_600, defers_apart),
         row("load_one_pointer", one, 512_000, loads),
         row("load_deref_one_cell", several, 51_200, reads),
+        row("load_deref_own_cell", &[2, 4], 51_200, own_reads),
         row("pin_load_deref_one_cell", several, 32_000, pinned_reads),
         row("load_get_one_cell", &[1, 4], 51_200, reads),
         row("list_100_contains", &[1, 4], 5_120, walks),
@@ -61,6 +75,7 @@ fn rows() -> Vec<Row> {
         row("owned_atomic_owned", one, 25_600, places),
         row("replace_swap", several, 12_800, replaces),
         row("replace_cas", several, 12_800, replaces_cas),
+        row("replace_store", one, 12_800, replaces_store),
         row("replace_swap_64_a_guard_flush", several, 12_800, replaces_64),
         row("treiber_push_pop", several, 12_800, pushes),
         row("queue_push_pop", several, 12_800, enqueues),
@@ -76,7 +91,7 @@ pub fn list() {
     }
 }
 
-/// Prints the least and the middle time of so many rounds, in nanoseconds a turn.
+/// Prints the least and the middle time of that many rounds, in nanoseconds a turn.
 pub fn time(name: &str, threads: usize, turns: u64, rounds: u64) -> Result<(), String> {
     let row = rows()
         .into_iter()

@@ -111,7 +111,7 @@ struct Maker {
     patience: usize,
 }
 
-/// A history of about so many lines.
+/// A history of about that many lines.
 pub fn history(lines: u64, seed: u64) -> History {
     let mut random = Random(seed.wrapping_mul(0x2545_f491_4f6c_dd1d));
     let players = 1 + random.below(PARTICIPANTS as u64) as usize;

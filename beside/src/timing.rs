@@ -2,7 +2,7 @@
 use std::sync::atomic::{AtomicUsize, Ordering::SeqCst};
 use std::time::{Duration, Instant};
 
-/// Does `body` on so many threads, which begin together, and gives the time of the slowest one. What `before` makes and
+/// Does `body` on that many threads, which begin together, and gives the time of the slowest one. What `before` makes and
 /// `after` takes down isn't in the time.
 pub fn on_threads<S, R>(
     threads: usize,

@@ -1,10 +1,11 @@
 //! Does the work of each row of the comparison with crossbeam-epoch, and times it.
 //!
-//! `NAME THREADS TURNS ROUNDS` prints the least and the middle time of so many rounds, in nanoseconds a turn, and how
+//! `NAME THREADS TURNS ROUNDS` prints the least and the middle time of that many rounds, in nanoseconds a turn, and how
 //! many turns of the last round did what they should. With no word it makes a short round of each row on one thread,
 //! and prints these counts alone.
 #![tactic(auto)]
 
+mod guarded;
 mod idle;
 mod nodes;
 mod rounds;

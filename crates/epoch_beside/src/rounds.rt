@@ -30,7 +30,7 @@ pub struct Size {
     pub turns: u64,
 }
 
-/// A collector for at least so many participants, and for each thread of the round.
+/// A collector for at least that many participants, and for each thread of the round.
 fn collector_of<T: Drop>(alloc: Global, size: Size, participants: u32) -> io::Result<Collector<T>> {
     let threads = u32::try_from(size.threads).unwrap_or(u32::MAX);
     let capacities = Capacities::usual(participants.max(threads), CELLS, PLACES);
@@ -84,6 +84,14 @@ fn work<R: Clock + Wait>(
     let mut idle = match work {
         Work::Register => None,
         _ => Idle::register(collector),
+    };
+    let own = match work {
+        Work::ReadOwn => pointer_to(alloc, collector),
+        _ => Atomic::null(),
+    };
+    let pointer = match work {
+        Work::ReadOwn => &own,
+        _ => pointer,
     };
     let start = span.begin(rt, size.threads);
     let done = match &mut idle {
@@ -280,8 +288,11 @@ fn work_rounds<R: Clock + Threads + Wait + Sync>(
     };
     let Size { threads, turns } = size;
     let mut functions = Vec::new(alloc);
-    for _ in 0..functions_for(name, turns, times.len()) {
-        let run = Box::new(alloc, || {})?;
+    for number in 0..functions_for(name, turns, times.len()) {
+        // It has a number, as the original's functions have, so that the box takes memory.
+        let run = Box::new(alloc, move || {
+            let _ = number;
+        })?;
         functions.push(Function { run }).map_err(|_| AllocError)?;
     }
     let collector = collector_of(alloc, size, participants)?;
@@ -329,7 +340,7 @@ fn rounds<R: Clock + Threads + Wait + Sync>(
     }
 }
 
-/// Prints the least and the middle time of so many rounds, and the turns done of all.
+/// Prints the least and the middle time of that many rounds, and the turns done of all.
 pub fn time<R: Clock + Print + Threads + Wait + Sync>(
     rt: &R,
     alloc: Global,

@@ -36,13 +36,13 @@ impl Span {
         }
     }
 
-    /// Waits until so many threads are here, and returns the time.
+    /// Waits until that many threads are here, and returns the time.
     pub fn begin<R: Clock + Wait>(&self, rt: &R, threads: u64) -> io::Result<Instant> {
         arrive(rt, &self.ready, threads);
         Instant::now(rt)
     }
 
-    /// Tells how long this thread took, and waits until so many have ended their work, so that nothing is taken down
+    /// Tells how long this thread took, and waits until that many have ended their work, so that nothing is taken down
     /// before.
     pub fn end<R: Clock + Wait>(
         &self,
@@ -67,7 +67,7 @@ impl Span {
         self.done.load(SeqCst)
     }
 
-    /// The time of each of so many turns, in hundredths of a nanosecond.
+    /// The time of each of that many turns, in hundredths of a nanosecond.
     pub fn each(&self, turns: u64) -> u64 {
         self.longest.load(SeqCst).saturating_mul(100) / turns.max(1)
     }

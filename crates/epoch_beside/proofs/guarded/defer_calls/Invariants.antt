@@ -2,5 +2,5 @@ use Rattle.std.proofs.Common.{◌≡◌}
 use Rattle.epoch_handles.specs.Handles.{IsSame}
 use Rattle.epoch_beside.proofs.guarded.defer_calls.Given as goal
 
-abbrev pub invariant-loop-number : goal.invariant-loop-number
-invariant-loop-number g l = IsSame l.fn.handle l.handle × (l.handle.machine.guards ≡ l.fn.handle.machine.guards)
+abbrev pub invariant-loop : goal.invariant-loop
+invariant-loop g l = IsSame l.fn.handle l.handle × (l.handle.machine.guards ≡ l.fn.handle.machine.guards)

@@ -1,0 +1,7 @@
+use Rattle.std.proofs.Common.{◌≡◌}
+use Rattle.epoch_handles.specs.Handles.{IsSame}
+use Rattle.epoch_beside.proofs.guarded.repin_again.Given as goal
+
+abbrev pub invariant-loop : goal.invariant-loop
+invariant-loop g l =
+    IsSame l.fn.handle l.handle × (l.handle.machine.guards ≡ l.fn.handle.machine.guards) × (l.guard ≡ l.fn.guard)

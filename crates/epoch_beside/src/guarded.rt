@@ -1,0 +1,217 @@
+//! Work under a guard that is out.
+ghost use Rattle.std.specs.Prelude.{◌≡◌, ℕ};
+ghost use Rattle.epoch_handles.specs.Handles.{IsSame, Owns};
+
+use crate::rounds::FIRST;
+use crate::rows::Work;
+use epoch_base::{Job, Work as Function};
+use epoch_pin::atomic::{Atomic, DeferDestroy, ExchangeFault, Owned};
+use epoch_pin::{Guard, LocalHandle};
+use std::alloc::Global;
+use std::sync::atomic::Ordering::SeqCst;
+
+/// Tries of one exchange. Those of crossbeam-epoch's side have no end.
+const TRIES: u32 = 1_000_000;
+
+/// Pins and unpins this many times.
+pub fn pin_under(handle: &mut LocalHandle<'_, u64>, turns: u64)
+    requires { handle.old.machine.guards ≡ 1 }
+    ensures same { IsSame handle.old handle.new }
+    ensures counted { handle.new.machine.guards ≡ 1 }
+{
+    for _ in 0..turns {
+        let guard = handle.pin();
+        handle.unpin(guard);
+    }
+}
+
+/// Repins the guard this many times.
+pub fn repin_again<'c>(handle: &mut LocalHandle<'c, u64>, guard: &mut Guard<'c, u64>, turns: u64)
+    requires { Owns handle.old guard.old }
+    ensures same { IsSame handle.old handle.new }
+    ensures guard { guard.new ≡ guard.old }
+    ensures counted { handle.new.machine.guards ≡ handle.old.machine.guards }
+{
+    for _ in 0..turns {
+        handle.repin(guard);
+    }
+}
+
+/// Flushes this many times, and returns how many flushes were accepted.
+pub fn flush_again(handle: &mut LocalHandle<'_, u64>, guard: &Guard<'_, u64>, turns: u64) -> u64
+    ensures same { IsSame handle.old handle.new }
+    ensures counted { handle.new.machine.guards ≡ handle.old.machine.guards }
+{
+    let mut done: u64 = 0;
+    for _ in 0..turns {
+        if handle.flush(guard).is_ok() {
+            done = done.wrapping_add(1);
+        }
+    }
+    done
+}
+
+/// Defers this many functions, the last ones first. Returns how many were deferred.
+pub fn defer_calls(
+    handle: &mut LocalHandle<'_, u64>,
+    guard: &Guard<'_, u64>,
+    functions: &mut Vec<Function>,
+    count: u64,
+) -> u64
+    requires { Owns handle.old guard.now }
+    ensures same { IsSame handle.old handle.new }
+    ensures counted { handle.new.machine.guards ≡ handle.old.machine.guards }
+{
+    let mut done: u64 = 0;
+    for _ in 0..count {
+        if let Some(function) = functions.pop() {
+            if handle.defer(guard, Job::Call(function)).is_ok() {
+                done = done.wrapping_add(1);
+            }
+        }
+    }
+    done
+}
+
+/// The rows whose turns share one guard.
+pub fn under_one_guard(
+    guard: &Guard<'_, u64>,
+    alloc: Global,
+    pointer: &Atomic<u64>,
+    work: Work,
+    turns: u64,
+) -> u64 {
+    match work {
+        Work::Load => load(guard, pointer, turns),
+        Work::Read | Work::ReadOwn => read(guard, pointer, turns),
+        Work::Exchange => exchange(guard, pointer, turns),
+        Work::Place => place(guard, alloc, turns),
+        _ => 0,
+    }
+}
+
+/// Loads of a pointer whose tag is 0.
+fn load(guard: &Guard<'_, u64>, pointer: &Atomic<u64>, turns: u64) -> u64 {
+    let mut sum: u64 = 0;
+    for _ in 0..turns {
+        sum = sum.wrapping_add(pointer.load(SeqCst, guard).tag() as u64);
+    }
+    turns.saturating_sub(sum)
+}
+
+/// Loads of a pointer, each of whose values, the first one, is read.
+pub fn read(guard: &Guard<'_, u64>, pointer: &Atomic<u64>, turns: u64) -> u64 {
+    let mut sum: u64 = 0;
+    for _ in 0..turns {
+        if let Some(reading) = pointer.load(SeqCst, guard).deref() {
+            sum = sum.wrapping_add(*reading.get());
+            reading.leave();
+        }
+    }
+    sum / FIRST
+}
+
+/// Exchanges of a pointer by one with the next tag.
+fn exchange(guard: &Guard<'_, u64>, pointer: &Atomic<u64>, turns: u64) -> u64 {
+    let mut won: u64 = 0;
+    let mut current = pointer.load(SeqCst, guard);
+    for turn in 0..turns {
+        let new = current.with_tag((turn % 2) as usize);
+        if pointer
+            .compare_exchange(current, new, SeqCst, SeqCst, guard)
+            .is_ok()
+        {
+            current = new;
+            won = won.wrapping_add(1);
+        }
+    }
+    won
+}
+
+/// Values that are placed in a cell and taken back.
+fn place(guard: &Guard<'_, u64>, alloc: Global, turns: u64) -> u64 {
+    let mut sum: u64 = 0;
+    for _ in 0..turns {
+        if let Ok(pointer) = Atomic::new(alloc, 1, guard) {
+            if let Some(owned) = pointer.into_owned(guard) {
+                sum = sum.wrapping_add(*owned);
+            }
+        }
+    }
+    sum
+}
+
+/// Puts objects behind the pointer, one after the other, and defers the destruction of those before. Returns how
+/// many destructions were deferred.
+pub fn replace(
+    handle: &mut LocalHandle<'_, u64>,
+    guard: &Guard<'_, u64>,
+    alloc: Global,
+    pointer: &Atomic<u64>,
+    objects: u64,
+) -> u64
+    requires { Owns handle.old guard.now }
+    ensures same { IsSame handle.old handle.new }
+    ensures counted { handle.new.machine.guards ≡ handle.old.machine.guards }
+{
+    let mut done: u64 = 0;
+    for value in 0..objects {
+        let Ok(owned) = Owned::new(alloc, value) else {
+            continue;
+        };
+        let Ok(before) = pointer.swap(owned, SeqCst, guard) else {
+            continue;
+        };
+        if handle.defer_destroy(guard, before).is_ok() {
+            done = done.wrapping_add(1);
+        }
+    }
+    done
+}
+
+/// The same of one object, by a load and a store.
+pub fn replace_store(
+    handle: &mut LocalHandle<'_, u64>,
+    guard: &Guard<'_, u64>,
+    alloc: Global,
+    pointer: &Atomic<u64>,
+) -> u64
+    requires { Owns handle.old guard.now }
+    ensures same { IsSame handle.old handle.new }
+    ensures counted { handle.new.machine.guards ≡ handle.old.machine.guards }
+{
+    let before = pointer.load(SeqCst, guard);
+    let Ok(owned) = Owned::new(alloc, 1) else {
+        return 0;
+    };
+    match pointer.store(owned, SeqCst, guard) {
+        Ok(()) => u64::from(handle.defer_destroy(guard, before).is_ok()),
+        Err(_) => 0,
+    }
+}
+
+/// The same of one object, by exchanges until one is won.
+pub fn replace_cas(
+    handle: &mut LocalHandle<'_, u64>,
+    guard: &Guard<'_, u64>,
+    alloc: Global,
+    pointer: &Atomic<u64>,
+) -> u64
+    requires { Owns handle.old guard.now }
+    ensures same { IsSame handle.old handle.new }
+    ensures counted { handle.new.machine.guards ≡ handle.old.machine.guards }
+{
+    let Ok(owned) = Owned::new(alloc, 1) else {
+        return 0;
+    };
+    let mut new = owned;
+    for _ in 0..TRIES {
+        let before = pointer.load(SeqCst, guard);
+        match pointer.compare_exchange(before, new, SeqCst, SeqCst, guard) {
+            Ok(_) => return u64::from(handle.defer_destroy(guard, before).is_ok()),
+            Err(ExchangeFault::Changed(lost)) => new = lost.new,
+            Err(_) => return 0,
+        }
+    }
+    0
+}
