@@ -48,7 +48,7 @@ def apart(room):
     return os.path.abspath(room)
 
 
-def prove(uses, name, jobs):
+def prove(uses, name, jobs, nice):
     """Proves one library, and returns its name, the check's status, its output and the seconds that it took."""
     start, room = time.monotonic(), f"{ROOM}/{name}"
     shutil.rmtree(room, ignore_errors=True)
@@ -61,7 +61,7 @@ def prove(uses, name, jobs):
         # (a proof writes into what an earlier one kept)
         copies = ["cp", "-a", f"crates/{name}/{part}", f"{room}/crates/{name}/{part}"]
         subprocess.run(copies, check=True)
-    words = ["rt", "lib", "--jobs", str(jobs)]
+    words = ["nice", "-n", str(nice), "rt", "lib", "--jobs", str(jobs)]
     ran = subprocess.run(words, cwd=f"{room}/crates/{name}", stdout=subprocess.PIPE, stderr=subprocess.STDOUT, errors="replace")
     if os.path.isdir(f"{room}/crates/{name}/out"):
         shutil.rmtree(f"crates/{name}/out", ignore_errors=True)
@@ -97,10 +97,12 @@ def main(names):
         while left or running:
             ready = [it for it in left if done.issuperset(filter(uses.__contains__, uses[it]))][: lanes - len(running)]
             for name in ready:
+                # The longest chain decides how long all of it takes. So its proofs get as many jobs as there are processors, and go
+                # before the others, which take the half of the time in which such a proof leaves processors idle.
+                leads = length[name] == max(length[it] for it in [*left, *running.values()])
                 left.remove(name)
-                # A proof with several jobs leaves processors idle for almost half of its time, so two proofs get twice as many as there are.
-                jobs = max(1, min(lanes, 2 * lanes // (len(running) + len(ready))))
-                running[pool.submit(prove, uses, name, jobs)] = name
+                jobs, nice = (lanes, 0) if leads else (max(1, lanes // 2), 10)
+                running[pool.submit(prove, uses, name, jobs, nice)] = name
             ended, _ = wait(running, return_when=FIRST_COMPLETED)
             for it in ended:
                 name, status, output, seconds = it.result()
