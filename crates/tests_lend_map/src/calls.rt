@@ -28,6 +28,10 @@ pub(crate) fn want<T: PartialEq + Debug + Drop>(rt: &impl Abort, what: &str, see
     assert_eq!(rt; seen, wanted, "{what}");
 }
 
+/// Places for bags. Each bag in a place has a node that waits, and no lender here has more than 512 cells. So no removal
+/// is refused, however long a thread stands still, and no node stays in its cell until the lender's end.
+const PLACES: u32 = 512;
+
 /// A collector of this lender's values.
 pub(crate) fn collector<'q, 's, J: PostSet>(
     rt: &impl Abort,
@@ -36,7 +40,7 @@ pub(crate) fn collector<'q, 's, J: PostSet>(
     participants: u32,
     id: u64,
 ) -> Nodes<'q, 's, J> {
-    let capacities = Capacities::usual(participants, 0, 64);
+    let capacities = Capacities::usual(participants, 0, PLACES);
     assert!(rt; capacities.is_valid(), "the capacities are in their ranges");
     collector_of(lender, alloc, capacities, id).expect(rt, "memory for a collector")
 }
