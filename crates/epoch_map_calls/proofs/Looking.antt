@@ -1,9 +1,7 @@
 -- How a look-up that only reads stands in each of its phases, and how it ends.
-use Rattle.std.proofs.Common.{◌≡◌, ◌∙◌, ℕ, zero, suc, ◌+◌, ◌*◌, ◌<◌, ◌≤◌, List, [], ◌∷◌, ◌++◌, Option, Some, None, Bool}
-use Rattle.std.proofs.Common.{true, false, refl, sym, ap, subst, arith, if◌then◌else◌, nat_lt, IsErr, IfErr}
-use Rattle.std.proofs.lemmas.Bool.Decides.{nat_tests}
+use Rattle.std.proofs.Common.{◌≡◌, ℕ, zero, suc, ◌+◌, ◌*◌, ◌<◌, ◌≤◌, List, [], ◌∷◌, ◌++◌, Option, Some, None, Bool}
+use Rattle.std.proofs.Common.{true, false, refl, sym, subst, arith, if◌then◌else◌, nat_lt, IsErr, IfErr}
 use Rattle.epoch_cells.specs.declared.cells.name.Name.{Name}
-use Rattle.epoch_cells.specs.declared.fault.Fault.{Fault}
 use Rattle.epoch_cells.specs.declared.fault.Fault.TheVariants.{TriesOut}
 use Rattle.epoch_heap.specs.declared.access.Access.{Access}
 use Rattle.epoch_heap.specs.declared.access.Answer.{Answer}
@@ -13,7 +11,7 @@ use Rattle.epoch_heap.specs.declared.access.Spot.TheVariants.{Root, Field}
 use Rattle.epoch_laws.specs.declared.step.Reply.{Reply}
 use Rattle.epoch_laws.specs.declared.step.Reply.TheVariants.{Done}
 use Rattle.epoch_plans.specs.Asks.{wish_of}
-use Rattle.epoch_plans.specs.Plans.{IsOver, after_by}
+use Rattle.epoch_plans.specs.Plans.{after_by}
 use Rattle.epoch_plan_calls.specs.Courses.{ReadsBy, ReadsTo, ReadsOn, reading_of}
 use Rattle.epoch_plan_calls.proofs.Ways.{reading_lowers}
 use Rattle.epoch_map_laws.proofs.CallsLeft.{map_lowered}
@@ -26,7 +24,6 @@ use Rattle.epoch_map_laws.specs.declared.plan.Phase.TheVariants.{Answering}
 use Rattle.epoch_map_laws.specs.declared.plan.Work.TheVariants.{Get}
 use Rattle.epoch_map_laws.specs.Map.{deed_of, key_of, again, absent, present, at, to_look, looked_at, first_loaded}
 use Rattle.epoch_map_laws.specs.Map.{read, next_loaded, start_work, calls_left}
-use Rattle.epoch_map_calls.specs.declared.looks.Stop.{Stop}
 use Rattle.epoch_map_calls.specs.declared.looks.Stop.TheVariants.{Answered, Marked, Elsewhere}
 use Rattle.epoch_map_calls.specs.MapCalls.{stop_of, Attempts, GivesUp, get_tells}
 

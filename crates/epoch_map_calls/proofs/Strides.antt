@@ -1,17 +1,16 @@
 -- How a walk goes from one node to the next by three accesses that only read.
-use Rattle.std.proofs.Common.{◌≡◌, ℕ, zero, suc, ◌<◌, ◌≤◌, List, [], ◌∷◌, ◌++◌, Bool, true, false, Some, refl, sym, ap}
+use Rattle.std.proofs.Common.{◌≡◌, ℕ, zero, suc, ◌<◌, [], ◌∷◌, ◌++◌, Bool, true, false, Some, refl, sym, ap}
 use Rattle.std.proofs.Common.{subst, arith, nat_lt, if◌then◌else◌}
 use Rattle.std.proofs.lemmas.Bool.Decides.{nat_tests}
 use Rattle.epoch_cells.specs.declared.cells.name.Name.{Name}
 use Rattle.epoch_heap.specs.declared.access.Access.{Access}
-use Rattle.epoch_heap.specs.declared.access.Answer.{Answer}
 use Rattle.epoch_heap.specs.declared.access.Answer.TheVariants.{Value, Pointer}
 use Rattle.epoch_heap.specs.declared.access.Spot.{Spot}
 use Rattle.epoch_heap.specs.declared.access.Spot.TheVariants.{Field}
 use Rattle.epoch_laws.specs.declared.step.Reply.{Reply}
-use Rattle.epoch_laws.specs.declared.step.Reply.TheVariants.{Done, Refused}
+use Rattle.epoch_laws.specs.declared.step.Reply.TheVariants.{Done}
 use Rattle.epoch_plans.specs.Plans.{ptr_to, after_by}
-use Rattle.epoch_plan_calls.specs.Courses.{ReadsBy, ReadsTo, ReadsOn}
+use Rattle.epoch_plan_calls.specs.Courses.{ReadsBy, ReadsOn}
 use Rattle.epoch_plan_calls.proofs.Ways.{reads_then}
 use Rattle.epoch_map_laws.specs.declared.plan.Aim.{Aim}
 use Rattle.epoch_map_laws.specs.declared.plan.Phase.{Phase}

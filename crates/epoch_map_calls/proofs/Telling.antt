@@ -1,8 +1,6 @@
 -- What a call's answer tells.
-use Rattle.std.proofs.Common.{◌≡◌, ◌⊎◌, inl, inr, ℕ, Option, Some, None, refl, arith, IsErr, IfErr}
+use Rattle.std.proofs.Common.{◌≡◌, ℕ, Option, refl, arith, IsErr}
 use Rattle.epoch_cells.specs.declared.fault.Fault.{Fault}
-use Rattle.epoch_cells.specs.declared.fault.Fault.TheVariants.{NoMemory, CellsFull as NoCell, BagsFull as NoPlace}
-use Rattle.epoch_cells.specs.declared.fault.Fault.TheVariants.{TriesOut}
 use Rattle.epoch_map_laws.specs.declared.plan.MapAnswer.{MapAnswer}
 use Rattle.epoch_map_laws.specs.declared.plan.MapAnswer.TheVariants.{Inserted, AlreadyThere, AlreadyThereLeaking}
 use Rattle.epoch_map_laws.specs.declared.plan.MapAnswer.TheVariants.{Removed, RemovedLeaking, Found, NotFound}

@@ -28,8 +28,8 @@ pub(crate) fn want<T: PartialEq + Debug + Drop>(rt: &impl Abort, what: &str, see
     assert_eq!(rt; seen, wanted, "{what}");
 }
 
-/// Places for bags. Each bag in a place has a node that waits, and no lender here has more than 512 cells. So no removal
-/// is refused, however long a thread stands still, and no node stays in its cell until the lender's end.
+/// Places for bags. Each bag in a place has a node that waits, and no lender here has more than 512 cells. So no
+/// removal is refused, however long a thread stands still, and no node stays in its cell until the lender's end.
 const PLACES: u32 = 512;
 
 /// A collector of this lender's values.

@@ -1,4 +1,4 @@
-use Rattle.std.proofs.Common.{◌≡◌, ◌∙◌, ℕ, Some, refl, sym, ap, subst}
+use Rattle.std.proofs.Common.{◌∙◌, ℕ, refl, sym, ap, subst}
 use Rattle.epoch_heap.specs.declared.access.Spot.TheVariants.{Root}
 use Rattle.epoch_laws.specs.declared.step.Reply.{Reply}
 use Rattle.epoch_plans.specs.Plans.{after_by}
@@ -6,7 +6,7 @@ use Rattle.epoch_plan_threads.specs.Paths.{IsTold, reply_of}
 use Rattle.epoch_plan_calls.specs.Courses.{ReadsOn}
 use Rattle.epoch_map_laws.specs.declared.plan.Phase.{Phase}
 use Rattle.epoch_map_laws.specs.declared.plan.Phase.TheVariants.{LoadingFirst}
-use Rattle.epoch_map_laws.specs.Map.{bucket_of, deed_of, load}
+use Rattle.epoch_map_laws.specs.Map.{deed_of, load}
 use Rattle.epoch_map_calls.proofs.Strides.{reads_one, reads_so}
 use Rattle.epoch_map_calls.proofs.course.to_bucket.Goals as goal
 

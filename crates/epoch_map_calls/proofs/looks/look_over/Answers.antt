@@ -1,4 +1,4 @@
-use Rattle.std.proofs.Common.{◌≡◌, ◌∙◌, ◌≤◌, List, [], ◌∷◌, ◌++◌, None, sym, subst, arith, IsErr, IfErr}
+use Rattle.std.proofs.Common.{◌≡◌, [], ◌∷◌, ◌++◌, sym, subst, arith, IsErr, IfErr}
 use Rattle.epoch_cells.specs.declared.fault.Fault.TheVariants.{TriesOut}
 use Rattle.epoch_plan_calls.specs.Courses.{ReadsOn}
 use Rattle.epoch_map_laws.specs.declared.plan.Phase.{Phase}
