@@ -157,7 +157,7 @@ impl<'g, 'c, 's, J: PostSet, W> MapSpots for LentSpots<'g, 'c, 's, J, W> {
     #[inline(always)]
     fn next(&mut self, node: Name) -> Option<Ptr>
         ensures some { IfSome result (λ _. Unit {0}) }
-        ensures same { self.new ≡ self.old }
+        ensures none { result ≡ None → self.new ≡ self.old }
     {
         let lent = self.node_of(node)?;
         Some(ptr_of(lent.next.load(SeqCst, self.guard.guard())))

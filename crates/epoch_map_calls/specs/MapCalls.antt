@@ -5,10 +5,7 @@ use Rattle.epoch_cells.specs.declared.fault.Fault.{Fault}
 use Rattle.epoch_cells.specs.declared.fault.Fault.TheVariants.{NoMemory, CellsFull as NoCell, BagsFull as NoPlace}
 use Rattle.epoch_cells.specs.declared.fault.Fault.TheVariants.{TriesOut}
 use Rattle.epoch_cells.specs.declared.fault.Refused.{Refused}
-use Rattle.epoch_cells.specs.declared.cells.name.Name.{Name}
 use Rattle.epoch_heap.specs.declared.access.Access.{Access}
-use Rattle.epoch_heap.specs.declared.access.Spot.{Spot}
-use Rattle.epoch_heap.specs.declared.access.Spot.TheVariants.{Root, Field}
 use Rattle.epoch_laws.specs.declared.step.Reply.{Reply}
 use Rattle.epoch_map_laws.specs.declared.plan.Phase.{Phase}
 use Rattle.epoch_map_laws.specs.declared.plan.Phase.TheVariants.{MakingRoom, Unlinking, Answering}
@@ -32,11 +29,6 @@ entry_with key value = key * 4294967296 + value
 -- the value of an entry
 unfoldable pub value_in : ℕ → ℕ
 value_in entry = entry % 4294967296
-
--- the link to a node: that in the node above or, if there is none, that of this root
-abbrev pub link_of : ℕ → Option Name → Spot
-link_of root (Some above) = Field above 0
-link_of root None = Root root
 
 -- HOW A CALL BEGINS
 

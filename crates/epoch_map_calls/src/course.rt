@@ -6,12 +6,12 @@ ghost use Rattle.epoch_plans.specs.Plans.{ptr_to};
 ghost use Rattle.epoch_plan_calls.specs.Courses.{ReadsOn, reading_of};
 ghost use Rattle.epoch_map_laws.specs.declared.plan.Phase.TheVariants.{Reading};
 ghost use Rattle.epoch_map_laws.specs.Map.{bucket_of, calls_left, deed_of, key_sought};
-ghost use Rattle.epoch_map_calls.specs.MapCalls.{link_of};
 ghost use Rattle.epoch_map_laws.proofs.CallsLeft.{map_lowered};
 
 use crate::spots::MapSpots;
 use epoch_cells::Name;
-use epoch_heap::{Access, Change, Ptr, Spot};
+use epoch_heap::{Access, Answer, Change, Ptr, Spot};
+use epoch_laws::Reply;
 use epoch_map_laws::{Aim, Phase, key_of};
 use epoch_plan_calls::{Course, as_reply, read_on};
 use epoch_plan_threads::Ends;
@@ -62,7 +62,7 @@ fn node_at(ptr: Ptr) -> Option<Name>
 }
 
 // One node of a walk: its entry is read, and its pointer too where its key is lower. `Ok`: the walk goes on to this
-// node. `Err`: it has come to this phase. A pointer that ends the walk is loaded again in that phase.
+// node. `Err`: it has come to this phase.
 #[inline(always)]
 fn stride<L: MapSpots>(
     aim: Aim,
@@ -82,10 +82,7 @@ fn stride<L: MapSpots>(
     let Some(entry) = spots.entry(node) else {
         return Err(Phase::Reading(aim, link, node, left));
     };
-    if key_of(entry) >= key {
-        return Err(Phase::Leaving(aim, link, node, entry, left));
-    }
-    if left == 0 {
+    if left == 0 || key_of(entry) >= key {
         return Err(Phase::Leaving(aim, link, node, entry, left));
     }
     spots.leave(node);
@@ -94,7 +91,9 @@ fn stride<L: MapSpots>(
     };
     match node_at(ptr) {
         Some(next) => Ok(next),
-        None => Err(Phase::LoadingNext(aim, link, node, entry, left)),
+        None => Err(Phase::LoadingNext(aim, link, node, entry, left).hear(Reply::Done(
+            Answer::Pointer(ptr),
+        ))),
     }
 }
 
@@ -111,52 +110,22 @@ fn to_bucket<L: MapSpots>(first: Phase, spots: &mut L) -> Phase
     Phase::LoadingFirst(aim, moves).hear(as_reply(told))
 }
 
-// The link to a node, from the node above or, if there is none, from this root.
-#[inline(always)]
-fn link_of(root: u64, above: Option<Name>) -> Spot
-    ensures { result ≡ link_of root above }
-{
-    match above {
-        Some(name) => Spot::Field(name, 0),
-        None => Spot::Root(root),
-    }
-}
-
-// The root and the node above of a link, if it is that of a root or of a node.
-#[inline(always)]
-fn ends_of(link: Spot) -> Option<(u64, Option<Name>)>
-    ensures { IfSome result (λ ends. link ≡ link_of ends.0 ends.1) }
-{
-    match link {
-        Spot::Root(root) => Some((root, None)),
-        Spot::Field(above, field) => {
-            if field != 0 {
-                return None;
-            }
-            Some((0, Some(above)))
-        }
-    }
-}
-
 // Goes along the nodes of lower keys, from the node that this phase reads.
 #[inline(always)]
 fn along<L: MapSpots>(first: Phase, spots: &mut L) -> Phase
     ensures { ReadsOn L.does (deed_of 0) first spots.old result spots.new }
 {
-    let Phase::Reading(aim, link, first_node, moves) = first else {
-        return first;
-    };
-    let Some((root, first_above)) = ends_of(link) else {
+    let Phase::Reading(aim, first_link, first_node, moves) = first else {
         return first;
     };
     let key = key_sought(aim);
-    let mut above = first_above;
+    let mut link = first_link;
     let mut node = first_node;
     let mut left = moves;
     loop {
-        match stride(aim, key, link_of(root, above), node, left, spots) {
+        match stride(aim, key, link, node, left, spots) {
             Ok(next) => {
-                above = Some(node);
+                link = Spot::Field(node, 0);
                 node = next;
                 left -= 1;
             }

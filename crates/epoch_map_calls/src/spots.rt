@@ -26,9 +26,9 @@ pub trait MapSpots: Spots {
     fn leave(&mut self, node: Name)
         ensures { Self.does self.old (Leave (ptr_to node)) (Done Nothing) self.new };
 
-    /// Loads the pointer in this node, which changes nothing. `None`: it can't be loaded.
+    /// Loads the pointer in this node. `None`: it can't be loaded, and nothing was done.
     fn next(&mut self, node: Name) -> Option<Ptr>
         ensures some { IfSome result
             (λ ptr. Self.does self.old (Point (Some 0) (Field node 0) Load) (Done (Pointer ptr)) self.new) }
-        ensures same { self.new ≡ self.old };
+        ensures none { result ≡ None → self.new ≡ self.old };
 }

@@ -2,14 +2,12 @@ use Rattle.std.proofs.Common.{◌≡◌}
 use Rattle.epoch_plan_calls.specs.Courses.{ReadsOn}
 use Rattle.epoch_map_laws.specs.declared.plan.Phase.TheVariants.{Reading}
 use Rattle.epoch_map_laws.specs.Map.{deed_of, key_sought}
-use Rattle.epoch_map_calls.specs.MapCalls.{link_of}
 use Rattle.epoch_map_calls.proofs.course.along.Given as goal
 
 -- it has come to this node so far
 abbrev pub invariant-loop-next : goal.invariant-loop-next
 invariant-loop-next g l =
-    ReadsOn g.L.Spots.does (deed_of 0) l.fn.first l.fn.spots (Reading l.aim (link_of l.root l.above) l.node l.left)
-    l.spots
+    ReadsOn g.L.Spots.does (deed_of 0) l.fn.first l.fn.spots (Reading l.aim l.link l.node l.left) l.spots
     × (l.key ≡ key_sought l.aim)
 
 -- each node takes a move
