@@ -3,7 +3,7 @@ use crate::made::functions;
 use crate::queue::Queue;
 use crate::stack::Stack;
 use crate::timing::on_threads;
-use crossbeam_epoch::{Atomic, Collector, Guard, Owned};
+use crossbeam_epoch::{Atomic, Collector, Guard, LocalHandle, Owned};
 use std::hint::black_box;
 use std::sync::atomic::Ordering::SeqCst;
 use std::time::{Duration, Instant};
@@ -14,19 +14,19 @@ const JOBS: u64 = 64;
 #[repr(align(128))]
 struct Padded<T>(T);
 
+/// A round of participants of one collector, one on each thread.
+fn on_handles<R>(threads: usize, body: impl Fn(&LocalHandle) -> R + Sync) -> Duration {
+    let collector = Collector::new();
+    on_threads(threads, || collector.register(), |handle| body(handle), drop)
+}
+
 /// Pins and unpins.
 pub fn pins(threads: usize, turns: u64) -> Duration {
-    let collector = Collector::new();
-    on_threads(
-        threads,
-        || collector.register(),
-        |handle| {
-            for _ in 0..turns {
-                black_box(&handle.pin());
-            }
-        },
-        drop,
-    )
+    on_handles(threads, |handle| {
+        for _ in 0..turns {
+            black_box(&handle.pin());
+        }
+    })
 }
 
 /// The same beside 63 other participants.
@@ -47,34 +47,22 @@ pub fn pins_among_64(threads: usize, turns: u64) -> Duration {
 
 /// Pins and unpins under one pin.
 pub fn nested_pins(threads: usize, turns: u64) -> Duration {
-    let collector = Collector::new();
-    on_threads(
-        threads,
-        || collector.register(),
-        |handle| {
-            let _guard = handle.pin();
-            for _ in 0..turns {
-                black_box(&handle.pin());
-            }
-        },
-        drop,
-    )
+    on_handles(threads, |handle| {
+        let _guard = handle.pin();
+        for _ in 0..turns {
+            black_box(&handle.pin());
+        }
+    })
 }
 
 /// Repins one guard.
 pub fn repins(threads: usize, turns: u64) -> Duration {
-    let collector = Collector::new();
-    on_threads(
-        threads,
-        || collector.register(),
-        |handle| {
-            let mut guard = handle.pin();
-            for _ in 0..turns {
-                black_box(&mut guard).repin();
-            }
-        },
-        drop,
-    )
+    on_handles(threads, |handle| {
+        let mut guard = handle.pin();
+        for _ in 0..turns {
+            black_box(&mut guard).repin();
+        }
+    })
 }
 
 /// Flushes nothing under one guard, among that many participants.
@@ -151,18 +139,9 @@ pub fn defers_apart(threads: usize, turns: u64) -> Duration {
 }
 
 /// A round on one pointer that all threads share. Nothing else refers to its value after the round.
-fn on_one_pointer<R>(
-    threads: usize,
-    body: impl Fn(&crossbeam_epoch::LocalHandle, &Atomic<u64>) -> R + Sync,
-) -> Duration {
-    let collector = Collector::new();
+fn on_one_pointer<R>(threads: usize, body: impl Fn(&LocalHandle, &Atomic<u64>) -> R + Sync) -> Duration {
     let pointer = Padded(Atomic::new(7u64));
-    let time = on_threads(
-        threads,
-        || collector.register(),
-        |handle| body(handle, &pointer.0),
-        drop,
-    );
+    let time = on_handles(threads, |handle| body(handle, &pointer.0));
     // SAFETY: the threads have ended, and what stands behind the pointer was deferred by none.
     drop(unsafe { pointer.0.into_owned() });
     time
@@ -227,22 +206,16 @@ fn contains(first: &Atomic<Entry>, key: u64, steps: u32, guard: &Guard) -> Optio
 
 /// Walks to the last of 100 keys, under one guard.
 pub fn walks(threads: usize, turns: u64) -> Duration {
-    let collector = Collector::new();
     let first = (1..=KEYS)
         .rev()
         .fold(Atomic::null(), |next, key| Atomic::new(Entry { key, next }));
     let first = Padded(first);
-    let time = on_threads(
-        threads,
-        || collector.register(),
-        |handle| {
-            let guard = handle.pin();
-            (0..turns)
-                .filter(|_| contains(black_box(&first.0), KEYS, 1_000, &guard) == Some(true))
-                .count()
-        },
-        drop,
-    );
+    let time = on_handles(threads, |handle| {
+        let guard = handle.pin();
+        (0..turns)
+            .filter(|_| contains(black_box(&first.0), KEYS, 1_000, &guard) == Some(true))
+            .count()
+    });
     let mut at = first.0;
     // SAFETY: the threads have ended, and nobody else has the entries.
     while let Some(entry) = unsafe { at.try_into_owned() } {
@@ -377,19 +350,13 @@ pub fn pushes(threads: usize, turns: u64) -> Duration {
 
 /// The same with a queue.
 pub fn enqueues(threads: usize, turns: u64) -> Duration {
-    let collector = Collector::new();
     let queue: Queue<u64> = Queue::new();
-    on_threads(
-        threads,
-        || collector.register(),
-        |handle| {
-            for turn in 0..turns {
-                queue.push(turn, &handle.pin());
-                black_box(queue.pop(&handle.pin()));
-            }
-        },
-        drop,
-    )
+    on_handles(threads, |handle| {
+        for turn in 0..turns {
+            queue.push(turn, &handle.pin());
+            black_box(queue.pop(&handle.pin()));
+        }
+    })
 }
 
 /// Registers a participant and drops it.
