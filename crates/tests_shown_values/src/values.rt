@@ -15,7 +15,7 @@ use std::sync::atomic::Ordering::SeqCst;
 fn jobs_and_bags_are_shown_without_what_a_call_would_do(rt: HostRuntime) {
     let alloc = rt.alloc();
     let removal = Job::<Work>::Remove(Name::first());
-    let wanted = "Remove(Name { turn: 0, slot: 1 })";
+    let wanted = "Remove(Name { slot: 1, turn: 0 })";
     want_shown(&rt, alloc, "a removal", &removal, wanted);
     let work = Work {
         run: Box::new(alloc, move || {}).expect(&rt, "memory for a function"),

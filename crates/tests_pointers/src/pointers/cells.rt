@@ -131,16 +131,16 @@ pub(crate) fn shown(rt: &impl Abort, alloc: Global, guard: &Guard<'_, u64>) {
     let owned = owned(rt, alloc, 1234).with_tag(2);
     want_shown(rt, alloc, &owned, "Owned { tag: 2, .. }");
     let shared = want_ok(rt, "a cell is free", owned.into_shared(guard));
-    let text = "Shared { name: Some(Name { turn: 0, slot: 1 }), tag: 2, .. }";
+    let text = "Shared { name: Some(Name { slot: 1, turn: 0 }), tag: 2, .. }";
     want_shown(rt, alloc, &shared, text);
     let null = Shared::<u64>::null();
     want_shown(rt, alloc, &null, "Shared { name: None, tag: 0, .. }");
     let atomic = Atomic::from(shared);
-    let text = "Atomic { name: Some(Name { turn: 0, slot: 1 }), tag: 2, .. }";
+    let text = "Atomic { name: Some(Name { slot: 1, turn: 0 }), tag: 2, .. }";
     want_shown(rt, alloc, &atomic, text);
     let lost = atomic.compare_exchange(null, null, SeqCst, SeqCst, guard);
     let text =
-        "CompareExchangeError { current: Shared { name: Some(Name { turn: 0, slot: 1 }), tag: 2, .. }, \
+        "CompareExchangeError { current: Shared { name: Some(Name { slot: 1, turn: 0 }), tag: 2, .. }, \
         new: Shared { name: None, tag: 0, .. } }";
     want_shown(rt, alloc, &changed(rt, lost), text);
 }

@@ -35,7 +35,7 @@ pub(crate) fn won_and_lost(rt: &impl Abort, alloc: Global, guard: &Guard<'_, u64
     lost_to_null(rt, lost, 5678);
     let next = owned(rt, alloc, 1).into_shared(guard);
     let next = want_ok(rt, "a cell is free", next);
-    let second = "Shared { name: Some(Name { turn: 1, slot: 2 }), tag: 0, .. }";
+    let second = "Shared { name: Some(Name { slot: 2, turn: 1 }), tag: 0, .. }";
     want_shown(rt, alloc, &next, second);
 }
 
