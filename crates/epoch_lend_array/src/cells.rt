@@ -1,6 +1,6 @@
 //! The cells of an array, and where a value is in it.
 ghost use Rattle.std.specs.Prelude.{◌≡◌, ◌+◌, ◌*◌, ◌≤◌, min, Some, length, map, IfSome, IfOk, IfErr};
-ghost use Rattle.std.specs.List.{All, slice_get};
+ghost use Rattle.std.specs.List.{slice_get};
 ghost use Rattle.epoch_lend_cells.specs.declared.cell.TheConstants.{GREATEST_TURN};
 
 use crate::slot::{Removal, Slot};
@@ -31,7 +31,6 @@ pub struct LendingCells<J: PostSet, T> {
     slots: Vec<Slot<J, T>>,
     last_turn: u64,
     pub ghost bounded: { last_turn ≤ GREATEST_TURN },
-    pub ghost alike: { All (λ s. s.last_turn ≡ last_turn) slots.items },
 }
 
 impl<J: PostSet, T: Drop> LendingCells<J, T> {
@@ -51,7 +50,7 @@ impl<J: PostSet, T: Drop> LendingCells<J, T> {
         let mut slots = Vec::with_capacity(alloc, count)?;
         for position in 0..count {
             let _ = position;
-            let slot = Slot::new(alloc, last_turn, posts)?;
+            let slot = Slot::new(alloc, posts)?;
             slots.push(slot).map_err(|_| AllocError)?;
         }
         Ok(LendingCells { slots, last_turn })
@@ -109,11 +108,11 @@ impl<J: PostSet, T> LendingCells<J, T> {
             return None;
         };
         match cell.shown() {
-            Some((turn, name)) => {
+            Some((turn, name)) if turn <= self.last_turn => {
                 let spot = Spot { slot, turn };
                 Some(Placed { spot, name })
             }
-            None => None,
+            _ => None,
         }
     }
 
@@ -174,7 +173,7 @@ impl<J: PostSet, T: Drop> LendingCells<J, T> {
             let Some(slot) = self.slots.get(position) else {
                 break;
             };
-            match slot.place(kept) {
+            match slot.place(kept, self.last_turn) {
                 Ok((turn, name)) => {
                     let spot = Spot {
                         slot: position,

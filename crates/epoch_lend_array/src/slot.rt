@@ -1,5 +1,5 @@
 //! One cell of an array, which holds one value after another, each at a turn of its own.
-ghost use Rattle.std.specs.Prelude.{◌≡◌, ◌+◌, ◌*◌, ◌≤◌, ◌++◌, [], min, IfSome, IfOk, IfErr};
+ghost use Rattle.std.specs.Prelude.{◌≡◌, ◌+◌, ◌*◌, ◌≤◌, ◌++◌, [], IfSome, IfOk, IfErr};
 ghost use Rattle.epoch_lend.specs.Posts.{logs_of};
 ghost use Rattle.epoch_lend.specs.Loans.{Within, AreShown};
 ghost use Rattle.epoch_lend.specs.Watching.{AreWatched};
@@ -22,8 +22,6 @@ pub struct Slot<J: PostSet, T> {
     turns: Turns<T>,
     at: *const T,
     set: Of<J>,
-    last_turn: u64,
-    pub ghost bounded: { last_turn ≤ GREATEST_TURN },
     pub ghost same: { at ≡ turns.at },
     pub ghost of_posts: { turns.posts ≡ logs_of J.posts },
 }
@@ -45,38 +43,31 @@ pub struct Removal<'c, J: PostSet, T> {
 }
 
 impl<J: PostSet, T: Drop> Slot<J, T> {
-    /// Makes an empty cell at turn 0. Its last turn is the given one, or [`GREATEST_TURN`] if that is less. It fails
-    /// only if memory is refused. The place in memory is never freed, and a value that is still in the cell when the
-    /// cell is dropped is not dropped.
-    pub fn new<A: Allocator + Drop>(
-        alloc: A,
-        last_turn: u64,
-        posts: &Posts<J>,
-    ) -> Result<Slot<J, T>, AllocError>
-        ensures last_turn { IfOk result (λ slot. slot.last_turn ≡ min last_turn GREATEST_TURN) }
-    {
+    /// Makes an empty cell at turn 0. It fails only if memory is refused. The place in memory is never freed, and a
+    /// value that is still in the cell when the cell is dropped is not dropped.
+    pub fn new<A: Allocator + Drop>(alloc: A, posts: &Posts<J>) -> Result<Slot<J, T>, AllocError> {
         let (turns, at) = Turns::new(Place::new(alloc)?, posts.as_slice());
         Ok(Slot {
             turns,
             at,
             set: Of(PhantomData),
-            last_turn: last_turn.min(GREATEST_TURN),
         })
     }
 
     /// Places a value at the turn of the cell, and returns this turn and its name. It hands the value back if the cell
-    /// isn't empty, or is past its last turn.
-    pub fn place(&self, value: T) -> Result<(u64, Name<T>), T>
+    /// isn't empty, or is past this last turn.
+    pub fn place(&self, value: T, last_turn: u64) -> Result<(u64, Name<T>), T>
+        requires { last_turn ≤ GREATEST_TURN }
         ensures placed { IfOk result (λ placed. (placed.1.log ≡ self.now.turns.log) × (placed.1.turn ≡ placed.0)
             × (placed.1.value ≡ value)) }
-        ensures within { IfOk result (λ placed. placed.0 ≤ self.now.last_turn) }
+        ensures within { IfOk result (λ placed. placed.0 ≤ last_turn) }
         ensures handed_back { IfErr result (λ back. back ≡ value) }
     {
         let (found, which) = self.turns.find(0, 2);
         which.done();
         let turn = found / 4;
         let vacant = 4 * turn;
-        if found != vacant || turn > self.last_turn {
+        if found != vacant || turn > last_turn {
             return Err(value);
         }
         let (again, claim) = self.turns.claim(self.at, turn, vacant, vacant + 1);
@@ -101,16 +92,9 @@ impl<J: PostSet, T> Slot<J, T> {
     /// Returns the turn and the name of the value that the cell has, by two plain loads. `None`: the cell is empty, or
     /// its value was marked, or went out between the loads.
     pub fn shown(&self) -> Option<(u64, Name<T>)>
-        ensures shown { IfSome result (λ shown. (shown.1.log ≡ self.now.turns.log) × (shown.1.turn ≡ shown.0)) }
-        ensures within { IfSome result (λ shown. shown.0 ≤ self.now.last_turn) }
+        ensures { IfSome result (λ shown. (shown.1.log ≡ self.now.turns.log) × (shown.1.turn ≡ shown.0)) }
     {
-        let Some((turn, name)) = self.turns.shown() else {
-            return None;
-        };
-        if turn > self.last_turn {
-            return None;
-        }
-        Some((turn, name))
+        self.turns.shown()
     }
 
     /// Marks the value of this turn, by a plain load and one exchange, so that no look finds it from then on. The

@@ -27,10 +27,10 @@ impl Session for Places {
     type Answer = (u64, u64);
 
     fn run<J: PostSet + Send + Sync>(self, posts: Posts<J>) -> (u64, u64) {
-        let Ok(slot) = Slot::new(self.alloc, u64::MAX, &posts) else {
+        let Ok(slot) = Slot::new(self.alloc, &posts) else {
             return (0, 0);
         };
-        let _ = slot.place(7);
+        let _ = slot.place(7, 0);
         let Some(reader) = posts.register() else {
             return (0, 0);
         };

@@ -1,7 +1,6 @@
 use Rattle.std.proofs.Common.{◌≡◌, length}
-use Rattle.std.specs.List.{All}
 use Rattle.epoch_lend_array.proofs.cells.LendingCells.new.Given as goal
 
--- as many cells were made as there were turns of the loop, and each has the last turn
+-- as many cells were made as there were turns of the loop
 abbrev pub invariant-loop-position : goal.invariant-loop-position
-invariant-loop-position g l = (length l.slots.items ≡ l.position) × All (λ s. s.last_turn ≡ l.last_turn) l.slots.items
+invariant-loop-position g l = length l.slots.items ≡ l.position
