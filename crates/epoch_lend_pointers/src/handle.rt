@@ -65,7 +65,7 @@ impl<'c, 'q, 's, J: PostSet, T> LendingHandle<'c, 'q, 's, J, T> {
     /// Takes a guard of this handle back: first the pin at its post ends, and then that of the collector's handle.
     ///
     /// The guard must be this handle's: [`LendingHandle::owns`].
-    #[inline]
+    #[inline(always)]
     pub fn unpin(&mut self, guard: GuardOf<'c, 'q, 's, J, T>)
         requires { Owns self.old.handle guard.guard }
         ensures free { IsSome self.new.reader }
@@ -79,8 +79,10 @@ impl<'c, 'q, 's, J: PostSet, T> LendingHandle<'c, 'q, 's, J, T> {
             pinned,
             cells: _,
         } = guard;
-        self.reader = Some(pinned.unpin());
+        let reader = pinned.unpin();
         self.handle.unpin(guard);
+        // The reader is stored last: an exchange waits for the stores before it.
+        self.reader = Some(reader);
     }
 
     /// Takes a nested guard of this handle back.
@@ -130,7 +132,7 @@ impl<'c, 'q, 's, J: PostSet, T: Drop> LendingHandle<'c, 'q, 's, J, T> {
     /// at its post: it loads the clock, and stores what it found.
     ///
     /// [`LendingHandle::can_pin`] must hold.
-    #[inline]
+    #[inline(always)]
     pub fn pin(&mut self) -> GuardOf<'c, 'q, 's, J, T>
         requires free { IsSome self.old.reader }
         requires fits { self.old.handle.machine.guards + 1 < 2 ^ 32 }
@@ -141,14 +143,15 @@ impl<'c, 'q, 's, J: PostSet, T: Drop> LendingHandle<'c, 'q, 's, J, T> {
         ensures ready { IsReady self.new.handle }
         ensures counted { self.new.handle.machine.guards ≡ self.old.handle.machine.guards + 1 }
     {
+        let guard = self.handle.pin();
+        let cells = self.kept.lender().cells();
+        let epoch = cells.epoch();
         let Some(reader) = self.reader.take() else {
             unreachable!()
         };
-        let guard = self.handle.pin();
-        let cells = self.kept.lender().cells();
         LendingGuard {
             guard,
-            pinned: reader.pin(cells.epoch()),
+            pinned: reader.pin(epoch),
             cells,
         }
     }
