@@ -1,12 +1,15 @@
-INPUT ?= crates/epoch_run/stdin
+INPUT ?= crates/epoch_run_script/stdin
+ARGS ?= queue 3 4
 
 PICTURES = grace stall full held queue
 
-.PHONY: help run try draw pictures test refute beside beside-histories
+.PHONY: help run threads try draw pictures test refute beside beside-histories
 
 help:
 	@echo 'make try      compiles the program epoch-run and runs it on a script; proves nothing   20 s'
-	@echo 'make run      proves and builds what the program needs, and runs it      25 min at first, then seconds'
+	@echo 'make run      proves and builds what a script needs, and runs the script 15 min at first, then seconds'
+	@echo 'make threads  proves and builds what runs on threads need, too, and makes the run that ARGS'
+	@echo '              asks for           25 min at first, then seconds'
 	@echo 'make draw     draws the run of a script to out/run.svg; proves nothing                 20 s'
 	@echo 'make test     the merge gate: every proof, every test, and the wrong bodies of'
 	@echo '              crates/*/must-fail, each of which must be refused; keeps what an'
@@ -16,9 +19,10 @@ help:
 	@echo 'make beside   times this library and crossbeam-epoch in turn: beside/README.md says what'
 	@echo '              must be installed     25 min at first for the proofs, then 5 min'
 	@echo 'make beside-histories   gives random scripts to both, and compares which jobs they call;'
-	@echo '              25 min at first for the proofs, then 72 s for 10,000,000 LINES'
+	@echo '              15 min at first for the proofs, then 72 s for 10,000,000 LINES'
 	@echo
-	@echo 'INPUT=FILE    the script of try, run and draw, instead of crates/epoch_run/stdin'
+	@echo 'INPUT=FILE    the script of try, run and draw, instead of crates/epoch_run_script/stdin'
+	@echo "ARGS='WORDS'   the arguments of threads, instead of 'queue 3 4'"
 	@echo 'CRATE=NAME    the crate of refute, instead of all'
 	@echo 'ROWS=REGEX THREADS=1,4 PASSES=10    which rows beside measures, and how often'
 	@echo 'LINES=N SEED=S                      how long the scripts of beside-histories are, and which'
@@ -29,12 +33,16 @@ $(error rt, the command of the Rattle toolchain, is missing: put its folder on P
 endif
 
 run:
-	@echo 'The first run proves all that the program needs, which takes minutes. Later ones take seconds.' >&2
-	@script=$$(realpath "$(INPUT)") && tools/prove.py epoch_run && cd crates/epoch_run && rt run < "$$script"
+	@echo 'The first run proves all that a script needs, which takes minutes. Later ones take seconds.' >&2
+	@script=$$(realpath "$(INPUT)") && tools/prove.py epoch_run_script && cd crates/epoch_run_script && rt run < "$$script"
+
+threads:
+	@echo 'The first run proves all that threads need, which takes minutes. Later ones take seconds.' >&2
+	@tools/prove.py epoch_run && cd crates/epoch_run && rt run -- $(ARGS)
 
 try:
 	@echo 'This proves nothing: the program is only compiled and run, in about 20 seconds on 4 processors.' >&2
-	@script=$$(realpath "$(INPUT)") && cd crates/epoch_run && rt try < "$$script"
+	@script=$$(realpath "$(INPUT)") && cd crates/epoch_run_script && rt try < "$$script"
 
 draw:
 	@echo 'This proves nothing: the program is only compiled and run, in about 20 seconds on 4 processors.' >&2

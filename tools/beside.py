@@ -125,7 +125,7 @@ def table():
 
 def histories():
     beside, version = build_original()
-    port = build_port("epoch_run")
+    port = build_port("epoch_run_script")
     heading(version)
     words = [beside, "histories", port, setting("LINES", "100000"), setting("SEED", "1")]
     sys.exit(subprocess.run(words, check=False).returncode)
