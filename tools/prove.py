@@ -16,6 +16,8 @@ from concurrent.futures import FIRST_COMPLETED, ThreadPoolExecutor, wait
 # A proof takes up to 3.5 GB.
 BYTES_A_PROOF = 3_500_000_000
 ROOM = ".git/proving"
+# A chain with this part of the longest one's work may take as long: how much work a proof is can only be guessed before.
+NEARLY = 0.85
 
 
 def libraries():
@@ -97,12 +99,14 @@ def main(names):
         while left or running:
             ready = [it for it in left if done.issuperset(filter(uses.__contains__, uses[it]))][: lanes - len(running)]
             for name in ready:
-                # The longest chain decides how long all of it takes. So its proofs get as many jobs as there are processors, and go
-                # before the others, which take the half of the time in which such a proof leaves processors idle.
-                leads = length[name] == max(length[it] for it in [*left, *running.values()])
+                # The longest chains decide how long all of it takes. So proofs that begin one go before the others, which take what
+                # these leave of the processors; and one that is alone gets as many jobs as there are processors.
+                longest = max(length[it] for it in [*left, *running.values()])
+                leads = length[name] >= NEARLY * longest
+                rivals = [it for it in [*ready, *running.values()] if length[it] >= NEARLY * longest]
                 left.remove(name)
-                jobs, nice = (lanes, 0) if leads else (max(1, lanes // 2), 10)
-                running[pool.submit(prove, uses, name, jobs, nice)] = name
+                jobs = lanes if leads and len(rivals) == 1 else max(2, lanes // 2)
+                running[pool.submit(prove, uses, name, jobs, 0 if leads else 5)] = name
             ended, _ = wait(running, return_when=FIRST_COMPLETED)
             for it in ended:
                 name, status, output, seconds = it.result()

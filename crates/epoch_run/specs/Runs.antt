@@ -1,6 +1,6 @@
 -- What the words of a command line ask for.
 use Rattle.std.specs.Prelude.{◌≡◌, ℕ, List, codes}
-use Rattle.epoch_script.specs.Sizes.{SpellsSize}
+use Rattle.epoch_lines.specs.Sizes.{SpellsSize}
 use Rattle.epoch_run.specs.declared.runs.Run.{Run}
 use Rattle.epoch_run.specs.declared.runs.Run.TheVariants.{Threads, Stack, Queue}
 

@@ -1,7 +1,7 @@
 //! The runs that the words of a command line ask for.
 ghost use Rattle.std.specs.Prelude.{MatchOption};
-ghost use Rattle.epoch_script.specs.declared.size.Size.{Size};
-ghost use Rattle.epoch_script.specs.Sizes.{SpellsSize};
+ghost use Rattle.epoch_lines.specs.declared.size.Size.{Size};
+ghost use Rattle.epoch_lines.specs.Sizes.{SpellsSize};
 ghost use Rattle.epoch_run.specs.declared.runs.Run.{Run};
 ghost use Rattle.epoch_run.specs.Runs.{SpellsRun};
 

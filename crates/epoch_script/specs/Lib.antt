@@ -1,5 +1,1 @@
 pub mod Endings
-pub mod Words
-pub mod Accesses
-pub mod Lines
-pub mod Sizes

@@ -1,15 +1,7 @@
-//! Scripts of steps: what their lines say, what a world does of them, and what is printed.
+//! Scripts of steps: what a world does of their lines, and how a script ends.
 #![tactic(auto)]
 
-mod accesses;
-mod lines;
-mod printing;
 mod script;
-mod size;
-mod words;
 
-pub use lines::{Command, read_command, read_shape};
-pub use printing::Printed;
+pub use epoch_lines::{Command, Printed, Size, read_command, read_number, read_shape};
 pub use script::{Ending, Script, run, tell_ending};
-pub use size::Size;
-pub use words::read_number;

@@ -1,0 +1,4 @@
+pub mod Words
+pub mod Accesses
+pub mod Lines
+pub mod Sizes
