@@ -14,7 +14,7 @@ pub fn spot_of(name: Name) -> Spot
     ensures turn { result.turn ≡ name.turn }
 {
     Spot {
-        slot: name.slot() as usize - 1,
+        slot: (name.slot() - 1) as usize,
         turn: name.turn() as u64,
     }
 }
