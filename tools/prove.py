@@ -105,7 +105,7 @@ def main(names):
                 leads = length[name] >= NEARLY * longest
                 rivals = [it for it in [*ready, *running.values()] if length[it] >= NEARLY * longest]
                 left.remove(name)
-                jobs = lanes if leads and len(rivals) == 1 else max(2, lanes // 2)
+                jobs = lanes if leads and len(rivals) == 1 else max(1, lanes // 2)
                 running[pool.submit(prove, uses, name, jobs, 0 if leads else 5)] = name
             ended, _ = wait(running, return_when=FIRST_COMPLETED)
             for it in ended:

@@ -55,9 +55,8 @@ impl<J: PostSet, T: Drop> Slot<J, T> {
     }
 
     /// Places a value at the turn of the cell, and returns this turn and its name. It hands the value back if the cell
-    /// isn't empty, or is past this last turn.
+    /// isn't empty, or is past `last_turn`, or past [`GREATEST_TURN`] if that is less.
     pub fn place(&self, value: T, last_turn: u64) -> Result<(u64, Name<T>), T>
-        requires { last_turn ≤ GREATEST_TURN }
         ensures placed { IfOk result (λ placed. (placed.1.log ≡ self.now.turns.log) × (placed.1.turn ≡ placed.0)
             × (placed.1.value ≡ value)) }
         ensures within { IfOk result (λ placed. placed.0 ≤ last_turn) }
@@ -67,7 +66,7 @@ impl<J: PostSet, T: Drop> Slot<J, T> {
         which.done();
         let turn = found / 4;
         let vacant = 4 * turn;
-        if found != vacant || turn > last_turn {
+        if found != vacant || turn > last_turn || turn > GREATEST_TURN {
             return Err(value);
         }
         let (again, claim) = self.turns.claim(self.at, turn, vacant, vacant + 1);

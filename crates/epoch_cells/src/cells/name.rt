@@ -1,9 +1,9 @@
 //! Names of cells.
-ghost use Rattle.std.specs.Prelude.{◌≡◌, ◌<◌, ◌≤◌, ◌↔◌, ◌==◌, IsSome, IfSome};
+ghost use Rattle.std.specs.Prelude.{◌≡◌, ◌<◌, ◌≤◌, ◌↔◌, IsSome, IfSome};
 ghost use Rattle.std.proofs.Common.{rules};
 ghost use Rattle.std.specs.Cmp.{partial_order_from_own_ties};
 ghost use Rattle.std.specs.Cmp.Rules.{comparing};
-ghost use Rattle.std.specs.Ordering.{nat_cmp, on, then_cmp, eq_of_both, as_partial_cmp};
+ghost use Rattle.std.specs.Ordering.{nat_cmp, on, then_cmp, as_partial_cmp};
 
 use std::cmp::Ordering;
 
@@ -16,8 +16,8 @@ pub const MOST_SLOT: u32 = 16_777_215;
 /// Names are in the order of their pointers' words: by the turn first, and then by the slot.
 #[derive(Clone, Copy, Debug, PartialEq, Eq, Hash)]
 pub struct Name {
-    // The slot comes first, so that it is the lower half of a name's eight bytes: from there, it leads to its cell in
-    // fewest steps.
+    // The slot comes first, so that it is the lower half of a name's eight bytes: each read of a value takes it from
+    // there.
     slot: u32,
     turn: u32,
     pub ghost some: { 0 < slot },
