@@ -22,9 +22,9 @@ use Rattle.epoch_lend.specs.Loans.{
 }
 
 -- nor does a pocket
-pocket_keyless : (a δ : ℕ) (y : Bool) → Keyless (pocket_case a δ y)
-pocket_keyless a δ true = tt
-pocket_keyless a δ false = λ n. (tt, tt)
+pocket_keyless : (δ : ℕ) (y : Bool) → Keyless (pocket_case δ y)
+pocket_keyless δ true = tt
+pocket_keyless δ false = λ l. (tt, tt)
 
 -- nor does the entry of a pin
 pub entered_keyless : (g : Entry) (η : ℕ) → Keyless (entered g η)
@@ -35,7 +35,7 @@ entered_keyless g η = λ ks. (tt, λ _. tt)
 pub loans_keyless : (a : ℕ) (ls : List Loan) → Keyless (loans a ls)
 loans_keyless a [] = tt
 loans_keyless a (l ∷ ls) = (
-  (pocket_keyless a l.pocket_name, (tt, entered_keyless (l.atom, l.epoch) l.log)),
+  (pocket_keyless l.pocket_name, (tt, entered_keyless (l.atom, l.epoch) l.log)),
   loans_keyless a ls,
 )
 

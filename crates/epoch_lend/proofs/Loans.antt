@@ -8,7 +8,7 @@ use Rattle.std.proofs.lemmas.Bool.{and_parts, or_cases, eqb-true, eq-eqb, not_fr
 use seplogic.Ra.Ura.{Ura}
 use base.Share
 use base.Fraction.{full_share}
-use base.Stored.{gnum, num}
+use base.Stored.{Coded, coded×, coded_ℕ}
 use base.Logic.{SProp, ent, sep, upd, upd_i, id⊢, emp}
 use base.Fml.{Fml, ftrue, fex, flft, fdead, fobs, fauth, flent}
 use types.Logic.{Logic, sem}
@@ -61,7 +61,10 @@ use Rattle.epoch_lend.specs.Watching.{entries}
 use Rattle.epoch_lend.specs.Loans.{
   left_after,
   loan_share,
+  no_loan,
+  nth_loan,
   filled_pocket,
+  pocket_with,
   pocket_case,
   pocket,
   Loan,
@@ -77,6 +80,19 @@ use Rattle.epoch_lend.specs.Loans.{
   are_shown,
   AreShown,
 }
+
+-- a loan is told apart from no loan, and from every other one
+abbrev pocket_coded : Coded (ℕ × ℕ)
+pocket_coded = coded× coded_ℕ coded_ℕ
+
+pub some_loan : (a n : ℕ) → nth_loan a n ≢ no_loan
+some_loan a n e = suc-ne-zero n (ap (λ (l : ℕ × ℕ). l.0) (pocket_coded.inj (suc n, a) (0, 0) e))
+
+same_loan : (a b m n : ℕ) → nth_loan a m ≡ nth_loan b n → (a ≡ b) × (m ≡ n)
+same_loan a b m n e = let same : (suc m, a) ≡ (suc n, b) = pocket_coded.inj (suc m, a) (suc n, b) e in (
+  ap (λ (l : ℕ × ℕ). l.1) same,
+  omega (native.Mathlib.Omega.arith, ap (λ (l : ℕ × ℕ). l.0) same),
+)
 
 module _ {M : Type 1} {𝓤 : Ura M} (𝓛 : Logic 𝓤) (a : ℕ) where
   open 𝓛 use {H, A}
@@ -97,16 +113,16 @@ module _ {M : Type 1} {𝓤 : Ura M} (𝓛 : Logic 𝓤) (a : ℕ) where
   infixr 35 ◌∗◌
   -- at the load: the cell lends half of what is left, against the lender's right to the pocket
   pub lends : (ls : List Loan) (l : Loan)
-      → ⟦ stock a ls ⟧ ∗ A.lent (l.atom ∷ []) (pocket a l.pocket_name) ∗ A.obs l.pocket_name (gnum 0) ∗ A.auth
-      l.pocket_name (gnum 0) ∗ ⟦ entered (l.atom, l.epoch) l.log ⟧
+      → ⟦ stock a ls ⟧ ∗ A.lent (l.atom ∷ []) (pocket l.pocket_name) ∗ A.obs l.pocket_name no_loan ∗ A.auth
+      l.pocket_name no_loan ∗ ⟦ entered (l.atom, l.epoch) l.log ⟧
       ⊢ upd 𝓤 (⟦ stock a (l ∷ ls) ⟧ ∗ ⟦ filled_pocket a l.pocket_name (length ls) ⟧)
   lends ls l = let δ : ℕ = l.pocket_name in
       let n : ℕ = length ls in
-      let u = gnum (suc n) in
+      let u = nth_loan a n in
       let Goal : Pr = ⟦ stock a (l ∷ ls) ⟧ ∗ ⟦ filled_pocket a δ n ⟧ in
-      qed 𝓛 (‵ (stock a ls) ∷ ‵ (flent (l.atom ∷ []) (pocket a l.pocket_name)) ∷ ‵ (fobs l.pocket_name (gnum 0)) ∷ ‵
-      (fauth l.pocket_name (gnum 0)) ∷ ‵ (entered (l.atom, l.epoch) l.log) ∷ []) ∵ move ! (2 ∷ 3 ∷ []) $
-      use2 𝓛 (raw (upd 𝓤 (A.obs δ u ∗ A.auth δ u))) (𝓛.names.name_set_upd δ (gnum 0) (gnum 0) u) $
+      qed 𝓛 (‵ (stock a ls) ∷ ‵ (flent (l.atom ∷ []) (pocket l.pocket_name)) ∷ ‵ (fobs l.pocket_name no_loan) ∷ ‵
+      (fauth l.pocket_name no_loan) ∷ ‵ (entered (l.atom, l.epoch) l.log) ∷ []) ∵ move ! (2 ∷ 3 ∷ []) $
+      use2 𝓛 (raw (upd 𝓤 (A.obs δ u ∗ A.auth δ u))) (𝓛.names.name_set_upd δ no_loan no_loan u) $
       settle 𝓛 Goal (‵ (fobs δ u) ⊛ ‵ (fauth δ u)) $ split ! $ suffices ! Goal (upd_i 𝓤 Goal) $
       move ! (2 ∷ []) $ fsplit ! $
       use1 𝓛 (‵ (flft (a ∷ []) (Share.left (left_after n))) ⊛ ‵ (flft (a ∷ []) (Share.right (left_after n))))
@@ -121,21 +137,19 @@ module _ {M : Type 1} {𝓤 : Ura M} (𝓛 : Logic 𝓤) (a : ℕ) where
       fsplit3 ! $ move ! (3 ∷ 0 ∷ []) $ lent_back ! tt $ keep ! (0 ∷ 1 ∷ []) $ fpick ! (λ y. by ! (cases y))
     where
       -- the name says that the pocket holds this loan
-      cases : (y : Bool) → ⟦ pocket_case a l.pocket_name y ⟧ ∗ A.auth l.pocket_name (gnum (suc n)) ⊢ H.⇛ (A.lft (a ∷
+      cases : (y : Bool) → ⟦ pocket_case l.pocket_name y ⟧ ∗ A.auth l.pocket_name (nth_loan a n) ⊢ H.⇛ (A.lft (a ∷
           []) (loan_share n))
-      cases true = qed 𝓛 (‵ (fobs l.pocket_name (gnum 0)) ∷ ‵ (fauth l.pocket_name (gnum (suc n))) ∷ []) ∵
-          use2 𝓛 (given (gnum 0 ≡ gnum (suc n)) (‵ (fobs l.pocket_name (gnum 0)) ⊛ ‵ (fauth l.pocket_name (gnum (suc
-          n))))) (𝓛.names.name_agree l.pocket_name (gnum 0) (gnum (suc n))) $
-          learn ! (λ e. absurd (suc-ne-zero n (ap num (sym e))))
-      cases false = qed 𝓛 (‵ (fex ℕ (filled_pocket a l.pocket_name)) ∷ ‵ (fauth l.pocket_name (gnum (suc n))) ∷ []) ∵
+      cases true = qed 𝓛 (‵ (fobs l.pocket_name no_loan) ∷ ‵ (fauth l.pocket_name (nth_loan a n)) ∷ []) ∵
+          use2 𝓛 (given (no_loan ≡ nth_loan a n) (‵ (fobs l.pocket_name no_loan) ⊛ ‵ (fauth l.pocket_name (nth_loan a
+          n)))) (𝓛.names.name_agree l.pocket_name no_loan (nth_loan a n)) $
+          learn ! (λ e. absurd (some_loan a n (sym e)))
+      cases false = qed 𝓛 (‵ (fex (ℕ × ℕ) (pocket_with l.pocket_name)) ∷ ‵ (fauth l.pocket_name (nth_loan a n)) ∷ []) ∵
           updating ! $ fpick ! (λ m. fsplit ! $ move ! (0 ∷ 2 ∷ []) $
-          use2 𝓛 (given (gnum (suc m) ≡ gnum (suc n)) (‵ (fobs l.pocket_name (gnum (suc m))) ⊛ ‵ (fauth l.pocket_name
-          (gnum (suc n))))) (𝓛.names.name_agree l.pocket_name (gnum (suc m)) (gnum (suc n))) $
-          learn ! (λ e. split ! $ keep ! (2 ∷ []) $
-          let same : m ≡ n = omega (
-            native.Mathlib.Omega.arith,
-            ap num e,
-          ) in rewrite ! 0 (λ (k : ℕ). ‵ (flft (a ∷ []) (loan_share k))) same refl $ now ! $ done !))
+          use2 𝓛 (given (nth_loan m.0 m.1 ≡ nth_loan a n) (‵ (fobs l.pocket_name (nth_loan m.0 m.1)) ⊛ ‵ (fauth
+          l.pocket_name (nth_loan a n)))) (𝓛.names.name_agree l.pocket_name (nth_loan m.0 m.1) (nth_loan a n)) $
+          learn ! (λ e. split ! $ keep ! (2 ∷ []) $ let same = same_loan m.0 a m.1 n e in
+          rewrite ! 0 (λ (b : ℕ). ‵ (flft (b ∷ []) (loan_share m.1))) same.0 refl $
+          rewrite ! 0 (λ (k : ℕ). ‵ (flft (a ∷ []) (loan_share k))) same.1 refl $ now ! $ done !))
 
   -- that the guards of one of these pins are over
   pub one_over : (g : Entry) (gs : List Entry) → IsOneOf g gs → ⟦ are_over gs ⟧ ⊢ ⟦ are_over gs ⟧ ∗ A.dead (g.0 ∷ [])

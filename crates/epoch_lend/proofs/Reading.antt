@@ -1,31 +1,12 @@
 -- One look at a word under a guard, and its marking. Assumes `Logic`.
-use Rattle.std.proofs.Common.{
-  ◌≡◌,
-  ◌≢◌,
-  ℕ,
-  suc,
-  ◌+◌,
-  ◌++◌,
-  List,
-  [],
-  ◌∷◌,
-  sym,
-  refl,
-  ap,
-  subst,
-  length,
-  eqb,
-  eq-eqb,
-  ne_eqb,
-}
-use native.Mathlib.Nat.{suc-ne-zero}
+use Rattle.std.proofs.Common.{◌≡◌, ◌≢◌, ℕ, ◌+◌, ◌++◌, List, [], ◌∷◌, sym, refl, subst, length, eqb, eq-eqb, ne_eqb}
 use native.Mathlib.Decide.{ℕ_discrete}
 use mathlib.Core.Logic.{dite}
 use Rattle.std.proofs.lemmas.Bool.{and_from}
+use Rattle.std.specs.Prelude.{Option, Some, None}
 use mathlib.Core.Bool.{Bool, true, false}
 use seplogic.Ra.Ura.{Ura}
-use base.Stored.{gnum, num}
-use base.Logic.{SProp, ent, sep, ex, all_e, guard, upd, upd_i, id⊢, emp}
+use base.Logic.{SProp, ent, sep, ex, all_e, guard, upd, upd_i, id⊢, emp, never_e}
 use base.Fml.{
   Lft,
   GName,
@@ -94,12 +75,12 @@ use types.Kit.{
 }
 use types.Tokens.{name_new, bor_new, bor_open, obor_close, obor_alter, bor_fracture}
 use denote.RattleType.{RattleType, RowLaws}
-use denote.RawPtr.{block_ptr}
+use denote.RawPtr.{Ptr, block_ptr}
 use denote.Sharing.{ShrLaws}
 use denote.SharingLaws.{contraction}
 use denote.Moves.{moves_from}
 use denote.Steps.{nothing}
-use denote.Struct.Lending.{Lends, lent_at_shr_laws}
+use denote.Struct.Lending.{Lends, lent_at, lent_at_shr_laws}
 use Rattle.core.specs.Sync.RawAtomic.{asks, always, word}
 use Rattle.core.proofs.raw_atomic.Asked.{borrowed, Lies, Again}
 use base.FractionLaws.{Counts}
@@ -107,7 +88,10 @@ use Rattle.epoch_lend.specs.Parted.{tokens}
 use Rattle.epoch_lend.specs.Posts.{known, is_among, IsAmong, entered, guard_owns, guard_shares}
 use Rattle.epoch_lend.specs.Loans.{
   loan_share,
+  no_loan,
+  nth_loan,
   filled_pocket,
+  pocket_with,
   pocket_case,
   pocket,
   Loan,
@@ -118,14 +102,25 @@ use Rattle.epoch_lend.specs.Loans.{
   present,
   while_present,
   lending,
+  sees,
   glance_owns,
   marked_owns,
   are_within,
   Within,
 }
 use Rattle.core.proofs.cell.Borrows.{by_one}
-use Rattle.epoch_lend.proofs.Loans.{lends, entered_dup}
+use Rattle.epoch_lend.proofs.Loans.{some_loan, lends, entered_dup}
 use Rattle.epoch_lend.proofs.PartSteps.{tokens_in}
+
+-- who has the right to see a value sees one
+abbrev pub Sees : Lft → (R : RattleType) → Ptr → Option R.Denot → R.Denot → Fml
+Sees κ R p v x = fex (v ≡ Some x) (λ _. lent_at R p x κ)
+
+pub sees_one : {M : Type 1} {𝓤 : Ura M} (𝓛 : Logic 𝓤) (κ : Lft) (R : RattleType) (p : Ptr) (v : Option R.Denot)
+    → ent 𝓤 (sem 𝓛 (sees κ R p v)) (sem 𝓛 (fex R.Denot (Sees κ R p v)))
+sees_one {M} {𝓤} 𝓛 κ R p None = never_e 𝓤 _
+sees_one 𝓛 κ R p (Some x) = qed 𝓛 (‵ (lent_at R p x κ) ∷ []) ∵
+    fpack ! (Some x ≡ Some x) (λ _. lent_at R p x κ) refl $ fpack ! R.Denot (Sees κ R p (Some x)) x $ done !
 
 module _ {M : Type 1} {𝓤 : Ura M} (𝓛 : Logic 𝓤) where
   open 𝓛 use {H, A}
@@ -185,35 +180,42 @@ module _ {M : Type 1} {𝓤 : Ura M} (𝓛 : Logic 𝓤) where
   guard_lends γ epoch η k l κ ts inc sp = by_one 𝓛 κ ts sp (A.bor κ (guard_owns γ epoch η k)) ⟦ guard_shares γ epoch
       η κ ⟧ (guard_by_token γ epoch η k κ)
 
-  module _ (a γ epoch η : ℕ) (r : Share) where
+  module _ (γ epoch η : ℕ) (r : Share) where
     -- before the look: a pocket is borrowed for the guard's lifetime, and open
     abbrev pub Offer : GName → Fml
-    Offer δ = fsep (flent (γ ∷ []) (pocket a δ)) (fsep (fobs δ (gnum 0)) (fsep (fauth δ (gnum 0)) (entered (
+    Offer δ = fsep (flent (γ ∷ []) (pocket δ)) (fsep (fobs δ no_loan) (fsep (fauth δ no_loan) (entered (
       γ,
       epoch,
     ) η)))
 
     abbrev pub Prepared : GName → Pr
-    Prepared δ = A.obor (γ ∷ []) r (pocket a δ) ∗ ⟦ Offer δ ⟧
+    Prepared δ = A.obor (γ ∷ []) r (pocket δ) ∗ ⟦ Offer δ ⟧
 
     -- the pocket is borrowed and opened, with nothing in it
     opened : (δ : GName) (y : Bool)
-        → ⟦ pocket_case a δ y ⟧ ∗ A.auth δ (gnum 0) ⊢ ⟦ fsep (fobs δ (gnum 0)) (fauth δ (gnum 0)) ⟧
-    opened δ true = qed 𝓛 (‵ (fobs δ (gnum 0)) ∷ ‵ (fauth δ (gnum 0)) ∷ []) ∵ fjoin ! $ done !
-    opened δ false = qed 𝓛 (‵ (fex ℕ (filled_pocket a δ)) ∷ ‵ (fauth δ (gnum 0)) ∷ []) ∵ fpick ! (λ m. fsplit ! $
+        → ⟦ pocket_case δ y ⟧ ∗ A.auth δ no_loan ⊢ ⟦ fsep (fobs δ no_loan) (fauth δ no_loan) ⟧
+    opened δ true = qed 𝓛 (‵ (fobs δ no_loan) ∷ ‵ (fauth δ no_loan) ∷ []) ∵ fjoin ! $ done !
+    opened δ false = qed 𝓛 (‵ (fex (ℕ × ℕ) (pocket_with δ)) ∷ ‵ (fauth δ no_loan) ∷ []) ∵ fpick ! (λ m. fsplit ! $
         move ! (0 ∷ 2 ∷ []) $
-        use2 𝓛 (given (gnum (suc m) ≡ gnum 0) (‵ (fobs δ (gnum (suc m))) ⊛ ‵ (fauth δ (gnum 0)))) (𝓛.names.name_agree
-        δ (gnum (suc m)) (gnum 0)) $ learn ! (λ e. absurd (suc-ne-zero m (ap num e))))
+        use2 𝓛 (given (nth_loan m.0 m.1 ≡ no_loan) (‵ (fobs δ (nth_loan m.0 m.1)) ⊛ ‵ (fauth δ no_loan)))
+        (𝓛.names.name_agree δ (nth_loan m.0 m.1) no_loan) $ learn ! (λ e. absurd (some_loan m.0 m.1 e)))
 
     -- what a look brings along is made
     pub prepares : A.lft (γ ∷ []) r ∗ ⟦ entered (γ, epoch) η ⟧ ⊢ H.⇛ (ex 𝓤 Prepared)
     prepares = qed 𝓛 (‵ (flft (γ ∷ []) r) ∷ ‵ (entered (γ, epoch) η) ∷ []) ∵ updating ! $
-        name_new ! tt (gnum 0) (λ δ. fpack ! Bool (pocket_case a δ) true $ bor_new ! tt (γ ∷ []) $
+        name_new ! tt no_loan (λ δ. fpack ! Bool (pocket_case δ) true $ bor_new ! tt (γ ∷ []) $
         move ! (0 ∷ 3 ∷ []) $ bor_open ! tt $ move ! (1 ∷ []) $ fpick ! (λ y. move ! (0 ∷ 3 ∷ []) $
-        use2 𝓛 (‵ (fsep (fobs δ (gnum 0)) (fauth δ (gnum 0)))) (opened δ y) $ fsplit ! $
+        use2 𝓛 (‵ (fsep (fobs δ no_loan) (fauth δ no_loan))) (opened δ y) $ fsplit ! $
         -- [obs; auth; the open borrow; the lender's right; entered]
         move ! (1 ∷ 4 ∷ []) $ fjoin ! $ move ! (3 ∷ 1 ∷ 0 ∷ []) $ fjoin3 ! $ now ! $ show ! Prepared δ $
         move ! (1 ∷ 0 ∷ []) $ done !))
+
+  -- a pocket is closed with nothing in it
+  pub stays_empty : (γ : ℕ) (r : Share) (δ : GName)
+      → A.obor (γ ∷ []) r (pocket δ) ∗ ⟦ fobs δ no_loan ⟧ ⊢ H.⇛ (A.lft (γ ∷ []) r)
+  stays_empty γ r δ = qed 𝓛 (‵ (fobor (γ ∷ []) r (pocket δ)) ∷ ‵ (fobs δ no_loan) ∷ []) ∵ updating ! $
+      move ! (1 ∷ []) $ fpack ! Bool (pocket_case δ) true $ move ! (1 ∷ 0 ∷ []) $ obor_close ! tt $ now ! $
+      keep ! (1 ∷ []) $ done !
 
   module _ (R : RattleType) (d : Shown R.Denot) where
     abbrev a : ℕ
@@ -222,9 +224,13 @@ module _ {M : Type 1} {𝓤 : Ura M} (𝓛 : Logic 𝓤) where
     abbrev S : Lft → Fml
     S = shown_at R d
 
+    -- what a look that finds the value is lent: the pocket with a loan in it, and the value for the lifetime of its own
+    abbrev pub Loaned : GName → Fml
+    Loaned δ = fsep (fex ℕ (filled_pocket a δ)) (S (a ∷ []))
+
     abbrev pub looked_case : GName → ℕ → Bool → Fml
-    looked_case δ n true = fsep (known (n ≡ 1)) (fsep (fex ℕ (filled_pocket a δ)) (S (a ∷ [])))
-    looked_case δ n false = fsep (known (n ≢ 1)) (fobs δ (gnum 0))
+    looked_case δ n true = fsep (known (n ≡ 1)) (Loaned δ)
+    looked_case δ n false = fsep (known (n ≢ 1)) (fobs δ no_loan)
 
     abbrev pub Looked : GName → ℕ → Fml
     Looked δ n = fex Bool (looked_case δ n)
@@ -243,35 +249,41 @@ module _ {M : Type 1} {𝓤 : Ura M} (𝓛 : Logic 𝓤) where
 
       module _ (γ : ℕ) (r : Share) (δ : GName) where
         -- the pocket with this loan in it is a pocket again
-        way : (m : ℕ) → A.obs δ (gnum (suc m)) ⊢ ⟦ fwand (fsep (fdead (γ ∷ [])) (fseps (flft (a ∷ []) (loan_share m)
-            ∷ []))) (fupd (pocket a δ)) ⟧
+        way : (m : ℕ) → A.obs δ (nth_loan a m) ⊢ ⟦ fwand (fsep (fdead (γ ∷ [])) (fseps (flft (a ∷ []) (loan_share m)
+            ∷ []))) (fupd (pocket δ)) ⟧
         unfolding fseps
-        way m = qed 𝓛 (‵ (fobs δ (gnum (suc m))) ∷ []) ∵ assume ! (‵ (fsep (fdead (γ ∷ [])) (fsep (flft (a ∷ [])
-            (loan_share m)) ftrue))) $ suffices ! ⟦ pocket a δ ⟧ (upd_i 𝓤 ⟦ pocket a δ ⟧) $
-            fsplit3 ! $ move ! (3 ∷ 1 ∷ []) $ fjoin ! $ fpack ! ℕ (filled_pocket a δ) m $
-            fpack ! Bool (pocket_case a δ) false $ keep ! (0 ∷ []) $ done !
+        way m = qed 𝓛 (‵ (fobs δ (nth_loan a m)) ∷ []) ∵ assume ! (‵ (fsep (fdead (γ ∷ [])) (fsep (flft (a ∷ [])
+            (loan_share m)) ftrue))) $ suffices ! ⟦ pocket δ ⟧ (upd_i 𝓤 ⟦ pocket δ ⟧) $
+            fsplit3 ! $ move ! (3 ∷ 1 ∷ []) $ fjoin ! $ fpack ! (ℕ × ℕ) (pocket_with δ) (a, m) $
+            fpack ! Bool (pocket_case δ) false $ keep ! (0 ∷ []) $ done !
 
-        -- a pocket is closed with the loan in it, or with nothing
-        settled : (n : ℕ) (y : Bool)
-            → A.obor (γ ∷ []) r (pocket a δ) ∗ ⟦ looked_case δ n y ⟧ ⊢ H.⇛ (A.lft (γ ∷ []) r ∗ ⟦ Got γ n ⟧)
+        -- a pocket is closed with the loan in it
+        pub fills : A.obor (γ ∷ []) r (pocket δ) ∗ ⟦ Loaned δ ⟧ ⊢ H.⇛ (A.lft (γ ∷ []) r ∗ ⟦ S (γ ∷ []) ⟧)
         unfolding fseps
-        settled n true = qed 𝓛 (‵ (fobor (γ ∷ []) r (pocket a δ)) ∷ ‵ (looked_case δ n true) ∷ []) ∵ updating ! $
-            move ! (1 ∷ []) $ fsplit3 ! $ move ! (1 ∷ []) $ fpick ! (λ m. fsplit ! $
-            use1 𝓛 (‵ (fwand (fsep (fdead (γ ∷ [])) (fseps (flft (a ∷ []) (loan_share m) ∷ []))) (fupd (pocket a
-            δ)))) (way m) $ nothing ! $ move ! (2 ∷ 0 ∷ []) $ fjoin ! $ move ! (4 ∷ 0 ∷ 1 ∷ []) $
+        fills = qed 𝓛 (‵ (fobor (γ ∷ []) r (pocket δ)) ∷ ‵ (Loaned δ) ∷ []) ∵ updating ! $
+            move ! (1 ∷ []) $ fsplit ! $ fpick ! (λ m. fsplit ! $
+            use1 𝓛 (‵ (fwand (fsep (fdead (γ ∷ [])) (fseps (flft (a ∷ []) (loan_share m) ∷ []))) (fupd (pocket
+            δ)))) (way m) $ nothing ! $ move ! (2 ∷ 0 ∷ []) $ fjoin ! $ move ! (3 ∷ 0 ∷ 1 ∷ []) $
             obor_alter ! tt (flft (a ∷ []) (loan_share m) ∷ []) $
             use1 𝓛 (‵ (fbor (γ ∷ []) (flft (a ∷ []) (loan_share m))) ⊛ ‵ ftrue) (id⊢ 𝓤 _) $ split ! $
             bor_fracture ! tt (λ q. flft (a ∷ []) q) (loan_share m) $
-            move ! (0 ∷ 4 ∷ []) $ use2 𝓛 (‵ (S (γ ∷ []))) (moves_from 𝓛 S SL (γ ∷ []) (a ∷ []) (a ∷ []) (meet_⊑_left
-            (a ∷ []) (γ ∷ []))) $ move ! (3 ∷ 0 ∷ []) $ fjoin ! $ fpack ! Bool (got_case γ n) true $ now ! $
-            keep ! (2 ∷ 0 ∷ []) $ done !)
-        settled n false = qed 𝓛 (‵ (fobor (γ ∷ []) r (pocket a δ)) ∷ ‵ (looked_case δ n false) ∷ []) ∵ updating ! $
-            move ! (1 ∷ []) $ fsplit ! $ move ! (1 ∷ []) $ fpack ! Bool (pocket_case a δ) true $ move ! (2 ∷ 0 ∷ []) $
-            obor_close ! tt $ move ! (2 ∷ []) $ fpack ! Bool (got_case γ n) false $ now ! $ keep ! (2 ∷ 0 ∷ []) $ done !
+            move ! (0 ∷ 3 ∷ []) $ use2 𝓛 (‵ (S (γ ∷ []))) (moves_from 𝓛 S SL (γ ∷ []) (a ∷ []) (a ∷ []) (meet_⊑_left
+            (a ∷ []) (γ ∷ []))) $ now ! $ keep ! (2 ∷ 0 ∷ []) $ done !)
 
         -- after the look the pocket is closed, with what it found
-        pub settles : (n : ℕ) → A.obor (γ ∷ []) r (pocket a δ) ∗ ⟦ Looked δ n ⟧ ⊢ H.⇛ (A.lft (γ ∷ []) r ∗ ⟦ Got γ n ⟧)
-        settles n = qed 𝓛 (‵ (fobor (γ ∷ []) r (pocket a δ)) ∷ ‵ (Looked δ n) ∷ []) ∵ move ! (1 ∷ []) $
+        settled : (n : ℕ) (y : Bool)
+            → A.obor (γ ∷ []) r (pocket δ) ∗ ⟦ looked_case δ n y ⟧ ⊢ H.⇛ (A.lft (γ ∷ []) r ∗ ⟦ Got γ n ⟧)
+        settled n true = qed 𝓛 (‵ (fobor (γ ∷ []) r (pocket δ)) ∷ ‵ (looked_case δ n true) ∷ []) ∵ updating ! $
+            move ! (1 ∷ []) $ fsplit ! $ move ! (2 ∷ 1 ∷ []) $
+            use2 𝓛 (later (‵ (flft (γ ∷ []) r) ⊛ ‵ (S (γ ∷ [])))) fills $ await ! tt $ split ! $
+            move ! (2 ∷ 1 ∷ []) $ fjoin ! $ fpack ! Bool (got_case γ n) true $ now ! $ keep ! (1 ∷ 0 ∷ []) $ done !
+        settled n false = qed 𝓛 (‵ (fobor (γ ∷ []) r (pocket δ)) ∷ ‵ (looked_case δ n false) ∷ []) ∵ updating ! $
+            move ! (1 ∷ []) $ fsplit ! $ move ! (2 ∷ 1 ∷ []) $
+            use2 𝓛 (later (‵ (flft (γ ∷ []) r))) (stays_empty γ r δ) $ await ! tt $
+            move ! (1 ∷ []) $ fpack ! Bool (got_case γ n) false $ now ! $ keep ! (1 ∷ 0 ∷ []) $ done !
+
+        pub settles : (n : ℕ) → A.obor (γ ∷ []) r (pocket δ) ∗ ⟦ Looked δ n ⟧ ⊢ H.⇛ (A.lft (γ ∷ []) r ∗ ⟦ Got γ n ⟧)
+        settles n = qed 𝓛 (‵ (fobor (γ ∷ []) r (pocket δ)) ∷ ‵ (Looked δ n) ∷ []) ∵ move ! (1 ∷ []) $
             fpick ! (λ y. move ! (1 ∷ 0 ∷ []) $ by ! (settled n y))
 
       -- ---- under the word's invariant
@@ -304,9 +316,9 @@ module _ {M : Type 1} {𝓤 : Ura M} (𝓛 : Logic 𝓤) where
           lent_now = record { atom = γ; epoch = epoch; log = η; pocket_name = δ }
 
           -- a look that finds 1 leaves its loan with the word, and any other leaves all as it is
-          seen : (n : ℕ) → ⟦ Waiting n ⟧ ∗ ⟦ Offer a γ epoch η r δ ⟧ ⊢ upd 𝓤 (⟦ Waiting n ⟧ ∗ ⟦ Looked δ n ⟧)
+          seen : (n : ℕ) → ⟦ Waiting n ⟧ ∗ ⟦ Offer γ epoch η r δ ⟧ ⊢ upd 𝓤 (⟦ Waiting n ⟧ ∗ ⟦ Looked δ n ⟧)
           seen n = let Goal : Pr = ⟦ Waiting n ⟧ ∗ ⟦ Looked δ n ⟧ in dite (ℕ_discrete n 1)
-              (λ hit. qed 𝓛 (‵ (Waiting n) ∷ ‵ (Offer a γ epoch η r δ) ∷ []) ∵ use1 𝓛 (‵ (present R d)) (all_e 𝓤 (λ (_
+              (λ hit. qed 𝓛 (‵ (Waiting n) ∷ ‵ (Offer γ epoch η r δ) ∷ []) ∵ use1 𝓛 (‵ (present R d)) (all_e 𝓤 (λ (_
               : n
               ≡ 1). ⟦ present R d ⟧) hit) $ fpick ! (λ ls. fsplit3 ! $ move ! (2 ∷ []) $
               fpick ! (λ within. drop ! $ move ! (2 ∷ []) $ fsplit3 ! $ move ! (2 ∷ []) $ fsplit ! $
@@ -325,16 +337,16 @@ module _ {M : Type 1} {𝓤 : Ura M} (𝓛 : Logic 𝓤) where
               done !))
               $ frame ! $ move ! (1 ∷ []) $ fpack ! ℕ (filled_pocket a δ) (length ls) $ move ! (0 ∷ 1 ∷ []) $ fjoin ! $
               nothing ! $ fpack ! (n ≡ 1) (λ _. ftrue) hit $ fjoin ! $ fpack ! Bool (looked_case δ n) true $ done !)))
-              (λ miss. qed 𝓛 (‵ (Waiting n) ∷ ‵ (Offer a γ epoch η r δ) ∷ []) ∵ suffices ! Goal (upd_i 𝓤 Goal) $
+              (λ miss. qed 𝓛 (‵ (Waiting n) ∷ ‵ (Offer γ epoch η r δ) ∷ []) ∵ suffices ! Goal (upd_i 𝓤 Goal) $
               frame ! $
               fsplit3 ! $ keep ! (1 ∷ []) $ nothing ! $ fpack ! (n ≢ 1) (λ _. ftrue) miss $ fjoin ! $
               fpack ! Bool (looked_case δ n) false $ done !)
 
           -- one plain load looks at the value
-          pub looks : A.inv (fbor α Memory) ∗ (A.lft α q ∗ ⟦ Offer a γ epoch η r δ ⟧) ⊢ asks 𝓛 (block_ptr b (o + 0))
+          pub looks : A.inv (fbor α Memory) ∗ (A.lft α q ∗ ⟦ Offer γ epoch η r δ ⟧) ⊢ asks 𝓛 (block_ptr b (o + 0))
               (λ n.
               n) always (λ n. fsep (flft α q) (Looked δ n))
-          looks = stepped (λ n. n) (Looked δ) (Offer a γ epoch η r δ) seen
+          looks = stepped (λ n. n) (Looked δ) (Offer γ epoch η r δ) seen
 
         -- a mark that finds 1 takes everything out, and any other leaves all as it is
         marks : (n : ℕ) → ⟦ Waiting n ⟧ ∗ ⟦ ftrue ⟧ ⊢ upd 𝓤 (⟦ Waiting (either (eqb n 1) 2 n) ⟧ ∗ ⟦ Waiting n ⟧)
@@ -364,7 +376,7 @@ module _ {M : Type 1} {𝓤 : Ura M} (𝓛 : Logic 𝓤) where
       -- what a glance has
       module _ (γ : ℕ) (κ : Lft) (n : ℕ) where
         abbrev pub Gain : ℕ → Pr
-        Gain k = guard 𝓤 (Gained n k) ⟦ glance_owns κ R d.at d.value k ⟧
+        Gain k = guard 𝓤 (Gained n k) ⟦ glance_owns κ R d.at (Some d.value) k ⟧
 
         -- a glance has the right to read where the word was 1, and else nothing
         gain : (y : Bool) → ⟦ got_case γ n y ⟧ ∗ ⟦ before κ (γ ∷ []) ⟧ ⊢ ex 𝓤 Gain

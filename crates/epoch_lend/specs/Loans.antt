@@ -1,10 +1,11 @@
 -- What the word of a value holds while it is present: the token of the value's lifetime a, less what was lent to
 -- guards, and the loans.
 use Rattle.std.specs.Prelude.{◌≡◌, ◌≢◌, ℕ, zero, suc, ◌+◌, ◌*◌, eqb, leb, not, ◌&&◌, ◌||◌, List, [], ◌∷◌, length}
+use Rattle.std.specs.Prelude.{Option, Some, None}
 use mathlib.Core.Bool.{Bool, true, false}
 use base.Share
 use base.Fraction.{full_share}
-use base.Stored.{Coded, coded×, coded_ℕ, coded_list, coded_via, gnum}
+use base.Stored.{Coded, coded×, coded_ℕ, coded_list, coded_via, Gv, gnum, gcons}
 use base.Fml.{Lft, GName, Share, Fml, ftrue, ffalse, fsep, fex, fall, flft, fdead, fobs, fauth, fbor, flent}
 use denote.RattleType.{RattleType}
 use denote.RawPtr.{Ptr, block_ptr, null_ptr, coded_ptr}
@@ -21,17 +22,27 @@ left_after (suc n) = Share.right (left_after n)
 abbrev pub loan_share : ℕ → Share
 loan_share n = Share.left (left_after n)
 
--- What a guard borrows for its own lifetime before it looks: nothing yet, or the n-th loan of the token. The name δ
--- says which.
+-- which loan a pocket has: none yet, or the n-th of the token of a
+abbrev pub no_loan : Gv
+no_loan = gcons (gnum 0) (gnum 0)
+
+abbrev pub nth_loan : ℕ → ℕ → Gv
+nth_loan a n = gcons (gnum (suc n)) (gnum a)
+
+-- What a guard borrows for its own lifetime before it looks: nothing yet, or a loan of the value that it finds. The
+-- name δ says which.
 abbrev pub filled_pocket : ℕ → GName → ℕ → Fml
-filled_pocket a δ n = fsep (fobs δ (gnum (suc n))) (flft (a ∷ []) (loan_share n))
+filled_pocket a δ n = fsep (fobs δ (nth_loan a n)) (flft (a ∷ []) (loan_share n))
 
-abbrev pub pocket_case : ℕ → GName → Bool → Fml
-pocket_case a δ true = fobs δ (gnum 0)
-pocket_case a δ false = fex ℕ (filled_pocket a δ)
+abbrev pub pocket_with : GName → ℕ × ℕ → Fml
+pocket_with δ l = filled_pocket l.0 δ l.1
 
-abbrev pub pocket : ℕ → GName → Fml
-pocket a δ = fex Bool (pocket_case a δ)
+abbrev pub pocket_case : GName → Bool → Fml
+pocket_case δ true = fobs δ no_loan
+pocket_case δ false = fex (ℕ × ℕ) (pocket_with δ)
+
+abbrev pub pocket : GName → Fml
+pocket δ = fex Bool (pocket_case δ)
 
 -- a loan: the atom of the guard's lifetime, its epoch, the log of its post, and the name of its pocket
 pub record Loan : Type 0 where
@@ -57,7 +68,7 @@ loan_coded = coded_via (coded× coded_ℕ (coded× coded_ℕ (coded× coded_ℕ 
 
 -- the n-th loan: once the guard's lifetime is over the pocket comes back, and it holds the n-th share
 abbrev pub loan : ℕ → ℕ → Loan → Fml
-loan a n l = fsep (flent (l.atom ∷ []) (pocket a l.pocket_name)) (fsep (fauth l.pocket_name (gnum (suc n)))
+loan a n l = fsep (flent (l.atom ∷ []) (pocket l.pocket_name)) (fsep (fauth l.pocket_name (nth_loan a n))
     (entered (l.atom, l.epoch) l.log))
 
 abbrev pub loans : ℕ → List Loan → Fml
@@ -172,10 +183,14 @@ module _ (R : RattleType) (d : Shown R.Denot) where
   lending_shares (block_ptr b o) = some Lft (λ α. beside (ends α) (always (fbor α (lending b o))))
   lending_shares null_ptr = said ffalse
 
--- the right that a look gained: none, or to see the value for β
-abbrev pub glance_owns : Lft → (R : RattleType) → Ptr → R.Denot → ℕ → Fml
-glance_owns β R p x zero = ftrue
-glance_owns β R p x (suc k) = lent_at R p x β
+-- the right that a look gained: none, or to see the value that it found for β
+abbrev pub sees : Lft → (R : RattleType) → Ptr → Option R.Denot → Fml
+sees β R p (Some x) = lent_at R p x β
+sees β R p None = ffalse
+
+abbrev pub glance_owns : Lft → (R : RattleType) → Ptr → Option R.Denot → ℕ → Fml
+glance_owns β R p v zero = ftrue
+glance_owns β R p v (suc k) = sees β R p v
 
 -- what a mark took out, with what was seen of its loans since
 abbrev pub marked_owns : (R : RattleType) → Ptr → R.Denot → ℕ → ℕ → List Loan → List SeenPost → Fml

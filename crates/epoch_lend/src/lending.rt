@@ -1,5 +1,6 @@
 //! The word of a value that is read under guards.
-ghost use Rattle.std.specs.Prelude.{◌≡◌, ◌≢◌, ℕ, ◌^◌, List, [], ◌∷◌};
+ghost use Rattle.std.specs.Prelude.{◌≡◌, ◌≢◌, ℕ, ◌^◌, List, [], ◌∷◌, Option, Some};
+ghost use Rattle.std.specs.Coded.{coded_option};
 ghost use base.Stored.{coded_list, coded×, coded_ℕ};
 ghost use Rattle.epoch_lend.specs.Posts.{IsAmong, logs_of};
 ghost use Rattle.epoch_lend.specs.Loans.{Shown, shown_coded, lending_owns, lending_shares, glance_owns};
@@ -42,7 +43,7 @@ pub struct Glance<'g, T> {
     pub at: *const T,
     pub marker: PhantomData<&'g T>,
     pub ghost right: { ℕ },
-    pub ghost value: { T },
+    pub ghost value: { Option T } by { coded_option T.code },
 }
 
 impl<'g, T> Model for Glance<'g, T> {
@@ -85,7 +86,7 @@ impl<T> Lending<T> {
     pub fn look<'g>(&self, guard: &'g Guard, at: *const T) -> (u64, Glance<'g, T>)
         requires { (at ≡ self.now.at) × IsAmong guard.now.log self.now.posts }
         ensures { (result.0 ≡ PRESENT → result.1.right ≡ 1) × (result.0 ≢ PRESENT → result.1.right ≡ 0)
-            × (result.1.value ≡ self.now.value) }
+            × (result.1.value ≡ Some self.now.value) }
     {
         let _ = guard;
         let found = unsafe { raw::load::<Brand>(&raw const self.word, SeqCst) };
@@ -114,7 +115,7 @@ impl<'g, T> Glance<'g, T> {
     /// Returns the value, for a glance that gained it.
     pub fn get(self) -> &'g T
         requires { self.right ≡ 1 }
-        ensures { result.now ≡ self.entry.value }
+        ensures { Some result.now ≡ self.entry.value }
     {
         let Glance { at, marker: _ } = self;
         unsafe { &*at }

@@ -73,7 +73,7 @@ impl<J: PostSet, T> LendingCells<J, T> {
         self.last_turn
     }
 
-    /// Lends the value that is shown at this spot, by two plain loads, for as long as the reference to the pinned
+    /// Lends the value that is shown at this spot, by one plain load, for as long as the reference to the pinned
     /// reader lasts, with the name that shows that it was placed there. `None`: no value was placed there yet, or it
     /// was marked, or there is no such slot.
     pub fn look<'g>(&self, spot: Spot, pinned: &'g Pinned<'_, J>) -> Option<Sight<'g, T>>

@@ -80,7 +80,7 @@ impl<J: PostSet, T: Drop> Slot<J, T> {
 }
 
 impl<J: PostSet, T> Slot<J, T> {
-    /// Lends the value of this turn, by two plain loads, for as long as the reference to the pinned reader lasts.
+    /// Lends the value of this turn, by one plain load, for as long as the reference to the pinned reader lasts.
     /// `None`: the cell has none, since none was placed at this turn yet, or it was marked.
     pub fn look<'g>(&self, turn: u64, pinned: &'g Pinned<'_, J>) -> Option<Sight<'g, T>>
         ensures { IfSome result (λ sight. (sight.name.log ≡ self.now.turns.log) × (sight.name.turn ≡ turn)) }

@@ -13,7 +13,7 @@ use denote.Struct.Struct.{Struct}
 use denote.Struct.Owning.{shape}
 use Rattle.core.proofs.mem.Param.{El, Good, elτ}
 use Rattle.std_alloc.proofs.ResultValues.{and_tt}
-use Rattle.epoch_lend.proofs.Fields.{word}
+use Rattle.epoch_lend.proofs.Fields.{word, hand_of}
 use Rattle.epoch_lend_cells.specs.contracts.turns.Place as place
 use Rattle.epoch_lend_cells.specs.contracts.turns.Claim as claim
 use Rattle.epoch_lend_cells.specs.contracts.turns.Filled as filled
@@ -182,6 +182,20 @@ three_typed null_ptr n f = (
       ),
     ),
   ),
+)
+
+-- what a look answers is of its type
+pub looked_typed : (p : Ptr) (n t : ℕ) → n < 2 ^ 64 → t < 2 ^ 64
+    → T (has_ty (ty_struct [] (tcons (ty_int w64) (tcons (ty_struct [] (tcons (ty_int w64) (tcons (ty_struct [] tnil)
+    tnil))) (tcons (ty_struct [] (tcons ty_ptr (tcons (ty_struct [] tnil) tnil))) tnil)))) (three_of n (name_val t)
+    (hand_of p))) × WT (three_of n (name_val t) (hand_of p))
+looked_typed (block_ptr b o) n t f g = (
+  tt,
+  (record { fits = f }, ((record { fits = g }, (tt, tt)), ((tt, (tt, tt)), tt))),
+)
+looked_typed null_ptr n t f g = (
+  tt,
+  (record { fits = f }, ((record { fits = g }, (tt, tt)), ((record { fits = lit< tt }, (tt, tt)), tt))),
 )
 
 -- a new word is 0

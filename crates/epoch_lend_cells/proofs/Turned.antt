@@ -2,11 +2,10 @@
 use Rattle.std.proofs.Common.{◌≡◌, ◌≢◌, ℕ, suc, ◌+◌, ◌*◌, List, [], ◌∷◌, ◌++◌, sym, refl, ap, ◌∙◌, subst, length}
 use Rattle.std.proofs.Common.{eqb, eq-eqb, ne_eqb}
 use Rattle.std.proofs.lemmas.List.{length-append}
-use Rattle.std.proofs.lemmas.Bool.{and_from}
 use native.Mathlib.Omega.{arith}
 use native.Mathlib.Decide.{ℕ_discrete}
 use mathlib.Core.Logic.{dite}
-use mathlib.Core.Bool.{Bool, true, false}
+use mathlib.Core.Bool.{Bool}
 use mathlib.Core.List.{IsPrefix}
 use seplogic.Ra.Ura.{Ura}
 use prog.Atomic.{either}
@@ -14,23 +13,20 @@ use base.Fraction.{full_share}
 use base.Stored.{gnum, num}
 use base.Growing.{latest, at_least}
 use base.Logic.{SProp, ent, sep, ex, all_e, guard, upd, upd_i, emp}
-use base.Fml.{Lft, GName, Share, Fml, ftrue, fsep, fex, fall, flft, fobs, fauth, fbor, flent}
+use base.Fml.{Lft, Share, Fml, ftrue, fsep, fex, fall, flft, fobs, fauth, fbor, flent}
 use types.Logic.{Logic, sem}
-use types.Kit.{‵, raw, ◌⊛◌, given, ◌$◌, ◌∵◌, !, qed, by, move, keep, drop, split, split3, fsplit, fsplit3, fjoin}
+use types.Kit.{‵, raw, ◌⊛◌, given, ◌$◌, ◌∵◌, !, qed, by, move, keep, drop, split, fsplit, fsplit3, fjoin}
 use types.Kit.{fjoin3}
-use types.Kit.{fpick, fpack, learn, show, frame, each, assume, suffices, settle, use0, use1, use2, use3, rewrite, done}
+use types.Kit.{fpick, fpack, learn, show, frame, each, assume, suffices, settle, use0, use1, use2, rewrite, done}
 use types.Growing.{latest_grows, latest_shows, latest_bounds, at_least_dup}
-use denote.RattleType.{RattleType, RowLaws}
+use denote.RattleType.{RattleType}
 use denote.RawPtr.{block_ptr, lies_at}
-use denote.SharingLaws.{contraction}
 use denote.Steps.{nothing}
 use denote.Struct.Lending.{lent_at}
 use Rattle.core.specs.Sync.RawAtomic.{asks, always, word}
 use Rattle.core.proofs.raw_atomic.Asked.{borrowed, Lies, Again}
-use Rattle.epoch_lend.specs.Posts.{known, is_among, IsAmong}
-use Rattle.epoch_lend.specs.Loans.{Loan, filled_pocket, stock, Shown, are_within, Within, marked_owns}
-use Rattle.epoch_lend.proofs.Loans.{lends}
-use Rattle.epoch_lend.proofs.Reading as reading
+use Rattle.epoch_lend.specs.Posts.{known}
+use Rattle.epoch_lend.specs.Loans.{Loan, stock, Within, marked_owns}
 use Rattle.epoch_lend_cells.specs.Turning.{TurnNames, TurnStage, vacant, claimed, shown, removed, turn_word, TurnOf}
 use Rattle.epoch_lend_cells.specs.Turning.{turn_logs, turn_in, turn_is, claim_has, claim_of, vacancy_of, log_of}
 use Rattle.epoch_lend_cells.specs.Turning.{lent_with, lent_of, shown_with, turn_holds, at_turn}
@@ -207,7 +203,7 @@ module _ {M : Type 1} {𝓤 : Ura M} (𝓛 : Logic 𝓤) (R : RattleType) (d : T
         move ! (0 ∷ 2 ∷ []) $ fjoin ! $ move ! (2 ∷ 1 ∷ 3 ∷ []) $ fjoin3 ! $ by ! (shows_claimed n (sym (ap num same))
         s)))
 
-  -- ---- what is shown at a turn, for who knows the value of a turn
+  -- ---- a mark, by who knows the value of its turn
   module _ (t : ℕ) (e : E) where
     abbrev w : ℕ
     w = 4 * t + 2
@@ -237,11 +233,6 @@ module _ {M : Type 1} {𝓤 : Ura M} (𝓛 : Logic 𝓤) (R : RattleType) (d : T
         fpack ! (length now.0 ≡ t) (λ _. ftrue) long $ move ! (2 ∷ 0 ∷ 1 ∷ []) $ fjoin3 ! $
         fpack ! (List E) Open now.0 $ done !)))))
 
-    -- what was opened is closed again
-    closes : (es : List E) → ⟦ Open es ⟧ ⊢ ⟦ fex (List E × E) Held ⟧
-    closes es = qed 𝓛 (‵ (Open es) ∷ []) ∵ fpack ! (List E × E) Held (es, e) $ done !
-
-    -- ---- a mark
     abbrev pub Out : Fml
     Out = fsep (fobs δ (gnum (4 * t + 3))) (lent_of R d e)
 
@@ -275,91 +266,6 @@ module _ {M : Type 1} {𝓤 : Ura M} (𝓛 : Logic 𝓤) (R : RattleType) (d : T
         dite (ℕ_discrete n w)
         (λ hit. subst F (sym (eq-eqb n w hit)) (marks_hit n hit))
         (λ miss. subst F (sym (ne_eqb n w miss)) (marks_miss n miss))
-
-    -- ---- a look
-    abbrev pub flag : ℕ → ℕ
-    flag n = either (eqb n w) 1 0
-
-    pub flag_hit : (n : ℕ) → n ≡ w → flag n ≡ 1
-    flag_hit n hit = ap (λ (y : Bool). either y 1 0) (eq-eqb n w hit)
-
-    pub flag_miss : (n : ℕ) → n ≢ w → flag n ≢ 1
-    flag_miss n miss one = absurd (omega (arith, sym (ap (λ (y : Bool). either y 1 0) (ne_eqb n w miss)) ∙ one))
-
-    -- the value as a look sees it
-    abbrev pub Seen : Shown R.Denot
-    Seen = record { at = d.at; value = e.0; lifetime = e.1; posts = d.posts }
-
-    module _ (L : RowLaws R) (γ epoch η : ℕ) (of : IsAmong η d.posts) (r : Share) (pocket : GName) where
-      abbrev lent_now : Loan
-      lent_now = record { atom = γ; epoch = epoch; log = η; pocket_name = pocket }
-
-      abbrev pub Asks : Fml
-      Asks = fsep Known (reading.Offer 𝓛 e.1 γ epoch η r pocket)
-
-      abbrev pub Looked : ℕ → Fml
-      Looked k = reading.Looked 𝓛 R Seen pocket k
-
-      -- the loan is left with the word, and the value is lent
-      lends_it : (n : ℕ) (es : List E) (ls : List Loan) → Within d.posts ls
-          → ⟦ fsep (stock e.1 ls) (fsep (lent_at R d.at e.0 (e.1 ∷ [])) (flent (e.1 ∷ []) (lies_at R full_share d.at
-          e.0))) ⟧ ∗
-          ⟦ reading.Offer 𝓛 e.1 γ epoch η r pocket ⟧ ⊢ upd 𝓤 (⟦ lent_of R d e ⟧ ∗ ⟦ Looked 1 ⟧)
-      lends_it n es ls within = let Goal : Pr = ⟦ lent_of R d e ⟧ ∗ ⟦ Looked 1 ⟧ in
-          qed 𝓛 (‵ (fsep (stock e.1 ls) (fsep (lent_at R d.at e.0 (e.1 ∷ [])) (flent (e.1 ∷ []) (lies_at R full_share
-          d.at
-          e.0)))) ∷ ‵ (reading.Offer 𝓛 e.1 γ epoch η r pocket) ∷ []) ∵ fsplit3 ! $ move ! (3 ∷ []) $ fsplit3 ! $ move
-          ! (2 ∷ []) $
-          fsplit ! $
-          -- [auth; entered; the lender's right; obs; stock; shown; the value afterwards]
-          move ! (4 ∷ 2 ∷ 3 ∷ 0 ∷ 1 ∷ []) $ types.Kit.group ! 5 $
-          use1 𝓛 (raw (upd 𝓤 (⟦ stock e.1 (lent_now ∷ ls) ⟧ ∗ ⟦ filled_pocket e.1 pocket (length ls) ⟧))) (lends 𝓛 e.1
-          ls
-          lent_now) $
-          settle 𝓛 Goal (‵ (stock e.1 (lent_now ∷ ls)) ⊛ ‵ (filled_pocket e.1 pocket (length ls))) $ split ! $
-          suffices ! Goal (upd_i 𝓤 Goal) $ move ! (2 ∷ []) $
-          use1 𝓛 (‵ (lent_at R d.at e.0 (e.1 ∷ [])) ⊛ ‵ (lent_at R d.at e.0 (e.1 ∷ []))) (contraction 𝓛 (lent_at R
-          d.at e.0)
-          (denote.Struct.Lending.lent_at_shr_laws R L d.at e.0) (e.1 ∷ [])) $ split ! $
-          nothing ! $ fpack ! (Within d.posts (lent_now ∷ ls)) (λ _. ftrue) (and_from (is_among η d.posts) (are_within
-          d.posts ls) of within) $
-          -- [within; shown; shown; stock; the pocket; the value afterwards]
-          move ! (3 ∷ 1 ∷ 0 ∷ []) $ fjoin3 ! $ move ! (0 ∷ 3 ∷ []) $ fjoin ! $
-          fpack ! (List Loan) (lent_with R d e) (lent_now ∷ ls) $ frame ! $
-          move ! (1 ∷ []) $ fpack ! ℕ (filled_pocket e.1 pocket) (length ls) $ fjoin ! $
-          nothing ! $ fpack ! (1 ≡ 1) (λ _. ftrue) refl $ fjoin ! $
-          fpack ! Bool (reading.looked_case 𝓛 R Seen pocket 1) true $ done !
-
-      -- a look that finds the value shown is lent it
-      sees_hit : (n : ℕ) → n ≡ w → ⟦ W n ⟧ ∗ ⟦ Asks ⟧ ⊢ upd 𝓤 (⟦ W n ⟧ ∗ ⟦ Looked 1 ⟧)
-      sees_hit n hit = let Goal : Pr = ⟦ W n ⟧ ∗ ⟦ Looked 1 ⟧ in
-          let O : Fml = reading.Offer 𝓛 e.1 γ epoch η r pocket in
-          qed 𝓛 (‵ (W n) ∷ ‵ Asks ∷ []) ∵ fpick ! (λ s. fsplit3 ! $ fpick ! (λ is. drop ! $ move ! (1 ∷ []) $
-          rewrite ! 0 (λ (z : TurnStage). ‵ (turn_holds R d z)) (is_shown s t (sym is ∙ hit)) refl $ fsplit ! $
-          move ! (3 ∷ []) $ fsplit ! $ move ! (3 ∷ 0 ∷ []) $ use2 𝓛 (‵ (fex (List E) Open)) opens $ fpick ! (λ es.
-          fsplit3 ! $
-          -- [latest; length; what was lent; the offer; obs; auth]
-          move ! (2 ∷ []) $ fpick ! (λ ls. fsplit ! $ fsplit3 ! $ move ! (2 ∷ []) $ fpick ! (λ within. drop ! $
-          fjoin3 ! $ move ! (0 ∷ 3 ∷ []) $
-          use2 𝓛 (raw (upd 𝓤 (⟦ lent_of R d e ⟧ ∗ ⟦ Looked 1 ⟧))) (lends_it n es ls within) $
-          settle 𝓛 Goal (‵ (lent_of R d e) ⊛ ‵ (Looked 1)) $ split ! $ suffices ! Goal (upd_i 𝓤 Goal) $
-          -- [what was lent; what was seen; latest; length; obs; auth]
-          move ! (2 ∷ 3 ∷ 0 ∷ []) $ fjoin3 ! $ use1 𝓛 (‵ (fex (List E × E) Held)) (closes es) $ move ! (2 ∷ 0 ∷ []) $
-          fjoin ! $ move ! (2 ∷ 0 ∷ []) $ fjoin ! $ nothing ! $ fpack ! (n ≡ turn_word (shown t)) (λ _. ftrue) hit $
-          fjoin ! $ fpack ! TurnStage (at_turn R d n) (shown t) $ frame ! $ done !)))))
-
-      -- any other look is lent nothing
-      sees_miss : (n : ℕ) → ⟦ W n ⟧ ∗ ⟦ Asks ⟧ ⊢ upd 𝓤 (⟦ W n ⟧ ∗ ⟦ Looked 0 ⟧)
-      sees_miss n = let Goal : Pr = ⟦ W n ⟧ ∗ ⟦ Looked 0 ⟧ in
-          qed 𝓛 (‵ (W n) ∷ ‵ Asks ∷ []) ∵ suffices ! Goal (upd_i 𝓤 Goal) $ frame ! $ fsplit ! $ drop ! $ fsplit3 ! $
-          keep ! (1 ∷ []) $ nothing ! $ fpack ! (0 ≢ 1) (λ _. ftrue) (λ same. absurd (omega (arith, same))) $ fjoin ! $
-          fpack ! Bool (reading.looked_case 𝓛 R Seen pocket 0) false $ done !
-
-      sees : (n : ℕ) → ⟦ W n ⟧ ∗ ⟦ Asks ⟧ ⊢ upd 𝓤 (⟦ W n ⟧ ∗ ⟦ Looked (flag n) ⟧)
-      sees n = let F : Bool → Type 1 = λ y. ⟦ W n ⟧ ∗ ⟦ Asks ⟧ ⊢ upd 𝓤 (⟦ W n ⟧ ∗ ⟦ Looked (either y 1 0) ⟧) in
-          dite (ℕ_discrete n w)
-          (λ hit. subst F (sym (eq-eqb n w hit)) (sees_hit n hit))
-          (λ miss. subst F (sym (ne_eqb n w miss)) (sees_miss n))
 
   -- ---- a place is vacant again, at the next turn
   module _ (t : ℕ) where
@@ -424,15 +330,6 @@ module _ {M : Type 1} {𝓤 : Ura M} (𝓛 : Logic 𝓤) (R : RattleType) (d : T
     pub releases_it : (t : ℕ) → A.inv (fbor α Memory) ∗ (A.lft α q ∗ ⟦ Removed t ⟧) ⊢ asks 𝓛 (block_ptr b (o + 0)) (λ _.
         4 * suc t) always (λ n. fsep (flft α q) ftrue)
     releases_it t = stepped (λ _. 4 * suc t) (λ _. ftrue) (Removed t) (releases t)
-
-    -- one plain load looks at the value
-    pub sees_it : (t : ℕ) (e : E) (L : RowLaws R) (γ epoch η : ℕ) (of : IsAmong η d.posts) (r : Share) (pocket : GName)
-        → A.inv (fbor α Memory) ∗ (A.lft α q ∗ ⟦ Asks t e L γ epoch η of r pocket ⟧) ⊢ asks 𝓛 (block_ptr b (o + 0)) (λ
-        n. n)
-        always (λ n. fsep (flft α q) (Looked t e L γ epoch η of r pocket (flag t e n)))
-    sees_it t e L γ epoch η of r pocket = stepped (λ n. n) (λ n. Looked t e L γ epoch η of r pocket (flag t e n))
-        (Asks t e L γ
-        epoch η of r pocket) (sees t e L γ epoch η of r pocket)
 
   -- ---- what an exchange gained
   abbrev pub Gains : ℕ → ℕ → ℕ → Type 0

@@ -122,10 +122,12 @@ impl<'c, 'p, T> Placed<'c, 'p, T> {
         ensures { IfSome result (λ value. value.now ≡ self.now.name.value) }
     {
         let cell = self.cell;
-        let (found, glance) = cell.turns.look(&self.name, guard, cell.at, self.word);
+        let (found, which, glance) = cell.turns.look(self.turn, guard, cell.at, self.word);
         if found == self.word {
+            which.name().agree(&self.name);
             Some(glance.get())
         } else {
+            which.done();
             glance.done();
             None
         }

@@ -15,8 +15,8 @@ pub struct Sight<'g, T> {
 }
 
 impl<T> Turns<T> {
-    /// Looks at the place, by two plain loads. If both find the word of a value that is shown at this turn, that value
-    /// is lent for as long as the guard is. `None`: no value is shown at this turn, as at each past [`GREATEST_TURN`].
+    /// Looks at the place, by one plain load. If it finds the word of a value that is shown at this turn, that value is
+    /// lent for as long as the guard is. `None`: no value is shown at this turn, as at each past [`GREATEST_TURN`].
     /// The guard must be of one of the place's posts.
     pub fn sight<'g>(&self, at: *const T, turn: u64, guard: &'g Guard) -> Option<Sight<'g, T>>
         requires { (at ≡ self.now.at) × IsAmong guard.now.log self.now.posts }
@@ -26,19 +26,14 @@ impl<T> Turns<T> {
             return None;
         }
         let shown = 4 * turn + 2;
-        let (first, which) = self.find(turn, shown);
-        if first != shown {
-            which.done();
-            return None;
-        }
-        let name = which.name();
-        let (second, glance) = self.look(&name, guard, at, shown);
-        if second == shown {
+        let (found, which, glance) = self.look(turn, guard, at, shown);
+        if found == shown {
             Some(Sight {
                 value: glance.get(),
-                name,
+                name: which.name(),
             })
         } else {
+            which.done();
             glance.done();
             None
         }
@@ -63,7 +58,7 @@ impl<T> Turns<T> {
 }
 
 impl<'p, T> LendingCell<'p, T> {
-    /// Looks at the cell, by two plain loads. A value that it has of this turn is lent for as long as the guard is.
+    /// Looks at the cell, by one plain load. A value that it has of this turn is lent for as long as the guard is.
     /// `None`: none was placed at this turn yet, or it was marked. The guard must be of one of the cell's posts.
     pub fn look<'g>(&self, turn: u64, guard: &'g Guard) -> Option<Sight<'g, T>>
         requires { IsAmong guard.now.log (logs_of self.now.posts.now) }

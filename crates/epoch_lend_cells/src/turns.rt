@@ -174,29 +174,33 @@ impl<T> Turns<T> {
         (found, which)
     }
 
-    /// Looks at the value, by one plain load. If it finds the word of the name's turn, the value of that turn may be
-    /// read for as long as the guard is lent. The guard must be of one of the place's posts.
+    /// Looks at the value, by one plain load. If it finds the word of a value shown at this turn, returns which value
+    /// that is, and the value may be read for as long as the guard is lent. The guard must be of one of the place's
+    /// posts.
     pub fn look<'g>(
         &self,
-        name: &Name<T>,
+        turn: u64,
         guard: &'g Guard,
         at: *const T,
         word: u64,
-    ) -> (u64, Glance<'g, T>)
-        requires { (at ≡ self.now.at) × (name.now.log ≡ self.now.log) × (word ≡ 4 * name.now.turn + 2)
-            × IsAmong guard.now.log self.now.posts }
-        ensures { (result.0 ≡ word → result.1.right ≡ 1) × (result.0 ≢ word → result.1.right ≡ 0)
-            × (result.1.value ≡ name.now.value) }
+    ) -> (u64, Found<T>, Glance<'g, T>)
+        requires { (at ≡ self.now.at) × (word ≡ 4 * turn + 2) × IsAmong guard.now.log self.now.posts }
+        ensures { (result.0 ≡ word → (result.1.right ≡ 1) × (result.2.right ≡ 1))
+            × (result.0 ≢ word → (result.1.right ≡ 0) × (result.2.right ≡ 0))
+            × (result.1.log ≡ self.now.log) × (result.1.turn ≡ turn) × (result.2.value ≡ result.1.value) }
     {
-        let _ = name;
         let _ = guard;
         let _ = word;
         let found = unsafe { raw::load::<Brand>(&raw const self.word, SeqCst) };
+        let which = Found {
+            turn,
+            marker: PhantomData,
+        };
         let glance = Glance {
             at,
             marker: PhantomData,
         };
-        (found, glance)
+        (found, which, glance)
     }
 
     /// Marks the value of the name's turn, by one exchange: no look finds it from then on, and guards that have found

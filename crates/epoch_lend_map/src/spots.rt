@@ -19,8 +19,6 @@ use std::sync::atomic::Ordering::SeqCst;
 pub struct LentSpots<'g, 'c, 's, J: PostSet, W> {
     pub(crate) buckets: &'g [Atomic<Node>],
     pub(crate) guard: &'g LendingGuard<'c, 's, J, Node, W>,
-    // The node that was read last.
-    pub(crate) last: Option<(Name, &'g Node)>,
 }
 
 // The pointer that a thread has for one of the program.
@@ -97,11 +95,6 @@ impl<'g, 'c, 's, J: PostSet, W> LentSpots<'g, 'c, 's, J, W> {
     // The node of this name, which is lent for as long as the guard is borrowed.
     #[inline(always)]
     fn node_of(&self, name: Name) -> Option<&'g Node> {
-        if let Some((last, node)) = self.last {
-            if last == name {
-                return Some(node);
-            }
-        }
         self.guard.get(Shared::named(name, self.guard.guard()))
     }
 
@@ -124,28 +117,27 @@ impl<'g, 'c, 's, J: PostSet, W> LentSpots<'g, 'c, 's, J, W> {
 
     // Answers the node's entry. `Absent`: it isn't lent.
     #[inline(always)]
-    fn read(&mut self, ptr: Ptr) -> Answer {
+    fn read(&self, ptr: Ptr) -> Answer {
         let Some(name) = ptr.name else {
             return Answer::Absent;
         };
-        match self.entry(name) {
-            Some(entry) => Answer::Value(entry),
+        match self.node_of(name) {
+            Some(node) => Answer::Value(node.entry),
             None => Answer::Absent,
         }
     }
 }
 
 impl<'g, 'c, 's, J: PostSet, W> MapSpots for LentSpots<'g, 'c, 's, J, W> {
+    type Node = &'g Node;
+
     #[inline(always)]
-    fn entry(&mut self, node: Name) -> Option<u64>
+    fn entry(&mut self, node: Name) -> Option<(u64, &'g Node)>
         ensures some { IfSome result (λ _. Unit {0}) }
         ensures none { result ≡ None → self.new ≡ self.old }
     {
-        match self.guard.get(Shared::named(node, self.guard.guard())) {
-            Some(lent) => {
-                self.last = Some((node, lent));
-                Some(lent.entry)
-            }
+        match self.node_of(node) {
+            Some(lent) => Some((lent.entry, lent)),
             None => None,
         }
     }
@@ -155,11 +147,10 @@ impl<'g, 'c, 's, J: PostSet, W> MapSpots for LentSpots<'g, 'c, 's, J, W> {
     fn leave(&mut self, _node: Name) {}
 
     #[inline(always)]
-    fn next(&mut self, node: Name) -> Option<Ptr>
+    fn next(&mut self, _node: Name, lent: &'g Node) -> Option<Ptr>
         ensures some { IfSome result (λ _. Unit {0}) }
         ensures none { result ≡ None → self.new ≡ self.old }
     {
-        let lent = self.node_of(node)?;
         Some(ptr_of(lent.next.load(SeqCst, self.guard.guard())))
     }
 }

@@ -38,7 +38,7 @@ impl<'c, 's, J: PostSet, T, W> LendingGuard<'c, 's, J, T, W> {
         &self.guard
     }
 
-    /// Lends the value that the pointer names, by two plain loads, for as long as this guard is borrowed.
+    /// Lends the value that the pointer names, by one plain load, for as long as this guard is borrowed.
     ///
     /// `None`: the pointer is null; or its value was retired, and each pin from before is over.
     #[inline(always)]

@@ -151,7 +151,7 @@ impl<J: PostSet, T> LentCells<J, T> {
         self.posts.len()
     }
 
-    /// Lends the value of this name, by two plain loads, for as long as the reference to the pinned reader lasts, with
+    /// Lends the value of this name, by one plain load, for as long as the reference to the pinned reader lasts, with
     /// a witness that it was placed under this name. `None`: none was placed there yet, or it was marked.
     #[inline(always)]
     pub fn look<'g>(&self, name: Name, pinned: &'g Pinned<'_, J>) -> Option<Sight<'g, T>>

@@ -79,14 +79,14 @@ fn stride<L: MapSpots>(
     ensures over { IfErr result
         (λ phase. ReadsOn L.does (deed_of 0) (Reading aim link node left) spots.old phase spots.new) }
 {
-    let Some(entry) = spots.entry(node) else {
+    let Some((entry, kept)) = spots.entry(node) else {
         return Err(Phase::Reading(aim, link, node, left));
     };
     if left == 0 || key_of(entry) >= key {
         return Err(Phase::Leaving(aim, link, node, entry, left));
     }
     spots.leave(node);
-    let Some(ptr) = spots.next(node) else {
+    let Some(ptr) = spots.next(node, kept) else {
         return Err(Phase::LoadingNext(aim, link, node, entry, left));
     };
     match node_at(ptr) {

@@ -16,18 +16,23 @@ use epoch_plan_threads::Spots;
 /// A walk makes three accesses at each node. They have calls of their own here, with names as they stand in registers:
 /// an access and an answer would be stored at each node, and loaded again in other pieces.
 pub trait MapSpots: Spots {
-    /// Reads the entry of this node. `None`: it can't be read, and nothing was done.
-    fn entry(&mut self, node: Name) -> Option<u64>
+    /// What a walk keeps of a node while it stands there, so that it finds the node's pointer.
+    type Node: Copy;
+
+    /// Reads the entry of this node, and returns it with what the walk keeps of the node. `None`: it can't be read, and
+    /// nothing was done.
+    fn entry(&mut self, node: Name) -> Option<(u64, Self::Node)>
         ensures some { IfSome result
-            (λ entry. Self.does self.old (Read (Some 0) (ptr_to node)) (Done (Value entry)) self.new) }
+            (λ read. Self.does self.old (Read (Some 0) (ptr_to node)) (Done (Value read.0)) self.new) }
         ensures none { result ≡ None → self.new ≡ self.old };
 
     /// Leaves this node, whose entry was read.
     fn leave(&mut self, node: Name)
         ensures { Self.does self.old (Leave (ptr_to node)) (Done Nothing) self.new };
 
-    /// Loads the pointer in this node. `None`: it can't be loaded, and nothing was done.
-    fn next(&mut self, node: Name) -> Option<Ptr>
+    /// Loads the pointer in this node, of which the walk has kept this. `None`: it can't be loaded, and nothing was
+    /// done.
+    fn next(&mut self, node: Name, kept: Self::Node) -> Option<Ptr>
         ensures some { IfSome result
             (λ ptr. Self.does self.old (Point (Some 0) (Field node 0) Load) (Done (Pointer ptr)) self.new) }
         ensures none { result ≡ None → self.new ≡ self.old };

@@ -1,11 +1,13 @@
 -- `get` shows the value for as long as the guard is lent.
-use Rattle.std.proofs.Common.{◌≡◌, ℕ, List, [], ◌∷◌, refl, ap}
+use Rattle.std.proofs.Common.{◌≡◌, ℕ, List, [], ◌∷◌, sym, refl, ap}
+use Rattle.std.specs.Prelude.{Option, Some}
 use mir.Syntax.{a_type}
 use mir.Val.{Val, vptr}
 use mir.MapTy.{inst_fn}
 use base.Logic.{SProp, emp}
-use base.Fml.{Lft}
-use types.Kit.{‵, raw, ◌⊛◌, at_ret, ◌$◌, ◌∵◌, !, qed, by, move, keep, split, fsplit, fjoin, use0, use1, rewrite, feq_i}
+use base.Fml.{Lft, fex}
+use types.Kit.{‵, raw, ◌⊛◌, at_ret, ◌$◌, ◌∵◌, !, qed, by, move, keep, split, fsplit, fjoin, fpick, use0, use1}
+use types.Kit.{rewrite, feq_i}
 use types.Run.{stop, fld, addr, of_opd, first, blocks, exec, returns, enter}
 use types.ByLocal.{alloc_all, pass_all, free_all, look_at, get, through, sets, env}
 use contract.Running.{tables}
@@ -29,6 +31,7 @@ use denote.RawPtr.{block_of, count_of, at_block}
 use denote.Opens.{hide}
 use denote.Struct.Lending.{in_block_says}
 use Rattle.epoch_lend.proofs.Fields.{hand_told}
+use Rattle.epoch_lend.proofs.Reading as reading
 use Rattle.epoch_lend.specs.contracts.lending.Glance.get.{ended, clauses}
 use Rattle.epoch_lend.specs.contracts.lending.Glance.get.Key.{name as #self}
 use Rattle.epoch_lend.proofs.lending.Glance.get.Statement.{statement}
@@ -54,7 +57,7 @@ get_spec 𝓤 𝓛 𝓜 𝓡 wired X L =
     let Hr : RattleType = glance.the_row (named_lft 2 0 tt κs) R in
     let h : Hr.Denot = a.0 in
     let p : Ptr = h.at in
-    let x : X.Denot = h.value in
+    let v : Option X.Denot = h.value in
     let κ : Lft = κs.0 in
     let there : Val = vptr (block_of p) (count_of p) in
     let y : (walk_of 𝓛 En hs c).Ghost = ((κs, qs, bounds, a, (hand_of p ∷ [], tt)), gh) in
@@ -63,7 +66,9 @@ get_spec 𝓤 𝓛 𝓜 𝓡 wired X L =
     raw (fact 𝓤 (h.right ≡ 1)) ∷ []) ∵
     keep ! (2 ∷ 0 ∷ []) $ heard ! (h.right ≡ 1) (λ asked. split ! $ move ! (1 ∷ []) $ fsplit ! $ fsplit ! $
     keep ! (1 ∷ 3 ∷ []) $
-    rewrite ! 0 (λ (k : ℕ). ‵ (glance_owns κ R p x k)) asked refl $ fsplit ! $
+    rewrite ! 0 (λ (k : ℕ). ‵ (glance_owns κ R p v k)) asked refl $
+    use1 𝓛 (‵ (fex R.Denot (reading.Sees κ R p v))) (reading.sees_one 𝓛 κ R p v) $ fpick ! (λ x. fpick ! (λ found.
+    fsplit ! $
     use1 𝓛 (raw (fact 𝓤 (InBlock p))) (in_block_says 𝓛 p) $ heard ! (InBlock p) (λ inb. hide ! $
     let at : p ≡ block_ptr (block_of p) (count_of p) = at_block p inb in
     enter ! 𝓣.C 𝓣.Λ fn (hand_of p ∷ []) Post $ alloc_all ! (λ l. pass_all ! refl (hand_typed p, tt) $
@@ -72,6 +77,6 @@ get_spec 𝓤 𝓛 𝓜 𝓡 wired X L =
     first ! $ blocks ! $ sets_last ! (addr ! (through ! refl (stop !))) refl (tt, tt) $
     exec ! 𝓣.C 𝓣.Λ Ev (tail (tail fn.body)) (at_ret Ev Post) $ sets ! (of_opd ! (get ! refl)) refl (tt, tt) $
     feq_i ! (List Val) (there ∷ []) (there ∷ []) refl $ fjoin ! $
-    use0 𝓛 (raw (fact 𝓤 (x ≡ x))) (fact_i 𝓤 (x ≡ x) (emp 𝓤) refl) $ nothing ! $ nothing ! $ fjoin ! $
+    use0 𝓛 (raw (fact 𝓤 (Some x ≡ v))) (fact_i 𝓤 (Some x ≡ v) (emp 𝓤) (sym found)) $ nothing ! $ nothing ! $ fjoin ! $
     returns ! (look_at ! 0 refl) $ free_all ! refl $ keep ! (3 ∷ 0 ∷ 2 ∷ 1 ∷ []) $
-    by ! (leaves 𝓛 En hs c y there (record { ref_ptr = (block_of p, count_of p); now = x }) (tt, tt) (tt, tt))))))
+    by ! (leaves 𝓛 En hs c y there (record { ref_ptr = (block_of p, count_of p); now = x }) (tt, tt) (tt, tt))))))))

@@ -66,6 +66,7 @@ use Rattle.core.specs.contracts.marker.PhantomData as marker
 use Rattle.atomic_table.proofs.Walks.{proved, leaves}
 use Rattle.atomic_table.proofs.Calls.{fm, seq_cst, found, finds, loads}
 use Rattle.epoch_lend.specs.Posts.{guard_shares, IsAmong}
+use Rattle.std.specs.Prelude.{Some}
 use Rattle.epoch_lend.specs.Loans.{Shown, glance_owns, pocket}
 use Rattle.epoch_lend.specs.contracts.lending.Lending as lending_is
 use Rattle.epoch_lend.specs.contracts.lending.Glance as glance
@@ -168,8 +169,8 @@ look_spec 𝓤 𝓛 𝓜 𝓡 wired X L =
     move ! (0 ∷ 5 ∷ []) $
     use2 𝓛 (later (some (λ (r : Share). ‵ (flft (γ ∷ []) r) ⊛ raw (wand 𝓤 (𝓛.A.lft (γ ∷ []) r) (H.⇛ (𝓛.A.lft κg
     qg)))))) (Lends-one 𝓛 𝓜 𝓡 κg (γ ∷ []) qg) $ await ! tt $ pick ! (λ r. split ! $ move ! (0 ∷ 3 ∷ []) $
-    use2 𝓛 (later (some (λ (δ : ℕ). ‵ (fobor (γ ∷ []) r (pocket d.lifetime δ)) ⊛ ‵ (steps.Offer 𝓛 d.lifetime γ e η r
-    δ)))) (steps.prepares 𝓛 d.lifetime γ e η r) $ await ! tt $ pick ! (λ δ. split ! $
+    use2 𝓛 (later (some (λ (δ : ℕ). ‵ (fobor (γ ∷ []) r (pocket δ)) ⊛ ‵ (steps.Offer 𝓛 γ e η r δ))))
+    (steps.prepares 𝓛 γ e η r) $ await ! tt $ pick ! (λ δ. split ! $
     -- [the pocket; the offer; κg's way back; before; the word; κ; the others]
     move ! (4 ∷ []) $ unhide ! $ fpick ! (λ α. fsplit ! $ move ! (0 ∷ 6 ∷ []) $
     use2 𝓛 (later (some (λ (s : Share). ‵ (flft α s) ⊛ raw (wand 𝓤 (𝓛.A.lft α s) (H.⇛ (𝓛.A.lft κ q))))))
@@ -196,12 +197,12 @@ look_spec 𝓤 𝓛 𝓜 𝓡 wired X L =
     use2 𝓛 (later (‵ (flft κg qg))) (apply∗ 𝓤 (𝓛.A.lft (γ ∷ []) r) (H.⇛ (𝓛.A.lft κg qg))) $ await ! tt $
     move ! (0 ∷ 4 ∷ []) $ join ! $ move ! (2 ∷ 0 ∷ []) $ join ! $ move ! (1 ∷ 2 ∷ []) $
     -- [what was got; before; the tokens]
-    use2 𝓛 (some (λ (k : ℕ). given (steps.Gained 𝓛 R d LR.shr_laws n k) (‵ (glance_owns κg R d.at d.value k))))
+    use2 𝓛 (some (λ (k : ℕ). given (steps.Gained 𝓛 R d LR.shr_laws n k) (‵ (glance_owns κg R d.at (Some d.value) k))))
     (steps.gains 𝓛 R d LR.shr_laws γ κg n) $ pick ! (λ k. learn ! (λ so.
-    rewrite ! 0 (λ (z : Ptr). ‵ (glance_owns κg R z d.value k)) (sym asked) refl $
-    let h : Hr.Denot = record { at = p; marker = record {}; right = k; value = d.value } in
+    rewrite ! 0 (λ (z : Ptr). ‵ (glance_owns κg R z (Some d.value) k)) (sym asked) refl $
+    let h : Hr.Denot = record { at = p; marker = record {}; right = k; value = Some d.value } in
     let v : Val = pair_of n (hand_of p) in
-    let Told : Type 0 = (n ≡ 1 → k ≡ 1) × (n ≢ 1 → k ≡ 0) × (d.value ≡ d.value) in
+    let Told : Type 0 = (n ≡ 1 → k ≡ 1) × (n ≢ 1 → k ≡ 0) × (Some d.value ≡ Some d.value) in
     use0 𝓛 (‵ ((Words ℓ R).own_val (p, (tt, tt)) (hand_of p ∷ []))) (hand_made ℓ R 𝓛 p) $ fjoin ! $ nothing ! $
     flt_i ! n (2 ^ 64) fits $ feq_i ! (List Val) (vint w64 n ∷ []) (vint w64 n ∷ []) refl $ fjoin ! $
     move ! (0 ∷ 2 ∷ 1 ∷ []) $ fjoin3 ! $ feq_i ! (List Val) (v ∷ []) (v ∷ []) refl $ fjoin ! $
