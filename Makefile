@@ -7,7 +7,7 @@ PICTURES = grace stall full held queue
 
 help:
 	@echo 'make try      compiles what runs a script, and runs one; proves nothing                20 s'
-	@echo 'make run      proves and builds what a script needs, and runs the script 16 min at first, then seconds'
+	@echo 'make run      proves and builds what a script needs, and runs the script 15 min at first, then seconds'
 	@echo 'make threads  proves and builds what runs on threads need, too, and makes the run that ARGS'
 	@echo '              asks for           25 min at first, then seconds'
 	@echo 'make draw     draws the run of a script to out/run.svg; proves nothing                 20 s'
@@ -19,7 +19,7 @@ help:
 	@echo 'make beside   times this library and crossbeam-epoch in turn: beside/README.md says what'
 	@echo '              must be installed     25 min at first for the proofs, then 5 min'
 	@echo 'make beside-histories   gives random scripts to both, and compares which jobs they call;'
-	@echo '              16 min at first for the proofs, then 72 s for 10,000,000 LINES'
+	@echo '              15 min at first for the proofs, then 72 s for 10,000,000 LINES'
 	@echo
 	@echo 'INPUT=FILE    the script of try, run and draw, instead of crates/epoch_run_script/stdin'
 	@echo "ARGS='WORDS'  the arguments of threads, instead of 'queue 3 4'"

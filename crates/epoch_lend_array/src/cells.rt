@@ -1,5 +1,5 @@
 //! The cells of an array, and where a value is in it.
-ghost use Rattle.std.specs.Prelude.{◌≡◌, ◌+◌, ◌*◌, ◌≤◌, min, Some, length, map, IfSome, IfOk, IfErr};
+ghost use Rattle.std.specs.Prelude.{◌≡◌, ◌+◌, ◌*◌, ◌<◌, ◌≤◌, min, Some, length, map, IfSome, IfOk, IfErr};
 ghost use Rattle.std.specs.List.{slice_get};
 ghost use Rattle.epoch_lend_cells.specs.declared.cell.TheConstants.{GREATEST_TURN};
 
@@ -159,8 +159,10 @@ impl<J: PostSet, T: Drop> LendingCells<J, T> {
         }
     }
 
-    // Places a value in the first cell that is seen empty, of those from slot `from` up to slot `to`.
-    fn place_between(&self, from: usize, to: usize, value: T) -> Result<Placed<T>, T>
+    /// Does what [`LendingCells::place`] does, but looks only at the slots from `from` up to `to`, which isn't looked at
+    /// itself.
+    pub fn place_between(&self, from: usize, to: usize, value: T) -> Result<Placed<T>, T>
+        ensures between { IfOk result (λ placed. (from ≤ placed.spot.slot) × (placed.spot.slot < to)) }
         ensures slot { IfOk result (λ placed. slice_get (map (λ s. s.turns.log) self.now.slots.items) placed.spot.slot
             ≡ Some placed.name.log) }
         ensures turn { IfOk result (λ placed. placed.name.turn ≡ placed.spot.turn) }

@@ -1,11 +1,11 @@
 -- What a handle keeps of values that were retired.
-use Rattle.std.specs.Prelude.{◌≡◌, ◌-◌, ◌⊎◌, List, [], ◌∷◌, ◌++◌, Option, Some, None}
+use Rattle.std.specs.Prelude.{◌≡◌, ◌⊎◌, List, [], ◌∷◌, ◌++◌, Option, Some, None}
 use Rattle.epoch_cells.specs.declared.cells.name.Name.{Name}
 use Rattle.epoch_lend_array.specs.declared.cells.Spot.{Spot}
 
 -- where the value of this name is
 abbrev pub spot_at : Name → Spot
-spot_at name = record { slot = name.slot - 1; turn = name.turn }
+spot_at name = record { slot = name.slot; turn = name.turn }
 
 -- The spot of this name is kept behind those that were, or alone, once those were deferred.
 abbrev pub KeepsSpot : Option Name → List Spot → List Spot → Type 0

@@ -37,7 +37,7 @@ unsafe impl<'s, J: PostSet, T: Send + Sync> Sync for Waiting<'s, J, T> {}
 #[derive(Drop)]
 pub struct Lender<'s, J: PostSet, T> {
     pub(crate) cells: &'s LentCells<J, T>,
-    // A place for each cell. A bag waits in the place of one of its own slots, so no other bag is put there.
+    // A place for each slot. A bag waits in the place of one of its own slots, so no other bag is put there.
     places: Vec<Counted<Option<Waiting<'s, J, T>>>>,
     // How many bags wait, at least, and in front of which place they all do.
     waiting: AtomicUsize,
@@ -54,7 +54,7 @@ impl<'s, J: PostSet, T> Lender<'s, J, T> {
         ensures memory { IsOkUnless result NoMemory }
         ensures cells { IfOk result (λ lender. lender.cells.now ≡ cells.now) }
     {
-        match places_for(alloc, cells.capacity()) {
+        match places_for(alloc, cells.capacity() + 1) {
             Ok(places) => Ok(Lender {
                 cells,
                 places,

@@ -1,5 +1,5 @@
 //! Cells whose values have names, the posts of the readers that they are lent to, and a clock.
-ghost use Rattle.std.specs.Prelude.{◌≡◌, ◌<◌, ◌≤◌, ◌^◌, length, map, IfOk, IfErr, IfSome, IsOkUnless};
+ghost use Rattle.std.specs.Prelude.{◌≡◌, ◌<◌, ◌≤◌, ◌+◌, ◌^◌, length, map, IfOk, IfErr, IfSome, IsOkUnless};
 ghost use Rattle.epoch_cells.specs.declared.fault.Fault.TheVariants.{NoMemory, CellsFull};
 ghost use Rattle.epoch_lend_store.specs.Named.{StandsUnder};
 
@@ -30,28 +30,30 @@ pub struct Placed<T> {
 #[derive(Drop)]
 pub struct LentCells<J: PostSet, T> {
     pub(crate) posts: Posts<J>,
+    // No value is placed in the first cell, since no name has slot 0.
     pub(crate) cells: LendingCells<J, T>,
     // Twice an epoch, that of a pin which begins now.
     clock: AtomicU64,
     // For each post, the slot where its reader's search for an empty cell begins.
     starts: Vec<AtomicUsize>,
-    pub ghost few: { length cells.slots.items ≤ 16777215 },
+    pub ghost few: { (1 ≤ length cells.slots.items) × (length cells.slots.items ≤ 16777216) },
     pub ghost named: { cells.last_turn ≤ 4294967295 },
 }
 
 impl<J: PostSet, T: Drop> LentCells<J, T> {
-    /// Makes this many empty cells, from 0 to [`MOST_SLOT`], for the readers at these posts.
+    /// Makes this many empty cells, from 0 to [`MOST_SLOT`], for the readers at these posts, and one more in which no
+    /// value is placed.
     ///
     /// `NoMemory`: an allocation was refused.
     pub fn new(alloc: Global, capacity: u32, posts: Posts<J>) -> Result<LentCells<J, T>, Fault>
         requires { capacity ≤ MOST_SLOT }
         ensures memory { IsOkUnless result NoMemory }
-        ensures cells { IfOk result (λ lent. length lent.cells.slots.items ≡ capacity) }
+        ensures cells { IfOk result (λ lent. length lent.cells.slots.items ≡ capacity + 1) }
     {
         let Ok(starts) = starts_for(alloc, posts.len(), capacity as usize) else {
             return Err(Fault::NoMemory);
         };
-        match LendingCells::new(alloc, capacity as usize, LAST_TURN, &posts) {
+        match LendingCells::new(alloc, capacity as usize + 1, LAST_TURN, &posts) {
             Ok(cells) => Ok(LentCells {
                 posts,
                 cells,
@@ -90,7 +92,7 @@ impl<J: PostSet, T: Drop> LentCells<J, T> {
         let first = start.load(SeqCst);
         match self.place_from(first, value) {
             Ok(placed) => {
-                let slot = placed.name.slot() as usize - 1;
+                let slot = placed.name.slot() as usize;
                 if slot.wrapping_sub(first) >= NEAR {
                     start.store(slot, SeqCst);
                 }
@@ -107,7 +109,21 @@ impl<J: PostSet, T: Drop> LentCells<J, T> {
             placed.witness.turn) }
         ensures full { IfErr result (λ refused. (refused.fault ≡ CellsFull) × (refused.value ≡ value)) }
     {
-        match self.cells.place_from(first, value) {
+        match self.place_between(first, self.cells.len(), value) {
+            Ok(placed) => Ok(placed),
+            Err(back) => self.place_between(1, first, back.value),
+        }
+    }
+
+    // Places the value in the first cell that is seen empty, of those from slot `from` up to slot `to`, except slot 0.
+    fn place_between(&self, from: usize, to: usize, value: T) -> Result<Placed<T>, Refused<T>>
+        ensures placed { IfOk result (λ placed. placed.witness.value ≡ value) }
+        ensures named { IfOk result
+            (λ placed. StandsUnder (map (λ s. s.turns.log) self.now.cells.slots.items) placed.name placed.witness.log
+            placed.witness.turn) }
+        ensures full { IfErr result (λ refused. (refused.fault ≡ CellsFull) × (refused.value ≡ value)) }
+    {
+        match self.cells.place_between(from.max(1), to, value) {
             Ok(placed) => {
                 let name = name_of(placed.spot);
                 Ok(Placed {
@@ -138,10 +154,10 @@ fn starts_for(alloc: Global, count: usize, cells: usize) -> Result<Vec<AtomicUsi
 impl<J: PostSet, T> LentCells<J, T> {
     /// Returns how many cells there are.
     pub fn capacity(&self) -> usize
-        ensures value { result ≡ length self.now.cells.slots.items }
+        ensures value { result + 1 ≡ length self.now.cells.slots.items }
         ensures within { result ≤ MOST_SLOT }
     {
-        self.cells.len()
+        self.cells.len() - 1
     }
 
     /// Returns how many readers can be registered at a time.

@@ -1,5 +1,5 @@
-//! A pointer's name is a place in cells that lend: the slot, counted from 1, and the turn.
-ghost use Rattle.std.specs.Prelude.{◌≡◌, ◌+◌, ◌-◌, ◌<◌, ◌≤◌};
+//! A pointer's name is a place in cells that lend: the slot, which isn't 0, and the turn.
+ghost use Rattle.std.specs.Prelude.{◌≡◌, ◌≤◌};
 
 use epoch_cells::{MOST_SLOT, Name};
 use epoch_lend_array::cells::Spot;
@@ -10,11 +10,11 @@ pub const LAST_TURN: u64 = 4_294_967_295;
 /// Returns where the value of this name is.
 #[inline(always)]
 pub fn spot_of(name: Name) -> Spot
-    ensures slot { result.slot ≡ name.slot - 1 }
+    ensures slot { result.slot ≡ name.slot }
     ensures turn { result.turn ≡ name.turn }
 {
     Spot {
-        slot: (name.slot() - 1) as usize,
+        slot: name.slot() as usize,
         turn: name.turn() as u64,
     }
 }
@@ -22,10 +22,10 @@ pub fn spot_of(name: Name) -> Spot
 /// Returns the name of the value at this spot.
 #[inline(always)]
 pub fn name_of(spot: Spot) -> Name
-    requires slot { spot.slot < MOST_SLOT }
+    requires slot { (1 ≤ spot.slot) × (spot.slot ≤ MOST_SLOT) }
     requires turn { spot.turn ≤ LAST_TURN }
-    ensures slot { result.slot ≡ spot.slot + 1 }
+    ensures slot { result.slot ≡ spot.slot }
     ensures turn { result.turn ≡ spot.turn }
 {
-    Name::at(spot.slot as u32 + 1, spot.turn as u32)
+    Name::at(spot.slot as u32, spot.turn as u32)
 }
