@@ -81,10 +81,21 @@ impl<J: PostSet, T> LendingCells<J, T> {
             ≡ Some sight.name.log) }
         ensures turn { IfSome result (λ sight. sight.name.turn ≡ spot.turn) }
     {
-        match self.slots.get(spot.slot) {
-            Some(slot) => slot.look(spot.turn, pinned),
-            None => None,
+        if spot.slot >= self.slots.len() {
+            return None;
         }
+        self.look_at(spot, pinned)
+    }
+
+    /// Does what [`LendingCells::look`] does, for a caller that knows that there is such a slot.
+    #[inline(always)]
+    pub fn look_at<'g>(&self, spot: Spot, pinned: &'g Pinned<'_, J>) -> Option<Sight<'g, T>>
+        requires { spot.slot < length self.now.slots.items }
+        ensures slot { IfSome result (λ sight. slice_get (map (λ s. s.turns.log) self.now.slots.items) spot.slot
+            ≡ Some sight.name.log) }
+        ensures turn { IfSome result (λ sight. sight.name.turn ≡ spot.turn) }
+    {
+        self.slots[spot.slot].look(spot.turn, pinned)
     }
 
     /// Lends the value that is shown at this spot, as [`LendingCells::look`] does, without its name.

@@ -70,12 +70,15 @@ trait Work<T>: Sync {
 /// One value behind a pointer.
 #[derive(Drop)]
 struct One {
+    // It stands before the pointer. So the load of the pointer is a byte longer, and none of the loop's branches
+    // crosses a border of 32 bytes, where some processors take longer for it, whichever 16 bytes the loop begins at.
+    value: u64,
     pointer: Atomic<u64>,
 }
 
 impl Work<u64> for One {
     fn fill<J: PostSet>(&self, guard: &GuardOf<'_, '_, '_, J, u64>) {
-        if let Ok(placed) = guard.place(VALUE) {
+        if let Ok(placed) = guard.place(self.value) {
             let _ = self.pointer.store(placed, SeqCst, guard.guard());
         }
     }
@@ -283,6 +286,7 @@ fn time_one<R: Clock + Threads + Wait + Sync>(
     times: &mut [u64],
 ) -> io::Result<u64> {
     let one = One {
+        value: VALUE,
         pointer: Atomic::null(),
     };
     rounds_over::<R, Brand, u64, One>(rt, alloc, made, &one, row, size, times)

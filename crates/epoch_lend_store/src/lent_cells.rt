@@ -32,11 +32,14 @@ pub struct LentCells<J: PostSet, T> {
     pub(crate) posts: Posts<J>,
     // No value is placed in the first cell, since no name has slot 0.
     pub(crate) cells: LendingCells<J, T>,
+    // How many cells there are, the first one too, as wide as a name's slot.
+    count: u32,
     // Twice an epoch, that of a pin which begins now.
     clock: AtomicU64,
     // For each post, the slot where its reader's search for an empty cell begins.
     starts: Vec<AtomicUsize>,
-    pub ghost few: { (1 ≤ length cells.slots.items) × (length cells.slots.items ≤ 16777216) },
+    pub ghost counted: { length cells.slots.items ≡ count },
+    pub ghost few: { (1 ≤ count) × (count ≤ 16777216) },
     pub ghost named: { cells.last_turn ≤ 4294967295 },
 }
 
@@ -57,6 +60,7 @@ impl<J: PostSet, T: Drop> LentCells<J, T> {
             Ok(cells) => Ok(LentCells {
                 posts,
                 cells,
+                count: capacity + 1,
                 clock: AtomicU64::new(2),
                 starts,
             }),
@@ -157,7 +161,7 @@ impl<J: PostSet, T> LentCells<J, T> {
         ensures value { result + 1 ≡ length self.now.cells.slots.items }
         ensures within { result ≤ MOST_SLOT }
     {
-        self.cells.len() - 1
+        self.count as usize - 1
     }
 
     /// Returns how many readers can be registered at a time.
@@ -175,7 +179,10 @@ impl<J: PostSet, T> LentCells<J, T> {
             (λ sight. StandsUnder (map (λ s. s.turns.log) self.now.cells.slots.items) name sight.name.log
             sight.name.turn) }
     {
-        self.cells.look(spot_of(name), pinned)
+        if name.slot() >= self.count {
+            return None;
+        }
+        self.cells.look_at(spot_of(name), pinned)
     }
 
     /// Registers a reader at a post that no reader has. `None`: each post was seen with a reader.

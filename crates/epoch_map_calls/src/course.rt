@@ -58,7 +58,8 @@ fn key_sought(aim: Aim) -> u64
 fn node_at(ptr: Ptr) -> Option<Name>
     ensures { IfSome result (λ node. ptr ≡ ptr_to node) }
 {
-    if ptr.tag == 0 { ptr.name } else { None }
+    let node = ptr.name?;
+    if ptr.tag == 0 { Some(node) } else { None }
 }
 
 // One node of a walk: its entry is read, and its pointer too where its key is lower. `Ok`: the walk goes on to this
