@@ -170,7 +170,7 @@ impl<J: PostSet, T: Drop> LendingCells<J, T> {
         }
     }
 
-    /// Does what [`LendingCells::place`] does, but looks only at the slots from `from` up to `to`, which isn't looked at
+    /// Does what [`LendingCells::place`] does, but looks only at the slots from `from` up to `to`, and not at `to`
     /// itself.
     pub fn place_between(&self, from: usize, to: usize, value: T) -> Result<Placed<T>, T>
         ensures between { IfOk result (λ placed. (from ≤ placed.spot.slot) × (placed.spot.slot < to)) }
