@@ -1,0 +1,4 @@
+pub mod Gathering
+pub mod Lending
+pub mod Moving
+pub mod Taking
