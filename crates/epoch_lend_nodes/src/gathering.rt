@@ -16,8 +16,10 @@ use epoch_plan_calls::Keeps;
 /// A handle whose guards lend keeps removals among what it has gathered. No value of it is made.
 pub struct Gathers;
 
-impl<'c, 'q, 's, J: PostSet, T: Drop> Keeps<LendingHandle<'c, 'q, 's, J, T>, GuardOf<'c, 'q, 's, J, T>>
-    for Gathers {
+impl<'c, 'q, 's, J: PostSet, T: Drop> Keeps<
+    LendingHandle<'c, 'q, 's, J, T>,
+    GuardOf<'c, 'q, 's, J, T>,
+> for Gathers {
     ghost keeping = { record {
       room = λ old reply new. MakesRoomFor old.kept.spots.items reply new.kept.spots.items;
       removal = λ old name reply new. KeepsRemoval old.kept.spots.items name reply new.kept.spots.items;

@@ -53,8 +53,18 @@ fn full<J: PostSet>(rt: &impl Abort, alloc: Global, lender: &Lender<'_, J, Link>
     match LendingQueue::new(&guard, Node::new(5)) {
         Ok(_) => panic!(rt; "no cell is free"),
         Err(refused) => {
-            want(rt, "the fault of a second queue", refused.fault, Fault::CellsFull);
-            want(rt, "the value that comes back", refused.value.into_value(), 5);
+            want(
+                rt,
+                "the fault of a second queue",
+                refused.fault,
+                Fault::CellsFull,
+            );
+            want(
+                rt,
+                "the value that comes back",
+                refused.value.into_value(),
+                5,
+            );
         }
     }
     want_refused(rt, &queue, &mut handle, &guard, (7, 1), Fault::CellsFull);
@@ -79,9 +89,30 @@ fn refusals<J: PostSet>(rt: &impl Abort, alloc: Global, lender: &Lender<'_, J, L
     release(rt, handle);
     let mut stranger = register(rt, alloc, &others, lender);
     let guard = pin(rt, &mut stranger);
-    want_refused(rt, &queue, &mut stranger, &guard, (7, 9), Fault::StrangerGuard);
-    want_refused(rt, &queue, &mut stranger, &guard, (7, 0), Fault::StrangerGuard);
-    want_pop(rt, &queue, &mut stranger, &guard, 9, Err(Fault::StrangerGuard));
+    want_refused(
+        rt,
+        &queue,
+        &mut stranger,
+        &guard,
+        (7, 9),
+        Fault::StrangerGuard,
+    );
+    want_refused(
+        rt,
+        &queue,
+        &mut stranger,
+        &guard,
+        (7, 0),
+        Fault::StrangerGuard,
+    );
+    want_pop(
+        rt,
+        &queue,
+        &mut stranger,
+        &guard,
+        9,
+        Err(Fault::StrangerGuard),
+    );
     let seen = value_of(queue.peek(&guard));
     want(rt, "a stranger's look", seen, Err(Fault::StrangerGuard));
     unpin(rt, &mut stranger, guard);

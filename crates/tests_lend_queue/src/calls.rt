@@ -169,7 +169,12 @@ pub(crate) fn want_pop<'d, 'q, 's, J: PostSet>(
     tries: u32,
     wanted: Told,
 ) {
-    want(rt, "a pop", value_of(queue.pop(handle, guard, tries)), wanted);
+    want(
+        rt,
+        "a pop",
+        value_of(queue.pop(handle, guard, tries)),
+        wanted,
+    );
 }
 
 /// A look at the node in front answers so, and whether the queue is empty agrees.

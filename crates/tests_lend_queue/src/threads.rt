@@ -153,9 +153,19 @@ fn work<'q, 's, J: PostSet, R: Abort + Wait>(
     // One for each thread.
     let mut newest = [0; 8];
     for number in 0..EACH {
-        let _ = make_call(rt, queue, &mut handle, Call::Push(first.wrapping_add(number)));
+        let _ = make_call(
+            rt,
+            queue,
+            &mut handle,
+            Call::Push(first.wrapping_add(number)),
+        );
         if let Some(seen) = make_call(rt, queue, &mut handle, Call::Peek) {
-            want(rt, "a value that was pushed", seen < THREADS.wrapping_mul(EACH), true);
+            want(
+                rt,
+                "a value that was pushed",
+                seen < THREADS.wrapping_mul(EACH),
+                true,
+            );
         }
         match make_call(rt, queue, &mut handle, Call::Pop) {
             Some(value) => {

@@ -50,9 +50,30 @@ fn refusals<J: PostSet>(rt: &impl Abort, alloc: Global, lender: &Lender<'_, J, L
     let stack = LendingStack::new(&nodes);
     let mut stranger = register(rt, alloc, &others, lender);
     let guard = pin(rt, &mut stranger);
-    want_refused(rt, &stack, &mut stranger, &guard, (7, 9), Fault::StrangerGuard);
-    want_refused(rt, &stack, &mut stranger, &guard, (7, 0), Fault::StrangerGuard);
-    want_pop(rt, &stack, &mut stranger, &guard, 9, Err(Fault::StrangerGuard));
+    want_refused(
+        rt,
+        &stack,
+        &mut stranger,
+        &guard,
+        (7, 9),
+        Fault::StrangerGuard,
+    );
+    want_refused(
+        rt,
+        &stack,
+        &mut stranger,
+        &guard,
+        (7, 0),
+        Fault::StrangerGuard,
+    );
+    want_pop(
+        rt,
+        &stack,
+        &mut stranger,
+        &guard,
+        9,
+        Err(Fault::StrangerGuard),
+    );
     let seen = value_of(stack.peek(&guard));
     want(rt, "a stranger's look", seen, Err(Fault::StrangerGuard));
     unpin(rt, &mut stranger, guard);

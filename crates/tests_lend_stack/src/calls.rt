@@ -158,7 +158,12 @@ pub(crate) fn want_pop<'d, 'q, 's, J: PostSet>(
     tries: u32,
     wanted: Told,
 ) {
-    want(rt, "a pop", value_of(stack.pop(handle, guard, tries)), wanted);
+    want(
+        rt,
+        "a pop",
+        value_of(stack.pop(handle, guard, tries)),
+        wanted,
+    );
 }
 
 /// A look at the uppermost node answers so, and whether the stack is empty agrees.

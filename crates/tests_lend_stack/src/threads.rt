@@ -1,9 +1,7 @@
 //! Several threads on one stack.
 ghost use Rattle.std.specs.Prelude.{◌≡◌};
 
-use crate::calls::{
-    Handle, Link, Nodes, Told, collector, pin, register, unpin, value_of, want,
-};
+use crate::calls::{Handle, Link, Nodes, Told, collector, pin, register, unpin, value_of, want};
 use epoch_cells::Fault;
 use epoch_handles::Capacities;
 use epoch_lend_nodes::Node;
@@ -138,9 +136,19 @@ fn work<'q, 's, J: PostSet, R: Abort + Wait>(
 ) {
     let mut handle = register(rt, alloc, nodes, lender);
     for number in 0..EACH {
-        let _ = make_call(rt, stack, &mut handle, Call::Push(first.wrapping_add(number)));
+        let _ = make_call(
+            rt,
+            stack,
+            &mut handle,
+            Call::Push(first.wrapping_add(number)),
+        );
         if let Some(seen) = make_call(rt, stack, &mut handle, Call::Peek) {
-            want(rt, "a value that was pushed", seen < THREADS.wrapping_mul(EACH), true);
+            want(
+                rt,
+                "a value that was pushed",
+                seen < THREADS.wrapping_mul(EACH),
+                true,
+            );
         }
         match make_call(rt, stack, &mut handle, Call::Pop) {
             Some(value) => note(rt, off, value),
