@@ -1,6 +1,7 @@
 //! The nodes of a structure, which point to one another.
 ghost use Rattle.std.specs.Prelude.{◌≡◌, refl};
 ghost use Rattle.std.proofs.Common.{lit≤};
+ghost use Rattle.epoch_lend_nodes.specs.Nodes.{value_of};
 
 use epoch_atomic::atomic::{Atomic, Pointable};
 use epoch_cells::Fault;
@@ -23,7 +24,7 @@ pub struct Node<V> {
 impl<V: Drop> Node<V> {
     /// Makes a node with this value.
     pub fn new(value: V) -> Node<V>
-        ensures { result.value ≡ value }
+        ensures { value_of result ≡ value }
     {
         let next = Atomic::null();
         Node { value, next }
@@ -31,7 +32,7 @@ impl<V: Drop> Node<V> {
 
     /// Returns the value of a node that isn't in a structure.
     pub fn into_value(self) -> V
-        ensures { result ≡ self.value }
+        ensures { result ≡ value_of self }
     {
         let Node { value, next: _ } = self;
         value
@@ -42,7 +43,7 @@ impl<V> Node<V> {
     /// Returns the value.
     #[inline(always)]
     pub fn value(&self) -> &V
-        ensures { result.now ≡ self.now.value }
+        ensures { result.now ≡ value_of self.now }
     {
         &self.value
     }
