@@ -11,7 +11,7 @@ use Rattle.epoch_laws.specs.declared.step.Reply.TheVariants.{Done}
 use Rattle.epoch_plans.specs.Plans.{Answers, after_by}
 use Rattle.epoch_plan_calls.specs.Courses.{Keeping, GoesTo, DoesBy}
 use Rattle.epoch_queue_laws.specs.declared.plan.Phase.{Phase}
-use Rattle.epoch_queue_laws.specs.declared.plan.Phase.TheVariants.{MakingRoom, Founding, Crowning, Seating, Placing}
+use Rattle.epoch_queue_laws.specs.declared.plan.Phase.TheVariants.{MakingRoom, Placing}
 use Rattle.epoch_queue_laws.specs.declared.plan.Phase.TheVariants.{LoadingTail, LoadingLast, Appending, Swinging}
 use Rattle.epoch_queue_laws.specs.declared.plan.Phase.TheVariants.{Helping, TakingBack, LoadingHead, LoadingNext}
 use Rattle.epoch_queue_laws.specs.declared.plan.Phase.TheVariants.{Reading, Leaving, Taking, LookingBack, Advancing}
