@@ -1,12 +1,11 @@
 //! A map for threads, after Harris and Michael, whose look-ups write nothing: its nodes are lent by plain loads.
 #![tactic(auto)]
 
-mod gathering;
 mod map;
 mod node;
 mod spots;
 
-pub use gathering::Gathers;
+pub use epoch_lend_nodes::Gathers;
 pub use map::LendingMap;
 pub use node::Node;
 pub use spots::LentSpots;

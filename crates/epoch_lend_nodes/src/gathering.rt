@@ -1,0 +1,72 @@
+//! How a handle whose guards lend keeps the removals of a structure.
+ghost use Rattle.std.specs.Prelude.{◌≡◌, refl};
+ghost use Rattle.std.proofs.Common.{◌∙◌};
+ghost use Rattle.epoch_handles.specs.Handles.{Owns};
+ghost use Rattle.epoch_lend_nodes.specs.Gathering.{StaysSame, MakesRoomFor, KeepsRemoval};
+ghost use Rattle.epoch_plan_threads.proofs.PathsTaken.{same_on, owns_on};
+
+use epoch_atomic::atomic::Shared;
+use epoch_cells::{Fault, Name};
+use epoch_heap::Answer;
+use epoch_laws::Reply;
+use epoch_lend_pointers::handle::{GuardOf, LendingHandle};
+use epoch_lend_readers::posts::PostSet;
+use epoch_plan_calls::Keeps;
+
+/// A handle whose guards lend keeps removals among what it has gathered. No value of it is made.
+pub struct Gathers;
+
+impl<'c, 'q, 's, J: PostSet, T: Drop> Keeps<
+    LendingHandle<'c, 'q, 's, J, T>,
+    GuardOf<'c, 'q, 's, J, T>,
+> for Gathers {
+    ghost keeping = { record {
+      room = λ old reply new. MakesRoomFor old.kept.spots.items reply new.kept.spots.items;
+      removal = λ old name reply new. KeepsRemoval old.kept.spots.items name reply new.kept.spots.items;
+    } };
+
+    ghost serves = { λ handle guard. Owns handle.handle guard.guard };
+
+    ghost stays = { λ old new. StaysSame old.handle new.handle × (new.reader ≡ old.reader) };
+
+    ghost stays_itself = { λ h. (
+      record { same = record { position = refl; collector = refl }; counted = refl },
+      refl,
+    ) };
+
+    ghost stays_on = { λ h mid last first next. (
+      record {
+        same = same_on h.handle mid.handle last.handle first.0.same next.0.same;
+        counted = next.0.counted ∙ first.0.counted;
+      },
+      next.1 ∙ first.1,
+    ) };
+
+    ghost serves_on = { λ h last guard serves stays. owns_on h.handle last.handle guard.guard serves stays.0.same
+        stays.0.counted };
+
+    fn make_room(
+        handle: &mut LendingHandle<'c, 'q, 's, J, T>,
+        guard: &GuardOf<'c, 'q, 's, J, T>,
+    ) -> Reply {
+        match handle.make_room(guard) {
+            Ok(()) => Reply::Done(Answer::Unit),
+            Err(fault) => Reply::Refused(fault),
+        }
+    }
+
+    fn keep(
+        handle: &mut LendingHandle<'c, 'q, 's, J, T>,
+        name: Name,
+        guard: &GuardOf<'c, 'q, 's, J, T>,
+    ) -> Reply {
+        if let Err(fault) = handle.make_room(guard) {
+            return Reply::Refused(fault);
+        }
+        match handle.retire(guard, Shared::named(name, guard.guard())) {
+            Ok(()) => Reply::Done(Answer::Unit),
+            // With room made, nothing but memory can be wanting.
+            Err(_) => Reply::Refused(Fault::NoMemory),
+        }
+    }
+}

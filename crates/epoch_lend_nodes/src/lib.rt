@@ -1,0 +1,14 @@
+//! What structures have in common whose nodes are lent: their nodes, the accesses to them, and how a handle keeps their
+//! removals.
+#![tactic(auto)]
+
+mod gathering;
+mod node;
+mod points;
+mod serving;
+mod spots;
+
+pub use gathering::Gathers;
+pub use node::{LentNode, Node};
+pub use serving::serves_lending;
+pub use spots::{CallNodes, NodeSpots};

@@ -1,0 +1,77 @@
+//! The nodes of a structure, which point to one another.
+ghost use Rattle.std.specs.Prelude.{◌≡◌, refl};
+ghost use Rattle.std.proofs.Common.{lit≤};
+ghost use Rattle.epoch_lend_nodes.specs.Nodes.{value_of};
+
+use epoch_atomic::atomic::{Atomic, Pointable};
+use epoch_cells::Fault;
+use std::alloc::Global;
+
+/// A type of nodes. [`Node`] has a value of any type, and a type of your own has what you like beside the pointer.
+pub trait LentNode: Pointable + Drop + Sized {
+    /// Returns the pointer to the node behind this one. It is null where the node is made, and then only the structure
+    /// changes it: a caller that stores another one has the structure lead elsewhere.
+    fn next(&self) -> &Atomic<Self>;
+}
+
+/// A value, and the pointer to the node behind it.
+#[derive(Drop)]
+pub struct Node<V> {
+    value: V,
+    next: Atomic<Node<V>>,
+}
+
+impl<V: Drop> Node<V> {
+    /// Makes a node with this value.
+    pub fn new(value: V) -> Node<V>
+        ensures { value_of result ≡ value }
+    {
+        let next = Atomic::null();
+        Node { value, next }
+    }
+
+    /// Returns the value of a node that isn't in a structure.
+    pub fn into_value(self) -> V
+        ensures { result ≡ value_of self }
+    {
+        let Node { value, next: _ } = self;
+        value
+    }
+}
+
+impl<V> Node<V> {
+    /// Returns the value.
+    #[inline(always)]
+    pub fn value(&self) -> &V
+        ensures { result.now ≡ value_of self.now }
+    {
+        &self.value
+    }
+}
+
+impl<V> Pointable for Node<V> {
+    ghost ALIGN = { 8 };
+
+    ghost log = { 3 };
+
+    ghost is_power = { refl };
+
+    ghost is_small = { lit≤ tt };
+
+    const ALIGN: usize = 8;
+
+    type Init = Node<V>;
+
+    ghost init_gives = { λ init node. node ≡ init };
+
+    fn init(_alloc: Global, init: Node<V>) -> Result<Node<V>, Fault> {
+        Ok(init)
+    }
+}
+
+impl<V: Drop> LentNode for Node<V> {
+    #[inline(always)]
+    fn next(&self) -> &Atomic<Node<V>> {
+        &self.next
+    }
+}

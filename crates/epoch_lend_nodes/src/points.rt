@@ -1,0 +1,58 @@
+//! Pointers of a structure, as threads load and change them for its program.
+
+use epoch_atomic::atomic::{Atomic, ExchangeFault, Pointable, Shared};
+use epoch_handles::Guard;
+use epoch_heap::{Answer, Change, Ptr};
+use std::sync::atomic::Ordering::SeqCst;
+
+// The pointer that a thread has for one of the program.
+#[inline(always)]
+fn shared<'g, T: Pointable, W>(ptr: Ptr, guard: &'g Guard<'_, T, W>) -> Shared<'g, T> {
+    let Some(name) = ptr.name else {
+        return Shared::null().with_tag(ptr.tag as usize);
+    };
+    Shared::named(name, guard).with_tag(ptr.tag as usize)
+}
+
+// The pointer that the program has for one of a thread.
+#[inline(always)]
+fn ptr_of<T>(shared: Shared<'_, T>) -> Ptr {
+    Ptr {
+        name: shared.name(),
+        tag: shared.tag() as u64,
+    }
+}
+
+// Exchanges the pointer there, if it is this one still, for the other.
+#[inline(always)]
+fn exchange_at<T: Pointable, W>(
+    at: &Atomic<T>,
+    current: Ptr,
+    new: Ptr,
+    guard: &Guard<'_, T, W>,
+) -> Answer {
+    let (current, new) = (shared(current, guard), shared(new, guard));
+    match at.compare_exchange(current, new, SeqCst, SeqCst, guard) {
+        Ok(written) => Answer::Exchanged(ptr_of(written)),
+        Err(ExchangeFault::Changed(lost)) => Answer::Unchanged(ptr_of(lost.current)),
+        Err(_) => Answer::Absent,
+    }
+}
+
+// Loads, stores or exchanges the pointer there. The phases of a stack and of a queue ask for no other change.
+#[inline(always)]
+pub(crate) fn change_at<T: Pointable, W>(
+    at: &Atomic<T>,
+    change: Change,
+    guard: &Guard<'_, T, W>,
+) -> Answer {
+    match change {
+        Change::Load => Answer::Pointer(ptr_of(at.load(SeqCst, guard))),
+        Change::Store(new) => match at.store(shared(new, guard), SeqCst, guard) {
+            Ok(()) => Answer::Unit,
+            Err(_) => Answer::Absent,
+        },
+        Change::CompareExchange(current, new) => exchange_at(at, current, new, guard),
+        _ => Answer::Absent,
+    }
+}
