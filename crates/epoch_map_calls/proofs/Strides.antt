@@ -1,5 +1,5 @@
 -- How a walk goes from one node to the next by three accesses that only read.
-use Rattle.std.proofs.Common.{◌≡◌, ℕ, zero, suc, ◌<◌, ◌≤◌, [], ◌∷◌, ◌++◌, Bool, true, false, Some, refl, sym, ap}
+use Rattle.std.proofs.Common.{◌≡◌, ℕ, zero, suc, ◌<◌, [], ◌∷◌, ◌++◌, Bool, true, false, Some, refl, sym, ap}
 use Rattle.std.proofs.Common.{subst, arith, nat_lt, if◌then◌else◌}
 use Rattle.std.proofs.lemmas.Bool.Decides.{nat_tests}
 use Rattle.epoch_cells.specs.declared.cells.name.Name.{Name}
@@ -41,8 +41,8 @@ module _ {L : Type 0} (does : L → Access → Reply → L → Type 0) where
   reads_so first last last' l l' same reads =
       subst (λ (f : Phase). ReadsOn does (deed_of 0) first l f l') (sym same) reads
 
-  -- A node whose key isn't greater was left: its pointer is loaded next.
-  looks_on : (aim : Aim) (link : Spot) (c : Name) (v k : ℕ) → key_of v ≤ key_sought aim
+  -- A node whose key is lower was left: its pointer is loaded next.
+  looks_on : (aim : Aim) (link : Spot) (c : Name) (v k : ℕ) → key_of v < key_sought aim
       → to_look aim link c v k ≡ LoadingNext aim link c v k
   looks_on aim link c v k lower = by_test (nat_lt (key_sought aim) (key_of v)) refl
     where
@@ -52,28 +52,21 @@ module _ {L : Type 0} (does : L → Access → Reply → L → Type 0) where
       by_test false is = refl
 
   left_so : (aim : Aim) (link : Spot) (c : Name) (v k : ℕ) (l l' : L) (reply : Reply)
-      → ReadsBy does (deed_of 0 (Leaving aim link c v k)) l reply l' → key_of v ≤ key_sought aim
+      → ReadsBy does (deed_of 0 (Leaving aim link c v k)) l reply l' → key_of v < key_sought aim
       → after_by (Leaving aim link c v k) (deed_of 0 (Leaving aim link c v k)) reply ≡ LoadingNext aim link c v k
   left_so aim link c v k l l' (Done a) by lower = looks_on aim link c v k lower
   left_so aim link c v k l l' reply by lower = absurd by.2
 
-  pub leaves_to_next : (aim : Aim) (link : Spot) (c : Name) (v k : ℕ) (l1 l2 l3 : L) (reply : Reply) (last : Phase)
-      → ReadsBy does (deed_of 0 (Leaving aim link c v k)) l1 reply l2 → key_of v ≤ key_sought aim
-      → ReadsOn does (deed_of 0) (LoadingNext aim link c v k) l2 last l3
-      → ReadsOn does (deed_of 0) (Leaving aim link c v k) l1 last l3
-  leaves_to_next aim link c v k l1 l2 l3 reply last leaves lower rest =
-      reads_first (Leaving aim link c v k) last l1 l2 l3 reply leaves
-      (subst (λ (f : Phase). ReadsOn does (deed_of 0) f l2 last l3)
-      (sym (left_so aim link c v k l1 l2 reply leaves lower)) rest)
-
   pub reads_to_next : (aim : Aim) (link : Spot) (c : Name) (v k : ℕ) (l l1 l2 l3 : L) (reply : Reply) (last : Phase)
       → ReadsBy does (deed_of 0 (Reading aim link c k)) l (Done (Value v)) l1
-      → ReadsBy does (deed_of 0 (Leaving aim link c v k)) l1 reply l2 → key_of v ≤ key_sought aim
+      → ReadsBy does (deed_of 0 (Leaving aim link c v k)) l1 reply l2 → key_of v < key_sought aim
       → ReadsOn does (deed_of 0) (LoadingNext aim link c v k) l2 last l3
       → ReadsOn does (deed_of 0) (Reading aim link c k) l last l3
   reads_to_next aim link c v k l l1 l2 l3 reply last read leaves lower rest =
       reads_first (Reading aim link c k) last l l1 l3 (Done (Value v)) read
-      (leaves_to_next aim link c v k l1 l2 l3 reply last leaves lower rest)
+      (reads_first (Leaving aim link c v k) last l1 l2 l3 reply leaves
+      (subst (λ (f : Phase). ReadsOn does (deed_of 0) f l2 last l3)
+      (sym (left_so aim link c v k l1 l2 reply leaves lower)) rest))
 
   -- Its pointer leads to a further node, and has no mark: the walk goes on there.
   goes_on : (aim : Aim) (link : Spot) (c n : Name) (v k rest : ℕ) → k ≡ suc rest → key_of v < key_sought aim
@@ -95,7 +88,7 @@ module _ {L : Type 0} (does : L → Access → Reply → L → Type 0) where
       → ReadsBy does (deed_of 0 (LoadingNext aim link c v k)) l2 (Done (Pointer (ptr_to n))) l3
       → ReadsOn does (deed_of 0) (Reading aim link c k) l (Reading aim (Field c 0) n rest) l3
   strides_on aim link c n v k rest l l1 l2 l3 reply is read leaves lower loads =
-      reads_to_next aim link c v k l l1 l2 l3 reply (Reading aim (Field c 0) n rest) read leaves (omega (arith, lower))
+      reads_to_next aim link c v k l l1 l2 l3 reply (Reading aim (Field c 0) n rest) read leaves lower
       (reads_so (LoadingNext aim link c v k)
       (after_by (LoadingNext aim link c v k) (deed_of 0 (LoadingNext aim link c v k)) (Done (Pointer (ptr_to n))))
       (Reading aim (Field c 0) n rest) l2 l3 (sym (goes_on aim link c n v k rest is lower))

@@ -4,7 +4,7 @@ ghost use Rattle.epoch_heap.specs.declared.access.Spot.TheVariants.{Field};
 ghost use Rattle.epoch_plans.specs.Asks.{wish_of};
 ghost use Rattle.epoch_plans.specs.Plans.{ptr_to};
 ghost use Rattle.epoch_plan_calls.specs.Courses.{ReadsOn, reading_of};
-ghost use Rattle.epoch_map_laws.specs.declared.plan.Phase.TheVariants.{Reading, Leaving};
+ghost use Rattle.epoch_map_laws.specs.declared.plan.Phase.TheVariants.{Reading};
 ghost use Rattle.epoch_map_laws.specs.Map.{bucket_of, calls_left, deed_of, key_sought};
 ghost use Rattle.epoch_map_laws.proofs.CallsLeft.{map_lowered};
 
@@ -62,35 +62,7 @@ fn node_at(ptr: Ptr) -> Option<Name>
     if ptr.tag == 0 { Some(node) } else { None }
 }
 
-// The last node of a walk, whose entry was read: its pointer is loaded, too, if it has the key that is sought. Returns
-// the phase that the walk has come to.
-#[inline(always)]
-fn at_last<L: MapSpots>(
-    aim: Aim,
-    key: u64,
-    link: Spot,
-    node: Name,
-    read: (u64, L::Node),
-    left: u64,
-    spots: &mut L,
-) -> Phase
-    requires { key ≡ key_sought aim }
-    ensures { ReadsOn L.does (deed_of 0) (Leaving aim link node read.0 left) spots.old result spots.new }
-{
-    let (entry, kept) = read;
-    if key_of(entry) != key {
-        return Phase::Leaving(aim, link, node, entry, left);
-    }
-    spots.leave(node);
-    match spots.next(node, kept) {
-        Some(ptr) => Phase::LoadingNext(aim, link, node, entry, left).hear(Reply::Done(
-            Answer::Pointer(ptr),
-        )),
-        None => Phase::LoadingNext(aim, link, node, entry, left),
-    }
-}
-
-// One node of a walk: its entry is read, and its pointer, too, where its key is lower. `Ok`: the walk goes on to this
+// One node of a walk: its entry is read, and its pointer too where its key is lower. `Ok`: the walk goes on to this
 // node. `Err`: it has come to this phase.
 #[inline(always)]
 fn stride<L: MapSpots>(
@@ -112,7 +84,7 @@ fn stride<L: MapSpots>(
         return Err(Phase::Reading(aim, link, node, left));
     };
     if left == 0 || key_of(entry) >= key {
-        return Err(at_last(aim, key, link, node, (entry, kept), left, spots));
+        return Err(Phase::Leaving(aim, link, node, entry, left));
     }
     spots.leave(node);
     let Some(ptr) = spots.next(node, kept) else {

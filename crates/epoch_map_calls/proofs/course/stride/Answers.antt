@@ -8,15 +8,14 @@ use Rattle.epoch_laws.specs.declared.step.Reply.TheVariants.{Done}
 use Rattle.epoch_plans.specs.Plans.{after_by}
 use Rattle.epoch_map_laws.specs.declared.plan.Phase.TheVariants.{Reading, LoadingNext}
 use Rattle.epoch_map_laws.specs.Map.{deed_of}
-use Rattle.epoch_map_calls.proofs.Strides.{reads_first, reads_one, reads_so, reads_to_next, strides_on}
+use Rattle.epoch_map_calls.proofs.Strides.{reads_one, reads_so, reads_to_next, strides_on}
 use Rattle.epoch_map_calls.proofs.course.stride.Goals as goal
 
--- the key is not lower, or no move is left: the entry was read, and then what the last node asks for
+-- the key is not lower, or no move is left: the entry was read
 pub returns-then-left-eq0-clause-over : goal.returns-then-left-eq0-clause-over
 returns-then-left-eq0-clause-over g c =
-    reads_first g.L.Spots.does (Reading c.args.aim c.args.link c.args.node c.args.left) c.at_last.result
-    c.args.spots.now c.entry.new.self c.at_last.new.spots (Done (Value c.in-Some.entry))
-    (refl, c.in-Some.ensures.some, tt) c.at_last.ensures
+    reads_one g.L.Spots.does (Reading c.args.aim c.args.link c.args.node c.args.left) c.args.spots.now c.entry.new.self
+    (Done (Value c.in-Some.entry)) (refl, c.in-Some.ensures.some, tt)
 
 -- the walk goes on to the next node
 pub returns-in-Some-node_at-clause-on : goal.returns-in-Some-node_at-clause-on
