@@ -8,7 +8,7 @@ use Rattle.epoch_queue_laws.specs.declared.plan.QueueAnswer.TheVariants.{Pushed,
 use Rattle.epoch_queue_laws.specs.declared.plan.QueueAnswer.TheVariants.{CellsFull, BagsFull}
 use Rattle.epoch_queue_course.specs.QueueCalls.{place_fault, room_fault}
 
--- A push of this node hands it back, but for lost tries.
+-- A push of this node that is refused hands it back, unless it lost all its tries.
 abbrev pub GivesPush : {V : Type 0} → V → QueueAnswer → Option Fault → Result (Unit {0}) (Refused (Option V)) → Type 0
 GivesPush node Pushed refused given = IsOk given
 GivesPush node BagsFull refused given = given ≡ Err (record { fault = room_fault refused; value = Some node })
