@@ -4,10 +4,11 @@ ghost use Rattle.epoch_cells.specs.declared.fault.Fault.TheVariants.{CellsFull};
 ghost use Rattle.epoch_plan_threads.specs.Paths.{IsTold, reply_of};
 
 use crate::node::Node;
-use epoch_atomic::atomic::{Atomic, ExchangeFault, Shared};
+use epoch_atomic::atomic::{Atomic, Shared};
 use epoch_cells::{Fault, Name};
 use epoch_handles::Guard;
 use epoch_heap::{Access, Answer, Change, Ptr, Spot};
+use epoch_lend_nodes::{ptr_of, write_at};
 use epoch_lend_pointers::guard::LendingGuard;
 use epoch_lend_readers::posts::PostSet;
 use epoch_map_calls::MapSpots;
@@ -21,47 +22,11 @@ pub struct LentSpots<'g, 'c, 's, J: PostSet, W> {
     pub(crate) guard: &'g LendingGuard<'c, 's, J, Node, W>,
 }
 
-// The pointer that a thread has for one of the program.
-#[inline(always)]
-fn shared<'g, W>(ptr: Ptr, guard: &'g Guard<'_, Node, W>) -> Shared<'g, Node> {
-    let Some(name) = ptr.name else {
-        return Shared::null().with_tag(ptr.tag as usize);
-    };
-    Shared::named(name, guard).with_tag(ptr.tag as usize)
-}
-
-// The pointer that the program has for one of a thread.
-#[inline(always)]
-fn ptr_of(shared: Shared<'_, Node>) -> Ptr {
-    Ptr {
-        name: shared.name(),
-        tag: shared.tag() as u64,
-    }
-}
-
-// Exchanges the pointer there, if it is this one still, for the other.
-#[inline(always)]
-fn exchange_at<W>(at: &Atomic<Node>, current: Ptr, new: Ptr, guard: &Guard<'_, Node, W>) -> Answer {
-    let (current, new) = (shared(current, guard), shared(new, guard));
-    match at.compare_exchange(current, new, SeqCst, SeqCst, guard) {
-        Ok(written) => Answer::Exchanged(ptr_of(written)),
-        Err(ExchangeFault::Changed(lost)) => Answer::Unchanged(ptr_of(lost.current)),
-        Err(_) => Answer::Absent,
-    }
-}
-
 // Stores or exchanges the pointer there. It stands out of line, as `place` does: a function that holds all accesses
 // isn't inlined if it holds these, too, and then a walk that only loads doesn't know its accesses.
 #[inline(never)]
-fn write_at<W>(at: &Atomic<Node>, change: Change, guard: &Guard<'_, Node, W>) -> Answer {
-    match change {
-        Change::Store(new) => match at.store(shared(new, guard), SeqCst, guard) {
-            Ok(()) => Answer::Unit,
-            Err(_) => Answer::Absent,
-        },
-        Change::CompareExchange(current, new) => exchange_at(at, current, new, guard),
-        _ => Answer::Absent,
-    }
+fn write_out_of_line<W>(at: &Atomic<Node>, change: Change, guard: &Guard<'_, Node, W>) -> Answer {
+    write_at(at, change, guard)
 }
 
 // Loads, stores or exchanges the pointer there. The phases of a map ask for no other change.
@@ -69,7 +34,7 @@ fn write_at<W>(at: &Atomic<Node>, change: Change, guard: &Guard<'_, Node, W>) ->
 fn change_at<W>(at: &Atomic<Node>, change: Change, guard: &Guard<'_, Node, W>) -> Answer {
     match change {
         Change::Load => Answer::Pointer(ptr_of(at.load(SeqCst, guard))),
-        _ => write_at(at, change, guard),
+        _ => write_out_of_line(at, change, guard),
     }
 }
 

@@ -10,5 +10,6 @@ mod spots;
 
 pub use gathering::Gathers;
 pub use node::{LentNode, Node};
+pub use points::{ptr_of, write_at};
 pub use serving::serves_lending;
 pub use spots::{CallNodes, NodeSpots};

@@ -14,9 +14,9 @@ fn shared<'g, T: Pointable, W>(ptr: Ptr, guard: &'g Guard<'_, T, W>) -> Shared<'
     Shared::named(name, guard).with_tag(ptr.tag as usize)
 }
 
-// The pointer that the program has for one of a thread.
+/// Returns the pointer that the program has for one of a thread.
 #[inline(always)]
-fn ptr_of<T>(shared: Shared<'_, T>) -> Ptr {
+pub fn ptr_of<T>(shared: Shared<'_, T>) -> Ptr {
     Ptr {
         name: shared.name(),
         tag: shared.tag() as u64,
@@ -39,7 +39,25 @@ fn exchange_at<T: Pointable, W>(
     }
 }
 
-// Loads, stores or exchanges the pointer there. The phases of a stack and of a queue ask for no other change.
+/// Stores this pointer there, or exchanges the one for the other, for the program. `Absent`: it is another change, which
+/// no program of this library asks for.
+#[inline(always)]
+pub fn write_at<T: Pointable, W>(
+    at: &Atomic<T>,
+    change: Change,
+    guard: &Guard<'_, T, W>,
+) -> Answer {
+    match change {
+        Change::Store(new) => match at.store(shared(new, guard), SeqCst, guard) {
+            Ok(()) => Answer::Unit,
+            Err(_) => Answer::Absent,
+        },
+        Change::CompareExchange(current, new) => exchange_at(at, current, new, guard),
+        _ => Answer::Absent,
+    }
+}
+
+// Loads, stores or exchanges the pointer there.
 #[inline(always)]
 pub(crate) fn change_at<T: Pointable, W>(
     at: &Atomic<T>,
@@ -48,11 +66,6 @@ pub(crate) fn change_at<T: Pointable, W>(
 ) -> Answer {
     match change {
         Change::Load => Answer::Pointer(ptr_of(at.load(SeqCst, guard))),
-        Change::Store(new) => match at.store(shared(new, guard), SeqCst, guard) {
-            Ok(()) => Answer::Unit,
-            Err(_) => Answer::Absent,
-        },
-        Change::CompareExchange(current, new) => exchange_at(at, current, new, guard),
-        _ => Answer::Absent,
+        _ => write_at(at, change, guard),
     }
 }
