@@ -87,7 +87,8 @@ impl<J: PostSet, T> LendingCells<J, T> {
         self.look_at(spot, pinned)
     }
 
-    /// Does what [`LendingCells::look`] does, for a caller that knows that there is such a slot.
+    /// Does what [`LendingCells::look`] does, for a caller that has compared the slot with [`LendingCells::len`], which
+    /// must be greater.
     #[inline(always)]
     pub fn look_at<'g>(&self, spot: Spot, pinned: &'g Pinned<'_, J>) -> Option<Sight<'g, T>>
         requires { spot.slot < length self.now.slots.items }

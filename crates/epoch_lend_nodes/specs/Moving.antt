@@ -7,8 +7,8 @@ use Rattle.epoch_laws.specs.declared.step.Reply.{Reply}
 use Rattle.epoch_laws.specs.declared.step.Reply.TheVariants.{Done}
 use Rattle.epoch_lend_nodes.specs.declared.spots.CallNodes.{CallNodes}
 
--- A node that was placed is the call's own no more. One that was read is lent, under the name by which it was read.
--- No other access changes either of them, and a placing that is refused doesn't.
+-- A node that was placed is the call's own no more. After a read, a node is lent, and the name by which it was read is
+-- noted. No other access changes either of them, and a placing that is refused doesn't.
 abbrev pub MovesNodes : {V : Type 0} → CallNodes V → Access → Reply → CallNodes V → Type 0
 MovesNodes old (Place number) (Done (NameAnswer name)) new = (new.name ≡ old.name) × (new.lent ≡ old.lent)
 MovesNodes old (Read guard ptr) (Done (Value number)) new =

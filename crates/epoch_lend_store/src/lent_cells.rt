@@ -156,7 +156,7 @@ fn starts_for(alloc: Global, count: usize, cells: usize) -> Result<Vec<AtomicUsi
 }
 
 impl<J: PostSet, T> LentCells<J, T> {
-    /// Returns how many cells there are.
+    /// Returns how many cells take values: as many as were asked for.
     pub fn capacity(&self) -> usize
         ensures value { result + 1 ≡ length self.now.cells.slots.items }
         ensures within { result ≤ MOST_SLOT }
