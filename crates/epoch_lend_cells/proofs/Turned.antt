@@ -1,5 +1,5 @@
 -- The steps on the word of a place, under its invariant. Assumes `Logic`.
-use Rattle.std.proofs.Common.{◌≡◌, ◌≢◌, ℕ, suc, ◌+◌, ◌*◌, List, [], ◌∷◌, ◌++◌, sym, refl, ap, ◌∙◌, subst, length}
+use Rattle.std.proofs.Common.{◌≡◌, ◌≢◌, ◌⊎◌, inl, inr, ℕ, zero, suc, ◌+◌, ◌*◌, List, [], ◌∷◌, ◌++◌, sym, refl, ap, ◌∙◌, subst, length}
 use Rattle.std.proofs.Common.{eqb, eq-eqb, ne_eqb}
 use Rattle.std.proofs.lemmas.List.{length-append}
 use native.Mathlib.Omega.{arith}
@@ -29,7 +29,7 @@ use Rattle.epoch_lend.specs.Posts.{known}
 use Rattle.epoch_lend.specs.Loans.{Loan, stock, Within, marked_owns}
 use Rattle.epoch_lend_cells.specs.Turning.{TurnNames, TurnStage, vacant, claimed, shown, removed, turn_word, TurnOf}
 use Rattle.epoch_lend_cells.specs.Turning.{turn_logs, turn_in, turn_is, claim_has, claim_of, vacancy_of, log_of}
-use Rattle.epoch_lend_cells.specs.Turning.{lent_with, lent_of, shown_with, turn_holds, at_turn}
+use Rattle.epoch_lend_cells.specs.Turning.{Awaits, turns_so_far, lent_with, lent_of, shown_with, turn_holds, at_turn}
 use Rattle.epoch_lend_cells.specs.Turning.{at_turn_word, turns_at}
 
 -- the stage of a word that is four times a turn
@@ -59,6 +59,13 @@ is_removed (vacant u) t e = absurd (omega (arith, e))
 is_removed (claimed u) t e = absurd (omega (arith, e))
 is_removed (shown u) t e = absurd (omega (arith, e))
 is_removed (removed u) t e = ap removed (omega (arith, e))
+
+-- a place at which a caller may show the value of a turn has the turns before it, and no more
+holds_before : (R : RattleType) (d : TurnNames) (s : TurnStage) (t p : ℕ) → Awaits t p → turn_word s ≡ p
+    → turn_holds R d s ≡ turns_so_far R d t
+holds_before R d s t p (inl e) is = ap (turn_holds R d) (is_claimed s t (is ∙ e))
+holds_before R d s zero p (inr e) is = absurd (omega (arith, e))
+holds_before R d s (suc u) p (inr e) is = ap (turn_holds R d) (is_removed s u (omega (arith, e, is)))
 
 -- the first of a list, and what is behind it
 abbrev first_or : {X : Type 0} → X → List X → X
@@ -155,23 +162,23 @@ module _ {M : Type 1} {𝓤 : Ura M} (𝓛 : Logic 𝓤) (R : RattleType) (d : T
         (λ miss. subst F (sym (ne_eqb n (4 * t) miss)) (claims_miss n miss))
 
   -- ---- a value is shown
-  module _ (t : ℕ) (e : E) where
-    -- what a claim has once its value is lent for a lifetime of its own
+  module _ (t p : ℕ) (e : E) where
+    -- what a caller has at a place of this word once its value is lent for a lifetime of its own
     abbrev pub Showing : Fml
-    Showing = fsep (fobs δ (gnum (4 * t + 1))) (fsep (flft (e.1 ∷ []) full_share) (fsep (lent_at R d.at e.0 (e.1 ∷ []))
+    Showing = fsep (fobs δ (gnum p)) (fsep (flft (e.1 ∷ []) full_share) (fsep (lent_at R d.at e.0 (e.1 ∷ []))
         (flent (e.1 ∷ []) (lies_at R full_share d.at e.0))))
 
-    -- a claimed place shows the value, as that of its turn
-    shows_claimed : (n : ℕ) → n ≡ 4 * t + 1 → (s : TurnStage)
+    -- the place shows the value, as that of its turn
+    shows_at : (n : ℕ) → Awaits t p → n ≡ p → (s : TurnStage)
         → ⟦ at_turn R d n s ⟧ ∗ ⟦ Showing ⟧ ⊢ upd 𝓤 (⟦ W (4 * t + 2) ⟧ ∗ ⟦ turn_is R d.log t e ⟧)
-    shows_claimed n at s = let u = gnum (4 * t + 2) in
+    shows_at n awaits at s = let u = gnum (4 * t + 2) in
         let Goal : Pr = ⟦ W (4 * t + 2) ⟧ ∗ ⟦ turn_is R d.log t e ⟧ in
         let O = turn_logs R in
         qed 𝓛 (‵ (at_turn R d n s) ∷ ‵ Showing ∷ []) ∵ fsplit3 ! $ fpick ! (λ is. drop ! $ move ! (1 ∷ []) $
-        rewrite ! 0 (λ (z : TurnStage). ‵ (turn_holds R d z)) (is_claimed s t (sym is ∙ at)) refl $ move ! (2 ∷ []) $
+        rewrite ! 0 (λ (z : Fml). ‵ z) (holds_before R d s t p awaits (sym is ∙ at)) refl $ move ! (2 ∷ []) $
         fsplit3 ! $ move ! (0 ∷ 4 ∷ []) $
         -- [obs; auth; the token; what is shown and lent; turns]
-        use2 𝓛 (raw (upd 𝓤 (A.obs δ u ∗ A.auth δ u))) (𝓛.names.name_set_upd δ (gnum (4 * t + 1)) (gnum n) u) $
+        use2 𝓛 (raw (upd 𝓤 (A.obs δ u ∗ A.auth δ u))) (𝓛.names.name_set_upd δ (gnum p) (gnum n) u) $
         settle 𝓛 Goal (‵ (fobs δ u) ⊛ ‵ (fauth δ u)) $ split ! $ move ! (4 ∷ []) $ fpick ! (λ es. fsplit ! $
         let fs : List E = es ++ e ∷ [] in
         use1 𝓛 (raw (upd 𝓤 ⟦ latest O full_share d.log fs ⟧)) (latest_grows O 𝓛 d.log es fs (e ∷ [], refl)) $
@@ -193,15 +200,15 @@ module _ {M : Type 1} {𝓤 : Ura M} (𝓛 : Logic 𝓤) (R : RattleType) (d : T
         nothing ! $ fpack ! (length es ≡ t) (λ _. ftrue) long $ move ! (1 ∷ 0 ∷ []) $ fjoin ! $
         fpack ! (List E) (turn_in R d.log t e) es $ done !)))
 
-    shows : (n : ℕ) → ⟦ W n ⟧ ∗ ⟦ Showing ⟧ ⊢ upd 𝓤 (⟦ W (4 * t + 2) ⟧ ∗ ⟦ turn_is R d.log t e ⟧)
-    shows n = let Rest = fsep (flft (e.1 ∷ []) full_share) (fsep (lent_at R d.at e.0 (e.1 ∷ [])) (flent (e.1 ∷ [])
+    shows : Awaits t p → (n : ℕ) → ⟦ W n ⟧ ∗ ⟦ Showing ⟧ ⊢ upd 𝓤 (⟦ W (4 * t + 2) ⟧ ∗ ⟦ turn_is R d.log t e ⟧)
+    shows awaits n = let Rest = fsep (flft (e.1 ∷ []) full_share) (fsep (lent_at R d.at e.0 (e.1 ∷ [])) (flent (e.1 ∷ [])
         (lies_at R full_share d.at e.0))) in
         qed 𝓛 (‵ (W n) ∷ ‵ Showing ∷ []) ∵ fpick ! (λ s. fsplit3 ! $ move ! (3 ∷ []) $ fsplit ! $ move ! (0 ∷ 3 ∷ []) $
-        use2 𝓛 (given (gnum (4 * t + 1) ≡ gnum n) (‵ (fobs δ (gnum (4 * t + 1))) ⊛ ‵ (fauth δ (gnum n))))
-        (𝓛.names.name_agree δ (gnum (4 * t + 1)) (gnum n)) $ learn ! (λ same. split ! $
+        use2 𝓛 (given (gnum p ≡ gnum n) (‵ (fobs δ (gnum p)) ⊛ ‵ (fauth δ (gnum n))))
+        (𝓛.names.name_agree δ (gnum p) (gnum n)) $ learn ! (λ same. split ! $
         -- [obs; auth; the rest; known; what the stage holds]
-        move ! (0 ∷ 2 ∷ []) $ fjoin ! $ move ! (2 ∷ 1 ∷ 3 ∷ []) $ fjoin3 ! $ by ! (shows_claimed n (sym (ap num same))
-        s)))
+        move ! (0 ∷ 2 ∷ []) $ fjoin ! $ move ! (2 ∷ 1 ∷ 3 ∷ []) $ fjoin3 ! $
+        by ! (shows_at n awaits (sym (ap num same)) s)))
 
   -- ---- a mark, by who knows the value of its turn
   module _ (t : ℕ) (e : E) where
@@ -316,10 +323,10 @@ module _ {M : Type 1} {𝓤 : Ura M} (𝓛 : Logic 𝓤) (R : RattleType) (d : T
     claims_it t = stepped (λ n. either (eqb n (4 * t)) (4 * t + 1) n) (Claimed t) ftrue (claims t)
 
     -- one store shows the value
-    pub shows_it : (t : ℕ) (e : E) → A.inv (fbor α Memory) ∗ (A.lft α q ∗ ⟦ Showing t e ⟧) ⊢ asks 𝓛 (block_ptr b (o +
+    pub shows_it : (t p : ℕ) (e : E) → Awaits t p → A.inv (fbor α Memory) ∗ (A.lft α q ∗ ⟦ Showing t p e ⟧) ⊢ asks 𝓛 (block_ptr b (o +
         0))
         (λ _. 4 * t + 2) always (λ n. fsep (flft α q) (turn_is R d.log t e))
-    shows_it t e = stepped (λ _. 4 * t + 2) (λ _. turn_is R d.log t e) (Showing t e) (shows t e)
+    shows_it t p e awaits = stepped (λ _. 4 * t + 2) (λ _. turn_is R d.log t e) (Showing t p e) (shows t p e awaits)
 
     -- one exchange marks the value
     pub marks_it : (t : ℕ) (e : E) → A.inv (fbor α Memory) ∗ (A.lft α q ∗ ⟦ turn_is R d.log t e ⟧) ⊢ asks 𝓛 (block_ptr b

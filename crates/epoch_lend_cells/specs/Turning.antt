@@ -1,7 +1,7 @@
 -- The word of a place that values take turns at. It is four times the turn, and the state: vacant, claimed by who
 -- places a value, shown to who looks, or removed. A log has the value of each turn so far, with the atom of the
 -- lifetime that it was lent for.
-use Rattle.std.specs.Prelude.{◌≡◌, ℕ, zero, suc, ◌+◌, ◌*◌, List, [], ◌∷◌, ◌++◌, length, Option, Some, None}
+use Rattle.std.specs.Prelude.{◌≡◌, ◌⊎◌, ℕ, zero, suc, ◌+◌, ◌*◌, List, [], ◌∷◌, ◌++◌, length, Option, Some, None}
 use base.Fraction.{full_share}
 use base.Stored.{Coded, coded×, coded_ℕ, coded_list, coded_via, gnum}
 use base.Fml.{Lft, Fml, ftrue, ffalse, fsep, fex, fobs, fauth, fbor, flent}
@@ -48,6 +48,11 @@ turn_word (vacant turn) = 4 * turn
 turn_word (claimed turn) = 4 * turn + 1
 turn_word (shown turn) = 4 * turn + 2
 turn_word (removed turn) = 4 * turn + 3
+
+-- the word that a caller left at a place where it may show a value at this turn: it claimed the place, or it removed
+-- the value of the turn before and took it out
+abbrev pub Awaits : ℕ → ℕ → Type 0
+Awaits turn word = (word ≡ 4 * turn + 1) ⊎ (word + 1 ≡ 4 * turn)
 
 -- the value of a turn, and the atom of the lifetime that it is lent for
 abbrev pub TurnOf : Type 0 → Type 0

@@ -6,6 +6,7 @@ ghost use Rattle.epoch_lend.specs.Posts.{IsAmong, logs_of};
 ghost use Rattle.epoch_lend.specs.Loans.{Within};
 ghost use Rattle.epoch_lend_cells.specs.Turning.{TurnNames, turn_names_coded, turns_own, turns_share, room_of};
 ghost use Rattle.epoch_lend_cells.specs.Turning.{turn_is, turn_shares, claim_of, filled_has, vacancy_of, found_of};
+ghost use Rattle.epoch_lend_cells.specs.Turning.{Awaits};
 
 use atomic_table::exchange;
 use epoch_lend::lending::{Glance, Marked};
@@ -145,10 +146,11 @@ impl<T> Turns<T> {
         (found, claim)
     }
 
-    /// Shows the value of a claimed place to guards, by one store of the word, and returns its name.
+    /// Shows the value of a place to guards, by one store of the word, and returns its name. The caller has claimed the
+    /// place at this turn, or has taken the value of the turn before out of it.
     pub fn show(&self, filled: Filled<T>, turn: u64, word: u64) -> Name<T>
         requires of_place { (filled.state ≡ self.now.state) × (filled.at ≡ self.now.at) }
-        requires of_turn { (filled.word ≡ 4 * turn + 1) × (word ≡ 4 * turn + 2) }
+        requires of_turn { Awaits turn filled.word × (word ≡ 4 * turn + 2) }
         ensures { (result.turn ≡ turn) × (result.log ≡ self.now.log) × (result.value ≡ filled.value) }
     {
         let Filled { at: _ } = filled;

@@ -36,7 +36,7 @@ use Rattle.atomic_table.proofs.Walks.{proved, leaves}
 use Rattle.atomic_table.proofs.Calls.{fm, seq_cst, stored, has_stored, stores}
 use Rattle.epoch_lend.proofs.Fields.{word, word_typed}
 use Rattle.epoch_lend.proofs.PartSteps.{freezes, Frozen, tokens_whole}
-use Rattle.epoch_lend_cells.specs.Turning.{TurnNames, TurnOf, turn_is, filled_has}
+use Rattle.epoch_lend_cells.specs.Turning.{Awaits, TurnNames, TurnOf, turn_is, filled_has}
 use Rattle.epoch_lend_cells.specs.contracts.turns.Turns as turns_is
 use Rattle.epoch_lend_cells.specs.contracts.turns.Filled as filled_is
 use Rattle.epoch_lend_cells.specs.contracts.turns.Name as name_is
@@ -133,7 +133,7 @@ show_spec 𝓤 𝓛 𝓜 𝓡 wired X L =
     ) in
     let Post : Val → SProp 𝓤 = (walk_of 𝓛 En hs c).post y in
     let OfPlace : Type 0 = (h.state ≡ d.state) × (h.at ≡ d.at) in
-    let OfTurn : Type 0 = (h.word ≡ 4 * t + 1) × (w ≡ 4 * t + 2) in
+    let OfTurn : Type 0 = Awaits t h.word × (w ≡ 4 * t + 2) in
     let tX : Fml = flft κs.1.0 qs.1.0 in
     let inX : Type 0 = κs.1.0 ⊑ X.lives in
     qed 𝓛 (((‵ (flft κ q) ⊛ ‵ (fsep tX ftrue)) ⊛ ‵ (owns (types_at En.signature.params κs) a y.0.4)) ∷ raw (fact 𝓤
@@ -147,7 +147,7 @@ show_spec 𝓤 𝓛 𝓜 𝓡 wired X L =
     rewrite ! 0 (λ (z : Ptr × ℕ × ℕ). ‵ (filled_has R z.0 z.1 z.2 x)) (λ i. (
       of_place.1 i,
       of_place.0 i,
-      of_turn.0 i,
+      h.word,
     )) refl $ fsplit ! $
     -- [obs; the value; the place; κ; X's token]
     enter ! 𝓣.C 𝓣.Λ fn us Post $ alloc_all ! (λ l. pass_all ! refl (
@@ -186,8 +186,8 @@ show_spec 𝓤 𝓛 𝓜 𝓡 wired X L =
     sets ! (addr ! (through ! refl (fld ! refl (stop !)))) refl (tt, tt) $ move ! (2 ∷ 0 ∷ 3 ∷ []) $
     use3 𝓛 (raw (𝓣.C _ (vptr b (o + 0) ∷ vint w64 w ∷ seq_cst ∷ []) (λ u. mean 𝓛 (stored after u))))
     (via 𝓤 _ (subst (λ (k : ℕ). ent 𝓤 (sep 𝓤 (𝓛.A.inv (fbor α (steps.Memory 𝓛 R d α s b o))) (sep 𝓤 (𝓛.A.lft α s) (sem 𝓛
-    (steps.Showing 𝓛 R d t e)))) (asks 𝓛 (block_ptr b (o + 0)) (λ _. k) always (λ _. after))) (sym of_turn.1)
-    (steps.shows_it 𝓛 R d α s b o t e)) (stores 𝓛 𝓜 𝓡 (code.calls-core::raw_atomic::store 𝓡.env wired) (block_ptr b
+    (steps.Showing 𝓛 R d t h.word e)))) (asks 𝓛 (block_ptr b (o + 0)) (λ _. k) always (λ _. after))) (sym of_turn.1)
+    (steps.shows_it 𝓛 R d α s b o t h.word e of_turn.0)) (stores 𝓛 𝓜 𝓡 (code.calls-core::raw_atomic::store 𝓡.env wired) (block_ptr b
     (o + 0)) w are.1.1.1.0.1 after)) $
     sets ! (agg ! (and_then ! (lit ! tt) (no_more !))) refl (tt, (record { fits = lit< tt }, tt)) $
     Calls-last ! (fm 𝓛 𝓜 𝓡) (stored after) (and_then ! (get ! refl) (and_then ! (get ! refl) (and_then ! (get ! refl)
