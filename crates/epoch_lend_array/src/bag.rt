@@ -5,7 +5,7 @@ ghost use Rattle.epoch_lend.specs.Posts.{logs_of};
 ghost use Rattle.epoch_lend.specs.Loans.{Within, AreShown, EachSeen, is_sealed};
 ghost use Rattle.epoch_lend_array.specs.Bags.{EachWatched};
 
-use crate::slot::Removal;
+use crate::slot::{Removal, Returned};
 use epoch_lend::watch::Watch;
 use epoch_lend_cells::turns::Name;
 use epoch_lend_readers::posts::{PostSet, Posts};
@@ -132,6 +132,22 @@ impl<'c, J: PostSet, T> ClearBag<'c, J, T> {
             (λ back. map (λ r. r.name) self.old.removals.items
             ≡ map (λ r. r.name) self.new.removals.items ++ back.1 ∷ []) }
         ensures value { MatchOption result (Unit {0}) (λ back. back.0 ≡ back.1.value) }
+    {
+        match self.next_with_room() {
+            Some(Returned { value, name, room }) => {
+                room.release();
+                Some((value, name))
+            }
+            None => None,
+        }
+    }
+
+    /// Takes the value of the last removal out of its slot, and returns it with its name and with the room in which it
+    /// was. `None`: each value was taken out.
+    pub fn next_with_room(&mut self) -> Option<Returned<'c, J, T>>
+        ensures which { MatchOption result (self.old.removals.items ≡ [])
+            (λ back. map (λ r. r.name) self.old.removals.items
+            ≡ map (λ r. r.name) self.new.removals.items ++ back.name ∷ []) }
     {
         match self.removals.pop() {
             Some(removal) => Some(removal.take(&mut self.watch)),

@@ -136,7 +136,7 @@ impl<J: PostSet, T> LendingCells<J, T> {
         ensures turn { IfSome result (λ removal. removal.name.turn ≡ spot.turn) }
     {
         match self.slots.get(spot.slot) {
-            Some(slot) => slot.mark(spot.turn),
+            Some(slot) => slot.mark(spot.turn, self, spot.slot),
             None => None,
         }
     }

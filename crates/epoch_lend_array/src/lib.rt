@@ -4,4 +4,5 @@
 
 pub mod bag;
 pub mod cells;
+pub mod room;
 pub mod slot;

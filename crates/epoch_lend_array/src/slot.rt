@@ -1,15 +1,19 @@
 //! One cell of an array, which holds one value after another, each at a turn of its own.
-ghost use Rattle.std.specs.Prelude.{◌≡◌, ◌+◌, ◌*◌, ◌≤◌, ◌++◌, [], IfSome, IfOk, IfErr};
+ghost use Rattle.std.specs.Prelude.{◌≡◌, ◌+◌, ◌*◌, ◌≤◌, ◌++◌, [], Some, map, IfSome, IfOk, IfErr};
+ghost use Rattle.std.specs.List.{slice_get};
 ghost use Rattle.epoch_lend.specs.Posts.{logs_of};
 ghost use Rattle.epoch_lend.specs.Loans.{Within, AreShown};
 ghost use Rattle.epoch_lend.specs.Watching.{AreWatched};
+ghost use Rattle.epoch_lend_cells.specs.Turning.{Awaits};
 ghost use Rattle.epoch_lend_cells.specs.declared.cell.TheConstants.{GREATEST_TURN};
 
+use crate::cells::LendingCells;
+use crate::room::Room;
 use epoch_lend::lending::Marked;
 use epoch_lend::watch::Watch;
 use epoch_lend_cells::cell::GREATEST_TURN;
 use epoch_lend_cells::sight::Sight;
-use epoch_lend_cells::turns::{Name, Place, Turns, Vacancy};
+use epoch_lend_cells::turns::{Claim, Filled, Name, Place, Turns, Vacancy};
 use epoch_lend_readers::posts::{Of, PostSet, Posts};
 use epoch_lend_readers::reader::Pinned;
 use std::alloc::{AllocError, Allocator};
@@ -29,7 +33,9 @@ pub struct Slot<J: PostSet, T> {
 /// A value that a mark took out of its slot, with what was lent of it, and its name.
 #[derive(Drop)]
 pub struct Removal<'c, J: PostSet, T> {
+    cells: &'c LendingCells<J, T>,
     slot: &'c Slot<J, T>,
+    position: usize,
     pub marked: Marked<T>,
     vacancy: Vacancy<T>,
     pub name: Name<T>,
@@ -40,6 +46,18 @@ pub struct Removal<'c, J: PostSet, T> {
     pub ghost of_turn: { (vacancy.word ≡ 4 * turn + 3) × (turn ≤ GREATEST_TURN) },
     pub ghost lent: { Within (logs_of J.posts) marked.loans },
     pub ghost named: { (name.log ≡ slot.now.turns.log) × (name.turn ≡ turn) × (name.value ≡ marked.value) },
+    pub ghost of_cells: { slice_get (map (λ s. s.turns.log) cells.now.slots.items) position
+        ≡ Some slot.now.turns.log },
+}
+
+/// A value that came back, and its name. The room is that of the cell that it was in.
+#[derive(Drop)]
+pub struct Returned<'c, J: PostSet, T> {
+    pub value: T,
+    pub name: Name<T>,
+    pub room: Room<'c, J, T>,
+    pub ghost named: { value ≡ name.value },
+    pub ghost of_room: { room.slot.now.turns.log ≡ name.log },
 }
 
 impl<J: PostSet, T: Drop> Slot<J, T> {
@@ -75,11 +93,31 @@ impl<J: PostSet, T: Drop> Slot<J, T> {
             return Err(value);
         }
         let filled = claim.fill(value);
-        Ok((turn, self.turns.show(filled, turn, vacant + 2)))
+        Ok((turn, self.show(filled, turn)))
     }
 }
 
 impl<J: PostSet, T> Slot<J, T> {
+    // Shows the value of a place that this caller has, at this turn.
+    #[inline(always)]
+    pub(crate) fn show(&self, filled: Filled<T>, turn: u64) -> Name<T>
+        requires of_place { (filled.state ≡ self.now.turns.state) × (filled.at ≡ self.now.turns.at) }
+        requires of_turn { Awaits turn filled.word × (turn ≤ GREATEST_TURN) }
+        ensures { (result.turn ≡ turn) × (result.log ≡ self.now.turns.log) × (result.value ≡ filled.value) }
+    {
+        self.turns.show(filled, turn, 4 * turn + 2)
+    }
+
+    // Leaves the place, whose value of this turn was taken out, to all callers.
+    #[inline(always)]
+    pub(crate) fn vacate(&self, claim: Claim<T>, turn: u64)
+        requires of_place { (claim.right ≡ 1) × (claim.state ≡ self.now.turns.state)
+            × (claim.at ≡ self.now.turns.at) }
+        requires of_turn { (claim.word ≡ 4 * turn + 3) × (turn ≤ GREATEST_TURN) }
+    {
+        self.turns.release(claim, turn, 4 * turn + 4);
+    }
+
     /// Lends the value of this turn, by one plain load, for as long as the reference to the pinned reader lasts.
     /// `None`: the cell has none, since none was placed at this turn yet, or it was marked.
     pub fn look<'g>(&self, turn: u64, pinned: &'g Pinned<'_, J>) -> Option<Sight<'g, T>>
@@ -98,8 +136,14 @@ impl<J: PostSet, T> Slot<J, T> {
 
     /// Marks the value of this turn, by a plain load and one exchange, so that no look finds it from then on. The
     /// caller that marks it gets what was lent of it, and no other caller does. `None`: the cell has no value of this
-    /// turn.
-    pub fn mark(&self, turn: u64) -> Option<Removal<'_, J, T>>
+    /// turn. It is the cell at this position of these cells.
+    pub(crate) fn mark<'c>(
+        &'c self,
+        turn: u64,
+        cells: &'c LendingCells<J, T>,
+        position: usize,
+    ) -> Option<Removal<'c, J, T>>
+        requires { slice_get (map (λ s. s.turns.log) cells.now.slots.items) position ≡ Some self.now.turns.log }
         ensures { IfSome result (λ removal. (removal.name.log ≡ self.now.turns.log) × (removal.name.turn ≡ turn)) }
     {
         if turn > GREATEST_TURN {
@@ -115,7 +159,9 @@ impl<J: PostSet, T> Slot<J, T> {
         let (again, marked, vacancy) = self.turns.mark(&name, self.at, shown, shown + 1);
         if again == shown {
             Some(Removal {
+                cells,
                 slot: self,
+                position,
                 marked,
                 vacancy,
                 name,
@@ -137,7 +183,9 @@ impl<'c, J: PostSet, T> Removal<'c, J, T> {
         ensures same { (result.marked ≡ self.entry.marked) × (result.name ≡ self.entry.name) }
     {
         let Removal {
+            cells,
             slot,
+            position,
             marked,
             vacancy,
             name,
@@ -145,7 +193,9 @@ impl<'c, J: PostSet, T> Removal<'c, J, T> {
         } = self;
         let marked = watch.add(marked);
         Removal {
+            cells,
             slot,
+            position,
             marked,
             vacancy,
             name,
@@ -153,16 +203,17 @@ impl<'c, J: PostSet, T> Removal<'c, J, T> {
         }
     }
 
-    /// Takes the value out of its slot, and makes the slot empty at its next turn. The watch must have seen that each
-    /// guard with a loan is over.
-    pub(crate) fn take(self, watch: &mut Watch) -> (T, Name<T>)
+    /// Takes the value out of its slot. The watch must have seen that each guard with a loan is over.
+    pub(crate) fn take(self, watch: &mut Watch) -> Returned<'c, J, T>
         requires watched { AreWatched self.marked.loans watch.old.loans }
         requires shown { AreShown watch.old.seen watch.old.loans }
-        ensures value { (result.0 ≡ result.1.value) × (result.1 ≡ self.entry.name) }
+        ensures name { result.name ≡ self.entry.name }
         ensures same { watch.new ≡ watch.old }
     {
         let Removal {
+            cells,
             slot,
+            position,
             marked,
             vacancy,
             name,
@@ -170,8 +221,14 @@ impl<'c, J: PostSet, T> Removal<'c, J, T> {
         } = self;
         let all = watch.collect(marked);
         let (claim, value) = vacancy.reclaim(all).take();
-        slot.turns.release(claim, turn, 4 * turn + 4);
-        (value, name)
+        let room = Room {
+            cells,
+            slot,
+            position,
+            turn,
+            claim,
+        };
+        Returned { value, name, room }
     }
 }
 

@@ -2,7 +2,7 @@ use Rattle.std.proofs.Common.{sym, subst}
 use Rattle.epoch_lend.specs.Loans.{AreShown}
 use Rattle.epoch_lend_array.specs.Bags.{EachWatched}
 use Rattle.epoch_lend_array.proofs.Bagged.{last_watched}
-use Rattle.epoch_lend_array.proofs.bag.ClearBag.next.Goals as goal
+use Rattle.epoch_lend_array.proofs.bag.ClearBag.next_with_room.Goals as goal
 
 -- the loans of the last removal are watched, as those of each are
 pub take-requires-clause-watched : goal.take-requires-clause-watched
