@@ -36,6 +36,14 @@ impl<'c, J: PostSet, T> Room<'c, J, T> {
         self.position
     }
 
+    /// Returns the turn of the value that was taken out. The next one is at the turn after it.
+    #[inline(always)]
+    pub fn turn(&self) -> u64
+        ensures { result ≡ self.now.turn }
+    {
+        self.turn
+    }
+
     /// Shows a value in the cell at its next turn, by one store, and returns where. If the cell has had its last turn,
     /// the value is handed back, and no value is placed there any more.
     #[inline(always)]
@@ -43,7 +51,8 @@ impl<'c, J: PostSet, T> Room<'c, J, T> {
         ensures slot { IfOk result (λ placed. slice_get (map (λ s. s.turns.log) self.entry.cells.now.slots.items)
             placed.spot.slot ≡ Some placed.name.log) }
         ensures position { IfOk result (λ placed. placed.spot.slot ≡ self.entry.position) }
-        ensures turn { IfOk result (λ placed. placed.name.turn ≡ placed.spot.turn) }
+        ensures turn { IfOk result (λ placed. (placed.name.turn ≡ placed.spot.turn)
+            × (placed.spot.turn ≡ self.entry.turn + 1)) }
         ensures within { IfOk result (λ placed. placed.spot.turn ≤ self.entry.cells.now.last_turn) }
         ensures placed { IfOk result (λ placed. placed.name.value ≡ value) }
         ensures handed_back { IfErr result (λ back. back ≡ value) }

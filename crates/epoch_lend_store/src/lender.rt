@@ -3,28 +3,33 @@ ghost use Rattle.std.specs.Prelude.{◌≡◌, ◌≤◌, ◌<◌, ◌+◌, leng
 ghost use Rattle.epoch_cells.specs.declared.fault.Fault.TheVariants.{NoMemory};
 
 use crate::lent_cells::LentCells;
-use counted_slot::{Counted, FREE, Fits, PRESENT, TAKEN};
+use crate::rooms::Rooms;
+use crate::shelf::Shelf;
 use epoch_cells::Fault;
 use epoch_lend_array::bag::{Bag, ClearBag, SealedBag};
+use epoch_lend_array::slot::Returned;
 use epoch_lend_readers::posts::PostSet;
 use std::alloc::{AllocError, Global};
+use std::mem;
 use std::sync::atomic::AtomicUsize;
 use std::sync::atomic::Ordering::SeqCst;
 
 /// How many waiting bags one call tries at most.
 pub const BAGS_TRIED: usize = 8;
 
+/// How many rooms of free cells are left together, and taken together, at most.
+pub const ROOMS_TOGETHER: usize = 64;
+
+// Places for bags that wait, and for lists of rooms.
+const WAITING_PLACES: usize = 64;
+
+const ROOM_PLACES: usize = 64;
+
 /// A bag of marked values that waits, and the slot of one of them.
 #[derive(Drop)]
 pub(crate) struct Waiting<'s, J: PostSet, T> {
     pub(crate) home: usize,
     pub(crate) bag: SealedBag<'s, J, T>,
-}
-
-impl<'s, J: PostSet, T> Fits for Waiting<'s, J, T> {
-    type Tag = ();
-
-    ghost fits = { λ _ _. Unit {0} };
 }
 
 unsafe impl<'s, J: PostSet, T: Send + Sync> Send for Waiting<'s, J, T> {}
@@ -37,35 +42,26 @@ unsafe impl<'s, J: PostSet, T: Send + Sync> Sync for Waiting<'s, J, T> {}
 #[derive(Drop)]
 pub struct Lender<'s, J: PostSet, T> {
     pub(crate) cells: &'s LentCells<J, T>,
-    // A place for each slot. A bag waits in the place of one of its own slots, so no other bag is put there.
-    places: Vec<Counted<Option<Waiting<'s, J, T>>>>,
-    // How many bags wait, at least, and in front of which place they all do.
-    waiting: AtomicUsize,
+    alloc: Global,
+    // Where bags wait.
+    waiting: Shelf<Waiting<'s, J, T>>,
+    // A place for each slot. A bag for which there is no other place waits in that of one of its own slots, in which no
+    // other bag is put.
+    own_places: Shelf<Waiting<'s, J, T>>,
+    // In front of which place all bags wait, those of slots behind the others; and where the next search begins.
     bound: AtomicUsize,
-    // Where the next search for a waiting bag begins.
     next: AtomicUsize,
+    // Rooms of free cells, for the next values of any caller; and how many are left together. None is left if that is 0.
+    rooms: Shelf<Rooms<'s, J, T>>,
+    together: usize,
+}
+
+// How many rooms of this many cells a reader may have, of this many readers: all together have at most half of them.
+fn together_of(cells: usize, readers: usize) -> usize {
+    (cells / 2 / readers.max(1)).min(ROOMS_TOGETHER)
 }
 
 impl<'s, J: PostSet, T> Lender<'s, J, T> {
-    /// Makes the lender of these cells. One lender has all values of its cells that are retired.
-    ///
-    /// `NoMemory`: an allocation was refused.
-    pub fn new(alloc: Global, cells: &'s LentCells<J, T>) -> Result<Lender<'s, J, T>, Fault>
-        ensures memory { IsOkUnless result NoMemory }
-        ensures cells { IfOk result (λ lender. lender.cells.now ≡ cells.now) }
-    {
-        match places_for(alloc, cells.capacity() + 1) {
-            Ok(places) => Ok(Lender {
-                cells,
-                places,
-                waiting: AtomicUsize::new(0),
-                bound: AtomicUsize::new(0),
-                next: AtomicUsize::new(0),
-            }),
-            Err(_) => Err(Fault::NoMemory),
-        }
-    }
-
     /// Returns the cells.
     #[inline(always)]
     pub fn cells(&self) -> &'s LentCells<J, T>
@@ -76,61 +72,121 @@ impl<'s, J: PostSet, T> Lender<'s, J, T> {
 
     /// Returns how many bags of retired values wait for guards. Another thread may change this at once.
     pub fn waiting(&self) -> usize {
-        self.waiting.load(SeqCst)
+        self.waiting.len().wrapping_add(self.own_places.len())
     }
-
-    // Puts a bag where it waits: in the place of one of its own slots, which is free.
-    fn put(&self, home: usize, bag: SealedBag<'s, J, T>) {
-        let Some(place) = self.places.get(home) else {
-            return;
-        };
-        self.bound.fetch_max(home.saturating_add(1), SeqCst);
-        self.waiting.fetch_add(1, SeqCst);
-        let (found, claim) = place.turn(FREE, TAKEN);
-        if found == FREE {
-            let _ = claim.put(Some(Waiting { home, bag }), PRESENT);
-        } else {
-            claim.done();
-        }
-    }
-
-    // Takes out the bag that waits in this place.
-    fn take_out(&self, position: usize) -> Option<Waiting<'s, J, T>> {
-        let place = self.places.get(position)?;
-        if place.load() != PRESENT {
-            return None;
-        }
-        let (found, claim) = place.turn(PRESENT, TAKEN);
-        if found != PRESENT {
-            claim.done();
-            return None;
-        }
-        let waiting = claim.put(None, FREE)?;
-        self.waiting.fetch_sub(1, SeqCst);
-        Some(waiting)
-    }
-}
-
-// This many places, in none of which a bag waits.
-fn places_for<'s, J: PostSet, T>(
-    alloc: Global,
-    count: usize,
-) -> Result<Vec<Counted<Option<Waiting<'s, J, T>>>>, AllocError> {
-    let mut places = Vec::with_capacity(alloc, count)?;
-    for _ in 0..count {
-        places
-            .push(Counted::new(None, &()))
-            .map_err(|_| AllocError)?;
-    }
-    Ok(places)
 }
 
 impl<'s, J: PostSet, T: Drop> Lender<'s, J, T> {
+    /// Makes the lender of these cells. One lender has all values of its cells that are retired.
+    ///
+    /// `NoMemory`: an allocation was refused.
+    pub fn new(alloc: Global, cells: &'s LentCells<J, T>) -> Result<Lender<'s, J, T>, Fault>
+        ensures memory { IsOkUnless result NoMemory }
+        ensures cells { IfOk result (λ lender. lender.cells.now ≡ cells.now) }
+    {
+        match Lender::with_places(alloc, cells) {
+            Ok(lender) => Ok(lender),
+            Err(_) => Err(Fault::NoMemory),
+        }
+    }
+
+    fn with_places(
+        alloc: Global,
+        cells: &'s LentCells<J, T>,
+    ) -> Result<Lender<'s, J, T>, AllocError>
+        ensures { IfOk result (λ lender. lender.cells.now ≡ cells.now) }
+    {
+        Ok(Lender {
+            cells,
+            alloc,
+            waiting: Shelf::new(alloc, WAITING_PLACES)?,
+            own_places: Shelf::new(alloc, cells.capacity() + 1)?,
+            bound: AtomicUsize::new(0),
+            next: AtomicUsize::new(0),
+            rooms: Shelf::new(alloc, ROOM_PLACES)?,
+            together: together_of(cells.capacity(), cells.readers()),
+        })
+    }
+
+    // Puts a bag where it waits.
+    fn put(&self, home: usize, bag: SealedBag<'s, J, T>) {
+        let waiting = Waiting { home, bag };
+        let position = match self.waiting.put(home % WAITING_PLACES, waiting) {
+            Ok(position) => position,
+            Err(waiting) => {
+                let _ = self.own_places.put_at(home, waiting);
+                WAITING_PLACES.saturating_add(home)
+            }
+        };
+        if self.bound.load(SeqCst) <= position {
+            self.bound.fetch_max(position.saturating_add(1), SeqCst);
+        }
+    }
+
+    // Takes out the bag that waits in this place. Those of slots are behind the others.
+    fn take_out(&self, position: usize) -> Option<Waiting<'s, J, T>> {
+        if position < WAITING_PLACES {
+            self.waiting.take_out(position)
+        } else {
+            self.own_places.take_out(position - WAITING_PLACES)
+        }
+    }
+
+    /// Takes rooms of free cells that were left together, for the values that a reader with this number places next.
+    /// `None`: none were seen.
+    pub fn take_rooms(&self, reader: usize) -> Option<Rooms<'s, J, T>> {
+        self.rooms.take(reader % ROOM_PLACES)
+    }
+
+    // Leaves rooms for the next values of any caller.
+    fn leave_rooms(&self, home: usize, rooms: Rooms<'s, J, T>) {
+        if rooms.len() == 0 {
+            return;
+        }
+        if let Err(rooms) = self.rooms.put(home % ROOM_PLACES, rooms) {
+            rooms.release();
+        }
+    }
+
+    // An empty list, in which the rooms of values that come back are left.
+    fn fresh_rooms(&self) -> Rooms<'s, J, T> {
+        match Rooms::with_capacity(self.alloc, self.together) {
+            Ok(rooms) => rooms,
+            Err(_) => Rooms::none(self.alloc),
+        }
+    }
+
+    // Drops the values of a clear bag, and leaves their rooms together. Returns how many values it had.
+    fn drop_all(&self, home: usize, clear: ClearBag<'s, J, T>) -> usize {
+        let mut rest = clear;
+        let mut dropped: usize = 0;
+        let mut rooms = self.fresh_rooms();
+        while let Some(Returned {
+            value,
+            name: _,
+            room,
+        }) = rest.next_with_room()
+        {
+            drop(value);
+            dropped = dropped.wrapping_add(1);
+            if self.together == 0 {
+                room.release();
+                continue;
+            }
+            if rooms.len() >= self.together {
+                self.leave_rooms(home, mem::replace(&mut rooms, self.fresh_rooms()));
+            }
+            rooms.keep(room);
+        }
+        self.leave_rooms(home, rooms);
+        dropped
+    }
+
     // Drops the values of a bag, or lets it wait while a guard may have one of them.
     fn settle(&self, home: usize, bag: SealedBag<'s, J, T>) {
         match bag.take_back(&self.cells.posts) {
             Ok(clear) => {
-                drop_all(clear);
+                self.drop_all(home, clear);
             }
             Err(bag) => self.put(home, bag),
         }
@@ -145,10 +201,10 @@ impl<'s, J: PostSet, T: Drop> Lender<'s, J, T> {
 
     /// Tries some of the bags that wait: the values of those that are clear are dropped.
     pub fn try_some(&self) {
-        if self.waiting.load(SeqCst) == 0 {
+        if self.waiting() == 0 {
             return;
         }
-        let bound = self.bound.load(SeqCst).min(self.places.len());
+        let bound = self.bound.load(SeqCst);
         let first = self.next.load(SeqCst).min(bound);
         let mut left = BAGS_TRIED;
         if self.try_between(first, bound, &mut left) {
@@ -180,15 +236,15 @@ impl<'s, J: PostSet, T: Drop> Lender<'s, J, T> {
     /// where they are, and so is a value for whose removal there is no memory.
     pub fn end(self, alloc: Global) -> usize {
         let mut dropped: usize = 0;
-        for position in 0..self.places.len() {
+        for position in 0..self.bound.load(SeqCst) {
             if let Some(waiting) = self.take_out(position) {
-                let Waiting { home: _, bag } = waiting;
+                let Waiting { home, bag } = waiting;
                 if let Ok(clear) = bag.take_back(&self.cells.posts) {
-                    dropped = dropped.wrapping_add(drop_all(clear));
+                    dropped = dropped.wrapping_add(self.drop_all(home, clear));
                 }
             }
         }
-        for slot in 0..self.places.len() {
+        for slot in 0..self.cells.capacity() + 1 {
             dropped = dropped.wrapping_add(self.drop_at(alloc, slot));
         }
         dropped
@@ -208,21 +264,10 @@ impl<'s, J: PostSet, T: Drop> Lender<'s, J, T> {
         }
         let sealed = removals.seal(&self.cells.posts);
         match sealed.take_back(&self.cells.posts) {
-            Ok(clear) => drop_all(clear),
+            Ok(clear) => self.drop_all(slot, clear),
             Err(_) => 0,
         }
     }
-}
-
-// Drops the values of a clear bag. Answers how many.
-fn drop_all<J: PostSet, T: Drop>(clear: ClearBag<'_, J, T>) -> usize {
-    let mut rest = clear;
-    let mut dropped: usize = 0;
-    while let Some((value, _)) = rest.next() {
-        drop(value);
-        dropped = dropped.wrapping_add(1);
-    }
-    dropped
 }
 
 unsafe impl<'s, J: PostSet, T: Send + Sync> Send for Lender<'s, J, T> {}

@@ -1,11 +1,12 @@
 //! Cells whose values have names, the posts of the readers that they are lent to, and a clock.
-ghost use Rattle.std.specs.Prelude.{◌≡◌, ◌<◌, ◌≤◌, ◌+◌, ◌^◌, length, map, IfOk, IfErr, IfSome, IsOkUnless};
+ghost use Rattle.std.specs.Prelude.{◌≡◌, ◌<◌, ◌≤◌, ◌+◌, ◌^◌, length, map, IsTrue, IfOk, IfErr, IfSome, IsOkUnless};
 ghost use Rattle.epoch_cells.specs.declared.fault.Fault.TheVariants.{NoMemory, CellsFull};
 ghost use Rattle.epoch_lend_store.specs.Named.{StandsUnder};
 
 use crate::spots::{LAST_TURN, name_of, spot_of};
 use epoch_cells::{Fault, MOST_SLOT, Name, Refused};
 use epoch_lend_array::cells::LendingCells;
+use epoch_lend_array::room::Room;
 use epoch_lend_cells::sight::Sight;
 use epoch_lend_cells::turns::Name as Witness;
 use epoch_lend_readers::posts::{PostSet, Posts};
@@ -106,6 +107,35 @@ impl<J: PostSet, T: Drop> LentCells<J, T> {
         }
     }
 
+    /// Shows the value in the room of a free cell, by one store, and returns the name that it has from then on. The
+    /// witness is of the cells that the room is of.
+    ///
+    /// `CellsFull`: the cell has had its last turn. The value is handed back, and no value is placed there any more.
+    #[inline(always)]
+    pub fn place_in(&self, room: Room<'_, J, T>, value: T) -> Result<Placed<T>, Refused<T>>
+        ensures placed { IfOk result (λ placed. placed.witness.value ≡ value) }
+        ensures named { IfOk result
+            (λ placed. StandsUnder (map (λ s. s.turns.log) room.entry.cells.now.slots.items) placed.name
+            placed.witness.log placed.witness.turn) }
+        ensures full { IfErr result (λ refused. (refused.fault ≡ CellsFull) × (refused.value ≡ value)) }
+    {
+        let fault = Fault::CellsFull;
+        if !has_names(&room) {
+            room.release();
+            return Err(Refused { fault, value });
+        }
+        match room.place(value) {
+            Ok(placed) => {
+                let name = name_of(placed.spot);
+                Ok(Placed {
+                    name,
+                    witness: placed.name,
+                })
+            }
+            Err(value) => Err(Refused { fault, value }),
+        }
+    }
+
     fn place_from(&self, first: usize, value: T) -> Result<Placed<T>, Refused<T>>
         ensures placed { IfOk result (λ placed. placed.witness.value ≡ value) }
         ensures named { IfOk result
@@ -141,6 +171,16 @@ impl<J: PostSet, T: Drop> LentCells<J, T> {
             }),
         }
     }
+}
+
+// Whether there is a name for the next value of this room.
+#[inline(always)]
+fn has_names<J: PostSet, T>(room: &Room<'_, J, T>) -> bool
+    ensures { IsTrue result → (1 ≤ room.now.position) × (room.now.position ≤ MOST_SLOT)
+        × (room.now.turn + 1 ≤ LAST_TURN) }
+{
+    let slot = room.position();
+    slot >= 1 && slot <= MOST_SLOT as usize && room.turn() < LAST_TURN
 }
 
 // This many starts, in equal distances among this many cells.

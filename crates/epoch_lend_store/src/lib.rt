@@ -4,4 +4,6 @@
 pub mod lender;
 pub mod lent_cells;
 pub mod retired;
+pub mod rooms;
+mod shelf;
 pub mod spots;

@@ -1,5 +1,5 @@
 use Rattle.std.proofs.Common.{length}
-use Rattle.epoch_lend_store.proofs.lender.drop_all.Given as goal
+use Rattle.epoch_lend_store.proofs.lender.Lender.drop_all.Given as goal
 
 -- as many values are left
 abbrev pub decreases-loop-value : goal.decreases-loop-value
