@@ -11,6 +11,7 @@ use epoch_lend_readers::posts::PostSet;
 use epoch_lend_readers::reader::Reader;
 use epoch_lend_store::lender::Lender;
 use epoch_lend_store::retired::Retired;
+use epoch_lend_store::rooms::Rooms;
 use std::alloc::Global;
 use std::fmt;
 
@@ -21,6 +22,9 @@ pub struct LendingHandle<'c, 'q, 's, J: PostSet, T> {
     pub(crate) reader: Option<Reader<'s, J>>,
     // What was retired, and is not deferred yet.
     pub(crate) kept: Retired<'q, 's, J, T>,
+    // Free cells, for the next values; and where others are looked for first.
+    pub(crate) rooms: Rooms<'s, J, T>,
+    pub(crate) near: usize,
     pub(crate) alloc: Global,
 }
 
@@ -120,8 +124,10 @@ impl<'c, 'q, 's, J: PostSet, T: Drop> LendingHandle<'c, 'q, 's, J, T> {
         match collector.register() {
             Ok(handle) => Ok(LendingHandle {
                 handle,
+                near: reader.position(),
                 reader: Some(reader),
                 kept,
+                rooms: Rooms::none(alloc),
                 alloc,
             }),
             Err(fault) => Err(fault),

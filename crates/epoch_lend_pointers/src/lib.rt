@@ -4,4 +4,5 @@
 pub mod guard;
 pub mod handle;
 pub mod marking;
+pub mod placing;
 pub mod retiring;

@@ -13,6 +13,7 @@ use epoch_cells::{Fault, Refused};
 use epoch_handles::Guard;
 use epoch_lend_readers::posts::PostSet;
 use epoch_lend_store::retired::{RETIRED_TOGETHER, Retired};
+use epoch_lend_store::rooms::Rooms;
 use epoch_lend_store::spots::spot_of;
 use std::mem;
 
@@ -165,8 +166,11 @@ impl<'c, 'q, 's, J: PostSet, T: Drop> LendingHandle<'c, 'q, 's, J, T> {
             handle,
             reader,
             kept,
+            rooms,
+            near,
             alloc,
         } = staying;
+        rooms.release();
         match handle.release() {
             Ok(()) => Ok(()),
             Err((handle, fault)) => {
@@ -174,6 +178,8 @@ impl<'c, 'q, 's, J: PostSet, T: Drop> LendingHandle<'c, 'q, 's, J, T> {
                     handle,
                     reader,
                     kept,
+                    rooms: Rooms::none(alloc),
+                    near,
                     alloc,
                 };
                 Err((staying, fault))
