@@ -1,10 +1,12 @@
 -- The path of a call, without what its accesses do.
-use Rattle.std.proofs.Common.{List, [], ◌∷◌, Option, refl}
+use Rattle.std.proofs.Common.{◌≡◌, ◌∙◌, List, [], ◌∷◌, Option, refl, sym, subst}
 use Rattle.epoch_cells.specs.declared.fault.Fault.{Fault}
 use Rattle.epoch_heap.specs.declared.access.Access.{Access}
 use Rattle.epoch_laws.specs.declared.step.Reply.{Reply}
 use Rattle.epoch_plans.specs.Plans.{Deed, Flushes, Touches, Defers, Answers, after_by}
 use Rattle.epoch_plan_calls.specs.Courses.{Keeping, PerformsBy, GoesTo, DoesBy}
+use Rattle.epoch_lend_array.specs.declared.cells.Spot.{Spot}
+use Rattle.epoch_lend_nodes.specs.Gathering.{MakesRoomFor, gathers}
 
 abbrev pub anything : Unit {0} → Access → Reply → Unit {0} → Type 0
 anything links access reply links' = Unit {0}
@@ -36,6 +38,47 @@ module _ {P A L H : Type 0} (does : L → Access → Reply → L → Type 0) (ke
     replies = did.replies;
     last = did.last;
     goes = goes_only did.replies first did.last old new l l' did.goes;
+    answers = did.answers;
+    newest = did.newest;
+  }
+
+-- the phase asks for room
+abbrev pub AsksForRoom : {P A : Type 0} → Deed P A → Type 0
+AsksForRoom (Flushes done refused) = Unit {0}
+AsksForRoom deed = ⊥
+
+module _ {P A H : Type 0} (spots : H → List Spot) (deed : P → Deed P A) (mid old : H) (same : spots mid ≡ spots old) where
+  performs_from : (d : Deed P A) (new : H) (reply : Reply) → AsksForRoom d
+      → PerformsBy anything (gathers spots) d mid tt reply new tt
+      → PerformsBy anything (gathers spots) d old tt reply new tt
+  performs_from (Flushes done refused) new reply asks p = (
+    subst (λ s. MakesRoomFor s reply (spots new)) same p.0,
+    refl,
+  )
+  performs_from (Touches access told refused) new reply asks p = absurd asks
+  performs_from (Defers name deferred refused) new reply asks p = absurd asks
+  performs_from (Answers answer) new reply asks p = absurd asks
+
+  goes_from : (replies : List Reply) (first last : P) (new : H) (answer : A) → AsksForRoom (deed first)
+      → deed last ≡ Answers answer → GoesTo anything (gathers spots) deed replies first mid tt last new tt
+      → GoesTo anything (gathers spots) deed replies first old tt last new tt
+  goes_from [] first last new answer asks answers goes =
+      absurd (subst (λ d. AsksForRoom d) answers (subst (λ p. AsksForRoom (deed p)) (sym goes.0) asks))
+  goes_from (reply ∷ replies) first last new answer asks answers goes = (
+    goes.0,
+    goes.1,
+    performs_from (deed first) goes.0 reply asks goes.2,
+    goes.3,
+  )
+
+  -- A call that makes room first takes the same path from any state with the same spots.
+  pub path_from : (first : P) (new : H) (answer : A) (refused : Option Fault) → AsksForRoom (deed first)
+      → DoesBy anything (gathers spots) deed first mid tt answer refused new tt
+      → DoesBy anything (gathers spots) deed first old tt answer refused new tt
+  path_from first new answer refused asks did = record {
+    replies = did.replies;
+    last = did.last;
+    goes = goes_from did.replies first did.last new answer asks did.answers did.goes;
     answers = did.answers;
     newest = did.newest;
   }

@@ -11,6 +11,7 @@ use crate::points::change_at;
 use epoch_atomic::atomic::{Atomic, Shared};
 use epoch_cells::{Fault, Name};
 use epoch_heap::{Access, Answer, Change, Ptr, Spot};
+use epoch_lend_array::room::Room;
 use epoch_lend_pointers::guard::LendingGuard;
 use epoch_lend_readers::posts::PostSet;
 use epoch_plan_threads::Spots;
@@ -36,16 +37,20 @@ pub struct NodeSpots<'g, 'c, 's, J: PostSet, V, W> {
     tail: Option<&'g Atomic<V>>,
     guard: &'g LendingGuard<'c, 's, J, V, W>,
     nodes: CallNodes<'g, V>,
+    // A free cell for the node that the call places.
+    room: Option<Room<'s, J, V>>,
 }
 
 impl<'g, 'c, 's, J: PostSet, V: LentNode, W> NodeSpots<'g, 'c, 's, J, V, W> {
-    /// Makes the spots of one call under this guard: root 0, root 1 if there is one, and the node that the call places.
+    /// Makes the spots of one call under this guard: root 0, root 1 if there is one, and the node that the call places,
+    /// with a free cell for it if there is one.
     #[inline(always)]
     pub fn new(
         head: &'g Atomic<V>,
         tail: Option<&'g Atomic<V>>,
         guard: &'g LendingGuard<'c, 's, J, V, W>,
         own: Option<V>,
+        room: Option<Room<'s, J, V>>,
     ) -> NodeSpots<'g, 'c, 's, J, V, W>
         ensures own { result.nodes.own ≡ own }
         ensures lent { result.nodes.lent ≡ None }
@@ -60,10 +65,11 @@ impl<'g, 'c, 's, J: PostSet, V: LentNode, W> NodeSpots<'g, 'c, 's, J, V, W> {
             tail,
             guard,
             nodes,
+            room,
         }
     }
 
-    /// Ends the call, and returns its nodes.
+    /// Ends the call, and returns its nodes. A free cell that it hasn't used is left to all callers.
     #[inline(always)]
     pub fn close(self) -> CallNodes<'g, V>
         ensures { result ≡ self.entry.nodes }
@@ -73,7 +79,11 @@ impl<'g, 'c, 's, J: PostSet, V: LentNode, W> NodeSpots<'g, 'c, 's, J, V, W> {
             tail: _,
             guard: _,
             nodes,
+            room,
         } = self;
+        if let Some(room) = room {
+            room.release();
+        }
         nodes
     }
 
@@ -86,8 +96,8 @@ impl<'g, 'c, 's, J: PostSet, V: LentNode, W> NodeSpots<'g, 'c, 's, J, V, W> {
         let Some(node) = self.nodes.own.take() else {
             return Ok(Answer::Absent);
         };
-        match self.guard.place_with_witness(node) {
-            Ok((pointer, _)) => match pointer.name() {
+        match self.guard.place_in(self.room.take(), node) {
+            Ok(pointer) => match pointer.name() {
                 Some(name) => Ok(Answer::Name(name)),
                 None => unreachable!(),
             },

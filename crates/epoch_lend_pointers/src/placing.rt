@@ -1,5 +1,5 @@
 //! How a handle places values: in free cells of its own, as long as it has some.
-ghost use Rattle.std.specs.Prelude.{◌≡◌, IfOk, IfErr};
+ghost use Rattle.std.specs.Prelude.{◌≡◌, IsSome, IfOk, IfErr};
 ghost use Rattle.epoch_cells.specs.declared.fault.Fault.TheVariants.{CellsFull};
 ghost use Rattle.epoch_atomic.specs.Pointers.{IsUnder};
 
@@ -51,6 +51,7 @@ impl<'c, 'q, 's, J: PostSet, T: Drop> LendingHandle<'c, 'q, 's, J, T> {
         ensures reader { self.new.reader ≡ self.old.reader }
         ensures kept { self.new.kept ≡ self.old.kept }
         ensures tag { IfOk result (λ pointer. pointer.tag ≡ 0) }
+        ensures some { IfOk result (λ pointer. IsSome pointer.name) }
         ensures home { IfOk result (λ pointer. IsUnder guard.now.guard.collector.now.id pointer.home) }
         ensures full { IfErr result (λ refused. (refused.fault ≡ CellsFull) × (refused.value ≡ value)) }
     {
@@ -71,15 +72,30 @@ impl<'c, 's, J: PostSet, T: Drop, W> LendingGuard<'c, 's, J, T, W> {
         value: T,
     ) -> Result<Shared<'g, T>, Refused<T>>
         ensures tag { IfOk result (λ pointer. pointer.tag ≡ 0) }
+        ensures some { IfOk result (λ pointer. IsSome pointer.name) }
         ensures home { IfOk result (λ pointer. IsUnder self.now.guard.collector.now.id pointer.home) }
         ensures full { IfErr result (λ refused. (refused.fault ≡ CellsFull) × (refused.value ≡ value)) }
     {
         let Some(room) = room else {
-            return self.place(value);
+            return self.place_anywhere(value);
         };
         match self.cells.place_in(room, value) {
             Ok(placed) => Ok(Shared::named(placed.name, &self.guard)),
-            Err(refused) => self.place(refused.value),
+            Err(refused) => self.place_anywhere(refused.value),
+        }
+    }
+
+    // Places the value in the first cell that is seen empty, which is searched for.
+    #[inline(never)]
+    fn place_anywhere<'g>(&'g self, value: T) -> Result<Shared<'g, T>, Refused<T>>
+        ensures tag { IfOk result (λ pointer. pointer.tag ≡ 0) }
+        ensures some { IfOk result (λ pointer. IsSome pointer.name) }
+        ensures home { IfOk result (λ pointer. IsUnder self.now.guard.collector.now.id pointer.home) }
+        ensures full { IfErr result (λ refused. (refused.fault ≡ CellsFull) × (refused.value ≡ value)) }
+    {
+        match self.place_with_witness(value) {
+            Ok((pointer, _)) => Ok(pointer),
+            Err(refused) => Err(refused),
         }
     }
 }
