@@ -9,6 +9,7 @@
 //! dropped, read, and read torn.
 #![tactic(auto)]
 
+mod changes;
 mod idle;
 mod maps;
 mod pointers;
@@ -111,6 +112,9 @@ fn time_row<R: Clock + Threads + Wait + Sync>(
 ) -> io::Result<u64> {
     if name == "map_100_contains" {
         return maps::time(rt, alloc, size, times);
+    }
+    if let Some(change) = changes::change_of(name) {
+        return changes::time(rt, alloc, change, size, times);
     }
     let Some(row) = pointers::row_of(name) else {
         return Err(io::Error::from(io::ErrorKind::InvalidInput));

@@ -99,7 +99,8 @@ impl<'c, 'q, 's, J: PostSet, T: Drop> LendingHandle<'c, 'q, 's, J, T> {
     }
 
     /// Makes room for a value that is retired next, so that it is unlinked only if it can be retired: if 64 values are
-    /// gathered, they are deferred.
+    /// gathered, they are deferred, and then the handle is flushed as by `LocalHandle::flush`, so that they needn't wait
+    /// for 63 others like them. A flush that finds no place for the held bag does no harm.
     ///
     /// The guard must be this handle's. `NoMemory`, `BagsFull`: what was gathered is as before.
     pub fn make_room(&mut self, guard: &GuardOf<'_, 'q, 's, J, T>) -> Result<(), Fault>
@@ -117,7 +118,9 @@ impl<'c, 'q, 's, J: PostSet, T: Drop> LendingHandle<'c, 'q, 's, J, T> {
             let _ = self.handle.collector();
             return Ok(());
         }
-        self.hand_over(guard.guard())
+        self.hand_over(guard.guard())?;
+        let _ = self.handle.flush(guard.guard());
+        Ok(())
     }
 
     /// Defers what was retired and is gathered, and flushes as `LocalHandle::flush` does: the held bag is put, and then

@@ -5,7 +5,7 @@ ghost use Rattle.epoch_lend_store.specs.Named.{StandsUnder};
 
 use crate::spots::{LAST_TURN, name_of, spot_of};
 use epoch_cells::{Fault, MOST_SLOT, Name, Refused};
-use epoch_lend_array::cells::LendingCells;
+use epoch_lend_array::cells::{LendingCells, Placed as Shown};
 use epoch_lend_array::room::Room;
 use epoch_lend_cells::sight::Sight;
 use epoch_lend_cells::turns::Name as Witness;
@@ -125,13 +125,7 @@ impl<J: PostSet, T: Drop> LentCells<J, T> {
             return Err(Refused { fault, value });
         }
         match room.place(value) {
-            Ok(placed) => {
-                let name = name_of(placed.spot);
-                Ok(Placed {
-                    name,
-                    witness: placed.name,
-                })
-            }
+            Ok(shown) => Ok(named(shown)),
             Err(value) => Err(Refused { fault, value }),
         }
     }
@@ -158,18 +152,28 @@ impl<J: PostSet, T: Drop> LentCells<J, T> {
         ensures full { IfErr result (λ refused. (refused.fault ≡ CellsFull) × (refused.value ≡ value)) }
     {
         match self.cells.place_between(from.max(1), to, value) {
-            Ok(placed) => {
-                let name = name_of(placed.spot);
-                Ok(Placed {
-                    name,
-                    witness: placed.name,
-                })
-            }
+            Ok(shown) => Ok(named(shown)),
             Err(value) => Err(Refused {
                 fault: Fault::CellsFull,
                 value,
             }),
         }
+    }
+}
+
+// The name of a value that is shown, with its witness.
+#[inline(always)]
+fn named<T>(shown: Shown<T>) -> Placed<T>
+    requires slot { (1 ≤ shown.spot.slot) × (shown.spot.slot ≤ MOST_SLOT) }
+    requires turn { shown.spot.turn ≤ LAST_TURN }
+    ensures slot { result.name.slot ≡ shown.spot.slot }
+    ensures turn { result.name.turn ≡ shown.spot.turn }
+    ensures witness { result.witness ≡ shown.name }
+{
+    let name = name_of(shown.spot);
+    Placed {
+        name,
+        witness: shown.name,
     }
 }
 

@@ -2,6 +2,8 @@
 #![tactic(auto)]
 
 #[cfg(test)]
+mod rooms;
+#[cfg(test)]
 mod slots;
 #[cfg(test)]
 mod threads;

@@ -1,0 +1,353 @@
+//! Rounds of changes: values behind a pointer that are replaced, and nodes of a stack and of a queue.
+ghost use Rattle.std.specs.Prelude.{◌≡◌};
+ghost use Rattle.epoch_handles.specs.Handles.{IsSame};
+
+use crate::idle::Idle;
+use crate::pointers::{Size, posts_for};
+use crate::span::Span;
+use epoch_atomic::atomic::Atomic;
+use epoch_cells::Fault;
+use epoch_handles::{Capacities, Collector};
+use epoch_lend_nodes::Node;
+use epoch_lend_pointers::handle::{GuardOf, LendingHandle};
+use epoch_lend_pointers::marking::{Marking, collector_of};
+use epoch_lend_queue::LendingQueue;
+use epoch_lend_readers::posts::{Made, PostSet, Posts};
+use epoch_lend_stack::LendingStack;
+use epoch_lend_store::lender::Lender;
+use epoch_lend_store::lent_cells::LentCells;
+use std::alloc::Global;
+use std::marker::Brand;
+use std::sync::Wait;
+use std::sync::atomic::Ordering::SeqCst;
+use std::thread::Threads;
+use std::time::Clock;
+use std::{io, thread};
+
+/// Cells of a lender, and places for bags of its collector.
+const CELLS: u32 = 4_096;
+
+const PLACES: u32 = 16;
+
+/// Tries of a push or a pop.
+const TRIES: u32 = 64;
+
+/// Values that are replaced under one guard.
+const TOGETHER: u64 = 64;
+
+type Link = Node<u64>;
+
+/// What a turn does.
+#[derive(Clone, Copy, PartialEq, Eq)]
+pub enum Change {
+    /// Replaces a value by a swap, under a pin of its own.
+    Replace,
+    /// The same, 64 under one guard, which flushes.
+    ReplaceTogether,
+    /// Pushes to a stack and pops, each under a pin of its own.
+    Stack,
+    /// The same with a queue.
+    Queue,
+}
+
+/// The change of this name.
+pub fn change_of(name: &str) -> Option<Change> {
+    match name {
+        "replace_swap_lending" => Some(Change::Replace),
+        "replace_swap_64_a_guard_flush_lending" => Some(Change::ReplaceTogether),
+        "treiber_push_pop_lending" => Some(Change::Stack),
+        "queue_push_pop_lending" => Some(Change::Queue),
+        _ => None,
+    }
+}
+
+/// What is changed.
+#[derive(Drop)]
+struct Things<'c, J: PostSet> {
+    pointer: Atomic<Link>,
+    stack: LendingStack<'c, J, Link>,
+    queue: LendingQueue<'c, J, Link>,
+}
+
+unsafe impl<'c, J: PostSet + Send + Sync> Send for Things<'c, J> {}
+
+unsafe impl<'c, J: PostSet + Send + Sync> Sync for Things<'c, J> {}
+
+/// What the threads of a round share.
+#[derive(Drop)]
+struct Scene<'c, 'q, 's, 'w, J: PostSet> {
+    collector: &'c Collector<Link, Marking<'q, 's, J, Link>>,
+    lender: &'q Lender<'s, J, Link>,
+    things: &'w Things<'c, J>,
+    alloc: Global,
+    change: Change,
+    size: Size,
+}
+
+// Puts values behind the pointer, one after the other, and retires those before. Returns how many were retired.
+#[inline(always)]
+fn replace<'c, 'q, 's, J: PostSet>(
+    handle: &mut LendingHandle<'c, 'q, 's, J, Link>,
+    guard: &GuardOf<'c, 'q, 's, J, Link>,
+    pointer: &Atomic<Link>,
+    values: u64,
+) -> u64
+    ensures same { IsSame handle.old.handle handle.new.handle }
+    ensures reader { handle.new.reader ≡ handle.old.reader }
+    ensures counted { handle.new.handle.machine.guards ≡ handle.old.handle.machine.guards }
+{
+    let mut done: u64 = 0;
+    for value in 0..values {
+        let Ok(placed) = handle.place(guard, Node::new(value)) else {
+            continue;
+        };
+        let Ok(before) = pointer.swap(placed, SeqCst, guard.guard()) else {
+            continue;
+        };
+        if before.is_null() || handle.retire(guard, before).is_ok() {
+            done = done.wrapping_add(1);
+        }
+    }
+    done
+}
+
+// 1 if the pop found a node.
+#[inline(always)]
+fn found(popped: Result<Option<&Link>, Fault>) -> u64 {
+    match popped {
+        Ok(Some(_)) => 1,
+        _ => 0,
+    }
+}
+
+impl<'c, 'q, 's, J: PostSet> Idle<'c, 'q, 's, J, Link> {
+    #[inline(never)]
+    fn replaces(&mut self, pointer: &Atomic<Link>, turns: u64) -> u64 {
+        let mut done: u64 = 0;
+        for _ in 0..turns {
+            let guard = self.handle.pin();
+            done = done.wrapping_add(replace(&mut self.handle, &guard, pointer, 1));
+            self.handle.unpin(guard);
+        }
+        done
+    }
+
+    #[inline(never)]
+    fn replaces_together(&mut self, pointer: &Atomic<Link>, turns: u64) -> u64 {
+        let mut done: u64 = 0;
+        for _ in 0..turns / TOGETHER {
+            let guard = self.handle.pin();
+            done = done.wrapping_add(replace(&mut self.handle, &guard, pointer, TOGETHER));
+            let _ = self.handle.flush(&guard);
+            self.handle.unpin(guard);
+        }
+        done
+    }
+
+    #[inline(never)]
+    fn pushes(&mut self, stack: &LendingStack<'c, J, Link>, turns: u64) -> u64 {
+        let mut done: u64 = 0;
+        for turn in 0..turns {
+            self.push(stack, turn);
+            done = done.wrapping_add(self.pop(stack));
+        }
+        done
+    }
+
+    #[inline(always)]
+    fn push(&mut self, stack: &LendingStack<'c, J, Link>, value: u64) {
+        let guard = self.handle.pin();
+        let _ = stack.push(&mut self.handle, &guard, Node::new(value), TRIES);
+        self.handle.unpin(guard);
+    }
+
+    #[inline(always)]
+    fn pop(&mut self, stack: &LendingStack<'c, J, Link>) -> u64 {
+        let guard = self.handle.pin();
+        let found = found(stack.pop(&mut self.handle, &guard, TRIES));
+        self.handle.unpin(guard);
+        found
+    }
+
+    #[inline(never)]
+    fn enqueues(&mut self, queue: &LendingQueue<'c, J, Link>, turns: u64) -> u64 {
+        let mut done: u64 = 0;
+        for turn in 0..turns {
+            self.enqueue(queue, turn);
+            done = done.wrapping_add(self.dequeue(queue));
+        }
+        done
+    }
+
+    #[inline(always)]
+    fn enqueue(&mut self, queue: &LendingQueue<'c, J, Link>, value: u64) {
+        let guard = self.handle.pin();
+        let _ = queue.push(&mut self.handle, &guard, Node::new(value), TRIES);
+        self.handle.unpin(guard);
+    }
+
+    #[inline(always)]
+    fn dequeue(&mut self, queue: &LendingQueue<'c, J, Link>) -> u64 {
+        let guard = self.handle.pin();
+        let found = found(queue.pop(&mut self.handle, &guard, TRIES));
+        self.handle.unpin(guard);
+        found
+    }
+
+    fn changes(&mut self, scene: &Scene<'c, 'q, 's, '_, J>) -> u64 {
+        let turns = scene.size.turns;
+        match scene.change {
+            Change::Replace => self.replaces(&scene.things.pointer, turns),
+            Change::ReplaceTogether => self.replaces_together(&scene.things.pointer, turns),
+            Change::Stack => self.pushes(&scene.things.stack, turns),
+            Change::Queue => self.enqueues(&scene.things.queue, turns),
+        }
+    }
+}
+
+// One thread's part of a round.
+fn take_part<R: Clock + Wait, J: PostSet>(
+    rt: &R,
+    scene: &Scene<'_, '_, '_, '_, J>,
+    span: &Span,
+) {
+    let threads = scene.size.threads;
+    let mut idle = Idle::register(scene.alloc, scene.collector, scene.lender);
+    let start = span.begin(rt, threads);
+    let done = match &mut idle {
+        Some(idle) => idle.changes(scene),
+        None => 0,
+    };
+    span.end(rt, threads, start, done);
+    if let Some(idle) = idle {
+        idle.leave(rt);
+    }
+}
+
+fn on_threads<R, J>(rt: &R, scene: &Scene<'_, '_, '_, '_, J>, span: &Span)
+where
+    R: Clock + Threads + Wait + Sync,
+    J: PostSet + Send + Sync,
+{
+    thread::scope(thread::scope_env(), rt, move |scope| {
+        for _ in 0..scene.size.threads {
+            let made = scope.spawn(move || take_part(rt, scene, span));
+            if made.is_err() {
+                span.miss();
+            }
+        }
+    });
+}
+
+// Makes the rounds, and returns how many turns of the last one did what they should.
+fn all_rounds<R, J>(rt: &R, scene: &Scene<'_, '_, '_, '_, J>, times: &mut [u64]) -> u64
+where
+    R: Clock + Threads + Wait + Sync,
+    J: PostSet + Send + Sync,
+{
+    let mut done = 0;
+    for time in times {
+        let span = Span::new();
+        if scene.size.threads == 1 {
+            take_part(rt, scene, &span);
+        } else {
+            on_threads(rt, scene, &span);
+        }
+        *time = span.each(scene.size.turns);
+        done = span.done();
+    }
+    done
+}
+
+// Makes a queue, with a participant of its own.
+fn queue_of<'c, 'q, 's, R: Wait, J: PostSet>(
+    rt: &R,
+    alloc: Global,
+    lender: &'q Lender<'s, J, Link>,
+    collector: &'c Collector<Link, Marking<'q, 's, J, Link>>,
+) -> Option<LendingQueue<'c, J, Link>> {
+    let idle = Idle::register(alloc, collector, lender)?;
+    let mut making = idle;
+    let guard = making.handle.pin();
+    let queue = LendingQueue::new(&guard, Node::new(0));
+    making.handle.unpin(guard);
+    making.leave(rt);
+    queue.ok()
+}
+
+fn rounds_with<'q, 's, R, J>(
+    rt: &R,
+    alloc: Global,
+    lender: &'q Lender<'s, J, Link>,
+    collector: &Collector<Link, Marking<'q, 's, J, Link>>,
+    change: Change,
+    size: Size,
+    times: &mut [u64],
+) -> u64
+where
+    R: Clock + Threads + Wait + Sync,
+    J: PostSet + Send + Sync,
+{
+    let Some(queue) = queue_of(rt, alloc, lender, collector) else {
+        return 0;
+    };
+    let things = Things {
+        pointer: Atomic::null(),
+        stack: LendingStack::new(collector),
+        queue,
+    };
+    let scene = Scene {
+        collector,
+        lender,
+        things: &things,
+        alloc,
+        change,
+        size,
+    };
+    all_rounds(rt, &scene, times)
+}
+
+fn rounds_over<R, J>(
+    rt: &R,
+    alloc: Global,
+    made: Made,
+    change: Change,
+    size: Size,
+    times: &mut [u64],
+) -> io::Result<u64>
+where
+    R: Clock + Threads + Wait + Sync,
+    J: PostSet + Send + Sync,
+    requires { made.posts.items ≡ J.posts }
+{
+    let capacities = Capacities::usual(u32::try_from(size.threads).unwrap_or(u32::MAX), 0, PLACES);
+    if !capacities.is_valid() {
+        return Err(io::Error::from(io::ErrorKind::InvalidInput));
+    }
+    let posts = Posts::<J>::of(alloc, made)?;
+    let Ok(cells) = LentCells::<J, Link>::new(alloc, CELLS, posts) else {
+        return Err(io::Error::from(io::ErrorKind::OutOfMemory));
+    };
+    let Ok(lender) = Lender::new(alloc, &cells) else {
+        return Err(io::Error::from(io::ErrorKind::OutOfMemory));
+    };
+    let Ok(collector) = collector_of(&lender, alloc, capacities, 1) else {
+        return Err(io::Error::from(io::ErrorKind::OutOfMemory));
+    };
+    let done = rounds_with(rt, alloc, &lender, &collector, change, size, times);
+    let _ = collector.end();
+    let _ = lender.end(alloc);
+    Ok(done)
+}
+
+/// Makes as many rounds as there are times, and returns how many turns of the last one did what they should.
+pub fn time<R: Clock + Threads + Wait + Sync>(
+    rt: &R,
+    alloc: Global,
+    change: Change,
+    size: Size,
+    times: &mut [u64],
+) -> io::Result<u64> {
+    let made = Made::new(alloc, posts_for(size.threads))?;
+    rounds_over::<R, Brand>(rt, alloc, made, change, size, times)
+}
