@@ -1,5 +1,5 @@
 //! Places that were emptied, each for the next value of whoever emptied it.
-ghost use Rattle.std.specs.Prelude.{◌≡◌, ◌+◌, ◌*◌, ◌≤◌, Some, map, IfOk, IfErr};
+ghost use Rattle.std.specs.Prelude.{◌≡◌, ◌+◌, ◌*◌, ◌<◌, ◌≤◌, ◌↔◌, Some, map, IsTrue, IsOk, IfOk, IfErr};
 ghost use Rattle.std.specs.List.{slice_get};
 ghost use Rattle.epoch_lend_cells.specs.declared.cell.TheConstants.{GREATEST_TURN};
 
@@ -44,6 +44,14 @@ impl<'c, J: PostSet, T> Room<'c, J, T> {
         self.turn
     }
 
+    /// Returns whether the cell has a turn for one more value.
+    #[inline(always)]
+    pub fn has_turn(&self) -> bool
+        ensures { IsTrue result ↔ (self.now.turn < self.now.cells.now.last_turn) }
+    {
+        self.turn < self.cells.last_turn()
+    }
+
     /// Shows a value in the cell at its next turn, by one store, and returns where. If the cell has had its last turn,
     /// the value is handed back, and no value is placed there any more.
     #[inline(always)]
@@ -56,8 +64,9 @@ impl<'c, J: PostSet, T> Room<'c, J, T> {
         ensures within { IfOk result (λ placed. placed.spot.turn ≤ self.entry.cells.now.last_turn) }
         ensures placed { IfOk result (λ placed. placed.name.value ≡ value) }
         ensures handed_back { IfErr result (λ back. back ≡ value) }
+        ensures succeeds { self.entry.turn < self.entry.cells.now.last_turn → IsOk result }
     {
-        if self.turn >= self.cells.last_turn() {
+        if !self.has_turn() {
             self.release();
             return Err(value);
         }

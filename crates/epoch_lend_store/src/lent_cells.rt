@@ -3,7 +3,7 @@ ghost use Rattle.std.specs.Prelude.{◌≡◌, ◌<◌, ◌≤◌, ◌+◌, ◌^
 ghost use Rattle.epoch_cells.specs.declared.fault.Fault.TheVariants.{NoMemory, CellsFull};
 ghost use Rattle.epoch_lend_store.specs.Named.{StandsUnder};
 
-use crate::spots::{LAST_TURN, name_of, spot_of};
+use crate::spots::{LAST_TURN, name_of, next_name, spot_of};
 use epoch_cells::{Fault, MOST_SLOT, Name, Refused};
 use epoch_lend_array::cells::{LendingCells, Placed as Shown};
 use epoch_lend_array::room::Room;
@@ -120,7 +120,7 @@ impl<J: PostSet, T: Drop> LentCells<J, T> {
         ensures full { IfErr result (λ refused. (refused.fault ≡ CellsFull) × (refused.value ≡ value)) }
     {
         let fault = Fault::CellsFull;
-        if !has_names(&room) {
+        if next_name(&room).is_none() {
             room.release();
             return Err(Refused { fault, value });
         }
@@ -175,16 +175,6 @@ fn named<T>(shown: Shown<T>) -> Placed<T>
         name,
         witness: shown.name,
     }
-}
-
-// Whether there is a name for the next value of this room.
-#[inline(always)]
-fn has_names<J: PostSet, T>(room: &Room<'_, J, T>) -> bool
-    ensures { IsTrue result → (1 ≤ room.now.position) × (room.now.position ≤ MOST_SLOT)
-        × (room.now.turn + 1 ≤ LAST_TURN) }
-{
-    let slot = room.position();
-    slot >= 1 && slot <= MOST_SLOT as usize && room.turn() < LAST_TURN
 }
 
 // This many starts, in equal distances among this many cells.
