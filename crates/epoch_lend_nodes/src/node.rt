@@ -12,6 +12,9 @@ pub trait LentNode: Pointable + Drop + Sized {
     /// Returns the pointer to the node behind this one. It is null where the node is made, and then only the structure
     /// changes it: a caller that stores another one has the structure lead elsewhere.
     fn next(&self) -> &Atomic<Self>;
+
+    /// Has this node, which no other thread has, point to the node behind it.
+    fn set_next(&mut self, next: Atomic<Self>);
 }
 
 /// A value, and the pointer to the node behind it.
@@ -73,5 +76,10 @@ impl<V: Drop> LentNode for Node<V> {
     #[inline(always)]
     fn next(&self) -> &Atomic<Node<V>> {
         &self.next
+    }
+
+    #[inline(always)]
+    fn set_next(&mut self, next: Atomic<Node<V>>) {
+        self.next = next;
     }
 }

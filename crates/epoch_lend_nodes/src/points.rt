@@ -7,7 +7,7 @@ use std::sync::atomic::Ordering::SeqCst;
 
 // The pointer that a thread has for one of the program.
 #[inline(always)]
-fn shared<'g, T: Pointable, W>(ptr: Ptr, guard: &'g Guard<'_, T, W>) -> Shared<'g, T> {
+pub(crate) fn shared<'g, T: Pointable, W>(ptr: Ptr, guard: &'g Guard<'_, T, W>) -> Shared<'g, T> {
     let Some(name) = ptr.name else {
         return Shared::null().with_tag(ptr.tag as usize);
     };

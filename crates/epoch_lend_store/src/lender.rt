@@ -161,11 +161,13 @@ impl<'s, J: PostSet, T: Drop> Lender<'s, J, T> {
         let mut rest = clear;
         let mut dropped: usize = 0;
         let mut rooms = self.fresh_rooms();
-        while let Some(Returned {
-            value,
-            name: _,
-            room,
-        }) = rest.next_with_room()
+        while let Some(
+            Returned {
+                value,
+                name: _,
+                room,
+            },
+        ) = rest.next_with_room()
         {
             drop(value);
             dropped = dropped.wrapping_add(1);
