@@ -358,6 +358,8 @@ unsafe impl<T: Send + Sync> Sync for Turns<T> {}
 
 unsafe impl<T: Send> Send for Claim<T> {}
 
+unsafe impl<T: Send> Sync for Claim<T> {}
+
 unsafe impl<T: Send> Send for Filled<T> {}
 
 unsafe impl<T: Send> Send for Vacancy<T> {}

@@ -68,7 +68,7 @@ impl SortedList {
     pub fn contains<J: PostSet, W>(
         &self,
         key: u64,
-        guard: &LendingGuard<'_, '_, J, Entry, W>,
+        guard: &LendingGuard<'_, '_, '_, J, Entry, W>,
         steps: u32,
     ) -> Result<bool, Fault> {
         // A walk goes from link to link, and not from pointer to pointer: what it carries on is then one address.
@@ -92,7 +92,7 @@ impl SortedList {
     pub fn insert<J: PostSet, W>(
         &self,
         key: u64,
-        guard: &LendingGuard<'_, '_, J, Entry, W>,
+        guard: &LendingGuard<'_, '_, '_, J, Entry, W>,
         steps: u32,
     ) -> Result<bool, Fault> {
         let place = self.find(key, guard, steps)?;
@@ -140,7 +140,7 @@ impl SortedList {
     fn find<'g, J: PostSet, W>(
         &'g self,
         key: u64,
-        guard: &'g LendingGuard<'_, '_, J, Entry, W>,
+        guard: &'g LendingGuard<'_, '_, '_, J, Entry, W>,
         steps: u32,
     ) -> Result<Place<'g>, Fault> {
         let mut link = &self.first;

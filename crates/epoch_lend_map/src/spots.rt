@@ -17,9 +17,9 @@ use std::sync::atomic::Ordering::SeqCst;
 
 /// The buckets of a map, and its nodes, under the guard of one call.
 #[derive(Drop)]
-pub struct LentSpots<'g, 'c, 's, J: PostSet, W> {
+pub struct LentSpots<'g, 'c, 'q, 's, J: PostSet, W> {
     pub(crate) buckets: &'g [Atomic<Node>],
-    pub(crate) guard: &'g LendingGuard<'c, 's, J, Node, W>,
+    pub(crate) guard: &'g LendingGuard<'c, 'q, 's, J, Node, W>,
 }
 
 // Stores or exchanges the pointer there. It stands out of line, as `place` does: a function that holds all accesses
@@ -42,7 +42,7 @@ fn change_at<W>(at: &Atomic<Node>, change: Change, guard: &Guard<'_, Node, W>) -
 #[inline(never)]
 fn place<J: PostSet, W>(
     entry: u64,
-    guard: &LendingGuard<'_, '_, J, Node, W>,
+    guard: &LendingGuard<'_, '_, '_, J, Node, W>,
 ) -> Result<Answer, Fault>
     ensures { IfErr result (λ fault. fault ≡ CellsFull) }
 {
@@ -56,7 +56,7 @@ fn place<J: PostSet, W>(
     }
 }
 
-impl<'g, 'c, 's, J: PostSet, W> LentSpots<'g, 'c, 's, J, W> {
+impl<'g, 'c, 'q, 's, J: PostSet, W> LentSpots<'g, 'c, 'q, 's, J, W> {
     // The node of this name, which is lent for as long as the guard is borrowed.
     #[inline(always)]
     fn node_of(&self, name: Name) -> Option<&'g Node> {
@@ -93,7 +93,7 @@ impl<'g, 'c, 's, J: PostSet, W> LentSpots<'g, 'c, 's, J, W> {
     }
 }
 
-impl<'g, 'c, 's, J: PostSet, W> MapSpots for LentSpots<'g, 'c, 's, J, W> {
+impl<'g, 'c, 'q, 's, J: PostSet, W> MapSpots for LentSpots<'g, 'c, 'q, 's, J, W> {
     type Node = &'g Node;
 
     #[inline(always)]
@@ -120,7 +120,7 @@ impl<'g, 'c, 's, J: PostSet, W> MapSpots for LentSpots<'g, 'c, 's, J, W> {
     }
 }
 
-impl<'g, 'c, 's, J: PostSet, W> Spots for LentSpots<'g, 'c, 's, J, W> {
+impl<'g, 'c, 'q, 's, J: PostSet, W> Spots for LentSpots<'g, 'c, 'q, 's, J, W> {
     ghost does = { λ _ _ _ _. Unit {0} };
 
     #[inline(always)]

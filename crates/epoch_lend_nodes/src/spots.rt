@@ -41,11 +41,11 @@ struct Unshown<'s, J: PostSet, V> {
 ///
 /// The program speaks of values as numbers. No value of a node is one: each is read as 0, and the node itself is lent.
 #[derive(Drop)]
-pub struct NodeSpots<'g, 'c, 's, J: PostSet, V, W> {
+pub struct NodeSpots<'g, 'c, 'q, 's, J: PostSet, V, W> {
     head: &'g Atomic<V>,
     // `None`: the structure has one root.
     tail: Option<&'g Atomic<V>>,
-    guard: &'g LendingGuard<'c, 's, J, V, W>,
+    guard: &'g LendingGuard<'c, 'q, 's, J, V, W>,
     nodes: CallNodes<'g, V>,
     // A free cell for the node that the call places.
     room: Option<Room<'s, J, V>>,
@@ -53,17 +53,17 @@ pub struct NodeSpots<'g, 'c, 's, J: PostSet, V, W> {
     unshown: Option<Unshown<'s, J, V>>,
 }
 
-impl<'g, 'c, 's, J: PostSet, V: LentNode, W> NodeSpots<'g, 'c, 's, J, V, W> {
+impl<'g, 'c, 'q, 's, J: PostSet, V: LentNode, W> NodeSpots<'g, 'c, 'q, 's, J, V, W> {
     /// Makes the spots of one call under this guard: root 0, root 1 if there is one, and the node that the call places,
     /// with a free cell for it if there is one.
     #[inline(always)]
     pub fn new(
         head: &'g Atomic<V>,
         tail: Option<&'g Atomic<V>>,
-        guard: &'g LendingGuard<'c, 's, J, V, W>,
+        guard: &'g LendingGuard<'c, 'q, 's, J, V, W>,
         own: Option<V>,
         room: Option<Room<'s, J, V>>,
-    ) -> NodeSpots<'g, 'c, 's, J, V, W>
+    ) -> NodeSpots<'g, 'c, 'q, 's, J, V, W>
         ensures own { result.nodes.own ≡ own }
         ensures lent { result.nodes.lent ≡ None }
     {
@@ -253,7 +253,7 @@ impl<'g, 'c, 's, J: PostSet, V: LentNode, W> NodeSpots<'g, 'c, 's, J, V, W> {
     }
 }
 
-impl<'g, 'c, 's, J: PostSet, V: LentNode, W> Spots for NodeSpots<'g, 'c, 's, J, V, W> {
+impl<'g, 'c, 'q, 's, J: PostSet, V: LentNode, W> Spots for NodeSpots<'g, 'c, 'q, 's, J, V, W> {
     ghost does = { λ old access reply new. MovesNodes old.nodes access reply new.nodes };
 
     #[inline(always)]

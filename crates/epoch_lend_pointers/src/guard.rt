@@ -11,25 +11,28 @@ use epoch_lend_cells::sight::Sight;
 use epoch_lend_cells::turns::Name as Witness;
 use epoch_lend_readers::posts::PostSet;
 use epoch_lend_readers::reader::Pinned;
+use epoch_lend_store::lender::{Lender, ROOM_PLACES};
 use epoch_lend_store::lent_cells::LentCells;
 use std::fmt;
 
 /// A guard of a pin, to which values are lent. It must be given back, to `LendingHandle::unpin`.
 ///
 /// What is lent under a reference to it stays for as long as that reference does.
-pub struct LendingGuard<'c, 's, J: PostSet, T, W> {
+pub struct LendingGuard<'c, 'q, 's, J: PostSet, T, W> {
     pub(crate) guard: Guard<'c, T, W>,
     pub(crate) pinned: Pinned<'s, J>,
     pub(crate) cells: &'s LentCells<J, T>,
+    // The lender of these cells.
+    pub(crate) lender: &'q Lender<'s, J, T>,
 }
 
-impl<'c, 's, J: PostSet, T, W> fmt::Debug for LendingGuard<'c, 's, J, T, W> {
+impl<'c, 'q, 's, J: PostSet, T, W> fmt::Debug for LendingGuard<'c, 'q, 's, J, T, W> {
     fn fmt<F: fmt::Write>(&self, f: &mut fmt::Formatter<F>) -> fmt::Result {
         f.pad("LendingGuard { .. }")
     }
 }
 
-impl<'c, 's, J: PostSet, T, W> LendingGuard<'c, 's, J, T, W> {
+impl<'c, 'q, 's, J: PostSet, T, W> LendingGuard<'c, 'q, 's, J, T, W> {
     /// Returns the collector's guard, under which pointers are loaded and exchanged.
     #[inline(always)]
     pub fn guard(&self) -> &Guard<'c, T, W>
@@ -60,7 +63,7 @@ impl<'c, 's, J: PostSet, T, W> LendingGuard<'c, 's, J, T, W> {
     }
 }
 
-impl<'c, 's, J: PostSet, T: Drop, W> LendingGuard<'c, 's, J, T, W> {
+impl<'c, 'q, 's, J: PostSet, T: Drop, W> LendingGuard<'c, 'q, 's, J, T, W> {
     /// Places the value in a cell, and returns the pointer to it, with tag 0.
     ///
     /// `CellsFull`: every cell was seen in use. The value is handed back.
@@ -90,9 +93,23 @@ impl<'c, 's, J: PostSet, T: Drop, W> LendingGuard<'c, 's, J, T, W> {
             placed.1.turn)) }
         ensures full { IfErr result (λ refused. (refused.fault ≡ CellsFull) × (refused.value ≡ value)) }
     {
-        match self.cells.place_near(value, &self.pinned) {
-            Ok(placed) => Ok((Shared::named(placed.name, &self.guard), placed.witness)),
-            Err(refused) => Err(refused),
+        let mut kept = value;
+        // Free cells that were left together for the next values of handles are left to all, list by list.
+        for _ in 0..ROOM_PLACES {
+            match self.cells.place_near(kept, &self.pinned) {
+                Ok(placed) => {
+                    return Ok((Shared::named(placed.name, &self.guard), placed.witness));
+                }
+                Err(refused) => kept = refused.value,
+            }
+            match self.lender.take_rooms(self.pinned.position()) {
+                Some(rooms) => rooms.release(),
+                None => break,
+            }
         }
+        Err(Refused {
+            fault: Fault::CellsFull,
+            value: kept,
+        })
     }
 }

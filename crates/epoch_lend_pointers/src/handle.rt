@@ -35,7 +35,7 @@ impl<'c, 'q, 's, J: PostSet, T> fmt::Debug for LendingHandle<'c, 'q, 's, J, T> {
 }
 
 /// The guard of such a participant.
-pub type GuardOf<'c, 'q, 's, J, T> = LendingGuard<'c, 's, J, T, Marking<'q, 's, J, T>>;
+pub type GuardOf<'c, 'q, 's, J, T> = LendingGuard<'c, 'q, 's, J, T, Marking<'q, 's, J, T>>;
 
 impl<'c, 'q, 's, J: PostSet, T> LendingHandle<'c, 'q, 's, J, T> {
     /// Returns the lender whose values its guards lend.
@@ -82,6 +82,7 @@ impl<'c, 'q, 's, J: PostSet, T> LendingHandle<'c, 'q, 's, J, T> {
             guard,
             pinned,
             cells: _,
+            lender: _,
         } = guard;
         let reader = pinned.unpin();
         self.handle.unpin(guard);
@@ -150,7 +151,8 @@ impl<'c, 'q, 's, J: PostSet, T: Drop> LendingHandle<'c, 'q, 's, J, T> {
         ensures counted { self.new.handle.machine.guards ≡ self.old.handle.machine.guards + 1 }
     {
         let guard = self.handle.pin();
-        let cells = self.kept.lender().cells();
+        let lender = self.kept.lender();
+        let cells = lender.cells();
         let epoch = cells.epoch();
         let Some(reader) = self.reader.take() else {
             unreachable!()
@@ -159,6 +161,7 @@ impl<'c, 'q, 's, J: PostSet, T: Drop> LendingHandle<'c, 'q, 's, J, T> {
             guard,
             pinned: reader.pin(epoch),
             cells,
+            lender,
         }
     }
 
@@ -182,6 +185,7 @@ impl<'c, 'q, 's, J: PostSet, T: Drop> LendingHandle<'c, 'q, 's, J, T> {
             guard,
             pinned,
             cells,
+            lender,
         } = guard;
         let mut guard = guard;
         let reader = pinned.unpin();
@@ -190,6 +194,7 @@ impl<'c, 'q, 's, J: PostSet, T: Drop> LendingHandle<'c, 'q, 's, J, T> {
             guard,
             pinned: reader.pin(cells.epoch()),
             cells,
+            lender,
         }
     }
 

@@ -60,7 +60,7 @@ impl<'c, 'q, 's, J: PostSet, T: Drop> LendingHandle<'c, 'q, 's, J, T> {
     }
 }
 
-impl<'c, 's, J: PostSet, T: Drop, W> LendingGuard<'c, 's, J, T, W> {
+impl<'c, 'q, 's, J: PostSet, T: Drop, W> LendingGuard<'c, 'q, 's, J, T, W> {
     /// Places the value in this free cell, by one store, or in another cell if there is none or the cell has had its
     /// last turn. Returns the pointer to it, with tag 0.
     ///

@@ -20,10 +20,11 @@ pub const BAGS_TRIED: usize = 8;
 /// How many rooms of free cells are left together, and taken together, at most.
 pub const ROOMS_TOGETHER: usize = 64;
 
-// Places for bags that wait, and for lists of rooms.
-const WAITING_PLACES: usize = 64;
+/// How many lists of rooms are left at a time, at most.
+pub const ROOM_PLACES: usize = 64;
 
-const ROOM_PLACES: usize = 64;
+// Places for bags that wait, in front of those of slots.
+const WAITING_PLACES: usize = 64;
 
 /// A bag of marked values that waits, and the slot of one of them.
 #[derive(Drop)]
@@ -31,10 +32,6 @@ pub(crate) struct Waiting<'s, J: PostSet, T> {
     pub(crate) home: usize,
     pub(crate) bag: SealedBag<'s, J, T>,
 }
-
-unsafe impl<'s, J: PostSet, T: Send + Sync> Send for Waiting<'s, J, T> {}
-
-unsafe impl<'s, J: PostSet, T: Send + Sync> Sync for Waiting<'s, J, T> {}
 
 /// Takes the values of its cells back once they were retired, and no guard may have them any more.
 ///

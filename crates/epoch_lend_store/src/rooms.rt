@@ -12,10 +12,6 @@ pub struct Rooms<'s, J: PostSet, T> {
     list: Vec<Room<'s, J, T>>,
 }
 
-unsafe impl<'s, J: PostSet, T: Send + Sync> Send for Rooms<'s, J, T> {}
-
-unsafe impl<'s, J: PostSet, T: Send + Sync> Sync for Rooms<'s, J, T> {}
-
 impl<'s, J: PostSet, T> Rooms<'s, J, T> {
     /// Makes a list with no room in it.
     pub fn none(alloc: Global) -> Rooms<'s, J, T> {

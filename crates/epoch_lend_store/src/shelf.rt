@@ -18,10 +18,6 @@ impl<X> Fits for Standing<X> {
     ghost fits = { λ _ _. Unit {0} };
 }
 
-unsafe impl<X: Send> Send for Standing<X> {}
-
-unsafe impl<X: Sync> Sync for Standing<X> {}
-
 /// A fixed number of places, each of which is empty or has one thing. Threads share it by `&`.
 #[derive(Drop)]
 pub(crate) struct Shelf<X> {
