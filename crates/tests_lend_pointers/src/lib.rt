@@ -5,6 +5,8 @@
 mod alone;
 #[cfg(test)]
 mod probes;
+#[cfg(test)]
+mod rooms;
 pub mod shares;
 #[cfg(test)]
 mod stage;
