@@ -5,8 +5,7 @@ ghost use Rattle.epoch_handles.specs.Handles.{Owns};
 ghost use Rattle.epoch_lend_nodes.specs.Gathering.{StaysSame, MakesRoomFor, KeepsRemoval};
 ghost use Rattle.epoch_plan_threads.proofs.PathsTaken.{same_on, owns_on};
 
-use epoch_atomic::atomic::Shared;
-use epoch_cells::{Fault, Name};
+use epoch_cells::Name;
 use epoch_heap::Answer;
 use epoch_laws::Reply;
 use epoch_lend_pointers::handle::{GuardOf, LendingHandle};
@@ -45,6 +44,7 @@ impl<'c, 'q, 's, J: PostSet, T: Drop> Keeps<
     ghost serves_on = { λ h last guard serves stays. owns_on h.handle last.handle guard.guard serves stays.0.same
         stays.0.counted };
 
+    #[inline(always)]
     fn make_room(
         handle: &mut LendingHandle<'c, 'q, 's, J, T>,
         guard: &GuardOf<'c, 'q, 's, J, T>,
@@ -55,18 +55,15 @@ impl<'c, 'q, 's, J: PostSet, T: Drop> Keeps<
         }
     }
 
+    #[inline(always)]
     fn keep(
         handle: &mut LendingHandle<'c, 'q, 's, J, T>,
         name: Name,
         guard: &GuardOf<'c, 'q, 's, J, T>,
     ) -> Reply {
-        if let Err(fault) = handle.make_room(guard) {
-            return Reply::Refused(fault);
-        }
-        match handle.retire(guard, Shared::named(name, guard.guard())) {
+        match handle.gather(guard, name) {
             Ok(()) => Reply::Done(Answer::Unit),
-            // With room made, nothing but memory can be wanting.
-            Err(_) => Reply::Refused(Fault::NoMemory),
+            Err(fault) => Reply::Refused(fault),
         }
     }
 }

@@ -1,5 +1,5 @@
 //! What a handle does with retired values: it gathers them, and defers their marks together.
-ghost use Rattle.std.specs.Prelude.{◌≡◌, ◌⊎◌, [], None, IsOk, IsErr, IfErr};
+ghost use Rattle.std.specs.Prelude.{◌≡◌, ◌⊎◌, [], None, Some, IsOk, IsErr, IfErr};
 ghost use Rattle.epoch_cells.specs.declared.fault.Fault.TheVariants.{StrangerGuard, StrangerPointer};
 ghost use Rattle.epoch_cells.specs.declared.fault.Fault.TheVariants.{NoMemory, BagsFull};
 ghost use Rattle.epoch_handles.specs.Handles.{IsReady, IsSame, Owns};
@@ -9,7 +9,7 @@ use crate::handle::{GuardOf, LendingHandle};
 use crate::marking::Marking;
 use epoch_atomic::atomic::Shared;
 use epoch_bags::Job;
-use epoch_cells::{Fault, Refused};
+use epoch_cells::{Fault, Name, Refused};
 use epoch_handles::Guard;
 use epoch_lend_readers::posts::PostSet;
 use epoch_lend_store::retired::{RETIRED_TOGETHER, Retired};
@@ -55,6 +55,7 @@ impl<'c, 'q, 's, J: PostSet, T: Drop> LendingHandle<'c, 'q, 's, J, T> {
     /// `StrangerGuard`: the guard isn't this handle's. `StrangerPointer`: the pointer is null. `NoMemory` and
     /// `BagsFull` come only if 64 values are gathered and their job is refused: see [`LendingHandle::make_room`]. The
     /// pointer is handed back.
+    #[inline(always)]
     pub fn retire<'g>(
         &mut self,
         guard: &GuardOf<'_, 'q, 's, J, T>,
@@ -83,19 +84,33 @@ impl<'c, 'q, 's, J: PostSet, T: Drop> LendingHandle<'c, 'q, 's, J, T> {
                 value: pointer,
             });
         };
-        if let Err(fault) = self.make_room(guard) {
-            return Err(Refused {
+        match self.gather(guard, name) {
+            Ok(()) => Ok(()),
+            Err(fault) => Err(Refused {
                 fault,
                 value: pointer,
-            });
+            }),
         }
-        if self.kept.keep(spot_of(name)).is_err() {
-            return Err(Refused {
-                fault: Fault::NoMemory,
-                value: pointer,
-            });
+    }
+
+    /// Retires the value of this name, as [`LendingHandle::retire`] does: makes room, and gathers it.
+    ///
+    /// The guard must be this handle's. `NoMemory`, `BagsFull`: the value is not retired.
+    #[inline(always)]
+    pub fn gather(&mut self, guard: &GuardOf<'_, 'q, 's, J, T>, name: Name) -> Result<(), Fault>
+        requires { Owns self.old.handle guard.now.guard }
+        ensures reader { self.new.reader ≡ self.old.reader }
+        ensures same { IsSame self.old.handle self.new.handle }
+        ensures ready { IsReady self.new.handle }
+        ensures counted { self.new.handle.machine.guards ≡ self.old.handle.machine.guards }
+        ensures ok { IsOk result → KeepsSpot (Some name) self.old.kept.spots.items self.new.kept.spots.items }
+        ensures fault { IfErr result (λ fault. (fault ≡ NoMemory) ⊎ (fault ≡ BagsFull)) }
+    {
+        self.make_room(guard)?;
+        match self.kept.keep(spot_of(name)) {
+            Ok(()) => Ok(()),
+            Err(_) => Err(Fault::NoMemory),
         }
-        Ok(())
     }
 
     /// Makes room for a value that is retired next, so that it is unlinked only if it can be retired: if 64 values are
@@ -103,6 +118,7 @@ impl<'c, 'q, 's, J: PostSet, T: Drop> LendingHandle<'c, 'q, 's, J, T> {
     /// for 63 others like them. A flush that finds no place for the held bag does no harm.
     ///
     /// The guard must be this handle's. `NoMemory`, `BagsFull`: what was gathered is as before.
+    #[inline(always)]
     pub fn make_room(&mut self, guard: &GuardOf<'_, 'q, 's, J, T>) -> Result<(), Fault>
         requires { Owns self.old.handle guard.now.guard }
         ensures reader { self.new.reader ≡ self.old.reader }
@@ -118,6 +134,22 @@ impl<'c, 'q, 's, J: PostSet, T: Drop> LendingHandle<'c, 'q, 's, J, T> {
             let _ = self.handle.collector();
             return Ok(());
         }
+        self.hand_all_over(guard)
+    }
+
+    // Defers what is kept, and flushes.
+    #[cold]
+    #[inline(never)]
+    fn hand_all_over(&mut self, guard: &GuardOf<'_, 'q, 's, J, T>) -> Result<(), Fault>
+        requires { Owns self.old.handle guard.now.guard }
+        ensures reader { self.new.reader ≡ self.old.reader }
+        ensures same { IsSame self.old.handle self.new.handle }
+        ensures ready { IsReady self.new.handle }
+        ensures counted { self.new.handle.machine.guards ≡ self.old.handle.machine.guards }
+        ensures ok { IsOk result → self.new.kept.spots.items ≡ [] }
+        ensures err { IsErr result → self.new.kept.spots.items ≡ self.old.kept.spots.items }
+        ensures fault { IfErr result (λ fault. (fault ≡ NoMemory) ⊎ (fault ≡ BagsFull)) }
+    {
         self.hand_over(guard.guard())?;
         let _ = self.handle.flush(guard.guard());
         Ok(())

@@ -1,12 +1,11 @@
 //! A thread's call: the phases of its program, one after the other.
 ghost use Rattle.std.specs.Prelude.{◌≡◌, IsErr, IfOk, IfErr};
 ghost use Rattle.epoch_plans.specs.Plans.{Answers};
-ghost use Rattle.epoch_plan_threads.specs.Paths.{fault_after};
 ghost use Rattle.epoch_plan_calls.specs.Courses.{PerformsBy, DoesBy};
 
+use crate::asking::newest;
 use crate::keeping::Keeps;
 use crate::reading::{Course, as_reply};
-use epoch_cells::Fault;
 use epoch_laws::Reply;
 use epoch_plan_threads::{Ends, Outcome, Spots};
 use epoch_plans::{PhaseMachine, Wish};
@@ -31,17 +30,6 @@ fn perform<P: PhaseMachine, K: Keeps<H, G>, H, G, L: Spots>(
         Wish::Touch(access) => Ok(as_reply(spots.touch(access))),
         Wish::Defer(name) => Ok(K::keep(handle, name, guard)),
         Wish::Answer(answer) => Err(answer),
-    }
-}
-
-// The newest fault, after this reply.
-#[inline(always)]
-fn newest(before: Option<Fault>, reply: Reply) -> Option<Fault>
-    ensures { result ≡ fault_after before reply }
-{
-    match reply {
-        Reply::Refused(fault) => Some(fault),
-        _ => before,
     }
 }
 

@@ -1,5 +1,5 @@
 use Rattle.std.proofs.Common.{◌∙◌, [], ◌∷◌, ◌++◌, None, refl, sym, ap, subst, ◌<◌, arith}
-use Rattle.epoch_plan_threads.specs.Paths.{fault_after, newest_fault}
+use Rattle.epoch_plan_threads.specs.Paths.{fault_after}
 use Rattle.epoch_plan_threads.proofs.PathsTaken.{newest_after}
 use Rattle.epoch_plan_calls.specs.Courses.{GoesTo}
 use Rattle.epoch_plan_calls.proofs.Ways.{goes_further, goes_reading, goes_still, reads_refuse_more}
