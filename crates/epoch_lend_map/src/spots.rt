@@ -1,65 +1,129 @@
 //! The buckets of a map that threads share, and its nodes, which are lent.
-ghost use Rattle.std.specs.Prelude.{◌≡◌, None, IfSome, IfErr};
+ghost use Rattle.std.specs.Prelude.{◌≡◌, ℕ, Option, Some, None, map, IfSome, IfErr};
+ghost use Rattle.std.specs.declared.cmp.Ordering.{Ordering};
 ghost use Rattle.epoch_cells.specs.declared.fault.Fault.TheVariants.{CellsFull};
+ghost use Rattle.epoch_heap.specs.declared.access.Access.TheVariants.{Place, Read};
+ghost use Rattle.epoch_heap.specs.declared.access.Answer.TheVariants.{Value};
+ghost use Rattle.epoch_laws.specs.declared.step.Reply.TheVariants.{Done};
+ghost use Rattle.epoch_lend_map.specs.Moving.{MovesNodes};
+ghost use Rattle.epoch_lend_store.specs.Named.{StandsUnder};
+ghost use Rattle.epoch_map_calls.specs.MapCalls.{coded};
 ghost use Rattle.epoch_plan_threads.specs.Paths.{IsTold, reply_of};
 
-use crate::node::Node;
+use crate::node::MapNode;
 use epoch_atomic::atomic::{Atomic, Shared};
 use epoch_cells::{Fault, Name};
 use epoch_handles::Guard;
 use epoch_heap::{Access, Answer, Change, Ptr, Spot};
+use epoch_lend_cells::turns::Name as Witness;
 use epoch_lend_nodes::{ptr_of, write_at};
 use epoch_lend_pointers::guard::LendingGuard;
 use epoch_lend_readers::posts::PostSet;
-use epoch_map_calls::MapSpots;
+use epoch_map_calls::{MapSpots, coded};
 use epoch_plan_threads::Spots;
+use std::cmp::Ordering;
 use std::sync::atomic::Ordering::SeqCst;
 
-/// The buckets of a map, and its nodes, under the guard of one call.
+/// The nodes of one call, and the key that it seeks.
 #[derive(Drop)]
-pub struct LentSpots<'g, 'c, 's, J: PostSet, W> {
-    pub(crate) buckets: &'g [Atomic<Node>],
-    pub(crate) guard: &'g LendingGuard<'c, 's, J, Node, W>,
+pub struct CallNodes<'g, 'k, N, K> {
+    /// The node that an insert places.
+    pub own: Option<N>,
+    /// The key that is sought. `None`: it is that of a node which isn't placed yet.
+    pub key: Option<&'k K>,
+    /// The node that was read last.
+    pub lent: Option<&'g N>,
+}
+
+/// The buckets of a map, and its nodes, under the guard of one call.
+///
+/// The program speaks of entries as numbers. Here each is the number of how the node's key compares with the one that
+/// is sought, and the node itself is lent.
+#[derive(Drop)]
+pub struct LentSpots<'g, 'k, 'c, 's, J: PostSet, N: MapNode, W> {
+    buckets: &'g [Atomic<N>],
+    guard: &'g LendingGuard<'c, 's, J, N, W>,
+    nodes: CallNodes<'g, 'k, N, N::Key>,
 }
 
 // Stores or exchanges the pointer there. It stands out of line, as `place` does: a function that holds all accesses
 // isn't inlined if it holds these, too, and then a walk that only loads doesn't know its accesses.
 #[inline(never)]
-fn write_out_of_line<W>(at: &Atomic<Node>, change: Change, guard: &Guard<'_, Node, W>) -> Answer {
+fn write_out_of_line<N: MapNode, W>(
+    at: &Atomic<N>,
+    change: Change,
+    guard: &Guard<'_, N, W>,
+) -> Answer {
     write_at(at, change, guard)
 }
 
 // Loads, stores or exchanges the pointer there. The phases of a map ask for no other change.
 #[inline(always)]
-fn change_at<W>(at: &Atomic<Node>, change: Change, guard: &Guard<'_, Node, W>) -> Answer {
+fn change_at<N: MapNode, W>(at: &Atomic<N>, change: Change, guard: &Guard<'_, N, W>) -> Answer {
     match change {
         Change::Load => Answer::Pointer(ptr_of(at.load(SeqCst, guard))),
         _ => write_out_of_line(at, change, guard),
     }
 }
 
-// Places a node with this entry, which points to none.
-#[inline(never)]
-fn place<J: PostSet, W>(
-    entry: u64,
-    guard: &LendingGuard<'_, '_, J, Node, W>,
-) -> Result<Answer, Fault>
-    ensures { IfErr result (λ fault. fault ≡ CellsFull) }
+// The node that was placed under this pointer, by the witness of its placing.
+fn placed<'g, J: PostSet, N: MapNode, W>(
+    guard: &'g LendingGuard<'_, '_, J, N, W>,
+    pointer: Shared<'_, N>,
+    witness: &Witness<N>,
+) -> Option<&'g N>
+    requires { IfSome pointer.name (λ name. StandsUnder (map (λ s. s.turns.log) guard.now.cells.now.cells.slots.items)
+        name witness.now.log witness.now.turn) }
+    ensures { IfSome result (λ node. node.now ≡ witness.now.value) }
 {
-    let next = Atomic::null();
-    let Ok(node) = guard.place(Node { entry, next }) else {
-        return Err(Fault::CellsFull);
-    };
-    match node.name() {
-        Some(name) => Ok(Answer::Name(name)),
-        None => Ok(Answer::Absent),
+    match guard.look(pointer) {
+        Some(sight) => {
+            sight.name.agree(witness);
+            Some(sight.value)
+        }
+        None => None,
     }
 }
 
-impl<'g, 'c, 's, J: PostSet, W> LentSpots<'g, 'c, 's, J, W> {
+impl<'g, 'k, 'c, 's, J: PostSet, N: MapNode, W> LentSpots<'g, 'k, 'c, 's, J, N, W> {
+    /// Makes the spots of one call under this guard, which seeks this key.
+    #[inline(always)]
+    pub fn new(
+        buckets: &'g [Atomic<N>],
+        guard: &'g LendingGuard<'c, 's, J, N, W>,
+        key: &'k N::Key,
+    ) -> LentSpots<'g, 'k, 'c, 's, J, N, W>
+        ensures own { result.nodes.own ≡ None }
+        ensures key { result.nodes.key ≡ Some key }
+    {
+        let nodes = CallNodes {
+            own: None,
+            key: Some(key),
+            lent: None,
+        };
+        LentSpots {
+            buckets,
+            guard,
+            nodes,
+        }
+    }
+
+    /// Ends the call, and returns its nodes.
+    #[inline(always)]
+    pub fn close(self) -> CallNodes<'g, 'k, N, N::Key>
+        ensures { result ≡ self.entry.nodes }
+    {
+        let LentSpots {
+            buckets: _,
+            guard: _,
+            nodes,
+        } = self;
+        nodes
+    }
+
     // The node of this name, which is lent for as long as the guard is borrowed.
     #[inline(always)]
-    fn node_of(&self, name: Name) -> Option<&'g Node> {
+    fn node_of(&self, name: Name) -> Option<&'g N> {
         self.guard.get(Shared::named(name, self.guard.guard()))
     }
 
@@ -70,7 +134,7 @@ impl<'g, 'c, 's, J: PostSet, W> LentSpots<'g, 'c, 's, J, W> {
         let at = match spot {
             Spot::Root(bucket) => self.buckets.get(bucket as usize),
             Spot::Field(name, _) => match self.node_of(name) {
-                Some(node) => Some(&node.next),
+                Some(node) => Some(node.next()),
                 None => None,
             },
         };
@@ -80,61 +144,62 @@ impl<'g, 'c, 's, J: PostSet, W> LentSpots<'g, 'c, 's, J, W> {
         }
     }
 
-    // Answers the node's entry. `Absent`: it isn't lent.
+    // Reads the node of this name, and compares its key with the one that is sought. `None`: it isn't lent.
     #[inline(always)]
-    fn read(&self, ptr: Ptr) -> Answer {
+    fn compare(&mut self, name: Name) -> Option<(Ordering, &'g N)>
+        ensures some { IfSome result (λ read. (guard : Option ℕ) (tag : ℕ)
+            → MovesNodes N.key N.Key.cmp self.old.nodes (Read guard (record { name = Some name; tag = tag }))
+            (Done (Value (coded read.0))) self.new.nodes) }
+        ensures none { result ≡ None → self.new ≡ self.old }
+    {
+        let Some(key) = self.nodes.key else {
+            return None;
+        };
+        match self.node_of(name) {
+            Some(node) => {
+                self.nodes.lent = Some(node);
+                Some((node.key().cmp(key), node))
+            }
+            None => None,
+        }
+    }
+
+    // Reads the node to which the pointer leads. `Absent`: it isn't lent.
+    #[inline(always)]
+    fn read(&mut self, ptr: Ptr) -> Answer
+        ensures { (guard : Option ℕ)
+            → MovesNodes N.key N.Key.cmp self.old.nodes (Read guard ptr) (Done result) self.new.nodes }
+    {
         let Some(name) = ptr.name else {
             return Answer::Absent;
         };
-        match self.node_of(name) {
-            Some(node) => Answer::Value(node.entry),
+        match self.compare(name) {
+            Some((order, _)) => Answer::Value(coded(order)),
             None => Answer::Absent,
         }
     }
 }
 
-impl<'g, 'c, 's, J: PostSet, W> MapSpots for LentSpots<'g, 'c, 's, J, W> {
-    type Node = &'g Node;
-
+impl<'g, 'c, 's, J: PostSet, N: MapNode, W> LentSpots<'g, 'g, 'c, 's, J, N, W> {
+    /// Makes the spots of an insert of this node under this guard. It seeks the key of its node, once that is placed.
     #[inline(always)]
-    fn entry(&mut self, node: Name) -> Option<(u64, &'g Node)>
-        ensures some { IfSome result (λ _. Unit {0}) }
-        ensures none { result ≡ None → self.new ≡ self.old }
+    pub fn with_node(
+        buckets: &'g [Atomic<N>],
+        guard: &'g LendingGuard<'c, 's, J, N, W>,
+        node: N,
+    ) -> LentSpots<'g, 'g, 'c, 's, J, N, W>
+        ensures own { result.nodes.own ≡ Some node }
+        ensures key { result.nodes.key ≡ None }
     {
-        match self.node_of(node) {
-            Some(lent) => Some((lent.entry, lent)),
-            None => None,
-        }
-    }
-
-    // What is lent need not be given back.
-    #[inline(always)]
-    fn leave(&mut self, _node: Name) {}
-
-    #[inline(always)]
-    fn next(&mut self, _node: Name, lent: &'g Node) -> Option<Ptr>
-        ensures some { IfSome result (λ _. Unit {0}) }
-        ensures none { result ≡ None → self.new ≡ self.old }
-    {
-        Some(ptr_of(lent.next.load(SeqCst, self.guard.guard())))
-    }
-}
-
-impl<'g, 'c, 's, J: PostSet, W> Spots for LentSpots<'g, 'c, 's, J, W> {
-    ghost does = { λ _ _ _ _. Unit {0} };
-
-    #[inline(always)]
-    fn touch(&mut self, access: Access) -> Result<Answer, Fault>
-        ensures does { Unit {0} }
-        ensures told { IsTold access (reply_of result) }
-    {
-        match access {
-            Access::Place(entry) => place(entry, self.guard),
-            Access::Read(_, ptr) => Ok(self.read(ptr)),
-            // What is lent need not be given back.
-            Access::Leave(_) => Ok(Answer::Unit),
-            Access::Point(_, spot, change) => Ok(self.point(spot, change)),
-            Access::Write(..) | Access::Take(..) => Ok(Answer::Absent),
+        let nodes = CallNodes {
+            own: Some(node),
+            key: None,
+            lent: None,
+        };
+        LentSpots {
+            buckets,
+            guard,
+            nodes,
         }
     }
 }

@@ -1,4 +1,5 @@
 mod Fitting
 mod Looking
+mod Passing
 mod Strides
 mod Telling
