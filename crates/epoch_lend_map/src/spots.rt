@@ -1,13 +1,15 @@
 //! The buckets of a map that threads share, and its nodes, which are lent.
 ghost use Rattle.std.specs.Prelude.{◌≡◌, ℕ, Option, Some, None, map, IfSome, IfErr};
-ghost use Rattle.std.specs.declared.cmp.Ordering.{Ordering};
 ghost use Rattle.epoch_cells.specs.declared.fault.Fault.TheVariants.{CellsFull};
-ghost use Rattle.epoch_heap.specs.declared.access.Access.TheVariants.{Place, Read};
-ghost use Rattle.epoch_heap.specs.declared.access.Answer.TheVariants.{Value};
+ghost use Rattle.epoch_heap.specs.declared.access.Access.TheVariants.{Place, Read, Point};
+ghost use Rattle.epoch_heap.specs.declared.access.Answer.TheVariants.{Value, Pointer, Absent};
+ghost use Rattle.epoch_heap.specs.declared.access.Change.TheVariants.{Load};
+ghost use Rattle.epoch_heap.specs.declared.access.Spot.TheVariants.{Root, Field};
 ghost use Rattle.epoch_laws.specs.declared.step.Reply.TheVariants.{Done};
-ghost use Rattle.epoch_lend_map.specs.Moving.{MovesNodes};
+ghost use Rattle.epoch_lend_map.specs.Moving.{MovesNodes, ReadsNode};
 ghost use Rattle.epoch_lend_store.specs.Named.{StandsUnder};
 ghost use Rattle.epoch_map_calls.specs.MapCalls.{coded};
+ghost use Rattle.epoch_plans.specs.Plans.{ptr_to};
 ghost use Rattle.epoch_plan_threads.specs.Paths.{IsTold, reply_of};
 
 use crate::node::MapNode;
@@ -66,17 +68,17 @@ fn change_at<N: MapNode, W>(at: &Atomic<N>, change: Change, guard: &Guard<'_, N,
     }
 }
 
-// The node that was placed under this pointer, by the witness of its placing.
+// The node that was placed under this name, by the witness of its placing.
 fn placed<'g, J: PostSet, N: MapNode, W>(
     guard: &'g LendingGuard<'_, '_, J, N, W>,
-    pointer: Shared<'_, N>,
+    name: Name,
     witness: &Witness<N>,
 ) -> Option<&'g N>
-    requires { IfSome pointer.name (λ name. StandsUnder (map (λ s. s.turns.log) guard.now.cells.now.cells.slots.items)
-        name witness.now.log witness.now.turn) }
+    requires { StandsUnder (map (λ s. s.turns.log) guard.now.cells.now.cells.slots.items) name witness.now.log
+        witness.now.turn }
     ensures { IfSome result (λ node. node.now ≡ witness.now.value) }
 {
-    match guard.look(pointer) {
+    match guard.look(Shared::named(name, guard.guard())) {
         Some(sight) => {
             sight.name.agree(witness);
             Some(sight.value)
@@ -94,7 +96,7 @@ impl<'g, 'k, 'c, 's, J: PostSet, N: MapNode, W> LentSpots<'g, 'k, 'c, 's, J, N, 
         key: &'k N::Key,
     ) -> LentSpots<'g, 'k, 'c, 's, J, N, W>
         ensures own { result.nodes.own ≡ None }
-        ensures key { result.nodes.key ≡ Some key }
+        ensures key { IfSome result.nodes.key (λ k. k.now ≡ key.now) }
     {
         let nodes = CallNodes {
             own: None,
@@ -147,9 +149,8 @@ impl<'g, 'k, 'c, 's, J: PostSet, N: MapNode, W> LentSpots<'g, 'k, 'c, 's, J, N, 
     // Reads the node of this name, and compares its key with the one that is sought. `None`: it isn't lent.
     #[inline(always)]
     fn compare(&mut self, name: Name) -> Option<(Ordering, &'g N)>
-        ensures some { IfSome result (λ read. (guard : Option ℕ) (tag : ℕ)
-            → MovesNodes N.key N.Key.cmp self.old.nodes (Read guard (record { name = Some name; tag = tag }))
-            (Done (Value (coded read.0))) self.new.nodes) }
+        ensures some { IfSome result
+            (λ read. ReadsNode N.key N.Key.cmp self.old.nodes (coded read.0) self.new.nodes) }
         ensures none { result ≡ None → self.new ≡ self.old }
     {
         let Some(key) = self.nodes.key else {
@@ -180,14 +181,14 @@ impl<'g, 'k, 'c, 's, J: PostSet, N: MapNode, W> LentSpots<'g, 'k, 'c, 's, J, N, 
     }
 }
 
-impl<'g, 'c, 's, J: PostSet, N: MapNode, W> LentSpots<'g, 'g, 'c, 's, J, N, W> {
+impl<'g: 'k, 'k, 'c, 's, J: PostSet, N: MapNode, W> LentSpots<'g, 'k, 'c, 's, J, N, W> {
     /// Makes the spots of an insert of this node under this guard. It seeks the key of its node, once that is placed.
     #[inline(always)]
     pub fn with_node(
         buckets: &'g [Atomic<N>],
         guard: &'g LendingGuard<'c, 's, J, N, W>,
         node: N,
-    ) -> LentSpots<'g, 'g, 'c, 's, J, N, W>
+    ) -> LentSpots<'g, 'k, 'c, 's, J, N, W>
         ensures own { result.nodes.own ≡ Some node }
         ensures key { result.nodes.key ≡ None }
     {
@@ -200,6 +201,80 @@ impl<'g, 'c, 's, J: PostSet, N: MapNode, W> LentSpots<'g, 'g, 'c, 's, J, N, W> {
             buckets,
             guard,
             nodes,
+        }
+    }
+
+    // Places the call's own node. If it is refused, the node is there again.
+    #[inline(never)]
+    fn place(&mut self) -> Result<Answer, Fault>
+        ensures moves { (number : ℕ)
+            → MovesNodes N.key N.Key.cmp self.old.nodes (Place number) (reply_of result) self.new.nodes }
+        ensures full { IfErr result (λ fault. fault ≡ CellsFull) }
+    {
+        let Some(node) = self.nodes.own.take() else {
+            return Ok(Answer::Absent);
+        };
+        match self.guard.place_with_witness(node) {
+            Ok((pointer, witness)) => {
+                let Some(name) = pointer.name() else {
+                    unreachable!()
+                };
+                self.nodes.key = match placed(self.guard, name, &witness) {
+                    Some(node) => Some(node.key()),
+                    None => None,
+                };
+                Ok(Answer::Name(name))
+            }
+            Err(refused) => {
+                self.nodes.own = Some(refused.value);
+                Err(Fault::CellsFull)
+            }
+        }
+    }
+}
+
+impl<'g: 'k, 'k, 'c, 's, J: PostSet, N: MapNode, W> MapSpots
+    for LentSpots<'g, 'k, 'c, 's, J, N, W> {
+    type Node = &'g N;
+
+    #[inline(always)]
+    fn first(&mut self, bucket: u64) -> Option<Ptr> {
+        match self.buckets.get(bucket as usize) {
+            Some(at) => Some(ptr_of(at.load(SeqCst, self.guard.guard()))),
+            None => None,
+        }
+    }
+
+    #[inline(always)]
+    fn entry(&mut self, node: Name) -> Option<(Ordering, &'g N)> {
+        self.compare(node)
+    }
+
+    // What is lent need not be given back.
+    #[inline(always)]
+    fn leave(&mut self, _node: Name) {}
+
+    #[inline(always)]
+    fn next(&mut self, _node: Name, lent: &'g N) -> Option<Ptr> {
+        Some(ptr_of(lent.next().load(SeqCst, self.guard.guard())))
+    }
+}
+
+impl<'g: 'k, 'k, 'c, 's, J: PostSet, N: MapNode, W> Spots for LentSpots<'g, 'k, 'c, 's, J, N, W> {
+    ghost does = { λ old access reply new. MovesNodes N.key N.Key.cmp old.nodes access reply new.nodes };
+
+    #[inline(always)]
+    fn touch(&mut self, access: Access) -> Result<Answer, Fault>
+        ensures does { MovesNodes N.key N.Key.cmp self.old.nodes access (reply_of result) self.new.nodes }
+        ensures told { IsTold access (reply_of result) }
+    {
+        match access {
+            Access::Place(_) => self.place(),
+            Access::Read(_, ptr) => Ok(self.read(ptr)),
+            // What is lent need not be given back.
+            Access::Leave(_) => Ok(Answer::Unit),
+            Access::Point(_, spot, change) => Ok(self.point(spot, change)),
+            Access::Write(..) | Access::Take(..) => Ok(Answer::Absent),
         }
     }
 }

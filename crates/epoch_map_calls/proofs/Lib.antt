@@ -1,4 +1,4 @@
-mod Fitting
+pub mod Fitting
 mod Looking
 mod Passing
 mod Strides

@@ -30,7 +30,7 @@ pub enum Pass {
 
 // Goes along the nodes, from this one on.
 #[inline(always)]
-fn walk<L: MapSpots>(spots: &mut L, bucket: u32, first: Name, moves: u64) -> Pass
+fn walk<L: MapSpots>(spots: &mut L, bucket: u64, first: Name, moves: u64) -> Pass
     ensures ends { (last : Phase) × ReadsOn L.does (deed_of 0) (Reading (ToGet bucket 1) (Root bucket) first moves)
         spots.old last spots.new × EndsAt bucket 1 result last }
     ensures fewer { moves_after result ≤ moves }
@@ -67,12 +67,12 @@ fn walk<L: MapSpots>(spots: &mut L, bucket: u32, first: Name, moves: u64) -> Pas
 
 // Goes along the bucket once, from its root on.
 #[inline(always)]
-fn go_over<L: MapSpots>(spots: &mut L, bucket: u32, moves: u64) -> Pass
+fn go_over<L: MapSpots>(spots: &mut L, bucket: u64, moves: u64) -> Pass
     ensures ends { (last : Phase) × ReadsOn L.does (deed_of 0) (LoadingFirst (ToGet bucket 1) moves) spots.old last
         spots.new × EndsAt bucket 1 result last }
     ensures fewer { moves_after result ≤ moves }
 {
-    let Some(ptr) = spots.first(bucket as u64) else {
+    let Some(ptr) = spots.first(bucket) else {
         return Pass::Lost(moves);
     };
     let Some(first) = ptr.name else {
@@ -92,7 +92,7 @@ fn go_over<L: MapSpots>(spots: &mut L, bucket: u32, moves: u64) -> Pass
 ///
 /// `TriesOut`: all moves were used up.
 #[inline(always)]
-pub fn look_over<L: MapSpots>(spots: &mut L, bucket: u32, moves: u32) -> Result<bool, Fault>
+pub fn look_over<L: MapSpots>(spots: &mut L, bucket: u64, moves: u32) -> Result<bool, Fault>
     ensures looks { Looks L.does bucket 1 moves spots.old result spots.new }
     ensures refused { IfErr result (λ fault. fault ≡ TriesOut) }
     ensures no_moves { moves ≡ 0 → IsErr result }
