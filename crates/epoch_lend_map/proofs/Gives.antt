@@ -1,21 +1,20 @@
 -- What a call gives: a node of the key that it seeks, or what is left of its own.
-use Rattle.std.proofs.Common.{◌≡◌, ◌∙◌, ◌⊎◌, inl, inr, ℕ, Option, Some, None, Result, Ok, Err, Bool, true, false, refl, sym}
+use Rattle.std.proofs.Common.{◌≡◌, ◌∙◌, ◌⊎◌, inl, inr, ℕ, Option, Some, None, Ok, Err, true, false, refl, sym}
 use Rattle.std.proofs.Common.{subst, arith, IsSome, IfSome}
 use Rattle.std.specs.declared.cmp.Ordering.{Ordering}
 use Rattle.std.specs.declared.cmp.Ordering.TheVariants.{Less, Equal, Greater}
 use Rattle.epoch_cells.specs.declared.fault.Fault.{Fault}
-use Rattle.epoch_cells.specs.declared.fault.Fault.TheVariants.{NoMemory, BagsFull as NoPlace, TriesOut}
-use Rattle.epoch_cells.specs.declared.fault.Refused.{Refused}
+use Rattle.epoch_cells.specs.declared.fault.Fault.TheVariants.{NoMemory, BagsFull as NoPlace}
 use Rattle.epoch_lend_map.specs.declared.spots.CallNodes.{CallNodes}
 use Rattle.epoch_lend_map.specs.Giving.{GivesInsert, GivesRemove, GivesGet, HandsBack}
 use Rattle.epoch_lend_map.proofs.Nodes.{HasRead, HasAnswer}
 use Rattle.epoch_map_laws.specs.declared.plan.MapAnswer.{MapAnswer}
 use Rattle.epoch_map_laws.specs.declared.plan.MapAnswer.TheVariants.{AlreadyThere, AlreadyThereLeaking, Removed}
-use Rattle.epoch_map_laws.specs.declared.plan.MapAnswer.TheVariants.{RemovedLeaking, Found, NotFound, MovesOut}
+use Rattle.epoch_map_laws.specs.declared.plan.MapAnswer.TheVariants.{RemovedLeaking, Found, NotFound}
 use Rattle.epoch_map_laws.specs.declared.plan.MapAnswer.TheVariants.{MovesOutLeaking, CellsFull, BagsFull, Inserted}
 use Rattle.epoch_map_laws.specs.declared.plan.Work.TheVariants.{Insert, Remove, Get}
 use Rattle.epoch_map_laws.specs.Map.{key_of}
-use Rattle.epoch_map_calls.specs.MapCalls.{coded, insert_tells, remove_tells, get_tells, place_fault, room_fault}
+use Rattle.epoch_map_calls.specs.MapCalls.{coded, insert_tells, remove_tells, get_tells, room_fault}
 use Rattle.epoch_map_calls.proofs.Fitting.{MayAnswer}
 
 -- only a key that is the one that is sought has its number

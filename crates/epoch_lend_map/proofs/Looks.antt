@@ -1,5 +1,5 @@
 -- What a look-up that only reads has in the end.
-use Rattle.std.proofs.Common.{◌≡◌, ℕ, List, [], ◌∷◌, Result, Ok, Option, None, Bool, true, refl, sym, subst}
+use Rattle.std.proofs.Common.{◌≡◌, ℕ, List, [], ◌∷◌, Result, Ok, None, Bool, true, sym, subst}
 use Rattle.std.specs.declared.cmp.Ordering.{Ordering}
 use Rattle.epoch_cells.specs.declared.fault.Fault.{Fault}
 use Rattle.epoch_lend_map.specs.declared.spots.CallNodes.{CallNodes}
@@ -11,7 +11,7 @@ use Rattle.epoch_map_laws.specs.declared.plan.Phase.{Phase}
 use Rattle.epoch_map_laws.specs.declared.plan.Phase.TheVariants.{Unlinking, Answering}
 use Rattle.epoch_map_laws.specs.declared.plan.Work.TheVariants.{Get}
 use Rattle.epoch_map_laws.specs.Map.{start_work}
-use Rattle.epoch_map_calls.specs.MapCalls.{Attempts, GivesUp, Looks, Stop, stop_of, get_tells}
+use Rattle.epoch_map_calls.specs.MapCalls.{Attempts, GivesUp, Looks, Stop, stop_of}
 use Rattle.epoch_map_calls.specs.MapCalls.Stop.{Answered, Marked}
 use Rattle.epoch_map_calls.proofs.Fitting.{attempt_suits}
 

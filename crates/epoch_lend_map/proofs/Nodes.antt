@@ -1,9 +1,8 @@
 -- Which nodes a call has in each of its phases: an insert its own one until that is placed, and each call the one that
 -- it has read, from then on until it reads another. So what it gives is a node of the key that it seeks.
-use Rattle.std.proofs.Common.{◌≡◌, ◌∙◌, ◌⊎◌, inl, inr, ℕ, zero, suc, List, [], ◌∷◌, Option, Some, None, Result, Ok, Err}
-use Rattle.std.proofs.Common.{Bool, true, false, refl, sym, ap, subst, IsSome, IfSome, if◌then◌else◌, nat_lt}
+use Rattle.std.proofs.Common.{◌≡◌, ◌∙◌, ℕ, zero, suc, List, [], ◌∷◌, Option, Some, None}
+use Rattle.std.proofs.Common.{Bool, true, false, sym, ap, subst, IsSome, IfSome, if◌then◌else◌, nat_lt}
 use Rattle.std.specs.declared.cmp.Ordering.{Ordering}
-use Rattle.std.specs.declared.cmp.Ordering.TheVariants.{Less, Equal, Greater}
 use Rattle.epoch_cells.specs.declared.cells.name.Name.{Name}
 use Rattle.epoch_cells.specs.declared.fault.Fault.{Fault}
 use Rattle.epoch_heap.specs.declared.access.Access.{Access}
@@ -23,8 +22,8 @@ use Rattle.epoch_map_laws.specs.declared.plan.Aim.{Aim}
 use Rattle.epoch_map_laws.specs.declared.plan.Aim.TheVariants.{ToInsert, ToRemove, ToGet}
 use Rattle.epoch_map_laws.specs.declared.plan.MapAnswer.{MapAnswer}
 use Rattle.epoch_map_laws.specs.declared.plan.MapAnswer.TheVariants.{AlreadyThere, AlreadyThereLeaking, Removed}
-use Rattle.epoch_map_laws.specs.declared.plan.MapAnswer.TheVariants.{RemovedLeaking, Found, NotFound, MovesOut}
-use Rattle.epoch_map_laws.specs.declared.plan.MapAnswer.TheVariants.{MovesOutLeaking, CellsFull, BagsFull, Inserted}
+use Rattle.epoch_map_laws.specs.declared.plan.MapAnswer.TheVariants.{RemovedLeaking, Found, MovesOut}
+use Rattle.epoch_map_laws.specs.declared.plan.MapAnswer.TheVariants.{CellsFull, BagsFull}
 use Rattle.epoch_map_laws.specs.declared.plan.Phase.{Phase}
 use Rattle.epoch_map_laws.specs.declared.plan.Phase.TheVariants.{MakingRoom, Placing, LoadingFirst, Reading, Leaving}
 use Rattle.epoch_map_laws.specs.declared.plan.Phase.TheVariants.{LoadingNext, Unlinking, Burying, Linking, Inserting}
@@ -32,7 +31,7 @@ use Rattle.epoch_map_laws.specs.declared.plan.Phase.TheVariants.{Marking, Droppi
 use Rattle.epoch_map_laws.specs.declared.plan.Work.{Work}
 use Rattle.epoch_map_laws.specs.declared.plan.Work.TheVariants.{Insert, Remove, Get}
 use Rattle.epoch_map_laws.specs.Map.{deed_of, key_of, key_sought, bucket_of, out_of_moves, again, absent, present, at}
-use Rattle.epoch_map_laws.specs.Map.{to_look, looked_at, placed, first_loaded, read, next_loaded, unlinked, linked}
+use Rattle.epoch_map_laws.specs.Map.{to_look, looked_at, first_loaded, next_loaded, unlinked, linked}
 use Rattle.epoch_map_laws.specs.Map.{inserted, marked_now, dropped, leaking, start_work}
 use Rattle.epoch_map_calls.specs.MapCalls.{coded}
 

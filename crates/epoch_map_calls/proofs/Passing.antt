@@ -1,7 +1,7 @@
 -- How one pass along a bucket goes on at a node, and where it ends: each step by an access that only reads.
-use Rattle.std.proofs.Common.{◌≡◌, ◌∙◌, ℕ, zero, suc, Option, Some, true, false, refl, sym, ap}
+use Rattle.std.proofs.Common.{◌≡◌, ◌∙◌, ℕ, zero, suc, [], Option, Some, true, false, refl, sym, ap}
 use Rattle.std.proofs.Common.{subst}
-use Rattle.std.specs.Ordering.{is_gt, is_eq}
+use Rattle.std.specs.Ordering.{is_ge, is_gt}
 use Rattle.std.specs.declared.cmp.Ordering.{Ordering}
 use Rattle.std.specs.declared.cmp.Ordering.TheVariants.{Less, Equal, Greater}
 use Rattle.epoch_cells.specs.declared.cells.name.Name.{Name}
@@ -41,24 +41,30 @@ module _ (b : ℕ) (link : Spot) (c : Name) (k : ℕ) where
   not_past Equal is = refl
   not_past Greater is = absurd cc
 
-  is_there : (order : Ordering) (o : Option Name) → is_eq order ≡ true
+  is_there : (order : Ordering) (o : Option Name) → is_ge order ≡ true → is_gt order ≡ false
       → looked_at (ToGet b 1) link c (coded order) k o 0 ≡ Answering (Found (coded order))
   unfolding key_of
-  is_there Less o is = absurd cc
-  is_there Equal o is = refl
-  is_there Greater o is = absurd cc
+  is_there Less o upward not_past = absurd cc
+  is_there Equal o upward not_past = refl
+  is_there Greater o upward not_past = absurd cc
 
-  is_lower : (order : Ordering) (o : Option Name) → is_gt order ≡ false → is_eq order ≡ false
+  is_lower : (order : Ordering) (o : Option Name) → is_ge order ≡ false
       → looked_at (ToGet b 1) link c (coded order) k o 0 ≡ at (ToGet b 1) (Field c 0) o k
   unfolding key_of
-  is_lower Less o not_past not_same = refl
-  is_lower Equal o not_past not_same = absurd cc
-  is_lower Greater o not_past not_same = absurd cc
+  is_lower Less o is = refl
+  is_lower Equal o is = absurd cc
+  is_lower Greater o is = absurd cc
 
   has_mark : (v : ℕ) (o : Option Name) (tag : ℕ) → ¬ (tag ≡ 0)
       → looked_at (ToGet b 1) link c v k o tag ≡ Unlinking (ToGet b 1) link c o k
   has_mark v o zero some = absurd (some refl)
   has_mark v o (suc tag) some = refl
+
+-- a lower key is no higher one
+is_below : (order : Ordering) → is_ge order ≡ false → is_gt order ≡ false
+is_below Less is = refl
+is_below Equal is = absurd cc
+is_below Greater is = absurd cc
 
 -- STEPS
 
@@ -87,7 +93,7 @@ module _ {L : Type 0} (does : L → Access → Reply → L → Type 0) (b : ℕ)
       (reads_one does (LoadingFirst (ToGet b 1) k) l l' (Done (Pointer ptr)) (refl, did, tt))
 
   -- a node was read and left
-  looks_at : (link : Spot) (c : Name) (v k : ℕ) (l l1 l2 : L) → does l (Read (Some 0) (ptr_to c)) (Done (Value v)) l1
+  pub looks_at : (link : Spot) (c : Name) (v k : ℕ) (l l1 l2 : L) → does l (Read (Some 0) (ptr_to c)) (Done (Value v)) l1
       → does l1 (Leave (ptr_to c)) (Done Nothing) l2
       → ReadsOn does (deed_of 0) (Reading (ToGet b 1) link c k) l (to_look (ToGet b 1) link c v k) l2
   looks_at link c v k l l1 l2 read leaves =
@@ -95,24 +101,28 @@ module _ {L : Type 0} (does : L → Access → Reply → L → Type 0) (b : ℕ)
       (refl, read, tt)
       (reads_one does (Leaving (ToGet b 1) link c v k) l1 l2 (Done Nothing) (refl, leaves, tt))
 
-  -- its key is past the one that is sought
-  pub goes_past : (link : Spot) (c : Name) (order : Ordering) (k : ℕ) (l l1 l2 : L) → is_gt order ≡ true
-      → does l (Read (Some 0) (ptr_to c)) (Done (Value (coded order))) l1
-      → does l1 (Leave (ptr_to c)) (Done Nothing) l2
-      → ReadsOn does (deed_of 0) (Reading (ToGet b 1) link c k) l (Answering NotFound) l2
-  goes_past link c order k l l1 l2 past read leaves =
-      reads_so does (Reading (ToGet b 1) link c k) (to_look (ToGet b 1) link c (coded order) k) (Answering NotFound) l l2
-      (sym (past_key b link c k order past)) (looks_at link c (coded order) k l l1 l2 read leaves)
-
-  -- or is not, so that its pointer is loaded
-  pub goes_to_next : (link : Spot) (c : Name) (order : Ordering) (k : ℕ) (l l1 l2 : L) → is_gt order ≡ false
+  -- and its pointer is loaded, where its key is lower
+  pub goes_to_next : (link : Spot) (c : Name) (order : Ordering) (k : ℕ) (l l1 l2 : L) → is_ge order ≡ false
       → does l (Read (Some 0) (ptr_to c)) (Done (Value (coded order))) l1
       → does l1 (Leave (ptr_to c)) (Done Nothing) l2
       → ReadsOn does (deed_of 0) (Reading (ToGet b 1) link c k) l (LoadingNext (ToGet b 1) link c (coded order) k) l2
-  goes_to_next link c order k l l1 l2 upto read leaves =
+  goes_to_next link c order k l l1 l2 lower read leaves =
       reads_so does (Reading (ToGet b 1) link c k) (to_look (ToGet b 1) link c (coded order) k)
       (LoadingNext (ToGet b 1) link c (coded order) k) l l2
-      (sym (not_past b link c k order upto)) (looks_at link c (coded order) k l l1 l2 read leaves)
+      (sym (not_past b link c k order (is_below order lower))) (looks_at link c (coded order) k l l1 l2 read leaves)
+
+  -- It goes past the key that is sought.
+  pub ends_past : (link : Spot) (c : Name) (order : Ordering) (k : ℕ) (l : L) → is_gt order ≡ true
+      → ReadsOn does (deed_of 0) (to_look (ToGet b 1) link c (coded order) k) l (Answering NotFound) l
+  ends_past link c order k l past = ([], (sym (past_key b link c k order past), refl))
+
+  -- Or it doesn't, so that its pointer is loaded.
+  pub ends_at_next : (link : Spot) (c : Name) (order : Ordering) (k : ℕ) (l l' : L) (last : Phase)
+      → is_gt order ≡ false
+      → ReadsOn does (deed_of 0) (LoadingNext (ToGet b 1) link c (coded order) k) l last l'
+      → ReadsOn does (deed_of 0) (to_look (ToGet b 1) link c (coded order) k) l last l'
+  ends_at_next link c order k l l' last upto reads =
+      subst (λ (f : Phase). ReadsOn does (deed_of 0) f l last l') (sym (not_past b link c k order upto)) reads
 
   module _ (link : Spot) (c : Name) (order : Ordering) (k : ℕ) (ptr : Ptr) (l l' : L)
       (did : does l (Point (Some 0) (Field c 0) Load) (Done (Pointer ptr)) l') where
@@ -135,17 +145,17 @@ module _ {L : Type 0} (does : L → Access → Reply → L → Type 0) (b : ℕ)
         ap (λ (t : ℕ). looked_at (ToGet b 1) link c (coded order) k ptr.name t) none ∙ is
 
     -- it is that of the key
-    pub ends_at_key : ptr.tag ≡ 0 → is_eq order ≡ true
+    pub ends_at_key : ptr.tag ≡ 0 → is_ge order ≡ true → is_gt order ≡ false
         → ReadsOn does (deed_of 0) (LoadingNext (ToGet b 1) link c (coded order) k) l (Answering (Found (coded order))) l'
-    ends_at_key none same = loads_so _ (by_tag none _ (is_there b link c k order ptr.name same))
+    ends_at_key none upward upto = loads_so _ (by_tag none _ (is_there b link c k order ptr.name upward upto))
 
     -- its key is lower, and its pointer leads there
-    pub leads_on : (o : Option Name) → ptr.name ≡ o → ptr.tag ≡ 0 → is_gt order ≡ false → is_eq order ≡ false
+    pub leads_on : (o : Option Name) → ptr.name ≡ o → ptr.tag ≡ 0 → is_ge order ≡ false
         → ReadsOn does (deed_of 0) (LoadingNext (ToGet b 1) link c (coded order) k) l (at (ToGet b 1) (Field c 0) o k) l'
-    leads_on o is none upto other =
+    leads_on o is none lower =
         loads_so _
         (by_tag none _
-        (is_lower b link c k order ptr.name upto other ∙ ap (λ (z : Option Name). at (ToGet b 1) (Field c 0) z k) is))
+        (is_lower b link c k order ptr.name lower ∙ ap (λ (z : Option Name). at (ToGet b 1) (Field c 0) z k) is))
 
 -- going on to a node takes a move
 pub to_further : (b : ℕ) (link : Spot) (c : Name) (k rest : ℕ) → k ≡ suc rest

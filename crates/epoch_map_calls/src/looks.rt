@@ -1,13 +1,15 @@
 //! Look-ups that only read.
-ghost use Rattle.std.specs.Prelude.{◌≡◌, ◌≤◌, ◌<◌, IsErr, IfErr};
+ghost use Rattle.std.specs.Prelude.{◌≡◌, ◌≤◌, ℕ, true, IsErr, IfErr};
+ghost use Rattle.std.specs.Ordering.{is_ge};
 ghost use Rattle.epoch_cells.specs.declared.fault.Fault.TheVariants.{TriesOut};
 ghost use Rattle.epoch_plan_calls.specs.Courses.{ReadsOn};
+ghost use Rattle.epoch_heap.specs.declared.access.Spot.{Spot};
 ghost use Rattle.epoch_heap.specs.declared.access.Spot.TheVariants.{Root};
 ghost use Rattle.epoch_map_laws.specs.declared.plan.Aim.TheVariants.{ToGet};
 ghost use Rattle.epoch_map_laws.specs.declared.plan.Phase.{Phase};
 ghost use Rattle.epoch_map_laws.specs.declared.plan.Phase.TheVariants.{LoadingFirst, Reading};
-ghost use Rattle.epoch_map_laws.specs.Map.{deed_of};
-ghost use Rattle.epoch_map_calls.specs.MapCalls.{EndsAt, Looks, moves_after};
+ghost use Rattle.epoch_map_laws.specs.Map.{deed_of, to_look};
+ghost use Rattle.epoch_map_calls.specs.MapCalls.{EndsAt, Looks, coded, moves_after};
 
 use crate::spots::MapSpots;
 use epoch_cells::{Fault, Name};
@@ -28,6 +30,27 @@ pub enum Pass {
     Lost(u64),
 }
 
+// Ends at a node that was left, whose key isn't lower than the one that is sought.
+#[inline(always)]
+fn end_at<L: MapSpots>(spots: &mut L, node: Name, kept: L::Node, order: Ordering, left: u64) -> Pass
+    requires { is_ge order ≡ true }
+    ensures ends { (bucket : ℕ) (link : Spot) → (last : Phase)
+        × ReadsOn L.does (deed_of 0) (to_look (ToGet bucket 1) link node (coded order) left) spots.old last spots.new
+        × EndsAt bucket 1 result last }
+    ensures fewer { moves_after result ≤ left }
+{
+    if order.is_gt() {
+        return Pass::Missing;
+    }
+    let Some(ptr) = spots.next(node, kept) else {
+        return Pass::Lost(left);
+    };
+    if ptr.tag != 0 {
+        return Pass::AtMark(left);
+    }
+    Pass::FoundIt
+}
+
 // Goes along the nodes, from this one on.
 #[inline(always)]
 fn walk<L: MapSpots>(spots: &mut L, bucket: u64, first: Name, moves: u64) -> Pass
@@ -42,17 +65,14 @@ fn walk<L: MapSpots>(spots: &mut L, bucket: u64, first: Name, moves: u64) -> Pas
             return Pass::Lost(left);
         };
         spots.leave(node);
-        if order.is_gt() {
-            return Pass::Missing;
+        if order.is_ge() {
+            return end_at(spots, node, kept, order, left);
         }
         let Some(ptr) = spots.next(node, kept) else {
             return Pass::Lost(left);
         };
         if ptr.tag != 0 {
             return Pass::AtMark(left);
-        }
-        if order.is_eq() {
-            return Pass::FoundIt;
         }
         let Some(next) = ptr.name else {
             return Pass::Missing;

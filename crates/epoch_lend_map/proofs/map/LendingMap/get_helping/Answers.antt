@@ -1,7 +1,6 @@
-use Rattle.std.proofs.Common.{◌≡◌, ◌∙◌, ℕ, Option, None, Some, Ok, Err, true, false, ap, refl, sym, subst, IsSome, IfSome}
+use Rattle.std.proofs.Common.{◌≡◌, ◌∙◌, ℕ, Option, None, Ok, ap, sym, subst, IsSome, IfSome}
 use Rattle.std.specs.declared.cmp.Ordering.TheVariants.{Equal}
 use Rattle.epoch_lend_map.specs.declared.spots.CallNodes.{CallNodes}
-use Rattle.epoch_lend_map.specs.Entries.{bucket_in}
 use Rattle.epoch_lend_map.proofs.Gives.{get_lends, get_gives_node, get_gives_none, get_gives_fault, some_at, none_at}
 use Rattle.epoch_lend_map.proofs.Nodes.{Seeks, answer_has, again_has}
 use Rattle.epoch_lend_nodes.proofs.PathsOnly.{takes_path}
