@@ -94,43 +94,30 @@ fn place_of(digit: u32) -> Place {
     }
 }
 
-/// A book of this title was lent.
-fn want_title(rt: &impl Abort, what: &str, found: Result<Option<&Node>, Fault>, title: &str) {
+/// What a call answered that lends a book: the length of its title, and the weight of its drop.
+type Told = Result<Option<(usize, u64)>, Fault>;
+
+fn told(found: Result<Option<&Node>, Fault>) -> Told {
     match found {
-        Ok(Some(node)) => want(rt, what, node.value().title.as_str() == title, true),
-        _ => panic!(rt; "{what}: no book"),
+        Ok(Some(node)) => {
+            let book = node.value();
+            Ok(Some((book.title.len(), book.weight)))
+        }
+        Ok(None) => Ok(None),
+        Err(fault) => Err(fault),
     }
 }
 
-/// No book was there.
-fn want_none(rt: &impl Abort, what: &str, found: Result<Option<&Node>, Fault>) {
-    want(rt, what, matches!(found, Ok(None)), true);
-}
-
-/// The book was inserted.
-fn want_new(rt: &impl Abort, what: &str, inserted: Result<Option<&Node>, Refused<Option<Node>>>) {
-    want(rt, what, matches!(inserted, Ok(None)), true);
-}
-
-/// The book was refused, since no cell was free, and came back.
-fn want_back(rt: &impl Abort, inserted: Result<Option<&Node>, Refused<Option<Node>>>, title: &str) {
-    match inserted {
-        Err(
-            Refused {
-                fault,
-                value: Some(node),
-            },
-        ) => {
-            want(rt, "a full lender", fault, Fault::CellsFull);
-            let (_, back) = node.into_parts();
-            want(
-                rt,
-                "the title that comes back",
-                back.title.as_str() == title,
-                true,
-            );
+/// What an insert answered. A book that is refused comes back, and is dropped here.
+fn inserted(answer: Result<Option<&Node>, Refused<Option<Node>>>) -> Told {
+    match answer {
+        Ok(there) => told(Ok(there)),
+        Err(Refused { fault, value: back }) => {
+            if back.is_none() {
+                return Err(Fault::TriesOut);
+            }
+            Err(fault)
         }
-        _ => panic!(rt; "the book didn't come back"),
     }
 }
 
@@ -161,8 +148,48 @@ fn rounds<J: PostSet>(rt: &impl Abort, handle: &mut Handle<'_, '_, '_, J>) {
     }
 }
 
-// Four books stand on two shelves, as many as there are cells. They are lent by their places. A second book at a place
-// stays out, and one too many comes back.
+/// An insert of a book of this title at its place answers so.
+fn want_insert<'d, 'q, 's, J: PostSet>(
+    rt: &impl Abort,
+    map: &Map<'_, J>,
+    handle: &mut Handle<'d, 'q, 's, J>,
+    guard: &Pin<'d, 'q, 's, J>,
+    node: Node,
+    wanted: Told,
+) {
+    let answer = map.insert(handle, guard, node, MOVES);
+    want(rt, "an insert of a book", inserted(answer), wanted);
+}
+
+/// A look-up of the book with this number answers so.
+fn want_get<'d, 'q, 's, J: PostSet>(
+    rt: &impl Abort,
+    map: &Map<'_, J>,
+    guard: &Pin<'d, 'q, 's, J>,
+    digit: u32,
+    wanted: Told,
+) {
+    let place = place_of(digit);
+    let found = map.get(guard, &place, MOVES);
+    want(rt, "a look-up of a book", told(found), wanted);
+}
+
+/// A removal of the book with this number answers so.
+fn want_remove<'d, 'q, 's, J: PostSet>(
+    rt: &impl Abort,
+    map: &Map<'_, J>,
+    handle: &mut Handle<'d, 'q, 's, J>,
+    guard: &Pin<'d, 'q, 's, J>,
+    digit: u32,
+    wanted: Told,
+) {
+    let place = place_of(digit);
+    let removed = map.remove(handle, guard, &place, MOVES);
+    want(rt, "a removal of a book", told(removed), wanted);
+}
+
+// Four books stand on two shelves, as many as there are cells. They are lent by their places, and one too many comes
+// back.
 fn shelve<J: PostSet>(
     rt: &impl Abort,
     alloc: Global,
@@ -171,30 +198,30 @@ fn shelve<J: PostSet>(
     drops: &Arc<AtomicU64>,
 ) {
     let guard = pin(rt, handle);
-    for (digit, title) in [(3, "Emma"), (0, "Ulysses"), (2, "Nana"), (1, "Middlemarch")] {
-        let made = make_book(rt, alloc, drops, title, digit);
-        want_new(rt, title, map.insert(handle, &guard, made, MOVES));
-    }
-    want_title(rt, "a book", map.get(&guard, &place_of(3), MOVES), "Emma");
-    want_title(
-        rt,
-        "a book of the other shelf",
-        map.get(&guard, &place_of(0), MOVES),
-        "Ulysses",
-    );
-    want_none(rt, "an empty place", map.get(&guard, &place_of(5), MOVES));
-    let surplus = make_book(rt, alloc, drops, "Pnin", 4);
-    want_back(rt, map.insert(handle, &guard, surplus, MOVES), "Pnin");
+    let emma = make_book(rt, alloc, drops, "Emma", 3);
+    want_insert(rt, map, handle, &guard, emma, Ok(None));
+    let ulysses = make_book(rt, alloc, drops, "Ulysses", 0);
+    want_insert(rt, map, handle, &guard, ulysses, Ok(None));
+    let nana = make_book(rt, alloc, drops, "Nana", 2);
+    want_insert(rt, map, handle, &guard, nana, Ok(None));
+    let middlemarch = make_book(rt, alloc, drops, "Middlemarch", 1);
+    want_insert(rt, map, handle, &guard, middlemarch, Ok(None));
+    want_get(rt, map, &guard, 3, Ok(Some((4, 0x1000))));
+    want_get(rt, map, &guard, 0, Ok(Some((7, 1))));
+    want_get(rt, map, &guard, 1, Ok(Some((11, 0x10))));
+    want_get(rt, map, &guard, 5, Ok(None));
+    let pnin = make_book(rt, alloc, drops, "Pnin", 4);
+    want_insert(rt, map, handle, &guard, pnin, Err(Fault::CellsFull));
     want(
         rt,
-        "what was handed back is dropped",
+        "the drop of what came back",
         drops.load(SeqCst),
         0x1_0000,
     );
     unpin(rt, handle, guard);
 }
 
-// A book that was removed is lent until the guard is spent, and its cell is used again afterwards.
+// The cell of a book that was removed is used again. A second book at a place stays out, and is dropped.
 fn replace<J: PostSet>(
     rt: &impl Abort,
     alloc: Global,
@@ -203,9 +230,8 @@ fn replace<J: PostSet>(
     drops: &Arc<AtomicU64>,
 ) {
     let guard = pin(rt, handle);
-    let removed = map.remove(handle, &guard, &place_of(0), MOVES);
-    want_title(rt, "what was removed", removed, "Ulysses");
-    want_none(rt, "a removed book", map.get(&guard, &place_of(0), MOVES));
+    want_remove(rt, map, handle, &guard, 0, Ok(Some((7, 1))));
+    want_get(rt, map, &guard, 0, Ok(None));
     unpin(rt, handle, guard);
     rounds(rt, handle);
     want(
@@ -215,13 +241,9 @@ fn replace<J: PostSet>(
         0x1_0001,
     );
     let guard = pin(rt, handle);
-    let second = make_book(rt, alloc, drops, "Persuasion", 7);
-    let node = Entry::new(place_of(3), second.into_parts().1);
-    let there = match map.insert(handle, &guard, node, MOVES) {
-        Ok(there) => Ok(there),
-        Err(refused) => Err(refused.fault),
-    };
-    want_title(rt, "the book at that place", there, "Emma");
+    let (_, persuasion) = make_book(rt, alloc, drops, "Persuasion", 7).into_parts();
+    let second = Entry::new(place_of(3), persuasion);
+    want_insert(rt, map, handle, &guard, second, Ok(Some((4, 0x1000))));
     unpin(rt, handle, guard);
     rounds(rt, handle);
     want(
