@@ -5,7 +5,7 @@ use crate::idle::Idle;
 use crate::pointers::{Size, posts_for};
 use crate::span::Span;
 use epoch_handles::{Capacities, Collector};
-use epoch_lend_map::{LendingMap, Node};
+use epoch_lend_map::{Entry, LendingMap};
 use epoch_lend_pointers::handle::GuardOf;
 use epoch_lend_pointers::marking::{Marking, collector_of};
 use epoch_lend_readers::posts::{Made, PostSet, Posts};
@@ -24,21 +24,24 @@ const CELLS: u32 = 4_096;
 const PLACES: u32 = 16;
 
 /// Keys of the map, which has one bucket. The last one is looked for.
-const KEYS: u32 = 100;
+const KEYS: u64 = 100;
 
 /// Moves that a call of the map has.
 const MOVES: u32 = 1_000;
 
+/// The nodes of the map.
+type Node = Entry<u64, u64>;
+
 // How often this many look-ups find the last key.
 #[inline(always)]
 fn found<J: PostSet>(
-    map: &LendingMap<'_, J>,
+    map: &LendingMap<'_, J, Node>,
     guard: &GuardOf<'_, '_, '_, J, Node>,
     turns: u64,
 ) -> u64 {
     let mut done: u64 = 0;
     for _ in 0..turns {
-        if let Ok(true) = map.contains(guard, KEYS, MOVES) {
+        if let Ok(true) = map.contains(guard, &KEYS, MOVES) {
             done = done.wrapping_add(1);
         }
     }
@@ -47,21 +50,21 @@ fn found<J: PostSet>(
 
 impl<'c, 'q, 's, J: PostSet> Idle<'c, 'q, 's, J, Node> {
     // Inserts the keys, each with itself as its value.
-    fn fill(&mut self, map: &LendingMap<'_, J>) {
+    fn fill(&mut self, map: &LendingMap<'_, J, Node>) {
         for below in 0..KEYS {
             self.insert_once(map, KEYS - below);
         }
     }
 
-    fn insert_once(&mut self, map: &LendingMap<'_, J>, key: u32) {
+    fn insert_once(&mut self, map: &LendingMap<'_, J, Node>, key: u64) {
         let guard = self.handle.pin();
-        let _ = map.insert(&mut self.handle, &guard, key, key, MOVES);
+        let _ = map.insert(&mut self.handle, &guard, Entry::new(key, key), MOVES);
         self.handle.unpin(guard);
     }
 
     // Makes this many look-ups under one guard. It isn't inlined, so that code around it doesn't move its loops.
     #[inline(never)]
-    fn look_ups(&mut self, map: &LendingMap<'_, J>, turns: u64) -> u64 {
+    fn look_ups(&mut self, map: &LendingMap<'_, J, Node>, turns: u64) -> u64 {
         let guard = self.handle.pin();
         let done = found(map, &guard, turns);
         self.handle.unpin(guard);
@@ -75,7 +78,7 @@ fn take_part<'q, 's, R: Clock + Wait, J: PostSet>(
     alloc: Global,
     lender: &'q Lender<'s, J, Node>,
     collector: &Collector<Node, Marking<'q, 's, J, Node>>,
-    map: &LendingMap<'_, J>,
+    map: &LendingMap<'_, J, Node>,
     size: Size,
     span: &Span,
 ) {
@@ -96,7 +99,7 @@ fn on_threads<'q, 's, R: Clock + Threads + Wait + Sync, J: PostSet + Send + Sync
     alloc: Global,
     lender: &'q Lender<'s, J, Node>,
     collector: &Collector<Node, Marking<'q, 's, J, Node>>,
-    map: &LendingMap<'_, J>,
+    map: &LendingMap<'_, J, Node>,
     size: Size,
     span: &Span,
 ) {
@@ -118,7 +121,7 @@ fn all_rounds<'q, 's, R: Clock + Threads + Wait + Sync, J: PostSet + Send + Sync
     alloc: Global,
     lender: &'q Lender<'s, J, Node>,
     collector: &Collector<Node, Marking<'q, 's, J, Node>>,
-    map: &LendingMap<'_, J>,
+    map: &LendingMap<'_, J, Node>,
     size: Size,
     times: &mut [u64],
 ) -> u64 {

@@ -1,0 +1,3 @@
+mod Gives
+mod Looks
+mod Nodes

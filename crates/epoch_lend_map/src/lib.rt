@@ -7,5 +7,5 @@ mod spots;
 
 pub use epoch_lend_nodes::Gathers;
 pub use map::LendingMap;
-pub use node::Node;
-pub use spots::LentSpots;
+pub use node::{Entry, MapKey, MapNode};
+pub use spots::{CallNodes, LentSpots};

@@ -1,65 +1,131 @@
 //! The buckets of a map that threads share, and its nodes, which are lent.
-ghost use Rattle.std.specs.Prelude.{◌≡◌, None, IfSome, IfErr};
+ghost use Rattle.std.specs.Prelude.{◌≡◌, ℕ, Option, Some, None, map, IfSome, IfErr};
 ghost use Rattle.epoch_cells.specs.declared.fault.Fault.TheVariants.{CellsFull};
+ghost use Rattle.epoch_heap.specs.declared.access.Access.TheVariants.{Place, Read, Point};
+ghost use Rattle.epoch_heap.specs.declared.access.Answer.TheVariants.{Value, Pointer, Absent};
+ghost use Rattle.epoch_heap.specs.declared.access.Change.TheVariants.{Load};
+ghost use Rattle.epoch_heap.specs.declared.access.Spot.TheVariants.{Root, Field};
+ghost use Rattle.epoch_laws.specs.declared.step.Reply.TheVariants.{Done};
+ghost use Rattle.epoch_lend_map.specs.Moving.{MovesNodes, ReadsNode};
+ghost use Rattle.epoch_lend_store.specs.Named.{StandsUnder};
+ghost use Rattle.epoch_map_calls.specs.MapCalls.{coded};
+ghost use Rattle.epoch_plans.specs.Plans.{ptr_to};
 ghost use Rattle.epoch_plan_threads.specs.Paths.{IsTold, reply_of};
 
-use crate::node::Node;
+use crate::node::MapNode;
 use epoch_atomic::atomic::{Atomic, Shared};
 use epoch_cells::{Fault, Name};
 use epoch_handles::Guard;
 use epoch_heap::{Access, Answer, Change, Ptr, Spot};
+use epoch_lend_cells::turns::Name as Witness;
 use epoch_lend_nodes::{ptr_of, write_at};
 use epoch_lend_pointers::guard::LendingGuard;
 use epoch_lend_readers::posts::PostSet;
-use epoch_map_calls::MapSpots;
+use epoch_map_calls::{MapSpots, coded};
 use epoch_plan_threads::Spots;
+use std::cmp::Ordering;
 use std::sync::atomic::Ordering::SeqCst;
 
-/// The buckets of a map, and its nodes, under the guard of one call.
+/// The nodes of one call, and the key that it seeks.
 #[derive(Drop)]
-pub struct LentSpots<'g, 'c, 'q, 's, J: PostSet, W> {
-    pub(crate) buckets: &'g [Atomic<Node>],
-    pub(crate) guard: &'g LendingGuard<'c, 'q, 's, J, Node, W>,
+pub struct CallNodes<'g, 'k, N, K> {
+    /// The node that an insert places.
+    pub own: Option<N>,
+    /// The key that is sought. `None`: it is that of a node which isn't placed yet.
+    pub key: Option<&'k K>,
+    /// The node that was read last.
+    pub lent: Option<&'g N>,
+}
+
+/// The buckets of a map, and its nodes, under the guard of one call.
+///
+/// The program speaks of entries as numbers. Here each is the number of how the node's key compares with the one that
+/// is sought, and the node itself is lent.
+#[derive(Drop)]
+pub struct LentSpots<'g, 'k, 'c, 'q, 's, J: PostSet, N: MapNode, W> {
+    buckets: &'g [Atomic<N>],
+    guard: &'g LendingGuard<'c, 'q, 's, J, N, W>,
+    nodes: CallNodes<'g, 'k, N, N::Key>,
 }
 
 // Stores or exchanges the pointer there. It stands out of line, as `place` does: a function that holds all accesses
 // isn't inlined if it holds these, too, and then a walk that only loads doesn't know its accesses.
 #[inline(never)]
-fn write_out_of_line<W>(at: &Atomic<Node>, change: Change, guard: &Guard<'_, Node, W>) -> Answer {
+fn write_out_of_line<N: MapNode, W>(
+    at: &Atomic<N>,
+    change: Change,
+    guard: &Guard<'_, N, W>,
+) -> Answer {
     write_at(at, change, guard)
 }
 
 // Loads, stores or exchanges the pointer there. The phases of a map ask for no other change.
 #[inline(always)]
-fn change_at<W>(at: &Atomic<Node>, change: Change, guard: &Guard<'_, Node, W>) -> Answer {
+fn change_at<N: MapNode, W>(at: &Atomic<N>, change: Change, guard: &Guard<'_, N, W>) -> Answer {
     match change {
         Change::Load => Answer::Pointer(ptr_of(at.load(SeqCst, guard))),
         _ => write_out_of_line(at, change, guard),
     }
 }
 
-// Places a node with this entry, which points to none.
-#[inline(never)]
-fn place<J: PostSet, W>(
-    entry: u64,
-    guard: &LendingGuard<'_, '_, '_, J, Node, W>,
-) -> Result<Answer, Fault>
-    ensures { IfErr result (λ fault. fault ≡ CellsFull) }
+// The node that was placed under this name, by the witness of its placing.
+fn placed<'g, J: PostSet, N: MapNode, W>(
+    guard: &'g LendingGuard<'_, '_, '_, J, N, W>,
+    name: Name,
+    witness: &Witness<N>,
+) -> Option<&'g N>
+    requires { StandsUnder (map (λ s. s.turns.log) guard.now.cells.now.cells.slots.items) name witness.now.log
+        witness.now.turn }
+    ensures { IfSome result (λ node. node.now ≡ witness.now.value) }
 {
-    let next = Atomic::null();
-    let Ok(node) = guard.place(Node { entry, next }) else {
-        return Err(Fault::CellsFull);
-    };
-    match node.name() {
-        Some(name) => Ok(Answer::Name(name)),
-        None => Ok(Answer::Absent),
+    match guard.look(Shared::named(name, guard.guard())) {
+        Some(sight) => {
+            sight.name.agree(witness);
+            Some(sight.value)
+        }
+        None => None,
     }
 }
 
-impl<'g, 'c, 'q, 's, J: PostSet, W> LentSpots<'g, 'c, 'q, 's, J, W> {
+impl<'g, 'k, 'c, 'q, 's, J: PostSet, N: MapNode, W> LentSpots<'g, 'k, 'c, 'q, 's, J, N, W> {
+    /// Makes the spots of one call under this guard, which seeks this key.
+    #[inline(always)]
+    pub fn new(
+        buckets: &'g [Atomic<N>],
+        guard: &'g LendingGuard<'c, 'q, 's, J, N, W>,
+        key: &'k N::Key,
+    ) -> LentSpots<'g, 'k, 'c, 'q, 's, J, N, W>
+        ensures own { result.nodes.own ≡ None }
+        ensures key { IfSome result.nodes.key (λ k. k.now ≡ key.now) }
+    {
+        let nodes = CallNodes {
+            own: None,
+            key: Some(key),
+            lent: None,
+        };
+        LentSpots {
+            buckets,
+            guard,
+            nodes,
+        }
+    }
+
+    /// Ends the call, and returns its nodes.
+    #[inline(always)]
+    pub fn close(self) -> CallNodes<'g, 'k, N, N::Key>
+        ensures { result ≡ self.entry.nodes }
+    {
+        let LentSpots {
+            buckets: _,
+            guard: _,
+            nodes,
+        } = self;
+        nodes
+    }
+
     // The node of this name, which is lent for as long as the guard is borrowed.
     #[inline(always)]
-    fn node_of(&self, name: Name) -> Option<&'g Node> {
+    fn node_of(&self, name: Name) -> Option<&'g N> {
         self.guard.get(Shared::named(name, self.guard.guard()))
     }
 
@@ -70,7 +136,7 @@ impl<'g, 'c, 'q, 's, J: PostSet, W> LentSpots<'g, 'c, 'q, 's, J, W> {
         let at = match spot {
             Spot::Root(bucket) => self.buckets.get(bucket as usize),
             Spot::Field(name, _) => match self.node_of(name) {
-                Some(node) => Some(&node.next),
+                Some(node) => Some(node.next()),
                 None => None,
             },
         };
@@ -80,31 +146,108 @@ impl<'g, 'c, 'q, 's, J: PostSet, W> LentSpots<'g, 'c, 'q, 's, J, W> {
         }
     }
 
-    // Answers the node's entry. `Absent`: it isn't lent.
+    // Reads the node of this name, and compares its key with the one that is sought. `None`: it isn't lent.
     #[inline(always)]
-    fn read(&self, ptr: Ptr) -> Answer {
+    fn compare(&mut self, name: Name) -> Option<(Ordering, &'g N)>
+        ensures some { IfSome result
+            (λ read. ReadsNode N.key N.Key.cmp self.old.nodes (coded read.0) self.new.nodes) }
+        ensures none { result ≡ None → self.new ≡ self.old }
+    {
+        let Some(key) = self.nodes.key else {
+            return None;
+        };
+        match self.node_of(name) {
+            Some(node) => {
+                self.nodes.lent = Some(node);
+                Some((node.key().cmp(key), node))
+            }
+            None => None,
+        }
+    }
+
+    // Reads the node to which the pointer leads. `Absent`: it isn't lent.
+    #[inline(always)]
+    fn read(&mut self, ptr: Ptr) -> Answer
+        ensures { (guard : Option ℕ)
+            → MovesNodes N.key N.Key.cmp self.old.nodes (Read guard ptr) (Done result) self.new.nodes }
+    {
         let Some(name) = ptr.name else {
             return Answer::Absent;
         };
-        match self.node_of(name) {
-            Some(node) => Answer::Value(node.entry),
+        match self.compare(name) {
+            Some((order, _)) => Answer::Value(coded(order)),
             None => Answer::Absent,
         }
     }
 }
 
-impl<'g, 'c, 'q, 's, J: PostSet, W> MapSpots for LentSpots<'g, 'c, 'q, 's, J, W> {
-    type Node = &'g Node;
+impl<'g: 'k, 'k, 'c, 'q, 's, J: PostSet, N: MapNode, W> LentSpots<'g, 'k, 'c, 'q, 's, J, N, W> {
+    /// Makes the spots of an insert of this node under this guard. It seeks the key of its node, once that is placed.
+    #[inline(always)]
+    pub fn with_node(
+        buckets: &'g [Atomic<N>],
+        guard: &'g LendingGuard<'c, 'q, 's, J, N, W>,
+        node: N,
+    ) -> LentSpots<'g, 'k, 'c, 'q, 's, J, N, W>
+        ensures own { result.nodes.own ≡ Some node }
+        ensures key { result.nodes.key ≡ None }
+    {
+        let nodes = CallNodes {
+            own: Some(node),
+            key: None,
+            lent: None,
+        };
+        LentSpots {
+            buckets,
+            guard,
+            nodes,
+        }
+    }
+
+    // Places the call's own node. If it is refused, the node is there again.
+    #[inline(never)]
+    fn place(&mut self) -> Result<Answer, Fault>
+        ensures moves { (number : ℕ)
+            → MovesNodes N.key N.Key.cmp self.old.nodes (Place number) (reply_of result) self.new.nodes }
+        ensures full { IfErr result (λ fault. fault ≡ CellsFull) }
+    {
+        let Some(node) = self.nodes.own.take() else {
+            return Ok(Answer::Absent);
+        };
+        match self.guard.place_with_witness(node) {
+            Ok((pointer, witness)) => {
+                let Some(name) = pointer.name() else {
+                    unreachable!()
+                };
+                self.nodes.key = match placed(self.guard, name, &witness) {
+                    Some(node) => Some(node.key()),
+                    None => None,
+                };
+                Ok(Answer::Name(name))
+            }
+            Err(refused) => {
+                self.nodes.own = Some(refused.value);
+                Err(Fault::CellsFull)
+            }
+        }
+    }
+}
+
+impl<'g: 'k, 'k, 'c, 'q, 's, J: PostSet, N: MapNode, W> MapSpots
+    for LentSpots<'g, 'k, 'c, 'q, 's, J, N, W> {
+    type Node = &'g N;
 
     #[inline(always)]
-    fn entry(&mut self, node: Name) -> Option<(u64, &'g Node)>
-        ensures some { IfSome result (λ _. Unit {0}) }
-        ensures none { result ≡ None → self.new ≡ self.old }
-    {
-        match self.node_of(node) {
-            Some(lent) => Some((lent.entry, lent)),
+    fn first(&mut self, bucket: u64) -> Option<Ptr> {
+        match self.buckets.get(bucket as usize) {
+            Some(at) => Some(ptr_of(at.load(SeqCst, self.guard.guard()))),
             None => None,
         }
+    }
+
+    #[inline(always)]
+    fn entry(&mut self, node: Name) -> Option<(Ordering, &'g N)> {
+        self.compare(node)
     }
 
     // What is lent need not be given back.
@@ -112,24 +255,22 @@ impl<'g, 'c, 'q, 's, J: PostSet, W> MapSpots for LentSpots<'g, 'c, 'q, 's, J, W>
     fn leave(&mut self, _node: Name) {}
 
     #[inline(always)]
-    fn next(&mut self, _node: Name, lent: &'g Node) -> Option<Ptr>
-        ensures some { IfSome result (λ _. Unit {0}) }
-        ensures none { result ≡ None → self.new ≡ self.old }
-    {
-        Some(ptr_of(lent.next.load(SeqCst, self.guard.guard())))
+    fn next(&mut self, _node: Name, lent: &'g N) -> Option<Ptr> {
+        Some(ptr_of(lent.next().load(SeqCst, self.guard.guard())))
     }
 }
 
-impl<'g, 'c, 'q, 's, J: PostSet, W> Spots for LentSpots<'g, 'c, 'q, 's, J, W> {
-    ghost does = { λ _ _ _ _. Unit {0} };
+impl<'g: 'k, 'k, 'c, 'q, 's, J: PostSet, N: MapNode, W> Spots
+    for LentSpots<'g, 'k, 'c, 'q, 's, J, N, W> {
+    ghost does = { λ old access reply new. MovesNodes N.key N.Key.cmp old.nodes access reply new.nodes };
 
     #[inline(always)]
     fn touch(&mut self, access: Access) -> Result<Answer, Fault>
-        ensures does { Unit {0} }
+        ensures does { MovesNodes N.key N.Key.cmp self.old.nodes access (reply_of result) self.new.nodes }
         ensures told { IsTold access (reply_of result) }
     {
         match access {
-            Access::Place(entry) => place(entry, self.guard),
+            Access::Place(_) => self.place(),
             Access::Read(_, ptr) => Ok(self.read(ptr)),
             // What is lent need not be given back.
             Access::Leave(_) => Ok(Answer::Unit),

@@ -13,7 +13,7 @@ use Rattle.epoch_heap.specs.declared.access.Spot.TheVariants.{Root, Field}
 use Rattle.epoch_laws.specs.declared.step.Reply.{Reply}
 use Rattle.epoch_laws.specs.declared.step.Reply.TheVariants.{Done}
 use Rattle.epoch_plans.specs.Plans.{Answers, after_by}
-use Rattle.epoch_plan_calls.specs.Courses.{Keeping, GoesTo, DoesBy}
+use Rattle.epoch_plan_calls.specs.Courses.{Keeping, GoesTo, DoesBy, ReadsTo}
 use Rattle.epoch_map_laws.specs.declared.plan.Aim.{Aim}
 use Rattle.epoch_map_laws.specs.declared.plan.Aim.TheVariants.{ToInsert, ToRemove, ToGet}
 use Rattle.epoch_map_laws.specs.declared.plan.MapAnswer.{MapAnswer}
@@ -29,7 +29,8 @@ use Rattle.epoch_map_laws.specs.declared.plan.Work.TheVariants.{Insert, Remove, 
 use Rattle.epoch_map_laws.specs.Map.{deed_of, key_of, key_sought, bucket_of, out_of_moves, again, absent, present, at}
 use Rattle.epoch_map_laws.specs.Map.{to_look, looked_at, placed, first_loaded, read, next_loaded, unlinked, linked}
 use Rattle.epoch_map_laws.specs.Map.{inserted, marked_now, dropped, leaking, start_work}
-use Rattle.epoch_map_calls.specs.MapCalls.{first_of}
+use Rattle.epoch_map_calls.specs.MapCalls.{first_of, stop_of, Attempts}
+use Rattle.epoch_map_calls.specs.MapCalls.Stop.{Answered}
 
 -- the walk is of this work, for the same key
 abbrev pub IsFor : Work → Aim → Type 0
@@ -295,3 +296,26 @@ module _ {L H : Type 0} (does : L → Access → Reply → L → Type 0) (keepin
   call_suits work answer refused old new l l' did =
       answer_suits work did.last answer
       (suits_along work did.replies (first_of work) did.last old new l l' (first_work_suits work) did.goes) did.answers
+
+-- LOOK-UPS THAT ONLY READ
+
+module _ {L : Type 0} (does : L → Access → Reply → L → Type 0) where
+  reads_suit : (work : Work) (replies : List Reply) (phase last : Phase) (l l' : L) → Suits work phase
+      → ReadsTo does (deed_of 0) replies phase l last l' → Suits work last
+  reads_suit work [] phase last l l' suits reads = subst (λ (f : Phase). Suits work f) (sym reads.0) suits
+  reads_suit work (reply ∷ replies) phase last l l' suits reads =
+      reads_suit work replies (next_phase phase reply) last reads.0 l' (suits_on work phase reply suits) reads.2
+
+  answered_so : (work : Work) (last : Phase) (answer : MapAnswer) → Suits work last → stop_of last ≡ Answered answer
+      → MayAnswer work answer
+  answered_so work (Answering a) answer suits is =
+      let same : a ≡ answer = cc in subst (λ (z : MapAnswer). MayAnswer work z) same suits
+  answered_so work last answer suits is = cc
+
+  -- an attempt answers what a look-up may answer
+  pub attempt_suits : (b key m : ℕ) (answer : MapAnswer) (l l' : L) → Attempts does b key m l (Answered answer) l'
+      → MayAnswer (Get b key m) answer
+  attempt_suits b key m answer l l' attempt =
+      answered_so (Get b key m) attempt.last answer
+      (reads_suit (Get b key m) attempt.reads.0 (start_work (Get b key m)) attempt.last l l' (start_suits (Get b key m))
+      attempt.reads.1) attempt.stops

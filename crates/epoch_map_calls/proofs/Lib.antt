@@ -1,4 +1,5 @@
-mod Fitting
+pub mod Fitting
 mod Looking
+mod Passing
 mod Strides
 mod Telling

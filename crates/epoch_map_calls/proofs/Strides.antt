@@ -2,6 +2,9 @@
 use Rattle.std.proofs.Common.{◌≡◌, ℕ, zero, suc, ◌<◌, [], ◌∷◌, ◌++◌, Bool, true, false, Some, refl, sym, ap}
 use Rattle.std.proofs.Common.{subst, arith, nat_lt, if◌then◌else◌}
 use Rattle.std.proofs.lemmas.Bool.Decides.{nat_tests}
+use Rattle.std.specs.Ordering.{is_ge}
+use Rattle.std.specs.declared.cmp.Ordering.{Ordering}
+use Rattle.std.specs.declared.cmp.Ordering.TheVariants.{Less, Equal, Greater}
 use Rattle.epoch_cells.specs.declared.cells.name.Name.{Name}
 use Rattle.epoch_heap.specs.declared.access.Access.{Access}
 use Rattle.epoch_heap.specs.declared.access.Answer.TheVariants.{Value, Pointer}
@@ -16,6 +19,7 @@ use Rattle.epoch_map_laws.specs.declared.plan.Aim.{Aim}
 use Rattle.epoch_map_laws.specs.declared.plan.Phase.{Phase}
 use Rattle.epoch_map_laws.specs.declared.plan.Phase.TheVariants.{Reading, Leaving, LoadingNext}
 use Rattle.epoch_map_laws.specs.Map.{deed_of, key_of, key_sought, absent, to_look, at, present}
+use Rattle.epoch_map_calls.specs.MapCalls.{coded}
 
 module _ {L : Type 0} (does : L → Access → Reply → L → Type 0) where
   -- one access was made
@@ -93,3 +97,15 @@ module _ {L : Type 0} (does : L → Access → Reply → L → Type 0) where
       (after_by (LoadingNext aim link c v k) (deed_of 0 (LoadingNext aim link c v k)) (Done (Pointer (ptr_to n))))
       (Reading aim (Field c 0) n rest) l2 l3 (sym (goes_on aim link c n v k rest is lower))
       (reads_one (LoadingNext aim link c v k) l2 l3 (Done (Pointer (ptr_to n))) loads))
+
+-- a key that is lower than the one that is sought, by its number
+lower : (aim : Aim) (order : Ordering) → key_sought aim ≡ 1 → is_ge order ≡ false → key_of (coded order) < key_sought aim
+unfolding key_of
+lower aim Less sought is = subst (λ (k : ℕ). 0 < k) (sym sought) (omega arith)
+lower aim Equal sought is = absurd cc
+lower aim Greater sought is = absurd cc
+
+pub lower_key : (aim : Aim) (order : Ordering) (v : ℕ) → v ≡ coded order → key_sought aim ≡ 1 → is_ge order ≡ false
+    → key_of v < key_sought aim
+lower_key aim order v same sought is =
+    subst (λ (n : ℕ). key_of n < key_sought aim) (sym same) (lower aim order sought is)

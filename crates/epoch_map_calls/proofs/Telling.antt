@@ -9,12 +9,12 @@ use Rattle.epoch_map_calls.specs.MapCalls.{insert_tells, remove_tells, get_tells
 use Rattle.epoch_map_calls.proofs.Fitting.{MayAnswer}
 
 -- with no move a call fails
-pub insert_needs_moves : (b e moves value : ℕ) (a : MapAnswer) (f : Option Fault) → MayAnswer (Insert b e moves) a
-    → moves ≡ 0 → IsErr (insert_tells value a f)
-insert_needs_moves b e moves value Inserted f may none = absurd (omega (arith, may, none))
-insert_needs_moves b e moves value (AlreadyThere v) f may none = absurd (omega (arith, may.0, none))
-insert_needs_moves b e moves value (AlreadyThereLeaking v) f may none = absurd (omega (arith, may.0, none))
-insert_needs_moves b e moves value a f may none = refl
+pub insert_needs_moves : (b e moves : ℕ) (a : MapAnswer) (f : Option Fault) → MayAnswer (Insert b e moves) a
+    → moves ≡ 0 → IsErr (insert_tells a f)
+insert_needs_moves b e moves Inserted f may none = absurd (omega (arith, may, none))
+insert_needs_moves b e moves (AlreadyThere v) f may none = absurd (omega (arith, may.0, none))
+insert_needs_moves b e moves (AlreadyThereLeaking v) f may none = absurd (omega (arith, may.0, none))
+insert_needs_moves b e moves a f may none = refl
 
 pub remove_needs_moves : (b key moves : ℕ) (a : MapAnswer) (f : Option Fault) → MayAnswer (Remove b key moves) a
     → moves ≡ 0 → IsErr (remove_tells a f)

@@ -1,10 +1,11 @@
 -- Which path of the map's program a call takes, whatever keeps its removals; what its answer tells; and what look-ups
 -- that only read do.
-use Rattle.std.specs.Prelude.{◌≡◌, ℕ, ◌<◌, ◌+◌, ◌*◌, ◌%◌, Option, Some, None, Result, Ok, Err, List, [], ◌∷◌}
+use Rattle.std.specs.Prelude.{◌≡◌, ℕ, Bool, true, false, Option, Some, None, Result, Ok, Err, List, [], ◌∷◌}
+use Rattle.std.specs.declared.cmp.Ordering.{Ordering}
+use Rattle.std.specs.declared.cmp.Ordering.TheVariants.{Less, Equal, Greater}
 use Rattle.epoch_cells.specs.declared.fault.Fault.{Fault}
 use Rattle.epoch_cells.specs.declared.fault.Fault.TheVariants.{NoMemory, CellsFull as NoCell, BagsFull as NoPlace}
 use Rattle.epoch_cells.specs.declared.fault.Fault.TheVariants.{TriesOut}
-use Rattle.epoch_cells.specs.declared.fault.Refused.{Refused}
 use Rattle.epoch_heap.specs.declared.access.Access.{Access}
 use Rattle.epoch_laws.specs.declared.step.Reply.{Reply}
 use Rattle.epoch_map_laws.specs.declared.plan.Phase.{Phase}
@@ -12,23 +13,24 @@ use Rattle.epoch_map_laws.specs.declared.plan.Phase.TheVariants.{MakingRoom, Unl
 use Rattle.epoch_map_laws.specs.declared.plan.MapAnswer.{MapAnswer}
 use Rattle.epoch_map_laws.specs.declared.plan.MapAnswer.TheVariants.{Inserted, AlreadyThere, AlreadyThereLeaking}
 use Rattle.epoch_map_laws.specs.declared.plan.MapAnswer.TheVariants.{Removed, RemovedLeaking, Found, NotFound}
-use Rattle.epoch_map_laws.specs.declared.plan.MapAnswer.TheVariants.{MovesOutLeaking, CellsFull, BagsFull}
+use Rattle.epoch_map_laws.specs.declared.plan.MapAnswer.TheVariants.{MovesOut, MovesOutLeaking, CellsFull, BagsFull}
 use Rattle.epoch_map_laws.specs.declared.plan.Work.{Work}
 use Rattle.epoch_map_laws.specs.declared.plan.Work.TheVariants.{Get}
-use Rattle.epoch_map_laws.specs.Map.{deed_of, start_work}
+use Rattle.epoch_map_laws.specs.declared.plan.Aim.TheVariants.{ToGet}
+use Rattle.epoch_map_laws.specs.Map.{deed_of, start_work, again}
 use Rattle.epoch_plan_calls.specs.Courses.{ReadsOn}
-use Rattle.epoch_map_calls.specs.declared.looks.Stop.{Stop}
-use Rattle.epoch_map_calls.specs.declared.looks.Stop.TheVariants.{Answered, Marked, Elsewhere}
+use Rattle.epoch_map_calls.specs.declared.looks.Pass.{Pass}
+use Rattle.epoch_map_calls.specs.declared.looks.Pass.TheVariants.{FoundIt, Missing, Out, AtMark, Lost}
 
--- An entry is one number: its key above, its value below. The key of an entry is that of the map's program.
+-- A call of threads compares each key that it meets with the one that it seeks, and its program is told no more than
+-- how they compare: it is the map's program, in which the key that is sought has the number 1, lower keys have the
+-- number 0, and higher ones the number 2.
 
--- the entry of this key with this value
-unfoldable pub entry_with : ℕ → ℕ → ℕ
-entry_with key value = key * 4294967296 + value
-
--- the value of an entry
-unfoldable pub value_in : ℕ → ℕ
-value_in entry = entry % 4294967296
+-- the entry by which the program knows a node whose key compares so with the one that is sought; its value is 0
+abbrev pub coded : Ordering → ℕ
+coded Less = 0
+coded Equal = 4294967296
+coded Greater = 8589934592
 
 -- HOW A CALL BEGINS
 
@@ -49,35 +51,40 @@ abbrev pub room_fault : Option Fault → Fault
 room_fault (Some NoMemory) = NoMemory
 room_fault refused = NoPlace
 
--- what an insert of this value tells where its program answers so; it hands the value back
-abbrev pub insert_tells : ℕ → MapAnswer → Option Fault → Result (Option ℕ) (Refused ℕ)
-insert_tells value Inserted refused = Ok None
-insert_tells value (AlreadyThere v) refused = Ok (Some (value_in v))
-insert_tells value (AlreadyThereLeaking v) refused = Ok (Some (value_in v))
-insert_tells value BagsFull refused = Err (record { fault = room_fault refused; value = value })
-insert_tells value MovesOutLeaking refused = Err (record { fault = room_fault refused; value = value })
-insert_tells value CellsFull refused = Err (record { fault = place_fault refused; value = value })
-insert_tells value answer refused = Err (record { fault = TriesOut; value = value })
+-- what an insert tells where its program answers so: whether a node of the key was there
+abbrev pub insert_tells : MapAnswer → Option Fault → Result Bool Fault
+insert_tells Inserted refused = Ok false
+insert_tells (AlreadyThere v) refused = Ok true
+insert_tells (AlreadyThereLeaking v) refused = Ok true
+insert_tells BagsFull refused = Err (room_fault refused)
+insert_tells MovesOutLeaking refused = Err (room_fault refused)
+insert_tells CellsFull refused = Err (place_fault refused)
+insert_tells answer refused = Err TriesOut
 
--- what a removal tells where its program answers so
-abbrev pub remove_tells : MapAnswer → Option Fault → Result (Option ℕ) Fault
-remove_tells (Removed v) refused = Ok (Some (value_in v))
-remove_tells (RemovedLeaking v) refused = Ok (Some (value_in v))
-remove_tells NotFound refused = Ok None
+-- and what a removal tells
+abbrev pub remove_tells : MapAnswer → Option Fault → Result Bool Fault
+remove_tells (Removed v) refused = Ok true
+remove_tells (RemovedLeaking v) refused = Ok true
+remove_tells NotFound refused = Ok false
 remove_tells BagsFull refused = Err (room_fault refused)
 remove_tells MovesOutLeaking refused = Err (room_fault refused)
 remove_tells answer refused = Err TriesOut
 
--- what a look-up tells where its program answers so
-abbrev pub get_tells : MapAnswer → Option Fault → Result (Option ℕ) Fault
-get_tells (Found v) refused = Ok (Some (value_in v))
-get_tells NotFound refused = Ok None
+-- and what a look-up tells
+abbrev pub get_tells : MapAnswer → Option Fault → Result Bool Fault
+get_tells (Found v) refused = Ok true
+get_tells NotFound refused = Ok false
 get_tells MovesOutLeaking refused = Err (room_fault refused)
 get_tells answer refused = Err TriesOut
 
 -- LOOK-UPS THAT ONLY READ
 
 -- Where a look-up stops that only reads: at its answer, or at a node that is marked, with so many moves left.
+pub data Stop : Type 0 where
+  Answered : (answer : MapAnswer) → Stop
+  Marked : (left : ℕ) → Stop
+  Elsewhere : Stop
+
 abbrev pub stop_of : Phase → Stop
 stop_of (Answering answer) = Answered answer
 stop_of (Unlinking aim link c next k) = Marked k
@@ -100,7 +107,7 @@ GivesUp {L} does bucket key (left ∷ lefts) moves links moves' links' =
 
 -- A look-up that only reads: where an attempt stops at a marked node, another one begins, and the last one answers.
 pub record Looks {L : Type 0} (does : L → Access → Reply → L → Type 0) (bucket key moves : ℕ) (links : L)
-    (told : Result (Option ℕ) Fault) (links' : L) : Type 0 where
+    (told : Result Bool Fault) (links' : L) : Type 0 where
   pub lefts : List ℕ
   pub left : ℕ
   pub between : L
@@ -108,3 +115,16 @@ pub record Looks {L : Type 0} (does : L → Access → Reply → L → Type 0) (
   pub answer : MapAnswer
   pub attempts : Attempts does bucket key left between (Answered answer) links'
   pub tells : told ≡ get_tells answer None
+
+-- Where one pass along the bucket ends. `Lost`: a link or a node could not be read, and the program begins again.
+abbrev pub EndsAt : ℕ → ℕ → Pass → Phase → Type 0
+EndsAt bucket key FoundIt last = (v : ℕ) × (last ≡ Answering (Found v))
+EndsAt bucket key Missing last = last ≡ Answering NotFound
+EndsAt bucket key Out last = last ≡ Answering MovesOut
+EndsAt bucket key (AtMark left) last = stop_of last ≡ Marked left
+EndsAt bucket key (Lost left) last = last ≡ again (ToGet bucket key) left
+
+abbrev pub moves_after : Pass → ℕ
+moves_after (AtMark left) = left
+moves_after (Lost left) = left
+moves_after pass = 0

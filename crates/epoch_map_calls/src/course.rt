@@ -1,13 +1,13 @@
 //! How a call of a map goes along a bucket: over nodes of lower keys it takes a straight path.
-ghost use Rattle.std.specs.Prelude.{◌≡◌, ◌<◌, ◌-◌, None, IfOk, IfErr, IfSome};
+ghost use Rattle.std.specs.Prelude.{◌≡◌, ◌<◌, ◌-◌, IfOk, IfErr, IfSome};
 ghost use Rattle.epoch_heap.specs.declared.access.Spot.TheVariants.{Field};
-ghost use Rattle.epoch_plans.specs.Asks.{wish_of};
 ghost use Rattle.epoch_plans.specs.Plans.{ptr_to};
-ghost use Rattle.epoch_plan_calls.specs.Courses.{ReadsOn, reading_of};
+ghost use Rattle.epoch_plan_calls.specs.Courses.{ReadsOn};
 ghost use Rattle.epoch_map_laws.specs.declared.plan.Phase.TheVariants.{Reading};
 ghost use Rattle.epoch_map_laws.specs.Map.{bucket_of, calls_left, deed_of, key_sought};
 ghost use Rattle.epoch_map_laws.proofs.CallsLeft.{map_lowered};
 
+use crate::codes::{KEY, coded};
 use crate::spots::MapSpots;
 use epoch_cells::Name;
 use epoch_heap::{Access, Answer, Change, Ptr, Spot};
@@ -62,39 +62,38 @@ fn node_at(ptr: Ptr) -> Option<Name>
     if ptr.tag == 0 { Some(node) } else { None }
 }
 
-// One node of a walk: its entry is read, and its pointer too where its key is lower. `Ok`: the walk goes on to this
-// node. `Err`: it has come to this phase.
+// One node of a walk: it is read, and its pointer too where its key is lower. `Ok`: the walk goes on to this node.
+// `Err`: it has come to this phase.
 #[inline(always)]
 fn stride<L: MapSpots>(
     aim: Aim,
-    key: u64,
     link: Spot,
     node: Name,
     left: u64,
     spots: &mut L,
 ) -> Result<Name, Phase>
-    requires { key ≡ key_sought aim }
+    requires { key_sought aim ≡ 1 }
     ensures on { IfOk result (λ next. ReadsOn L.does (deed_of 0) (Reading aim link node left) spots.old
         (Reading aim (Field node 0) next (left - 1)) spots.new) }
     ensures left { IfOk result (λ next. 0 < left) }
     ensures over { IfErr result
         (λ phase. ReadsOn L.does (deed_of 0) (Reading aim link node left) spots.old phase spots.new) }
 {
-    let Some((entry, kept)) = spots.entry(node) else {
-        return Err(Phase::Reading(aim, link, node, left));
+    let Some((order, kept)) = spots.entry(node) else {
+        return Err(Phase::Reading(aim, link, node, left).hear(Reply::Done(Answer::Absent)));
     };
-    if left == 0 || key_of(entry) >= key {
+    let entry = coded(order);
+    if left == 0 || order.is_ge() {
         return Err(Phase::Leaving(aim, link, node, entry, left));
     }
     spots.leave(node);
+    let loading = Phase::LoadingNext(aim, link, node, entry, left);
     let Some(ptr) = spots.next(node, kept) else {
-        return Err(Phase::LoadingNext(aim, link, node, entry, left));
+        return Err(loading.hear(Reply::Done(Answer::Absent)));
     };
     match node_at(ptr) {
         Some(next) => Ok(next),
-        None => Err(Phase::LoadingNext(aim, link, node, entry, left).hear(Reply::Done(
-            Answer::Pointer(ptr),
-        ))),
+        None => Err(loading.hear(Reply::Done(Answer::Pointer(ptr)))),
     }
 }
 
@@ -119,12 +118,14 @@ fn along<L: MapSpots>(first: Phase, spots: &mut L) -> Phase
     let Phase::Reading(aim, first_link, first_node, moves) = first else {
         return first;
     };
-    let key = key_sought(aim);
+    if key_sought(aim) != KEY {
+        return first;
+    }
     let mut link = first_link;
     let mut node = first_node;
     let mut left = moves;
     loop {
-        match stride(aim, key, link, node, left, spots) {
+        match stride(aim, link, node, left, spots) {
             Ok(next) => {
                 link = Spot::Field(node, 0);
                 node = next;
@@ -137,9 +138,8 @@ fn along<L: MapSpots>(first: Phase, spots: &mut L) -> Phase
 
 // Goes from this phase on, as long as phases only read.
 #[inline(always)]
-pub(crate) fn ahead<L: MapSpots>(first: Phase, spots: &mut L) -> Phase
-    ensures reads { ReadsOn L.does (deed_of 0) first spots.old result spots.new }
-    ensures stops { reading_of (wish_of (deed_of 0 result)) ≡ None }
+fn ahead<L: MapSpots>(first: Phase, spots: &mut L) -> Phase
+    ensures { ReadsOn L.does (deed_of 0) first spots.old result spots.new }
 {
     let at_bucket = to_bucket(first, spots);
     let at_key = along(at_bucket, spots);

@@ -2,12 +2,13 @@
 #![tactic(auto)]
 
 mod calls;
+mod codes;
 mod course;
-mod entries;
 mod looks;
 mod spots;
 
 pub use calls::{get_over, insert_over, remove_over};
+pub use codes::coded;
 pub use course::MapCourse;
 pub use looks::look_over;
 pub use spots::MapSpots;

@@ -1,60 +1,131 @@
 //! Look-ups that only read.
-ghost use Rattle.std.specs.Prelude.{◌≡◌, None, IsErr, IfErr};
+ghost use Rattle.std.specs.Prelude.{◌≡◌, ◌≤◌, ℕ, true, IsErr, IfErr};
+ghost use Rattle.std.specs.Ordering.{is_ge};
 ghost use Rattle.epoch_cells.specs.declared.fault.Fault.TheVariants.{TriesOut};
-ghost use Rattle.epoch_map_calls.specs.MapCalls.{Looks, stop_of};
+ghost use Rattle.epoch_plan_calls.specs.Courses.{ReadsOn};
+ghost use Rattle.epoch_heap.specs.declared.access.Spot.{Spot};
+ghost use Rattle.epoch_heap.specs.declared.access.Spot.TheVariants.{Root};
+ghost use Rattle.epoch_map_laws.specs.declared.plan.Aim.TheVariants.{ToGet};
+ghost use Rattle.epoch_map_laws.specs.declared.plan.Phase.{Phase};
+ghost use Rattle.epoch_map_laws.specs.declared.plan.Phase.TheVariants.{LoadingFirst, Reading};
+ghost use Rattle.epoch_map_laws.specs.Map.{deed_of, to_look};
+ghost use Rattle.epoch_map_calls.specs.MapCalls.{EndsAt, Looks, coded, moves_after};
 
-use crate::calls::get_tells;
-use crate::course::ahead;
 use crate::spots::MapSpots;
-use epoch_cells::Fault;
-use epoch_map_laws::{MapAnswer, Phase, Work, start_work};
+use epoch_cells::{Fault, Name};
+use std::cmp::Ordering;
 
-/// Where a look-up that only reads stops.
+/// Where one pass along a bucket ends that only reads.
 #[derive(Clone, Copy)]
-pub enum Stop {
-    /// At this answer.
-    Answered(MapAnswer),
+pub enum Pass {
+    /// At the node of the key.
+    FoundIt,
+    /// Where the key is missing.
+    Missing,
+    /// At a node to which no move is left to go on.
+    Out,
     /// At a node that is marked and still linked. This many moves are left.
-    Marked(u64),
-    /// Nowhere else.
-    Elsewhere,
+    AtMark(u64),
+    /// At what could not be read. This many moves are left.
+    Lost(u64),
 }
 
+// Ends at a node that was left, whose key isn't lower than the one that is sought.
 #[inline(always)]
-fn stop_of(phase: Phase) -> Stop
-    ensures { result ≡ stop_of phase }
+fn end_at<L: MapSpots>(spots: &mut L, node: Name, kept: L::Node, order: Ordering, left: u64) -> Pass
+    requires { is_ge order ≡ true }
+    ensures ends { (bucket : ℕ) (link : Spot) → (last : Phase)
+        × ReadsOn L.does (deed_of 0) (to_look (ToGet bucket 1) link node (coded order) left) spots.old last spots.new
+        × EndsAt bucket 1 result last }
+    ensures fewer { moves_after result ≤ left }
 {
-    match phase {
-        Phase::Answering(answer) => Stop::Answered(answer),
-        Phase::Unlinking(_, _, _, _, moves) => Stop::Marked(moves),
-        _ => Stop::Elsewhere,
+    if order.is_gt() {
+        return Pass::Missing;
+    }
+    let Some(ptr) = spots.next(node, kept) else {
+        return Pass::Lost(left);
+    };
+    if ptr.tag != 0 {
+        return Pass::AtMark(left);
+    }
+    Pass::FoundIt
+}
+
+// Goes along the nodes, from this one on.
+#[inline(always)]
+fn walk<L: MapSpots>(spots: &mut L, bucket: u64, first: Name, moves: u64) -> Pass
+    ensures ends { (last : Phase) × ReadsOn L.does (deed_of 0) (Reading (ToGet bucket 1) (Root bucket) first moves)
+        spots.old last spots.new × EndsAt bucket 1 result last }
+    ensures fewer { moves_after result ≤ moves }
+{
+    let mut node = first;
+    let mut left = moves;
+    loop {
+        let Some((order, kept)) = spots.entry(node) else {
+            return Pass::Lost(left);
+        };
+        spots.leave(node);
+        if order.is_ge() {
+            return end_at(spots, node, kept, order, left);
+        }
+        let Some(ptr) = spots.next(node, kept) else {
+            return Pass::Lost(left);
+        };
+        if ptr.tag != 0 {
+            return Pass::AtMark(left);
+        }
+        let Some(next) = ptr.name else {
+            return Pass::Missing;
+        };
+        if left == 0 {
+            return Pass::Out;
+        }
+        node = next;
+        left -= 1;
     }
 }
 
-/// Looks up the value of this key in this bucket, over any spots, and writes nothing.
+// Goes along the bucket once, from its root on.
+#[inline(always)]
+fn go_over<L: MapSpots>(spots: &mut L, bucket: u64, moves: u64) -> Pass
+    ensures ends { (last : Phase) × ReadsOn L.does (deed_of 0) (LoadingFirst (ToGet bucket 1) moves) spots.old last
+        spots.new × EndsAt bucket 1 result last }
+    ensures fewer { moves_after result ≤ moves }
+{
+    let Some(ptr) = spots.first(bucket) else {
+        return Pass::Lost(moves);
+    };
+    let Some(first) = ptr.name else {
+        return Pass::Missing;
+    };
+    if moves == 0 {
+        return Pass::Out;
+    }
+    walk(spots, bucket, first, moves - 1)
+}
+
+/// Looks for a node of the key that is sought in this bucket, over any spots, and writes nothing. Returns whether there
+/// is one.
 ///
 /// It takes a path of the map's program, on which it only reads. Where it comes to a node that is marked, since its
 /// entry was removed, and that is still linked, it stops, and begins again with the moves that are left.
 ///
 /// `TriesOut`: all moves were used up.
 #[inline(always)]
-pub fn look_over<L: MapSpots>(
-    spots: &mut L,
-    bucket: u32,
-    key: u32,
-    moves: u32,
-) -> Result<Option<u32>, Fault>
-    ensures looks { Looks L.does bucket key moves spots.old result spots.new }
+pub fn look_over<L: MapSpots>(spots: &mut L, bucket: u64, moves: u32) -> Result<bool, Fault>
+    ensures looks { Looks L.does bucket 1 moves spots.old result spots.new }
     ensures refused { IfErr result (λ fault. fault ≡ TriesOut) }
     ensures no_moves { moves ≡ 0 → IsErr result }
 {
     let mut left = moves as u64;
-    loop {
-        let first = start_work(Work::Get(bucket as u64, key as u64, left));
-        match stop_of(ahead(first, spots)) {
-            Stop::Answered(answer) => return get_tells(answer, None),
-            Stop::Marked(rest) => left = rest,
-            Stop::Elsewhere => unreachable!(),
+    while left != 0 {
+        match go_over(spots, bucket, left - 1) {
+            Pass::FoundIt => return Ok(true),
+            Pass::Missing => return Ok(false),
+            Pass::Out => return Err(Fault::TriesOut),
+            Pass::AtMark(rest) => left = rest,
+            Pass::Lost(rest) => left = rest,
         }
     }
+    Err(Fault::TriesOut)
 }

@@ -2,7 +2,7 @@
 ghost use Rattle.std.specs.Prelude.{◌≡◌};
 
 use crate::calls::{
-    collector, pin, register, release, unpin, want, want_get, want_insert, want_remove,
+    Node, collector, pin, register, release, unpin, want, want_get, want_insert, want_remove,
 };
 use epoch_cells::Fault;
 use epoch_lend_map::LendingMap;
@@ -15,11 +15,7 @@ use std::process::Abort;
 use std::test::Fail;
 
 // Entries are inserted, found and removed, in two buckets. A second insert of a key keeps the value that is there.
-fn entries<J: PostSet>(
-    rt: &impl Abort,
-    alloc: Global,
-    lender: &Lender<'_, J, epoch_lend_map::Node>,
-) {
+fn entries<J: PostSet>(rt: &impl Abort, alloc: Global, lender: &Lender<'_, J, Node>) {
     let nodes = collector(rt, alloc, lender, 1, 1);
     let map = LendingMap::new(alloc, &nodes, 1).expect(rt, "memory for a map");
     want(rt, "how many buckets there are", map.buckets(), 2);
@@ -43,7 +39,7 @@ fn entries<J: PostSet>(
 
 // Keys 1, 3 and 5 stand in one bucket. A look-up of 5 begins at the root and goes on to three nodes: it takes four
 // moves, and one of 6, which is past them all, takes as many.
-fn moves<J: PostSet>(rt: &impl Abort, alloc: Global, lender: &Lender<'_, J, epoch_lend_map::Node>) {
+fn moves<J: PostSet>(rt: &impl Abort, alloc: Global, lender: &Lender<'_, J, Node>) {
     let nodes = collector(rt, alloc, lender, 1, 1);
     let map = LendingMap::new(alloc, &nodes, 0).expect(rt, "memory for a map");
     let mut handle = register(rt, alloc, &nodes, lender);
@@ -65,11 +61,7 @@ fn moves<J: PostSet>(rt: &impl Abort, alloc: Global, lender: &Lender<'_, J, epoc
 }
 
 // A map of collector 1 takes no guard of collector 2, whose values the same lender has.
-fn strangers<J: PostSet>(
-    rt: &impl Abort,
-    alloc: Global,
-    lender: &Lender<'_, J, epoch_lend_map::Node>,
-) {
+fn strangers<J: PostSet>(rt: &impl Abort, alloc: Global, lender: &Lender<'_, J, Node>) {
     let nodes = collector(rt, alloc, lender, 1, 1);
     let others = collector(rt, alloc, lender, 1, 2);
     let map = LendingMap::new(alloc, &nodes, 0).expect(rt, "memory for a map");
@@ -87,7 +79,7 @@ fn strangers<J: PostSet>(
 }
 
 // Two cells: a third entry finds none, until an entry is removed and its node was dropped.
-fn cells<J: PostSet>(rt: &impl Abort, alloc: Global, lender: &Lender<'_, J, epoch_lend_map::Node>) {
+fn cells<J: PostSet>(rt: &impl Abort, alloc: Global, lender: &Lender<'_, J, Node>) {
     let nodes = collector(rt, alloc, lender, 1, 1);
     let map = LendingMap::new(alloc, &nodes, 0).expect(rt, "memory for a map");
     let mut handle = register(rt, alloc, &nodes, lender);
@@ -111,6 +103,37 @@ fn cells<J: PostSet>(rt: &impl Abort, alloc: Global, lender: &Lender<'_, J, epoc
     let _ = nodes.end();
 }
 
+// Keys that differ in their upper 32 bits alone are different keys, in their order.
+fn wide<J: PostSet>(rt: &impl Abort, alloc: Global, lender: &Lender<'_, J, Node>) {
+    let nodes = collector(rt, alloc, lender, 1, 1);
+    let map = LendingMap::new(alloc, &nodes, 0).expect(rt, "memory for a map");
+    let mut handle = register(rt, alloc, &nodes, lender);
+    let guard = pin(rt, &mut handle);
+    let upper = 0x1_0000_0000;
+    for (key, value) in [(upper + 7, 2), (7, 1), (u64::MAX, 4), (2 * upper + 7, 3)] {
+        want_insert(rt, &map, &mut handle, &guard, (key, value, 9), Ok(None));
+    }
+    want_get(rt, &map, &mut handle, &guard, (7, 2), Ok(Some(1)));
+    want_get(rt, &map, &mut handle, &guard, (upper + 7, 3), Ok(Some(2)));
+    want_get(
+        rt,
+        &map,
+        &mut handle,
+        &guard,
+        (2 * upper + 7, 4),
+        Ok(Some(3)),
+    );
+    want_get(rt, &map, &mut handle, &guard, (u64::MAX, 5), Ok(Some(4)));
+    want_get(rt, &map, &mut handle, &guard, (upper, 9), Ok(None));
+    want_remove(rt, &map, &mut handle, &guard, (upper + 7, 9), Ok(Some(2)));
+    want_get(rt, &map, &mut handle, &guard, (upper + 7, 9), Ok(None));
+    want_get(rt, &map, &mut handle, &guard, (7, 9), Ok(Some(1)));
+    unpin(rt, &mut handle, guard);
+    release(rt, handle);
+    drop(map);
+    let _ = nodes.end();
+}
+
 /// Which calls are made.
 #[derive(Clone, Copy)]
 enum Scene {
@@ -118,6 +141,7 @@ enum Scene {
     Moves,
     Strangers,
     Cells,
+    Wide,
 }
 
 fn begin<J: PostSet>(
@@ -137,6 +161,7 @@ fn begin<J: PostSet>(
         Scene::Moves => moves(rt, alloc, &lender),
         Scene::Strangers => strangers(rt, alloc, &lender),
         Scene::Cells => cells(rt, alloc, &lender),
+        Scene::Wide => wide(rt, alloc, &lender),
     }
     let _ = lender.end(alloc);
     Ok(())
@@ -165,4 +190,9 @@ fn a_guard_of_another_collector_is_refused(rt: HostRuntime) -> Result<(), Fail> 
 #[test]
 fn the_cell_of_a_removed_entry_is_used_again(rt: HostRuntime) -> Result<(), Fail> {
     play(&rt, rt.alloc(), 2, Scene::Cells)
+}
+
+#[test]
+fn keys_of_64_bits_are_told_apart(rt: HostRuntime) -> Result<(), Fail> {
+    play(&rt, rt.alloc(), 8, Scene::Wide)
 }

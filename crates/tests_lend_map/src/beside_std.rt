@@ -2,10 +2,10 @@
 ghost use Rattle.std.specs.Prelude.{◌≡◌};
 
 use crate::calls::{
-    Handle, collector, pin, register, release, round, unpin, want, want_get, want_insert,
-    want_remove,
+    Handle, Map, Node, collector, pin, register, release, round, unpin, want, want_get,
+    want_insert, want_remove,
 };
-use epoch_lend_map::{LendingMap, Node};
+use epoch_lend_map::LendingMap;
 use epoch_lend_readers::posts::{Made, PostSet, Posts};
 use epoch_lend_store::lender::Lender;
 use epoch_lend_store::lent_cells::LentCells;
@@ -27,6 +27,11 @@ const MOVES: u32 = 100;
 /// How many cells there are.
 const CELLS: u32 = 128;
 
+/// The key of this number: it has the number in its lower and in its upper 32 bits.
+fn key_of(number: u32) -> u64 {
+    number as u64 * 0x1_0000_0001
+}
+
 /// The next number of a generator modulo 2 to the power of 32, by the multiplier and the increment of Numerical
 /// Recipes.
 fn next(number: u32) -> u32 {
@@ -37,19 +42,20 @@ fn next(number: u32) -> u32 {
 /// value that is there.
 fn call_both<J: PostSet>(
     rt: &impl Abort,
-    map: &LendingMap<'_, J>,
+    map: &Map<'_, J>,
     handle: &mut Handle<'_, '_, '_, J>,
-    model: &mut BTreeMap<u32, u32>,
+    model: &mut BTreeMap<u64, u64>,
     number: u32,
 ) {
-    let key = (number >> 8) % KEYS;
+    let key = key_of((number >> 8) % KEYS);
+    let value = number as u64;
     let guard = pin(rt, handle);
     let there = model.get(&key).copied();
     match (number >> 24) % 4 {
         0 | 1 => {
-            want_insert(rt, map, handle, &guard, (key, number, MOVES), Ok(there));
+            want_insert(rt, map, handle, &guard, (key, value, MOVES), Ok(there));
             if there.is_none() {
-                want(rt, "memory", model.insert(key, number).is_ok(), true);
+                want(rt, "memory", model.insert(key, value).is_ok(), true);
             }
         }
         2 => {
@@ -76,7 +82,8 @@ fn compare<J: PostSet>(rt: &impl Abort, alloc: Global, lender: &Lender<'_, J, No
             round(rt, &mut handle);
         }
     }
-    for key in 0..KEYS {
+    for number in 0..KEYS {
+        let key = key_of(number);
         let guard = pin(rt, &mut handle);
         let there = model.get(&key).copied();
         want_remove(rt, &map, &mut handle, &guard, (key, MOVES), Ok(there));

@@ -2,7 +2,7 @@
 //! once: written out in a test, it would be proved beside all that the test owns.
 use epoch_cells::{Fault, Refused};
 use epoch_handles::{Capacities, Collector};
-use epoch_lend_map::{LendingMap, Node};
+use epoch_lend_map::{Entry, LendingMap};
 use epoch_lend_pointers::handle::{GuardOf, LendingHandle};
 use epoch_lend_pointers::marking::{Marking, collector_of};
 use epoch_lend_readers::posts::PostSet;
@@ -10,6 +10,12 @@ use epoch_lend_store::lender::Lender;
 use std::alloc::Global;
 use std::fmt::Debug;
 use std::process::Abort;
+
+/// A node of the maps.
+pub(crate) type Node = Entry<u64, u64>;
+
+/// A map of such nodes.
+pub(crate) type Map<'c, J> = LendingMap<'c, J, Node>;
 
 /// A collector of a map's nodes.
 pub(crate) type Nodes<'q, 's, J> = Collector<Node, Marking<'q, 's, J, Node>>;
@@ -21,7 +27,7 @@ pub(crate) type Handle<'d, 'q, 's, J> = LendingHandle<'d, 'q, 's, J, Node>;
 pub(crate) type Pin<'d, 'q, 's, J> = GuardOf<'d, 'q, 's, J, Node>;
 
 /// What a call answers: a value, or none, or a fault.
-pub(crate) type Told = Result<Option<u32>, Fault>;
+pub(crate) type Told = Result<Option<u64>, Fault>;
 
 /// The value is the one that is wanted.
 pub(crate) fn want<T: PartialEq + Debug + Drop>(rt: &impl Abort, what: &str, seen: T, wanted: T) {
@@ -90,17 +96,32 @@ pub(crate) fn release<J: PostSet>(rt: &impl Abort, handle: Handle<'_, '_, '_, J>
     }
 }
 
-/// What an insert of this value answered. A refused one hands the value back.
+/// What a call answered that lends a node: the node's value.
+pub(crate) fn value_of(found: Result<Option<&Node>, Fault>) -> Told {
+    match found {
+        Ok(Some(node)) => Ok(Some(*node.value())),
+        Ok(None) => Ok(None),
+        Err(fault) => Err(fault),
+    }
+}
+
+/// What an insert of this value answered. A refused one hands the node back, unless all moves were used up.
 pub(crate) fn told(
     rt: &impl Abort,
-    value: u32,
-    inserted: Result<Option<u32>, Refused<u32>>,
+    value: u64,
+    inserted: Result<Option<&Node>, Refused<Option<Node>>>,
 ) -> Told {
     match inserted {
-        Ok(there) => Ok(there),
-        Err(refused) => {
-            want(rt, "the value that comes back", refused.value, value);
-            Err(refused.fault)
+        Ok(there) => value_of(Ok(there)),
+        Err(Refused { fault, value: back }) => {
+            let wanted = if fault == Fault::TriesOut {
+                None
+            } else {
+                Some(value)
+            };
+            let back = back.map(|node| node.into_parts().1);
+            want(rt, "the value that comes back", back, wanted);
+            Err(fault)
         }
     }
 }
@@ -108,45 +129,46 @@ pub(crate) fn told(
 /// An insert in at most this many moves answers so.
 pub(crate) fn want_insert<'d, 'q, 's, J: PostSet>(
     rt: &impl Abort,
-    map: &LendingMap<'_, J>,
+    map: &Map<'_, J>,
     handle: &mut Handle<'d, 'q, 's, J>,
     guard: &Pin<'d, 'q, 's, J>,
-    (key, value, moves): (u32, u32, u32),
+    (key, value, moves): (u64, u64, u32),
     wanted: Told,
 ) {
-    let inserted = map.insert(handle, guard, key, value, moves);
+    let inserted = map.insert(handle, guard, Entry::new(key, value), moves);
     want(rt, "an insert", told(rt, value, inserted), wanted);
 }
 
 /// A removal in at most this many moves answers so.
 pub(crate) fn want_remove<'d, 'q, 's, J: PostSet>(
     rt: &impl Abort,
-    map: &LendingMap<'_, J>,
+    map: &Map<'_, J>,
     handle: &mut Handle<'d, 'q, 's, J>,
     guard: &Pin<'d, 'q, 's, J>,
-    (key, moves): (u32, u32),
+    (key, moves): (u64, u32),
     wanted: Told,
 ) {
-    let removed = map.remove(handle, guard, key, moves);
-    want(rt, "a removal", removed, wanted);
+    let removed = map.remove(handle, guard, &key, moves);
+    want(rt, "a removal", value_of(removed), wanted);
 }
 
 /// A look-up in at most this many moves answers so, one that helps does too, and what `contains` says agrees.
 pub(crate) fn want_get<'d, 'q, 's, J: PostSet>(
     rt: &impl Abort,
-    map: &LendingMap<'_, J>,
+    map: &Map<'_, J>,
     handle: &mut Handle<'d, 'q, 's, J>,
     guard: &Pin<'d, 'q, 's, J>,
-    (key, moves): (u32, u32),
+    (key, moves): (u64, u32),
     wanted: Told,
 ) {
-    want(rt, "a look-up", map.get(guard, key, moves), wanted);
-    let helped = map.get_helping(handle, guard, key, moves);
-    want(rt, "a look-up that helps", helped, wanted);
+    let found = map.get(guard, &key, moves);
+    want(rt, "a look-up", value_of(found), wanted);
+    let helped = map.get_helping(handle, guard, &key, moves);
+    want(rt, "a look-up that helps", value_of(helped), wanted);
     let is_there = match wanted {
         Ok(found) => Ok(found.is_some()),
         Err(fault) => Err(fault),
     };
-    let seen = map.contains(guard, key, moves);
+    let seen = map.contains(guard, &key, moves);
     want(rt, "whether the key is there", seen, is_there);
 }

@@ -6,6 +6,8 @@ mod alone;
 #[cfg(test)]
 mod beside_std;
 #[cfg(test)]
+mod books;
+#[cfg(test)]
 mod calls;
 #[cfg(test)]
 mod threads;

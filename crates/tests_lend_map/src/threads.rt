@@ -1,9 +1,11 @@
 //! Several threads on one map, each with keys of its own and with keys that all use.
 ghost use Rattle.std.specs.Prelude.{◌≡◌};
 
-use crate::calls::{Handle, Nodes, Told, collector, pin, register, told, unpin, want};
+use crate::calls::{
+    Handle, Map, Node, Nodes, Told, collector, pin, register, told, unpin, value_of, want,
+};
 use epoch_cells::Fault;
-use epoch_lend_map::{LendingMap, Node};
+use epoch_lend_map::{Entry, LendingMap};
 use epoch_lend_readers::posts::{Made, PostSet, Posts};
 use epoch_lend_store::lender::Lender;
 use epoch_lend_store::lent_cells::LentCells;
@@ -24,20 +26,20 @@ const MOVES: u32 = 100_000;
 const CELLS: u32 = 512;
 
 /// How many keys all threads use.
-const COMMON: u32 = 4;
+const COMMON: u64 = 4;
 
 /// How many threads there are, and how many values each one inserts.
-const THREADS: u32 = 8;
+const THREADS: u64 = 8;
 
-const EACH: u32 = 200;
+const EACH: u64 = 200;
 
 /// A call on a map.
 #[derive(Clone, Copy)]
 enum Call {
-    Insert(u32, u32),
-    Remove(u32),
-    Get(u32),
-    GetHelping(u32),
+    Insert(u64, u64),
+    Remove(u64),
+    Get(u64),
+    GetHelping(u64),
 }
 
 /// How often each value was put into the map, and how often it came off.
@@ -50,19 +52,19 @@ struct Counts<'a> {
 /// Makes the call, once.
 fn call_once<J: PostSet>(
     rt: &impl Abort,
-    map: &LendingMap<'_, J>,
+    map: &Map<'_, J>,
     handle: &mut Handle<'_, '_, '_, J>,
     call: Call,
 ) -> Told {
     let guard = pin(rt, handle);
     let answer = match call {
         Call::Insert(key, value) => {
-            let inserted = map.insert(handle, &guard, key, value, MOVES);
+            let inserted = map.insert(handle, &guard, Entry::new(key, value), MOVES);
             told(rt, value, inserted)
         }
-        Call::Remove(key) => map.remove(handle, &guard, key, MOVES),
-        Call::Get(key) => map.get(&guard, key, MOVES),
-        Call::GetHelping(key) => map.get_helping(handle, &guard, key, MOVES),
+        Call::Remove(key) => value_of(map.remove(handle, &guard, &key, MOVES)),
+        Call::Get(key) => value_of(map.get(&guard, &key, MOVES)),
+        Call::GetHelping(key) => value_of(map.get_helping(handle, &guard, &key, MOVES)),
     };
     let _ = handle.flush(&guard);
     unpin(rt, handle, guard);
@@ -72,10 +74,10 @@ fn call_once<J: PostSet>(
 /// Makes the call, and makes it again where it finds no cell or no place.
 fn make_call<J: PostSet, R: Abort + Wait>(
     rt: &R,
-    map: &LendingMap<'_, J>,
+    map: &Map<'_, J>,
     handle: &mut Handle<'_, '_, '_, J>,
     call: Call,
-) -> Option<u32> {
+) -> Option<u64> {
     for _ in rt.forever() {
         match call_once(rt, map, handle, call) {
             Ok(answer) => return answer,
@@ -102,7 +104,7 @@ fn leave<J: PostSet, R: Abort + Wait>(rt: &R, handle: Handle<'_, '_, '_, J>) {
 }
 
 /// Counts that the value was put there, or came off.
-fn note(rt: &impl Abort, counts: &[AtomicU64], value: u32) {
+fn note(rt: &impl Abort, counts: &[AtomicU64], value: u64) {
     match counts.get(value as usize) {
         Some(count) => {
             count.fetch_add(1, SeqCst);
@@ -115,10 +117,10 @@ fn note(rt: &impl Abort, counts: &[AtomicU64], value: u32) {
 /// it.
 fn own_key<J: PostSet, R: Abort + Wait>(
     rt: &R,
-    map: &LendingMap<'_, J>,
+    map: &Map<'_, J>,
     handle: &mut Handle<'_, '_, '_, J>,
-    key: u32,
-    value: u32,
+    key: u64,
+    value: u64,
 ) {
     let inserted = make_call(rt, map, handle, Call::Insert(key, value));
     want(rt, "an own insert", inserted, None);
@@ -135,11 +137,11 @@ fn own_key<J: PostSet, R: Abort + Wait>(
 /// Inserts the value under a key that other threads use too, looks the key up, and removes whichever value is there.
 fn common_key<J: PostSet, R: Abort + Wait>(
     rt: &R,
-    map: &LendingMap<'_, J>,
+    map: &Map<'_, J>,
     handle: &mut Handle<'_, '_, '_, J>,
     counts: Counts<'_>,
-    key: u32,
-    value: u32,
+    key: u64,
+    value: u64,
 ) {
     if make_call(rt, map, handle, Call::Insert(key, value)).is_none() {
         note(rt, counts.put, value);
@@ -156,9 +158,9 @@ fn work<'q, 's, J: PostSet, R: Abort + Wait>(
     alloc: Global,
     lender: &'q Lender<'s, J, Node>,
     nodes: &Nodes<'q, 's, J>,
-    map: &LendingMap<'_, J>,
+    map: &Map<'_, J>,
     counts: Counts<'_>,
-    first: u32,
+    first: u64,
 ) {
     let mut handle = register(rt, alloc, nodes, lender);
     for number in 0..EACH {
@@ -175,7 +177,7 @@ fn drain<'q, 's, J: PostSet, R: Abort + Wait>(
     alloc: Global,
     lender: &'q Lender<'s, J, Node>,
     nodes: &Nodes<'q, 's, J>,
-    map: &LendingMap<'_, J>,
+    map: &Map<'_, J>,
     counts: Counts<'_>,
 ) {
     let mut handle = register(rt, alloc, nodes, lender);
@@ -216,7 +218,7 @@ fn run_at_once<'q, 's, J: PostSet + Send + Sync, R: Abort + Threads + Wait + Syn
     alloc: Global,
     lender: &'q Lender<'s, J, Node>,
     nodes: &Nodes<'q, 's, J>,
-    map: &LendingMap<'_, J>,
+    map: &Map<'_, J>,
     counts: Counts<'_>,
 ) {
     thread::scope(thread::scope_env(), rt, |scope| {

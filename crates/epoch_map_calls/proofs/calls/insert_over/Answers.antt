@@ -7,10 +7,9 @@ use Rattle.epoch_map_calls.proofs.calls.insert_over.Goals as goal
 pub returns-clause-no_moves : goal.returns-clause-no_moves
 returns-clause-no_moves g c =
     let outcome = c.work_over-outcome in
-    let entry = c.entry_with.result in
     let may =
-    call_suits g.L.Spots.does g.K.Keeps.keeping (Insert c.args.bucket entry c.args.moves) outcome.result.answer
+    call_suits g.L.Spots.does g.K.Keeps.keeping (Insert c.args.bucket 4294967296 c.args.moves) outcome.result.answer
     outcome.result.refused c.args.handle.now outcome.new.handle c.args.spots.now outcome.new.spots
     outcome.ensures.does in
     subst (λ r. c.args.moves ≡ 0 → IsErr r) (sym c.insert_tells.ensures)
-    (insert_needs_moves c.args.bucket entry c.args.moves c.args.value outcome.result.answer outcome.result.refused may)
+    (insert_needs_moves c.args.bucket 4294967296 c.args.moves outcome.result.answer outcome.result.refused may)

@@ -8,8 +8,8 @@ pub returns-clause-no_moves : goal.returns-clause-no_moves
 returns-clause-no_moves g c =
     let outcome = c.work_over-outcome in
     let may =
-    call_suits g.L.Spots.does g.K.Keeps.keeping (Remove c.args.bucket c.args.key c.args.moves) outcome.result.answer
+    call_suits g.L.Spots.does g.K.Keeps.keeping (Remove c.args.bucket 1 c.args.moves) outcome.result.answer
     outcome.result.refused c.args.handle.now outcome.new.handle c.args.spots.now outcome.new.spots
     outcome.ensures.does in
     subst (λ r. c.args.moves ≡ 0 → IsErr r) (sym c.remove_tells.ensures)
-    (remove_needs_moves c.args.bucket c.args.key c.args.moves outcome.result.answer outcome.result.refused may)
+    (remove_needs_moves c.args.bucket 1 c.args.moves outcome.result.answer outcome.result.refused may)

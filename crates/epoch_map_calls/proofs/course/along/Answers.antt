@@ -1,4 +1,4 @@
-use Rattle.std.proofs.Common.{◌-◌, sym, subst}
+use Rattle.std.proofs.Common.{◌-◌}
 use Rattle.epoch_heap.specs.declared.access.Spot.TheVariants.{Field}
 use Rattle.epoch_map_laws.specs.declared.plan.Phase.TheVariants.{Reading}
 use Rattle.epoch_map_calls.proofs.Strides.{reads_on}

@@ -8,7 +8,7 @@ use Rattle.epoch_map_calls.proofs.course.along.Given as goal
 abbrev pub invariant-loop-next : goal.invariant-loop-next
 invariant-loop-next g l =
     ReadsOn g.L.Spots.does (deed_of 0) l.fn.first l.fn.spots (Reading l.aim l.link l.node l.left) l.spots
-    × (l.key ≡ key_sought l.aim)
+    × (key_sought l.aim ≡ 1)
 
 -- each node takes a move
 abbrev pub decreases-loop-next : goal.decreases-loop-next

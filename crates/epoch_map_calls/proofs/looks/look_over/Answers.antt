@@ -1,72 +1,102 @@
-use Rattle.std.proofs.Common.{◌≡◌, [], ◌∷◌, ◌++◌, sym, subst, arith, IsErr, IfErr}
-use Rattle.epoch_cells.specs.declared.fault.Fault.TheVariants.{TriesOut}
-use Rattle.epoch_plan_calls.specs.Courses.{ReadsOn}
-use Rattle.epoch_map_laws.specs.declared.plan.Phase.{Phase}
-use Rattle.epoch_map_laws.specs.Map.{deed_of}
-use Rattle.epoch_map_calls.proofs.Looking.{look_up, marked_fewer, gives_up_further, stops_there}
-use Rattle.epoch_map_calls.proofs.Looking.{look_refused, look_needs_moves}
+use Rattle.std.proofs.Common.{◌-◌, ◌≤◌, [], ◌∷◌, ◌++◌, refl, sym, subst, arith}
+use Rattle.epoch_map_laws.specs.declared.plan.Aim.TheVariants.{ToGet}
+use Rattle.epoch_map_laws.specs.declared.plan.MapAnswer.TheVariants.{Found, NotFound, MovesOut}
+use Rattle.epoch_map_laws.specs.declared.plan.Phase.TheVariants.{LoadingFirst}
+use Rattle.epoch_map_laws.specs.Map.{again}
+use Rattle.epoch_map_calls.specs.MapCalls.{EndsAt, moves_after}
+use Rattle.epoch_map_calls.specs.declared.looks.Pass.{Pass}
+use Rattle.epoch_map_calls.proofs.Strides.{reads_so}
+use Rattle.epoch_map_calls.proofs.Looking.{passes_on, stops_at_mark, looks_so, looks_no_more}
 use Rattle.epoch_map_calls.proofs.looks.look_over.Goals as goal
 
--- it fails only where its moves are used up
-pub returns-in-Answered-clause-refused : goal.returns-in-Answered-clause-refused
-returns-in-Answered-clause-refused g c =
-    let reads =
-    subst (λ (f : Phase). ReadsOn g.L.Spots.does (deed_of 0) f c.loop-answer.spots c.ahead.result c.ahead.new.spots)
-    c.start_work-first.ensures c.ahead.ensures.reads in
-    let looks =
-    look_up g.L.Spots.does c.args.bucket c.args.key c.loop-answer.left c.ahead.result c.loop-answer.spots
-    c.ahead.new.spots reads in
-    subst (λ r. IfErr r (λ fault. fault ≡ TriesOut)) (sym c.get_tells.ensures)
-    (look_refused c.loop-answer.left c.ahead.result c.in-Answered.answer looks (sym c.in-Answered.ensures))
+-- it begins with all its moves
+pub loop-left-init : goal.loop-left-init
+loop-left-init g c = (([], c.args.moves, c.args.spots.now, (refl, refl), ([], (refl, refl))), omega arith)
 
--- with no moves it has none left
-pub returns-in-Answered-clause-no_moves : goal.returns-in-Answered-clause-no_moves
-returns-in-Answered-clause-no_moves g c = λ none.
-    let reads =
-    subst (λ (f : Phase). ReadsOn g.L.Spots.does (deed_of 0) f c.loop-answer.spots c.ahead.result c.ahead.new.spots)
-    c.start_work-first.ensures c.ahead.ensures.reads in
-    let looks =
-    look_up g.L.Spots.does c.args.bucket c.args.key c.loop-answer.left c.ahead.result c.loop-answer.spots
-    c.ahead.new.spots reads in
-    subst (λ r. IsErr r) (sym c.get_tells.ensures)
-    (look_needs_moves c.loop-answer.left c.ahead.result c.in-Answered.answer looks (sym c.in-Answered.ensures)
-    (omega (arith, none, c.loop-answer.invariant.1)))
+-- a pass ends at the node of the key
+pub returns-in-FoundIt-clause-looks : goal.returns-in-FoundIt-clause-looks
+returns-in-FoundIt-clause-looks g c =
+    let before = c.loop-left.invariant.0 in
+    let ends = c.go_over.ensures.ends in
+    let so = subst (λ (p : Pass). EndsAt c.args.bucket 1 p ends.0) c.in-FoundIt.is ends.2 in
+    looks_so g.L.Spots.does c.args.bucket before.1 c.loop-left.left before.2 c.loop-left.spots before.4 before.0
+    c.args.moves (c.loop-left.left - 1) (Found so.0) ends.0 c.args.spots.now c.go_over.new.spots before.3 (omega (arith, c.loop-left-test.true)) ends.1 so.1
 
--- a marked node is met after one move at least
-pub loop-answer-smaller : goal.loop-answer-smaller
-loop-answer-smaller g c =
-    let reads =
-    subst (λ (f : Phase). ReadsOn g.L.Spots.does (deed_of 0) f c.loop-answer.spots c.ahead.result c.ahead.new.spots)
-    c.start_work-first.ensures c.ahead.ensures.reads in
-    marked_fewer g.L.Spots.does c.args.bucket c.args.key c.loop-answer.left c.in-Marked.rest c.ahead.result
-    c.loop-answer.spots c.ahead.new.spots reads (sym c.in-Marked.ensures)
+-- or where the key is missing
+pub returns-in-Missing-clause-looks : goal.returns-in-Missing-clause-looks
+returns-in-Missing-clause-looks g c =
+    let before = c.loop-left.invariant.0 in
+    let ends = c.go_over.ensures.ends in
+    let so = subst (λ (p : Pass). EndsAt c.args.bucket 1 p ends.0) c.in-Missing.is ends.2 in
+    looks_so g.L.Spots.does c.args.bucket before.1 c.loop-left.left before.2 c.loop-left.spots before.4 before.0
+    c.args.moves (c.loop-left.left - 1) NotFound ends.0 c.args.spots.now c.go_over.new.spots before.3 (omega (arith, c.loop-left-test.true)) ends.1 so
 
--- one more attempt has stopped there
-pub loop-answer-preserved : goal.loop-answer-preserved
-loop-answer-preserved g c =
-    let reads =
-    subst (λ (f : Phase). ReadsOn g.L.Spots.does (deed_of 0) f c.loop-answer.spots c.ahead.result c.ahead.new.spots)
-    c.start_work-first.ensures c.ahead.ensures.reads in
-    let before = c.loop-answer.invariant in
-    let fewer =
-    marked_fewer g.L.Spots.does c.args.bucket c.args.key c.loop-answer.left c.in-Marked.rest c.ahead.result
-    c.loop-answer.spots c.ahead.new.spots reads (sym c.in-Marked.ensures) in (
+-- or where no move is left
+pub returns-in-Out-clause-looks : goal.returns-in-Out-clause-looks
+returns-in-Out-clause-looks g c =
+    let before = c.loop-left.invariant.0 in
+    let ends = c.go_over.ensures.ends in
+    let so = subst (λ (p : Pass). EndsAt c.args.bucket 1 p ends.0) c.in-Out.is ends.2 in
+    looks_so g.L.Spots.does c.args.bucket before.1 c.loop-left.left before.2 c.loop-left.spots before.4 before.0
+    c.args.moves (c.loop-left.left - 1) MovesOut ends.0 c.args.spots.now c.go_over.new.spots before.3 (omega (arith, c.loop-left-test.true)) ends.1 so
+
+-- a pass has stopped at a marked node
+pub loop-left-preserved-in-AtMark : goal.loop-left-preserved-in-AtMark
+loop-left-preserved-in-AtMark g c =
+    let before = c.loop-left.invariant.0 in
+    let ends = c.go_over.ensures.ends in
+    let so = subst (λ (p : Pass). EndsAt c.args.bucket 1 p ends.0) c.in-AtMark.is ends.2 in (
       (
-        before.0.0 ++ c.in-Marked.rest ∷ [],
-        gives_up_further g.L.Spots.does c.args.bucket c.args.key before.0.0 c.args.moves c.loop-answer.left
-            c.in-Marked.rest c.args.spots.now c.loop-answer.spots c.ahead.new.spots before.0.1
-            (record { last = c.ahead.result; reads = reads; stops = sym c.in-Marked.ensures }),
+        before.0 ++ c.in-AtMark.rest ∷ [],
+        c.in-AtMark.rest,
+        c.go_over.new.spots,
+        stops_at_mark g.L.Spots.does c.args.bucket before.1 c.loop-left.left before.2 c.loop-left.spots before.4
+            before.0 c.args.moves (c.loop-left.left - 1) c.in-AtMark.rest ends.0 c.args.spots.now c.go_over.new.spots
+            before.3 (omega (arith, c.loop-left-test.true)) ends.1 so,
+        ([], (refl, refl)),
       ),
-      omega (arith, fewer, before.1),
+      omega (arith, subst (λ (p : Pass). moves_after p ≤ c.loop-left.left - 1) c.in-AtMark.is c.go_over.ensures.fewer, c.loop-left.invariant.1),
     )
 
--- it stops nowhere else
-pub unreachable-requires : goal.unreachable-requires
-unreachable-requires g c =
-    let reads =
-    subst (λ (f : Phase). ReadsOn g.L.Spots.does (deed_of 0) f c.loop-answer.spots c.ahead.result c.ahead.new.spots)
-    c.start_work-first.ensures c.ahead.ensures.reads in
-    let looks =
-    look_up g.L.Spots.does c.args.bucket c.args.key c.loop-answer.left c.ahead.result c.loop-answer.spots
-    c.ahead.new.spots reads in
-    absurd (stops_there c.loop-answer.left c.ahead.result looks c.ahead.ensures.stops (sym c.in-Elsewhere.ensures))
+-- or could not read something
+pub loop-left-preserved : goal.loop-left-preserved
+loop-left-preserved g c =
+    let before = c.loop-left.invariant.0 in
+    let ends = c.go_over.ensures.ends in
+    let so = subst (λ (p : Pass). EndsAt c.args.bucket 1 p ends.0) c.in-Lost.is ends.2 in (
+      (
+        before.0,
+        before.1,
+        before.2,
+        before.3,
+        passes_on g.L.Spots.does c.args.bucket before.1 c.loop-left.left before.2 c.loop-left.spots before.4
+            (c.loop-left.left - 1) (again (ToGet c.args.bucket 1) c.in-Lost.rest) c.go_over.new.spots (omega (arith, c.loop-left-test.true))
+            (reads_so g.L.Spots.does (LoadingFirst (ToGet c.args.bucket 1) (c.loop-left.left - 1)) ends.0
+            (again (ToGet c.args.bucket 1) c.in-Lost.rest) c.loop-left.spots c.go_over.new.spots (sym so) ends.1),
+      ),
+      omega (arith, subst (λ (p : Pass). moves_after p ≤ c.loop-left.left - 1) c.in-Lost.is c.go_over.ensures.fewer, c.loop-left.invariant.1),
+    )
+
+-- no move is left
+pub returns-clause-looks : goal.returns-clause-looks
+returns-clause-looks g c =
+    let before = c.loop-left.invariant.0 in
+    looks_no_more g.L.Spots.does c.args.bucket before.1 c.loop-left.left before.2 c.loop-left.spots before.4 before.0
+    c.args.moves c.args.spots.now before.3 (omega (arith, c.loop-left-test.false))
+
+-- each pass takes a move
+pub loop-left-smaller-in-AtMark : goal.loop-left-smaller-in-AtMark
+loop-left-smaller-in-AtMark g c =
+    omega (
+      arith,
+      subst (λ (p : Pass). moves_after p ≤ c.loop-left.left - 1) c.in-AtMark.is c.go_over.ensures.fewer,
+      c.loop-left-test.true,
+    )
+
+pub loop-left-smaller : goal.loop-left-smaller
+loop-left-smaller g c =
+    omega (
+      arith,
+      subst (λ (p : Pass). moves_after p ≤ c.loop-left.left - 1) c.in-Lost.is c.go_over.ensures.fewer,
+      c.loop-left-test.true,
+    )

@@ -1,12 +1,19 @@
 use Rattle.std.proofs.Common.{ℕ, ◌≤◌, List}
+use Rattle.epoch_plan_calls.specs.Courses.{ReadsOn}
+use Rattle.epoch_map_laws.specs.declared.plan.Aim.TheVariants.{ToGet}
+use Rattle.epoch_map_laws.specs.declared.plan.Work.TheVariants.{Get}
+use Rattle.epoch_map_laws.specs.Map.{deed_of, again, start_work}
 use Rattle.epoch_map_calls.specs.MapCalls.{GivesUp}
 use Rattle.epoch_map_calls.proofs.looks.look_over.Given as goal
 
--- each attempt so far has stopped at a marked node, and the next one has what moves are left
-abbrev pub invariant-loop-answer : goal.invariant-loop-answer
-invariant-loop-answer g l =
-    ((lefts : List ℕ) × GivesUp g.L.Spots.does l.fn.bucket l.fn.key lefts l.fn.moves l.fn.spots l.left l.spots)
+-- attempts have stopped at marked nodes, and one more has come so far that it begins again with these moves
+abbrev pub invariant-loop-left : goal.invariant-loop-left
+invariant-loop-left g l =
+    ((lefts : List ℕ) × (m : ℕ) × (mid : g.row.L.Denot)
+    × GivesUp g.L.Spots.does l.fn.bucket 1 lefts l.fn.moves l.fn.spots m mid
+    × ReadsOn g.L.Spots.does (deed_of 0) (start_work (Get l.fn.bucket 1 m)) mid
+    (again (ToGet l.fn.bucket 1) l.left) l.spots)
     × (l.left ≤ l.fn.moves)
 
-abbrev pub decreases-loop-answer : goal.decreases-loop-answer
-decreases-loop-answer g l = l.left
+abbrev pub decreases-loop-left : goal.decreases-loop-left
+decreases-loop-left g l = l.left
