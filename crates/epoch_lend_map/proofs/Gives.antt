@@ -108,9 +108,13 @@ module _ {N : Type 0} (node : N) (f : Option Fault) where
   insert_gives_none R CellsFull is = cc
   insert_gives_none R answer is = cc
 
-  pub insert_gives_back : (R : Type 0) {K : Type 0} (key : N → K) (cmp : K → K → Ordering) (sought : K) (fault : Fault) (own : Option N)
+  pub insert_gives_back : (R : Type 0) {K : Type 0} (key : N → K) (cmp : K → K
+      → Ordering) (sought : K) (fault : Fault) (own : Option N)
       (l : CallNodes N K) (answer : MapAnswer) → own ≡ l.own → HasAnswer key cmp sought (Some node) answer l
-      → insert_tells answer f ≡ Err fault → GivesInsert {R = R} node answer f (Err (record { fault = fault; value = own }))
+      → insert_tells answer f ≡ Err fault → GivesInsert {R = R} node answer f (Err (record {
+        fault = fault;
+        value = own;
+      }))
   insert_gives_back R key cmp sought fault own l Inserted same has is = cc
   insert_gives_back R key cmp sought fault own l (AlreadyThere v) same has is = cc
   insert_gives_back R key cmp sought fault own l (AlreadyThereLeaking v) same has is = cc
@@ -122,7 +126,8 @@ module _ {N : Type 0} (node : N) (f : Option Fault) where
   insert_gives_back R key cmp sought fault own l (Found v) same has is = let at = same ∙ has.0 in cc
   insert_gives_back R key cmp sought fault own l answer same has is = let at = same ∙ has in cc
 
-  pub insert_hands_back : {K : Type 0} (key : N → K) (cmp : K → K → Ordering) (sought : K) (fault : Fault) (own : Option N)
+  pub insert_hands_back : {K : Type 0} (key : N → K) (cmp : K → K
+      → Ordering) (sought : K) (fault : Fault) (own : Option N)
       (l : CallNodes N K) (answer : MapAnswer) → own ≡ l.own → HasAnswer key cmp sought (Some node) answer l
       → insert_tells answer f ≡ Err fault → HandsBack node (record { fault = fault; value = own })
   insert_hands_back key cmp sought fault own l Inserted same has is = cc
@@ -177,7 +182,8 @@ module _ (f : Option Fault) where
   get_gives_node there MovesOutLeaking is = cc
   get_gives_node there answer is = cc
 
-  pub get_gives_none : (R : Type 0) (answer : MapAnswer) → get_tells answer f ≡ Ok false → GivesGet {R = R} answer f (Ok None)
+  pub get_gives_none : (R : Type 0) (answer : MapAnswer) → get_tells answer f ≡ Ok false
+      → GivesGet {R = R} answer f (Ok None)
   get_gives_none R NotFound is = refl
   get_gives_none R (Found v) is = cc
   get_gives_none R MovesOutLeaking is = cc

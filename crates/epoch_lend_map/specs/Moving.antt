@@ -1,4 +1,5 @@
--- What the accesses of a call do to the node that it places, to the key that it seeks, and to the node that it has read.
+-- What the accesses of a call do to the node that it places, to the key that it seeks, and to the node that it has
+-- read.
 use Rattle.std.specs.Prelude.{◌≡◌, ℕ, Some, None, IsSome, IfSome}
 use Rattle.std.specs.declared.cmp.Ordering.{Ordering}
 use Rattle.epoch_heap.specs.declared.access.Access.{Access}

@@ -1,4 +1,5 @@
 pub mod Fitting
+mod HandInHand
 mod Looking
 mod Passing
 mod Strides

@@ -75,7 +75,8 @@ module _ {L : Type 0} (does : L → Access → Reply → L → Type 0) (b m left
     answer = MovesOut;
     attempts = record {
       last = Answering MovesOut;
-      reads = subst (λ (k : ℕ). ReadsOn does (deed_of 0) (start_work (Get b 1 m)) mid (again (ToGet b 1) k) l) none before;
+      reads = subst (λ (k : ℕ). ReadsOn does (deed_of 0) (start_work (Get b 1 m)) mid (again (ToGet b 1) k) l) none
+          before;
       stops = refl;
     };
     tells = refl;

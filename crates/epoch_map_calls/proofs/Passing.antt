@@ -93,7 +93,8 @@ module _ {L : Type 0} (does : L → Access → Reply → L → Type 0) (b : ℕ)
       (reads_one does (LoadingFirst (ToGet b 1) k) l l' (Done (Pointer ptr)) (refl, did, tt))
 
   -- a node was read and left
-  pub looks_at : (link : Spot) (c : Name) (v k : ℕ) (l l1 l2 : L) → does l (Read (Some 0) (ptr_to c)) (Done (Value v)) l1
+  pub looks_at : (link : Spot) (c : Name) (v k : ℕ) (l l1 l2 : L)
+      → does l (Read (Some 0) (ptr_to c)) (Done (Value v)) l1
       → does l1 (Leave (ptr_to c)) (Done Nothing) l2
       → ReadsOn does (deed_of 0) (Reading (ToGet b 1) link c k) l (to_look (ToGet b 1) link c v k) l2
   looks_at link c v k l l1 l2 read leaves =
@@ -146,12 +147,14 @@ module _ {L : Type 0} (does : L → Access → Reply → L → Type 0) (b : ℕ)
 
     -- it is that of the key
     pub ends_at_key : ptr.tag ≡ 0 → is_ge order ≡ true → is_gt order ≡ false
-        → ReadsOn does (deed_of 0) (LoadingNext (ToGet b 1) link c (coded order) k) l (Answering (Found (coded order))) l'
+        → ReadsOn does (deed_of 0) (LoadingNext (ToGet b 1) link c (coded order) k) l (Answering (Found (coded order)))
+        l'
     ends_at_key none upward upto = loads_so _ (by_tag none _ (is_there b link c k order ptr.name upward upto))
 
     -- its key is lower, and its pointer leads there
     pub leads_on : (o : Option Name) → ptr.name ≡ o → ptr.tag ≡ 0 → is_ge order ≡ false
-        → ReadsOn does (deed_of 0) (LoadingNext (ToGet b 1) link c (coded order) k) l (at (ToGet b 1) (Field c 0) o k) l'
+        → ReadsOn does (deed_of 0) (LoadingNext (ToGet b 1) link c (coded order) k) l (at (ToGet b 1) (Field c 0) o k)
+        l'
     leads_on o is none lower =
         loads_so _
         (by_tag none _

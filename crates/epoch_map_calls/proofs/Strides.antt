@@ -99,7 +99,8 @@ module _ {L : Type 0} (does : L → Access → Reply → L → Type 0) where
       (reads_one (LoadingNext aim link c v k) l2 l3 (Done (Pointer (ptr_to n))) loads))
 
 -- a key that is lower than the one that is sought, by its number
-lower : (aim : Aim) (order : Ordering) → key_sought aim ≡ 1 → is_ge order ≡ false → key_of (coded order) < key_sought aim
+lower : (aim : Aim) (order : Ordering) → key_sought aim ≡ 1 → is_ge order ≡ false
+    → key_of (coded order) < key_sought aim
 unfolding key_of
 lower aim Less sought is = subst (λ (k : ℕ). 0 < k) (sym sought) (omega arith)
 lower aim Equal sought is = absurd cc

@@ -1,1 +1,2 @@
 pub mod MapCalls
+pub mod Ranks

@@ -60,7 +60,11 @@ returns-in_default-next-clause-over g c =
     (refl, c.leave.ensures, tt) lower
     (reads_so g.L.Spots.does loading (after_by loading (deed_of 0 loading) (Done Absent))
     c.hear-in_default-next.result c.leave.new.self c.next.new.self (c.hear-in_default-next.ensures 0)
-    (reads_one g.L.Spots.does loading c.leave.new.self c.next.new.self (Done Absent) (refl, c.in_default-next.ensures.none refl, tt)))
+    (reads_one g.L.Spots.does loading c.leave.new.self c.next.new.self (Done Absent) (
+      refl,
+      c.in_default-next.ensures.none refl,
+      tt,
+    )))
 
 -- or has loaded it, and ends there
 pub returns-in-None-clause-over : goal.returns-in-None-clause-over
@@ -77,4 +81,8 @@ returns-in-None-clause-over g c =
     (refl, c.leave.ensures, tt) lower
     (reads_so g.L.Spots.does loading (after_by loading (deed_of 0 loading) (Done (Pointer c.in-Some-next.ptr)))
     c.hear-in-None.result c.leave.new.self c.next.new.self (c.hear-in-None.ensures 0)
-    (reads_one g.L.Spots.does loading c.leave.new.self c.next.new.self (Done (Pointer c.in-Some-next.ptr)) (refl, c.in-Some-next.ensures.some, tt)))
+    (reads_one g.L.Spots.does loading c.leave.new.self c.next.new.self (Done (Pointer c.in-Some-next.ptr)) (
+      refl,
+      c.in-Some-next.ensures.some,
+      tt,
+    )))

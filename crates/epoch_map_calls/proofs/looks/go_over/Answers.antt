@@ -13,7 +13,8 @@ use Rattle.epoch_map_calls.proofs.looks.go_over.Goals as goal
 pub returns-in_default-clause-ends : goal.returns-in_default-clause-ends
 returns-in_default-clause-ends g c = (
   again (ToGet c.args.bucket 1) c.args.moves,
-  first_lost g.L.Spots.does c.args.bucket c.args.moves c.args.spots.now c.first.new.self (c.in_default.ensures.none refl),
+  first_lost g.L.Spots.does c.args.bucket c.args.moves c.args.spots.now c.first.new.self (c.in_default.ensures.none
+      refl),
   refl,
 )
 

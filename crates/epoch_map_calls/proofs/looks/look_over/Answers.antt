@@ -20,7 +20,8 @@ returns-in-FoundIt-clause-looks g c =
     let ends = c.go_over.ensures.ends in
     let so = subst (λ (p : Pass). EndsAt c.args.bucket 1 p ends.0) c.in-FoundIt.is ends.2 in
     looks_so g.L.Spots.does c.args.bucket before.1 c.loop-left.left before.2 c.loop-left.spots before.4 before.0
-    c.args.moves (c.loop-left.left - 1) (Found so.0) ends.0 c.args.spots.now c.go_over.new.spots before.3 (omega (arith, c.loop-left-test.true)) ends.1 so.1
+    c.args.moves (c.loop-left.left - 1) (Found so.0) ends.0 c.args.spots.now c.go_over.new.spots before.3 (omega
+    (arith, c.loop-left-test.true)) ends.1 so.1
 
 -- or where the key is missing
 pub returns-in-Missing-clause-looks : goal.returns-in-Missing-clause-looks
@@ -29,7 +30,10 @@ returns-in-Missing-clause-looks g c =
     let ends = c.go_over.ensures.ends in
     let so = subst (λ (p : Pass). EndsAt c.args.bucket 1 p ends.0) c.in-Missing.is ends.2 in
     looks_so g.L.Spots.does c.args.bucket before.1 c.loop-left.left before.2 c.loop-left.spots before.4 before.0
-    c.args.moves (c.loop-left.left - 1) NotFound ends.0 c.args.spots.now c.go_over.new.spots before.3 (omega (arith, c.loop-left-test.true)) ends.1 so
+    c.args.moves (c.loop-left.left - 1) NotFound ends.0 c.args.spots.now c.go_over.new.spots before.3 (omega (
+      arith,
+      c.loop-left-test.true,
+    )) ends.1 so
 
 -- or where no move is left
 pub returns-in-Out-clause-looks : goal.returns-in-Out-clause-looks
@@ -38,7 +42,10 @@ returns-in-Out-clause-looks g c =
     let ends = c.go_over.ensures.ends in
     let so = subst (λ (p : Pass). EndsAt c.args.bucket 1 p ends.0) c.in-Out.is ends.2 in
     looks_so g.L.Spots.does c.args.bucket before.1 c.loop-left.left before.2 c.loop-left.spots before.4 before.0
-    c.args.moves (c.loop-left.left - 1) MovesOut ends.0 c.args.spots.now c.go_over.new.spots before.3 (omega (arith, c.loop-left-test.true)) ends.1 so
+    c.args.moves (c.loop-left.left - 1) MovesOut ends.0 c.args.spots.now c.go_over.new.spots before.3 (omega (
+      arith,
+      c.loop-left-test.true,
+    )) ends.1 so
 
 -- a pass has stopped at a marked node
 pub loop-left-preserved-in-AtMark : goal.loop-left-preserved-in-AtMark
@@ -55,7 +62,11 @@ loop-left-preserved-in-AtMark g c =
             before.3 (omega (arith, c.loop-left-test.true)) ends.1 so,
         ([], (refl, refl)),
       ),
-      omega (arith, subst (λ (p : Pass). moves_after p ≤ c.loop-left.left - 1) c.in-AtMark.is c.go_over.ensures.fewer, c.loop-left.invariant.1),
+      omega (
+        arith,
+        subst (λ (p : Pass). moves_after p ≤ c.loop-left.left - 1) c.in-AtMark.is c.go_over.ensures.fewer,
+        c.loop-left.invariant.1,
+      ),
     )
 
 -- or could not read something
@@ -70,11 +81,18 @@ loop-left-preserved g c =
         before.2,
         before.3,
         passes_on g.L.Spots.does c.args.bucket before.1 c.loop-left.left before.2 c.loop-left.spots before.4
-            (c.loop-left.left - 1) (again (ToGet c.args.bucket 1) c.in-Lost.rest) c.go_over.new.spots (omega (arith, c.loop-left-test.true))
+            (c.loop-left.left - 1) (again (ToGet c.args.bucket 1) c.in-Lost.rest) c.go_over.new.spots (omega (
+              arith,
+              c.loop-left-test.true,
+            ))
             (reads_so g.L.Spots.does (LoadingFirst (ToGet c.args.bucket 1) (c.loop-left.left - 1)) ends.0
             (again (ToGet c.args.bucket 1) c.in-Lost.rest) c.loop-left.spots c.go_over.new.spots (sym so) ends.1),
       ),
-      omega (arith, subst (λ (p : Pass). moves_after p ≤ c.loop-left.left - 1) c.in-Lost.is c.go_over.ensures.fewer, c.loop-left.invariant.1),
+      omega (
+        arith,
+        subst (λ (p : Pass). moves_after p ≤ c.loop-left.left - 1) c.in-Lost.is c.go_over.ensures.fewer,
+        c.loop-left.invariant.1,
+      ),
     )
 
 -- no move is left

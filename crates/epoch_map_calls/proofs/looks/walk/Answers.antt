@@ -7,7 +7,8 @@ use Rattle.epoch_map_laws.specs.declared.plan.Phase.TheVariants.{Answering}
 use Rattle.epoch_map_laws.specs.Map.{again, at, to_look}
 use Rattle.epoch_map_calls.specs.MapCalls.{coded}
 use Rattle.epoch_map_calls.proofs.Strides.{reads_on, reads_so}
-use Rattle.epoch_map_calls.proofs.Passing.{node_lost, looks_at, goes_to_next, next_lost, ends_at_mark, leads_on, to_further, to_none}
+use Rattle.epoch_map_calls.proofs.Passing.{node_lost, looks_at, goes_to_next, next_lost, ends_at_mark, leads_on}
+use Rattle.epoch_map_calls.proofs.Passing.{to_further, to_none}
 use Rattle.epoch_map_calls.proofs.looks.walk.Goals as goal
 
 -- it begins at the first node
@@ -139,10 +140,12 @@ returns-then-left-eq0-clause-ends g c =
     let ptr = c.in-Some-next.ptr in
     let last = Answering MovesOut in
     let leads =
-    reads_on does start loading (at (ToGet b 1) (Field c.loop-order.node 0) (Some c.in-Some-name.next) c.loop-order.left) c.args.spots.now
+    reads_on does start loading (at (ToGet b 1) (Field c.loop-order.node 0) (Some c.in-Some-name.next)
+    c.loop-order.left) c.args.spots.now
     c.leave.new.self c.next.new.self to_next
     (leads_on does b inv.0 c.loop-order.node c.in-Some.order c.loop-order.left ptr c.leave.new.self c.next.new.self
-    c.in-Some-next.ensures.some (Some c.in-Some-name.next) c.in-Some-name.is (omega (arith, c.if-ptr-ne0.false)) lower) in
+    c.in-Some-next.ensures.some (Some c.in-Some-name.next) c.in-Some-name.is (omega (arith, c.if-ptr-ne0.false)) lower)
+    in
     let out =
     to_none b (Field c.loop-order.node 0) c.in-Some-name.next c.loop-order.left (omega (arith, c.if-left-eq0.true)) in (
       last,
@@ -168,10 +171,12 @@ loop-order-preserved g c =
     let ptr = c.in-Some-next.ptr in
     let last = Reading (ToGet b 1) (Field c.loop-order.node 0) c.in-Some-name.next (c.loop-order.left - 1) in
     let leads =
-    reads_on does start loading (at (ToGet b 1) (Field c.loop-order.node 0) (Some c.in-Some-name.next) c.loop-order.left) c.args.spots.now
+    reads_on does start loading (at (ToGet b 1) (Field c.loop-order.node 0) (Some c.in-Some-name.next)
+    c.loop-order.left) c.args.spots.now
     c.leave.new.self c.next.new.self to_next
     (leads_on does b inv.0 c.loop-order.node c.in-Some.order c.loop-order.left ptr c.leave.new.self c.next.new.self
-    c.in-Some-next.ensures.some (Some c.in-Some-name.next) c.in-Some-name.is (omega (arith, c.if-ptr-ne0.false)) lower) in
+    c.in-Some-next.ensures.some (Some c.in-Some-name.next) c.in-Some-name.is (omega (arith, c.if-ptr-ne0.false)) lower)
+    in
     let further =
     to_further b (Field c.loop-order.node 0) c.in-Some-name.next c.loop-order.left (c.loop-order.left - 1)
     (omega (arith, c.if-left-eq0.false)) in (

@@ -10,7 +10,8 @@ use Rattle.epoch_map_calls.proofs.looks.walk.Given as goal
 -- it has come to this node so far, by some link
 abbrev pub invariant-loop-order : goal.invariant-loop-order
 invariant-loop-order g l =
-    ((link : Spot) × ReadsOn g.L.Spots.does (deed_of 0) (Reading (ToGet l.fn.bucket 1) (Root l.fn.bucket) l.fn.first l.fn.moves)
+    ((link : Spot) × ReadsOn g.L.Spots.does (deed_of 0) (Reading (ToGet l.fn.bucket 1) (Root l.fn.bucket) l.fn.first
+    l.fn.moves)
     l.fn.spots (Reading (ToGet l.fn.bucket 1) link l.node l.left) l.spots)
     × (l.left ≤ l.fn.moves)
 

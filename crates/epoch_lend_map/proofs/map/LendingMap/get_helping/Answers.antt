@@ -25,16 +25,20 @@ returns-in-Some-clause-found g c =
       subst (λ (o : Option g.row.N.Denot). IfSome o (λ node. key node ≡ sought)) (sym c.spots-spots.ensures.own) tt,
     ) in
     let has =
-    answer_has key cmp sought None (λ l. l.nodes) _ (first_of (Get c.bucket_of-bucket.result 1 c.args.moves)) does.0 does.1 c.args.handle.now done.new.handle
-    c.spots-spots.result done.new.spots seeks (again_has key cmp sought None c.spots-spots.result.nodes c.spots-spots.ensures.own (ToGet c.bucket_of-bucket.result 1)
+    answer_has key cmp sought None (λ l. l.nodes) _ (first_of (Get c.bucket_of-bucket.result 1 c.args.moves)) does.0
+    does.1 c.args.handle.now done.new.handle
+    c.spots-spots.result done.new.spots seeks (again_has key cmp sought None c.spots-spots.result.nodes
+    c.spots-spots.ensures.own (ToGet c.bucket_of-bucket.result 1)
     c.args.moves) does.2 in
     let may =
-    call_suits _ _ (Get c.bucket_of-bucket.result 1 c.args.moves) does.0 does.1 c.args.handle.now done.new.handle c.spots-spots.result done.new.spots does.2 in
+    call_suits _ _ (Get c.bucket_of-bucket.result 1 c.args.moves) does.0 does.1 c.args.handle.now done.new.handle
+    c.spots-spots.result done.new.spots does.2 in
     let lends =
     get_lends key cmp sought None c.bucket_of-bucket.result c.args.moves does.1 done.new.spots.nodes does.0 may has
     (sym does.3 ∙ c.in-Ok-true.is ∙ ap Ok c.in-Ok-true.field-0-test) in
     some_at c.close.result.lent c.in-Some.node (λ node. cmp (key node.now) sought ≡ Equal) c.in-Some.is
-    (subst (λ (n : CallNodes g.row.N.Denot g.row.N-Key.Denot). IfSome n.lent (λ node. cmp (key node.now) sought ≡ Equal)) (sym c.close.ensures) lends.1)
+    (subst (λ (n : CallNodes g.row.N.Denot g.row.N-Key.Denot). IfSome n.lent (λ node. cmp (key node.now) sought ≡
+    Equal)) (sym c.close.ensures) lends.1)
 
 pub unreachable-requires : goal.unreachable-requires
 unreachable-requires g c =
@@ -48,11 +52,14 @@ unreachable-requires g c =
       subst (λ (o : Option g.row.N.Denot). IfSome o (λ node. key node ≡ sought)) (sym c.spots-spots.ensures.own) tt,
     ) in
     let has =
-    answer_has key cmp sought None (λ l. l.nodes) _ (first_of (Get c.bucket_of-bucket.result 1 c.args.moves)) does.0 does.1 c.args.handle.now done.new.handle
-    c.spots-spots.result done.new.spots seeks (again_has key cmp sought None c.spots-spots.result.nodes c.spots-spots.ensures.own (ToGet c.bucket_of-bucket.result 1)
+    answer_has key cmp sought None (λ l. l.nodes) _ (first_of (Get c.bucket_of-bucket.result 1 c.args.moves)) does.0
+    does.1 c.args.handle.now done.new.handle
+    c.spots-spots.result done.new.spots seeks (again_has key cmp sought None c.spots-spots.result.nodes
+    c.spots-spots.ensures.own (ToGet c.bucket_of-bucket.result 1)
     c.args.moves) does.2 in
     let may =
-    call_suits _ _ (Get c.bucket_of-bucket.result 1 c.args.moves) does.0 does.1 c.args.handle.now done.new.handle c.spots-spots.result done.new.spots does.2 in
+    call_suits _ _ (Get c.bucket_of-bucket.result 1 c.args.moves) does.0 does.1 c.args.handle.now done.new.handle
+    c.spots-spots.result done.new.spots does.2 in
     let lends =
     get_lends key cmp sought None c.bucket_of-bucket.result c.args.moves does.1 done.new.spots.nodes does.0 may has
     (sym does.3 ∙ c.in-Ok-true.is ∙ ap Ok c.in-Ok-true.field-0-test) in
@@ -66,9 +73,11 @@ returns-in-Some-clause-does g c = λ _.
     let does = done.ensures.does in (
       does.0,
       does.1,
-      subst (λ (b : ℕ). TakesPath c.args.handle.now (λ h. h.kept.spots.items) (deed_of 0) (first_of (Get b 1 c.args.moves)) does.0 does.1
+      subst (λ (b : ℕ). TakesPath c.args.handle.now (λ h. h.kept.spots.items) (deed_of 0) (first_of (Get b 1
+          c.args.moves)) does.0 does.1
           done.new.handle) c.bucket_of-bucket.ensures.value
-          (takes_path _ _ _ _ c.args.handle.now done.new.handle c.spots-spots.result done.new.spots does.0 does.1 does.2),
+          (takes_path _ _ _ _ c.args.handle.now done.new.handle c.spots-spots.result done.new.spots does.0 does.1
+          does.2),
       get_gives_node does.1 c.in-Some.node does.0 (sym does.3 ∙ c.in-Ok-true.is ∙ ap Ok c.in-Ok-true.field-0-test),
     )
 
@@ -78,9 +87,11 @@ returns-in-Ok-false-clause-does g c = λ _.
     let does = done.ensures.does in (
       does.0,
       does.1,
-      subst (λ (b : ℕ). TakesPath c.args.handle.now (λ h. h.kept.spots.items) (deed_of 0) (first_of (Get b 1 c.args.moves)) does.0 does.1
+      subst (λ (b : ℕ). TakesPath c.args.handle.now (λ h. h.kept.spots.items) (deed_of 0) (first_of (Get b 1
+          c.args.moves)) does.0 does.1
           done.new.handle) c.bucket_of-bucket.ensures.value
-          (takes_path _ _ _ _ c.args.handle.now done.new.handle c.spots-spots.result done.new.spots does.0 does.1 does.2),
+          (takes_path _ _ _ _ c.args.handle.now done.new.handle c.spots-spots.result done.new.spots does.0 does.1
+          does.2),
       get_gives_none does.1 _ does.0 (sym does.3 ∙ c.in-Ok-false.is ∙ ap Ok c.in-Ok-false.field-0-test),
     )
 
@@ -90,8 +101,10 @@ returns-in-Err-clause-does g c = λ _.
     let does = done.ensures.does in (
       does.0,
       does.1,
-      subst (λ (b : ℕ). TakesPath c.args.handle.now (λ h. h.kept.spots.items) (deed_of 0) (first_of (Get b 1 c.args.moves)) does.0 does.1
+      subst (λ (b : ℕ). TakesPath c.args.handle.now (λ h. h.kept.spots.items) (deed_of 0) (first_of (Get b 1
+          c.args.moves)) does.0 does.1
           done.new.handle) c.bucket_of-bucket.ensures.value
-          (takes_path _ _ _ _ c.args.handle.now done.new.handle c.spots-spots.result done.new.spots does.0 does.1 does.2),
+          (takes_path _ _ _ _ c.args.handle.now done.new.handle c.spots-spots.result done.new.spots does.0 does.1
+          does.2),
       get_gives_fault does.1 _ c.in-Err.fault does.0 (sym does.3 ∙ c.in-Err.is),
     )
