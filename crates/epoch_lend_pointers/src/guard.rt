@@ -102,7 +102,7 @@ impl<'c, 'q, 's, J: PostSet, T: Drop, W> LendingGuard<'c, 'q, 's, J, T, W> {
                 }
                 Err(refused) => kept = refused.value,
             }
-            match self.lender.take_rooms(self.pinned.position()) {
+            match self.lender.take_rooms() {
                 Some(rooms) => rooms.release(),
                 None => break,
             }

@@ -22,9 +22,8 @@ pub struct LendingHandle<'c, 'q, 's, J: PostSet, T> {
     pub(crate) reader: Option<Reader<'s, J>>,
     // What was retired, and is not deferred yet.
     pub(crate) kept: Retired<'q, 's, J, T>,
-    // Free cells, for the next values; and where others are looked for first.
+    // Free cells, for the next values.
     pub(crate) rooms: Rooms<'s, J, T>,
-    pub(crate) near: usize,
     pub(crate) alloc: Global,
 }
 
@@ -125,7 +124,6 @@ impl<'c, 'q, 's, J: PostSet, T: Drop> LendingHandle<'c, 'q, 's, J, T> {
         match collector.register() {
             Ok(handle) => Ok(LendingHandle {
                 handle,
-                near: reader.position(),
                 reader: Some(reader),
                 kept,
                 rooms: Rooms::none(alloc),

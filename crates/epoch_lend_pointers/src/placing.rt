@@ -31,7 +31,7 @@ impl<'c, 'q, 's, J: PostSet, T: Drop> LendingHandle<'c, 'q, 's, J, T> {
         ensures reader { self.new.reader ≡ self.old.reader }
         ensures kept { self.new.kept ≡ self.old.kept }
     {
-        self.rooms = self.kept.lender().take_rooms(self.near)?;
+        self.rooms = self.kept.lender().take_rooms()?;
         self.rooms.next()
     }
 

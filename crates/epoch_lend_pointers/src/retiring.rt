@@ -202,7 +202,6 @@ impl<'c, 'q, 's, J: PostSet, T: Drop> LendingHandle<'c, 'q, 's, J, T> {
             reader,
             kept,
             rooms,
-            near,
             alloc,
         } = staying;
         rooms.release();
@@ -214,8 +213,7 @@ impl<'c, 'q, 's, J: PostSet, T: Drop> LendingHandle<'c, 'q, 's, J, T> {
                     reader,
                     kept,
                     rooms: Rooms::none(alloc),
-                    near,
-                    alloc,
+                            alloc,
                 };
                 Err((staying, fault))
             }

@@ -53,11 +53,6 @@ impl<'p, J: PostSet> Reader<'p, J> {
         }
     }
 
-    /// The place of its post among those of the set. No other reader has this post.
-    pub fn position(&self) -> usize {
-        self.right.position
-    }
-
     /// Gives the post back, for another reader.
     pub fn release(self) {
         let Reader { posts, right } = self;

@@ -108,7 +108,7 @@ impl<'s, J: PostSet, T: Drop> Lender<'s, J, T> {
     // Puts a bag where it waits.
     fn put(&self, home: usize, bag: SealedBag<'s, J, T>) {
         let waiting = Waiting { home, bag };
-        let position = match self.waiting.put(home % WAITING_PLACES, waiting) {
+        let position = match self.waiting.put(waiting) {
             Ok(position) => position,
             Err(waiting) => {
                 let _ = self.own_places.put_at(home, waiting);
@@ -129,18 +129,17 @@ impl<'s, J: PostSet, T: Drop> Lender<'s, J, T> {
         }
     }
 
-    /// Takes rooms of free cells that were left together, for the values that a reader with this number places next.
-    /// `None`: none were seen.
-    pub fn take_rooms(&self, reader: usize) -> Option<Rooms<'s, J, T>> {
-        self.rooms.take(reader % ROOM_PLACES)
+    /// Takes rooms of free cells that were left together. `None`: none were seen.
+    pub fn take_rooms(&self) -> Option<Rooms<'s, J, T>> {
+        self.rooms.take()
     }
 
     // Leaves rooms for the next values of any caller.
-    fn leave_rooms(&self, home: usize, rooms: Rooms<'s, J, T>) {
+    fn leave_rooms(&self, rooms: Rooms<'s, J, T>) {
         if rooms.len() == 0 {
             return;
         }
-        if let Err(rooms) = self.rooms.put(home % ROOM_PLACES, rooms) {
+        if let Err(rooms) = self.rooms.put(rooms) {
             rooms.release();
         }
     }
@@ -154,7 +153,7 @@ impl<'s, J: PostSet, T: Drop> Lender<'s, J, T> {
     }
 
     // Drops the values of a clear bag, and leaves their rooms together. Returns how many values it had.
-    fn drop_all(&self, home: usize, clear: ClearBag<'s, J, T>) -> usize {
+    fn drop_all(&self, clear: ClearBag<'s, J, T>) -> usize {
         let mut rest = clear;
         let mut dropped: usize = 0;
         let mut rooms = self.fresh_rooms();
@@ -173,11 +172,11 @@ impl<'s, J: PostSet, T: Drop> Lender<'s, J, T> {
                 continue;
             }
             if rooms.len() >= self.together {
-                self.leave_rooms(home, mem::replace(&mut rooms, self.fresh_rooms()));
+                self.leave_rooms(mem::replace(&mut rooms, self.fresh_rooms()));
             }
             rooms.keep(room);
         }
-        self.leave_rooms(home, rooms);
+        self.leave_rooms(rooms);
         dropped
     }
 
@@ -185,7 +184,7 @@ impl<'s, J: PostSet, T: Drop> Lender<'s, J, T> {
     fn settle(&self, home: usize, bag: SealedBag<'s, J, T>) {
         match bag.take_back(&self.cells.posts) {
             Ok(clear) => {
-                self.drop_all(home, clear);
+                self.drop_all(clear);
             }
             Err(bag) => self.put(home, bag),
         }
@@ -237,9 +236,9 @@ impl<'s, J: PostSet, T: Drop> Lender<'s, J, T> {
         let mut dropped: usize = 0;
         for position in 0..self.bound.load(SeqCst) {
             if let Some(waiting) = self.take_out(position) {
-                let Waiting { home, bag } = waiting;
+                let Waiting { home: _, bag } = waiting;
                 if let Ok(clear) = bag.take_back(&self.cells.posts) {
-                    dropped = dropped.wrapping_add(self.drop_all(home, clear));
+                    dropped = dropped.wrapping_add(self.drop_all(clear));
                 }
             }
         }
@@ -263,7 +262,7 @@ impl<'s, J: PostSet, T: Drop> Lender<'s, J, T> {
         }
         let sealed = removals.seal(&self.cells.posts);
         match sealed.take_back(&self.cells.posts) {
-            Ok(clear) => self.drop_all(slot, clear),
+            Ok(clear) => self.drop_all(clear),
             Err(_) => 0,
         }
     }

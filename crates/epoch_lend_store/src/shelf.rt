@@ -47,23 +47,13 @@ impl<X: Drop> Shelf<X> {
         self.standing.load(SeqCst)
     }
 
-    /// Puts the thing into the first place that is seen empty, from this one on and then from the first one on, and
-    /// returns which place that is. The thing is handed back if none is.
-    pub(crate) fn put(&self, first: usize, thing: X) -> Result<usize, X>
-        ensures { IfErr result (λ back. back ≡ thing) }
-    {
-        let first = first.min(self.places.len());
-        match self.put_between(first, self.places.len(), thing) {
-            Ok(position) => Ok(position),
-            Err(back) => self.put_between(0, first, back),
-        }
-    }
-
-    fn put_between(&self, from: usize, to: usize, thing: X) -> Result<usize, X>
+    /// Puts the thing into the first place that is seen empty, and returns which place that is. The thing is handed back
+    /// if none is.
+    pub(crate) fn put(&self, thing: X) -> Result<usize, X>
         ensures { IfErr result (λ back. back ≡ thing) }
     {
         let mut kept = thing;
-        for position in from..to {
+        for position in 0..self.places.len() {
             match self.put_at(position, kept) {
                 Ok(()) => return Ok(position),
                 Err(back) => kept = back,
@@ -92,21 +82,12 @@ impl<X: Drop> Shelf<X> {
         Ok(())
     }
 
-    /// Takes a thing out of the first place that is seen to have one, from this one on and then from the first one on.
-    /// `None`: none was.
-    pub(crate) fn take(&self, first: usize) -> Option<X> {
+    /// Takes a thing out of the first place that is seen to have one. `None`: none was.
+    pub(crate) fn take(&self) -> Option<X> {
         if self.len() == 0 {
             return None;
         }
-        let first = first.min(self.places.len());
-        match self.take_between(first, self.places.len()) {
-            Some(thing) => Some(thing),
-            None => self.take_between(0, first),
-        }
-    }
-
-    fn take_between(&self, from: usize, to: usize) -> Option<X> {
-        for position in from..to {
+        for position in 0..self.places.len() {
             if let Some(thing) = self.take_out(position) {
                 return Some(thing);
             }

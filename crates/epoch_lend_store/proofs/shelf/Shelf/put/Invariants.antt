@@ -1,5 +1,5 @@
 use Rattle.std.proofs.Common.{◌≡◌}
-use Rattle.epoch_lend_store.proofs.shelf.Shelf.put_between.Given as goal
+use Rattle.epoch_lend_store.proofs.shelf.Shelf.put.Given as goal
 
 -- no place was found so far
 abbrev pub invariant-loop-position : goal.invariant-loop-position
