@@ -88,7 +88,7 @@ impl<'g, 'c, 's, J: PostSet, V: LentNode, W> NodeSpots<'g, 'c, 's, J, V, W> {
     }
 
     // Places the call's own node. If it is refused, the node is there again.
-    #[inline(never)]
+    #[inline(always)]
     fn place(&mut self) -> Result<Answer, Fault>
         ensures moves { (number : ℕ) → MovesNodes self.old.nodes (Place number) (reply_of result) self.new.nodes }
         ensures full { IfErr result (λ fault. fault ≡ CellsFull) }
