@@ -1,3 +1,3 @@
 mod Fitting
-mod LastPhases
+mod NextPhases
 mod Telling

@@ -9,13 +9,13 @@ pub returns-in-Exchanged-clause-does : goal.returns-in-Exchanged-clause-does
 returns-in-Exchanged-clause-does g c =
     let is : c.ask-answer.result ≡ Exchanged c.in-Exchanged.field-0 = cc in
     path_goes_to g.L.Spots.does g.K.Keeps.keeping (deed_of 0) (Appending c.args.node c.args.last c.args.tries)
-    (Swinging c.args.last c.args.node) c.ask-answer.result c.args.handle.now c.args.handle.now
-    c.swing.new.handle c.args.spots.now c.ask-answer.new.spots c.swing.new.spots c.swing.result.answer
-    c.swing.result.refused (c.ask-answer.ensures, tt, refl) (ap (appended c.args.node c.args.last c.args.tries) is) c.swing.ensures.does
+    (Swinging c.args.last c.args.node) c.ask-answer.result c.args.handle.now c.args.handle.now c.swing.new.handle
+    c.args.spots.now c.ask-answer.new.spots c.swing.new.spots c.swing.result.answer c.swing.result.refused
+    (c.ask-answer.ensures, tt, refl) (ap (appended c.args.node c.args.last c.args.tries) is) c.swing.ensures.does
 
 -- any other answer
 pub returns-clause-does : goal.returns-clause-does
 returns-clause-does g c =
-    path_goes_on g.L.Spots.does g.K.Keeps.keeping (deed_of 0) (Appending c.args.node c.args.last c.args.tries) c.ask-answer.result
-    c.args.handle.now c.args.handle.now c.rest.new.handle c.args.spots.now c.ask-answer.new.spots c.rest.new.spots
-    c.rest.result.answer c.rest.result.refused (c.ask-answer.ensures, tt, refl) c.rest.ensures.does
+    path_goes_on g.L.Spots.does g.K.Keeps.keeping (deed_of 0) (Appending c.args.node c.args.last c.args.tries)
+    c.ask-answer.result c.args.handle.now c.args.handle.now c.rest.new.handle c.args.spots.now c.ask-answer.new.spots
+    c.rest.new.spots c.rest.result.answer c.rest.result.refused (c.ask-answer.ensures, tt, refl) c.rest.ensures.does

@@ -12,7 +12,8 @@ returns-in-Some-clause-does g c =
     path_goes_to g.L.Spots.does g.K.Keeps.keeping (deed_of 0) (LoadingTail c.args.node c.args.tries)
     (LoadingLast c.args.node c.in-Some.last c.args.tries) c.ask-answer.result c.args.handle.now c.args.handle.now
     c.load_last.new.handle c.args.spots.now c.ask-answer.new.spots c.load_last.new.spots c.load_last.result.answer
-    c.load_last.result.refused (c.ask-answer.ensures, tt, refl) (finds_last c.args.node c.in-Some.last c.args.tries c.ask-answer.result is) c.load_last.ensures.does
+    c.load_last.result.refused (c.ask-answer.ensures, tt, refl)
+    (finds_last c.args.node c.in-Some.last c.args.tries c.ask-answer.result is) c.load_last.ensures.does
 
 -- any other answer
 pub returns-clause-does : goal.returns-clause-does
