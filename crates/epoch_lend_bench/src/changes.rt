@@ -206,11 +206,7 @@ impl<'c, 'q, 's, J: PostSet> Idle<'c, 'q, 's, J, Link> {
 }
 
 // One thread's part of a round.
-fn take_part<R: Clock + Wait, J: PostSet>(
-    rt: &R,
-    scene: &Scene<'_, '_, '_, '_, J>,
-    span: &Span,
-) {
+fn take_part<R: Clock + Wait, J: PostSet>(rt: &R, scene: &Scene<'_, '_, '_, '_, J>, span: &Span) {
     let threads = scene.size.threads;
     let mut idle = Idle::register(scene.alloc, scene.collector, scene.lender);
     let start = span.begin(rt, threads);

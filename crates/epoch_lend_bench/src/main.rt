@@ -1,7 +1,6 @@
-//! Times looks at values that are lent.
+//! Times looks at values that are lent, and changes of such values.
 //!
-//! With no argument it makes a short run, and prints what the looks found. With `long` it prints times of looks in
-//! cells, beside loads of a plain atomic word, on one thread and on four.
+//! With no argument it makes a short run, and prints what the turns did.
 //!
 //! `NAME THREADS TURNS ROUNDS` prints the least and the middle time of this many rounds of a row of the comparison with
 //! crossbeam-epoch, in nanoseconds a turn, and how many turns of the last round did what they should. `replacing
@@ -14,9 +13,9 @@ mod idle;
 mod maps;
 mod pointers;
 mod replacing;
-mod rounds;
 mod span;
 
+use changes::Change;
 use pointers::{Row, Size};
 use span::Hundredths;
 use std::alloc::Global;
@@ -24,11 +23,6 @@ use std::sync::Wait;
 use std::thread::Threads;
 use std::time::Clock;
 use std::{env, io};
-
-/// Turns of a round, and rounds, of which the quickest counts.
-const TURNS: u64 = 1_000_000;
-
-const ROUNDS: u64 = 20;
 
 /// Turns of a short round.
 const FEW: u64 = 1_000;
@@ -50,7 +44,6 @@ fn main(rt: HostRuntime) -> io::Result<()> {
     match words.get(1) {
         None => short(&rt, alloc),
         Some(word) => match word.as_str() {
-            "long" => long(&rt, alloc),
             "replacing" => replace_values(&rt, alloc, size),
             name => one_row(&rt, alloc, name, size, number(4, 1)),
         },
@@ -58,8 +51,6 @@ fn main(rt: HostRuntime) -> io::Result<()> {
 }
 
 fn short<R: Clock + Print + Threads + Wait + Sync>(rt: &R, alloc: Global) -> io::Result<()> {
-    let times = rounds::time(rt, alloc, 1, FEW, 1)?;
-    println!(rt; "looks found the value {} times of 1000", times.found)?;
     let size = Size {
         threads: 1,
         turns: FEW,
@@ -78,16 +69,23 @@ fn short<R: Clock + Print + Threads + Wait + Sync>(rt: &R, alloc: Global) -> io:
         told.torn,
         told.placed.wrapping_sub(told.dropped)
     )?;
-    println!(rt; "run with the argument long for times")
+    changed(rt, alloc, size)
 }
 
-fn long<R: Clock + Print + Threads + Wait + Sync>(rt: &R, alloc: Global) -> io::Result<()> {
-    for threads in [1, 4] {
-        let times = rounds::time(rt, alloc, threads, TURNS, ROUNDS)?;
-        let (look, plain) = (times.look, times.plain);
-        println!(rt; "threads {threads}: look {look} hundredths of a ns, plain load {plain}")?;
-    }
-    Ok(())
+// Makes a short round of each kind of change.
+fn changed<R: Clock + Print + Threads + Wait + Sync>(
+    rt: &R,
+    alloc: Global,
+    size: Size,
+) -> io::Result<()> {
+    let replaced = changes::time(rt, alloc, Change::Replace, size, &mut [0])?;
+    println!(rt; "{replaced} values of 1000 were replaced")?;
+    let together = changes::time(rt, alloc, Change::ReplaceTogether, size, &mut [0])?;
+    println!(rt; "{together} of 960 were replaced, 64 under one guard")?;
+    let popped = changes::time(rt, alloc, Change::Stack, size, &mut [0])?;
+    println!(rt; "{popped} of 1000 were popped from a stack")?;
+    let dequeued = changes::time(rt, alloc, Change::Queue, size, &mut [0])?;
+    println!(rt; "{dequeued} of 1000 were popped from a queue")
 }
 
 fn replace_values<R: Print + Threads + Wait + Sync>(

@@ -1,5 +1,6 @@
 -- The steps on the word of a place, under its invariant. Assumes `Logic`.
-use Rattle.std.proofs.Common.{◌≡◌, ◌≢◌, ◌⊎◌, inl, inr, ℕ, zero, suc, ◌+◌, ◌*◌, List, [], ◌∷◌, ◌++◌, sym, refl, ap, ◌∙◌, subst, length}
+use Rattle.std.proofs.Common.{◌≡◌, ◌≢◌, ◌⊎◌, inl, inr, ℕ, zero, suc, ◌+◌, ◌*◌, List, [], ◌∷◌, ◌++◌, sym, refl, ap}
+use Rattle.std.proofs.Common.{◌∙◌, subst, length}
 use Rattle.std.proofs.Common.{eqb, eq-eqb, ne_eqb}
 use Rattle.std.proofs.lemmas.List.{length-append}
 use native.Mathlib.Omega.{arith}
@@ -201,8 +202,8 @@ module _ {M : Type 1} {𝓤 : Ura M} (𝓛 : Logic 𝓤) (R : RattleType) (d : T
         fpack ! (List E) (turn_in R d.log t e) es $ done !)))
 
     shows : Awaits t p → (n : ℕ) → ⟦ W n ⟧ ∗ ⟦ Showing ⟧ ⊢ upd 𝓤 (⟦ W (4 * t + 2) ⟧ ∗ ⟦ turn_is R d.log t e ⟧)
-    shows awaits n = let Rest = fsep (flft (e.1 ∷ []) full_share) (fsep (lent_at R d.at e.0 (e.1 ∷ [])) (flent (e.1 ∷ [])
-        (lies_at R full_share d.at e.0))) in
+    shows awaits n = let Rest = fsep (flft (e.1 ∷ []) full_share) (fsep (lent_at R d.at e.0 (e.1 ∷ []))
+        (flent (e.1 ∷ []) (lies_at R full_share d.at e.0))) in
         qed 𝓛 (‵ (W n) ∷ ‵ Showing ∷ []) ∵ fpick ! (λ s. fsplit3 ! $ move ! (3 ∷ []) $ fsplit ! $ move ! (0 ∷ 3 ∷ []) $
         use2 𝓛 (given (gnum p ≡ gnum n) (‵ (fobs δ (gnum p)) ⊛ ‵ (fauth δ (gnum n))))
         (𝓛.names.name_agree δ (gnum p) (gnum n)) $ learn ! (λ same. split ! $
@@ -323,8 +324,8 @@ module _ {M : Type 1} {𝓤 : Ura M} (𝓛 : Logic 𝓤) (R : RattleType) (d : T
     claims_it t = stepped (λ n. either (eqb n (4 * t)) (4 * t + 1) n) (Claimed t) ftrue (claims t)
 
     -- one store shows the value
-    pub shows_it : (t p : ℕ) (e : E) → Awaits t p → A.inv (fbor α Memory) ∗ (A.lft α q ∗ ⟦ Showing t p e ⟧) ⊢ asks 𝓛 (block_ptr b (o +
-        0))
+    pub shows_it : (t p : ℕ) (e : E) → Awaits t p
+        → A.inv (fbor α Memory) ∗ (A.lft α q ∗ ⟦ Showing t p e ⟧) ⊢ asks 𝓛 (block_ptr b (o + 0))
         (λ _. 4 * t + 2) always (λ n. fsep (flft α q) (turn_is R d.log t e))
     shows_it t p e awaits = stepped (λ _. 4 * t + 2) (λ _. turn_is R d.log t e) (Showing t p e) (shows t p e awaits)
 

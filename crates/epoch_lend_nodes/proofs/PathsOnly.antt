@@ -47,7 +47,8 @@ abbrev pub AsksForRoom : {P A : Type 0} → Deed P A → Type 0
 AsksForRoom (Flushes done refused) = Unit {0}
 AsksForRoom deed = ⊥
 
-module _ {P A H : Type 0} (spots : H → List Spot) (deed : P → Deed P A) (mid old : H) (same : spots mid ≡ spots old) where
+module _ {P A H : Type 0} (spots : H → List Spot) (deed : P → Deed P A) (mid old : H)
+    (same : spots mid ≡ spots old) where
   performs_from : (d : Deed P A) (new : H) (reply : Reply) → AsksForRoom d
       → PerformsBy anything (gathers spots) d mid tt reply new tt
       → PerformsBy anything (gathers spots) d old tt reply new tt

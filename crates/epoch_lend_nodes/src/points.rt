@@ -39,8 +39,8 @@ fn exchange_at<T: Pointable, W>(
     }
 }
 
-/// Stores this pointer there, or exchanges the one for the other, for the program. `Absent`: it is another change, which
-/// no program of this library asks for.
+/// Stores this pointer there, or exchanges the one for the other, for the program. `Absent`: it is another change,
+/// which no program of this library asks for.
 #[inline(always)]
 pub fn write_at<T: Pointable, W>(
     at: &Atomic<T>,

@@ -104,8 +104,8 @@ impl<'g, 'c, 'q, 's, J: PostSet, V: LentNode, W> NodeSpots<'g, 'c, 'q, 's, J, V,
         nodes
     }
 
-    // Places the call's own node. If it is refused, the node is there again. In a free cell it has a name at once, and is
-    // shown later.
+    // Places the call's own node. If it is refused, the node is there again. In a free cell it has a name at once, and
+    // is shown later.
     #[inline(always)]
     fn place(&mut self) -> Result<Answer, Fault>
         ensures moves { (number : ℕ) → MovesNodes self.old.nodes (Place number) (reply_of result) self.new.nodes }

@@ -66,7 +66,7 @@ impl<'c, 'q, 's, J: PostSet, T, W> LendingGuard<'c, 'q, 's, J, T, W> {
 impl<'c, 'q, 's, J: PostSet, T: Drop, W> LendingGuard<'c, 'q, 's, J, T, W> {
     /// Places the value in a cell, and returns the pointer to it, with tag 0.
     ///
-    /// `CellsFull`: every cell was seen in use. The value is handed back.
+    /// `CellsFull`: every cell was seen in use, or kept by handles for their next values. The value is handed back.
     pub fn place<'g>(&'g self, value: T) -> Result<Shared<'g, T>, Refused<T>>
         ensures tag { IfOk result (λ pointer. pointer.tag ≡ 0) }
         ensures home { IfOk result (λ pointer. IsUnder self.now.guard.collector.now.id pointer.home) }

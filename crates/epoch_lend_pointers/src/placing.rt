@@ -38,9 +38,8 @@ impl<'c, 'q, 's, J: PostSet, T: Drop> LendingHandle<'c, 'q, 's, J, T> {
     /// Places the value in a cell, and returns the pointer to it, with tag 0. In a free cell of the handle's own, this
     /// takes one store, and no search.
     ///
-    /// `CellsFull`: every cell was seen in use, or kept by other handles for their next values. All handles together
-    /// keep at most half of the cells, and each of them at most [`ROOMS_TOGETHER`](epoch_lend_store::lender::ROOMS_TOGETHER).
-    /// The value is handed back.
+    /// `CellsFull`: every cell was seen in use, or kept by other handles for their next values. The value is handed
+    /// back. All handles together keep at most half of the cells, and each of them at most 64.
     #[inline(always)]
     pub fn place<'g>(
         &mut self,

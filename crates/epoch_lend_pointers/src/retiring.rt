@@ -114,8 +114,8 @@ impl<'c, 'q, 's, J: PostSet, T: Drop> LendingHandle<'c, 'q, 's, J, T> {
     }
 
     /// Makes room for a value that is retired next, so that it is unlinked only if it can be retired: if 64 values are
-    /// gathered, they are deferred, and then the handle is flushed as by `LocalHandle::flush`, so that they needn't wait
-    /// for 63 others like them. A flush that finds no place for the held bag does no harm.
+    /// gathered, they are deferred by one job, and then the handle is flushed as by `LocalHandle::flush`, so that this
+    /// job needn't wait for 63 others. A flush that finds no place for the held bag leaves the bag as it was.
     ///
     /// The guard must be this handle's. `NoMemory`, `BagsFull`: what was gathered is as before.
     #[inline(always)]
@@ -213,7 +213,7 @@ impl<'c, 'q, 's, J: PostSet, T: Drop> LendingHandle<'c, 'q, 's, J, T> {
                     reader,
                     kept,
                     rooms: Rooms::none(alloc),
-                            alloc,
+                    alloc,
                 };
                 Err((staying, fault))
             }

@@ -48,7 +48,7 @@ pub struct Lender<'s, J: PostSet, T> {
     // In front of which place all bags wait, those of slots behind the others; and where the next search begins.
     bound: AtomicUsize,
     next: AtomicUsize,
-    // Rooms of free cells, for the next values of any caller; and how many are left together. None is left if that is 0.
+    // Rooms of free cells, for the next values of any caller; and how many are left together. None is left if it is 0.
     rooms: Shelf<Rooms<'s, J, T>>,
     together: usize,
 }

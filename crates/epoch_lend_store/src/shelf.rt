@@ -47,8 +47,8 @@ impl<X: Drop> Shelf<X> {
         self.standing.load(SeqCst)
     }
 
-    /// Puts the thing into the first place that is seen empty, and returns which place that is. The thing is handed back
-    /// if none is.
+    /// Puts the thing into the first place that is seen empty, and returns which place that is. The thing is handed
+    /// back if none is.
     pub(crate) fn put(&self, thing: X) -> Result<usize, X>
         ensures { IfErr result (λ back. back ≡ thing) }
     {

@@ -187,7 +187,8 @@ show_spec 𝓤 𝓛 𝓜 𝓡 wired X L =
     use3 𝓛 (raw (𝓣.C _ (vptr b (o + 0) ∷ vint w64 w ∷ seq_cst ∷ []) (λ u. mean 𝓛 (stored after u))))
     (via 𝓤 _ (subst (λ (k : ℕ). ent 𝓤 (sep 𝓤 (𝓛.A.inv (fbor α (steps.Memory 𝓛 R d α s b o))) (sep 𝓤 (𝓛.A.lft α s) (sem 𝓛
     (steps.Showing 𝓛 R d t h.word e)))) (asks 𝓛 (block_ptr b (o + 0)) (λ _. k) always (λ _. after))) (sym of_turn.1)
-    (steps.shows_it 𝓛 R d α s b o t h.word e of_turn.0)) (stores 𝓛 𝓜 𝓡 (code.calls-core::raw_atomic::store 𝓡.env wired) (block_ptr b
+    (steps.shows_it 𝓛 R d α s b o t h.word e of_turn.0))
+    (stores 𝓛 𝓜 𝓡 (code.calls-core::raw_atomic::store 𝓡.env wired) (block_ptr b
     (o + 0)) w are.1.1.1.0.1 after)) $
     sets ! (agg ! (and_then ! (lit ! tt) (no_more !))) refl (tt, (record { fits = lit< tt }, tt)) $
     Calls-last ! (fm 𝓛 𝓜 𝓡) (stored after) (and_then ! (get ! refl) (and_then ! (get ! refl) (and_then ! (get ! refl)
