@@ -17,12 +17,11 @@ use epoch_lend_stack::LendingStack;
 use epoch_lend_store::lender::Lender;
 use epoch_lend_store::lent_cells::LentCells;
 use std::alloc::Global;
+use std::io;
 use std::marker::Brand;
 use std::sync::Wait;
 use std::sync::atomic::Ordering::SeqCst;
-use std::thread::Threads;
 use std::time::Clock;
-use std::{io, thread};
 
 /// Cells of a lender, and places for bags of its collector.
 const CELLS: u32 = 4_096;
@@ -69,11 +68,7 @@ struct Things<'c, J: PostSet> {
     queue: LendingQueue<'c, J, Link>,
 }
 
-unsafe impl<'c, J: PostSet + Send + Sync> Send for Things<'c, J> {}
-
-unsafe impl<'c, J: PostSet + Send + Sync> Sync for Things<'c, J> {}
-
-/// What the threads of a round share.
+/// What a round works on, on one thread.
 #[derive(Drop)]
 struct Scene<'c, 'q, 's, 'w, J: PostSet> {
     collector: &'c Collector<Link, Marking<'q, 's, J, Link>>,
@@ -220,35 +215,16 @@ fn take_part<R: Clock + Wait, J: PostSet>(rt: &R, scene: &Scene<'_, '_, '_, '_, 
     }
 }
 
-fn on_threads<R, J>(rt: &R, scene: &Scene<'_, '_, '_, '_, J>, span: &Span)
-where
-    R: Clock + Threads + Wait + Sync,
-    J: PostSet + Send + Sync,
-{
-    thread::scope(thread::scope_env(), rt, move |scope| {
-        for _ in 0..scene.size.threads {
-            let made = scope.spawn(move || take_part(rt, scene, span));
-            if made.is_err() {
-                span.miss();
-            }
-        }
-    });
-}
-
 // Makes the rounds, and returns how many turns of the last one did what they should.
-fn all_rounds<R, J>(rt: &R, scene: &Scene<'_, '_, '_, '_, J>, times: &mut [u64]) -> u64
-where
-    R: Clock + Threads + Wait + Sync,
-    J: PostSet + Send + Sync,
-{
+fn all_rounds<R: Clock + Wait, J: PostSet>(
+    rt: &R,
+    scene: &Scene<'_, '_, '_, '_, J>,
+    times: &mut [u64],
+) -> u64 {
     let mut done = 0;
     for time in times {
         let span = Span::new();
-        if scene.size.threads == 1 {
-            take_part(rt, scene, &span);
-        } else {
-            on_threads(rt, scene, &span);
-        }
+        take_part(rt, scene, &span);
         *time = span.each(scene.size.turns);
         done = span.done();
     }
@@ -281,8 +257,8 @@ fn rounds_with<'q, 's, R, J>(
     times: &mut [u64],
 ) -> u64
 where
-    R: Clock + Threads + Wait + Sync,
-    J: PostSet + Send + Sync,
+    R: Clock + Wait,
+    J: PostSet,
 {
     let Some(queue) = queue_of(rt, alloc, lender, collector) else {
         return 0;
@@ -312,8 +288,8 @@ fn rounds_over<R, J>(
     times: &mut [u64],
 ) -> io::Result<u64>
 where
-    R: Clock + Threads + Wait + Sync,
-    J: PostSet + Send + Sync,
+    R: Clock + Wait,
+    J: PostSet,
     requires { made.posts.items ≡ J.posts }
 {
     let capacities = Capacities::usual(u32::try_from(size.threads).unwrap_or(u32::MAX), 0, PLACES);
@@ -336,14 +312,18 @@ where
     Ok(done)
 }
 
-/// Makes as many rounds as there are times, and returns how many turns of the last one did what they should.
-pub fn time<R: Clock + Threads + Wait + Sync>(
+/// Makes as many rounds as there are times, on one thread, and returns how many turns of the last one did what they
+/// should. `InvalidInput`: more threads are asked for.
+pub fn time<R: Clock + Wait>(
     rt: &R,
     alloc: Global,
     change: Change,
     size: Size,
     times: &mut [u64],
 ) -> io::Result<u64> {
-    let made = Made::new(alloc, posts_for(size.threads))?;
+    if size.threads != 1 {
+        return Err(io::Error::from(io::ErrorKind::InvalidInput));
+    }
+    let made = Made::new(alloc, posts_for(1))?;
     rounds_over::<R, Brand>(rt, alloc, made, change, size, times)
 }
