@@ -25,14 +25,26 @@ impl<'c, 'q, 's, J: PostSet, T: Drop> LendingHandle<'c, 'q, 's, J, T> {
         }
     }
 
+    // Takes a list of free cells, and one of them. It stands out of line, and `more_rooms` has a copy of its own of what
+    // it returns: so `take_room` keeps no room in memory for its sake.
+    #[cold]
     #[inline(never)]
-    fn more_rooms(&mut self) -> Option<Room<'s, J, T>>
+    fn more_rooms_apart(&mut self) -> Option<Room<'s, J, T>>
         ensures participant { self.new.handle ≡ self.old.handle }
         ensures reader { self.new.reader ≡ self.old.reader }
         ensures kept { self.new.kept ≡ self.old.kept }
     {
         self.rooms = self.kept.lender().take_rooms()?;
         self.rooms.next()
+    }
+
+    #[inline(always)]
+    fn more_rooms(&mut self) -> Option<Room<'s, J, T>>
+        ensures participant { self.new.handle ≡ self.old.handle }
+        ensures reader { self.new.reader ≡ self.old.reader }
+        ensures kept { self.new.kept ≡ self.old.kept }
+    {
+        self.more_rooms_apart()
     }
 
     /// Places the value in a cell, and returns the pointer to it, with tag 0. In a free cell of the handle's own, this
@@ -85,8 +97,9 @@ impl<'c, 'q, 's, J: PostSet, T: Drop, W> LendingGuard<'c, 'q, 's, J, T, W> {
     }
 
     // Places the value in the first cell that is seen empty, which is searched for.
+    #[cold]
     #[inline(never)]
-    fn place_anywhere<'g>(&'g self, value: T) -> Result<Shared<'g, T>, Refused<T>>
+    fn place_anywhere_apart<'g>(&'g self, value: T) -> Result<Shared<'g, T>, Refused<T>>
         ensures tag { IfOk result (λ pointer. pointer.tag ≡ 0) }
         ensures some { IfOk result (λ pointer. IsSome pointer.name) }
         ensures home { IfOk result (λ pointer. IsUnder self.now.guard.collector.now.id pointer.home) }
@@ -96,5 +109,16 @@ impl<'c, 'q, 's, J: PostSet, T: Drop, W> LendingGuard<'c, 'q, 's, J, T, W> {
             Ok((pointer, _)) => Ok(pointer),
             Err(refused) => Err(refused),
         }
+    }
+
+    // The same, with copies of its own of what it passes and of what comes back.
+    #[inline(always)]
+    fn place_anywhere<'g>(&'g self, value: T) -> Result<Shared<'g, T>, Refused<T>>
+        ensures tag { IfOk result (λ pointer. pointer.tag ≡ 0) }
+        ensures some { IfOk result (λ pointer. IsSome pointer.name) }
+        ensures home { IfOk result (λ pointer. IsUnder self.now.guard.collector.now.id pointer.home) }
+        ensures full { IfErr result (λ refused. (refused.fault ≡ CellsFull) × (refused.value ≡ value)) }
+    {
+        self.place_anywhere_apart(value)
     }
 }
