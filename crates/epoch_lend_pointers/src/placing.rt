@@ -13,6 +13,8 @@ use epoch_lend_readers::posts::PostSet;
 impl<'c, 'q, 's, J: PostSet, T: Drop> LendingHandle<'c, 'q, 's, J, T> {
     /// Takes a free cell for the next value: one of its own, or else one of those that were left together when their
     /// values had come back, and then the others of these are its own. `None`: none was seen.
+    ///
+    /// Give it to [`LendingGuard::place_in`], or release it: the cell of a room that is dropped takes no value any more.
     #[inline(always)]
     pub fn take_room(&mut self) -> Option<Room<'s, J, T>>
         ensures participant { self.new.handle ≡ self.old.handle }

@@ -15,7 +15,7 @@ pub const RETIRED_TOGETHER: usize = 64;
 pub struct Retired<'q, 's, J: PostSet, T> {
     lender: &'q Lender<'s, J, T>,
     spots: Vec<Spot>,
-    // Room for the removals, taken beforehand: the call of a job takes no memory.
+    // Room for the removals, taken beforehand: so no value is kept back because a job's call was refused memory.
     bag: Bag<'s, J, T>,
 }
 
