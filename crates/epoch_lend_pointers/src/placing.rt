@@ -14,7 +14,8 @@ impl<'c, 'q, 's, J: PostSet, T: Drop> LendingHandle<'c, 'q, 's, J, T> {
     /// Takes a free cell for the next value: one of its own, or else one of those that were left together when their
     /// values had come back, and then the others of these are its own. `None`: none was seen.
     ///
-    /// Give it to [`LendingGuard::place_in`], or release it: the cell of a room that is dropped takes no value any more.
+    /// Give it to [`LendingGuard::place_in`], or release it: the cell of a room that is dropped takes no value any
+    /// more.
     #[inline(always)]
     pub fn take_room(&mut self) -> Option<Room<'s, J, T>>
         ensures participant { self.new.handle ≡ self.old.handle }
@@ -27,8 +28,8 @@ impl<'c, 'q, 's, J: PostSet, T: Drop> LendingHandle<'c, 'q, 's, J, T> {
         }
     }
 
-    // Takes a list of free cells, and one of them. It stands out of line, and `more_rooms` has a copy of its own of what
-    // it returns: so `take_room` keeps no room in memory for its sake.
+    // Takes a list of free cells, and one of them. It stands out of line, and `more_rooms` has a copy of its own of
+    // what it returns: so `take_room` keeps no room in memory for its sake.
     #[cold]
     #[inline(never)]
     fn more_rooms_apart(&mut self) -> Option<Room<'s, J, T>>
