@@ -25,8 +25,8 @@ impl<'c, 'q, 's, J: PostSet, T: Drop> LendingHandle<'c, 'q, 's, J, T> {
         ensures same { IsSame self.old.handle self.new.handle }
         ensures ready { IsReady self.new.handle }
         ensures counted { self.new.handle.machine.guards ≡ self.old.handle.machine.guards }
-        ensures ok { IsOk result → self.new.kept.spots.items ≡ [] }
-        ensures err { IsErr result → self.new.kept.spots.items ≡ self.old.kept.spots.items }
+        ensures ok { IsOk result → self.new.kept.lists.value.spots.items ≡ [] }
+        ensures err { IsErr result → self.new.kept.lists.value.spots.items ≡ self.old.kept.lists.value.spots.items }
         ensures fault { IfErr result (λ fault. (fault ≡ NoMemory) ⊎ (fault ≡ BagsFull)) }
     {
         let Ok(fresh) = Retired::new(self.alloc, self.kept.lender()) else {
@@ -69,7 +69,7 @@ impl<'c, 'q, 's, J: PostSet, T: Drop> LendingHandle<'c, 'q, 's, J, T> {
             → IfErr result (λ refused. refused.fault ≡ StrangerGuard) × IsErr result × (self.new ≡ self.old) }
         ensures null { Owns self.old.handle guard.now.guard → pointer.entry.name ≡ None
             → IfErr result (λ refused. refused.fault ≡ StrangerPointer) × IsErr result × (self.new ≡ self.old) }
-        ensures ok { IsOk result → KeepsSpot pointer.entry.name self.old.kept.spots.items self.new.kept.spots.items }
+        ensures ok { IsOk result → KeepsSpot pointer.entry.name self.old.kept.lists.value.spots.items self.new.kept.lists.value.spots.items }
         ensures handed_back { IfErr result (λ refused. refused.value ≡ pointer.entry) }
     {
         if !self.owns(guard) {
@@ -103,7 +103,7 @@ impl<'c, 'q, 's, J: PostSet, T: Drop> LendingHandle<'c, 'q, 's, J, T> {
         ensures same { IsSame self.old.handle self.new.handle }
         ensures ready { IsReady self.new.handle }
         ensures counted { self.new.handle.machine.guards ≡ self.old.handle.machine.guards }
-        ensures ok { IsOk result → KeepsSpot (Some name) self.old.kept.spots.items self.new.kept.spots.items }
+        ensures ok { IsOk result → KeepsSpot (Some name) self.old.kept.lists.value.spots.items self.new.kept.lists.value.spots.items }
         ensures fault { IfErr result (λ fault. (fault ≡ NoMemory) ⊎ (fault ≡ BagsFull)) }
     {
         self.make_room(guard)?;
@@ -126,8 +126,8 @@ impl<'c, 'q, 's, J: PostSet, T: Drop> LendingHandle<'c, 'q, 's, J, T> {
         ensures ready { IsReady self.new.handle }
         ensures counted { self.new.handle.machine.guards ≡ self.old.handle.machine.guards }
         ensures ok { IsOk result
-            → (self.new.kept.spots.items ≡ self.old.kept.spots.items) ⊎ (self.new.kept.spots.items ≡ []) }
-        ensures err { IsErr result → self.new.kept.spots.items ≡ self.old.kept.spots.items }
+            → (self.new.kept.lists.value.spots.items ≡ self.old.kept.lists.value.spots.items) ⊎ (self.new.kept.lists.value.spots.items ≡ []) }
+        ensures err { IsErr result → self.new.kept.lists.value.spots.items ≡ self.old.kept.lists.value.spots.items }
         ensures fault { IfErr result (λ fault. (fault ≡ NoMemory) ⊎ (fault ≡ BagsFull)) }
     {
         if self.kept.len() < RETIRED_TOGETHER {
@@ -146,8 +146,8 @@ impl<'c, 'q, 's, J: PostSet, T: Drop> LendingHandle<'c, 'q, 's, J, T> {
         ensures same { IsSame self.old.handle self.new.handle }
         ensures ready { IsReady self.new.handle }
         ensures counted { self.new.handle.machine.guards ≡ self.old.handle.machine.guards }
-        ensures ok { IsOk result → self.new.kept.spots.items ≡ [] }
-        ensures err { IsErr result → self.new.kept.spots.items ≡ self.old.kept.spots.items }
+        ensures ok { IsOk result → self.new.kept.lists.value.spots.items ≡ [] }
+        ensures err { IsErr result → self.new.kept.lists.value.spots.items ≡ self.old.kept.lists.value.spots.items }
         ensures fault { IfErr result (λ fault. (fault ≡ NoMemory) ⊎ (fault ≡ BagsFull)) }
     {
         self.hand_over(guard.guard())?;
@@ -164,7 +164,7 @@ impl<'c, 'q, 's, J: PostSet, T: Drop> LendingHandle<'c, 'q, 's, J, T> {
         ensures same { IsSame self.old.handle self.new.handle }
         ensures ready { IsReady self.new.handle }
         ensures counted { self.new.handle.machine.guards ≡ self.old.handle.machine.guards }
-        ensures ok { IsOk result → self.new.kept.spots.items ≡ [] }
+        ensures ok { IsOk result → self.new.kept.lists.value.spots.items ≡ [] }
     {
         if !self.owns(guard) {
             return Err(Fault::StrangerGuard);

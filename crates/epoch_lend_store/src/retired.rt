@@ -10,13 +10,20 @@ use std::alloc::{AllocError, Global};
 /// How many values are retired by one job.
 pub const RETIRED_TOGETHER: usize = 64;
 
+/// What [`Retired`] has in a box.
+#[derive(Drop)]
+pub struct Lists<'s, J: PostSet, T> {
+    spots: Vec<Spot>,
+    // Room for the removals, taken beforehand: so no value is kept back because a job's call was refused memory.
+    bag: Bag<'s, J, T>,
+}
+
 /// Where values are that were retired, and will be marked together.
 #[derive(Drop)]
 pub struct Retired<'q, 's, J: PostSet, T> {
     lender: &'q Lender<'s, J, T>,
-    spots: Vec<Spot>,
-    // Room for the removals, taken beforehand: so no value is kept back because a job's call was refused memory.
-    bag: Bag<'s, J, T>,
+    // In a box, since a bag of jobs is moved with all its room, which is for 64 of these.
+    lists: Box<Lists<'s, J, T>>,
 }
 
 impl<'q, 's, J: PostSet, T> Retired<'q, 's, J, T> {
@@ -25,11 +32,14 @@ impl<'q, 's, J: PostSet, T> Retired<'q, 's, J, T> {
         alloc: Global,
         lender: &'q Lender<'s, J, T>,
     ) -> Result<Retired<'q, 's, J, T>, AllocError>
-        ensures { IfOk result (λ retired. retired.spots.items ≡ []) }
+        ensures { IfOk result (λ retired. retired.lists.value.spots.items ≡ []) }
     {
         let spots = Vec::with_capacity(alloc, RETIRED_TOGETHER)?;
         let bag = Bag::with_capacity(alloc, RETIRED_TOGETHER)?;
-        Ok(Retired { lender, spots, bag })
+        match Box::new(alloc, Lists { spots, bag }) {
+            Ok(lists) => Ok(Retired { lender, lists }),
+            Err(_) => Err(AllocError),
+        }
     }
 
     /// Returns the lender.
@@ -42,17 +52,17 @@ impl<'q, 's, J: PostSet, T> Retired<'q, 's, J, T> {
 
     /// Returns how many there are.
     pub fn len(&self) -> usize
-        ensures { result ≡ vec_len self.now.spots }
+        ensures { result ≡ vec_len self.now.lists.value.spots }
     {
-        self.spots.len()
+        self.lists.spots.len()
     }
 
     /// Adds the value at this spot. `Err`: there was no memory.
     pub fn keep(&mut self, spot: Spot) -> Result<(), AllocError>
-        ensures ok { OnOk result (self.new.spots.items ≡ self.old.spots.items ++ spot ∷ []) }
-        ensures err { OnErr result (self.new.spots.items ≡ self.old.spots.items) }
+        ensures ok { OnOk result (self.new.lists.value.spots.items ≡ self.old.lists.value.spots.items ++ spot ∷ []) }
+        ensures err { OnErr result (self.new.lists.value.spots.items ≡ self.old.lists.value.spots.items) }
     {
-        match self.spots.push(spot) {
+        match self.lists.spots.push(spot) {
             Ok(()) => Ok(()),
             Err(_) => Err(AllocError),
         }
@@ -62,7 +72,8 @@ impl<'q, 's, J: PostSet, T> Retired<'q, 's, J, T> {
 impl<'q, 's, J: PostSet, T: Drop> Retired<'q, 's, J, T> {
     /// Marks the values, looks at each post once for all of them, and gives them to the lender.
     pub fn mark(self) {
-        let Retired { lender, spots, bag } = self;
+        let Retired { lender, lists } = self;
+        let Lists { spots, bag } = Box::into_inner(lists);
         let mut removals = bag;
         let mut home = 0;
         for spot in &spots {
