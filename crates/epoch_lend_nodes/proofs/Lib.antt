@@ -1,1 +1,2 @@
 pub mod PathsOnly
+mod Told

@@ -8,11 +8,6 @@ use Rattle.epoch_laws.specs.declared.step.Reply.{Reply}
 use Rattle.epoch_laws.specs.declared.step.Reply.TheVariants.{Done}
 use Rattle.epoch_lend_nodes.specs.declared.spots.CallNodes.{CallNodes}
 
--- the answer is a name
-abbrev pub IsName : Answer → Type 0
-IsName (NameAnswer name) = Unit {0}
-IsName answer = ⊥
-
 -- A node that was placed is the call's own no more. After a read, a node is lent, and the name by which it was read is
 -- noted. No other access changes either of them, and a placing that is refused doesn't.
 abbrev pub MovesNodes : {V : Type 0} → CallNodes V → Access → Reply → CallNodes V → Type 0

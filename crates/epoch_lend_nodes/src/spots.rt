@@ -1,13 +1,18 @@
 //! The roots of a structure that threads share, and its nodes, which are lent.
-ghost use Rattle.std.specs.Prelude.{◌≡◌, ◌<◌, ℕ, Option, Some, None, IfOk, IfErr};
+ghost use Rattle.std.specs.Prelude.{◌≡◌, ◌<◌, ℕ, Option, Some, None, IsSome, IfOk, IfErr};
 ghost use Rattle.epoch_cells.specs.declared.fault.Fault.TheVariants.{CellsFull};
-ghost use Rattle.epoch_heap.specs.declared.access.Access.TheVariants.{Place, Read};
+ghost use Rattle.epoch_heap.specs.declared.access.Access.TheVariants.{Place, Read, Leave, Point};
+ghost use Rattle.epoch_heap.specs.declared.access.Answer.TheVariants.{Unit as Nothing};
+ghost use Rattle.epoch_heap.specs.declared.access.Change.TheVariants.{Load, Store};
+ghost use Rattle.epoch_heap.specs.declared.access.Spot.TheVariants.{Root, Field};
 ghost use Rattle.epoch_laws.specs.declared.step.Reply.TheVariants.{Done};
-ghost use Rattle.epoch_lend_nodes.specs.Moving.{IsName, MovesNodes};
+ghost use Rattle.epoch_lend_nodes.specs.Moving.{MovesNodes};
+ghost use Rattle.epoch_link_calls.specs.Linking.{placed, loaded, value_read, stored, Exchanges};
 ghost use Rattle.epoch_plan_threads.specs.Paths.{IsTold, reply_of};
+ghost use Rattle.epoch_plans.specs.Plans.{ptr_to};
 
 use crate::node::LentNode;
-use crate::points::{change_at, shared};
+use crate::points::{change_at, ptr_of, shared};
 use epoch_atomic::atomic::{Atomic, Shared};
 use epoch_cells::{Fault, Name};
 use epoch_heap::{Access, Answer, Change, Ptr, Spot};
@@ -15,7 +20,9 @@ use epoch_lend_array::room::Room;
 use epoch_lend_pointers::guard::LendingGuard;
 use epoch_lend_readers::posts::PostSet;
 use epoch_lend_store::spots::next_name;
+use epoch_link_calls::LinkSpots;
 use epoch_plan_threads::Spots;
+use std::sync::atomic::Ordering::SeqCst;
 
 /// The nodes of one call.
 #[derive(Drop)]
@@ -104,46 +111,18 @@ impl<'g, 'c, 'q, 's, J: PostSet, V: LentNode, W> NodeSpots<'g, 'c, 'q, 's, J, V,
         nodes
     }
 
-    // Places the call's own node. If it is refused, the node is there again. In a free cell it has a name at once, and
-    // is shown later.
-    #[inline(always)]
-    fn place(&mut self) -> Result<Answer, Fault>
-        ensures moves { (number : ℕ) → MovesNodes self.old.nodes (Place number) (reply_of result) self.new.nodes }
-        ensures full { IfErr result (λ fault. fault ≡ CellsFull) }
-    {
-        let Some(node) = self.nodes.own.take() else {
-            return Ok(Answer::Absent);
-        };
-        let Some(room) = self.room.take() else {
-            return self.place_anywhere(node);
-        };
-        match next_name(&room) {
-            Some(name) => {
-                self.unshown = Some(Unshown { name, node, room });
-                Ok(Answer::Name(name))
-            }
-            None => {
-                room.release();
-                self.place_anywhere(node)
-            }
-        }
-    }
-
     // Places the node in a cell that is searched for. If it is refused, it is the call's own again.
-    #[inline(never)]
-    fn place_anywhere(&mut self, node: V) -> Result<Answer, Fault>
+    #[inline(always)]
+    fn place_anywhere(&mut self, node: V) -> Result<Option<Name>, Fault>
         requires { self.old.nodes.own ≡ None }
-        ensures placed { IfOk result (λ answer. (self.new.nodes ≡ self.old.nodes) × IsName answer) }
+        ensures placed { IfOk result (λ name. IsSome name × (self.new.nodes ≡ self.old.nodes)) }
         ensures full { IfErr result (λ fault. (fault ≡ CellsFull) × (self.new.nodes.own ≡ Some node)
             × (self.new.nodes.name ≡ self.old.nodes.name) × (self.new.nodes.lent ≡ self.old.nodes.lent)) }
     {
-        match self.guard.place_with_witness(node) {
-            Ok((pointer, _)) => match pointer.name() {
-                Some(name) => Ok(Answer::Name(name)),
-                None => unreachable!(),
-            },
-            Err(refused) => {
-                self.nodes.own = Some(refused.value);
+        match searched(self.guard, node) {
+            Ok(name) => Ok(Some(name)),
+            Err(node) => {
+                self.nodes.own = Some(node);
                 Err(Fault::CellsFull)
             }
         }
@@ -185,24 +164,6 @@ impl<'g, 'c, 'q, 's, J: PostSet, V: LentNode, W> NodeSpots<'g, 'c, 'q, 's, J, V,
         }
     }
 
-    // Reads the node to which the pointer leads. `Absent`: it isn't lent.
-    #[inline(always)]
-    fn read(&mut self, ptr: Ptr) -> Answer
-        ensures { (guard : Option ℕ) → MovesNodes self.old.nodes (Read guard ptr) (Done result) self.new.nodes }
-    {
-        let Some(name) = ptr.name else {
-            return Answer::Absent;
-        };
-        match self.guard.get(Shared::named(name, self.guard.guard())) {
-            Some(node) => {
-                self.nodes.name = Some(name);
-                self.nodes.lent = Some(node);
-                Answer::Value(0)
-            }
-            None => Answer::Absent,
-        }
-    }
-
     // The node of this name, which is lent for as long as the guard is borrowed.
     #[inline(always)]
     fn node_of(&self, name: Name) -> Option<&'g V> {
@@ -214,21 +175,65 @@ impl<'g, 'c, 'q, 's, J: PostSet, V: LentNode, W> NodeSpots<'g, 'c, 'q, 's, J, V,
         self.guard.get(Shared::named(name, self.guard.guard()))
     }
 
-    // The pointer at this spot. `None`: there is no such root, or the node isn't lent.
+    // The root of this number.
+    #[inline(always)]
+    fn at_root(&self, root: u64) -> Option<&'g Atomic<V>> {
+        if root == 0 {
+            Some(self.head)
+        } else {
+            self.tail
+        }
+    }
+
+    // The pointer in the node of this name. `None`: the node isn't lent.
+    #[inline(always)]
+    fn at_node(&self, name: Name) -> Option<&'g Atomic<V>> {
+        match self.node_of(name) {
+            Some(node) => Some(node.next()),
+            None => None,
+        }
+    }
+
+    // The pointer at this spot.
     #[inline(always)]
     fn at(&self, spot: Spot) -> Option<&'g Atomic<V>> {
         match spot {
-            Spot::Root(root) => {
-                if root == 0 {
-                    Some(self.head)
-                } else {
-                    self.tail
-                }
-            }
-            Spot::Field(name, _) => match self.node_of(name) {
-                Some(node) => Some(node.next()),
-                None => None,
-            },
+            Spot::Root(root) => self.at_root(root),
+            Spot::Field(name, _) => self.at_node(name),
+        }
+    }
+
+    // Loads the pointer there.
+    #[inline(always)]
+    fn load_at(&self, at: Option<&'g Atomic<V>>) -> Option<Ptr> {
+        match at {
+            Some(at) => Some(ptr_of(at.load(SeqCst, self.guard.guard()))),
+            None => None,
+        }
+    }
+
+    // Exchanges the pointer there, if it is `current` still, for `new`.
+    #[inline(always)]
+    fn exchange_at(&self, at: Option<&'g Atomic<V>>, current: Ptr, new: Ptr) -> bool {
+        let Some(at) = at else {
+            return false;
+        };
+        let guard = self.guard.guard();
+        let (current, new) = (shared(current, guard), shared(new, guard));
+        at.compare_exchange(current, new, SeqCst, SeqCst, guard)
+            .is_ok()
+    }
+
+    // Reads the node to which the pointer leads. `Absent`: it isn't lent.
+    fn read(&mut self, ptr: Ptr) -> Answer
+        ensures { (guard : Option ℕ) → MovesNodes self.old.nodes (Read guard ptr) (Done result) self.new.nodes }
+    {
+        let Some(name) = ptr.name else {
+            return Answer::Absent;
+        };
+        match self.read_node(name) {
+            Some(value) => Answer::Value(value),
+            None => Answer::Absent,
         }
     }
 
@@ -253,6 +258,122 @@ impl<'g, 'c, 'q, 's, J: PostSet, V: LentNode, W> NodeSpots<'g, 'c, 'q, 's, J, V,
     }
 }
 
+// Places the node in a cell that is searched for, and returns its name. It stands out of line, and what it takes and
+// returns is copied: so a call keeps no node in memory for its sake.
+#[cold]
+#[inline(never)]
+fn searched<'c, 'q, 's, J: PostSet, V: LentNode, W>(
+    guard: &LendingGuard<'c, 'q, 's, J, V, W>,
+    node: V,
+) -> Result<Name, V>
+    ensures handed_back { IfErr result (λ back. back ≡ node) }
+{
+    match guard.place_with_witness(node) {
+        Ok((pointer, _)) => match pointer.name() {
+            Some(name) => Ok(name),
+            None => unreachable!(),
+        },
+        Err(refused) => Err(refused.value),
+    }
+}
+
+impl<'g, 'c, 'q, 's, J: PostSet, V: LentNode, W> LinkSpots for NodeSpots<'g, 'c, 'q, 's, J, V, W> {
+    // In a free cell the node has a name at once, and is shown later.
+    #[inline(always)]
+    fn place_node(&mut self, value: u64) -> Result<Option<Name>, Fault>
+        ensures does { MovesNodes self.old.nodes (Place value) (placed result) self.new.nodes }
+        ensures told { IsTold (Place value) (placed result) }
+    {
+        let Some(node) = self.nodes.own.take() else {
+            return Ok(None);
+        };
+        let Some(room) = self.room.take() else {
+            return self.place_anywhere(node);
+        };
+        match next_name(&room) {
+            Some(name) => {
+                self.unshown = Some(Unshown { name, node, room });
+                Ok(Some(name))
+            }
+            None => {
+                room.release();
+                self.place_anywhere(node)
+            }
+        }
+    }
+
+    #[inline(always)]
+    fn load_root(&mut self, root: u64) -> Option<Ptr>
+        ensures { MovesNodes self.old.nodes (Point (Some 0) (Root root) Load) (Done (loaded result)) self.new.nodes }
+    {
+        self.load_at(self.at_root(root))
+    }
+
+    // The node that was placed is shown before anything is changed by which others may find it, here and below.
+    #[inline(always)]
+    fn exchange_root(&mut self, root: u64, current: Ptr, new: Ptr) -> bool
+        ensures { Exchanges (λ old access reply new. MovesNodes old.nodes access reply new.nodes) self.old (Root root)
+            current new result self.new }
+    {
+        self.show();
+        self.exchange_at(self.at_root(root), current, new)
+    }
+
+    #[inline(always)]
+    fn read_node(&mut self, node: Name) -> Option<u64>
+        ensures { MovesNodes self.old.nodes (Read (Some 0) (ptr_to node)) (Done (value_read result)) self.new.nodes }
+    {
+        match self.guard.get(Shared::named(node, self.guard.guard())) {
+            Some(lent) => {
+                self.nodes.name = Some(node);
+                self.nodes.lent = Some(lent);
+                Some(0)
+            }
+            None => None,
+        }
+    }
+
+    // What is lent need not be given back.
+    #[inline(always)]
+    fn leave_node(&mut self, node: Name)
+        ensures { MovesNodes self.old.nodes (Leave (ptr_to node)) (Done Nothing) self.new.nodes }
+    {
+        let _ = node;
+    }
+
+    #[inline(always)]
+    fn load_next(&mut self, node: Name) -> Option<Ptr>
+        ensures { MovesNodes self.old.nodes (Point (Some 0) (Field node 0) Load) (Done (loaded result)) self.new.nodes }
+    {
+        self.load_at(self.at_node(node))
+    }
+
+    #[inline(always)]
+    fn store_next(&mut self, node: Name, next: Ptr) -> bool
+        ensures { MovesNodes self.old.nodes (Point (Some 0) (Field node 0) (Store next)) (Done (stored result))
+            self.new.nodes }
+    {
+        if self.lead_to(node, next) {
+            return true;
+        }
+        self.show();
+        let Some(at) = self.at_node(node) else {
+            return false;
+        };
+        let guard = self.guard.guard();
+        at.store(shared(next, guard), SeqCst, guard).is_ok()
+    }
+
+    #[inline(always)]
+    fn exchange_next(&mut self, node: Name, current: Ptr, new: Ptr) -> bool
+        ensures { Exchanges (λ old access reply new. MovesNodes old.nodes access reply new.nodes) self.old
+            (Field node 0) current new result self.new }
+    {
+        self.show();
+        self.exchange_at(self.at_node(node), current, new)
+    }
+}
+
 impl<'g, 'c, 'q, 's, J: PostSet, V: LentNode, W> Spots for NodeSpots<'g, 'c, 'q, 's, J, V, W> {
     ghost does = { λ old access reply new. MovesNodes old.nodes access reply new.nodes };
 
@@ -262,7 +383,10 @@ impl<'g, 'c, 'q, 's, J: PostSet, V: LentNode, W> Spots for NodeSpots<'g, 'c, 'q,
         ensures told { IsTold access (reply_of result) }
     {
         match access {
-            Access::Place(_) => self.place(),
+            Access::Place(value) => match self.place_node(value)? {
+                Some(name) => Ok(Answer::Name(name)),
+                None => Ok(Answer::Absent),
+            },
             Access::Read(_, ptr) => Ok(self.read(ptr)),
             // What is lent need not be given back.
             Access::Leave(_) => Ok(Answer::Unit),

@@ -1,78 +1,98 @@
--- Which phase follows from the answers that a call gets that no other thread disturbs, and what it answers at its end.
-use Rattle.std.proofs.Common.{◌≡◌, ℕ, Bool, true, false, not, Option, Some, None, ap, refl}
+-- Which phase follows from what a call told, and what it answers at its end.
+use Rattle.std.proofs.Common.{◌≡◌, ℕ, zero, suc, ◌-◌, ◌<◌, Bool, true, false, Option, Some, None, ap, refl, arith}
 use Rattle.std.specs.Prelude.{if◌then◌else◌}
 use Rattle.epoch_cells.specs.declared.cells.name.Name.{Name}
 use Rattle.epoch_heap.specs.declared.access.Answer.{Answer}
-use Rattle.epoch_heap.specs.declared.access.Answer.TheVariants.{Pointer}
+use Rattle.epoch_heap.specs.declared.access.Answer.TheVariants.{Exchanged}
+use Rattle.epoch_heap.specs.declared.access.Ptr.{Ptr}
 use Rattle.epoch_laws.specs.declared.step.Reply.{Reply}
 use Rattle.epoch_laws.specs.declared.step.Reply.TheVariants.{Done}
+use Rattle.epoch_link_calls.specs.Linking.{loaded, was_made}
 use Rattle.epoch_plans.specs.Plans.{Answers, after_by}
-use Rattle.epoch_plan_calls.specs.Asking.{led_to, has_no_name, leads_nowhere}
-use Rattle.epoch_queue_course.specs.Looking.{is_elsewhere}
-use Rattle.epoch_queue_laws.specs.declared.plan.Phase.TheVariants.{MakingRoom, LoadingLast, Appending, LoadingNext}
-use Rattle.epoch_queue_laws.specs.declared.plan.Phase.TheVariants.{Reading, Advancing, Removing}
-use Rattle.epoch_queue_laws.specs.declared.plan.QueueAnswer.TheVariants.{PoppedLeaking, Empty, BagsFull}
+use Rattle.epoch_queue_course.specs.declared.straight.Tried.{Tried}
+use Rattle.epoch_queue_course.specs.declared.straight.Tried.TheVariants.{Lost}
+use Rattle.epoch_queue_course.specs.Trying.{phase_after, leads_on}
+use Rattle.epoch_queue_laws.specs.declared.plan.Phase.TheVariants.{MakingRoom, LoadingTail, Swinging, TakingBack}
+use Rattle.epoch_queue_laws.specs.declared.plan.Phase.TheVariants.{LoadingHead, LookingBack, Advancing, Removing}
+use Rattle.epoch_queue_laws.specs.declared.plan.QueueAnswer.TheVariants.{PoppedLeaking, TriesOutLeaking, BagsFull}
 use Rattle.epoch_queue_laws.specs.declared.plan.Work.{Work}
-use Rattle.epoch_queue_laws.specs.Queue.{deed_of, names, to_last, tail_loaded, to_append, last_loaded}
-use Rattle.epoch_queue_laws.specs.Queue.{to_next, head_loaded, to_read, next_loaded, looked_back}
+use Rattle.epoch_queue_laws.specs.Queue.{deed_of, retry_push, retry_pop, appended, taken, looked_back}
 
--- any reply but an answer says that there is no room
+-- TRIES
+
+-- A push that has a try left makes it.
+pub push_goes_on : (node : Name) (k : ℕ) → 0 < k → retry_push node k ≡ LoadingTail node (k - 1)
+push_goes_on node zero some = absurd (omega (arith, some))
+push_goes_on node (suc k) some = ap (LoadingTail node) (omega arith)
+
+-- A pop that has a try left makes it.
+pub pop_goes_on : (k : ℕ) → 0 < k → retry_pop k ≡ LoadingHead (k - 1)
+pop_goes_on zero some = absurd (omega (arith, some))
+pop_goes_on (suc k) some = ap LoadingHead (omega arith)
+
+-- How many tries are left says nothing of the phase after a try that wasn't lost.
+pub goes_alike : (tried : Tried) (k left : ℕ) → (tried ≡ Lost → ⊥) → phase_after tried k ≡ phase_after tried left
+goes_alike Lost k left none = absurd (none refl)
+goes_alike tried k left none = refl
+
+-- EXCHANGES
+
+-- A push whose exchange was made moves the tail on to its node.
+pub appends : (node last : Name) (k : ℕ) (answer : Answer) → was_made answer ≡ true
+    → appended node last k answer ≡ Swinging last node
+appends node last k (Exchanged ptr) is = refl
+appends node last k answer is = cc
+
+-- A push whose exchange wasn't made tries again.
+pub loses_push : (node last : Name) (k : ℕ) (answer : Answer) → was_made answer ≡ false
+    → appended node last k answer ≡ retry_push node k
+loses_push node last k (Exchanged ptr) is = cc
+loses_push node last k answer is = refl
+
+-- A pop whose exchange was made looks at the tail.
+pub takes : (head next : Name) (value k : ℕ) (answer : Answer) → was_made answer ≡ true
+    → taken head next value k answer ≡ LookingBack head next value
+takes head next value k (Exchanged ptr) is = refl
+takes head next value k answer is = cc
+
+-- A pop whose exchange wasn't made tries again.
+pub loses_pop : (head next : Name) (value k : ℕ) (answer : Answer) → was_made answer ≡ false
+    → taken head next value k answer ≡ retry_pop k
+loses_pop head next value k (Exchanged ptr) is = cc
+loses_pop head next value k answer is = refl
+
+-- THE TAIL AFTER A POP
+
+-- A tail that may lead to the node that was taken off is moved on.
+pub goes_on_from : (head next : Name) (value : ℕ) (tail : Option Ptr) → leads_on tail head ≡ true
+    → looked_back head next value (loaded tail) ≡ Advancing head next value
+goes_on_from head next value (Some ptr) is =
+    ap (λ (leads : Bool). if leads then Advancing head next value else Removing head value) is
+goes_on_from head next value None is = refl
+
+-- A tail that leads elsewhere is left as it is.
+pub leaves_tail : (head next : Name) (value : ℕ) (tail : Option Ptr) → leads_on tail head ≡ false
+    → looked_back head next value (loaded tail) ≡ Removing head value
+leaves_tail head next value (Some ptr) is =
+    ap (λ (leads : Bool). if leads then Advancing head next value else Removing head value) is
+leaves_tail head next value None is = cc
+
+-- WHAT KEEPS REMOVALS
+
+-- Any reply but an answer says that there is no room.
 pub no_room_fails : (work : Work) (reply : Reply) → ((answer : Answer) → reply ≡ Done answer → ⊥)
     → deed_of 0 (after_by (MakingRoom work) (deed_of 0 (MakingRoom work)) reply) ≡ Answers BagsFull
 no_room_fails work (Done answer) none = absurd (none answer refl)
 no_room_fails work reply none = refl
 
--- or that the removal isn't kept
+-- Any reply but an answer says that the removal of a push's own node isn't kept.
+pub taking_back_leaks : (node : Name) (reply : Reply) → ((answer : Answer) → reply ≡ Done answer → ⊥)
+    → deed_of 0 (after_by (TakingBack node) (deed_of 0 (TakingBack node)) reply) ≡ Answers TriesOutLeaking
+taking_back_leaks node (Done answer) none = absurd (none answer refl)
+taking_back_leaks node reply none = refl
+
+-- Any reply but an answer says that the removal of the node that a pop took off isn't kept.
 pub removing_leaks : (node : Name) (value : ℕ) (reply : Reply) → ((answer : Answer) → reply ≡ Done answer → ⊥)
     → deed_of 0 (after_by (Removing node value) (deed_of 0 (Removing node value)) reply) ≡ Answers (PoppedLeaking value)
 removing_leaks node value (Done answer) none = absurd (none answer refl)
 removing_leaks node value reply none = refl
-
--- a pointer that leads to a node was loaded from the tail, the head, and the head's node
-pub finds_last : (node last : Name) (tries : ℕ) (answer : Answer) → led_to answer ≡ Some last
-    → tail_loaded node tries answer ≡ LoadingLast node last tries
-finds_last node last tries (Pointer ptr) is = ap (to_last node tries) is
-finds_last node last tries answer is = cc
-
-pub finds_first : (head : Name) (tries : ℕ) (answer : Answer) → led_to answer ≡ Some head
-    → head_loaded tries answer ≡ LoadingNext head tries
-finds_first head tries (Pointer ptr) is = ap (to_next tries) is
-finds_first head tries answer is = cc
-
-pub finds_next : (head next : Name) (tries : ℕ) (answer : Answer) → led_to answer ≡ Some next
-    → next_loaded head tries answer ≡ Reading head next tries
-finds_next head next tries (Pointer ptr) is = ap (to_read head tries) is
-finds_next head next tries answer is = cc
-
--- the pointer in the first node is null
-none_behind : (head : Name) (tries : ℕ) (next : Option Name) → has_no_name next ≡ true
-    → deed_of 0 (to_read head tries next) ≡ Answers Empty
-none_behind head tries None is = refl
-none_behind head tries (Some next) is = cc
-
-pub finds_none : (head : Name) (tries : ℕ) (answer : Answer) → leads_nowhere answer ≡ true
-    → deed_of 0 (next_loaded head tries answer) ≡ Answers Empty
-finds_none head tries (Pointer ptr) is = none_behind head tries ptr.name is
-finds_none head tries answer is = cc
-
--- the pointer in the last node is null
-none_after : (node last : Name) (tries : ℕ) (next : Option Name) → has_no_name next ≡ true
-    → to_append node last tries next ≡ Appending node last tries
-none_after node last tries None is = refl
-none_after node last tries (Some next) is = cc
-
-pub finds_end : (node last : Name) (tries : ℕ) (answer : Answer) → leads_nowhere answer ≡ true
-    → last_loaded node last tries answer ≡ Appending node last tries
-finds_end node last tries (Pointer ptr) is = none_after node last tries ptr.name is
-finds_end node last tries answer is = cc
-
--- a tail that leads elsewhere than to the node that was taken off is left as it is
-leaves_tail : (head next : Name) (value : ℕ) (leads : Bool) → not leads ≡ true
-    → (if leads then Advancing head next value else Removing head value) ≡ Removing head value
-leaves_tail head next value true is = cc
-leaves_tail head next value false is = refl
-
-pub goes_past : (head next : Name) (value : ℕ) (answer : Answer) → is_elsewhere head answer ≡ true
-    → looked_back head next value answer ≡ Removing head value
-goes_past head next value (Pointer ptr) is = leaves_tail head next value (names ptr.name head) is
-goes_past head next value answer is = cc

@@ -1,2 +1,2 @@
-pub mod Looking
+pub mod Trying
 pub mod QueueCalls

@@ -2,8 +2,6 @@
 #![tactic(auto)]
 
 mod calls;
-mod course;
 mod straight;
 
 pub use calls::{pop_over, push_over};
-pub use course::QueueCourse;

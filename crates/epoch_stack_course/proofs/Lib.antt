@@ -1,3 +1,4 @@
 mod Fitting
 mod NextPhases
 mod Telling
+mod Tries

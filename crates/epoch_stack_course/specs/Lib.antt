@@ -1,1 +1,2 @@
 pub mod StackCalls
+pub mod Trying

@@ -1,21 +1,37 @@
-use Rattle.std.proofs.Common.{◌≡◌, ap, refl}
-use Rattle.epoch_heap.specs.declared.access.Answer.TheVariants.{Exchanged}
-use Rattle.epoch_plan_calls.proofs.Straight.{path_goes_on, path_goes_to}
-use Rattle.epoch_queue_laws.specs.declared.plan.Phase.TheVariants.{Appending, Swinging}
-use Rattle.epoch_queue_laws.specs.Queue.{deed_of, appended}
+use Rattle.std.proofs.Common.{◌≡◌, None, ap, refl}
+use Rattle.epoch_laws.specs.declared.step.Reply.{Reply}
+use Rattle.epoch_link_calls.proofs.Touched.{begins_touching}
+use Rattle.epoch_plan_calls.proofs.Straight.{path_is_over}
+use Rattle.epoch_plans.specs.Plans.{Answers, after_by}
+use Rattle.epoch_queue_laws.specs.declared.plan.Phase.TheVariants.{TakingBack, Answering}
+use Rattle.epoch_queue_laws.specs.declared.plan.QueueAnswer.TheVariants.{Pushed}
+use Rattle.epoch_queue_laws.specs.Queue.{deed_of, retry_push}
+use Rattle.epoch_queue_course.proofs.NextPhases.{taking_back_leaks}
+use Rattle.epoch_queue_course.proofs.Tries.{call_ends}
 use Rattle.epoch_queue_course.proofs.straight.append.Goals as goal
+use Rattle.epoch_queue_course.proofs.straight.append.Goals.{in-Done, in_default}
 
-pub returns-in-Exchanged-clause-does : goal.returns-in-Exchanged-clause-does
-returns-in-Exchanged-clause-does g c =
-    let is : c.ask-answer.result ≡ Exchanged c.in-Exchanged.field-0 = cc in
-    path_goes_to g.L.Spots.does g.K.Keeps.keeping (deed_of 0) (Appending c.args.node c.args.last c.args.tries)
-    (Swinging c.args.last c.args.node) c.ask-answer.result c.args.handle.now c.args.handle.now c.swing.new.handle
-    c.args.spots.now c.ask-answer.new.spots c.swing.new.spots c.swing.result.answer c.swing.result.refused
-    (c.ask-answer.ensures, tt, refl) (ap (appended c.args.node c.args.last c.args.tries) is) c.swing.ensures.does
+-- the node was appended
+pub returns-then-appended-clause-does : goal.returns-then-appended-clause-does
+returns-then-appended-clause-does g c =
+    begins_touching g.L.Spots.does (deed_of 0) g.K.Keeps.keeping (retry_push c.args.node c.args.tries)
+    (Answering Pushed) c.args.handle.now c.args.handle.now c.args.spots.now c.appended.new.spots c.appended.new.spots
+    Pushed None (c.appended.ensures.pushed c.if-appended.true)
+    (path_is_over g.L.Spots.does g.K.Keeps.keeping (deed_of 0) (Answering Pushed) c.args.handle.now
+    c.appended.new.spots Pushed refl)
 
--- any other answer
+-- each try was lost
 pub returns-clause-does : goal.returns-clause-does
 returns-clause-does g c =
-    path_goes_on g.L.Spots.does g.K.Keeps.keeping (deed_of 0) (Appending c.args.node c.args.last c.args.tries)
-    c.ask-answer.result c.args.handle.now c.args.handle.now c.rest.new.handle c.args.spots.now c.ask-answer.new.spots
-    c.rest.new.spots c.rest.result.answer c.rest.result.refused (c.ask-answer.ensures, tt, refl) c.rest.ensures.does
+    let back = TakingBack c.args.node in
+    let answers : deed_of 0 (after_by back (deed_of 0 back) c.keep-reply.result) ≡ Answers c.match-reply.answer =
+    elim c.match-reply.branch [
+      | in-Done w ↦ cc (ap (λ (r : Reply). deed_of 0 (after_by back (deed_of 0 back) r)) w.in-Done.is)
+      | in_default w ↦ cc (taking_back_leaks c.args.node c.keep-reply.result w.in_default.not-Done)
+    ] in
+    begins_touching g.L.Spots.does (deed_of 0) g.K.Keeps.keeping (retry_push c.args.node c.args.tries) back
+    c.args.handle.now c.keep-reply.new.handle c.args.spots.now c.appended.new.spots c.appended.new.spots
+    c.match-reply.answer c.newest.result (c.appended.ensures.lost c.if-appended.false)
+    (call_ends g.L.Spots.does g.K.Keeps.keeping back c.keep-reply.result c.args.handle.now c.keep-reply.new.handle
+    c.appended.new.spots c.appended.new.spots c.match-reply.answer c.newest.result (c.keep-reply.ensures.kept, refl)
+    answers c.newest.ensures)

@@ -1,24 +1,31 @@
-use Rattle.std.proofs.Common.{◌≡◌, ◌∙◌, refl, sym, true}
-use Rattle.epoch_queue_course.specs.Looking.{is_elsewhere}
-use Rattle.epoch_queue_course.proofs.NextPhases.{goes_past}
-use Rattle.epoch_plan_calls.proofs.Straight.{path_goes_on, path_goes_to}
-use Rattle.epoch_queue_laws.specs.declared.plan.Phase.TheVariants.{LookingBack, Removing}
-use Rattle.epoch_queue_laws.specs.Queue.{deed_of}
+use Rattle.std.proofs.Common.{◌∙◌, refl, sym}
+use Rattle.epoch_heap.specs.declared.access.Spot.TheVariants.{Root}
+use Rattle.epoch_link_calls.specs.Linking.{loaded}
+use Rattle.epoch_queue_laws.specs.declared.plan.Phase.TheVariants.{LookingBack, Advancing, Removing}
+use Rattle.epoch_queue_course.proofs.NextPhases.{goes_on_from, leaves_tail}
+use Rattle.epoch_queue_course.proofs.Tries.{touches_once, touches_next, exchanges_nodes}
 use Rattle.epoch_queue_course.proofs.straight.look_back.Goals as goal
 
-pub returns-then-is_elsewhere-clause-does : goal.returns-then-is_elsewhere-clause-does
-returns-then-is_elsewhere-clause-does g c =
-    let is : is_elsewhere c.args.head c.ask-answer.result ≡ true = sym c.is_elsewhere.ensures ∙ c.if-is_elsewhere.true
-    in
-    path_goes_to g.L.Spots.does g.K.Keeps.keeping (deed_of 0) (LookingBack c.args.head c.args.next c.args.value)
-    (Removing c.args.head c.args.value) c.ask-answer.result c.args.handle.now c.args.handle.now c.remove.new.handle
-    c.args.spots.now c.ask-answer.new.spots c.remove.new.spots c.remove.result.answer c.remove.result.refused
-    (c.ask-answer.ensures, tt, refl) (goes_past c.args.head c.args.next c.args.value c.ask-answer.result is)
-    c.remove.ensures.does
+-- the tail may lead to the node that was taken off, and is moved on
+pub returns-then-leads_on : goal.returns-then-leads_on
+returns-then-leads_on g c =
+    let head = c.args.head in
+    let next = c.args.next in
+    let value = c.args.value in
+    let looked =
+    touches_once g.L.Spots.does (LookingBack head next value) (Advancing head next value) (loaded c.load_root.result)
+    c.args.spots.now c.load_root.new.self c.load_root.ensures
+    (goes_on_from head next value c.load_root.result (sym c.leads_on.ensures ∙ c.if-leads_on.true)) in
+    let moved =
+    exchanges_nodes g.L.Spots.does (Root 1) c.to.result c.to-then-leads_on.result head next c.exchange_root.result
+    c.load_root.new.self c.exchange_root.new.self c.to.ensures c.to-then-leads_on.ensures c.exchange_root.ensures in
+    touches_next g.L.Spots.does (LookingBack head next value) (Advancing head next value) (Removing head value) moved.0
+    c.args.spots.now c.load_root.new.self c.exchange_root.new.self looked moved.2 refl
 
--- any other answer
-pub returns-clause-does : goal.returns-clause-does
-returns-clause-does g c =
-    path_goes_on g.L.Spots.does g.K.Keeps.keeping (deed_of 0) (LookingBack c.args.head c.args.next c.args.value)
-    c.ask-answer.result c.args.handle.now c.args.handle.now c.rest.new.handle c.args.spots.now c.ask-answer.new.spots
-    c.rest.new.spots c.rest.result.answer c.rest.result.refused (c.ask-answer.ensures, tt, refl) c.rest.ensures.does
+-- it leads elsewhere
+pub returns-else-leads_on : goal.returns-else-leads_on
+returns-else-leads_on g c =
+    touches_once g.L.Spots.does (LookingBack c.args.head c.args.next c.args.value) (Removing c.args.head c.args.value)
+    (loaded c.load_root.result) c.args.spots.now c.load_root.new.self c.load_root.ensures
+    (leaves_tail c.args.head c.args.next c.args.value c.load_root.result
+    (sym c.leads_on.ensures ∙ c.if-leads_on.false))

@@ -1,0 +1,14 @@
+-- An answer to an exchange, by whether it was made.
+use Rattle.std.proofs.Common.{◌≡◌, Bool, true, false, Option, None, refl}
+use Rattle.epoch_heap.specs.declared.access.Answer.{Answer}
+use Rattle.epoch_heap.specs.declared.access.Answer.TheVariants.{Exchanged, Absent}
+use Rattle.epoch_link_calls.specs.Linking.{was_made}
+
+-- some answer that tells so
+abbrev pub answer_of : Bool → Answer
+answer_of true = Exchanged (record { name = None; tag = 0 })
+answer_of false = Absent
+
+pub tells : (made : Bool) → was_made (answer_of made) ≡ made
+tells true = refl
+tells false = refl

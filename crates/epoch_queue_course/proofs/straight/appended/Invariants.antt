@@ -1,0 +1,14 @@
+use Rattle.std.proofs.Common.{◌≤◌}
+use Rattle.epoch_link_calls.specs.Touching.{TouchesOn}
+use Rattle.epoch_queue_laws.specs.Queue.{deed_of, retry_push}
+use Rattle.epoch_queue_course.proofs.straight.appended.Given as goal
+
+-- the tries so far were lost
+abbrev pub invariant-loop-left : goal.invariant-loop-left
+invariant-loop-left g l =
+    (l.left ≤ l.tries)
+    × TouchesOn g.L.Spots.does (deed_of 0) (retry_push l.node l.tries) l.fn.spots (retry_push l.node l.left) l.spots
+
+-- each try is one fewer
+abbrev pub decreases-loop-left : goal.decreases-loop-left
+decreases-loop-left g l = l.left
