@@ -1,5 +1,5 @@
 -- Paths on which a call only makes accesses: how they grow, and how they begin the path of a whole call.
-use Rattle.std.proofs.Common.{◌≡◌, List, [], ◌∷◌, ◌++◌, Option, refl, sym, subst}
+use Rattle.std.proofs.Common.{◌≡◌, List, [], ◌∷◌, Option, refl, sym, subst}
 use Rattle.epoch_cells.specs.declared.fault.Fault.{Fault}
 use Rattle.epoch_heap.specs.declared.access.Access.{Access}
 use Rattle.epoch_heap.specs.declared.access.Answer.{Answer}
@@ -45,8 +45,8 @@ module _ {P A L : Type 0} (does : L → Access → Reply → L → Type 0) (deed
 
   module _ {H : Type 0} (keeping : Keeping H) where
     -- an access that is made is a call of the phase
-    touch_performs : (at : Deed P A) (h : H) (links links' : L) (answer : Answer) → TouchesBy does at links answer links'
-        → PerformsBy does keeping at h links (Done answer) h links'
+    touch_performs : (at : Deed P A) (h : H) (links links' : L) (answer : Answer)
+        → TouchesBy does at links answer links' → PerformsBy does keeping at h links (Done answer) h links'
     touch_performs (Touches access told refused) h links links' answer touches = (touches, tt, refl)
     touch_performs (Flushes done refused) h links links' answer touches = absurd touches
     touch_performs (Defers name deferred refused) h links links' answer touches = absurd touches

@@ -1,5 +1,5 @@
 -- Calls that take one phase after the other: a phase whose call was made, and the path from the phase that follows.
-use Rattle.std.proofs.Common.{◌≡◌, [], ◌∷◌, Option, None, refl, sym, subst}
+use Rattle.std.proofs.Common.{◌≡◌, [], ◌∷◌, Option, None, refl}
 use Rattle.epoch_cells.specs.declared.fault.Fault.{Fault}
 use Rattle.epoch_heap.specs.declared.access.Access.{Access}
 use Rattle.epoch_heap.specs.declared.access.Answer.{Answer}
@@ -22,16 +22,6 @@ module _ {P A L H : Type 0} (does : L → Access → Reply → L → Type 0) (ke
     answers = path.answers;
     newest = path.newest;
   }
-
-  -- and that phase is this one
-  pub path_goes_to : (phase next : P) (answer : Answer) (old mid new : H) (links between links' : L) (a : A)
-      (refused : Option Fault) → PerformsBy does keeping (deed phase) old links (Done answer) mid between
-      → after_by phase (deed phase) (Done answer) ≡ next
-      → DoesBy does keeping deed next mid between a refused new links'
-      → DoesBy does keeping deed phase old links a refused new links'
-  path_goes_to phase next answer old mid new links between links' a refused performs is path =
-      path_goes_on phase answer old mid new links between links' a refused performs
-      (subst (λ (f : P). DoesBy does keeping deed f mid between a refused new links') (sym is) path)
 
   -- a phase's call was made, and the phase that follows answers
   pub path_ends : (phase : P) (reply : Reply) (old new : H) (links links' : L) (a : A)

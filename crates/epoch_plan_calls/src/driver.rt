@@ -3,7 +3,7 @@ ghost use Rattle.std.specs.Prelude.{◌≡◌, IsErr, IfOk, IfErr};
 ghost use Rattle.epoch_plans.specs.Plans.{Answers};
 ghost use Rattle.epoch_plan_calls.specs.Courses.{PerformsBy, DoesBy};
 
-use crate::asking::newest;
+use crate::faults::newest;
 use crate::keeping::Keeps;
 use crate::reading::{Course, as_reply};
 use epoch_laws::Reply;
