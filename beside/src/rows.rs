@@ -77,17 +77,17 @@ fn rows() -> Vec<Row> {
         row("replace_cas", several, 12_800, replaces_cas),
         row("replace_store", one, 12_800, replaces_store),
         row("replace_swap_64_a_guard_flush", several, 12_800, replaces_64),
-        row("replace_swap_lending", one, 12_800, replaces),
+        row("replace_swap_lending", several, 12_800, replaces),
         row(
             "replace_swap_64_a_guard_flush_lending",
-            one,
+            several,
             12_800,
             replaces_64,
         ),
         row("treiber_push_pop", several, 12_800, pushes),
-        row("treiber_push_pop_lending", one, 12_800, pushes),
+        row("treiber_push_pop_lending", several, 12_800, pushes),
         row("queue_push_pop", several, 12_800, enqueues),
-        row("queue_push_pop_lending", one, 12_800, enqueues),
+        row("queue_push_pop_lending", several, 12_800, enqueues),
         row("register_drop", several, 1_280, registers),
     ]
 }

@@ -17,11 +17,12 @@ use epoch_lend_stack::LendingStack;
 use epoch_lend_store::lender::Lender;
 use epoch_lend_store::lent_cells::LentCells;
 use std::alloc::Global;
-use std::io;
 use std::marker::Brand;
 use std::sync::Wait;
 use std::sync::atomic::Ordering::SeqCst;
+use std::thread::Threads;
 use std::time::Clock;
+use std::{io, thread};
 
 /// Cells of a lender, and places for bags of its collector.
 const CELLS: u32 = 4_096;
@@ -60,22 +61,18 @@ pub fn change_of(name: &str) -> Option<Change> {
     }
 }
 
-/// What is changed.
+/// What is changed, which the threads of a round share.
 #[derive(Drop)]
-struct Things<'c, J: PostSet> {
-    pointer: Atomic<Link>,
-    stack: LendingStack<'c, J, Link>,
-    queue: LendingQueue<'c, J, Link>,
+enum Thing<'w, 'c, J: PostSet> {
+    Pointer(&'w Atomic<Link>),
+    Stack(&'w LendingStack<'c, J, Link>),
+    Queue(&'w LendingQueue<'c, J, Link>),
 }
 
-/// What a round works on, on one thread.
-#[derive(Drop)]
-struct Scene<'c, 'q, 's, 'w, J: PostSet> {
-    collector: &'c Collector<Link, Marking<'q, 's, J, Link>>,
-    lender: &'q Lender<'s, J, Link>,
-    things: &'w Things<'c, J>,
-    alloc: Global,
-    change: Change,
+/// How often it is changed, on how many threads, and whether 64 values are replaced under one guard.
+#[derive(Clone, Copy)]
+struct Work {
+    is_together: bool,
     size: Size,
 }
 
@@ -140,7 +137,7 @@ impl<'c, 'q, 's, J: PostSet> Idle<'c, 'q, 's, J, Link> {
     }
 
     #[inline(never)]
-    fn pushes(&mut self, stack: &LendingStack<'c, J, Link>, turns: u64) -> u64 {
+    fn pushes(&mut self, stack: &LendingStack<'_, J, Link>, turns: u64) -> u64 {
         let mut done: u64 = 0;
         for turn in 0..turns {
             self.push(stack, turn);
@@ -150,14 +147,14 @@ impl<'c, 'q, 's, J: PostSet> Idle<'c, 'q, 's, J, Link> {
     }
 
     #[inline(always)]
-    fn push(&mut self, stack: &LendingStack<'c, J, Link>, value: u64) {
+    fn push(&mut self, stack: &LendingStack<'_, J, Link>, value: u64) {
         let guard = self.handle.pin();
         let _ = stack.push(&mut self.handle, &guard, Node::new(value), TRIES);
         self.handle.unpin(guard);
     }
 
     #[inline(always)]
-    fn pop(&mut self, stack: &LendingStack<'c, J, Link>) -> u64 {
+    fn pop(&mut self, stack: &LendingStack<'_, J, Link>) -> u64 {
         let guard = self.handle.pin();
         let found = found(stack.pop(&mut self.handle, &guard, TRIES));
         self.handle.unpin(guard);
@@ -165,7 +162,7 @@ impl<'c, 'q, 's, J: PostSet> Idle<'c, 'q, 's, J, Link> {
     }
 
     #[inline(never)]
-    fn enqueues(&mut self, queue: &LendingQueue<'c, J, Link>, turns: u64) -> u64 {
+    fn enqueues(&mut self, queue: &LendingQueue<'_, J, Link>, turns: u64) -> u64 {
         let mut done: u64 = 0;
         for turn in 0..turns {
             self.enqueue(queue, turn);
@@ -175,38 +172,46 @@ impl<'c, 'q, 's, J: PostSet> Idle<'c, 'q, 's, J, Link> {
     }
 
     #[inline(always)]
-    fn enqueue(&mut self, queue: &LendingQueue<'c, J, Link>, value: u64) {
+    fn enqueue(&mut self, queue: &LendingQueue<'_, J, Link>, value: u64) {
         let guard = self.handle.pin();
         let _ = queue.push(&mut self.handle, &guard, Node::new(value), TRIES);
         self.handle.unpin(guard);
     }
 
     #[inline(always)]
-    fn dequeue(&mut self, queue: &LendingQueue<'c, J, Link>) -> u64 {
+    fn dequeue(&mut self, queue: &LendingQueue<'_, J, Link>) -> u64 {
         let guard = self.handle.pin();
         let found = found(queue.pop(&mut self.handle, &guard, TRIES));
         self.handle.unpin(guard);
         found
     }
 
-    fn changes(&mut self, scene: &Scene<'c, 'q, 's, '_, J>) -> u64 {
-        let turns = scene.size.turns;
-        match scene.change {
-            Change::Replace => self.replaces(&scene.things.pointer, turns),
-            Change::ReplaceTogether => self.replaces_together(&scene.things.pointer, turns),
-            Change::Stack => self.pushes(&scene.things.stack, turns),
-            Change::Queue => self.enqueues(&scene.things.queue, turns),
+    fn changes(&mut self, thing: &Thing<'_, '_, J>, work: Work) -> u64 {
+        let turns = work.size.turns;
+        match thing {
+            Thing::Pointer(pointer) if work.is_together => self.replaces_together(pointer, turns),
+            Thing::Pointer(pointer) => self.replaces(pointer, turns),
+            Thing::Stack(stack) => self.pushes(stack, turns),
+            Thing::Queue(queue) => self.enqueues(queue, turns),
         }
     }
 }
 
 // One thread's part of a round.
-fn take_part<R: Clock + Wait, J: PostSet>(rt: &R, scene: &Scene<'_, '_, '_, '_, J>, span: &Span) {
-    let threads = scene.size.threads;
-    let mut idle = Idle::register(scene.alloc, scene.collector, scene.lender);
+fn take_part<'q, 's, R: Clock + Wait, J: PostSet>(
+    rt: &R,
+    alloc: Global,
+    lender: &'q Lender<'s, J, Link>,
+    collector: &Collector<Link, Marking<'q, 's, J, Link>>,
+    thing: &Thing<'_, '_, J>,
+    work: Work,
+    span: &Span,
+) {
+    let threads = work.size.threads;
+    let mut idle = Idle::register(alloc, collector, lender);
     let start = span.begin(rt, threads);
     let done = match &mut idle {
-        Some(idle) => idle.changes(scene),
+        Some(idle) => idle.changes(thing, work),
         None => 0,
     };
     span.end(rt, threads, start, done);
@@ -215,17 +220,100 @@ fn take_part<R: Clock + Wait, J: PostSet>(rt: &R, scene: &Scene<'_, '_, '_, '_, 
     }
 }
 
-// Makes the rounds, and returns how many turns of the last one did what they should.
-fn all_rounds<R: Clock + Wait, J: PostSet>(
+fn replace_on_threads<'q, 's, R: Clock + Threads + Wait + Sync, J: PostSet + Send + Sync>(
     rt: &R,
-    scene: &Scene<'_, '_, '_, '_, J>,
+    alloc: Global,
+    lender: &'q Lender<'s, J, Link>,
+    collector: &Collector<Link, Marking<'q, 's, J, Link>>,
+    pointer: &Atomic<Link>,
+    work: Work,
+    span: &Span,
+) {
+    thread::scope(thread::scope_env(), rt, move |scope| {
+        for _ in 0..work.size.threads {
+            let made = scope.spawn(move || {
+                let thing = Thing::Pointer(pointer);
+                take_part(rt, alloc, lender, collector, &thing, work, span);
+            });
+            if made.is_err() {
+                span.miss();
+            }
+        }
+    });
+}
+
+fn push_on_threads<'q, 's, R: Clock + Threads + Wait + Sync, J: PostSet + Send + Sync>(
+    rt: &R,
+    alloc: Global,
+    lender: &'q Lender<'s, J, Link>,
+    collector: &Collector<Link, Marking<'q, 's, J, Link>>,
+    stack: &LendingStack<'_, J, Link>,
+    work: Work,
+    span: &Span,
+) {
+    thread::scope(thread::scope_env(), rt, move |scope| {
+        for _ in 0..work.size.threads {
+            let made = scope.spawn(move || {
+                let thing = Thing::Stack(stack);
+                take_part(rt, alloc, lender, collector, &thing, work, span);
+            });
+            if made.is_err() {
+                span.miss();
+            }
+        }
+    });
+}
+
+fn enqueue_on_threads<'q, 's, R: Clock + Threads + Wait + Sync, J: PostSet + Send + Sync>(
+    rt: &R,
+    alloc: Global,
+    lender: &'q Lender<'s, J, Link>,
+    collector: &Collector<Link, Marking<'q, 's, J, Link>>,
+    queue: &LendingQueue<'_, J, Link>,
+    work: Work,
+    span: &Span,
+) {
+    thread::scope(thread::scope_env(), rt, move |scope| {
+        for _ in 0..work.size.threads {
+            let made = scope.spawn(move || {
+                let thing = Thing::Queue(queue);
+                take_part(rt, alloc, lender, collector, &thing, work, span);
+            });
+            if made.is_err() {
+                span.miss();
+            }
+        }
+    });
+}
+
+// Makes the rounds, and returns how many turns of the last one did what they should.
+fn all_rounds<'q, 's, R: Clock + Threads + Wait + Sync, J: PostSet + Send + Sync>(
+    rt: &R,
+    alloc: Global,
+    lender: &'q Lender<'s, J, Link>,
+    collector: &Collector<Link, Marking<'q, 's, J, Link>>,
+    thing: &Thing<'_, '_, J>,
+    work: Work,
     times: &mut [u64],
 ) -> u64 {
     let mut done = 0;
     for time in times {
         let span = Span::new();
-        take_part(rt, scene, &span);
-        *time = span.each(scene.size.turns);
+        match thing {
+            _ if work.size.threads == 1 => {
+                take_part(rt, alloc, lender, collector, thing, work, &span);
+            }
+            Thing::Pointer(pointer) => {
+                replace_on_threads(rt, alloc, lender, collector, pointer, work, &span);
+            }
+            Thing::Stack(stack) => {
+                push_on_threads(rt, alloc, lender, collector, stack, work, &span);
+            }
+            Thing::Queue(queue) => {
+                enqueue_on_threads(rt, alloc, lender, collector, queue, work, &span);
+            }
+        }
+        *time = span.each(work.size.turns);
         done = span.done();
     }
     done
@@ -257,26 +345,32 @@ fn rounds_with<'q, 's, R, J>(
     times: &mut [u64],
 ) -> u64
 where
-    R: Clock + Wait,
-    J: PostSet,
+    R: Clock + Threads + Wait + Sync,
+    J: PostSet + Send + Sync,
 {
-    let Some(queue) = queue_of(rt, alloc, lender, collector) else {
-        return 0;
-    };
-    let things = Things {
-        pointer: Atomic::null(),
-        stack: LendingStack::new(collector),
-        queue,
-    };
-    let scene = Scene {
-        collector,
-        lender,
-        things: &things,
-        alloc,
-        change,
+    let work = Work {
+        is_together: change == Change::ReplaceTogether,
         size,
     };
-    all_rounds(rt, &scene, times)
+    match change {
+        Change::Replace | Change::ReplaceTogether => {
+            let pointer = Atomic::null();
+            let thing = Thing::Pointer(&pointer);
+            all_rounds(rt, alloc, lender, collector, &thing, work, times)
+        }
+        Change::Stack => {
+            let stack = LendingStack::new(collector);
+            let thing = Thing::Stack(&stack);
+            all_rounds(rt, alloc, lender, collector, &thing, work, times)
+        }
+        Change::Queue => match queue_of(rt, alloc, lender, collector) {
+            Some(queue) => {
+                let thing = Thing::Queue(&queue);
+                all_rounds(rt, alloc, lender, collector, &thing, work, times)
+            }
+            None => 0,
+        },
+    }
 }
 
 fn rounds_over<R, J>(
@@ -288,8 +382,8 @@ fn rounds_over<R, J>(
     times: &mut [u64],
 ) -> io::Result<u64>
 where
-    R: Clock + Wait,
-    J: PostSet,
+    R: Clock + Threads + Wait + Sync,
+    J: PostSet + Send + Sync,
     requires { made.posts.items ≡ J.posts }
 {
     let capacities = Capacities::usual(u32::try_from(size.threads).unwrap_or(u32::MAX), 0, PLACES);
@@ -312,18 +406,14 @@ where
     Ok(done)
 }
 
-/// Makes as many rounds as there are times, on one thread, and returns how many turns of the last one did what they
-/// should. `InvalidInput`: more threads are asked for.
-pub fn time<R: Clock + Wait>(
+/// Makes as many rounds as there are times, and returns how many turns of the last one did what they should.
+pub fn time<R: Clock + Threads + Wait + Sync>(
     rt: &R,
     alloc: Global,
     change: Change,
     size: Size,
     times: &mut [u64],
 ) -> io::Result<u64> {
-    if size.threads != 1 {
-        return Err(io::Error::from(io::ErrorKind::InvalidInput));
-    }
-    let made = Made::new(alloc, posts_for(1))?;
+    let made = Made::new(alloc, posts_for(size.threads))?;
     rounds_over::<R, Brand>(rt, alloc, made, change, size, times)
 }
