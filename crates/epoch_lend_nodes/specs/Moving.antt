@@ -2,7 +2,6 @@
 use Rattle.std.specs.Prelude.{◌≡◌, IsSome}
 use Rattle.epoch_heap.specs.declared.access.Access.{Access}
 use Rattle.epoch_heap.specs.declared.access.Access.TheVariants.{Place, Read}
-use Rattle.epoch_heap.specs.declared.access.Answer.{Answer}
 use Rattle.epoch_heap.specs.declared.access.Answer.TheVariants.{Name as NameAnswer, Value}
 use Rattle.epoch_laws.specs.declared.step.Reply.{Reply}
 use Rattle.epoch_laws.specs.declared.step.Reply.TheVariants.{Done}

@@ -21,7 +21,8 @@ impl<'c, 'q, 's, J: PostSet, T: Drop> Keeps<
 > for Gathers {
     ghost keeping = { record {
       room = λ old reply new. MakesRoomFor old.kept.lists.value.spots.items reply new.kept.lists.value.spots.items;
-      removal = λ old name reply new. KeepsRemoval old.kept.lists.value.spots.items name reply new.kept.lists.value.spots.items;
+      removal = λ old name reply new. KeepsRemoval old.kept.lists.value.spots.items name reply
+          new.kept.lists.value.spots.items;
     } };
 
     ghost serves = { λ handle guard. Owns handle.handle guard.guard };

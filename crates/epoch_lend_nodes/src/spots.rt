@@ -119,7 +119,7 @@ impl<'g, 'c, 'q, 's, J: PostSet, V: LentNode, W> NodeSpots<'g, 'c, 'q, 's, J, V,
         ensures full { IfErr result (λ fault. (fault ≡ CellsFull) × (self.new.nodes.own ≡ Some node)
             × (self.new.nodes.name ≡ self.old.nodes.name) × (self.new.nodes.lent ≡ self.old.nodes.lent)) }
     {
-        match searched(self.guard, node) {
+        match self.guard.place_by_name(node) {
             Ok(name) => Ok(Some(name)),
             Err(node) => {
                 self.nodes.own = Some(node);
@@ -255,25 +255,6 @@ impl<'g, 'c, 'q, 's, J: PostSet, V: LentNode, W> NodeSpots<'g, 'c, 'q, 's, J, V,
             Some(at) => change_at(at, change, self.guard.guard()),
             None => Answer::Absent,
         }
-    }
-}
-
-// Places the node in a cell that is searched for, and returns its name. It stands out of line, and what it takes and
-// returns is copied: so a call keeps no node in memory for its sake.
-#[cold]
-#[inline(never)]
-fn searched<'c, 'q, 's, J: PostSet, V: LentNode, W>(
-    guard: &LendingGuard<'c, 'q, 's, J, V, W>,
-    node: V,
-) -> Result<Name, V>
-    ensures handed_back { IfErr result (λ back. back ≡ node) }
-{
-    match guard.place_with_witness(node) {
-        Ok((pointer, _)) => match pointer.name() {
-            Some(name) => Ok(name),
-            None => unreachable!(),
-        },
-        Err(refused) => Err(refused.value),
     }
 }
 

@@ -5,14 +5,14 @@ ghost use Rattle.epoch_atomic.specs.Pointers.{IsUnder};
 ghost use Rattle.epoch_lend_store.specs.Named.{StandsUnder};
 
 use epoch_atomic::atomic::Shared;
-use epoch_cells::{Fault, Refused};
+use epoch_cells::{Fault, Name, Refused};
 use epoch_handles::Guard;
 use epoch_lend_cells::sight::Sight;
 use epoch_lend_cells::turns::Name as Witness;
 use epoch_lend_readers::posts::PostSet;
 use epoch_lend_readers::reader::Pinned;
 use epoch_lend_store::lender::{Lender, ROOM_PLACES};
-use epoch_lend_store::lent_cells::LentCells;
+use epoch_lend_store::lent_cells::{LentCells, Placed};
 use std::fmt;
 
 /// A guard of a pin, to which values are lent. It must be given back, to `LendingHandle::unpin`.
@@ -32,7 +32,56 @@ impl<'c, 'q, 's, J: PostSet, T, W> fmt::Debug for LendingGuard<'c, 'q, 's, J, T,
     }
 }
 
+// Places the value in the first cell that is seen empty, beginning near the one in which the reader at this post placed
+// a value last. It is handed back if none is. What this function takes is copied: so no caller's guard stands in memory
+// for its sake.
+#[cold]
+#[inline(never)]
+fn search<'q, 's, J: PostSet, T: Drop>(
+    cells: &'s LentCells<J, T>,
+    lender: &'q Lender<'s, J, T>,
+    post: usize,
+    value: T,
+) -> Result<Placed<T>, T>
+    ensures placed { IfOk result (λ placed. placed.witness.value ≡ value) }
+    ensures named { IfOk result (λ placed. StandsUnder (map (λ s. s.turns.log) cells.now.cells.slots.items)
+        placed.name placed.witness.log placed.witness.turn) }
+    ensures handed_back { IfErr result (λ back. back ≡ value) }
+{
+    let mut kept = value;
+    // Free cells that were left together for the next values of handles are left to all, list by list.
+    for _ in 0..ROOM_PLACES {
+        match cells.place_for(kept, post) {
+            Ok(placed) => return Ok(placed),
+            Err(refused) => kept = refused.value,
+        }
+        match lender.take_rooms() {
+            Some(rooms) => rooms.release(),
+            None => break,
+        }
+    }
+    Err(kept)
+}
+
 impl<'c, 'q, 's, J: PostSet, T, W> LendingGuard<'c, 'q, 's, J, T, W> {
+    // Makes a guard of its parts. A function of its own makes it, so that it is stored behind the exchanges of a pin,
+    // which wait for the stores before them.
+    #[inline(always)]
+    pub(crate) fn of(
+        guard: Guard<'c, T, W>,
+        pinned: Pinned<'s, J>,
+        lender: &'q Lender<'s, J, T>,
+    ) -> LendingGuard<'c, 'q, 's, J, T, W>
+        ensures { result.guard ≡ guard.entry }
+    {
+        LendingGuard {
+            guard,
+            pinned,
+            cells: lender.cells(),
+            lender,
+        }
+    }
+
     /// Returns the collector's guard, under which pointers are loaded and exchanged.
     #[inline(always)]
     pub fn guard(&self) -> &Guard<'c, T, W>
@@ -93,23 +142,24 @@ impl<'c, 'q, 's, J: PostSet, T: Drop, W> LendingGuard<'c, 'q, 's, J, T, W> {
             placed.1.turn)) }
         ensures full { IfErr result (λ refused. (refused.fault ≡ CellsFull) × (refused.value ≡ value)) }
     {
-        let mut kept = value;
-        // Free cells that were left together for the next values of handles are left to all, list by list.
-        for _ in 0..ROOM_PLACES {
-            match self.cells.place_near(kept, &self.pinned) {
-                Ok(placed) => {
-                    return Ok((Shared::named(placed.name, &self.guard), placed.witness));
-                }
-                Err(refused) => kept = refused.value,
-            }
-            match self.lender.take_rooms() {
-                Some(rooms) => rooms.release(),
-                None => break,
-            }
+        match search(self.cells, self.lender, self.pinned.position(), value) {
+            Ok(placed) => Ok((Shared::named(placed.name, &self.guard), placed.witness)),
+            Err(value) => Err(Refused {
+                fault: Fault::CellsFull,
+                value,
+            }),
         }
-        Err(Refused {
-            fault: Fault::CellsFull,
-            value: kept,
-        })
+    }
+
+    /// Does what [`LendingGuard::place`] does, and returns the value's name. The value is handed back if every cell was
+    /// seen in use.
+    #[inline(always)]
+    pub fn place_by_name(&self, value: T) -> Result<Name, T>
+        ensures handed_back { IfErr result (λ back. back ≡ value) }
+    {
+        match search(self.cells, self.lender, self.pinned.position(), value) {
+            Ok(placed) => Ok(placed.name),
+            Err(value) => Err(value),
+        }
     }
 }

@@ -150,17 +150,12 @@ impl<'c, 'q, 's, J: PostSet, T: Drop> LendingHandle<'c, 'q, 's, J, T> {
     {
         let guard = self.handle.pin();
         let lender = self.kept.lender();
-        let cells = lender.cells();
-        let epoch = cells.epoch();
+        let epoch = lender.cells().epoch();
         let Some(reader) = self.reader.take() else {
             unreachable!()
         };
-        LendingGuard {
-            guard,
-            pinned: reader.pin(epoch),
-            cells,
-            lender,
-        }
+        let pinned = reader.pin(epoch);
+        LendingGuard::of(guard, pinned, lender)
     }
 
     /// Ends the pin of a guard of this handle, and pins anew, in the clock's present epoch. If no other guard is out,

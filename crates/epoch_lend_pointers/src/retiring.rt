@@ -69,7 +69,8 @@ impl<'c, 'q, 's, J: PostSet, T: Drop> LendingHandle<'c, 'q, 's, J, T> {
             → IfErr result (λ refused. refused.fault ≡ StrangerGuard) × IsErr result × (self.new ≡ self.old) }
         ensures null { Owns self.old.handle guard.now.guard → pointer.entry.name ≡ None
             → IfErr result (λ refused. refused.fault ≡ StrangerPointer) × IsErr result × (self.new ≡ self.old) }
-        ensures ok { IsOk result → KeepsSpot pointer.entry.name self.old.kept.lists.value.spots.items self.new.kept.lists.value.spots.items }
+        ensures ok { IsOk result → KeepsSpot pointer.entry.name self.old.kept.lists.value.spots.items
+            self.new.kept.lists.value.spots.items }
         ensures handed_back { IfErr result (λ refused. refused.value ≡ pointer.entry) }
     {
         if !self.owns(guard) {
@@ -103,7 +104,8 @@ impl<'c, 'q, 's, J: PostSet, T: Drop> LendingHandle<'c, 'q, 's, J, T> {
         ensures same { IsSame self.old.handle self.new.handle }
         ensures ready { IsReady self.new.handle }
         ensures counted { self.new.handle.machine.guards ≡ self.old.handle.machine.guards }
-        ensures ok { IsOk result → KeepsSpot (Some name) self.old.kept.lists.value.spots.items self.new.kept.lists.value.spots.items }
+        ensures ok { IsOk result → KeepsSpot (Some name) self.old.kept.lists.value.spots.items
+            self.new.kept.lists.value.spots.items }
         ensures fault { IfErr result (λ fault. (fault ≡ NoMemory) ⊎ (fault ≡ BagsFull)) }
     {
         self.make_room(guard)?;
@@ -126,7 +128,8 @@ impl<'c, 'q, 's, J: PostSet, T: Drop> LendingHandle<'c, 'q, 's, J, T> {
         ensures ready { IsReady self.new.handle }
         ensures counted { self.new.handle.machine.guards ≡ self.old.handle.machine.guards }
         ensures ok { IsOk result
-            → (self.new.kept.lists.value.spots.items ≡ self.old.kept.lists.value.spots.items) ⊎ (self.new.kept.lists.value.spots.items ≡ []) }
+            → (self.new.kept.lists.value.spots.items ≡ self.old.kept.lists.value.spots.items)
+            ⊎ (self.new.kept.lists.value.spots.items ≡ []) }
         ensures err { IsErr result → self.new.kept.lists.value.spots.items ≡ self.old.kept.lists.value.spots.items }
         ensures fault { IfErr result (λ fault. (fault ≡ NoMemory) ⊎ (fault ≡ BagsFull)) }
     {
@@ -134,14 +137,15 @@ impl<'c, 'q, 's, J: PostSet, T: Drop> LendingHandle<'c, 'q, 's, J, T> {
             let _ = self.handle.collector();
             return Ok(());
         }
-        self.hand_all_over(guard)
+        let _ = guard;
+        self.hand_all_over()
     }
 
-    // Defers what is kept, and flushes.
+    // Defers what is kept, and flushes, under a nested guard: so no caller's guard stands in memory for its sake.
+    // `BagsFull`, too, if no more guard can be counted.
     #[cold]
     #[inline(never)]
-    fn hand_all_over(&mut self, guard: &GuardOf<'_, 'q, 's, J, T>) -> Result<(), Fault>
-        requires { Owns self.old.handle guard.now.guard }
+    fn hand_all_over(&mut self) -> Result<(), Fault>
         ensures reader { self.new.reader ≡ self.old.reader }
         ensures same { IsSame self.old.handle self.new.handle }
         ensures ready { IsReady self.new.handle }
@@ -150,9 +154,17 @@ impl<'c, 'q, 's, J: PostSet, T: Drop> LendingHandle<'c, 'q, 's, J, T> {
         ensures err { IsErr result → self.new.kept.lists.value.spots.items ≡ self.old.kept.lists.value.spots.items }
         ensures fault { IfErr result (λ fault. (fault ≡ NoMemory) ⊎ (fault ≡ BagsFull)) }
     {
-        self.hand_over(guard.guard())?;
-        let _ = self.handle.flush(guard.guard());
-        Ok(())
+        if !self.handle.can_pin() {
+            let _ = self.handle.collector();
+            return Err(Fault::BagsFull);
+        }
+        let nested = self.handle.pin();
+        let given = self.hand_over(&nested);
+        if given.is_ok() {
+            let _ = self.handle.flush(&nested);
+        }
+        self.handle.unpin(nested);
+        given
     }
 
     /// Defers what was retired and is gathered, and flushes as `LocalHandle::flush` does: the held bag is put, and then

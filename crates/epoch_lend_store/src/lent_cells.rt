@@ -91,7 +91,19 @@ impl<J: PostSet, T: Drop> LentCells<J, T> {
             placed.witness.turn) }
         ensures full { IfErr result (λ refused. (refused.fault ≡ CellsFull) × (refused.value ≡ value)) }
     {
-        let Some(start) = self.starts.get(pinned.position()) else {
+        self.place_for(value, pinned.position())
+    }
+
+    /// Does what [`LentCells::place_near`] does, for the reader at the post in this place. If there is no such post, it
+    /// begins at the first cell.
+    pub fn place_for(&self, value: T, post: usize) -> Result<Placed<T>, Refused<T>>
+        ensures placed { IfOk result (λ placed. placed.witness.value ≡ value) }
+        ensures named { IfOk result
+            (λ placed. StandsUnder (map (λ s. s.turns.log) self.now.cells.slots.items) placed.name placed.witness.log
+            placed.witness.turn) }
+        ensures full { IfErr result (λ refused. (refused.fault ≡ CellsFull) × (refused.value ≡ value)) }
+    {
+        let Some(start) = self.starts.get(post) else {
             return self.place_from(0, value);
         };
         let first = start.load(SeqCst);

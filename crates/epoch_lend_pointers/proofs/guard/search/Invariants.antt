@@ -1,5 +1,5 @@
 use Rattle.std.proofs.Common.{◌≡◌}
-use Rattle.epoch_lend_pointers.proofs.guard.LendingGuard.place_with_witness.Given as goal
+use Rattle.epoch_lend_pointers.proofs.guard.search.Given as goal
 
 -- the value was handed back by each search so far
 abbrev pub invariant-loop : goal.invariant-loop
