@@ -13,7 +13,7 @@ help:
 	@echo 'make draw     draws the run of a script to out/run.svg; proves nothing                 20 s'
 	@echo 'make test     the merge gate: every proof, every test, and the wrong bodies of'
 	@echo '              crates/*/must-fail, each of which must be refused; keeps what an'
-	@echo '              earlier run has proved                  80 min when it has kept nothing'
+	@echo '              earlier run has proved                  80 min and more when it has kept nothing'
 	@echo 'make refute   tries the other wrong bodies, those of crates/*/refuted        an hour and more'
 	@echo 'make pictures draws the pictures of the documents anew                                  1 min'
 	@echo 'make beside   times this library and crossbeam-epoch in turn: beside/README.md says what'
