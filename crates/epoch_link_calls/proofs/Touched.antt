@@ -26,6 +26,13 @@ module _ {P A L : Type 0} (does : L → Access → Reply → L → Type 0) (deed
     (between, touches, subst (λ (f : P). TouchesTo does deed path.0 f between last links') (sym is) path.1),
   )
 
+  -- one access is made, and no other one
+  pub touches_once : (phase last : P) (answer : Answer) (links links' : L)
+      → TouchesBy does (deed phase) links answer links' → after_by phase (deed phase) (Done answer) ≡ last
+      → TouchesOn does deed phase links last links'
+  touches_once phase last answer links links' touches is =
+      touches_first phase last last answer links links' links' touches is (touches_nothing last links')
+
   -- one path after the other
   touches_then : (answers : List Answer) (first mid last : P) (links between links' : L)
       → TouchesTo does deed answers first links mid between → TouchesOn does deed mid between last links'

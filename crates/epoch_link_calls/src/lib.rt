@@ -3,4 +3,4 @@
 
 mod spots;
 
-pub use spots::LinkSpots;
+pub use spots::{LinkSpots, ptr_to};

@@ -1,5 +1,5 @@
 //! The roots of a structure and its nodes, as the code of its calls accesses them.
-ghost use Rattle.std.specs.Prelude.{Some};
+ghost use Rattle.std.specs.Prelude.{◌≡◌, Some};
 ghost use Rattle.epoch_heap.specs.declared.access.Access.TheVariants.{Place, Read, Leave, Point};
 ghost use Rattle.epoch_heap.specs.declared.access.Answer.TheVariants.{Unit as Nothing};
 ghost use Rattle.epoch_heap.specs.declared.access.Change.TheVariants.{Load, Store};
@@ -52,4 +52,15 @@ pub trait LinkSpots: Spots {
     /// Exchanges the pointer in this node, if it is `current` still, for `new`, and returns whether it did.
     fn exchange_next(&mut self, node: Name, current: Ptr, new: Ptr) -> bool
         ensures { Exchanges Self.does self.old (Field node 0) current new result self.new };
+}
+
+/// Returns the pointer to this node, with tag 0.
+#[inline(always)]
+pub fn ptr_to(node: Name) -> Ptr
+    ensures { result ≡ ptr_to node }
+{
+    Ptr {
+        name: Some(node),
+        tag: 0,
+    }
 }

@@ -11,7 +11,7 @@ use Rattle.epoch_heap.specs.declared.access.Spot.{Spot}
 use Rattle.epoch_heap.specs.declared.access.Spot.TheVariants.{Root, Field}
 use Rattle.epoch_laws.specs.declared.step.Reply.{Reply}
 use Rattle.epoch_laws.specs.declared.step.Reply.TheVariants.{Done}
-use Rattle.epoch_link_calls.proofs.Touched.{touches_nothing, touches_first, touches_further}
+use Rattle.epoch_link_calls.proofs.Touched.{touches_first, touches_once, touches_further}
 use Rattle.epoch_link_calls.specs.Linking.{Exchanges}
 use Rattle.epoch_link_calls.specs.Touching.{TouchesBy, TouchesOn}
 use Rattle.epoch_plan_calls.proofs.Straight.{path_ends}
@@ -25,15 +25,6 @@ use Rattle.epoch_queue_laws.specs.declared.plan.QueueAnswer.{QueueAnswer}
 use Rattle.epoch_queue_laws.specs.Queue.{deed_of, load, to_last, to_append, to_next, to_read}
 
 module _ {L : Type 0} (does : L → Access → Reply → L → Type 0) where
-  -- One access is made.
-  pub touches_once : (phase next : Phase) (answer : Answer) (links links' : L)
-      → TouchesBy does (deed_of 0 phase) links answer links'
-      → after_by phase (deed_of 0 phase) (Done answer) ≡ next
-      → TouchesOn does (deed_of 0) phase links next links'
-  touches_once phase next answer links links' touches is =
-      touches_first does (deed_of 0) phase next next answer links links' links' touches is
-      (touches_nothing does (deed_of 0) next links')
-
   -- One more access is made at the end of a path.
   pub touches_next : (first phase next : Phase) (answer : Answer) (links between links' : L)
       → TouchesOn does (deed_of 0) first links phase between
@@ -42,7 +33,7 @@ module _ {L : Type 0} (does : L → Access → Reply → L → Type 0) where
       → TouchesOn does (deed_of 0) first links next links'
   touches_next first phase next answer links between links' path touches is =
       touches_further does (deed_of 0) first phase next links between links' path
-      (touches_once phase next answer between links' touches is)
+      (touches_once does (deed_of 0) phase next answer between links' touches is)
 
   -- A path comes to a phase that is another one's beginning.
   pub touches_from : (first phase next last : Phase) (links between links' : L)
@@ -75,7 +66,7 @@ module _ {L : Type 0} (does : L → Access → Reply → L → Type 0) where
       → does links (load 0 (Root 1)) (Done (Pointer ptr)) links' → ptr.name ≡ Some last
       → TouchesOn does (deed_of 0) (LoadingTail node k) links (LoadingLast node last k) links'
   finds_last node last k ptr links links' touches is =
-      touches_once (LoadingTail node k) (LoadingLast node last k) (Pointer ptr) links links' touches
+      touches_once does (deed_of 0) (LoadingTail node k) (LoadingLast node last k) (Pointer ptr) links links' touches
       (ap (to_last node k) is)
 
   -- No node is behind it.
@@ -94,7 +85,7 @@ module _ {L : Type 0} (does : L → Access → Reply → L → Type 0) where
       → does links (load 0 (Root 0)) (Done (Pointer ptr)) links' → ptr.name ≡ Some head
       → TouchesOn does (deed_of 0) (LoadingHead k) links (LoadingNext head k) links'
   finds_first head k ptr links links' touches is =
-      touches_once (LoadingHead k) (LoadingNext head k) (Pointer ptr) links links' touches (ap (to_next k) is)
+      touches_once does (deed_of 0) (LoadingHead k) (LoadingNext head k) (Pointer ptr) links links' touches (ap (to_next k) is)
 
   -- A node is behind it.
   pub finds_next : (head next : Name) (k : ℕ) (ptr : Ptr) (links between links' : L)

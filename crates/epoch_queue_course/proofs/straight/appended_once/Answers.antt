@@ -7,20 +7,22 @@ use Rattle.epoch_queue_laws.specs.declared.plan.Phase.TheVariants.{Helping, Answ
 use Rattle.epoch_queue_laws.specs.declared.plan.QueueAnswer.TheVariants.{Pushed}
 use Rattle.epoch_queue_laws.specs.Queue.{retry_push, to_last, to_append}
 use Rattle.epoch_queue_course.proofs.NextPhases.{appends, loses_push}
-use Rattle.epoch_queue_course.proofs.Tries.{touches_once, touches_next, exchanges_for, exchanges_nodes, finds_last}
+use Rattle.epoch_link_calls.proofs.Touched.{touches_once}
+use Rattle.epoch_queue_laws.specs.Queue.{deed_of}
+use Rattle.epoch_queue_course.proofs.Tries.{touches_next, exchanges_for, exchanges_nodes, finds_last}
 use Rattle.epoch_queue_course.proofs.Tries.{finds_end}
 use Rattle.epoch_queue_course.proofs.straight.appended_once.Goals as goal
 
 -- the tail can't be loaded
 pub returns-in_default-clause-lost : goal.returns-in_default-clause-lost
 returns-in_default-clause-lost g c lost tries =
-    touches_once g.L.Spots.does (LoadingTail c.args.node tries) (retry_push c.args.node tries) Absent c.args.spots.now
+    touches_once g.L.Spots.does (deed_of 0) (LoadingTail c.args.node tries) (retry_push c.args.node tries) Absent c.args.spots.now
     c.load_root.new.self c.in_default.ensures refl
 
 -- it leads to no node
 pub returns-in_default-name-clause-lost : goal.returns-in_default-name-clause-lost
 returns-in_default-name-clause-lost g c lost tries =
-    touches_once g.L.Spots.does (LoadingTail c.args.node tries) (retry_push c.args.node tries) (Pointer c.in-Some.tail)
+    touches_once g.L.Spots.does (deed_of 0) (LoadingTail c.args.node tries) (retry_push c.args.node tries) (Pointer c.in-Some.tail)
     c.args.spots.now c.load_root.new.self c.in-Some.ensures (ap (to_last c.args.node tries) c.in_default-name.is)
 
 -- the pointer in the node that it leads to can't be loaded
@@ -48,8 +50,8 @@ returns-in-Some-name-2-clause-lost g c lost tries =
     c.load_next.new.self at_last c.in-Some-load_next.ensures
     (ap (to_append c.args.node last tries) c.in-Some-name-2.is) in
     let exchanged =
-    exchanges_nodes g.L.Spots.does (Root 1) c.to.result c.to-in-Some-name-2.result last next c.exchange_root.result
-    c.load_next.new.self c.exchange_root.new.self c.to.ensures c.to-in-Some-name-2.ensures c.exchange_root.ensures in
+    exchanges_nodes g.L.Spots.does (Root 1) c.ptr_to.result c.ptr_to-in-Some-name-2.result last next c.exchange_root.result
+    c.load_next.new.self c.exchange_root.new.self c.ptr_to.ensures c.ptr_to-in-Some-name-2.ensures c.exchange_root.ensures in
     touches_next g.L.Spots.does (LoadingTail c.args.node tries) (Helping c.args.node last next tries)
     (retry_push c.args.node tries) exchanged.0 c.args.spots.now c.load_next.new.self c.exchange_root.new.self helps
     exchanged.2 refl
@@ -65,8 +67,8 @@ returns-then-not-exchange_next-clause-lost g c lost tries =
     finds_end g.L.Spots.does c.args.node last tries c.in-Some-load_next.behind c.args.spots.now
     c.load_root.new.self c.load_next.new.self at_last c.in-Some-load_next.ensures c.in_default-name-2.is in
     let exchanged =
-    exchanges_for g.L.Spots.does (Field last 0) null c.to-2.result c.args.node c.exchange_next.result
-    c.load_next.new.self c.exchange_next.new.self c.to-2.ensures c.exchange_next.ensures in
+    exchanges_for g.L.Spots.does (Field last 0) null c.ptr_to-2.result c.args.node c.exchange_next.result
+    c.load_next.new.self c.exchange_next.new.self c.ptr_to-2.ensures c.exchange_next.ensures in
     let told : c.exchange_next.result ≡ false = cc in
     touches_next g.L.Spots.does (LoadingTail c.args.node tries) (Appending c.args.node last tries)
     (retry_push c.args.node tries) exchanged.0 c.args.spots.now c.load_next.new.self c.exchange_next.new.self at_end
@@ -83,15 +85,15 @@ returns-clause-pushed g c pushed tries =
     finds_end g.L.Spots.does c.args.node last tries c.in-Some-load_next.behind c.args.spots.now
     c.load_root.new.self c.load_next.new.self at_last c.in-Some-load_next.ensures c.in_default-name-2.is in
     let exchanged =
-    exchanges_for g.L.Spots.does (Field last 0) null c.to-2.result c.args.node c.exchange_next.result
-    c.load_next.new.self c.exchange_next.new.self c.to-2.ensures c.exchange_next.ensures in
+    exchanges_for g.L.Spots.does (Field last 0) null c.ptr_to-2.result c.args.node c.exchange_next.result
+    c.load_next.new.self c.exchange_next.new.self c.ptr_to-2.ensures c.exchange_next.ensures in
     let told : c.exchange_next.result ≡ true = cc in
     let swings =
     touches_next g.L.Spots.does (LoadingTail c.args.node tries) (Appending c.args.node last tries)
     (Swinging last c.args.node) exchanged.0 c.args.spots.now c.load_next.new.self c.exchange_next.new.self at_end
     exchanged.2 (appends c.args.node last tries exchanged.0 (exchanged.1 ∙ told)) in
     let moved =
-    exchanges_nodes g.L.Spots.does (Root 1) c.to-3.result c.to-4.result last c.args.node c.exchange_root-2.result
-    c.exchange_next.new.self c.exchange_root-2.new.self c.to-3.ensures c.to-4.ensures c.exchange_root-2.ensures in
+    exchanges_nodes g.L.Spots.does (Root 1) c.ptr_to-3.result c.ptr_to-4.result last c.args.node c.exchange_root-2.result
+    c.exchange_next.new.self c.exchange_root-2.new.self c.ptr_to-3.ensures c.ptr_to-4.ensures c.exchange_root-2.ensures in
     touches_next g.L.Spots.does (LoadingTail c.args.node tries) (Swinging last c.args.node) (Answering Pushed) moved.0
     c.args.spots.now c.exchange_next.new.self c.exchange_root-2.new.self swings moved.2 refl
