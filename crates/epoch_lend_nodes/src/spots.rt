@@ -119,10 +119,10 @@ impl<'g, 'c, 'q, 's, J: PostSet, V: LentNode, W> NodeSpots<'g, 'c, 'q, 's, J, V,
         ensures full { IfErr result (λ fault. (fault ≡ CellsFull) × (self.new.nodes.own ≡ Some node)
             × (self.new.nodes.name ≡ self.old.nodes.name) × (self.new.nodes.lent ≡ self.old.nodes.lent)) }
     {
-        match self.guard.place_by_name(node) {
-            Ok(name) => Ok(Some(name)),
-            Err(node) => {
-                self.nodes.own = Some(node);
+        match self.guard.place(node) {
+            Ok(pointer) => Ok(pointer.name()),
+            Err(refused) => {
+                self.nodes.own = Some(refused.value);
                 Err(Fault::CellsFull)
             }
         }

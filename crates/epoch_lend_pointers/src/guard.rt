@@ -5,7 +5,7 @@ ghost use Rattle.epoch_atomic.specs.Pointers.{IsUnder};
 ghost use Rattle.epoch_lend_store.specs.Named.{StandsUnder};
 
 use epoch_atomic::atomic::Shared;
-use epoch_cells::{Fault, Name, Refused};
+use epoch_cells::{Fault, Refused};
 use epoch_handles::Guard;
 use epoch_lend_cells::sight::Sight;
 use epoch_lend_cells::turns::Name as Witness;
@@ -51,7 +51,7 @@ fn search<'q, 's, J: PostSet, T: Drop>(
     let mut kept = value;
     // Free cells that were left together for the next values of handles are left to all, list by list.
     for _ in 0..ROOM_PLACES {
-        match cells.place_for(kept, post) {
+        match cells.place_near(kept, post) {
             Ok(placed) => return Ok(placed),
             Err(refused) => kept = refused.value,
         }
@@ -116,8 +116,10 @@ impl<'c, 'q, 's, J: PostSet, T: Drop, W> LendingGuard<'c, 'q, 's, J, T, W> {
     /// Places the value in a cell, and returns the pointer to it, with tag 0.
     ///
     /// `CellsFull`: every cell was seen in use, or kept by handles for their next values. The value is handed back.
+    #[inline(always)]
     pub fn place<'g>(&'g self, value: T) -> Result<Shared<'g, T>, Refused<T>>
         ensures tag { IfOk result (λ pointer. pointer.tag ≡ 0) }
+        ensures some { IfOk result (λ pointer. IsSome pointer.name) }
         ensures home { IfOk result (λ pointer. IsUnder self.now.guard.collector.now.id pointer.home) }
         ensures full { IfErr result (λ refused. (refused.fault ≡ CellsFull) × (refused.value ≡ value)) }
     {
@@ -129,6 +131,7 @@ impl<'c, 'q, 's, J: PostSet, T: Drop, W> LendingGuard<'c, 'q, 's, J, T, W> {
 
     /// Does what [`LendingGuard::place`] does, and returns a witness, too, that this value was placed under the
     /// pointer's name.
+    #[inline(always)]
     pub fn place_with_witness<'g>(
         &'g self,
         value: T,
@@ -148,18 +151,6 @@ impl<'c, 'q, 's, J: PostSet, T: Drop, W> LendingGuard<'c, 'q, 's, J, T, W> {
                 fault: Fault::CellsFull,
                 value,
             }),
-        }
-    }
-
-    /// Does what [`LendingGuard::place`] does, and returns the value's name. The value is handed back if every cell was
-    /// seen in use.
-    #[inline(always)]
-    pub fn place_by_name(&self, value: T) -> Result<Name, T>
-        ensures handed_back { IfErr result (λ back. back ≡ value) }
-    {
-        match search(self.cells, self.lender, self.pinned.position(), value) {
-            Ok(placed) => Ok(placed.name),
-            Err(value) => Err(value),
         }
     }
 }

@@ -177,18 +177,14 @@ impl<'c, 'q, 's, J: PostSet, T: Drop> LendingHandle<'c, 'q, 's, J, T> {
         let LendingGuard {
             guard,
             pinned,
-            cells,
+            cells: _,
             lender,
         } = guard;
         let mut guard = guard;
         let reader = pinned.unpin();
         self.handle.repin(&mut guard);
-        LendingGuard {
-            guard,
-            pinned: reader.pin(cells.epoch()),
-            cells,
-            lender,
-        }
+        let pinned = reader.pin(lender.cells().epoch());
+        LendingGuard::of(guard, pinned, lender)
     }
 
     /// Pins the participant once more, whether or not a guard that lends is out. Returns a guard of the collector,

@@ -91,37 +91,11 @@ impl<'c, 'q, 's, J: PostSet, T: Drop, W> LendingGuard<'c, 'q, 's, J, T, W> {
         ensures full { IfErr result (λ refused. (refused.fault ≡ CellsFull) × (refused.value ≡ value)) }
     {
         let Some(room) = room else {
-            return self.place_anywhere(value);
+            return self.place(value);
         };
         match self.cells.place_in(room, value) {
             Ok(placed) => Ok(Shared::named(placed.name, &self.guard)),
-            Err(refused) => self.place_anywhere(refused.value),
+            Err(refused) => self.place(refused.value),
         }
-    }
-
-    // Places the value in the first cell that is seen empty, which is searched for.
-    #[cold]
-    #[inline(never)]
-    fn place_anywhere_apart<'g>(&'g self, value: T) -> Result<Shared<'g, T>, Refused<T>>
-        ensures tag { IfOk result (λ pointer. pointer.tag ≡ 0) }
-        ensures some { IfOk result (λ pointer. IsSome pointer.name) }
-        ensures home { IfOk result (λ pointer. IsUnder self.now.guard.collector.now.id pointer.home) }
-        ensures full { IfErr result (λ refused. (refused.fault ≡ CellsFull) × (refused.value ≡ value)) }
-    {
-        match self.place_with_witness(value) {
-            Ok((pointer, _)) => Ok(pointer),
-            Err(refused) => Err(refused),
-        }
-    }
-
-    // The same, with copies of its own of what it passes and of what comes back.
-    #[inline(always)]
-    fn place_anywhere<'g>(&'g self, value: T) -> Result<Shared<'g, T>, Refused<T>>
-        ensures tag { IfOk result (λ pointer. pointer.tag ≡ 0) }
-        ensures some { IfOk result (λ pointer. IsSome pointer.name) }
-        ensures home { IfOk result (λ pointer. IsUnder self.now.guard.collector.now.id pointer.home) }
-        ensures full { IfErr result (λ refused. (refused.fault ≡ CellsFull) × (refused.value ≡ value)) }
-    {
-        self.place_anywhere_apart(value)
     }
 }

@@ -82,21 +82,10 @@ impl<J: PostSet, T: Drop> LentCells<J, T> {
         self.place_from(0, value)
     }
 
-    /// Does what [`LentCells::place`] does, but begins its search near the cell in which this reader placed a value
-    /// last. Readers begin in different parts of the cells.
-    pub fn place_near(&self, value: T, pinned: &Pinned<'_, J>) -> Result<Placed<T>, Refused<T>>
-        ensures placed { IfOk result (λ placed. placed.witness.value ≡ value) }
-        ensures named { IfOk result
-            (λ placed. StandsUnder (map (λ s. s.turns.log) self.now.cells.slots.items) placed.name placed.witness.log
-            placed.witness.turn) }
-        ensures full { IfErr result (λ refused. (refused.fault ≡ CellsFull) × (refused.value ≡ value)) }
-    {
-        self.place_for(value, pinned.position())
-    }
-
-    /// Does what [`LentCells::place_near`] does, for the reader at the post in this place. If there is no such post, it
-    /// begins at the first cell.
-    pub fn place_for(&self, value: T, post: usize) -> Result<Placed<T>, Refused<T>>
+    /// Does what [`LentCells::place`] does, but begins its search near the cell in which the reader at this post placed
+    /// a value last: [`Pinned::position`] says which post a reader has. Readers begin in different parts of the cells.
+    /// If there is no such post, it begins at the first cell.
+    pub fn place_near(&self, value: T, post: usize) -> Result<Placed<T>, Refused<T>>
         ensures placed { IfOk result (λ placed. placed.witness.value ≡ value) }
         ensures named { IfOk result
             (λ placed. StandsUnder (map (λ s. s.turns.log) self.now.cells.slots.items) placed.name placed.witness.log

@@ -10,9 +10,9 @@ use std::alloc::{AllocError, Global};
 /// How many values are retired by one job.
 pub const RETIRED_TOGETHER: usize = 64;
 
-/// What [`Retired`] has in a box.
+// What `Retired` has in a box.
 #[derive(Drop)]
-pub struct Lists<'s, J: PostSet, T> {
+struct Lists<'s, J: PostSet, T> {
     spots: Vec<Spot>,
     // Room for the removals, taken beforehand: so no value is kept back because a job's call was refused memory.
     bag: Bag<'s, J, T>,
