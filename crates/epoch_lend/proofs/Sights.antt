@@ -193,3 +193,8 @@ all_are_shown seal ηs ss (l ∷ ls) within sealed past =
     let parts = and_parts (is_among l.log ηs) (are_within ηs ls) within in
     and_from (is_shown ss l) (are_shown ss ls) (one_is_shown seal ηs ss l parts.0 sealed past)
     (all_are_shown seal ηs ss ls parts.1 sealed past)
+
+-- where each post was seen unpinned, none was seen with a pin of an epoch before the first
+pub past_if_unpinned : (ηs : List ℕ) (ss : List SeenPost) → EachSeen (is_sealed 0) ηs ss → EachSeen (is_past 0) ηs ss
+past_if_unpinned ηs ss = each_also (is_sealed 0) (is_past 0) ηs ss
+    (λ n _. past_test 0 n (λ _. omega (arith)))

@@ -89,6 +89,25 @@ impl Watch {
         }
         (clear, watch)
     }
+
+    /// Looks at each post once, up to the first one that is pinned. Returns whether none is: then each guard that had a
+    /// loan is over.
+    #[inline(always)]
+    pub fn unpinned(self, posts: &[Post]) -> (bool, Watch)
+        requires lent { Within (logs_of posts.now) self.loans }
+        ensures clear { result.0 ≡ true → AreShown result.1.seen result.1.loans }
+        ensures same { result.1.loans ≡ self.loans }
+    {
+        let mut watch = self;
+        for position in 0..posts.len() {
+            let (word, told) = posts[position].look_for(watch);
+            watch = told;
+            if word != 0 {
+                return (false, watch);
+            }
+        }
+        (true, watch)
+    }
 }
 
 unsafe impl Send for Watch {}

@@ -4,6 +4,7 @@ ghost use Rattle.std.specs.List.{slice_get};
 ghost use Rattle.epoch_lend_cells.specs.declared.cell.TheConstants.{GREATEST_TURN};
 
 use crate::slot::{Removal, Slot};
+use epoch_lend::watch::Watch;
 use epoch_lend_cells::cell::GREATEST_TURN;
 use epoch_lend_cells::sight::Sight;
 use epoch_lend_cells::turns::Name;
@@ -126,6 +127,13 @@ impl<J: PostSet, T> LendingCells<J, T> {
             }
             _ => None,
         }
+    }
+
+    /// Returns whether no reader was seen pinned at these posts. Another thread may pin at once.
+    #[inline(always)]
+    pub fn are_unpinned(&self, posts: &Posts<J>) -> bool {
+        let (are_unpinned, _) = Watch::new().unpinned(posts.as_slice());
+        are_unpinned
     }
 
     /// Marks the value at this spot, so that no look finds it from then on. Of all callers that mark it, only one gets

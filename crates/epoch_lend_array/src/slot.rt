@@ -203,6 +203,22 @@ impl<'c, J: PostSet, T> Removal<'c, J, T> {
         }
     }
 
+    /// Looks at each post once. If no reader is pinned, each guard that the value was lent to is over, and it comes
+    /// back. Otherwise the removal does.
+    pub fn take_back(self, posts: &Posts<J>) -> Result<Returned<'c, J, T>, Removal<'c, J, T>>
+        ensures back { IfOk result (λ back. back.name ≡ self.entry.name) }
+        ensures again { IfErr result (λ removal. removal.name ≡ self.entry.name) }
+    {
+        let mut watch = Watch::new();
+        let removal = self.watched(&mut watch);
+        let (is_clear, watch) = watch.unpinned(posts.as_slice());
+        if !is_clear {
+            return Err(removal);
+        }
+        let mut watch = watch;
+        Ok(removal.take(&mut watch))
+    }
+
     /// Takes the value out of its slot. The watch must have seen that each guard with a loan is over.
     pub(crate) fn take(self, watch: &mut Watch) -> Returned<'c, J, T>
         requires watched { AreWatched self.marked.loans watch.old.loans }

@@ -5,7 +5,7 @@
 //! `NAME THREADS TURNS ROUNDS` prints the least and the middle time of this many rounds of a row of the comparison with
 //! crossbeam-epoch, in nanoseconds a turn, and how many turns of the last round did what they should. `replacing
 //! THREADS TURNS` has this many threads read, replace and retire values, and prints how many values were placed,
-//! dropped, read, and read torn.
+//! dropped, read, and read torn, and how many cells were free in the end.
 #![tactic(auto)]
 
 mod changes;
@@ -63,11 +63,14 @@ fn short<R: Clock + Print + Threads + Wait + Sync>(rt: &R, alloc: Global) -> io:
     println!(rt; "look-ups found the key {looked} times of 1000")?;
     let pinned = pointers::time(rt, alloc, Row::Pin, size, &mut [0])?;
     println!(rt; "{pinned} pins of 1000 were made")?;
+    let back = pointers::time(rt, alloc, Row::Own, size, &mut [0])?;
+    println!(rt; "{back} values of 1000 were taken back")?;
     let told = replacing::run(rt, alloc, 2, 100)?;
     println!(rt;
-        "{} values were torn, and {} weren't dropped",
+        "{} values were torn, {} weren't dropped, and {} cells weren't free",
         told.torn,
-        told.placed.wrapping_sub(told.dropped)
+        told.placed.wrapping_sub(told.dropped),
+        u64::from(replacing::CELLS).wrapping_sub(told.free)
     )?;
     changed(rt, alloc, size)
 }
@@ -95,8 +98,13 @@ fn replace_values<R: Print + Threads + Wait + Sync>(
 ) -> io::Result<()> {
     let told = replacing::run(rt, alloc, size.threads, size.turns)?;
     println!(rt;
-        "placed {}, dropped {}, read {}, torn {}",
-        told.placed, told.dropped, told.reads, told.torn
+        "placed {}, dropped {}, read {}, torn {}, cells free in the end {} of {}",
+        told.placed,
+        told.dropped,
+        told.reads,
+        told.torn,
+        told.free,
+        replacing::CELLS
     )
 }
 

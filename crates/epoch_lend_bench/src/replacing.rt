@@ -11,7 +11,7 @@ use epoch_handles::{Capacities, Collector};
 use epoch_lend_pointers::handle::{GuardOf, LendingHandle};
 use epoch_lend_pointers::marking::{Marking, collector_of};
 use epoch_lend_readers::posts::{Made, PostSet, Posts};
-use epoch_lend_store::lender::Lender;
+use epoch_lend_store::lender::{Lender, ROOM_PLACES};
 use epoch_lend_store::lent_cells::LentCells;
 use std::alloc::{AllocError, Global};
 use std::marker::Brand;
@@ -22,7 +22,7 @@ use std::thread::Threads;
 use std::{io, thread};
 
 /// Cells of the lender, places for bags of its collector, and pointers that the threads share.
-const CELLS: u32 = 4_096;
+pub const CELLS: u32 = 4_096;
 
 const PLACES: u32 = 64;
 
@@ -108,6 +108,7 @@ struct Shelf {
     reads: AtomicU64,
     // Values that were read and aren't as they were made.
     torn: AtomicU64,
+    free: AtomicU64,
 }
 
 impl Shelf {
@@ -123,6 +124,7 @@ impl Shelf {
             placed: AtomicU64::new(0),
             reads: AtomicU64::new(0),
             torn: AtomicU64::new(0),
+            free: AtomicU64::new(0),
         })
     }
 
@@ -139,6 +141,8 @@ pub struct Told {
     pub dropped: u64,
     pub reads: u64,
     pub torn: u64,
+    /// Cells that were free in the end, of [`CELLS`].
+    pub free: u64,
 }
 
 /// Reads a value twice, while others replace it.
@@ -165,26 +169,36 @@ fn read_some<J: PostSet>(shelf: &Shelf, guard: &GuardOf<'_, '_, '_, J, Block>, t
     }
 }
 
-/// Places a new value. `None`: there is no memory, or no free cell.
-fn place<'g, J: PostSet>(
-    shelf: &Shelf,
-    guard: &'g GuardOf<'_, '_, '_, J, Block>,
-) -> Option<Shared<'g, Block>> {
+/// Makes a new value, and counts it. `None`: there is no memory.
+fn made(shelf: &Shelf) -> Option<Block> {
     let number = shelf.placed.fetch_add(1, SeqCst);
     let block = Block::new(shelf.alloc, number, &shelf.dropped);
-    let Ok(block) = block else {
+    if block.is_err() {
         shelf.placed.fetch_sub(1, SeqCst);
+    }
+    block.ok()
+}
+
+/// Places a new value. `None`: there is no memory, or no free cell.
+fn place<'c, 'g, 'q, 's, J: PostSet>(
+    shelf: &Shelf,
+    handle: &mut LendingHandle<'c, 'q, 's, J, Block>,
+    guard: &'g GuardOf<'c, 'q, 's, J, Block>,
+) -> Option<Shared<'g, Block>>
+    ensures participant { handle.new.handle ≡ handle.old.handle }
+{
+    let Some(block) = made(shelf) else {
         return None;
     };
     // (a value that is handed back is dropped here, and counted)
-    guard.place(block).ok()
+    handle.place(guard, block).ok()
 }
 
 /// Puts a new value behind a pointer, and retires the one before.
-fn replace<'q, 's, J: PostSet>(
+fn replace<'c, 'q, 's, J: PostSet>(
     shelf: &Shelf,
-    handle: &mut LendingHandle<'_, 'q, 's, J, Block>,
-    guard: &GuardOf<'_, 'q, 's, J, Block>,
+    handle: &mut LendingHandle<'c, 'q, 's, J, Block>,
+    guard: &GuardOf<'c, 'q, 's, J, Block>,
     turn: usize,
 )
     requires { Owns handle.old.handle guard.now.guard }
@@ -198,7 +212,7 @@ fn replace<'q, 's, J: PostSet>(
     let Some(pointer) = shelf.pointer(turn) else {
         return;
     };
-    let Some(placed) = place(shelf, guard) else {
+    let Some(placed) = place(shelf, handle, guard) else {
         let _ = handle.flush(guard);
         return;
     };
@@ -262,6 +276,25 @@ fn on_threads<'q, 's, R: Threads + Wait + Sync, J: PostSet + Send + Sync>(
     });
 }
 
+// Has all cells filled, and counts how many took a value. No handle may be left, and the collector must have ended.
+fn fill<'s, J: PostSet>(shelf: &Shelf, cells: &LentCells<J, Block>, lender: &Lender<'s, J, Block>) {
+    for _ in 0..CELLS {
+        lender.try_some();
+    }
+    for _ in 0..ROOM_PLACES {
+        if let Some(rooms) = lender.take_rooms() {
+            rooms.release();
+        }
+    }
+    for _ in 0..CELLS {
+        if let Some(block) = made(shelf) {
+            if cells.place(block).is_ok() {
+                shelf.free.fetch_add(1, SeqCst);
+            }
+        }
+    }
+}
+
 fn over<R: Threads + Wait + Sync, J: PostSet + Send + Sync>(
     rt: &R,
     shelf: &Shelf,
@@ -294,6 +327,7 @@ fn over<R: Threads + Wait + Sync, J: PostSet + Send + Sync>(
         idle.leave(rt);
     }
     let _ = collector.end();
+    fill(shelf, &cells, &lender);
     let _ = lender.end(shelf.alloc);
     Ok(())
 }
@@ -313,5 +347,6 @@ pub fn run<R: Threads + Wait + Sync>(
         dropped: shelf.dropped.load(SeqCst),
         reads: shelf.reads.load(SeqCst),
         torn: shelf.torn.load(SeqCst),
+        free: shelf.free.load(SeqCst),
     })
 }

@@ -37,7 +37,7 @@ impl<'c, 'q, 's, J: PostSet, T, W> fmt::Debug for LendingGuard<'c, 'q, 's, J, T,
 // for its sake.
 #[cold]
 #[inline(never)]
-fn search<'q, 's, J: PostSet, T: Drop>(
+pub(crate) fn search<'q, 's, J: PostSet, T: Drop>(
     cells: &'s LentCells<J, T>,
     lender: &'q Lender<'s, J, T>,
     post: usize,

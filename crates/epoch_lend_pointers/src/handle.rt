@@ -7,6 +7,7 @@ use crate::guard::LendingGuard;
 use crate::marking::Marking;
 use epoch_cells::Fault;
 use epoch_handles::{Collector, Guard, LocalHandle};
+use epoch_lend_array::bag::Bag;
 use epoch_lend_readers::posts::PostSet;
 use epoch_lend_readers::reader::Reader;
 use epoch_lend_store::lender::Lender;
@@ -24,6 +25,8 @@ pub struct LendingHandle<'c, 'q, 's, J: PostSet, T> {
     pub(crate) kept: Retired<'q, 's, J, T>,
     // Free cells, for the next values.
     pub(crate) rooms: Rooms<'s, J, T>,
+    // A bag for a value that is taken back alone, and has to wait.
+    pub(crate) spare: Option<Bag<'s, J, T>>,
     pub(crate) alloc: Global,
 }
 
@@ -127,6 +130,7 @@ impl<'c, 'q, 's, J: PostSet, T: Drop> LendingHandle<'c, 'q, 's, J, T> {
                 reader: Some(reader),
                 kept,
                 rooms: Rooms::none(alloc),
+                spare: None,
                 alloc,
             }),
             Err(fault) => Err(fault),

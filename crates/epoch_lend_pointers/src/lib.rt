@@ -6,3 +6,4 @@ pub mod handle;
 pub mod marking;
 pub mod placing;
 pub mod retiring;
+pub mod taking;

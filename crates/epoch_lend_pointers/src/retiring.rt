@@ -215,6 +215,7 @@ impl<'c, 'q, 's, J: PostSet, T: Drop> LendingHandle<'c, 'q, 's, J, T> {
             reader,
             kept,
             rooms,
+            spare,
             alloc,
         } = staying;
         rooms.release();
@@ -226,6 +227,7 @@ impl<'c, 'q, 's, J: PostSet, T: Drop> LendingHandle<'c, 'q, 's, J, T> {
                     reader,
                     kept,
                     rooms: Rooms::none(alloc),
+                    spare,
                     alloc,
                 };
                 Err((staying, fault))

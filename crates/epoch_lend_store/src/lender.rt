@@ -1,13 +1,16 @@
 //! The lender: where bags of marked values wait until no guard may have one of them.
-ghost use Rattle.std.specs.Prelude.{◌≡◌, ◌≤◌, ◌<◌, ◌+◌, length, IfOk, IsOkUnless, vec_len};
-ghost use Rattle.epoch_cells.specs.declared.fault.Fault.TheVariants.{NoMemory};
+ghost use Rattle.std.specs.Prelude.{◌≡◌, ◌⊎◌, ◌≤◌, ◌<◌, ◌+◌, length, map, Some, IfOk, IfErr, IsOkUnless, vec_len};
+ghost use Rattle.std.specs.List.{slice_get};
+ghost use Rattle.epoch_cells.specs.declared.fault.Fault.TheVariants.{NoMemory, GuardsOut, StrangerPointer};
 
 use crate::lent_cells::LentCells;
 use crate::rooms::Rooms;
 use crate::shelf::Shelf;
 use epoch_cells::Fault;
 use epoch_lend_array::bag::{Bag, ClearBag, SealedBag};
-use epoch_lend_array::slot::Returned;
+use epoch_lend_array::cells::Spot;
+use epoch_lend_array::room::Room;
+use epoch_lend_array::slot::{Removal, Returned};
 use epoch_lend_readers::posts::PostSet;
 use std::alloc::{AllocError, Global};
 use std::mem;
@@ -195,6 +198,66 @@ impl<'s, J: PostSet, T: Drop> Lender<'s, J, T> {
         self.cells.advance();
         self.settle(home, bag);
         self.try_some();
+    }
+
+    /// Takes the value at this spot back at once, if no reader is pinned, with the room that it leaves. `spare` is a bag
+    /// with room for one removal, or becomes one.
+    ///
+    /// `GuardsOut`: a reader was seen pinned, so a guard may have the value. Nothing is done; or else a reader pinned
+    /// while the value was marked, and it is dropped as soon as no guard may have it. `NoMemory`: an allocation was
+    /// refused, and nothing is done. `StrangerPointer`: the cell has no value of this turn.
+    #[inline(always)]
+    pub fn take_back(
+        &self,
+        spot: Spot,
+        spare: &mut Option<Bag<'s, J, T>>,
+    ) -> Result<Returned<'s, J, T>, Fault>
+        ensures slot { IfOk result (λ back. slice_get (map (λ s. s.turns.log) self.now.cells.now.cells.slots.items)
+            spot.slot ≡ Some back.name.log) }
+        ensures turn { IfOk result (λ back. back.name.turn ≡ spot.turn) }
+        ensures refused { IfErr result (λ fault. (fault ≡ GuardsOut) ⊎ (fault ≡ NoMemory)
+            ⊎ (fault ≡ StrangerPointer)) }
+    {
+        if !self.cells.cells.are_unpinned(&self.cells.posts) {
+            return Err(Fault::GuardsOut);
+        }
+        if spare.is_none() {
+            match Bag::with_capacity(self.alloc, 1) {
+                Ok(bag) => *spare = Some(bag),
+                Err(_) => return Err(Fault::NoMemory),
+            }
+        }
+        let Some(removal) = self.cells.cells.mark(spot) else {
+            return Err(Fault::StrangerPointer);
+        };
+        match removal.take_back(&self.cells.posts) {
+            Ok(returned) => Ok(returned),
+            Err(removal) => {
+                self.let_wait(spot.slot, removal, spare.take());
+                Err(Fault::GuardsOut)
+            }
+        }
+    }
+
+    // Lets a value wait in this bag until no guard may have it.
+    #[cold]
+    #[inline(never)]
+    fn let_wait(&self, home: usize, removal: Removal<'s, J, T>, bag: Option<Bag<'s, J, T>>) {
+        if let Some(bag) = bag {
+            let mut alone = bag;
+            let _ = alone.push(removal);
+            self.take(home, alone.seal(&self.cells.posts));
+        }
+    }
+
+    /// Keeps the room for its owner's next value, or leaves it to all callers if the owner has as many as it may have.
+    #[inline(always)]
+    pub fn keep_room(&self, rooms: &mut Rooms<'s, J, T>, room: Room<'s, J, T>) {
+        if rooms.len() < self.together {
+            rooms.keep(room);
+        } else {
+            room.release();
+        }
     }
 
     /// Tries some of the bags that wait: the values of those that are clear are dropped.

@@ -36,6 +36,7 @@ impl<'s, J: PostSet, T> Rooms<'s, J, T> {
     }
 
     // Adds a room, or leaves its cell to all callers if there is no memory for it.
+    #[inline(always)]
     pub(crate) fn keep(&mut self, room: Room<'s, J, T>) {
         if let Err(failed) = self.list.push(room) {
             failed.value.release();
