@@ -19,8 +19,9 @@ DEBIAN = "/usr/share/cargo/registry"
 BUILT = "out/beside"
 ROUNDS = 12
 # The rows that epoch_lend_bench makes. epoch_beside makes the others.
-LENDING = ("load_get_one_cell", "list_100_contains", "map_100_contains", "pin_unpin_lending", "replace_swap_lending",
-           "replace_swap_64_a_guard_flush_lending", "treiber_push_pop_lending", "queue_push_pop_lending")
+LENDING = ("load_get_one_cell", "list_100_contains", "map_100_contains", "pin_unpin_lending", "owned_atomic_owned_lending",
+           "replace_swap_lending", "replace_swap_64_a_guard_flush_lending", "treiber_push_pop_lending",
+           "queue_push_pop_lending")
 HOW = f"""crossbeam-epoch isn't in {DEBIAN}. On Debian or Ubuntu it is installed by
     apt-get update && apt-get install librust-crossbeam-epoch-dev
 Elsewhere, name a checkout of https://github.com/crossbeam-rs/crossbeam by ORIGINAL=FOLDER."""

@@ -73,6 +73,7 @@ fn rows() -> Vec<Row> {
         row("pin_unpin_lending", &[1, 4], 64_000, pins),
         row("cas_shared_success", one, 128_000, exchanges),
         row("owned_atomic_owned", one, 25_600, places),
+        row("owned_atomic_owned_lending", one, 25_600, places),
         row("replace_swap", several, 12_800, replaces),
         row("replace_cas", several, 12_800, replaces_cas),
         row("replace_store", one, 12_800, replaces_store),

@@ -7,7 +7,7 @@ use crate::pointers::{Size, posts_for};
 use crate::span::Span;
 use epoch_atomic::atomic::Atomic;
 use epoch_cells::Fault;
-use epoch_handles::{Capacities, Collector};
+use epoch_handles::{Capacities, Collector, Guard, unprotected};
 use epoch_lend_nodes::Node;
 use epoch_lend_pointers::handle::{GuardOf, LendingHandle};
 use epoch_lend_pointers::marking::{Marking, collector_of};
@@ -48,6 +48,8 @@ pub enum Change {
     Stack,
     /// The same with a queue.
     Queue,
+    /// Puts a value behind a new pointer and takes it back, while no reader is pinned.
+    Own,
 }
 
 /// The change of this name.
@@ -57,6 +59,7 @@ pub fn change_of(name: &str) -> Option<Change> {
         "replace_swap_64_a_guard_flush_lending" => Some(Change::ReplaceTogether),
         "treiber_push_pop_lending" => Some(Change::Stack),
         "queue_push_pop_lending" => Some(Change::Queue),
+        "owned_atomic_owned_lending" => Some(Change::Own),
         _ => None,
     }
 }
@@ -69,10 +72,10 @@ enum Thing<'w, 'c, J: PostSet> {
     Queue(&'w LendingQueue<'c, J, Link>),
 }
 
-/// How often it is changed, on how many threads, and whether 64 values are replaced under one guard.
+/// How it is changed, how often, and on how many threads.
 #[derive(Clone, Copy)]
-struct Work {
-    is_together: bool,
+struct Task {
+    change: Change,
     size: Size,
 }
 
@@ -101,6 +104,23 @@ fn replace<'c, 'q, 's, J: PostSet>(
         }
     }
     done
+}
+
+// Puts a value behind a new pointer, and takes it back. Returns 1 if it came back.
+#[inline(always)]
+fn take_back<'q, 's, J: PostSet>(
+    handle: &mut LendingHandle<'_, 'q, 's, J, Link>,
+    guard: &Guard<'_, Link, Marking<'q, 's, J, Link>>,
+    value: u64,
+) -> u64
+    ensures participant { handle.new.handle ≡ handle.old.handle }
+    ensures reader { handle.new.reader ≡ handle.old.reader }
+{
+    let Ok(placed) = handle.place_under(guard, Node::new(value)) else {
+        return 0;
+    };
+    let pointer = Atomic::<Link>::from(placed);
+    handle.take_back(pointer.load(SeqCst, guard)).is_ok() as u64
 }
 
 // 1 if the pop found a node.
@@ -186,11 +206,33 @@ impl<'c, 'q, 's, J: PostSet> Idle<'c, 'q, 's, J, Link> {
         found
     }
 
-    fn changes(&mut self, thing: &Thing<'_, '_, J>, work: Work) -> u64 {
-        let turns = work.size.turns;
+    // No value is behind the pointer of another turn.
+    #[inline(never)]
+    fn owns(&mut self, collector: &Collector<Link, Marking<'q, 's, J, Link>>, turns: u64) -> u64 {
+        let guard = unprotected(collector);
+        let mut done: u64 = 0;
+        for turn in 0..turns {
+            done = done.wrapping_add(take_back(&mut self.handle, &guard, turn));
+        }
+        if let Err(_guard) = guard.let_go() {
+            unreachable!();
+        }
+        done
+    }
+
+    fn changes(
+        &mut self,
+        collector: &Collector<Link, Marking<'q, 's, J, Link>>,
+        thing: &Thing<'_, '_, J>,
+        task: Task,
+    ) -> u64 {
+        let turns = task.size.turns;
         match thing {
-            Thing::Pointer(pointer) if work.is_together => self.replaces_together(pointer, turns),
-            Thing::Pointer(pointer) => self.replaces(pointer, turns),
+            Thing::Pointer(pointer) => match task.change {
+                Change::Own => self.owns(collector, turns),
+                Change::ReplaceTogether => self.replaces_together(pointer, turns),
+                _ => self.replaces(pointer, turns),
+            },
             Thing::Stack(stack) => self.pushes(stack, turns),
             Thing::Queue(queue) => self.enqueues(queue, turns),
         }
@@ -204,14 +246,14 @@ fn take_part<'q, 's, R: Clock + Wait, J: PostSet>(
     lender: &'q Lender<'s, J, Link>,
     collector: &Collector<Link, Marking<'q, 's, J, Link>>,
     thing: &Thing<'_, '_, J>,
-    work: Work,
+    task: Task,
     span: &Span,
 ) {
-    let threads = work.size.threads;
+    let threads = task.size.threads;
     let mut idle = Idle::register(alloc, collector, lender);
     let start = span.begin(rt, threads);
     let done = match &mut idle {
-        Some(idle) => idle.changes(thing, work),
+        Some(idle) => idle.changes(collector, thing, task),
         None => 0,
     };
     span.end(rt, threads, start, done);
@@ -226,14 +268,14 @@ fn replace_on_threads<'q, 's, R: Clock + Threads + Wait + Sync, J: PostSet + Sen
     lender: &'q Lender<'s, J, Link>,
     collector: &Collector<Link, Marking<'q, 's, J, Link>>,
     pointer: &Atomic<Link>,
-    work: Work,
+    task: Task,
     span: &Span,
 ) {
     thread::scope(thread::scope_env(), rt, move |scope| {
-        for _ in 0..work.size.threads {
+        for _ in 0..task.size.threads {
             let made = scope.spawn(move || {
                 let thing = Thing::Pointer(pointer);
-                take_part(rt, alloc, lender, collector, &thing, work, span);
+                take_part(rt, alloc, lender, collector, &thing, task, span);
             });
             if made.is_err() {
                 span.miss();
@@ -248,14 +290,14 @@ fn push_on_threads<'q, 's, R: Clock + Threads + Wait + Sync, J: PostSet + Send +
     lender: &'q Lender<'s, J, Link>,
     collector: &Collector<Link, Marking<'q, 's, J, Link>>,
     stack: &LendingStack<'_, J, Link>,
-    work: Work,
+    task: Task,
     span: &Span,
 ) {
     thread::scope(thread::scope_env(), rt, move |scope| {
-        for _ in 0..work.size.threads {
+        for _ in 0..task.size.threads {
             let made = scope.spawn(move || {
                 let thing = Thing::Stack(stack);
-                take_part(rt, alloc, lender, collector, &thing, work, span);
+                take_part(rt, alloc, lender, collector, &thing, task, span);
             });
             if made.is_err() {
                 span.miss();
@@ -270,14 +312,14 @@ fn enqueue_on_threads<'q, 's, R: Clock + Threads + Wait + Sync, J: PostSet + Sen
     lender: &'q Lender<'s, J, Link>,
     collector: &Collector<Link, Marking<'q, 's, J, Link>>,
     queue: &LendingQueue<'_, J, Link>,
-    work: Work,
+    task: Task,
     span: &Span,
 ) {
     thread::scope(thread::scope_env(), rt, move |scope| {
-        for _ in 0..work.size.threads {
+        for _ in 0..task.size.threads {
             let made = scope.spawn(move || {
                 let thing = Thing::Queue(queue);
-                take_part(rt, alloc, lender, collector, &thing, work, span);
+                take_part(rt, alloc, lender, collector, &thing, task, span);
             });
             if made.is_err() {
                 span.miss();
@@ -293,27 +335,27 @@ fn all_rounds<'q, 's, R: Clock + Threads + Wait + Sync, J: PostSet + Send + Sync
     lender: &'q Lender<'s, J, Link>,
     collector: &Collector<Link, Marking<'q, 's, J, Link>>,
     thing: &Thing<'_, '_, J>,
-    work: Work,
+    task: Task,
     times: &mut [u64],
 ) -> u64 {
     let mut done = 0;
     for time in times {
         let span = Span::new();
         match thing {
-            _ if work.size.threads == 1 => {
-                take_part(rt, alloc, lender, collector, thing, work, &span);
+            _ if task.size.threads == 1 => {
+                take_part(rt, alloc, lender, collector, thing, task, &span);
             }
             Thing::Pointer(pointer) => {
-                replace_on_threads(rt, alloc, lender, collector, pointer, work, &span);
+                replace_on_threads(rt, alloc, lender, collector, pointer, task, &span);
             }
             Thing::Stack(stack) => {
-                push_on_threads(rt, alloc, lender, collector, stack, work, &span);
+                push_on_threads(rt, alloc, lender, collector, stack, task, &span);
             }
             Thing::Queue(queue) => {
-                enqueue_on_threads(rt, alloc, lender, collector, queue, work, &span);
+                enqueue_on_threads(rt, alloc, lender, collector, queue, task, &span);
             }
         }
-        *time = span.each(work.size.turns);
+        *time = span.each(task.size.turns);
         done = span.done();
     }
     done
@@ -348,25 +390,22 @@ where
     R: Clock + Threads + Wait + Sync,
     J: PostSet + Send + Sync,
 {
-    let work = Work {
-        is_together: change == Change::ReplaceTogether,
-        size,
-    };
+    let task = Task { change, size };
     match change {
-        Change::Replace | Change::ReplaceTogether => {
+        Change::Replace | Change::ReplaceTogether | Change::Own => {
             let pointer = Atomic::null();
             let thing = Thing::Pointer(&pointer);
-            all_rounds(rt, alloc, lender, collector, &thing, work, times)
+            all_rounds(rt, alloc, lender, collector, &thing, task, times)
         }
         Change::Stack => {
             let stack = LendingStack::new(collector);
             let thing = Thing::Stack(&stack);
-            all_rounds(rt, alloc, lender, collector, &thing, work, times)
+            all_rounds(rt, alloc, lender, collector, &thing, task, times)
         }
         Change::Queue => match queue_of(rt, alloc, lender, collector) {
             Some(queue) => {
                 let thing = Thing::Queue(&queue);
-                all_rounds(rt, alloc, lender, collector, &thing, work, times)
+                all_rounds(rt, alloc, lender, collector, &thing, task, times)
             }
             None => 0,
         },

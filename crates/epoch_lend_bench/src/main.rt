@@ -63,8 +63,6 @@ fn short<R: Clock + Print + Threads + Wait + Sync>(rt: &R, alloc: Global) -> io:
     println!(rt; "look-ups found the key {looked} times of 1000")?;
     let pinned = pointers::time(rt, alloc, Row::Pin, size, &mut [0])?;
     println!(rt; "{pinned} pins of 1000 were made")?;
-    let back = pointers::time(rt, alloc, Row::Own, size, &mut [0])?;
-    println!(rt; "{back} values of 1000 were taken back")?;
     let told = replacing::run(rt, alloc, 2, 100)?;
     println!(rt;
         "{} values were torn, {} weren't dropped, and {} cells weren't free",
@@ -88,7 +86,9 @@ fn changed<R: Clock + Print + Threads + Wait + Sync>(
     let popped = changes::time(rt, alloc, Change::Stack, size, &mut [0])?;
     println!(rt; "{popped} of 1000 were popped from a stack")?;
     let dequeued = changes::time(rt, alloc, Change::Queue, size, &mut [0])?;
-    println!(rt; "{dequeued} of 1000 were popped from a queue")
+    println!(rt; "{dequeued} of 1000 were popped from a queue")?;
+    let back = changes::time(rt, alloc, Change::Own, size, &mut [0])?;
+    println!(rt; "{back} of 1000 were taken back")
 }
 
 fn replace_values<R: Print + Threads + Wait + Sync>(

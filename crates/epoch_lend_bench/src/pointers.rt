@@ -4,9 +4,9 @@ ghost use Rattle.std.specs.Prelude.{◌≡◌};
 use crate::idle::Idle;
 use crate::span::Span;
 use epoch_atomic::atomic::Atomic;
-use epoch_handles::{Capacities, Collector, Guard, unprotected};
+use epoch_handles::{Capacities, Collector};
 use epoch_lend_examples::sorted_list::{Entry, SortedList};
-use epoch_lend_pointers::handle::{GuardOf, LendingHandle};
+use epoch_lend_pointers::handle::GuardOf;
 use epoch_lend_pointers::marking::{Marking, collector_of};
 use epoch_lend_readers::posts::{Made, PostSet, Posts};
 use epoch_lend_store::lender::Lender;
@@ -39,8 +39,6 @@ pub enum Row {
     Get,
     /// A walk to the last of 100 keys.
     Contains,
-    /// A value that is put behind a new pointer and taken back.
-    Own,
 }
 
 /// The row of this name.
@@ -49,7 +47,6 @@ pub fn row_of(name: &str) -> Option<Row> {
         "pin_unpin_lending" => Some(Row::Pin),
         "load_get_one_cell" => Some(Row::Get),
         "list_100_contains" => Some(Row::Contains),
-        "owned_atomic_owned_lending" => Some(Row::Own),
         _ => None,
     }
 }
@@ -68,16 +65,6 @@ trait Work<T>: Sync {
 
     /// Does this many turns, and returns how many did what they should.
     fn turns<J: PostSet>(&self, guard: &GuardOf<'_, '_, '_, J, T>, turns: u64) -> u64;
-
-    /// Puts a value behind a new pointer and takes it back, this many times. Returns how many came back.
-    fn owns<'q, 's, J: PostSet>(
-        &self,
-        handle: &mut LendingHandle<'_, 'q, 's, J, T>,
-        guard: &Guard<'_, T, Marking<'q, 's, J, T>>,
-        turns: u64,
-    ) -> u64
-        ensures participant { handle.new.handle ≡ handle.old.handle }
-        ensures reader { handle.new.reader ≡ handle.old.reader };
 }
 
 /// One value behind a pointer.
@@ -105,28 +92,6 @@ impl Work<u64> for One {
         }
         sum / VALUE
     }
-
-    fn owns<'q, 's, J: PostSet>(
-        &self,
-        handle: &mut LendingHandle<'_, 'q, 's, J, u64>,
-        guard: &Guard<'_, u64, Marking<'q, 's, J, u64>>,
-        turns: u64,
-    ) -> u64
-        ensures participant { handle.new.handle ≡ handle.old.handle }
-        ensures reader { handle.new.reader ≡ handle.old.reader }
-    {
-        let mut sum: u64 = 0;
-        for _ in 0..turns {
-            let Ok(placed) = handle.place_under(guard, self.value) else {
-                continue;
-            };
-            let pointer = Atomic::<u64>::from(placed);
-            if let Ok(value) = handle.take_back(pointer.load(SeqCst, guard)) {
-                sum = sum.wrapping_add(value);
-            }
-        }
-        sum / VALUE
-    }
 }
 
 impl Work<Entry> for SortedList {
@@ -145,19 +110,6 @@ impl Work<Entry> for SortedList {
         }
         done
     }
-
-    // No row has entries taken back.
-    fn owns<'q, 's, J: PostSet>(
-        &self,
-        _handle: &mut LendingHandle<'_, 'q, 's, J, Entry>,
-        _guard: &Guard<'_, Entry, Marking<'q, 's, J, Entry>>,
-        _turns: u64,
-    ) -> u64
-        ensures participant { _handle.new.handle ≡ _handle.old.handle }
-        ensures reader { _handle.new.reader ≡ _handle.old.reader }
-    {
-        0
-    }
 }
 
 /// What the threads of a round share.
@@ -174,17 +126,9 @@ struct Scene<'c, 'q, 's, 'w, J: PostSet, T, S> {
 impl<'c, 'q, 's, J: PostSet, T: Drop> Idle<'c, 'q, 's, J, T> {
     /// Does the turns of one thread. It isn't inlined, so that code around it doesn't move its loops.
     #[inline(never)]
-    fn part_of<S: Work<T>>(&mut self, scene: &Scene<'c, 'q, 's, '_, J, T, S>) -> u64 {
+    fn part_of<S: Work<T>>(&mut self, scene: &Scene<'_, '_, '_, '_, J, T, S>) -> u64 {
         if scene.row == Row::Pin {
             return self.pins(scene.size.turns);
-        }
-        if scene.row == Row::Own {
-            let guard = unprotected(scene.collector);
-            let done = scene.work.owns(&mut self.handle, &guard, scene.size.turns);
-            if let Err(_guard) = guard.let_go() {
-                unreachable!();
-            }
-            return done;
         }
         let guard = self.handle.pin();
         let done = scene.work.turns(&guard, scene.size.turns);
@@ -364,6 +308,6 @@ pub fn time<R: Clock + Threads + Wait + Sync>(
     let made = Made::new(alloc, posts_for(size.threads))?;
     match row {
         Row::Contains => time_list(rt, alloc, made, size, times),
-        Row::Pin | Row::Get | Row::Own => time_one(rt, alloc, made, row, size, times),
+        Row::Pin | Row::Get => time_one(rt, alloc, made, row, size, times),
     }
 }

@@ -1,8 +1,6 @@
 //! Calls of structures whose nodes are linked to one another: each access has a call of its own.
 #![tactic(auto)]
 
-mod pausing;
 mod spots;
 
-pub use pausing::pause_after;
 pub use spots::{LinkSpots, ptr_to};

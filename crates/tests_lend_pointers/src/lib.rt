@@ -11,6 +11,8 @@ pub mod shares;
 #[cfg(test)]
 mod stage;
 #[cfg(test)]
+mod taking;
+#[cfg(test)]
 mod threads;
 #[cfg(test)]
 mod wants;
