@@ -70,6 +70,7 @@ impl<'c, 'q, 's, J: PostSet, T, W> LendingGuard<'c, 'q, 's, J, T, W> {
     pub(crate) fn of(
         guard: Guard<'c, T, W>,
         pinned: Pinned<'s, J>,
+        cells: &'s LentCells<J, T>,
         lender: &'q Lender<'s, J, T>,
     ) -> LendingGuard<'c, 'q, 's, J, T, W>
         ensures { result.guard ≡ guard.entry }
@@ -77,7 +78,7 @@ impl<'c, 'q, 's, J: PostSet, T, W> LendingGuard<'c, 'q, 's, J, T, W> {
         LendingGuard {
             guard,
             pinned,
-            cells: lender.cells(),
+            cells,
             lender,
         }
     }

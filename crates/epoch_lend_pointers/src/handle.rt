@@ -11,6 +11,7 @@ use epoch_lend_array::bag::Bag;
 use epoch_lend_readers::posts::PostSet;
 use epoch_lend_readers::reader::Reader;
 use epoch_lend_store::lender::Lender;
+use epoch_lend_store::lent_cells::LentCells;
 use epoch_lend_store::retired::Retired;
 use epoch_lend_store::rooms::Rooms;
 use std::alloc::Global;
@@ -21,6 +22,8 @@ pub struct LendingHandle<'c, 'q, 's, J: PostSet, T> {
     pub(crate) handle: LocalHandle<'c, T, Marking<'q, 's, J, T>>,
     // `None` while a guard that lends is out.
     pub(crate) reader: Option<Reader<'s, J>>,
+    // The lender's cells. They are found here with one load less than through the lender, and a pin waits for it.
+    pub(crate) cells: &'s LentCells<J, T>,
     // What was retired, and is not deferred yet.
     pub(crate) kept: Retired<'q, 's, J, T>,
     // Free cells, for the next values.
@@ -128,6 +131,7 @@ impl<'c, 'q, 's, J: PostSet, T: Drop> LendingHandle<'c, 'q, 's, J, T> {
             Ok(handle) => Ok(LendingHandle {
                 handle,
                 reader: Some(reader),
+                cells: lender.cells(),
                 kept,
                 rooms: Rooms::none(alloc),
                 spare: None,
@@ -152,14 +156,12 @@ impl<'c, 'q, 's, J: PostSet, T: Drop> LendingHandle<'c, 'q, 's, J, T> {
         ensures ready { IsReady self.new.handle }
         ensures counted { self.new.handle.machine.guards ≡ self.old.handle.machine.guards + 1 }
     {
-        let guard = self.handle.pin();
-        let lender = self.kept.lender();
-        let epoch = lender.cells().epoch();
         let Some(reader) = self.reader.take() else {
             unreachable!()
         };
-        let pinned = reader.pin(epoch);
-        LendingGuard::of(guard, pinned, lender)
+        let guard = self.handle.pin();
+        let pinned = reader.pin(self.cells.epoch());
+        LendingGuard::of(guard, pinned, self.cells, self.kept.lender())
     }
 
     /// Ends the pin of a guard of this handle, and pins anew, in the clock's present epoch. If no other guard is out,
@@ -181,14 +183,14 @@ impl<'c, 'q, 's, J: PostSet, T: Drop> LendingHandle<'c, 'q, 's, J, T> {
         let LendingGuard {
             guard,
             pinned,
-            cells: _,
+            cells,
             lender,
         } = guard;
         let mut guard = guard;
         let reader = pinned.unpin();
         self.handle.repin(&mut guard);
-        let pinned = reader.pin(lender.cells().epoch());
-        LendingGuard::of(guard, pinned, lender)
+        let pinned = reader.pin(cells.epoch());
+        LendingGuard::of(guard, pinned, cells, lender)
     }
 
     /// Pins the participant once more, whether or not a guard that lends is out. Returns a guard of the collector,

@@ -213,6 +213,7 @@ impl<'c, 'q, 's, J: PostSet, T: Drop> LendingHandle<'c, 'q, 's, J, T> {
         let LendingHandle {
             handle,
             reader,
+            cells,
             kept,
             rooms,
             spare,
@@ -225,6 +226,7 @@ impl<'c, 'q, 's, J: PostSet, T: Drop> LendingHandle<'c, 'q, 's, J, T> {
                 let staying = LendingHandle {
                     handle,
                     reader,
+                    cells,
                     kept,
                     rooms: Rooms::none(alloc),
                     spare,
