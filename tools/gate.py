@@ -1,7 +1,7 @@
 #!/usr/bin/env python3
 """Runs the merge gate, `rt ci`, says which crate it is at, and prints a table of what each crate took.
 
-usage: tools/gate.py [NAME..]    at the top of the repository; with names, only these crates and those below them, which is not the gate
+usage: tools/gate.py    at the top of the repository
 
 Processor seconds (user and system) are sampled each second, and memory each ten seconds: the most that a crate's proof, the proof
 of its tests, and its wrong bodies took. The total is the system's own count. What failed is told last, below the table.
@@ -106,7 +106,7 @@ def main():
     samples = Samples(said)
     sampling = threading.Thread(target=samples.go_on, daemon=True)
     sampling.start()
-    ran = subprocess.Popen(["rt", "ci", *sys.argv[1:]], stdin=subprocess.DEVNULL, stdout=subprocess.PIPE, stderr=subprocess.STDOUT, text=True, errors="replace")
+    ran = subprocess.Popen(["rt", "ci"], stdin=subprocess.DEVNULL, stdout=subprocess.PIPE, stderr=subprocess.STDOUT, text=True, errors="replace")
     last = []
     for line in ran.stdout:
         last.append(line.rstrip("\n"))

@@ -159,7 +159,11 @@ impl<T: Drop, P: Puts<T>> Cells<T, P> {
                 }
                 Ok(name)
             }
-            Err(Refused { fault: _, value }) => self.place_further(position, value),
+            // The answer is taken apart here: else it would stand in memory on the way that doesn't come here, too.
+            Err(Refused { fault: _, value }) => match self.place_further(position, value) {
+                Ok(name) => Ok(name),
+                Err(refused) => Err(refused),
+            },
         }
     }
 

@@ -242,11 +242,15 @@ pub fn try_read<'a, T: Drop>(slot: &'a Slot<T>, name: Name) -> Result<Reading<'a
     ensures { IfOk result (λ reading. reading.name ≡ name) }
 {
     let seen = slot.load();
-    if turn_of(seen) != name.turn() || state_of(seen) == FREE {
-        return Err(Miss::Gone);
-    }
-    if state_of(seen) != PRESENT || readers_of(seen) == MOST_READERS {
-        return Err(Miss::Held);
+    // An exchange waits for all that comes before it: so the word without a reader, which is met most, is told by one
+    // comparison.
+    if seen != word_of(name.turn(), PRESENT) {
+        if turn_of(seen) != name.turn() || state_of(seen) == FREE {
+            return Err(Miss::Gone);
+        }
+        if state_of(seen) != PRESENT || readers_of(seen) == MOST_READERS {
+            return Err(Miss::Held);
+        }
     }
     let (found, claim) = slot.turn(seen, seen + ONE_READER);
     if found != seen {
