@@ -1,5 +1,5 @@
 //! Bags: jobs gathered by one participant, and then sealed with an epoch.
-ghost use Rattle.std.specs.Prelude.{◌≡◌, ◌<◌, ◌≤◌, ◌↔◌, [], ◌∷◌, ◌++◌, None, Some, length, IsTrue, IsErr, IfErr, OnOk};
+ghost use Rattle.std.specs.Prelude.{◌≡◌, ◌<◌, ◌≤◌, ◌↔◌, List, [], ◌∷◌, ◌++◌, None, Some, length, IsTrue, IsErr, IfErr, OnOk};
 ghost use Rattle.std.specs.Prelude.{OnErr, MatchOption};
 ghost use Rattle.epoch_bags.specs.Bags.{IsExpired, is_empty};
 
@@ -74,11 +74,18 @@ impl<J: Default + Drop> Bag<J> {
         ensures limit { self.new.limit ≡ self.old.limit }
         ensures empty { self.new.jobs ≡ [] }
     {
-        *place = Some(SealedBag {
-            seal: epoch.number(),
-            next: 0,
-            jobs: mem::replace(&mut self.jobs, ArrayVec::new()),
-        });
+        if place.is_some() {
+            *place = None;
+        }
+        // A plain assignment would copy the room of a bag that isn't there, so as to drop it.
+        mem::forget(mem::replace(
+            place,
+            Some(SealedBag {
+                seal: epoch.number(),
+                next: 0,
+                jobs: mem::replace(&mut self.jobs, ArrayVec::new()),
+            }),
+        ));
     }
 }
 
@@ -223,6 +230,15 @@ impl<J> SealedBag<J> {
         ensures none { IsTrue result ↔ (self.now.jobs ≡ []) }
     {
         self.len() == 0
+    }
+
+    /// Lends the oldest job, and leaves it in the bag. `None`: no job is left.
+    #[inline(always)]
+    pub fn first(&self) -> Option<&J>
+        ensures { MatchOption result (self.now.jobs ≡ [])
+            (λ job. (later : List J) × (self.now.jobs ≡ job.now ∷ later)) }
+    {
+        self.jobs.as_slice().get(self.next)
     }
 }
 

@@ -33,6 +33,10 @@ pub const CELL_TRIES: u32 = 16;
 // The bound is raised by this many slots at once, since each time costs as much as many looks at slots.
 const STRIDE: usize = 8;
 
+// A position begins its looks at most this many used slots before the first free one: to note a later begin takes an
+// exchange, which costs as much as some looks.
+const NEAR_STRIDE: usize = 4;
+
 // A position that has no note left looks in this many slots in a row from then on.
 const FAR: usize = 64;
 
@@ -150,20 +154,26 @@ impl<T: Drop, P: Puts<T>> Cells<T, P> {
         ensures placed { IfOk result (λ name. P.placed value.value name) }
     {
         let Span { from, to } = self.notes.current(position);
-        let to = to.min(self.slots.len());
-        match self.place_between(from, to, value) {
-            Ok(name) => {
-                let next = name.slot() as usize;
-                if next.saturating_sub(from) > STRIDE {
-                    self.notes.look_in(position, Span { from: next, to });
+        let slots = self.slots.as_slice();
+        let to = to.min(slots.len());
+        let mut kept = value;
+        for index in from..to {
+            // One try: a slot whose exchange is lost was claimed by another thread, and the next slot is near.
+            match try_place::<T, P>(&slots[index], index as u32 + 1, kept) {
+                Ok(name) => {
+                    if index - from >= NEAR_STRIDE {
+                        let from = index + 1;
+                        self.notes.look_in(position, Span { from, to });
+                    }
+                    return Ok(name);
                 }
-                Ok(name)
+                Err((_, back)) => kept = back,
             }
-            // The answer is taken apart here: else it would stand in memory on the way that doesn't come here, too.
-            Err(Refused { fault: _, value }) => match self.place_further(position, value) {
-                Ok(name) => Ok(name),
-                Err(refused) => Err(refused),
-            },
+        }
+        // The answer is taken apart here: else it would stand in memory on the way that doesn't come here, too.
+        match self.place_further(position, kept) {
+            Ok(name) => Ok(name),
+            Err(refused) => Err(refused),
         }
     }
 

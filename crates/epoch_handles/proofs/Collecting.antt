@@ -1,6 +1,6 @@
 -- A collection, bag by bag and job by job: what its loops perform is what the machine asks.
 use Rattle.std.proofs.Common.{◌≡◌, ◌≢◌, ◌∙◌, ℕ, ◌+◌, ◌<◌, ◌==◌, if◌then◌else◌, Bool, true, false, List, [], ◌∷◌, ◌++◌}
-use Rattle.std.proofs.Common.{refl, sym, ap, subst, arith, Option, Some, ne_eqb}
+use Rattle.std.proofs.Common.{length, refl, sym, ap, subst, arith, Option, Some, ne_eqb}
 use Rattle.epoch_bags.specs.Bags.{Sealed}
 use Rattle.epoch_bags.specs.CursorSteps.{IsExpiredWord}
 use Rattle.epoch_tables.specs.Table.{IsOf}
@@ -19,7 +19,7 @@ use Rattle.epoch_machine.specs.declared.machine.Action.TheVariants.{Release}
 use Rattle.epoch_machine.specs.declared.machine.Ask.{Ask}
 use Rattle.epoch_machine.specs.declared.machine.Ask.TheVariants.{CallJob, TakeBag}
 use Rattle.epoch_machine.specs.declared.machine.Stage.{Stage}
-use Rattle.epoch_machine.specs.declared.machine.Stage.TheVariants.{Take}
+use Rattle.epoch_machine.specs.declared.machine.Stage.TheVariants.{Take, Calling}
 use Rattle.epoch_handles.specs.declared.local.Local.{Local}
 use Rattle.epoch_machine.specs.Machine.{Machine, asks, ask_at, gives, rest, after_job, after_collect, took_heard}
 use Rattle.epoch_machine.specs.Machine.{is_taking, with_stage}
@@ -42,6 +42,25 @@ module _ {J : Type 0} where
       (record { ask = CallJob; reply = JobGiven job } ∷ []) (situated (with_hand m x k jobs) v c)
   call_performed places m v c x k job jobs =
       one_performed places _ _ _ (record { asked = refl; is_reply = refl; performs = (refl, refl); machine = refl })
+
+-- a hand that begins with this job
+pub begins_with : {J : Type 0} (hand : List J) (job : J) (later : List J)
+    → hand ≡ job ∷ later → hand ≡ job ∷ rest hand
+begins_with hand job later is = is ∙ ap (λ jobs. job ∷ jobs) (sym (ap rest is))
+
+hand_given : {J : Type 0} (m : Machine J) (s : Stage) (jobs : List J)
+    → ask_at s ≡ Some CallJob → (gives m s jobs).hand ≡ jobs
+hand_given m (Calling x k) jobs asked = refl
+hand_given m _ jobs asked = absurd (cc asked)
+
+-- a job that is given leaves one job fewer in the hand
+pub one_fewer : {J : Type 0} (m n : Machine J) (job : J)
+    → asks m ≡ Some CallJob → m.hand ≡ job ∷ rest m.hand → n ≡ gives m m.stage (rest m.hand)
+    → length n.hand < length m.hand
+one_fewer m n job asked first is =
+    let left : n.hand ≡ rest m.hand =
+    ap (λ (z : Machine _). z.hand) is ∙ hand_given m m.stage (rest m.hand) asked in
+    omega (arith, ap length left, ap length first)
 
 -- where no call is asked for, none is left
 nothing_left : {J : Type 0} (m : Machine J) (x k : ℕ) (jobs : List J)

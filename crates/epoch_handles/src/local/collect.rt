@@ -1,16 +1,21 @@
 //! Collections: all words are scanned, bags are taken out of the shared places, and their jobs are called.
-ghost use Rattle.std.specs.Prelude.{◌≡◌, ℕ, ◌<◌, ◌^◌};
+ghost use Rattle.std.specs.Prelude.{◌≡◌, ◌≢◌, ℕ, ◌<◌, ◌^◌, ◌∷◌, true, false, Some, length};
+ghost use Rattle.epoch_cells.specs.declared.cells.name.Name.{Name};
+ghost use Rattle.epoch_bags.specs.Jobs.{IsCalled};
+ghost use Rattle.epoch_bags.specs.declared.job.Job.{Job};
+ghost use Rattle.epoch_bags.specs.declared.job.Job.TheVariants.{Remove};
 ghost use Rattle.epoch_tables.specs.SharedPlaces.{IsPlaceSeatOf as IsAt};
 ghost use Rattle.epoch_tables.specs.SharedSteps.{RestsAt};
-ghost use Rattle.epoch_machine.specs.Machine.{after_job};
+ghost use Rattle.epoch_machine.specs.Machine.{after_job, asks, gives, rest};
 ghost use Rattle.epoch_handles.specs.Handles.{IsSeated, IsPinned, Scans, CallsHand, HasTaken, TakesBags, Collects};
+ghost use Rattle.epoch_machine.specs.declared.machine.Ask.TheVariants.{CallJob};
 ghost use Rattle.epoch_machine.specs.declared.machine.Stage.TheVariants.{LoadScan, Take};
 
 use crate::local::Local;
 use epoch_bags::queue::places::is_expired_word;
-use epoch_bags::{Epoch, GREATEST_EPOCH, Run, TakeCursor, TakeStep};
-use epoch_cells::Freed;
-use epoch_machine::holds_up;
+use epoch_bags::{Epoch, GREATEST_EPOCH, Job, Remove, Run, TakeCursor, TakeStep};
+use epoch_cells::{Cells, Freed};
+use epoch_machine::{Machine, holds_up};
 
 impl<'c, T, W> Local<'c, T, W> {
     /// Scans the words in a plain loop, and advances the epoch where none holds it up. Returns the epoch for which bags
@@ -42,6 +47,54 @@ impl<'c, T, W> Local<'c, T, W> {
     }
 }
 
+/// Calls the next job of the bag in hand if it is a removal, and returns whether it is one.
+///
+/// A removal is told where it lies, and called by its name: a job that is taken out and then told apart goes through
+/// memory several times.
+#[inline(always)]
+fn call_removal<T: Drop, W: Run>(
+    machine: &mut Machine<Job<W>>,
+    cells: &Cells<T>,
+    freed: &mut Freed,
+) -> bool
+    ensures called { result ≡ true → (name : Name) × W.Removing.tried name
+        × (machine.old.hand ≡ Remove name ∷ rest machine.old.hand)
+        × (machine.new ≡ gives machine.old machine.old.stage (rest machine.old.hand)) }
+    ensures fewer { result ≡ true → length machine.new.hand < length machine.old.hand }
+    ensures not { result ≡ false → machine.new ≡ machine.old }
+{
+    let Some(Job::Remove(name)) = machine.next_job() else {
+        return false;
+    };
+    let name = *name;
+    let _ = machine.give();
+    let _ = W::Removing::remove_near(cells, freed, name);
+    true
+}
+
+/// Calls the next job of the bag in hand. Returns whether there was one.
+#[inline(always)]
+fn call_next<T: Drop, W: Run>(
+    machine: &mut Machine<Job<W>>,
+    cells: &Cells<T>,
+    freed: &mut Freed,
+) -> bool
+    ensures called { result ≡ true → (job : Job W) × IsCalled W.done W.Removing.tried job
+        × (machine.old.hand ≡ job ∷ rest machine.old.hand) }
+    ensures fewer { result ≡ true → length machine.new.hand < length machine.old.hand }
+    ensures none { result ≡ false → asks machine.old ≢ Some CallJob }
+    ensures after { machine.new ≡ gives machine.old machine.old.stage (rest machine.old.hand) }
+{
+    if call_removal(machine, cells, freed) {
+        return true;
+    }
+    let Some(job) = machine.give() else {
+        return false;
+    };
+    let _ = job.call_near(cells, freed);
+    true
+}
+
 impl<'c, T: Drop, W: Run> Local<'c, T, W> {
     /// Calls what is left of the bag in hand, the oldest job first.
     #[inline(always)]
@@ -52,9 +105,7 @@ impl<'c, T: Drop, W: Run> Local<'c, T, W> {
             → CallsHand W.done W.Removing.tried self.old expiry taken self.new }
     {
         let mut freed = Freed::none(self.position);
-        while let Some(job) = self.machine.give() {
-            let _ = job.call_near(&self.collector.cells, &mut freed);
-        }
+        while call_next(&mut self.machine, &self.collector.cells, &mut freed) {}
         self.collector.cells.note_freed(freed);
     }
 

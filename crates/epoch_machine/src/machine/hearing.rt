@@ -1,5 +1,5 @@
 //! What an answer does, and a job that is given to be called.
-ghost use Rattle.std.specs.Prelude.{◌≡◌, ◌≢◌, true, ◌^◌, ◌<◌, ◌∷◌, Some, MatchOption, length};
+ghost use Rattle.std.specs.Prelude.{◌≡◌, ◌≢◌, true, ◌^◌, ◌<◌, List, ◌∷◌, Some, MatchOption, length};
 ghost use Rattle.epoch_machine.specs.Machine.{IsAnswer, asks, heard, gives, fresh, rest, is_calling};
 ghost use Rattle.epoch_machine.specs.declared.machine.Ask.TheVariants.{CallJob};
 
@@ -91,6 +91,20 @@ impl<J: Default + Drop> Machine<J> {
     }
 }
 
+impl<J> Machine<J> {
+    /// Lends the job that [`Machine::give`] would take out. `None` where no call is asked for.
+    #[inline(always)]
+    pub fn next_job(&self) -> Option<&J>
+        ensures { MatchOption result (asks self.now ≢ Some CallJob) (λ job.
+            (asks self.now ≡ Some CallJob) × ((later : List J) × (self.now.hand ≡ job.now ∷ later))) }
+    {
+        match self.stage {
+            Stage::Calling(_, _) => self.hand.first(),
+            _ => None,
+        }
+    }
+}
+
 impl<J: Default + Drop> Machine<J> {
     /// Takes the next job out of the bag in hand, to be called by the caller, and goes on.
     /// `None` where no call is asked for.
@@ -112,7 +126,9 @@ impl<J: Default + Drop> Machine<J> {
     }
 
     /// Takes the last job out of the bag in hand, and goes on after the bag.
-    #[inline(never)]
+    ///
+    /// It is part of its caller, so that a job doesn't pass through memory.
+    #[inline(always)]
     fn give_last(&mut self) -> Option<J>
         requires last { length self.old.hand ≡ 1 }
         requires calls { is_calling self.old.stage ≡ true }

@@ -14,6 +14,7 @@ use crate::shared_places::plays::Store;
 use crate::shared_places::steps::word_index;
 use epoch_bags::queue::places::{EMPTY, is_expired_word, place_word, put_further, take_further};
 use epoch_bags::{Bag, Epoch, PutCursor, PutStep, SealedBag, TakeCursor, TakeStep};
+use std::mem;
 
 impl<J: Default + Drop> SharedPlaces<J> {
     /// Returns the cursor of a put that has taken no step: it looks at place 0 first.
@@ -156,12 +157,13 @@ impl<J: Default + Drop> SharedPlaces<J> {
         }
     }
 
-    /// Moves the bag of the claimed place into the hand.
+    /// Moves the bag of the claimed place into the hand, which has no jobs left.
     #[inline(never)]
     fn empty_into(&self, seat: &mut PlaceSeat<J>, place: usize, hand: &mut SealedBag<J>)
         requires of { IsPlaceSeatOf self.now seat.old }
         requires within { place < self.now.capacity }
         requires holds { (bag : Sealed J) × HoldsAt place (Some bag) seat.old.me }
+        requires empty { hand.old.jobs ≡ [] }
         ensures kept { IsSamePlaceSeat seat.old seat.new }
         ensures hand { seat.old.me.1 ≡ (place, Some hand.new) ∷ [] }
         ensures view { seat.new.me ≡ (after_store seat.old.me.0 None, []) }
@@ -169,7 +171,8 @@ impl<J: Default + Drop> SharedPlaces<J> {
         let Some(taken) = seat.slot_mut(&self.table.shared, place).take() else {
             unreachable!()
         };
-        *hand = taken;
+        // A plain assignment would copy the blanks of the hand, so as to drop them one by one.
+        mem::forget(mem::replace(hand, taken));
         self.table
             .shared
             .store::<Store>(seat, word_index(place), EMPTY);

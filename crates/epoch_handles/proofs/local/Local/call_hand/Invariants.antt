@@ -3,12 +3,12 @@ use Rattle.epoch_machine.specs.Machine.{after_job}
 use Rattle.epoch_handles.proofs.Collecting.{HasCalled}
 use Rattle.epoch_handles.proofs.local.Local.call_hand.Given as goal
 
-abbrev pub invariant-loop-job : goal.invariant-loop-job
-invariant-loop-job g l = record {
+abbrev pub invariant-loop : goal.invariant-loop
+invariant-loop g l = record {
   only : l.self ≡ record l.fn.self { machine = l.self.machine };
   called : (x k : ℕ) → l.fn.self.machine.stage ≡ after_job l.fn.self.machine x k l.fn.self.machine.hand
       → HasCalled g.W.Run.done g.W.Removing.Remove.tried l.fn.self x k l.self;
 }
 
-abbrev pub decreases-loop-job : goal.decreases-loop-job
-decreases-loop-job g l = length l.self.machine.hand
+abbrev pub decreases-loop : goal.decreases-loop
+decreases-loop g l = length l.self.machine.hand
