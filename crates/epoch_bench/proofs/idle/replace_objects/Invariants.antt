@@ -1,6 +1,0 @@
-use Rattle.std.proofs.Common.{◌≡◌}
-use Rattle.epoch_handles.specs.Handles.{IsSame}
-use Rattle.epoch_bench.proofs.idle.replace_objects.Given as goal
-
-abbrev pub invariant-loop-value : goal.invariant-loop-value
-invariant-loop-value g l = IsSame l.fn.handle l.handle × (l.handle.machine.guards ≡ l.fn.handle.machine.guards)
