@@ -13,7 +13,8 @@ use std::sync::atomic::Ordering::SeqCst;
 /// Tries of one exchange. Those of crossbeam-epoch's side have no end.
 const TRIES: u32 = 1_000_000;
 
-/// Pins and unpins this many times.
+/// Pins and unpins this many times. Its loop isn't compiled into its caller, where it would depend on the other rows.
+#[inline(never)]
 pub fn pin_under(handle: &mut LocalHandle<'_, u64>, turns: u64)
     requires { handle.old.machine.guards ≡ 1 }
     ensures same { IsSame handle.old handle.new }
