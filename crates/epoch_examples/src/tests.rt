@@ -1,13 +1,13 @@
 //! Runs the examples, on threads where they are for threads.
+use crate::crossed_out::{Entry, List};
+use crate::deferred::call_soon;
+use crate::last_owner::take_apart;
+use crate::owners::{claim, give_up};
+use crate::replacement::read_late;
+use crate::schedule::half_a_pin;
+use crate::shared_value::{read, replace};
+use crate::work_queue::{receive, send};
 use epoch_base::{Job, Work};
-use epoch_examples::crossed_out::{Entry, List};
-use epoch_examples::deferred::call_soon;
-use epoch_examples::last_owner::take_apart;
-use epoch_examples::owners::{claim, give_up};
-use epoch_examples::replacement::read_late;
-use epoch_examples::schedule::half_a_pin;
-use epoch_examples::shared_value::{read, replace};
-use epoch_examples::work_queue::{receive, send};
 use epoch_map::{Map, Node as MapNode};
 use epoch_pin::atomic::Atomic;
 use epoch_pin::{Capacities, Collector, LocalHandle};
