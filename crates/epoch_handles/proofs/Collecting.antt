@@ -48,6 +48,7 @@ pub begins_with : {J : Type 0} (hand : List J) (job : J) (later : List J)
     → hand ≡ job ∷ later → hand ≡ job ∷ rest hand
 begins_with hand job later is = is ∙ ap (λ jobs. job ∷ jobs) (sym (ap rest is))
 
+-- the call of a job leaves the others in the hand
 hand_given : {J : Type 0} (m : Machine J) (s : Stage) (jobs : List J)
     → ask_at s ≡ Some CallJob → (gives m s jobs).hand ≡ jobs
 hand_given m (Calling x k) jobs asked = refl
