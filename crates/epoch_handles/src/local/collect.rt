@@ -97,7 +97,9 @@ fn call_next<T: Drop, W: Run>(
 
 impl<'c, T: Drop, W: Run> Local<'c, T, W> {
     /// Calls what is left of the bag in hand, the oldest job first.
-    #[inline(always)]
+    ///
+    /// It stands out of line: most collections take no bag, and pass through less code so.
+    #[inline(never)]
     fn call_hand(&mut self)
         ensures only { self.new ≡ record self.old { machine = self.new.machine } }
         ensures calls { (expiry taken : ℕ)
@@ -121,9 +123,11 @@ impl<'c, T: Drop, W: Run> Local<'c, T, W> {
         requires within { expiry < 2 ^ 63 }
         ensures { HasTaken W.done W.Removing.tried self.old expiry result self.new }
     {
-        let last = self.collector.places.capacity() - 1;
+        // Found once: no load may move ahead of the look before it, so the loop would find the places anew each time.
+        let places = &self.collector.places;
+        let last = places.capacity() - 1;
         for place in 0..last {
-            let word = self.collector.places.look(&mut self.claimer, place);
+            let word = places.look(&mut self.claimer, place);
             if is_expired_word(word, Epoch::new(expiry)) {
                 return TakeCursor::Claim(place, word);
             }
