@@ -1,4 +1,4 @@
-//! Small programs over these crates, each a page to copy: the functions are proved, and the tests run them.
+//! Small programs over these crates, each a page to copy: the functions are proved, and `tests_examples` runs them.
 #![tactic(auto)]
 
 pub mod crossed_out;
@@ -8,6 +8,4 @@ pub mod owners;
 pub mod replacement;
 pub mod schedule;
 pub mod shared_value;
-#[cfg(test)]
-mod tests;
 pub mod work_queue;

@@ -2,5 +2,3 @@
 #![tactic(auto)]
 
 pub mod sorted_list;
-#[cfg(test)]
-mod tests;

@@ -1,110 +1,73 @@
-use crate::calls::{
-    Collector, Guard, Handle, collector, defer, end, pin, register, release, unpin,
-};
-use crate::wants::{want, want_true};
+use crate::calls::{collector, defer, end, pin, pin_and_defer, register, release, unpin};
+use crate::counts::count;
+use crate::removals::{placed, remove};
+use crate::wants::{want, want_count, want_err, want_ok, want_shown, want_some};
 use epoch_base::{Fault, Job, Name};
-use epoch_pin::Capacities;
-use std::alloc::Global;
+use epoch_pin::atomic::Shared;
+use epoch_pin::{Capacities, Collector, LocalHandle};
 use std::process::Abort;
-use std::test::Fail;
 
-/// The fault of a registration, or none: then the new participant is released at once.
-fn register_fault(rt: &impl Abort, collector: &Collector) -> Option<Fault> {
-    match collector.register() {
-        Ok(handle) => {
-            release(rt, handle);
-            None
-        }
-        Err(fault) => Some(fault),
-    }
-}
-
-#[test]
-fn a_table_is_full_until_a_participant_is_released(rt: HostRuntime) {
-    let collector = collector(&rt, rt.alloc(), Capacities::usual(1, 0, 1));
-    let handle = register(&rt, &collector);
-    let fault = register_fault(&rt, &collector);
-    want(&rt, "a second one", fault, Some(Fault::TableFull));
-    release(&rt, handle);
-    let fault = register_fault(&rt, &collector);
-    want(&rt, "one after the release", fault, None);
-    end(&rt, collector, 0);
+/// No position is free.
+fn refuse_registration(rt: &impl Abort, collector: &Collector<u64>) {
+    let fault = want_err(rt, "a second participant", collector.register());
+    want(rt, "its fault", fault, Fault::TableFull);
 }
 
 /// Gives the position up, and spends what is left of the handle.
-fn leave(rt: &impl Abort, handle: Handle<'_>) {
+fn leave(rt: &impl Abort, handle: LocalHandle<'_, u64>) {
     assert!(rt; handle.guards_out() == 0, "each guard is spent");
-    match handle.leave() {
-        Ok(released) => released.spend(),
-        Err((_back, fault)) => panic!(rt; "{fault}"),
-    }
+    want_ok(rt, "the held bag finds a place", handle.leave()).spend();
 }
 
 #[test]
-fn a_participant_that_leaves_puts_its_bag_and_frees_its_position(rt: HostRuntime) {
-    let collector = collector(&rt, rt.alloc(), Capacities::usual(1, 0, 1));
-    let mut handle = register(&rt, &collector);
-    let guard = pin(&rt, &mut handle);
-    defer(&rt, &mut handle, &guard, Job::Remove(Name::first()));
-    unpin(&rt, &mut handle, guard);
-    leave(&rt, handle);
-    let fault = register_fault(&rt, &collector);
-    want(&rt, "one after it", fault, None);
-    // The one job that was held.
-    end(&rt, collector, 1);
-}
-
-#[test]
-fn a_guard_of_a_collector_with_the_same_number_is_taken_for_its_own(rt: HostRuntime) {
-    let one = collector(&rt, rt.alloc(), Capacities::usual(1, 0, 1));
-    let two = collector(&rt, rt.alloc(), Capacities::usual(1, 0, 1));
-    let mut own = register(&rt, &one);
-    let mut other = register(&rt, &two);
-    let mine = pin(&rt, &mut own);
-    let guard = pin(&rt, &mut other);
-    defer(&rt, &mut own, &guard, Job::Remove(Name::first()));
-    unpin(&rt, &mut own, mine);
-    unpin(&rt, &mut other, guard);
+fn a_table_is_full_until_a_participant_goes_and_the_end_calls_the_bags_of_all(rt: HostRuntime) {
+    let alloc = rt.alloc();
+    let calls = count(&rt, alloc);
+    let collector = collector(&rt, alloc, Capacities::usual(2, 0, 2));
+    let mut own = register(&rt, &collector);
+    // The pin advances the epoch to 1, and stays published at 0. So the epoch stays at 1.
+    let guard = pin(&rt, &mut own);
+    // Debug shows nothing of what is inside.
+    want_shown(&rt, alloc, &collector, "Collector { .. }");
+    want_shown(&rt, alloc, &own, "LocalHandle { .. }");
+    want_shown(&rt, alloc, &guard, "Guard { .. }");
+    let mut first = register(&rt, &collector);
+    refuse_registration(&rt, &collector);
+    pin_and_defer(&rt, alloc, &mut first, &calls, (3, 1));
+    release(&rt, first);
+    let mut second = register(&rt, &collector);
+    pin_and_defer(&rt, alloc, &mut second, &calls, (1, 0x10));
+    leave(&rt, second);
+    release(&rt, register(&rt, &collector));
+    unpin(&rt, &mut own, guard);
     release(&rt, own);
-    release(&rt, other);
-    // The collector whose handle it was has the job.
-    end(&rt, one, 1);
-    end(&rt, two, 0);
+    want_count(&rt, "calls before the end", &calls, 0);
+    end(&rt, collector, 4);
+    want_count(&rt, "calls at the end", &calls, 0x13);
 }
 
-/// What debug shows of each.
-fn shown(
-    alloc: Global,
-    collector: &Collector,
-    handle: &Handle<'_>,
-    guard: &Guard<'_>,
-) -> Result<String, Fail> {
-    Ok(format!(in alloc; "{collector:?}, {handle:?}, {guard:?}")?)
-}
-
-/// Debug shows this of each.
-fn want_shown(
-    rt: &impl Abort,
-    alloc: Global,
-    collector: &Collector,
-    handle: &Handle<'_>,
-    guard: &Guard<'_>,
-    wanted: &str,
-) {
-    match shown(alloc, collector, handle, guard) {
-        Ok(text) => want_true(rt, "the text", text.as_str() == wanted),
-        Err(_) => panic!(rt; "memory for the text"),
-    }
+/// The pointer's value still stands, and is taken back.
+fn take_back(rt: &impl Abort, shared: Shared<'_, u64>, value: u64) {
+    let back = want_some(rt, "the value stands", shared.into_owned());
+    want(rt, "the value", *back.into_box(), value);
 }
 
 #[test]
-fn debug_shows_nothing_of_what_is_inside(rt: HostRuntime) {
-    let collector = collector(&rt, rt.alloc(), Capacities::usual(1, 0, 1));
-    let mut handle = register(&rt, &collector);
-    let guard = pin(&rt, &mut handle);
-    let wanted = "Collector { .. }, LocalHandle { .. }, Guard { .. }";
-    want_shown(&rt, rt.alloc(), &collector, &handle, &guard, wanted);
-    unpin(&rt, &mut handle, guard);
-    release(&rt, handle);
-    end(&rt, collector, 0);
+fn guards_and_pointers_of_a_collector_with_the_same_number_are_taken_for_its_own(rt: HostRuntime) {
+    let alloc = rt.alloc();
+    let one = collector(&rt, alloc, Capacities::usual(1, 1, 1));
+    let two = collector(&rt, alloc, Capacities::usual(1, 1, 1));
+    let (mut own, mut other) = (register(&rt, &one), register(&rt, &two));
+    let (mine, others) = (pin(&rt, &mut own), pin(&rt, &mut other));
+    defer(&rt, &mut own, &others, Job::Remove(Name::first()), true);
+    let foreign = placed(&rt, alloc, &others, 5);
+    remove(&rt, &mut own, &mine, foreign);
+    unpin(&rt, &mut own, mine);
+    release(&rt, own);
+    // The collector whose handle it was has the jobs. They look for the names in its own cells, where they aren't.
+    end(&rt, one, 2);
+    take_back(&rt, foreign, 5);
+    unpin(&rt, &mut other, others);
+    release(&rt, other);
+    end(&rt, two, 0);
 }

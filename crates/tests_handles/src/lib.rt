@@ -1,10 +1,11 @@
-//! Tests of `epoch_pin` by its public calls: handles, guards and a collector's end, on one thread.
+//! Tests of `epoch_pin` by its public calls: handles, guards, jobs, a collector's end, the pointers of
+//! `epoch_pin::atomic`, removals that are deferred, and handles on several threads.
 #![tactic(auto)]
 
 #[cfg(test)]
 mod calls;
 #[cfg(test)]
-mod collections;
+mod counts;
 #[cfg(test)]
 mod ends;
 #[cfg(test)]
@@ -12,8 +13,12 @@ mod guards;
 #[cfg(test)]
 mod jobs;
 #[cfg(test)]
-mod program;
+mod pointers;
+#[cfg(test)]
+mod removals;
 #[cfg(test)]
 mod repins;
+#[cfg(test)]
+mod threads;
 #[cfg(test)]
 mod wants;

@@ -1,5 +1,6 @@
 //! What the tests want. A comparison stands here once: written out in a test, it would be proved beside all that the
 //! test owns.
+use std::alloc::Global;
 use std::fmt::Debug;
 use std::process::Abort;
 use std::sync::atomic::AtomicU64;
@@ -13,6 +14,36 @@ pub(crate) fn want<T: PartialEq + Debug + Drop>(rt: &impl Abort, what: &str, see
 /// This holds.
 pub(crate) fn want_true(rt: &impl Abort, what: &str, holds: bool) {
     assert!(rt; holds, "{what}");
+}
+
+/// The value is shown as this text.
+pub(crate) fn want_shown<T: Debug>(rt: &impl Abort, alloc: Global, value: &T, wanted: &str) {
+    let text = want_ok(rt, "memory for the text", format!(in alloc; "{value:?}"));
+    assert!(rt; text.as_str() == wanted, "{text} and not {wanted}");
+}
+
+/// What was answered, where a success is wanted.
+pub(crate) fn want_ok<T, E>(rt: &impl Abort, what: &str, answer: Result<T, E>) -> T {
+    match answer {
+        Ok(value) => value,
+        Err(_error) => panic!(rt; "{what}"),
+    }
+}
+
+/// The error, where one is wanted.
+pub(crate) fn want_err<T, E>(rt: &impl Abort, what: &str, answer: Result<T, E>) -> E {
+    match answer {
+        Ok(_value) => panic!(rt; "{what}"),
+        Err(error) => error,
+    }
+}
+
+/// What is there.
+pub(crate) fn want_some<T>(rt: &impl Abort, what: &str, found: Option<T>) -> T {
+    match found {
+        Some(value) => value,
+        None => panic!(rt; "{what}"),
+    }
 }
 
 /// The count stands at this number.

@@ -1,9 +1,14 @@
-//! Tests of `epoch_lend` by its public calls: one value on several threads, and its way back.
+//! Tests of values that are lent to readers, by the public calls of `epoch_lend`, `epoch_lend_cells`,
+//! `epoch_lend_readers` and `epoch_lend_array`.
 #![tactic(auto)]
 
 #[cfg(test)]
-mod readers;
+mod one_cell;
 #[cfg(test)]
-mod threads;
+mod probes;
+#[cfg(test)]
+mod race;
+#[cfg(test)]
+mod readers;
 #[cfg(test)]
 mod wants;

@@ -1,355 +1,388 @@
-ghost use Rattle.std.specs.Prelude.{◌≡◌, ◌<◌, ◌^◌};
-
-use crate::wants::{wait_for, want};
-use epoch_lend_readers::posts::{Made, PostSet, Posts};
-use epoch_lend_readers::reader::Pinned;
+//! Readers on one thread: the posts of a set, one value, and arrays of cells that are used again.
+use crate::wants::want;
+use epoch_lend_array::bag::{Bag, SealedBag};
+use epoch_lend_array::cells::{LendingCells, Spot};
+use epoch_lend_array::room::Room;
+use epoch_lend_array::slot::Returned;
+use epoch_lend_readers::posts::{PostSet, Posts};
 use epoch_lend_readers::session::{Session, with_posts};
-use epoch_lend_readers::value::{Owner, Retired, Value, lend};
-use std::alloc::{AllocError, Global};
-use std::marker::Brand;
-use std::sync::Wait;
-use std::sync::atomic::Ordering::SeqCst;
-use std::sync::atomic::{AtomicBool, AtomicU64};
+use epoch_lend_readers::value::{Owner, Retired, lend};
+use std::alloc::Global;
+use std::process::Abort;
 use std::test::Fail;
-use std::thread;
-use std::thread::Threads;
 
-/// As often as a reader reads at most, and a remover tries.
-const MOST: u64 = 10_000_000;
+/// A spot that there isn't.
+const NONE: Spot = Spot { slot: 99, turn: 99 };
 
-/// As often as the value is found before it is marked.
-const FOUND_BEFORE: u64 = 1000;
-
-/// A number that counts how often it is dropped.
-struct Tracked<'d> {
-    number: u64,
-    drops: &'d AtomicU64,
+fn spot(slot: usize, turn: u64) -> Spot {
+    Spot { slot, turn }
 }
 
-impl Drop for Tracked<'_> {
-    fn drop(self) {
-        self.drops.fetch_add(1, SeqCst);
-        let Tracked {
-            number: _,
-            drops: _,
-        } = self;
+/// Where a value is placed by a search, or none.
+fn placed<J: PostSet>(cells: &LendingCells<J, u64>, value: u64) -> Spot {
+    match cells.place(value) {
+        Ok(placed) => placed.spot,
+        Err(_) => NONE,
     }
 }
 
-/// What readers and the remover tell each other.
-#[derive(Drop)]
-struct Course {
-    epoch: AtomicU64,
-    is_over: AtomicBool,
-    found: AtomicU64,
-    others: AtomicU64,
-    // What came back, and whether the value is found after that.
-    number: AtomicU64,
-    is_found: AtomicBool,
-}
-
-impl Course {
-    fn new() -> Course {
-        Course {
-            epoch: AtomicU64::new(1),
-            is_over: AtomicBool::new(false),
-            found: AtomicU64::new(0),
-            others: AtomicU64::new(0),
-            number: AtomicU64::new(0),
-            is_found: AtomicBool::new(true),
-        }
-    }
-
-    fn epoch(&self) -> u64
-        ensures { result < 2 ^ 63 }
-    {
-        self.epoch.load(SeqCst) / 2
-    }
-}
-
-/// Pins, looks, reads and unpins, until it is over.
-fn read_on<J: PostSet>(posts: &Posts<J>, value: &Value<J, Tracked<'_>>, course: &Course) {
-    let Some(first) = posts.register() else {
-        return;
+/// Where the value is placed in this room, or none.
+fn housed<J: PostSet>(room: Option<Room<'_, J, u64>>, value: u64) -> Spot {
+    let Some(room) = room else {
+        return NONE;
     };
-    let mut reader = first;
-    for _ in 0..MOST {
-        if course.is_over.load(SeqCst) {
-            break;
-        }
-        let pinned = reader.pin(course.epoch());
-        if let Some(found) = value.look(&pinned) {
-            course.found.fetch_add(1, SeqCst);
-            if found.number != 7 {
-                course.others.fetch_add(1, SeqCst);
-            }
-        }
-        reader = pinned.unpin();
-    }
-    reader.release();
-}
-
-/// Goes on to the next epoch and tries to take the value back, until it comes. Answers its number.
-fn take_back<J: PostSet>(
-    retired: Retired<J, Tracked<'_>, Global>,
-    posts: &Posts<J>,
-    course: &Course,
-) -> u64 {
-    let mut kept = retired;
-    for _ in 0..MOST {
-        course.epoch.fetch_add(1, SeqCst);
-        match kept.take_back(posts) {
-            Ok(whole) => return whole.number,
-            Err(again) => kept = again,
-        }
-        thread::yield_now();
-    }
-    0
-}
-
-/// Whether a reader that pins now finds the value.
-fn is_found<J: PostSet>(posts: &Posts<J>, value: &Value<J, Tracked<'_>>, course: &Course) -> bool {
-    match posts.register() {
-        Some(reader) => {
-            let pinned = reader.pin(course.epoch());
-            let is_found = value.look(&pinned).is_some();
-            pinned.unpin().release();
-            is_found
-        }
-        None => true,
+    match room.place(value) {
+        Ok(placed) => placed.spot,
+        Err(_) => NONE,
     }
 }
 
-/// Marks the value once readers have found it, and takes it back while they go on. Tells the number that came back,
-/// and whether the value is found after that.
-fn remove<J: PostSet>(owner: Owner<'_, J, Tracked<'_>, Global>, posts: &Posts<J>, course: &Course) {
-    for _ in 0..MOST {
-        if course.found.load(SeqCst) >= FOUND_BEFORE {
-            break;
-        }
-        thread::yield_now();
-    }
-    let value = owner.value();
-    let number = match owner.mark(posts) {
-        Ok(retired) => take_back(retired, posts, course),
-        Err(_) => 0,
-    };
-    course.number.store(number, SeqCst);
-    course
-        .is_found
-        .store(is_found(posts, value, course), SeqCst);
-    course.is_over.store(true, SeqCst);
-}
-
-fn run_at_once<J: PostSet + Send + Sync, R: Threads + Wait>(
-    rt: &R,
-    threads: usize,
-    posts: &Posts<J>,
-    owner: Owner<'_, J, Tracked<'_>, Global>,
-    course: &Course,
-) {
-    let value = owner.value();
-    thread::scope(thread::scope_env(), rt, |scope| {
-        for _ in 0..threads {
-            let _ = scope.spawn(move || read_on(posts, value, course));
-        }
-        remove(owner, posts, course);
-    });
-}
-
-fn start<J: PostSet + Send + Sync, R: Threads + Wait>(
-    rt: &R,
-    alloc: Global,
-    made: Made,
-    threads: usize,
-    whole: Box<Tracked<'_>>,
-    course: &Course,
-) -> Result<(), AllocError>
-    requires { made.posts.items ≡ J.posts }
-{
-    let posts = Posts::<J>::of(alloc, made)?;
-    let mut place = None;
-    let owner = lend(&mut place, whole, &posts);
-    run_at_once(rt, threads, &posts, owner, course);
-    Ok(())
-}
-
-fn race<R: Threads + Wait>(
-    rt: &R,
-    alloc: Global,
-    threads: usize,
-    whole: Box<Tracked<'_>>,
-    course: &Course,
-) -> Result<(), AllocError> {
-    let made = Made::new(alloc, threads.saturating_add(1))?;
-    start::<Brand, R>(rt, alloc, made, threads, whole, course)
-}
-
-#[test]
-fn a_value_comes_back_while_readers_go_on(rt: HostRuntime) -> Result<(), Fail> {
-    for threads in [2, 4] {
-        let drops = AtomicU64::new(0);
-        let whole = Box::new(
-            rt.alloc(),
-            Tracked {
-                number: 7,
-                drops: &drops,
-            },
-        )?;
-        let course = Course::new();
-        race(&rt, rt.alloc(), threads, whole, &course)?;
-        let number = course.number.load(SeqCst);
-        want(&rt, "the value comes back", number, 7);
-        let is_found = course.is_found.load(SeqCst);
-        want(&rt, "it isn't found again", is_found, false);
-        let was_found = course.found.load(SeqCst) >= FOUND_BEFORE;
-        want(&rt, "readers found it before", was_found, true);
-        let others = course.others.load(SeqCst);
-        want(&rt, "and no other value", others, 0);
-        want(&rt, "it is dropped once", drops.load(SeqCst), 1);
-    }
-    Ok(())
-}
-
-/// What a thread that stalls pinned and the remover tell each other.
-#[derive(Drop)]
-struct Signals {
-    has_looked: AtomicBool,
-    may_go_on: AtomicBool,
-    is_over: AtomicBool,
-}
-
-/// Looks in a nested read of the pinned reader.
-fn look_nested<'g, J: PostSet>(
-    pinned: &'g Pinned<'_, J>,
-    value: &Value<J, u64>,
-) -> Option<&'g u64> {
-    let nested = pinned;
-    value.look(nested)
-}
-
-/// Looks, stalls pinned until it may go on, and reads only then. Returns what it read.
-fn stall<J: PostSet>(posts: &Posts<J>, value: &Value<J, u64>, signals: &Signals) -> u64 {
+/// What a reader finds at this spot, or 0.
+fn found<J: PostSet>(posts: &Posts<J>, cells: &LendingCells<J, u64>, spot: Spot) -> u64 {
     let Some(reader) = posts.register() else {
         return 0;
     };
     let pinned = reader.pin(1);
-    let found = look_nested(&pinned, value);
-    signals.has_looked.store(true, SeqCst);
-    wait_for(&signals.may_go_on);
-    let read = match found {
-        Some(number) => *number,
-        None => 0,
-    };
+    let value = read(cells.get(spot, &pinned));
     pinned.unpin().release();
-    signals.is_over.store(true, SeqCst);
-    read
+    value
 }
 
-/// Marks the value once the other has looked, and tries to take it back before the other's pin is over and after.
-/// Returns what came back each time.
-fn take_early_and_late<J: PostSet>(
-    owner: Owner<'_, J, u64, Global>,
+/// The value that was found, or 0.
+fn read(found: Option<&u64>) -> u64 {
+    match found {
+        Some(value) => *value,
+        None => 0,
+    }
+}
+
+/// Marks the value at this spot, and looks at each post for the first time. `None`: there is none to mark.
+fn marked<'c, J: PostSet>(
+    alloc: Global,
     posts: &Posts<J>,
-    signals: &Signals,
-) -> (u64, u64) {
-    wait_for(&signals.has_looked);
-    let Ok(retired) = owner.mark(posts) else {
-        return (0, 0);
+    cells: &'c LendingCells<J, u64>,
+    spot: Spot,
+) -> Option<SealedBag<'c, J, u64>> {
+    let made = Bag::with_capacity(alloc, 1).ok()?;
+    let mut bag = made;
+    let _ = bag.push(cells.mark(spot)?);
+    Some(bag.seal(posts))
+}
+
+/// What comes back at this try, or 0 with what has to be tried again.
+fn tried<'c, J: PostSet>(
+    sealed: Option<SealedBag<'c, J, u64>>,
+    posts: &Posts<J>,
+) -> (u64, Option<SealedBag<'c, J, u64>>) {
+    let Some(sealed) = sealed else {
+        return (0, None);
     };
-    match retired.take_back(posts) {
-        Ok(whole) => (*whole, 0),
-        Err(again) => {
-            signals.may_go_on.store(true, SeqCst);
-            wait_for(&signals.is_over);
-            match again.take_back(posts) {
-                Ok(whole) => (0, *whole),
-                Err(_) => (0, 0),
+    match sealed.take_back(posts) {
+        Ok(clear) => {
+            let mut rest = clear;
+            match rest.next() {
+                Some((value, _)) => (value, None),
+                None => (0, None),
             }
         }
+        Err(again) => (0, Some(again)),
     }
 }
 
-fn stall_beside<J: PostSet + Send + Sync, R: Threads>(
-    rt: &R,
+/// Takes the value at this spot back, with no reader pinned. Returns it, or 0.
+fn taken<J: PostSet>(
     alloc: Global,
-    made: Made,
-    whole: Box<u64>,
-) -> Result<(u64, (u64, u64)), AllocError>
-    requires { made.posts.items ≡ J.posts }
-{
-    let posts = Posts::<J>::of(alloc, made)?;
-    let mut place = None;
-    let owner = lend(&mut place, whole, &posts);
-    let signals = Signals {
-        has_looked: AtomicBool::new(false),
-        may_go_on: AtomicBool::new(false),
-        is_over: AtomicBool::new(false),
-    };
-    Ok(stalled(rt, &posts, owner, &signals))
-}
-
-fn stalled<J: PostSet + Send + Sync, R: Threads>(
-    rt: &R,
     posts: &Posts<J>,
-    owner: Owner<'_, J, u64, Global>,
-    signals: &Signals,
-) -> (u64, (u64, u64)) {
-    let value = owner.value();
-    thread::join(
-        rt,
-        move || stall(posts, value, signals),
-        move || take_early_and_late(owner, posts, signals),
-    )
+    cells: &LendingCells<J, u64>,
+    spot: Spot,
+) -> u64 {
+    tried(marked(alloc, posts, cells, spot), posts).0
 }
 
-fn stalls<R: Threads>(
-    rt: &R,
+/// Takes out the value that this slot shows, with no reader pinned. Returns it, or 0.
+fn left_in<J: PostSet>(
     alloc: Global,
-    whole: Box<u64>,
-) -> Result<(u64, (u64, u64)), AllocError> {
-    let made = Made::new(alloc, 1)?;
-    stall_beside::<Brand, R>(rt, alloc, made, whole)
-}
-
-#[test]
-fn a_reader_that_stalls_pinned_holds_the_value_back(rt: HostRuntime) -> Result<(), Fail> {
-    let whole = Box::new(rt.alloc(), 7u64)?;
-    let (read, (early, late)) = stalls(&rt, rt.alloc(), whole)?;
-    want(&rt, "the pinned reader reads it after the mark", read, 7);
-    want(&rt, "nothing comes back while it is pinned", early, 0);
-    want(&rt, "the value comes back after its unpin", late, 7);
-    Ok(())
-}
-
-/// How many of three readers are registered at once, and how many more after two are released or dropped.
-#[derive(Drop)]
-struct Registers;
-
-impl Session for Registers {
-    type Answer = (usize, bool, bool);
-
-    fn run<J: PostSet + Send + Sync>(self, posts: Posts<J>) -> (usize, bool, bool) {
-        let first = posts.register();
-        let second = posts.register();
-        let is_full = posts.register().is_none();
-        drop(first);
-        let has_room = posts.register().is_some();
-        drop(second);
-        (posts.len(), is_full, has_room)
+    posts: &Posts<J>,
+    cells: &LendingCells<J, u64>,
+    slot: usize,
+) -> u64 {
+    match cells.shown(slot) {
+        Some(placed) => taken(alloc, posts, cells, placed.spot),
+        None => 0,
     }
 }
 
-#[test]
-fn as_many_readers_register_as_there_are_posts(rt: HostRuntime) -> Result<(), Fail> {
-    let (posts, is_full, has_room) = with_posts(rt.alloc(), 2, Registers)?;
-    want(&rt, "there are two posts", posts, 2);
-    want(&rt, "a third reader finds none free", is_full, true);
+/// The room of the value at this spot, which is taken back with no reader pinned.
+fn room_of<'c, J: PostSet>(
+    alloc: Global,
+    posts: &Posts<J>,
+    cells: &'c LendingCells<J, u64>,
+    spot: Spot,
+) -> Option<Room<'c, J, u64>> {
+    let clear = marked(alloc, posts, cells, spot)?.take_back(posts).ok()?;
+    let mut rest = clear;
+    let Returned {
+        value: _,
+        name: _,
+        room,
+    } = rest.next_with_room()?;
+    Some(room)
+}
+
+/// Whether a reader can be registered now.
+fn has_room<J: PostSet>(posts: &Posts<J>) -> bool {
+    posts.register().is_some()
+}
+
+/// As many readers register as there are posts, which are two.
+fn registers<J: PostSet>(rt: &impl Abort, posts: &Posts<J>) {
+    let first = posts.register();
+    let second = posts.register();
+    want(rt, "there are two posts", posts.len(), 2);
+    want(rt, "a third reader finds none free", has_room(posts), false);
+    drop(first);
     want(
-        &rt,
+        rt,
         "one that is dropped gives its post back",
-        has_room,
+        has_room(posts),
         true,
     );
+    drop(second);
+}
+
+/// Fills two cells, and uses one again.
+fn fills<J: PostSet>(
+    rt: &impl Abort,
+    alloc: Global,
+    posts: &Posts<J>,
+    cells: &LendingCells<J, u64>,
+) {
+    let (old, new) = (spot(0, 0), spot(0, 1));
+    want(rt, "there are two cells", cells.len(), 2);
+    want(
+        rt,
+        "the first value is in the first cell",
+        placed(cells, 7),
+        old,
+    );
+    want(rt, "the second in the other", placed(cells, 8), spot(1, 0));
+    want(rt, "a full array takes no third", placed(cells, 9), NONE);
+    want(
+        rt,
+        "the first is found at its turn",
+        found(posts, cells, old),
+        7,
+    );
+    want(rt, "and not at the next one", found(posts, cells, new), 0);
+    want(rt, "it comes back", taken(alloc, posts, cells, old), 7);
+    want(rt, "its cell is used again", placed(cells, 10), new);
+    want(
+        rt,
+        "a mark of its old spot finds nothing",
+        taken(alloc, posts, cells, old),
+        0,
+    );
+}
+
+/// Uses the second of two full cells again, by its room, and takes out what is left then.
+fn keeps_a_room<J: PostSet>(
+    rt: &impl Abort,
+    alloc: Global,
+    posts: &Posts<J>,
+    cells: &LendingCells<J, u64>,
+) {
+    let (old, new) = (spot(1, 0), spot(1, 1));
+    let room = room_of(alloc, posts, cells, old);
+    want(
+        rt,
+        "a search doesn't find a room with an owner",
+        placed(cells, 11),
+        NONE,
+    );
+    want(
+        rt,
+        "the owner's value is there at the next turn",
+        housed(room, 12),
+        new,
+    );
+    want(
+        rt,
+        "the old value isn't found any more",
+        found(posts, cells, old),
+        0,
+    );
+    want(rt, "the new one is", found(posts, cells, new), 12);
+    want(rt, "it comes back", taken(alloc, posts, cells, new), 12);
+    want(
+        rt,
+        "a search finds the released room",
+        placed(cells, 13),
+        spot(1, 2),
+    );
+    want(
+        rt,
+        "a value is left in the first cell",
+        left_in(alloc, posts, cells, 0),
+        10,
+    );
+    want(rt, "it is there once", left_in(alloc, posts, cells, 0), 0);
+    want(
+        rt,
+        "the second cell has its own",
+        left_in(alloc, posts, cells, 1),
+        13,
+    );
+    want(rt, "there is no third", left_in(alloc, posts, cells, 2), 0);
+}
+
+/// Uses two cells whose last turn is 0.
+fn ends_at_once<J: PostSet>(
+    rt: &impl Abort,
+    alloc: Global,
+    posts: &Posts<J>,
+    cells: &LendingCells<J, u64>,
+) {
+    want(rt, "the last turn is 0", cells.last_turn(), 0);
+    want(
+        rt,
+        "the first value is in the first cell",
+        placed(cells, 7),
+        spot(0, 0),
+    );
+    want(
+        rt,
+        "it comes back",
+        taken(alloc, posts, cells, spot(0, 0)),
+        7,
+    );
+    want(
+        rt,
+        "the second is in the other cell",
+        placed(cells, 8),
+        spot(1, 0),
+    );
+    want(rt, "no cell takes a third", placed(cells, 9), NONE);
+    let room = room_of(alloc, posts, cells, spot(1, 0));
+    want(
+        rt,
+        "a room takes none after its last turn",
+        housed(room, 10),
+        NONE,
+    );
+    want(rt, "and no search finds its cell", placed(cells, 11), NONE);
+}
+
+/// What comes back at this try, or 0 with what has to be tried again.
+fn returned<J: PostSet>(
+    retired: Option<Retired<J, u64, Global>>,
+    posts: &Posts<J>,
+) -> (u64, Option<Retired<J, u64, Global>>) {
+    let Some(retired) = retired else {
+        return (0, None);
+    };
+    match retired.take_back(posts) {
+        Ok(whole) => (*whole, None),
+        Err(again) => (0, Some(again)),
+    }
+}
+
+/// Marks the value, and looks at each post for the first time.
+fn retired<J: PostSet>(
+    owner: Owner<'_, J, u64, Global>,
+    posts: &Posts<J>,
+) -> Option<Retired<J, u64, Global>> {
+    match owner.mark(posts) {
+        Ok(retired) => Some(retired),
+        Err(_) => None,
+    }
+}
+
+/// A reader that stays pinned keeps the value of a box.
+fn holds_a_box_back<J: PostSet>(
+    rt: &impl Abort,
+    posts: &Posts<J>,
+    owner: Owner<'_, J, u64, Global>,
+) {
+    let value = owner.value();
+    let reader = posts.register().expect(rt, "a post");
+    let pinned = reader.pin(1);
+    let nested = &pinned;
+    let found = value.look(nested);
+    let (early, kept) = returned(retired(owner, posts), posts);
+    want(rt, "no box comes back while it is pinned", early, 0);
+    want(rt, "it reads the value after the mark", read(found), 7);
+    want(
+        rt,
+        "a further look doesn't find it",
+        read(value.look(nested)),
+        0,
+    );
+    pinned.unpin().release();
+    let (late, _) = returned(kept, posts);
+    want(rt, "the box comes back after the unpin", late, 7);
+}
+
+/// Lends the value of a box, and takes it back.
+fn lends_a_box<J: PostSet>(rt: &impl Abort, alloc: Global, posts: &Posts<J>) {
+    let whole = Box::new(alloc, 7u64).expect(rt, "memory");
+    let mut place = None;
+    let owner = lend(&mut place, whole, posts);
+    holds_a_box_back(rt, posts, owner);
+}
+
+/// A reader that stays pinned keeps a value of an array.
+fn holds_a_bag_back<J: PostSet>(
+    rt: &impl Abort,
+    alloc: Global,
+    posts: &Posts<J>,
+    cells: &LendingCells<J, u64>,
+) {
+    let at = placed(cells, 8);
+    let reader = posts.register().expect(rt, "a post");
+    let pinned = reader.pin(1);
+    let found = cells.get(at, &pinned);
+    let (early, kept) = tried(marked(alloc, posts, cells, at), posts);
+    want(rt, "no bag comes back while it is pinned", early, 0);
+    want(rt, "it reads the value after the mark", read(found), 8);
+    want(
+        rt,
+        "a further look doesn't find it",
+        read(cells.get(at, &pinned)),
+        0,
+    );
+    pinned.unpin().release();
+    let (late, _) = tried(kept, posts);
+    want(rt, "the bag comes back after the unpin", late, 8);
+}
+
+/// All of this on a set of two posts.
+#[derive(Drop)]
+struct OnOneThread<'t, R> {
+    rt: &'t R,
+    alloc: Global,
+}
+
+impl<R: Abort> Session for OnOneThread<'_, R> {
+    type Answer = ();
+
+    fn run<J: PostSet + Send + Sync>(self, posts: Posts<J>) {
+        let OnOneThread { rt, alloc } = self;
+        let cells = LendingCells::new(alloc, 2, u64::MAX, &posts).expect(rt, "memory");
+        registers(rt, &posts);
+        fills(rt, alloc, &posts, &cells);
+        keeps_a_room(rt, alloc, &posts, &cells);
+        lends_a_box(rt, alloc, &posts);
+        holds_a_bag_back(rt, alloc, &posts, &cells);
+        let cells = LendingCells::new(alloc, 2, 0, &posts).expect(rt, "memory");
+        ends_at_once(rt, alloc, &posts, &cells);
+    }
+}
+
+#[test]
+fn what_is_lent_stays_while_a_reader_is_pinned_and_comes_back_after(
+    rt: HostRuntime,
+) -> Result<(), Fail> {
+    let alloc = rt.alloc();
+    with_posts(alloc, 2, OnOneThread { rt: &rt, alloc })?;
     Ok(())
 }

@@ -2,16 +2,14 @@
 #![tactic(auto)]
 
 #[cfg(test)]
-mod alone;
+mod calls;
+#[cfg(test)]
+mod one_thread;
 #[cfg(test)]
 mod probes;
-#[cfg(test)]
-mod rooms;
 pub mod shares;
 #[cfg(test)]
 mod stage;
-#[cfg(test)]
-mod taking;
 #[cfg(test)]
 mod threads;
 #[cfg(test)]

@@ -1,9 +1,11 @@
-//! Where a test plays: cells that lend, their lender, and a collector.
+//! Where a test plays: cells that lend, their lender, a collector, and two of its handles.
 ghost use Rattle.std.specs.Prelude.{◌≡◌};
 
+use crate::calls::{Probes, register, release};
+use crate::one_thread::{lends, refuses, takes_back};
 use crate::probes::{Counts, Probe};
-use epoch_handles::{Capacities, Collector};
-use epoch_lend_pointers::marking::{Marking, collector_of};
+use epoch_handles::Capacities;
+use epoch_lend_pointers::marking::collector_of;
 use epoch_lend_readers::posts::{PostSet, Posts};
 use epoch_lend_readers::session::{Session, with_posts};
 use epoch_lend_store::lender::Lender;
@@ -11,75 +13,82 @@ use epoch_lend_store::lent_cells::LentCells;
 use std::alloc::{AllocError, Global};
 use std::process::Abort;
 
-/// What a test tells.
-pub type Seen = [u64; 8];
-
 /// What a test does on one thread.
-pub trait Scene {
-    fn play<'q, 's, J: PostSet + Send + Sync, R: Abort>(
-        &self,
-        rt: &R,
-        alloc: Global,
-        lender: &'q Lender<'s, J, Probe>,
-        collector: &Collector<Probe, Marking<'q, 's, J, Probe>>,
-        counts: &Counts,
-    ) -> Seen;
+#[derive(Clone, Copy)]
+pub enum Scene {
+    Lends,
+    Refuses,
+    TakesBack,
 }
 
 /// A scene, and what it plays with.
 #[derive(Drop)]
-struct Staged<'t, S, R> {
+struct Staged<'t, R> {
     rt: &'t R,
-    scene: S,
     alloc: Global,
     cells: u32,
-    capacities: Capacities,
+    scene: Scene,
     counts: &'t Counts,
 }
 
-impl<'t, S: Scene + Drop, R: Abort> Session for Staged<'t, S, R> {
-    type Answer = Seen;
+impl<R: Abort> Session for Staged<'_, R> {
+    type Answer = ();
 
-    fn run<J: PostSet + Send + Sync>(self, posts: Posts<J>) -> Seen {
-        if self.cells > 1_000 || !self.capacities.is_valid() {
-            return [99; 8];
-        }
-        let Ok(cells) = LentCells::new(self.alloc, self.cells, posts) else {
-            return [99; 8];
-        };
-        let Ok(lender) = Lender::new(self.alloc, &cells) else {
-            return [99; 8];
-        };
-        let Ok(collector) = collector_of(&lender, self.alloc, self.capacities, 1) else {
-            return [99; 8];
-        };
-        let seen = self
-            .scene
-            .play(self.rt, self.alloc, &lender, &collector, self.counts);
+    fn run<J: PostSet + Send + Sync>(self, posts: Posts<J>) {
+        let Staged {
+            rt,
+            alloc,
+            cells,
+            scene,
+            counts,
+        } = self;
+        assert!(rt; cells <= 1_024);
+        let cells = LentCells::new(alloc, cells, posts).expect(rt, "memory");
+        let lender = Lender::new(alloc, &cells).expect(rt, "memory");
+        let capacities = Capacities::usual(4, 0, 4);
+        let collector = collector_of(&lender, alloc, capacities, 1).expect(rt, "memory");
+        act(rt, alloc, &lender, &collector, scene, counts);
         let _ = collector.end();
-        let _ = lender.end(self.alloc);
-        seen
+        let _ = lender.end(alloc);
     }
 }
 
-/// Plays the scene with this many cells, two posts, and a collector of these capacities.
-pub fn play<'t, S: Scene + Drop, R: Abort>(
-    rt: &'t R,
+/// Plays the scene with two handles.
+fn act<'q, 's, J: PostSet>(
+    rt: &impl Abort,
+    alloc: Global,
+    lender: &'q Lender<'s, J, Probe>,
+    collector: &Probes<'q, 's, J>,
+    scene: Scene,
+    counts: &Counts,
+) {
+    let mut one = register(rt, alloc, lender, collector);
+    let mut other = register(rt, alloc, lender, collector);
+    match scene {
+        Scene::Lends => lends(rt, lender, &mut one, &mut other, counts),
+        Scene::Refuses => refuses(rt, alloc, lender, collector, &mut one, &mut other, counts),
+        Scene::TakesBack => takes_back(rt, collector, &mut one, &mut other, counts),
+    }
+    release(rt, other);
+    release(rt, one);
+}
+
+/// Plays the scene with this many cells and two posts.
+pub fn play<R: Abort>(
+    rt: &R,
     alloc: Global,
     cells: u32,
-    capacities: Capacities,
-    counts: &'t Counts,
-    scene: S,
-) -> Result<Seen, AllocError> {
+    scene: Scene,
+    counts: &Counts,
+) -> Result<(), AllocError> {
     with_posts(
         alloc,
         2,
         Staged {
             rt,
-            scene,
             alloc,
             cells,
-            capacities,
+            scene,
             counts,
         },
     )

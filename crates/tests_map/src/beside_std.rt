@@ -1,7 +1,7 @@
 //! Random calls on one thread, beside a map of std that is given the same ones.
 use crate::calls::{
-    Handle, collector, end, new_map, pin, register, release, round, unpin, want, want_get,
-    want_insert, want_remove,
+    Call, Handle, collector, end, new_map, pin, register, release, round, unpin, want, want_call,
+    want_get,
 };
 use epoch_map::Map;
 use epoch_pin::Capacities;
@@ -38,13 +38,21 @@ fn call_both(
     let there = model.get(&key).copied();
     match (number >> 24) % 4 {
         0 | 1 => {
-            want_insert(rt, map, handle, &guard, (key, number, MOVES), Ok(there));
+            let call = (Call::Insert(key, number), MOVES);
+            want_call(rt, map, handle, &guard, call, Ok(there));
             if there.is_none() {
                 want(rt, "memory", model.insert(key, number).is_ok(), true);
             }
         }
         2 => {
-            want_remove(rt, map, handle, &guard, (key, MOVES), Ok(there));
+            want_call(
+                rt,
+                map,
+                handle,
+                &guard,
+                (Call::Remove(key), MOVES),
+                Ok(there),
+            );
             let _ = model.remove(&key);
         }
         _ => want_get(rt, map, handle, &guard, (key, MOVES), Ok(there)),
@@ -57,7 +65,14 @@ fn drain_both(rt: &impl Abort, map: &Map<'_>, handle: &mut Handle<'_>, model: &B
     for key in 0..KEYS {
         let guard = pin(rt, handle);
         let there = model.get(&key).copied();
-        want_remove(rt, map, handle, &guard, (key, MOVES), Ok(there));
+        want_call(
+            rt,
+            map,
+            handle,
+            &guard,
+            (Call::Remove(key), MOVES),
+            Ok(there),
+        );
         want_get(rt, map, handle, &guard, (key, MOVES), Ok(None));
         unpin(rt, handle, guard);
     }

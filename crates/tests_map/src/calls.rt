@@ -6,6 +6,7 @@ use epoch_pin::{Capacities, Collector, Guard, LocalHandle};
 use std::alloc::Global;
 use std::fmt::Debug;
 use std::process::Abort;
+use std::sync::Wait;
 
 /// A collector of a map's nodes.
 pub(crate) type Nodes = Collector<Node>;
@@ -24,17 +25,22 @@ pub(crate) fn want<T: PartialEq + Debug + Drop>(rt: &impl Abort, what: &str, see
     assert_eq!(rt; seen, wanted, "{what}");
 }
 
-/// A collector with these capacities. Memory is there: an error's way out of a test would be proved beside all that it
-/// owns.
+/// A collector with these capacities, for which memory is asked once more if it is refused.
 pub(crate) fn collector(rt: &impl Abort, alloc: Global, capacities: Capacities) -> Nodes {
     assert!(rt; capacities.is_valid(), "the capacities are in their ranges");
-    Collector::new(alloc, capacities, 1).expect(rt, "memory for a collector")
+    match Collector::new(alloc, capacities, 1) {
+        Ok(collector) => collector,
+        Err(fault) => {
+            want(rt, "why there is none", fault, Fault::NoMemory);
+            Collector::new(alloc, capacities, 1).expect(rt, "memory for a collector")
+        }
+    }
 }
 
-/// Capacities with one job a bag, of which a collection takes one, and one place.
-pub(crate) fn one_job_a_bag(participants: u32, cells: u32) -> Capacities {
+/// Capacities for one participant, with one job a bag, of which a collection takes one, and one place.
+pub(crate) fn one_job_a_bag(cells: u32) -> Capacities {
     Capacities {
-        participants,
+        participants: 1,
         cells,
         bags: 1,
         bag_jobs: 1,
@@ -42,14 +48,20 @@ pub(crate) fn one_job_a_bag(participants: u32, cells: u32) -> Capacities {
     }
 }
 
-/// An empty map of 2 to the power of `bits` buckets.
+/// An empty map of 2 to the power of `bits` buckets, for which memory is asked once more if it is refused.
 pub(crate) fn new_map<'c>(
     rt: &impl Abort,
     alloc: Global,
     collector: &'c Nodes,
     bits: u32,
 ) -> Map<'c> {
-    Map::new(alloc, collector, bits).expect(rt, "memory for a map")
+    match Map::new(alloc, collector, bits) {
+        Ok(map) => map,
+        Err(fault) => {
+            want(rt, "why there is none", fault, Fault::NoMemory);
+            Map::new(alloc, collector, bits).expect(rt, "memory for a map")
+        }
+    }
 }
 
 /// A new participant, for which a position is free.
@@ -84,17 +96,27 @@ pub(crate) fn round(rt: &impl Abort, handle: &mut Handle<'_>) -> Result<(), Faul
     flushed
 }
 
-/// Makes a round, whose flush answers this.
-pub(crate) fn want_round(rt: &impl Abort, handle: &mut Handle<'_>, wanted: Result<(), Fault>) {
-    want(rt, "the flush of a round", round(rt, handle), wanted);
-}
-
 /// Releases the handle, whose bag finds a place.
 pub(crate) fn release(rt: &impl Abort, handle: Handle<'_>) {
     assert!(rt; handle.guards_out() == 0, "each guard is spent");
     if let Err((_back, fault)) = handle.release() {
         panic!(rt; "{fault}");
     }
+}
+
+/// Releases the handle, and flushes for as long as its bag finds no place.
+pub(crate) fn leave<R: Abort + Wait>(rt: &R, handle: Handle<'_>) {
+    let mut staying = handle;
+    for _ in rt.forever() {
+        if staying.guards_out() != 0 {
+            panic!(rt; "each guard is spent")
+        }
+        match staying.release() {
+            Ok(()) => return,
+            Err((handle, _)) => staying = handle,
+        }
+    }
+    unreachable!()
 }
 
 /// Ends the collector, which calls this many jobs.
@@ -117,30 +139,50 @@ pub(crate) fn told(
     }
 }
 
-/// An insert in at most this many moves answers so.
-pub(crate) fn want_insert(
-    rt: &impl Abort,
-    map: &Map<'_>,
-    handle: &mut Handle<'_>,
-    guard: &Pin<'_>,
-    (key, value, moves): (u32, u32, u32),
-    wanted: Told,
-) {
-    let inserted = map.insert(handle, guard, key, value, moves);
-    want(rt, "an insert", told(rt, value, inserted), wanted);
+/// A call on a map.
+#[derive(Clone, Copy)]
+pub(crate) enum Call {
+    /// Inserts the value under the key.
+    Insert(u32, u32),
+    /// Removes the key's entry.
+    Remove(u32),
+    /// Looks the key up.
+    Get(u32),
 }
 
-/// A removal in at most this many moves answers so.
-pub(crate) fn want_remove(
+/// What the call answers in at most this many moves.
+pub(crate) fn answer(
     rt: &impl Abort,
     map: &Map<'_>,
     handle: &mut Handle<'_>,
     guard: &Pin<'_>,
-    (key, moves): (u32, u32),
+    (call, moves): (Call, u32),
+) -> Told {
+    match call {
+        Call::Insert(key, value) => {
+            let inserted = map.insert(handle, guard, key, value, moves);
+            told(rt, value, inserted)
+        }
+        Call::Remove(key) => map.remove(handle, guard, key, moves),
+        Call::Get(key) => map.get(handle, guard, key, moves),
+    }
+}
+
+/// The call answers so.
+pub(crate) fn want_call(
+    rt: &impl Abort,
+    map: &Map<'_>,
+    handle: &mut Handle<'_>,
+    guard: &Pin<'_>,
+    call: (Call, u32),
     wanted: Told,
 ) {
-    let removed = map.remove(handle, guard, key, moves);
-    want(rt, "a removal", removed, wanted);
+    want(
+        rt,
+        "a call on a map",
+        answer(rt, map, handle, guard, call),
+        wanted,
+    );
 }
 
 /// A look-up in at most this many moves answers so, and what `contains` says agrees.
@@ -152,7 +194,7 @@ pub(crate) fn want_get(
     (key, moves): (u32, u32),
     wanted: Told,
 ) {
-    want(rt, "a look-up", map.get(handle, guard, key, moves), wanted);
+    want_call(rt, map, handle, guard, (Call::Get(key), moves), wanted);
     let is_there = match wanted {
         Ok(found) => Ok(found.is_some()),
         Err(fault) => Err(fault),

@@ -7,15 +7,11 @@ mod beside_std;
 #[cfg(test)]
 mod calls;
 #[cfg(test)]
+mod events;
+#[cfg(test)]
 mod meetings;
 #[cfg(test)]
-mod memory;
-#[cfg(test)]
 mod plays;
-#[cfg(test)]
-mod program;
-#[cfg(test)]
-mod refusals;
 #[cfg(test)]
 mod rows;
 #[cfg(test)]

@@ -1,6 +1,7 @@
 //! A map that threads share.
 use crate::calls::{
-    Handle, Nodes, Told, collector, end, new_map, pin, register, told, unpin, want, want_get,
+    Call, Handle, Nodes, Told, answer, collector, end, leave, new_map, pin, register, round, unpin,
+    want, want_get,
 };
 use epoch_base::Fault;
 use epoch_map::Map;
@@ -16,28 +17,13 @@ use std::thread::Threads;
 /// As many moves as any call here has.
 const MOVES: u32 = 100_000;
 
-/// A call on a map.
-#[derive(Clone, Copy)]
-enum Call {
-    Insert(u32, u32),
-    Remove(u32),
-    Get(u32),
-}
-
-/// Makes the call, once.
-fn call_once<R: Abort>(rt: &R, map: &Map<'_>, handle: &mut Handle<'_>, call: Call) -> Told {
+/// Makes the call once, and flushes.
+fn call_once(rt: &impl Abort, map: &Map<'_>, handle: &mut Handle<'_>, call: Call) -> Told {
     let guard = pin(rt, handle);
-    let answer = match call {
-        Call::Insert(key, value) => {
-            let inserted = map.insert(handle, &guard, key, value, MOVES);
-            told(rt, value, inserted)
-        }
-        Call::Remove(key) => map.remove(handle, &guard, key, MOVES),
-        Call::Get(key) => map.get(handle, &guard, key, MOVES),
-    };
+    let told = answer(rt, map, handle, &guard, (call, MOVES));
     let _ = handle.flush(&guard);
     unpin(rt, handle, guard);
-    answer
+    told
 }
 
 /// Makes the call. Where it finds no cell, or no place for its full bag, it lets go its guard, flushes under a new
@@ -54,21 +40,6 @@ fn make_call<R: Abort + Wait>(
             Err(fault) => want(rt, "a pause helps", fault == Fault::NoMemory, false),
         }
         thread::yield_now();
-    }
-    unreachable!()
-}
-
-/// Releases the handle, and flushes for as long as its bag finds no place.
-fn leave<R: Abort + Wait>(rt: &R, handle: Handle<'_>) {
-    let mut staying = handle;
-    for _ in rt.forever() {
-        if staying.guards_out() != 0 {
-            panic!(rt; "each guard is spent")
-        }
-        match staying.release() {
-            Ok(()) => return,
-            Err((handle, _)) => staying = handle,
-        }
     }
     unreachable!()
 }
@@ -90,35 +61,25 @@ struct Counts<'a> {
     off: &'a [AtomicU64],
 }
 
+/// Makes the call, which answers so.
+fn want_own<R: Abort + Wait>(
+    rt: &R,
+    map: &Map<'_>,
+    handle: &mut Handle<'_>,
+    call: Call,
+    wanted: Option<u32>,
+) {
+    want(rt, "an own call", make_call(rt, map, handle, call), wanted);
+}
+
 /// Inserts the value under a key of this thread's own, finds it, keeps it there against another insert, and removes
 /// it.
 fn own_key<R: Abort + Wait>(rt: &R, map: &Map<'_>, handle: &mut Handle<'_>, key: u32, value: u32) {
-    want(
-        rt,
-        "an own insert",
-        make_call(rt, map, handle, Call::Insert(key, value)),
-        None,
-    );
-    want(
-        rt,
-        "an own look-up",
-        make_call(rt, map, handle, Call::Get(key)),
-        Some(value),
-    );
-    let again = make_call(rt, map, handle, Call::Insert(key, 0));
-    want(rt, "a second insert", again, Some(value));
-    want(
-        rt,
-        "an own removal",
-        make_call(rt, map, handle, Call::Remove(key)),
-        Some(value),
-    );
-    want(
-        rt,
-        "a second removal",
-        make_call(rt, map, handle, Call::Remove(key)),
-        None,
-    );
+    want_own(rt, map, handle, Call::Insert(key, value), None);
+    want_own(rt, map, handle, Call::Get(key), Some(value));
+    want_own(rt, map, handle, Call::Insert(key, 0), Some(value));
+    want_own(rt, map, handle, Call::Remove(key), Some(value));
+    want_own(rt, map, handle, Call::Remove(key), None);
 }
 
 /// Inserts the value under a key that other threads use too, looks the key up, and removes whichever value is there.
@@ -181,9 +142,7 @@ fn drain<R: Abort + Wait>(rt: &R, collector: &Nodes, map: &Map<'_>, counts: Coun
         unpin(rt, &mut handle, guard);
     }
     for _ in 0..4 {
-        let guard = pin(rt, &mut handle);
-        let _ = handle.flush(&guard);
-        unpin(rt, &mut handle, guard);
+        let _ = round(rt, &mut handle);
     }
     leave(rt, handle);
 }

@@ -1,7 +1,15 @@
-//! Tests of the calls that take no memory.
+//! Tests of memory: which calls say that it is refused, and which calls take none.
 #![tactic(auto)]
 
 #[cfg(test)]
-mod calls;
+mod handles;
+#[cfg(test)]
+mod made;
+#[cfg(test)]
+mod makers;
+#[cfg(test)]
+mod pointers;
+#[cfg(test)]
+mod stores;
 #[cfg(test)]
 mod wants;

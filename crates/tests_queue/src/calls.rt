@@ -21,17 +21,22 @@ pub(crate) fn want<T: PartialEq + Debug + Drop>(rt: &impl Abort, what: &str, see
     assert_eq!(rt; seen, wanted, "{what}");
 }
 
-/// A collector with these capacities. Memory is there: an error's way out of a test would be proved beside all that it
-/// owns.
+/// A collector with these capacities, for which memory is asked once more if it is refused.
 pub(crate) fn collector(rt: &impl Abort, alloc: Global, capacities: Capacities) -> Nodes {
     assert!(rt; capacities.is_valid(), "the capacities are in their ranges");
-    Collector::new(alloc, capacities, 1).expect(rt, "memory for a collector")
+    match Collector::new(alloc, capacities, 1) {
+        Ok(collector) => collector,
+        Err(fault) => {
+            want(rt, "why there is none", fault, Fault::NoMemory);
+            Collector::new(alloc, capacities, 1).expect(rt, "memory for a collector")
+        }
+    }
 }
 
-/// Capacities with one job a bag, of which a collection takes one, and one place.
-pub(crate) fn one_job_a_bag(participants: u32, cells: u32) -> Capacities {
+/// Capacities for one participant, with one job a bag, of which a collection takes one, and one place.
+pub(crate) fn one_job_a_bag(cells: u32) -> Capacities {
     Capacities {
-        participants,
+        participants: 1,
         cells,
         bags: 1,
         bag_jobs: 1,
@@ -39,13 +44,19 @@ pub(crate) fn one_job_a_bag(participants: u32, cells: u32) -> Capacities {
     }
 }
 
-/// An empty queue. A cell is free for its first node.
+/// An empty queue, for which memory is asked once more if it is refused. A cell is free for its first node.
 pub(crate) fn new_queue<'c>(
     rt: &impl Abort,
     alloc: Global,
     collector: &'c Nodes,
 ) -> Queue<'c, u64> {
-    Queue::new(alloc, collector).expect(rt, "a cell and memory for a queue")
+    match Queue::new(alloc, collector) {
+        Ok(queue) => queue,
+        Err(fault) => {
+            want(rt, "why there is none", fault, Fault::NoMemory);
+            Queue::new(alloc, collector).expect(rt, "a cell and memory for a queue")
+        }
+    }
 }
 
 /// A new participant, for which a position is free.
@@ -73,16 +84,11 @@ pub(crate) fn let_go(rt: &impl Abort, guard: Pin<'_>) {
 }
 
 /// Pins, flushes and unpins. Returns what the flush answered.
-fn round(rt: &impl Abort, handle: &mut Handle<'_>) -> Result<(), Fault> {
+pub(crate) fn round(rt: &impl Abort, handle: &mut Handle<'_>) -> Result<(), Fault> {
     let guard = pin(rt, handle);
     let flushed = handle.flush(&guard);
     unpin(rt, handle, guard);
     flushed
-}
-
-/// Makes a round, whose flush answers this.
-pub(crate) fn want_round(rt: &impl Abort, handle: &mut Handle<'_>, wanted: Result<(), Fault>) {
-    want(rt, "the flush of a round", round(rt, handle), wanted);
 }
 
 /// Releases the handle, whose bag finds a place.
@@ -98,43 +104,33 @@ pub(crate) fn end(rt: &impl Abort, collector: Nodes, jobs: u64) {
     want(rt, "the jobs that the end calls", collector.end(), jobs);
 }
 
-/// What a push answered: its fault, and the value that it handed back.
-pub(crate) fn told(pushed: Result<(), Refused<u64>>) -> Result<(), (Fault, u64)> {
+/// What a push of this value answered. A refused one hands the value back.
+pub(crate) fn told(
+    rt: &impl Abort,
+    value: u64,
+    pushed: Result<(), Refused<u64>>,
+) -> Result<(), Fault> {
     match pushed {
         Ok(()) => Ok(()),
-        Err(Refused { fault, value }) => Err((fault, value)),
+        Err(refused) => {
+            want(rt, "the value that comes back", refused.value, value);
+            Err(refused.fault)
+        }
     }
 }
 
-/// A push of the value, in at most this many tries, answers no fault, or this one with the value.
-pub(crate) fn want_push(
+/// What a push of the value in at most this many tries answers. A refused one hands the value back.
+pub(crate) fn pushed(
     rt: &impl Abort,
     queue: &Queue<'_, u64>,
     handle: &mut Handle<'_>,
     guard: &Pin<'_>,
     (value, tries): (u64, u32),
-    wanted: Option<Fault>,
-) {
-    let seen = told(queue.push(handle, guard, value, tries));
-    let wanted = match wanted {
-        None => Ok(()),
-        Some(fault) => Err((fault, value)),
-    };
-    want(rt, "a push", seen, wanted);
+) -> Result<(), Fault> {
+    told(rt, value, queue.push(handle, guard, value, tries))
 }
 
-/// Pushes the value in one try.
-pub(crate) fn push(
-    rt: &impl Abort,
-    queue: &Queue<'_, u64>,
-    handle: &mut Handle<'_>,
-    guard: &Pin<'_>,
-    value: u64,
-) {
-    want_push(rt, queue, handle, guard, (value, 1), None);
-}
-
-/// What a pop in at most this many tries answers.
+/// A pop in at most this many tries answers so.
 pub(crate) fn want_pop(
     rt: &impl Abort,
     queue: &Queue<'_, u64>,
@@ -144,17 +140,6 @@ pub(crate) fn want_pop(
     wanted: Result<Option<u64>, Fault>,
 ) {
     want(rt, "a pop", queue.pop(handle, guard, tries), wanted);
-}
-
-/// Pops this value in one try.
-pub(crate) fn pop(
-    rt: &impl Abort,
-    queue: &Queue<'_, u64>,
-    handle: &mut Handle<'_>,
-    guard: &Pin<'_>,
-    value: u64,
-) {
-    want_pop(rt, queue, handle, guard, 1, Ok(Some(value)));
 }
 
 /// A pop in one try finds nothing, and the queue says that it is empty.

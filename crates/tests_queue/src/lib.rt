@@ -7,13 +7,7 @@ mod calls;
 #[cfg(test)]
 mod meetings;
 #[cfg(test)]
-mod memory;
-#[cfg(test)]
 mod plays;
-#[cfg(test)]
-mod program;
-#[cfg(test)]
-mod refusals;
 #[cfg(test)]
 mod rows;
 #[cfg(test)]

@@ -3,9 +3,9 @@
 ghost use Rattle.epoch_plan_threads.specs.Paths.{IsTold, reply_of};
 
 use crate::calls::{
-    Handle, Pin, collector, end, new_queue, pin, pop, push, register, release, told, unpin, want,
-    want_empty, want_push,
+    Handle, Pin, collector, end, new_queue, pin, register, release, told, unpin, want,
 };
+use crate::plays::{Deed, act_all};
 use epoch_base::{Fault, Work};
 use epoch_heap::{Access, Answer};
 use epoch_pin::Capacities;
@@ -79,7 +79,7 @@ impl<'s, 'g> Spots for Stopped<'s, 'g> {
 enum MetCall {
     Pop(u32, Result<Option<u64>, Fault>),
     /// A push of 9.
-    Push(u32, Result<(), (Fault, u64)>),
+    Push(u32, Result<(), Fault>),
 }
 
 /// Makes a call, in which the other participant acts after this many accesses.
@@ -106,7 +106,7 @@ fn want_met<'c>(
         }
         MetCall::Push(tries, wanted) => {
             let pushed = push_over(&mut met, handle, guard, 9, tries);
-            want(rt, "a push that is met", told(pushed), wanted);
+            want(rt, "a push that is met", told(rt, 9, pushed), wanted);
         }
     }
     let Met {
@@ -133,26 +133,21 @@ fn stop_before_the_tail_is_moved(
     };
     assert!(rt; handle.owns(guard), "the guard is one of the handle");
     let pushed = push_over(&mut stopped, handle, guard, 9, 1);
-    want(rt, "a push that stops", told(pushed), Ok(()));
+    want(rt, "a push that stops", told(rt, 9, pushed), Ok(()));
     let Stopped { own, before: _ } = stopped;
     own.close();
 }
 
-/// Of two participants the first one pushes `before`, and makes a call in which the other one acts after this many
-/// accesses. The other one pops `left`, and then nothing is there. The end calls two removals.
-fn meet(rt: &impl Abort, alloc: Global, before: &[u64], call: (MetCall, u32), left: &[u64]) {
+/// Of two participants the first one does this, and makes a call in which the other one acts after this many accesses.
+/// The other one does that. The end calls two removals.
+fn meet(rt: &impl Abort, alloc: Global, before: &[Deed], call: (MetCall, u32), after: &[Deed]) {
     let collector = collector(rt, alloc, Capacities::usual(2, 4, 2));
     let queue = new_queue(rt, alloc, &collector);
     let (mut first, mut second) = (register(rt, &collector), register(rt, &collector));
     let (own, others) = (pin(rt, &mut first), pin(rt, &mut second));
-    for value in before {
-        push(rt, &queue, &mut first, &own, *value);
-    }
+    act_all(rt, &queue, &mut first, &own, before);
     want_met(rt, &queue, (&mut first, &own), (&mut second, &others), call);
-    for value in left {
-        pop(rt, &queue, &mut second, &others, *value);
-    }
-    want_empty(rt, &queue, &mut second, &others);
+    act_all(rt, &queue, &mut second, &others, after);
     unpin(rt, &mut second, others);
     unpin(rt, &mut first, own);
     release(rt, second);
@@ -161,84 +156,64 @@ fn meet(rt: &impl Abort, alloc: Global, before: &[u64], call: (MetCall, u32), le
     end(rt, collector, 2);
 }
 
-// The queue holds 1, which the other participant pops before the exchange of the head.
+// The queue holds 1, which the other participant pops before the exchange of the head. A second try pops 2. In its only
+// try the call pops nothing. Later the exchange is won, and the other participant finds nothing to pop.
 #[test]
 fn a_pop_that_is_met_pops_what_came_after(rt: HostRuntime) {
-    let call = MetCall::Pop(2, Ok(Some(2)));
+    let one = [Deed::Push(1)];
     for accesses in 1..5 {
-        meet(&rt, rt.alloc(), &[1], (call, accesses), &[]);
+        let call = (MetCall::Pop(2, Ok(Some(2))), accesses);
+        meet(&rt, rt.alloc(), &one, call, &[Deed::Nothing]);
     }
+    let two = [Deed::Pop(2), Deed::Nothing];
+    let lost = (MetCall::Pop(1, Err(Fault::TriesOut)), 4);
+    meet(&rt, rt.alloc(), &one, lost, &two);
+    let won = (MetCall::Pop(1, Ok(Some(1))), 5);
+    meet(&rt, rt.alloc(), &one, won, &two);
 }
 
-#[test]
-fn a_pop_that_is_met_in_its_only_try_pops_nothing(rt: HostRuntime) {
-    let call = MetCall::Pop(1, Err(Fault::TriesOut));
-    meet(&rt, rt.alloc(), &[1], (call, 4), &[2]);
-}
-
-// The exchange of the head is won, and the other participant finds nothing to pop.
-#[test]
-fn a_pop_that_is_met_after_its_exchange_has_popped(rt: HostRuntime) {
-    let call = MetCall::Pop(1, Ok(Some(1)));
-    meet(&rt, rt.alloc(), &[1], (call, 5), &[2]);
-}
-
-// 2 comes to stand behind the node that the push found last: the second try goes behind 2.
+// 2 comes to stand behind the node that the push found last: the second try goes behind 2. If the only try is lost, 9
+// comes back, and the removals are those of 9 and of the first node.
 #[test]
 fn a_push_that_is_met_goes_behind_what_came_before(rt: HostRuntime) {
-    let call = MetCall::Push(2, Ok(()));
     for accesses in 2..4 {
-        meet(&rt, rt.alloc(), &[], (call, accesses), &[2, 9]);
+        let call = (MetCall::Push(2, Ok(())), accesses);
+        let both = [Deed::Pop(2), Deed::Pop(9), Deed::Nothing];
+        meet(&rt, rt.alloc(), &[], call, &both);
     }
+    let lost = (MetCall::Push(1, Err(Fault::TriesOut)), 3);
+    meet(&rt, rt.alloc(), &[], lost, &[Deed::Pop(2), Deed::Nothing]);
 }
 
-// The only try is lost: 9 comes back. The removals are those of 9 and of the first node.
-#[test]
-fn a_push_whose_last_try_is_lost_hands_the_value_back(rt: HostRuntime) {
-    let call = MetCall::Push(1, Err((Fault::TriesOut, 9)));
-    meet(&rt, rt.alloc(), &[], (call, 3), &[2]);
-}
-
-// The next push in one try moves the tail on, and is lost.
-#[test]
-fn a_push_moves_a_tail_on_that_lags(rt: HostRuntime) {
-    let collector = collector(&rt, rt.alloc(), Capacities::usual(1, 4, 2));
-    let queue = new_queue(&rt, rt.alloc(), &collector);
-    let mut handle = register(&rt, &collector);
-    let guard = pin(&rt, &mut handle);
-    stop_before_the_tail_is_moved(&rt, &queue, &mut handle, &guard);
-    want_push(
-        &rt,
-        &queue,
-        &mut handle,
-        &guard,
-        (2, 1),
-        Some(Fault::TriesOut),
-    );
-    push(&rt, &queue, &mut handle, &guard, 3);
-    pop(&rt, &queue, &mut handle, &guard, 9);
-    pop(&rt, &queue, &mut handle, &guard, 3);
-    want_empty(&rt, &queue, &mut handle, &guard);
-    unpin(&rt, &mut handle, guard);
-    release(&rt, handle);
+/// One participant pushes 9, but for its last access, and then does this. The end calls this many removals.
+fn leave_the_tail(rt: &impl Abort, alloc: Global, deeds: &[Deed], jobs: u64) {
+    let collector = collector(rt, alloc, Capacities::usual(1, 4, 2));
+    let queue = new_queue(rt, alloc, &collector);
+    let mut handle = register(rt, &collector);
+    let guard = pin(rt, &mut handle);
+    stop_before_the_tail_is_moved(rt, &queue, &mut handle, &guard);
+    act_all(rt, &queue, &mut handle, &guard, deeds);
+    unpin(rt, &mut handle, guard);
+    release(rt, handle);
     drop(queue);
-    end(&rt, collector, 3);
+    end(rt, collector, jobs);
 }
 
-// The tail doesn't stay at the node whose removal is deferred: a push in one try goes behind the node of 9.
+// A push in one try moves the tail on, and is lost.
+const PUSHES_BEHIND: &[Deed] = &[
+    Deed::Refused(2, 1, Fault::TriesOut),
+    Deed::Push(3),
+    Deed::Pop(9),
+    Deed::Pop(3),
+    Deed::Nothing,
+];
+
+// A pop moves the tail on too, so that it doesn't stay at the node whose removal is deferred: a push in one try goes
+// behind the node of 9.
+const POPS_BEHIND: &[Deed] = &[Deed::Pop(9), Deed::Push(2), Deed::Pop(2), Deed::Nothing];
+
 #[test]
-fn a_pop_moves_a_tail_on_that_lags(rt: HostRuntime) {
-    let collector = collector(&rt, rt.alloc(), Capacities::usual(1, 3, 2));
-    let queue = new_queue(&rt, rt.alloc(), &collector);
-    let mut handle = register(&rt, &collector);
-    let guard = pin(&rt, &mut handle);
-    stop_before_the_tail_is_moved(&rt, &queue, &mut handle, &guard);
-    pop(&rt, &queue, &mut handle, &guard, 9);
-    push(&rt, &queue, &mut handle, &guard, 2);
-    pop(&rt, &queue, &mut handle, &guard, 2);
-    want_empty(&rt, &queue, &mut handle, &guard);
-    unpin(&rt, &mut handle, guard);
-    release(&rt, handle);
-    drop(queue);
-    end(&rt, collector, 2);
+fn a_push_and_a_pop_move_a_tail_on_that_lags(rt: HostRuntime) {
+    leave_the_tail(&rt, rt.alloc(), PUSHES_BEHIND, 3);
+    leave_the_tail(&rt, rt.alloc(), POPS_BEHIND, 2);
 }

@@ -1,6 +1,6 @@
 //! A queue that threads share.
 use crate::calls::{
-    Handle, Nodes, collector, new_queue, pin, register, told, unpin, want, want_empty,
+    Handle, Nodes, collector, new_queue, pin, pushed, register, unpin, want, want_empty,
 };
 use epoch_base::Fault;
 use epoch_pin::Capacities;
@@ -26,12 +26,12 @@ fn push_at_last<R: Abort + Wait>(
 ) {
     for _ in rt.forever() {
         let guard = pin(rt, handle);
-        let pushed = told(queue.push(handle, &guard, value, TRIES));
+        let answer = pushed(rt, queue, handle, &guard, (value, TRIES));
         let _ = handle.flush(&guard);
         unpin(rt, handle, guard);
-        match pushed {
+        match answer {
             Ok(()) => return,
-            Err((fault, _)) => want(rt, "a pause helps", fault == Fault::NoMemory, false),
+            Err(fault) => want(rt, "a pause helps", fault == Fault::NoMemory, false),
         }
         thread::yield_now();
     }

@@ -1,9 +1,16 @@
-//! Tests of `epoch_script` by its public calls: rows of scripts with what they print, bad lines, numbers and streams.
+//! Tests of `epoch_script` by its public calls: rows of scripts with what they print, bad lines, random lines, and a
+//! script of which a read, a write or an allocation is refused.
 #![tactic(auto)]
 
+#[cfg(test)]
+mod lines;
+#[cfg(test)]
+mod memory;
+#[cfg(test)]
+mod refusals;
 #[cfg(test)]
 mod rows;
 #[cfg(test)]
 mod scripts;
 #[cfg(test)]
-mod streams;
+mod thrown;

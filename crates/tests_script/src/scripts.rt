@@ -1,11 +1,8 @@
-//! Runs a script that is written in one line, and compares what it prints.
-
+//! Runs scripts, and compares what they print.
 use epoch_script::{Ending, run};
 use std::alloc::{AllocError, Global};
 use std::fmt::Debug;
-use std::io::BufRead;
 use std::process::Abort;
-use std::test::Fail;
 
 /// A part of a script or of what it prints: `;` stands between lines, and the whole is repeated for each
 /// number from the first to below the second, which takes the place of each `#`.
@@ -24,17 +21,13 @@ pub fn lines_of(alloc: Global, parts: &[Part]) -> Result<String, AllocError> {
 
 fn add_lines(lines: &mut String, text: &str, number: u64) -> Result<(), AllocError> {
     for c in text.chars() {
-        add_char(lines, c, number)?;
+        match c {
+            ';' => lines.push('\n')?,
+            '#' => write!(lines, "{number}")?,
+            _ => lines.push(c)?,
+        }
     }
     lines.push('\n')
-}
-
-fn add_char(lines: &mut String, c: char, number: u64) -> Result<(), AllocError> {
-    match c {
-        ';' => lines.push('\n'),
-        '#' => write!(lines, "{number}"),
-        _ => lines.push(c),
-    }
 }
 
 /// What a run of a script gave.
@@ -48,14 +41,9 @@ pub struct Outcome {
 /// Runs the script of these bytes.
 pub fn outcome_of(alloc: Global, script: &[u8]) -> Outcome {
     let mut reader = script;
-    outcome_of_reader(alloc, &mut reader)
-}
-
-/// Runs the script that this reader gives.
-pub fn outcome_of_reader<R: BufRead>(alloc: Global, reader: &mut R) -> Outcome {
     let mut answers = Vec::new(alloc);
     let mut faults = Vec::new(alloc);
-    let ending = run(alloc, reader, &mut answers, &mut faults);
+    let ending = run(alloc, &mut reader, &mut answers, &mut faults);
     Outcome {
         ending,
         answers,
@@ -69,37 +57,44 @@ pub fn want<T: Copy + PartialEq + Debug>(rt: &impl Abort, shows: &str, seen: T, 
 }
 
 /// The bytes are this text.
-pub fn want_text(rt: &impl Abort, shows: &str, seen: &[u8], wanted: &str) -> Result<(), Fail> {
-    want(rt, shows, str::from_utf8(seen)?, wanted);
-    Ok(())
+fn want_text(rt: &impl Abort, shows: &str, seen: &[u8], wanted: &str) {
+    want(rt, shows, str::from_utf8(seen).expect(rt, shows), wanted);
 }
 
-/// The run ended with this exit status, printed this, and told this of a line that it couldn't do.
-pub fn want_told(
+/// A run of these bytes ends with this exit status, prints this, and tells this of a line that it can't do.
+pub fn expect_told(
     rt: &impl Abort,
+    alloc: Global,
     shows: &str,
-    outcome: &Outcome,
-    status: u8,
-    printed: &str,
-    told: &str,
-) -> Result<(), Fail> {
+    script: &[u8],
+    (status, printed, told): (u8, &str, &str),
+) {
+    let outcome = outcome_of(alloc, script);
     want(rt, shows, outcome.ending.status(), status);
-    want_text(rt, shows, &outcome.answers, printed)?;
-    want_text(rt, shows, &outcome.faults, told)
+    want_text(rt, shows, &outcome.answers, printed);
+    want_text(rt, shows, &outcome.faults, told);
 }
 
-/// Asserts that a script runs to its end and prints this.
+/// As `expect_told`, of a script in parts.
+pub fn expect_told_of(
+    rt: &impl Abort,
+    alloc: Global,
+    shows: &str,
+    parts: &[Part],
+    wanted: (u8, &str, &str),
+) {
+    let script = lines_of(alloc, parts).expect(rt, "memory for lines");
+    expect_told(rt, alloc, shows, script.as_bytes(), wanted);
+}
+
+/// A script runs to its end and prints this.
 pub fn expect_printed(
     rt: &impl Abort,
     alloc: Global,
     shows: &str,
     script: &[Part],
     printed: &[Part],
-) -> Result<(), Fail> {
-    let script = lines_of(alloc, script)?;
-    let printed = lines_of(alloc, printed)?;
-    let outcome = outcome_of(alloc, script.as_bytes());
-    want(rt, shows, outcome.ending, Ending::Finished);
-    want_text(rt, shows, &outcome.answers, &printed)?;
-    want_text(rt, shows, &outcome.faults, "")
+) {
+    let printed = lines_of(alloc, printed).expect(rt, "memory for lines");
+    expect_told_of(rt, alloc, shows, script, (0, &printed, ""));
 }

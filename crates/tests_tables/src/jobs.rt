@@ -1,3 +1,5 @@
+//! The calls of jobs.
+use crate::cells::place;
 use crate::wants::want;
 use epoch_base::{Bag, Called, Cells, Epoch, Job, Name, SealedBag, Work};
 use std::alloc::{AllocError, Global};
@@ -6,15 +8,6 @@ use std::sync::Arc;
 use std::sync::atomic::AtomicU64;
 use std::sync::atomic::Ordering::SeqCst;
 use std::test::Fail;
-
-fn cells_with(alloc: Global, values: u64) -> Option<Cells<u64>> {
-    let cells = Cells::new(alloc, 3, 0).ok()?;
-    for value in 0..values {
-        let boxed = Box::new(alloc, value).ok()?;
-        let _ = cells.place(boxed);
-    }
-    Some(cells)
-}
 
 /// A job that adds one to the count.
 fn counting_job(alloc: Global, count: &Arc<AtomicU64>) -> Result<Job, AllocError> {
@@ -39,51 +32,50 @@ fn four_jobs(work: Job) -> Bag<Job> {
 
 /// What the next job did, called while the second value is read.
 fn called_while_read(bag: &mut SealedBag<Job>, cells: &Cells<u64>) -> Option<Called> {
-    let reading = Name::new(2, 0).and_then(|name| cells.read(name));
+    let reading = cells.read(Name::new(2, 0)?)?;
     let called = bag.call_next(cells);
-    if let Some(reading) = reading {
-        reading.leave();
-    }
+    reading.leave();
     called
 }
 
+/// The next job did this.
+fn want_next(
+    rt: &impl Abort,
+    bag: &mut SealedBag<Job>,
+    cells: &Cells<u64>,
+    wanted: Option<Called>,
+) {
+    want(rt, "a job", bag.call_next(cells), wanted);
+}
+
 /// The jobs say what they did, from the oldest on.
-fn want_called(rt: &impl Abort, bag: SealedBag<Job>, cells: &Cells<u64>, count: &AtomicU64) {
-    let mut bag = bag;
-    want(
-        rt,
-        "a removal",
-        bag.call_next(cells),
-        Some(Called::Destroyed),
-    );
+fn want_called(rt: &impl Abort, bag: &mut SealedBag<Job>, cells: &Cells<u64>, count: &AtomicU64) {
+    want_next(rt, bag, cells, Some(Called::Destroyed));
     want(rt, "the work isn't called yet", count.load(SeqCst), 0);
-    want(rt, "the work", bag.call_next(cells), Some(Called::Ran));
+    want_next(rt, bag, cells, Some(Called::Ran));
     want(rt, "it is called", count.load(SeqCst), 1);
-    want(
-        rt,
-        "the same removal",
-        bag.call_next(cells),
-        Some(Called::Gone),
-    );
-    let held = called_while_read(&mut bag, cells);
+    // The same removal once more.
+    want_next(rt, bag, cells, Some(Called::Gone));
+    let held = called_while_read(bag, cells);
     want(
         rt,
         "a removal of what is read",
         held,
         Some(Called::HeldElsewhere),
     );
-    want(rt, "behind the last job", bag.call_next(cells), None);
+    want_next(rt, bag, cells, None);
     want(rt, "it is called once", count.load(SeqCst), 1);
 }
 
 #[test]
 fn jobs_are_called_oldest_first_and_say_what_they_did(rt: HostRuntime) -> Result<(), Fail> {
     let alloc = rt.alloc();
-    let Some(cells) = cells_with(alloc, 2) else {
-        return Err(Fail::from("no cells"));
-    };
+    let cells = Cells::new(alloc, 3, 0)?;
+    want(&rt, "a first value", place(alloc, &cells, 0), Some((1, 0)));
+    want(&rt, "a second one", place(alloc, &cells, 1), Some((2, 0)));
     let count = Arc::new(alloc, AtomicU64::new(0))?;
     let jobs = four_jobs(counting_job(alloc, &count)?);
-    want_called(&rt, jobs.seal(Epoch::starting()), &cells, &count);
+    let mut sealed = jobs.seal(Epoch::starting());
+    want_called(&rt, &mut sealed, &cells, &count);
     Ok(())
 }

@@ -1,26 +1,161 @@
-ghost use Rattle.std.specs.Prelude.{◌≡◌, ◌≢◌, ◌≤◌};
+//! Places for bags that threads share, on one thread.
+ghost use Rattle.std.specs.Prelude.{◌≡◌, ◌<◌, ◌≤◌};
 ghost use Rattle.epoch_tables.specs.SharedPlaces.{IsPlaceSeatOf, IsSamePlaceSeat};
-ghost use Rattle.epoch_tables.specs.SharedSteps.{RestsAt, TakesAt};
+ghost use Rattle.epoch_tables.specs.SharedSteps.{TakesAt};
 
-use crate::wants::{bag_of, want, want_put_on, want_take_on, want_word};
+use crate::wants::{want, want_word};
 use epoch_base::queue::{ClosedPlaces, PlaceSeat, SharedPlaces};
 use epoch_base::{
     Bag, Epoch, Fault, GREATEST_EPOCH, PutCursor, PutStep, SealedBag, TakeCursor, TakeStep,
 };
 use std::process::Abort;
 
-/// A put of this one job until it has ended, which it does within three steps a place.
-fn put(places: &SharedPlaces<u64>, seat: &mut PlaceSeat<u64>, seal: u64, job: u64) -> PutStep
-    requires of { IsPlaceSeatOf places.now seat.old }
-    requires rests { RestsAt seat.old.me }
-    requires seal { seal ≤ GREATEST_EPOCH }
-    ensures kept { IsSamePlaceSeat seat.old seat.new }
-    ensures rests { result ≢ PutStep.Again → RestsAt seat.new.me }
+/// A bag that holds this one job.
+pub(crate) fn bag_of(job: u64) -> Bag<u64> {
+    let mut bag = Bag::new();
+    let _ = bag.try_push(job);
+    bag
+}
+
+/// A bag of two jobs, which are this number and the next.
+pub(crate) fn two_jobs(first: u64, seal: u64) -> SealedBag<u64>
+    requires { seal ≤ GREATEST_EPOCH }
 {
+    let mut jobs = bag_of(first);
+    let _ = jobs.try_push(first.wrapping_add(1));
+    jobs.seal(Epoch::new(seal))
+}
+
+/// The word of the place: 0 for an empty one, 2 for a claimed one, 2s + 1 for one with a bag sealed with s.
+fn word_at(places: &SharedPlaces<u64>, place: usize) -> u64
+    requires { place < places.now.capacity }
+{
+    let mut seat = places.seat();
+    places.look(&mut seat, place)
+}
+
+/// Puts the bag into the place where it is empty and its claim is won, and else hands it back.
+pub(crate) fn put_at(
+    places: &SharedPlaces<u64>,
+    place: usize,
+    bag: SealedBag<u64>,
+) -> Option<SealedBag<u64>>
+    requires { place < places.now.capacity }
+{
+    let mut seat = places.seat();
+    let mut put = Some(bag);
+    if places.look(&mut seat, place) == 0 && places.claim(&mut seat, place, 0) == 0 {
+        places.fill(&mut seat, place, &mut put);
+    }
+    put
+}
+
+/// Takes the bag out of the place where one is seen there and its claim is won.
+pub(crate) fn take_at(places: &SharedPlaces<u64>, place: usize) -> Option<SealedBag<u64>>
+    requires { place < places.now.capacity }
+{
+    let mut seat = places.seat();
+    let word = places.look(&mut seat, place);
+    let mut taken = None;
+    if word % 2 == 1 && places.claim(&mut seat, place, word) == word {
+        places.empty(&mut seat, place, &mut taken);
+    }
+    taken
+}
+
+/// The bag came out, was sealed with 3, and has these jobs.
+fn want_pair(rt: &impl Abort, bag: Option<SealedBag<u64>>, first: u64, second: u64) {
+    let mut out = bag.expect(rt, "the bag came out");
+    want(rt, "its seal", out.seal(), 3);
+    want(rt, "the oldest job first", out.take_next(), Some(first));
+    want(rt, "the other job", out.take_next(), Some(second));
+    want(rt, "no other job", out.take_next(), None);
+}
+
+#[test]
+fn a_bag_is_put_into_a_place_and_comes_out_whole(rt: HostRuntime) -> Result<(), Fault> {
+    let places: SharedPlaces<u64> = SharedPlaces::new(rt.alloc(), 2)?;
+    want_pair(&rt, put_and_taken(&rt, &places), 5, 6);
+    Ok(())
+}
+
+/// A bag that one participant has put into a place, and another has taken out.
+fn put_and_taken(rt: &impl Abort, places: &SharedPlaces<u64>) -> Option<SealedBag<u64>>
+    requires { 1 < places.now.capacity }
+{
+    let (mut seat, mut other) = (places.seat(), places.seat());
+    let mut bag = Some(two_jobs(5, 3));
+    want(rt, "a new place is empty", word_at(places, 1), 0);
+    want_word(rt, "it is won", places.claim(&mut seat, 1, 0), 0);
+    want(rt, "it is claimed", word_at(places, 1), 2);
+    places.fill(&mut seat, 1, &mut bag);
+    want(rt, "its bag is sealed with 3", word_at(places, 1), 7);
+    want_word(rt, "it isn't empty", places.claim(&mut other, 1, 0), 7);
+    want_word(rt, "it is taken", places.claim(&mut other, 1, 7), 7);
+    places.empty(&mut other, 1, &mut bag);
+    want(rt, "it is empty again", word_at(places, 1), 0);
+    bag
+}
+
+#[test]
+fn steps_pass_a_place_whose_claim_they_lost(rt: HostRuntime) -> Result<(), Fault> {
+    let places: SharedPlaces<u64> = SharedPlaces::new(rt.alloc(), 2)?;
+    let put = put_too_late(&rt, &places);
+    want(&rt, "a put", put, (PutStep::Again, PutCursor::Look(1)));
+    want(&rt, "the bag in place 0", word_at(&places, 0), 7);
+    let taken = take_too_late(&rt, &places);
+    want(
+        &rt,
+        "a collection",
+        taken,
+        (TakeStep::Again, TakeCursor::Look(1)),
+    );
+    want(&rt, "place 0 is empty", word_at(&places, 0), 0);
+    Ok(())
+}
+
+/// What a put does that has seen place 0 empty, after another bag was put there.
+fn put_too_late(rt: &impl Abort, places: &SharedPlaces<u64>) -> (PutStep, PutCursor)
+    requires { 1 < places.now.capacity }
+{
+    let mut seat = places.seat();
+    let (mut held, mut cursor) = (bag_of(50), places.start_put());
+    let looked = places.put_step(&mut seat, &mut cursor, Epoch::new(5), &mut held);
+    want(rt, "it claims it next", cursor, PutCursor::Claim(0));
+    let PutStep::Again = looked else {
+        return (looked, cursor);
+    };
+    let back = put_at(places, 0, two_jobs(30, 3));
+    want(rt, "another bag is put there", back.is_none(), true);
+    let lost = places.put_step(&mut seat, &mut cursor, Epoch::new(5), &mut held);
+    (lost, cursor)
+}
+
+/// What a collection does that has seen the bag in place 0, after another participant took it.
+fn take_too_late(rt: &impl Abort, places: &SharedPlaces<u64>) -> (TakeStep, TakeCursor)
+    requires { 1 < places.now.capacity }
+{
+    let mut seat = places.seat();
+    let (expiry, mut cursor) = (Epoch::new(5), places.start_take());
+    let mut hand = Bag::new().seal(Epoch::starting());
+    let looked = places.take_step(&mut seat, &mut cursor, expiry, &mut hand);
+    let TakeStep::Again = looked else {
+        return (looked, cursor);
+    };
+    want_pair(rt, take_at(places, 0), 30, 31);
+    let lost = places.take_step(&mut seat, &mut cursor, expiry, &mut hand);
+    (lost, cursor)
+}
+
+/// A put of this one job until it has ended, which it does within three steps a place.
+fn put(places: &SharedPlaces<u64>, seal: u64, job: u64) -> PutStep
+    requires { seal ≤ GREATEST_EPOCH }
+{
+    let mut seat = places.seat();
     let mut held = bag_of(job);
     let mut cursor = places.start_put();
     for _ in 0..3 * places.capacity() {
-        let step = places.put_step(seat, &mut cursor, Epoch::new(seal), &mut held);
+        let step = places.put_step(&mut seat, &mut cursor, Epoch::new(seal), &mut held);
         let PutStep::Again = step else {
             return step;
         };
@@ -50,79 +185,14 @@ fn take(
     (TakeStep::Again, None)
 }
 
-/// A bag with these two jobs, sealed with 3.
-fn sealed_pair(first: u64, second: u64) -> SealedBag<u64> {
-    let mut jobs = bag_of(first);
-    let _ = jobs.try_push(second);
-    jobs.seal(Epoch::new(3))
-}
-
-/// The bag came out, was sealed with 3, and has these jobs.
-fn want_pair(rt: &impl Abort, bag: Option<SealedBag<u64>>, first: u64, second: u64) {
-    let Some(mut out) = bag else {
-        panic!(rt; "the bag came out");
-    };
-    want(rt, "its seal", out.seal(), 3);
-    want(rt, "the oldest job first", out.take_next(), Some(first));
-    want(rt, "the other job", out.take_next(), Some(second));
-    want(rt, "no other job", out.take_next(), None);
-}
-
-// The expected words: 0 for an empty place, 2 for a claimed one, 2s + 1 for one with a bag sealed with s.
-#[test]
-fn a_bag_is_put_into_a_place_and_comes_out_whole(rt: HostRuntime) -> Result<(), Fault> {
-    let places: SharedPlaces<u64> = SharedPlaces::new(rt.alloc(), 2)?;
-    let (mut seat, mut other) = (places.seat(), places.seat());
-    let mut bag = Some(sealed_pair(5, 6));
-    want(&rt, "a new place is empty", places.look(&mut seat, 1), 0);
-    want_word(&rt, "it is won", places.claim(&mut seat, 1, 0), 0);
-    want(&rt, "it is claimed", places.look(&mut other, 1), 2);
-    places.fill(&mut seat, 1, &mut bag);
-    want(&rt, "the bag is in the place", bag.is_none(), true);
-    want(&rt, "it is sealed with 3", places.look(&mut other, 1), 7);
-    want_word(&rt, "it isn't empty", places.claim(&mut other, 1, 0), 7);
-    want_word(&rt, "it is taken", places.claim(&mut other, 1, 7), 7);
-    places.empty(&mut other, 1, &mut bag);
-    want(&rt, "it is empty again", places.look(&mut seat, 1), 0);
-    want_pair(&rt, bag, 5, 6);
-    want(&rt, "how many there are", places.capacity(), 2);
-    Ok(())
-}
-
-#[test]
-fn a_put_passes_a_place_whose_claim_it_lost(rt: HostRuntime) -> Result<(), Fault> {
-    let places: SharedPlaces<u64> = SharedPlaces::new(rt.alloc(), 2)?;
-    let (mut seat, mut other) = (places.seat(), places.seat());
-    let (mut held, mut cursor) = (bag_of(50), places.start_put());
-    let looked = places.put_step(&mut seat, &mut cursor, Epoch::new(5), &mut held);
-    want_put_on(&rt, "place 0 is empty", looked);
-    want(&rt, "it claims it next", cursor, PutCursor::Claim(0));
-    let another = put(&places, &mut other, 3, 30);
-    want(&rt, "another bag is put there", another, PutStep::Done);
-    let lost = places.put_step(&mut seat, &mut cursor, Epoch::new(5), &mut held);
-    want(&rt, "the claim is lost", lost, PutStep::Again);
-    want(&rt, "it looks at the next one", cursor, PutCursor::Look(1));
-    want(
-        &rt,
-        "the other's bag is in place 0",
-        places.look(&mut other, 0),
-        7,
-    );
-    Ok(())
-}
-
 // Bags are sealed with 3, 4 and 5, and the epoch is 6: the last isn't expired.
 #[test]
 fn a_collection_takes_the_expired_bags_one_after_the_other(rt: HostRuntime) -> Result<(), Fault> {
     let places: SharedPlaces<u64> = SharedPlaces::new(rt.alloc(), 3)?;
-    let (mut one, mut two, mut three) = (places.seat(), places.seat(), places.seat());
-    let step = put(&places, &mut one, 3, 30);
-    want(&rt, "a first bag", step, PutStep::Done);
-    let step = put(&places, &mut two, 5, 50);
-    want(&rt, "a second one", step, PutStep::Done);
-    let step = put(&places, &mut three, 4, 40);
-    want(&rt, "a third one", step, PutStep::Done);
-    let (mut seat, mut other) = (places.seat(), places.seat());
+    want(&rt, "a first bag", put(&places, 3, 30), PutStep::Done);
+    want(&rt, "a second one", put(&places, 5, 50), PutStep::Done);
+    want(&rt, "a third one", put(&places, 4, 40), PutStep::Done);
+    let mut seat = places.seat();
     let (expiry, mut cursor) = (Epoch::new(6), places.start_take());
     let first = take(&places, &mut seat, &mut cursor, expiry);
     want(&rt, "the first bag", first, (TakeStep::Got, Some(30)));
@@ -132,31 +202,7 @@ fn a_collection_takes_the_expired_bags_one_after_the_other(rt: HostRuntime) -> R
     let last = take(&places, &mut seat, &mut cursor, expiry);
     want(&rt, "no other one", last, (TakeStep::Empty, None));
     want(&rt, "it stays there", cursor, TakeCursor::Look(3));
-    let left = places.look(&mut other, 1);
-    want(&rt, "the bag that isn't expired is left", left, 11);
-    Ok(())
-}
-
-// The words: 0 for an empty place, 7 for a bag sealed with 3.
-#[test]
-fn a_collection_passes_a_place_whose_claim_it_lost(rt: HostRuntime) -> Result<(), Fault> {
-    let places: SharedPlaces<u64> = SharedPlaces::new(rt.alloc(), 2)?;
-    let (mut seat, mut other) = (places.seat(), places.seat());
-    let mut bag = Some(sealed_pair(5, 6));
-    want_word(&rt, "an empty place", places.claim(&mut other, 0, 0), 0);
-    places.fill(&mut other, 0, &mut bag);
-    let (expiry, mut cursor) = (Epoch::new(5), places.start_take());
-    let mut hand = Bag::new().seal(Epoch::starting());
-    let looked = places.take_step(&mut seat, &mut cursor, expiry, &mut hand);
-    want_take_on(&rt, "the look", looked);
-    let won = places.claim(&mut other, 0, 7);
-    want_word(&rt, "another seat takes the bag first", won, 7);
-    places.empty(&mut other, 0, &mut bag);
-    let lost = places.take_step(&mut seat, &mut cursor, expiry, &mut hand);
-    want(&rt, "the claim is lost", lost, TakeStep::Again);
-    want(&rt, "it looks at the next one", cursor, TakeCursor::Look(1));
-    want(&rt, "the place is empty", places.look(&mut other, 0), 0);
-    want_pair(&rt, bag, 5, 6);
+    want(&rt, "the second bag is left", word_at(&places, 1), 11);
     Ok(())
 }
 
@@ -177,25 +223,14 @@ fn free(rt: &impl Abort, closed: ClosedPlaces<u64>) {
 #[test]
 fn closed_places_give_what_is_left_in_their_order(rt: HostRuntime) -> Result<(), Fault> {
     let places: SharedPlaces<u64> = SharedPlaces::new(rt.alloc(), 3)?;
-    let mut seat = places.seat();
-    let mut bag = Some(sealed_pair(5, 6));
-    want_word(&rt, "an empty place", places.claim(&mut seat, 1, 0), 0);
-    places.fill(&mut seat, 1, &mut bag);
+    let back = put_at(&places, 1, two_jobs(5, 3));
+    want(&rt, "the bag is put", back.is_none(), true);
     let mut closed = places.close();
-    want(&rt, "how many places are left", closed.len(), 3);
-    want(
-        &rt,
-        "nothing in the first",
-        next_of(&mut closed).is_none(),
-        true,
-    );
+    let first = next_of(&mut closed).is_none();
+    want(&rt, "nothing in the first place", first, true);
     want_pair(&rt, next_of(&mut closed), 5, 6);
-    want(
-        &rt,
-        "nothing in the last",
-        next_of(&mut closed).is_none(),
-        true,
-    );
+    let last = next_of(&mut closed).is_none();
+    want(&rt, "nothing in the last place", last, true);
     free(&rt, closed);
     Ok(())
 }

@@ -1,11 +1,14 @@
 //! Threads that share the tables, each for a bounded number of rounds.
-ghost use Rattle.std.specs.Prelude.{◌≡◌, ◌<◌, ◌≤◌, Some};
+ghost use Rattle.std.specs.Prelude.{◌≡◌, ◌<◌, Some};
 ghost use Rattle.epoch_tables.specs.Table.{IsOf, IsSameSeat};
 
+use crate::shared_places::{put_at, take_at, two_jobs};
+use crate::tables::{claimed, epoch_word};
+use crate::threads::{Work, count, counts_of, ones_and_more, side_by_side};
 use crate::wants::want;
 use epoch_base::queue::SharedPlaces;
 use epoch_base::table::{ParticipantSeat, Participants};
-use epoch_base::{Bag, Epoch, Fault, GREATEST_EPOCH, SealedBag};
+use epoch_base::{Fault, GREATEST_EPOCH, SealedBag};
 use std::sync::atomic::AtomicU64;
 use std::sync::atomic::Ordering::SeqCst;
 use std::thread;
@@ -48,28 +51,37 @@ fn visit(table: &Participants, position: usize, greatest: &AtomicU64) -> bool
     true
 }
 
-/// Visits the first position whose claim is won, this many times, and counts up to the greatest epoch.
-fn come_and_go(table: &Participants, rounds: u64, greatest: &AtomicU64) {
-    for _ in 0..rounds {
-        for position in 0..table.positions() {
-            if visit(table, position, greatest) {
+/// What participants share: their table, and the greatest epoch that one of them has read or stored.
+#[derive(Drop)]
+struct Visits<'a> {
+    table: &'a Participants,
+    greatest: &'a AtomicU64,
+}
+
+impl Visits<'_> {
+    /// Visits the first position whose claim is won.
+    fn visit(&self) {
+        for position in 0..self.table.positions() {
+            if visit(self.table, position, self.greatest) {
                 break;
             }
         }
     }
 }
 
-fn epoch_of(table: &Participants) -> u64 {
-    let mut seat = table.seat();
-    table.load_epoch_word(&mut seat) / 2
+impl Work for Visits<'_> {
+    fn work(&self, _number: u64) {
+        for _ in 0..2_000u64 {
+            self.visit();
+        }
+    }
 }
 
 /// How many positions a new seat can claim.
 fn free_positions(table: &Participants) -> u64 {
     let mut free: u64 = 0;
     for position in 0..table.positions() {
-        let mut seat = table.seat();
-        if table.claim(&mut seat, position) == 0 {
+        if claimed(table, position) == 0 {
             free = free.wrapping_add(1);
         }
     }
@@ -81,41 +93,21 @@ fn free_positions(table: &Participants) -> u64 {
 fn participants_at_once_leave_all_words_free(rt: HostRuntime) -> Result<(), Fault> {
     let table = Participants::new(rt.alloc(), 3)?;
     let greatest = AtomicU64::new(0);
-    let (shared, reached) = (&table, &greatest);
-    thread::scope(thread::scope_env(), &rt, |scope| {
-        for _ in 0..4 {
-            let _ = scope.spawn(move || come_and_go(shared, 2_000, reached));
-        }
-    });
-    let now = epoch_of(&table);
-    want(
-        &rt,
-        "the epoch is the greatest of all answers",
-        now,
-        greatest.load(SeqCst),
-    );
+    let visits = Visits {
+        table: &table,
+        greatest: &greatest,
+    };
+    side_by_side(&rt, 4, &visits);
+    let now = greatest.load(SeqCst);
+    let epoch = epoch_word(&table) / 2;
+    want(&rt, "the epoch is the greatest of all answers", epoch, now);
     want(&rt, "it is from 1 to 8000", now.clamp(1, 8_000), now);
-    come_and_go(&table, 10, &greatest);
-    want(
-        &rt,
-        "alone, each scan raises it",
-        epoch_of(&table),
-        now.wrapping_add(10),
-    );
+    visits.work(0);
+    let epoch = epoch_word(&table) / 2;
+    let wanted = now.wrapping_add(2_000);
+    want(&rt, "alone, each scan raises it", epoch, wanted);
     want(&rt, "each word is 0", free_positions(&table), 3);
     Ok(())
-}
-
-/// Puts the bag into the place where it is empty and its claim is won, and else hands it back.
-fn put_at(places: &SharedPlaces<u64>, place: usize, bag: SealedBag<u64>) -> Option<SealedBag<u64>>
-    requires { place < places.now.capacity }
-{
-    let mut seat = places.seat();
-    let mut put = Some(bag);
-    if places.look(&mut seat, place) == 0 && places.claim(&mut seat, place, 0) == 0 {
-        places.fill(&mut seat, place, &mut put);
-    }
-    put
 }
 
 /// Puts the bag into the first place that takes it, and answers whether one did.
@@ -130,78 +122,58 @@ fn put(places: &SharedPlaces<u64>, bag: SealedBag<u64>) -> bool {
     false
 }
 
-/// Takes the bag out of the place where one is seen there and its claim is won.
-fn take_at(places: &SharedPlaces<u64>, place: usize) -> Option<SealedBag<u64>>
-    requires { place < places.now.capacity }
-{
-    let mut seat = places.seat();
-    let word = places.look(&mut seat, place);
-    let mut taken = None;
-    if word % 2 == 1 && places.claim(&mut seat, place, word) == word {
-        places.empty(&mut seat, place, &mut taken);
-    }
-    taken
+/// What threads share that put bags or call jobs: the places, the calls of each job, and how many bags found no place.
+#[derive(Drop)]
+struct Jobs<'a> {
+    places: &'a SharedPlaces<u64>,
+    calls: &'a [AtomicU64],
+    refused: &'a AtomicU64,
 }
 
-/// A bag of two jobs, which are this number and the next.
-fn two_jobs(first: u64, seal: u64) -> SealedBag<u64>
-    requires { seal ≤ GREATEST_EPOCH }
-{
-    let mut jobs = Bag::new();
-    let _ = jobs.try_push(first);
-    let _ = jobs.try_push(first.wrapping_add(1));
-    jobs.seal(Epoch::new(seal))
-}
-
-/// Puts 8 bags of two jobs each, which are the numbers from `first` on, sealed with 0, 1, 2 and so on, and counts
-/// those that found no place.
-fn put_bags(places: &SharedPlaces<u64>, first: u64, refused: &AtomicU64) {
-    for count in 0..8u64 {
-        let bag = two_jobs(first.wrapping_add(2 * count), count);
-        if !put(places, bag) {
-            refused.fetch_add(1, SeqCst);
+impl Jobs<'_> {
+    /// Puts 8 bags of two jobs each, which are the numbers from `first` on, sealed with 0, 1, 2 and so on.
+    fn put_bags(&self, first: u64) {
+        for seal in 0..8u64 {
+            if !put(self.places, two_jobs(first.wrapping_add(2 * seal), seal)) {
+                self.refused.fetch_add(1, SeqCst);
+            }
         }
     }
-}
 
-/// How many jobs were called, the bit of each that was called once, and of each that was called again.
-#[derive(Drop)]
-struct Calls {
-    count: AtomicU64,
-    once: AtomicU64,
-    again: AtomicU64,
-}
-
-impl Calls {
-    fn call(&self, job: u64) {
-        let bit = 1 << (job % 64);
-        let before = self.once.fetch_or(bit, SeqCst);
-        self.again.fetch_or(before & bit, SeqCst);
-        self.count.fetch_add(1, SeqCst);
-    }
-
+    /// Calls the two jobs of the bag.
     fn call_two(&self, bag: SealedBag<u64>) {
         let mut jobs = bag;
         for _ in 0..2 {
             if let Some(job) = jobs.take_next() {
-                self.call(job);
+                count(self.calls, job);
             }
+        }
+    }
+
+    /// Takes bags and calls their jobs, until all jobs were called.
+    fn call_jobs(&self) {
+        for _ in 0..10_000_000u64 {
+            for place in 0..self.places.capacity() {
+                if let Some(bag) = take_at(self.places, place) {
+                    self.call_two(bag);
+                }
+            }
+            if ones_and_more(self.calls) == (32, 0) {
+                break;
+            }
+            thread::yield_now();
         }
     }
 }
 
-/// Takes bags and calls their jobs, until this many jobs were called by all.
-fn call_jobs(places: &SharedPlaces<u64>, jobs: u64, calls: &Calls) {
-    for _ in 0..10_000_000u64 {
-        for place in 0..places.capacity() {
-            if let Some(bag) = take_at(places, place) {
-                calls.call_two(bag);
-            }
+impl Work for Jobs<'_> {
+    /// Threads 0 and 2 put bags, and the others call their jobs.
+    fn work(&self, number: u64) {
+        match number {
+            0 => self.put_bags(0),
+            2 => self.put_bags(16),
+            _ => self.call_jobs(),
         }
-        if calls.count.load(SeqCst) >= jobs {
-            break;
-        }
-        thread::yield_now();
     }
 }
 
@@ -209,31 +181,15 @@ fn call_jobs(places: &SharedPlaces<u64>, jobs: u64, calls: &Calls) {
 fn jobs_of_several_threads_are_each_called_once(rt: HostRuntime) -> Result<(), Fault> {
     let places: SharedPlaces<u64> = SharedPlaces::new(rt.alloc(), 16)?;
     let refused = AtomicU64::new(0);
-    let calls = Calls {
-        count: AtomicU64::new(0),
-        once: AtomicU64::new(0),
-        again: AtomicU64::new(0),
+    let calls = counts_of(&rt, rt.alloc(), 32);
+    let jobs = Jobs {
+        places: &places,
+        calls: &calls,
+        refused: &refused,
     };
-    let (shared, full, called) = (&places, &refused, &calls);
-    thread::scope(thread::scope_env(), &rt, |scope| {
-        for first in [0, 16] {
-            let _ = scope.spawn(move || put_bags(shared, first, full));
-            let _ = scope.spawn(move || call_jobs(shared, 32, called));
-        }
-    });
-    want(
-        &rt,
-        "16 places are enough for 16 bags",
-        refused.load(SeqCst),
-        0,
-    );
-    want(&rt, "as many calls as jobs", calls.count.load(SeqCst), 32);
-    want(
-        &rt,
-        "each job was called",
-        calls.once.load(SeqCst),
-        0xFFFF_FFFF,
-    );
-    want(&rt, "none was called twice", calls.again.load(SeqCst), 0);
+    side_by_side(&rt, 4, &jobs);
+    let refused = refused.load(SeqCst);
+    want(&rt, "16 places are enough for 16 bags", refused, 0);
+    want(&rt, "each job, once", ones_and_more(&calls), (32, 0));
     Ok(())
 }

@@ -1,11 +1,30 @@
-//! Tests of `epoch_world` by its public calls, over three stores of bags: what steps tell.
+//! Tests of whole worlds by their public calls, over three stores of bags: what steps tell, alone and where a
+//! participant stalls, what the checkers of histories answer, and what is left where memory is refused.
 #![tactic(auto)]
 
 #[cfg(test)]
+mod cell_calls;
+#[cfg(test)]
+mod cells;
+#[cfg(test)]
 mod deeds;
 #[cfg(test)]
-mod plain;
+mod histories;
+#[cfg(test)]
+mod memory;
 #[cfg(test)]
 mod rows;
+#[cfg(test)]
+mod runs;
+#[cfg(test)]
+mod scripts;
+#[cfg(test)]
+mod sharp;
+#[cfg(test)]
+mod sizes;
+#[cfg(test)]
+mod stalls;
+#[cfg(test)]
+mod told;
 #[cfg(test)]
 mod wants;

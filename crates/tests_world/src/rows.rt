@@ -1,18 +1,26 @@
 //! What is done to worlds over each of the three stores, and what it tells, worked out by hand.
 
 use crate::deeds::Deed::{
-    Calls, Collects, Cycles, Defers, Ends, Epoch, Flushes, Goes, Guards, Pauses, Pins, Rounds,
-    Takes, Unpins, Word,
+    Calls, Collects, Cycles, Defers, Ends, Epoch, Flushes, Goes, Guards, Pauses, Pins, Room,
+    Rounds, Takes, Unpins, Word,
 };
-use crate::deeds::{Row, expect_rows};
-use crate::plain::{Answer, Call, Reply, Step};
-use epoch_bags::{BagQueue, Called, GREATEST_EPOCH, Places};
+use crate::deeds::{Deed, want_deeds};
+use crate::memory::world_at_last;
+use crate::told::Told;
+use crate::told::Told::{
+    BagsFull, CalledNow, Deferred, Done, EndGoRefused, EndRefused, FlushesFirst, GoRefused, Guard,
+    Pinned, Registered, RegistrationRefused, Released, Releases, Repinned, Repins, Resumes,
+    Stepped, Unpinned,
+};
+use epoch_bags::{BagQueue, BagStore, GREATEST_EPOCH, Places};
 use epoch_cells::Fault;
-use epoch_world::{Deferral, Shape};
+use epoch_world::{Deferral, Shape, World};
 use std::alloc::Global;
 use std::process::Abort;
-use std::test::Fail;
 use tests_pile::Pile;
+
+/// What a row shows, the shape of its world, and what is done to it.
+type Row = (&'static str, Shape, &'static [Deed]);
 
 /// One participant, and a store for one bag.
 const ONE: Shape = Shape {
@@ -42,15 +50,7 @@ const SMALL: Shape = Shape {
     ..ONE
 };
 
-const DONE: Reply = Reply::Done(Answer::Unit);
-
-const FULL: Reply = Reply::Refused(Fault::BagsFull);
-
-const RELEASED: &[Reply] = &[
-    Reply::Pinned(0),
-    Reply::Unpinned(0),
-    Reply::Done(Answer::Released),
-];
+const RELEASED: &[Told] = &[Pinned(0), Unpinned(0), Released];
 
 /// What pins, repins, guards and the epoch do, alone and against one another.
 const PINS: &[Row] = &[
@@ -58,14 +58,14 @@ const PINS: &[Row] = &[
         "a job is called by the second round after its own",
         Shape { bags: 4, ..ONE },
         &[
-            Takes(Step::Register, Reply::Registered(0)),
+            Takes(Registered(0)),
             Pins(0),
             Defers(0, 0, 1),
-            Flushes(0, &[], DONE),
+            Flushes(0, &[], Done),
             Unpins(0),
             Rounds(0, 1),
             Pins(0),
-            Flushes(0, &[(0, 1)], DONE),
+            Flushes(0, &[(0, 1)], Done),
             Epoch(3),
         ],
     ),
@@ -73,17 +73,17 @@ const PINS: &[Row] = &[
         "a pin is eight steps, one at a time",
         ONE,
         &[
-            Takes(Step::Register, Reply::Registered(0)),
-            Takes(Step::Begin(0, Call::Pin), Reply::Began),
-            Takes(Step::Go(0), Reply::Stepped),
-            Takes(Step::Go(0), Reply::Pinned(0)),
-            Takes(Step::Go(0), Reply::Stepped),
-            Takes(Step::Go(0), Reply::Stepped),
-            Takes(Step::Go(0), Reply::Stepped),
-            Takes(Step::Go(0), Reply::Stepped),
-            Takes(Step::Go(0), Reply::Stepped),
-            Takes(Step::Go(0), Reply::Done(Answer::Guard(0))),
-            Takes(Step::Go(0), Reply::Refused(Fault::Idle)),
+            Takes(Registered(0)),
+            Takes(Told::Pins(0)),
+            Takes(Stepped(0)),
+            Takes(Pinned(0)),
+            Takes(Stepped(0)),
+            Takes(Stepped(0)),
+            Takes(Stepped(0)),
+            Takes(Stepped(0)),
+            Takes(Stepped(0)),
+            Takes(Guard(0)),
+            Takes(GoRefused(Fault::Idle)),
         ],
     ),
     (
@@ -93,7 +93,7 @@ const PINS: &[Row] = &[
             ..ONE
         },
         &[
-            Takes(Step::Register, Reply::Registered(0)),
+            Takes(Registered(0)),
             Pins(0),
             Epoch(6),
             Word(0, Some(11)),
@@ -104,25 +104,25 @@ const PINS: &[Row] = &[
         "a participant pinned before the deferral holds the job back",
         Shape { bags: 4, ..TWO },
         &[
-            Takes(Step::Register, Reply::Registered(0)),
-            Takes(Step::Register, Reply::Registered(1)),
+            Takes(Registered(0)),
+            Takes(Registered(1)),
             Pins(0),
             Epoch(1),
             Word(0, Some(1)),
             Pins(1),
             Word(1, Some(3)),
             Defers(1, 0, 1),
-            Flushes(1, &[], DONE),
+            Flushes(1, &[], Done),
             Unpins(1),
             Pins(1),
-            Flushes(1, &[], DONE),
+            Flushes(1, &[], Done),
             Epoch(1),
             Unpins(0),
-            Flushes(1, &[], DONE),
+            Flushes(1, &[], Done),
             Epoch(2),
             Unpins(1),
             Pins(1),
-            Flushes(1, &[(0, 1)], DONE),
+            Flushes(1, &[(0, 1)], Done),
             Epoch(3),
         ],
     ),
@@ -130,28 +130,28 @@ const PINS: &[Row] = &[
         "a participant that publishes an old epoch holds the next one back",
         Shape { bags: 4, ..TWO },
         &[
-            Takes(Step::Register, Reply::Registered(0)),
-            Takes(Step::Register, Reply::Registered(1)),
-            Takes(Step::Begin(0, Call::Pin), Reply::Began),
-            Takes(Step::Go(0), Reply::Stepped),
+            Takes(Registered(0)),
+            Takes(Registered(1)),
+            Takes(Told::Pins(0)),
+            Takes(Stepped(0)),
             Cycles(1, 1),
             Epoch(1),
             Pins(1),
             Word(1, Some(3)),
-            Flushes(1, &[], DONE),
+            Flushes(1, &[], Done),
             Epoch(2),
             Unpins(1),
-            Takes(Step::Go(0), Reply::Pinned(0)),
+            Takes(Pinned(0)),
             Word(0, Some(1)),
             Epoch(2),
             Pins(1),
             Word(1, Some(5)),
             Defers(1, 0, 1),
-            Flushes(1, &[], DONE),
+            Flushes(1, &[], Done),
             Epoch(2),
-            Goes(0, &[Reply::Done(Answer::Guard(0))]),
+            Goes(0, &[Guard(0)]),
             Defers(0, 1, 2),
-            Flushes(0, &[], DONE),
+            Flushes(0, &[], Done),
             Epoch(2),
         ],
     ),
@@ -159,8 +159,8 @@ const PINS: &[Row] = &[
         "a job deferred beside another pin of the same epoch stays uncalled",
         TWO,
         &[
-            Takes(Step::Register, Reply::Registered(0)),
-            Takes(Step::Register, Reply::Registered(1)),
+            Takes(Registered(0)),
+            Takes(Registered(1)),
             Cycles(0, 1),
             Epoch(1),
             Cycles(1, 1),
@@ -170,7 +170,7 @@ const PINS: &[Row] = &[
             Pins(1),
             Word(1, Some(5)),
             Defers(1, 0, 1),
-            Flushes(1, &[], DONE),
+            Flushes(1, &[], Done),
             Epoch(3),
         ],
     ),
@@ -178,26 +178,26 @@ const PINS: &[Row] = &[
         "two scans of the same epoch advance it once",
         TWO,
         &[
-            Takes(Step::Register, Reply::Registered(0)),
-            Takes(Step::Register, Reply::Registered(1)),
+            Takes(Registered(0)),
+            Takes(Registered(1)),
             Cycles(0, 1),
             Cycles(1, 1),
             Pins(0),
             Word(0, Some(5)),
             Pins(1),
             Word(1, Some(5)),
-            Takes(Step::Begin(0, Call::Flush(Some(0))), Reply::Began),
-            Takes(Step::Begin(1, Call::Flush(Some(0))), Reply::Began),
-            Takes(Step::Go(0), Reply::Stepped),
-            Takes(Step::Go(1), Reply::Stepped),
-            Takes(Step::Go(0), Reply::Stepped),
-            Takes(Step::Go(1), Reply::Stepped),
-            Takes(Step::Go(0), Reply::Stepped),
-            Takes(Step::Go(1), Reply::Stepped),
+            Takes(FlushesFirst(0)),
+            Takes(FlushesFirst(1)),
+            Takes(Stepped(0)),
+            Takes(Stepped(1)),
+            Takes(Stepped(0)),
+            Takes(Stepped(1)),
+            Takes(Stepped(0)),
+            Takes(Stepped(1)),
             Epoch(2),
-            Takes(Step::Go(0), Reply::Stepped),
+            Takes(Stepped(0)),
             Epoch(3),
-            Takes(Step::Go(1), Reply::Stepped),
+            Takes(Stepped(1)),
             Epoch(3),
         ],
     ),
@@ -205,22 +205,22 @@ const PINS: &[Row] = &[
         "a scan that has passed a participant advances before it pins",
         TWO,
         &[
-            Takes(Step::Register, Reply::Registered(0)),
-            Takes(Step::Register, Reply::Registered(1)),
+            Takes(Registered(0)),
+            Takes(Registered(1)),
             Cycles(0, 1),
             Cycles(1, 1),
             Pins(1),
             Word(1, Some(5)),
-            Takes(Step::Begin(1, Call::Flush(Some(0))), Reply::Began),
-            Takes(Step::Go(1), Reply::Stepped),
-            Takes(Step::Go(1), Reply::Stepped),
+            Takes(FlushesFirst(1)),
+            Takes(Stepped(1)),
+            Takes(Stepped(1)),
             Pins(0),
             Word(0, Some(5)),
-            Takes(Step::Go(1), Reply::Stepped),
-            Takes(Step::Go(1), Reply::Stepped),
+            Takes(Stepped(1)),
+            Takes(Stepped(1)),
             Epoch(3),
-            Goes(1, &[DONE]),
-            Flushes(1, &[], DONE),
+            Goes(1, &[Done]),
+            Flushes(1, &[], Done),
             Epoch(3),
         ],
     ),
@@ -228,15 +228,15 @@ const PINS: &[Row] = &[
         "a repin with a second guard out does nothing",
         ONE,
         &[
-            Takes(Step::Register, Reply::Registered(0)),
+            Takes(Registered(0)),
             Pins(0),
             Word(0, Some(1)),
             Epoch(1),
             Guards(0, 1, 2),
-            Calls(0, Call::Repin(Some(0)), &[DONE]),
+            Calls(Repins(Some(0)), &[Done]),
             Word(0, Some(1)),
-            Calls(0, Call::Unpin(Some(1)), &[DONE]),
-            Calls(0, Call::Repin(Some(0)), &[Reply::Repinned(0), DONE]),
+            Calls(Told::Unpins(Some(1)), &[Done]),
+            Calls(Repins(Some(0)), &[Repinned(0), Done]),
             Word(0, Some(3)),
         ],
     ),
@@ -244,11 +244,11 @@ const PINS: &[Row] = &[
         "the lowest free position is registered, and none in a full table",
         TWO,
         &[
-            Takes(Step::Register, Reply::Registered(0)),
-            Takes(Step::Register, Reply::Registered(1)),
-            Takes(Step::Register, Reply::Refused(Fault::TableFull)),
-            Calls(0, Call::Release, RELEASED),
-            Takes(Step::Register, Reply::Registered(0)),
+            Takes(Registered(0)),
+            Takes(Registered(1)),
+            Takes(RegistrationRefused(Fault::TableFull)),
+            Calls(Releases, RELEASED),
+            Takes(Registered(0)),
         ],
     ),
     (
@@ -257,23 +257,19 @@ const PINS: &[Row] = &[
             start_epoch: GREATEST_EPOCH,
             ..ONE
         },
-        &[
-            Takes(Step::Register, Reply::Registered(0)),
-            Pins(0),
-            Word(0, Some(u64::MAX)),
-        ],
+        &[Takes(Registered(0)), Pins(0), Word(0, Some(u64::MAX))],
     ),
     (
         "a pin of nobody is refused",
         ONE,
-        &[Calls(0, Call::Pin, &[Reply::Refused(Fault::NotRegistered)])],
+        &[Calls(Told::Pins(0), &[GoRefused(Fault::NotRegistered)])],
     ),
     (
         "an end with a participant left is refused and changes nothing",
         ONE,
         &[
-            Takes(Step::Register, Reply::Registered(0)),
-            Takes(Step::End, Reply::Refused(Fault::ParticipantsLeft)),
+            Takes(Registered(0)),
+            Takes(EndRefused(Fault::ParticipantsLeft)),
             Word(0, Some(2)),
             Epoch(0),
         ],
@@ -282,10 +278,10 @@ const PINS: &[Row] = &[
         "the 65th guard is refused",
         ONE,
         &[
-            Takes(Step::Register, Reply::Registered(0)),
+            Takes(Registered(0)),
             Pins(0),
             Guards(0, 1, 64),
-            Calls(0, Call::Pin, &[Reply::Refused(Fault::TooManyGuards)]),
+            Calls(Told::Pins(0), &[GoRefused(Fault::TooManyGuards)]),
         ],
     ),
 ];
@@ -296,11 +292,11 @@ const PAUSES: &[Row] = &[
         "a paused participant is refused all but the resume",
         ONE,
         &[
-            Takes(Step::Register, Reply::Registered(0)),
+            Takes(Registered(0)),
             Pins(0),
-            Calls(0, Call::Pause(Some(0)), &[Reply::Unpinned(0), DONE]),
-            Calls(0, Call::Flush(Some(0)), &[Reply::Refused(Fault::Busy)]),
-            Calls(0, Call::Resume(Some(0)), &[Reply::Pinned(0), DONE]),
+            Calls(Told::Pauses(Some(0)), &[Unpinned(0), Done]),
+            Calls(Told::Flushes(Some(0)), &[GoRefused(Fault::Busy)]),
+            Calls(Resumes(Some(0)), &[Pinned(0), Done]),
             Word(0, Some(3)),
         ],
     ),
@@ -308,17 +304,13 @@ const PAUSES: &[Row] = &[
         "a pause with a second guard out keeps the pin",
         ONE,
         &[
-            Takes(Step::Register, Reply::Registered(0)),
+            Takes(Registered(0)),
             Pins(0),
             Guards(0, 1, 2),
-            Calls(0, Call::Pause(Some(1)), &[DONE]),
-            Calls(0, Call::Unpin(Some(0)), &[Reply::Refused(Fault::Busy)]),
-            Calls(
-                0,
-                Call::Resume(Some(0)),
-                &[Reply::Refused(Fault::StrangerGuard)],
-            ),
-            Calls(0, Call::Resume(Some(1)), &[DONE]),
+            Calls(Told::Pauses(Some(1)), &[Done]),
+            Calls(Told::Unpins(Some(0)), &[GoRefused(Fault::Busy)]),
+            Calls(Resumes(Some(0)), &[GoRefused(Fault::StrangerGuard)]),
+            Calls(Resumes(Some(1)), &[Done]),
             Word(0, Some(1)),
         ],
     ),
@@ -326,7 +318,7 @@ const PAUSES: &[Row] = &[
         "the 129th pin collects",
         ONE,
         &[
-            Takes(Step::Register, Reply::Registered(0)),
+            Takes(Registered(0)),
             Cycles(0, 128),
             Epoch(1),
             Pins(0),
@@ -338,7 +330,7 @@ const PAUSES: &[Row] = &[
         "a resume counts as a pin",
         ONE,
         &[
-            Takes(Step::Register, Reply::Registered(0)),
+            Takes(Registered(0)),
             Pins(0),
             Pauses(0, 127),
             Epoch(1),
@@ -351,34 +343,34 @@ const PAUSES: &[Row] = &[
         "an unprotected guard calls at once and does nothing else",
         ONE,
         &[
-            Takes(Step::Register, Reply::Registered(0)),
+            Takes(Registered(0)),
             Pins(0),
-            Calls(0, Call::Defer(None), &[Reply::CalledNow(Called::Ran), DONE]),
-            Calls(0, Call::Flush(None), &[DONE]),
-            Calls(0, Call::Pause(None), &[DONE]),
-            Calls(0, Call::Resume(None), &[DONE]),
+            Calls(Told::Defers(None), &[CalledNow, Done]),
+            Calls(Told::Flushes(None), &[Done]),
+            Calls(Told::Pauses(None), &[Done]),
+            Calls(Resumes(None), &[Done]),
         ],
     ),
     (
         "a resume of a guard that is not paused is refused",
         ONE,
         &[
-            Takes(Step::Register, Reply::Registered(0)),
+            Takes(Registered(0)),
             Pins(0),
-            Calls(0, Call::Resume(Some(0)), &[Reply::Refused(Fault::Idle)]),
+            Calls(Resumes(Some(0)), &[GoRefused(Fault::Idle)]),
         ],
     ),
     (
         "an unprotected resume leaves the pause as it is",
         ONE,
         &[
-            Takes(Step::Register, Reply::Registered(0)),
+            Takes(Registered(0)),
             Pins(0),
-            Calls(0, Call::Pause(Some(0)), &[Reply::Unpinned(0), DONE]),
-            Calls(0, Call::Resume(None), &[DONE]),
-            Calls(0, Call::Flush(Some(0)), &[Reply::Refused(Fault::Busy)]),
+            Calls(Told::Pauses(Some(0)), &[Unpinned(0), Done]),
+            Calls(Resumes(None), &[Done]),
+            Calls(Told::Flushes(Some(0)), &[GoRefused(Fault::Busy)]),
             Word(0, Some(2)),
-            Calls(0, Call::Resume(Some(0)), &[Reply::Pinned(0), DONE]),
+            Calls(Resumes(Some(0)), &[Pinned(0), Done]),
         ],
     ),
 ];
@@ -389,23 +381,23 @@ const BAGS: &[Row] = &[
         "a full store refuses a deferral and a flush until a bag is taken",
         ONE,
         &[
-            Takes(Step::Register, Reply::Registered(0)),
+            Takes(Registered(0)),
             Pins(0),
             Defers(0, 0, 128),
-            Calls(0, Call::Defer(Some(0)), &[FULL]),
-            Flushes(0, &[], FULL),
+            Calls(Told::Defers(Some(0)), &[BagsFull]),
+            Flushes(0, &[], BagsFull),
             Unpins(0),
-            Collects(0, &[], FULL),
+            Collects(0, &[], BagsFull),
             Pins(0),
-            Flushes(0, &[(0, 64)], FULL),
+            Flushes(0, &[(0, 64)], BagsFull),
             Epoch(3),
             Unpins(0),
             Pins(0),
-            Flushes(0, &[], DONE),
+            Flushes(0, &[], Done),
             Epoch(4),
             Unpins(0),
             Pins(0),
-            Flushes(0, &[(64, 128)], DONE),
+            Flushes(0, &[(64, 128)], Done),
             Epoch(5),
         ],
     ),
@@ -417,32 +409,65 @@ const BAGS: &[Row] = &[
             ..ONE
         },
         &[
-            Takes(Step::Register, Reply::Registered(0)),
+            Takes(Registered(0)),
             Pins(0),
             Defers(0, 0, 2),
-            Calls(0, Call::Defer(Some(0)), &[FULL]),
+            Calls(Told::Defers(Some(0)), &[BagsFull]),
+        ],
+    ),
+    (
+        "each call in turn, with bags of one job that are sealed with 1 and with 3",
+        Shape {
+            bag_jobs: 1,
+            collect_bags: 1,
+            ..ONE
+        },
+        &[
+            Takes(Registered(0)),
+            Epoch(0),
+            Word(0, Some(2)),
+            Room(0, Some(true)),
+            Pins(0),
+            Guards(0, 1, 2),
+            Calls(Told::Unpins(Some(1)), &[Done]),
+            Calls(Repins(Some(0)), &[Repinned(0), Done]),
+            Calls(Told::Pauses(Some(0)), &[Unpinned(0), Done]),
+            Calls(Told::Flushes(Some(0)), &[GoRefused(Fault::Busy)]),
+            Calls(Resumes(Some(0)), &[Pinned(0), Done]),
+            Calls(Told::Defers(None), &[CalledNow, Done]),
+            Defers(0, 0, 2),
+            Calls(Told::Defers(Some(0)), &[BagsFull]),
+            Unpins(0),
+            Collects(0, &[], BagsFull),
+            Collects(0, &[(0, 1)], BagsFull),
+            Rounds(0, 1),
+            Pins(0),
+            Flushes(0, &[(1, 2)], Done),
+            Defers(0, 2, 3),
+            Unpins(0),
+            Calls(Releases, RELEASED),
+            Epoch(5),
+            Word(0, Some(0)),
+            Room(0, None),
+            Ends(2, 3),
         ],
     ),
     (
         "a release with a full store is refused, and its job is called by the end",
         ONE,
         &[
-            Takes(Step::Register, Reply::Registered(0)),
+            Takes(Registered(0)),
             Pins(0),
             Defers(0, 0, 65),
             Unpins(0),
-            Calls(
-                0,
-                Call::Release,
-                &[Reply::Pinned(0), Reply::Unpinned(0), FULL],
-            ),
+            Calls(Releases, &[Pinned(0), Unpinned(0), BagsFull]),
             Word(0, Some(2)),
             Epoch(1),
-            Collects(0, &[], FULL),
+            Collects(0, &[], BagsFull),
             Epoch(2),
-            Collects(0, &[(0, 64)], FULL),
+            Collects(0, &[(0, 64)], BagsFull),
             Epoch(3),
-            Calls(0, Call::Release, RELEASED),
+            Calls(Releases, RELEASED),
             Word(0, Some(0)),
             Ends(64, 65),
         ],
@@ -451,7 +476,7 @@ const BAGS: &[Row] = &[
         "a thousand pins collect one time in 128",
         Shape { bags: 4, ..ONE },
         &[
-            Takes(Step::Register, Reply::Registered(0)),
+            Takes(Registered(0)),
             Pins(0),
             Defers(0, 0, 10),
             Unpins(0),
@@ -459,7 +484,7 @@ const BAGS: &[Row] = &[
             Epoch(8),
             Rounds(0, 1),
             Epoch(9),
-            Collects(0, &[(0, 10)], DONE),
+            Collects(0, &[(0, 10)], Done),
             Epoch(10),
         ],
     ),
@@ -471,14 +496,14 @@ const BAGS: &[Row] = &[
             ..ONE
         },
         &[
-            Takes(Step::Register, Reply::Registered(0)),
+            Takes(Registered(0)),
             Pins(0),
             Defers(0, 0, 1),
-            Flushes(0, &[], DONE),
+            Flushes(0, &[], Done),
             Unpins(0),
             Rounds(0, 20),
             Epoch(GREATEST_EPOCH),
-            Calls(0, Call::Release, RELEASED),
+            Calls(Releases, RELEASED),
             Ends(0, 1),
         ],
     ),
@@ -486,15 +511,15 @@ const BAGS: &[Row] = &[
         "after an end all is refused",
         Shape { bags: 4, ..ONE },
         &[
-            Takes(Step::Register, Reply::Registered(0)),
+            Takes(Registered(0)),
             Pins(0),
             Defers(0, 0, 2),
             Unpins(0),
-            Calls(0, Call::Release, RELEASED),
+            Calls(Releases, RELEASED),
             Ends(0, 2),
-            Takes(Step::Register, Reply::Refused(Fault::Ended)),
-            Takes(Step::End, Reply::Refused(Fault::Ended)),
-            Takes(Step::EndGo, Reply::Refused(Fault::Idle)),
+            Takes(RegistrationRefused(Fault::Ended)),
+            Takes(EndRefused(Fault::Ended)),
+            Takes(EndGoRefused(Fault::Idle)),
         ],
     ),
 ];
@@ -505,15 +530,15 @@ const FIRST_OUT: &[Row] = &[
         "a collection takes eight bags, the first ones that were put",
         Shape { bags: 16, ..ONE },
         &[
-            Takes(Step::Register, Reply::Registered(0)),
+            Takes(Registered(0)),
             Pins(0),
             Defers(0, 0, 640),
             Unpins(0),
             Rounds(0, 1),
             Epoch(2),
-            Collects(0, &[(0, 512)], DONE),
+            Collects(0, &[(0, 512)], Done),
             Epoch(3),
-            Collects(0, &[(512, 640)], DONE),
+            Collects(0, &[(512, 640)], Done),
             Epoch(4),
         ],
     ),
@@ -521,17 +546,17 @@ const FIRST_OUT: &[Row] = &[
         "a bag of two jobs is taken by each collection, the first one that was put",
         SMALL,
         &[
-            Takes(Step::Register, Reply::Registered(0)),
+            Takes(Registered(0)),
             Pins(0),
             Defers(0, 0, 5),
             Unpins(0),
             Rounds(0, 1),
             Epoch(2),
-            Collects(0, &[(0, 2)], DONE),
+            Collects(0, &[(0, 2)], Done),
             Epoch(3),
-            Collects(0, &[(2, 4)], DONE),
+            Collects(0, &[(2, 4)], Done),
             Epoch(4),
-            Collects(0, &[(4, 5)], DONE),
+            Collects(0, &[(4, 5)], Done),
             Epoch(5),
         ],
     ),
@@ -543,7 +568,7 @@ const LAST_OUT: &[Row] = &[
         "a collection takes eight bags, the last ones that were put",
         Shape { bags: 16, ..ONE },
         &[
-            Takes(Step::Register, Reply::Registered(0)),
+            Takes(Registered(0)),
             Pins(0),
             Defers(0, 0, 640),
             Unpins(0),
@@ -561,10 +586,10 @@ const LAST_OUT: &[Row] = &[
                     (192, 256),
                     (128, 192),
                 ],
-                DONE,
+                Done,
             ),
             Epoch(3),
-            Collects(0, &[(64, 128), (0, 64)], DONE),
+            Collects(0, &[(64, 128), (0, 64)], Done),
             Epoch(4),
         ],
     ),
@@ -572,17 +597,17 @@ const LAST_OUT: &[Row] = &[
         "a bag of two jobs is taken by each collection, the last one that was put",
         SMALL,
         &[
-            Takes(Step::Register, Reply::Registered(0)),
+            Takes(Registered(0)),
             Pins(0),
             Defers(0, 0, 5),
             Unpins(0),
             Rounds(0, 1),
             Epoch(2),
-            Collects(0, &[(4, 5)], DONE),
+            Collects(0, &[(4, 5)], Done),
             Epoch(3),
-            Collects(0, &[(2, 4)], DONE),
+            Collects(0, &[(2, 4)], Done),
             Epoch(4),
-            Collects(0, &[(0, 2)], DONE),
+            Collects(0, &[(0, 2)], Done),
             Epoch(5),
         ],
     ),
@@ -594,30 +619,30 @@ const WHOLE_PUTS: &[Row] = &[
         "the 65th deferral puts a bag in one step",
         Shape { bags: 2, ..ONE },
         &[
-            Takes(Step::Register, Reply::Registered(0)),
+            Takes(Registered(0)),
             Pins(0),
             Defers(0, 0, 64),
-            Takes(Step::Begin(0, Call::Defer(Some(0))), Reply::Began),
-            Takes(Step::Go(0), Reply::Stepped),
-            Takes(Step::Go(0), Reply::Stepped),
-            Takes(Step::Go(0), Reply::Deferred(64)),
-            Takes(Step::Go(0), DONE),
+            Takes(Told::Defers(Some(0))),
+            Takes(Stepped(0)),
+            Takes(Stepped(0)),
+            Takes(Deferred(64)),
+            Takes(Done),
         ],
     ),
     (
         "a flush is six steps where a put and a collection are one each",
         Shape { bags: 2, ..ONE },
         &[
-            Takes(Step::Register, Reply::Registered(0)),
+            Takes(Registered(0)),
             Pins(0),
             Defers(0, 0, 1),
-            Takes(Step::Begin(0, Call::Flush(Some(0))), Reply::Began),
-            Takes(Step::Go(0), Reply::Stepped),
-            Takes(Step::Go(0), Reply::Stepped),
-            Takes(Step::Go(0), Reply::Stepped),
-            Takes(Step::Go(0), Reply::Stepped),
-            Takes(Step::Go(0), Reply::Stepped),
-            Takes(Step::Go(0), DONE),
+            Takes(FlushesFirst(0)),
+            Takes(Stepped(0)),
+            Takes(Stepped(0)),
+            Takes(Stepped(0)),
+            Takes(Stepped(0)),
+            Takes(Stepped(0)),
+            Takes(Done),
         ],
     ),
 ];
@@ -631,63 +656,70 @@ const PILES: &[Row] = &[(
         ..ONE
     },
     &[
-        Takes(Step::Register, Reply::Registered(0)),
+        Takes(Registered(0)),
         Pins(0),
         Defers(0, 0, 3),
-        Takes(Step::Begin(0, Call::Flush(Some(0))), Reply::Began),
-        Takes(Step::Go(0), Reply::Stepped),
-        Takes(Step::Go(0), Reply::Stepped),
-        Takes(Step::Go(0), Reply::Stepped),
-        Takes(Step::Go(0), Reply::Stepped),
-        Takes(Step::Go(0), Reply::Stepped),
-        Takes(Step::Go(0), Reply::Stepped),
-        Takes(Step::Go(0), Reply::Stepped),
-        Takes(Step::Go(0), DONE),
+        Takes(FlushesFirst(0)),
+        Takes(Stepped(0)),
+        Takes(Stepped(0)),
+        Takes(Stepped(0)),
+        Takes(Stepped(0)),
+        Takes(Stepped(0)),
+        Takes(Stepped(0)),
+        Takes(Stepped(0)),
+        Takes(Done),
     ],
 )];
 
-/// Rows that tell the same over any store.
-fn expect_everywhere(rt: &impl Abort, alloc: Global, rows: &[Row]) -> Result<(), Fail> {
-    expect_rows::<Places<Deferral>>(rt, alloc, rows)?;
-    expect_rows::<BagQueue<Deferral>>(rt, alloc, rows)?;
-    expect_rows::<Pile>(rt, alloc, rows)
-}
-
-#[test]
-fn pins_and_epochs_tell_the_same_over_any_store(rt: HostRuntime) -> Result<(), Fail> {
-    expect_everywhere(&rt, rt.alloc(), PINS)
-}
-
-#[test]
-fn pauses_and_unprotected_guards_tell_the_same_over_any_store(rt: HostRuntime) -> Result<(), Fail> {
-    expect_everywhere(&rt, rt.alloc(), PAUSES)
-}
-
-#[test]
-fn full_stores_and_ends_tell_the_same_over_any_store(rt: HostRuntime) -> Result<(), Fail> {
-    expect_everywhere(&rt, rt.alloc(), BAGS)
-}
-
-/// Rows that tell the same over a queue and over a pile, where a put and a look are one step each.
-fn expect_whole_puts(rt: &impl Abort, alloc: Global, rows: &[Row]) -> Result<(), Fail> {
-    expect_rows::<BagQueue<Deferral>>(rt, alloc, rows)?;
-    expect_rows::<Pile>(rt, alloc, rows)
+/// What these rows say, each of a world of its own over this store. No memory is taken but for the worlds.
+fn expect_rows<S: BagStore<Job = Deferral>>(rt: &impl Abort, alloc: Global, rows: &[Row]) {
+    for (shows, shape, deeds) in rows {
+        let mut world: World<S> = world_at_last(rt, alloc, *shape);
+        want_deeds(rt, shows, &mut world, deeds);
+    }
 }
 
 /// Rows that tell the same over stores that give the bag first that was put first.
-fn expect_first_out(rt: &impl Abort, alloc: Global, rows: &[Row]) -> Result<(), Fail> {
-    expect_rows::<Places<Deferral>>(rt, alloc, rows)?;
-    expect_rows::<BagQueue<Deferral>>(rt, alloc, rows)
+fn expect_first_out(rt: &impl Abort, alloc: Global, rows: &[Row]) {
+    expect_rows::<Places<Deferral>>(rt, alloc, rows);
+    expect_rows::<BagQueue<Deferral>>(rt, alloc, rows);
+}
+
+/// Rows that tell the same over any store.
+fn expect_everywhere(rt: &impl Abort, alloc: Global, rows: &[Row]) {
+    expect_first_out(rt, alloc, rows);
+    expect_rows::<Pile>(rt, alloc, rows);
 }
 
 #[test]
-fn bags_are_taken_in_the_order_of_the_store(rt: HostRuntime) -> Result<(), Fail> {
-    expect_first_out(&rt, rt.alloc(), FIRST_OUT)?;
-    expect_rows::<Pile>(&rt, rt.alloc(), LAST_OUT)
+fn pins_and_epochs_tell_the_same_over_any_store(rt: HostRuntime) {
+    expect_everywhere(&rt, rt.alloc(), PINS);
 }
 
 #[test]
-fn a_put_and_a_look_are_one_step_each_where_the_store_says_so(rt: HostRuntime) -> Result<(), Fail> {
-    expect_whole_puts(&rt, rt.alloc(), WHOLE_PUTS)?;
-    expect_rows::<Pile>(&rt, rt.alloc(), PILES)
+fn pauses_and_unprotected_guards_tell_the_same_over_any_store(rt: HostRuntime) {
+    expect_everywhere(&rt, rt.alloc(), PAUSES);
+}
+
+#[test]
+fn full_stores_and_ends_tell_the_same_over_any_store(rt: HostRuntime) {
+    expect_everywhere(&rt, rt.alloc(), BAGS);
+}
+
+#[test]
+fn bags_are_taken_in_the_order_of_the_store(rt: HostRuntime) {
+    expect_first_out(&rt, rt.alloc(), FIRST_OUT);
+    expect_rows::<Pile>(&rt, rt.alloc(), LAST_OUT);
+}
+
+/// Rows that tell the same over a queue and over a pile, where a put and a look are one step each.
+fn expect_whole_puts(rt: &impl Abort, alloc: Global, rows: &[Row]) {
+    expect_rows::<BagQueue<Deferral>>(rt, alloc, rows);
+    expect_rows::<Pile>(rt, alloc, rows);
+}
+
+#[test]
+fn a_put_and_a_look_are_one_step_each_where_the_store_says_so(rt: HostRuntime) {
+    expect_whole_puts(&rt, rt.alloc(), WHOLE_PUTS);
+    expect_rows::<Pile>(&rt, rt.alloc(), PILES);
 }

@@ -1,4 +1,0 @@
-use Rattle.tests_cells.proofs.cells.+stays_held.Given as goal
-
-abbrev pub decreases-stays_held : goal.decreases-stays_held
-decreases-stays_held l = l.more

@@ -1,0 +1,128 @@
+use crate::calls::{collector, end, let_go};
+use crate::wants::{want, want_ok, want_shown, want_some, want_true};
+use epoch_base::Called;
+use epoch_pin::atomic::{
+    Array, Atomic, CompareExchangeError, DestroyNow, ExchangeFault, Owned, Pointable, Pointer,
+    Shared, UpdateFault,
+};
+use epoch_pin::{Capacities, Guard, unprotected};
+use std::alloc::Global;
+use std::process::Abort;
+use std::sync::atomic::Ordering;
+use std::sync::atomic::Ordering::SeqCst;
+
+mod exchanges;
+mod values;
+
+/// What is done with pointers under an unprotected guard.
+#[derive(Clone, Copy)]
+enum Case {
+    Exchanges,
+    TagsOfNull,
+    StoredAndSwapped,
+    Held,
+    Shown,
+}
+
+/// Does this under the guard.
+fn act(rt: &impl Abort, alloc: Global, guard: &Guard<'_, u64>, case: Case) {
+    match case {
+        Case::Exchanges => exchanges::exchanges(rt, alloc, guard),
+        Case::TagsOfNull => exchanges::tags_of_null(rt, alloc, guard),
+        Case::StoredAndSwapped => values::stored_and_swapped(rt, alloc, guard),
+        Case::Held => values::held(rt, alloc, guard),
+        Case::Shown => values::shown(rt, alloc, guard),
+    }
+}
+
+/// Does this under an unprotected guard of a collector with this many cells.
+fn under_guard(rt: &impl Abort, alloc: Global, cells: u32, case: Case) {
+    let collector = collector(rt, alloc, Capacities::usual(1, cells, 1));
+    let guard = unprotected(&collector);
+    act(rt, alloc, &guard, case);
+    let_go(rt, guard);
+    end(rt, collector, 0);
+}
+
+/// An owned value.
+fn owned(rt: &impl Abort, alloc: Global, value: u64) -> Owned<u64> {
+    want_ok(rt, "memory for a value", Owned::new(alloc, value))
+}
+
+/// A pointer to this value, for which a cell is free.
+fn atomic(rt: &impl Abort, alloc: Global, value: u64, guard: &Guard<'_, u64>) -> Atomic<u64> {
+    want_ok(rt, "a cell is free", Atomic::new(alloc, value, guard))
+}
+
+/// The pointer is the one that is wanted.
+fn want_pointer(rt: &impl Abort, what: &str, seen: Shared<'_, u64>, wanted: Shared<'_, u64>) {
+    assert!(rt; seen == wanted, "{what}");
+}
+
+/// The pointer has this tag.
+fn want_tag(rt: &impl Abort, what: &str, shared: Shared<'_, u64>, tag: usize) {
+    want(rt, what, shared.tag(), tag);
+}
+
+/// What a lost exchange found, and the new pointer.
+fn changed<'g, P: Drop>(
+    rt: &impl Abort,
+    exchanged: Result<Shared<'g, u64>, ExchangeFault<'g, u64, P>>,
+) -> CompareExchangeError<'g, u64, P> {
+    match exchanged {
+        Err(ExchangeFault::Changed(error)) => error,
+        _ => panic!(rt; "nothing was found to have changed"),
+    }
+}
+
+#[test]
+fn each_form_of_an_exchange_answers_what_it_wrote_or_found(rt: HostRuntime) {
+    under_guard(&rt, rt.alloc(), 2, Case::Exchanges);
+}
+
+#[test]
+fn a_null_pointer_has_no_value_whatever_its_tag(rt: HostRuntime) {
+    under_guard(&rt, rt.alloc(), 1, Case::TagsOfNull);
+}
+
+#[test]
+fn values_are_stored_swapped_and_taken_back_and_refused_by_full_cells(rt: HostRuntime) {
+    under_guard(&rt, rt.alloc(), 2, Case::StoredAndSwapped);
+}
+
+#[test]
+fn a_value_that_is_read_is_neither_taken_back_nor_destroyed(rt: HostRuntime) {
+    under_guard(&rt, rt.alloc(), 1, Case::Held);
+}
+
+#[test]
+fn pointers_are_shown_without_addresses(rt: HostRuntime) {
+    under_guard(&rt, rt.alloc(), 1, Case::Shown);
+}
+
+/// How many tags a pointer to such a value has.
+fn want_tags<T: Pointable>(rt: &impl Abort, what: &str, tags: usize) {
+    want(rt, what, T::ALIGN, tags);
+}
+
+// The alignments of these types in Rust.
+#[test]
+fn tags_are_taken_modulo_the_alignment(rt: HostRuntime) {
+    want_tags::<u8>(&rt, "u8", 1);
+    want_tags::<i8>(&rt, "i8", 1);
+    want_tags::<bool>(&rt, "bool", 1);
+    want_tags::<u16>(&rt, "u16", 2);
+    want_tags::<i16>(&rt, "i16", 2);
+    want_tags::<u32>(&rt, "u32", 4);
+    want_tags::<i32>(&rt, "i32", 4);
+    want_tags::<char>(&rt, "char", 4);
+    want_tags::<u64>(&rt, "u64", 8);
+    want_tags::<i64>(&rt, "i64", 8);
+    want_tags::<usize>(&rt, "usize", 8);
+    want_tags::<isize>(&rt, "isize", 8);
+    want_tags::<String>(&rt, "String", 8);
+    want_tags::<Vec<u8>>(&rt, "Vec", 8);
+    want_tags::<Array<u8>>(&rt, "Array", 8);
+    want_tags::<u128>(&rt, "u128", 16);
+    want_tags::<i128>(&rt, "i128", 16);
+}

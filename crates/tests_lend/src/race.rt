@@ -1,0 +1,308 @@
+//! Readers on several threads, while a writer takes one value back, and then those of an array, one after another.
+ghost use Rattle.std.specs.Prelude.{◌≡◌, ◌<◌, ◌^◌};
+
+use crate::probes::{Counts, Probe, counts_for, dropped_once};
+use crate::wants::want;
+use epoch_lend_array::bag::Bag;
+use epoch_lend_array::cells::{LendingCells, Spot};
+use epoch_lend_readers::posts::{Made, PostSet, Posts};
+use epoch_lend_readers::value::{Owner, Retired, Value, lend};
+use std::alloc::{AllocError, Global};
+use std::marker::Brand;
+use std::sync::Wait;
+use std::sync::atomic::Ordering::SeqCst;
+use std::sync::atomic::{AtomicBool, AtomicU64};
+use std::test::Fail;
+use std::thread;
+use std::thread::Threads;
+
+/// As often as a reader reads at most, and the writer tries.
+const MOST: u64 = 10_000_000;
+
+/// As often as the first value is found before it is marked.
+const FOUND_BEFORE: u64 = 1000;
+
+/// How many values the writer places in the array. The first value has number 0, and these follow.
+const VALUES: usize = 2000;
+
+/// How many cells the array has, and how many removals go back together.
+const SLOTS: u64 = 8;
+
+const TOGETHER: usize = 4;
+
+/// The word of a spot: the slot in the low digit of base 8, and the turn above it.
+fn word_of(spot: Spot) -> u64 {
+    spot.turn.wrapping_mul(SLOTS).wrapping_add(spot.slot as u64)
+}
+
+fn spot_of(word: u64) -> Spot {
+    Spot {
+        slot: (word % SLOTS) as usize,
+        turn: word / SLOTS,
+    }
+}
+
+/// What readers and the writer tell each other.
+#[derive(Drop)]
+struct Course {
+    counts: Counts,
+    // The word of the spot that readers look at.
+    root: AtomicU64,
+    epoch: AtomicU64,
+    is_over: AtomicBool,
+    // How many values readers found, and how many of them were dropped before, or not as they were made.
+    found: AtomicU64,
+    torn: AtomicU64,
+    // Whether the first value is found after it came back, and how many values were placed in the array.
+    is_found: AtomicBool,
+    placed: AtomicU64,
+}
+
+impl Course {
+    fn new(counts: Counts) -> Course {
+        Course {
+            counts,
+            root: AtomicU64::new(0),
+            epoch: AtomicU64::new(2),
+            is_over: AtomicBool::new(false),
+            found: AtomicU64::new(0),
+            torn: AtomicU64::new(0),
+            is_found: AtomicBool::new(true),
+            placed: AtomicU64::new(0),
+        }
+    }
+
+    fn epoch(&self) -> u64
+        ensures { result < 2 ^ 63 }
+    {
+        self.epoch.load(SeqCst) / 2
+    }
+
+    /// Counts what was found.
+    fn tell(&self, found: Option<&Probe>) {
+        if let Some(probe) = found {
+            self.found.fetch_add(1, SeqCst);
+            if !probe.is_whole() {
+                self.torn.fetch_add(1, SeqCst);
+            }
+        }
+    }
+}
+
+/// Pins, looks at the first value and at what the root names, reads and unpins, until it is over.
+fn read_on<J: PostSet>(
+    posts: &Posts<J>,
+    value: &Value<J, Probe>,
+    cells: &LendingCells<J, Probe>,
+    course: &Course,
+) {
+    let Some(first) = posts.register() else {
+        return;
+    };
+    let mut reader = first;
+    for _ in 0..MOST {
+        if course.is_over.load(SeqCst) {
+            break;
+        }
+        let pinned = reader.pin(course.epoch());
+        course.tell(value.look(&pinned));
+        course.tell(cells.get(spot_of(course.root.load(SeqCst)), &pinned));
+        reader = pinned.unpin();
+    }
+    reader.release();
+}
+
+/// Whether a reader that pins now finds the first value.
+fn is_found<J: PostSet>(posts: &Posts<J>, value: &Value<J, Probe>, course: &Course) -> bool {
+    let Some(reader) = posts.register() else {
+        return true;
+    };
+    let pinned = reader.pin(course.epoch());
+    let is_found = value.look(&pinned).is_some();
+    pinned.unpin().release();
+    is_found
+}
+
+/// Goes on to later epochs and tries to take the value back, until it comes.
+fn take_value_back<J: PostSet>(
+    retired: Retired<J, Probe, Global>,
+    posts: &Posts<J>,
+    course: &Course,
+) {
+    let mut kept = retired;
+    for _ in 0..MOST {
+        course.epoch.fetch_add(2, SeqCst);
+        match kept.take_back(posts) {
+            Ok(whole) => {
+                course.tell(Some(&whole));
+                return;
+            }
+            Err(again) => kept = again,
+        }
+        thread::yield_now();
+    }
+}
+
+/// Marks the first value once readers have found it, and takes it back while they go on.
+fn remove<J: PostSet>(owner: Owner<'_, J, Probe, Global>, posts: &Posts<J>, course: &Course) {
+    for _ in 0..MOST {
+        if course.found.load(SeqCst) >= FOUND_BEFORE {
+            break;
+        }
+        thread::yield_now();
+    }
+    let value = owner.value();
+    if let Ok(retired) = owner.mark(posts) {
+        take_value_back(retired, posts, course);
+    }
+    course
+        .is_found
+        .store(is_found(posts, value, course), SeqCst);
+}
+
+/// Goes on to later epochs and tries to take the values of the bag back, until they come.
+fn take_bag_back<J: PostSet>(bag: Bag<'_, J, Probe>, posts: &Posts<J>, course: &Course) {
+    let mut kept = bag.seal(posts);
+    for _ in 0..MOST {
+        course.epoch.fetch_add(2, SeqCst);
+        match kept.take_back(posts) {
+            Ok(clear) => {
+                let mut rest = clear;
+                for _ in 0..TOGETHER {
+                    if let Some((probe, _)) = rest.next() {
+                        course.tell(Some(&probe));
+                    }
+                }
+                return;
+            }
+            Err(again) => kept = again,
+        }
+        thread::yield_now();
+    }
+}
+
+/// Marks the value at this spot, and puts it into the bag.
+fn retire<'c, J: PostSet>(
+    cells: &'c LendingCells<J, Probe>,
+    bag: &mut Bag<'c, J, Probe>,
+    old: Option<Spot>,
+) {
+    if let Some(spot) = old {
+        if let Some(removal) = cells.mark(spot) {
+            let _ = bag.push(removal);
+        }
+    }
+}
+
+/// Places one value, and names it in the root. Returns its spot, or the old one if no cell is free.
+fn placed<J: PostSet>(
+    cells: &LendingCells<J, Probe>,
+    old: Option<Spot>,
+    number: usize,
+    course: &Course,
+) -> Option<Spot> {
+    let spot = match cells.place(Probe::new(number, &course.counts)) {
+        Ok(placed) => placed.spot,
+        Err(_) => return old,
+    };
+    course.placed.fetch_add(1, SeqCst);
+    course.root.store(word_of(spot), SeqCst);
+    Some(spot)
+}
+
+/// Places all values, one after another, and takes each back while readers go on.
+fn replace_all<J: PostSet>(
+    alloc: Global,
+    posts: &Posts<J>,
+    cells: &LendingCells<J, Probe>,
+    course: &Course,
+) -> Result<(), AllocError> {
+    let mut bag = Bag::with_capacity(alloc, TOGETHER)?;
+    let mut old = None;
+    for number in 1..VALUES + 1 {
+        let spot = placed(cells, old, number, course);
+        retire(cells, &mut bag, old);
+        old = spot;
+        if bag.len() >= TOGETHER {
+            take_bag_back(bag, posts, course);
+            bag = Bag::with_capacity(alloc, TOGETHER)?;
+        }
+    }
+    retire(cells, &mut bag, old);
+    take_bag_back(bag, posts, course);
+    Ok(())
+}
+
+fn run_at_once<J: PostSet + Send + Sync, R: Threads + Wait>(
+    rt: &R,
+    alloc: Global,
+    readers: usize,
+    posts: &Posts<J>,
+    owner: Owner<'_, J, Probe, Global>,
+    cells: &LendingCells<J, Probe>,
+    course: &Course,
+) {
+    let value = owner.value();
+    thread::scope(thread::scope_env(), rt, |scope| {
+        for _ in 0..readers {
+            let _ = scope.spawn(move || read_on(posts, value, cells, course));
+        }
+        remove(owner, posts, course);
+        let _ = replace_all(alloc, posts, cells, course);
+        course.is_over.store(true, SeqCst);
+    });
+}
+
+fn start<J: PostSet + Send + Sync, R: Threads + Wait>(
+    rt: &R,
+    alloc: Global,
+    made: Made,
+    readers: usize,
+    whole: Box<Probe>,
+    course: &Course,
+) -> Result<(), AllocError>
+    requires { made.posts.items ≡ J.posts }
+{
+    let posts = Posts::<J>::of(alloc, made)?;
+    let cells = LendingCells::new(alloc, 8, u64::MAX, &posts)?;
+    let mut place = None;
+    let owner = lend(&mut place, whole, &posts);
+    run_at_once(rt, alloc, readers, &posts, owner, &cells, course);
+    Ok(())
+}
+
+/// Has this many readers and a writer run, and lends them this value first.
+fn begin<R: Threads + Wait>(
+    rt: &R,
+    alloc: Global,
+    readers: usize,
+    whole: Box<Probe>,
+    course: &Course,
+) -> Result<(), AllocError> {
+    let made = Made::new(alloc, readers.saturating_add(1))?;
+    start::<Brand, R>(rt, alloc, made, readers, whole, course)
+}
+
+#[test]
+fn each_value_comes_back_once_while_readers_go_on(rt: HostRuntime) -> Result<(), Fail> {
+    for readers in 1..5usize {
+        let alloc = rt.alloc();
+        let course = Course::new(counts_for(alloc, VALUES + 1)?);
+        let whole = Box::new(alloc, Probe::new(0, &course.counts))?;
+        begin(&rt, alloc, readers, whole, &course)?;
+        let is_found = course.is_found.load(SeqCst);
+        want(&rt, "the first value isn't found again", is_found, false);
+        let placed = course.placed.load(SeqCst);
+        want(&rt, "all others are placed", placed, VALUES as u64);
+        let back = dropped_once(&course.counts);
+        want(
+            &rt,
+            "each comes back and is dropped once",
+            back,
+            VALUES as u64 + 1,
+        );
+        let torn = course.torn.load(SeqCst);
+        want(&rt, "readers find whole values alone", torn, 0);
+    }
+    Ok(())
+}

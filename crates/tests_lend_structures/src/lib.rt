@@ -1,0 +1,16 @@
+//! Tests of the stack and the queue whose nodes are lent, by their public calls: on one thread, beside a deque of std,
+//! and on several.
+#![tactic(auto)]
+
+#[cfg(test)]
+mod alone;
+#[cfg(test)]
+mod beside_std;
+#[cfg(test)]
+mod calls;
+#[cfg(test)]
+mod pile;
+#[cfg(test)]
+mod scenes;
+#[cfg(test)]
+mod threads;
