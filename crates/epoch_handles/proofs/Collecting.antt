@@ -1,6 +1,6 @@
 -- A collection, bag by bag and job by job: what its loops perform is what the machine asks.
 use Rattle.std.proofs.Common.{◌≡◌, ◌≢◌, ◌∙◌, ℕ, ◌+◌, ◌<◌, ◌==◌, if◌then◌else◌, Bool, true, false, List, [], ◌∷◌, ◌++◌}
-use Rattle.std.proofs.Common.{length, refl, sym, ap, subst, arith, Option, Some, ne_eqb}
+use Rattle.std.proofs.Common.{length, refl, sym, ap, subst, arith, Option, Some, eq-eqb, ne_eqb}
 use Rattle.epoch_bags.specs.Bags.{Sealed}
 use Rattle.epoch_bags.specs.CursorSteps.{IsExpiredWord}
 use Rattle.epoch_tables.specs.Table.{IsOf}
@@ -317,6 +317,29 @@ module _ {T W : Type 0} where
             (sym (ap (λ (z : Machine (Job W)). z.hand) ends));
         performed = (record { put = PutLook 0; take = next }, steps.0, steps.1, steps.2);
       }
+
+  -- the word found at the last place tells of no expired bag
+  pub look_ends : (done : W → Type 0) (tried : Name → Type 0) (h n : Local T W) (x place word : ℕ) (m : Machine (Job W))
+      (claimer : _)
+      → (taken : HasTaken done tried h x (TakeLook place) n)
+      → place + 1 ≡ h.collector.now.places.capacity
+      → m ≡ with_stage n.machine (after_collect n.machine.action n.machine.held)
+      → IsAt h.collector.now.places claimer
+      → Finds place n.claimer.me word claimer.me
+      → ¬ IsExpiredWord x word
+      → TakesBags done tried h (record n { claimer = claimer; machine = m })
+  look_ends done tried h n x place word m claimer taken last after is_at finds late =
+      let ends : TakeEnds ≡ (if place + 1 == h.collector.now.places.capacity then TakeEnds else TakeAgain) =
+      sym (ap (λ (b : Bool). if b then TakeEnds else TakeAgain)
+      (eq-eqb (place + 1) h.collector.now.places.capacity last)) in
+      let heard : m ≡ took_heard n.machine n.machine.stage TakeEnds m.hand =
+      after ∙ sym (ap (λ (s : Stage). took_heard n.machine s TakeEnds m.hand)
+      (ap (λ (z : Machine (Job W)). z.stage) taken.machine)) in
+      take_ends done tried h n x (TakeLook place) (TakeLook (place + 1)) m claimer (record { seal = 0; jobs = [] })
+      taken heard is_at (still_rests place n.claimer.me claimer.me word finds taken.at.1) (
+        (λ none. absurd (omega (arith, none, last))),
+        (λ not. (word, finds, (λ expired. absurd (late expired)), (λ is. (refl, ends)))),
+      )
 
   -- a bag is got, which is in hand then
   pub take_got : (h n : Local T W) (x k : ℕ) (m : Machine (Job W))

@@ -1,5 +1,5 @@
 //! Collections: all words are scanned, bags are taken out of the shared places, and their jobs are called.
-ghost use Rattle.std.specs.Prelude.{◌≡◌, ◌≢◌, ℕ, ◌<◌, ◌^◌, ◌∷◌, true, false, Some, length};
+ghost use Rattle.std.specs.Prelude.{◌≡◌, ◌≢◌, ℕ, ◌<◌, ◌^◌, ◌∷◌, true, false, Some, length, IfSome, IfNone};
 ghost use Rattle.epoch_cells.specs.declared.cells.name.Name.{Name};
 ghost use Rattle.epoch_bags.specs.Jobs.{IsCalled};
 ghost use Rattle.epoch_bags.specs.declared.job.Job.{Job};
@@ -111,17 +111,19 @@ impl<'c, T: Drop, W: Run> Local<'c, T, W> {
         self.collector.cells.note_freed(freed);
     }
 
-    /// Looks at the places, as the first steps of a collection for `expiry`: up to the first place whose word tells
-    /// of an expired bag, or as far as the last place, which is not looked at. Returns where the collection stands.
+    /// Looks at the places, as the first steps of a collection for `expiry`, up to the first place whose word tells
+    /// of an expired bag. Returns where the collection stands, or `None` if it is over, since no word does.
     ///
     /// A plain loop over the words: in most collections no bag is expired.
     #[inline(always)]
-    fn pass_places(&mut self, expiry: u64) -> TakeCursor
+    fn pass_places(&mut self, expiry: u64) -> Option<TakeCursor>
         requires places_of { IsAt self.old.collector.now.places self.old.claimer }
         requires rests { RestsAt self.old.claimer.me }
         requires takes { self.old.machine.stage ≡ Take expiry 0 }
         requires within { expiry < 2 ^ 63 }
-        ensures { HasTaken W.done W.Removing.tried self.old expiry result self.new }
+        ensures some { IfSome result
+            (λ cursor. HasTaken W.done W.Removing.tried self.old expiry cursor self.new) }
+        ensures none { IfNone result (TakesBags W.done W.Removing.tried self.old self.new) }
     {
         // Found once: no load may move ahead of the look before it, so the loop would find the places anew each time.
         let places = &self.collector.places;
@@ -129,10 +131,15 @@ impl<'c, T: Drop, W: Run> Local<'c, T, W> {
         for place in 0..last {
             let word = places.look(&mut self.claimer, place);
             if is_expired_word(word, Epoch::new(expiry)) {
-                return TakeCursor::Claim(place, word);
+                return Some(TakeCursor::Claim(place, word));
             }
         }
-        TakeCursor::Look(last)
+        let found = places.look(&mut self.claimer, last);
+        if is_expired_word(found, Epoch::new(expiry)) {
+            return Some(TakeCursor::Claim(last, found));
+        }
+        self.machine.found_no_bag();
+        None
     }
 
     /// Takes expired bags, as many as a collection takes or as it finds, and calls each one's jobs before it looks
@@ -147,7 +154,10 @@ impl<'c, T: Drop, W: Run> Local<'c, T, W> {
     {
         // Each collection begins at the first place: since the last one, a bag may have been put into a place that it
         // had passed.
-        let mut cursor = self.pass_places(expiry);
+        let Some(first) = self.pass_places(expiry) else {
+            return;
+        };
+        let mut cursor = first;
         'bags: loop {
             let step = self
                 .machine

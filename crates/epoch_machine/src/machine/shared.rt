@@ -4,8 +4,9 @@ ghost use Rattle.epoch_bags.specs.Bags.{Sealed};
 ghost use Rattle.epoch_tables.specs.SharedPlaces.{IsPlaceSeatOf, IsSamePlaceSeat};
 ghost use Rattle.epoch_bags.specs.Places.{put_left, take_left};
 ghost use Rattle.epoch_tables.specs.SharedSteps.{RestsAt, PutsAt, TakesAt, PutMoves, TakeMoves};
-ghost use Rattle.epoch_machine.specs.Machine.{asks, put_heard, took_heard};
+ghost use Rattle.epoch_machine.specs.Machine.{asks, put_heard, took_heard, with_stage, after_collect};
 ghost use Rattle.epoch_machine.specs.declared.machine.Ask.TheVariants.{PutBag, TakeBag};
+ghost use Rattle.epoch_machine.specs.declared.machine.Stage.TheVariants.{Take};
 
 use super::stages::after_job;
 use super::{Machine, Stage};
@@ -49,6 +50,15 @@ impl<J: Default + Drop> Machine<J> {
             }
         }
         step
+    }
+
+    /// Becomes the machine after a collection that finds no further bag.
+    #[inline]
+    pub fn found_no_bag(&mut self)
+        requires takes { (expiry taken : ℕ) × (self.old.stage ≡ Take expiry taken) }
+        ensures { self.new ≡ with_stage self.old (after_collect self.old.action self.old.held) }
+    {
+        self.stage = self.after_collect();
     }
 
     /// Takes one step of the collection that is asked for. A bag that it gets is in hand.

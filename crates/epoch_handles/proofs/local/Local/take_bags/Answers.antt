@@ -8,7 +8,7 @@ use Rattle.epoch_handles.proofs.Collecting.{take_again, take_ends, hand_called, 
 use Rattle.epoch_handles.proofs.local.Local.take_bags.Goals as goal
 
 pub bags-init : goal.bags-init
-bags-init g c = (c.args.expiry, c.pass_places-cursor.ensures)
+bags-init g c = (c.args.expiry, c.in-Some.ensures.some)
 
 -- the machine asks for a step of the collection, and the seat is where its cursor says
 pub take_shared-step-requires : goal.take_shared-step-requires
