@@ -13,7 +13,7 @@ LINES_A_PROOF_FILE = 800
 LINES_A_BODY = 60
 LINES_A_CRATE = 1600
 FUNCTIONS_A_CRATE = 100
-# A crate of tests costs as much before its first test as some twenty functions do, so there are few and large ones.
+# A crate of tests costs as much before its first test as some twelve functions do, so there are few and large ones.
 LINES_A_CRATE_OF_TESTS = 3200
 FUNCTIONS_A_CRATE_OF_TESTS = 150
 

@@ -98,7 +98,7 @@ fn call_next<T: Drop, W: Run>(
 impl<'c, T: Drop, W: Run> Local<'c, T, W> {
     /// Calls what is left of the bag in hand, the oldest job first.
     ///
-    /// It stands out of line: most collections take no bag, and pass through less code so.
+    /// It stands out of line, so that a collection without a bag passes through less code.
     #[inline(never)]
     fn call_hand(&mut self)
         ensures only { self.new ≡ record self.old { machine = self.new.machine } }
