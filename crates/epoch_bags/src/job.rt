@@ -17,7 +17,11 @@ pub trait Remove {
         ensures tried { tried name };
 
     /// Tries the same, as [`Cells::remove_near`] does, which adds the slot to those that were given free.
-    fn remove_near<T: Drop>(cells: &Cells<T>, freed: &mut Freed, name: Name) -> Removal
+    fn remove_near<'a, T: Drop>(
+        cells: &'a Cells<T>,
+        freed: &mut Freed<'_, 'a, T>,
+        name: Name,
+    ) -> Removal
         ensures tried { tried name };
 }
 
@@ -33,7 +37,11 @@ impl Remove for FromCells {
     }
 
     #[inline(always)]
-    fn remove_near<T: Drop>(cells: &Cells<T>, freed: &mut Freed, name: Name) -> Removal {
+    fn remove_near<'a, T: Drop>(
+        cells: &'a Cells<T>,
+        freed: &mut Freed<'_, 'a, T>,
+        name: Name,
+    ) -> Removal {
         cells.remove_near(freed, name)
     }
 }
@@ -121,7 +129,7 @@ impl<W: Run> Job<W> {
 
     /// Calls the job, and returns what that did. A removal adds its slot to those that were given free.
     #[inline(always)]
-    pub fn call_near<T: Drop>(self, cells: &Cells<T>, freed: &mut Freed) -> Called
+    pub fn call_near<'a, T: Drop>(self, cells: &'a Cells<T>, freed: &mut Freed<'_, 'a, T>) -> Called
         ensures answers { AnswersJob self result }
         ensures called { IsCalled W.done W.Removing.tried self }
     {

@@ -5,8 +5,8 @@ ghost use Rattle.epoch_handles.specs.Handles.{IsSame, Owns};
 use crate::rounds::FIRST;
 use crate::rows::Work;
 use epoch_base::{Job, Work as Function};
-use epoch_pin::atomic::{Atomic, DeferDestroy, ExchangeFault, Owned};
-use epoch_pin::{Guard, LocalHandle};
+use epoch_pin::atomic::{Atomic, DeferDestroy, ExchangeFault, KeepCells, Owned};
+use epoch_pin::{Guard, Keeper, LocalHandle};
 use std::alloc::Global;
 use std::sync::atomic::Ordering::SeqCst;
 
@@ -77,7 +77,6 @@ pub fn defer_calls(
 /// The rows whose turns share one guard.
 pub fn under_one_guard(
     guard: &Guard<'_, u64>,
-    alloc: Global,
     pointer: &Atomic<u64>,
     work: Work,
     turns: u64,
@@ -86,7 +85,6 @@ pub fn under_one_guard(
         Work::Load => load(guard, pointer, turns),
         Work::Read | Work::ReadOwn => read(guard, pointer, turns),
         Work::Exchange => exchange(guard, pointer, turns),
-        Work::Place => place(guard, alloc, turns),
         _ => 0,
     }
 }
@@ -129,14 +127,24 @@ fn exchange(guard: &Guard<'_, u64>, pointer: &Atomic<u64>, turns: u64) -> u64 {
     won
 }
 
-/// Values that are placed in a cell and taken back.
-fn place(guard: &Guard<'_, u64>, alloc: Global, turns: u64) -> u64 {
+/// Values that are placed in a cell, put behind a new pointer, and taken back.
+pub fn place(
+    keeper: &mut Keeper<'_, u64>,
+    guard: &Guard<'_, u64>,
+    alloc: Global,
+    turns: u64,
+) -> u64 {
     let mut sum: u64 = 0;
     for _ in 0..turns {
-        if let Ok(pointer) = Atomic::new(alloc, 1, guard) {
-            if let Some(owned) = pointer.into_owned(guard) {
-                sum = sum.wrapping_add(*owned);
-            }
+        let Ok(owned) = Owned::new(alloc, 1) else {
+            continue;
+        };
+        let Ok(placed) = keeper.place_owned(guard, owned) else {
+            continue;
+        };
+        let pointer = Atomic::from(placed);
+        if let Some(owned) = keeper.take_owned(pointer.load(SeqCst, guard)) {
+            sum = sum.wrapping_add(*owned);
         }
     }
     sum
@@ -146,6 +154,7 @@ fn place(guard: &Guard<'_, u64>, alloc: Global, turns: u64) -> u64 {
 /// many destructions were deferred.
 pub fn replace(
     handle: &mut LocalHandle<'_, u64>,
+    keeper: &mut Keeper<'_, u64>,
     guard: &Guard<'_, u64>,
     alloc: Global,
     pointer: &Atomic<u64>,
@@ -160,7 +169,10 @@ pub fn replace(
         let Ok(owned) = Owned::new(alloc, value) else {
             continue;
         };
-        let Ok(before) = pointer.swap(owned, SeqCst, guard) else {
+        let Ok(placed) = keeper.place_owned(guard, owned) else {
+            continue;
+        };
+        let Ok(before) = pointer.swap(placed, SeqCst, guard) else {
             continue;
         };
         if handle.defer_destroy(guard, before).is_ok() {
@@ -173,6 +185,7 @@ pub fn replace(
 /// The same of one object, by a load and a store.
 pub fn replace_store(
     handle: &mut LocalHandle<'_, u64>,
+    keeper: &mut Keeper<'_, u64>,
     guard: &Guard<'_, u64>,
     alloc: Global,
     pointer: &Atomic<u64>,
@@ -185,7 +198,10 @@ pub fn replace_store(
     let Ok(owned) = Owned::new(alloc, 1) else {
         return 0;
     };
-    match pointer.store(owned, SeqCst, guard) {
+    let Ok(placed) = keeper.place_owned(guard, owned) else {
+        return 0;
+    };
+    match pointer.store(placed, SeqCst, guard) {
         Ok(()) => u64::from(handle.defer_destroy(guard, before).is_ok()),
         Err(_) => 0,
     }
@@ -194,6 +210,7 @@ pub fn replace_store(
 /// The same of one object, by exchanges until one is won.
 pub fn replace_cas(
     handle: &mut LocalHandle<'_, u64>,
+    keeper: &mut Keeper<'_, u64>,
     guard: &Guard<'_, u64>,
     alloc: Global,
     pointer: &Atomic<u64>,
@@ -205,7 +222,10 @@ pub fn replace_cas(
     let Ok(owned) = Owned::new(alloc, 1) else {
         return 0;
     };
-    let mut new = owned;
+    let Ok(placed) = keeper.place_owned(guard, owned) else {
+        return 0;
+    };
+    let mut new = placed;
     for _ in 0..TRIES {
         let before = pointer.load(SeqCst, guard);
         match pointer.compare_exchange(before, new, SeqCst, SeqCst, guard) {

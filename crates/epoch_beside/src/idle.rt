@@ -2,8 +2,8 @@
 ghost use Rattle.std.specs.Prelude.{◌≡◌, ℕ};
 
 use crate::guarded::{
-    defer_calls, flush_again, pin_under, read, repin_again, replace, replace_cas, replace_store,
-    under_one_guard,
+    defer_calls, flush_again, pin_under, place, read, repin_again, replace, replace_cas,
+    replace_store, under_one_guard,
 };
 use crate::rows::Work;
 use epoch_base::Work as Function;
@@ -45,9 +45,10 @@ impl<'c> Idle<'c> {
             Work::FlushAgain => self.flushes_again(turns),
             Work::Defer => self.defers(functions, turns),
             Work::DeferApart => self.defers_apart(functions, turns),
-            Work::Load | Work::Read | Work::ReadOwn | Work::Exchange | Work::Place => {
+            Work::Place => self.places(alloc, turns),
+            Work::Load | Work::Read | Work::ReadOwn | Work::Exchange => {
                 let guard = self.handle.pin();
-                let done = under_one_guard(&guard, alloc, pointer, work, turns);
+                let done = under_one_guard(&guard, pointer, work, turns);
                 self.handle.unpin(guard);
                 done
             }
@@ -146,12 +147,23 @@ impl<'c> Idle<'c> {
         done
     }
 
+    /// Places values and takes them back, under one guard.
+    fn places(&mut self, alloc: Global, turns: u64) -> u64 {
+        let mut keeper = self.handle.collector().keeper();
+        let guard = self.handle.pin();
+        let done = place(&mut keeper, &guard, alloc, turns);
+        self.handle.unpin(guard);
+        done
+    }
+
     /// Replaces an object, each under a pin of its own.
     fn replaces(&mut self, alloc: Global, pointer: &Atomic<u64>, turns: u64) -> u64 {
+        let mut keeper = self.handle.collector().keeper();
         let mut done: u64 = 0;
         for _ in 0..turns {
-            let guard = self.handle.pin();
-            done = done.wrapping_add(replace(&mut self.handle, &guard, alloc, pointer, 1));
+            let guard = self.handle.pin_keeping(&mut keeper);
+            let replaced = replace(&mut self.handle, &mut keeper, &guard, alloc, pointer, 1);
+            done = done.wrapping_add(replaced);
             self.handle.unpin(guard);
         }
         done
@@ -159,10 +171,12 @@ impl<'c> Idle<'c> {
 
     /// Replaces an object by an exchange, each under a pin of its own.
     fn replaces_cas(&mut self, alloc: Global, pointer: &Atomic<u64>, turns: u64) -> u64 {
+        let mut keeper = self.handle.collector().keeper();
         let mut done: u64 = 0;
         for _ in 0..turns {
-            let guard = self.handle.pin();
-            done = done.wrapping_add(replace_cas(&mut self.handle, &guard, alloc, pointer));
+            let guard = self.handle.pin_keeping(&mut keeper);
+            let replaced = replace_cas(&mut self.handle, &mut keeper, &guard, alloc, pointer);
+            done = done.wrapping_add(replaced);
             self.handle.unpin(guard);
         }
         done
@@ -170,10 +184,12 @@ impl<'c> Idle<'c> {
 
     /// Replaces an object by a store, each under a pin of its own, where no other thread stores.
     fn replaces_store(&mut self, alloc: Global, pointer: &Atomic<u64>, turns: u64) -> u64 {
+        let mut keeper = self.handle.collector().keeper();
         let mut done: u64 = 0;
         for _ in 0..turns {
-            let guard = self.handle.pin();
-            done = done.wrapping_add(replace_store(&mut self.handle, &guard, alloc, pointer));
+            let guard = self.handle.pin_keeping(&mut keeper);
+            let replaced = replace_store(&mut self.handle, &mut keeper, &guard, alloc, pointer);
+            done = done.wrapping_add(replaced);
             self.handle.unpin(guard);
         }
         done
@@ -181,12 +197,13 @@ impl<'c> Idle<'c> {
 
     /// Pins, replaces 64 objects, flushes and unpins. A turn is one object.
     fn replaces_64(&mut self, alloc: Global, pointer: &Atomic<u64>, turns: u64) -> u64 {
+        let mut keeper = self.handle.collector().keeper();
         let mut done: u64 = 0;
         for _ in 0..turns / JOBS {
-            let guard = self.handle.pin();
-            let replaced = replace(&mut self.handle, &guard, alloc, pointer, JOBS);
+            let guard = self.handle.pin_keeping(&mut keeper);
+            let replaced = replace(&mut self.handle, &mut keeper, &guard, alloc, pointer, JOBS);
             done = done.wrapping_add(replaced);
-            let _ = self.handle.flush(&guard);
+            let _ = self.handle.flush_keeping(&guard, &mut keeper);
             self.handle.unpin(guard);
         }
         done

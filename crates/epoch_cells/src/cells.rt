@@ -2,9 +2,9 @@
 //!
 //! A value stands in its cell beside its own name, whose slot is the cell's. Every call that is given a name claims the
 //! cell of the name's slot, compares the name that stands there with the one asked for, and gives the claim back if
-//! they differ. A call that takes a value out spends its claim before it compares, so it would put the value of another
-//! turn back. It never has to: it won its claim at a word of the name's own turn, and a value is placed beside the turn
-//! of its slot's word.
+//! they differ. A call that takes a value out, or lends it for writing, would put the value of another turn back. It
+//! never has to: it won its claim at a word of the name's own turn, and a value is placed beside the turn of its slot's
+//! word.
 ghost use Rattle.std.specs.Prelude.{◌≡◌, ◌≤◌, ◌<◌, ◌+◌, ◌++◌, ◌∷◌, [], IfSome, IfOk, IfErr, OnOk, IsOkUnless, vec_len};
 ghost use Rattle.epoch_cells.specs.declared.fault.Fault.TheVariants.{NoMemory, CellsFull};
 ghost use Rattle.epoch_cells.specs.SlotNumbers.{AreNumbered};
@@ -13,15 +13,17 @@ mod held;
 mod name;
 mod notes;
 mod plain;
+mod rooms;
 mod word;
 
 use crate::cells::held::{Miss, Slot, is_free, started, try_place, try_read, try_take, try_write};
 use crate::cells::notes::{Notes, SPANS, Span};
 use crate::fault::{Fault, Refused};
-pub use held::{Held, IntoSlots, Puts, Reading, Writing};
+pub use held::{Held, IntoSlots, Puts, Reading, Room, Writing};
 pub use name::{MOST_SLOT, Name};
 pub use notes::Freed;
 pub use plain::PlainCells;
+pub use rooms::{MOST_ROOMS, Rooms};
 use std::alloc::Global;
 use std::marker::PhantomData;
 use std::sync::atomic::AtomicUsize;
@@ -40,7 +42,7 @@ const NEAR_STRIDE: usize = 4;
 // A position that has no note left looks in this many slots in a row from then on.
 const FAR: usize = 64;
 
-/// A collector's store of numbered cells. Its calls take no memory and never wait.
+/// A collector's store of numbered cells. No call waits, and only [`Cells::make_rooms`] takes memory.
 ///
 /// `P` is how values are put into slots: [`IntoSlots`].
 #[derive(Drop)]
@@ -53,6 +55,8 @@ pub struct Cells<T, P = IntoSlots> {
     notes: Notes,
     // Where a position looks that has no note left, modulo the number of slots.
     next_far: AtomicUsize,
+    // How many rooms the participant of a position keeps at most: together they keep at most a quarter of the slots.
+    most_rooms: usize,
     // No value: only how values are put into slots.
     puts: PhantomData<P>,
     pub ghost few: { vec_len slots ≤ 16777215 },
@@ -106,6 +110,7 @@ impl<T: Drop> Cells<T> {
             first_free: AtomicUsize::new(0),
             notes,
             next_far: AtomicUsize::new(0),
+            most_rooms: most_rooms(capacity as usize, positions),
             puts: PhantomData,
         })
     }
@@ -120,9 +125,22 @@ impl<T: Drop, P: Puts<T>> Cells<T, P> {
         self.slots.len()
     }
 
+    /// Begins with no room of these cells.
+    #[inline(always)]
+    pub fn no_rooms(&self) -> Rooms<'_, T> {
+        Rooms::none(*self.slots.allocator())
+    }
+
+    /// Lets the owner of these rooms keep some from now on: takes memory for as many as one participant keeps, if the
+    /// rooms have memory for none. If it is refused, none is kept.
+    #[inline(always)]
+    pub fn make_rooms(&self, rooms: &mut Rooms<'_, T>) {
+        rooms.reserve(*self.slots.allocator(), self.most_rooms);
+    }
+
     /// Places the value in the first free slot, beside its name, and returns that name: the slot and its next turn.
     ///
-    /// `CellsFull`: every slot was seen used or retired during the call. The value is handed back.
+    /// `CellsFull`: every slot was seen used, retired, or kept as a room. The value is handed back.
     #[inline(always)]
     pub fn place(&self, value: Box<T>) -> Result<Name, Refused<Box<T>>>
         ensures full { IfErr result (λ refused. (refused.fault ≡ CellsFull) × (refused.value ≡ value)) }
@@ -146,7 +164,7 @@ impl<T: Drop, P: Puts<T>> Cells<T, P> {
     ///
     /// Any position may be given. A position that the store has no room for has no notes.
     ///
-    /// `CellsFull`: every slot was seen used or retired during the call. The value is handed back.
+    /// `CellsFull`: every slot was seen used, retired, or kept as a room. The value is handed back.
     #[inline(always)]
     pub fn place_near(&self, position: usize, value: Box<T>) -> Result<Name, Refused<Box<T>>>
         ensures full { IfErr result (λ refused. (refused.fault ≡ CellsFull) × (refused.value ≡ value)) }
@@ -234,18 +252,17 @@ impl<T: Drop, P: Puts<T>> Cells<T, P> {
         }
     }
 
-    /// Drops the value of this name, as [`Cells::remove`] does, and adds its slot to those that were given free.
+    /// Drops the value of this name, as [`Cells::remove`] does, and adds its slot to those that were given free: as a
+    /// room, if there is memory for it, and otherwise as a slot for all callers.
     #[inline(always)]
-    pub fn remove_near(&self, freed: &mut Freed, name: Name) -> Removal {
+    pub fn remove_near<'a>(&'a self, freed: &mut Freed<'_, 'a, T>, name: Name) -> Removal {
         match self.take_out_near(name) {
-            Ok(_) => {
-                let place = name.slot() as usize - 1;
-                if !freed.span.takes_in(place) {
-                    self.note(freed.position, freed.span);
-                    freed.span = Span {
-                        from: place,
-                        to: place + 1,
-                    };
+            Ok((_, room)) => {
+                let Some(room) = room else {
+                    return Removal::Destroyed;
+                };
+                if !freed.rooms.keep(room) {
+                    self.free_near(freed, name);
                 }
                 Removal::Destroyed
             }
@@ -254,11 +271,46 @@ impl<T: Drop, P: Puts<T>> Cells<T, P> {
         }
     }
 
-    /// Notes the slots that were given free near their position, so that values are placed there next.
+    // Adds the slot of this name to those that were given free for all callers.
+    fn free_near(&self, freed: &mut Freed<'_, '_, T>, name: Name) {
+        let place = name.slot() as usize - 1;
+        if !freed.span.takes_in(place) {
+            self.note(freed.position, freed.span);
+            freed.span = Span {
+                from: place,
+                to: place + 1,
+            };
+        }
+    }
+
+    /// Notes the slots that were given free near their position, so that values are placed there next. Rooms aren't
+    /// noted: they are their owner's.
     #[inline(never)]
-    pub fn note_freed(&self, freed: Freed) {
-        let Freed { position, span } = freed;
+    pub fn note_freed(&self, freed: Freed<'_, '_, T>) {
+        let Freed {
+            position,
+            span,
+            rooms: _,
+        } = freed;
         self.note(position, span);
+    }
+
+    /// Takes the value of this name out of its cell, as [`Cells::take`] does, and keeps its slot as a room, if there is
+    /// memory for it.
+    ///
+    /// `None`: the value is gone, or is read or written, or each try was lost to other threads.
+    #[inline(always)]
+    pub fn take_near<'a>(&'a self, rooms: &mut Rooms<'a, T>, name: Name) -> Option<Held<T>>
+        ensures { IfSome result (λ held. held.name ≡ name) }
+    {
+        let (held, room) = self.take_out_near(name).ok()?;
+        let Some(room) = room else {
+            return Some(held);
+        };
+        if !rooms.keep(room) {
+            self.lower(name.slot() as usize - 1);
+        }
+        Some(held)
     }
 
     // Places the value in the first free slot from place `from` up to `to`. The box that is handed back
@@ -377,7 +429,8 @@ impl<T: Drop, P: Puts<T>> Cells<T, P> {
         ensures { IfOk result (λ held. held.name ≡ name) }
     {
         match self.take_out_near(name) {
-            Ok(held) => {
+            Ok((held, room)) => {
+                drop(room);
                 self.lower(name.slot() as usize - 1);
                 Ok(held)
             }
@@ -385,11 +438,13 @@ impl<T: Drop, P: Puts<T>> Cells<T, P> {
         }
     }
 
-    // Takes the value out, and leaves it to the caller to tell of the slot.
+    // Takes the value out, and leaves it to the caller what becomes of the slot.
     #[inline(always)]
     #[tactic(auto, using(crate::proofs::SlotNumberLists::number_of))]
-    fn take_out_near(&self, name: Name) -> Result<Held<T>, Miss>
-        ensures { IfOk result (λ held. held.name ≡ name) }
+    fn take_out_near(&self, name: Name) -> Result<(Held<T>, Option<Room<'_, T>>), Miss>
+        ensures named { IfOk result (λ taken. taken.0.name ≡ name) }
+        ensures next { IfOk result (λ taken. IfSome taken.1
+            (λ room. (room.name.slot ≡ name.slot) × (room.name.turn ≡ name.turn + 1))) }
     {
         let index = name.slot() as usize - 1;
         if index >= self.slots.len() {
@@ -399,14 +454,16 @@ impl<T: Drop, P: Puts<T>> Cells<T, P> {
     }
 
     #[inline(always)]
+    #[tactic(auto, using(crate::proofs::SlotNumberLists::number_of))]
     fn hold(&self, name: Name) -> Result<Writing<'_, T>, Miss>
         ensures { IfOk result (λ writing. writing.name ≡ name) }
     {
-        let Some(slot) = self.slots.get(name.slot() as usize - 1) else {
+        let index = name.slot() as usize - 1;
+        if index >= self.slots.len() {
             return Err(Miss::Gone);
-        };
+        }
         for _ in 0..CELL_TRIES {
-            match try_write(slot, name) {
+            match try_write(&self.slots[index], name) {
                 Err(Miss::Lost) => {}
                 answer => return answer,
             }
@@ -442,18 +499,34 @@ fn place_in<T: Drop, P: Puts<T>>(
 
 // Tries to take the value of this name out of its slot, until all tries are lost.
 #[inline(always)]
-fn take_from<T: Drop>(slot: &Slot<T>, name: Name) -> Result<Held<T>, Miss>
+fn take_from<'a, T: Drop>(
+    slot: &'a Slot<T>,
+    name: Name,
+) -> Result<(Held<T>, Option<Room<'a, T>>), Miss>
     requires numbered { slot.now ≡ name.slot }
-    ensures { IfOk result (λ held. held.name ≡ name) }
+    ensures named { IfOk result (λ taken. taken.0.name ≡ name) }
+    ensures next { IfOk result (λ taken. IfSome taken.1
+        (λ room. (room.name.slot ≡ name.slot) × (room.name.turn ≡ name.turn + 1))) }
 {
     for _ in 0..CELL_TRIES {
         match try_take(slot, name) {
-            Ok(held) => return Ok(held),
+            Ok(taken) => return Ok(taken),
             Err(Miss::Lost) => {}
             Err(miss) => return Err(miss),
         }
     }
     Err(Miss::Lost)
+}
+
+// How many rooms the participant of each of these positions keeps at most.
+fn most_rooms(slots: usize, positions: usize) -> usize
+    ensures { result ≤ MOST_ROOMS }
+{
+    let most = match slots.checked_div(positions) {
+        Some(part) => part / 4,
+        None => 0,
+    };
+    most.min(MOST_ROOMS)
 }
 
 // Puts one item behind the others.

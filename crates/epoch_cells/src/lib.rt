@@ -6,7 +6,7 @@ mod fault;
 mod shown;
 
 pub use cells::{
-    CELL_TRIES, Cells, Freed, Held, IntoSlots, MOST_SLOT, Name, PlainCells, Puts, Reading, Removal,
-    Writing,
+    CELL_TRIES, Cells, Freed, Held, IntoSlots, MOST_ROOMS, MOST_SLOT, Name, PlainCells, Puts,
+    Reading, Removal, Room, Rooms, Writing,
 };
 pub use fault::{Fault, Refused};

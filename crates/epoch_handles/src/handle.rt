@@ -10,11 +10,12 @@ ghost use Rattle.epoch_machine.specs.declared.machine.Action.TheVariants.{Pin, U
 use crate::collector::Collector;
 use crate::guard::Guard;
 use crate::interlude::{HasInterlude, Interlude};
+use crate::keeper::Keeper;
 use crate::local::Local;
 use crate::paused::Paused;
 use crate::released::Released;
 use epoch_bags::{Job, Run, Work};
-use epoch_cells::{Fault, Refused};
+use epoch_cells::{Fault, Refused, Rooms};
 use std::fmt;
 use std::marker::Model;
 
@@ -284,6 +285,56 @@ impl<'c, T: Drop, W: Run> LocalHandle<'c, T, W> {
         ensures empty { Owns self.old guard.now → IsOk result → self.new.machine.held ≡ [] }
         ensures found { Owns self.old guard.now → IsErr result ↔ (self.new.machine.full ≡ true) }
     {
+        self.flush_into(guard, &mut None)
+    }
+
+    /// Does what [`LocalHandle::flush`] does, and lets the keeper keep the cells of the values that the collection
+    /// destroys, as many as it keeps. A keeper of another collector keeps none.
+    #[inline(always)]
+    pub fn flush_keeping(
+        &mut self,
+        guard: &Guard<'_, T, W>,
+        keeper: &mut Keeper<'c, T>,
+    ) -> Result<(), Fault>
+        ensures same { IsSame self.old self.new }
+        ensures ready { IsReady self.new }
+        ensures counted { self.new.machine.guards ≡ self.old.machine.guards }
+        ensures unprotected { guard.now.position ≡ None → IsOk result × (self.new ≡ self.old) }
+        ensures stranger { IsSome guard.now.position → ¬ Owns self.old guard.now
+            → (result ≡ Err StrangerGuard) × (self.new ≡ self.old) }
+        ensures does { Owns self.old guard.now → Does self.old Flush self.new }
+        ensures called { Owns self.old guard.now → DoesAndCalls W.done W.Removing.tried self.old Flush self.new }
+        ensures full { Owns self.old guard.now → IsErr result
+            → (result ≡ Err BagsFull) × (self.old.machine.held ≢ []) × (self.new.machine.held ≡ self.old.machine.held) }
+        ensures empty { Owns self.old guard.now → IsOk result → self.new.machine.held ≡ [] }
+        ensures found { Owns self.old guard.now → IsErr result ↔ (self.new.machine.full ≡ true) }
+    {
+        if keeper.home.id == self.local.collector.id {
+            return self.flush_into(guard, &mut Some(&mut keeper.rooms));
+        }
+        self.flush_into(guard, &mut None)
+    }
+
+    // A flush whose collection keeps cells among these rooms, if there are any.
+    #[inline(always)]
+    fn flush_into(
+        &mut self,
+        guard: &Guard<'_, T, W>,
+        rooms: &mut Option<&mut Rooms<'c, T>>,
+    ) -> Result<(), Fault>
+        ensures same { IsSame self.old self.new }
+        ensures ready { IsReady self.new }
+        ensures counted { self.new.machine.guards ≡ self.old.machine.guards }
+        ensures unprotected { guard.now.position ≡ None → IsOk result × (self.new ≡ self.old) }
+        ensures stranger { IsSome guard.now.position → ¬ Owns self.old guard.now
+            → (result ≡ Err StrangerGuard) × (self.new ≡ self.old) }
+        ensures does { Owns self.old guard.now → Does self.old Flush self.new }
+        ensures called { Owns self.old guard.now → DoesAndCalls W.done W.Removing.tried self.old Flush self.new }
+        ensures full { Owns self.old guard.now → IsErr result
+            → (result ≡ Err BagsFull) × (self.old.machine.held ≢ []) × (self.new.machine.held ≡ self.old.machine.held) }
+        ensures empty { Owns self.old guard.now → IsOk result → self.new.machine.held ≡ [] }
+        ensures found { Owns self.old guard.now → IsErr result ↔ (self.new.machine.full ≡ true) }
+    {
         if !guard.is_protecting() {
             // For the prover: a field read shows what a handle keeps between two calls.
             let _ = &self.local;
@@ -292,7 +343,7 @@ impl<'c, T: Drop, W: Run> LocalHandle<'c, T, W> {
         if !self.owns(guard) {
             return Err(Fault::StrangerGuard);
         }
-        if self.local.flush() {
+        if self.local.flush(rooms) {
             return Err(Fault::BagsFull);
         }
         Ok(())
@@ -351,7 +402,7 @@ impl<'c, T: Drop, W: Run> LocalHandle<'c, T, W> {
         ensures ready { IsReady self.new }
         ensures counted { self.new.machine.guards ≡ self.old.machine.guards + 1 }
     {
-        self.local.pin_and_collect();
+        self.local.pin_and_collect(&mut None);
         let Paused { guard } = paused;
         guard
     }
@@ -453,7 +504,30 @@ impl<'c, T: Drop, W: Run> LocalHandle<'c, T, W> {
         ensures ready { IsReady self.new }
         ensures counted { self.new.machine.guards ≡ self.old.machine.guards + 1 }
     {
-        self.local.pin_and_collect();
+        self.local.pin_and_collect(&mut None);
+        Guard {
+            collector: self.local.collector,
+            position: Some(self.local.position),
+        }
+    }
+
+    /// Does what [`LocalHandle::pin`] does. If the pin collects, the keeper keeps the cells of the values that this
+    /// destroys, as many as it keeps. A keeper of another collector keeps none.
+    #[inline]
+    pub fn pin_keeping(&mut self, keeper: &mut Keeper<'c, T>) -> Guard<'c, T, W>
+        requires { self.old.machine.guards + 1 < 2 ^ 32 }
+        ensures own { Owns self.new result }
+        ensures of { result.collector.now ≡ self.old.collector.now }
+        ensures same { IsSame self.old self.new }
+        ensures does { Does self.old Pin self.new }
+        ensures called { DoesAndCalls W.done W.Removing.tried self.old Pin self.new }
+        ensures ready { IsReady self.new }
+        ensures counted { self.new.machine.guards ≡ self.old.machine.guards + 1 }
+    {
+        if keeper.home.id != self.local.collector.id {
+            return self.pin();
+        }
+        self.local.pin_and_collect(&mut Some(&mut keeper.rooms));
         Guard {
             collector: self.local.collector,
             position: Some(self.local.position),

@@ -4,7 +4,7 @@ ghost use Rattle.epoch_cells.specs.declared.cells.name.Name.{Name};
 ghost use Rattle.epoch_cells.specs.declared.fault.Fault.TheVariants.{CellsFull};
 
 use crate::guard::Guard;
-use epoch_cells::{Cells, Name, Refused};
+use epoch_cells::{Cells, IntoSlots, Name, Refused, Room};
 
 /// The cells that a name is of, and the number of their collector.
 #[derive_where(Clone, Copy)]
@@ -38,6 +38,11 @@ pub trait Placing<T> {
         ensures full { IfErr result (λ refused. (refused.fault ≡ CellsFull) × (refused.value ≡ value)) }
         ensures slot { IfOk result (λ name. name.slot ≤ vec_len cells.now.slots) }
         ensures placed { IfOk result (λ name. placed value.value name) };
+
+    /// Places the value in a free slot that its owner keeps, as [`Room::place`] does.
+    fn place_in(room: Room<'_, T>, value: Box<T>) -> Name
+        ensures name { result ≡ room.entry.name }
+        ensures placed { placed value.value result };
 }
 
 /// The one [`Placing`]: the cells place the value, and nothing else is done. No value of this type is made.
@@ -54,6 +59,14 @@ impl<T: Drop> Placing<T> for InCells {
     {
         cells.place_near(position, value)
     }
+
+    #[inline(always)]
+    fn place_in(room: Room<'_, T>, value: Box<T>) -> Name
+        ensures name { result ≡ room.entry.name }
+        ensures placed { Unit {0} }
+    {
+        room.place::<IntoSlots>(value)
+    }
 }
 
 /// Tells which [`Placing`] places a value. There is only this impl, so no caller names it.
@@ -64,8 +77,9 @@ impl<T> HasPlacing<InCells> for T {}
 /// Places the value in a cell of the guard's collector, near the guard's participant. Under an unprotected guard the
 /// first position serves.
 ///
-/// `CellsFull`: every slot was seen used or retired during the call. The value is handed back. The clauses tell by
-/// [`Placing`] that the value was placed under the name that is returned.
+/// `CellsFull`: every slot was seen used or retired during the call. A slot that a
+/// [`Keeper`](crate::Keeper) keeps counts as used. The value is handed back. The clauses tell by [`Placing`] that the
+/// value was placed under the name that is returned.
 #[inline(always)]
 pub fn place_under<T: Drop + HasPlacing<M>, W, M: Placing<T>>(
     guard: &Guard<'_, T, W>,

@@ -133,7 +133,7 @@ fn a_vec_and_an_array_are_removed_with_their_elements(rt: HostRuntime) {
 }
 
 /// No cell is free for a value.
-fn refuse_place(rt: &impl Abort, alloc: Global, guard: &Guard<'_, u64>) {
+pub(crate) fn refuse_place(rt: &impl Abort, alloc: Global, guard: &Guard<'_, u64>) {
     let owned = want_ok(rt, "memory for a value", Owned::new(alloc, 6));
     let Refused { fault, value: _ } = want_err(rt, "no cell is free", owned.into_shared(guard));
     want(rt, "the fault", fault, Fault::CellsFull);

@@ -6,6 +6,7 @@ use std::process::Abort;
 use std::test::Fail;
 
 mod near;
+mod rooms;
 mod threads;
 
 /// The slot and turn that the value is placed at. `None`: no slot is free.

@@ -7,7 +7,8 @@ ghost use Rattle.counted_slot.specs.Counting.{readers, IsTurn, Gains};
 
 use crate::cells::name::Name;
 use crate::cells::word::{readers_of, state_of, turn_of, vacant, word_of};
-use counted_slot::{Claim, Counted, FREE, Fits, MARKED, MOST_READERS, ONE_READER, PRESENT, TAKEN};
+use counted_slot::{Claim, Counted, FREE, Fits, MOST_READERS, ONE_READER, PRESENT, TAKEN};
+use epoch_claims::{Kept, replace};
 
 /// A value's box beside its own name: what stands in a cell, and what is taken out of one.
 #[derive(Drop)]
@@ -63,7 +64,7 @@ pub trait Puts<T> {
     /// Puts the value and its name into the claimed slot, whose word is this one from then on.
     fn put(claim: Claim<'_, Option<Held<T>>>, held: Held<T>, word: u64)
         requires claimed { claim.right ≡ 2 }
-        requires word { (word % 4 < 3) × (readers word ≡ 0) }
+        requires word { word ≡ held.name.turn * 4294967296 + 1 }
         requires fits { held.name.slot ≡ claim.tag }
         ensures placed { placed held.value.value held.name };
 }
@@ -77,7 +78,7 @@ impl<T: Drop> Puts<T> for IntoSlots {
     #[inline(always)]
     fn put(claim: Claim<'_, Option<Held<T>>>, held: Held<T>, word: u64)
         requires claimed { claim.right ≡ 2 }
-        requires word { (word % 4 < 3) × (readers word ≡ 0) }
+        requires word { word ≡ held.name.turn * 4294967296 + 1 }
         requires fits { held.name.slot ≡ claim.tag }
         ensures placed { Unit {0} }
     {
@@ -269,85 +270,35 @@ pub fn try_read<'a, T: Drop>(slot: &'a Slot<T>, name: Name) -> Result<Reading<'a
     }
 }
 
-/// Tries once to take the value of this name out, which leaves its slot free for the next turn.
+// Tries once to claim the slot of the value of this name, whose word is `taken` from then on, and takes the value out.
+// The claim goes on.
 #[inline(always)]
-pub fn try_take<T: Drop>(slot: &Slot<T>, name: Name) -> Result<Held<T>, Miss>
-    requires numbered { slot.now ≡ name.slot }
-    ensures { IfOk result (λ held. held.name ≡ name) }
+fn try_claim<'a, T: Drop>(
+    slot: &'a Slot<T>,
+    name: Name,
+    taken: u64,
+) -> Result<(Claim<'a, Option<Held<T>>>, Held<T>), Miss>
+    requires { taken % 4 ≡ 3 }
+    ensures claim { IfOk result (λ claimed. (claimed.0.right ≡ 2) × (claimed.0.tag ≡ slot.now)) }
+    ensures named { IfOk result (λ claimed. claimed.1.name ≡ name) }
 {
     let seen = slot.load();
-    if turn_of(seen) != name.turn() || state_of(seen) == FREE {
-        return Err(Miss::Gone);
-    }
     if seen != word_of(name.turn(), PRESENT) {
-        return Err(Miss::Held);
-    }
-    let (found, claim) = slot.turn(seen, word_of(name.turn(), TAKEN));
-    if found != seen {
-        claim.done();
-        return Err(Miss::Lost);
-    }
-    match claim.put(None, vacant(name.turn())) {
-        Some(held) => {
-            if held.name == name {
-                return Ok(held);
-            }
-            put_back(slot, held);
+        if turn_of(seen) != name.turn() || state_of(seen) == FREE {
+            return Err(Miss::Gone);
         }
-        None => {}
-    }
-    Err(Miss::Gone)
-}
-
-/// Puts a value back that was taken out by the name of another turn, or drops it if its slot is used by then. This
-/// never happens.
-#[cold]
-#[inline(never)]
-fn put_back<T: Drop>(slot: &Slot<T>, held: Held<T>)
-    requires { held.name.slot ≡ slot.now }
-{
-    let seen = slot.load();
-    if state_of(seen) != FREE {
-        return;
-    }
-    let (found, claim) = slot.turn(seen, word_of(turn_of(seen), TAKEN));
-    if found != seen {
-        claim.done();
-        return;
-    }
-    let word = word_of(held.name.turn(), PRESENT);
-    let _ = claim.put(Some(held), word);
-}
-
-/// Tries once to claim the value of this name for writing.
-#[inline(always)]
-pub fn try_write<'a, T: Drop>(slot: &'a Slot<T>, name: Name) -> Result<Writing<'a, T>, Miss>
-    ensures { IfOk result (λ writing. writing.name ≡ name) }
-{
-    let seen = slot.load();
-    if turn_of(seen) != name.turn() || state_of(seen) == FREE {
-        return Err(Miss::Gone);
-    }
-    if seen != word_of(name.turn(), PRESENT) {
         return Err(Miss::Held);
     }
-    let (found, claim) = slot.turn(seen, word_of(name.turn(), TAKEN));
+    let (found, claim) = slot.turn(seen, taken);
     if found != seen {
         claim.done();
         return Err(Miss::Lost);
     }
-    let marked = word_of(name.turn(), MARKED);
-    let held = claim.put(None, marked);
-    let (found, claim) = slot.turn(marked, word_of(name.turn(), TAKEN));
-    if found != marked {
-        // Only the thread that marked a slot acts on it, so this doesn't happen.
-        claim.done();
-        return Err(Miss::Held);
-    }
-    match held {
+    let (claim, content) = replace(claim, None);
+    match content {
         Some(held) => {
             if held.name == name {
-                return Ok(Writing { claim, held, name });
+                return Ok((claim, held));
             }
             let _ = claim.put(Some(held), seen);
         }
@@ -356,4 +307,83 @@ pub fn try_write<'a, T: Drop>(slot: &'a Slot<T>, name: Name) -> Result<Writing<'
         }
     }
     Err(Miss::Gone)
+}
+
+/// Tries once to take the value of this name out. Its slot comes as a room for the next value, or is retired if this
+/// was its last turn.
+#[inline(always)]
+pub fn try_take<'a, T: Drop>(
+    slot: &'a Slot<T>,
+    name: Name,
+) -> Result<(Held<T>, Option<Room<'a, T>>), Miss>
+    requires numbered { slot.now ≡ name.slot }
+    ensures named { IfOk result (λ taken. taken.0.name ≡ name) }
+    ensures next { IfOk result (λ taken. IfSome taken.1
+        (λ room. (room.name.slot ≡ name.slot) × (room.name.turn ≡ name.turn + 1))) }
+{
+    // At once of the next turn, so that from here on the value is gone for all callers.
+    match try_claim(slot, name, word_of(name.turn().wrapping_add(1), TAKEN)) {
+        Ok((claim, held)) => Ok((held, room_after(claim, name))),
+        Err(miss) => Err(miss),
+    }
+}
+
+/// A free slot that its owner keeps for its next value: no other call finds it free. If it is dropped, the slot is free
+/// for all callers.
+pub struct Room<'a, T> {
+    kept: Kept<'a, Option<Held<T>>>,
+    // The name of the next value.
+    name: Name,
+    pub ghost fits: { name.slot ≡ kept.claim.tag },
+}
+
+impl<'a, T: Drop> Room<'a, T> {
+    /// Places the value here, by one store, beside its name, and returns that name.
+    #[inline(always)]
+    pub fn place<P: Puts<T>>(self, value: Box<T>) -> Name
+        ensures name { result ≡ self.entry.name }
+        ensures placed { P.placed value.value result }
+    {
+        let Room { kept, name } = self;
+        let word = word_of(name.turn(), PRESENT);
+        P::put(kept.into_claim(), Held { name, value }, word);
+        name
+    }
+}
+
+impl<'a, T: Drop> Drop for Room<'a, T> {
+    fn drop(self) {
+        let Self { kept, name } = self;
+        let _ = kept.into_claim().put(None, word_of(name.turn(), FREE));
+    }
+}
+
+// The room of a slot from which the value of this name was taken out. `None`: it was the last one, and the slot is
+// retired.
+#[inline(always)]
+fn room_after<'a, T: Drop>(claim: Claim<'a, Option<Held<T>>>, name: Name) -> Option<Room<'a, T>>
+    requires { (claim.right ≡ 2) × (claim.tag ≡ name.slot) }
+    ensures { IfSome result (λ room. (room.name.slot ≡ name.slot) × (room.name.turn ≡ name.turn + 1)) }
+{
+    if name.turn() == u32::MAX {
+        let _ = claim.put(None, vacant(name.turn()));
+        return None;
+    }
+    let name = Name::at(name.slot(), name.turn() + 1);
+    Some(Room {
+        kept: Kept::new(claim),
+        name,
+    })
+}
+
+/// Tries once to claim the value of this name for writing.
+#[inline(always)]
+pub fn try_write<'a, T: Drop>(slot: &'a Slot<T>, name: Name) -> Result<Writing<'a, T>, Miss>
+    requires numbered { slot.now ≡ name.slot }
+    ensures { IfOk result (λ writing. writing.name ≡ name) }
+{
+    match try_claim(slot, name, word_of(name.turn(), TAKEN)) {
+        Ok((claim, held)) => Ok(Writing { claim, held, name }),
+        Err(miss) => Err(miss),
+    }
 }

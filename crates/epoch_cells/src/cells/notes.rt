@@ -8,6 +8,7 @@
 ghost use Rattle.std.specs.Prelude.{◌≡◌, IsOkUnless};
 ghost use Rattle.epoch_cells.specs.declared.fault.Fault.TheVariants.{NoMemory};
 
+use crate::cells::rooms::Rooms;
 use crate::fault::Fault;
 use std::alloc::Global;
 use std::sync::atomic::AtomicU64;
@@ -31,21 +32,24 @@ pub struct Span {
     pub to: usize,
 }
 
-/// Slots that the removals of one position gave free, and that aren't noted yet.
+/// Slots that the removals of one position gave free: those that its participant keeps as rooms, and others, which
+/// aren't noted yet.
 ///
 /// It must be given back, by [`Cells::note_freed`](crate::Cells::note_freed).
-pub struct Freed {
+pub struct Freed<'r, 'a, T> {
     pub(crate) position: usize,
     pub(crate) span: Span,
+    pub(crate) rooms: &'r mut Rooms<'a, T>,
 }
 
-impl Freed {
-    /// Begins with no slot, near this position.
+impl<'r, 'a, T> Freed<'r, 'a, T> {
+    /// Begins with no slot, near this position, beside these rooms.
     #[inline(always)]
-    pub fn none(position: usize) -> Freed {
+    pub fn none(position: usize, rooms: &'r mut Rooms<'a, T>) -> Freed<'r, 'a, T> {
         Freed {
             position,
             span: Span { from: 0, to: 0 },
+            rooms,
         }
     }
 }

@@ -4,8 +4,7 @@
 //! |---|---|---|
 //! | `FREE` | nothing | the next one |
 //! | `PRESENT` | a value, or nothing where the slot is retired | the value's, or the last one |
-//! | `MARKED` | nothing: the thread that marked it has the value for the time between two steps | the value's |
-//! | `TAKEN` | whatever the thread that took it puts there | the value's |
+//! | `TAKEN` | whatever the thread that took it puts there; nothing, if it is a room | the value's; a room's next one |
 ghost use Rattle.std.specs.Prelude.{◌≡◌, ◌+◌, ◌*◌, ◌/◌, ◌%◌, ◌<◌, ◌==◌, if◌then◌else◌};
 ghost use Rattle.counted_slot.specs.Counting.{readers};
 

@@ -14,7 +14,7 @@ ghost use Rattle.epoch_machine.specs.declared.machine.Stage.TheVariants.{LoadSca
 use crate::local::Local;
 use epoch_bags::queue::places::is_expired_word;
 use epoch_bags::{Epoch, GREATEST_EPOCH, Job, Remove, Run, TakeCursor, TakeStep};
-use epoch_cells::{Cells, Freed};
+use epoch_cells::{Cells, Freed, Rooms};
 use epoch_machine::{Machine, holds_up};
 
 impl<'c, T, W> Local<'c, T, W> {
@@ -52,10 +52,10 @@ impl<'c, T, W> Local<'c, T, W> {
 /// A removal is told where it lies, and called by its name: a job that is taken out and then told apart goes through
 /// memory several times.
 #[inline(always)]
-fn call_removal<T: Drop, W: Run>(
+fn call_removal<'a, T: Drop, W: Run>(
     machine: &mut Machine<Job<W>>,
-    cells: &Cells<T>,
-    freed: &mut Freed,
+    cells: &'a Cells<T>,
+    freed: &mut Freed<'_, 'a, T>,
 ) -> bool
     ensures called { result ≡ true → (name : Name) × W.Removing.tried name
         × (machine.old.hand ≡ Remove name ∷ rest machine.old.hand)
@@ -74,10 +74,10 @@ fn call_removal<T: Drop, W: Run>(
 
 /// Calls the next job of the bag in hand. Returns whether there was one.
 #[inline(always)]
-fn call_next<T: Drop, W: Run>(
+fn call_next<'a, T: Drop, W: Run>(
     machine: &mut Machine<Job<W>>,
-    cells: &Cells<T>,
-    freed: &mut Freed,
+    cells: &'a Cells<T>,
+    freed: &mut Freed<'_, 'a, T>,
 ) -> bool
     ensures called { result ≡ true → (job : Job W) × IsCalled W.done W.Removing.tried job
         × (machine.old.hand ≡ job ∷ rest machine.old.hand) }
@@ -96,19 +96,40 @@ fn call_next<T: Drop, W: Run>(
 }
 
 impl<'c, T: Drop, W: Run> Local<'c, T, W> {
-    /// Calls what is left of the bag in hand, the oldest job first.
-    ///
-    /// It stands out of line, so that a collection without a bag passes through less code.
-    #[inline(never)]
-    fn call_hand(&mut self)
+    /// Calls what is left of the bag in hand, the oldest job first. Slots that removals give free are kept among these
+    /// rooms, as many as they take.
+    #[inline(always)]
+    fn call_hand_into(&mut self, rooms: &mut Rooms<'c, T>)
         ensures only { self.new ≡ record self.old { machine = self.new.machine } }
         ensures calls { (expiry taken : ℕ)
             → self.old.machine.stage ≡ after_job self.old.machine expiry taken self.old.machine.hand
             → CallsHand W.done W.Removing.tried self.old expiry taken self.new }
     {
-        let mut freed = Freed::none(self.position);
+        let mut freed = Freed::none(self.position, rooms);
         while call_next(&mut self.machine, &self.collector.cells, &mut freed) {}
         self.collector.cells.note_freed(freed);
+    }
+
+    /// Calls what is left of the bag in hand, the oldest job first.
+    ///
+    /// It stands out of line, so that a collection without a bag passes through less code.
+    #[inline(never)]
+    fn call_hand(&mut self, rooms: &mut Option<&mut Rooms<'c, T>>)
+        ensures only { self.new ≡ record self.old { machine = self.new.machine } }
+        ensures calls { (expiry taken : ℕ)
+            → self.old.machine.stage ≡ after_job self.old.machine expiry taken self.old.machine.hand
+            → CallsHand W.done W.Removing.tried self.old expiry taken self.new }
+    {
+        match rooms.take() {
+            Some(kept) => {
+                self.call_hand_into(kept);
+                *rooms = Some(kept);
+            }
+            None => {
+                let mut none = self.collector.cells.no_rooms();
+                self.call_hand_into(&mut none);
+            }
+        }
     }
 
     /// Looks at the places, as the first steps of a collection for `expiry`, up to the first place whose word tells
@@ -145,7 +166,7 @@ impl<'c, T: Drop, W: Run> Local<'c, T, W> {
     /// Takes expired bags, as many as a collection takes or as it finds, and calls each one's jobs before it looks
     /// for the next.
     #[inline(always)]
-    fn take_bags(&mut self, expiry: u64)
+    fn take_bags(&mut self, rooms: &mut Option<&mut Rooms<'c, T>>, expiry: u64)
         requires seated { IsSeated self.old }
         requires rests { RestsAt self.old.claimer.me }
         requires takes { self.old.machine.stage ≡ Take expiry 0 }
@@ -167,16 +188,17 @@ impl<'c, T: Drop, W: Run> Local<'c, T, W> {
                 TakeStep::Empty => return,
                 TakeStep::Got => {}
             }
-            self.call_hand();
+            self.call_hand(rooms);
             if !self.machine.is_taking() {
                 return;
             }
         }
     }
 
-    /// A collection: a scan, and bags that are expired for the epoch that it gave.
+    /// A collection: a scan, and bags that are expired for the epoch that it gave. Slots that their removals give free
+    /// are kept among these rooms, if there are any.
     #[inline(never)]
-    pub(crate) fn collect(&mut self)
+    pub(crate) fn collect(&mut self, rooms: &mut Option<&mut Rooms<'c, T>>)
         requires seated { IsSeated self.old }
         requires rests { RestsAt self.old.claimer.me }
         requires pinned { IsPinned self.old.seat.me.0 }
@@ -184,6 +206,6 @@ impl<'c, T: Drop, W: Run> Local<'c, T, W> {
         ensures { Collects W.done W.Removing.tried self.old self.new }
     {
         let expiry = self.scan();
-        self.take_bags(expiry);
+        self.take_bags(rooms, expiry);
     }
 }

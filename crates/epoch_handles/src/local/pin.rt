@@ -10,6 +10,7 @@ ghost use Rattle.epoch_machine.specs.declared.machine.Stage.TheVariants.{LoadSca
 
 use crate::local::Local;
 use epoch_bags::Run;
+use epoch_cells::Rooms;
 
 impl<'c, T, W> Local<'c, T, W> {
     /// The steps of a pin after its first load: publishes the epoch found, and loads the epoch again.
@@ -116,7 +117,7 @@ impl<'c, T, W> Local<'c, T, W> {
 impl<'c, T: Drop, W: Run> Local<'c, T, W> {
     /// A pin, with the collection that follows the first one and each 128th.
     #[inline(always)]
-    pub(crate) fn pin_and_collect(&mut self)
+    pub(crate) fn pin_and_collect(&mut self, rooms: &mut Option<&mut Rooms<'c, T>>)
         requires ready { IsReady self.old }
         requires fits { self.old.machine.guards + 1 < 2 ^ 32 }
         ensures same { IsSame self.old self.new }
@@ -128,7 +129,7 @@ impl<'c, T: Drop, W: Run> Local<'c, T, W> {
         if !self.pin() {
             return;
         }
-        self.collect();
+        self.collect(rooms);
         self.machine.end();
     }
 }

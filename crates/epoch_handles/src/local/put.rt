@@ -7,6 +7,7 @@ ghost use Rattle.epoch_machine.specs.declared.machine.Stage.TheVariants.{LoadSea
 
 use crate::local::Local;
 use epoch_bags::{Job, PutStep, Run};
+use epoch_cells::Rooms;
 use epoch_machine::{Action, Answer};
 
 impl<'c, T: Drop, W: Run> Local<'c, T, W> {
@@ -81,7 +82,7 @@ impl<'c, T: Drop, W: Run> Local<'c, T, W> {
     /// A flush: the held bag is put, if it has a job, and bags are collected. Returns whether the put saw each
     /// place occupied.
     #[inline(always)]
-    pub(crate) fn flush(&mut self) -> bool
+    pub(crate) fn flush(&mut self, rooms: &mut Option<&mut Rooms<'c, T>>) -> bool
         requires ready { IsReady self.old }
         requires out { 0 < self.old.machine.guards }
         ensures same { IsSame self.old self.new }
@@ -96,12 +97,12 @@ impl<'c, T: Drop, W: Run> Local<'c, T, W> {
         let none = self.machine.holds_none();
         self.machine.begin(Action::Flush);
         if none {
-            self.collect();
+            self.collect(rooms);
             self.machine.end_uncounted();
             return false;
         }
         self.put();
-        self.collect();
+        self.collect(rooms);
         self.machine.end_uncounted();
         self.machine.found_full()
     }

@@ -59,7 +59,7 @@ impl<'c, T: Drop, W: Run> Local<'c, T, W> {
         if !self.machine.release_pinned(epoch) {
             return;
         }
-        self.collect();
+        self.collect(&mut None);
     }
 
     /// What a release does after its pin and the collection. Returns whether the position is free.

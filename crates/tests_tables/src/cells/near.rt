@@ -1,12 +1,15 @@
-//! Values that are placed near positions: all slots are found, whichever position their removals were noted at.
+//! Values that are placed near positions: all slots are found, whichever position their removals were noted at, and
+//! whether their owners keep some of them as rooms for a while or not.
 use crate::threads::{Work, count, counts_of, ones_and_more, side_by_side};
 use crate::wants::want;
-use epoch_cells::{Cells, Freed, Name, Removal};
+use epoch_cells::{Cells, Freed, IntoSlots, Name, Removal, Rooms};
 use std::alloc::Global;
 use std::process::Abort;
+use std::sync::Wait;
 use std::sync::atomic::AtomicU64;
 use std::sync::atomic::Ordering::SeqCst;
 use std::test::Fail;
+use std::thread::Threads;
 
 const POSITIONS: usize = 8;
 
@@ -26,17 +29,34 @@ fn place(alloc: Global, cells: &Cells<u64>, position: usize, value: u64) -> Opti
     cells.place_near(position, boxed).ok()
 }
 
+// Places a value in the newest room, or near the position if there is none. `None`: no slot is free.
+pub(crate) fn place_by_rooms<'a>(
+    alloc: Global,
+    cells: &'a Cells<u64>,
+    rooms: &mut Rooms<'a, u64>,
+    position: usize,
+    value: u64,
+) -> Option<Name> {
+    let boxed = Box::new(alloc, value).ok()?;
+    if let Some(room) = rooms.next() {
+        return Some(room.place::<IntoSlots>(boxed));
+    }
+    cells.make_rooms(rooms);
+    cells.place_near(position, boxed).ok()
+}
+
 // Places values near all positions in turn until one is refused, and answers their names: of this many slots.
-fn fill(
+pub(crate) fn fill(
     rt: &impl Abort,
     alloc: Global,
     cells: &Cells<u64>,
     positions: usize,
     slots: u64,
 ) -> Vec<Name> {
-    let named = counts_of(rt, alloc, SLOTS as usize + 1);
+    let tries = cells.capacity() + 1;
+    let named = counts_of(rt, alloc, tries);
     let mut names = Vec::new(alloc);
-    for turn in 0..SLOTS as usize + 1 {
+    for turn in 0..tries {
         match place(alloc, cells, turn % positions.max(1), turn as u64) {
             Some(name) => {
                 count(&named, name.slot() as u64);
@@ -49,9 +69,20 @@ fn fill(
     names
 }
 
-// Removes the values of these names near the position. Answers how many were there.
+// Removes the values of these names near the position, for an owner that keeps no room. Answers how many were there.
 fn remove(cells: &Cells<u64>, position: usize, names: &[Name]) -> usize {
-    let mut freed = Freed::none(position);
+    let mut rooms = cells.no_rooms();
+    remove_beside(cells, &mut rooms, position, names)
+}
+
+// Removes the values of these names near the position, beside these rooms. Answers how many were there.
+pub(crate) fn remove_beside<'a>(
+    cells: &'a Cells<u64>,
+    rooms: &mut Rooms<'a, u64>,
+    position: usize,
+    names: &[Name],
+) -> usize {
+    let mut freed = Freed::none(position, rooms);
     let mut removed = 0usize;
     for name in names {
         if cells.remove_near(&mut freed, *name) == Removal::Destroyed {
@@ -101,58 +132,75 @@ fn more_spans_than_a_position_notes_are_found_too(rt: HostRuntime) -> Result<(),
     Ok(())
 }
 
-// What threads share: the cells, and how often values were lost.
+// What threads share: the cells, whether each thread asks for rooms, and how often values were lost.
 #[derive(Drop)]
 struct Rounds<'a> {
     alloc: Global,
     cells: &'a Cells<u64>,
+    asks: bool,
     lost: &'a AtomicU64,
 }
 
-impl Rounds<'_> {
-    // Places some values near the position, and removes those of the round before near the next one.
-    fn round(&self, position: usize, before: &[Name]) -> Vec<Name> {
+impl<'a> Rounds<'a> {
+    // Places some values near the position or in rooms, and removes those of the round before near the next position.
+    fn round(&self, rooms: &mut Rooms<'a, u64>, position: usize, before: &[Name]) -> Vec<Name> {
         let mut names = Vec::new(self.alloc);
         for value in 0..IN_A_ROUND {
-            if let Some(name) = place(self.alloc, self.cells, position, value) {
+            let placed = if self.asks {
+                place_by_rooms(self.alloc, self.cells, rooms, position, value)
+            } else {
+                place(self.alloc, self.cells, position, value)
+            };
+            if let Some(name) = placed {
                 let _ = names.push(name);
             }
         }
-        self.remove(position.wrapping_add(1) % POSITIONS, before);
+        self.remove(rooms, position.wrapping_add(1) % POSITIONS, before);
         names
     }
 
-    fn remove(&self, position: usize, names: &[Name]) {
-        if remove(self.cells, position, names) != names.len() {
+    fn remove(&self, rooms: &mut Rooms<'a, u64>, position: usize, names: &[Name]) {
+        if remove_beside(self.cells, rooms, position, names) != names.len() {
             self.lost.fetch_add(1, SeqCst);
         }
     }
 }
 
 impl Work for Rounds<'_> {
-    // The rounds of one thread, which leave no value behind.
+    // The rounds of one thread, which leave no value and no room behind.
     fn work(&self, number: u64) {
         let position = (number % POSITIONS as u64) as usize;
+        let mut rooms = self.cells.no_rooms();
         let mut names = Vec::new(self.alloc);
         for _ in 0..ROUNDS {
-            names = self.round(position, &names);
+            names = self.round(&mut rooms, position, &names);
         }
-        self.remove(position, &names);
+        self.remove(&mut rooms, position, &names);
     }
 }
 
-#[test]
-fn threads_that_place_and_remove_lose_no_slot(rt: HostRuntime) -> Result<(), Fail> {
-    let alloc = rt.alloc();
-    let cells = Cells::with_positions(alloc, SLOTS, 0, POSITIONS)?;
+// Threads make their rounds over cells, and in the end each slot is free.
+fn race<R: Abort + Threads + Wait + Sync>(rt: &R, alloc: Global, asks: bool) {
+    let cells = Cells::with_positions(alloc, SLOTS, 0, POSITIONS).expect(rt, "memory for cells");
     let lost = AtomicU64::new(0);
     let rounds = Rounds {
         alloc,
         cells: &cells,
+        asks,
         lost: &lost,
     };
-    side_by_side(&rt, THREADS, &rounds);
-    want(&rt, "each value was there", lost.load(SeqCst), 0);
-    let _ = fill(&rt, alloc, &cells, POSITIONS, 200);
-    Ok(())
+    side_by_side(rt, THREADS, &rounds);
+    want(rt, "each value was there", lost.load(SeqCst), 0);
+    let _ = fill(rt, alloc, &cells, POSITIONS, 200);
+}
+
+#[test]
+fn threads_that_place_and_remove_lose_no_slot(rt: HostRuntime) {
+    race(&rt, rt.alloc(), false);
+}
+
+#[test]
+fn threads_that_place_in_rooms_and_remove_lose_no_slot(rt: HostRuntime) {
+    // Each of them keeps at most 6 rooms: together a quarter of 200 slots.
+    race(&rt, rt.alloc(), true);
 }

@@ -1,4 +1,4 @@
-use Rattle.std.proofs.Common.{◌≡◌, ◌∷◌, refl, subst}
+use Rattle.std.proofs.Common.{◌≡◌, ◌∷◌, arith, refl, subst}
 use Rattle.epoch_bags.specs.declared.job.Job.{Job}
 use Rattle.epoch_bags.specs.declared.job.Job.TheVariants.{Remove}
 use Rattle.epoch_machine.specs.Machine.{Machine, rest}
@@ -15,3 +15,8 @@ returns-clause-called g c = λ _. (
   subst (λ (m : Machine (Job g.row.W.Denot)). m.hand ≡ c.in-Some.job ∷ rest m.hand)
       (c.if-call_removal.ensures.not refl) c.in-Some.ensures.job.1,
 )
+
+-- what is left is the bag without its first job
+pub returns-clause-fewer : goal.returns-clause-fewer
+returns-clause-fewer g c = λ _.
+    grind (arith, c.if-call_removal.ensures.not, c.in-Some.ensures.job, c.in-Some.ensures.after)

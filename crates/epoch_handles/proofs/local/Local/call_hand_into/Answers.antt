@@ -2,7 +2,7 @@ use Rattle.std.proofs.Common.{refl, sym, ap, subst}
 use Rattle.epoch_handles.specs.declared.local.Local.{Local}
 use Rattle.epoch_handles.specs.Handles.{CallsHand}
 use Rattle.epoch_handles.proofs.Collecting.{HasCalled, one_more_called, all_called}
-use Rattle.epoch_handles.proofs.local.Local.call_hand.Goals as goal
+use Rattle.epoch_handles.proofs.local.Local.call_hand_into.Goals as goal
 
 pub loop-preserved : goal.loop-preserved
 loop-preserved g c =

@@ -1,7 +1,7 @@
 use Rattle.std.proofs.Common.{◌≡◌, ℕ, length}
 use Rattle.epoch_machine.specs.Machine.{after_job}
 use Rattle.epoch_handles.proofs.Collecting.{HasCalled}
-use Rattle.epoch_handles.proofs.local.Local.call_hand.Given as goal
+use Rattle.epoch_handles.proofs.local.Local.call_hand_into.Given as goal
 
 abbrev pub invariant-loop : goal.invariant-loop
 invariant-loop g l = record {

@@ -1,6 +1,6 @@
 use Rattle.std.proofs.Common.{refl, arith}
 use Rattle.epoch_handles.proofs.Tests.{not_both}
-use Rattle.epoch_handles.proofs.handle.LocalHandle.flush.Goals as goal
+use Rattle.epoch_handles.proofs.handle.LocalHandle.flush_into.Goals as goal
 
 pub returns-then-flush-clause-stranger : goal.returns-then-flush-clause-stranger
 returns-then-flush-clause-stranger g c = λ _ stranger. absurd (stranger (c.owns.ensures.value.0 c.if-not-owns.false))

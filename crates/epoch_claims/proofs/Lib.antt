@@ -1,0 +1,2 @@
+mod Keyless
+mod Values
