@@ -402,7 +402,7 @@ impl<'c, T: Drop, W: Run> LocalHandle<'c, T, W> {
         ensures ready { IsReady self.new }
         ensures counted { self.new.machine.guards ≡ self.old.machine.guards + 1 }
     {
-        self.local.pin_and_collect(&mut None);
+        self.local.pin_and_collect();
         let Paused { guard } = paused;
         guard
     }
@@ -504,7 +504,7 @@ impl<'c, T: Drop, W: Run> LocalHandle<'c, T, W> {
         ensures ready { IsReady self.new }
         ensures counted { self.new.machine.guards ≡ self.old.machine.guards + 1 }
     {
-        self.local.pin_and_collect(&mut None);
+        self.local.pin_and_collect();
         Guard {
             collector: self.local.collector,
             position: Some(self.local.position),
@@ -527,7 +527,7 @@ impl<'c, T: Drop, W: Run> LocalHandle<'c, T, W> {
         if keeper.home.id != self.local.collector.id {
             return self.pin();
         }
-        self.local.pin_and_collect(&mut Some(&mut keeper.rooms));
+        self.local.pin_and_collect_into(&mut keeper.rooms);
         Guard {
             collector: self.local.collector,
             position: Some(self.local.position),

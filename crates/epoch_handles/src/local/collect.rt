@@ -98,7 +98,7 @@ fn call_next<'a, T: Drop, W: Run>(
 impl<'c, T: Drop, W: Run> Local<'c, T, W> {
     /// Calls what is left of the bag in hand, the oldest job first. Slots that removals give free are kept among these
     /// rooms, as many as they take.
-    #[inline(always)]
+    #[inline(never)]
     fn call_hand_into(&mut self, rooms: &mut Rooms<'c, T>)
         ensures only { self.new ≡ record self.old { machine = self.new.machine } }
         ensures calls { (expiry taken : ℕ)

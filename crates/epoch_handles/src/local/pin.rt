@@ -117,7 +117,7 @@ impl<'c, T, W> Local<'c, T, W> {
 impl<'c, T: Drop, W: Run> Local<'c, T, W> {
     /// A pin, with the collection that follows the first one and each 128th.
     #[inline(always)]
-    pub(crate) fn pin_and_collect(&mut self, rooms: &mut Option<&mut Rooms<'c, T>>)
+    pub(crate) fn pin_and_collect(&mut self)
         requires ready { IsReady self.old }
         requires fits { self.old.machine.guards + 1 < 2 ^ 32 }
         ensures same { IsSame self.old self.new }
@@ -129,7 +129,26 @@ impl<'c, T: Drop, W: Run> Local<'c, T, W> {
         if !self.pin() {
             return;
         }
-        self.collect(rooms);
+        self.collect(&mut None);
+        self.machine.end();
+    }
+
+    /// Does the same, and keeps slots that the collection gives free among these rooms. It is a function of its own, so
+    /// that a plain pin stores nothing for the sake of rooms before its exchange.
+    #[inline(always)]
+    pub(crate) fn pin_and_collect_into(&mut self, rooms: &mut Rooms<'c, T>)
+        requires ready { IsReady self.old }
+        requires fits { self.old.machine.guards + 1 < 2 ^ 32 }
+        ensures same { IsSame self.old self.new }
+        ensures does { Does self.old Pin self.new }
+        ensures called { DoesAndCalls W.done W.Removing.tried self.old Pin self.new }
+        ensures ready { IsReady self.new }
+        ensures counted { self.new.machine.guards ≡ self.old.machine.guards + 1 }
+    {
+        if !self.pin() {
+            return;
+        }
+        self.collect(&mut Some(rooms));
         self.machine.end();
     }
 }
