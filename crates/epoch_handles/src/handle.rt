@@ -493,7 +493,7 @@ impl<'c, T: Drop, W: Run> LocalHandle<'c, T, W> {
     /// If the participant is pinned already, this only counts one more guard, and makes no atomic step. At most
     /// `2^32 - 1` guards can be out: [`LocalHandle::can_pin`] must hold. Keep pins short: while a participant stays
     /// pinned, the epoch advances at most once, and deferred jobs wait. As `LocalHandle::pin` of crossbeam-epoch.
-    #[inline]
+    #[inline(always)]
     pub fn pin(&mut self) -> Guard<'c, T, W>
         requires { self.old.machine.guards + 1 < 2 ^ 32 }
         ensures own { Owns self.new result }
