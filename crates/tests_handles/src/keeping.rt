@@ -74,7 +74,7 @@ fn replace(
 /// Pins and flushes four times, with the keeper.
 fn collect<'c>(rt: &impl Abort, handle: &mut LocalHandle<'c, u64>, keeper: &mut Keeper<'c, u64>) {
     for _ in 0..4u64 {
-        want(rt, "a guard can be counted", handle.can_pin(), true);
+        assert!(rt; handle.can_pin(), "a guard can be counted");
         let guard = handle.pin_keeping(keeper);
         let flushed = handle.flush_keeping(&guard, keeper);
         want(rt, "a place is free", flushed, Ok(()));
