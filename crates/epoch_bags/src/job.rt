@@ -138,9 +138,23 @@ impl<W: Run> Job<W> {
                 work.call();
                 Called::Ran
             }
-            Job::Remove(name) => called_for(W::Removing::remove_near(cells, freed, name)),
+            Job::Remove(name) => called_for(remove_apart::<T, W::Removing>(cells, freed, name)),
         }
     }
+}
+
+// Tries the removal. It stands out of line, since a collection calls removals as they lie in their bag, and takes only
+// other jobs out of it.
+#[cold]
+#[inline(never)]
+fn remove_apart<'a, T: Drop, R: Remove>(
+    cells: &'a Cells<T>,
+    freed: &mut Freed<'_, 'a, T>,
+    name: Name,
+) -> Removal
+    ensures { R.tried name }
+{
+    R::remove_near(cells, freed, name)
 }
 
 // What the call of a removal did that met this.

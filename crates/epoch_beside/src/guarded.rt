@@ -5,8 +5,9 @@ ghost use Rattle.epoch_handles.specs.Handles.{IsSame, Owns};
 use crate::rounds::FIRST;
 use crate::rows::Work;
 use epoch_base::{Job, Work as Function};
-use epoch_pin::atomic::{Atomic, DeferDestroy, ExchangeFault, KeepCells, Owned};
+use epoch_pin::atomic::{Atomic, DeferDestroy, ExchangeFault, KeepCells};
 use epoch_pin::{Guard, Keeper, LocalHandle};
+use epoch_removals::make_room_keeping;
 use std::alloc::Global;
 use std::sync::atomic::Ordering::SeqCst;
 
@@ -24,6 +25,27 @@ pub fn pin_under(handle: &mut LocalHandle<'_, u64>, turns: u64)
         let guard = handle.pin();
         handle.unpin(guard);
     }
+}
+
+/// Pins, with room in the held bag for one more removal. Where no place is free for a full bag, it unpins, so that other
+/// threads' bags can expire, and tries again.
+#[inline(always)]
+pub fn pin_with_room<'c>(
+    handle: &mut LocalHandle<'c, u64>,
+    keeper: &mut Keeper<'c, u64>,
+) -> Guard<'c, u64>
+    requires { handle.old.machine.guards ≡ 0 }
+    ensures own { Owns handle.new result }
+    ensures counted { handle.new.machine.guards ≡ 1 }
+{
+    for _ in 0..TRIES {
+        let guard = handle.pin_keeping(keeper);
+        if make_room_keeping(handle, &guard, keeper).is_ok() {
+            return guard;
+        }
+        handle.unpin(guard);
+    }
+    handle.pin_keeping(keeper)
 }
 
 /// Repins the guard this many times.
@@ -127,7 +149,7 @@ fn exchange(guard: &Guard<'_, u64>, pointer: &Atomic<u64>, turns: u64) -> u64 {
     won
 }
 
-/// Values that are placed in a cell, put behind a new pointer, and taken back.
+/// Values that are placed in a cell, put behind a new pointer, taken back, and dropped.
 pub fn place(
     keeper: &mut Keeper<'_, u64>,
     guard: &Guard<'_, u64>,
@@ -136,7 +158,7 @@ pub fn place(
 ) -> u64 {
     let mut sum: u64 = 0;
     for _ in 0..turns {
-        let Ok(owned) = Owned::new(alloc, 1) else {
+        let Ok(owned) = keeper.own(alloc, 1) else {
             continue;
         };
         let Ok(placed) = keeper.place_owned(guard, owned) else {
@@ -145,6 +167,7 @@ pub fn place(
         let pointer = Atomic::from(placed);
         if let Some(owned) = keeper.take_owned(pointer.load(SeqCst, guard)) {
             sum = sum.wrapping_add(*owned);
+            keeper.drop_owned(owned);
         }
     }
     sum
@@ -166,7 +189,7 @@ pub fn replace(
 {
     let mut done: u64 = 0;
     for value in 0..objects {
-        let Ok(owned) = Owned::new(alloc, value) else {
+        let Ok(owned) = keeper.own(alloc, value) else {
             continue;
         };
         let Ok(placed) = keeper.place_owned(guard, owned) else {
@@ -195,7 +218,7 @@ pub fn replace_store(
     ensures counted { handle.new.machine.guards ≡ handle.old.machine.guards }
 {
     let before = pointer.load(SeqCst, guard);
-    let Ok(owned) = Owned::new(alloc, 1) else {
+    let Ok(owned) = keeper.own(alloc, 1) else {
         return 0;
     };
     let Ok(placed) = keeper.place_owned(guard, owned) else {
@@ -219,7 +242,7 @@ pub fn replace_cas(
     ensures same { IsSame handle.old handle.new }
     ensures counted { handle.new.machine.guards ≡ handle.old.machine.guards }
 {
-    let Ok(owned) = Owned::new(alloc, 1) else {
+    let Ok(owned) = keeper.own(alloc, 1) else {
         return 0;
     };
     let Ok(placed) = keeper.place_owned(guard, owned) else {

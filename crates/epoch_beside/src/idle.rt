@@ -2,8 +2,8 @@
 ghost use Rattle.std.specs.Prelude.{◌≡◌, ℕ};
 
 use crate::guarded::{
-    defer_calls, flush_again, pin_under, place, read, repin_again, replace, replace_cas,
-    replace_store, under_one_guard,
+    defer_calls, flush_again, pin_under, pin_with_room, place, read, repin_again, replace,
+    replace_cas, replace_store, under_one_guard,
 };
 use crate::rows::Work;
 use epoch_base::Work as Function;
@@ -161,7 +161,7 @@ impl<'c> Idle<'c> {
         let mut keeper = self.handle.collector().keeper();
         let mut done: u64 = 0;
         for _ in 0..turns {
-            let guard = self.handle.pin_keeping(&mut keeper);
+            let guard = pin_with_room(&mut self.handle, &mut keeper);
             let replaced = replace(&mut self.handle, &mut keeper, &guard, alloc, pointer, 1);
             done = done.wrapping_add(replaced);
             self.handle.unpin(guard);
@@ -174,7 +174,7 @@ impl<'c> Idle<'c> {
         let mut keeper = self.handle.collector().keeper();
         let mut done: u64 = 0;
         for _ in 0..turns {
-            let guard = self.handle.pin_keeping(&mut keeper);
+            let guard = pin_with_room(&mut self.handle, &mut keeper);
             let replaced = replace_cas(&mut self.handle, &mut keeper, &guard, alloc, pointer);
             done = done.wrapping_add(replaced);
             self.handle.unpin(guard);
@@ -187,7 +187,7 @@ impl<'c> Idle<'c> {
         let mut keeper = self.handle.collector().keeper();
         let mut done: u64 = 0;
         for _ in 0..turns {
-            let guard = self.handle.pin_keeping(&mut keeper);
+            let guard = pin_with_room(&mut self.handle, &mut keeper);
             let replaced = replace_store(&mut self.handle, &mut keeper, &guard, alloc, pointer);
             done = done.wrapping_add(replaced);
             self.handle.unpin(guard);
@@ -200,7 +200,7 @@ impl<'c> Idle<'c> {
         let mut keeper = self.handle.collector().keeper();
         let mut done: u64 = 0;
         for _ in 0..turns / JOBS {
-            let guard = self.handle.pin_keeping(&mut keeper);
+            let guard = pin_with_room(&mut self.handle, &mut keeper);
             let replaced = replace(&mut self.handle, &mut keeper, &guard, alloc, pointer, JOBS);
             done = done.wrapping_add(replaced);
             let _ = self.handle.flush_keeping(&guard, &mut keeper);

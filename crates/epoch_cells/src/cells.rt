@@ -257,7 +257,8 @@ impl<T: Drop, P: Puts<T>> Cells<T, P> {
     #[inline(always)]
     pub fn remove_near<'a>(&'a self, freed: &mut Freed<'_, 'a, T>, name: Name) -> Removal {
         match self.take_out_near(name) {
-            Ok((_, room)) => {
+            Ok((held, room)) => {
+                freed.rooms.drop_boxed(held.into_value());
                 let Some(room) = room else {
                     return Removal::Destroyed;
                 };

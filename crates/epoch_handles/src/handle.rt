@@ -299,6 +299,7 @@ impl<'c, T: Drop, W: Run> LocalHandle<'c, T, W> {
         ensures same { IsSame self.old self.new }
         ensures ready { IsReady self.new }
         ensures counted { self.new.machine.guards ≡ self.old.machine.guards }
+        ensures keeper { keeper.new ≡ keeper.old }
         ensures unprotected { guard.now.position ≡ None → IsOk result × (self.new ≡ self.old) }
         ensures stranger { IsSome guard.now.position → ¬ Owns self.old guard.now
             → (result ≡ Err StrangerGuard) × (self.new ≡ self.old) }
@@ -521,6 +522,7 @@ impl<'c, T: Drop, W: Run> LocalHandle<'c, T, W> {
         ensures same { IsSame self.old self.new }
         ensures does { Does self.old Pin self.new }
         ensures called { DoesAndCalls W.done W.Removing.tried self.old Pin self.new }
+        ensures keeper { keeper.new ≡ keeper.old }
         ensures ready { IsReady self.new }
         ensures counted { self.new.machine.guards ≡ self.old.machine.guards + 1 }
     {

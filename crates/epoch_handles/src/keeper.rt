@@ -6,13 +6,19 @@ use crate::collector::Collector;
 use crate::guard::Guard;
 use crate::home::{HasPlacing, Home, Placing};
 use epoch_cells::{Name, Refused, Rooms};
+use std::alloc::{AllocFailed, Global};
 use std::fmt;
 
-/// Free cells of a collector that one thread keeps for its next values. No other call finds them free.
+/// Free cells of a collector that one thread keeps for its next values, and memory for such values. No other call finds
+/// these cells free.
 ///
 /// A value that is taken back by [`Keeper::take`] leaves its cell to the keeper, and the next value is placed there by
-/// one store. A keeper keeps cells from its first [`Keeper::place`] on: at most 256, and at most a quarter of a
-/// participant's share of the cells. When a keeper is dropped, its cells are free for all callers.
+/// one store. A value that is dropped by [`Keeper::drop_boxed`] leaves the memory of its box, and the next value is put
+/// there by [`Keeper::boxed`]. A value that a collection destroys leaves both, if the collection has the keeper.
+///
+/// A keeper keeps cells and memory from its first [`Keeper::place`] on: at most 256 cells, and at most a quarter of a
+/// participant's share of the cells, and the memory of as many values. When a keeper is dropped, its cells are free for
+/// all callers, and the memory is freed.
 #[derive(Drop)]
 pub struct Keeper<'c, T> {
     pub(crate) home: Home<'c, T>,
@@ -43,6 +49,27 @@ impl<'c, T: Drop> Keeper<'c, T> {
         ensures { result ≡ self.now.home.id }
     {
         self.home.id
+    }
+
+    /// Puts the value into a box: into the memory of a value that was destroyed, if the keeper has some, or else into
+    /// new memory.
+    ///
+    /// An allocation that is refused hands the value back.
+    #[inline(always)]
+    pub fn boxed(&mut self, alloc: Global, value: T) -> Result<Box<T>, AllocFailed<T>>
+        ensures same { self.new ≡ self.old }
+        ensures value { IfOk result (λ whole. whole.value ≡ value) }
+        ensures handed_back { IfErr result (λ refused. refused.value ≡ value) }
+    {
+        self.rooms.boxed(alloc, value)
+    }
+
+    /// Drops the value, and keeps the memory of its box for the next value, if the keeper keeps cells.
+    #[inline(always)]
+    pub fn drop_boxed(&mut self, whole: Box<T>)
+        ensures same { self.new ≡ self.old }
+    {
+        self.rooms.drop_boxed(whole);
     }
 
     /// Places the value in a cell of the keeper's collector, and returns the value's name. In a free cell that is kept,

@@ -1,12 +1,15 @@
 //! Cells that keepers keep for the next values of their threads.
 use crate::calls::{collector, end, pin, register, release, unpin};
+use crate::counts::{Counted, count, new_counted};
 use crate::removals::{placed, refuse_place, remove};
-use crate::wants::{want, want_err, want_ok, want_some};
+use crate::wants::{want, want_count, want_err, want_ok, want_some};
 use epoch_base::Fault;
 use epoch_pin::atomic::{Atomic, KeepCells, Owned, Shared};
 use epoch_pin::{Capacities, Guard, Keeper, LocalHandle};
 use std::alloc::Global;
 use std::process::Abort;
+use std::sync::Arc;
+use std::sync::atomic::AtomicU64;
 use std::sync::atomic::Ordering::SeqCst;
 
 /// The pointer's value has this slot and this turn.
@@ -189,4 +192,59 @@ fn a_cell_that_is_kept_is_free_for_others_when_its_keeper_is_dropped(rt: HostRun
     release(&rt, handle);
     drop(second);
     end(&rt, collector, 0);
+}
+
+/// A value with this number, in memory that the keeper has, or else in new memory.
+fn own_counted(
+    rt: &impl Abort,
+    alloc: Global,
+    keeper: &mut Keeper<'_, Counted>,
+    drops: &Arc<AtomicU64>,
+    number: u64,
+) -> Owned<Counted> {
+    let owned = keeper.own(alloc, new_counted(rt, drops, number));
+    want_ok(rt, "memory for a value", owned)
+}
+
+/// Swaps a value with this number in, removes the one before, and flushes.
+fn replace_counted<'c>(
+    rt: &impl Abort,
+    handle: &mut LocalHandle<'c, Counted>,
+    keeper: &mut Keeper<'c, Counted>,
+    atomic: &Atomic<Counted>,
+    owned: Owned<Counted>,
+) {
+    let guard = pin(rt, handle);
+    let placed = want_ok(rt, "a cell is free", keeper.place_owned(&guard, owned));
+    let swapped = atomic.swap(placed, SeqCst, &guard);
+    let before = want_ok(rt, "a pointer takes no cell", swapped);
+    if !before.is_null() {
+        remove(rt, handle, &guard, before);
+    }
+    let flushed = handle.flush_keeping(&guard, keeper);
+    want(rt, "a place is free", flushed, Ok(()));
+    unpin(rt, handle, guard);
+}
+
+// A value adds its number to the drops.
+#[test]
+fn values_in_memory_that_a_keeper_keeps_are_dropped_whole_and_once(rt: HostRuntime) {
+    let alloc = rt.alloc();
+    let drops = count(&rt, alloc);
+    let collector = collector::<Counted>(&rt, alloc, Capacities::usual(1, 64, 16));
+    let mut handle = register(&rt, &collector);
+    let mut keeper = collector.keeper();
+    let atomic = Atomic::<Counted>::null();
+    for number in 1..201u64 {
+        let owned = own_counted(&rt, alloc, &mut keeper, &drops, number);
+        replace_counted(&rt, &mut handle, &mut keeper, &atomic, owned);
+        let other = own_counted(&rt, alloc, &mut keeper, &drops, 1000);
+        keeper.drop_owned(other);
+    }
+    release(&rt, handle);
+    drop(keeper);
+    drop(atomic);
+    let _ = collector.end();
+    // The numbers from 1 to 200, and 200 times 1000.
+    want_count(&rt, "drops at the end", &drops, 220_100);
 }

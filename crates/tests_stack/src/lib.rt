@@ -5,6 +5,8 @@
 #[cfg(test)]
 mod calls;
 #[cfg(test)]
+mod keeping;
+#[cfg(test)]
 mod meetings;
 #[cfg(test)]
 mod memory;

@@ -1,8 +1,8 @@
 //! A stack that threads share.
 use crate::calls::{Handle, Nodes, collector, pin, register, told, unpin, want, want_empty};
 use epoch_base::Fault;
-use epoch_pin::Capacities;
-use epoch_stack::Stack;
+use epoch_pin::{Capacities, Guard, Keeper};
+use epoch_stack::{Node, Stack};
 use std::alloc::Global;
 use std::process::Abort;
 use std::sync::Wait;
@@ -14,19 +14,63 @@ use std::thread::Threads;
 /// As often as any call tries here.
 const TRIES: u32 = 100_000;
 
+/// A thread's keeper, and whether it uses it.
+#[derive(Drop)]
+struct Kept<'c> {
+    keeper: Keeper<'c, Node<u64>>,
+    used: bool,
+}
+
+/// Pushes the value once, with the keeper if it is used. Then flushes.
+fn push_once<'c>(
+    alloc: Global,
+    stack: &Stack<'_, u64>,
+    handle: &mut Handle<'c>,
+    guard: &Guard<'_, Node<u64>>,
+    kept: &mut Kept<'c>,
+    value: u64,
+) -> Result<(), (Fault, u64)> {
+    if !kept.used {
+        let pushed = told(stack.push(alloc, handle, guard, value, TRIES));
+        let _ = handle.flush(guard);
+        return pushed;
+    }
+    let keeper = &mut kept.keeper;
+    let pushed = told(stack.push_keeping(alloc, handle, guard, keeper, value, TRIES));
+    let _ = handle.flush_keeping(guard, keeper);
+    pushed
+}
+
+/// Pops a value once, with the keeper if it is used. Then flushes.
+fn pop_once<'c>(
+    stack: &Stack<'_, u64>,
+    handle: &mut Handle<'c>,
+    guard: &Guard<'_, Node<u64>>,
+    kept: &mut Kept<'c>,
+) -> Result<Option<u64>, Fault> {
+    if !kept.used {
+        let popped = stack.pop(handle, guard, TRIES);
+        let _ = handle.flush(guard);
+        return popped;
+    }
+    let popped = stack.pop_keeping(handle, guard, &mut kept.keeper, TRIES);
+    let _ = handle.flush_keeping(guard, &mut kept.keeper);
+    popped
+}
+
 /// Pushes the value. Where it finds no cell, or no place for its full bag, it lets go its guard, flushes under a
 /// new one, so that removals are called, and pushes again.
-fn push_at_last<R: Abort + Wait>(
+fn push_at_last<'c, R: Abort + Wait>(
     rt: &R,
     alloc: Global,
     stack: &Stack<'_, u64>,
-    handle: &mut Handle<'_>,
+    handle: &mut Handle<'c>,
+    kept: &mut Kept<'c>,
     value: u64,
 ) {
     for _ in rt.forever() {
         let guard = pin(rt, handle);
-        let pushed = told(stack.push(alloc, handle, &guard, value, TRIES));
-        let _ = handle.flush(&guard);
+        let pushed = push_once(alloc, stack, handle, &guard, kept, value);
         unpin(rt, handle, guard);
         match pushed {
             Ok(()) => return,
@@ -38,15 +82,15 @@ fn push_at_last<R: Abort + Wait>(
 
 /// Pops a value, or `None` where the stack is empty. Where there is no place for its full bag, it lets go its guard,
 /// flushes under a new one, and pops again.
-fn pop_at_last<R: Abort + Wait>(
+fn pop_at_last<'c, R: Abort + Wait>(
     rt: &R,
     stack: &Stack<'_, u64>,
-    handle: &mut Handle<'_>,
+    handle: &mut Handle<'c>,
+    kept: &mut Kept<'c>,
 ) -> Option<u64> {
     for _ in rt.forever() {
         let guard = pin(rt, handle);
-        let popped = stack.pop(handle, &guard, TRIES);
-        let _ = handle.flush(&guard);
+        let popped = pop_once(stack, handle, &guard, kept);
         unpin(rt, handle, guard);
         if let Ok(popped) = popped {
             return popped;
@@ -91,14 +135,18 @@ fn push_and_pop<R: Abort + Wait>(
     collector: &Nodes,
     stack: &Stack<'_, u64>,
     counts: &[AtomicU64],
-    first: u64,
-    values: u64,
+    (first, values): (u64, u64),
+    used: bool,
 ) {
     let mut handle = register(rt, collector);
+    let keeper = collector.keeper();
+    let mut kept = Kept { keeper, used };
     for value in 0..values {
-        push_at_last(rt, alloc, stack, &mut handle, first.wrapping_add(value));
-        count(rt, counts, pop_at_last(rt, stack, &mut handle));
+        let value = first.wrapping_add(value);
+        push_at_last(rt, alloc, stack, &mut handle, &mut kept, value);
+        count(rt, counts, pop_at_last(rt, stack, &mut handle, &mut kept));
     }
+    drop(kept);
     leave(rt, handle);
 }
 
@@ -120,13 +168,44 @@ fn pop_the_rest<R: Abort + Wait>(
     counts: &[AtomicU64],
 ) {
     let mut handle = register(rt, collector);
+    let keeper = collector.keeper();
+    let mut kept = Kept {
+        keeper,
+        used: false,
+    };
     for _ in counts {
-        count(rt, counts, pop_at_last(rt, stack, &mut handle));
+        count(rt, counts, pop_at_last(rt, stack, &mut handle, &mut kept));
     }
+    drop(kept);
     let guard = pin(rt, &mut handle);
     want_empty(rt, stack, &mut handle, &guard);
     unpin(rt, &mut handle, guard);
     leave(rt, handle);
+}
+
+/// Pushes until the cells are full, and returns how many pushes found one.
+fn free_cells<R: Abort + Wait>(
+    rt: &R,
+    alloc: Global,
+    collector: &Nodes,
+    stack: &Stack<'_, u64>,
+) -> u64 {
+    let mut handle = register(rt, collector);
+    for _ in 0..4u64 {
+        let guard = pin(rt, &mut handle);
+        let _ = handle.flush(&guard);
+        unpin(rt, &mut handle, guard);
+    }
+    let guard = pin(rt, &mut handle);
+    let mut found: u64 = 0;
+    for value in 0..1000u64 {
+        if stack.push(alloc, &mut handle, &guard, value, 1).is_ok() {
+            found = found.wrapping_add(1);
+        }
+    }
+    unpin(rt, &mut handle, guard);
+    leave(rt, handle);
+    found
 }
 
 /// Each value came off once.
@@ -136,36 +215,57 @@ fn want_each_once(rt: &impl Abort, counts: &[AtomicU64]) {
     }
 }
 
-/// This many threads push and pop this many values each. Each value comes off once, and then the stack is empty.
+/// This many threads push and pop this many values each, with keepers or without. Each value comes off once, and then
+/// the stack is empty, and each cell is free.
 fn race<R: Abort + Threads + Wait + Sync>(
     rt: &R,
     alloc: Global,
     capacities: Capacities,
-    threads: u64,
-    values: u64,
+    (threads, values): (u64, u64),
+    used: bool,
 ) {
+    let cells = u64::from(capacities.cells);
     let counts = counts_of(rt, alloc, threads.wrapping_mul(values));
     let collector = collector(rt, alloc, capacities);
     let stack = Stack::new(&collector);
     let (shared, nodes, all) = (&stack, &collector, counts.as_slice());
     thread::scope(thread::scope_env(), rt, |scope| {
         for thread in 0..threads {
-            let first = thread.wrapping_mul(values);
-            let _ = scope.spawn(move || push_and_pop(rt, alloc, nodes, shared, all, first, values));
+            let values = (thread.wrapping_mul(values), values);
+            let _ = scope.spawn(move || push_and_pop(rt, alloc, nodes, shared, all, values, used));
         }
     });
     pop_the_rest(rt, &collector, &stack, &counts);
     want_each_once(rt, &counts);
+    let free = free_cells(rt, alloc, &collector, &stack);
+    want(rt, "the cells that are free", free, cells);
     drop(stack);
     let _ = collector.end();
 }
 
 #[test]
 fn each_value_of_8_threads_comes_off_once(rt: HostRuntime) {
-    race(&rt, rt.alloc(), Capacities::usual(8, 64, 16), 8, 2000);
+    race(
+        &rt,
+        rt.alloc(),
+        Capacities::usual(8, 64, 16),
+        (8, 2000),
+        false,
+    );
+}
+
+#[test]
+fn each_value_of_8_threads_that_keep_cells_comes_off_once(rt: HostRuntime) {
+    race(
+        &rt,
+        rt.alloc(),
+        Capacities::usual(8, 64, 16),
+        (8, 2000),
+        true,
+    );
 }
 
 #[test]
 fn treiber_stack(rt: HostRuntime) {
-    race(&rt, rt.alloc(), Capacities::usual(3, 16, 16), 2, 5);
+    race(&rt, rt.alloc(), Capacities::usual(3, 16, 16), (2, 5), false);
 }

@@ -1,6 +1,7 @@
 //! How a keeper places owned values in the free cells that it keeps, and takes values back.
 ghost use Rattle.std.specs.Prelude.{◌≡◌, ◌≢◌, IsNone, IsErr, IsSome, IfSome, IfOk, IfErr};
-ghost use Rattle.epoch_cells.specs.declared.fault.Fault.TheVariants.{StrangerGuard, CellsFull};
+ghost use Rattle.std.specs.Prelude.{IsOkUnless};
+ghost use Rattle.epoch_cells.specs.declared.fault.Fault.TheVariants.{StrangerGuard, CellsFull, NoMemory};
 ghost use Rattle.epoch_atomic.specs.Pointers.{IsUnder};
 
 use crate::atomic::owned::Owned;
@@ -8,9 +9,19 @@ use crate::atomic::shared::Shared;
 use epoch_cells::{Fault, Refused};
 use epoch_handles::{Guard, HasPlacing, Keeper, Placing, home_of};
 use epoch_values::Pointable;
+use std::alloc::Global;
 
 /// Gives a [`Keeper`] the calls `place_owned` and `take_owned`.
 pub trait KeepCells<T> {
+    /// Puts the value into a box, with tag 0, as [`Owned::new`] does. If the keeper has the memory of a value that was
+    /// destroyed, the value is put there, and no memory is allocated.
+    ///
+    /// `NoMemory`: an allocation was refused, and the value was dropped.
+    fn own(&mut self, alloc: Global, value: T) -> Result<Owned<T>, Fault>;
+
+    /// Drops the value, and keeps the memory of its box for the next value, if the keeper keeps cells.
+    fn drop_owned(&mut self, owned: Owned<T>);
+
     /// Places the value in a cell, and returns the pointer to it, with the same tag. In a free cell that is kept, this
     /// takes one store, and no search: [`Keeper::place`]. [`Owned::into_shared`] does the same without a keeper, by a
     /// search and two exchanges.
@@ -35,6 +46,24 @@ pub trait KeepCells<T> {
 }
 
 impl<'c, T: Pointable + Drop> KeepCells<T> for Keeper<'c, T> {
+    #[inline(always)]
+    fn own(&mut self, alloc: Global, value: T) -> Result<Owned<T>, Fault>
+        ensures same { self.new ≡ self.old }
+        ensures memory { IsOkUnless result NoMemory }
+        ensures value { IfOk result (λ owned. owned.value.value ≡ value) }
+        ensures tag { IfOk result (λ owned. owned.tag ≡ 0) }
+    {
+        let value = self.boxed(alloc, value).map_err(|_| Fault::NoMemory)?;
+        Ok(Owned::from(value))
+    }
+
+    #[inline(always)]
+    fn drop_owned(&mut self, owned: Owned<T>)
+        ensures same { self.new ≡ self.old }
+    {
+        self.drop_boxed(owned.into_box());
+    }
+
     #[inline(always)]
     fn place_owned<'g, W, M: Placing<T>>(
         &mut self,

@@ -1,16 +1,22 @@
-//! Rooms that one owner keeps for its next values.
+//! Rooms that one owner keeps for its next values, and the memory of values that were dropped.
+ghost use Rattle.std.specs.Prelude.{IfOk, IfErr, ◌≡◌};
+
 use crate::cells::held::Room;
-use std::alloc::Global;
+use epoch_boxes::{Emptied, empty};
+use std::alloc::{AllocFailed, Global};
 use std::marker::Model;
 
 /// How many rooms one owner keeps at most.
 pub const MOST_ROOMS: usize = 256;
 
-/// Rooms that one owner keeps, the newest one last. If they are dropped, their slots are free for all callers.
+/// Rooms that one owner keeps, the newest one last, and memory for as many values. If they are dropped, their slots are
+/// free for all callers, and the memory is freed.
 #[derive(Drop)]
 pub struct Rooms<'a, T> {
     // As many are kept as it has memory for.
     list: Vec<Room<'a, T>>,
+    // The memory of values that were dropped, in boxes without a value.
+    emptied: Vec<Emptied<T, Global>>,
 }
 
 // A clause sees nothing of them, so that an owner's rooms are no part of what its contracts say.
@@ -26,6 +32,7 @@ impl<'a, T> Rooms<'a, T> {
     pub fn none(alloc: Global) -> Rooms<'a, T> {
         Rooms {
             list: Vec::new(alloc),
+            emptied: Vec::new(alloc),
         }
     }
 
@@ -39,6 +46,18 @@ impl<'a, T> Rooms<'a, T> {
     #[inline(always)]
     pub fn next(&mut self) -> Option<Room<'a, T>> {
         self.list.pop()
+    }
+
+    /// Puts the value into a box: into memory that is kept, or else into new memory.
+    #[inline(always)]
+    pub fn boxed(&mut self, alloc: Global, value: T) -> Result<Box<T>, AllocFailed<T>>
+        ensures value { IfOk result (λ whole. whole.value ≡ value) }
+        ensures handed_back { IfErr result (λ refused. refused.value ≡ value) }
+    {
+        match self.emptied.pop() {
+            Some(memory) => Ok(memory.fill(value)),
+            None => Box::new(alloc, value),
+        }
     }
 }
 
@@ -54,8 +73,12 @@ impl<'a, T: Drop> Rooms<'a, T> {
     #[cold]
     #[inline(never)]
     fn take_memory(&mut self, alloc: Global, most: usize) {
-        if let Ok(list) = Vec::with_capacity(alloc, most) {
-            self.list = list;
+        let Ok(list) = Vec::with_capacity(alloc, most) else {
+            return;
+        };
+        self.list = list;
+        if let Ok(emptied) = Vec::with_capacity(alloc, most) {
+            self.emptied = emptied;
         }
     }
 
@@ -66,5 +89,17 @@ impl<'a, T: Drop> Rooms<'a, T> {
             return false;
         }
         self.list.push(room).is_ok()
+    }
+
+    /// Drops the value, and keeps the memory of its box. If as much is kept as there can be rooms, it is freed.
+    #[inline(always)]
+    pub fn drop_boxed(&mut self, whole: Box<T>) {
+        if self.emptied.len() >= self.emptied.capacity() {
+            drop(whole);
+            return;
+        }
+        let (value, memory) = empty(whole);
+        let _ = self.emptied.push(memory);
+        drop(value);
     }
 }

@@ -1,9 +1,7 @@
 //! Collections: all words are scanned, bags are taken out of the shared places, and their jobs are called.
 ghost use Rattle.std.specs.Prelude.{◌≡◌, ◌≢◌, ℕ, ◌<◌, ◌^◌, ◌∷◌, true, false, Some, length, IfSome, IfNone};
-ghost use Rattle.epoch_cells.specs.declared.cells.name.Name.{Name};
 ghost use Rattle.epoch_bags.specs.Jobs.{IsCalled};
 ghost use Rattle.epoch_bags.specs.declared.job.Job.{Job};
-ghost use Rattle.epoch_bags.specs.declared.job.Job.TheVariants.{Remove};
 ghost use Rattle.epoch_tables.specs.SharedPlaces.{IsPlaceSeatOf as IsAt};
 ghost use Rattle.epoch_tables.specs.SharedSteps.{RestsAt};
 ghost use Rattle.epoch_machine.specs.Machine.{after_job, asks, gives, rest};
@@ -47,32 +45,10 @@ impl<'c, T, W> Local<'c, T, W> {
     }
 }
 
-/// Calls the next job of the bag in hand if it is a removal, and returns whether it is one.
+/// Calls the next job of the bag in hand. Returns whether there was one.
 ///
 /// A removal is told where it lies, and called by its name: a job that is taken out and then told apart goes through
 /// memory several times.
-#[inline(always)]
-fn call_removal<'a, T: Drop, W: Run>(
-    machine: &mut Machine<Job<W>>,
-    cells: &'a Cells<T>,
-    freed: &mut Freed<'_, 'a, T>,
-) -> bool
-    ensures called { result ≡ true → (name : Name) × W.Removing.tried name
-        × (machine.old.hand ≡ Remove name ∷ rest machine.old.hand)
-        × (machine.new ≡ gives machine.old machine.old.stage (rest machine.old.hand)) }
-    ensures fewer { result ≡ true → length machine.new.hand < length machine.old.hand }
-    ensures not { result ≡ false → machine.new ≡ machine.old }
-{
-    let Some(Job::Remove(name)) = machine.next_job() else {
-        return false;
-    };
-    let name = *name;
-    let _ = machine.give();
-    let _ = W::Removing::remove_near(cells, freed, name);
-    true
-}
-
-/// Calls the next job of the bag in hand. Returns whether there was one.
 #[inline(always)]
 fn call_next<'a, T: Drop, W: Run>(
     machine: &mut Machine<Job<W>>,
@@ -85,7 +61,15 @@ fn call_next<'a, T: Drop, W: Run>(
     ensures none { result ≡ false → asks machine.old ≢ Some CallJob }
     ensures after { machine.new ≡ gives machine.old machine.old.stage (rest machine.old.hand) }
 {
-    if call_removal(machine, cells, freed) {
+    let Some(next) = machine.next_job() else {
+        // For the prover: its clause tells that nothing is done then.
+        let _ = machine.give();
+        return false;
+    };
+    if let Job::Remove(name) = next {
+        let name = *name;
+        let _ = machine.give();
+        let _ = W::Removing::remove_near(cells, freed, name);
         return true;
     }
     let Some(job) = machine.give() else {
