@@ -11,7 +11,7 @@ use epoch_handles::{Guard, HasPlacing, Keeper, Placing, home_of};
 use epoch_values::Pointable;
 use std::alloc::Global;
 
-/// Gives a [`Keeper`] the calls `place_owned` and `take_owned`.
+/// Gives a [`Keeper`] the calls `own`, `drop_owned`, `place_owned` and `take_owned`.
 pub trait KeepCells<T> {
     /// Puts the value into a box, with tag 0, as [`Owned::new`] does. If the keeper has the memory of a value that was
     /// destroyed, the value is put there, and no memory is allocated.
