@@ -1,6 +1,4 @@
 //! Participants that are not pinned between two calls, and what each row's work is.
-//!
-//! The loop of a row isn't compiled into its caller, where it would depend on the other rows.
 ghost use Rattle.std.specs.Prelude.{◌≡◌, ℕ};
 
 use crate::guarded::{
@@ -63,7 +61,6 @@ impl<'c> Idle<'c> {
         }
     }
 
-    #[inline(never)]
     fn pins(&mut self, turns: u64) -> u64 {
         for _ in 0..turns {
             let guard = self.handle.pin();
@@ -81,7 +78,6 @@ impl<'c> Idle<'c> {
     }
 
     /// Repins one guard.
-    #[inline(never)]
     fn repins(&mut self, turns: u64) -> u64 {
         let mut guard = self.handle.pin();
         repin_again(&mut self.handle, &mut guard, turns);
@@ -90,7 +86,6 @@ impl<'c> Idle<'c> {
     }
 
     /// Pins, flushes and unpins.
-    #[inline(never)]
     fn flushes(&mut self, turns: u64) -> u64 {
         let mut done: u64 = 0;
         for _ in 0..turns {
@@ -104,7 +99,6 @@ impl<'c> Idle<'c> {
     }
 
     /// Flushes under one guard.
-    #[inline(never)]
     fn flushes_again(&mut self, turns: u64) -> u64 {
         let guard = self.handle.pin();
         let done = flush_again(&mut self.handle, &guard, turns);
@@ -113,7 +107,6 @@ impl<'c> Idle<'c> {
     }
 
     /// Pins, defers 64 boxed functions, flushes and unpins. A turn is one function.
-    #[inline(never)]
     fn defers(&mut self, functions: &mut Vec<Function>, turns: u64) -> u64 {
         let mut done: u64 = 0;
         for _ in 0..turns / JOBS {
@@ -128,7 +121,6 @@ impl<'c> Idle<'c> {
     }
 
     /// Pins, defers one boxed function and unpins, 64 times, and then flushes. A turn is one function.
-    #[inline(never)]
     fn defers_apart(&mut self, functions: &mut Vec<Function>, turns: u64) -> u64 {
         let mut done: u64 = 0;
         for _ in 0..turns / JOBS {
@@ -145,7 +137,6 @@ impl<'c> Idle<'c> {
     }
 
     /// Loads of a pointer, each of whose values is read under a pin of its own.
-    #[inline(never)]
     fn pinned_reads(&mut self, pointer: &Atomic<u64>, turns: u64) -> u64 {
         let mut done: u64 = 0;
         for _ in 0..turns {
@@ -157,7 +148,6 @@ impl<'c> Idle<'c> {
     }
 
     /// Places values and takes them back, under one guard.
-    #[inline(never)]
     fn places(&mut self, alloc: Global, turns: u64) -> u64 {
         let mut keeper = self.handle.collector().keeper();
         let guard = self.handle.pin();
@@ -167,7 +157,6 @@ impl<'c> Idle<'c> {
     }
 
     /// Replaces an object, each under a pin of its own.
-    #[inline(never)]
     fn replaces(&mut self, alloc: Global, pointer: &Atomic<u64>, turns: u64) -> u64 {
         let mut keeper = self.handle.collector().keeper();
         let mut done: u64 = 0;
@@ -181,7 +170,6 @@ impl<'c> Idle<'c> {
     }
 
     /// Replaces an object by an exchange, each under a pin of its own.
-    #[inline(never)]
     fn replaces_cas(&mut self, alloc: Global, pointer: &Atomic<u64>, turns: u64) -> u64 {
         let mut keeper = self.handle.collector().keeper();
         let mut done: u64 = 0;
@@ -195,7 +183,6 @@ impl<'c> Idle<'c> {
     }
 
     /// Replaces an object by a store, each under a pin of its own, where no other thread stores.
-    #[inline(never)]
     fn replaces_store(&mut self, alloc: Global, pointer: &Atomic<u64>, turns: u64) -> u64 {
         let mut keeper = self.handle.collector().keeper();
         let mut done: u64 = 0;
@@ -209,7 +196,6 @@ impl<'c> Idle<'c> {
     }
 
     /// Pins, replaces 64 objects, flushes and unpins. A turn is one object.
-    #[inline(never)]
     fn replaces_64(&mut self, alloc: Global, pointer: &Atomic<u64>, turns: u64) -> u64 {
         let mut keeper = self.handle.collector().keeper();
         let mut done: u64 = 0;

@@ -39,7 +39,6 @@ impl<'c, N: Drop> Nodes<'c, N> {
 
 impl<'c> Nodes<'c, epoch_stack::Node<u64>> {
     /// Pushes and pops, each under a pin of its own. Returns how many pops found a value.
-    #[inline(never)]
     pub fn pushes(&mut self, alloc: Global, stack: &Stack<'_, u64>, turns: u64) -> u64 {
         let mut keeper = self.handle.collector().keeper();
         let mut done: u64 = 0;
@@ -60,7 +59,6 @@ impl<'c> Nodes<'c, epoch_stack::Node<u64>> {
 
 impl<'c> Nodes<'c, epoch_queue::Node<u64>> {
     /// The same with a queue.
-    #[inline(never)]
     pub fn enqueues(&mut self, queue: &Queue<'_, u64>, turns: u64) -> u64 {
         let mut done: u64 = 0;
         for turn in 0..turns {
