@@ -105,6 +105,25 @@ fn the_cell_of_a_popped_node_is_used_by_the_next_push_with_its_keeper(rt: HostRu
     end(&rt, collector, 2);
 }
 
+/// A push and a pop on the stack of the one collector, with a keeper of the other one. The only cell is free for all
+/// again, since no keeper keeps it.
+fn push_with_a_stranger<'c>(
+    rt: &impl Abort,
+    alloc: Global,
+    own: &'c Collector<Node<u64>>,
+    other: &'c Collector<Node<u64>>,
+    stack: &Stack<'_, u64>,
+) {
+    let mut handle = register(rt, own);
+    let mut keeper = other.keeper();
+    push_and_pop(rt, alloc, stack, &mut handle, &mut keeper);
+    collect(rt, &mut handle, &mut keeper);
+    let guard = pin(rt, &mut handle);
+    push(rt, alloc, stack, &mut handle, &guard, 2);
+    unpin(rt, &mut handle, guard);
+    release(rt, handle);
+}
+
 // The other collector has number 2.
 #[test]
 fn a_keeper_of_another_collector_is_not_used(rt: HostRuntime) {
@@ -114,16 +133,7 @@ fn a_keeper_of_another_collector_is_not_used(rt: HostRuntime) {
     assert!(rt; capacities.is_valid(), "the capacities are in their ranges");
     let other = Collector::new(alloc, capacities, 2).expect(&rt, "memory for a collector");
     let stack = Stack::new(&own);
-    let mut handle = register(&rt, &own);
-    let mut keeper = other.keeper();
-    push_and_pop(&rt, alloc, &stack, &mut handle, &mut keeper);
-    collect(&rt, &mut handle, &mut keeper);
-    // The only cell is free for all again, since no keeper keeps it.
-    let guard = pin(&rt, &mut handle);
-    push(&rt, alloc, &stack, &mut handle, &guard, 2);
-    unpin(&rt, &mut handle, guard);
-    release(&rt, handle);
-    drop(keeper);
+    push_with_a_stranger(&rt, alloc, &own, &other, &stack);
     drop(stack);
     end(&rt, own, 0);
     end(&rt, other, 0);
