@@ -27,8 +27,8 @@ pub fn pin_under(handle: &mut LocalHandle<'_, u64>, turns: u64)
     }
 }
 
-/// Pins, with room in the held bag for one more removal. Where no place is free for a full bag, it unpins, so that other
-/// threads' bags can expire, and tries again.
+/// Pins, with room in the held bag for one more removal. Where no place is free for a full bag, it unpins, so that
+/// other threads' bags can expire, and tries again.
 #[inline(always)]
 pub fn pin_with_room<'c>(
     handle: &mut LocalHandle<'c, u64>,
