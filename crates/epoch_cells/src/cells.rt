@@ -29,7 +29,7 @@ use std::marker::PhantomData;
 use std::sync::atomic::AtomicUsize;
 use std::sync::atomic::Ordering::SeqCst;
 
-/// How often a call that places or reads a value tries its exchange on a cell. crossbeam-epoch has no such bound.
+/// How often a call on a cell tries its exchange. crossbeam-epoch has no such bound.
 pub const CELL_TRIES: u32 = 16;
 
 // The bound is raised by this many slots at once, since each time costs as much as many looks at slots.
@@ -69,7 +69,7 @@ pub struct Cells<T, P = IntoSlots> {
 pub enum Removal {
     /// The value was there, and was dropped.
     Destroyed,
-    /// The value is there, and is read or written. It stays.
+    /// The value is there, and is read or written; or each try was lost to other threads. The value stays.
     HeldElsewhere,
     /// No value of that name is there.
     Gone,
@@ -299,7 +299,7 @@ impl<T: Drop, P: Puts<T>> Cells<T, P> {
     /// Takes the value of this name out of its cell, as [`Cells::take`] does, and keeps its slot as a room, if there is
     /// memory for it.
     ///
-    /// `None`: the value is gone, or is read or written.
+    /// `None`: the value is gone, or is read or written, or each try was lost to other threads.
     #[inline(always)]
     pub fn take_near<'a>(&'a self, rooms: &mut Rooms<'a, T>, name: Name) -> Option<Held<T>>
         ensures { IfSome result (λ held. held.name ≡ name) }
@@ -392,7 +392,7 @@ impl<T: Drop, P: Puts<T>> Cells<T, P> {
 
     /// Lends the value of this name for writing. The writing must be given back, by [`Writing::leave`].
     ///
-    /// `None`: the value is gone, or is read or written.
+    /// `None`: the value is gone, or is read or written, or each try was lost to other threads.
     pub fn write(&self, name: Name) -> Option<Writing<'_, T>>
         ensures { IfSome result (λ writing. writing.name ≡ name) }
     {
@@ -401,7 +401,7 @@ impl<T: Drop, P: Puts<T>> Cells<T, P> {
 
     /// Takes the value of this name out of its cell. From then on the slot is free for its next turn.
     ///
-    /// `None`: the value is gone, or is read or written.
+    /// `None`: the value is gone, or is read or written, or each try was lost to other threads.
     #[inline(always)]
     pub fn take(&self, name: Name) -> Option<Box<T>> {
         Some(self.take_held(name)?.into_value())
@@ -451,7 +451,7 @@ impl<T: Drop, P: Puts<T>> Cells<T, P> {
         if index >= self.slots.len() {
             return Err(Miss::Gone);
         }
-        try_take(&self.slots[index], name)
+        take_from(&self.slots[index], name)
     }
 
     #[inline(always)]
@@ -463,7 +463,13 @@ impl<T: Drop, P: Puts<T>> Cells<T, P> {
         if index >= self.slots.len() {
             return Err(Miss::Gone);
         }
-        try_write(&self.slots[index], name)
+        for _ in 0..CELL_TRIES {
+            match try_write(&self.slots[index], name) {
+                Err(Miss::Lost) => {}
+                answer => return answer,
+            }
+        }
+        Err(Miss::Lost)
     }
 }
 
@@ -490,6 +496,27 @@ fn place_in<T: Drop, P: Puts<T>>(
         }
     }
     Err((Miss::Lost, kept))
+}
+
+// Tries to take the value of this name out of its slot, until all tries are lost.
+#[inline(always)]
+fn take_from<'a, T: Drop>(
+    slot: &'a Slot<T>,
+    name: Name,
+) -> Result<(Held<T>, Option<Room<'a, T>>), Miss>
+    requires numbered { slot.now ≡ name.slot }
+    ensures named { IfOk result (λ taken. taken.0.name ≡ name) }
+    ensures next { IfOk result (λ taken. IfSome taken.1
+        (λ room. (room.name.slot ≡ name.slot) × (room.name.turn ≡ name.turn + 1))) }
+{
+    for _ in 0..CELL_TRIES {
+        match try_take(slot, name) {
+            Ok(taken) => return Ok(taken),
+            Err(Miss::Lost) => {}
+            Err(miss) => return Err(miss),
+        }
+    }
+    Err(Miss::Lost)
 }
 
 // How many rooms the participant of each of these positions keeps at most.

@@ -102,7 +102,7 @@ impl<'c, T: Drop> Keeper<'c, T> {
 
     /// Takes the value of this name out of its cell, and keeps the cell for the next value.
     ///
-    /// `None`: the value is gone, or is read or written.
+    /// `None`: the value is gone, or is read or written, or each try was lost to other threads.
     #[inline(always)]
     pub fn take(&mut self, name: Name) -> Option<Box<T>>
         ensures same { self.new ≡ self.old }

@@ -41,7 +41,7 @@ pub trait KeepCells<T> {
     /// the next value. From then on every pointer of this name finds no value.
     ///
     /// `None`: the pointer is null, whatever its tag is, or was loaded under a guard of another collector; or its value
-    /// is gone, or is read or written.
+    /// is gone, or is read or written; or each try was lost to other threads.
     fn take_owned(&mut self, shared: Shared<'_, T>) -> Option<Owned<T>>;
 }
 

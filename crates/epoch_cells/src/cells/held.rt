@@ -237,15 +237,6 @@ pub fn try_place<T: Drop, P: Puts<T>>(
     Ok(name)
 }
 
-// Why the value of this name can't be claimed in its slot, which had this word.
-fn miss_of(word: u64, name: Name) -> Miss {
-    if turn_of(word) != name.turn() || state_of(word) == FREE {
-        Miss::Gone
-    } else {
-        Miss::Held
-    }
-}
-
 /// Tries once to claim the value of this name for reading.
 #[inline(always)]
 pub fn try_read<'a, T: Drop>(slot: &'a Slot<T>, name: Name) -> Result<Reading<'a, T>, Miss>
@@ -255,11 +246,11 @@ pub fn try_read<'a, T: Drop>(slot: &'a Slot<T>, name: Name) -> Result<Reading<'a
     // An exchange waits for all that comes before it: so the word without a reader, which is met most, is told by one
     // comparison.
     if seen != word_of(name.turn(), PRESENT) {
-        if turn_of(seen) != name.turn()
-            || state_of(seen) != PRESENT
-            || readers_of(seen) == MOST_READERS
-        {
-            return Err(miss_of(seen, name));
+        if turn_of(seen) != name.turn() || state_of(seen) == FREE {
+            return Err(Miss::Gone);
+        }
+        if state_of(seen) != PRESENT || readers_of(seen) == MOST_READERS {
+            return Err(Miss::Held);
         }
     }
     let (found, claim) = slot.turn(seen, seen + ONE_READER);
@@ -291,12 +282,17 @@ fn try_claim<'a, T: Drop>(
     ensures claim { IfOk result (λ claimed. (claimed.0.right ≡ 2) × (claimed.0.tag ≡ slot.now)) }
     ensures named { IfOk result (λ claimed. claimed.1.name ≡ name) }
 {
-    // The word isn't looked at first: the exchange would wait for that, and a value is seldom held or gone.
-    let present = word_of(name.turn(), PRESENT);
-    let (found, claim) = slot.turn(present, taken);
-    if found != present {
+    let seen = slot.load();
+    if seen != word_of(name.turn(), PRESENT) {
+        if turn_of(seen) != name.turn() || state_of(seen) == FREE {
+            return Err(Miss::Gone);
+        }
+        return Err(Miss::Held);
+    }
+    let (found, claim) = slot.turn(seen, taken);
+    if found != seen {
         claim.done();
-        return Err(miss_of(found, name));
+        return Err(Miss::Lost);
     }
     let (claim, content) = replace(claim, None);
     match content {
@@ -304,10 +300,10 @@ fn try_claim<'a, T: Drop>(
             if held.name == name {
                 return Ok((claim, held));
             }
-            let _ = claim.put(Some(held), present);
+            let _ = claim.put(Some(held), seen);
         }
         None => {
-            let _ = claim.put(None, present);
+            let _ = claim.put(None, seen);
         }
     }
     Err(Miss::Gone)
