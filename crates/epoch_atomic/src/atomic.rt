@@ -1,8 +1,8 @@
 //! Pointers to values in cells, which threads share: tags, exchanges, and values taken back.
 //!
 //! Each call on an [`Atomic`] makes one atomic step on its word, except those that try an exchange again. Each step
-//! acts as `SeqCst`, whichever ordering is asked for. No call on an existing `Atomic` or a [`Shared`] takes memory or
-//! waits.
+//! acts as `SeqCst`, whichever ordering is asked for. No call on an existing `Atomic` or a [`Shared`] waits. None
+//! takes memory, but for [`Atomic::into_owned`], whose guard may take it for a list of the cells that it keeps.
 ghost use Rattle.std.specs.Prelude.{◌≡◌, ◌<◌, ◌%◌, ◌⊎◌, IfSome, IfOk, IfErr, OnOk};
 ghost use Rattle.epoch_cells.specs.declared.fault.Fault.TheVariants.{CellsFull, NoMemory};
 ghost use Rattle.epoch_atomic.specs.Pointers.{IsPointerWord, Reads, IsRead, IsUnder};
@@ -13,7 +13,6 @@ ghost use Rattle.epoch_atomic.specs.WordSteps.WordStep.{Begins};
 mod borrow;
 mod destroy;
 mod exchange;
-mod keeping;
 mod laws;
 mod owned;
 mod pointer;
@@ -29,7 +28,6 @@ use epoch_handles::{Guard, home_of};
 use epoch_values::tag_of;
 pub use epoch_values::{Array, CompareAndSetOrdering, Plain, Pointable};
 pub use exchange::{CompareAndSetError, CompareExchangeError, ExchangeFault};
-pub use keeping::KeepCells;
 pub use laws::equal_numbers_are_of_one_pointer;
 pub use owned::Owned;
 pub use pointer::Pointer;
@@ -156,7 +154,7 @@ impl<T: Pointable + HasWord<A> + Drop, A: SharedWord> Atomic<T, A> {
         ensures did { IfOk result (λ atomic. BeginsNamed T.ALIGN (A.did atomic.word) 0) }
         ensures refused { IfErr result (λ fault. (fault ≡ NoMemory) ⊎ (fault ≡ CellsFull)) }
     {
-        match Atomic::from_owned(Owned::new(alloc, value)?, guard) {
+        match Atomic::from_owned(Owned::new_under(alloc, value, guard)?, guard) {
             Ok(atomic) => Ok(atomic),
             Err(Refused { fault, value: _ }) => Err(fault),
         }
@@ -198,7 +196,8 @@ impl<T: Pointable + HasWord<A> + Drop, A: SharedWord> Atomic<T, A> {
 
 impl<T: Pointable + Drop, A: SharedWord> Atomic<T, A> {
     /// Takes the value out of its cell, with the pointer's tag. This is how the last owner takes a structure apart,
-    /// since dropping an `Atomic` leaves its value in the cell.
+    /// since dropping an `Atomic` leaves its value in the cell. The cell is kept for the next value that is placed
+    /// under the guard.
     ///
     /// The guard must be of the collector that has the value. `None`: the pointer is null, whatever its tag is; or its
     /// value is gone, or is read or written; or each try was lost to other threads.
@@ -207,7 +206,7 @@ impl<T: Pointable + Drop, A: SharedWord> Atomic<T, A> {
         ensures did { EndsOwned T.ALIGN (A.did self.word) result }
     {
         let Atomic { word, of: _ } = self;
-        read(word.end(), guard).try_into_owned()
+        read(word.end(), guard).taken_under(guard)
     }
 
     /// Does what [`Atomic::try_into_owned`] does.

@@ -5,9 +5,9 @@ ghost use Rattle.epoch_handles.specs.Handles.{IsSame, Owns};
 use crate::rounds::FIRST;
 use crate::rows::Work;
 use epoch_base::{Job, Work as Function};
-use epoch_pin::atomic::{Atomic, DeferDestroy, ExchangeFault, KeepCells};
-use epoch_pin::{Guard, Keeper, LocalHandle};
-use epoch_removals::make_room_keeping;
+use epoch_pin::atomic::{Atomic, DeferDestroy, ExchangeFault, Owned};
+use epoch_pin::{Guard, LocalHandle};
+use epoch_removals::make_room;
 use std::alloc::Global;
 use std::sync::atomic::Ordering::SeqCst;
 
@@ -30,22 +30,19 @@ pub fn pin_under(handle: &mut LocalHandle<'_, u64>, turns: u64)
 /// Pins, with room in the held bag for one more removal. Where no place is free for a full bag, it unpins, so that
 /// other threads' bags can expire, and tries again.
 #[inline(always)]
-pub fn pin_with_room<'c>(
-    handle: &mut LocalHandle<'c, u64>,
-    keeper: &mut Keeper<'c, u64>,
-) -> Guard<'c, u64>
+pub fn pin_with_room<'c>(handle: &mut LocalHandle<'c, u64>) -> Guard<'c, u64>
     requires { handle.old.machine.guards ≡ 0 }
     ensures own { Owns handle.new result }
     ensures counted { handle.new.machine.guards ≡ 1 }
 {
     for _ in 0..TRIES {
-        let guard = handle.pin_keeping(keeper);
-        if make_room_keeping(handle, &guard, keeper).is_ok() {
+        let guard = handle.pin();
+        if make_room(handle, &guard).is_ok() {
             return guard;
         }
         handle.unpin(guard);
     }
-    handle.pin_keeping(keeper)
+    handle.pin()
 }
 
 /// Repins the guard this many times.
@@ -150,24 +147,14 @@ fn exchange(guard: &Guard<'_, u64>, pointer: &Atomic<u64>, turns: u64) -> u64 {
 }
 
 /// Values that are placed in a cell, put behind a new pointer, taken back, and dropped.
-pub fn place(
-    keeper: &mut Keeper<'_, u64>,
-    guard: &Guard<'_, u64>,
-    alloc: Global,
-    turns: u64,
-) -> u64 {
+pub fn place(guard: &Guard<'_, u64>, alloc: Global, turns: u64) -> u64 {
     let mut sum: u64 = 0;
     for _ in 0..turns {
-        let Ok(owned) = keeper.own(alloc, 1) else {
+        let Ok(pointer) = Atomic::new(alloc, 1, guard) else {
             continue;
         };
-        let Ok(placed) = keeper.place_owned(guard, owned) else {
-            continue;
-        };
-        let pointer = Atomic::from(placed);
-        if let Some(owned) = keeper.take_owned(pointer.load(SeqCst, guard)) {
+        if let Some(owned) = pointer.into_owned(guard) {
             sum = sum.wrapping_add(*owned);
-            keeper.drop_owned(owned);
         }
     }
     sum
@@ -177,7 +164,6 @@ pub fn place(
 /// many destructions were deferred.
 pub fn replace(
     handle: &mut LocalHandle<'_, u64>,
-    keeper: &mut Keeper<'_, u64>,
     guard: &Guard<'_, u64>,
     alloc: Global,
     pointer: &Atomic<u64>,
@@ -189,13 +175,10 @@ pub fn replace(
 {
     let mut done: u64 = 0;
     for value in 0..objects {
-        let Ok(owned) = keeper.own(alloc, value) else {
+        let Ok(owned) = Owned::new(alloc, value) else {
             continue;
         };
-        let Ok(placed) = keeper.place_owned(guard, owned) else {
-            continue;
-        };
-        let Ok(before) = pointer.swap(placed, SeqCst, guard) else {
+        let Ok(before) = pointer.swap(owned, SeqCst, guard) else {
             continue;
         };
         if handle.defer_destroy(guard, before).is_ok() {
@@ -208,7 +191,6 @@ pub fn replace(
 /// The same of one object, by a load and a store.
 pub fn replace_store(
     handle: &mut LocalHandle<'_, u64>,
-    keeper: &mut Keeper<'_, u64>,
     guard: &Guard<'_, u64>,
     alloc: Global,
     pointer: &Atomic<u64>,
@@ -218,13 +200,10 @@ pub fn replace_store(
     ensures counted { handle.new.machine.guards ≡ handle.old.machine.guards }
 {
     let before = pointer.load(SeqCst, guard);
-    let Ok(owned) = keeper.own(alloc, 1) else {
+    let Ok(owned) = Owned::new(alloc, 1) else {
         return 0;
     };
-    let Ok(placed) = keeper.place_owned(guard, owned) else {
-        return 0;
-    };
-    match pointer.store(placed, SeqCst, guard) {
+    match pointer.store(owned, SeqCst, guard) {
         Ok(()) => u64::from(handle.defer_destroy(guard, before).is_ok()),
         Err(_) => 0,
     }
@@ -233,7 +212,6 @@ pub fn replace_store(
 /// The same of one object, by exchanges until one is won.
 pub fn replace_cas(
     handle: &mut LocalHandle<'_, u64>,
-    keeper: &mut Keeper<'_, u64>,
     guard: &Guard<'_, u64>,
     alloc: Global,
     pointer: &Atomic<u64>,
@@ -242,10 +220,10 @@ pub fn replace_cas(
     ensures same { IsSame handle.old handle.new }
     ensures counted { handle.new.machine.guards ≡ handle.old.machine.guards }
 {
-    let Ok(owned) = keeper.own(alloc, 1) else {
+    let Ok(owned) = Owned::new(alloc, 1) else {
         return 0;
     };
-    let Ok(placed) = keeper.place_owned(guard, owned) else {
+    let Ok(placed) = owned.into_shared(guard) else {
         return 0;
     };
     let mut new = placed;

@@ -149,20 +149,18 @@ impl<'c> Idle<'c> {
 
     /// Places values and takes them back, under one guard.
     fn places(&mut self, alloc: Global, turns: u64) -> u64 {
-        let mut keeper = self.handle.collector().keeper();
         let guard = self.handle.pin();
-        let done = place(&mut keeper, &guard, alloc, turns);
+        let done = place(&guard, alloc, turns);
         self.handle.unpin(guard);
         done
     }
 
     /// Replaces an object, each under a pin of its own.
     fn replaces(&mut self, alloc: Global, pointer: &Atomic<u64>, turns: u64) -> u64 {
-        let mut keeper = self.handle.collector().keeper();
         let mut done: u64 = 0;
         for _ in 0..turns {
-            let guard = pin_with_room(&mut self.handle, &mut keeper);
-            let replaced = replace(&mut self.handle, &mut keeper, &guard, alloc, pointer, 1);
+            let guard = pin_with_room(&mut self.handle);
+            let replaced = replace(&mut self.handle, &guard, alloc, pointer, 1);
             done = done.wrapping_add(replaced);
             self.handle.unpin(guard);
         }
@@ -171,11 +169,10 @@ impl<'c> Idle<'c> {
 
     /// Replaces an object by an exchange, each under a pin of its own.
     fn replaces_cas(&mut self, alloc: Global, pointer: &Atomic<u64>, turns: u64) -> u64 {
-        let mut keeper = self.handle.collector().keeper();
         let mut done: u64 = 0;
         for _ in 0..turns {
-            let guard = pin_with_room(&mut self.handle, &mut keeper);
-            let replaced = replace_cas(&mut self.handle, &mut keeper, &guard, alloc, pointer);
+            let guard = pin_with_room(&mut self.handle);
+            let replaced = replace_cas(&mut self.handle, &guard, alloc, pointer);
             done = done.wrapping_add(replaced);
             self.handle.unpin(guard);
         }
@@ -184,11 +181,10 @@ impl<'c> Idle<'c> {
 
     /// Replaces an object by a store, each under a pin of its own, where no other thread stores.
     fn replaces_store(&mut self, alloc: Global, pointer: &Atomic<u64>, turns: u64) -> u64 {
-        let mut keeper = self.handle.collector().keeper();
         let mut done: u64 = 0;
         for _ in 0..turns {
-            let guard = pin_with_room(&mut self.handle, &mut keeper);
-            let replaced = replace_store(&mut self.handle, &mut keeper, &guard, alloc, pointer);
+            let guard = pin_with_room(&mut self.handle);
+            let replaced = replace_store(&mut self.handle, &guard, alloc, pointer);
             done = done.wrapping_add(replaced);
             self.handle.unpin(guard);
         }
@@ -197,13 +193,12 @@ impl<'c> Idle<'c> {
 
     /// Pins, replaces 64 objects, flushes and unpins. A turn is one object.
     fn replaces_64(&mut self, alloc: Global, pointer: &Atomic<u64>, turns: u64) -> u64 {
-        let mut keeper = self.handle.collector().keeper();
         let mut done: u64 = 0;
         for _ in 0..turns / JOBS {
-            let guard = pin_with_room(&mut self.handle, &mut keeper);
-            let replaced = replace(&mut self.handle, &mut keeper, &guard, alloc, pointer, JOBS);
+            let guard = pin_with_room(&mut self.handle);
+            let replaced = replace(&mut self.handle, &guard, alloc, pointer, JOBS);
             done = done.wrapping_add(replaced);
-            let _ = self.handle.flush_keeping(&guard, &mut keeper);
+            let _ = self.handle.flush(&guard);
             self.handle.unpin(guard);
         }
         done

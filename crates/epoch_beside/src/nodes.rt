@@ -40,15 +40,13 @@ impl<'c, N: Drop> Nodes<'c, N> {
 impl<'c> Nodes<'c, epoch_stack::Node<u64>> {
     /// Pushes and pops, each under a pin of its own. Returns how many pops found a value.
     pub fn pushes(&mut self, alloc: Global, stack: &Stack<'_, u64>, turns: u64) -> u64 {
-        let mut keeper = self.handle.collector().keeper();
         let mut done: u64 = 0;
         for turn in 0..turns {
-            let guard = self.handle.pin_keeping(&mut keeper);
-            let _ = stack.push_keeping(alloc, &mut self.handle, &guard, &mut keeper, turn, TRIES);
+            let guard = self.handle.pin();
+            let _ = stack.push(alloc, &mut self.handle, &guard, turn, TRIES);
             self.handle.unpin(guard);
-            let guard = self.handle.pin_keeping(&mut keeper);
-            let popped = stack.pop_keeping(&mut self.handle, &guard, &mut keeper, TRIES);
-            if let Ok(Some(_)) = popped {
+            let guard = self.handle.pin();
+            if let Ok(Some(_)) = stack.pop(&mut self.handle, &guard, TRIES) {
                 done = done.wrapping_add(1);
             }
             self.handle.unpin(guard);

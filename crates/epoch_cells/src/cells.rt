@@ -42,7 +42,7 @@ const NEAR_STRIDE: usize = 4;
 // A position that has no note left looks in this many slots in a row from then on.
 const FAR: usize = 64;
 
-/// A collector's store of numbered cells. No call waits, and only [`Cells::make_rooms`] takes memory.
+/// A collector's store of numbered cells. No call waits. Lists of rooms take memory, and no other call does.
 ///
 /// `P` is how values are put into slots: [`IntoSlots`].
 #[derive(Drop)]
@@ -55,7 +55,8 @@ pub struct Cells<T, P = IntoSlots> {
     notes: Notes,
     // Where a position looks that has no note left, modulo the number of slots.
     next_far: AtomicUsize,
-    // How many rooms the participant of a position keeps at most: together they keep at most a quarter of the slots.
+    // How many rooms a list of a position's participant keeps at most. Each has two lists, so that together they keep
+    // at most a quarter of the slots.
     most_rooms: usize,
     // No value: only how values are put into slots.
     puts: PhantomData<P>,
@@ -125,17 +126,18 @@ impl<T: Drop, P: Puts<T>> Cells<T, P> {
         self.slots.len()
     }
 
-    /// Begins with no room of these cells.
+    /// Returns a list that keeps no room of these cells.
     #[inline(always)]
     pub fn no_rooms(&self) -> Rooms<'_, T> {
-        Rooms::none(*self.slots.allocator())
+        Rooms::up_to(0, *self.slots.allocator())
     }
 
-    /// Lets the owner of these rooms keep some from now on: takes memory for as many as one participant keeps, if the
-    /// rooms have memory for none. If it is refused, none is kept.
-    #[inline(always)]
-    pub fn make_rooms(&self, rooms: &mut Rooms<'_, T>) {
-        rooms.reserve(*self.slots.allocator(), self.most_rooms);
+    /// Returns a list that keeps rooms of these cells: at most 256, and at most an eighth of one position's share.
+    ///
+    /// `None`: an allocation was refused.
+    pub fn rooms(&self) -> Option<Box<Rooms<'_, T>>> {
+        let alloc = *self.slots.allocator();
+        Box::new(alloc, Rooms::up_to(self.most_rooms, alloc)).ok()
     }
 
     /// Places the value in the first free slot, beside its name, and returns that name: the slot and its next turn.
@@ -519,12 +521,12 @@ fn take_from<'a, T: Drop>(
     Err(Miss::Lost)
 }
 
-// How many rooms the participant of each of these positions keeps at most.
+// How many rooms a list of the participant of each of these positions keeps at most.
 fn most_rooms(slots: usize, positions: usize) -> usize
     ensures { result ≤ MOST_ROOMS }
 {
     let most = match slots.checked_div(positions) {
-        Some(part) => part / 4,
+        Some(part) => part / 8,
         None => 0,
     };
     most.min(MOST_ROOMS)

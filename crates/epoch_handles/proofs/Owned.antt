@@ -2,7 +2,8 @@
 use Rattle.std.proofs.Common.{rules, ◌≡◌, ◌<◌, ℕ, IsTrue, Some, nat_eq, ap, sym, ◌∙◌}
 use Rattle.epoch_handles.specs.declared.local.Local.{Local}
 use Rattle.epoch_handles.specs.declared.guard.Guard.{Guard}
-use Rattle.epoch_handles.specs.Handles.{Owns}
+use Rattle.epoch_handles.specs.declared.paused.Paused.{Paused}
+use Rattle.epoch_handles.specs.Handles.{Owns, IsPausedBy}
 
 same_number : (one other : ℕ) → IsTrue (nat_eq one other) → one ≡ other
 same_number one other same = search rules
@@ -31,3 +32,17 @@ pub position_owned : {T W : Type 0} (h : Local T W) (guard : Guard T W) (positio
     → guard.position ≡ Some position → Owns h guard → IsTrue (nat_eq position h.position)
 position_owned h guard position at owns =
     told_same position h.position (some_same position h.position (sym at ∙ owns.position))
+
+-- the same of a guard that is paused
+pub paused_at : {T W : Type 0} (h : Local T W) (paused : Paused T W) (position : ℕ)
+    → paused.guard.position ≡ Some position → paused.guard.collector.now.id ≡ h.collector.now.id
+    → IsTrue (nat_eq position h.position) → IsPausedBy h paused
+paused_at h paused position at of same = record {
+  position = at ∙ ap Some (same_number position h.position same);
+  collector = of;
+}
+
+pub position_paused : {T W : Type 0} (h : Local T W) (paused : Paused T W) (position : ℕ)
+    → paused.guard.position ≡ Some position → IsPausedBy h paused → IsTrue (nat_eq position h.position)
+position_paused h paused position at is =
+    told_same position h.position (some_same position h.position (sym at ∙ is.position))

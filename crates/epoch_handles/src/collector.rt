@@ -113,7 +113,8 @@ impl<T: Drop, W: Drop> Collector<T, W> {
     /// Makes a collector with these capacities and this number, in epoch 0, with no participant.
     ///
     /// The capacities must be valid: [`Capacities::is_valid`]. `NoMemory`: an allocation was refused, and nothing was
-    /// made. No other call on a collector, a handle or a guard takes memory.
+    /// made. After that only a handle takes memory, for lists of the free cells that it keeps. If that is refused, it
+    /// keeps none.
     pub fn new(alloc: Global, capacities: Capacities, id: u64) -> Result<Collector<T, W>, Fault>
         requires { AreValid capacities }
         ensures memory { IsOkUnless result NoMemory }

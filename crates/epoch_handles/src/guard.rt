@@ -3,6 +3,7 @@ ghost use Rattle.std.specs.Prelude.{◌≡◌, ◌↔◌, IsTrue, IsSome, IsNone
 ghost use Rattle.epoch_bags.specs.Jobs.{AnswersJob, IsCalled};
 
 use crate::collector::Collector;
+use crate::rooms::GuardRooms;
 use epoch_bags::{Called, Job, Run, Work};
 use std::{fmt, mem};
 
@@ -30,6 +31,8 @@ use std::{fmt, mem};
 pub struct Guard<'c, T, W = Work> {
     pub(crate) collector: &'c Collector<T, W>,
     pub(crate) position: Option<usize>,
+    // Free cells for the values that are placed under it, which its handle gave to it. No clause speaks of them.
+    pub(crate) rooms: GuardRooms<'c, T>,
 }
 
 /// Returns a guard of this collector that protects nothing: a job that is deferred under it is called at once.
@@ -45,6 +48,7 @@ pub fn unprotected<T, W>(collector: &Collector<T, W>) -> Guard<'_, T, W>
     Guard {
         collector,
         position: None,
+        rooms: GuardRooms::new(None),
     }
 }
 
@@ -66,7 +70,9 @@ impl<'c, T, W> Guard<'c, T, W> {
             None => None,
         }
     }
+}
 
+impl<'c, T: Drop, W> Guard<'c, T, W> {
     /// Takes an unprotected guard back. A protecting guard comes back, since its handle has to take it: `unpin`.
     pub fn let_go(self) -> Result<(), Guard<'c, T, W>>
         ensures ok { IsOk result ↔ IsNone self.entry.position }
@@ -78,7 +84,9 @@ impl<'c, T, W> Guard<'c, T, W> {
         let Guard {
             collector: _,
             position: _,
+            rooms,
         } = self;
+        drop(rooms.into_list());
         Ok(())
     }
 }
@@ -98,7 +106,7 @@ impl<'c, T: Drop, W: Run> Guard<'c, T, W> {
     }
 }
 
-impl<'c, T, W> Guard<'c, T, W> {
+impl<'c, T: Drop, W> Guard<'c, T, W> {
     /// Takes the guard out, and leaves one that protects nothing until it is given back.
     pub(crate) fn taken(&mut self) -> Guard<'c, T, W>
         ensures taken { result ≡ self.old }
@@ -114,7 +122,9 @@ impl<'c, T, W> Guard<'c, T, W> {
         let Guard {
             collector: _,
             position: _,
+            rooms,
         } = mem::replace(self, guard);
+        drop(rooms.into_list());
     }
 }
 

@@ -10,12 +10,12 @@ ghost use Rattle.epoch_machine.specs.declared.machine.Action.TheVariants.{Pin, U
 use crate::collector::Collector;
 use crate::guard::Guard;
 use crate::interlude::{HasInterlude, Interlude};
-use crate::keeper::Keeper;
 use crate::local::Local;
 use crate::paused::Paused;
 use crate::released::Released;
+use crate::rooms::{GuardRooms, OwnRooms};
 use epoch_bags::{Job, Run, Work};
-use epoch_cells::{Fault, Refused, Rooms};
+use epoch_cells::{Fault, Refused};
 use std::fmt;
 use std::marker::Model;
 
@@ -23,6 +23,8 @@ use std::marker::Model;
 /// [`LocalHandle::leave`], whose result is then spent.
 pub struct LocalHandle<'c, T, W = Work> {
     pub(crate) local: Local<'c, T, W>,
+    // No clause speaks of them.
+    pub(crate) rooms: OwnRooms<'c, T>,
 }
 
 impl<'c, T, W> Model for LocalHandle<'c, T, W> {
@@ -122,6 +124,24 @@ impl<'c, T, W> LocalHandle<'c, T, W> {
         }
     }
 
+    /// Returns whether this is a guard that this participant paused. Like [`LocalHandle::owns`], it doesn't tell two
+    /// collectors with the same number apart.
+    #[inline]
+    pub fn has_paused(&self, paused: &Paused<'_, T, W>) -> bool
+        ensures value { IsTrue result ↔ IsPausedBy self.now paused.now }
+        ensures ready { IsReady self.now }
+    {
+        if paused.guard.collector.id != self.local.collector.id {
+            return false;
+        }
+        let Some(position) = paused.guard.position else {
+            return false;
+        };
+        position == self.local.position
+    }
+}
+
+impl<'c, T: Drop, W> LocalHandle<'c, T, W> {
     /// Unpins the participant until [`LocalHandle::resume`] pins it again under the same guard. No value that was found
     /// under the guard before is protected any more. With more guards out the participant stays pinned.
     ///
@@ -137,24 +157,9 @@ impl<'c, T, W> LocalHandle<'c, T, W> {
         ensures ready { IsReady self.new }
         ensures counted { self.new.machine.guards + 1 ≡ self.old.machine.guards }
     {
+        self.rooms.take_back(guard.rooms.take());
         Local::unpin(&mut self.local);
         Paused { guard }
-    }
-
-    /// Returns whether this is a guard that this participant paused. Like [`LocalHandle::owns`], it doesn't tell two
-    /// collectors with the same number apart.
-    #[inline]
-    pub fn has_paused(&self, paused: &Paused<'_, T, W>) -> bool
-        ensures value { IsTrue result ↔ IsPausedBy self.now paused.now }
-        ensures ready { IsReady self.now }
-    {
-        if paused.guard.collector.id != self.local.collector.id {
-            return false;
-        }
-        let Some(position) = paused.guard.position else {
-            return false;
-        };
-        position == self.local.position
     }
 
     /// Takes a guard of this handle back. When the last one is back, the participant isn't pinned any more.
@@ -171,7 +176,9 @@ impl<'c, T, W> LocalHandle<'c, T, W> {
         let Guard {
             collector: _,
             position: _,
+            rooms,
         } = guard;
+        self.rooms.take_back(rooms.into_list());
         self.local.unpin();
     }
 }
@@ -285,57 +292,6 @@ impl<'c, T: Drop, W: Run> LocalHandle<'c, T, W> {
         ensures empty { Owns self.old guard.now → IsOk result → self.new.machine.held ≡ [] }
         ensures found { Owns self.old guard.now → IsErr result ↔ (self.new.machine.full ≡ true) }
     {
-        self.flush_into(guard, &mut None)
-    }
-
-    /// Does what [`LocalHandle::flush`] does, and lets the keeper keep the cells of the values that the collection
-    /// destroys, as many as it keeps. A keeper of another collector keeps none.
-    #[inline(always)]
-    pub fn flush_keeping(
-        &mut self,
-        guard: &Guard<'_, T, W>,
-        keeper: &mut Keeper<'c, T>,
-    ) -> Result<(), Fault>
-        ensures same { IsSame self.old self.new }
-        ensures ready { IsReady self.new }
-        ensures counted { self.new.machine.guards ≡ self.old.machine.guards }
-        ensures keeper { keeper.new ≡ keeper.old }
-        ensures unprotected { guard.now.position ≡ None → IsOk result × (self.new ≡ self.old) }
-        ensures stranger { IsSome guard.now.position → ¬ Owns self.old guard.now
-            → (result ≡ Err StrangerGuard) × (self.new ≡ self.old) }
-        ensures does { Owns self.old guard.now → Does self.old Flush self.new }
-        ensures called { Owns self.old guard.now → DoesAndCalls W.done W.Removing.tried self.old Flush self.new }
-        ensures full { Owns self.old guard.now → IsErr result
-            → (result ≡ Err BagsFull) × (self.old.machine.held ≢ []) × (self.new.machine.held ≡ self.old.machine.held) }
-        ensures empty { Owns self.old guard.now → IsOk result → self.new.machine.held ≡ [] }
-        ensures found { Owns self.old guard.now → IsErr result ↔ (self.new.machine.full ≡ true) }
-    {
-        if keeper.home.id == self.local.collector.id {
-            return self.flush_into(guard, &mut Some(&mut keeper.rooms));
-        }
-        self.flush_into(guard, &mut None)
-    }
-
-    // A flush whose collection keeps cells among these rooms, if there are any.
-    #[inline(always)]
-    fn flush_into(
-        &mut self,
-        guard: &Guard<'_, T, W>,
-        rooms: &mut Option<&mut Rooms<'c, T>>,
-    ) -> Result<(), Fault>
-        ensures same { IsSame self.old self.new }
-        ensures ready { IsReady self.new }
-        ensures counted { self.new.machine.guards ≡ self.old.machine.guards }
-        ensures unprotected { guard.now.position ≡ None → IsOk result × (self.new ≡ self.old) }
-        ensures stranger { IsSome guard.now.position → ¬ Owns self.old guard.now
-            → (result ≡ Err StrangerGuard) × (self.new ≡ self.old) }
-        ensures does { Owns self.old guard.now → Does self.old Flush self.new }
-        ensures called { Owns self.old guard.now → DoesAndCalls W.done W.Removing.tried self.old Flush self.new }
-        ensures full { Owns self.old guard.now → IsErr result
-            → (result ≡ Err BagsFull) × (self.old.machine.held ≢ []) × (self.new.machine.held ≡ self.old.machine.held) }
-        ensures empty { Owns self.old guard.now → IsOk result → self.new.machine.held ≡ [] }
-        ensures found { Owns self.old guard.now → IsErr result ↔ (self.new.machine.full ≡ true) }
-    {
         if !guard.is_protecting() {
             // For the prover: a field read shows what a handle keeps between two calls.
             let _ = &self.local;
@@ -344,7 +300,7 @@ impl<'c, T: Drop, W: Run> LocalHandle<'c, T, W> {
         if !self.owns(guard) {
             return Err(Fault::StrangerGuard);
         }
-        if self.local.flush(rooms) {
+        if self.local.flush(&mut self.rooms) {
             return Err(Fault::BagsFull);
         }
         Ok(())
@@ -403,8 +359,10 @@ impl<'c, T: Drop, W: Run> LocalHandle<'c, T, W> {
         ensures ready { IsReady self.new }
         ensures counted { self.new.machine.guards ≡ self.old.machine.guards + 1 }
     {
-        self.local.pin_and_collect();
+        let first = self.local.machine.guards() == 0;
+        self.local.pin_and_collect(&mut self.rooms);
         let Paused { guard } = paused;
+        guard.rooms.put(self.rooms.give(first));
         guard
     }
 
@@ -427,12 +385,15 @@ impl<'c, T: Drop, W: Run> LocalHandle<'c, T, W> {
         ensures found { IfErr result (λ back. back.0.machine.full ≡ true) }
         ensures frees { IfOk result (λ released. IsReleased W.done W.Removing.tried self.entry released.local) }
     {
-        let LocalHandle { mut local } = self;
-        let freed = local.release();
+        let LocalHandle {
+            mut local,
+            mut rooms,
+        } = self;
+        let freed = local.release(&mut rooms);
         if freed {
             return Ok(Released { local });
         }
-        Err((LocalHandle { local }, Fault::BagsFull))
+        Err((LocalHandle { local, rooms }, Fault::BagsFull))
     }
 
     /// Ends the participant, as [`LocalHandle::leave`] and then [`Released::spend`](crate::Released::spend) do, but
@@ -453,12 +414,15 @@ impl<'c, T: Drop, W: Run> LocalHandle<'c, T, W> {
         ensures found { IfErr result (λ back. back.0.machine.full ≡ true) }
         ensures frees { IsOk result → (last : _) × IsReleased W.done W.Removing.tried self.entry last }
     {
-        let LocalHandle { mut local } = self;
-        if local.release() {
+        let LocalHandle {
+            mut local,
+            mut rooms,
+        } = self;
+        if local.release(&mut rooms) {
             Local::spend(local);
             return Ok(());
         }
-        Err((LocalHandle { local }, Fault::BagsFull))
+        Err((LocalHandle { local, rooms }, Fault::BagsFull))
     }
 
     /// Does what [`LocalHandle::defer`] does. A job is the caller's box, so no call has to trust its caller more, as
@@ -489,7 +453,8 @@ impl<'c, T: Drop, W: Run> LocalHandle<'c, T, W> {
     }
 
     /// Pins the participant, and returns a guard. Of the pins that are made with no guard out, the first one collects,
-    /// and so does each 128th after it.
+    /// and so does each 128th after it. The guard gets free cells that the participant keeps, for the values that are
+    /// placed under it.
     ///
     /// If the participant is pinned already, this only counts one more guard, and makes no atomic step. At most
     /// `2^32 - 1` guards can be out: [`LocalHandle::can_pin`] must hold. Keep pins short: while a participant stays
@@ -505,34 +470,12 @@ impl<'c, T: Drop, W: Run> LocalHandle<'c, T, W> {
         ensures ready { IsReady self.new }
         ensures counted { self.new.machine.guards ≡ self.old.machine.guards + 1 }
     {
-        self.local.pin_and_collect();
+        let first = self.local.machine.guards() == 0;
+        self.local.pin_and_collect(&mut self.rooms);
         Guard {
             collector: self.local.collector,
             position: Some(self.local.position),
-        }
-    }
-
-    /// Does what [`LocalHandle::pin`] does. If the pin collects, the keeper keeps the cells of the values that this
-    /// destroys, as many as it keeps. A keeper of another collector keeps none.
-    #[inline]
-    pub fn pin_keeping(&mut self, keeper: &mut Keeper<'c, T>) -> Guard<'c, T, W>
-        requires { self.old.machine.guards + 1 < 2 ^ 32 }
-        ensures own { Owns self.new result }
-        ensures of { result.collector.now ≡ self.old.collector.now }
-        ensures same { IsSame self.old self.new }
-        ensures does { Does self.old Pin self.new }
-        ensures called { DoesAndCalls W.done W.Removing.tried self.old Pin self.new }
-        ensures keeper { keeper.new ≡ keeper.old }
-        ensures ready { IsReady self.new }
-        ensures counted { self.new.machine.guards ≡ self.old.machine.guards + 1 }
-    {
-        if keeper.home.id != self.local.collector.id {
-            return self.pin();
-        }
-        self.local.pin_and_collect_into(&mut keeper.rooms);
-        Guard {
-            collector: self.local.collector,
-            position: Some(self.local.position),
+            rooms: GuardRooms::new(self.rooms.give(first)),
         }
     }
 }

@@ -5,6 +5,7 @@ ghost use Rattle.epoch_cells.specs.declared.fault.Fault.TheVariants.{CellsFull};
 
 use crate::guard::Guard;
 use epoch_cells::{Cells, IntoSlots, Name, Refused, Room};
+use std::alloc::{AllocFailed, Global};
 
 /// The cells that a name is of, and the number of their collector.
 #[derive_where(Clone, Copy)]
@@ -74,12 +75,12 @@ pub trait HasPlacing<M> {}
 
 impl<T> HasPlacing<InCells> for T {}
 
-/// Places the value in a cell of the guard's collector, near the guard's participant. Under an unprotected guard the
-/// first position serves.
+/// Places the value in a cell of the guard's collector: in a free one that its participant keeps, by one store, or else
+/// in one that is found by a search near the participant. Under an unprotected guard the first position serves.
 ///
-/// `CellsFull`: every slot was seen used or retired during the call. A slot that a
-/// [`Keeper`](crate::Keeper) keeps counts as used. The value is handed back. The clauses tell by [`Placing`] that the
-/// value was placed under the name that is returned.
+/// `CellsFull`: every slot was seen used, retired, or kept by another participant. Each keeps at most 512 free cells,
+/// and at most a quarter of its share. The value is handed back. The clauses tell by [`Placing`] that the value was
+/// placed under the name that is returned.
 #[inline(always)]
 pub fn place_under<T: Drop + HasPlacing<M>, W, M: Placing<T>>(
     guard: &Guard<'_, T, W>,
@@ -89,6 +90,43 @@ pub fn place_under<T: Drop + HasPlacing<M>, W, M: Placing<T>>(
     ensures slot { IfOk result (λ name. name.slot ≤ vec_len guard.now.collector.now.cells.slots) }
     ensures placed { IfOk result (λ name. M.placed value.value name) }
 {
+    if let Some(room) = guard.next_room() {
+        return Ok(M::place_in(room, value));
+    }
     let position = guard.position.unwrap_or(0);
     M::place(&guard.collector.cells, position, value)
+}
+
+/// Takes the value of this name out of its cell, and keeps the cell for the next value that is placed under the guard.
+///
+/// `None`: the value is gone, or is read or written, or each try was lost to other threads.
+#[inline(always)]
+pub fn take_under<T: Drop, W>(guard: &Guard<'_, T, W>, name: Name) -> Option<Box<T>> {
+    let Some(mut rooms) = guard.rooms.take() else {
+        return guard.collector.cells.take(name);
+    };
+    let held = guard.collector.cells.take_near(&mut rooms, name);
+    guard.rooms.put(Some(rooms));
+    Some(held?.into_value())
+}
+
+/// Puts the value into a box: into the memory of a value that was destroyed, if the guard has some, or else into new
+/// memory.
+///
+/// An allocation that is refused hands the value back.
+#[inline(always)]
+pub fn boxed_under<T: Drop, W>(
+    guard: &Guard<'_, T, W>,
+    alloc: Global,
+    value: T,
+) -> Result<Box<T>, AllocFailed<T>>
+    ensures value { IfOk result (λ whole. whole.value ≡ value) }
+    ensures handed_back { IfErr result (λ refused. refused.value ≡ value) }
+{
+    let Some(mut rooms) = guard.rooms.take() else {
+        return Box::new(alloc, value);
+    };
+    let whole = rooms.boxed(alloc, value);
+    guard.rooms.put(Some(rooms));
+    whole
 }

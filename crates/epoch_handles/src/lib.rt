@@ -6,16 +6,15 @@ mod guard;
 mod handle;
 mod home;
 mod interlude;
-mod keeper;
 mod local;
 mod paused;
 mod released;
+mod rooms;
 
 pub use collector::{Capacities, Collector};
 pub use guard::{Guard, unprotected};
 pub use handle::LocalHandle;
-pub use home::{HasPlacing, Home, InCells, Placing, home_of, place_under};
+pub use home::{HasPlacing, Home, InCells, Placing, boxed_under, home_of, place_under, take_under};
 pub use interlude::{DirectInterlude, HasInterlude, Interlude};
-pub use keeper::Keeper;
 pub use paused::Paused;
 pub use released::Released;

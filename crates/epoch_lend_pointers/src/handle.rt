@@ -70,7 +70,9 @@ impl<'c, 'q, 's, J: PostSet, T> LendingHandle<'c, 'q, 's, J, T> {
     {
         self.handle.owns(guard.guard())
     }
+}
 
+impl<'c, 'q, 's, J: PostSet, T: Drop> LendingHandle<'c, 'q, 's, J, T> {
     /// Takes a guard of this handle back: first the pin at its post ends, and then that of the collector's handle.
     ///
     /// The guard must be this handle's: [`LendingHandle::owns`].
@@ -107,9 +109,7 @@ impl<'c, 'q, 's, J: PostSet, T> LendingHandle<'c, 'q, 's, J, T> {
     {
         self.handle.unpin(guard);
     }
-}
 
-impl<'c, 'q, 's, J: PostSet, T: Drop> LendingHandle<'c, 'q, 's, J, T> {
     /// Registers a participant of this collector, whose guards lend the values of this lender.
     ///
     /// `TableFull`: each position, or each post, was seen taken. `NoMemory`: an allocation was refused.

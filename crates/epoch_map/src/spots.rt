@@ -14,10 +14,10 @@ use std::alloc::Global;
 use std::sync::atomic::Ordering::SeqCst;
 
 /// The buckets of a map, and its nodes, under the guard of one call. It must be spent by `close`.
-pub struct SharedSpots<'s, 'g, W> {
+pub struct SharedSpots<'s, 'g, 'h, W> {
     pub(crate) buckets: &'s [Atomic<Node>],
     pub(crate) alloc: Global,
-    pub(crate) guard: &'g Guard<'g, Node, W>,
+    pub(crate) guard: &'g Guard<'h, Node, W>,
     pub(crate) reading: Option<Reading<'g, Node>>,
 }
 
@@ -82,7 +82,7 @@ fn change_at<W>(at: &Atomic<Node>, change: Change, guard: &Guard<'_, Node, W>) -
     }
 }
 
-impl<'s, 'g, W> SharedSpots<'s, 'g, W> {
+impl<'s, 'g, 'h, W> SharedSpots<'s, 'g, 'h, W> {
     // Changes or loads a root, which is a bucket's, or the pointer in a node, which has one. `Absent`: there is no such
     // bucket, or the node wasn't lent.
     #[inline(always)]
@@ -143,7 +143,7 @@ impl<'s, 'g, W> SharedSpots<'s, 'g, W> {
     }
 }
 
-impl<'s, 'g, W> Spots for SharedSpots<'s, 'g, W> {
+impl<'s, 'g, 'h, W> Spots for SharedSpots<'s, 'g, 'h, W> {
     ghost does = { λ _ _ _ _. Unit {0} };
 
     #[inline(always)]

@@ -5,8 +5,8 @@
 pub use epoch_atomic::atomic;
 pub use epoch_ends::{AtEnd, end_bags, end_left, end_next};
 pub use epoch_handles::{
-    Capacities, Collector, DirectInterlude, Guard, HasInterlude, Interlude, Keeper, LocalHandle,
-    Paused, Released, unprotected,
+    Capacities, Collector, DirectInterlude, Guard, HasInterlude, Interlude, LocalHandle, Paused,
+    Released, unprotected,
 };
 pub use epoch_machine::{
     Action, Answer, Ask, Machine, PINS_BETWEEN_COLLECTIONS, Sizes, Stage, asks_follow_the_table,

@@ -3,4 +3,4 @@
 
 mod room;
 
-pub use room::{defer_removal, make_room, make_room_keeping};
+pub use room::{defer_removal, make_room};

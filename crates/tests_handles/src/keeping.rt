@@ -1,56 +1,33 @@
-//! Cells that keepers keep for the next values of their threads.
-use crate::calls::{collector, end, pin, register, release, unpin};
+//! Cells that a participant keeps for the next values that it places.
+use crate::calls::{collector, end, flush, pin, register, release, unpin};
 use crate::counts::{Counted, count, new_counted};
 use crate::removals::{placed, refuse_place, remove};
-use crate::wants::{want, want_count, want_err, want_ok, want_some};
-use epoch_base::Fault;
-use epoch_pin::atomic::{Atomic, KeepCells, Owned, Shared};
-use epoch_pin::{Capacities, Guard, Keeper, LocalHandle};
+use crate::wants::{want, want_count, want_ok, want_some};
+use epoch_pin::atomic::{Atomic, Owned, Shared};
+use epoch_pin::{Capacities, Guard, LocalHandle};
 use std::alloc::Global;
 use std::process::Abort;
 use std::sync::Arc;
 use std::sync::atomic::AtomicU64;
 use std::sync::atomic::Ordering::SeqCst;
 
-/// The pointer's value has this slot and this turn.
-fn want_at(rt: &impl Abort, shared: Shared<'_, u64>, slot: u32, turn: u32) {
-    let name = want_some(rt, "a value is named", shared.name());
-    want(rt, "its slot", (name.slot(), name.turn()), (slot, turn));
-}
-
-/// An owned value, with tag 5.
-fn owned(rt: &impl Abort, alloc: Global, value: u64) -> Owned<u64> {
-    want_ok(rt, "memory for a value", Owned::new(alloc, value)).with_tag(5)
-}
-
-/// The keeper places 6, for which a cell is free.
+/// Places 6, which comes to this slot with this turn.
 fn place<'g>(
     rt: &impl Abort,
     alloc: Global,
-    keeper: &mut Keeper<'_, u64>,
     guard: &'g Guard<'_, u64>,
+    (slot, turn): (u32, u32),
 ) -> Shared<'g, u64> {
-    let placed = keeper.place_owned(guard, owned(rt, alloc, 6));
-    want_ok(rt, "a cell is free", placed)
+    let shared = placed(rt, alloc, guard, 6);
+    let name = want_some(rt, "a value is named", shared.name());
+    want(rt, "its slot", (name.slot(), name.turn()), (slot, turn));
+    shared
 }
 
-/// Neither the keeper nor a search finds a free cell.
-fn refuse(rt: &impl Abort, alloc: Global, keeper: &mut Keeper<'_, u64>, guard: &Guard<'_, u64>) {
-    let answer = keeper.place_owned(guard, owned(rt, alloc, 6));
-    let fault = want_err(rt, "no cell is kept", answer).fault;
-    want(rt, "the fault", fault, Fault::CellsFull);
-    refuse_place(rt, alloc, guard);
-}
-
-/// The keeper takes the value back with its tag, or doesn't.
-fn take(
-    rt: &impl Abort,
-    keeper: &mut Keeper<'_, u64>,
-    shared: Shared<'_, u64>,
-    wanted: Option<(u64, usize)>,
-) {
-    let taken = keeper.take_owned(shared);
-    let seen = taken.map(|owned| (*owned, owned.tag()));
+/// The value is taken back, or isn't.
+fn take(rt: &impl Abort, shared: Shared<'_, u64>, guard: &Guard<'_, u64>, wanted: Option<u64>) {
+    let taken = Atomic::<u64>::from(shared).into_owned(guard);
+    let seen = taken.map(|owned| *owned);
     want(rt, "what is taken back", seen, wanted);
 }
 
@@ -59,14 +36,12 @@ fn replace(
     rt: &impl Abort,
     alloc: Global,
     handle: &mut LocalHandle<'_, u64>,
-    keeper: &mut Keeper<'_, u64>,
     atomic: &Atomic<u64>,
-    (slot, turn): (u32, u32),
+    slot_and_turn: (u32, u32),
 ) {
     let guard = pin(rt, handle);
-    let placed = place(rt, alloc, keeper, &guard);
-    want_at(rt, placed, slot, turn);
-    let swapped = atomic.swap(placed, SeqCst, &guard);
+    let new = place(rt, alloc, &guard, slot_and_turn);
+    let swapped = atomic.swap(new, SeqCst, &guard);
     let before = want_ok(rt, "a pointer takes no cell", swapped);
     if !before.is_null() {
         remove(rt, handle, &guard, before);
@@ -74,177 +49,177 @@ fn replace(
     unpin(rt, handle, guard);
 }
 
-/// Pins and flushes four times, with the keeper.
-fn collect<'c>(rt: &impl Abort, handle: &mut LocalHandle<'c, u64>, keeper: &mut Keeper<'c, u64>) {
+/// Pins and flushes four times.
+fn collect(rt: &impl Abort, handle: &mut LocalHandle<'_, u64>) {
     for _ in 0..4u64 {
-        assert!(rt; handle.can_pin(), "a guard can be counted");
-        let guard = handle.pin_keeping(keeper);
-        let flushed = handle.flush_keeping(&guard, keeper);
-        want(rt, "a place is free", flushed, Ok(()));
+        let guard = pin(rt, handle);
+        flush(rt, handle, &guard, Ok(()));
         unpin(rt, handle, guard);
     }
 }
 
 #[test]
-fn the_cell_of_a_destroyed_value_is_used_by_the_next_one_that_its_keeper_places(rt: HostRuntime) {
+fn the_cell_of_a_destroyed_value_is_used_by_the_next_one_that_its_participant_places(
+    rt: HostRuntime,
+) {
     let alloc = rt.alloc();
-    // A keeper keeps at most one of the four cells of the one participant.
-    let collector = collector::<u64>(&rt, alloc, Capacities::usual(1, 4, 1));
+    // A list of the one participant takes one of the eight cells.
+    let collector = collector::<u64>(&rt, alloc, Capacities::usual(1, 8, 1));
     let mut handle = register(&rt, &collector);
-    let mut keeper = collector.keeper();
     let atomic = Atomic::<u64>::null();
-    replace(&rt, alloc, &mut handle, &mut keeper, &atomic, (1, 0));
+    replace(&rt, alloc, &mut handle, &atomic, (1, 0));
     // The first value isn't destroyed yet.
-    replace(&rt, alloc, &mut handle, &mut keeper, &atomic, (2, 0));
-    collect(&rt, &mut handle, &mut keeper);
-    replace(&rt, alloc, &mut handle, &mut keeper, &atomic, (1, 1));
-    collect(&rt, &mut handle, &mut keeper);
-    replace(&rt, alloc, &mut handle, &mut keeper, &atomic, (2, 1));
-    // No cell is kept now, and cells 3 and 4 had no value.
-    replace(&rt, alloc, &mut handle, &mut keeper, &atomic, (3, 0));
+    replace(&rt, alloc, &mut handle, &atomic, (2, 0));
+    collect(&rt, &mut handle);
+    replace(&rt, alloc, &mut handle, &atomic, (1, 1));
+    collect(&rt, &mut handle);
+    replace(&rt, alloc, &mut handle, &atomic, (2, 1));
+    // No cell is kept now, and cells 3 to 8 had no value.
+    replace(&rt, alloc, &mut handle, &atomic, (3, 0));
     release(&rt, handle);
-    drop(keeper);
     drop(atomic);
     end(&rt, collector, 2);
 }
 
-/// A value is placed, read, and taken back. Its cell is kept for the next one, and a search doesn't find it.
-fn take_back(rt: &impl Abort, alloc: Global, keeper: &mut Keeper<'_, u64>, guard: &Guard<'_, u64>) {
-    let first = place(rt, alloc, keeper, guard);
-    want_at(rt, first, 1, 0);
+/// A value is placed, read, and taken back. Its cell is used by the next one.
+fn take_back(rt: &impl Abort, alloc: Global, guard: &Guard<'_, u64>) {
+    let first = place(rt, alloc, guard, (1, 0));
     let reading = want_some(rt, "the value is there", first.deref());
-    take(rt, keeper, first, None);
+    take(rt, first, guard, None);
     reading.leave();
-    take(rt, keeper, first, Some((6, 5)));
-    take(rt, keeper, first, None);
-    want_at(rt, placed(rt, alloc, guard, 7), 2, 0);
-    want_at(rt, place(rt, alloc, keeper, guard), 1, 1);
-}
-
-/// The only cell takes a value with this turn, and then no other one until the value is taken back.
-fn use_only_cell(
-    rt: &impl Abort,
-    alloc: Global,
-    keeper: &mut Keeper<'_, u64>,
-    guard: &Guard<'_, u64>,
-    turn: u32,
-) {
-    let only = place(rt, alloc, keeper, guard);
-    want_at(rt, only, 1, turn);
-    refuse(rt, alloc, keeper, guard);
-    take(rt, keeper, only, Some((6, 5)));
+    take(rt, first, guard, Some(6));
+    take(rt, first, guard, None);
+    let _ = place(rt, alloc, guard, (1, 1));
+    let _ = place(rt, alloc, guard, (2, 0));
 }
 
 #[test]
 fn a_value_that_is_not_read_is_taken_back_and_its_cell_used_next(rt: HostRuntime) {
     let alloc = rt.alloc();
-    let collector = collector::<u64>(&rt, alloc, Capacities::usual(1, 4, 1));
+    let collector = collector::<u64>(&rt, alloc, Capacities::usual(1, 8, 1));
     let mut handle = register(&rt, &collector);
     let guard = pin(&rt, &mut handle);
-    take_back(&rt, alloc, &mut collector.keeper(), &guard);
+    take_back(&rt, alloc, &guard);
     unpin(&rt, &mut handle, guard);
     release(&rt, handle);
     end(&rt, collector, 0);
 }
 
-// A quarter of one cell is none: it is never kept.
+/// The only cell takes a value with this turn, and then no other one until the value is taken back.
+fn use_only_cell(rt: &impl Abort, alloc: Global, guard: &Guard<'_, u64>, turn: u32) {
+    let only = place(rt, alloc, guard, (1, turn));
+    refuse_place(rt, alloc, guard);
+    take(rt, only, guard, Some(6));
+}
+
+// An eighth of one cell is none: it is never kept.
 #[test]
 fn one_cell_is_enough_to_place_values_and_take_them_back(rt: HostRuntime) {
     let alloc = rt.alloc();
     let collector = collector::<u64>(&rt, alloc, Capacities::usual(1, 1, 1));
     let mut handle = register(&rt, &collector);
-    let mut keeper = collector.keeper();
     let guard = pin(&rt, &mut handle);
     for turn in 0..50u32 {
-        use_only_cell(&rt, alloc, &mut keeper, &guard, turn);
+        use_only_cell(&rt, alloc, &guard, turn);
     }
     unpin(&rt, &mut handle, guard);
     release(&rt, handle);
-    drop(keeper);
     end(&rt, collector, 0);
 }
 
 /// Two values are placed and taken back. The cell of the first one is kept, and that of the second one is free for all.
-fn keep_one(rt: &impl Abort, alloc: Global, keeper: &mut Keeper<'_, u64>, guard: &Guard<'_, u64>) {
-    let first = place(rt, alloc, keeper, guard);
-    let second = place(rt, alloc, keeper, guard);
-    take(rt, keeper, first, Some((6, 5)));
-    take(rt, keeper, second, Some((6, 5)));
+fn keep_one(rt: &impl Abort, alloc: Global, guard: &Guard<'_, u64>) {
+    let first = place(rt, alloc, guard, (1, 0));
+    let second = place(rt, alloc, guard, (2, 0));
+    take(rt, first, guard, Some(6));
+    take(rt, second, guard, Some(6));
+}
+
+/// This many values find a free cell, and then none does.
+fn place_in_all(rt: &impl Abort, alloc: Global, guard: &Guard<'_, u64>, cells: u64) {
+    for _ in 0..cells {
+        let _ = placed(rt, alloc, guard, 6);
+    }
+    refuse_place(rt, alloc, guard);
 }
 
 #[test]
-fn a_cell_that_is_kept_is_free_for_others_when_its_keeper_is_dropped(rt: HostRuntime) {
+fn a_cell_that_is_kept_is_free_for_others_when_its_participant_is_released(rt: HostRuntime) {
     let alloc = rt.alloc();
-    // With two participants, a keeper keeps at most one of eight cells.
-    let collector = collector::<u64>(&rt, alloc, Capacities::usual(2, 8, 1));
-    let mut handle = register(&rt, &collector);
-    let (mut first, mut second) = (collector.keeper(), collector.keeper());
-    let guard = pin(&rt, &mut handle);
-    keep_one(&rt, alloc, &mut first, &guard);
-    for _ in 0..7u64 {
-        let _ = place(&rt, alloc, &mut second, &guard);
-    }
-    refuse(&rt, alloc, &mut second, &guard);
-    drop(first);
-    want_at(&rt, place(&rt, alloc, &mut second, &guard), 1, 1);
-    refuse(&rt, alloc, &mut second, &guard);
-    unpin(&rt, &mut handle, guard);
-    release(&rt, handle);
-    drop(second);
+    // With two participants, a list of each takes one of sixteen cells.
+    let collector = collector::<u64>(&rt, alloc, Capacities::usual(2, 16, 1));
+    let (mut first, mut second) = (register(&rt, &collector), register(&rt, &collector));
+    let guard = pin(&rt, &mut first);
+    keep_one(&rt, alloc, &guard);
+    unpin(&rt, &mut first, guard);
+    let guard = pin(&rt, &mut second);
+    place_in_all(&rt, alloc, &guard, 15);
+    release(&rt, first);
+    place_in_all(&rt, alloc, &guard, 1);
+    unpin(&rt, &mut second, guard);
+    release(&rt, second);
     end(&rt, collector, 0);
 }
 
-/// A value with this number, in memory that the keeper has, or else in new memory.
-fn own_counted(
-    rt: &impl Abort,
-    alloc: Global,
-    keeper: &mut Keeper<'_, Counted>,
-    drops: &Arc<AtomicU64>,
-    number: u64,
-) -> Owned<Counted> {
-    let owned = keeper.own(alloc, new_counted(rt, drops, number));
-    want_ok(rt, "memory for a value", owned)
+#[test]
+fn a_nested_guard_and_one_that_was_paused_find_the_cells_that_are_left(rt: HostRuntime) {
+    let alloc = rt.alloc();
+    let collector = collector::<u64>(&rt, alloc, Capacities::usual(1, 8, 1));
+    let mut handle = register(&rt, &collector);
+    let outer = pin(&rt, &mut handle);
+    keep_one(&rt, alloc, &outer);
+    let inner = pin(&rt, &mut handle);
+    // The outer guard has cell 1.
+    place_in_all(&rt, alloc, &inner, 7);
+    unpin(&rt, &mut handle, inner);
+    assert!(rt; handle.owns(&outer), "the guard is the handle's");
+    let paused = handle.pause(outer);
+    assert!(rt; handle.can_pin(), "a guard can be counted");
+    assert!(rt; handle.has_paused(&paused), "the guard was paused");
+    let outer = handle.resume(paused);
+    let _ = place(&rt, alloc, &outer, (1, 1));
+    refuse_place(&rt, alloc, &outer);
+    unpin(&rt, &mut handle, outer);
+    release(&rt, handle);
+    end(&rt, collector, 0);
 }
 
 /// Swaps a value with this number in, removes the one before, and flushes.
-fn replace_counted<'c>(
+fn replace_counted(
     rt: &impl Abort,
-    handle: &mut LocalHandle<'c, Counted>,
-    keeper: &mut Keeper<'c, Counted>,
+    alloc: Global,
+    handle: &mut LocalHandle<'_, Counted>,
     atomic: &Atomic<Counted>,
-    owned: Owned<Counted>,
+    drops: &Arc<AtomicU64>,
+    number: u64,
 ) {
     let guard = pin(rt, handle);
-    let placed = want_ok(rt, "a cell is free", keeper.place_owned(&guard, owned));
-    let swapped = atomic.swap(placed, SeqCst, &guard);
+    let made = Owned::new_under(alloc, new_counted(rt, drops, number), &guard);
+    let owned = want_ok(rt, "memory for a value", made);
+    let new = want_ok(rt, "a cell is free", owned.into_shared(&guard));
+    let swapped = atomic.swap(new, SeqCst, &guard);
     let before = want_ok(rt, "a pointer takes no cell", swapped);
     if !before.is_null() {
         remove(rt, handle, &guard, before);
     }
-    let flushed = handle.flush_keeping(&guard, keeper);
-    want(rt, "a place is free", flushed, Ok(()));
+    flush(rt, handle, &guard, Ok(()));
     unpin(rt, handle, guard);
 }
 
 // A value adds its number to the drops.
 #[test]
-fn values_in_memory_that_a_keeper_keeps_are_dropped_whole_and_once(rt: HostRuntime) {
+fn values_in_memory_that_was_kept_are_dropped_whole_and_once(rt: HostRuntime) {
     let alloc = rt.alloc();
     let drops = count(&rt, alloc);
     let collector = collector::<Counted>(&rt, alloc, Capacities::usual(1, 64, 16));
     let mut handle = register(&rt, &collector);
-    let mut keeper = collector.keeper();
     let atomic = Atomic::<Counted>::null();
     for number in 1..201u64 {
-        let owned = own_counted(&rt, alloc, &mut keeper, &drops, number);
-        replace_counted(&rt, &mut handle, &mut keeper, &atomic, owned);
-        let other = own_counted(&rt, alloc, &mut keeper, &drops, 1000);
-        keeper.drop_owned(other);
+        replace_counted(&rt, alloc, &mut handle, &atomic, &drops, number);
     }
     release(&rt, handle);
-    drop(keeper);
     drop(atomic);
     let _ = collector.end();
-    // The numbers from 1 to 200, and 200 times 1000.
-    want_count(&rt, "drops at the end", &drops, 220_100);
+    // The numbers from 1 to 200.
+    want_count(&rt, "drops at the end", &drops, 20_100);
 }

@@ -1,5 +1,5 @@
 //! Tests of `epoch_pin` by its public calls: handles, guards, jobs, a collector's end, the pointers of
-//! `epoch_pin::atomic`, cells that keepers keep, removals that are deferred, and handles on several threads.
+//! `epoch_pin::atomic`, cells that participants keep, removals that are deferred, and handles on several threads.
 #![tactic(auto)]
 
 #[cfg(test)]

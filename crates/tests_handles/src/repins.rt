@@ -62,7 +62,8 @@ fn repin_after_rounds<'c>(
 fn hold_back_later<'c>(
     rt: &impl Abort,
     alloc: Global,
-    (own, guard): (&mut Handle<'c>, Guard<'c, u64>),
+    own: &mut Handle<'c>,
+    guard: Guard<'c, u64>,
     other: &mut Handle<'_>,
     calls: &Arc<AtomicU64>,
     (before, amount): (u64, u64),
@@ -92,8 +93,8 @@ fn a_participant_pinned_before_keeps_the_job_uncalled(rt: HostRuntime) {
     // The rounds between are made while it is unpinned.
     let called = [0x111, 0x111, 0x111];
     repin_after_rounds(&rt, &mut own, &mut guard, 1, &mut other, &calls, &called);
-    let own_guard = (&mut own, guard);
-    hold_back_later(&rt, alloc, own_guard, &mut other, &calls, (0x111, 0x1000));
+    let later = (0x111, 0x1000);
+    hold_back_later(&rt, alloc, &mut own, guard, &mut other, &calls, later);
     release(&rt, own);
     release(&rt, other);
     end(&rt, collector, 0);
@@ -125,7 +126,8 @@ fn a_paused_participant_holds_nobody_back(rt: HostRuntime) {
     // The resumed guard holds back what is deferred after it.
     let guard = resume(&rt, &mut own, paused);
     want(&rt, "the guards out", own.guards_out(), 1);
-    hold_back_later(&rt, alloc, (&mut own, guard), &mut other, &calls, (1, 0x10));
+    let later = (1, 0x10);
+    hold_back_later(&rt, alloc, &mut own, guard, &mut other, &calls, later);
     release(&rt, own);
     release(&rt, other);
     end(&rt, collector, 0);

@@ -16,7 +16,7 @@ use std::process::Abort;
 
 /// The spots of a queue, on which another participant pops and then pushes 2 after this many accesses.
 struct Met<'s, 'g, 'c> {
-    own: SharedSpots<'s, 'g, u64, Work>,
+    own: SharedSpots<'s, 'g, 'c, u64, Work>,
     queue: &'s Queue<'c, u64>,
     other: &'s mut Handle<'c>,
     guard: &'s Pin<'c>,
@@ -53,12 +53,12 @@ impl<'s, 'g, 'c> Spots for Met<'s, 'g, 'c> {
 }
 
 /// The spots of a queue, of which one access isn't made: the one after this many others.
-struct Stopped<'s, 'g> {
-    own: SharedSpots<'s, 'g, u64, Work>,
+struct Stopped<'s, 'g, 'h> {
+    own: SharedSpots<'s, 'g, 'h, u64, Work>,
     before: u32,
 }
 
-impl<'s, 'g> Spots for Stopped<'s, 'g> {
+impl<'s, 'g, 'h> Spots for Stopped<'s, 'g, 'h> {
     ghost does = { λ _ _ _ _. Unit {0} };
 
     fn touch(&mut self, access: Access) -> Result<Answer, Fault>

@@ -5,8 +5,6 @@
 #[cfg(test)]
 mod calls;
 #[cfg(test)]
-mod keeping;
-#[cfg(test)]
 mod meetings;
 #[cfg(test)]
 mod memory;

@@ -4,8 +4,8 @@ use crate::calls::{
     Handle, Nodes, Pin, end, pin, register, release, told, unpin, want, want_empty, want_pop,
 };
 use epoch_base::Fault;
-use epoch_pin::{Capacities, Collector, Keeper};
-use epoch_stack::{Node, Stack};
+use epoch_pin::{Capacities, Collector};
+use epoch_stack::Stack;
 use std::alloc::Global;
 use std::process::Abort;
 
@@ -36,20 +36,6 @@ fn pushed(
     value: u64,
 ) -> Option<Fault> {
     fault_of(rt, told(stack.push(alloc, handle, guard, value, 1)), value)
-}
-
-/// Does the same with a keeper, which takes memory for its lists at its first push.
-fn pushed_keeping<'c>(
-    rt: &impl Abort,
-    alloc: Global,
-    stack: &Stack<'_, u64>,
-    handle: &mut Handle<'c>,
-    guard: &Pin<'_>,
-    keeper: &mut Keeper<'c, Node<u64>>,
-    value: u64,
-) -> Option<Fault> {
-    let answer = stack.push_keeping(alloc, handle, guard, keeper, value, 1);
-    fault_of(rt, told(answer), value)
 }
 
 /// The fault of a push. The value is handed back with it.
@@ -106,26 +92,6 @@ fn a_value_is_pushed_or_memory_is_refused(rt: HostRuntime) -> Result<(), Fault> 
     release(&rt, handle);
     drop(stack);
     // A push that is refused has deferred nothing.
-    end(&rt, collector, popped);
-    Ok(())
-}
-
-// Where memory for the keeper's lists is refused, it keeps nothing, and both values are pushed.
-#[test]
-fn a_value_is_pushed_with_a_keeper_or_memory_is_refused(rt: HostRuntime) -> Result<(), Fault> {
-    let alloc = rt.alloc();
-    let collector = collector_at_last(alloc, 8)?;
-    let stack = Stack::new(&collector);
-    let mut handle = register(&rt, &collector);
-    let mut keeper = collector.keeper();
-    let guard = pin(&rt, &mut handle);
-    let first = pushed_keeping(&rt, alloc, &stack, &mut handle, &guard, &mut keeper, 1);
-    let second = pushed_keeping(&rt, alloc, &stack, &mut handle, &guard, &mut keeper, 2);
-    let popped = want_left(&rt, &stack, &mut handle, &guard, first, second);
-    unpin(&rt, &mut handle, guard);
-    release(&rt, handle);
-    drop(keeper);
-    drop(stack);
     end(&rt, collector, popped);
     Ok(())
 }

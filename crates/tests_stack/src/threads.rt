@@ -1,7 +1,7 @@
 //! A stack that threads share.
 use crate::calls::{Handle, Nodes, collector, pin, register, told, unpin, want, want_empty};
 use epoch_base::Fault;
-use epoch_pin::{Capacities, Guard, Keeper};
+use epoch_pin::{Capacities, Guard};
 use epoch_stack::{Node, Stack};
 use std::alloc::Global;
 use std::process::Abort;
@@ -14,63 +14,42 @@ use std::thread::Threads;
 /// As often as any call tries here.
 const TRIES: u32 = 100_000;
 
-/// A thread's keeper, and whether it uses it.
-#[derive(Drop)]
-struct Kept<'c> {
-    keeper: Keeper<'c, Node<u64>>,
-    used: bool,
-}
-
-/// Pushes the value once, with the keeper if it is used. Then flushes.
-fn push_once<'c>(
+/// Pushes the value once. Then flushes.
+fn push_once(
     alloc: Global,
     stack: &Stack<'_, u64>,
-    handle: &mut Handle<'c>,
+    handle: &mut Handle<'_>,
     guard: &Guard<'_, Node<u64>>,
-    kept: &mut Kept<'c>,
     value: u64,
 ) -> Result<(), (Fault, u64)> {
-    if !kept.used {
-        let pushed = told(stack.push(alloc, handle, guard, value, TRIES));
-        let _ = handle.flush(guard);
-        return pushed;
-    }
-    let keeper = &mut kept.keeper;
-    let pushed = told(stack.push_keeping(alloc, handle, guard, keeper, value, TRIES));
-    let _ = handle.flush_keeping(guard, keeper);
+    let pushed = told(stack.push(alloc, handle, guard, value, TRIES));
+    let _ = handle.flush(guard);
     pushed
 }
 
-/// Pops a value once, with the keeper if it is used. Then flushes.
-fn pop_once<'c>(
+/// Pops a value once. Then flushes.
+fn pop_once(
     stack: &Stack<'_, u64>,
-    handle: &mut Handle<'c>,
+    handle: &mut Handle<'_>,
     guard: &Guard<'_, Node<u64>>,
-    kept: &mut Kept<'c>,
 ) -> Result<Option<u64>, Fault> {
-    if !kept.used {
-        let popped = stack.pop(handle, guard, TRIES);
-        let _ = handle.flush(guard);
-        return popped;
-    }
-    let popped = stack.pop_keeping(handle, guard, &mut kept.keeper, TRIES);
-    let _ = handle.flush_keeping(guard, &mut kept.keeper);
+    let popped = stack.pop(handle, guard, TRIES);
+    let _ = handle.flush(guard);
     popped
 }
 
 /// Pushes the value. Where it finds no cell, or no place for its full bag, it lets go its guard, flushes under a
 /// new one, so that removals are called, and pushes again.
-fn push_at_last<'c, R: Abort + Wait>(
+fn push_at_last<R: Abort + Wait>(
     rt: &R,
     alloc: Global,
     stack: &Stack<'_, u64>,
-    handle: &mut Handle<'c>,
-    kept: &mut Kept<'c>,
+    handle: &mut Handle<'_>,
     value: u64,
 ) {
     for _ in rt.forever() {
         let guard = pin(rt, handle);
-        let pushed = push_once(alloc, stack, handle, &guard, kept, value);
+        let pushed = push_once(alloc, stack, handle, &guard, value);
         unpin(rt, handle, guard);
         match pushed {
             Ok(()) => return,
@@ -82,15 +61,14 @@ fn push_at_last<'c, R: Abort + Wait>(
 
 /// Pops a value, or `None` where the stack is empty. Where there is no place for its full bag, it lets go its guard,
 /// flushes under a new one, and pops again.
-fn pop_at_last<'c, R: Abort + Wait>(
+fn pop_at_last<R: Abort + Wait>(
     rt: &R,
     stack: &Stack<'_, u64>,
-    handle: &mut Handle<'c>,
-    kept: &mut Kept<'c>,
+    handle: &mut Handle<'_>,
 ) -> Option<u64> {
     for _ in rt.forever() {
         let guard = pin(rt, handle);
-        let popped = pop_once(stack, handle, &guard, kept);
+        let popped = pop_once(stack, handle, &guard);
         unpin(rt, handle, guard);
         if let Ok(popped) = popped {
             return popped;
@@ -136,17 +114,13 @@ fn push_and_pop<R: Abort + Wait>(
     stack: &Stack<'_, u64>,
     counts: &[AtomicU64],
     (first, values): (u64, u64),
-    used: bool,
 ) {
     let mut handle = register(rt, collector);
-    let keeper = collector.keeper();
-    let mut kept = Kept { keeper, used };
     for value in 0..values {
         let value = first.wrapping_add(value);
-        push_at_last(rt, alloc, stack, &mut handle, &mut kept, value);
-        count(rt, counts, pop_at_last(rt, stack, &mut handle, &mut kept));
+        push_at_last(rt, alloc, stack, &mut handle, value);
+        count(rt, counts, pop_at_last(rt, stack, &mut handle));
     }
-    drop(kept);
     leave(rt, handle);
 }
 
@@ -168,15 +142,9 @@ fn pop_the_rest<R: Abort + Wait>(
     counts: &[AtomicU64],
 ) {
     let mut handle = register(rt, collector);
-    let keeper = collector.keeper();
-    let mut kept = Kept {
-        keeper,
-        used: false,
-    };
     for _ in counts {
-        count(rt, counts, pop_at_last(rt, stack, &mut handle, &mut kept));
+        count(rt, counts, pop_at_last(rt, stack, &mut handle));
     }
-    drop(kept);
     let guard = pin(rt, &mut handle);
     want_empty(rt, stack, &mut handle, &guard);
     unpin(rt, &mut handle, guard);
@@ -215,14 +183,13 @@ fn want_each_once(rt: &impl Abort, counts: &[AtomicU64]) {
     }
 }
 
-/// This many threads push and pop this many values each, with keepers or without. Each value comes off once, and then
-/// the stack is empty, and each cell is free.
+/// This many threads push and pop this many values each. Each value comes off once, and then the stack is empty, and
+/// each cell is free.
 fn race<R: Abort + Threads + Wait + Sync>(
     rt: &R,
     alloc: Global,
     capacities: Capacities,
     (threads, values): (u64, u64),
-    used: bool,
 ) {
     let cells = u64::from(capacities.cells);
     let counts = counts_of(rt, alloc, threads.wrapping_mul(values));
@@ -232,7 +199,7 @@ fn race<R: Abort + Threads + Wait + Sync>(
     thread::scope(thread::scope_env(), rt, |scope| {
         for thread in 0..threads {
             let values = (thread.wrapping_mul(values), values);
-            let _ = scope.spawn(move || push_and_pop(rt, alloc, nodes, shared, all, values, used));
+            let _ = scope.spawn(move || push_and_pop(rt, alloc, nodes, shared, all, values));
         }
     });
     pop_the_rest(rt, &collector, &stack, &counts);
@@ -245,27 +212,16 @@ fn race<R: Abort + Threads + Wait + Sync>(
 
 #[test]
 fn each_value_of_8_threads_comes_off_once(rt: HostRuntime) {
-    race(
-        &rt,
-        rt.alloc(),
-        Capacities::usual(8, 64, 16),
-        (8, 2000),
-        false,
-    );
+    race(&rt, rt.alloc(), Capacities::usual(8, 64, 16), (8, 2000));
 }
 
+// Each of the lists of a participant takes 8 cells.
 #[test]
 fn each_value_of_8_threads_that_keep_cells_comes_off_once(rt: HostRuntime) {
-    race(
-        &rt,
-        rt.alloc(),
-        Capacities::usual(8, 64, 16),
-        (8, 2000),
-        true,
-    );
+    race(&rt, rt.alloc(), Capacities::usual(8, 512, 16), (8, 2000));
 }
 
 #[test]
 fn treiber_stack(rt: HostRuntime) {
-    race(&rt, rt.alloc(), Capacities::usual(3, 16, 16), (2, 5), false);
+    race(&rt, rt.alloc(), Capacities::usual(3, 16, 16), (2, 5));
 }

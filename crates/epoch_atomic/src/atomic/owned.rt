@@ -7,6 +7,7 @@ ghost use Rattle.epoch_atomic.specs.OwnedValues.{with_owned_value};
 
 use crate::atomic::borrow::{Borrow, BorrowMut};
 use epoch_cells::Fault;
+use epoch_handles::{Guard, boxed_under};
 use epoch_values::{Pointable, tag_of};
 use std::alloc::Global;
 use std::fmt;
@@ -61,6 +62,20 @@ impl<T: Pointable + Drop> Owned<T> {
         ensures tag { IfOk result (λ owned. owned.tag ≡ 0) }
     {
         let value = Box::new(alloc, value).map_err(|_| Fault::NoMemory)?;
+        Ok(Owned::from(value))
+    }
+
+    /// Puts the value into a box, with tag 0, as [`Owned::new`] does. If the guard's participant keeps the memory of a
+    /// value that was destroyed, the value is put there, and no memory is allocated.
+    ///
+    /// `NoMemory`: an allocation was refused, and the value was dropped.
+    #[inline(always)]
+    pub fn new_under<W>(alloc: Global, value: T, guard: &Guard<'_, T, W>) -> Result<Owned<T>, Fault>
+        ensures memory { IsOkUnless result NoMemory }
+        ensures value { IfOk result (λ owned. owned.value.value ≡ value) }
+        ensures tag { IfOk result (λ owned. owned.tag ≡ 0) }
+    {
+        let value = boxed_under(guard, alloc, value).map_err(|_| Fault::NoMemory)?;
         Ok(Owned::from(value))
     }
 

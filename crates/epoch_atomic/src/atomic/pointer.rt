@@ -8,7 +8,7 @@ use crate::atomic::owned::Owned;
 use crate::atomic::shared::Shared;
 use crate::atomic::word::pointer_word;
 use epoch_cells::Refused;
-use epoch_handles::{Guard, HasPlacing, Placing, home_of, place_under};
+use epoch_handles::{Guard, HasPlacing, Placing, home_of, place_under, take_under};
 use epoch_values::Pointable;
 
 /// What an `Atomic` can be given: a [`Shared`], or an [`Owned`], which takes a cell.
@@ -112,7 +112,7 @@ impl<'g, T: Pointable + Drop> Pointer<'g, T> for Owned<T> {
         let Some(name) = shared.name else {
             return Err(shared);
         };
-        match home_of(guard).cells.take(name) {
+        match take_under(guard, name) {
             Some(value) => Ok(Owned {
                 value,
                 tag: shared.tag,

@@ -9,7 +9,7 @@ ghost use Rattle.epoch_atomic.specs.Pointers.{tagged_word, IsUnder};
 use crate::atomic::owned::Owned;
 use crate::atomic::word::number;
 use epoch_cells::{Name, Reading, Writing};
-use epoch_handles::{Guard, Home, home_of};
+use epoch_handles::{Guard, Home, home_of, take_under};
 use epoch_values::{Pointable, tag_of};
 use std::cmp::Ordering;
 use std::fmt;
@@ -159,6 +159,19 @@ impl<'g, T: Pointable + Drop> Shared<'g, T> {
     {
         let home = self.home?;
         let value = home.cells.take(self.name?)?;
+        Some(Owned {
+            value,
+            tag: self.tag,
+        })
+    }
+
+    // Does the same, and keeps the cell for the next value that is placed under this guard.
+    #[inline(always)]
+    pub(crate) fn taken_under<W>(self, guard: &Guard<'_, T, W>) -> Option<Owned<T>>
+        ensures tag { IfSome result (λ owned. owned.tag ≡ self.entry.tag) }
+        ensures null { IsNone self.entry.name → IsNone result }
+    {
+        let value = take_under(guard, self.name?)?;
         Some(Owned {
             value,
             tag: self.tag,

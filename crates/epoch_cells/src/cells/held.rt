@@ -337,6 +337,16 @@ pub struct Room<'a, T> {
     pub ghost fits: { name.slot ≡ kept.claim.tag },
 }
 
+impl<'a, T> Room<'a, T> {
+    /// Returns the name of the next value.
+    #[inline(always)]
+    pub fn name(&self) -> Name
+        ensures { result ≡ self.now.name }
+    {
+        self.name
+    }
+}
+
 impl<'a, T: Drop> Room<'a, T> {
     /// Places the value here, by one store, beside its name, and returns that name.
     #[inline(always)]

@@ -17,6 +17,8 @@ pub struct Rooms<'a, T> {
     list: Vec<Room<'a, T>>,
     // The memory of values that were dropped, in boxes without a value.
     emptied: Vec<Emptied<T, Global>>,
+    // How many rooms it takes memory for.
+    most: usize,
 }
 
 // A clause sees nothing of them, so that an owner's rooms are no part of what its contracts say.
@@ -27,12 +29,13 @@ impl<'a, T> Model for Rooms<'a, T> {
 }
 
 impl<'a, T> Rooms<'a, T> {
-    /// Begins with no room, and with memory for none.
+    /// Begins with no room. The first one that is kept takes memory for this many.
     #[inline(always)]
-    pub fn none(alloc: Global) -> Rooms<'a, T> {
+    pub fn up_to(most: usize, alloc: Global) -> Rooms<'a, T> {
         Rooms {
             list: Vec::new(alloc),
             emptied: Vec::new(alloc),
+            most,
         }
     }
 
@@ -40,6 +43,12 @@ impl<'a, T> Rooms<'a, T> {
     #[inline(always)]
     pub fn len(&self) -> usize {
         self.list.len()
+    }
+
+    /// Returns whether it has memory for rooms: whether it was given one to keep.
+    #[inline(always)]
+    pub fn has_memory(&self) -> bool {
+        self.list.capacity() > 0
     }
 
     /// Takes the newest room out.
@@ -62,22 +71,16 @@ impl<'a, T> Rooms<'a, T> {
 }
 
 impl<'a, T: Drop> Rooms<'a, T> {
-    /// Takes memory for this many rooms, if it has memory for none. If it is refused, none is kept.
-    #[inline(always)]
-    pub fn reserve(&mut self, alloc: Global, most: usize) {
-        if self.list.capacity() == 0 {
-            self.take_memory(alloc, most);
-        }
-    }
-
+    // Takes memory for the rooms, if it has memory for none yet. If it is refused, none is kept.
     #[cold]
     #[inline(never)]
-    fn take_memory(&mut self, alloc: Global, most: usize) {
-        let Ok(list) = Vec::with_capacity(alloc, most) else {
+    fn take_memory(&mut self) {
+        let alloc = *self.list.allocator();
+        let Ok(list) = Vec::with_capacity(alloc, self.most) else {
             return;
         };
         self.list = list;
-        if let Ok(emptied) = Vec::with_capacity(alloc, most) {
+        if let Ok(emptied) = Vec::with_capacity(alloc, self.most) {
             self.emptied = emptied;
         }
     }
@@ -86,7 +89,12 @@ impl<'a, T: Drop> Rooms<'a, T> {
     #[inline(always)]
     pub fn keep(&mut self, room: Room<'a, T>) -> bool {
         if self.list.len() >= self.list.capacity() {
-            return false;
+            if self.list.capacity() == 0 {
+                self.take_memory();
+            }
+            if self.list.len() >= self.list.capacity() {
+                return false;
+            }
         }
         self.list.push(room).is_ok()
     }

@@ -6,6 +6,7 @@ ghost use Rattle.epoch_handles.specs.Handles.{IsNewParticipant};
 use crate::collector::Collector;
 use crate::handle::LocalHandle;
 use crate::local::Local;
+use crate::rooms::OwnRooms;
 use epoch_bags::Run;
 use epoch_cells::Fault;
 use epoch_machine::Machine;
@@ -29,7 +30,10 @@ impl<T: Drop, W: Run> Collector<T, W> {
                     position,
                     machine: Machine::new(self.sizes),
                 };
-                return Ok(LocalHandle { local });
+                return Ok(LocalHandle {
+                    local,
+                    rooms: OwnRooms::none(),
+                });
             }
         }
         Err(Fault::TableFull)

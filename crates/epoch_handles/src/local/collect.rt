@@ -10,6 +10,7 @@ ghost use Rattle.epoch_machine.specs.declared.machine.Ask.TheVariants.{CallJob};
 ghost use Rattle.epoch_machine.specs.declared.machine.Stage.TheVariants.{LoadScan, Take};
 
 use crate::local::Local;
+use crate::rooms::OwnRooms;
 use epoch_bags::queue::places::is_expired_word;
 use epoch_bags::{Epoch, GREATEST_EPOCH, Job, Remove, Run, TakeCursor, TakeStep};
 use epoch_cells::{Cells, Freed, Rooms};
@@ -98,16 +99,17 @@ impl<'c, T: Drop, W: Run> Local<'c, T, W> {
     ///
     /// It stands out of line, so that a collection without a bag passes through less code.
     #[inline(never)]
-    fn call_hand(&mut self, rooms: &mut Option<&mut Rooms<'c, T>>)
+    fn call_hand(&mut self, rooms: &mut OwnRooms<'c, T>)
         ensures only { self.new ≡ record self.old { machine = self.new.machine } }
         ensures calls { (expiry taken : ℕ)
             → self.old.machine.stage ≡ after_job self.old.machine expiry taken self.old.machine.hand
             → CallsHand W.done W.Removing.tried self.old expiry taken self.new }
     {
-        match rooms.take() {
-            Some(kept) => {
-                self.call_hand_into(kept);
-                *rooms = Some(kept);
+        match rooms.receiving(&self.collector.cells) {
+            Some(list) => {
+                let mut list = list;
+                self.call_hand_into(&mut list);
+                rooms.take_back(Some(list));
             }
             None => {
                 let mut none = self.collector.cells.no_rooms();
@@ -150,7 +152,7 @@ impl<'c, T: Drop, W: Run> Local<'c, T, W> {
     /// Takes expired bags, as many as a collection takes or as it finds, and calls each one's jobs before it looks
     /// for the next.
     #[inline(always)]
-    fn take_bags(&mut self, rooms: &mut Option<&mut Rooms<'c, T>>, expiry: u64)
+    fn take_bags(&mut self, rooms: &mut OwnRooms<'c, T>, expiry: u64)
         requires seated { IsSeated self.old }
         requires rests { RestsAt self.old.claimer.me }
         requires takes { self.old.machine.stage ≡ Take expiry 0 }
@@ -180,9 +182,9 @@ impl<'c, T: Drop, W: Run> Local<'c, T, W> {
     }
 
     /// A collection: a scan, and bags that are expired for the epoch that it gave. Slots that their removals give free
-    /// are kept among these rooms, if there are any.
+    /// are kept among these rooms, as many as they take.
     #[inline(never)]
-    pub(crate) fn collect(&mut self, rooms: &mut Option<&mut Rooms<'c, T>>)
+    pub(crate) fn collect(&mut self, rooms: &mut OwnRooms<'c, T>)
         requires seated { IsSeated self.old }
         requires rests { RestsAt self.old.claimer.me }
         requires pinned { IsPinned self.old.seat.me.0 }

@@ -9,8 +9,8 @@ ghost use Rattle.epoch_machine.specs.declared.machine.Action.TheVariants.{Pin, U
 ghost use Rattle.epoch_machine.specs.declared.machine.Stage.TheVariants.{LoadScan};
 
 use crate::local::Local;
+use crate::rooms::OwnRooms;
 use epoch_bags::Run;
-use epoch_cells::Rooms;
 
 impl<'c, T, W> Local<'c, T, W> {
     /// The steps of a pin after its first load: publishes the epoch found, and loads the epoch again.
@@ -117,7 +117,7 @@ impl<'c, T, W> Local<'c, T, W> {
 impl<'c, T: Drop, W: Run> Local<'c, T, W> {
     /// A pin, with the collection that follows the first one and each 128th.
     #[inline(always)]
-    pub(crate) fn pin_and_collect(&mut self)
+    pub(crate) fn pin_and_collect(&mut self, rooms: &mut OwnRooms<'c, T>)
         requires ready { IsReady self.old }
         requires fits { self.old.machine.guards + 1 < 2 ^ 32 }
         ensures same { IsSame self.old self.new }
@@ -129,26 +129,8 @@ impl<'c, T: Drop, W: Run> Local<'c, T, W> {
         if !self.pin() {
             return;
         }
-        self.collect(&mut None);
-        self.machine.end();
-    }
-
-    /// Does the same, and keeps slots that the collection gives free among these rooms. It is a function of its own, so
-    /// that a plain pin stores nothing for the sake of rooms before its exchange.
-    #[inline(always)]
-    pub(crate) fn pin_and_collect_into(&mut self, rooms: &mut Rooms<'c, T>)
-        requires ready { IsReady self.old }
-        requires fits { self.old.machine.guards + 1 < 2 ^ 32 }
-        ensures same { IsSame self.old self.new }
-        ensures does { Does self.old Pin self.new }
-        ensures called { DoesAndCalls W.done W.Removing.tried self.old Pin self.new }
-        ensures ready { IsReady self.new }
-        ensures counted { self.new.machine.guards ≡ self.old.machine.guards + 1 }
-    {
-        if !self.pin() {
-            return;
-        }
-        self.collect(&mut Some(rooms));
+        self.collect(rooms);
+        rooms.begin(&self.collector.cells);
         self.machine.end();
     }
 }

@@ -6,8 +6,8 @@ ghost use Rattle.epoch_machine.specs.declared.machine.Action.TheVariants.{Defer,
 ghost use Rattle.epoch_machine.specs.declared.machine.Stage.TheVariants.{LoadSeal};
 
 use crate::local::Local;
+use crate::rooms::OwnRooms;
 use epoch_bags::{Job, PutStep, Run};
-use epoch_cells::Rooms;
 use epoch_machine::{Action, Answer};
 
 impl<'c, T: Drop, W: Run> Local<'c, T, W> {
@@ -82,7 +82,7 @@ impl<'c, T: Drop, W: Run> Local<'c, T, W> {
     /// A flush: the held bag is put, if it has a job, and bags are collected. Returns whether the put saw each
     /// place occupied.
     #[inline(always)]
-    pub(crate) fn flush(&mut self, rooms: &mut Option<&mut Rooms<'c, T>>) -> bool
+    pub(crate) fn flush(&mut self, rooms: &mut OwnRooms<'c, T>) -> bool
         requires ready { IsReady self.old }
         requires out { 0 < self.old.machine.guards }
         ensures same { IsSame self.old self.new }

@@ -9,6 +9,7 @@ ghost use Rattle.epoch_machine.specs.declared.machine.Action.TheVariants.{Releas
 ghost use Rattle.epoch_machine.specs.declared.machine.Stage.TheVariants.{StoreUnpinned};
 
 use crate::local::Local;
+use crate::rooms::OwnRooms;
 use epoch_bags::Run;
 use epoch_machine::Answer;
 use std::mem;
@@ -30,7 +31,7 @@ impl<'c, T: Drop, W: Run> Local<'c, T, W> {
     /// A release: pins as a first pin does, puts the held bag if it has a job, stores the word of an unpinned
     /// participant, and, unless each place was seen occupied, the word of a free position. Returns whether the
     /// position is free.
-    pub(crate) fn release(&mut self) -> bool
+    pub(crate) fn release(&mut self, rooms: &mut OwnRooms<'c, T>) -> bool
         requires ready { IsReady self.old }
         requires none { self.old.machine.guards ≡ 0 }
         ensures same { IsSame self.old self.new }
@@ -44,12 +45,12 @@ impl<'c, T: Drop, W: Run> Local<'c, T, W> {
         // where it is accepted: the held bag is whole in a place, and the machine was driven to the store of 0
         ensures frees { result ≡ true → IsReleased W.done W.Removing.tried self.old self.new }
     {
-        self.pin_to_leave();
+        self.pin_to_leave(rooms);
         self.leave()
     }
 
     /// The pin of a release, with the collection that follows a first pin and each 128th.
-    fn pin_to_leave(&mut self)
+    fn pin_to_leave(&mut self, rooms: &mut OwnRooms<'c, T>)
         requires ready { IsReady self.old }
         requires none { self.old.machine.guards ≡ 0 }
         ensures leaving { IsLeaving W.done W.Removing.tried self.old self.new }
@@ -59,7 +60,7 @@ impl<'c, T: Drop, W: Run> Local<'c, T, W> {
         if !self.machine.release_pinned(epoch) {
             return;
         }
-        self.collect(&mut None);
+        self.collect(rooms);
     }
 
     /// What a release does after its pin and the collection. Returns whether the position is free.

@@ -41,7 +41,6 @@ pub(crate) fn place_by_rooms<'a>(
     if let Some(room) = rooms.next() {
         return Some(room.place::<IntoSlots>(boxed));
     }
-    cells.make_rooms(rooms);
     cells.place_near(position, boxed).ok()
 }
 
@@ -159,6 +158,15 @@ impl<'a> Rounds<'a> {
         names
     }
 
+    fn rounds(&self, rooms: &mut Rooms<'a, u64>, number: u64) {
+        let position = (number % POSITIONS as u64) as usize;
+        let mut names = Vec::new(self.alloc);
+        for _ in 0..ROUNDS {
+            names = self.round(rooms, position, &names);
+        }
+        self.remove(rooms, position, &names);
+    }
+
     fn remove(&self, rooms: &mut Rooms<'a, u64>, position: usize, names: &[Name]) {
         if remove_beside(self.cells, rooms, position, names) != names.len() {
             self.lost.fetch_add(1, SeqCst);
@@ -169,13 +177,17 @@ impl<'a> Rounds<'a> {
 impl Work for Rounds<'_> {
     // The rounds of one thread, which leave no value and no room behind.
     fn work(&self, number: u64) {
-        let position = (number % POSITIONS as u64) as usize;
-        let mut rooms = self.cells.no_rooms();
-        let mut names = Vec::new(self.alloc);
-        for _ in 0..ROUNDS {
-            names = self.round(&mut rooms, position, &names);
+        let list = if self.asks { self.cells.rooms() } else { None };
+        match list {
+            Some(list) => {
+                let mut list = list;
+                self.rounds(&mut list, number);
+            }
+            None => {
+                let mut none = self.cells.no_rooms();
+                self.rounds(&mut none, number);
+            }
         }
-        self.remove(&mut rooms, position, &names);
     }
 }
 
@@ -201,6 +213,6 @@ fn threads_that_place_and_remove_lose_no_slot(rt: HostRuntime) {
 
 #[test]
 fn threads_that_place_in_rooms_and_remove_lose_no_slot(rt: HostRuntime) {
-    // Each of them keeps at most 6 rooms: together a quarter of 200 slots.
+    // Each of them keeps at most 3 rooms: together an eighth of 200 slots.
     race(&rt, rt.alloc(), true);
 }

@@ -8,9 +8,14 @@ use std::process::Abort;
 
 const LAST: u32 = 4_294_967_295;
 
-// So many cells that begin at this turn, of which one owner keeps at most a quarter as rooms.
+// So many cells that begin at this turn, of which a list keeps at most an eighth as rooms.
 fn cells_of_one(rt: &impl Abort, alloc: Global, slots: u8, turn: u32) -> Cells<u64> {
     Cells::with_positions(alloc, slots as u32, turn, 1).expect(rt, "memory for cells")
+}
+
+// A list of rooms of these cells.
+fn rooms_of<'a>(rt: &impl Abort, cells: &'a Cells<u64>) -> Box<Rooms<'a, u64>> {
+    cells.rooms().expect(rt, "memory for a list")
 }
 
 // Places a value in the newest room or a free slot: this slot, with this turn. Answers its name.
@@ -59,8 +64,8 @@ fn want_taken<'a>(
 
 #[test]
 fn slots_of_removed_values_are_kept_and_used_next_with_the_next_turn(rt: HostRuntime) {
-    let cells = cells_of_one(&rt, rt.alloc(), 16, 0);
-    let mut rooms = cells.no_rooms();
+    let cells = cells_of_one(&rt, rt.alloc(), 32, 0);
+    let mut rooms = rooms_of(&rt, &cells);
     let first = want_placed(&rt, rt.alloc(), &cells, &mut rooms, (1, 0));
     let second = want_placed(&rt, rt.alloc(), &cells, &mut rooms, (2, 0));
     let third = want_placed(&rt, rt.alloc(), &cells, &mut rooms, (3, 0));
@@ -78,27 +83,30 @@ fn slots_of_removed_values_are_kept_and_used_next_with_the_next_turn(rt: HostRun
     let _ = want_placed(&rt, rt.alloc(), &cells, &mut rooms, (5, 0));
 }
 
-// An owner removes all values of full cells, and keeps this many rooms. Only the other slots are free for all, until
-// the rooms are dropped.
-fn want_kept(
+// An owner removes all values of full cells, and keeps this many of their slots among these rooms. Only the other slots
+// are free for all then.
+fn remove_all<'a>(
     rt: &impl Abort,
     alloc: Global,
+    cells: &'a Cells<u64>,
+    rooms: &mut Rooms<'a, u64>,
     (slots, positions): (u16, usize),
-    keeps: bool,
     kept: u16,
 ) {
-    let made = Cells::with_positions(alloc, slots as u32, 0, positions);
-    let cells = made.expect(rt, "memory for cells");
-    let names = fill(rt, alloc, &cells, positions, slots as u64);
-    let mut rooms = cells.no_rooms();
-    if keeps {
-        cells.make_rooms(&mut rooms);
-    }
-    let removed = remove_beside(&cells, &mut rooms, 0, &names);
+    let names = fill(rt, alloc, cells, positions, slots as u64);
+    let removed = remove_beside(cells, rooms, 0, &names);
     want(rt, "all are removed", removed, slots as usize);
     want(rt, "how many rooms are kept", rooms.len(), kept as usize);
     let others = slots.saturating_sub(kept) as u64;
-    let _ = fill(rt, alloc, &cells, positions, others);
+    let _ = fill(rt, alloc, cells, positions, others);
+}
+
+// A list of so many cells with so many positions keeps this many rooms, which are free for all when it is dropped.
+fn want_kept(rt: &impl Abort, alloc: Global, (slots, positions): (u16, usize), kept: u16) {
+    let made = Cells::with_positions(alloc, slots as u32, 0, positions);
+    let cells = made.expect(rt, "memory for cells");
+    let mut rooms = rooms_of(rt, &cells);
+    remove_all(rt, alloc, &cells, &mut rooms, (slots, positions), kept);
     drop(rooms);
     let _ = fill(rt, alloc, &cells, positions, kept as u64);
 }
@@ -106,22 +114,29 @@ fn want_kept(
 #[test]
 fn an_owner_that_keeps_rooms_keeps_as_many_as_it_may(rt: HostRuntime) {
     let alloc = rt.alloc();
-    want_kept(&rt, alloc, (16, 1), false, 0);
-    // A quarter of the slots, divided by the positions and rounded down.
-    want_kept(&rt, alloc, (16, 1), true, 4);
-    want_kept(&rt, alloc, (16, 2), true, 2);
-    want_kept(&rt, alloc, (200, 8), true, 6);
-    want_kept(&rt, alloc, (16, 5), true, 0);
-    want_kept(&rt, alloc, (16, 0), true, 0);
+    // An eighth of the slots, divided by the positions and rounded down.
+    want_kept(&rt, alloc, (16, 1), 2);
+    want_kept(&rt, alloc, (16, 2), 1);
+    want_kept(&rt, alloc, (200, 8), 3);
+    want_kept(&rt, alloc, (16, 3), 0);
+    want_kept(&rt, alloc, (16, 0), 0);
     // At most 256.
-    want_kept(&rt, alloc, (1020, 1), true, 255);
-    want_kept(&rt, alloc, (2000, 1), true, 256);
+    want_kept(&rt, alloc, (2040, 1), 255);
+    want_kept(&rt, alloc, (2400, 1), 256);
+}
+
+#[test]
+fn an_owner_without_a_list_keeps_no_room(rt: HostRuntime) {
+    let alloc = rt.alloc();
+    let cells = cells_of_one(&rt, alloc, 16, 0);
+    let mut none = cells.no_rooms();
+    remove_all(&rt, alloc, &cells, &mut none, (16, 1), 0);
 }
 
 #[test]
 fn the_slot_of_a_taken_value_is_kept_if_its_owner_keeps_rooms(rt: HostRuntime) {
     let cells = cells_of_one(&rt, rt.alloc(), 8, 0);
-    let mut rooms = cells.no_rooms();
+    let mut rooms = rooms_of(&rt, &cells);
     let first = want_placed(&rt, rt.alloc(), &cells, &mut rooms, (1, 0));
     let reading = cells.read(first).expect(&rt, "the value is there");
     want_taken(&rt, &cells, &mut rooms, first, (None, 0));
@@ -138,7 +153,7 @@ fn the_slot_of_a_taken_value_is_kept_if_its_owner_keeps_rooms(rt: HostRuntime) {
 #[test]
 fn the_slot_of_a_last_turn_is_retired_and_gives_no_room(rt: HostRuntime) {
     let cells = cells_of_one(&rt, rt.alloc(), 8, LAST - 1);
-    let mut rooms = cells.no_rooms();
+    let mut rooms = rooms_of(&rt, &cells);
     let removed = want_placed(&rt, rt.alloc(), &cells, &mut rooms, (1, LAST - 1));
     want_removed(&rt, &cells, &mut rooms, removed, 1);
     let removed = want_placed(&rt, rt.alloc(), &cells, &mut rooms, (1, LAST));

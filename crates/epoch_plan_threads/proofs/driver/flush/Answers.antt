@@ -1,4 +1,4 @@
-use Rattle.std.proofs.Common.{◌≡◌, [], length, ap, arith, rules}
+use Rattle.std.proofs.Common.{◌≡◌, ◌∙◌, [], IsErr, length, refl, sym, ap, subst, arith, rules}
 use Rattle.epoch_machine.specs.declared.machine.Sizes.{Sizes}
 use Rattle.epoch_plan_threads.proofs.driver.flush.Goals as goal
 
@@ -12,3 +12,9 @@ returns-in-Ok-clause-flushes g c =
       none,
       omega (arith, ap length none, sizes, sized.bag_jobs.0),
     )
+
+-- no place was found
+pub returns-in-Err-clause-flushes : goal.returns-in-Err-clause-flushes
+returns-in-Err-clause-flushes g c =
+    let told = c.flush.ensures.full c.requires (subst IsErr (sym c.in-Err.is) refl) in
+    (cc (sym c.in-Err.is ∙ told.0), c.flush.ensures.does c.requires, told.2)

@@ -26,6 +26,6 @@ ends_owned align did (Some owned) (Some name) tag word reads ends same null = (
 
 pub returns-clause-did : goal.returns-clause-did
 returns-clause-did g c =
-    ends_owned g.T.Pointable.ALIGN (g.A.SharedWord.did c.args.self.word) c.try_into_owned.result c.read.result.name
-    c.read.result.tag c.end.result c.read.ensures.reads c.end.ensures.did c.try_into_owned.ensures.tag
-    c.try_into_owned.ensures.null
+    ends_owned g.T.Pointable.ALIGN (g.A.SharedWord.did c.args.self.word) c.taken_under.result c.read.result.name
+    c.read.result.tag c.end.result c.read.ensures.reads c.end.ensures.did c.taken_under.ensures.tag
+    c.taken_under.ensures.null

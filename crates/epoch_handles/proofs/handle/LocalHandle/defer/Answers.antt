@@ -1,9 +1,6 @@
-use Rattle.std.proofs.Common.{◌≡◌, Option, Some, None, refl, sym, ◌∙◌, inr, arith}
-use Rattle.epoch_handles.proofs.Tests.{not_both}
+use Rattle.std.proofs.Common.{refl, inr, arith}
+use Rattle.epoch_handles.proofs.Tests.{none_is_not_some, not_both}
 use Rattle.epoch_handles.proofs.handle.LocalHandle.defer.Goals as goal
-
-none_is_not_some : {A : Type 0} {o : Option A} {x : A} → o ≡ None → o ≡ Some x → ⊥
-none_is_not_some none some = cc (sym none ∙ some)
 
 -- the guard isn't one that the handle has out
 

@@ -36,6 +36,10 @@ returns-then-not-owns-clause-found g c = λ _ owns _. absurd (not_both c.if-not-
 pub returns-then-not-owns-clause-room : goal.returns-then-not-owns-clause-room
 returns-then-not-owns-clause-room g c = λ _ owns _ _. absurd (not_both c.if-not-owns.true (c.owns.ensures.value.1 owns))
 
+pub returns-then-not-owns-clause-at_once : goal.returns-then-not-owns-clause-at_once
+returns-then-not-owns-clause-at_once g c =
+    λ _ none _. absurd (none_is_not_some none (c.is_protecting.ensures.0 c.if-is_protecting.true))
+
 -- the pointer is a stranger's
 
 pub returns-in_default-clause-at_once : goal.returns-in_default-clause-at_once

@@ -1,6 +1,6 @@
 use Rattle.std.proofs.Common.{refl, arith}
-use Rattle.epoch_handles.proofs.Tests.{not_both}
-use Rattle.epoch_handles.proofs.handle.LocalHandle.flush_into.Goals as goal
+use Rattle.epoch_handles.proofs.Tests.{none_is_not_some, not_both}
+use Rattle.epoch_handles.proofs.handle.LocalHandle.flush.Goals as goal
 
 pub returns-then-flush-clause-stranger : goal.returns-then-flush-clause-stranger
 returns-then-flush-clause-stranger g c = λ _ stranger. absurd (stranger (c.owns.ensures.value.0 c.if-not-owns.false))
@@ -31,3 +31,11 @@ returns-then-flush-clause-called g c = λ _. rw (← c.self.view_is) c.flush.ens
 
 pub returns-clause-called : goal.returns-clause-called
 returns-clause-called g c = λ _. rw (← c.self.view_is) c.flush.ensures.called
+
+pub returns-then-flush-clause-unprotected : goal.returns-then-flush-clause-unprotected
+returns-then-flush-clause-unprotected g c =
+    λ none. absurd (none_is_not_some none (c.owns.ensures.value.0 c.if-not-owns.false).position)
+
+pub returns-clause-unprotected : goal.returns-clause-unprotected
+returns-clause-unprotected g c =
+    λ none. absurd (none_is_not_some none (c.owns.ensures.value.0 c.if-not-owns.false).position)

@@ -1,0 +1,161 @@
+//! Free cells that a participant keeps for the values that it places.
+ghost use Rattle.std.specs.Prelude.{◌≤◌, IfSome, vec_len};
+
+use crate::guard::Guard;
+use epoch_cells::{Cells, Room, Rooms};
+use std::cell::Cell;
+use std::marker::Model;
+
+/// Free cells that a participant keeps, and the memory of values that were destroyed: two lists.
+///
+/// A pin gives one list to its first guard, which gives it back at the end. What a collection frees meanwhile is kept
+/// in the other list.
+#[derive(Drop)]
+pub(crate) struct OwnRooms<'c, T> {
+    // The list that the next guard gets. While a guard has one, a list for what collections free.
+    next: Option<Box<Rooms<'c, T>>>,
+    // A list that no guard gets. One that has kept no cell yet is here, since giving it would be two stores at each
+    // pin.
+    spare: Option<Box<Rooms<'c, T>>>,
+}
+
+// A clause sees nothing of them.
+impl<'c, T> Model for OwnRooms<'c, T> {
+    ghost Value = { Unit {0} };
+
+    ghost view = { λ _. tt };
+}
+
+impl<'c, T> OwnRooms<'c, T> {
+    /// Begins with no list.
+    #[inline(always)]
+    pub(crate) fn none() -> OwnRooms<'c, T> {
+        OwnRooms {
+            next: None,
+            spare: None,
+        }
+    }
+
+    /// Gives a list to the first guard, if there is one for it. Others get none.
+    #[inline(always)]
+    pub(crate) fn give(&mut self, first: bool) -> Option<Box<Rooms<'c, T>>> {
+        if first && self.next.is_some() {
+            self.next.take()
+        } else {
+            None
+        }
+    }
+}
+
+impl<'c, T: Drop> OwnRooms<'c, T> {
+    /// Makes a list for the next guard, if there is none. If memory for it is refused, the participant keeps no cell.
+    #[inline(never)]
+    pub(crate) fn begin(&mut self, cells: &'c Cells<T>) {
+        if self.next.is_some() {
+            return;
+        }
+        self.next = match self.spare.take() {
+            Some(spare) => Some(spare),
+            None => cells.rooms(),
+        };
+    }
+
+    /// Takes a guard's list back.
+    #[inline(always)]
+    pub(crate) fn take_back(&mut self, rooms: Option<Box<Rooms<'c, T>>>) {
+        let Some(rooms) = rooms else {
+            return;
+        };
+        if self.next.is_some() || !rooms.has_memory() {
+            self.put_fuller_first(rooms);
+            return;
+        }
+        self.next = Some(rooms);
+    }
+
+    // The next guard gets the list with more rooms, but none that has kept no cell.
+    #[inline(never)]
+    fn put_fuller_first(&mut self, rooms: Box<Rooms<'c, T>>) {
+        match self.next.take() {
+            Some(other) => {
+                if rooms.len() < other.len() {
+                    self.next = Some(other);
+                    self.spare = Some(rooms);
+                } else {
+                    self.next = Some(rooms);
+                    self.spare = Some(other);
+                }
+            }
+            None => self.spare = Some(rooms),
+        }
+    }
+
+    /// Takes out the list for what a collection frees, and makes it if there is none: `None` if that was refused.
+    pub(crate) fn receiving(&mut self, cells: &'c Cells<T>) -> Option<Box<Rooms<'c, T>>> {
+        self.begin(cells);
+        self.next.take()
+    }
+}
+
+/// The list that a guard has, if it has one: free cells for the values that are placed under it.
+#[derive(Drop)]
+pub(crate) struct GuardRooms<'c, T> {
+    list: Cell<Option<Box<Rooms<'c, T>>>>,
+}
+
+// A clause sees nothing of it.
+impl<'c, T> Model for GuardRooms<'c, T> {
+    ghost Value = { Unit {0} };
+
+    ghost view = { λ _. tt };
+}
+
+impl<'c, T> GuardRooms<'c, T> {
+    /// Begins with this list.
+    #[inline(always)]
+    pub(crate) fn new(list: Option<Box<Rooms<'c, T>>>) -> GuardRooms<'c, T> {
+        GuardRooms {
+            list: Cell::new(list),
+        }
+    }
+
+    /// Takes the list out.
+    #[inline(always)]
+    pub(crate) fn take(&self) -> Option<Box<Rooms<'c, T>>> {
+        self.list.replace(None)
+    }
+
+    /// Ends with the list.
+    #[inline(always)]
+    pub(crate) fn into_list(self) -> Option<Box<Rooms<'c, T>>> {
+        let GuardRooms { list } = self;
+        list.into_inner()
+    }
+}
+
+impl<'c, T: Drop> GuardRooms<'c, T> {
+    /// Puts the list back.
+    #[inline(always)]
+    pub(crate) fn put(&self, list: Option<Box<Rooms<'c, T>>>) {
+        self.list.set(list);
+    }
+}
+
+impl<'c, T: Drop, W> Guard<'c, T, W> {
+    /// Takes a room out of the guard's list, if there is one.
+    #[inline(always)]
+    pub(crate) fn next_room(&self) -> Option<Room<'c, T>>
+        ensures { IfSome result (λ room. room.name.slot ≤ vec_len self.now.collector.now.cells.slots) }
+    {
+        let mut rooms = self.rooms.take()?;
+        let next = rooms.next();
+        self.rooms.put(Some(rooms));
+        let room = next?;
+        // For the prover, which doesn't know whose rooms these are.
+        if room.name().slot() as usize <= self.collector.cells.capacity() {
+            Some(room)
+        } else {
+            None
+        }
+    }
+}
