@@ -10,8 +10,8 @@ use std::fmt;
 pub enum Fault {
     /// Every participant's word was seen taken during the call.
     TableFull,
-    /// Every slot was seen used or retired during the call. A slot that another participant keeps for its next value
-    /// counts as used.
+    /// Every slot was seen used or retired during the call. A slot that a participant keeps for its next value counts
+    /// as used, but for those that the guard of the call has.
     CellsFull,
     /// Every place of the bag store was seen occupied during the put.
     BagsFull,

@@ -78,8 +78,8 @@ impl<T> HasPlacing<InCells> for T {}
 /// Places the value in a cell of the guard's collector: in a free one that its participant keeps, by one store, or else
 /// in one that is found by a search near the participant. Under an unprotected guard the first position serves.
 ///
-/// `CellsFull`: every slot was seen used, retired, or kept by another participant. Each keeps at most 512 free cells,
-/// and at most a quarter of its share. The value is handed back. The clauses tell by [`Placing`] that the value was
+/// `CellsFull`: every slot was seen used, retired, or kept by a participant elsewhere than with this guard. Each keeps
+/// at most 512 free cells, and at most a quarter of its share. The value is handed back. The clauses tell by [`Placing`] that the value was
 /// placed under the name that is returned.
 #[inline(always)]
 pub fn place_under<T: Drop + HasPlacing<M>, W, M: Placing<T>>(

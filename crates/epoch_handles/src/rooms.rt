@@ -48,10 +48,14 @@ impl<'c, T> OwnRooms<'c, T> {
 }
 
 impl<'c, T: Drop> OwnRooms<'c, T> {
-    /// Makes a list for the next guard, if there is none. If memory for it is refused, the participant keeps no cell.
+    /// Makes a list for the next guard, if there is none. Of two lists it gets the one with more rooms. If memory for a
+    /// list is refused, the participant keeps no cell.
     #[inline(never)]
     pub(crate) fn begin(&mut self, cells: &'c Cells<T>) {
         if self.next.is_some() {
+            if let Some(spare) = self.spare.take() {
+                self.put_fuller_first(spare);
+            }
             return;
         }
         self.next = match self.spare.take() {
