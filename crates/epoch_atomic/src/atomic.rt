@@ -200,7 +200,7 @@ impl<T: Pointable + Drop, A: SharedWord> Atomic<T, A> {
     /// under the guard.
     ///
     /// The guard must be of the collector that has the value. `None`: the pointer is null, whatever its tag is; or its
-    /// value is gone, or is read or written; or each try was lost to other threads.
+    /// value is gone, or is read or written.
     pub fn try_into_owned<W>(self, guard: &Guard<'_, T, W>) -> Option<Owned<T>>
         ensures below { IfSome result (λ owned. owned.tag < T.ALIGN) }
         ensures did { EndsOwned T.ALIGN (A.did self.word) result }

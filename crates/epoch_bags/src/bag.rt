@@ -1,6 +1,6 @@
 //! Bags: jobs gathered by one participant, and then sealed with an epoch.
-ghost use Rattle.std.specs.Prelude.{◌≡◌, ◌<◌, ◌≤◌, ◌↔◌, List, [], ◌∷◌, ◌++◌, None, Some, length, IsTrue, IsErr, IfErr, OnOk};
-ghost use Rattle.std.specs.Prelude.{OnErr, MatchOption};
+ghost use Rattle.std.specs.Prelude.{◌≡◌, ◌<◌, ◌≤◌, ◌↔◌, List, [], ◌∷◌, ◌++◌, None, Some, length, IsTrue, IsErr, IfErr};
+ghost use Rattle.std.specs.Prelude.{OnOk, OnErr, MatchOption};
 ghost use Rattle.epoch_bags.specs.Bags.{IsExpired, is_empty};
 
 use crate::{Epoch, GREATEST_EPOCH};

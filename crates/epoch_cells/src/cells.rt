@@ -9,19 +9,22 @@ ghost use Rattle.std.specs.Prelude.{◌≡◌, ◌≤◌, ◌<◌, ◌+◌, ◌+
 ghost use Rattle.epoch_cells.specs.declared.fault.Fault.TheVariants.{NoMemory, CellsFull};
 ghost use Rattle.epoch_cells.specs.SlotNumbers.{AreNumbered};
 
+mod freed;
 mod held;
 mod name;
-mod notes;
 mod plain;
 mod rooms;
 mod word;
 
-use crate::cells::held::{Miss, Slot, is_free, started, try_place, try_read, try_take, try_write};
-use crate::cells::notes::{Notes, SPANS, Span};
+use crate::cells::held::{
+    Line, Miss, Slot, is_free, started, try_place, try_read, try_take, try_write,
+};
 use crate::fault::{Fault, Refused};
+use crossbeam_utils::CachePadded;
+use epoch_notes::{Notes, SPANS, Span};
+pub use freed::Freed;
 pub use held::{Held, IntoSlots, Puts, Reading, Room, Writing};
 pub use name::{MOST_SLOT, Name};
-pub use notes::Freed;
 pub use plain::PlainCells;
 pub use rooms::{MOST_ROOMS, Rooms};
 use std::alloc::Global;
@@ -29,7 +32,7 @@ use std::marker::PhantomData;
 use std::sync::atomic::AtomicUsize;
 use std::sync::atomic::Ordering::SeqCst;
 
-/// How often a call on a cell tries its exchange. crossbeam-epoch has no such bound.
+/// How often a call that places or reads a value tries its exchange on a cell. crossbeam-epoch has no such bound.
 pub const CELL_TRIES: u32 = 16;
 
 // The bound is raised by this many slots at once, since each time costs as much as many looks at slots.
@@ -47,14 +50,14 @@ const FAR: usize = 64;
 /// `P` is how values are put into slots: [`IntoSlots`].
 #[derive(Drop)]
 pub struct Cells<T, P = IntoSlots> {
-    slots: Vec<Slot<T>>,
+    slots: Vec<Line<T>>,
     // Where `place` begins to look. No slot before is free, but for those whose call is still under way, and those of
     // which the notes tell. After the times it costs looks, and no more.
-    first_free: AtomicUsize,
+    first_free: CachePadded<AtomicUsize>,
     // Where each position looks for free slots.
     notes: Notes,
     // Where a position looks that has no note left, modulo the number of slots.
-    next_far: AtomicUsize,
+    next_far: CachePadded<AtomicUsize>,
     // How many rooms a list of a position's participant keeps at most. Each has two lists, so that together they keep
     // at most a quarter of the slots.
     most_rooms: usize,
@@ -70,7 +73,7 @@ pub struct Cells<T, P = IntoSlots> {
 pub enum Removal {
     /// The value was there, and was dropped.
     Destroyed,
-    /// The value is there, and is read or written; or each try was lost to other threads. The value stays.
+    /// The value is there, and is read or written. It stays.
     HeldElsewhere,
     /// No value of that name is there.
     Gone,
@@ -101,16 +104,16 @@ impl<T: Drop> Cells<T> {
         ensures memory { IsOkUnless result NoMemory }
         ensures slots { IfOk result (λ cells. vec_len cells.slots ≡ capacity) }
     {
-        let notes = Notes::new(alloc, positions)?;
+        let notes = Notes::new(alloc, positions).map_err(|_| Fault::NoMemory)?;
         let mut slots = Vec::with_capacity(alloc, capacity as usize).map_err(|_| Fault::NoMemory)?;
         for index in 0..capacity {
             push(&mut slots, started(index + 1, start_turn))?;
         }
         Ok(Cells {
             slots,
-            first_free: AtomicUsize::new(0),
+            first_free: CachePadded::new(AtomicUsize::new(0)),
             notes,
-            next_far: AtomicUsize::new(0),
+            next_far: CachePadded::new(AtomicUsize::new(0)),
             most_rooms: most_rooms(capacity as usize, positions),
             puts: PhantomData,
         })
@@ -179,7 +182,7 @@ impl<T: Drop, P: Puts<T>> Cells<T, P> {
         let mut kept = value;
         for index in from..to {
             // One try: a slot whose exchange is lost was claimed by another thread, and the next slot is near.
-            match try_place::<T, P>(&slots[index], index as u32 + 1, kept) {
+            match try_place::<T, P>(slots[index].slot(), index as u32 + 1, kept) {
                 Ok(name) => {
                     if index - from >= NEAR_STRIDE {
                         let from = index + 1;
@@ -246,11 +249,12 @@ impl<T: Drop, P: Puts<T>> Cells<T, P> {
         self.notes.look_in(position, Span { from, to });
     }
 
-    // Notes this span, or lets the next position look there that has no note left.
+    // Notes the slots that were given free since the last note, if there is room for a note.
     #[inline(never)]
-    fn note(&self, position: usize, span: Span) {
-        if span.from < span.to && !self.notes.add(position, span) {
-            self.next_far.store(span.from, SeqCst);
+    fn note(&self, freed: &mut Freed<'_, '_, T>) {
+        let span = freed.span;
+        if span.from < span.to && !self.notes.add(freed.position, span) {
+            freed.unnoted = Some(span.from);
         }
     }
 
@@ -278,7 +282,7 @@ impl<T: Drop, P: Puts<T>> Cells<T, P> {
     fn free_near(&self, freed: &mut Freed<'_, '_, T>, name: Name) {
         let place = name.slot() as usize - 1;
         if !freed.span.takes_in(place) {
-            self.note(freed.position, freed.span);
+            self.note(freed);
             freed.span = Span {
                 from: place,
                 to: place + 1,
@@ -287,21 +291,28 @@ impl<T: Drop, P: Puts<T>> Cells<T, P> {
     }
 
     /// Notes the slots that were given free near their position, so that values are placed there next. Rooms aren't
-    /// noted: they are their owner's.
+    /// noted: they are their owner's. If there isn't room for all notes, the next position that has no note left looks
+    /// where one was left out.
     #[inline(never)]
     pub fn note_freed(&self, freed: Freed<'_, '_, T>) {
+        let mut freed = freed;
+        self.note(&mut freed);
         let Freed {
-            position,
-            span,
+            position: _,
+            span: _,
+            unnoted,
             rooms: _,
         } = freed;
-        self.note(position, span);
+        // Stored once for all: each store takes the word's cache line from the other threads.
+        if let Some(place) = unnoted {
+            self.next_far.store(place, SeqCst);
+        }
     }
 
     /// Takes the value of this name out of its cell, as [`Cells::take`] does, and keeps its slot as a room, if there is
     /// memory for it.
     ///
-    /// `None`: the value is gone, or is read or written, or each try was lost to other threads.
+    /// `None`: the value is gone, or is read or written.
     #[inline(always)]
     pub fn take_near<'a>(&'a self, rooms: &mut Rooms<'a, T>, name: Name) -> Option<Held<T>>
         ensures { IfSome result (λ held. held.name ≡ name) }
@@ -328,10 +339,10 @@ impl<T: Drop, P: Puts<T>> Cells<T, P> {
     {
         let mut kept = value;
         for index in from..to {
-            if !is_free(&self.slots[index]) {
+            if !is_free(self.slots[index].slot()) {
                 continue;
             }
-            match place_in::<T, P>(&self.slots[index], index as u32 + 1, kept) {
+            match place_in::<T, P>(self.slots[index].slot(), index as u32 + 1, kept) {
                 Ok(name) => return Ok(name),
                 Err((_, back)) => kept = back,
             }
@@ -359,7 +370,7 @@ impl<T: Drop, P: Puts<T>> Cells<T, P> {
             return;
         }
         for index in from..to {
-            if is_free(&self.slots[index]) {
+            if is_free(self.slots[index].slot()) {
                 self.lower(index);
                 return;
             }
@@ -381,7 +392,7 @@ impl<T: Drop, P: Puts<T>> Cells<T, P> {
     pub fn read(&self, name: Name) -> Option<Reading<'_, T>>
         ensures { IfSome result (λ reading. reading.name ≡ name) }
     {
-        let slot = self.slots.get(name.slot() as usize - 1)?;
+        let slot = self.slots.get(name.slot() as usize - 1)?.slot();
         for _ in 0..CELL_TRIES {
             match try_read(slot, name) {
                 Ok(reading) => return Some(reading),
@@ -394,7 +405,7 @@ impl<T: Drop, P: Puts<T>> Cells<T, P> {
 
     /// Lends the value of this name for writing. The writing must be given back, by [`Writing::leave`].
     ///
-    /// `None`: the value is gone, or is read or written, or each try was lost to other threads.
+    /// `None`: the value is gone, or is read or written.
     pub fn write(&self, name: Name) -> Option<Writing<'_, T>>
         ensures { IfSome result (λ writing. writing.name ≡ name) }
     {
@@ -403,7 +414,7 @@ impl<T: Drop, P: Puts<T>> Cells<T, P> {
 
     /// Takes the value of this name out of its cell. From then on the slot is free for its next turn.
     ///
-    /// `None`: the value is gone, or is read or written, or each try was lost to other threads.
+    /// `None`: the value is gone, or is read or written.
     #[inline(always)]
     pub fn take(&self, name: Name) -> Option<Box<T>> {
         Some(self.take_held(name)?.into_value())
@@ -453,7 +464,7 @@ impl<T: Drop, P: Puts<T>> Cells<T, P> {
         if index >= self.slots.len() {
             return Err(Miss::Gone);
         }
-        take_from(&self.slots[index], name)
+        try_take(self.slots[index].slot(), name)
     }
 
     #[inline(always)]
@@ -465,13 +476,7 @@ impl<T: Drop, P: Puts<T>> Cells<T, P> {
         if index >= self.slots.len() {
             return Err(Miss::Gone);
         }
-        for _ in 0..CELL_TRIES {
-            match try_write(&self.slots[index], name) {
-                Err(Miss::Lost) => {}
-                answer => return answer,
-            }
-        }
-        Err(Miss::Lost)
+        try_write(self.slots[index].slot(), name)
     }
 }
 
@@ -498,27 +503,6 @@ fn place_in<T: Drop, P: Puts<T>>(
         }
     }
     Err((Miss::Lost, kept))
-}
-
-// Tries to take the value of this name out of its slot, until all tries are lost.
-#[inline(always)]
-fn take_from<'a, T: Drop>(
-    slot: &'a Slot<T>,
-    name: Name,
-) -> Result<(Held<T>, Option<Room<'a, T>>), Miss>
-    requires numbered { slot.now ≡ name.slot }
-    ensures named { IfOk result (λ taken. taken.0.name ≡ name) }
-    ensures next { IfOk result (λ taken. IfSome taken.1
-        (λ room. (room.name.slot ≡ name.slot) × (room.name.turn ≡ name.turn + 1))) }
-{
-    for _ in 0..CELL_TRIES {
-        match try_take(slot, name) {
-            Ok(taken) => return Ok(taken),
-            Err(Miss::Lost) => {}
-            Err(miss) => return Err(miss),
-        }
-    }
-    Err(Miss::Lost)
 }
 
 // How many rooms a list of the participant of each of these positions keeps at most.

@@ -68,12 +68,17 @@ impl Capacities {
 ///
 /// Threads share it by `&`. It must be given back, by [`Collector::end`]. Collectors are told apart by the numbers with
 /// which they were made: if two have the same number, a guard of one is taken for a guard of the other.
+#[repr(C)]
 pub struct Collector<T, W = Work> {
+    // Each call reads the fields below. With this, and what comes last, no word of the owner's is in their cache lines,
+    // such as a pointer that threads exchange.
+    before: [u64; 8],
     pub(crate) id: u64,
     pub(crate) participants: Participants,
     pub(crate) places: SharedPlaces<Job<W>>,
     pub(crate) cells: Cells<T>,
     pub(crate) sizes: Sizes,
+    after: [u64; 8],
     pub(crate) ghost sized: { IsSized sizes },
     pub(crate) ghost positions: { sizes.positions ≡ participants.positions },
 }
@@ -139,11 +144,13 @@ impl<T: Drop, W: Drop> Collector<T, W> {
         // The places come last: to drop them again would ask that their bags' size be known.
         let places = SharedPlaces::new(alloc, capacities.bags as usize)?;
         Ok(Collector {
+            before: [0; 8],
             id,
             participants,
             places,
             cells,
             sizes,
+            after: [0; 8],
         })
     }
 }
@@ -158,11 +165,13 @@ impl<T: Drop, W: AtEnd<T>> Collector<T, W> {
         ensures called { CallsAllLeft W.closed W.done W.Removing.tried self.places result }
     {
         let Collector {
+            before: _,
             id: _,
             participants: _,
             places,
             cells,
             sizes: _,
+            after: _,
         } = self;
         let mut left = W::close(places);
         let count = end_left(&cells, &mut left);

@@ -79,8 +79,9 @@ impl<T> HasPlacing<InCells> for T {}
 /// in one that is found by a search near the participant. Under an unprotected guard the first position serves.
 ///
 /// `CellsFull`: every slot was seen used, retired, or kept by a participant elsewhere than with this guard. Each keeps
-/// at most 512 free cells, and at most a quarter of its share. The value is handed back. The clauses tell by [`Placing`] that the value was
-/// placed under the name that is returned.
+/// at most 512 free cells, and at most a quarter of its share. The value is handed back.
+///
+/// The clauses tell by [`Placing`] that the value was placed under the name that is returned.
 #[inline(always)]
 pub fn place_under<T: Drop + HasPlacing<M>, W, M: Placing<T>>(
     guard: &Guard<'_, T, W>,
@@ -99,7 +100,7 @@ pub fn place_under<T: Drop + HasPlacing<M>, W, M: Placing<T>>(
 
 /// Takes the value of this name out of its cell, and keeps the cell for the next value that is placed under the guard.
 ///
-/// `None`: the value is gone, or is read or written, or each try was lost to other threads.
+/// `None`: the value is gone, or is read or written.
 #[inline(always)]
 pub fn take_under<T: Drop, W>(guard: &Guard<'_, T, W>, name: Name) -> Option<Box<T>> {
     let Some(mut rooms) = guard.rooms.take() else {

@@ -119,8 +119,8 @@ impl<'c, 'q, 's, J: PostSet, T: Drop> LendingHandle<'c, 'q, 's, J, T> {
     /// gathered, they are deferred by one job, and then the handle is flushed as by `LocalHandle::flush`, so that this
     /// job needn't wait for 63 others. A flush that finds no place for the held bag leaves the bag as it was.
     ///
-    /// The guard must be this handle's. `NoMemory`, `BagsFull`: what was gathered is as before. `BagsFull` comes also if
-    /// `2^32 - 1` guards of the handle are out, since the job is deferred under one more.
+    /// The guard must be this handle's. `NoMemory`, `BagsFull`: what was gathered is as before. `BagsFull` also comes
+    /// if `2^32 - 1` guards of the handle are out, since the job is deferred under one more.
     #[inline(always)]
     pub fn make_room(&mut self, guard: &GuardOf<'_, 'q, 's, J, T>) -> Result<(), Fault>
         requires { Owns self.old.handle guard.now.guard }

@@ -200,8 +200,8 @@ impl<'s, J: PostSet, T: Drop> Lender<'s, J, T> {
         self.try_some();
     }
 
-    /// Takes the value at this spot back at once, if no reader is pinned, with the room that it leaves. `spare` is a bag
-    /// with room for one removal, or becomes one.
+    /// Takes the value at this spot back at once, if no reader is pinned, with the room that it leaves. `spare` is a
+    /// bag with room for one removal, or becomes one.
     ///
     /// `GuardsOut`: a reader was seen pinned, so a guard may have the value. Nothing is done; or else a reader pinned
     /// while the value was marked, and it is dropped as soon as no guard may have it. `NoMemory`: an allocation was

@@ -1,5 +1,5 @@
-//! Memory that is refused to a caller that makes a table, a store, a collector or a value. The tests of worlds show what
-//! a world leaves if memory is refused.
+//! Memory that is refused to a caller that makes a table, a store, a collector or a value. The tests of worlds show
+//! what a world leaves if memory is refused.
 ghost use Rattle.std.specs.Prelude.{◌≡◌, refl};
 ghost use Rattle.std.proofs.Common.{lit≤};
 

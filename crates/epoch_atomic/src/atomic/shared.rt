@@ -139,7 +139,7 @@ impl<'g, T: Pointable + Drop> Shared<'g, T> {
 
     /// Lends the value for writing. The writing must be given back, by `Writing::leave`.
     ///
-    /// `None`: the pointer is null; or its value is gone, or is read or written; or each try was lost to other threads.
+    /// `None`: the pointer is null; or its value is gone, or is read or written.
     pub fn deref_mut(&mut self) -> Option<Writing<'g, T>>
         ensures named { IfSome result (λ writing. Some writing.name ≡ self.old.name) }
         ensures same { self.new ≡ self.old }
@@ -150,8 +150,7 @@ impl<'g, T: Pointable + Drop> Shared<'g, T> {
 
     /// Takes the value out of its cell, with the pointer's tag. From then on every pointer of this name finds no value.
     ///
-    /// `None`: the pointer is null, whatever its tag is; or its value is gone, or is read or written; or each try was
-    /// lost to other threads.
+    /// `None`: the pointer is null, whatever its tag is; or its value is gone, or is read or written.
     #[inline(always)]
     pub fn try_into_owned(self) -> Option<Owned<T>>
         ensures tag { IfSome result (λ owned. owned.tag ≡ self.entry.tag) }

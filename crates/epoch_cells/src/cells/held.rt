@@ -1,5 +1,5 @@
 //! What stands in a cell, and the claims to read and to write it.
-ghost use Rattle.std.specs.Prelude.{◌≡◌, ◌≢◌, ◌+◌, ◌*◌, ◌/◌, ◌%◌, ◌<◌, ◌≤◌, IsSomeAnd, IfSome, IfOk, IfErr, []};
+ghost use Rattle.std.specs.Prelude.{ℕ, ◌≡◌, ◌≢◌, ◌+◌, ◌*◌, ◌/◌, ◌%◌, ◌<◌, ◌≤◌, IsSomeAnd, IfSome, IfOk, IfErr, []};
 ghost use Rattle.std.specs.Borrow.{Lends, sem};
 ghost use mir.Syntax.{named};
 ghost use Rattle.epoch_cells.specs.declared.cells.name.Name.{Name};
@@ -9,6 +9,7 @@ use crate::cells::name::Name;
 use crate::cells::word::{readers_of, state_of, turn_of, vacant, word_of};
 use counted_slot::{Claim, Counted, FREE, Fits, MOST_READERS, ONE_READER, PRESENT, TAKEN};
 use epoch_claims::{Kept, replace};
+use std::marker::Model;
 
 /// A value's box beside its own name: what stands in a cell, and what is taken out of one.
 #[derive(Drop)]
@@ -55,6 +56,32 @@ impl<T> Fits for Held<T> {
 
 /// A slot: `None` if it has no value. A clause sees a slot as its number.
 pub type Slot<T> = Counted<Option<Held<T>>>;
+
+/// A slot, and what keeps the next one out of its cache line of 64 bytes, so that threads at neighbouring slots don't
+/// slow each other down.
+#[derive(Drop)]
+#[repr(C)]
+pub struct Line<T> {
+    slot: Slot<T>,
+    after: [u64; 4],
+}
+
+// A clause sees it as its slot.
+impl<T> Model for Line<T> {
+    ghost Value = { ℕ };
+
+    ghost view = { λ line. line.slot };
+}
+
+impl<T> Line<T> {
+    /// Returns the slot.
+    #[inline(always)]
+    pub fn slot(&self) -> &Slot<T>
+        ensures { result.now ≡ self.now }
+    {
+        &self.slot
+    }
+}
 
 /// How a value is put into the slot that was claimed for it.
 pub trait Puts<T> {
@@ -189,8 +216,8 @@ impl<'a, T: Drop> Writing<'a, T> {
     }
 }
 
-/// Returns the slot of this number, which begins at this turn.
-pub fn started<T: Drop>(number: u32, start_turn: u32) -> Slot<T>
+/// Returns the line with the slot of this number, which begins at this turn.
+pub fn started<T: Drop>(number: u32, start_turn: u32) -> Line<T>
     ensures { result ≡ number }
 {
     let slot = Counted::new(None, &number);
@@ -200,7 +227,10 @@ pub fn started<T: Drop>(number: u32, start_turn: u32) -> Slot<T>
     } else {
         claim.done();
     }
-    slot
+    Line {
+        slot,
+        after: [0; 4],
+    }
 }
 
 /// Returns whether a value can be placed there.
@@ -237,6 +267,15 @@ pub fn try_place<T: Drop, P: Puts<T>>(
     Ok(name)
 }
 
+// Why the value of this name can't be claimed in its slot, which had this word.
+fn miss_of(word: u64, name: Name) -> Miss {
+    if turn_of(word) != name.turn() || state_of(word) == FREE {
+        Miss::Gone
+    } else {
+        Miss::Held
+    }
+}
+
 /// Tries once to claim the value of this name for reading.
 #[inline(always)]
 pub fn try_read<'a, T: Drop>(slot: &'a Slot<T>, name: Name) -> Result<Reading<'a, T>, Miss>
@@ -246,11 +285,11 @@ pub fn try_read<'a, T: Drop>(slot: &'a Slot<T>, name: Name) -> Result<Reading<'a
     // An exchange waits for all that comes before it: so the word without a reader, which is met most, is told by one
     // comparison.
     if seen != word_of(name.turn(), PRESENT) {
-        if turn_of(seen) != name.turn() || state_of(seen) == FREE {
-            return Err(Miss::Gone);
-        }
-        if state_of(seen) != PRESENT || readers_of(seen) == MOST_READERS {
-            return Err(Miss::Held);
+        if turn_of(seen) != name.turn()
+            || state_of(seen) != PRESENT
+            || readers_of(seen) == MOST_READERS
+        {
+            return Err(miss_of(seen, name));
         }
     }
     let (found, claim) = slot.turn(seen, seen + ONE_READER);
@@ -282,17 +321,12 @@ fn try_claim<'a, T: Drop>(
     ensures claim { IfOk result (λ claimed. (claimed.0.right ≡ 2) × (claimed.0.tag ≡ slot.now)) }
     ensures named { IfOk result (λ claimed. claimed.1.name ≡ name) }
 {
-    let seen = slot.load();
-    if seen != word_of(name.turn(), PRESENT) {
-        if turn_of(seen) != name.turn() || state_of(seen) == FREE {
-            return Err(Miss::Gone);
-        }
-        return Err(Miss::Held);
-    }
-    let (found, claim) = slot.turn(seen, taken);
-    if found != seen {
+    // The word isn't looked at first: the exchange would wait for that, and a value is seldom held or gone.
+    let present = word_of(name.turn(), PRESENT);
+    let (found, claim) = slot.turn(present, taken);
+    if found != present {
         claim.done();
-        return Err(Miss::Lost);
+        return Err(miss_of(found, name));
     }
     let (claim, content) = replace(claim, None);
     match content {
@@ -300,10 +334,10 @@ fn try_claim<'a, T: Drop>(
             if held.name == name {
                 return Ok((claim, held));
             }
-            let _ = claim.put(Some(held), seen);
+            let _ = claim.put(Some(held), present);
         }
         None => {
-            let _ = claim.put(None, seen);
+            let _ = claim.put(None, present);
         }
     }
     Err(Miss::Gone)

@@ -1,16 +1,11 @@
-//! Notes of free slots, near each participant: which slots its own removals gave free.
+//! What the notes are, and the words that keep them.
 //!
 //! A note is a span of slots. It says where to look, and nothing more: whether a slot is free, its own word says.
 //! So a note may be stale, or get lost. A look at a slot is what a stale one costs.
 //!
 //! Each position has a line of words: the span in which it looks, then how many other spans are noted, and then those,
 //! the newest last. Where all calls at a position are made by one thread, no other thread writes its line.
-ghost use Rattle.std.specs.Prelude.{◌≡◌, IsOkUnless};
-ghost use Rattle.epoch_cells.specs.declared.fault.Fault.TheVariants.{NoMemory};
-
-use crate::cells::rooms::Rooms;
-use crate::fault::Fault;
-use std::alloc::Global;
+use std::alloc::{AllocError, Global};
 use std::sync::atomic::AtomicU64;
 use std::sync::atomic::Ordering::SeqCst;
 
@@ -32,28 +27,6 @@ pub struct Span {
     pub to: usize,
 }
 
-/// Slots that the removals of one position gave free: those that its participant keeps as rooms, and others, which
-/// aren't noted yet.
-///
-/// It must be given back, by [`Cells::note_freed`](crate::Cells::note_freed).
-pub struct Freed<'r, 'a, T> {
-    pub(crate) position: usize,
-    pub(crate) span: Span,
-    pub(crate) rooms: &'r mut Rooms<'a, T>,
-}
-
-impl<'r, 'a, T> Freed<'r, 'a, T> {
-    /// Begins with no slot, near this position, beside these rooms.
-    #[inline(always)]
-    pub fn none(position: usize, rooms: &'r mut Rooms<'a, T>) -> Freed<'r, 'a, T> {
-        Freed {
-            position,
-            span: Span { from: 0, to: 0 },
-            rooms,
-        }
-    }
-}
-
 impl Span {
     /// Takes the slot at this place in, where it is one of the span's, or stands close behind it.
     #[inline(always)]
@@ -73,18 +46,14 @@ pub struct Notes {
 }
 
 impl Notes {
-    /// Makes room for the notes of this many positions.
-    ///
-    /// `NoMemory`: an allocation was refused.
-    pub fn new(alloc: Global, positions: usize) -> Result<Notes, Fault>
-        ensures memory { IsOkUnless result NoMemory }
-    {
+    /// Makes room for the notes of this many positions. The only error is an allocation that was refused.
+    pub fn new(alloc: Global, positions: usize) -> Result<Notes, AllocError> {
         let mut words = Vec::new(alloc);
         for _ in 0..positions {
             for _ in 0..STEP {
                 match words.push(AtomicU64::new(0)) {
                     Ok(()) => {}
-                    Err(_) => return Err(Fault::NoMemory),
+                    Err(_) => return Err(AllocError),
                 }
             }
         }
