@@ -51,6 +51,9 @@ pub trait Run: Drop {
     /// How the values are removed whose removal is deferred: [`FromCells`].
     type Removing: Remove;
 
+    /// Whether the collectors of such work have cells. If not, their participants keep no free ones.
+    const HAS_CELLS: bool;
+
     /// It was called. If the type is a parameter, nothing but a call shows it.
     ghost done: { Self → Type 0 };
 
@@ -72,6 +75,8 @@ pub struct Work {
 
 impl Run for Work {
     type Removing = FromCells;
+
+    const HAS_CELLS: bool = true;
 
     ghost done = { λ work. post work.run tt };
 

@@ -71,11 +71,12 @@ impl Capacities {
 #[repr(C)]
 pub struct Collector<T, W = Work> {
     // Each call reads the fields below. With this, and what comes last, no word of the owner's is in their cache lines,
-    // such as a pointer that threads exchange.
-    before: [u64; 8],
-    pub(crate) id: u64,
+    // such as a pointer that threads exchange, if the collector begins at a multiple of 16 bytes. One word more, and
+    // the places' address would be beyond the first 128 bytes, where a load of it is three bytes longer.
+    before: [u64; 6],
     pub(crate) participants: Participants,
     pub(crate) places: SharedPlaces<Job<W>>,
+    pub(crate) id: u64,
     pub(crate) cells: Cells<T>,
     pub(crate) sizes: Sizes,
     after: [u64; 8],
@@ -144,7 +145,7 @@ impl<T: Drop, W: Drop> Collector<T, W> {
         // The places come last: to drop them again would ask that their bags' size be known.
         let places = SharedPlaces::new(alloc, capacities.bags as usize)?;
         Ok(Collector {
-            before: [0; 8],
+            before: [0; 6],
             id,
             participants,
             places,

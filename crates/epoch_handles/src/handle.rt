@@ -475,7 +475,7 @@ impl<'c, T: Drop, W: Run> LocalHandle<'c, T, W> {
         Guard {
             collector: self.local.collector,
             position: Some(self.local.position),
-            rooms: GuardRooms::new(self.rooms.give(first)),
+            rooms: GuardRooms::new(self.rooms.give(W::HAS_CELLS && first)),
         }
     }
 }

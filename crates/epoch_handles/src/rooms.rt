@@ -94,10 +94,23 @@ impl<'c, T: Drop> OwnRooms<'c, T> {
         }
     }
 
-    /// Takes out the list for what a collection frees, and makes it if there is none: `None` if that was refused.
+    /// Takes out a list for what a collection frees: one that isn't full, if there is one. Lists that aren't there yet
+    /// are made. `None`: memory for the first one was refused.
     pub(crate) fn receiving(&mut self, cells: &'c Cells<T>) -> Option<Box<Rooms<'c, T>>> {
         self.begin(cells);
-        self.next.take()
+        let next = self.next.take()?;
+        if !next.is_full() {
+            return Some(next);
+        }
+        let other = match self.spare.take() {
+            Some(spare) => Some(spare),
+            None => cells.rooms(),
+        };
+        let Some(other) = other else {
+            return Some(next);
+        };
+        self.next = Some(next);
+        Some(other)
     }
 }
 

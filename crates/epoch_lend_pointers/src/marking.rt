@@ -24,6 +24,8 @@ pub struct Marking<'q, 's, J: PostSet, T> {
 impl<'q, 's, J: PostSet, T: Drop> Run for Marking<'q, 's, J, T> {
     type Removing = FromCells;
 
+    const HAS_CELLS: bool = false;
+
     ghost done = { λ _. Unit {0} };
 
     fn call(self) {

@@ -45,6 +45,12 @@ impl<'a, T> Rooms<'a, T> {
         self.list.len()
     }
 
+    /// Returns whether it keeps rooms, and as many as it may.
+    #[inline(always)]
+    pub fn is_full(&self) -> bool {
+        !self.list.is_empty() && self.list.len() >= self.most
+    }
+
     /// Returns whether it has memory for rooms: whether it was given one to keep.
     #[inline(always)]
     pub fn has_memory(&self) -> bool {

@@ -105,7 +105,12 @@ impl<'c, T: Drop, W: Run> Local<'c, T, W> {
             → self.old.machine.stage ≡ after_job self.old.machine expiry taken self.old.machine.hand
             → CallsHand W.done W.Removing.tried self.old expiry taken self.new }
     {
-        match rooms.receiving(&self.collector.cells) {
+        let list = if W::HAS_CELLS {
+            rooms.receiving(&self.collector.cells)
+        } else {
+            None
+        };
+        match list {
             Some(list) => {
                 let mut list = list;
                 self.call_hand_into(&mut list);

@@ -130,7 +130,9 @@ impl<'c, T: Drop, W: Run> Local<'c, T, W> {
             return;
         }
         self.collect(rooms);
-        rooms.begin(&self.collector.cells);
+        if W::HAS_CELLS {
+            rooms.begin(&self.collector.cells);
+        }
         self.machine.end();
     }
 }
