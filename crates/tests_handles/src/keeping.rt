@@ -161,6 +161,35 @@ fn a_cell_that_is_kept_is_free_for_others_when_its_participant_is_released(rt: H
     end(&rt, collector, 0);
 }
 
+/// Two values are placed, and their removals deferred, each in a bag of its own.
+fn remove_in_two_bags(rt: &impl Abort, alloc: Global, handle: &mut LocalHandle<'_, u64>) {
+    let guard = pin(rt, handle);
+    let first = place(rt, alloc, &guard, (1, 0));
+    let second = place(rt, alloc, &guard, (2, 0));
+    remove(rt, handle, &guard, first);
+    flush(rt, handle, &guard, Ok(()));
+    remove(rt, handle, &guard, second);
+    flush(rt, handle, &guard, Ok(()));
+    unpin(rt, handle, guard);
+}
+
+#[test]
+fn a_collection_that_has_filled_one_list_with_cells_fills_the_other(rt: HostRuntime) {
+    let alloc = rt.alloc();
+    // With two participants, a list of each takes one of sixteen cells.
+    let collector = collector::<u64>(&rt, alloc, Capacities::usual(2, 16, 2));
+    let (mut first, mut second) = (register(&rt, &collector), register(&rt, &collector));
+    remove_in_two_bags(&rt, alloc, &mut first);
+    collect(&rt, &mut first);
+    let guard = pin(&rt, &mut second);
+    place_in_all(&rt, alloc, &guard, 14);
+    release(&rt, first);
+    place_in_all(&rt, alloc, &guard, 2);
+    unpin(&rt, &mut second, guard);
+    release(&rt, second);
+    end(&rt, collector, 0);
+}
+
 #[test]
 fn a_nested_guard_and_one_that_was_paused_find_the_cells_that_are_left(rt: HostRuntime) {
     let alloc = rt.alloc();
