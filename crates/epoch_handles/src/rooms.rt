@@ -94,9 +94,14 @@ impl<'c, T: Drop> OwnRooms<'c, T> {
         }
     }
 
-    /// Takes out a list for what a collection frees: one that isn't full, if there is one. Lists that aren't there yet
-    /// are made. `None`: memory for the first one was refused.
-    pub(crate) fn receiving(&mut self, cells: &'c Cells<T>) -> Option<Box<Rooms<'c, T>>> {
+    /// Takes out a list for what a collection frees: one that isn't full, if there is one. The first list is made if it
+    /// isn't here. The second one is made only if no guard is out, since a guard may have it. `None`: memory for the
+    /// first one was refused.
+    pub(crate) fn receiving(
+        &mut self,
+        cells: &'c Cells<T>,
+        guards_out: bool,
+    ) -> Option<Box<Rooms<'c, T>>> {
         self.begin(cells);
         let next = self.next.take()?;
         if !next.is_full() {
@@ -104,6 +109,7 @@ impl<'c, T: Drop> OwnRooms<'c, T> {
         }
         let other = match self.spare.take() {
             Some(spare) => Some(spare),
+            None if guards_out => None,
             None => cells.rooms(),
         };
         let Some(other) = other else {

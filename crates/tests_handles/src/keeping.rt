@@ -162,30 +162,86 @@ fn a_cell_that_is_kept_is_free_for_others_when_its_participant_is_released(rt: H
 }
 
 /// Two values are placed, and their removals deferred, each in a bag of its own.
-fn remove_in_two_bags(rt: &impl Abort, alloc: Global, handle: &mut LocalHandle<'_, u64>) {
-    let guard = pin(rt, handle);
-    let first = place(rt, alloc, &guard, (1, 0));
-    let second = place(rt, alloc, &guard, (2, 0));
-    remove(rt, handle, &guard, first);
-    flush(rt, handle, &guard, Ok(()));
-    remove(rt, handle, &guard, second);
-    flush(rt, handle, &guard, Ok(()));
-    unpin(rt, handle, guard);
+fn remove_in_two_bags(
+    rt: &impl Abort,
+    alloc: Global,
+    handle: &mut LocalHandle<'_, u64>,
+    guard: &Guard<'_, u64>,
+) {
+    let first = place(rt, alloc, guard, (1, 0));
+    let second = place(rt, alloc, guard, (2, 0));
+    remove(rt, handle, guard, first);
+    flush(rt, handle, guard, Ok(()));
+    remove(rt, handle, guard, second);
+    flush(rt, handle, guard, Ok(()));
+}
+
+/// Pins so often that four of the pins collect.
+fn pin_often(rt: &impl Abort, handle: &mut LocalHandle<'_, u64>) {
+    for _ in 0..512u64 {
+        let guard = pin(rt, handle);
+        unpin(rt, handle, guard);
+    }
 }
 
 #[test]
-fn a_collection_that_has_filled_one_list_with_cells_fills_the_other(rt: HostRuntime) {
+fn a_pin_that_has_filled_one_list_with_cells_fills_the_other(rt: HostRuntime) {
     let alloc = rt.alloc();
     // With two participants, a list of each takes one of sixteen cells.
     let collector = collector::<u64>(&rt, alloc, Capacities::usual(2, 16, 2));
     let (mut first, mut second) = (register(&rt, &collector), register(&rt, &collector));
-    remove_in_two_bags(&rt, alloc, &mut first);
-    collect(&rt, &mut first);
+    let guard = pin(&rt, &mut first);
+    remove_in_two_bags(&rt, alloc, &mut first, &guard);
+    unpin(&rt, &mut first, guard);
+    pin_often(&rt, &mut first);
     let guard = pin(&rt, &mut second);
     place_in_all(&rt, alloc, &guard, 14);
     release(&rt, first);
     place_in_all(&rt, alloc, &guard, 2);
     unpin(&rt, &mut second, guard);
+    release(&rt, second);
+    end(&rt, collector, 0);
+}
+
+/// Two values are placed and taken back: cell 3 is kept, and cell 4 is free for all.
+fn keep_third(rt: &impl Abort, alloc: Global, guard: &Guard<'_, u64>) {
+    let third = place(rt, alloc, guard, (3, 0));
+    let fourth = place(rt, alloc, guard, (4, 0));
+    take(rt, third, guard, Some(6));
+    take(rt, fourth, guard, Some(6));
+}
+
+/// Pins and flushes.
+fn pin_and_flush<'c>(rt: &impl Abort, handle: &mut LocalHandle<'c, u64>) -> Guard<'c, u64> {
+    let guard = pin(rt, handle);
+    flush(rt, handle, &guard, Ok(()));
+    guard
+}
+
+// A guard has one list, and a flush under it fills the other. A third one would keep cell 2.
+#[test]
+fn a_flush_under_a_guard_that_has_a_list_fills_only_the_other(rt: HostRuntime) {
+    let alloc = rt.alloc();
+    // With two participants, a list of each takes one of sixteen cells.
+    let collector = collector::<u64>(&rt, alloc, Capacities::usual(2, 16, 2));
+    let (mut first, mut second) = (register(&rt, &collector), register(&rt, &collector));
+    // While the second one is pinned, both bags get the same epoch.
+    let holding = pin(&rt, &mut second);
+    let guard = pin(&rt, &mut first);
+    remove_in_two_bags(&rt, alloc, &mut first, &guard);
+    keep_third(&rt, alloc, &guard);
+    unpin(&rt, &mut first, guard);
+    unpin(&rt, &mut second, holding);
+    let guard = pin_and_flush(&rt, &mut first);
+    unpin(&rt, &mut first, guard);
+    // Now both bags are expired, and cell 1 is kept.
+    let guard = pin_and_flush(&rt, &mut first);
+    let other = pin(&rt, &mut second);
+    place_in_all(&rt, alloc, &other, 14);
+    place_in_all(&rt, alloc, &guard, 1);
+    unpin(&rt, &mut second, other);
+    unpin(&rt, &mut first, guard);
+    release(&rt, first);
     release(&rt, second);
     end(&rt, collector, 0);
 }

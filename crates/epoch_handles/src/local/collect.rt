@@ -105,8 +105,9 @@ impl<'c, T: Drop, W: Run> Local<'c, T, W> {
             → self.old.machine.stage ≡ after_job self.old.machine expiry taken self.old.machine.hand
             → CallsHand W.done W.Removing.tried self.old expiry taken self.new }
     {
+        let guards_out = self.machine.guards() > 0;
         let list = if W::HAS_CELLS {
-            rooms.receiving(&self.collector.cells)
+            rooms.receiving(&self.collector.cells, guards_out)
         } else {
             None
         };
