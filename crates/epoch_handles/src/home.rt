@@ -77,6 +77,8 @@ impl<T> HasPlacing<InCells> for T {}
 
 /// Places the value in a cell of the guard's collector: in a free one that its participant keeps, by one store, or else
 /// in one that is found by a search near the participant. Under an unprotected guard the first position serves.
+/// In a cell that was kept, a value of at most 64 bytes may be moved to memory that its participant keeps, and the
+/// box's own memory is freed.
 ///
 /// `CellsFull`: every slot was seen used, retired, or kept by a participant elsewhere than with this guard. Each keeps
 /// at most 512 free cells, and at most a quarter of its share. The value is handed back.
@@ -91,11 +93,13 @@ pub fn place_under<T: Drop + HasPlacing<M>, W, M: Placing<T>>(
     ensures slot { IfOk result (λ name. name.slot ≤ vec_len guard.now.collector.now.cells.slots) }
     ensures placed { IfOk result (λ name. M.placed value.value name) }
 {
-    if let Some(room) = guard.next_room() {
-        return Ok(M::place_in(room, value));
+    match guard.room_for(value) {
+        Ok((room, moved)) => Ok(M::place_in(room, moved)),
+        Err(value) => {
+            let position = guard.position.unwrap_or(0);
+            M::place(&guard.collector.cells, position, value)
+        }
     }
-    let position = guard.position.unwrap_or(0);
-    M::place(&guard.collector.cells, position, value)
 }
 
 /// Takes the value of this name out of its cell, and keeps the cell for the next value that is placed under the guard.

@@ -1,5 +1,5 @@
 //! Free cells that a participant keeps for the values that it places.
-ghost use Rattle.std.specs.Prelude.{◌≤◌, IfSome, vec_len};
+ghost use Rattle.std.specs.Prelude.{◌≡◌, ◌≤◌, IfErr, IfOk, vec_len};
 
 use crate::guard::Guard;
 use epoch_cells::{Cells, Room, Rooms};
@@ -165,20 +165,28 @@ impl<'c, T: Drop> GuardRooms<'c, T> {
 }
 
 impl<'c, T: Drop, W> Guard<'c, T, W> {
-    /// Takes a room out of the guard's list, if there is one.
+    /// Takes a room for this value out of the guard's list, and moves the value to memory that the list keeps, as
+    /// [`Rooms::move_to_kept`] does. `Err`: there is no room, and the value is handed back.
     #[inline(always)]
-    pub(crate) fn next_room(&self) -> Option<Room<'c, T>>
-        ensures { IfSome result (λ room. room.name.slot ≤ vec_len self.now.collector.now.cells.slots) }
+    pub(crate) fn room_for(&self, value: Box<T>) -> Result<(Room<'c, T>, Box<T>), Box<T>>
+        ensures slot { IfOk result (λ found. found.0.name.slot ≤ vec_len self.now.collector.now.cells.slots) }
+        ensures value { IfOk result (λ found. found.1.value ≡ value.value) }
+        ensures handed_back { IfErr result (λ back. back ≡ value) }
     {
-        let mut rooms = self.rooms.take()?;
-        let next = rooms.next();
-        self.rooms.put(Some(rooms));
-        let room = next?;
+        let Some(mut rooms) = self.rooms.take() else {
+            return Err(value);
+        };
+        let Some(room) = rooms.next() else {
+            self.rooms.put(Some(rooms));
+            return Err(value);
+        };
         // For the prover, which doesn't know whose rooms these are.
-        if room.name().slot() as usize <= self.collector.cells.capacity() {
-            Some(room)
-        } else {
-            None
+        if room.name().slot() as usize > self.collector.cells.capacity() {
+            self.rooms.put(Some(rooms));
+            return Err(value);
         }
+        let moved = rooms.move_to_kept(value);
+        self.rooms.put(Some(rooms));
+        Ok((room, moved))
     }
 }

@@ -5,9 +5,13 @@ use crate::cells::held::Room;
 use epoch_boxes::{Emptied, empty};
 use std::alloc::{AllocFailed, Global};
 use std::marker::Model;
+use std::mem::size_of_val;
 
 /// How many rooms one owner keeps at most.
 pub const MOST_ROOMS: usize = 256;
+
+// As many bytes as a cache line has. A larger value isn't moved.
+const MOST_MOVED: usize = 64;
 
 /// Rooms that one owner keeps, the newest one last, and memory for as many values. If they are dropped, their slots are
 /// free for all callers, and the memory is freed.
@@ -77,6 +81,26 @@ impl<'a, T> Rooms<'a, T> {
 }
 
 impl<'a, T: Drop> Rooms<'a, T> {
+    /// Moves the value into memory that is kept, and frees the memory that it came in. It stays where it is if it is
+    /// larger than a cache line, or if no more memory is kept than the rooms here have use for.
+    ///
+    /// The allocator gives the freed memory to the next value at once. If kept memory were freed in its place, it would
+    /// go back to the allocator with that of a whole bag, and from there to other threads.
+    #[inline(always)]
+    pub fn move_to_kept(&mut self, whole: Box<T>) -> Box<T>
+        ensures { result.value ≡ whole.value }
+    {
+        if size_of_val(&*whole) > MOST_MOVED || self.emptied.len() <= self.list.len() {
+            return whole;
+        }
+        let Some(memory) = self.emptied.pop() else {
+            return whole;
+        };
+        let (value, made) = empty(whole);
+        drop(made);
+        memory.fill(value)
+    }
+
     // Takes memory for the rooms, if it has memory for none yet. If it is refused, none is kept.
     #[cold]
     #[inline(never)]
