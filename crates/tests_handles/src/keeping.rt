@@ -269,18 +269,30 @@ fn a_nested_guard_and_one_that_was_paused_find_the_cells_that_are_left(rt: HostR
     end(&rt, collector, 0);
 }
 
+/// How a value comes into memory before it is placed.
+#[derive(Clone, Copy, PartialEq)]
+enum Made {
+    /// Into memory that was kept, if there is some.
+    UnderGuard,
+    /// Into memory of its own.
+    Apart,
+}
+
 /// Swaps a value with this number in, removes the one before, and flushes.
 fn replace_counted(
     rt: &impl Abort,
     alloc: Global,
     handle: &mut LocalHandle<'_, Counted>,
     atomic: &Atomic<Counted>,
-    drops: &Arc<AtomicU64>,
-    number: u64,
+    made: Made,
+    value: Counted,
 ) {
     let guard = pin(rt, handle);
-    let made = Owned::new_under(alloc, new_counted(rt, drops, number), &guard);
-    let owned = want_ok(rt, "memory for a value", made);
+    let owned = match made {
+        Made::UnderGuard => Owned::new_under(alloc, value, &guard),
+        Made::Apart => Owned::new(alloc, value),
+    };
+    let owned = want_ok(rt, "memory for a value", owned);
     let new = want_ok(rt, "a cell is free", owned.into_shared(&guard));
     let swapped = atomic.swap(new, SeqCst, &guard);
     let before = want_ok(rt, "a pointer takes no cell", swapped);
@@ -291,20 +303,31 @@ fn replace_counted(
     unpin(rt, handle, guard);
 }
 
-// A value adds its number to the drops.
+/// 200 values with the numbers from 1 to 200 replace one another, and the last one is left to the end. A value adds its
+/// number to the drops.
+fn replace_200(rt: &impl Abort, alloc: Global, made: Made) {
+    let drops = count(rt, alloc);
+    let collector = collector::<Counted>(rt, alloc, Capacities::usual(1, 64, 16));
+    let mut handle = register(rt, &collector);
+    let atomic = Atomic::<Counted>::null();
+    for number in 1..201u64 {
+        let value = new_counted(rt, &drops, number);
+        replace_counted(rt, alloc, &mut handle, &atomic, made, value);
+    }
+    release(rt, handle);
+    drop(atomic);
+    let _ = collector.end();
+    want_count(rt, "drops at the end", &drops, 20_100);
+}
+
 #[test]
 fn values_in_memory_that_was_kept_are_dropped_whole_and_once(rt: HostRuntime) {
     let alloc = rt.alloc();
-    let drops = count(&rt, alloc);
-    let collector = collector::<Counted>(&rt, alloc, Capacities::usual(1, 64, 16));
-    let mut handle = register(&rt, &collector);
-    let atomic = Atomic::<Counted>::null();
-    for number in 1..201u64 {
-        replace_counted(&rt, alloc, &mut handle, &atomic, &drops, number);
-    }
-    release(&rt, handle);
-    drop(atomic);
-    let _ = collector.end();
-    // The numbers from 1 to 200.
-    want_count(&rt, "drops at the end", &drops, 20_100);
+    replace_200(&rt, alloc, Made::UnderGuard);
+}
+
+#[test]
+fn values_that_are_moved_to_kept_memory_are_dropped_whole_and_once(rt: HostRuntime) {
+    let alloc = rt.alloc();
+    replace_200(&rt, alloc, Made::Apart);
 }
