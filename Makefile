@@ -3,30 +3,33 @@ ARGS ?= queue 3 4
 
 PICTURES = grace stall full held queue
 
-.PHONY: help run threads try draw pictures test refute beside beside-histories
+.PHONY: help run threads try draw pictures map test refute take beside beside-histories
 
 help:
-	@echo 'make try      compiles what runs a script, and runs one; proves nothing                20 s'
-	@echo 'make run      proves and builds what a script needs, and runs the script 15 min at first, then seconds'
-	@echo 'make threads  proves and builds what runs on threads need, too, and makes the run that ARGS'
-	@echo '              asks for           25 min at first, then seconds'
-	@echo 'make draw     draws the run of a script to out/run.svg; proves nothing                 20 s'
+	@echo 'make try      compiles what runs a script, and runs it; proves nothing              20 s, then 1 s'
+	@echo 'make draw     draws the run of a script to out/run.svg; proves nothing              20 s, then 1 s'
+	@echo 'make run      proves and builds what a script needs, and runs the script          15 min, then 1 s'
+	@echo 'make threads  proves and builds what threads need, and makes the run that ARGS'
+	@echo '              asks for: threads, a stack or a queue                               25 min, then 1 s'
 	@echo 'make test     the merge gate: every proof, every test, and the wrong bodies of'
-	@echo '              crates/*/must-fail, each of which must be refused; proves everything from'
-	@echo '              scratch each time                                              80 min and more'
-	@echo 'make refute   tries the other wrong bodies, those of crates/*/refuted        an hour and more'
-	@echo 'make pictures draws the pictures of the documents anew                                  1 min'
-	@echo 'make beside   times this library and crossbeam-epoch in turn: beside/README.md says what'
-	@echo '              must be installed     25 min at first for the proofs, then 5 min'
-	@echo 'make beside-histories   gives random scripts to both, and compares which jobs they call;'
-	@echo '              15 min at first for the proofs, then 72 s for 10,000,000 LINES'
+	@echo '              crates/*/must-fail, each of which must be refused. It proves everything'
+	@echo '              from scratch each time                                               80 min and more'
+	@echo 'make refute   tries the other wrong bodies, those of crates/*/refuted             an hour and more'
+	@echo 'make pictures draws the pictures of the documents anew                                        30 s'
+	@echo 'make map      writes the map of the crates into docs/ARCHITECTURE.md anew                      1 s'
+	@echo 'make take     copies the crates WHAT, and what they stand on, into the repository TO       seconds'
+	@echo 'make beside   times this library and crossbeam-epoch in turn; beside/README.md'
+	@echo '              says what must be installed                                       25 min, then 5 min'
+	@echo 'make beside-histories  gives random scripts to both, and compares which jobs they call'
+	@echo '                                                            15 min, then 72 s for 10,000,000 LINES'
 	@echo
 	@echo 'INPUT=FILE    the script of try, run and draw, instead of crates/epoch_run_script/stdin'
 	@echo "ARGS='WORDS'  the arguments of threads, instead of 'queue 3 4'"
+	@echo "WHAT='CRATES' TO=FOLDER   what take copies, and where to"
 	@echo 'CRATE=NAME    the crate of refute, instead of all'
 	@echo 'ROWS=REGEX THREADS=1,4 PASSES=10    which rows beside measures, and how often'
 	@echo 'LINES=N SEED=S                      how long the scripts of beside-histories are, and which'
-	@echo 'Times are of 4 slow processors; docs/PERFORMANCE.md says what they depend on.'
+	@echo 'Times are of a first run and of later ones, on 4 slow processors; docs/PERFORMANCE.md says what they depend on.'
 
 ifeq ($(shell command -v rt),)
 $(error rt, the command of the Rattle toolchain, is missing: put its folder on PATH)
@@ -41,14 +44,12 @@ threads:
 	@tools/prove.py epoch_run && cd crates/epoch_run && rt run -- $(ARGS)
 
 try:
-	@echo 'This proves nothing: the program is only compiled and run, in about 20 seconds on 4 processors.' >&2
-	@script=$$(realpath "$(INPUT)") && cd crates/epoch_run_script && rt try < "$$script"
+	@tools/try.py epoch_run_script < "$(INPUT)"
 
 draw:
-	@echo 'This proves nothing: the program is only compiled and run, in about 20 seconds on 4 processors.' >&2
-	@mkdir -p out && script=$$(realpath "$(INPUT)") && cd crates/epoch_draw && \
-	  if rt try < "$$script" > ../../out/run.svg.part; then mv ../../out/run.svg.part ../../out/run.svg; \
-	  else status=$$?; rm -f ../../out/run.svg.part; exit $$status; fi
+	@mkdir -p out
+	@if tools/try.py epoch_draw < "$(INPUT)" > out/run.svg.part; then mv out/run.svg.part out/run.svg; \
+	  else status=$$?; rm -f out/run.svg.part; exit $$status; fi
 	@echo 'The picture is out/run.svg.' >&2
 
 pictures:
@@ -56,17 +57,25 @@ pictures:
 	  $(MAKE) -s draw INPUT=crates/tests_draw/data/$$name.txt && cp out/run.svg crates/tests_draw/data/$$name.svg && cp out/run.svg docs/pictures/$$name.svg || exit 1; \
 	done
 
+map:
+	@tools/map.py
+
 test:
 	@for name in $(PICTURES); do cmp crates/tests_draw/data/$$name.svg docs/pictures/$$name.svg || exit 1; done
 	@rm -rf .git/proving .git/refuting
 	@tools/refute.py --stand
 	@tools/quotes.py
 	@tools/names.py
-	-@tools/sizes.py
+	@tools/take.py --test
+	@tools/map.py --check
+	@tools/sizes.py
 	@tools/gate.py
 
 refute:
 	@tools/refute.py $(CRATE)
+
+take:
+	@tools/take.py '$(TO)' $(WHAT)
 
 beside:
 	@tools/beside.py table

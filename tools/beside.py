@@ -18,10 +18,6 @@ import time
 DEBIAN = "/usr/share/cargo/registry"
 BUILT = "out/beside"
 ROUNDS = 12
-# The rows that epoch_lend_bench makes. epoch_beside makes the others.
-LENDING = ("load_get_one_cell", "list_100_contains", "map_100_contains", "pin_unpin_lending", "owned_atomic_owned_lending",
-           "replace_swap_lending", "replace_swap_64_a_guard_flush_lending", "treiber_push_pop_lending",
-           "queue_push_pop_lending")
 HOW = f"""crossbeam-epoch isn't in {DEBIAN}. On Debian or Ubuntu it is installed by
     apt-get update && apt-get install librust-crossbeam-epoch-dev
 Elsewhere, name a checkout of https://github.com/crossbeam-rs/crossbeam by ORIGINAL=FOLDER."""
@@ -104,13 +100,11 @@ def table():
     threads = setting("THREADS", "1,2,4").split(",")
     rows = [line.split() for line in answer([beside, "rows"]).splitlines()]
     rows = [row for row in rows if re.fullmatch(wanted, row[0])]
-    crates = {row[0]: "epoch_lend_bench" if row[0] in LENDING else "epoch_beside" for row in rows}
-    ports = {crate: build_port(crate) for crate in sorted(set(crates.values()))}
+    port = build_port("epoch_beside")
     heading(version)
     print(f"{'# name':34} {'threads':>7} {'original':>9} {'port':>9} {'quotient':>8}", flush=True)
     found = 0
     for name, all_threads, turns in rows:
-        port = ports[crates[name]]
         for count in all_threads.split(","):
             if count not in threads:
                 continue

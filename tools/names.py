@@ -3,10 +3,11 @@
 
 - A link leads to a file of the repository, and what follows '#' is a heading there.
 - 'Type::call' stands in a file that names the type.
-- A word with two or more underscores is a word of the code, or a file's name.
+- A word with two or more underscores is a word of the code, or a file's name; so is one that begins as a crate's name.
 - In a row of PROMISES.md, a clause stands in a contract of a call that is named in the same cell, a definition in the
   code, and a lemma in a proof. 'S/Name' and 'P/Name' are files in specs/ and proofs/.
 - A row of DIFFERENCES.md that quotes a script's name quotes one that a test has.
+- No two public types of all crates have one name, and no two definitions in specs/.
 """
 import glob
 import re
@@ -48,6 +49,8 @@ def contracts():
 
 
 CONTRACTS = contracts()
+TYPE = re.compile(rf"^\s*pub (?:struct|enum|trait|type) ({WORD})", re.M)
+DEFINITION = re.compile(r"^(?:(?:abbrev|unfoldable) )*pub (?:(?:record|data) )?(?!use |mod )([^\s:({]+)", re.M)
 GHOSTS = set(re.findall(r"ghost (" + WORD + r")\s*[:=]", "".join(SOURCES.values())))
 
 
@@ -74,7 +77,8 @@ def bad_words(text):
         if not any(owner in w and item in w for w in SOURCE_WORDS.values()):
             yield f"{owner}::{item} isn't there"
     for word in set(re.findall(rf"`({WORD})`", text)):
-        if word.count("_") < 2 or not word.islower() or word in CODE or word in LEMMAS or word in NAMES:
+        is_long = word.count("_") >= 2 or word.startswith(("epoch_", "tests_")) and not word.endswith("_")
+        if not is_long or not word.islower() or word in CODE or word in LEMMAS or word in NAMES:
             continue
         # A text may speak of all tests whose names begin so.
         if not any(known.startswith(word + "_") for known in CODE):
@@ -110,6 +114,18 @@ def bad_scripts(text):
             yield f"no script is named {name}"
 
 
+def doubles():
+    """Says which public types have one name, and which definitions."""
+    for what, texts, pattern in ("public types", SOURCES, TYPE), ("definitions", SPECS, DEFINITION):
+        places = {}
+        for file in sorted(texts):
+            for name in pattern.findall(texts[file]):
+                places.setdefault(name, []).append(file)
+        for name, files in sorted(places.items()):
+            if len(files) > 1:
+                yield f"{len(files)} {what} are named {name}: in {', '.join(files)}"
+
+
 def main():
     amiss = 0
     for document in DOCUMENTS:
@@ -120,6 +136,9 @@ def main():
         for line in found:
             print(f"{document}: {line}")
         amiss += len(found)
+    named_alike = [*doubles()]
+    print("".join(f"{line}\n" for line in named_alike), end="")
+    amiss += len(named_alike)
     print(f"{len(DOCUMENTS)} documents, {amiss} names or links amiss")
     return 1 if amiss else 0
 

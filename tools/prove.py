@@ -13,8 +13,8 @@ import sys
 import time
 from concurrent.futures import FIRST_COMPLETED, ThreadPoolExecutor, wait
 
-# A proof takes up to 3.5 GB.
-BYTES_A_PROOF = 3_500_000_000
+# A proof takes up to 4 GB.
+BYTES_A_PROOF = 4_000_000_000
 ROOM = ".git/proving"
 # A chain with this part of the longest one's work may take as long: how much work a proof is can only be guessed before.
 NEARLY = 0.85

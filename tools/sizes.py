@@ -11,11 +11,11 @@ COLUMNS = 120
 LINES_A_LEMMA = 80
 LINES_A_PROOF_FILE = 800
 LINES_A_BODY = 60
-LINES_A_CRATE = 1600
-FUNCTIONS_A_CRATE = 100
+LINES_A_CRATE = 2500
+FUNCTIONS_A_CRATE = 150
 # A crate of tests costs as much before its first test as some twelve functions do, so there are few and large ones.
-LINES_A_CRATE_OF_TESTS = 3200
-FUNCTIONS_A_CRATE_OF_TESTS = 150
+LINES_A_CRATE_OF_TESTS = 3800
+FUNCTIONS_A_CRATE_OF_TESTS = 230
 
 # Where a part of a proof file begins: the type of a definition, or a line that holds none.
 PART = re.compile(r"( *)(?:(?:pub|abbrev|unfoldable) )*(?:(record|data|module|use|mod) |([^\s:(=]+) :(?: |$))")

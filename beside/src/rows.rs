@@ -27,8 +27,7 @@ fn row(
     }
 }
 
-/// Another row is a line here, a line in `work_of` of `crates/epoch_beside` or in `time_row` or `row_of` of
-/// `crates/epoch_lend_bench`, and the same work on both sides.
+/// Another row is a line here, a line in `ROWS` of `crates/epoch_beside`, and the same work on both sides.
 fn rows() -> Vec<Row> {
     let one: &[usize] = &[1];
     let several: &[usize] = &[1, 2, 4];
@@ -87,7 +86,6 @@ fn rows() -> Vec<Row> {
         ),
         row("treiber_push_pop", several, 12_800, pushes),
         row("treiber_push_pop_lending", several, 12_800, pushes),
-        row("queue_push_pop", several, 12_800, enqueues),
         row("queue_push_pop_lending", several, 12_800, enqueues),
         row("register_drop", several, 1_280, registers),
     ]

@@ -3,3 +3,4 @@ pub mod OwnedValues
 pub mod Pointers
 pub mod Updates
 pub mod WordSteps
+pub mod Orders

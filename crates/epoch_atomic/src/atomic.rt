@@ -21,12 +21,12 @@ mod shown;
 mod update;
 mod word;
 
+use crate::tag_of;
+pub use crate::{Array, CompareAndSetOrdering, Plain, Pointable};
 pub use borrow::{Borrow, BorrowMut};
 pub use destroy::{DeferDestroy, DestroyNow};
 use epoch_cells::{Fault, Refused};
 use epoch_handles::{Guard, home_of};
-use epoch_values::tag_of;
-pub use epoch_values::{Array, CompareAndSetOrdering, Plain, Pointable};
 pub use exchange::{CompareAndSetError, CompareExchangeError, ExchangeFault};
 pub use laws::equal_numbers_are_of_one_pointer;
 pub use owned::Owned;

@@ -2,12 +2,10 @@
 ghost use Rattle.std.specs.Prelude.{◌≡◌, ℕ};
 ghost use Rattle.epoch_handles.specs.Handles.{IsSame, Owns};
 
-use crate::rounds::FIRST;
-use crate::rows::Work;
-use epoch_base::{Job, Work as Function};
-use epoch_pin::atomic::{Atomic, DeferDestroy, ExchangeFault, Owned};
-use epoch_pin::{Guard, LocalHandle};
-use epoch_removals::make_room;
+use crate::counted::FIRST;
+use epoch::atomic::{Atomic, DeferDestroy, ExchangeFault, Owned, Shared};
+use epoch::removals::make_room;
+use epoch::{Guard, Job, LocalHandle, Work as Function};
 use std::alloc::Global;
 use std::sync::atomic::Ordering::SeqCst;
 
@@ -71,6 +69,23 @@ pub fn flush_again(handle: &mut LocalHandle<'_, u64>, guard: &Guard<'_, u64>, tu
     done
 }
 
+/// Defers the last function. Returns 1 if it was deferred.
+#[inline(always)]
+fn defer_last(
+    handle: &mut LocalHandle<'_, u64>,
+    guard: &Guard<'_, u64>,
+    functions: &mut Vec<Function>,
+) -> u64
+    requires { Owns handle.old guard.now }
+    ensures same { IsSame handle.old handle.new }
+    ensures counted { handle.new.machine.guards ≡ handle.old.machine.guards }
+{
+    match functions.pop() {
+        Some(function) => u64::from(handle.defer(guard, Job::Call(function)).is_ok()),
+        None => 0,
+    }
+}
+
 /// Defers this many functions, the last ones first. Returns how many were deferred.
 pub fn defer_calls(
     handle: &mut LocalHandle<'_, u64>,
@@ -84,32 +99,13 @@ pub fn defer_calls(
 {
     let mut done: u64 = 0;
     for _ in 0..count {
-        if let Some(function) = functions.pop() {
-            if handle.defer(guard, Job::Call(function)).is_ok() {
-                done = done.wrapping_add(1);
-            }
-        }
+        done = done.wrapping_add(defer_last(handle, guard, functions));
     }
     done
 }
 
-/// The rows whose turns share one guard.
-pub fn under_one_guard(
-    guard: &Guard<'_, u64>,
-    pointer: &Atomic<u64>,
-    work: Work,
-    turns: u64,
-) -> u64 {
-    match work {
-        Work::Load => load(guard, pointer, turns),
-        Work::Read | Work::ReadOwn => read(guard, pointer, turns),
-        Work::Exchange => exchange(guard, pointer, turns),
-        _ => 0,
-    }
-}
-
 /// Loads of a pointer whose tag is 0.
-fn load(guard: &Guard<'_, u64>, pointer: &Atomic<u64>, turns: u64) -> u64 {
+pub fn load(guard: &Guard<'_, u64>, pointer: &Atomic<u64>, turns: u64) -> u64 {
     let mut sum: u64 = 0;
     for _ in 0..turns {
         sum = sum.wrapping_add(pointer.load(SeqCst, guard).tag() as u64);
@@ -129,16 +125,27 @@ pub fn read(guard: &Guard<'_, u64>, pointer: &Atomic<u64>, turns: u64) -> u64 {
     sum / FIRST
 }
 
+/// Exchanges a pointer by one with another tag, and returns that. `None`: it was lost.
+#[inline(always)]
+fn exchange_once<'g>(
+    guard: &'g Guard<'_, u64>,
+    pointer: &Atomic<u64>,
+    current: Shared<'g, u64>,
+    tag: usize,
+) -> Option<Shared<'g, u64>> {
+    let new = current.with_tag(tag);
+    match pointer.compare_exchange(current, new, SeqCst, SeqCst, guard) {
+        Ok(_) => Some(new),
+        Err(_) => None,
+    }
+}
+
 /// Exchanges of a pointer by one with the next tag.
-fn exchange(guard: &Guard<'_, u64>, pointer: &Atomic<u64>, turns: u64) -> u64 {
+pub fn exchange(guard: &Guard<'_, u64>, pointer: &Atomic<u64>, turns: u64) -> u64 {
     let mut won: u64 = 0;
     let mut current = pointer.load(SeqCst, guard);
     for turn in 0..turns {
-        let new = current.with_tag((turn % 2) as usize);
-        if pointer
-            .compare_exchange(current, new, SeqCst, SeqCst, guard)
-            .is_ok()
-        {
+        if let Some(new) = exchange_once(guard, pointer, current, (turn % 2) as usize) {
             current = new;
             won = won.wrapping_add(1);
         }
@@ -209,6 +216,27 @@ pub fn replace_store(
     }
 }
 
+/// Exchanges the pointer by one to a new object, until it wins, and returns the pointer to the one before. `None`:
+/// there is no memory or cell, or each try was lost.
+#[inline(always)]
+fn exchange_new<'g>(
+    guard: &'g Guard<'_, u64>,
+    alloc: Global,
+    pointer: &Atomic<u64>,
+) -> Option<Shared<'g, u64>> {
+    let owned = Owned::new(alloc, 1).ok()?;
+    let mut new = owned.into_shared(guard).ok()?;
+    for _ in 0..TRIES {
+        let before = pointer.load(SeqCst, guard);
+        match pointer.compare_exchange(before, new, SeqCst, SeqCst, guard) {
+            Ok(_) => return Some(before),
+            Err(ExchangeFault::Changed(lost)) => new = lost.new,
+            Err(_) => return None,
+        }
+    }
+    None
+}
+
 /// The same of one object, by exchanges until one is won.
 pub fn replace_cas(
     handle: &mut LocalHandle<'_, u64>,
@@ -220,20 +248,8 @@ pub fn replace_cas(
     ensures same { IsSame handle.old handle.new }
     ensures counted { handle.new.machine.guards ≡ handle.old.machine.guards }
 {
-    let Ok(owned) = Owned::new(alloc, 1) else {
-        return 0;
-    };
-    let Ok(placed) = owned.into_shared(guard) else {
-        return 0;
-    };
-    let mut new = placed;
-    for _ in 0..TRIES {
-        let before = pointer.load(SeqCst, guard);
-        match pointer.compare_exchange(before, new, SeqCst, SeqCst, guard) {
-            Ok(_) => return u64::from(handle.defer_destroy(guard, before).is_ok()),
-            Err(ExchangeFault::Changed(lost)) => new = lost.new,
-            Err(_) => return 0,
-        }
+    match exchange_new(guard, alloc, pointer) {
+        Some(before) => u64::from(handle.defer_destroy(guard, before).is_ok()),
+        None => 0,
     }
-    0
 }

@@ -1,99 +1,79 @@
 //! The rows of the comparison.
+use crate::changes::LinkRow;
+use crate::counted_idle::CountedWork;
+use crate::counted_idle::CountedWork::{
+    Exchange, Flush, FlushAgain, Load, Nested, Pin, PinnedRead, Place, Read, ReadOwn, Repin,
+    Replace, Replace64, ReplaceCas, ReplaceStore,
+};
+use crate::deferrals::DeferRow;
+use crate::looks::LookRow;
+use crate::rows::RowWork::Counted;
 
-/// A row is a name here, a line in `work_of`, and the same work in `beside/src`.
-pub const NAMES: [&str; 27] = [
-    "pin_unpin",
-    "pin_unpin_64_idle",
-    "pin_unpin_nested",
-    "repin",
-    "flush_empty_1_registered",
-    "flush_empty_16_registered",
-    "flush_empty_64_registered",
-    "flush_empty_1024_registered",
-    "pin_flush_empty_1_registered",
-    "pin_flush_empty_16_registered",
-    "pin_flush_empty_64_registered",
-    "pin_flush_empty_1024_registered",
-    "defer_made_64_a_guard_flush",
-    "defer_made_pin_each_flush_64",
-    "load_one_pointer",
-    "load_deref_one_cell",
-    "load_deref_own_cell",
-    "pin_load_deref_one_cell",
-    "cas_shared_success",
-    "owned_atomic_owned",
-    "replace_swap",
-    "replace_cas",
-    "replace_store",
-    "replace_swap_64_a_guard_flush",
-    "treiber_push_pop",
-    "queue_push_pop",
-    "register_drop",
-];
-
-/// What a turn does.
+/// What a turn of a row does.
 #[derive(Clone, Copy)]
-pub enum Work {
-    Pin,
-    Nested,
-    Repin,
-    Flush,
-    FlushAgain,
-    Defer,
-    DeferApart,
-    Load,
-    Read,
-    ReadOwn,
-    PinnedRead,
-    Exchange,
-    Place,
-    Replace,
-    ReplaceCas,
-    ReplaceStore,
-    Replace64,
-    Push,
-    Enqueue,
+pub enum RowWork {
+    /// Work of participants on a pointer whose values are read by counts.
+    Counted(CountedWork),
+    /// Deferrals of boxed functions.
+    Defer(DeferRow),
+    /// Pushes to a stack whose values are taken out, and pops.
+    CountedStack,
+    /// Registers a participant, and releases it.
     Register,
+    /// Pins of a handle that lends, and looks at values that are lent.
+    Look(LookRow),
+    /// Changes of values that are lent.
+    Link(LinkRow),
 }
 
-/// The work of this name, and how many participants a collector has for it.
-pub fn work_of(name: &str) -> Option<(Work, u32)> {
-    match name {
-        "pin_unpin" => Some((Work::Pin, 4)),
-        "pin_unpin_64_idle" => Some((Work::Pin, 64)),
-        "pin_unpin_nested" => Some((Work::Nested, 4)),
-        "repin" => Some((Work::Repin, 4)),
-        "flush_empty_1_registered" => Some((Work::FlushAgain, 1)),
-        "flush_empty_16_registered" => Some((Work::FlushAgain, 16)),
-        "flush_empty_64_registered" => Some((Work::FlushAgain, 64)),
-        "flush_empty_1024_registered" => Some((Work::FlushAgain, 1024)),
-        "pin_flush_empty_1_registered" => Some((Work::Flush, 1)),
-        "pin_flush_empty_16_registered" => Some((Work::Flush, 16)),
-        "pin_flush_empty_64_registered" => Some((Work::Flush, 64)),
-        "pin_flush_empty_1024_registered" => Some((Work::Flush, 1024)),
-        "defer_made_64_a_guard_flush" => Some((Work::Defer, 4)),
-        "defer_made_pin_each_flush_64" => Some((Work::DeferApart, 4)),
-        "load_one_pointer" => Some((Work::Load, 4)),
-        "load_deref_one_cell" => Some((Work::Read, 4)),
-        "load_deref_own_cell" => Some((Work::ReadOwn, 4)),
-        "pin_load_deref_one_cell" => Some((Work::PinnedRead, 4)),
-        "cas_shared_success" => Some((Work::Exchange, 4)),
-        "owned_atomic_owned" => Some((Work::Place, 4)),
-        "replace_swap" => Some((Work::Replace, 4)),
-        "replace_cas" => Some((Work::ReplaceCas, 4)),
-        "replace_store" => Some((Work::ReplaceStore, 4)),
-        "replace_swap_64_a_guard_flush" => Some((Work::Replace64, 4)),
-        "treiber_push_pop" => Some((Work::Push, 4)),
-        "queue_push_pop" => Some((Work::Enqueue, 4)),
-        "register_drop" => Some((Work::Register, 4)),
-        _ => None,
-    }
-}
-
-/// How many boxed functions the rounds of a row take: one for each turn, or none.
-pub fn functions_for(name: &str, turns: u64, rounds: usize) -> u64 {
-    match work_of(name) {
-        Some((Work::Defer | Work::DeferApart, _)) => turns.saturating_mul(rounds as u64),
-        _ => 0,
-    }
-}
+/// A row is a line here, with its name, its work and how many participants a counted row's collector has, and the same
+/// work in `beside/src`.
+pub const ROWS: [(&str, RowWork, u32); 35] = [
+    ("pin_unpin", Counted(Pin), 4),
+    ("pin_unpin_64_idle", Counted(Pin), 64),
+    ("pin_unpin_nested", Counted(Nested), 4),
+    ("repin", Counted(Repin), 4),
+    ("flush_empty_1_registered", Counted(FlushAgain), 1),
+    ("flush_empty_16_registered", Counted(FlushAgain), 16),
+    ("flush_empty_64_registered", Counted(FlushAgain), 64),
+    ("flush_empty_1024_registered", Counted(FlushAgain), 1024),
+    ("pin_flush_empty_1_registered", Counted(Flush), 1),
+    ("pin_flush_empty_16_registered", Counted(Flush), 16),
+    ("pin_flush_empty_64_registered", Counted(Flush), 64),
+    ("pin_flush_empty_1024_registered", Counted(Flush), 1024),
+    (
+        "defer_made_64_a_guard_flush",
+        RowWork::Defer(DeferRow::Together),
+        4,
+    ),
+    (
+        "defer_made_pin_each_flush_64",
+        RowWork::Defer(DeferRow::Apart),
+        4,
+    ),
+    ("load_one_pointer", Counted(Load), 4),
+    ("load_deref_one_cell", Counted(Read), 4),
+    ("load_deref_own_cell", Counted(ReadOwn), 4),
+    ("pin_load_deref_one_cell", Counted(PinnedRead), 4),
+    ("load_get_one_cell", RowWork::Look(LookRow::Get), 0),
+    ("list_100_contains", RowWork::Look(LookRow::List), 0),
+    ("map_100_contains", RowWork::Look(LookRow::Map), 0),
+    ("pin_unpin_lending", RowWork::Look(LookRow::Pin), 0),
+    ("cas_shared_success", Counted(Exchange), 4),
+    ("owned_atomic_owned", Counted(Place), 4),
+    ("owned_atomic_owned_lending", RowWork::Link(LinkRow::Own), 0),
+    ("replace_swap", Counted(Replace), 4),
+    ("replace_cas", Counted(ReplaceCas), 4),
+    ("replace_store", Counted(ReplaceStore), 4),
+    ("replace_swap_64_a_guard_flush", Counted(Replace64), 4),
+    ("replace_swap_lending", RowWork::Link(LinkRow::Replace), 0),
+    (
+        "replace_swap_64_a_guard_flush_lending",
+        RowWork::Link(LinkRow::ReplaceTogether),
+        0,
+    ),
+    ("treiber_push_pop", RowWork::CountedStack, 4),
+    ("treiber_push_pop_lending", RowWork::Link(LinkRow::Stack), 0),
+    ("queue_push_pop_lending", RowWork::Link(LinkRow::Queue), 0),
+    ("register_drop", RowWork::Register, 4),
+];

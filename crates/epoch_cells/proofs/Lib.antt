@@ -1,3 +1,6 @@
 pub mod LentWritings
 pub mod PlainCellLists
 pub mod SlotNumberLists
+mod Keyless
+mod Values
+mod OfEmptied

@@ -20,8 +20,8 @@ use crate::cells::held::{
     Line, Miss, Slot, is_free, started, try_place, try_read, try_take, try_write,
 };
 use crate::fault::{Fault, Refused};
+use crate::{Notes, SPANS, Span};
 use crossbeam_utils::CachePadded;
-use epoch_notes::{Notes, SPANS, Span};
 pub use freed::Freed;
 pub use held::{Held, IntoSlots, Puts, Reading, Room, Writing};
 pub use name::{MOST_SLOT, Name};

@@ -2,23 +2,21 @@
 ghost use Rattle.std.specs.Prelude.{◌≡◌, refl};
 ghost use Rattle.std.proofs.Common.{lit≤};
 
-use epoch_base::Fault;
-use epoch_pin::atomic::{Atomic, ExchangeFault, Owned, Pointable};
-use epoch_pin::{Collector, Guard, unprotected};
+use epoch::{Atomic, Collector, ExchangeFault, Fault, Guard, Owned, Pointable, unprotected};
 use std::alloc::Global;
 use std::sync::atomic::Ordering::SeqCst;
 
 /// A number and the pointer to the entry behind it. The tag of that pointer says whether the number is crossed out.
 #[derive(Drop)]
-pub struct Entry {
+pub struct CrossedEntry {
     number: u64,
-    next: Atomic<Entry>,
+    next: Atomic<CrossedEntry>,
 }
 
 /// The tag of a pointer whose entry is crossed out.
 const MARK: usize = 1;
 
-impl Pointable for Entry {
+impl Pointable for CrossedEntry {
     ghost ALIGN = { 2 };
 
     ghost log = { 1 };
@@ -29,11 +27,11 @@ impl Pointable for Entry {
 
     const ALIGN: usize = 2;
 
-    type Init = Entry;
+    type Init = CrossedEntry;
 
     ghost init_gives = { λ init entry. entry ≡ init };
 
-    fn init(_alloc: Global, init: Entry) -> Result<Entry, Fault> {
+    fn init(_alloc: Global, init: CrossedEntry) -> Result<CrossedEntry, Fault> {
         Ok(init)
     }
 }
@@ -41,7 +39,7 @@ impl Pointable for Entry {
 /// A list that threads share, of entries in the cells of one collector.
 #[derive(Drop)]
 pub struct List {
-    first: Atomic<Entry>,
+    first: Atomic<CrossedEntry>,
 }
 
 impl List {
@@ -59,11 +57,11 @@ impl List {
         &self,
         alloc: Global,
         number: u64,
-        guard: &Guard<'_, Entry>,
+        guard: &Guard<'_, CrossedEntry>,
         tries: u32,
     ) -> Result<(), Fault> {
         let next = Atomic::null();
-        let mut entry = Owned::new(alloc, Entry { number, next })?;
+        let mut entry = Owned::new(alloc, CrossedEntry { number, next })?;
         let mut first = self.first.load(SeqCst, guard);
         for _ in 0..tries {
             // No other thread can reach the entry before the exchange is won.
@@ -92,7 +90,7 @@ impl List {
     pub fn cross_out(
         &self,
         number: u64,
-        guard: &Guard<'_, Entry>,
+        guard: &Guard<'_, CrossedEntry>,
         steps: u32,
     ) -> Result<bool, Fault> {
         let mut at = self.first.load(SeqCst, guard);
@@ -116,7 +114,7 @@ impl List {
     }
 
     /// Takes the list apart when no other thread uses it any more, and returns how many numbers aren't crossed out.
-    pub fn take_apart(self, collector: &Collector<Entry>) -> u64 {
+    pub fn take_apart(self, collector: &Collector<CrossedEntry>) -> u64 {
         let guard = unprotected(collector);
         let List { first } = self;
         let mut at = first;
@@ -125,7 +123,7 @@ impl List {
             let Some(owned) = at.into_owned(&guard) else {
                 break;
             };
-            let Entry { number: _, next } = Box::into_inner(owned.into_box());
+            let CrossedEntry { number: _, next } = Box::into_inner(owned.into_box());
             if next.load(SeqCst, &guard).tag() != MARK {
                 left = left.wrapping_add(1);
             }

@@ -1,10 +1,9 @@
 //! A function that is called later, at the earliest when every participant that was pinned at its deferral has unpinned
 //! or repinned.
 ghost use Rattle.std.specs.Prelude.{◌≡◌, IfErr};
-ghost use Rattle.epoch_handles.specs.Handles.{Owns};
+ghost use Rattle.epoch.specs.Handles.{Owns};
 
-use epoch_base::{Job, Refused};
-use epoch_pin::{Guard, LocalHandle};
+use epoch::{Guard, Job, LocalHandle, Refused};
 
 /// Defers the job, and puts the bag that has it where the collections of all threads find it.
 ///

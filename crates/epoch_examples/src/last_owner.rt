@@ -1,5 +1,5 @@
 //! A stack taken apart by its last owner, when no other thread uses it any more.
-use epoch_pin::{Collector, unprotected};
+use epoch::{Collector, unprotected};
 use epoch_stack::{Node, Stack};
 
 /// Takes all values off the stack, destroys their nodes at once, and returns the values' sum.

@@ -4,8 +4,7 @@
 pub mod crossed_out;
 pub mod deferred;
 pub mod last_owner;
-pub mod owners;
+pub mod lent;
 pub mod replacement;
 pub mod schedule;
 pub mod shared_value;
-pub mod work_queue;

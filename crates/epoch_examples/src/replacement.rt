@@ -2,8 +2,10 @@
 //!
 //! You choose after which step of one participant another one goes on, so what threads meet once in a million runs is
 //! met in each.
-use epoch_base::{Fault, Places};
-use epoch_world::{Access, Answer, Call, Change, Deferral, Ptr, Reply, Shape, Spot, Step, World};
+use epoch_world::{
+    Access, AccessAnswer, Call, Change, Deferral, Fault, Places, Ptr, Reply, Shape, Spot, Step,
+    World,
+};
 use std::alloc::Global;
 
 /// Where the structure begins.
@@ -80,8 +82,8 @@ impl Replaceable {
 /// The pointer that a call answered, or null.
 fn pointer_of(reply: Reply) -> Ptr {
     match reply {
-        Reply::Done(Answer::Pointer(pointer)) => pointer,
-        Reply::Done(Answer::Name(name)) => Ptr {
+        Reply::Done(AccessAnswer::Pointer(pointer)) => pointer,
+        Reply::Done(AccessAnswer::Name(name)) => Ptr {
             name: Some(name),
             tag: 0,
         },

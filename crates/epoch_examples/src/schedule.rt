@@ -1,6 +1,5 @@
 //! A schedule of two participants, chosen step by step: what you would write to test a structure of your own.
-use epoch_base::{Fault, Places};
-use epoch_world::{Call, Deferral, Reply, Shape, Step, World};
+use epoch_world::{Call, Deferral, Fault, Places, Reply, Shape, Step, World};
 use std::alloc::Global;
 
 /// Pins participant 0, stops participant 1 after the first step of its pin, and returns the world's replies.

@@ -1,9 +1,7 @@
 //! A value that many threads read while another thread replaces it.
-ghost use Rattle.epoch_handles.specs.Handles.{Owns};
+ghost use Rattle.epoch.specs.Handles.{Owns};
 
-use epoch_base::Fault;
-use epoch_pin::atomic::{Atomic, DeferDestroy, Owned};
-use epoch_pin::{Guard, LocalHandle};
+use epoch::{Atomic, DeferDestroy, Fault, Guard, LocalHandle, Owned};
 use std::alloc::Global;
 use std::sync::atomic::Ordering::{AcqRel, Acquire};
 

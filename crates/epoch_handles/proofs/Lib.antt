@@ -12,3 +12,13 @@ pub mod Scanning
 pub mod SeatKept
 pub mod StraightCalls
 pub mod Tests
+pub mod CallsGiven
+pub mod Expiries
+pub mod HeldJobs
+pub mod JobsKept
+pub mod JobsLeft
+pub mod PlacesTold
+pub mod SlotsMoved
+pub mod StagesHeard
+pub mod Telling
+pub mod SamePositions

@@ -5,13 +5,13 @@ ghost use Rattle.std.specs.Cmp.Rules.{comparing};
 ghost use Rattle.std.specs.Ordering.{on};
 ghost use Rattle.epoch_cells.specs.declared.fault.Fault.TheVariants.{NoMemory};
 ghost use Rattle.epoch_machine.specs.Machine.{IsSized};
-ghost use Rattle.epoch_ends.specs.Ends.{CallsAllLeft};
+ghost use Rattle.epoch_tables.specs.Ends.{CallsAllLeft};
 ghost use Rattle.epoch_handles.specs.Capacities.{AreValid, sizes_for};
 
 use epoch_bags::{BAG_JOBS, Job, Work};
 use epoch_cells::{Cells, Fault, MOST_SLOT};
-use epoch_ends::{AtEnd, end_left};
 use epoch_machine::Sizes;
+use epoch_tables::ends::{AtEnd, end_left};
 use epoch_tables::shared_places::{MOST_PLACES, SharedPlaces};
 use epoch_tables::table::{MOST_POSITIONS, Participants};
 use std::alloc::Global;

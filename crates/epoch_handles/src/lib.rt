@@ -6,10 +6,12 @@ mod guard;
 mod handle;
 mod home;
 mod interlude;
+pub mod laws;
 mod local;
 mod paused;
 mod released;
 mod rooms;
+pub mod structures;
 
 pub use collector::{Capacities, Collector};
 pub use guard::{Guard, unprotected};

@@ -3,20 +3,21 @@ use Rattle.std.proofs.Common.{◌≡◌, ℕ, zero, suc, Option, Some, None, is_
 use Rattle.std.proofs.Common.{true, false, if◌then◌else◌, ◌==◌, slice_get}
 use Rattle.epoch_cells.specs.PlainCells.{readable, unread}
 use Rattle.epoch_cells.specs.declared.cells.name.Name.{Name}
-use Rattle.epoch_heap.specs.declared.access.Access.{Access}
-use Rattle.epoch_heap.specs.declared.access.Access.TheVariants.{Place, Read, Leave, Write, Take, Point}
-use Rattle.epoch_heap.specs.declared.access.Accessed.{Accessed}
-use Rattle.epoch_heap.specs.declared.access.Accessed.TheVariants.{Again, Answers, NoSlot}
+use Rattle.epoch_laws.specs.declared.heap.access.Access.{Access}
+use Rattle.epoch_laws.specs.declared.heap.access.Access.TheVariants.{Place, Read, Leave, Write, Take, Point}
+use Rattle.epoch_laws.specs.declared.heap.access.Accessed.{Accessed}
+use Rattle.epoch_laws.specs.declared.heap.access.Accessed.TheVariants.{Again, Answers, NoSlot}
 use Rattle.epoch_laws.specs.declared.step.Call.TheVariants.{Access as AccessCall}
-use Rattle.epoch_heap.specs.declared.access.Answer.TheVariants.{Absent}
-use Rattle.epoch_heap.specs.declared.access.Change.{Change}
-use Rattle.epoch_heap.specs.declared.access.Change.TheVariants.{Load, Store, Swap, CompareExchange, FetchAnd, FetchOr}
-use Rattle.epoch_heap.specs.declared.access.Change.TheVariants.{FetchXor, FetchUpdate}
-use Rattle.epoch_heap.specs.declared.access.Ptr.{Ptr}
-use Rattle.epoch_heap.specs.declared.access.Spot.{Spot}
-use Rattle.epoch_heap.specs.declared.heap.Content.{Content}
-use Rattle.epoch_heap.specs.Heap.{Cell, Heap, cell_at, pointer_at, Touched, read_by, left_by, written_by, taken_by}
-use Rattle.epoch_heap.specs.Heap.{at_name, is_stop, Changes, ChangesAt, Places, Touches}
+use Rattle.epoch_laws.specs.declared.heap.access.AccessAnswer.TheVariants.{Absent}
+use Rattle.epoch_laws.specs.declared.heap.access.Change.{Change}
+use Rattle.epoch_laws.specs.declared.heap.access.Change.TheVariants.{Load, Store, Swap, CompareExchange, FetchAnd}
+use Rattle.epoch_laws.specs.declared.heap.access.Change.TheVariants.{FetchOr}
+use Rattle.epoch_laws.specs.declared.heap.access.Change.TheVariants.{FetchXor, FetchUpdate}
+use Rattle.epoch_laws.specs.declared.heap.access.Ptr.{Ptr}
+use Rattle.epoch_laws.specs.declared.heap.access.Spot.{Spot}
+use Rattle.epoch_laws.specs.declared.heap.heap.Content.{Content}
+use Rattle.epoch_laws.specs.Heap.{Cell, Heap, cell_at, pointer_at, Touched, read_by, left_by, written_by, taken_by}
+use Rattle.epoch_laws.specs.Heap.{at_name, is_stop, Changes, ChangesAt, Places, Touches}
 use Rattle.epoch_laws.specs.Lawful.{Told, AccessAnswers, HasToldRefused}
 
 -- a leave names a cell

@@ -20,10 +20,10 @@ use Rattle.epoch_laws.specs.Run.{ended_seat}
 use Rattle.epoch_laws.proofs.SeatLemmas.{guard_given}
 use Rattle.epoch_laws.proofs.SeatLinks.{action_of, BeganUnder, IsDriven, IsLinked, follows_at, progress_linked}
 use Rattle.epoch_machine.proofs.UnderWay.{first_on}
-use Rattle.epoch_heap.specs.declared.access.Access.{Access}
-use Rattle.epoch_heap.specs.declared.access.Answer.TheVariants.{Absent}
+use Rattle.epoch_laws.specs.declared.heap.access.Access.{Access}
+use Rattle.epoch_laws.specs.declared.heap.access.AccessAnswer.TheVariants.{Absent}
 use Rattle.epoch_laws.specs.declared.step.Reply.TheVariants.{Done}
-use Rattle.epoch_heap.specs.Heap.{Heap, null, has_steps}
+use Rattle.epoch_laws.specs.Heap.{Heap, null, has_steps}
 
 -- NUMBERS OF GUARDS
 

@@ -6,7 +6,7 @@ use Rattle.epoch_machine.specs.declared.machine.Ask.{Ask}
 use Rattle.epoch_machine.specs.declared.machine.Ask.TheVariants.{PutBag, TakeBag}
 use Rattle.epoch_machine.specs.declared.machine.Ask.TheVariants.{CallJob}
 use Rattle.epoch_machine.specs.declared.machine.Stage.{Stage}
-use Rattle.epoch_heap.specs.declared.access.Answer.TheVariants.{Count}
+use Rattle.epoch_laws.specs.declared.heap.access.AccessAnswer.TheVariants.{Count}
 use Rattle.epoch_laws.specs.declared.step.Call.{Call}
 use Rattle.epoch_laws.specs.declared.step.Entry.{Entry}
 use Rattle.epoch_laws.specs.declared.step.Reply.{Reply}

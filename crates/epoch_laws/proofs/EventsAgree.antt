@@ -17,7 +17,7 @@ use Rattle.epoch_laws.proofs.SeatLemmas.{seat_written, seat_other, same_or_other
 use Rattle.epoch_laws.proofs.GuardLists.{has_any}
 use Rattle.epoch_laws.proofs.ToldAtStages.{ToldAt}
 use Rattle.epoch_laws.proofs.AccessesTold.{Named}
-use Rattle.epoch_heap.specs.declared.access.Answer.{Answer}
+use Rattle.epoch_laws.specs.declared.heap.access.AccessAnswer.{AccessAnswer}
 
 -- outside a driven call a participant is pinned where a guard is counted
 abbrev pub PinnedByGuards : Told → Type 0
@@ -25,7 +25,7 @@ PinnedByGuards t = t.pinned ≡ has_any t.guards
 
 -- a call that is done, whatever it answers, leaves the position, the guards and the paused one
 abbrev pub LeavesAll : Told → Type 0
-LeavesAll t = (answer : Answer) → after_done t.call answer t ≡ after_refused t
+LeavesAll t = (answer : AccessAnswer) → after_done t.call answer t ≡ after_refused t
 
 -- the call is done with its own kind of answer
 abbrev pub ReplyFits : Option Call → Reply → Type 0

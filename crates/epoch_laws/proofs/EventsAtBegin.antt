@@ -5,7 +5,7 @@ use Rattle.epoch_machine.specs.declared.machine.Sizes.{Sizes}
 use Rattle.epoch_laws.specs.declared.step.Call.{Call}
 use Rattle.epoch_laws.specs.declared.step.Call.TheVariants.{Pin, Unpin, Repin, Pause, Resume, Defer, Flush, Release}
 use Rattle.epoch_laws.specs.declared.step.Call.TheVariants.{DeferDestroy, Access as AccessCall}
-use Rattle.epoch_heap.specs.declared.access.Answer.TheVariants.{Unit as UnitAnswer, Absent}
+use Rattle.epoch_laws.specs.declared.heap.access.AccessAnswer.TheVariants.{Unit as UnitAnswer, Absent}
 use Rattle.epoch_laws.specs.declared.step.Reply.TheVariants.{Began, Done}
 use Rattle.epoch_laws.specs.declared.step.Progress.{Progress}
 use Rattle.epoch_laws.specs.declared.step.Progress.TheVariants.{Idle, CallsNow, Ends, Accesses}
@@ -18,10 +18,10 @@ use Rattle.epoch_laws.proofs.CallsLinked.{begun_linked}
 use Rattle.epoch_laws.proofs.GuardsAllowed.{guards_allowed}
 use Rattle.epoch_laws.proofs.ToldAtBegin.{told_first}
 use Rattle.epoch_laws.proofs.EventsAgree.{PinnedByGuards, LeavesAll, ToldOf, Agrees}
-use Rattle.epoch_heap.specs.declared.access.Access.{Access}
-use Rattle.epoch_heap.specs.declared.access.Answer.{Answer}
-use Rattle.epoch_heap.specs.Heap.{Heap, null, has_steps, guard_of, is_known}
-use Rattle.epoch_heap.specs.declared.access.Access.TheVariants.{Place, Read, Leave, Write, Take, Point}
+use Rattle.epoch_laws.specs.declared.heap.access.Access.{Access}
+use Rattle.epoch_laws.specs.declared.heap.access.AccessAnswer.{AccessAnswer}
+use Rattle.epoch_laws.specs.Heap.{Heap, null, has_steps, guard_of, is_known}
+use Rattle.epoch_laws.specs.declared.heap.access.Access.TheVariants.{Place, Read, Leave, Write, Take, Point}
 use Rattle.epoch_cells.specs.declared.cells.name.Name.{Name}
 use Rattle.epoch_cells.specs.declared.fault.Fault.TheVariants.{StrangerPointer}
 use Rattle.epoch_laws.proofs.AccessesTold.{Named}
@@ -72,7 +72,7 @@ module _ (t : Told) (seat : WorldSeat) (sizes : Sizes) (tickets : ℕ) (heap : H
   }
 
   -- the call does nothing
-  ends : (c : Call) (answer : Answer) → IsAccepted c seat tickets heap → HasTold (Some c) (after_begin t c Began)
+  ends : (c : Call) (answer : AccessAnswer) → IsAccepted c seat tickets heap → HasTold (Some c) (after_begin t c Began)
       → AnswerFits (Some c) answer → LeavesAll (after_begin t c Began)
       → Begins c (record seat { progress = Ends (Done answer) })
   ends c answer ok told fits leaves = record {

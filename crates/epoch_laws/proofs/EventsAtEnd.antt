@@ -6,8 +6,8 @@ use Rattle.epoch_machine.specs.declared.machine.Stage.TheVariants.{End}
 use Rattle.epoch_laws.specs.declared.step.Call.{Call}
 use Rattle.epoch_laws.specs.declared.step.Call.TheVariants.{Pin, Unpin, Repin, Pause, Resume, Defer, Flush, Release}
 use Rattle.epoch_laws.specs.declared.step.Call.TheVariants.{DeferDestroy, Access as AccessCall}
-use Rattle.epoch_heap.specs.declared.access.Answer.{Answer}
-use Rattle.epoch_heap.specs.declared.access.Answer.TheVariants.{Guard, Unit as UnitAnswer}
+use Rattle.epoch_laws.specs.declared.heap.access.AccessAnswer.{AccessAnswer}
+use Rattle.epoch_laws.specs.declared.heap.access.AccessAnswer.TheVariants.{Guard, Unit as UnitAnswer}
 use Rattle.epoch_laws.specs.declared.step.Reply.{Reply}
 use Rattle.epoch_laws.specs.declared.step.Reply.TheVariants.{Done, Refused}
 use Rattle.epoch_laws.specs.declared.step.Word.TheVariants.{Free}
@@ -50,7 +50,7 @@ told_by t _ full under may told = absurd (cc)
 
 module _ (t : Told) (seat : WorldSeat) (p : ℕ) (taken : seat.word ≢ Free) (h : Agrees t seat) where
   -- the call is done, and leaves these guards
-  done : (c : Call) (answer : Answer) (left : List ℕ) (paused : Option ℕ) → t.call ≡ Some c → HasTold (Some c) t
+  done : (c : Call) (answer : AccessAnswer) (left : List ℕ) (paused : Option ℕ) → t.call ≡ Some c → HasTold (Some c) t
       → AnswerFits (Some c) answer → counted_after (Some c) answer t.guards ≡ left
       → paused_after (Some c) t.paused ≡ paused → registered_after (Some c) t.registered ≡ true
       → t.pinned ≡ has_any left → Tells p t (Done answer) (with_guards seat left paused)

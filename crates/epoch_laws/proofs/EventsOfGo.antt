@@ -14,8 +14,8 @@ use Rattle.epoch_machine.specs.declared.machine.Answer.TheVariants.{Stored, Job}
 use Rattle.epoch_machine.specs.Machine.{Machine, with_stage, after_pin, ask_at, hears, put_heard, took_heard, gives}
 use Rattle.epoch_laws.specs.declared.step.Call.{Call}
 use Rattle.epoch_laws.specs.declared.step.Call.TheVariants.{Defer, DeferDestroy}
-use Rattle.epoch_heap.specs.declared.access.Answer.{Answer}
-use Rattle.epoch_heap.specs.declared.access.Answer.TheVariants.{Unit as UnitAnswer, Released}
+use Rattle.epoch_laws.specs.declared.heap.access.AccessAnswer.{AccessAnswer}
+use Rattle.epoch_laws.specs.declared.heap.access.AccessAnswer.TheVariants.{Unit as UnitAnswer, Released}
 use Rattle.epoch_laws.specs.declared.step.Step.TheVariants.{Go}
 use Rattle.epoch_laws.specs.declared.step.Reply.{Reply}
 use Rattle.epoch_laws.specs.declared.step.Reply.TheVariants.{Stepped, Pinned as PinnedReply, Unpinned as UnpinnedReply}
@@ -39,13 +39,13 @@ use Rattle.epoch_laws.proofs.ToldAtStages.{machine_pinned, machine_scanned, mach
 use Rattle.epoch_laws.proofs.ToldAtStages.{machine_unpinned, machine_reloaded}
 use Rattle.epoch_laws.proofs.EventsAgree.{PinnedByGuards, ReplyFits, ToldOf, Agrees, AllAgree, seat_agrees, told_agrees}
 use Rattle.epoch_laws.proofs.EventsAtEnd.{Tells, end_agrees}
-use Rattle.epoch_heap.specs.declared.access.Access.{Access}
-use Rattle.epoch_heap.specs.declared.access.Accessed.{Accessed}
-use Rattle.epoch_heap.specs.declared.access.Accessed.TheVariants.{Again, Answers, NoSlot}
-use Rattle.epoch_heap.specs.declared.access.Ptr.{Ptr}
+use Rattle.epoch_laws.specs.declared.heap.access.Access.{Access}
+use Rattle.epoch_laws.specs.declared.heap.access.Accessed.{Accessed}
+use Rattle.epoch_laws.specs.declared.heap.access.Accessed.TheVariants.{Again, Answers, NoSlot}
+use Rattle.epoch_laws.specs.declared.heap.access.Ptr.{Ptr}
 use Rattle.epoch_cells.specs.declared.cells.name.Name.{Name}
 use Rattle.epoch_bags.specs.declared.job.Called.{Called}
-use Rattle.epoch_heap.specs.Heap.{outcome_of, heap_after_job}
+use Rattle.epoch_laws.specs.Heap.{outcome_of, heap_after_job}
 use Rattle.epoch_laws.proofs.AccessesTold.{IsTold, told_by_touch}
 
 -- what a step of p has to show: its reply may stand, and what is told from then on agrees with the seats
@@ -54,7 +54,8 @@ Shows new told p reply = MayTell p (told p) reply × AllAgree new (λ q. told_af
 
 -- a call that calls a job at once is done then
 now_told : (call : Option Call) (t : Told) → MayCallNow call → t.did_call_now ≡ true
-    → HasTold call t × AnswerFits call UnitAnswer × ((answer : Answer) → after_done call answer t ≡ after_refused t)
+    → HasTold call t × AnswerFits call UnitAnswer
+    × ((answer : AccessAnswer) → after_done call answer t ≡ after_refused t)
 now_told (Some (Defer None)) t may did = (did, tt, λ answer. refl)
 now_told (Some (DeferDestroy None ptr)) t may did = (did, tt, λ answer. refl)
 now_told _ t may did = absurd may
@@ -308,7 +309,8 @@ module _ (old new : State) (told : ℕ → Told) (reply : Reply) (h : AllAgree o
     where
       by_told : ToldOf t m (Ends last) → Goal
       by_told (told, fits, leaves, on) =
-          let done : (answer : Answer) × (last ≡ Done answer) = (follows_at old.sizes seat linked (Ends last) ends).1 in
+          let done : (answer : AccessAnswer)
+          × (last ≡ Done answer) = (follows_at old.sizes seat linked (Ends last) ends).1 in
           tells (Done done.0) (record seat { progress = Idle }) _ (
             (told, subst (ReplyFits t.call) done.1 fits),
             subst (λ (u : Told). Agrees u (record seat { progress = Idle })) (sym (leaves done.0)) (record {

@@ -16,7 +16,7 @@ use Rattle.epoch_machine.specs.declared.machine.Stage.TheVariants.{StoreUnpinned
 use Rattle.epoch_machine.specs.Machine.{Machine, after_collect, after_pin, after_job, past_word, ask_at, with_stage}
 use Rattle.epoch_machine.specs.Machine.{hears, put_heard, took_heard, gives, PutsHeld}
 use Rattle.epoch_machine.proofs.StagesAfter.{either_way}
-use Rattle.epoch_heap.specs.declared.access.Answer.TheVariants.{Unit as UnitAnswer, Released}
+use Rattle.epoch_laws.specs.declared.heap.access.AccessAnswer.TheVariants.{Unit as UnitAnswer, Released}
 use Rattle.epoch_laws.specs.declared.step.Call.{Call}
 use Rattle.epoch_laws.specs.declared.step.Call.TheVariants.{Defer, Flush, Release, DeferDestroy}
 use Rattle.epoch_laws.specs.declared.step.Deferral.{Deferral}
@@ -46,10 +46,10 @@ use Rattle.epoch_laws.proofs.SeatsFind.{on_finds}
 use Rattle.epoch_laws.proofs.PutSteps.{put_finds, same_step}
 use Rattle.epoch_laws.proofs.FoundAfter.{others_same, own_same, put_more}
 use Rattle.epoch_laws.proofs.PutsFind.{AllFind, same_count, turn_taken, find_written}
-use Rattle.epoch_heap.specs.declared.access.Access.{Access}
-use Rattle.epoch_heap.specs.declared.access.Accessed.{Accessed}
-use Rattle.epoch_heap.specs.declared.access.Accessed.TheVariants.{Again, Answers, NoSlot}
-use Rattle.epoch_heap.specs.Heap.{outcome_of}
+use Rattle.epoch_laws.specs.declared.heap.access.Access.{Access}
+use Rattle.epoch_laws.specs.declared.heap.access.Accessed.{Accessed}
+use Rattle.epoch_laws.specs.declared.heap.access.Accessed.TheVariants.{Again, Answers, NoSlot}
+use Rattle.epoch_laws.specs.Heap.{outcome_of}
 
 -- what a step has to show
 abbrev pub ShowsFull : (ℕ → ℕ → Type 0) → State → State → Step → Reply → Type 0

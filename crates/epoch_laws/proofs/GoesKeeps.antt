@@ -29,7 +29,7 @@ use Rattle.epoch_laws.proofs.ScanStages.{next_looked, past_seats}
 use Rattle.epoch_laws.proofs.SeatSteps.{stay, quiet_step, publishes, withdraws}
 use Rattle.epoch_laws.proofs.GoSteps.{moves, advances, keeps}
 use Rattle.epoch_laws.proofs.BagSteps.{puts, takes, calls}
-use Rattle.epoch_heap.specs.declared.access.Answer.TheVariants.{Unit as UnitAnswer}
+use Rattle.epoch_laws.specs.declared.heap.access.AccessAnswer.TheVariants.{Unit as UnitAnswer}
 use Rattle.epoch_laws.specs.declared.step.Reply.TheVariants.{Done}
 
 module _ (old new : State) (log : List Entry) (x : Entry) (h : Holds old log) (linked : AllLinked old) (p : ℕ)

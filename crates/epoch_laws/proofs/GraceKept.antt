@@ -7,7 +7,7 @@ use Rattle.epoch_laws.specs.declared.step.Reply.TheVariants.{Registered, Began, 
 use Rattle.epoch_laws.specs.declared.step.Reply.TheVariants.{Called as CalledReply}
 use Rattle.epoch_laws.specs.declared.step.Reply.{Reply}
 use Rattle.epoch_laws.specs.declared.step.Progress.TheVariants.{Driven, CallsNow, Accesses, Ends}
-use Rattle.epoch_heap.specs.declared.access.Answer.TheVariants.{Count}
+use Rattle.epoch_laws.specs.declared.heap.access.AccessAnswer.TheVariants.{Count}
 use Rattle.epoch_laws.specs.declared.step.Entry.{Entry}
 use Rattle.epoch_laws.specs.declared.step.Word.TheVariants.{Free, Unpinned}
 use Rattle.epoch_laws.specs.Grace.{KeepsGrace}
@@ -26,7 +26,7 @@ use Rattle.epoch_laws.proofs.WorldHolds.{Holds, holds_along, view_of, acted, End
 use Rattle.epoch_laws.proofs.SeatSteps.{stay}
 use Rattle.epoch_laws.proofs.GoesKeeps.{go_keeps}
 use Rattle.epoch_laws.proofs.BeginsKeep.{accepted_holds}
-use Rattle.epoch_heap.specs.Heap.{Heap, heap_after_job}
+use Rattle.epoch_laws.specs.Heap.{Heap, heap_after_job}
 
 -- EVERY STEP
 

@@ -13,18 +13,18 @@ use Rattle.epoch_laws.specs.declared.step.Call.{Call}
 use Rattle.epoch_laws.specs.declared.step.Call.TheVariants.{Pin as PinCall, Unpin as UnpinCall, Repin as RepinCall}
 use Rattle.epoch_laws.specs.declared.step.Call.TheVariants.{Pause, Resume, Defer as DeferCall, Flush as FlushCall}
 use Rattle.epoch_laws.specs.declared.step.Call.TheVariants.{Release as ReleaseCall, DeferDestroy, Access as AccessCall}
-use Rattle.epoch_heap.specs.declared.access.Answer.TheVariants.{Unit as UnitAnswer, Absent}
+use Rattle.epoch_laws.specs.declared.heap.access.AccessAnswer.TheVariants.{Unit as UnitAnswer, Absent}
 use Rattle.epoch_laws.specs.declared.step.Reply.TheVariants.{Done}
 use Rattle.epoch_laws.specs.declared.step.Deferral.{Deferral}
 use Rattle.epoch_laws.specs.declared.step.Word.TheVariants.{Free}
 use Rattle.epoch_laws.specs.declared.step.Progress.{Progress}
 use Rattle.epoch_laws.specs.declared.step.Progress.TheVariants.{Driven, CallsNow, Ends, Accesses}
 use Rattle.epoch_laws.specs.Run.{WorldSeat, drives, begun_seat, with_guards, ended_seat, progress_after, accessed_seat}
-use Rattle.epoch_heap.specs.declared.access.Answer.{Answer}
-use Rattle.epoch_heap.specs.declared.access.Access.{Access}
-use Rattle.epoch_heap.specs.declared.access.Accessed.{Accessed}
-use Rattle.epoch_heap.specs.declared.access.Accessed.TheVariants.{Again, Answers, NoSlot}
-use Rattle.epoch_heap.specs.Heap.{null, has_steps}
+use Rattle.epoch_laws.specs.declared.heap.access.AccessAnswer.{AccessAnswer}
+use Rattle.epoch_laws.specs.declared.heap.access.Access.{Access}
+use Rattle.epoch_laws.specs.declared.heap.access.Accessed.{Accessed}
+use Rattle.epoch_laws.specs.declared.heap.access.Accessed.TheVariants.{Again, Answers, NoSlot}
+use Rattle.epoch_laws.specs.Heap.{null, has_steps}
 
 -- jobs are in hand only while they are called
 abbrev pub HandAt : List Deferral → Stage → Type 0
@@ -40,7 +40,7 @@ HeldAt m _ = Unit {0}
 -- a machine that isn't driven has nothing to ask, and what ends without it tells of no job
 abbrev pub RestsAt : Progress → Stage → Type 0
 RestsAt (Driven c) s = Unit {0}
-RestsAt (Ends reply) s = (s ≡ Idle) × ((answer : Answer) × (reply ≡ Done answer))
+RestsAt (Ends reply) s = (s ≡ Idle) × ((answer : AccessAnswer) × (reply ≡ Done answer))
 RestsAt _ s = s ≡ Idle
 
 pub record PlacesJobs (seat : WorldSeat) (s : Stage) : Type 0 where

@@ -62,3 +62,54 @@ pub mod FullFound
 -- REFUSALS: what a refused call leaves as it was
 pub mod RefusalsSince
 pub mod RefusalsLeave
+pub mod FoundCells
+pub mod HeapCalls
+pub mod PointersWritten
+pub mod Names
+pub mod PointerSteps
+pub mod HeldByTouches
+pub mod PointersChanged
+pub mod ReachKept
+pub mod GuardsStay
+pub mod ReachSteps
+pub mod ReachRuns
+pub mod TurnsGiven
+pub mod HeapSteps
+pub mod NamesOnce
+pub mod JobsAsDeferred
+pub mod LoneWorld
+pub mod ReachLost
+pub mod CellsStand
+pub mod CellsKept
+pub mod AccessesBegun
+pub mod PointersGiven
+pub mod LoadedStands
+pub mod ReadersCounted
+pub mod FreedStages
+pub mod ReadingsKept
+pub mod RoomToRead
+pub mod HeapFits
+pub mod Readable
+pub mod WorldAlong
+pub mod QuietCalls
+pub mod QuietSteps
+pub mod QuietRounds
+pub mod FirstRound
+pub mod PutFound
+pub mod FewCollected
+pub mod EachCollectsFew
+pub mod SureSteps
+pub mod SharpCalls
+pub mod SharpList
+pub mod LonePuts
+-- PLACES: what is read at a place of a list, and what the entries up to there tell
+pub mod PlacesRead
+pub mod ToldGrows
+pub mod Phases
+-- GUARDS: how often one is counted
+pub mod GuardsCounted
+-- LISTS: what holds of one where it holds at each place
+pub mod RepliesRead
+pub mod CallsChecked
+pub mod FitsRead
+pub mod Leavers

@@ -15,9 +15,9 @@ use Rattle.epoch_laws.specs.Run.{Moves, TakesStep, with_places, IsFresh, accesse
 use Rattle.epoch_laws.proofs.SeatChanges.{SeatChange, Registers, Begins, MachineGoes, Leaves, MachineEnds, JobCalled}
 use Rattle.epoch_laws.proofs.SeatChanges.{AccessGoes, Replies, SeatsGo, seats_go, as_many_seats, each_seat}
 use Rattle.epoch_machine.specs.declared.machine.Sizes.{Sizes}
-use Rattle.epoch_heap.specs.declared.access.Access.{Access}
-use Rattle.epoch_heap.specs.declared.access.Accessed.{Accessed}
-use Rattle.epoch_heap.specs.declared.access.Accessed.TheVariants.{Answers}
+use Rattle.epoch_laws.specs.declared.heap.access.Access.{Access}
+use Rattle.epoch_laws.specs.declared.heap.access.Accessed.{Accessed}
+use Rattle.epoch_laws.specs.declared.heap.access.Accessed.TheVariants.{Answers}
 pub use Rattle.epoch_laws.proofs.SeatLinks.{action_of, rests, BeganUnder, IsDriven, IsInStep, IsLinked, AllLinked}
 pub use Rattle.epoch_laws.proofs.SeatLinks.{free_linked, follows_at, progress_linked}
 use Rattle.epoch_laws.proofs.MachineGoesOn.{GoesOn, answer_goes_on}

@@ -2,7 +2,7 @@
 use Rattle.std.proofs.Common.{◌≡◌, ◌≢◌, ℕ, Bool, true, false, inl, inr}
 use Rattle.epoch_bags.specs.declared.job.Called.{Called}
 use Rattle.epoch_cells.specs.declared.fault.Fault.{Fault}
-use Rattle.epoch_heap.specs.declared.access.Answer.{Answer}
+use Rattle.epoch_laws.specs.declared.heap.access.AccessAnswer.{AccessAnswer}
 use Rattle.epoch_laws.specs.declared.step.Call.{Call}
 use Rattle.epoch_laws.specs.declared.step.Call.TheVariants.{Pin, Unpin, Repin, Pause, Resume, Defer, Flush, Release}
 use Rattle.epoch_laws.specs.declared.step.Call.TheVariants.{DeferDestroy, Access as AccessCall}
@@ -11,8 +11,8 @@ use Rattle.epoch_laws.specs.declared.step.Reply.TheVariants.{Began, Stepped, Pin
 use Rattle.epoch_laws.specs.declared.step.Reply.TheVariants.{Called as CalledReply, CalledNow, Done, Refused}
 use Rattle.epoch_laws.specs.Run.{WorldSeat, full_or_done, end_reply, access_reply}
 use Rattle.epoch_laws.proofs.Log.{IsPublish, IsWithdrawal}
-use Rattle.epoch_heap.specs.declared.access.Accessed.{Accessed}
-use Rattle.epoch_heap.specs.declared.access.Accessed.TheVariants.{Again, Answers, NoSlot}
+use Rattle.epoch_laws.specs.declared.heap.access.Accessed.{Accessed}
+use Rattle.epoch_laws.specs.declared.heap.access.Accessed.TheVariants.{Again, Answers, NoSlot}
 
 -- nothing is told but perhaps a call
 pub record IsPlain (r : Reply) : Type 0 where
@@ -53,7 +53,7 @@ quiet_now r how e = record {
   called = λ t how h. cc;
 }
 
-pub quiet_done : (r : Reply) (a : Answer) → r ≡ Done a → IsQuiet r
+pub quiet_done : (r : Reply) (a : AccessAnswer) → r ≡ Done a → IsQuiet r
 quiet_done r a e = record {
   plain = plain_by r (λ q h. cc) (λ q h. cc) (λ q h. cc) (λ t h. cc);
   called = λ t how h. cc;

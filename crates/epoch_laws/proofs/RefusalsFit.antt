@@ -7,9 +7,9 @@ use Rattle.epoch_cells.specs.declared.cells.name.Name.{Name}
 use Rattle.epoch_cells.specs.declared.fault.Fault.{Fault}
 use Rattle.epoch_cells.specs.declared.fault.Fault.TheVariants.{StrangerGuard, GuardsOut, TicketsOut, StrangerPointer}
 use Rattle.epoch_cells.specs.declared.fault.Fault.TheVariants.{NoSuchPlace, TooManyGuards, Busy}
-use Rattle.epoch_heap.specs.declared.access.Access.{Access}
-use Rattle.epoch_heap.specs.declared.access.Access.TheVariants.{Place, Read, Leave, Write, Take, Point}
-use Rattle.epoch_heap.specs.Heap.{Heap, guard_of, has_place, knows_names, is_removable}
+use Rattle.epoch_laws.specs.declared.heap.access.Access.{Access}
+use Rattle.epoch_laws.specs.declared.heap.access.Access.TheVariants.{Place, Read, Leave, Write, Take, Point}
+use Rattle.epoch_laws.specs.Heap.{Heap, guard_of, has_place, knows_names, is_removable}
 use Rattle.epoch_laws.specs.declared.step.Call.{Call}
 use Rattle.epoch_laws.specs.declared.step.Call.TheVariants.{Pin, Unpin, Repin, Pause, Resume, Defer, Flush, Release}
 use Rattle.epoch_laws.specs.declared.step.Call.TheVariants.{DeferDestroy, Access as AccessCall}

@@ -25,14 +25,15 @@ use Rattle.epoch_machine.specs.declared.machine.Answer.TheVariants.{Epoch as Epo
 use Rattle.epoch_machine.specs.Machine.{Machine, with_stage, after_collect, after_pin, after_put, after_unpin}
 use Rattle.epoch_machine.specs.Machine.{after_job, past_word, ask_at, hears, put_heard, took_heard, gives, PutsHeld}
 use Rattle.epoch_machine.proofs.StagesAfter.{after_pin_at, past_word_at, after_job_at}
-use Rattle.epoch_heap.specs.declared.access.Access.{Access}
-use Rattle.epoch_heap.specs.declared.access.Access.TheVariants.{Place}
-use Rattle.epoch_heap.specs.declared.access.Accessed.{Accessed}
-use Rattle.epoch_heap.specs.declared.access.Accessed.TheVariants.{Again, Answers, NoSlot}
-use Rattle.epoch_heap.specs.declared.access.Answer.{Answer}
-use Rattle.epoch_heap.specs.declared.access.Answer.TheVariants.{Unit as UnitAnswer, Released, Name as NameAnswer}
-use Rattle.epoch_heap.specs.declared.access.Ptr.{Ptr}
-use Rattle.epoch_heap.specs.Heap.{Cell, Touched, Places, outcome_of}
+use Rattle.epoch_laws.specs.declared.heap.access.Access.{Access}
+use Rattle.epoch_laws.specs.declared.heap.access.Access.TheVariants.{Place}
+use Rattle.epoch_laws.specs.declared.heap.access.Accessed.{Accessed}
+use Rattle.epoch_laws.specs.declared.heap.access.Accessed.TheVariants.{Again, Answers, NoSlot}
+use Rattle.epoch_laws.specs.declared.heap.access.AccessAnswer.{AccessAnswer}
+use Rattle.epoch_laws.specs.declared.heap.access.AccessAnswer.TheVariants.{Unit as UnitAnswer, Released}
+use Rattle.epoch_laws.specs.declared.heap.access.AccessAnswer.TheVariants.{Name as NameAnswer}
+use Rattle.epoch_laws.specs.declared.heap.access.Ptr.{Ptr}
+use Rattle.epoch_laws.specs.Heap.{Cell, Touched, Places, outcome_of}
 use Rattle.epoch_laws.specs.declared.step.Call.{Call}
 use Rattle.epoch_laws.specs.declared.step.Call.TheVariants.{Pin, Unpin, Repin, Pause, Resume, Defer, Flush, Release}
 use Rattle.epoch_laws.specs.declared.step.Call.TheVariants.{DeferDestroy, Access as AccessCall}
@@ -602,7 +603,7 @@ module _ (old new : State) (reply : Reply) (before : ℕ → WorldSeat) (quiet c
       (no_slot did.told (λ none. subst (IsTold nothing a) none (told_by_touch nothing a k found old.heap did touches)))
       told e (λ q. refl) (since_told a k (λ after. tt) did.told)
   goes linked (Ends last) at did =
-      let done : (answer : Answer) × (last ≡ Done answer) =
+      let done : (answer : AccessAnswer) × (last ≡ Done answer) =
       (follows_at old.sizes seat (linked.seats p) (Ends last) at).1 in
       tells (Done done.0) (record seat { progress = Idle }) _ tt (did.0 ∙ done.1) did.1 (λ q. refl) tt
 

@@ -8,10 +8,10 @@ use Rattle.epoch_machine.specs.declared.machine.Stage.TheVariants.{Advance, Take
 use Rattle.epoch_machine.specs.declared.machine.Stage.TheVariants.{StoreUnpinned, StoreFree, End}
 use Rattle.epoch_machine.specs.Machine.{is_empty, after_collect, after_unpin}
 use Rattle.epoch_machine.proofs.StagesAfter.{either_way}
-use Rattle.epoch_heap.specs.declared.access.Access.{Access}
-use Rattle.epoch_heap.specs.declared.access.Access.TheVariants.{Place}
-use Rattle.epoch_heap.specs.declared.access.Answer.TheVariants.{Absent}
-use Rattle.epoch_heap.specs.Heap.{null, has_steps}
+use Rattle.epoch_laws.specs.declared.heap.access.Access.{Access}
+use Rattle.epoch_laws.specs.declared.heap.access.Access.TheVariants.{Place}
+use Rattle.epoch_laws.specs.declared.heap.access.AccessAnswer.TheVariants.{Absent}
+use Rattle.epoch_laws.specs.Heap.{null, has_steps}
 use Rattle.epoch_laws.specs.declared.step.Call.{Call}
 use Rattle.epoch_laws.specs.declared.step.Call.TheVariants.{Pin, Unpin, Repin, Pause, Resume, Defer, Flush, Release}
 use Rattle.epoch_laws.specs.declared.step.Call.TheVariants.{DeferDestroy, Access as AccessCall}

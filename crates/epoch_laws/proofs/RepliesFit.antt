@@ -7,12 +7,12 @@ use Rattle.std.proofs.lemmas.Option.{same_Some}
 use Rattle.epoch_cells.specs.declared.fault.Fault.{Fault}
 use Rattle.epoch_cells.specs.declared.fault.Fault.TheVariants.{NotRegistered, Busy, BagsFull, Idle as IdleFault}
 use Rattle.epoch_cells.specs.declared.fault.Fault.TheVariants.{TableFull, Ended, ParticipantsLeft}
-use Rattle.epoch_heap.specs.Heap.{Heap}
-use Rattle.epoch_heap.specs.declared.access.Access.{Access}
-use Rattle.epoch_heap.specs.declared.access.Accessed.{Accessed}
-use Rattle.epoch_heap.specs.declared.access.Accessed.TheVariants.{NoSlot}
-use Rattle.epoch_heap.specs.declared.access.Answer.{Answer}
-use Rattle.epoch_heap.specs.declared.access.Answer.TheVariants.{Guard}
+use Rattle.epoch_laws.specs.Heap.{Heap}
+use Rattle.epoch_laws.specs.declared.heap.access.Access.{Access}
+use Rattle.epoch_laws.specs.declared.heap.access.Accessed.{Accessed}
+use Rattle.epoch_laws.specs.declared.heap.access.Accessed.TheVariants.{NoSlot}
+use Rattle.epoch_laws.specs.declared.heap.access.AccessAnswer.{AccessAnswer}
+use Rattle.epoch_laws.specs.declared.heap.access.AccessAnswer.TheVariants.{Guard}
 use Rattle.epoch_machine.specs.declared.machine.Stage.{Stage}
 use Rattle.epoch_machine.specs.declared.machine.Ask.{Ask}
 use Rattle.epoch_machine.specs.declared.machine.Ask.TheVariants.{PutBag, TakeBag, CallJob}
@@ -219,7 +219,7 @@ module _ (t : Told) (seat : WorldSeat) (h : Agrees t seat) (c : Call) (tickets :
 
 -- a call that its machine doesn't drive is no pin
 no_pin : (t : Told) (call : Option Call) (g : ℕ)
-    → ((answer : Answer) → after_done call answer t ≡ after_refused t) → IsGivenGuard call g t.guards
+    → ((answer : AccessAnswer) → after_done call answer t ≡ after_refused t) → IsGivenGuard call g t.guards
 no_pin t (Some Pin) g leaves = absurd (longer t.guards (ap (λ (u : Told). u.guards) (leaves (Guard g))))
   where
     longer : (guards : List ℕ) → guards ++ g ∷ [] ≡ guards → ⊥

@@ -6,10 +6,10 @@ use Rattle.std.proofs.lemmas.List.{length-set}
 use Rattle.epoch_bags.specs.declared.queue.PutStep.{PutStep}
 use Rattle.epoch_bags.specs.declared.queue.TakeStep.{TakeStep}
 use Rattle.epoch_cells.specs.declared.cells.name.Name.{Name}
-use Rattle.epoch_heap.specs.declared.access.Access.{Access}
-use Rattle.epoch_heap.specs.declared.access.Answer.TheVariants.{Unit as UnitAnswer}
-use Rattle.epoch_heap.specs.declared.access.Ptr.{Ptr}
-use Rattle.epoch_heap.specs.Heap.{Touched, Touches}
+use Rattle.epoch_laws.specs.declared.heap.access.Access.{Access}
+use Rattle.epoch_laws.specs.declared.heap.access.AccessAnswer.TheVariants.{Unit as UnitAnswer}
+use Rattle.epoch_laws.specs.declared.heap.access.Ptr.{Ptr}
+use Rattle.epoch_laws.specs.Heap.{Touched, Touches}
 use Rattle.epoch_machine.specs.declared.machine.Answer.{Answer}
 use Rattle.epoch_machine.specs.declared.machine.Ask.{Ask}
 use Rattle.epoch_machine.specs.declared.machine.Ask.TheVariants.{StorePinned, StoreRepinned, StoreUnpinned, StoreFree}

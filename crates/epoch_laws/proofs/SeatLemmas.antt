@@ -10,7 +10,7 @@ use Rattle.epoch_laws.specs.declared.step.Progress.{Progress}
 use Rattle.epoch_laws.specs.declared.step.Progress.TheVariants.{Idle}
 use Rattle.epoch_laws.specs.Run.{WorldSeat, State, seat_of, position_word, with_seat, free_seat, is_free, is_idle}
 use Rattle.epoch_laws.specs.Run.{waits, call_refusal, refusal}
-use Rattle.epoch_heap.specs.Heap.{Heap}
+use Rattle.epoch_laws.specs.Heap.{Heap}
 
 pub seat_written : (s : State) (p : ℕ) (seat : WorldSeat) → p < length s.seats → seat_of (with_seat s p seat) p ≡ seat
 seat_written s p seat lt = get_or-set_same s.seats p seat (free_seat s.sizes) lt

@@ -9,9 +9,9 @@ use Rattle.epoch_machine.specs.declared.machine.Stage.TheVariants.{Idle as Resti
 use Rattle.epoch_machine.specs.declared.machine.Stage.TheVariants.{LoadScan, Scan, Advance, Take, Calling, LoadSeal}
 use Rattle.epoch_machine.specs.declared.machine.Stage.TheVariants.{Put, StoreFree}
 use Rattle.epoch_machine.specs.Machine.{Machine}
-use Rattle.epoch_heap.specs.declared.access.Access.{Access}
-use Rattle.epoch_heap.specs.declared.access.Answer.TheVariants.{Absent}
-use Rattle.epoch_heap.specs.Heap.{null, has_steps}
+use Rattle.epoch_laws.specs.declared.heap.access.Access.{Access}
+use Rattle.epoch_laws.specs.declared.heap.access.AccessAnswer.TheVariants.{Absent}
+use Rattle.epoch_laws.specs.Heap.{null, has_steps}
 use Rattle.epoch_laws.specs.declared.step.Call.{Call}
 use Rattle.epoch_laws.specs.declared.step.Call.TheVariants.{Pin, Unpin, Repin, Pause, Resume, Defer, Flush, Release}
 use Rattle.epoch_laws.specs.declared.step.Call.TheVariants.{DeferDestroy, Access as AccessCall}

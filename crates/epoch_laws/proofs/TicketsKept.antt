@@ -11,7 +11,7 @@ use Rattle.epoch_machine.proofs.StagesAfter.{either_way}
 use Rattle.epoch_laws.specs.declared.step.Call.{Call}
 use Rattle.epoch_laws.specs.declared.step.Reply.{Reply}
 use Rattle.epoch_laws.specs.declared.step.Reply.TheVariants.{Began, Done}
-use Rattle.epoch_heap.specs.declared.access.Answer.TheVariants.{Unit as UnitAnswer, Released}
+use Rattle.epoch_laws.specs.declared.heap.access.AccessAnswer.TheVariants.{Unit as UnitAnswer, Released}
 use Rattle.epoch_laws.specs.declared.step.Entry.{Entry}
 use Rattle.epoch_laws.specs.declared.step.Deferral.{Deferral}
 use Rattle.epoch_laws.specs.declared.step.Word.TheVariants.{Free, Unpinned, Pinned}
@@ -26,7 +26,7 @@ use Rattle.epoch_laws.proofs.JobsPlaced.{held_unpinned, held_past, resting, begu
 use Rattle.epoch_laws.proofs.TicketsTallied.{Tallies, tells, untold_calls, untold_deferrals, end_untold, none_given}
 use Rattle.epoch_laws.proofs.TicketsTallied.{stayed, acts, heap_beside, access_untold}
 use Rattle.epoch_laws.proofs.JobsMoved.{IsGoing, ending_open, keeps_jobs, staged, puts, takes, calls, keeps}
-use Rattle.epoch_heap.specs.Heap.{Heap}
+use Rattle.epoch_laws.specs.Heap.{Heap}
 
 module _ (old new : State) (log : List Entry) (x : Entry) (h : Tallies old log) where
   abbrev Kept : Type 0

@@ -6,8 +6,8 @@ use Rattle.epoch_laws.specs.declared.step.Reply.TheVariants.{Began, Stepped, Cal
 use Rattle.epoch_laws.specs.declared.step.Reply.{Reply}
 use Rattle.epoch_laws.specs.declared.step.Entry.{Entry}
 use Rattle.epoch_laws.specs.declared.step.Progress.TheVariants.{Driven, CallsNow, Accesses, Ends}
-use Rattle.epoch_heap.specs.declared.access.Answer.TheVariants.{Count}
-use Rattle.epoch_heap.specs.Heap.{outcome_of, heap_after_job}
+use Rattle.epoch_laws.specs.declared.heap.access.AccessAnswer.TheVariants.{Count}
+use Rattle.epoch_laws.specs.Heap.{outcome_of, heap_after_job}
 use Rattle.epoch_laws.specs.Run.{with_places, WorldSeat, State, seat_of, Ending, Open, Emptying, Over, AllFree}
 use Rattle.epoch_laws.specs.Run.{Runs, IsFresh}
 use Rattle.epoch_laws.specs.Tickets.{times_queued, times_at_end, times_called, times_deferred, HoldsEachTicketOnce}

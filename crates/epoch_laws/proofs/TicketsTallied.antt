@@ -14,9 +14,9 @@ use Rattle.epoch_laws.specs.Tickets.{times_called, times_deferred}
 use Rattle.epoch_laws.proofs.SeatLemmas.{seat_written, seat_other, same_or_other}
 use Rattle.epoch_laws.proofs.TicketSums.{called_push, deferred_push, times_at, seats_set}
 use Rattle.epoch_laws.proofs.JobsPlaced.{PlacesHere}
-use Rattle.epoch_heap.specs.declared.access.Accessed.{Accessed}
-use Rattle.epoch_heap.specs.declared.access.Accessed.TheVariants.{Again, Answers, NoSlot}
-use Rattle.epoch_heap.specs.Heap.{Heap}
+use Rattle.epoch_laws.specs.declared.heap.access.Accessed.{Accessed}
+use Rattle.epoch_laws.specs.declared.heap.access.Accessed.TheVariants.{Again, Answers, NoSlot}
+use Rattle.epoch_laws.specs.Heap.{Heap}
 
 -- what holds between any two steps
 pub record Tallies (s : State) (log : List Entry) : Type 0 where

@@ -14,7 +14,7 @@ use Rattle.epoch_laws.proofs.DeferralEpochs.{DeferredBy, SealedBehind, deferred_
 use Rattle.epoch_laws.proofs.Log.{IsPublish, IsWithdrawal}
 use Rattle.epoch_laws.proofs.SeatsFine.{View, is_pinned, SeatIsFine, WasPinned, Passes, fine_more}
 use Rattle.epoch_laws.proofs.LogKept.{LogHolds, Tells, Lasts, log_push}
-use Rattle.epoch_heap.specs.Heap.{Heap}
+use Rattle.epoch_laws.specs.Heap.{Heap}
 
 abbrev pub view_of : State → (ℕ → ℕ) → (ℕ → ℕ) → View
 view_of s since when =

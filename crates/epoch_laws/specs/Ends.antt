@@ -1,6 +1,6 @@
 -- What an end has done when it is told how many jobs it called.
 use Rattle.std.specs.Prelude.{◌≡◌, ℕ, List, sum_by, Some, slice_get}
-use Rattle.epoch_heap.specs.declared.access.Answer.TheVariants.{Count}
+use Rattle.epoch_laws.specs.declared.heap.access.AccessAnswer.TheVariants.{Count}
 use Rattle.epoch_laws.specs.declared.step.Entry.{Entry}
 use Rattle.epoch_laws.specs.declared.step.Reply.{Reply}
 use Rattle.epoch_laws.specs.declared.step.Reply.TheVariants.{Called, Done}

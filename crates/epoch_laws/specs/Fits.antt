@@ -7,10 +7,10 @@ use Rattle.epoch_cells.specs.declared.fault.Fault.TheVariants.{TableFull, CellsF
 use Rattle.epoch_cells.specs.declared.fault.Fault.TheVariants.{NotRegistered, StrangerGuard, GuardsOut, TooManyGuards}
 use Rattle.epoch_cells.specs.declared.fault.Fault.TheVariants.{ParticipantsLeft, Ended, NoSuchPlace, StrangerPointer}
 use Rattle.epoch_cells.specs.declared.fault.Fault.TheVariants.{TicketsOut}
-use Rattle.epoch_heap.specs.declared.access.Access.{Access}
-use Rattle.epoch_heap.specs.declared.access.Access.TheVariants.{Place, Read, Point}
-use Rattle.epoch_heap.specs.declared.access.Answer.TheVariants.{Guard}
-use Rattle.epoch_heap.specs.Heap.{guard_of}
+use Rattle.epoch_laws.specs.declared.heap.access.Access.{Access}
+use Rattle.epoch_laws.specs.declared.heap.access.Access.TheVariants.{Place, Read, Point}
+use Rattle.epoch_laws.specs.declared.heap.access.AccessAnswer.TheVariants.{Guard}
+use Rattle.epoch_laws.specs.Heap.{guard_of}
 use Rattle.epoch_laws.specs.declared.step.Phase.{Phase}
 use Rattle.epoch_laws.specs.declared.step.Phase.TheVariants.{Before, During, After}
 use Rattle.epoch_laws.specs.declared.step.Call.{Call}

@@ -20,7 +20,7 @@ use Rattle.epoch_laws.specs.declared.step.Reply.TheVariants.{Done}
 use Rattle.epoch_laws.specs.Readings.{KeepsReadings}
 use Rattle.epoch_laws.specs.Run.{Bag, WorldSeat, State, Ending, Emptying, seat_of, position_word, is_out}
 use Rattle.epoch_laws.specs.declared.step.Word.TheVariants.{Free}
-use Rattle.epoch_heap.specs.declared.access.Answer.{Answer}
+use Rattle.epoch_laws.specs.declared.heap.access.AccessAnswer.{AccessAnswer}
 
 -- CALLS, MACHINES AND GUARDS SAY THE SAME
 
@@ -58,7 +58,7 @@ pub record IsDriven (c : Call) (m : Machine Deferral) (guards : List ℕ) : Type
 -- the machine rests but where it drives the call under way; a call that it doesn't drive is done at its end
 abbrev pub IsInStep : Progress → Machine Deferral → List ℕ → Type 0
 IsInStep (Driven c) m guards = IsDriven c m guards
-IsInStep (Ends reply) m guards = (m.stage ≡ Resting) × ((answer : Answer) × (reply ≡ Done answer))
+IsInStep (Ends reply) m guards = (m.stage ≡ Resting) × ((answer : AccessAnswer) × (reply ≡ Done answer))
 IsInStep _ m guards = m.stage ≡ Resting
 
 pub record IsLinked (sizes : Sizes) (seat : WorldSeat) : Type 0 where

@@ -8,20 +8,22 @@ use Rattle.epoch_laws.specs.declared.step.Call.TheVariants.{Pin, Unpin, Pause, R
 use Rattle.epoch_laws.specs.declared.step.Call.TheVariants.{DeferDestroy, Access as AccessCall}
 use Rattle.epoch_laws.specs.declared.step.Step.{Step}
 use Rattle.epoch_laws.specs.declared.step.Step.TheVariants.{Register, Begin, Go, End, EndGo}
-use Rattle.epoch_heap.specs.declared.access.Access.{Access}
-use Rattle.epoch_heap.specs.declared.access.Access.TheVariants.{Place, Read, Leave, Write, Take, Point}
-use Rattle.epoch_heap.specs.declared.access.Change.{Change}
-use Rattle.epoch_heap.specs.declared.access.Change.TheVariants.{Load, Store, Swap, CompareExchange, FetchAnd, FetchOr}
-use Rattle.epoch_heap.specs.declared.access.Change.TheVariants.{FetchXor, FetchUpdate}
-use Rattle.epoch_heap.specs.declared.access.Answer.{Answer}
-use Rattle.epoch_heap.specs.declared.access.Answer.TheVariants.{Guard, Unit as UnitAnswer, Released, Count}
-use Rattle.epoch_heap.specs.declared.access.Answer.TheVariants.{Name as NameAnswer, Value, Absent, Pointer, Exchanged}
-use Rattle.epoch_heap.specs.declared.access.Answer.TheVariants.{Unchanged, Updated, Stopped, RanOut}
+use Rattle.epoch_laws.specs.declared.heap.access.Access.{Access}
+use Rattle.epoch_laws.specs.declared.heap.access.Access.TheVariants.{Place, Read, Leave, Write, Take, Point}
+use Rattle.epoch_laws.specs.declared.heap.access.Change.{Change}
+use Rattle.epoch_laws.specs.declared.heap.access.Change.TheVariants.{Load, Store, Swap, CompareExchange, FetchAnd}
+use Rattle.epoch_laws.specs.declared.heap.access.Change.TheVariants.{FetchOr}
+use Rattle.epoch_laws.specs.declared.heap.access.Change.TheVariants.{FetchXor, FetchUpdate}
+use Rattle.epoch_laws.specs.declared.heap.access.AccessAnswer.{AccessAnswer}
+use Rattle.epoch_laws.specs.declared.heap.access.AccessAnswer.TheVariants.{Guard, Unit as UnitAnswer, Released, Count}
+use Rattle.epoch_laws.specs.declared.heap.access.AccessAnswer.TheVariants.{Name as NameAnswer, Value, Absent, Pointer}
+use Rattle.epoch_laws.specs.declared.heap.access.AccessAnswer.TheVariants.{Exchanged}
+use Rattle.epoch_laws.specs.declared.heap.access.AccessAnswer.TheVariants.{Unchanged, Updated, Stopped, RanOut}
 use Rattle.epoch_laws.specs.declared.step.Reply.{Reply}
 use Rattle.epoch_laws.specs.declared.step.Reply.TheVariants.{Registered, Began, Stepped, Pinned, Unpinned, Repinned}
 use Rattle.epoch_laws.specs.declared.step.Reply.TheVariants.{Deferred, Called as CalledReply, CalledNow, Done, Refused}
 use Rattle.epoch_laws.specs.declared.step.Entry.{Entry}
-use Rattle.epoch_heap.specs.Heap.{guard_of}
+use Rattle.epoch_laws.specs.Heap.{guard_of}
 use Rattle.epoch_laws.specs.Run.{is_out, waits, without}
 use Rattle.epoch_laws.specs.Grace.{IsReplyAt}
 
@@ -55,7 +57,7 @@ nothing = record {
 }
 
 -- a guard is counted from the end of Pin or Resume, up to the end of Unpin or Pause
-abbrev pub counted_after : Option Call → Answer → List ℕ → List ℕ
+abbrev pub counted_after : Option Call → AccessAnswer → List ℕ → List ℕ
 counted_after (Some Pin) (Guard g) guards = guards ++ g ∷ []
 counted_after (Some (Resume (Some g))) answer guards = guards ++ g ∷ []
 counted_after (Some (Unpin (Some g))) answer guards = without g guards
@@ -93,7 +95,7 @@ after_begin t c _ = t
 abbrev pub after_refused : Told → Told
 after_refused t = record t { call = None }
 
-abbrev pub after_done : Option Call → Answer → Told → Told
+abbrev pub after_done : Option Call → AccessAnswer → Told → Told
 after_done call answer t = record t {
   registered = registered_after call t.registered;
   call = None;
@@ -181,37 +183,37 @@ HasTold (Some _) t = Unit {0}
 HasTold None t = ⊥
 
 -- a value, or that there is no such cell or that it is held otherwise
-abbrev pub IsValue : Answer → Type 0
+abbrev pub IsValue : AccessAnswer → Type 0
 IsValue (Value v) = Unit {0}
 IsValue Absent = Unit {0}
 IsValue _ = ⊥
 
 -- a pointer, or that the cell of its field is gone
-abbrev pub IsPointer : Answer → Type 0
+abbrev pub IsPointer : AccessAnswer → Type 0
 IsPointer (Pointer ptr) = Unit {0}
 IsPointer Absent = Unit {0}
 IsPointer _ = ⊥
 
 -- nothing, or that the cell is gone or held otherwise
-abbrev pub IsWritten : Answer → Type 0
+abbrev pub IsWritten : AccessAnswer → Type 0
 IsWritten UnitAnswer = Unit {0}
 IsWritten Absent = Unit {0}
 IsWritten _ = ⊥
 
-abbrev pub IsExchange : Answer → Type 0
+abbrev pub IsExchange : AccessAnswer → Type 0
 IsExchange (Exchanged ptr) = Unit {0}
 IsExchange (Unchanged ptr) = Unit {0}
 IsExchange Absent = Unit {0}
 IsExchange _ = ⊥
 
-abbrev pub IsUpdate : Answer → Type 0
+abbrev pub IsUpdate : AccessAnswer → Type 0
 IsUpdate (Updated ptr) = Unit {0}
 IsUpdate (Stopped ptr) = Unit {0}
 IsUpdate (RanOut ptr) = Unit {0}
 IsUpdate Absent = Unit {0}
 IsUpdate _ = ⊥
 
-abbrev pub ChangeAnswers : Change → Answer → Type 0
+abbrev pub ChangeAnswers : Change → AccessAnswer → Type 0
 ChangeAnswers Load answer = IsPointer answer
 ChangeAnswers (Store other) answer = IsWritten answer
 ChangeAnswers (Swap other) answer = IsPointer answer
@@ -222,7 +224,7 @@ ChangeAnswers (FetchXor n) answer = IsPointer answer
 ChangeAnswers (FetchUpdate tries by) answer = IsUpdate answer
 
 -- a call on cells and pointers is done with its own kind of answer
-abbrev pub AccessAnswers : Access → Answer → Type 0
+abbrev pub AccessAnswers : Access → AccessAnswer → Type 0
 AccessAnswers (Place v) (NameAnswer n) = Unit {0}
 AccessAnswers (Place v) answer = ⊥
 AccessAnswers (Read g ptr) answer = IsValue answer
@@ -234,7 +236,7 @@ AccessAnswers (Point g spot change) answer = ChangeAnswers change answer
 
 -- a pin that is done answers its guard, a release that the position is free, and any other call nothing, but for those
 -- on cells and pointers
-abbrev pub AnswerFits : Option Call → Answer → Type 0
+abbrev pub AnswerFits : Option Call → AccessAnswer → Type 0
 AnswerFits (Some Pin) (Guard g) = Unit {0}
 AnswerFits (Some Pin) answer = ⊥
 AnswerFits (Some Release) Released = Unit {0}

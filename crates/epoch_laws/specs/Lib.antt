@@ -13,3 +13,13 @@ pub mod Kept
 pub mod Calls
 pub mod Full
 pub mod Refusals
+pub mod Heap
+pub mod Reach
+pub mod Given
+pub mod Removals
+pub mod Standing
+pub mod Rounds
+pub mod Collected
+pub mod Sharp
+pub mod Known
+pub mod Events

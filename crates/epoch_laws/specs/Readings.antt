@@ -6,9 +6,9 @@ use Rattle.epoch_machine.specs.declared.machine.Action.{Action}
 use Rattle.epoch_machine.specs.declared.machine.Action.TheVariants.{Release as ReleaseAction}
 use Rattle.epoch_machine.specs.declared.machine.Stage.{Stage}
 use Rattle.epoch_machine.specs.declared.machine.Stage.TheVariants.{StoreFree}
-use Rattle.epoch_heap.specs.declared.access.Access.TheVariants.{Read, Leave}
-use Rattle.epoch_heap.specs.declared.access.Ptr.{Ptr}
-use Rattle.epoch_heap.specs.Heap.{Cell, cell_at, is_name}
+use Rattle.epoch_laws.specs.declared.heap.access.Access.TheVariants.{Read, Leave}
+use Rattle.epoch_laws.specs.declared.heap.access.Ptr.{Ptr}
+use Rattle.epoch_laws.specs.Heap.{Cell, cell_at, is_name}
 use Rattle.epoch_laws.specs.declared.step.Call.TheVariants.{Release}
 use Rattle.epoch_laws.specs.declared.step.Progress.{Progress}
 use Rattle.epoch_laws.specs.declared.step.Progress.TheVariants.{Driven, Accesses}

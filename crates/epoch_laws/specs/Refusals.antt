@@ -3,7 +3,7 @@ use Rattle.std.specs.Prelude.{◌≡◌, ◌≢◌, ℕ, List, [], ◌∷◌, �
 use Rattle.epoch_cells.specs.declared.fault.Fault.TheVariants.{CellsFull, BagsFull}
 use Rattle.epoch_machine.specs.declared.machine.Ask.{Ask}
 use Rattle.epoch_machine.specs.declared.machine.Ask.TheVariants.{TakeBag, CallJob}
-use Rattle.epoch_heap.specs.declared.access.Access.TheVariants.{Place}
+use Rattle.epoch_laws.specs.declared.heap.access.Access.TheVariants.{Place}
 use Rattle.epoch_laws.specs.declared.step.Call.TheVariants.{Defer, Flush, Release, DeferDestroy}
 use Rattle.epoch_laws.specs.declared.step.Entry.{Entry}
 use Rattle.epoch_laws.specs.declared.step.Progress.{Progress}

@@ -30,8 +30,8 @@ use Rattle.epoch_laws.specs.declared.step.Call.TheVariants.{Pin, Unpin, Repin, P
 use Rattle.epoch_laws.specs.declared.step.Call.TheVariants.{DeferDestroy, Access as AccessCall}
 use Rattle.epoch_laws.specs.declared.step.Step.{Step}
 use Rattle.epoch_laws.specs.declared.step.Step.TheVariants.{Register, Begin, Go, End as EndStep, EndGo}
-use Rattle.epoch_heap.specs.declared.access.Answer.TheVariants.{Guard, Unit as UnitAnswer, Released, Count, Value}
-use Rattle.epoch_heap.specs.declared.access.Answer.TheVariants.{Absent}
+use Rattle.epoch_laws.specs.declared.heap.access.AccessAnswer.TheVariants.{Guard, Unit as UnitAnswer, Released, Count}
+use Rattle.epoch_laws.specs.declared.heap.access.AccessAnswer.TheVariants.{Value, Absent}
 use Rattle.epoch_laws.specs.declared.step.Reply.{Reply}
 use Rattle.epoch_laws.specs.declared.step.Reply.TheVariants.{Registered, Began, Stepped, Pinned as PinnedReply}
 use Rattle.epoch_laws.specs.declared.step.Reply.TheVariants.{Unpinned as UnpinnedReply, Repinned, Deferred}
@@ -47,13 +47,13 @@ use Rattle.epoch_laws.specs.Collections.{Outlook, outlook, FindsAhead}
 use Rattle.epoch_laws.specs.Room.{is_at_places, TellsRoom}
 use Rattle.epoch_cells.specs.PlainCells.{empty}
 use Rattle.epoch_cells.specs.declared.cells.name.Name.{Name}
-use Rattle.epoch_heap.specs.declared.access.Access.{Access}
-use Rattle.epoch_heap.specs.declared.access.Access.TheVariants.{Read, Leave}
-use Rattle.epoch_heap.specs.declared.access.Accessed.{Accessed}
-use Rattle.epoch_heap.specs.declared.access.Accessed.TheVariants.{Again, Answers, NoSlot}
-use Rattle.epoch_heap.specs.declared.access.Ptr.{Ptr}
-use Rattle.epoch_heap.specs.Heap.{Cell, Heap, null, is_name, outcome_of, heap_after_job, Touched, Touches, guard_of}
-use Rattle.epoch_heap.specs.Heap.{has_steps, has_place, is_removable, knows_names}
+use Rattle.epoch_laws.specs.declared.heap.access.Access.{Access}
+use Rattle.epoch_laws.specs.declared.heap.access.Access.TheVariants.{Read, Leave}
+use Rattle.epoch_laws.specs.declared.heap.access.Accessed.{Accessed}
+use Rattle.epoch_laws.specs.declared.heap.access.Accessed.TheVariants.{Again, Answers, NoSlot}
+use Rattle.epoch_laws.specs.declared.heap.access.Ptr.{Ptr}
+use Rattle.epoch_laws.specs.Heap.{Cell, Heap, null, is_name, outcome_of, heap_after_job, Touched, Touches, guard_of}
+use Rattle.epoch_laws.specs.Heap.{has_steps, has_place, is_removable, knows_names}
 
 -- a job of the world, and a bag of the store
 abbrev pub Bag : Type 0

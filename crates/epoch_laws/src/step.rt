@@ -1,8 +1,8 @@
 //! Steps, replies and what a world is made of.
 
+use crate::heap::{Access, AccessAnswer, Ptr};
 use epoch_bags::Called;
 use epoch_cells::{Fault, Name};
-use epoch_heap::{Access, Answer, Ptr};
 
 /// What a participant is asked to do. A guard is its number, or `None` for an unprotected guard.
 #[derive(Clone, Copy, Debug, PartialEq, Eq)]
@@ -59,7 +59,7 @@ pub enum Reply {
     Called(u64, Called),
     /// A job was called at once, under an unprotected guard. It has no ticket.
     CalledNow(Called),
-    Done(Answer),
+    Done(AccessAnswer),
     Refused(Fault),
 }
 

@@ -9,10 +9,10 @@ mod lanes;
 mod marks;
 
 use crate::Moment;
+use crate::cells::{Shown, shown_of};
 use crate::moment::entries_of;
 pub use columns::MOST_COLUMNS;
 use epoch_bags::Called;
-use epoch_cell_pictures::{Shown, shown_of};
 use epoch_cells::{Fault, Name};
 use epoch_world::Call;
 use std::alloc::{AllocError, Global};
@@ -37,7 +37,7 @@ pub struct Mark {
 
 /// A deferral that was accepted.
 #[derive(Clone, Copy)]
-pub struct Deferral {
+pub struct DeferralMark {
     pub ticket: u64,
     /// The cell that the job removes, if it is a removal.
     pub removes: Option<Name>,
@@ -82,7 +82,7 @@ pub struct Picture<'m> {
     pub calls: Vec<Bar<Option<Call>>>,
     /// The epochs that participants published, until they published another one or none.
     pub pins: Vec<Bar<u64>>,
-    pub deferrals: Vec<Deferral>,
+    pub deferrals: Vec<DeferralMark>,
     pub arrows: Vec<Arrow>,
     /// The jobs that were called at once, which have no ticket.
     pub called_at_once: Vec<AtOnce>,

@@ -7,3 +7,10 @@ pub mod Reading
 pub mod Fields
 pub mod Sights
 pub mod Watching
+pub mod TurnsKeyless
+pub mod TurnFields
+pub mod Turned
+pub mod Finding
+pub mod Seeing
+pub mod Standing
+pub mod Bagged

@@ -7,7 +7,7 @@ ghost use Rattle.epoch_lend.specs.Loans.{Shown, shown_coded, lending_owns, lendi
 ghost use Rattle.epoch_lend.specs.Loans.{marked_owns, Loan, loan_coded, SeenPost, Within, AreShown};
 
 use crate::part::Part;
-use crate::post::{Guard, Post};
+use crate::post::{Post, PostGuard};
 use atomic_table::exchange;
 use std::marker::{Brand, Model, Move, Owns, PhantomData};
 use std::sync::atomic::Ordering::SeqCst;
@@ -83,7 +83,7 @@ impl<T> Lending<T> {
 
     /// Looks at the value, by one plain load. If it finds `PRESENT`, the value may be read for as long as the guard is
     /// lent. The guard must be of one of the value's posts.
-    pub fn look<'g>(&self, guard: &'g Guard, at: *const T) -> (u64, Glance<'g, T>)
+    pub fn look<'g>(&self, guard: &'g PostGuard, at: *const T) -> (u64, Glance<'g, T>)
         requires { (at ≡ self.now.at) × IsAmong guard.now.log self.now.posts }
         ensures { (result.0 ≡ PRESENT → result.1.right ≡ 1) × (result.0 ≢ PRESENT → result.1.right ≡ 0)
             × (result.1.value ≡ Some self.now.value) }

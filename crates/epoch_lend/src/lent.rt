@@ -5,7 +5,7 @@ ghost use Rattle.epoch_lend.specs.Loans.{Within};
 
 use crate::lending::{Lending, Marked, PRESENT};
 use crate::part::{Deed, freeze};
-use crate::post::{Guard, Post};
+use crate::post::{Post, PostGuard};
 use std::alloc::Allocator;
 
 /// A value that guards of some posts may look at, until it is marked.
@@ -32,7 +32,7 @@ impl<T: Drop> Lent<T> {
 impl<T> Lent<T> {
     /// Looks at the value, by one plain load. If the value is present, it is lent for as long as the guard is. `None`:
     /// it was marked. The guard must be of one of the value's posts.
-    pub fn look<'g>(&self, guard: &'g Guard) -> Option<&'g T>
+    pub fn look<'g>(&self, guard: &'g PostGuard) -> Option<&'g T>
         requires { IsAmong guard.now.log self.now.lending.posts }
         ensures { IfSome result (λ value. value.now ≡ self.now.lending.value) }
     {

@@ -2,9 +2,12 @@
 //! the whole value back.
 #![tactic(auto)]
 
+pub mod array;
 pub mod back;
+pub mod cells;
 pub mod lending;
 pub mod lent;
 pub mod part;
 pub mod post;
+pub mod readers;
 pub mod watch;

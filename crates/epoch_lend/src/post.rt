@@ -55,7 +55,7 @@ impl Model for Pin {
 /// A guard of a pin. All guards of one pin share a lifetime, which `atom` names: 2^63 parts, of which this is `count`.
 /// It has no bytes.
 #[derive(Drop)]
-pub struct Guard {
+pub struct PostGuard {
     pub(crate) marker: PhantomData<()>,
     pub ghost atom: { ℕ },
     pub ghost epoch: { ℕ },
@@ -63,7 +63,7 @@ pub struct Guard {
     pub ghost count: { ℕ },
 }
 
-impl Model for Guard {
+impl Model for PostGuard {
     ghost also_owns = { λ g. guard_owns g.atom g.epoch g.log g.count };
 
     ghost also_shares = { λ g _ κ. guard_shares g.atom g.epoch g.log κ };
@@ -86,7 +86,7 @@ impl Post {
     }
 
     /// Pins, by one store of the word of this epoch.
-    pub(crate) fn publish(&self, unpinned: Unpinned, epoch: u64, word: u64) -> (Pin, Guard)
+    pub(crate) fn publish(&self, unpinned: Unpinned, epoch: u64, word: u64) -> (Pin, PostGuard)
         requires { (unpinned.log ≡ self.now.log) × (unpinned.state ≡ self.now.state) × (word ≡ posted epoch) }
         ensures pin { (result.0.log ≡ self.now.log) × (result.0.state ≡ self.now.state)
             × (result.0.atom ≡ result.1.atom) }
@@ -99,7 +99,7 @@ impl Post {
             Pin {
                 marker: PhantomData,
             },
-            Guard {
+            PostGuard {
                 marker: PhantomData,
             },
         )
@@ -107,7 +107,7 @@ impl Post {
 
     /// Pins in this epoch, by one store. The right to pin must be that of this post, and the epoch less than 2^63.
     /// Returns the right to end the pin, and all of its guards as one.
-    pub fn pin(&self, unpinned: Unpinned, epoch: u64) -> (Pin, Guard)
+    pub fn pin(&self, unpinned: Unpinned, epoch: u64) -> (Pin, PostGuard)
         requires of_post { (unpinned.log ≡ self.now.log) × (unpinned.state ≡ self.now.state) }
         requires within { epoch < 2 ^ 63 }
         ensures pin { (result.0.log ≡ self.now.log) × (result.0.state ≡ self.now.state)
@@ -118,13 +118,13 @@ impl Post {
     }
 
     /// Ends the pin, by one store. All of its guards must be here again as one. Returns the right to pin again.
-    pub fn unpin(&self, pin: Pin, guard: Guard) -> Unpinned
+    pub fn unpin(&self, pin: Pin, guard: PostGuard) -> Unpinned
         requires of_post { (pin.log ≡ self.now.log) × (pin.state ≡ self.now.state) }
         requires all_here { (guard.atom ≡ pin.atom) × (guard.count ≡ 2 ^ 63) }
         ensures { (result.log ≡ self.now.log) × (result.state ≡ self.now.state) }
     {
         let Pin { marker: _ } = pin;
-        let Guard { marker: _ } = guard;
+        let PostGuard { marker: _ } = guard;
         unsafe { raw::store::<Brand>(&raw const self.word, 0, SeqCst) };
         Unpinned {
             marker: PhantomData,
@@ -159,24 +159,24 @@ impl Post {
     }
 }
 
-impl Guard {
+impl PostGuard {
     /// Splits off another guard of the same pin, of one share. This one must have more than one, and keeps the rest.
-    pub fn split_one(&mut self) -> Guard
+    pub fn split_one(&mut self) -> PostGuard
         requires { (1 < self.old.count) × (self.old.count ≤ 2 ^ 63) }
         ensures { (self.new ≡ record self.old { count = self.old.count - 1 })
             × (result ≡ record self.old { count = 1 }) }
     {
-        Guard {
+        PostGuard {
             marker: PhantomData,
         }
     }
 
     /// Takes in another guard of the same pin.
-    pub fn join(&mut self, other: Guard)
+    pub fn join(&mut self, other: PostGuard)
         requires { (other.atom ≡ self.old.atom) × (0 < self.old.count) × (self.old.count + other.count ≤ 2 ^ 63) }
         ensures { self.new ≡ record self.old { count = self.old.count + other.count } }
     {
-        let Guard { marker: _ } = other;
+        let PostGuard { marker: _ } = other;
     }
 }
 
@@ -196,4 +196,4 @@ unsafe impl Sync for Unpinned {}
 
 unsafe impl Send for Pin {}
 
-unsafe impl Send for Guard {}
+unsafe impl Send for PostGuard {}

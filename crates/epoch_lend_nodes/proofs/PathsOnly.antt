@@ -1,11 +1,11 @@
 -- The path of a call, without what its accesses do.
 use Rattle.std.proofs.Common.{◌≡◌, List, [], ◌∷◌, Option, refl, sym, subst}
 use Rattle.epoch_cells.specs.declared.fault.Fault.{Fault}
-use Rattle.epoch_heap.specs.declared.access.Access.{Access}
+use Rattle.epoch_laws.specs.declared.heap.access.Access.{Access}
 use Rattle.epoch_laws.specs.declared.step.Reply.{Reply}
 use Rattle.epoch_plans.specs.Plans.{Deed, Flushes, Touches, Defers, Answers, after_by}
-use Rattle.epoch_plan_calls.specs.Courses.{Keeping, PerformsBy, GoesTo, DoesBy}
-use Rattle.epoch_lend_array.specs.declared.cells.Spot.{Spot}
+use Rattle.epoch_structure_calls.specs.Paths.{Keeping, PerformsBy, GoesTo, DoesBy}
+use Rattle.epoch_lend.specs.declared.array.cells.SlotTurn.{SlotTurn}
 use Rattle.epoch_lend_nodes.specs.Gathering.{MakesRoomFor, gathers}
 
 abbrev pub anything : Unit {0} → Access → Reply → Unit {0} → Type 0
@@ -47,7 +47,7 @@ abbrev pub AsksForRoom : {P A : Type 0} → Deed P A → Type 0
 AsksForRoom (Flushes done refused) = Unit {0}
 AsksForRoom deed = ⊥
 
-module _ {P A H : Type 0} (spots : H → List Spot) (deed : P → Deed P A) (mid old : H)
+module _ {P A H : Type 0} (spots : H → List SlotTurn) (deed : P → Deed P A) (mid old : H)
     (same : spots mid ≡ spots old) where
   performs_from : (d : Deed P A) (new : H) (reply : Reply) → AsksForRoom d
       → PerformsBy anything (gathers spots) d mid tt reply new tt

@@ -1,11 +1,11 @@
 -- An answer to an exchange, by whether it was made.
 use Rattle.std.proofs.Common.{◌≡◌, Bool, true, false, Option, None, refl}
-use Rattle.epoch_heap.specs.declared.access.Answer.{Answer}
-use Rattle.epoch_heap.specs.declared.access.Answer.TheVariants.{Exchanged, Absent}
-use Rattle.epoch_link_calls.specs.Linking.{was_made}
+use Rattle.epoch_laws.specs.declared.heap.access.AccessAnswer.{AccessAnswer}
+use Rattle.epoch_laws.specs.declared.heap.access.AccessAnswer.TheVariants.{Exchanged, Absent}
+use Rattle.epoch_structure_calls.specs.Linking.{was_made}
 
 -- some answer that tells so
-abbrev pub answer_of : Bool → Answer
+abbrev pub answer_of : Bool → AccessAnswer
 answer_of true = Exchanged (record { name = None; tag = 0 })
 answer_of false = Absent
 

@@ -1,8 +1,8 @@
 -- What the accesses of a call do to the node that it places, and to the one that it has read.
 use Rattle.std.specs.Prelude.{◌≡◌, IsSome}
-use Rattle.epoch_heap.specs.declared.access.Access.{Access}
-use Rattle.epoch_heap.specs.declared.access.Access.TheVariants.{Place, Read}
-use Rattle.epoch_heap.specs.declared.access.Answer.TheVariants.{Name as NameAnswer, Value}
+use Rattle.epoch_laws.specs.declared.heap.access.Access.{Access}
+use Rattle.epoch_laws.specs.declared.heap.access.Access.TheVariants.{Place, Read}
+use Rattle.epoch_laws.specs.declared.heap.access.AccessAnswer.TheVariants.{Name as NameAnswer, Value}
 use Rattle.epoch_laws.specs.declared.step.Reply.{Reply}
 use Rattle.epoch_laws.specs.declared.step.Reply.TheVariants.{Done}
 use Rattle.epoch_lend_nodes.specs.declared.spots.CallNodes.{CallNodes}

@@ -1,6 +1,6 @@
 -- What a node has.
-use Rattle.epoch_lend_nodes.specs.declared.node.Node.{Node, out-Node}
+use Rattle.epoch_lend_nodes.specs.declared.node.ListNode.{ListNode, out-ListNode}
 
 -- the value of a node
-abbrev pub value_of : {V : Type 0} → Node V → V
-value_of {V} node = (out-Node V node).value
+abbrev pub value_of : {V : Type 0} → ListNode V → V
+value_of {V} node = (out-ListNode V node).value

@@ -3,14 +3,14 @@ ghost use Rattle.std.specs.Prelude.{◌≡◌, refl};
 ghost use Rattle.std.proofs.Common.{◌∙◌};
 ghost use Rattle.epoch_handles.specs.Handles.{Owns};
 ghost use Rattle.epoch_lend_nodes.specs.Gathering.{StaysSame, MakesRoomFor, KeepsRemoval};
-ghost use Rattle.epoch_plan_threads.proofs.PathsTaken.{same_on, owns_on};
+ghost use Rattle.epoch_handles.proofs.SamePositions.{same_on, owns_on};
 
 use epoch_cells::Name;
-use epoch_heap::Answer;
 use epoch_laws::Reply;
+use epoch_laws::heap::AccessAnswer;
+use epoch_lend::readers::posts::PostSet;
 use epoch_lend_pointers::handle::{GuardOf, LendingHandle};
-use epoch_lend_readers::posts::PostSet;
-use epoch_plan_calls::Keeps;
+use epoch_structure_calls::phases::Keeps;
 
 /// A handle whose guards lend keeps removals among what it has gathered. No value of it is made.
 pub struct Gathers;
@@ -51,7 +51,7 @@ impl<'c, 'q, 's, J: PostSet, T: Drop> Keeps<
         guard: &GuardOf<'c, 'q, 's, J, T>,
     ) -> Reply {
         match handle.make_room(guard) {
-            Ok(()) => Reply::Done(Answer::Unit),
+            Ok(()) => Reply::Done(AccessAnswer::Unit),
             Err(fault) => Reply::Refused(fault),
         }
     }
@@ -63,7 +63,7 @@ impl<'c, 'q, 's, J: PostSet, T: Drop> Keeps<
         guard: &GuardOf<'c, 'q, 's, J, T>,
     ) -> Reply {
         match handle.gather(guard, name) {
-            Ok(()) => Reply::Done(Answer::Unit),
+            Ok(()) => Reply::Done(AccessAnswer::Unit),
             Err(fault) => Reply::Refused(fault),
         }
     }

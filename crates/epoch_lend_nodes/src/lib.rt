@@ -9,7 +9,7 @@ mod serving;
 mod spots;
 
 pub use gathering::Gathers;
-pub use node::{LentNode, Node};
+pub use node::{LentNode, ListNode};
 pub use points::{ptr_of, write_at};
 pub use serving::serves_lending;
 pub use spots::{CallNodes, NodeSpots};

@@ -7,7 +7,7 @@ use epoch_atomic::atomic::{Atomic, Pointable};
 use epoch_cells::Fault;
 use std::alloc::Global;
 
-/// A type of nodes. [`Node`] has a value of any type, and a type of your own has what you like beside the pointer.
+/// A type of nodes. [`ListNode`] has a value of any type, and a type of your own has what you like beside the pointer.
 pub trait LentNode: Pointable + Drop + Sized {
     /// Returns the pointer to the node behind this one. It is null where the node is made, and then only the structure
     /// changes it: a caller that stores another one has the structure lead elsewhere.
@@ -19,30 +19,30 @@ pub trait LentNode: Pointable + Drop + Sized {
 
 /// A value, and the pointer to the node behind it.
 #[derive(Drop)]
-pub struct Node<V> {
+pub struct ListNode<V> {
     value: V,
-    next: Atomic<Node<V>>,
+    next: Atomic<ListNode<V>>,
 }
 
-impl<V: Drop> Node<V> {
+impl<V: Drop> ListNode<V> {
     /// Makes a node with this value.
-    pub fn new(value: V) -> Node<V>
+    pub fn new(value: V) -> ListNode<V>
         ensures { value_of result ≡ value }
     {
         let next = Atomic::null();
-        Node { value, next }
+        ListNode { value, next }
     }
 
     /// Returns the value of a node that isn't in a structure.
     pub fn into_value(self) -> V
         ensures { result ≡ value_of self }
     {
-        let Node { value, next: _ } = self;
+        let ListNode { value, next: _ } = self;
         value
     }
 }
 
-impl<V> Node<V> {
+impl<V> ListNode<V> {
     /// Returns the value.
     #[inline(always)]
     pub fn value(&self) -> &V
@@ -52,7 +52,7 @@ impl<V> Node<V> {
     }
 }
 
-impl<V> Pointable for Node<V> {
+impl<V> Pointable for ListNode<V> {
     ghost ALIGN = { 8 };
 
     ghost log = { 3 };
@@ -63,23 +63,23 @@ impl<V> Pointable for Node<V> {
 
     const ALIGN: usize = 8;
 
-    type Init = Node<V>;
+    type Init = ListNode<V>;
 
     ghost init_gives = { λ init node. node ≡ init };
 
-    fn init(_alloc: Global, init: Node<V>) -> Result<Node<V>, Fault> {
+    fn init(_alloc: Global, init: ListNode<V>) -> Result<ListNode<V>, Fault> {
         Ok(init)
     }
 }
 
-impl<V: Drop> LentNode for Node<V> {
+impl<V: Drop> LentNode for ListNode<V> {
     #[inline(always)]
-    fn next(&self) -> &Atomic<Node<V>> {
+    fn next(&self) -> &Atomic<ListNode<V>> {
         &self.next
     }
 
     #[inline(always)]
-    fn set_next(&mut self, next: Atomic<Node<V>>) {
+    fn set_next(&mut self, next: Atomic<ListNode<V>>) {
         self.next = next;
     }
 }

@@ -2,7 +2,7 @@
 
 use epoch_atomic::atomic::{Atomic, ExchangeFault, Pointable, Shared};
 use epoch_handles::Guard;
-use epoch_heap::{Answer, Change, Ptr};
+use epoch_laws::heap::{AccessAnswer, Change, Ptr};
 use std::sync::atomic::Ordering::SeqCst;
 
 // The pointer that a thread has for one of the program.
@@ -30,12 +30,12 @@ fn exchange_at<T: Pointable, W>(
     current: Ptr,
     new: Ptr,
     guard: &Guard<'_, T, W>,
-) -> Answer {
+) -> AccessAnswer {
     let (current, new) = (shared(current, guard), shared(new, guard));
     match at.compare_exchange(current, new, SeqCst, SeqCst, guard) {
-        Ok(written) => Answer::Exchanged(ptr_of(written)),
-        Err(ExchangeFault::Changed(lost)) => Answer::Unchanged(ptr_of(lost.current)),
-        Err(_) => Answer::Absent,
+        Ok(written) => AccessAnswer::Exchanged(ptr_of(written)),
+        Err(ExchangeFault::Changed(lost)) => AccessAnswer::Unchanged(ptr_of(lost.current)),
+        Err(_) => AccessAnswer::Absent,
     }
 }
 
@@ -46,14 +46,14 @@ pub fn write_at<T: Pointable, W>(
     at: &Atomic<T>,
     change: Change,
     guard: &Guard<'_, T, W>,
-) -> Answer {
+) -> AccessAnswer {
     match change {
         Change::Store(new) => match at.store(shared(new, guard), SeqCst, guard) {
-            Ok(()) => Answer::Unit,
-            Err(_) => Answer::Absent,
+            Ok(()) => AccessAnswer::Unit,
+            Err(_) => AccessAnswer::Absent,
         },
         Change::CompareExchange(current, new) => exchange_at(at, current, new, guard),
-        _ => Answer::Absent,
+        _ => AccessAnswer::Absent,
     }
 }
 
@@ -63,9 +63,9 @@ pub(crate) fn change_at<T: Pointable, W>(
     at: &Atomic<T>,
     change: Change,
     guard: &Guard<'_, T, W>,
-) -> Answer {
+) -> AccessAnswer {
     match change {
-        Change::Load => Answer::Pointer(ptr_of(at.load(SeqCst, guard))),
+        Change::Load => AccessAnswer::Pointer(ptr_of(at.load(SeqCst, guard))),
         _ => write_at(at, change, guard),
     }
 }

@@ -2,9 +2,9 @@
 ghost use Rattle.std.specs.Prelude.{◌↔◌, IsTrue};
 ghost use Rattle.epoch_lend_nodes.specs.Lending.{ServesLending};
 
+use epoch_handles::structures::is_under;
+use epoch_lend::readers::posts::PostSet;
 use epoch_lend_pointers::handle::{GuardOf, LendingHandle};
-use epoch_lend_readers::posts::PostSet;
-use epoch_structures::is_under;
 
 /// Returns whether the guard is one that the handle has out, and is of the collector with this number.
 #[inline(always)]

@@ -1,27 +1,27 @@
 //! The roots of a structure that threads share, and its nodes, which are lent.
 ghost use Rattle.std.specs.Prelude.{◌≡◌, ◌<◌, ℕ, Option, Some, None, IsSome, IfOk, IfErr};
 ghost use Rattle.epoch_cells.specs.declared.fault.Fault.TheVariants.{CellsFull};
-ghost use Rattle.epoch_heap.specs.declared.access.Access.TheVariants.{Place, Read, Leave, Point};
-ghost use Rattle.epoch_heap.specs.declared.access.Answer.TheVariants.{Unit as Nothing};
-ghost use Rattle.epoch_heap.specs.declared.access.Change.TheVariants.{Load, Store};
-ghost use Rattle.epoch_heap.specs.declared.access.Spot.TheVariants.{Root, Field};
+ghost use Rattle.epoch_laws.specs.declared.heap.access.Access.TheVariants.{Place, Read, Leave, Point};
+ghost use Rattle.epoch_laws.specs.declared.heap.access.AccessAnswer.TheVariants.{Unit as Nothing};
+ghost use Rattle.epoch_laws.specs.declared.heap.access.Change.TheVariants.{Load, Store};
+ghost use Rattle.epoch_laws.specs.declared.heap.access.Spot.TheVariants.{Root, Field};
 ghost use Rattle.epoch_laws.specs.declared.step.Reply.TheVariants.{Done};
 ghost use Rattle.epoch_lend_nodes.specs.Moving.{MovesNodes};
-ghost use Rattle.epoch_link_calls.specs.Linking.{placed, loaded, value_read, stored, Exchanges};
-ghost use Rattle.epoch_plan_threads.specs.Paths.{IsTold, reply_of};
+ghost use Rattle.epoch_structure_calls.specs.Linking.{placed, loaded, value_read, stored, ExchangesAt};
+ghost use Rattle.epoch_structure_calls.specs.Paths.{IsTold, reply_given};
 ghost use Rattle.epoch_plans.specs.Plans.{ptr_to};
 
 use crate::node::LentNode;
 use crate::points::{change_at, ptr_of, shared};
 use epoch_atomic::atomic::{Atomic, Shared};
 use epoch_cells::{Fault, Name};
-use epoch_heap::{Access, Answer, Change, Ptr, Spot};
-use epoch_lend_array::room::Room;
+use epoch_laws::heap::{Access, AccessAnswer, Change, Ptr, Spot};
+use epoch_lend::array::room::LentRoom;
+use epoch_lend::readers::posts::PostSet;
 use epoch_lend_pointers::guard::LendingGuard;
-use epoch_lend_readers::posts::PostSet;
-use epoch_lend_store::spots::next_name;
-use epoch_link_calls::LinkSpots;
-use epoch_plan_threads::Spots;
+use epoch_lend_pointers::store::spots::next_name;
+use epoch_structure_calls::links::LinkSpots;
+use epoch_structure_calls::phases::Spots;
 use std::sync::atomic::Ordering::SeqCst;
 
 /// The nodes of one call.
@@ -40,7 +40,7 @@ pub struct CallNodes<'g, V> {
 struct Unshown<'s, J: PostSet, V> {
     name: Name,
     node: V,
-    room: Room<'s, J, V>,
+    room: LentRoom<'s, J, V>,
     ghost fits: { room.turn < room.cells.now.last_turn },
 }
 
@@ -53,9 +53,10 @@ pub struct NodeSpots<'g, 'c, 'q, 's, J: PostSet, V, W> {
     // `None`: the structure has one root.
     tail: Option<&'g Atomic<V>>,
     guard: &'g LendingGuard<'c, 'q, 's, J, V, W>,
-    nodes: CallNodes<'g, V>,
+    /// What the call has of nodes. A call that moves values takes them out of the node that it read.
+    pub nodes: CallNodes<'g, V>,
     // A free cell for the node that the call places.
-    room: Option<Room<'s, J, V>>,
+    room: Option<LentRoom<'s, J, V>>,
     // That node, until the first exchange or store by which others may find it.
     unshown: Option<Unshown<'s, J, V>>,
 }
@@ -69,7 +70,7 @@ impl<'g, 'c, 'q, 's, J: PostSet, V: LentNode, W> NodeSpots<'g, 'c, 'q, 's, J, V,
         tail: Option<&'g Atomic<V>>,
         guard: &'g LendingGuard<'c, 'q, 's, J, V, W>,
         own: Option<V>,
-        room: Option<Room<'s, J, V>>,
+        room: Option<LentRoom<'s, J, V>>,
     ) -> NodeSpots<'g, 'c, 'q, 's, J, V, W>
         ensures own { result.nodes.own ≡ own }
         ensures lent { result.nodes.lent ≡ None }
@@ -225,27 +226,27 @@ impl<'g, 'c, 'q, 's, J: PostSet, V: LentNode, W> NodeSpots<'g, 'c, 'q, 's, J, V,
     }
 
     // Reads the node to which the pointer leads. `Absent`: it isn't lent.
-    fn read(&mut self, ptr: Ptr) -> Answer
+    fn read(&mut self, ptr: Ptr) -> AccessAnswer
         ensures { (guard : Option ℕ) → MovesNodes self.old.nodes (Read guard ptr) (Done result) self.new.nodes }
     {
         let Some(name) = ptr.name else {
-            return Answer::Absent;
+            return AccessAnswer::Absent;
         };
         match self.read_node(name) {
-            Some(value) => Answer::Value(value),
-            None => Answer::Absent,
+            Some(value) => AccessAnswer::Value(value),
+            None => AccessAnswer::Absent,
         }
     }
 
     // Changes or loads a root, or the pointer in a node. `Absent`: there is no such root, or the node isn't lent. The
     // node that was placed is shown before anything is changed by which others may find it.
     #[inline(always)]
-    fn point(&mut self, spot: Spot, change: Change) -> Answer
+    fn point(&mut self, spot: Spot, change: Change) -> AccessAnswer
         ensures { self.new.nodes ≡ self.old.nodes }
     {
         if let (Spot::Field(name, _), Change::Store(next)) = (spot, change) {
             if self.lead_to(name, next) {
-                return Answer::Unit;
+                return AccessAnswer::Unit;
             }
         }
         if !matches!(change, Change::Load) {
@@ -253,7 +254,7 @@ impl<'g, 'c, 'q, 's, J: PostSet, V: LentNode, W> NodeSpots<'g, 'c, 'q, 's, J, V,
         }
         match self.at(spot) {
             Some(at) => change_at(at, change, self.guard.guard()),
-            None => Answer::Absent,
+            None => AccessAnswer::Absent,
         }
     }
 }
@@ -293,7 +294,7 @@ impl<'g, 'c, 'q, 's, J: PostSet, V: LentNode, W> LinkSpots for NodeSpots<'g, 'c,
     // The node that was placed is shown before anything is changed by which others may find it, here and below.
     #[inline(always)]
     fn exchange_root(&mut self, root: u64, current: Ptr, new: Ptr) -> bool
-        ensures { Exchanges (λ old access reply new. MovesNodes old.nodes access reply new.nodes) self.old (Root root)
+        ensures { ExchangesAt (λ old access reply new. MovesNodes old.nodes access reply new.nodes) self.old (Root root)
             current new result self.new }
     {
         self.show();
@@ -347,7 +348,7 @@ impl<'g, 'c, 'q, 's, J: PostSet, V: LentNode, W> LinkSpots for NodeSpots<'g, 'c,
 
     #[inline(always)]
     fn exchange_next(&mut self, node: Name, current: Ptr, new: Ptr) -> bool
-        ensures { Exchanges (λ old access reply new. MovesNodes old.nodes access reply new.nodes) self.old
+        ensures { ExchangesAt (λ old access reply new. MovesNodes old.nodes access reply new.nodes) self.old
             (Field node 0) current new result self.new }
     {
         self.show();
@@ -359,20 +360,20 @@ impl<'g, 'c, 'q, 's, J: PostSet, V: LentNode, W> Spots for NodeSpots<'g, 'c, 'q,
     ghost does = { λ old access reply new. MovesNodes old.nodes access reply new.nodes };
 
     #[inline(always)]
-    fn touch(&mut self, access: Access) -> Result<Answer, Fault>
-        ensures does { MovesNodes self.old.nodes access (reply_of result) self.new.nodes }
-        ensures told { IsTold access (reply_of result) }
+    fn touch(&mut self, access: Access) -> Result<AccessAnswer, Fault>
+        ensures does { MovesNodes self.old.nodes access (reply_given result) self.new.nodes }
+        ensures told { IsTold access (reply_given result) }
     {
         match access {
             Access::Place(value) => match self.place_node(value)? {
-                Some(name) => Ok(Answer::Name(name)),
-                None => Ok(Answer::Absent),
+                Some(name) => Ok(AccessAnswer::Name(name)),
+                None => Ok(AccessAnswer::Absent),
             },
             Access::Read(_, ptr) => Ok(self.read(ptr)),
             // What is lent need not be given back.
-            Access::Leave(_) => Ok(Answer::Unit),
+            Access::Leave(_) => Ok(AccessAnswer::Unit),
             Access::Point(_, spot, change) => Ok(self.point(spot, change)),
-            Access::Write(..) | Access::Take(..) => Ok(Answer::Absent),
+            Access::Write(..) | Access::Take(..) => Ok(AccessAnswer::Absent),
         }
     }
 }

@@ -1,1 +1,9 @@
 pub mod Retiring
+pub mod Named
+pub use Rattle.epoch_lend.specs.Parted
+pub use Rattle.epoch_lend.specs.Posts
+pub use Rattle.epoch_lend.specs.Loans
+pub use Rattle.epoch_lend.specs.Watching
+pub use Rattle.epoch_lend.specs.Turning
+pub use Rattle.epoch_lend.specs.Sets
+pub use Rattle.epoch_lend.specs.Bags

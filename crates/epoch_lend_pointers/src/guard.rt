@@ -2,17 +2,17 @@
 ghost use Rattle.std.specs.Prelude.{◌≡◌, map, IsSome, IfSome, IfOk, IfErr, Some};
 ghost use Rattle.epoch_cells.specs.declared.fault.Fault.TheVariants.{CellsFull};
 ghost use Rattle.epoch_atomic.specs.Pointers.{IsUnder};
-ghost use Rattle.epoch_lend_store.specs.Named.{StandsUnder};
+ghost use Rattle.epoch_lend_pointers.specs.Named.{StandsUnder};
 
+use crate::store::lender::{Lender, ROOM_PLACES};
+use crate::store::lent_cells::{LentCells, Placed};
 use epoch_atomic::atomic::Shared;
 use epoch_cells::{Fault, Refused};
 use epoch_handles::Guard;
-use epoch_lend_cells::sight::Sight;
-use epoch_lend_cells::turns::Name as Witness;
-use epoch_lend_readers::posts::PostSet;
-use epoch_lend_readers::reader::Pinned;
-use epoch_lend_store::lender::{Lender, ROOM_PLACES};
-use epoch_lend_store::lent_cells::{LentCells, Placed};
+use epoch_lend::cells::sight::Sight;
+use epoch_lend::cells::turns::TurnName as Witness;
+use epoch_lend::readers::posts::PostSet;
+use epoch_lend::readers::reader::Pinned;
 use std::fmt;
 
 /// A guard of a pin, to which values are lent. It must be given back, to `LendingHandle::unpin`.

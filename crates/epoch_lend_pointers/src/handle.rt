@@ -5,15 +5,15 @@ ghost use Rattle.epoch_machine.specs.declared.machine.Action.TheVariants.{Pin, U
 
 use crate::guard::LendingGuard;
 use crate::marking::Marking;
+use crate::store::batch::Batch;
+use crate::store::lender::Lender;
+use crate::store::lent_cells::LentCells;
+use crate::store::retired::Retired;
+use crate::store::rooms::LentRooms;
 use epoch_cells::Fault;
 use epoch_handles::{Collector, Guard, LocalHandle};
-use epoch_lend_array::bag::Bag;
-use epoch_lend_readers::posts::PostSet;
-use epoch_lend_readers::reader::Reader;
-use epoch_lend_store::lender::Lender;
-use epoch_lend_store::lent_cells::LentCells;
-use epoch_lend_store::retired::Retired;
-use epoch_lend_store::rooms::Rooms;
+use epoch_lend::readers::posts::PostSet;
+use epoch_lend::readers::reader::Reader;
 use std::alloc::Global;
 use std::fmt;
 
@@ -27,9 +27,9 @@ pub struct LendingHandle<'c, 'q, 's, J: PostSet, T> {
     // What was retired, and is not deferred yet.
     pub(crate) kept: Retired<'q, 's, J, T>,
     // Free cells, for the next values.
-    pub(crate) rooms: Rooms<'s, J, T>,
+    pub(crate) rooms: LentRooms<'s, J, T>,
     // A bag for a value that is taken back alone, and has to wait.
-    pub(crate) spare: Option<Bag<'s, J, T>>,
+    pub(crate) spare: Option<Batch<'s, J, T>>,
     pub(crate) alloc: Global,
 }
 
@@ -133,7 +133,7 @@ impl<'c, 'q, 's, J: PostSet, T: Drop> LendingHandle<'c, 'q, 's, J, T> {
                 reader: Some(reader),
                 cells: lender.cells(),
                 kept,
-                rooms: Rooms::none(alloc),
+                rooms: LentRooms::none(alloc),
                 spare: None,
                 alloc,
             }),

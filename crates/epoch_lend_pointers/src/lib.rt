@@ -6,4 +6,13 @@ pub mod handle;
 pub mod marking;
 pub mod placing;
 pub mod retiring;
+pub mod store;
 pub mod taking;
+
+pub use epoch_lend::readers::posts::{Made, PostSet, Posts};
+pub use epoch_lend::readers::session::{Session, with_posts};
+pub use guard::LendingGuard;
+pub use handle::{GuardOf, LendingHandle};
+pub use marking::{Marking, collector_of};
+pub use store::lender::Lender;
+pub use store::lent_cells::LentCells;

@@ -4,13 +4,13 @@ ghost use Rattle.epoch_cells.specs.declared.fault.Fault.TheVariants.{NoMemory};
 ghost use Rattle.epoch_handles.specs.Capacities.{AreValid};
 ghost use Rattle.epoch_tables.specs.ClosedPlaces.{AreLast};
 
+use crate::store::lender::Lender;
+use crate::store::retired::Retired;
 use epoch_bags::{FromCells, Job, Run};
 use epoch_cells::{Cells, Fault};
-use epoch_ends::{AtEnd, end_next};
 use epoch_handles::{Capacities, Collector};
-use epoch_lend_readers::posts::PostSet;
-use epoch_lend_store::lender::Lender;
-use epoch_lend_store::retired::Retired;
+use epoch_lend::readers::posts::PostSet;
+use epoch_tables::ends::{AtEnd, end_next};
 use epoch_tables::shared_places::{ClosedPlaces, SharedPlaces};
 use std::alloc::Global;
 

@@ -7,8 +7,8 @@ use crate::guard::LendingGuard;
 use crate::handle::{GuardOf, LendingHandle};
 use epoch_atomic::atomic::Shared;
 use epoch_cells::Refused;
-use epoch_lend_array::room::Room;
-use epoch_lend_readers::posts::PostSet;
+use epoch_lend::array::room::LentRoom;
+use epoch_lend::readers::posts::PostSet;
 
 impl<'c, 'q, 's, J: PostSet, T: Drop> LendingHandle<'c, 'q, 's, J, T> {
     /// Takes a free cell for the next value: one of its own, or else one of those that were left together when their
@@ -17,7 +17,7 @@ impl<'c, 'q, 's, J: PostSet, T: Drop> LendingHandle<'c, 'q, 's, J, T> {
     /// Give it to [`LendingGuard::place_in`], or release it: the cell of a room that is dropped takes no value any
     /// more.
     #[inline(always)]
-    pub fn take_room(&mut self) -> Option<Room<'s, J, T>>
+    pub fn take_room(&mut self) -> Option<LentRoom<'s, J, T>>
         ensures participant { self.new.handle ≡ self.old.handle }
         ensures reader { self.new.reader ≡ self.old.reader }
         ensures kept { self.new.kept ≡ self.old.kept }
@@ -32,7 +32,7 @@ impl<'c, 'q, 's, J: PostSet, T: Drop> LendingHandle<'c, 'q, 's, J, T> {
     // what it returns: so `take_room` keeps no room in memory for its sake.
     #[cold]
     #[inline(never)]
-    fn more_rooms_apart(&mut self) -> Option<Room<'s, J, T>>
+    fn more_rooms_apart(&mut self) -> Option<LentRoom<'s, J, T>>
         ensures participant { self.new.handle ≡ self.old.handle }
         ensures reader { self.new.reader ≡ self.old.reader }
         ensures kept { self.new.kept ≡ self.old.kept }
@@ -42,7 +42,7 @@ impl<'c, 'q, 's, J: PostSet, T: Drop> LendingHandle<'c, 'q, 's, J, T> {
     }
 
     #[inline(always)]
-    fn more_rooms(&mut self) -> Option<Room<'s, J, T>>
+    fn more_rooms(&mut self) -> Option<LentRoom<'s, J, T>>
         ensures participant { self.new.handle ≡ self.old.handle }
         ensures reader { self.new.reader ≡ self.old.reader }
         ensures kept { self.new.kept ≡ self.old.kept }
@@ -82,7 +82,7 @@ impl<'c, 'q, 's, J: PostSet, T: Drop, W> LendingGuard<'c, 'q, 's, J, T, W> {
     #[inline(always)]
     pub fn place_in<'g>(
         &'g self,
-        room: Option<Room<'_, J, T>>,
+        room: Option<LentRoom<'_, J, T>>,
         value: T,
     ) -> Result<Shared<'g, T>, Refused<T>>
         ensures tag { IfOk result (λ pointer. pointer.tag ≡ 0) }

@@ -7,14 +7,14 @@ ghost use Rattle.epoch_lend_pointers.specs.Retiring.{KeepsSpot};
 
 use crate::handle::{GuardOf, LendingHandle};
 use crate::marking::Marking;
+use crate::store::retired::{RETIRED_TOGETHER, Retired};
+use crate::store::rooms::LentRooms;
+use crate::store::spots::spot_of;
 use epoch_atomic::atomic::Shared;
 use epoch_bags::Job;
 use epoch_cells::{Fault, Name, Refused};
 use epoch_handles::Guard;
-use epoch_lend_readers::posts::PostSet;
-use epoch_lend_store::retired::{RETIRED_TOGETHER, Retired};
-use epoch_lend_store::rooms::Rooms;
-use epoch_lend_store::spots::spot_of;
+use epoch_lend::readers::posts::PostSet;
 use std::mem;
 
 impl<'c, 'q, 's, J: PostSet, T: Drop> LendingHandle<'c, 'q, 's, J, T> {
@@ -228,7 +228,7 @@ impl<'c, 'q, 's, J: PostSet, T: Drop> LendingHandle<'c, 'q, 's, J, T> {
                     reader,
                     cells,
                     kept,
-                    rooms: Rooms::none(alloc),
+                    rooms: LentRooms::none(alloc),
                     spare,
                     alloc,
                 };

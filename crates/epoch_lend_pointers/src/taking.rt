@@ -2,17 +2,17 @@
 ghost use Rattle.std.specs.Prelude.{◌≡◌, ◌⊎◌, None, IsSome, IsErr, IfSome, IfOk, IfErr, map};
 ghost use Rattle.epoch_cells.specs.declared.fault.Fault.TheVariants.{CellsFull, GuardsOut, NoMemory, StrangerPointer};
 ghost use Rattle.epoch_atomic.specs.Pointers.{IsUnder};
-ghost use Rattle.epoch_lend_store.specs.Named.{StandsUnder};
+ghost use Rattle.epoch_lend_pointers.specs.Named.{StandsUnder};
 
 use crate::guard::search;
 use crate::handle::LendingHandle;
+use crate::store::spots::spot_of;
 use epoch_atomic::atomic::Shared;
 use epoch_cells::{Fault, Name, Refused};
 use epoch_handles::Guard;
-use epoch_lend_array::slot::Returned;
-use epoch_lend_cells::turns::Name as Witness;
-use epoch_lend_readers::posts::PostSet;
-use epoch_lend_store::spots::spot_of;
+use epoch_lend::array::slot::Returned;
+use epoch_lend::cells::turns::TurnName as Witness;
+use epoch_lend::readers::posts::PostSet;
 
 impl<'c, 'q, 's, J: PostSet, T: Drop> LendingHandle<'c, 'q, 's, J, T> {
     /// Places the value in a cell, and returns the pointer to it, with tag 0. It does what [`LendingHandle::place`]

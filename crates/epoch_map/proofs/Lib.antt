@@ -1,7 +1,3 @@
-mod Faults
-mod Removals
-mod SameNumbers
-mod Standing
-mod Steps
-mod Told
-mod Walks
+mod Gives
+mod Looks
+mod Nodes

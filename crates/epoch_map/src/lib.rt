@@ -1,13 +1,12 @@
-//! A map for threads, after Harris and Michael: each call goes through the phases of the map's program.
+//! A map for threads, whose nodes are lent: a look-up writes nothing.
 #![tactic(auto)]
 
-mod calls;
-mod entries;
 mod map;
 mod node;
 mod spots;
 
-pub use calls::{get_over, insert_over, remove_over};
-pub use map::Map;
-pub use node::Node;
-pub use spots::SharedSpots;
+pub use epoch_lend_nodes::{Gathers, LentNode};
+pub use epoch_structure_laws::map::{MapAnswer, MapWork};
+pub use map::LendingMap;
+pub use node::{LentEntry, MapKey, MapNode};
+pub use spots::{LentSpots, MapCallNodes};

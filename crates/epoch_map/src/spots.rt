@@ -1,171 +1,285 @@
-//! The buckets of a map that threads share, and its nodes in the cells of a collector.
-ghost use Rattle.std.specs.Prelude.{◌≡◌, ◌⊎◌, IfOk, IfErr};
-ghost use Rattle.epoch_cells.specs.declared.fault.Fault.TheVariants.{NoMemory, CellsFull};
-ghost use Rattle.epoch_atomic.specs.Pointers.{IsUnder};
-ghost use Rattle.epoch_plan_threads.specs.Paths.{IsTold, reply_of};
+//! The buckets of a map that threads share, and its nodes, which are lent.
+ghost use Rattle.std.specs.Prelude.{◌≡◌, ℕ, Option, Some, None, map, IfSome, IfErr};
+ghost use Rattle.epoch_cells.specs.declared.fault.Fault.TheVariants.{CellsFull};
+ghost use Rattle.epoch_laws.specs.declared.heap.access.Access.TheVariants.{Place, Read, Point};
+ghost use Rattle.epoch_laws.specs.declared.heap.access.AccessAnswer.TheVariants.{Value, Pointer, Absent};
+ghost use Rattle.epoch_laws.specs.declared.heap.access.Change.TheVariants.{Load};
+ghost use Rattle.epoch_laws.specs.declared.heap.access.Spot.TheVariants.{Root, Field};
+ghost use Rattle.epoch_laws.specs.declared.step.Reply.TheVariants.{Done};
+ghost use Rattle.epoch_map.specs.Moving.{MovesMapNodes, ReadsNode};
+ghost use Rattle.epoch_lend_pointers.specs.Named.{StandsUnder};
+ghost use Rattle.epoch_structure_calls.specs.MapCalls.{coded};
+ghost use Rattle.epoch_plans.specs.Plans.{ptr_to};
+ghost use Rattle.epoch_structure_calls.specs.Paths.{IsTold, reply_given};
 
-use crate::node::Node;
-use epoch_base::{Fault, Name, Reading};
-use epoch_heap::{Access, Answer, Change, Ptr, Spot};
-use epoch_pin::Guard;
-use epoch_pin::atomic::{Atomic, ExchangeFault, Owned, Shared};
-use epoch_plan_threads::Spots;
-use std::alloc::Global;
+use crate::node::MapNode;
+use epoch_atomic::atomic::{Atomic, Shared};
+use epoch_cells::{Fault, Name};
+use epoch_handles::Guard;
+use epoch_laws::heap::{Access, AccessAnswer, Change, Ptr, Spot};
+use epoch_lend::cells::turns::TurnName as Witness;
+use epoch_lend::readers::posts::PostSet;
+use epoch_lend_nodes::{ptr_of, write_at};
+use epoch_lend_pointers::guard::LendingGuard;
+use epoch_structure_calls::map::{MapSpots, coded};
+use epoch_structure_calls::phases::Spots;
+use std::cmp::Ordering;
 use std::sync::atomic::Ordering::SeqCst;
 
-/// The buckets of a map, and its nodes, under the guard of one call. It must be spent by `close`.
-pub struct SharedSpots<'s, 'g, 'h, W> {
-    pub(crate) buckets: &'s [Atomic<Node>],
-    pub(crate) alloc: Global,
-    pub(crate) guard: &'g Guard<'h, Node, W>,
-    pub(crate) reading: Option<Reading<'g, Node>>,
+/// The nodes of one call, and the key that it seeks.
+#[derive(Drop)]
+pub struct MapCallNodes<'g, 'k, N, K> {
+    /// The node that an insert places.
+    pub own: Option<N>,
+    /// The key that is sought. `None`: it is that of a node which isn't placed yet.
+    pub key: Option<&'k K>,
+    /// The node that was read last.
+    pub lent: Option<&'g N>,
 }
 
-// Places a node with this entry in a cell, which points to none.
-#[inline(always)]
-fn place<'g, W>(
-    alloc: Global,
-    entry: u64,
-    guard: &'g Guard<'_, Node, W>,
-) -> Result<Shared<'g, Node>, Fault>
-    ensures home { IfOk result (λ node. IsUnder guard.now.collector.now.id node.home) }
-    ensures refused { IfErr result (λ fault. (fault ≡ NoMemory) ⊎ (fault ≡ CellsFull)) }
-{
-    let next = Atomic::null();
-    let owned = Owned::new(alloc, Node { entry, next })?;
-    let Ok(node) = owned.into_shared(guard) else {
-        return Err(Fault::CellsFull);
-    };
-    Ok(node)
+/// The buckets of a map, and its nodes, under the guard of one call.
+///
+/// The program speaks of entries as numbers. Here each is the number of how the node's key compares with the one that
+/// is sought, and the node itself is lent.
+#[derive(Drop)]
+pub struct LentSpots<'g, 'k, 'c, 'q, 's, J: PostSet, N: MapNode, W> {
+    buckets: &'g [Atomic<N>],
+    guard: &'g LendingGuard<'c, 'q, 's, J, N, W>,
+    nodes: MapCallNodes<'g, 'k, N, N::Key>,
 }
 
-// The pointer that a thread has for one of the program.
-#[inline(always)]
-fn shared<'g, W>(ptr: Ptr, guard: &'g Guard<'_, Node, W>) -> Shared<'g, Node> {
-    let Some(name) = ptr.name else {
-        return Shared::null().with_tag(ptr.tag as usize);
-    };
-    Shared::named(name, guard).with_tag(ptr.tag as usize)
-}
-
-// The pointer that the program has for one of a thread.
-#[inline(always)]
-fn ptr_of(shared: Shared<'_, Node>) -> Ptr {
-    Ptr {
-        name: shared.name(),
-        tag: shared.tag() as u64,
-    }
-}
-
-// Exchanges the pointer there, if it is this one still, for the other.
-#[inline(always)]
-fn exchange_at<W>(at: &Atomic<Node>, current: Ptr, new: Ptr, guard: &Guard<'_, Node, W>) -> Answer {
-    let (current, new) = (shared(current, guard), shared(new, guard));
-    match at.compare_exchange(current, new, SeqCst, SeqCst, guard) {
-        Ok(written) => Answer::Exchanged(ptr_of(written)),
-        Err(ExchangeFault::Changed(lost)) => Answer::Unchanged(ptr_of(lost.current)),
-        Err(_) => Answer::Absent,
-    }
+// Stores or exchanges the pointer there. It stands out of line, as `place` does: a function that holds all accesses
+// isn't inlined if it holds these, too, and then a walk that only loads doesn't know its accesses.
+#[inline(never)]
+fn write_out_of_line<N: MapNode, W>(
+    at: &Atomic<N>,
+    change: Change,
+    guard: &Guard<'_, N, W>,
+) -> AccessAnswer {
+    write_at(at, change, guard)
 }
 
 // Loads, stores or exchanges the pointer there. The phases of a map ask for no other change.
 #[inline(always)]
-fn change_at<W>(at: &Atomic<Node>, change: Change, guard: &Guard<'_, Node, W>) -> Answer {
+fn change_at<N: MapNode, W>(
+    at: &Atomic<N>,
+    change: Change,
+    guard: &Guard<'_, N, W>,
+) -> AccessAnswer {
     match change {
-        Change::Load => Answer::Pointer(ptr_of(at.load(SeqCst, guard))),
-        Change::Store(new) => match at.store(shared(new, guard), SeqCst, guard) {
-            Ok(()) => Answer::Unit,
-            Err(_) => Answer::Absent,
-        },
-        Change::CompareExchange(current, new) => exchange_at(at, current, new, guard),
-        _ => Answer::Absent,
+        Change::Load => AccessAnswer::Pointer(ptr_of(at.load(SeqCst, guard))),
+        _ => write_out_of_line(at, change, guard),
     }
 }
 
-impl<'s, 'g, 'h, W> SharedSpots<'s, 'g, 'h, W> {
-    // Changes or loads a root, which is a bucket's, or the pointer in a node, which has one. `Absent`: there is no such
-    // bucket, or the node wasn't lent.
-    #[inline(always)]
-    fn point(&self, spot: Spot, change: Change) -> Answer {
-        match spot {
-            Spot::Root(bucket) => match self.buckets.get(bucket as usize) {
-                Some(root) => change_at(root, change, self.guard),
-                None => Answer::Absent,
-            },
-            Spot::Field(name, _) => self.point_in(name, change),
+// The node that was placed under this name, by the witness of its placing.
+fn placed<'g, J: PostSet, N: MapNode, W>(
+    guard: &'g LendingGuard<'_, '_, '_, J, N, W>,
+    name: Name,
+    witness: &Witness<N>,
+) -> Option<&'g N>
+    requires { StandsUnder (map (λ s. s.turns.log) guard.now.cells.now.cells.slots.items) name witness.now.log
+        witness.now.turn }
+    ensures { IfSome result (λ node. node.now ≡ witness.now.value) }
+{
+    match guard.look(Shared::named(name, guard.guard())) {
+        Some(sight) => {
+            sight.name.agree(witness);
+            Some(sight.value)
         }
+        None => None,
     }
+}
 
-    // Changes or loads the pointer in this node.
+impl<'g, 'k, 'c, 'q, 's, J: PostSet, N: MapNode, W> LentSpots<'g, 'k, 'c, 'q, 's, J, N, W> {
+    /// Makes the spots of one call under this guard, which seeks this key.
     #[inline(always)]
-    fn point_in(&self, name: Name, change: Change) -> Answer {
-        let Some(reading) = Shared::named(name, self.guard).deref() else {
-            return Answer::Absent;
+    pub fn new(
+        buckets: &'g [Atomic<N>],
+        guard: &'g LendingGuard<'c, 'q, 's, J, N, W>,
+        key: &'k N::Key,
+    ) -> LentSpots<'g, 'k, 'c, 'q, 's, J, N, W>
+        ensures own { result.nodes.own ≡ None }
+        ensures key { IfSome result.nodes.key (λ k. k.now ≡ key.now) }
+    {
+        let nodes = MapCallNodes {
+            own: None,
+            key: Some(key),
+            lent: None,
         };
-        let answer = change_at(&reading.get().next, change, self.guard);
-        reading.leave();
-        answer
-    }
-
-    // Begins a reading of the node, and answers its entry. `Absent`: it wasn't lent.
-    #[inline(always)]
-    fn read(&mut self, ptr: Ptr) -> Answer {
-        let Some(reading) = shared(ptr, self.guard).deref() else {
-            return Answer::Absent;
-        };
-        let entry = reading.get().entry;
-        if let Some(before) = self.reading.replace(reading) {
-            before.leave();
-        }
-        Answer::Value(entry)
-    }
-
-    // Ends the reading under way, if there is one.
-    #[inline(always)]
-    fn leave(&mut self) {
-        if let Some(reading) = self.reading.take() {
-            reading.leave();
+        LentSpots {
+            buckets,
+            guard,
+            nodes,
         }
     }
 
-    /// Ends the call, and the reading under way, if there is one.
+    /// Ends the call, and returns its nodes.
     #[inline(always)]
-    pub fn close(self) {
-        let SharedSpots {
+    pub fn close(self) -> MapCallNodes<'g, 'k, N, N::Key>
+        ensures { result ≡ self.entry.nodes }
+    {
+        let LentSpots {
             buckets: _,
-            alloc: _,
             guard: _,
-            reading,
+            nodes,
         } = self;
-        if let Some(reading) = reading {
-            reading.leave();
+        nodes
+    }
+
+    // The node of this name, which is lent for as long as the guard is borrowed.
+    #[inline(always)]
+    fn node_of(&self, name: Name) -> Option<&'g N> {
+        self.guard.get(Shared::named(name, self.guard.guard()))
+    }
+
+    // Changes or loads a root, which is a bucket's, or the pointer in a node, which has one. `Absent`: there is no such
+    // bucket, or the node isn't lent.
+    #[inline(always)]
+    fn point(&self, spot: Spot, change: Change) -> AccessAnswer {
+        let at = match spot {
+            Spot::Root(bucket) => self.buckets.get(bucket as usize),
+            Spot::Field(name, _) => match self.node_of(name) {
+                Some(node) => Some(node.next()),
+                None => None,
+            },
+        };
+        match at {
+            Some(at) => change_at(at, change, self.guard.guard()),
+            None => AccessAnswer::Absent,
+        }
+    }
+
+    // Reads the node of this name, and compares its key with the one that is sought. `None`: it isn't lent.
+    #[inline(always)]
+    fn compare(&mut self, name: Name) -> Option<(Ordering, &'g N)>
+        ensures some { IfSome result
+            (λ read. ReadsNode N.key N.Key.cmp self.old.nodes (coded read.0) self.new.nodes) }
+        ensures none { result ≡ None → self.new ≡ self.old }
+    {
+        let Some(key) = self.nodes.key else {
+            return None;
+        };
+        match self.node_of(name) {
+            Some(node) => {
+                self.nodes.lent = Some(node);
+                Some((node.key().cmp(key), node))
+            }
+            None => None,
+        }
+    }
+
+    // Reads the node to which the pointer leads. `Absent`: it isn't lent.
+    #[inline(always)]
+    fn read(&mut self, ptr: Ptr) -> AccessAnswer
+        ensures { (guard : Option ℕ)
+            → MovesMapNodes N.key N.Key.cmp self.old.nodes (Read guard ptr) (Done result) self.new.nodes }
+    {
+        let Some(name) = ptr.name else {
+            return AccessAnswer::Absent;
+        };
+        match self.compare(name) {
+            Some((order, _)) => AccessAnswer::Value(coded(order)),
+            None => AccessAnswer::Absent,
         }
     }
 }
 
-impl<'s, 'g, 'h, W> Spots for SharedSpots<'s, 'g, 'h, W> {
-    ghost does = { λ _ _ _ _. Unit {0} };
+impl<'g: 'k, 'k, 'c, 'q, 's, J: PostSet, N: MapNode, W> LentSpots<'g, 'k, 'c, 'q, 's, J, N, W> {
+    /// Makes the spots of an insert of this node under this guard. It seeks the key of its node, once that is placed.
+    #[inline(always)]
+    pub fn with_node(
+        buckets: &'g [Atomic<N>],
+        guard: &'g LendingGuard<'c, 'q, 's, J, N, W>,
+        node: N,
+    ) -> LentSpots<'g, 'k, 'c, 'q, 's, J, N, W>
+        ensures own { result.nodes.own ≡ Some node }
+        ensures key { result.nodes.key ≡ None }
+    {
+        let nodes = MapCallNodes {
+            own: Some(node),
+            key: None,
+            lent: None,
+        };
+        LentSpots {
+            buckets,
+            guard,
+            nodes,
+        }
+    }
+
+    // Places the call's own node. If it is refused, the node is there again.
+    #[inline(never)]
+    fn place(&mut self) -> Result<AccessAnswer, Fault>
+        ensures moves { (number : ℕ)
+            → MovesMapNodes N.key N.Key.cmp self.old.nodes (Place number) (reply_given result) self.new.nodes }
+        ensures full { IfErr result (λ fault. fault ≡ CellsFull) }
+    {
+        let Some(node) = self.nodes.own.take() else {
+            return Ok(AccessAnswer::Absent);
+        };
+        match self.guard.place_with_witness(node) {
+            Ok((pointer, witness)) => {
+                let Some(name) = pointer.name() else {
+                    unreachable!()
+                };
+                self.nodes.key = match placed(self.guard, name, &witness) {
+                    Some(node) => Some(node.key()),
+                    None => None,
+                };
+                Ok(AccessAnswer::Name(name))
+            }
+            Err(refused) => {
+                self.nodes.own = Some(refused.value);
+                Err(Fault::CellsFull)
+            }
+        }
+    }
+}
+
+impl<'g: 'k, 'k, 'c, 'q, 's, J: PostSet, N: MapNode, W> MapSpots
+    for LentSpots<'g, 'k, 'c, 'q, 's, J, N, W> {
+    type Node = &'g N;
 
     #[inline(always)]
-    fn touch(&mut self, access: Access) -> Result<Answer, Fault>
-        ensures does { Unit {0} }
-        ensures told { IsTold access (reply_of result) }
+    fn first(&mut self, bucket: u64) -> Option<Ptr> {
+        match self.buckets.get(bucket as usize) {
+            Some(at) => Some(ptr_of(at.load(SeqCst, self.guard.guard()))),
+            None => None,
+        }
+    }
+
+    #[inline(always)]
+    fn entry(&mut self, node: Name) -> Option<(Ordering, &'g N)> {
+        self.compare(node)
+    }
+
+    // What is lent need not be given back.
+    #[inline(always)]
+    fn leave(&mut self, _node: Name) {}
+
+    #[inline(always)]
+    fn next(&mut self, _node: Name, lent: &'g N) -> Option<Ptr> {
+        Some(ptr_of(lent.next().load(SeqCst, self.guard.guard())))
+    }
+}
+
+impl<'g: 'k, 'k, 'c, 'q, 's, J: PostSet, N: MapNode, W> Spots
+    for LentSpots<'g, 'k, 'c, 'q, 's, J, N, W> {
+    ghost does = { λ old access reply new. MovesMapNodes N.key N.Key.cmp old.nodes access reply new.nodes };
+
+    #[inline(always)]
+    fn touch(&mut self, access: Access) -> Result<AccessAnswer, Fault>
+        ensures does { MovesMapNodes N.key N.Key.cmp self.old.nodes access (reply_given result) self.new.nodes }
+        ensures told { IsTold access (reply_given result) }
     {
         match access {
-            Access::Place(entry) => {
-                let node = place(self.alloc, entry, self.guard)?;
-                match node.name() {
-                    Some(name) => Ok(Answer::Name(name)),
-                    None => Ok(Answer::Absent),
-                }
-            }
+            Access::Place(_) => self.place(),
             Access::Read(_, ptr) => Ok(self.read(ptr)),
-            Access::Leave(_) => {
-                self.leave();
-                Ok(Answer::Unit)
-            }
+            // What is lent need not be given back.
+            Access::Leave(_) => Ok(AccessAnswer::Unit),
             Access::Point(_, spot, change) => Ok(self.point(spot, change)),
-            Access::Write(..) | Access::Take(..) => Ok(Answer::Absent),
+            Access::Write(..) | Access::Take(..) => Ok(AccessAnswer::Absent),
         }
     }
 }

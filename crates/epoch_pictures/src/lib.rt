@@ -7,8 +7,8 @@ mod pen;
 mod sheet;
 
 pub use epoch_layouts::{
-    Arrow, AtOnce, Bar, Deferral, MOST_COLUMNS, MOST_STEPS, Mark, Moment, Picture, Refusal, Stop,
-    lay_out, record,
+    Arrow, AtOnce, Bar, DeferralMark, MOST_COLUMNS, MOST_STEPS, Mark, Moment, Picture, Refusal,
+    Stop, lay_out, record,
 };
 pub use escape::escaped;
 pub use from_script::{run, tell_usage};

@@ -9,7 +9,7 @@ mod signs;
 mod titles;
 
 use crate::pen::{Area, Pen};
-use epoch_cell_pictures::Shown;
+use epoch_layouts::cells::Shown;
 use epoch_layouts::{Bar, Picture};
 use legend::Legend;
 use std::alloc::Global;

@@ -4,19 +4,19 @@ use Rattle.std.proofs.Common.{ap, sym, subst, ◌∙◌, arith, if◌then◌else
 use Rattle.std.proofs.lemmas.Bool.Decides.{nat_tests}
 use Rattle.epoch_cells.specs.PlainCells.{if_has, has, filled, readable}
 use Rattle.epoch_cells.specs.declared.cells.name.Name.{Name}
-use Rattle.epoch_heap.specs.declared.access.Access.{Access}
-use Rattle.epoch_heap.specs.declared.access.Access.TheVariants.{Place, Read, Leave, Point}
-use Rattle.epoch_heap.specs.declared.access.Change.TheVariants.{Load}
-use Rattle.epoch_heap.specs.declared.access.Ptr.{Ptr}
-use Rattle.epoch_heap.specs.declared.access.Spot.{Spot}
-use Rattle.epoch_heap.specs.declared.access.Spot.TheVariants.{Field}
-use Rattle.epoch_heap.specs.declared.heap.Content.{Content}
-use Rattle.epoch_heap.specs.Heap.{Cell, Heap, nulls, cell_at, with_cell_at, field_of, field_in, pointer_at, Touched}
-use Rattle.epoch_heap.specs.Heap.{Touches, ChangesAt, Places, raised, read_by, left_by, at_name}
-use Rattle.epoch_heap.proofs.FoundCells.{found_cell}
-use Rattle.epoch_reach_laws.proofs.Names.{name_same}
-use Rattle.epoch_reach_laws.proofs.PointerSteps.{set_or_kept, fewer_written, fewer_kept, nulls_lead}
-use Rattle.epoch_reach_laws.proofs.TurnsGiven.{IsGiven, StaysGiven, place_gives}
+use Rattle.epoch_laws.specs.declared.heap.access.Access.{Access}
+use Rattle.epoch_laws.specs.declared.heap.access.Access.TheVariants.{Place, Read, Leave, Point}
+use Rattle.epoch_laws.specs.declared.heap.access.Change.TheVariants.{Load}
+use Rattle.epoch_laws.specs.declared.heap.access.Ptr.{Ptr}
+use Rattle.epoch_laws.specs.declared.heap.access.Spot.{Spot}
+use Rattle.epoch_laws.specs.declared.heap.access.Spot.TheVariants.{Field}
+use Rattle.epoch_laws.specs.declared.heap.heap.Content.{Content}
+use Rattle.epoch_laws.specs.Heap.{Cell, Heap, nulls, cell_at, with_cell_at, field_of, field_in, pointer_at, Touched}
+use Rattle.epoch_laws.specs.Heap.{Touches, ChangesAt, Places, raised, read_by, left_by, at_name}
+use Rattle.epoch_laws.proofs.FoundCells.{found_cell}
+use Rattle.epoch_laws.proofs.Names.{name_same}
+use Rattle.epoch_laws.proofs.PointerSteps.{set_or_kept, fewer_written, fewer_kept, nulls_lead}
+use Rattle.epoch_laws.proofs.TurnsGiven.{IsGiven, StaysGiven, place_gives}
 use Rattle.epoch_plans.proofs.Custody.{Calm, calm_same}
 use Rattle.epoch_plans.proofs.Cells.{same_name, cell_kept, cell_filled, back_written, content_found}
 

@@ -4,26 +4,26 @@ use Rattle.std.proofs.Common.{inl, inr, refl, ap, sym, subst, ◌∙◌, if◌th
 use Rattle.epoch_cells.specs.PlainCells.{empty, removal_of}
 use Rattle.epoch_cells.specs.declared.cells.name.Name.{Name}
 use Rattle.epoch_cells.specs.declared.cells.Removal.TheVariants.{Destroyed, HeldElsewhere}
-use Rattle.epoch_heap.specs.declared.access.Access.{Access}
+use Rattle.epoch_laws.specs.declared.heap.access.Access.{Access}
 use Rattle.epoch_laws.specs.declared.step.Call.TheVariants.{DeferDestroy}
 use Rattle.epoch_laws.specs.declared.step.Entry.{Entry}
 use Rattle.epoch_laws.specs.declared.step.Progress.{Progress}
 use Rattle.epoch_laws.specs.declared.step.Progress.TheVariants.{Driven, CallsNow, Accesses}
-use Rattle.epoch_heap.specs.declared.access.Ptr.{Ptr}
+use Rattle.epoch_laws.specs.declared.heap.access.Ptr.{Ptr}
 use Rattle.epoch_laws.specs.declared.step.Reply.{Reply}
 use Rattle.epoch_laws.specs.declared.step.Reply.TheVariants.{Deferred}
 use Rattle.epoch_laws.specs.declared.step.Step.{Step}
 use Rattle.epoch_laws.specs.declared.step.Step.TheVariants.{Go}
-use Rattle.epoch_heap.specs.Heap.{Cell, Heap, cell_at, without_cell, heap_after_job}
+use Rattle.epoch_laws.specs.Heap.{Cell, Heap, cell_at, without_cell, heap_after_job}
 use Rattle.epoch_laws.specs.Run.{State, seat_of, removed_by}
-use Rattle.epoch_reach_laws.specs.Reach.{DefersRemoval, Past, past_after}
-use Rattle.epoch_reach_laws.proofs.TurnsGiven.{StaysGiven, given_job}
-use Rattle.epoch_reach_laws.proofs.HeapSteps.{HeapGoes}
-use Rattle.epoch_reach_laws.proofs.JobsAsDeferred.{JobsGo}
+use Rattle.epoch_laws.specs.Reach.{DefersRemoval, Past, past_after}
+use Rattle.epoch_laws.proofs.TurnsGiven.{StaysGiven, given_job}
+use Rattle.epoch_laws.proofs.HeapSteps.{HeapGoes}
+use Rattle.epoch_laws.proofs.JobsAsDeferred.{JobsGo}
 use Rattle.epoch_plans.proofs.Cells.{same_name, cell_kept, back_written, none_at}
 use Rattle.epoch_plans.proofs.Custody.{AllLeft, Calm, calm_same}
-use Rattle.epoch_reach_laws.proofs.PointerSteps.{Fewer}
-use Rattle.epoch_reach_laws.proofs.PointersChanged.{fewer_job}
+use Rattle.epoch_laws.proofs.PointerSteps.{Fewer}
+use Rattle.epoch_laws.proofs.PointersChanged.{fewer_job}
 
 -- CELLS
 

@@ -6,16 +6,16 @@ use Rattle.std.proofs.lemmas.Option.{slice_get_within}
 use Rattle.epoch_cells.proofs.PlainCellLists.{get_set_same}
 use Rattle.epoch_cells.specs.PlainCells.{if_has, has, empty}
 use Rattle.epoch_cells.specs.declared.cells.name.Name.{Name}
-use Rattle.epoch_heap.specs.declared.heap.Content.{Content}
+use Rattle.epoch_laws.specs.declared.heap.heap.Content.{Content}
 use Rattle.std.specs.Prelude.{option_map}
-use Rattle.epoch_heap.specs.declared.access.Ptr.{Ptr}
-use Rattle.epoch_heap.specs.declared.access.Spot.{Spot}
-use Rattle.epoch_heap.specs.declared.access.Spot.TheVariants.{Root, Field}
-use Rattle.epoch_heap.specs.Heap.{Cell, Heap, cell_at, with_cell_at, field_of, field_in, pointer_at, with_pointer}
-use Rattle.epoch_heap.specs.Heap.{with_field, with_field_in}
-use Rattle.epoch_reach_laws.proofs.Names.{name_same}
-use Rattle.epoch_reach_laws.proofs.PointerSteps.{set_or_kept}
-use Rattle.epoch_heap.proofs.FoundCells.{found_cell}
+use Rattle.epoch_laws.specs.declared.heap.access.Ptr.{Ptr}
+use Rattle.epoch_laws.specs.declared.heap.access.Spot.{Spot}
+use Rattle.epoch_laws.specs.declared.heap.access.Spot.TheVariants.{Root, Field}
+use Rattle.epoch_laws.specs.Heap.{Cell, Heap, cell_at, with_cell_at, field_of, field_in, pointer_at, with_pointer}
+use Rattle.epoch_laws.specs.Heap.{with_field, with_field_in}
+use Rattle.epoch_laws.proofs.Names.{name_same}
+use Rattle.epoch_laws.proofs.PointerSteps.{set_or_kept}
+use Rattle.epoch_laws.proofs.FoundCells.{found_cell}
 use Rattle.epoch_plans.proofs.Custody.{same_number}
 
 -- names are compared by slot and turn

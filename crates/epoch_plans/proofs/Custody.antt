@@ -5,10 +5,10 @@ use Rattle.epoch_cells.specs.declared.cells.name.Name.{Name}
 use Rattle.epoch_machine.specs.declared.machine.Action.TheVariants.{Defer as DeferAction}
 use Rattle.epoch_machine.specs.declared.machine.Stage.{Stage}
 use Rattle.epoch_machine.specs.declared.machine.Stage.TheVariants.{LoadSeal, Put, Keep, End}
-use Rattle.epoch_heap.specs.declared.access.Access.{Access}
-use Rattle.epoch_heap.specs.declared.access.Answer.TheVariants.{Unit as UnitAnswer}
-use Rattle.epoch_heap.specs.declared.access.Spot.TheVariants.{Field}
-use Rattle.epoch_heap.specs.declared.heap.Content.{Content}
+use Rattle.epoch_laws.specs.declared.heap.access.Access.{Access}
+use Rattle.epoch_laws.specs.declared.heap.access.AccessAnswer.TheVariants.{Unit as UnitAnswer}
+use Rattle.epoch_laws.specs.declared.heap.access.Spot.TheVariants.{Field}
+use Rattle.epoch_laws.specs.declared.heap.heap.Content.{Content}
 use Rattle.epoch_laws.specs.declared.step.Call.{Call}
 use Rattle.epoch_laws.specs.declared.step.Call.TheVariants.{Flush, DeferDestroy, Access as AccessCall}
 use Rattle.epoch_laws.specs.declared.step.Deferral.{Deferral}
@@ -17,15 +17,15 @@ use Rattle.epoch_laws.specs.declared.step.Progress.{Progress}
 use Rattle.epoch_laws.specs.declared.step.Progress.TheVariants.{Idle, Driven, CallsNow, Accesses, Ends}
 use Rattle.epoch_laws.specs.declared.step.Reply.TheVariants.{Done}
 use Rattle.epoch_laws.specs.declared.step.Word.TheVariants.{Free}
-use Rattle.epoch_heap.specs.Heap.{Heap, Cell, cell_at, pointer_at}
-use Rattle.epoch_heap.specs.declared.access.Ptr.{Ptr}
+use Rattle.epoch_laws.specs.Heap.{Heap, Cell, cell_at, pointer_at}
+use Rattle.epoch_laws.specs.declared.heap.access.Ptr.{Ptr}
 use Rattle.epoch_laws.specs.Run.{WorldSeat, State, seat_of, end_reply}
-use Rattle.epoch_reach_laws.specs.Reach.{IsReachable, Points, DefersRemoval, TakesOut, RemovesNow, Past}
-use Rattle.epoch_reach_laws.specs.Reach.{past_after, LeavesRightly}
-use Rattle.epoch_reach_laws.specs.Removals.{IsInBag}
+use Rattle.epoch_laws.specs.Reach.{IsReachable, Points, DefersRemoval, TakesOut, RemovesNow, Past}
+use Rattle.epoch_laws.specs.Reach.{past_after, LeavesRightly}
+use Rattle.epoch_laws.specs.Removals.{IsInBag}
 use Rattle.epoch_laws.proofs.SeatLinks.{AllLinked}
-use Rattle.epoch_reach_laws.proofs.TurnsGiven.{IsGiven}
-use Rattle.epoch_reach_laws.proofs.PointerSteps.{Fewer, fewer_same}
+use Rattle.epoch_laws.proofs.TurnsGiven.{IsGiven}
+use Rattle.epoch_laws.proofs.PointerSteps.{Fewer, fewer_same}
 use Rattle.epoch_plans.specs.declared.plan.Plan.{Plan}
 use Rattle.epoch_plans.specs.declared.plan.Plan.TheVariants.{NoPlan, Under}
 use Rattle.epoch_plans.specs.Plans.{Program, AllPlans, IsPlain, call_by, after_by}

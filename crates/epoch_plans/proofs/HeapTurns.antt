@@ -1,9 +1,9 @@
 -- What a step does to the heap, whoever takes it: nothing that stands changes, or a phase's call on cells goes on.
 use Rattle.std.proofs.Common.{◌≡◌, ℕ, Bool, true, false, Option, Some, None, ◌⊎◌, inl, inr, refl, ap, sym, subst, ◌∙◌}
-use Rattle.epoch_heap.specs.declared.access.Access.{Access}
-use Rattle.epoch_heap.specs.declared.access.Answer.{Answer}
-use Rattle.epoch_heap.specs.declared.access.Ptr.{Ptr}
-use Rattle.epoch_heap.specs.Heap.{Touched}
+use Rattle.epoch_laws.specs.declared.heap.access.Access.{Access}
+use Rattle.epoch_laws.specs.declared.heap.access.AccessAnswer.{AccessAnswer}
+use Rattle.epoch_laws.specs.declared.heap.access.Ptr.{Ptr}
+use Rattle.epoch_laws.specs.Heap.{Touched}
 use Rattle.epoch_cells.specs.declared.cells.name.Name.{Name}
 use Rattle.epoch_laws.specs.declared.step.Entry.{Entry}
 use Rattle.epoch_laws.specs.declared.step.Progress.{Progress}
@@ -14,9 +14,9 @@ use Rattle.epoch_laws.specs.declared.step.Word.TheVariants.{Free}
 use Rattle.epoch_laws.specs.Run.{State, WorldSeat, seat_of, position_word, with_places, accessed_seat, DoesGo, Moves}
 use Rattle.epoch_laws.specs.Run.{TakesStep}
 use Rattle.epoch_laws.proofs.SeatLemmas.{seat_there}
-use Rattle.epoch_reach_laws.specs.Reach.{Past}
-use Rattle.epoch_reach_laws.proofs.HeapSteps.{heap_goes}
-use Rattle.epoch_reach_laws.proofs.JobsAsDeferred.{JobsGo, jobs_go}
+use Rattle.epoch_laws.specs.Reach.{Past}
+use Rattle.epoch_laws.proofs.HeapSteps.{heap_goes}
+use Rattle.epoch_laws.proofs.JobsAsDeferred.{JobsGo, jobs_go}
 use Rattle.epoch_plans.specs.declared.plan.Plan.{Plan}
 use Rattle.epoch_plans.specs.declared.plan.Plan.TheVariants.{NoPlan, Under}
 use Rattle.epoch_plans.specs.Plans.{Deed, Flushes, Touches, Defers, Answers, Program, AllPlans}
@@ -75,7 +75,7 @@ module _ (S : Program) (T : Structure S) (past : Past) (old new : State) (plans 
 
     module _ (p : ℕ) (on : x.step ≡ Go p) (a : Access) (k : ℕ) (found : Ptr)
         (going : (seat_of old p).progress ≡ Accesses a k found) where
-      touching : (g : ℕ) (phase : S.Phase) (told : Answer → S.Phase) (failed : S.Phase) (b : Access)
+      touching : (g : ℕ) (phase : S.Phase) (told : AccessAnswer → S.Phase) (failed : S.Phase) (b : Access)
           → plans p ≡ Under g phase true → S.deed g phase ≡ Touches b told failed
           → (position_word old p ≡ Free → ⊥) → b ≡ a → Touching
       touching g phase told failed b at is taken same =

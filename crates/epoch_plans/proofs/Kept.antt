@@ -11,36 +11,36 @@ use Rattle.epoch_machine.specs.declared.machine.Action.TheVariants.{Defer as Def
 use Rattle.epoch_machine.specs.declared.machine.Stage.{Stage}
 use Rattle.epoch_machine.specs.declared.machine.Stage.TheVariants.{LoadSeal, Put, Keep, End}
 use Rattle.epoch_machine.specs.Machine.{Machine, after_put, with_stage, put_heard}
-use Rattle.epoch_heap.specs.declared.access.Access.{Access}
-use Rattle.epoch_heap.specs.declared.access.Access.TheVariants.{Take as TakeAccess, Point}
-use Rattle.epoch_heap.specs.declared.access.Answer.{Answer}
-use Rattle.epoch_heap.specs.declared.access.Answer.TheVariants.{Unit as UnitAnswer}
+use Rattle.epoch_laws.specs.declared.heap.access.Access.{Access}
+use Rattle.epoch_laws.specs.declared.heap.access.Access.TheVariants.{Take as TakeAccess, Point}
+use Rattle.epoch_laws.specs.declared.heap.access.AccessAnswer.{AccessAnswer}
+use Rattle.epoch_laws.specs.declared.heap.access.AccessAnswer.TheVariants.{Unit as UnitAnswer}
 use Rattle.epoch_laws.specs.declared.step.Call.{Call}
 use Rattle.epoch_laws.specs.declared.step.Call.TheVariants.{Flush, DeferDestroy, Access as AccessCall}
 use Rattle.epoch_laws.specs.declared.step.Deferral.{Deferral}
 use Rattle.epoch_laws.specs.declared.step.Entry.{Entry}
 use Rattle.epoch_laws.specs.declared.step.Progress.{Progress}
 use Rattle.epoch_laws.specs.declared.step.Progress.TheVariants.{Idle, Driven, CallsNow, Accesses, Ends}
-use Rattle.epoch_heap.specs.declared.access.Ptr.{Ptr}
+use Rattle.epoch_laws.specs.declared.heap.access.Ptr.{Ptr}
 use Rattle.epoch_laws.specs.declared.step.Reply.{Reply}
 use Rattle.epoch_laws.specs.declared.step.Reply.TheVariants.{Stepped, Deferred, Done, Refused}
-use Rattle.epoch_heap.specs.declared.access.Spot.TheVariants.{Field}
+use Rattle.epoch_laws.specs.declared.heap.access.Spot.TheVariants.{Field}
 use Rattle.epoch_laws.specs.declared.step.Step.{Step}
 use Rattle.epoch_laws.specs.declared.step.Step.TheVariants.{Register as WorldRegister, Begin as WorldBegin}
 use Rattle.epoch_laws.specs.declared.step.Step.TheVariants.{Go as WorldGo, End as WorldEnd, EndGo as WorldEndGo}
 use Rattle.epoch_laws.specs.declared.step.Word.TheVariants.{Free}
-use Rattle.epoch_heap.specs.Heap.{Heap, pointer_at, Touched}
+use Rattle.epoch_laws.specs.Heap.{Heap, pointer_at, Touched}
 use Rattle.epoch_laws.specs.Run.{WorldSeat, State, seat_of, position_word, with_seat, with_machine, with_places}
 use Rattle.epoch_laws.specs.Run.{begun_seat, full_or_done, end_reply, ended_seat, access_reply, accessed_seat, refusal}
 use Rattle.epoch_laws.specs.Run.{BeginsCall, DoesGo, Moves, TakesStep}
-use Rattle.epoch_reach_laws.specs.Reach.{IsReachable, Points, DefersRemoval, Past, past_after, LeavesRightly}
+use Rattle.epoch_laws.specs.Reach.{IsReachable, Points, DefersRemoval, Past, past_after, LeavesRightly}
 use Rattle.epoch_laws.proofs.SeatLemmas.{seat_there, begin_given}
 use Rattle.epoch_laws.proofs.SeatLinks.{AllLinked}
 use Rattle.epoch_laws.proofs.Linked.{step_linked}
-use Rattle.epoch_reach_laws.proofs.GuardsStay.{idle_ended}
-use Rattle.epoch_reach_laws.proofs.HeapSteps.{heap_goes}
-use Rattle.epoch_reach_laws.proofs.JobsAsDeferred.{JobsGo, jobs_go}
-use Rattle.epoch_reach_laws.proofs.TurnsGiven.{touches_given}
+use Rattle.epoch_laws.proofs.GuardsStay.{idle_ended}
+use Rattle.epoch_laws.proofs.HeapSteps.{heap_goes}
+use Rattle.epoch_laws.proofs.JobsAsDeferred.{JobsGo, jobs_go}
+use Rattle.epoch_laws.proofs.TurnsGiven.{touches_given}
 use Rattle.epoch_plans.specs.declared.plan.Plan.{Plan}
 use Rattle.epoch_plans.specs.declared.plan.Plan.TheVariants.{NoPlan, Under}
 use Rattle.epoch_plans.specs.Plans.{Deed, Flushes, Touches, Defers, Answers, Program, AllPlans}
@@ -281,7 +281,7 @@ module _ (S : Program) (T : Structure S) (Starts : S.Phase → Type 0) (obeys : 
           (sym (loose_now S g phase seat loose)) (same_now (Some phase))
 
   -- a Go of a phase's call on cells and pointers
-  module _ (p g : ℕ) (phase : S.Phase) (t : Access) (told : Answer → S.Phase) (failed : S.Phase)
+  module _ (p g : ℕ) (phase : S.Phase) (t : Access) (told : AccessAnswer → S.Phase) (failed : S.Phase)
       (is : S.deed g phase ≡ Touches t told failed) (on : x.step ≡ WorldGo p) (at : plans p ≡ Under g phase true)
       (sets : Replans plans p (plan_gone g phase (S.deed g phase) x.reply) plans') where
     abbrev seat : WorldSeat
@@ -353,7 +353,7 @@ module _ (S : Program) (T : Structure S) (Starts : S.Phase → Type 0) (obeys : 
         (Some (after_touch phase d made.told))) is shown.0))
         (λ k n d. absurd (not_deferred (Accesses t j found) going refl k n d))
 
-    over : (answer : Answer) → seat.progress ≡ Ends (Done answer) → x.reply ≡ Done answer
+    over : (answer : AccessAnswer) → seat.progress ≡ Ends (Done answer) → x.reply ≡ Done answer
         → aside ≡ with_seat old p (record seat { progress = Idle }) → Kept
     over answer going told_is e =
         let a = alone old aside _ p (record seat { progress = Idle }) (seat_there old p tied.0) e refl refl in

@@ -9,3 +9,14 @@ pub mod Runs
 pub mod Calls
 pub mod HeapTurns
 pub mod RunsSound
+pub mod Duties
+pub mod Told
+pub mod Driven
+pub mod Ready
+pub mod Begun
+pub mod Clear
+pub mod StepServed
+pub mod RunsServed
+pub mod Accounts
+pub mod AloneRuns
+pub mod ToldRuns

@@ -9,12 +9,12 @@ use Rattle.epoch_machine.specs.declared.machine.Stage.TheVariants.{LoadScan, Sca
 use Rattle.epoch_machine.specs.declared.machine.Stage.TheVariants.{Put, Keep, LoadRepin, StoreRepin, ReloadRepin}
 use Rattle.epoch_machine.specs.declared.machine.Stage.TheVariants.{StoreUnpinned, StoreFree, End}
 use Rattle.epoch_machine.specs.Machine.{ask_at, with_stage, hears, put_heard}
-use Rattle.epoch_heap.specs.declared.access.Access.{Access}
-use Rattle.epoch_heap.specs.declared.access.Answer.TheVariants.{Unit as UnitAnswer}
+use Rattle.epoch_laws.specs.declared.heap.access.Access.{Access}
+use Rattle.epoch_laws.specs.declared.heap.access.AccessAnswer.TheVariants.{Unit as UnitAnswer}
 use Rattle.epoch_laws.specs.declared.step.Call.{Call}
 use Rattle.epoch_laws.specs.declared.step.Progress.{Progress}
 use Rattle.epoch_laws.specs.declared.step.Progress.TheVariants.{Idle, Driven, Accesses, Ends}
-use Rattle.epoch_heap.specs.declared.access.Ptr.{Ptr}
+use Rattle.epoch_laws.specs.declared.heap.access.Ptr.{Ptr}
 use Rattle.epoch_laws.specs.declared.step.Reply.{Reply}
 use Rattle.epoch_laws.specs.declared.step.Reply.TheVariants.{Stepped, Deferred, Done, Refused, Began}
 use Rattle.epoch_laws.specs.declared.step.Step.TheVariants.{Go, Register, End as EndStep}
@@ -23,12 +23,12 @@ use Rattle.epoch_laws.specs.Run.{WorldSeat, State, seat_of, position_word, with_
 use Rattle.epoch_laws.specs.Run.{DrivesCall, DoesGo, Moves, Bag, Ending, Open, Emptying, Over, with_machine, begun_seat}
 use Rattle.epoch_laws.specs.Run.{access_reply, accessed_seat, BeginsCall, EndGoes}
 use Rattle.epoch_laws.proofs.SeatLemmas.{seat_written, seat_other, seat_there}
-use Rattle.epoch_reach_laws.proofs.GuardsStay.{idle_ended}
+use Rattle.epoch_laws.proofs.GuardsStay.{idle_ended}
 use Rattle.epoch_plans.proofs.Custody.{IsLoose, IsUnguarded, IsDeferring}
 use Rattle.epoch_plans.specs.Plans.{IsPlain}
 use Rattle.epoch_bags.specs.declared.queue.PutStep.{PutStep}
 use Rattle.epoch_machine.specs.declared.machine.Answer.TheVariants.{Job}
-use Rattle.epoch_heap.specs.Heap.{Touched, Touches}
+use Rattle.epoch_laws.specs.Heap.{Touched, Touches}
 use Rattle.epoch_laws.specs.declared.step.Deferral.{Deferral}
 
 -- WHAT A STEP IS MADE OF

@@ -2,25 +2,25 @@
 use Rattle.std.proofs.Common.{◌≡◌, ◌≢◌, ℕ, Option, Some}
 use Rattle.epoch_cells.specs.declared.cells.name.Name.{Name}
 use Rattle.epoch_cells.specs.declared.fault.Fault.{Fault}
-use Rattle.epoch_heap.specs.declared.access.Access.TheVariants.{Point}
-use Rattle.epoch_heap.specs.declared.access.Accessed.{Accessed}
-use Rattle.epoch_heap.specs.declared.access.Accessed.TheVariants.{Again, Answers, NoSlot}
-use Rattle.epoch_heap.specs.declared.access.Answer.{Answer}
-use Rattle.epoch_heap.specs.declared.access.Change.{Change}
-use Rattle.epoch_heap.specs.declared.access.Ptr.{Ptr}
-use Rattle.epoch_heap.specs.declared.access.Spot.TheVariants.{Field}
-use Rattle.epoch_heap.specs.Heap.{Heap, pointer_at, Touched, Touches as TouchesHeap}
+use Rattle.epoch_laws.specs.declared.heap.access.Access.TheVariants.{Point}
+use Rattle.epoch_laws.specs.declared.heap.access.Accessed.{Accessed}
+use Rattle.epoch_laws.specs.declared.heap.access.Accessed.TheVariants.{Again, Answers, NoSlot}
+use Rattle.epoch_laws.specs.declared.heap.access.AccessAnswer.{AccessAnswer}
+use Rattle.epoch_laws.specs.declared.heap.access.Change.{Change}
+use Rattle.epoch_laws.specs.declared.heap.access.Ptr.{Ptr}
+use Rattle.epoch_laws.specs.declared.heap.access.Spot.TheVariants.{Field}
+use Rattle.epoch_laws.specs.Heap.{Heap, pointer_at, Touched, Touches as TouchesHeap}
 use Rattle.epoch_laws.specs.declared.step.Call.{Call}
 use Rattle.epoch_laws.specs.declared.step.Call.TheVariants.{Access as AccessCall}
 use Rattle.epoch_laws.specs.declared.step.Reply.{Reply}
 use Rattle.epoch_laws.specs.declared.step.Reply.TheVariants.{Refused}
-use Rattle.epoch_reach_laws.specs.Reach.{IsReachable, Past}
-use Rattle.epoch_reach_laws.proofs.TurnsGiven.{IsGiven, StaysGiven}
+use Rattle.epoch_laws.specs.Reach.{IsReachable, Past}
+use Rattle.epoch_laws.proofs.TurnsGiven.{IsGiven, StaysGiven}
 use Rattle.epoch_plans.specs.Plans.{Deed, Touches, Defers, Program, call_by, after_by, IsOver, IsFit, IsFlush}
 use Rattle.epoch_plans.proofs.Custody.{Calm, Passed, Structure, Sane, Acts}
 
 -- the phase after one step of a call on cells and pointers
-abbrev pub phase_after : {P : Type 0} → P → (Answer → P) → P → Accessed → P
+abbrev pub phase_after : {P : Type 0} → P → (AccessAnswer → P) → P → Accessed → P
 phase_after phase told refused (Again found) = phase
 phase_after phase told refused (Answers answer) = told answer
 phase_after phase told refused NoSlot = refused

@@ -4,7 +4,7 @@ use Rattle.std.proofs.Common.{sym, subst, ◌∙◌}
 use Rattle.epoch_cells.specs.declared.cells.name.Name.{Name}
 use Rattle.epoch_laws.specs.declared.step.Entry.{Entry}
 use Rattle.epoch_laws.specs.Run.{State, seat_of, TakesStep}
-use Rattle.epoch_reach_laws.specs.Reach.{Past, past_after, LeavesRightly, LeavesFrom}
+use Rattle.epoch_laws.specs.Reach.{Past, past_after, LeavesRightly, LeavesFrom}
 use Rattle.epoch_plans.specs.declared.plan.Plan.{Plan}
 use Rattle.epoch_plans.specs.declared.plan.Plan.TheVariants.{NoPlan, Under}
 use Rattle.epoch_plans.specs.Plans.{Program, AllPlans, Replans, KeepsPlans, PlanEvent, Asked}

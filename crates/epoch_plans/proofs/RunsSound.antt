@@ -1,7 +1,7 @@
 -- What holds of a structure whose plans obey holds at the end of each run.
 use Rattle.std.proofs.Common.{◌≡◌, ℕ, List, [], ◌∷◌, Some, None, refl, sym, subst}
 use Rattle.epoch_laws.specs.Run.{State}
-use Rattle.epoch_reach_laws.specs.Reach.{Past, past_after}
+use Rattle.epoch_laws.specs.Reach.{Past, past_after}
 use Rattle.epoch_plans.specs.Plans.{Program, AllPlans, PlanEvent, Asked, Declined, Answered, Makes, Follows, made_at}
 use Rattle.epoch_plans.specs.Plans.{WorldThen, PlanRuns}
 use Rattle.epoch_plans.proofs.Custody.{Structure, Sound}

@@ -4,26 +4,26 @@ use Rattle.std.proofs.Common.{None, ◌⊎◌, inl, inr, refl, ap, sym, subst, �
 use Rattle.epoch_cells.specs.declared.cells.name.Name.{Name}
 use Rattle.epoch_machine.specs.declared.machine.Stage.{Stage}
 use Rattle.epoch_machine.specs.declared.machine.Stage.TheVariants.{LoadSeal, Keep}
-use Rattle.epoch_heap.specs.declared.access.Access.{Access}
-use Rattle.epoch_heap.specs.declared.access.Accessed.{Accessed}
-use Rattle.epoch_heap.specs.declared.access.Accessed.TheVariants.{Again, Answers as Told, NoSlot}
-use Rattle.epoch_heap.specs.declared.access.Answer.{Answer}
-use Rattle.epoch_heap.specs.declared.access.Answer.TheVariants.{Absent}
+use Rattle.epoch_laws.specs.declared.heap.access.Access.{Access}
+use Rattle.epoch_laws.specs.declared.heap.access.Accessed.{Accessed}
+use Rattle.epoch_laws.specs.declared.heap.access.Accessed.TheVariants.{Again, Answers as Told, NoSlot}
+use Rattle.epoch_laws.specs.declared.heap.access.AccessAnswer.{AccessAnswer}
+use Rattle.epoch_laws.specs.declared.heap.access.AccessAnswer.TheVariants.{Absent}
 use Rattle.epoch_laws.specs.declared.step.Call.{Call}
 use Rattle.epoch_laws.specs.declared.step.Call.TheVariants.{Pin, Unpin, Pause, Resume, Repin, Defer, Flush, Release}
 use Rattle.epoch_laws.specs.declared.step.Call.TheVariants.{DeferDestroy, Access as AccessCall}
 use Rattle.epoch_laws.specs.declared.step.Progress.TheVariants.{Idle, CallsNow, Accesses, Ends}
 use Rattle.epoch_laws.specs.declared.step.Reply.{Reply}
 use Rattle.epoch_laws.specs.declared.step.Reply.TheVariants.{Deferred, Done, Refused}
-use Rattle.epoch_heap.specs.declared.access.Spot.TheVariants.{Root, Field}
+use Rattle.epoch_laws.specs.declared.heap.access.Spot.TheVariants.{Root, Field}
 use Rattle.epoch_laws.specs.declared.step.Word.TheVariants.{Free}
-use Rattle.epoch_heap.specs.Heap.{Heap, has_steps, null}
+use Rattle.epoch_laws.specs.Heap.{Heap, has_steps, null}
 use Rattle.epoch_laws.specs.Run.{WorldSeat}
 use Rattle.epoch_laws.specs.Run.{begun_seat, full_or_done, end_reply}
 use Rattle.epoch_laws.specs.Run.{access_reply, accessed_seat}
-use Rattle.epoch_reach_laws.specs.Reach.{IsReachable, from_root, from_field}
+use Rattle.epoch_laws.specs.Reach.{IsReachable, from_root, from_field}
 use Rattle.epoch_laws.proofs.QuietReplies.{quiet_end}
-use Rattle.epoch_reach_laws.proofs.PointerSteps.{Fewer}
+use Rattle.epoch_laws.proofs.PointerSteps.{Fewer}
 use Rattle.epoch_plans.specs.declared.plan.Plan.{Plan}
 use Rattle.epoch_plans.specs.declared.plan.Plan.TheVariants.{NoPlan, Under}
 use Rattle.epoch_plans.specs.Plans.{Deed, Flushes, Touches, Defers, Answers, Program, ptr_to}
@@ -176,7 +176,7 @@ module _ (S : Program) where
       subst (λ (d : Deed S.Phase S.Answer). IsBegun (call_by g d) seat) (sym is) loose
 
   -- after a step on cells and pointers
-  pub gone_now : (g : ℕ) (phase : S.Phase) (a : Access) (next : Answer → S.Phase) (failed : S.Phase) (j : ℕ)
+  pub gone_now : (g : ℕ) (phase : S.Phase) (a : Access) (next : AccessAnswer → S.Phase) (failed : S.Phase) (j : ℕ)
       (told : Accessed) (seat : WorldSeat) → S.deed g phase ≡ Touches a next failed
       → now_of S (plan_gone g phase (S.deed g phase) (access_reply told)) (accessed_seat a j told seat)
       ≡ Some (phase_after phase next failed told)
@@ -187,7 +187,7 @@ module _ (S : Program) where
       ap (λ (d : Deed S.Phase S.Answer). Some (after_by phase d (access_reply NoSlot))) is
 
   -- and the seat is in that call still, or idle
-  pub gone_tied : (g : ℕ) (phase : S.Phase) (a : Access) (next : Answer → S.Phase) (failed : S.Phase) (j : ℕ)
+  pub gone_tied : (g : ℕ) (phase : S.Phase) (a : Access) (next : AccessAnswer → S.Phase) (failed : S.Phase) (j : ℕ)
       (told : Accessed) (seat : WorldSeat) → S.deed g phase ≡ Touches a next failed → seat.word ≢ Free
       → Tied S (plan_gone g phase (S.deed g phase) (access_reply told)) (accessed_seat a j told seat)
   gone_tied g phase a next failed j (Again found) seat is taken =

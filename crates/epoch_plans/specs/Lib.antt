@@ -1,2 +1,4 @@
 pub mod Plans
 pub mod Asks
+pub mod Served
+pub mod Alone

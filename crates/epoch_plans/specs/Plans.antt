@@ -3,10 +3,10 @@
 use Rattle.std.specs.Prelude.{◌≡◌, ◌≢◌, ℕ, ◌<◌, Bool, true, false, List, [], ◌∷◌, Option, Some, None}
 use Rattle.epoch_cells.specs.declared.cells.name.Name.{Name}
 use Rattle.epoch_cells.specs.declared.fault.Fault.{Fault}
-use Rattle.epoch_heap.specs.declared.access.Ptr.{Ptr}
-use Rattle.epoch_heap.specs.declared.access.Access.{Access}
-use Rattle.epoch_heap.specs.declared.access.Access.TheVariants.{Take, Write}
-use Rattle.epoch_heap.specs.declared.access.Answer.{Answer}
+use Rattle.epoch_laws.specs.declared.heap.access.Ptr.{Ptr}
+use Rattle.epoch_laws.specs.declared.heap.access.Access.{Access}
+use Rattle.epoch_laws.specs.declared.heap.access.Access.TheVariants.{Take, Write}
+use Rattle.epoch_laws.specs.declared.heap.access.AccessAnswer.{AccessAnswer}
 use Rattle.epoch_laws.specs.declared.step.Call.{Call}
 use Rattle.epoch_laws.specs.declared.step.Call.TheVariants.{Pin, Flush, DeferDestroy, Access as AccessCall}
 use Rattle.epoch_laws.specs.declared.step.Entry.{Entry}
@@ -15,7 +15,7 @@ use Rattle.epoch_laws.specs.declared.step.Reply.TheVariants.{Done, Refused}
 use Rattle.epoch_laws.specs.declared.step.Step.{Step}
 use Rattle.epoch_laws.specs.declared.step.Step.TheVariants.{Register, Begin, Go, End, EndGo}
 use Rattle.epoch_laws.specs.declared.step.Progress.TheVariants.{Idle}
-use Rattle.epoch_heap.specs.Heap.{has_steps}
+use Rattle.epoch_laws.specs.Heap.{has_steps}
 use Rattle.epoch_laws.specs.Run.{State, seat_of, TakesStep, Runs}
 use Rattle.epoch_plans.specs.declared.plan.Plan.{Plan}
 use Rattle.epoch_plans.specs.declared.plan.Plan.TheVariants.{NoPlan, Under}
@@ -25,7 +25,7 @@ use Rattle.epoch_plans.specs.declared.plan.Plan.TheVariants.{NoPlan, Under}
 -- One call of the world, and which phase follows from each reply to it; or the answer of the whole call.
 pub data Deed (P A : Type 0) : Type 0 where
   Flushes : (done refused : P) → Deed P A
-  Touches : (access : Access) (told : Answer → P) (refused : P) → Deed P A  -- a call on cells and pointers
+  Touches : (access : Access) (told : AccessAnswer → P) (refused : P) → Deed P A  -- a call on cells and pointers
   Defers : (node : Name) (deferred refused : P) → Deed P A  -- defers the removal of the node
   Answers : (answer : A) → Deed P A
 
@@ -47,7 +47,7 @@ call_by g (Defers n deferred refused) = DeferDestroy (Some g) (ptr_to n)
 call_by g (Answers a) = Pin  -- not asked
 
 -- the phase after the answer to its call, and after its refusal
-abbrev pub done_by : {P A : Type 0} → P → Deed P A → Answer → P
+abbrev pub done_by : {P A : Type 0} → P → Deed P A → AccessAnswer → P
 done_by phase (Flushes done refused) a = done
 done_by phase (Touches access told refused) a = told a
 done_by phase (Defers n deferred refused) a = deferred

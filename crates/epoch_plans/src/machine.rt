@@ -4,8 +4,8 @@ ghost use Rattle.epoch_plans.specs.Plans.{Deed, after_by};
 ghost use Rattle.epoch_plans.specs.Asks.{wish_of};
 
 use epoch_cells::Name;
-use epoch_heap::Access;
 use epoch_laws::Reply;
+use epoch_laws::heap::Access;
 
 /// What a phase asks for, under the guard of its call.
 #[derive(Clone, Copy, Debug, PartialEq, Eq)]

@@ -1,83 +1,191 @@
 //! `epoch-run queue N K`: N threads that push and pop over one queue, K times each.
-ghost use Rattle.std.specs.Prelude.{◌≡◌};
+ghost use Rattle.std.specs.Prelude.{◌≡◌, IsSome};
 
 use crate::sharing::{Structure, start_all};
 use crate::tally::{Popped, TRIES, Tally};
-use crate::threads::leave;
-use epoch_handles::{Capacities, Collector, LocalHandle};
-use epoch_queue::{Node, Queue};
+use epoch_cells::Fault;
+use epoch_handles::{Capacities, Collector};
+use epoch_lend::readers::posts::{Made, PostSet, Posts};
+use epoch_lend_nodes::ListNode;
+use epoch_lend_pointers::handle::LendingHandle;
+use epoch_lend_pointers::marking::{Marking, collector_of};
+use epoch_lend_pointers::store::lender::Lender;
+use epoch_lend_pointers::store::lent_cells::LentCells;
+use epoch_lists::queue::LendingQueue;
 use epoch_script::Size;
 use std::alloc::Global;
+use std::marker::Brand;
 use std::sync::Wait;
 use std::thread::Threads;
 
-/// A whole run: makes the collector and the queue, has all threads push and pop, and ends the collector. `None` where
-/// anything was refused.
+/// A node of the queue: its value, and the pointer to the node behind it.
+type Link = ListNode<u64>;
+
+/// The collector of the nodes.
+type Nodes<'q, 's, J> = Collector<Link, Marking<'q, 's, J, Link>>;
+
+/// What a thread registers with: the lender of the nodes, and their collector.
+#[derive(Drop)]
+struct Lending<'c, 'q, 's, J: PostSet> {
+    lender: &'q Lender<'s, J, Link>,
+    collector: &'c Nodes<'q, 's, J>,
+}
+
+/// A whole run: makes the queue and what it stands on, has all threads push and pop, and ends the collector and the
+/// lender. `None` where anything was refused.
 pub fn push_and_pop<R: Threads + Wait + Sync>(rt: &R, alloc: Global, size: Size) -> Option<Popped> {
-    // Each value has a cell, as the first node has, and each removal a place.
+    // A post for each thread. The thread that makes the queue has left when they begin.
+    let Ok(made) = Made::new(alloc, size.threads as usize) else {
+        return None;
+    };
+    run_over::<R, Brand>(rt, alloc, made, size)
+}
+
+/// The run, with readers at these posts.
+fn run_over<R: Threads + Wait + Sync, J: PostSet + Send + Sync>(
+    rt: &R,
+    alloc: Global,
+    made: Made,
+    size: Size,
+) -> Option<Popped>
+    requires { made.posts.items ≡ J.posts }
+{
+    let Ok(posts) = Posts::<J>::of(alloc, made) else {
+        return None;
+    };
+    // Each value has a cell, as the first node has: so no push has to wait for a cell.
     let values = size.jobs() as u32;
-    let capacities = Capacities::usual(size.threads as u32, values + 1, values);
-    let collector: Collector<Node<u64>> = match Collector::new(alloc, capacities, 0) {
-        Ok(collector) => collector,
-        Err(_) => return None,
+    let Ok(cells) = LentCells::<J, Link>::new(alloc, values + 1, posts) else {
+        return None;
+    };
+    let Ok(lender) = Lender::new(alloc, &cells) else {
+        return None;
+    };
+    // A thread retires its nodes by one job, whose bag takes a place when it leaves.
+    let threads = size.threads as u32;
+    let capacities = Capacities::usual(threads, 0, threads);
+    let Ok(collector) = collector_of(&lender, alloc, capacities, 0) else {
+        return None;
     };
     let tally = Tally::new();
-    match Queue::new(alloc, &collector) {
-        Ok(queue) => start_all(rt, alloc, &collector, &queue, size, &tally),
-        Err(_) => tally.refuse(),
-    }
+    let lending = Lending {
+        lender: &lender,
+        collector: &collector,
+    };
+    share_queue(rt, alloc, lending, size, &tally);
     let _ = collector.end();
+    let _ = lender.end(alloc);
     tally.popped()
 }
 
-impl<'c> Structure<Collector<Node<u64>>> for Queue<'c, u64> {
+/// Makes the queue, and has all threads push and pop.
+fn share_queue<R: Threads + Wait + Sync, J: PostSet + Send + Sync>(
+    rt: &R,
+    alloc: Global,
+    lending: Lending<'_, '_, '_, J>,
+    size: Size,
+    tally: &Tally,
+) {
+    match queue_of(rt, alloc, &lending, tally) {
+        Some(queue) => start_all(rt, alloc, &lending, &queue, size, tally),
+        None => tally.refuse(),
+    }
+}
+
+/// Makes an empty queue, with a participant of its own.
+fn queue_of<'c, R: Wait, J: PostSet>(
+    rt: &R,
+    alloc: Global,
+    lending: &Lending<'c, '_, '_, J>,
+    tally: &Tally,
+) -> Option<LendingQueue<'c, J, Link>> {
+    let Ok(mut handle) = LendingHandle::register(alloc, lending.collector, lending.lender) else {
+        return None;
+    };
+    let guard = handle.pin();
+    let queue = LendingQueue::new(&guard, ListNode::new(0));
+    handle.unpin(guard);
+    leave(rt, handle, tally);
+    queue.ok()
+}
+
+impl<'c, 'q, 's, 'd, J: PostSet + Send + Sync> Structure<Lending<'c, 'q, 's, J>>
+    for LendingQueue<'d, J, Link> {
     fn take_part<R: Wait>(
         &self,
         rt: &R,
-        _alloc: Global,
-        collector: &Collector<Node<u64>>,
+        alloc: Global,
+        lending: &Lending<'c, 'q, 's, J>,
         values: (u64, u64),
         tally: &Tally,
     ) {
-        participate(rt, collector, self, values, tally);
+        participate(rt, alloc, lending, self, values, tally);
     }
 }
 
 /// One thread: registers, does a round for each of its values, and releases.
-fn participate<R: Wait>(
+fn participate<R: Wait, J: PostSet>(
     rt: &R,
-    collector: &Collector<Node<u64>>,
-    queue: &Queue<'_, u64>,
+    alloc: Global,
+    lending: &Lending<'_, '_, '_, J>,
+    queue: &LendingQueue<'_, J, Link>,
     (first, rounds): (u64, u64),
     tally: &Tally,
 ) {
-    let Ok(mut handle) = collector.register() else {
+    let Ok(mut handle) = LendingHandle::register(alloc, lending.collector, lending.lender) else {
         tally.refuse();
         return;
     };
     for round in 0..rounds {
         go_round(queue, &mut handle, first.wrapping_add(round), tally);
     }
-    leave(rt, handle);
+    leave(rt, handle, tally);
 }
 
 /// Pins, pushes the value, pops one, and unpins.
-fn go_round(
-    queue: &Queue<'_, u64>,
-    handle: &mut LocalHandle<'_, Node<u64>>,
+fn go_round<J: PostSet>(
+    queue: &LendingQueue<'_, J, Link>,
+    handle: &mut LendingHandle<'_, '_, '_, J, Link>,
     value: u64,
     tally: &Tally,
 )
-    requires { handle.old.machine.guards ≡ 0 }
-    ensures { handle.new.machine.guards ≡ 0 }
+    requires none { handle.old.handle.machine.guards ≡ 0 }
+    requires free { IsSome handle.old.reader }
+    ensures none { handle.new.handle.machine.guards ≡ 0 }
+    ensures free { IsSome handle.new.reader }
 {
     let guard = handle.pin();
-    let pushed = queue.push(handle, &guard, value, TRIES).is_ok();
-    let popped = queue.pop(handle, &guard, TRIES);
+    let pushed = queue
+        .push(handle, &guard, ListNode::new(value), TRIES)
+        .is_ok();
+    note(pushed, queue.pop(handle, &guard, TRIES), tally);
     handle.unpin(guard);
+}
+
+/// Adds the value of the node that was popped, or notes that a call was refused.
+fn note(pushed: bool, popped: Result<Option<&Link>, Fault>, tally: &Tally) {
     match popped {
-        Ok(Some(value)) if pushed => tally.add(value),
+        Ok(Some(node)) if pushed => tally.add(*node.value()),
         Ok(None) if pushed => {}
         _ => tally.refuse(),
     }
+}
+
+/// Releases the participant, and tries again for as long as its held bag finds no place.
+fn leave<R: Wait, J: PostSet>(rt: &R, handle: LendingHandle<'_, '_, '_, J, Link>, tally: &Tally)
+    requires { handle.handle.machine.guards ≡ 0 }
+{
+    let mut staying = handle;
+    for _ in rt.forever() {
+        match staying.release() {
+            Ok(()) => return,
+            Err((handle, fault)) => {
+                if fault == Fault::NoMemory {
+                    tally.refuse();
+                }
+                staying = handle;
+            }
+        }
+    }
+    unreachable!()
 }

@@ -1,8 +1,8 @@
 //! The runs that the words of a command line ask for.
 ghost use Rattle.std.specs.Prelude.{MatchOption};
-ghost use Rattle.epoch_lines.specs.declared.size.Size.{Size};
-ghost use Rattle.epoch_lines.specs.Sizes.{SpellsSize};
-ghost use Rattle.epoch_run.specs.declared.runs.Run.{Run};
+ghost use Rattle.epoch_script.specs.declared.size.Size.{Size};
+ghost use Rattle.epoch_script.specs.Sizes.{SpellsSize};
+ghost use Rattle.epoch_run.specs.declared.runs.ThreadRun.{ThreadRun};
 ghost use Rattle.epoch_run.specs.Runs.{SpellsRun};
 
 use crate::tally::Popped;
@@ -22,7 +22,7 @@ const MOST: u64 = 64;
 
 /// What is run.
 #[derive(Clone, Copy)]
-pub enum Run {
+pub enum ThreadRun {
     /// `threads N K`: N threads defer K jobs each.
     Threads(Size),
     /// `stack N K`: N threads push and pop K values each, over a stack.
@@ -32,7 +32,7 @@ pub enum Run {
 }
 
 /// The run that the words of a command line ask for, or `None` where they ask for none.
-fn asked(words: &[String]) -> Option<Run> {
+fn asked(words: &[String]) -> Option<ThreadRun> {
     match words {
         [form, threads, rounds] => read_run(form, threads, rounds),
         _ => None,
@@ -42,20 +42,20 @@ fn asked(words: &[String]) -> Option<Run> {
 /// How many jobs the words ask for: none where they ask for no run, or for a run that takes none.
 pub fn jobs_asked(words: &[String]) -> u64 {
     match asked(words) {
-        Some(Run::Threads(size)) => size.jobs(),
+        Some(ThreadRun::Threads(size)) => size.jobs(),
         _ => 0,
     }
 }
 
 /// The run that three words say.
-fn read_run(form: &str, threads: &str, rounds: &str) -> Option<Run>
-    ensures { MatchOption result ((run : Run) → ¬ SpellsRun run form.now threads.now rounds.now)
+fn read_run(form: &str, threads: &str, rounds: &str) -> Option<ThreadRun>
+    ensures { MatchOption result ((run : ThreadRun) → ¬ SpellsRun run form.now threads.now rounds.now)
         (λ run. SpellsRun run form.now threads.now rounds.now) }
 {
     match read_size(threads, rounds) {
-        Some(size) if form == "threads" => Some(Run::Threads(size)),
-        Some(size) if form == "stack" => Some(Run::Stack(size)),
-        Some(size) if form == "queue" => Some(Run::Queue(size)),
+        Some(size) if form == "threads" => Some(ThreadRun::Threads(size)),
+        Some(size) if form == "stack" => Some(ThreadRun::Stack(size)),
+        Some(size) if form == "queue" => Some(ThreadRun::Queue(size)),
         _ => None,
     }
 }
@@ -90,17 +90,17 @@ pub fn perform<R: Threads + Wait + Sync, A: Write, F: Write>(
 ) -> Ending {
     let told = match asked(words) {
         None => tell_usage(faults),
-        Some(Run::Threads(size)) => {
+        Some(ThreadRun::Threads(size)) => {
             if !come_and_go(rt, alloc, size, jobs) {
                 return Ending::Refused;
             }
             tell_called(called, answers)
         }
-        Some(Run::Stack(size)) => match stack::push_and_pop(rt, alloc, size) {
+        Some(ThreadRun::Stack(size)) => match stack::push_and_pop(rt, alloc, size) {
             Some(popped) => tell_popped(popped, answers),
             None => return Ending::Refused,
         },
-        Some(Run::Queue(size)) => match queue::push_and_pop(rt, alloc, size) {
+        Some(ThreadRun::Queue(size)) => match queue::push_and_pop(rt, alloc, size) {
             Some(popped) => tell_popped(popped, answers),
             None => return Ending::Refused,
         },

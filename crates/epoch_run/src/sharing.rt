@@ -1,4 +1,4 @@
-//! A structure over one collector, on which all threads of a run push and pop.
+//! A structure on which all threads of a run push and pop.
 
 use crate::tally::Tally;
 use epoch_script::Size;
@@ -7,9 +7,9 @@ use std::sync::Wait;
 use std::thread;
 use std::thread::Threads;
 
-/// What the threads of a run share beside their collector.
+/// A structure that the threads of a run share, beside what they register with.
 ///
-/// The collector is a parameter, so that each of the two is shown by itself to be what threads may share: both at once,
+/// That is a parameter, `C`, so that each of the two is shown by itself to be what threads may share: both at once,
 /// beside all else that a thread takes, are more than the checker finds by itself.
 pub trait Structure<C: Sync>: Sync {
     /// One thread: pushes this many values from the first one on, each with a pop after it.
@@ -17,7 +17,7 @@ pub trait Structure<C: Sync>: Sync {
         &self,
         rt: &R,
         alloc: Global,
-        collector: &C,
+        registry: &C,
         values: (u64, u64),
         tally: &Tally,
     );
@@ -27,7 +27,7 @@ pub trait Structure<C: Sync>: Sync {
 pub fn start_all<R: Threads + Wait + Sync, C: Sync, S: Structure<C>>(
     rt: &R,
     alloc: Global,
-    collector: &C,
+    registry: &C,
     structure: &S,
     size: Size,
     tally: &Tally,
@@ -37,7 +37,7 @@ pub fn start_all<R: Threads + Wait + Sync, C: Sync, S: Structure<C>>(
             // At most 63 times 64.
             let values = (thread.wrapping_mul(size.rounds), size.rounds);
             let started = scope.spawn(move || structure.take_part(
-                rt, alloc, collector, values, tally,
+                rt, alloc, registry, values, tally,
             ));
             if started.is_err() {
                 tally.refuse();

@@ -1,1 +1,5 @@
 pub mod Endings
+pub mod Words
+pub mod Accesses
+pub mod Lines
+pub mod Sizes

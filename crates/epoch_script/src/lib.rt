@@ -1,7 +1,15 @@
 //! Scripts of steps: what a world does of their lines, and how a script ends.
 #![tactic(auto)]
 
+mod accesses;
+mod lines;
+mod printing;
 mod script;
+mod size;
+mod words;
 
-pub use epoch_lines::{Command, Printed, Size, read_command, read_number, read_shape};
+pub use lines::{Command, read_command, read_shape};
+pub use printing::Printed;
 pub use script::{Ending, Script, run, tell_ending};
+pub use size::Size;
+pub use words::read_number;

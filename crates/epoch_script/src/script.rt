@@ -5,11 +5,11 @@ ghost use Rattle.std.specs.IoError.{error_kind};
 ghost use Rattle.std.specs.Io.BufRead.{DropsThrough, first_piece};
 ghost use Rattle.std.specs.Io.KnownBytes.{IsAtEnd};
 ghost use Rattle.epoch_laws.specs.declared.shape.Shape.{Shape};
-ghost use Rattle.epoch_lines.specs.declared.lines.Command.{Command};
+ghost use Rattle.epoch_script.specs.declared.lines.Command.{Command};
 ghost use Rattle.epoch_script.specs.Endings.{TellsOf, status_of};
-ghost use Rattle.epoch_lines.specs.Lines.{SpellsCommand, SpellsShape};
+ghost use Rattle.epoch_script.specs.Lines.{SpellsCommand, SpellsShape};
 
-use epoch_lines::{Command, Printed, read_command, read_shape};
+use crate::{Command, Printed, read_command, read_shape};
 use epoch_world::{Call, Reply, Shape, Step, World};
 use std::alloc::Global;
 use std::io;

@@ -3,3 +3,4 @@ pub mod TableSteps
 pub mod SharedPlaces
 pub mod SharedSteps
 pub mod ClosedPlaces
+pub mod Ends

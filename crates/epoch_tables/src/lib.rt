@@ -1,5 +1,6 @@
 //! The tables that threads share: the participants' words with the epoch, and the places for sealed bags.
 #![tactic(auto)]
 
+pub mod ends;
 pub mod shared_places;
 pub mod table;

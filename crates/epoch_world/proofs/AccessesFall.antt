@@ -5,21 +5,22 @@ use Rattle.std.proofs.lemmas.Option.{slice_get_within}
 use Rattle.epoch_cells.specs.PlainCells.{unread, readable}
 use Rattle.epoch_cells.specs.declared.cells.name.Name.{Name}
 use Rattle.epoch_machine.specs.Machine.{Machine}
-use Rattle.epoch_heap.specs.declared.access.Access.{Access}
-use Rattle.epoch_heap.specs.declared.access.Access.TheVariants.{Place, Read, Leave, Write, Take, Point}
-use Rattle.epoch_heap.specs.declared.access.Accessed.{Accessed}
-use Rattle.epoch_heap.specs.declared.access.Answer.{Answer}
-use Rattle.epoch_heap.specs.declared.access.Change.{Change}
-use Rattle.epoch_heap.specs.declared.access.Change.TheVariants.{Load, Store, Swap, CompareExchange, FetchAnd, FetchOr}
-use Rattle.epoch_heap.specs.declared.access.Change.TheVariants.{FetchXor, FetchUpdate}
+use Rattle.epoch_laws.specs.declared.heap.access.Access.{Access}
+use Rattle.epoch_laws.specs.declared.heap.access.Access.TheVariants.{Place, Read, Leave, Write, Take, Point}
+use Rattle.epoch_laws.specs.declared.heap.access.Accessed.{Accessed}
+use Rattle.epoch_laws.specs.declared.heap.access.AccessAnswer.{AccessAnswer}
+use Rattle.epoch_laws.specs.declared.heap.access.Change.{Change}
+use Rattle.epoch_laws.specs.declared.heap.access.Change.TheVariants.{Load, Store, Swap, CompareExchange, FetchAnd}
+use Rattle.epoch_laws.specs.declared.heap.access.Change.TheVariants.{FetchOr}
+use Rattle.epoch_laws.specs.declared.heap.access.Change.TheVariants.{FetchXor, FetchUpdate}
 use Rattle.epoch_laws.specs.declared.step.Deferral.{Deferral}
 use Rattle.epoch_laws.specs.declared.step.Progress.TheVariants.{Accesses}
-use Rattle.epoch_heap.specs.declared.access.Ptr.{Ptr}
-use Rattle.epoch_heap.specs.declared.access.Spot.{Spot}
+use Rattle.epoch_laws.specs.declared.heap.access.Ptr.{Ptr}
+use Rattle.epoch_laws.specs.declared.heap.access.Spot.{Spot}
 use Rattle.epoch_laws.specs.Calls.{ends_call}
-use Rattle.epoch_heap.specs.declared.heap.Content.{Content}
-use Rattle.epoch_heap.specs.Heap.{Cell, Heap, cell_at, pointer_at, is_stop, Touched, touched, answers, read_by, left_by}
-use Rattle.epoch_heap.specs.Heap.{written_by, taken_by, at_name, Places, Changes, ChangesAt, Touches}
+use Rattle.epoch_laws.specs.declared.heap.heap.Content.{Content}
+use Rattle.epoch_laws.specs.Heap.{Cell, Heap, cell_at, pointer_at, is_stop, Touched, touched, answers, read_by, left_by}
+use Rattle.epoch_laws.specs.Heap.{written_by, taken_by, at_name, Places, Changes, ChangesAt, Touches}
 use Rattle.epoch_laws.specs.Run.{progress_after, access_reply}
 use Rattle.epoch_world.specs.Steps.{InStore, access_steps, steps_of, IsSteady}
 
@@ -34,7 +35,7 @@ module _ (m : Machine Deferral) (n : InStore) (slots : ℕ) where
   along a k did last e falls = subst (λ (d : Touched). Falls a k d) (sym e) falls
 
   -- an answer ends what has a step left beside its end
-  answered : (a : Access) (k : ℕ) (answer : Answer) (h : Heap)
+  answered : (a : Access) (k : ℕ) (answer : AccessAnswer) (h : Heap)
       → 1 < access_steps slots a k → Falls a k (answers answer h)
   answered a k answer h more = record { fewer = λ on. more; steady = tt }
 

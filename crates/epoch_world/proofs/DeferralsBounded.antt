@@ -32,12 +32,12 @@ use Rattle.epoch_laws.specs.Run.{Bag, WorldSeat, State, seat_of, position_word, 
 use Rattle.epoch_laws.specs.Run.{with_word, free_seat, drives, begun_seat, ended_seat, call_refusal, DrivesCall}
 use Rattle.epoch_laws.proofs.SeatLemmas.{seat_written, seat_other, seat_there, same_or_other}
 use Rattle.epoch_laws.proofs.TicketsTallied.{acted}
-use Rattle.epoch_reach_laws.proofs.GuardsStay.{machine_ended}
+use Rattle.epoch_laws.proofs.GuardsStay.{machine_ended}
 use Rattle.epoch_world.proofs.PendingDeferrals.{TicketsBounded, is_busy, pending_at, pending, KeepsAt, KeepsAsDeferral}
 use Rattle.epoch_world.proofs.PendingDeferrals.{pending_one, none_pending, sum_most, keeps_collected, keeps_pinned}
 use Rattle.epoch_world.proofs.PendingDeferrals.{keeps_put, keeps_unpinned, keeps_called, keeps_past, keeps_first}
 use Rattle.epoch_world.proofs.PendingDeferrals.{room_given, busy_takes, removal_room_given}
-use Rattle.epoch_heap.specs.Heap.{Heap}
+use Rattle.epoch_laws.specs.Heap.{Heap}
 
 module _ (old new : State) (h : TicketsBounded old) where
   -- one participant goes on, and no more tickets may be taken than before, or the limit is far

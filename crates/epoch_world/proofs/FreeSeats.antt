@@ -7,7 +7,7 @@ use Rattle.epoch_laws.specs.Kept.{FreeRests, rests}
 use Rattle.epoch_laws.specs.Run.{WorldSeat, State, seat_of, Moves, IsFresh}
 use Rattle.epoch_laws.proofs.SeatChanges.{SeatChange, Registers, Begins, MachineGoes, Leaves, MachineEnds, JobCalled}
 use Rattle.epoch_laws.proofs.SeatChanges.{AccessGoes, Replies, seats_go, each_seat}
-use Rattle.epoch_reach_laws.proofs.GuardsStay.{word_begun, word_ended}
+use Rattle.epoch_laws.proofs.GuardsStay.{word_begun, word_ended}
 
 -- where a step leaves a position free, nobody is at work there
 changed : (old : State) (step : Step) (p : ℕ) (after : WorldSeat) → SeatChange old step p after

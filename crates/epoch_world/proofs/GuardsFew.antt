@@ -22,12 +22,12 @@ use Rattle.epoch_laws.specs.Kept.{IsDriven, AllLinked, paused_count, Awake, HasG
 use Rattle.epoch_laws.proofs.SeatChanges.{SeatChange, Registers, Begins, MachineGoes, Leaves, MachineEnds, JobCalled}
 use Rattle.epoch_laws.proofs.SeatChanges.{AccessGoes, Replies, seats_go, each_seat}
 use Rattle.epoch_laws.proofs.Linked.{length_without, follows_at}
-use Rattle.epoch_heap.specs.declared.access.Access.{Access}
-use Rattle.epoch_heap.specs.declared.access.Accessed.{Accessed}
-use Rattle.epoch_heap.specs.declared.access.Accessed.TheVariants.{Again}
-use Rattle.epoch_heap.specs.declared.access.Answer.TheVariants.{Absent}
+use Rattle.epoch_laws.specs.declared.heap.access.Access.{Access}
+use Rattle.epoch_laws.specs.declared.heap.access.Accessed.{Accessed}
+use Rattle.epoch_laws.specs.declared.heap.access.Accessed.TheVariants.{Again}
+use Rattle.epoch_laws.specs.declared.heap.access.AccessAnswer.TheVariants.{Absent}
 use Rattle.epoch_laws.specs.declared.step.Reply.TheVariants.{Done}
-use Rattle.epoch_heap.specs.Heap.{Heap, null, has_steps}
+use Rattle.epoch_laws.specs.Heap.{Heap, null, has_steps}
 
 none_waits : (paused : Option ℕ) (b : Bool) → waits Pin paused ≡ false → paused ≡ None
 none_waits None b h = refl

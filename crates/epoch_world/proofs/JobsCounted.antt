@@ -32,8 +32,8 @@ use Rattle.epoch_laws.proofs.StepKinds.{LastReply, EndBegins, EndCalls, EndTakes
 use Rattle.epoch_laws.proofs.SeatLemmas.{seat_there}
 use Rattle.epoch_laws.proofs.TicketSums.{sum_zero}
 use Rattle.epoch_laws.proofs.TicketsTallied.{acted}
-use Rattle.epoch_reach_laws.proofs.GuardsStay.{machine_ended, held_begun, hand_begun}
-use Rattle.epoch_heap.specs.Heap.{Heap, heap_after_job}
+use Rattle.epoch_laws.proofs.GuardsStay.{machine_ended, held_begun, hand_begun}
+use Rattle.epoch_laws.specs.Heap.{Heap, heap_after_job}
 
 -- a bag more in the store
 queued_more : (bag : Bag) (old new : List Bag)

@@ -20,3 +20,7 @@ pub mod FreeSeats
 pub mod RoomSteps
 pub mod RoomForReadings
 pub mod SteppedOnce
+mod LoneWorld
+mod LoneCalls
+mod ThreeRounds
+mod ListedSteps

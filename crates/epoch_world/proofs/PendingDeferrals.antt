@@ -13,8 +13,8 @@ use Rattle.epoch_machine.specs.Machine.{Machine, is_empty, after_collect, after_
 use Rattle.epoch_machine.specs.Machine.{past_word, first_stage}
 use Rattle.epoch_machine.proofs.StagesAfter.{either_way, after_pin_at, past_word_at, after_job_at}
 use Rattle.epoch_laws.specs.declared.step.Call.TheVariants.{Defer as DeferCall, DeferDestroy}
-use Rattle.epoch_heap.specs.declared.access.Ptr.{Ptr}
-use Rattle.epoch_heap.specs.Heap.{Heap}
+use Rattle.epoch_laws.specs.declared.heap.access.Ptr.{Ptr}
+use Rattle.epoch_laws.specs.Heap.{Heap}
 use Rattle.epoch_laws.specs.declared.step.Deferral.{Deferral}
 pub use Rattle.epoch_laws.specs.Kept.{is_busy, pending_at, pending, KeepsAt, KeepsAsDeferral, TicketsBounded}
 use Rattle.epoch_laws.specs.Run.{WorldSeat, call_refusal}

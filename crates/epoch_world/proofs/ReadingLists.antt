@@ -2,7 +2,7 @@
 use Rattle.std.proofs.Common.{◌≡◌, ℕ, zero, suc, ◌<◌, Bool, true, List, [], ◌∷◌, ◌++◌, length, take, drop, remove}
 use Rattle.std.proofs.Common.{slice_index_or, Some, if◌then◌else◌, ap, sym, ◌∙◌, arith}
 use Rattle.epoch_cells.specs.declared.cells.name.Name.{Name}
-use Rattle.epoch_heap.specs.Heap.{is_name}
+use Rattle.epoch_laws.specs.Heap.{is_name}
 use Rattle.epoch_laws.specs.Run.{without_reading}
 
 pub without_at : (n : Name) (xs : List Name) (i : ℕ) (m : Name)

@@ -3,16 +3,16 @@ use Rattle.std.proofs.Common.{◌≡◌, ℕ, ◌<◌, true, List, length, Optio
 use Rattle.std.proofs.Common.{arith}
 use Rattle.epoch_cells.specs.PlainCells.{readable}
 use Rattle.epoch_cells.specs.declared.cells.name.Name.{Name}
-use Rattle.epoch_heap.specs.declared.access.Access.{Access}
-use Rattle.epoch_heap.specs.declared.access.Access.TheVariants.{Read}
-use Rattle.epoch_heap.specs.declared.access.Ptr.{Ptr}
-use Rattle.epoch_heap.specs.declared.heap.Content.{Content}
-use Rattle.epoch_heap.specs.Heap.{Cell, Heap, cell_at, at_name, read_by, Touched, Touches}
+use Rattle.epoch_laws.specs.declared.heap.access.Access.{Access}
+use Rattle.epoch_laws.specs.declared.heap.access.Access.TheVariants.{Read}
+use Rattle.epoch_laws.specs.declared.heap.access.Ptr.{Ptr}
+use Rattle.epoch_laws.specs.declared.heap.heap.Content.{Content}
+use Rattle.epoch_laws.specs.Heap.{Cell, Heap, cell_at, at_name, read_by, Touched, Touches}
 use Rattle.epoch_laws.specs.declared.step.Progress.TheVariants.{Accesses}
 use Rattle.epoch_laws.specs.Kept.{IsSound}
 use Rattle.epoch_laws.specs.Readings.{ReadsNext}
 use Rattle.epoch_laws.specs.Run.{WorldSeat, State, seat_of}
-use Rattle.epoch_reach_laws.proofs.RoomToRead.{room_to_read}
+use Rattle.epoch_laws.proofs.RoomToRead.{room_to_read}
 use Rattle.epoch_world.specs.Seats.{CanRead, HasRead}
 
 -- a read that is about to come finds room in the list

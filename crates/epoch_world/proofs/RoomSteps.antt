@@ -22,7 +22,7 @@ use Rattle.epoch_laws.specs.Run.{WorldSeat, State, HasFreePlace, seat_of, is_dri
 use Rattle.epoch_laws.specs.Run.{with_places}
 use Rattle.epoch_world.specs.Worlds.{ReservesKnown}
 use Rattle.epoch_laws.proofs.SeatLemmas.{same_or_other}
-use Rattle.epoch_rounds_laws.proofs.LonePuts.{none_putting}
+use Rattle.epoch_laws.proofs.LonePuts.{none_putting}
 use Rattle.epoch_world.proofs.CollectionSteps.{taking_asks, not_both, turn_driven, get_set_same, nobody_there}
 use Rattle.epoch_world.proofs.CollectionSteps.{nobody_before, nobody_quiet}
 

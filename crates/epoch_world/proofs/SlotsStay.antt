@@ -5,17 +5,17 @@ use Rattle.epoch_cells.specs.PlainCells.{readable, removal_of, unread}
 use Rattle.epoch_cells.specs.declared.cells.name.Name.{Name}
 use Rattle.epoch_cells.specs.declared.cells.Removal.{Removal}
 use Rattle.epoch_cells.specs.declared.cells.Removal.TheVariants.{Destroyed, HeldElsewhere, Gone}
-use Rattle.epoch_heap.specs.declared.heap.Content.{Content}
-use Rattle.epoch_heap.specs.declared.access.Access.{Access}
-use Rattle.epoch_heap.specs.declared.access.Access.TheVariants.{Place, Read, Leave, Write, Take, Point}
-use Rattle.epoch_heap.specs.declared.access.Change.{Change}
-use Rattle.epoch_heap.specs.declared.access.Ptr.{Ptr}
-use Rattle.epoch_heap.specs.declared.access.Spot.{Spot}
-use Rattle.epoch_heap.specs.declared.access.Spot.TheVariants.{Root, Field}
-use Rattle.epoch_heap.proofs.PointersWritten.{kept_or_written}
-use Rattle.epoch_heap.specs.Heap.{Cell, Heap, Touched, cell_at, pointer_at, with_pointer, with_field_in, without_cell}
-use Rattle.epoch_heap.specs.Heap.{heap_after_job, at_name, read_by, left_by, written_by, taken_by, Places, ChangesAt}
-use Rattle.epoch_heap.specs.Heap.{Touches}
+use Rattle.epoch_laws.specs.declared.heap.heap.Content.{Content}
+use Rattle.epoch_laws.specs.declared.heap.access.Access.{Access}
+use Rattle.epoch_laws.specs.declared.heap.access.Access.TheVariants.{Place, Read, Leave, Write, Take, Point}
+use Rattle.epoch_laws.specs.declared.heap.access.Change.{Change}
+use Rattle.epoch_laws.specs.declared.heap.access.Ptr.{Ptr}
+use Rattle.epoch_laws.specs.declared.heap.access.Spot.{Spot}
+use Rattle.epoch_laws.specs.declared.heap.access.Spot.TheVariants.{Root, Field}
+use Rattle.epoch_laws.proofs.PointersWritten.{kept_or_written}
+use Rattle.epoch_laws.specs.Heap.{Cell, Heap, Touched, cell_at, pointer_at, with_pointer, with_field_in, without_cell}
+use Rattle.epoch_laws.specs.Heap.{heap_after_job, at_name, read_by, left_by, written_by, taken_by, Places, ChangesAt}
+use Rattle.epoch_laws.specs.Heap.{Touches}
 
 without_slots : (h : Heap) (n : Name) (r : Removal) → length (without_cell h n r).cells ≡ length h.cells
 without_slots h n Destroyed = length-set h.cells _ _

@@ -22,13 +22,13 @@ use Rattle.epoch_laws.specs.declared.step.Deferral.{Deferral}
 use Rattle.epoch_laws.specs.Run.{WorldSeat, begun_seat}
 use Rattle.epoch_world.specs.Steps.{InStore, in_store, past_collect, collection_steps, steps_at, machine_steps}
 use Rattle.epoch_world.specs.Steps.{steps_left, call_bound, steps_of, IsSteady}
-use Rattle.epoch_heap.specs.declared.access.Access.{Access}
-use Rattle.epoch_heap.specs.declared.access.Access.TheVariants.{Place, Point}
-use Rattle.epoch_heap.specs.declared.access.Answer.TheVariants.{Absent}
-use Rattle.epoch_heap.specs.declared.access.Change.TheVariants.{FetchUpdate}
+use Rattle.epoch_laws.specs.declared.heap.access.Access.{Access}
+use Rattle.epoch_laws.specs.declared.heap.access.Access.TheVariants.{Place, Point}
+use Rattle.epoch_laws.specs.declared.heap.access.AccessAnswer.TheVariants.{Absent}
+use Rattle.epoch_laws.specs.declared.heap.access.Change.TheVariants.{FetchUpdate}
 use Rattle.epoch_laws.specs.declared.step.Progress.TheVariants.{Accesses, Ends}
 use Rattle.epoch_laws.specs.declared.step.Reply.TheVariants.{Done}
-use Rattle.epoch_heap.specs.Heap.{Heap, null, has_steps}
+use Rattle.epoch_laws.specs.Heap.{Heap, null, has_steps}
 
 either_below : (left : Stage → ℕ) (b : Bool) (s t : Stage) (k : ℕ)
     → left s < k → left t < k → left (if b then s else t) < k

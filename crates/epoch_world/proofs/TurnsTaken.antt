@@ -16,10 +16,10 @@ use Rattle.epoch_laws.specs.declared.step.Reply.{Reply}
 use Rattle.epoch_laws.specs.Kept.{AllLinked, IsSound}
 use Rattle.epoch_laws.specs.Run.{with_places, Bag, WorldSeat, Ending, Open, is_driven, progress_after, accessed_seat}
 use Rattle.epoch_laws.specs.Run.{access_reply, end_reply, full_or_done}
-use Rattle.epoch_heap.specs.Heap.{Heap, Touched, Touches}
-use Rattle.epoch_heap.specs.declared.access.Access.{Access}
-use Rattle.epoch_heap.specs.declared.access.Accessed.{Accessed}
-use Rattle.epoch_heap.specs.declared.access.Ptr.{Ptr}
+use Rattle.epoch_laws.specs.Heap.{Heap, Touched, Touches}
+use Rattle.epoch_laws.specs.declared.heap.access.Access.{Access}
+use Rattle.epoch_laws.specs.declared.heap.access.Accessed.{Accessed}
+use Rattle.epoch_laws.specs.declared.heap.access.Ptr.{Ptr}
 use Rattle.epoch_world.specs.Steps.{IsSteady, access_steps, InStore, machine_steps, steps_of, steps_left}
 use Rattle.epoch_machine.specs.declared.machine.Stage.{Stage}
 use Rattle.epoch_world.proofs.SlotsStay.{job_slots}

@@ -29,9 +29,9 @@ use Rattle.epoch_world.specs.Worlds.{state_of, ending_of, IsEmptying}
 use Rattle.epoch_laws.specs.Kept.{IsDriven, rests, BeganUnder, Awake, HasGuardRoom, IsSound, paused_count, jobs_at_end}
 use Rattle.epoch_laws.proofs.SeatLemmas.{begin_given}
 use Rattle.epoch_laws.proofs.Linked.{moved_linked, fresh_linked, follows_at}
-use Rattle.epoch_heap.specs.Heap.{Heap, outcome_of, heap_after_job}
-use Rattle.epoch_reach_laws.proofs.HeapSteps.{heap_goes}
-use Rattle.epoch_reach_laws.proofs.ReadingsKept.{readings_move, fresh_readings}
+use Rattle.epoch_laws.specs.Heap.{Heap, outcome_of, heap_after_job}
+use Rattle.epoch_laws.proofs.HeapSteps.{heap_goes}
+use Rattle.epoch_laws.proofs.ReadingsKept.{readings_move, fresh_readings}
 use Rattle.epoch_world.proofs.SlotsStay.{job_slots, access_slots}
 use Rattle.epoch_world.proofs.GuardsFew.{moves_room, fresh_room}
 use Rattle.epoch_world.proofs.FreeSeats.{moves_free, fresh_free}

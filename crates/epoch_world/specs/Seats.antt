@@ -21,14 +21,14 @@ use Rattle.epoch_laws.specs.declared.step.Word.TheVariants.{Unpinned, Pinned}
 use Rattle.epoch_world.specs.declared.world.common.Common.{Common}
 use Rattle.epoch_laws.specs.Run.{Bag, WorldSeat, free_seat, with_machine, with_word, removed_by}
 use Rattle.epoch_cells.specs.declared.cells.name.Name.{Name}
-use Rattle.epoch_heap.specs.declared.access.Access.{Access}
-use Rattle.epoch_heap.specs.declared.access.Access.TheVariants.{Read}
-use Rattle.epoch_heap.specs.declared.access.Accessed.{Accessed}
-use Rattle.epoch_heap.specs.declared.access.Accessed.TheVariants.{Answers}
-use Rattle.epoch_heap.specs.declared.access.Answer.TheVariants.{Released, Value}
+use Rattle.epoch_laws.specs.declared.heap.access.Access.{Access}
+use Rattle.epoch_laws.specs.declared.heap.access.Access.TheVariants.{Read}
+use Rattle.epoch_laws.specs.declared.heap.access.Accessed.{Accessed}
+use Rattle.epoch_laws.specs.declared.heap.access.Accessed.TheVariants.{Answers}
+use Rattle.epoch_laws.specs.declared.heap.access.AccessAnswer.TheVariants.{Released, Value}
 use Rattle.epoch_laws.specs.declared.step.Progress.{Progress}
 use Rattle.epoch_laws.specs.declared.step.Progress.TheVariants.{Accesses}
-use Rattle.epoch_heap.specs.Heap.{Heap, cell_at, outcome_of, heap_after_job, AccessFits}
+use Rattle.epoch_laws.specs.Heap.{Heap, cell_at, outcome_of, heap_after_job, AccessFits}
 
 -- What comes of one ask of the participant p: the reply, its seat and what participants have in common after it. The
 -- word is the one that a scan looks at.

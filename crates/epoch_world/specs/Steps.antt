@@ -13,11 +13,11 @@ use Rattle.epoch_laws.specs.declared.step.Deferral.{Deferral}
 use Rattle.epoch_laws.specs.declared.step.Progress.{Progress}
 use Rattle.epoch_laws.specs.declared.step.Progress.TheVariants.{Idle, Driven, CallsNow, Ends, Accesses}
 use Rattle.epoch_laws.specs.Run.{WorldSeat}
-use Rattle.epoch_heap.specs.declared.access.Access.{Access}
-use Rattle.epoch_heap.specs.declared.access.Access.TheVariants.{Place, Point}
-use Rattle.epoch_heap.specs.declared.access.Change.TheVariants.{FetchUpdate}
-use Rattle.epoch_heap.specs.declared.access.Ptr.{Ptr}
-use Rattle.epoch_heap.specs.Heap.{Heap, pointer_at}
+use Rattle.epoch_laws.specs.declared.heap.access.Access.{Access}
+use Rattle.epoch_laws.specs.declared.heap.access.Access.TheVariants.{Place, Point}
+use Rattle.epoch_laws.specs.declared.heap.access.Change.TheVariants.{FetchUpdate}
+use Rattle.epoch_laws.specs.declared.heap.access.Ptr.{Ptr}
+use Rattle.epoch_laws.specs.Heap.{Heap, pointer_at}
 
 -- how many steps in the store the put and the collection under way have left, and how many a new one has at most
 pub record InStore : Type 0 where

@@ -19,12 +19,12 @@ ghost use Rattle.epoch_laws.specs.Fits.{IsLawful};
 ghost use Rattle.epoch_laws.specs.Full.{FullWhereFound};
 ghost use Rattle.epoch_laws.specs.Refusals.{RefusedAlong, all_quiet, none_collected};
 ghost use Rattle.epoch_laws.specs.Calls.{call_entries, EndsAtLast};
-ghost use Rattle.epoch_rounds_laws.specs.Rounds.{RoundsCallAll};
-ghost use Rattle.epoch_rounds_laws.specs.Collected.{CollectsFew};
-ghost use Rattle.epoch_reach_laws.specs.Reach.{LeavesOnce, KeepsLoaded, past_of};
-ghost use Rattle.epoch_reach_laws.specs.Given.{GivesNoNameTwice};
-ghost use Rattle.epoch_reach_laws.specs.Removals.{CallsWhatWasDeferred};
-ghost use Rattle.epoch_reach_laws.specs.Standing.{StandsOrDestroyed, given_of, LoadedStand};
+ghost use Rattle.epoch_laws.specs.Rounds.{RoundsCallAll};
+ghost use Rattle.epoch_laws.specs.Collected.{CollectsFew};
+ghost use Rattle.epoch_laws.specs.Reach.{LeavesOnce, KeepsLoaded, past_of};
+ghost use Rattle.epoch_laws.specs.Given.{GivesNoNameTwice};
+ghost use Rattle.epoch_laws.specs.Removals.{CallsWhatWasDeferred};
+ghost use Rattle.epoch_laws.specs.Standing.{StandsOrDestroyed, given_of, LoadedStand};
 
 mod calls;
 mod common;
@@ -38,7 +38,7 @@ use calls::{go_on, go_to_end, most_steps};
 use common::Common;
 use epoch_bags::{Bag, BagStore, Epoch, FREE, Places, SealedBag, UNPINNED, pinned_word};
 use epoch_cells::Fault;
-use epoch_heap::{Answer, Heap};
+use epoch_laws::heap::{AccessAnswer, Heap};
 use epoch_laws::{Call, Deferral, Reply, Shape, Step, Word};
 use epoch_machine::Sizes;
 pub use seat::Seat;
@@ -439,7 +439,7 @@ impl<S: BagStore<Job = Deferral>> World<S> {
             }
             None => {
                 self.end = EndStage::Over;
-                Reply::Done(Answer::Count(self.count))
+                Reply::Done(AccessAnswer::Count(self.count))
             }
         }
     }

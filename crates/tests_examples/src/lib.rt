@@ -1,7 +1,9 @@
-//! Tests of the pages to copy, which run them.
+//! Tests of the pages to copy, which run them, and of scripts.
 #![tactic(auto)]
 
 #[cfg(test)]
-mod examples;
+mod calls;
 #[cfg(test)]
-mod lent_list;
+mod examples;
+mod lent;
+mod script;

@@ -2,8 +2,7 @@
 //! then what it has to answer. Memory is there: an error's way out of a test would be proved beside all that it owns.
 use crate::counts::counting_job;
 use crate::wants::{want, want_count, want_ok};
-use epoch_base::{Fault, Job};
-use epoch_pin::{Capacities, Collector, Guard, LocalHandle};
+use epoch::{Capacities, Collector, Fault, Guard, Job, LocalHandle};
 use std::alloc::Global;
 use std::process::Abort;
 use std::sync::Arc;

@@ -3,8 +3,8 @@ ghost use Rattle.std.specs.Prelude.{◌≡◌, refl};
 ghost use Rattle.std.proofs.Common.{lit≤};
 
 use crate::wants::want_ok;
-use epoch_base::{Fault, Job, Work};
-use epoch_pin::atomic::Pointable;
+use epoch::atomic::Pointable;
+use epoch::{Fault, Job, Work};
 use std::alloc::Global;
 use std::process::Abort;
 use std::sync::Arc;

@@ -1,7 +1,9 @@
 use crate::counts::{count, new_counted, noting_job};
 use crate::wants::{want, want_count, want_ok, want_true};
-use epoch_base::{Bag, Cells, Epoch, GREATEST_EPOCH, Job, Name, SealedBag};
-use epoch_pin::end_bags;
+use epoch::bag::{Bag, SealedBag};
+use epoch::collector::end_bags;
+use epoch::epoch::{Epoch, GREATEST_EPOCH};
+use epoch::{Cells, Job, Name};
 use std::alloc::Global;
 use std::process::Abort;
 use std::sync::Arc;

@@ -2,9 +2,8 @@ use crate::calls::{collector, defer, end, pin, pin_and_defer, register, release,
 use crate::counts::count;
 use crate::removals::{placed, remove};
 use crate::wants::{want, want_count, want_err, want_ok, want_shown, want_some};
-use epoch_base::{Fault, Job, Name};
-use epoch_pin::atomic::Shared;
-use epoch_pin::{Capacities, Collector, LocalHandle};
+use epoch::atomic::Shared;
+use epoch::{Capacities, Collector, Fault, Job, LocalHandle, Name};
 use std::process::Abort;
 
 /// No position is free.

@@ -1,5 +1,5 @@
-//! Tests of `epoch_pin` by its public calls: handles, guards, jobs, a collector's end, the pointers of
-//! `epoch_pin::atomic`, cells that participants keep, removals that are deferred, and handles on several threads.
+//! Tests of `epoch` by its public calls: handles, guards, jobs, a collector's end, pointers, cells and memory that
+//! participants keep, removals that are deferred, and handles on several threads.
 #![tactic(auto)]
 
 #[cfg(test)]
@@ -14,12 +14,15 @@ mod guards;
 mod jobs;
 #[cfg(test)]
 mod keeping;
+mod memory;
 #[cfg(test)]
 mod pointers;
 #[cfg(test)]
 mod removals;
 #[cfg(test)]
 mod repins;
+#[cfg(test)]
+mod seats;
 #[cfg(test)]
 mod threads;
 #[cfg(test)]

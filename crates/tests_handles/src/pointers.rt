@@ -1,17 +1,19 @@
 use crate::calls::{collector, end, let_go};
-use crate::wants::{want, want_ok, want_shown, want_some, want_true};
-use epoch_base::Called;
-use epoch_pin::atomic::{
-    Array, Atomic, CompareExchangeError, DestroyNow, ExchangeFault, Owned, Pointable, Pointer,
-    Shared, UpdateFault,
+use crate::pointers::seen::{
+    changed, lost_to_null, want_destroyed, want_owned, want_pointer, want_tag, want_value,
 };
-use epoch_pin::{Capacities, Guard, unprotected};
+use crate::wants::{want, want_ok, want_shown, want_some, want_true};
+use epoch::atomic::{
+    Array, Atomic, CompareExchangeError, Owned, Pointable, Pointer, Shared, UpdateFault,
+};
+use epoch::{Called, Capacities, Guard, unprotected};
 use std::alloc::Global;
 use std::process::Abort;
 use std::sync::atomic::Ordering;
 use std::sync::atomic::Ordering::SeqCst;
 
 mod exchanges;
+pub(crate) mod seen;
 mod values;
 
 /// What is done with pointers under an unprotected guard.
@@ -52,27 +54,6 @@ fn owned(rt: &impl Abort, alloc: Global, value: u64) -> Owned<u64> {
 /// A pointer to this value, for which a cell is free.
 fn atomic(rt: &impl Abort, alloc: Global, value: u64, guard: &Guard<'_, u64>) -> Atomic<u64> {
     want_ok(rt, "a cell is free", Atomic::new(alloc, value, guard))
-}
-
-/// The pointer is the one that is wanted.
-fn want_pointer(rt: &impl Abort, what: &str, seen: Shared<'_, u64>, wanted: Shared<'_, u64>) {
-    assert!(rt; seen == wanted, "{what}");
-}
-
-/// The pointer has this tag.
-fn want_tag(rt: &impl Abort, what: &str, shared: Shared<'_, u64>, tag: usize) {
-    want(rt, what, shared.tag(), tag);
-}
-
-/// What a lost exchange found, and the new pointer.
-fn changed<'g, P: Drop>(
-    rt: &impl Abort,
-    exchanged: Result<Shared<'g, u64>, ExchangeFault<'g, u64, P>>,
-) -> CompareExchangeError<'g, u64, P> {
-    match exchanged {
-        Err(ExchangeFault::Changed(error)) => error,
-        _ => panic!(rt; "nothing was found to have changed"),
-    }
 }
 
 #[test]

@@ -1,9 +1,11 @@
-use crate::calls::{collector, cycles, end, flush, pin, register, release, rounds, unpin};
+use crate::calls::{collector, end, flush, pin, register, release, rounds, unpin};
 use crate::counts::{Counted, count, new_counted};
+use crate::seats::Deed::{Cycles, RemovesFromOnlyCell};
+use crate::seats::Row::Own;
+use crate::seats::{Row, play};
 use crate::wants::{want, want_count, want_err, want_ok, want_true};
-use epoch_base::{Fault, Refused};
-use epoch_pin::atomic::{Array, Atomic, DeferDestroy, Owned, Pointable, Shared};
-use epoch_pin::{Capacities, Guard, LocalHandle};
+use epoch::atomic::{Array, Atomic, DeferDestroy, Owned, Pointable, Shared};
+use epoch::{Capacities, Fault, Guard, LocalHandle, Refused};
 use std::alloc::Global;
 use std::process::Abort;
 use std::sync::Arc;
@@ -139,30 +141,12 @@ pub(crate) fn refuse_place(rt: &impl Abort, alloc: Global, guard: &Guard<'_, u64
     want(rt, "the fault", fault, Fault::CellsFull);
 }
 
-/// Removes 5, whose cell was free, and flushes: the one job is put, and the epoch advances. Under the next pin the
-/// cell isn't free yet, and the flush calls the job.
-fn remove_from_only_cell(rt: &impl Abort, alloc: Global, handle: &mut LocalHandle<'_, u64>) {
-    let guard = pin(rt, handle);
-    remove_later(rt, alloc, handle, &guard, 5);
-    flush(rt, handle, &guard, Ok(()));
-    unpin(rt, handle, guard);
-    let guard = pin(rt, handle);
-    refuse_place(rt, alloc, &guard);
-    flush(rt, handle, &guard, Ok(()));
-    unpin(rt, handle, guard);
-}
+// The first pin advances the epoch, and leaves the handle published in the one before. No further one of fewer than 128
+// collects.
+const ONLY_CELL: &[Row] = &[Own(Cycles(1)), Own(RemovesFromOnlyCell(50))];
 
 #[test]
 fn the_only_cell_is_free_when_the_removal_of_its_value_was_called(rt: HostRuntime) {
-    let alloc = rt.alloc();
-    let collector = collector::<u64>(&rt, alloc, Capacities::usual(1, 1, 1));
-    let mut handle = register(&rt, &collector);
-    // The first pin advances the epoch, and leaves the handle published in the one before. No further one of fewer
-    // than 128 collects.
-    cycles(&rt, &mut handle, 1);
-    for _ in 0..50u64 {
-        remove_from_only_cell(&rt, alloc, &mut handle);
-    }
-    release(&rt, handle);
-    end(&rt, collector, 0);
+    let capacities = Capacities::usual(1, 1, 1);
+    play(&rt, rt.alloc(), capacities, ONLY_CELL, (0, 0, 0));
 }

@@ -1,5 +1,6 @@
 //! What the tests want. A comparison stands here once: written out in a test, it would be proved beside all that the
 //! test owns.
+use epoch::Fault;
 use std::alloc::Global;
 use std::fmt::Debug;
 use std::process::Abort;
@@ -49,4 +50,9 @@ pub(crate) fn want_some<T>(rt: &impl Abort, what: &str, found: Option<T>) -> T {
 /// The count stands at this number.
 pub(crate) fn want_count(rt: &impl Abort, what: &str, count: &AtomicU64, wanted: u64) {
     want(rt, what, count.load(SeqCst), wanted);
+}
+
+/// Memory was refused, and nothing else.
+pub(crate) fn want_no_memory(rt: &impl Abort, fault: Fault) {
+    want(rt, "why it is refused", fault, Fault::NoMemory);
 }

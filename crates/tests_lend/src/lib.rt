@@ -1,9 +1,9 @@
-//! Tests of values that are lent to readers, by the public calls of `epoch_lend`, `epoch_lend_cells`,
-//! `epoch_lend_readers` and `epoch_lend_array`.
+//! Tests of values that are lent to readers: in one cell, in many cells, and behind pointers.
 #![tactic(auto)]
 
 #[cfg(test)]
 mod one_cell;
+mod pointers;
 #[cfg(test)]
 mod probes;
 #[cfg(test)]

@@ -3,12 +3,12 @@ ghost use Rattle.std.specs.Prelude.{◌≡◌};
 ghost use Rattle.epoch_lend.specs.Posts.{IsAmong, logs_of};
 
 use crate::wants::want;
-use epoch_lend::post::{Guard, Post};
-use epoch_lend_cells::cell::{GREATEST_TURN, LendingCell, Placed, Sealed};
+use epoch_lend::cells::cell::{GREATEST_TURN, LendingCell, PlacedInCell, Sealed};
+use epoch_lend::post::{Post, PostGuard};
 use std::test::Fail;
 
 /// What a look at the name finds, or 0.
-fn found(placed: &Placed<'_, '_, u64>, guard: &Guard) -> u64
+fn found(placed: &PlacedInCell<'_, '_, u64>, guard: &PostGuard) -> u64
     requires { IsAmong guard.now.log (logs_of placed.now.cell.now.posts.now) }
 {
     match placed.look(guard) {
@@ -18,7 +18,7 @@ fn found(placed: &Placed<'_, '_, u64>, guard: &Guard) -> u64
 }
 
 /// Marks the value, and looks at each post for the first time.
-fn removed<'c, 'p>(placed: &Placed<'c, 'p, u64>) -> Option<Sealed<'c, 'p, u64>> {
+fn removed<'c, 'p>(placed: &PlacedInCell<'c, 'p, u64>) -> Option<Sealed<'c, 'p, u64>> {
     match placed.mark() {
         Some(removal) => Some(removal.seal()),
         None => None,

@@ -1,21 +1,26 @@
 //! Values that count their drops.
+ghost use Rattle.std.specs.Prelude.{◌≡◌, refl};
+ghost use Rattle.std.proofs.Common.{lit≤};
+
+use epoch_atomic::atomic::Pointable;
+use epoch_cells::Fault;
 use std::alloc::{AllocError, Global};
 use std::sync::Arc;
 use std::sync::atomic::AtomicU64;
 use std::sync::atomic::Ordering::SeqCst;
 
 /// A number, and beside it twice the number and one more. When it is dropped, the count of its number goes up.
-pub struct Probe {
-    pub number: usize,
-    pub second: usize,
+pub(crate) struct Probe {
+    pub(crate) number: usize,
+    pub(crate) second: usize,
     counts: Option<Counts>,
 }
 
 /// A count for each number.
-pub type Counts = Arc<Vec<AtomicU64>>;
+pub(crate) type Counts = Arc<Vec<AtomicU64>>;
 
 impl Probe {
-    pub fn new(number: usize, counts: &Counts) -> Probe {
+    pub(crate) fn new(number: usize, counts: &Counts) -> Probe {
         Probe {
             number,
             second: number.wrapping_mul(2).wrapping_add(1),
@@ -24,7 +29,7 @@ impl Probe {
     }
 
     /// Whether it is as it was made, and was not dropped.
-    pub fn is_whole(&self) -> bool {
+    pub(crate) fn is_whole(&self) -> bool {
         let drops = match &self.counts {
             Some(counts) => drops_of(counts, self.number),
             None => 0,
@@ -48,8 +53,28 @@ impl Drop for Probe {
     }
 }
 
+impl Pointable for Probe {
+    ghost ALIGN = { 8 };
+
+    ghost log = { 3 };
+
+    ghost is_power = { refl };
+
+    ghost is_small = { lit≤ tt };
+
+    const ALIGN: usize = 8;
+
+    type Init = Probe;
+
+    ghost init_gives = { λ init probe. probe ≡ init };
+
+    fn init(_alloc: Global, init: Probe) -> Result<Probe, Fault> {
+        Ok(init)
+    }
+}
+
 /// How often the value of this number was dropped.
-pub fn drops_of(counts: &Counts, number: usize) -> u64 {
+pub(crate) fn drops_of(counts: &Counts, number: usize) -> u64 {
     match counts.get(number) {
         Some(count) => count.load(SeqCst),
         None => 0,
@@ -57,7 +82,7 @@ pub fn drops_of(counts: &Counts, number: usize) -> u64 {
 }
 
 /// How many of these values were dropped once.
-pub fn dropped_once(counts: &Counts) -> u64 {
+pub(crate) fn dropped_once(counts: &Counts) -> u64 {
     let mut once: u64 = 0;
     for number in 0..counts.len() {
         if drops_of(counts, number) == 1 {
@@ -68,7 +93,7 @@ pub fn dropped_once(counts: &Counts) -> u64 {
 }
 
 /// This many counts, each 0.
-pub fn counts_for(alloc: Global, values: usize) -> Result<Counts, AllocError> {
+pub(crate) fn counts_for(alloc: Global, values: usize) -> Result<Counts, AllocError> {
     let mut counts = Vec::with_capacity(alloc, values)?;
     for _ in 0..values {
         counts.push(AtomicU64::new(0)).map_err(|_| AllocError)?;

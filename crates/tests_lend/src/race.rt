@@ -3,10 +3,10 @@ ghost use Rattle.std.specs.Prelude.{◌≡◌, ◌<◌, ◌^◌};
 
 use crate::probes::{Counts, Probe, counts_for, dropped_once};
 use crate::wants::want;
-use epoch_lend_array::bag::Bag;
-use epoch_lend_array::cells::{LendingCells, Spot};
-use epoch_lend_readers::posts::{Made, PostSet, Posts};
-use epoch_lend_readers::value::{Owner, Retired, Value, lend};
+use epoch_lend::array::cells::{LendingCells, SlotTurn};
+use epoch_lend::readers::posts::{Made, PostSet, Posts};
+use epoch_lend::readers::value::{Owner, RetiredValue, Value, lend};
+use epoch_lend_pointers::store::batch::Batch;
 use std::alloc::{AllocError, Global};
 use std::marker::Brand;
 use std::sync::Wait;
@@ -31,12 +31,12 @@ const SLOTS: u64 = 8;
 const TOGETHER: usize = 4;
 
 /// The word of a spot: the slot in the low digit of base 8, and the turn above it.
-fn word_of(spot: Spot) -> u64 {
+fn word_of(spot: SlotTurn) -> u64 {
     spot.turn.wrapping_mul(SLOTS).wrapping_add(spot.slot as u64)
 }
 
-fn spot_of(word: u64) -> Spot {
-    Spot {
+fn spot_of(word: u64) -> SlotTurn {
+    SlotTurn {
         slot: (word % SLOTS) as usize,
         turn: word / SLOTS,
     }
@@ -125,7 +125,7 @@ fn is_found<J: PostSet>(posts: &Posts<J>, value: &Value<J, Probe>, course: &Cour
 
 /// Goes on to later epochs and tries to take the value back, until it comes.
 fn take_value_back<J: PostSet>(
-    retired: Retired<J, Probe, Global>,
+    retired: RetiredValue<J, Probe, Global>,
     posts: &Posts<J>,
     course: &Course,
 ) {
@@ -161,7 +161,7 @@ fn remove<J: PostSet>(owner: Owner<'_, J, Probe, Global>, posts: &Posts<J>, cour
 }
 
 /// Goes on to later epochs and tries to take the values of the bag back, until they come.
-fn take_bag_back<J: PostSet>(bag: Bag<'_, J, Probe>, posts: &Posts<J>, course: &Course) {
+fn take_bag_back<J: PostSet>(bag: Batch<'_, J, Probe>, posts: &Posts<J>, course: &Course) {
     let mut kept = bag.seal(posts);
     for _ in 0..MOST {
         course.epoch.fetch_add(2, SeqCst);
@@ -184,8 +184,8 @@ fn take_bag_back<J: PostSet>(bag: Bag<'_, J, Probe>, posts: &Posts<J>, course: &
 /// Marks the value at this spot, and puts it into the bag.
 fn retire<'c, J: PostSet>(
     cells: &'c LendingCells<J, Probe>,
-    bag: &mut Bag<'c, J, Probe>,
-    old: Option<Spot>,
+    bag: &mut Batch<'c, J, Probe>,
+    old: Option<SlotTurn>,
 ) {
     if let Some(spot) = old {
         if let Some(removal) = cells.mark(spot) {
@@ -197,10 +197,10 @@ fn retire<'c, J: PostSet>(
 /// Places one value, and names it in the root. Returns its spot, or the old one if no cell is free.
 fn placed<J: PostSet>(
     cells: &LendingCells<J, Probe>,
-    old: Option<Spot>,
+    old: Option<SlotTurn>,
     number: usize,
     course: &Course,
-) -> Option<Spot> {
+) -> Option<SlotTurn> {
     let spot = match cells.place(Probe::new(number, &course.counts)) {
         Ok(placed) => placed.spot,
         Err(_) => return old,
@@ -217,7 +217,7 @@ fn replace_all<J: PostSet>(
     cells: &LendingCells<J, Probe>,
     course: &Course,
 ) -> Result<(), AllocError> {
-    let mut bag = Bag::with_capacity(alloc, TOGETHER)?;
+    let mut bag = Batch::with_capacity(alloc, TOGETHER)?;
     let mut old = None;
     for number in 1..VALUES + 1 {
         let spot = placed(cells, old, number, course);
@@ -225,7 +225,7 @@ fn replace_all<J: PostSet>(
         old = spot;
         if bag.len() >= TOGETHER {
             take_bag_back(bag, posts, course);
-            bag = Bag::with_capacity(alloc, TOGETHER)?;
+            bag = Batch::with_capacity(alloc, TOGETHER)?;
         }
     }
     retire(cells, &mut bag, old);

@@ -1,25 +1,25 @@
 //! Readers on one thread: the posts of a set, one value, and arrays of cells that are used again.
 use crate::wants::want;
-use epoch_lend_array::bag::{Bag, SealedBag};
-use epoch_lend_array::cells::{LendingCells, Spot};
-use epoch_lend_array::room::Room;
-use epoch_lend_array::slot::Returned;
-use epoch_lend_readers::posts::{PostSet, Posts};
-use epoch_lend_readers::session::{Session, with_posts};
-use epoch_lend_readers::value::{Owner, Retired, lend};
+use epoch_lend::array::cells::{LendingCells, SlotTurn};
+use epoch_lend::array::room::LentRoom;
+use epoch_lend::array::slot::Returned;
+use epoch_lend::readers::posts::{PostSet, Posts};
+use epoch_lend::readers::session::{Session, with_posts};
+use epoch_lend::readers::value::{Owner, RetiredValue, lend};
+use epoch_lend_pointers::store::batch::{Batch, SealedBatch};
 use std::alloc::Global;
 use std::process::Abort;
 use std::test::Fail;
 
 /// A spot that there isn't.
-const NONE: Spot = Spot { slot: 99, turn: 99 };
+const NONE: SlotTurn = SlotTurn { slot: 99, turn: 99 };
 
-fn spot(slot: usize, turn: u64) -> Spot {
-    Spot { slot, turn }
+fn spot(slot: usize, turn: u64) -> SlotTurn {
+    SlotTurn { slot, turn }
 }
 
 /// Where a value is placed by a search, or none.
-fn placed<J: PostSet>(cells: &LendingCells<J, u64>, value: u64) -> Spot {
+fn placed<J: PostSet>(cells: &LendingCells<J, u64>, value: u64) -> SlotTurn {
     match cells.place(value) {
         Ok(placed) => placed.spot,
         Err(_) => NONE,
@@ -27,7 +27,7 @@ fn placed<J: PostSet>(cells: &LendingCells<J, u64>, value: u64) -> Spot {
 }
 
 /// Where the value is placed in this room, or none.
-fn housed<J: PostSet>(room: Option<Room<'_, J, u64>>, value: u64) -> Spot {
+fn housed<J: PostSet>(room: Option<LentRoom<'_, J, u64>>, value: u64) -> SlotTurn {
     let Some(room) = room else {
         return NONE;
     };
@@ -38,7 +38,7 @@ fn housed<J: PostSet>(room: Option<Room<'_, J, u64>>, value: u64) -> Spot {
 }
 
 /// What a reader finds at this spot, or 0.
-fn found<J: PostSet>(posts: &Posts<J>, cells: &LendingCells<J, u64>, spot: Spot) -> u64 {
+fn found<J: PostSet>(posts: &Posts<J>, cells: &LendingCells<J, u64>, spot: SlotTurn) -> u64 {
     let Some(reader) = posts.register() else {
         return 0;
     };
@@ -61,9 +61,9 @@ fn marked<'c, J: PostSet>(
     alloc: Global,
     posts: &Posts<J>,
     cells: &'c LendingCells<J, u64>,
-    spot: Spot,
-) -> Option<SealedBag<'c, J, u64>> {
-    let made = Bag::with_capacity(alloc, 1).ok()?;
+    spot: SlotTurn,
+) -> Option<SealedBatch<'c, J, u64>> {
+    let made = Batch::with_capacity(alloc, 1).ok()?;
     let mut bag = made;
     let _ = bag.push(cells.mark(spot)?);
     Some(bag.seal(posts))
@@ -71,9 +71,9 @@ fn marked<'c, J: PostSet>(
 
 /// What comes back at this try, or 0 with what has to be tried again.
 fn tried<'c, J: PostSet>(
-    sealed: Option<SealedBag<'c, J, u64>>,
+    sealed: Option<SealedBatch<'c, J, u64>>,
     posts: &Posts<J>,
-) -> (u64, Option<SealedBag<'c, J, u64>>) {
+) -> (u64, Option<SealedBatch<'c, J, u64>>) {
     let Some(sealed) = sealed else {
         return (0, None);
     };
@@ -94,7 +94,7 @@ fn taken<J: PostSet>(
     alloc: Global,
     posts: &Posts<J>,
     cells: &LendingCells<J, u64>,
-    spot: Spot,
+    spot: SlotTurn,
 ) -> u64 {
     tried(marked(alloc, posts, cells, spot), posts).0
 }
@@ -117,8 +117,8 @@ fn room_of<'c, J: PostSet>(
     alloc: Global,
     posts: &Posts<J>,
     cells: &'c LendingCells<J, u64>,
-    spot: Spot,
-) -> Option<Room<'c, J, u64>> {
+    spot: SlotTurn,
+) -> Option<LentRoom<'c, J, u64>> {
     let clear = marked(alloc, posts, cells, spot)?.take_back(posts).ok()?;
     let mut rest = clear;
     let Returned {
@@ -274,9 +274,9 @@ fn ends_at_once<J: PostSet>(
 
 /// What comes back at this try, or 0 with what has to be tried again.
 fn returned<J: PostSet>(
-    retired: Option<Retired<J, u64, Global>>,
+    retired: Option<RetiredValue<J, u64, Global>>,
     posts: &Posts<J>,
-) -> (u64, Option<Retired<J, u64, Global>>) {
+) -> (u64, Option<RetiredValue<J, u64, Global>>) {
     let Some(retired) = retired else {
         return (0, None);
     };
@@ -290,7 +290,7 @@ fn returned<J: PostSet>(
 fn retired<J: PostSet>(
     owner: Owner<'_, J, u64, Global>,
     posts: &Posts<J>,
-) -> Option<Retired<J, u64, Global>> {
+) -> Option<RetiredValue<J, u64, Global>> {
     match owner.mark(posts) {
         Ok(retired) => Some(retired),
         Err(_) => None,

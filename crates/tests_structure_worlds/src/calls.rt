@@ -1,12 +1,11 @@
 //! Steps of a structure, and rows of what they have to tell.
 use crate::structures::{Asked, Sizes, Structure, Told};
 use crate::wants::want;
-use epoch_heap::Answer;
 use epoch_laws::Reply;
-use epoch_plan_world::{PlainCall, PlanReply, PlanStep};
+use epoch_laws::heap::AccessAnswer;
+use epoch_structure_worlds::plans::{PlainCall, PlanReply, PlanStep};
 use std::alloc::Global;
 use std::process::Abort;
-use std::test::Fail;
 
 /// More steps than any call takes.
 pub(crate) const MANY: u64 = 10_000;
@@ -44,9 +43,9 @@ fn told_by_world(reply: Reply) -> Told {
         Reply::Began => Told::Began,
         Reply::Stepped => Told::Stepped,
         Reply::Called(_, _) => Told::Called,
-        Reply::Done(Answer::Guard(guard)) => Told::Pinned(guard),
-        Reply::Done(Answer::Count(count)) => Told::Ended(count),
-        Reply::Done(Answer::Released) => Told::Released,
+        Reply::Done(AccessAnswer::Guard(guard)) => Told::Pinned(guard),
+        Reply::Done(AccessAnswer::Count(count)) => Told::Ended(count),
+        Reply::Done(AccessAnswer::Released) => Told::Released,
         Reply::Done(_) => Told::Done,
         Reply::Refused(fault) => Told::Refused(fault),
         _ => Told::Event,
@@ -160,16 +159,15 @@ pub(crate) fn sizes(participants: u64, cells: u64) -> Sizes {
     }
 }
 
+/// A new structure. Memory is there: an error's way out of a test would be proved beside all that it owns.
+pub(crate) fn made<X: Structure>(rt: &impl Abort, alloc: Global, sizes: Sizes) -> X {
+    X::made(rt, alloc, sizes).expect(rt, "memory for a structure")
+}
+
 /// Goes through the rows of each table with a new structure.
-pub(crate) fn play<X: Structure>(
-    rt: &impl Abort,
-    alloc: Global,
-    sizes: Sizes,
-    tables: &[&[Row]],
-) -> Result<(), Fail> {
-    let mut structure = X::made(rt, alloc, sizes)?;
+pub(crate) fn play<X: Structure>(rt: &impl Abort, alloc: Global, sizes: Sizes, tables: &[&[Row]]) {
+    let mut structure: X = made(rt, alloc, sizes);
     play_on(rt, &mut structure, tables);
-    Ok(())
 }
 
 /// A participant gets the position 0, and is pinned by its guard 0.

@@ -5,11 +5,10 @@ use crate::programs::Program;
 use crate::random::{Counts, Course, run_often};
 use crate::structures::{Map, Queue, Stack};
 use crate::wants::want;
-use epoch_map_laws::Phase as MapPhase;
-use epoch_queue_laws::Phase as QueuePhase;
+use epoch_structure_laws::map::MapPhase as MapPhase;
+use epoch_structure_laws::queue::QueuePhase as QueuePhase;
 use std::alloc::Global;
 use std::process::Abort;
-use std::test::Fail;
 
 /// Three pinned participants.
 const PINNED: &[&[Row]] = &[FIRST, SECOND, THIRD];
@@ -104,77 +103,71 @@ fn want_some(rt: &impl Abort, what: &str, count: u64) {
 }
 
 #[test]
-fn replies_of_a_stack_fit_a_list(rt: HostRuntime) -> Result<(), Fail> {
-    let counts = run_often::<Stack>(&rt, rt.alloc(), &STACKS, (2026, 10_000))?;
+fn replies_of_a_stack_fit_a_list(rt: HostRuntime) {
+    let counts = run_often::<Stack>(&rt, rt.alloc(), &STACKS, (2026, 10_000));
     want_some(&rt, "values come off", counts.taken_out);
-    Ok(())
 }
 
 #[test]
-fn replies_of_a_stack_fit_a_list_where_cells_are_taken_again(rt: HostRuntime) -> Result<(), Fail> {
-    let counts = run_often::<Stack>(&rt, rt.alloc(), &renewing(STACKS), (2027, 200))?;
+fn replies_of_a_stack_fit_a_list_where_cells_are_taken_again(rt: HostRuntime) {
+    let counts = run_often::<Stack>(&rt, rt.alloc(), &renewing(STACKS), (2027, 200));
     want_some(
         &rt,
         "cells are destroyed in the midst of runs",
         counts.removed,
     );
-    Ok(())
 }
 
 #[test]
-fn replies_of_a_queue_fit_a_list(rt: HostRuntime) -> Result<(), Fail> {
-    let counts = run_often::<Queue>(&rt, rt.alloc(), &QUEUES, (2026, 10_000))?;
+fn replies_of_a_queue_fit_a_list(rt: HostRuntime) {
+    let counts = run_often::<Queue>(&rt, rt.alloc(), &QUEUES, (2026, 10_000));
     want_some(&rt, "values come off", counts.taken_out);
-    Ok(())
 }
 
 #[test]
-fn replies_of_a_queue_fit_a_list_where_cells_are_taken_again(rt: HostRuntime) -> Result<(), Fail> {
-    let counts = run_often::<Queue>(&rt, rt.alloc(), &renewing(QUEUES), (2027, 200))?;
+fn replies_of_a_queue_fit_a_list_where_cells_are_taken_again(rt: HostRuntime) {
+    let counts = run_often::<Queue>(&rt, rt.alloc(), &renewing(QUEUES), (2027, 200));
     want_some(
         &rt,
         "cells are destroyed in the midst of runs",
         counts.removed,
     );
-    Ok(())
 }
 
 /// A quarter of 10,000 runs over a map, which are four tests since each has a limit of its own.
-fn run_a_quarter(rt: &impl Abort, alloc: Global, state: u64) -> Result<(), Fail> {
-    let counts = run_often::<Map>(rt, alloc, &MAPS, (state, 2_500))?;
+fn run_a_quarter(rt: &impl Abort, alloc: Global, state: u64) {
+    let counts = run_often::<Map>(rt, alloc, &MAPS, (state, 2_500));
     want_some(rt, "entries are taken out", counts.taken_out);
-    Ok(())
 }
 
 #[test]
-fn replies_of_a_map_fit_a_table(rt: HostRuntime) -> Result<(), Fail> {
+fn replies_of_a_map_fit_a_table(rt: HostRuntime) {
     run_a_quarter(&rt, rt.alloc(), 2026)
 }
 
 #[test]
-fn replies_of_a_map_fit_a_table_in_a_second_quarter_of_runs(rt: HostRuntime) -> Result<(), Fail> {
+fn replies_of_a_map_fit_a_table_in_a_second_quarter_of_runs(rt: HostRuntime) {
     run_a_quarter(&rt, rt.alloc(), 20_260)
 }
 
 #[test]
-fn replies_of_a_map_fit_a_table_in_a_third_quarter_of_runs(rt: HostRuntime) -> Result<(), Fail> {
+fn replies_of_a_map_fit_a_table_in_a_third_quarter_of_runs(rt: HostRuntime) {
     run_a_quarter(&rt, rt.alloc(), 202_600)
 }
 
 #[test]
-fn replies_of_a_map_fit_a_table_in_the_last_quarter_of_runs(rt: HostRuntime) -> Result<(), Fail> {
+fn replies_of_a_map_fit_a_table_in_the_last_quarter_of_runs(rt: HostRuntime) {
     run_a_quarter(&rt, rt.alloc(), 2_026_000)
 }
 
 #[test]
-fn replies_of_a_map_fit_a_table_where_cells_are_taken_again(rt: HostRuntime) -> Result<(), Fail> {
-    let counts = run_often::<Map>(&rt, rt.alloc(), &renewing(MAPS), (2027, 400))?;
+fn replies_of_a_map_fit_a_table_where_cells_are_taken_again(rt: HostRuntime) {
+    let counts = run_often::<Map>(&rt, rt.alloc(), &renewing(MAPS), (2027, 400));
     want_some(
         &rt,
         "cells are destroyed in the midst of runs",
         counts.removed,
     );
-    Ok(())
 }
 
 /// Each call that did or found something told the step at which it did, and removals were called meanwhile.
@@ -195,18 +188,16 @@ fn want_decided(rt: &impl Abort, counts: Counts) {
 }
 
 #[test]
-fn values_come_off_in_the_order_of_their_pushes(rt: HostRuntime) -> Result<(), Fail> {
+fn values_come_off_in_the_order_of_their_pushes(rt: HostRuntime) {
     let alloc = rt.alloc();
-    let counts = run_often::<Program<QueuePhase>>(&rt, alloc, &QUEUE_PROGRAMS, (2026, 40))?;
+    let counts = run_often::<Program<QueuePhase>>(&rt, alloc, &QUEUE_PROGRAMS, (2026, 40));
     want_decided(&rt, counts);
-    Ok(())
 }
 
 #[test]
-fn calls_do_and_find_what_a_table_has(rt: HostRuntime) -> Result<(), Fail> {
+fn calls_do_and_find_what_a_table_has(rt: HostRuntime) {
     let alloc = rt.alloc();
-    let counts = run_often::<Program<MapPhase>>(&rt, alloc, &MAP_PROGRAMS, (2026, 100))?;
+    let counts = run_often::<Program<MapPhase>>(&rt, alloc, &MAP_PROGRAMS, (2026, 100));
     want_decided(&rt, counts);
     want_some(&rt, "some call unlinks what another marked", counts.helped);
-    Ok(())
 }

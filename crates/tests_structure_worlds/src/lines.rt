@@ -4,10 +4,9 @@ use crate::structures::{Asked, Queue, Sizes, Stack, Told};
 use epoch_bags::BagQueue;
 use epoch_cells::Fault;
 use epoch_laws::Deferral;
-use epoch_plan_world::PlainCall;
-use epoch_queue_world::QueueWorld;
-use epoch_stack_world::StackWorld;
-use std::test::Fail;
+use epoch_structure_worlds::plans::PlainCall;
+use epoch_structure_worlds::queue::QueueWorld;
+use epoch_structure_worlds::stack::StackWorld;
 
 const EMPTY: Told = Told::NoneThere;
 
@@ -56,16 +55,16 @@ const FIRST_FIRST: &[Row] = &[
 ];
 
 #[test]
-fn the_last_value_pushed_on_a_stack_comes_off_first(rt: HostRuntime) -> Result<(), Fail> {
+fn the_last_value_pushed_on_a_stack_comes_off_first(rt: HostRuntime) {
     let tables = [FIRST, TWO_PUSHES, LAST_FIRST];
-    play::<Stack>(&rt, rt.alloc(), sizes(1, 2), &tables)?;
+    play::<Stack>(&rt, rt.alloc(), sizes(1, 2), &tables);
     play::<StackWorld<BagQueue<Deferral>>>(&rt, rt.alloc(), sizes(1, 2), &tables)
 }
 
 #[test]
-fn the_first_value_pushed_on_a_queue_comes_off_first(rt: HostRuntime) -> Result<(), Fail> {
+fn the_first_value_pushed_on_a_queue_comes_off_first(rt: HostRuntime) {
     let tables = [FIRST, BUILT, TWO_PUSHES, FIRST_FIRST];
-    play::<Queue>(&rt, rt.alloc(), sizes(1, 3), &tables)?;
+    play::<Queue>(&rt, rt.alloc(), sizes(1, 3), &tables);
     play::<QueueWorld<BagQueue<Deferral>>>(&rt, rt.alloc(), sizes(1, 3), &tables)
 }
 
@@ -87,7 +86,7 @@ const NO_NODE: &[Row] = &[
 ];
 
 #[test]
-fn nothing_goes_before_the_first_node_stands(rt: HostRuntime) -> Result<(), Fail> {
+fn nothing_goes_before_the_first_node_stands(rt: HostRuntime) {
     play::<Queue>(&rt, rt.alloc(), sizes(1, 4), &[FIRST, NO_NODE])
 }
 
@@ -130,17 +129,17 @@ const LOST: &[Row] = &[
 ];
 
 #[test]
-fn an_exchange_that_others_met_is_tried_again(rt: HostRuntime) -> Result<(), Fail> {
+fn an_exchange_that_others_met_is_tried_again(rt: HostRuntime) {
     let stack = [FIRST, SECOND, IN_TWO_TRIES, MET, TRIED_AGAIN];
-    play::<Stack>(&rt, rt.alloc(), sizes(2, 2), &stack)?;
+    play::<Stack>(&rt, rt.alloc(), sizes(2, 2), &stack);
     let queue = [FIRST, SECOND, BUILT, IN_TWO_TRIES, MET, TRIED_AGAIN];
     play::<Queue>(&rt, rt.alloc(), sizes(2, 4), &queue)
 }
 
 #[test]
-fn an_exchange_that_others_met_is_lost_in_the_last_try(rt: HostRuntime) -> Result<(), Fail> {
+fn an_exchange_that_others_met_is_lost_in_the_last_try(rt: HostRuntime) {
     let stack = [FIRST, SECOND, IN_ONE_TRY, MET, LOST];
-    play::<Stack>(&rt, rt.alloc(), sizes(2, 2), &stack)?;
+    play::<Stack>(&rt, rt.alloc(), sizes(2, 2), &stack);
     let queue = [FIRST, SECOND, BUILT, IN_ONE_TRY, MET, LOST];
     play::<Queue>(&rt, rt.alloc(), sizes(2, 4), &queue)
 }
@@ -166,7 +165,7 @@ const PUSH_MET: &[Row] = &[
 ];
 
 #[test]
-fn a_push_that_others_met_is_tried_again(rt: HostRuntime) -> Result<(), Fail> {
+fn a_push_that_others_met_is_tried_again(rt: HostRuntime) {
     play::<Stack>(&rt, rt.alloc(), sizes(2, 2), &[FIRST, SECOND, PUSH_MET])
 }
 
@@ -212,19 +211,19 @@ const POPPED_BEFORE_THE_TAIL: &[Row] = &[
 ];
 
 #[test]
-fn a_tail_that_lags_is_helped_and_the_push_tried_again(rt: HostRuntime) -> Result<(), Fail> {
+fn a_tail_that_lags_is_helped_and_the_push_tried_again(rt: HostRuntime) {
     let tables = [FIRST, SECOND, BUILT, LAGS, HELPED_IN_TWO_TRIES];
     play::<Queue>(&rt, rt.alloc(), sizes(2, 4), &tables)
 }
 
 #[test]
-fn a_tail_that_lags_takes_the_only_try(rt: HostRuntime) -> Result<(), Fail> {
+fn a_tail_that_lags_takes_the_only_try(rt: HostRuntime) {
     let tables = [FIRST, SECOND, BUILT, LAGS, HELPED_IN_ONE_TRY];
     play::<Queue>(&rt, rt.alloc(), sizes(2, 4), &tables)
 }
 
 #[test]
-fn a_value_comes_off_before_the_tail_leads_to_it(rt: HostRuntime) -> Result<(), Fail> {
+fn a_value_comes_off_before_the_tail_leads_to_it(rt: HostRuntime) {
     let tables = [FIRST, SECOND, BUILT, LAGS, POPPED_BEFORE_THE_TAIL];
     play::<Queue>(&rt, rt.alloc(), sizes(2, 4), &tables)
 }
@@ -245,8 +244,8 @@ const NO_TRY: &[Row] = &[
 ];
 
 #[test]
-fn a_call_in_no_try_runs_out_of_them(rt: HostRuntime) -> Result<(), Fail> {
-    play::<Stack>(&rt, rt.alloc(), sizes(1, 1), &[FIRST, NO_TRY])?;
+fn a_call_in_no_try_runs_out_of_them(rt: HostRuntime) {
+    play::<Stack>(&rt, rt.alloc(), sizes(1, 1), &[FIRST, NO_TRY]);
     play::<Queue>(&rt, rt.alloc(), sizes(1, 2), &[FIRST, BUILT, NO_TRY])
 }
 
@@ -306,8 +305,8 @@ const A_PAUSE: &[Row] = &[
 ];
 
 #[test]
-fn refusals_come_in_their_order(rt: HostRuntime) -> Result<(), Fail> {
-    play::<Stack>(&rt, rt.alloc(), sizes(1, 1), &[NO_PIN, A_CALL, A_PAUSE])?;
+fn refusals_come_in_their_order(rt: HostRuntime) {
+    play::<Stack>(&rt, rt.alloc(), sizes(1, 1), &[NO_PIN, A_CALL, A_PAUSE]);
     play::<Queue>(
         &rt,
         rt.alloc(),
@@ -339,14 +338,14 @@ const FULL: &[Row] = &[
 ];
 
 #[test]
-fn a_full_bag_is_flushed_first(rt: HostRuntime) -> Result<(), Fail> {
+fn a_full_bag_is_flushed_first(rt: HostRuntime) {
     let sizes = Sizes {
         participants: 1,
         cells: 3,
         bags: 1,
         bag_jobs: 1,
     };
-    play::<Stack>(&rt, rt.alloc(), sizes, &[FIRST, FULL])?;
+    play::<Stack>(&rt, rt.alloc(), sizes, &[FIRST, FULL]);
     play::<Queue>(&rt, rt.alloc(), sizes, &[FIRST, BUILT, FULL])
 }
 
@@ -368,7 +367,7 @@ const AN_END: &[Row] = &[
 ];
 
 #[test]
-fn an_end_calls_each_removal(rt: HostRuntime) -> Result<(), Fail> {
-    play::<Stack>(&rt, rt.alloc(), sizes(1, 3), &[FIRST, AN_END])?;
+fn an_end_calls_each_removal(rt: HostRuntime) {
+    play::<Stack>(&rt, rt.alloc(), sizes(1, 3), &[FIRST, AN_END]);
     play::<Queue>(&rt, rt.alloc(), sizes(1, 3), &[FIRST, BUILT, AN_END])
 }

@@ -1,12 +1,11 @@
 //! What each call of a map answers, row by row.
-use crate::calls::{Act, FIRST, Row, SECOND, perform, play, play_on, sizes, want_told};
+use crate::calls::{Act, FIRST, Row, SECOND, made, perform, play, play_on, sizes, want_told};
 use crate::random::KEY;
-use crate::structures::{Asked, Map, Structure, Told};
+use crate::structures::{Asked, Map, Told};
 use crate::wants::want;
 use epoch_cells::Fault;
 use std::alloc::Global;
 use std::process::Abort;
-use std::test::Fail;
 
 /// Moves enough for each call here.
 const ENOUGH: u64 = 16;
@@ -42,7 +41,7 @@ const ONCE: &[Row] = &[
 ];
 
 #[test]
-fn an_entry_is_put_in_once_and_taken_out_once(rt: HostRuntime) -> Result<(), Fail> {
+fn an_entry_is_put_in_once_and_taken_out_once(rt: HostRuntime) {
     play::<Map>(&rt, rt.alloc(), sizes(1, 4), &[FIRST, ONCE])
 }
 
@@ -102,7 +101,7 @@ const IN_ANY_ORDER: &[Row] = &[
 ];
 
 #[test]
-fn keys_of_one_bucket_are_found_whatever_their_order(rt: HostRuntime) -> Result<(), Fail> {
+fn keys_of_one_bucket_are_found_whatever_their_order(rt: HostRuntime) {
     play::<Map>(&rt, rt.alloc(), sizes(1, 8), &[FIRST, IN_ANY_ORDER])
 }
 
@@ -130,7 +129,7 @@ const NO_CELL: &[Row] = &[
 ];
 
 #[test]
-fn an_insert_without_a_free_cell_is_refused(rt: HostRuntime) -> Result<(), Fail> {
+fn an_insert_without_a_free_cell_is_refused(rt: HostRuntime) {
     play::<Map>(&rt, rt.alloc(), sizes(1, 1), &[FIRST, NO_CELL])
 }
 
@@ -163,7 +162,7 @@ const NO_MOVE: &[Row] = &[
 ];
 
 #[test]
-fn a_walk_that_runs_out_of_moves_says_so(rt: HostRuntime) -> Result<(), Fail> {
+fn a_walk_that_runs_out_of_moves_says_so(rt: HostRuntime) {
     play::<Map>(&rt, rt.alloc(), sizes(1, 8), &[FIRST, NO_MOVE])
 }
 
@@ -184,13 +183,13 @@ const REMOVAL: &[Row] = &[
 ];
 
 /// A map whose one entry is being removed, by this many steps after the begin.
-fn half_removed(rt: &impl Abort, alloc: Global, steps: u64) -> Result<Map, Fault> {
-    let mut map = Map::made(rt, alloc, sizes(2, 4))?;
+fn half_removed(rt: &impl Abort, alloc: Global, steps: u64) -> Map {
+    let mut map = made(rt, alloc, sizes(2, 4));
     play_on(rt, &mut map, &[FIRST, SECOND, REMOVAL]);
     for _ in 0..steps {
         let _ = perform(&mut map, Act::Go(0));
     }
-    Ok(map)
+    map
 }
 
 /// Whether another participant finds the entry where its removal stalls. It answers no error, and if none is there
@@ -206,32 +205,36 @@ fn is_found(rt: &impl Abort, map: &mut Map) -> bool {
     false
 }
 
+/// Whether another participant finds the entry where its removal stalls after this many steps.
+fn is_found_after(rt: &impl Abort, alloc: Global, steps: u64) -> bool {
+    let mut map = half_removed(rt, alloc, steps);
+    is_found(rt, &mut map)
+}
+
 #[test]
-fn a_removal_takes_its_entry_out_at_one_step(rt: HostRuntime) -> Result<(), Fail> {
+fn a_removal_takes_its_entry_out_at_one_step(rt: HostRuntime) {
     let mut gone = false;
     for steps in 0..MANY {
-        let mut map = half_removed(&rt, rt.alloc(), steps)?;
-        let found = is_found(&rt, &mut map);
+        let found = is_found_after(&rt, rt.alloc(), steps);
         want(&rt, "what is gone stays gone", found && gone, false);
         gone = !found;
     }
     want(&rt, "it is gone at the end", gone, true);
-    Ok(())
 }
 
-/// The removal is done after another participant has passed the marked node, if there is one, and has unlinked it.
-fn want_removed(rt: &impl Abort, map: &mut Map) {
-    let _ = perform(map, Act::Whole(1, Asked::Put(2 * KEY + 11, ENOUGH)));
-    let removed = perform(map, Act::Rest(0)) == Told::TookOut(9)
-        || perform(map, Act::Whole(0, Asked::Find(0, ENOUGH))) == Told::NoneThere;
+/// The removal stalls after this many steps. It is done after another participant has passed the marked node, if there
+/// is one, and has unlinked it.
+fn want_removed(rt: &impl Abort, alloc: Global, steps: u64) {
+    let mut map = half_removed(rt, alloc, steps);
+    let _ = perform(&mut map, Act::Whole(1, Asked::Put(2 * KEY + 11, ENOUGH)));
+    let removed = perform(&mut map, Act::Rest(0)) == Told::TookOut(9)
+        || perform(&mut map, Act::Whole(0, Asked::Find(0, ENOUGH))) == Told::NoneThere;
     want(rt, "the removal is done", removed, true);
 }
 
 #[test]
-fn a_removal_whose_node_another_unlinks_is_done(rt: HostRuntime) -> Result<(), Fail> {
+fn a_removal_whose_node_another_unlinks_is_done(rt: HostRuntime) {
     for steps in 0..MANY {
-        let mut map = half_removed(&rt, rt.alloc(), steps)?;
-        want_removed(&rt, &mut map);
+        want_removed(&rt, rt.alloc(), steps);
     }
-    Ok(())
 }

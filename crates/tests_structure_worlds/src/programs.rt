@@ -6,10 +6,10 @@ use crate::structures::{
 use epoch_bags::Places;
 use epoch_cells::Fault;
 use epoch_laws::{Deferral, Reply};
-use epoch_map_laws::Phase as MapPhase;
-use epoch_plan_world::{PlainCall, PlanReply, PlanStep};
 use epoch_plans::{PhaseMachine, Wish, Works};
-use epoch_queue_laws::Phase as QueuePhase;
+use epoch_structure_laws::map::MapPhase as MapPhase;
+use epoch_structure_laws::queue::QueuePhase as QueuePhase;
+use epoch_structure_worlds::plans::{PlainCall, PlanReply, PlanStep};
 use epoch_world::{Call, Ptr, Step, World};
 use std::alloc::Global;
 use std::process::Abort;

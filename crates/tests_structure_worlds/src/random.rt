@@ -1,12 +1,11 @@
 //! Random runs of three participants over one structure, step by step, beside a list or a table of entries.
-use crate::calls::{Act, MANY, Row, is_over, perform, play_on, want_told};
+use crate::calls::{Act, MANY, Row, is_over, made, perform, play_on, want_told};
 use crate::orders::{Order, Past, fit};
 use crate::structures::{Asked, Effect, Sizes, Structure, Told};
 use crate::wants::want;
-use epoch_plan_world::PlainCall;
-use std::alloc::{AllocError, Global};
+use epoch_structure_worlds::plans::PlainCall;
+use std::alloc::Global;
 use std::process::Abort;
-use std::test::Fail;
 
 /// How many participants there are.
 const PARTICIPANTS: u64 = 3;
@@ -206,7 +205,7 @@ fn count_over(counts: &mut Counts, call: UnderWay, told: Told) {
 }
 
 /// The call is over and tells this. It took effect at one step, if that is known, or else at any of its steps.
-fn add_past(run: &mut Run, call: UnderWay, told: Told) -> Result<(), AllocError> {
+fn add_past(rt: &impl Abort, run: &mut Run, call: UnderWay, told: Told) {
     count_over(&mut run.counts, call, told);
     let past = Past {
         asked: call.asked,
@@ -214,17 +213,18 @@ fn add_past(run: &mut Run, call: UnderWay, told: Told) -> Result<(), AllocError>
         begun: call.decided.unwrap_or(call.begun),
         ended: call.decided.unwrap_or(run.steps),
     };
-    run.past.push(past)?;
-    Ok(())
+    let pushed = run.past.push(past).is_ok();
+    want(rt, "memory for a call that is over", pushed, true);
 }
 
 /// Takes one step of a call under way. Returns the call, if it goes on.
 fn go_on<X: Structure>(
+    rt: &impl Abort,
     structure: &mut X,
     run: &mut Run,
     participant: u64,
     mut call: UnderWay,
-) -> Result<Option<UnderWay>, AllocError> {
+) -> Option<UnderWay> {
     count(&mut run.steps);
     let told = perform(structure, Act::Go(participant));
     match structure.effect() {
@@ -233,10 +233,10 @@ fn go_on<X: Structure>(
         Effect::Helped => count(&mut run.counts.helped),
     }
     if !is_over(told) {
-        return Ok(Some(call));
+        return Some(call);
     }
-    add_past(run, call, told)?;
-    Ok(None)
+    add_past(rt, run, call, told);
+    None
 }
 
 /// One step of a participant: of its call under way, or the begin of another.
@@ -246,17 +246,16 @@ fn take_step<X: Structure>(
     course: &Course,
     run: &mut Run,
     draws: &mut Draws,
-) -> Result<(), AllocError> {
+) {
     let participant = draws.below(PARTICIPANTS);
     let index = participant as usize;
     let call = match run.under_way.get(index).copied().flatten() {
         None => begin_next(rt, structure, course, run, draws, participant),
-        Some(call) => go_on(structure, run, participant, call)?,
+        Some(call) => go_on(rt, structure, run, participant, call),
     };
     if let Some(place) = run.under_way.get_mut(index) {
         *place = call;
     }
-    Ok(())
 }
 
 /// Whether all calls were begun, and none is under way.
@@ -272,12 +271,12 @@ fn take_steps<X: Structure>(
     course: &Course,
     run: &mut Run,
     draws: &mut Draws,
-) -> Result<(), AllocError> {
+) {
     for _ in 0..MANY {
         if is_done(course, run) {
-            return Ok(());
+            return;
         }
-        take_step(rt, structure, course, run, draws)?;
+        take_step(rt, structure, course, run, draws);
     }
     panic!(rt; "some call comes to no end")
 }
@@ -288,16 +287,16 @@ fn call_alone<X: Structure>(
     structure: &mut X,
     run: &mut Run,
     asked: Asked,
-) -> Result<Option<Told>, AllocError> {
+) -> Option<Told> {
     count(&mut run.steps);
     let mut under_way = Some(begin(rt, structure, run.steps, 0, asked));
     for _ in 0..MANY {
         let Some(call) = under_way else {
             break;
         };
-        under_way = go_on(structure, run, 0, call)?;
+        under_way = go_on(rt, structure, run, 0, call);
     }
-    Ok(run.past.last().map(|past| past.told))
+    run.past.last().map(|past| past.told)
 }
 
 /// Looks each key up, or takes out what is left and sees that nothing is. No other call meets these, so they need two
@@ -307,17 +306,17 @@ fn look_at_the_rest<X: Structure>(
     structure: &mut X,
     course: &Course,
     run: &mut Run,
-) -> Result<(), AllocError> {
+) {
     if course.order == Order::Alone {
         for key in 0..course.keys {
-            call_alone(rt, structure, run, Asked::Find(key, 64))?;
+            let _ = call_alone(rt, structure, run, Asked::Find(key, 64));
         }
-        return Ok(());
+        return;
     }
     for _ in 0..=course.calls {
-        let told = call_alone(rt, structure, run, Asked::Take(0, 2))?;
+        let told = call_alone(rt, structure, run, Asked::Take(0, 2));
         if told == Some(Told::NoneThere) {
-            return Ok(());
+            return;
         }
     }
     panic!(rt; "more values come off than were pushed")
@@ -373,14 +372,30 @@ fn want_ended<X: Structure>(rt: &impl Abort, structure: &mut X) {
     want(rt, "the end comes to its end", ended, true);
 }
 
-/// One run: its calls fit a list or a table, whose values are those that are left. Returns what was seen.
+/// Takes the steps of a run over a new structure: its calls fit a list or a table, whose values are those that are
+/// left.
+fn take_all<X: Structure>(
+    rt: &impl Abort,
+    structure: &mut X,
+    course: &Course,
+    run: &mut Run,
+    draws: &mut Draws,
+) {
+    play_on(rt, structure, course.before);
+    take_steps(rt, structure, course, run, draws);
+    look_at_the_rest(rt, structure, course, run);
+    want_fit(rt, course, &run.past);
+    want_ended(rt, structure);
+}
+
+/// One run. Returns what was seen.
 fn run_once<X: Structure>(
     rt: &impl Abort,
     alloc: Global,
     course: &Course,
     draws: &mut Draws,
     counts: Counts,
-) -> Result<Counts, Fail> {
+) -> Counts {
     let (fewest, numbers) = course.cells;
     let sizes = Sizes {
         participants: PARTICIPANTS,
@@ -388,7 +403,6 @@ fn run_once<X: Structure>(
         bags: course.bags,
         bag_jobs: course.bag_jobs,
     };
-    let mut structure = X::made(rt, alloc, sizes)?;
     let mut run = Run {
         past: Vec::new(alloc),
         under_way: [None; 3],
@@ -396,12 +410,9 @@ fn run_once<X: Structure>(
         begun: 0,
         counts,
     };
-    play_on(rt, &mut structure, course.before);
-    take_steps(rt, &mut structure, course, &mut run, draws)?;
-    look_at_the_rest(rt, &mut structure, course, &mut run)?;
-    want_fit(rt, course, &run.past);
-    want_ended(rt, &mut structure);
-    Ok(run.counts)
+    let mut structure: X = made(rt, alloc, sizes);
+    take_all(rt, &mut structure, course, &mut run, draws);
+    run.counts
 }
 
 /// This many runs, from this state of the draws on. Returns what was seen in all of them.
@@ -410,7 +421,7 @@ pub(crate) fn run_often<X: Structure>(
     alloc: Global,
     course: &Course,
     (state, runs): (u64, u64),
-) -> Result<Counts, Fail> {
+) -> Counts {
     let mut draws = Draws { state };
     let mut counts = Counts {
         put_in: 0,
@@ -421,7 +432,7 @@ pub(crate) fn run_often<X: Structure>(
         removed: 0,
     };
     for _ in 0..runs {
-        counts = run_once::<X>(rt, alloc, course, &mut draws, counts)?;
+        counts = run_once::<X>(rt, alloc, course, &mut draws, counts);
     }
-    Ok(counts)
+    counts
 }

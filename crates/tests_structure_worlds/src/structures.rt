@@ -5,11 +5,11 @@ ghost use Rattle.epoch_laws.specs.Shapes.{IsValid};
 use epoch_bags::{BagStore, Places};
 use epoch_cells::Fault;
 use epoch_laws::{Deferral, Shape};
-use epoch_map_laws::{MapAnswer, Work as MapWork, key_of};
-use epoch_map_world::MapWorld;
-use epoch_queue_laws::{QueueAnswer, Work as QueueWork};
-use epoch_queue_world::{PlanReply, PlanStep, QueueWorld};
-use epoch_stack_world::{StackAnswer, StackWorld, Work as StackWork};
+use epoch_structure_laws::map::{MapAnswer, MapWork as MapWork, key_of};
+use epoch_structure_laws::queue::{QueueAnswer, QueueWork as QueueWork};
+use epoch_structure_worlds::map::MapWorld;
+use epoch_structure_worlds::queue::{PlanReply, PlanStep, QueueWorld};
+use epoch_structure_worlds::stack::{StackAnswer, StackWork as StackWork, StackWorld};
 use std::alloc::Global;
 use std::process::Abort;
 

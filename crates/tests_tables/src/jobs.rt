@@ -1,7 +1,9 @@
 //! The calls of jobs.
 use crate::cells::place;
 use crate::wants::want;
-use epoch_base::{Bag, Called, Cells, Epoch, Job, Name, SealedBag, Work};
+use epoch::bag::{Bag, SealedBag};
+use epoch::epoch::Epoch;
+use epoch::{Called, Cells, Job, Name, Work};
 use std::alloc::{AllocError, Global};
 use std::process::Abort;
 use std::sync::Arc;

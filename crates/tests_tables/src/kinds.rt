@@ -1,6 +1,6 @@
 //! The types of std whose values may stand behind pointers, and aren't plain whole numbers.
 use crate::wants::want;
-use epoch_values::{Plain, Pointable};
+use epoch_atomic::{Plain, Pointable};
 use std::alloc::Global;
 use std::process::Abort;
 use std::sync::Arc;

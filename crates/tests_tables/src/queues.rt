@@ -1,7 +1,10 @@
 //! The steps of stores of bags that one thread has.
 use crate::shared_places::bag_of;
 use crate::wants::want;
-use epoch_base::{Bag, BagQueue, BagStore, Epoch, Places, PutStep, TakeCursor, TakeStep};
+use epoch::Places;
+use epoch::bag::Bag;
+use epoch::epoch::Epoch;
+use epoch::queue::{BagQueue, BagStore, PutStep, TakeCursor, TakeStep};
 use std::process::Abort;
 use std::test::Fail;
 

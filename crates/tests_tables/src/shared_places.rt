@@ -4,9 +4,11 @@ ghost use Rattle.epoch_tables.specs.SharedPlaces.{IsPlaceSeatOf, IsSamePlaceSeat
 ghost use Rattle.epoch_tables.specs.SharedSteps.{TakesAt};
 
 use crate::wants::{want, want_word};
-use epoch_base::queue::{ClosedPlaces, PlaceSeat, SharedPlaces};
-use epoch_base::{
-    Bag, Epoch, Fault, GREATEST_EPOCH, PutCursor, PutStep, SealedBag, TakeCursor, TakeStep,
+use epoch::Fault;
+use epoch::bag::{Bag, SealedBag};
+use epoch::epoch::{Epoch, GREATEST_EPOCH};
+use epoch::queue::{
+    ClosedPlaces, PlaceSeat, PutCursor, PutStep, SharedPlaces, TakeCursor, TakeStep,
 };
 use std::process::Abort;
 

@@ -1,12 +1,12 @@
 //! Jobs, bags, cells, claims on them, and faults are shown by short texts, so that a call that fails can be followed by
 //! `expect`.
 use crate::wants::{want, want_shown};
-use epoch_bags::{Bag, Epoch, Job, Work};
-use epoch_cells::{Cells, Fault, Name, Refused};
-use epoch_pin::atomic::{
+use epoch::atomic::{
     Array, Atomic, CompareExchangeError, ExchangeFault, Owned, Shared, UpdateFault,
 };
-use epoch_pin::{Capacities, Collector, Guard, unprotected};
+use epoch::{Capacities, Collector, Guard, unprotected};
+use epoch_bags::{Bag, Epoch, Job, Work};
+use epoch_cells::{Cells, Fault, Name, Refused};
 use std::alloc::Global;
 use std::process::Abort;
 use std::sync::atomic::Ordering::SeqCst;

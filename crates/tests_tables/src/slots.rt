@@ -1,7 +1,7 @@
 //! Slots whose value is taken once.
 use crate::threads::{Tracked, Work, count, counts_of, ones_and_more, side_by_side};
 use crate::wants::want;
-use epoch_once::TakeOnce;
+use epoch_cells::take_once::TakeOnce;
 use std::alloc::Global;
 use std::process::Abort;
 use std::sync::atomic::AtomicU64;

@@ -2,8 +2,8 @@
 ghost use Rattle.std.specs.Prelude.{◌≡◌, ◌<◌};
 
 use crate::wants::{want, want_word};
-use epoch_base::Fault;
-use epoch_base::table::Participants;
+use epoch::Fault;
+use epoch::table::Participants;
 use std::process::Abort;
 
 /// The word that another participant's claim of the position finds. If it is 0, the position is claimed.

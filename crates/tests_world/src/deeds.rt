@@ -23,7 +23,7 @@ const FLUSH: Call = Call::Flush(Some(0));
 /// Something that is done, and what is told of it. Of what is gone through up to its end, `Began` and `Stepped` are
 /// left out. Where no guard is named it is the first one, number 0. Tickets go from the first to before the second.
 #[derive(Clone, Copy)]
-pub enum Deed {
+pub(crate) enum Deed {
     /// One step, and its reply.
     Takes(Told),
     /// The whole call of the first participant that begins so.
@@ -59,7 +59,7 @@ pub enum Deed {
 }
 
 /// What is shown, and a number that says by which of many like things.
-pub type At = (&'static str, u64);
+pub(crate) type At = (&'static str, u64);
 
 /// The value is the one that is wanted.
 fn want_at<T: Copy + PartialEq + Debug>(rt: &impl Abort, (shows, place): At, seen: T, wanted: T) {
@@ -151,7 +151,7 @@ fn want_unpin<S: BagStore<Job = Deferral>>(
 }
 
 /// A pin of the participant, such a flush, and the unpin.
-pub fn want_round<S: BagStore<Job = Deferral>>(
+pub(crate) fn want_round<S: BagStore<Job = Deferral>>(
     rt: &impl Abort,
     at: At,
     world: &mut World<S>,
@@ -220,7 +220,7 @@ fn want_times<S: BagStore<Job = Deferral>>(
 }
 
 /// This is done to the world, and tells what it says.
-pub fn want_deed<S: BagStore<Job = Deferral>>(
+pub(crate) fn want_deed<S: BagStore<Job = Deferral>>(
     rt: &impl Abort,
     at: At,
     world: &mut World<S>,
@@ -256,7 +256,7 @@ pub fn want_deed<S: BagStore<Job = Deferral>>(
 }
 
 /// All this is done to the world, one after the other.
-pub fn want_deeds<S: BagStore<Job = Deferral>>(
+pub(crate) fn want_deeds<S: BagStore<Job = Deferral>>(
     rt: &impl Abort,
     shows: &'static str,
     world: &mut World<S>,

@@ -12,6 +12,7 @@ mod deeds;
 mod histories;
 #[cfg(test)]
 mod memory;
+mod pile;
 #[cfg(test)]
 mod rows;
 #[cfg(test)]

@@ -2,21 +2,21 @@
 //! tests passes whichever that is. In a plain run of the tests no allocation is refused.
 
 use crate::cell_calls::{Told, cell, links, moves, removals};
+use crate::pile::Pile;
 use crate::wants::{want, want_no_memory};
 use epoch_bags::{BagQueue, BagStore, Places};
 use epoch_cells::Fault;
-use epoch_heap::Access;
-use epoch_world::{Answer, Call, Deferral, Reply, Shape, Step, World};
+use epoch_laws::heap::Access;
+use epoch_world::{AccessAnswer, Call, Deferral, Reply, Shape, Step, World};
 use std::alloc::Global;
 use std::process::Abort;
-use tests_pile::Pile;
 
 /// More steps than any of the calls has.
 const MANY: u64 = 100;
 
-const UNIT: Reply = Reply::Done(Answer::Unit);
+const UNIT: Reply = Reply::Done(AccessAnswer::Unit);
 
-const GUARD: Reply = Reply::Done(Answer::Guard(0));
+const GUARD: Reply = Reply::Done(AccessAnswer::Guard(0));
 
 /// The first list.
 const FIRST: [Step; 4] = [
@@ -75,7 +75,7 @@ fn last_on_cells() -> [Step; 6] {
 const LAST_TOLD_ON_CELLS: [Reply; 6] = [
     Reply::Began,
     Reply::Stepped,
-    Reply::Done(Answer::Absent),
+    Reply::Done(AccessAnswer::Absent),
     Reply::Began,
     Reply::Unpinned(0),
     UNIT,
@@ -92,7 +92,7 @@ fn new_world<S: BagStore<Job = Deferral>>(
 }
 
 /// A new world. Where memory for it is refused, it is asked for again.
-pub fn world_at_last<S: BagStore<Job = Deferral>>(
+pub(crate) fn world_at_last<S: BagStore<Job = Deferral>>(
     rt: &impl Abort,
     alloc: Global,
     shape: Shape,

@@ -6,6 +6,7 @@ use crate::deeds::Deed::{
 };
 use crate::deeds::{Deed, want_deeds};
 use crate::memory::world_at_last;
+use crate::pile::Pile;
 use crate::told::Told;
 use crate::told::Told::{
     BagsFull, CalledNow, Deferred, Done, EndGoRefused, EndRefused, FlushesFirst, GoRefused, Guard,
@@ -17,7 +18,6 @@ use epoch_cells::Fault;
 use epoch_world::{Deferral, Shape, World};
 use std::alloc::Global;
 use std::process::Abort;
-use tests_pile::Pile;
 
 /// What a row shows, the shape of its world, and what is done to it.
 type Row = (&'static str, Shape, &'static [Deed]);

@@ -4,15 +4,15 @@ ghost use Rattle.epoch_laws.specs.Run.{Runs, entries_of};
 ghost use Rattle.epoch_laws.specs.Grace.{KeepsGrace};
 ghost use Rattle.epoch_laws.specs.Tickets.{HoldsEachTicketOnce};
 ghost use Rattle.epoch_laws.specs.Fits.{IsLawful};
-ghost use Rattle.epoch_rounds_laws.specs.Rounds.{RoundsCallAll};
-ghost use Rattle.epoch_rounds_laws.specs.Collected.{CollectsFew};
+ghost use Rattle.epoch_laws.specs.Rounds.{RoundsCallAll};
+ghost use Rattle.epoch_laws.specs.Collected.{CollectsFew};
 ghost use Rattle.epoch_world.specs.Earlier.{AlongSteps, SinceEachState};
 
 use crate::memory::world_at_last;
+use crate::pile::Pile;
 use crate::wants::want;
 use epoch_cells::Fault;
 use epoch_world::{Call, Reply, Shape, Step, World};
-use tests_pile::Pile;
 
 /// A list of steps.
 const LIST: [Step; 6] = [

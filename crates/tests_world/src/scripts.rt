@@ -18,10 +18,10 @@ const LINES: &str = "call 0 read 0 2.0\ncall 0 leave 2.0\ncall 0 write 0 2.0 9\n
                      call 0 update 0 2.0/0 1 tag 3\ncall 0 load 0 2.0/0\nepoch\n";
 
 /// What a row shows, its script, and what that prints; `;` stands between lines.
-pub type Row = (&'static str, &'static str, &'static str);
+pub(crate) type Row = (&'static str, &'static str, &'static str);
 
 /// Asserts of each row that its script prints what it says, to the end and without a fault.
-pub fn expect_rows(rt: &impl Abort, alloc: Global, rows: &[Row]) {
+pub(crate) fn expect_rows(rt: &impl Abort, alloc: Global, rows: &[Row]) {
     for (shows, script, printed) in rows {
         let script = lines_of(alloc, script).expect(rt, "memory for a script");
         let printed = lines_of(alloc, printed).expect(rt, "memory for what it prints");

@@ -4,16 +4,16 @@ use crate::memory::world_at_last;
 use crate::wants::{want, want_no_memory};
 use epoch_bags::Places;
 use epoch_cells::Fault;
-use epoch_rounds_witness::sharp_steps;
-use epoch_world::{Answer, Call, Deferral, Reply, Shape, Step, World};
+use epoch_world::witness::sharp_steps;
+use epoch_world::{AccessAnswer, Call, Deferral, Reply, Shape, Step, World};
 use std::alloc::Global;
 use std::process::Abort;
 
 const UNPIN: Call = Call::Unpin(Some(0));
 
-const GUARD: Reply = Reply::Done(Answer::Guard(0));
+const GUARD: Reply = Reply::Done(AccessAnswer::Guard(0));
 
-const UNIT: Reply = Reply::Done(Answer::Unit);
+const UNIT: Reply = Reply::Done(AccessAnswer::Unit);
 
 /// Whose call, which one, and its steps Go: one for each ask, and one for its end.
 ///

@@ -3,13 +3,13 @@
 use crate::deeds::Deed::{Calls, Defers, Pins, Rounds, Takes, Unpins};
 use crate::deeds::{want_deeds, want_round};
 use crate::memory::world_at_last;
+use crate::pile::Pile;
 use crate::told::Told;
 use crate::told::Told::{BagsFull, Done, Registered};
 use epoch_bags::{BagQueue, BagStore, Places};
 use epoch_world::{Deferral, Shape, World};
 use std::alloc::Global;
 use std::process::Abort;
-use tests_pile::Pile;
 
 /// How many jobs a bag takes, and how many bags a collection.
 const SIZES: &[u64] = &[1, 2, 3, 8, 63, 64];

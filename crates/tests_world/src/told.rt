@@ -2,13 +2,13 @@
 
 use epoch_bags::Called;
 use epoch_cells::Fault;
-use epoch_world::{Answer, Call, Entry, Reply, Step};
+use epoch_world::{AccessAnswer, Call, Entry, Reply, Step};
 use std::alloc::{AllocError, Global};
 
 /// A step with its reply. Where no participant is named it is of the first one, number 0, and where no step is named it
 /// is its Go.
 #[derive(Clone, Copy)]
-pub enum Told {
+pub(crate) enum Told {
     /// A registration that gives this position.
     Registered(u64),
     /// A pin of this participant begins, or a flush under its first guard.
@@ -61,7 +61,7 @@ pub enum Told {
 }
 
 impl Told {
-    pub fn step(self) -> Step {
+    pub(crate) fn step(self) -> Step {
         match self {
             Told::Registered(_) | Told::RegistrationBegins | Told::RegistrationRefused(_) => {
                 Step::Register
@@ -92,7 +92,7 @@ impl Told {
     }
 
     /// Where nothing else is said, a call begins.
-    pub fn reply(self) -> Reply {
+    pub(crate) fn reply(self) -> Reply {
         match self {
             Told::Registered(participant) => Reply::Registered(participant),
             Told::Pinned(participant) | Told::PinnedFor(_, participant) => {
@@ -107,15 +107,15 @@ impl Told {
             Told::Called(ticket) | Told::CalledByEnd(ticket) => Reply::Called(ticket, Called::Ran),
             Told::CalledGone(ticket) => Reply::Called(ticket, Called::Gone),
             Told::CalledNow => Reply::CalledNow(Called::Ran),
-            Told::Guard(guard) => Reply::Done(Answer::Guard(guard)),
-            Told::Done => Reply::Done(Answer::Unit),
-            Told::Released => Reply::Done(Answer::Released),
+            Told::Guard(guard) => Reply::Done(AccessAnswer::Guard(guard)),
+            Told::Done => Reply::Done(AccessAnswer::Unit),
+            Told::Released => Reply::Done(AccessAnswer::Released),
             Told::BagsFull => Reply::Refused(Fault::BagsFull),
             Told::RegistrationRefused(fault) | Told::PinRefused(fault) => Reply::Refused(fault),
             Told::GoRefused(fault) | Told::EndRefused(fault) | Told::EndGoRefused(fault) => {
                 Reply::Refused(fault)
             }
-            Told::EndDone(calls) => Reply::Done(Answer::Count(calls)),
+            Told::EndDone(calls) => Reply::Done(AccessAnswer::Count(calls)),
             _ => Reply::Began,
         }
     }
@@ -134,7 +134,7 @@ fn entries_of(alloc: Global, history: &[Told]) -> Result<Vec<Entry>, AllocError>
 }
 
 /// The entries of this history, for which memory is asked once more if it is refused.
-pub fn entries_at_last(alloc: Global, history: &[Told]) -> Result<Vec<Entry>, AllocError> {
+pub(crate) fn entries_at_last(alloc: Global, history: &[Told]) -> Result<Vec<Entry>, AllocError> {
     match entries_of(alloc, history) {
         Ok(entries) => Ok(entries),
         Err(_) => entries_of(alloc, history),

@@ -9,8 +9,8 @@ use crate::atomic::pointer::Pointer;
 use crate::atomic::shared::Shared;
 use crate::atomic::word::{SharedWord, pointer_word};
 use crate::atomic::{Atomic, read};
+use crate::{CompareAndSetOrdering, Pointable};
 use epoch_handles::Guard;
-use epoch_values::{CompareAndSetOrdering, Pointable};
 use std::sync::atomic::Ordering;
 
 /// What a lost exchange found, and the new pointer, which is handed back.

@@ -6,9 +6,9 @@ ghost use Rattle.epoch_atomic.specs.contracts.atomic.owned.Owned.{the_row};
 ghost use Rattle.epoch_atomic.specs.OwnedValues.{with_owned_value};
 
 use crate::atomic::borrow::{Borrow, BorrowMut};
+use crate::{Pointable, tag_of};
 use epoch_cells::Fault;
 use epoch_handles::{Guard, boxed_under};
-use epoch_values::{Pointable, tag_of};
 use std::alloc::Global;
 use std::fmt;
 use std::fmt::Debug;

@@ -4,12 +4,12 @@ ghost use Rattle.epoch_cells.specs.declared.cells.name.Name.{Name};
 ghost use Rattle.epoch_cells.specs.declared.fault.Fault.TheVariants.{CellsFull};
 ghost use Rattle.epoch_atomic.specs.Pointers.{IsUnder, IsPointerWord, BecomesWord};
 
+use crate::Pointable;
 use crate::atomic::owned::Owned;
 use crate::atomic::shared::Shared;
 use crate::atomic::word::pointer_word;
 use epoch_cells::Refused;
 use epoch_handles::{Guard, HasPlacing, Placing, home_of, place_under, take_under};
-use epoch_values::Pointable;
 
 /// What an `Atomic` can be given: a [`Shared`], or an [`Owned`], which takes a cell.
 pub trait Pointer<'g, T: Pointable>: Sized {

@@ -8,9 +8,9 @@ ghost use Rattle.epoch_atomic.specs.Pointers.{tagged_word, IsUnder};
 
 use crate::atomic::owned::Owned;
 use crate::atomic::word::number;
+use crate::{Pointable, tag_of};
 use epoch_cells::{Name, Reading, Writing};
 use epoch_handles::{Guard, Home, home_of, take_under};
-use epoch_values::{Pointable, tag_of};
 use std::cmp::Ordering;
 use std::fmt;
 use std::fmt::Debug;

@@ -1,7 +1,7 @@
 //! How the faults of exchanges and updates are shown: by their case and the pointers that they carry.
+use crate::Pointable;
 use crate::atomic::exchange::{CompareExchangeError, ExchangeFault};
 use crate::atomic::update::UpdateFault;
-use epoch_values::Pointable;
 use std::fmt;
 use std::fmt::Debug;
 

@@ -10,8 +10,8 @@ ghost use Rattle.epoch_atomic.specs.Updates.{EndsUnmade, WinsLast, pointer_of};
 use crate::atomic::shared::Shared;
 use crate::atomic::word::{SharedWord, number, pointer_word};
 use crate::atomic::{Atomic, read};
+use crate::{Pointable, tag_of};
 use epoch_handles::Guard;
-use epoch_values::{Pointable, tag_of};
 use std::sync::atomic::Ordering;
 
 /// Why an update was not made. In both cases nothing was stored.

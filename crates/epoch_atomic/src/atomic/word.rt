@@ -4,8 +4,8 @@ ghost use Rattle.epoch_atomic.specs.Pointers.{tagged_word, tag_in, HasName, IsPo
 ghost use Rattle.epoch_atomic.specs.WordSteps.{WordStep};
 ghost use Rattle.epoch_atomic.specs.WordSteps.WordStep.{Begins, Loads, Stores, Swaps, Exchanges, Misses, Ends};
 
+use crate::{Pointable, tag_of};
 use epoch_cells::Name;
-use epoch_values::{Pointable, tag_of};
 use std::sync::atomic::{AtomicIn, Ordering, Rule};
 
 /// The rule of a pointer's word, which threads share: null has turn 0.

@@ -1,6 +1,6 @@
 //! Slots that the removals of one position gave free.
+use crate::Span;
 use crate::cells::rooms::Rooms;
-use epoch_notes::Span;
 
 /// Slots that the removals of one position gave free: those that its participant keeps as rooms, and others, which
 /// aren't noted yet.

@@ -7,8 +7,8 @@ ghost use Rattle.counted_slot.specs.Counting.{readers, IsTurn, Gains};
 
 use crate::cells::name::Name;
 use crate::cells::word::{readers_of, state_of, turn_of, vacant, word_of};
+use crate::{Kept, replace};
 use counted_slot::{Claim, Counted, FREE, Fits, MOST_READERS, ONE_READER, PRESENT, TAKEN};
-use epoch_claims::{Kept, replace};
 use std::marker::Model;
 
 /// A value's box beside its own name: what stands in a cell, and what is taken out of one.

@@ -2,7 +2,7 @@
 ghost use Rattle.std.specs.Prelude.{IfOk, IfErr, ◌≡◌};
 
 use crate::cells::held::Room;
-use epoch_boxes::{Emptied, empty};
+use crate::{Emptied, empty};
 use std::alloc::{AllocFailed, Global};
 use std::marker::Model;
 use std::mem::size_of_val;

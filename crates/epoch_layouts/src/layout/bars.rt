@@ -4,7 +4,7 @@ ghost use Rattle.epoch_layouts.specs.Told.{begins, pins, registers};
 
 use crate::moment::lane_of;
 use crate::{Bar, Moment};
-use epoch_world::{Answer, Call, Reply, Step};
+use epoch_world::{AccessAnswer, Call, Reply, Step};
 use std::alloc::{AllocError, Global};
 
 /// A bar for each registration, up to the release that frees the position.
@@ -15,7 +15,11 @@ pub fn registrations_of(alloc: Global, moments: &[Moment]) -> Result<Vec<Bar<()>
     for moment in moments {
         match moment.reply {
             Reply::Registered(position) => bars.push(open(Some(position), (), moment.number))?,
-            Reply::Done(Answer::Released) => close(&mut bars, lane_of(moment.step), moment.number),
+            Reply::Done(AccessAnswer::Released) => close(
+                &mut bars,
+                lane_of(moment.step),
+                moment.number,
+            ),
             _ => {}
         }
     }

@@ -4,7 +4,7 @@ ghost use Rattle.std.specs.List.{All};
 
 use crate::Moment;
 use crate::moment::lane_of;
-use epoch_world::{Answer, Call, Reply, Step};
+use epoch_world::{AccessAnswer, Call, Reply, Step};
 use std::alloc::{AllocError, Global};
 
 /// Runs of more steps than this are folded. Our own: this many columns fit a page.
@@ -134,7 +134,7 @@ fn tells_nothing(reply: Reply, is_same: bool) -> bool {
 fn joins_quietly(before: Before, moment: &Moment) -> bool {
     match moment.reply {
         Reply::Stepped => is_same(before, moment) && before.was_quiet,
-        Reply::Done(Answer::Unit) => !before.was_quiet,
+        Reply::Done(AccessAnswer::Unit) => !before.was_quiet,
         Reply::Refused(_) => is_told_again(before.moment, *moment),
         _ => false,
     }

@@ -3,7 +3,7 @@ ghost use Rattle.std.specs.Prelude.{◌≡◌, count_by, length, IfOk};
 ghost use Rattle.epoch_layouts.specs.Told.{calls, defers, refuses};
 
 use crate::moment::lane_of;
-use crate::{Arrow, AtOnce, Deferral, Mark, Moment, Refusal};
+use crate::{Arrow, AtOnce, DeferralMark, Mark, Moment, Refusal};
 use epoch_cells::Name;
 use epoch_world::{Call, Reply, Step};
 use std::alloc::{AllocError, Global};
@@ -15,7 +15,7 @@ fn mark_of(moment: &Moment) -> Mark {
     }
 }
 
-pub fn deferrals_of(alloc: Global, moments: &[Moment]) -> Result<Vec<Deferral>, AllocError>
+pub fn deferrals_of(alloc: Global, moments: &[Moment]) -> Result<Vec<DeferralMark>, AllocError>
     ensures { IfOk result (λ deferrals. length deferrals.items ≡ count_by defers moments.now) }
 {
     let mut deferrals = Vec::new(alloc);
@@ -23,7 +23,7 @@ pub fn deferrals_of(alloc: Global, moments: &[Moment]) -> Result<Vec<Deferral>, 
         if let Reply::Deferred(ticket) = moment.reply {
             let mark = mark_of(moment);
             let removes = removed_by(begun_before(moments, mark));
-            deferrals.push(Deferral {
+            deferrals.push(DeferralMark {
                 ticket,
                 removes,
                 mark,
@@ -59,7 +59,7 @@ fn removed_by(call: Option<Call>) -> Option<Name> {
 pub fn arrows_of(
     alloc: Global,
     moments: &[Moment],
-    deferrals: &[Deferral],
+    deferrals: &[DeferralMark],
 ) -> Result<Vec<Arrow>, AllocError>
     ensures { IfOk result (λ arrows. length arrows.items ≡ count_by calls moments.now) }
 {
@@ -79,7 +79,7 @@ pub fn arrows_of(
 }
 
 /// Where this ticket was given. Tickets count from 0 in the order of the deferrals.
-fn deferred_at(deferrals: &[Deferral], ticket: u64) -> Option<Mark> {
+fn deferred_at(deferrals: &[DeferralMark], ticket: u64) -> Option<Mark> {
     let deferral = deferrals.get(ticket as usize)?;
     if deferral.ticket == ticket {
         Some(deferral.mark)

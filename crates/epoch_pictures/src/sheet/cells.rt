@@ -2,8 +2,8 @@
 
 use super::{LEFT, Sheet};
 use crate::pen::{Area, Pen, takes};
-use epoch_cell_pictures::{Look, Shown};
 use epoch_layouts::Bar;
+use epoch_layouts::cells::{CellLook, Shown};
 use epoch_world::Spot;
 use std::alloc::AllocError;
 use std::io;
@@ -46,15 +46,15 @@ impl Sheet<'_> {
     fn labels_of(&self, shown: &Shown) -> Result<(String, String), AllocError> {
         let (alloc, name) = (self.alloc, shown.name);
         let short = match shown.look {
-            Look::Holds(_, _) => format!(in alloc; "{}.{}", name.slot(), name.turn())?,
-            Look::Pointed(spot, 0) => self.spot(spot)?,
-            Look::Pointed(spot, more) => format!(in alloc; "{} +{more}", self.spot(spot)?)?,
-            Look::Read(readers) => self.readers(readers)?,
+            CellLook::Holds(_, _) => format!(in alloc; "{}.{}", name.slot(), name.turn())?,
+            CellLook::Pointed(spot, 0) => self.spot(spot)?,
+            CellLook::Pointed(spot, more) => format!(in alloc; "{} +{more}", self.spot(spot)?)?,
+            CellLook::Read(readers) => self.readers(readers)?,
         };
         let long = match shown.look {
-            Look::Holds(value, _) => format!(in alloc; "{short} holds {value}")?,
-            Look::Pointed(_, _) => format!(in alloc; "from {short}")?,
-            Look::Read(_) => format!(in alloc; "read by {short}")?,
+            CellLook::Holds(value, _) => format!(in alloc; "{short} holds {value}")?,
+            CellLook::Pointed(_, _) => format!(in alloc; "from {short}")?,
+            CellLook::Read(_) => format!(in alloc; "read by {short}")?,
         };
         Ok((long, short))
     }
@@ -88,21 +88,21 @@ impl Sheet<'_> {
 }
 
 /// The class of a bar.
-pub fn class_of(look: Look) -> &'static str {
+pub fn class_of(look: CellLook) -> &'static str {
     match look {
-        Look::Holds(_, true) => "cell",
-        Look::Holds(_, false) => "apart",
-        Look::Pointed(_, _) => "pointed",
-        Look::Read(_) => "reading",
+        CellLook::Holds(_, true) => "cell",
+        CellLook::Holds(_, false) => "apart",
+        CellLook::Pointed(_, _) => "pointed",
+        CellLook::Read(_) => "reading",
     }
 }
 
 /// How far below the top of its lane a bar begins, and its height.
-fn row_of(look: Look) -> (u64, u64) {
+fn row_of(look: CellLook) -> (u64, u64) {
     match look {
-        Look::Holds(_, _) => (3, 16),
-        Look::Pointed(_, _) => (21, 15),
-        Look::Read(_) => (38, 15),
+        CellLook::Holds(_, _) => (3, 16),
+        CellLook::Pointed(_, _) => (21, 15),
+        CellLook::Read(_) => (38, 15),
     }
 }
 

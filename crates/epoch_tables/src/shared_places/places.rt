@@ -4,7 +4,7 @@ ghost use Rattle.std.specs.Mem.{type_size};
 ghost use Rattle.epoch_tables.specs.SharedPlaces.{PlacesAgree, place_words_for, IsPlaceSeatOf, with_claim};
 ghost use Rattle.epoch_cells.specs.declared.fault.Fault.TheVariants.{NoMemory};
 
-use crate::shared_places::plays::Sit;
+use crate::shared_places::plays::PlaceSit;
 use crate::shared_places::view::PlaceView;
 use atomic_table::{Seat, Table, TableRule};
 use epoch_bags::SealedBag;
@@ -105,6 +105,6 @@ impl<J> SharedPlaces<J> {
         ensures of { IsPlaceSeatOf self.now result }
         ensures view { result.me ≡ (with_claim None [] [] [] [], []) }
     {
-        self.table.shared.load_new_seat::<Sit>(0).1
+        self.table.shared.load_new_seat::<PlaceSit>(0).1
     }
 }

@@ -5,21 +5,21 @@ use crate::shared_places::view::PlaceView;
 use atomic_table::Play;
 use epoch_bags::SealedBag;
 
-pub struct Sit;
+pub struct PlaceSit;
 
-impl<J> Play<Option<SealedBag<J>>, PlaceView<J>> for Sit {
+impl<J> Play<Option<SealedBag<J>>, PlaceView<J>> for PlaceSit {
     ghost then = { SitsAtPlaces };
 }
 
-pub struct Look;
+pub struct PlaceLook;
 
-impl<J> Play<Option<SealedBag<J>>, PlaceView<J>> for Look {
+impl<J> Play<Option<SealedBag<J>>, PlaceView<J>> for PlaceLook {
     ghost then = { LooksAtPlace };
 }
 
-pub struct Claim;
+pub struct PlaceClaim;
 
-impl<J> Play<Option<SealedBag<J>>, PlaceView<J>> for Claim {
+impl<J> Play<Option<SealedBag<J>>, PlaceView<J>> for PlaceClaim {
     ghost then = { ClaimsPlace };
 }
 

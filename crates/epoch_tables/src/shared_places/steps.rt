@@ -5,7 +5,7 @@ ghost use Rattle.epoch_tables.specs.SharedPlaces.{IsPlaceWord, IsAtHome, IsPlace
 ghost use Rattle.epoch_tables.specs.SharedPlaces.{after_place_claim, after_store};
 
 use crate::shared_places::places::{PlaceSeat, SharedPlaces};
-use crate::shared_places::plays::{Claim, Look, Store};
+use crate::shared_places::plays::{PlaceClaim, PlaceLook, Store};
 use epoch_bags::SealedBag;
 use epoch_bags::queue::places::{CLAIMED, EMPTY, place_word};
 use std::mem;
@@ -33,7 +33,7 @@ impl<J> SharedPlaces<J> {
         ensures answer { IsPlaceWord result }
         ensures view { seat.new.me ≡ (after_look seat.old.me.0 place result, seat.old.me.1) }
     {
-        self.table.shared.load::<Look>(seat, word_index(place))
+        self.table.shared.load::<PlaceLook>(seat, word_index(place))
     }
 
     /// Tries to claim a place whose word is `word`, and returns the word that it found. If that is `word`, and only
@@ -52,7 +52,7 @@ impl<J> SharedPlaces<J> {
     {
         self.table
             .shared
-            .compare_exchange::<Claim>(seat, word_index(place), word, CLAIMED)
+            .compare_exchange::<PlaceClaim>(seat, word_index(place), word, CLAIMED)
     }
 
     /// Moves `bag` into the claimed place, which has none, and stores its seal. `bag` is left `None`.

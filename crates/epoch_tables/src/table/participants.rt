@@ -4,7 +4,7 @@ ghost use Rattle.epoch_tables.specs.Table.{EpochsAgree, words_for, IsOf};
 ghost use Rattle.epoch_tables.specs.TableSteps.{spent, without_position};
 ghost use Rattle.epoch_cells.specs.declared.fault.Fault.TheVariants.{NoMemory};
 
-use crate::table::plays::Sit;
+use crate::table::plays::PositionSit;
 use crate::table::view::ParticipantView;
 use atomic_table::{Seat, Table, TableRule};
 use epoch_cells::Fault;
@@ -85,6 +85,6 @@ impl Participants {
         ensures of { IsOf self.now result }
         ensures view { (epoch : ℕ) × (result.me.0 ≡ without_position epoch (None ∷ []) (2 * epoch ∷ []) [] []) }
     {
-        self.table.shared.load_new_seat::<Sit>(0).1
+        self.table.shared.load_new_seat::<PositionSit>(0).1
     }
 }

@@ -5,9 +5,9 @@ ghost use Rattle.epoch_tables.specs.TableSteps.{ClaimsPosition};
 use crate::table::view::ParticipantView;
 use atomic_table::Play;
 
-pub struct Sit;
+pub struct PositionSit;
 
-impl<S> Play<S, ParticipantView> for Sit {
+impl<S> Play<S, ParticipantView> for PositionSit {
     ghost then = { Sits };
 }
 
@@ -47,8 +47,8 @@ impl<S> Play<S, ParticipantView> for StoreEpoch {
     ghost then = { StoresEpoch };
 }
 
-pub struct Claim;
+pub struct PositionClaim;
 
-impl<S> Play<S, ParticipantView> for Claim {
+impl<S> Play<S, ParticipantView> for PositionClaim {
     ghost then = { ClaimsPosition };
 }

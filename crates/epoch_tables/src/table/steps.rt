@@ -5,7 +5,7 @@ ghost use Rattle.epoch_tables.specs.TableSteps.{after_epoch, after_own, after_fr
 ghost use Rattle.epoch_tables.specs.TableSteps.{after_advance, after_claim};
 
 use crate::table::participants::{ParticipantSeat, Participants};
-use crate::table::plays::{Claim, Free, LoadEpoch, LoadWord, Publish, StoreEpoch, Unpin};
+use crate::table::plays::{Free, LoadEpoch, LoadWord, PositionClaim, Publish, StoreEpoch, Unpin};
 use epoch_bags::{FREE, GREATEST_EPOCH, UNPINNED, pinned_word};
 
 /// Where the word of a position stands.
@@ -112,6 +112,6 @@ impl Participants {
     {
         self.table
             .shared
-            .compare_exchange::<Claim>(seat, word_index(position), FREE, UNPINNED)
+            .compare_exchange::<PositionClaim>(seat, word_index(position), FREE, UNPINNED)
     }
 }

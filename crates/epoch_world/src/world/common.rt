@@ -1,5 +1,5 @@
 //! What the participants of a world have in common.
-use epoch_heap::Heap;
+use epoch_laws::heap::Heap;
 
 /// What all participants of a world have in common, except their words.
 #[derive(Drop)]

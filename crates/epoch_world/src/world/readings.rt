@@ -4,7 +4,7 @@ ghost use Rattle.epoch_laws.specs.Run.{reads, readings_after, without_reading};
 ghost use Rattle.epoch_world.specs.Seats.{HasRead};
 
 use epoch_cells::Name;
-use epoch_heap::{Access, Accessed, Answer, is_name};
+use epoch_laws::heap::{Access, AccessAnswer, Accessed, is_name};
 
 /// Returns whether the name is among those read.
 pub fn reads(name: Option<Name>, readings: &[Name]) -> bool
@@ -29,7 +29,7 @@ pub fn keep_readings(readings: &mut Vec<Name>, access: Access, told: Accessed)
     ensures room { 4096 ≤ vec_capacity readings.new }
 {
     match (access, told) {
-        (Access::Read(_, ptr), Accessed::Answers(Answer::Value(_))) => {
+        (Access::Read(_, ptr), Accessed::Answers(AccessAnswer::Value(_))) => {
             if let Some(name) = ptr.name {
                 readings.push_reserved(name);
             }

@@ -7,7 +7,7 @@ ghost use Rattle.epoch_laws.specs.Run.{removed_by, accessed_seat, access_reply};
 ghost use Rattle.epoch_machine.specs.declared.machine.Stage.TheVariants.{Idle, End};
 ghost use Rattle.epoch_world.specs.Seats.{SeatPerforms, WordFits, adds_guard, CanRead};
 ghost use Rattle.epoch_cells.specs.declared.fault.Fault.TheVariants.{NoMemory};
-ghost use Rattle.epoch_heap.specs.Heap.{has_steps, Touched, Touches, outcome_of, heap_after_job};
+ghost use Rattle.epoch_laws.specs.Heap.{has_steps, Touched, Touches, outcome_of, heap_after_job};
 ghost use Rattle.epoch_world.specs.Worlds.{with_bags};
 ghost use Rattle.epoch_world.specs.Steps.{steps_in_store, most_in_store, machine_steps};
 ghost use Rattle.epoch_world.specs.StoreSteps.{AskMoves};
@@ -23,7 +23,7 @@ use crate::world::readings::keep_readings;
 use arrayvec::ArrayVec;
 use epoch_bags::BagStore;
 use epoch_cells::{Fault, Name};
-use epoch_heap::{Access, Accessed, Answer, Heap, Ptr};
+use epoch_laws::heap::{Access, AccessAnswer, Accessed, Heap, Ptr};
 use epoch_laws::{Call, Deferral, Progress, Reply, Word};
 use epoch_machine::{Action, Answer as Found, Ask, Machine, Sizes};
 use std::alloc::Global;
@@ -199,7 +199,7 @@ impl Seat {
             }
             Ask::StoreFree => {
                 self.leave();
-                Reply::Done(Answer::Released)
+                Reply::Done(AccessAnswer::Released)
             }
             Ask::StoreEpoch(number) => {
                 // The other step that is followed by a collection's first look.
@@ -323,7 +323,7 @@ impl Seat {
             Call::DeferDestroy(None, ptr) => self.progress = Progress::CallsNow(ptr.name),
             Call::Access(access) => self.begin_access(access),
             Call::Repin(None) | Call::Pause(None) | Call::Resume(None) | Call::Flush(None) => {
-                self.progress = Progress::Ends(Reply::Done(Answer::Unit));
+                self.progress = Progress::Ends(Reply::Done(AccessAnswer::Unit));
             }
         }
     }
@@ -342,7 +342,7 @@ impl Seat {
         if has_steps(access) {
             self.progress = Progress::Accesses(access, 0, NULL);
         } else {
-            self.progress = Progress::Ends(Reply::Done(Answer::Absent));
+            self.progress = Progress::Ends(Reply::Done(AccessAnswer::Absent));
         }
     }
 
@@ -377,9 +377,9 @@ impl Seat {
     pub fn call_now(&mut self, removes: Option<Name>, heap: &mut Heap) -> Reply
         ensures reply { result ≡ Reply.CalledNow (outcome_of heap.old removes) }
         ensures heap { heap.new ≡ heap_after_job heap.old removes }
-        ensures seat { self.new ≡ record self.old { progress = Progress.Ends (Reply.Done Answer.Unit) } }
+        ensures seat { self.new ≡ record self.old { progress = Progress.Ends (Reply.Done AccessAnswer.Unit) } }
     {
-        self.progress = Progress::Ends(Reply::Done(Answer::Unit));
+        self.progress = Progress::Ends(Reply::Done(AccessAnswer::Unit));
         Reply::CalledNow(heap.call_job(removes))
     }
 
@@ -398,12 +398,12 @@ impl Seat {
         ensures reply { result ≡ end_reply call self.old }
         ensures seat { self.new ≡ ended_seat call self.old }
     {
-        let mut reply = Reply::Done(Answer::Unit);
+        let mut reply = Reply::Done(AccessAnswer::Unit);
         match call {
             Call::Pin => {
                 let number = lowest(self.guards.as_slice());
                 self.guards.push(number);
-                reply = Reply::Done(Answer::Guard(number));
+                reply = Reply::Done(AccessAnswer::Guard(number));
             }
             Call::Unpin(Some(guard)) => self.guards = without(self.guards.as_slice(), guard),
             Call::Pause(Some(guard)) => {

@@ -1,16 +1,5 @@
 use super::*;
 
-// The new value of an exchange that was lost to null.
-fn lost_to_null(
-    rt: &impl Abort,
-    exchanged: Result<Shared<'_, u64>, ExchangeFault<'_, u64, Owned<u64>>>,
-    value: u64,
-) {
-    let CompareExchangeError { current, new } = changed(rt, exchanged);
-    want_pointer(rt, "null was found", current, Shared::null());
-    want(rt, "the new value", *new, value);
-}
-
 // Two cells: the lost exchange frees the second one again, for its next turn.
 pub(crate) fn exchanges(rt: &impl Abort, alloc: Global, guard: &Guard<'_, u64>) {
     let atomic = atomic(rt, alloc, 1234, guard);
@@ -20,7 +9,7 @@ pub(crate) fn exchanges(rt: &impl Abort, alloc: Global, guard: &Guard<'_, u64>) 
     want_pointer(rt, "null was written", written, Shared::null());
     let new = owned(rt, alloc, 5678);
     let lost = atomic.compare_exchange(first, new, SeqCst, SeqCst, guard);
-    lost_to_null(rt, lost, 5678);
+    let _ = lost_to_null(rt, lost, 5678);
     // Each form goes on where the one before it left.
     let new = owned(rt, alloc, 9).with_tag(2);
     let won = atomic.compare_exchange(Shared::null(), new, SeqCst, SeqCst, guard);

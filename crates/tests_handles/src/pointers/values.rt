@@ -1,25 +1,10 @@
 use super::*;
 
-// The value behind the pointer.
-fn want_value(rt: &impl Abort, what: &str, shared: Shared<'_, u64>, value: u64) {
-    let reading = want_some(rt, what, shared.deref());
-    let seen = *reading.get();
-    reading.leave();
-    want(rt, what, seen, value);
-}
-
 // Writes the value behind the pointer.
 fn write(rt: &impl Abort, mut shared: Shared<'_, u64>, value: u64) {
     let mut writing = want_some(rt, "a value is there", shared.deref_mut());
     *writing.get_mut() = value;
     writing.leave();
-}
-
-// The owned value with this tag is taken back.
-fn want_back(rt: &impl Abort, what: &str, owned: Option<Owned<u64>>, value: u64, tag: usize) {
-    let owned = want_some(rt, what, owned);
-    want(rt, what, owned.tag(), tag);
-    want(rt, what, *owned, value);
 }
 
 // Where no cell is free, each call that needs one is refused, and the Atomic stays as it was.
@@ -58,11 +43,11 @@ pub(crate) fn stored_and_swapped(rt: &impl Abort, alloc: Global, guard: &Guard<'
     let swapped = atomic.swap(Shared::null(), SeqCst, guard);
     let before = want_ok(rt, "null takes no cell", swapped);
     want_pointer(rt, "the first comes back again", before, first);
-    want_back(rt, "the second", second.try_into_owned(), 8, 5);
+    let _ = want_owned(rt, "the second", second.try_into_owned(), (8, 5));
     // Its cell is free then.
     let stored = atomic.store(owned(rt, alloc, 9), SeqCst, guard);
     want_true(rt, "a value is stored", stored.is_ok());
-    want_back(rt, "the third", atomic.into_owned(guard), 9, 0);
+    let _ = want_owned(rt, "the third", atomic.into_owned(guard), (9, 0));
     want_true(rt, "the first stays", first.into_owned().is_some());
     want_true(rt, "it is gone", first.into_owned().is_none());
 }
@@ -75,27 +60,21 @@ fn is_stuck(placed: Shared<'_, u64>, guard: &Guard<'_, u64>) -> bool {
     }
 }
 
-// A destruction does this.
-fn destroy(rt: &impl Abort, guard: &Guard<'_, u64>, placed: Shared<'_, u64>, wanted: Called) {
-    let called = want_ok(rt, "the pointer is taken", guard.destroy_now(placed));
-    want(rt, "a destruction", called, wanted);
-}
-
 pub(crate) fn held(rt: &impl Abort, alloc: Global, guard: &Guard<'_, u64>) {
     let entered = owned(rt, alloc, 6).enter(guard);
     let placed = want_ok(rt, "a cell is free", entered);
     let reading = want_some(rt, "a value is there", placed.as_ref());
     let stuck = is_stuck(placed, guard);
-    destroy(rt, guard, placed, Called::HeldElsewhere);
+    want_destroyed(rt, guard, placed, Called::HeldElsewhere);
     reading.leave();
     want_true(rt, "stuck while it was read", stuck);
     let back = <Owned<u64> as Pointer<'_, u64>>::back(placed, guard);
     let back = want_ok(rt, "the value is taken back", back);
     want(rt, "the value", *back, 6);
-    destroy(rt, guard, placed, Called::Gone);
+    want_destroyed(rt, guard, placed, Called::Gone);
     let placed = owned(rt, alloc, 7).into_shared(guard);
     let placed = want_ok(rt, "a cell is free", placed);
-    destroy(rt, guard, placed, Called::Destroyed);
+    want_destroyed(rt, guard, placed, Called::Destroyed);
 }
 
 pub(crate) fn shown(rt: &impl Abort, alloc: Global, guard: &Guard<'_, u64>) {

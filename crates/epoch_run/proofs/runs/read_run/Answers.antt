@@ -1,4 +1,4 @@
-use Rattle.epoch_run.specs.declared.runs.Run.TheVariants.{Threads, Stack, Queue}
+use Rattle.epoch_run.specs.declared.runs.ThreadRun.TheVariants.{Threads, Stack, Queue}
 use Rattle.epoch_run.proofs.runs.read_run.Goals as goal
 
 -- a run of each kind has a size

@@ -7,7 +7,7 @@ use crate::world::guards::is_out;
 use crate::world::readings::reads;
 use crate::world::seat::{GUARDS, Seat};
 use epoch_cells::{Fault, Name};
-use epoch_heap::{Access, Heap};
+use epoch_laws::heap::{Access, Heap};
 use epoch_laws::{Call, Progress, Word};
 
 /// How many of the greatest tickets are never given: one may be asked for by each participant under way.

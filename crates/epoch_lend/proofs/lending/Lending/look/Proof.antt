@@ -70,7 +70,7 @@ use Rattle.std.specs.Prelude.{Some}
 use Rattle.epoch_lend.specs.Loans.{Shown, glance_owns, pocket}
 use Rattle.epoch_lend.specs.contracts.lending.Lending as lending_is
 use Rattle.epoch_lend.specs.contracts.lending.Glance as glance
-use Rattle.epoch_lend.specs.contracts.post.Guard as lent_guard
+use Rattle.epoch_lend.specs.contracts.post.PostGuard as lent_guard
 use Rattle.epoch_lend.proofs.Fields.{Token, hand_of, hand_typed, ptr_typed, pair_of, looked_typed, Words, hand_made}
 use denote.Memory.{hidden_shr}
 use Rattle.epoch_lend.proofs.Reading as steps

@@ -28,7 +28,7 @@ use Rattle.core.proofs.atomic.Steps.{tail}
 use Rattle.atomic_table.proofs.Walks.{proved, leaves}
 use Rattle.atomic_table.proofs.Calls.{fm, seq_cst}
 use Rattle.epoch_lend.specs.contracts.post.Pin as pin
-use Rattle.epoch_lend.specs.contracts.post.Guard as guard
+use Rattle.epoch_lend.specs.contracts.post.PostGuard as guard
 use Rattle.epoch_lend.specs.Posts.{PostNames, posted}
 use Rattle.epoch_lend.specs.Parted.{tokens}
 use Rattle.epoch_lend.proofs.PartSteps.{tokens_in}

@@ -8,16 +8,16 @@ use Rattle.epoch_laws.proofs.FullFound.{found_full}
 use Rattle.epoch_world.specs.StoreSteps.{MakesOneStep}
 use Rattle.epoch_world.proofs.AcceptedCalls.{run_is_lawful}
 use Rattle.epoch_world.proofs.SteppedOnce.{by_more, by_whole}
-use Rattle.epoch_rounds_laws.proofs.PutFound.{rounds_call_all}
-use Rattle.epoch_rounds_laws.proofs.EachCollectsFew.{collects_few}
+use Rattle.epoch_laws.proofs.PutFound.{rounds_call_all}
+use Rattle.epoch_laws.proofs.EachCollectsFew.{collects_few}
 use Rattle.epoch_laws.proofs.RefusalsLeave.{refused_along}
 use Rattle.epoch_laws.specs.declared.step.Step.{Step}
 use Rattle.epoch_laws.specs.Run.{TakesStep}
-use Rattle.epoch_reach_laws.proofs.ReachRuns.{every_run_keeps_reach}
-use Rattle.epoch_reach_laws.proofs.LoadedStands.{loaded_stand}
-use Rattle.epoch_reach_laws.proofs.NamesOnce.{no_name_twice}
-use Rattle.epoch_reach_laws.proofs.CellsKept.{cells_stand}
-use Rattle.epoch_reach_laws.proofs.JobsAsDeferred.{calls_as_deferred}
+use Rattle.epoch_laws.proofs.ReachRuns.{every_run_keeps_reach}
+use Rattle.epoch_laws.proofs.LoadedStands.{loaded_stand}
+use Rattle.epoch_laws.proofs.NamesOnce.{no_name_twice}
+use Rattle.epoch_laws.proofs.CellsKept.{cells_stand}
+use Rattle.epoch_laws.proofs.JobsAsDeferred.{calls_as_deferred}
 use Rattle.epoch_world.proofs.world.World.run.Goals as goal
 
 pub loop-step-preserved : goal.loop-step-preserved

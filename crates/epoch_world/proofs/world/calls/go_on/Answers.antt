@@ -7,7 +7,7 @@ use Rattle.epoch_laws.specs.Run.{Bag, WorldSeat, State, Open, with_places, free_
 use Rattle.epoch_world.specs.Steps.{steps_in_store, InStore}
 use Rattle.epoch_world.specs.Worlds.{state_of, with_bags}
 use Rattle.epoch_world.proofs.RoomSteps.{ended_room, ended_reserves, performed_room, performed_reserves}
-use Rattle.epoch_heap.specs.Heap.{Heap}
+use Rattle.epoch_laws.specs.Heap.{Heap}
 use Rattle.epoch_world.proofs.SlotsStay.{access_slots, job_slots}
 use Rattle.epoch_world.proofs.Performed.{IsDrivenAt, driven_here, found_there, performed}
 use Rattle.epoch_world.proofs.RoomForReadings.{can_read}

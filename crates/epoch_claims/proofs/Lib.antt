@@ -1,2 +1,0 @@
-mod Keyless
-mod Values

@@ -1,9 +1,0 @@
-pub mod CallsGiven
-pub mod Expiries
-pub mod HeldJobs
-pub mod JobsKept
-pub mod JobsLeft
-pub mod PlacesTold
-pub mod SlotsMoved
-pub mod StagesHeard
-pub mod Telling

@@ -1,5 +1,0 @@
-use Rattle.epoch_handle_laws.proofs.JobsLeft.{leaves_the_rest}
-use Rattle.epoch_handle_laws.proofs.laws.an_end_calls_the_rest.Goals as goal
-
-pub returns : goal.returns
-returns g c = leaves_the_rest c.no_job_is_lost.ensures c.closed_places_hold_the_rest.ensures

@@ -1,3 +1,0 @@
-pub mod JobsKept
-pub mod ThreadGrace
-pub mod Told

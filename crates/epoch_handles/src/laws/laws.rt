@@ -1,0 +1,72 @@
+//! What holds of whatever threads perform: laws of the definitions.
+ghost use Rattle.epoch_handles.specs.Told.{RepliesAreFound, ExpiriesAreSeen, AnswersAreFound};
+ghost use Rattle.epoch_handles.specs.ThreadGrace.{KeepsGraceOnThreads};
+ghost use Rattle.epoch_handles.specs.JobsKept.{KeepsJobsInCalls, LosesNoJob, LeavesTheRest};
+
+use epoch_tables::shared_places::{closed_places_hold_the_rest, no_bag_is_lost};
+use epoch_tables::table::pinned_seats_hold_bags_back;
+
+/// If a thread performs what its machine asks for, the replies on the participants' table are exactly the words that
+/// its seat's steps found, in order. The greatest epoch that the seat has read or stored never falls.
+pub fn replies_are_found<J>()
+    ensures { RepliesAreFound J }
+{}
+
+/// If a thread performs what its machine asks for, from the beginning of an action on, bags are taken only for an epoch
+/// that its seat has read or stored. So a bag whose jobs are called has a seal at least two below such an epoch.
+pub fn expiries_are_seen<J>()
+    ensures { ExpiriesAreSeen J }
+{}
+
+/// If a thread performs what its machine asks for, each answer of a put or of a collection is the one that the word
+/// found at its place stands for, in order. These are exactly the words that its seat's steps found there.
+pub fn answers_are_found<J>()
+    ensures { AnswersAreFound J }
+{}
+
+/// No job is called too early. If a thread performs what its machine asks for, from the beginning of an action up to
+/// any point, the jobs that it is given to call are those of the bags that it got out of places. If a participant was
+/// pinned, and had read the epoch again, when the epoch was the seal of one of these bags, that pin is over.
+///
+/// The clauses `does` and `called` of a handle's calls say that each call is such a list of asks, and that each job
+/// that was given was called. A bag's seal is the epoch that was loaded after its last job was deferred.
+pub fn calls_come_after_pins<J>()
+    ensures { KeepsGraceOnThreads J }
+{
+    pinned_seats_hold_bags_back();
+}
+
+/// If a thread performs what its machine asks for, from the beginning of an action up to any point, it loses no job.
+/// Give each job any weight: then the jobs that it had, those that it was given to keep and those that it has won in
+/// places weigh as much together as the jobs that it has now, those that it was given to call and those that it has
+/// left in places.
+///
+/// It has the jobs in its bag, those that are left of a bag that it calls, and those of a bag in hand at a place.
+pub fn calls_keep_jobs<J>()
+    ensures { KeepsJobsInCalls J }
+{}
+
+/// No job is lost on threads, and none is given to be called twice. Give each job any weight: then at any moment,
+/// wherever the participants have come to in their calls, all jobs that were accepted weigh as much together as those
+/// that participants have, those that were given to be called, and those of the bags that stand in places.
+///
+/// A job is accepted when the machine asks for it to be kept. The law is about all that participants have done since
+/// they registered, before the collector ends.
+pub fn no_job_is_lost<J>()
+    ensures { LosesNoJob J }
+{
+    no_bag_is_lost::<J>();
+}
+
+/// An end calls what is left. Give each job any weight. If all participants have left when the places are closed, all
+/// jobs that were accepted weigh as much together as those that were given to be called and those that are left in the
+/// closed places.
+///
+/// The clause `called` of an end says that it calls each of these. So after it each accepted job was called, exactly as
+/// often as it was accepted.
+pub fn an_end_calls_the_rest<J>()
+    ensures { LeavesTheRest J }
+{
+    no_job_is_lost::<J>();
+    closed_places_hold_the_rest::<J>();
+}

@@ -1,3 +1,0 @@
-pub mod FoundCells
-pub mod HeapCalls
-pub mod PointersWritten

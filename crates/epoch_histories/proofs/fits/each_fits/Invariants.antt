@@ -1,7 +1,0 @@
-use Rattle.std.proofs.Common.{ℕ, ◌<◌}
-use Rattle.epoch_histories.proofs.FitsRead.{FitsAt}
-use Rattle.epoch_histories.proofs.fits.each_fits.Given as goal
-
--- each reply so far fits
-abbrev pub invariant-loop-place : goal.invariant-loop-place
-invariant-loop-place l = (k : ℕ) → k < l.place → FitsAt l.entries k

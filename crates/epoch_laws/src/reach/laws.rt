@@ -1,0 +1,54 @@
+//! What holds of every run of cells and pointers. Some of these laws hold only if cells leave as they must.
+ghost use Rattle.std.specs.Prelude.{◌≡◌, ℕ, List};
+ghost use Rattle.epoch_laws.specs.declared.step.Entry.{Entry};
+ghost use Rattle.epoch_laws.specs.Run.{State, IsFresh, Runs};
+ghost use Rattle.epoch_laws.specs.Reach.{LeavesOnce, KeepsLoaded, LosesLoaded, past_of};
+ghost use Rattle.epoch_laws.specs.Given.{GivesNoNameTwice};
+ghost use Rattle.epoch_laws.specs.Removals.{CallsWhatWasDeferred};
+ghost use Rattle.epoch_laws.specs.Readings.{KeepsReadings, HasCellsToRead};
+ghost use Rattle.epoch_laws.specs.Standing.{StandsOrDestroyed, given_of, LoadedStand};
+
+/// If each cell leaves once and out of reach, and no field changes of a cell that has fallen out of reach, then no cell
+/// is destroyed whose name a participant has loaded from a root, or from a field of a name so loaded, under a guard
+/// that it still holds and has not repinned.
+pub fn every_run_keeps_reach()
+    ensures { (s new : State) (log : List Entry) → IsFresh s → (run : Runs s log new) → LeavesOnce s log new run
+        → KeepsLoaded (past_of s log new run) }
+{}
+
+/// No name is given twice.
+pub fn every_run_gives_no_name_twice()
+    ensures { (s new : State) (log : List Entry) → IsFresh s → (run : Runs s log new) → GivesNoNameTwice s log new run }
+{}
+
+/// A job in a bag is work, or removes the name that its deferral named. Its call does exactly that.
+pub fn every_run_calls_what_was_deferred()
+    ensures { (s new : State) (log : List Entry) → IsFresh s → (run : Runs s log new)
+        → CallsWhatWasDeferred s log new run }
+{}
+
+/// If cells leave in another way, a name that is loaded under a guard still held can be destroyed.
+pub fn some_run_loses_reach()
+    ensures { (s : State) × (log : List Entry) × (new : State) × IsFresh s × (run : Runs s log new)
+        × LosesLoaded (past_of s log new run) }
+{}
+
+/// Each name that was given either has its cell or is destroyed.
+pub fn every_name_stands_or_is_destroyed()
+    ensures { (s new : State) (log : List Entry) → IsFresh s → (run : Runs s log new)
+        → StandsOrDestroyed (given_of s log new run) (past_of s log new run) new.heap }
+{}
+
+/// If each cell leaves once and out of reach, and no field changes of a cell that has fallen out of reach, then each
+/// name that is loaded under a guard still held has its cell.
+pub fn every_loaded_name_stands()
+    ensures { (s new : State) (log : List Entry) → IsFresh s → (run : Runs s log new) → LeavesOnce s log new run
+        → LoadedStand (past_of s log new run) new.heap }
+{}
+
+/// Each cell counts the participants that read it, each of them once, so a value that is read stays. A participant that
+/// can begin to read one more cell reads fewer cells than there are.
+pub fn every_cell_counts_its_readers()
+    ensures counted { (s new : State) (log : List Entry) → IsFresh s → Runs s log new → KeepsReadings new }
+    ensures room { (s new : State) (log : List Entry) → IsFresh s → Runs s log new → HasCellsToRead new }
+{}

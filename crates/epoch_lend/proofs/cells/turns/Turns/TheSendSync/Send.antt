@@ -1,0 +1,16 @@
+use denote.RattleType.{RattleType}
+use denote.Param.Send.{IsSend, IsSync}
+use Rattle.epoch_lend.specs.contracts.cells.turns.Turns.{the_row}
+use Rattle.epoch_lend.proofs.TurnsKeyless.{turns_keyless}
+
+pub send : (T : RattleType) → IsSend T → IsSync T → IsSend (the_row T)
+send T s y = record {
+  owned = λ d vs. (
+    (λ _. tt),
+    λ n. (
+      (λ vss. (tt, ((tt, tt), ((λ uss. (tt, tt)), tt)))),
+      turns_keyless T s y d n,
+    ),
+  );
+  leaving = λ k d w. tt;
+}

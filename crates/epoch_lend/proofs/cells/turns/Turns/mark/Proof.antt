@@ -1,0 +1,264 @@
+-- `mark` is one compare-exchange, which takes what the word held of its turn.
+use Rattle.std.proofs.Common.{◌≡◌, ◌≢◌, ℕ, ◌+◌, ◌*◌, ◌^◌, List, [], ◌∷◌, ◌++◌, sym, refl, ◌∙◌}
+use Rattle.std.proofs.Common.{subst, w64}
+use Rattle.std.specs.Prelude.{Option, Some, None}
+use mir.Syntax.{a_type, named}
+use mir.Val.{Val, vint, vptr, vstruct, of_list}
+use mir.MapTy.{inst_fn}
+use prog.Atomic.{either}
+use base.Logic.{SProp, ent, sep, wand, emp, via, apply∗}
+use base.Fml.{Lft, Share, Fml, ftrue, fsep, feq, flft, fbor, fhide}
+use types.Logic.{sem}
+use types.Kit.{‵, raw, ◌⊛◌, some, given, later, mean, at_ret, ◌$◌, ◌∵◌, !, qed, by, move, keep, drop, split, split3}
+use types.Kit.{join}
+use types.Kit.{fsplit, fjoin, fpick, fpack, pick, learn, use0, use1, use2, use3, await, rewrite, feq_i, flt_i}
+use types.Run.{stop, fld, addr, of_opd, no_more, and_then, first, blocks, exec, Calls-last, returns, enter}
+use types.ByLocal.{alloc_all, pass_all, free_all, look_at, get, through, sets, lands_last, env}
+use types.Part.{agg}
+use contract.Running.{tables}
+use contract.Monad.{fact, fact_i}
+use contract.Shared.{Lends-one}
+use denote.Exit.{yes}
+use denote.RattleType.{RattleType, Valss, owns}
+use denote.Signature.{types_at, plain}
+use denote.RawPtr.{Ptr, RawPtr, block_ptr, ptr_val, rawptr_vals, rawptr_Tells}
+use denote.Steps.{nothing, heard}
+use denote.Opens.{unhide}
+use denote.Memory.{hidden_shr}
+use denote.Param.{param, layouts}
+use denote.Param.Laws.{param_laws}
+use denote.Builtin.{RefOf, u64}
+use denote.Ref.{shr_vals, shr_Tells}
+use denote.Plain.{uint_vals, uint_Tells}
+use denote.Struct.Lending.{lent_out}
+use denote.Triple.Walked.{Stays, stay_dropped, walk_of, Goes-dropped}
+use Rattle.core.proofs.atomic.Steps.{tail}
+use Rattle.core.specs.contracts.marker.PhantomData as marker
+use Rattle.core.specs.Sync.RawAtomic.{asks, always}
+use Rattle.atomic_table.proofs.Walks.{proved, leaves}
+use Rattle.atomic_table.proofs.Calls.{fm, found, finds, exchanges}
+use Rattle.epoch_lend.specs.Loans.{Loan, Within, marked_owns}
+use Rattle.epoch_lend.proofs.Fields.{ptr_typed}
+use Rattle.epoch_lend.proofs.Fields.{word, word_typed, Found, found_made}
+use Rattle.epoch_lend.specs.contracts.lending.Marked as marked_is
+use Rattle.epoch_lend.specs.Turning.{TurnNames, TurnOf, turn_is, turn_shares, vacancy_of}
+use Rattle.epoch_lend.specs.contracts.cells.turns.Turns as turns_is
+use Rattle.epoch_lend.specs.contracts.cells.turns.TurnClaim as claim_is
+use Rattle.epoch_lend.specs.contracts.cells.turns.Vacancy as vacancy_is
+use Rattle.epoch_lend.specs.contracts.cells.turns.TurnName as name_is
+use Rattle.epoch_lend.proofs.TurnFields as fields
+use Rattle.epoch_lend.proofs.Turned as steps
+use Rattle.epoch_lend.specs.contracts.cells.turns.Turns.mark.{ended, clauses}
+use Rattle.epoch_lend.specs.contracts.cells.turns.Turns.mark.Key.{name as #self}
+use Rattle.epoch_lend.proofs.cells.turns.Turns.mark.Statement.{statement}
+use Rattle.epoch_lend.proofs.cells.turns.Turns.mark.Code as code
+
+pub mark_spec : {M : Type 1} → statement M
+mark_spec 𝓤 𝓛 𝓜 𝓡 wired X L =
+    let H = 𝓛.H in
+    let 𝓣 = tables 𝓤 H 𝓜 𝓡 𝓡.env in
+    let R : RattleType = param 0 X in
+    let En = ended X in
+    let c = clauses X 𝓛 𝓜.mem 𝓡.returns in
+    let inst = layouts (a_type ∷ []) (X, tt) in
+    let fn = inst_fn inst code.function in
+    let closed = code.unfolded 𝓤 H 𝓜 𝓡 wired (X, tt) in
+    let Row : RattleType = turns_is.the_row R in
+    let Cr : RattleType = claim_is.the_row R in
+    let Nr : RattleType = name_is.the_row R in
+    let LR = param_laws 0 X L in
+    let p0 = RefOf (0 ∷ []) tt (plain (λ _. Row)) (λ _. tt) in
+    let p1 = RefOf (1 ∷ []) tt (plain (λ _. Nr)) (λ _. tt) in
+    let p2 = plain (λ _. RawPtr) in
+    let p3 = plain (λ _. u64) in
+    let p4 = plain (λ _. u64) in
+    let hs : Stays En.signature.params En.kept = (
+      stay_dropped p0 yes,
+      (
+        stay_dropped p1 yes,
+        (
+          stay_dropped p2 yes,
+          (stay_dropped p3 yes, (stay_dropped p4 yes, tt)),
+        ),
+      ),
+    ) in
+    proved 𝓛 En hs c 𝓜 𝓡 (
+      Goes-dropped 𝓛 3 p0 yes (λ κs x f. refl),
+      (
+        Goes-dropped 𝓛 3 p1 yes (λ κs x f. refl),
+        (
+          Goes-dropped 𝓛 3 p2 yes (λ κs x f. refl),
+          (
+            Goes-dropped 𝓛 3 p3 yes (λ κs x f. refl),
+            (
+              Goes-dropped 𝓛 3 p4 yes
+                  (λ κs x f. refl),
+              tt,
+            ),
+          ),
+        ),
+      ),
+    ) (#self inst) fn closed
+    (λ κs. (shr_vals, (shr_vals, (rawptr_vals, (uint_vals w64, (uint_vals w64, tt))))))
+    (λ κs. (
+      shr_Tells (named 0) κs.0 Row,
+      (
+        shr_Tells (named 1) κs.1.0 Nr,
+        (
+          rawptr_Tells,
+          (
+            uint_Tells w64,
+            (
+              uint_Tells
+                  w64,
+              tt,
+            ),
+          ),
+        ),
+      ),
+    )) (λ κs qs bounds a gh are.
+    let b : ℕ = a.0.ref_ptr.0 in
+    let o : ℕ = a.0.ref_ptr.1 in
+    let κ : Lft = κs.0 in
+    let q : Share = qs.0 in
+    let d : TurnNames = a.0.now in
+    let nb : ℕ = a.1.0.ref_ptr.0 in
+    let no : ℕ = a.1.0.ref_ptr.1 in
+    let κn : Lft = κs.1.0 in
+    let nm : Nr.Denot = a.1.0.now in
+    let t : ℕ = nm.turn in
+    let e : TurnOf R.Denot = (nm.value, nm.lifetime) in
+    let p : Ptr = a.1.1.0 in
+    let old : ℕ = a.1.1.1.0 in
+    let new : ℕ = a.1.1.1.1.0 in
+    let Asked : Type 0 = (p ≡ d.at) × (nm.log ≡ d.log) × (old ≡ 4 * t + 2) × (new ≡ 4 * t + 3) in
+    let others : Fml = fsep (flft κs.1.1.0 qs.1.1.0) ftrue in
+    let Mr : RattleType = marked_is.the_row R in
+    let Vr : RattleType = vacancy_is.the_row R in
+    let us : List Val = vptr b o ∷ vptr nb no ∷ ptr_val p ∷ vint w64 old ∷ vint w64 new ∷ [] in
+    let y : (walk_of 𝓛 En hs c).Ghost = (
+      (
+        κs,
+        qs,
+        bounds,
+        a,
+        (
+          vptr b o ∷ [],
+          (
+            vptr nb no ∷ [],
+            (
+              ptr_val p ∷ [],
+              (
+                vint w64 old
+                    ∷ [],
+                (vint w64 new ∷ [], tt),
+              ),
+            ),
+          ),
+        ),
+      ),
+      gh,
+    ) in
+    let Post : Val → SProp 𝓤 = (walk_of 𝓛 En hs c).post y in
+    qed 𝓛 (((‵ (flft κ q) ⊛ ‵ (flft κn qs.1.0) ⊛ ‵ others) ⊛ ‵ (owns (types_at En.signature.params κs) a y.0.4)) ∷ raw
+    (fact 𝓤
+    _) ∷ raw (fact 𝓤 Asked) ∷ []) ∵
+    keep ! (2 ∷ 0 ∷ []) $ heard ! Asked (λ asked. split ! $ split3 ! $ move ! (3 ∷ []) $ fsplit ! $ fsplit ! $
+    keep ! (2 ∷ 1 ∷ 3 ∷ 4 ∷ 5 ∷ []) $ fsplit ! $ fsplit ! $ keep ! (1 ∷ 3 ∷ 4 ∷ 5 ∷ 6 ∷ []) $
+    -- [the name; the place; κ; κn; the others]
+    enter ! 𝓣.C 𝓣.Λ fn us Post $ alloc_all ! (λ l. pass_all ! refl (
+      (tt, tt),
+      (
+        (tt, tt),
+        (
+          ptr_typed p,
+          (
+            (
+              tt,
+              record {
+                fits =
+                    are.1.1.1.0.1;
+              },
+            ),
+            ((tt, record { fits = are.1.1.1.1.0.1 }), tt),
+          ),
+        ),
+      ),
+    ) $ let Ev = env fn.locals l in
+    use1 𝓛 (‵ (hidden_shr (fields.Name R) κn (nm.turn, (record {}, tt)) nb no) ⊛ ‵ (fhide (turn_shares R nm.log
+    nm.turn e κn)))
+    (lent_out 𝓛 (name_is.struct R) (name_is.the_codes X.Denot R.coded (marker.the_row R).coded) (name_is.the_heap R)
+    (name_is.the_lent R) κn nm nb no)
+    $ split ! $ drop ! $ unhide ! $
+    rewrite ! 0 (λ (z : ℕ). ‵ (turn_is R z t e)) asked.1 refl $ move ! (1 ∷ []) $
+    unhide ! $ fpick ! (λ α. fsplit ! $ move ! (0 ∷ 3 ∷ []) $
+    use2 𝓛 (later (some (λ (s : Share). ‵ (flft α s) ⊛ raw (wand 𝓤 (𝓛.A.lft α s) (H.⇛ (𝓛.A.lft κ q)))))) (Lends-one 𝓛
+    𝓜 𝓡
+    κ α q) $ await ! tt $ pick ! (λ s. split ! $
+    -- [α; its way back; the invariant; the entry; κn; the others]
+    let W : ℕ → Fml = steps.Outed 𝓛 R d t e in
+    let after : ℕ → Fml = λ n. fsep (flft α s) (W n) in first ! $ blocks ! $
+    sets ! (addr ! (through ! refl (fld ! refl (stop !)))) refl (tt, tt) $ move ! (2 ∷ 0 ∷ 3 ∷ []) $
+    use3 𝓛 (raw (𝓣.C _ (vptr b (o + 0) ∷ vint w64 old ∷ vint w64 new ∷ []) (λ u. mean 𝓛 (found after u))))
+    (via 𝓤 _ (subst (λ (k : ℕ × ℕ). ent 𝓤 (sep 𝓤 (𝓛.A.inv (fbor α (steps.Memory 𝓛 R d α s b o))) (sep 𝓤 (𝓛.A.lft α s)
+    (sem 𝓛
+    (turn_is R d.log t e)))) (asks 𝓛 (block_ptr b (o + 0)) (λ n. either (Rattle.std.specs.Prelude.eqb n k.0) k.1 n)
+    always
+    after)) (λ i. (sym asked.2 i, sym asked.3 i)) (steps.marks_it 𝓛 R d α s b o t e)) (exchanges 𝓛 𝓜 𝓡
+    (code.calls-atomic_table::exchange 𝓡.env wired) (block_ptr b (o + 0)) old new are.1.1.1.0.1 are.1.1.1.1.0.1
+    after)) $
+    Calls-last ! (fm 𝓛 𝓜 𝓡) (found after) (and_then ! (get ! refl) (and_then ! (get ! refl) (and_then ! (get ! refl)
+    (no_more !)))) (λ u. finds ! after (λ n fits.
+    lands_last ! refl (tt, record { fits = fits }) $ exec ! 𝓣.C 𝓣.Λ Ev (tail fn.body) (at_ret Ev Post) $
+    sets ! (of_opd ! (get ! refl)) refl (tt, record { fits = fits }) $
+    sets ! (agg ! (and_then ! (get ! refl) (no_more !))) refl (word_typed p) $
+    sets ! (agg ! (and_then ! (get ! refl) (no_more !))) refl (word_typed p) $
+    sets ! (agg ! (and_then ! (get ! refl) (and_then ! (get ! refl) (and_then ! (get ! refl) (no_more !))))) refl
+    (fields.three_typed p n fits) $
+    fsplit ! $ move ! (0 ∷ 2 ∷ []) $ use2 𝓛 (later (‵ (flft κ q))) (apply∗ 𝓤 (𝓛.A.lft α s) (H.⇛ (𝓛.A.lft κ q))) $
+    await ! tt $
+    -- [κ; what the mark took out; κn; the others]
+    move ! (2 ∷ 3 ∷ []) $ join ! $ move ! (1 ∷ 0 ∷ []) $ join ! $ move ! (1 ∷ []) $
+    use1 𝓛 (some (λ (g : ℕ × List Loan). given (steps.Gains 𝓛 R d (4 * t + 2) n g.0 × Within d.posts g.1) (‵ (fsep
+    (marked_owns R d.at e.0 e.1 g.0 g.1 []) (vacancy_of R d.at d.state (4 * t + 3) e g.0))))) (steps.takes 𝓛 R d t e
+    n) $
+    pick ! (λ g. learn ! (λ so.
+    rewrite ! 0 (λ (z : Ptr × ℕ). ‵ (fsep (marked_owns R z.0 e.0 e.1 g.0 g.1 []) (vacancy_of R z.0 d.state z.1 e
+    g.0))) (λ i.
+    (sym asked.0 i, sym asked.3 i)) refl $ fsplit ! $
+    let h : Mr.Denot = record { at = p; right = g.0; value = e.0; lifetime = e.1; seen = []; loans = g.1 } in
+    let z : Vr.Denot = record { at = p; right = g.0; state = d.state; word = new; value = e.0; lifetime = e.1 } in
+    let v : Val = fields.three_of n (word p) (word p) in
+    let Gained : Type 0 = (n ≡ old → (g.0 ≡ 1) × (g.0 ≡ 1)) × (n ≢ old → (g.0 ≡ 0) × (g.0 ≡ 0)) in
+    let OfMarked : Type 0 = (e.0 ≡ e.0) × (e.1 ≡ e.1) × (h.seen ≡ []) × Within d.posts g.1 in
+    let OfVacancy : Type 0 = (e.0 ≡ e.0) × (e.1 ≡ e.1) × (d.state ≡ d.state) × (new ≡ new) × (p ≡ d.at) in
+    use0 𝓛 (‵ ((Found R).own_val (p, tt) (word p ∷ []))) (found_made R 𝓛 p) $ fjoin ! $ move ! (1 ∷ []) $
+    use0 𝓛 (‵ ((fields.Vacancy R).own_val (p, tt) (word p ∷ []))) (fields.vacancy_made R 𝓛 p) $ fjoin ! $ nothing ! $
+    move ! (1 ∷ 0 ∷ []) $ fjoin ! $ move ! (1 ∷ 0 ∷ []) $ fjoin ! $
+    flt_i ! n (2 ^ 64) fits $ feq_i ! (List Val) (vint w64 n ∷ []) (vint w64 n ∷ []) refl $ fjoin ! $
+    fjoin ! $ feq_i ! (List Val) (v ∷ []) (v ∷ []) refl $ fjoin ! $
+    fpack ! (Valss (u64 ∷ Mr ∷ Vr ∷ [])) (λ uss. fsep (feq (List Val) (v ∷ []) (vstruct (of_list (uss.0 ++ (uss.1.0 ++
+    (uss.1.1.0 ++ [])))) ∷ [])) (owns (u64 ∷ Mr ∷ Vr ∷ []) (n, (h, (z, tt))) uss)) (
+      vint w64 n ∷ [],
+      (
+        word p ∷ [],
+        (
+          word p ∷
+              [],
+          tt,
+        ),
+      ),
+    ) $
+    use0 𝓛 (raw (fact 𝓤 OfVacancy)) (fact_i 𝓤 OfVacancy (emp 𝓤) (refl, refl, refl, refl, asked.0)) $
+    use0 𝓛 (raw (fact 𝓤 OfMarked)) (fact_i 𝓤 OfMarked (emp 𝓤) (refl, refl, refl, so.1)) $ join ! $
+    use0 𝓛 (raw (fact 𝓤 Gained)) (fact_i 𝓤 Gained (emp 𝓤) (
+      (λ e. (so.0.0 (e ∙ asked.2), so.0.0 (e ∙ asked.2))),
+      (λ ne. (
+        so.0.1
+            (λ e. ne (e ∙ sym asked.2)),
+        so.0.1 (λ e. ne (e ∙ sym asked.2)),
+      )),
+    )) $ join ! $ nothing ! $ nothing ! $ fjoin ! $ nothing ! $ fjoin ! $ nothing ! $ fjoin ! $ nothing ! $ fjoin ! $
+    nothing ! $ fjoin ! $
+    returns ! (look_at ! 0 refl) $ free_all ! refl $ keep ! (3 ∷ 0 ∷ 2 ∷ 1 ∷ []) $
+    by ! (leaves 𝓛 En hs c y v (n, h, z) (tt, (tt, (tt, (tt, (tt, tt))))) (tt, (tt, (tt, (tt, (tt, tt)))))))))))))))

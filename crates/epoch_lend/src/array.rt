@@ -1,0 +1,5 @@
+//! A fixed number of cells that lend: values are placed, looked at by names that are plain numbers, and taken back
+//! together.
+pub mod cells;
+pub mod room;
+pub mod slot;

@@ -1,0 +1,215 @@
+//! The cells of an array, and where a value is in it.
+ghost use Rattle.std.specs.Prelude.{◌≡◌, ◌+◌, ◌*◌, ◌<◌, ◌≤◌, min, Some, length, map, IfSome, IfOk, IfErr};
+ghost use Rattle.std.specs.List.{slice_get};
+ghost use Rattle.epoch_lend.specs.declared.cells.cell.TheConstants.{GREATEST_TURN};
+
+use crate::array::slot::{LentSlot, SlotRemoval};
+use crate::cells::cell::GREATEST_TURN;
+use crate::cells::sight::Sight;
+use crate::cells::turns::TurnName;
+use crate::readers::posts::{PostSet, Posts};
+use crate::readers::reader::Pinned;
+use crate::watch::Watch;
+use std::alloc::{AllocError, Global};
+
+/// Where a value is: its slot, and its turn there. No other value ever has both.
+#[derive(Clone, Copy, PartialEq, Eq, Debug)]
+pub struct SlotTurn {
+    pub slot: usize,
+    pub turn: u64,
+}
+
+/// A value that was placed: where it is, and its name, which shows which value was placed there.
+#[derive(Drop)]
+pub struct PlacedAt<T> {
+    pub spot: SlotTurn,
+    pub name: TurnName<T>,
+}
+
+/// A fixed number of cells, whose values are lent to readers pinned at the posts of a set. Threads share them by `&`.
+#[derive(Drop)]
+pub struct LendingCells<J: PostSet, T> {
+    slots: Vec<LentSlot<J, T>>,
+    last_turn: u64,
+    pub ghost bounded: { last_turn ≤ GREATEST_TURN },
+}
+
+impl<J: PostSet, T: Drop> LendingCells<J, T> {
+    /// Makes this many empty cells. The last turn of each is the given one, or [`GREATEST_TURN`] if that is less. It
+    /// fails only if memory is refused. The cells' places in memory are never freed, and values that are still in the
+    /// cells when these are dropped are not dropped.
+    pub fn new(
+        alloc: Global,
+        count: usize,
+        last_turn: u64,
+        posts: &Posts<J>,
+    ) -> Result<LendingCells<J, T>, AllocError>
+        ensures count { IfOk result (λ cells. length cells.slots.items ≡ count) }
+        ensures last_turn { IfOk result (λ cells. cells.last_turn ≡ min last_turn GREATEST_TURN) }
+    {
+        let last_turn = last_turn.min(GREATEST_TURN);
+        let mut slots = Vec::with_capacity(alloc, count)?;
+        for position in 0..count {
+            let _ = position;
+            let slot = LentSlot::new(alloc, posts)?;
+            slots.push(slot).map_err(|_| AllocError)?;
+        }
+        Ok(LendingCells { slots, last_turn })
+    }
+}
+
+impl<J: PostSet, T> LendingCells<J, T> {
+    /// Returns how many cells there are.
+    pub fn len(&self) -> usize
+        ensures { result ≡ length self.now.slots.items }
+    {
+        self.slots.len()
+    }
+
+    /// Returns the last turn at which a cell takes a value.
+    pub fn last_turn(&self) -> u64
+        ensures value { result ≡ self.now.last_turn }
+        ensures within { result ≤ GREATEST_TURN }
+    {
+        self.last_turn
+    }
+
+    /// Lends the value that is shown at this spot, by one plain load, for as long as the reference to the pinned
+    /// reader lasts, with the name that shows that it was placed there. `None`: no value was placed there yet, or it
+    /// was marked, or there is no such slot.
+    pub fn look<'g>(&self, spot: SlotTurn, pinned: &'g Pinned<'_, J>) -> Option<Sight<'g, T>>
+        ensures slot { IfSome result (λ sight. slice_get (map (λ s. s.turns.log) self.now.slots.items) spot.slot
+            ≡ Some sight.name.log) }
+        ensures turn { IfSome result (λ sight. sight.name.turn ≡ spot.turn) }
+    {
+        if spot.slot >= self.slots.len() {
+            return None;
+        }
+        self.look_at(spot, pinned)
+    }
+
+    /// Does what [`LendingCells::look`] does, for a caller that has compared the slot with [`LendingCells::len`], which
+    /// must be greater.
+    #[inline(always)]
+    pub fn look_at<'g>(&self, spot: SlotTurn, pinned: &'g Pinned<'_, J>) -> Option<Sight<'g, T>>
+        requires { spot.slot < length self.now.slots.items }
+        ensures slot { IfSome result (λ sight. slice_get (map (λ s. s.turns.log) self.now.slots.items) spot.slot
+            ≡ Some sight.name.log) }
+        ensures turn { IfSome result (λ sight. sight.name.turn ≡ spot.turn) }
+    {
+        self.slots[spot.slot].look(spot.turn, pinned)
+    }
+
+    /// Lends the value that is shown at this spot, as [`LendingCells::look`] does, without its name.
+    pub fn get<'g>(&self, spot: SlotTurn, pinned: &'g Pinned<'_, J>) -> Option<&'g T> {
+        match self.look(spot, pinned) {
+            Some(sight) => Some(sight.value),
+            None => None,
+        }
+    }
+
+    /// Returns where the value of this slot is, and its name, by two plain loads, so that what is left in the cells can
+    /// be marked and taken back. `None`: the cell is empty, or its value was marked, or went out between the loads, or
+    /// there is no such slot.
+    pub fn shown(&self, slot: usize) -> Option<PlacedAt<T>>
+        ensures slot { IfSome result (λ placed. slice_get (map (λ s. s.turns.log) self.now.slots.items) slot
+            ≡ Some placed.name.log) }
+        ensures spot { IfSome result (λ placed. (placed.spot.slot ≡ slot) × (placed.spot.turn ≡ placed.name.turn)) }
+        ensures within { IfSome result (λ placed. placed.spot.turn ≤ self.now.last_turn) }
+    {
+        let Some(cell) = self.slots.get(slot) else {
+            return None;
+        };
+        match cell.shown() {
+            Some((turn, name)) if turn <= self.last_turn => {
+                let spot = SlotTurn { slot, turn };
+                Some(PlacedAt { spot, name })
+            }
+            _ => None,
+        }
+    }
+
+    /// Returns whether no reader was seen pinned at these posts. Another thread may pin at once.
+    #[inline(always)]
+    pub fn are_unpinned(&self, posts: &Posts<J>) -> bool {
+        let (are_unpinned, _) = Watch::new().unpinned(posts.as_slice());
+        are_unpinned
+    }
+
+    /// Marks the value at this spot, so that no look finds it from then on. Of all callers that mark it, only one gets
+    /// the removal. `None`: no value was placed there yet, or it was marked, or there is no such slot.
+    pub fn mark(&self, spot: SlotTurn) -> Option<SlotRemoval<'_, J, T>>
+        ensures slot { IfSome result (λ removal. slice_get (map (λ s. s.turns.log) self.now.slots.items) spot.slot
+            ≡ Some removal.name.log) }
+        ensures turn { IfSome result (λ removal. removal.name.turn ≡ spot.turn) }
+    {
+        match self.slots.get(spot.slot) {
+            Some(slot) => slot.mark(spot.turn, self, spot.slot),
+            None => None,
+        }
+    }
+}
+
+impl<J: PostSet, T: Drop> LendingCells<J, T> {
+    /// Places a value in the first cell that is seen empty, and returns where. It hands the value back if each cell was
+    /// seen in use, or past the last turn.
+    pub fn place(&self, value: T) -> Result<PlacedAt<T>, T>
+        ensures slot { IfOk result (λ placed. slice_get (map (λ s. s.turns.log) self.now.slots.items) placed.spot.slot
+            ≡ Some placed.name.log) }
+        ensures turn { IfOk result (λ placed. placed.name.turn ≡ placed.spot.turn) }
+        ensures within { IfOk result (λ placed. placed.spot.turn ≤ self.now.last_turn) }
+        ensures placed { IfOk result (λ placed. placed.name.value ≡ value) }
+        ensures handed_back { IfErr result (λ back. back ≡ value) }
+    {
+        self.place_between(0, self.slots.len(), value)
+    }
+
+    /// Does what [`LendingCells::place`] does, but begins at this slot. It looks at the slots before it last.
+    pub fn place_from(&self, first: usize, value: T) -> Result<PlacedAt<T>, T>
+        ensures slot { IfOk result (λ placed. slice_get (map (λ s. s.turns.log) self.now.slots.items) placed.spot.slot
+            ≡ Some placed.name.log) }
+        ensures turn { IfOk result (λ placed. placed.name.turn ≡ placed.spot.turn) }
+        ensures within { IfOk result (λ placed. placed.spot.turn ≤ self.now.last_turn) }
+        ensures placed { IfOk result (λ placed. placed.name.value ≡ value) }
+        ensures handed_back { IfErr result (λ back. back ≡ value) }
+    {
+        match self.place_between(first, self.slots.len(), value) {
+            Ok(placed) => Ok(placed),
+            Err(back) => self.place_between(0, first, back),
+        }
+    }
+
+    /// Does what [`LendingCells::place`] does, but looks only at the slots from `from` up to `to`, and not at `to`
+    /// itself.
+    pub fn place_between(&self, from: usize, to: usize, value: T) -> Result<PlacedAt<T>, T>
+        ensures between { IfOk result (λ placed. (from ≤ placed.spot.slot) × (placed.spot.slot < to)) }
+        ensures slot { IfOk result (λ placed. slice_get (map (λ s. s.turns.log) self.now.slots.items) placed.spot.slot
+            ≡ Some placed.name.log) }
+        ensures turn { IfOk result (λ placed. placed.name.turn ≡ placed.spot.turn) }
+        ensures within { IfOk result (λ placed. placed.spot.turn ≤ self.now.last_turn) }
+        ensures placed { IfOk result (λ placed. placed.name.value ≡ value) }
+        ensures handed_back { IfErr result (λ back. back ≡ value) }
+    {
+        let mut kept = value;
+        for position in from..to {
+            let Some(slot) = self.slots.get(position) else {
+                break;
+            };
+            match slot.place(kept, self.last_turn) {
+                Ok((turn, name)) => {
+                    let spot = SlotTurn {
+                        slot: position,
+                        turn,
+                    };
+                    return Ok(PlacedAt { spot, name });
+                }
+                Err(back) => kept = back,
+            }
+        }
+        Err(kept)
+    }
+}
+
+unsafe impl<J: PostSet, T: Send + Sync> Send for LendingCells<J, T> {}
+
+unsafe impl<J: PostSet, T: Send + Sync> Sync for LendingCells<J, T> {}

@@ -1,0 +1,256 @@
+//! One cell of an array, which holds one value after another, each at a turn of its own.
+ghost use Rattle.std.specs.Prelude.{◌≡◌, ◌+◌, ◌*◌, ◌≤◌, ◌++◌, [], Some, map, IfSome, IfOk, IfErr};
+ghost use Rattle.std.specs.List.{slice_get};
+ghost use Rattle.epoch_lend.specs.Posts.{logs_of};
+ghost use Rattle.epoch_lend.specs.Loans.{Within, AreShown};
+ghost use Rattle.epoch_lend.specs.Watching.{AreWatched};
+ghost use Rattle.epoch_lend.specs.Turning.{Awaits};
+ghost use Rattle.epoch_lend.specs.declared.cells.cell.TheConstants.{GREATEST_TURN};
+
+use crate::array::cells::LendingCells;
+use crate::array::room::LentRoom;
+use crate::cells::cell::GREATEST_TURN;
+use crate::cells::sight::Sight;
+use crate::cells::turns::{Filled, Place, TurnClaim, TurnName, Turns, Vacancy};
+use crate::lending::Marked;
+use crate::readers::posts::{Of, PostSet, Posts};
+use crate::readers::reader::Pinned;
+use crate::watch::Watch;
+use std::alloc::{AllocError, Allocator};
+use std::marker::PhantomData;
+
+/// A cell whose values are lent to readers pinned at the posts of a set. Each value has a turn of its own, and no turn
+/// comes twice.
+#[derive(Drop)]
+pub struct LentSlot<J: PostSet, T> {
+    turns: Turns<T>,
+    at: *const T,
+    set: Of<J>,
+    pub ghost same: { at ≡ turns.at },
+    pub ghost of_posts: { turns.posts ≡ logs_of J.posts },
+}
+
+/// A value that a mark took out of its slot, with what was lent of it, and its name.
+#[derive(Drop)]
+pub struct SlotRemoval<'c, J: PostSet, T> {
+    cells: &'c LendingCells<J, T>,
+    slot: &'c LentSlot<J, T>,
+    position: usize,
+    pub marked: Marked<T>,
+    vacancy: Vacancy<T>,
+    pub name: TurnName<T>,
+    turn: u64,
+    pub ghost rights: { (marked.right ≡ 1) × (vacancy.right ≡ 1) },
+    pub ghost alike: { (vacancy.value ≡ marked.value) × (vacancy.lifetime ≡ marked.lifetime) },
+    pub ghost of_slot: { (vacancy.state ≡ slot.now.turns.state) × (vacancy.at ≡ slot.now.turns.at) },
+    pub ghost of_turn: { (vacancy.word ≡ 4 * turn + 3) × (turn ≤ GREATEST_TURN) },
+    pub ghost lent: { Within (logs_of J.posts) marked.loans },
+    pub ghost named: { (name.log ≡ slot.now.turns.log) × (name.turn ≡ turn) × (name.value ≡ marked.value) },
+    pub ghost of_cells: { slice_get (map (λ s. s.turns.log) cells.now.slots.items) position
+        ≡ Some slot.now.turns.log },
+}
+
+/// A value that came back, and its name. The room is that of the cell that it was in.
+#[derive(Drop)]
+pub struct Returned<'c, J: PostSet, T> {
+    pub value: T,
+    pub name: TurnName<T>,
+    pub room: LentRoom<'c, J, T>,
+    pub ghost named: { value ≡ name.value },
+    pub ghost of_room: { room.slot.now.turns.log ≡ name.log },
+}
+
+impl<J: PostSet, T: Drop> LentSlot<J, T> {
+    /// Makes an empty cell at turn 0. It fails only if memory is refused. The place in memory is never freed, and a
+    /// value that is still in the cell when the cell is dropped is not dropped.
+    pub fn new<A: Allocator + Drop>(
+        alloc: A,
+        posts: &Posts<J>,
+    ) -> Result<LentSlot<J, T>, AllocError> {
+        let (turns, at) = Turns::new(Place::new(alloc)?, posts.as_slice());
+        Ok(LentSlot {
+            turns,
+            at,
+            set: Of(PhantomData),
+        })
+    }
+
+    /// Places a value at the turn of the cell, and returns this turn and its name. It hands the value back if the cell
+    /// isn't empty, or is past `last_turn`, or past [`GREATEST_TURN`] if that is less.
+    pub fn place(&self, value: T, last_turn: u64) -> Result<(u64, TurnName<T>), T>
+        ensures placed { IfOk result (λ placed. (placed.1.log ≡ self.now.turns.log) × (placed.1.turn ≡ placed.0)
+            × (placed.1.value ≡ value)) }
+        ensures within { IfOk result (λ placed. placed.0 ≤ last_turn) }
+        ensures handed_back { IfErr result (λ back. back ≡ value) }
+    {
+        let (found, which) = self.turns.find(0, 2);
+        which.done();
+        let turn = found / 4;
+        let vacant = 4 * turn;
+        if found != vacant || turn > last_turn || turn > GREATEST_TURN {
+            return Err(value);
+        }
+        let (again, claim) = self.turns.claim(self.at, turn, vacant, vacant + 1);
+        if again != vacant {
+            claim.done();
+            return Err(value);
+        }
+        let filled = claim.fill(value);
+        Ok((turn, self.show(filled, turn)))
+    }
+}
+
+impl<J: PostSet, T> LentSlot<J, T> {
+    // Shows the value of a place that this caller has, at this turn.
+    #[inline(always)]
+    pub(crate) fn show(&self, filled: Filled<T>, turn: u64) -> TurnName<T>
+        requires of_place { (filled.state ≡ self.now.turns.state) × (filled.at ≡ self.now.turns.at) }
+        requires of_turn { Awaits turn filled.word × (turn ≤ GREATEST_TURN) }
+        ensures { (result.turn ≡ turn) × (result.log ≡ self.now.turns.log) × (result.value ≡ filled.value) }
+    {
+        self.turns.show(filled, turn, 4 * turn + 2)
+    }
+
+    // Leaves the place, whose value of this turn was taken out, to all callers.
+    #[inline(always)]
+    pub(crate) fn vacate(&self, claim: TurnClaim<T>, turn: u64)
+        requires of_place { (claim.right ≡ 1) × (claim.state ≡ self.now.turns.state)
+            × (claim.at ≡ self.now.turns.at) }
+        requires of_turn { (claim.word ≡ 4 * turn + 3) × (turn ≤ GREATEST_TURN) }
+    {
+        self.turns.release(claim, turn, 4 * turn + 4);
+    }
+
+    /// Lends the value of this turn, by one plain load, for as long as the reference to the pinned reader lasts.
+    /// `None`: the cell has none, since none was placed at this turn yet, or it was marked.
+    pub fn look<'g>(&self, turn: u64, pinned: &'g Pinned<'_, J>) -> Option<Sight<'g, T>>
+        ensures { IfSome result (λ sight. (sight.name.log ≡ self.now.turns.log) × (sight.name.turn ≡ turn)) }
+    {
+        self.turns.sight(self.at, turn, pinned.guard())
+    }
+
+    /// Returns the turn and the name of the value that the cell has, by two plain loads. `None`: the cell is empty, or
+    /// its value was marked, or went out between the loads.
+    pub fn shown(&self) -> Option<(u64, TurnName<T>)>
+        ensures { IfSome result (λ shown. (shown.1.log ≡ self.now.turns.log) × (shown.1.turn ≡ shown.0)) }
+    {
+        self.turns.shown()
+    }
+
+    /// Marks the value of this turn, by a plain load and one exchange, so that no look finds it from then on. The
+    /// caller that marks it gets what was lent of it, and no other caller does. `None`: the cell has no value of this
+    /// turn. It is the cell at this position of these cells.
+    pub(crate) fn mark<'c>(
+        &'c self,
+        turn: u64,
+        cells: &'c LendingCells<J, T>,
+        position: usize,
+    ) -> Option<SlotRemoval<'c, J, T>>
+        requires { slice_get (map (λ s. s.turns.log) cells.now.slots.items) position ≡ Some self.now.turns.log }
+        ensures { IfSome result (λ removal. (removal.name.log ≡ self.now.turns.log) × (removal.name.turn ≡ turn)) }
+    {
+        if turn > GREATEST_TURN {
+            return None;
+        }
+        let shown = 4 * turn + 2;
+        let (found, which) = self.turns.find(turn, shown);
+        if found != shown {
+            which.done();
+            return None;
+        }
+        let name = which.name();
+        let (again, marked, vacancy) = self.turns.mark(&name, self.at, shown, shown + 1);
+        if again == shown {
+            Some(SlotRemoval {
+                cells,
+                slot: self,
+                position,
+                marked,
+                vacancy,
+                name,
+                turn,
+            })
+        } else {
+            marked.done();
+            vacancy.done();
+            None
+        }
+    }
+}
+
+impl<'c, J: PostSet, T> SlotRemoval<'c, J, T> {
+    /// Has its loans watched, too. No post may have been looked at before.
+    pub fn watched(self, watch: &mut Watch) -> SlotRemoval<'c, J, T>
+        requires { watch.old.seen ≡ [] }
+        ensures watched { (watch.new.loans ≡ self.entry.marked.loans ++ watch.old.loans) × (watch.new.seen ≡ []) }
+        ensures same { (result.marked ≡ self.entry.marked) × (result.name ≡ self.entry.name) }
+    {
+        let SlotRemoval {
+            cells,
+            slot,
+            position,
+            marked,
+            vacancy,
+            name,
+            turn,
+        } = self;
+        let marked = watch.add(marked);
+        SlotRemoval {
+            cells,
+            slot,
+            position,
+            marked,
+            vacancy,
+            name,
+            turn,
+        }
+    }
+
+    /// Looks at each post once. If no reader is pinned, each guard that the value was lent to is over, and it comes
+    /// back. Otherwise the removal does.
+    pub fn take_back(self, posts: &Posts<J>) -> Result<Returned<'c, J, T>, SlotRemoval<'c, J, T>>
+        ensures back { IfOk result (λ back. back.name ≡ self.entry.name) }
+        ensures again { IfErr result (λ removal. removal.name ≡ self.entry.name) }
+    {
+        let mut watch = Watch::new();
+        let removal = self.watched(&mut watch);
+        let (is_clear, watch) = watch.unpinned(posts.as_slice());
+        if !is_clear {
+            return Err(removal);
+        }
+        let mut watch = watch;
+        Ok(removal.take(&mut watch))
+    }
+
+    /// Takes the value out of its slot. The watch must have seen that each guard with a loan is over.
+    pub fn take(self, watch: &mut Watch) -> Returned<'c, J, T>
+        requires watched { AreWatched self.marked.loans watch.old.loans }
+        requires shown { AreShown watch.old.seen watch.old.loans }
+        ensures name { result.name ≡ self.entry.name }
+        ensures same { watch.new ≡ watch.old }
+    {
+        let SlotRemoval {
+            cells,
+            slot,
+            position,
+            marked,
+            vacancy,
+            name,
+            turn,
+        } = self;
+        let all = watch.collect(marked);
+        let (claim, value) = vacancy.reclaim(all).take();
+        let room = LentRoom {
+            cells,
+            slot,
+            position,
+            turn,
+            claim,
+        };
+        Returned { value, name, room }
+    }
+}
+
+unsafe impl<J: PostSet, T: Send + Sync> Send for LentSlot<J, T> {}
+
+unsafe impl<J: PostSet, T: Send + Sync> Sync for LentSlot<J, T> {}

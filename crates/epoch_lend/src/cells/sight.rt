@@ -1,0 +1,89 @@
+//! Values that are found by their turns, which are plain numbers, and not by names that are carried from the placing.
+ghost use Rattle.std.specs.Prelude.{◌≡◌, IfSome};
+ghost use Rattle.epoch_lend.specs.Posts.{IsAmong, logs_of};
+
+use crate::cells::cell::{GREATEST_TURN, LendingCell, PlacedInCell};
+use crate::cells::turns::{TurnName, Turns};
+use crate::post::PostGuard;
+
+/// A value that was found by its turn, and its name, which shows that it was placed at this turn.
+#[derive(Drop)]
+pub struct Sight<'g, T> {
+    pub value: &'g T,
+    pub name: TurnName<T>,
+    pub ghost same: { value.now ≡ name.value },
+}
+
+impl<T> Turns<T> {
+    /// Looks at the place, by one plain load. If it finds the word of a value that is shown at this turn, that value is
+    /// lent for as long as the guard is. `None`: no value is shown at this turn, as at each past [`GREATEST_TURN`].
+    /// The guard must be of one of the place's posts.
+    pub fn sight<'g>(&self, at: *const T, turn: u64, guard: &'g PostGuard) -> Option<Sight<'g, T>>
+        requires { (at ≡ self.now.at) × IsAmong guard.now.log self.now.posts }
+        ensures { IfSome result (λ sight. (sight.name.log ≡ self.now.log) × (sight.name.turn ≡ turn)) }
+    {
+        if turn > GREATEST_TURN {
+            return None;
+        }
+        let shown = 4 * turn + 2;
+        let (found, which, glance) = self.look(turn, guard, at, shown);
+        if found == shown {
+            Some(Sight {
+                value: glance.get(),
+                name: which.name(),
+            })
+        } else {
+            which.done();
+            glance.done();
+            None
+        }
+    }
+
+    /// Returns, by two plain loads, the turn and the name of the value that is shown. `None`: no value is shown, or the
+    /// place went to another value between the loads.
+    pub fn shown(&self) -> Option<(u64, TurnName<T>)>
+        ensures { IfSome result (λ shown. (shown.1.log ≡ self.now.log) × (shown.1.turn ≡ shown.0)) }
+    {
+        let (now, any) = self.find(0, 2);
+        any.done();
+        let turn = now / 4;
+        let word = 4 * turn + 2;
+        let (found, which) = self.find(turn, word);
+        if found != word {
+            which.done();
+            return None;
+        }
+        Some((turn, which.name()))
+    }
+}
+
+impl<'p, T> LendingCell<'p, T> {
+    /// Looks at the cell, by one plain load. A value that it has of this turn is lent for as long as the guard is.
+    /// `None`: none was placed at this turn yet, or it was marked. The guard must be of one of the cell's posts.
+    pub fn look<'g>(&self, turn: u64, guard: &'g PostGuard) -> Option<Sight<'g, T>>
+        requires { IsAmong guard.now.log (logs_of self.now.posts.now) }
+        ensures { IfSome result (λ sight. (sight.name.log ≡ self.now.turns.log) × (sight.name.turn ≡ turn)) }
+    {
+        self.turns.sight(self.at, turn, guard)
+    }
+
+    /// Returns, by two plain loads, the value that the cell has, as [`LendingCell::place`] returned it, so that what is
+    /// left in a cell can be marked and taken back. `None`: the cell is empty, or its value was marked, or went out
+    /// between the loads.
+    pub fn shown(&self) -> Option<PlacedInCell<'_, 'p, T>>
+        ensures { IfSome result (λ placed. placed.cell.now ≡ self.now) }
+    {
+        let Some((turn, name)) = self.turns.shown() else {
+            return None;
+        };
+        if turn > self.last_turn {
+            return None;
+        }
+        Some(PlacedInCell {
+            cell: self,
+            name,
+            turn,
+            word: 4 * turn + 2,
+        })
+    }
+}

@@ -1,5 +1,0 @@
-use Rattle.epoch_lend_bench.proofs.pointers.time_list.Given as goal
-
--- the set has the posts that were made
-abbrev pub ghosts-rounds_over : goal.ghosts-rounds_over
-ghosts-rounds_over g a = record { posts = a.made.posts.items }

@@ -1,7 +1,0 @@
-use denote.RattleType.{RattleType}
-use denote.Param.Send.{IsSend, IsSync, part_keyless}
-use Rattle.epoch_lend_cells.specs.contracts.turns.Claim.{the_row}
-use Rattle.epoch_lend_cells.proofs.turns.Claim.TheSendSync.Send.{send}
-
-pub sync : (T : RattleType) → IsSend T → IsSync (the_row T)
-sync T s = record { shared = λ d b o κ q. part_keyless (the_row T) (send T s) q d b o }

@@ -1,7 +1,0 @@
-//! Cells that lend. A cell holds one value after another, each at a turn of its own, and guards look at it by one plain
-//! load.
-#![tactic(auto)]
-
-pub mod cell;
-pub mod sight;
-pub mod turns;

@@ -1,3 +1,0 @@
-mod Gives
-mod Looks
-mod Nodes

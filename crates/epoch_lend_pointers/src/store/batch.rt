@@ -1,0 +1,157 @@
+//! Removals that go back together: posts are looked at once for all of them.
+ghost use Rattle.std.specs.Prelude.{◌≡◌, ◌<◌, ◌≤◌, List, [], ◌∷◌, ◌++◌, length, map, vec_len, vec_capacity};
+ghost use Rattle.std.specs.Prelude.{IsOk, IfOk, IfErr, OnOk, OnErr, MatchOption};
+ghost use Rattle.epoch_lend.specs.Posts.{logs_of};
+ghost use Rattle.epoch_lend.specs.Loans.{Within, AreShown, EachSeen, is_sealed};
+ghost use Rattle.epoch_lend.specs.Bags.{EachWatched};
+
+use epoch_lend::array::slot::{Returned, SlotRemoval};
+use epoch_lend::cells::turns::TurnName;
+use epoch_lend::readers::posts::{PostSet, Posts};
+use epoch_lend::watch::Watch;
+use std::alloc::{AllocError, Global};
+
+/// Values that were marked, and go back together.
+#[derive(Drop)]
+pub struct Batch<'c, J: PostSet, T> {
+    removals: Vec<SlotRemoval<'c, J, T>>,
+    watch: Watch,
+    pub ghost watched: { EachWatched (λ r. r.marked.loans) removals.items watch.loans },
+    pub ghost lent: { Within (logs_of J.posts) watch.loans },
+    pub ghost fresh: { watch.seen ≡ [] },
+}
+
+/// A bag whose posts were looked at once: each guard that had a loan is over, or is of an epoch before the seal.
+#[derive(Drop)]
+pub struct SealedBatch<'c, J: PostSet, T> {
+    removals: Vec<SlotRemoval<'c, J, T>>,
+    watch: Watch,
+    seal: u64,
+    pub ghost watched: { EachWatched (λ r. r.marked.loans) removals.items watch.loans },
+    pub ghost lent: { Within (logs_of J.posts) watch.loans },
+    pub ghost sealed: { EachSeen (is_sealed seal) (logs_of J.posts) watch.seen },
+}
+
+/// A bag whose values come back: each guard that one of them was lent to is over.
+#[derive(Drop)]
+pub struct ClearBatch<'c, J: PostSet, T> {
+    removals: Vec<SlotRemoval<'c, J, T>>,
+    watch: Watch,
+    pub ghost watched: { EachWatched (λ r. r.marked.loans) removals.items watch.loans },
+    pub ghost shown: { AreShown watch.seen watch.loans },
+}
+
+impl<'c, J: PostSet, T> Batch<'c, J, T> {
+    /// Makes an empty bag with room for this many removals. It fails only if memory is refused.
+    pub fn with_capacity(alloc: Global, capacity: usize) -> Result<Batch<'c, J, T>, AllocError>
+        ensures empty { IfOk result (λ bag. bag.removals.items ≡ []) }
+        ensures room { IfOk result (λ bag. capacity ≤ vec_capacity bag.removals) }
+    {
+        let removals = Vec::with_capacity(alloc, capacity)?;
+        Ok(Batch {
+            removals,
+            watch: Watch::new(),
+        })
+    }
+
+    /// Returns how many removals are in the bag.
+    pub fn len(&self) -> usize
+        ensures { result ≡ length self.now.removals.items }
+    {
+        self.removals.len()
+    }
+
+    /// Puts a removal into the bag, behind the others. It is handed back only if the bag has no room for it, and memory
+    /// for more room is refused.
+    pub fn push(&mut self, removal: SlotRemoval<'c, J, T>) -> Result<(), SlotRemoval<'c, J, T>>
+        ensures ok { OnOk result (map (λ r. r.name) self.new.removals.items
+            ≡ map (λ r. r.name) self.old.removals.items ++ removal.entry.name ∷ []) }
+        ensures err { OnErr result (self.new.removals.items ≡ self.old.removals.items) }
+        ensures handed_back { IfErr result (λ back. back.name ≡ removal.entry.name) }
+        ensures succeeds { vec_len self.old.removals < vec_capacity self.old.removals → IsOk result }
+    {
+        let removal = removal.watched(&mut self.watch);
+        match self.removals.push(removal) {
+            Ok(()) => Ok(()),
+            Err(failed) => Err(failed.value),
+        }
+    }
+
+    /// Looks at each post once, for all removals of the bag.
+    pub fn seal(self, posts: &Posts<J>) -> SealedBatch<'c, J, T>
+        ensures { result.removals.items ≡ self.entry.removals.items }
+    {
+        let Batch { removals, watch } = self;
+        let (seal, watch) = watch.seal(posts.as_slice());
+        SealedBatch {
+            removals,
+            watch,
+            seal,
+        }
+    }
+}
+
+impl<'c, J: PostSet, T> SealedBatch<'c, J, T> {
+    /// Returns how many removals are in the bag.
+    pub fn len(&self) -> usize
+        ensures { result ≡ length self.now.removals.items }
+    {
+        self.removals.len()
+    }
+
+    /// Looks at each post once more, for all removals of the bag. If none is pinned in an epoch before the seal, the
+    /// values come back. Otherwise the bag does, to be tried again, since a guard that has one of the values may still
+    /// live. Readers that go on must pin in later epochs.
+    pub fn take_back(self, posts: &Posts<J>) -> Result<ClearBatch<'c, J, T>, SealedBatch<'c, J, T>>
+        ensures clear { IfOk result (λ bag. bag.removals.items ≡ self.entry.removals.items) }
+        ensures again { IfErr result (λ bag. bag.removals.items ≡ self.entry.removals.items) }
+    {
+        let SealedBatch {
+            removals,
+            watch,
+            seal,
+        } = self;
+        let (is_clear, watch) = watch.scan(posts.as_slice(), seal);
+        if is_clear {
+            Ok(ClearBatch { removals, watch })
+        } else {
+            Err(SealedBatch {
+                removals,
+                watch,
+                seal,
+            })
+        }
+    }
+}
+
+impl<'c, J: PostSet, T> ClearBatch<'c, J, T> {
+    /// Takes the value of the last removal out of its slot, which is empty at its next turn from then on, and returns
+    /// the value with its name. `None`: each value was taken out.
+    pub fn next(&mut self) -> Option<(T, TurnName<T>)>
+        ensures which { MatchOption result (self.old.removals.items ≡ [])
+            (λ back. map (λ r. r.name) self.old.removals.items
+            ≡ map (λ r. r.name) self.new.removals.items ++ back.1 ∷ []) }
+        ensures value { MatchOption result (Unit {0}) (λ back. back.0 ≡ back.1.value) }
+    {
+        match self.next_with_room() {
+            Some(Returned { value, name, room }) => {
+                room.release();
+                Some((value, name))
+            }
+            None => None,
+        }
+    }
+
+    /// Takes the value of the last removal out of its slot, and returns it with its name and with the room in which it
+    /// was. `None`: each value was taken out.
+    pub fn next_with_room(&mut self) -> Option<Returned<'c, J, T>>
+        ensures which { MatchOption result (self.old.removals.items ≡ [])
+            (λ back. map (λ r. r.name) self.old.removals.items
+            ≡ map (λ r. r.name) self.new.removals.items ++ back.name ∷ []) }
+    {
+        match self.removals.pop() {
+            Some(removal) => Some(removal.take(&mut self.watch)),
+            None => None,
+        }
+    }
+}

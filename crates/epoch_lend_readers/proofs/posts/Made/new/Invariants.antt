@@ -1,6 +1,0 @@
-use Rattle.std.proofs.Common.{◌≡◌, map}
-use Rattle.epoch_lend_readers.specs.Sets.{names_of}
-use Rattle.epoch_lend_readers.proofs.posts.Made.new.Given as goal
-
-abbrev pub invariant-loop : goal.invariant-loop
-invariant-loop l = map names_of l.rights.items ≡ l.posts.items

@@ -1,8 +1,0 @@
-//! Readers, which pin at the posts of a set, and the values that are lent to their guards by one plain load. No call
-//! asks for what its caller can't test.
-#![tactic(auto)]
-
-pub mod posts;
-pub mod reader;
-pub mod session;
-pub mod value;

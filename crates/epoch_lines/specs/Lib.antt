@@ -1,4 +1,0 @@
-pub mod Words
-pub mod Accesses
-pub mod Lines
-pub mod Sizes

@@ -1,0 +1,2 @@
+mod StackNodes
+mod QueueNodes

@@ -1,0 +1,15 @@
+pub mod StackGiving
+pub mod QueueGiving
+pub mod Owning
+pub use Rattle.epoch_lend_nodes.specs.Gathering
+pub use Rattle.epoch_lend_nodes.specs.Lending
+pub use Rattle.epoch_lend_nodes.specs.Moving
+pub use Rattle.epoch_lend_nodes.specs.Nodes
+pub use Rattle.epoch_lend_nodes.specs.Taking
+pub use Rattle.epoch_structure_calls.specs.Paths
+pub use Rattle.epoch_structure_calls.specs.StackCalls
+pub use Rattle.epoch_structure_calls.specs.QueueCalls
+pub use Rattle.epoch_structure_laws.specs.StackProgram
+pub use Rattle.epoch_structure_laws.specs.StackRuns
+pub use Rattle.epoch_structure_laws.specs.QueueProgram
+pub use Rattle.epoch_structure_laws.specs.QueueValues

@@ -1,0 +1,25 @@
+-- What a push and a pop give their caller, by what the program of the queue answers.
+use Rattle.std.specs.Prelude.{◌≡◌, Option, Some, None, Result, Ok, Err, IsOk, IsErr, IsSome, IfOk, IfErr}
+use Rattle.epoch_cells.specs.declared.fault.Fault.{Fault}
+use Rattle.epoch_cells.specs.declared.fault.Fault.TheVariants.{TriesOut as NoTry}
+use Rattle.epoch_cells.specs.declared.fault.Refused.{Refused}
+use Rattle.epoch_structure_laws.specs.declared.queue.plan.QueueAnswer.{QueueAnswer}
+use Rattle.epoch_structure_laws.specs.declared.queue.plan.QueueAnswer.TheVariants.{Pushed, Popped, PoppedLeaking, Empty}
+use Rattle.epoch_structure_laws.specs.declared.queue.plan.QueueAnswer.TheVariants.{CellsFull, BagsFull}
+use Rattle.epoch_structure_calls.specs.Refusals.{place_fault, room_fault}
+
+-- A push of this node that is refused hands it back, unless it lost all its tries.
+abbrev pub GivesQueuePush : {V : Type 0} → V → QueueAnswer → Option Fault → Result (Unit {0}) (Refused (Option V))
+    → Type 0
+GivesQueuePush node Pushed refused given = IsOk given
+GivesQueuePush node BagsFull refused given = given ≡ Err (record { fault = room_fault refused; value = Some node })
+GivesQueuePush node CellsFull refused given = given ≡ Err (record { fault = place_fault refused; value = Some node })
+GivesQueuePush node answer refused given = IsErr given × IfErr given (λ back. back.fault ≡ NoTry)
+
+-- A pop gives a node where its program answers a value.
+abbrev pub GivesQueuePop : {R : Type 0} → QueueAnswer → Option Fault → Result (Option R) Fault → Type 0
+GivesQueuePop (Popped value) refused given = IsOk given × IfOk given (λ popped. IsSome popped)
+GivesQueuePop (PoppedLeaking value) refused given = IsOk given × IfOk given (λ popped. IsSome popped)
+GivesQueuePop Empty refused given = given ≡ Ok None
+GivesQueuePop BagsFull refused given = given ≡ Err (room_fault refused)
+GivesQueuePop answer refused given = given ≡ Err NoTry

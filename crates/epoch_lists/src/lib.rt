@@ -1,0 +1,11 @@
+//! A stack and a queue for threads, whose nodes are lent: a look at a node writes nothing.
+#![tactic(auto)]
+
+mod owned;
+pub mod queue;
+pub mod stack;
+
+pub use epoch_lend_nodes::{Gathers, LentNode, ListNode};
+pub use owned::OwnedNode;
+pub use queue::LendingQueue;
+pub use stack::LendingStack;

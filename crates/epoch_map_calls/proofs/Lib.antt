@@ -1,6 +1,0 @@
-pub mod Fitting
-mod HandInHand
-mod Looking
-mod Passing
-mod Strides
-mod Telling

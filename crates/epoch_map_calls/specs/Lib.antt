@@ -1,2 +1,0 @@
-pub mod MapCalls
-pub mod Ranks

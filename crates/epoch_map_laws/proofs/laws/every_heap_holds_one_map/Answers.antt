@@ -1,5 +1,0 @@
-use Rattle.epoch_map_laws.proofs.laws.every_heap_holds_one_map.Goals as goal
-use Rattle.epoch_map_laws.proofs.MapLists.{every_heap_holds_one_map}
-
-pub returns : goal.returns
-returns c = every_heap_holds_one_map

@@ -1,3 +1,0 @@
-pub mod Map
-pub mod MapDeeds
-pub mod MapEntries

@@ -1,2 +1,0 @@
-pub mod AloneRuns
-pub mod ToldRuns

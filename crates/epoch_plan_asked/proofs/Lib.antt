@@ -1,2 +1,0 @@
-pub mod AskedReady
-pub mod AnyReplies

@@ -1,3 +1,0 @@
-pub mod PlansListed
-pub mod PlanSteps
-pub mod PlanRunsTold

@@ -1,5 +1,0 @@
-mod Standing
-mod Pushing
-mod Popping
-mod Walks
-mod Told

@@ -1,4 +1,0 @@
-mod Fitting
-mod NextPhases
-mod Telling
-mod Tries

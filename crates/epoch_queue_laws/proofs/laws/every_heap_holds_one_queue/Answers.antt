@@ -1,5 +1,0 @@
-use Rattle.epoch_queue_laws.proofs.laws.every_heap_holds_one_queue.Goals as goal
-use Rattle.epoch_queue_laws.proofs.OneQueue.{every_heap_holds_one_queue}
-
-pub returns : goal.returns
-returns c = every_heap_holds_one_queue

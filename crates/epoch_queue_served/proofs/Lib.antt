@@ -1,4 +1,0 @@
-pub mod QueueServes
-pub mod PushThenPop
-pub mod LonePhases
-pub mod LoneRuns

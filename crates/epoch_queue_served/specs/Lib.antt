@@ -1,2 +1,0 @@
-pub mod QueueServed
-pub mod Lone

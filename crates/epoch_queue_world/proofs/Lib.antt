@@ -1,3 +1,0 @@
-pub mod QueueAsked
-pub mod LoneSteps
-pub mod TwoRoots

@@ -1,5 +1,0 @@
-use Rattle.epoch_reach_laws.proofs.laws.some_run_loses_reach.Goals as goal
-use Rattle.epoch_reach_laws.proofs.ReachLost.{some_run_loses}
-
-pub returns : goal.returns
-returns c = some_run_loses

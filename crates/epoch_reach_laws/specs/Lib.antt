@@ -1,4 +1,0 @@
-pub mod Reach
-pub mod Given
-pub mod Removals
-pub mod Standing

@@ -1,4 +1,0 @@
-mod LoneWorld
-mod LoneCalls
-mod ThreeRounds
-mod ListedSteps

@@ -1,2 +1,0 @@
-pub mod StackCalls
-pub mod Trying

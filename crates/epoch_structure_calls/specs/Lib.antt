@@ -1,0 +1,10 @@
+pub mod Paths
+pub mod Linking
+pub mod Touching
+pub mod StackCalls
+pub mod StackTrying
+pub mod QueueCalls
+pub mod QueueTrying
+pub mod MapCalls
+pub mod Ranks
+pub mod Refusals

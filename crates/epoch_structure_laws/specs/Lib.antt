@@ -1,0 +1,12 @@
+pub mod StackProgram
+pub mod StackRuns
+pub mod StackLedger
+pub mod StackAlone
+pub mod QueueProgram
+pub mod QueueValues
+pub mod QueueDeeds
+pub mod QueueReplies
+pub mod QueueAlone
+pub mod MapProgram
+pub mod MapDeeds
+pub mod MapEntries

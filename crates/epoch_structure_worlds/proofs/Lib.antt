@@ -1,0 +1,11 @@
+pub mod PlansListed
+pub mod PlanSteps
+pub mod PlanRunsTold
+pub mod AskedReady
+pub mod AnyReplies
+pub mod OneRoot
+pub mod LoneSteps
+pub mod QueueAsked
+pub mod QueueWorldLoneSteps
+pub mod TwoRoots
+pub mod MapWorldAnyReplies

@@ -1,0 +1,13 @@
+//! A stack, a queue and a map in a world, one step at a time, and worlds of any program of phases.
+#![tactic(auto)]
+
+pub mod map;
+pub mod plans;
+pub mod queue;
+pub mod stack;
+
+pub use epoch_plans::{PhaseMachine, Plan, Wish, Works};
+pub use map::MapWorld;
+pub use plans::{PlainCall, PlanReply, PlanStep, PlanWorld};
+pub use queue::QueueWorld;
+pub use stack::StackWorld;

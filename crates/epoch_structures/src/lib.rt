@@ -1,6 +1,0 @@
-//! What a structure of your own asks of the handles and guards that its calls are given.
-#![tactic(auto)]
-
-mod serving;
-
-pub use serving::{is_under, serves};

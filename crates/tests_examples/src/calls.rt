@@ -1,0 +1,53 @@
+//! Calls on collectors, handles and guards as the tests make them, and what they have to answer. A comparison stands
+//! here once: written out in a test, it would be proved beside all that the test owns.
+use epoch::{Capacities, Collector, Guard, LocalHandle};
+use std::alloc::Global;
+use std::fmt::Debug;
+use std::process::Abort;
+
+/// Both are equal. `what` says what was seen.
+pub(crate) fn want<T: PartialEq + Debug + Drop>(rt: &impl Abort, what: &str, seen: T, wanted: T) {
+    assert_eq!(rt; seen, wanted, "{what}");
+}
+
+/// A collector with these capacities.
+pub(crate) fn collector<T: Drop>(
+    rt: &impl Abort,
+    alloc: Global,
+    capacities: Capacities,
+) -> Collector<T> {
+    assert!(rt; capacities.is_valid(), "the capacities are in their ranges");
+    Collector::new(alloc, capacities, 1).expect(rt, "memory for a collector")
+}
+
+/// A new participant, for which a position is free.
+pub(crate) fn register<'c, T: Drop>(
+    rt: &impl Abort,
+    collector: &'c Collector<T>,
+) -> LocalHandle<'c, T> {
+    collector.register().expect(rt, "a free position")
+}
+
+/// Pins the handle.
+pub(crate) fn pin<'c, T: Drop>(rt: &impl Abort, handle: &mut LocalHandle<'c, T>) -> Guard<'c, T> {
+    assert!(rt; handle.can_pin(), "a further guard can be counted");
+    handle.pin()
+}
+
+/// Spends a guard of the handle.
+pub(crate) fn unpin<'c, T: Drop>(
+    rt: &impl Abort,
+    handle: &mut LocalHandle<'c, T>,
+    guard: Guard<'c, T>,
+) {
+    assert!(rt; handle.owns(&guard), "the guard is one of the handle");
+    handle.unpin(guard);
+}
+
+/// Releases the handle, whose bag finds a place.
+pub(crate) fn release<T: Drop>(rt: &impl Abort, handle: LocalHandle<'_, T>) {
+    assert!(rt; handle.guards_out() == 0, "each guard is spent");
+    if let Err((_back, fault)) = handle.release() {
+        panic!(rt; "{fault}");
+    }
+}

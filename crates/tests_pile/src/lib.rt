@@ -1,7 +1,0 @@
-//! A third store of bags, beside those of `epoch_bags`, for tests: a pile, which looks first at the bag that was put
-//! last.
-#![tactic(auto)]
-
-mod pile;
-
-pub use pile::Pile;

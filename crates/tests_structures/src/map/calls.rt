@@ -1,0 +1,131 @@
+//! Calls on a map of numbers as the tests make them, and what they have to answer.
+use crate::lending::{Handle, Pin, Told, pin, rounds, unpin};
+use crate::wants::want;
+use epoch_cells::{Fault, Refused};
+use epoch_lend::readers::posts::PostSet;
+use epoch_map::{LendingMap, LentEntry};
+use std::process::Abort;
+
+/// A node of the maps.
+pub(crate) type Node = LentEntry<u64, u64>;
+
+/// A map of such nodes.
+pub(crate) type Map<'c, J> = LendingMap<'c, J, Node>;
+
+/// A call on a map, with a key, and a value for an insert.
+#[derive(Clone, Copy)]
+pub(crate) enum Call {
+    Insert(u64, u64),
+    Remove(u64),
+    Get(u64),
+    GetHelping(u64),
+}
+
+/// A call in at most this many moves, and what it answers.
+pub(crate) type Row = (Call, u32, Told);
+
+/// Calls under one guard, and how many rounds are made after its unpin.
+pub(crate) type Pinned = (&'static [Row], u32);
+
+/// What a call answered that lends a node: the node's value.
+fn value_of(found: Result<Option<&Node>, Fault>) -> Told {
+    match found {
+        Ok(Some(node)) => Ok(Some(*node.value())),
+        Ok(None) => Ok(None),
+        Err(fault) => Err(fault),
+    }
+}
+
+/// What an insert of this value answered. A refused one hands the node back, unless all moves were used up.
+fn told(
+    rt: &impl Abort,
+    value: u64,
+    inserted: Result<Option<&Node>, Refused<Option<Node>>>,
+) -> Told {
+    match inserted {
+        Ok(there) => value_of(Ok(there)),
+        Err(Refused { fault, value: back }) => {
+            let wanted = if fault == Fault::TriesOut {
+                None
+            } else {
+                Some(value)
+            };
+            let back = back.map(|node| node.into_parts().1);
+            want(rt, "the value that comes back", back, wanted);
+            Err(fault)
+        }
+    }
+}
+
+/// What the call answers in at most this many moves.
+pub(crate) fn answer<'d, 'q, 's, J: PostSet>(
+    rt: &impl Abort,
+    map: &Map<'_, J>,
+    handle: &mut Handle<'d, 'q, 's, J, Node>,
+    guard: &Pin<'d, 'q, 's, J, Node>,
+    (call, moves): (Call, u32),
+) -> Told {
+    match call {
+        Call::Insert(key, value) => {
+            let inserted = map.insert(handle, guard, LentEntry::new(key, value), moves);
+            told(rt, value, inserted)
+        }
+        Call::Remove(key) => value_of(map.remove(handle, guard, &key, moves)),
+        Call::Get(key) => value_of(map.get(guard, &key, moves)),
+        Call::GetHelping(key) => value_of(map.get_helping(handle, guard, &key, moves)),
+    }
+}
+
+/// What `contains` says where a look-up answers this.
+fn is_there(wanted: Told) -> Result<bool, Fault> {
+    match wanted {
+        Ok(found) => Ok(found.is_some()),
+        Err(fault) => Err(fault),
+    }
+}
+
+/// The call answers so. A look-up that helps does too, and what `contains` says agrees.
+pub(crate) fn want_row<'d, 'q, 's, J: PostSet>(
+    rt: &impl Abort,
+    map: &Map<'_, J>,
+    handle: &mut Handle<'d, 'q, 's, J, Node>,
+    guard: &Pin<'d, 'q, 's, J, Node>,
+    (call, moves, wanted): Row,
+) {
+    let seen = answer(rt, map, handle, guard, (call, moves));
+    want(rt, "a call on a map", seen, wanted);
+    if let Call::Get(key) = call {
+        let helping = (Call::GetHelping(key), moves);
+        let helped = answer(rt, map, handle, guard, helping);
+        want(rt, "a look-up that helps", helped, wanted);
+        let there = map.contains(guard, &key, moves);
+        want(rt, "whether the key is there", there, is_there(wanted));
+    }
+}
+
+/// These calls under a pin of their own answer so.
+pub(crate) fn want_rows<J: PostSet>(
+    rt: &impl Abort,
+    map: &Map<'_, J>,
+    handle: &mut Handle<'_, '_, '_, J, Node>,
+    rows: &[Row],
+) {
+    let guard = pin(rt, handle);
+    for row in rows {
+        want_row(rt, map, handle, &guard, *row);
+    }
+    unpin(rt, handle, guard);
+}
+
+/// All these calls answer so.
+pub(crate) fn want_pins<J: PostSet>(
+    rt: &impl Abort,
+    map: &Map<'_, J>,
+    handle: &mut Handle<'_, '_, '_, J, Node>,
+    pins: &[Pinned],
+) {
+    for (rows, count) in pins {
+        want_rows(rt, map, handle, rows);
+        rounds(rt, handle, *count);
+    }
+}
