@@ -1,7 +1,6 @@
 //! `epoch-run queue N K`: N threads that push and pop over one queue, K times each.
 ghost use Rattle.std.specs.Prelude.{◌≡◌, IsSome};
 
-use crate::sharing::{Structure, start_all};
 use crate::tally::{Popped, TRIES, Tally};
 use epoch_cells::Fault;
 use epoch_handles::{Capacities, Collector};
@@ -16,6 +15,7 @@ use epoch_script::Size;
 use std::alloc::Global;
 use std::marker::Brand;
 use std::sync::Wait;
+use std::thread;
 use std::thread::Threads;
 
 /// A node of the queue: its value, and the pointer to the node behind it.
@@ -23,13 +23,6 @@ type Link = ListNode<u64>;
 
 /// The collector of the nodes.
 type Nodes<'q, 's, J> = Collector<Link, Marking<'q, 's, J, Link>>;
-
-/// What a thread registers with: the lender of the nodes, and their collector.
-#[derive(Drop)]
-struct Lending<'c, 'q, 's, J: PostSet> {
-    lender: &'q Lender<'s, J, Link>,
-    collector: &'c Nodes<'q, 's, J>,
-}
 
 /// A whole run: makes the queue and what it stands on, has all threads push and pop, and ends the collector and the
 /// lender. `None` where anything was refused.
@@ -68,38 +61,36 @@ fn run_over<R: Threads + Wait + Sync, J: PostSet + Send + Sync>(
         return None;
     };
     let tally = Tally::new();
-    let lending = Lending {
-        lender: &lender,
-        collector: &collector,
-    };
-    share_queue(rt, alloc, lending, size, &tally);
+    share_queue(rt, alloc, &lender, &collector, size, &tally);
     let _ = collector.end();
     let _ = lender.end(alloc);
     tally.popped()
 }
 
 /// Makes the queue, and has all threads push and pop.
-fn share_queue<R: Threads + Wait + Sync, J: PostSet + Send + Sync>(
+fn share_queue<'q, 's, R: Threads + Wait + Sync, J: PostSet + Send + Sync>(
     rt: &R,
     alloc: Global,
-    lending: Lending<'_, '_, '_, J>,
+    lender: &'q Lender<'s, J, Link>,
+    collector: &Nodes<'q, 's, J>,
     size: Size,
     tally: &Tally,
 ) {
-    match queue_of(rt, alloc, &lending, tally) {
-        Some(queue) => start_all(rt, alloc, &lending, &queue, size, tally),
+    match queue_of(rt, alloc, lender, collector, tally) {
+        Some(queue) => start_all(rt, alloc, lender, collector, &queue, size, tally),
         None => tally.refuse(),
     }
 }
 
 /// Makes an empty queue, with a participant of its own.
-fn queue_of<'c, R: Wait, J: PostSet>(
+fn queue_of<'c, 'q, 's, R: Wait, J: PostSet>(
     rt: &R,
     alloc: Global,
-    lending: &Lending<'c, '_, '_, J>,
+    lender: &'q Lender<'s, J, Link>,
+    collector: &'c Nodes<'q, 's, J>,
     tally: &Tally,
 ) -> Option<LendingQueue<'c, J, Link>> {
-    let Ok(mut handle) = LendingHandle::register(alloc, lending.collector, lending.lender) else {
+    let Ok(mut handle) = LendingHandle::register(alloc, collector, lender) else {
         return None;
     };
     let guard = handle.pin();
@@ -109,30 +100,44 @@ fn queue_of<'c, R: Wait, J: PostSet>(
     queue.ok()
 }
 
-impl<'c, 'q, 's, 'd, J: PostSet + Send + Sync> Structure<Lending<'c, 'q, 's, J>>
-    for LendingQueue<'d, J, Link> {
-    fn take_part<R: Wait>(
-        &self,
-        rt: &R,
-        alloc: Global,
-        lending: &Lending<'c, 'q, 's, J>,
-        values: (u64, u64),
-        tally: &Tally,
-    ) {
-        participate(rt, alloc, lending, self, values, tally);
-    }
+/// Starts all threads, and comes back when they are done.
+///
+/// The lender, the collector and the queue are parameters of their own, so that each is shown by itself to be what
+/// threads may share: all at once are more than the checker finds by itself.
+fn start_all<'q, 's, R: Threads + Wait + Sync, J: PostSet + Send + Sync>(
+    rt: &R,
+    alloc: Global,
+    lender: &'q Lender<'s, J, Link>,
+    collector: &Nodes<'q, 's, J>,
+    queue: &LendingQueue<'_, J, Link>,
+    size: Size,
+    tally: &Tally,
+) {
+    thread::scope(thread::scope_env(), rt, move |scope| {
+        for thread in 0..size.threads {
+            // At most 63 times 64.
+            let values = (thread.wrapping_mul(size.rounds), size.rounds);
+            let started = scope.spawn(move || participate(
+                rt, alloc, lender, collector, queue, values, tally,
+            ));
+            if started.is_err() {
+                tally.refuse();
+            }
+        }
+    });
 }
 
 /// One thread: registers, does a round for each of its values, and releases.
-fn participate<R: Wait, J: PostSet>(
+fn participate<'q, 's, R: Wait, J: PostSet>(
     rt: &R,
     alloc: Global,
-    lending: &Lending<'_, '_, '_, J>,
+    lender: &'q Lender<'s, J, Link>,
+    collector: &Nodes<'q, 's, J>,
     queue: &LendingQueue<'_, J, Link>,
     (first, rounds): (u64, u64),
     tally: &Tally,
 ) {
-    let Ok(mut handle) = LendingHandle::register(alloc, lending.collector, lending.lender) else {
+    let Ok(mut handle) = LendingHandle::register(alloc, collector, lender) else {
         tally.refuse();
         return;
     };
