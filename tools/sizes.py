@@ -50,7 +50,7 @@ def lemmas(lines):
 
 
 def functions(lines):
-    """Returns each function's name, where it begins, and how many lines stand between its braces."""
+    """Returns each function that has a body: its name, where it begins, and how many lines stand between its braces."""
     for start, line in enumerate(lines):
         found = FUNCTION.match(line)
         if not found:
@@ -58,6 +58,8 @@ def functions(lines):
         # The head ends at a brace of the function's own, or at a semicolon where it has no body.
         ends = re.compile(rf"{found[1]}(?:[{{)].*)?(\{{|\{{\}})$|.*;$")
         last = start if line.endswith(("{", "}", ";")) else next(it for it in range(start + 1, len(lines)) if ends.match(lines[it]))
+        if lines[last].endswith(";"):
+            continue
         closed = last + 1
         if lines[last].endswith("{"):
             closed = next(it for it in range(last, len(lines)) if lines[it] == f"{found[1]}}}")
@@ -91,8 +93,10 @@ def faults(crate):
     if count > most_functions:
         yield f"{crate}: {count} functions, and not at most {most_functions}"
     most_lines = LINES_A_CRATE_OF_TESTS if is_of_tests else LINES_A_CRATE
-    if sum(map(len, code.values())) > most_lines:
-        yield f"{crate}: {sum(map(len, code.values()))} lines of code, and not at most {most_lines}"
+    # (blank lines don't count)
+    lines_of_code = sum(1 for lines in code.values() for line in lines if line.strip())
+    if lines_of_code > most_lines:
+        yield f"{crate}: {lines_of_code} lines of code, and not at most {most_lines}"
 
 
 def main():

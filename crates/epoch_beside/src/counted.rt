@@ -1,13 +1,14 @@
 //! Rounds on a collector whose values are read by counts.
 use crate::counted_idle::{CountedIdle, CountedWork};
-use crate::rounds::{Round, RoundSize, all_rounds};
+use crate::rounds::{Round, RoundSize, all_rounds, take_part};
+use crate::timer::RoundTimer;
 use epoch::atomic::Atomic;
 use epoch::{Capacities, Collector, unprotected};
 use std::alloc::Global;
-use std::io;
 use std::sync::Wait;
 use std::thread::Threads;
 use std::time::Clock;
+use std::{io, thread};
 
 /// Cells of a collector.
 const CELLS: u32 = 4_096;
@@ -99,6 +100,79 @@ impl<'c, 'w> Round for CountedRound<'c, 'w> {
     }
 }
 
+/// One thread's part of a round.
+fn take_counted_part<R: Clock + Wait>(
+    rt: &R,
+    alloc: Global,
+    size: RoundSize,
+    collector: &Collector<u64>,
+    pointer: &Atomic<u64>,
+    work: CountedWork,
+    timer: &RoundTimer,
+) {
+    let round = CountedRound {
+        alloc,
+        collector,
+        pointer,
+        work,
+    };
+    take_part(rt, size, &round, timer);
+}
+
+/// What the threads of a round do with a collector and with what else they share.
+///
+/// The two are parameters, so that each is shown by itself to be what threads may share: both at once, beside all else
+/// that a thread takes, are more than the checker finds by itself.
+trait Shared<C: Sync>: Sync {
+    /// Does one thread's work.
+    fn take_part<R: Clock + Wait>(
+        &self,
+        rt: &R,
+        alloc: Global,
+        size: RoundSize,
+        collector: &C,
+        timer: &RoundTimer,
+    );
+}
+
+/// The pointer of a row, and what is done with it.
+#[derive(Drop)]
+struct PointerWork<'w> {
+    pointer: &'w Atomic<u64>,
+    work: CountedWork,
+}
+
+impl<'w> Shared<Collector<u64>> for PointerWork<'w> {
+    fn take_part<R: Clock + Wait>(
+        &self,
+        rt: &R,
+        alloc: Global,
+        size: RoundSize,
+        collector: &Collector<u64>,
+        timer: &RoundTimer,
+    ) {
+        take_counted_part(rt, alloc, size, collector, self.pointer, self.work, timer);
+    }
+}
+
+fn on_threads<R: Clock + Threads + Wait + Sync, C: Sync, S: Shared<C>>(
+    rt: &R,
+    alloc: Global,
+    size: RoundSize,
+    collector: &C,
+    shared: &S,
+    timer: &RoundTimer,
+) {
+    thread::scope(thread::scope_env(), rt, move |scope| {
+        for _ in 0..size.threads {
+            let made = scope.spawn(move || shared.take_part(rt, alloc, size, collector, timer));
+            if made.is_err() {
+                timer.miss();
+            }
+        }
+    });
+}
+
 fn rounds_on<R: Clock + Threads + Wait + Sync>(
     rt: &R,
     alloc: Global,
@@ -108,13 +182,22 @@ fn rounds_on<R: Clock + Threads + Wait + Sync>(
     times: &mut [u64],
 ) -> u64 {
     let pointer = pointer_to(alloc, collector);
-    let round = CountedRound {
-        alloc,
-        collector,
+    let shared = PointerWork {
         pointer: &pointer,
         work,
     };
-    all_rounds(rt, size, &round, times)
+    let mut done = 0;
+    for time in times {
+        let timer = RoundTimer::new();
+        if size.threads == 1 {
+            shared.take_part(rt, alloc, size, collector, &timer);
+        } else {
+            on_threads(rt, alloc, size, collector, &shared, &timer);
+        }
+        *time = timer.each(size.turns);
+        done = timer.done();
+    }
+    done
 }
 
 /// Makes rounds of work on one pointer.

@@ -13,7 +13,7 @@ pub struct RoundSize {
 }
 
 /// What the threads of a round share, and what each does with a participant of its own.
-pub trait Round: Sync {
+pub trait Round {
     /// What a thread has for itself.
     type Participant;
 
@@ -37,7 +37,12 @@ pub fn found<V, E>(popped: &Result<Option<V>, E>) -> u64 {
 }
 
 /// One thread's part of a round.
-fn take_part<R: Clock + Wait, S: Round>(rt: &R, size: RoundSize, round: &S, timer: &RoundTimer) {
+pub fn take_part<R: Clock + Wait, S: Round>(
+    rt: &R,
+    size: RoundSize,
+    round: &S,
+    timer: &RoundTimer,
+) {
     let mut participant = round.register();
     let start = timer.begin(rt, size.threads);
     let done = match &mut participant {
@@ -50,7 +55,7 @@ fn take_part<R: Clock + Wait, S: Round>(rt: &R, size: RoundSize, round: &S, time
     }
 }
 
-fn on_threads<R: Clock + Threads + Wait + Sync, S: Round>(
+fn on_threads<R: Clock + Threads + Wait + Sync, S: Round + Sync>(
     rt: &R,
     size: RoundSize,
     round: &S,
@@ -67,7 +72,7 @@ fn on_threads<R: Clock + Threads + Wait + Sync, S: Round>(
 }
 
 /// Makes as many rounds as there are times, and returns how many turns of the last one did what they should.
-pub fn all_rounds<R: Clock + Threads + Wait + Sync, S: Round>(
+pub fn all_rounds<R: Clock + Threads + Wait + Sync, S: Round + Sync>(
     rt: &R,
     size: RoundSize,
     round: &S,
