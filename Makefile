@@ -3,7 +3,7 @@ ARGS ?= queue 3 4
 
 PICTURES = grace stall full held queue
 
-.PHONY: help run threads try draw pictures map test refute take beside beside-histories
+.PHONY: help run threads try draw pictures pages words test refute take beside beside-histories rivals
 
 help:
 	@echo 'make try      compiles what runs a script, and runs it; proves nothing              20 s, then 1 s'
@@ -16,18 +16,23 @@ help:
 	@echo '              from scratch each time                                               80 min and more'
 	@echo 'make refute   tries the other wrong bodies, those of crates/*/refuted             an hour and more'
 	@echo 'make pictures draws the pictures of the documents anew                                        30 s'
-	@echo 'make map      writes the map of the crates into docs/ARCHITECTURE.md anew                      1 s'
+	@echo 'make pages    writes the pages that follow from the sources: README.md of each crate, the'
+	@echo '              map in docs/ARCHITECTURE.md and the tables in docs/PROMISES.md                1 s'
+	@echo 'make words    says how many words the pages have that are written by hand                   1 s'
 	@echo 'make take     copies the crates WHAT, and what they stand on, into the repository TO       seconds'
 	@echo 'make beside   times this library and crossbeam-epoch in turn; beside/README.md'
 	@echo '              says what must be installed                                       25 min, then 5 min'
 	@echo 'make beside-histories  gives random scripts to both, and compares which jobs they call'
 	@echo '                                                            15 min, then 72 s for 10,000,000 LINES'
+	@echo 'make rivals   times this library and what a user would pick instead in turn; beside/README.md'
+	@echo '              says what must be installed                                       25 min, then 3 min'
 	@echo
 	@echo 'INPUT=FILE    the script of try, run and draw, instead of crates/epoch_run_script/stdin'
 	@echo "ARGS='WORDS'  the arguments of threads, instead of 'queue 3 4'"
 	@echo "WHAT='CRATES' TO=FOLDER   what take copies, and where to"
 	@echo 'CRATE=NAME    the crate of refute, instead of all'
-	@echo 'ROWS=REGEX THREADS=1,4 PASSES=10    which rows beside measures, and how often'
+	@echo 'ROWS=REGEX THREADS=1,4 PASSES=10    which rows beside and rivals measure, and how often'
+	@echo 'SIDES=REGEX                         which sides rivals measures'
 	@echo 'LINES=N SEED=S                      how long the scripts of beside-histories are, and which'
 	@echo 'Times are of a first run and of later ones, on 4 slow processors; docs/PERFORMANCE.md says what they depend on.'
 
@@ -35,7 +40,12 @@ ifeq ($(shell command -v rt),)
 $(error rt, the command of the Rattle toolchain, is missing: put its folder on PATH)
 endif
 
+# What a recipe begins with that reads INPUT.
+READABLE = test -r "$(INPUT)" && test ! -d "$(INPUT)" \
+	|| { echo 'There is no script to read: INPUT is "$(INPUT)", and should be the name of a file that can be read.' >&2; exit 2; }
+
 run:
+	@$(READABLE)
 	@echo 'The first run proves all that a script needs, which takes minutes. Later ones take seconds.' >&2
 	@script=$$(realpath "$(INPUT)") && tools/prove.py epoch_run_script && cd crates/epoch_run_script && rt run < "$$script"
 
@@ -44,9 +54,11 @@ threads:
 	@tools/prove.py epoch_run && cd crates/epoch_run && rt run -- $(ARGS)
 
 try:
+	@$(READABLE)
 	@tools/try.py epoch_run_script < "$(INPUT)"
 
 draw:
+	@$(READABLE)
 	@mkdir -p out
 	@if tools/try.py epoch_draw < "$(INPUT)" > out/run.svg.part; then mv out/run.svg.part out/run.svg; \
 	  else status=$$?; rm -f out/run.svg.part; exit $$status; fi
@@ -57,8 +69,11 @@ pictures:
 	  $(MAKE) -s draw INPUT=crates/tests_draw/data/$$name.txt && cp out/run.svg crates/tests_draw/data/$$name.svg && cp out/run.svg docs/pictures/$$name.svg || exit 1; \
 	done
 
-map:
-	@tools/map.py
+pages:
+	@tools/pages.py
+
+words:
+	@tools/pages.py --words
 
 test:
 	@for name in $(PICTURES); do cmp crates/tests_draw/data/$$name.svg docs/pictures/$$name.svg || exit 1; done
@@ -67,7 +82,7 @@ test:
 	@tools/quotes.py
 	@tools/names.py
 	@tools/take.py --test
-	@tools/map.py --check
+	@tools/pages.py --check
 	@tools/sizes.py
 	@tools/gate.py
 
@@ -82,3 +97,6 @@ beside:
 
 beside-histories:
 	@tools/beside.py histories
+
+rivals:
+	@tools/rivals.py

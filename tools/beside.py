@@ -6,7 +6,7 @@ usage: tools/beside.py table|histories    at the top of the repository
 It proves and builds the library's programs, builds the folder beside/ with cargo, which it keeps offline, and runs both.
 The environment says more. ORIGINAL: a checkout of crossbeam or of its crate crossbeam-epoch, in place of Debian's
 package. For the table, ROWS: a regular expression over whole names; THREADS, as 1,4; PASSES. For the histories, LINES
-and SEED.
+and SEED. A whole table, of all rows, is written into docs/PERFORMANCE.md, too.
 """
 import os
 import re
@@ -17,6 +17,7 @@ import time
 
 DEBIAN = "/usr/share/cargo/registry"
 BUILT = "out/beside"
+PAGE, FIRST, LAST = "docs/PERFORMANCE.md", "<!-- by make beside, from here -->\n", "<!-- to here -->\n"
 ROUNDS = 12
 HOW = f"""crossbeam-epoch isn't in {DEBIAN}. On Debian or Ubuntu it is installed by
     apt-get update && apt-get install librust-crossbeam-epoch-dev
@@ -94,6 +95,15 @@ def least(words, turns):
     return float(fields[2]), "" if fields[4:5] == fields[6:7] else f"  {' '.join(fields[4:])} turns"
 
 
+def keep(lines):
+    """Writes the table into its page, between the two marks."""
+    with open(PAGE, encoding="utf-8") as file:
+        before, mark, rest = file.read().partition(FIRST)
+    if mark:
+        with open(PAGE, "w", encoding="utf-8") as file:
+            file.write(f"{before}{mark}\n{''.join(f'    {line}' + chr(10) for line in lines)}\n{LAST}{rest.partition(LAST)[2]}")
+
+
 def table():
     beside, version = build_original()
     wanted = setting("ROWS", ".*")
@@ -102,21 +112,23 @@ def table():
     rows = [row for row in rows if re.fullmatch(wanted, row[0])]
     port = build_port("epoch_beside")
     heading(version)
-    print(f"{'# name':34} {'threads':>7} {'original':>9} {'port':>9} {'quotient':>8}", flush=True)
-    found = 0
+    lines = [f"{'# name':38} {'threads':>7} {'original':>9} {'port':>9} {'quotient':>8}"]
+    print(lines[0], flush=True)
     for name, all_threads, turns in rows:
         for count in all_threads.split(","):
             if count not in threads:
                 continue
-            found += 1
             best, said = [float("inf")] * 2, ""
             for _ in range(int(setting("PASSES", "10"))):
                 for side, words in enumerate([[beside, "time", name, count], [port, name, count]]):
                     taken, missed = least(words, turns)
                     best[side], said = min(best[side], taken), missed or said
-            print(f"{name:34} {count:>7} {best[0]:9.2f} {best[1]:9.2f} {best[1] / best[0]:8.2f}{said}", flush=True)
-    if not found:
+            lines.append(f"{name:38} {count:>7} {best[0]:9.2f} {best[1]:9.2f} {best[1] / best[0]:8.2f}{said}")
+            print(lines[-1], flush=True)
+    if len(lines) == 1:
         stop(f"no row is named {wanted} and measured on {','.join(threads)} threads")
+    if wanted == ".*":
+        keep(lines)
 
 
 def histories():

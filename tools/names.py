@@ -3,11 +3,14 @@
 
 - A link leads to a file of the repository, and what follows '#' is a heading there.
 - 'Type::call' stands in a file that names the type.
-- A word with two or more underscores is a word of the code, or a file's name; so is one that begins as a crate's name.
+- A word with two or more underscores is a word of the code, of Rust's side beside it too, or a file's name; so is one that
+  begins as a crate's name.
 - In a row of PROMISES.md, a clause stands in a contract of a call that is named in the same cell, a definition in the
   code, and a lemma in a proof. 'S/Name' and 'P/Name' are files in specs/ and proofs/.
 - A row of DIFFERENCES.md that quotes a script's name quotes one that a test has.
 - No two public types of all crates have one name, and no two definitions in specs/.
+- README.md says which crates of the toolchain are trusted: those that the lines of library crates in crates.txt name.
+- WORKING.md has the limits of tools/sizes.py.
 """
 import glob
 import re
@@ -30,6 +33,7 @@ SOURCES = files("src", ".rt")
 SPECS, PROOFS = files("specs", ".antt"), files("proofs", ".antt")
 SOURCE_WORDS = {f: words(t) for f, t in SOURCES.items()}
 CODE = set().union(*SOURCE_WORDS.values(), *map(words, SPECS.values()))
+RUST = set().union(*(words(open(f, encoding="utf-8").read()) for f in glob.glob("beside/**/*.rs", recursive=True)))
 LEMMAS = set().union(*map(words, PROOFS.values()))
 NAMES = words(" ".join([*SOURCES, *SPECS, *PROOFS, *glob.glob("crates/*"), *glob.glob("crates/*/*.txt")]))
 SCRIPTS = "".join(t for f, t in SOURCES.items() if "/tests_" in f)
@@ -78,7 +82,7 @@ def bad_words(text):
             yield f"{owner}::{item} isn't there"
     for word in set(re.findall(rf"`({WORD})`", text)):
         is_long = word.count("_") >= 2 or word.startswith(("epoch_", "tests_")) and not word.endswith("_")
-        if not is_long or not word.islower() or word in CODE or word in LEMMAS or word in NAMES:
+        if not is_long or not word.islower() or word in CODE | RUST | LEMMAS | NAMES:
             continue
         # A text may speak of all tests whose names begin so.
         if not any(known.startswith(word + "_") for known in CODE):
@@ -126,6 +130,27 @@ def doubles():
                 yield f"{len(files)} {what} are named {name}: in {', '.join(files)}"
 
 
+def bad_trust():
+    """Says which crates of the toolchain README.md trusts though no library names them, and which it leaves out."""
+    lines = [line.partition(":") for line in open("crates.txt", encoding="utf-8") if not line.startswith("#") and ":" in line]
+    ours = {name.split()[0] for name, _, _ in lines}
+    libraries = {name.split()[0]: used.split() for name, _, used in lines if glob.glob(f"crates/{name.split()[0]}/src/lib.rt")}
+    named = {it for name, used in libraries.items() if not name.startswith("tests_") for it in used} - ours
+    # (these are parts of the standard library)
+    named -= {"core", "std_alloc"}
+    told = re.search(r"^Trusted: .*$", open("README.md", encoding="utf-8").read(), flags=re.MULTILINE)
+    for word in named ^ set(re.findall(rf"`({WORD})`", told[0] if told else "")):
+        yield f"README.md: the crates of the toolchain that libraries name are {', '.join(sorted(named))}: see {word}"
+
+
+def bad_limits():
+    """Says which limits of tools/sizes.py are not in WORKING.md."""
+    page = open("docs/WORKING.md", encoding="utf-8").read()
+    for name, number in re.findall(r"^([A-Z_]+) = (\d+)$", open("tools/sizes.py", encoding="utf-8").read(), flags=re.MULTILINE):
+        if f"{int(number):,}" not in page:
+            yield f"docs/WORKING.md: {name} of tools/sizes.py is {number}"
+
+
 def main():
     amiss = 0
     for document in DOCUMENTS:
@@ -136,7 +161,7 @@ def main():
         for line in found:
             print(f"{document}: {line}")
         amiss += len(found)
-    named_alike = [*doubles()]
+    named_alike = [*doubles(), *bad_trust(), *bad_limits()]
     print("".join(f"{line}\n" for line in named_alike), end="")
     amiss += len(named_alike)
     print(f"{len(DOCUMENTS)} documents, {amiss} names or links amiss")

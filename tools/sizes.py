@@ -12,7 +12,7 @@ LINES_A_LEMMA = 80
 LINES_A_PROOF_FILE = 800
 LINES_A_BODY = 60
 LINES_A_CRATE = 2500
-FUNCTIONS_A_CRATE = 150
+FUNCTIONS_A_CRATE = 155
 # A crate of tests costs as much before its first test as some twelve functions do, so there are few and large ones.
 LINES_A_CRATE_OF_TESTS = 3800
 FUNCTIONS_A_CRATE_OF_TESTS = 230
@@ -93,8 +93,8 @@ def faults(crate):
     if count > most_functions:
         yield f"{crate}: {count} functions, and not at most {most_functions}"
     most_lines = LINES_A_CRATE_OF_TESTS if is_of_tests else LINES_A_CRATE
-    # (blank lines don't count)
-    lines_of_code = sum(1 for lines in code.values() for line in lines if line.strip())
+    # (neither blank lines nor sentences above clauses count)
+    lines_of_code = sum(1 for lines in code.values() for line in lines if line.strip() and not line.strip().startswith("// "))
     if lines_of_code > most_lines:
         yield f"{crate}: {lines_of_code} lines of code, and not at most {most_lines}"
 

@@ -2,7 +2,7 @@
 """Takes crates along: copies them, and all that they stand on, into a repository of your own.
 
 usage: tools/take.py TO WHAT..    at the top of this repository; TO is the top of yours, WHAT the crates that yours names
-       tools/take.py --test       takes a map into an empty folder, compiles the page of docs/CALLING.md there, and sees
+       tools/take.py --test       takes a map into an empty folder, compiles the page of docs/MAPS.md there, and sees
                                   that what was changed there is left alone
 
 Copies src/, specs/ and proofs/ of each crate, and out/rlib where nothing changed since the crate was proved: then it isn't
@@ -142,25 +142,28 @@ def take(to, what, takes_results=True):
         file.write("\n".join([*own_lines, HEAD, *taken, TAIL]) + "\n")
     left = [it for it in names if it not in with_results]
     minutes = sum(map(work_in, left)) / BYTES_A_SECOND / 60
+    first = "The results of all proofs were copied" if not left else (
+        f"The results of {len(names) - len(left)} proofs were copied. Your first check proves the other {len(left)} crates, "
+        f"in some {minutes:.0f} minutes of one processor"
+    )
     return [
         f"{len(names)} crates are in {to}/crates: {' '.join(names)}",
-        f"{len(with_results)} of them have their proofs' results along. Your first check proves the other {len(left)}, "
-        f"in some {minutes:.0f} minutes of one processor, and then your own crate.",
+        f"{first}, and then your own crate is proved.",
         f"The line of your crate in {to}/crates.txt: my_app: {' '.join(what)}",
     ]
 
 
 def test():
     """Takes a map along, compiles a caller, and sees that a folder which was changed, or isn't ours, stays as it is."""
-    page = re.search(r"<!-- tried by tools/take.py -->\n```rust\n(.*?)```", "\n".join(lines_of("docs/CALLING.md")), re.S)[1]
+    page = re.search(r"<!-- tried by tools/take.py -->\n```rust\n(.*?)```", "\n".join(lines_of("docs/MAPS.md")), re.S)[1]
     with tempfile.TemporaryDirectory() as to:
         take(to, ["epoch"], takes_results=False)
-        print("\n".join(take(to, ["epoch", "epoch_lend_pointers", "epoch_map"], takes_results=False)))
+        print("\n".join(take(to, ["epoch_lend_pointers", "epoch_map"], takes_results=False)))
         os.makedirs(f"{to}/crates/my_app/src")
         with open(f"{to}/crates/my_app/src/main.rt", "w", encoding="utf-8") as file:
             file.write(page)
         with open(f"{to}/crates.txt", "a", encoding="utf-8") as file:
-            file.write("my_app: epoch epoch_lend_pointers epoch_map\n")
+            file.write("my_app: epoch_lend_pointers epoch_map\n")
         ran = subprocess.run(["rt", "try"], cwd=f"{to}/crates/my_app", stdout=subprocess.PIPE, text=True, check=False)
         assert (ran.returncode, ran.stdout.splitlines()[:1]) == (0, ["42"]), ran
         changed = f"{to}/crates/epoch_map/src/lib.rt"

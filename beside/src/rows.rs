@@ -67,6 +67,7 @@ fn rows() -> Vec<Row> {
         row("load_deref_own_cell", &[2, 4], 51_200, own_reads),
         row("pin_load_deref_one_cell", several, 32_000, pinned_reads),
         row("load_get_one_cell", &[1, 4], 51_200, reads),
+        row("pin_renew_look_lending", several, 128_000, pinned_reads),
         row("list_100_contains", &[1, 4], 5_120, walks),
         row("map_100_contains", &[1, 4], 5_120, walks),
         row("pin_unpin_lending", &[1, 4], 64_000, pins),
@@ -86,7 +87,9 @@ fn rows() -> Vec<Row> {
         ),
         row("treiber_push_pop", several, 12_800, pushes),
         row("treiber_push_pop_lending", several, 12_800, pushes),
+        row("treiber_push_pop_renewed", several, 12_800, pushes),
         row("queue_push_pop_lending", several, 12_800, enqueues),
+        row("queue_push_pop_renewed", several, 12_800, enqueues),
         row("register_drop", several, 1_280, registers),
     ]
 }

@@ -49,6 +49,11 @@ SwapsPointer align did becomes before =
     (found : ℕ) × (new : ℕ) × Reads align found before.name before.tag × BecomesWord align becomes new
     × did (Swaps found new)
 
+-- one swap found a word that reads as the pointer before, and left the word of the new one
+abbrev pub SwapsWord : {T : Type 0} → (align : ℕ) → (WordStep → Type 0) → (new before : Shared T) → Type 0
+SwapsWord align did new before =
+    (found : ℕ) × Reads align found before.name before.tag × did (Swaps found (word_for align new))
+
 -- one exchange found the word of the current pointer, and left that of the pointer written, whose tag is below align
 abbrev pub ExchangesPointer : {T : Type 0} → (align : ℕ) → (WordStep → Type 0) → (current written : Shared T) → Type 0
 ExchangesPointer align did current written =

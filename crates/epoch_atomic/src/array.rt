@@ -21,6 +21,8 @@ impl<E: Drop> Array<E> {
     ///
     /// `NoMemory`: an allocation was refused, and nothing was made.
     pub fn new(alloc: Global, len: usize) -> Result<Array<E>, Fault>
+        // An `Array` is a list of elements, each of which is there or not. `get` and `set` do exactly what they say to
+        // one element.
         ensures memory { IsOkUnless result NoMemory }
         ensures length { IfOk result (λ array. vec_len array.elements ≡ len) }
         ensures empty { IfOk result (λ array. (i : ℕ) → i < len → slice_get array.elements.items i ≡ Some None) }

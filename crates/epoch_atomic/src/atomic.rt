@@ -10,6 +10,7 @@ ghost use Rattle.epoch_atomic.specs.WordSteps.{BeginsNamed, BeginsWith, CopiesWo
 ghost use Rattle.epoch_atomic.specs.WordSteps.{LoadsPointer, StoresPointer, SwapsPointer, EndsOwned};
 ghost use Rattle.epoch_atomic.specs.WordSteps.WordStep.{Begins};
 
+mod at_home;
 mod borrow;
 mod destroy;
 mod exchange;
@@ -23,6 +24,7 @@ mod word;
 
 use crate::tag_of;
 pub use crate::{Array, CompareAndSetOrdering, Plain, Pointable};
+use at_home::read_at;
 pub use borrow::{Borrow, BorrowMut};
 pub use destroy::{DeferDestroy, DestroyNow};
 use epoch_cells::{Fault, Refused};
@@ -62,16 +64,13 @@ fn read<'g, T: Pointable, W>(word: u64, guard: &'g Guard<'_, T, W>) -> Shared<'g
     ensures below { result.tag < T.ALIGN }
     ensures home { IsUnder guard.now.collector.now.id result.home }
 {
-    Shared {
-        name: name_in(word),
-        tag: tag_of::<T>((word % 0x100) as usize),
-        home: Some(home_of(guard)),
-    }
+    read_at(word, home_of(guard))
 }
 
 impl<T: Pointable + HasWord<A>, A: SharedWord> Atomic<T, A> {
     /// Makes a null pointer, with tag 0.
     pub fn null() -> Atomic<T, A>
+        // An `Atomic` begins with null, or with the word of the pointer that it is made from.
         ensures did { A.did result.word (Begins 0) }
     {
         Atomic {
@@ -98,6 +97,8 @@ impl<T: Pointable, A: SharedWord> Atomic<T, A> {
         ensures read { IsRead T.ALIGN result.name result.tag }
         ensures below { result.tag < T.ALIGN }
         ensures home { IsUnder guard.now.collector.now.id result.home }
+        // Each call makes the atomic step that its name says, on the word of its `Atomic`. A load is one load, which
+        // found the pointer that is returned.
         ensures did { LoadsPointer T.ALIGN (A.did self.now.word) result.name result.tag }
     {
         self.load(Ordering::Acquire, guard)
@@ -137,7 +138,11 @@ impl<T: Pointable, A: SharedWord> Atomic<T, A> {
         ensures read { IfOk result (λ before. IsRead T.ALIGN before.name before.tag) }
         ensures below { IfOk result (λ before. before.tag < T.ALIGN) }
         ensures home { IfOk result (λ before. IsUnder guard.now.collector.now.id before.home) }
+        // If the cells are full, an owned value comes back exactly as it was. A pointer is never refused.
         ensures full { IfErr result (λ back. P.takes_cell × (back ≡ new)) }
+
+        // A store that is done is one store of the word of the pointer given. A swap that is done is one swap, which
+        // found the previous pointer and left the word of the pointer given.
         ensures did { IfOk result (SwapsPointer T.ALIGN (A.did self.now.word) (P.becomes new)) }
     {
         let word = new.enter_word(guard)?;
@@ -185,7 +190,9 @@ impl<T: Pointable + HasWord<A> + Drop, A: SharedWord> Atomic<T, A> {
         owned: Owned<T>,
         guard: &Guard<'_, T, W>,
     ) -> Result<Atomic<T, A>, Refused<Owned<T>>>
+        // An `Atomic` that is made from a value begins with the word of a name, and of the value's tag.
         ensures did { IfOk result (λ atomic. BeginsNamed T.ALIGN (A.did atomic.word) owned.tag) }
+
         ensures full { IfErr result (λ refused. refused.fault ≡ CellsFull) }
         ensures handed_back { IfErr result (λ refused. refused.value ≡ owned) }
     {
@@ -203,6 +210,8 @@ impl<T: Pointable + Drop, A: SharedWord> Atomic<T, A> {
     /// value is gone, or is read or written.
     pub fn try_into_owned<W>(self, guard: &Guard<'_, T, W>) -> Option<Owned<T>>
         ensures below { IfSome result (λ owned. owned.tag < T.ALIGN) }
+        // A value that `into_owned` or `try_into_owned` of an `Atomic` returns has the tag that stood in the word, and
+        // some name stood there.
         ensures did { EndsOwned T.ALIGN (A.did self.word) result }
     {
         let Atomic { word, of: _ } = self;

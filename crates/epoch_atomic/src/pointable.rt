@@ -11,7 +11,7 @@ use std::alloc::Global;
 /// A type whose values can stand behind pointers. It says how many tags the pointers have, and how a value is made.
 ///
 /// To implement it for a type of your own, choose a power of two for `ALIGN`, state the exponent `log` and the two
-/// facts about it, and write `init`: docs/CALLING.md has an example. Put a value of another crate's type into
+/// facts about it, and write `init`: docs/STRUCTURES.md has an example. Put a value of another crate's type into
 /// [`Plain`](crate::Plain). In crossbeam-epoch every type implements this trait.
 pub trait Pointable {
     ghost ALIGN: { ℕ };
@@ -46,6 +46,8 @@ pub trait Pointable {
 #[inline(always)]
 pub fn tag_of<T: Pointable>(tag: usize) -> u8
     ensures below { result < T.ALIGN }
+    // A type behind pointers has a number of tags that is a power of two, at most 256. A tag is taken modulo that
+    // number.
     ensures value { result ≡ tag % T.ALIGN }
 {
     remainder::<T>(tag) as u8

@@ -92,6 +92,8 @@ impl<J: Default + Drop> Bag<J> {
 impl<J: Drop> Bag<J> {
     /// Puts `job` behind the others. `Err`: the bag is full, and stays as it was; the job comes back.
     pub fn try_push(&mut self, job: J) -> Result<(), J>
+        // A bag takes a job behind the others, up to its limit, which is from 1 to 64. A full bag hands the job back
+        // and stays as it was.
         ensures full { IsErr result ↔ (self.old.limit ≤ length self.old.jobs) }
         ensures ok { OnOk result (self.new.jobs ≡ self.old.jobs ++ job ∷ []) }
         ensures err { OnErr result (self.new ≡ self.old) }
@@ -129,6 +131,7 @@ impl<J: Drop> Bag<J> {
 
     /// Seals the bag with this epoch: the one that was read after its last job went in.
     pub fn seal(self, epoch: Epoch) -> SealedBag<J>
+        // A sealed bag has the epoch that it is given, and all jobs.
         ensures seal { result.seal ≡ epoch.number }
         ensures jobs { result.jobs ≡ self.jobs }
     {
@@ -209,6 +212,7 @@ impl<J> SealedBag<J> {
 
     /// Returns whether `epoch` is ahead of the seal by two or more.
     pub fn is_expired(&self, epoch: Epoch) -> bool
+        // A bag is expired exactly when the epoch is at least two past its seal.
         ensures { IsTrue result ↔ IsExpired epoch.number self.now }
     {
         // A participant that is pinned stays within one epoch of the global one, so none that is pinned
@@ -256,6 +260,7 @@ impl<J: Default + Drop> SealedBag<J> {
 
     /// Takes the oldest job out, and doesn't call it. `None`: no job is left.
     pub fn take_next(&mut self) -> Option<J>
+        // Jobs are taken out oldest first. The one that comes next can be looked at before.
         ensures job { MatchOption result (self.old.jobs ≡ []) (λ job. self.old.jobs ≡ job ∷ self.new.jobs) }
         ensures none { result ≡ None → self.new ≡ self.old }
         ensures seal { self.new.seal ≡ self.old.seal }

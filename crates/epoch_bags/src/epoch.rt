@@ -90,6 +90,7 @@ impl Epoch {
     /// Returns the next epoch, with the same mark; `None` exactly at the greatest one.
     pub fn successor(self) -> Option<Epoch>
         ensures none { IsNone result ↔ (self.number ≡ GREATEST_EPOCH) }
+        // The next epoch is one more, with the same mark. Exactly one epoch, `2^63 - 1`, has no next one.
         ensures some { IfSome result (λ next. (next.number ≡ self.number + 1)) }
         ensures mark { IfSome result (λ next. (next.pinned ≡ self.pinned)) }
     {
@@ -104,6 +105,7 @@ impl Epoch {
 
     /// Returns how many epochs `self` is ahead of `other`, negative where it is behind. Marks don't count.
     pub fn distance(self, other: Epoch) -> i64
+        // The distance of two epochs is the difference of their numbers.
         ensures { result ≡ pos self.number -ℤ pos other.number }
     {
         self.number as i64 - other.number as i64

@@ -14,6 +14,7 @@ pub trait Remove {
 
     /// Tries to remove the value of this name, as [`Cells::remove`] does.
     fn remove<T: Drop>(cells: &Cells<T>, name: Name) -> Removal
+        // A removal that is called was tried. Nothing but its own trial shows this.
         ensures tried { tried name };
 
     /// Tries the same, as [`Cells::remove_near`] does, which adds the slot to those that were given free.
@@ -61,6 +62,8 @@ pub trait Run: Drop {
     fn call(self)
     where
         Self: Sized,
+        // The call of a job calls the caller's work, and returns `Ran` for work and for nothing else. Nothing but its
+        // own call shows that work was called.
         ensures done { done self };
 }
 
@@ -177,6 +180,7 @@ fn called_for(removal: Removal) -> Called
 impl<W: Run> SealedBag<Job<W>> {
     /// Takes the oldest job out, calls it, and returns what that did. `None`: no job is left.
     pub fn call_next<T: Drop>(&mut self, cells: &Cells<T>) -> Option<Called>
+        // `call_next` takes the oldest job out of a bag and calls it.
         ensures called { MatchOption result (self.old.jobs ≡ []) (λ called. (job : _) × (self.old.jobs ≡ job
             ∷ self.new.jobs) × AnswersJob job called × IsCalled W.done W.Removing.tried job) }
         ensures none { result ≡ None → self.new ≡ self.old }

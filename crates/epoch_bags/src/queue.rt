@@ -123,8 +123,10 @@ pub trait BagStore: Drop {
 
         // As many bags stand as are queued, and an occupied place without one is claimed.
         ensures standing { how_many (standing self.now) ≡ length (queued self.now) }
+        // A place is occupied only if a bag stands there or a participant has claimed it.
         ensures occupied { (place : ℕ) → slice_get (occupied self.now) place ≡ Some true
             → (slice_get (standing self.now) place ≡ Some true) ⊎ Reserved self.now place }
+
         ensures some { 0 < result }
         ensures most { result ≤ MOST_BAGS };
 
@@ -146,7 +148,10 @@ pub trait BagStore: Drop {
         seal: Epoch,
         held: &mut Bag<Self::Job>,
     ) -> PutStep
+        // A put that is done has added exactly the held jobs under their seal, and left the held bag empty. Every other
+        // answer leaves the bags and the held bag as they are.
         ensures bag { PutsBag seal.number (queued self.old) held.old result (queued self.new) held.new }
+
         ensures capacity { capacity self.new ≡ capacity self.old }
 
         // It is one atomic step, as the store says of its own.
@@ -156,8 +161,10 @@ pub trait BagStore: Drop {
         // Full comes exactly where each place was seen occupied by some step of this put, which isn't done.
         ensures occupied { result ≢ PutStep.Done → (place : ℕ) → passed cursor.old ≤ place → place < passed cursor.new
             → slice_get (occupied self.old) place ≡ Some true }
+        // A put that isn't done returns `Full` exactly when it has passed every place.
         ensures full { result ≡ PutStep.Full → capacity self.old ≤ passed cursor.new }
         ensures again { result ≡ PutStep.Again → passed cursor.new < capacity self.old }
+
         ensures onward { result ≢ PutStep.Done → passed cursor.old ≤ passed cursor.new }
 
         // If no other participant is at work, it is done exactly if it finds a place.
@@ -193,7 +200,10 @@ pub trait BagStore: Drop {
         hand: &mut SealedBag<Self::Job>,
     ) -> TakeStep
         requires { hand.old.jobs ≡ [] }
+        // A collection that gets a bag has taken out exactly that bag, which is expired. Every other answer leaves
+        // everything as it is.
         ensures bag { TakesBag expiry.number (queued self.old) hand.old result (queued self.new) hand.new }
+
         ensures capacity { capacity self.new ≡ capacity self.old }
 
         // It is one atomic step, as the store says of its own.
@@ -210,6 +220,10 @@ pub trait BagStore: Drop {
         ensures reserves { (place : ℕ) → Reserved self.new place
             → Claims cursor.new place ⊎ (Reserved self.old place × (¬ (Claims cursor.old place))) }
         ensures lets_go { result ≢ TakeStep.Again → (place : ℕ) → ¬ (Claims cursor.new place) }
+        // At each moment there is a number of bags that a collection will still take if no other participant is at
+        // work. A step that gets a bag lowers this number by one, and every other step leaves it the same. This number
+        // is 0 when the collection ends. If no bag is claimed and all are expired when the collection begins, it is the
+        // number of bags in the store, or 64 if there are more.
         ensures ahead { FindsBag (ahead expiry.number self.old cursor.old) result
             (ahead expiry.number self.new cursor.new) };
 
@@ -217,7 +231,9 @@ pub trait BagStore: Drop {
     ///
     /// It is for an end, when no other participant is at work: it is no atomic step.
     fn take_any(&mut self) -> Option<SealedBag<Self::Job>>
+        // A bag is taken out whatever its seal is. The answer is `None` exactly when the store has no bag.
         ensures bag { TakesAny (queued self.old) result (queued self.new) }
+
         ensures capacity { capacity self.new ≡ capacity self.old }
         ensures claims { (place : ℕ) → Claimed self.new place → Claimed self.old place }
         ensures reserves { (place : ℕ) → Reserved self.new place → Reserved self.old place };

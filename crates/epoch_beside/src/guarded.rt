@@ -1,6 +1,6 @@
 //! Work under a guard that is out.
 ghost use Rattle.std.specs.Prelude.{◌≡◌, ℕ};
-ghost use Rattle.epoch_handles.specs.Handles.{IsSame, Owns};
+ghost use Rattle.epoch.specs.Handles.{IsSame, Owns};
 
 use crate::counted::FIRST;
 use epoch::atomic::{Atomic, DeferDestroy, ExchangeFault, Owned, Shared};

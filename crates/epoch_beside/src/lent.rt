@@ -1,34 +1,74 @@
-//! Rounds on values that are lent.
-ghost use Rattle.std.specs.Prelude.{◌≡◌};
+//! Rounds on values that are lent: what each thread has, and where they work.
+ghost use Rattle.std.specs.Prelude.{◌≡◌, IsSome};
 
 use crate::rounds::RoundSize;
-use epoch_handles::{Capacities, Collector};
+use epoch_lend::domain::Domain;
 use epoch_lend::readers::posts::{Made, PostSet, Posts};
-use epoch_lend_pointers::marking::{Marking, collector_of};
-use epoch_lend_pointers::store::lender::Lender;
-use epoch_lend_pointers::store::lent_cells::LentCells;
+use epoch_lend::session::Session;
+use epoch_lend_pointers::{LentCells, Store, Writer};
 use std::alloc::Global;
 use std::io;
+use std::sync::Wait;
 
-/// Cells of a lender.
+/// Cells of a store.
 pub const CELLS: u32 = 4_096;
-
-/// Places for bags of its collector, where values are timed.
-pub const PLACES: u32 = 16;
 
 /// Posts for each thread, so that threads pin in different lines of the cache.
 const POSTS: u64 = 16;
 
-/// A collector of values that are lent.
-pub type LentCollector<'q, 's, J, T> = Collector<T, Marking<'q, 's, J, T>>;
+/// What one thread has: a session with no guard out, and a writer.
+pub struct LentIdle<'q, 's, J: PostSet, T> {
+    pub(crate) session: Session<'s, J>,
+    pub(crate) writer: Writer<'q, 's, J, T>,
+    ghost free: { IsSome session.reader },
+}
+
+impl<'q, 's, J: PostSet, T: Drop> LentIdle<'q, 's, J, T> {
+    /// Takes a post, and makes a writer. `None`: there is no free post, or no memory.
+    pub fn join(alloc: Global, store: &'q Store<'s, J, T>) -> Option<LentIdle<'q, 's, J, T>> {
+        let session = store.domain().session()?;
+        match Writer::new(alloc, store) {
+            Ok(writer) => Some(LentIdle { session, writer }),
+            Err(_) => None,
+        }
+    }
+
+    /// Pins and unpins this many times.
+    #[inline(never)]
+    pub fn pins(&mut self, turns: u64) -> u64 {
+        for _ in 0..turns {
+            self.pin_once();
+        }
+        turns
+    }
+
+    #[inline(always)]
+    fn pin_once(&mut self) {
+        let guard = self.session.pin();
+        self.session.unpin(guard);
+    }
+
+    /// Gives the post and the cells back, and tries again for as long as there is no memory for what was retired.
+    pub fn leave<R: Wait>(self, rt: &R) {
+        let LentIdle { session, writer } = self;
+        session.release();
+        let mut staying = writer;
+        for _ in rt.forever() {
+            match staying.release() {
+                Ok(()) => return,
+                Err((writer, _)) => staying = writer,
+            }
+        }
+        unreachable!()
+    }
+}
 
 /// What the threads of a round share. `S` is what they work on.
 #[derive(Drop)]
-pub struct LentRound<'w, 'c, 'q, 's, J: PostSet, T, S> {
+pub struct LentRound<'w, 'q, 's, J: PostSet, T, S> {
     pub alloc: Global,
-    pub collector: &'c LentCollector<'q, 's, J, T>,
-    pub lender: &'q Lender<'s, J, T>,
-    pub work: &'w S,
+    pub store: &'q Store<'s, J, T>,
+    pub shared: &'w S,
 }
 
 /// Makes the posts of a round.
@@ -37,42 +77,32 @@ pub fn made_for(alloc: Global, size: RoundSize) -> io::Result<Made> {
     Ok(Made::new(alloc, posts)?)
 }
 
-/// Makes cells over these posts.
-pub fn cells_over<J: PostSet, T: Drop>(alloc: Global, made: Made) -> io::Result<LentCells<J, T>>
+/// Makes a domain of these posts.
+pub fn domain_over<J: PostSet>(alloc: Global, made: Made) -> io::Result<Domain<J>>
     requires { made.posts.items ≡ J.posts }
 {
-    let posts = Posts::<J>::of(alloc, made)?;
-    match LentCells::new(alloc, CELLS, posts) {
+    Ok(Domain::new(Posts::<J>::of(alloc, made)?))
+}
+
+/// Makes cells for a store.
+pub fn cells_in<J: PostSet, T: Drop>(
+    alloc: Global,
+    domain: &Domain<J>,
+) -> io::Result<LentCells<J, T>> {
+    match LentCells::new(alloc, CELLS, domain) {
         Ok(cells) => Ok(cells),
         Err(_) => Err(io::Error::from(io::ErrorKind::OutOfMemory)),
     }
 }
 
-/// Makes a lender of these cells.
-pub fn lender_of<J: PostSet, T: Drop>(
+/// Makes the store of these cells.
+pub fn store_of<'s, J: PostSet, T: Drop>(
     alloc: Global,
-    cells: &LentCells<J, T>,
-) -> io::Result<Lender<'_, J, T>> {
-    match Lender::new(alloc, cells) {
-        Ok(lender) => Ok(lender),
-        Err(_) => Err(io::Error::from(io::ErrorKind::OutOfMemory)),
-    }
-}
-
-/// Makes a collector of a lender's values, with a position for each thread.
-pub fn collector_for<'q, 's, J: PostSet, T: Drop>(
-    alloc: Global,
-    lender: &'q Lender<'s, J, T>,
-    size: RoundSize,
-    places: u32,
-) -> io::Result<LentCollector<'q, 's, J, T>> {
-    let threads = u32::try_from(size.threads).unwrap_or(u32::MAX);
-    let capacities = Capacities::usual(threads, 0, places);
-    if !capacities.is_valid() {
-        return Err(io::Error::from(io::ErrorKind::InvalidInput));
-    }
-    match collector_of(lender, alloc, capacities, 1) {
-        Ok(collector) => Ok(collector),
+    domain: &'s Domain<J>,
+    cells: &'s mut LentCells<J, T>,
+) -> io::Result<Store<'s, J, T>> {
+    match Store::new(alloc, domain, cells) {
+        Ok(store) => Ok(store),
         Err(_) => Err(io::Error::from(io::ErrorKind::OutOfMemory)),
     }
 }

@@ -1,16 +1,13 @@
-//! Pins of handles that lend, and looks at values behind pointers, in a list and in a map.
-ghost use Rattle.std.specs.Prelude.{◌≡◌};
+//! Pins of sessions, and looks at values behind pointers, in a list and in a map.
+ghost use Rattle.std.specs.Prelude.{◌≡◌, IsSome};
 
-use crate::lending_idle::LendingIdle;
-use crate::lent::{
-    LentCollector, LentRound, PLACES, cells_over, collector_for, lender_of, made_for,
-};
+use crate::lent::{LentIdle, LentRound, cells_in, domain_over, made_for, store_of};
 use crate::rounds::{Round, RoundSize, all_rounds};
 use epoch_atomic::atomic::Atomic;
 use epoch_examples::lent::sorted_list::{SortedEntry, SortedList};
 use epoch_lend::readers::posts::{Made, PostSet};
-use epoch_lend_pointers::handle::GuardOf;
-use epoch_lend_pointers::store::lender::Lender;
+use epoch_lend::session::{LendingGuard, Session};
+use epoch_lend_pointers::Store;
 use epoch_map::{LendingMap, LentEntry};
 use std::alloc::Global;
 use std::io;
@@ -29,39 +26,73 @@ const KEYS: u64 = 100;
 /// Steps that a call of the list or of the map has.
 const STEPS: u32 = 1_000;
 
-/// The nodes of the map.
-type KeyNode = LentEntry<u64, u64>;
-
 /// What a turn does.
 #[derive(Clone, Copy)]
 pub enum LookRow {
     /// A pin and an unpin.
     Pin,
-    /// A load of a pointer, and a look at its value.
+    /// A load of a pointer, and a look at its value, under one guard.
     Get,
-    /// A walk to the last of 100 keys of a list.
+    /// The same, under a guard that is renewed before each.
+    RenewGet,
+    /// A walk to the last of 100 keys of a list, under one guard.
     List,
-    /// A look-up of the last of 100 keys in a map.
+    /// A look-up of the last of 100 keys in a map, under one guard.
     Map,
 }
 
-/// What is looked at under one guard.
-trait LookedAt<J: PostSet, T> {
-    /// Looks this many times, and returns how many looks found what they should.
-    fn looks(&self, guard: &GuardOf<'_, '_, '_, J, T>, turns: u64) -> u64;
+/// What is looked at.
+trait LookedAt<J: PostSet> {
+    /// What a look returns that finds what it should.
+    const FOUND: u64;
+
+    /// Looks once.
+    fn look(&self, guard: &LendingGuard<'_, J>) -> u64;
 }
 
-impl<'c, 'q, 's, J: PostSet, T: Drop> LendingIdle<'c, 'q, 's, J, T> {
-    /// Does the looks of one thread. It isn't inlined, so that code around it doesn't move its loops.
-    #[inline(never)]
-    fn look<S: LookedAt<J, T>>(&mut self, row: LookRow, seen: &S, turns: u64) -> u64 {
-        if let LookRow::Pin = row {
-            return self.pins(turns);
+/// Looks this many times under one guard, and returns how many looks found what they should.
+#[inline(never)]
+fn looks<J: PostSet, S: LookedAt<J>>(seen: &S, guard: &LendingGuard<'_, J>, turns: u64) -> u64 {
+    let mut sum: u64 = 0;
+    for _ in 0..turns {
+        sum = sum.wrapping_add(seen.look(guard));
+    }
+    sum / S::FOUND.max(1)
+}
+
+/// Looks this many times under a guard that is renewed before each look.
+#[inline(never)]
+fn renewed_looks<'s, J: PostSet, S: LookedAt<J>>(
+    seen: &S,
+    session: &mut Session<'s, J>,
+    turns: u64,
+) -> u64
+    requires free { IsSome session.old.reader }
+    ensures free { IsSome session.new.reader }
+{
+    let mut sum: u64 = 0;
+    let mut guard = session.pin();
+    for _ in 0..turns {
+        guard = guard.renew();
+        sum = sum.wrapping_add(seen.look(&guard));
+    }
+    session.unpin(guard);
+    sum / S::FOUND.max(1)
+}
+
+impl<'q, 's, J: PostSet, T: Drop> LentIdle<'q, 's, J, T> {
+    /// Does the turns of one thread.
+    fn look<S: LookedAt<J>>(&mut self, row: LookRow, seen: &S, turns: u64) -> u64 {
+        match row {
+            LookRow::Pin => self.pins(turns),
+            LookRow::RenewGet => renewed_looks(seen, &mut self.session, turns),
+            _ => {
+                let guard = self.session.pin();
+                let done = looks(seen, &guard, turns);
+                self.session.unpin(guard);
+                done
+            }
         }
-        let guard = self.handle.pin();
-        let done = seen.looks(&guard, turns);
-        self.handle.unpin(guard);
-        done
     }
 }
 
@@ -72,73 +103,73 @@ struct Seen<'w, S> {
     at: &'w S,
 }
 
-impl<'w, 'v, 'c, 'q, 's, J, T, S> Round for LentRound<'v, 'c, 'q, 's, J, T, Seen<'w, S>>
+impl<'v, 'w, 'q, 's, J, T, S> Round for LentRound<'v, 'q, 's, J, T, Seen<'w, S>>
 where
     J: PostSet + Send + Sync,
     T: Drop + Send + Sync,
-    S: LookedAt<J, T> + Sync,
+    S: LookedAt<J> + Sync,
 {
-    type Participant = LendingIdle<'c, 'q, 's, J, T>;
+    type Participant = LentIdle<'q, 's, J, T>;
 
-    fn register(&self) -> Option<LendingIdle<'c, 'q, 's, J, T>> {
-        LendingIdle::register(self.alloc, self.collector, self.lender)
+    fn register(&self) -> Option<LentIdle<'q, 's, J, T>> {
+        LentIdle::join(self.alloc, self.store)
     }
 
-    fn turns<R: Wait>(&self, _rt: &R, idle: &mut LendingIdle<'c, 'q, 's, J, T>, turns: u64) -> u64 {
-        idle.look(self.work.row, self.work.at, turns)
+    fn turns<R: Wait>(&self, _rt: &R, idle: &mut LentIdle<'q, 's, J, T>, turns: u64) -> u64 {
+        idle.look(self.shared.row, self.shared.at, turns)
     }
 
-    fn leave<R: Wait>(&self, rt: &R, idle: LendingIdle<'c, 'q, 's, J, T>) {
+    fn leave<R: Wait>(&self, rt: &R, idle: LentIdle<'q, 's, J, T>) {
         idle.leave(rt);
     }
 }
 
 /// One value behind a pointer.
 #[derive(Drop)]
-struct One {
+struct One<'q, 's, J: PostSet> {
     // It comes first, so that its load is as short as can be. With one byte more, the last branch of the loop ends at a
     // border of 32 bytes, where some processors take longer for it.
     pointer: Atomic<u64>,
-    value: u64,
+    store: &'q Store<'s, J, u64>,
 }
 
-impl<J: PostSet> LookedAt<J, u64> for One {
-    fn looks(&self, guard: &GuardOf<'_, '_, '_, J, u64>, turns: u64) -> u64 {
-        let mut sum: u64 = 0;
-        for _ in 0..turns {
-            if let Some(value) = guard.get(self.pointer.load(SeqCst, guard.guard())) {
-                sum = sum.wrapping_add(*value);
-            }
+impl<J: PostSet> LookedAt<J> for One<'_, '_, J> {
+    const FOUND: u64 = VALUE;
+
+    #[inline(always)]
+    fn look(&self, guard: &LendingGuard<'_, J>) -> u64 {
+        match self
+            .store
+            .get(self.store.load(&self.pointer, SeqCst, guard), guard)
+        {
+            Some(value) => *value,
+            None => 0,
         }
-        sum / VALUE
     }
 }
 
-impl<'c, 'q, 's, J: PostSet> LendingIdle<'c, 'q, 's, J, u64> {
+impl<'q, 's, J: PostSet> LentIdle<'q, 's, J, u64> {
     /// Puts the value behind the pointer.
-    fn fill_cell(&mut self, one: &One) {
-        let guard = self.handle.pin();
-        if let Ok(placed) = guard.place(one.value) {
-            let _ = one.pointer.store(placed, SeqCst, guard.guard());
+    fn fill_cell(&mut self, one: &One<'q, 's, J>) {
+        let guard = self.session.pin();
+        if let Ok(placed) = self.writer.place(&guard, VALUE) {
+            one.store.store(&one.pointer, placed, SeqCst, &guard);
         }
-        self.handle.unpin(guard);
+        self.session.unpin(guard);
     }
 }
 
-fn cell_rounds_in<'q, 's, R: Clock + Threads + Wait + Sync, J: PostSet + Send + Sync>(
+fn cell_rounds_in<'s, R: Clock + Threads + Wait + Sync, J: PostSet + Send + Sync>(
     rt: &R,
     alloc: Global,
-    lender: &'q Lender<'s, J, u64>,
-    collector: &LentCollector<'q, 's, J, u64>,
     size: RoundSize,
+    store: &Store<'s, J, u64>,
     row: LookRow,
     times: &mut [u64],
 ) -> u64 {
-    let one = One {
-        value: VALUE,
-        pointer: Atomic::null(),
-    };
-    if let Some(idle) = LendingIdle::register(alloc, collector, lender) {
+    let pointer = Atomic::null();
+    let one = One { pointer, store };
+    if let Some(idle) = LentIdle::join(alloc, store) {
         let mut filling = idle;
         filling.fill_cell(&one);
         filling.leave(rt);
@@ -146,9 +177,8 @@ fn cell_rounds_in<'q, 's, R: Clock + Threads + Wait + Sync, J: PostSet + Send + 
     let seen = Seen { row, at: &one };
     let round = LentRound {
         alloc,
-        collector,
-        lender,
-        work: &seen,
+        store,
+        shared: &seen,
     };
     all_rounds(rt, size, &round, times)
 }
@@ -163,65 +193,56 @@ fn cell_rounds<R: Clock + Threads + Wait + Sync, J: PostSet + Send + Sync>(
 ) -> io::Result<u64>
     requires { made.posts.items ≡ J.posts }
 {
-    let cells = cells_over::<J, u64>(alloc, made)?;
-    let lender = lender_of(alloc, &cells)?;
-    let collector = collector_for(alloc, &lender, size, PLACES)?;
-    let done = cell_rounds_in(rt, alloc, &lender, &collector, size, row, times);
-    let _ = collector.end();
-    let _ = lender.end(alloc);
+    let domain = domain_over::<J>(alloc, made)?;
+    let mut cells = cells_in(alloc, &domain)?;
+    let store = store_of::<J, u64>(alloc, &domain, &mut cells)?;
+    let done = cell_rounds_in(rt, alloc, size, &store, row, times);
+    let _ = store.end(alloc);
     Ok(done)
 }
 
-/// Inserts the keys.
-fn insert_all<J: PostSet>(list: &SortedList, guard: &GuardOf<'_, '_, '_, J, SortedEntry>) {
-    for below in 0..KEYS {
-        let _ = list.insert(KEYS - below, guard, STEPS);
-    }
-}
+impl<J: PostSet> LookedAt<J> for SortedList<'_, '_, J> {
+    const FOUND: u64 = 1;
 
-impl<J: PostSet> LookedAt<J, SortedEntry> for SortedList {
-    fn looks(&self, guard: &GuardOf<'_, '_, '_, J, SortedEntry>, turns: u64) -> u64 {
-        let mut done: u64 = 0;
-        for _ in 0..turns {
-            if let Ok(true) = self.contains(KEYS, guard, STEPS) {
-                done = done.wrapping_add(1);
-            }
+    #[inline(always)]
+    fn look(&self, guard: &LendingGuard<'_, J>) -> u64 {
+        match self.contains(KEYS, guard, STEPS) {
+            Ok(true) => 1,
+            _ => 0,
         }
-        done
     }
 }
 
-impl<'c, 'q, 's, J: PostSet> LendingIdle<'c, 'q, 's, J, SortedEntry> {
-    fn fill_list(&mut self, list: &SortedList) {
-        let guard = self.handle.pin();
-        insert_all(list, &guard);
-        self.handle.unpin(guard);
+impl<'q, 's, J: PostSet> LentIdle<'q, 's, J, SortedEntry> {
+    /// Inserts the keys.
+    fn fill_list(&mut self, list: &SortedList<'_, 's, J>) {
+        for below in 0..KEYS {
+            let guard = self.session.pin();
+            let _ = list.insert(KEYS - below, &mut self.writer, &guard, STEPS);
+            self.session.unpin(guard);
+        }
     }
 }
 
-fn list_rounds_in<'q, 's, R: Clock + Threads + Wait + Sync, J: PostSet + Send + Sync>(
+fn list_rounds_in<'s, R: Clock + Threads + Wait + Sync, J: PostSet + Send + Sync>(
     rt: &R,
     alloc: Global,
-    lender: &'q Lender<'s, J, SortedEntry>,
-    collector: &LentCollector<'q, 's, J, SortedEntry>,
     size: RoundSize,
+    store: &Store<'s, J, SortedEntry>,
     times: &mut [u64],
 ) -> u64 {
-    let list = SortedList::new();
-    if let Some(idle) = LendingIdle::register(alloc, collector, lender) {
+    let list = SortedList::new(store);
+    if let Some(idle) = LentIdle::join(alloc, store) {
         let mut filling = idle;
         filling.fill_list(&list);
         filling.leave(rt);
     }
-    let seen = Seen {
-        row: LookRow::List,
-        at: &list,
-    };
+    let row = LookRow::List;
+    let seen = Seen { row, at: &list };
     let round = LentRound {
         alloc,
-        collector,
-        lender,
-        work: &seen,
+        store,
+        shared: &seen,
     };
     all_rounds(rt, size, &round, times)
 }
@@ -235,69 +256,66 @@ fn list_rounds<R: Clock + Threads + Wait + Sync, J: PostSet + Send + Sync>(
 ) -> io::Result<u64>
     requires { made.posts.items ≡ J.posts }
 {
-    let cells = cells_over::<J, SortedEntry>(alloc, made)?;
-    let lender = lender_of(alloc, &cells)?;
-    let collector = collector_for(alloc, &lender, size, PLACES)?;
-    let done = list_rounds_in(rt, alloc, &lender, &collector, size, times);
-    let _ = collector.end();
-    let _ = lender.end(alloc);
+    let domain = domain_over::<J>(alloc, made)?;
+    let mut cells = cells_in(alloc, &domain)?;
+    let store = store_of::<J, SortedEntry>(alloc, &domain, &mut cells)?;
+    let done = list_rounds_in(rt, alloc, size, &store, times);
+    let _ = store.end(alloc);
     Ok(done)
 }
 
-impl<'m, J: PostSet> LookedAt<J, KeyNode> for LendingMap<'m, J, KeyNode> {
+/// The nodes of the map.
+type KeyNode = LentEntry<u64, u64>;
+
+impl<J: PostSet> LookedAt<J> for LendingMap<'_, '_, J, KeyNode> {
+    const FOUND: u64 = 1;
+
     #[inline(always)]
-    fn looks(&self, guard: &GuardOf<'_, '_, '_, J, KeyNode>, turns: u64) -> u64 {
-        let mut done: u64 = 0;
-        for _ in 0..turns {
-            if let Ok(true) = self.contains(guard, &KEYS, STEPS) {
-                done = done.wrapping_add(1);
-            }
+    fn look(&self, guard: &LendingGuard<'_, J>) -> u64 {
+        match self.contains(guard, &KEYS, STEPS) {
+            Ok(true) => 1,
+            _ => 0,
         }
-        done
     }
 }
 
-impl<'c, 'q, 's, J: PostSet> LendingIdle<'c, 'q, 's, J, KeyNode> {
-    fn fill_map(&mut self, map: &LendingMap<'_, J, KeyNode>) {
+impl<'q, 's, J: PostSet> LentIdle<'q, 's, J, KeyNode> {
+    /// Inserts the keys.
+    fn fill_map(&mut self, map: &LendingMap<'_, 's, J, KeyNode>) {
         for below in 0..KEYS {
             self.insert(map, KEYS - below);
         }
     }
 
     /// Inserts a key, with itself as its value.
-    fn insert(&mut self, map: &LendingMap<'_, J, KeyNode>, key: u64) {
-        let guard = self.handle.pin();
-        let _ = map.insert(&mut self.handle, &guard, LentEntry::new(key, key), STEPS);
-        self.handle.unpin(guard);
+    fn insert(&mut self, map: &LendingMap<'_, 's, J, KeyNode>, key: u64) {
+        let guard = self.session.pin();
+        let _ = map.insert(&mut self.writer, &guard, LentEntry::new(key, key), STEPS);
+        self.session.unpin(guard);
     }
 }
 
-/// Makes a map, and then the rounds. The map goes before its collector ends.
-fn map_rounds_in<'q, 's, R: Clock + Threads + Wait + Sync, J: PostSet + Send + Sync>(
+fn map_rounds_in<'s, R: Clock + Threads + Wait + Sync, J: PostSet + Send + Sync>(
     rt: &R,
     alloc: Global,
-    lender: &'q Lender<'s, J, KeyNode>,
-    collector: &LentCollector<'q, 's, J, KeyNode>,
     size: RoundSize,
+    store: &Store<'s, J, KeyNode>,
     times: &mut [u64],
 ) -> u64 {
-    let Ok(map) = LendingMap::new(alloc, collector, 0) else {
+    let Ok(map) = LendingMap::new(alloc, store, 0) else {
         return 0;
     };
-    if let Some(idle) = LendingIdle::register(alloc, collector, lender) {
+    if let Some(idle) = LentIdle::join(alloc, store) {
         let mut filling = idle;
         filling.fill_map(&map);
         filling.leave(rt);
     }
-    let seen = Seen {
-        row: LookRow::Map,
-        at: &map,
-    };
+    let row = LookRow::Map;
+    let seen = Seen { row, at: &map };
     let round = LentRound {
         alloc,
-        collector,
-        lender,
-        work: &seen,
+        store,
+        shared: &seen,
     };
     all_rounds(rt, size, &round, times)
 }
@@ -311,12 +329,11 @@ fn map_rounds<R: Clock + Threads + Wait + Sync, J: PostSet + Send + Sync>(
 ) -> io::Result<u64>
     requires { made.posts.items ≡ J.posts }
 {
-    let cells = cells_over::<J, KeyNode>(alloc, made)?;
-    let lender = lender_of(alloc, &cells)?;
-    let collector = collector_for(alloc, &lender, size, PLACES)?;
-    let done = map_rounds_in(rt, alloc, &lender, &collector, size, times);
-    let _ = collector.end();
-    let _ = lender.end(alloc);
+    let domain = domain_over::<J>(alloc, made)?;
+    let mut cells = cells_in(alloc, &domain)?;
+    let store = store_of::<J, KeyNode>(alloc, &domain, &mut cells)?;
+    let done = map_rounds_in(rt, alloc, size, &store, times);
+    let _ = store.end(alloc);
     Ok(done)
 }
 
@@ -330,10 +347,8 @@ pub fn rounds<R: Clock + Threads + Wait + Sync>(
 ) -> io::Result<u64> {
     let made = made_for(alloc, size)?;
     match row {
-        LookRow::Pin | LookRow::Get => {
-            cell_rounds::<R, Brand>(rt, alloc, made, size, row, times)
-        }
         LookRow::List => list_rounds::<R, Brand>(rt, alloc, made, size, times),
         LookRow::Map => map_rounds::<R, Brand>(rt, alloc, made, size, times),
+        _ => cell_rounds::<R, Brand>(rt, alloc, made, size, row, times),
     }
 }

@@ -13,7 +13,6 @@ mod counted_idle;
 mod counted_stack;
 mod deferrals;
 mod guarded;
-mod lending_idle;
 mod lent;
 mod looks;
 mod replacing;

@@ -1,19 +1,14 @@
 //! Threads that read values behind shared pointers, replace them and retire them, all at once.
 ghost use Rattle.std.specs.Prelude.{◌≡◌, ◌+◌, ◌<◌, refl};
 ghost use Rattle.std.proofs.Common.{lit≤};
-ghost use Rattle.epoch_handles.specs.Handles.{IsSame, Owns};
 
-use crate::lending_idle::LendingIdle;
-use crate::lent::{
-    CELLS, LentCollector, LentRound, cells_over, collector_for, lender_of, made_for,
-};
+use crate::lent::{CELLS, LentIdle, LentRound, cells_in, domain_over, made_for, store_of};
 use crate::rounds::{Round, RoundSize, all_rounds};
 use epoch_atomic::atomic::{Atomic, Pointable, Shared};
 use epoch_cells::Fault;
 use epoch_lend::readers::posts::{Made, PostSet};
-use epoch_lend_pointers::handle::{GuardOf, LendingHandle};
-use epoch_lend_pointers::store::lender::{Lender, ROOM_PLACES};
-use epoch_lend_pointers::store::lent_cells::LentCells;
+use epoch_lend::session::LendingGuard;
+use epoch_lend_pointers::{Store, Writer};
 use std::alloc::{AllocError, Global};
 use std::marker::Brand;
 use std::sync::atomic::AtomicU64;
@@ -23,11 +18,11 @@ use std::thread::Threads;
 use std::time::Clock;
 use std::{io, thread};
 
-/// Places for bags of the collector.
-const PLACES: u32 = 64;
-
 /// Pointers that the threads share.
 const POINTERS: usize = 16;
+
+/// Flushes that take back what was retired, once no guard is out.
+const FLUSHES: u32 = 8;
 
 /// How often a thread reads under one pin, and of how many words a value is.
 const READS: usize = 8;
@@ -147,11 +142,16 @@ pub struct ReplacingTold {
 }
 
 /// Reads a value twice, while others replace it.
-fn read<J: PostSet>(shelf: &BlockShelf, guard: &GuardOf<'_, '_, '_, J, Block>, turn: usize) {
+fn read<'s, J: PostSet>(
+    shelf: &BlockShelf,
+    store: &Store<'s, J, Block>,
+    guard: &LendingGuard<'_, J>,
+    turn: usize,
+) {
     let Some(pointer) = shelf.pointer(turn) else {
         return;
     };
-    if let Some(block) = guard.get(pointer.load(SeqCst, guard.guard())) {
+    if let Some(block) = store.get(store.load(pointer, SeqCst, guard), guard) {
         let first = block.is_whole();
         if turn % 64 == 0 {
             thread::yield_now();
@@ -164,9 +164,14 @@ fn read<J: PostSet>(shelf: &BlockShelf, guard: &GuardOf<'_, '_, '_, J, Block>, t
 }
 
 /// Reads several values.
-fn read_some<J: PostSet>(shelf: &BlockShelf, guard: &GuardOf<'_, '_, '_, J, Block>, turn: usize) {
+fn read_some<'s, J: PostSet>(
+    shelf: &BlockShelf,
+    store: &Store<'s, J, Block>,
+    guard: &LendingGuard<'_, J>,
+    turn: usize,
+) {
     for index in 0..READS {
-        read(shelf, guard, index ^ turn);
+        read(shelf, store, guard, index ^ turn);
     }
 }
 
@@ -181,159 +186,138 @@ fn made(shelf: &BlockShelf) -> Option<Block> {
 }
 
 /// Places a new value. `None`: there is no memory, or no free cell.
-fn place<'c, 'g, 'q, 's, J: PostSet>(
+fn place<'g, 'q: 'g, 's, J: PostSet>(
     shelf: &BlockShelf,
-    handle: &mut LendingHandle<'c, 'q, 's, J, Block>,
-    guard: &'g GuardOf<'c, 'q, 's, J, Block>,
-) -> Option<Shared<'g, Block>>
-    ensures participant { handle.new.handle ≡ handle.old.handle }
-{
-    let Some(block) = made(shelf) else {
-        return None;
-    };
+    writer: &mut Writer<'q, 's, J, Block>,
+    guard: &'g LendingGuard<'_, J>,
+) -> Option<Shared<'g, Block>> {
     // (a value that is handed back is dropped here, and counted)
-    handle.place(guard, block).ok()
+    writer.place(guard, made(shelf)?).ok()
 }
 
 /// Puts a new value behind a pointer, and retires the one before.
-fn replace<'c, 'q, 's, J: PostSet>(
+fn replace<'s, J: PostSet>(
     shelf: &BlockShelf,
-    handle: &mut LendingHandle<'c, 'q, 's, J, Block>,
-    guard: &GuardOf<'c, 'q, 's, J, Block>,
+    writer: &mut Writer<'_, 's, J, Block>,
+    guard: &LendingGuard<'_, J>,
     turn: usize,
-)
-    requires { Owns handle.old.handle guard.now.guard }
-    ensures same { IsSame handle.old.handle handle.new.handle }
-    ensures counted { handle.new.handle.machine.guards ≡ handle.old.handle.machine.guards }
-{
-    if handle.make_room(guard).is_err() {
-        let _ = handle.flush(guard);
+) {
+    if writer.make_room().is_err() {
         return;
     }
     let Some(pointer) = shelf.pointer(turn) else {
         return;
     };
-    let Some(placed) = place(shelf, handle, guard) else {
-        let _ = handle.flush(guard);
-        return;
-    };
-    if let Ok(before) = pointer.swap(placed, SeqCst, guard.guard()) {
+    if let Some(placed) = place(shelf, writer, guard) {
+        let before = writer.store().swap(pointer, placed, SeqCst, guard);
         if !before.is_null() {
-            let _ = handle.retire(guard, before);
+            let _ = writer.retire(before);
         }
     }
 }
 
-impl<'c, 'q, 's, J: PostSet> LendingIdle<'c, 'q, 's, J, Block> {
+impl<'q, 's, J: PostSet> LentIdle<'q, 's, J, Block> {
     /// Reads and replaces, under one pin.
     fn read_and_replace(&mut self, shelf: &BlockShelf, turn: usize) {
-        let guard = self.handle.pin();
-        read_some(shelf, &guard, turn);
-        replace(shelf, &mut self.handle, &guard, turn);
-        self.handle.unpin(guard);
+        let guard = self.session.pin();
+        read_some(shelf, self.writer.store(), &guard, turn);
+        replace(shelf, &mut self.writer, &guard, turn);
+        self.session.unpin(guard);
     }
 
     /// Takes the value of this turn's pointer out, and retires it.
     fn clear(&mut self, shelf: &BlockShelf, turn: usize) {
-        let guard = self.handle.pin();
+        let guard = self.session.pin();
         if let Some(pointer) = shelf.pointer(turn) {
-            if let Ok(before) = pointer.swap(Shared::null(), SeqCst, guard.guard()) {
-                let _ = self.handle.retire(&guard, before);
+            let null = Shared::null();
+            let before = self.writer.store().swap(pointer, null, SeqCst, &guard);
+            if !before.is_null() {
+                let _ = self.writer.retire(before);
             }
         }
-        self.handle.unpin(guard);
+        self.session.unpin(guard);
+    }
+
+    /// Fills a cell, and counts it if one was free.
+    fn fill(&mut self, shelf: &BlockShelf) {
+        let guard = self.session.pin();
+        if place(shelf, &mut self.writer, &guard).is_some() {
+            shelf.free.fetch_add(1, SeqCst);
+        }
+        self.session.unpin(guard);
+    }
+
+    /// Takes the last values out, and then counts the cells that are free. No other session may be left.
+    fn clear_and_fill(&mut self, shelf: &BlockShelf) {
+        for turn in 0..POINTERS {
+            self.clear(shelf, turn);
+        }
+        for _ in 0..FLUSHES {
+            let _ = self.writer.flush();
+        }
+        for _ in 0..=CELLS {
+            self.fill(shelf);
+        }
     }
 }
 
-impl<'w, 'c, 'q, 's, J> Round for LentRound<'w, 'c, 'q, 's, J, Block, BlockShelf>
+impl<'w, 'q, 's, J> Round for LentRound<'w, 'q, 's, J, Block, BlockShelf>
 where
     J: PostSet + Send + Sync,
 {
-    type Participant = LendingIdle<'c, 'q, 's, J, Block>;
+    type Participant = LentIdle<'q, 's, J, Block>;
 
-    fn register(&self) -> Option<LendingIdle<'c, 'q, 's, J, Block>> {
-        LendingIdle::register(self.alloc, self.collector, self.lender)
+    fn register(&self) -> Option<LentIdle<'q, 's, J, Block>> {
+        LentIdle::join(self.alloc, self.store)
     }
 
-    fn turns<R: Wait>(
-        &self,
-        _rt: &R,
-        idle: &mut LendingIdle<'c, 'q, 's, J, Block>,
-        turns: u64,
-    ) -> u64 {
+    fn turns<R: Wait>(&self, _rt: &R, idle: &mut LentIdle<'q, 's, J, Block>, turns: u64) -> u64 {
         for turn in 0..turns {
-            idle.read_and_replace(self.work, turn as usize);
+            idle.read_and_replace(self.shared, turn as usize);
         }
         turns
     }
 
-    fn leave<R: Wait>(&self, rt: &R, idle: LendingIdle<'c, 'q, 's, J, Block>) {
+    fn leave<R: Wait>(&self, rt: &R, idle: LentIdle<'q, 's, J, Block>) {
         idle.leave(rt);
     }
 }
 
 /// Has the threads read and replace values, and then takes the last ones out.
-fn rounds_then_clear<'q, 's, R: Clock + Threads + Wait + Sync, J: PostSet + Send + Sync>(
+fn shelf_rounds_in<'s, R: Clock + Threads + Wait + Sync, J: PostSet + Send + Sync>(
     rt: &R,
-    lender: &'q Lender<'s, J, Block>,
-    collector: &LentCollector<'q, 's, J, Block>,
+    alloc: Global,
     size: RoundSize,
+    store: &Store<'s, J, Block>,
     shelf: &BlockShelf,
 ) {
     let round = LentRound {
-        alloc: shelf.alloc,
-        collector,
-        lender,
-        work: shelf,
+        alloc,
+        store,
+        shared: shelf,
     };
-    all_rounds(rt, size, &round, &mut [0]);
-    if let Some(idle) = LendingIdle::register(shelf.alloc, collector, lender) {
+    let _ = all_rounds(rt, size, &round, &mut [0]);
+    if let Some(idle) = LentIdle::join(alloc, store) {
         let mut clearing = idle;
-        for turn in 0..POINTERS {
-            clearing.clear(shelf, turn);
-        }
+        clearing.clear_and_fill(shelf);
         clearing.leave(rt);
     }
 }
 
-/// Has all cells filled, and counts how many took a value. No handle may be left, and the collector must have ended.
-fn fill<J: PostSet>(
-    shelf: &BlockShelf,
-    cells: &LentCells<J, Block>,
-    lender: &Lender<'_, J, Block>,
-) {
-    for _ in 0..CELLS {
-        lender.try_some();
-    }
-    for _ in 0..ROOM_PLACES {
-        if let Some(rooms) = lender.take_rooms() {
-            rooms.release();
-        }
-    }
-    for _ in 0..CELLS {
-        if let Some(block) = made(shelf) {
-            if cells.place(block).is_ok() {
-                shelf.free.fetch_add(1, SeqCst);
-            }
-        }
-    }
-}
-
-fn run_over<R: Clock + Threads + Wait + Sync, J: PostSet + Send + Sync>(
+fn shelf_rounds<R: Clock + Threads + Wait + Sync, J: PostSet + Send + Sync>(
     rt: &R,
-    shelf: &BlockShelf,
+    alloc: Global,
     made: Made,
     size: RoundSize,
+    shelf: &BlockShelf,
 ) -> io::Result<()>
     requires { made.posts.items ≡ J.posts }
 {
-    let cells = cells_over::<J, Block>(shelf.alloc, made)?;
-    let lender = lender_of(shelf.alloc, &cells)?;
-    let collector = collector_for(shelf.alloc, &lender, size, PLACES)?;
-    rounds_then_clear(rt, &lender, &collector, size, shelf);
-    let _ = collector.end();
-    fill(shelf, &cells, &lender);
-    let _ = lender.end(shelf.alloc);
+    let domain = domain_over::<J>(alloc, made)?;
+    let mut cells = cells_in(alloc, &domain)?;
+    let store = store_of::<J, Block>(alloc, &domain, &mut cells)?;
+    shelf_rounds_in(rt, alloc, size, &store, shelf);
+    let _ = store.end(alloc);
     Ok(())
 }
 
@@ -345,7 +329,7 @@ pub fn run<R: Clock + Threads + Wait + Sync>(
 ) -> io::Result<ReplacingTold> {
     let shelf = BlockShelf::new(alloc)?;
     let made = made_for(alloc, size)?;
-    run_over::<R, Brand>(rt, &shelf, made, size)?;
+    shelf_rounds::<R, Brand>(rt, alloc, made, size, &shelf)?;
     Ok(ReplacingTold {
         placed: shelf.placed.load(SeqCst),
         dropped: shelf.dropped.load(SeqCst),

@@ -7,7 +7,7 @@ use crate::counted_idle::CountedWork::{
 };
 use crate::deferrals::DeferRow;
 use crate::looks::LookRow;
-use crate::rows::RowWork::Counted;
+use crate::rows::RowWork::{Counted, Link, Look};
 
 /// What a turn of a row does.
 #[derive(Clone, Copy)]
@@ -20,7 +20,7 @@ pub enum RowWork {
     CountedStack,
     /// Registers a participant, and releases it.
     Register,
-    /// Pins of a handle that lends, and looks at values that are lent.
+    /// Pins of a session, and looks at values that are lent.
     Look(LookRow),
     /// Changes of values that are lent.
     Link(LinkRow),
@@ -28,7 +28,7 @@ pub enum RowWork {
 
 /// A row is a line here, with its name, its work and how many participants a counted row's collector has, and the same
 /// work in `beside/src`.
-pub const ROWS: [(&str, RowWork, u32); 35] = [
+pub const ROWS: [(&str, RowWork, u32); 38] = [
     ("pin_unpin", Counted(Pin), 4),
     ("pin_unpin_64_idle", Counted(Pin), 64),
     ("pin_unpin_nested", Counted(Nested), 4),
@@ -55,25 +55,28 @@ pub const ROWS: [(&str, RowWork, u32); 35] = [
     ("load_deref_one_cell", Counted(Read), 4),
     ("load_deref_own_cell", Counted(ReadOwn), 4),
     ("pin_load_deref_one_cell", Counted(PinnedRead), 4),
-    ("load_get_one_cell", RowWork::Look(LookRow::Get), 0),
-    ("list_100_contains", RowWork::Look(LookRow::List), 0),
-    ("map_100_contains", RowWork::Look(LookRow::Map), 0),
-    ("pin_unpin_lending", RowWork::Look(LookRow::Pin), 0),
+    ("load_get_one_cell", Look(LookRow::Get), 0),
+    ("pin_renew_look_lending", Look(LookRow::RenewGet), 0),
+    ("list_100_contains", Look(LookRow::List), 0),
+    ("map_100_contains", Look(LookRow::Map), 0),
+    ("pin_unpin_lending", Look(LookRow::Pin), 0),
     ("cas_shared_success", Counted(Exchange), 4),
     ("owned_atomic_owned", Counted(Place), 4),
-    ("owned_atomic_owned_lending", RowWork::Link(LinkRow::Own), 0),
+    ("owned_atomic_owned_lending", Link(LinkRow::Own), 0),
     ("replace_swap", Counted(Replace), 4),
     ("replace_cas", Counted(ReplaceCas), 4),
     ("replace_store", Counted(ReplaceStore), 4),
     ("replace_swap_64_a_guard_flush", Counted(Replace64), 4),
-    ("replace_swap_lending", RowWork::Link(LinkRow::Replace), 0),
+    ("replace_swap_lending", Link(LinkRow::Replace), 0),
     (
         "replace_swap_64_a_guard_flush_lending",
-        RowWork::Link(LinkRow::ReplaceTogether),
+        Link(LinkRow::ReplaceTogether),
         0,
     ),
     ("treiber_push_pop", RowWork::CountedStack, 4),
-    ("treiber_push_pop_lending", RowWork::Link(LinkRow::Stack), 0),
-    ("queue_push_pop_lending", RowWork::Link(LinkRow::Queue), 0),
+    ("treiber_push_pop_lending", Link(LinkRow::Stack), 0),
+    ("treiber_push_pop_renewed", Link(LinkRow::RenewedStack), 0),
+    ("queue_push_pop_lending", Link(LinkRow::Queue), 0),
+    ("queue_push_pop_renewed", Link(LinkRow::RenewedQueue), 0),
     ("register_drop", RowWork::Register, 4),
 ];

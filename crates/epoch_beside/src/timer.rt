@@ -51,7 +51,16 @@ impl RoundTimer {
         start: io::Result<Instant>,
         done: u64,
     ) {
-        self.longest.fetch_max(since(rt, start), SeqCst);
+        let elapsed = match start {
+            Ok(start) => start.elapsed(rt),
+            Err(error) => Err(error),
+        };
+        // A clock that fails makes the time as long as can be.
+        let taken = match elapsed {
+            Ok(time) => u64::try_from(time.as_nanos()).unwrap_or(u64::MAX),
+            Err(_) => u64::MAX,
+        };
+        self.longest.fetch_max(taken, SeqCst);
         self.done.fetch_add(done, SeqCst);
         arrive(rt, &self.ended, threads);
     }
@@ -70,18 +79,6 @@ impl RoundTimer {
     /// The time of each of that many turns, in hundredths of a nanosecond.
     pub fn each(&self, turns: u64) -> u64 {
         self.longest.load(SeqCst).saturating_mul(100) / turns.max(1)
-    }
-}
-
-/// The nanoseconds since then. A clock that fails makes them as many as can be.
-fn since<R: Clock>(rt: &R, start: io::Result<Instant>) -> u64 {
-    let elapsed = match start {
-        Ok(start) => start.elapsed(rt),
-        Err(error) => Err(error),
-    };
-    match elapsed {
-        Ok(time) => u64::try_from(time.as_nanos()).unwrap_or(u64::MAX),
-        Err(_) => u64::MAX,
     }
 }
 

@@ -1,8 +1,7 @@
 //! Pauses between the tries of a call that exchanges a pointer which other threads exchange, too.
 use std::hint::spin_loop;
 
-/// How many times the processor pauses after the first try that was lost. Our own: docs/PERFORMANCE.md has what other
-/// numbers take.
+/// How many times the processor pauses after the first try that was lost. Our own.
 const FIRST_PAUSES: u64 = 64;
 
 /// How often this number is doubled, at most.

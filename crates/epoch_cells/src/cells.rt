@@ -102,6 +102,7 @@ impl<T: Drop> Cells<T> {
     ) -> Result<Cells<T>, Fault>
         requires { capacity ≤ MOST_SLOT }
         ensures memory { IsOkUnless result NoMemory }
+        // New cells have the number of slots that was asked for. Making them fails only if memory is refused.
         ensures slots { IfOk result (λ cells. vec_len cells.slots ≡ capacity) }
     {
         let notes = Notes::new(alloc, positions).map_err(|_| Fault::NoMemory)?;
@@ -172,7 +173,11 @@ impl<T: Drop, P: Puts<T>> Cells<T, P> {
     /// `CellsFull`: every slot was seen used, retired, or kept as a room. The value is handed back.
     #[inline(always)]
     pub fn place_near(&self, position: usize, value: Box<T>) -> Result<Name, Refused<Box<T>>>
+        // A value that isn't placed is handed back with `CellsFull`.
         ensures full { IfErr result (λ refused. (refused.fault ≡ CellsFull) × (refused.value ≡ value)) }
+
+        // A name that is given has a slot of this store, and the value was put into a slot with that very name. Nothing
+        // but the putting itself shows this.
         ensures slot { IfOk result (λ name. name.slot ≤ vec_len self.now.slots) }
         ensures placed { IfOk result (λ name. P.placed value.value name) }
     {
@@ -390,6 +395,7 @@ impl<T: Drop, P: Puts<T>> Cells<T, P> {
     /// `None`: the value is gone, or is written, or has `2^30 - 1` readers, or each try was lost to other threads.
     #[inline(always)]
     pub fn read(&self, name: Name) -> Option<Reading<'_, T>>
+        // A reading or a writing is of the name given.
         ensures { IfSome result (λ reading. reading.name ≡ name) }
     {
         let slot = self.slots.get(name.slot() as usize - 1)?.slot();
@@ -423,6 +429,8 @@ impl<T: Drop, P: Puts<T>> Cells<T, P> {
     /// Does what [`Cells::take`] does, and returns the value with its own name, which is the one asked for.
     #[inline(always)]
     pub fn take_held(&self, name: Name) -> Option<Held<T>>
+        // A value that is taken out of a cell stood under the name that was asked for. The name in a slot always
+        // belongs to that slot.
         ensures { IfSome result (λ held. held.name ≡ name) }
     {
         self.take_out(name).ok()

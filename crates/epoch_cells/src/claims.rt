@@ -16,6 +16,8 @@ struct Laid<X> {
 #[inline(always)]
 pub fn replace<'a, X: Fits>(claim: Claim<'a, X>, value: X) -> (Claim<'a, X>, X)
     requires { (claim.right ≡ 2) × X.fits claim.tag value }
+    // A claim to write is still one after the value of its slot was exchanged, and is of the same slot's tag. The value
+    // that comes out fits that tag.
     ensures claim { (result.0.right ≡ 2) × (result.0.tag ≡ claim.entry.tag) }
     ensures value { X.fits claim.entry.tag result.1 }
 {

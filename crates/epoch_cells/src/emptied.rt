@@ -19,6 +19,7 @@ impl<T, A: Allocator> Model for Emptied<T, A> {
 /// Takes the value out of its box, and keeps the box's memory.
 #[inline(always)]
 pub fn empty<T: Drop, A: Allocator>(whole: Box<T, A>) -> (T, Emptied<T, A>)
+    // The value that is taken out of a box is the one that was in it.
     ensures { result.0 ≡ whole.value }
 {
     let (ptr, alloc) = Box::into_raw_with_allocator(whole);
@@ -30,6 +31,7 @@ impl<T, A: Allocator> Emptied<T, A> {
     /// Puts the value into the memory, which is a box again.
     #[inline(always)]
     pub fn fill(self, value: T) -> Box<T, A>
+        // A box that is filled has the value that was given.
         ensures { result.value ≡ value }
     {
         let Emptied { ptr, alloc } = self;

@@ -46,6 +46,7 @@ pub enum Fault {
 impl Fault {
     /// Returns the number under which the fault is printed, from 1 to 16, in the order of the variants.
     pub fn number(self) -> u64
+        // There are 16 faults, numbered 1 to 16.
         ensures { result ≡ fault_number self }
     {
         match self {

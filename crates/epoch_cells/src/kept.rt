@@ -23,6 +23,7 @@ impl<'a, X: Fits> Kept<'a, X> {
     #[inline(always)]
     pub fn new(claim: Claim<'a, X>) -> Kept<'a, X>
         requires { claim.right ≡ 2 }
+        // A claim that is kept can go to another thread with its owner, and is the same claim afterwards.
         ensures { result.claim ≡ claim.entry }
     {
         Kept { claim }

@@ -1,26 +1,21 @@
 //! `epoch-draw`: reads a script of steps from standard input, as `epoch-run` does, and writes a picture of its run.
 #![tactic(auto)]
 
-use std::env::Env;
-use std::io::{BufReader, BufWriter, ErrorKind, Lock};
+use epoch_script::refuse_words;
+use std::io::{BufReader, BufWriter, Lock};
 use std::process::ExitCode;
-use std::{env, io};
 
 /// The exit status if an allocation is refused.
 const NO_MEMORY: u8 = 4;
 
-fn main(rt: HostRuntime) -> ExitCode {
-    match has_words(&rt) {
-        Ok(false) => draw(&rt),
-        Err(error) if error.kind() == ErrorKind::OutOfMemory => ExitCode::from(NO_MEMORY),
-        // A word that is no text is a word too.
-        Ok(true) | Err(_) => ExitCode::from(epoch_pictures::tell_usage(&mut rt.stderr().lock())),
-    }
-}
+/// How the program is called.
+const USAGE: &str = "epoch-draw <SCRIPT >PICTURE.svg";
 
-/// Whether the command line has words behind the program's name.
-fn has_words<R: Env + AllocGlobal>(rt: &R) -> io::Result<bool> {
-    Ok(env::args(rt)?.nth(1).is_some())
+fn main(rt: HostRuntime) -> ExitCode {
+    match refuse_words(&rt, USAGE, &mut rt.stderr().lock()) {
+        Some(ending) => ExitCode::from(ending.status()),
+        None => draw(&rt),
+    }
 }
 
 /// Draws the run of the script on standard input.

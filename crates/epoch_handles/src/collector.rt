@@ -54,6 +54,7 @@ impl Capacities {
 
     /// Returns whether each number is in its range.
     pub fn is_valid(&self) -> bool
+        // Capacities are valid exactly when each number is in its range.
         ensures { IsTrue result ↔ AreValid self.now }
     {
         (1..=MOST_POSITIONS as u32).contains(&self.participants)
@@ -123,6 +124,8 @@ impl<T: Drop, W: Drop> Collector<T, W> {
     /// keeps none.
     pub fn new(alloc: Global, capacities: Capacities, id: u64) -> Result<Collector<T, W>, Fault>
         requires { AreValid capacities }
+        // A new collector has the capacities and the number that it was given. Making it fails only if memory is
+        // refused.
         ensures memory { IsOkUnless result NoMemory }
         ensures id { IfOk result (λ collector. collector.id ≡ id) }
         ensures participants { IfOk result (λ collector. collector.participants.positions ≡ capacities.participants) }
@@ -163,6 +166,8 @@ impl<T: Drop, W: AtEnd<T>> Collector<T, W> {
     /// Every handle must have been given back, since handles borrow the collector. In crossbeam-epoch the last owner of
     /// a collector does this by dropping it.
     pub fn end(self) -> u64
+        // The end of a collector closes its places, and calls each job of each bag that they had then: the work was
+        // called, or the removal was tried. It returns how many jobs these are.
         ensures called { CallsAllLeft W.closed W.done W.Removing.tried self.places result }
     {
         let Collector {

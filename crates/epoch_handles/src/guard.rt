@@ -75,6 +75,7 @@ impl<'c, T, W> Guard<'c, T, W> {
 impl<'c, T: Drop, W> Guard<'c, T, W> {
     /// Takes an unprotected guard back. A protecting guard comes back, since its handle has to take it: `unpin`.
     pub fn let_go(self) -> Result<(), Guard<'c, T, W>>
+        // `let_go` spends an unprotected guard, and hands a protecting one back.
         ensures ok { IsOk result ↔ IsNone self.entry.position }
         ensures handed_back { IfErr result (λ guard. guard ≡ self.entry) }
     {
@@ -95,6 +96,8 @@ impl<'c, T: Drop, W: Run> Guard<'c, T, W> {
     /// Calls the job at once, under an unprotected guard, and returns what that did. Under a protecting guard the job
     /// comes back uncalled.
     pub fn call_now(&self, job: Job<W>) -> Result<Called, Job<W>>
+        // `call_now` is refused exactly under a protecting guard, and hands the job back then. Otherwise it has called
+        // the work or tried the removal, and returns `Ran` for work and for nothing else.
         ensures ok { IsOk result ↔ IsNone self.now.position }
         ensures called { IfOk result (λ called. AnswersJob job called × IsCalled W.done W.Removing.tried job) }
         ensures handed_back { IfErr result (λ back. back ≡ job) }

@@ -87,7 +87,10 @@ impl<'c, T, W> LocalHandle<'c, T, W> {
     /// Two collectors with the same number aren't told apart.
     #[inline(always)]
     pub fn owns(&self, guard: &Guard<'_, T, W>) -> bool
+        // A guard belongs to a handle exactly when their positions and the numbers of their collectors agree, and a
+        // guard is out. `is_pinned`, `guards_out`, `can_pin` and `has_room` return what their names say.
         ensures value { IsTrue result ↔ Owns self.now guard.now }
+
         ensures ready { IsReady self.now }
     {
         if self.local.machine.guards() == 0 {
@@ -207,11 +210,16 @@ impl<'c, T: Drop, W: Run> LocalHandle<'c, T, W> {
             → IfErr result (λ refused. refused.fault ≡ StrangerGuard) × IsErr result × (self.new ≡ self.old) }
         ensures does { IsSome guard.now.position → Owns self.old guard.now
             → Does self.old Defer self.new × IfErr result (λ refused. refused.fault ≡ BagsFull) }
+        // A deferral under a guard of its handle, with room in the bag, is always accepted. A job that is kept is
+        // behind the others, or alone in a new bag.
         ensures room { Owns self.old guard.now → length self.old.machine.held < self.old.machine.sizes.bag_jobs
             → IsOk result × (self.new.machine.held ≡ self.old.machine.held ++ job ∷ []) }
         ensures kept { Owns self.old guard.now → IsOk result
             → (self.new.machine.held ≡ self.old.machine.held ++ job ∷ []) ⊎ (self.new.machine.held ≡ job ∷ []) }
+
+        // A deferral that is refused hands the job back with `StrangerGuard` or `BagsFull`, and the bag is as it was.
         ensures err { IsErr result → self.new.machine.held ≡ self.old.machine.held }
+
         ensures found { Owns self.old guard.now → IsErr result ↔ (self.new.machine.full ≡ true) }
         ensures handed_back { IfErr result (λ refused. refused.value ≡ job) }
     {
@@ -289,7 +297,9 @@ impl<'c, T: Drop, W: Run> LocalHandle<'c, T, W> {
         ensures called { Owns self.old guard.now → DoesAndCalls W.done W.Removing.tried self.old Flush self.new }
         ensures full { Owns self.old guard.now → IsErr result
             → (result ≡ Err BagsFull) × (self.old.machine.held ≢ []) × (self.new.machine.held ≡ self.old.machine.held) }
+        // A flush leaves an empty bag, or says `BagsFull` and leaves the bag as it was.
         ensures empty { Owns self.old guard.now → IsOk result → self.new.machine.held ≡ [] }
+
         ensures found { Owns self.old guard.now → IsErr result ↔ (self.new.machine.full ≡ true) }
     {
         if !guard.is_protecting() {
@@ -319,12 +329,19 @@ impl<'c, T: Drop, W: Run> LocalHandle<'c, T, W> {
     ) -> X
         requires guard { guard.old.position ≡ None ⊎ Owns self.old guard.old }
         requires f { F.pre f }
+        // What `repin_after` returns is something that its function may return.
         ensures f { F.post f result }
+
         ensures guard { guard.new ≡ guard.old }
         ensures same { IsSame self.old self.new }
         ensures ready { IsReady self.new }
         ensures counted { self.new.machine.guards ≡ self.old.machine.guards }
         ensures unprotected { guard.old.position ≡ None → self.new ≡ self.old }
+        // `repin_after` is an unpin, the call of its function, and then a pin. The unpin and the pin are as above. The
+        // function is called while the handle is the same participant of the same collector, with one guard fewer.
+        // After each call the handle's word says what its machine says. While guards are out, it is pinned in the
+        // published epoch, which was read again; while none is, it is not pinned. Each call keeps the position and the
+        // collector. It keeps the number of guards, unless it pins or unpins.
         ensures does { IsSome guard.old.position → (between : _) × IsBetween self.old between
             × Does self.old Unpin between × Does between Pin self.new
             × DoesAndCalls W.done W.Removing.tried between Pin self.new
@@ -354,7 +371,10 @@ impl<'c, T: Drop, W: Run> LocalHandle<'c, T, W> {
         ensures guard { result ≡ paused.entry.guard }
         ensures own { Owns self.new result }
         ensures same { IsSame self.old self.new }
+        // A pause of a guard is an unpin, and its resume is a pin, each as above. The guard comes back as it was, and
+        // is its handle's again.
         ensures does { Does self.old Pin self.new }
+
         ensures called { DoesAndCalls W.done W.Removing.tried self.old Pin self.new }
         ensures ready { IsReady self.new }
         ensures counted { self.new.machine.guards ≡ self.old.machine.guards + 1 }
@@ -383,6 +403,9 @@ impl<'c, T: Drop, W: Run> LocalHandle<'c, T, W> {
             (λ back. (self.entry.machine.held ≢ []) × (back.0.machine.held ≡ self.entry.machine.held)) }
         ensures counted { IfErr result (λ back. back.0.machine.guards ≡ 0) }
         ensures found { IfErr result (λ back. back.0.machine.full ≡ true) }
+        // An accepted `leave` returns the state after the release. The word is 0, the machine is that of a free
+        // position, no place is claimed, and the held bag, if it had a job, was put whole. `release` makes the same
+        // release, and returns no state.
         ensures frees { IfOk result (λ released. IsReleased W.done W.Removing.tried self.entry released.local) }
     {
         let LocalHandle {
@@ -403,15 +426,30 @@ impl<'c, T: Drop, W: Run> LocalHandle<'c, T, W> {
     /// its bag as it was. In crossbeam-epoch a handle does this when it is dropped, and is never refused.
     pub fn release(self) -> Result<(), (LocalHandle<'c, T, W>, Fault)>
         requires { self.machine.guards ≡ 0 }
+        // A handle whose release is refused comes back unpinned, with its bag. The only fault is `BagsFull`.
         ensures full { IfErr result (λ back. back.1 ≡ BagsFull) }
+
         ensures same { IfErr result (λ back. IsSame self.entry back.0) }
+        // Each call performs its machine's action from the beginning to the end. It takes one step on the tables for
+        // each thing that the machine asks for. The machine goes on by what the steps found. In these calls the epochs
+        // that are read never fall. In these calls a pin or a repin publishes the epoch that it loaded immediately
+        // before. In these calls a bag that is put is sealed with the epoch loaded after its last job, and is left
+        // whole in its place. In these calls a bag whose jobs are called has a seal at least two below the epoch of the
+        // scan.
         ensures does { IfErr result (λ back. Does self.entry Release back.0) }
+
+        // For each job that the machine gave to be called in a pin, a resume, a flush or a release, the work was
+        // called, or the removal was tried.
         ensures called { IfErr result (λ back. DoesAndCalls W.done W.Removing.tried self.entry Release back.0) }
+
         ensures ready { IfErr result (λ back. IsReady back.0) }
         ensures held { IfErr result
             (λ back. (self.entry.machine.held ≢ []) × (back.0.machine.held ≡ self.entry.machine.held)) }
         ensures counted { IfErr result (λ back. back.0.machine.guards ≡ 0) }
+        // A deferral, a flush and a `defer_destroy` (of `epoch_atomic`) are refused for lack of a place exactly when
+        // the machine found the store full. A release is refused only then.
         ensures found { IfErr result (λ back. back.0.machine.full ≡ true) }
+
         ensures frees { IsOk result → (last : _) × IsReleased W.done W.Removing.tried self.entry last }
     {
         let LocalHandle {
@@ -436,7 +474,9 @@ impl<'c, T: Drop, W: Run> LocalHandle<'c, T, W> {
         ensures ready { IsReady self.new }
         ensures counted { self.new.machine.guards ≡ self.old.machine.guards }
         ensures unprotected { guard.now.position ≡ None → IsOk result × (self.new ≡ self.old) }
+        // A deferral under an unprotected guard has called the work or tried the removal.
         ensures at_once { guard.now.position ≡ None → IsCalled W.done W.Removing.tried job }
+
         ensures stranger { IsSome guard.now.position → ¬ Owns self.old guard.now
             → IfErr result (λ refused. refused.fault ≡ StrangerGuard) × IsErr result × (self.new ≡ self.old) }
         ensures does { IsSome guard.now.position → Owns self.old guard.now

@@ -91,6 +91,8 @@ pub fn place_under<T: Drop + HasPlacing<M>, W, M: Placing<T>>(
 ) -> Result<Name, Refused<Box<T>>>
     ensures full { IfErr result (λ refused. (refused.fault ≡ CellsFull) × (refused.value ≡ value)) }
     ensures slot { IfOk result (λ name. name.slot ≤ vec_len guard.now.collector.now.cells.slots) }
+    // A value that is placed under a guard was put into a cell under the name that the call returns. Nothing but the
+    // placing itself shows that.
     ensures placed { IfOk result (λ name. M.placed value.value name) }
 {
     match guard.room_for(value) {
@@ -125,6 +127,7 @@ pub fn boxed_under<T: Drop, W>(
     alloc: Global,
     value: T,
 ) -> Result<Box<T>, AllocFailed<T>>
+    // A value that is put into a box under a guard is the one in the box. If memory is refused, it comes back.
     ensures value { IfOk result (λ whole. whole.value ≡ value) }
     ensures handed_back { IfErr result (λ refused. refused.value ≡ value) }
 {

@@ -14,3 +14,5 @@ pub mod Finding
 pub mod Seeing
 pub mod Standing
 pub mod Bagged
+pub mod Passing
+pub mod PinsPassed

@@ -1,5 +1,5 @@
 -- The steps on the word of a place, under its invariant. Assumes `Logic`.
-use Rattle.std.proofs.Common.{◌≡◌, ◌≢◌, ◌⊎◌, inl, inr, ℕ, zero, suc, ◌+◌, ◌*◌, List, [], ◌∷◌, ◌++◌, sym, refl, ap}
+use Rattle.std.proofs.Common.{◌≡◌, ◌≢◌, inl, inr, ℕ, zero, suc, ◌+◌, ◌*◌, List, [], ◌∷◌, ◌++◌, sym, refl, ap}
 use Rattle.std.proofs.Common.{◌∙◌, subst, length}
 use Rattle.std.proofs.Common.{eqb, eq-eqb, ne_eqb}
 use Rattle.std.proofs.lemmas.List.{length-append}
@@ -27,7 +27,7 @@ use denote.Struct.Lending.{lent_at}
 use Rattle.core.specs.Sync.RawAtomic.{asks, always, word}
 use Rattle.core.proofs.raw_atomic.Asked.{borrowed, Lies, Again}
 use Rattle.epoch_lend.specs.Posts.{known}
-use Rattle.epoch_lend.specs.Loans.{Loan, stock, Within, marked_owns}
+use Rattle.epoch_lend.specs.Loans.{Loan, Within, marked_owns}
 use Rattle.epoch_lend.specs.Turning.{TurnNames, TurnStage, vacant, claimed, shown, removed, turn_word, TurnOf}
 use Rattle.epoch_lend.specs.Turning.{turn_logs, is_turn, turn_is, claim_has, claim_of, vacancy_of, log_of}
 use Rattle.epoch_lend.specs.Turning.{Awaits, turns_so_far, lent_with, lent_of, shown_with, turn_holds, at_turn}
@@ -275,27 +275,27 @@ module _ {M : Type 1} {𝓤 : Ura M} (𝓛 : Logic 𝓤) (R : RattleType) (d : T
         (λ hit. subst F (sym (eq-eqb n w hit)) (marks_hit n hit))
         (λ miss. subst F (sym (ne_eqb n w miss)) (marks_miss n miss))
 
-  -- ---- a place is vacant again, at the next turn
-  module _ (t : ℕ) where
-    abbrev pub Removed : Fml
-    Removed = claim_has R d.at δ (4 * t + 3)
+  -- ---- a place is vacant, at the turn that it awaits
+  module _ (t p : ℕ) where
+    abbrev pub Kept : Fml
+    Kept = claim_has R d.at δ p
 
     -- who has the word gives the place back
-    releases : (n : ℕ) → ⟦ W n ⟧ ∗ ⟦ Removed ⟧ ⊢ upd 𝓤 (⟦ W (4 * suc t) ⟧ ∗ ⟦ ftrue ⟧)
-    releases n = let u = gnum (4 * suc t) in
-        let Goal : Pr = ⟦ W (4 * suc t) ⟧ ∗ ⟦ ftrue ⟧ in
-        qed 𝓛 (‵ (W n) ∷ ‵ Removed ∷ []) ∵ fpick ! (λ s. fsplit3 ! $ move ! (3 ∷ []) $ fsplit ! $ move ! (2 ∷ []) $
+    releases : Awaits t p → (n : ℕ) → ⟦ W n ⟧ ∗ ⟦ Kept ⟧ ⊢ upd 𝓤 (⟦ W (4 * t) ⟧ ∗ ⟦ ftrue ⟧)
+    releases awaits n = let u = gnum (4 * t) in
+        let Goal : Pr = ⟦ W (4 * t) ⟧ ∗ ⟦ ftrue ⟧ in
+        qed 𝓛 (‵ (W n) ∷ ‵ Kept ∷ []) ∵ fpick ! (λ s. fsplit3 ! $ move ! (3 ∷ []) $ fsplit ! $ move ! (2 ∷ []) $
         fpick ! (λ is. drop ! $ move ! (0 ∷ 2 ∷ []) $
-        use2 𝓛 (given (gnum (4 * t + 3) ≡ gnum n) (‵ (fobs δ (gnum (4 * t + 3))) ⊛ ‵ (fauth δ (gnum n))))
-        (𝓛.names.name_agree δ (gnum (4 * t + 3)) (gnum n)) $ learn ! (λ same. split ! $ move ! (3 ∷ []) $
-        rewrite ! 0 (λ (z : TurnStage). ‵ (turn_holds R d z)) (is_removed s t (sym is ∙ sym (ap num same))) refl $
+        use2 𝓛 (given (gnum p ≡ gnum n) (‵ (fobs δ (gnum p)) ⊛ ‵ (fauth δ (gnum n))))
+        (𝓛.names.name_agree δ (gnum p) (gnum n)) $ learn ! (λ same. split ! $ move ! (3 ∷ []) $
+        rewrite ! 0 (λ (z : Fml). ‵ z) (holds_before R d s t p awaits (sym is ∙ sym (ap num same))) refl $
         move ! (1 ∷ 2 ∷ []) $
-        use2 𝓛 (raw (upd 𝓤 (A.obs δ u ∗ A.auth δ u))) (𝓛.names.name_set_upd δ (gnum (4 * t + 3)) (gnum n) u) $
+        use2 𝓛 (raw (upd 𝓤 (A.obs δ u ∗ A.auth δ u))) (𝓛.names.name_set_upd δ (gnum p) (gnum n) u) $
         settle 𝓛 Goal (‵ (fobs δ u) ⊛ ‵ (fauth δ u)) $ split ! $ suffices ! Goal (upd_i 𝓤 Goal) $
         -- [obs; auth; turns; the room]
         move ! (0 ∷ 2 ∷ 3 ∷ []) $ fjoin3 ! $ move ! (1 ∷ 0 ∷ []) $ fjoin ! $ nothing ! $
-        fpack ! (4 * suc t ≡ 4 * suc t) (λ _. ftrue) refl $ fjoin ! $
-        fpack ! TurnStage (at_turn R d (4 * suc t)) (vacant (suc t)) $ frame ! $ nothing ! $ done !)))
+        fpack ! (4 * t ≡ 4 * t) (λ _. ftrue) refl $ fjoin ! $
+        fpack ! TurnStage (at_turn R d (4 * t)) (vacant t) $ frame ! $ nothing ! $ done !)))
 
   -- ---- under the invariant
   module _ (α : Lft) (q : Share) (b o : ℕ) where
@@ -335,9 +335,10 @@ module _ {M : Type 1} {𝓤 : Ura M} (𝓛 : Logic 𝓤) (R : RattleType) (d : T
     marks_it t e = stepped (λ n. either (eqb n (4 * t + 2)) (4 * t + 3) n) (Outed t e) (Known t e) (marks t e)
 
     -- one store makes the place vacant
-    pub releases_it : (t : ℕ) → A.inv (fbor α Memory) ∗ (A.lft α q ∗ ⟦ Removed t ⟧) ⊢ asks 𝓛 (block_ptr b (o + 0)) (λ _.
-        4 * suc t) always (λ n. fsep (flft α q) ftrue)
-    releases_it t = stepped (λ _. 4 * suc t) (λ _. ftrue) (Removed t) (releases t)
+    pub releases_it : (t p : ℕ) → Awaits t p
+        → A.inv (fbor α Memory) ∗ (A.lft α q ∗ ⟦ Kept t p ⟧) ⊢ asks 𝓛 (block_ptr b (o + 0)) (λ _. 4 * t) always
+        (λ n. fsep (flft α q) ftrue)
+    releases_it t p awaits = stepped (λ _. 4 * t) (λ _. ftrue) (Kept t p) (releases t p awaits)
 
   -- ---- what an exchange gained
   abbrev pub Gains : ℕ → ℕ → ℕ → Type 0

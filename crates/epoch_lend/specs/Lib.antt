@@ -5,3 +5,5 @@ pub mod Watching
 pub mod Turning
 pub mod Sets
 pub mod Bags
+pub mod Grace
+pub mod PinRuns

@@ -1,6 +1,9 @@
 -- The word of a place that values take turns at. It is four times the turn, and the state: vacant, claimed by who
 -- places a value, shown to who looks, or removed. A log has the value of each turn so far, with the atom of the
 -- lifetime that it was lent for.
+use Rattle.std.proofs.Math.Nat.{ℕ_set, ne_of_lt, lt_trans}
+use Rattle.std.proofs.Math.Numerals.{lt-add-one}
+use Rattle.std.proofs.Common.{inl, inr, sym, ap, ◌∙◌}
 use Rattle.std.specs.Prelude.{◌≡◌, ◌⊎◌, ℕ, zero, suc, ◌+◌, ◌*◌, List, [], ◌∷◌, ◌++◌, length, Option, Some, None}
 use base.Fraction.{full_share}
 use base.Stored.{Coded, coded×, coded_ℕ, coded_list, coded_via, gnum}
@@ -53,6 +56,17 @@ turn_word (removed turn) = 4 * turn + 3
 -- the value of the turn before and took it out
 abbrev pub Awaits : ℕ → ℕ → Type 0
 Awaits turn word = (word ≡ 4 * turn + 1) ⊎ (word + 1 ≡ 4 * turn)
+
+-- it did one of both, and not the other
+not_both : (turn n : ℕ) → n ≡ 4 * turn + 1 → n + 1 ≡ 4 * turn → ⊥
+not_both turn n claim removal =
+    ne_of_lt (lt_trans (lt-add-one n) (lt-add-one (n + 1))) (claim ∙ ap (λ (x : ℕ). x + 1) (sym removal))
+
+pub awaits_prop : (turn n : ℕ) → IsProp (Awaits turn n)
+awaits_prop turn n (inl x) (inl y) = ap inl (ℕ_set n (4 * turn + 1) x y)
+awaits_prop turn n (inl x) (inr y) = absurd (not_both turn n x y)
+awaits_prop turn n (inr x) (inl y) = absurd (not_both turn n y x)
+awaits_prop turn n (inr x) (inr y) = ap inr (ℕ_set (n + 1) (4 * turn) x y)
 
 -- the value of a turn, and the atom of the lifetime that it is lent for
 abbrev pub TurnOf : Type 0 → Type 0

@@ -26,7 +26,10 @@ impl<T> Marked<T> {
     /// Looks at each post once. Returns a seal: each guard that had a loan is over, or is of an epoch before it.
     pub fn seal(self, posts: &[Post]) -> (u64, Marked<T>)
         requires { self.right ≡ 1 }
+        // After a mark, one look at each post gives an epoch, the seal. Each guard that had a loan is over, or is of an
+        // epoch before the seal.
         ensures sealed { EachSeen (is_sealed result.0) (logs_of posts.now) result.1.seen }
+
         ensures same { (result.1.right ≡ 1) × (result.1.value ≡ self.value) × (result.1.lifetime ≡ self.lifetime)
             × (result.1.loans ≡ self.loans) }
     {
@@ -68,8 +71,10 @@ impl<T> Marked<T> {
         requires marked { self.right ≡ 1 }
         requires lent { Within (logs_of posts.now) self.loans }
         requires sealed { EachSeen (is_sealed seal) (logs_of posts.now) self.seen }
+        // What comes back is the value that was lent, with all of its parts, and so its box.
         ensures whole { IfOk result (λ part. (part.value ≡ self.value) × (part.lifetime ≡ self.lifetime)
             × (part.count ≡ 2 ^ 63)) }
+
         ensures again { IfErr result (λ marked. (marked.right ≡ 1) × (marked.loans ≡ self.loans)
             × EachSeen (is_sealed seal) (logs_of posts.now) marked.seen) }
         ensures same { IfErr result (λ marked. (marked.value ≡ self.value) × (marked.lifetime ≡ self.lifetime)) }

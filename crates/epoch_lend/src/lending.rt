@@ -138,6 +138,7 @@ impl<T> Marked<T> {
     /// Returns all parts of the value. Looks must have shown that each guard with a loan is over.
     pub fn collect(self) -> Part<T>
         requires { (self.right ≡ 1) × AreShown self.seen self.loans }
+        // Nothing comes back before each guard that had a loan is over.
         ensures { (result.value ≡ self.value) × (result.lifetime ≡ self.lifetime) × (result.count ≡ 2 ^ 63) }
     {
         let Marked { at } = self;

@@ -34,6 +34,8 @@ impl<T> Lent<T> {
     /// it was marked. The guard must be of one of the value's posts.
     pub fn look<'g>(&self, guard: &'g PostGuard) -> Option<&'g T>
         requires { IsAmong guard.now.log self.now.lending.posts }
+        // A look that finds the value present lends it for as long as the guard is lent, any number of times, and
+        // writes nothing.
         ensures { IfSome result (λ value. value.now ≡ self.now.lending.value) }
     {
         let (found, glance) = self.lending.look(guard, self.at);
@@ -48,6 +50,8 @@ impl<T> Lent<T> {
     /// Marks the value, so that no look finds it from then on. The caller that marks it gets what was lent of it, and
     /// no other caller does. `None`: it was marked before.
     pub fn mark(&self) -> Option<Marked<T>>
+        // Of all marks of a value, only one gets the value, with all of its loans. Each loan went to a guard of one of
+        // the value's posts.
         ensures marked { IfSome result (λ marked. (marked.right ≡ 1) × (marked.seen ≡ [])) }
         ensures value { IfSome result (λ marked. (marked.value ≡ self.now.lending.value)
             × (marked.lifetime ≡ self.now.lending.lifetime)) }

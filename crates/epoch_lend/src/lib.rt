@@ -5,9 +5,13 @@
 pub mod array;
 pub mod back;
 pub mod cells;
+pub mod domain;
+pub mod grace;
 pub mod lending;
 pub mod lent;
 pub mod part;
 pub mod post;
 pub mod readers;
+pub mod session;
+pub mod steps;
 pub mod watch;

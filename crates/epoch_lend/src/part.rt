@@ -60,24 +60,6 @@ impl<T> Part<T> {
     {
         unsafe { &*self.ptr }
     }
-
-    /// Splits off another part of the same value, of one share. This part must have more than one, and keeps the rest.
-    pub fn split_one(&mut self) -> Part<T>
-        requires { (1 < self.old.count) × (self.old.count ≤ 2 ^ 63) }
-        ensures { (self.new ≡ record self.old { count = self.old.count - 1 })
-            × (result ≡ record self.old { count = 1 }) }
-    {
-        Part { ptr: self.ptr }
-    }
-
-    /// Takes in another part of the same value.
-    pub fn join(&mut self, other: Part<T>)
-        requires { (other.lifetime ≡ self.old.lifetime) × (0 < self.old.count)
-            × (self.old.count + other.count ≤ 2 ^ 63) }
-        ensures { self.new ≡ record self.old { count = self.old.count + other.count } }
-    {
-        let Part { ptr: _ } = other;
-    }
 }
 
 unsafe impl<T: Sync> Send for Part<T> {}

@@ -110,6 +110,8 @@ impl Post {
     pub fn pin(&self, unpinned: Unpinned, epoch: u64) -> (Pin, PostGuard)
         requires of_post { (unpinned.log ≡ self.now.log) × (unpinned.state ≡ self.now.state) }
         requires within { epoch < 2 ^ 63 }
+        // All guards of one pin share one lifetime, a pin ends only with all of them, and a post's word is `2e + 1`
+        // from the pin to its end, and otherwise 0.
         ensures pin { (result.0.log ≡ self.now.log) × (result.0.state ≡ self.now.state)
             × (result.0.atom ≡ result.1.atom) }
         ensures guard { (result.1.log ≡ self.now.log) × (result.1.epoch ≡ epoch) × (result.1.count ≡ 2 ^ 63) }
@@ -131,10 +133,27 @@ impl Post {
         }
     }
 
+    /// Ends the pin, and pins anew in this epoch, by two stores. All it takes has no bytes but the epoch, so a caller
+    /// that seldom comes here keeps nothing in memory for it.
+    #[cold]
+    #[inline(never)]
+    pub fn repin(&self, pin: Pin, guard: PostGuard, epoch: u64) -> (Pin, PostGuard)
+        requires of_post { (pin.log ≡ self.now.log) × (pin.state ≡ self.now.state) }
+        requires all_here { (guard.atom ≡ pin.atom) × (guard.count ≡ 2 ^ 63) }
+        requires within { epoch < 2 ^ 63 }
+        ensures pin { (result.0.log ≡ self.now.log) × (result.0.state ≡ self.now.state)
+            × (result.0.atom ≡ result.1.atom) }
+        ensures guard { (result.1.log ≡ self.now.log) × (result.1.epoch ≡ epoch) × (result.1.count ≡ 2 ^ 63) }
+    {
+        self.pin(self.unpin(pin, guard), epoch)
+    }
+
     /// Looks at the post, by one plain load. It shows that each guard of this post that had a loan is over, except
     /// those of the epoch found. Returns the word found, and what was marked, with this look added to what was seen.
     pub fn look<T>(&self, marked: Marked<T>) -> (u64, Marked<T>)
         requires { marked.right ≡ 1 }
+        // One plain load of a post shows which of its guards are over: every guard that had a loan, except guards of
+        // the epoch that was found.
         ensures seen { result.1.seen ≡ (self.now.log, result.0) ∷ marked.seen }
         ensures same { (result.1.right ≡ 1) × (result.1.value ≡ marked.value)
             × (result.1.lifetime ≡ marked.lifetime) × (result.1.loans ≡ marked.loans) }
@@ -147,6 +166,7 @@ impl Post {
     /// Looks at the post for all loans of a watch, by one plain load. It shows that each guard of this post with one is
     /// over, except those of the epoch found. Returns the word found, and the watch with this look added.
     pub fn look_for(&self, watch: Watch) -> (u64, Watch)
+        // One plain load of a post shows, for all loans of a watch at once, which of the post's guards are over.
         ensures seen { result.1.seen ≡ (self.now.log, result.0) ∷ watch.seen }
         ensures same { result.1.loans ≡ watch.loans }
     {

@@ -2,5 +2,4 @@
 //! asks for what its caller can't test.
 pub mod posts;
 pub mod reader;
-pub mod session;
 pub mod value;

@@ -26,6 +26,7 @@ impl Model for Watch {
 impl Watch {
     /// Makes a watch of no loans.
     pub fn new() -> Watch
+        // A watch has the loans of each value that was added to it. The values stay as they were.
         ensures { (result.loans ≡ []) × (result.seen ≡ []) }
     {
         Watch {
@@ -47,6 +48,8 @@ impl Watch {
         requires marked { marked.right ≡ 1 }
         requires watched { AreWatched marked.loans self.old.loans }
         requires shown { AreShown self.old.seen self.old.loans }
+        // A watch gives back all parts of a value only if it has the value's loans, and each guard that had one of them
+        // was shown to be over.
         ensures { (self.new ≡ self.old) × (result.value ≡ marked.value) × (result.lifetime ≡ marked.lifetime)
             × (result.count ≡ 2 ^ 63) }
     {
@@ -56,7 +59,10 @@ impl Watch {
 
     /// Looks at each post once. Returns a seal: each guard that had a loan is over, or is of an epoch before it.
     pub fn seal(self, posts: &[Post]) -> (u64, Watch)
+        // One look at each post gives one seal for all these loans. One more look at each post says whether every guard
+        // that had one of them is over.
         ensures sealed { EachSeen (is_sealed result.0) (logs_of posts.now) result.1.seen }
+
         ensures same { result.1.loans ≡ self.loans }
     {
         let mut watch = self;

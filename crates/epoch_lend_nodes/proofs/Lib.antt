@@ -1,2 +1,3 @@
+pub mod NoBags
 pub mod PathsOnly
 mod Told

@@ -1,5 +1,5 @@
 pub mod Gathering
-pub mod Lending
 pub mod Moving
 pub mod Nodes
 pub mod Taking
+pub mod Telling

@@ -1,4 +1,4 @@
-//! What structures have in common whose nodes are lent: their nodes, the accesses to them, and how a handle keeps their
+//! What structures have in common whose nodes are lent: their nodes, the accesses to them, and how a writer keeps their
 //! removals.
 #![tactic(auto)]
 
@@ -11,5 +11,5 @@ mod spots;
 pub use gathering::Gathers;
 pub use node::{LentNode, ListNode};
 pub use points::{ptr_of, write_at};
-pub use serving::serves_lending;
+pub use serving::{give_back, is_writer_of, without_bags};
 pub use spots::{CallNodes, NodeSpots};

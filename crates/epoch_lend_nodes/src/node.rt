@@ -27,6 +27,7 @@ pub struct ListNode<V> {
 impl<V: Drop> ListNode<V> {
     /// Makes a node with this value.
     pub fn new(value: V) -> ListNode<V>
+        // A node has the value that it was made with.
         ensures { value_of result ≡ value }
     {
         let next = Atomic::null();

@@ -1,17 +1,17 @@
 //! Pointers of a structure, as threads load and change them for its program.
 
-use epoch_atomic::atomic::{Atomic, ExchangeFault, Pointable, Shared};
-use epoch_handles::Guard;
+use epoch_atomic::atomic::{Atomic, Pointable, Shared};
+use epoch_handles::Home;
 use epoch_laws::heap::{AccessAnswer, Change, Ptr};
 use std::sync::atomic::Ordering::SeqCst;
 
 // The pointer that a thread has for one of the program.
 #[inline(always)]
-pub(crate) fn shared<'g, T: Pointable, W>(ptr: Ptr, guard: &'g Guard<'_, T, W>) -> Shared<'g, T> {
+pub(crate) fn shared<'g, T: Pointable>(ptr: Ptr, home: Home<'g, T>) -> Shared<'g, T> {
     let Some(name) = ptr.name else {
         return Shared::null().with_tag(ptr.tag as usize);
     };
-    Shared::named(name, guard).with_tag(ptr.tag as usize)
+    Shared::named_at(name, home).with_tag(ptr.tag as usize)
 }
 
 /// Returns the pointer that the program has for one of a thread.
@@ -25,47 +25,42 @@ pub fn ptr_of<T>(shared: Shared<'_, T>) -> Ptr {
 
 // Exchanges the pointer there, if it is this one still, for the other.
 #[inline(always)]
-fn exchange_at<T: Pointable, W>(
+fn exchange_at<T: Pointable>(
     at: &Atomic<T>,
     current: Ptr,
     new: Ptr,
-    guard: &Guard<'_, T, W>,
+    home: Home<'_, T>,
 ) -> AccessAnswer {
-    let (current, new) = (shared(current, guard), shared(new, guard));
-    match at.compare_exchange(current, new, SeqCst, SeqCst, guard) {
+    let (current, new) = (shared(current, home), shared(new, home));
+    match at.compare_exchange_at(current, new, SeqCst, SeqCst, home) {
         Ok(written) => AccessAnswer::Exchanged(ptr_of(written)),
-        Err(ExchangeFault::Changed(lost)) => AccessAnswer::Unchanged(ptr_of(lost.current)),
-        Err(_) => AccessAnswer::Absent,
+        Err(found) => AccessAnswer::Unchanged(ptr_of(found)),
     }
 }
 
 /// Stores this pointer there, or exchanges the one for the other, for the program. `Absent`: it is another change,
 /// which no program of this library asks for.
 #[inline(always)]
-pub fn write_at<T: Pointable, W>(
-    at: &Atomic<T>,
-    change: Change,
-    guard: &Guard<'_, T, W>,
-) -> AccessAnswer {
+pub fn write_at<T: Pointable>(at: &Atomic<T>, change: Change, home: Home<'_, T>) -> AccessAnswer {
     match change {
-        Change::Store(new) => match at.store(shared(new, guard), SeqCst, guard) {
-            Ok(()) => AccessAnswer::Unit,
-            Err(_) => AccessAnswer::Absent,
-        },
-        Change::CompareExchange(current, new) => exchange_at(at, current, new, guard),
+        Change::Store(new) => {
+            at.store_at(shared(new, home), SeqCst);
+            AccessAnswer::Unit
+        }
+        Change::CompareExchange(current, new) => exchange_at(at, current, new, home),
         _ => AccessAnswer::Absent,
     }
 }
 
 // Loads, stores or exchanges the pointer there.
 #[inline(always)]
-pub(crate) fn change_at<T: Pointable, W>(
+pub(crate) fn change_at<T: Pointable>(
     at: &Atomic<T>,
     change: Change,
-    guard: &Guard<'_, T, W>,
+    home: Home<'_, T>,
 ) -> AccessAnswer {
     match change {
-        Change::Load => AccessAnswer::Pointer(ptr_of(at.load(SeqCst, guard))),
-        _ => write_at(at, change, guard),
+        Change::Load => AccessAnswer::Pointer(ptr_of(at.load_at(SeqCst, home))),
+        _ => write_at(at, change, home),
     }
 }

@@ -1,5 +1,5 @@
 //! The roots of a structure that threads share, and its nodes, which are lent.
-ghost use Rattle.std.specs.Prelude.{◌≡◌, ◌<◌, ℕ, Option, Some, None, IsSome, IfOk, IfErr};
+ghost use Rattle.std.specs.Prelude.{◌≡◌, ◌≤◌, ℕ, Option, Some, None};
 ghost use Rattle.epoch_cells.specs.declared.fault.Fault.TheVariants.{CellsFull};
 ghost use Rattle.epoch_laws.specs.declared.heap.access.Access.TheVariants.{Place, Read, Leave, Point};
 ghost use Rattle.epoch_laws.specs.declared.heap.access.AccessAnswer.TheVariants.{Unit as Nothing};
@@ -13,12 +13,14 @@ ghost use Rattle.epoch_plans.specs.Plans.{ptr_to};
 
 use crate::node::LentNode;
 use crate::points::{change_at, ptr_of, shared};
-use epoch_atomic::atomic::{Atomic, Shared};
+use epoch_atomic::atomic::Atomic;
 use epoch_cells::{Fault, Name};
+use epoch_handles::Home;
 use epoch_laws::heap::{Access, AccessAnswer, Change, Ptr, Spot};
 use epoch_lend::array::room::LentRoom;
 use epoch_lend::readers::posts::PostSet;
-use epoch_lend_pointers::guard::LendingGuard;
+use epoch_lend::readers::reader::Pinned;
+use epoch_lend_pointers::LentCells;
 use epoch_lend_pointers::store::spots::next_name;
 use epoch_structure_calls::links::LinkSpots;
 use epoch_structure_calls::phases::Spots;
@@ -33,6 +35,8 @@ pub struct CallNodes<'g, V> {
     pub name: Option<Name>,
     /// The node that was read last.
     pub lent: Option<&'g V>,
+    /// The name of the node that was placed.
+    pub placed: Option<Name>,
 }
 
 /// A node that was placed and that no look finds yet: its name, and the free cell in which it will be shown.
@@ -41,37 +45,41 @@ struct Unshown<'s, J: PostSet, V> {
     name: Name,
     node: V,
     room: LentRoom<'s, J, V>,
-    ghost fits: { room.turn < room.cells.now.last_turn },
+    ghost fits: { room.next_turn ≤ room.cells.now.last_turn },
 }
 
-/// The roots of a structure, and its nodes, under the guard of one call.
+/// The roots of a structure, and its nodes, under the pin of one call's guard.
 ///
 /// The program speaks of values as numbers. No value of a node is one: each is read as 0, and the node itself is lent.
 #[derive(Drop)]
-pub struct NodeSpots<'g, 'c, 'q, 's, J: PostSet, V, W> {
+pub struct NodeSpots<'g, 'd, 's, J: PostSet, V> {
     head: &'g Atomic<V>,
     // `None`: the structure has one root.
     tail: Option<&'g Atomic<V>>,
-    guard: &'g LendingGuard<'c, 'q, 's, J, V, W>,
-    /// What the call has of nodes. A call that moves values takes them out of the node that it read.
-    pub nodes: CallNodes<'g, V>,
+    cells: &'g LentCells<J, V>,
+    // The home of the structure's pointers.
+    home: Home<'g, V>,
+    pinned: &'g Pinned<'d, J>,
+    nodes: CallNodes<'g, V>,
     // A free cell for the node that the call places.
     room: Option<LentRoom<'s, J, V>>,
     // That node, until the first exchange or store by which others may find it.
     unshown: Option<Unshown<'s, J, V>>,
 }
 
-impl<'g, 'c, 'q, 's, J: PostSet, V: LentNode, W> NodeSpots<'g, 'c, 'q, 's, J, V, W> {
-    /// Makes the spots of one call under this guard: root 0, root 1 if there is one, and the node that the call places,
-    /// with a free cell for it if there is one.
+impl<'g, 'd, 's, J: PostSet, V: LentNode> NodeSpots<'g, 'd, 's, J, V> {
+    /// Makes the spots of one call under this pin: root 0, root 1 if there is one, and the node that the call places,
+    /// with a free cell for it if there is one. The nodes are in these cells.
     #[inline(always)]
     pub fn new(
         head: &'g Atomic<V>,
         tail: Option<&'g Atomic<V>>,
-        guard: &'g LendingGuard<'c, 'q, 's, J, V, W>,
+        cells: &'g LentCells<J, V>,
+        home: Home<'g, V>,
+        pinned: &'g Pinned<'d, J>,
         own: Option<V>,
         room: Option<LentRoom<'s, J, V>>,
-    ) -> NodeSpots<'g, 'c, 'q, 's, J, V, W>
+    ) -> NodeSpots<'g, 'd, 's, J, V>
         ensures own { result.nodes.own ≡ own }
         ensures lent { result.nodes.lent ≡ None }
     {
@@ -79,54 +87,50 @@ impl<'g, 'c, 'q, 's, J: PostSet, V: LentNode, W> NodeSpots<'g, 'c, 'q, 's, J, V,
             own,
             name: None,
             lent: None,
+            placed: None,
         };
         NodeSpots {
             head,
             tail,
-            guard,
+            cells,
+            home,
+            pinned,
             nodes,
             room,
             unshown: None,
         }
     }
 
-    /// Ends the call, and returns its nodes. A free cell that it hasn't used is left to all callers. A node that has a
-    /// name is shown under it, so that no other value gets this name.
+    /// Ends the call, and returns its nodes, and the free cell if it hasn't used that. A node that has a name is shown
+    /// under it, so that no other value gets this name.
     #[inline(always)]
-    pub fn close(self) -> CallNodes<'g, V>
-        ensures { result ≡ self.entry.nodes }
+    pub fn close(self) -> (CallNodes<'g, V>, Option<LentRoom<'s, J, V>>)
+        ensures { result.0 ≡ self.entry.nodes }
     {
         let mut spots = self;
         spots.show();
         let NodeSpots {
             head: _,
             tail: _,
-            guard: _,
+            cells: _,
+            home: _,
+            pinned: _,
             nodes,
             room,
             unshown: _,
         } = spots;
-        if let Some(room) = room {
-            room.release();
-        }
-        nodes
+        (nodes, room)
     }
 
-    // Places the node in a cell that is searched for. If it is refused, it is the call's own again.
+    // Has the node be the call's own again, since there is no cell for it.
     #[inline(always)]
-    fn place_anywhere(&mut self, node: V) -> Result<Option<Name>, Fault>
-        requires { self.old.nodes.own ≡ None }
-        ensures placed { IfOk result (λ name. IsSome name × (self.new.nodes ≡ self.old.nodes)) }
-        ensures full { IfErr result (λ fault. (fault ≡ CellsFull) × (self.new.nodes.own ≡ Some node)
-            × (self.new.nodes.name ≡ self.old.nodes.name) × (self.new.nodes.lent ≡ self.old.nodes.lent)) }
+    fn refuse(&mut self, node: V) -> Fault
+        ensures fault { result ≡ CellsFull }
+        ensures own { self.new.nodes.own ≡ Some node }
+        ensures others { (self.new.nodes.name ≡ self.old.nodes.name) × (self.new.nodes.lent ≡ self.old.nodes.lent) }
     {
-        match self.guard.place(node) {
-            Ok(pointer) => Ok(pointer.name()),
-            Err(refused) => {
-                self.nodes.own = Some(refused.value);
-                Err(Fault::CellsFull)
-            }
-        }
+        self.nodes.own = Some(node);
+        Fault::CellsFull
     }
 
     // Shows the node that was placed, from now on, by one store.
@@ -153,19 +157,26 @@ impl<'g, 'c, 'q, 's, J: PostSet, V: LentNode, W> NodeSpots<'g, 'c, 'q, 's, J, V,
     fn lead_to(&mut self, name: Name, next: Ptr) -> bool
         ensures { self.new.nodes ≡ self.old.nodes }
     {
-        let guard = self.guard;
+        let home = self.home;
         match &mut self.unshown {
             Some(unshown) if unshown.name == name => {
-                unshown
-                    .node
-                    .set_next(Atomic::from(shared(next, guard.guard())));
+                unshown.node.set_next(Atomic::from(shared(next, home)));
                 true
             }
             _ => false,
         }
     }
 
-    // The node of this name, which is lent for as long as the guard is borrowed.
+    // Looks at the node of this name, which is lent for as long as the pin is borrowed.
+    #[inline(always)]
+    fn look(&self, name: Name) -> Option<&'g V> {
+        match self.cells.look(name, self.pinned) {
+            Some(sight) => Some(sight.value),
+            None => None,
+        }
+    }
+
+    // The node of this name, with no look if it was read last.
     #[inline(always)]
     fn node_of(&self, name: Name) -> Option<&'g V> {
         if let Some(read) = self.nodes.name {
@@ -173,7 +184,7 @@ impl<'g, 'c, 'q, 's, J: PostSet, V: LentNode, W> NodeSpots<'g, 'c, 'q, 's, J, V,
                 return self.nodes.lent;
             }
         }
-        self.guard.get(Shared::named(name, self.guard.guard()))
+        self.look(name)
     }
 
     // The root of this number.
@@ -208,7 +219,7 @@ impl<'g, 'c, 'q, 's, J: PostSet, V: LentNode, W> NodeSpots<'g, 'c, 'q, 's, J, V,
     #[inline(always)]
     fn load_at(&self, at: Option<&'g Atomic<V>>) -> Option<Ptr> {
         match at {
-            Some(at) => Some(ptr_of(at.load(SeqCst, self.guard.guard()))),
+            Some(at) => Some(ptr_of(at.load_at(SeqCst, self.home))),
             None => None,
         }
     }
@@ -219,9 +230,9 @@ impl<'g, 'c, 'q, 's, J: PostSet, V: LentNode, W> NodeSpots<'g, 'c, 'q, 's, J, V,
         let Some(at) = at else {
             return false;
         };
-        let guard = self.guard.guard();
-        let (current, new) = (shared(current, guard), shared(new, guard));
-        at.compare_exchange(current, new, SeqCst, SeqCst, guard)
+        let home = self.home;
+        let (current, new) = (shared(current, home), shared(new, home));
+        at.compare_exchange_at(current, new, SeqCst, SeqCst, home)
             .is_ok()
     }
 
@@ -253,14 +264,15 @@ impl<'g, 'c, 'q, 's, J: PostSet, V: LentNode, W> NodeSpots<'g, 'c, 'q, 's, J, V,
             self.show();
         }
         match self.at(spot) {
-            Some(at) => change_at(at, change, self.guard.guard()),
+            Some(at) => change_at(at, change, self.home),
             None => AccessAnswer::Absent,
         }
     }
 }
 
-impl<'g, 'c, 'q, 's, J: PostSet, V: LentNode, W> LinkSpots for NodeSpots<'g, 'c, 'q, 's, J, V, W> {
-    // In a free cell the node has a name at once, and is shown later.
+impl<'g, 'd, 's, J: PostSet, V: LentNode> LinkSpots for NodeSpots<'g, 'd, 's, J, V> {
+    // In its free cell the node has a name at once, and is shown later. It is refused if there is none, or the cell has
+    // had its last turn.
     #[inline(always)]
     fn place_node(&mut self, value: u64) -> Result<Option<Name>, Fault>
         ensures does { MovesNodes self.old.nodes (Place value) (placed result) self.new.nodes }
@@ -270,16 +282,17 @@ impl<'g, 'c, 'q, 's, J: PostSet, V: LentNode, W> LinkSpots for NodeSpots<'g, 'c,
             return Ok(None);
         };
         let Some(room) = self.room.take() else {
-            return self.place_anywhere(node);
+            return Err(self.refuse(node));
         };
         match next_name(&room) {
             Some(name) => {
+                self.nodes.placed = Some(name);
                 self.unshown = Some(Unshown { name, node, room });
                 Ok(Some(name))
             }
             None => {
                 room.release();
-                self.place_anywhere(node)
+                Err(self.refuse(node))
             }
         }
     }
@@ -305,7 +318,7 @@ impl<'g, 'c, 'q, 's, J: PostSet, V: LentNode, W> LinkSpots for NodeSpots<'g, 'c,
     fn read_node(&mut self, node: Name) -> Option<u64>
         ensures { MovesNodes self.old.nodes (Read (Some 0) (ptr_to node)) (Done (value_read result)) self.new.nodes }
     {
-        match self.guard.get(Shared::named(node, self.guard.guard())) {
+        match self.look(node) {
             Some(lent) => {
                 self.nodes.name = Some(node);
                 self.nodes.lent = Some(lent);
@@ -342,8 +355,8 @@ impl<'g, 'c, 'q, 's, J: PostSet, V: LentNode, W> LinkSpots for NodeSpots<'g, 'c,
         let Some(at) = self.at_node(node) else {
             return false;
         };
-        let guard = self.guard.guard();
-        at.store(shared(next, guard), SeqCst, guard).is_ok()
+        at.store_at(shared(next, self.home), SeqCst);
+        true
     }
 
     #[inline(always)]
@@ -356,11 +369,14 @@ impl<'g, 'c, 'q, 's, J: PostSet, V: LentNode, W> LinkSpots for NodeSpots<'g, 'c,
     }
 }
 
-impl<'g, 'c, 'q, 's, J: PostSet, V: LentNode, W> Spots for NodeSpots<'g, 'c, 'q, 's, J, V, W> {
+impl<'g, 'd, 's, J: PostSet, V: LentNode> Spots for NodeSpots<'g, 'd, 's, J, V> {
     ghost does = { λ old access reply new. MovesNodes old.nodes access reply new.nodes };
 
     #[inline(always)]
     fn touch(&mut self, access: Access) -> Result<AccessAnswer, Fault>
+        // A call's own node leaves the call only where it is placed. After a read, a node is lent, and the name by
+        // which it was read is noted. No other access changes either of them. A placing that is refused is refused with
+        // `CellsFull`, and the node is the call's own again.
         ensures does { MovesNodes self.old.nodes access (reply_given result) self.new.nodes }
         ensures told { IsTold access (reply_given result) }
     {

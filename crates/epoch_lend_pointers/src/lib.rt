@@ -1,18 +1,20 @@
-//! Values behind pointers that are read by plain loads, under the guards of a collector.
+//! Values behind pointers that are read by plain loads, under the guards of a domain.
 #![tactic(auto)]
 
-pub mod guard;
-pub mod handle;
-pub mod marking;
-pub mod placing;
-pub mod retiring;
+mod placing;
+pub mod pointers;
+mod retiring;
+pub mod steps;
 pub mod store;
-pub mod taking;
+mod taking;
+pub mod writer;
 
+pub use epoch_atomic::atomic::{Atomic, Shared};
+pub use epoch_atomic::{Plain, Pointable};
+pub use epoch_cells::{Fault, Refused};
+pub use epoch_lend::domain::{Domain, DomainWork, with_domain};
 pub use epoch_lend::readers::posts::{Made, PostSet, Posts};
-pub use epoch_lend::readers::session::{Session, with_posts};
-pub use guard::LendingGuard;
-pub use handle::{GuardOf, LendingHandle};
-pub use marking::{Marking, collector_of};
-pub use store::lender::Lender;
+pub use epoch_lend::session::{LendingGuard, Session};
+pub use store::Store;
 pub use store::lent_cells::LentCells;
+pub use writer::Writer;

@@ -1,91 +1,121 @@
-//! What a handle does with retired values: it gathers them, and defers their marks together.
-ghost use Rattle.std.specs.Prelude.{◌≡◌, ◌⊎◌, [], None, Some, IsOk, IsErr, IfErr};
-ghost use Rattle.epoch_cells.specs.declared.fault.Fault.TheVariants.{StrangerGuard, StrangerPointer};
-ghost use Rattle.epoch_cells.specs.declared.fault.Fault.TheVariants.{NoMemory, BagsFull};
-ghost use Rattle.epoch_handles.specs.Handles.{IsReady, IsSame, Owns};
+//! What a writer does with retired values: it gathers them, and lets them wait together in the store.
+ghost use Rattle.std.specs.Prelude.{◌≡◌, ◌≤◌, ◌⊎◌, [], length, None, Some, IsOk, IsErr, IfErr, IfSome, IsNone};
+ghost use Rattle.epoch_cells.specs.declared.fault.Fault.TheVariants.{NoMemory, StrangerPointer};
+ghost use Rattle.epoch_atomic.specs.Pointers.{IsUnder};
 ghost use Rattle.epoch_lend_pointers.specs.Retiring.{KeepsSpot};
+ghost use Rattle.epoch_lend_pointers.specs.Steps.{HandsOver, HandsOverAll, StaysOrWaits, GathersOn};
 
-use crate::handle::{GuardOf, LendingHandle};
-use crate::marking::Marking;
-use crate::store::retired::{RETIRED_TOGETHER, Retired};
-use crate::store::rooms::LentRooms;
+use crate::steps::{HasStoreSteps, StoreSteps};
+use crate::store::retired::{RETIRED_TOGETHER, Retired, Ripening};
 use crate::store::spots::spot_of;
+use crate::writer::Writer;
 use epoch_atomic::atomic::Shared;
-use epoch_bags::Job;
 use epoch_cells::{Fault, Name, Refused};
-use epoch_handles::Guard;
 use epoch_lend::readers::posts::PostSet;
+use epoch_lend::steps::{HasPinSteps, PinSteps};
 use std::mem;
 
-impl<'c, 'q, 's, J: PostSet, T: Drop> LendingHandle<'c, 'q, 's, J, T> {
-    // Defers what is kept, as one job. A refused one is kept as before.
-    fn hand_over(&mut self, guard: &Guard<'_, T, Marking<'q, 's, J, T>>) -> Result<(), Fault>
-        requires { Owns self.old.handle guard.now }
-        ensures reader { self.new.reader ≡ self.old.reader }
-        ensures same { IsSame self.old.handle self.new.handle }
-        ensures ready { IsReady self.new.handle }
-        ensures counted { self.new.handle.machine.guards ≡ self.old.handle.machine.guards }
+impl<'q, 's, J: PostSet, T: Drop> Writer<'q, 's, J, T> {
+    // Moves the clock on, and lets the values that are gathered wait in the store, with the epoch that begins. Before
+    // they do, what waits is tried: so these aren't, which no look can have passed yet. If they are refused, they are
+    // kept as before.
+    #[cold]
+    #[inline(never)]
+    fn hand_over<S: PinSteps, M: StoreSteps<T>>(&mut self) -> Result<(), Fault>
+    where
+        J: HasPinSteps<S>,
+        T: HasStoreSteps<M>,
+        ensures store { self.new.store ≡ self.old.store }
         ensures ok { IsOk result → self.new.kept.lists.value.spots.items ≡ [] }
+        // Values that are handed over wait with the epoch to which the clock moved for them. If that is refused, for
+        // want of memory, they stay gathered as before.
+        ensures waits { IsOk result
+            → HandsOver (S.did J.posts) (M.did J.posts self.old.store.now.number)
+            self.old.kept.lists.value.spots.items }
         ensures err { IsErr result → self.new.kept.lists.value.spots.items ≡ self.old.kept.lists.value.spots.items }
-        ensures fault { IfErr result (λ fault. (fault ≡ NoMemory) ⊎ (fault ≡ BagsFull)) }
+        ensures fault { IfErr result (λ fault. fault ≡ NoMemory) }
     {
-        let Ok(fresh) = Retired::new(self.alloc, self.kept.lender()) else {
-            let _ = self.handle.collector();
+        let Ok(fresh) = Retired::new(self.alloc) else {
             return Err(Fault::NoMemory);
         };
         let retired = mem::replace(&mut self.kept, fresh);
-        match self.handle.defer(guard, Job::Call(Marking { retired })) {
+        let ripening = Ripening::begin::<S>(self.store.domain(), retired);
+        self.help::<S>();
+        match M::let_wait(self.store, ripening) {
             Ok(()) => Ok(()),
-            Err(Refused { fault, value }) => {
-                let Job::Call(Marking { retired }) = value else {
-                    unreachable!()
-                };
-                self.kept = retired;
-                Err(fault)
+            Err(back) => {
+                self.kept = back.into_retired();
+                Err(Fault::NoMemory)
             }
         }
     }
 
-    /// Retires the value that the pointer names: it is marked, at the earliest when every participant that is pinned
-    /// now has unpinned or repinned, and is dropped once no guard may have it.
+    // Puts what found no place in the store there, if there is such a batch.
+    pub(crate) fn put_held(&mut self) -> Result<(), Fault>
+        ensures store { self.new.store ≡ self.old.store }
+        ensures kept { self.new.kept ≡ self.old.kept }
+        ensures fault { IfErr result (λ fault. fault ≡ NoMemory) }
+    {
+        let Some(waiting) = self.held.take() else {
+            return Ok(());
+        };
+        match self.store.waiting.put(waiting) {
+            Ok(()) => Ok(()),
+            Err(waiting) => {
+                self.held = Some(waiting);
+                Err(Fault::NoMemory)
+            }
+        }
+    }
+
+    // Tries some of what waits in the store, and puts what found no place there before.
+    fn help<S: PinSteps>(&mut self)
+    where
+        J: HasPinSteps<S>,
+        ensures store { self.new.store ≡ self.old.store }
+        ensures kept { self.new.kept ≡ self.old.kept }
+    {
+        let _ = self.put_held();
+        self.store.try_some::<S>(&mut self.rooms);
+    }
+
+    /// Retires the value that the pointer names: no call gets it any more once each pin is over that began before, and
+    /// it is dropped once no guard may have it. Guards that are out now still get it.
     ///
-    /// The value must be out of reach: unlink it first. Until it is marked, every guard still gets it. Values are
-    /// gathered, and 64 of them are deferred by one job; [`LendingHandle::flush`] hurries them.
+    /// The value must be out of reach: unlink it first. Values are gathered, and each 64 of them wait together, so
+    /// nothing is stored that other threads see but at each 64th call. [`Writer::flush`] hurries them.
     ///
-    /// `StrangerGuard`: the guard isn't this handle's. `StrangerPointer`: the pointer is null. `NoMemory` and
-    /// `BagsFull` come only if 64 values are gathered and their job is refused: see [`LendingHandle::make_room`]. The
-    /// pointer is handed back.
+    /// `StrangerPointer`: the pointer is null, or of another store of the domain. `NoMemory` comes only if 64 values
+    /// are gathered, and can't wait in the store: see [`Writer::make_room`]. The pointer is handed back.
     #[inline(always)]
-    pub fn retire<'g>(
+    pub fn retire<'g, S: PinSteps, M: StoreSteps<T>>(
         &mut self,
-        guard: &GuardOf<'_, 'q, 's, J, T>,
         pointer: Shared<'g, T>,
     ) -> Result<(), Refused<Shared<'g, T>>>
-        ensures reader { self.new.reader ≡ self.old.reader }
-        ensures same { IsSame self.old.handle self.new.handle }
-        ensures ready { IsReady self.new.handle }
-        ensures counted { self.new.handle.machine.guards ≡ self.old.handle.machine.guards }
-        ensures stranger { ¬ Owns self.old.handle guard.now.guard
-            → IfErr result (λ refused. refused.fault ≡ StrangerGuard) × IsErr result × (self.new ≡ self.old) }
-        ensures null { Owns self.old.handle guard.now.guard → pointer.entry.name ≡ None
+    where
+        J: HasPinSteps<S>,
+        T: HasStoreSteps<M>,
+        ensures store { self.new.store ≡ self.old.store }
+        ensures null { pointer.entry.name ≡ None
             → IfErr result (λ refused. refused.fault ≡ StrangerPointer) × IsErr result × (self.new ≡ self.old) }
+        ensures stranger { ¬ IsUnder self.old.store.now.number pointer.entry.home
+            → IfErr result (λ refused. refused.fault ≡ StrangerPointer) × IsErr result × (self.new ≡ self.old) }
+        // A value that is retired is gathered, behind the values gathered before, or as the first of new ones, and then
+        // those before wait. A refused call hands the pointer back. With null, or a pointer of another store, nothing
+        // is done.
         ensures ok { IsOk result → KeepsSpot pointer.entry.name self.old.kept.lists.value.spots.items
             self.new.kept.lists.value.spots.items }
+        ensures waits { IsOk result → GathersOn (S.did J.posts) (M.did J.posts self.old.store.now.number)
+            pointer.entry.name self.old.kept.lists.value.spots.items self.new.kept.lists.value.spots.items }
         ensures handed_back { IfErr result (λ refused. refused.value ≡ pointer.entry) }
     {
-        if !self.owns(guard) {
-            return Err(Refused {
-                fault: Fault::StrangerGuard,
-                value: pointer,
-            });
-        }
-        let Some(name) = pointer.name() else {
+        let Some(name) = self.own_name(pointer) else {
             return Err(Refused {
                 fault: Fault::StrangerPointer,
                 value: pointer,
             });
         };
-        match self.gather(guard, name) {
+        match self.gather::<S, M>(name) {
             Ok(()) => Ok(()),
             Err(fault) => Err(Refused {
                 fault,
@@ -94,146 +124,92 @@ impl<'c, 'q, 's, J: PostSet, T: Drop> LendingHandle<'c, 'q, 's, J, T> {
         }
     }
 
-    /// Retires the value of this name, as [`LendingHandle::retire`] does: makes room, and gathers it.
-    ///
-    /// The guard must be this handle's. `NoMemory`, `BagsFull`: the value is not retired.
+    // The name of a pointer of this store.
     #[inline(always)]
-    pub fn gather(&mut self, guard: &GuardOf<'_, 'q, 's, J, T>, name: Name) -> Result<(), Fault>
-        requires { Owns self.old.handle guard.now.guard }
-        ensures reader { self.new.reader ≡ self.old.reader }
-        ensures same { IsSame self.old.handle self.new.handle }
-        ensures ready { IsReady self.new.handle }
-        ensures counted { self.new.handle.machine.guards ≡ self.old.handle.machine.guards }
+    pub(crate) fn own_name(&self, pointer: Shared<'_, T>) -> Option<Name>
+        ensures own { IfSome result (λ name. (pointer.entry.name ≡ Some name)
+            × IsUnder self.now.store.now.number pointer.entry.home) }
+        ensures none { IsNone result
+            → (pointer.entry.name ≡ None) ⊎ ¬ IsUnder self.now.store.now.number pointer.entry.home }
+    {
+        match pointer.home_id() {
+            Some(id) if id == self.store.number() => pointer.name(),
+            _ => None,
+        }
+    }
+
+    /// Retires the value of this name, as [`Writer::retire`] does: makes room, and gathers it. The name must be of the
+    /// writer's store.
+    ///
+    /// `NoMemory`: the value is not retired.
+    #[inline(always)]
+    pub fn gather<S: PinSteps, M: StoreSteps<T>>(&mut self, name: Name) -> Result<(), Fault>
+    where
+        J: HasPinSteps<S>,
+        T: HasStoreSteps<M>,
+        ensures store { self.new.store ≡ self.old.store }
         ensures ok { IsOk result → KeepsSpot (Some name) self.old.kept.lists.value.spots.items
             self.new.kept.lists.value.spots.items }
-        ensures fault { IfErr result (λ fault. (fault ≡ NoMemory) ⊎ (fault ≡ BagsFull)) }
+        ensures waits { IsOk result → GathersOn (S.did J.posts) (M.did J.posts self.old.store.now.number)
+            (Some name) self.old.kept.lists.value.spots.items self.new.kept.lists.value.spots.items }
+        ensures fault { IfErr result (λ fault. fault ≡ NoMemory) }
     {
-        self.make_room(guard)?;
+        self.make_room::<S, M>()?;
         match self.kept.keep(spot_of(name)) {
             Ok(()) => Ok(()),
             Err(_) => Err(Fault::NoMemory),
         }
     }
 
-    /// Makes room for a value that is retired next, so that it is unlinked only if it can be retired: if 64 values are
-    /// gathered, they are deferred by one job, and then the handle is flushed as by `LocalHandle::flush`, so that this
-    /// job needn't wait for 63 others. A flush that finds no place for the held bag leaves the bag as it was.
+    /// Makes room for a value that is retired next, so that it is unlinked only if it can be retired. If 64 values are
+    /// gathered, the clock moves on, some of what waits in the store is tried, and then they wait there, too: they are
+    /// marked once each post is unpinned, or pinned in the epoch that begins now or a later one.
     ///
-    /// The guard must be this handle's. `NoMemory`, `BagsFull`: what was gathered is as before. `BagsFull` also comes
-    /// if `2^32 - 1` guards of the handle are out, since the job is deferred under one more.
+    /// `NoMemory`: an allocation was refused, or no place to wait was seen. What was gathered is as before.
     #[inline(always)]
-    pub fn make_room(&mut self, guard: &GuardOf<'_, 'q, 's, J, T>) -> Result<(), Fault>
-        requires { Owns self.old.handle guard.now.guard }
-        ensures reader { self.new.reader ≡ self.old.reader }
-        ensures same { IsSame self.old.handle self.new.handle }
-        ensures ready { IsReady self.new.handle }
-        ensures counted { self.new.handle.machine.guards ≡ self.old.handle.machine.guards }
+    pub fn make_room<S: PinSteps, M: StoreSteps<T>>(&mut self) -> Result<(), Fault>
+    where
+        J: HasPinSteps<S>,
+        T: HasStoreSteps<M>,
+        ensures store { self.new.store ≡ self.old.store }
+        // Room for one more is refused only if 64 values are gathered.
         ensures ok { IsOk result
-            → (self.new.kept.lists.value.spots.items ≡ self.old.kept.lists.value.spots.items)
-            ⊎ (self.new.kept.lists.value.spots.items ≡ []) }
-        ensures err { IsErr result → self.new.kept.lists.value.spots.items ≡ self.old.kept.lists.value.spots.items }
-        ensures fault { IfErr result (λ fault. (fault ≡ NoMemory) ⊎ (fault ≡ BagsFull)) }
+            → StaysOrWaits (S.did J.posts) (M.did J.posts self.old.store.now.number)
+            self.old.kept.lists.value.spots.items
+            self.new.kept.lists.value.spots.items }
+        ensures err { IsErr result → (self.new.kept.lists.value.spots.items ≡ self.old.kept.lists.value.spots.items)
+            × (64 ≤ length self.old.kept.lists.value.spots.items) }
+        ensures fault { IfErr result (λ fault. fault ≡ NoMemory) }
     {
         if self.kept.len() < RETIRED_TOGETHER {
-            let _ = self.handle.collector();
             return Ok(());
         }
-        // It shows that the handle is pinned, so that the nested pin below makes no exchange.
-        let _ = guard;
-        self.hand_all_over()
+        self.hand_over::<S, M>()
     }
 
-    // Defers what is kept, and flushes, under a nested guard: so no caller's guard stands in memory for its sake.
-    #[cold]
-    #[inline(never)]
-    fn hand_all_over(&mut self) -> Result<(), Fault>
-        ensures reader { self.new.reader ≡ self.old.reader }
-        ensures same { IsSame self.old.handle self.new.handle }
-        ensures ready { IsReady self.new.handle }
-        ensures counted { self.new.handle.machine.guards ≡ self.old.handle.machine.guards }
-        ensures ok { IsOk result → self.new.kept.lists.value.spots.items ≡ [] }
-        ensures err { IsErr result → self.new.kept.lists.value.spots.items ≡ self.old.kept.lists.value.spots.items }
-        ensures fault { IfErr result (λ fault. (fault ≡ NoMemory) ⊎ (fault ≡ BagsFull)) }
-    {
-        if !self.handle.can_pin() {
-            let _ = self.handle.collector();
-            return Err(Fault::BagsFull);
-        }
-        let nested = self.handle.pin();
-        let given = self.hand_over(&nested);
-        if given.is_ok() {
-            let _ = self.handle.flush(&nested);
-        }
-        self.handle.unpin(nested);
-        given
-    }
-
-    /// Defers what was retired and is gathered, and flushes as `LocalHandle::flush` does: the held bag is put, and then
-    /// jobs whose grace period is over are called.
+    /// Lets the values that are gathered wait in the store, however few they are, and then tries some of what waits:
+    /// values are marked that no pin from before can find any more, and values are dropped that no guard may have.
     ///
-    /// `StrangerGuard`: the guard isn't this handle's. `NoMemory`, `BagsFull`: what was not deferred is kept.
-    pub fn flush(&mut self, guard: &GuardOf<'_, 'q, 's, J, T>) -> Result<(), Fault>
-        ensures reader { self.new.reader ≡ self.old.reader }
-        ensures same { IsSame self.old.handle self.new.handle }
-        ensures ready { IsReady self.new.handle }
-        ensures counted { self.new.handle.machine.guards ≡ self.old.handle.machine.guards }
-        ensures ok { IsOk result → self.new.kept.lists.value.spots.items ≡ [] }
+    /// `NoMemory`: an allocation was refused, or no place to wait was seen. What was gathered is as before; what waits
+    /// was tried.
+    pub fn flush<S: PinSteps, M: StoreSteps<T>>(&mut self) -> Result<(), Fault>
+    where
+        J: HasPinSteps<S>,
+        T: HasStoreSteps<M>,
+        ensures store { self.new.store ≡ self.old.store }
+        // After a flush that returns `Ok`, and after a release, all that was gathered waits.
+        ensures ok { IsOk result → (self.new.kept.lists.value.spots.items ≡ [])
+            × HandsOverAll (S.did J.posts) (M.did J.posts self.old.store.now.number)
+            self.old.kept.lists.value.spots.items }
+        ensures err { IsErr result → self.new.kept.lists.value.spots.items ≡ self.old.kept.lists.value.spots.items }
+        ensures fault { IfErr result (λ fault. fault ≡ NoMemory) }
     {
-        if !self.owns(guard) {
-            return Err(Fault::StrangerGuard);
-        }
         let given = if self.kept.len() > 0 {
-            self.hand_over(guard.guard())
+            self.hand_over::<S, M>()
         } else {
             Ok(())
         };
-        // Also where the job was refused, since the collection may free a place.
-        let flushed = self.handle.flush(guard.guard());
-        self.kept.lender().try_some();
-        given?;
-        flushed
-    }
-
-    /// Gives the participant up, and its post: what it has gathered is deferred, and then its handle is released.
-    ///
-    /// None of its guards may be out. `NoMemory`, `BagsFull`: the handle comes back.
-    pub fn release(self) -> Result<(), (LendingHandle<'c, 'q, 's, J, T>, Fault)>
-        requires { self.handle.machine.guards ≡ 0 }
-        ensures { IfErr result (λ back. back.0.handle.machine.guards ≡ 0) }
-    {
-        let mut staying = self;
-        if staying.kept.len() > 0 {
-            let guard = staying.handle.pin();
-            let given = staying.hand_over(&guard);
-            staying.handle.unpin(guard);
-            if let Err(fault) = given {
-                return Err((staying, fault));
-            }
-        }
-        let LendingHandle {
-            handle,
-            reader,
-            cells,
-            kept,
-            rooms,
-            spare,
-            alloc,
-        } = staying;
-        rooms.release();
-        match handle.release() {
-            Ok(()) => Ok(()),
-            Err((handle, fault)) => {
-                let staying = LendingHandle {
-                    handle,
-                    reader,
-                    cells,
-                    kept,
-                    rooms: LentRooms::none(alloc),
-                    spare,
-                    alloc,
-                };
-                Err((staying, fault))
-            }
-        }
+        self.help::<S>();
+        given
     }
 }

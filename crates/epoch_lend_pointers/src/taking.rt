@@ -1,84 +1,37 @@
-//! Values without a guard: placed before others see them, and taken back once only their owner is left.
-ghost use Rattle.std.specs.Prelude.{◌≡◌, ◌⊎◌, None, IsSome, IsErr, IfSome, IfOk, IfErr, map};
-ghost use Rattle.epoch_cells.specs.declared.fault.Fault.TheVariants.{CellsFull, GuardsOut, NoMemory, StrangerPointer};
+//! Values taken back once only their owner is left.
+ghost use Rattle.std.specs.Prelude.{◌≡◌, ◌⊎◌, None, Some, IsErr, IfSome, IfOk, IfErr, map};
+ghost use Rattle.std.specs.List.{slice_get};
+ghost use Rattle.epoch_cells.specs.declared.fault.Fault.TheVariants.{GuardsOut, NoMemory, StrangerPointer};
 ghost use Rattle.epoch_atomic.specs.Pointers.{IsUnder};
 ghost use Rattle.epoch_lend_pointers.specs.Named.{StandsUnder};
 
-use crate::guard::search;
-use crate::handle::LendingHandle;
+use crate::store::Waiting;
+use crate::store::batch::Batch;
 use crate::store::spots::spot_of;
+use crate::writer::Writer;
 use epoch_atomic::atomic::Shared;
-use epoch_cells::{Fault, Name, Refused};
-use epoch_handles::Guard;
-use epoch_lend::array::slot::Returned;
+use epoch_cells::{Fault, Refused};
+use epoch_lend::array::cells::SlotTurn;
+use epoch_lend::array::slot::{Returned, SlotRemoval};
 use epoch_lend::cells::turns::TurnName as Witness;
 use epoch_lend::readers::posts::PostSet;
 
-impl<'c, 'q, 's, J: PostSet, T: Drop> LendingHandle<'c, 'q, 's, J, T> {
-    /// Places the value in a cell, and returns the pointer to it, with tag 0. It does what [`LendingHandle::place`]
-    /// does, under any guard of the collector, an unprotected one too: the participant need not be pinned.
-    ///
-    /// `CellsFull`: every cell was seen in use, or kept by other handles for their next values. The value is handed
-    /// back.
-    #[inline(always)]
-    pub fn place_under<'g, W>(
-        &mut self,
-        guard: &'g Guard<'_, T, W>,
-        value: T,
-    ) -> Result<Shared<'g, T>, Refused<T>>
-        ensures participant { self.new.handle ≡ self.old.handle }
-        ensures reader { self.new.reader ≡ self.old.reader }
-        ensures kept { self.new.kept ≡ self.old.kept }
-        ensures tag { IfOk result (λ pointer. pointer.tag ≡ 0) }
-        ensures some { IfOk result (λ pointer. IsSome pointer.name) }
-        ensures home { IfOk result (λ pointer. IsUnder guard.now.collector.now.id pointer.home) }
-        ensures full { IfErr result (λ refused. (refused.fault ≡ CellsFull) × (refused.value ≡ value)) }
-    {
-        match self.name_for(value) {
-            Ok(name) => Ok(Shared::named(name, guard)),
-            Err(value) => Err(Refused {
-                fault: Fault::CellsFull,
-                value,
-            }),
-        }
-    }
-
-    // Places the value in a free cell of the handle's own, or else in one that is searched for, and returns its name.
-    #[inline(always)]
-    fn name_for(&mut self, value: T) -> Result<Name, T>
-        ensures participant { self.new.handle ≡ self.old.handle }
-        ensures reader { self.new.reader ≡ self.old.reader }
-        ensures kept { self.new.kept ≡ self.old.kept }
-        ensures handed_back { IfErr result (λ back. back ≡ value) }
-    {
-        let lender = self.kept.lender();
-        let value = match self.take_room() {
-            Some(room) => match lender.cells().place_in(room, value) {
-                Ok(placed) => return Ok(placed.name),
-                Err(refused) => refused.value,
-            },
-            None => value,
-        };
-        match search(lender.cells(), lender, 0, value) {
-            Ok(placed) => Ok(placed.name),
-            Err(value) => Err(value),
-        }
-    }
-
+impl<'q, 's, J: PostSet, T: Drop> Writer<'q, 's, J, T> {
     /// Takes the value that the pointer names back at once, for an owner that is the only one left: as
     /// `Atomic::into_owned` of crossbeam-epoch, which is unsafe to call. Values that others may still read are retired
-    /// instead, by [`LendingHandle::retire`]. The cell is kept for the handle's next value.
+    /// instead, by [`Writer::retire`]. The cell is kept for the writer's next value.
     ///
-    /// `GuardsOut`: a participant of the lender is pinned, this one too, so a guard may have the value. It stays in its
-    /// cell, unless the pin began during this call: then no guard gets it any more, and it is dropped as soon as no
-    /// guard may have it. `NoMemory`: an allocation was refused, and the value stays in its cell. `StrangerPointer`:
-    /// the pointer is null, or its value is gone. The pointer is handed back.
+    /// `GuardsOut`: a guard of the domain is out, and may have the value. It stays in its cell, unless the pin began
+    /// during this call: then no guard gets it any more, and it is dropped as soon as no guard may have it. `NoMemory`:
+    /// an allocation was refused, or no place to wait was seen, and the value stays in its cell. `StrangerPointer`: the
+    /// pointer is null or of another store, or its value is gone. The pointer is handed back.
     #[inline(always)]
     pub fn take_back<'g>(&mut self, pointer: Shared<'g, T>) -> Result<T, Refused<Shared<'g, T>>>
-        ensures participant { self.new.handle ≡ self.old.handle }
-        ensures reader { self.new.reader ≡ self.old.reader }
+        ensures store { self.new.store ≡ self.old.store }
         ensures kept { self.new.kept ≡ self.old.kept }
         ensures null { pointer.entry.name ≡ None
+            → IfErr result (λ refused. refused.fault ≡ StrangerPointer) × IsErr result × (self.new ≡ self.old) }
+        ensures stranger { ¬ IsUnder self.old.store.now.number pointer.entry.home
             → IfErr result (λ refused. refused.fault ≡ StrangerPointer) × IsErr result × (self.new ≡ self.old) }
         ensures handed_back { IfErr result (λ refused. refused.value ≡ pointer.entry) }
         ensures refused { IfErr result (λ refused. (refused.fault ≡ GuardsOut) ⊎ (refused.fault ≡ NoMemory)
@@ -90,42 +43,96 @@ impl<'c, 'q, 's, J: PostSet, T: Drop> LendingHandle<'c, 'q, 's, J, T> {
         }
     }
 
-    /// Does what [`LendingHandle::take_back`] does, and returns a witness, too, that this value was placed under the
-    /// pointer's name.
+    /// Does what [`Writer::take_back`] does, and returns a witness, too, that this value was placed under the pointer's
+    /// name.
     #[inline(always)]
     pub fn take_back_with_witness<'g>(
         &mut self,
         pointer: Shared<'g, T>,
     ) -> Result<(T, Witness<T>), Refused<Shared<'g, T>>>
-        ensures participant { self.new.handle ≡ self.old.handle }
-        ensures reader { self.new.reader ≡ self.old.reader }
+        ensures store { self.new.store ≡ self.old.store }
         ensures kept { self.new.kept ≡ self.old.kept }
+        // A value that a writer takes back is the one that was placed under the pointer's name, as its witness shows.
+        // Otherwise the pointer is handed back, with `GuardsOut`, `NoMemory` or `StrangerPointer`. With null, or a
+        // pointer of another store, nothing is done.
         ensures value { IfOk result (λ back. back.0 ≡ back.1.value) }
         ensures named { IfOk result (λ back. IfSome pointer.entry.name
-            (λ name. StandsUnder (map (λ s. s.turns.log) self.old.kept.lender.now.cells.now.cells.slots.items) name
+            (λ name. StandsUnder (map (λ s. s.turns.log) self.old.store.now.cells.now.cells.slots.items) name
             back.1.log back.1.turn)) }
         ensures null { pointer.entry.name ≡ None
+            → IfErr result (λ refused. refused.fault ≡ StrangerPointer) × IsErr result × (self.new ≡ self.old) }
+        ensures stranger { ¬ IsUnder self.old.store.now.number pointer.entry.home
             → IfErr result (λ refused. refused.fault ≡ StrangerPointer) × IsErr result × (self.new ≡ self.old) }
         ensures handed_back { IfErr result (λ refused. refused.value ≡ pointer.entry) }
         ensures refused { IfErr result (λ refused. (refused.fault ≡ GuardsOut) ⊎ (refused.fault ≡ NoMemory)
             ⊎ (refused.fault ≡ StrangerPointer)) }
     {
-        let Some(name) = pointer.name() else {
+        let Some(name) = self.own_name(pointer) else {
             return Err(Refused {
                 fault: Fault::StrangerPointer,
                 value: pointer,
             });
         };
-        let lender = self.kept.lender();
-        match lender.take_back(spot_of(name), &mut self.spare) {
+        match self.take_at(spot_of(name)) {
             Ok(Returned { value, name, room }) => {
-                lender.keep_room(&mut self.rooms, room);
+                self.keep_room(room);
                 Ok((value, name))
             }
             Err(fault) => Err(Refused {
                 fault,
                 value: pointer,
             }),
+        }
+    }
+
+    // Takes the value at this spot back at once, if no guard is out, with the room that it leaves.
+    #[inline(always)]
+    fn take_at(&mut self, spot: SlotTurn) -> Result<Returned<'s, J, T>, Fault>
+        ensures store { self.new.store ≡ self.old.store }
+        ensures kept { self.new.kept ≡ self.old.kept }
+        ensures slot { IfOk result
+            (λ back. slice_get (map (λ s. s.turns.log) self.old.store.now.cells.now.cells.slots.items) spot.slot
+            ≡ Some back.name.log) }
+        ensures turn { IfOk result (λ back. back.name.turn ≡ spot.turn) }
+        ensures refused { IfErr result (λ fault. (fault ≡ GuardsOut) ⊎ (fault ≡ NoMemory)
+            ⊎ (fault ≡ StrangerPointer)) }
+    {
+        self.put_held()?;
+        let store = self.store;
+        let posts = store.domain().posts();
+        if !store.cells.array().are_unpinned(posts) {
+            return Err(Fault::GuardsOut);
+        }
+        if self.spare.is_none() {
+            match Batch::with_capacity(self.alloc, 1) {
+                Ok(batch) => self.spare = Some(batch),
+                Err(_) => return Err(Fault::NoMemory),
+            }
+        }
+        let Some(removal) = store.cells.array().mark(spot) else {
+            return Err(Fault::StrangerPointer);
+        };
+        match removal.take_back(posts) {
+            Ok(returned) => Ok(returned),
+            Err(removal) => {
+                self.let_wait(removal);
+                Err(Fault::GuardsOut)
+            }
+        }
+    }
+
+    // Lets a marked value wait until no guard may have it.
+    #[cold]
+    #[inline(never)]
+    fn let_wait(&mut self, removal: SlotRemoval<'s, J, T>)
+        ensures store { self.new.store ≡ self.old.store }
+        ensures kept { self.new.kept ≡ self.old.kept }
+    {
+        if let Some(batch) = self.spare.take() {
+            let mut alone = batch;
+            let _ = alone.push(removal);
+            self.held = Some(Waiting::Sealed(alone.seal(self.store.domain().posts())));
+            let _ = self.put_held();
         }
     }
 }

@@ -2,10 +2,10 @@ pub mod StackGiving
 pub mod QueueGiving
 pub mod Owning
 pub use Rattle.epoch_lend_nodes.specs.Gathering
-pub use Rattle.epoch_lend_nodes.specs.Lending
 pub use Rattle.epoch_lend_nodes.specs.Moving
 pub use Rattle.epoch_lend_nodes.specs.Nodes
 pub use Rattle.epoch_lend_nodes.specs.Taking
+pub use Rattle.epoch_lend_nodes.specs.Telling
 pub use Rattle.epoch_structure_calls.specs.Paths
 pub use Rattle.epoch_structure_calls.specs.StackCalls
 pub use Rattle.epoch_structure_calls.specs.QueueCalls

@@ -6,6 +6,6 @@ pub mod queue;
 pub mod stack;
 
 pub use epoch_lend_nodes::{Gathers, LentNode, ListNode};
-pub use owned::OwnedNode;
+pub use owned::{MovesValue, OwnedNode};
 pub use queue::LendingQueue;
 pub use stack::LendingStack;

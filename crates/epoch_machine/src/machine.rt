@@ -226,6 +226,7 @@ impl<J> Machine<J> {
 impl<J: Drop> Machine<J> {
     /// Returns what is asked next: `None` where no action is under way, and at an action's end.
     pub fn ask(&self) -> Option<Ask>
+        // The next ask is the one that the definition gives, with its numbers in their ranges.
         ensures value { result ≡ asks self.now }
         ensures within { IfSome result (AskFits self.now.sizes) }
     {

@@ -1,10 +1,10 @@
 -- What a call gives: a node of the key that it seeks, or what is left of its own.
-use Rattle.std.proofs.Common.{◌≡◌, ◌∙◌, ◌⊎◌, inl, inr, ℕ, Option, Some, None, Ok, Err, true, false, refl, sym}
+use Rattle.std.proofs.Common.{◌≡◌, ◌∙◌, ◌⊎◌, inl, inr, ℕ, Option, Some, None, Ok, Err, true, false, refl, sym, ap}
 use Rattle.std.proofs.Common.{subst, arith, IsSome, IfSome}
 use Rattle.std.specs.declared.cmp.Ordering.{Ordering}
 use Rattle.std.specs.declared.cmp.Ordering.TheVariants.{Less, Equal, Greater}
 use Rattle.epoch_cells.specs.declared.fault.Fault.{Fault}
-use Rattle.epoch_cells.specs.declared.fault.Fault.TheVariants.{NoMemory, BagsFull as NoPlace}
+use Rattle.epoch_cells.specs.declared.fault.Fault.TheVariants.{NoMemory, TriesOut}
 use Rattle.epoch_map.specs.declared.spots.MapCallNodes.{MapCallNodes}
 use Rattle.epoch_map.specs.Giving.{GivesInsert, GivesRemove, GivesGet, HandsBack}
 use Rattle.epoch_map.proofs.Nodes.{HasRead, HasAnswer}
@@ -17,7 +17,9 @@ use Rattle.epoch_structure_laws.specs.declared.map.plan.MapAnswer.TheVariants.{I
 use Rattle.epoch_structure_laws.specs.declared.map.plan.MapWork.TheVariants.{Insert, Remove, Get}
 use Rattle.epoch_structure_laws.specs.MapProgram.{node_key}
 use Rattle.epoch_structure_calls.specs.MapCalls.{coded, insert_tells, remove_tells, get_tells}
-use Rattle.epoch_structure_calls.specs.Refusals.{room_fault}
+use Rattle.epoch_lend_nodes.proofs.NoBags.{room_told, place_told}
+use Rattle.epoch_lend_nodes.specs.Telling.{without_bags}
+use Rattle.epoch_structure_calls.specs.Refusals.{place_fault, room_fault}
 use Rattle.epoch_structure_calls.proofs.MapFitting.{MayAnswer}
 
 -- only a key that is the one that is sought has its number
@@ -83,11 +85,6 @@ module _ {N K : Type 0} (key : N → K) (cmp : K → K → Ordering) (sought : K
     get_lends MovesOutLeaking may has is = cc
     get_lends answer may has is = cc
 
--- there is no room for a removal
-room_is : (f : Option Fault) → (room_fault f ≡ NoPlace) ⊎ (room_fault f ≡ NoMemory)
-room_is (Some NoMemory) = inr refl
-room_is f = inl refl
-
 -- INSERTS
 
 module _ {N : Type 0} (node : N) (f : Option Fault) where
@@ -114,37 +111,68 @@ module _ {N : Type 0} (node : N) (f : Option Fault) where
   pub insert_gives_back : (R : Type 0) {K : Type 0} (key : N → K) (cmp : K → K
       → Ordering) (sought : K) (fault : Fault) (own : Option N)
       (l : MapCallNodes N K) (answer : MapAnswer) → own ≡ l.own → HasAnswer key cmp sought (Some node) answer l
-      → insert_tells answer f ≡ Err fault → GivesInsert {R = R} node answer f (Err (record {
-        fault = fault;
-        value = own;
-      }))
-  insert_gives_back R key cmp sought fault own l Inserted same has is = cc
-  insert_gives_back R key cmp sought fault own l (AlreadyThere v) same has is = cc
-  insert_gives_back R key cmp sought fault own l (AlreadyThereLeaking v) same has is = cc
-  insert_gives_back R key cmp sought fault own l BagsFull same has is = let at = same ∙ has in cc
-  insert_gives_back R key cmp sought fault own l CellsFull same has is = let at = same ∙ has in cc
-  insert_gives_back R key cmp sought fault own l MovesOutLeaking same has is = let at = same ∙ has in cc
-  insert_gives_back R key cmp sought fault own l (Removed v) same has is = let at = same ∙ has.0 in cc
-  insert_gives_back R key cmp sought fault own l (RemovedLeaking v) same has is = let at = same ∙ has.0 in cc
-  insert_gives_back R key cmp sought fault own l (Found v) same has is = let at = same ∙ has.0 in cc
-  insert_gives_back R key cmp sought fault own l answer same has is = let at = same ∙ has in cc
+      → insert_tells answer f ≡ Err fault → (told : Fault) → told ≡ without_bags fault
+      → GivesInsert {R = R} node answer f (Err (record { fault = told; value = own }))
+  insert_gives_back R key cmp sought fault own l Inserted same has is told same_told = cc
+  insert_gives_back R key cmp sought fault own l (AlreadyThere v) same has is told same_told = cc
+  insert_gives_back R key cmp sought fault own l (AlreadyThereLeaking v) same has is told same_told = cc
+  insert_gives_back R key cmp sought fault own l BagsFull same has is told same_told =
+      let at = same ∙ has in
+      let so : fault ≡ room_fault f = cc in
+      let tells : told ≡ NoMemory = same_told ∙ ap without_bags so ∙ room_told f in
+      cc
+  insert_gives_back R key cmp sought fault own l CellsFull same has is told same_told =
+      let at = same ∙ has in
+      let so : fault ≡ place_fault f = cc in
+      let tells : told ≡ place_fault f = same_told ∙ ap without_bags so ∙ place_told f in
+      cc
+  insert_gives_back R key cmp sought fault own l MovesOutLeaking same has is told same_told =
+      let at = same ∙ has in
+      let so : fault ≡ room_fault f = cc in
+      let tells : told ≡ NoMemory = same_told ∙ ap without_bags so ∙ room_told f in
+      cc
+  insert_gives_back R key cmp sought fault own l (Removed v) same has is told same_told =
+      let at = same ∙ has.0 in
+      let so : fault ≡ TriesOut = cc in
+      let tells : told ≡ TriesOut = same_told ∙ ap without_bags so in
+      cc
+  insert_gives_back R key cmp sought fault own l (RemovedLeaking v) same has is told same_told =
+      let at = same ∙ has.0 in
+      let so : fault ≡ TriesOut = cc in
+      let tells : told ≡ TriesOut = same_told ∙ ap without_bags so in
+      cc
+  insert_gives_back R key cmp sought fault own l (Found v) same has is told same_told =
+      let at = same ∙ has.0 in
+      let so : fault ≡ TriesOut = cc in
+      let tells : told ≡ TriesOut = same_told ∙ ap without_bags so in
+      cc
+  insert_gives_back R key cmp sought fault own l answer same has is told same_told =
+      let at = same ∙ has in
+      let so : fault ≡ TriesOut = cc in
+      let tells : told ≡ TriesOut = same_told ∙ ap without_bags so in
+      cc
 
   pub insert_hands_back : {K : Type 0} (key : N → K) (cmp : K → K
       → Ordering) (sought : K) (fault : Fault) (own : Option N)
       (l : MapCallNodes N K) (answer : MapAnswer) → own ≡ l.own → HasAnswer key cmp sought (Some node) answer l
-      → insert_tells answer f ≡ Err fault → HandsBack node (record { fault = fault; value = own })
-  insert_hands_back key cmp sought fault own l Inserted same has is = cc
-  insert_hands_back key cmp sought fault own l (AlreadyThere v) same has is = cc
-  insert_hands_back key cmp sought fault own l (AlreadyThereLeaking v) same has is = cc
-  insert_hands_back key cmp sought fault own l BagsFull same has is = inl (same ∙ has)
-  insert_hands_back key cmp sought fault own l CellsFull same has is = inl (same ∙ has)
-  insert_hands_back key cmp sought fault own l MovesOutLeaking same has is =
-      let so : room_fault f ≡ fault = cc in
-      inr (same ∙ has, inr (subst (λ (z : Fault). (z ≡ NoPlace) ⊎ (z ≡ NoMemory)) so (room_is f)))
-  insert_hands_back key cmp sought fault own l (Removed v) same has is = inr (same ∙ has.0, inl cc)
-  insert_hands_back key cmp sought fault own l (RemovedLeaking v) same has is = inr (same ∙ has.0, inl cc)
-  insert_hands_back key cmp sought fault own l (Found v) same has is = inr (same ∙ has.0, inl cc)
-  insert_hands_back key cmp sought fault own l answer same has is = inr (same ∙ has, inl cc)
+      → insert_tells answer f ≡ Err fault → (told : Fault) → told ≡ without_bags fault
+      → HandsBack node (record { fault = told; value = own })
+  insert_hands_back key cmp sought fault own l Inserted same has is told same_told = cc
+  insert_hands_back key cmp sought fault own l (AlreadyThere v) same has is told same_told = cc
+  insert_hands_back key cmp sought fault own l (AlreadyThereLeaking v) same has is told same_told = cc
+  insert_hands_back key cmp sought fault own l BagsFull same has is told same_told = inl (same ∙ has)
+  insert_hands_back key cmp sought fault own l CellsFull same has is told same_told = inl (same ∙ has)
+  insert_hands_back key cmp sought fault own l MovesOutLeaking same has is told same_told =
+      let so : fault ≡ room_fault f = cc in
+      inr (same ∙ has, inr (same_told ∙ ap without_bags so ∙ room_told f))
+  insert_hands_back key cmp sought fault own l (Removed v) same has is told same_told =
+      let so : fault ≡ TriesOut = cc in inr (same ∙ has.0, inl (same_told ∙ ap without_bags so))
+  insert_hands_back key cmp sought fault own l (RemovedLeaking v) same has is told same_told =
+      let so : fault ≡ TriesOut = cc in inr (same ∙ has.0, inl (same_told ∙ ap without_bags so))
+  insert_hands_back key cmp sought fault own l (Found v) same has is told same_told =
+      let so : fault ≡ TriesOut = cc in inr (same ∙ has.0, inl (same_told ∙ ap without_bags so))
+  insert_hands_back key cmp sought fault own l answer same has is told same_told =
+      let so : fault ≡ TriesOut = cc in inr (same ∙ has, inl (same_told ∙ ap without_bags so))
 
 -- REMOVALS
 
@@ -168,13 +196,16 @@ module _ (f : Option Fault) where
   remove_gives_none R answer is = cc
 
   pub remove_gives_fault : (R : Type 0) (fault : Fault) (answer : MapAnswer) → remove_tells answer f ≡ Err fault
-      → GivesRemove {R = R} answer f (Err fault)
-  remove_gives_fault R fault NotFound is = cc
-  remove_gives_fault R fault (Removed v) is = cc
-  remove_gives_fault R fault (RemovedLeaking v) is = cc
-  remove_gives_fault R fault BagsFull is = cc
-  remove_gives_fault R fault MovesOutLeaking is = cc
-  remove_gives_fault R fault answer is = cc
+      → (told : Fault) → told ≡ without_bags fault → GivesRemove {R = R} answer f (Err told)
+  remove_gives_fault R fault NotFound is told same_told = cc
+  remove_gives_fault R fault (Removed v) is told same_told = cc
+  remove_gives_fault R fault (RemovedLeaking v) is told same_told = cc
+  remove_gives_fault R fault BagsFull is told same_told =
+      let so : fault ≡ room_fault f = cc in ap Err (same_told ∙ ap without_bags so ∙ room_told f)
+  remove_gives_fault R fault MovesOutLeaking is told same_told =
+      let so : fault ≡ room_fault f = cc in ap Err (same_told ∙ ap without_bags so ∙ room_told f)
+  remove_gives_fault R fault answer is told same_told =
+      let so : fault ≡ TriesOut = cc in ap Err (same_told ∙ ap without_bags so)
 
   -- LOOK-UPS
 
@@ -193,8 +224,10 @@ module _ (f : Option Fault) where
   get_gives_none R answer is = cc
 
   pub get_gives_fault : (R : Type 0) (fault : Fault) (answer : MapAnswer) → get_tells answer f ≡ Err fault
-      → GivesGet {R = R} answer f (Err fault)
-  get_gives_fault R fault NotFound is = cc
-  get_gives_fault R fault (Found v) is = cc
-  get_gives_fault R fault MovesOutLeaking is = cc
-  get_gives_fault R fault answer is = cc
+      → (told : Fault) → told ≡ without_bags fault → GivesGet {R = R} answer f (Err told)
+  get_gives_fault R fault NotFound is told same_told = cc
+  get_gives_fault R fault (Found v) is told same_told = cc
+  get_gives_fault R fault MovesOutLeaking is told same_told =
+      let so : fault ≡ room_fault f = cc in ap Err (same_told ∙ ap without_bags so ∙ room_told f)
+  get_gives_fault R fault answer is told same_told =
+      let so : fault ≡ TriesOut = cc in ap Err (same_told ∙ ap without_bags so)

@@ -2,9 +2,9 @@ pub mod Entries
 pub mod Giving
 pub mod Moving
 pub use Rattle.epoch_lend_nodes.specs.Gathering
-pub use Rattle.epoch_lend_nodes.specs.Lending
 pub use Rattle.epoch_lend_nodes.specs.Nodes
 pub use Rattle.epoch_lend_nodes.specs.Taking
+pub use Rattle.epoch_lend_nodes.specs.Telling
 pub use Rattle.epoch_structure_calls.specs.Paths
 pub use Rattle.epoch_structure_calls.specs.MapCalls
 pub use Rattle.epoch_structure_laws.specs.MapProgram

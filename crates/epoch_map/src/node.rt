@@ -70,6 +70,7 @@ impl<K: Drop, V: Drop> LentEntry<K, V> {
     /// Makes an entry of this key with this value.
     pub fn new(key: K, value: V) -> LentEntry<K, V>
         ensures key { lent_key result ≡ key }
+        // An entry has the key and the value that it was made with.
         ensures value { lent_value result ≡ value }
     {
         let next = Atomic::null();

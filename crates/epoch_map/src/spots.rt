@@ -1,5 +1,5 @@
 //! The buckets of a map that threads share, and its nodes, which are lent.
-ghost use Rattle.std.specs.Prelude.{◌≡◌, ℕ, Option, Some, None, map, IfSome, IfErr};
+ghost use Rattle.std.specs.Prelude.{◌≡◌, ℕ, Option, Some, None, IfSome, IfOk, IfErr};
 ghost use Rattle.epoch_cells.specs.declared.fault.Fault.TheVariants.{CellsFull};
 ghost use Rattle.epoch_laws.specs.declared.heap.access.Access.TheVariants.{Place, Read, Point};
 ghost use Rattle.epoch_laws.specs.declared.heap.access.AccessAnswer.TheVariants.{Value, Pointer, Absent};
@@ -7,20 +7,21 @@ ghost use Rattle.epoch_laws.specs.declared.heap.access.Change.TheVariants.{Load}
 ghost use Rattle.epoch_laws.specs.declared.heap.access.Spot.TheVariants.{Root, Field};
 ghost use Rattle.epoch_laws.specs.declared.step.Reply.TheVariants.{Done};
 ghost use Rattle.epoch_map.specs.Moving.{MovesMapNodes, ReadsNode};
-ghost use Rattle.epoch_lend_pointers.specs.Named.{StandsUnder};
 ghost use Rattle.epoch_structure_calls.specs.MapCalls.{coded};
 ghost use Rattle.epoch_plans.specs.Plans.{ptr_to};
 ghost use Rattle.epoch_structure_calls.specs.Paths.{IsTold, reply_given};
 
 use crate::node::MapNode;
-use epoch_atomic::atomic::{Atomic, Shared};
+use epoch_atomic::atomic::Atomic;
 use epoch_cells::{Fault, Name};
-use epoch_handles::Guard;
+use epoch_handles::Home;
 use epoch_laws::heap::{Access, AccessAnswer, Change, Ptr, Spot};
-use epoch_lend::cells::turns::TurnName as Witness;
+use epoch_lend::array::room::LentRoom;
 use epoch_lend::readers::posts::PostSet;
+use epoch_lend::readers::reader::Pinned;
 use epoch_lend_nodes::{ptr_of, write_at};
-use epoch_lend_pointers::guard::LendingGuard;
+use epoch_lend_pointers::LentCells;
+use epoch_lend_pointers::store::spots::next_name;
 use epoch_structure_calls::map::{MapSpots, coded};
 use epoch_structure_calls::phases::Spots;
 use std::cmp::Ordering;
@@ -37,68 +38,78 @@ pub struct MapCallNodes<'g, 'k, N, K> {
     pub lent: Option<&'g N>,
 }
 
-/// The buckets of a map, and its nodes, under the guard of one call.
+/// The buckets of a map, and its nodes, under the pin of one call's guard.
 ///
 /// The program speaks of entries as numbers. Here each is the number of how the node's key compares with the one that
 /// is sought, and the node itself is lent.
 #[derive(Drop)]
-pub struct LentSpots<'g, 'k, 'c, 'q, 's, J: PostSet, N: MapNode, W> {
+pub struct LentSpots<'g, 'k, 'd, 's, J: PostSet, N: MapNode> {
     buckets: &'g [Atomic<N>],
-    guard: &'g LendingGuard<'c, 'q, 's, J, N, W>,
+    cells: &'g LentCells<J, N>,
+    // The home of the map's pointers.
+    home: Home<'g, N>,
+    pinned: &'g Pinned<'d, J>,
     nodes: MapCallNodes<'g, 'k, N, N::Key>,
+    // A free cell for the node that the call places.
+    room: Option<LentRoom<'s, J, N>>,
 }
 
 // Stores or exchanges the pointer there. It stands out of line, as `place` does: a function that holds all accesses
 // isn't inlined if it holds these, too, and then a walk that only loads doesn't know its accesses.
 #[inline(never)]
-fn write_out_of_line<N: MapNode, W>(
+fn write_out_of_line<N: MapNode>(
     at: &Atomic<N>,
     change: Change,
-    guard: &Guard<'_, N, W>,
+    home: Home<'_, N>,
 ) -> AccessAnswer {
-    write_at(at, change, guard)
+    write_at(at, change, home)
 }
 
 // Loads, stores or exchanges the pointer there. The phases of a map ask for no other change.
 #[inline(always)]
-fn change_at<N: MapNode, W>(
-    at: &Atomic<N>,
-    change: Change,
-    guard: &Guard<'_, N, W>,
-) -> AccessAnswer {
+fn change_at<N: MapNode>(at: &Atomic<N>, change: Change, home: Home<'_, N>) -> AccessAnswer {
     match change {
-        Change::Load => AccessAnswer::Pointer(ptr_of(at.load(SeqCst, guard))),
-        _ => write_out_of_line(at, change, guard),
+        Change::Load => AccessAnswer::Pointer(ptr_of(at.load_at(SeqCst, home))),
+        _ => write_out_of_line(at, change, home),
     }
 }
 
-// The node that was placed under this name, by the witness of its placing.
-fn placed<'g, J: PostSet, N: MapNode, W>(
-    guard: &'g LendingGuard<'_, '_, '_, J, N, W>,
-    name: Name,
-    witness: &Witness<N>,
-) -> Option<&'g N>
-    requires { StandsUnder (map (λ s. s.turns.log) guard.now.cells.now.cells.slots.items) name witness.now.log
-        witness.now.turn }
-    ensures { IfSome result (λ node. node.now ≡ witness.now.value) }
+// Places the node in this free cell, and looks at it there. It is handed back if the cell has had its last turn.
+fn placed<'g, J: PostSet, N: MapNode>(
+    room: LentRoom<'_, J, N>,
+    node: N,
+    pinned: &'g Pinned<'_, J>,
+) -> Result<(Name, Option<&'g N>), N>
+    ensures lent { IfOk result (λ placed. IfSome placed.1 (λ lent. lent.now ≡ node)) }
+    ensures handed_back { IfErr result (λ back. back ≡ node) }
 {
-    match guard.look(Shared::named(name, guard.guard())) {
-        Some(sight) => {
-            sight.name.agree(witness);
-            Some(sight.value)
-        }
-        None => None,
+    let Some(name) = next_name(&room) else {
+        room.release();
+        return Err(node);
+    };
+    let cells = room.cells();
+    match room.place(node) {
+        Ok(placed) => match cells.look(placed.spot, pinned) {
+            Some(sight) => {
+                sight.name.agree(&placed.name);
+                Ok((name, Some(sight.value)))
+            }
+            None => Ok((name, None)),
+        },
+        Err(back) => Err(back),
     }
 }
 
-impl<'g, 'k, 'c, 'q, 's, J: PostSet, N: MapNode, W> LentSpots<'g, 'k, 'c, 'q, 's, J, N, W> {
-    /// Makes the spots of one call under this guard, which seeks this key.
+impl<'g, 'k, 'd, 's, J: PostSet, N: MapNode> LentSpots<'g, 'k, 'd, 's, J, N> {
+    /// Makes the spots of one call under this pin, which seeks this key. The nodes are in these cells.
     #[inline(always)]
     pub fn new(
         buckets: &'g [Atomic<N>],
-        guard: &'g LendingGuard<'c, 'q, 's, J, N, W>,
+        cells: &'g LentCells<J, N>,
+        home: Home<'g, N>,
+        pinned: &'g Pinned<'d, J>,
         key: &'k N::Key,
-    ) -> LentSpots<'g, 'k, 'c, 'q, 's, J, N, W>
+    ) -> LentSpots<'g, 'k, 'd, 's, J, N>
         ensures own { result.nodes.own ≡ None }
         ensures key { IfSome result.nodes.key (λ k. k.now ≡ key.now) }
     {
@@ -109,28 +120,37 @@ impl<'g, 'k, 'c, 'q, 's, J: PostSet, N: MapNode, W> LentSpots<'g, 'k, 'c, 'q, 's
         };
         LentSpots {
             buckets,
-            guard,
+            cells,
+            home,
+            pinned,
             nodes,
+            room: None,
         }
     }
 
-    /// Ends the call, and returns its nodes.
+    /// Ends the call, and returns its nodes, and the free cell if it hasn't used that.
     #[inline(always)]
-    pub fn close(self) -> MapCallNodes<'g, 'k, N, N::Key>
-        ensures { result ≡ self.entry.nodes }
+    pub fn close(self) -> (MapCallNodes<'g, 'k, N, N::Key>, Option<LentRoom<'s, J, N>>)
+        ensures { result.0 ≡ self.entry.nodes }
     {
         let LentSpots {
             buckets: _,
-            guard: _,
+            cells: _,
+            home: _,
+            pinned: _,
             nodes,
+            room,
         } = self;
-        nodes
+        (nodes, room)
     }
 
-    // The node of this name, which is lent for as long as the guard is borrowed.
+    // The node of this name, which is lent for as long as the pin is borrowed.
     #[inline(always)]
     fn node_of(&self, name: Name) -> Option<&'g N> {
-        self.guard.get(Shared::named(name, self.guard.guard()))
+        match self.cells.look(name, self.pinned) {
+            Some(sight) => Some(sight.value),
+            None => None,
+        }
     }
 
     // Changes or loads a root, which is a bucket's, or the pointer in a node, which has one. `Absent`: there is no such
@@ -145,7 +165,7 @@ impl<'g, 'k, 'c, 'q, 's, J: PostSet, N: MapNode, W> LentSpots<'g, 'k, 'c, 'q, 's
             },
         };
         match at {
-            Some(at) => change_at(at, change, self.guard.guard()),
+            Some(at) => change_at(at, change, self.home),
             None => AccessAnswer::Absent,
         }
     }
@@ -185,14 +205,18 @@ impl<'g, 'k, 'c, 'q, 's, J: PostSet, N: MapNode, W> LentSpots<'g, 'k, 'c, 'q, 's
     }
 }
 
-impl<'g: 'k, 'k, 'c, 'q, 's, J: PostSet, N: MapNode, W> LentSpots<'g, 'k, 'c, 'q, 's, J, N, W> {
-    /// Makes the spots of an insert of this node under this guard. It seeks the key of its node, once that is placed.
+impl<'g: 'k, 'k, 'd, 's, J: PostSet, N: MapNode> LentSpots<'g, 'k, 'd, 's, J, N> {
+    /// Makes the spots of an insert of this node under this pin, with a free cell for it if there is one. It seeks the
+    /// key of its node, once that is placed.
     #[inline(always)]
     pub fn with_node(
         buckets: &'g [Atomic<N>],
-        guard: &'g LendingGuard<'c, 'q, 's, J, N, W>,
+        cells: &'g LentCells<J, N>,
+        home: Home<'g, N>,
+        pinned: &'g Pinned<'d, J>,
         node: N,
-    ) -> LentSpots<'g, 'k, 'c, 'q, 's, J, N, W>
+        room: Option<LentRoom<'s, J, N>>,
+    ) -> LentSpots<'g, 'k, 'd, 's, J, N>
         ensures own { result.nodes.own ≡ Some node }
         ensures key { result.nodes.key ≡ None }
     {
@@ -203,12 +227,16 @@ impl<'g: 'k, 'k, 'c, 'q, 's, J: PostSet, N: MapNode, W> LentSpots<'g, 'k, 'c, 'q
         };
         LentSpots {
             buckets,
-            guard,
+            cells,
+            home,
+            pinned,
             nodes,
+            room,
         }
     }
 
-    // Places the call's own node. If it is refused, the node is there again.
+    // Places the call's own node in its free cell. If there is none, or the cell has had its last turn, it is refused,
+    // and the node is there again.
     #[inline(never)]
     fn place(&mut self) -> Result<AccessAnswer, Fault>
         ensures moves { (number : ℕ)
@@ -218,33 +246,33 @@ impl<'g: 'k, 'k, 'c, 'q, 's, J: PostSet, N: MapNode, W> LentSpots<'g, 'k, 'c, 'q
         let Some(node) = self.nodes.own.take() else {
             return Ok(AccessAnswer::Absent);
         };
-        match self.guard.place_with_witness(node) {
-            Ok((pointer, witness)) => {
-                let Some(name) = pointer.name() else {
-                    unreachable!()
-                };
-                self.nodes.key = match placed(self.guard, name, &witness) {
+        let Some(room) = self.room.take() else {
+            self.nodes.own = Some(node);
+            return Err(Fault::CellsFull);
+        };
+        match placed(room, node, self.pinned) {
+            Ok((name, lent)) => {
+                self.nodes.key = match lent {
                     Some(node) => Some(node.key()),
                     None => None,
                 };
                 Ok(AccessAnswer::Name(name))
             }
-            Err(refused) => {
-                self.nodes.own = Some(refused.value);
+            Err(back) => {
+                self.nodes.own = Some(back);
                 Err(Fault::CellsFull)
             }
         }
     }
 }
 
-impl<'g: 'k, 'k, 'c, 'q, 's, J: PostSet, N: MapNode, W> MapSpots
-    for LentSpots<'g, 'k, 'c, 'q, 's, J, N, W> {
+impl<'g: 'k, 'k, 'd, 's, J: PostSet, N: MapNode> MapSpots for LentSpots<'g, 'k, 'd, 's, J, N> {
     type Node = &'g N;
 
     #[inline(always)]
     fn first(&mut self, bucket: u64) -> Option<Ptr> {
         match self.buckets.get(bucket as usize) {
-            Some(at) => Some(ptr_of(at.load(SeqCst, self.guard.guard()))),
+            Some(at) => Some(ptr_of(at.load_at(SeqCst, self.home))),
             None => None,
         }
     }
@@ -260,12 +288,11 @@ impl<'g: 'k, 'k, 'c, 'q, 's, J: PostSet, N: MapNode, W> MapSpots
 
     #[inline(always)]
     fn next(&mut self, _node: Name, lent: &'g N) -> Option<Ptr> {
-        Some(ptr_of(lent.next().load(SeqCst, self.guard.guard())))
+        Some(ptr_of(lent.next().load_at(SeqCst, self.home)))
     }
 }
 
-impl<'g: 'k, 'k, 'c, 'q, 's, J: PostSet, N: MapNode, W> Spots
-    for LentSpots<'g, 'k, 'c, 'q, 's, J, N, W> {
+impl<'g: 'k, 'k, 'd, 's, J: PostSet, N: MapNode> Spots for LentSpots<'g, 'k, 'd, 's, J, N> {
     ghost does = { λ old access reply new. MovesMapNodes N.key N.Key.cmp old.nodes access reply new.nodes };
 
     #[inline(always)]

@@ -30,6 +30,8 @@ impl SvgText {
 /// The text with `&`, `<`, `>` and `"` as entities, and with `?` for every byte outside of plain ASCII text, of which
 /// pictures have none. `AllocError`: an allocation was refused.
 pub fn escaped(alloc: Global, text: &str) -> Result<String, AllocError>
+    // `escaped` writes a text with `&`, `<`, `>` and `"` as entities, and every byte outside of plain ASCII text as
+    // `?`. So no byte of it is `<`, `>` or `"`. The two functions that write texts and titles take only such a text.
     ensures value { IfOk result (λ written. string_bytes written ≡ escape text.now) }
     // No byte of it is read as markup.
     ensures plain { IfOk result (λ written. All IsText (string_bytes written)) }

@@ -4,6 +4,7 @@
 mod escape;
 mod from_script;
 mod pen;
+mod reasons;
 mod sheet;
 
 pub use epoch_layouts::{
@@ -11,5 +12,5 @@ pub use epoch_layouts::{
     Stop, lay_out, record,
 };
 pub use escape::escaped;
-pub use from_script::{run, tell_usage};
+pub use from_script::run;
 pub use sheet::draw;

@@ -1,8 +1,9 @@
 //! Where everything of a picture stands on its sheet, and in which order it is drawn. Lengths are in pixels.
-ghost use Rattle.std.specs.Prelude.{◌≤◌, ◌*◌};
+ghost use Rattle.std.specs.Prelude.{◌≤◌, ◌*◌, ◌-◌};
 
 mod bars;
 mod cells;
+mod idle;
 mod legend;
 mod marks;
 mod signs;
@@ -11,6 +12,7 @@ mod titles;
 use crate::pen::{Area, Pen};
 use epoch_layouts::cells::Shown;
 use epoch_layouts::{Bar, Picture};
+use idle::{Idle, above, has};
 use legend::Legend;
 use std::alloc::Global;
 use std::io;
@@ -27,9 +29,9 @@ const LANES: u64 = 58;
 
 const LANE: u64 = 84;
 
-const PLACE: u64 = 26;
-
 const CELL: u64 = 60;
+/// The height of a lane of one row: that of a place, and of a participant or a cell of which nothing is told.
+const ROW: u64 = 26;
 /// No length is greater.
 const FAR: u64 = 1_099_511_627_776;
 
@@ -38,6 +40,7 @@ const FAR: u64 = 1_099_511_627_776;
 struct Sheet<'p> {
     alloc: Global,
     picture: &'p Picture<'p>,
+    idle: &'p Idle,
     columns: u32,
     /// The lanes of participants, and the collector's, where something stands in it.
     lanes: u32,
@@ -48,7 +51,11 @@ struct Sheet<'p> {
 
 /// Writes the picture as SVG. An `Err` is that of the writer, or says that an allocation was refused.
 pub fn draw<W: Write>(alloc: Global, picture: &Picture<'_>, out: &mut W) -> io::Result<()> {
-    let sheet = Sheet::of(alloc, picture);
+    if picture.moments.is_empty() {
+        return draw_nothing(alloc, out);
+    }
+    let idle = Idle::of(alloc, picture)?;
+    let sheet = Sheet::of(alloc, picture, &idle);
     let signs = sheet.signs()?;
     let legend = Legend::of(alloc, picture, &signs)?;
     let height = sheet.bottom().saturating_add(legend.height());
@@ -63,8 +70,25 @@ pub fn draw<W: Write>(alloc: Global, picture: &Picture<'_>, out: &mut W) -> io::
     pen.end()
 }
 
+/// Writes the picture of a script without steps, which says so.
+fn draw_nothing<W: Write>(alloc: Global, out: &mut W) -> io::Result<()> {
+    let (width, height) = (240, 32);
+    let mut pen = Pen::begin(alloc, out, width, height)?;
+    pen.rect(
+        "page",
+        Area {
+            left: 0,
+            top: 0,
+            width,
+            height,
+        },
+    )?;
+    pen.text("lane", (8, 20), "This script takes no steps.")?;
+    pen.end()
+}
+
 impl<'p> Sheet<'p> {
-    fn of(alloc: Global, picture: &'p Picture<'p>) -> Sheet<'p> {
+    fn of(alloc: Global, picture: &'p Picture<'p>, idle: &'p Idle) -> Sheet<'p> {
         let columns = match picture.columns.last() {
             Some(column) => column.saturating_add(1),
             None => 0,
@@ -74,6 +98,7 @@ impl<'p> Sheet<'p> {
         Sheet {
             alloc,
             picture,
+            idle,
             columns,
             lanes,
             places: places_of(&picture.places),
@@ -115,38 +140,53 @@ impl<'p> Sheet<'p> {
     {
         let last = u64::from(self.picture.participants);
         let number = lane.unwrap_or(last).min(last);
-        LANES + LANE * number
+        let idle = above(&self.idle.lanes, number);
+        (LANES + LANE * number).saturating_sub(idle.saturating_mul(LANE - ROW))
+    }
+
+    /// The height of a lane, without the gap below it.
+    fn height_of(&self, lane: Option<u64>) -> u64
+        ensures { result ≤ LANE - 4 }
+    {
+        match lane {
+            Some(number) if has(&self.idle.lanes, number) => ROW - 4,
+            _ => LANE - 4,
+        }
     }
 
     fn top_of_places(&self) -> u64
         ensures { result ≤ FAR }
     {
-        LANES + LANE * u64::from(self.lanes) + 6
+        let lanes = u64::from(self.lanes);
+        let idle = above(&self.idle.lanes, lanes);
+        (LANES + LANE * lanes + 6).saturating_sub(idle.saturating_mul(LANE - ROW))
     }
 
     fn top_of_place(&self, place: u64) -> u64
         ensures { result ≤ 2 * FAR }
     {
-        self.top_of_places() + PLACE * place.min(u64::from(self.places))
+        self.top_of_places() + ROW * place.min(u64::from(self.places))
     }
 
     fn top_of_cells(&self) -> u64
         ensures { result ≤ 2 * FAR }
     {
-        self.top_of_places() + PLACE * u64::from(self.places) + 6
+        self.top_of_places() + ROW * u64::from(self.places) + 6
     }
 
     /// The top of the lane of a slot. Slots are counted from 1.
     fn top_of_cell(&self, slot: u64) -> u64
         ensures { result ≤ 3 * FAR }
     {
-        self.top_of_cells() + CELL * slot.saturating_sub(1).min(u64::from(self.cells))
+        let lanes = slot.saturating_sub(1).min(u64::from(self.cells));
+        let idle = above(&self.idle.cells, slot);
+        (self.top_of_cells() + CELL * lanes).saturating_sub(idle.saturating_mul(CELL - ROW))
     }
 
     fn bottom(&self) -> u64
         ensures { result ≤ 3 * FAR }
     {
-        self.top_of_cells() + CELL * u64::from(self.cells)
+        self.top_of_cell(u64::from(self.cells) + 1)
     }
 
     /// The paper, and the ground and the name of each lane.
@@ -187,19 +227,20 @@ impl<'p> Sheet<'p> {
     /// The ground and the name of a participant's lane, or of the collector's.
     fn draw_lane_ground<W: Write>(&self, pen: &mut Pen<'_, W>, lane: u32) -> io::Result<()> {
         let number = u64::from(lane);
-        let top = self.top_of(Some(number));
-        self.draw_strip(pen, "shade", top, LANE - 4)?;
+        let (top, height) = (self.top_of(Some(number)), self.height_of(Some(number)));
+        self.draw_strip(pen, "shade", top, height)?;
+        let at = (8, top + if height < LANE - 4 { 15 } else { 36 });
         if lane < self.picture.participants {
-            pen.number("lane", (8, top + 36), "participant ", number, LEFT)
+            pen.number("lane", at, "participant ", number, LEFT)
         } else {
-            pen.text("lane", (8, top + 36), "collector")
+            pen.text("lane", at, "collector")
         }
     }
 
     /// The ground and the name of a place's lane.
     fn draw_place_ground<W: Write>(&self, pen: &mut Pen<'_, W>, place: u64) -> io::Result<()> {
         let top = self.top_of_place(place);
-        self.draw_strip(pen, "shade", top, PLACE - 4)?;
+        self.draw_strip(pen, "shade", top, ROW - 4)?;
         pen.number("lane", (8, top + 15), "place ", place, LEFT)
     }
 

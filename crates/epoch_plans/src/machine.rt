@@ -33,6 +33,8 @@ pub trait PhaseMachine: Copy {
 
     /// Returns what this phase asks for under this guard.
     fn wish(self, guard: u64) -> Wish<Self::Answer>
+        // Code that meets the trait is its program: what a phase asks for, and which phase follows from each reply, are
+        // what the program says.
         ensures { result ≡ wish_of (deed guard self) };
 
     /// Returns the phase after this one, whose call ended with this reply. It is the same under every guard.
@@ -53,6 +55,8 @@ pub trait Works: PhaseMachine {
 
     /// Returns the phase in which a call begins.
     fn first(work: Self::Work, has_room: bool) -> Self
+        // The phase in which a call begins is the one that the program says.
         ensures first { result ≡ first work has_room }
+
         ensures starts { starts result };
 }

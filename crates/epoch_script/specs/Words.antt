@@ -1,5 +1,5 @@
 -- The words of a line: what each text says.
-use Rattle.std.specs.Prelude.{◌≡◌, ℕ, ◌^◌, ◌<◌, ◌==◌, List, [], ◌∷◌, Option, Some, None, MatchOption, codes}
+use Rattle.std.specs.Prelude.{◌≡◌, ℕ, zero, suc, ◌^◌, ◌<◌, ◌==◌, List, [], ◌∷◌, Option, Some, None, MatchOption, codes}
 use Rattle.std.specs.Prelude.{if◌then◌else◌}
 use Rattle.std.specs.Str.Parse.{IsNumeral, digits_value}
 use Rattle.epoch_cells.specs.declared.cells.name.Name.{Name}
@@ -35,6 +35,20 @@ Behind rest P = MatchOption rest ⊥ P
 -- the first word is this one, and so it is with what stands behind its space
 abbrev pub LeadsWith : List ℕ → List ℕ → (List ℕ → Type 0) → Type 0
 LeadsWith name text P = (first_word text ≡ name) × Behind (others text) P
+
+-- the same of a text that may be missing
+abbrev pub first_word_of : Option (List ℕ) → Option (List ℕ)
+first_word_of None = None
+first_word_of (Some text) = Some (first_word text)
+
+abbrev pub others_of : Option (List ℕ) → Option (List ℕ)
+others_of None = None
+others_of (Some text) = others text
+
+-- what stands behind so many words and the space after them, if the text has more
+abbrev pub behind_words : ℕ → List ℕ → Option (List ℕ)
+behind_words zero text = Some text
+behind_words (suc words) text = others_of (behind_words words text)
 
 -- decimal digits that write the number
 abbrev pub SpellsNumber : ℕ → List ℕ → Type 0

@@ -8,7 +8,7 @@ use crate::words::{cut, read_guard, read_number, read_number_before};
 use epoch_laws::{Call, Shape, Step};
 
 /// The greatest number of steps that one line may ask for.
-const MOST_STEPS: u64 = 100_000;
+pub const MOST_STEPS: u64 = 100_000;
 
 /// How many jobs a bag takes where the shape doesn't say: MAX_OBJECTS of the Rust crate.
 const USUAL_BAG_JOBS: u64 = 64;
@@ -35,6 +35,8 @@ pub enum Command {
 
 /// Returns what a line says, or `None` where it is no line of the grammar.
 pub fn read_command(line: &str) -> Option<Command>
+    // A line is read as a step, or as one of the questions `epoch` and `word`, exactly when it spells one, and as that
+    // one.
     ensures { ReadsText SpellsCommand line.now result }
 {
     match cut(line) {
@@ -111,6 +113,7 @@ fn read_call(text: &str) -> Option<Call>
 /// Returns the shape that a line says, or `None` where it is none.
 #[tactic(auto, using(crate::proofs::SameSizes::said_shape_is_valid))]
 pub fn read_shape(line: &str) -> Option<Shape>
+    // The first line is read as a shape exactly when it spells a valid one.
     ensures { ReadsText SpellsShape line.now result }
 {
     let ("shape", Some(rest)) = cut(line) else {

@@ -37,6 +37,7 @@ pub enum Ending {
 impl Ending {
     /// Returns the exit status that tells of it.
     pub fn status(self) -> u8
+        // Each way to end has its exit status. A stream's error counts as refused memory only if it says so.
         ensures { result ≡ status_of self }
     {
         match self {
@@ -86,7 +87,8 @@ pub fn tell_ending<F: Write>(ending: Ending, faults: &mut F) -> Ending {
 }
 
 /// How a run ends that has come to this ending: so where it was told, and else as the error says.
-fn after_telling(ending: Ending, told: io::Result<()>) -> Ending
+pub fn after_telling(ending: Ending, told: io::Result<()>) -> Ending
+    // A run ends in its own way if a bad line could be reported, and otherwise as the error of that report says.
     ensures ok { IsOk told → result ≡ ending }
     ensures err { IfErr told (λ error. TellsOf (error_kind error) result) }
 {
@@ -138,6 +140,7 @@ impl<R: BufRead> Script<'_, R> {
 
     /// Reads the next line, without its line feed; `false` at the end of input.
     fn read_line(&mut self) -> Result<bool, Ending>
+        // A line is the bytes up to the next line feed, without it. Lines are counted one by one.
         ensures line { result ≡ Ok true
             → IfSome (R.remaining self.old.reader.now) (λ bytes. self.new.line.items ≡ first_piece 10 bytes) }
         ensures rest { result ≡ Ok true
@@ -178,6 +181,8 @@ impl<R: BufRead> Script<'_, R> {
 
     /// Returns what the line asks for. `NotAStep`: it asks for nothing.
     pub fn command(&self) -> Result<Command, Ending>
+        // A line that spells what is expected there is read. Every other line, even one whose bytes aren't text, gives
+        // an ending that names the line's number.
         ensures ok { IfOk result (λ command. SpellsCommand command self.now.line.items) }
         ensures says { (command : Command) → IsUtf8 self.now.line.items
             → SpellsCommand command self.now.line.items → IsOk result }

@@ -22,6 +22,7 @@ pub trait LinkSpots: Spots {
     ///
     /// `NoMemory`: an allocation was refused. `CellsFull`: every cell was seen in use.
     fn place_node(&mut self, value: u64) -> Result<Option<Name>, Fault>
+        // A load, a read, a store and a placing make one access, and return its answer.
         ensures does { Self.does self.old (Place value) (placed result) self.new }
         ensures told { IsTold (Place value) (placed result) };
 
@@ -31,6 +32,7 @@ pub trait LinkSpots: Spots {
 
     /// Exchanges this root, if it is `current` still, for `new`, and returns whether it did.
     fn exchange_root(&mut self, root: u64, current: Ptr, new: Ptr) -> bool
+        // An exchange makes one access, and returns whether its answer says that it was made.
         ensures { ExchangesAt Self.does self.old (Root root) current new result self.new };
 
     /// Reads the value of this node. `None`: it can't be read.

@@ -99,6 +99,8 @@ impl<S: BagStore<Job = Deferral>> World<S> {
     /// The shape must be valid: `Shape::is_valid`. `NoMemory`: an allocation was refused, and nothing was made.
     pub fn new(alloc: Global, shape: Shape) -> Result<World<S>, Fault>
         requires { IsValid shape }
+        // A new world has no participant, no job, an empty store, null roots and free cells. Its numbers are those of
+        // the shape.
         ensures fresh { IfOk result IsFresh }
         ensures epoch { IfOk result (λ world. world.epoch ≡ shape.start_epoch) }
         ensures positions { IfOk result (λ world. length world.seats ≡ shape.participants) }
@@ -272,6 +274,7 @@ impl<S: BagStore<Job = Deferral>> World<S> {
         ensures removals { IfOk result (AlongCall self.old participant call
             (λ fresh log. (run : Runs fresh log self.new) → CallsWhatWasDeferred fresh log self.new run)) }
 
+        // If memory is refused, nothing was done.
         ensures err { OnErr result (self.new ≡ self.old) }
         ensures no_memory { IfErr result (λ fault. fault ≡ NoMemory) }
     {
@@ -303,6 +306,9 @@ impl<S: BagStore<Job = Deferral>> World<S> {
 
     /// Takes one step, and returns its reply. It takes no memory.
     pub fn step(&mut self, step: Step) -> Reply
+        // One step does what the definition of a step says. The definition tells which fault refuses the step, in which
+        // order faults are tested, and what the state is then; what a put sees of the places, and whether it has room;
+        // and what is ahead of a collection.
         ensures takes { TakesStep self.old step result self.new }
         // A Go makes at most one step of the store, as the store says of its own steps.
         ensures one_step { MakesOneStep S.queued S.occupied S.passed S.ahead S.has_room S.PutMoves S.TakeMoves
@@ -319,6 +325,7 @@ impl<S: BagStore<Job = Deferral>> World<S> {
 
     /// Returns the present epoch. It is no step.
     pub fn epoch(&self) -> u64
+        // `epoch` returns the present epoch. `word` returns a participant's word, or `None` past the table.
         ensures { result ≡ self.now.epoch }
     {
         self.common.epoch
@@ -336,6 +343,7 @@ impl<S: BagStore<Job = Deferral>> World<S> {
     /// Returns whether the held bag of the participant at a position takes a further job without being put first, or
     /// `None` where no participant is registered. It is no step.
     pub fn has_room(&self, position: u64) -> Option<bool>
+        // `has_room` returns whether a participant's held bag has room, or `None` if no participant is registered.
         ensures value { MatchOption result (position_word self.now position ≡ Word.Free)
             (λ room. (position_word self.now position ≢ Word.Free)
             × (IsTrue room ↔ (length (seat_of self.now position).machine.held < self.now.sizes.bag_jobs))) }
@@ -362,6 +370,7 @@ impl<S: BagStore<Job = Deferral>> World<S> {
 
     /// Returns the fault that refuses this call of the participant at a position now, or `None`. It is no step.
     pub fn refusal(&self, position: u64, call: Call) -> Option<Fault>
+        // `refusal` returns the fault that would refuse a call now.
         ensures { result ≡ refusal call (seat_of self.now position) self.now.tickets self.now.heap }
     {
         match self.seats.get(position as usize) {

@@ -5,18 +5,23 @@ use std::io;
 use std::io::{ErrorKind, Write};
 
 /// What a script shows, and its lines.
-const SCRIPTS: [(&str, &str); 6] = [
-    ("no line", ""),
-    ("a shape alone", "shape 1 0 0 0 1 1 0 0\n"),
-    ("no shape", "\nregister\n"),
-    ("no step", "shape 1 0 0 0 1 1 0 0\nregister\nregister 1\n"),
+const SCRIPTS: [(&str, &[u8]); 8] = [
+    ("no line", b""),
+    ("a shape alone", b"shape 1 0 0 0 1 1 0 0\n"),
+    ("no shape", b"\nregister\n"),
+    ("no text", b"shape 1 0 0 0 1 1 0 0\nregister\nepoch \xff\n"),
+    ("no step", b"shape 1 0 0 0 1 1 0 0\nregister\nregister 1\n"),
+    (
+        "a call that ends early",
+        b"shape 1 0 0 0 1 1 0 0\nregister\ncall 0 unpin\n",
+    ),
     (
         "as many steps as may be",
-        "shape 1 0 0 0 1 1 0 0\ngo 0 5000\nepoch\n",
+        b"shape 1 0 0 0 1 1 0 0\ngo 0 5000\nepoch\n",
     ),
     (
         "one step more",
-        "shape 1 0 0 0 1 1 0 0\ngo 0 4999\nword 0\nendgo\nendgo\n",
+        b"shape 1 0 0 0 1 1 0 0\ngo 0 4999\nword 0\nendgo\nendgo\n",
     ),
 ];
 
@@ -25,27 +30,13 @@ pub fn tell(rt: &impl Print, alloc: Global) -> io::Result<()> {
         tell_ending(rt, alloc, shows, script)?;
     }
     tell_refused(rt, alloc, "a stream that fails", ErrorKind::BrokenPipe)?;
-    tell_refused(rt, alloc, "a stream without memory", ErrorKind::OutOfMemory)?;
-    tell_usage(rt, alloc)
-}
-
-/// Says what a word on the command line is answered, and with which status, on a stream that takes it and on others.
-fn tell_usage(rt: &impl Print, alloc: Global) -> io::Result<()> {
-    let mut faults = Vec::new(alloc);
-    let status = epoch_pictures::tell_usage(&mut faults);
-    let told = text_of(&faults);
-    println!(rt; "a word: status {status}, told '{told}'")?;
-    for kind in [ErrorKind::BrokenPipe, ErrorKind::OutOfMemory] {
-        let status = epoch_pictures::tell_usage(&mut Refusing(kind));
-        println!(rt; "a word, and {kind:?}: status {status}")?;
-    }
-    Ok(())
+    tell_refused(rt, alloc, "a stream without memory", ErrorKind::OutOfMemory)
 }
 
 /// Says with which status a script ends, whether something is drawn, and what is told.
-fn tell_ending(rt: &impl Print, alloc: Global, shows: &str, script: &str) -> io::Result<()> {
-    let (mut drawn, mut faults) = (Vec::new(alloc), Vec::new(alloc));
-    let status = epoch_pictures::run(alloc, &mut script.as_bytes(), &mut drawn, &mut faults);
+fn tell_ending(rt: &impl Print, alloc: Global, shows: &str, script: &[u8]) -> io::Result<()> {
+    let (mut script, mut drawn, mut faults) = (script, Vec::new(alloc), Vec::new(alloc));
+    let status = epoch_pictures::run(alloc, &mut script, &mut drawn, &mut faults);
     let (outcome, told) = (outcome_of(&drawn), text_of(&faults));
     println!(rt; "{shows}: status {status}, {outcome}, told '{told}'")
 }

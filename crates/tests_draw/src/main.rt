@@ -1,8 +1,9 @@
-//! Draws the scripts beside it, and says whether each picture is the one that is kept; and how scripts without a
-//! picture end.
+//! Draws the scripts beside it, and says whether each picture is the one that is kept; what stands in the pictures of
+//! small scripts; and how scripts without a picture end.
 #![tactic(auto)]
 
 mod endings;
+mod texts;
 
 use std::alloc::Global;
 use std::fs::Files;
@@ -21,6 +22,7 @@ fn main(rt: HostRuntime) -> io::Result<()> {
     for (name, script, picture) in KEPT {
         compare(&rt, rt.alloc(), name, script, picture)?;
     }
+    texts::tell(&rt, rt.alloc())?;
     endings::tell(&rt, rt.alloc())
 }
 

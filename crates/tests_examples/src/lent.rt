@@ -1,6 +1,11 @@
-//! Runs the pages whose values are lent, on several threads.
+//! Runs the pages whose values are lent, most of them on several threads.
+#[cfg(test)]
+mod config;
 #[cfg(test)]
 mod owners;
+#[cfg(test)]
+mod service;
+pub mod shares;
 #[cfg(test)]
 mod sorted_list;
 #[cfg(test)]

@@ -1,9 +1,11 @@
-//! Tests of `epoch_script` by its public calls: rows of scripts with what they print, bad lines, random lines, and a
-//! script of which a read, a write or an allocation is refused.
+//! Tests of `epoch_script` by its public calls: rows of scripts with what they print, bad lines and why they are bad,
+//! random lines, and a script of which a read, a write or an allocation is refused.
 #[cfg(test)]
 mod lines;
 #[cfg(test)]
 mod memory;
+#[cfg(test)]
+mod misfits;
 #[cfg(test)]
 mod refusals;
 #[cfg(test)]

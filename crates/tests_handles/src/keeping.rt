@@ -184,7 +184,7 @@ fn a_nested_guard_and_one_that_was_paused_find_the_cells_that_are_left(rt: HostR
 }
 
 /// How a value comes into memory before it is placed.
-#[derive(Clone, Copy, PartialEq)]
+#[derive(Clone, Copy)]
 enum Made {
     /// Into memory that was kept, if there is some.
     UnderGuard,

@@ -1,15 +1,10 @@
 use crate::calls::{collector, end, let_go};
-use crate::pointers::seen::{
-    changed, lost_to_null, want_destroyed, want_owned, want_pointer, want_tag, want_value,
-};
+use crate::pointers::seen::{changed, want_destroyed, want_pointer, want_tag};
 use crate::wants::{want, want_ok, want_shown, want_some, want_true};
-use epoch::atomic::{
-    Array, Atomic, CompareExchangeError, Owned, Pointable, Pointer, Shared, UpdateFault,
-};
+use epoch::atomic::{Array, Atomic, Owned, Pointable, Pointer, Shared, UpdateFault};
 use epoch::{Called, Capacities, Guard, unprotected};
 use std::alloc::Global;
 use std::process::Abort;
-use std::sync::atomic::Ordering;
 use std::sync::atomic::Ordering::SeqCst;
 
 mod exchanges;
@@ -19,9 +14,8 @@ mod values;
 /// What is done with pointers under an unprotected guard.
 #[derive(Clone, Copy)]
 enum Case {
-    Exchanges,
     TagsOfNull,
-    StoredAndSwapped,
+    Refused,
     Held,
     Shown,
 }
@@ -29,9 +23,8 @@ enum Case {
 /// Does this under the guard.
 fn act(rt: &impl Abort, alloc: Global, guard: &Guard<'_, u64>, case: Case) {
     match case {
-        Case::Exchanges => exchanges::exchanges(rt, alloc, guard),
         Case::TagsOfNull => exchanges::tags_of_null(rt, alloc, guard),
-        Case::StoredAndSwapped => values::stored_and_swapped(rt, alloc, guard),
+        Case::Refused => values::refused(rt, alloc, guard),
         Case::Held => values::held(rt, alloc, guard),
         Case::Shown => values::shown(rt, alloc, guard),
     }
@@ -57,18 +50,13 @@ fn atomic(rt: &impl Abort, alloc: Global, value: u64, guard: &Guard<'_, u64>) ->
 }
 
 #[test]
-fn each_form_of_an_exchange_answers_what_it_wrote_or_found(rt: HostRuntime) {
-    under_guard(&rt, rt.alloc(), 2, Case::Exchanges);
-}
-
-#[test]
 fn a_null_pointer_has_no_value_whatever_its_tag(rt: HostRuntime) {
     under_guard(&rt, rt.alloc(), 1, Case::TagsOfNull);
 }
 
 #[test]
-fn values_are_stored_swapped_and_taken_back_and_refused_by_full_cells(rt: HostRuntime) {
-    under_guard(&rt, rt.alloc(), 2, Case::StoredAndSwapped);
+fn each_call_that_needs_a_cell_is_refused_by_full_cells(rt: HostRuntime) {
+    under_guard(&rt, rt.alloc(), 1, Case::Refused);
 }
 
 #[test]

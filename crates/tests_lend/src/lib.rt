@@ -1,14 +1,16 @@
-//! Tests of values that are lent to readers: in one cell, in many cells, and behind pointers.
+//! Tests of values that are lent to readers: in one cell, in many cells, and in stores.
 #![tactic(auto)]
 
 #[cfg(test)]
 mod one_cell;
-mod pointers;
 #[cfg(test)]
 mod probes;
 #[cfg(test)]
 mod race;
 #[cfg(test)]
 mod readers;
+#[cfg(test)]
+mod sessions;
+mod stores;
 #[cfg(test)]
 mod wants;

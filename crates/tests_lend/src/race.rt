@@ -160,7 +160,7 @@ fn remove<J: PostSet>(owner: Owner<'_, J, Probe, Global>, posts: &Posts<J>, cour
         .store(is_found(posts, value, course), SeqCst);
 }
 
-/// Goes on to later epochs and tries to take the values of the bag back, until they come.
+/// Goes on to later epochs and tries to take the values of the batch back, until they come.
 fn take_bag_back<J: PostSet>(bag: Batch<'_, J, Probe>, posts: &Posts<J>, course: &Course) {
     let mut kept = bag.seal(posts);
     for _ in 0..MOST {
@@ -181,7 +181,7 @@ fn take_bag_back<J: PostSet>(bag: Batch<'_, J, Probe>, posts: &Posts<J>, course:
     }
 }
 
-/// Marks the value at this spot, and puts it into the bag.
+/// Marks the value at this spot, and puts it into the batch.
 fn retire<'c, J: PostSet>(
     cells: &'c LendingCells<J, Probe>,
     bag: &mut Batch<'c, J, Probe>,

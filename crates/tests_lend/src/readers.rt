@@ -1,10 +1,11 @@
 //! Readers on one thread: the posts of a set, one value, and arrays of cells that are used again.
+use crate::sessions::{goes_with_the_clock, takes_posts};
 use crate::wants::want;
 use epoch_lend::array::cells::{LendingCells, SlotTurn};
 use epoch_lend::array::room::LentRoom;
 use epoch_lend::array::slot::Returned;
+use epoch_lend::domain::{Domain, DomainWork, with_domain};
 use epoch_lend::readers::posts::{PostSet, Posts};
-use epoch_lend::readers::session::{Session, with_posts};
 use epoch_lend::readers::value::{Owner, RetiredValue, lend};
 use epoch_lend_pointers::store::batch::{Batch, SealedBatch};
 use std::alloc::Global;
@@ -272,6 +273,40 @@ fn ends_at_once<J: PostSet>(
     want(rt, "and no search finds its cell", placed(cells, 11), NONE);
 }
 
+/// Whether the cell of this slot can be claimed. If so, it is left to all callers again.
+fn is_free<J: PostSet>(cells: &LendingCells<J, u64>, slot: usize) -> bool {
+    match cells.fresh_room(slot) {
+        Some(room) => {
+            room.release();
+            true
+        }
+        None => false,
+    }
+}
+
+/// Claims one of two empty cells, which is its owner's until it is released.
+fn claims_a_room<J: PostSet>(rt: &impl Abort, alloc: Global, posts: &Posts<J>) {
+    let cells = LendingCells::new(alloc, 2, u64::MAX, posts).expect(rt, "memory");
+    want(rt, "an empty cell is free", is_free(&cells, 0), true);
+    let room = cells.fresh_room(0);
+    want(rt, "it is claimed once", is_free(&cells, 0), false);
+    want(rt, "a search goes past it", placed(&cells, 7), spot(1, 0));
+    want(rt, "a cell in use isn't free", is_free(&cells, 1), false);
+    want(rt, "there is no third", is_free(&cells, 2), false);
+    want(
+        rt,
+        "it takes its owner's value",
+        housed(room, 8),
+        spot(0, 0),
+    );
+    want(
+        rt,
+        "which is found there",
+        found(posts, &cells, spot(0, 0)),
+        8,
+    );
+}
+
 /// What comes back at this try, or 0 with what has to be tried again.
 fn returned<J: PostSet>(
     retired: Option<RetiredValue<J, u64, Global>>,
@@ -362,19 +397,23 @@ struct OnOneThread<'t, R> {
     alloc: Global,
 }
 
-impl<R: Abort> Session for OnOneThread<'_, R> {
+impl<R: Abort> DomainWork for OnOneThread<'_, R> {
     type Answer = ();
 
-    fn run<J: PostSet + Send + Sync>(self, posts: Posts<J>) {
+    fn run<J: PostSet + Send + Sync>(self, domain: &Domain<J>) {
         let OnOneThread { rt, alloc } = self;
-        let cells = LendingCells::new(alloc, 2, u64::MAX, &posts).expect(rt, "memory");
-        registers(rt, &posts);
-        fills(rt, alloc, &posts, &cells);
-        keeps_a_room(rt, alloc, &posts, &cells);
-        lends_a_box(rt, alloc, &posts);
-        holds_a_bag_back(rt, alloc, &posts, &cells);
-        let cells = LendingCells::new(alloc, 2, 0, &posts).expect(rt, "memory");
-        ends_at_once(rt, alloc, &posts, &cells);
+        let posts = domain.posts();
+        let cells = LendingCells::new(alloc, 2, u64::MAX, posts).expect(rt, "memory");
+        registers(rt, posts);
+        fills(rt, alloc, posts, &cells);
+        keeps_a_room(rt, alloc, posts, &cells);
+        lends_a_box(rt, alloc, posts);
+        holds_a_bag_back(rt, alloc, posts, &cells);
+        let cells = LendingCells::new(alloc, 2, 0, posts).expect(rt, "memory");
+        ends_at_once(rt, alloc, posts, &cells);
+        claims_a_room(rt, alloc, posts);
+        takes_posts(rt, domain);
+        goes_with_the_clock(rt, domain);
     }
 }
 
@@ -383,6 +422,6 @@ fn what_is_lent_stays_while_a_reader_is_pinned_and_comes_back_after(
     rt: HostRuntime,
 ) -> Result<(), Fail> {
     let alloc = rt.alloc();
-    with_posts(alloc, 2, OnOneThread { rt: &rt, alloc })?;
+    with_domain(alloc, 2, OnOneThread { rt: &rt, alloc })?;
     Ok(())
 }

@@ -1,9 +1,7 @@
 //! Jobs, bags, cells, claims on them, and faults are shown by short texts, so that a call that fails can be followed by
 //! `expect`.
 use crate::wants::{want, want_shown};
-use epoch::atomic::{
-    Array, Atomic, CompareExchangeError, ExchangeFault, Owned, Shared, UpdateFault,
-};
+use epoch::atomic::{Array, Atomic, CompareExchangeError, ExchangeFault, Owned, Shared};
 use epoch::{Capacities, Collector, Guard, unprotected};
 use epoch_bags::{Bag, Epoch, Job, Work};
 use epoch_cells::{Cells, Fault, Name, Refused};
@@ -74,16 +72,6 @@ fn faults_of_exchanges_are_shown_with_what_they_carry(rt: HostRuntime) {
     let stuck = ExchangeFault::<u64, Shared<'_, u64>>::Stuck(null);
     let wanted = "Stuck(Shared { name: None, tag: 0, .. })";
     want_shown(&rt, alloc, "a value held elsewhere", &stuck, wanted);
-}
-
-#[test]
-fn faults_of_updates_are_shown_with_the_pointer_found(rt: HostRuntime) {
-    let alloc = rt.alloc();
-    let null = Shared::<u64>::null();
-    let wanted = "Stopped(Shared { name: None, tag: 0, .. })";
-    want_shown(&rt, alloc, "an end", &UpdateFault::Stopped(null), wanted);
-    let wanted = "RanOut(Shared { name: None, tag: 0, .. })";
-    want_shown(&rt, alloc, "no try", &UpdateFault::RanOut(null), wanted);
 }
 
 /// Exchanges null for null with tag 1, and changes the tag to 2: each call is followed by `expect`.

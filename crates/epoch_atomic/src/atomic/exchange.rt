@@ -52,6 +52,8 @@ impl<T: Pointable, A: SharedWord> Atomic<T, A> {
         failure: Ordering,
         guard: &'g Guard<'_, T, W>,
     ) -> Result<Shared<'g, T>, ExchangeFault<'g, T, P>>
+        // An exchange that is won returns the pointer given. A lost one returns a pointer whose name or tag isn't that
+        // of `current`, and hands `new` back.
         ensures ok { IfOk result (λ written. BecomesBelow T.ALIGN (P.becomes new) written.name written.tag) }
         ensures changed { IfErr result
             (λ fault. OnChanged fault (λ found back. FindsAnother T.ALIGN current.entry found)) }
@@ -60,9 +62,11 @@ impl<T: Pointable, A: SharedWord> Atomic<T, A> {
         ensures full { IfErr result (λ fault. OnFull fault (λ back. P.takes_cell × (back ≡ new))) }
         ensures stuck { IfErr result
             (λ fault. OnStuck fault (λ stuck. P.takes_cell × P.becomes new stuck.name stuck.tag)) }
+
         ensures won { IfOk result (ExchangesPointer T.ALIGN (A.did self.now.word) current.entry) }
         ensures lost { IfErr result (λ fault.
             OnChanged fault (λ found back. MissesPointer T.ALIGN (A.did self.now.word) current.entry found)) }
+        // Each pointer that an exchange or an update returns is of the guard's collector, won or lost.
         ensures home { IfOk result (λ written. IsUnder guard.now.collector.now.id written.home) }
         ensures fault_home { IfErr result (λ fault. AnswersUnder guard.now.collector.now.id fault) }
     {

@@ -39,6 +39,7 @@ impl<T: Pointable> Owned<T> {
 
     /// Returns the same value with this tag, which is taken modulo [`Pointable::ALIGN`].
     pub fn with_tag(self, tag: usize) -> Owned<T>
+        // `with_tag` takes the tag modulo the alignment, and the rest stays. Null is null whatever its tag is.
         ensures value { result.value ≡ self.value }
         ensures tag { result.tag ≡ tag % T.ALIGN }
         ensures below { result.tag < T.ALIGN }
@@ -72,6 +73,8 @@ impl<T: Pointable + Drop> Owned<T> {
     #[inline(always)]
     pub fn new_under<W>(alloc: Global, value: T, guard: &Guard<'_, T, W>) -> Result<Owned<T>, Fault>
         ensures memory { IsOkUnless result NoMemory }
+        // `Owned::new_under` returns the value that was given, with tag 0, as `Owned::new` does. It fails only if
+        // memory is refused.
         ensures value { IfOk result (λ owned. owned.value.value ≡ value) }
         ensures tag { IfOk result (λ owned. owned.tag ≡ 0) }
     {

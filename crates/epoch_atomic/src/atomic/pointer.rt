@@ -135,7 +135,9 @@ impl<T: Pointable + Drop> Owned<T> {
     where
         T: HasPlacing<M>,
         ensures name { IfOk result (λ shared. IsSome shared.name) }
+        // The pointer that `into_shared` returns has the name under which the value was placed.
         ensures placed { IfOk result (λ shared. IfSome shared.name (λ name. M.placed self.value.value name)) }
+
         ensures tag { IfOk result (λ shared. shared.tag ≡ self.tag) }
         ensures home { IfOk result (λ shared. IsUnder guard.now.collector.now.id shared.home) }
         ensures full { IfErr result (λ refused. refused.fault ≡ CellsFull) }

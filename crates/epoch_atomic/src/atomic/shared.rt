@@ -68,11 +68,7 @@ impl<'g, T> Shared<'g, T> {
         ensures tag { result.tag ≡ 0 }
         ensures home { IsUnder guard.now.collector.now.id result.home }
     {
-        Shared {
-            name: Some(name),
-            tag: 0,
-            home: Some(home_of(guard)),
-        }
+        Shared::named_at(name, home_of(guard))
     }
 
     /// Returns the name of the value that it points to, or `None` if it is null. Two pointers with the same name point
@@ -132,6 +128,7 @@ impl<'g, T: Pointable + Drop> Shared<'g, T> {
 
     /// Does what [`Shared::deref`] does.
     pub fn as_ref(&self) -> Option<Reading<'g, T>>
+        // A reading or a writing that a pointer returns is of the pointer's name. The pointer stays as it is.
         ensures named { IfSome result (λ reading. Some reading.name ≡ self.now.name) }
     {
         self.deref()

@@ -63,10 +63,13 @@ impl<T: Pointable, A: SharedWord> Atomic<T, A> {
         f: F,
     ) -> Result<Shared<'g, T>, UpdateFault<'g, T>>
         requires { F.IsAlwaysCallable f }
+        // An update calls its function at most `max_tries` times, and ends as the last call says. It calls the function
+        // only on pointers of the guard's collector that the words found read as.
         ensures ok { IfOk result (λ before. (last : F) × WinsLast T.ALIGN guard.now.collector.now.id
             (A.did self.now.word) F.step f max_tries before last) }
         ensures ended { (last : F) × IfErr result (λ fault. EndsUnmade T.ALIGN guard.now.collector.now.id
             (A.did self.now.word) F.step f max_tries fault last) }
+
         ensures read { IfOk result (λ before. IsRead T.ALIGN before.name before.tag) }
         ensures seen { IfErr result (λ fault. IsRead T.ALIGN (pointer_of fault).name (pointer_of fault).tag) }
         ensures home { IfOk result (λ before. IsUnder guard.now.collector.now.id before.home) }
@@ -138,9 +141,12 @@ impl<T: Pointable, A: SharedWord> Atomic<T, A> {
         order: Ordering,
         guard: &'g Guard<'_, T, W>,
     ) -> Shared<'g, T>
+        // A pointer that is read is what some word reads as: null has turn 0, the slot fits, and the tag is below the
+        // alignment. The pointer is of the guard's collector.
         ensures read { IsRead T.ALIGN result.name result.tag }
         ensures below { result.tag < T.ALIGN }
         ensures home { IsUnder guard.now.collector.now.id result.home }
+
         ensures did { ChangesTag T.ALIGN (A.did self.now.word) (Or tag) result }
     {
         self.change_tag(TagChange::Or(tag), order, guard)

@@ -91,10 +91,13 @@ impl<J: Drop> BagQueue<J> {
 
     /// Puts `bag` behind the others. `Err`: the queue is full, and stays as it was; the bag comes back.
     pub fn push(&mut self, bag: SealedBag<J>) -> Result<(), SealedBag<J>>
+        // A queue of bags pushes a bag behind the others, and is full exactly at its capacity. It pops the front
+        // exactly when the condition holds for the front.
         ensures full { IsErr result ↔ (self.old.capacity ≤ length self.old.bags) }
         ensures ok { OnOk result (self.new.bags ≡ self.old.bags ++ bag ∷ []) }
         ensures err { OnErr result (self.new ≡ self.old) }
         ensures handed_back { IfErr result (λ back. back ≡ bag) }
+
         ensures capacity { self.new.capacity ≡ self.old.capacity }
     {
         if self.bags.len() >= self.capacity {

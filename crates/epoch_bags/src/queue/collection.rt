@@ -14,10 +14,13 @@ pub fn take_some<S: BagStore>(
 ) -> u64
     requires few { most ≤ 64 }
     requires hand { hand.old.jobs ≡ [] }
+    // If no other participant is at work, no place is claimed and all bags are expired, a collection gets its bound of
+    // bags, or all bags if there are fewer.
     ensures least { ((place : ℕ) → ¬ (S.Claimed store.old place)) → AllExpired expiry.number (S.queued store.old)
         → result ≡ min most (length (S.queued store.old)) }
     ensures most { result ≤ most }
     ensures left { length (S.queued store.new) + result ≡ length (S.queued store.old) }
+
     ensures hand { hand.new.jobs ≡ [] }
 {
     let mut cursor = store.start_take();

@@ -84,9 +84,11 @@ impl<J: Drop> Places<J> {
     pub fn new(alloc: Global, capacity: usize) -> Result<Places<J>, Fault>
         requires some { 0 < capacity }
         requires most { capacity ≤ MOST_BAGS }
+        // In a new store of places, all words are 0.
         ensures empty { IfOk result (λ places. bags_in places.bags ≡ []) }
         ensures capacity { IfOk result (λ places. length places.words ≡ capacity) }
         ensures words { IfOk result (λ places. (place : ℕ) → slice_index_or places.words place 0 ≡ 0) }
+
         ensures no_memory { IfErr result (λ fault. fault ≡ Fault.NoMemory) }
     {
         let Ok(mut words) = Vec::with_capacity(alloc, capacity) else {

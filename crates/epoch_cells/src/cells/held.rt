@@ -144,6 +144,8 @@ impl<'a, T: Drop> Reading<'a, T> {
 
     /// Lends the value for reading.
     pub fn get(&self) -> &T
+        // A value that is lent for reading or for writing stands under the name that was asked for. What is written
+        // keeps that name.
         ensures named { ∥ IsSomeAnd self.now.claim.value
             (λ cell. IsSomeAnd cell (λ held. held.name ≡ self.now.name)) ∥₁ }
         ensures value { IfSome self.now.claim.value (λ cell. IfSome cell (λ held. result.now ≡ held.value.value)) }
@@ -385,6 +387,7 @@ impl<'a, T: Drop> Room<'a, T> {
     /// Places the value here, by one store, beside its name, and returns that name.
     #[inline(always)]
     pub fn place<P: Puts<T>>(self, value: Box<T>) -> Name
+        // A value that is placed in a room was put into a slot with the room's name.
         ensures name { result ≡ self.entry.name }
         ensures placed { P.placed value.value result }
     {

@@ -35,6 +35,7 @@ impl Name {
 
     /// Returns the name of this slot and turn; `None` exactly where the slot is 0 or above [`MOST_SLOT`].
     pub fn new(slot: u32, turn: u32) -> Option<Name>
+        // A name has a slot from 1 to `2^24 - 1`.
         ensures some { IsSome result ↔ ((0 < slot) × (slot ≤ MOST_SLOT)) }
         ensures slot { IfSome result (λ name. name.slot ≡ slot) }
         ensures turn { IfSome result (λ name. name.turn ≡ turn) }

@@ -70,6 +70,8 @@ impl<'a, T> Rooms<'a, T> {
     /// Puts the value into a box: into memory that is kept, or else into new memory.
     #[inline(always)]
     pub fn boxed(&mut self, alloc: Global, value: T) -> Result<Box<T>, AllocFailed<T>>
+        // A value that is put into a box beside rooms is the one in the box, and so is one that is moved to kept
+        // memory. If memory is refused, the value comes back.
         ensures value { IfOk result (λ whole. whole.value ≡ value) }
         ensures handed_back { IfErr result (λ refused. refused.value ≡ value) }
     {

@@ -11,6 +11,8 @@ use std::sync::ledger::{Ledger, Share};
 pub fn take_twice<L: Ledger>(slot: &TakeOnce<Share<L>>) -> (Option<Share<L>>, Option<Share<L>>)
     requires parts { 0 < L.parts }
     requires all { IfSome slot.now (λ share. share.parts ≡ L.parts) }
+    // A value is taken at most once: of two takes, at least one returns `None`. This is proved for one kind of value,
+    // all shares of a ledger, of which two can't exist at once. `take` is the same code for every type of value.
     ensures once { ¬ (IsSome result.0 × IsSome result.1) }
 {
     let Some(mut first) = slot.take() else {

@@ -40,6 +40,7 @@ impl<V> TakeOnce<V> {
     /// Makes a slot with this value in it.
     #[inline(always)]
     pub fn new(value: V) -> TakeOnce<V>
+        // What is taken out is what was put in. Nothing is taken out of a slot that was made empty.
         ensures { result ≡ Some value }
     {
         let value = Some(value);

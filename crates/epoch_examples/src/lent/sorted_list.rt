@@ -1,10 +1,8 @@
 //! A sorted list of numbers. Any thread looks through it by plain loads, and one thread at a time changes it.
 ghost use Rattle.std.specs.Prelude.{◌≡◌, refl};
 ghost use Rattle.std.proofs.Common.{lit≤};
-ghost use Rattle.epoch.specs.Handles.{IsSame, Owns};
 
-use epoch::{Atomic, Fault, Pointable, Shared};
-use epoch_lend_pointers::{GuardOf, LendingGuard, LendingHandle, PostSet};
+use epoch_lend_pointers::{Atomic, Fault, LendingGuard, Pointable, PostSet, Shared, Store, Writer};
 use std::alloc::Global;
 use std::sync::atomic::Ordering::SeqCst;
 
@@ -35,9 +33,10 @@ impl Pointable for SortedEntry {
     }
 }
 
-/// The list.
+/// The list, of entries in a store.
 #[derive(Drop)]
-pub struct SortedList {
+pub struct SortedList<'q, 's, J: PostSet> {
+    store: &'q Store<'s, J, SortedEntry>,
     first: Atomic<SortedEntry>,
 }
 
@@ -50,46 +49,35 @@ struct Place<'g> {
     found: Option<&'g SortedEntry>,
 }
 
-impl SortedList {
-    /// Makes an empty list.
-    pub fn new() -> SortedList {
-        SortedList {
-            first: Atomic::null(),
-        }
+impl<'q, 's, J: PostSet> SortedList<'q, 's, J> {
+    /// Makes an empty list of entries in this store.
+    pub fn new(store: &'q Store<'s, J, SortedEntry>) -> SortedList<'q, 's, J> {
+        let first = Atomic::null();
+        SortedList { store, first }
     }
 
     /// Returns whether the key is in the list, by looking at no more than `steps` entries. It writes nothing.
     ///
     /// `TriesOut`: the list is longer.
     #[inline]
-    pub fn contains<J: PostSet, W>(
+    pub fn contains(
         &self,
         key: u64,
-        guard: &LendingGuard<'_, '_, '_, J, SortedEntry, W>,
+        guard: &LendingGuard<'_, J>,
         steps: u32,
     ) -> Result<bool, Fault> {
-        // A walk goes from link to link, and not from pointer to pointer: what it carries on is then one address.
-        let mut link = &self.first;
-        for _ in 0..steps {
-            let at = link.load(SeqCst, guard.guard());
-            let Some(entry) = guard.get(at) else {
-                return ended(at);
-            };
-            if entry.key >= key {
-                return Ok(entry.key == key);
-            }
-            link = &entry.next;
-        }
-        Err(Fault::TriesOut)
+        Ok(self.find(key, guard, steps)?.found.is_some())
     }
 
-    /// Inserts the key, and returns whether it is new. No other thread may change the list meanwhile.
+    /// Inserts the key, and returns whether it is new. No other thread may change the list meanwhile. The writer must
+    /// be one of the list's store.
     ///
     /// `CellsFull`, `TriesOut`: nothing was inserted.
-    pub fn insert<J: PostSet, W>(
+    pub fn insert(
         &self,
         key: u64,
-        guard: &LendingGuard<'_, '_, '_, J, SortedEntry, W>,
+        writer: &mut Writer<'_, 's, J, SortedEntry>,
+        guard: &LendingGuard<'_, J>,
         steps: u32,
     ) -> Result<bool, Fault> {
         let place = self.find(key, guard, steps)?;
@@ -97,59 +85,58 @@ impl SortedList {
             return Ok(false);
         }
         let next = Atomic::from(place.at);
-        match guard.place(SortedEntry { key, next }) {
-            Ok(entry) => {
-                let _ = place.link.store(entry, SeqCst, guard.guard());
-                Ok(true)
-            }
-            Err(_) => Err(Fault::CellsFull),
-        }
+        let entry = writer
+            .place(guard, SortedEntry { key, next })
+            .map_err(|refused| refused.fault)?;
+        self.store.store(place.link, entry, SeqCst, guard);
+        Ok(true)
     }
 
     /// Removes the key, and returns whether it was there. No other thread may change the list meanwhile. A reader that
-    /// stands at the entry goes on from there, and has it for as long as its guard is out.
+    /// stands at the entry goes on from there, and has it for as long as its guard is out. The writer must be one of
+    /// the list's store.
     ///
-    /// The guard must be the handle's. `NoMemory`, `BagsFull`, `TriesOut`: nothing was removed.
-    pub fn remove<'q, 's, J: PostSet>(
+    /// `NoMemory`, `TriesOut`: nothing was removed.
+    pub fn remove(
         &self,
         key: u64,
-        handle: &mut LendingHandle<'_, 'q, 's, J, SortedEntry>,
-        guard: &GuardOf<'_, 'q, 's, J, SortedEntry>,
+        writer: &mut Writer<'_, 's, J, SortedEntry>,
+        guard: &LendingGuard<'_, J>,
         steps: u32,
-    ) -> Result<bool, Fault>
-        requires { Owns handle.old.handle guard.now.guard }
-        ensures same { IsSame handle.old.handle handle.new.handle }
-        ensures counted { handle.new.handle.machine.guards ≡ handle.old.handle.machine.guards }
-    {
+    ) -> Result<bool, Fault> {
         // Room comes first: what was unlinked can then be retired.
-        handle.make_room(guard)?;
+        writer.make_room()?;
         let place = self.find(key, guard, steps)?;
         let Some(entry) = place.found else {
             return Ok(false);
         };
-        let next = entry.next.load(SeqCst, guard.guard());
-        let _ = place.link.store(next, SeqCst, guard.guard());
-        let _ = handle.retire(guard, place.at);
+        let next = self.store.load(&entry.next, SeqCst, guard);
+        self.store.store(place.link, next, SeqCst, guard);
+        let _ = writer.retire(place.at);
         Ok(true)
     }
 
-    // Where the key is, or where it would be.
-    fn find<'g, J: PostSet, W>(
+    // Where the key is, or where it would be. The walk goes from link to link, and not from pointer to pointer: what
+    // it carries on is then one address.
+    #[inline(always)]
+    fn find<'g>(
         &'g self,
         key: u64,
-        guard: &'g LendingGuard<'_, '_, '_, J, SortedEntry, W>,
+        guard: &'g LendingGuard<'_, J>,
         steps: u32,
     ) -> Result<Place<'g>, Fault> {
         let mut link = &self.first;
         for _ in 0..steps {
-            let at = link.load(SeqCst, guard.guard());
-            let Some(entry) = guard.get(at) else {
-                ended(at)?;
+            let at = self.store.load(link, SeqCst, guard);
+            if at.is_null() {
                 return Ok(Place {
                     link,
                     at,
                     found: None,
                 });
+            }
+            let Some(entry) = self.store.get(at, guard) else {
+                return Err(Fault::TriesOut);
             };
             if entry.key >= key {
                 let found = if entry.key == key { Some(entry) } else { None };
@@ -157,15 +144,6 @@ impl SortedList {
             }
             link = &entry.next;
         }
-        Err(Fault::TriesOut)
-    }
-}
-
-// What no entry at a pointer means: the end of the list, if the pointer is null.
-fn ended(at: Shared<'_, SortedEntry>) -> Result<bool, Fault> {
-    if at.is_null() {
-        Ok(false)
-    } else {
         Err(Fault::TriesOut)
     }
 }

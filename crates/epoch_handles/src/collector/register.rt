@@ -18,6 +18,9 @@ impl<T: Drop, W: Run> Collector<T, W> {
     /// whose list of participants grows.
     pub fn register(&self) -> Result<LocalHandle<'_, T, W>, Fault>
         ensures full { IsOkUnless result TableFull }
+        // A new handle is a participant of this collector, with no guard, an empty bag, and a seat at the places that
+        // has found and moved nothing. The only fault is `TableFull`. A registration that succeeds has tried each
+        // position from 0 to its own, once and in order. Its own was free, and each other one was taken.
         ensures fresh { IfOk result (λ handle. IsNewParticipant self.now handle) }
     {
         let mut seat = self.participants.seat();

@@ -9,18 +9,24 @@ use epoch_tables::table::pinned_seats_hold_bags_back;
 /// If a thread performs what its machine asks for, the replies on the participants' table are exactly the words that
 /// its seat's steps found, in order. The greatest epoch that the seat has read or stored never falls.
 pub fn replies_are_found<J>()
+    // The replies on the participants' table are exactly the words that the handle's steps found, in order, and the
+    // greatest epoch that it has read or stored never falls.
     ensures { RepliesAreFound J }
 {}
 
 /// If a thread performs what its machine asks for, from the beginning of an action on, bags are taken only for an epoch
 /// that its seat has read or stored. So a bag whose jobs are called has a seal at least two below such an epoch.
 pub fn expiries_are_seen<J>()
+    // Bags are taken only for an epoch that the handle has read or stored. So a bag whose jobs it called has a seal at
+    // least two below such an epoch.
     ensures { ExpiriesAreSeen J }
 {}
 
 /// If a thread performs what its machine asks for, each answer of a put or of a collection is the one that the word
 /// found at its place stands for, in order. These are exactly the words that its seat's steps found there.
 pub fn answers_are_found<J>()
+    // The answers of puts and of collections are those that the words at the places stand for, in order. These words
+    // are exactly those that the handle's steps found there.
     ensures { AnswersAreFound J }
 {}
 
@@ -31,6 +37,9 @@ pub fn answers_are_found<J>()
 /// The clauses `does` and `called` of a handle's calls say that each call is such a list of asks, and that each job
 /// that was given was called. A bag's seal is the epoch that was loaded after its last job was deferred.
 pub fn calls_come_after_pins<J>()
+    // At every point of a call, the jobs given to be called are those of the bags that it got out of places, in their
+    // order. If a participant was pinned, and had read the epoch again, when the epoch was the seal of one of these
+    // bags, that pin is over.
     ensures { KeepsGraceOnThreads J }
 {
     pinned_seats_hold_bags_back();
@@ -43,6 +52,10 @@ pub fn calls_come_after_pins<J>()
 ///
 /// It has the jobs in its bag, those that are left of a bag that it calls, and those of a bag in hand at a place.
 pub fn calls_keep_jobs<J>()
+    // At every point of a call, the call has lost no job. The jobs that the participant had, was given to keep and has
+    // won in places have the same weight as those that it has, was given to call and has left in places. There, the
+    // jobs that a participant has are those in its bag, those left of a bag that it calls, and those of a bag in hand
+    // at a place.
     ensures { KeepsJobsInCalls J }
 {}
 
@@ -53,6 +66,9 @@ pub fn calls_keep_jobs<J>()
 /// A job is accepted when the machine asks for it to be kept. The law is about all that participants have done since
 /// they registered, before the collector ends.
 pub fn no_job_is_lost<J>()
+    // No job is lost on threads, and none is given out twice to be called. At any moment before the collector ends, the
+    // accepted jobs have the same weight as those that participants have, those that were given to be called, and those
+    // in places.
     ensures { LosesNoJob J }
 {
     no_bag_is_lost::<J>();
@@ -65,6 +81,8 @@ pub fn no_job_is_lost<J>()
 /// The clause `called` of an end says that it calls each of these. So after it each accepted job was called, exactly as
 /// often as it was accepted.
 pub fn an_end_calls_the_rest<J>()
+    // An end calls the jobs that are left. If all participants have left when the places are closed, the accepted jobs
+    // have the same weight as those that were given to be called and those that the closed places had.
     ensures { LeavesTheRest J }
 {
     no_job_is_lost::<J>();

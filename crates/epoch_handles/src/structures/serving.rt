@@ -10,6 +10,7 @@ use crate::{Guard, LocalHandle, home_of};
 /// A read-only call of a structure is given a guard and no handle. By this it can tell a guard of another collector.
 #[inline(always)]
 pub fn is_under<T, W>(id: u64, guard: &Guard<'_, T, W>) -> bool
+    // Whether a guard, even an unprotected one, is of the collector with this number.
     ensures { IsTrue result ↔ (guard.now.collector.now.id ≡ id) }
 {
     home_of(guard).id == id
@@ -20,7 +21,9 @@ pub fn is_under<T, W>(id: u64, guard: &Guard<'_, T, W>) -> bool
 /// The answer is `false` for an unprotected guard, which no handle has out.
 #[inline(always)]
 pub fn serves<T, W>(id: u64, handle: &LocalHandle<'_, T, W>, guard: &Guard<'_, T, W>) -> bool
+    // Whether a guard is one that the handle has out, and both are of the collector with this number.
     ensures value { IsTrue result ↔ ServesUnder id handle.now guard.now }
+
     ensures ready { IsReady handle.now }
 {
     if handle.collector().id() == id {

@@ -75,6 +75,7 @@ impl Heap {
         ensures fields { IfOk result (λ heap. heap.fields ≡ fields) }
         ensures align { IfOk result (λ heap. heap.align ≡ align) }
         ensures start_turn { IfOk result (λ heap. heap.start_turn ≡ start_turn) }
+        // A new heap has null roots and free cells, each for the first turn.
         ensures null_roots { IfOk result
             (λ heap. (i : ℕ) (ptr : Ptr) → slice_get heap.roots i ≡ Some ptr → ptr ≡ null) }
         ensures empty_cells { IfOk result
@@ -103,6 +104,8 @@ impl Heap {
     /// The removal of a cell that no participant reads empties the cell, for its next turn. The removal of a cell that
     /// is read, or that is gone, changes nothing, and work changes nothing.
     pub fn call_job(&mut self, removes: Option<Name>) -> Called
+        // The call of a removal empties a cell that no participant reads, for its next turn. If the cell is being read
+        // or is gone, the call says `HeldElsewhere` or `Gone`, and changes nothing. The call of work changes nothing.
         ensures outcome { result ≡ outcome_of self.old removes }
         ensures after { self.new ≡ heap_after_job self.old removes }
     {
@@ -122,6 +125,10 @@ impl Heap {
     /// exchange writes exactly if name and tag are those expected, each tag taken modulo the alignment.
     pub fn touch(&mut self, access: Access, made: u64, found: Ptr) -> Accessed
         requires { AccessFits access made }
+        // Each step does exactly what the definition says. By that definition, an exchange writes exactly when name and
+        // tag are those of `current`. Otherwise it changes nothing, and returns the pointer that is there. By that
+        // definition, `and`, `or` and `xor` change only the tag. By that definition, an update calls its function at
+        // most as often as it has tries. By that definition, a cell that is being read isn't written or taken.
         ensures step { Touches access made found self.old (touched result self.new) }
         ensures within { GoesOnWithin access made result }
     {
@@ -334,6 +341,8 @@ impl Heap {
 
     /// Returns whether there is such a root or field.
     pub fn has_place(&self, access: Access) -> bool
+        // Three calls tell whether roots, fields and names are there: whether there is such a root or field, whether
+        // each name in a call was given, and whether a pointer has a name that was given.
         ensures { result ≡ has_place self.now access }
     {
         match access {

@@ -27,6 +27,7 @@ impl Event {
     /// Returns what the reply of an entry tells, or `None`. A job called at once, under an unprotected guard, is no
     /// event.
     pub fn of(entry: &Entry) -> Option<Event>
+        // An event is what the reply of an entry tells.
         ensures { (event : Event) → (result ≡ Some event) ↔ (entry.now.reply ≡ reply_of event) }
     {
         match entry.reply {

@@ -28,6 +28,8 @@ use crate::{Call, Entry, Reply, Step};
 ///
 /// It takes no memory. Its time grows with the third power of the number of entries at worst.
 pub fn is_lawful(entries: &[Entry]) -> bool
+    // The checkers check a recorded list by the definitions of the laws: each says yes exactly when the definition
+    // holds for the list.
     ensures { IsTrue result ↔ IsLawful entries.now }
 {
     all_stand_in_calls(entries)

@@ -12,29 +12,36 @@ ghost use Rattle.epoch_laws.specs.Standing.{StandsOrDestroyed, given_of, LoadedS
 /// is destroyed whose name a participant has loaded from a root, or from a field of a name so loaded, under a guard
 /// that it still holds and has not repinned.
 pub fn every_run_keeps_reach()
+    // In a run in which cells leave as they must, no name is destroyed while a participant that has loaded it still
+    // holds the guard of that load and has not repinned. The load is from a root, or from a field of a name that was
+    // loaded in this way.
     ensures { (s new : State) (log : List Entry) → IsFresh s → (run : Runs s log new) → LeavesOnce s log new run
         → KeepsLoaded (past_of s log new run) }
 {}
 
 /// No name is given twice.
 pub fn every_run_gives_no_name_twice()
+    // No name is given twice.
     ensures { (s new : State) (log : List Entry) → IsFresh s → (run : Runs s log new) → GivesNoNameTwice s log new run }
 {}
 
 /// A job in a bag is work, or removes the name that its deferral named. Its call does exactly that.
 pub fn every_run_calls_what_was_deferred()
+    // A job in a bag is work, or removes the name that its deferral named. Its call does exactly that, and says so.
     ensures { (s new : State) (log : List Entry) → IsFresh s → (run : Runs s log new)
         → CallsWhatWasDeferred s log new run }
 {}
 
 /// If cells leave in another way, a name that is loaded under a guard still held can be destroyed.
 pub fn some_run_loses_reach()
+    // If cells leave in another way, this can fail: some run shows it.
     ensures { (s : State) × (log : List Entry) × (new : State) × IsFresh s × (run : Runs s log new)
         × LosesLoaded (past_of s log new run) }
 {}
 
 /// Each name that was given either has its cell or is destroyed.
 pub fn every_name_stands_or_is_destroyed()
+    // Each name that was given either has its cell or is destroyed.
     ensures { (s new : State) (log : List Entry) → IsFresh s → (run : Runs s log new)
         → StandsOrDestroyed (given_of s log new run) (past_of s log new run) new.heap }
 {}
@@ -42,6 +49,8 @@ pub fn every_name_stands_or_is_destroyed()
 /// If each cell leaves once and out of reach, and no field changes of a cell that has fallen out of reach, then each
 /// name that is loaded under a guard still held has its cell.
 pub fn every_loaded_name_stands()
+    // In a run in which cells leave as they must, each name that is loaded under a guard that is still held has its
+    // cell.
     ensures { (s new : State) (log : List Entry) → IsFresh s → (run : Runs s log new) → LeavesOnce s log new run
         → LoadedStand (past_of s log new run) new.heap }
 {}
@@ -49,6 +58,8 @@ pub fn every_loaded_name_stands()
 /// Each cell counts the participants that read it, each of them once, so a value that is read stays. A participant that
 /// can begin to read one more cell reads fewer cells than there are.
 pub fn every_cell_counts_its_readers()
+    // Each cell counts the participants that read it, each of them once. A participant that can begin to read one more
+    // cell reads fewer cells than there are.
     ensures counted { (s new : State) (log : List Entry) → IsFresh s → Runs s log new → KeepsReadings new }
     ensures room { (s new : State) (log : List Entry) → IsFresh s → Runs s log new → HasCellsToRead new }
 {}

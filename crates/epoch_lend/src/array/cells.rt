@@ -3,6 +3,7 @@ ghost use Rattle.std.specs.Prelude.{◌≡◌, ◌+◌, ◌*◌, ◌<◌, ◌≤
 ghost use Rattle.std.specs.List.{slice_get};
 ghost use Rattle.epoch_lend.specs.declared.cells.cell.TheConstants.{GREATEST_TURN};
 
+use crate::array::room::LentRoom;
 use crate::array::slot::{LentSlot, SlotRemoval};
 use crate::cells::cell::GREATEST_TURN;
 use crate::cells::sight::Sight;
@@ -45,6 +46,8 @@ impl<J: PostSet, T: Drop> LendingCells<J, T> {
         posts: &Posts<J>,
     ) -> Result<LendingCells<J, T>, AllocError>
         ensures count { IfOk result (λ cells. length cells.slots.items ≡ count) }
+        // An array has the last turn that it was made with, or `GREATEST_TURN` if that is less. At a turn past it, no
+        // value is placed, and none is found that was left.
         ensures last_turn { IfOk result (λ cells. cells.last_turn ≡ min last_turn GREATEST_TURN) }
     {
         let last_turn = last_turn.min(GREATEST_TURN);
@@ -78,6 +81,8 @@ impl<J: PostSet, T> LendingCells<J, T> {
     /// reader lasts, with the name that shows that it was placed there. `None`: no value was placed there yet, or it
     /// was marked, or there is no such slot.
     pub fn look<'g>(&self, spot: SlotTurn, pinned: &'g Pinned<'_, J>) -> Option<Sight<'g, T>>
+        // A look lends the value that was placed at the slot and the turn that it names. It is one plain load, and
+        // lends for as long as the reference to the pinned reader is.
         ensures slot { IfSome result (λ sight. slice_get (map (λ s. s.turns.log) self.now.slots.items) spot.slot
             ≡ Some sight.name.log) }
         ensures turn { IfSome result (λ sight. sight.name.turn ≡ spot.turn) }
@@ -102,25 +107,21 @@ impl<J: PostSet, T> LendingCells<J, T> {
 
     /// Lends the value that is shown at this spot, as [`LendingCells::look`] does, without its name.
     pub fn get<'g>(&self, spot: SlotTurn, pinned: &'g Pinned<'_, J>) -> Option<&'g T> {
-        match self.look(spot, pinned) {
-            Some(sight) => Some(sight.value),
-            None => None,
-        }
+        Some(self.look(spot, pinned)?.value)
     }
 
     /// Returns where the value of this slot is, and its name, by two plain loads, so that what is left in the cells can
     /// be marked and taken back. `None`: the cell is empty, or its value was marked, or went out between the loads, or
     /// there is no such slot.
     pub fn shown(&self, slot: usize) -> Option<PlacedAt<T>>
+        // A value that is left in a slot is found without its turn. The spot that the call returns is of this slot, at
+        // the turn found, with the value's name.
         ensures slot { IfSome result (λ placed. slice_get (map (λ s. s.turns.log) self.now.slots.items) slot
             ≡ Some placed.name.log) }
         ensures spot { IfSome result (λ placed. (placed.spot.slot ≡ slot) × (placed.spot.turn ≡ placed.name.turn)) }
         ensures within { IfSome result (λ placed. placed.spot.turn ≤ self.now.last_turn) }
     {
-        let Some(cell) = self.slots.get(slot) else {
-            return None;
-        };
-        match cell.shown() {
+        match self.slots.get(slot)?.shown() {
             Some((turn, name)) if turn <= self.last_turn => {
                 let spot = SlotTurn { slot, turn };
                 Some(PlacedAt { spot, name })
@@ -136,17 +137,35 @@ impl<J: PostSet, T> LendingCells<J, T> {
         are_unpinned
     }
 
+    /// Claims the cell at this position if it is empty, by one exchange, and returns its room, for the caller's next
+    /// value. `None`: it is in use, or past its last turn, or there is no such cell.
+    pub fn fresh_room(&self, position: usize) -> Option<LentRoom<'_, J, T>>
+        // Only one caller gets the room of an empty cell, at a turn that the cell has yet to come to.
+        ensures position { IfSome result (λ room. room.position ≡ position) }
+        ensures cells { IfSome result (λ room. room.cells.now ≡ self.now) }
+        ensures has_turn { IfSome result (λ room. room.next_turn ≤ self.now.last_turn) }
+    {
+        let slot = self.slots.get(position)?;
+        let (next_turn, claim) = slot.claim(self.last_turn)?;
+        Some(LentRoom {
+            cells: self,
+            slot,
+            position,
+            next_turn,
+            claim,
+        })
+    }
+
     /// Marks the value at this spot, so that no look finds it from then on. Of all callers that mark it, only one gets
     /// the removal. `None`: no value was placed there yet, or it was marked, or there is no such slot.
     pub fn mark(&self, spot: SlotTurn) -> Option<SlotRemoval<'_, J, T>>
+        // A mark takes out the value at the slot and the turn that it names. Of all marks of a value, only one gets the
+        // value.
         ensures slot { IfSome result (λ removal. slice_get (map (λ s. s.turns.log) self.now.slots.items) spot.slot
             ≡ Some removal.name.log) }
         ensures turn { IfSome result (λ removal. removal.name.turn ≡ spot.turn) }
     {
-        match self.slots.get(spot.slot) {
-            Some(slot) => slot.mark(spot.turn, self, spot.slot),
-            None => None,
-        }
+        self.slots.get(spot.slot)?.mark(spot.turn, self, spot.slot)
     }
 }
 
@@ -154,55 +173,23 @@ impl<J: PostSet, T: Drop> LendingCells<J, T> {
     /// Places a value in the first cell that is seen empty, and returns where. It hands the value back if each cell was
     /// seen in use, or past the last turn.
     pub fn place(&self, value: T) -> Result<PlacedAt<T>, T>
+        // A placed value stands at the slot and the turn that the call returns, in a cell that only this call claimed.
+        // Otherwise the value is handed back.
         ensures slot { IfOk result (λ placed. slice_get (map (λ s. s.turns.log) self.now.slots.items) placed.spot.slot
             ≡ Some placed.name.log) }
         ensures turn { IfOk result (λ placed. placed.name.turn ≡ placed.spot.turn) }
-        ensures within { IfOk result (λ placed. placed.spot.turn ≤ self.now.last_turn) }
-        ensures placed { IfOk result (λ placed. placed.name.value ≡ value) }
-        ensures handed_back { IfErr result (λ back. back ≡ value) }
-    {
-        self.place_between(0, self.slots.len(), value)
-    }
 
-    /// Does what [`LendingCells::place`] does, but begins at this slot. It looks at the slots before it last.
-    pub fn place_from(&self, first: usize, value: T) -> Result<PlacedAt<T>, T>
-        ensures slot { IfOk result (λ placed. slice_get (map (λ s. s.turns.log) self.now.slots.items) placed.spot.slot
-            ≡ Some placed.name.log) }
-        ensures turn { IfOk result (λ placed. placed.name.turn ≡ placed.spot.turn) }
-        ensures within { IfOk result (λ placed. placed.spot.turn ≤ self.now.last_turn) }
-        ensures placed { IfOk result (λ placed. placed.name.value ≡ value) }
-        ensures handed_back { IfErr result (λ back. back ≡ value) }
-    {
-        match self.place_between(first, self.slots.len(), value) {
-            Ok(placed) => Ok(placed),
-            Err(back) => self.place_between(0, first, back),
-        }
-    }
-
-    /// Does what [`LendingCells::place`] does, but looks only at the slots from `from` up to `to`, and not at `to`
-    /// itself.
-    pub fn place_between(&self, from: usize, to: usize, value: T) -> Result<PlacedAt<T>, T>
-        ensures between { IfOk result (λ placed. (from ≤ placed.spot.slot) × (placed.spot.slot < to)) }
-        ensures slot { IfOk result (λ placed. slice_get (map (λ s. s.turns.log) self.now.slots.items) placed.spot.slot
-            ≡ Some placed.name.log) }
-        ensures turn { IfOk result (λ placed. placed.name.turn ≡ placed.spot.turn) }
         ensures within { IfOk result (λ placed. placed.spot.turn ≤ self.now.last_turn) }
         ensures placed { IfOk result (λ placed. placed.name.value ≡ value) }
         ensures handed_back { IfErr result (λ back. back ≡ value) }
     {
         let mut kept = value;
-        for position in from..to {
-            let Some(slot) = self.slots.get(position) else {
-                break;
+        for position in 0..self.slots.len() {
+            let Some(room) = self.fresh_room(position) else {
+                continue;
             };
-            match slot.place(kept, self.last_turn) {
-                Ok((turn, name)) => {
-                    let spot = SlotTurn {
-                        slot: position,
-                        turn,
-                    };
-                    return Ok(PlacedAt { spot, name });
-                }
+            match room.place(kept) {
+                Ok(placed) => return Ok(placed),
                 Err(back) => kept = back,
             }
         }

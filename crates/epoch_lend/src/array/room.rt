@@ -1,6 +1,7 @@
 //! Places that were emptied, each for the next value of whoever emptied it.
 ghost use Rattle.std.specs.Prelude.{◌≡◌, ◌+◌, ◌*◌, ◌<◌, ◌≤◌, ◌↔◌, Some, map, IsTrue, IsOk, IfOk, IfErr};
 ghost use Rattle.std.specs.List.{slice_get};
+ghost use Rattle.epoch_lend.specs.Turning.{Awaits, awaits_prop};
 ghost use Rattle.epoch_lend.specs.declared.cells.cell.TheConstants.{GREATEST_TURN};
 
 use crate::array::cells::{LendingCells, PlacedAt, SlotTurn};
@@ -8,7 +9,8 @@ use crate::array::slot::LentSlot;
 use crate::cells::turns::TurnClaim;
 use crate::readers::posts::PostSet;
 
-/// The place of a cell whose value was taken out. No other caller can use it until its owner gives it up.
+/// The place of a free cell: its value was taken out, or it had none and was claimed. No other caller can use it until
+/// its owner gives it up.
 ///
 /// [`LentRoom::place`] shows the owner's next value there, and [`LentRoom::release`] leaves the cell to all callers. A
 /// cell whose room is dropped takes no value any more.
@@ -17,12 +19,13 @@ pub struct LentRoom<'c, J: PostSet, T> {
     pub(crate) cells: &'c LendingCells<J, T>,
     pub(crate) slot: &'c LentSlot<J, T>,
     pub(crate) position: usize,
-    // The turn of the value that was taken out.
-    pub(crate) turn: u64,
+    // The turn of the next value.
+    pub(crate) next_turn: u64,
     pub(crate) claim: TurnClaim<T>,
     pub ghost right: { claim.right ≡ 1 },
     pub ghost of_slot: { (claim.state ≡ slot.now.turns.state) × (claim.at ≡ slot.now.turns.at) },
-    pub ghost of_turn: { (claim.word ≡ 4 * turn + 3) × (turn ≤ GREATEST_TURN) },
+    pub ghost of_turn: { Awaits next_turn claim.word } by { awaits_prop next_turn claim.word },
+    pub ghost within: { next_turn ≤ GREATEST_TURN + 1 },
     pub ghost of_cells: { slice_get (map (λ s. s.turns.log) cells.now.slots.items) position
         ≡ Some slot.now.turns.log },
 }
@@ -36,64 +39,60 @@ impl<'c, J: PostSet, T> LentRoom<'c, J, T> {
         self.position
     }
 
-    /// Returns the turn of the value that was taken out. The next one is at the turn after it.
+    /// Returns the cells that it is a room of.
     #[inline(always)]
-    pub fn turn(&self) -> u64
-        ensures { result ≡ self.now.turn }
+    pub fn cells(&self) -> &'c LendingCells<J, T>
+        ensures { result.now ≡ self.now.cells.now }
     {
-        self.turn
+        self.cells
+    }
+
+    /// Returns the turn of the next value that is placed in the cell.
+    #[inline(always)]
+    pub fn next_turn(&self) -> u64
+        ensures { result ≡ self.now.next_turn }
+    {
+        self.next_turn
     }
 
     /// Returns whether the cell has a turn for one more value.
     #[inline(always)]
     pub fn has_turn(&self) -> bool
-        ensures { IsTrue result ↔ (self.now.turn < self.now.cells.now.last_turn) }
+        ensures { IsTrue result ↔ (self.now.next_turn ≤ self.now.cells.now.last_turn) }
     {
-        self.turn < self.cells.last_turn()
+        self.next_turn <= self.cells.last_turn()
     }
 
     /// Shows a value in the cell at its next turn, by one store, and returns where. If the cell has had its last turn,
     /// the value is handed back, and no value is placed there any more.
     #[inline(always)]
     pub fn place(self, value: T) -> Result<PlacedAt<T>, T>
+        // A value that is placed in a room stands in the room's slot, at the room's turn, which no value had before. If
+        // that would be past the array's last turn, the value is handed back.
         ensures slot { IfOk result (λ placed. slice_get (map (λ s. s.turns.log) self.entry.cells.now.slots.items)
             placed.spot.slot ≡ Some placed.name.log) }
         ensures position { IfOk result (λ placed. placed.spot.slot ≡ self.entry.position) }
         ensures turn { IfOk result (λ placed. (placed.name.turn ≡ placed.spot.turn)
-            × (placed.spot.turn ≡ self.entry.turn + 1)) }
+            × (placed.spot.turn ≡ self.entry.next_turn)) }
         ensures within { IfOk result (λ placed. placed.spot.turn ≤ self.entry.cells.now.last_turn) }
         ensures placed { IfOk result (λ placed. placed.name.value ≡ value) }
         ensures handed_back { IfErr result (λ back. back ≡ value) }
-        ensures succeeds { self.entry.turn < self.entry.cells.now.last_turn → IsOk result }
+        ensures succeeds { self.entry.next_turn ≤ self.entry.cells.now.last_turn → IsOk result }
     {
         if !self.has_turn() {
             self.release();
             return Err(value);
         }
-        let LentRoom {
-            cells: _,
-            slot,
-            position,
-            turn,
-            claim,
-        } = self;
         let spot = SlotTurn {
-            slot: position,
-            turn: turn + 1,
+            slot: self.position,
+            turn: self.next_turn,
         };
-        let name = slot.show(claim.fill(value), turn + 1);
+        let name = self.slot.show(self.claim.fill(value), self.next_turn);
         Ok(PlacedAt { spot, name })
     }
 
     /// Leaves the cell to all callers, empty at its next turn, by one store.
     pub fn release(self) {
-        let LentRoom {
-            cells: _,
-            slot,
-            position: _,
-            turn,
-            claim,
-        } = self;
-        slot.vacate(claim, turn);
+        self.slot.vacate(self.claim, self.next_turn);
     }
 }

@@ -74,33 +74,31 @@ impl<J: PostSet, T: Drop> LentSlot<J, T> {
             set: Of(PhantomData),
         })
     }
+}
 
-    /// Places a value at the turn of the cell, and returns this turn and its name. It hands the value back if the cell
-    /// isn't empty, or is past `last_turn`, or past [`GREATEST_TURN`] if that is less.
-    pub fn place(&self, value: T, last_turn: u64) -> Result<(u64, TurnName<T>), T>
-        ensures placed { IfOk result (λ placed. (placed.1.log ≡ self.now.turns.log) × (placed.1.turn ≡ placed.0)
-            × (placed.1.value ≡ value)) }
-        ensures within { IfOk result (λ placed. placed.0 ≤ last_turn) }
-        ensures handed_back { IfErr result (λ back. back ≡ value) }
+impl<J: PostSet, T> LentSlot<J, T> {
+    // Claims the cell at its turn, if it is empty and not past `last_turn`, by one plain load and one exchange.
+    pub(crate) fn claim(&self, last_turn: u64) -> Option<(u64, TurnClaim<T>)>
+        ensures of_place { IfSome result (λ gained. (gained.1.right ≡ 1) × (gained.1.state ≡ self.now.turns.state)
+            × (gained.1.at ≡ self.now.turns.at)) }
+        ensures of_turn { IfSome result (λ gained. Awaits gained.0 gained.1.word × (gained.0 ≤ GREATEST_TURN)) }
+        ensures within { IfSome result (λ gained. gained.0 ≤ last_turn) }
     {
         let (found, which) = self.turns.find(0, 2);
         which.done();
         let turn = found / 4;
         let vacant = 4 * turn;
         if found != vacant || turn > last_turn || turn > GREATEST_TURN {
-            return Err(value);
+            return None;
         }
         let (again, claim) = self.turns.claim(self.at, turn, vacant, vacant + 1);
         if again != vacant {
             claim.done();
-            return Err(value);
+            return None;
         }
-        let filled = claim.fill(value);
-        Ok((turn, self.show(filled, turn)))
+        Some((turn, claim))
     }
-}
 
-impl<J: PostSet, T> LentSlot<J, T> {
     // Shows the value of a place that this caller has, at this turn.
     #[inline(always)]
     pub(crate) fn show(&self, filled: Filled<T>, turn: u64) -> TurnName<T>
@@ -111,14 +109,14 @@ impl<J: PostSet, T> LentSlot<J, T> {
         self.turns.show(filled, turn, 4 * turn + 2)
     }
 
-    // Leaves the place, whose value of this turn was taken out, to all callers.
+    // Leaves a place that this caller has to all callers, vacant at this turn.
     #[inline(always)]
     pub(crate) fn vacate(&self, claim: TurnClaim<T>, turn: u64)
         requires of_place { (claim.right ≡ 1) × (claim.state ≡ self.now.turns.state)
             × (claim.at ≡ self.now.turns.at) }
-        requires of_turn { (claim.word ≡ 4 * turn + 3) × (turn ≤ GREATEST_TURN) }
+        requires of_turn { Awaits turn claim.word × (turn ≤ GREATEST_TURN + 1) }
     {
-        self.turns.release(claim, turn, 4 * turn + 4);
+        self.turns.release(claim, turn, 4 * turn);
     }
 
     /// Lends the value of this turn, by one plain load, for as long as the reference to the pinned reader lasts.
@@ -185,30 +183,16 @@ impl<'c, J: PostSet, T> SlotRemoval<'c, J, T> {
         ensures watched { (watch.new.loans ≡ self.entry.marked.loans ++ watch.old.loans) × (watch.new.seen ≡ []) }
         ensures same { (result.marked ≡ self.entry.marked) × (result.name ≡ self.entry.name) }
     {
-        let SlotRemoval {
-            cells,
-            slot,
-            position,
-            marked,
-            vacancy,
-            name,
-            turn,
-        } = self;
-        let marked = watch.add(marked);
-        SlotRemoval {
-            cells,
-            slot,
-            position,
-            marked,
-            vacancy,
-            name,
-            turn,
-        }
+        let mut removal = self;
+        removal.marked = watch.add(removal.marked);
+        removal
     }
 
     /// Looks at each post once. If no reader is pinned, each guard that the value was lent to is over, and it comes
     /// back. Otherwise the removal does.
     pub fn take_back(self, posts: &Posts<J>) -> Result<Returned<'c, J, T>, SlotRemoval<'c, J, T>>
+        // A removal gives its value back alone only if each post was seen unpinned after the mark. Otherwise the
+        // removal comes back. What comes back has the removal's name.
         ensures back { IfOk result (λ back. back.name ≡ self.entry.name) }
         ensures again { IfErr result (λ removal. removal.name ≡ self.entry.name) }
     {
@@ -229,25 +213,20 @@ impl<'c, J: PostSet, T> SlotRemoval<'c, J, T> {
         ensures name { result.name ≡ self.entry.name }
         ensures same { watch.new ≡ watch.old }
     {
-        let SlotRemoval {
-            cells,
-            slot,
-            position,
-            marked,
-            vacancy,
-            name,
-            turn,
-        } = self;
-        let all = watch.collect(marked);
-        let (claim, value) = vacancy.reclaim(all).take();
+        let all = watch.collect(self.marked);
+        let (claim, value) = self.vacancy.reclaim(all).take();
         let room = LentRoom {
-            cells,
-            slot,
-            position,
-            turn,
+            cells: self.cells,
+            slot: self.slot,
+            position: self.position,
+            next_turn: self.turn + 1,
             claim,
         };
-        Returned { value, name, room }
+        Returned {
+            value,
+            name: self.name,
+            room,
+        }
     }
 }
 

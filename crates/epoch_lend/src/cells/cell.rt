@@ -68,6 +68,8 @@ impl<'p, T: Drop> LendingCell<'p, T> {
         posts: &'p [Post],
     ) -> Result<LendingCell<'p, T>, AllocError>
         ensures posts { IfOk result (λ cell. cell.posts.now ≡ posts.now) }
+        // A cell has the last turn that it was made with, or `GREATEST_TURN` if that is less. At a turn past it, a
+        // value is handed back.
         ensures last_turn { IfOk result (λ cell. cell.last_turn ≡ min last_turn GREATEST_TURN) }
     {
         let (turns, at) = Turns::new(Place::new(alloc)?, posts);
@@ -90,8 +92,11 @@ impl<'p, T: Drop> LendingCell<'p, T> {
     /// Places a value at this turn, and returns its name. Hands the value back where the cell isn't empty at this turn,
     /// or the turn is past the cell's last.
     pub fn place(&self, turn: u64, value: T) -> Result<PlacedInCell<'_, 'p, T>, T>
+        // Only the thread that claimed a cell at this turn places a value there. To every other thread the value is
+        // handed back.
         ensures placed { IfOk result (λ placed. (placed.turn ≡ turn) × (placed.cell.now ≡ self.now)
             × (placed.name.value ≡ value)) }
+
         ensures past_last { self.now.last_turn < turn → IsErr result }
         ensures handed_back { IfErr result (λ back. back ≡ value) }
     {
@@ -119,6 +124,8 @@ impl<'c, 'p, T> PlacedInCell<'c, 'p, T> {
     /// `None`: it was marked, whatever the cell has now. The guard must be of one of the cell's posts.
     pub fn look<'g>(&self, guard: &'g PostGuard) -> Option<&'g T>
         requires { IsAmong guard.now.log (logs_of self.now.cell.now.posts.now) }
+        // A look at a name never lends the value of another turn: what it finds is the value that was placed at the
+        // name's turn. A look is one plain load, and lends for as long as the guard is lent.
         ensures { IfSome result (λ value. value.now ≡ self.now.name.value) }
     {
         let cell = self.cell;
@@ -163,22 +170,10 @@ impl<'c, 'p, T> CellRemoval<'c, 'p, T> {
         ensures { (result.removal.marked.value ≡ self.entry.marked.value)
             × (result.removal.marked.loans ≡ self.entry.marked.loans) }
     {
-        let CellRemoval {
-            cell,
-            marked,
-            vacancy,
-            turn,
-        } = self;
-        let (seal, marked) = marked.seal(cell.posts);
-        Sealed {
-            removal: CellRemoval {
-                cell,
-                marked,
-                vacancy,
-                turn,
-            },
-            seal,
-        }
+        let mut removal = self;
+        let (seal, marked) = removal.marked.seal(removal.cell.posts);
+        removal.marked = marked;
+        Sealed { removal, seal }
     }
 }
 
@@ -187,30 +182,22 @@ impl<'c, 'p, T> Sealed<'c, 'p, T> {
     /// cell is empty at the next turn. Otherwise the removal comes back, to be tried again, since a guard that had a
     /// loan may still live.
     pub fn take_back(self) -> Result<T, Sealed<'c, 'p, T>>
+        // Nothing is given back while a guard that was lent to is alive, and what comes back is the value that was
+        // placed.
         ensures value { IfOk result (λ value. value ≡ self.entry.removal.marked.value) }
         ensures again { IfErr result (λ back. (back.removal.marked.value ≡ self.entry.removal.marked.value)
             × (back.removal.marked.loans ≡ self.entry.removal.marked.loans)) }
     {
-        let Sealed { removal, seal } = self;
-        let CellRemoval {
-            cell,
-            marked,
-            vacancy,
-            turn,
-        } = removal;
-        match marked.take_back(cell.posts, seal) {
+        let Sealed { mut removal, seal } = self;
+        match removal.marked.take_back(removal.cell.posts, seal) {
             Ok(all) => {
-                let (claim, value) = vacancy.reclaim(all).take();
-                cell.turns.release(claim, turn, 4 * turn + 4);
+                let (claim, value) = removal.vacancy.reclaim(all).take();
+                let turn = removal.turn;
+                removal.cell.turns.release(claim, turn + 1, 4 * turn + 4);
                 Ok(value)
             }
             Err(marked) => {
-                let removal = CellRemoval {
-                    cell,
-                    marked,
-                    vacancy,
-                    turn,
-                };
+                removal.marked = marked;
                 Err(Sealed { removal, seal })
             }
         }

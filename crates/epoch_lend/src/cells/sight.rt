@@ -62,6 +62,8 @@ impl<'p, T> LendingCell<'p, T> {
     /// `None`: none was placed at this turn yet, or it was marked. The guard must be of one of the cell's posts.
     pub fn look<'g>(&self, turn: u64, guard: &'g PostGuard) -> Option<Sight<'g, T>>
         requires { IsAmong guard.now.log (logs_of self.now.posts.now) }
+        // A look by a turn is one plain load. It lends the value of exactly that turn, for as long as the guard is
+        // lent.
         ensures { IfSome result (λ sight. (sight.name.log ≡ self.now.turns.log) × (sight.name.turn ≡ turn)) }
     {
         self.turns.sight(self.at, turn, guard)
@@ -71,6 +73,8 @@ impl<'p, T> LendingCell<'p, T> {
     /// left in a cell can be marked and taken back. `None`: the cell is empty, or its value was marked, or went out
     /// between the loads.
     pub fn shown(&self) -> Option<PlacedInCell<'_, 'p, T>>
+        // A value that is left in a cell is found without its turn. What the call returns is a name of this cell at the
+        // turn found, and can be marked.
         ensures { IfSome result (λ placed. placed.cell.now ≡ self.now) }
     {
         let Some((turn, name)) = self.turns.shown() else {

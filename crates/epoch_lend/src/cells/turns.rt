@@ -164,6 +164,7 @@ impl<T> Turns<T> {
     /// Looks at the word, by one plain load. If it is that of a value shown at this turn, returns which value that is.
     pub fn find(&self, turn: u64, word: u64) -> (u64, Found<T>)
         requires { word ≡ 4 * turn + 2 }
+        // One plain load that finds the word of a value shown at a turn tells which value was placed at this turn.
         ensures { (result.0 ≡ word → result.1.right ≡ 1) × (result.0 ≢ word → result.1.right ≡ 0)
             × (result.1.log ≡ self.now.log) × (result.1.turn ≡ turn) }
     {
@@ -216,6 +217,8 @@ impl<T> Turns<T> {
     ) -> (u64, Marked<T>, Vacancy<T>)
         requires { (at ≡ self.now.at) × (name.now.log ≡ self.now.log) × (shown ≡ 4 * name.now.turn + 2)
             × (removed ≡ 4 * name.now.turn + 3) }
+        // Of all marks of a value, only one gets the value with all of its loans. Once these are over, the same mark
+        // has the value's place in memory. Each loan went to a guard of one of the cell's posts.
         ensures gained { (result.0 ≡ shown → (result.1.right ≡ 1) × (result.2.right ≡ 1))
             × (result.0 ≢ shown → (result.1.right ≡ 0) × (result.2.right ≡ 0)) }
         ensures marked { (result.1.value ≡ name.now.value) × (result.1.lifetime ≡ name.now.lifetime)
@@ -230,10 +233,11 @@ impl<T> Turns<T> {
         (found, marked, vacancy)
     }
 
-    /// Makes the place vacant at the next turn, by one store of the word.
+    /// Makes the place vacant at this turn, by one store of the word. The caller has claimed the place at this turn, or
+    /// has taken the value of the turn before out of it.
     pub fn release(&self, claim: TurnClaim<T>, turn: u64, word: u64)
         requires of_place { (claim.right ≡ 1) × (claim.state ≡ self.now.state) × (claim.at ≡ self.now.at) }
-        requires of_turn { (claim.word ≡ 4 * turn + 3) × (word ≡ 4 * turn + 4) }
+        requires of_turn { Awaits turn claim.word × (word ≡ 4 * turn) }
     {
         let TurnClaim { at: _ } = claim;
         let _ = turn;
@@ -265,6 +269,7 @@ impl<T> TurnName<T> {
     /// Shows that two names of one turn of one place are of one value. It does nothing when it runs.
     pub fn agree(&self, other: &TurnName<T>)
         requires { (self.now.log ≡ other.now.log) × (self.now.turn ≡ other.now.turn) }
+        // Two names of one turn of one cell are of one value, whichever threads placed it or found it.
         ensures { (self.now.value ≡ other.now.value) × (self.now.lifetime ≡ other.now.lifetime) }
     {
         let _ = other;
@@ -318,6 +323,8 @@ impl<T> Filled<T> {
     /// Takes the value out of the place.
     pub fn take(self) -> (TurnClaim<T>, T)
         ensures value { result.1 ≡ self.value }
+        // An empty cell has no value in its place. A claim gets room for one, and the place is given back with its
+        // value taken out.
         ensures claim { (result.0.right ≡ 1) × (result.0.state ≡ self.state) × (result.0.word ≡ self.word)
             × (result.0.at ≡ self.at) }
     {

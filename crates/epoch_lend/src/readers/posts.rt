@@ -138,34 +138,32 @@ impl<J: PostSet> Posts<J> {
             claim.done();
             return None;
         }
-        match claim.put(None, FREE) {
-            Some(right) => Some(Reader { posts: self, right }),
-            None => None,
-        }
+        let right = claim.put(None, FREE)?;
+        Some(Reader { posts: self, right })
     }
 
     // Puts the right back where it was taken from.
     pub(crate) fn give_back(&self, right: Right<J>) {
         if let Some(place) = self.places.get(right.home) {
-            let (found, claim) = place.turn(FREE, TAKEN);
-            if found == FREE {
-                let _ = claim.put(Some(right), PRESENT);
-            } else {
-                claim.done();
-            }
+            put(place, right);
         }
     }
 }
 
-// A place from which this right may be taken.
-fn holding<J: PostSet>(right: Right<J>) -> Counted<Option<Right<J>>> {
-    let place = Counted::new(None, &());
+// Puts the right into the place, if it is free.
+fn put<J: PostSet>(place: &Counted<Option<Right<J>>>, right: Right<J>) {
     let (found, claim) = place.turn(FREE, TAKEN);
     if found == FREE {
         let _ = claim.put(Some(right), PRESENT);
     } else {
         claim.done();
     }
+}
+
+// A place from which this right may be taken.
+fn holding<J: PostSet>(right: Right<J>) -> Counted<Option<Right<J>>> {
+    let place = Counted::new(None, &());
+    put(&place, right);
     place
 }
 

@@ -18,10 +18,13 @@ pub struct Reader<'p, J: PostSet> {
 pub struct Pinned<'p, J: PostSet> {
     posts: &'p Posts<J>,
     post: &'p Post,
-    position: usize,
+    pub(crate) position: usize,
     home: usize,
+    epoch: u64,
     pin: Pin,
     pub(crate) guard: PostGuard,
+    ghost of_epoch: { guard.epoch ≡ epoch },
+    ghost within: { epoch < 2 ^ 63 },
     ghost of_post: { (pin.log ≡ post.now.log) × (pin.state ≡ post.now.state) },
     ghost all_here: { (guard.atom ≡ pin.atom) × (guard.count ≡ 2 ^ 63) },
     ghost stands: { StandsAt J.posts position post.now.log post.now.state },
@@ -30,24 +33,23 @@ pub struct Pinned<'p, J: PostSet> {
 
 impl<'p, J: PostSet> Reader<'p, J> {
     /// Pins the reader in this epoch, by one store to its post.
+    #[inline(always)]
     pub fn pin(self, epoch: u64) -> Pinned<'p, J>
         requires { epoch < 2 ^ 63 }
-        ensures { result.guard.epoch ≡ epoch }
+        // A pinned reader's guard is the whole guard of its own pin, at a post of the set, in the epoch that it was
+        // given.
+        ensures epoch { result.guard.epoch ≡ epoch }
+        ensures position { result.position ≡ self.entry.right.position }
     {
         let Reader { posts, right } = self;
-        let Right {
-            position,
-            home,
-            unpinned,
-            set: _,
-        } = right;
-        let post = &posts.as_slice()[position];
-        let (pin, guard) = post.pin(unpinned, epoch);
+        let post = &posts.as_slice()[right.position];
+        let (pin, guard) = post.pin(right.unpinned, epoch);
         Pinned {
             posts,
             post,
-            position,
-            home,
+            position: right.position,
+            home: right.home,
+            epoch,
             pin,
             guard,
         }
@@ -62,6 +64,7 @@ impl<'p, J: PostSet> Reader<'p, J> {
 
 impl<'p, J: PostSet> Pinned<'p, J> {
     /// Returns the guard of the pin, which is of one of the set's posts.
+    #[inline(always)]
     pub fn guard(&self) -> &PostGuard
         ensures { (result.now ≡ self.now.guard) × IsAmong result.now.log (logs_of J.posts) }
     {
@@ -69,17 +72,62 @@ impl<'p, J: PostSet> Pinned<'p, J> {
     }
 
     /// The place of its post among those of the set. No other reader is pinned there.
-    pub fn position(&self) -> usize {
+    pub fn position(&self) -> usize
+        ensures { result ≡ self.now.position }
+    {
         self.position
     }
 
-    /// Ends the pin, by one store to its post.
-    pub fn unpin(self) -> Reader<'p, J> {
+    /// Returns the epoch of the pin.
+    #[inline(always)]
+    pub fn epoch(&self) -> u64
+        ensures value { result ≡ self.now.guard.epoch }
+        ensures within { result < 2 ^ 63 }
+    {
+        self.epoch
+    }
+
+    /// Ends the pin, and pins anew in this epoch, by two stores to its post. What was lent before can't be used any
+    /// more, since the pin was handed in.
+    #[inline(always)]
+    pub fn repin(self, epoch: u64) -> Pinned<'p, J>
+        requires { epoch < 2 ^ 63 }
+        ensures epoch { result.guard.epoch ≡ epoch }
+        ensures position { result.position ≡ self.entry.position }
+    {
         let Pinned {
             posts,
             post,
             position,
             home,
+            epoch: _,
+            pin,
+            guard,
+        } = self;
+        let (pin, guard) = post.repin(pin, guard, epoch);
+        Pinned {
+            posts,
+            post,
+            position,
+            home,
+            epoch,
+            pin,
+            guard,
+        }
+    }
+
+    /// Ends the pin, by one store to its post.
+    #[inline(always)]
+    pub fn unpin(self) -> Reader<'p, J>
+        // An unpin gives the reader back with the right to pin at its own post.
+        ensures { result.right.position ≡ self.entry.position }
+    {
+        let Pinned {
+            posts,
+            post,
+            position,
+            home,
+            epoch: _,
             pin,
             guard,
         } = self;

@@ -60,6 +60,8 @@ impl<J: PostSet, T> Value<J, T> {
     /// Lends the value, by one plain load, for as long as the reference to the pinned reader lasts. `None`: it was
     /// marked.
     pub fn look<'g>(&self, pinned: &'g Pinned<'_, J>) -> Option<&'g T>
+        // What a look finds is the value that was lent, for every value and every pinned reader of one set. It is one
+        // plain load, and lends for as long as the reference to the pinned reader is.
         ensures { IfSome result (λ value. value.now ≡ self.now.lent.lending.value) }
     {
         self.lent.look(&pinned.guard)
@@ -77,23 +79,21 @@ impl<'v, J: PostSet, T, A: Allocator> Owner<'v, J, T, A> {
     /// Marks the value, so that no look finds it from then on, and looks at each post once. Guards that have found the
     /// value keep it. `Err`: it was marked before, and the owner is as it was.
     pub fn mark(self, posts: &Posts<J>) -> Result<RetiredValue<J, T, A>, Owner<'v, J, T, A>>
+        // The box that comes back is the box of the value that was lent.
         ensures marked { IfOk result (λ retired. retired.deed.value ≡ self.entry.deed.value) }
         ensures same { IfErr result (λ owner. (owner.deed.value ≡ self.entry.deed.value)
             × (owner.value.now ≡ self.entry.value.now)) }
     {
-        let Owner { value, deed } = self;
-        match value.lent.mark() {
-            Some(marked) => {
-                let (seal, marked) = marked.seal(posts.as_slice());
-                Ok(RetiredValue {
-                    marked,
-                    seal,
-                    deed,
-                    set: Of(PhantomData),
-                })
-            }
-            None => Err(Owner { value, deed }),
-        }
+        let Some(marked) = self.value.lent.mark() else {
+            return Err(self);
+        };
+        let (seal, marked) = marked.seal(posts.as_slice());
+        Ok(RetiredValue {
+            marked,
+            seal,
+            deed: self.deed,
+            set: Of(PhantomData),
+        })
     }
 }
 
@@ -105,20 +105,13 @@ impl<J: PostSet, T: Drop, A: Allocator> RetiredValue<J, T, A> {
         ensures whole { IfOk result (λ whole. whole.value ≡ self.deed.value) }
         ensures again { IfErr result (λ retired. retired.deed.value ≡ self.deed.value) }
     {
-        let RetiredValue {
-            marked,
-            seal,
-            deed,
-            set: _,
-        } = self;
-        match marked.take_back(posts.as_slice(), seal) {
-            Ok(part) => Ok(thaw(deed, part)),
-            Err(marked) => Err(RetiredValue {
-                marked,
-                seal,
-                deed,
-                set: Of(PhantomData),
-            }),
+        let mut retired = self;
+        match retired.marked.take_back(posts.as_slice(), retired.seal) {
+            Ok(part) => Ok(thaw(retired.deed, part)),
+            Err(marked) => {
+                retired.marked = marked;
+                Err(retired)
+            }
         }
     }
 }

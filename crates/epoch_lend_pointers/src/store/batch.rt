@@ -21,7 +21,7 @@ pub struct Batch<'c, J: PostSet, T> {
     pub ghost fresh: { watch.seen ≡ [] },
 }
 
-/// A bag whose posts were looked at once: each guard that had a loan is over, or is of an epoch before the seal.
+/// A batch whose posts were looked at once: each guard that had a loan is over, or is of an epoch before the seal.
 #[derive(Drop)]
 pub struct SealedBatch<'c, J: PostSet, T> {
     removals: Vec<SlotRemoval<'c, J, T>>,
@@ -32,7 +32,7 @@ pub struct SealedBatch<'c, J: PostSet, T> {
     pub ghost sealed: { EachSeen (is_sealed seal) (logs_of J.posts) watch.seen },
 }
 
-/// A bag whose values come back: each guard that one of them was lent to is over.
+/// A batch whose values come back: each guard that one of them was lent to is over.
 #[derive(Drop)]
 pub struct ClearBatch<'c, J: PostSet, T> {
     removals: Vec<SlotRemoval<'c, J, T>>,
@@ -42,10 +42,10 @@ pub struct ClearBatch<'c, J: PostSet, T> {
 }
 
 impl<'c, J: PostSet, T> Batch<'c, J, T> {
-    /// Makes an empty bag with room for this many removals. It fails only if memory is refused.
+    /// Makes an empty batch with room for this many removals. It fails only if memory is refused.
     pub fn with_capacity(alloc: Global, capacity: usize) -> Result<Batch<'c, J, T>, AllocError>
-        ensures empty { IfOk result (λ bag. bag.removals.items ≡ []) }
-        ensures room { IfOk result (λ bag. capacity ≤ vec_capacity bag.removals) }
+        ensures empty { IfOk result (λ batch. batch.removals.items ≡ []) }
+        ensures room { IfOk result (λ batch. capacity ≤ vec_capacity batch.removals) }
     {
         let removals = Vec::with_capacity(alloc, capacity)?;
         Ok(Batch {
@@ -54,20 +54,21 @@ impl<'c, J: PostSet, T> Batch<'c, J, T> {
         })
     }
 
-    /// Returns how many removals are in the bag.
+    /// Returns how many removals are in the batch.
     pub fn len(&self) -> usize
         ensures { result ≡ length self.now.removals.items }
     {
         self.removals.len()
     }
 
-    /// Puts a removal into the bag, behind the others. It is handed back only if the bag has no room for it, and memory
-    /// for more room is refused.
+    /// Puts a removal into the batch, behind the others. It is handed back only if the batch has no room for it, and
+    /// memory for more room is refused.
     pub fn push(&mut self, removal: SlotRemoval<'c, J, T>) -> Result<(), SlotRemoval<'c, J, T>>
         ensures ok { OnOk result (map (λ r. r.name) self.new.removals.items
             ≡ map (λ r. r.name) self.old.removals.items ++ removal.entry.name ∷ []) }
         ensures err { OnErr result (self.new.removals.items ≡ self.old.removals.items) }
         ensures handed_back { IfErr result (λ back. back.name ≡ removal.entry.name) }
+        // A batch with room takes a removal. A removal that isn't taken is handed back, and the batch is as it was.
         ensures succeeds { vec_len self.old.removals < vec_capacity self.old.removals → IsOk result }
     {
         let removal = removal.watched(&mut self.watch);
@@ -77,7 +78,7 @@ impl<'c, J: PostSet, T> Batch<'c, J, T> {
         }
     }
 
-    /// Looks at each post once, for all removals of the bag.
+    /// Looks at each post once, for all removals of the batch.
     pub fn seal(self, posts: &Posts<J>) -> SealedBatch<'c, J, T>
         ensures { result.removals.items ≡ self.entry.removals.items }
     {
@@ -92,19 +93,29 @@ impl<'c, J: PostSet, T> Batch<'c, J, T> {
 }
 
 impl<'c, J: PostSet, T> SealedBatch<'c, J, T> {
-    /// Returns how many removals are in the bag.
+    /// Returns its seal: it comes back once each post is unpinned, or pinned in this epoch or a later one.
+    pub fn seal(&self) -> u64
+        ensures { result ≡ self.now.seal }
+    {
+        self.seal
+    }
+
+    /// Returns how many removals are in the batch.
     pub fn len(&self) -> usize
         ensures { result ≡ length self.now.removals.items }
     {
         self.removals.len()
     }
 
-    /// Looks at each post once more, for all removals of the bag. If none is pinned in an epoch before the seal, the
-    /// values come back. Otherwise the bag does, to be tried again, since a guard that has one of the values may still
-    /// live. Readers that go on must pin in later epochs.
+    /// Looks at each post once more, for all removals of the batch. If none is pinned in an epoch before the seal, the
+    /// values come back. Otherwise the batch does, to be tried again, since a guard that has one of the values may
+    /// still live. Readers that go on must pin in later epochs.
     pub fn take_back(self, posts: &Posts<J>) -> Result<ClearBatch<'c, J, T>, SealedBatch<'c, J, T>>
-        ensures clear { IfOk result (λ bag. bag.removals.items ≡ self.entry.removals.items) }
-        ensures again { IfErr result (λ bag. bag.removals.items ≡ self.entry.removals.items) }
+        // A batch looks at each post once when it is sealed, and once more at each try to take its values back. Each
+        // look serves all removals of the batch. No value that was lent under a guard is destroyed while that guard
+        // lives.
+        ensures clear { IfOk result (λ batch. batch.removals.items ≡ self.entry.removals.items) }
+        ensures again { IfErr result (λ batch. batch.removals.items ≡ self.entry.removals.items) }
     {
         let SealedBatch {
             removals,
@@ -145,6 +156,9 @@ impl<'c, J: PostSet, T> ClearBatch<'c, J, T> {
     /// Takes the value of the last removal out of its slot, and returns it with its name and with the room in which it
     /// was. `None`: each value was taken out.
     pub fn next_with_room(&mut self) -> Option<Returned<'c, J, T>>
+        // A clear batch gives back each value once, with its name, and with the *room* in which it was: the place of
+        // its cell, which no other caller can use. A store drops only the values of a batch that gave them back: each
+        // guard that one of them was lent to is over.
         ensures which { MatchOption result (self.old.removals.items ≡ [])
             (λ back. map (λ r. r.name) self.old.removals.items
             ≡ map (λ r. r.name) self.new.removals.items ++ back.name ∷ []) }

@@ -1,56 +1,57 @@
-//! Retired values: they are marked when their grace period is over, and wait then for guards that they were lent to.
-ghost use Rattle.std.specs.Prelude.{◌≡◌, ◌≤◌, ◌<◌, ◌++◌, ◌∷◌, [], IfOk, OnOk, OnErr, IsOk, vec_len, vec_capacity};
+//! Retired values: they are marked once no guard from before can find them, and wait then for guards that have them.
+ghost use Rattle.std.specs.Prelude.{◌≡◌, ◌++◌, ◌∷◌, [], length, IfOk, OnOk, OnErr, vec_len};
+ghost use Rattle.epoch_lend.specs.Grace.{PassesAll};
+ghost use Rattle.epoch_lend.specs.Grace.PinStep.{Ticks};
 
 use crate::store::batch::Batch;
-use crate::store::lender::Lender;
+use crate::store::lent_cells::LentCells;
 use epoch_lend::array::cells::SlotTurn;
+use epoch_lend::domain::Domain;
 use epoch_lend::readers::posts::PostSet;
+use epoch_lend::steps::{HasPinSteps, PinSteps};
 use std::alloc::{AllocError, Global};
 
-/// How many values are retired by one job.
+/// How many values are retired together.
 pub const RETIRED_TOGETHER: usize = 64;
 
 // What `Retired` has in a box.
 #[derive(Drop)]
 struct Lists<'s, J: PostSet, T> {
     spots: Vec<SlotTurn>,
-    // Room for the removals, taken beforehand: so no value is kept back because a job's call was refused memory.
-    bag: Batch<'s, J, T>,
+    // Room for the removals, taken beforehand: so no value is kept back because memory is refused later.
+    batch: Batch<'s, J, T>,
 }
 
 /// Where values are that were retired, and will be marked together.
 #[derive(Drop)]
-pub struct Retired<'q, 's, J: PostSet, T> {
-    lender: &'q Lender<'s, J, T>,
-    // In a box, since a bag of jobs is moved with all its room, which is for 64 of these.
+pub struct Retired<'s, J: PostSet, T> {
+    // In a box, since it is moved from hand to hand.
     lists: Box<Lists<'s, J, T>>,
 }
 
-impl<'q, 's, J: PostSet, T> Retired<'q, 's, J, T> {
+/// Retired values, which were out of reach when the clock came to this epoch. They ripen until each pin that began
+/// before is over.
+#[derive(Drop)]
+pub struct Ripening<'s, J: PostSet, T> {
+    epoch: u64,
+    retired: Retired<'s, J, T>,
+}
+
+impl<'s, J: PostSet, T> Retired<'s, J, T> {
     /// Makes an empty list, with room for [`RETIRED_TOGETHER`] values. It fails only if memory is refused.
-    pub fn new(
-        alloc: Global,
-        lender: &'q Lender<'s, J, T>,
-    ) -> Result<Retired<'q, 's, J, T>, AllocError>
+    pub fn new(alloc: Global) -> Result<Retired<'s, J, T>, AllocError>
         ensures { IfOk result (λ retired. retired.lists.value.spots.items ≡ []) }
     {
         let spots = Vec::with_capacity(alloc, RETIRED_TOGETHER)?;
-        let bag = Batch::with_capacity(alloc, RETIRED_TOGETHER)?;
-        match Box::new(alloc, Lists { spots, bag }) {
-            Ok(lists) => Ok(Retired { lender, lists }),
+        let batch = Batch::with_capacity(alloc, RETIRED_TOGETHER)?;
+        match Box::new(alloc, Lists { spots, batch }) {
+            Ok(lists) => Ok(Retired { lists }),
             Err(_) => Err(AllocError),
         }
     }
 
-    /// Returns the lender.
-    #[inline(always)]
-    pub fn lender(&self) -> &'q Lender<'s, J, T>
-        ensures { result.now ≡ self.now.lender.now }
-    {
-        self.lender
-    }
-
     /// Returns how many there are.
+    #[inline(always)]
     pub fn len(&self) -> usize
         ensures { result ≡ vec_len self.now.lists.value.spots }
     {
@@ -58,6 +59,7 @@ impl<'q, 's, J: PostSet, T> Retired<'q, 's, J, T> {
     }
 
     /// Adds the value at this spot. `Err`: there was no memory.
+    #[inline(always)]
     pub fn keep(&mut self, spot: SlotTurn) -> Result<(), AllocError>
         ensures ok { OnOk result (self.new.lists.value.spots.items ≡ self.old.lists.value.spots.items ++ spot ∷ []) }
         ensures err { OnErr result (self.new.lists.value.spots.items ≡ self.old.lists.value.spots.items) }
@@ -69,22 +71,53 @@ impl<'q, 's, J: PostSet, T> Retired<'q, 's, J, T> {
     }
 }
 
-impl<'q, 's, J: PostSet, T: Drop> Retired<'q, 's, J, T> {
-    /// Marks the values, looks at each post once for all of them, and gives them to the lender.
-    pub fn mark(self) {
-        let Retired { lender, lists } = self;
-        let Lists { spots, bag } = Box::into_inner(lists);
-        let mut removals = bag;
-        let mut home = 0;
+impl<'s, J: PostSet, T> Ripening<'s, J, T> {
+    /// Moves the clock on, and lets the values wait with the epoch that begins. They must be out of reach.
+    pub fn begin<S: PinSteps>(domain: &Domain<J>, retired: Retired<'s, J, T>) -> Ripening<'s, J, T>
+    where
+        J: HasPinSteps<S>,
+        ensures ticks { S.did J.posts (Ticks result.epoch) }
+        ensures values { result.retired ≡ retired.entry }
+    {
+        Ripening {
+            epoch: domain.tick::<S>(),
+            retired,
+        }
+    }
+
+    /// Returns the epoch that began when the values were out of reach.
+    #[inline(always)]
+    pub fn epoch(&self) -> u64
+        ensures { result ≡ self.now.epoch }
+    {
+        self.epoch
+    }
+
+    /// Returns the values, which wait with no epoch any more.
+    pub fn into_retired(self) -> Retired<'s, J, T>
+        ensures { result ≡ self.entry.retired }
+    {
+        let Ripening { epoch: _, retired } = self;
+        retired
+    }
+
+    /// Marks the values, so that no look finds them any more. After the clock had come to the epoch, a look at each
+    /// post must have found it unpinned, or pinned in the epoch or a later one: so each pin is over that began when
+    /// the values were in reach.
+    pub fn mark<S: PinSteps>(self, cells: &'s LentCells<J, T>) -> Batch<'s, J, T>
+    where
+        J: HasPinSteps<S>,
+        requires { PassesAll (S.did J.posts) self.epoch (length J.posts) }
+    {
+        let Ripening { epoch: _, retired } = self;
+        let Retired { lists } = retired;
+        let Lists { spots, batch } = Box::into_inner(lists);
+        let mut removals = batch;
         for spot in &spots {
-            if let Some(removal) = lender.cells.cells.mark(*spot) {
-                home = spot.slot;
+            if let Some(removal) = cells.mark(*spot) {
                 let _ = removals.push(removal);
             }
         }
-        // If none was marked, since each had been marked before, there is no slot in whose place the bag could wait.
-        if removals.len() > 0 {
-            lender.take(home, removals.seal(&lender.cells.posts));
-        }
+        removals
     }
 }

@@ -1,26 +1,25 @@
 //! Free cells of one owner, for its next values.
-ghost use Rattle.std.specs.Prelude.{◌≡◌, []};
+ghost use Rattle.std.specs.Prelude.{◌≡◌, ◌+◌, length, IfErr, IfSome};
 
 use epoch_lend::array::room::LentRoom;
 use epoch_lend::readers::posts::PostSet;
 use std::alloc::{AllocError, Global};
 
-/// Rooms of cells, which no other caller can use. A cell whose room is dropped takes no value any more, so they must be
-/// given up by [`LentRooms::release`].
+/// Rooms of cells, which no other caller can use. A cell whose room is dropped takes no value any more.
 #[derive(Drop)]
-pub struct LentRooms<'s, J: PostSet, T> {
+pub(crate) struct LentRooms<'s, J: PostSet, T> {
     list: Vec<LentRoom<'s, J, T>>,
 }
 
 impl<'s, J: PostSet, T> LentRooms<'s, J, T> {
     /// Makes a list with no room in it.
-    pub fn none(alloc: Global) -> LentRooms<'s, J, T> {
+    pub(crate) fn none(alloc: Global) -> LentRooms<'s, J, T> {
         LentRooms {
             list: Vec::new(alloc),
         }
     }
 
-    // Makes a list with memory for this many rooms. It fails only if memory is refused.
+    /// Makes a list with memory for this many rooms. It fails only if memory is refused.
     pub(crate) fn with_capacity(
         alloc: Global,
         capacity: usize,
@@ -31,30 +30,26 @@ impl<'s, J: PostSet, T> LentRooms<'s, J, T> {
 
     /// Returns how many there are.
     #[inline(always)]
-    pub fn len(&self) -> usize {
+    pub(crate) fn len(&self) -> usize {
         self.list.len()
     }
 
-    // Adds a room, or leaves its cell to all callers if there is no memory for it.
+    /// Adds a room. It is handed back if there is no memory for it.
     #[inline(always)]
-    pub(crate) fn keep(&mut self, room: LentRoom<'s, J, T>) {
-        if let Err(failed) = self.list.push(room) {
-            failed.value.release();
+    pub(crate) fn keep(&mut self, room: LentRoom<'s, J, T>) -> Result<(), LentRoom<'s, J, T>>
+        ensures { IfErr result (λ back. back ≡ room.entry) }
+    {
+        match self.list.push(room) {
+            Ok(()) => Ok(()),
+            Err(failed) => Err(failed.value),
         }
     }
 
     /// Takes a room out of the list.
     #[inline(always)]
-    pub fn next(&mut self) -> Option<LentRoom<'s, J, T>> {
+    pub(crate) fn next(&mut self) -> Option<LentRoom<'s, J, T>>
+        ensures { IfSome result (λ room. length self.new.list.items + 1 ≡ length self.old.list.items) }
+    {
         self.list.pop()
-    }
-
-    /// Leaves the cells to all callers.
-    pub fn release(self) {
-        let LentRooms { list } = self;
-        let mut rest = list;
-        while let Some(room) = rest.pop() {
-            room.release();
-        }
     }
 }

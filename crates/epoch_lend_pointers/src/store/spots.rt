@@ -1,5 +1,5 @@
 //! A pointer's name is a place in cells that lend: the slot, which isn't 0, and the turn.
-ghost use Rattle.std.specs.Prelude.{◌≡◌, ◌+◌, ◌<◌, ◌≤◌, IfSome};
+ghost use Rattle.std.specs.Prelude.{◌≡◌, ◌≤◌, IfSome};
 
 use epoch_cells::{MOST_SLOT, Name};
 use epoch_lend::array::cells::SlotTurn;
@@ -26,6 +26,7 @@ pub fn spot_of(name: Name) -> SlotTurn
 pub fn name_of(spot: SlotTurn) -> Name
     requires slot { (1 ≤ spot.slot) × (spot.slot ≤ MOST_SLOT) }
     requires turn { spot.turn ≤ LAST_TURN }
+    // Each spot has one name, and each name one spot.
     ensures slot { result.slot ≡ spot.slot }
     ensures turn { result.turn ≡ spot.turn }
 {
@@ -37,16 +38,16 @@ pub fn name_of(spot: SlotTurn) -> Name
 #[inline(always)]
 pub fn next_name<J: PostSet, T>(room: &LentRoom<'_, J, T>) -> Option<Name>
     ensures slot { IfSome result (λ name. name.slot ≡ room.now.position) }
-    ensures turn { IfSome result (λ name. name.turn ≡ room.now.turn + 1) }
-    ensures fits { IfSome result (λ name. room.now.turn < room.now.cells.now.last_turn) }
+    ensures turn { IfSome result (λ name. name.turn ≡ room.now.next_turn) }
+    ensures fits { IfSome result (λ name. room.now.next_turn ≤ room.now.cells.now.last_turn) }
 {
     let slot = room.position();
-    if slot == 0 || slot > MOST_SLOT as usize || room.turn() >= LAST_TURN || !room.has_turn() {
+    if slot == 0 || slot > MOST_SLOT as usize || room.next_turn() > LAST_TURN || !room.has_turn() {
         return None;
     }
     let spot = SlotTurn {
         slot,
-        turn: room.turn() + 1,
+        turn: room.next_turn(),
     };
     Some(name_of(spot))
 }

@@ -10,6 +10,7 @@ impl<J: Default + Drop> Machine<J> {
     /// Goes on by the answer to the ask; an answer to another ask changes nothing.
     pub fn take(&mut self, answer: Answer<J>)
         requires { IsAnswer answer }
+        // The machine after an answer is the one that the definition gives. An answer to another ask changes nothing.
         ensures { self.new ≡ heard self.old answer }
     {
         match answer {
@@ -110,6 +111,7 @@ impl<J: Default + Drop> Machine<J> {
     /// `None` where no call is asked for.
     #[inline]
     pub fn give(&mut self) -> Option<J>
+        // The job that is given to be called is the oldest one in hand. It can be looked at before it is given.
         ensures job { MatchOption result (asks self.old ≢ Some CallJob)
             (λ job. (asks self.old ≡ Some CallJob) × (self.old.hand ≡ job ∷ rest self.old.hand)) }
         ensures after { self.new ≡ gives self.old self.old.stage (rest self.old.hand) }

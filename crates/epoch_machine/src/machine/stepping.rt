@@ -17,6 +17,8 @@ impl<J: Default + Drop> Machine<J> {
         cursor: &mut S::Putting,
     ) -> PutStep
         requires { (seal : ℕ) × (asks self.old ≡ Some (PutBag seal)) }
+        // A step of a put or of a collection does to the store's bags what the store's contract says, and the machine
+        // goes on by its answer.
         ensures put { (seal : ℕ) → asks self.old ≡ Some (PutBag seal)
             → PutsHeld seal self.old (S.queued store.old) result (S.queued store.new) }
         ensures after { self.new ≡ put_heard self.old result }
@@ -25,12 +27,16 @@ impl<J: Default + Drop> Machine<J> {
         ensures moves { (seal : ℕ) → asks self.old ≡ Some (PutBag seal) → S.PutMoves store.old store.new
             (record { seal = seal; jobs = self.old.held }) cursor.old result cursor.new }
         ensures capacity { S.capacity store.new ≡ S.capacity store.old }
+        // A put passes only occupied places, and is full exactly after the last one.
         ensures occupied { result ≢ PutStep.Done → (place : ℕ) → S.passed cursor.old ≤ place
             → place < S.passed cursor.new → slice_get (S.occupied store.old) place ≡ Some true }
         ensures full { result ≡ PutStep.Full → S.capacity store.old ≤ S.passed cursor.new }
         ensures again { result ≡ PutStep.Again → S.passed cursor.new < S.capacity store.old }
         ensures onward { result ≢ PutStep.Done → S.passed cursor.old ≤ S.passed cursor.new }
+
+        // The store says whether a put has room, what is ahead of a collection, and which places each claims.
         ensures room { FindsRoom (S.has_room store.old cursor.old) result (S.has_room store.new cursor.new) }
+
         ensures fewer { 0 < S.puts_left (S.capacity store.old) cursor.old
             → S.puts_left (S.capacity store.old) cursor.new < S.puts_left (S.capacity store.old) cursor.old }
         ensures last { S.puts_left (S.capacity store.old) cursor.old ≡ 0 → result ≡ PutStep.Full }

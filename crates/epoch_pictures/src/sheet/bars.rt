@@ -1,6 +1,6 @@
 //! What lasts for a while, as bars.
 
-use super::{LANE, Sheet};
+use super::Sheet;
 use crate::pen::{Area, Pen, takes, takes_small};
 use epoch_layouts::{Bar, lane_of};
 use epoch_world::{Access, Call, Change};
@@ -11,12 +11,14 @@ use std::io::Write;
 const BAR: u64 = 16;
 /// How far a call reaches over the middle of a column.
 const OVER: u64 = 8;
+/// The class of the two lines of a name: small, and about the middle.
+const HALVES: &str = "ticket many";
 
 impl Sheet<'_> {
     pub fn draw_bars<W: Write>(&self, pen: &mut Pen<'_, W>) -> io::Result<()> {
         self.draw_epochs(pen)?;
         for bar in &self.picture.registrations {
-            let area = self.area(bar, self.top_of(bar.lane), LANE - 4);
+            let area = self.area(bar, self.top_of(bar.lane), self.height_of(bar.lane));
             self.open_span(pen, bar.from, bar.to)?;
             match bar.to {
                 Some(_) => pen.rect("member", area)?,
@@ -63,15 +65,7 @@ impl Sheet<'_> {
         }
         self.open_span(pen, bar.from, bar.to)?;
         self.draw_bar(pen, "call", bar, area)?;
-        let (name, short) = match bar.kind {
-            Some(call) => (name_of(call), short_name_of(call)),
-            None => ("end", "end"),
-        };
-        if takes(name) <= area.width {
-            pen.text("", area.inside(), name)?;
-        } else if takes_small(short) <= area.width {
-            pen.text("small", area.inside(), short)?;
-        }
+        draw_name(pen, bar.kind.map_or("end", name_of), area)?;
         pen.close()
     }
 
@@ -198,11 +192,29 @@ fn name_of(call: Call) -> &'static str {
     }
 }
 
-/// A word for a call where its first word has no room.
-fn short_name_of(call: Call) -> &'static str {
-    match call {
-        Call::DeferDestroy(_, _) => "destroy",
-        _ => name_of(call),
+/// Writes the name of a call into its bar: large, or small, or in two lines, as there is room for.
+fn draw_name<W: Write>(pen: &mut Pen<'_, W>, name: &'static str, area: Area) -> io::Result<()> {
+    if takes(name) <= area.width {
+        return pen.text("", area.inside(), name);
+    }
+    if takes_small(name) <= area.width {
+        return pen.text("small", area.inside(), name);
+    }
+    match halves_of(name) {
+        Some((first, second)) if takes_small(second) <= area.width => {
+            let (middle, top) = (area.left.saturating_add(area.width / 2), area.top);
+            pen.text(HALVES, (middle, top.saturating_add(7)), first)?;
+            pen.text(HALVES, (middle, top.saturating_add(14)), second)
+        }
+        _ => Ok(()),
+    }
+}
+
+/// The two lines of a name that has no room in one.
+fn halves_of(name: &str) -> Option<(&'static str, &'static str)> {
+    match name {
+        "defer-destroy" => Some(("defer-", "destroy")),
+        _ => None,
     }
 }
 

@@ -1,6 +1,7 @@
 //! The lanes of cells: what each holds, what points to it, and which participants read it.
 
-use super::{LEFT, Sheet};
+use super::idle::has;
+use super::{CELL, LEFT, ROW, Sheet};
 use crate::pen::{Area, Pen, takes};
 use epoch_layouts::Bar;
 use epoch_layouts::cells::{CellLook, Shown};
@@ -13,7 +14,12 @@ impl Sheet<'_> {
     /// The ground and the name of a cell's lane.
     pub fn draw_cell_ground<W: Write>(&self, pen: &mut Pen<'_, W>, slot: u64) -> io::Result<()> {
         let top = self.top_of_cell(slot);
-        self.draw_strip(pen, "shade", top, super::CELL - 4)?;
+        let height = if has(&self.idle.cells, slot) {
+            ROW
+        } else {
+            CELL
+        };
+        self.draw_strip(pen, "shade", top, height - 4)?;
         pen.number("lane", (8, top.saturating_add(15)), "cell ", slot, LEFT)
     }
 

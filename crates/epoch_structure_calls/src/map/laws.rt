@@ -19,6 +19,9 @@ ghost use Rattle.epoch_plans.specs.Plans.{after_by};
 /// The entries themselves may have any numbers for their keys that are in the keys' order: then each entry is told as
 /// its key compares.
 pub fn every_coded_call_goes_as_one_with_entries()
+    // A call that is told only how keys compare goes hand in hand with one that is told entries: both begin alike, each
+    // phase asks for the same call, and the next phases are the same if the replies are. The keys of these entries may
+    // be any numbers that are in the keys' order.
     ensures begins { (key : ℕ) (work : MapWork) → WorkIsFor key work
         → (coded_phase key (first_of work) ≡ first_of (coded_work key work)) × PhaseIsFor key (first_of work) }
     ensures asks_alike { (key guard : ℕ) (phase : MapPhase)

@@ -115,8 +115,14 @@ fn go_over<L: MapSpots>(spots: &mut L, bucket: u64, moves: u64) -> Pass
 /// `TriesOut`: all moves were used up.
 #[inline(always)]
 pub fn look_over<L: MapSpots>(spots: &mut L, bucket: u64, moves: u32) -> Result<bool, Fault>
+    // A look-up that only reads writes nothing: each attempt is a path of the program on which each access writes
+    // nothing. An attempt that comes to a marked node stops there, as a call may if its thread stalls. The next attempt
+    // has the moves that are left, and the last one answers.
     ensures looks { Looks L.does bucket 1 moves spots.old result spots.new }
+
+    // Such a look-up is refused only if its moves are used up.
     ensures refused { IfErr result (λ fault. fault ≡ TriesOut) }
+
     ensures no_moves { moves ≡ 0 → IsErr result }
 {
     let mut left = moves as u64;

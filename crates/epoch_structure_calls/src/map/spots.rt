@@ -43,6 +43,9 @@ pub trait MapSpots: Spots {
 
     /// Loads the pointer in this node, of which the walk has kept this. `None`: it can't be loaded.
     fn next(&mut self, node: Name, kept: Self::Node) -> Option<Ptr>
+        // A read of a node and a load of a pointer by `MapSpots` is that access of `Spots`, and `None` stands for the
+        // answer `Absent`. A read of a node is told as how its key compares with the one that is sought. To leave a
+        // node is that access.
         ensures some { IfSome result
             (λ ptr. Self.does self.old (Point (Some 0) (Field node 0) Load) (Done (Pointer ptr)) self.new) }
         ensures none { result ≡ None → Self.does self.old (Point (Some 0) (Field node 0) Load) (Done Absent) self.new };

@@ -72,8 +72,11 @@ fn stride<L: MapSpots>(
     spots: &mut L,
 ) -> Result<Name, MapPhase>
     requires { key_sought aim ≡ 1 }
+    // The walk goes on to a node only over a link without a mark, behind a node of a lower key, and takes a move for
+    // it.
     ensures on { IfOk result (λ next. ReadsOn L.does (map_deed_of 0) (Reading aim link node left) spots.old
         (Reading aim (Field node 0) next (left - 1)) spots.new) }
+
     ensures left { IfOk result (λ next. 0 < left) }
     ensures over { IfErr result
         (λ phase. ReadsOn L.does (map_deed_of 0) (Reading aim link node left) spots.old phase spots.new) }

@@ -57,7 +57,12 @@ pub fn drive<P: PhaseMachine, C: Ends<P> + GoesAhead<P, L>, K: Keeps<H, G>, H, G
     guard: &G,
 ) -> Outcome<P::Answer>
     requires { K.serves handle.old guard.now }
+    // What the participant keeps stays as `Keeps` says, over the whole call.
     ensures stays { K.stays handle.old handle.new }
+
+    // A call takes a path of its program: it makes one call for each phase, and no other. A phase that asks for room,
+    // for an access or for a removal is served by exactly that call, and the next phase is the one that the program
+    // says for its reply.
     ensures does { DoesBy L.does K.keeping (P.deed 0) first handle.old spots.old result.answer result.refused
         handle.new spots.new }
 {

@@ -43,7 +43,10 @@ fn reading_of<A: Copy>(wish: Wish<A>) -> Option<Access>
 /// the first phase that asks for something else.
 #[inline(always)]
 pub fn read_on<P: PhaseMachine, E: Ends<P>, L: Spots>(first: P, spots: &mut L) -> P
+    // A call that goes ahead makes one access for each phase, and each of these accesses writes nothing.
     ensures reads { ReadsOn L.does (P.deed 0) first spots.old result spots.new }
+
+    // Such a call stops at the first phase that asks for something else.
     ensures stops { reading_of (wish_of (P.deed 0 result)) ≡ None }
 {
     let mut phase = first;

@@ -18,5 +18,6 @@ pub trait Spots {
     /// retired.
     fn touch(&mut self, access: Access) -> Result<AccessAnswer, Fault>
         ensures does { does self.old access (reply_given result) self.new }
+        // Only a placing is refused, with `NoMemory` or `CellsFull`.
         ensures told { IsTold access (reply_given result) };
 }

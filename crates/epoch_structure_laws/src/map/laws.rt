@@ -18,6 +18,9 @@ ghost use Rattle.epoch_structure_laws.specs.MapEntries.{StepOnEntries, FindsNoEn
 /// In the run of the world that a map makes cells leave as they have to: once, by a deferred removal, and for good.
 /// That also holds where another call unlinks the node that a removal has marked.
 pub fn every_map_run_leaves_cells_once()
+    // In the run of the world that a run of the map makes, cells leave once, by a deferred removal, and for good. A
+    // node leaves only when no link leads to it any more, even if another call has unlinked the node that a removal has
+    // marked.
     ensures { (world world' : State) (plans plans' : AllPlans MapPhase) (log : MapLog) → IsNewMap world plans
         → (run : MapRuns world plans log world' plans')
         → LeavesOnce world (world_log log) world' (run_of_world map MapStarts world plans log world' plans' run) }
@@ -25,6 +28,7 @@ pub fn every_map_run_leaves_cells_once()
 
 /// So no name that is loaded under a guard still held is destroyed.
 pub fn every_map_run_keeps_reach()
+    // So no name that is loaded under a guard that is still held is destroyed.
     ensures { (world world' : State) (plans plans' : AllPlans MapPhase) (log : MapLog) → IsNewMap world plans
         → (run : MapRuns world plans log world' plans')
         → KeepsLoaded (past_of world (world_log log) world'
@@ -34,6 +38,8 @@ pub fn every_map_run_keeps_reach()
 /// Every reply to a call of the world that a phase makes, also a refusal, lowers the number of calls that are left. A
 /// call of the map answers when none is left.
 pub fn every_map_reply_comes_nearer_the_answer()
+    // Every reply that a phase gets, even a refusal, lowers the number of calls that are left. When none is left, the
+    // phase answers.
     ensures { IsLowered map map_calls_left }
 {}
 
@@ -43,15 +49,22 @@ pub fn every_map_reply_comes_nearer_the_answer()
 /// answers `Inserted` and `Removed` exactly where it has won its exchange, `AlreadyThere` and `Found` exactly where it
 /// found that entry of its key, `NotFound` exactly where it found none, and anything else where it did none of these.
 pub fn every_map_answer_tells_what_was_done()
+    // A call begins with nothing done. Besides these steps, no reply and no refusal changes what was done.
     ensures begins { (phase : MapPhase) → MapStarts phase → deed_done phase ≡ DidNothing }
     ensures passes_on { (guard : ℕ) (phase : MapPhase) (reply : Reply)
         → deed_done (after_by phase (map_deed_of guard phase) reply) ≡ deed_then phase reply }
+
+    // A call's answer says what the call did: `Inserted`, `Removed` or `RemovedLeaking` exactly when it won its
+    // exchange, and `NotFound` exactly when it found no entry. `AlreadyThere` and `Found` have the entry that the call
+    // found. Every other answer says that the call did none of these.
     ensures answers { (answer : MapAnswer) → deed_done (Answering answer) ≡ deed_answered answer }
 {}
 
 /// Each bucket of a new map is empty, and at each moment of a run its nodes are a list of ascending keys: it is sorted,
 /// and no key is there twice.
 pub fn every_map_run_holds_sorted_lists()
+    // Each bucket of a new map is empty. At each moment of a run the nodes of a bucket have ascending keys: it is
+    // sorted, and no key is there twice.
     ensures { (world world' : State) (plans plans' : AllPlans MapPhase) (log : MapLog) → IsNewMap world plans
         → MapRuns world plans log world' plans' → (i : ℕ)
         → MapHolds world.heap i [] × ((xs : List Item) × BucketHolds world'.heap i xs × Ascends 0 xs) }
@@ -62,6 +75,10 @@ pub fn every_map_run_holds_sorted_lists()
 /// which is the one that the removal has read. At the step at which a call finds no entry of its key, there is none,
 /// and at the step at which it finds an entry of its key, that one is there.
 pub fn every_map_run_is_a_map()
+    // Only two kinds of steps change the entries of a bucket. The won exchange of an insert adds the entry of its node,
+    // whose key none of the entries had. The exchange by which a removal marks a node takes out the entry that the
+    // removal has read, which is of its key. At the step at which a call finds no entry of its key, there is none. At
+    // the step at which it finds one, this entry is there.
     ensures { (world world' new : State) (plans plans' : AllPlans MapPhase) (log : MapLog) (x : Entry)
         → IsNewMap world plans → MapRuns world plans log world' plans'
         → TakesStep world' x.step x.reply new → (i : ℕ) (vs : List ℕ) → MapHolds world'.heap i vs
@@ -71,5 +88,6 @@ pub fn every_map_run_is_a_map()
 
 /// The cells hold the entries of one map at most.
 pub fn every_heap_holds_one_map()
+    // The cells hold the entries of at most one map.
     ensures { (heap : Heap) (i : ℕ) (vs ws : List ℕ) → MapHolds heap i vs → MapHolds heap i ws → vs ≡ ws }
 {}

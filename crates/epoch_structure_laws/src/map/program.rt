@@ -103,6 +103,10 @@ fn again(aim: Aim, moves: u64) -> MapPhase
 /// The first phase of a call, where the held bag has room.
 #[inline(always)]
 pub fn start_work(work: MapWork) -> MapPhase
+    // The phases' code asks for what the program says, and goes on as it says; a call begins in the phase that the
+    // program says, which makes room first if the held bag has none. The phases' code asks for what the program says,
+    // and goes on as it says; a call begins in the phase that the program says, which makes room first if the held bag
+    // has none.
     ensures { result ≡ start_map_work work }
 {
     match work {

@@ -25,6 +25,8 @@ pub trait AtEnd<T>: Run {
     fn close(places: SharedPlaces<Job<Self>>) -> ClosedPlaces<Job<Self>>
     where
         Self: Sized,
+        // The end of a collector holds for every work type that implements `AtEnd`. Nothing but the close shows what
+        // the places had.
         ensures closed { closed places result };
 
     /// Takes out what is left in the next place, and calls its jobs, by [`end_next`]. Returns how many jobs it called.
@@ -55,6 +57,8 @@ impl<T: Drop> AtEnd<T> for Work {
 
 /// Calls every job that is left in closed places, place after place, and leaves none. Returns how many jobs it called.
 pub fn end_left<T: Drop, W: AtEnd<T>>(cells: &Cells<T>, left: &mut ClosedPlaces<Job<W>>) -> u64
+    // For each job that is left in closed places, `end_left` has called the work or tried the removal. It leaves no
+    // place, and returns how many jobs these were.
     ensures called { All (IsBagCalled (IsCalled W.done W.Removing.tried)) left.old }
     ensures count { result ≡ jobs_in left.old }
     ensures none { length left.new ≡ 0 }
@@ -94,8 +98,11 @@ fn tell_few<W>(bags: &[Option<SealedBag<Job<W>>>])
 /// called.
 pub fn end_bags<T: Drop, W: Run>(cells: &Cells<T>, bags: &mut [Option<SealedBag<Job<W>>>]) -> u64
     ensures count { result ≡ jobs_in bags.old }
+    // For each job of each bag, `end_bags` has called the work or tried the removal. It leaves every place of the slice
+    // `None`, and returns how many jobs the bags had.
     ensures called { (place : ℕ) → place < length bags.old
         → IsBagCalled (IsCalled W.done W.Removing.tried) (slice_index_or bags.old place None) }
+
     ensures few { result ≤ 64 * length bags.old }
     ensures none { (place : ℕ) → place < length bags.old → slice_index_or bags.new place None ≡ None }
 {

@@ -41,6 +41,7 @@ impl<J> SharedPlaces<J> {
     /// memory.
     pub fn close(self) -> ClosedPlaces<J>
         requires room { type_size (bag_row J.row) < 9223372036854775808 }
+        // What is left in closed places is, place by place, what stood there in a last state, which meets the rule.
         ensures { AreLast self.capacity result }
     {
         let SharedPlaces { table, capacity: _ } = self;

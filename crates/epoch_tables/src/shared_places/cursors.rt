@@ -10,7 +10,7 @@ ghost use Rattle.epoch_bags.specs.Places.{put_left, take_left};
 ghost use Rattle.epoch_tables.specs.SharedSteps.{RestsAt, HoldsAt, PutsAt, TakesAt, PutMoves, TakeMoves};
 
 use crate::shared_places::places::{PlaceSeat, SharedPlaces};
-use crate::shared_places::plays::Store;
+use crate::shared_places::plays::PlaceStore;
 use crate::shared_places::steps::word_index;
 use epoch_bags::queue::places::{EMPTY, is_expired_word, place_word, put_further, take_further};
 use epoch_bags::{Bag, Epoch, PutCursor, PutStep, SealedBag, TakeCursor, TakeStep};
@@ -92,7 +92,7 @@ impl<J: Default + Drop> SharedPlaces<J> {
         held.seal_into(seal, seat.slot_mut(&self.table.shared, place));
         self.table
             .shared
-            .store::<Store>(seat, word_index(place), place_word(seal.number()));
+            .store::<PlaceStore>(seat, word_index(place), place_word(seal.number()));
     }
 
     /// Returns the cursor of a collection that has taken no step: it looks at place 0 first.
@@ -123,8 +123,12 @@ impl<J: Default + Drop> SharedPlaces<J> {
         ensures kept { IsSamePlaceSeat seat.old seat.new }
         ensures at { TakesAt self.now.capacity expiry.number cursor.new seat.new.me }
         ensures rests { result ≢ TakeStep.Again → RestsAt seat.new.me }
+        // One step of a put or of a collection looks at one place, claims it, fills it or empties it, or goes on to the
+        // next one. After the last one the answer is `Full` or `Empty`. A look and a lost claim leave what the seat has
+        // in hand as it is. A won claim puts there what stood in the place, and that is the bag that a collection gets.
         ensures moves { TakeMoves self.now.capacity expiry.number cursor.old seat.old.me result
             cursor.new seat.new.me hand.new }
+
         ensures fewer { result ≢ TakeStep.Empty
             → take_left self.now.capacity cursor.new < take_left self.now.capacity cursor.old }
         ensures not { result ≢ TakeStep.Got → hand.new ≡ hand.old }
@@ -175,6 +179,6 @@ impl<J: Default + Drop> SharedPlaces<J> {
         mem::forget(mem::replace(hand, taken));
         self.table
             .shared
-            .store::<Store>(seat, word_index(place), EMPTY);
+            .store::<PlaceStore>(seat, word_index(place), EMPTY);
     }
 }

@@ -23,8 +23,8 @@ impl<J> Play<Option<SealedBag<J>>, PlaceView<J>> for PlaceClaim {
     ghost then = { ClaimsPlace };
 }
 
-pub struct Store;
+pub struct PlaceStore;
 
-impl<J> Play<Option<SealedBag<J>>, PlaceView<J>> for Store {
+impl<J> Play<Option<SealedBag<J>>, PlaceView<J>> for PlaceStore {
     ghost then = { StoresPlace };
 }

@@ -5,7 +5,7 @@ ghost use Rattle.epoch_tables.specs.SharedPlaces.{IsPlaceWord, IsAtHome, IsPlace
 ghost use Rattle.epoch_tables.specs.SharedPlaces.{after_place_claim, after_store};
 
 use crate::shared_places::places::{PlaceSeat, SharedPlaces};
-use crate::shared_places::plays::{PlaceClaim, PlaceLook, Store};
+use crate::shared_places::plays::{PlaceClaim, PlaceLook, PlaceStore};
 use epoch_bags::SealedBag;
 use epoch_bags::queue::places::{CLAIMED, EMPTY, place_word};
 use std::mem;
@@ -31,6 +31,7 @@ impl<J> SharedPlaces<J> {
         requires within { place < self.now.capacity }
         ensures kept { IsSamePlaceSeat seat.old seat.new }
         ensures answer { IsPlaceWord result }
+        // A look and a claim find a word at exactly the place asked for. A seat that wins a claim has the bag in hand.
         ensures view { seat.new.me ≡ (after_look seat.old.me.0 place result, seat.old.me.1) }
     {
         self.table.shared.load::<PlaceLook>(seat, word_index(place))
@@ -71,7 +72,7 @@ impl<J> SharedPlaces<J> {
         mem::swap(bag, seat.slot_mut(&self.table.shared, place));
         self.table
             .shared
-            .store::<Store>(seat, word_index(place), place_word(seal));
+            .store::<PlaceStore>(seat, word_index(place), place_word(seal));
     }
 
     /// Moves what the claimed place holds into `bag`, which is `None` before, and stores [`EMPTY`].
@@ -82,12 +83,13 @@ impl<J> SharedPlaces<J> {
         requires hand { (held : Option (Sealed J)) × (seat.old.me.1 ≡ (place, held) ∷ []) }
         requires none { bag.old ≡ None }
         ensures kept { IsSamePlaceSeat seat.old seat.new }
+        // A fill moves the bag into the place, and an empty moves it out.
         ensures bag { seat.old.me.1 ≡ (place, bag.new) ∷ [] }
         ensures view { seat.new.me ≡ (after_store seat.old.me.0 None, []) }
     {
         mem::swap(seat.slot_mut(&self.table.shared, place), bag);
         self.table
             .shared
-            .store::<Store>(seat, word_index(place), EMPTY);
+            .store::<PlaceStore>(seat, word_index(place), EMPTY);
     }
 }

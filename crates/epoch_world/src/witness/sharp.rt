@@ -22,6 +22,11 @@ pub fn sharp_steps<S: BagStore<Job = Deferral>>(
     alloc: Global,
     world: &mut World<S>,
 ) -> Result<Vec<Step>, Fault>
+    // `sharp_steps` takes a list of steps in a world over any store, and returns the list: the steps lead from the
+    // world's state before to the state after. The only error is `NoMemory`. If that world was new, of two positions,
+    // in epoch 0 and with a place, the steps end with a whole collection, which leaves a bag whose seal is one below
+    // the collection's epoch. Meanwhile a participant that did not defer the bag's job has stayed pinned since the
+    // deferral.
     ensures sharp { IfOk result (λ steps. LeadsToSharp world.old steps.items world.new) }
     ensures no_memory { IfErr result (λ fault. fault ≡ NoMemory) }
 {

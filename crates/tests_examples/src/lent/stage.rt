@@ -1,95 +1,115 @@
-//! Posts, cells, a lender and a collector for the pages whose values are lent, and calls on their handles.
+//! A domain for the pages whose values are lent, and calls of sessions and writers.
 ghost use Rattle.std.specs.Prelude.{◌≡◌, IsSome};
 
-use epoch_handles::{Capacities, Collector};
-use epoch_lend::readers::posts::{Made, PostSet, Posts};
-use epoch_lend_pointers::handle::{GuardOf, LendingHandle};
-use epoch_lend_pointers::marking::{Marking, collector_of};
-use epoch_lend_pointers::store::lender::Lender;
-use epoch_lend_pointers::store::lent_cells::LentCells;
+use crate::lent::{config, owners, service, sorted_list, work_queue};
+use epoch_lend_pointers::{
+    Domain, LendingGuard, LentCells, Made, PostSet, Posts, Session, Store, Writer,
+};
 use std::alloc::Global;
+use std::marker::Brand;
 use std::process::Abort;
+use std::sync::Wait;
+use std::sync::atomic::AtomicU64;
+use std::sync::atomic::Ordering::SeqCst;
+use std::thread::Threads;
 
-/// A collector of lent values.
-pub(crate) type Nodes<'q, 's, J, V> = Collector<V, Marking<'q, 's, J, V>>;
+/// The page that is run.
+#[derive(Clone, Copy)]
+pub(crate) enum Page {
+    Config,
+    Owners,
+    Service,
+    SortedList,
+    WorkQueue,
+}
 
-/// A participant of such a collector.
-pub(crate) type Handle<'d, 'q, 's, J, V> = LendingHandle<'d, 'q, 's, J, V>;
+/// What the threads of a run count.
+#[derive(Drop)]
+pub(crate) struct Tally {
+    pub(crate) first: AtomicU64,
+    pub(crate) second: AtomicU64,
+}
 
-/// Its guard.
-pub(crate) type Pin<'d, 'q, 's, J, V> = GuardOf<'d, 'q, 's, J, V>;
+/// Adds the number to the count.
+pub(crate) fn add(count: &AtomicU64, number: u64) {
+    let _ = count.fetch_add(number, SeqCst);
+}
 
-/// A collector of this lender's values. A thread that is stopped while it is pinned holds all bags back: there is a
-/// place for each that is put.
-pub(crate) fn collector<'q, 's, J: PostSet, V: Drop>(
-    rt: &impl Abort,
+/// Runs the page in a domain of posts for 8 threads and one more. Returns what was counted.
+pub(crate) fn play<R: Abort + Threads + Wait + Sync>(
+    rt: &R,
     alloc: Global,
-    lender: &'q Lender<'s, J, V>,
-) -> Nodes<'q, 's, J, V> {
-    let capacities = Capacities::usual(9, 0, 512);
-    assert!(rt; capacities.is_valid(), "the capacities are in their ranges");
-    collector_of(lender, alloc, capacities, 1).expect(rt, "memory for a collector")
+    page: Page,
+) -> (u64, u64) {
+    let made = Made::new(alloc, 9).expect(rt, "memory for posts");
+    begin::<Brand, R>(rt, alloc, made, page)
 }
 
-/// Posts for 8 threads and one more.
-pub(crate) fn made(rt: &impl Abort, alloc: Global) -> Made {
-    Made::new(alloc, 9).expect(rt, "memory for posts")
+fn begin<J: PostSet + Send + Sync, R: Abort + Threads + Wait + Sync>(
+    rt: &R,
+    alloc: Global,
+    made: Made,
+    page: Page,
+) -> (u64, u64)
+    requires { made.posts.items ≡ J.posts }
+{
+    let domain = Domain::new(Posts::<J>::of(alloc, made).expect(rt, "memory for posts"));
+    let tally = Tally {
+        first: AtomicU64::new(0),
+        second: AtomicU64::new(0),
+    };
+    match page {
+        Page::Config => config::run(rt, alloc, &domain, &tally),
+        Page::Owners => owners::run(rt, alloc, &domain, &tally),
+        Page::Service => service::run(rt, alloc, &domain),
+        Page::SortedList => sorted_list::run(rt, alloc, &domain, &tally),
+        Page::WorkQueue => work_queue::run(rt, alloc, &domain, &tally),
+    }
+    (tally.first.load(SeqCst), tally.second.load(SeqCst))
 }
 
-/// Cells of a lender, over these posts.
+/// Cells for a store in this domain.
 pub(crate) fn cells<J: PostSet, V: Drop>(
     rt: &impl Abort,
     alloc: Global,
-    made: Made,
-) -> LentCells<J, V>
-    requires { made.posts.items ≡ J.posts }
-{
-    let posts = Posts::<J>::of(alloc, made).expect(rt, "memory for posts");
-    LentCells::new(alloc, 2_048, posts).expect(rt, "memory for cells")
+    domain: &Domain<J>,
+) -> LentCells<J, V> {
+    LentCells::new(alloc, 2_048, domain).expect(rt, "memory for cells")
 }
 
-/// A new participant, for which a position and a post are free.
-pub(crate) fn register<'d, 'q, 's, J: PostSet, V: Drop>(
+/// A session, for which a post is free.
+pub(crate) fn session<'d, J: PostSet>(rt: &impl Abort, domain: &'d Domain<J>) -> Session<'d, J> {
+    domain.session().expect(rt, "a free post")
+}
+
+/// No guard of the session is out.
+pub(crate) fn want_idle<J: PostSet>(rt: &impl Abort, session: &Session<'_, J>)
+    ensures { IsSome session.now.reader }
+{
+    assert!(rt; session.can_pin(), "no guard of the session is out");
+}
+
+/// Pins the session.
+pub(crate) fn pin<'d, J: PostSet>(
+    rt: &impl Abort,
+    session: &mut Session<'d, J>,
+) -> LendingGuard<'d, J> {
+    want_idle(rt, session);
+    session.pin()
+}
+
+/// A writer of this store, for which there is memory.
+pub(crate) fn writer<'q, 's, J: PostSet, V: Drop>(
     rt: &impl Abort,
     alloc: Global,
-    nodes: &'d Nodes<'q, 's, J, V>,
-    lender: &'q Lender<'s, J, V>,
-) -> Handle<'d, 'q, 's, J, V> {
-    LendingHandle::register(alloc, nodes, lender).expect(rt, "a free post")
+    store: &'q Store<'s, J, V>,
+) -> Writer<'q, 's, J, V> {
+    Writer::new(alloc, store).expect(rt, "memory for a writer")
 }
 
-/// No guard of the handle is out.
-pub(crate) fn want_idle<J: PostSet, V: Drop>(rt: &impl Abort, handle: &Handle<'_, '_, '_, J, V>)
-    ensures free { IsSome handle.now.reader }
-    ensures none { handle.now.handle.machine.guards ≡ 0 }
-{
-    assert!(rt; handle.can_pin(), "no guard that lends is out");
-    assert!(rt; handle.guards_out() == 0, "no nested guard is out");
-}
-
-/// Pins the handle.
-pub(crate) fn pin<'d, 'q, 's, J: PostSet, V: Drop>(
-    rt: &impl Abort,
-    handle: &mut Handle<'d, 'q, 's, J, V>,
-) -> Pin<'d, 'q, 's, J, V> {
-    assert!(rt; handle.can_pin(), "no guard that lends is out");
-    handle.pin()
-}
-
-/// Spends a guard of the handle.
-pub(crate) fn unpin<'d, 'q, 's, J: PostSet, V: Drop>(
-    rt: &impl Abort,
-    handle: &mut Handle<'d, 'q, 's, J, V>,
-    guard: Pin<'d, 'q, 's, J, V>,
-) {
-    assert!(rt; handle.owns(&guard), "the guard is one of the handle");
-    handle.unpin(guard);
-}
-
-/// Releases the handle, whose bag finds a place.
-pub(crate) fn release<J: PostSet, V: Drop>(rt: &impl Abort, handle: Handle<'_, '_, '_, J, V>) {
-    assert!(rt; handle.guards_out() == 0, "each guard is spent");
-    if let Err((_back, fault)) = handle.release() {
+/// Releases the writer, for which there is memory.
+pub(crate) fn release<J: PostSet, V: Drop>(rt: &impl Abort, writer: Writer<'_, '_, J, V>) {
+    if let Err((_back, fault)) = writer.release() {
         panic!(rt; "{fault}");
     }
 }

@@ -1,195 +1,143 @@
-//! Threads that hand numbers to others.
-ghost use Rattle.std.specs.Prelude.{◌≡◌};
-
+//! Threads that hand jobs to others.
 use crate::calls::want;
-use crate::lent::stage::{
-    Handle, Nodes, cells, collector, made, pin, register, release, unpin, want_idle,
-};
-use epoch_examples::lent::work_queue::{receive, send};
-use epoch_lend::readers::posts::{Made, PostSet};
-use epoch_lend_nodes::ListNode;
-use epoch_lend_pointers::store::lender::Lender;
-use epoch_lists::queue::LendingQueue;
+use crate::lent::stage::{Page, Tally, add, cells, play, release, session, want_idle, writer};
+use epoch_examples::lent::work_queue::{JobNode, receive, send};
+use epoch_lend_pointers::{Domain, PostSet, Session, Store, Writer};
+use epoch_lists::{LendingQueue, OwnedNode};
 use std::alloc::Global;
-use std::marker::Brand;
 use std::process::Abort;
 use std::sync::Wait;
-use std::sync::atomic::AtomicU64;
 use std::sync::atomic::Ordering::SeqCst;
 use std::thread;
 use std::thread::Threads;
 
-/// A number on its way.
-type Number = ListNode<u64>;
-
 /// How many threads send, and as many receive.
 const SENDERS: u64 = 4;
 
-/// How many numbers each of them sends, from 1 on.
+/// How many jobs each of them sends, the first of one letter, and each one letter longer than the job before.
 const EACH: u64 = 100;
 
-/// How many numbers came, and what they add up to.
-#[derive(Drop)]
-struct Tally {
-    count: AtomicU64,
-    sum: AtomicU64,
-}
-
-impl Tally {
-    fn add(&self, number: u64) {
-        let _ = self.sum.fetch_add(number, SeqCst);
-        let _ = self.count.fetch_add(1, SeqCst);
-    }
-}
-
 /// An empty queue, for whose first node a cell is free.
-fn empty_queue<'d, 'q, 's, J: PostSet>(
+pub(crate) fn empty_queue<'q, 's, J: PostSet>(
     rt: &impl Abort,
-    handle: &mut Handle<'d, 'q, 's, J, Number>,
-) -> LendingQueue<'d, J, Number> {
-    let guard = pin(rt, handle);
-    let made = LendingQueue::new(&guard, ListNode::new(0));
-    unpin(rt, handle, guard);
+    alloc: Global,
+    store: &'q Store<'s, J, JobNode>,
+) -> LendingQueue<'q, 's, J, JobNode> {
+    let mut writer = writer(rt, alloc, store);
+    let made = LendingQueue::new(&mut writer, OwnedNode::empty());
+    release(rt, writer);
     match made {
         Ok(queue) => queue,
         Err(refused) => panic!(rt; "{} is a cell for the first node", refused.fault),
     }
 }
 
-/// Whether the number was sent.
-fn send_once<J: PostSet>(
+/// A job of this many letters.
+fn job_of(rt: &impl Abort, alloc: Global, letters: u64) -> String {
+    let mut job = String::new(alloc);
+    for _ in 0..letters {
+        job.push('a').expect(rt, "memory for a job");
+    }
+    job
+}
+
+/// Whether the job was sent.
+fn send_once<'s, J: PostSet>(
     rt: &impl Abort,
-    queue: &LendingQueue<'_, J, Number>,
-    handle: &mut Handle<'_, '_, '_, J, Number>,
-    number: u64,
+    queue: &LendingQueue<'_, 's, J, JobNode>,
+    session: &mut Session<'_, J>,
+    writer: &mut Writer<'_, 's, J, JobNode>,
+    job: String,
 ) -> bool {
-    want_idle(rt, handle);
-    send(queue, handle, number).is_ok()
+    want_idle(rt, session);
+    send(queue, session, writer, job).is_ok()
 }
 
-/// Sends the number. If it is refused, it is sent again after a pause.
-fn send_at_last<J: PostSet, R: Abort + Wait>(
-    rt: &R,
-    queue: &LendingQueue<'_, J, Number>,
-    handle: &mut Handle<'_, '_, '_, J, Number>,
-    number: u64,
-) {
-    for _ in rt.forever() {
-        if send_once(rt, queue, handle, number) {
-            return;
-        }
-        thread::yield_now();
-    }
-}
-
-fn send_each<'q, 's, J: PostSet, R: Abort + Wait>(
-    rt: &R,
-    alloc: Global,
-    lender: &'q Lender<'s, J, Number>,
-    nodes: &Nodes<'q, 's, J, Number>,
-    queue: &LendingQueue<'_, J, Number>,
-) {
-    let mut handle = register(rt, alloc, nodes, lender);
-    for number in 1..=EACH {
-        send_at_last(rt, queue, &mut handle, number);
-    }
-    release(rt, handle);
-}
-
-/// The number that came, if one did.
-fn receive_once<J: PostSet>(
+fn send_each<'s, J: PostSet>(
     rt: &impl Abort,
-    queue: &LendingQueue<'_, J, Number>,
-    handle: &mut Handle<'_, '_, '_, J, Number>,
-) -> Option<u64> {
-    want_idle(rt, handle);
-    receive(queue, handle).unwrap_or(None)
+    alloc: Global,
+    store: &Store<'s, J, JobNode>,
+    queue: &LendingQueue<'_, 's, J, JobNode>,
+) {
+    let mut session = session(rt, store.domain());
+    let mut writer = writer(rt, alloc, store);
+    for letters in 1..=EACH {
+        let job = job_of(rt, alloc, letters);
+        let is_sent = send_once(rt, queue, &mut session, &mut writer, job);
+        want(rt, "there is a cell for each job", is_sent, true);
+    }
+    release(rt, writer);
 }
 
-/// Takes numbers until all threads together have those that were sent.
-fn receive_some<'q, 's, J: PostSet, R: Abort + Wait>(
+/// How many letters the job has that came, if one did.
+fn receive_once<'s, J: PostSet>(
+    rt: &impl Abort,
+    queue: &LendingQueue<'_, 's, J, JobNode>,
+    session: &mut Session<'_, J>,
+    writer: &mut Writer<'_, 's, J, JobNode>,
+) -> Option<u64> {
+    want_idle(rt, session);
+    match receive(queue, session, writer) {
+        Ok(Some(job)) => Some(job.len() as u64),
+        _ => None,
+    }
+}
+
+/// Takes jobs until all threads together have those that were sent.
+fn receive_some<'s, J: PostSet, R: Abort + Wait>(
     rt: &R,
     alloc: Global,
-    lender: &'q Lender<'s, J, Number>,
-    nodes: &Nodes<'q, 's, J, Number>,
-    queue: &LendingQueue<'_, J, Number>,
+    store: &Store<'s, J, JobNode>,
+    queue: &LendingQueue<'_, 's, J, JobNode>,
     tally: &Tally,
 ) {
-    let mut handle = register(rt, alloc, nodes, lender);
+    let mut session = session(rt, store.domain());
+    let mut writer = writer(rt, alloc, store);
     for _ in rt.forever() {
-        if tally.count.load(SeqCst) == SENDERS * EACH {
+        if tally.first.load(SeqCst) == SENDERS * EACH {
             break;
         }
-        match receive_once(rt, queue, &mut handle) {
-            Some(number) => tally.add(number),
+        match receive_once(rt, queue, &mut session, &mut writer) {
+            Some(letters) => {
+                add(&tally.second, letters);
+                add(&tally.first, 1);
+            }
             None => thread::yield_now(),
         }
     }
-    release(rt, handle);
+    release(rt, writer);
 }
 
-fn run_at_once<'q, 's, J: PostSet + Send + Sync, R: Abort + Threads + Wait + Sync>(
+fn run_at_once<'s, J: PostSet + Send + Sync, R: Abort + Threads + Wait + Sync>(
     rt: &R,
     alloc: Global,
-    lender: &'q Lender<'s, J, Number>,
-    nodes: &Nodes<'q, 's, J, Number>,
-    queue: &LendingQueue<'_, J, Number>,
+    store: &Store<'s, J, JobNode>,
+    queue: &LendingQueue<'_, 's, J, JobNode>,
     tally: &Tally,
 ) {
     thread::scope(thread::scope_env(), rt, |scope| {
         for _ in 0..SENDERS {
-            let _ = scope.spawn(move || send_each(rt, alloc, lender, nodes, queue));
-            let _ = scope.spawn(move || receive_some(rt, alloc, lender, nodes, queue, tally));
+            let _ = scope.spawn(move || send_each(rt, alloc, store, queue));
+            let _ = scope.spawn(move || receive_some(rt, alloc, store, queue, tally));
         }
     });
 }
 
-/// Sends and receives with an empty queue. It goes before its collector ends.
-fn run<'q, 's, J: PostSet + Send + Sync, R: Abort + Threads + Wait + Sync>(
+pub(crate) fn run<J: PostSet + Send + Sync, R: Abort + Threads + Wait + Sync>(
     rt: &R,
     alloc: Global,
-    lender: &'q Lender<'s, J, Number>,
-    nodes: &Nodes<'q, 's, J, Number>,
+    domain: &Domain<J>,
     tally: &Tally,
 ) {
-    let mut handle = register(rt, alloc, nodes, lender);
-    let queue = empty_queue(rt, &mut handle);
-    release(rt, handle);
-    run_at_once(rt, alloc, lender, nodes, &queue, tally);
-}
-
-fn begin<J: PostSet + Send + Sync, R: Abort + Threads + Wait + Sync>(
-    rt: &R,
-    alloc: Global,
-    made: Made,
-    tally: &Tally,
-)
-    requires { made.posts.items ≡ J.posts }
-{
-    let cells = cells::<J, Number>(rt, alloc, made);
-    let lender = Lender::new(alloc, &cells).expect(rt, "memory for a lender");
-    let nodes = collector(rt, alloc, &lender);
-    run(rt, alloc, &lender, &nodes, tally);
-    let _ = nodes.end();
-    let _ = lender.end(alloc);
-}
-
-fn play<R: Abort + Threads + Wait + Sync>(rt: &R, alloc: Global, tally: &Tally) {
-    let made = made(rt, alloc);
-    begin::<Brand, R>(rt, alloc, made, tally)
+    let mut cells = cells(rt, alloc, domain);
+    let store = Store::new(alloc, domain, &mut cells).expect(rt, "memory for a store");
+    run_at_once(rt, alloc, &store, &empty_queue(rt, alloc, &store), tally);
+    let _ = store.end(alloc);
 }
 
 #[test]
 fn four_threads_receive_what_four_others_send(rt: HostRuntime) {
-    let tally = Tally {
-        count: AtomicU64::new(0),
-        sum: AtomicU64::new(0),
-    };
-    play(&rt, rt.alloc(), &tally);
-    want(
-        &rt,
-        "the sum of what came",
-        tally.sum.load(SeqCst),
-        4 * 5050,
-    );
+    let (count, letters) = play(&rt, rt.alloc(), Page::WorkQueue);
+    want(&rt, "how many jobs came", count, SENDERS * EACH);
+    want(&rt, "their letters", letters, SENDERS * 5050);
 }

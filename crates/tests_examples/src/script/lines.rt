@@ -15,7 +15,7 @@ fn lines_may_be_empty_and_the_last_one_may_end_with_the_input(rt: HostRuntime) {
 }
 
 /// First lines that are no shape.
-const NO_SHAPES: &[&str] = &[
+pub const NO_SHAPES: &[&str] = &[
     "shape",
     "shape ",
     "register",
@@ -60,7 +60,7 @@ fn a_line_that_is_no_shape_is_told_of(rt: HostRuntime) {
 }
 
 /// Further lines that are no step.
-const NO_STEPS: &[&str] = &[
+pub const NO_STEPS: &[&str] = &[
     "shape 1 0 0 0 1 1 0 0",
     "nothing",
     " ",

@@ -8,11 +8,11 @@ use std::process::Abort;
 
 /// Numbers that look thrown, each from the one before.
 #[derive(Drop)]
-struct Dice(u64);
+pub struct Dice(pub u64);
 
 impl Dice {
     /// A number below `sides`.
-    fn throw(&mut self, sides: u64) -> u64
+    pub fn throw(&mut self, sides: u64) -> u64
         requires { 0 < sides }
         ensures { result < sides }
     {
@@ -69,7 +69,7 @@ const LINES: [&str; 40] = [
 ];
 
 /// A line of the grammar, with a number that mostly fits.
-fn thrown_line(alloc: Global, dice: &mut Dice) -> Result<String, AllocError> {
+pub fn thrown_line(alloc: Global, dice: &mut Dice) -> Result<String, AllocError> {
     let line = LINES[dice.throw(40) as usize];
     let number = dice.throw(3);
     lines_of(alloc, &[(number, number + 1, line)])
@@ -89,11 +89,11 @@ fn thrown_script(alloc: Global, dice: &mut Dice) -> Result<String, AllocError> {
 /// What may take the place of a byte of a script: what other lines are made of, and what no line has.
 const STRAY: [u8; 19] = *b"0123456789 -\nx\r\xff.+/";
 
-/// Puts up to two stray bytes in the place of others.
-fn spoil(dice: &mut Dice, script: &mut [u8]) {
+/// Puts up to two stray bytes in the place of others, among the first that there are so many of.
+pub fn spoil(dice: &mut Dice, script: &mut [u8], first: u64) {
     for _ in 0..dice.throw(3) {
         let stray = STRAY[dice.throw(19) as usize];
-        if let Some(byte) = script.get_mut(dice.throw(400) as usize) {
+        if let Some(byte) = script.get_mut(dice.throw(first.max(1)) as usize) {
             *byte = stray;
         }
     }
@@ -131,7 +131,7 @@ fn is_finished(rt: &impl Abort, script: u64, outcome: &ScriptOutcome) -> bool {
 fn is_spoiled_finished(rt: &impl Abort, alloc: Global, dice: &mut Dice, script: u64) -> bool {
     let lines = thrown_script(alloc, dice).expect(rt, "memory for a script");
     let mut lines = lines.into_bytes();
-    spoil(dice, &mut lines);
+    spoil(dice, &mut lines, 400);
     is_finished(rt, script, &outcome_of(alloc, &lines))
 }
 

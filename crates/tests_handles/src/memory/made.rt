@@ -12,7 +12,7 @@ use std::sync::atomic::AtomicU64;
 use std::sync::atomic::Ordering::SeqCst;
 
 /// A collector of two participants and one place, with this many cells; a bag takes one job, and a collection one bag.
-pub(crate) fn new_collector(alloc: Global, cells: u8) -> Result<Collector<u64>, Fault> {
+fn new_collector(alloc: Global, cells: u8) -> Result<Collector<u64>, Fault> {
     let capacities = Capacities {
         participants: 2,
         cells: cells as u32,

@@ -4,7 +4,7 @@ use crate::calls::{end, let_go, pin, register, release, unpin};
 use crate::memory::handles::round;
 use crate::memory::made::{Values, collector_at_last, values_at_last};
 use crate::pointers::seen::{lost_to_null, want_destroyed, want_owned, want_tag, want_value};
-use crate::wants::{want, want_err, want_ok};
+use crate::wants::{want, want_err, want_ok, want_some};
 use epoch::atomic::{Atomic, DeferDestroy, Owned, Shared, UpdateFault};
 use epoch::{Called, Collector, Fault, Guard, LocalHandle, unprotected};
 use std::process::Abort;
@@ -40,13 +40,16 @@ fn swap_two<'g>(
     (one, two)
 }
 
-/// The first value stands behind the pointer again, and is owned again.
+/// Null is swapped in for the second pointer. The first value stands behind the pointer again, and is owned again.
 fn store_back(
     rt: &impl Abort,
     guard: &Guard<'_, u64>,
     atomic: Atomic<u64>,
-    one: Shared<'_, u64>,
+    (one, two): (Shared<'_, u64>, Shared<'_, u64>),
 ) -> Owned<u64> {
+    let swapped = atomic.swap(Shared::null(), SeqCst, guard);
+    let before = want_ok(rt, "null takes no cell", swapped);
+    want(rt, "the second pointer", before == two, true);
     let stored = atomic.store(one, SeqCst, guard).is_ok();
     want(rt, "a pointer is stored", stored, true);
     want_owned(rt, "the first", atomic.try_into_owned(guard), (10, 0))
@@ -61,7 +64,7 @@ fn store_and_swap(
     let atomic = want_ok(rt, "a cell is free", Atomic::from_owned(first, guard));
     let (one, two) = swap_two(rt, guard, &atomic, second);
     let third = want_full_store(rt, guard, &atomic, third);
-    let first = store_back(rt, guard, atomic, one);
+    let first = store_back(rt, guard, atomic, (one, two));
     let last = Atomic::from(two).into_owned(guard);
     (first, want_owned(rt, "the second", last, (20, 5)), third)
 }
@@ -79,10 +82,13 @@ fn lose_and_place<'g>(
     let won = atomic.compare_and_set(null, owned, SeqCst, guard);
     let placed = want_ok(rt, "compare_and_set", won);
     want_value(rt, "the value that is placed", placed, 10);
+    // The lost exchange freed its cell again, for the next turn.
+    let name = want_some(rt, "it is named", placed.name());
+    want(rt, "its slot and turn", (name.slot(), name.turn()), (2, 2));
     placed
 }
 
-/// The pointer is exchanged for one with a tag, and that one for null. Returns the one with the tag.
+/// The pointer is exchanged for ones with tags, and the last one for null. Returns that one.
 fn exchange_for_null<'g>(
     rt: &impl Abort,
     guard: &'g Guard<'_, u64>,
@@ -90,9 +96,12 @@ fn exchange_for_null<'g>(
     placed: Shared<'g, u64>,
 ) -> Shared<'g, u64> {
     let null = Shared::<u64>::null();
-    let won = atomic.compare_exchange_weak(placed, placed.with_tag(3), SeqCst, SeqCst, guard);
-    let tagged = want_ok(rt, "compare_exchange_weak", won);
-    want(rt, "its tag", tagged.tag(), 3);
+    let won = atomic.compare_exchange_weak(placed, placed.with_tag(2), SeqCst, SeqCst, guard);
+    let other = want_ok(rt, "compare_exchange_weak", won);
+    want(rt, "its tag", other.tag(), 2);
+    let won = atomic.compare_exchange(other, placed.with_tag(3), SeqCst, SeqCst, guard);
+    let tagged = want_ok(rt, "compare_exchange", won);
+    want(rt, "the next tag", tagged.tag(), 3);
     let lost = atomic.compare_and_set_weak(placed, null, (SeqCst, SeqCst), guard);
     want(rt, "one with another tag", lost.is_err(), true);
     let won = atomic.compare_and_set_weak(tagged, null, SeqCst, guard);

@@ -1,41 +1,5 @@
 use super::*;
 
-// Two cells: the lost exchange frees the second one again, for its next turn.
-pub(crate) fn exchanges(rt: &impl Abort, alloc: Global, guard: &Guard<'_, u64>) {
-    let atomic = atomic(rt, alloc, 1234, guard);
-    let first = atomic.load(SeqCst, guard);
-    let won = atomic.compare_exchange(first, Shared::null(), SeqCst, SeqCst, guard);
-    let written = want_ok(rt, "the exchange is won", won);
-    want_pointer(rt, "null was written", written, Shared::null());
-    let new = owned(rt, alloc, 5678);
-    let lost = atomic.compare_exchange(first, new, SeqCst, SeqCst, guard);
-    let _ = lost_to_null(rt, lost, 5678);
-    // Each form goes on where the one before it left.
-    let new = owned(rt, alloc, 9).with_tag(2);
-    let won = atomic.compare_exchange(Shared::null(), new, SeqCst, SeqCst, guard);
-    let second = want_ok(rt, "compare_exchange is won", won);
-    let text = "Shared { name: Some(Name { slot: 2, turn: 1 }), tag: 2, .. }";
-    want_shown(rt, alloc, &second, text);
-    let won = atomic.compare_exchange_weak(second, second.with_tag(3), SeqCst, SeqCst, guard);
-    let third = want_ok(rt, "compare_exchange_weak is won", won);
-    want_tag(rt, "the third", third, 3);
-    let won = atomic.compare_and_set(third, second.with_tag(1), SeqCst, guard);
-    let fourth = want_ok(rt, "compare_and_set is won", won);
-    want_tag(rt, "the fourth", fourth, 1);
-    let orders = (SeqCst, Ordering::Acquire);
-    let won = atomic.compare_and_set_weak(fourth, second.with_tag(0), orders, guard);
-    let fifth = want_ok(rt, "compare_and_set_weak is won", won);
-    want_tag(rt, "the fifth", fifth, 0);
-    // The tags are compared, too.
-    let lost = atomic.compare_exchange_weak(second, Shared::null(), SeqCst, SeqCst, guard);
-    let CompareExchangeError { current, new } = changed(rt, lost);
-    want_pointer(rt, "what was found", current, fifth);
-    want_pointer(rt, "the new pointer is null", new, Shared::null());
-    want_pointer(rt, "it stays", atomic.load_consume(guard), fifth);
-    let clone = want_ok(rt, "a clone takes no memory", atomic.clone());
-    want_pointer(rt, "a clone", clone.load(SeqCst, guard), fifth);
-}
-
 // Updates to a pointer with tag 1, in at most this many tries. An update stops where the tag is 1.
 fn update<'g>(
     atomic: &Atomic<u64>,

@@ -1,55 +1,22 @@
 use super::*;
 
-// Writes the value behind the pointer.
-fn write(rt: &impl Abort, mut shared: Shared<'_, u64>, value: u64) {
-    let mut writing = want_some(rt, "a value is there", shared.deref_mut());
-    *writing.get_mut() = value;
-    writing.leave();
-}
-
 // Where no cell is free, each call that needs one is refused, and the Atomic stays as it was.
-fn refused(rt: &impl Abort, alloc: Global, atomic: &Atomic<u64>, guard: &Guard<'_, u64>) {
+pub(crate) fn refused(rt: &impl Abort, alloc: Global, guard: &Guard<'_, u64>) {
+    let atomic = atomic(rt, alloc, 1, guard);
     let before = atomic.load(SeqCst, guard);
     let stored = atomic.store(owned(rt, alloc, 2), SeqCst, guard);
-    want_true(rt, "no third value is stored", stored.is_err());
+    want_true(rt, "no second value is stored", stored.is_err());
     let swapped = atomic.swap(owned(rt, alloc, 3), SeqCst, guard);
-    want_true(rt, "no third value is swapped", swapped.is_err());
+    want_true(rt, "no second value is swapped", swapped.is_err());
     let made = Atomic::from_owned(owned(rt, alloc, 4), guard);
-    want_true(rt, "no Atomic is made of a third value", made.is_err());
+    want_true(rt, "no Atomic is made of a second value", made.is_err());
     let placed = owned(rt, alloc, 5).into_shared(guard);
-    want_true(rt, "no third value is placed", placed.is_err());
+    want_true(rt, "no second value is placed", placed.is_err());
     let new = owned(rt, alloc, 6);
     let exchanged = atomic.compare_exchange(before, new, SeqCst, SeqCst, guard);
     let text = "Err(Full(Owned { tag: 0, .. }))";
     want_shown(rt, alloc, &exchanged, text);
     want_pointer(rt, "it stays", atomic.load(SeqCst, guard), before);
-}
-
-// Two cells.
-pub(crate) fn stored_and_swapped(rt: &impl Abort, alloc: Global, guard: &Guard<'_, u64>) {
-    let atomic = atomic(rt, alloc, 6, guard);
-    let first = atomic.load(SeqCst, guard);
-    write(rt, first, 7);
-    want_value(rt, "the first value", first, 7);
-    let swapped = atomic.swap(owned(rt, alloc, 8).with_tag(5), SeqCst, guard);
-    let before = want_ok(rt, "a cell is free", swapped);
-    want_pointer(rt, "the first comes back", before, first);
-    let second = atomic.load(SeqCst, guard);
-    want_tag(rt, "the second tag", second, 5);
-    want_value(rt, "the second value", second, 8);
-    refused(rt, alloc, &atomic, guard);
-    let stored = atomic.store(first, SeqCst, guard);
-    want_true(rt, "a pointer is stored", stored.is_ok());
-    let swapped = atomic.swap(Shared::null(), SeqCst, guard);
-    let before = want_ok(rt, "null takes no cell", swapped);
-    want_pointer(rt, "the first comes back again", before, first);
-    let _ = want_owned(rt, "the second", second.try_into_owned(), (8, 5));
-    // Its cell is free then.
-    let stored = atomic.store(owned(rt, alloc, 9), SeqCst, guard);
-    want_true(rt, "a value is stored", stored.is_ok());
-    let _ = want_owned(rt, "the third", atomic.into_owned(guard), (9, 0));
-    want_true(rt, "the first stays", first.into_owned().is_some());
-    want_true(rt, "it is gone", first.into_owned().is_none());
 }
 
 // Whether the owned value is not taken back, and the same pointer handed on.

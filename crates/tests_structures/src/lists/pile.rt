@@ -1,11 +1,11 @@
 //! A stack or a queue, by calls that both have, and what the calls have to answer.
-use crate::lending::{Handle, Pin, Told, flush_if, pin, unpin};
+use crate::lending::{Part, Told, flush_if, pin};
 use crate::wants::want;
 use epoch_cells::{Fault, Refused};
 use epoch_lend::readers::posts::PostSet;
-use epoch_lend_nodes::ListNode;
-use epoch_lists::queue::LendingQueue;
-use epoch_lists::stack::LendingStack;
+use epoch_lend::session::LendingGuard;
+use epoch_lend_pointers::Writer;
+use epoch_lists::{LendingQueue, LendingStack, ListNode};
 use std::process::Abort;
 
 /// A node of the stacks and queues.
@@ -13,9 +13,9 @@ pub(crate) type Link = ListNode<u64>;
 
 /// A stack or a queue.
 #[derive(Drop)]
-pub(crate) enum Pile<'c, J: PostSet> {
-    Stack(LendingStack<'c, J, Link>),
-    Queue(LendingQueue<'c, J, Link>),
+pub(crate) enum Pile<'q, 's, J: PostSet> {
+    Stack(LendingStack<'q, 's, J, Link>),
+    Queue(LendingQueue<'q, 's, J, Link>),
 }
 
 /// A call on a pile.
@@ -58,35 +58,34 @@ pub(crate) fn value_of(lent: Result<Option<&Link>, Fault>) -> Told {
     }
 }
 
-impl<'c, J: PostSet> Pile<'c, J> {
+impl<'q, 's, J: PostSet> Pile<'q, 's, J> {
     /// Makes the call, in at most this many tries. A push lends none.
-    fn call<'g, 'd, 'q, 's>(
+    fn call<'g>(
         &'g self,
         rt: &impl Abort,
-        handle: &mut Handle<'d, 'q, 's, J, Link>,
-        guard: &'g Pin<'d, 'q, 's, J, Link>,
-        call: Call,
-        tries: u32,
+        writer: &mut Writer<'_, 's, J, Link>,
+        guard: &'g LendingGuard<'_, J>,
+        (call, tries): (Call, u32),
     ) -> Result<Option<&'g Link>, Fault> {
         match (self, call) {
             (Pile::Stack(stack), Call::Push(value)) => {
-                let answer = stack.push(handle, guard, ListNode::new(value), tries);
+                let answer = stack.push(writer, guard, ListNode::new(value), tries);
                 pushed(rt, value, tries, answer)
             }
             (Pile::Queue(queue), Call::Push(value)) => {
-                let answer = queue.push(handle, guard, ListNode::new(value), tries);
+                let answer = queue.push(writer, guard, ListNode::new(value), tries);
                 pushed(rt, value, tries, answer)
             }
-            (Pile::Stack(stack), Call::Pop) => stack.pop(handle, guard, tries),
-            (Pile::Queue(queue), Call::Pop) => queue.pop(handle, guard, tries),
+            (Pile::Stack(stack), Call::Pop) => stack.pop(writer, guard, tries),
+            (Pile::Queue(queue), Call::Pop) => queue.pop(writer, guard, tries),
             (_, Call::Peek) => self.peek(guard),
         }
     }
 
     /// Looks at the node that comes off next.
     pub(crate) fn peek<'g>(
-        &self,
-        guard: &'g Pin<'_, '_, '_, J, Link>,
+        &'g self,
+        guard: &'g LendingGuard<'_, J>,
     ) -> Result<Option<&'g Link>, Fault> {
         match self {
             Pile::Stack(stack) => stack.peek(guard),
@@ -95,7 +94,7 @@ impl<'c, J: PostSet> Pile<'c, J> {
     }
 
     /// Whether it is empty.
-    fn is_empty(&self, guard: &Pin<'_, '_, '_, J, Link>) -> bool {
+    fn is_empty(&self, guard: &LendingGuard<'_, J>) -> bool {
         match self {
             Pile::Stack(stack) => stack.is_empty(guard),
             Pile::Queue(queue) => queue.is_empty(guard),
@@ -105,43 +104,43 @@ impl<'c, J: PostSet> Pile<'c, J> {
 
 /// Makes the call under a pin of its own, and flushes if that is wanted. What the call lent is read before the flush,
 /// and once more behind it, and is the same.
-pub(crate) fn call_once<J: PostSet>(
+pub(crate) fn call_once<'s, J: PostSet>(
     rt: &impl Abort,
-    pile: &Pile<'_, J>,
-    handle: &mut Handle<'_, '_, '_, J, Link>,
-    (call, tries): (Call, u32),
+    pile: &Pile<'_, 's, J>,
+    part: &mut Part<'_, 's, J, Link>,
+    row: (Call, u32),
     flushes: bool,
 ) -> Told {
-    let guard = pin(rt, handle);
-    let lent = pile.call(rt, handle, &guard, call, tries);
+    let guard = pin(rt, &mut part.session);
+    let lent = pile.call(rt, &mut part.writer, &guard, row);
     let told = value_of(lent);
-    flush_if(handle, &guard, flushes);
+    flush_if(&mut part.writer, flushes);
     want(rt, "a value that is read once more", value_of(lent), told);
-    unpin(rt, handle, guard);
+    part.session.unpin(guard);
     told
 }
 
 /// Whether the pile says that it is empty.
-fn want_emptiness<J: PostSet>(
+fn want_emptiness<'s, J: PostSet>(
     rt: &impl Abort,
-    pile: &Pile<'_, J>,
-    handle: &mut Handle<'_, '_, '_, J, Link>,
+    pile: &Pile<'_, 's, J>,
+    part: &mut Part<'_, 's, J, Link>,
     wanted: bool,
 ) {
-    let guard = pin(rt, handle);
+    let guard = pin(rt, &mut part.session);
     let is_empty = pile.is_empty(&guard);
-    unpin(rt, handle, guard);
+    part.session.unpin(guard);
     want(rt, "whether it is empty", is_empty, wanted);
 }
 
 /// The call answers so. Where a look does, whether the pile is empty agrees.
-pub(crate) fn want_call<J: PostSet>(
+pub(crate) fn want_call<'s, J: PostSet>(
     rt: &impl Abort,
-    pile: &Pile<'_, J>,
-    handle: &mut Handle<'_, '_, '_, J, Link>,
+    pile: &Pile<'_, 's, J>,
+    part: &mut Part<'_, 's, J, Link>,
     (call, tries, wanted): Row,
 ) {
-    let told = call_once(rt, pile, handle, (call, tries), false);
+    let told = call_once(rt, pile, part, (call, tries), false);
     let what = match call {
         Call::Push(_) => "a push",
         Call::Pop => "a pop",
@@ -149,18 +148,18 @@ pub(crate) fn want_call<J: PostSet>(
     };
     want(rt, what, told, wanted);
     if let (Call::Peek, Ok(found)) = (call, wanted) {
-        want_emptiness(rt, pile, handle, found.is_none());
+        want_emptiness(rt, pile, part, found.is_none());
     }
 }
 
 /// These calls answer so, one after the other.
-pub(crate) fn want_rows<J: PostSet>(
+pub(crate) fn want_rows<'s, J: PostSet>(
     rt: &impl Abort,
-    pile: &Pile<'_, J>,
-    handle: &mut Handle<'_, '_, '_, J, Link>,
+    pile: &Pile<'_, 's, J>,
+    part: &mut Part<'_, 's, J, Link>,
     rows: &[Row],
 ) {
     for row in rows {
-        want_call(rt, pile, handle, *row);
+        want_call(rt, pile, part, *row);
     }
 }

@@ -1,7 +1,7 @@
 //! Calls of one thread, as tables.
-use crate::map::calls::Call::{Get, Insert, Remove};
+use crate::map::calls::Call::{Get, GetHelping, Insert, Remove};
 use crate::map::calls::{Pinned, Row};
-use crate::map::scenes::{Deed, play};
+use crate::map::scenes::{Deed, play_map};
 use epoch_cells::Fault;
 
 /// No call was refused, and no value is there.
@@ -27,7 +27,7 @@ const ENTRIES: &[Pinned] = &[(
 
 #[test]
 fn entries_are_inserted_found_and_removed(rt: HostRuntime) {
-    play(&rt, rt.alloc(), Deed::Calls(ENTRIES), (1, 8, 3))
+    play_map(&rt, rt.alloc(), Deed::Calls(ENTRIES), (1, 8, 3))
 }
 
 // Keys 1, 3 and 5 stand in one bucket. A look-up of 5 begins at the root and goes on to three nodes: it takes four
@@ -49,19 +49,19 @@ const MOVES: &[Pinned] = &[(
 
 #[test]
 fn a_look_up_takes_a_move_for_each_node(rt: HostRuntime) {
-    play(&rt, rt.alloc(), Deed::Calls(MOVES), (0, 4, 3))
+    play_map(&rt, rt.alloc(), Deed::Calls(MOVES), (0, 4, 3))
 }
 
-/// Calls with a guard of another collector, whose values the same lender has.
+/// Calls with a writer of another store of the same domain.
 pub(crate) const OF_STRANGERS: &[Row] = &[
     (Insert(1, 1), 9, Err(Fault::StrangerGuard)),
     (Remove(1), 9, Err(Fault::StrangerGuard)),
-    (Get(1), 9, Err(Fault::StrangerGuard)),
+    (GetHelping(1), 9, Err(Fault::StrangerGuard)),
 ];
 
 #[test]
-fn a_guard_of_another_collector_is_refused(rt: HostRuntime) {
-    play(&rt, rt.alloc(), Deed::Strangers, (0, 2, 0))
+fn a_writer_of_another_store_is_refused(rt: HostRuntime) {
+    play_map(&rt, rt.alloc(), Deed::Strangers, (0, 2, 0))
 }
 
 // Two cells: a third entry finds none, until an entry is removed and its node was dropped.
@@ -81,7 +81,7 @@ const CELLS: &[Pinned] = &[
 
 #[test]
 fn the_cell_of_a_removed_entry_is_used_again(rt: HostRuntime) {
-    play(&rt, rt.alloc(), Deed::Calls(CELLS), (0, 2, 2))
+    play_map(&rt, rt.alloc(), Deed::Calls(CELLS), (0, 2, 2))
 }
 
 // Keys that differ in their upper 32 bits alone are different keys, in their order.
@@ -105,11 +105,11 @@ const WIDE: &[Pinned] = &[(
 
 #[test]
 fn keys_of_64_bits_are_told_apart(rt: HostRuntime) {
-    play(&rt, rt.alloc(), Deed::Calls(WIDE), (0, 8, 3))
+    play_map(&rt, rt.alloc(), Deed::Calls(WIDE), (0, 8, 3))
 }
 
-// What a map holds is seen under a guard alone, so debug shows the number of its collector.
+// What a map holds is seen under a guard alone, so debug shows the number of its store.
 #[test]
-fn a_map_is_shown_by_the_number_of_its_collector(rt: HostRuntime) {
-    play(&rt, rt.alloc(), Deed::Shown, (1, 1, 0))
+fn a_map_is_shown_by_the_number_of_its_store(rt: HostRuntime) {
+    play_map(&rt, rt.alloc(), Deed::Shown, (1, 1, 0))
 }

@@ -1,7 +1,7 @@
 //! Random calls on one thread, beside a map of std that is given the same ones.
-use crate::lending::{Handle, next_number, rounds};
+use crate::lending::{Part, next_number, rounds};
 use crate::map::calls::{Call, Map, Node, want_rows};
-use crate::map::scenes::{Deed, play};
+use crate::map::scenes::{Deed, play_map};
 use crate::wants::want;
 use epoch_lend::readers::posts::PostSet;
 use std::alloc::Global;
@@ -48,46 +48,46 @@ fn call_model(rt: &impl Abort, model: &mut BTreeMap<u64, u64>, call: Call) -> Op
 }
 
 /// The call answers as that on the map of std.
-fn call_both<J: PostSet>(
+fn call_both<'s, J: PostSet>(
     rt: &impl Abort,
-    map: &Map<'_, J>,
-    handle: &mut Handle<'_, '_, '_, J, Node>,
+    map: &Map<'_, 's, J>,
+    part: &mut Part<'_, 's, J, Node>,
     model: &mut BTreeMap<u64, u64>,
     call: Call,
 ) {
     let there = call_model(rt, model, call);
-    want_rows(rt, map, handle, &[(call, MOVES, Ok(there))]);
+    want_rows(rt, map, part, &[(call, MOVES, Ok(there))]);
 }
 
-/// Makes all calls, and then removes what is left. A round after each few calls has nodes dropped, so that cells are
+/// Makes all calls, and then removes what is left. A flush after each few calls has nodes dropped, so that cells are
 /// used again and again.
-pub(crate) fn compare<J: PostSet>(
+pub(crate) fn compare<'s, J: PostSet>(
     rt: &impl Abort,
     alloc: Global,
-    map: &Map<'_, J>,
-    handle: &mut Handle<'_, '_, '_, J, Node>,
+    map: &Map<'_, 's, J>,
+    part: &mut Part<'_, 's, J, Node>,
 ) {
     let mut model = BTreeMap::new(alloc);
     let mut number = 0;
     for calls in 0..CALLS {
         number = next_number(number);
-        call_both(rt, map, handle, &mut model, call_of(number));
+        call_both(rt, map, part, &mut model, call_of(number));
         if calls % 16 == 0 {
-            rounds(rt, handle, 1);
+            rounds(rt, part, 1);
         }
     }
     for number in 0..KEYS {
         let call = Call::Remove(key_of(number));
-        call_both(rt, map, handle, &mut model, call);
+        call_both(rt, map, part, &mut model, call);
     }
 }
 
 #[test]
 fn random_calls_on_one_bucket_answer_as_a_map_of_std(rt: HostRuntime) {
-    play(&rt, rt.alloc(), Deed::Random, (0, 128, 0))
+    play_map(&rt, rt.alloc(), Deed::Random, (0, 128, 0))
 }
 
 #[test]
 fn random_calls_on_eight_buckets_answer_as_a_map_of_std(rt: HostRuntime) {
-    play(&rt, rt.alloc(), Deed::Random, (3, 128, 0))
+    play_map(&rt, rt.alloc(), Deed::Random, (3, 128, 0))
 }

@@ -1,18 +1,15 @@
 //! Keys and values of the user's own: books, which are found by where they stand.
-ghost use Rattle.std.specs.Prelude.{◌≡◌};
 ghost use Rattle.std.proofs.Common.{rules};
 ghost use Rattle.std.specs.Cmp.Rules.{comparing};
 
-use crate::lending::{Handle, Pin, collector, pin, register, release, rounds, unpin};
+use crate::lending::{Part, Scene, join, leave, pin, play, rounds};
 use crate::wants::want;
 use epoch_cells::{Fault, Refused};
-use epoch_handles::Capacities;
-use epoch_lend::readers::posts::{Made, PostSet, Posts};
-use epoch_lend_pointers::store::lender::Lender;
-use epoch_lend_pointers::store::lent_cells::LentCells;
+use epoch_lend::readers::posts::PostSet;
+use epoch_lend::session::LendingGuard;
+use epoch_lend_pointers::{Store, Writer};
 use epoch_map::{LendingMap, LentEntry, MapKey};
 use std::alloc::Global;
-use std::marker::Brand;
 use std::process::Abort;
 use std::sync::Arc;
 use std::sync::atomic::AtomicU64;
@@ -57,7 +54,7 @@ impl Drop for Book {
 
 type Node = LentEntry<Place, Book>;
 
-type Map<'c, J> = LendingMap<'c, J, Node>;
+type Map<'q, 's, J> = LendingMap<'q, 's, J, Node>;
 
 /// More moves than any call here takes.
 const MOVES: u32 = 20;
@@ -137,7 +134,7 @@ const ULYSSES: Told = Ok(Some((7, 1)));
 
 const MIDDLEMARCH: Told = Ok(Some((11, 0x10)));
 
-/// What is done under one guard, and which drops there were after its unpin and as many rounds as it takes until what
+/// What is done under one guard, and which drops there were after its unpin and as many flushes as it takes until what
 /// was retired is dropped.
 type Pinned = (&'static [Row], u64);
 
@@ -167,97 +164,78 @@ const PINS: &[Pinned] = &[
 ];
 
 /// What this is answered.
-fn answer<'d, 'q, 's, J: PostSet>(
+fn answer<'s, J: PostSet>(
     rt: &impl Abort,
     alloc: Global,
-    map: &Map<'_, J>,
-    (handle, guard): (&mut Handle<'d, 'q, 's, J, Node>, &Pin<'d, 'q, 's, J, Node>),
+    map: &Map<'_, 's, J>,
+    (writer, guard): (&mut Writer<'_, 's, J, Node>, &LendingGuard<'_, J>),
     drops: &Arc<AtomicU64>,
     (digit, deed): (u32, Deed),
 ) -> Told {
     match deed {
         Deed::Shelve(title) => {
             let node = make_book(rt, alloc, drops, title, (digit, digit));
-            inserted(map.insert(handle, guard, node, MOVES))
+            inserted(map.insert(writer, guard, node, MOVES))
         }
         Deed::ShelveAt(title, place) => {
             let node = make_book(rt, alloc, drops, title, (digit, place));
-            inserted(map.insert(handle, guard, node, MOVES))
+            inserted(map.insert(writer, guard, node, MOVES))
         }
         Deed::Get => told(map.get(guard, &place_of(digit), MOVES)),
-        Deed::Remove => told(map.remove(handle, guard, &place_of(digit), MOVES)),
+        Deed::Remove => told(map.remove(writer, guard, &place_of(digit), MOVES)),
     }
 }
 
 /// All this is done under one guard.
-fn want_rows<J: PostSet>(
+fn want_rows<'s, J: PostSet>(
     rt: &impl Abort,
     alloc: Global,
-    map: &Map<'_, J>,
-    handle: &mut Handle<'_, '_, '_, J, Node>,
+    map: &Map<'_, 's, J>,
+    part: &mut Part<'_, 's, J, Node>,
     drops: &Arc<AtomicU64>,
     rows: &[Row],
 ) {
-    let guard = pin(rt, handle);
+    let guard = pin(rt, &mut part.session);
     for (digit, deed, wanted) in rows {
-        let seen = answer(
-            rt,
-            alloc,
-            map,
-            (&mut *handle, &guard),
-            drops,
-            (*digit, *deed),
-        );
-        want(
-            rt,
-            "what is done with a book",
-            (*digit, seen),
-            (*digit, *wanted),
-        );
+        let both = (&mut part.writer, &guard);
+        let seen = answer(rt, alloc, map, both, drops, (*digit, *deed));
+        want(rt, "the book of a deed", (*digit, seen), (*digit, *wanted));
     }
-    unpin(rt, handle, guard);
+    part.session.unpin(guard);
 }
 
-/// All this is done, under one guard after the other.
-fn want_pins<J: PostSet>(
-    rt: &impl Abort,
-    alloc: Global,
-    map: &Map<'_, J>,
-    handle: &mut Handle<'_, '_, '_, J, Node>,
-    drops: &Arc<AtomicU64>,
-) {
-    for (rows, dropped) in PINS {
-        want_rows(rt, alloc, map, handle, drops, rows);
-        rounds(rt, handle, 5);
-        want(rt, "the drops", drops.load(SeqCst), *dropped);
+/// What is done with the books of a map.
+#[derive(Drop)]
+struct BookScene<'a> {
+    drops: &'a Arc<AtomicU64>,
+}
+
+impl Scene for BookScene<'_> {
+    type Node = Node;
+
+    fn act<'s, R: Abort, J: PostSet>(
+        self,
+        rt: &R,
+        alloc: Global,
+        store: &Store<'s, J, Node>,
+        _others: &Store<'s, J, Node>,
+    ) {
+        let BookScene { drops } = self;
+        let map = LendingMap::new(alloc, store, 1).expect(rt, "memory for a map");
+        let mut part = join(rt, alloc, store);
+        for (rows, dropped) in PINS {
+            want_rows(rt, alloc, &map, &mut part, drops, rows);
+            rounds(rt, &mut part, 5);
+            want(rt, "the drops", drops.load(SeqCst), *dropped);
+        }
+        leave(rt, part);
     }
-}
-
-fn begin<J: PostSet>(rt: &impl Abort, alloc: Global, made: Made, drops: &Arc<AtomicU64>)
-    requires { made.posts.items ≡ J.posts }
-{
-    let posts = Posts::<J>::of(alloc, made).expect(rt, "memory for posts");
-    let cells = LentCells::new(alloc, 4, posts).expect(rt, "memory for cells");
-    let lender = Lender::new(alloc, &cells).expect(rt, "memory for a lender");
-    let nodes = collector(rt, alloc, &lender, Capacities::usual(1, 0, 64), 1);
-    let map = LendingMap::new(alloc, &nodes, 1).expect(rt, "memory for a map");
-    let mut handle = register(rt, alloc, &nodes, &lender);
-    want_pins(rt, alloc, &map, &mut handle, drops);
-    release(rt, handle, 1);
-    drop(map);
-    let _ = nodes.end();
-    want(rt, "how many books are left", lender.end(alloc), 3);
-}
-
-fn play(rt: &impl Abort, alloc: Global, drops: &Arc<AtomicU64>) {
-    let made = Made::new(alloc, 1).expect(rt, "memory for posts");
-    begin::<Brand>(rt, alloc, made, drops)
 }
 
 #[test]
 fn books_are_lent_by_their_places_and_dropped_once(rt: HostRuntime) -> Result<(), Fail> {
     let drops = Arc::new(rt.alloc(), AtomicU64::new(0))?;
-    play(&rt, rt.alloc(), &drops);
+    play(&rt, rt.alloc(), (4, 3), BookScene { drops: &drops });
     want(&rt, "every drop", drops.load(SeqCst), 0x1001_1111);
     Ok(())
 }

@@ -1,8 +1,10 @@
 //! Calls on a map of numbers as the tests make them, and what they have to answer.
-use crate::lending::{Handle, Pin, Told, pin, rounds, unpin};
+use crate::lending::{Part, Told, pin, rounds};
 use crate::wants::want;
 use epoch_cells::{Fault, Refused};
 use epoch_lend::readers::posts::PostSet;
+use epoch_lend::session::LendingGuard;
+use epoch_lend_pointers::Writer;
 use epoch_map::{LendingMap, LentEntry};
 use std::process::Abort;
 
@@ -10,7 +12,7 @@ use std::process::Abort;
 pub(crate) type Node = LentEntry<u64, u64>;
 
 /// A map of such nodes.
-pub(crate) type Map<'c, J> = LendingMap<'c, J, Node>;
+pub(crate) type Map<'q, 's, J> = LendingMap<'q, 's, J, Node>;
 
 /// A call on a map, with a key, and a value for an insert.
 #[derive(Clone, Copy)]
@@ -24,7 +26,7 @@ pub(crate) enum Call {
 /// A call in at most this many moves, and what it answers.
 pub(crate) type Row = (Call, u32, Told);
 
-/// Calls under one guard, and how many rounds are made after its unpin.
+/// Calls under one guard, and how many flushes are made after its unpin.
 pub(crate) type Pinned = (&'static [Row], u32);
 
 /// What a call answered that lends a node: the node's value.
@@ -58,21 +60,21 @@ fn told(
 }
 
 /// What the call answers in at most this many moves.
-pub(crate) fn answer<'d, 'q, 's, J: PostSet>(
+pub(crate) fn answer<'s, J: PostSet>(
     rt: &impl Abort,
-    map: &Map<'_, J>,
-    handle: &mut Handle<'d, 'q, 's, J, Node>,
-    guard: &Pin<'d, 'q, 's, J, Node>,
+    map: &Map<'_, 's, J>,
+    writer: &mut Writer<'_, 's, J, Node>,
+    guard: &LendingGuard<'_, J>,
     (call, moves): (Call, u32),
 ) -> Told {
     match call {
         Call::Insert(key, value) => {
-            let inserted = map.insert(handle, guard, LentEntry::new(key, value), moves);
+            let inserted = map.insert(writer, guard, LentEntry::new(key, value), moves);
             told(rt, value, inserted)
         }
-        Call::Remove(key) => value_of(map.remove(handle, guard, &key, moves)),
+        Call::Remove(key) => value_of(map.remove(writer, guard, &key, moves)),
         Call::Get(key) => value_of(map.get(guard, &key, moves)),
-        Call::GetHelping(key) => value_of(map.get_helping(handle, guard, &key, moves)),
+        Call::GetHelping(key) => value_of(map.get_helping(writer, guard, &key, moves)),
     }
 }
 
@@ -85,18 +87,18 @@ fn is_there(wanted: Told) -> Result<bool, Fault> {
 }
 
 /// The call answers so. A look-up that helps does too, and what `contains` says agrees.
-pub(crate) fn want_row<'d, 'q, 's, J: PostSet>(
+pub(crate) fn want_row<'s, J: PostSet>(
     rt: &impl Abort,
-    map: &Map<'_, J>,
-    handle: &mut Handle<'d, 'q, 's, J, Node>,
-    guard: &Pin<'d, 'q, 's, J, Node>,
+    map: &Map<'_, 's, J>,
+    writer: &mut Writer<'_, 's, J, Node>,
+    guard: &LendingGuard<'_, J>,
     (call, moves, wanted): Row,
 ) {
-    let seen = answer(rt, map, handle, guard, (call, moves));
+    let seen = answer(rt, map, writer, guard, (call, moves));
     want(rt, "a call on a map", seen, wanted);
     if let Call::Get(key) = call {
         let helping = (Call::GetHelping(key), moves);
-        let helped = answer(rt, map, handle, guard, helping);
+        let helped = answer(rt, map, writer, guard, helping);
         want(rt, "a look-up that helps", helped, wanted);
         let there = map.contains(guard, &key, moves);
         want(rt, "whether the key is there", there, is_there(wanted));
@@ -104,28 +106,28 @@ pub(crate) fn want_row<'d, 'q, 's, J: PostSet>(
 }
 
 /// These calls under a pin of their own answer so.
-pub(crate) fn want_rows<J: PostSet>(
+pub(crate) fn want_rows<'s, J: PostSet>(
     rt: &impl Abort,
-    map: &Map<'_, J>,
-    handle: &mut Handle<'_, '_, '_, J, Node>,
+    map: &Map<'_, 's, J>,
+    part: &mut Part<'_, 's, J, Node>,
     rows: &[Row],
 ) {
-    let guard = pin(rt, handle);
+    let guard = pin(rt, &mut part.session);
     for row in rows {
-        want_row(rt, map, handle, &guard, *row);
+        want_row(rt, map, &mut part.writer, &guard, *row);
     }
-    unpin(rt, handle, guard);
+    part.session.unpin(guard);
 }
 
 /// All these calls answer so.
-pub(crate) fn want_pins<J: PostSet>(
+pub(crate) fn want_pins<'s, J: PostSet>(
     rt: &impl Abort,
-    map: &Map<'_, J>,
-    handle: &mut Handle<'_, '_, '_, J, Node>,
+    map: &Map<'_, 's, J>,
+    part: &mut Part<'_, 's, J, Node>,
     pins: &[Pinned],
 ) {
     for (rows, count) in pins {
-        want_rows(rt, map, handle, rows);
-        rounds(rt, handle, *count);
+        want_rows(rt, map, part, rows);
+        rounds(rt, part, *count);
     }
 }

@@ -1,13 +1,18 @@
 //! Several threads on one map, each with keys of its own and with keys that all use.
+ghost use Rattle.std.specs.Prelude.{◌≡◌};
+
 use crate::counts::{counts_of, note};
-use crate::lending::{Handle, Nodes, Told, flush_if, pin, register, release, unpin};
+use crate::lending::{
+    AFTER_A_RACE, Part, Told, cells_in, domain_over, flush_if, join, leave, pin, posts, rounds,
+    store_of,
+};
 use crate::map::calls::{Call, Map, Node, answer};
-use crate::map::scenes::{Deed, play};
 use crate::wants::want;
-use epoch_cells::Fault;
-use epoch_lend::readers::posts::PostSet;
-use epoch_lend_pointers::store::lender::Lender;
+use epoch_lend::readers::posts::{Made, PostSet};
+use epoch_lend_pointers::Store;
+use epoch_map::LendingMap;
 use std::alloc::Global;
+use std::marker::Brand;
 use std::process::Abort;
 use std::sync::Wait;
 use std::sync::atomic::AtomicU64;
@@ -34,30 +39,29 @@ struct Counts<'a> {
 }
 
 /// Makes the call, once.
-fn call_once<J: PostSet>(
+fn call_once<'s, J: PostSet>(
     rt: &impl Abort,
-    map: &Map<'_, J>,
-    handle: &mut Handle<'_, '_, '_, J, Node>,
+    map: &Map<'_, 's, J>,
+    part: &mut Part<'_, 's, J, Node>,
     call: Call,
 ) -> Told {
-    let guard = pin(rt, handle);
-    let told = answer(rt, map, handle, &guard, (call, MOVES));
-    flush_if(handle, &guard, true);
-    unpin(rt, handle, guard);
+    let guard = pin(rt, &mut part.session);
+    let told = answer(rt, map, &mut part.writer, &guard, (call, MOVES));
+    flush_if(&mut part.writer, true);
+    part.session.unpin(guard);
     told
 }
 
-/// Makes the call, and makes it again where it finds no cell or no place.
-fn make_call<J: PostSet, R: Abort + Wait>(
+/// Makes the call, and makes it again where it is refused.
+fn make_call<'s, J: PostSet, R: Abort + Wait>(
     rt: &R,
-    map: &Map<'_, J>,
-    handle: &mut Handle<'_, '_, '_, J, Node>,
+    map: &Map<'_, 's, J>,
+    part: &mut Part<'_, 's, J, Node>,
     call: Call,
 ) -> Option<u64> {
     for _ in rt.forever() {
-        match call_once(rt, map, handle, call) {
-            Ok(answer) => return answer,
-            Err(fault) => want(rt, "a pause helps", fault == Fault::NoMemory, false),
+        if let Ok(answer) = call_once(rt, map, part, call) {
+            return answer;
         }
         thread::yield_now();
     }
@@ -66,10 +70,10 @@ fn make_call<J: PostSet, R: Abort + Wait>(
 
 /// Inserts the value under a key of this thread's own, finds it, keeps it there against another insert, and removes
 /// it.
-fn own_key<J: PostSet, R: Abort + Wait>(
+fn own_key<'s, J: PostSet, R: Abort + Wait>(
     rt: &R,
-    map: &Map<'_, J>,
-    handle: &mut Handle<'_, '_, '_, J, Node>,
+    map: &Map<'_, 's, J>,
+    part: &mut Part<'_, 's, J, Node>,
     key: u64,
     value: u64,
 ) {
@@ -81,69 +85,68 @@ fn own_key<J: PostSet, R: Abort + Wait>(
         (Call::GetHelping(key), None),
     ];
     for (call, wanted) in calls {
-        let seen = make_call(rt, map, handle, call);
+        let seen = make_call(rt, map, part, call);
         want(rt, "a call with an own key", seen, wanted);
     }
 }
 
 /// Inserts the value under a key that other threads use too, looks the key up, and removes whichever value is there.
-fn common_key<J: PostSet, R: Abort + Wait>(
+fn common_key<'s, J: PostSet, R: Abort + Wait>(
     rt: &R,
-    map: &Map<'_, J>,
-    handle: &mut Handle<'_, '_, '_, J, Node>,
+    map: &Map<'_, 's, J>,
+    part: &mut Part<'_, 's, J, Node>,
     counts: Counts<'_>,
     key: u64,
     value: u64,
 ) {
-    if make_call(rt, map, handle, Call::Insert(key, value)).is_none() {
+    if make_call(rt, map, part, Call::Insert(key, value)).is_none() {
         note(rt, counts.put, value);
     }
-    let _ = make_call(rt, map, handle, Call::Get(key));
-    remove_common(rt, map, handle, counts, key);
+    let _ = make_call(rt, map, part, Call::Get(key));
+    remove_common(rt, map, part, counts, key);
 }
 
 /// Removes whichever value is there.
-fn remove_common<J: PostSet, R: Abort + Wait>(
+fn remove_common<'s, J: PostSet, R: Abort + Wait>(
     rt: &R,
-    map: &Map<'_, J>,
-    handle: &mut Handle<'_, '_, '_, J, Node>,
+    map: &Map<'_, 's, J>,
+    part: &mut Part<'_, 's, J, Node>,
     counts: Counts<'_>,
     key: u64,
 ) {
-    if let Some(removed) = make_call(rt, map, handle, Call::Remove(key)) {
+    if let Some(removed) = make_call(rt, map, part, Call::Remove(key)) {
         note(rt, counts.off, removed);
     }
 }
 
 /// Inserts the values from `first` on, each under a key of its own and under a common one.
-fn work<'q, 's, J: PostSet, R: Abort + Wait>(
+fn work<'s, J: PostSet, R: Abort + Wait>(
     rt: &R,
     alloc: Global,
-    lender: &'q Lender<'s, J, Node>,
-    nodes: &Nodes<'q, 's, J, Node>,
-    map: &Map<'_, J>,
+    store: &Store<'s, J, Node>,
+    map: &Map<'_, 's, J>,
     counts: Counts<'_>,
     first: u64,
 ) {
-    let mut handle = register(rt, alloc, nodes, lender);
+    let mut part = join(rt, alloc, store);
     for number in 0..EACH {
         let value = first.wrapping_add(number);
-        own_key(rt, map, &mut handle, value.wrapping_add(COMMON), value);
-        common_key(rt, map, &mut handle, counts, number % COMMON, value);
+        own_key(rt, map, &mut part, value.wrapping_add(COMMON), value);
+        common_key(rt, map, &mut part, counts, number % COMMON, value);
     }
-    release(rt, handle, MOVES);
+    leave(rt, part);
 }
 
 /// Removes what is left under the common keys, and then finds none of them.
-fn drain<J: PostSet, R: Abort + Wait>(
+fn drain<'s, J: PostSet, R: Abort + Wait>(
     rt: &R,
-    map: &Map<'_, J>,
-    handle: &mut Handle<'_, '_, '_, J, Node>,
+    map: &Map<'_, 's, J>,
+    part: &mut Part<'_, 's, J, Node>,
     counts: Counts<'_>,
 ) {
     for key in 0..COMMON {
-        remove_common(rt, map, handle, counts, key);
-        let missing = make_call(rt, map, handle, Call::Get(key));
+        remove_common(rt, map, part, counts, key);
+        let missing = make_call(rt, map, part, Call::Get(key));
         want(rt, "what is left", missing, None);
     }
 }
@@ -160,30 +163,28 @@ fn want_same_counts(rt: &impl Abort, counts: Counts<'_>) {
     }
 }
 
-fn run_at_once<'q, 's, J: PostSet + Send + Sync, R: Abort + Threads + Wait + Sync>(
+fn run_at_once<'s, J: PostSet + Send + Sync, R: Abort + Threads + Wait + Sync>(
     rt: &R,
     alloc: Global,
-    lender: &'q Lender<'s, J, Node>,
-    nodes: &Nodes<'q, 's, J, Node>,
-    map: &Map<'_, J>,
+    store: &Store<'s, J, Node>,
+    map: &Map<'_, 's, J>,
     counts: Counts<'_>,
 ) {
     thread::scope(thread::scope_env(), rt, |scope| {
         for thread in 0..THREADS {
             let first = thread.wrapping_mul(EACH);
-            let _ = scope.spawn(move || work(rt, alloc, lender, nodes, map, counts, first));
+            let _ = scope.spawn(move || work(rt, alloc, store, map, counts, first));
         }
     });
 }
 
-/// Runs all threads at once, and then removes what is left with this handle.
-pub(crate) fn race<'q, 's, J: PostSet + Send + Sync, R: Abort + Threads + Wait + Sync>(
+/// Runs all threads at once, and then removes what is left by this part.
+fn race<'s, J: PostSet + Send + Sync, R: Abort + Threads + Wait + Sync>(
     rt: &R,
     alloc: Global,
-    lender: &'q Lender<'s, J, Node>,
-    nodes: &Nodes<'q, 's, J, Node>,
-    map: &Map<'_, J>,
-    handle: &mut Handle<'_, '_, '_, J, Node>,
+    store: &Store<'s, J, Node>,
+    map: &Map<'_, 's, J>,
+    part: &mut Part<'_, 's, J, Node>,
 ) {
     let put = counts_of(rt, alloc, THREADS * EACH);
     let off = counts_of(rt, alloc, THREADS * EACH);
@@ -191,13 +192,37 @@ pub(crate) fn race<'q, 's, J: PostSet + Send + Sync, R: Abort + Threads + Wait +
         put: put.as_slice(),
         off: off.as_slice(),
     };
-    run_at_once(rt, alloc, lender, nodes, map, counts);
-    drain(rt, map, handle, counts);
+    run_at_once(rt, alloc, store, map, counts);
+    drain(rt, map, part, counts);
     want_same_counts(rt, counts);
 }
 
 // Nodes are dropped in the midst of the run, and after it none is left.
+fn begin<J: PostSet + Send + Sync, R: Abort + Threads + Wait + Sync>(
+    rt: &R,
+    alloc: Global,
+    made: Made,
+)
+    requires { made.posts.items ≡ J.posts }
+{
+    let domain = domain_over::<J>(rt, alloc, made);
+    let mut cells = cells_in(rt, alloc, &domain, 512);
+    let store = store_of(rt, alloc, &domain, &mut cells);
+    let map = LendingMap::new(alloc, &store, 2).expect(rt, "memory for a map");
+    let mut part = join(rt, alloc, &store);
+    race(rt, alloc, &store, &map, &mut part);
+    rounds(rt, &mut part, AFTER_A_RACE);
+    leave(rt, part);
+    drop(map);
+    want(rt, "how many nodes are left", store.end(alloc), 0);
+}
+
+fn play_race<R: Abort + Threads + Wait + Sync>(rt: &R, alloc: Global) {
+    let made = posts(rt, alloc);
+    begin::<Brand, R>(rt, alloc, made);
+}
+
 #[test]
 fn each_value_of_8_threads_comes_off_once(rt: HostRuntime) {
-    play(&rt, rt.alloc(), Deed::Race, (2, 512, 0))
+    play_race(&rt, rt.alloc());
 }

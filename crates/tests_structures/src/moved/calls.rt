@@ -4,7 +4,6 @@ use crate::moved::values::{want, want_ok};
 use epoch::{Capacities, Collector, Guard, LocalHandle};
 use std::alloc::Global;
 use std::process::Abort;
-use std::sync::Wait;
 
 /// A collector with these capacities. Memory is there.
 pub(crate) fn collector<T: Drop>(
@@ -47,21 +46,6 @@ pub(crate) fn release<T: Drop>(rt: &impl Abort, handle: LocalHandle<'_, T>) {
     if let Err((_back, fault)) = handle.release() {
         panic!(rt; "{fault}");
     }
-}
-
-/// Releases the handle, and flushes for as long as its bag finds no place.
-pub(crate) fn leave<R: Abort + Wait, T: Drop>(rt: &R, handle: LocalHandle<'_, T>) {
-    let mut staying = handle;
-    for _ in rt.forever() {
-        if staying.guards_out() != 0 {
-            panic!(rt; "each guard is spent")
-        }
-        match staying.release() {
-            Ok(()) => return,
-            Err((handle, _)) => staying = handle,
-        }
-    }
-    unreachable!()
 }
 
 /// Ends the collector, which calls this many jobs.

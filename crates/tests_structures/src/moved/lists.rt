@@ -1,140 +1,225 @@
-//! Nodes whose values are moved: each value comes out once, on a stack and on a queue too.
+//! Values that a stack and a queue of lent nodes move.
 ghost use Rattle.std.specs.Prelude.{◌≡◌};
 
-use crate::lending::{Handle, Nodes, collector, pin, register, release, unpin};
-use crate::moved::values::{want, want_ok};
-use epoch::{Capacities, Fault};
-use epoch_lend::readers::posts::{Made, PostSet, Posts};
-use epoch_lend_pointers::store::lender::Lender;
-use epoch_lend_pointers::store::lent_cells::LentCells;
-use epoch_lists::OwnedNode;
-use epoch_lists::queue::LendingQueue;
-use epoch_lists::stack::LendingStack;
+use crate::lending::{
+    AFTER_A_RACE, Part, Scene, cells_in, domain_over, flush_if, join, leave, pin, play, posts,
+    rounds, store_of,
+};
+use crate::moved::seats::{Seat, pop_the_rest, pop_values, push_and_pop, push_values};
+use crate::moved::values::{Drops, Token, counts_of, drops_of, want, want_each, want_ok};
+use epoch_cells::{Fault, Refused};
+use epoch_lend::readers::posts::{Made, PostSet};
+use epoch_lend_pointers::Store;
+use epoch_lists::{LendingQueue, LendingStack, OwnedNode};
 use std::alloc::Global;
 use std::marker::Brand;
 use std::process::Abort;
+use std::sync::Wait;
+use std::sync::atomic::AtomicU64;
+use std::thread;
+use std::thread::Threads;
 
-/// A node with a number in memory of its own.
-type Link = OwnedNode<Box<u64>>;
+/// A node of a stack or a queue.
+type Link = OwnedNode<Token>;
 
 /// A stack or a queue.
 #[derive(Drop)]
-enum Moving<'c, J: PostSet> {
-    Stack(LendingStack<'c, J, Link>),
-    Queue(LendingQueue<'c, J, Link>),
+enum MovedPile<'q, 's, J: PostSet> {
+    Stack(LendingStack<'q, 's, J, Link>),
+    Queue(LendingQueue<'q, 's, J, Link>),
 }
 
-fn node_of(rt: &impl Abort, alloc: Global, number: u64) -> Link {
-    let boxed = want_ok(rt, "memory for a number", Box::new(alloc, number));
-    OwnedNode::new(boxed)
+/// A participant of a stack, or of a queue.
+struct LentSeat<'p, 'q, 's, J: PostSet> {
+    pile: &'p MovedPile<'q, 's, J>,
+    part: Part<'q, 's, J, Link>,
 }
 
-/// The number of a value that came out.
-fn number_in(value: Option<Box<u64>>) -> Option<u64> {
-    let boxed = value?;
-    Some(*boxed)
-}
-
-/// The number of the value of the node that was popped.
-fn moved(popped: Result<Option<&Link>, Fault>) -> Option<u64> {
-    match popped {
-        Ok(Some(node)) => number_in(node.take()),
-        _ => None,
+impl<J: PostSet> Seat for LentSeat<'_, '_, '_, J> {
+    fn push<R: Abort>(
+        &mut self,
+        rt: &R,
+        token: Token,
+        flushes: bool,
+    ) -> Result<(), Refused<Token>> {
+        let guard = pin(rt, &mut self.part.session);
+        let pushed = match self.pile {
+            MovedPile::Stack(it) => it.push_owned(&mut self.part.writer, &guard, token, 1),
+            MovedPile::Queue(it) => it.push_owned(&mut self.part.writer, &guard, token, 1),
+        };
+        self.part.session.unpin(guard);
+        flush_if(&mut self.part.writer, flushes);
+        pushed
     }
-}
 
-/// Pushes a node with this number.
-fn push<'d, 'q, 's, J: PostSet>(
-    rt: &impl Abort,
-    moving: &Moving<'_, J>,
-    handle: &mut Handle<'d, 'q, 's, J, Link>,
-    node: Link,
-) {
-    let guard = pin(rt, handle);
-    let pushed = match moving {
-        Moving::Stack(stack) => stack.push(handle, &guard, node, 1),
-        Moving::Queue(queue) => queue.push(handle, &guard, node, 1),
-    };
-    unpin(rt, handle, guard);
-    want(rt, "the push", pushed.is_ok(), true);
-}
-
-/// Pops a node, whose number is this one. `None`: there is no node.
-fn pop<'d, 'q, 's, J: PostSet>(
-    rt: &impl Abort,
-    moving: &Moving<'_, J>,
-    handle: &mut Handle<'d, 'q, 's, J, Link>,
-    wanted: Option<u64>,
-) {
-    let guard = pin(rt, handle);
-    let number = match moving {
-        Moving::Stack(stack) => moved(stack.pop(handle, &guard, 1)),
-        Moving::Queue(queue) => moved(queue.pop(handle, &guard, 1)),
-    };
-    unpin(rt, handle, guard);
-    want(rt, "the value that comes off", number, wanted);
+    fn pop<R: Abort>(&mut self, rt: &R, flushes: bool) -> Result<Option<Token>, Fault> {
+        let guard = pin(rt, &mut self.part.session);
+        let popped = match self.pile {
+            MovedPile::Stack(it) => it.pop_owned(&mut self.part.writer, &guard, 1),
+            MovedPile::Queue(it) => it.pop_owned(&mut self.part.writer, &guard, 1),
+        };
+        self.part.session.unpin(guard);
+        flush_if(&mut self.part.writer, flushes);
+        popped
+    }
 }
 
 /// An empty stack, or an empty queue, for whose first node a cell is free.
-fn empty<'d, 'q, 's, J: PostSet>(
+fn empty_pile<'q, 's, J: PostSet>(
     rt: &impl Abort,
-    nodes: &'d Nodes<'q, 's, J, Link>,
-    handle: &mut Handle<'d, 'q, 's, J, Link>,
+    store: &'q Store<'s, J, Link>,
+    part: &mut Part<'q, 's, J, Link>,
     is_queue: bool,
-) -> Moving<'d, J> {
+) -> MovedPile<'q, 's, J> {
     if !is_queue {
-        return Moving::Stack(LendingStack::new(nodes));
+        return MovedPile::Stack(LendingStack::new(store));
     }
-    let guard = pin(rt, handle);
-    let made = LendingQueue::new(&guard, OwnedNode::empty());
-    unpin(rt, handle, guard);
-    Moving::Queue(want_ok(rt, "a cell for the first node", made))
+    let made = LendingQueue::new(&mut part.writer, OwnedNode::empty());
+    MovedPile::Queue(want_ok(rt, "a cell for the first node", made))
 }
 
-/// Moves two values in and out. A third one is left in its node.
-fn act<'q, 's, J: PostSet>(
-    rt: &impl Abort,
-    alloc: Global,
-    moving: &Moving<'_, J>,
-    handle: &mut Handle<'_, '_, '_, J, Link>,
-    order: (u64, u64),
-) {
-    push(rt, moving, handle, node_of(rt, alloc, 1));
-    push(rt, moving, handle, node_of(rt, alloc, 2));
-    pop(rt, moving, handle, Some(order.0));
-    pop(rt, moving, handle, Some(order.1));
-    pop(rt, moving, handle, None);
-    push(rt, moving, handle, node_of(rt, alloc, 3));
+/// The part of a participant that makes no further call.
+fn part_of<'q, 's, J: PostSet>(seat: LentSeat<'_, 'q, 's, J>) -> Part<'q, 's, J, Link> {
+    let LentSeat { pile: _, part } = seat;
+    part
 }
 
-fn begin<J: PostSet>(rt: &impl Abort, alloc: Global, made: Made, is_queue: bool, order: (u64, u64))
-    requires { made.posts.items ≡ J.posts }
-{
-    let posts = Posts::<J>::of(alloc, made).expect(rt, "memory for posts");
-    let cells = LentCells::new(alloc, 4, posts).expect(rt, "memory for cells");
-    let lender = Lender::new(alloc, &cells).expect(rt, "memory for a lender");
-    let nodes = collector(rt, alloc, &lender, Capacities::usual(1, 0, 8), 1);
-    let mut handle = register(rt, alloc, &nodes, &lender);
-    let moving = empty(rt, &nodes, &mut handle, is_queue);
-    act(rt, alloc, &moving, &mut handle, order);
-    release(rt, handle, 1);
-    drop(moving);
-    let _ = nodes.end();
-    let left = if is_queue { 2 } else { 1 };
-    want(rt, "how many nodes are left", lender.end(alloc), left);
+/// What is done with values that are moved, which count their drops.
+#[derive(Clone, Copy)]
+struct MovedScene<'a> {
+    is_queue: bool,
+    // The values that come off, of three.
+    popped: &'a [Option<u64>],
+    drops: &'a Drops,
 }
 
-fn play<R: Abort>(rt: &R, alloc: Global, is_queue: bool, order: (u64, u64)) {
-    let made = Made::new(alloc, 1).expect(rt, "memory for posts");
-    begin::<Brand>(rt, alloc, made, is_queue, order);
+impl Scene for MovedScene<'_> {
+    type Node = Link;
+
+    fn act<'s, R: Abort, J: PostSet>(
+        self,
+        rt: &R,
+        alloc: Global,
+        store: &Store<'s, J, Link>,
+        _others: &Store<'s, J, Link>,
+    ) {
+        let mut part = join(rt, alloc, store);
+        let pile = empty_pile(rt, store, &mut part, self.is_queue);
+        let mut seat = LentSeat { pile: &pile, part };
+        push_values(rt, alloc, &mut seat, (3, 3, self.drops));
+        pop_values(rt, &mut seat, self.popped);
+        let mut part = part_of(seat);
+        rounds(rt, &mut part, 5);
+        leave(rt, part);
+    }
+}
+
+/// Of three values these come off. What is left in a node, beside the first one of a queue, is dropped by the store's
+/// end. Then each value was dropped once.
+fn play_moved(rt: &impl Abort, alloc: Global, is_queue: bool, popped: &[Option<u64>], left: usize) {
+    let drops = drops_of(rt, alloc, 3);
+    let scene = MovedScene {
+        is_queue,
+        popped,
+        drops: &drops,
+    };
+    play(rt, alloc, (8, left), scene);
+    want_each(rt, "each value was dropped once", drops.as_slice(), 1);
 }
 
 #[test]
 fn a_stack_of_lent_nodes_moves_values_in_and_out(rt: HostRuntime) {
-    play(&rt, rt.alloc(), false, (2, 1));
+    let popped = [Some(2), Some(1), Some(0), None];
+    play_moved(&rt, rt.alloc(), false, &popped, 0);
 }
 
 #[test]
 fn a_queue_of_lent_nodes_moves_values_in_and_out(rt: HostRuntime) {
-    play(&rt, rt.alloc(), true, (1, 2));
+    let popped = [Some(0), Some(1), Some(2), None];
+    play_moved(&rt, rt.alloc(), true, &popped, 1);
+}
+
+#[test]
+fn values_left_in_lent_nodes_are_dropped_by_the_end(rt: HostRuntime) {
+    play_moved(&rt, rt.alloc(), false, &[Some(2)], 2);
+    play_moved(&rt, rt.alloc(), true, &[Some(0)], 3);
+}
+
+/// How many values each of 8 threads moves.
+const EACH: u64 = 500;
+
+/// One thread: pushes each of these values, and pops one after each.
+fn work<'q, 's, J: PostSet, R: Abort + Wait>(
+    rt: &R,
+    alloc: Global,
+    store: &'q Store<'s, J, Link>,
+    pile: &MovedPile<'q, 's, J>,
+    both: (&[AtomicU64], &Drops),
+    first: u64,
+) {
+    let part = join(rt, alloc, store);
+    let mut seat = LentSeat { pile, part };
+    push_and_pop(rt, alloc, &mut seat, both, (first, EACH));
+    leave(rt, part_of(seat));
+}
+
+fn race<'q, 's, J: PostSet + Send + Sync, R: Abort + Threads + Wait + Sync>(
+    rt: &R,
+    alloc: Global,
+    store: &'q Store<'s, J, Link>,
+    pile: &MovedPile<'q, 's, J>,
+    both: (&[AtomicU64], &Drops),
+) {
+    thread::scope(thread::scope_env(), rt, |scope| {
+        for thread in 0..8u64 {
+            let first = thread.wrapping_mul(EACH);
+            let _ = scope.spawn(move || work(rt, alloc, store, pile, both, first));
+        }
+    });
+}
+
+// Each value comes off once, and nothing but a queue's first node is left.
+fn begin<J: PostSet + Send + Sync, R: Abort + Threads + Wait + Sync>(
+    rt: &R,
+    alloc: Global,
+    made: Made,
+    is_queue: bool,
+    counts: &[AtomicU64],
+    drops: &Drops,
+)
+    requires { made.posts.items ≡ J.posts }
+{
+    let domain = domain_over::<J>(rt, alloc, made);
+    let mut cells = cells_in(rt, alloc, &domain, 1_024);
+    let store = store_of(rt, alloc, &domain, &mut cells);
+    let mut part = join(rt, alloc, &store);
+    let pile = empty_pile(rt, &store, &mut part, is_queue);
+    race(rt, alloc, &store, &pile, (counts, drops));
+    let mut seat = LentSeat { pile: &pile, part };
+    pop_the_rest(rt, &mut seat, counts);
+    let mut part = part_of(seat);
+    rounds(rt, &mut part, AFTER_A_RACE);
+    leave(rt, part);
+    drop(pile);
+    let left = if is_queue { 1 } else { 0 };
+    want(rt, "how many nodes are left", store.end(alloc), left);
+}
+
+fn play_race<R: Abort + Threads + Wait + Sync>(rt: &R, alloc: Global, is_queue: bool) {
+    let counts = counts_of(rt, alloc, 8 * EACH);
+    let drops = drops_of(rt, alloc, 8 * EACH);
+    let made = posts(rt, alloc);
+    begin::<Brand, R>(rt, alloc, made, is_queue, &counts, &drops);
+    want_each(rt, "each value was dropped once", drops.as_slice(), 1);
+    want_each(rt, "each value came off once", &counts, 1);
+}
+
+#[test]
+fn each_value_that_8_threads_move_comes_off_a_stack_of_lent_nodes_once(rt: HostRuntime) {
+    play_race(&rt, rt.alloc(), false);
+}
+
+#[test]
+fn each_value_that_8_threads_move_comes_off_a_queue_of_lent_nodes_once(rt: HostRuntime) {
+    play_race(&rt, rt.alloc(), true);
 }

@@ -4,29 +4,29 @@ use epoch::{Fault, Refused};
 use std::alloc::Global;
 use std::fmt::Debug;
 use std::process::Abort;
+use std::sync::Arc;
 use std::sync::atomic::AtomicU64;
 use std::sync::atomic::Ordering::SeqCst;
 
+/// How often each value was dropped.
+pub(crate) type Drops = Arc<Vec<AtomicU64>>;
+
 /// A value with its number in memory of its own. It counts its drop.
-pub(crate) struct Token<'a> {
+pub(crate) struct Token {
     number: Box<u64>,
-    drops: &'a [AtomicU64],
+    drops: Drops,
 }
 
-impl<'a> Token<'a> {
+impl Token {
     /// The value of this number. Its drop is counted there.
-    pub(crate) fn new(
-        rt: &impl Abort,
-        alloc: Global,
-        number: u64,
-        drops: &'a [AtomicU64],
-    ) -> Token<'a> {
+    pub(crate) fn new(rt: &impl Abort, alloc: Global, number: u64, drops: &Drops) -> Token {
         let number = want_ok(rt, "memory for a number", Box::new(alloc, number));
+        let drops = want_ok(rt, "room for one more owner", drops.clone());
         Token { number, drops }
     }
 }
 
-impl<'a> Drop for Token<'a> {
+impl Drop for Token {
     fn drop(self) {
         let Token { number, drops } = self;
         if let Some(count) = drops.get(*number as usize) {
@@ -36,13 +36,13 @@ impl<'a> Drop for Token<'a> {
 }
 
 /// The number of the value, which is dropped.
-pub(crate) fn number_of(found: Option<Token<'_>>) -> Option<u64> {
+pub(crate) fn number_of(found: Option<Token>) -> Option<u64> {
     let token = found?;
     Some(*token.number)
 }
 
 /// What a pop answered, with the number of the value in its place.
-pub(crate) fn told_of_pop(popped: Result<Option<Token<'_>>, Fault>) -> Result<Option<u64>, Fault> {
+pub(crate) fn told_of_pop(popped: Result<Option<Token>, Fault>) -> Result<Option<u64>, Fault> {
     let found = popped?;
     Ok(number_of(found))
 }
@@ -61,7 +61,7 @@ pub(crate) fn want_ok<T, E: Drop>(rt: &impl Abort, what: &str, answer: Result<T,
 }
 
 /// What a push answered: its fault, and the number of the value that it handed back, which is dropped.
-pub(crate) fn told_of_push(pushed: Result<(), Refused<Token<'_>>>) -> Result<(), (Fault, u64)> {
+pub(crate) fn told_of_push(pushed: Result<(), Refused<Token>>) -> Result<(), (Fault, u64)> {
     let Err(Refused { fault, value }) = pushed else {
         return Ok(());
     };
@@ -69,11 +69,11 @@ pub(crate) fn told_of_push(pushed: Result<(), Refused<Token<'_>>>) -> Result<(),
 }
 
 /// The value of this number, if it came back. A pause helps.
-pub(crate) fn back_of<'a>(
+pub(crate) fn back_of(
     rt: &impl Abort,
-    pushed: Result<(), Refused<Token<'a>>>,
+    pushed: Result<(), Refused<Token>>,
     number: u64,
-) -> Option<Token<'a>> {
+) -> Option<Token> {
     let Err(Refused { fault, value }) = pushed else {
         return None;
     };
@@ -92,8 +92,14 @@ pub(crate) fn counts_of(rt: &impl Abort, alloc: Global, values: u64) -> Vec<Atom
     counts
 }
 
+/// This many counts of drops, which stand at 0.
+pub(crate) fn drops_of(rt: &impl Abort, alloc: Global, values: u64) -> Drops {
+    let counts = counts_of(rt, alloc, values);
+    want_ok(rt, "memory for the counts", Arc::new(alloc, counts))
+}
+
 /// Counts that the value came off, and drops it.
-pub(crate) fn count(rt: &impl Abort, counts: &[AtomicU64], popped: Option<Token<'_>>) {
+pub(crate) fn count(rt: &impl Abort, counts: &[AtomicU64], popped: Option<Token>) {
     let Some(number) = number_of(popped) else {
         return;
     };

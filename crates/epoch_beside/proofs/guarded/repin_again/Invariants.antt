@@ -1,5 +1,5 @@
 use Rattle.std.proofs.Common.{◌≡◌}
-use Rattle.epoch_handles.specs.Handles.{IsSame}
+use Rattle.epoch.specs.Handles.{IsSame}
 use Rattle.epoch_beside.proofs.guarded.repin_again.Given as goal
 
 abbrev pub invariant-loop : goal.invariant-loop

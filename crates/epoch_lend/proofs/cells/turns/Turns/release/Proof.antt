@@ -1,7 +1,6 @@
 -- `release` is one store, which gives the place back.
-use Rattle.std.proofs.Common.{◌≡◌, ℕ, suc, ◌+◌, ◌*◌, List, [], ◌∷◌, refl}
+use Rattle.std.proofs.Common.{◌≡◌, ℕ, ◌+◌, ◌*◌, List, [], ◌∷◌, sym, refl}
 use Rattle.std.proofs.Common.{subst, lit<, w64}
-use native.Mathlib.Omega.{arith}
 use mir.Syntax.{a_type, named}
 use mir.Val.{Val, vunit, vint, vptr}
 use mir.MapTy.{inst_fn}
@@ -34,7 +33,7 @@ use Rattle.core.specs.Sync.RawAtomic.{asks, always}
 use Rattle.atomic_table.proofs.Walks.{proved, leaves}
 use Rattle.atomic_table.proofs.Calls.{fm, seq_cst, stored, has_stored, stores}
 use Rattle.epoch_lend.proofs.Fields.{word, word_typed}
-use Rattle.epoch_lend.specs.Turning.{TurnNames, claim_of}
+use Rattle.epoch_lend.specs.Turning.{Awaits, TurnNames, claim_of}
 use Rattle.epoch_lend.specs.contracts.cells.turns.Turns as turns_is
 use Rattle.epoch_lend.specs.contracts.cells.turns.TurnClaim as claim_is
 use Rattle.epoch_lend.specs.contracts.cells.turns.TurnName as name_is
@@ -131,7 +130,7 @@ release_spec 𝓤 𝓛 𝓜 𝓡 wired X L =
     ) in
     let Post : Val → SProp 𝓤 = (walk_of 𝓛 En hs c).post y in
     let OfPlace : Type 0 = (h.right ≡ 1) × (h.state ≡ d.state) × (h.at ≡ d.at) in
-    let OfTurn : Type 0 = (h.word ≡ 4 * t + 3) × (w ≡ 4 * t + 4) in
+    let OfTurn : Type 0 = Awaits t h.word × (w ≡ 4 * t) in
     let others : Fml = fsep (flft κs.1.0 qs.1.0) ftrue in
     qed 𝓛 (((‵ (flft κ q) ⊛ ‵ others) ⊛ ‵ (owns (types_at En.signature.params κs) a y.0.4)) ∷ raw (fact 𝓤 _) ∷
     raw (fact 𝓤 OfPlace) ∷ raw (fact 𝓤 OfTurn) ∷ []) ∵
@@ -141,7 +140,7 @@ release_spec 𝓤 𝓛 𝓜 𝓡 wired X L =
     rewrite ! 0 (λ (z : Ptr × ℕ × ℕ × ℕ). ‵ (claim_of R z.0 z.1 z.2 z.3)) (λ i. (
       of_place.2 i,
       of_place.1 i,
-      of_turn.0 i,
+      h.word,
       of_place.0 i,
     )) refl $
     -- [the claim; the place; κ; the others]
@@ -165,13 +164,13 @@ release_spec 𝓤 𝓛 𝓜 𝓡 wired X L =
     use2 𝓛 (later (some (λ (s : Share). ‵ (flft α s) ⊛ raw (wand 𝓤 (𝓛.A.lft α s) (H.⇛ (𝓛.A.lft κ q)))))) (Lends-one 𝓛
     𝓜 𝓡
     κ α q) $ await ! tt $ pick ! (λ s. split ! $
-    let at : 4 * suc t ≡ w = omega (arith, of_turn.1) in
     let after : Fml = fsep (flft α s) ftrue in first ! $ blocks ! $
     sets ! (addr ! (through ! refl (fld ! refl (stop !)))) refl (tt, tt) $ move ! (2 ∷ 0 ∷ 3 ∷ []) $
     use3 𝓛 (raw (𝓣.C _ (vptr b (o + 0) ∷ vint w64 w ∷ seq_cst ∷ []) (λ u. mean 𝓛 (stored after u))))
     (via 𝓤 _ (subst (λ (k : ℕ). ent 𝓤 (sep 𝓤 (𝓛.A.inv (fbor α (steps.Memory 𝓛 R d α s b o))) (sep 𝓤 (𝓛.A.lft α s) (sem 𝓛
-    (steps.Removed 𝓛 R d t)))) (asks 𝓛 (block_ptr b (o + 0)) (λ _. k) always (λ _. after))) at
-    (steps.releases_it 𝓛 R d α s b o t)) (stores 𝓛 𝓜 𝓡 (code.calls-core::raw_atomic::store 𝓡.env wired) (block_ptr b
+    (steps.Kept 𝓛 R d t h.word)))) (asks 𝓛 (block_ptr b (o + 0)) (λ _. k) always (λ _. after))) (sym of_turn.1)
+    (steps.releases_it 𝓛 R d α s b o t h.word of_turn.0))
+    (stores 𝓛 𝓜 𝓡 (code.calls-core::raw_atomic::store 𝓡.env wired) (block_ptr b
     (o + 0)) w are.1.1.1.0.1 after)) $
     sets ! (agg ! (and_then ! (lit ! tt) (no_more !))) refl (tt, (record { fits = lit< tt }, tt)) $
     Calls-last ! (fm 𝓛 𝓜 𝓡) (stored after) (and_then ! (get ! refl) (and_then ! (get ! refl) (and_then ! (get ! refl)

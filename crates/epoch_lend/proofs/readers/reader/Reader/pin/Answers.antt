@@ -9,14 +9,16 @@ pub invariant_of-result : goal.invariant_of-result
 invariant_of-result g c =
     let ds : List PostNames = g.J.PostSet.posts in
     let position : ℕ = c.args.self.right.position in
-    let post : PostNames = c.index-as_slice-position.result in
-    let read : post ≡ get_or ds position post = c.index-as_slice-position.is ∙ ap (λ (xs : List PostNames). get_or xs
+    let post : PostNames = c.index-as_slice-right.result in
+    let read : post ≡ get_or ds position post = c.index-as_slice-right.is ∙ ap (λ (xs : List PostNames). get_or xs
     position post) c.as_slice.ensures in
     let right = c.args.self.right in
     let at : slice_get ds position ≡ Some post = stands_read ds position right.unpinned.log right.unpinned.state post
     right.stands read in
     let Among : ℕ → Type 0 = λ η. IsAmong η (logs_of ds) in
     record {
+      of_epoch = c.pin-pin.ensures.guard.1;
+      within = c.requires;
       of_post = (c.pin-pin.ensures.pin.0, c.pin-pin.ensures.pin.1);
       all_here = (sym c.pin-pin.ensures.pin.2, c.pin-pin.ensures.guard.2);
       stands = at;

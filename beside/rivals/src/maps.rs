@@ -1,0 +1,106 @@
+//! Maps from numbers to numbers: look-ups alone, or ninety in a hundred beside five inserts and five removals.
+use crate::draw::{key, percent, Draw, SCATTER};
+use crate::michael;
+use crate::rounds::{rounds, Answer, Size};
+use crossbeam_epoch as epoch;
+use dashmap::DashMap;
+use std::collections::hash_map::RandomState;
+use std::hash::{BuildHasher, BuildHasherDefault, Hasher};
+
+/// A hash by one multiplication, as a user picks for keys that are numbers.
+#[derive(Default)]
+struct Multiply(u64);
+
+impl Hasher for Multiply {
+    fn finish(&self) -> u64 {
+        self.0
+    }
+
+    fn write(&mut self, bytes: &[u8]) {
+        for byte in bytes {
+            self.write_u64(u64::from(*byte));
+        }
+    }
+
+    #[inline(always)]
+    fn write_u64(&mut self, word: u64) {
+        self.0 = (self.0.rotate_left(5) ^ word).wrapping_mul(0x517c_c1b7_2722_0a95);
+    }
+}
+
+trait Map: Sync {
+    fn get(&self, key: u64) -> Option<u64>;
+    fn insert(&self, key: u64);
+    fn remove(&self, key: u64);
+}
+
+impl<S: BuildHasher + Clone + Sync + Send> Map for DashMap<u64, u64, S> {
+    #[inline(always)]
+    fn get(&self, key: u64) -> Option<u64> {
+        DashMap::get(self, &key).map(|value| *value)
+    }
+
+    #[inline(always)]
+    fn insert(&self, key: u64) {
+        self.entry(key).or_insert(key);
+    }
+
+    #[inline(always)]
+    fn remove(&self, key: u64) {
+        DashMap::remove(self, &key);
+    }
+}
+
+impl Map for michael::Map {
+    #[inline(always)]
+    fn get(&self, key: u64) -> Option<u64> {
+        michael::Map::get(self, key, &epoch::pin())
+    }
+
+    #[inline(always)]
+    fn insert(&self, key: u64) {
+        michael::Map::insert(self, key, key, &epoch::pin());
+    }
+
+    #[inline(always)]
+    fn remove(&self, key: u64) {
+        michael::Map::remove(self, key, &epoch::pin());
+    }
+}
+
+/// Works on a map that has `KEYS` of the keys below `SPACE` at first. If there are more keys than that, a tenth of the
+/// calls change the map. A look-up that finds another key's value isn't counted as done.
+fn work<const KEYS: u64, const SPACE: u64>(map: impl Map, size: Size) -> Option<Answer> {
+    for index in 0..KEYS {
+        map.insert(index * SCATTER % SPACE);
+    }
+    Some(rounds(size, |thread, round| {
+        let mut draw = Draw::of(thread, round);
+        let mut done = 0;
+        for _ in 0..size.turns {
+            let number = draw.number();
+            let key = key::<SPACE>(number);
+            match if SPACE == KEYS { 0 } else { percent(number) } {
+                0..=89 => done += u64::from(map.get(key).map_or(SPACE > KEYS, |value| value == key)),
+                90..=94 => {
+                    map.insert(key);
+                    done += 1;
+                }
+                _ => {
+                    map.remove(key);
+                    done += 1;
+                }
+            }
+        }
+        done
+    }))
+}
+
+pub fn time<const KEYS: u64, const SPACE: u64>(side: &str, size: Size) -> Option<Answer> {
+    match side {
+        "crossbeam_epoch" => work::<KEYS, SPACE>(michael::Map::new(michael::BITS), size),
+        "dashmap" => work::<KEYS, SPACE>(DashMap::<u64, u64, RandomState>::default(), size),
+        "dashmap_fast_hash" => work::<KEYS, SPACE>(DashMap::<u64, u64, BuildHasherDefault<Multiply>>::default(), size),
+        _ => None,
+    }
+}

@@ -1,0 +1,202 @@
+//! A map of lent nodes: look-ups alone, or ninety in a hundred beside five inserts and five removals.
+ghost use Rattle.std.specs.Prelude.{◌≡◌, IsSome};
+
+use crate::draw::{Draw, SCATTER, key, percent};
+use crate::lent::{LentOwn, cells_in, made_for, store_of};
+use crate::side::{RoundPart, RoundPlan, Side, all_rounds};
+use crate::stopwatch::Nanos;
+use epoch_lend::domain::Domain;
+use epoch_lend::readers::posts::{Made, PostSet, Posts};
+use epoch_lend::session::{LendingGuard, Session};
+use epoch_lend_pointers::{Store, Writer};
+use epoch_map::{LendingMap, LentEntry};
+use std::alloc::Global;
+use std::io;
+use std::marker::Brand;
+use std::sync::Wait;
+use std::thread::Threads;
+use std::time::Clock;
+
+/// Nodes that a call may walk along, and begin again: as many as none needs.
+const MOVES: u32 = 1_000_000;
+
+/// The map has 2 to this many buckets, the most that it may have.
+const BITS: u32 = 16;
+
+/// Cells beside those of the keys, for nodes that are removed and wait for guards.
+const SPARE: u64 = 65_536;
+
+type NumberEntry = LentEntry<u64, u64>;
+
+/// What is done with a map: look-ups among 100,000 keys, the same beside changes, or look-ups among a million.
+#[derive(Clone, Copy)]
+pub enum MapRow {
+    Looks,
+    Changes,
+    ManyLooks,
+}
+
+impl MapRow {
+    /// How many keys the map has at first.
+    fn keys(self) -> u64 {
+        match self {
+            MapRow::Looks | MapRow::Changes => 100_000,
+            MapRow::ManyLooks => 1_000_000,
+        }
+    }
+}
+
+/// A map that has `KEYS` of the keys below `SPACE` at first. If there are more keys than that, a tenth of the calls
+/// change the map.
+#[derive(Drop)]
+struct NumberMap<'q, 's, J: PostSet, const KEYS: u64, const SPACE: u64> {
+    alloc: Global,
+    store: &'q Store<'s, J, NumberEntry>,
+    map: LendingMap<'q, 's, J, NumberEntry>,
+}
+
+/// Makes a call, and returns whether it did what it should. A look-up should find its key's value, or may miss it if
+/// keys are removed.
+#[inline(always)]
+fn call<'s, J: PostSet, const KEYS: u64, const SPACE: u64>(
+    map: &LendingMap<'_, 's, J, NumberEntry>,
+    writer: &mut Writer<'_, 's, J, NumberEntry>,
+    guard: &LendingGuard<'_, J>,
+    number: u64,
+) -> bool {
+    let key = key::<SPACE>(number);
+    let chosen = if SPACE > KEYS { percent(number) } else { 0 };
+    if chosen < 90 {
+        return match map.get(guard, &key, MOVES) {
+            Ok(Some(node)) => *node.value() == key,
+            Ok(None) => SPACE > KEYS,
+            Err(_) => false,
+        };
+    }
+    if chosen < 95 {
+        return map
+            .insert(writer, guard, LentEntry::new(key, key), MOVES)
+            .is_ok();
+    }
+    map.remove(writer, guard, &key, MOVES).is_ok()
+}
+
+/// Makes the calls of one thread, under one guard that is renewed before each.
+#[inline(never)]
+fn calls<'s, J: PostSet, const KEYS: u64, const SPACE: u64>(
+    map: &LendingMap<'_, 's, J, NumberEntry>,
+    session: &mut Session<'s, J>,
+    writer: &mut Writer<'_, 's, J, NumberEntry>,
+    part: RoundPart,
+) -> u64
+    requires free { IsSome session.old.reader }
+    ensures free { IsSome session.new.reader }
+{
+    let mut draw = Draw::of(part.thread, part.round);
+    let mut done: u64 = 0;
+    let mut guard = session.pin();
+    for _ in 0..part.turns {
+        guard = guard.renew();
+        if call::<J, KEYS, SPACE>(map, writer, &guard, draw.number()) {
+            done = done.wrapping_add(1);
+        }
+    }
+    session.unpin(guard);
+    done
+}
+
+impl<'q, 's, J: PostSet + Send + Sync, const KEYS: u64, const SPACE: u64> Side
+    for NumberMap<'q, 's, J, KEYS, SPACE> {
+    type Own = LentOwn<'q, 's, J, NumberEntry>;
+
+    fn join(&self) -> Option<LentOwn<'q, 's, J, NumberEntry>> {
+        LentOwn::join(self.alloc, self.store)
+    }
+
+    fn turns<R: Wait>(
+        &self,
+        _rt: &R,
+        own: &mut LentOwn<'q, 's, J, NumberEntry>,
+        part: RoundPart,
+    ) -> u64 {
+        calls::<J, KEYS, SPACE>(&self.map, &mut own.session, &mut own.writer, part)
+    }
+
+    fn leave<R: Wait>(&self, rt: &R, own: LentOwn<'q, 's, J, NumberEntry>) {
+        own.leave(rt);
+    }
+}
+
+impl<'q, 's, J: PostSet> LentOwn<'q, 's, J, NumberEntry> {
+    fn insert(&mut self, map: &LendingMap<'_, 's, J, NumberEntry>, key: u64) {
+        let guard = self.session.pin();
+        let _ = map.insert(&mut self.writer, &guard, LentEntry::new(key, key), MOVES);
+        self.session.unpin(guard);
+    }
+}
+
+fn rounds_in<
+    const KEYS: u64,
+    const SPACE: u64,
+    R: Clock + Threads + Wait + Sync,
+    J: PostSet + Send + Sync,
+>(
+    rt: &R,
+    alloc: Global,
+    plan: RoundPlan,
+    store: &Store<'_, J, NumberEntry>,
+    times: &mut [Nanos],
+) -> u64 {
+    let Ok(map) = LendingMap::new(alloc, store, BITS) else {
+        return 0;
+    };
+    if let Some(own) = LentOwn::join(alloc, store) {
+        let mut filling = own;
+        for index in 0..KEYS {
+            filling.insert(&map, index.wrapping_mul(SCATTER) % SPACE.max(1));
+        }
+        filling.leave(rt);
+    }
+    let shared = NumberMap::<J, KEYS, SPACE> { alloc, store, map };
+    all_rounds(rt, plan, &shared, times)
+}
+
+/// How many cells the store of so many keys has.
+fn cells_for(keys: u64) -> u32 {
+    u32::try_from(keys.saturating_add(SPARE)).unwrap_or(u32::MAX)
+}
+
+fn rounds_over<R: Clock + Threads + Wait + Sync, J: PostSet + Send + Sync>(
+    rt: &R,
+    alloc: Global,
+    made: Made,
+    plan: RoundPlan,
+    row: MapRow,
+    times: &mut [Nanos],
+) -> io::Result<u64>
+    requires { made.posts.items ≡ J.posts }
+{
+    let domain = Domain::new(Posts::<J>::of(alloc, made)?);
+    let mut cells = cells_in(alloc, cells_for(row.keys()), &domain)?;
+    let store = store_of(alloc, &domain, &mut cells)?;
+    let done = match row {
+        MapRow::Looks => rounds_in::<100_000, 100_000, R, J>(rt, alloc, plan, &store, times),
+        MapRow::Changes => rounds_in::<100_000, 200_000, R, J>(rt, alloc, plan, &store, times),
+        MapRow::ManyLooks => rounds_in::<1_000_000, 1_000_000, R, J>(rt, alloc, plan, &store, times),
+    };
+    let _ = store.end(alloc);
+    Ok(done)
+}
+
+/// Makes as many rounds of this row as there are times, and returns how many turns of the last one did what they
+/// should.
+pub fn rounds<R: Clock + Threads + Wait + Sync>(
+    rt: &R,
+    alloc: Global,
+    plan: RoundPlan,
+    row: MapRow,
+    times: &mut [Nanos],
+) -> io::Result<u64> {
+    let made = made_for(alloc, plan)?;
+    rounds_over::<R, Brand>(rt, alloc, made, plan, row, times)
+}

@@ -1,5 +1,0 @@
-use Rattle.tests_lend.proofs.pointers.threads.race.Given as goal
-
--- the set has the posts that were made
-abbrev pub ghosts-start : goal.ghosts-start
-ghosts-start g a = record { posts = a.made.posts.items }
