@@ -182,7 +182,9 @@ fn rounds_over<R: Clock + Threads + Wait + Sync, J: PostSet + Send + Sync>(
     let done = match row {
         MapRow::Looks => rounds_in::<100_000, 100_000, R, J>(rt, alloc, plan, &store, times),
         MapRow::Changes => rounds_in::<100_000, 200_000, R, J>(rt, alloc, plan, &store, times),
-        MapRow::ManyLooks => rounds_in::<1_000_000, 1_000_000, R, J>(rt, alloc, plan, &store, times),
+        MapRow::ManyLooks => rounds_in::<1_000_000, 1_000_000, R, J>(
+            rt, alloc, plan, &store, times,
+        ),
     };
     let _ = store.end(alloc);
     Ok(done)

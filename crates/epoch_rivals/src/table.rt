@@ -1,6 +1,6 @@
 //! What is printed of the rows.
-use crate::rows::{SIDES, SideWork};
 use crate::lent_maps::MapRow;
+use crate::rows::{SIDES, SideWork};
 use crate::side::RoundPlan;
 use crate::stopwatch::Nanos;
 use crate::{kit, lent_lines, lent_maps, lent_values};
