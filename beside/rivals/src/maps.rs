@@ -98,7 +98,7 @@ fn work<const KEYS: u64, const SPACE: u64>(map: impl Map, size: Size) -> Option<
 
 pub fn time<const KEYS: u64, const SPACE: u64>(side: &str, size: Size) -> Option<Answer> {
     match side {
-        "crossbeam_epoch" => work::<KEYS, SPACE>(michael::Map::new(michael::BITS), size),
+        "crossbeam_epoch" => work::<KEYS, SPACE>(michael::Map::new(michael::bits_for(KEYS)), size),
         "dashmap" => work::<KEYS, SPACE>(DashMap::<u64, u64, RandomState>::default(), size),
         "dashmap_fast_hash" => work::<KEYS, SPACE>(DashMap::<u64, u64, BuildHasherDefault<Multiply>>::default(), size),
         _ => None,

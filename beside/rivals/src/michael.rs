@@ -3,8 +3,10 @@
 use crossbeam_epoch::{Atomic, Guard, Owned, Shared};
 use std::sync::atomic::Ordering::{AcqRel, Acquire, Relaxed, Release};
 
-/// The map has 2 to this many buckets: as many as a map of the library may have.
-pub const BITS: u32 = 16;
+/// The map of so many keys has 2 to this many buckets: the next power of two, as the library's in the same row.
+pub fn bits_for(keys: u64) -> u32 {
+    u64::BITS - keys.leading_zeros()
+}
 
 struct Node {
     key: u64,

@@ -1,5 +1,5 @@
 -- The steps of pins at posts, of the clock, and of looks at the posts.
-use Rattle.std.specs.Prelude.{◌≢◌, ℕ, ◌*◌, ◌<◌, ◌≤◌}
+use Rattle.std.specs.Prelude.{◌≡◌, ◌≢◌, ℕ, ◌*◌, ◌<◌, ◌≤◌, ◌↔◌, Bool, IsTrue}
 
 -- one step of a domain
 pub data PinStep : Type 0 where
@@ -25,3 +25,7 @@ PassesAll did epoch posts = (clock : ℕ) × (epoch ≤ clock) × AllPassed did 
 -- the pin at a post ended, and one in this epoch began there
 abbrev pub Repins : (PinStep → Type 0) → (position epoch : ℕ) → Type 0
 Repins did position epoch = did (Unpins position) × did (Publishes position epoch)
+
+-- the clock was loaded, and this tells whether it showed this epoch
+abbrev pub TellsCurrent : (PinStep → Type 0) → (epoch : ℕ) → Bool → Type 0
+TellsCurrent did epoch told = (shown : ℕ) × did (LoadsClock shown) × (IsTrue told ↔ (shown ≡ epoch))

@@ -1,6 +1,6 @@
 //! Sessions, which pin at posts of a domain, and guards, to which values are lent.
 ghost use Rattle.std.specs.Prelude.{◌≡◌, ◌⊎◌, ◌↔◌, IsTrue, IsSome, IfSome};
-ghost use Rattle.epoch_lend.specs.Grace.{Repins};
+ghost use Rattle.epoch_lend.specs.Grace.{Repins, TellsCurrent};
 ghost use Rattle.epoch_lend.specs.Grace.PinStep.{LoadsClock, Publishes, Unpins};
 
 use crate::domain::Domain;
@@ -113,6 +113,19 @@ impl<'d, J: PostSet> LendingGuard<'d, J> {
         ensures { result.now ≡ self.now.domain.now }
     {
         self.domain
+    }
+
+    /// Returns whether the clock still shows the epoch of the pin, by one load: if so, [`LendingGuard::renew`] would
+    /// store nothing. Under one guard that is current, a loop may read as often as it likes and hold nothing back that
+    /// other threads retire.
+    #[inline(always)]
+    pub fn is_current<S: PinSteps>(&self) -> bool
+    where
+        J: HasPinSteps<S>,
+        // A guard is current if and only if the clock, which the call loads, shows the epoch of its pin.
+        ensures did { TellsCurrent (S.did J.posts) self.now.pinned.guard.epoch result }
+    {
+        S::load_clock(self.domain) == self.pinned.epoch()
     }
 
     /// Returns a guard that pins in the epoch which the clock shows now. What was lent before can't be used any more,

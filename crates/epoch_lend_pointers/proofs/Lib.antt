@@ -1,1 +1,2 @@
+pub mod NameNumbers
 pub mod Shrinking

@@ -1,5 +1,5 @@
 -- Which value a name is of.
-use Rattle.std.specs.Prelude.{◌≡◌, ℕ, List, Some}
+use Rattle.std.specs.Prelude.{◌≡◌, ℕ, ◌+◌, ◌*◌, List, Some}
 use Rattle.std.specs.List.{slice_get}
 use Rattle.epoch_cells.specs.declared.cells.name.Name.{Name}
 
@@ -8,3 +8,7 @@ use Rattle.epoch_cells.specs.declared.cells.name.Name.{Name}
 pub record StandsUnder (logs : List ℕ) (name : Name) (log turn : ℕ) : Type 0 where
   pub slot : slice_get logs name.slot ≡ Some log
   pub at_turn : turn ≡ name.turn
+
+-- the word of the pointer to the value of this name, with tag 0
+abbrev pub name_number : Name → ℕ
+name_number name = name.turn * 4294967296 + name.slot * 256

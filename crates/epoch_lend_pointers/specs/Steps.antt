@@ -3,6 +3,7 @@ use Rattle.std.specs.Prelude.{◌≡◌, ◌⊎◌, ℕ, List, [], ◌∷◌, �
 use Rattle.epoch_cells.specs.declared.cells.name.Name.{Name}
 use Rattle.epoch_lend.specs.Grace.{PinStep}
 use Rattle.epoch_lend.specs.Grace.PinStep.{Ticks}
+use Rattle.epoch_atomic.specs.WordSteps.{WordStep, LoadsPointer}
 use Rattle.epoch_lend_pointers.specs.Retiring.{spot_at}
 use Rattle.epoch_lend.specs.declared.array.cells.SlotTurn.{SlotTurn}
 
@@ -31,3 +32,8 @@ abbrev pub GathersOn : {T : Type 0} → (PinStep → Type 0) → (StoreStep T �
 GathersOn ticked did None old new = ⊥
 GathersOn ticked did (Some name) old new =
     (new ≡ old ++ spot_at name ∷ []) ⊎ ((new ≡ spot_at name ∷ []) × HandsOver ticked did old)
+
+-- A pointer was loaded, and the value was found under the name that it had.
+abbrev pub LendsLoaded : {T : Type 0} → (align : ℕ) → (WordStep → Type 0) → (StoreStep T → Type 0) → T → Type 0
+LendsLoaded align loaded did value =
+    (name : Name) × (tag : ℕ) × LoadsPointer align loaded (Some name) tag × did (Lends name value)

@@ -1,6 +1,7 @@
 //! Values behind pointers that are read by plain loads, under the guards of a domain.
 #![tactic(auto)]
 
+mod cached;
 mod placing;
 pub mod pointers;
 mod retiring;
@@ -9,6 +10,7 @@ pub mod store;
 mod taking;
 pub mod writer;
 
+pub use cached::Cached;
 pub use epoch_atomic::atomic::{Atomic, Shared};
 pub use epoch_atomic::{Plain, Pointable};
 pub use epoch_cells::{Fault, Refused};

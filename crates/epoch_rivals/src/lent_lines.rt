@@ -19,7 +19,8 @@ use std::time::Clock;
 /// Tries of a push or a pop: as many as none needs.
 const TRIES: u32 = 1_000_000;
 
-const CELLS: u32 = 4_096;
+// So many that no call is refused while a thread is stopped that is pinned.
+const CELLS: u32 = 262_144;
 
 type NumberNode = ListNode<u64>;
 

@@ -20,9 +20,6 @@ use std::time::Clock;
 /// Nodes that a call may walk along, and begin again: as many as none needs.
 const MOVES: u32 = 1_000_000;
 
-/// The map has 2 to this many buckets, the most that it may have.
-const BITS: u32 = 16;
-
 /// Cells beside those of the keys, for nodes that are removed and wait for guards.
 const SPARE: u64 = 65_536;
 
@@ -147,7 +144,7 @@ fn rounds_in<
     store: &Store<'_, J, NumberEntry>,
     times: &mut [Nanos],
 ) -> u64 {
-    let Ok(map) = LendingMap::new(alloc, store, BITS) else {
+    let Ok(map) = LendingMap::new(alloc, store, bits_for(KEYS)) else {
         return 0;
     };
     if let Some(own) = LentOwn::join(alloc, store) {
@@ -159,6 +156,11 @@ fn rounds_in<
     }
     let shared = NumberMap::<J, KEYS, SPACE> { alloc, store, map };
     all_rounds(rt, plan, &shared, times)
+}
+
+/// The map of so many keys has 2 to this many buckets: the next power of two.
+fn bits_for(keys: u64) -> u32 {
+    u64::BITS.saturating_sub(keys.leading_zeros())
 }
 
 /// How many cells the store of so many keys has.

@@ -24,7 +24,7 @@ const TOGETHER: u64 = 64;
 /// What a turn does with the value.
 #[derive(Clone, Copy)]
 pub enum ValueRow {
-    /// A read, under one guard that is renewed before each.
+    /// A read, under one guard that is asked before each whether it is current, and is renewed if it isn't.
     Renewed,
     /// A read under a pin of its own.
     Pinned,
@@ -44,15 +44,20 @@ struct ShownValue<'q, 's, J: PostSet> {
 }
 
 #[inline(always)]
+fn sum_of(value: Option<&Small>) -> u64 {
+    match value {
+        Some(value) => value.sum(),
+        None => 0,
+    }
+}
+
+#[inline(always)]
 fn read<'s, J: PostSet>(
     store: &Store<'s, J, Small>,
     pointer: &Atomic<Small>,
     guard: &LendingGuard<'_, J>,
 ) -> u64 {
-    match store.get(store.load(pointer, SeqCst, guard), guard) {
-        Some(value) => value.sum(),
-        None => 0,
-    }
+    sum_of(store.get(store.load(pointer, SeqCst, guard), guard))
 }
 
 /// Puts a value behind the pointer, and retires the one before. Room for that is made first, so that no value is taken
@@ -81,14 +86,35 @@ fn reads_under<'s, J: PostSet>(
     pointer: &Atomic<Small>,
     guard: &LendingGuard<'_, J>,
 ) -> u64 {
+    let mut cached = store.cached(guard);
     let mut sum: u64 = 0;
     for _ in 0..TOGETHER {
-        sum = sum.wrapping_add(read(store, pointer, guard));
+        sum = sum.wrapping_add(sum_of(cached.get(pointer)));
     }
     sum
 }
 
-/// Reads many times under one guard that is renewed before each read.
+/// Reads under this guard for as long as it is current, and at least once. Returns what the reads sum up to, and how
+/// many there were.
+#[inline(always)]
+fn current_reads<'s, J: PostSet>(
+    store: &Store<'s, J, Small>,
+    pointer: &Atomic<Small>,
+    guard: &LendingGuard<'_, J>,
+    most: u64,
+) -> (u64, u64) {
+    let mut cached = store.cached(guard);
+    let mut sum = sum_of(cached.get(pointer));
+    for count in 1..most {
+        if !guard.is_current() {
+            return (sum, count);
+        }
+        sum = sum.wrapping_add(sum_of(cached.get(pointer)));
+    }
+    (sum, most)
+}
+
+/// Reads many times under one guard, which is renewed as soon as it isn't current any more.
 #[inline(never)]
 fn renewed_reads<'s, J: PostSet>(
     pointer: &Atomic<Small>,
@@ -104,9 +130,15 @@ fn renewed_reads<'s, J: PostSet>(
     let mut sum: u64 = 0;
     let mut guard = session.pin();
     for count in 0..part.turns / READS {
+        let mut left = READS;
         for _ in 0..READS {
+            if left == 0 {
+                break;
+            }
             guard = guard.renew();
-            sum = sum.wrapping_add(read(store, pointer, &guard));
+            let (summed, reads) = current_reads(store, pointer, &guard, left);
+            sum = sum.wrapping_add(summed);
+            left = left.saturating_sub(reads);
         }
         if part.thread != 0 || replace(writer, &guard, pointer, count) {
             done = done.wrapping_add(READS);

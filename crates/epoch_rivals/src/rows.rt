@@ -30,7 +30,7 @@ pub enum SideWork {
     KitMany,
 }
 
-const REPLACE: ValueRow = ValueRow::Replace { cells: 4_096 };
+const REPLACE_IN_FEW: ValueRow = ValueRow::Replace { cells: 4_096 };
 
 const REPLACE_IN_MORE: ValueRow = ValueRow::Replace { cells: 262_144 };
 
@@ -45,8 +45,12 @@ pub const SIDES: [(&str, &str, SideWork); 17] = [
     ("queue_push_pop", "library", LentPair(PairRow::Queue)),
     ("queue_push_pop", "kit_seg_queue", KitQueue),
     ("stack_push_pop", "library", LentPair(PairRow::Stack)),
-    ("replace_retire", "library", LentValue(REPLACE)),
-    ("replace_retire_busy_4096", "library", LentValue(REPLACE)),
+    ("replace_retire", "library", LentValue(REPLACE_IN_MORE)),
+    (
+        "replace_retire_busy_4096",
+        "library",
+        LentValue(REPLACE_IN_FEW),
+    ),
     (
         "replace_retire_busy_262144",
         "library",

@@ -1,0 +1,109 @@
+//! Looks that are kept: while a pointer leads to the same value, it is lent again without a look at its cell.
+ghost use Rattle.std.specs.Prelude.{◌≡◌, IsTrue, IfSome, ForSome};
+ghost use Rattle.epoch_lend_pointers.specs.Named.{name_number};
+ghost use Rattle.epoch_lend_pointers.specs.Steps.{LendsLoaded};
+ghost use Rattle.epoch_lend_pointers.specs.Steps.StoreStep.{Lends};
+
+use crate::steps::{HasStoreSteps, StoreSteps};
+use crate::store::Store;
+use epoch_atomic::Pointable;
+use epoch_atomic::atomic::{Atomic, SharedWord};
+use epoch_cells::Name;
+use epoch_lend::readers::posts::PostSet;
+use epoch_lend::session::LendingGuard;
+use std::marker::PhantomData;
+use std::sync::atomic::Ordering::SeqCst;
+
+/// The value that was got last under one guard, kept for the next time: [`Store::cached`].
+///
+/// It is for a pointer that is read much more often than it changes. A read loads the pointer, and if that leads to the
+/// same value as the last time, nothing else is loaded but the value. It holds nothing back that the guard doesn't.
+#[derive(Drop)]
+pub struct Cached<'g, 's, 'd, J: PostSet, T: Drop, M: StoreSteps<T>> {
+    store: &'g Store<'s, J, T>,
+    guard: &'g LendingGuard<'d, J>,
+    // The name that was looked for last.
+    name: Name,
+    // What was found under it.
+    value: Option<&'g T>,
+    steps: PhantomData<M>,
+    ghost found: { ForSome value (λ value. ∥ M.did J.posts store.now.number (Lends name value.now) ∥₁) },
+}
+
+// Whether the names are the same, by one comparison.
+#[inline(always)]
+#[tactic(auto, using(crate::proofs::NameNumbers::number_tells))]
+fn is_same(one: Name, other: Name) -> bool
+    ensures { IsTrue result → one ≡ other }
+{
+    number_of(one) == number_of(other)
+}
+
+// A number that no other name has.
+#[inline(always)]
+fn number_of(name: Name) -> u64
+    ensures { result ≡ name_number name }
+{
+    name.turn() as u64 * 0x1_0000_0000 + name.slot() as u64 * 0x100
+}
+
+impl<'s, J: PostSet, T: Drop> Store<'s, J, T> {
+    /// Keeps the last value that is got under this guard, for the next time.
+    #[inline(always)]
+    pub fn cached<'g, 'd, M: StoreSteps<T>>(
+        &'g self,
+        guard: &'g LendingGuard<'d, J>,
+    ) -> Cached<'g, 's, 'd, J, T, M>
+    where
+        T: HasStoreSteps<M>,
+        // What is cached is of the store that it was made for.
+        ensures store { result.store.now ≡ self.now }
+    {
+        Cached {
+            store: self,
+            guard,
+            name: Name::first(),
+            value: None,
+            steps: PhantomData,
+        }
+    }
+}
+
+impl<'g, 's, 'd, J: PostSet, T: Pointable + Drop, M: StoreSteps<T>> Cached<'g, 's, 'd, J, T, M> {
+    /// Loads the pointer, and lends its value, as [`Store::load`] and [`Store::get`] do. The cell is looked at only if
+    /// the pointer leads to another value than the last time.
+    ///
+    /// `None`: the pointer is null; or its value was retired, and each pin from before is over.
+    #[inline(always)]
+    pub fn get<A: SharedWord>(&mut self, at: &Atomic<T, A>) -> Option<&'g T>
+    where
+        T: HasStoreSteps<M>,
+        ensures store { self.new.store ≡ self.old.store }
+        // A value that is lent by what is cached was found in the store, under the name that this call loaded.
+        ensures did { IfSome result (λ value. ∥ LendsLoaded T.ALIGN (A.did at.now.word)
+            (M.did J.posts self.old.store.now.number) value.now ∥₁) }
+    {
+        let name = self.store.load(at, SeqCst, self.guard).name()?;
+        if self.value.is_some() && is_same(name, self.name) {
+            return self.value;
+        }
+        self.value = look_apart::<J, T, M>(self.store, name, self.guard);
+        self.name = name;
+        self.value
+    }
+}
+
+// Looks for a name. It has a copy of its own, so that what is cached stays in registers.
+#[cold]
+#[inline(never)]
+fn look_apart<'g, J: PostSet, T: Drop, M: StoreSteps<T>>(
+    store: &Store<'_, J, T>,
+    name: Name,
+    guard: &'g LendingGuard<'_, J>,
+) -> Option<&'g T>
+where
+    T: HasStoreSteps<M>,
+    ensures { IfSome result (λ value. M.did J.posts store.now.number (Lends name value.now)) }
+{
+    store.get_named(name, guard)
+}
