@@ -152,8 +152,8 @@ impl Post {
     /// those of the epoch found. Returns the word found, and what was marked, with this look added to what was seen.
     pub fn look<T>(&self, marked: Marked<T>) -> (u64, Marked<T>)
         requires { marked.right ≡ 1 }
-        // One plain load of a post shows which of its guards are over: every guard that had a loan, except guards of
-        // the epoch that was found.
+        // A load of a post shows which of its guards are over: every guard that had a loan, except guards of the epoch
+        // that was found.
         ensures seen { result.1.seen ≡ (self.now.log, result.0) ∷ marked.seen }
         ensures same { (result.1.right ≡ 1) × (result.1.value ≡ marked.value)
             × (result.1.lifetime ≡ marked.lifetime) × (result.1.loans ≡ marked.loans) }
@@ -166,7 +166,7 @@ impl Post {
     /// Looks at the post for all loans of a watch, by one plain load. It shows that each guard of this post with one is
     /// over, except those of the epoch found. Returns the word found, and the watch with this look added.
     pub fn look_for(&self, watch: Watch) -> (u64, Watch)
-        // One plain load of a post shows, for all loans of a watch at once, which of the post's guards are over.
+        // A load of a post shows, for all loans of a watch at once, which of the post's guards are over.
         ensures seen { result.1.seen ≡ (self.now.log, result.0) ∷ watch.seen }
         ensures same { result.1.loans ≡ watch.loans }
     {

@@ -1,2 +1,3 @@
+pub mod LooksKept
 pub mod NameNumbers
 pub mod Shrinking

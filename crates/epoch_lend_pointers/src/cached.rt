@@ -1,5 +1,6 @@
 //! Looks that are kept: while a pointer leads to the same value, it is lent again without a look at its cell.
-ghost use Rattle.std.specs.Prelude.{◌≡◌, IsTrue, IfSome, ForSome};
+ghost use Rattle.std.specs.Prelude.{◌≡◌, IsTrue, IfSome};
+ghost use Rattle.std.specs.Option.{ForSome};
 ghost use Rattle.epoch_lend_pointers.specs.Named.{name_number};
 ghost use Rattle.epoch_lend_pointers.specs.Steps.{LendsLoaded};
 ghost use Rattle.epoch_lend_pointers.specs.Steps.StoreStep.{Lends};

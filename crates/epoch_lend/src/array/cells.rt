@@ -81,8 +81,8 @@ impl<J: PostSet, T> LendingCells<J, T> {
     /// reader lasts, with the name that shows that it was placed there. `None`: no value was placed there yet, or it
     /// was marked, or there is no such slot.
     pub fn look<'g>(&self, spot: SlotTurn, pinned: &'g Pinned<'_, J>) -> Option<Sight<'g, T>>
-        // A look lends the value that was placed at the slot and the turn that it names. It is one plain load, and
-        // lends for as long as the reference to the pinned reader is.
+        // A look lends the value that was placed at the slot and the turn that it names, for as long as the reference
+        // to the pinned reader is.
         ensures slot { IfSome result (λ sight. slice_get (map (λ s. s.turns.log) self.now.slots.items) spot.slot
             ≡ Some sight.name.log) }
         ensures turn { IfSome result (λ sight. sight.name.turn ≡ spot.turn) }

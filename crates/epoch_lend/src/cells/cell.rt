@@ -125,7 +125,7 @@ impl<'c, 'p, T> PlacedInCell<'c, 'p, T> {
     pub fn look<'g>(&self, guard: &'g PostGuard) -> Option<&'g T>
         requires { IsAmong guard.now.log (logs_of self.now.cell.now.posts.now) }
         // A look at a name never lends the value of another turn: what it finds is the value that was placed at the
-        // name's turn. A look is one plain load, and lends for as long as the guard is lent.
+        // name's turn. It is lent for as long as the guard is.
         ensures { IfSome result (λ value. value.now ≡ self.now.name.value) }
     {
         let cell = self.cell;

@@ -62,8 +62,7 @@ impl<'p, T> LendingCell<'p, T> {
     /// `None`: none was placed at this turn yet, or it was marked. The guard must be of one of the cell's posts.
     pub fn look<'g>(&self, turn: u64, guard: &'g PostGuard) -> Option<Sight<'g, T>>
         requires { IsAmong guard.now.log (logs_of self.now.posts.now) }
-        // A look by a turn is one plain load. It lends the value of exactly that turn, for as long as the guard is
-        // lent.
+        // A look by a turn lends the value of exactly that turn, for as long as the guard is lent.
         ensures { IfSome result (λ sight. (sight.name.log ≡ self.now.turns.log) × (sight.name.turn ≡ turn)) }
     {
         self.turns.sight(self.at, turn, guard)

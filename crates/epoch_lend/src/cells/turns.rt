@@ -164,7 +164,7 @@ impl<T> Turns<T> {
     /// Looks at the word, by one plain load. If it is that of a value shown at this turn, returns which value that is.
     pub fn find(&self, turn: u64, word: u64) -> (u64, Found<T>)
         requires { word ≡ 4 * turn + 2 }
-        // One plain load that finds the word of a value shown at a turn tells which value was placed at this turn.
+        // A load that finds the word of a value shown at a turn tells which value was placed at this turn.
         ensures { (result.0 ≡ word → result.1.right ≡ 1) × (result.0 ≢ word → result.1.right ≡ 0)
             × (result.1.log ≡ self.now.log) × (result.1.turn ≡ turn) }
     {

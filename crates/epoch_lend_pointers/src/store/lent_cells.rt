@@ -86,8 +86,7 @@ impl<J: PostSet, T> LentCells<J, T> {
     /// a witness that it was placed under this name. `None`: none was placed there yet, or it was marked.
     #[inline(always)]
     pub fn look<'g>(&self, name: Name, pinned: &'g Pinned<'_, J>) -> Option<Sight<'g, T>>
-        // A look lends the value that was placed under the name. It is one plain load, and lends for as long as the
-        // reference to the pinned reader is.
+        // A look lends the value that was placed under the name, for as long as the reference to the pinned reader is.
         ensures named { IfSome result
             (λ sight. StandsUnder (map (λ s. s.turns.log) self.now.cells.slots.items) name sight.name.log
             sight.name.turn) }
