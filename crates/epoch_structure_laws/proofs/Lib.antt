@@ -36,3 +36,8 @@ pub mod MapRuns
 pub mod MapSteps
 pub mod MapTouches
 pub mod MapTurns
+pub mod MapValues
+pub mod MapSearches
+pub mod MapLooks
+pub mod MapFound
+pub mod MapInsertThenRemove

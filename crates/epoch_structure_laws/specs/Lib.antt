@@ -10,3 +10,4 @@ pub mod QueueAlone
 pub mod MapProgram
 pub mod MapDeeds
 pub mod MapEntries
+pub mod MapAnswers

@@ -8,6 +8,7 @@ use Rattle.epoch_structure_laws.specs.declared.map.plan.MapAnswer.{MapAnswer}
 use Rattle.epoch_structure_laws.specs.declared.map.plan.MapPhase.{MapPhase}
 use Rattle.epoch_structure_laws.specs.declared.map.plan.MapWork.{MapWork}
 use Rattle.epoch_structure_laws.specs.MapProgram.{map, map_deed_of, MapStarts, begin_map_work, MapRuns, IsNewMap}
+use Rattle.epoch_structure_laws.specs.MapAnswers.{AnswersNoneAsFound}
 use Rattle.epoch_structure_laws.specs.MapEntries.{Item, BucketHolds, Ascends, MapHolds, Has, Lacks, StepOnEntries}
 use Rattle.epoch_structure_laws.specs.MapEntries.{FindsNoEntry}
 use Rattle.epoch_structure_laws.specs.MapEntries.{FindsEntry}
@@ -87,3 +88,9 @@ AnswersAsAMap old log new run = (next : State) (x : Entry) → TakesStep new.wor
     → StepOnEntries new.world (plans_in new.plans) x next i vs
     × ((key : ℕ) → FindsNoEntry new.world (plans_in new.plans) x next i key → Lacks key vs)
     × ((v : ℕ) → FindsEntry new.world (plans_in new.plans) x next i v → Has v vs)
+
+-- a call answers `NotFound` only once it has made a step at which it found no entry of its key
+abbrev pub MapAnswersNoneAsFound : (old : MapState) (log : List MapEntry) (new : MapState) → GoesByMap old log new
+    → Type 0
+MapAnswersNoneAsFound old log new run = AnswersNoneAsFound old.world (plans_in old.plans) (events_of log) new.world
+    (plans_in new.plans) (map_run old log new run)

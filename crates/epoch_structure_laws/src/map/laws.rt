@@ -1,5 +1,5 @@
 //! What holds of every run of a map, in any interleaving: laws of the definitions.
-ghost use Rattle.std.specs.Prelude.{◌≡◌, ℕ, List, []};
+ghost use Rattle.std.specs.Prelude.{◌≡◌, ◌∷◌, ℕ, List, []};
 ghost use Rattle.epoch_laws.specs.Heap.{Heap};
 ghost use Rattle.epoch_laws.specs.declared.step.Entry.{Entry};
 ghost use Rattle.epoch_laws.specs.declared.step.Reply.{Reply};
@@ -7,11 +7,14 @@ ghost use Rattle.epoch_laws.specs.Run.{State, TakesStep};
 ghost use Rattle.epoch_laws.specs.Reach.{LeavesOnce, KeepsLoaded, past_of};
 ghost use Rattle.epoch_plans.specs.Plans.{AllPlans, IsLowered, after_by, world_log, run_of_world};
 ghost use Rattle.epoch_structure_laws.specs.declared.map.plan.MapAnswer.{MapAnswer};
+ghost use Rattle.epoch_structure_laws.specs.declared.map.plan.MapAnswer.TheVariants.{Inserted, NotFound};
+ghost use Rattle.epoch_structure_laws.specs.declared.map.plan.MapAnswer.TheVariants.{Found, Removed};
 ghost use Rattle.epoch_structure_laws.specs.declared.map.plan.MapPhase.{MapPhase};
 ghost use Rattle.epoch_structure_laws.specs.declared.map.plan.MapPhase.TheVariants.{Answering};
 ghost use Rattle.epoch_structure_laws.specs.MapProgram.{map, map_calls_left, map_deed_of, MapStarts, MapLog, MapRuns};
 ghost use Rattle.epoch_structure_laws.specs.MapProgram.{IsNewMap};
 ghost use Rattle.epoch_structure_laws.specs.MapDeeds.{DidNothing, deed_answered, deed_done, deed_then};
+ghost use Rattle.epoch_structure_laws.specs.MapAnswers.{AnswersNoneAsFound, map_answers_in};
 ghost use Rattle.epoch_structure_laws.specs.MapEntries.{Item, BucketHolds, Ascends, MapHolds, Has, Lacks};
 ghost use Rattle.epoch_structure_laws.specs.MapEntries.{StepOnEntries, FindsNoEntry, FindsEntry};
 
@@ -90,4 +93,23 @@ pub fn every_map_run_is_a_map()
 pub fn every_heap_holds_one_map()
     // The cells hold the entries of at most one map.
     ensures { (heap : Heap) (i : ℕ) (vs ws : List ℕ) → MapHolds heap i vs → MapHolds heap i ws → vs ≡ ws }
+{}
+
+/// A call that answers `NotFound` has found that there is no entry of its key: since it was asked for, it has made a
+/// step at which the link that it looked at led past the key that it was asked for.
+pub fn every_not_found_found_none()
+    // A call answers `NotFound` only if it made a step, since it was asked for, at which it found no entry of the key
+    // that it was asked for: the link that it looked at led nowhere, or to an entry of a higher key.
+    ensures { (world world' : State) (plans plans' : AllPlans MapPhase) (log : MapLog) → IsNewMap world plans
+        → (run : MapRuns world plans log world' plans') → AnswersNoneAsFound world plans log world' plans' run }
+{}
+
+/// Some run inserts an entry of key 1, looks for key 0 and for key 1, removes the entry, and looks for key 1 in vain:
+/// it meets what the laws ask of a run. The number 4294967303 is the entry, whose value is 7.
+pub fn some_map_run_inserts_and_removes()
+    // The premises of these laws can be met: some run inserts an entry of key 1, finds none of key 0 where the entry is
+    // one of a higher key, finds the entry, removes it, and then finds none of key 1.
+    ensures { (world : State) × (plans : AllPlans MapPhase) × (log : MapLog) × (world' : State)
+        × (plans' : AllPlans MapPhase) × IsNewMap world plans × MapRuns world plans log world' plans'
+        × (map_answers_in log ≡ Inserted ∷ NotFound ∷ Found 4294967303 ∷ Removed 4294967303 ∷ NotFound ∷ []) }
 {}
