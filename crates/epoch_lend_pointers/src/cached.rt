@@ -1,8 +1,8 @@
 //! Looks that are kept: while a pointer leads to the same value, it is lent again without a look at its cell.
-ghost use Rattle.std.specs.Prelude.{◌≡◌, IsTrue, IfSome};
+ghost use Rattle.std.specs.Prelude.{◌≡◌, IfSome};
 ghost use Rattle.std.specs.Option.{ForSome};
 ghost use Rattle.epoch_lend_pointers.specs.Named.{name_number};
-ghost use Rattle.epoch_lend_pointers.specs.Steps.{LendsLoaded};
+ghost use Rattle.epoch_lend_pointers.specs.Steps.{LendsLoaded, LendsNumbered};
 ghost use Rattle.epoch_lend_pointers.specs.Steps.StoreStep.{Lends};
 
 use crate::steps::{HasStoreSteps, StoreSteps};
@@ -23,21 +23,11 @@ use std::sync::atomic::Ordering::SeqCst;
 pub struct Cached<'g, 's, 'd, J: PostSet, T: Drop, M: StoreSteps<T>> {
     store: &'g Store<'s, J, T>,
     guard: &'g LendingGuard<'d, J>,
-    // The name that was looked for last.
-    name: Name,
-    // What was found under it.
+    // The number of the name under which the value was found. No name has 0.
+    number: u64,
     value: Option<&'g T>,
     steps: PhantomData<M>,
-    ghost found: { ForSome value (λ value. ∥ M.did J.posts store.now.number (Lends name value.now) ∥₁) },
-}
-
-// Whether the names are the same, by one comparison.
-#[inline(always)]
-#[tactic(auto, using(crate::proofs::NameNumbers::number_tells))]
-fn is_same(one: Name, other: Name) -> bool
-    ensures { IsTrue result → one ≡ other }
-{
-    number_of(one) == number_of(other)
+    ghost found: { ForSome value (λ value. ∥ LendsNumbered (M.did J.posts store.now.number) number value.now ∥₁) },
 }
 
 // A number that no other name has.
@@ -63,7 +53,7 @@ impl<'s, J: PostSet, T: Drop> Store<'s, J, T> {
         Cached {
             store: self,
             guard,
-            name: Name::first(),
+            number: 0,
             value: None,
             steps: PhantomData,
         }
@@ -71,6 +61,18 @@ impl<'s, J: PostSet, T: Drop> Store<'s, J, T> {
 }
 
 impl<'g, 's, 'd, J: PostSet, T: Pointable + Drop, M: StoreSteps<T>> Cached<'g, 's, 'd, J, T, M> {
+    // The value that is cached, if it was found under this name.
+    #[inline(always)]
+    fn kept(&self, name: Name) -> Option<&'g T>
+        ensures { IfSome result (λ value.
+            ∥ M.did J.posts self.now.store.now.number (Lends name value.now) ∥₁) }
+    {
+        if number_of(name) != self.number {
+            return None;
+        }
+        self.value
+    }
+
     /// Loads the pointer, and lends its value, as [`Store::load`] and [`Store::get`] do. The cell is looked at only if
     /// the pointer leads to another value than the last time.
     ///
@@ -85,12 +87,26 @@ impl<'g, 's, 'd, J: PostSet, T: Pointable + Drop, M: StoreSteps<T>> Cached<'g, '
             (M.did J.posts self.old.store.now.number) value.now ∥₁) }
     {
         let name = self.store.load(at, SeqCst, self.guard).name()?;
-        if self.value.is_some() && is_same(name, self.name) {
-            return self.value;
+        if let Some(value) = self.kept(name) {
+            return Some(value);
         }
-        self.value = look_apart::<J, T, M>(self.store, name, self.guard);
-        self.name = name;
-        self.value
+        let value = look_apart::<J, T, M>(self.store, name, self.guard)?;
+        self.number = number_of(name);
+        self.value = Some(value);
+        Some(value)
+    }
+
+    /// Loads the pointer, and lends its value if that is the one which was got last. `None`: the pointer has changed
+    /// since, or is null. A caller then renews its guard, which holds back what was there before.
+    #[inline(always)]
+    pub fn unchanged<A: SharedWord>(&self, at: &Atomic<T, A>) -> Option<&'g T>
+    where
+        T: HasStoreSteps<M>,
+        ensures did { IfSome result (λ value. ∥ LendsLoaded T.ALIGN (A.did at.now.word)
+            (M.did J.posts self.now.store.now.number) value.now ∥₁) }
+    {
+        let name = self.store.load(at, SeqCst, self.guard).name()?;
+        self.kept(name)
     }
 }
 

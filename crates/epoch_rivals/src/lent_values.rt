@@ -24,7 +24,7 @@ const TOGETHER: u64 = 64;
 /// What a turn does with the value.
 #[derive(Clone, Copy)]
 pub enum ValueRow {
-    /// A read, under one guard that is asked before each whether it is current, and is renewed if it isn't.
+    /// A read, under one guard that is renewed when the pointer leads to another value.
     Renewed,
     /// A read under a pin of its own.
     Pinned,
@@ -94,10 +94,10 @@ fn reads_under<'s, J: PostSet>(
     sum
 }
 
-/// Reads under this guard for as long as it is current, and at least once. Returns what the reads sum up to, and how
-/// many there were.
+/// Reads under this guard for as long as the pointer leads to one value, and at least once. Returns what the reads sum
+/// up to, and how many there were.
 #[inline(always)]
-fn current_reads<'s, J: PostSet>(
+fn unchanged_reads<'s, J: PostSet>(
     store: &Store<'s, J, Small>,
     pointer: &Atomic<Small>,
     guard: &LendingGuard<'_, J>,
@@ -106,15 +106,15 @@ fn current_reads<'s, J: PostSet>(
     let mut cached = store.cached(guard);
     let mut sum = sum_of(cached.get(pointer));
     for count in 1..most {
-        if !guard.is_current() {
+        let Some(value) = cached.unchanged(pointer) else {
             return (sum, count);
-        }
-        sum = sum.wrapping_add(sum_of(cached.get(pointer)));
+        };
+        sum = sum.wrapping_add(value.sum());
     }
     (sum, most)
 }
 
-/// Reads many times under one guard, which is renewed as soon as it isn't current any more.
+/// Reads many times under one guard, which is renewed as soon as the pointer leads to another value.
 #[inline(never)]
 fn renewed_reads<'s, J: PostSet>(
     pointer: &Atomic<Small>,
@@ -136,7 +136,7 @@ fn renewed_reads<'s, J: PostSet>(
                 break;
             }
             guard = guard.renew();
-            let (summed, reads) = current_reads(store, pointer, &guard, left);
+            let (summed, reads) = unchanged_reads(store, pointer, &guard, left);
             sum = sum.wrapping_add(summed);
             left = left.saturating_sub(reads);
         }
