@@ -1,4 +1,4 @@
-//! Tests of the pages to copy, which run them, and of scripts.
+//! Tests of the pages to copy, which run them, and of scripts that can't be done to their end.
 #![tactic(auto)]
 
 #[cfg(test)]

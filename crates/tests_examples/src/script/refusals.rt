@@ -1,68 +1,64 @@
-//! One script, of which each read, each write and each flush is refused in turn, once. These tests take memory of their
-//! own, and want all of it.
-use crate::script::scripts::{ScriptOutcome, want};
-use epoch_script::{Ending, run};
-use std::alloc::{AllocError, Global};
+//! One script, of which each read, each write and each flush is refused in turn, once, and a picture that can't be
+//! written. These tests take memory of their own, and want all of it.
+use crate::calls::want;
+use epoch_script::{Ending, run, tell_usage};
+use std::alloc::Global;
 use std::io;
 use std::io::{BufReader, BufWriter, ErrorKind, Read, Write};
 use std::process::Abort;
 
-/// The lines of the script, each with what it prints. The first pin publishes epoch 0 and advances to 1; with two
-/// places a flush is eight steps and its end; the bag is sealed with 1 and stays for the end.
-pub static LINES: [(&str, &str); 12] = [
-    ("shape 1 0 0 0 2 1 0 0\n", ""),
-    ("register\n", "registered 0\n"),
-    ("\n", ""),
-    ("call 0 pin\n", "pinned 0\nguard 0\n"),
-    ("word 0\n", "word 1\n"),
-    ("epoch\n", "epoch 1\n"),
-    ("call 0 defer 0\n", "deferred 0\ndone\n"),
-    ("begin 0 flush 0\n", "began\n"),
-    (
-        "go 0 9\n",
-        "stepped\nstepped\nstepped\nstepped\nstepped\nstepped\nstepped\nstepped\ndone\n",
-    ),
-    ("call 0 unpin 0\n", "unpinned 0\ndone\n"),
-    ("call 0 release\n", "pinned 0\nunpinned 0\nreleased\n"),
-    ("endall\n", "called 0 ran\nended 1\n"),
+/// The script. The first pin publishes epoch 0 and advances to 1; with two places a flush is eight steps and its end;
+/// the bag is sealed with 1 and stays for the end.
+pub const SCRIPT: &str =
+    "shape 1 0 0 0 2 1 0 0\nregister\n\ncall 0 pin\nword 0\nepoch\ncall 0 defer 0\n\
+    begin 0 flush 0\ngo 0 9\ncall 0 unpin 0\ncall 0 release\nendall\n";
+
+/// What it prints.
+pub const PRINTED: &str =
+    "registered 0\npinned 0\nguard 0\nword 1\nepoch 1\ndeferred 0\ndone\nbegan\n\
+    stepped\nstepped\nstepped\nstepped\nstepped\nstepped\nstepped\nstepped\ndone\nunpinned 0\ndone\n\
+    pinned 0\nunpinned 0\nreleased\ncalled 0 ran\nended 1\n";
+
+/// How many bytes each line has, with its line feed, and how many it prints.
+pub const LINES: &[(usize, usize)] = &[
+    (22, 0),
+    (9, 13),
+    (1, 0),
+    (11, 17),
+    (7, 7),
+    (6, 8),
+    (15, 16),
+    (16, 6),
+    (7, 69),
+    (15, 16),
+    (15, 29),
+    (7, 21),
 ];
 
 /// How many lines print something.
 pub const PRINTING: usize = 10;
 
-/// The script.
-pub fn script(alloc: Global) -> Result<String, AllocError> {
-    let mut script = String::new(alloc);
-    for (line, _) in &LINES {
-        script.push_str(line)?;
-    }
-    Ok(script)
-}
-
-/// What is printed if only this many bytes of the script are read: a line is done when its line feed is there.
-pub fn printed_by_reads(alloc: Global, bytes: usize) -> Result<Vec<u8>, AllocError> {
-    let mut printed = Vec::new(alloc);
-    let mut left = bytes;
-    for (line, prints) in &LINES {
-        if left < line.len() {
+/// How many bytes are printed if only this many bytes of the script are read: a line is done when its line feed is
+/// there.
+fn printed_by_reads(lines: &[(usize, usize)], bytes: usize) -> usize {
+    let (mut printed, mut left) = (0usize, bytes);
+    for (line, prints) in lines {
+        if left < *line {
             break;
         }
-        left -= line.len();
-        printed.extend_from_slice(prints.as_bytes())?;
+        left -= *line;
+        printed = printed.saturating_add(*prints);
     }
-    Ok(printed)
+    printed
 }
 
-/// What is printed by this many writes and flushes, where a write takes as many bytes at most: the answers of a line
-/// are so many writes as they need, and one flush.
-fn printed_by_writes(alloc: Global, calls: usize, at_once: usize) -> Result<Vec<u8>, AllocError> {
-    let mut printed = Vec::new(alloc);
-    let mut left = calls;
-    for (_, prints) in &LINES {
-        let bytes = prints.as_bytes();
-        let taken = left.saturating_mul(at_once).min(bytes.len());
-        printed.extend_from_slice(&bytes[..taken])?;
-        let needed = bytes.len().div_ceil(at_once.max(1));
+/// How many bytes are printed by this many writes and flushes, where a write takes as many bytes at most: the answers
+/// of a line are so many writes as they need, and one flush.
+fn printed_by_writes(lines: &[(usize, usize)], calls: usize, at_once: usize) -> usize {
+    let (mut printed, mut left) = (0usize, calls);
+    for (_, prints) in lines {
+        printed = printed.saturating_add(left.saturating_mul(at_once).min(*prints));
+        let needed = prints.div_ceil(at_once.max(1));
         if needed > 0 {
             if left <= needed {
                 break;
@@ -70,30 +66,33 @@ fn printed_by_writes(alloc: Global, calls: usize, at_once: usize) -> Result<Vec<
             left -= needed + 1;
         }
     }
-    Ok(printed)
+    printed
 }
 
-/// The run ended so, printed this, and told of no bad line. `refused` says what was refused.
+/// What a run of a script gave.
+#[derive(Drop)]
+pub struct ScriptOutcome {
+    pub ending: Ending,
+    pub answers: Vec<u8>,
+    pub faults: Vec<u8>,
+}
+
+/// The run ended so, printed this many bytes of what the script prints, and told of no bad line. `refused` says what
+/// was refused.
 pub fn want_ended(
     rt: &impl Abort,
     refused: (usize, usize),
     outcome: &ScriptOutcome,
     ending: Ending,
-    printed: &[u8],
+    printed: usize,
 ) {
-    let seen = (refused, outcome.ending);
-    want(rt, "how it ends", seen, (refused, ending));
     let answers: &[u8] = &outcome.answers;
-    want(rt, "the answers", (refused, answers), (refused, printed));
-    let faults = outcome.faults.len();
-    want(rt, "what is told", (refused, faults), (refused, 0));
+    let told = (answers.len(), outcome.faults.len());
+    let seen = (refused, outcome.ending, told);
+    want(rt, "how it ends", seen, (refused, ending, (printed, 0)));
+    let is_begin = PRINTED.as_bytes().starts_with(answers);
+    want(rt, "the answers", (refused, is_begin), (refused, true));
 }
-
-/// Why a call is refused, and how the script ends then.
-const REFUSALS: [(ErrorKind, Ending); 2] = [
-    (ErrorKind::BrokenPipe, Ending::StreamFailed),
-    (ErrorKind::OutOfMemory, Ending::NoMemory),
-];
 
 /// Refuses the call after this many, and lets those before it and after it pass.
 #[derive(Drop)]
@@ -158,12 +157,11 @@ impl Write for Sink {
 fn run_refused(
     rt: &impl Abort,
     alloc: Global,
-    script: &str,
-    at_once: usize,
+    (script, at_once): (&str, usize),
     (reads, writes, tellings): (usize, usize, usize),
     kind: ErrorKind,
 ) -> ScriptOutcome {
-    let mut reader = reader_of(rt, alloc, script, at_once, reads, kind);
+    let mut reader = reader_of(rt, alloc, (script, at_once), reads, kind);
     let sink = empty_sink(alloc, at_once, writes, kind);
     let mut answers = BufWriter::new(alloc, sink).expect(rt, "memory for a writer");
     let mut faults = empty_sink(alloc, at_once, tellings, kind);
@@ -179,8 +177,7 @@ fn run_refused(
 fn reader_of<'s>(
     rt: &impl Abort,
     alloc: Global,
-    script: &'s str,
-    at_once: usize,
+    (script, at_once): (&'s str, usize),
     before: usize,
     kind: ErrorKind,
 ) -> BufReader<Source<'s>> {
@@ -201,50 +198,39 @@ fn empty_sink(alloc: Global, at_once: usize, before: usize, kind: ErrorKind) -> 
     }
 }
 
-/// The call after this many is refused for this reason, after which only this is printed.
-fn expect_refused_by(
+/// The call after this many is refused for this reason, after which only so many bytes are printed.
+fn want_refused(
     rt: &impl Abort,
     alloc: Global,
-    (script, at_once): (&str, usize),
+    at_once: usize,
     (reads, writes): (usize, usize),
-    (kind, ending): (ErrorKind, Ending),
-    printed: &[u8],
+    (kind, ending, printed): (ErrorKind, Ending, usize),
 ) {
     let before = (reads, writes, NEVER);
-    let outcome = run_refused(rt, alloc, script, at_once, before, kind);
+    let outcome = run_refused(rt, alloc, (SCRIPT, at_once), before, kind);
     want_ended(rt, (reads, writes), &outcome, ending, printed);
 }
 
-/// The call after this many is refused, once for each reason, after which only this is printed.
-fn expect_refused(
+/// The call after this many is refused, once for each reason, after which only so many bytes are printed.
+fn want_each_refused(
     rt: &impl Abort,
     alloc: Global,
-    script: (&str, usize),
+    at_once: usize,
     before: (usize, usize),
-    printed: &[u8],
+    printed: usize,
 ) {
-    for refusal in REFUSALS {
-        expect_refused_by(rt, alloc, script, before, refusal, printed);
-    }
-}
-
-/// The script, for which memory is there: an error's way out of a test would be proved beside all that it owns.
-fn whole_script(rt: &impl Abort, alloc: Global) -> String {
-    script(alloc).expect(rt, "memory for the script")
-}
-
-/// The read after this many is refused, where the script is read this many bytes at once.
-fn expect_read_refused(rt: &impl Abort, alloc: Global, script: &str, at_once: usize, reads: usize) {
-    let bytes = reads.saturating_mul(at_once).min(script.len());
-    let printed = printed_by_reads(alloc, bytes).expect(rt, "memory for what is printed");
-    expect_refused(rt, alloc, (script, at_once), (reads, NEVER), &printed);
+    let failed = (ErrorKind::BrokenPipe, Ending::StreamFailed, printed);
+    want_refused(rt, alloc, at_once, before, failed);
+    let refused = (ErrorKind::OutOfMemory, Ending::NoMemory, printed);
+    want_refused(rt, alloc, at_once, before, refused);
 }
 
 /// The script is read this many bytes at once, and each read is refused in turn, the one at its end too.
 fn expect_each_read_refused(rt: &impl Abort, alloc: Global, at_once: usize) {
-    let script = whole_script(rt, alloc);
-    for reads in 0..=script.len().div_ceil(at_once.max(1)) {
-        expect_read_refused(rt, alloc, &script, at_once, reads);
+    for reads in 0..=SCRIPT.len().div_ceil(at_once.max(1)) {
+        let bytes = reads.saturating_mul(at_once).min(SCRIPT.len());
+        let printed = printed_by_reads(LINES, bytes);
+        want_each_refused(rt, alloc, at_once, (reads, NEVER), printed);
     }
 }
 
@@ -256,73 +242,38 @@ fn a_refused_read_ends_the_script_after_the_lines_before_it(rt: HostRuntime) {
     expect_each_read_refused(&rt, rt.alloc(), 1_000)
 }
 
-/// The write or flush after this many is refused, where a write takes this many bytes at most.
-fn expect_write_refused(
-    rt: &impl Abort,
-    alloc: Global,
-    script: &str,
-    at_once: usize,
-    writes: usize,
-) {
-    let printed = printed_by_writes(alloc, writes, at_once);
-    let printed = printed.expect(rt, "memory for what is printed");
-    expect_refused(rt, alloc, (script, at_once), (NEVER, writes), &printed);
-}
-
-/// What the whole script prints.
-fn all_printed(rt: &impl Abort, alloc: Global, script: &str) -> Vec<u8> {
-    printed_by_reads(alloc, script.len()).expect(rt, "memory for what is printed")
-}
-
 /// Each of so many writes and flushes of the answers is refused in turn, where a write takes this many bytes at most.
 /// There is no further one.
 fn expect_each_write_refused(rt: &impl Abort, alloc: Global, at_once: usize, calls: usize) {
-    let script = whole_script(rt, alloc);
     for writes in 0..calls {
-        expect_write_refused(rt, alloc, &script, at_once, writes);
+        let printed = printed_by_writes(LINES, writes, at_once);
+        want_each_refused(rt, alloc, at_once, (NEVER, writes), printed);
     }
-    let printed = all_printed(rt, alloc, &script);
-    let done = (ErrorKind::BrokenPipe, Ending::Finished);
-    expect_refused_by(
-        rt,
-        alloc,
-        (&script, at_once),
-        (NEVER, calls),
-        done,
-        &printed,
-    );
+    let done = (ErrorKind::BrokenPipe, Ending::Finished, PRINTED.len());
+    want_refused(rt, alloc, at_once, (NEVER, calls), done);
 }
 
 #[test]
 fn a_refused_write_ends_the_script_after_the_lines_before_it(rt: HostRuntime) {
-    let script = whole_script(&rt, rt.alloc());
-    let bytes = all_printed(&rt, rt.alloc(), &script).len();
-    expect_each_write_refused(&rt, rt.alloc(), 1, bytes.saturating_add(PRINTING));
+    let calls = PRINTED.len().saturating_add(PRINTING);
+    expect_each_write_refused(&rt, rt.alloc(), 1, calls);
     expect_each_write_refused(&rt, rt.alloc(), 1_000, 2 * PRINTING)
 }
 
-/// How the script ends where the call after this many is refused by which a bad line is told of.
-fn ending_of(
-    rt: &impl Abort,
-    alloc: Global,
-    (script, at_once): (&str, usize),
-    calls: usize,
-    kind: ErrorKind,
-) -> Ending {
-    run_refused(rt, alloc, script, at_once, (NEVER, NEVER, calls), kind).ending
-}
+/// A script whose last line is no step.
+const BAD: &str = "shape 1 0 0 0 1 1 0 0\nregister\nnothing\n";
 
 /// Each write and flush is refused in turn by which a bad line is told of, as long as there is a further one.
 fn expect_telling_refused(
     rt: &impl Abort,
     alloc: Global,
-    script: (&str, usize),
+    at_once: usize,
     (kind, refused): (ErrorKind, Ending),
 ) {
-    let bad_line = Ending::NotAStep((LINES.len() as u64).saturating_add(1));
     for calls in 0..100usize {
-        let ending = ending_of(rt, alloc, script, calls, kind);
-        if calls > 1 && ending == bad_line {
+        let before = (NEVER, NEVER, calls);
+        let ending = run_refused(rt, alloc, (BAD, at_once), before, kind).ending;
+        if calls > 1 && ending == Ending::NotAStep(3) {
             return;
         }
         want(rt, "how it ends", (calls, ending), (calls, refused));
@@ -332,11 +283,39 @@ fn expect_telling_refused(
 
 #[test]
 fn a_bad_line_that_cannot_be_told_of_ends_the_script_as_a_refused_write(rt: HostRuntime) {
-    let mut script = whole_script(&rt, rt.alloc());
-    let pushed = script.push_str("nothing\n").is_ok();
-    want(&rt, "memory for a line", pushed, true);
-    for refusal in REFUSALS {
-        expect_telling_refused(&rt, rt.alloc(), (&script, 1), refusal);
-        expect_telling_refused(&rt, rt.alloc(), (&script, 1_000), refusal);
-    }
+    let failed = (ErrorKind::BrokenPipe, Ending::StreamFailed);
+    expect_telling_refused(&rt, rt.alloc(), 1, failed);
+    expect_telling_refused(&rt, rt.alloc(), 1_000, failed);
+    let refused = (ErrorKind::OutOfMemory, Ending::NoMemory);
+    expect_telling_refused(&rt, rt.alloc(), 1, refused);
+    expect_telling_refused(&rt, rt.alloc(), 1_000, refused);
+}
+
+/// The exit status if the first write of a picture is refused for this reason.
+fn status_of_picture(alloc: Global, kind: ErrorKind) -> u8 {
+    let (mut script, mut faults) = (SCRIPT.as_bytes(), Vec::new(alloc));
+    let mut out = empty_sink(alloc, 1_000, 0, kind);
+    epoch_pictures::run(alloc, &mut script, &mut out, &mut faults)
+}
+
+#[test]
+fn a_picture_that_cannot_be_written_is_told_of_by_the_status(rt: HostRuntime) {
+    let failed = status_of_picture(rt.alloc(), ErrorKind::BrokenPipe);
+    want(&rt, "a stream that fails", failed, 3);
+    let refused = status_of_picture(rt.alloc(), ErrorKind::OutOfMemory);
+    want(&rt, "a stream without memory", refused, 4);
+}
+
+#[test]
+fn a_usage_that_cannot_be_told_ends_a_program_as_a_refused_write(rt: HostRuntime) {
+    let mut closed = empty_sink(rt.alloc(), 1, 0, ErrorKind::BrokenPipe);
+    let ending = tell_usage("", &mut closed);
+    want(&rt, "a closed stream", ending, Ending::StreamFailed);
+    let mut full = empty_sink(rt.alloc(), 1, 0, ErrorKind::OutOfMemory);
+    want(
+        &rt,
+        "no memory",
+        tell_usage("", &mut full),
+        Ending::NoMemory,
+    );
 }
