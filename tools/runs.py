@@ -39,7 +39,7 @@ def blocks(path):
     """Returns the blocks of a file of runs: the title, and the parts by their signs."""
     for text in re.split(r"^# ", text_of(path), flags=re.M)[1:]:
         title, *lines = text.rstrip("\n").split("\n")
-        yield title, {sign: [line[2:] for line in lines if line[:1] == sign] for sign in "<>!~?$"}
+        yield title, {sign: [line[2:] for line in lines if line[:1] == sign] for sign in "<>!~?$%"}
 
 
 def run(program, script):
@@ -48,18 +48,35 @@ def run(program, script):
     return ran.stdout, ran.stderr, ran.returncode
 
 
+def status_where_full(program, script):
+    """Returns the program's status where each write is refused."""
+    with open("/dev/full", "wb") as full:
+        return subprocess.run(program, input=script, stdout=full, stderr=full, check=False).returncode
+
+
+def fault(program, script, parts):
+    """Returns what the program writes if it is something else than these parts say, or None."""
+    if parts["%"]:
+        status = status_where_full(program, script)
+        return None if str(status) == parts["%"][0] else f"status {status}"
+    printed, told, status = run(program, script)
+    fits = all(it.encode() in printed for it in parts["~"]) if parts["~"] else printed == bytes_of(parts[">"], "\n")
+    if fits and (told, status) == (bytes_of(parts["!"], "\n"), 2 if parts["!"] else 0):
+        return None
+    return f"status {status}, printed {printed[:2000]!r}, told {told!r}"
+
+
 def faults(program, path):
     """Returns a line for each run of this file that writes something else, and counts the runs."""
     found, count = [], 0
     for title, parts in blocks(path):
         for line in parts["?"] or ["?"]:
             script = [line if it == "?" else it for it in parts["<"]]
-            printed, told, status = run([*program, *parts["$"]], bytes_of(script, ""))
-            wanted = bytes_of(parts["!"], "\n"), 2 if parts["!"] else 0
-            fits = all(it.encode() in printed for it in parts["~"]) if parts["~"] else printed == bytes_of(parts[">"], "\n")
+            words = [word for it in parts["$"] for word in (line if it == "?" else it).split(" ")]
+            wrong = fault([*program, *words], bytes_of(script, ""), parts)
             count += 1
-            if not fits or (told, status) != wanted:
-                found.append(f"{path}: {title}: {line}: status {status}, printed {printed[:2000]!r}, told {told!r}")
+            if wrong:
+                found.append(f"{path}: {title}: {line}: {wrong}")
     return found, count
 
 
@@ -90,8 +107,8 @@ def main():
         found, count = [*found, *wrong], count + runs
         if path == "crates/epoch_draw/runs.txt":
             found += drawn_faults(program)
-    for fault in found:
-        print(fault)
+    for it in found:
+        print(it)
     print(f"{count} scripts were run, and the pictures drawn: {len(found)} wrote something else")
     return 1 if found else 0
 

@@ -5,8 +5,6 @@
 #[cfg(test)]
 mod cell_calls;
 #[cfg(test)]
-mod cells;
-#[cfg(test)]
 mod deeds;
 #[cfg(test)]
 mod histories;
@@ -17,8 +15,6 @@ mod pile;
 mod rows;
 #[cfg(test)]
 mod runs;
-#[cfg(test)]
-mod scripts;
 #[cfg(test)]
 mod sharp;
 #[cfg(test)]
