@@ -1,12 +1,14 @@
 //! Values that a stack and a queue of lent nodes move.
 ghost use Rattle.std.specs.Prelude.{◌≡◌};
 
+use crate::counts::{counts_of, want_each};
 use crate::lending::{
     AFTER_A_RACE, Part, Scene, cells_in, domain_over, flush_if, join, leave, pin, play, posts,
     rounds, store_of,
 };
 use crate::moved::seats::{Seat, pop_the_rest, pop_values, push_and_pop, push_values};
-use crate::moved::values::{Drops, Token, counts_of, drops_of, want, want_each, want_ok};
+use crate::moved::values::{Drops, Token, drops_of};
+use crate::wants::{want, want_ok};
 use epoch_cells::{Fault, Refused};
 use epoch_lend::readers::posts::{Made, PostSet};
 use epoch_lend_pointers::Store;

@@ -1,6 +1,6 @@
 //! Calls on collectors, handles and guards as the tests make them: each asserts first what the call requires, and then
 //! what it has to answer.
-use crate::moved::values::{want, want_ok};
+use crate::wants::{want, want_ok};
 use epoch::{Capacities, Collector, Guard, LocalHandle};
 use std::alloc::Global;
 use std::process::Abort;
