@@ -1,5 +1,5 @@
 //! Tests of whole worlds by their public calls, over three stores of bags: what steps tell, alone and where a
-//! participant stalls, what the checkers of histories answer, and what is left where memory is refused.
+//! participant stalls, what the checkers of histories answer, what is left where memory is refused, and scripts.
 #![tactic(auto)]
 
 #[cfg(test)]
@@ -15,6 +15,8 @@ mod pile;
 mod rows;
 #[cfg(test)]
 mod runs;
+#[cfg(test)]
+mod script;
 #[cfg(test)]
 mod sharp;
 #[cfg(test)]

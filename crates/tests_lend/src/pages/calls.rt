@@ -1,14 +1,7 @@
-//! Calls on collectors, handles and guards as the tests make them, and what they have to answer. A comparison stands
-//! here once: written out in a test, it would be proved beside all that the test owns.
+//! Calls on collectors, handles and guards as the tests of pages make them: each asserts first what the call requires.
 use epoch::{Capacities, Collector, Guard, LocalHandle};
 use std::alloc::Global;
-use std::fmt::Debug;
 use std::process::Abort;
-
-/// Both are equal. `what` says what was seen.
-pub(crate) fn want<T: PartialEq + Debug + Drop>(rt: &impl Abort, what: &str, seen: T, wanted: T) {
-    assert_eq!(rt; seen, wanted, "{what}");
-}
 
 /// A collector with these capacities.
 pub(crate) fn collector<T: Drop>(

@@ -1,7 +1,7 @@
 //! Lines that look thrown: a word of a line doesn't fit exactly if the line is no step, or no shape.
 ghost use Rattle.std.specs.Prelude.{◌<◌};
 
-use crate::calls::want;
+use crate::wants::want;
 use epoch_script::{Expected, misfit_of, read_command, read_shape};
 use std::alloc::Global;
 use std::process::Abort;

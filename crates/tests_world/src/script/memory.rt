@@ -1,7 +1,7 @@
 //! `rt try --test --fail-alloc N` refuses the Nth allocation of each test, and this test passes whichever that is. In a
 //! plain run of the tests no allocation is refused.
-use crate::calls::want;
 use crate::script::refusals::{LINES, PRINTED, SCRIPT, ScriptOutcome, want_ended};
+use crate::wants::want;
 use epoch_script::{Ending, run};
 use std::alloc::{AllocError, Global};
 use std::process::Abort;

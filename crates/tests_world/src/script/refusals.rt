@@ -1,6 +1,6 @@
 //! One script, of which each read, each write and each flush is refused in turn, once, and a picture that can't be
 //! written. These tests take memory of their own, and want all of it.
-use crate::calls::want;
+use crate::wants::want;
 use epoch_script::{Ending, run, tell_usage};
 use std::alloc::Global;
 use std::io;
