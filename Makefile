@@ -1,9 +1,9 @@
 INPUT ?= crates/epoch_run_script/stdin
 ARGS ?= queue 3 4
 
-PICTURES = grace stall full held queue
+PICTURES = $(patsubst docs/pictures/%.txt,%,$(wildcard docs/pictures/*.txt))
 
-.PHONY: help run threads try draw pictures pages words test refute take beside beside-histories rivals
+.PHONY: help run threads try draw pictures pages words runs test refute take beside beside-histories rivals
 
 help:
 	@echo 'make try      compiles what runs a script, and runs it; proves nothing              20 s, then 1 s'
@@ -14,6 +14,8 @@ help:
 	@echo 'make test     the merge gate: every proof, every test, and the wrong bodies of'
 	@echo '              crates/*/must-fail, each of which must be refused. It proves everything'
 	@echo '              from scratch each time                                               80 min and more'
+	@echo 'make runs     gives scripts to the programs, and compares what they write with what was worked'
+	@echo '              out by hand; proves nothing                                         20 s, then 5 s'
 	@echo 'make refute   tries the other wrong bodies, those of crates/*/refuted             an hour and more'
 	@echo 'make pictures draws the pictures of the documents anew                                        30 s'
 	@echo 'make pages    writes the pages that follow from the sources: README.md of each crate, the'
@@ -66,7 +68,7 @@ draw:
 
 pictures:
 	@for name in $(PICTURES); do \
-	  $(MAKE) -s draw INPUT=crates/tests_draw/data/$$name.txt && cp out/run.svg crates/tests_draw/data/$$name.svg && cp out/run.svg docs/pictures/$$name.svg || exit 1; \
+	  $(MAKE) -s draw INPUT=docs/pictures/$$name.txt && cp out/run.svg docs/pictures/$$name.svg || exit 1; \
 	done
 
 pages:
@@ -75,8 +77,10 @@ pages:
 words:
 	@tools/pages.py --words
 
+runs:
+	@tools/runs.py --try
+
 test:
-	@for name in $(PICTURES); do cmp crates/tests_draw/data/$$name.svg docs/pictures/$$name.svg || exit 1; done
 	@rm -rf .git/proving .git/refuting
 	@tools/refute.py --stand
 	@tools/quotes.py
@@ -85,6 +89,7 @@ test:
 	@tools/pages.py --check
 	@tools/sizes.py
 	@tools/gate.py
+	@tools/runs.py
 
 refute:
 	@tools/refute.py $(CRATE)

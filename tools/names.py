@@ -7,7 +7,7 @@
   begins as a crate's name.
 - In a row of PROMISES.md, a clause stands in a contract of a call that is named in the same cell, a definition in the
   code, and a lemma in a proof. 'S/Name' and 'P/Name' are files in specs/ and proofs/.
-- A row of DIFFERENCES.md that quotes a script's name quotes one that a test has.
+- A row of DIFFERENCES.md that quotes a script's name quotes one of crates/epoch_run_script/runs.txt.
 - No two public types of all crates have one name, and no two definitions in specs/.
 - README.md says which crates of the toolchain are trusted: those that the lines of library crates in crates.txt name.
 - WORKING.md has the limits of tools/sizes.py.
@@ -36,7 +36,7 @@ CODE = set().union(*SOURCE_WORDS.values(), *map(words, SPECS.values()))
 RUST = set().union(*(words(open(f, encoding="utf-8").read()) for f in glob.glob("beside/**/*.rs", recursive=True)))
 LEMMAS = set().union(*map(words, PROOFS.values()))
 NAMES = words(" ".join([*SOURCES, *SPECS, *PROOFS, *glob.glob("crates/*"), *glob.glob("crates/*/*.txt")]))
-SCRIPTS = "".join(t for f, t in SOURCES.items() if "/tests_" in f)
+SCRIPTS = re.findall(r"^# (.*)$", open("crates/epoch_run_script/runs.txt", encoding="utf-8").read(), flags=re.M)
 
 
 CLAUSE = r"(?:ensures|requires)\*? (" + WORD + r") \{"
@@ -114,7 +114,7 @@ def bad_rows(text):
 
 def bad_scripts(text):
     for name in re.findall(r'[;|] "([^"]+)"', text):
-        if f'"{name}"' not in SCRIPTS:
+        if name not in SCRIPTS:
             yield f"no script is named {name}"
 
 

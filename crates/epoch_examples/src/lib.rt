@@ -1,4 +1,4 @@
-//! Small programs over these crates, each a page to copy: the functions are proved, and `tests_examples` runs them.
+//! Small programs over these crates, each a page to copy: the functions are proved, and `tests_lend` runs them.
 #![tactic(auto)]
 
 pub mod crossed_out;

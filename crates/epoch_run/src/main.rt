@@ -7,8 +7,6 @@ mod runs;
 mod sharing;
 mod stack;
 mod tally;
-#[cfg(test)]
-mod tests;
 mod threads;
 
 use epoch_bags::{Job, Work};

@@ -170,32 +170,60 @@ fn repins_after(
     keep(rt, seat, guard);
 }
 
+/// The slot and the turn of the value.
+fn named(shared: Shared<'_, u64>) -> Option<(u32, u32)> {
+    let name = shared.name()?;
+    Some((name.slot(), name.turn()))
+}
+
 /// Places 6 behind the pointer. It comes to this slot with this turn.
 fn places(
     rt: &impl Abort,
-    alloc: Global,
+    stage: &Stage<'_>,
     guard: &Guard<'_, u64>,
-    pointer: &Atomic<u64>,
-    wanted: (u32, u32),
+    (number, slot, turn): (usize, u32, u32),
 ) {
-    let shared = placed(rt, alloc, guard, 6);
-    let name = want_some(rt, "a value is named", shared.name());
-    want(rt, "its slot", (name.slot(), name.turn()), wanted);
-    let stored = pointer.store(shared, SeqCst, guard).is_ok();
-    want(rt, "a pointer is stored", stored, true);
+    let shared = placed(rt, stage.alloc, guard, 6);
+    want(rt, "its slot", named(shared), Some((slot, turn)));
+    let stored = stage.pointer(rt, number).store(shared, SeqCst, guard);
+    want(rt, "a pointer is stored", stored.is_ok(), true);
+}
+
+/// The number of the value that is taken back.
+fn taken(shared: Shared<'_, u64>, guard: &Guard<'_, u64>) -> Option<u64> {
+    Some(*Atomic::<u64>::from(shared).into_owned(guard)?)
 }
 
 /// The pointer's value is taken back, or isn't.
-fn takes(rt: &impl Abort, guard: &Guard<'_, u64>, shared: Shared<'_, u64>, wanted: Option<u64>) {
-    let taken = Atomic::<u64>::from(shared).into_owned(guard);
-    want(rt, "what is taken back", taken.map(|owned| *owned), wanted);
+fn takes(
+    rt: &impl Abort,
+    stage: &Stage<'_>,
+    guard: &Guard<'_, u64>,
+    number: usize,
+    wanted: Option<u64>,
+) {
+    let shared = stage.pointer(rt, number).load(SeqCst, guard);
+    want(rt, "what is taken back", taken(shared, guard), wanted);
 }
 
 /// The pointer's value isn't taken back while it is read.
-fn takes_nothing(rt: &impl Abort, guard: &Guard<'_, u64>, shared: Shared<'_, u64>) {
+fn takes_nothing(rt: &impl Abort, stage: &Stage<'_>, guard: &Guard<'_, u64>, number: usize) {
+    let shared = stage.pointer(rt, number).load(SeqCst, guard);
     let reading = want_some(rt, "the value is there", shared.deref());
-    takes(rt, guard, shared, None);
+    want(rt, "what is taken back", taken(shared, guard), None);
     reading.leave();
+}
+
+/// Defers the removal of the pointer's value.
+fn removes(
+    rt: &impl Abort,
+    stage: &Stage<'_>,
+    handle: &mut LocalHandle<'_, u64>,
+    guard: &Guard<'_, u64>,
+    number: usize,
+) {
+    let shared = stage.pointer(rt, number).load(SeqCst, guard);
+    remove(rt, handle, guard, shared);
 }
 
 /// This many values find a free cell, and then none does.
@@ -214,17 +242,11 @@ fn fills_nested(rt: &impl Abort, alloc: Global, handle: &mut LocalHandle<'_, u64
 }
 
 /// The only cell takes a value with each of these turns, and no other one until the value is taken back.
-fn uses_only_cell(
-    rt: &impl Abort,
-    alloc: Global,
-    guard: &Guard<'_, u64>,
-    pointer: &Atomic<u64>,
-    turns: u32,
-) {
+fn uses_only_cell(rt: &impl Abort, stage: &Stage<'_>, guard: &Guard<'_, u64>, turns: u32) {
     for turn in 0..turns {
-        places(rt, alloc, guard, pointer, (1, turn));
-        refuse_place(rt, alloc, guard);
-        takes(rt, guard, pointer.load(SeqCst, guard), Some(6));
+        places(rt, stage, guard, (0, 1, turn));
+        refuse_place(rt, stage.alloc, guard);
+        takes(rt, stage, guard, 0, Some(6));
     }
 }
 
@@ -278,26 +300,13 @@ fn act_under(
         }
         Deed::Notes(digit, number) => notes(rt, stage, handle, guard, (digit, number)),
         Deed::IsRefused => defer(rt, handle, guard, Job::Remove(Name::first()), false),
-        Deed::Places(number, slot, turn) => {
-            places(rt, alloc, guard, stage.pointer(rt, number), (slot, turn));
-        }
+        Deed::Places(number, slot, turn) => places(rt, stage, guard, (number, slot, turn)),
         Deed::Fills(cells) => fills(rt, alloc, guard, cells),
         Deed::FillsNested(cells) => fills_nested(rt, alloc, handle, cells),
-        Deed::Takes(number, wanted) => {
-            let shared = stage.pointer(rt, number).load(SeqCst, guard);
-            takes(rt, guard, shared, wanted);
-        }
-        Deed::TakesNothing(number) => {
-            let shared = stage.pointer(rt, number).load(SeqCst, guard);
-            takes_nothing(rt, guard, shared);
-        }
-        Deed::Removes(number) => {
-            let shared = stage.pointer(rt, number).load(SeqCst, guard);
-            remove(rt, handle, guard, shared);
-        }
-        Deed::UsesOnlyCell(turns) => {
-            uses_only_cell(rt, alloc, guard, stage.pointer(rt, 0), turns);
-        }
+        Deed::Takes(number, wanted) => takes(rt, stage, guard, number, wanted),
+        Deed::TakesNothing(number) => takes_nothing(rt, stage, guard, number),
+        Deed::Removes(number) => removes(rt, stage, handle, guard, number),
+        Deed::UsesOnlyCell(turns) => uses_only_cell(rt, stage, guard, turns),
         _ => panic!(rt; "a deed that needs no guard"),
     }
 }

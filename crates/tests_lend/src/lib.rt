@@ -1,8 +1,10 @@
-//! Tests of values that are lent to readers: in one cell, in many cells, and in stores.
+//! Tests of values that are lent to readers: in one cell, in many cells, and in stores. And runs of the pages to copy.
 #![tactic(auto)]
 
 #[cfg(test)]
 mod one_cell;
+#[cfg(test)]
+mod pages;
 #[cfg(test)]
 mod probes;
 #[cfg(test)]

@@ -1,6 +1,6 @@
 //! Tests of `epoch_lend_pointers` by its public calls.
 #[cfg(test)]
-mod calls;
+pub(crate) mod calls;
 #[cfg(test)]
 mod guards;
 #[cfg(test)]

@@ -3,6 +3,6 @@ use std::fmt::Debug;
 use std::process::Abort;
 
 /// The value is the one that is wanted.
-pub(crate) fn want<T: Copy + PartialEq + Debug>(rt: &impl Abort, what: &str, seen: T, wanted: T) {
+pub(crate) fn want<T: PartialEq + Debug + Drop>(rt: &impl Abort, what: &str, seen: T, wanted: T) {
     assert_eq!(rt; seen, wanted, "{what}");
 }

@@ -25,9 +25,9 @@ pub(crate) fn note(rt: &impl Abort, counts: &[AtomicU64], value: u64) {
     }
 }
 
-/// Each value came off once.
-pub(crate) fn want_each_once(rt: &impl Abort, counts: &[AtomicU64]) {
+/// Each count stands at this number.
+pub(crate) fn want_each(rt: &impl Abort, what: &str, counts: &[AtomicU64], wanted: u64) {
     for (value, count) in counts.iter().enumerate() {
-        assert_eq!(rt; count.load(SeqCst), 1, "how often {value} came off");
+        assert_eq!(rt; count.load(SeqCst), wanted, "{what}: value {value}");
     }
 }

@@ -1,7 +1,5 @@
 //! Tests of values that stacks and a queue move: what is pushed comes off itself, on one thread and on eight.
 #[cfg(test)]
-mod calls;
-#[cfg(test)]
 mod lists;
 #[cfg(test)]
 mod seats;

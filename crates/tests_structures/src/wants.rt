@@ -7,3 +7,11 @@ use std::process::Abort;
 pub(crate) fn want<T: PartialEq + Debug + Drop>(rt: &impl Abort, what: &str, seen: T, wanted: T) {
     assert_eq!(rt; seen, wanted, "{what}");
 }
+
+/// What was answered, where a success is wanted.
+pub(crate) fn want_ok<T, E: Drop>(rt: &impl Abort, what: &str, answer: Result<T, E>) -> T {
+    match answer {
+        Ok(value) => value,
+        Err(_) => panic!(rt; "{what}"),
+    }
+}

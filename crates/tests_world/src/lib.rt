@@ -1,11 +1,9 @@
 //! Tests of whole worlds by their public calls, over three stores of bags: what steps tell, alone and where a
-//! participant stalls, what the checkers of histories answer, and what is left where memory is refused.
+//! participant stalls, what the checkers of histories answer, what is left where memory is refused, and scripts.
 #![tactic(auto)]
 
 #[cfg(test)]
 mod cell_calls;
-#[cfg(test)]
-mod cells;
 #[cfg(test)]
 mod deeds;
 #[cfg(test)]
@@ -18,7 +16,7 @@ mod rows;
 #[cfg(test)]
 mod runs;
 #[cfg(test)]
-mod scripts;
+mod script;
 #[cfg(test)]
 mod sharp;
 #[cfg(test)]

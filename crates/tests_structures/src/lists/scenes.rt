@@ -56,15 +56,27 @@ impl Scene for PileScene {
     ) {
         let mut part = join(rt, alloc, store);
         let pile = empty_pile(rt, store, &mut part, self.is_queue);
-        match self.deed {
-            Deed::Order => in_order(rt, &pile, &mut part),
-            Deed::Refusals => refusals(rt, alloc, others, &pile, &mut part),
-            Deed::Full => full(rt, &pile, &mut part),
-            Deed::Held => held(rt, alloc, store, &pile, &mut part),
-            Deed::Random => compare(rt, alloc, &pile, &mut part),
-            Deed::Shown => shown(rt, alloc, &pile),
-        }
+        act_on(rt, alloc, (store, others), &pile, &mut part, self.deed);
         leave(rt, part);
+    }
+}
+
+/// Does this with the pile of the first one of these stores.
+fn act_on<'s, J: PostSet>(
+    rt: &impl Abort,
+    alloc: Global,
+    (store, others): (&Store<'s, J, Link>, &Store<'s, J, Link>),
+    pile: &Pile<'_, 's, J>,
+    part: &mut Part<'_, 's, J, Link>,
+    deed: Deed,
+) {
+    match deed {
+        Deed::Order => in_order(rt, pile, part),
+        Deed::Refusals => refusals(rt, alloc, others, pile, part),
+        Deed::Full => full(rt, pile, part),
+        Deed::Held => held(rt, alloc, store, pile, part),
+        Deed::Random => compare(rt, alloc, pile, part),
+        Deed::Shown => shown(rt, alloc, pile),
     }
 }
 

@@ -1,7 +1,7 @@
 //! Several threads on one stack or queue.
 ghost use Rattle.std.specs.Prelude.{◌≡◌};
 
-use crate::counts::{counts_of, note, want_each_once};
+use crate::counts::{counts_of, note, want_each};
 use crate::lending::{
     AFTER_A_RACE, Part, cells_in, domain_over, join, leave, posts, rounds, store_of,
 };
@@ -110,7 +110,7 @@ fn race<'s, J: PostSet + Send + Sync, R: Abort + Threads + Wait + Sync>(
             let _ = scope.spawn(move || work(rt, alloc, store, pile, off, first));
         }
     });
-    want_each_once(rt, off);
+    want_each(rt, "how often it came off", off, 1);
 }
 
 // Each thread pops as often as it pushes, so the pile is empty in the end. Nodes are dropped in the midst of the run,

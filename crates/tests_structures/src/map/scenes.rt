@@ -1,8 +1,8 @@
 //! Where the tests of the map play: a store, a map and one part.
-use crate::lending::{Scene, join, leave, play};
+use crate::lending::{Part, Scene, join, leave, play};
 use crate::map::alone::OF_STRANGERS;
 use crate::map::beside_std::compare;
-use crate::map::calls::{Node, Pinned, want_pins, want_rows};
+use crate::map::calls::{Map, Node, Pinned, want_pins, want_rows};
 use crate::shown::want_shown;
 use crate::wants::want;
 use epoch_lend::readers::posts::PostSet;
@@ -40,20 +40,37 @@ impl Scene for MapScene {
         let map = LendingMap::new(alloc, store, self.bits).expect(rt, "memory for a map");
         let buckets = 1usize.wrapping_shl(self.bits);
         want(rt, "how many buckets there are", map.buckets(), buckets);
-        // A map takes no writer of another store of its domain.
-        let writes = if let Deed::Strangers = self.deed {
-            others
-        } else {
-            store
-        };
-        let mut part = join(rt, alloc, writes);
-        match self.deed {
-            Deed::Calls(pins) => want_pins(rt, &map, &mut part, pins),
-            Deed::Strangers => want_rows(rt, &map, &mut part, OF_STRANGERS),
-            Deed::Random => compare(rt, alloc, &map, &mut part),
-            Deed::Shown => want_shown(rt, alloc, &map, "LendingMap { store: 0, .. }"),
-        }
+        let mut part = join(rt, alloc, written(self.deed, store, others));
+        act_on(rt, alloc, &map, &mut part, self.deed);
         leave(rt, part);
+    }
+}
+
+/// The store of the writer. A map takes no writer of another store of its domain.
+fn written<'q, 's, J: PostSet>(
+    deed: Deed,
+    store: &'q Store<'s, J, Node>,
+    others: &'q Store<'s, J, Node>,
+) -> &'q Store<'s, J, Node> {
+    match deed {
+        Deed::Strangers => others,
+        _ => store,
+    }
+}
+
+/// Does this with the map.
+fn act_on<'s, J: PostSet>(
+    rt: &impl Abort,
+    alloc: Global,
+    map: &Map<'_, 's, J>,
+    part: &mut Part<'_, 's, J, Node>,
+    deed: Deed,
+) {
+    match deed {
+        Deed::Calls(pins) => want_pins(rt, map, part, pins),
+        Deed::Strangers => want_rows(rt, map, part, OF_STRANGERS),
+        Deed::Random => compare(rt, alloc, map, part),
+        Deed::Shown => want_shown(rt, alloc, map, "LendingMap { store: 0, .. }"),
     }
 }
 

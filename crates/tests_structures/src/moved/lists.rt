@@ -1,15 +1,18 @@
 //! Values that a stack and a queue of lent nodes move.
 ghost use Rattle.std.specs.Prelude.{◌≡◌};
 
+use crate::counts::{counts_of, want_each};
 use crate::lending::{
     AFTER_A_RACE, Part, Scene, cells_in, domain_over, flush_if, join, leave, pin, play, posts,
     rounds, store_of,
 };
 use crate::moved::seats::{Seat, pop_the_rest, pop_values, push_and_pop, push_values};
-use crate::moved::values::{Drops, Token, counts_of, drops_of, want, want_each, want_ok};
+use crate::moved::values::{Drops, Token, drops_of};
+use crate::wants::{want, want_ok};
 use epoch_cells::{Fault, Refused};
 use epoch_lend::readers::posts::{Made, PostSet};
-use epoch_lend_pointers::Store;
+use epoch_lend::session::LendingGuard;
+use epoch_lend_pointers::{Store, Writer};
 use epoch_lists::{LendingQueue, LendingStack, OwnedNode};
 use std::alloc::Global;
 use std::marker::Brand;
@@ -29,6 +32,33 @@ enum MovedPile<'q, 's, J: PostSet> {
     Queue(LendingQueue<'q, 's, J, Link>),
 }
 
+impl<'s, J: PostSet> MovedPile<'_, 's, J> {
+    /// Pushes the value in one try.
+    fn push(
+        &self,
+        writer: &mut Writer<'_, 's, J, Link>,
+        guard: &LendingGuard<'_, J>,
+        token: Token,
+    ) -> Result<(), Refused<Token>> {
+        match self {
+            MovedPile::Stack(it) => it.push_owned(writer, guard, token, 1),
+            MovedPile::Queue(it) => it.push_owned(writer, guard, token, 1),
+        }
+    }
+
+    /// Pops a value in one try.
+    fn pop(
+        &self,
+        writer: &mut Writer<'_, 's, J, Link>,
+        guard: &LendingGuard<'_, J>,
+    ) -> Result<Option<Token>, Fault> {
+        match self {
+            MovedPile::Stack(it) => it.pop_owned(writer, guard, 1),
+            MovedPile::Queue(it) => it.pop_owned(writer, guard, 1),
+        }
+    }
+}
+
 /// A participant of a stack, or of a queue.
 struct LentSeat<'p, 'q, 's, J: PostSet> {
     pile: &'p MovedPile<'q, 's, J>,
@@ -43,10 +73,7 @@ impl<J: PostSet> Seat for LentSeat<'_, '_, '_, J> {
         flushes: bool,
     ) -> Result<(), Refused<Token>> {
         let guard = pin(rt, &mut self.part.session);
-        let pushed = match self.pile {
-            MovedPile::Stack(it) => it.push_owned(&mut self.part.writer, &guard, token, 1),
-            MovedPile::Queue(it) => it.push_owned(&mut self.part.writer, &guard, token, 1),
-        };
+        let pushed = self.pile.push(&mut self.part.writer, &guard, token);
         self.part.session.unpin(guard);
         flush_if(&mut self.part.writer, flushes);
         pushed
@@ -54,10 +81,7 @@ impl<J: PostSet> Seat for LentSeat<'_, '_, '_, J> {
 
     fn pop<R: Abort>(&mut self, rt: &R, flushes: bool) -> Result<Option<Token>, Fault> {
         let guard = pin(rt, &mut self.part.session);
-        let popped = match self.pile {
-            MovedPile::Stack(it) => it.pop_owned(&mut self.part.writer, &guard, 1),
-            MovedPile::Queue(it) => it.pop_owned(&mut self.part.writer, &guard, 1),
-        };
+        let popped = self.pile.pop(&mut self.part.writer, &guard);
         self.part.session.unpin(guard);
         flush_if(&mut self.part.writer, flushes);
         popped

@@ -1,7 +1,6 @@
 //! What is done with a stack or a queue of values that are moved, whichever it is.
-use crate::moved::values::{
-    Drops, Token, back_of, count, number_of, told_of_pop, told_of_push, want,
-};
+use crate::moved::values::{Drops, Token, back_of, count, number_of, told_of_pop, told_of_push};
+use crate::wants::want;
 use epoch::{Fault, Refused};
 use std::alloc::Global;
 use std::process::Abort;

@@ -1,7 +1,8 @@
 //! Values that a counted stack moves.
-use crate::moved::calls::{collector, end, pin, register, release, unpin};
+use crate::calls::{collector, end, pin, register, release, unpin};
+use crate::counts::want_each;
 use crate::moved::seats::{Seat, pop_values, push_values};
-use crate::moved::values::{Drops, Token, drops_of, want_dropped, want_each};
+use crate::moved::values::{Drops, Token, drops_of, want_dropped};
 use epoch::{Capacities, Collector, Fault, LocalHandle, Refused};
 use epoch_cells::take_once::TakeOnce;
 use epoch_stack::{Node, Stack};

@@ -1,8 +1,8 @@
-//! Values that aren't copied, what they count, and what the tests want of both. A comparison stands here once: written
-//! out in a test, it would be proved beside all that the test owns.
+//! Values that aren't copied, and what they count.
+use crate::counts::{counts_of, note};
+use crate::wants::{want, want_ok};
 use epoch::{Fault, Refused};
 use std::alloc::Global;
-use std::fmt::Debug;
 use std::process::Abort;
 use std::sync::Arc;
 use std::sync::atomic::AtomicU64;
@@ -47,19 +47,6 @@ pub(crate) fn told_of_pop(popped: Result<Option<Token>, Fault>) -> Result<Option
     Ok(number_of(found))
 }
 
-/// Both are equal. `what` says what was seen.
-pub(crate) fn want<T: PartialEq + Debug + Drop>(rt: &impl Abort, what: &str, seen: T, wanted: T) {
-    assert_eq!(rt; seen, wanted, "{what}");
-}
-
-/// What was answered, where a success is wanted.
-pub(crate) fn want_ok<T, E: Drop>(rt: &impl Abort, what: &str, answer: Result<T, E>) -> T {
-    match answer {
-        Ok(value) => value,
-        Err(_) => panic!(rt; "{what}"),
-    }
-}
-
 /// What a push answered: its fault, and the number of the value that it handed back, which is dropped.
 pub(crate) fn told_of_push(pushed: Result<(), Refused<Token>>) -> Result<(), (Fault, u64)> {
     let Err(Refused { fault, value }) = pushed else {
@@ -82,16 +69,6 @@ pub(crate) fn back_of(
     Some(value)
 }
 
-/// This many counts that stand at 0.
-pub(crate) fn counts_of(rt: &impl Abort, alloc: Global, values: u64) -> Vec<AtomicU64> {
-    let mut counts = Vec::new(alloc);
-    for _ in 0..values {
-        let pushed = counts.push(AtomicU64::new(0)).is_ok();
-        want(rt, "memory for a count", pushed, true);
-    }
-    counts
-}
-
 /// This many counts of drops, which stand at 0.
 pub(crate) fn drops_of(rt: &impl Abort, alloc: Global, values: u64) -> Drops {
     let counts = counts_of(rt, alloc, values);
@@ -100,21 +77,8 @@ pub(crate) fn drops_of(rt: &impl Abort, alloc: Global, values: u64) -> Drops {
 
 /// Counts that the value came off, and drops it.
 pub(crate) fn count(rt: &impl Abort, counts: &[AtomicU64], popped: Option<Token>) {
-    let Some(number) = number_of(popped) else {
-        return;
-    };
-    match counts.get(number as usize) {
-        Some(count) => {
-            count.fetch_add(1, SeqCst);
-        }
-        None => panic!(rt; "{number} was never pushed"),
-    }
-}
-
-/// Each count stands at this number.
-pub(crate) fn want_each(rt: &impl Abort, what: &str, counts: &[AtomicU64], wanted: u64) {
-    for (value, count) in counts.iter().enumerate() {
-        assert_eq!(rt; count.load(SeqCst), wanted, "{what}: value {value}");
+    if let Some(number) = number_of(popped) {
+        note(rt, counts, number);
     }
 }
 

@@ -1,4 +1,5 @@
 //! Calls on collectors, handles, guards and stacks as the tests make them, and what they have to answer.
+use crate::calls::{pin, unpin};
 use crate::wants::want;
 use epoch::{Capacities, Collector, Fault, Guard, LocalHandle, Refused};
 use epoch_stack::{Node, Stack};
@@ -14,13 +15,6 @@ pub(crate) type Handle<'c> = LocalHandle<'c, Node<u64>>;
 /// A guard of such a collector.
 pub(crate) type Pin<'c> = Guard<'c, Node<u64>>;
 
-/// A collector with these capacities. Memory is there: an error's way out of a test would be proved beside all that it
-/// owns.
-pub(crate) fn collector(rt: &impl Abort, alloc: Global, capacities: Capacities) -> Nodes {
-    assert!(rt; capacities.is_valid(), "the capacities are in their ranges");
-    Collector::new(alloc, capacities, 1).expect(rt, "memory for a collector")
-}
-
 /// Capacities with one job a bag, of which a collection takes one, and one place.
 pub(crate) fn one_job_a_bag(participants: u32, cells: u32) -> Capacities {
     Capacities {
@@ -30,23 +24,6 @@ pub(crate) fn one_job_a_bag(participants: u32, cells: u32) -> Capacities {
         bag_jobs: 1,
         collect_bags: 1,
     }
-}
-
-/// A new participant, for which a position is free.
-pub(crate) fn register<'c>(rt: &impl Abort, collector: &'c Nodes) -> Handle<'c> {
-    collector.register().expect(rt, "a free position")
-}
-
-/// Pins the handle.
-pub(crate) fn pin<'c>(rt: &impl Abort, handle: &mut Handle<'c>) -> Pin<'c> {
-    assert!(rt; handle.can_pin(), "a further guard can be counted");
-    handle.pin()
-}
-
-/// Spends a guard of the handle.
-pub(crate) fn unpin<'c>(rt: &impl Abort, handle: &mut Handle<'c>, guard: Pin<'c>) {
-    assert!(rt; handle.owns(&guard), "the guard is one of the handle");
-    handle.unpin(guard);
 }
 
 /// Spends an unprotected guard.
@@ -67,19 +44,6 @@ fn round(rt: &impl Abort, handle: &mut Handle<'_>) -> Result<(), Fault> {
 /// Makes a round, whose flush answers this.
 pub(crate) fn want_round(rt: &impl Abort, handle: &mut Handle<'_>, wanted: Result<(), Fault>) {
     want(rt, "the flush of a round", round(rt, handle), wanted);
-}
-
-/// Releases the handle, whose bag finds a place.
-pub(crate) fn release(rt: &impl Abort, handle: Handle<'_>) {
-    assert!(rt; handle.guards_out() == 0, "each guard is spent");
-    if let Err((_back, fault)) = handle.release() {
-        panic!(rt; "{fault}");
-    }
-}
-
-/// Ends the collector, which calls this many jobs.
-pub(crate) fn end(rt: &impl Abort, collector: Nodes, jobs: u64) {
-    want(rt, "the jobs that the end calls", collector.end(), jobs);
 }
 
 /// What a push answered: its fault, and the value that it handed back.

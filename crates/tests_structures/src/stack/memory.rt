@@ -1,8 +1,7 @@
 //! Memory that is refused to a push: `rt try --test --fail-alloc N` refuses the Nth allocation of each test, and each
 //! of these tests passes whichever that is. In a plain run no allocation is refused.
-use crate::stack::calls::{
-    Handle, Nodes, Pin, end, pin, register, release, told, unpin, want_empty, want_pop,
-};
+use crate::calls::{end, pin, register, release, unpin};
+use crate::stack::calls::{Handle, Nodes, Pin, told, want_empty, want_pop};
 use crate::wants::want;
 use epoch::{Capacities, Collector, Fault};
 use epoch_stack::Stack;

@@ -1,7 +1,7 @@
 //! What one participant does with a stack, as a table: deeds under one guard after the other.
+use crate::calls::{collector, end, pin, register, release, unpin};
 use crate::stack::calls::{
-    Handle, Pin, collector, end, let_go, pin, pop, pop_alone, push, register, release, unpin,
-    want_empty, want_pop, want_push, want_round,
+    Handle, Pin, let_go, pop, pop_alone, push, want_empty, want_pop, want_push, want_round,
 };
 use crate::wants::want;
 use epoch::{Capacities, Fault, unprotected};

@@ -1,6 +1,7 @@
 //! A stack as its user writes it.
+use crate::calls::{collector, end, pin, register, release, unpin};
 use crate::shown::want_shown;
-use crate::stack::calls::{Handle, Pin, collector, end, pin, register, release, unpin};
+use crate::stack::calls::{Handle, Pin};
 use crate::wants::want;
 use epoch::{Capacities, Fault};
 use epoch_stack::Stack;
@@ -41,7 +42,7 @@ fn two_values_come_off_and_then_none(rt: HostRuntime) {
 #[test]
 fn a_stack_is_shown_by_the_number_of_its_collector(rt: HostRuntime) {
     let collector = collector(&rt, rt.alloc(), Capacities::usual(1, 1, 1));
-    let stack = Stack::new(&collector);
+    let stack: Stack<u64> = Stack::new(&collector);
     want_shown(&rt, rt.alloc(), &stack, "Stack { collector: 1, .. }");
     drop(stack);
     end(&rt, collector, 0);

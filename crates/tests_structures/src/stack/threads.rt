@@ -1,6 +1,7 @@
 //! A stack that threads share.
-use crate::counts::{counts_of, note, want_each_once};
-use crate::stack::calls::{Handle, Nodes, collector, pin, register, told, unpin, want_empty};
+use crate::calls::{collector, pin, register, unpin};
+use crate::counts::{counts_of, note, want_each};
+use crate::stack::calls::{Handle, Nodes, told, want_empty};
 use crate::wants::want;
 use epoch::{Capacities, Fault, Guard};
 use epoch_stack::{Node, Stack};
@@ -180,7 +181,7 @@ fn race<R: Abort + Threads + Wait + Sync>(
         }
     });
     pop_the_rest(rt, &collector, &stack, &counts);
-    want_each_once(rt, &counts);
+    want_each(rt, "how often it came off", &counts, 1);
     let free = free_cells(rt, alloc, &collector, &stack);
     want(rt, "the cells that are free", free, cells);
     drop(stack);

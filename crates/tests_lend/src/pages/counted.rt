@@ -1,5 +1,6 @@
 //! Runs the pages on counted pointers and on worlds, on threads where they are for threads.
-use crate::calls::{collector, pin, register, release, unpin, want};
+use crate::pages::calls::{collector, pin, register, release, unpin};
+use crate::wants::want;
 use epoch::atomic::Atomic;
 use epoch::{Capacities, Collector, Fault, Guard, Job, LocalHandle, Work};
 use epoch_examples::crossed_out::{CrossedEntry, List};

@@ -1,23 +1,19 @@
-//! Calls on collectors, handles and guards as the tests make them, and what they have to answer. A comparison stands
-//! here once: written out in a test, it would be proved beside all that the test owns.
+//! Calls on collectors, handles and guards as the tests make them: each asserts first what the call requires, and then
+//! what it has to answer.
+use crate::wants::{want, want_ok};
 use epoch::{Capacities, Collector, Guard, LocalHandle};
 use std::alloc::Global;
-use std::fmt::Debug;
 use std::process::Abort;
 
-/// Both are equal. `what` says what was seen.
-pub(crate) fn want<T: PartialEq + Debug + Drop>(rt: &impl Abort, what: &str, seen: T, wanted: T) {
-    assert_eq!(rt; seen, wanted, "{what}");
-}
-
-/// A collector with these capacities.
+/// A collector with these capacities. Memory is there.
 pub(crate) fn collector<T: Drop>(
     rt: &impl Abort,
     alloc: Global,
     capacities: Capacities,
 ) -> Collector<T> {
     assert!(rt; capacities.is_valid(), "the capacities are in their ranges");
-    Collector::new(alloc, capacities, 1).expect(rt, "memory for a collector")
+    let made = Collector::new(alloc, capacities, 1);
+    want_ok(rt, "memory for a collector", made)
 }
 
 /// A new participant, for which a position is free.
@@ -25,7 +21,7 @@ pub(crate) fn register<'c, T: Drop>(
     rt: &impl Abort,
     collector: &'c Collector<T>,
 ) -> LocalHandle<'c, T> {
-    collector.register().expect(rt, "a free position")
+    want_ok(rt, "a free position", collector.register())
 }
 
 /// Pins the handle.
@@ -50,4 +46,9 @@ pub(crate) fn release<T: Drop>(rt: &impl Abort, handle: LocalHandle<'_, T>) {
     if let Err((_back, fault)) = handle.release() {
         panic!(rt; "{fault}");
     }
+}
+
+/// Ends the collector, which calls this many jobs.
+pub(crate) fn end<T: Drop>(rt: &impl Abort, collector: Collector<T>, jobs: u64) {
+    want(rt, "the jobs that the end calls", collector.end(), jobs);
 }

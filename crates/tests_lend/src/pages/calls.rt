@@ -1,19 +1,16 @@
-//! Calls on collectors, handles and guards as the tests make them: each asserts first what the call requires, and then
-//! what it has to answer.
-use crate::moved::values::{want, want_ok};
+//! Calls on collectors, handles and guards as the tests of pages make them: each asserts first what the call requires.
 use epoch::{Capacities, Collector, Guard, LocalHandle};
 use std::alloc::Global;
 use std::process::Abort;
 
-/// A collector with these capacities. Memory is there.
+/// A collector with these capacities.
 pub(crate) fn collector<T: Drop>(
     rt: &impl Abort,
     alloc: Global,
     capacities: Capacities,
 ) -> Collector<T> {
     assert!(rt; capacities.is_valid(), "the capacities are in their ranges");
-    let made = Collector::new(alloc, capacities, 1);
-    want_ok(rt, "memory for a collector", made)
+    Collector::new(alloc, capacities, 1).expect(rt, "memory for a collector")
 }
 
 /// A new participant, for which a position is free.
@@ -21,7 +18,7 @@ pub(crate) fn register<'c, T: Drop>(
     rt: &impl Abort,
     collector: &'c Collector<T>,
 ) -> LocalHandle<'c, T> {
-    want_ok(rt, "a free position", collector.register())
+    collector.register().expect(rt, "a free position")
 }
 
 /// Pins the handle.
@@ -46,9 +43,4 @@ pub(crate) fn release<T: Drop>(rt: &impl Abort, handle: LocalHandle<'_, T>) {
     if let Err((_back, fault)) = handle.release() {
         panic!(rt; "{fault}");
     }
-}
-
-/// Ends the collector, which calls this many jobs.
-pub(crate) fn end<T: Drop>(rt: &impl Abort, collector: Collector<T>, jobs: u64) {
-    want(rt, "the jobs that the end calls", collector.end(), jobs);
 }

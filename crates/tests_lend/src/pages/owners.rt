@@ -1,6 +1,8 @@
 //! Threads that claim the same keys.
-use crate::calls::want;
-use crate::lent::stage::{Page, Tally, add, cells, pin, play, release, session, writer};
+use crate::pages::stage::{Page, Tally, add, cells, play};
+use crate::sessions::{pin, session};
+use crate::stores::calls::{release, writer};
+use crate::wants::want;
 use epoch_examples::lent::owners::{Claim, claim, give_up};
 use epoch_lend_pointers::{Domain, PostSet, Session, Store, Writer};
 use epoch_map::LendingMap;

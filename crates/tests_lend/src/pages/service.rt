@@ -1,8 +1,10 @@
 //! Requests to a service, each of which reads values of three stores under one guard.
-use crate::calls::want;
-use crate::lent::config::config_of;
-use crate::lent::stage::{Page, cells, pin, play, release, session, writer};
-use crate::lent::work_queue::empty_queue;
+use crate::pages::config::config_of;
+use crate::pages::stage::{Page, cells, play};
+use crate::pages::work_queue::empty_queue;
+use crate::sessions::{pin, session};
+use crate::stores::calls::{release, writer};
+use crate::wants::want;
 use epoch_examples::lent::config::{Config, config_at, replace_config};
 use epoch_examples::lent::owners::{Claim, claim};
 use epoch_examples::lent::service::serve;

@@ -1,10 +1,8 @@
 //! A domain for the pages whose values are lent, and calls of sessions and writers.
 ghost use Rattle.std.specs.Prelude.{◌≡◌, IsSome};
 
-use crate::lent::{config, owners, service, sorted_list, work_queue};
-use epoch_lend_pointers::{
-    Domain, LendingGuard, LentCells, Made, PostSet, Posts, Session, Store, Writer,
-};
+use crate::pages::{config, owners, service, sorted_list, work_queue};
+use epoch_lend_pointers::{Domain, LentCells, Made, PostSet, Posts, Session};
 use std::alloc::Global;
 use std::marker::Brand;
 use std::process::Abort;
@@ -77,39 +75,9 @@ pub(crate) fn cells<J: PostSet, V: Drop>(
     LentCells::new(alloc, 2_048, domain).expect(rt, "memory for cells")
 }
 
-/// A session, for which a post is free.
-pub(crate) fn session<'d, J: PostSet>(rt: &impl Abort, domain: &'d Domain<J>) -> Session<'d, J> {
-    domain.session().expect(rt, "a free post")
-}
-
 /// No guard of the session is out.
 pub(crate) fn want_idle<J: PostSet>(rt: &impl Abort, session: &Session<'_, J>)
     ensures { IsSome session.now.reader }
 {
     assert!(rt; session.can_pin(), "no guard of the session is out");
-}
-
-/// Pins the session.
-pub(crate) fn pin<'d, J: PostSet>(
-    rt: &impl Abort,
-    session: &mut Session<'d, J>,
-) -> LendingGuard<'d, J> {
-    want_idle(rt, session);
-    session.pin()
-}
-
-/// A writer of this store, for which there is memory.
-pub(crate) fn writer<'q, 's, J: PostSet, V: Drop>(
-    rt: &impl Abort,
-    alloc: Global,
-    store: &'q Store<'s, J, V>,
-) -> Writer<'q, 's, J, V> {
-    Writer::new(alloc, store).expect(rt, "memory for a writer")
-}
-
-/// Releases the writer, for which there is memory.
-pub(crate) fn release<J: PostSet, V: Drop>(rt: &impl Abort, writer: Writer<'_, '_, J, V>) {
-    if let Err((_back, fault)) = writer.release() {
-        panic!(rt; "{fault}");
-    }
 }

@@ -1,6 +1,8 @@
 //! Threads that hand jobs to others.
-use crate::calls::want;
-use crate::lent::stage::{Page, Tally, add, cells, play, release, session, want_idle, writer};
+use crate::pages::stage::{Page, Tally, add, cells, play, want_idle};
+use crate::sessions::session;
+use crate::stores::calls::{release, writer};
+use crate::wants::want;
 use epoch_examples::lent::work_queue::{JobNode, receive, send};
 use epoch_lend_pointers::{Domain, PostSet, Session, Store, Writer};
 use epoch_lists::{LendingQueue, OwnedNode};

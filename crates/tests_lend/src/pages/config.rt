@@ -1,6 +1,8 @@
 //! Threads that read a configuration while another one replaces it.
-use crate::calls::want;
-use crate::lent::stage::{Page, Tally, add, cells, pin, play, release, session, writer};
+use crate::pages::stage::{Page, Tally, add, cells, play};
+use crate::sessions::{pin, session};
+use crate::stores::calls::{release, writer};
+use crate::wants::want;
 use epoch_examples::lent::config::{Config, config_at, replace_config};
 use epoch_lend_pointers::{Atomic, Domain, LendingGuard, Plain, PostSet, Store};
 use std::alloc::{AllocError, Global};

@@ -1,6 +1,8 @@
 //! Threads that look through a list while another one changes it.
-use crate::calls::want;
-use crate::lent::stage::{Page, Tally, add, cells, pin, play, release, session, writer};
+use crate::pages::stage::{Page, Tally, add, cells, play};
+use crate::sessions::{pin, session};
+use crate::stores::calls::{release, writer};
+use crate::wants::want;
 use epoch_examples::lent::sorted_list::{SortedEntry, SortedList};
 use epoch_lend_pointers::{Domain, Fault, PostSet, Session, Store, Writer};
 use std::alloc::Global;

@@ -1,5 +1,0 @@
-use Rattle.tests_examples.proofs.lent.stage.play.Given as goal
-
--- the set has the posts that were made
-abbrev pub ghosts-begin : goal.ghosts-begin
-ghosts-begin g a = record { posts = a.made.posts.items }
