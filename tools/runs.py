@@ -109,7 +109,9 @@ def main():
             found += drawn_faults(program)
     for it in found:
         print(it)
-    print(f"{count} scripts were run, and the pictures drawn: {len(found)} wrote something else")
+    pictures = len(glob.glob("docs/pictures/*.txt"))
+    print(f"{count} scripts were run, and {pictures} pictures drawn:")
+    print(f"{count + pictures - len(found)} passed, {len(found)} failed")
     return 1 if found else 0
 
 
