@@ -11,8 +11,9 @@ returns-in-Some-clause-did g c =
     let name : Name = c.in_ok-name.name in
     let named : c.load.result.name ≡ Some name = sym c.in_ok-name.ensures in
     let loads = LoadsPointer g.T.Pointable.ALIGN (g.A.SharedWord.did c.args.at.now.word) in
-    let loaded : loads (Some name) c.load.result.tag = subst (λ o. loads o c.load.result.tag) named c.load.ensures.did in
-    ∥∥₁_map c.in-Some.ensures (λ lent. (name, c.load.result.tag, loaded, lent))
+    let tag = c.load.result.tag in
+    let loaded : loads (Some name) tag = subst (λ o. loads o tag) named c.load.ensures.did in
+    ∥∥₁_map c.in-Some.ensures (λ lent. (name, tag, loaded, lent))
 
 -- the value was found now
 pub invariant_of-self : goal.invariant_of-self
@@ -29,5 +30,6 @@ returns-clause-did g c =
     let name : Name = c.in_ok-name.name in
     let named : c.load.result.name ≡ Some name = sym c.in_ok-name.ensures in
     let loads = LoadsPointer g.T.Pointable.ALIGN (g.A.SharedWord.did c.args.at.now.word) in
-    let loaded : loads (Some name) c.load.result.tag = subst (λ o. loads o c.load.result.tag) named c.load.ensures.did in
-    ∣ (name, c.load.result.tag, loaded, c.in_ok-value.ensures) ∣₁
+    let tag = c.load.result.tag in
+    let loaded : loads (Some name) tag = subst (λ o. loads o tag) named c.load.ensures.did in
+    ∣ (name, tag, loaded, c.in_ok-value.ensures) ∣₁

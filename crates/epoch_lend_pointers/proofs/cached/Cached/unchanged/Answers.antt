@@ -13,9 +13,10 @@ returns g c =
     let name : Name = c.in_ok-name.name in
     let named : c.load.result.name ≡ Some name = sym c.in_ok-name.ensures in
     let loads = LoadsPointer g.T.Pointable.ALIGN (g.A.SharedWord.did c.args.at.now.word) in
-    let loaded : loads (Some name) c.load.result.tag = subst (λ o. loads o c.load.result.tag) named c.load.ensures.did in
+    let tag = c.load.result.tag in
+    let loaded : loads (Some name) tag = subst (λ o. loads o tag) named c.load.ensures.did in
     record {
       did = found_by (λ v. did (Lends name v.now))
           (λ v. LendsLoaded g.T.Pointable.ALIGN (g.A.SharedWord.did c.args.at.now.word) did v.now)
-          c.kept.result (λ v lent. (name, c.load.result.tag, loaded, lent)) c.kept.ensures;
+          c.kept.result (λ v lent. (name, tag, loaded, lent)) c.kept.ensures;
     }
