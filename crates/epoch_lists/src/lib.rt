@@ -3,6 +3,7 @@
 
 mod owned;
 pub mod queue;
+mod root;
 pub mod stack;
 
 pub use epoch_lend_nodes::{Gathers, LentNode, ListNode};
