@@ -79,21 +79,6 @@ fn replace<'s, J: PostSet>(
     before.is_null() || writer.retire(before).is_ok()
 }
 
-/// Reads [`TOGETHER`] times under this guard.
-#[inline(always)]
-fn reads_under<'s, J: PostSet>(
-    store: &Store<'s, J, Small>,
-    pointer: &Atomic<Small>,
-    guard: &LendingGuard<'_, J>,
-) -> u64 {
-    let mut cached = store.cached(guard);
-    let mut sum: u64 = 0;
-    for _ in 0..TOGETHER {
-        sum = sum.wrapping_add(sum_of(cached.get(pointer)));
-    }
-    sum
-}
-
 /// Reads under this guard for as long as the pointer leads to one value, and at least once. Returns what the reads sum
 /// up to, and how many there were.
 #[inline(always)]
@@ -112,6 +97,26 @@ fn unchanged_reads<'s, J: PostSet>(
         sum = sum.wrapping_add(value.sum());
     }
     (sum, most)
+}
+
+/// Reads [`TOGETHER`] times under this guard.
+#[inline(always)]
+fn reads_under<'s, J: PostSet>(
+    store: &Store<'s, J, Small>,
+    pointer: &Atomic<Small>,
+    guard: &LendingGuard<'_, J>,
+) -> u64 {
+    let mut left = TOGETHER;
+    let mut sum: u64 = 0;
+    for _ in 0..TOGETHER {
+        if left == 0 {
+            break;
+        }
+        let (summed, reads) = unchanged_reads(store, pointer, guard, left);
+        sum = sum.wrapping_add(summed);
+        left = left.saturating_sub(reads);
+    }
+    sum
 }
 
 /// Reads many times under one guard, which is renewed as soon as the pointer leads to another value.

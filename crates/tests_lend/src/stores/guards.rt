@@ -137,6 +137,52 @@ fn a_value_waits_for_two_guards_one_after_the_other(rt: HostRuntime) -> Result<(
     Ok(())
 }
 
+/// Reads what is cached while the value is replaced, and asks the guard whether it is current.
+pub(crate) fn caches<J: PostSet>(
+    rt: &impl Abort,
+    alloc: Global,
+    store: &Store<'_, J, Probe>,
+    counts: &Counts,
+) {
+    let mut reader = session(rt, store.domain());
+    let mut other = session(rt, store.domain());
+    let mut writer = writer(rt, alloc, store);
+    let pointer = Atomic::null();
+    let guard = pin(rt, &mut reader);
+    let mut cached = store.cached(&guard);
+    let seen = number_of(cached.get(&pointer));
+    want(rt, "null leads nowhere", seen, 99);
+    for number in 1..3usize {
+        let value = Probe::new(number, counts);
+        let fault = replace_once(rt, &mut other, &mut writer, &pointer, value);
+        want(rt, "a value is placed", fault, None);
+        let seen = number_of(cached.unchanged(&pointer));
+        want(rt, "it isn't the one from before", seen, 99);
+        let seen = number_of(cached.get(&pointer));
+        want(rt, "it is got", seen, number);
+        let seen = number_of(cached.unchanged(&pointer));
+        want(rt, "and stays the same", seen, number);
+    }
+    want(rt, "no epoch has begun", guard.is_current(), true);
+    flush(&mut writer, 1);
+    want(rt, "one has begun", guard.is_current(), false);
+    let guard = guard.renew();
+    want(rt, "and the guard is of it", guard.is_current(), true);
+    reader.unpin(guard);
+    let fault = clear_once(rt, &mut other, &mut writer, &pointer);
+    want(rt, "the last value is retired", fault, None);
+    flush(&mut writer, 4);
+    release(rt, writer);
+}
+
+#[test]
+fn a_cached_value_is_the_one_that_the_pointer_leads_to(rt: HostRuntime) -> Result<(), Fail> {
+    let counts = counts_for(rt.alloc(), 8)?;
+    let left = play(&rt, rt.alloc(), 8, Scene::Caches, &counts);
+    want(&rt, "no value is left", left, Some(0));
+    Ok(())
+}
+
 /// Replaces the value this often, and renews the guard after each time.
 fn renewed<'d, J: PostSet>(
     rt: &impl Abort,

@@ -1,6 +1,6 @@
 //! Where a test plays: a domain of a few posts, and a store of probes in it.
 use crate::probes::{Counts, Probe};
-use crate::stores::guards::{keeps_grace, lends, lends_of_two_stores, renews, waits};
+use crate::stores::guards::{caches, keeps_grace, lends, lends_of_two_stores, renews, waits};
 use crate::stores::memory::asks_for_memory;
 use crate::stores::refusals::refuses;
 use crate::stores::stalled::stalls;
@@ -18,6 +18,7 @@ pub(crate) enum Scene {
     Lends,
     KeepsGrace,
     Waits,
+    Caches,
     Renews,
     LendsOfTwoStores,
     Refuses,
@@ -69,6 +70,7 @@ fn act<J: PostSet>(
         Scene::Lends => lends(rt, alloc, store, counts),
         Scene::KeepsGrace => keeps_grace(rt, alloc, store, counts),
         Scene::Waits => waits(rt, alloc, store, counts),
+        Scene::Caches => caches(rt, alloc, store, counts),
         Scene::Renews => renews(rt, alloc, store, counts),
         Scene::LendsOfTwoStores => lends_of_two_stores(rt, alloc, store, counts),
         Scene::Refuses => refuses(rt, alloc, store, counts),
