@@ -20,7 +20,7 @@ use std::time::Clock;
 const TRIES: u32 = 1_000_000;
 
 // So many that no call is refused while a thread is stopped that is pinned.
-const CELLS: u32 = 262_144;
+const CELLS: u32 = 1_048_576;
 
 type NumberNode = ListNode<u64>;
 

@@ -45,7 +45,7 @@ pub const SIDES: [(&str, &str, SideWork); 17] = [
     ("queue_push_pop", "library", LentPair(PairRow::Queue)),
     ("queue_push_pop", "kit_seg_queue", KitQueue),
     ("stack_push_pop", "library", LentPair(PairRow::Stack)),
-    ("replace_retire", "library", LentValue(REPLACE_IN_MORE)),
+    ("replace_retire", "library", LentValue(REPLACE_IN_MANY)),
     (
         "replace_retire_busy_4096",
         "library",
