@@ -1,8 +1,5 @@
 -- What follows for removals that go back together, and for names of values by their slots.
-use Rattle.std.proofs.Common.{◌≡◌, ℕ, zero, suc, Bool, true, false, if◌then◌else◌, List, [], ◌∷◌, ◌++◌, map, refl, ap}
-use Rattle.std.specs.Prelude.{Some}
-use Rattle.std.specs.List.{slice_get}
-use Rattle.std.proofs.lemmas.Option.{none-some, same_Some}
+use Rattle.std.proofs.Common.{ℕ, Bool, true, false, if◌then◌else◌, List, [], ◌∷◌, ◌++◌, refl}
 use Rattle.std.proofs.lemmas.Bool.{and_parts, and_from}
 use Rattle.epoch_lend.specs.Posts.{is_among}
 use Rattle.epoch_lend.specs.Loans.{Loan, are_within, Within}
@@ -58,16 +55,3 @@ within_more ηs [] ms one other = other
 within_more ηs (l ∷ ls) ms one other =
     let parts = and_parts (is_among l.log ηs) (are_within ηs ls) one in
     and_from (is_among l.log ηs) (are_within ηs (ls ++ ms)) parts.0 (within_more ηs ls ms parts.1 other)
-
--- the names of removals, and of one more
-pub names_snoc : {X Y : Type 0} (name_of : X → Y) (xs : List X) (x : X)
-    → map name_of (xs ++ x ∷ []) ≡ map name_of xs ++ name_of x ∷ []
-names_snoc name_of [] x = refl
-names_snoc name_of (y ∷ ys) x = ap (λ zs. name_of y ∷ zs) (names_snoc name_of ys x)
-
--- what is at a slot has that slot's log
-pub log_at : {X : Type 0} (log_of : X → ℕ) (xs : List X) (i : ℕ) (x : X) → slice_get xs i ≡ Some x
-    → slice_get (map log_of xs) i ≡ Some (log_of x)
-log_at log_of [] i x at = absurd (none-some x at)
-log_at log_of (y ∷ ys) zero x at = ap (λ z. Some (log_of z)) (same_Some y x at)
-log_at log_of (y ∷ ys) (suc i) x at = log_at log_of ys i x at

@@ -92,24 +92,6 @@ module _ (a : NamedLft) (R : RattleType) where
 abbrev pub word : Ptr → Val
 word p = vstruct (vcons (ptr_val p) vnil)
 
--- a new word that is 1, and where its value lies
-abbrev pub one_val : Val
-one_val = vstruct (vcons (vint w64 1) (vcons (vstruct vnil) vnil))
-
--- a new word is of its type
-pub one_typed : T (has_ty (ty_struct [] (tcons (ty_int w64) (tcons (ty_struct [] tnil) tnil))) one_val) × WT one_val
-one_typed = (tt, (record { fits = lit< tt }, (tt, tt)))
-
-abbrev pub begun_of : Ptr → Val
-begun_of p = vstruct (vcons one_val (vcons (ptr_val p) vnil))
-
--- what a new lending answers is of its type
-pub begun_typed : (p : Ptr)
-    → T (has_ty (ty_struct [] (tcons (ty_struct [] (tcons (ty_int w64) (tcons (ty_struct [] tnil) tnil))) (tcons
-    ty_ptr tnil))) (begun_of p)) × WT (begun_of p)
-begun_typed (block_ptr b o) = (tt, ((record { fits = lit< tt }, (tt, tt)), (tt, tt)))
-begun_typed null_ptr = (tt, ((record { fits = lit< tt }, (tt, tt)), (record { fits = lit< tt }, tt)))
-
 abbrev word_ty : Ty
 word_ty = ty_struct [] (tcons ty_ptr tnil)
 

@@ -13,8 +13,6 @@ use Rattle.epoch_lend.specs.Loans.{
   pocket_case,
   Loan,
   loans,
-  Shown,
-  while_present,
   marked_owns,
   SeenPost,
   shown_by,
@@ -38,10 +36,6 @@ loans_keyless a (l ∷ ls) = (
   (pocket_keyless l.pocket_name, (tt, entered_keyless (l.atom, l.epoch) l.log)),
   loans_keyless a ls,
 )
-
--- nor does the word of a value that threads may share
-pub while_keyless : (R : RattleType) → IsSync R → (d : Shown R.Denot) (n : ℕ) → Keyless (while_present R d n)
-while_keyless R y d n = λ _ ls. ((tt, loans_keyless d.lifetime ls), (seen R y d.at d.value (d.lifetime ∷ []), λ _. tt))
 
 -- nor does what one look told
 shown_keyless : (s : SeenPost) (ls : List Loan) → Keyless (shown_by s ls)

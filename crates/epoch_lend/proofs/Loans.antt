@@ -12,40 +12,8 @@ use base.Stored.{Coded, coded×, coded_ℕ}
 use base.Logic.{SProp, ent, sep, upd, upd_i, id⊢, emp}
 use base.Fml.{Fml, ftrue, fex, flft, fdead, fobs, fauth, flent}
 use types.Logic.{Logic, sem}
-use types.Kit.{
-  ‵,
-  raw,
-  ◌⊛◌,
-  given,
-  later,
-  ◌$◌,
-  ◌∵◌,
-  !,
-  qed,
-  by,
-  move,
-  keep,
-  drop,
-  split,
-  split3,
-  fsplit,
-  fsplit3,
-  fjoin,
-  fjoin3,
-  fpick,
-  fpack,
-  learn,
-  suffices,
-  settle,
-  use0,
-  use1,
-  use2,
-  rewrite,
-  updating,
-  await,
-  now,
-  done,
-}
+use types.Kit.{‵, raw, ◌⊛◌, given, ◌$◌, ◌∵◌, !, qed, by, move, keep, drop, split, split3, fsplit, fsplit3, fjoin}
+use types.Kit.{fjoin3, fpick, fpack, learn, suffices, settle, use0, use1, use2, rewrite, updating, now, done}
 use types.Tokens.{lent_back}
 use types.Growing.{latest_bounds, at_least_dup}
 use base.Growing.{latest, at_least}
@@ -58,28 +26,9 @@ use base.Logic.{all_e}
 use base.Fml.{fall}
 use Rattle.epoch_lend.specs.Posts.{IsOneOf, Entry, posted, logs, entered, entered_in, are_over}
 use Rattle.epoch_lend.specs.Watching.{entries}
-use Rattle.epoch_lend.specs.Loans.{
-  left_after,
-  loan_share,
-  no_loan,
-  nth_loan,
-  filled_pocket,
-  pocket_with,
-  pocket_case,
-  pocket,
-  Loan,
-  loan,
-  loans,
-  stock,
-  SeenPost,
-  Shows,
-  shown_by,
-  all_shown,
-  shows,
-  is_shown,
-  are_shown,
-  AreShown,
-}
+use Rattle.epoch_lend.specs.Loans.{left_after, loan_share, no_loan, nth_loan, filled_pocket, pocket_with, pocket_case}
+use Rattle.epoch_lend.specs.Loans.{pocket, Loan, loan, loans, stock, SeenPost, Shows, shown_by, all_shown, shows}
+use Rattle.epoch_lend.specs.Loans.{is_shown}
 
 -- a loan is told apart from no loan, and from every other one
 abbrev pocket_coded : Coded (ℕ × ℕ)
@@ -217,20 +166,6 @@ module _ {M : Type 1} {𝓤 : Ura M} (𝓛 : Logic 𝓤) (a : ℕ) where
   first_shown [] l ls shown = absurd (false≢true shown)
   first_shown (s ∷ ss) l ls shown = shown_by_one s ss l ls (first_shown ss l ls) (or_cases (shows s l) (is_shown ss
       l) shown)
-
-  -- every loan comes back, where of each a look showed that its guard is over: the whole token is there again
-  pub all_home : (ss : List SeenPost) (ls : List Loan) → AreShown ss ls
-      → ⟦ stock a ls ⟧ ∗ ⟦ all_shown ss ls ⟧ ⊢ H.⇛ (A.lft (a ∷ []) full_share)
-  all_home ss [] c = qed 𝓛 (‵ (stock a []) ∷ ‵ (all_shown ss []) ∷ []) ∵ updating ! $ fsplit ! $ now ! $
-      keep ! (0 ∷ []) $ done !
-  all_home ss (l ∷ ls) c = let n : ℕ = length ls in
-      let parts = and_parts (is_shown ss l) (are_shown ss ls) c in qed 𝓛 (‵ (stock a (l ∷ ls)) ∷ ‵ (all_shown ss (l ∷
-      ls)) ∷ []) ∵
-      updating ! $ fsplit ! $ move ! (1 ∷ []) $ fsplit ! $ move ! (3 ∷ []) $
-      use1 𝓛 (‵ (fdead (l.atom ∷ [])) ⊛ ‵ (all_shown ss ls)) (first_shown ss l ls parts.0) $ split ! $
-      move ! (2 ∷ 0 ∷ []) $ use2 𝓛 (later (‵ (flft (a ∷ []) (loan_share n)))) (comes_home n l) $ await ! tt $
-      move ! (0 ∷ 3 ∷ []) $ use2 𝓛 (‵ (flft (a ∷ []) (left_after n))) (𝓛.lfts.lft_join (a ∷ []) (left_after n)) $
-      move ! (0 ∷ 2 ∷ []) $ fjoin ! $ by ! (all_home ss ls parts.1)
 
   -- ---- what a look at a post tells
   abbrev pub all_entered : List Loan → Fml

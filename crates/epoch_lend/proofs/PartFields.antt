@@ -6,11 +6,8 @@ use base.Logic.{ent, emp}
 use types.Logic.{Logic, sem}
 use denote.RattleType.{RattleType}
 use denote.Laws.{Is}
-use denote.Opens.{Opens}
-use denote.Copied.{Struct-Copied}
 use denote.RawPtr.{Ptr, ptr_val}
 use denote.Shadow.{makes_shadow}
-use denote.Struct.Laws.{RawPtr-copy}
 use denote.Struct.Struct.{Struct}
 use denote.Struct.Owning.{shape}
 use Rattle.epoch_lend.specs.contracts.part.Part as part
@@ -33,7 +30,3 @@ module _ (R : RattleType) where
     (ptr_val p ∷ [], tt),
     (refl, (refl, tt)),
   )
-
-  -- the bytes of a part may be read while it is lent
-  pub opened : {M : Type 1} {𝓤 : Ura M} (𝓛 : Logic 𝓤) → Opens 𝓛 Data
-  opened {M} {𝓤 = 𝓤} 𝓛 = (Struct-Copied 𝓛 (shape (part.the_type R)) (refl, tt) (RawPtr-copy.copied M 𝓤 𝓛, tt)).opens

@@ -3,53 +3,16 @@ use Rattle.std.proofs.Common.{◌≡◌, ℕ, ◌+◌, ◌-◌, ◌^◌, ◌<◌
 use seplogic.Ra.Ura.{Ura}
 use base.Fraction.{full_share}
 use base.FractionLaws.{Counts, counts_some, Counts-op, Counts-all}
-use base.Logic.{ent, sep, upd_i, id⊢, apply∗, wand}
-use base.Fml.{Lft, Incl, Incl-trans, Share, Fml, ftrue, fsep, fseps, fex, fwand, fupd, fdead, fbor, flft, flent}
+use base.Logic.{ent, sep}
+use base.Fml.{Lft, Incl, Incl-trans, Share, Fml, fsep, fex, flft, flent}
 use contract.BorrowLft.{meet_⊑_left, meet_⊑_right}
-use ghost.Rules.{span, thinned}
-use types.Logic.{Logic, sem, lfts}
-use types.Kit.{
-  ‵,
-  raw,
-  ◌⊛◌,
-  some as exists,
-  later,
-  ◌$◌,
-  ◌∵◌,
-  !,
-  qed,
-  by,
-  move,
-  keep,
-  drop,
-  use1,
-  use2,
-  split,
-  split3,
-  join,
-  fsplit,
-  fsplit3,
-  fjoin,
-  fpick,
-  fpack,
-  pick,
-  assume,
-  suffices,
-  await,
-  updating,
-  now,
-  done,
-}
-use types.Tokens.{lft_new, lft_end, bor_new, lent_back, bor_open, obor_alter, bor_fracture, one_token}
-use denote.Sharing.{ShrLaws, beside, one, held}
-use denote.SharingLaws.{contraction, beside_shr_laws, one_shr_laws, held_shr_laws}
-use denote.Moves.{moves_from}
-use denote.Steps.{nothing}
-use denote.Struct.Lending.{Lends, in_block_says}
-use denote.RattleType.{RattleType}
-use denote.RawPtr.{Ptr, InBlock}
-use contract.Monad.{fact}
-use Rattle.epoch_lend.specs.Parted.{tokens, part_owns}
+use types.Logic.{Logic, sem}
+use types.Kit.{‵, ◌⊛◌, later, ◌$◌, ◌∵◌, !, qed, by, move, use1, use2, split, split3, join, fjoin, fpick, fpack, await}
+use types.Kit.{updating, now, done}
+use types.Tokens.{lft_new, lft_end, bor_new, lent_back}
+use denote.Sharing.{ShrLaws}
+use denote.Struct.Lending.{Lends}
+use Rattle.epoch_lend.specs.Parted.{tokens}
 
 module _ {M : Type 1} {𝓤 : Ura M} (𝓛 : Logic 𝓤) (a : ℕ) where
   open 𝓛 use {A}
@@ -77,13 +40,6 @@ module _ {M : Type 1} {𝓤 : Ura M} (𝓛 : Logic 𝓤) (a : ℕ) where
       fpick ! (λ f. fpick ! (λ cf. move ! (1 ∷ []) $
       by ! (𝓛.lfts.lft_glue (a ∷ []) r e f (Counts-op 63 e f r i j (i + j) ce cf c Rattle.std.proofs.Common.refl))))))
 
-  -- parts are put together
-  pub tokens_glue : (i j : ℕ) → 0 < i + j → i + j ≤ 2 ^ 63
-      → ent 𝓤 (sep 𝓤 (sem 𝓛 (tokens a i)) (sem 𝓛 (tokens a j))) (sem 𝓛 (tokens a (i + j)))
-  tokens_glue i j some fits = let r = counts_some 63 (i + j) some fits in
-      qed 𝓛 (‵ (tokens a i) ∷ ‵ (tokens a j) ∷ []) ∵ use2 𝓛 (‵ (flft (a ∷ []) r.0)) (glued i j r.0 r.1) $
-      by ! (tokens_in (i + j) r.0 r.1)
-
   -- 2^63 parts are the whole token
   pub tokens_whole : ent 𝓤 (sem 𝓛 (tokens a (2 ^ 63))) (A.lft (a ∷ []) full_share)
   tokens_whole = qed 𝓛 (‵ (tokens a (2 ^ 63)) ∷ []) ∵
@@ -94,14 +50,6 @@ module _ {M : Type 1} {𝓤 : Ura M} (𝓛 : Logic 𝓤) (a : ℕ) where
 module _ (t : Lft → Fml) (L : ShrLaws t) where
   abbrev pub Owns : ℕ → ℕ → Fml
   Owns a k = fsep (tokens a k) (t (a ∷ []))
-
-  abbrev pub Lent : ℕ → Lft → Fml
-  Lent a = beside (one (λ q. flft (a ∷ []) q)) (held (a ∷ []) t)
-
-  -- what is seen of a part that is lent may be had twice, and for a shorter time
-  pub lent_laws : (a : ℕ) → ShrLaws (Lent a)
-  lent_laws a = beside_shr_laws (one (λ q. flft (a ∷ []) q)) (held (a ∷ []) t) (one_shr_laws (λ q. flft (a ∷ []) q))
-      (held_shr_laws (a ∷ []) t L)
 
   module _ {M : Type 1} {𝓤 : Ura M} (𝓛 : Logic 𝓤) where
     open 𝓛 use {H, A}
@@ -127,51 +75,3 @@ module _ (t : Lft → Fml) (L : ShrLaws t) where
     pub thaws : (P : Fml) (a : ℕ) → ent 𝓤 (sep 𝓤 (sem 𝓛 (flent (a ∷ []) P)) (sem 𝓛 (tokens a (2 ^ 63)))) (H.⇛ (sem 𝓛 P))
     thaws P a = qed 𝓛 (‵ (flent (a ∷ []) P) ∷ ‵ (tokens a (2 ^ 63)) ∷ []) ∵ updating ! $ move ! (1 ∷ []) $
         use1 𝓛 (‵ (flft (a ∷ []) full_share)) (tokens_whole 𝓛 a) $ lft_end ! tt $ lent_back ! tt $ now ! $ done !
-
-    module _ (a k : ℕ) (κ : Lft) where
-      -- once the loan of a part is over, the part is there again
-      again : (e : Share) → Counts 63 e k
-          → ent 𝓤 (sem 𝓛 (t (a ∷ []))) (sem 𝓛 (fwand (fsep (fdead κ) (fseps (flft (a ∷ []) e ∷ []))) (fupd (Owns a k))))
-      unfolding fseps
-      again e c = qed 𝓛 (‵ (t (a ∷ [])) ∷ []) ∵ assume ! (‵ (fsep (fdead κ) (fsep (flft (a ∷ []) e) ftrue))) $
-          suffices ! (sem 𝓛 (Owns a k)) (upd_i 𝓤 (sem 𝓛 (Owns a k))) $
-          fsplit3 ! $ move ! (1 ∷ []) $ use1 𝓛 (‵ (tokens a k)) (tokens_in 𝓛 a k e c) $ keep ! (0 ∷ 3 ∷ []) $
-          fjoin ! $ done !
-
-      -- a part is lent against a share of the token of the loan
-      by_token : (q : Share)
-          → ent 𝓤 (sep 𝓤 (A.bor κ (Owns a k)) (A.lft κ q)) (H.⇛ (sep 𝓤 (sem 𝓛 (Lent a κ)) (A.lft κ q)))
-      unfolding fseps
-      by_token q = qed 𝓛 (‵ (fbor κ (Owns a k)) ∷ ‵ (flft κ q) ∷ []) ∵ updating ! $ bor_open ! tt $ move ! (1 ∷ []) $
-          fsplit ! $ fpick ! (λ e. fpick ! (λ c. move ! (1 ∷ []) $
-          use1 𝓛 (‵ (t (a ∷ [])) ⊛ ‵ (t (a ∷ []))) (contraction 𝓛 t L (a ∷ [])) $ split ! $
-          use1 𝓛 (‵ (fwand (fsep (fdead κ) (fseps (flft (a ∷ []) e ∷ []))) (fupd (Owns a k)))) (again e c) $
-          nothing ! $ move ! (3 ∷ 0 ∷ []) $ fjoin ! $ move ! (3 ∷ 0 ∷ 1 ∷ []) $
-          obor_alter ! tt (flft (a ∷ []) e ∷ []) $
-          use1 𝓛 (‵ (fbor κ (flft (a ∷ []) e)) ⊛ ‵ ftrue) (id⊢ 𝓤 _) $ split ! $
-          bor_fracture ! tt (λ r. flft (a ∷ []) r) e $ move ! (0 ∷ 3 ∷ []) $ fjoin ! $ now ! $
-          keep ! (0 ∷ 2 ∷ []) $ done !))
-
-    -- a part may be lent for any lifetime that it lasts for
-    pub Lends-part : (a k : ℕ) (l : Lft) → Lends 𝓛 (Owns a k) (Lent a) l
-    Lends-part a k l κ ts inc sp = qed 𝓛 (‵ (fbor κ (Owns a k)) ∷ raw (lfts 𝓛 ts) ∷ []) ∵ updating ! $ move ! (1 ∷ []) $
-        use1 𝓛 (exists (λ (q : Share). ‵ (flft (span ts) q) ⊛ raw (wand 𝓤 (A.lft (span ts) q) (lfts 𝓛 ts))))
-        (one_token 𝓛 ts) $ pick ! (λ q. split ! $
-        use1 𝓛 (‵ (flft κ (thinned κ q)) ⊛ raw (wand 𝓤 (A.lft κ (thinned κ q)) (A.lft (span ts) q))) (𝓛.lfts.lft-incl
-        (span ts) κ q sp) $ split ! $ move ! (3 ∷ 0 ∷ []) $
-        use2 𝓛 (later (‵ (Lent a κ) ⊛ ‵ (flft κ (thinned κ q)))) (by_token a k κ (thinned κ q)) $ await ! tt $
-        split ! $ move ! (1 ∷ 2 ∷ []) $
-        use2 𝓛 (‵ (flft (span ts) q)) (apply∗ 𝓤 (A.lft κ (thinned κ q)) (A.lft (span ts) q)) $ move ! (0 ∷ 2 ∷ []) $
-        use2 𝓛 (raw (lfts 𝓛 ts)) (apply∗ 𝓤 (A.lft (span ts) q) (lfts 𝓛 ts)) $
-        now ! $ move ! (1 ∷ 0 ∷ []) $ done !)
-
-    -- who is lent a part sees what its value shares
-    pub part_sees : (a : ℕ) (κ : Lft) → ent 𝓤 (sem 𝓛 (Lent a κ)) (sem 𝓛 (t κ))
-    part_sees a κ = qed 𝓛 (‵ (Lent a κ) ∷ []) ∵ fsplit ! $
-        by ! (moves_from 𝓛 t L κ (a ∷ []) (a ∷ []) (meet_⊑_left (a ∷ []) κ))
-
--- the value of a part lies in a block
-pub part_lies : {M : Type 1} {𝓤 : Ura M} (𝓛 : Logic 𝓤) (R : RattleType) (p : Ptr) (x : R.Denot) (a k : ℕ)
-    → ent 𝓤 (sem 𝓛 (part_owns R p x a k)) (fact 𝓤 (InBlock p))
-part_lies 𝓛 R p x a k = qed 𝓛 (‵ (part_owns R p x a k) ∷ []) ∵ fsplit ! $ drop ! $ fsplit ! $ keep ! (0 ∷ []) $
-    by ! (in_block_says 𝓛 p)

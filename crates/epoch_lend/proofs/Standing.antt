@@ -1,12 +1,12 @@
 -- What follows from where a post stands in its set.
-use Rattle.std.proofs.Common.{◌≡◌, ℕ, zero, suc, List, [], ◌∷◌, ◌++◌, length, map, get_or, sym, refl, ap, ◌∙◌, subst}
+use Rattle.std.proofs.Common.{◌≡◌, ℕ, zero, suc, List, [], ◌∷◌, ◌++◌, map, get_or, sym, refl, ap, ◌∙◌}
 use Rattle.std.specs.Prelude.{Some, eqb}
 use Rattle.std.specs.List.{slice_get}
 use Rattle.std.proofs.lemmas.Option.{get_or_from_slice_get, none-some, same_Some}
 use Rattle.std.proofs.lemmas.Bool.{or_left, or_right, eq-eqb}
 use Rattle.epoch_lend.specs.Posts.{PostNames, logs_of, is_among, IsAmong}
 use Rattle.epoch_lend.specs.declared.post.Unpinned.{Unpinned}
-use Rattle.epoch_lend.specs.Sets.{StandsAt, names_of, AreFirst}
+use Rattle.epoch_lend.specs.Sets.{StandsAt, names_of}
 
 -- what an index reads at the position of a post is that post
 pub stands_read : (ds : List PostNames) (i log state : ℕ) (d : PostNames)
@@ -23,30 +23,11 @@ stands_among (x ∷ xs) zero d at = or_left (eqb d.log x.log) (is_among d.log (l
     (eq-eqb d.log x.log (ap (λ (p : PostNames). p.log) (sym (same_Some x d at))))
 stands_among (x ∷ xs) (suc i) d at = or_right (eqb d.log x.log) (is_among d.log (logs_of xs)) (stands_among xs i d at)
 
--- the last of the first rights is the right to pin at the post of its position
-last_at : (now : List Unpinned) (u : Unpinned) (rest : List PostNames)
-    → slice_get (map names_of (now ++ u ∷ []) ++ rest) (length now) ≡ Some (names_of u)
-last_at [] u rest = refl
-last_at (x ∷ xs) u rest = last_at xs u rest
-
-pub last_stands : (ds : List PostNames) (rights now : List Unpinned) (u : Unpinned)
-    → AreFirst ds rights → rights ≡ now ++ u ∷ [] → StandsAt ds (length now) u.log u.state
-last_stands ds rights now u first popped =
-    let P : List PostNames → Type 0 = λ xs. slice_get xs (length now) ≡ Some (names_of u) in
-    let Q : List Unpinned → Type 0 = λ us. map names_of us ++ first.0 ≡ ds in
-    subst P (subst Q popped first.1) (last_at now u first.0)
-
 -- without it they are the first rights again
 one_less : (now : List Unpinned) (u : Unpinned) (rest : List PostNames)
     → map names_of now ++ names_of u ∷ rest ≡ map names_of (now ++ u ∷ []) ++ rest
 one_less [] u rest = refl
 one_less (x ∷ xs) u rest = ap (λ ds. names_of x ∷ ds) (one_less xs u rest)
-
-pub fewer_first : (ds : List PostNames) (rights now : List Unpinned) (u : Unpinned)
-    → AreFirst ds rights → rights ≡ now ++ u ∷ [] → AreFirst ds now
-fewer_first ds rights now u first popped =
-    let Q : List Unpinned → Type 0 = λ us. map names_of us ++ first.0 ≡ ds in
-    (names_of u ∷ first.0, one_less now u first.0 ∙ subst Q popped first.1)
 
 -- a post more, and the right to pin at it
 pub one_more : (us : List Unpinned) (ds : List PostNames) (u : Unpinned) (d : PostNames)

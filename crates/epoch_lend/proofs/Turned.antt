@@ -297,6 +297,26 @@ module _ {M : Type 1} {𝓤 : Ura M} (𝓛 : Logic 𝓤) (R : RattleType) (d : T
         fpack ! (4 * t ≡ 4 * t) (λ _. ftrue) refl $ fjoin ! $
         fpack ! TurnStage (at_turn R d (4 * t)) (vacant t) $ frame ! $ nothing ! $ done !)))
 
+  -- ---- the word's end
+  module _ (n : ℕ) where
+    abbrev pub Left : ℕ → Pr
+    Left k = guard 𝓤 ((t : ℕ) → n ≡ 4 * t → k ≡ 1) ⟦ claim_of R d.at δ n k ⟧
+
+    left_at : (s : TurnStage) → n ≡ turn_word s → ⟦ turn_holds R d s ⟧ ⊢ ex 𝓤 Left
+    left_at (vacant u) is = qed 𝓛 (‵ (turn_holds R d (vacant u)) ∷ []) ∵ fsplit3 ! $ keep ! (0 ∷ 2 ∷ []) $
+        rewrite ! 0 (λ (m : ℕ). ‵ (fobs δ (gnum m))) (sym is) refl $ fjoin ! $ show ! Left 1 $
+        types.Kit.check ! (λ t e. refl) $ done !
+    left_at (claimed u) is = qed 𝓛 (‵ (turn_holds R d (claimed u)) ∷ []) ∵ drop ! $ nothing ! $ show ! Left 0 $
+        types.Kit.check ! (λ t e. absurd (omega (arith, is, e))) $ done !
+    left_at (shown u) is = qed 𝓛 (‵ (turn_holds R d (shown u)) ∷ []) ∵ drop ! $ nothing ! $ show ! Left 0 $
+        types.Kit.check ! (λ t e. absurd (omega (arith, is, e))) $ done !
+    left_at (removed u) is = qed 𝓛 (‵ (turn_holds R d (removed u)) ∷ []) ∵ drop ! $ nothing ! $ show ! Left 0 $
+        types.Kit.check ! (λ t e. absurd (omega (arith, is, e))) $ done !
+
+    -- at its end a place has the room for a value, if its word is that of a vacant one
+    pub leaves : ⟦ W n ⟧ ⊢ ex 𝓤 Left
+    leaves = qed 𝓛 (‵ (W n) ∷ []) ∵ fpick ! (λ s. fsplit3 ! $ fpick ! (λ is. drop ! $ drop ! $ by ! (left_at s is)))
+
   -- ---- under the invariant
   module _ (α : Lft) (q : Share) (b o : ℕ) where
     abbrev pub Memory : Fml

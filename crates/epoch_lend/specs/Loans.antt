@@ -1,18 +1,16 @@
 -- What the word of a value holds while it is present: the token of the value's lifetime a, less what was lent to
 -- guards, and the loans.
-use Rattle.std.specs.Prelude.{◌≡◌, ◌≢◌, ℕ, zero, suc, ◌+◌, ◌*◌, eqb, leb, not, ◌&&◌, ◌||◌, List, [], ◌∷◌, length}
+use Rattle.std.specs.Prelude.{◌≡◌, ◌≢◌, ℕ, zero, suc, ◌*◌, eqb, leb, not, ◌&&◌, ◌||◌, List, [], ◌∷◌, length}
 use Rattle.std.specs.Prelude.{Option, Some, None}
 use mathlib.Core.Bool.{Bool, true, false}
 use base.Share
 use base.Fraction.{full_share}
-use base.Stored.{Coded, coded×, coded_ℕ, coded_list, coded_via, Gv, gnum, gcons}
-use base.Fml.{Lft, GName, Share, Fml, ftrue, ffalse, fsep, fex, fall, flft, fdead, fobs, fauth, fbor, flent}
+use base.Stored.{Coded, coded×, coded_ℕ, coded_via, Gv, gnum, gcons}
+use base.Fml.{Lft, GName, Share, Fml, ftrue, ffalse, fsep, fex, fall, flft, fdead, fobs, fauth, flent}
 use denote.RattleType.{RattleType}
-use denote.RawPtr.{Ptr, block_ptr, null_ptr, coded_ptr}
+use denote.RawPtr.{Ptr}
 use denote.Struct.Lending.{lent_at}
-use denote.Sharing.{said, beside, some, ends, always}
-use Rattle.core.specs.Sync.RawAtomic.{word}
-use Rattle.epoch_lend.specs.Posts.{known, is_among, posted, entered}
+use Rattle.epoch_lend.specs.Posts.{is_among, posted, entered}
 
 -- what is left of the token after n loans, and what the next loan takes: each loan takes half of what is left
 abbrev pub left_after : ℕ → Share
@@ -147,41 +145,9 @@ pub record Shown (T : Type 0) : Type 0 where
   -- the logs of the posts whose guards may look
   pub posts : List ℕ
 
-abbrev pub shown_coded : {T : Type 0} → Coded T → Coded (Shown T)
-shown_coded {T} c = coded_via (coded× coded_ptr (coded× c (coded× coded_ℕ (coded_list coded_ℕ)))) (λ (s : Shown T). (
-  s.at,
-  (
-    s.value,
-    (
-      s.lifetime,
-      s.posts,
-    ),
-  ),
-)) (λ x y e i. record { at = (e i).0; value = (e i).1.0; lifetime = (e i).1.1.0; posts = (e i).1.1.1 })
-
 module _ (R : RattleType) (d : Shown R.Denot) where
   abbrev pub shown_at : Lft → Fml
   shown_at = lent_at R d.at d.value
-
-  abbrev pub held_for : List Loan → Fml
-  held_for ls = fsep (stock d.lifetime ls) (fsep (shown_at (d.lifetime ∷ [])) (known (Within d.posts ls)))
-
-  abbrev pub present : Fml
-  present = fex (List Loan) held_for
-
-  -- while the word is 1 the value is there for who looks
-  abbrev pub while_present : ℕ → Fml
-  while_present n = fall (n ≡ 1) (λ _. present)
-
-  abbrev pub lending_owns : (ℕ → Fml) → Fml
-  lending_owns fields = fex ℕ (λ n. fsep (fields n) (while_present n))
-
-  abbrev pub lending : ℕ → ℕ → Fml
-  lending b o = lending_owns (word b (o + 0))
-
-  abbrev pub lending_shares : Ptr → Lft → Fml
-  lending_shares (block_ptr b o) = some Lft (λ α. beside (ends α) (always (fbor α (lending b o))))
-  lending_shares null_ptr = said ffalse
 
 -- the right that a look gained: none, or to see the value that it found for β
 abbrev pub sees : Lft → (R : RattleType) → Ptr → Option R.Denot → Fml

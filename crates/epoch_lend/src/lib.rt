@@ -3,12 +3,10 @@
 #![tactic(auto)]
 
 pub mod array;
-pub mod back;
 pub mod cells;
 pub mod domain;
 pub mod grace;
 pub mod lending;
-pub mod lent;
 pub mod part;
 pub mod post;
 pub mod readers;

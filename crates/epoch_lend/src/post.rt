@@ -1,9 +1,8 @@
 //! Posts: a participant's word, which says in which epoch it is pinned, and its guards, to which values are lent.
-ghost use Rattle.std.specs.Prelude.{◌≡◌, ℕ, ◌+◌, ◌-◌, ◌^◌, ◌<◌, ◌≤◌, ◌∷◌};
+ghost use Rattle.std.specs.Prelude.{◌≡◌, ℕ, ◌+◌, ◌*◌, ◌^◌, ◌<◌, ◌∷◌};
 ghost use Rattle.epoch_lend.specs.Posts.{PostNames, post_coded, posted, post_owns};
 ghost use Rattle.epoch_lend.specs.Posts.{post_shares, unpinned_owns, pin_owns, guard_owns, guard_shares};
 
-use crate::lending::Marked;
 use crate::watch::Watch;
 use std::marker::{Brand, Model, Move, Owns, PhantomData};
 use std::sync::atomic::Ordering::SeqCst;
@@ -148,21 +147,6 @@ impl Post {
         self.pin(self.unpin(pin, guard), epoch)
     }
 
-    /// Looks at the post, by one plain load. It shows that each guard of this post that had a loan is over, except
-    /// those of the epoch found. Returns the word found, and what was marked, with this look added to what was seen.
-    pub fn look<T>(&self, marked: Marked<T>) -> (u64, Marked<T>)
-        requires { marked.right ≡ 1 }
-        // A load of a post shows which of its guards are over: every guard that had a loan, except guards of the epoch
-        // that was found.
-        ensures seen { result.1.seen ≡ (self.now.log, result.0) ∷ marked.seen }
-        ensures same { (result.1.right ≡ 1) × (result.1.value ≡ marked.value)
-            × (result.1.lifetime ≡ marked.lifetime) × (result.1.loans ≡ marked.loans) }
-    {
-        let Marked { at } = marked;
-        let found = unsafe { raw::load::<Brand>(&raw const self.word, SeqCst) };
-        (found, Marked { at })
-    }
-
     /// Looks at the post for all loans of a watch, by one plain load. It shows that each guard of this post with one is
     /// over, except those of the epoch found. Returns the word found, and the watch with this look added.
     pub fn look_for(&self, watch: Watch) -> (u64, Watch)
@@ -176,27 +160,6 @@ impl Post {
             marker: PhantomData,
         };
         (found, told)
-    }
-}
-
-impl PostGuard {
-    /// Splits off another guard of the same pin, of one share. This one must have more than one, and keeps the rest.
-    pub fn split_one(&mut self) -> PostGuard
-        requires { (1 < self.old.count) × (self.old.count ≤ 2 ^ 63) }
-        ensures { (self.new ≡ record self.old { count = self.old.count - 1 })
-            × (result ≡ record self.old { count = 1 }) }
-    {
-        PostGuard {
-            marker: PhantomData,
-        }
-    }
-
-    /// Takes in another guard of the same pin.
-    pub fn join(&mut self, other: PostGuard)
-        requires { (other.atom ≡ self.old.atom) × (0 < self.old.count) × (self.old.count + other.count ≤ 2 ^ 63) }
-        ensures { self.new ≡ record self.old { count = self.old.count + other.count } }
-    {
-        let PostGuard { marker: _ } = other;
     }
 }
 

@@ -2,4 +2,3 @@
 //! asks for what its caller can't test.
 pub mod posts;
 pub mod reader;
-pub mod value;

@@ -1,11 +1,10 @@
 //! Posts are looked at once for many marked values, and not once for each.
-ghost use Rattle.std.specs.Prelude.{◌≡◌, ℕ, ◌^◌, List, [], ◌++◌, true};
+ghost use Rattle.std.specs.Prelude.{◌≡◌, ◌≢◌, ℕ, ◌*◌, ◌≤◌, ◌^◌, List, [], ◌++◌, true};
 ghost use base.Stored.{coded_list, coded×, coded_ℕ};
 ghost use Rattle.epoch_lend.specs.Posts.{logs_of};
 ghost use Rattle.epoch_lend.specs.Loans.{Loan, loan_coded, SeenPost, Within, EachSeen, is_sealed, AreShown};
 ghost use Rattle.epoch_lend.specs.Watching.{AreWatched, watch_owns};
 
-use crate::back::{sealed_past, stays_clear};
 use crate::lending::Marked;
 use crate::part::Part;
 use crate::post::Post;
@@ -21,6 +20,21 @@ pub struct Watch {
 
 impl Model for Watch {
     ghost also_owns = { λ w. watch_owns w.loans w.seen };
+}
+
+// The seal, or the epoch after the one of this word, whichever is later.
+fn sealed_past(seal: u64, word: u64) -> u64
+    ensures { (seal ≤ result) × (word ≤ 2 * result) }
+{
+    let least = word / 2 + word % 2;
+    if seal < least { least } else { seal }
+}
+
+// Whether it was clear, and a post with this word is unpinned, or in the seal's epoch or a later one.
+fn stays_clear(clear: bool, seal: u64, word: u64) -> bool
+    ensures { result ≡ true → (clear ≡ true) × (word ≢ 0 → 2 * seal ≤ word) }
+{
+    clear && (word == 0 || seal <= word / 2)
 }
 
 impl Watch {

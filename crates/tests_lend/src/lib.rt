@@ -1,8 +1,6 @@
-//! Tests of values that are lent to readers: in one cell, in many cells, and in stores. And runs of the pages to copy.
+//! Tests of values that are lent to readers: in cells, and in stores. And runs of the pages to copy.
 #![tactic(auto)]
 
-#[cfg(test)]
-mod one_cell;
 #[cfg(test)]
 mod pages;
 #[cfg(test)]

@@ -1,11 +1,10 @@
-//! Readers on several threads, while a writer takes one value back, and then those of an array, one after another.
+//! Readers on several threads, while a writer takes the values of an array back, one after another.
 ghost use Rattle.std.specs.Prelude.{◌≡◌, ◌<◌, ◌^◌};
 
 use crate::probes::{Counts, Probe, counts_for, dropped_once};
 use crate::wants::want;
 use epoch_lend::array::cells::{LendingCells, SlotTurn};
 use epoch_lend::readers::posts::{Made, PostSet, Posts};
-use epoch_lend::readers::value::{Owner, RetiredValue, Value, lend};
 use epoch_lend_pointers::store::batch::Batch;
 use std::alloc::{AllocError, Global};
 use std::marker::Brand;
@@ -19,10 +18,7 @@ use std::thread::Threads;
 /// As often as a reader reads at most, and the writer tries.
 const MOST: u64 = 10_000_000;
 
-/// As often as the first value is found before it is marked.
-const FOUND_BEFORE: u64 = 1000;
-
-/// How many values the writer places in the array. The first value has number 0, and these follow.
+/// How many values the writer places in the array.
 const VALUES: usize = 2000;
 
 /// How many cells the array has, and how many removals go back together.
@@ -53,8 +49,7 @@ struct Course {
     // How many values readers found, and how many of them were dropped before, or not as they were made.
     found: AtomicU64,
     torn: AtomicU64,
-    // Whether the first value is found after it came back, and how many values were placed in the array.
-    is_found: AtomicBool,
+    // How many values were placed in the array.
     placed: AtomicU64,
 }
 
@@ -67,7 +62,6 @@ impl Course {
             is_over: AtomicBool::new(false),
             found: AtomicU64::new(0),
             torn: AtomicU64::new(0),
-            is_found: AtomicBool::new(true),
             placed: AtomicU64::new(0),
         }
     }
@@ -89,13 +83,8 @@ impl Course {
     }
 }
 
-/// Pins, looks at the first value and at what the root names, reads and unpins, until it is over.
-fn read_on<J: PostSet>(
-    posts: &Posts<J>,
-    value: &Value<J, Probe>,
-    cells: &LendingCells<J, Probe>,
-    course: &Course,
-) {
+/// Pins, looks at what the root names, reads and unpins, until it is over.
+fn read_on<J: PostSet>(posts: &Posts<J>, cells: &LendingCells<J, Probe>, course: &Course) {
     let Some(first) = posts.register() else {
         return;
     };
@@ -105,59 +94,10 @@ fn read_on<J: PostSet>(
             break;
         }
         let pinned = reader.pin(course.epoch());
-        course.tell(value.look(&pinned));
         course.tell(cells.get(spot_of(course.root.load(SeqCst)), &pinned));
         reader = pinned.unpin();
     }
     reader.release();
-}
-
-/// Whether a reader that pins now finds the first value.
-fn is_found<J: PostSet>(posts: &Posts<J>, value: &Value<J, Probe>, course: &Course) -> bool {
-    let Some(reader) = posts.register() else {
-        return true;
-    };
-    let pinned = reader.pin(course.epoch());
-    let is_found = value.look(&pinned).is_some();
-    pinned.unpin().release();
-    is_found
-}
-
-/// Goes on to later epochs and tries to take the value back, until it comes.
-fn take_value_back<J: PostSet>(
-    retired: RetiredValue<J, Probe, Global>,
-    posts: &Posts<J>,
-    course: &Course,
-) {
-    let mut kept = retired;
-    for _ in 0..MOST {
-        course.epoch.fetch_add(2, SeqCst);
-        match kept.take_back(posts) {
-            Ok(whole) => {
-                course.tell(Some(&whole));
-                return;
-            }
-            Err(again) => kept = again,
-        }
-        thread::yield_now();
-    }
-}
-
-/// Marks the first value once readers have found it, and takes it back while they go on.
-fn remove<J: PostSet>(owner: Owner<'_, J, Probe, Global>, posts: &Posts<J>, course: &Course) {
-    for _ in 0..MOST {
-        if course.found.load(SeqCst) >= FOUND_BEFORE {
-            break;
-        }
-        thread::yield_now();
-    }
-    let value = owner.value();
-    if let Ok(retired) = owner.mark(posts) {
-        take_value_back(retired, posts, course);
-    }
-    course
-        .is_found
-        .store(is_found(posts, value, course), SeqCst);
 }
 
 /// Goes on to later epochs and tries to take the values of the batch back, until they come.
@@ -219,7 +159,7 @@ fn replace_all<J: PostSet>(
 ) -> Result<(), AllocError> {
     let mut bag = Batch::with_capacity(alloc, TOGETHER)?;
     let mut old = None;
-    for number in 1..VALUES + 1 {
+    for number in 0..VALUES {
         let spot = placed(cells, old, number, course);
         retire(cells, &mut bag, old);
         old = spot;
@@ -238,16 +178,13 @@ fn run_at_once<J: PostSet + Send + Sync, R: Threads + Wait>(
     alloc: Global,
     readers: usize,
     posts: &Posts<J>,
-    owner: Owner<'_, J, Probe, Global>,
     cells: &LendingCells<J, Probe>,
     course: &Course,
 ) {
-    let value = owner.value();
     thread::scope(thread::scope_env(), rt, |scope| {
         for _ in 0..readers {
-            let _ = scope.spawn(move || read_on(posts, value, cells, course));
+            let _ = scope.spawn(move || read_on(posts, cells, course));
         }
-        remove(owner, posts, course);
         let _ = replace_all(alloc, posts, cells, course);
         course.is_over.store(true, SeqCst);
     });
@@ -258,48 +195,41 @@ fn start<J: PostSet + Send + Sync, R: Threads + Wait>(
     alloc: Global,
     made: Made,
     readers: usize,
-    whole: Box<Probe>,
     course: &Course,
 ) -> Result<(), AllocError>
     requires { made.posts.items ≡ J.posts }
 {
     let posts = Posts::<J>::of(alloc, made)?;
     let cells = LendingCells::new(alloc, 8, u64::MAX, &posts)?;
-    let mut place = None;
-    let owner = lend(&mut place, whole, &posts);
-    run_at_once(rt, alloc, readers, &posts, owner, &cells, course);
+    run_at_once(rt, alloc, readers, &posts, &cells, course);
     Ok(())
 }
 
-/// Has this many readers and a writer run, and lends them this value first.
+/// Has this many readers and a writer run.
 fn begin<R: Threads + Wait>(
     rt: &R,
     alloc: Global,
     readers: usize,
-    whole: Box<Probe>,
     course: &Course,
 ) -> Result<(), AllocError> {
     let made = Made::new(alloc, readers.saturating_add(1))?;
-    start::<Brand, R>(rt, alloc, made, readers, whole, course)
+    start::<Brand, R>(rt, alloc, made, readers, course)
 }
 
 #[test]
 fn each_value_comes_back_once_while_readers_go_on(rt: HostRuntime) -> Result<(), Fail> {
     for readers in 1..5usize {
         let alloc = rt.alloc();
-        let course = Course::new(counts_for(alloc, VALUES + 1)?);
-        let whole = Box::new(alloc, Probe::new(0, &course.counts))?;
-        begin(&rt, alloc, readers, whole, &course)?;
-        let is_found = course.is_found.load(SeqCst);
-        want(&rt, "the first value isn't found again", is_found, false);
+        let course = Course::new(counts_for(alloc, VALUES)?);
+        begin(&rt, alloc, readers, &course)?;
         let placed = course.placed.load(SeqCst);
-        want(&rt, "all others are placed", placed, VALUES as u64);
+        want(&rt, "all are placed", placed, VALUES as u64);
         let back = dropped_once(&course.counts);
         want(
             &rt,
             "each comes back and is dropped once",
             back,
-            VALUES as u64 + 1,
+            VALUES as u64,
         );
         let torn = course.torn.load(SeqCst);
         want(&rt, "readers find whole values alone", torn, 0);

@@ -1,4 +1,4 @@
-//! Readers on one thread: the posts of a set, one value, and arrays of cells that are used again.
+//! Readers on one thread: the posts of a set, and arrays of cells that are used again.
 use crate::sessions::{goes_with_the_clock, takes_posts};
 use crate::wants::want;
 use epoch_lend::array::cells::{LendingCells, SlotTurn};
@@ -6,7 +6,6 @@ use epoch_lend::array::room::LentRoom;
 use epoch_lend::array::slot::Returned;
 use epoch_lend::domain::{Domain, DomainWork, with_domain};
 use epoch_lend::readers::posts::{PostSet, Posts};
-use epoch_lend::readers::value::{Owner, RetiredValue, lend};
 use epoch_lend_pointers::store::batch::{Batch, SealedBatch};
 use std::alloc::Global;
 use std::process::Abort;
@@ -307,64 +306,6 @@ fn claims_a_room<J: PostSet>(rt: &impl Abort, alloc: Global, posts: &Posts<J>) {
     );
 }
 
-/// What comes back at this try, or 0 with what has to be tried again.
-fn returned<J: PostSet>(
-    retired: Option<RetiredValue<J, u64, Global>>,
-    posts: &Posts<J>,
-) -> (u64, Option<RetiredValue<J, u64, Global>>) {
-    let Some(retired) = retired else {
-        return (0, None);
-    };
-    match retired.take_back(posts) {
-        Ok(whole) => (*whole, None),
-        Err(again) => (0, Some(again)),
-    }
-}
-
-/// Marks the value, and looks at each post for the first time.
-fn retired<J: PostSet>(
-    owner: Owner<'_, J, u64, Global>,
-    posts: &Posts<J>,
-) -> Option<RetiredValue<J, u64, Global>> {
-    match owner.mark(posts) {
-        Ok(retired) => Some(retired),
-        Err(_) => None,
-    }
-}
-
-/// A reader that stays pinned keeps the value of a box.
-fn holds_a_box_back<J: PostSet>(
-    rt: &impl Abort,
-    posts: &Posts<J>,
-    owner: Owner<'_, J, u64, Global>,
-) {
-    let value = owner.value();
-    let reader = posts.register().expect(rt, "a post");
-    let pinned = reader.pin(1);
-    let nested = &pinned;
-    let found = value.look(nested);
-    let (early, kept) = returned(retired(owner, posts), posts);
-    want(rt, "no box comes back while it is pinned", early, 0);
-    want(rt, "it reads the value after the mark", read(found), 7);
-    want(
-        rt,
-        "a further look doesn't find it",
-        read(value.look(nested)),
-        0,
-    );
-    pinned.unpin().release();
-    let (late, _) = returned(kept, posts);
-    want(rt, "the box comes back after the unpin", late, 7);
-}
-
-/// Lends the value of a box, and takes it back.
-fn lends_a_box<J: PostSet>(rt: &impl Abort, alloc: Global, posts: &Posts<J>) {
-    let whole = Box::new(alloc, 7u64).expect(rt, "memory");
-    let mut place = None;
-    let owner = lend(&mut place, whole, posts);
-    holds_a_box_back(rt, posts, owner);
-}
-
 /// A reader that stays pinned keeps a value of an array.
 fn holds_a_bag_back<J: PostSet>(
     rt: &impl Abort,
@@ -407,7 +348,6 @@ impl<R: Abort> DomainWork for OnOneThread<'_, R> {
         registers(rt, posts);
         fills(rt, alloc, posts, &cells);
         keeps_a_room(rt, alloc, posts, &cells);
-        lends_a_box(rt, alloc, posts);
         holds_a_bag_back(rt, alloc, posts, &cells);
         let cells = LendingCells::new(alloc, 2, 0, posts).expect(rt, "memory");
         ends_at_once(rt, alloc, posts, &cells);

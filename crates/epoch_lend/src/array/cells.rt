@@ -1,13 +1,12 @@
 //! The cells of an array, and where a value is in it.
 ghost use Rattle.std.specs.Prelude.{◌≡◌, ◌+◌, ◌*◌, ◌<◌, ◌≤◌, min, Some, length, map, IfSome, IfOk, IfErr};
 ghost use Rattle.std.specs.List.{slice_get};
-ghost use Rattle.epoch_lend.specs.declared.cells.cell.TheConstants.{GREATEST_TURN};
+ghost use Rattle.epoch_lend.specs.declared.cells.turns.TheConstants.{GREATEST_TURN};
 
 use crate::array::room::LentRoom;
 use crate::array::slot::{LentSlot, SlotRemoval};
-use crate::cells::cell::GREATEST_TURN;
 use crate::cells::sight::Sight;
-use crate::cells::turns::TurnName;
+use crate::cells::turns::{GREATEST_TURN, TurnName};
 use crate::readers::posts::{PostSet, Posts};
 use crate::readers::reader::Pinned;
 use crate::watch::Watch;
@@ -37,8 +36,8 @@ pub struct LendingCells<J: PostSet, T> {
 
 impl<J: PostSet, T: Drop> LendingCells<J, T> {
     /// Makes this many empty cells. The last turn of each is the given one, or [`GREATEST_TURN`] if that is less. It
-    /// fails only if memory is refused. The cells' places in memory are never freed, and values that are still in the
-    /// cells when these are dropped are not dropped.
+    /// fails only if memory is refused. A cell that is empty when it is dropped frees its place in memory; a value that
+    /// is still in a cell then is not dropped, and its place is never freed.
     pub fn new(
         alloc: Global,
         count: usize,

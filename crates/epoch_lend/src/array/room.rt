@@ -2,7 +2,7 @@
 ghost use Rattle.std.specs.Prelude.{◌≡◌, ◌+◌, ◌*◌, ◌<◌, ◌≤◌, ◌↔◌, Some, map, IsTrue, IsOk, IfOk, IfErr};
 ghost use Rattle.std.specs.List.{slice_get};
 ghost use Rattle.epoch_lend.specs.Turning.{Awaits, awaits_prop};
-ghost use Rattle.epoch_lend.specs.declared.cells.cell.TheConstants.{GREATEST_TURN};
+ghost use Rattle.epoch_lend.specs.declared.cells.turns.TheConstants.{GREATEST_TURN};
 
 use crate::array::cells::{LendingCells, PlacedAt, SlotTurn};
 use crate::array::slot::LentSlot;

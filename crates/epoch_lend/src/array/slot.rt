@@ -5,28 +5,30 @@ ghost use Rattle.epoch_lend.specs.Posts.{logs_of};
 ghost use Rattle.epoch_lend.specs.Loans.{Within, AreShown};
 ghost use Rattle.epoch_lend.specs.Watching.{AreWatched};
 ghost use Rattle.epoch_lend.specs.Turning.{Awaits};
-ghost use Rattle.epoch_lend.specs.declared.cells.cell.TheConstants.{GREATEST_TURN};
+ghost use Rattle.epoch_lend.specs.declared.cells.turns.TheConstants.{GREATEST_TURN};
 
 use crate::array::cells::LendingCells;
 use crate::array::room::LentRoom;
-use crate::cells::cell::GREATEST_TURN;
 use crate::cells::sight::Sight;
-use crate::cells::turns::{Filled, Place, TurnClaim, TurnName, Turns, Vacancy};
+use crate::cells::turns::{
+    Filled, GREATEST_TURN, Place, Title, TurnClaim, TurnName, Turns, Vacancy,
+};
 use crate::lending::Marked;
 use crate::readers::posts::{Of, PostSet, Posts};
 use crate::readers::reader::Pinned;
 use crate::watch::Watch;
-use std::alloc::{AllocError, Allocator};
+use std::alloc::{AllocError, Global};
 use std::marker::PhantomData;
 
 /// A cell whose values are lent to readers pinned at the posts of a set. Each value has a turn of its own, and no turn
 /// comes twice.
-#[derive(Drop)]
 pub struct LentSlot<J: PostSet, T> {
     turns: Turns<T>,
     at: *const T,
+    title: Title<T, Global>,
     set: Of<J>,
     pub ghost same: { at ≡ turns.at },
+    pub ghost titled: { title.at ≡ turns.at },
     pub ghost of_posts: { turns.posts ≡ logs_of J.posts },
 }
 
@@ -61,16 +63,15 @@ pub struct Returned<'c, J: PostSet, T> {
 }
 
 impl<J: PostSet, T: Drop> LentSlot<J, T> {
-    /// Makes an empty cell at turn 0. It fails only if memory is refused. The place in memory is never freed, and a
-    /// value that is still in the cell when the cell is dropped is not dropped.
-    pub fn new<A: Allocator + Drop>(
-        alloc: A,
-        posts: &Posts<J>,
-    ) -> Result<LentSlot<J, T>, AllocError> {
-        let (turns, at) = Turns::new(Place::new(alloc)?, posts.as_slice());
+    /// Makes an empty cell at turn 0. It fails only if memory is refused. A cell that is empty when it is dropped frees
+    /// its place in memory. A value that is still in the cell then is not dropped, and its place isn't freed.
+    pub fn new(alloc: Global, posts: &Posts<J>) -> Result<LentSlot<J, T>, AllocError> {
+        let (place, title) = Place::new(alloc)?;
+        let (turns, at) = Turns::new(place, posts.as_slice());
         Ok(LentSlot {
             turns,
             at,
+            title,
             set: Of(PhantomData),
         })
     }
@@ -226,6 +227,21 @@ impl<'c, J: PostSet, T> SlotRemoval<'c, J, T> {
             value,
             name: self.name,
             room,
+        }
+    }
+}
+
+impl<J: PostSet, T> Drop for LentSlot<J, T> {
+    fn drop(self) {
+        let Self {
+            turns,
+            at,
+            title,
+            set: _,
+        } = self;
+        let (word, claim) = turns.end(at);
+        if word == 4 * (word / 4) {
+            title.free(claim);
         }
     }
 }

@@ -1,9 +1,8 @@
 //! Values that are found by their turns, which are plain numbers, and not by names that are carried from the placing.
 ghost use Rattle.std.specs.Prelude.{◌≡◌, IfSome};
-ghost use Rattle.epoch_lend.specs.Posts.{IsAmong, logs_of};
+ghost use Rattle.epoch_lend.specs.Posts.{IsAmong};
 
-use crate::cells::cell::{GREATEST_TURN, LendingCell, PlacedInCell};
-use crate::cells::turns::{TurnName, Turns};
+use crate::cells::turns::{GREATEST_TURN, TurnName, Turns};
 use crate::post::PostGuard;
 
 /// A value that was found by its turn, and its name, which shows that it was placed at this turn.
@@ -54,39 +53,5 @@ impl<T> Turns<T> {
             return None;
         }
         Some((turn, which.name()))
-    }
-}
-
-impl<'p, T> LendingCell<'p, T> {
-    /// Looks at the cell, by one plain load. A value that it has of this turn is lent for as long as the guard is.
-    /// `None`: none was placed at this turn yet, or it was marked. The guard must be of one of the cell's posts.
-    pub fn look<'g>(&self, turn: u64, guard: &'g PostGuard) -> Option<Sight<'g, T>>
-        requires { IsAmong guard.now.log (logs_of self.now.posts.now) }
-        // A look by a turn lends the value of exactly that turn, for as long as the guard is lent.
-        ensures { IfSome result (λ sight. (sight.name.log ≡ self.now.turns.log) × (sight.name.turn ≡ turn)) }
-    {
-        self.turns.sight(self.at, turn, guard)
-    }
-
-    /// Returns, by two plain loads, the value that the cell has, as [`LendingCell::place`] returned it, so that what is
-    /// left in a cell can be marked and taken back. `None`: the cell is empty, or its value was marked, or went out
-    /// between the loads.
-    pub fn shown(&self) -> Option<PlacedInCell<'_, 'p, T>>
-        // A value that is left in a cell is found without its turn. What the call returns is a name of this cell at the
-        // turn found, and can be marked.
-        ensures { IfSome result (λ placed. placed.cell.now ≡ self.now) }
-    {
-        let Some((turn, name)) = self.turns.shown() else {
-            return None;
-        };
-        if turn > self.last_turn {
-            return None;
-        }
-        Some(PlacedInCell {
-            cell: self,
-            name,
-            turn,
-            word: 4 * turn + 2,
-        })
     }
 }

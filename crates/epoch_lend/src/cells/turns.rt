@@ -1,12 +1,12 @@
 //! The word of a place that values take turns at.
-ghost use Rattle.std.specs.Prelude.{◌≡◌, ◌≢◌, ℕ, ◌+◌, ◌*◌, ◌^◌, [], Option, Some};
+ghost use Rattle.std.specs.Prelude.{◌≡◌, ◌≢◌, ℕ, ◌+◌, ◌*◌, ◌^◌, [], Option, Some, IfOk};
 ghost use Rattle.std.specs.Coded.{coded_option};
 ghost use Rattle.std.specs.Ptr.{Ptr};
 ghost use Rattle.epoch_lend.specs.Posts.{IsAmong, logs_of};
 ghost use Rattle.epoch_lend.specs.Loans.{Within};
 ghost use Rattle.epoch_lend.specs.Turning.{TurnNames, turn_names_coded, turns_own, turns_share, turn_room_of};
 ghost use Rattle.epoch_lend.specs.Turning.{turn_is, turn_shares, claim_of, filled_has, vacancy_of, found_of};
-ghost use Rattle.epoch_lend.specs.Turning.{Awaits};
+ghost use Rattle.epoch_lend.specs.Turning.{Awaits, title_owns};
 
 use crate::lending::{Glance, Marked};
 use crate::part::Part;
@@ -17,6 +17,9 @@ use std::marker::{Brand, Model, Move, Owns, PhantomData};
 use std::sync::atomic::Ordering::SeqCst;
 use std::sync::atomic::raw;
 use std_alloc::room::Vacant;
+
+/// The greatest last turn of a cell: the word of the turn after it is the greatest multiple of 4 that fits.
+pub const GREATEST_TURN: u64 = 0x3fff_ffff_ffff_fffe;
 
 /// The word: four times the turn, and the state. 0: vacant. 1: claimed, while a value is placed. 2: shown to guards.
 /// 3: removed, until the value is out.
@@ -45,6 +48,17 @@ pub struct Place<T> {
 
 impl<T> Model for Place<T> {
     ghost also_owns = { λ h. turn_room_of T.row h.at };
+}
+
+/// The right to free a place, while no value is in it. Dropped, it leaves the place where it is for good.
+#[derive(Drop)]
+pub struct Title<T, A: Allocator> {
+    pub(crate) at: *const T,
+    alloc: A,
+}
+
+impl<T, A: Allocator> Model for Title<T, A> {
+    ghost also_owns = { λ t. title_owns (A.dealloc_token t.alloc) T.row t.at };
 }
 
 /// What a claim gained: nothing, or the place with no value in it. No other thread reaches it until it is given back.
@@ -122,7 +136,7 @@ impl<T> Model for Found<T> {
 impl<T> Turns<T> {
     /// Makes the place vacant at turn 0. Guards of these posts may look at its values.
     pub fn new(place: Place<T>, posts: &[Post]) -> (Turns<T>, *const T)
-        ensures { (result.0.posts ≡ logs_of posts.now) × (result.0.at ≡ result.1) }
+        ensures { (result.0.posts ≡ logs_of posts.now) × (result.0.at ≡ result.1) × (result.1 ≡ place.at) }
     {
         let _ = posts;
         let Place { at } = place;
@@ -243,6 +257,16 @@ impl<T> Turns<T> {
         let _ = turn;
         unsafe { raw::store::<Brand>(&raw const self.word, word, SeqCst) };
     }
+
+    /// Ends the word, which nobody shares any more. Returns it and, if it is that of a vacant place, the place.
+    pub fn end(self, at: *const T) -> (u64, TurnClaim<T>)
+        requires { at ≡ self.at }
+        ensures vacant { (turn : ℕ) → result.0 ≡ 4 * turn → result.1.right ≡ 1 }
+        ensures at { result.1.at ≡ self.at }
+    {
+        let Self { word, marker: _ } = self;
+        (word, TurnClaim { at })
+    }
 }
 
 impl<T> Found<T> {
@@ -335,22 +359,44 @@ impl<T> Filled<T> {
 }
 
 impl<T: Drop> Place<T> {
-    /// Takes room for one value, which is never freed. It fails only if memory is refused.
-    pub fn new<A: Allocator + Drop>(alloc: A) -> Result<Place<T>, AllocError> {
+    /// Takes room for one value, and returns it with the right to free it. It fails only if memory is refused.
+    pub fn new<A: Allocator + Drop>(alloc: A) -> Result<(Place<T>, Title<T, A>), AllocError>
+        ensures { IfOk result (λ made. made.1.at ≡ made.0.at) }
+    {
         match Vacant::take(alloc) {
-            Ok(room) => {
-                let (place, _alloc) = place_of(room);
-                Ok(place)
-            }
+            Ok(room) => Ok(place_of(room)),
             Err(_) => Err(AllocError),
         }
     }
 }
 
-/// Returns the room of a block, for good, with its allocator.
-fn place_of<T: Drop, A: Allocator>(room: Vacant<T, A>) -> (Place<T>, A) {
+/// Returns the room of a block, and the right to free it.
+fn place_of<T: Drop, A: Allocator>(room: Vacant<T, A>) -> (Place<T>, Title<T, A>)
+    ensures { result.1.at ≡ result.0.at }
+{
     let Vacant { ptr, alloc } = room;
-    (Place { at: ptr }, alloc)
+    (Place { at: ptr }, Title { at: ptr, alloc })
+}
+
+impl<T, A: Allocator> Title<T, A> {
+    /// Frees the place, which has no value in it, and returns its allocator.
+    pub fn free(self, claim: TurnClaim<T>) -> A
+        requires { (claim.right ≡ 1) × (claim.at ≡ self.at) }
+    {
+        self.room(claim).free()
+    }
+
+    // The room of the block.
+    fn room(self, claim: TurnClaim<T>) -> Vacant<T, A>
+        requires { (claim.right ≡ 1) × (claim.at ≡ self.at) }
+    {
+        let Title { at, alloc } = self;
+        let TurnClaim { at: _ } = claim;
+        Vacant {
+            ptr: at as *mut T,
+            alloc,
+        }
+    }
 }
 
 impl<T> Drop for Turns<T> {
@@ -362,6 +408,10 @@ impl<T> Drop for Turns<T> {
 unsafe impl<T: Send + Sync> Send for Turns<T> {}
 
 unsafe impl<T: Send + Sync> Sync for Turns<T> {}
+
+unsafe impl<T, A: Allocator + Send> Send for Title<T, A> {}
+
+unsafe impl<T, A: Allocator + Send> Sync for Title<T, A> {}
 
 unsafe impl<T: Send> Send for TurnClaim<T> {}
 

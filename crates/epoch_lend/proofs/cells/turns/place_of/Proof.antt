@@ -1,9 +1,9 @@
--- `place_of` takes the room and its allocator apart.
-use Rattle.std.proofs.Common.{List, [], ◌∷◌, ◌++◌, sym, refl, subst}
+-- `place_of` takes the room and the right to free it apart.
+use Rattle.std.proofs.Common.{◌≡◌, ◌&&◌, true, List, [], ◌∷◌, ◌++◌, sym, refl, subst}
 use mir.Syntax.{a_type, dcons, dnil}
 use mir.Val.{Val, vstruct, vcons, vnil, of_list, has_ty}
 use mir.MapTy.{inst_fn}
-use base.Logic.{SProp, ent, id⊢}
+use base.Logic.{SProp, ent, emp, id⊢}
 use base.Fml.{ftrue, fsep, feq, flft}
 use types.Kit.{Item, ‵, raw, ◌⊛◌, ◌$◌, ◌∵◌, !, qed, by, move, keep, split, fsplit}
 use types.Kit.{fjoin, fjoin3, fpack, use0, feq_i, suffices}
@@ -11,6 +11,7 @@ use types.Run.{stop, fld, of_opd, no_more, and_then, returns, enter}
 use types.ByLocal.{alloc_all, pass_all, free_all, look_at, get, get_in, sets}
 use types.Part.{agg, sub, whole}
 use contract.Running.{tables}
+use contract.Monad.{fact, fact_i}
 use denote.Exit.{no}
 use denote.RattleType.{RattleType, Valss, owns}
 use denote.Signature.{plain}
@@ -39,6 +40,7 @@ place_of_spec 𝓤 𝓛 𝓜 𝓡 wired X Z L LZ g d dx dd met glue md =
     let P : RattleType = param 1 Z in
     let V : RattleType = Vacant al R in
     let Row : RattleType = place_is.the_row R in
+    let Tr : RattleType = fields.Title al R in
     let En = ended X Z g d dx dd in
     let inst = bounded (a_type ∷ a_type ∷ []) (X, (Z, tt)) (dcons d (dcons dx (dcons dd dnil))) in
     let fn = inst_fn inst code.function in
@@ -60,10 +62,14 @@ place_of_spec 𝓤 𝓛 𝓜 𝓡 wired X Z L LZ g d dx dd met glue md =
     split ! $ move ! (1 ∷ []) $ fsplit ! $
     Vacant-had al R ! v z.0.4.0 (λ b o hw e ws fw.
     let p : Ptr = block_ptr b o in
-    let out : Val = vstruct (vcons (word p) (vcons hw vnil)) in
+    let tv : Val = fields.title_val hw p in
+    let out : Val = vstruct (vcons (word p) (vcons tv vnil)) in
     let all : Row.Denot = record { at = p } in
+    let right : Tr.Denot = record { at = p; alloc = a } in
+    let Told : Type 0 = p ≡ p in
+    let typed = fields.title_typed al R hw b o fw in
     -- [the room; the right to free it; the handle; nothing; the tokens]
-    keep ! (0 ∷ 2 ∷ 4 ∷ []) $
+    keep ! (0 ∷ 1 ∷ 2 ∷ 4 ∷ []) $
     suffices ! (Run (vacant_val hw b o ∷ [])) (subst (λ (us : List Val). ent 𝓤 (Run (vacant_val hw b o ∷ [])) (Run us))
     (sym (λ i. ws i ++ [])) (id⊢ 𝓤 (Run (vacant_val hw b o ∷ [])))) $
     enter ! 𝓣.C 𝓣.Λ fn (vacant_val hw b o ∷ []) Post $
@@ -72,21 +78,17 @@ place_of_spec 𝓤 𝓛 𝓜 𝓡 wired X Z L LZ g d dx dd met glue md =
     sets ! (of_opd ! (get_in ! (fld ! refl (stop !)) (sub ! 1 refl (whole !)))) refl fw $
     sets ! (agg ! (and_then ! (get ! refl) (no_more !))) refl (tt, (tt, tt)) $
     sets ! (of_opd ! (get ! refl)) refl fw $
+    sets ! (agg ! (and_then ! (get ! refl) (and_then ! (get ! refl) (no_more !)))) refl typed $
     sets ! (agg ! (and_then ! (get ! refl) (and_then ! (get ! refl) (no_more !)))) refl (
-      and_tt (has_ty (α al) hw) fw.0,
-      (
-        (
-          tt,
-          tt,
-        ),
-        (fw.1, tt),
-      ),
+      and_tt (has_ty (α al) hw && true) typed.0,
+      ((tt, tt), (typed.1, tt)),
     ) $
-    -- [the room; the handle; the tokens]
-    use0 𝓛 (‵ ((fields.Place R).own_val (p, tt) (word p ∷ []))) (fields.place_made R 𝓛 p) $ fjoin ! $ nothing ! $
-    move ! (1 ∷ 2 ∷ 0 ∷ []) $ fjoin3 ! $ feq_i ! (List Val) (out ∷ []) (out ∷ []) refl $ fjoin ! $
-    fpack ! (Valss (Row ∷ P ∷ [])) (λ uss. fsep (feq (List Val) (out ∷ []) (vstruct (of_list (uss.0 ++ (uss.1.0 ++
-    []))) ∷ [])) (owns (Row ∷ P ∷ []) (all, (a, tt)) uss)) (word p ∷ [], (hw ∷ [], tt)) $
-    nothing ! $ nothing ! $ nothing ! $ fjoin ! $
+    -- [the room; the right to free it; the handle; the tokens]
+    use0 𝓛 (‵ ((fields.Place R).own_val (p, tt) (word p ∷ []))) (fields.place_made R 𝓛 p) $ fjoin ! $
+    move ! (1 ∷ 2 ∷ []) $ fields.title_made al R ! a p $ nothing ! $
+    move ! (2 ∷ 1 ∷ 0 ∷ []) $ fjoin3 ! $ feq_i ! (List Val) (out ∷ []) (out ∷ []) refl $ fjoin ! $
+    fpack ! (Valss (Row ∷ Tr ∷ [])) (λ uss. fsep (feq (List Val) (out ∷ []) (vstruct (of_list (uss.0 ++ (uss.1.0 ++
+    []))) ∷ [])) (owns (Row ∷ Tr ∷ []) (all, (right, tt)) uss)) (word p ∷ [], (tv ∷ [], tt)) $
+    use0 𝓛 (raw (fact 𝓤 Told)) (fact_i 𝓤 Told (emp 𝓤) refl) $ nothing ! $ nothing ! $ fjoin ! $
     returns ! (look_at ! 0 refl) $ free_all ! refl $ keep ! (3 ∷ 0 ∷ 2 ∷ 1 ∷ []) $
-    by ! (leaves 𝓛 En hs c z out (all, a) ((tt, (tt, tt)), tt) (tt, tt)))))
+    by ! (leaves 𝓛 En hs c z out (all, right) ((tt, (tt, tt)), tt) (tt, tt)))))

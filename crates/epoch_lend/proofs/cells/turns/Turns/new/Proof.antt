@@ -118,8 +118,9 @@ new_spec 𝓤 𝓛 𝓜 𝓡 wired X L =
     feq_i ! (List Val) (v ∷ []) (v ∷ []) refl $ fjoin ! $
     fpack ! (Valss (Row ∷ RawPtr ∷ [])) (λ uss. fsep (feq (List Val) (v ∷ []) (vstruct (of_list (uss.0 ++ (uss.1.0 ++
     []))) ∷ [])) (owns (Row ∷ RawPtr ∷ []) (d, (p, tt)) uss)) (pv ∷ [], (ptr_val p ∷ [], tt)) $
-    let Told : Type 0 = (d.posts ≡ logs_of a.1.0.now) × (p ≡ p) in
-    use0 𝓛 (raw (fact 𝓤 Told)) (fact_i 𝓤 Told (emp 𝓤) (refl, refl)) $ nothing ! $ nothing ! $ fjoin ! $ nothing ! $
+    let Told : Type 0 = (d.posts ≡ logs_of a.1.0.now) × (p ≡ p) × (p ≡ u.at) in
+    use0 𝓛 (raw (fact 𝓤 Told)) (fact_i 𝓤 Told (emp 𝓤) (refl, refl, refl)) $ nothing ! $ nothing ! $ fjoin ! $
+    nothing ! $
     fjoin ! $
     returns ! (look_at ! 0 refl) $ free_all ! refl $ keep ! (3 ∷ 0 ∷ 2 ∷ 1 ∷ []) $
     by ! (leaves 𝓛 En hs c y v (d, p) (tt, (tt, tt)) (tt, (tt, tt)))))))

@@ -1,8 +1,0 @@
-use denote.RattleType.{RattleType}
-use denote.Param.Send.{IsSend, IsSync}
-use Rattle.core.proofs.atomic.Sent.{chain-Keyless}
-use Rattle.epoch_lend.specs.contracts.lending.Lending.{the_row}
-use Rattle.epoch_lend.proofs.Keyless.{while_keyless}
-
-pub sync : (T : RattleType) → IsSend T → IsSync T → IsSync (the_row T)
-sync T s y = record { shared = λ d b o κ α. ((λ νs. chain-Keyless νs κ α), λ n. (tt, while_keyless T y d n)) }
