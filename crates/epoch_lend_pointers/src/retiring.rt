@@ -76,7 +76,8 @@ impl<'q, 's, J: PostSet, T: Drop> Writer<'q, 's, J, T> {
         ensures kept { self.new.kept ≡ self.old.kept }
     {
         let _ = self.put_held();
-        self.store.try_some::<S>(&mut self.rooms);
+        self.store
+            .try_some::<S>(&mut self.last_try, &mut self.rooms);
     }
 
     /// Retires the value that the pointer names: no call gets it any more once each pin is over that began before, and

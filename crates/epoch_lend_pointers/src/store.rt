@@ -8,7 +8,7 @@ pub mod lent_cells;
 mod piles;
 pub mod retired;
 mod rooms;
-mod settling;
+pub(crate) mod settling;
 pub mod spots;
 
 use crate::store::batch::SealedBatch;
@@ -39,7 +39,8 @@ pub(crate) enum Waiting<'s, J: PostSet, T> {
 /// A store of values of one type, in cells, which are lent to guards of its domain.
 ///
 /// Threads share it by `&`. Each of them places and retires values by a [`Writer`](crate::Writer) of its own, and loads
-/// pointers and gets values with any guard of the domain. [`Store::end`] drops the values that are left.
+/// pointers and gets values with any guard of the domain. [`Store::end`] drops the values that are left. Without it,
+/// they are never dropped, and their memory isn't freed.
 ///
 /// What waits is bounded by the cells alone. While a guard stays out, values that are retired keep their cells; once
 /// all cells are in use, no value is placed until that guard is given back or renewed.

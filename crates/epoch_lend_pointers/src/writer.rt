@@ -6,6 +6,7 @@ ghost use Rattle.epoch_lend_pointers.specs.Steps.{HandsOverAll, StaysOrWaits};
 use crate::steps::{HasStoreSteps, StoreSteps};
 use crate::store::batch::Batch;
 use crate::store::retired::Retired;
+use crate::store::settling::LastTry;
 use crate::store::{LentRooms, Store, Waiting};
 use epoch_cells::Fault;
 use epoch_lend::readers::posts::PostSet;
@@ -26,6 +27,7 @@ pub struct Writer<'q, 's, J: PostSet, T> {
     // A batch for a value that is taken back alone, and has to wait; and one that found no place to wait in the store.
     pub(crate) spare: Option<Batch<'s, J, T>>,
     pub(crate) held: Option<Waiting<'s, J, T>>,
+    pub(crate) last_try: LastTry,
     pub(crate) alloc: Global,
 }
 
@@ -61,6 +63,7 @@ impl<'q, 's, J: PostSet, T: Drop> Writer<'q, 's, J, T> {
                 rooms: LentRooms::none(alloc),
                 spare: None,
                 held: None,
+                last_try: LastTry::none(),
                 alloc,
             }),
             Err(_) => Err(Fault::NoMemory),
@@ -96,6 +99,7 @@ impl<'q, 's, J: PostSet, T: Drop> Writer<'q, 's, J, T> {
             rooms,
             spare: _,
             held: _,
+            last_try: _,
             alloc: _,
         } = staying;
         store.leave_rooms(rooms);

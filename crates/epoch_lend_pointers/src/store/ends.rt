@@ -6,10 +6,11 @@ use epoch_lend::readers::posts::PostSet;
 use std::alloc::Global;
 
 impl<'s, J: PostSet, T: Drop> Store<'s, J, T> {
-    /// Drops the values that wait, and those that are still in the cells. Returns how many.
+    /// Drops the values that wait, and those that are still in the cells, and leaves each cell empty, so that its
+    /// memory is freed when the cells are dropped. Returns how many values there were.
     ///
     /// No call gets a value of the store any more. While a guard of the domain is out, values that it may have are left
-    /// where they are, and so is a value for whose removal there is no memory.
+    /// where they are, and so is a value for whose removal there is no memory. Their memory is never freed.
     pub fn end(self, alloc: Global) -> usize {
         let mut dropped: usize = 0;
         let mut rooms = LentRooms::none(alloc);
@@ -23,6 +24,12 @@ impl<'s, J: PostSet, T: Drop> Store<'s, J, T> {
         }
         for slot in 0..self.cells.capacity() + 1 {
             dropped = dropped.wrapping_add(self.drop_at(alloc, slot, &mut rooms));
+        }
+        rooms.release();
+        for _ in 0..self.rooms.len() {
+            if let Some(left) = self.rooms.take() {
+                left.release();
+            }
         }
         dropped
     }

@@ -152,9 +152,10 @@ impl<X: Drop> Piles<X> {
         self.put.load(SeqCst).wrapping_sub(left)
     }
 
-    /// Returns in which place the oldest thing is, unless other threads are about to take it.
-    pub(crate) fn oldest(&self) -> usize {
-        self.left.load(SeqCst) % PLACES
+    /// Returns how many things have left for good. The oldest of those that haven't is in the place with this number,
+    /// as of [`Piles::take_out`], unless other threads are about to take it.
+    pub(crate) fn gone(&self) -> usize {
+        self.left.load(SeqCst)
     }
 
     /// Puts a thing behind the others. It is handed back if each place was seen in another thread's hands, or had
@@ -256,7 +257,7 @@ impl<X: Drop> Piles<X> {
         if self.len() == 0 {
             return None;
         }
-        let first = self.oldest();
+        let first = self.gone();
         for step in 0..PLACES {
             if let Some((thing, rest)) = self.take_out(first.wrapping_add(step)) {
                 self.remove(rest);

@@ -45,6 +45,14 @@ impl<'s, J: PostSet, T> LentRooms<'s, J, T> {
         }
     }
 
+    /// Leaves all of its cells to all callers, empty.
+    pub(crate) fn release(self) {
+        let mut rest = self;
+        while let Some(room) = rest.next() {
+            room.release();
+        }
+    }
+
     /// Takes a room out of the list.
     #[inline(always)]
     pub(crate) fn next(&mut self) -> Option<LentRoom<'s, J, T>>

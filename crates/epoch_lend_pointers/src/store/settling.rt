@@ -22,8 +22,26 @@ const MOST_IN_VAIN: usize = 2;
 // What became of a batch that was tried.
 enum Tried<'s, J: PostSet, T> {
     Marked(Waiting<'s, J, T>),
-    InVain(Waiting<'s, J, T>),
+    // It waits on, until each post is unpinned, or pinned in this epoch or a later one.
+    InVain(Waiting<'s, J, T>, u64),
     Clear(ClearBatch<'s, J, T>),
+}
+
+/// What a writer knows of the batches that wait, from the last time that it tried some.
+#[derive(Drop)]
+pub(crate) struct LastTry {
+    // How many batches had left the store by then.
+    gone: usize,
+    // As long as no other one leaves, trying is in vain until each post is unpinned, or pinned in this epoch or a later
+    // one.
+    until: u64,
+}
+
+impl LastTry {
+    /// Says that nothing is known.
+    pub(crate) fn none() -> LastTry {
+        LastTry { gone: 0, until: 0 }
+    }
 }
 
 impl<'s, J: PostSet, T: Drop> Store<'s, J, T> {
@@ -155,11 +173,10 @@ impl<'s, J: PostSet, T: Drop> Store<'s, J, T> {
         dropped
     }
 
-    // Tries some of the batches that wait, the oldest first: each that no pin from before can find any more is marked,
-    // and the values of each that no guard may have are dropped.
+    // Tries some of the batches that wait, unless a look at the posts tells that it is in vain, as the last time.
     #[cold]
     #[inline(never)]
-    pub(crate) fn try_some<S: PinSteps>(&self, rooms: &mut LentRooms<'s, J, T>)
+    pub(crate) fn try_some<S: PinSteps>(&self, last: &mut LastTry, rooms: &mut LentRooms<'s, J, T>)
     where
         J: HasPinSteps<S>,
     {
@@ -167,8 +184,31 @@ impl<'s, J: PostSet, T: Drop> Store<'s, J, T> {
         if standing == 0 {
             return;
         }
-        let first = self.waiting.oldest();
+        let gone = self.waiting.gone();
         let seen = self.domain().least_pinned::<S>();
+        if gone == last.gone && seen.least < last.until {
+            return;
+        }
+        let until = self.try_oldest::<S>(gone, standing, seen, rooms);
+        *last = LastTry { gone, until };
+    }
+
+    // Tries some of the batches that wait, the oldest first: each that no pin from before can find any more is marked,
+    // and the values of each that no guard may have are dropped. Returns the least epoch for which one waits on, or 0
+    // if some went on.
+    fn try_oldest<S: PinSteps>(
+        &self,
+        first: usize,
+        standing: usize,
+        seen: PostsSeen,
+        rooms: &mut LentRooms<'s, J, T>,
+    ) -> u64
+    where
+        J: HasPinSteps<S>,
+        requires { (epoch : ℕ) → epoch ≤ seen.clock → epoch ≤ seen.least
+            → PassesAll (S.did J.posts) epoch (length J.posts) }
+    {
+        let mut until = u64::MAX;
         let mut tried: usize = 0;
         let mut in_vain: usize = 0;
         let most = standing.min(BATCHES_TRIED);
@@ -181,17 +221,27 @@ impl<'s, J: PostSet, T: Drop> Store<'s, J, T> {
             };
             tried = tried.wrapping_add(1);
             match self.try_one::<S>(waiting, seen) {
-                Tried::Marked(waiting) => self.waiting.put_back(rest, waiting),
-                Tried::InVain(waiting) => {
+                Tried::Marked(waiting) => {
+                    until = 0;
+                    self.waiting.put_back(rest, waiting);
+                }
+                Tried::InVain(waiting, epoch) => {
                     in_vain = in_vain.wrapping_add(1);
+                    until = until.min(epoch);
                     self.waiting.put_back(rest, waiting);
                 }
                 Tried::Clear(clear) => {
+                    until = 0;
                     self.waiting.remove(rest);
                     self.drop_all(clear, rooms);
                 }
             }
         }
+        // (another thread has those that weren't tried)
+        if tried < most && in_vain < MOST_IN_VAIN {
+            return 0;
+        }
+        until
     }
 
     // Marks the values of a batch, if the look at the posts shows that no pin from before can find them any more. Takes
@@ -205,13 +255,14 @@ impl<'s, J: PostSet, T: Drop> Store<'s, J, T> {
         match waiting {
             // The look has found a post that holds it back, so its own look would be in vain.
             Waiting::Sealed(batch) if batch.seal() > seen.least => {
-                Tried::InVain(Waiting::Sealed(batch))
+                let epoch = batch.seal();
+                Tried::InVain(Waiting::Sealed(batch), epoch)
             }
             Waiting::Sealed(batch) => self.settle(batch),
             Waiting::Ripening(ripening) => {
                 let epoch = ripening.epoch();
                 if epoch > seen.clock || epoch > seen.least {
-                    return Tried::InVain(Waiting::Ripening(ripening));
+                    return Tried::InVain(Waiting::Ripening(ripening), epoch);
                 }
                 let batch = ripening.mark::<S>(self.cells).seal(self.domain().posts());
                 if seen.least == u64::MAX {
@@ -229,7 +280,10 @@ impl<'s, J: PostSet, T: Drop> Store<'s, J, T> {
     fn settle(&self, batch: SealedBatch<'s, J, T>) -> Tried<'s, J, T> {
         match batch.take_back(self.domain().posts()) {
             Ok(clear) => Tried::Clear(clear),
-            Err(batch) => Tried::InVain(Waiting::Sealed(batch)),
+            Err(batch) => {
+                let epoch = batch.seal();
+                Tried::InVain(Waiting::Sealed(batch), epoch)
+            }
         }
     }
 }
