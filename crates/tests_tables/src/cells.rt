@@ -3,7 +3,6 @@ use crate::wants::want;
 use epoch_cells::{Cells, Name, Removal};
 use std::alloc::Global;
 use std::process::Abort;
-use std::test::Fail;
 
 mod near;
 mod rooms;
@@ -45,13 +44,12 @@ fn want_removal(rt: &impl Abort, cells: &Cells<u64>, (slot, turn): (u32, u32), w
 }
 
 #[test]
-fn values_are_placed_read_written_taken_and_removed(rt: HostRuntime) -> Result<(), Fail> {
+fn values_are_placed_read_written_taken_and_removed(rt: HostRuntime) {
     let alloc = rt.alloc();
-    let cells = Cells::<u64>::new(alloc, 2, 0)?;
+    let cells = Cells::<u64>::new(alloc, 2, 0).expect(&rt, "memory");
     fill_both(&rt, alloc, &cells);
     want(&rt, "it is read", hold_by_reading(&rt, &cells), Some(()));
     write_and_remove(&rt, alloc, &cells);
-    Ok(())
 }
 
 // Fills both slots, and the first one once more.
@@ -89,16 +87,15 @@ fn write_and_remove(rt: &impl Abort, alloc: Global, cells: &Cells<u64>) {
 }
 
 #[test]
-fn the_last_turn_retires_a_slot(rt: HostRuntime) -> Result<(), Fail> {
+fn the_last_turn_retires_a_slot(rt: HostRuntime) {
     let (alloc, last) = (rt.alloc(), 4_294_967_295);
-    let cells = Cells::<u64>::new(alloc, 1, last)?;
+    let cells = Cells::<u64>::new(alloc, 1, last).expect(&rt, "memory");
     want(&rt, "a value", place(alloc, &cells, 1), Some((1, last)));
     want(&rt, "it is taken", take(&cells, 1, last), Some(1));
     want(&rt, "a further one", place(alloc, &cells, 2), None);
     want(&rt, "no take", take(&cells, 1, last), None);
     want_removal(&rt, &cells, (1, last), Removal::Gone);
     want(&rt, "no reading", read(&cells, 1, last), None);
-    Ok(())
 }
 
 // What others are answered while the value of the first name is written.
@@ -113,12 +110,11 @@ fn hold_by_writing(rt: &impl Abort, cells: &Cells<u64>) -> Option<()> {
 }
 
 #[test]
-fn a_written_value_is_held(rt: HostRuntime) -> Result<(), Fail> {
-    let cells = Cells::<u64>::new(rt.alloc(), 1, 0)?;
+fn a_written_value_is_held(rt: HostRuntime) {
+    let cells = Cells::<u64>::new(rt.alloc(), 1, 0).expect(&rt, "memory");
     want(&rt, "a value", place(rt.alloc(), &cells, 5), Some((1, 0)));
     want(&rt, "it is written", hold_by_writing(&rt, &cells), Some(()));
     want(&rt, "a take", take(&cells, 1, 0), Some(5));
-    Ok(())
 }
 
 // Reads once more, lets `more` others do so and leave, and says whether the value was held all the time.
@@ -133,12 +129,11 @@ fn stays_held(cells: &Cells<u64>, more: u32) -> bool {
 }
 
 #[test]
-fn a_reader_that_leaves_never_lowers_the_count_of_another(rt: HostRuntime) -> Result<(), Fail> {
-    let cells = Cells::<u64>::new(rt.alloc(), 1, 0)?;
+fn a_reader_that_leaves_never_lowers_the_count_of_another(rt: HostRuntime) {
+    let cells = Cells::<u64>::new(rt.alloc(), 1, 0).expect(&rt, "memory");
     want(&rt, "a value", place(rt.alloc(), &cells, 8), Some((1, 0)));
     want(&rt, "it stays held", stays_held(&cells, 99), true);
     want_removal(&rt, &cells, (1, 0), Removal::Destroyed);
-    Ok(())
 }
 
 // The slots from the first to below the end take values in this turn, one after the other: each its own number.
@@ -150,14 +145,13 @@ fn fill(rt: &impl Abort, alloc: Global, cells: &Cells<u64>, (first, end): (u32, 
 }
 
 #[test]
-fn the_first_free_slot_is_taken(rt: HostRuntime) -> Result<(), Fail> {
+fn the_first_free_slot_is_taken(rt: HostRuntime) {
     let alloc = rt.alloc();
-    let none = Cells::<u64>::new(alloc, 0, 0)?;
+    let none = Cells::<u64>::new(alloc, 0, 0).expect(&rt, "memory");
     want(&rt, "there is no slot", place(alloc, &none, 7), None);
     want_removal(&rt, &none, (1, 0), Removal::Gone);
-    let cells = Cells::<u64>::new(alloc, 100, 0)?;
+    let cells = Cells::<u64>::new(alloc, 100, 0).expect(&rt, "memory");
     fill_twice(&rt, alloc, &cells);
-    Ok(())
 }
 
 // Fills all of a hundred slots, frees some, and fills these again.

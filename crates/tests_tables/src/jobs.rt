@@ -9,7 +9,6 @@ use std::process::Abort;
 use std::sync::Arc;
 use std::sync::atomic::AtomicU64;
 use std::sync::atomic::Ordering::SeqCst;
-use std::test::Fail;
 
 /// A job that adds one to the count.
 fn counting_job(alloc: Global, count: &Arc<AtomicU64>) -> Result<Job, AllocError> {
@@ -70,14 +69,13 @@ fn want_called(rt: &impl Abort, bag: &mut SealedBag<Job>, cells: &Cells<u64>, co
 }
 
 #[test]
-fn jobs_are_called_oldest_first_and_say_what_they_did(rt: HostRuntime) -> Result<(), Fail> {
+fn jobs_are_called_oldest_first_and_say_what_they_did(rt: HostRuntime) {
     let alloc = rt.alloc();
-    let cells = Cells::new(alloc, 3, 0)?;
+    let cells = Cells::new(alloc, 3, 0).expect(&rt, "memory");
     want(&rt, "a first value", place(alloc, &cells, 0), Some((1, 0)));
     want(&rt, "a second one", place(alloc, &cells, 1), Some((2, 0)));
-    let count = Arc::new(alloc, AtomicU64::new(0))?;
-    let jobs = four_jobs(counting_job(alloc, &count)?);
+    let count = Arc::new(alloc, AtomicU64::new(0)).expect(&rt, "memory");
+    let jobs = four_jobs(counting_job(alloc, &count).expect(&rt, "memory"));
     let mut sealed = jobs.seal(Epoch::starting());
     want_called(&rt, &mut sealed, &cells, &count);
-    Ok(())
 }

@@ -6,7 +6,6 @@ use epoch::bag::Bag;
 use epoch::epoch::Epoch;
 use epoch::queue::{BagQueue, BagStore, PutStep, TakeCursor, TakeStep};
 use std::process::Abort;
-use std::test::Fail;
 
 /// A step of a put of a bag with this one job answers so.
 fn want_put<S: BagStore<Job = u64>>(
@@ -34,8 +33,8 @@ fn want_take<S: BagStore<Job = u64>>(
 }
 
 #[test]
-fn a_queue_puts_and_takes_in_one_step(rt: HostRuntime) -> Result<(), Fail> {
-    let mut queue: BagQueue<u64> = BagStore::with_room(rt.alloc(), 2)?;
+fn a_queue_puts_and_takes_in_one_step(rt: HostRuntime) {
+    let mut queue: BagQueue<u64> = BagStore::with_room(rt.alloc(), 2).expect(&rt, "memory");
     let mut put = queue.start_put();
     want_put(&rt, &mut queue, &mut put, (3, 30), PutStep::Done);
     let mut put = queue.start_put();
@@ -49,7 +48,6 @@ fn a_queue_puts_and_takes_in_one_step(rt: HostRuntime) -> Result<(), Fail> {
     want_take(&rt, &mut queue, &mut take, 5, first);
     want_take(&rt, &mut queue, &mut take, 5, (TakeStep::Got, Some(10)));
     want_take(&rt, &mut queue, &mut take, 5, empty);
-    Ok(())
 }
 
 /// A put takes this many steps before its last: one for each place that it looks at, and one for its claim.
@@ -69,8 +67,8 @@ fn taken_by_steps(rt: &impl Abort, places: &mut Places<u64>, cursor: &mut TakeCu
 }
 
 #[test]
-fn places_are_filled_and_emptied_from_the_first_one_on(rt: HostRuntime) -> Result<(), Fail> {
-    let mut places: Places<u64> = BagStore::with_room(rt.alloc(), 3)?;
+fn places_are_filled_and_emptied_from_the_first_one_on(rt: HostRuntime) {
+    let mut places: Places<u64> = BagStore::with_room(rt.alloc(), 3).expect(&rt, "memory");
     put_by_steps(&rt, &mut places, (3, 30), 2);
     put_by_steps(&rt, &mut places, (1, 10), 3);
     put_by_steps(&rt, &mut places, (2, 20), 4);
@@ -80,5 +78,4 @@ fn places_are_filled_and_emptied_from_the_first_one_on(rt: HostRuntime) -> Resul
     taken_by_steps(&rt, &mut places, &mut cursor, 20);
     // Past the last place, Empty is a step of its own.
     want_take(&rt, &mut places, &mut cursor, 5, (TakeStep::Empty, None));
-    Ok(())
 }

@@ -4,7 +4,6 @@ ghost use Rattle.epoch_tables.specs.SharedPlaces.{IsPlaceSeatOf, IsSamePlaceSeat
 ghost use Rattle.epoch_tables.specs.SharedSteps.{TakesAt};
 
 use crate::wants::{want, want_word};
-use epoch::Fault;
 use epoch::bag::{Bag, SealedBag};
 use epoch::epoch::{Epoch, GREATEST_EPOCH};
 use epoch::queue::{
@@ -75,10 +74,9 @@ fn want_pair(rt: &impl Abort, bag: Option<SealedBag<u64>>, first: u64, second: u
 }
 
 #[test]
-fn a_bag_is_put_into_a_place_and_comes_out_whole(rt: HostRuntime) -> Result<(), Fault> {
-    let places: SharedPlaces<u64> = SharedPlaces::new(rt.alloc(), 2)?;
+fn a_bag_is_put_into_a_place_and_comes_out_whole(rt: HostRuntime) {
+    let places: SharedPlaces<u64> = SharedPlaces::new(rt.alloc(), 2).expect(&rt, "memory");
     want_pair(&rt, put_and_taken(&rt, &places), 5, 6);
-    Ok(())
 }
 
 /// A bag that one participant has put into a place, and another has taken out.
@@ -100,8 +98,8 @@ fn put_and_taken(rt: &impl Abort, places: &SharedPlaces<u64>) -> Option<SealedBa
 }
 
 #[test]
-fn steps_pass_a_place_whose_claim_they_lost(rt: HostRuntime) -> Result<(), Fault> {
-    let places: SharedPlaces<u64> = SharedPlaces::new(rt.alloc(), 2)?;
+fn steps_pass_a_place_whose_claim_they_lost(rt: HostRuntime) {
+    let places: SharedPlaces<u64> = SharedPlaces::new(rt.alloc(), 2).expect(&rt, "memory");
     let put = put_too_late(&rt, &places);
     want(&rt, "a put", put, (PutStep::Again, PutCursor::Look(1)));
     want(&rt, "the bag in place 0", word_at(&places, 0), 7);
@@ -113,7 +111,6 @@ fn steps_pass_a_place_whose_claim_they_lost(rt: HostRuntime) -> Result<(), Fault
         (TakeStep::Again, TakeCursor::Look(1)),
     );
     want(&rt, "place 0 is empty", word_at(&places, 0), 0);
-    Ok(())
 }
 
 /// What a put does that has seen place 0 empty, after another bag was put there.
@@ -189,8 +186,8 @@ fn take(
 
 // Bags are sealed with 3, 4 and 5, and the epoch is 6: the last isn't expired.
 #[test]
-fn a_collection_takes_the_expired_bags_one_after_the_other(rt: HostRuntime) -> Result<(), Fault> {
-    let places: SharedPlaces<u64> = SharedPlaces::new(rt.alloc(), 3)?;
+fn a_collection_takes_the_expired_bags_one_after_the_other(rt: HostRuntime) {
+    let places: SharedPlaces<u64> = SharedPlaces::new(rt.alloc(), 3).expect(&rt, "memory");
     want(&rt, "a first bag", put(&places, 3, 30), PutStep::Done);
     want(&rt, "a second one", put(&places, 5, 50), PutStep::Done);
     want(&rt, "a third one", put(&places, 4, 40), PutStep::Done);
@@ -205,7 +202,6 @@ fn a_collection_takes_the_expired_bags_one_after_the_other(rt: HostRuntime) -> R
     want(&rt, "no other one", last, (TakeStep::Empty, None));
     want(&rt, "it stays there", cursor, TakeCursor::Look(3));
     want(&rt, "the second bag is left", word_at(&places, 1), 11);
-    Ok(())
 }
 
 /// What is left in the next place; nothing past the last one.
@@ -223,8 +219,8 @@ fn free(rt: &impl Abort, closed: ClosedPlaces<u64>) {
 }
 
 #[test]
-fn closed_places_give_what_is_left_in_their_order(rt: HostRuntime) -> Result<(), Fault> {
-    let places: SharedPlaces<u64> = SharedPlaces::new(rt.alloc(), 3)?;
+fn closed_places_give_what_is_left_in_their_order(rt: HostRuntime) {
+    let places: SharedPlaces<u64> = SharedPlaces::new(rt.alloc(), 3).expect(&rt, "memory");
     let back = put_at(&places, 1, two_jobs(5, 3));
     want(&rt, "the bag is put", back.is_none(), true);
     let mut closed = places.close();
@@ -234,5 +230,4 @@ fn closed_places_give_what_is_left_in_their_order(rt: HostRuntime) -> Result<(),
     let last = next_of(&mut closed).is_none();
     want(&rt, "nothing in the last place", last, true);
     free(&rt, closed);
-    Ok(())
 }

@@ -2,7 +2,6 @@
 ghost use Rattle.std.specs.Prelude.{◌≡◌, ◌<◌};
 
 use crate::wants::{want, want_word};
-use epoch::Fault;
 use epoch::table::Participants;
 use std::process::Abort;
 
@@ -23,10 +22,9 @@ pub(crate) fn epoch_word(table: &Participants) -> u64 {
 // The expected words: 2e for the epoch e; 0 for a free position, 2 for one that is registered and not
 // pinned, and 2e + 1 for one that is pinned in e.
 #[test]
-fn the_words_say_who_is_registered_and_pinned(rt: HostRuntime) -> Result<(), Fault> {
-    let table = Participants::new(rt.alloc(), 3)?;
+fn the_words_say_who_is_registered_and_pinned(rt: HostRuntime) {
+    let table = Participants::new(rt.alloc(), 3).expect(&rt, "memory");
     come_and_go(&rt, &table);
-    Ok(())
 }
 
 /// A participant claims a position, pins in epoch 0, unpins and leaves.
@@ -45,10 +43,9 @@ fn come_and_go(rt: &impl Abort, table: &Participants)
 }
 
 #[test]
-fn one_participant_scans_itself_and_advances_the_epoch(rt: HostRuntime) -> Result<(), Fault> {
-    let table = Participants::new(rt.alloc(), 1)?;
+fn one_participant_scans_itself_and_advances_the_epoch(rt: HostRuntime) {
+    let table = Participants::new(rt.alloc(), 1).expect(&rt, "memory");
     scan_twice(&rt, &table);
-    Ok(())
 }
 
 /// A participant pins in epoch 0 and scans, which stores epoch 1, and then scans for that epoch.

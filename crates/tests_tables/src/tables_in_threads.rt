@@ -6,7 +6,6 @@ use crate::shared_places::{put_at, take_at, two_jobs};
 use crate::tables::{claimed, epoch_word};
 use crate::threads::{Work, count, counts_of, ones_and_more, side_by_side};
 use crate::wants::want;
-use epoch::Fault;
 use epoch::bag::SealedBag;
 use epoch::epoch::GREATEST_EPOCH;
 use epoch::queue::SharedPlaces;
@@ -92,8 +91,8 @@ fn free_positions(table: &Participants) -> u64 {
 
 // Of 8000 scans each raises the epoch by one at most, and the first raises it.
 #[test]
-fn participants_at_once_leave_all_words_free(rt: HostRuntime) -> Result<(), Fault> {
-    let table = Participants::new(rt.alloc(), 3)?;
+fn participants_at_once_leave_all_words_free(rt: HostRuntime) {
+    let table = Participants::new(rt.alloc(), 3).expect(&rt, "memory");
     let greatest = AtomicU64::new(0);
     let visits = Visits {
         table: &table,
@@ -109,7 +108,6 @@ fn participants_at_once_leave_all_words_free(rt: HostRuntime) -> Result<(), Faul
     let wanted = now.wrapping_add(2_000);
     want(&rt, "alone, each scan raises it", epoch, wanted);
     want(&rt, "each word is 0", free_positions(&table), 3);
-    Ok(())
 }
 
 /// Puts the bag into the first place that takes it, and answers whether one did.
@@ -180,8 +178,8 @@ impl Work for Jobs<'_> {
 }
 
 #[test]
-fn jobs_of_several_threads_are_each_called_once(rt: HostRuntime) -> Result<(), Fault> {
-    let places: SharedPlaces<u64> = SharedPlaces::new(rt.alloc(), 16)?;
+fn jobs_of_several_threads_are_each_called_once(rt: HostRuntime) {
+    let places: SharedPlaces<u64> = SharedPlaces::new(rt.alloc(), 16).expect(&rt, "memory");
     let refused = AtomicU64::new(0);
     let calls = counts_of(&rt, rt.alloc(), 32);
     let jobs = Jobs {
@@ -193,5 +191,4 @@ fn jobs_of_several_threads_are_each_called_once(rt: HostRuntime) -> Result<(), F
     let refused = refused.load(SeqCst);
     want(&rt, "16 places are enough for 16 bags", refused, 0);
     want(&rt, "each job, once", ones_and_more(&calls), (32, 0));
-    Ok(())
 }

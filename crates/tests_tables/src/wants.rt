@@ -7,7 +7,9 @@ use std::process::Abort;
 
 /// The value is the one that is wanted. `what` says what was seen.
 pub(crate) fn want<T: PartialEq + Debug + Drop>(rt: &impl Abort, what: &str, seen: T, wanted: T) {
-    assert_eq!(rt; seen, wanted, "{what}");
+    if seen != wanted {
+        panic!(rt; "{what}: {seen:?}, and not {wanted:?}");
+    }
 }
 
 /// The word is the one that is wanted, on which further steps rest.

@@ -8,7 +8,6 @@ use std::process::Abort;
 use std::sync::Wait;
 use std::sync::atomic::AtomicU64;
 use std::sync::atomic::Ordering::SeqCst;
-use std::test::Fail;
 use std::thread::Threads;
 
 const POSITIONS: usize = 8;
@@ -121,14 +120,13 @@ fn every_second(rt: &impl Abort, alloc: Global, names: &[Name]) -> Vec<Name> {
 }
 
 #[test]
-fn more_spans_than_a_position_notes_are_found_too(rt: HostRuntime) -> Result<(), Fail> {
+fn more_spans_than_a_position_notes_are_found_too(rt: HostRuntime) {
     let alloc = rt.alloc();
-    let cells = Cells::with_positions(alloc, SLOTS, 0, 1)?;
+    let cells = Cells::with_positions(alloc, SLOTS, 0, 1).expect(&rt, "memory");
     let names = fill(&rt, alloc, &cells, 1, 200);
     let some = every_second(&rt, alloc, &names);
     want(&rt, "100 spans", remove(&cells, 0, &some), 100);
     let _ = fill(&rt, alloc, &cells, 1, 100);
-    Ok(())
 }
 
 // What threads share: the cells, whether each thread asks for rooms, and how often values were lost.
@@ -207,12 +205,8 @@ fn race<R: Abort + Threads + Wait + Sync>(rt: &R, alloc: Global, asks: bool) {
 }
 
 #[test]
-fn threads_that_place_and_remove_lose_no_slot(rt: HostRuntime) {
+fn threads_that_place_and_remove_lose_no_slot_in_rooms_or_without(rt: HostRuntime) {
     race(&rt, rt.alloc(), false);
-}
-
-#[test]
-fn threads_that_place_in_rooms_and_remove_lose_no_slot(rt: HostRuntime) {
     // Each of them keeps at most 3 rooms: together an eighth of 200 slots.
     race(&rt, rt.alloc(), true);
 }
