@@ -1,7 +1,7 @@
 //! Calls on collectors, handles and guards as the tests make them: each asserts first what the call requires, and
 //! then what it has to answer. Memory is there: an error's way out of a test would be proved beside all that it owns.
 use crate::counts::counting_job;
-use crate::wants::{want, want_count, want_ok};
+use crate::wants::{must, want, want_count, want_ok};
 use epoch::{Capacities, Collector, Fault, Guard, Job, LocalHandle};
 use std::alloc::Global;
 use std::process::Abort;
@@ -14,7 +14,11 @@ pub(crate) fn collector<T: Drop>(
     alloc: Global,
     capacities: Capacities,
 ) -> Collector<T> {
-    assert!(rt; capacities.is_valid(), "the capacities are in their ranges");
+    must(
+        rt,
+        "the capacities are in their ranges",
+        capacities.is_valid(),
+    );
     let made = Collector::new(alloc, capacities, 1);
     want_ok(rt, "memory for a collector", made)
 }
@@ -29,7 +33,7 @@ pub(crate) fn register<'c, T: Drop>(
 
 /// Pins the handle.
 pub(crate) fn pin<'c, T: Drop>(rt: &impl Abort, handle: &mut LocalHandle<'c, T>) -> Guard<'c, T> {
-    assert!(rt; handle.can_pin(), "a further guard can be counted");
+    must(rt, "a further guard can be counted", handle.can_pin());
     handle.pin()
 }
 
@@ -39,7 +43,7 @@ pub(crate) fn unpin<'c, T: Drop>(
     handle: &mut LocalHandle<'c, T>,
     guard: Guard<'c, T>,
 ) {
-    assert!(rt; handle.owns(&guard), "the guard is one of the handle");
+    must(rt, "the guard is one of the handle", handle.owns(&guard));
     handle.unpin(guard);
 }
 
@@ -79,7 +83,7 @@ pub(crate) fn flush<T: Drop>(
 
 /// Releases the handle, whose bag finds a place.
 pub(crate) fn release<T: Drop>(rt: &impl Abort, handle: LocalHandle<'_, T>) {
-    assert!(rt; handle.guards_out() == 0, "each guard is spent");
+    must(rt, "each guard is spent", handle.guards_out() == 0);
     want_ok(rt, "the held bag finds a place", handle.release());
 }
 

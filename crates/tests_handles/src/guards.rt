@@ -1,7 +1,7 @@
 use crate::calls::{collector, defer, end, pin, pin_and_defer, register, release, unpin};
 use crate::counts::count;
 use crate::removals::{placed, remove};
-use crate::wants::{want, want_count, want_err, want_ok, want_shown, want_some};
+use crate::wants::{must, want, want_count, want_err, want_ok, want_shown, want_some};
 use epoch::atomic::Shared;
 use epoch::{Capacities, Collector, Fault, Job, LocalHandle, Name};
 use std::process::Abort;
@@ -14,7 +14,7 @@ fn refuse_registration(rt: &impl Abort, collector: &Collector<u64>) {
 
 /// Gives the position up, and spends what is left of the handle.
 fn leave(rt: &impl Abort, handle: LocalHandle<'_, u64>) {
-    assert!(rt; handle.guards_out() == 0, "each guard is spent");
+    must(rt, "each guard is spent", handle.guards_out() == 0);
     want_ok(rt, "the held bag finds a place", handle.leave()).spend();
 }
 

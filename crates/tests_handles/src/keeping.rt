@@ -235,13 +235,7 @@ fn replace_200(rt: &impl Abort, alloc: Global, made: Made) {
 }
 
 #[test]
-fn values_in_memory_that_was_kept_are_dropped_whole_and_once(rt: HostRuntime) {
-    let alloc = rt.alloc();
-    replace_200(&rt, alloc, Made::UnderGuard);
-}
-
-#[test]
-fn values_that_are_moved_to_kept_memory_are_dropped_whole_and_once(rt: HostRuntime) {
-    let alloc = rt.alloc();
-    replace_200(&rt, alloc, Made::Apart);
+fn values_made_in_kept_memory_or_moved_there_are_dropped_whole_and_once(rt: HostRuntime) {
+    replace_200(&rt, rt.alloc(), Made::UnderGuard);
+    replace_200(&rt, rt.alloc(), Made::Apart);
 }

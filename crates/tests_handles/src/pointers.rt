@@ -69,29 +69,20 @@ fn pointers_are_shown_without_addresses(rt: HostRuntime) {
     under_guard(&rt, rt.alloc(), 1, Case::Shown);
 }
 
-/// How many tags a pointer to such a value has.
-fn want_tags<T: Pointable>(rt: &impl Abort, what: &str, tags: usize) {
-    want(rt, what, T::ALIGN, tags);
-}
-
 // The alignments of these types in Rust.
 #[test]
 fn tags_are_taken_modulo_the_alignment(rt: HostRuntime) {
-    want_tags::<u8>(&rt, "u8", 1);
-    want_tags::<i8>(&rt, "i8", 1);
-    want_tags::<bool>(&rt, "bool", 1);
-    want_tags::<u16>(&rt, "u16", 2);
-    want_tags::<i16>(&rt, "i16", 2);
-    want_tags::<u32>(&rt, "u32", 4);
-    want_tags::<i32>(&rt, "i32", 4);
-    want_tags::<char>(&rt, "char", 4);
-    want_tags::<u64>(&rt, "u64", 8);
-    want_tags::<i64>(&rt, "i64", 8);
-    want_tags::<usize>(&rt, "usize", 8);
-    want_tags::<isize>(&rt, "isize", 8);
-    want_tags::<String>(&rt, "String", 8);
-    want_tags::<Vec<u8>>(&rt, "Vec", 8);
-    want_tags::<Array<u8>>(&rt, "Array", 8);
-    want_tags::<u128>(&rt, "u128", 16);
-    want_tags::<i128>(&rt, "i128", 16);
+    let small = [u8::ALIGN, i8::ALIGN, bool::ALIGN, u16::ALIGN, i16::ALIGN];
+    want(&rt, "one byte or two", small, [1, 1, 1, 2, 2]);
+    let middle = [u32::ALIGN, i32::ALIGN, char::ALIGN];
+    want(&rt, "four bytes", middle, [4, 4, 4]);
+    let large = [u64::ALIGN, i64::ALIGN, usize::ALIGN, isize::ALIGN];
+    want(&rt, "eight bytes", large, [8, 8, 8, 8]);
+    let behind = [
+        String::ALIGN,
+        <Vec<u8> as Pointable>::ALIGN,
+        <Array<u8> as Pointable>::ALIGN,
+    ];
+    want(&rt, "a String, a Vec and an Array", behind, [8, 8, 8]);
+    want(&rt, "sixteen bytes", [u128::ALIGN, i128::ALIGN], [16, 16]);
 }

@@ -6,7 +6,7 @@ use crate::calls::{
 };
 use crate::counts::{count, new_counted, noting_job};
 use crate::removals::{placed, refuse_place, remove, remove_later};
-use crate::wants::{want, want_count, want_err, want_ok, want_some};
+use crate::wants::{must, want, want_count, want_err, want_ok, want_some};
 use epoch::atomic::{Atomic, Shared};
 use epoch::{Capacities, Collector, Fault, Guard, Job, LocalHandle, Name, Paused};
 use std::alloc::Global;
@@ -108,7 +108,7 @@ fn new_seat<'c>(handle: LocalHandle<'c, u64>) -> Seat<'c> {
 fn want_none<T>(rt: &impl Abort, what: &str, found: Option<T>) {
     match found {
         None => {}
-        Some(_value) => panic!(rt; "{what}"),
+        Some(_value) => rt.panic(what),
     }
 }
 
@@ -135,22 +135,30 @@ fn unpins(rt: &impl Abort, seat: &mut Seat<'_>) {
 
 fn repins(rt: &impl Abort, seat: &mut Seat<'_>) {
     let mut guard = kept(rt, seat);
-    assert!(rt; seat.handle.owns(&guard), "the guard is one of the handle");
+    must(
+        rt,
+        "the guard is one of the handle",
+        seat.handle.owns(&guard),
+    );
     seat.handle.repin(&mut guard);
     keep(rt, seat, guard);
 }
 
 fn pauses(rt: &impl Abort, seat: &mut Seat<'_>) {
     let guard = kept(rt, seat);
-    assert!(rt; seat.handle.owns(&guard), "the guard is one of the handle");
+    must(
+        rt,
+        "the guard is one of the handle",
+        seat.handle.owns(&guard),
+    );
     let paused = seat.handle.pause(guard);
     want_none(rt, "a second paused guard", seat.paused.replace(paused));
 }
 
 fn resumes(rt: &impl Abort, seat: &mut Seat<'_>) {
     let paused = want_some(rt, "a guard is paused", seat.paused.take());
-    assert!(rt; seat.handle.has_paused(&paused), "the handle paused it");
-    assert!(rt; seat.handle.can_pin(), "a further guard can be counted");
+    must(rt, "the handle paused it", seat.handle.has_paused(&paused));
+    must(rt, "a further guard can be counted", seat.handle.can_pin());
     let guard = seat.handle.resume(paused);
     keep(rt, seat, guard);
 }
@@ -164,7 +172,11 @@ fn repins_after(
     counted: &[u64],
 ) {
     let mut guard = kept(rt, seat);
-    assert!(rt; seat.handle.owns(&guard), "the guard is one of the handle");
+    must(
+        rt,
+        "the guard is one of the handle",
+        seat.handle.owns(&guard),
+    );
     seat.handle
         .repin_after(&mut guard, || rounds(rt, other, Ok(()), calls, counted));
     keep(rt, seat, guard);
@@ -307,7 +319,7 @@ fn act_under(
         Deed::TakesNothing(number) => takes_nothing(rt, stage, guard, number),
         Deed::Removes(number) => removes(rt, stage, handle, guard, number),
         Deed::UsesOnlyCell(turns) => uses_only_cell(rt, stage, guard, turns),
-        _ => panic!(rt; "a deed that needs no guard"),
+        _ => rt.panic("a deed that needs no guard"),
     }
 }
 
@@ -337,7 +349,7 @@ fn act(rt: &impl Abort, stage: &Stage<'_>, seat: &mut Seat<'_>, deed: Deed) {
         }
         deed => match &seat.guard {
             Some(guard) => act_under(rt, stage, &mut seat.handle, guard, deed),
-            None => panic!(rt; "no guard is out"),
+            None => rt.panic("no guard is out"),
         },
     }
 }
@@ -364,7 +376,7 @@ fn leaves(rt: &impl Abort, seat: Option<Seat<'_>>) {
 /// The participant isn't released, since its bag finds no place.
 fn stays<'c>(rt: &impl Abort, seat: Option<Seat<'c>>) -> Option<Seat<'c>> {
     let handle = handle_of(rt, want_some(rt, "who stays", seat));
-    assert!(rt; handle.guards_out() == 0, "each guard is spent");
+    must(rt, "each guard is spent", handle.guards_out() == 0);
     let (back, fault) = want_err(rt, "no place is free", handle.release());
     want(rt, "why it stays", fault, Fault::BagsFull);
     Some(new_seat(back))
@@ -397,7 +409,7 @@ fn play_row<'c>(
             act(rt, stage, &mut seat, deed);
             Some(seat)
         }
-        (_, None) => panic!(rt; "who acts has left"),
+        (_, None) => rt.panic("who acts has left"),
     }
 }
 

@@ -1,5 +1,7 @@
 //! What the tests want. A comparison stands here once: written out in a test, it would be proved beside all that the
 //! test owns.
+ghost use Rattle.std.specs.Prelude.{IsTrue};
+
 use epoch::Fault;
 use std::alloc::Global;
 use std::fmt::Debug;
@@ -9,12 +11,16 @@ use std::sync::atomic::Ordering::SeqCst;
 
 /// Both are equal. `what` says what was seen.
 pub(crate) fn want<T: PartialEq + Debug + Drop>(rt: &impl Abort, what: &str, seen: T, wanted: T) {
-    assert_eq!(rt; seen, wanted, "{what}");
+    if seen != wanted {
+        panic!(rt; "{what}: {seen:?}, and not {wanted:?}");
+    }
 }
 
 /// This holds.
 pub(crate) fn want_true(rt: &impl Abort, what: &str, holds: bool) {
-    assert!(rt; holds, "{what}");
+    if !holds {
+        rt.panic(what);
+    }
 }
 
 /// The value is shown as this text.
@@ -27,14 +33,14 @@ pub(crate) fn want_shown<T: Debug>(rt: &impl Abort, alloc: Global, value: &T, wa
 pub(crate) fn want_ok<T, E>(rt: &impl Abort, what: &str, answer: Result<T, E>) -> T {
     match answer {
         Ok(value) => value,
-        Err(_error) => panic!(rt; "{what}"),
+        Err(_error) => rt.panic(what),
     }
 }
 
 /// The error, where one is wanted.
 pub(crate) fn want_err<T, E>(rt: &impl Abort, what: &str, answer: Result<T, E>) -> E {
     match answer {
-        Ok(_value) => panic!(rt; "{what}"),
+        Ok(_value) => rt.panic(what),
         Err(error) => error,
     }
 }
@@ -43,7 +49,7 @@ pub(crate) fn want_err<T, E>(rt: &impl Abort, what: &str, answer: Result<T, E>) 
 pub(crate) fn want_some<T>(rt: &impl Abort, what: &str, found: Option<T>) -> T {
     match found {
         Some(value) => value,
-        None => panic!(rt; "{what}"),
+        None => rt.panic(what),
     }
 }
 
@@ -55,4 +61,13 @@ pub(crate) fn want_count(rt: &impl Abort, what: &str, count: &AtomicU64, wanted:
 /// Memory was refused, and nothing else.
 pub(crate) fn want_no_memory(rt: &impl Abort, fault: Fault) {
     want(rt, "why it is refused", fault, Fault::NoMemory);
+}
+
+/// What a call requires holds.
+pub(crate) fn must(rt: &impl Abort, what: &str, holds: bool)
+    ensures { IsTrue holds }
+{
+    if !holds {
+        rt.panic(what);
+    }
 }

@@ -2,7 +2,7 @@
 
 use crate::calls::{end, let_go, pin, register, release, unpin};
 use crate::memory::made::{collector_at_last, jobs_at_last};
-use crate::wants::want;
+use crate::wants::{must, want};
 use epoch::{Called, Collector, Fault, Guard, Job, LocalHandle, Refused, unprotected};
 use std::process::Abort;
 use std::sync::atomic::AtomicU64;
@@ -38,9 +38,9 @@ fn repin_twice<'c>(rt: &impl Abort, handle: &mut LocalHandle<'c, u64>, guard: &m
     let second = pin(rt, handle);
     want_views(rt, "with two guards", handle, (true, 2, true));
     unpin(rt, handle, second);
-    assert!(rt; handle.owns(guard), "the guard is one of the handle");
+    must(rt, "the guard is one of the handle", handle.owns(guard));
     handle.repin(guard);
-    assert!(rt; handle.owns(guard), "the guard is one of the handle");
+    must(rt, "the guard is one of the handle", handle.owns(guard));
     handle.repin_after(guard, || {});
 }
 

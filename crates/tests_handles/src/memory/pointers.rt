@@ -124,7 +124,7 @@ fn ran_out<'g>(
 ) -> Shared<'g, u64> {
     match answer {
         Err(UpdateFault::RanOut(last)) => last,
-        _ => panic!(rt; "it has had a try"),
+        _ => rt.panic("it has had a try"),
     }
 }
 

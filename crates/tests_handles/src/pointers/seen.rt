@@ -26,7 +26,7 @@ pub(crate) fn changed<'g, P: Drop>(
 ) -> CompareExchangeError<'g, u64, P> {
     match exchanged {
         Err(ExchangeFault::Changed(error)) => error,
-        _ => panic!(rt; "nothing was found to have changed"),
+        _ => rt.panic("nothing was found to have changed"),
     }
 }
 
