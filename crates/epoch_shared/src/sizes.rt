@@ -1,0 +1,26 @@
+//! How many posts and cells a shared structure has.
+ghost use Rattle.std.specs.Prelude.{◌≡◌, ◌⊎◌, ◌≤◌, ◌+◌, ◌*◌};
+
+use epoch_cells::MOST_SLOT;
+
+/// Cells for each thread: for its next values, and for those that wait to be dropped.
+const FOR_EACH_THREAD: u32 = 192;
+
+/// Posts for each thread, so that threads pin in different lines of the cache.
+const POSTS: usize = 16;
+
+/// How many posts a domain has for so many threads, and for the one that starts them.
+pub(crate) fn posts_for(threads: u16) -> usize
+    ensures { result ≡ (threads + 1) * 16 }
+{
+    (threads as usize + 1) * POSTS
+}
+
+/// How many cells a store has for so many values and threads: as many as they need, or the most there can be.
+pub(crate) fn cells_for(values: u32, threads: u16) -> u32
+    ensures enough { (result ≡ values + (threads + 1) * 192) ⊎ (result ≡ MOST_SLOT) }
+    ensures within { result ≤ MOST_SLOT }
+{
+    let for_threads = (threads as u32 + 1) * FOR_EACH_THREAD;
+    values.saturating_add(for_threads).min(MOST_SLOT)
+}
