@@ -21,8 +21,8 @@ use std::thread::Threads;
 /// system refuses to start a thread, its part is done after another's: so a part that waits for another one may then
 /// wait for ever.
 ///
-/// `NoMemory`: an allocation was refused, and some of the crew may not have been called. `CellsFull`, `TableFull`: as
-/// `NoMemory`, and not met.
+/// `NoMemory`: an allocation was refused, and some of the crew may not have been called. `CellsFull` and `TableFull`
+/// aren't met, since enough cells and posts are made.
 pub fn share_value<R: Threads + Sync, T: Drop + Send + Sync, C: ValueCrew<T> + Sync>(
     rt: &R,
     alloc: Global,

@@ -1,4 +1,4 @@
-//! Bags that take other numbers of jobs than the usual, and collections of other numbers of bags.
+//! Worlds whose bags hold more or fewer jobs than usual, and whose collections take more or fewer bags.
 
 use crate::deeds::Deed::{Calls, Defers, Pins, Rounds, Takes, Unpins};
 use crate::deeds::{want_deeds, want_round};
@@ -96,7 +96,7 @@ fn expect_sizes<S: BagStore<Job = Deferral>>(rt: &impl Abort, alloc: Global, las
 }
 
 #[test]
-fn a_bag_takes_so_many_jobs_and_a_collection_so_many_bags(rt: HostRuntime) {
+fn bags_and_collections_keep_to_their_sizes(rt: HostRuntime) {
     expect_sizes::<Places<Deferral>>(&rt, rt.alloc(), false);
     expect_sizes::<BagQueue<Deferral>>(&rt, rt.alloc(), false);
     expect_sizes::<Pile>(&rt, rt.alloc(), true);
