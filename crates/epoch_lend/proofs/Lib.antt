@@ -9,6 +9,8 @@ pub mod Sights
 pub mod Watching
 pub mod TurnsKeyless
 pub mod TurnFields
+pub mod BlockParts
+pub mod Places
 pub mod Turned
 pub mod Finding
 pub mod Seeing

@@ -1,29 +1,21 @@
 -- The machine values of the crate's types. Assumes `Logic`.
-use Rattle.std.proofs.Common.{◌≡◌, ℕ, ◌^◌, ◌<◌, T, List, [], ◌∷◌, ◌++◌, refl, ap, ◌∙◌, subst, lit<, w64}
+use Rattle.std.proofs.Common.{◌≡◌, ℕ, ◌^◌, ◌<◌, T, List, [], ◌∷◌, ◌++◌, refl, ap, ◌∙◌, lit<, w64}
 use seplogic.Ra.Ura.{Ura}
 use mir.Syntax.{ty_ptr, ty_int, ty_struct, tcons, tnil}
-use mir.Raw.{raw as bare}
 use mir.Val.{Val, vint, vstruct, vcons, vnil, of_list, has_ty, WT}
 use base.Logic.{ent, emp}
 use types.Logic.{Logic, sem}
-use types.Kit.{Item, Goal, Seq, Step, step, ‵, ◌$◌, move, drop, fsplit, fjoin, fpick, fpack, feq_l, feq_i}
-use denote.RattleType.{RattleType, Valss}
-use denote.Memory.{lone}
-use denote.Param.{param}
-use denote.Steps.{nothing}
-use denote.Struct.Struct.{within}
+use denote.RattleType.{RattleType}
 use denote.Laws.{Is}
-use denote.RawPtr.{Ptr, RawPtr, block_ptr, null_ptr, ptr_val}
+use denote.RawPtr.{Ptr, block_ptr, null_ptr, ptr_val}
 use denote.Shadow.{makes_shadow}
 use denote.Struct.Struct.{Struct}
-use denote.Struct.Owning.{Owning, shape}
-use Rattle.core.proofs.alloc.Calls.{Al, α, token, Fits, handle_tells}
+use denote.Struct.Owning.{shape}
 use Rattle.core.proofs.mem.Param.{El, Good, elτ}
 use Rattle.std_alloc.proofs.ResultValues.{and_tt}
 use Rattle.epoch_lend.proofs.Fields.{word, hand_of}
 use Rattle.epoch_lend.specs.contracts.cells.turns.Turns.TheInside as inside
 use Rattle.epoch_lend.specs.contracts.cells.turns.Place as place
-use Rattle.epoch_lend.specs.contracts.cells.turns.Title as title
 use Rattle.epoch_lend.specs.contracts.cells.turns.TurnClaim as claim
 use Rattle.epoch_lend.specs.contracts.cells.turns.Filled as filled
 use Rattle.epoch_lend.specs.contracts.cells.turns.Vacancy as vacancy
@@ -93,46 +85,6 @@ module _ (R : RattleType) where
     (ptr_val p ∷ [], tt),
     (refl, (refl, tt)),
   )
-
--- the bytes of a title are its pointer and its allocator
-abbrev pub title_val : Val → Ptr → Val
-title_val hv p = vstruct (vcons (ptr_val p) (vcons hv vnil))
-
--- Y is the row of the values that the place is for
-module _ (Z : Al) (Y : RattleType) where
-  abbrev pub titled : Owning
-  titled = title.the_type Y (param 1 Z.row) Z.g
-
-  abbrev pub Title : RattleType
-  Title = title.the_row Y (param 1 Z.row) Z.g
-
-  -- the bytes of a title to a block are of its type
-  pub title_typed : (hv : Val) (b o : ℕ) → Fits Z hv
-      → T (has_ty (ty_struct [] (tcons ty_ptr (tcons (α Z) tnil))) (title_val hv (block_ptr b o))) × WT (title_val hv
-      (block_ptr b o))
-  title_typed hv b o fa = (and_tt (has_ty (α Z) hv) fa.0, (tt, (fa.1, tt)))
-
-  module _ {M : Type 1} {𝓤 : Ura M} {𝓛 : Logic 𝓤} {K : Type 0} {Γ : List (Item 𝓤)} {G : Goal 𝓤 𝓛.H} where
-    -- a title is the right to free the block, and the allocator
-    pub title_had : K → (d : Title.Denot) (vs : List Val)
-        → ((hv : Val) → vs ≡ title_val hv d.at ∷ [] → Fits Z hv
-        → Seq K 𝓛 (‵ (token Z d.alloc (bare (lone Y.mir)) d.at) ∷ ‵ (Z.row.own_val d.alloc (hv ∷ [])) ∷ Γ) G)
-        → Seq K 𝓛 (‵ (Title.own_val d vs) ∷ Γ) G
-    title_had t d vs k = fsplit t $ fpick t (λ vss. fsplit t $ feq_l t (λ ev. fsplit t $ feq_l t (λ ep. fsplit t $
-        handle_tells Z t d.alloc vss.1.0 (λ hv ea fa. move t (1 ∷ []) $ drop t $ move t (1 ∷ []) $ k hv
-        (subst (λ (ws : List Val). vs ≡ vstruct (of_list (ptr_val d.at ∷ (ws ++ []))) ∷ []) ea (subst (λ (ps : List
-        Val). vs ≡ vstruct (of_list (ps ++ (vss.1.0 ++ []))) ∷ []) ep ev)) fa))))
-
-    pub title_made : K → {hv : Val} (a : Z.row.Denot) (p : Ptr)
-        → Step K 𝓛 (‵ (Title.own_val (record { at = p; alloc = a }) (title_val hv p ∷ [])) ∷ Γ) G (‵ (token Z a (bare
-        (lone Y.mir)) p) ∷ ‵ (Z.row.own_val a (hv ∷ [])) ∷ Γ) G
-    title_made t {hv} a p = step (λ s. nothing t $ move t (2 ∷ 0 ∷ []) $ fjoin t $
-        feq_i t (List Val) (ptr_val p ∷ []) (ptr_val p ∷ []) refl $ fjoin t $
-        feq_i t (List Val) (title_val hv p ∷ []) (title_val hv p ∷ []) refl $ fjoin t $
-        fpack t (Valss (RawPtr ∷ param 1 Z.row ∷ [])) (within (shape titled) (p, (a, tt)) (title_val hv p ∷ [])) (
-          ptr_val p ∷ [],
-          (hv ∷ [], tt),
-        ) $ fjoin t $ s)
 
 -- the bytes of a name are its turn
 abbrev pub name_val : ℕ → Val
@@ -267,16 +219,6 @@ none_val = vstruct (vcons (vint w64 0) (vcons (vstruct vnil) vnil))
 -- a new word is of its type
 pub none_typed : T (has_ty (ty_struct [] (tcons (ty_int w64) (tcons (ty_struct [] tnil) tnil))) none_val) × WT none_val
 none_typed = (tt, (record { fits = lit< tt }, (tt, tt)))
-
-abbrev pub begun_of : Ptr → Val
-begun_of p = vstruct (vcons none_val (vcons (ptr_val p) vnil))
-
--- what a new place answers is of its type
-pub begun_typed : (p : Ptr)
-    → T (has_ty (ty_struct [] (tcons (ty_struct [] (tcons (ty_int w64) (tcons (ty_struct [] tnil) tnil))) (tcons
-    ty_ptr tnil))) (begun_of p)) × WT (begun_of p)
-begun_typed (block_ptr b o) = (tt, ((record { fits = lit< tt }, (tt, tt)), (tt, tt)))
-begun_typed null_ptr = (tt, ((record { fits = lit< tt }, (tt, tt)), (record { fits = lit< tt }, tt)))
 
 -- what a take answers
 abbrev pub two_of : Val → Val → Val

@@ -3,6 +3,7 @@ pub mod Posts
 pub mod Loans
 pub mod Watching
 pub mod Turning
+pub mod Blocks
 pub mod Sets
 pub mod Bags
 pub mod Grace

@@ -10,7 +10,6 @@ use base.Stored.{Coded, coded×, coded_ℕ, coded_list, coded_via, gnum}
 use base.Fml.{Lft, Fml, ftrue, ffalse, fsep, fex, fobs, fauth, fbor, flent}
 use base.Growing.{Order, prefixes, latest, at_least}
 use denote.RattleType.{RattleType}
-use mir.Syntax.{Ty}
 use mir.Raw.{raw}
 use denote.Memory.{lone}
 use denote.RawPtr.{Ptr, block_ptr, null_ptr, coded_ptr, lies_at, room_for}
@@ -90,10 +89,6 @@ turn_shares R log turn e = said (turn_is R log turn e)
 -- room for a value, at the type as the machine sees it, as a box has it
 abbrev pub turn_room_of : (R : RattleType) → Ptr → Fml
 turn_room_of R p = room_for (raw (lone R.mir)) p
-
--- the right to free the block of a place
-abbrev pub title_owns : (Ty → Ptr → Fml) → (R : RattleType) → Ptr → Fml
-title_owns frees R p = frees (raw (lone R.mir)) p
 
 -- the right of who has the word, and room for a value
 abbrev pub claim_has : (R : RattleType) → Ptr → ℕ → ℕ → Fml

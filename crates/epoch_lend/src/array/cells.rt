@@ -1,10 +1,12 @@
 //! The cells of an array, and where a value is in it.
 ghost use Rattle.std.specs.Prelude.{◌≡◌, ◌+◌, ◌*◌, ◌<◌, ◌≤◌, min, Some, length, map, IfSome, IfOk, IfErr};
 ghost use Rattle.std.specs.List.{slice_get};
+ghost use Rattle.epoch_lend.specs.Blocks.{places_in};
 ghost use Rattle.epoch_lend.specs.declared.cells.turns.TheConstants.{GREATEST_TURN};
 
 use crate::array::room::LentRoom;
 use crate::array::slot::{LentSlot, SlotRemoval};
+use crate::cells::block::Block;
 use crate::cells::sight::Sight;
 use crate::cells::turns::{GREATEST_TURN, TurnName};
 use crate::readers::posts::{PostSet, Posts};
@@ -27,17 +29,23 @@ pub struct PlacedAt<T> {
 }
 
 /// A fixed number of cells, whose values are lent to readers pinned at the posts of a set. Threads share them by `&`.
-#[derive(Drop)]
+/// The values lie side by side in one block of memory. When the cells are dropped and each of them is empty, the block
+/// is freed. A value that is still in a cell then is not dropped, and the block is never freed.
 pub struct LendingCells<J: PostSet, T> {
     slots: Vec<LentSlot<J, T>>,
+    base: *const T,
+    block: Block<T, Global>,
+    alloc: Global,
     last_turn: u64,
     pub ghost bounded: { last_turn ≤ GREATEST_TURN },
+    pub ghost laid: { map (λ s. s.turns.at) slots.items ≡ places_in base block.stride (length slots.items) },
+    pub ghost of_block: { (block.heap ≡ alloc) × (block.at ≡ base) × (block.taken ≡ length slots.items)
+        × (block.left ≡ 0) },
 }
 
-impl<J: PostSet, T: Drop> LendingCells<J, T> {
+impl<J: PostSet, T> LendingCells<J, T> {
     /// Makes this many empty cells. The last turn of each is the given one, or [`GREATEST_TURN`] if that is less. It
-    /// fails only if memory is refused. A cell that is empty when it is dropped frees its place in memory; a value that
-    /// is still in a cell then is not dropped, and its place is never freed.
+    /// fails only if memory is refused.
     pub fn new(
         alloc: Global,
         count: usize,
@@ -51,12 +59,22 @@ impl<J: PostSet, T: Drop> LendingCells<J, T> {
     {
         let last_turn = last_turn.min(GREATEST_TURN);
         let mut slots = Vec::with_capacity(alloc, count)?;
+        let (base, mut block) = Block::new(&alloc, count)?;
         for position in 0..count {
-            let _ = position;
-            let slot = LentSlot::new(alloc, posts)?;
-            slots.push(slot).map_err(|_| AllocError)?;
+            let at = block.place(base, position);
+            let (rest, place) = block.take(at);
+            block = rest;
+            slots
+                .push(LentSlot::new(place, posts))
+                .map_err(|_| AllocError)?;
         }
-        Ok(LendingCells { slots, last_turn })
+        Ok(LendingCells {
+            slots,
+            base,
+            block,
+            alloc,
+            last_turn,
+        })
     }
 }
 
@@ -74,6 +92,15 @@ impl<J: PostSet, T> LendingCells<J, T> {
         ensures within { result ≤ GREATEST_TURN }
     {
         self.last_turn
+    }
+
+    // Where the value of this slot lies.
+    #[inline(always)]
+    fn place_of(&self, slot: usize) -> *const T
+        requires { slot < length self.now.slots.items }
+        ensures { slice_get (map (λ s. s.turns.at) self.now.slots.items) slot ≡ Some result }
+    {
+        self.block.place(self.base, slot)
     }
 
     /// Lends the value that is shown at this spot, by one plain load, for as long as the reference to the pinned
@@ -101,7 +128,7 @@ impl<J: PostSet, T> LendingCells<J, T> {
             ≡ Some sight.name.log) }
         ensures turn { IfSome result (λ sight. sight.name.turn ≡ spot.turn) }
     {
-        self.slots[spot.slot].look(spot.turn, pinned)
+        self.slots[spot.slot].look(self.place_of(spot.slot), spot.turn, pinned)
     }
 
     /// Lends the value that is shown at this spot, as [`LendingCells::look`] does, without its name.
@@ -145,7 +172,7 @@ impl<J: PostSet, T> LendingCells<J, T> {
         ensures has_turn { IfSome result (λ room. room.next_turn ≤ self.now.last_turn) }
     {
         let slot = self.slots.get(position)?;
-        let (next_turn, claim) = slot.claim(self.last_turn)?;
+        let (next_turn, claim) = slot.claim(self.place_of(position), self.last_turn)?;
         Some(LentRoom {
             cells: self,
             slot,
@@ -164,11 +191,12 @@ impl<J: PostSet, T> LendingCells<J, T> {
             ≡ Some removal.name.log) }
         ensures turn { IfSome result (λ removal. removal.name.turn ≡ spot.turn) }
     {
-        self.slots.get(spot.slot)?.mark(spot.turn, self, spot.slot)
+        let slot = self.slots.get(spot.slot)?;
+        slot.mark(self.place_of(spot.slot), spot.turn, self, spot.slot)
     }
 }
 
-impl<J: PostSet, T: Drop> LendingCells<J, T> {
+impl<J: PostSet, T> LendingCells<J, T> {
     /// Places a value in the first cell that is seen empty, and returns where. It hands the value back if each cell was
     /// seen in use, or past the last turn.
     pub fn place(&self, value: T) -> Result<PlacedAt<T>, T>
@@ -193,6 +221,28 @@ impl<J: PostSet, T: Drop> LendingCells<J, T> {
             }
         }
         Err(kept)
+    }
+}
+
+impl<J: PostSet, T> Drop for LendingCells<J, T> {
+    fn drop(self) {
+        let Self {
+            slots,
+            base,
+            block,
+            alloc,
+            last_turn: _,
+        } = self;
+        let count = slots.len();
+        let (mut slots, mut block) = (slots, block);
+        'cells: while let Some(slot) = slots.pop() {
+            let index = slots.len();
+            match slot.end(block.place(base, index)) {
+                Some(claim) => block = block.put_back(index, claim),
+                None => return,
+            }
+        }
+        block.free(&alloc, base, count);
     }
 }
 

@@ -10,25 +10,19 @@ ghost use Rattle.epoch_lend.specs.declared.cells.turns.TheConstants.{GREATEST_TU
 use crate::array::cells::LendingCells;
 use crate::array::room::LentRoom;
 use crate::cells::sight::Sight;
-use crate::cells::turns::{
-    Filled, GREATEST_TURN, Place, Title, TurnClaim, TurnName, Turns, Vacancy,
-};
+use crate::cells::turns::{Filled, GREATEST_TURN, Place, TurnClaim, TurnName, Turns, Vacancy};
 use crate::lending::Marked;
 use crate::readers::posts::{Of, PostSet, Posts};
 use crate::readers::reader::Pinned;
 use crate::watch::Watch;
-use std::alloc::{AllocError, Global};
 use std::marker::PhantomData;
 
 /// A cell whose values are lent to readers pinned at the posts of a set. Each value has a turn of its own, and no turn
-/// comes twice.
+/// comes twice. Where its values lie is known to the array that it is of.
+#[derive(Drop)]
 pub struct LentSlot<J: PostSet, T> {
     turns: Turns<T>,
-    at: *const T,
-    title: Title<T, Global>,
     set: Of<J>,
-    pub ghost same: { at ≡ turns.at },
-    pub ghost titled: { title.at ≡ turns.at },
     pub ghost of_posts: { turns.posts ≡ logs_of J.posts },
 }
 
@@ -62,24 +56,20 @@ pub struct Returned<'c, J: PostSet, T> {
     pub ghost of_room: { room.slot.now.turns.log ≡ name.log },
 }
 
-impl<J: PostSet, T: Drop> LentSlot<J, T> {
-    /// Makes an empty cell at turn 0. It fails only if memory is refused. A cell that is empty when it is dropped frees
-    /// its place in memory. A value that is still in the cell then is not dropped, and its place isn't freed.
-    pub fn new(alloc: Global, posts: &Posts<J>) -> Result<LentSlot<J, T>, AllocError> {
-        let (place, title) = Place::new(alloc)?;
-        let (turns, at) = Turns::new(place, posts.as_slice());
-        Ok(LentSlot {
-            turns,
-            at,
-            title,
-            set: Of(PhantomData),
-        })
-    }
-}
-
 impl<J: PostSet, T> LentSlot<J, T> {
+    /// Makes an empty cell at turn 0, whose values lie in this place.
+    pub(crate) fn new(place: Place<T>, posts: &Posts<J>) -> LentSlot<J, T>
+        ensures { result.turns.at ≡ place.at }
+    {
+        LentSlot {
+            turns: Turns::new(place, posts.as_slice()),
+            set: Of(PhantomData),
+        }
+    }
+
     // Claims the cell at its turn, if it is empty and not past `last_turn`, by one plain load and one exchange.
-    pub(crate) fn claim(&self, last_turn: u64) -> Option<(u64, TurnClaim<T>)>
+    pub(crate) fn claim(&self, at: *const T, last_turn: u64) -> Option<(u64, TurnClaim<T>)>
+        requires { at ≡ self.now.turns.at }
         ensures of_place { IfSome result (λ gained. (gained.1.right ≡ 1) × (gained.1.state ≡ self.now.turns.state)
             × (gained.1.at ≡ self.now.turns.at)) }
         ensures of_turn { IfSome result (λ gained. Awaits gained.0 gained.1.word × (gained.0 ≤ GREATEST_TURN)) }
@@ -92,7 +82,7 @@ impl<J: PostSet, T> LentSlot<J, T> {
         if found != vacant || turn > last_turn || turn > GREATEST_TURN {
             return None;
         }
-        let (again, claim) = self.turns.claim(self.at, turn, vacant, vacant + 1);
+        let (again, claim) = self.turns.claim(at, turn, vacant, vacant + 1);
         if again != vacant {
             claim.done();
             return None;
@@ -122,10 +112,16 @@ impl<J: PostSet, T> LentSlot<J, T> {
 
     /// Lends the value of this turn, by one plain load, for as long as the reference to the pinned reader lasts.
     /// `None`: the cell has none, since none was placed at this turn yet, or it was marked.
-    pub fn look<'g>(&self, turn: u64, pinned: &'g Pinned<'_, J>) -> Option<Sight<'g, T>>
+    pub(crate) fn look<'g>(
+        &self,
+        at: *const T,
+        turn: u64,
+        pinned: &'g Pinned<'_, J>,
+    ) -> Option<Sight<'g, T>>
+        requires { at ≡ self.now.turns.at }
         ensures { IfSome result (λ sight. (sight.name.log ≡ self.now.turns.log) × (sight.name.turn ≡ turn)) }
     {
-        self.turns.sight(self.at, turn, pinned.guard())
+        self.turns.sight(at, turn, pinned.guard())
     }
 
     /// Returns the turn and the name of the value that the cell has, by two plain loads. `None`: the cell is empty, or
@@ -141,11 +137,14 @@ impl<J: PostSet, T> LentSlot<J, T> {
     /// turn. It is the cell at this position of these cells.
     pub(crate) fn mark<'c>(
         &'c self,
+        at: *const T,
         turn: u64,
         cells: &'c LendingCells<J, T>,
         position: usize,
     ) -> Option<SlotRemoval<'c, J, T>>
-        requires { slice_get (map (λ s. s.turns.log) cells.now.slots.items) position ≡ Some self.now.turns.log }
+        requires at { at ≡ self.now.turns.at }
+        requires of_cells { slice_get (map (λ s. s.turns.log) cells.now.slots.items) position
+            ≡ Some self.now.turns.log }
         ensures { IfSome result (λ removal. (removal.name.log ≡ self.now.turns.log) × (removal.name.turn ≡ turn)) }
     {
         if turn > GREATEST_TURN {
@@ -158,7 +157,7 @@ impl<J: PostSet, T> LentSlot<J, T> {
             return None;
         }
         let name = which.name();
-        let (again, marked, vacancy) = self.turns.mark(&name, self.at, shown, shown + 1);
+        let (again, marked, vacancy) = self.turns.mark(&name, at, shown, shown + 1);
         if again == shown {
             Some(SlotRemoval {
                 cells,
@@ -174,6 +173,22 @@ impl<J: PostSet, T> LentSlot<J, T> {
             vacancy.done();
             None
         }
+    }
+}
+
+impl<J: PostSet, T> LentSlot<J, T> {
+    // Ends the cell, which nobody shares any more, and returns the room of its place. `None`: a value is in it, or room
+    // that was taken has not come back.
+    pub(crate) fn end(self, at: *const T) -> Option<TurnClaim<T>>
+        requires { at ≡ self.turns.at }
+        ensures { IfSome result (λ claim. (claim.right ≡ 1) × (claim.at ≡ at)) }
+    {
+        let Self { turns, set: _ } = self;
+        let (word, claim) = turns.end(at);
+        if word != 4 * (word / 4) {
+            return None;
+        }
+        Some(claim)
     }
 }
 
@@ -227,21 +242,6 @@ impl<'c, J: PostSet, T> SlotRemoval<'c, J, T> {
             value,
             name: self.name,
             room,
-        }
-    }
-}
-
-impl<J: PostSet, T> Drop for LentSlot<J, T> {
-    fn drop(self) {
-        let Self {
-            turns,
-            at,
-            title,
-            set: _,
-        } = self;
-        let (word, claim) = turns.end(at);
-        if word == 4 * (word / 4) {
-            title.free(claim);
         }
     }
 }

@@ -1,22 +1,20 @@
 //! The word of a place that values take turns at.
-ghost use Rattle.std.specs.Prelude.{◌≡◌, ◌≢◌, ℕ, ◌+◌, ◌*◌, ◌^◌, [], Option, Some, IfOk};
+ghost use Rattle.std.specs.Prelude.{◌≡◌, ◌≢◌, ℕ, ◌+◌, ◌*◌, ◌^◌, [], Option, Some};
 ghost use Rattle.std.specs.Coded.{coded_option};
 ghost use Rattle.std.specs.Ptr.{Ptr};
 ghost use Rattle.epoch_lend.specs.Posts.{IsAmong, logs_of};
 ghost use Rattle.epoch_lend.specs.Loans.{Within};
 ghost use Rattle.epoch_lend.specs.Turning.{TurnNames, turn_names_coded, turns_own, turns_share, turn_room_of};
 ghost use Rattle.epoch_lend.specs.Turning.{turn_is, turn_shares, claim_of, filled_has, vacancy_of, found_of};
-ghost use Rattle.epoch_lend.specs.Turning.{Awaits, title_owns};
+ghost use Rattle.epoch_lend.specs.Turning.{Awaits};
 
 use crate::lending::{Glance, Marked};
 use crate::part::Part;
 use crate::post::{Post, PostGuard};
 use atomic_table::exchange;
-use std::alloc::{AllocError, Allocator};
 use std::marker::{Brand, Model, Move, Owns, PhantomData};
 use std::sync::atomic::Ordering::SeqCst;
 use std::sync::atomic::raw;
-use std_alloc::room::Vacant;
 
 /// The greatest last turn of a cell: the word of the turn after it is the greatest multiple of 4 that fits.
 pub const GREATEST_TURN: u64 = 0x3fff_ffff_ffff_fffe;
@@ -48,17 +46,6 @@ pub struct Place<T> {
 
 impl<T> Model for Place<T> {
     ghost also_owns = { λ h. turn_room_of T.row h.at };
-}
-
-/// The right to free a place, while no value is in it. Dropped, it leaves the place where it is for good.
-#[derive(Drop)]
-pub struct Title<T, A: Allocator> {
-    pub(crate) at: *const T,
-    alloc: A,
-}
-
-impl<T, A: Allocator> Model for Title<T, A> {
-    ghost also_owns = { λ t. title_owns (A.dealloc_token t.alloc) T.row t.at };
 }
 
 /// What a claim gained: nothing, or the place with no value in it. No other thread reaches it until it is given back.
@@ -135,16 +122,15 @@ impl<T> Model for Found<T> {
 
 impl<T> Turns<T> {
     /// Makes the place vacant at turn 0. Guards of these posts may look at its values.
-    pub fn new(place: Place<T>, posts: &[Post]) -> (Turns<T>, *const T)
-        ensures { (result.0.posts ≡ logs_of posts.now) × (result.0.at ≡ result.1) × (result.1 ≡ place.at) }
+    pub fn new(place: Place<T>, posts: &[Post]) -> Turns<T>
+        ensures { (result.posts ≡ logs_of posts.now) × (result.at ≡ place.at) }
     {
         let _ = posts;
-        let Place { at } = place;
-        let turns = Turns {
+        let Place { at: _ } = place;
+        Turns {
             word: 0,
             marker: PhantomData,
-        };
-        (turns, at)
+        }
     }
 
     /// Claims the place at this turn, by one exchange. Of several claims one succeeds, and none does if the word is
@@ -358,47 +344,6 @@ impl<T> Filled<T> {
     }
 }
 
-impl<T: Drop> Place<T> {
-    /// Takes room for one value, and returns it with the right to free it. It fails only if memory is refused.
-    pub fn new<A: Allocator + Drop>(alloc: A) -> Result<(Place<T>, Title<T, A>), AllocError>
-        ensures { IfOk result (λ made. made.1.at ≡ made.0.at) }
-    {
-        match Vacant::take(alloc) {
-            Ok(room) => Ok(place_of(room)),
-            Err(_) => Err(AllocError),
-        }
-    }
-}
-
-/// Returns the room of a block, and the right to free it.
-fn place_of<T: Drop, A: Allocator>(room: Vacant<T, A>) -> (Place<T>, Title<T, A>)
-    ensures { result.1.at ≡ result.0.at }
-{
-    let Vacant { ptr, alloc } = room;
-    (Place { at: ptr }, Title { at: ptr, alloc })
-}
-
-impl<T, A: Allocator> Title<T, A> {
-    /// Frees the place, which has no value in it, and returns its allocator.
-    pub fn free(self, claim: TurnClaim<T>) -> A
-        requires { (claim.right ≡ 1) × (claim.at ≡ self.at) }
-    {
-        self.room(claim).free()
-    }
-
-    // The room of the block.
-    fn room(self, claim: TurnClaim<T>) -> Vacant<T, A>
-        requires { (claim.right ≡ 1) × (claim.at ≡ self.at) }
-    {
-        let Title { at, alloc } = self;
-        let TurnClaim { at: _ } = claim;
-        Vacant {
-            ptr: at as *mut T,
-            alloc,
-        }
-    }
-}
-
 impl<T> Drop for Turns<T> {
     fn drop(self) {
         let Self { word: _, marker: _ } = self;
@@ -408,10 +353,6 @@ impl<T> Drop for Turns<T> {
 unsafe impl<T: Send + Sync> Send for Turns<T> {}
 
 unsafe impl<T: Send + Sync> Sync for Turns<T> {}
-
-unsafe impl<T, A: Allocator + Send> Send for Title<T, A> {}
-
-unsafe impl<T, A: Allocator + Send> Sync for Title<T, A> {}
 
 unsafe impl<T: Send> Send for TurnClaim<T> {}
 

@@ -35,12 +35,12 @@ pub struct LentCells<J: PostSet, T> {
     pub ghost named: { cells.last_turn ≤ 4294967295 },
 }
 
-impl<J: PostSet, T: Drop> LentCells<J, T> {
+impl<J: PostSet, T> LentCells<J, T> {
     /// Makes this many empty cells, from 0 to [`MOST_SLOT`], for guards of this domain.
     ///
-    /// `NoMemory`: an allocation was refused. The memory of a cell is freed when the cells are dropped, if it is empty
-    /// then, as [`Store::end`](crate::Store::end) leaves it. A value that is still in a cell is not dropped then, and
-    /// its memory is never freed, since guards may have it.
+    /// `NoMemory`: an allocation was refused. The values lie side by side in one block of memory, which is freed when
+    /// the cells are dropped and each is empty, as [`Store::end`](crate::Store::end) leaves them. A value that is still
+    /// in a cell is not dropped then, and the block is never freed, since guards may have the value.
     pub fn new(alloc: Global, capacity: u32, domain: &Domain<J>) -> Result<LentCells<J, T>, Fault>
         requires { capacity ≤ MOST_SLOT }
         // Making cells fails only if memory is refused.

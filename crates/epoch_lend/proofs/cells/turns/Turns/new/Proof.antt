@@ -1,24 +1,24 @@
 -- `new` makes a log with no turn, and the word has the place.
-use Rattle.std.proofs.Common.{length, ◌≡◌, ℕ, ◌*◌, List, [], ◌∷◌, ◌++◌, refl}
+use Rattle.std.proofs.Common.{length, ◌≡◌, ℕ, ◌*◌, List, [], ◌∷◌, refl}
 use Rattle.std.proofs.Common.{lit<, w64}
 use mir.Syntax.{a_type, named}
-use mir.Val.{Val, vint, vstruct, vcons, vnil, of_list}
+use mir.Val.{Val, vint, vstruct, vcons, vnil}
 use mir.MapTy.{inst_fn}
 use base.Fraction.{full_share}
 use base.Stored.{gnum}
 use base.Logic.{SProp, emp, via}
-use base.Fml.{Fml, ftrue, fsep, feq}
+use base.Fml.{Fml, ftrue, fsep}
 use types.Kit.{‵, raw, ◌⊛◌, some, later, ◌$◌, ◌∵◌, !, qed, by, move, keep, split}
-use types.Kit.{fsplit, fjoin, fjoin3, fpack, pick, use0, await, feq_i}
-use types.Run.{stop, fld, lit, of_opd, no_more, and_then, returns, enter}
-use types.ByLocal.{alloc_all, pass_all, free_all, look_at, get, get_in, sets}
-use types.Part.{agg, sub, whole}
+use types.Kit.{fsplit, fjoin, fjoin3, fpack, pick, use0, await}
+use types.Run.{lit, no_more, and_then, returns, enter}
+use types.ByLocal.{alloc_all, pass_all, free_all, look_at, get, sets}
+use types.Part.{agg}
 use contract.Running.{tables}
 use contract.Monad.{fact, fact_i}
 use denote.Exit.{yes, no}
-use denote.RattleType.{RattleType, Valss, owns}
+use denote.RattleType.{RattleType, owns}
 use denote.Signature.{types_at, plain}
-use denote.RawPtr.{Ptr, RawPtr, ptr_val}
+use denote.RawPtr.{Ptr}
 use denote.Steps.{nothing}
 use denote.Param.{param, layouts}
 use denote.Param.Laws.{param_laws}
@@ -26,7 +26,6 @@ use denote.Triple.Entry.{alive}
 use denote.Triple.Walked.{Stays, stay_dropped, walk_of, Goes-dropped}
 use Rattle.atomic_table.proofs.Walks.{proved, leaves}
 use Rattle.epoch_lend.specs.Posts.{logs_of}
-use Rattle.epoch_lend.proofs.Fields.{ptr_typed}
 use Rattle.epoch_lend.proofs.Fields.{word, word_typed}
 use Rattle.epoch_lend.specs.Turning.{TurnNames, TurnOf}
 use Rattle.epoch_lend.specs.contracts.cells.turns.Turns as turns_is
@@ -80,7 +79,6 @@ new_spec 𝓤 𝓛 𝓜 𝓡 wired X L =
     let Pl : RattleType = place_is.the_row R in
     let u : Pl.Denot = a.0 in
     let p : Ptr = u.at in
-    let v : Val = fields.begun_of p in
     let among : Val = slice_val a.1.0.ref_ptr (length a.1.0.now) in
     let y : (walk_of 𝓛 En hs c).Ghost = ((κs, qs, bounds, a, (word p ∷ [], (among ∷ [], tt))), gh) in
     let Post : Val → SProp 𝓤 = (walk_of 𝓛 En hs c).post y in
@@ -91,11 +89,8 @@ new_spec 𝓤 𝓛 𝓜 𝓡 wired X L =
     split ! $ move ! (1 ∷ []) $ fsplit ! $ fsplit ! $ keep ! (1 ∷ 3 ∷ []) $
     enter ! 𝓣.C 𝓣.Λ fn (word p ∷ among ∷ []) Post $
     alloc_all ! (λ l. pass_all ! refl (word_typed p, ((tt, (tt, (record { fits = are.1.0.0.1.0 }, tt))), tt)) $
-    sets ! (of_opd ! (get_in ! (fld ! refl (stop !)) (sub ! 0 refl (whole !)))) refl (ptr_typed p) $
     sets ! (agg ! (no_more !)) refl (tt, tt) $
     sets ! (agg ! (and_then ! (lit ! tt) (and_then ! (get ! refl) (no_more !)))) refl fields.none_typed $
-    sets ! (of_opd ! (get ! refl)) refl fields.none_typed $
-    sets ! (agg ! (and_then ! (get ! refl) (and_then ! (get ! refl) (no_more !)))) refl (fields.begun_typed p) $
     use0 𝓛 (later (some (λ (η : ℕ). ‵ (latest O full_share η [])))) (via 𝓤 _ (latest_new O 𝓛 []) (basic 𝓛 _)) $
     await ! tt $ pick ! (λ η. name_new ! tt (gnum (4 * 0)) (λ δ.
     let d : TurnNames = record { at = p; log = η; state = δ; posts = logs_of a.1.0.now } in
@@ -114,13 +109,8 @@ new_spec 𝓤 𝓛 𝓜 𝓡 wired X L =
     )) $ fjoin ! $
     fpack ! ℕ (λ k. fsep (Has k) (at_turn_word R d k)) 0 $ nothing ! $
     fpack ! Laid (λ _. ftrue) ((tt, (record { fits = lit< tt }, (tt, tt))), tt) $ fjoin ! $
-    nothing ! $ feq_i ! (List Val) (ptr_val p ∷ []) (ptr_val p ∷ []) refl $ fjoin ! $ move ! (1 ∷ 0 ∷ []) $ fjoin ! $
-    feq_i ! (List Val) (v ∷ []) (v ∷ []) refl $ fjoin ! $
-    fpack ! (Valss (Row ∷ RawPtr ∷ [])) (λ uss. fsep (feq (List Val) (v ∷ []) (vstruct (of_list (uss.0 ++ (uss.1.0 ++
-    []))) ∷ [])) (owns (Row ∷ RawPtr ∷ []) (d, (p, tt)) uss)) (pv ∷ [], (ptr_val p ∷ [], tt)) $
-    let Told : Type 0 = (d.posts ≡ logs_of a.1.0.now) × (p ≡ p) × (p ≡ u.at) in
-    use0 𝓛 (raw (fact 𝓤 Told)) (fact_i 𝓤 Told (emp 𝓤) (refl, refl, refl)) $ nothing ! $ nothing ! $ fjoin ! $
-    nothing ! $
+    let Told : Type 0 = (d.posts ≡ logs_of a.1.0.now) × (p ≡ u.at) in
+    use0 𝓛 (raw (fact 𝓤 Told)) (fact_i 𝓤 Told (emp 𝓤) (refl, refl)) $ nothing ! $ nothing ! $ fjoin ! $ nothing ! $
     fjoin ! $
     returns ! (look_at ! 0 refl) $ free_all ! refl $ keep ! (3 ∷ 0 ∷ 2 ∷ 1 ∷ []) $
-    by ! (leaves 𝓛 En hs c y v (d, p) (tt, (tt, tt)) (tt, (tt, tt)))))))
+    by ! (leaves 𝓛 En hs c y pv d (tt, (tt, tt)) (tt, (tt, tt)))))))

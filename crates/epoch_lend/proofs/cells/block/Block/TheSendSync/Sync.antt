@@ -1,0 +1,8 @@
+use denote.RattleType.{RattleType}
+use denote.Param.Send.{IsSend, IsSync, Frees}
+use Rattle.core.specs.declared.alloc.Allocator.{Ghosts}
+use Rattle.epoch_lend.specs.contracts.cells.block.Block.{the_row}
+
+pub sync : (T A : RattleType) (g : Ghosts A.Denot) → IsSend T → IsSend A → Frees g g.dealloc_token → IsSync (the_row T
+    A g)
+sync T A g s sa f = record { shared = λ d b o κ. ((((tt, λ q. tt), tt), λ q. tt), λ _. tt) }
