@@ -30,8 +30,8 @@ pub fn share_value<R: Threads + Sync, T: Drop + Send + Sync, C: ValueCrew<T> + S
     crew: &C,
 ) -> Result<usize, Fault>
 where
-    // No more threads take part than are asked for. Threads can't share a value only for want of memory, or because
-    // too few cells or posts were made.
+    // No more threads take part than are asked for. The call is refused only if an allocation is refused, or if too few
+    // cells or posts were made.
     ensures most { IfOk result (λ done. done ≤ threads) }
     ensures refused { IfErr result (λ fault. (fault ≡ NoMemory) ⊎ (fault ≡ CellsFull) ⊎ (fault ≡ TableFull)) }
 {

@@ -1,3 +1,4 @@
+//! What an end calls of the bags that are left.
 use crate::counts::{count, new_counted, noting_job};
 use crate::wants::{want, want_count, want_ok, want_true};
 use epoch::bag::{Bag, SealedBag};

@@ -1,3 +1,4 @@
+//! A full table of participants, and guards of two collectors with the same number.
 use crate::calls::{collector, defer, end, pin, pin_and_defer, register, release, unpin};
 use crate::counts::count;
 use crate::removals::{placed, remove};

@@ -1,3 +1,4 @@
+//! Jobs: when they are called, and that each is called once and dropped once.
 use crate::calls::{collector, defer_counting, end, let_go, register, release};
 use crate::counts::{count, counting_job};
 use crate::removals::remove_later;

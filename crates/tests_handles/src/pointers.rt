@@ -1,3 +1,4 @@
+//! Pointers to values in cells: null, tags, full cells, values that are read, and how pointers are shown.
 use crate::calls::{collector, end, let_go};
 use crate::pointers::seen::{changed, want_destroyed, want_pointer, want_tag};
 use crate::wants::{want, want_ok, want_shown, want_some, want_true};

@@ -1,3 +1,4 @@
+//! Removals that are deferred: each value is dropped once, and its cell is free again.
 use crate::calls::{collector, end, flush, pin, register, release, rounds, unpin};
 use crate::counts::{Counted, count, new_counted};
 use crate::seats::Deed::{Cycles, RemovesFromOnlyCell};

@@ -1,3 +1,4 @@
+//! Repins and pauses: whom they hold back, and when a repin collects.
 use crate::seats::Deed::{
     Called, Cycles, Defers, Flushes, Pauses, Pins, PinsAndDefers, PutsJob, Repins, RepinsAfter,
     Resumes, Rounds, Unpins,

@@ -1,3 +1,4 @@
+//! Handles on eight threads that are pinned at once.
 use crate::calls::{collector, defer, pin, register, release, unpin};
 use crate::counts::{Counted, count, counting_job, new_counted};
 use crate::removals::remove_later;
