@@ -4,8 +4,8 @@ crates in docs/ARCHITECTURE.md, and the tables of claims and of tests in docs/PR
 
 usage: tools/pages.py            at the top of the repository; writes them
        tools/pages.py --check    writes nothing, and ends with status 1 if a page is not what would be written, if a line
-                                 of crates.txt names a crate that no file of its own crate names, or if the pages that
-                                 are written by hand have too many words
+                                 of crates.txt names a crate that no file of its own crate names, if a file of tests
+                                 doesn't say what it is about, or if pages that are written by hand have too many words
        tools/pages.py --words    prints how many words each page has that is written by hand
 
 A crate's page has the text at the head of its lib.rt, what it stands on, and each public item with its first sentence:
@@ -20,6 +20,7 @@ MAP_PAGE, PROMISES = "docs/ARCHITECTURE.md", "docs/PROMISES.md"
 FIRST, LAST = "<!-- by make pages, from here -->\n", "<!-- to here -->\n"
 # How many words the pages may have that are written by hand.
 WORDS_BY_HAND = 29_000
+README_LINES, README_WORDS, UNRELEASED_WORDS, DECISION_WORDS = 120, 1_200, 900, 70
 WRITTEN = "<!-- Written by `make pages` from the sources: change those. -->"
 
 ITEM = re.compile(r"pub (struct|enum|trait|type|const) (\w+)")
@@ -327,6 +328,8 @@ def tested(crates):
         names = re.findall(r"#\[test\]\n\s*fn (\w+)", text_of(path))
         if names:
             about = sentence(" ".join(line[3:].strip() for line in text_of(path).splitlines() if line.startswith("//!"))).replace("|", r"\|")
+            if not about:
+                raise SystemExit(f"{path} has tests, and no line with //! that says what they are about")
             yield f"| `{path[len('crates/'):].replace('/src/', ' ')}` | {about} | {'; '.join(it.replace('_', ' ') for it in names)} |\n"
 
 
@@ -349,6 +352,20 @@ def unnamed(crate, used):
 def by_hand(path):
     """Returns how many words of a page are written by hand: what stands between marks is written by a command."""
     return len(re.sub(r"<!-- by make \w+, from here -->.*?<!-- to here -->", "", text_of(path), flags=re.DOTALL).split())
+
+
+def too_long():
+    """Returns what is longer than it may be: the README, the changes of the version to come, or a decision."""
+    readme, changes = text_of("README.md"), text_of("CHANGELOG.md")
+    unreleased = changes.partition("unreleased")[2].partition("\n## ")[0]
+    entries = [it for it in text_of("docs/DECISIONS.md").split("\n\n") if it.startswith("**")]
+    sizes = [
+        ("the lines of README.md", readme.count("\n"), README_LINES),
+        ("the words of README.md", len(readme.split()), README_WORDS),
+        ("the words of what is unreleased in CHANGELOG.md", len(unreleased.split()), UNRELEASED_WORDS),
+        *((f"the words of the decision {it[:40]}..", len(it.split()), DECISION_WORDS) for it in entries),
+    ]
+    return [f"{what} are {size}, and not at most {most}" for what, size, most in sizes if size > most]
 
 
 def wanted(found):
@@ -376,6 +393,7 @@ def main(words):
     faults = [f"{path}: `make pages` would write another text" for path, text in pages.items() if not os.path.isfile(path) or text_of(path) != text]
     for name, used in [it for _, crates in found for it in crates.items()]:
         faults += [f"crates.txt: no file of {name} names {it}" for it in unnamed(name, used)]
+    faults += too_long()
     count = sum(map(by_hand, hands))
     if count > WORDS_BY_HAND:
         faults.append(f"the pages have {count} words that are written by hand, and not at most {WORDS_BY_HAND}")
