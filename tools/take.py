@@ -2,8 +2,8 @@
 """Takes crates along: copies them, and all that they stand on, into a repository of your own.
 
 usage: tools/take.py TO WHAT..    at the top of this repository; TO is the top of yours, WHAT the crates that yours names
-       tools/take.py --test       takes a map into an empty folder, compiles the page of docs/MAPS.md there, and sees
-                                  that what was changed there is left alone
+       tools/take.py --test       takes crates into an empty folder, runs the programs of README.md and docs/MAPS.md
+                                  there, and sees that what was changed there is left alone
 
 Copies src/, specs/ and proofs/ of each crate, and out/rlib where nothing changed since the crate was proved: then it isn't
 proved again. The lines go into TO's crates.txt, between two marks, each with a checksum of what was copied. What an
@@ -20,6 +20,8 @@ import tempfile
 HEAD, TAIL = "# Taken along by tools/take.py of Moskwyln. Change nothing between these two lines.", "# The end of what was taken along."
 PARTS = ("src", "specs", "proofs")
 LICENSES = ("LICENSE-APACHE", "LICENSE-MIT")
+# The pages that have a whole program, with the crates that it names, and with what it prints.
+PROGRAMS = (("README.md", "epoch_shared", "400 reads"), ("docs/MAPS.md", "epoch_lend_pointers epoch_map", "42"))
 # As in tools/prove.py: a byte of code is as much work as some ten of a proof. Measured: so much in a processor second.
 BYTES_A_SECOND = 4_000
 
@@ -153,19 +155,25 @@ def take(to, what, takes_results=True):
     ]
 
 
+def see_printed(to, name, page, what, printed):
+    """Takes along what a page's program names, compiles the program as this crate, and sees what it prints."""
+    print("\n".join(take(to, what.split(), takes_results=False)))
+    program = re.search(r"<!-- tried by tools/take.py -->\n```rust\n(.*?)```", "\n".join(lines_of(page)), re.S)[1]
+    os.makedirs(f"{to}/crates/{name}/src")
+    with open(f"{to}/crates/{name}/src/main.rt", "w", encoding="utf-8") as file:
+        file.write(program)
+    with open(f"{to}/crates.txt", "a", encoding="utf-8") as file:
+        file.write(f"{name}: {what}\n")
+    ran = subprocess.run(["rt", "try"], cwd=f"{to}/crates/{name}", stdout=subprocess.PIPE, text=True, check=False)
+    assert (ran.returncode, ran.stdout.splitlines()[:1]) == (0, [printed]), (page, ran)
+
+
 def test():
-    """Takes a map along, compiles a caller, and sees that a folder which was changed, or isn't ours, stays as it is."""
-    page = re.search(r"<!-- tried by tools/take.py -->\n```rust\n(.*?)```", "\n".join(lines_of("docs/MAPS.md")), re.S)[1]
+    """Runs the programs of pages, and sees that a folder which was changed, or isn't ours, stays as it is."""
     with tempfile.TemporaryDirectory() as to:
         take(to, ["epoch"], takes_results=False)
-        print("\n".join(take(to, ["epoch_lend_pointers", "epoch_map"], takes_results=False)))
-        os.makedirs(f"{to}/crates/my_app/src")
-        with open(f"{to}/crates/my_app/src/main.rt", "w", encoding="utf-8") as file:
-            file.write(page)
-        with open(f"{to}/crates.txt", "a", encoding="utf-8") as file:
-            file.write("my_app: epoch_lend_pointers epoch_map\n")
-        ran = subprocess.run(["rt", "try"], cwd=f"{to}/crates/my_app", stdout=subprocess.PIPE, text=True, check=False)
-        assert (ran.returncode, ran.stdout.splitlines()[:1]) == (0, ["42"]), ran
+        for number, (page, what, printed) in enumerate(PROGRAMS):
+            see_printed(to, f"my_app_{number}", page, what, printed)
         changed = f"{to}/crates/epoch_map/src/lib.rt"
         with open(changed, "a", encoding="utf-8") as file:
             file.write("// Mine.\n")
@@ -175,7 +183,7 @@ def test():
         os.makedirs(f"{to}/crates/epoch_cells")
         see_refused(to, "epoch_cells is there")
         assert os.listdir(to) == ["crates"] and os.listdir(f"{to}/crates") == ["epoch_cells"]
-    print("A map was taken along, its caller compiled, and what isn't ours stays")
+    print(f"Crates were taken along, the programs of {len(PROGRAMS)} pages run, and what isn't ours stays")
 
 
 def see_refused(to, why):
