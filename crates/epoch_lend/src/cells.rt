@@ -3,3 +3,4 @@
 pub mod block;
 pub mod sight;
 pub mod turns;
+pub mod word;

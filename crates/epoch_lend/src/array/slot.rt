@@ -4,13 +4,14 @@ ghost use Rattle.std.specs.List.{slice_get};
 ghost use Rattle.epoch_lend.specs.Posts.{logs_of};
 ghost use Rattle.epoch_lend.specs.Loans.{Within, AreShown};
 ghost use Rattle.epoch_lend.specs.Watching.{AreWatched};
-ghost use Rattle.epoch_lend.specs.Turning.{Awaits};
+ghost use Rattle.epoch_lend.specs.Turning.{Awaits, turn_word, removed};
 ghost use Rattle.epoch_lend.specs.declared.cells.turns.TheConstants.{GREATEST_TURN};
 
 use crate::array::cells::LendingCells;
 use crate::array::room::LentRoom;
 use crate::cells::sight::Sight;
 use crate::cells::turns::{Filled, GREATEST_TURN, Place, TurnClaim, TurnName, Turns, Vacancy};
+use crate::cells::word::{claimed_word, removed_word, shown_word, turn_of, vacant_word};
 use crate::lending::Marked;
 use crate::readers::posts::{Of, PostSet, Posts};
 use crate::readers::reader::Pinned;
@@ -39,7 +40,7 @@ pub struct SlotRemoval<'c, J: PostSet, T> {
     pub ghost rights: { (marked.right ≡ 1) × (vacancy.right ≡ 1) },
     pub ghost alike: { (vacancy.value ≡ marked.value) × (vacancy.lifetime ≡ marked.lifetime) },
     pub ghost of_slot: { (vacancy.state ≡ slot.now.turns.state) × (vacancy.at ≡ slot.now.turns.at) },
-    pub ghost of_turn: { (vacancy.word ≡ 4 * turn + 3) × (turn ≤ GREATEST_TURN) },
+    pub ghost of_turn: { (vacancy.word ≡ turn_word (removed turn)) × (turn ≤ GREATEST_TURN) },
     pub ghost lent: { Within (logs_of J.posts) marked.loans },
     pub ghost named: { (name.log ≡ slot.now.turns.log) × (name.turn ≡ turn) × (name.value ≡ marked.value) },
     pub ghost of_cells: { slice_get (map (λ s. s.turns.log) cells.now.slots.items) position
@@ -77,12 +78,12 @@ impl<J: PostSet, T> LentSlot<J, T> {
     {
         let (found, which) = self.turns.find(0, 2);
         which.done();
-        let turn = found / 4;
-        let vacant = 4 * turn;
+        let turn = turn_of(found);
+        let vacant = vacant_word(turn);
         if found != vacant || turn > last_turn || turn > GREATEST_TURN {
             return None;
         }
-        let (again, claim) = self.turns.claim(at, turn, vacant, vacant + 1);
+        let (again, claim) = self.turns.claim(at, turn, vacant, claimed_word(turn));
         if again != vacant {
             claim.done();
             return None;
@@ -97,7 +98,7 @@ impl<J: PostSet, T> LentSlot<J, T> {
         requires of_turn { Awaits turn filled.word × (turn ≤ GREATEST_TURN) }
         ensures { (result.turn ≡ turn) × (result.log ≡ self.now.turns.log) × (result.value ≡ filled.value) }
     {
-        self.turns.show(filled, turn, 4 * turn + 2)
+        self.turns.show(filled, turn, shown_word(turn))
     }
 
     // Leaves a place that this caller has to all callers, vacant at this turn.
@@ -107,7 +108,7 @@ impl<J: PostSet, T> LentSlot<J, T> {
             × (claim.at ≡ self.now.turns.at) }
         requires of_turn { Awaits turn claim.word × (turn ≤ GREATEST_TURN + 1) }
     {
-        self.turns.release(claim, turn, 4 * turn);
+        self.turns.release(claim, turn, vacant_word(turn));
     }
 
     /// Lends the value of this turn, by one plain load, for as long as the reference to the pinned reader lasts.
@@ -150,14 +151,14 @@ impl<J: PostSet, T> LentSlot<J, T> {
         if turn > GREATEST_TURN {
             return None;
         }
-        let shown = 4 * turn + 2;
+        let shown = shown_word(turn);
         let (found, which) = self.turns.find(turn, shown);
         if found != shown {
             which.done();
             return None;
         }
         let name = which.name();
-        let (again, marked, vacancy) = self.turns.mark(&name, at, shown, shown + 1);
+        let (again, marked, vacancy) = self.turns.mark(&name, at, shown, removed_word(turn));
         if again == shown {
             Some(SlotRemoval {
                 cells,
@@ -185,7 +186,7 @@ impl<J: PostSet, T> LentSlot<J, T> {
     {
         let Self { turns, set: _ } = self;
         let (word, claim) = turns.end(at);
-        if word != 4 * (word / 4) {
+        if word != vacant_word(turn_of(word)) {
             return None;
         }
         Some(claim)

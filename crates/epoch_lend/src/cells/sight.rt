@@ -3,6 +3,7 @@ ghost use Rattle.std.specs.Prelude.{◌≡◌, IfSome};
 ghost use Rattle.epoch_lend.specs.Posts.{IsAmong};
 
 use crate::cells::turns::{GREATEST_TURN, TurnName, Turns};
+use crate::cells::word::{shown_word, turn_of};
 use crate::post::PostGuard;
 
 /// A value that was found by its turn, and its name, which shows that it was placed at this turn.
@@ -24,7 +25,7 @@ impl<T> Turns<T> {
         if turn > GREATEST_TURN {
             return None;
         }
-        let shown = 4 * turn + 2;
+        let shown = shown_word(turn);
         let (found, which, glance) = self.look(turn, guard, at, shown);
         if found == shown {
             Some(Sight {
@@ -45,8 +46,8 @@ impl<T> Turns<T> {
     {
         let (now, any) = self.find(0, 2);
         any.done();
-        let turn = now / 4;
-        let word = 4 * turn + 2;
+        let turn = turn_of(now);
+        let word = shown_word(turn);
         let (found, which) = self.find(turn, word);
         if found != word {
             which.done();

@@ -6,7 +6,7 @@ ghost use Rattle.epoch_lend.specs.Posts.{IsAmong, logs_of};
 ghost use Rattle.epoch_lend.specs.Loans.{Within};
 ghost use Rattle.epoch_lend.specs.Turning.{TurnNames, turn_names_coded, turns_own, turns_share, turn_room_of};
 ghost use Rattle.epoch_lend.specs.Turning.{turn_is, turn_shares, claim_of, filled_has, vacancy_of, found_of};
-ghost use Rattle.epoch_lend.specs.Turning.{Awaits};
+ghost use Rattle.epoch_lend.specs.Turning.{Awaits, turn_word, vacant, claimed, shown, removed};
 
 use crate::lending::{Glance, Marked};
 use crate::part::Part;
@@ -135,13 +135,13 @@ impl<T> Turns<T> {
 
     /// Claims the place at this turn, by one exchange. Of several claims one succeeds, and none does if the word is
     /// another one.
-    pub fn claim(&self, at: *const T, turn: u64, vacant: u64, claimed: u64) -> (u64, TurnClaim<T>)
-        requires { (at ≡ self.now.at) × (vacant ≡ 4 * turn) × (claimed ≡ 4 * turn + 1) }
-        ensures { (result.0 ≡ vacant → result.1.right ≡ 1) × (result.0 ≢ vacant → result.1.right ≡ 0)
-            × (result.1.state ≡ self.now.state) × (result.1.word ≡ claimed) × (result.1.at ≡ self.now.at) }
+    pub fn claim(&self, at: *const T, turn: u64, before: u64, after: u64) -> (u64, TurnClaim<T>)
+        requires { (at ≡ self.now.at) × (before ≡ turn_word (vacant turn)) × (after ≡ turn_word (claimed turn)) }
+        ensures { (result.0 ≡ before → result.1.right ≡ 1) × (result.0 ≢ before → result.1.right ≡ 0)
+            × (result.1.state ≡ self.now.state) × (result.1.word ≡ after) × (result.1.at ≡ self.now.at) }
     {
         let _ = turn;
-        let found = unsafe { exchange::<Brand>(&raw const self.word, vacant, claimed) };
+        let found = unsafe { exchange::<Brand>(&raw const self.word, before, after) };
         let claim = TurnClaim { at };
         (found, claim)
     }
@@ -150,7 +150,7 @@ impl<T> Turns<T> {
     /// place at this turn, or has taken the value of the turn before out of it.
     pub fn show(&self, filled: Filled<T>, turn: u64, word: u64) -> TurnName<T>
         requires of_place { (filled.state ≡ self.now.state) × (filled.at ≡ self.now.at) }
-        requires of_turn { Awaits turn filled.word × (word ≡ 4 * turn + 2) }
+        requires of_turn { Awaits turn filled.word × (word ≡ turn_word (shown turn)) }
         ensures { (result.turn ≡ turn) × (result.log ≡ self.now.log) × (result.value ≡ filled.value) }
     {
         let Filled { at: _ } = filled;
@@ -163,7 +163,7 @@ impl<T> Turns<T> {
 
     /// Looks at the word, by one plain load. If it is that of a value shown at this turn, returns which value that is.
     pub fn find(&self, turn: u64, word: u64) -> (u64, Found<T>)
-        requires { word ≡ 4 * turn + 2 }
+        requires { word ≡ turn_word (shown turn) }
         // A load that finds the word of a value shown at a turn tells which value was placed at this turn.
         ensures { (result.0 ≡ word → result.1.right ≡ 1) × (result.0 ≢ word → result.1.right ≡ 0)
             × (result.1.log ≡ self.now.log) × (result.1.turn ≡ turn) }
@@ -187,7 +187,7 @@ impl<T> Turns<T> {
         at: *const T,
         word: u64,
     ) -> (u64, Found<T>, Glance<'g, T>)
-        requires { (at ≡ self.now.at) × (word ≡ 4 * turn + 2) × IsAmong guard.now.log self.now.posts }
+        requires { (at ≡ self.now.at) × (word ≡ turn_word (shown turn)) × IsAmong guard.now.log self.now.posts }
         ensures { (result.0 ≡ word → (result.1.right ≡ 1) × (result.2.right ≡ 1))
             × (result.0 ≢ word → (result.1.right ≡ 0) × (result.2.right ≡ 0))
             × (result.1.log ≡ self.now.log) × (result.1.turn ≡ turn) × (result.2.value ≡ result.1.value) }
@@ -212,22 +212,22 @@ impl<T> Turns<T> {
         &self,
         name: &TurnName<T>,
         at: *const T,
-        shown: u64,
-        removed: u64,
+        before: u64,
+        after: u64,
     ) -> (u64, Marked<T>, Vacancy<T>)
-        requires { (at ≡ self.now.at) × (name.now.log ≡ self.now.log) × (shown ≡ 4 * name.now.turn + 2)
-            × (removed ≡ 4 * name.now.turn + 3) }
+        requires { (at ≡ self.now.at) × (name.now.log ≡ self.now.log)
+            × (before ≡ turn_word (shown name.now.turn)) × (after ≡ turn_word (removed name.now.turn)) }
         // Of all marks of a value, only one gets the value with all of its loans. Once these are over, the same mark
         // has the value's place in memory. Each loan went to a guard of one of the cell's posts.
-        ensures gained { (result.0 ≡ shown → (result.1.right ≡ 1) × (result.2.right ≡ 1))
-            × (result.0 ≢ shown → (result.1.right ≡ 0) × (result.2.right ≡ 0)) }
+        ensures gained { (result.0 ≡ before → (result.1.right ≡ 1) × (result.2.right ≡ 1))
+            × (result.0 ≢ before → (result.1.right ≡ 0) × (result.2.right ≡ 0)) }
         ensures marked { (result.1.value ≡ name.now.value) × (result.1.lifetime ≡ name.now.lifetime)
             × (result.1.seen ≡ []) × Within self.now.posts result.1.loans }
         ensures vacancy { (result.2.value ≡ name.now.value) × (result.2.lifetime ≡ name.now.lifetime)
-            × (result.2.state ≡ self.now.state) × (result.2.word ≡ removed) × (result.2.at ≡ self.now.at) }
+            × (result.2.state ≡ self.now.state) × (result.2.word ≡ after) × (result.2.at ≡ self.now.at) }
     {
         let _ = name;
-        let found = unsafe { exchange::<Brand>(&raw const self.word, shown, removed) };
+        let found = unsafe { exchange::<Brand>(&raw const self.word, before, after) };
         let marked = Marked { at };
         let vacancy = Vacancy { at };
         (found, marked, vacancy)
@@ -237,7 +237,7 @@ impl<T> Turns<T> {
     /// has taken the value of the turn before out of it.
     pub fn release(&self, claim: TurnClaim<T>, turn: u64, word: u64)
         requires of_place { (claim.right ≡ 1) × (claim.state ≡ self.now.state) × (claim.at ≡ self.now.at) }
-        requires of_turn { Awaits turn claim.word × (word ≡ 4 * turn) }
+        requires of_turn { Awaits turn claim.word × (word ≡ turn_word (vacant turn)) }
     {
         let TurnClaim { at: _ } = claim;
         let _ = turn;
@@ -247,7 +247,7 @@ impl<T> Turns<T> {
     /// Ends the word, which nobody shares any more. Returns it and, if it is that of a vacant place, the place.
     pub fn end(self, at: *const T) -> (u64, TurnClaim<T>)
         requires { at ≡ self.at }
-        ensures vacant { (turn : ℕ) → result.0 ≡ 4 * turn → result.1.right ≡ 1 }
+        ensures vacant { (turn : ℕ) → result.0 ≡ turn_word (vacant turn) → result.1.right ≡ 1 }
         ensures at { result.1.at ≡ self.at }
     {
         let Self { word, marker: _ } = self;
