@@ -73,6 +73,8 @@ pub mod ReachKept
 pub mod GuardsStay
 pub mod ReachSteps
 pub mod ReachRuns
+pub mod MeetKept
+pub mod ReachMet
 pub mod TurnsGiven
 pub mod HeapSteps
 pub mod NamesOnce

@@ -147,6 +147,12 @@ module _ (old new : State) (log : List Entry) (x : Entry) (past : Past) (k : Rea
       at_spot (Field z f) l (inr leads) never =
           (k.loaded p g z l).2 (λ r. recent_field p z f y (inl (hold.2, r)) leads never)
 
+  -- a name that is so found or left was in reach at some moment since the participant published, or is
+  pub met_recently : (p g : ℕ) (y : Name) → ¬ (LetsGo x p g) → Meets (past.loaded p g) old x new p g y
+      → ¬ (¬ (k.recent p y ⊎ IsReachable new.heap y))
+  met_recently p g y kept meets never =
+      (met p g y kept meets).2 (λ r. elim r [ inl was ↦ never (inl was.1) | inr reach ↦ never (inr reach) ])
+
   loaded_after : (p g : ℕ) (y : Name) → next.loaded p g y → IsSafe p g y
   loaded_after p g y (kept, inl was) =
       let l = k.loaded p g y was in
@@ -223,3 +229,9 @@ module _ (old new : State) (log : List Entry) (x : Entry) (past : Past) (k : Rea
     removed = removed_after;
     gone = gone_after;
   }
+
+  -- what it calls recent is in reach after the step, or was recent before, and its participant doesn't publish
+  pub recent_pushed : (p : ℕ) (y : Name) → reach_push.recent p y
+      → ((¬ (IsPublish x.reply p)) × k.recent p y) ⊎ IsReachable new.heap y
+  unfolding reach_push
+  recent_pushed p y recent = recent

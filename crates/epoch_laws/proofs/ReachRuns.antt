@@ -1,5 +1,5 @@
 -- In every run whose cells leave rightly, nothing that is loaded under a guard still held is destroyed.
-use Rattle.std.proofs.Common.{◌≡◌, List, [], ◌∷◌, ◌++◌, refl, ap, sym, subst}
+use Rattle.std.proofs.Common.{◌≡◌, ℕ, List, [], ◌∷◌, ◌++◌, refl, ap, sym, subst}
 use Rattle.epoch_cells.specs.declared.cells.name.Name.{Name}
 use Rattle.epoch_laws.specs.declared.step.Entry.{Entry}
 use Rattle.epoch_laws.specs.declared.heap.access.Ptr.{Ptr}
@@ -22,12 +22,14 @@ runs_apart : (old new : State) (log entries : List Entry) (past : Past) → AllL
 runs_apart old new log [] past linked holds reach run leaves = holds_apart old log past reach
 runs_apart old new log (x ∷ entries) past linked holds reach (mid, did, run) leaves =
     let next : Holds mid (log ++ x ∷ []) = step_holds old mid log x linked holds did in
-    let shown : KeepsReach past old mid x = step_shows past old mid log x holds linked leaves.0 x.step refl did.0 in
+    let shown : KeepsReach past old mid x =
+    step_shows past old mid log x holds linked leaves.0.frozen x.step refl did.0 in
     runs_apart mid new (log ++ x ∷ []) entries (past_after past old x mid)
     (step_linked old mid x.step x.reply linked did) next
     (reach_push old mid log x past reach leaves.0 next.logged.grace holds linked shown) run leaves.1
 
-none_reached : (s : State) → IsFresh s → (x : Name) → ¬ (IsReachable s.heap x)
+-- in a fresh state nothing is in reach
+pub none_reached : (s : State) → IsFresh s → (x : Name) → ¬ (IsReachable s.heap x)
 none_reached s fresh x (from_root i _ leads) =
     let none : leads.0 ≡ null = fresh.null_roots i leads.0 leads.1 in cc (leads.2, ap (λ (ptr : Ptr). ptr.name) none)
 none_reached s fresh x (from_field y f _ r leads) = none_reached s fresh y r
@@ -44,6 +46,11 @@ fresh_reach s fresh = record {
   removed = λ t x r. absurd r;
   gone = λ x d. absurd d;
 }
+
+-- and nothing is recent
+pub none_recent : (s : State) (fresh : IsFresh s) (p : ℕ) (x : Name) → ¬ ((fresh_reach s fresh).recent p x)
+unfolding fresh_reach
+none_recent s fresh p x recent = recent
 
 pub every_run_keeps_reach : (s new : State) (log : List Entry) → IsFresh s → (run : Runs s log new)
     → LeavesOnce s log new run → KeepsLoaded (past_of s log new run)

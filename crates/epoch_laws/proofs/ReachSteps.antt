@@ -4,9 +4,9 @@ use Rattle.std.proofs.Common.{ap, sym, subst, subst₂, ◌∙◌, slice_set, sl
 use Rattle.epoch_cells.specs.declared.cells.name.Name.{Name}
 use Rattle.epoch_machine.specs.declared.machine.Sizes.{Sizes}
 use Rattle.epoch_machine.specs.declared.machine.Stage.{Stage}
-use Rattle.epoch_machine.specs.declared.machine.Stage.TheVariants.{Idle as Resting, LoadPin, StorePin, ReloadPin}
-use Rattle.epoch_machine.specs.declared.machine.Stage.TheVariants.{LoadScan, Scan, Advance, Take, Calling, LoadSeal}
-use Rattle.epoch_machine.specs.declared.machine.Stage.TheVariants.{Put, Keep, LoadRepin, StoreRepin, ReloadRepin}
+use Rattle.epoch_machine.specs.declared.machine.Stage.TheVariants.{Idle as Resting, StorePin}
+use Rattle.epoch_machine.specs.declared.machine.Stage.TheVariants.{Take, Calling}
+use Rattle.epoch_machine.specs.declared.machine.Stage.TheVariants.{Put, Keep, StoreRepin}
 use Rattle.epoch_machine.specs.declared.machine.Stage.TheVariants.{StoreUnpinned, StoreFree, End}
 use Rattle.epoch_machine.specs.declared.machine.Answer.TheVariants.{Stored}
 use Rattle.epoch_machine.specs.Machine.{Machine, ask_at, hears}
@@ -27,7 +27,7 @@ use Rattle.epoch_laws.specs.declared.step.Step.TheVariants.{Begin, Go}
 use Rattle.epoch_laws.specs.declared.step.Word.{Word}
 use Rattle.epoch_laws.specs.declared.step.Word.TheVariants.{Free, Unpinned, Pinned}
 use Rattle.epoch_laws.specs.Heap.{Heap, pointer_at, Touched, Touches}
-use Rattle.epoch_laws.specs.Reach.{Leads, IsReachable, Points, Past, LetsGo, LeavesRightly}
+use Rattle.epoch_laws.specs.Reach.{Leads, IsReachable, Points, Past, LetsGo, IsFrozen}
 use Rattle.epoch_laws.specs.Run.{WorldSeat, State, seat_of, position_word, with_seat}
 use Rattle.epoch_laws.specs.Run.{with_places, with_machine, with_word, free_seat, begun_seat}
 use Rattle.epoch_laws.specs.Run.{accessed_seat, ended_seat, DrivesCall, Moves}
@@ -57,16 +57,16 @@ stay_fewer : (past : Past) (old new : Heap) → Fewer old new → FieldsStay pas
 stay_fewer past old new fewer y f z was leads never = never (inl (fewer (Field y f) z leads))
 
 stay_pointed : (past : Past) (old new : State) (x : Entry) (p : ℕ) (g : Option ℕ) (spot : Spot)
-    → LeavesRightly past old x new
+    → IsFrozen past old x new
     → Points old x p g spot → ((other : Spot) → other ≢ spot → pointer_at new.heap other ≡ pointer_at old.heap other)
     → FieldsStay past old.heap new.heap
-stay_pointed past old new x p g spot leaves points others y f z was leads never = not_other (λ e. same e)
+stay_pointed past old new x p g spot frozen points others y f z was leads never = not_other (λ e. same e)
   where
     not_other : ¬ (Field y f ≢ spot)
     not_other ne = never (inl (leads.0, sym (others (Field y f) ne) ∙ leads.1, leads.2))
 
     same : Field y f ≡ spot → ⊥
-    same e = leaves.frozen p g y f (subst (Points old x p g) (sym e) points)
+    same e = frozen p g y f (subst (Points old x p g) (sym e) points)
         (λ eq. never (inl (leads.0, eq ∙ leads.1, leads.2))) was
         (λ r. still_reached old.heap new.heap y f (λ other ne. others other (λ e'. ne (e' ∙ sym e))) y r
         (λ there. elim there [ inl a ↦ never (inr a) | inr a ↦ never (inr a) ]))
@@ -201,7 +201,7 @@ module _ (past : Past) (old new : State) (x : Entry) where
 -- A STEP GO
 
 module _ (past : Past) (old new : State) (log : List Entry) (x : Entry) (holds : Holds old log) (linked : AllLinked old)
-    (leaves : LeavesRightly past old x new) (p : ℕ) (on : x.step ≡ Go p) (taken : position_word old p ≢ Free) where
+    (frozen : IsFrozen past old x new) (p : ℕ) (on : x.step ≡ Go p) (taken : position_word old p ≢ Free) where
   abbrev seat : WorldSeat
   seat = seat_of old p
 
@@ -298,7 +298,7 @@ module _ (past : Past) (old new : State) (log : List Entry) (x : Entry) (holds :
       → Fields past old new x
   accesses a k found now did touches e = elim (touches_pointers a k found old.heap did touches) [
     | inl fewer ↦ fewer_fields past old new x _ e fewer
-    | inr pointed ↦ stay_pointed past old new x p pointed.guard pointed.spot leaves
+    | inr pointed ↦ stay_pointed past old new x p pointed.guard pointed.spot frozen
         (record {
           step = on;
           taken = taken;
@@ -313,7 +313,7 @@ module _ (past : Past) (old new : State) (log : List Entry) (x : Entry) (holds :
 -- EVERY STEP
 
 module _ (past : Past) (old new : State) (log : List Entry) (x : Entry) (holds : Holds old log) (linked : AllLinked old)
-    (leaves : LeavesRightly past old x new) where
+    (frozen : IsFrozen past old x new) where
   abbrev after : State
   after = aside past old new x
 
@@ -338,7 +338,7 @@ module _ (past : Past) (old new : State) (log : List Entry) (x : Entry) (holds :
       ))) out.0)
       (λ was. guarded_begun (seat_of old p) old.tickets old.heap c given.own) (heap_stays past old new x _ e refl)
   kind_shows _ _ _ (MachineStep p c reply last taken drive did) on told e =
-      drives past old new log x holds linked leaves p on taken c drive _ refl (holds.seats p)
+      drives past old new log x holds linked frozen p on taken c drive _ refl (holds.seats p)
       (subst₂ (λ (r : Reply) (s : State). DrivesCall old p (seat_of old p) c (seat_of old p).machine.stage
       (ask_at (seat_of old p).machine.stage) r s) (sym told) (sym e) did)
   kind_shows _ _ _ (JobStep p removes taken now) on told e =
@@ -350,7 +350,7 @@ module _ (past : Past) (old new : State) (log : List Entry) (x : Entry) (holds :
       (λ g out kept. is_out_accessed (seat_of old p) g a k did.told out.0)
       (λ was. guarded_accessed (seat_of old p) a k found did.told
       (subst (λ (progress : Progress). GuardsAccess progress (seat_of old p).guards) now was))
-      (accesses past old new log x holds linked leaves p on taken a k found now did touches e)
+      (accesses past old new log x holds linked frozen p on taken a k found now did touches e)
   kind_shows _ _ _ (LastReply p reply taken now) on told e =
       let done = (follows_at old.sizes (seat_of old p) (linked.seats p) (Ends reply) now).1 in
       goes_on past old new x p _ _ taken e refl refl refl

@@ -15,6 +15,7 @@ pub mod Full
 pub mod Refusals
 pub mod Heap
 pub mod Reach
+pub mod Meeting
 pub mod Given
 pub mod Removals
 pub mod Standing

@@ -126,6 +126,12 @@ past_of s log new run = past_from no_past s log new run
 
 -- HOW CELLS HAVE TO LEAVE
 
+-- no pointer step changes a field of a name that was in reach once and is out of reach now
+abbrev pub IsFrozen : Past → State → Entry → State → Type 0
+IsFrozen past s entry new = (p : ℕ) (g : Option ℕ) (y : Name) (f : ℕ) → Points s entry p g (Field y f)
+    → pointer_at s.heap (Field y f) ≢ pointer_at new.heap (Field y f) → past.reached y
+    → ¬ (¬ (IsReachable s.heap y))
+
 -- A name leaves at most once: by a removal that is deferred, which only a protecting guard does, or by a Take of what
 -- was never in reach, and by no removal at once. From then on it is out of reach. No pointer step changes a field of a
 -- name that was in reach once and is out of reach now.
@@ -135,9 +141,7 @@ pub record LeavesRightly (past : Past) (s : State) (entry : Entry) (new : State)
   pub taken_unreached : (x : Name) → TakesOut s entry new x → ¬ (past.reached x)
   pub never_now : (x : Name) → ¬ (RemovesNow s entry x)
   pub out : (x : Name) → (past_after past s entry new).left x → ¬ (IsReachable new.heap x)
-  pub frozen : (p : ℕ) (g : Option ℕ) (y : Name) (f : ℕ) → Points s entry p g (Field y f)
-      → pointer_at s.heap (Field y f) ≢ pointer_at new.heap (Field y f) → past.reached y
-      → ¬ (¬ (IsReachable s.heap y))
+  pub frozen : IsFrozen past s entry new
 
 -- each step of a run does so
 abbrev pub LeavesFrom : Past → (s : State) (log : List Entry) (new : State) → Runs s log new → Type 0

@@ -2,7 +2,8 @@
 mod laws;
 
 pub use laws::{
-    every_cell_counts_its_readers, every_loaded_name_stands, every_name_stands_or_is_destroyed,
-    every_run_calls_what_was_deferred, every_run_gives_no_name_twice, every_run_keeps_reach,
-    some_run_loses_reach,
+    FollowsAll, Uses, every_cell_counts_its_readers, every_loaded_name_stands,
+    every_name_stands_or_is_destroyed, every_run_calls_what_was_deferred,
+    every_run_gives_no_name_twice, every_run_keeps_met, every_run_keeps_reach,
+    some_run_loses_reach, the_law_of_reach_follows,
 };

@@ -22,6 +22,7 @@ ghost use Rattle.epoch_laws.specs.Calls.{call_entries, EndsAtLast};
 ghost use Rattle.epoch_laws.specs.Rounds.{RoundsCallAll};
 ghost use Rattle.epoch_laws.specs.Collected.{CollectsFew};
 ghost use Rattle.epoch_laws.specs.Reach.{LeavesOnce, KeepsLoaded, past_of};
+ghost use Rattle.epoch_laws.specs.Meeting.{UsageTests, tested, LeavesWell, met_past_of};
 ghost use Rattle.epoch_laws.specs.Given.{GivesNoNameTwice};
 ghost use Rattle.epoch_laws.specs.Removals.{CallsWhatWasDeferred};
 ghost use Rattle.epoch_laws.specs.Standing.{StandsOrDestroyed, given_of, LoadedStand};
@@ -198,6 +199,14 @@ impl<S: BagStore<Job = Deferral>> World<S> {
         ensures loaded { IfOk result (AlongSteps self.old steps.now
             (λ fresh log. (run : Runs fresh log self.new) → LeavesOnce fresh log self.new run
             → LoadedStand (past_of fresh log self.new run) self.new.heap)) }
+        // A structure may say by tests which names are in, and which a pointer step meets under its guard. Where a name
+        // leaves only by a deferred removal, or by a Take before it ever was in, and is not in from then on, and where
+        // each name that is met was in at some moment since the participant published, no name that was met under a
+        // guard still held is destroyed.
+        ensures met { IfOk result (AlongSteps self.old steps.now
+            (λ fresh log. (tests : UsageTests) (run : Runs fresh log self.new)
+            → LeavesWell (tested tests) fresh log self.new run
+            → KeepsLoaded (met_past_of (tested tests) fresh log self.new run))) }
         // No name is given twice, and each that was given has its cell or is destroyed, and not both.
         ensures given { IfOk result (AlongSteps self.old steps.now
             (λ fresh log. (run : Runs fresh log self.new) → GivesNoNameTwice fresh log self.new run)) }
@@ -264,6 +273,14 @@ impl<S: BagStore<Job = Deferral>> World<S> {
         ensures loaded { IfOk result (AlongCall self.old participant call
             (λ fresh log. (run : Runs fresh log self.new) → LeavesOnce fresh log self.new run
             → LoadedStand (past_of fresh log self.new run) self.new.heap)) }
+        // A structure may say by tests which names are in, and which a pointer step meets under its guard. Where a name
+        // leaves only by a deferred removal, or by a Take before it ever was in, and is not in from then on, and where
+        // each name that is met was in at some moment since the participant published, no name that was met under a
+        // guard still held is destroyed.
+        ensures met { IfOk result (AlongCall self.old participant call
+            (λ fresh log. (tests : UsageTests) (run : Runs fresh log self.new)
+            → LeavesWell (tested tests) fresh log self.new run
+            → KeepsLoaded (met_past_of (tested tests) fresh log self.new run))) }
         // No name is given twice, and each that was given has its cell or is destroyed, and not both.
         ensures given { IfOk result (AlongCall self.old participant call
             (λ fresh log. (run : Runs fresh log self.new) → GivesNoNameTwice fresh log self.new run)) }

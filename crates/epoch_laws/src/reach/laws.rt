@@ -1,8 +1,10 @@
 //! What holds of every run of cells and pointers. Some of these laws hold only if cells leave as they must.
 ghost use Rattle.std.specs.Prelude.{◌≡◌, ℕ, List};
+ghost use Rattle.epoch_cells.specs.declared.cells.name.Name.{Name};
 ghost use Rattle.epoch_laws.specs.declared.step.Entry.{Entry};
 ghost use Rattle.epoch_laws.specs.Run.{State, IsFresh, Runs};
-ghost use Rattle.epoch_laws.specs.Reach.{LeavesOnce, KeepsLoaded, LosesLoaded, past_of};
+ghost use Rattle.epoch_laws.specs.Reach.{IsReachable, Meets, LeavesOnce, KeepsLoaded, LosesLoaded, past_of};
+ghost use Rattle.epoch_laws.specs.Meeting.{usage, follows_all, LeavesWell, met_past_of};
 ghost use Rattle.epoch_laws.specs.Given.{GivesNoNameTwice};
 ghost use Rattle.epoch_laws.specs.Removals.{CallsWhatWasDeferred};
 ghost use Rattle.epoch_laws.specs.Readings.{KeepsReadings, HasCellsToRead};
@@ -18,6 +20,52 @@ pub fn every_run_keeps_reach()
     ensures { (s new : State) (log : List Entry) → IsFresh s → (run : Runs s log new) → LeavesOnce s log new run
         → KeepsLoaded (past_of s log new run) }
 {}
+
+/// What a structure says of its own cells: which names are in, and which of them its calls meet.
+///
+/// A name that a pointer leads to need not be in, as where a ring still leads to a task that was taken out of it. Then
+/// no call meets the name by that pointer.
+pub trait Uses {
+    /// Which names are in.
+    ghost is_in: { State → Name → Type 0 };
+
+    /// Which name a participant's pointer step meets under a guard, where it has met these under that guard before.
+    ghost met: { (Name → Type 0) → State → Entry → State → ℕ → ℕ → Name → Type 0 };
+}
+
+/// If each name leaves only by a deferred removal, or by a Take before it ever was in, and is not in from then on, and
+/// if each name that is met under a guard was in at some moment since the participant published, then no cell is
+/// destroyed that a participant has met under a guard that it still holds and has not repinned.
+pub fn every_run_keeps_met<C: Uses>()
+    // A structure says which names are in, and which a pointer step meets under its guard. In a run in which a name
+    // leaves only by a deferred removal, or by a Take before it ever was in, and is not in from then on, and in which
+    // each name that is met was in at some moment since the participant published, no name is destroyed while a
+    // participant that has met it still holds the guard and has not repinned.
+    ensures { (s new : State) (log : List Entry) → IsFresh s → (run : Runs s log new)
+        → LeavesWell (usage C.is_in C.met) s log new run
+        → KeepsLoaded (met_past_of (usage C.is_in C.met) s log new run) }
+{}
+
+/// Calls that follow every field, where what is in reach is in. No value of it is made.
+pub struct FollowsAll;
+
+impl Uses for FollowsAll {
+    ghost is_in = { λ s x. IsReachable s.heap x };
+
+    ghost met = { λ earlier s entry new p g x. Meets earlier s entry new p g x };
+}
+
+/// The law of reach follows from that of what is met, where what is in reach is in, and calls follow every field.
+pub fn the_law_of_reach_follows()
+    // Where what is in reach is in, and calls follow every field, cells that leave as the law of reach asks leave as
+    // the law of what is met asks. So the law of reach follows from it.
+    ensures leaves { (s new : State) (log : List Entry) → IsFresh s → (run : Runs s log new) → LeavesOnce s log new run
+        → LeavesWell follows_all s log new run }
+    ensures reach { (s new : State) (log : List Entry) → IsFresh s → (run : Runs s log new) → LeavesOnce s log new run
+        → KeepsLoaded (past_of s log new run) }
+{
+    every_run_keeps_met::<FollowsAll>();
+}
 
 /// No name is given twice.
 pub fn every_run_gives_no_name_twice()

@@ -14,6 +14,8 @@ use Rattle.epoch_laws.proofs.RefusalsLeave.{refused_along}
 use Rattle.epoch_laws.specs.declared.step.Step.{Step}
 use Rattle.epoch_laws.specs.Run.{TakesStep}
 use Rattle.epoch_laws.proofs.ReachRuns.{every_run_keeps_reach}
+use Rattle.epoch_laws.proofs.MeetKept.{every_run_keeps_met}
+use Rattle.epoch_laws.specs.Meeting.{tested}
 use Rattle.epoch_laws.proofs.LoadedStands.{loaded_stand}
 use Rattle.epoch_laws.proofs.NamesOnce.{no_name_twice}
 use Rattle.epoch_laws.proofs.CellsKept.{cells_stand}
@@ -97,6 +99,9 @@ returns-clause-reach g c fresh earlier new run whole = every_run_keeps_reach fre
 
 pub returns-clause-loaded : goal.returns-clause-loaded
 returns-clause-loaded g c fresh earlier new run whole leaves = loaded_stand fresh _ _ new whole leaves
+
+pub returns-clause-met : goal.returns-clause-met
+returns-clause-met g c fresh earlier new run tests whole = every_run_keeps_met (tested tests) fresh _ _ whole
 
 pub returns-clause-given : goal.returns-clause-given
 returns-clause-given g c fresh earlier new run whole = no_name_twice fresh _ _ whole
