@@ -21,4 +21,9 @@ pub mod PlacesTold
 pub mod SlotsMoved
 pub mod StagesHeard
 pub mod Telling
+pub mod PerformedSteps
+pub mod SomeThreads
+pub mod TwoSeats
+pub mod ThreadsShown
+pub mod ThreadsLeft
 pub mod SamePositions

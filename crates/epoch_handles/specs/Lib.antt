@@ -5,4 +5,5 @@ pub mod Releases
 pub mod Serving
 pub mod JobsKept
 pub mod ThreadGrace
+pub mod ThreadsMet
 pub mod Told

@@ -2,6 +2,7 @@
 ghost use Rattle.epoch_handles.specs.Told.{RepliesAreFound, ExpiriesAreSeen, AnswersAreFound};
 ghost use Rattle.epoch_handles.specs.ThreadGrace.{KeepsGraceOnThreads};
 ghost use Rattle.epoch_handles.specs.JobsKept.{KeepsJobsInCalls, LosesNoJob, LeavesTheRest};
+ghost use Rattle.epoch_handles.specs.ThreadsMet.{IsCalledOnThreads, IsLeftOnThreads};
 
 use epoch_tables::shared_places::{closed_places_hold_the_rest, no_bag_is_lost};
 use epoch_tables::table::pinned_seats_hold_bags_back;
@@ -88,3 +89,23 @@ pub fn an_end_calls_the_rest<J>()
     no_job_is_lost::<J>();
     closed_places_hold_the_rest::<J>();
 }
+
+/// Some two participants meet all premises of [`calls_come_after_pins`] and [`no_job_is_lost`], with a job that they
+/// keep and call, whatever job this is.
+///
+/// One pins and unpins. The other pins, defers the job, and flushes it while the first one is pinned. It calls the job
+/// once the first one has unpinned.
+pub fn some_threads_call_a_job<J>()
+    // The premises of the laws on threads can be met: two participants that share one place meet them. One of them has
+    // pinned and unpinned. The other one has deferred a job and put it into the place while the first was pinned, and
+    // has called it since the first has unpinned.
+    ensures { (job : J) → IsCalledOnThreads job }
+{}
+
+/// Some two participants meet all premises of [`an_end_calls_the_rest`], with a job that is left in a closed place,
+/// whatever job this is.
+pub fn some_threads_leave_a_job<J>()
+    // The premises of the law on an end can be met: two participants that have left meet them. One of them has put a
+    // job into the place when it was released, and the place is closed with it.
+    ensures { (job : J) → IsLeftOnThreads job }
+{}
