@@ -7,6 +7,7 @@
 //! word.
 ghost use Rattle.std.specs.Prelude.{◌≡◌, ◌≤◌, ◌<◌, ◌+◌, ◌++◌, ◌∷◌, [], IfSome, IfOk, IfErr, OnOk, IsOkUnless, vec_len};
 ghost use Rattle.epoch_cells.specs.declared.fault.Fault.TheVariants.{NoMemory, CellsFull};
+ghost use Rattle.epoch_cells.specs.declared.cells.Removal.TheVariants.{Destroyed};
 ghost use Rattle.epoch_cells.specs.SlotNumbers.{AreNumbered};
 
 mod freed;
@@ -23,7 +24,7 @@ use crate::fault::{Fault, Refused};
 use crate::{Notes, SPANS, Span};
 use crossbeam_utils::CachePadded;
 pub use freed::Freed;
-pub use held::{Held, IntoSlots, Puts, Reading, Room, Writing};
+pub use held::{HasPuts, Held, IntoSlots, Puts, Reading, Room, Writing};
 pub use name::{MOST_SLOT, Name};
 pub use plain::PlainCells;
 pub use rooms::{MOST_ROOMS, Rooms};
@@ -266,7 +267,10 @@ impl<T: Drop, P: Puts<T>> Cells<T, P> {
     /// Drops the value of this name, as [`Cells::remove`] does, and adds its slot to those that were given free: as a
     /// room, if there is memory for it, and otherwise as a slot for all callers.
     #[inline(always)]
-    pub fn remove_near<'a>(&'a self, freed: &mut Freed<'_, 'a, T>, name: Name) -> Removal {
+    pub fn remove_near<'a>(&'a self, freed: &mut Freed<'_, 'a, T>, name: Name) -> Removal
+        // A removal near a position that returns `Destroyed` has taken a value out that stood beside the name given.
+        ensures { result ≡ Destroyed → (value : T) × P.stood value name }
+    {
         match self.take_out_near(name) {
             Ok((held, room)) => {
                 freed.rooms.drop_boxed(held.into_value());
@@ -320,7 +324,8 @@ impl<T: Drop, P: Puts<T>> Cells<T, P> {
     /// `None`: the value is gone, or is read or written.
     #[inline(always)]
     pub fn take_near<'a>(&'a self, rooms: &mut Rooms<'a, T>, name: Name) -> Option<Held<T>>
-        ensures { IfSome result (λ held. held.name ≡ name) }
+        ensures named { IfSome result (λ held. held.name ≡ name) }
+        ensures stood { IfSome result (λ held. P.stood held.value.value name) }
     {
         let (held, room) = self.take_out_near(name).ok()?;
         let Some(room) = room else {
@@ -413,7 +418,8 @@ impl<T: Drop, P: Puts<T>> Cells<T, P> {
     ///
     /// `None`: the value is gone, or is read or written.
     pub fn write(&self, name: Name) -> Option<Writing<'_, T>>
-        ensures { IfSome result (λ writing. writing.name ≡ name) }
+        ensures named { IfSome result (λ writing. writing.name ≡ name) }
+        ensures stood { IfSome result (λ writing. P.stood writing.held.value.value name) }
     {
         self.hold(name).ok()
     }
@@ -422,7 +428,11 @@ impl<T: Drop, P: Puts<T>> Cells<T, P> {
     ///
     /// `None`: the value is gone, or is read or written.
     #[inline(always)]
-    pub fn take(&self, name: Name) -> Option<Box<T>> {
+    pub fn take(&self, name: Name) -> Option<Box<T>>
+        // A value that is taken out of a cell, or lent for writing, is one that stood in a slot beside the very name
+        // that was asked for. Nothing but the taking out itself shows this.
+        ensures { IfSome result (λ value. P.stood value.value name) }
+    {
         Some(self.take_held(name)?.into_value())
     }
 
@@ -431,14 +441,18 @@ impl<T: Drop, P: Puts<T>> Cells<T, P> {
     pub fn take_held(&self, name: Name) -> Option<Held<T>>
         // A value that is taken out of a cell stood under the name that was asked for. The name in a slot always
         // belongs to that slot.
-        ensures { IfSome result (λ held. held.name ≡ name) }
+        ensures named { IfSome result (λ held. held.name ≡ name) }
+        ensures stood { IfSome result (λ held. P.stood held.value.value name) }
     {
         self.take_out(name).ok()
     }
 
     /// Drops the value of this name, unless it is held elsewhere or gone.
     #[inline(always)]
-    pub fn remove(&self, name: Name) -> Removal {
+    pub fn remove(&self, name: Name) -> Removal
+        // A removal that returns `Destroyed` has taken a value out that stood beside the very name that was given.
+        ensures { result ≡ Destroyed → (value : T) × P.stood value name }
+    {
         match self.take_out(name) {
             Ok(_) => Removal::Destroyed,
             Err(Miss::Held | Miss::Lost) => Removal::HeldElsewhere,
@@ -448,7 +462,8 @@ impl<T: Drop, P: Puts<T>> Cells<T, P> {
 
     #[inline(always)]
     fn take_out(&self, name: Name) -> Result<Held<T>, Miss>
-        ensures { IfOk result (λ held. held.name ≡ name) }
+        ensures named { IfOk result (λ held. held.name ≡ name) }
+        ensures stood { IfOk result (λ held. P.stood held.value.value name) }
     {
         match self.take_out_near(name) {
             Ok((held, room)) => {
@@ -465,6 +480,7 @@ impl<T: Drop, P: Puts<T>> Cells<T, P> {
     #[tactic(auto, using(crate::proofs::SlotNumberLists::number_of))]
     fn take_out_near(&self, name: Name) -> Result<(Held<T>, Option<Room<'_, T>>), Miss>
         ensures named { IfOk result (λ taken. taken.0.name ≡ name) }
+        ensures stood { IfOk result (λ taken. P.stood taken.0.value.value name) }
         ensures next { IfOk result (λ taken. IfSome taken.1
             (λ room. (room.name.slot ≡ name.slot) × (room.name.turn ≡ name.turn + 1))) }
     {
@@ -472,19 +488,20 @@ impl<T: Drop, P: Puts<T>> Cells<T, P> {
         if index >= self.slots.len() {
             return Err(Miss::Gone);
         }
-        try_take(self.slots[index].slot(), name)
+        try_take::<T, P>(self.slots[index].slot(), name)
     }
 
     #[inline(always)]
     #[tactic(auto, using(crate::proofs::SlotNumberLists::number_of))]
     fn hold(&self, name: Name) -> Result<Writing<'_, T>, Miss>
-        ensures { IfOk result (λ writing. writing.name ≡ name) }
+        ensures named { IfOk result (λ writing. writing.name ≡ name) }
+        ensures stood { IfOk result (λ writing. P.stood writing.held.value.value name) }
     {
         let index = name.slot() as usize - 1;
         if index >= self.slots.len() {
             return Err(Miss::Gone);
         }
-        try_write(self.slots[index].slot(), name)
+        try_write::<T, P>(self.slots[index].slot(), name)
     }
 }
 

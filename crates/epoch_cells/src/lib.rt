@@ -12,8 +12,8 @@ mod shown;
 pub mod take_once;
 
 pub use cells::{
-    CELL_TRIES, Cells, Freed, Held, IntoSlots, MOST_ROOMS, MOST_SLOT, Name, PlainCells, Puts,
-    Reading, Removal, Room, Rooms, Writing,
+    CELL_TRIES, Cells, Freed, HasPuts, Held, IntoSlots, MOST_ROOMS, MOST_SLOT, Name, PlainCells,
+    Puts, Reading, Removal, Room, Rooms, Writing,
 };
 pub use claims::replace;
 pub use emptied::{Emptied, empty};

@@ -83,10 +83,13 @@ impl<T> Line<T> {
     }
 }
 
-/// How a value is put into the slot that was claimed for it.
+/// How values are put into slots that were claimed for it, and taken out of them.
 pub trait Puts<T> {
     /// The value was put into a slot beside this name. If the type is a parameter, nothing but `put` shows it.
     ghost placed: { T → Name → Type 0 };
+
+    /// The value stood in a slot beside this name. If the type is a parameter, nothing but `take_out` shows it.
+    ghost stood: { T → Name → Type 0 };
 
     /// Puts the value and its name into the claimed slot, whose word is this one from then on.
     fn put(claim: Claim<'_, Option<Held<T>>>, held: Held<T>, word: u64)
@@ -94,6 +97,17 @@ pub trait Puts<T> {
         requires word { word ≡ held.name.turn * 4294967296 + 1 }
         requires fits { held.name.slot ≡ claim.tag }
         ensures placed { placed held.value.value held.name };
+
+    /// Takes what stands in the claimed slot out of it. The claim goes on.
+    fn take_out<'a>(
+        claim: Claim<'a, Option<Held<T>>>,
+    ) -> (Claim<'a, Option<Held<T>>>, Option<Held<T>>)
+        requires { claim.right ≡ 2 }
+        ensures claim { (result.0.right ≡ 2) × (result.0.tag ≡ claim.entry.tag) }
+        ensures fits { IfSome result.1 (λ held. held.name.slot ≡ claim.entry.tag) }
+        // A value that is taken out of a slot, or lent for writing, stood there beside its name. Nothing but the taking
+        // out shows this, so no value gets another name.
+        ensures stood { IfSome result.1 (λ held. stood held.value.value held.name) };
 }
 
 /// Values are put into the slots themselves. There is no other way. No value of this type is made.
@@ -101,6 +115,8 @@ pub struct IntoSlots;
 
 impl<T: Drop> Puts<T> for IntoSlots {
     ghost placed = { λ _ _. Unit {0} };
+
+    ghost stood = { λ _ _. Unit {0} };
 
     #[inline(always)]
     fn put(claim: Claim<'_, Option<Held<T>>>, held: Held<T>, word: u64)
@@ -111,7 +127,24 @@ impl<T: Drop> Puts<T> for IntoSlots {
     {
         let _ = claim.put(Some(held), word);
     }
+
+    #[inline(always)]
+    fn take_out<'a>(
+        claim: Claim<'a, Option<Held<T>>>,
+    ) -> (Claim<'a, Option<Held<T>>>, Option<Held<T>>)
+        requires { claim.right ≡ 2 }
+        ensures claim { (result.0.right ≡ 2) × (result.0.tag ≡ claim.entry.tag) }
+        ensures fits { IfSome result.1 (λ held. held.name.slot ≡ claim.entry.tag) }
+        ensures stood { IfSome result.1 (λ held. Unit {0}) }
+    {
+        replace(claim, None)
+    }
 }
+
+/// Tells which [`Puts`] puts a value back that was lent for writing. There is only this impl, so no caller names it.
+pub trait HasPuts<P> {}
+
+impl<T> HasPuts<IntoSlots> for T {}
 
 /// Why a try to claim a cell gave nothing.
 #[derive(Clone, Copy, PartialEq, Eq)]
@@ -207,14 +240,19 @@ impl<'a, T: Drop> Writing<'a, T> {
     }
 
     /// Puts the value back beside its own name, and ends the writing.
-    pub fn leave(self) {
+    pub fn leave<P: Puts<T>>(self)
+    where
+        T: HasPuts<P>,
+        // A value that was lent for writing, and may have been changed, is put back beside the name that was asked for.
+        ensures { P.placed self.entry.held.value.value self.entry.name }
+    {
         let Self {
             claim,
             held,
             name: _,
         } = self;
         let word = word_of(held.name.turn(), PRESENT);
-        let _ = claim.put(Some(held), word);
+        P::put(claim, held, word);
     }
 }
 
@@ -314,7 +352,7 @@ pub fn try_read<'a, T: Drop>(slot: &'a Slot<T>, name: Name) -> Result<Reading<'a
 // Tries once to claim the slot of the value of this name, whose word is `taken` from then on, and takes the value out.
 // The claim goes on.
 #[inline(always)]
-fn try_claim<'a, T: Drop>(
+fn try_claim<'a, T: Drop, P: Puts<T>>(
     slot: &'a Slot<T>,
     name: Name,
     taken: u64,
@@ -322,6 +360,7 @@ fn try_claim<'a, T: Drop>(
     requires { taken % 4 ≡ 3 }
     ensures claim { IfOk result (λ claimed. (claimed.0.right ≡ 2) × (claimed.0.tag ≡ slot.now)) }
     ensures named { IfOk result (λ claimed. claimed.1.name ≡ name) }
+    ensures stood { IfOk result (λ claimed. P.stood claimed.1.value.value name) }
 {
     // The word isn't looked at first: the exchange would wait for that, and a value is seldom held or gone.
     let present = word_of(name.turn(), PRESENT);
@@ -330,7 +369,7 @@ fn try_claim<'a, T: Drop>(
         claim.done();
         return Err(miss_of(found, name));
     }
-    let (claim, content) = replace(claim, None);
+    let (claim, content) = P::take_out(claim);
     match content {
         Some(held) => {
             if held.name == name {
@@ -348,17 +387,18 @@ fn try_claim<'a, T: Drop>(
 /// Tries once to take the value of this name out. Its slot comes as a room for the next value, or is retired if this
 /// was its last turn.
 #[inline(always)]
-pub fn try_take<'a, T: Drop>(
+pub fn try_take<'a, T: Drop, P: Puts<T>>(
     slot: &'a Slot<T>,
     name: Name,
 ) -> Result<(Held<T>, Option<Room<'a, T>>), Miss>
     requires numbered { slot.now ≡ name.slot }
     ensures named { IfOk result (λ taken. taken.0.name ≡ name) }
+    ensures stood { IfOk result (λ taken. P.stood taken.0.value.value name) }
     ensures next { IfOk result (λ taken. IfSome taken.1
         (λ room. (room.name.slot ≡ name.slot) × (room.name.turn ≡ name.turn + 1))) }
 {
     // At once of the next turn, so that from here on the value is gone for all callers.
-    match try_claim(slot, name, word_of(name.turn().wrapping_add(1), TAKEN)) {
+    match try_claim::<T, P>(slot, name, word_of(name.turn().wrapping_add(1), TAKEN)) {
         Ok((claim, held)) => Ok((held, room_after(claim, name))),
         Err(miss) => Err(miss),
     }
@@ -425,11 +465,15 @@ fn room_after<'a, T: Drop>(claim: Claim<'a, Option<Held<T>>>, name: Name) -> Opt
 
 /// Tries once to claim the value of this name for writing.
 #[inline(always)]
-pub fn try_write<'a, T: Drop>(slot: &'a Slot<T>, name: Name) -> Result<Writing<'a, T>, Miss>
+pub fn try_write<'a, T: Drop, P: Puts<T>>(
+    slot: &'a Slot<T>,
+    name: Name,
+) -> Result<Writing<'a, T>, Miss>
     requires numbered { slot.now ≡ name.slot }
-    ensures { IfOk result (λ writing. writing.name ≡ name) }
+    ensures named { IfOk result (λ writing. writing.name ≡ name) }
+    ensures stood { IfOk result (λ writing. P.stood writing.held.value.value name) }
 {
-    match try_claim(slot, name, word_of(name.turn(), TAKEN)) {
+    match try_claim::<T, P>(slot, name, word_of(name.turn(), TAKEN)) {
         Ok((claim, held)) => Ok(Writing { claim, held, name }),
         Err(miss) => Err(miss),
     }
