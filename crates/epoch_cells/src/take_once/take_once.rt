@@ -40,7 +40,7 @@ impl<V> TakeOnce<V> {
     /// Makes a slot with this value in it.
     #[inline(always)]
     pub fn new(value: V) -> TakeOnce<V>
-        // What is taken out is what was put in. Nothing is taken out of a slot that was made empty.
+        // A slot is known by the value that it was made with, also after the value was taken.
         ensures { result ≡ Some value }
     {
         let value = Some(value);
@@ -64,6 +64,7 @@ impl<V> TakeOnce<V> {
     /// Takes the value out. `None`: it was taken before, or another thread is taking it.
     #[inline(always)]
     pub fn take(&self) -> Option<V>
+        // What is taken out is what was put in. Nothing is taken out of a slot that was made empty.
         ensures { IfSome result (λ value. self.now ≡ Some value) }
     {
         let (found, claim) = self.slot.turn(FREE, TAKEN);
