@@ -14,6 +14,7 @@ pub use epoch_cells::take_once::TakeOnce;
 pub use epoch_cells::{Cells, Fault, Name, Reading, Refused, Writing};
 pub use epoch_handles::structures::{is_under, serves};
 pub use epoch_handles::{Capacities, Collector, Guard, LocalHandle, Paused, Released, unprotected};
+pub use epoch_tables::Seated;
 pub use epoch_tables::ends::{AtEnd, end_next};
 pub use removals::{defer_removal, make_room};
 
@@ -33,7 +34,7 @@ pub mod queue {
         BagQueue, BagStore, MOST_BAGS, Places, PutCursor, PutStep, TakeCursor, TakeStep, take_some,
     };
     pub use epoch_tables::shared_places::{
-        ClosedPlaces, MOST_PLACES, PlaceRule, PlaceSeat, PlaceView, SharedPlaces,
+        ClosedPlaces, MOST_PLACES, PlaceRule, PlaceSeat, PlaceView, SharedPlaces, UnsharedPlaces,
         closed_places_hold_the_rest, no_bag_is_lost,
     };
 }

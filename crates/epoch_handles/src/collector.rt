@@ -75,7 +75,7 @@ pub struct Collector<T, W = Work> {
     // such as a pointer that threads exchange, if the collector begins at a multiple of 16 bytes. One word more, and
     // the places' address would be beyond the first 128 bytes, where a load of it is three bytes longer.
     before: [u64; 6],
-    pub(crate) participants: Participants,
+    pub(crate) participants: Participants<Job<W>>,
     pub(crate) places: SharedPlaces<Job<W>>,
     pub(crate) id: u64,
     pub(crate) cells: Cells<T>,
@@ -179,7 +179,7 @@ impl<T: Drop, W: AtEnd<T>> Collector<T, W> {
             sizes: _,
             after: _,
         } = self;
-        let mut left = W::close(places);
+        let mut left = W::close(places.unshare());
         let count = end_left(&cells, &mut left);
         left.free();
         count

@@ -2,5 +2,8 @@
 #![tactic(auto)]
 
 pub mod ends;
+mod seated;
 pub mod shared_places;
 pub mod table;
+
+pub use seated::Seated;

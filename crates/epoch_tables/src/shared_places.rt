@@ -9,7 +9,7 @@ mod plays;
 mod steps;
 mod view;
 
-pub use closed::ClosedPlaces;
+pub use closed::{ClosedPlaces, UnsharedPlaces};
 pub use laws::{closed_places_hold_the_rest, no_bag_is_lost};
 pub use places::{MOST_PLACES, PlaceRule, PlaceSeat, SharedPlaces};
 pub use view::PlaceView;

@@ -1,12 +1,13 @@
 //! The participants' table, on one thread.
 ghost use Rattle.std.specs.Prelude.{◌≡◌, ◌<◌};
 
+use crate::shared_places::Number;
 use crate::wants::{want, want_word};
 use epoch::table::Participants;
 use std::process::Abort;
 
 /// The word that another participant's claim of the position finds. If it is 0, the position is claimed.
-pub(crate) fn claimed(table: &Participants, position: usize) -> u64
+pub(crate) fn claimed(table: &Participants<Number>, position: usize) -> u64
     requires { position < table.now.positions }
 {
     let mut seat = table.seat();
@@ -14,7 +15,7 @@ pub(crate) fn claimed(table: &Participants, position: usize) -> u64
 }
 
 /// The word of the epoch.
-pub(crate) fn epoch_word(table: &Participants) -> u64 {
+pub(crate) fn epoch_word(table: &Participants<Number>) -> u64 {
     let mut seat = table.seat();
     table.load_epoch_word(&mut seat)
 }
@@ -23,12 +24,12 @@ pub(crate) fn epoch_word(table: &Participants) -> u64 {
 // pinned, and 2e + 1 for one that is pinned in e.
 #[test]
 fn the_words_say_who_is_registered_and_pinned(rt: HostRuntime) {
-    let table = Participants::new(rt.alloc(), 3).expect(&rt, "memory");
+    let table: Participants<Number> = Participants::new(rt.alloc(), 3).expect(&rt, "memory");
     come_and_go(&rt, &table);
 }
 
 /// A participant claims a position, pins in epoch 0, unpins and leaves.
-fn come_and_go(rt: &impl Abort, table: &Participants)
+fn come_and_go(rt: &impl Abort, table: &Participants<Number>)
     requires { 0 < table.now.positions }
 {
     let mut seat = table.seat();
@@ -44,12 +45,12 @@ fn come_and_go(rt: &impl Abort, table: &Participants)
 
 #[test]
 fn one_participant_scans_itself_and_advances_the_epoch(rt: HostRuntime) {
-    let table = Participants::new(rt.alloc(), 1).expect(&rt, "memory");
+    let table: Participants<Number> = Participants::new(rt.alloc(), 1).expect(&rt, "memory");
     scan_twice(&rt, &table);
 }
 
 /// A participant pins in epoch 0 and scans, which stores epoch 1, and then scans for that epoch.
-fn scan_twice(rt: &impl Abort, table: &Participants)
+fn scan_twice(rt: &impl Abort, table: &Participants<Number>)
     requires { table.now.positions ≡ 1 }
 {
     let mut seat = table.seat();

@@ -2,7 +2,7 @@
 ghost use Rattle.std.specs.Prelude.{◌≡◌, ◌<◌, Some};
 ghost use Rattle.epoch_tables.specs.Table.{IsOf, IsSameSeat};
 
-use crate::shared_places::{put_at, take_at, two_jobs};
+use crate::shared_places::{Number, next_number, put_at, take_at, two_jobs};
 use crate::tables::{claimed, epoch_word};
 use crate::threads::{Work, count, counts_of, ones_and_more, side_by_side};
 use crate::wants::want;
@@ -16,7 +16,7 @@ use std::thread;
 
 /// Pins, scans all words for the epoch read then, and stores the next one where no word holds the scan up. Returns the
 /// epoch then.
-fn pin_and_advance(table: &Participants, seat: &mut ParticipantSeat, position: usize) -> u64
+fn pin_and_advance(table: &Participants<Number>, seat: &mut ParticipantSeat, position: usize) -> u64
     requires of { IsOf table.now seat.old }
     requires own { (seat.old.me.0.position ≡ Some position) × (position < table.now.positions) }
     ensures kept { IsSameSeat seat.old seat.new }
@@ -39,7 +39,7 @@ fn pin_and_advance(table: &Participants, seat: &mut ParticipantSeat, position: u
 }
 
 /// Claims the position, pins, tries to advance, unpins and frees it. Returns whether the claim was won.
-fn visit(table: &Participants, position: usize, greatest: &AtomicU64) -> bool
+fn visit(table: &Participants<Number>, position: usize, greatest: &AtomicU64) -> bool
     requires { position < table.now.positions }
 {
     let mut seat = table.seat();
@@ -55,7 +55,7 @@ fn visit(table: &Participants, position: usize, greatest: &AtomicU64) -> bool
 /// What participants share: their table, and the greatest epoch that one of them has read or stored.
 #[derive(Drop)]
 struct Visits<'a> {
-    table: &'a Participants,
+    table: &'a Participants<Number>,
     greatest: &'a AtomicU64,
 }
 
@@ -79,7 +79,7 @@ impl Work for Visits<'_> {
 }
 
 /// How many positions a new seat can claim.
-fn free_positions(table: &Participants) -> u64 {
+fn free_positions(table: &Participants<Number>) -> u64 {
     let mut free: u64 = 0;
     for position in 0..table.positions() {
         if claimed(table, position) == 0 {
@@ -92,7 +92,7 @@ fn free_positions(table: &Participants) -> u64 {
 // Of 8000 scans each raises the epoch by one at most, and the first raises it.
 #[test]
 fn participants_at_once_leave_all_words_free(rt: HostRuntime) {
-    let table = Participants::new(rt.alloc(), 3).expect(&rt, "memory");
+    let table: Participants<Number> = Participants::new(rt.alloc(), 3).expect(&rt, "memory");
     let greatest = AtomicU64::new(0);
     let visits = Visits {
         table: &table,
@@ -111,7 +111,7 @@ fn participants_at_once_leave_all_words_free(rt: HostRuntime) {
 }
 
 /// Puts the bag into the first place that takes it, and answers whether one did.
-fn put(places: &SharedPlaces<u64>, bag: SealedBag<u64>) -> bool {
+fn put(places: &SharedPlaces<Number>, bag: SealedBag<Number>) -> bool {
     let mut held = bag;
     for place in 0..places.capacity() {
         match put_at(places, place, held) {
@@ -125,7 +125,7 @@ fn put(places: &SharedPlaces<u64>, bag: SealedBag<u64>) -> bool {
 /// What threads share that put bags or call jobs: the places, the calls of each job, and how many bags found no place.
 #[derive(Drop)]
 struct Jobs<'a> {
-    places: &'a SharedPlaces<u64>,
+    places: &'a SharedPlaces<Number>,
     calls: &'a [AtomicU64],
     refused: &'a AtomicU64,
 }
@@ -141,10 +141,10 @@ impl Jobs<'_> {
     }
 
     /// Calls the two jobs of the bag.
-    fn call_two(&self, bag: SealedBag<u64>) {
+    fn call_two(&self, bag: SealedBag<Number>) {
         let mut jobs = bag;
         for _ in 0..2 {
-            if let Some(job) = jobs.take_next() {
+            if let Some(job) = next_number(&mut jobs) {
                 count(self.calls, job);
             }
         }
@@ -179,7 +179,7 @@ impl Work for Jobs<'_> {
 
 #[test]
 fn jobs_of_several_threads_are_each_called_once(rt: HostRuntime) {
-    let places: SharedPlaces<u64> = SharedPlaces::new(rt.alloc(), 16).expect(&rt, "memory");
+    let places: SharedPlaces<Number> = SharedPlaces::new(rt.alloc(), 16).expect(&rt, "memory");
     let refused = AtomicU64::new(0);
     let calls = counts_of(&rt, rt.alloc(), 32);
     let jobs = Jobs {

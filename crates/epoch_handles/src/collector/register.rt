@@ -10,8 +10,9 @@ use crate::rooms::OwnRooms;
 use epoch_bags::Run;
 use epoch_cells::Fault;
 use epoch_machine::Machine;
+use epoch_tables::Seated;
 
-impl<T: Drop, W: Run> Collector<T, W> {
+impl<T: Drop, W: Run + Seated> Collector<T, W> {
     /// Registers a new participant, which isn't pinned and has an empty bag. Each position is tried once, from 0 up.
     ///
     /// `TableFull`: each position was seen taken, and nothing was done. As `Collector::register` of crossbeam-epoch,

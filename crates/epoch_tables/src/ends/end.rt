@@ -10,7 +10,7 @@ ghost use Rattle.epoch_tables.specs.SharedPlaces.{PlaceBoard};
 ghost use Rattle.epoch_tables.specs.ClosedPlaces.{AreLast};
 ghost use Rattle.epoch_tables.specs.Ends.{jobs_in, jobs_of, IsBagCalled, EndsNext};
 
-use crate::shared_places::{ClosedPlaces, SharedPlaces};
+use crate::shared_places::{ClosedPlaces, UnsharedPlaces};
 use epoch_bags::{FromCells, Job, Remove, Run, SealedBag, Work};
 use epoch_cells::Cells;
 use std::mem;
@@ -21,8 +21,8 @@ pub trait AtEnd<T>: Run {
     /// The places had these contents when they were closed. If the type is a parameter, nothing but `close` shows it.
     ghost closed: { PlaceBoard → List (Option (Sealed (Job Self))) → Type 0 };
 
-    /// Closes the places, by [`SharedPlaces::close`].
-    fn close(places: SharedPlaces<Job<Self>>) -> ClosedPlaces<Job<Self>>
+    /// Closes the places, by [`UnsharedPlaces::close`].
+    fn close(places: UnsharedPlaces<Job<Self>>) -> ClosedPlaces<Job<Self>>
     where
         Self: Sized,
         // The end of a collector holds for every work type that implements `AtEnd`. Nothing but the close shows what
@@ -41,7 +41,7 @@ pub trait AtEnd<T>: Run {
 impl<T: Drop> AtEnd<T> for Work {
     ghost closed = { λ board left. AreLast board.capacity left };
 
-    fn close(places: SharedPlaces<Job>) -> ClosedPlaces<Job>
+    fn close(places: UnsharedPlaces<Job>) -> ClosedPlaces<Job>
         ensures closed { AreLast places.capacity result }
     {
         places.close()

@@ -34,8 +34,30 @@ impl<J> Model for ClosedPlaces<J> {
     } };
 }
 
+/// Places that no thread shares any more, whose contents are as they were. They can only be closed.
+pub struct UnsharedPlaces<J> {
+    places: SharedPlaces<J>,
+}
+
+impl<J> Model for UnsharedPlaces<J> {
+    ghost use Rattle.epoch_tables.specs.SharedPlaces.{PlaceBoard};
+
+    ghost Value = { PlaceBoard };
+
+    ghost view = { λ a. a.places };
+}
+
 impl<J> SharedPlaces<J> {
-    /// Ends the sharing, and returns what is left in the places.
+    /// Ends the sharing. No further step is taken at the places.
+    pub fn unshare(self) -> UnsharedPlaces<J>
+        ensures { result ≡ self }
+    {
+        UnsharedPlaces { places: self }
+    }
+}
+
+impl<J> UnsharedPlaces<J> {
+    /// Returns what is left in the places.
     ///
     /// A caller that names the type of its jobs has nothing to show: the checker shows by itself that their bags fit in
     /// memory.
@@ -44,7 +66,8 @@ impl<J> SharedPlaces<J> {
         // What is left in closed places is, place by place, what stood there in a last state, which meets the rule.
         ensures { AreLast self.capacity result }
     {
-        let SharedPlaces { table, capacity: _ } = self;
+        let UnsharedPlaces { places } = self;
+        let SharedPlaces { table, capacity: _ } = places;
         ClosedPlaces {
             closed: table.close(),
             next: 0,

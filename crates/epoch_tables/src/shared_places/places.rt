@@ -4,6 +4,7 @@ ghost use Rattle.std.specs.Mem.{type_size};
 ghost use Rattle.epoch_tables.specs.SharedPlaces.{PlacesAgree, place_words_for, IsPlaceSeatOf, with_claim};
 ghost use Rattle.epoch_cells.specs.declared.fault.Fault.TheVariants.{NoMemory};
 
+use crate::seated::Seated;
 use crate::shared_places::plays::PlaceSit;
 use crate::shared_places::view::PlaceView;
 use atomic_table::{Seat, Table, TableRule};
@@ -99,7 +100,9 @@ impl<J> SharedPlaces<J> {
     {
         self.capacity
     }
+}
 
+impl<J: Seated> SharedPlaces<J> {
     /// Makes a seat, which has claimed no place. Making it loads a word.
     pub fn seat(&self) -> PlaceSeat<J>
         ensures of { IsPlaceSeatOf self.now result }

@@ -4,20 +4,23 @@ ghost use Rattle.epoch_tables.specs.Table.{EpochsAgree, words_for, IsOf};
 ghost use Rattle.epoch_tables.specs.TableSteps.{spent, without_position};
 ghost use Rattle.epoch_cells.specs.declared.fault.Fault.TheVariants.{NoMemory};
 
+use crate::seated::Seated;
 use crate::table::plays::PositionSit;
 use crate::table::view::ParticipantView;
 use atomic_table::{Seat, Table, TableRule};
 use epoch_cells::Fault;
 use std::alloc::Global;
-use std::marker::Model;
+use std::marker::{Model, PhantomData};
 
 /// How many positions a table has at most.
 pub const MOST_POSITIONS: usize = 4096;
 
 /// The rule that holds between any two steps on the table.
-pub struct EpochRule;
+pub struct EpochRule<J> {
+    jobs: PhantomData<J>,
+}
 
-impl TableRule<(), ParticipantView, u64> for EpochRule {
+impl<J> TableRule<(), ParticipantView, u64> for EpochRule<J> {
     ghost holds = { EpochsAgree };
 
     ghost first = { λ _. spent };
@@ -26,16 +29,17 @@ impl TableRule<(), ParticipantView, u64> for EpochRule {
 /// A seat at the participants' table: what a thread takes its steps with. It has no bytes.
 pub type ParticipantSeat = Seat<(), ParticipantView>;
 
-/// The participants' table: a word for the epoch, and a word for each position.
+/// The participants' table: a word for the epoch, and a word for each position. Its participants defer jobs of this
+/// type.
 ///
 /// Threads share it by `&`. Each step is one atomic instruction, and none waits or takes memory.
 #[derive(Drop)]
-pub struct Participants {
-    pub(crate) table: Table<(), ParticipantView, u64, EpochRule, Global>,
+pub struct Participants<J> {
+    pub(crate) table: Table<(), ParticipantView, u64, EpochRule<J>, Global>,
     positions: usize,
 }
 
-impl Model for Participants {
+impl<J> Model for Participants<J> {
     ghost use Rattle.std.specs.Prelude.{◌≡◌, ◌<◌, ◌≤◌};
     ghost use Rattle.epoch_tables.specs.Table.{Board, words_for};
 
@@ -51,12 +55,12 @@ impl Model for Participants {
     } };
 }
 
-impl Participants {
+impl<J> Participants<J> {
     /// Makes a table with this many positions, from 1 to [`MOST_POSITIONS`], all free. Its epoch is 0, as
     /// [`each_epoch_is_stored`](crate::table::each_epoch_is_stored) says.
     ///
     /// `NoMemory`: an allocation was refused, and nothing was made.
-    pub fn new(alloc: Global, positions: usize) -> Result<Participants, Fault>
+    pub fn new(alloc: Global, positions: usize) -> Result<Participants<J>, Fault>
         requires some { 0 < positions }
         requires most { positions ≤ MOST_POSITIONS }
         ensures ok { IfOk result (λ table. table.positions ≡ positions) }
@@ -79,7 +83,9 @@ impl Participants {
     {
         self.positions
     }
+}
 
+impl<J: Seated> Participants<J> {
     /// Makes a seat, which has no position. Making it loads the epoch.
     pub fn seat(&self) -> ParticipantSeat
         ensures of { IsOf self.now result }

@@ -19,7 +19,7 @@ fn word_index(position: usize) -> usize
     16 * position + 16
 }
 
-impl Participants {
+impl<J> Participants<J> {
     /// Loads the epoch's word, which is twice the epoch, and no lower than any that this seat has seen.
     pub fn load_epoch_word(&self, seat: &mut ParticipantSeat) -> u64
         requires of { IsOf self.now seat.old }

@@ -4,7 +4,7 @@ use Rattle.epoch_tables.proofs.EpochStores.{epoch_store_keeps}
 use Rattle.epoch_tables.proofs.table.participants.Participants.advance.Goals as goal
 
 pub store-requires : goal.store-requires
-store-requires c =
+store-requires g c =
     let same : c.self.inside.positions ≡ c.args.self.now.positions = ap (λ (b : Board). b.positions) c.self.view_is in
     let key : c.args.self.now.positions ≡ c.self.inside.table.shared.key = sym (c.self.invariant.key ∙ same) in
     let wide = c.self.invariant.words in (
@@ -14,7 +14,7 @@ store-requires c =
     )
 
 pub returns-clause-ahead : goal.returns-clause-ahead
-returns-clause-ahead c = (c.store.ensures.2.1 (c.args.epoch + 1) refl).0
+returns-clause-ahead g c = (c.store.ensures.2.1 (c.args.epoch + 1) refl).0
 
 pub returns-clause-view : goal.returns-clause-view
-returns-clause-view c = (c.store.ensures.2.1 (c.args.epoch + 1) refl).1
+returns-clause-view g c = (c.store.ensures.2.1 (c.args.epoch + 1) refl).1

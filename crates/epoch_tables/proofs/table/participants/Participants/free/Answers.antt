@@ -4,7 +4,7 @@ use Rattle.epoch_tables.proofs.OwnStores.{free_keeps}
 use Rattle.epoch_tables.proofs.table.participants.Participants.free.Goals as goal
 
 pub store-requires : goal.store-requires
-store-requires c =
+store-requires g c =
     let same : c.self.inside.positions ≡ c.args.self.now.positions = ap (λ (b : Board). b.positions) c.self.view_is in
     let wide = c.self.invariant.words in
     let below = c.requires.own.1 in
