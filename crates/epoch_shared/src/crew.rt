@@ -1,5 +1,8 @@
 //! What threads do that share something.
+use crate::channel::SharedChannel;
+use crate::map::SharedMap;
 use crate::value::SharedValue;
+use epoch_map::MapKey;
 
 /// What threads do that share one value, of type `T`. Threads share the crew by `&`, so what they count stands in
 /// atomics.
@@ -15,4 +18,33 @@ pub trait ValueCrew<T> {
 
     /// What is done when all threads are done.
     fn after(&self, _value: &mut impl SharedValue<T>) {}
+}
+
+/// What threads do that share a value of type `T`, a map from `K` to `V`, and a channel of `M`. What they have no use
+/// for is of type `()`, or `u64` if it is a key.
+pub trait Crew<T, K: MapKey, V, M> {
+    /// What is done before the threads are started.
+    fn before(
+        &self,
+        _value: &mut impl SharedValue<T>,
+        _map: &mut impl SharedMap<K, V>,
+        _channel: &mut impl SharedChannel<M>,
+    ) {}
+
+    /// What the thread of this number does. The first one has number 0.
+    fn thread(
+        &self,
+        number: usize,
+        value: &mut impl SharedValue<T>,
+        map: &mut impl SharedMap<K, V>,
+        channel: &mut impl SharedChannel<M>,
+    );
+
+    /// What is done when all threads are done.
+    fn after(
+        &self,
+        _value: &mut impl SharedValue<T>,
+        _map: &mut impl SharedMap<K, V>,
+        _channel: &mut impl SharedChannel<M>,
+    ) {}
 }

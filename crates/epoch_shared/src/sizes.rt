@@ -24,3 +24,14 @@ pub(crate) fn cells_for(values: u32, threads: u16) -> u32
     let for_threads = (threads as u32 + 1) * FOR_EACH_THREAD;
     values.saturating_add(for_threads).min(MOST_SLOT)
 }
+
+/// How large shared structures are.
+#[derive(Clone, Copy, Debug, PartialEq, Eq)]
+pub struct SharedSizes {
+    /// How many threads are started.
+    pub threads: u16,
+    /// How many entries the map has at a time.
+    pub entries: u32,
+    /// How many messages wait in the channel at a time.
+    pub messages: u32,
+}
