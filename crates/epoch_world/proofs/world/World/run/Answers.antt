@@ -101,7 +101,7 @@ pub returns-clause-loaded : goal.returns-clause-loaded
 returns-clause-loaded g c fresh earlier new run whole leaves = loaded_stand fresh _ _ new whole leaves
 
 pub returns-clause-met : goal.returns-clause-met
-returns-clause-met g c fresh earlier new run tests whole = every_run_keeps_met (tested tests) fresh _ _ whole
+returns-clause-met g c fresh earlier new run tests whole = every_run_keeps_met (tested tests) fresh _ _ new whole
 
 pub returns-clause-given : goal.returns-clause-given
 returns-clause-given g c fresh earlier new run whole = no_name_twice fresh _ _ whole
