@@ -14,7 +14,7 @@ pub trait Remove {
 
     /// Tries to remove the value of this name, as [`Cells::remove`] does.
     fn remove<T: Drop>(cells: &Cells<T>, name: Name) -> Removal
-        // A removal that is called was tried. Nothing but its own trial shows this.
+        // A call of a removal attempts it. Nothing but the attempt itself shows this.
         ensures tried { tried name };
 
     /// Tries the same, as [`Cells::remove_near`] does, which adds the slot to those that were given free.

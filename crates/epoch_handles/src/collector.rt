@@ -167,7 +167,7 @@ impl<T: Drop, W: AtEnd<T>> Collector<T, W> {
     /// a collector does this by dropping it.
     pub fn end(self) -> u64
         // The end of a collector closes its places, and calls each job of each bag that they had then: the work was
-        // called, or the removal was tried. It returns how many jobs these are.
+        // called, or the removal attempted. It returns how many jobs these are.
         ensures called { CallsAllLeft W.closed W.done W.Removing.tried self.places result }
     {
         let Collector {

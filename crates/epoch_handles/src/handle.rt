@@ -439,7 +439,7 @@ impl<'c, T: Drop, W: Run> LocalHandle<'c, T, W> {
         ensures does { IfErr result (λ back. Does self.entry Release back.0) }
 
         // For each job that the machine gave to be called in a pin, a resume, a flush or a release, the work was
-        // called, or the removal was tried.
+        // called, or the removal attempted.
         ensures called { IfErr result (λ back. DoesAndCalls W.done W.Removing.tried self.entry Release back.0) }
 
         ensures ready { IfErr result (λ back. IsReady back.0) }
