@@ -1,6 +1,7 @@
 //! What threads do that share something.
 use crate::channel::SharedChannel;
 use crate::map::SharedMap;
+use crate::stack::SharedStack;
 use crate::value::SharedValue;
 use epoch_map::MapKey;
 
@@ -18,6 +19,18 @@ pub trait ValueCrew<T> {
 
     /// What is done when all threads are done.
     fn after(&self, _value: &mut impl SharedValue<T>) {}
+}
+
+/// What threads do that share a stack of `V`, as those of a [`ValueCrew`] do.
+pub trait StackCrew<V> {
+    /// What is done before the threads are started.
+    fn before(&self, _stack: &mut impl SharedStack<V>) {}
+
+    /// What the thread of this number does. The first one has number 0.
+    fn thread(&self, number: usize, stack: &mut impl SharedStack<V>);
+
+    /// What is done when all threads are done.
+    fn after(&self, _stack: &mut impl SharedStack<V>) {}
 }
 
 /// What threads do that share a value of type `T`, a map from `K` to `V`, and a channel of `M`. What they have no use

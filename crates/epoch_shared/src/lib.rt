@@ -1,4 +1,4 @@
-//! A value, a map and a channel that threads share, each ready to use.
+//! A value, a map, a channel and a stack that threads share, each ready to use.
 #![tactic(auto)]
 
 mod channel;
@@ -7,18 +7,22 @@ mod hashed;
 mod leaving;
 mod map;
 mod sharing;
+mod sharing_stack;
 mod sharing_three;
 mod sizes;
+mod stack;
 mod start;
 mod value;
 
 pub use channel::SharedChannel;
-pub use crew::{Crew, ValueCrew};
+pub use crew::{Crew, StackCrew, ValueCrew};
 pub use epoch_cells::{Fault, Refused};
 pub use epoch_map::MapKey;
 pub use hashed::Hashed;
 pub use map::SharedMap;
 pub use sharing::share_value;
+pub use sharing_stack::share_stack;
 pub use sharing_three::share;
 pub use sizes::SharedSizes;
+pub use stack::SharedStack;
 pub use value::SharedValue;

@@ -1,6 +1,7 @@
 //! A map, whose entries are read all the time, inserted and removed.
 ghost use Rattle.std.specs.Prelude.{◌≡◌, ◌⊎◌, None, Some, Ok, IsSome, IfErr, IfOk, IfSome};
-ghost use Rattle.std.specs.Fn.{FnOnceReturnsAt};
+ghost use Rattle.std.specs.Fn.{FnOnceReturnsAt, FnReturnsAt};
+ghost use Rattle.std.specs.declared.cmp.Ordering.TheVariants.{Equal};
 ghost use Rattle.epoch_map.specs.Entries.{lent_key, lent_value};
 ghost use Rattle.epoch_map.specs.Giving.{HandsBack};
 ghost use Rattle.epoch_cells.specs.declared.fault.Fault.TheVariants.{CellsFull, NoMemory, TableFull, TriesOut};
@@ -24,7 +25,7 @@ const MOVES: u32 = 100_000_000;
 const MOVES_ALONE: u32 = 10_000;
 
 /// One thread's calls of a map that threads share. A call pins for as long as it lasts, and for no longer.
-pub trait SharedMap<K, V> {
+pub trait SharedMap<K: MapKey, V> {
     /// Looks at the value of this key, and returns what `look` makes of it. `None`: the key was seen missing.
     ///
     /// It writes nothing that threads share, except that the thread is pinned, unless it comes again and again to an
@@ -38,10 +39,10 @@ pub trait SharedMap<K, V> {
         look: F,
     ) -> Result<Option<R>, Fault>
         requires { F.IsAlwaysCallable look }
-        // What a look-up returns is what its closure returned at some value. A call is refused only with `NoMemory` or
-        // `TriesOut`, and an insert with `CellsFull`, too.
-        ensures given { IfOk result (λ seen. IfSome seen
-            (λ made. (value : V) × FnOnceReturnsAt F.FnOnce look value made)) }
+        // What a look-up returns is what its closure returned at the value of an entry whose key compares as equal to
+        // the one asked for. A call is refused only with `NoMemory` or `TriesOut`, and an insert with `CellsFull`, too.
+        ensures given { IfOk result (λ seen. IfSome seen (λ made. (there : K) × (value : V)
+            × (K.cmp there key.now ≡ Equal) × FnOnceReturnsAt F.FnOnce look value made)) }
         ensures refused { IfErr result (λ fault. (fault ≡ NoMemory) ⊎ (fault ≡ TriesOut)) };
 
     /// Returns whether the key has a value. The faults are those of [`SharedMap::get`].
@@ -73,8 +74,9 @@ pub trait SharedMap<K, V> {
     ) -> Result<Option<R>, Refused<Option<(K, V)>>>
         requires make { M.IsAlwaysCallable make }
         requires look { F.IsAlwaysCallable look }
-        // A look-up that inserts returns `None` only if no value was made. What it hands back has the key that it was
-        // given.
+        // A look-up that inserts returns what `look` returned at some value, or `None` only if no value was made. What
+        // it hands back has the key that it was given.
+        ensures given { IfOk result (λ seen. IfSome seen (λ made. (value : V) × FnReturnsAt F.Fn look value made)) }
         ensures none { result ≡ Ok None → M.post make None }
         ensures handed_back { IfErr result (λ back. IfSome back.value (λ pair. pair.0 ≡ key)) }
         ensures refused { IfErr result (λ back. (back.fault ≡ NoMemory) ⊎ (back.fault ≡ CellsFull)
@@ -224,21 +226,23 @@ impl<'a, 'q, 's, J: PostSet, N: KeepsEntry> MapHold<'a, 'q, 's, J, N> {
         ensures refused { IfErr result (λ back. (back.fault ≡ NoMemory) ⊎ (back.fault ≡ CellsFull)
             ⊎ (back.fault ≡ TriesOut)) }
     {
-        match self.insert_or_see(pair, |_there| true) {
+        match self.insert_or_see(pair, &|_there| true) {
             Ok(there) => Ok(there.is_none()),
             Err(refused) => Err(refused),
         }
     }
 
     // Gives the key what `make` returns; or, if it has a value meanwhile, looks at that.
-    fn make_entry<R: Drop, M: FnOnce() -> Option<N::Value> + Drop, F: Fn(&N::Value) -> R + Drop>(
+    fn make_entry<R: Drop, M: FnOnce() -> Option<N::Value> + Drop, F: Fn(&N::Value) -> R>(
         &mut self,
         key: N::Key,
         make: M,
-        look: F,
+        look: &F,
     ) -> Result<Option<R>, Refused<Option<(N::Key, N::Value)>>>
         requires make { M.IsAlwaysCallable make }
-        requires look { F.IsAlwaysCallable look }
+        requires look { F.IsAlwaysCallable look.now }
+        ensures given { IfOk result (λ seen. IfSome seen
+            (λ made. (value : N.Value) × FnReturnsAt F.Fn look.now value made)) }
         ensures none { result ≡ Ok None → M.post make None }
         ensures handed_back { IfErr result (λ back. IfSome back.value (λ pair. pair.0 ≡ key)) }
         ensures refused { IfErr result (λ back. (back.fault ≡ NoMemory) ⊎ (back.fault ≡ CellsFull)
@@ -249,20 +253,40 @@ impl<'a, 'q, 's, J: PostSet, N: KeepsEntry> MapHold<'a, 'q, 's, J, N> {
             return Ok(None);
         };
         let own = look(&value);
-        match self.insert_or_see((key, value), &look) {
+        match self.insert_or_see((key, value), look) {
             Ok(Some(there)) => Ok(Some(there)),
             Ok(None) => Ok(Some(own)),
             Err(refused) => Err(refused),
         }
     }
 
+    // Looks at the value of this key.
+    fn see<R: Drop, F: Fn(&N::Value) -> R>(
+        &mut self,
+        key: &N::Key,
+        look: &F,
+    ) -> Result<Option<R>, Fault>
+        requires { F.IsAlwaysCallable look.now }
+        ensures given { IfOk result (λ seen. IfSome seen
+            (λ made. (value : N.Value) × FnReturnsAt F.Fn look.now value made)) }
+        ensures refused { IfErr result (λ fault. (fault ≡ NoMemory) ⊎ (fault ≡ TriesOut)) }
+    {
+        let map = self.map;
+        let guard = self.session.pin();
+        let seen = see_in(map, &mut self.writer, &guard, key, look);
+        self.session.unpin(guard);
+        seen
+    }
+
     // Gives the key this value; or, if it has one, looks at that.
-    fn insert_or_see<R: Drop, F: FnOnce(&N::Value) -> R + Drop>(
+    fn insert_or_see<R: Drop, F: Fn(&N::Value) -> R>(
         &mut self,
         pair: (N::Key, N::Value),
-        look: F,
+        look: &F,
     ) -> Result<Option<R>, Refused<Option<(N::Key, N::Value)>>>
-        requires { F.IsAlwaysCallable look }
+        requires { F.IsAlwaysCallable look.now }
+        ensures given { IfOk result (λ seen. IfSome seen
+            (λ made. (value : N.Value) × FnReturnsAt F.Fn look.now value made)) }
         ensures handed_back { IfErr result (λ back. HandsBack pair back) }
         ensures refused { IfErr result (λ back. (back.fault ≡ NoMemory) ⊎ (back.fault ≡ CellsFull)
             ⊎ (back.fault ≡ TriesOut)) }
@@ -334,12 +358,12 @@ impl<J: PostSet, N: KeepsEntry> SharedMap<N::Key, N::Value> for MapHold<'_, '_, 
         make: M,
         look: F,
     ) -> Result<Option<R>, Refused<Option<(N::Key, N::Value)>>> {
-        match self.get(&key, &look) {
+        match self.see(&key, &look) {
             Ok(Some(seen)) => {
                 N::drop_key(key);
                 Ok(Some(seen))
             }
-            Ok(None) => self.make_entry(key, make, look),
+            Ok(None) => self.make_entry(key, make, &look),
             Err(fault) => {
                 N::drop_key(key);
                 Err(Refused { fault, value: None })
@@ -361,6 +385,24 @@ impl<J: PostSet, N: KeepsEntry> SharedMap<N::Key, N::Value> for MapHold<'_, '_, 
     }
 }
 
+// Looks for the entry of this key. If it comes again and again to entries that are being removed, it unlinks them.
+fn find<'g, 's, J: PostSet, N: KeepsEntry>(
+    map: &'g LendingMap<'_, 's, J, N>,
+    writer: &mut Writer<'_, 's, J, N>,
+    guard: &'g LendingGuard<'_, J>,
+    key: &N::Key,
+) -> Result<Option<&'g N>, Fault>
+    requires own { writer.old.store.now.number ≡ map.now.number }
+    ensures store { writer.new.store ≡ writer.old.store }
+    ensures found { IfOk result (λ found. IfSome found (λ node. N.Key.cmp (N.key node.now) key.now ≡ Equal)) }
+    ensures refused { IfErr result (λ fault. (fault ≡ NoMemory) ⊎ (fault ≡ TriesOut)) }
+{
+    match map.get(guard, key, MOVES_ALONE) {
+        Ok(found) => Ok(found),
+        Err(_) => map.get_helping(writer, guard, key, MOVES),
+    }
+}
+
 // Looks at the value of this key.
 fn look_up<'s, J: PostSet, N: KeepsEntry, R: Drop, F: FnOnce(&N::Value) -> R + Drop>(
     map: &LendingMap<'_, 's, J, N>,
@@ -372,15 +414,33 @@ fn look_up<'s, J: PostSet, N: KeepsEntry, R: Drop, F: FnOnce(&N::Value) -> R + D
     requires callable { F.IsAlwaysCallable look }
     requires own { writer.old.store.now.number ≡ map.now.number }
     ensures store { writer.new.store ≡ writer.old.store }
-    ensures given { IfOk result (λ seen. IfSome seen
-        (λ made. (value : N.Value) × FnOnceReturnsAt F.FnOnce look value made)) }
+    ensures given { IfOk result (λ seen. IfSome seen (λ made. (there : N.Key) × (value : N.Value)
+        × (N.Key.cmp there key.now ≡ Equal) × FnOnceReturnsAt F.FnOnce look value made)) }
     ensures refused { IfErr result (λ fault. (fault ≡ NoMemory) ⊎ (fault ≡ TriesOut)) }
 {
-    let found = match map.get(guard, key, MOVES_ALONE) {
-        Ok(found) => Ok(found),
-        Err(_) => map.get_helping(writer, guard, key, MOVES),
-    };
-    match found {
+    match find(map, writer, guard, key) {
+        Ok(Some(entry)) => Ok(Some(look(entry.value()))),
+        Ok(None) => Ok(None),
+        Err(fault) => Err(fault),
+    }
+}
+
+// Does so with a closure that may be called again.
+fn see_in<'s, J: PostSet, N: KeepsEntry, R: Drop, F: Fn(&N::Value) -> R>(
+    map: &LendingMap<'_, 's, J, N>,
+    writer: &mut Writer<'_, 's, J, N>,
+    guard: &LendingGuard<'_, J>,
+    key: &N::Key,
+    look: &F,
+) -> Result<Option<R>, Fault>
+    requires callable { F.IsAlwaysCallable look.now }
+    requires own { writer.old.store.now.number ≡ map.now.number }
+    ensures store { writer.new.store ≡ writer.old.store }
+    ensures given { IfOk result (λ seen. IfSome seen
+        (λ made. (value : N.Value) × FnReturnsAt F.Fn look.now value made)) }
+    ensures refused { IfErr result (λ fault. (fault ≡ NoMemory) ⊎ (fault ≡ TriesOut)) }
+{
+    match find(map, writer, guard, key) {
         Ok(Some(entry)) => Ok(Some(look(entry.value()))),
         Ok(None) => Ok(None),
         Err(fault) => Err(fault),
@@ -388,16 +448,18 @@ fn look_up<'s, J: PostSet, N: KeepsEntry, R: Drop, F: FnOnce(&N::Value) -> R + D
 }
 
 // Inserts an entry of this key and value; or, if the key is there, looks at its value.
-fn put_in<'s, J: PostSet, N: KeepsEntry, R: Drop, F: FnOnce(&N::Value) -> R + Drop>(
+fn put_in<'s, J: PostSet, N: KeepsEntry, R: Drop, F: Fn(&N::Value) -> R>(
     map: &LendingMap<'_, 's, J, N>,
     writer: &mut Writer<'_, 's, J, N>,
     guard: &LendingGuard<'_, J>,
     pair: (N::Key, N::Value),
-    look: F,
+    look: &F,
 ) -> Result<Option<R>, Refused<Option<(N::Key, N::Value)>>>
-    requires callable { F.IsAlwaysCallable look }
+    requires callable { F.IsAlwaysCallable look.now }
     requires own { writer.old.store.now.number ≡ map.now.number }
     ensures store { writer.new.store ≡ writer.old.store }
+    ensures given { IfOk result (λ seen. IfSome seen
+        (λ made. (value : N.Value) × FnReturnsAt F.Fn look.now value made)) }
     ensures handed_back { IfErr result (λ back. HandsBack pair back) }
     ensures refused { IfErr result (λ back. (back.fault ≡ NoMemory) ⊎ (back.fault ≡ CellsFull)
         ⊎ (back.fault ≡ TriesOut)) }

@@ -1,11 +1,5 @@
 //! One thread replaces a number, and four others read it.
-#![tactic(auto)]
-
-#[cfg(test)]
-mod tests;
-
 use epoch_shared::{SharedValue, ValueCrew, share_value};
-use std::io;
 use std::sync::atomic::AtomicU64;
 use std::sync::atomic::Ordering::SeqCst;
 
@@ -31,10 +25,10 @@ impl ValueCrew<u64> for Readers {
     }
 }
 
-fn main(rt: HostRuntime) -> io::Result<()> {
+#[test]
+fn four_threads_read_a_number(rt: HostRuntime) {
     let readers = Readers::default();
-    match share_value(&rt, rt.alloc(), 5, &readers) {
-        Ok(_) => println!(rt; "{} reads", readers.reads.load(SeqCst)),
-        Err(fault) => println!(rt; "{fault}"),
-    }
+    let done = share_value(&rt, rt.alloc(), 5, &readers);
+    assert_eq!(rt; done, Ok(5));
+    assert_eq!(rt; readers.reads.load(SeqCst), 400);
 }
