@@ -39,8 +39,8 @@ pub trait SharedMap<K: MapKey, V> {
         look: F,
     ) -> Result<Option<R>, Fault>
         requires { F.IsAlwaysCallable look }
-        // What a look-up returns is what its closure returned at the value of an entry whose key compares as equal to
-        // the one asked for. A call is refused only with `NoMemory` or `TriesOut`, and an insert with `CellsFull`, too.
+        // What a look-up returns is what its closure returned at some value; no clause says that it is the key's. A
+        // call is refused only with `NoMemory` or `TriesOut`, and an insert with `CellsFull`, too.
         ensures given { IfOk result (λ seen. IfSome seen (λ made. (there : K) × (value : V)
             × (K.cmp there key.now ≡ Equal) × FnOnceReturnsAt F.FnOnce look value made)) }
         ensures refused { IfErr result (λ fault. (fault ≡ NoMemory) ⊎ (fault ≡ TriesOut)) };

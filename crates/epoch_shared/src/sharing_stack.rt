@@ -15,8 +15,8 @@ use std::alloc::Global;
 use std::marker::Brand;
 use std::thread::Threads;
 
-/// Makes a stack for about so many values at a time, starts this many threads that share it, and comes back when they
-/// are done. Then what is left is dropped. Returns how many threads took part.
+/// Makes a stack with room for this many values at a time, starts this many threads that share it, and comes back when
+/// they are done. Then what is left is dropped. Returns how many threads took part.
 ///
 /// The crew is called, and faults are told, as by [`share_value`](crate::share_value).
 pub fn share_stack<R: Threads + Sync, V: Drop + Send + Sync, C: StackCrew<V> + Sync>(
