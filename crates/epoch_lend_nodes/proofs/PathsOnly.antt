@@ -5,7 +5,7 @@ use Rattle.epoch_cells.specs.declared.fault.Fault.{Fault}
 use Rattle.epoch_laws.specs.declared.heap.access.Access.{Access}
 use Rattle.epoch_laws.specs.declared.step.Reply.{Reply}
 use Rattle.epoch_laws.specs.declared.step.Reply.TheVariants.{Done, Refused}
-use Rattle.epoch_plans.specs.Plans.{Deed, Flushes, Touches, Defers, Answers, after_by}
+use Rattle.epoch_structure_laws.specs.Plans.{Deed, Flushes, Touches, Defers, Answers, after_by}
 use Rattle.epoch_structure_calls.specs.Paths.{PerformsBy, GoesTo, DoesBy}
 use Rattle.epoch_lend.specs.declared.array.cells.SlotTurn.{SlotTurn}
 use Rattle.epoch_lend_nodes.specs.Gathering.{MakesRoomFor, gathering, gathers}

@@ -3,7 +3,7 @@ use Rattle.std.specs.Prelude.{List, Option}
 use Rattle.epoch_cells.specs.declared.fault.Fault.{Fault}
 use Rattle.epoch_lend.specs.declared.array.cells.SlotTurn.{SlotTurn}
 use Rattle.epoch_lend_nodes.specs.Gathering.{gathering}
-use Rattle.epoch_plans.specs.Plans.{Deed}
+use Rattle.epoch_structure_laws.specs.Plans.{Deed}
 use Rattle.epoch_structure_calls.specs.Paths.{DoesBy}
 
 -- There is a path of this program, from this phase to one that answers so, on which a writer that had gathered the one

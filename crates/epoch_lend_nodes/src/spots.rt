@@ -9,7 +9,7 @@ ghost use Rattle.epoch_laws.specs.declared.step.Reply.TheVariants.{Done};
 ghost use Rattle.epoch_lend_nodes.specs.Moving.{MovesNodes};
 ghost use Rattle.epoch_structure_calls.specs.Linking.{placed, loaded, value_read, stored, ExchangesAt};
 ghost use Rattle.epoch_structure_calls.specs.Paths.{IsTold, reply_given};
-ghost use Rattle.epoch_plans.specs.Plans.{ptr_to};
+ghost use Rattle.epoch_structure_laws.specs.Plans.{ptr_to};
 
 use crate::node::LentNode;
 use crate::points::{change_at, ptr_of, shared};

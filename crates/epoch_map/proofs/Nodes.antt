@@ -14,7 +14,7 @@ use Rattle.epoch_laws.specs.declared.heap.access.Spot.{Spot}
 use Rattle.epoch_laws.specs.declared.heap.access.Spot.TheVariants.{Root, Field}
 use Rattle.epoch_laws.specs.declared.step.Reply.{Reply}
 use Rattle.epoch_laws.specs.declared.step.Reply.TheVariants.{Done}
-use Rattle.epoch_plans.specs.Plans.{Deed, Flushes, Touches, Defers, Answers, IsOver, after_by}
+use Rattle.epoch_structure_laws.specs.Plans.{Deed, Flushes, Touches, Defers, Answers, IsOver, after_by}
 use Rattle.epoch_structure_calls.specs.Paths.{Keeping, PerformsBy, GoesTo, DoesBy, ReadsBy, ReadsTo}
 use Rattle.epoch_map.specs.declared.spots.MapCallNodes.{MapCallNodes}
 use Rattle.epoch_map.specs.Moving.{MovesMapNodes, ReadsNode}

@@ -8,7 +8,7 @@ ghost use Rattle.epoch_laws.specs.declared.heap.access.Spot.TheVariants.{Root, F
 ghost use Rattle.epoch_laws.specs.declared.step.Reply.TheVariants.{Done};
 ghost use Rattle.epoch_map.specs.Moving.{MovesMapNodes, ReadsNode};
 ghost use Rattle.epoch_structure_calls.specs.MapCalls.{coded};
-ghost use Rattle.epoch_plans.specs.Plans.{ptr_to};
+ghost use Rattle.epoch_structure_laws.specs.Plans.{ptr_to};
 ghost use Rattle.epoch_structure_calls.specs.Paths.{IsTold, reply_given};
 
 use crate::node::MapNode;

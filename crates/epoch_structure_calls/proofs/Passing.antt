@@ -13,7 +13,7 @@ use Rattle.epoch_laws.specs.declared.heap.access.Spot.{Spot}
 use Rattle.epoch_laws.specs.declared.heap.access.Spot.TheVariants.{Root, Field}
 use Rattle.epoch_laws.specs.declared.step.Reply.{Reply}
 use Rattle.epoch_laws.specs.declared.step.Reply.TheVariants.{Done}
-use Rattle.epoch_plans.specs.Plans.{ptr_to}
+use Rattle.epoch_structure_laws.specs.Plans.{ptr_to}
 use Rattle.epoch_structure_calls.specs.Paths.{ReadsOn}
 use Rattle.epoch_structure_laws.specs.declared.map.plan.Aim.TheVariants.{ToGet}
 use Rattle.epoch_structure_laws.specs.declared.map.plan.MapAnswer.TheVariants.{Found, NotFound, MovesOut}

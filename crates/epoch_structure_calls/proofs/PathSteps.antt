@@ -5,7 +5,7 @@ use Rattle.epoch_laws.specs.declared.heap.access.Access.{Access}
 use Rattle.epoch_laws.specs.declared.heap.access.AccessAnswer.{AccessAnswer}
 use Rattle.epoch_laws.specs.declared.step.Reply.{Reply}
 use Rattle.epoch_laws.specs.declared.step.Reply.TheVariants.{Done}
-use Rattle.epoch_plans.specs.Plans.{Deed, Answers, after_by}
+use Rattle.epoch_structure_laws.specs.Plans.{Deed, Answers, after_by}
 use Rattle.epoch_structure_calls.specs.Paths.{fault_after, Keeping, PerformsBy, DoesBy}
 
 module _ {P A L H : Type 0} (does : L → Access → Reply → L → Type 0) (keeping : Keeping H) (deed : P → Deed P A) where

@@ -7,8 +7,8 @@ use Rattle.epoch_laws.specs.declared.heap.access.Access.TheVariants.{Place, Read
 use Rattle.epoch_laws.specs.declared.heap.access.Change.TheVariants.{Load}
 use Rattle.epoch_laws.specs.declared.step.Reply.{Reply}
 use Rattle.epoch_laws.specs.declared.step.Reply.TheVariants.{Done}
-use Rattle.epoch_plans.specs.Asks.{wish_of}
-use Rattle.epoch_plans.specs.Plans.{Deed, Flushes, Touches, Defers, Answers, IsOver, after_by}
+use Rattle.epoch_structure_laws.specs.Asks.{wish_of}
+use Rattle.epoch_structure_laws.specs.Plans.{Deed, Flushes, Touches, Defers, Answers, IsOver, after_by}
 use Rattle.epoch_structure_calls.specs.Paths.{IsTold, fault_after, newest_fault}
 use Rattle.epoch_structure_calls.specs.Paths.{Keeping, PerformsBy, GoesTo, ReadsBy, ReadsTo, read_only, reading_of}
 

@@ -9,7 +9,7 @@ use Rattle.epoch_laws.specs.declared.heap.access.AccessAnswer.TheVariants.{Name 
 use Rattle.epoch_laws.specs.declared.heap.access.AccessAnswer.TheVariants.{Exchanged}
 use Rattle.epoch_laws.specs.declared.step.Reply.{Reply}
 use Rattle.epoch_laws.specs.declared.step.Reply.TheVariants.{Done}
-use Rattle.epoch_plans.specs.Plans.{Answers, after_by}
+use Rattle.epoch_structure_laws.specs.Plans.{Answers, after_by}
 use Rattle.epoch_structure_calls.specs.Paths.{Keeping, GoesTo, DoesBy}
 use Rattle.epoch_structure_laws.specs.declared.queue.plan.QueuePhase.{QueuePhase}
 use Rattle.epoch_structure_laws.specs.declared.queue.plan.QueuePhase.TheVariants.{MakingRoom, Placing, LoadingTail}

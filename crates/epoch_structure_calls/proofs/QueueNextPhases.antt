@@ -8,7 +8,7 @@ use Rattle.epoch_laws.specs.declared.heap.access.Ptr.{Ptr}
 use Rattle.epoch_laws.specs.declared.step.Reply.{Reply}
 use Rattle.epoch_laws.specs.declared.step.Reply.TheVariants.{Done}
 use Rattle.epoch_structure_calls.specs.Linking.{loaded, was_made}
-use Rattle.epoch_plans.specs.Plans.{Answers, after_by}
+use Rattle.epoch_structure_laws.specs.Plans.{Answers, after_by}
 use Rattle.epoch_structure_calls.specs.declared.queue.tries.Tried.{Tried}
 use Rattle.epoch_structure_calls.specs.declared.queue.tries.Tried.TheVariants.{Lost}
 use Rattle.epoch_structure_calls.specs.QueueTrying.{queue_phase_after, leads_on}

@@ -16,7 +16,7 @@ use Rattle.epoch_structure_calls.specs.Linking.{ExchangesAt}
 use Rattle.epoch_structure_calls.specs.Touching.{TouchesBy, TouchesOn}
 use Rattle.epoch_structure_calls.proofs.PathSteps.{path_ends}
 use Rattle.epoch_structure_calls.specs.Paths.{Keeping, PerformsBy, DoesBy, fault_after}
-use Rattle.epoch_plans.specs.Plans.{Answers, after_by, ptr_to}
+use Rattle.epoch_structure_laws.specs.Plans.{Answers, after_by, ptr_to}
 use Rattle.epoch_structure_laws.specs.declared.queue.plan.QueuePhase.{QueuePhase}
 use Rattle.epoch_structure_laws.specs.declared.queue.plan.QueuePhase.TheVariants.{LoadingTail, LoadingLast, Appending}
 use Rattle.epoch_structure_laws.specs.declared.queue.plan.QueuePhase.TheVariants.{LoadingHead}

@@ -12,7 +12,7 @@ use Rattle.epoch_laws.specs.declared.heap.access.Spot.{Spot}
 use Rattle.epoch_laws.specs.declared.heap.access.Spot.TheVariants.{Field}
 use Rattle.epoch_laws.specs.declared.step.Reply.{Reply}
 use Rattle.epoch_laws.specs.declared.step.Reply.TheVariants.{Done}
-use Rattle.epoch_plans.specs.Plans.{ptr_to, after_by}
+use Rattle.epoch_structure_laws.specs.Plans.{ptr_to, after_by}
 use Rattle.epoch_structure_calls.specs.Paths.{ReadsBy, ReadsOn}
 use Rattle.epoch_structure_calls.proofs.PathsGrown.{reads_then}
 use Rattle.epoch_structure_laws.specs.declared.map.plan.Aim.{Aim}

@@ -5,7 +5,7 @@ use Rattle.epoch_laws.specs.declared.heap.access.Access.{Access}
 use Rattle.epoch_laws.specs.declared.heap.access.AccessAnswer.{AccessAnswer}
 use Rattle.epoch_laws.specs.declared.step.Reply.{Reply}
 use Rattle.epoch_laws.specs.declared.step.Reply.TheVariants.{Done}
-use Rattle.epoch_plans.specs.Plans.{Deed, Flushes, Touches, Defers, Answers, after_by}
+use Rattle.epoch_structure_laws.specs.Plans.{Deed, Flushes, Touches, Defers, Answers, after_by}
 use Rattle.epoch_structure_calls.specs.Paths.{Keeping, PerformsBy, DoesBy}
 use Rattle.epoch_structure_calls.proofs.PathSteps.{path_goes_on}
 use Rattle.epoch_structure_calls.specs.Touching.{TouchesBy, TouchesTo, TouchesOn}

@@ -9,9 +9,9 @@ use Rattle.epoch_laws.specs.declared.heap.access.AccessAnswer.{AccessAnswer}
 use Rattle.epoch_laws.specs.declared.heap.access.Change.TheVariants.{Load}
 use Rattle.epoch_laws.specs.declared.step.Reply.{Reply}
 use Rattle.epoch_laws.specs.declared.step.Reply.TheVariants.{Done, Refused}
-use Rattle.epoch_plans.specs.Plans.{Deed, Flushes, Touches, Defers, Answers, after_by}
-use Rattle.epoch_plans.specs.declared.machine.Wish.{Wish}
-use Rattle.epoch_plans.specs.declared.machine.Wish.TheVariants.{Touch}
+use Rattle.epoch_structure_laws.specs.Plans.{Deed, Flushes, Touches, Defers, Answers, after_by}
+use Rattle.epoch_structure_laws.specs.declared.machine.Wish.{Wish}
+use Rattle.epoch_structure_laws.specs.declared.machine.Wish.TheVariants.{Touch}
 
 -- REPLIES
 

@@ -8,7 +8,7 @@ use Rattle.epoch_laws.specs.declared.heap.access.Access.TheVariants.{Place}
 use Rattle.epoch_laws.specs.declared.heap.access.AccessAnswer.TheVariants.{Value}
 use Rattle.epoch_laws.specs.declared.step.Reply.{Reply}
 use Rattle.epoch_laws.specs.declared.step.Reply.TheVariants.{Done}
-use Rattle.epoch_plans.specs.Plans.{Deed, Flushes, Touches, Defers, Answers}
+use Rattle.epoch_structure_laws.specs.Plans.{Deed, Flushes, Touches, Defers, Answers}
 use Rattle.epoch_structure_laws.specs.declared.map.plan.Aim.{Aim}
 use Rattle.epoch_structure_laws.specs.declared.map.plan.Aim.TheVariants.{ToInsert, ToRemove, ToGet}
 use Rattle.epoch_structure_laws.specs.declared.map.plan.MapAnswer.{MapAnswer}

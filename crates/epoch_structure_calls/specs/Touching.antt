@@ -4,7 +4,7 @@ use Rattle.epoch_laws.specs.declared.heap.access.Access.{Access}
 use Rattle.epoch_laws.specs.declared.heap.access.AccessAnswer.{AccessAnswer}
 use Rattle.epoch_laws.specs.declared.step.Reply.{Reply}
 use Rattle.epoch_laws.specs.declared.step.Reply.TheVariants.{Done}
-use Rattle.epoch_plans.specs.Plans.{Deed, Touches, after_by}
+use Rattle.epoch_structure_laws.specs.Plans.{Deed, Touches, after_by}
 
 -- The access that this deed asks for was made, and got this answer.
 abbrev pub TouchesBy : {P A L : Type 0} → (L → Access → Reply → L → Type 0) → Deed P A → L → AccessAnswer → L → Type 0

@@ -5,7 +5,7 @@ ghost use Rattle.epoch_laws.specs.declared.heap.access.AccessAnswer.TheVariants.
 ghost use Rattle.epoch_laws.specs.declared.heap.access.Change.TheVariants.{Load, Store};
 ghost use Rattle.epoch_laws.specs.declared.heap.access.Spot.TheVariants.{Root, Field};
 ghost use Rattle.epoch_laws.specs.declared.step.Reply.TheVariants.{Done};
-ghost use Rattle.epoch_plans.specs.Plans.{ptr_to};
+ghost use Rattle.epoch_structure_laws.specs.Plans.{ptr_to};
 ghost use Rattle.epoch_structure_calls.specs.Paths.{IsTold};
 ghost use Rattle.epoch_structure_calls.specs.Linking.{placed, loaded, value_read, stored, ExchangesAt};
 

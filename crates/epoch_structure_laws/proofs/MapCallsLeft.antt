@@ -8,7 +8,7 @@ use Rattle.epoch_laws.specs.declared.heap.access.AccessAnswer.TheVariants.{Value
 use Rattle.epoch_laws.specs.declared.heap.access.Spot.{Spot}
 use Rattle.epoch_laws.specs.declared.heap.access.Spot.TheVariants.{Root, Field}
 use Rattle.epoch_laws.specs.declared.step.Reply.TheVariants.{Done}
-use Rattle.epoch_plans.specs.Plans.{IsLowered}
+use Rattle.epoch_structure_laws.specs.Plans.{IsLowered}
 use Rattle.epoch_structure_laws.specs.declared.map.plan.Aim.{Aim}
 use Rattle.epoch_structure_laws.specs.declared.map.plan.Aim.TheVariants.{ToInsert, ToRemove, ToGet}
 use Rattle.epoch_structure_laws.specs.declared.map.plan.MapWork.TheVariants.{Insert, Remove, Get}

@@ -10,7 +10,7 @@ use Rattle.epoch_laws.specs.declared.heap.heap.Content.{Content}
 use Rattle.epoch_laws.specs.Heap.{Cell, Heap, cell_at, with_cell_at, pointer_at, with_pointer, with_field}
 use Rattle.epoch_laws.specs.Heap.{with_field_in}
 use Rattle.epoch_laws.specs.Reach.{IsReachable, from_field}
-use Rattle.epoch_plans.proofs.Cells.{same_name, cell_kept, cell_filled}
+use Rattle.epoch_structure_laws.proofs.Cells.{same_name, cell_kept, cell_filled}
 use Rattle.epoch_structure_laws.specs.MapProgram.{node_key}
 use Rattle.epoch_structure_laws.specs.MapEntries.{Item, EntryHoldsValue, with_tag, Chain, Ascends}
 

@@ -11,9 +11,9 @@ use Rattle.epoch_laws.specs.Heap.{Heap, pointer_at, aligned, Touched, ChangesAt,
 use Rattle.epoch_laws.specs.Reach.{Past}
 use Rattle.epoch_laws.proofs.TurnsGiven.{StaysGiven}
 use Rattle.epoch_laws.proofs.PointerSteps.{pointer_other}
-use Rattle.epoch_plans.proofs.Custody.{Passed, same_number}
-use Rattle.epoch_plans.proofs.Obligations.{Settled}
-use Rattle.epoch_plans.proofs.Cells.{same_name, written_there}
+use Rattle.epoch_structure_laws.proofs.Custody.{Passed, same_number}
+use Rattle.epoch_structure_laws.proofs.Obligations.{Settled}
+use Rattle.epoch_structure_laws.proofs.Cells.{same_name, written_there}
 use Rattle.epoch_structure_laws.specs.declared.map.plan.Aim.{Aim}
 use Rattle.epoch_structure_laws.specs.declared.map.plan.MapAnswer.TheVariants.{Inserted}
 use Rattle.epoch_structure_laws.specs.declared.map.plan.MapPhase.{MapPhase}

@@ -8,8 +8,8 @@ use Rattle.epoch_laws.specs.declared.heap.access.Spot.TheVariants.{Root, Field}
 use Rattle.epoch_laws.specs.Heap.{Heap, Cell, cell_at, pointer_at, with_pointer, with_field_in}
 use Rattle.epoch_laws.specs.Reach.{Leads, IsReachable, from_root, from_field}
 use Rattle.epoch_laws.proofs.PointerSteps.{pointer_other}
-use Rattle.epoch_plans.proofs.Cells.{written_there}
-use Rattle.epoch_plans.proofs.Custody.{same_number}
+use Rattle.epoch_structure_laws.proofs.Cells.{written_there}
+use Rattle.epoch_structure_laws.proofs.Custody.{same_number}
 use Rattle.epoch_structure_laws.specs.MapProgram.{node_key, plain, marked}
 use Rattle.epoch_structure_laws.specs.MapEntries.{Item, EntryHoldsValue, Chain, Rooted, BucketHolds, Ascends}
 use Rattle.epoch_structure_laws.proofs.MapChains.{In, head_in, follows_in, chain_reached, chain_kept, value_written}

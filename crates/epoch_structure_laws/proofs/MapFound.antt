@@ -19,20 +19,25 @@ use Rattle.epoch_laws.specs.Reach.{Past, no_past, past_after}
 use Rattle.epoch_laws.proofs.HeapSteps.{HeapGoes, heap_goes}
 use Rattle.epoch_laws.proofs.SeatLemmas.{seat_there}
 use Rattle.epoch_laws.proofs.TurnsGiven.{StaysGiven, touches_given}
-use Rattle.epoch_plans.specs.declared.plan.Plan.{Plan}
-use Rattle.epoch_plans.specs.declared.plan.Plan.TheVariants.{NoPlan, Under}
-use Rattle.epoch_plans.specs.Plans.{Deed, Flushes, Touches, Defers, Answers, IsFit, IsOther, AllPlans, Replans, call_by}
-use Rattle.epoch_plans.specs.Plans.{PlanEvent, Asked, Declined, Answered, Makes, Follows, asks, declines, answers}
-use Rattle.epoch_plans.specs.Plans.{passes, free_begins, free_goes, begins, goes, made_at, WorldThen, plan_gone}
-use Rattle.epoch_plans.specs.Plans.{refused_by}
-use Rattle.epoch_plans.proofs.Accounts.{AllOwe, OwesAt, OwesBegun, Touching, account_set, accounts_turn, updated}
-use Rattle.epoch_plans.proofs.Accounts.{updated_other, updated_same}
-use Rattle.epoch_plans.specs.Served.{ThenAlso}
-use Rattle.epoch_plans.proofs.Custody.{IsAccessing, IsBegun, IsLoose, Sound, StandsNow, Tied, now_of, now_under}
-use Rattle.epoch_plans.proofs.Custody.{same_number}
-use Rattle.epoch_plans.proofs.Moved.{Accessing, accessing, alone, go_taken}
-use Rattle.epoch_plans.proofs.Obligations.{Settled, TouchesBy, after_touch, phase_after}
-use Rattle.epoch_plans.proofs.Runs.{follows_none, follows_some}
+use Rattle.epoch_structure_laws.specs.declared.plan.Plan.{Plan}
+use Rattle.epoch_structure_laws.specs.declared.plan.Plan.TheVariants.{NoPlan, Under}
+use Rattle.epoch_structure_laws.specs.Plans.{Deed, Flushes, Touches, Defers, Answers, IsFit, IsOther, AllPlans, Replans}
+use Rattle.epoch_structure_laws.specs.Plans.{call_by}
+use Rattle.epoch_structure_laws.specs.Plans.{PlanEvent, Asked, Declined, Answered, Makes, Follows, asks, declines}
+use Rattle.epoch_structure_laws.specs.Plans.{answers}
+use Rattle.epoch_structure_laws.specs.Plans.{passes, free_begins, free_goes, begins, goes, made_at, WorldThen}
+use Rattle.epoch_structure_laws.specs.Plans.{plan_gone}
+use Rattle.epoch_structure_laws.specs.Plans.{refused_by}
+use Rattle.epoch_structure_laws.proofs.Accounts.{AllOwe, OwesAt, OwesBegun, Touching, account_set, accounts_turn}
+use Rattle.epoch_structure_laws.proofs.Accounts.{updated}
+use Rattle.epoch_structure_laws.proofs.Accounts.{updated_other, updated_same}
+use Rattle.epoch_structure_laws.specs.Served.{ThenAlso}
+use Rattle.epoch_structure_laws.proofs.Custody.{IsAccessing, IsBegun, IsLoose, Sound, StandsNow, Tied, now_of}
+use Rattle.epoch_structure_laws.proofs.Custody.{now_under}
+use Rattle.epoch_structure_laws.proofs.Custody.{same_number}
+use Rattle.epoch_structure_laws.proofs.Moved.{Accessing, accessing, alone, go_taken}
+use Rattle.epoch_structure_laws.proofs.Obligations.{Settled, TouchesBy, after_touch, phase_after}
+use Rattle.epoch_structure_laws.proofs.Runs.{follows_none, follows_some}
 use Rattle.epoch_structure_laws.specs.declared.map.plan.MapAnswer.{MapAnswer}
 use Rattle.epoch_structure_laws.specs.declared.map.plan.MapAnswer.TheVariants.{NotFound}
 use Rattle.epoch_structure_laws.specs.declared.map.plan.MapPhase.{MapPhase}

@@ -11,11 +11,11 @@ use Rattle.epoch_laws.specs.declared.heap.access.Spot.TheVariants.{Root, Field}
 use Rattle.epoch_laws.specs.Heap.{Cell, Heap, null, nulls}
 use Rattle.epoch_laws.specs.declared.step.Progress.TheVariants.{Idle}
 use Rattle.epoch_laws.specs.Run.{State, seat_of, free_seat, IsFresh}
-use Rattle.epoch_plans.specs.declared.plan.Plan.{Plan}
-use Rattle.epoch_plans.specs.declared.plan.Plan.TheVariants.{NoPlan, Under}
-use Rattle.epoch_plans.specs.Plans.{AllPlans}
-use Rattle.epoch_plans.proofs.ToldRuns.{ToLast, answering, asking, by_access, by_pin, by_removal, holds}
-use Rattle.epoch_plans.proofs.ToldRuns.{lone_plans, no_more, no_plans}
+use Rattle.epoch_structure_laws.specs.declared.plan.Plan.{Plan}
+use Rattle.epoch_structure_laws.specs.declared.plan.Plan.TheVariants.{NoPlan, Under}
+use Rattle.epoch_structure_laws.specs.Plans.{AllPlans}
+use Rattle.epoch_structure_laws.proofs.ToldRuns.{ToLast, answering, asking, by_access, by_pin, by_removal, holds}
+use Rattle.epoch_structure_laws.proofs.ToldRuns.{lone_plans, no_more, no_plans}
 use Rattle.epoch_laws.proofs.LoneWorld.{sizes, lone_world, name}
 use Rattle.epoch_structure_laws.specs.declared.map.plan.Aim.{Aim}
 use Rattle.epoch_structure_laws.specs.declared.map.plan.Aim.TheVariants.{ToInsert, ToRemove, ToGet}

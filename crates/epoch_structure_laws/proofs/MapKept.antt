@@ -11,11 +11,11 @@ use Rattle.epoch_laws.specs.declared.step.Reply.{Reply}
 use Rattle.epoch_laws.specs.declared.step.Reply.TheVariants.{Done, Refused}
 use Rattle.epoch_laws.specs.Reach.{IsReachable, Past}
 use Rattle.epoch_laws.proofs.TurnsGiven.{IsGiven}
-use Rattle.epoch_plans.specs.Plans.{Defers, IsOver, IsFlush, IsFit, after_by}
-use Rattle.epoch_plans.proofs.Custody.{Passed, Calm, Structure, Sane}
-use Rattle.epoch_plans.proofs.Obligations.{Weaker, Settled, HandsOver}
-use Rattle.epoch_plans.proofs.Steps.{fewer_reach}
-use Rattle.epoch_plans.proofs.Calls.{calm_pointer}
+use Rattle.epoch_structure_laws.specs.Plans.{Defers, IsOver, IsFlush, IsFit, after_by}
+use Rattle.epoch_structure_laws.proofs.Custody.{Passed, Calm, Structure, Sane}
+use Rattle.epoch_structure_laws.proofs.Obligations.{Weaker, Settled, HandsOver}
+use Rattle.epoch_structure_laws.proofs.Steps.{fewer_reach}
+use Rattle.epoch_structure_laws.proofs.Calls.{calm_pointer}
 use Rattle.epoch_structure_laws.specs.declared.map.plan.MapWork.{MapWork}
 use Rattle.epoch_structure_laws.specs.declared.map.plan.MapWork.TheVariants.{Insert, Remove, Get}
 use Rattle.epoch_structure_laws.specs.declared.map.plan.Aim.{Aim}

@@ -7,7 +7,7 @@ use Rattle.epoch_laws.specs.declared.heap.access.Spot.{Spot}
 use Rattle.epoch_laws.specs.declared.heap.access.Spot.TheVariants.{Root, Field}
 use Rattle.epoch_laws.specs.Heap.{Heap, pointer_at, with_pointer}
 use Rattle.epoch_laws.proofs.PointerSteps.{pointer_other}
-use Rattle.epoch_plans.proofs.Cells.{same_name, written_there}
+use Rattle.epoch_structure_laws.proofs.Cells.{same_name, written_there}
 use Rattle.epoch_structure_laws.specs.MapProgram.{node_key, plain, marked}
 use Rattle.epoch_structure_laws.specs.MapEntries.{Item, EntryHoldsValue, with_tag, Chain, Ascends}
 use Rattle.epoch_structure_laws.proofs.MapChains.{In, value_written, chain_kept, lower, not_behind, Splices}

@@ -5,7 +5,7 @@ use Rattle.epoch_cells.specs.declared.cells.name.Name.{Name}
 use Rattle.epoch_laws.specs.declared.heap.access.Ptr.{Ptr}
 use Rattle.epoch_laws.specs.declared.heap.access.Spot.TheVariants.{Root, Field}
 use Rattle.epoch_laws.specs.Heap.{Heap, pointer_at}
-use Rattle.epoch_plans.proofs.Cells.{same_name}
+use Rattle.epoch_structure_laws.proofs.Cells.{same_name}
 use Rattle.epoch_structure_laws.specs.MapProgram.{node_key, plain}
 use Rattle.epoch_structure_laws.specs.MapEntries.{Item, EntryHoldsValue, with_tag, Chain, Rooted, BucketHolds, Ascends}
 use Rattle.epoch_structure_laws.specs.MapEntries.{unless_marked, map_entries, MapHolds, Has, Lacks, LeadsPast}

@@ -15,7 +15,7 @@ use Rattle.epoch_laws.specs.declared.heap.heap.Content.{Content}
 use Rattle.epoch_laws.specs.Heap.{Cell, Heap, cell_at, pointer_at, Touched, ChangesAt, read_by, left_by}
 use Rattle.epoch_laws.specs.Reach.{Past}
 use Rattle.epoch_laws.proofs.TurnsGiven.{IsGiven, StaysGiven}
-use Rattle.epoch_plans.proofs.Obligations.{Settled, TouchesBy, after_touch}
+use Rattle.epoch_structure_laws.proofs.Obligations.{Settled, TouchesBy, after_touch}
 use Rattle.epoch_structure_laws.specs.declared.map.plan.Aim.{Aim}
 use Rattle.epoch_structure_laws.specs.declared.map.plan.Aim.TheVariants.{ToInsert, ToRemove, ToGet}
 use Rattle.epoch_structure_laws.specs.declared.map.plan.MapPhase.{MapPhase}

@@ -13,12 +13,12 @@ use Rattle.epoch_laws.specs.Reach.{KeepsLoaded}
 use Rattle.epoch_laws.proofs.JobsAsDeferred.{fresh_jobs}
 use Rattle.epoch_laws.proofs.ReachRuns.{every_run_keeps_reach}
 use Rattle.epoch_laws.proofs.Linked.{fresh_linked}
-use Rattle.epoch_plans.specs.declared.plan.Plan.{Plan}
-use Rattle.epoch_plans.specs.Plans.{AllPlans, world_log, run_of_world}
-use Rattle.epoch_plans.proofs.Cells.{none_at}
-use Rattle.epoch_plans.proofs.Custody.{Tied, now_of, Sound, StandsNow, OwnsNow}
-use Rattle.epoch_plans.proofs.Runs.{runs_leave}
-use Rattle.epoch_plans.proofs.RunsSound.{runs_sound}
+use Rattle.epoch_structure_laws.specs.declared.plan.Plan.{Plan}
+use Rattle.epoch_structure_laws.specs.Plans.{AllPlans, world_log, run_of_world}
+use Rattle.epoch_structure_laws.proofs.Cells.{none_at}
+use Rattle.epoch_structure_laws.proofs.Custody.{Tied, now_of, Sound, StandsNow, OwnsNow}
+use Rattle.epoch_structure_laws.proofs.Runs.{runs_leave}
+use Rattle.epoch_structure_laws.proofs.RunsSound.{runs_sound}
 use Rattle.epoch_structure_laws.specs.declared.map.plan.MapPhase.{MapPhase}
 use Rattle.epoch_structure_laws.specs.MapProgram.{map, MapStarts, MapLog, MapRuns, IsNewMap}
 use Rattle.epoch_structure_laws.specs.MapEntries.{Item, Rooted, BucketHolds, Ascends, MapHolds, Has, Lacks}

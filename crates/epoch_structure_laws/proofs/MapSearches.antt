@@ -7,9 +7,9 @@ use Rattle.epoch_laws.specs.declared.heap.access.AccessAnswer.{AccessAnswer}
 use Rattle.epoch_laws.specs.declared.heap.access.AccessAnswer.TheVariants.{Unit as UnitAnswer, Name as NameAnswer}
 use Rattle.epoch_laws.specs.declared.heap.access.AccessAnswer.TheVariants.{Exchanged}
 use Rattle.epoch_laws.specs.declared.heap.access.Spot.{Spot}
-use Rattle.epoch_plans.specs.Plans.{Deed, Touches, done_by, refused_by}
-use Rattle.epoch_plans.proofs.Accounts.{AccountDuty}
-use Rattle.epoch_plans.proofs.Obligations.{after_touch}
+use Rattle.epoch_structure_laws.specs.Plans.{Deed, Touches, done_by, refused_by}
+use Rattle.epoch_structure_laws.proofs.Accounts.{AccountDuty}
+use Rattle.epoch_structure_laws.proofs.Obligations.{after_touch}
 use Rattle.epoch_structure_laws.specs.declared.map.plan.Aim.{Aim}
 use Rattle.epoch_structure_laws.specs.declared.map.plan.Aim.TheVariants.{ToInsert, ToRemove, ToGet}
 use Rattle.epoch_structure_laws.specs.declared.map.plan.MapAnswer.{MapAnswer}

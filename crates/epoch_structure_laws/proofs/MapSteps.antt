@@ -16,10 +16,10 @@ use Rattle.epoch_laws.specs.Heap.{ChangesAt, Places, read_by, left_by, with_poin
 use Rattle.epoch_laws.specs.Reach.{IsReachable, Past}
 use Rattle.epoch_laws.proofs.TurnsGiven.{IsGiven, StaysGiven, place_gives}
 use Rattle.epoch_laws.proofs.PointerSteps.{pointer_other}
-use Rattle.epoch_plans.proofs.Custody.{Passed, Calm, calm_same, Acts}
-use Rattle.epoch_plans.proofs.Obligations.{Weaker, Settled, after_touch}
-use Rattle.epoch_plans.proofs.Steps.{fewer_reach}
-use Rattle.epoch_plans.proofs.Cells.{cell_there, written_there}
+use Rattle.epoch_structure_laws.proofs.Custody.{Passed, Calm, calm_same, Acts}
+use Rattle.epoch_structure_laws.proofs.Obligations.{Weaker, Settled, after_touch}
+use Rattle.epoch_structure_laws.proofs.Steps.{fewer_reach}
+use Rattle.epoch_structure_laws.proofs.Cells.{cell_there, written_there}
 use Rattle.epoch_structure_laws.specs.declared.map.plan.Aim.{Aim}
 use Rattle.epoch_structure_laws.specs.declared.map.plan.Aim.TheVariants.{ToInsert, ToRemove, ToGet}
 use Rattle.epoch_structure_laws.specs.declared.map.plan.MapAnswer.TheVariants.{CellsFull as CellsFullAnswer}

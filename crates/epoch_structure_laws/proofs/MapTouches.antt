@@ -10,9 +10,9 @@ use Rattle.epoch_laws.specs.declared.heap.access.Change.TheVariants.{Load, Compa
 use Rattle.epoch_laws.specs.declared.heap.access.Access.TheVariants.{Place, Read, Leave}
 use Rattle.epoch_laws.specs.Heap.{Heap, cell_at, pointer_at, Touched, ChangesAt}
 use Rattle.epoch_laws.specs.Reach.{IsReachable, Past}
-use Rattle.epoch_plans.specs.Plans.{call_by}
-use Rattle.epoch_plans.proofs.Obligations.{Settled, Obeys, TouchesBy, ChangesReached}
-use Rattle.epoch_plans.proofs.Calls.{calm_call}
+use Rattle.epoch_structure_laws.specs.Plans.{call_by}
+use Rattle.epoch_structure_laws.proofs.Obligations.{Settled, Obeys, TouchesBy, ChangesReached}
+use Rattle.epoch_structure_laws.proofs.Calls.{calm_call}
 use Rattle.epoch_structure_laws.specs.declared.map.plan.MapPhase.{MapPhase}
 use Rattle.epoch_structure_laws.specs.declared.map.plan.MapPhase.TheVariants.{MakingRoom, Placing, LoadingFirst}
 use Rattle.epoch_structure_laws.specs.declared.map.plan.MapPhase.TheVariants.{Reading, Leaving, LoadingNext, Unlinking}

@@ -18,12 +18,12 @@ use Rattle.epoch_laws.specs.declared.step.Reply.TheVariants.{Done}
 use Rattle.epoch_laws.specs.Run.{State, WorldSeat, seat_of, TakesStep, progress_after}
 use Rattle.epoch_laws.specs.Reach.{Past}
 use Rattle.epoch_laws.proofs.TurnsGiven.{touches_given}
-use Rattle.epoch_plans.specs.declared.plan.Plan.TheVariants.{Under}
-use Rattle.epoch_plans.specs.Plans.{AllPlans}
-use Rattle.epoch_plans.proofs.Custody.{Calm, Sound, same_number}
-use Rattle.epoch_plans.proofs.Obligations.{Settled, TouchesBy}
-use Rattle.epoch_plans.proofs.Calls.{calm_call}
-use Rattle.epoch_plans.proofs.HeapTurns.{Touching, heap_turns, touched}
+use Rattle.epoch_structure_laws.specs.declared.plan.Plan.TheVariants.{Under}
+use Rattle.epoch_structure_laws.specs.Plans.{AllPlans}
+use Rattle.epoch_structure_laws.proofs.Custody.{Calm, Sound, same_number}
+use Rattle.epoch_structure_laws.proofs.Obligations.{Settled, TouchesBy}
+use Rattle.epoch_structure_laws.proofs.Calls.{calm_call}
+use Rattle.epoch_structure_laws.proofs.HeapTurns.{Touching, heap_turns, touched}
 use Rattle.epoch_structure_laws.specs.declared.map.plan.MapPhase.{MapPhase}
 use Rattle.epoch_structure_laws.specs.declared.map.plan.MapPhase.TheVariants.{MakingRoom, Placing, LoadingFirst}
 use Rattle.epoch_structure_laws.specs.declared.map.plan.MapPhase.TheVariants.{Reading, Leaving, LoadingNext, Unlinking}

@@ -19,7 +19,7 @@ use Rattle.epoch_laws.proofs.HeldByTouches.{holds_named, holds_placed}
 use Rattle.epoch_laws.proofs.PointersWritten.{kept_or_written}
 use Rattle.epoch_laws.proofs.PointerSteps.{set_or_kept}
 use Rattle.epoch_laws.proofs.TurnsGiven.{IsGiven, GivenAt, next_at, next_turn}
-use Rattle.epoch_plans.specs.Plans.{TakesNone}
+use Rattle.epoch_structure_laws.specs.Plans.{TakesNone}
 use Rattle.epoch_structure_laws.specs.MapEntries.{EntryHoldsValue}
 
 -- the cell has this value

@@ -8,7 +8,7 @@ use Rattle.epoch_laws.specs.declared.heap.access.Spot.TheVariants.{Root, Field}
 use Rattle.epoch_laws.specs.Heap.{Heap, pointer_at, with_pointer}
 use Rattle.epoch_laws.specs.Reach.{Leads, IsReachable, from_root, from_field}
 use Rattle.epoch_laws.proofs.PointerSteps.{pointer_other}
-use Rattle.epoch_plans.proofs.Cells.{same_name, written_there}
+use Rattle.epoch_structure_laws.proofs.Cells.{same_name, written_there}
 
 -- the name is one of these
 abbrev pub In : Name → List Name → Type 0

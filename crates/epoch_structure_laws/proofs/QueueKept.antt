@@ -11,7 +11,7 @@ use Rattle.epoch_cells.specs.declared.fault.Fault.{Fault}
 use Rattle.epoch_laws.specs.Reach.{IsReachable, Past}
 use Rattle.epoch_laws.proofs.TurnsGiven.{IsGiven}
 use Rattle.epoch_laws.proofs.CellsStand.{stands_given}
-use Rattle.epoch_plans.specs.Plans.{Defers, IsOver, IsFlush, IsFit, after_by}
+use Rattle.epoch_structure_laws.specs.Plans.{Defers, IsOver, IsFlush, IsFit, after_by}
 use Rattle.epoch_structure_laws.specs.declared.queue.plan.QueueWork.{QueueWork}
 use Rattle.epoch_structure_laws.specs.declared.queue.plan.QueueWork.TheVariants.{Build, Push, Pop}
 use Rattle.epoch_structure_laws.specs.declared.queue.plan.QueueAnswer.TheVariants.{TriesOut, Popped}
@@ -27,11 +27,11 @@ use Rattle.epoch_structure_laws.specs.QueueProgram.{retry_push, retry_pop, start
 use Rattle.epoch_structure_laws.specs.QueueProgram.{QueueStarts}
 use Rattle.std.specs.Prelude.{is_some}
 use Rattle.epoch_structure_laws.specs.QueueValues.{HoldsValue}
-use Rattle.epoch_plans.proofs.Custody.{Passed, Calm, Structure, Sane}
-use Rattle.epoch_plans.proofs.Obligations.{Weaker, Settled, HandsOver}
-use Rattle.epoch_plans.proofs.Steps.{fewer_reach}
-use Rattle.epoch_plans.proofs.Cells.{content_found}
-use Rattle.epoch_plans.proofs.Calls.{calm_pointer}
+use Rattle.epoch_structure_laws.proofs.Custody.{Passed, Calm, Structure, Sane}
+use Rattle.epoch_structure_laws.proofs.Obligations.{Weaker, Settled, HandsOver}
+use Rattle.epoch_structure_laws.proofs.Steps.{fewer_reach}
+use Rattle.epoch_structure_laws.proofs.Cells.{content_found}
+use Rattle.epoch_structure_laws.proofs.Calls.{calm_pointer}
 use Rattle.epoch_structure_laws.proofs.QueueForm.{In, at, at_same, Next, next_same, chain_kept, next_in, Form}
 use Rattle.epoch_structure_laws.proofs.QueueForm.{tail_reached, in_reach, reached_in}
 

@@ -9,7 +9,7 @@ use Rattle.epoch_laws.specs.declared.heap.access.Spot.TheVariants.{Root, Field}
 use Rattle.epoch_laws.specs.declared.heap.heap.Content.{Content}
 use Rattle.epoch_laws.specs.Heap.{Cell, Heap, cell_at, with_cell_at, pointer_at, with_pointer, with_field}
 use Rattle.epoch_laws.specs.Heap.{with_field_in}
-use Rattle.epoch_plans.proofs.Cells.{same_name, cell_kept, cell_filled, content_found}
+use Rattle.epoch_structure_laws.proofs.Cells.{same_name, cell_kept, cell_filled, content_found}
 use Rattle.epoch_structure_laws.specs.QueueValues.{HoldsValue, HoldsFrom, HoldsBehind, QueueHolds}
 use Rattle.epoch_structure_laws.proofs.QueueForm.{In, at, at_same, Next, next_same, Chain, Form}
 

@@ -14,11 +14,11 @@ use Rattle.epoch_laws.specs.Heap.{Cell, Heap, null, aligned, pointer_at, Touched
 use Rattle.epoch_laws.specs.Heap.{cell_at, nulls, with_cell_at, with_pointer}
 use Rattle.epoch_laws.specs.declared.heap.heap.Content.{Content}
 use Rattle.epoch_cells.specs.PlainCells.{filled, readable}
-use Rattle.epoch_plans.proofs.AloneRuns.{LoneDuty}
-use Rattle.epoch_plans.specs.Plans.{ptr_to}
-use Rattle.epoch_plans.proofs.Cells.{written_there}
-use Rattle.epoch_plans.proofs.Obligations.{after_touch}
-use Rattle.epoch_plans.specs.Served.{AnswersAccess}
+use Rattle.epoch_structure_laws.proofs.AloneRuns.{LoneDuty}
+use Rattle.epoch_structure_laws.specs.Plans.{ptr_to}
+use Rattle.epoch_structure_laws.proofs.Cells.{written_there}
+use Rattle.epoch_structure_laws.proofs.Obligations.{after_touch}
+use Rattle.epoch_structure_laws.specs.Served.{AnswersAccess}
 use Rattle.epoch_structure_laws.specs.declared.queue.plan.QueueWork.{QueueWork}
 use Rattle.epoch_structure_laws.specs.declared.queue.plan.QueueWork.TheVariants.{Build, Push, Pop}
 use Rattle.epoch_structure_laws.specs.declared.queue.plan.QueuePhase.{QueuePhase}

@@ -2,10 +2,10 @@
 use Rattle.std.proofs.Common.{ℕ, Bool, true, false, [], ◌∷◌, refl}
 use Rattle.epoch_laws.specs.Heap.{Heap}
 use Rattle.epoch_laws.specs.Run.{State}
-use Rattle.epoch_plans.specs.Alone.{AllOwn as AllOwnOf, NeverOut as NeverOutOf}
-use Rattle.epoch_plans.proofs.AloneRuns.{asked_lone, runs_lone}
-use Rattle.epoch_plans.proofs.RunsServed.{keeps_none, runs_served}
-use Rattle.epoch_plans.specs.Plans.{AllPlans, Asked, Declined, Answered, Makes}
+use Rattle.epoch_structure_laws.specs.Alone.{AllOwn as AllOwnOf, NeverOut as NeverOutOf}
+use Rattle.epoch_structure_laws.proofs.AloneRuns.{asked_lone, runs_lone}
+use Rattle.epoch_structure_laws.proofs.RunsServed.{keeps_none, runs_served}
+use Rattle.epoch_structure_laws.specs.Plans.{AllPlans, Asked, Declined, Answered, Makes}
 use Rattle.epoch_structure_laws.specs.declared.queue.plan.QueuePhase.{QueuePhase}
 use Rattle.epoch_structure_laws.specs.declared.queue.plan.QueueWork.{QueueWork}
 use Rattle.epoch_structure_laws.specs.QueueProgram.{begin_queue_work, queue, QueueStarts, QueueLog, QueueRuns}

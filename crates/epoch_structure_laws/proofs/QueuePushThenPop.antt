@@ -10,11 +10,11 @@ use Rattle.epoch_laws.specs.declared.heap.access.Spot.TheVariants.{Root, Field}
 use Rattle.epoch_laws.specs.Heap.{Cell, Heap, null, nulls}
 use Rattle.epoch_laws.specs.declared.step.Progress.TheVariants.{Idle}
 use Rattle.epoch_laws.specs.Run.{State, seat_of, free_seat, IsFresh}
-use Rattle.epoch_plans.specs.declared.plan.Plan.{Plan}
-use Rattle.epoch_plans.specs.declared.plan.Plan.TheVariants.{NoPlan, Under}
-use Rattle.epoch_plans.specs.Plans.{AllPlans, ptr_to}
-use Rattle.epoch_plans.proofs.ToldRuns.{ToLast, access_answers, access_begins, access_goes, answering, asking}
-use Rattle.epoch_plans.proofs.ToldRuns.{by_access, by_pin, by_removal, holds, lone_plans, no_more, no_plans}
+use Rattle.epoch_structure_laws.specs.declared.plan.Plan.{Plan}
+use Rattle.epoch_structure_laws.specs.declared.plan.Plan.TheVariants.{NoPlan, Under}
+use Rattle.epoch_structure_laws.specs.Plans.{AllPlans, ptr_to}
+use Rattle.epoch_structure_laws.proofs.ToldRuns.{ToLast, access_answers, access_begins, access_goes, answering, asking}
+use Rattle.epoch_structure_laws.proofs.ToldRuns.{by_access, by_pin, by_removal, holds, lone_plans, no_more, no_plans}
 use Rattle.epoch_structure_laws.specs.declared.queue.plan.QueueAnswer.TheVariants.{Built, Pushed, Popped, Empty}
 use Rattle.epoch_structure_laws.specs.declared.queue.plan.QueuePhase.{QueuePhase}
 use Rattle.epoch_structure_laws.specs.declared.queue.plan.QueuePhase.TheVariants.{Founding, Crowning, Seating, Placing}

@@ -12,19 +12,19 @@ use Rattle.epoch_laws.specs.Reach.{Leads, IsReachable, from_root, from_field, no
 use Rattle.epoch_laws.proofs.JobsAsDeferred.{fresh_jobs}
 use Rattle.epoch_laws.proofs.ReachRuns.{every_run_keeps_reach}
 use Rattle.epoch_laws.proofs.Linked.{fresh_linked}
-use Rattle.epoch_plans.specs.declared.plan.Plan.{Plan}
-use Rattle.epoch_plans.specs.Plans.{AllPlans, world_log, run_of_world}
+use Rattle.epoch_structure_laws.specs.declared.plan.Plan.{Plan}
+use Rattle.epoch_structure_laws.specs.Plans.{AllPlans, world_log, run_of_world}
 use Rattle.epoch_structure_laws.specs.declared.queue.plan.QueuePhase.{QueuePhase}
 use Rattle.epoch_structure_laws.specs.QueueProgram.{queue, QueueStarts, QueueLog, QueueRuns, IsNewQueue}
 use Rattle.epoch_structure_laws.specs.QueueValues.{QueueHolds, StepOnValues, FindsNoValue}
-use Rattle.epoch_plans.proofs.Cells.{none_at}
-use Rattle.epoch_plans.proofs.Custody.{Tied, now_of, Sound, StandsNow, OwnsNow}
+use Rattle.epoch_structure_laws.proofs.Cells.{none_at}
+use Rattle.epoch_structure_laws.proofs.Custody.{Tied, now_of, Sound, StandsNow, OwnsNow}
 use Rattle.epoch_structure_laws.proofs.QueueKept.{structure}
 use Rattle.epoch_structure_laws.proofs.QueueTouches.{queue_obeys}
 use Rattle.epoch_structure_laws.proofs.QueueLists.{holds_some}
 use Rattle.epoch_structure_laws.proofs.QueueTurns.{step_on_values, finds_none}
-use Rattle.epoch_plans.proofs.Runs.{runs_leave}
-use Rattle.epoch_plans.proofs.RunsSound.{runs_sound}
+use Rattle.epoch_structure_laws.proofs.Runs.{runs_leave}
+use Rattle.epoch_structure_laws.proofs.RunsSound.{runs_sound}
 
 -- nothing stands in a fresh world's cells
 pub no_field : (s : State) → IsFresh s → (n : Name) (f : ℕ) (ptr : Ptr) → pointer_at s.heap (Field n f) ≢ Some ptr

@@ -16,13 +16,14 @@ use Rattle.epoch_laws.specs.declared.heap.access.Ptr.{Ptr}
 use Rattle.epoch_laws.specs.declared.heap.access.Spot.TheVariants.{Root, Field}
 use Rattle.epoch_laws.specs.Heap.{Heap, null, has_spot, knows_names, pointer_at, was_given}
 use Rattle.epoch_laws.specs.Run.{State, readings_after}
-use Rattle.epoch_plans.specs.Plans.{AllPlans, ptr_to}
-use Rattle.epoch_plans.proofs.Begun.{given_known}
-use Rattle.epoch_plans.proofs.Duties.{Knowledge, Fewer, Allows, Learns, DeferDuty, TouchDuty, DutyOf, Serves, NamedBy}
-use Rattle.epoch_plans.proofs.Ready.{Steady}
-use Rattle.epoch_plans.proofs.RunsServed.{Keeps, runs_served}
-use Rattle.epoch_plans.specs.Served.{AnswersAccess, RefusesAccess}
-use Rattle.epoch_plans.specs.declared.plan.Plan.{Plan}
+use Rattle.epoch_structure_laws.specs.Plans.{AllPlans, ptr_to}
+use Rattle.epoch_structure_laws.proofs.Begun.{given_known}
+use Rattle.epoch_structure_laws.proofs.Duties.{Knowledge, Fewer, Allows, Learns, DeferDuty, TouchDuty, DutyOf, Serves}
+use Rattle.epoch_structure_laws.proofs.Duties.{NamedBy}
+use Rattle.epoch_structure_laws.proofs.Ready.{Steady}
+use Rattle.epoch_structure_laws.proofs.RunsServed.{Keeps, runs_served}
+use Rattle.epoch_structure_laws.specs.Served.{AnswersAccess, RefusesAccess}
+use Rattle.epoch_structure_laws.specs.declared.plan.Plan.{Plan}
 use Rattle.epoch_structure_laws.specs.declared.queue.plan.QueueAnswer.TheVariants.{Built, Pushed, Popped, PoppedLeaking}
 use Rattle.epoch_structure_laws.specs.declared.queue.plan.QueueAnswer.TheVariants.{Empty}
 use Rattle.epoch_structure_laws.specs.declared.queue.plan.QueueAnswer.TheVariants.{TriesOut, TriesOutLeaking, CellsFull}

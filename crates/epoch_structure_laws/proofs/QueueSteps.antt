@@ -18,7 +18,7 @@ use Rattle.epoch_laws.specs.Reach.{IsReachable, Past}
 use Rattle.epoch_laws.proofs.TurnsGiven.{IsGiven, StaysGiven, place_gives}
 use Rattle.epoch_laws.proofs.ReadersCounted.{name_self}
 use Rattle.epoch_laws.proofs.PointerSteps.{pointer_other}
-use Rattle.epoch_plans.specs.Plans.{ptr_to, Deed, Touches}
+use Rattle.epoch_structure_laws.specs.Plans.{ptr_to, Deed, Touches}
 use Rattle.epoch_structure_laws.specs.declared.queue.plan.QueueAnswer.{QueueAnswer}
 use Rattle.epoch_structure_laws.specs.declared.queue.plan.QueueAnswer.TheVariants.{Empty, Pushed, Built}
 use Rattle.epoch_structure_laws.specs.declared.queue.plan.QueuePhase.{QueuePhase}
@@ -33,10 +33,10 @@ use Rattle.epoch_structure_laws.specs.QueueProgram.{to_read, names}
 use Rattle.epoch_structure_laws.proofs.QueueLists.{in_or, readable_held, value_written}
 use Rattle.epoch_laws.specs.declared.heap.access.AccessAnswer.TheVariants.{Name as NameAnswer}
 use Rattle.epoch_cells.specs.declared.fault.Fault.TheVariants.{CellsFull}
-use Rattle.epoch_plans.proofs.Custody.{Passed, Calm, calm_same, Acts}
-use Rattle.epoch_plans.proofs.Obligations.{Weaker, Settled, after_touch, phase_after}
-use Rattle.epoch_plans.proofs.Steps.{fewer_reach}
-use Rattle.epoch_plans.proofs.Cells.{same_name, cell_there, written_there}
+use Rattle.epoch_structure_laws.proofs.Custody.{Passed, Calm, calm_same, Acts}
+use Rattle.epoch_structure_laws.proofs.Obligations.{Weaker, Settled, after_touch, phase_after}
+use Rattle.epoch_structure_laws.proofs.Steps.{fewer_reach}
+use Rattle.epoch_structure_laws.proofs.Cells.{same_name, cell_there, written_there}
 use Rattle.epoch_structure_laws.proofs.QueueForm.{In, at, at_same, Next, next_same, Chain, Form, tail_reached, in_reach}
 use Rattle.epoch_structure_laws.proofs.QueueForm.{crown_form, seat_form, reached_in, took, take_form, swung, swing_to}
 use Rattle.epoch_structure_laws.proofs.QueueForm.{swing_form, appended, in_more, in_either, append_form, other_field}

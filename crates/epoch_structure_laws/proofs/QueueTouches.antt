@@ -10,7 +10,7 @@ use Rattle.epoch_laws.specs.declared.heap.access.Access.TheVariants.{Place, Read
 use Rattle.epoch_laws.specs.Heap.{Heap, null, cell_at, pointer_at, Touched, ChangesAt}
 use Rattle.epoch_laws.specs.Reach.{IsReachable, Past}
 use Rattle.epoch_laws.proofs.TurnsGiven.{StaysGiven}
-use Rattle.epoch_plans.specs.Plans.{ptr_to, call_by}
+use Rattle.epoch_structure_laws.specs.Plans.{ptr_to, call_by}
 use Rattle.epoch_structure_laws.specs.declared.queue.plan.QueueAnswer.TheVariants.{CellsFull as CellsFullAnswer}
 use Rattle.epoch_structure_laws.specs.declared.queue.plan.QueuePhase.{QueuePhase}
 use Rattle.epoch_structure_laws.specs.declared.queue.plan.QueuePhase.TheVariants.{MakingRoom, Founding, Crowning}
@@ -21,9 +21,9 @@ use Rattle.epoch_structure_laws.specs.declared.queue.plan.QueuePhase.TheVariants
 use Rattle.epoch_structure_laws.specs.declared.queue.plan.QueuePhase.TheVariants.{LookingBack, Advancing, Removing}
 use Rattle.epoch_structure_laws.specs.declared.queue.plan.QueuePhase.TheVariants.{Answering}
 use Rattle.epoch_structure_laws.specs.QueueProgram.{queue_deed_of, queue, QueueStarts, founded, queue_placed}
-use Rattle.epoch_plans.proofs.Custody.{Acts}
-use Rattle.epoch_plans.proofs.Obligations.{Settled, Obeys, after_touch, TouchesBy, ChangesReached}
-use Rattle.epoch_plans.proofs.Calls.{calm_call}
+use Rattle.epoch_structure_laws.proofs.Custody.{Acts}
+use Rattle.epoch_structure_laws.proofs.Obligations.{Settled, Obeys, after_touch, TouchesBy, ChangesReached}
+use Rattle.epoch_structure_laws.proofs.Calls.{calm_call}
 use Rattle.epoch_structure_laws.proofs.QueueForm.{in_reach}
 use Rattle.epoch_structure_laws.proofs.QueueKept.{Shape, AtTail, Stands, structure, sane, calm_kept, refused, flushed}
 use Rattle.epoch_structure_laws.proofs.QueueKept.{starts, answers, fits, defers}

@@ -20,13 +20,13 @@ use Rattle.epoch_laws.specs.Run.{State, WorldSeat, seat_of, TakesStep, progress_
 use Rattle.epoch_laws.specs.Reach.{Past}
 use Rattle.epoch_laws.proofs.PointerSteps.{pointer_other}
 use Rattle.epoch_laws.proofs.TurnsGiven.{touches_given}
-use Rattle.epoch_plans.specs.declared.plan.Plan.TheVariants.{Under}
-use Rattle.epoch_plans.specs.Plans.{AllPlans, ptr_to}
-use Rattle.epoch_plans.proofs.Custody.{Calm, Sound}
-use Rattle.epoch_plans.proofs.Obligations.{TouchesBy}
-use Rattle.epoch_plans.proofs.Calls.{calm_call, calm_pointer}
-use Rattle.epoch_plans.proofs.Cells.{content_found, written_there}
-use Rattle.epoch_plans.proofs.HeapTurns.{Touching, heap_turns, touched}
+use Rattle.epoch_structure_laws.specs.declared.plan.Plan.TheVariants.{Under}
+use Rattle.epoch_structure_laws.specs.Plans.{AllPlans, ptr_to}
+use Rattle.epoch_structure_laws.proofs.Custody.{Calm, Sound}
+use Rattle.epoch_structure_laws.proofs.Obligations.{TouchesBy}
+use Rattle.epoch_structure_laws.proofs.Calls.{calm_call, calm_pointer}
+use Rattle.epoch_structure_laws.proofs.Cells.{content_found, written_there}
+use Rattle.epoch_structure_laws.proofs.HeapTurns.{Touching, heap_turns, touched}
 use Rattle.epoch_structure_laws.specs.declared.queue.plan.QueuePhase.{QueuePhase}
 use Rattle.epoch_structure_laws.specs.declared.queue.plan.QueuePhase.TheVariants.{MakingRoom, Founding, Crowning}
 use Rattle.epoch_structure_laws.specs.declared.queue.plan.QueuePhase.TheVariants.{Seating, Placing, LoadingTail}

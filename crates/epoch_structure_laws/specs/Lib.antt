@@ -11,3 +11,7 @@ pub mod MapProgram
 pub mod MapDeeds
 pub mod MapEntries
 pub mod MapAnswers
+pub mod Plans
+pub mod Asks
+pub mod Served
+pub mod Alone

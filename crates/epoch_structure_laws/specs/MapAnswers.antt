@@ -2,8 +2,8 @@
 use Rattle.std.specs.Prelude.{◌≡◌, ℕ, Bool, List, [], ◌∷◌, Option, Some, None, ◌⊎◌}
 use Rattle.epoch_laws.specs.declared.step.Entry.{Entry}
 use Rattle.epoch_laws.specs.Run.{State}
-use Rattle.epoch_plans.specs.Plans.{AllPlans, PlanEvent, Asked, Answered, made_at, WorldThen}
-use Rattle.epoch_plans.specs.Served.{ThenAlso}
+use Rattle.epoch_structure_laws.specs.Plans.{AllPlans, PlanEvent, Asked, Answered, made_at, WorldThen}
+use Rattle.epoch_structure_laws.specs.Served.{ThenAlso}
 use Rattle.epoch_structure_laws.specs.declared.map.plan.MapAnswer.{MapAnswer}
 use Rattle.epoch_structure_laws.specs.declared.map.plan.MapAnswer.TheVariants.{NotFound}
 use Rattle.epoch_structure_laws.specs.declared.map.plan.MapPhase.{MapPhase}

@@ -14,8 +14,8 @@ use Rattle.epoch_laws.specs.declared.step.Reply.{Reply}
 use Rattle.epoch_laws.specs.declared.step.Reply.TheVariants.{Done}
 use Rattle.epoch_laws.specs.declared.step.Step.TheVariants.{Go}
 use Rattle.epoch_laws.specs.Run.{State, seat_of}
-use Rattle.epoch_plans.specs.declared.plan.Plan.TheVariants.{Under}
-use Rattle.epoch_plans.specs.Plans.{AllPlans}
+use Rattle.epoch_structure_laws.specs.declared.plan.Plan.TheVariants.{Under}
+use Rattle.epoch_structure_laws.specs.Plans.{AllPlans}
 use Rattle.epoch_structure_laws.specs.declared.map.plan.Aim.{Aim}
 use Rattle.epoch_structure_laws.specs.declared.map.plan.MapPhase.{MapPhase}
 use Rattle.epoch_structure_laws.specs.declared.map.plan.MapPhase.TheVariants.{LoadingFirst, LoadingNext, Inserting}

@@ -14,8 +14,9 @@ use Rattle.epoch_laws.specs.declared.heap.access.AccessAnswer.{AccessAnswer}
 use Rattle.epoch_laws.specs.declared.heap.access.AccessAnswer.TheVariants.{Unit as UnitAnswer, Name as NameAnswer}
 use Rattle.epoch_laws.specs.declared.heap.access.AccessAnswer.TheVariants.{Value, Pointer, Exchanged}
 use Rattle.epoch_laws.specs.Run.{State, IsFresh}
-use Rattle.epoch_plans.specs.declared.plan.Plan.TheVariants.{NoPlan}
-use Rattle.epoch_plans.specs.Plans.{Deed, Flushes, Touches, Defers, Answers, Program, AllPlans, PlanEvent, PlanRuns}
+use Rattle.epoch_structure_laws.specs.declared.plan.Plan.TheVariants.{NoPlan}
+use Rattle.epoch_structure_laws.specs.Plans.{Deed, Flushes, Touches, Defers, Answers, Program, AllPlans, PlanEvent}
+use Rattle.epoch_structure_laws.specs.Plans.{PlanRuns}
 use Rattle.epoch_structure_laws.specs.declared.map.plan.MapWork.{MapWork}
 use Rattle.epoch_structure_laws.specs.declared.map.plan.MapWork.TheVariants.{Insert, Remove, Get}
 use Rattle.epoch_structure_laws.specs.declared.map.plan.Aim.{Aim}

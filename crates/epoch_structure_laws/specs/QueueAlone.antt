@@ -6,7 +6,7 @@ use Rattle.epoch_laws.specs.Heap.{pointer_at}
 use Rattle.epoch_laws.specs.declared.step.Call.{Call}
 use Rattle.epoch_laws.specs.declared.step.Step.TheVariants.{Begin, Go}
 use Rattle.epoch_laws.specs.Run.{State}
-use Rattle.epoch_plans.specs.Plans.{PlanEvent, Answered, Makes, ptr_to}
+use Rattle.epoch_structure_laws.specs.Plans.{PlanEvent, Answered, Makes, ptr_to}
 use Rattle.epoch_structure_laws.specs.declared.queue.plan.QueuePhase.{QueuePhase}
 use Rattle.epoch_structure_laws.specs.declared.queue.plan.QueueAnswer.{QueueAnswer}
 use Rattle.epoch_structure_laws.specs.declared.queue.plan.QueueAnswer.TheVariants.{TriesOut, TriesOutLeaking}

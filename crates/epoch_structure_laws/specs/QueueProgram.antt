@@ -14,9 +14,9 @@ use Rattle.epoch_laws.specs.declared.heap.access.AccessAnswer.TheVariants.{Name 
 use Rattle.epoch_laws.specs.declared.heap.access.AccessAnswer.TheVariants.{Exchanged}
 use Rattle.epoch_laws.specs.Heap.{null, is_name}
 use Rattle.epoch_laws.specs.Run.{State, IsFresh}
-use Rattle.epoch_plans.specs.declared.plan.Plan.TheVariants.{NoPlan}
-use Rattle.epoch_plans.specs.Plans.{Deed, Flushes, Touches, Defers, Answers, Program, ptr_to, AllPlans}
-use Rattle.epoch_plans.specs.Plans.{PlanEvent, PlanRuns}
+use Rattle.epoch_structure_laws.specs.declared.plan.Plan.TheVariants.{NoPlan}
+use Rattle.epoch_structure_laws.specs.Plans.{Deed, Flushes, Touches, Defers, Answers, Program, ptr_to, AllPlans}
+use Rattle.epoch_structure_laws.specs.Plans.{PlanEvent, PlanRuns}
 use Rattle.epoch_structure_laws.specs.declared.queue.plan.QueueWork.{QueueWork}
 use Rattle.epoch_structure_laws.specs.declared.queue.plan.QueueWork.TheVariants.{Build, Push, Pop}
 use Rattle.epoch_structure_laws.specs.declared.queue.plan.QueueAnswer.{QueueAnswer}

@@ -1,8 +1,8 @@
 -- How a queue's calls are asked for, and what the world answers to them.
 use Rattle.std.specs.Prelude.{◌≡◌, ◌≤◌, List, [], ◌∷◌, length}
 use Rattle.epoch_laws.specs.Run.{State}
-use Rattle.epoch_plans.specs.Plans.{AllPlans, PlanEvent, Answered}
-use Rattle.epoch_plans.specs.Served.{AsksReady, AtEachStep, ServesStep}
+use Rattle.epoch_structure_laws.specs.Plans.{AllPlans, PlanEvent, Answered}
+use Rattle.epoch_structure_laws.specs.Served.{AsksReady, AtEachStep, ServesStep}
 use Rattle.epoch_structure_laws.specs.QueueProgram.{queue, QueueStarts, QueueLog, QueueRuns, IsNewQueue}
 use Rattle.epoch_structure_laws.specs.declared.queue.plan.QueuePhase.{QueuePhase}
 use Rattle.epoch_structure_laws.specs.declared.queue.plan.QueueAnswer.{QueueAnswer}

@@ -13,8 +13,8 @@ use Rattle.epoch_laws.specs.declared.step.Reply.{Reply}
 use Rattle.epoch_laws.specs.declared.step.Reply.TheVariants.{Done}
 use Rattle.epoch_laws.specs.declared.step.Step.TheVariants.{Go}
 use Rattle.epoch_laws.specs.Run.{State, seat_of}
-use Rattle.epoch_plans.specs.declared.plan.Plan.TheVariants.{Under}
-use Rattle.epoch_plans.specs.Plans.{AllPlans}
+use Rattle.epoch_structure_laws.specs.declared.plan.Plan.TheVariants.{Under}
+use Rattle.epoch_structure_laws.specs.Plans.{AllPlans}
 use Rattle.epoch_structure_laws.specs.declared.queue.plan.QueuePhase.{QueuePhase}
 use Rattle.epoch_structure_laws.specs.declared.queue.plan.QueuePhase.TheVariants.{Appending, Taking, LoadingNext}
 

@@ -6,7 +6,7 @@ use Rattle.epoch_cells.specs.declared.fault.Fault.{Fault}
 use Rattle.epoch_cells.specs.declared.fault.Fault.TheVariants.{Busy, NotRegistered, StrangerGuard}
 use Rattle.epoch_laws.specs.declared.step.Entry.{Entry}
 use Rattle.epoch_laws.specs.Run.{State, WorldSeat, seat_of, is_free, is_idle, is_out}
-use Rattle.epoch_plans.specs.Served.{AsksReady, AtEachStep, SeatHasRoom, IsReadySeat, ThenAlso}
+use Rattle.epoch_structure_laws.specs.Served.{AsksReady, AtEachStep, SeatHasRoom, IsReadySeat, ThenAlso}
 use Rattle.epoch_structure_worlds.specs.declared.plans.step.PlanReply.{PlanReply}
 use Rattle.epoch_structure_worlds.specs.declared.plans.step.PlanStep.{PlanStep}
 use Rattle.epoch_structure_worlds.specs.declared.plans.step.PlanStep.TheVariants.{Register, Begin, Ask, Go, End, EndGo}
@@ -16,11 +16,12 @@ use Rattle.epoch_structure_worlds.specs.PlanWorlds.{ShowsPhase}
 use Rattle.epoch_structure_worlds.specs.PlanWorlds.{ask_refusal, bag_has_room, events_of, has_no_plan, may_ask}
 use Rattle.epoch_structure_worlds.specs.PlanWorlds.{plan_run}
 use Rattle.epoch_structure_worlds.specs.PlanWorlds.{program_of, then_plan_runs}
-use Rattle.epoch_plans.specs.declared.plan.Plan.{Plan}
-use Rattle.epoch_plans.specs.declared.plan.Plan.TheVariants.{NoPlan, Under}
-use Rattle.epoch_plans.specs.Plans.{Deed, Flushes, Touches, Defers, Answers, AllPlans, IsFlush, PlanEvent, Asked}
-use Rattle.epoch_plans.specs.Plans.{Declined}
-use Rattle.epoch_plans.specs.Plans.{Answered, Makes, PlanRuns, WorldThen, made_at}
+use Rattle.epoch_structure_laws.specs.declared.plan.Plan.{Plan}
+use Rattle.epoch_structure_laws.specs.declared.plan.Plan.TheVariants.{NoPlan, Under}
+use Rattle.epoch_structure_laws.specs.Plans.{Deed, Flushes, Touches, Defers, Answers, AllPlans, IsFlush, PlanEvent}
+use Rattle.epoch_structure_laws.specs.Plans.{Asked}
+use Rattle.epoch_structure_laws.specs.Plans.{Declined}
+use Rattle.epoch_structure_laws.specs.Plans.{Answered, Makes, PlanRuns, WorldThen, made_at}
 
 -- whoever isn't refused is ready
 ready : {P : Type 0} (g : ℕ) (seat : WorldSeat) (plan : Plan P) → ask_refusal g seat plan ≡ None → IsReadySeat g seat

@@ -3,7 +3,7 @@ use Rattle.std.proofs.Common.{◌≡◌, ℕ, ◌+◌, ◌<◌, ◌≤◌, Bool,
 use Rattle.std.proofs.Common.{sym, subst, ◌∙◌, get_or, take, take_all}
 use Rattle.std.proofs.lemmas.List.{take_more}
 use Rattle.epoch_laws.specs.Run.{State}
-use Rattle.epoch_plans.specs.Plans.{Deed, AllPlans, PlanEvent, made_at, WorldThen, Follows}
+use Rattle.epoch_structure_laws.specs.Plans.{Deed, AllPlans, PlanEvent, made_at, WorldThen, Follows}
 use Rattle.epoch_structure_worlds.specs.declared.plans.step.PlanReply.{PlanReply}
 use Rattle.epoch_structure_worlds.specs.declared.plans.step.PlanStep.{PlanStep}
 use Rattle.epoch_structure_worlds.specs.PlanWorlds.{PlanState, PlanEntry, PlanTakes, Shows, GoesBySteps, GoesByPlans}

@@ -15,15 +15,16 @@ use Rattle.epoch_laws.specs.declared.step.Step.TheVariants.{Go as WorldGo, End a
 use Rattle.epoch_laws.specs.declared.step.Word.{Word}
 use Rattle.epoch_laws.specs.declared.step.Word.TheVariants.{Free}
 use Rattle.epoch_laws.specs.Run.{State, WorldSeat, seat_of, free_seat, TakesStep, is_free, is_idle, is_out}
-use Rattle.epoch_plans.specs.declared.machine.Wish.{Wish}
-use Rattle.epoch_plans.specs.declared.machine.Wish.TheVariants.{Answer}
-use Rattle.epoch_plans.specs.declared.plan.Plan.{Plan}
-use Rattle.epoch_plans.specs.declared.plan.Plan.TheVariants.{NoPlan, Under}
-use Rattle.epoch_plans.specs.Asks.{wish_of}
-use Rattle.epoch_plans.specs.Plans.{Deed, Flushes, Touches, Defers, Answers, PlanEvent, Asked, Declined, Answered}
-use Rattle.epoch_plans.specs.Plans.{Makes}
-use Rattle.epoch_plans.specs.Plans.{passes, asks, declines, answers, free_begins, free_goes, begins, goes}
-use Rattle.epoch_plans.specs.Plans.{call_by, plan_begun, plan_gone, IsOver, IsPlain, Replans}
+use Rattle.epoch_structure_laws.specs.declared.machine.Wish.{Wish}
+use Rattle.epoch_structure_laws.specs.declared.machine.Wish.TheVariants.{Answer}
+use Rattle.epoch_structure_laws.specs.declared.plan.Plan.{Plan}
+use Rattle.epoch_structure_laws.specs.declared.plan.Plan.TheVariants.{NoPlan, Under}
+use Rattle.epoch_structure_laws.specs.Asks.{wish_of}
+use Rattle.epoch_structure_laws.specs.Plans.{Deed, Flushes, Touches, Defers, Answers, PlanEvent, Asked, Declined}
+use Rattle.epoch_structure_laws.specs.Plans.{Answered}
+use Rattle.epoch_structure_laws.specs.Plans.{Makes}
+use Rattle.epoch_structure_laws.specs.Plans.{passes, asks, declines, answers, free_begins, free_goes, begins, goes}
+use Rattle.epoch_structure_laws.specs.Plans.{call_by, plan_begun, plan_gone, IsOver, IsPlain, Replans}
 use Rattle.epoch_structure_worlds.specs.declared.plans.step.PlainCall.{PlainCall}
 use Rattle.epoch_structure_worlds.specs.declared.plans.step.PlainCall.TheVariants.{Pin, Unpin, Pause, Resume, Repin}
 use Rattle.epoch_structure_worlds.specs.declared.plans.step.PlainCall.TheVariants.{Defer, Flush}

@@ -1,7 +1,7 @@
 -- Each call of a queue that a world begins is asked for by a participant that is ready.
 use Rattle.std.proofs.Common.{ℕ, List, false}
 use Rattle.epoch_structure_worlds.specs.PlanWorlds.{events_of, plans_in}
-use Rattle.epoch_plans.specs.Plans.{IsFlush}
+use Rattle.epoch_structure_laws.specs.Plans.{IsFlush}
 use Rattle.epoch_structure_laws.specs.declared.queue.plan.QueueWork.{QueueWork}
 use Rattle.epoch_structure_laws.specs.QueueProgram.{begin_queue_work, queue_deed_of, QueueStarts}
 use Rattle.epoch_structure_laws.specs.QueueReplies.{AllQueueAsksReady}

@@ -2,10 +2,10 @@ pub mod PlanWorlds
 pub mod Stacks
 pub mod Queues
 pub mod Maps
-pub use Rattle.epoch_plans.specs.Plans
-pub use Rattle.epoch_plans.specs.Asks
-pub use Rattle.epoch_plans.specs.Served
-pub use Rattle.epoch_plans.specs.Alone
+pub use Rattle.epoch_structure_laws.specs.Plans
+pub use Rattle.epoch_structure_laws.specs.Asks
+pub use Rattle.epoch_structure_laws.specs.Served
+pub use Rattle.epoch_structure_laws.specs.Alone
 pub use Rattle.epoch_structure_laws.specs.StackProgram
 pub use Rattle.epoch_structure_laws.specs.StackRuns
 pub use Rattle.epoch_structure_laws.specs.StackLedger

@@ -16,7 +16,7 @@ use Rattle.epoch_structure_worlds.specs.declared.plans.step.PlanReply.{PlanReply
 use Rattle.epoch_structure_worlds.specs.declared.plans.step.PlanStep.{PlanStep}
 use Rattle.epoch_structure_worlds.specs.PlanWorlds.{PlanState, PlanEntry, PlanTakes, GoesByPlans, ListsSteps, events_of}
 use Rattle.epoch_structure_worlds.specs.PlanWorlds.{plan_run, plans_in}
-use Rattle.epoch_plans.specs.Plans.{world_log, run_of_world}
+use Rattle.epoch_structure_laws.specs.Plans.{world_log, run_of_world}
 use Rattle.epoch_laws.specs.Reach.{LeavesOnce, KeepsLoaded, past_of}
 
 abbrev pub MapState : Type 0

@@ -13,12 +13,14 @@ use Rattle.epoch_laws.specs.declared.step.Step.{Step}
 use Rattle.epoch_laws.specs.declared.step.Step.TheVariants.{Register as WorldRegister, Begin as WorldBegin}
 use Rattle.epoch_laws.specs.declared.step.Step.TheVariants.{Go as WorldGo, End as WorldEnd, EndGo as WorldEndGo}
 use Rattle.epoch_laws.specs.Run.{State, WorldSeat, seat_of, is_free, is_idle, is_out}
-use Rattle.epoch_plans.specs.declared.machine.Wish.{Wish}
-use Rattle.epoch_plans.specs.declared.machine.Wish.TheVariants.{Flush as FlushWish, Touch, Defer as DeferWish, Answer}
-use Rattle.epoch_plans.specs.declared.plan.Plan.{Plan}
-use Rattle.epoch_plans.specs.declared.plan.Plan.TheVariants.{NoPlan, Under}
-use Rattle.epoch_plans.specs.Plans.{Deed, Answers, Program, AllPlans, PlanEvent, Asked, Declined, Answered, Makes}
-use Rattle.epoch_plans.specs.Plans.{ptr_to, call_by, made_at, Follows, WorldThen, PlanRuns}
+use Rattle.epoch_structure_laws.specs.declared.machine.Wish.{Wish}
+use Rattle.epoch_structure_laws.specs.declared.machine.Wish.TheVariants.{Flush as FlushWish, Touch, Defer as DeferWish}
+use Rattle.epoch_structure_laws.specs.declared.machine.Wish.TheVariants.{Answer}
+use Rattle.epoch_structure_laws.specs.declared.plan.Plan.{Plan}
+use Rattle.epoch_structure_laws.specs.declared.plan.Plan.TheVariants.{NoPlan, Under}
+use Rattle.epoch_structure_laws.specs.Plans.{Deed, Answers, Program, AllPlans, PlanEvent, Asked, Declined, Answered}
+use Rattle.epoch_structure_laws.specs.Plans.{Makes}
+use Rattle.epoch_structure_laws.specs.Plans.{ptr_to, call_by, made_at, Follows, WorldThen, PlanRuns}
 use Rattle.epoch_structure_worlds.specs.declared.plans.step.PlainCall.{PlainCall}
 use Rattle.epoch_structure_worlds.specs.declared.plans.step.PlainCall.TheVariants.{Pin as PlainPin, Unpin as PlainUnpin}
 use Rattle.epoch_structure_worlds.specs.declared.plans.step.PlainCall.TheVariants.{Pause as PlainPause}

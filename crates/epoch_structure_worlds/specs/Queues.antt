@@ -11,7 +11,7 @@ use Rattle.epoch_structure_worlds.specs.declared.plans.step.PlanStep.{PlanStep}
 use Rattle.epoch_structure_worlds.specs.declared.plans.step.PlanStep.TheVariants.{Ask, Go}
 use Rattle.epoch_structure_worlds.specs.PlanWorlds.{PlanState, PlanEntry, PlanTakes, GoesByPlans, ListsSteps, events_of}
 use Rattle.epoch_structure_worlds.specs.PlanWorlds.{plan_run, plans_in}
-use Rattle.epoch_plans.specs.Plans.{world_log, run_of_world}
+use Rattle.epoch_structure_laws.specs.Plans.{world_log, run_of_world}
 use Rattle.epoch_structure_laws.specs.declared.queue.plan.QueuePhase.{QueuePhase}
 use Rattle.epoch_structure_laws.specs.declared.queue.plan.QueueAnswer.{QueueAnswer}
 use Rattle.epoch_structure_laws.specs.declared.queue.plan.QueueWork.{QueueWork}

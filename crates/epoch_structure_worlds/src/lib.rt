@@ -6,7 +6,7 @@ pub mod plans;
 pub mod queue;
 pub mod stack;
 
-pub use epoch_plans::{PhaseMachine, Plan, Wish, Works};
+pub use epoch_structure_laws::{PhaseMachine, Plan, Wish, Works};
 pub use map::MapWorld;
 pub use plans::{PlainCall, PlanReply, PlanStep, PlanWorld};
 pub use queue::QueueWorld;

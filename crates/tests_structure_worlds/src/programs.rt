@@ -6,9 +6,9 @@ use crate::structures::{
 use epoch_bags::Places;
 use epoch_cells::Fault;
 use epoch_laws::{Deferral, Reply};
-use epoch_plans::{PhaseMachine, Wish, Works};
 use epoch_structure_laws::map::MapPhase as MapPhase;
 use epoch_structure_laws::queue::QueuePhase as QueuePhase;
+use epoch_structure_laws::{PhaseMachine, Wish, Works};
 use epoch_structure_worlds::plans::{PlainCall, PlanReply, PlanStep};
 use epoch_world::{Call, Ptr, Step, World};
 use std::alloc::Global;

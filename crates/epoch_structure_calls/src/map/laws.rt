@@ -10,7 +10,7 @@ ghost use Rattle.epoch_structure_calls.specs.Ranks.{coded_work};
 ghost use Rattle.epoch_structure_laws.specs.declared.map.plan.MapPhase.{MapPhase};
 ghost use Rattle.epoch_structure_laws.specs.declared.map.plan.MapWork.{MapWork};
 ghost use Rattle.epoch_structure_laws.specs.MapProgram.{map_deed_of};
-ghost use Rattle.epoch_plans.specs.Plans.{after_by};
+ghost use Rattle.epoch_structure_laws.specs.Plans.{after_by};
 
 /// A call that is told only how keys compare with the one that it seeks goes hand in hand with a call that is told the
 /// entries themselves: it begins alike, each of its phases asks for the same call, and is followed by the same phase if

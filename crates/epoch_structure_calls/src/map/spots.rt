@@ -6,7 +6,7 @@ ghost use Rattle.epoch_laws.specs.declared.heap.access.AccessAnswer.TheVariants.
 ghost use Rattle.epoch_laws.specs.declared.heap.access.Change.TheVariants.{Load};
 ghost use Rattle.epoch_laws.specs.declared.heap.access.Spot.TheVariants.{Root, Field};
 ghost use Rattle.epoch_laws.specs.declared.step.Reply.TheVariants.{Done};
-ghost use Rattle.epoch_plans.specs.Plans.{ptr_to};
+ghost use Rattle.epoch_structure_laws.specs.Plans.{ptr_to};
 ghost use Rattle.epoch_structure_calls.specs.MapCalls.{coded};
 
 use crate::phases::Spots;

@@ -1,7 +1,7 @@
 //! How a call of a map goes along a bucket: over nodes of lower keys it takes a straight path.
 ghost use Rattle.std.specs.Prelude.{◌≡◌, ◌<◌, ◌-◌, IfOk, IfErr, IfSome};
 ghost use Rattle.epoch_laws.specs.declared.heap.access.Spot.TheVariants.{Field};
-ghost use Rattle.epoch_plans.specs.Plans.{ptr_to};
+ghost use Rattle.epoch_structure_laws.specs.Plans.{ptr_to};
 ghost use Rattle.epoch_structure_calls.specs.Paths.{ReadsOn};
 ghost use Rattle.epoch_structure_laws.specs.declared.map.plan.MapPhase.TheVariants.{Reading};
 ghost use Rattle.epoch_structure_laws.specs.MapProgram.{bucket_of, map_calls_left, map_deed_of, key_sought};
@@ -13,7 +13,7 @@ use crate::phases::{Ends, GoesAhead, as_reply, read_on};
 use epoch_cells::Name;
 use epoch_laws::Reply;
 use epoch_laws::heap::{Access, AccessAnswer, Change, Ptr, Spot};
-use epoch_plans::PhaseMachine;
+use epoch_structure_laws::PhaseMachine;
 use epoch_structure_laws::map::{Aim, MapPhase, key_of};
 
 /// The calls of a map end: each of their phases says how many calls are left at most. And they go ahead along a bucket,

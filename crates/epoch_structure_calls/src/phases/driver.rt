@@ -1,6 +1,6 @@
 //! A thread's call: the phases of its program, one after the other.
 ghost use Rattle.std.specs.Prelude.{◌≡◌, IsErr, IfOk, IfErr};
-ghost use Rattle.epoch_plans.specs.Plans.{Answers};
+ghost use Rattle.epoch_structure_laws.specs.Plans.{Answers};
 ghost use Rattle.epoch_structure_calls.specs.Paths.{PerformsBy, DoesBy};
 
 use crate::phases::ending::Ends;
@@ -10,7 +10,7 @@ use crate::phases::replies::{as_reply, newest};
 use crate::phases::spots::Spots;
 use epoch_cells::Fault;
 use epoch_laws::Reply;
-use epoch_plans::{PhaseMachine, Wish};
+use epoch_structure_laws::{PhaseMachine, Wish};
 
 /// What a call came to.
 #[derive(Clone, Copy, Debug, PartialEq, Eq)]

@@ -1,8 +1,8 @@
 //! Why the calls of a program end.
 ghost use Rattle.std.specs.Prelude.{ℕ};
-ghost use Rattle.epoch_plans.specs.Plans.{IsLowered};
+ghost use Rattle.epoch_structure_laws.specs.Plans.{IsLowered};
 
-use epoch_plans::PhaseMachine;
+use epoch_structure_laws::PhaseMachine;
 
 /// Why the calls of a program end. No value of it is made.
 pub trait Ends<P: PhaseMachine> {

@@ -1,13 +1,13 @@
 //! How far a call goes on by accesses that write nothing.
 ghost use Rattle.std.specs.Prelude.{◌≡◌, None};
-ghost use Rattle.epoch_plans.specs.Asks.{wish_of};
+ghost use Rattle.epoch_structure_laws.specs.Asks.{wish_of};
 ghost use Rattle.epoch_structure_calls.specs.Paths.{ReadsOn, read_only, reading_of};
 
 use crate::phases::ending::Ends;
 use crate::phases::replies::as_reply;
 use crate::phases::spots::Spots;
 use epoch_laws::heap::{Access, Change};
-use epoch_plans::{PhaseMachine, Wish};
+use epoch_structure_laws::{PhaseMachine, Wish};
 
 /// How the calls of a program go ahead over those phases that only read. No value of it is made.
 pub trait GoesAhead<P: PhaseMachine, L: Spots> {

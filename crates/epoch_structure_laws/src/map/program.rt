@@ -1,18 +1,18 @@
 //! The map's program as code: what each phase asks for, and which phase follows from each reply.
 ghost use Rattle.std.specs.Prelude.{◌≡◌, ℕ};
-ghost use Rattle.epoch_plans.specs.declared.machine.Wish.TheVariants.{Touch};
-ghost use Rattle.epoch_plans.specs.Asks.{wish_of};
-ghost use Rattle.epoch_plans.specs.Plans.{done_by, ptr_to, refused_by};
+ghost use Rattle.epoch_structure_laws.specs.declared.machine.Wish.TheVariants.{Touch};
+ghost use Rattle.epoch_structure_laws.specs.Asks.{wish_of};
+ghost use Rattle.epoch_structure_laws.specs.Plans.{done_by, ptr_to, refused_by};
 ghost use Rattle.epoch_structure_laws.specs.MapProgram.{MapStarts, again, at, absent, begin_map_work, bucket_of};
 ghost use Rattle.epoch_structure_laws.specs.MapProgram.{map_deed_of, map_exchange, node_key, key_sought, leaking};
 ghost use Rattle.epoch_structure_laws.specs.MapProgram.{map_load, looked_at, lost, marked, out_of_moves, plain};
 ghost use Rattle.epoch_structure_laws.specs.MapProgram.{present, start_map_work, to_look};
 
 use crate::map::plan::{Aim, MapAnswer, MapPhase, MapWork};
+use crate::{PhaseMachine, Wish, Works};
 use epoch_cells::Name;
 use epoch_laws::Reply;
 use epoch_laws::heap::{Access, AccessAnswer, Change, Ptr, Spot};
-use epoch_plans::{PhaseMachine, Wish, Works};
 
 /// The key of an entry: the upper 32 bits of the number, the lower being the value.
 #[inline(always)]

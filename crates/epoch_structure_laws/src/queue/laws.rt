@@ -5,7 +5,7 @@ ghost use Rattle.epoch_laws.specs.declared.step.Entry.{Entry};
 ghost use Rattle.epoch_laws.specs.declared.step.Reply.{Reply};
 ghost use Rattle.epoch_laws.specs.Run.{State, TakesStep};
 ghost use Rattle.epoch_laws.specs.Reach.{LeavesOnce, KeepsLoaded, past_of};
-ghost use Rattle.epoch_plans.specs.Plans.{AllPlans, IsLowered, after_by, world_log, run_of_world};
+ghost use Rattle.epoch_structure_laws.specs.Plans.{AllPlans, IsLowered, after_by, world_log, run_of_world};
 ghost use Rattle.epoch_structure_laws.specs.declared.queue.plan.QueuePhase.{QueuePhase};
 ghost use Rattle.epoch_structure_laws.specs.declared.queue.plan.QueuePhase.TheVariants.{Answering};
 ghost use Rattle.epoch_structure_laws.specs.declared.queue.plan.QueueAnswer.{QueueAnswer};

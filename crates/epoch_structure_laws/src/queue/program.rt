@@ -1,17 +1,17 @@
 //! The queue's program as code: what each phase asks for, and which phase follows from each reply.
 ghost use Rattle.std.specs.Prelude.{◌≡◌, ℕ};
-ghost use Rattle.epoch_plans.specs.declared.machine.Wish.TheVariants.{Touch};
-ghost use Rattle.epoch_plans.specs.Asks.{wish_of};
-ghost use Rattle.epoch_plans.specs.Plans.{done_by, ptr_to, refused_by};
+ghost use Rattle.epoch_structure_laws.specs.declared.machine.Wish.TheVariants.{Touch};
+ghost use Rattle.epoch_structure_laws.specs.Asks.{wish_of};
+ghost use Rattle.epoch_structure_laws.specs.Plans.{done_by, ptr_to, refused_by};
 ghost use Rattle.epoch_structure_laws.specs.QueueProgram.{QueueStarts, begin_queue_work, queue_deed_of, queue_exchange};
 ghost use Rattle.epoch_structure_laws.specs.QueueProgram.{queue_load, looked_back, retry_pop, retry_push};
 ghost use Rattle.epoch_structure_laws.specs.QueueProgram.{start_queue_work, to_append, to_last, to_next, to_read};
 
 use crate::queue::plan::{QueueAnswer, QueuePhase, QueueWork};
+use crate::{PhaseMachine, Wish, Works};
 use epoch_cells::Name;
 use epoch_laws::Reply;
 use epoch_laws::heap::{Access, AccessAnswer, Change, Ptr, Spot, is_name};
-use epoch_plans::{PhaseMachine, Wish, Works};
 
 const HEAD: Spot = Spot::Root(0);
 

@@ -1,7 +1,7 @@
 //! Which replies the calls of a queue may get: laws of the definitions.
 ghost use Rattle.std.specs.Prelude.{◌≡◌, ◌∷◌, [], ℕ, Bool};
 ghost use Rattle.epoch_laws.specs.Run.{State};
-ghost use Rattle.epoch_plans.specs.Plans.{AllPlans, Asked};
+ghost use Rattle.epoch_structure_laws.specs.Plans.{AllPlans, Asked};
 ghost use Rattle.epoch_structure_laws.specs.QueueProgram.{QueueLog, QueueRuns, begin_queue_work};
 ghost use Rattle.epoch_structure_laws.specs.declared.queue.plan.QueuePhase.{QueuePhase};
 ghost use Rattle.epoch_structure_laws.specs.declared.queue.plan.QueueWork.{QueueWork};

@@ -1,13 +1,13 @@
 //! Which call of the world a phase makes, and what follows from its reply.
 ghost use Rattle.std.specs.Prelude.{◌≡◌};
-ghost use Rattle.epoch_plans.specs.Plans.{plan_begun, plan_gone, ptr_to};
+ghost use Rattle.epoch_structure_laws.specs.Plans.{plan_begun, plan_gone, ptr_to};
 ghost use Rattle.epoch_structure_worlds.specs.PlanWorlds.{call_wished, plain_call, reply_told};
 
 use crate::plans::step::PlainCall;
 use epoch_cells::Name;
 use epoch_laws::heap::Ptr;
 use epoch_laws::{Call, Reply};
-use epoch_plans::{PhaseMachine, Plan, Wish};
+use epoch_structure_laws::{PhaseMachine, Plan, Wish};
 
 /// Returns the call of the world that a participant begins by itself.
 pub fn plain_call(call: PlainCall) -> Call

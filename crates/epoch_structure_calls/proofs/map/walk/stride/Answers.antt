@@ -5,7 +5,7 @@ use Rattle.epoch_laws.specs.declared.heap.access.Change.TheVariants.{Load}
 use Rattle.epoch_laws.specs.declared.heap.access.Ptr.{Ptr}
 use Rattle.epoch_laws.specs.declared.heap.access.Spot.TheVariants.{Field}
 use Rattle.epoch_laws.specs.declared.step.Reply.TheVariants.{Done}
-use Rattle.epoch_plans.specs.Plans.{ptr_to, after_by}
+use Rattle.epoch_structure_laws.specs.Plans.{ptr_to, after_by}
 use Rattle.epoch_structure_laws.specs.declared.map.plan.MapPhase.TheVariants.{Reading, LoadingNext}
 use Rattle.epoch_structure_laws.specs.MapProgram.{map_deed_of}
 use Rattle.epoch_structure_calls.proofs.Strides.{reads_one, reads_so, reads_to_next, strides_on, lower_key}

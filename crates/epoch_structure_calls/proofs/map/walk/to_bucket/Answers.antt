@@ -1,7 +1,7 @@
 use Rattle.std.proofs.Common.{◌∙◌, ℕ, refl, sym, ap, subst}
 use Rattle.epoch_laws.specs.declared.heap.access.Spot.TheVariants.{Root}
 use Rattle.epoch_laws.specs.declared.step.Reply.{Reply}
-use Rattle.epoch_plans.specs.Plans.{after_by}
+use Rattle.epoch_structure_laws.specs.Plans.{after_by}
 use Rattle.epoch_structure_calls.specs.Paths.{IsTold, reply_given, ReadsOn}
 use Rattle.epoch_structure_laws.specs.declared.map.plan.MapPhase.{MapPhase}
 use Rattle.epoch_structure_laws.specs.declared.map.plan.MapPhase.TheVariants.{LoadingFirst}

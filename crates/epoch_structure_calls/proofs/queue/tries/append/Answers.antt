@@ -2,7 +2,7 @@ use Rattle.std.proofs.Common.{◌≡◌, None, ap, refl}
 use Rattle.epoch_laws.specs.declared.step.Reply.{Reply}
 use Rattle.epoch_structure_calls.proofs.Touched.{begins_touching}
 use Rattle.epoch_structure_calls.proofs.PathSteps.{path_is_over}
-use Rattle.epoch_plans.specs.Plans.{Answers, after_by}
+use Rattle.epoch_structure_laws.specs.Plans.{Answers, after_by}
 use Rattle.epoch_structure_laws.specs.declared.queue.plan.QueuePhase.TheVariants.{TakingBack, Answering}
 use Rattle.epoch_structure_laws.specs.declared.queue.plan.QueueAnswer.TheVariants.{Pushed}
 use Rattle.epoch_structure_laws.specs.QueueProgram.{queue_deed_of, retry_push}

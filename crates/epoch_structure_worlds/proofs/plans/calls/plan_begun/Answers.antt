@@ -1,7 +1,7 @@
 use Rattle.std.proofs.Common.{ap, ◌∙◌, false}
 use Rattle.epoch_laws.specs.declared.step.Reply.{Reply}
-use Rattle.epoch_plans.specs.declared.plan.Plan.TheVariants.{Under}
-use Rattle.epoch_plans.specs.Plans.{after_by}
+use Rattle.epoch_structure_laws.specs.declared.plan.Plan.TheVariants.{Under}
+use Rattle.epoch_structure_laws.specs.Plans.{after_by}
 use Rattle.epoch_structure_worlds.proofs.plans.calls.plan_begun.Goals as goal
 
 pub returns-in-Refused : goal.returns-in-Refused

@@ -16,8 +16,8 @@ use Rattle.epoch_laws.specs.declared.step.Reply.{Reply}
 use Rattle.epoch_laws.specs.declared.step.Reply.TheVariants.{Refused}
 use Rattle.epoch_laws.specs.Reach.{IsReachable, Past}
 use Rattle.epoch_laws.proofs.TurnsGiven.{IsGiven, StaysGiven}
-use Rattle.epoch_plans.specs.Plans.{Deed, Touches, Defers, Program, call_by, after_by, IsOver, IsFit, IsFlush}
-use Rattle.epoch_plans.proofs.Custody.{Calm, Passed, Structure, Sane, Acts}
+use Rattle.epoch_structure_laws.specs.Plans.{Deed, Touches, Defers, Program, call_by, after_by, IsOver, IsFit, IsFlush}
+use Rattle.epoch_structure_laws.proofs.Custody.{Calm, Passed, Structure, Sane, Acts}
 
 -- the phase after one step of a call on cells and pointers
 abbrev pub phase_after : {P : Type 0} → P → (AccessAnswer → P) → P → Accessed → P

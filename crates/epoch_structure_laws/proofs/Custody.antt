@@ -26,9 +26,9 @@ use Rattle.epoch_laws.specs.Removals.{IsInBag}
 use Rattle.epoch_laws.proofs.SeatLinks.{AllLinked}
 use Rattle.epoch_laws.proofs.TurnsGiven.{IsGiven}
 use Rattle.epoch_laws.proofs.PointerSteps.{Fewer, fewer_same}
-use Rattle.epoch_plans.specs.declared.plan.Plan.{Plan}
-use Rattle.epoch_plans.specs.declared.plan.Plan.TheVariants.{NoPlan, Under}
-use Rattle.epoch_plans.specs.Plans.{Program, AllPlans, IsPlain, call_by, after_by}
+use Rattle.epoch_structure_laws.specs.declared.plan.Plan.{Plan}
+use Rattle.epoch_structure_laws.specs.declared.plan.Plan.TheVariants.{NoPlan, Under}
+use Rattle.epoch_structure_laws.specs.Plans.{Program, AllPlans, IsPlain, call_by, after_by}
 
 -- two numbers are equal or not
 pub same_number : (a b : ℕ) → (a ≡ b) ⊎ (a ≢ b)

@@ -17,8 +17,8 @@ use Rattle.epoch_laws.specs.declared.step.Step.TheVariants.{Register, Begin, Go,
 use Rattle.epoch_laws.specs.declared.step.Progress.TheVariants.{Idle}
 use Rattle.epoch_laws.specs.Heap.{has_steps}
 use Rattle.epoch_laws.specs.Run.{State, seat_of, TakesStep, Runs}
-use Rattle.epoch_plans.specs.declared.plan.Plan.{Plan}
-use Rattle.epoch_plans.specs.declared.plan.Plan.TheVariants.{NoPlan, Under}
+use Rattle.epoch_structure_laws.specs.declared.plan.Plan.{Plan}
+use Rattle.epoch_structure_laws.specs.declared.plan.Plan.TheVariants.{NoPlan, Under}
 
 -- WHAT A PHASE DOES
 

@@ -41,22 +41,28 @@ use Rattle.epoch_laws.proofs.GuardsStay.{idle_ended}
 use Rattle.epoch_laws.proofs.HeapSteps.{heap_goes}
 use Rattle.epoch_laws.proofs.JobsAsDeferred.{JobsGo, jobs_go}
 use Rattle.epoch_laws.proofs.TurnsGiven.{touches_given}
-use Rattle.epoch_plans.specs.declared.plan.Plan.{Plan}
-use Rattle.epoch_plans.specs.declared.plan.Plan.TheVariants.{NoPlan, Under}
-use Rattle.epoch_plans.specs.Plans.{Deed, Flushes, Touches, Defers, Answers, Program, AllPlans}
-use Rattle.epoch_plans.specs.Plans.{ptr_to, call_by, after_by, IsOver, TakesNone, IsFit, IsFlush, IsPlain, Replans}
-use Rattle.epoch_plans.specs.Plans.{KeepsPlans, plan_begun, plan_gone, IsOther}
-use Rattle.epoch_plans.proofs.Custody.{IsLoose, IsUnguarded, IsAccessing, IsDeferring, IsBegun, Tied, now_deferring}
-use Rattle.epoch_plans.proofs.Custody.{now_under, now_of, now, Passed, Calm, AllLeft, Structure, OwnsNow, StandsNow}
-use Rattle.epoch_plans.proofs.Custody.{Acts, Sound, IsHarmless, sound_after, leaves_after}
-use Rattle.epoch_plans.proofs.Obligations.{phase_after, after_touch, TouchesBy, Weaker, Settled, HandsOver, Obeys}
-use Rattle.epoch_plans.proofs.CalmSteps.{calm_step, jobs_left}
-use Rattle.epoch_plans.proofs.Moved.{go_taken, Accessing, accessing, ended_with, Deferring, at_seal, at_put, at_keep}
-use Rattle.epoch_plans.proofs.Moved.{at_end, deferring, begin_refused, begin_made, registered, takes_place}
-use Rattle.epoch_plans.proofs.Moved.{changes_none, Registering, registering, alone, unmoved, end_unmoved}
-use Rattle.epoch_plans.proofs.Moved.{ending_unmoved, go_loose, go_plain}
-use Rattle.epoch_plans.proofs.Steps.{fewer_reach, plain_begun, end_not_deferred, gone_end, begun_now, begun_tied}
-use Rattle.epoch_plans.proofs.Steps.{tied_not_now, loose_now, room_tied, gone_now, gone_tied}
+use Rattle.epoch_structure_laws.specs.declared.plan.Plan.{Plan}
+use Rattle.epoch_structure_laws.specs.declared.plan.Plan.TheVariants.{NoPlan, Under}
+use Rattle.epoch_structure_laws.specs.Plans.{Deed, Flushes, Touches, Defers, Answers, Program, AllPlans}
+use Rattle.epoch_structure_laws.specs.Plans.{ptr_to, call_by, after_by, IsOver, TakesNone, IsFit, IsFlush, IsPlain}
+use Rattle.epoch_structure_laws.specs.Plans.{Replans}
+use Rattle.epoch_structure_laws.specs.Plans.{KeepsPlans, plan_begun, plan_gone, IsOther}
+use Rattle.epoch_structure_laws.proofs.Custody.{IsLoose, IsUnguarded, IsAccessing, IsDeferring, IsBegun, Tied}
+use Rattle.epoch_structure_laws.proofs.Custody.{now_deferring}
+use Rattle.epoch_structure_laws.proofs.Custody.{now_under, now_of, now, Passed, Calm, AllLeft, Structure, OwnsNow}
+use Rattle.epoch_structure_laws.proofs.Custody.{StandsNow}
+use Rattle.epoch_structure_laws.proofs.Custody.{Acts, Sound, IsHarmless, sound_after, leaves_after}
+use Rattle.epoch_structure_laws.proofs.Obligations.{phase_after, after_touch, TouchesBy, Weaker, Settled, HandsOver}
+use Rattle.epoch_structure_laws.proofs.Obligations.{Obeys}
+use Rattle.epoch_structure_laws.proofs.CalmSteps.{calm_step, jobs_left}
+use Rattle.epoch_structure_laws.proofs.Moved.{go_taken, Accessing, accessing, ended_with, Deferring, at_seal, at_put}
+use Rattle.epoch_structure_laws.proofs.Moved.{at_keep}
+use Rattle.epoch_structure_laws.proofs.Moved.{at_end, deferring, begin_refused, begin_made, registered, takes_place}
+use Rattle.epoch_structure_laws.proofs.Moved.{changes_none, Registering, registering, alone, unmoved, end_unmoved}
+use Rattle.epoch_structure_laws.proofs.Moved.{ending_unmoved, go_loose, go_plain}
+use Rattle.epoch_structure_laws.proofs.Steps.{fewer_reach, plain_begun, end_not_deferred, gone_end, begun_now}
+use Rattle.epoch_structure_laws.proofs.Steps.{begun_tied}
+use Rattle.epoch_structure_laws.proofs.Steps.{tied_not_now, loose_now, room_tied, gone_now, gone_tied}
 
 -- a step of the world, at which the plans pass from plans to plans'
 module _ (S : Program) (T : Structure S) (Starts : S.Phase → Type 0) (obeys : Obeys S T Starts) (past : Past)

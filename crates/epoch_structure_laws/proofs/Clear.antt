@@ -27,8 +27,8 @@ use Rattle.epoch_laws.proofs.StepKinds.{StepKind, Refusal, Registration, CallBeg
 use Rattle.epoch_laws.proofs.StepKinds.{LastReply, EndBegins, EndCalls, EndTakes, EndIsOver, step_kind}
 use Rattle.epoch_laws.proofs.SeatLinks.{IsInStep}
 use Rattle.epoch_laws.specs.Reach.{LetsGo}
-use Rattle.epoch_plans.proofs.Custody.{IsLoose, IsUnguarded}
-use Rattle.epoch_plans.proofs.Driven.{end_not_repinned}
+use Rattle.epoch_structure_laws.proofs.Custody.{IsLoose, IsUnguarded}
+use Rattle.epoch_structure_laws.proofs.Driven.{end_not_repinned}
 
 -- the step is one of p's
 abbrev pub IsOf : Step → ℕ → Type 0

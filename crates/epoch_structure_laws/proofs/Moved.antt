@@ -24,8 +24,8 @@ use Rattle.epoch_laws.specs.Run.{DrivesCall, DoesGo, Moves, Bag, Ending, Open, E
 use Rattle.epoch_laws.specs.Run.{access_reply, accessed_seat, BeginsCall, EndGoes}
 use Rattle.epoch_laws.proofs.SeatLemmas.{seat_written, seat_other, seat_there}
 use Rattle.epoch_laws.proofs.GuardsStay.{idle_ended}
-use Rattle.epoch_plans.proofs.Custody.{IsLoose, IsUnguarded, IsDeferring}
-use Rattle.epoch_plans.specs.Plans.{IsPlain}
+use Rattle.epoch_structure_laws.proofs.Custody.{IsLoose, IsUnguarded, IsDeferring}
+use Rattle.epoch_structure_laws.specs.Plans.{IsPlain}
 use Rattle.epoch_bags.specs.declared.queue.PutStep.{PutStep}
 use Rattle.epoch_machine.specs.declared.machine.Answer.TheVariants.{Job}
 use Rattle.epoch_laws.specs.Heap.{Touched, Touches}

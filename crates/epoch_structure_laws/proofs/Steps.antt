@@ -24,15 +24,15 @@ use Rattle.epoch_laws.specs.Run.{access_reply, accessed_seat}
 use Rattle.epoch_laws.specs.Reach.{IsReachable, from_root, from_field}
 use Rattle.epoch_laws.proofs.QuietReplies.{quiet_end}
 use Rattle.epoch_laws.proofs.PointerSteps.{Fewer}
-use Rattle.epoch_plans.specs.declared.plan.Plan.{Plan}
-use Rattle.epoch_plans.specs.declared.plan.Plan.TheVariants.{NoPlan, Under}
-use Rattle.epoch_plans.specs.Plans.{Deed, Flushes, Touches, Defers, Answers, Program, ptr_to}
-use Rattle.epoch_plans.specs.Plans.{call_by, after_by, IsOver, IsFit, IsPlain}
-use Rattle.epoch_plans.specs.Plans.{plan_gone}
-use Rattle.epoch_plans.proofs.Custody.{IsLoose, IsUnguarded, IsAccessing, IsDeferring, IsBegun, Tied}
-use Rattle.epoch_plans.proofs.Custody.{now_driven, now_under, now_of, now}
-use Rattle.epoch_plans.proofs.Obligations.{phase_after}
-use Rattle.epoch_plans.proofs.Moved.{is_end}
+use Rattle.epoch_structure_laws.specs.declared.plan.Plan.{Plan}
+use Rattle.epoch_structure_laws.specs.declared.plan.Plan.TheVariants.{NoPlan, Under}
+use Rattle.epoch_structure_laws.specs.Plans.{Deed, Flushes, Touches, Defers, Answers, Program, ptr_to}
+use Rattle.epoch_structure_laws.specs.Plans.{call_by, after_by, IsOver, IsFit, IsPlain}
+use Rattle.epoch_structure_laws.specs.Plans.{plan_gone}
+use Rattle.epoch_structure_laws.proofs.Custody.{IsLoose, IsUnguarded, IsAccessing, IsDeferring, IsBegun, Tied}
+use Rattle.epoch_structure_laws.proofs.Custody.{now_driven, now_under, now_of, now}
+use Rattle.epoch_structure_laws.proofs.Obligations.{phase_after}
+use Rattle.epoch_structure_laws.proofs.Moved.{is_end}
 
 -- REACH
 

@@ -17,16 +17,17 @@ use Rattle.epoch_laws.proofs.SeatLemmas.{seat_there}
 use Rattle.epoch_laws.specs.Reach.{Past}
 use Rattle.epoch_laws.proofs.HeapSteps.{heap_goes}
 use Rattle.epoch_laws.proofs.JobsAsDeferred.{JobsGo, jobs_go}
-use Rattle.epoch_plans.specs.declared.plan.Plan.{Plan}
-use Rattle.epoch_plans.specs.declared.plan.Plan.TheVariants.{NoPlan, Under}
-use Rattle.epoch_plans.specs.Plans.{Deed, Flushes, Touches, Defers, Answers, Program, AllPlans}
-use Rattle.epoch_plans.specs.Plans.{call_by}
-use Rattle.epoch_plans.proofs.Custody.{IsLoose, IsUnguarded, IsAccessing, IsBegun, Tied, now_under, now_of, now, Calm}
-use Rattle.epoch_plans.proofs.Custody.{Structure, StandsNow, Sound}
-use Rattle.epoch_plans.proofs.Obligations.{TouchesBy}
-use Rattle.epoch_plans.proofs.CalmSteps.{calm_step}
-use Rattle.epoch_plans.proofs.Moved.{go_taken, Accessing, accessing, alone}
-use Rattle.epoch_plans.proofs.Steps.{tied_not_now}
+use Rattle.epoch_structure_laws.specs.declared.plan.Plan.{Plan}
+use Rattle.epoch_structure_laws.specs.declared.plan.Plan.TheVariants.{NoPlan, Under}
+use Rattle.epoch_structure_laws.specs.Plans.{Deed, Flushes, Touches, Defers, Answers, Program, AllPlans}
+use Rattle.epoch_structure_laws.specs.Plans.{call_by}
+use Rattle.epoch_structure_laws.proofs.Custody.{IsLoose, IsUnguarded, IsAccessing, IsBegun, Tied, now_under, now_of}
+use Rattle.epoch_structure_laws.proofs.Custody.{now, Calm}
+use Rattle.epoch_structure_laws.proofs.Custody.{Structure, StandsNow, Sound}
+use Rattle.epoch_structure_laws.proofs.Obligations.{TouchesBy}
+use Rattle.epoch_structure_laws.proofs.CalmSteps.{calm_step}
+use Rattle.epoch_structure_laws.proofs.Moved.{go_taken, Accessing, accessing, alone}
+use Rattle.epoch_structure_laws.proofs.Steps.{tied_not_now}
 
 module _ (S : Program) (T : Structure S) (past : Past) (old new : State) (plans : AllPlans S.Phase) (x : Entry)
     (sound : Sound S T past old plans) where

@@ -2,11 +2,12 @@
 use Rattle.std.proofs.Common.{◌≡◌, ℕ, List, [], ◌∷◌, Some, None, refl, sym, subst}
 use Rattle.epoch_laws.specs.Run.{State}
 use Rattle.epoch_laws.specs.Reach.{Past, past_after}
-use Rattle.epoch_plans.specs.Plans.{Program, AllPlans, PlanEvent, Asked, Declined, Answered, Makes, Follows, made_at}
-use Rattle.epoch_plans.specs.Plans.{WorldThen, PlanRuns}
-use Rattle.epoch_plans.proofs.Custody.{Structure, Sound}
-use Rattle.epoch_plans.proofs.Obligations.{Obeys}
-use Rattle.epoch_plans.proofs.Runs.{follows_none, follows_some}
+use Rattle.epoch_structure_laws.specs.Plans.{Program, AllPlans, PlanEvent, Asked, Declined, Answered, Makes, Follows}
+use Rattle.epoch_structure_laws.specs.Plans.{made_at}
+use Rattle.epoch_structure_laws.specs.Plans.{WorldThen, PlanRuns}
+use Rattle.epoch_structure_laws.proofs.Custody.{Structure, Sound}
+use Rattle.epoch_structure_laws.proofs.Obligations.{Obeys}
+use Rattle.epoch_structure_laws.proofs.Runs.{follows_none, follows_some}
 
 module _ (S : Program) (T : Structure S) (Starts : S.Phase → Type 0) (obeys : Obeys S T Starts) where
   pub runs_sound : (past : Past) (world : State) (plans : AllPlans S.Phase)

@@ -45,25 +45,28 @@ use Rattle.epoch_laws.proofs.SizesStay.{moves_same}
 use Rattle.epoch_laws.specs.Reach.{IsLoadedFrom, LetsGo, Meets, Past, past_after}
 use Rattle.epoch_laws.proofs.PointersGiven.{WasGiven}
 use Rattle.epoch_laws.proofs.WorldAlong.{Holds}
-use Rattle.epoch_plans.specs.declared.plan.Plan.{Plan}
-use Rattle.epoch_plans.specs.declared.plan.Plan.TheVariants.{NoPlan, Under}
-use Rattle.epoch_plans.specs.Plans.{Deed, Flushes, Touches, Defers, Answers, Program, AllPlans, IsFit, IsOver, Replans}
-use Rattle.epoch_plans.specs.Plans.{KeepsPlans, call_by, after_by, plan_begun, plan_gone, ptr_to}
-use Rattle.epoch_plans.proofs.Custody.{same_number, IsAccessing, IsBegun, Tied, now, now_of, now_under, Structure}
-use Rattle.epoch_plans.proofs.Custody.{StandsNow, Sound}
-use Rattle.epoch_plans.proofs.Moved.{is_end, go_taken, accessing, ended_with, begin_refused, begin_made}
-use Rattle.epoch_plans.proofs.Moved.{Alone, alone, unmoved}
-use Rattle.epoch_plans.proofs.Obligations.{Obeys}
-use Rattle.epoch_plans.specs.Served.{AnswersAccess, RefusesAccess, RefusesDeed, IsExpected, SeatHasRoom}
-use Rattle.epoch_plans.proofs.Begun.{begin_expected}
-use Rattle.epoch_plans.proofs.Clear.{IsOf, lets_own, reads_none}
-use Rattle.epoch_plans.proofs.Driven.{GoesOn, IsOverAt, Drove, drove, FlushesAt, Flushing, flush_still}
-use Rattle.epoch_plans.proofs.Driven.{flush_heard}
-use Rattle.epoch_plans.proofs.Driven.{Keeping, keeps_still, keep_heard}
-use Rattle.epoch_plans.proofs.Duties.{Knowledge, Fewer, Allows, LoadedBy, Serves, duty_of}
-use Rattle.epoch_plans.proofs.Ready.{ExpectedBy, next_under, RoomAt, Sees, Works, Steady, AllSteady, steady_later}
-use Rattle.epoch_plans.proofs.Ready.{ready_same, going_on, expected_silent, begun_at}
-use Rattle.epoch_plans.proofs.Told.{ToldAs, touch_told, told_given, load_found, again_reads}
+use Rattle.epoch_structure_laws.specs.declared.plan.Plan.{Plan}
+use Rattle.epoch_structure_laws.specs.declared.plan.Plan.TheVariants.{NoPlan, Under}
+use Rattle.epoch_structure_laws.specs.Plans.{Deed, Flushes, Touches, Defers, Answers, Program, AllPlans, IsFit, IsOver}
+use Rattle.epoch_structure_laws.specs.Plans.{Replans}
+use Rattle.epoch_structure_laws.specs.Plans.{KeepsPlans, call_by, after_by, plan_begun, plan_gone, ptr_to}
+use Rattle.epoch_structure_laws.proofs.Custody.{same_number, IsAccessing, IsBegun, Tied, now, now_of, now_under}
+use Rattle.epoch_structure_laws.proofs.Custody.{Structure}
+use Rattle.epoch_structure_laws.proofs.Custody.{StandsNow, Sound}
+use Rattle.epoch_structure_laws.proofs.Moved.{is_end, go_taken, accessing, ended_with, begin_refused, begin_made}
+use Rattle.epoch_structure_laws.proofs.Moved.{Alone, alone, unmoved}
+use Rattle.epoch_structure_laws.proofs.Obligations.{Obeys}
+use Rattle.epoch_structure_laws.specs.Served.{AnswersAccess, RefusesAccess, RefusesDeed, IsExpected, SeatHasRoom}
+use Rattle.epoch_structure_laws.proofs.Begun.{begin_expected}
+use Rattle.epoch_structure_laws.proofs.Clear.{IsOf, lets_own, reads_none}
+use Rattle.epoch_structure_laws.proofs.Driven.{GoesOn, IsOverAt, Drove, drove, FlushesAt, Flushing, flush_still}
+use Rattle.epoch_structure_laws.proofs.Driven.{flush_heard}
+use Rattle.epoch_structure_laws.proofs.Driven.{Keeping, keeps_still, keep_heard}
+use Rattle.epoch_structure_laws.proofs.Duties.{Knowledge, Fewer, Allows, LoadedBy, Serves, duty_of}
+use Rattle.epoch_structure_laws.proofs.Ready.{ExpectedBy, next_under, RoomAt, Sees, Works, Steady, AllSteady}
+use Rattle.epoch_structure_laws.proofs.Ready.{steady_later}
+use Rattle.epoch_structure_laws.proofs.Ready.{ready_same, going_on, expected_silent, begun_at}
+use Rattle.epoch_structure_laws.proofs.Told.{ToldAs, touch_told, told_given, load_found, again_reads}
 
 -- a placing that is refused reads nothing
 unplaced_reads : (a : Access) (readings : List Name) → RefusesAccess a CellsFull

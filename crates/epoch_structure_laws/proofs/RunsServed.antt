@@ -22,21 +22,24 @@ use Rattle.epoch_laws.proofs.HeapSteps.{HeapGoes, heap_goes}
 use Rattle.epoch_laws.proofs.HeldByTouches.{holds_touched}
 use Rattle.epoch_laws.proofs.PointersGiven.{WasGiven}
 use Rattle.epoch_laws.proofs.WorldAlong.{Along, later, push, world_holds}
-use Rattle.epoch_plans.specs.declared.plan.Plan.{Plan}
-use Rattle.epoch_plans.specs.declared.plan.Plan.TheVariants.{NoPlan, Under}
-use Rattle.epoch_plans.specs.Plans.{Deed, Flushes, Touches, Defers, Answers, Program, AllPlans, IsFlush, IsOther}
-use Rattle.epoch_plans.specs.Plans.{KeepsPlans, Replans, PlanEvent, Asked, Declined, Answered, Makes, Follows, asks}
-use Rattle.epoch_plans.specs.Plans.{declines, answers, passes, free_begins, free_goes, begins, goes, made_at, WorldThen}
-use Rattle.epoch_plans.specs.Plans.{PlanRuns, plan_begun, plan_gone}
-use Rattle.epoch_plans.proofs.Custody.{same_number, Sound, Structure}
-use Rattle.epoch_plans.proofs.Obligations.{Obeys}
-use Rattle.epoch_plans.proofs.Runs.{follows_none, follows_some}
-use Rattle.epoch_plans.specs.Served.{AsksReady, AtEachStep, SeatHasRoom, ServesAt, ServesPlan}
-use Rattle.epoch_plans.specs.Served.{ServesStep, ThenAlso}
-use Rattle.epoch_plans.proofs.Clear.{IsOf}
-use Rattle.epoch_plans.proofs.Duties.{Knowledge, Serves, duty_of}
-use Rattle.epoch_plans.proofs.Ready.{AllSteady, RoomAt, Steady}
-use Rattle.epoch_plans.proofs.StepServed.{begin_served, free_served, go_served}
+use Rattle.epoch_structure_laws.specs.declared.plan.Plan.{Plan}
+use Rattle.epoch_structure_laws.specs.declared.plan.Plan.TheVariants.{NoPlan, Under}
+use Rattle.epoch_structure_laws.specs.Plans.{Deed, Flushes, Touches, Defers, Answers, Program, AllPlans, IsFlush}
+use Rattle.epoch_structure_laws.specs.Plans.{IsOther}
+use Rattle.epoch_structure_laws.specs.Plans.{KeepsPlans, Replans, PlanEvent, Asked, Declined, Answered, Makes, Follows}
+use Rattle.epoch_structure_laws.specs.Plans.{asks}
+use Rattle.epoch_structure_laws.specs.Plans.{declines, answers, passes, free_begins, free_goes, begins, goes, made_at}
+use Rattle.epoch_structure_laws.specs.Plans.{WorldThen}
+use Rattle.epoch_structure_laws.specs.Plans.{PlanRuns, plan_begun, plan_gone}
+use Rattle.epoch_structure_laws.proofs.Custody.{same_number, Sound, Structure}
+use Rattle.epoch_structure_laws.proofs.Obligations.{Obeys}
+use Rattle.epoch_structure_laws.proofs.Runs.{follows_none, follows_some}
+use Rattle.epoch_structure_laws.specs.Served.{AsksReady, AtEachStep, SeatHasRoom, ServesAt, ServesPlan}
+use Rattle.epoch_structure_laws.specs.Served.{ServesStep, ThenAlso}
+use Rattle.epoch_structure_laws.proofs.Clear.{IsOf}
+use Rattle.epoch_structure_laws.proofs.Duties.{Knowledge, Serves, duty_of}
+use Rattle.epoch_structure_laws.proofs.Ready.{AllSteady, RoomAt, Steady}
+use Rattle.epoch_structure_laws.proofs.StepServed.{begin_served, free_served, go_served}
 
 -- THE NUMBER OF FIELDS
 

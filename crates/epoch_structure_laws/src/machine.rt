@@ -1,7 +1,7 @@
 //! A program as code: the phases of a structure's calls, of which each asks for one call of the world.
 ghost use Rattle.std.specs.Prelude.{◌≡◌, ℕ, Bool};
-ghost use Rattle.epoch_plans.specs.Plans.{Deed, after_by};
-ghost use Rattle.epoch_plans.specs.Asks.{wish_of};
+ghost use Rattle.epoch_structure_laws.specs.Plans.{Deed, after_by};
+ghost use Rattle.epoch_structure_laws.specs.Asks.{wish_of};
 
 use epoch_cells::Name;
 use epoch_laws::Reply;

@@ -16,7 +16,7 @@ use Rattle.epoch_laws.specs.Heap.{with_field, with_field_in}
 use Rattle.epoch_laws.proofs.Names.{name_same}
 use Rattle.epoch_laws.proofs.PointerSteps.{set_or_kept}
 use Rattle.epoch_laws.proofs.FoundCells.{found_cell}
-use Rattle.epoch_plans.proofs.Custody.{same_number}
+use Rattle.epoch_structure_laws.proofs.Custody.{same_number}
 
 -- names are compared by slot and turn
 pub same_name : (n m : Name) → (n ≡ m) ⊎ (n ≢ m)

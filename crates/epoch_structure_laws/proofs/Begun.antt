@@ -19,8 +19,8 @@ use Rattle.epoch_laws.specs.Run.{WorldSeat, is_free, is_idle, is_out, waits, und
 use Rattle.epoch_laws.specs.Run.{access_refusal, call_refusal, refusal}
 use Rattle.epoch_laws.proofs.PointersGiven.{WasGiven}
 use Rattle.epoch_laws.proofs.TurnsGiven.{GivenAt}
-use Rattle.epoch_plans.specs.Plans.{Deed, Flushes, Touches, Defers, Answers, IsOver, ptr_to, call_by}
-use Rattle.epoch_plans.specs.Served.{RefusesDeed, IsReadySeat}
+use Rattle.epoch_structure_laws.specs.Plans.{Deed, Flushes, Touches, Defers, Answers, IsOver, ptr_to, call_by}
+use Rattle.epoch_structure_laws.specs.Served.{RefusesDeed, IsReadySeat}
 
 -- NAMES THAT WERE GIVEN
 

@@ -5,15 +5,17 @@ use Rattle.epoch_cells.specs.declared.cells.name.Name.{Name}
 use Rattle.epoch_laws.specs.declared.step.Entry.{Entry}
 use Rattle.epoch_laws.specs.Run.{State, seat_of, TakesStep}
 use Rattle.epoch_laws.specs.Reach.{Past, past_after, LeavesRightly, LeavesFrom}
-use Rattle.epoch_plans.specs.declared.plan.Plan.{Plan}
-use Rattle.epoch_plans.specs.declared.plan.Plan.TheVariants.{NoPlan, Under}
-use Rattle.epoch_plans.specs.Plans.{Program, AllPlans, Replans, KeepsPlans, PlanEvent, Asked}
-use Rattle.epoch_plans.specs.Plans.{Declined, Answered, Makes, Follows, asks, declines, answers, passes, free_begins}
-use Rattle.epoch_plans.specs.Plans.{free_goes, begins, goes, made_at, WorldThen, PlanRuns, also_made, world_log}
-use Rattle.epoch_plans.specs.Plans.{then_world_runs, run_of_world, plan_begun, plan_gone}
-use Rattle.epoch_plans.proofs.Custody.{same_number, Tied, now_of, now, Structure, OwnsNow, StandsNow, Sound}
-use Rattle.epoch_plans.proofs.Obligations.{Obeys}
-use Rattle.epoch_plans.proofs.Kept.{go_none, go_under, begin_under, begin_plain, pass}
+use Rattle.epoch_structure_laws.specs.declared.plan.Plan.{Plan}
+use Rattle.epoch_structure_laws.specs.declared.plan.Plan.TheVariants.{NoPlan, Under}
+use Rattle.epoch_structure_laws.specs.Plans.{Program, AllPlans, Replans, KeepsPlans, PlanEvent, Asked}
+use Rattle.epoch_structure_laws.specs.Plans.{Declined, Answered, Makes, Follows, asks, declines, answers, passes}
+use Rattle.epoch_structure_laws.specs.Plans.{free_begins}
+use Rattle.epoch_structure_laws.specs.Plans.{free_goes, begins, goes, made_at, WorldThen, PlanRuns, also_made}
+use Rattle.epoch_structure_laws.specs.Plans.{world_log}
+use Rattle.epoch_structure_laws.specs.Plans.{then_world_runs, run_of_world, plan_begun, plan_gone}
+use Rattle.epoch_structure_laws.proofs.Custody.{same_number, Tied, now_of, now, Structure, OwnsNow, StandsNow, Sound}
+use Rattle.epoch_structure_laws.proofs.Obligations.{Obeys}
+use Rattle.epoch_structure_laws.proofs.Kept.{go_none, go_under, begin_under, begin_plain, pass}
 
 module _ (S : Program) (T : Structure S) (Starts : S.Phase → Type 0) (obeys : Obeys S T Starts) where
   not_made : (event : PlanEvent S.Phase S.Answer) (x : Entry) → event ≡ Makes x → made_at event ≡ None → ⊥

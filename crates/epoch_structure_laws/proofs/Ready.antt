@@ -18,14 +18,15 @@ use Rattle.epoch_laws.specs.declared.step.Word.TheVariants.{Free}
 use Rattle.epoch_laws.specs.Run.{WorldSeat, State, seat_of, begun_seat, is_out}
 use Rattle.epoch_laws.specs.Reach.{Past}
 use Rattle.epoch_laws.proofs.PointersGiven.{WasGiven}
-use Rattle.epoch_plans.specs.declared.plan.Plan.{Plan}
-use Rattle.epoch_plans.specs.declared.plan.Plan.TheVariants.{NoPlan, Under}
-use Rattle.epoch_plans.specs.Plans.{Deed, Flushes, Touches, Defers, Answers, Program, AllPlans, IsOver, IsFit, ptr_to}
-use Rattle.epoch_plans.specs.Plans.{call_by, after_by, plan_gone}
-use Rattle.epoch_plans.proofs.Moved.{is_end}
-use Rattle.epoch_plans.specs.Served.{AnswersAccess, IsExpected, SeatHasRoom, IsReadySeat}
-use Rattle.epoch_plans.proofs.Driven.{FlushesAt, Flushing, IsKeeping, Keeping}
-use Rattle.epoch_plans.proofs.Duties.{Knowledge}
+use Rattle.epoch_structure_laws.specs.declared.plan.Plan.{Plan}
+use Rattle.epoch_structure_laws.specs.declared.plan.Plan.TheVariants.{NoPlan, Under}
+use Rattle.epoch_structure_laws.specs.Plans.{Deed, Flushes, Touches, Defers, Answers, Program, AllPlans, IsOver, IsFit}
+use Rattle.epoch_structure_laws.specs.Plans.{ptr_to}
+use Rattle.epoch_structure_laws.specs.Plans.{call_by, after_by, plan_gone}
+use Rattle.epoch_structure_laws.proofs.Moved.{is_end}
+use Rattle.epoch_structure_laws.specs.Served.{AnswersAccess, IsExpected, SeatHasRoom, IsReadySeat}
+use Rattle.epoch_structure_laws.proofs.Driven.{FlushesAt, Flushing, IsKeeping, Keeping}
+use Rattle.epoch_structure_laws.proofs.Duties.{Knowledge}
 
 -- once a call on cells and pointers has its answer, it is an expected one
 abbrev pub ExpectedBy : Access → Progress → Type 0

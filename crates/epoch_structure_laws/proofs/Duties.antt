@@ -14,9 +14,9 @@ use Rattle.epoch_laws.specs.Run.{reading_refusal, readings_after}
 use Rattle.epoch_laws.specs.Reach.{IsLoadedFrom, Past}
 use Rattle.epoch_laws.proofs.PointersGiven.{WasGiven}
 use Rattle.epoch_laws.proofs.Readable.{IsReadable}
-use Rattle.epoch_plans.specs.Plans.{Deed, Flushes, Touches, Defers, Answers, Program}
-use Rattle.epoch_plans.proofs.Custody.{Structure}
-use Rattle.epoch_plans.specs.Served.{AnswersAccess, RefusesAccess}
+use Rattle.epoch_structure_laws.specs.Plans.{Deed, Flushes, Touches, Defers, Answers, Program}
+use Rattle.epoch_structure_laws.proofs.Custody.{Structure}
+use Rattle.epoch_structure_laws.specs.Served.{AnswersAccess, RefusesAccess}
 
 -- the name that an answer tells of: that of a new cell, or the one that a load found
 abbrev pub NamedBy : Access → AccessAnswer → Name → Type 0

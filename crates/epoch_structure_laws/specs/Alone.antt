@@ -2,7 +2,7 @@
 use Rattle.std.specs.Prelude.{◌≡◌, ℕ, List, [], ◌∷◌, ◌⊎◌}
 use Rattle.epoch_laws.specs.declared.step.Call.{Call}
 use Rattle.epoch_laws.specs.declared.step.Step.TheVariants.{Begin, Go}
-use Rattle.epoch_plans.specs.Plans.{PlanEvent, Answered, Makes}
+use Rattle.epoch_structure_laws.specs.Plans.{PlanEvent, Answered, Makes}
 
 module _ {P A : Type 0} where
   -- the step is p's own, or p's call answers

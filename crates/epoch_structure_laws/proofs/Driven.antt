@@ -25,7 +25,7 @@ use Rattle.epoch_laws.specs.Run.{WorldSeat, State, seat_of, position_word, word_
 use Rattle.epoch_laws.specs.Run.{end_reply, ended_seat, DrivesCall}
 use Rattle.epoch_laws.proofs.QuietReplies.{quiet_end}
 use Rattle.epoch_laws.proofs.SeatLemmas.{seat_there}
-use Rattle.epoch_plans.proofs.Moved.{is_end, alone}
+use Rattle.epoch_structure_laws.proofs.Moved.{is_end, alone}
 
 -- a stage at which no word is stored
 abbrev pub IsStill : Stage → Type 0

@@ -30,12 +30,14 @@ use Rattle.epoch_laws.specs.declared.step.Step.TheVariants.{Register, Begin, Go}
 use Rattle.epoch_laws.specs.declared.step.Word.{Word}
 use Rattle.epoch_laws.specs.declared.step.Word.TheVariants.{Unpinned, Pinned}
 use Rattle.epoch_laws.specs.Run.{State, seat_of, free_seat, refusal, readings_after, BeginsCall, TakesStep}
-use Rattle.epoch_plans.specs.declared.plan.Plan.{Plan}
-use Rattle.epoch_plans.specs.declared.plan.Plan.TheVariants.{NoPlan, Under}
-use Rattle.epoch_plans.specs.Plans.{AllPlans, Answers, Asked, Answered, Follows, IsOver, Makes, PlanEvent, PlanRuns}
-use Rattle.epoch_plans.specs.Plans.{Program, Replans, answers, asks, begins, call_by, done_by, free_begins, free_goes}
-use Rattle.epoch_plans.specs.Plans.{goes, passes, ptr_to}
-use Rattle.epoch_plans.specs.Served.{AsksReady, AtEachStep, SeatHasRoom, IsReadySeat}
+use Rattle.epoch_structure_laws.specs.declared.plan.Plan.{Plan}
+use Rattle.epoch_structure_laws.specs.declared.plan.Plan.TheVariants.{NoPlan, Under}
+use Rattle.epoch_structure_laws.specs.Plans.{AllPlans, Answers, Asked, Answered, Follows, IsOver, Makes, PlanEvent}
+use Rattle.epoch_structure_laws.specs.Plans.{PlanRuns}
+use Rattle.epoch_structure_laws.specs.Plans.{Program, Replans, answers, asks, begins, call_by, done_by, free_begins}
+use Rattle.epoch_structure_laws.specs.Plans.{free_goes}
+use Rattle.epoch_structure_laws.specs.Plans.{goes, passes, ptr_to}
+use Rattle.epoch_structure_laws.specs.Served.{AsksReady, AtEachStep, SeatHasRoom, IsReadySeat}
 use Rattle.epoch_laws.proofs.LoneWorld.{sizes, lone_world, lone_machine, seat}
 use Rattle.epoch_laws.proofs.ReachLost.{taken_unpinned, taken_pinned, lowest_none, none_ahead}
 

@@ -18,10 +18,10 @@ use Rattle.epoch_laws.specs.declared.step.Step.{Step}
 use Rattle.epoch_laws.specs.declared.step.Step.TheVariants.{Begin, Go}
 use Rattle.epoch_laws.specs.declared.step.Word.TheVariants.{Free}
 use Rattle.epoch_laws.specs.Run.{WorldSeat, State, seat_of, is_out}
-use Rattle.epoch_plans.specs.declared.plan.Plan.{Plan}
-use Rattle.epoch_plans.specs.declared.plan.Plan.TheVariants.{NoPlan, Under}
-use Rattle.epoch_plans.specs.Plans.{Deed, Flushes, Touches, Defers, Program, IsFlush, AllPlans, PlanEvent}
-use Rattle.epoch_plans.specs.Plans.{Asked, Makes, made_at, WorldThen, PlanRuns}
+use Rattle.epoch_structure_laws.specs.declared.plan.Plan.{Plan}
+use Rattle.epoch_structure_laws.specs.declared.plan.Plan.TheVariants.{NoPlan, Under}
+use Rattle.epoch_structure_laws.specs.Plans.{Deed, Flushes, Touches, Defers, Program, IsFlush, AllPlans, PlanEvent}
+use Rattle.epoch_structure_laws.specs.Plans.{Asked, Makes, made_at, WorldThen, PlanRuns}
 
 -- WHAT IS EXPECTED OF A CALL
 

@@ -17,8 +17,8 @@ use Rattle.epoch_laws.proofs.FoundCells.{found_cell}
 use Rattle.epoch_laws.proofs.Names.{name_same}
 use Rattle.epoch_laws.proofs.PointerSteps.{set_or_kept, fewer_written, fewer_kept, nulls_lead}
 use Rattle.epoch_laws.proofs.TurnsGiven.{IsGiven, StaysGiven, place_gives}
-use Rattle.epoch_plans.proofs.Custody.{Calm, calm_same}
-use Rattle.epoch_plans.proofs.Cells.{same_name, cell_kept, cell_filled, back_written, content_found}
+use Rattle.epoch_structure_laws.proofs.Custody.{Calm, calm_same}
+use Rattle.epoch_structure_laws.proofs.Cells.{same_name, cell_kept, cell_filled, back_written, content_found}
 
 -- what is written keeps its turn and its value
 same_in : (d c : Cell) (t f : ℕ) → d.turn ≡ c.turn → d.value ≡ c.value

@@ -28,22 +28,25 @@ use Rattle.epoch_laws.specs.Run.{BeginsCall, DoesGo, Moves, TakesStep}
 use Rattle.epoch_laws.proofs.SeatLemmas.{seat_there, begin_given}
 use Rattle.epoch_laws.specs.Reach.{Past, no_past, past_after}
 use Rattle.epoch_laws.proofs.HeapSteps.{HeapGoes, heap_goes}
-use Rattle.epoch_plans.specs.declared.plan.Plan.{Plan}
-use Rattle.epoch_plans.specs.declared.plan.Plan.TheVariants.{NoPlan, Under}
-use Rattle.epoch_plans.specs.Plans.{Deed, Flushes, Touches, Defers, Answers, AllPlans, IsOver, KeepsPlans, PlanEvent}
-use Rattle.epoch_plans.specs.Plans.{PlanRuns, Program, Replans}
-use Rattle.epoch_plans.specs.Plans.{Asked, Declined, Answered, Makes, Follows, asks, declines, answers, passes}
-use Rattle.epoch_plans.specs.Plans.{free_begins, free_goes, begins, goes, made_at, WorldThen, call_by, after_by}
-use Rattle.epoch_plans.specs.Plans.{plan_begun, plan_gone, ptr_to}
-use Rattle.epoch_plans.proofs.Custody.{IsAccessing, IsBegun, Structure, Tied}
-use Rattle.epoch_plans.proofs.Moved.{accessing, alone, begin_made, begin_refused, ended_with, go_taken}
-use Rattle.epoch_plans.proofs.Obligations.{Obeys, after_touch, phase_after}
-use Rattle.epoch_plans.specs.Served.{AnswersAccess, AsksReady, AtEachStep, IsExpected, RefusesAccess, RefusesDeed}
-use Rattle.epoch_plans.specs.Served.{ServesAt, ServesPlan, ThenAlso}
-use Rattle.epoch_plans.proofs.Duties.{Knowledge, Serves, duty_of}
-use Rattle.epoch_plans.proofs.Ready.{ExpectedBy, Steady, Works, next_under, begun_at}
-use Rattle.epoch_plans.proofs.RunsServed.{Keeps, keeps_none, keeps_some, not_of, shown}
-use Rattle.epoch_plans.specs.Alone.{AllOwn, AnswersOut, IsOwn, NeverOut}
+use Rattle.epoch_structure_laws.specs.declared.plan.Plan.{Plan}
+use Rattle.epoch_structure_laws.specs.declared.plan.Plan.TheVariants.{NoPlan, Under}
+use Rattle.epoch_structure_laws.specs.Plans.{Deed, Flushes, Touches, Defers, Answers, AllPlans, IsOver, KeepsPlans}
+use Rattle.epoch_structure_laws.specs.Plans.{PlanEvent}
+use Rattle.epoch_structure_laws.specs.Plans.{PlanRuns, Program, Replans}
+use Rattle.epoch_structure_laws.specs.Plans.{Asked, Declined, Answered, Makes, Follows, asks, declines, answers, passes}
+use Rattle.epoch_structure_laws.specs.Plans.{free_begins, free_goes, begins, goes, made_at, WorldThen, call_by}
+use Rattle.epoch_structure_laws.specs.Plans.{after_by}
+use Rattle.epoch_structure_laws.specs.Plans.{plan_begun, plan_gone, ptr_to}
+use Rattle.epoch_structure_laws.proofs.Custody.{IsAccessing, IsBegun, Structure, Tied}
+use Rattle.epoch_structure_laws.proofs.Moved.{accessing, alone, begin_made, begin_refused, ended_with, go_taken}
+use Rattle.epoch_structure_laws.proofs.Obligations.{Obeys, after_touch, phase_after}
+use Rattle.epoch_structure_laws.specs.Served.{AnswersAccess, AsksReady, AtEachStep, IsExpected, RefusesAccess}
+use Rattle.epoch_structure_laws.specs.Served.{RefusesDeed}
+use Rattle.epoch_structure_laws.specs.Served.{ServesAt, ServesPlan, ThenAlso}
+use Rattle.epoch_structure_laws.proofs.Duties.{Knowledge, Serves, duty_of}
+use Rattle.epoch_structure_laws.proofs.Ready.{ExpectedBy, Steady, Works, next_under, begun_at}
+use Rattle.epoch_structure_laws.proofs.RunsServed.{Keeps, keeps_none, keeps_some, not_of, shown}
+use Rattle.epoch_structure_laws.specs.Alone.{AllOwn, AnswersOut, IsOwn, NeverOut}
 
 -- ROOTS
 

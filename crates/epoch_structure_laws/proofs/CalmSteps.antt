@@ -20,8 +20,8 @@ use Rattle.epoch_laws.specs.Reach.{DefersRemoval, Past, past_after}
 use Rattle.epoch_laws.proofs.TurnsGiven.{StaysGiven, given_job}
 use Rattle.epoch_laws.proofs.HeapSteps.{HeapGoes}
 use Rattle.epoch_laws.proofs.JobsAsDeferred.{JobsGo}
-use Rattle.epoch_plans.proofs.Cells.{same_name, cell_kept, back_written, none_at}
-use Rattle.epoch_plans.proofs.Custody.{AllLeft, Calm, calm_same}
+use Rattle.epoch_structure_laws.proofs.Cells.{same_name, cell_kept, back_written, none_at}
+use Rattle.epoch_structure_laws.proofs.Custody.{AllLeft, Calm, calm_same}
 use Rattle.epoch_laws.proofs.PointerSteps.{Fewer}
 use Rattle.epoch_laws.proofs.PointersChanged.{fewer_job}
 

@@ -21,13 +21,13 @@ use Rattle.epoch_laws.specs.Heap.{Cell, Heap, nulls, cell_at, with_cell_at, poin
 use Rattle.epoch_laws.specs.Heap.{Touched}
 use Rattle.epoch_laws.specs.Heap.{Touches, Changes, ChangesAt, Places, is_stop}
 use Rattle.epoch_laws.specs.Run.{readings_after}
-use Rattle.epoch_plans.specs.Plans.{TakesNone}
+use Rattle.epoch_structure_laws.specs.Plans.{TakesNone}
 use Rattle.epoch_laws.proofs.HeapFits.{AllFit}
 use Rattle.epoch_laws.proofs.PointersGiven.{WasGiven}
 use Rattle.epoch_laws.proofs.Readable.{readable_is}
 use Rattle.epoch_laws.proofs.TurnsGiven.{place_gives}
-use Rattle.epoch_plans.specs.Served.{AnswersAccess, RefusesAccess}
-use Rattle.epoch_plans.proofs.Duties.{Finds, NamedBy}
+use Rattle.epoch_structure_laws.specs.Served.{AnswersAccess, RefusesAccess}
+use Rattle.epoch_structure_laws.proofs.Duties.{Finds, NamedBy}
 
 -- what a step tells: that the call goes on, an expected answer, or that no cell is free
 abbrev pub ToldAs : Access → Accessed → Type 0

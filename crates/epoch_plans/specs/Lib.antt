@@ -1,4 +1,0 @@
-pub mod Plans
-pub mod Asks
-pub mod Served
-pub mod Alone
