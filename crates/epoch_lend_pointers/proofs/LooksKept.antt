@@ -8,9 +8,3 @@ pub found_before : {X : Type 0} (P Q : X → Type 0) (o : Option X) → ((x : X)
     → ForSome o (λ x. ∥ P x ∥₁) → IfSome o (λ x. ∥ Q x ∥₁)
 found_before P Q None more found = tt
 found_before P Q (Some x) more found = ∥∥₁_map (found x refl) (more x)
-
--- and so does what a call tells of a value that it found
-pub found_by : {X : Type 0} (P Q : X → Type 0) (o : Option X) → ((x : X) → P x → Q x)
-    → IfSome o (λ x. ∥ P x ∥₁) → IfSome o (λ x. ∥ Q x ∥₁)
-found_by P Q None more found = tt
-found_by P Q (Some x) more found = ∥∥₁_map found (more x)

@@ -1,27 +1,20 @@
--- A name's number tells the name.
-use Rattle.std.proofs.Common.{◌≡◌, ℕ, ◌<◌, ◌≤◌, subst, arith}
-use Rattle.std.proofs.Math.Bridge.{le_prop}
+-- A pointer that has the number of a name leads to its value.
+use Rattle.std.proofs.Common.{◌≡◌, ℕ, ◌*◌, ◌%◌, ◌^◌, ◌<◌, Some, arith, refl, sym, subst}
+use Rattle.std.proofs.Math.Nat.{mod-lt}
+use Rattle.std.proofs.lemmas.Nat.{pow_pos}
 use Rattle.epoch_cells.specs.declared.cells.name.Name.{Name}
+use Rattle.epoch_atomic.specs.Pointers.{tag_in, slot_in, turn_in}
+use Rattle.epoch_atomic.specs.WordSteps.{WordStep, LoadsPointer, LoadsNumber}
 use Rattle.epoch_lend_pointers.specs.Named.{name_number}
 
--- a name is this one at another slot, if that is the same
-abbrev AtSlot : Name → ℕ → Type 0
-AtSlot n k =
-    (some : 0 < k) (within : k ≤ 16777215) → n ≡ record { turn = n.turn; slot = k; some = some; within = within }
-
--- two names of one slot and one turn are one
-one_name : (n m : Name) → n.slot ≡ m.slot → n.turn ≡ m.turn → n ≡ m
-one_name n m slot turn = subst (λ (t : ℕ). n ≡ record m { turn = t }) turn (subst (AtSlot n) slot here m.some m.within)
-  where
-    here : AtSlot n n.slot
-    here some within =
-        let one : n.some ≡ some = le_prop n.some some in
-        let other : n.within ≡ within = le_prop n.within within in
-        λ i. record n { some = one i; within = other i }
-
--- two names of one number are one, since a slot is less than 2^24
-pub number_tells : (n m : Name) → name_number n ≡ name_number m → n ≡ m
-number_tells n m same =
-    let slot : n.slot ≡ m.slot = omega (arith, n.within, m.within) in
-    let turn : n.turn ≡ m.turn = omega (arith, n.within, m.within) in
-    one_name n m slot turn
+-- where a pointer was loaded that has the number of this name, it has the name and some tag
+pub loads_named : (align log : ℕ) (did : WordStep → Type 0) (number : ℕ) (name : Name) → align ≡ 2 ^ log
+    → LoadsNumber did number → number ≡ name_number name
+    → (tag : ℕ) × LoadsPointer align did (Some name) tag
+loads_named align log did number name is_power loaded same =
+    let word : ℕ = loaded.0 in
+    let split = loaded.2 in
+    let slot : slot_in word ≡ name.slot = omega (arith, name.within, split, same) in
+    let turn : turn_in word ≡ name.turn = omega (arith, name.within, split, same) in
+    let below : tag_in word % align < align = mod-lt (tag_in word) (subst (λ n. 0 < n) (sym is_power) (pow_pos log)) in
+    (tag_in word % align, (word, (loaded.1, (slot, turn), refl, below), loaded.3))

@@ -23,14 +23,14 @@ use std::sync::atomic::Ordering::SeqCst;
 pub struct Cached<'g, 's, 'd, J: PostSet, T: Drop, M: StoreSteps<T>> {
     store: &'g Store<'s, J, T>,
     guard: &'g LendingGuard<'d, J>,
-    // The number of the name under which the value was found. No name has 0.
+    // The number of the pointers to the value. 0: there is no value.
     number: u64,
     value: Option<&'g T>,
     steps: PhantomData<M>,
     ghost found: { ForSome value (λ value. ∥ LendsNumbered (M.did J.posts store.now.number) number value.now ∥₁) },
 }
 
-// A number that no other name has.
+// The number of each pointer to the value of this name, less its tag.
 #[inline(always)]
 fn number_of(name: Name) -> u64
     ensures { result ≡ name_number name }
@@ -61,18 +61,6 @@ impl<'s, J: PostSet, T: Drop> Store<'s, J, T> {
 }
 
 impl<'g, 's, 'd, J: PostSet, T: Pointable + Drop, M: StoreSteps<T>> Cached<'g, 's, 'd, J, T, M> {
-    // The value that is cached, if it was found under this name.
-    #[inline(always)]
-    fn kept(&self, name: Name) -> Option<&'g T>
-        ensures { IfSome result (λ value.
-            ∥ M.did J.posts self.now.store.now.number (Lends name value.now) ∥₁) }
-    {
-        if number_of(name) != self.number {
-            return None;
-        }
-        self.value
-    }
-
     /// Loads the pointer, and lends its value, as [`Store::load`] and [`Store::get`] do. The cell is looked at only if
     /// the pointer leads to another value than the last time.
     ///
@@ -86,10 +74,10 @@ impl<'g, 's, 'd, J: PostSet, T: Pointable + Drop, M: StoreSteps<T>> Cached<'g, '
         ensures did { IfSome result (λ value. ∥ LendsLoaded T.ALIGN (A.did at.now.word)
             (M.did J.posts self.old.store.now.number) value.now ∥₁) }
     {
-        let name = self.store.load(at, SeqCst, self.guard).name()?;
-        if let Some(value) = self.kept(name) {
+        if let Some(value) = self.unchanged(at) {
             return Some(value);
         }
+        let name = self.store.load(at, SeqCst, self.guard).name()?;
         let value = look_apart::<J, T, M>(self.store, name, self.guard)?;
         self.number = number_of(name);
         self.value = Some(value);
@@ -105,8 +93,10 @@ impl<'g, 's, 'd, J: PostSet, T: Pointable + Drop, M: StoreSteps<T>> Cached<'g, '
         ensures did { IfSome result (λ value. ∥ LendsLoaded T.ALIGN (A.did at.now.word)
             (M.did J.posts self.now.store.now.number) value.now ∥₁) }
     {
-        let name = self.store.load(at, SeqCst, self.guard).name()?;
-        self.kept(name)
+        if at.load_number(SeqCst) != self.number {
+            return None;
+        }
+        self.value
     }
 }
 

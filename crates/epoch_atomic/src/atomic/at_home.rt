@@ -4,7 +4,8 @@
 //! sees to it that a value is looked at only while it stands in its cell.
 ghost use Rattle.std.specs.Prelude.{◌≡◌, ◌<◌, ◌%◌, IsNone, IfSome, IfOk, IfErr, Some, None};
 ghost use Rattle.epoch_atomic.specs.Pointers.{IsPointerWord, Reads, IsRead, IsUnder};
-ghost use Rattle.epoch_atomic.specs.WordSteps.{LoadsPointer, SwapsWord, ExchangesPointer, MissesPointer, word_for};
+ghost use Rattle.epoch_atomic.specs.WordSteps.{LoadsPointer, LoadsNumber, SwapsWord};
+ghost use Rattle.epoch_atomic.specs.WordSteps.{ExchangesPointer, MissesPointer, word_for};
 ghost use Rattle.epoch_atomic.specs.WordSteps.WordStep.{Stores};
 ghost use Rattle.epoch_atomic.specs.Exchanges.{FindsAnother};
 
@@ -71,6 +72,16 @@ impl<T: Pointable, A: SharedWord> Atomic<T, A> {
         ensures did { LoadsPointer T.ALIGN (A.did self.now.word) result.name result.tag }
     {
         read_at(self.word.load(order), home)
+    }
+
+    /// Loads the pointer's number, less its tag. Pointers to one value have one such number, pointers to other values
+    /// have others, and null has 0. So it tells whether a pointer leads to the same value as before. The load acts as
+    /// `SeqCst`, whichever ordering is asked for.
+    #[inline(always)]
+    pub fn load_number(&self, order: Ordering) -> u64
+        ensures did { LoadsNumber (A.did self.now.word) result }
+    {
+        self.word.load(order) / 0x100 * 0x100
     }
 
     /// Stores a pointer. The value of the pointer before stays in its cell. The store acts as `SeqCst`, whichever

@@ -1,22 +1,24 @@
-use Rattle.std.proofs.Common.{◌≡◌, Some, subst, sym}
-use Rattle.epoch_cells.specs.declared.cells.name.Name.{Name}
-use Rattle.epoch_atomic.specs.WordSteps.{LoadsPointer}
-use Rattle.epoch_lend_pointers.specs.Steps.{LendsLoaded}
-use Rattle.epoch_lend_pointers.specs.Steps.StoreStep.{Lends}
-use Rattle.epoch_lend_pointers.proofs.LooksKept.{found_by}
+use Rattle.std.proofs.Common.{◌≡◌, sym, ◌∙◌}
+use Rattle.epoch_lend_pointers.specs.Steps.{LendsNumbered, LendsLoaded}
+use Rattle.epoch_lend_pointers.proofs.LooksKept.{found_before}
+use Rattle.epoch_lend_pointers.proofs.NameNumbers.{loads_named}
 use Rattle.epoch_lend_pointers.proofs.cached.Cached.unchanged.Goals as goal
 
--- the value was found before, under the name that was loaded
+-- the pointer has the number of the name under which the value was found
 pub returns : goal.returns
 returns g c =
     let did = g.M.StoreSteps.did g.J.PostSet.posts c.args.self.now.store.now.number in
-    let name : Name = c.in_ok-name.name in
-    let named : c.load.result.name ≡ Some name = sym c.in_ok-name.ensures in
-    let loads = LoadsPointer g.T.Pointable.ALIGN (g.A.SharedWord.did c.args.at.now.word) in
-    let tag = c.load.result.tag in
-    let loaded : loads (Some name) tag = subst (λ o. loads o tag) named c.load.ensures.did in
+    let loads = g.A.SharedWord.did c.args.at.now.word in
+    let align = g.T.Pointable.ALIGN in
+    let number = c.load_number.result in
+    let same : c.args.self.now.number ≡ number = sym c.if-load_number-self.false in
     record {
-      did = found_by (λ v. did (Lends name v.now))
-          (λ v. LendsLoaded g.T.Pointable.ALIGN (g.A.SharedWord.did c.args.at.now.word) did v.now)
-          c.kept.result (λ v lent. (name, tag, loaded, lent)) c.kept.ensures;
+      did = found_before (λ v. LendsNumbered did c.args.self.now.number v.now)
+          (λ v. LendsLoaded align loads did v.now)
+          c.args.self.now.value
+          (λ v told.
+          let led = loads_named align g.T.Pointable.log loads number told.0 g.met.T.Pointable.is_power
+          c.load_number.ensures.did (sym same ∙ told.1) in
+          (told.0, led.0, led.1, told.2))
+          c.args.self.now.found;
     }
