@@ -111,6 +111,8 @@ def paragraph(lines, at, mark):
 
 def head_end(text):
     """Returns where the head of the function at the text's beginning ends: at its body's brace, or at a semicolon."""
+    # (a comment may have semicolons and brackets of its own)
+    text = re.sub(r"//[^\n]*", lambda it: " " * len(it[0]), text)
     at, depth = 0, 0
     while text[at] != ";" or depth:
         if text[at] == "{":
