@@ -37,7 +37,7 @@ ROWS = [
     ("replace_retire_busy_4096", 192_000, "library crossbeam_epoch"),
     ("replace_retire_busy_262144", 192_000, "library crossbeam_epoch"),
     ("replace_retire_busy_1048576", 192_000, "library crossbeam_epoch"),
-    ("map_get_100000", 384_000, "library crossbeam_epoch dashmap dashmap_fast_hash kit_rwlock"),
+    ("map_get_100000", 384_000, "library library_grown crossbeam_epoch dashmap dashmap_fast_hash kit_rwlock"),
     ("map_90_5_5_100000", 192_000, "library crossbeam_epoch dashmap dashmap_fast_hash kit_rwlock"),
     ("map_get_1000000", 192_000, "library crossbeam_epoch dashmap dashmap_fast_hash kit_rwlock"),
 ]

@@ -89,7 +89,7 @@ pub fn cells_in<J: PostSet, T: Drop>(
     alloc: Global,
     domain: &Domain<J>,
 ) -> io::Result<LentCells<J, T>> {
-    match LentCells::new(alloc, CELLS, domain) {
+    match LentCells::with_capacity(alloc, CELLS, CELLS, domain) {
         Ok(cells) => Ok(cells),
         Err(_) => Err(io::Error::from(io::ErrorKind::OutOfMemory)),
     }

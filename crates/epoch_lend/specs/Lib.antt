@@ -8,3 +8,4 @@ pub mod Sets
 pub mod Bags
 pub mod Grace
 pub mod PinRuns
+pub mod Growing

@@ -179,4 +179,8 @@ unsafe impl Sync for Unpinned {}
 
 unsafe impl Send for Pin {}
 
+unsafe impl Sync for Pin {}
+
 unsafe impl Send for PostGuard {}
+
+unsafe impl Sync for PostGuard {}

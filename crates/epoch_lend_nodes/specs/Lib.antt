@@ -1,5 +1,6 @@
 pub mod Gathering
 pub mod Moving
 pub mod Nodes
+pub mod Placing
 pub mod Taking
 pub mod Telling

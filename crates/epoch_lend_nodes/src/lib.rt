@@ -4,12 +4,14 @@
 
 mod gathering;
 mod node;
+mod placing;
 mod points;
 mod serving;
 mod spots;
 
 pub use gathering::Gathers;
 pub use node::{LentNode, ListNode};
+pub use placing::{Standing, begin_call, begin_placing, place_node, placed_in};
 pub use points::{ptr_of, write_at};
 pub use serving::{give_back, is_writer_of, without_bags};
 pub use spots::{CallNodes, NodeSpots};

@@ -8,3 +8,4 @@ pub use Rattle.epoch_lend.specs.Watching
 pub use Rattle.epoch_lend.specs.Turning
 pub use Rattle.epoch_lend.specs.Sets
 pub use Rattle.epoch_lend.specs.Bags
+pub use Rattle.epoch_lend.specs.Growing

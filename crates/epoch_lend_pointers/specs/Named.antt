@@ -1,13 +1,6 @@
--- Which value a name is of.
-use Rattle.std.specs.Prelude.{◌≡◌, ℕ, ◌+◌, ◌*◌, List, Some}
-use Rattle.std.specs.List.{slice_get}
+-- The words of pointers to names.
+use Rattle.std.specs.Prelude.{ℕ, ◌+◌, ◌*◌}
 use Rattle.epoch_cells.specs.declared.cells.name.Name.{Name}
-
--- The value of this log at this turn was placed under the name, in cells with these logs: the log is that of the
--- name's slot, and the turn is the name's.
-pub record StandsUnder (logs : List ℕ) (name : Name) (log turn : ℕ) : Type 0 where
-  pub slot : slice_get logs name.slot ≡ Some log
-  pub at_turn : turn ≡ name.turn
 
 -- the word of the pointer to the value of this name, with tag 0
 abbrev pub name_number : Name → ℕ

@@ -1,8 +1,8 @@
 //! How a writer places values: in free cells of its own, as long as it has some.
-ghost use Rattle.std.specs.Prelude.{◌≡◌, map, IsSomeAnd, IfOk, IfErr};
+ghost use Rattle.std.specs.Prelude.{◌≡◌, map, MatchOption, IsSomeAnd, IfOk, IfErr};
 ghost use Rattle.epoch_cells.specs.declared.fault.Fault.TheVariants.{CellsFull};
 ghost use Rattle.epoch_atomic.specs.Pointers.{IsUnder};
-ghost use Rattle.epoch_lend_pointers.specs.Named.{StandsUnder};
+ghost use Rattle.epoch_lend.specs.Growing.{IsOfCell, IsInFurther};
 ghost use Rattle.epoch_lend_pointers.specs.Steps.{StaysOrWaits};
 ghost use Rattle.epoch_lend_pointers.specs.Steps.StoreStep.{Places};
 
@@ -10,8 +10,8 @@ use crate::steps::{HasStoreSteps, StoreSteps};
 use crate::writer::Writer;
 use epoch_atomic::atomic::Shared;
 use epoch_cells::{Fault, Refused};
+use epoch_lend::array::growing::{CellName as Witness, OfBlock};
 use epoch_lend::array::room::LentRoom;
-use epoch_lend::cells::turns::TurnName as Witness;
 use epoch_lend::readers::posts::PostSet;
 use epoch_lend::session::LendingGuard;
 use epoch_lend::steps::{HasPinSteps, PinSteps};
@@ -19,7 +19,8 @@ use epoch_lend::steps::{HasPinSteps, PinSteps};
 impl<'q, 's, J: PostSet, T: Drop> Writer<'q, 's, J, T> {
     /// Takes a free cell for the next value: one of its own; or one that another writer left; or one of the next cells
     /// that no writer has taken yet. If there is none, the writer is flushed, as by [`Writer::flush`], and looks once
-    /// more. `None`: every cell was seen in use, or kept by other writers for their next values.
+    /// more. `None`: every cell was seen in use, or kept by other writers for their next values; or memory for more
+    /// cells was refused, or another thread is about to add them.
     ///
     /// Give it to [`Writer::place_in`], or back to [`Writer::keep_room`].
     #[inline(always)]
@@ -92,9 +93,10 @@ impl<'q, 's, J: PostSet, T: Drop> Writer<'q, 's, J, T> {
     /// Places the value in a cell, and returns the pointer to it, with tag 0. In a free cell of the writer's own, this
     /// takes one store, and no search.
     ///
-    /// `CellsFull`: every cell was seen in use, or kept by other writers for their next values. The writer was flushed,
-    /// and tried what waits: so a caller that tries again gets a cell as soon as guards from before are unpinned or
-    /// renewed, its own too. The value is handed back.
+    /// `CellsFull`: every cell was seen in use, or kept by other writers for their next values; or memory for more
+    /// cells was refused, or another thread is about to add them. The writer was flushed, and tried what waits: so a
+    /// caller that tries again gets a cell as soon as guards from before are unpinned or renewed, its own too. The
+    /// value is handed back.
     #[inline(always)]
     pub fn place<'g, S: PinSteps, M: StoreSteps<T>>(
         &mut self,
@@ -129,7 +131,7 @@ impl<'q, 's, J: PostSet, T: Drop> Writer<'q, 's, J, T> {
         &mut self,
         guard: &'g LendingGuard<'_, J>,
         value: T,
-    ) -> Result<(Shared<'g, T>, Witness<T>), Refused<T>>
+    ) -> Result<(Shared<'g, T>, Witness<J, T>), Refused<T>>
     where
         'q: 'g,
         J: HasPinSteps<S>,
@@ -140,23 +142,33 @@ impl<'q, 's, J: PostSet, T: Drop> Writer<'q, 's, J, T> {
         ensures tag { IfOk result (λ placed. placed.0.tag ≡ 0) }
         ensures home { IfOk result (λ placed. IsUnder self.old.store.now.number placed.0.home) }
         // A value that is placed stands under the name of the pointer that the call returns, as its witness shows.
-        ensures placed { IfOk result (λ placed. placed.1.value ≡ value) }
-        ensures named { IfOk result (λ placed. IsSomeAnd placed.0.name
-            (λ name. StandsUnder (map (λ s. s.turns.log) self.old.store.now.cells.now.cells.slots.items) name
-            placed.1.log placed.1.turn)) }
+        ensures placed { IfOk result (λ placed. placed.1.value.value ≡ value) }
+        ensures slot { IfOk result (λ placed. IsSomeAnd placed.0.name (λ name. MatchOption placed.1.block
+            (IsOfCell (map (λ s. s.turns.log) self.old.store.now.cells.now.cells.first.slots.items) name.slot
+            placed.1.value.log)
+            (λ block. IsInFurther (map (λ s. s.turns.log) self.old.store.now.cells.now.cells.first.slots.items)
+            (map (λ p. p.turns.log) self.old.store.now.cells.now.cells.more.places.items)
+            self.old.store.now.cells.now.cells.bits name.slot block.log block.turn block.value placed.1.value.log))) }
+        ensures turn { IfOk result (λ placed. IsSomeAnd placed.0.name (λ name. placed.1.value.turn ≡ name.turn)) }
         ensures full { IfErr result (λ refused. (refused.fault ≡ CellsFull) × (refused.value ≡ value)) }
     {
         let _ = guard;
         let slot = self.slot_for_one::<S, M>();
         let store = self.store;
-        let Some(room) = store.cells.array().fresh_room(slot) else {
+        let Some(OfBlock { found, block }) = store.cells.array().fresh_room(slot) else {
             return Err(Refused {
                 fault: Fault::CellsFull,
                 value,
             });
         };
-        match store.cells.place_in(room, value) {
-            Ok(placed) => Ok((Shared::named_at(placed.name, store.home()), placed.witness)),
+        match store.cells.place_in(found, value) {
+            Ok(placed) => {
+                let witness = Witness {
+                    value: placed.witness,
+                    block,
+                };
+                Ok((Shared::named_at(placed.name, store.home()), witness))
+            }
             Err(refused) => Err(refused),
         }
     }

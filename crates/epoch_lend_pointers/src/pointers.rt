@@ -1,10 +1,10 @@
 //! Pointers to values of a store, under a guard that lends.
-ghost use Rattle.std.specs.Prelude.{◌≡◌, ◌<◌, ◌%◌, map, IfSome, IsSomeAnd, IfOk, IfErr};
+ghost use Rattle.std.specs.Prelude.{◌≡◌, ◌<◌, ◌%◌, map, MatchOption, IfSome, IsSomeAnd, IfOk, IfErr};
 ghost use Rattle.epoch_atomic.specs.Pointers.{IsUnder, IsRead};
 ghost use Rattle.epoch_atomic.specs.WordSteps.{LoadsPointer, SwapsWord, ExchangesPointer, MissesPointer, word_for};
 ghost use Rattle.epoch_atomic.specs.WordSteps.WordStep.{Stores};
 ghost use Rattle.epoch_atomic.specs.Exchanges.{FindsAnother};
-ghost use Rattle.epoch_lend_pointers.specs.Named.{StandsUnder};
+ghost use Rattle.epoch_lend.specs.Growing.{IsOfCell, IsInFurther};
 ghost use Rattle.epoch_lend_pointers.specs.Steps.StoreStep.{Lends};
 
 use crate::steps::{HasStoreSteps, StoreSteps};
@@ -12,7 +12,7 @@ use crate::store::Store;
 use epoch_atomic::Pointable;
 use epoch_atomic::atomic::{Atomic, Shared, SharedWord};
 use epoch_cells::Name;
-use epoch_lend::cells::sight::Sight;
+use epoch_lend::array::growing::CellSight;
 use epoch_lend::readers::posts::PostSet;
 use epoch_lend::session::LendingGuard;
 use std::sync::atomic::Ordering;
@@ -106,11 +106,17 @@ impl<J: PostSet, T> Store<'_, J, T> {
         &self,
         pointer: Shared<'_, T>,
         guard: &'g LendingGuard<'_, J>,
-    ) -> Option<Sight<'g, T>>
+    ) -> Option<CellSight<'g, J, T>>
         // What a look lends is the value that was placed under the pointer's name.
-        ensures named { IfSome result (λ sight. IfSome pointer.entry.name
-            (λ name. StandsUnder (map (λ s. s.turns.log) self.now.cells.now.cells.slots.items) name sight.name.log
-            sight.name.turn)) }
+        ensures slot { IfSome result (λ sight. IfSome pointer.entry.name (λ name. MatchOption sight.name.block
+            (IsOfCell (map (λ s. s.turns.log) self.now.cells.now.cells.first.slots.items) name.slot
+            sight.name.value.log)
+            (λ block. IsInFurther (map (λ s. s.turns.log) self.now.cells.now.cells.first.slots.items)
+            (map (λ p. p.turns.log) self.now.cells.now.cells.more.places.items) self.now.cells.now.cells.bits
+            name.slot block.log block.turn block.value
+            sight.name.value.log))) }
+        ensures turn { IfSome result (λ sight. IfSome pointer.entry.name
+            (λ name. sight.name.value.turn ≡ name.turn)) }
     {
         self.cells.look(pointer.name()?, guard.pinned())
     }

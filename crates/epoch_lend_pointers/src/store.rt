@@ -111,7 +111,7 @@ impl<'s, J: PostSet, T: Drop> Store<'s, J, T> {
             none,
             waiting: Piles::new(alloc)?,
             rooms: Piles::new(alloc)?,
-            together: together_of(cells.capacity(), domain.sessions()),
+            together: together_of(cells.limit(), domain.sessions()),
             fresh: AtomicUsize::new(1),
             loose: AtomicUsize::new(0),
             alloc,

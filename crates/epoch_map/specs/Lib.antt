@@ -3,6 +3,7 @@ pub mod Giving
 pub mod Moving
 pub use Rattle.epoch_lend_nodes.specs.Gathering
 pub use Rattle.epoch_lend_nodes.specs.Nodes
+pub use Rattle.epoch_lend_nodes.specs.Placing
 pub use Rattle.epoch_lend_nodes.specs.Taking
 pub use Rattle.epoch_lend_nodes.specs.Telling
 pub use Rattle.epoch_structure_calls.specs.Paths

@@ -14,8 +14,9 @@ pub trait MapKey: Ord {
     /// The number of a key.
     ghost number: { Self → ℕ };
 
-    /// Returns the number whose lowest bits choose the key's bucket. Keys that are equal have the same number. A map
-    /// of one bucket needs none: then this may be 0 for all keys.
+    /// Returns the number whose lowest bits choose the key's bucket. Equal keys have the same number. Keys that are not
+    /// equal should differ in it, and best in its lowest bits: a call walks along the entries of a bucket. A
+    /// [`LendingMap`](crate::LendingMap) of one bucket needs none: then this may be 0 for all keys.
     fn number(&self) -> u64
         ensures { result ≡ number self.now };
 
@@ -58,7 +59,8 @@ pub trait MapNode: LentNode {
         ensures { result.now ≡ key self.now };
 }
 
-/// A key with its value, and the pointer to the node behind it. That pointer has tag 1 as soon as the entry is removed.
+/// A key with its value, and the pointer to the node behind it. That pointer has tag 1 as soon as the entry is removed
+/// or replaced.
 #[derive(Drop)]
 pub struct LentEntry<K, V> {
     key: K,

@@ -19,9 +19,8 @@ use epoch_laws::heap::{Access, AccessAnswer, Change, Ptr, Spot};
 use epoch_lend::array::room::LentRoom;
 use epoch_lend::readers::posts::PostSet;
 use epoch_lend::readers::reader::Pinned;
-use epoch_lend_nodes::{ptr_of, write_at};
+use epoch_lend_nodes::{placed_in, ptr_of, write_at};
 use epoch_lend_pointers::LentCells;
-use epoch_lend_pointers::store::spots::next_name;
 use epoch_structure_calls::map::{MapSpots, coded};
 use epoch_structure_calls::phases::Spots;
 use std::cmp::Ordering;
@@ -71,32 +70,6 @@ fn change_at<N: MapNode>(at: &Atomic<N>, change: Change, home: Home<'_, N>) -> A
     match change {
         Change::Load => AccessAnswer::Pointer(ptr_of(at.load_at(SeqCst, home))),
         _ => write_out_of_line(at, change, home),
-    }
-}
-
-// Places the node in this free cell, and looks at it there. It is handed back if the cell has had its last turn.
-fn placed<'g, J: PostSet, N: MapNode>(
-    room: LentRoom<'_, J, N>,
-    node: N,
-    pinned: &'g Pinned<'_, J>,
-) -> Result<(Name, Option<&'g N>), N>
-    ensures lent { IfOk result (λ placed. IfSome placed.1 (λ lent. lent.now ≡ node)) }
-    ensures handed_back { IfErr result (λ back. back ≡ node) }
-{
-    let Some(name) = next_name(&room) else {
-        room.release();
-        return Err(node);
-    };
-    let cells = room.cells();
-    match room.place(node) {
-        Ok(placed) => match cells.look(placed.spot, pinned) {
-            Some(sight) => {
-                sight.name.agree(&placed.name);
-                Ok((name, Some(sight.value)))
-            }
-            None => Ok((name, None)),
-        },
-        Err(back) => Err(back),
     }
 }
 
@@ -250,7 +223,7 @@ impl<'g: 'k, 'k, 'd, 's, J: PostSet, N: MapNode> LentSpots<'g, 'k, 'd, 's, J, N>
             self.nodes.own = Some(node);
             return Err(Fault::CellsFull);
         };
-        match placed(room, node, self.pinned) {
+        match placed_in(room, node, self.pinned) {
             Ok((name, lent)) => {
                 self.nodes.key = match lent {
                     Some(node) => Some(node.key()),

@@ -40,7 +40,7 @@ impl Side for LockedValue {
         Some(())
     }
 
-    fn turns<R: Wait>(&self, rt: &R, _own: &mut (), part: RoundPart) -> u64 {
+    fn turns<R: Clock + Wait>(&self, rt: &R, _own: &mut (), part: RoundPart) -> u64 {
         let mut done: u64 = 0;
         let mut sum: u64 = 0;
         for count in 0..part.turns / READS {
@@ -69,7 +69,7 @@ impl Side for Numbers {
         Some(())
     }
 
-    fn turns<R: Wait>(&self, rt: &R, _own: &mut (), part: RoundPart) -> u64 {
+    fn turns<R: Clock + Wait>(&self, rt: &R, _own: &mut (), part: RoundPart) -> u64 {
         let mut done: u64 = 0;
         for number in 0..part.turns {
             if self.queue.push(rt, number).is_ok() && self.queue.pop(rt).is_some() {
@@ -141,7 +141,7 @@ impl<const KEYS: u64, const SPACE: u64> Side for LockedMap<KEYS, SPACE> {
         Some(())
     }
 
-    fn turns<R: Wait>(&self, rt: &R, _own: &mut (), part: RoundPart) -> u64 {
+    fn turns<R: Clock + Wait>(&self, rt: &R, _own: &mut (), part: RoundPart) -> u64 {
         let mut draw = Draw::of(part.thread, part.round);
         let mut done: u64 = 0;
         for _ in 0..part.turns {

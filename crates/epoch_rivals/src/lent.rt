@@ -52,16 +52,17 @@ pub fn made_for(alloc: Global, plan: RoundPlan) -> io::Result<Made> {
     Ok(Made::new(alloc, posts)?)
 }
 
-/// Makes cells in this domain.
+/// Makes cells in this domain: so many at first, and as many as `count` when they are needed.
 pub fn cells_in<J: PostSet, T: Drop>(
     alloc: Global,
+    first: u32,
     count: u32,
     domain: &Domain<J>,
 ) -> io::Result<LentCells<J, T>> {
     if count > MOST_SLOT {
         return Err(io::Error::from(io::ErrorKind::InvalidInput));
     }
-    match LentCells::new(alloc, count, domain) {
+    match LentCells::with_capacity(alloc, first, count, domain) {
         Ok(cells) => Ok(cells),
         Err(_) => Err(io::Error::from(io::ErrorKind::OutOfMemory)),
     }

@@ -39,7 +39,7 @@ impl<'q, 's, J: PostSet + Send + Sync> Side for NumberQueue<'q, 's, J> {
         LentOwn::join(self.alloc, self.store)
     }
 
-    fn turns<R: Wait>(
+    fn turns<R: Clock + Wait>(
         &self,
         _rt: &R,
         own: &mut LentOwn<'q, 's, J, NumberNode>,
@@ -68,7 +68,7 @@ impl<'q, 's, J: PostSet + Send + Sync> Side for NumberStack<'q, 's, J> {
         LentOwn::join(self.alloc, self.store)
     }
 
-    fn turns<R: Wait>(
+    fn turns<R: Clock + Wait>(
         &self,
         _rt: &R,
         own: &mut LentOwn<'q, 's, J, NumberNode>,
@@ -231,7 +231,7 @@ fn rounds_over<R: Clock + Threads + Wait + Sync, J: PostSet + Send + Sync>(
     requires { made.posts.items ≡ J.posts }
 {
     let domain = Domain::new(Posts::<J>::of(alloc, made)?);
-    let mut cells = cells_in(alloc, CELLS, &domain)?;
+    let mut cells = cells_in(alloc, CELLS, CELLS, &domain)?;
     let store = store_of(alloc, &domain, &mut cells)?;
     let done = rounds_in(rt, alloc, plan, row, &store, times);
     let _ = store.end(alloc);

@@ -9,7 +9,7 @@ use epoch_lend::domain::Domain;
 use epoch_lend::readers::posts::{Made, PostSet, Posts};
 use epoch_lend::session::{LendingGuard, Session};
 use epoch_lend_pointers::{Store, Writer};
-use epoch_map::{LendingMap, LentEntry};
+use epoch_map::{GrowingMap, LentEntry};
 use std::alloc::Global;
 use std::io;
 use std::marker::Brand;
@@ -17,18 +17,17 @@ use std::sync::Wait;
 use std::thread::Threads;
 use std::time::Clock;
 
-/// Nodes that a call may walk along, and begin again: as many as none needs.
-const MOVES: u32 = 1_000_000;
-
 /// Cells beside those of the keys, for nodes that are removed and wait for guards.
 const SPARE: u64 = 65_536;
 
 type NumberEntry = LentEntry<u64, u64>;
 
-/// What is done with a map: look-ups among 100,000 keys, the same beside changes, or look-ups among a million.
+/// What is done with a map: look-ups among 100,000 keys, in cells that were made at first or added one block after
+/// another; the same beside changes; or look-ups among a million.
 #[derive(Clone, Copy)]
 pub enum MapRow {
     Looks,
+    GrownLooks,
     Changes,
     ManyLooks,
 }
@@ -37,7 +36,7 @@ impl MapRow {
     /// How many keys the map has at first.
     fn keys(self) -> u64 {
         match self {
-            MapRow::Looks | MapRow::Changes => 100_000,
+            MapRow::Looks | MapRow::GrownLooks | MapRow::Changes => 100_000,
             MapRow::ManyLooks => 1_000_000,
         }
     }
@@ -49,14 +48,14 @@ impl MapRow {
 struct NumberMap<'q, 's, J: PostSet, const KEYS: u64, const SPACE: u64> {
     alloc: Global,
     store: &'q Store<'s, J, NumberEntry>,
-    map: LendingMap<'q, 's, J, NumberEntry>,
+    map: GrowingMap<'q, 's, J, NumberEntry>,
 }
 
 /// Makes a call, and returns whether it did what it should. A look-up should find its key's value, or may miss it if
 /// keys are removed.
 #[inline(always)]
 fn call<'s, J: PostSet, const KEYS: u64, const SPACE: u64>(
-    map: &LendingMap<'_, 's, J, NumberEntry>,
+    map: &GrowingMap<'_, 's, J, NumberEntry>,
     writer: &mut Writer<'_, 's, J, NumberEntry>,
     guard: &LendingGuard<'_, J>,
     number: u64,
@@ -64,24 +63,21 @@ fn call<'s, J: PostSet, const KEYS: u64, const SPACE: u64>(
     let key = key::<SPACE>(number);
     let chosen = if SPACE > KEYS { percent(number) } else { 0 };
     if chosen < 90 {
-        return match map.get(guard, &key, MOVES) {
-            Ok(Some(node)) => *node.value() == key,
-            Ok(None) => SPACE > KEYS,
-            Err(_) => false,
+        return match map.get(guard, &key) {
+            Some(node) => *node.value() == key,
+            None => SPACE > KEYS,
         };
     }
     if chosen < 95 {
-        return map
-            .insert(writer, guard, LentEntry::new(key, key), MOVES)
-            .is_ok();
+        return map.insert(writer, guard, LentEntry::new(key, key)).is_ok();
     }
-    map.remove(writer, guard, &key, MOVES).is_ok()
+    map.remove(writer, guard, &key).is_ok()
 }
 
 /// Makes the calls of one thread, under one guard that is renewed before each.
 #[inline(never)]
 fn calls<'s, J: PostSet, const KEYS: u64, const SPACE: u64>(
-    map: &LendingMap<'_, 's, J, NumberEntry>,
+    map: &GrowingMap<'_, 's, J, NumberEntry>,
     session: &mut Session<'s, J>,
     writer: &mut Writer<'_, 's, J, NumberEntry>,
     part: RoundPart,
@@ -110,7 +106,7 @@ impl<'q, 's, J: PostSet + Send + Sync, const KEYS: u64, const SPACE: u64> Side
         LentOwn::join(self.alloc, self.store)
     }
 
-    fn turns<R: Wait>(
+    fn turns<R: Clock + Wait>(
         &self,
         _rt: &R,
         own: &mut LentOwn<'q, 's, J, NumberEntry>,
@@ -125,9 +121,9 @@ impl<'q, 's, J: PostSet + Send + Sync, const KEYS: u64, const SPACE: u64> Side
 }
 
 impl<'q, 's, J: PostSet> LentOwn<'q, 's, J, NumberEntry> {
-    fn insert(&mut self, map: &LendingMap<'_, 's, J, NumberEntry>, key: u64) {
+    fn insert(&mut self, map: &GrowingMap<'_, 's, J, NumberEntry>, key: u64) {
         let guard = self.session.pin();
-        let _ = map.insert(&mut self.writer, &guard, LentEntry::new(key, key), MOVES);
+        let _ = map.insert(&mut self.writer, &guard, LentEntry::new(key, key));
         self.session.unpin(guard);
     }
 }
@@ -144,7 +140,7 @@ fn rounds_in<
     store: &Store<'_, J, NumberEntry>,
     times: &mut [Nanos],
 ) -> u64 {
-    let Ok(map) = LendingMap::new(alloc, store, bits_for(KEYS)) else {
+    let Ok(map) = GrowingMap::new(alloc, store) else {
         return 0;
     };
     if let Some(own) = LentOwn::join(alloc, store) {
@@ -156,11 +152,6 @@ fn rounds_in<
     }
     let shared = NumberMap::<J, KEYS, SPACE> { alloc, store, map };
     all_rounds(rt, plan, &shared, times)
-}
-
-/// The map of so many keys has 2 to this many buckets: the next power of two.
-fn bits_for(keys: u64) -> u32 {
-    u64::BITS.saturating_sub(keys.leading_zeros())
 }
 
 /// How many cells the store of so many keys has.
@@ -179,10 +170,17 @@ fn rounds_over<R: Clock + Threads + Wait + Sync, J: PostSet + Send + Sync>(
     requires { made.posts.items ≡ J.posts }
 {
     let domain = Domain::new(Posts::<J>::of(alloc, made)?);
-    let mut cells = cells_in(alloc, cells_for(row.keys()), &domain)?;
+    let count = cells_for(row.keys());
+    let first = match row {
+        MapRow::GrownLooks => 0,
+        _ => count,
+    };
+    let mut cells = cells_in(alloc, first, count, &domain)?;
     let store = store_of(alloc, &domain, &mut cells)?;
     let done = match row {
-        MapRow::Looks => rounds_in::<100_000, 100_000, R, J>(rt, alloc, plan, &store, times),
+        MapRow::Looks | MapRow::GrownLooks => rounds_in::<100_000, 100_000, R, J>(
+            rt, alloc, plan, &store, times,
+        ),
         MapRow::Changes => rounds_in::<100_000, 200_000, R, J>(rt, alloc, plan, &store, times),
         MapRow::ManyLooks => rounds_in::<1_000_000, 1_000_000, R, J>(
             rt, alloc, plan, &store, times,

@@ -229,7 +229,12 @@ impl<'q, 's, J: PostSet + Send + Sync> Side for ShownValue<'q, 's, J> {
         LentOwn::join(self.alloc, self.store)
     }
 
-    fn turns<R: Wait>(&self, _rt: &R, own: &mut LentOwn<'q, 's, J, Small>, part: RoundPart) -> u64 {
+    fn turns<R: Clock + Wait>(
+        &self,
+        _rt: &R,
+        own: &mut LentOwn<'q, 's, J, Small>,
+        part: RoundPart,
+    ) -> u64 {
         match self.row {
             ValueRow::Renewed => {
                 renewed_reads(&self.pointer, &mut own.session, &mut own.writer, part)
@@ -289,7 +294,7 @@ fn rounds_over<R: Clock + Threads + Wait + Sync, J: PostSet + Send + Sync>(
     requires { made.posts.items ≡ J.posts }
 {
     let domain = Domain::new(Posts::<J>::of(alloc, made)?);
-    let mut cells = cells_in(alloc, row.cells(), &domain)?;
+    let mut cells = cells_in(alloc, row.cells(), row.cells(), &domain)?;
     let store = store_of(alloc, &domain, &mut cells)?;
     let done = rounds_in(rt, alloc, plan, row, &store, times);
     let _ = store.end(alloc);

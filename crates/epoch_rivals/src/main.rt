@@ -2,10 +2,12 @@
 //!
 //! `ROW SIDE THREADS TURNS ROUNDS` prints how many turns of the last round did what they should, how many there were,
 //! and the nanoseconds that a turn of each round took. With no word it makes a short round of most rows on one thread
-//! and prints these counts alone.
+//! and prints these counts alone. `growth THREADS VALUES` has one thread place so many values, in a store that begins
+//! with 64 cells, while the others read them.
 #![tactic(auto)]
 
 mod draw;
+mod growth;
 mod kit;
 mod lent;
 mod lent_lines;
@@ -38,9 +40,16 @@ fn main(rt: HostRuntime) -> io::Result<()> {
         turns: number(4, FEW),
     };
     match (words.get(1), words.get(2)) {
+        (Some(row), Some(_)) if row.as_str() == "growth" => {
+            let (threads, turns) = (number(2, 1), number(3, FEW));
+            growth::grow(&rt, alloc, RoundPlan { threads, turns })
+        }
         (Some(row), Some(side)) => {
             table::time(&rt, alloc, plan, row.as_str(), side.as_str(), number(5, 1))
         }
-        _ => table::count(&rt, alloc, plan),
+        _ => {
+            table::count(&rt, alloc, plan)?;
+            growth::grow(&rt, alloc, plan)
+        }
     }
 }

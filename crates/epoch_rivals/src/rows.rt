@@ -2,7 +2,8 @@
 use crate::lent_lines::PairRow;
 use crate::lent_values::ValueRow;
 use crate::rows::SideWork::{
-    KitMany, KitMap, KitMix, KitQueue, KitRead, LentMany, LentMap, LentMix, LentPair, LentValue,
+    KitMany, KitMap, KitMix, KitQueue, KitRead, LentGrown, LentMany, LentMap, LentMix, LentPair,
+    LentValue,
 };
 
 /// What a turn of a side does.
@@ -14,6 +15,8 @@ pub enum SideWork {
     LentPair(PairRow),
     /// Looks up one of 100,000 keys in a map of lent nodes.
     LentMap,
+    /// The same in cells that were added one block after another.
+    LentGrown,
     /// Looks up one of 200,000 keys there, or changes the map.
     LentMix,
     /// Looks up one of 1,000,000 keys there.
@@ -37,7 +40,7 @@ const REPLACE_IN_MORE: ValueRow = ValueRow::Replace { cells: 262_144 };
 const REPLACE_IN_MANY: ValueRow = ValueRow::Replace { cells: 1_048_576 };
 
 /// A row's name, a side's name, and its work. `tools/rivals.py` lists the sides that each row is measured on.
-pub const SIDES: [(&str, &str, SideWork); 17] = [
+pub const SIDES: [(&str, &str, SideWork); 18] = [
     ("read_pin_each", "library", LentValue(ValueRow::Renewed)),
     ("read_pin_each", "library_pin", LentValue(ValueRow::Pinned)),
     ("read_pin_each", "kit_rwlock", KitRead),
@@ -67,4 +70,5 @@ pub const SIDES: [(&str, &str, SideWork); 17] = [
     ("map_90_5_5_100000", "kit_rwlock", KitMix),
     ("map_get_1000000", "library", LentMany),
     ("map_get_1000000", "kit_rwlock", KitMany),
+    ("map_get_100000", "library_grown", LentGrown),
 ];

@@ -29,7 +29,7 @@ pub trait Side {
     fn join(&self) -> Option<Self::Own>;
 
     /// Makes the turns of one thread, and returns how many did what they should.
-    fn turns<R: Wait>(&self, rt: &R, own: &mut Self::Own, part: RoundPart) -> u64;
+    fn turns<R: Clock + Wait>(&self, rt: &R, own: &mut Self::Own, part: RoundPart) -> u64;
 
     /// Gives back what the thread had.
     fn leave<R: Wait>(&self, rt: &R, own: Self::Own);

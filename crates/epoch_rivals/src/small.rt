@@ -23,6 +23,12 @@ impl Small {
         }
     }
 
+    /// Returns whether the words are equal, as they were made.
+    pub fn is_whole(&self) -> bool {
+        let [first, second, third, fourth] = self.words;
+        first == second && third == fourth && first == third
+    }
+
     #[inline(always)]
     pub fn sum(&self) -> u64 {
         let [first, second, third, fourth] = self.words;

@@ -72,8 +72,8 @@ impl Stopwatch {
     }
 }
 
-/// The nanoseconds since then. A clock that fails makes them as many as can be.
-fn since<R: Clock>(rt: &R, start: io::Result<Instant>) -> u64 {
+/// Returns the nanoseconds since then. A clock that fails makes them as many as can be.
+pub fn since<R: Clock>(rt: &R, start: io::Result<Instant>) -> u64 {
     let elapsed = match start {
         Ok(start) => start.elapsed(rt),
         Err(error) => Err(error),

@@ -22,6 +22,7 @@ fn rounds<R: Clock + Threads + Wait + Sync>(
         SideWork::LentValue(row) => lent_values::rounds(rt, alloc, plan, row, times),
         SideWork::LentPair(row) => lent_lines::rounds(rt, alloc, plan, row, times),
         SideWork::LentMap => lent_maps::rounds(rt, alloc, plan, MapRow::Looks, times),
+        SideWork::LentGrown => lent_maps::rounds(rt, alloc, plan, MapRow::GrownLooks, times),
         SideWork::LentMix => lent_maps::rounds(rt, alloc, plan, MapRow::Changes, times),
         SideWork::LentMany => lent_maps::rounds(rt, alloc, plan, MapRow::ManyLooks, times),
         SideWork::KitRead => Ok(kit::read_rounds(rt, plan, times)),

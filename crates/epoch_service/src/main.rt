@@ -11,7 +11,7 @@ mod settings;
 mod tests;
 
 use crate::counters::Counters;
-use crate::service::Service;
+use crate::service::{CAPACITY, Service};
 use epoch_shared::{SharedSizes, share};
 use std::io;
 
@@ -24,7 +24,7 @@ fn main(rt: HostRuntime) -> io::Result<()> {
     };
     let sizes = SharedSizes {
         threads: 5,
-        entries: 700,
+        capacity: Some(CAPACITY),
         messages: 1_000,
     };
     match share(&rt, alloc, sizes, &service) {

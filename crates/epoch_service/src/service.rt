@@ -16,8 +16,8 @@ const COMMON: u64 = 8;
 /// How often the configuration is replaced.
 const VERSIONS: u64 = 200;
 
-/// How many entries the cache takes.
-const CAPACITY: u64 = 600;
+/// How many entries the cache has at most.
+pub const CAPACITY: u32 = 600;
 
 type Key = Hashed<String>;
 
@@ -47,16 +47,6 @@ impl<R: Wait> Service<'_, R> {
         }
     }
 
-    // Returns whether the key is new and there is room for it.
-    fn insert(
-        &self,
-        cache: &mut impl SharedMap<Key, String>,
-        key: Hashed<String>,
-        value: String,
-    ) -> bool {
-        cache.len() < CAPACITY && cache.insert(key, value).unwrap_or(false)
-    }
-
     fn produce(
         &self,
         cache: &mut impl SharedMap<Key, String>,
@@ -65,7 +55,8 @@ impl<R: Wait> Service<'_, R> {
     ) -> Result<(), AllocError> {
         let common = number % COMMON;
         let key = Hashed::new(format!(in self.alloc; "common {common}")?);
-        if self.insert(cache, key, format!(in self.alloc; "value of {common}")?) {
+        let value = format!(in self.alloc; "value of {common}")?;
+        if let Ok(true) = cache.insert(key, value) {
             count(&self.counters.inserted);
         }
         if jobs.send(format!(in self.alloc; "{number}")?).is_err() {
@@ -82,11 +73,11 @@ impl<R: Wait> Service<'_, R> {
         let number = job.as_str().parse::<u64>().unwrap_or(0);
         self.counters.sum.fetch_add(number, SeqCst);
         let value = format!(in self.alloc; "done {job}")?;
-        let again = Hashed::new(job.clone()?);
-        if self.insert(cache, Hashed::new(job), value) {
+        if let Ok(false) = cache.put(Hashed::new(job.clone()?), value) {
             count(&self.counters.inserted);
         }
-        if cache.get(&again, |value| !value.is_empty()) == Ok(Some(true)) {
+        let again = Hashed::new(job.as_str());
+        if cache.get(&again, |value| !value.is_empty()) == Some(true) {
             count(&self.counters.found);
         }
         if number % 2 == 0 && cache.remove(&again) == Ok(true) {
@@ -132,14 +123,16 @@ impl<R: Wait> Service<'_, R> {
         }
     }
 
-    // Fills the cache, when no other thread is at work.
+    // Puts more entries into the cache than it has room for, when no other thread is at work, and counts those for
+    // which no other was taken out.
     fn fill(&self, cache: &mut impl SharedMap<Key, String>) -> Result<(), AllocError> {
         for number in 0..CAPACITY {
+            let before = cache.len();
             let key = Hashed::new(format!(in self.alloc; "more {number}")?);
-            if !self.insert(cache, key, format!(in self.alloc; "value of {number}")?) {
-                return Ok(());
+            let value = format!(in self.alloc; "value of {number}")?;
+            if cache.put(key, value).is_ok() && cache.len() > before {
+                count(&self.counters.room);
             }
-            count(&self.counters.room);
         }
         Ok(())
     }

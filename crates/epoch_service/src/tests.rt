@@ -1,8 +1,10 @@
 //! The calls of each structure, those too that the service has no use for, and what each of them says.
 use epoch_shared::{
-    Crew, Fault, SharedChannel, SharedMap, SharedSizes, SharedStack, SharedValue, StackCrew,
-    ValueCrew, share, share_stack, share_value,
+    Crew, Fault, Hashed, MapCrew, SharedChannel, SharedMap, SharedSizes, SharedStack, SharedValue,
+    StackCrew, ValueCrew, share, share_cache, share_map, share_stack, share_value,
 };
+use std::alloc::Global;
+use std::hash::RandomState;
 use std::process::Abort;
 use std::sync::atomic::AtomicU64;
 use std::sync::atomic::Ordering::SeqCst;
@@ -107,6 +109,110 @@ impl StackCrew<u64> for OneStack {
     }
 }
 
+type Text = Hashed<String>;
+
+// The sum of the values.
+fn sum_of(map: &mut impl SharedMap<Text, u64>) -> u64 {
+    let mut sum = 0u64;
+    map.for_each(|_key, value| sum = sum.wrapping_add(*value));
+    sum
+}
+
+/// A map of texts with random hashes, alone: each thread puts a hundred entries, and removes half of them.
+#[derive(Drop)]
+struct Texts {
+    alloc: Global,
+    state: RandomState,
+    found: Found,
+}
+
+impl Texts {
+    // Puts the number. `Some(true)`: it replaced another one.
+    fn put(&self, map: &mut impl SharedMap<Text, u64>, key: u64, number: u64) -> Option<bool> {
+        match format!(in self.alloc; "key {key}") {
+            Ok(key) => map.put(Hashed::with_hasher(key, &self.state), number).ok(),
+            Err(_) => None,
+        }
+    }
+
+    fn remove(&self, map: &mut impl SharedMap<Text, u64>, key: u64) {
+        if let Ok(key) = format!(in self.alloc; "key {key}") {
+            let _ = map.remove(&Hashed::with_hasher(key.as_str(), &self.state));
+        }
+    }
+}
+
+impl MapCrew<Text, u64> for Texts {
+    fn before(&self, map: &mut impl SharedMap<Text, u64>) {
+        let key = Hashed::with_hasher("key 1", &self.state);
+        self.found.note(0, self.put(map, 1, 10) == Some(false));
+        self.found.note(1, self.put(map, 1, 11) == Some(true));
+        self.found.note(2, self.put(map, 2, 20) == Some(false));
+        self.found
+            .note(3, map.get(&key, |value| *value) == Some(11));
+        self.found.note(4, map.contains(&key));
+        self.found.note(5, sum_of(map) == 31);
+        let retained = map.retain(|_key, value| *value == 20);
+        self.found.note(6, retained.is_ok() && sum_of(map) == 20);
+        self.found.note(7, map.remove(&key) == Ok(false));
+        self.found.note(8, map.clear().is_ok() && map.is_empty());
+    }
+
+    fn thread(&self, number: usize, map: &mut impl SharedMap<Text, u64>) {
+        let first = (number as u64).wrapping_mul(100);
+        for step in 0..100u64 {
+            let _ = self.put(map, first.wrapping_add(step), step);
+        }
+        for step in 0..50u64 {
+            self.remove(map, first.wrapping_add(step));
+        }
+    }
+
+    fn after(&self, map: &mut impl SharedMap<Text, u64>) {
+        self.found
+            .note(9, map.len() == 200 && sum_of(map) == 14_900);
+    }
+}
+
+/// A cache of fifty numbers, alone: each thread puts a thousand.
+#[derive(Default, Drop)]
+struct OneCache(Found);
+
+// How many entries are shown.
+fn count_of(map: &mut impl SharedMap<u64, u64>) -> usize {
+    let mut count = 0usize;
+    map.for_each(|_key, _value| count = count.wrapping_add(1));
+    count
+}
+
+impl MapCrew<u64, u64> for OneCache {
+    fn before(&self, map: &mut impl SharedMap<u64, u64>) {
+        for key in 0..50u64 {
+            let _ = map.insert(key, key);
+        }
+        self.0.note(0, count_of(map) == 50);
+        self.0.note(1, map.insert(50, 50).unwrap_or(false));
+        self.0.note(2, map.contains(&50) && count_of(map) == 50);
+        let made = map.get_or_insert_with(51, || Some(51), |value| *value);
+        self.0
+            .note(3, made.ok() == Some(Some(51)) && map.len() == 50);
+    }
+
+    fn thread(&self, number: usize, map: &mut impl SharedMap<u64, u64>) {
+        let first = (number as u64).wrapping_mul(1_000);
+        for step in 0..1_000u64 {
+            let key = first.wrapping_add(step);
+            let _ = map.put(key, key);
+        }
+    }
+
+    fn after(&self, map: &mut impl SharedMap<u64, u64>) {
+        let there = count_of(map);
+        self.0
+            .note(4, 0 < there && there <= 50 && map.len() == there);
+    }
+}
+
 /// A map and a channel, alone.
 #[derive(Default, Drop)]
 struct Alone {
@@ -117,14 +223,13 @@ struct Alone {
 impl Alone {
     fn insert(&self, map: &mut impl SharedMap<u64, u64>) {
         self.entries.note(0, map.is_empty());
-        self.entries
-            .note(1, map.get(&1, |value| *value) == Ok(None));
+        self.entries.note(1, map.get(&1, |value| *value).is_none());
         self.entries.note(2, map.insert(1, 10).unwrap_or(false));
         self.entries.note(3, map.len() == 1);
         self.entries.note(4, !map.insert(1, 11).unwrap_or(true));
         self.entries
-            .note(5, map.get(&1, |value| *value) == Ok(Some(10)));
-        self.entries.note(6, map.contains(&1) == Ok(true));
+            .note(5, map.get(&1, |value| *value) == Some(10));
+        self.entries.note(6, map.contains(&1));
     }
 
     fn remove(&self, map: &mut impl SharedMap<u64, u64>) {
@@ -190,11 +295,32 @@ fn a_stack_gives_what_went_in_last_and_hands_back_what_finds_no_cell(rt: HostRun
 }
 
 #[test]
+fn a_map_of_texts_is_asked_by_texts_that_own_nothing(rt: HostRuntime) {
+    let Ok(state) = RandomState::new(&rt) else {
+        panic!(rt; "no random numbers");
+    };
+    let crew = Texts {
+        alloc: rt.alloc(),
+        state,
+        found: Found::default(),
+    };
+    want_threads(&rt, share_map(&rt, rt.alloc(), 4, &crew), 4);
+    want(&rt, "a map of texts", &crew.found, 1_023);
+}
+
+#[test]
+fn a_cache_never_has_more_entries_than_its_capacity(rt: HostRuntime) {
+    let crew = OneCache::default();
+    want_threads(&rt, share_cache(&rt, rt.alloc(), 4, 50, &crew), 4);
+    want(&rt, "a cache", &crew.0, 31);
+}
+
+#[test]
 fn a_map_and_a_channel_say_what_was_there(rt: HostRuntime) {
     let crew = Alone::default();
     let sizes = SharedSizes {
         threads: 1,
-        entries: 8,
+        capacity: None,
         messages: 8,
     };
     want_threads(&rt, share(&rt, rt.alloc(), sizes, &crew), 1);

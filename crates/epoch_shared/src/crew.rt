@@ -33,6 +33,18 @@ pub trait StackCrew<V> {
     fn after(&self, _stack: &mut impl SharedStack<V>) {}
 }
 
+/// What threads do that share a map or a cache from `K` to `V`, as those of a [`ValueCrew`] do.
+pub trait MapCrew<K: MapKey, V> {
+    /// What is done before the threads are started.
+    fn before(&self, _map: &mut impl SharedMap<K, V>) {}
+
+    /// What the thread of this number does. The first one has number 0.
+    fn thread(&self, number: usize, map: &mut impl SharedMap<K, V>);
+
+    /// What is done when all threads are done.
+    fn after(&self, _map: &mut impl SharedMap<K, V>) {}
+}
+
 /// What threads do that share a value of type `T`, a map from `K` to `V`, and a channel of `M`. What they have no use
 /// for is of type `()`, or `u64` if it is a key.
 pub trait Crew<T, K: MapKey, V, M> {

@@ -1,11 +1,14 @@
 //! Keys of a map with their hashes.
-ghost use Rattle.std.specs.Prelude.{◌≡◌};
+ghost use Rattle.std.specs.Prelude.{◌≡◌, string_bytes};
+ghost use Rattle.std.specs.Ordering.{nat_cmp, ordering_then};
+ghost use Rattle.std.specs.Cmp.Lexicographic.{slice_cmp};
 ghost use Rattle.std.proofs.Common.{rules};
 ghost use Rattle.std.specs.Cmp.Rules.{comparing};
 ghost use Rattle.epoch_shared.specs.Keys.{key_in};
 
-use epoch_map::MapKey;
-use std::hash::{DefaultHasher, Hash, Hasher};
+use epoch_map::{MapKey, Seeks};
+use std::cmp::Ordering;
+use std::hash::{BuildHasher, DefaultHasher, Hash, Hasher};
 
 /// A key of any type, such as `String`, beside its hash, which comes first in the order and chooses the bucket.
 #[derive(Debug, PartialEq, Eq, PartialOrd, Ord, Drop)]
@@ -15,12 +18,30 @@ pub struct Hashed<K> {
 }
 
 impl<K: Hash> Hashed<K> {
-    /// Makes a key of this value.
+    /// Makes a key of this value. Its hash is always the same one, so where strangers choose the keys, take
+    /// [`Hashed::with_hasher`].
     pub fn new(key: K) -> Hashed<K>
         // A key with a hash has the value that it was made of.
         ensures { key_in result ≡ key }
     {
-        let mut hasher = DefaultHasher::new();
+        Hashed::of(key, DefaultHasher::new())
+    }
+
+    /// Makes a key of this value, and takes its hash from a hasher of `state`. With a `RandomState`, nobody who doesn't
+    /// know it can choose keys that share a bucket.
+    ///
+    /// All keys of a map need hashers of one state: with another one, a key isn't found.
+    pub fn with_hasher<S: BuildHasher>(key: K, state: &S) -> Hashed<K>
+        ensures { key_in result ≡ key }
+    {
+        Hashed::of(key, state.build_hasher())
+    }
+
+    // Makes a key of this value, with this hasher.
+    fn of<H: Hasher + Drop>(key: K, hasher: H) -> Hashed<K>
+        ensures { key_in result ≡ key }
+    {
+        let mut hasher = hasher;
         key.hash(&mut hasher);
         let hash = hasher.finish();
         Hashed { hash, key }
@@ -43,5 +64,27 @@ impl<K: Ord> MapKey for Hashed<K> {
 
     fn number(&self) -> u64 {
         self.hash
+    }
+}
+
+// A text stands for a key that has it as a `String`.
+impl Seeks<Hashed<String>> for Hashed<&str> {
+    ghost compared = { λ key seeker. ordering_then (nat_cmp key.hash seeker.hash)
+        (slice_cmp nat_cmp (string_bytes key.key) seeker.key.now) };
+
+    ghost sought = { λ seeker. seeker.hash };
+
+    ghost same_number = { λ key seeker same. Prim.search (comparing, rules) };
+
+    fn sought_number(&self) -> u64 {
+        let Hashed { hash, key: _ } = self;
+        *hash
+    }
+
+    fn compare_with(&self, key: &Hashed<String>) -> Ordering {
+        match key.hash.cmp(&self.hash) {
+            Ordering::Equal => key.key.as_str().cmp(self.key),
+            other => other,
+        }
     }
 }

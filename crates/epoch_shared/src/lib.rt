@@ -1,4 +1,4 @@
-//! A value, a map, a channel and a stack that threads share, each ready to use.
+//! A value, a map, a cache, a channel and a stack that threads share, each ready to use.
 #![tactic(auto)]
 
 mod channel;
@@ -7,6 +7,7 @@ mod hashed;
 mod leaving;
 mod map;
 mod sharing;
+mod sharing_map;
 mod sharing_stack;
 mod sharing_three;
 mod sizes;
@@ -15,12 +16,13 @@ mod start;
 mod value;
 
 pub use channel::SharedChannel;
-pub use crew::{Crew, StackCrew, ValueCrew};
+pub use crew::{Crew, MapCrew, StackCrew, ValueCrew};
 pub use epoch_cells::{Fault, Refused};
-pub use epoch_map::MapKey;
+pub use epoch_map::{MapKey, Seeks};
 pub use hashed::Hashed;
-pub use map::SharedMap;
+pub use map::{MapInserts, MapReads, MapRemovals, SharedMap};
 pub use sharing::share_value;
+pub use sharing_map::{share_cache, share_map};
 pub use sharing_stack::share_stack;
 pub use sharing_three::share;
 pub use sizes::SharedSizes;

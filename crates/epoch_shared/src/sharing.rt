@@ -3,8 +3,8 @@ ghost use Rattle.std.specs.Prelude.{◌≡◌, ◌⊎◌, ◌≤◌, IfOk, IfErr
 ghost use Rattle.epoch_cells.specs.declared.fault.Fault.TheVariants.{NoMemory, CellsFull, TableFull};
 
 use crate::crew::ValueCrew;
-use crate::sizes::{cells_for, posts_for};
-use crate::start::{Round, Step, start_all};
+use crate::sizes::{cells_for, make_posts, posts_for};
+use crate::start::{Round, Step, run_steps};
 use crate::value::{SharedValue, ValueHold, ValueRoot, Wraps};
 use epoch_cells::Fault;
 use epoch_lend::domain::Domain;
@@ -35,10 +35,8 @@ where
     ensures most { IfOk result (λ done. done ≤ threads) }
     ensures refused { IfErr result (λ fault. (fault ≡ NoMemory) ⊎ (fault ≡ CellsFull) ⊎ (fault ≡ TableFull)) }
 {
-    match Made::new(alloc, posts_for(threads)) {
-        Ok(made) => begin::<R, Brand, Plain<T>, C>(rt, alloc, made, threads, crew),
-        Err(_) => Err(Fault::NoMemory),
-    }
+    let made = make_posts(alloc, posts_for(threads))?;
+    begin::<R, Brand, Plain<T>, C>(rt, alloc, made, threads, crew)
 }
 
 fn begin<
@@ -77,10 +75,7 @@ where
 {
     let root = ValueRoot::new(store);
     let work = Working { alloc, crew };
-    work.take_part(Step::Before, &root)?;
-    let done = start_all(rt, alloc, threads, &root, &work)?;
-    work.take_part(Step::After, &root)?;
-    Ok(done)
+    run_steps(rt, alloc, threads, &root, &work)
 }
 
 /// A crew at work.

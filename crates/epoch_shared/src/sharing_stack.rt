@@ -3,9 +3,9 @@ ghost use Rattle.std.specs.Prelude.{◌≡◌, ◌⊎◌, ◌≤◌, IfOk, IfErr
 ghost use Rattle.epoch_cells.specs.declared.fault.Fault.TheVariants.{NoMemory, CellsFull, TableFull};
 
 use crate::crew::StackCrew;
-use crate::sizes::{cells_for, posts_for};
+use crate::sizes::{cells_for, make_posts, posts_for};
 use crate::stack::{SharedStack, StackHold, StackRoot};
-use crate::start::{Round, Step, start_all};
+use crate::start::{Round, Step, run_steps};
 use epoch_cells::Fault;
 use epoch_lend::domain::Domain;
 use epoch_lend::readers::posts::{Made, PostSet, Posts};
@@ -31,10 +31,8 @@ where
     ensures most { IfOk result (λ done. done ≤ threads) }
     ensures refused { IfErr result (λ fault. (fault ≡ NoMemory) ⊎ (fault ≡ CellsFull) ⊎ (fault ≡ TableFull)) }
 {
-    match Made::new(alloc, posts_for(threads)) {
-        Ok(made) => begin::<R, Brand, OwnedNode<V>, C>(rt, alloc, made, threads, values, crew),
-        Err(_) => Err(Fault::NoMemory),
-    }
+    let made = make_posts(alloc, posts_for(threads))?;
+    begin::<R, Brand, OwnedNode<V>, C>(rt, alloc, made, threads, values, crew)
 }
 
 fn begin<
@@ -73,10 +71,7 @@ where
 {
     let root = StackRoot::new(store);
     let work = Stacking { alloc, crew };
-    work.take_part(Step::Before, &root)?;
-    let done = start_all(rt, alloc, threads, &root, &work)?;
-    work.take_part(Step::After, &root)?;
-    Ok(done)
+    run_steps(rt, alloc, threads, &root, &work)
 }
 
 /// A crew at work on a stack.

@@ -4,11 +4,16 @@ ghost use Rattle.epoch_cells.specs.declared.fault.Fault.TheVariants.{NoMemory, C
 
 use crate::channel::{ChannelHold, ChannelRoot, SharedChannel};
 use crate::crew::Crew;
-use crate::map::{KeepsEntry, MapHold, MapRoot, SharedMap};
-use crate::sizes::{SharedSizes, cells_for, posts_for};
-use crate::start::{Round, Step, start_all};
+use crate::map::hold::{LookHold, MapRoot};
+use crate::map::inserting::InsertHold;
+use crate::map::node::KeepsEntry;
+use crate::map::parts::MapParts;
+use crate::map::removing::RemoveHold;
+use crate::map::{MapInserts, MapReads, MapRemovals, SharedMap};
+use crate::sizes::{SharedSizes, cells_for, make_posts, posts_for};
+use crate::start::{Round, Step, run_steps};
 use crate::value::{SharedValue, ValueHold, ValueRoot, Wraps};
-use epoch_cells::Fault;
+use epoch_cells::{Fault, MOST_SLOT};
 use epoch_lend::domain::Domain;
 use epoch_lend::readers::posts::{Made, PostSet, Posts};
 use epoch_lend_pointers::{LentCells, Plain, Store};
@@ -38,19 +43,12 @@ where
     ensures most { IfOk result (λ done. done ≤ sizes.threads) }
     ensures refused { IfErr result (λ fault. (fault ≡ NoMemory) ⊎ (fault ≡ CellsFull) ⊎ (fault ≡ TableFull)) }
 {
-    // Each thread has three sessions.
-    let posts = posts_for(sizes.threads) * 3;
-    match Made::new(alloc, posts) {
-        Ok(made) => begin::<R, Brand, Plain<T>, LentEntry<K, V>, OwnedNode<M>, C>(
-            rt,
-            alloc,
-            made,
-            sizes,
-            OwnedNode::empty(),
-            crew,
-        ),
-        Err(_) => Err(Fault::NoMemory),
-    }
+    // Each thread has five sessions.
+    let made = make_posts(alloc, posts_for(sizes.threads) * 5)?;
+    let first = OwnedNode::empty();
+    begin::<R, Brand, Plain<T>, LentEntry<K, V>, OwnedNode<M>, C>(
+        rt, alloc, made, sizes, first, crew,
+    )
 }
 
 fn begin<R: Threads + Sync, J: PostSet + Send + Sync, N, E, M, C>(
@@ -107,7 +105,7 @@ where
     ensures refused { IfErr result (λ fault. (fault ≡ NoMemory) ⊎ (fault ≡ CellsFull) ⊎ (fault ≡ TableFull)) }
 {
     let domain = values.domain();
-    let mut cells = LentCells::<J, E>::new(alloc, cells_for(sizes.entries, sizes.threads), domain)?;
+    let mut cells = LentCells::<J, E>::new(alloc, MOST_SLOT, domain)?;
     let entries = Store::new(alloc, domain, &mut cells)?;
     let done = with_messages(rt, alloc, values, &entries, sizes, first, crew);
     let _ = entries.end(alloc);
@@ -168,7 +166,7 @@ where
     ensures most { IfOk result (λ done. done ≤ sizes.threads) }
     ensures refused { IfErr result (λ fault. (fault ≡ NoMemory) ⊎ (fault ≡ CellsFull) ⊎ (fault ≡ TableFull)) }
 {
-    let map = MapRoot::new(alloc, entries, sizes.entries)?;
+    let map = MapRoot::new(alloc, entries, sizes.capacity)?;
     let channel = ChannelRoot::new(alloc, messages, first)?;
     let value = ValueRoot::new(values);
     let roots = Roots {
@@ -177,10 +175,7 @@ where
         channel,
     };
     let work = WorkingOnThree { alloc, crew };
-    work.take_part(Step::Before, &roots)?;
-    let done = start_all(rt, alloc, sizes.threads, &roots, &work)?;
-    work.take_part(Step::After, &roots)?;
-    Ok(done)
+    run_steps(rt, alloc, sizes.threads, &roots, &work)
 }
 
 /// A value, a map and a channel that threads share.
@@ -213,7 +208,7 @@ where
         roots: &Roots<'v, 'w, 'e, 'f, 'm, 'n, J, N, E, M>,
     ) -> Result<(), Fault> {
         let mut value = ValueHold::join(self.alloc, &roots.value)?;
-        let done = take_map(
+        let done = take_looks(
             self.alloc,
             step,
             &roots.map,
@@ -226,8 +221,8 @@ where
     }
 }
 
-// Takes the step with a half of the map, too.
-fn take_map<J: PostSet, T, E: KeepsEntry, M: MovesValue, C, S>(
+// Takes the step with what the thread has to look entries up, too.
+fn take_looks<J: PostSet, T, E: KeepsEntry, M: MovesValue, C, S>(
     alloc: Global,
     step: Step,
     map: &MapRoot<'_, '_, J, E>,
@@ -240,10 +235,90 @@ where
     S: SharedValue<T>,
     ensures refused { IfErr result (λ fault. (fault ≡ NoMemory) ⊎ (fault ≡ TableFull)) }
 {
-    let mut entries = MapHold::join(alloc, map)?;
-    let done = take_channel(alloc, step, channel, value, &mut entries, crew);
-    entries.leave();
+    let mut looks = LookHold::join(map)?;
+    take_inserts(alloc, step, map, channel, value, &mut looks, crew)
+}
+
+// Takes the step with what the thread has to insert entries, too.
+fn take_inserts<J: PostSet, T, E: KeepsEntry, M: MovesValue, C, S, L>(
+    alloc: Global,
+    step: Step,
+    map: &MapRoot<'_, '_, J, E>,
+    channel: &ChannelRoot<'_, '_, J, M>,
+    value: &mut S,
+    looks: &mut L,
+    crew: &C,
+) -> Result<(), Fault>
+where
+    C: Crew<T, E::Key, E::Value, M::Value>,
+    S: SharedValue<T>,
+    L: MapReads<E::Key, E::Value>,
+    ensures refused { IfErr result (λ fault. (fault ≡ NoMemory) ⊎ (fault ≡ TableFull)) }
+{
+    let mut inserts = InsertHold::join(alloc, map)?;
+    let done = take_removals(alloc, step, map, channel, value, looks, &mut inserts, crew);
+    inserts.leave();
     done
+}
+
+// Takes the step with what the thread has to remove entries, too.
+fn take_removals<J: PostSet, T, E: KeepsEntry, M: MovesValue, C, S, L, I>(
+    alloc: Global,
+    step: Step,
+    map: &MapRoot<'_, '_, J, E>,
+    channel: &ChannelRoot<'_, '_, J, M>,
+    value: &mut S,
+    looks: &mut L,
+    inserts: &mut I,
+    crew: &C,
+) -> Result<(), Fault>
+where
+    C: Crew<T, E::Key, E::Value, M::Value>,
+    S: SharedValue<T>,
+    L: MapReads<E::Key, E::Value>,
+    I: MapInserts<E::Key, E::Value>,
+    ensures refused { IfErr result (λ fault. (fault ≡ NoMemory) ⊎ (fault ≡ TableFull)) }
+{
+    let mut removals = RemoveHold::join(alloc, map)?;
+    let done = take_parts(
+        alloc,
+        step,
+        channel,
+        value,
+        looks,
+        inserts,
+        &mut removals,
+        crew,
+    );
+    removals.leave();
+    done
+}
+
+// Takes the step with all that the thread has of the map, as one.
+fn take_parts<J: PostSet, T, K: MapKey, V, M: MovesValue, C, S, L, I, R>(
+    alloc: Global,
+    step: Step,
+    channel: &ChannelRoot<'_, '_, J, M>,
+    value: &mut S,
+    looks: &mut L,
+    inserts: &mut I,
+    removals: &mut R,
+    crew: &C,
+) -> Result<(), Fault>
+where
+    C: Crew<T, K, V, M::Value>,
+    S: SharedValue<T>,
+    L: MapReads<K, V>,
+    I: MapInserts<K, V>,
+    R: MapRemovals<K, V>,
+    ensures refused { IfErr result (λ fault. (fault ≡ NoMemory) ⊎ (fault ≡ TableFull)) }
+{
+    let mut entries = MapParts {
+        looks,
+        inserts,
+        removals,
+    };
+    take_channel(alloc, step, channel, value, &mut entries, crew)
 }
 
 // Takes the step with a half of the channel, too.

@@ -1,7 +1,10 @@
 //! How many posts and cells a shared structure has.
-ghost use Rattle.std.specs.Prelude.{◌≡◌, ◌⊎◌, ◌≤◌, ◌+◌, ◌*◌};
+ghost use Rattle.std.specs.Prelude.{◌≡◌, ◌⊎◌, ◌≤◌, ◌+◌, ◌*◌, IfErr};
+ghost use Rattle.epoch_cells.specs.declared.fault.Fault.TheVariants.{NoMemory};
 
-use epoch_cells::MOST_SLOT;
+use epoch_cells::{Fault, MOST_SLOT};
+use epoch_lend::readers::posts::Made;
+use std::alloc::Global;
 
 /// Cells for each thread: for its next values, and for those that wait to be dropped.
 const FOR_EACH_THREAD: u32 = 192;
@@ -14,6 +17,16 @@ pub(crate) fn posts_for(threads: u16) -> usize
     ensures { result ≡ (threads + 1) * 16 }
 {
     (threads as usize + 1) * POSTS
+}
+
+/// Makes so many posts.
+pub(crate) fn make_posts(alloc: Global, count: usize) -> Result<Made, Fault>
+    ensures { IfErr result (λ fault. fault ≡ NoMemory) }
+{
+    match Made::new(alloc, count) {
+        Ok(made) => Ok(made),
+        Err(_) => Err(Fault::NoMemory),
+    }
 }
 
 /// How many cells a store has for so many values and threads: as many as they need, or the most there can be.
@@ -30,8 +43,8 @@ pub(crate) fn cells_for(values: u32, threads: u16) -> u32
 pub struct SharedSizes {
     /// How many threads are started.
     pub threads: u16,
-    /// How many entries the map has at a time.
-    pub entries: u32,
+    /// How many entries the map has at most, if it is a cache. `None`: as many as are inserted.
+    pub capacity: Option<u32>,
     /// How many messages wait in the channel at a time.
     pub messages: u32,
 }

@@ -24,7 +24,7 @@ pub(crate) trait Round<H> {
 }
 
 // Starts all threads, and comes back when they are done. Returns how many took part.
-pub(crate) fn start_all<R: Threads + Sync, H: Sync, W: Round<H> + Sync>(
+fn start_all<R: Threads + Sync, H: Sync, W: Round<H> + Sync>(
     rt: &R,
     alloc: Global,
     threads: u16,
@@ -39,6 +39,23 @@ pub(crate) fn start_all<R: Threads + Sync, H: Sync, W: Round<H> + Sync>(
         Ok(done) => Ok(how_many(done.as_slice())),
         Err(_) => Err(Fault::NoMemory),
     }
+}
+
+// Has the crew begin, starts all threads, and has the crew end. Returns how many threads took part.
+pub(crate) fn run_steps<R: Threads + Sync, H: Sync, W: Round<H> + Sync>(
+    rt: &R,
+    alloc: Global,
+    threads: u16,
+    root: &H,
+    work: &W,
+) -> Result<usize, Fault>
+    ensures most { IfOk result (λ done. done ≤ threads) }
+    ensures refused { IfErr result (λ fault. (fault ≡ NoMemory) ⊎ (fault ≡ TableFull)) }
+{
+    work.take_part(Step::Before, root)?;
+    let done = start_all(rt, alloc, threads, root, work)?;
+    work.take_part(Step::After, root)?;
+    Ok(done)
 }
 
 // How many are `true`.

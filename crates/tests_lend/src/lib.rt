@@ -1,6 +1,8 @@
-//! Tests of values that are lent to readers: in cells, and in stores. And runs of the pages to copy.
+//! Tests of values that are lent to readers: in cells, in stores, and in an ordered map. And runs of the pages to copy.
 #![tactic(auto)]
 
+#[cfg(test)]
+mod ordered;
 #[cfg(test)]
 mod pages;
 #[cfg(test)]

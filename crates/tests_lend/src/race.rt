@@ -3,8 +3,10 @@ ghost use Rattle.std.specs.Prelude.{◌≡◌, ◌<◌, ◌^◌};
 
 use crate::probes::{Counts, Probe, counts_for, dropped_once};
 use crate::wants::want;
-use epoch_lend::array::cells::{LendingCells, SlotTurn};
+use epoch_lend::array::cells::SlotTurn;
+use epoch_lend::array::growing::GrowingCells;
 use epoch_lend::readers::posts::{Made, PostSet, Posts};
+use epoch_lend::readers::reader::Pinned;
 use epoch_lend_pointers::store::batch::Batch;
 use std::alloc::{AllocError, Global};
 use std::marker::Brand;
@@ -83,8 +85,20 @@ impl Course {
     }
 }
 
+/// Looks at the value of this spot.
+fn seen_at<'g, J: PostSet>(
+    cells: &GrowingCells<J, Probe>,
+    spot: SlotTurn,
+    pinned: &'g Pinned<'_, J>,
+) -> Option<&'g Probe> {
+    match cells.look(spot, pinned) {
+        Some(sight) => Some(sight.value),
+        None => None,
+    }
+}
+
 /// Pins, looks at what the root names, reads and unpins, until it is over.
-fn read_on<J: PostSet>(posts: &Posts<J>, cells: &LendingCells<J, Probe>, course: &Course) {
+fn read_on<J: PostSet>(posts: &Posts<J>, cells: &GrowingCells<J, Probe>, course: &Course) {
     let Some(first) = posts.register() else {
         return;
     };
@@ -94,7 +108,7 @@ fn read_on<J: PostSet>(posts: &Posts<J>, cells: &LendingCells<J, Probe>, course:
             break;
         }
         let pinned = reader.pin(course.epoch());
-        course.tell(cells.get(spot_of(course.root.load(SeqCst)), &pinned));
+        course.tell(seen_at(cells, spot_of(course.root.load(SeqCst)), &pinned));
         reader = pinned.unpin();
     }
     reader.release();
@@ -123,38 +137,43 @@ fn take_bag_back<J: PostSet>(bag: Batch<'_, J, Probe>, posts: &Posts<J>, course:
 
 /// Marks the value at this spot, and puts it into the batch.
 fn retire<'c, J: PostSet>(
-    cells: &'c LendingCells<J, Probe>,
+    cells: &'c GrowingCells<J, Probe>,
     bag: &mut Batch<'c, J, Probe>,
     old: Option<SlotTurn>,
 ) {
     if let Some(spot) = old {
-        if let Some(removal) = cells.mark(spot) {
-            let _ = bag.push(removal);
+        if let Some(marked) = cells.mark(spot) {
+            let _ = bag.push(marked.found);
         }
     }
 }
 
 /// Places one value, and names it in the root. Returns its spot, or the old one if no cell is free.
 fn placed<J: PostSet>(
-    cells: &LendingCells<J, Probe>,
+    cells: &GrowingCells<J, Probe>,
     old: Option<SlotTurn>,
     number: usize,
     course: &Course,
 ) -> Option<SlotTurn> {
-    let spot = match cells.place(Probe::new(number, &course.counts)) {
-        Ok(placed) => placed.spot,
-        Err(_) => return old,
-    };
-    course.placed.fetch_add(1, SeqCst);
-    course.root.store(word_of(spot), SeqCst);
-    Some(spot)
+    for slot in 0..cells.limit() {
+        let Some(fresh) = cells.fresh_room(slot) else {
+            continue;
+        };
+        let Ok(placed) = fresh.found.place(Probe::new(number, &course.counts)) else {
+            return old;
+        };
+        course.placed.fetch_add(1, SeqCst);
+        course.root.store(word_of(placed.spot), SeqCst);
+        return Some(placed.spot);
+    }
+    old
 }
 
 /// Places all values, one after another, and takes each back while readers go on.
 fn replace_all<J: PostSet>(
     alloc: Global,
     posts: &Posts<J>,
-    cells: &LendingCells<J, Probe>,
+    cells: &GrowingCells<J, Probe>,
     course: &Course,
 ) -> Result<(), AllocError> {
     let mut bag = Batch::with_capacity(alloc, TOGETHER)?;
@@ -178,7 +197,7 @@ fn run_at_once<J: PostSet + Send + Sync, R: Threads + Wait>(
     alloc: Global,
     readers: usize,
     posts: &Posts<J>,
-    cells: &LendingCells<J, Probe>,
+    cells: &GrowingCells<J, Probe>,
     course: &Course,
 ) {
     thread::scope(thread::scope_env(), rt, |scope| {
@@ -200,7 +219,7 @@ fn start<J: PostSet + Send + Sync, R: Threads + Wait>(
     requires { made.posts.items ≡ J.posts }
 {
     let posts = Posts::<J>::of(alloc, made)?;
-    let cells = LendingCells::new(alloc, 8, u64::MAX, &posts)?;
+    let cells = GrowingCells::new(alloc, 8, 8, u64::MAX, &posts)?;
     run_at_once(rt, alloc, readers, &posts, &cells, course);
     Ok(())
 }

@@ -1,10 +1,11 @@
-//! Tests of the stacks, the queue and the map for threads.
+//! Tests of the stacks, the queue and the maps for threads.
 #![tactic(auto)]
 
 #[cfg(test)]
 mod calls;
 #[cfg(test)]
 mod counts;
+mod growing;
 #[cfg(test)]
 mod lending;
 mod lists;

@@ -6,7 +6,7 @@ mod beside_std;
 #[cfg(test)]
 mod books;
 #[cfg(test)]
-mod calls;
+pub(crate) mod calls;
 #[cfg(test)]
 mod scenes;
 #[cfg(test)]

@@ -76,9 +76,10 @@ impl<T: Pointable, A: SharedWord> Atomic<T, A> {
 
     /// Loads the pointer's number, less its tag. Pointers to one value have one such number, pointers to other values
     /// have others, and null has 0. So it tells whether a pointer leads to the same value as before. The load acts as
-    /// `SeqCst`, whichever ordering is asked for.
+    /// `SeqCst`, whichever ordering is asked for. It is this library's own: crossbeam-epoch has no such call.
     #[inline(always)]
     pub fn load_number(&self, order: Ordering) -> u64
+        // A load of a pointer's number loads the pointer's word, and returns it less the tag.
         ensures did { LoadsNumber (A.did self.now.word) result }
     {
         self.word.load(order) / 0x100 * 0x100

@@ -11,7 +11,6 @@ use crate::cells::sight::Sight;
 use crate::cells::turns::{GREATEST_TURN, TurnName};
 use crate::readers::posts::{PostSet, Posts};
 use crate::readers::reader::Pinned;
-use crate::watch::Watch;
 use std::alloc::{AllocError, Global};
 
 /// Where a value is: its slot, and its turn there. No other value ever has both.
@@ -36,7 +35,7 @@ pub struct LendingCells<J: PostSet, T> {
     base: *const T,
     block: Block<T, Global>,
     alloc: Global,
-    last_turn: u64,
+    pub(crate) last_turn: u64,
     pub ghost bounded: { last_turn ≤ GREATEST_TURN },
     pub ghost laid: { map (λ s. s.turns.at) slots.items ≡ places_in base block.stride (length slots.items) },
     pub ghost of_block: { (block.heap ≡ alloc) × (block.at ≡ base) × (block.taken ≡ length slots.items)
@@ -76,22 +75,12 @@ impl<J: PostSet, T> LendingCells<J, T> {
             last_turn,
         })
     }
-}
 
-impl<J: PostSet, T> LendingCells<J, T> {
     /// Returns how many cells there are.
     pub fn len(&self) -> usize
         ensures { result ≡ length self.now.slots.items }
     {
         self.slots.len()
-    }
-
-    /// Returns the last turn at which a cell takes a value.
-    pub fn last_turn(&self) -> u64
-        ensures value { result ≡ self.now.last_turn }
-        ensures within { result ≤ GREATEST_TURN }
-    {
-        self.last_turn
     }
 
     // Where the value of this slot lies.
@@ -105,35 +94,18 @@ impl<J: PostSet, T> LendingCells<J, T> {
 
     /// Lends the value that is shown at this spot, by one plain load, for as long as the reference to the pinned
     /// reader lasts, with the name that shows that it was placed there. `None`: no value was placed there yet, or it
-    /// was marked, or there is no such slot.
+    /// was marked. The slot must be less than [`LendingCells::len`].
+    #[inline(always)]
     pub fn look<'g>(&self, spot: SlotTurn, pinned: &'g Pinned<'_, J>) -> Option<Sight<'g, T>>
+        requires { spot.slot < length self.now.slots.items }
         // A look lends the value that was placed at the slot and the turn that it names, for as long as the reference
         // to the pinned reader is.
         ensures slot { IfSome result (λ sight. slice_get (map (λ s. s.turns.log) self.now.slots.items) spot.slot
             ≡ Some sight.name.log) }
         ensures turn { IfSome result (λ sight. sight.name.turn ≡ spot.turn) }
     {
-        if spot.slot >= self.slots.len() {
-            return None;
-        }
-        self.look_at(spot, pinned)
-    }
-
-    /// Does what [`LendingCells::look`] does, for a caller that has compared the slot with [`LendingCells::len`], which
-    /// must be greater.
-    #[inline(always)]
-    pub fn look_at<'g>(&self, spot: SlotTurn, pinned: &'g Pinned<'_, J>) -> Option<Sight<'g, T>>
-        requires { spot.slot < length self.now.slots.items }
-        ensures slot { IfSome result (λ sight. slice_get (map (λ s. s.turns.log) self.now.slots.items) spot.slot
-            ≡ Some sight.name.log) }
-        ensures turn { IfSome result (λ sight. sight.name.turn ≡ spot.turn) }
-    {
-        self.slots[spot.slot].look(self.place_of(spot.slot), spot.turn, pinned)
-    }
-
-    /// Lends the value that is shown at this spot, as [`LendingCells::look`] does, without its name.
-    pub fn get<'g>(&self, spot: SlotTurn, pinned: &'g Pinned<'_, J>) -> Option<&'g T> {
-        Some(self.look(spot, pinned)?.value)
+        let turns = &self.slots[spot.slot].turns;
+        turns.sight(self.place_of(spot.slot), spot.turn, pinned.guard())
     }
 
     /// Returns where the value of this slot is, and its name, by two plain loads, so that what is left in the cells can
@@ -156,26 +128,21 @@ impl<J: PostSet, T> LendingCells<J, T> {
         }
     }
 
-    /// Returns whether no reader was seen pinned at these posts. Another thread may pin at once.
-    #[inline(always)]
-    pub fn are_unpinned(&self, posts: &Posts<J>) -> bool {
-        let (are_unpinned, _) = Watch::new().unpinned(posts.as_slice());
-        are_unpinned
-    }
-
-    /// Claims the cell at this position if it is empty, by one exchange, and returns its room, for the caller's next
-    /// value. `None`: it is in use, or past its last turn, or there is no such cell.
-    pub fn fresh_room(&self, position: usize) -> Option<LentRoom<'_, J, T>>
+    /// Claims this cell if it is empty, by one exchange, and returns its room, for the caller's next value. The caller
+    /// knows the cell under this position. `None`: it is in use, or past its last turn, or there is no such cell.
+    pub(crate) fn fresh_room(&self, index: usize, position: usize) -> Option<LentRoom<'_, J, T>>
         // Only one caller gets the room of an empty cell, at a turn that the cell has yet to come to.
+        ensures index { IfSome result (λ room. room.index ≡ index) }
         ensures position { IfSome result (λ room. room.position ≡ position) }
         ensures cells { IfSome result (λ room. room.cells.now ≡ self.now) }
         ensures has_turn { IfSome result (λ room. room.next_turn ≤ self.now.last_turn) }
     {
-        let slot = self.slots.get(position)?;
-        let (next_turn, claim) = slot.claim(self.place_of(position), self.last_turn)?;
+        let slot = self.slots.get(index)?;
+        let (next_turn, claim) = slot.claim(self.place_of(index), self.last_turn)?;
         Some(LentRoom {
             cells: self,
             slot,
+            index,
             position,
             next_turn,
             claim,
@@ -183,8 +150,9 @@ impl<J: PostSet, T> LendingCells<J, T> {
     }
 
     /// Marks the value at this spot, so that no look finds it from then on. Of all callers that mark it, only one gets
-    /// the removal. `None`: no value was placed there yet, or it was marked, or there is no such slot.
-    pub fn mark(&self, spot: SlotTurn) -> Option<SlotRemoval<'_, J, T>>
+    /// the removal. The caller knows the cell under this position. `None`: no value was placed there yet, or it was
+    /// marked, or there is no such slot.
+    pub(crate) fn mark(&self, spot: SlotTurn, position: usize) -> Option<SlotRemoval<'_, J, T>>
         // A mark takes out the value at the slot and the turn that it names. Of all marks of a value, only one gets the
         // value.
         ensures slot { IfSome result (λ removal. slice_get (map (λ s. s.turns.log) self.now.slots.items) spot.slot
@@ -192,35 +160,8 @@ impl<J: PostSet, T> LendingCells<J, T> {
         ensures turn { IfSome result (λ removal. removal.name.turn ≡ spot.turn) }
     {
         let slot = self.slots.get(spot.slot)?;
-        slot.mark(self.place_of(spot.slot), spot.turn, self, spot.slot)
-    }
-}
-
-impl<J: PostSet, T> LendingCells<J, T> {
-    /// Places a value in the first cell that is seen empty, and returns where. It hands the value back if each cell was
-    /// seen in use, or past the last turn.
-    pub fn place(&self, value: T) -> Result<PlacedAt<T>, T>
-        // A placed value stands at the slot and the turn that the call returns, in a cell that only this call claimed.
-        // Otherwise the value is handed back.
-        ensures slot { IfOk result (λ placed. slice_get (map (λ s. s.turns.log) self.now.slots.items) placed.spot.slot
-            ≡ Some placed.name.log) }
-        ensures turn { IfOk result (λ placed. placed.name.turn ≡ placed.spot.turn) }
-
-        ensures within { IfOk result (λ placed. placed.spot.turn ≤ self.now.last_turn) }
-        ensures placed { IfOk result (λ placed. placed.name.value ≡ value) }
-        ensures handed_back { IfErr result (λ back. back ≡ value) }
-    {
-        let mut kept = value;
-        for position in 0..self.slots.len() {
-            let Some(room) = self.fresh_room(position) else {
-                continue;
-            };
-            match room.place(kept) {
-                Ok(placed) => return Ok(placed),
-                Err(back) => kept = back,
-            }
-        }
-        Err(kept)
+        let at = self.place_of(spot.slot);
+        slot.mark(at, spot.turn, self, spot.slot, position)
     }
 }
 

@@ -1,5 +1,5 @@
 //! Places that were emptied, each for the next value of whoever emptied it.
-ghost use Rattle.std.specs.Prelude.{◌≡◌, ◌+◌, ◌*◌, ◌<◌, ◌≤◌, ◌↔◌, Some, map, IsTrue, IsOk, IfOk, IfErr};
+ghost use Rattle.std.specs.Prelude.{◌≡◌, ◌+◌, ◌*◌, ◌<◌, ◌≤◌, ◌↔◌, Some, map, IsTrue, IsOk, IfSome, IfOk, IfErr};
 ghost use Rattle.std.specs.List.{slice_get};
 ghost use Rattle.epoch_lend.specs.Turning.{Awaits, awaits_prop};
 ghost use Rattle.epoch_lend.specs.declared.cells.turns.TheConstants.{GREATEST_TURN};
@@ -7,7 +7,9 @@ ghost use Rattle.epoch_lend.specs.declared.cells.turns.TheConstants.{GREATEST_TU
 use crate::array::cells::{LendingCells, PlacedAt, SlotTurn};
 use crate::array::slot::LentSlot;
 use crate::cells::turns::TurnClaim;
+use crate::cells::word::{shown_word, vacant_word};
 use crate::readers::posts::PostSet;
+use crate::readers::reader::Pinned;
 
 /// The place of a free cell: its value was taken out, or it had none and was claimed. No other caller can use it until
 /// its owner gives it up.
@@ -18,6 +20,8 @@ use crate::readers::posts::PostSet;
 pub struct LentRoom<'c, J: PostSet, T> {
     pub(crate) cells: &'c LendingCells<J, T>,
     pub(crate) slot: &'c LentSlot<J, T>,
+    // Which of these cells it is of, and the slot under which others know that cell.
+    pub(crate) index: usize,
     pub(crate) position: usize,
     // The turn of the next value.
     pub(crate) next_turn: u64,
@@ -26,7 +30,7 @@ pub struct LentRoom<'c, J: PostSet, T> {
     pub ghost of_slot: { (claim.state ≡ slot.now.turns.state) × (claim.at ≡ slot.now.turns.at) },
     pub ghost of_turn: { Awaits next_turn claim.word } by { awaits_prop next_turn claim.word },
     pub ghost within: { next_turn ≤ GREATEST_TURN + 1 },
-    pub ghost of_cells: { slice_get (map (λ s. s.turns.log) cells.now.slots.items) position
+    pub ghost of_cells: { slice_get (map (λ s. s.turns.log) cells.now.slots.items) index
         ≡ Some slot.now.turns.log },
 }
 
@@ -37,14 +41,6 @@ impl<'c, J: PostSet, T> LentRoom<'c, J, T> {
         ensures { result ≡ self.now.position }
     {
         self.position
-    }
-
-    /// Returns the cells that it is a room of.
-    #[inline(always)]
-    pub fn cells(&self) -> &'c LendingCells<J, T>
-        ensures { result.now ≡ self.now.cells.now }
-    {
-        self.cells
     }
 
     /// Returns the turn of the next value that is placed in the cell.
@@ -60,17 +56,17 @@ impl<'c, J: PostSet, T> LentRoom<'c, J, T> {
     pub fn has_turn(&self) -> bool
         ensures { IsTrue result ↔ (self.now.next_turn ≤ self.now.cells.now.last_turn) }
     {
-        self.next_turn <= self.cells.last_turn()
+        self.next_turn <= self.cells.last_turn
     }
 
     /// Shows a value in the cell at its next turn, by one store, and returns where. If the cell has had its last turn,
     /// the value is handed back, and no value is placed there any more.
     #[inline(always)]
     pub fn place(self, value: T) -> Result<PlacedAt<T>, T>
-        // A value that is placed in a room stands in the room's slot, at the room's turn, which no value had before. If
-        // that would be past the array's last turn, the value is handed back.
+        // A value that is placed in a room stands in the room's cell, at the room's turn, which no value had before. If
+        // that would be past the last turn, the value is handed back.
         ensures slot { IfOk result (λ placed. slice_get (map (λ s. s.turns.log) self.entry.cells.now.slots.items)
-            placed.spot.slot ≡ Some placed.name.log) }
+            self.entry.index ≡ Some placed.name.log) }
         ensures position { IfOk result (λ placed. placed.spot.slot ≡ self.entry.position) }
         ensures turn { IfOk result (λ placed. (placed.name.turn ≡ placed.spot.turn)
             × (placed.spot.turn ≡ self.entry.next_turn)) }
@@ -87,12 +83,45 @@ impl<'c, J: PostSet, T> LentRoom<'c, J, T> {
             slot: self.position,
             turn: self.next_turn,
         };
-        let name = self.slot.show(self.claim.fill(value), self.next_turn);
+        let filled = self.claim.fill(value);
+        let turns = &self.slot.turns;
+        let name = turns.show(filled, self.next_turn, shown_word(self.next_turn));
         Ok(PlacedAt { spot, name })
+    }
+
+    /// Does what [`LentRoom::place`] does, and lends the value. `None` for what is lent: the value was marked already.
+    #[inline(always)]
+    pub fn place_lent<'g>(
+        self,
+        value: T,
+        pinned: &'g Pinned<'_, J>,
+    ) -> Result<(PlacedAt<T>, Option<&'g T>), T>
+        // A placed value that is lent at once is the one that was placed.
+        ensures position { IfOk result (λ placed. placed.0.spot.slot ≡ self.entry.position) }
+        ensures turn { IfOk result (λ placed. placed.0.spot.turn ≡ self.entry.next_turn) }
+        ensures placed { IfOk result (λ placed. placed.0.name.value ≡ value) }
+        ensures lent { IfOk result (λ placed. IfSome placed.1 (λ lent. lent.now ≡ value)) }
+        ensures handed_back { IfErr result (λ back. back ≡ value) }
+        ensures succeeds { self.entry.next_turn ≤ self.entry.cells.now.last_turn → IsOk result }
+    {
+        let (cells, index) = (self.cells, self.index);
+        let placed = self.place(value)?;
+        let spot = SlotTurn {
+            slot: index,
+            turn: placed.spot.turn,
+        };
+        match cells.look(spot, pinned) {
+            Some(sight) => {
+                sight.name.agree(&placed.name);
+                Ok((placed, Some(sight.value)))
+            }
+            None => Ok((placed, None)),
+        }
     }
 
     /// Leaves the cell to all callers, empty at its next turn, by one store.
     pub fn release(self) {
-        self.slot.vacate(self.claim, self.next_turn);
+        let vacant = vacant_word(self.next_turn);
+        self.slot.turns.release(self.claim, self.next_turn, vacant);
     }
 }

@@ -9,12 +9,10 @@ ghost use Rattle.epoch_lend.specs.declared.cells.turns.TheConstants.{GREATEST_TU
 
 use crate::array::cells::LendingCells;
 use crate::array::room::LentRoom;
-use crate::cells::sight::Sight;
-use crate::cells::turns::{Filled, GREATEST_TURN, Place, TurnClaim, TurnName, Turns, Vacancy};
+use crate::cells::turns::{GREATEST_TURN, Place, TurnClaim, TurnName, Turns, Vacancy};
 use crate::cells::word::{claimed_word, removed_word, shown_word, turn_of, vacant_word};
 use crate::lending::Marked;
 use crate::readers::posts::{Of, PostSet, Posts};
-use crate::readers::reader::Pinned;
 use crate::watch::Watch;
 use std::marker::PhantomData;
 
@@ -22,7 +20,7 @@ use std::marker::PhantomData;
 /// comes twice. Where its values lie is known to the array that it is of.
 #[derive(Drop)]
 pub struct LentSlot<J: PostSet, T> {
-    turns: Turns<T>,
+    pub(crate) turns: Turns<T>,
     set: Of<J>,
     pub ghost of_posts: { turns.posts ≡ logs_of J.posts },
 }
@@ -32,6 +30,7 @@ pub struct LentSlot<J: PostSet, T> {
 pub struct SlotRemoval<'c, J: PostSet, T> {
     cells: &'c LendingCells<J, T>,
     slot: &'c LentSlot<J, T>,
+    index: usize,
     position: usize,
     pub marked: Marked<T>,
     vacancy: Vacancy<T>,
@@ -43,7 +42,7 @@ pub struct SlotRemoval<'c, J: PostSet, T> {
     pub ghost of_turn: { (vacancy.word ≡ turn_word (removed turn)) × (turn ≤ GREATEST_TURN) },
     pub ghost lent: { Within (logs_of J.posts) marked.loans },
     pub ghost named: { (name.log ≡ slot.now.turns.log) × (name.turn ≡ turn) × (name.value ≡ marked.value) },
-    pub ghost of_cells: { slice_get (map (λ s. s.turns.log) cells.now.slots.items) position
+    pub ghost of_cells: { slice_get (map (λ s. s.turns.log) cells.now.slots.items) index
         ≡ Some slot.now.turns.log },
 }
 
@@ -91,40 +90,6 @@ impl<J: PostSet, T> LentSlot<J, T> {
         Some((turn, claim))
     }
 
-    // Shows the value of a place that this caller has, at this turn.
-    #[inline(always)]
-    pub(crate) fn show(&self, filled: Filled<T>, turn: u64) -> TurnName<T>
-        requires of_place { (filled.state ≡ self.now.turns.state) × (filled.at ≡ self.now.turns.at) }
-        requires of_turn { Awaits turn filled.word × (turn ≤ GREATEST_TURN) }
-        ensures { (result.turn ≡ turn) × (result.log ≡ self.now.turns.log) × (result.value ≡ filled.value) }
-    {
-        self.turns.show(filled, turn, shown_word(turn))
-    }
-
-    // Leaves a place that this caller has to all callers, vacant at this turn.
-    #[inline(always)]
-    pub(crate) fn vacate(&self, claim: TurnClaim<T>, turn: u64)
-        requires of_place { (claim.right ≡ 1) × (claim.state ≡ self.now.turns.state)
-            × (claim.at ≡ self.now.turns.at) }
-        requires of_turn { Awaits turn claim.word × (turn ≤ GREATEST_TURN + 1) }
-    {
-        self.turns.release(claim, turn, vacant_word(turn));
-    }
-
-    /// Lends the value of this turn, by one plain load, for as long as the reference to the pinned reader lasts.
-    /// `None`: the cell has none, since none was placed at this turn yet, or it was marked.
-    pub(crate) fn look<'g>(
-        &self,
-        at: *const T,
-        turn: u64,
-        pinned: &'g Pinned<'_, J>,
-    ) -> Option<Sight<'g, T>>
-        requires { at ≡ self.now.turns.at }
-        ensures { IfSome result (λ sight. (sight.name.log ≡ self.now.turns.log) × (sight.name.turn ≡ turn)) }
-    {
-        self.turns.sight(at, turn, pinned.guard())
-    }
-
     /// Returns the turn and the name of the value that the cell has, by two plain loads. `None`: the cell is empty, or
     /// its value was marked, or went out between the loads.
     pub fn shown(&self) -> Option<(u64, TurnName<T>)>
@@ -135,16 +100,17 @@ impl<J: PostSet, T> LentSlot<J, T> {
 
     /// Marks the value of this turn, by a plain load and one exchange, so that no look finds it from then on. The
     /// caller that marks it gets what was lent of it, and no other caller does. `None`: the cell has no value of this
-    /// turn. It is the cell at this position of these cells.
+    /// turn. It is this one of these cells, and others know it under this position.
     pub(crate) fn mark<'c>(
         &'c self,
         at: *const T,
         turn: u64,
         cells: &'c LendingCells<J, T>,
+        index: usize,
         position: usize,
     ) -> Option<SlotRemoval<'c, J, T>>
         requires at { at ≡ self.now.turns.at }
-        requires of_cells { slice_get (map (λ s. s.turns.log) cells.now.slots.items) position
+        requires of_cells { slice_get (map (λ s. s.turns.log) cells.now.slots.items) index
             ≡ Some self.now.turns.log }
         ensures { IfSome result (λ removal. (removal.name.log ≡ self.now.turns.log) × (removal.name.turn ≡ turn)) }
     {
@@ -163,6 +129,7 @@ impl<J: PostSet, T> LentSlot<J, T> {
             Some(SlotRemoval {
                 cells,
                 slot: self,
+                index,
                 position,
                 marked,
                 vacancy,
@@ -175,9 +142,7 @@ impl<J: PostSet, T> LentSlot<J, T> {
             None
         }
     }
-}
 
-impl<J: PostSet, T> LentSlot<J, T> {
     // Ends the cell, which nobody shares any more, and returns the room of its place. `None`: a value is in it, or room
     // that was taken has not come back.
     pub(crate) fn end(self, at: *const T) -> Option<TurnClaim<T>>
@@ -235,6 +200,7 @@ impl<'c, J: PostSet, T> SlotRemoval<'c, J, T> {
         let room = LentRoom {
             cells: self.cells,
             slot: self.slot,
+            index: self.index,
             position: self.position,
             next_turn: self.turn + 1,
             claim,

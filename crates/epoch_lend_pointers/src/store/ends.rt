@@ -22,7 +22,7 @@ impl<'s, J: PostSet, T: Drop> Store<'s, J, T> {
                 }
             }
         }
-        for slot in 0..self.cells.capacity() + 1 {
+        for slot in 0..self.cells.array().reached() {
             dropped = dropped.wrapping_add(self.drop_at(alloc, slot, &mut rooms));
         }
         rooms.release();
@@ -36,15 +36,15 @@ impl<'s, J: PostSet, T: Drop> Store<'s, J, T> {
 
     // Drops the value that this slot has. Answers how many it had.
     fn drop_at(&self, alloc: Global, slot: usize, rooms: &mut LentRooms<'s, J, T>) -> usize {
-        let Some(placed) = self.cells.array().shown(slot) else {
+        let Some(spot) = self.cells.array().shown(slot) else {
             return 0;
         };
         let Ok(batch) = Batch::with_capacity(alloc, 1) else {
             return 0;
         };
         let mut removals = batch;
-        if let Some(removal) = self.cells.mark(placed.spot) {
-            let _ = removals.push(removal);
+        if let Some(marked) = self.cells.mark(spot) {
+            let _ = removals.push(marked.found);
         }
         let sealed = removals.seal(self.domain().posts());
         match sealed.take_back(self.domain().posts()) {

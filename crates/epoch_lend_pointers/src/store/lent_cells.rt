@@ -1,14 +1,14 @@
 //! Cells whose values have names.
-ghost use Rattle.std.specs.Prelude.{◌≡◌, ◌<◌, ◌≤◌, ◌+◌, length, map, IfOk, IfErr, IfSome, IsOkUnless};
+ghost use Rattle.std.specs.Prelude.{◌≡◌, ◌<◌, ◌≤◌, ◌+◌, map, MatchOption, IfOk, IfErr, IfSome, IsOkUnless};
 ghost use Rattle.epoch_cells.specs.declared.fault.Fault.TheVariants.{NoMemory, CellsFull};
-ghost use Rattle.epoch_lend_pointers.specs.Named.{StandsUnder};
+ghost use Rattle.epoch_lend.specs.Growing.{IsOfCell, IsInFurther};
 
 use crate::store::spots::{LAST_TURN, name_of, next_name, spot_of};
 use epoch_cells::{Fault, MOST_SLOT, Name, Refused};
-use epoch_lend::array::cells::{LendingCells, PlacedAt, SlotTurn};
+use epoch_lend::array::cells::{PlacedAt, SlotTurn};
+use epoch_lend::array::growing::{CellSight, GrowingCells, OfBlock};
 use epoch_lend::array::room::LentRoom;
 use epoch_lend::array::slot::SlotRemoval;
-use epoch_lend::cells::sight::Sight;
 use epoch_lend::cells::turns::TurnName as Witness;
 use epoch_lend::domain::Domain;
 use epoch_lend::readers::posts::PostSet;
@@ -22,38 +22,55 @@ pub struct Placed<T> {
     pub witness: Witness<T>,
 }
 
-/// A fixed number of cells, whose values are lent to guards of a domain. A [`Store`](crate::Store) places values in
-/// them.
+/// How many cells there are at first, unless their maker asks for more.
+pub const FIRST_CELLS: u32 = 64;
+
+/// Cells whose values are lent to guards of a domain. A [`Store`](crate::Store) places values in them, and adds cells
+/// when it needs more, up to a limit.
 #[derive(Drop)]
 pub struct LentCells<J: PostSet, T> {
     // No value is placed in the first cell, since no name has slot 0.
-    cells: LendingCells<J, T>,
-    // How many cells there are, the first one too, as wide as a name's slot.
-    count: u32,
-    pub ghost counted: { length cells.slots.items ≡ count },
-    pub ghost few: { (1 ≤ count) × (count ≤ 16777216) },
-    pub ghost named: { cells.last_turn ≤ 4294967295 },
+    cells: GrowingCells<J, T>,
+    pub ghost few: { (1 ≤ cells.limit) × (cells.limit ≤ 16777216) },
+    pub ghost named: { cells.first.last_turn ≤ 4294967295 },
 }
 
 impl<J: PostSet, T> LentCells<J, T> {
-    /// Makes this many empty cells, from 0 to [`MOST_SLOT`], for guards of this domain.
+    /// Makes empty cells for guards of this domain, [`FIRST_CELLS`] of them or fewer. There are more when values need
+    /// them, until as many values as `limit` says, from 0 to [`MOST_SLOT`], have a cell each. When cells are added,
+    /// there are twice as many as before.
     ///
-    /// `NoMemory`: an allocation was refused. The values lie side by side in one block of memory, which is freed when
-    /// the cells are dropped and each is empty, as [`Store::end`](crate::Store::end) leaves them. A value that is still
-    /// in a cell is not dropped then, and the block is never freed, since guards may have the value.
-    pub fn new(alloc: Global, capacity: u32, domain: &Domain<J>) -> Result<LentCells<J, T>, Fault>
-        requires { capacity ≤ MOST_SLOT }
+    /// `NoMemory`: an allocation was refused. The values of cells that were added together lie side by side in memory,
+    /// which is freed when the cells are dropped and each is empty, as [`Store::end`](crate::Store::end) leaves them. A
+    /// value that is still in a cell is not dropped then, and that memory is never freed, since guards may have the
+    /// value.
+    pub fn new(alloc: Global, limit: u32, domain: &Domain<J>) -> Result<LentCells<J, T>, Fault>
+        requires { limit ≤ MOST_SLOT }
+        ensures memory { IsOkUnless result NoMemory }
+        ensures limit { IfOk result (λ lent. lent.cells.limit ≡ limit + 1) }
+    {
+        LentCells::with_capacity(alloc, 0, limit, domain)
+    }
+
+    /// Makes empty cells, as [`LentCells::new`] does, for this many values at once, so that none are added before there
+    /// are more. A look at a value in a cell that was added takes one load more.
+    ///
+    /// `NoMemory`: an allocation was refused.
+    pub fn with_capacity(
+        alloc: Global,
+        capacity: u32,
+        limit: u32,
+        domain: &Domain<J>,
+    ) -> Result<LentCells<J, T>, Fault>
+        requires { limit ≤ MOST_SLOT }
         // Making cells fails only if memory is refused.
         ensures memory { IsOkUnless result NoMemory }
-
         // No cell takes a value at a turn that no name has.
-        ensures cells { IfOk result (λ lent. length lent.cells.slots.items ≡ capacity + 1) }
+        ensures limit { IfOk result (λ lent. lent.cells.limit ≡ limit + 1) }
     {
-        match LendingCells::new(alloc, capacity as usize + 1, LAST_TURN, domain.posts()) {
-            Ok(cells) => Ok(LentCells {
-                cells,
-                count: capacity + 1,
-            }),
+        let first = (capacity as usize + 1).max(FIRST_CELLS as usize);
+        match GrowingCells::new(alloc, first, limit as usize + 1, LAST_TURN, domain.posts()) {
+            Ok(cells) => Ok(LentCells { cells }),
             Err(_) => Err(Fault::NoMemory),
         }
     }
@@ -76,27 +93,29 @@ fn named<T>(shown: PlacedAt<T>) -> Placed<T>
 }
 
 impl<J: PostSet, T> LentCells<J, T> {
-    /// Returns how many cells take values: as many as were asked for.
-    pub fn capacity(&self) -> usize
-        ensures value { result + 1 ≡ length self.now.cells.slots.items }
+    /// Returns how many values may have a cell at a time: as many as were asked for.
+    #[inline(always)]
+    pub fn limit(&self) -> usize
+        ensures value { result + 1 ≡ self.now.cells.limit }
         ensures within { result ≤ MOST_SLOT }
     {
-        self.count as usize - 1
+        self.cells.limit() - 1
     }
 
-    /// Lends the value of this name, by one plain load, for as long as the reference to the pinned reader lasts, with
-    /// a witness that it was placed under this name. `None`: none was placed there yet, or it was marked.
+    /// Lends the value of this name, by one plain load or, if its cell was added, two, for as long as the reference to
+    /// the pinned reader lasts, with a witness that it was placed under this name. `None`: none was placed there yet,
+    /// or it was marked.
     #[inline(always)]
-    pub fn look<'g>(&self, name: Name, pinned: &'g Pinned<'_, J>) -> Option<Sight<'g, T>>
+    pub fn look<'g>(&self, name: Name, pinned: &'g Pinned<'_, J>) -> Option<CellSight<'g, J, T>>
         // A look lends the value that was placed under the name, for as long as the reference to the pinned reader is.
-        ensures named { IfSome result
-            (λ sight. StandsUnder (map (λ s. s.turns.log) self.now.cells.slots.items) name sight.name.log
-            sight.name.turn) }
+        ensures slot { IfSome result (λ sight. MatchOption sight.name.block
+            (IsOfCell (map (λ s. s.turns.log) self.now.cells.first.slots.items) name.slot sight.name.value.log)
+            (λ block. IsInFurther (map (λ s. s.turns.log) self.now.cells.first.slots.items)
+            (map (λ p. p.turns.log) self.now.cells.more.places.items) self.now.cells.bits name.slot block.log
+            block.turn block.value sight.name.value.log)) }
+        ensures turn { IfSome result (λ sight. sight.name.value.turn ≡ name.turn) }
     {
-        if name.slot() >= self.count {
-            return None;
-        }
-        self.cells.look_at(spot_of(name), pinned)
+        self.cells.look(spot_of(name), pinned)
     }
 
     /// Shows the value in the room of a free cell, by one store, and returns the name that it has from then on. The
@@ -108,9 +127,9 @@ impl<J: PostSet, T> LentCells<J, T> {
         // A value that is placed in a room stands, in the cells that the room is of, under the name that the call
         // returns. This name is known beforehand. A value that isn't placed is handed back.
         ensures placed { IfOk result (λ placed. placed.witness.value ≡ value) }
-        ensures named { IfOk result
-            (λ placed. StandsUnder (map (λ s. s.turns.log) room.entry.cells.now.slots.items) placed.name
-            placed.witness.log placed.witness.turn) }
+        ensures slot { IfOk result (λ placed. (placed.name.slot ≡ room.entry.position)
+            × IsOfCell (map (λ s. s.turns.log) room.entry.cells.now.slots.items) room.entry.index placed.witness.log) }
+        ensures turn { IfOk result (λ placed. placed.witness.turn ≡ placed.name.turn) }
         ensures full { IfErr result (λ refused. (refused.fault ≡ CellsFull) × (refused.value ≡ value)) }
     {
         let fault = Fault::CellsFull;
@@ -126,14 +145,14 @@ impl<J: PostSet, T> LentCells<J, T> {
 
     // The cells, for the store.
     #[inline(always)]
-    pub(crate) fn array(&self) -> &LendingCells<J, T>
+    pub(crate) fn array(&self) -> &GrowingCells<J, T>
         ensures { result.now ≡ self.now.cells }
     {
         &self.cells
     }
 
     // Marks the value at this spot. `None`: the cell has no value of this turn.
-    pub(crate) fn mark(&self, spot: SlotTurn) -> Option<SlotRemoval<'_, J, T>> {
+    pub(crate) fn mark(&self, spot: SlotTurn) -> Option<OfBlock<J, T, SlotRemoval<'_, J, T>>> {
         self.cells.mark(spot)
     }
 }

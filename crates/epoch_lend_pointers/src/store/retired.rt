@@ -114,8 +114,8 @@ impl<'s, J: PostSet, T> Ripening<'s, J, T> {
         let Lists { spots, batch } = Box::into_inner(lists);
         let mut removals = batch;
         for spot in &spots {
-            if let Some(removal) = cells.mark(*spot) {
-                let _ = removals.push(removal);
+            if let Some(marked) = cells.mark(*spot) {
+                let _ = removals.push(marked.found);
             }
         }
         removals

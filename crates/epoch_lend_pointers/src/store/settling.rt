@@ -55,7 +55,7 @@ impl<'s, J: PostSet, T: Drop> Store<'s, J, T> {
     }
 
     fn fresh_rooms(&self) -> LentRooms<'s, J, T> {
-        let cells = self.cells.capacity() + 1;
+        let cells = self.cells.limit() + 1;
         if self.fresh.load(SeqCst) >= cells {
             return LentRooms::none(self.alloc);
         }
@@ -67,8 +67,13 @@ impl<'s, J: PostSet, T: Drop> Store<'s, J, T> {
             }
             let first = self.fresh.fetch_add(block, SeqCst);
             for slot in first..first.saturating_add(block).min(cells) {
-                if let Some(room) = self.cells.array().fresh_room(slot) {
-                    self.keep_in(&mut rooms, room);
+                if !self.cells.array().reach(slot, self.domain.posts()) {
+                    // Its cells are looked at again.
+                    self.loose.fetch_add(1, SeqCst);
+                    return rooms;
+                }
+                if let Some(fresh) = self.cells.array().fresh_room(slot) {
+                    self.keep_in(&mut rooms, fresh.found);
                 }
             }
         }

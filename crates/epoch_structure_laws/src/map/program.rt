@@ -104,9 +104,7 @@ fn again(aim: Aim, moves: u64) -> MapPhase
 #[inline(always)]
 pub fn start_work(work: MapWork) -> MapPhase
     // The phases' code asks for what the program says, and goes on as it says; a call begins in the phase that the
-    // program says, which makes room first if the held bag has none. The phases' code asks for what the program says,
-    // and goes on as it says; a call begins in the phase that the program says, which makes room first if the held bag
-    // has none.
+    // program says, which makes room first if the held bag has none.
     ensures { result ≡ start_map_work work }
 {
     match work {

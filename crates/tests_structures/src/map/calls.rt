@@ -30,7 +30,7 @@ pub(crate) type Row = (Call, u32, Told);
 pub(crate) type Pinned = (&'static [Row], u32);
 
 /// What a call answered that lends a node: the node's value.
-fn value_of(found: Result<Option<&Node>, Fault>) -> Told {
+pub(crate) fn value_of<K>(found: Result<Option<&LentEntry<K, u64>>, Fault>) -> Told {
     match found {
         Ok(Some(node)) => Ok(Some(*node.value())),
         Ok(None) => Ok(None),
@@ -39,10 +39,10 @@ fn value_of(found: Result<Option<&Node>, Fault>) -> Told {
 }
 
 /// What an insert of this value answered. A refused one hands the node back, unless all moves were used up.
-fn told(
+pub(crate) fn told<K: Drop>(
     rt: &impl Abort,
     value: u64,
-    inserted: Result<Option<&Node>, Refused<Option<Node>>>,
+    inserted: Result<Option<&LentEntry<K, u64>>, Refused<Option<LentEntry<K, u64>>>>,
 ) -> Told {
     match inserted {
         Ok(there) => value_of(Ok(there)),

@@ -1,0 +1,7 @@
+use Rattle.std.proofs.Common.{refl}
+use Rattle.std.proofs.lemmas.Fn.{says_at}
+use Rattle.epoch_shared.proofs.map.calls.see_in.Goals as goal
+
+-- the closure was called with the value of the entry that was found
+pub returns-in-Some : goal.returns-in-Some
+returns-in-Some g c = record { given = (c.value.result.now, says_at g.F.Fn c.look.ensures refl) }

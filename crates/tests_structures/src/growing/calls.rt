@@ -1,0 +1,65 @@
+//! Calls on a growing map as the tests make them, and what they answer.
+ghost use Rattle.std.proofs.Common.{rules};
+ghost use Rattle.std.specs.Cmp.Rules.{comparing};
+
+use crate::lending::{Part, Told, pin};
+use crate::map::calls::{told, value_of};
+use epoch_lend::readers::posts::PostSet;
+use epoch_map::{GrowingMap, LentEntry, MapKey};
+use std::process::Abort;
+
+/// A key. All of a group have one number.
+#[derive(Clone, Copy, Debug, PartialEq, Eq, PartialOrd, Ord)]
+pub(crate) struct Label {
+    pub(crate) place: u64,
+    pub(crate) group: u64,
+}
+
+impl MapKey for Label {
+    ghost number = { λ label. label.group };
+
+    ghost same_number = { λ a b same. Prim.search (comparing, rules) };
+
+    fn number(&self) -> u64 {
+        self.group
+    }
+}
+
+pub(crate) type Node = LentEntry<Label, u64>;
+
+pub(crate) type Map<'q, 's, J> = GrowingMap<'q, 's, J, Node>;
+
+/// A call on a map, with a key, and a value for an insert or a put.
+#[derive(Clone, Copy)]
+pub(crate) enum Call {
+    Insert(Label, u64),
+    Put(Label, u64),
+    Remove(Label),
+    Get(Label),
+}
+
+/// What the call answers under a pin of its own.
+pub(crate) fn answer<'s, J: PostSet>(
+    rt: &impl Abort,
+    map: &Map<'_, 's, J>,
+    part: &mut Part<'_, 's, J, Node>,
+    call: Call,
+) -> Told {
+    let guard = pin(rt, &mut part.session);
+    let writer = &mut part.writer;
+    let seen = match call {
+        Call::Insert(key, value) => {
+            let inserted = map.insert(writer, &guard, LentEntry::new(key, value));
+            told(rt, value, inserted)
+        }
+        Call::Put(key, value) => {
+            let replaced = map.put(writer, &guard, LentEntry::new(key, value));
+            told(rt, value, replaced)
+        }
+        Call::Remove(key) => value_of(map.remove(writer, &guard, &key)),
+        Call::Get(key) => value_of(Ok(map.get(&guard, &key))),
+    };
+    let _ = part.writer.flush();
+    part.session.unpin(guard);
+    seen
+}
