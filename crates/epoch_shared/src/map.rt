@@ -138,6 +138,7 @@ pub trait MapRemovals<K: MapKey, V> {
 /// the capacity says, unless memory was refused: then one too many may stay until the next insert.
 pub trait SharedMap<K: MapKey, V>: MapReads<K, V> + MapInserts<K, V> + MapRemovals<K, V> {}
 
-// They are three, since all that is known of one would be more than the checker compares.
+// The calls stand in three traits, since the checker has a limit for what it compares where a type is passed for one:
+// all that is known of a store, once for each call.
 impl<K: MapKey, V, M: MapReads<K, V> + MapInserts<K, V> + MapRemovals<K, V>> SharedMap<K, V>
     for M {}
