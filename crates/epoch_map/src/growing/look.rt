@@ -4,6 +4,7 @@ ghost use Rattle.std.specs.declared.cmp.Ordering.TheVariants.{Equal};
 
 use crate::growing::GrowingMap;
 use crate::growing::hints::compare;
+use crate::growing::table::Bucket;
 use crate::node::MapNode;
 use crate::seeks::Seeks;
 use epoch_lend::readers::posts::PostSet;
@@ -38,6 +39,24 @@ impl<'q, 's, J: PostSet, N: MapNode> GrowingMap<'q, 's, J, N> {
         None
     }
 
+    // Looks for the node of this key from an earlier bucket on.
+    #[inline(never)]
+    fn seek_from_before<'g, Q: Seeks<N::Key>>(
+        &self,
+        guard: &'g LendingGuard<'_, J>,
+        key: &Q,
+        bucket: Bucket,
+    ) -> Option<&'g N>
+        ensures found { IfSome result (λ node. Q.compared (N.key node.now) key.now ≡ Equal) }
+    {
+        let before = match self.hinted_before(guard, key, bucket, true) {
+            Some(hinted) if hinted.found => return Some(hinted.node),
+            Some(hinted) => Some(hinted.node),
+            None => None,
+        };
+        self.seek(guard, key, bucket.number, before)
+    }
+
     /// Looks for the entry of this key, and lends it for as long as the guard is borrowed. `None`: the key was seen
     /// missing.
     #[inline]
@@ -50,16 +69,14 @@ impl<'q, 's, J: PostSet, N: MapNode> GrowingMap<'q, 's, J, N> {
     {
         let number = key.sought_number();
         let bucket = self.table.bucket_of(number);
-        let hinted = match self.hinted(guard, key, number, bucket) {
-            Some(hinted) => Some(hinted),
-            None => self.hinted_before(guard, key, bucket, true),
-        };
-        let before = match hinted {
-            Some((node, true)) => return Some(node),
-            Some((node, false)) => Some(node),
-            None => None,
-        };
-        self.seek(guard, key, number, before)
+        if let Some(node) = self.named(self.hint(bucket), guard) {
+            match self.order(node, key, number) {
+                Some(Ordering::Equal) => return Some(node),
+                Some(Ordering::Less) => return self.seek(guard, key, number, Some(node)),
+                _ => {}
+            }
+        }
+        self.seek_from_before(guard, key, bucket)
     }
 
     /// Returns whether the key is there.

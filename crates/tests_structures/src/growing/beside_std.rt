@@ -1,5 +1,5 @@
 //! Calls on one thread: what they answer, and random ones beside a map of std that is given the same.
-use crate::growing::calls::{Call, Label, Map, Node, answer};
+use crate::growing::calls::{Call, Label, Map, Node, answer, is_odd};
 use crate::lending::{
     AFTER_A_RACE, Part, Scene, Told, join, leave, next_number, pin, play, rounds,
 };
@@ -40,6 +40,7 @@ fn call_of(number: u32) -> Call {
         0 | 1 => Call::Insert(key, u64::from(number)),
         2 | 3 => Call::Put(key, u64::from(number)),
         4 => Call::Remove(key),
+        5 => Call::RemoveOdd(key),
         _ => Call::Get(key),
     }
 }
@@ -55,6 +56,10 @@ fn call_model(rt: &impl Abort, model: &mut BTreeMap<Label, u64>, call: Call) -> 
             Ok(there)
         }
         Call::Remove(key) => Ok(model.remove(&key)),
+        Call::RemoveOdd(key) if model.get(&key).is_some_and(|value| value % 2 == 1) => {
+            Ok(model.remove(&key))
+        }
+        Call::RemoveOdd(_) => Ok(None),
         Call::Get(key) => Ok(model.get(&key).copied()),
     }
 }
@@ -113,6 +118,12 @@ fn compare<'s, J: PostSet>(
     }
     want(rt, "five doublings", buckets >= FIRST << 5, true);
     let guard = pin(rt, &mut part.session);
+    let kept = map.retain(&mut part.writer, &guard, is_odd);
+    want(rt, "some entries are kept", kept, Ok(()));
+    part.session.unpin(guard);
+    model.retain(|_key, value| *value % 2 == 1);
+    want_same(rt, alloc, map, part, &model);
+    let guard = pin(rt, &mut part.session);
     let cleared = map.clear(&mut part.writer, &guard);
     want(rt, "a map is cleared", cleared, Ok(()));
     part.session.unpin(guard);
@@ -157,7 +168,12 @@ const ROWS: &[(Call, Told)] = &[
 ];
 
 // Calls with a writer of another store of the same domain.
-const OF_STRANGERS: &[Call] = &[Call::Insert(ONE, 10), Call::Put(ONE, 10), Call::Remove(ONE)];
+const OF_STRANGERS: &[Call] = &[
+    Call::Insert(ONE, 10),
+    Call::Put(ONE, 10),
+    Call::Remove(ONE),
+    Call::RemoveOdd(ONE),
+];
 
 /// What is done on one thread with growing maps.
 #[derive(Drop)]

@@ -35,7 +35,14 @@ pub(crate) enum Call {
     Insert(Label, u64),
     Put(Label, u64),
     Remove(Label),
+    /// Removes the key if its value is odd.
+    RemoveOdd(Label),
     Get(Label),
+}
+
+/// Returns whether the node's value is odd.
+pub(crate) fn is_odd(node: &Node) -> bool {
+    node.value() % 2 == 1
 }
 
 /// What the call answers under a pin of its own.
@@ -57,6 +64,7 @@ pub(crate) fn answer<'s, J: PostSet>(
             told(rt, value, replaced)
         }
         Call::Remove(key) => value_of(map.remove(writer, &guard, &key)),
+        Call::RemoveOdd(key) => value_of(map.remove_if(writer, &guard, &key, is_odd)),
         Call::Get(key) => value_of(Ok(map.get(&guard, &key))),
     };
     let _ = part.writer.flush();
