@@ -1,5 +1,5 @@
 //! Random calls on one thread, beside a map of std that is given the same ones.
-use crate::ordered::calls::{Call, Map, Node, Part, answer, join, leave};
+use crate::ordered::calls::{Call, Map, Node, Part, answer, is_odd, join, leave};
 use crate::sessions::pin;
 use crate::wants::want;
 use epoch_lend_pointers::{PostSet, Store};
@@ -23,6 +23,7 @@ fn call_of(number: u32) -> Call {
         4..=7 => Call::Put(key, u64::from(number)),
         8 | 9 => Call::Remove(key),
         10 => Call::PopFirst,
+        11 => Call::RemoveOdd(key),
         _ => Call::Get(key),
     }
 }
@@ -43,6 +44,10 @@ fn call_model(rt: &impl Abort, model: &mut BTreeMap<u64, u64>, call: Call) -> Op
             there
         }
         Call::Remove(key) => model.remove(&key),
+        Call::RemoveOdd(key) => match model.get(&key) {
+            Some(value) if value % 2 == 1 => model.remove(&key),
+            _ => None,
+        },
         Call::Get(key) => model.get(&key).copied(),
         Call::PopFirst => {
             let key = lowest(model, 0)?;
@@ -97,6 +102,12 @@ pub(crate) fn compare<'s, J: PostSet>(
             want_same(rt, map, &mut part, &model);
         }
     }
+    let guard = pin(rt, &mut part.session);
+    let kept = map.retain(&mut part.writer, &guard, is_odd);
+    want(rt, "some entries are kept", kept, Ok(()));
+    part.session.unpin(guard);
+    model.retain(|_key, value| *value % 2 == 1);
+    want_same(rt, map, &mut part, &model);
     let guard = pin(rt, &mut part.session);
     let cleared = map.clear(&mut part.writer, &guard);
     want(rt, "a map is cleared", cleared, Ok(()));

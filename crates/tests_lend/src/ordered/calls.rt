@@ -21,6 +21,8 @@ pub(crate) enum Call {
     Insert(u64, u64),
     Put(u64, u64),
     Remove(u64),
+    /// Removes the key if its value is odd.
+    RemoveOdd(u64),
     Get(u64),
     PopFirst,
 }
@@ -67,6 +69,11 @@ fn told(rt: &impl Abort, value: u64, answer: Result<Option<&Node>, Refused<Optio
     }
 }
 
+/// Returns whether the node's value is odd.
+pub(crate) fn is_odd(node: &Node) -> bool {
+    node.value() % 2 == 1
+}
+
 /// What the call answers under a pin of its own.
 pub(crate) fn answer<'s, J: PostSet>(
     rt: &impl Abort,
@@ -86,6 +93,7 @@ pub(crate) fn answer<'s, J: PostSet>(
             told(rt, value, replaced)
         }
         Call::Remove(key) => value_of(map.remove(writer, &guard, &key)),
+        Call::RemoveOdd(key) => value_of(map.remove_if(writer, &guard, &key, is_odd)),
         Call::Get(key) => value_of(Ok(map.get(&guard, &key))),
         Call::PopFirst => value_of(map.pop_first(writer, &guard)),
     };

@@ -56,10 +56,10 @@ fn call_model(rt: &impl Abort, model: &mut BTreeMap<Label, u64>, call: Call) -> 
             Ok(there)
         }
         Call::Remove(key) => Ok(model.remove(&key)),
-        Call::RemoveOdd(key) if model.get(&key).is_some_and(|value| value % 2 == 1) => {
-            Ok(model.remove(&key))
-        }
-        Call::RemoveOdd(_) => Ok(None),
+        Call::RemoveOdd(key) => match model.get(&key) {
+            Some(value) if value % 2 == 1 => Ok(model.remove(&key)),
+            _ => Ok(None),
+        },
         Call::Get(key) => Ok(model.get(&key).copied()),
     }
 }
